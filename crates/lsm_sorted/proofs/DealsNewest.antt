@@ -1,0 +1,43 @@
+-- A stream of newest versions over sorted entries deals the newest of them.
+use Rattle.std.proofs.Common.{◌≡◌, refl, sym, ◌∙◌, ap, subst, Bool, false, List}
+use Rattle.std.specs.Prelude.{Option}
+use Rattle.std.specs.Iterator.{Count}
+use Rattle.sst_blocks.specs.Entry.{Entry}
+use Rattle.sst_blocks.specs.declared.error.Error.{Error}
+use Rattle.lsm_sorted.specs.declared.mvcc_stream.MvccStream.{MvccStream}
+use Rattle.sst_blocks.specs.Stream.{Deals, CanDeal, stopped, first, but_first, last, but_last, all_ok, Answers}
+use Rattle.lsm_sorted.specs.Ends.{R}
+use Rattle.lsm_sorted.specs.Newest.{front_step, back_step}
+use Rattle.lsm_sorted.specs.Mvcc.{StandsFor, MayStep}
+use Rattle.lsm_sorted.specs.Union.{Ascends, newest}
+use Rattle.sst_blocks.proofs.StreamLemmas.{deals_by, can_by}
+use Rattle.lsm_sorted.proofs.NewestLemmas.{KeysUp, keys_up, NewestStep, front_newest, back_newest}
+
+module _ (stops : Error → Bool) {T : Type 0} (May : T → Type 0) (Has : (Error → Bool) → T → List R → Type 0) where
+  -- t stands for sorted entries of which ys are the newest
+  record Sorted (t : T) (ys : List R) : Type 0 where
+    pub entries : List Entry
+    pub up : KeysUp entries
+    pub stands : Has stops t (all_ok entries)
+    pub newest : ys ≡ all_ok (newest entries)
+
+  pub deals_newest : (s : T) (xs : List Entry) → Ascends xs → Has stops s (all_ok xs) → Deals (stopped stops) (Answers May Has front_step) (Answers May Has back_step) s (all_ok (newest xs))
+  deals_newest s xs up h = deals_by (stopped stops) (Answers May Has front_step) (Answers May Has back_step) Sorted
+      (λ s ys r t was step fine.
+      let n = front_newest was.entries was.up in
+      let one = step.gives stops (all_ok was.entries) was.stands fine in (
+        one.0 ∙ n.answers ∙ sym (ap first was.newest),
+        record { entries = n.left; up = n.up; stands = subst (Has stops t) n.leaves one.1; newest = ap but_first was.newest ∙ n.dealt },
+      ))
+      (λ s ys r t was step fine.
+      let n = back_newest was.entries was.up in
+      let one = step.gives stops (all_ok was.entries) was.stands fine in (
+        one.0 ∙ n.answers ∙ sym (ap last was.newest),
+        record { entries = n.left; up = n.up; stands = subst (Has stops t) n.leaves one.1; newest = ap but_last was.newest ∙ n.dealt },
+      ))
+      s (all_ok (newest xs)) (record { entries = xs; up = keys_up xs up; stands = h; newest = refl })
+
+module _ {T : Type 0} (May : T → Type 0) (Has : (Error → Bool) → T → List R → Type 0) where
+  -- it can be dealt, since each call leaves a state that may be called
+  pub can_answer : (front back : List R → Option R × List R) (s : T) → May s → CanDeal (Answers May Has front) (Answers May Has back) May May s
+  can_answer front back s may = can_by (Answers May Has front) (Answers May Has back) May May May (λ s m. (m, m)) (λ s r t m step. step.may) (λ s r t m step. step.may) s may

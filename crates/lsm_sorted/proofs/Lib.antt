@@ -1,0 +1,5 @@
+pub mod KeyLemmas
+pub mod EndsLemmas
+pub mod MvccLemmas
+pub mod NewestLemmas
+pub mod DealsNewest

@@ -1,0 +1,20 @@
+use Rattle.sst_blocks.specs.declared.error.Error.{Error}
+use Rattle.std.proofs.Common.{Bool, ℕ, ◌<◌}
+use Rattle.lsm_sorted.specs.Ends.{Goes}
+use Rattle.lsm_sorted.specs.Peeked.{Holds, peeked_size}
+use Rattle.lsm_sorted.proofs.MvccLemmas.{Climbed}
+use Rattle.lsm_sorted.proofs.mvcc_stream.MvccStreamDoubleEndedIterator.next_back.Given as goal
+
+abbrev pub invariant-loop-before : goal.invariant-loop-before
+invariant-loop-before g l =
+    let front = g.I.Iterator.next_gives in
+    let back = g.I.DoubleEndedIterator.next_back_gives in
+    let left = g.I.Iterator.remaining in
+    record {
+      may : Goes front back g.I.Iterator.can_next g.I.DoubleEndedIterator.can_next_back left l.self.inner.source;
+      climbed : (stops : Error → Bool) → Climbed stops (Holds stops front back) l.fn.self.inner l.tail l.self.inner;
+      fewer : peeked_size left l.self.inner < peeked_size left l.fn.self.inner;
+    }
+
+abbrev pub decreases-loop-before : goal.decreases-loop-before
+decreases-loop-before g l = peeked_size g.I.Iterator.remaining l.self.inner

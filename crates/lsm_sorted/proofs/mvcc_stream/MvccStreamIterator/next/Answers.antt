@@ -1,0 +1,56 @@
+use Rattle.std.proofs.Common.{◌<◌, arith}
+use Rattle.lsm_sorted.specs.Peeked.{Holds, peeked_size}
+use Rattle.lsm_sorted.proofs.MvccLemmas.{Drained, drained_first, drained_more, drained_stop, drained_err, drained_end, front_err, front_none}
+use Rattle.lsm_sorted.proofs.KeyLemmas.{keys_apart, keys_same}
+use Rattle.lsm_sorted.proofs.mvcc_stream.MvccStreamIterator.next.Goals as goal
+
+pub returns-in-Some-Err-clause-steps : goal.returns-in-Some-Err-clause-steps
+returns-in-Some-Err-clause-steps g c = record {
+  may = c.in-Some-Err.ensures.goes;
+  gives = λ stops. front_err stops (Holds stops g.I.Iterator.next_gives g.I.DoubleEndedIterator.next_back_gives) c.args.self.now.inner c.next.new.self c.in-Some-Err.error (rw c.in-Some-Err.field-0-is at (c.in-Some-Err.ensures.deals stops));
+}
+
+pub returns-in-None-clause-steps : goal.returns-in-None-clause-steps
+returns-in-None-clause-steps g c = record {
+  may = c.in-None.ensures.goes;
+  gives = λ stops. front_none stops (Holds stops g.I.Iterator.next_gives g.I.DoubleEndedIterator.next_back_gives) c.args.self.now.inner c.next.new.self (c.in-None.ensures.deals stops);
+}
+
+pub loop-other-init : goal.loop-other-init
+loop-other-init g c = record {
+  may = c.in-Some-Ok.ensures.goes;
+  drained = λ stops. drained_first stops (Holds stops g.I.Iterator.next_gives g.I.DoubleEndedIterator.next_back_gives) c.args.self.now.inner c.next.new.self c.in-Some-Ok.head (rw c.in-Some-Ok.field-0-is at (c.in-Some-Ok.ensures.deals stops));
+  fewer = c.in-Some-Ok.ensures.lowers;
+}
+
+pub returns-then-has_other_key-clause-steps : goal.returns-then-has_other_key-clause-steps
+returns-then-has_other_key-clause-steps g c = record {
+  may = rw c.put_front.ensures.source c.in-Some-Ok-next.ensures.goes;
+  gives = λ stops. drained_stop stops (Holds stops g.I.Iterator.next_gives g.I.DoubleEndedIterator.next_back_gives) c.args.self.now.inner c.loop-other.self.inner c.next-in-loop-other.new.self c.put_front.new.self c.loop-other.head c.in-Some-Ok-next.other (c.loop-other.invariant.drained stops) (rw c.in-Some-Ok-next.field-0-is at (c.in-Some-Ok-next.ensures.deals stops)) (keys_apart c.in-Some-Ok-next.other.user_key c.loop-other.head.user_key _ c.has_other_key.ensures c.if-has_other_key.true) (c.put_front.ensures.lists stops);
+}
+
+pub loop-other-preserved : goal.loop-other-preserved
+loop-other-preserved g c = record {
+  may = c.in-Some-Ok-next.ensures.goes;
+  drained = λ stops. drained_more stops (Holds stops g.I.Iterator.next_gives g.I.DoubleEndedIterator.next_back_gives) c.args.self.now.inner c.loop-other.self.inner c.next-in-loop-other.new.self c.loop-other.head c.in-Some-Ok-next.other (c.loop-other.invariant.drained stops) (rw c.in-Some-Ok-next.field-0-is at (c.in-Some-Ok-next.ensures.deals stops)) (keys_same c.in-Some-Ok-next.other.user_key c.loop-other.head.user_key _ c.has_other_key.ensures c.if-has_other_key.false);
+  fewer = omega (arith, c.in-Some-Ok-next.ensures.lowers, c.loop-other.invariant.fewer);
+}
+
+pub loop-other-preserved-else-has_other_key : goal.loop-other-preserved-else-has_other_key
+loop-other-preserved-else-has_other_key g c = record {
+  may = c.in-Some-Ok-next.ensures.goes;
+  drained = λ stops. drained_more stops (Holds stops g.I.Iterator.next_gives g.I.DoubleEndedIterator.next_back_gives) c.args.self.now.inner c.loop-other.self.inner c.next-in-loop-other.new.self c.loop-other.head c.in-Some-Ok-next.other (c.loop-other.invariant.drained stops) (rw c.in-Some-Ok-next.field-0-is at (c.in-Some-Ok-next.ensures.deals stops)) (keys_same c.in-Some-Ok-next.other.user_key c.loop-other.head.user_key _ c.has_other_key.ensures c.if-has_other_key.false);
+  fewer = omega (arith, c.in-Some-Ok-next.ensures.lowers, c.loop-other.invariant.fewer);
+}
+
+pub returns-in-Some-Err-next-clause-steps : goal.returns-in-Some-Err-next-clause-steps
+returns-in-Some-Err-next-clause-steps g c = record {
+  may = c.in-Some-Err-next.ensures.goes;
+  gives = λ stops. drained_err stops (Holds stops g.I.Iterator.next_gives g.I.DoubleEndedIterator.next_back_gives) c.args.self.now.inner c.loop-other.self.inner c.next-in-loop-other.new.self c.loop-other.head c.in-Some-Err-next.error (c.loop-other.invariant.drained stops) (rw c.in-Some-Err-next.field-0-is at (c.in-Some-Err-next.ensures.deals stops));
+}
+
+pub returns-in-None-next-clause-steps : goal.returns-in-None-next-clause-steps
+returns-in-None-next-clause-steps g c = record {
+  may = c.in-None-next.ensures.goes;
+  gives = λ stops. drained_end stops (Holds stops g.I.Iterator.next_gives g.I.DoubleEndedIterator.next_back_gives) c.args.self.now.inner c.loop-other.self.inner c.next-in-loop-other.new.self c.loop-other.head (c.loop-other.invariant.drained stops) (c.in-None-next.ensures.deals stops);
+}

@@ -1,0 +1,20 @@
+use Rattle.sst_blocks.specs.declared.error.Error.{Error}
+use Rattle.std.proofs.Common.{Bool, ℕ, ◌<◌}
+use Rattle.lsm_sorted.specs.Ends.{Goes}
+use Rattle.lsm_sorted.specs.Peeked.{Holds, peeked_size}
+use Rattle.lsm_sorted.proofs.MvccLemmas.{Drained}
+use Rattle.lsm_sorted.proofs.mvcc_stream.MvccStreamIterator.next.Given as goal
+
+abbrev pub invariant-loop-other : goal.invariant-loop-other
+invariant-loop-other g l =
+    let front = g.I.Iterator.next_gives in
+    let back = g.I.DoubleEndedIterator.next_back_gives in
+    let left = g.I.Iterator.remaining in
+    record {
+      may : Goes front back g.I.Iterator.can_next g.I.DoubleEndedIterator.can_next_back left l.self.inner.source;
+      drained : (stops : Error → Bool) → Drained stops (Holds stops front back) l.fn.self.inner l.head l.self.inner;
+      fewer : peeked_size left l.self.inner < peeked_size left l.fn.self.inner;
+    }
+
+abbrev pub decreases-loop-other : goal.decreases-loop-other
+decreases-loop-other g l = peeked_size g.I.Iterator.remaining l.self.inner

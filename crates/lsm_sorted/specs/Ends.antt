@@ -1,0 +1,36 @@
+-- An iterator that is not called again once it gave `None`.
+use Rattle.std.specs.Prelude.{◌≡◌, ℕ, ◌+◌, ◌<◌, Bool, true, false, cond, List, [], ◌∷◌, Option, Some, None, Result, MatchOption}
+use Rattle.std.specs.Iterator.{Count, IsFinite, size}
+use Rattle.sst_blocks.specs.Entry.{Entry}
+use Rattle.sst_blocks.specs.declared.error.Error.{Error}
+use Rattle.lsm_sorted.specs.declared.ends.Ends.{Ends}
+use Rattle.sst_blocks.specs.Stream.{Deals, CanDeal, stopped, first, but_first, last, but_last}
+
+abbrev pub R : Type 0
+R = Result Entry Error
+
+module _ {S : Type 0} (stops : Error → Bool) (front back : S → Option R → S → Type 0) where
+  abbrev pub LeftIf : Bool → S → List R → Type 0
+  LeftIf true s xs = xs ≡ []
+  LeftIf false s xs = Deals (stopped stops) front back s xs
+
+  -- what it still deals
+  pub record Left (s : Ends S) (xs : List R) : Type 0 where
+    pub lists : LeftIf s.done s.iter xs
+
+module _ {S : Type 0} (front back : S → Option R → S → Type 0) where
+  abbrev pub GoesIf : (S → Type 0) → (S → Type 0) → (S → Count) → Bool → S → Type 0
+  GoesIf can can_back left true s = Unit {0}
+  GoesIf can can_back left false s = CanDeal front back can can_back s × IsFinite (left s)
+
+  -- it may be called at both ends, and it ends
+  pub record Goes (can can_back : S → Type 0) (left : S → Count) (s : Ends S) : Type 0 where
+    pub ready : GoesIf can can_back left s.done s.iter
+
+-- how many items come at most
+abbrev pub ends_size : {S : Type 0} → (S → Count) → Ends S → ℕ
+ends_size left s = cond s.done 0 (size (left s.iter))
+
+-- before any call
+abbrev pub fresh : {S : Type 0} → S → Ends S
+fresh s = record { iter = s; done = false }

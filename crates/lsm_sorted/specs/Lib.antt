@@ -1,0 +1,5 @@
+pub mod Ends
+pub mod Peeked
+pub mod Union
+pub mod Newest
+pub mod Mvcc

@@ -1,0 +1,41 @@
+-- One step of a stream of newest versions, on what is left of a list of results.
+use Rattle.std.specs.Prelude.{◌≡◌, ℕ, Bool, true, false, cond, List, [], ◌∷◌, reverse, Option, Some, None, Result, Ok, Err}
+use Rattle.sst_blocks.specs.Entry.{Entry}
+use Rattle.lsm_sorted.specs.Ends.{R}
+use Rattle.sst_blocks.specs.Key.{same_key, key_lt}
+
+-- an entry of this key
+abbrev pub is_of : List ℕ → R → Bool
+is_of k (Ok x) = same_key x.user_key k
+is_of k (Err e) = false
+
+-- what follows the longest stretch of entries of this key
+abbrev pub after_key : List ℕ → List R → List R
+after_key k [] = []
+after_key k (r ∷ rs) = cond (is_of k r) (after_key k rs) (r ∷ rs)
+
+-- an error that follows is answered, and gone; else x is answered
+abbrev pub settle : Entry → List R → Option R × List R
+settle x [] = (Some (Ok x), [])
+settle x (Ok y ∷ rs) = (Some (Ok x), Ok y ∷ rs)
+settle x (Err e ∷ rs) = (Some (Err e), rs)
+
+abbrev pub front_step : List R → Option R × List R
+front_step [] = (None, [])
+front_step (Ok x ∷ rs) = settle x (after_key x.user_key rs)
+front_step (Err e ∷ rs) = (Some (Err e), rs)
+
+-- from x on, the end of the longest stretch of entries in which no key is smaller than the one before, and what follows it
+abbrev pub climb : Entry → List R → Entry × List R
+climb x [] = (x, [])
+climb x (Ok y ∷ rs) = cond (key_lt y.user_key x.user_key) (x, Ok y ∷ rs) (climb y rs)
+climb x (Err e ∷ rs) = (x, Err e ∷ rs)
+
+-- the step at the front of the list in reverse
+abbrev pub back_of : List R → Option R × List R
+back_of [] = (None, [])
+back_of (Ok x ∷ rs) = settle (climb x rs).0 (climb x rs).1
+back_of (Err e ∷ rs) = (Some (Err e), rs)
+
+abbrev pub back_step : List R → Option R × List R
+back_step xs = ((back_of (reverse xs)).0, reverse (back_of (reverse xs)).1)

@@ -1,0 +1,61 @@
+// An iterator that is not called again once it gave `None`, and what it deals.
+ghost use Rattle.sst_blocks.specs.declared.error.Error.{Error};
+ghost use Rattle.std.specs.Prelude.{Bool, ◌≡◌, ℕ, ◌+◌, ◌<◌, false};
+ghost use Rattle.std.specs.Iterator.{IsFinite};
+ghost use Rattle.sst_blocks.specs.Stream.{Deals, CanDeal};
+ghost use Rattle.lsm_sorted.specs.Ends.{Left, Goes, ends_size};
+ghost use Rattle.sst_blocks.specs.Stream.{DealsFirst, DealsLast, Lowers};
+
+use sst_blocks::IterItem;
+use std::alloc::Allocator;
+
+#[derive(Drop)]
+pub struct Ends<I> {
+    pub(crate) iter: I,
+    pub(crate) done: bool,
+}
+
+impl<I: DoubleEndedIterator<Item = IterItem<A>>, A: Allocator> Ends<I> {
+    pub(crate) fn new(iter: I) -> Self
+        ensures iter { result.iter ≡ iter }
+        ensures fresh { result.done ≡ false }
+    {
+        Ends { iter, done: false }
+    }
+
+    pub(crate) fn next(&mut self) -> Option<IterItem<A>>
+        requires { Goes I.next_gives I.next_back_gives I.can_next I.can_next_back I.remaining self.old }
+        ensures goes { Goes I.next_gives I.next_back_gives I.can_next I.can_next_back I.remaining self.new }
+        ensures deals { (stops : Error → Bool) → DealsFirst stops (Left stops I.next_gives I.next_back_gives) self.old result self.new }
+        ensures lowers { Lowers result (ends_size I.remaining self.old) (ends_size I.remaining self.new) }
+    {
+        if self.done {
+            return None;
+        }
+        match self.iter.next() {
+            Some(x) => Some(x),
+            None => {
+                self.done = true;
+                None
+            }
+        }
+    }
+
+    pub(crate) fn next_back(&mut self) -> Option<IterItem<A>>
+        requires { Goes I.next_gives I.next_back_gives I.can_next I.can_next_back I.remaining self.old }
+        ensures goes { Goes I.next_gives I.next_back_gives I.can_next I.can_next_back I.remaining self.new }
+        ensures deals { (stops : Error → Bool) → DealsLast stops (Left stops I.next_gives I.next_back_gives) self.old result self.new }
+        ensures lowers { Lowers result (ends_size I.remaining self.old) (ends_size I.remaining self.new) }
+    {
+        if self.done {
+            return None;
+        }
+        match self.iter.next_back() {
+            Some(x) => Some(x),
+            None => {
+                self.done = true;
+                None
+            }
+        }
+    }
+}

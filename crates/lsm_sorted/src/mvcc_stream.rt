@@ -1,0 +1,104 @@
+// The newest version of each key.
+ghost use Rattle.sst_blocks.specs.declared.error.Error.{Error};
+ghost use Rattle.std.specs.Prelude.{not, Bool, ◌≡◌, ℕ, ◌+◌, ◌<◌, List};
+ghost use Rattle.std.specs.Iterator.{at_most, IsFinite};
+ghost use Rattle.sst_blocks.specs.Stream.{Deals, CanDeal, stopped, all_ok, Answers};
+ghost use Rattle.lsm_sorted.specs.Ends.{R};
+ghost use Rattle.sst_blocks.specs.Key.{same_key, key_lt};
+ghost use Rattle.lsm_sorted.specs.Newest.{front_step, back_step};
+ghost use Rattle.lsm_sorted.specs.Union.{Ascends, newest};
+ghost use Rattle.sst_blocks.specs.Entry.{Entry};
+ghost use Rattle.lsm_sorted.specs.Mvcc.{StandsFor, MayStep, mvcc_size};
+
+use sst_blocks::IterItem;
+use crate::peeked::Peeked;
+use sst_blocks::InternalValue;
+use std::alloc::Allocator;
+
+fn has_other_key<A: Allocator>(x: &InternalValue<A>, y: &InternalValue<A>) -> bool
+    ensures { result ≡ not (same_key x.now.user_key y.now.user_key) }
+{
+    x.key.user_key != y.key.user_key
+}
+
+fn has_lower_key<A: Allocator>(x: &InternalValue<A>, y: &InternalValue<A>) -> bool
+    ensures { result ≡ key_lt x.now.user_key y.now.user_key }
+{
+    x.key.user_key < y.key.user_key
+}
+
+/// Gives the newest version of each key.
+#[derive(Drop)]
+pub struct MvccStream<I: DoubleEndedIterator> {
+    inner: Peeked<I>,
+}
+
+impl<I: DoubleEndedIterator<Item = IterItem<A>>, A: Allocator> MvccStream<I> {
+    pub fn new(iter: I) -> Self
+        ensures stands { (stops : Error → Bool) (xs : List R) → Deals (stopped stops) I.next_gives I.next_back_gives iter xs → StandsFor I.next_gives I.next_back_gives stops result xs }
+        ensures may { CanDeal I.next_gives I.next_back_gives I.can_next I.can_next_back iter → IsFinite (I.remaining iter) → MayStep I.next_gives I.next_back_gives I.can_next I.can_next_back I.remaining result }
+        ensures newest { (stops : Error → Bool) (xs : List Entry) → Ascends xs → Deals (stopped stops) I.next_gives I.next_back_gives iter (all_ok xs) → Deals (stopped stops) ⟦<MvccStream<I> as Iterator>⟧.next_gives ⟦<MvccStream<I> as DoubleEndedIterator>⟧.next_back_gives result (all_ok (newest xs)) }
+        ensures can { CanDeal I.next_gives I.next_back_gives I.can_next I.can_next_back iter → IsFinite (I.remaining iter) → CanDeal ⟦<MvccStream<I> as Iterator>⟧.next_gives ⟦<MvccStream<I> as DoubleEndedIterator>⟧.next_back_gives ⟦<MvccStream<I> as Iterator>⟧.can_next ⟦<MvccStream<I> as DoubleEndedIterator>⟧.can_next_back result }
+    {
+        MvccStream {
+            inner: Peeked::new(iter),
+        }
+    }
+}
+
+impl<I: DoubleEndedIterator<Item = IterItem<A>>, A: Allocator> Iterator for MvccStream<I> {
+    type Item = IterItem<A>;
+
+    ghost can_next = { MayStep I.next_gives I.next_back_gives I.can_next I.can_next_back I.remaining };
+
+    ghost next_gives = { Answers (MayStep I.next_gives I.next_back_gives I.can_next I.can_next_back I.remaining) (StandsFor I.next_gives I.next_back_gives) front_step };
+
+    ghost remaining = { λ s. at_most (mvcc_size I.remaining s) };
+
+    fn next(&mut self) -> Option<IterItem<A>> {
+        let head = match self.inner.next() {
+            Some(Ok(head)) => head,
+            Some(Err(error)) => return Some(Err(error)),
+            None => return None,
+        };
+        loop {
+            match self.inner.next() {
+                Some(Ok(other)) => {
+                    if has_other_key(&other, &head) {
+                        self.inner.put_front(other);
+                        return Some(Ok(head));
+                    }
+                }
+                Some(Err(error)) => return Some(Err(error)),
+                None => return Some(Ok(head)),
+            }
+        }
+    }
+}
+
+impl<I: DoubleEndedIterator<Item = IterItem<A>>, A: Allocator> DoubleEndedIterator for MvccStream<I> {
+    ghost can_next_back = { MayStep I.next_gives I.next_back_gives I.can_next I.can_next_back I.remaining };
+
+    ghost next_back_gives = { Answers (MayStep I.next_gives I.next_back_gives I.can_next I.can_next_back I.remaining) (StandsFor I.next_gives I.next_back_gives) back_step };
+
+    fn next_back(&mut self) -> Option<IterItem<A>> {
+        let mut tail = match self.inner.next_back() {
+            Some(Ok(tail)) => tail,
+            Some(Err(error)) => return Some(Err(error)),
+            None => return None,
+        };
+        loop {
+            match self.inner.next_back() {
+                Some(Ok(before)) => {
+                    if has_lower_key(&before, &tail) {
+                        self.inner.put_back(before);
+                        return Some(Ok(tail));
+                    }
+                    tail = before;
+                }
+                Some(Err(error)) => return Some(Err(error)),
+                None => return Some(Ok(tail)),
+            }
+        }
+    }
+}

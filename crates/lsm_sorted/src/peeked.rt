@@ -1,0 +1,92 @@
+// An iterator with a place for one entry before it and one behind it.
+ghost use Rattle.sst_blocks.specs.declared.error.Error.{Error};
+ghost use Rattle.std.specs.Prelude.{Bool, ◌≡◌, ℕ, ◌+◌, ◌<◌, List, ◌∷◌, ◌++◌, [], false};
+ghost use Rattle.std.specs.Iterator.{IsFinite};
+ghost use Rattle.lsm_sorted.specs.Ends.{R, Left, Goes, ends_size};
+ghost use Rattle.sst_blocks.specs.Stream.{DealsFirst, DealsLast, Lowers};
+ghost use Rattle.lsm_sorted.specs.Peeked.{Holds, held, peeked_size};
+
+use crate::ends::Ends;
+use sst_blocks::IterItem;
+use sst_blocks::InternalValue;
+use std::alloc::Allocator;
+
+#[derive(Drop)]
+pub struct Peeked<I: DoubleEndedIterator> {
+    pub(crate) source: Ends<I>,
+    pub(crate) front: Option<I::Item>,
+    pub(crate) back: Option<I::Item>,
+}
+
+impl<I: DoubleEndedIterator<Item = IterItem<A>>, A: Allocator> Peeked<I> {
+    pub(crate) fn new(iter: I) -> Self
+        ensures iter { result.source.iter ≡ iter }
+        ensures fresh { result.source.done ≡ false }
+        ensures front { result.front ≡ None }
+        ensures back { result.back ≡ None }
+    {
+        Peeked {
+            source: Ends::new(iter),
+            front: None,
+            back: None,
+        }
+    }
+
+    pub(crate) fn next(&mut self) -> Option<IterItem<A>>
+        requires { Goes I.next_gives I.next_back_gives I.can_next I.can_next_back I.remaining self.old.source }
+        ensures goes { Goes I.next_gives I.next_back_gives I.can_next I.can_next_back I.remaining self.new.source }
+        ensures deals { (stops : Error → Bool) → DealsFirst stops (Holds stops I.next_gives I.next_back_gives) self.old result self.new }
+        ensures lowers { Lowers result (peeked_size I.remaining self.old) (peeked_size I.remaining self.new) }
+        ensures free { self.new.front ≡ None }
+    {
+        if let Some(x) = self.front.take() {
+            return Some(x);
+        }
+        match self.source.next() {
+            Some(x) => Some(x),
+            None => match self.back.take() {
+                Some(x) => Some(x),
+                None => None,
+            },
+        }
+    }
+
+    pub(crate) fn next_back(&mut self) -> Option<IterItem<A>>
+        requires { Goes I.next_gives I.next_back_gives I.can_next I.can_next_back I.remaining self.old.source }
+        ensures goes { Goes I.next_gives I.next_back_gives I.can_next I.can_next_back I.remaining self.new.source }
+        ensures deals { (stops : Error → Bool) → DealsLast stops (Holds stops I.next_gives I.next_back_gives) self.old result self.new }
+        ensures lowers { Lowers result (peeked_size I.remaining self.old) (peeked_size I.remaining self.new) }
+        ensures free { self.new.back ≡ None }
+    {
+        if let Some(x) = self.back.take() {
+            return Some(x);
+        }
+        match self.source.next_back() {
+            Some(x) => Some(x),
+            None => match self.front.take() {
+                Some(x) => Some(x),
+                None => None,
+            },
+        }
+    }
+
+    // Puts an entry before what is left.
+    pub(crate) fn put_front(&mut self, x: InternalValue<A>)
+        requires { self.old.front ≡ None }
+        ensures source { self.new.source ≡ self.old.source }
+        ensures lists { (stops : Error → Bool) (xs : List R) → Holds stops I.next_gives I.next_back_gives self.old xs → Holds stops I.next_gives I.next_back_gives self.new (Ok x ∷ xs) }
+        ensures size { peeked_size I.remaining self.new ≡ peeked_size I.remaining self.old + 1 }
+    {
+        self.front = Some(Ok(x));
+    }
+
+    // Puts an entry behind what is left.
+    pub(crate) fn put_back(&mut self, x: InternalValue<A>)
+        requires { self.old.back ≡ None }
+        ensures source { self.new.source ≡ self.old.source }
+        ensures lists { (stops : Error → Bool) (xs : List R) → Holds stops I.next_gives I.next_back_gives self.old xs → Holds stops I.next_gives I.next_back_gives self.new (xs ++ Ok x ∷ []) }
+        ensures size { peeked_size I.remaining self.new ≡ peeked_size I.remaining self.old + 1 }
+    {
+        self.back = Some(Ok(x));
+    }
+}

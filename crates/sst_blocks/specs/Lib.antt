@@ -1,0 +1,5 @@
+pub mod Error
+pub mod Kind
+pub mod Entry
+pub mod Key
+pub mod Stream
