@@ -3,3 +3,16 @@ pub mod Kind
 pub mod Entry
 pub mod Key
 pub mod Stream
+pub mod Number
+pub mod Version
+pub mod Strict
+pub mod Point
+pub mod Payload
+pub mod Reading
+pub mod Place
+pub mod Handle
+pub mod Handles
+pub mod Fnv
+pub mod Block
+pub mod Bounds
+pub mod Span

@@ -2,19 +2,29 @@
 //! and the sections of a table's bytes.
 #![tactic(auto)]
 
+mod block_type;
+mod checksum;
+mod compression;
 mod error;
+mod handle;
 mod key;
 mod slice;
 mod stream;
 mod value;
 mod value_type;
+mod version;
 
+pub use block_type::BlockType;
+pub use checksum::Checksum;
+pub use compression::CompressionType;
 pub use error::{Error, TagName};
+pub use handle::{BlockHandle, BlockOffset, KeyedBlockHandle};
 pub use key::InternalKey;
 pub use slice::{Slice, UserKey, UserValue};
 pub use stream::{Direction, IterItem, answer_at, answers_at, source_of};
 pub use value::InternalValue;
 pub use value_type::ValueType;
+pub use version::TableVersion;
 
 /// The number of an entry: of two versions of a key, the one with the greater number is newer.
 pub type SeqNo = u64;

@@ -1,0 +1,108 @@
+-- Blocks in a table's bytes: a header of 24 bytes, then the payload. Which block a load gives, or the first fault that it meets.
+use Rattle.std.specs.Prelude.{◌≡◌, ℕ, ◌+◌, ◌==◌, ◌&&◌, ◌||◌, not, nat_lt, nat_le, nat_eq, Bool, true, false, List, [], ◌∷◌, ◌++◌, length, take, drop, slice_index, slice_range, Option, Some, None, is_some, is_none, unwrap_or, Result, Ok, Err, if◌then◌else◌}
+use Rattle.sst_blocks.specs.declared.version.TableVersion.{TableVersion}
+use Rattle.sst_blocks.specs.declared.version.TableVersion.TheVariants.{V4}
+use Rattle.sst_blocks.specs.declared.block_type.BlockType.{BlockType}
+use Rattle.sst_blocks.specs.declared.block_type.BlockType.TheVariants.{Data, Index, Filter, Meta}
+use Rattle.sst_blocks.specs.declared.error.Error.{Error}
+use Rattle.sst_blocks.specs.declared.error.Error.TheVariants.{Truncated, InvalidHeader, InvalidTag, ChecksumMismatch, InvalidBlock, UnsupportedCompression}
+use Rattle.sst_blocks.specs.declared.error.TagName.TheVariants.{BlockType as BlockTypeTag}
+use Rattle.sst_blocks.specs.Entry.{Entry}
+use Rattle.sst_blocks.specs.Fnv.{fnv1a}
+use Rattle.sst_blocks.specs.Handle.{Handle}
+use Rattle.sst_blocks.specs.Handles.{handles_in}
+use Rattle.sst_blocks.specs.Number.{le4, le8, num4, num8}
+use Rattle.sst_blocks.specs.Reading.{entries_in}
+use Rattle.sst_blocks.specs.Version.{mark, version_of}
+
+abbrev pub kind_tag : BlockType → ℕ
+kind_tag Data = 0
+kind_tag Index = 1
+kind_tag Filter = 2
+kind_tag Meta = 3
+
+-- a block without its header
+pub record Loaded : Type 0 where
+  pub version : TableVersion
+  pub kind : BlockType
+  pub payload : List ℕ
+
+-- the number of probes, from 1 to 30, and at least one byte of bits
+abbrev pub is_filter : List ℕ → Bool
+is_filter [] = false
+is_filter (k ∷ []) = false
+is_filter (k ∷ b ∷ bits) = nat_le 1 k && nat_le k 30
+
+-- the payload is in the grammar of its kind
+abbrev pub in_grammar : TableVersion → BlockType → List ℕ → Bool
+in_grammar v Data payload = is_some (entries_in v payload)
+in_grammar v Meta payload = is_some (entries_in v payload)
+in_grammar v Index payload = is_some (handles_in v payload)
+in_grammar v Filter payload = is_filter payload
+
+-- the mark, the kind, no compression, two zero bytes, the payload's length twice and its checksum
+abbrev pub header : TableVersion → BlockType → List ℕ → List ℕ
+header v kind payload = mark v ++ (kind_tag kind ∷ 0 ∷ 0 ∷ 0 ∷ []) ++ le4 (length payload) ++ le4 (length payload) ++ le8 (fnv1a payload)
+
+abbrev pub block_bytes : TableVersion → BlockType → List ℕ → List ℕ
+block_bytes v kind payload = header v kind payload ++ payload
+
+-- what is wrong with a header's mark, zero bytes, kind or compression: the first fault
+abbrev pub header_fault : BlockType → List ℕ → Option Error
+header_fault kind head =
+    if is_none (version_of (take 4 head)) || not (slice_index head 6 == 0 && slice_index head 7 == 0) then Some InvalidHeader
+    else (if not (slice_index head 4 == kind_tag kind) then Some (InvalidTag BlockTypeTag (slice_index head 4))
+    else (if not (slice_index head 5 == 0) then Some UnsupportedCompression
+    else None))
+
+-- a fault, or else what comes after it
+abbrev pub unless : {A : Type 0} → Option Error → Result A Error → Result A Error
+unless None told = told
+unless (Some e) told = Err e
+
+-- the two lengths and the checksum of a header
+abbrev pub data_len : List ℕ → ℕ
+data_len head = num4 (drop 8 head)
+
+abbrev pub uncompressed_len : List ℕ → ℕ
+uncompressed_len head = num4 (drop 12 head)
+
+abbrev pub stored_checksum : List ℕ → ℕ
+stored_checksum head = num8 (drop 16 head)
+
+-- the version of a header whose mark is one
+abbrev pub version_in : List ℕ → TableVersion
+version_in head = unwrap_or (version_of (take 4 head)) V4
+
+-- the payload is tested last: its checksum, then its grammar
+unfoldable pub payload_told : BlockType → List ℕ → List ℕ → Result Loaded Error
+payload_told kind head payload =
+    if not (fnv1a payload == stored_checksum head) then Err ChecksumMismatch
+    else (if not (in_grammar (version_in head) kind payload) then Err InvalidBlock
+    else Ok (record { version = version_in head; kind = kind; payload = payload }))
+
+-- the block of a kind at a place in the bytes before the trailer, or the first fault
+unfoldable pub load_told : List ℕ → ℕ → ℕ → BlockType → Result Loaded Error
+load_told body offset size kind =
+    let head = slice_range body offset (offset + 24) in
+    if nat_lt size 24 || nat_lt (length body) (offset + size) then Err Truncated
+    else unless (header_fault kind head)
+      (if not (data_len head == uncompressed_len head) || not (24 + data_len head == size) then Err InvalidHeader
+      else payload_told kind head (slice_range body (offset + 24) (offset + size)))
+
+-- the same with the size that the header says
+unfoldable pub load_at_told : List ℕ → ℕ → BlockType → Result Loaded Error
+load_at_told body position kind =
+    let head = slice_range body position (position + 24) in
+    if nat_lt (length body) (position + 24) then Err Truncated
+    else unless (header_fault kind head)
+      (if not (data_len head == uncompressed_len head) then Err InvalidHeader
+      else (if nat_lt (length body) (position + 24 + data_len head) then Err Truncated
+      else payload_told kind head (slice_range body (position + 24) (position + 24 + data_len head))))
+
+-- the entries, and the handles, of a loaded block
+abbrev pub entries_of : Loaded → List Entry
+entries_of b = unwrap_or (entries_in b.version b.payload) []
+
+abbrev pub handles_of : Loaded → List Handle
+handles_of b = unwrap_or (handles_in b.version b.payload) []

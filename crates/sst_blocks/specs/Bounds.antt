@@ -1,0 +1,21 @@
+-- Length bounds of blocks, as u64, which stay at the largest value where a sum would pass it.
+use Rattle.std.specs.Prelude.{ℕ, ◌+◌, ◌-◌, ◌^◌, List, length, min, sum_by}
+use Rattle.sst_blocks.specs.Entry.{Entry}
+use Rattle.sst_blocks.specs.Handle.{Handle}
+
+abbrev pub capped : ℕ → ℕ
+capped n = min n (2 ^ 64 - 1)
+
+-- what an entry and a handle take at most
+abbrev pub entry_bound : Entry → ℕ
+entry_bound e = 17 + length e.user_key + length e.value
+
+abbrev pub handle_bound : Handle → ℕ
+handle_bound h = 24 + length h.end_key
+
+-- the block of a list of entries, and of a list of handles
+abbrev pub data_block_bound_of : List Entry → ℕ
+data_block_bound_of es = capped (28 + sum_by entry_bound es)
+
+abbrev pub index_block_bound_of : List Handle → ℕ
+index_block_bound_of hs = capped (28 + sum_by handle_bound hs)

@@ -1,0 +1,94 @@
+-- The payload of an index block: the one spelling of a list of handles, what a payload spells, and what a handle reaches.
+use Rattle.std.specs.Prelude.{◌≡◌, ℕ, zero, suc, ◌+◌, ◌<◌, ◌^◌, List, [], ◌∷◌, ◌++◌, length, take, drop, Bool, true, false, ◌&&◌, ◌||◌, not, nat_lt, Option, Some, None, option_and_then, if◌then◌else◌}
+use Rattle.std.specs.List.{flat_map, AllByRecursion}
+use Rattle.std.specs.Option.{option_map}
+use Rattle.sst_blocks.specs.declared.version.TableVersion.{TableVersion}
+use Rattle.sst_blocks.specs.declared.value_type.ValueType.TheVariants.{Value}
+use Rattle.sst_blocks.specs.Entry.{Entry, entry}
+use Rattle.sst_blocks.specs.Handle.{Handle}
+use Rattle.sst_blocks.specs.Key.{same_key, key_lt}
+use Rattle.sst_blocks.specs.Number.{le4, le8, num4, num8}
+use Rattle.sst_blocks.specs.Version.{key_width, key_len_bytes, key_len_at, key_limit}
+use Rattle.sst_blocks.specs.Strict.{is_before, IsStrict, is_strict_after}
+use Rattle.std.specs.Prelude.{map}
+
+-- the last entry of a handle's block, as far as the handle tells
+abbrev pub end_of : Handle → Entry
+end_of h = entry h.end_key [] h.seqno Value
+
+-- strict by end key and number
+abbrev pub AreStrictHandles : List Handle → Type 0
+AreStrictHandles hs = IsStrict (map end_of hs)
+
+-- the number, the position, the size and the key length
+abbrev pub handle_head : TableVersion → Handle → List ℕ
+handle_head v h = le8 h.seqno ++ le8 h.offset ++ le4 h.size ++ key_len_bytes v (length h.end_key)
+
+-- one handle: its head and its end key
+unfoldable pub handle_spelled : TableVersion → Handle → List ℕ
+handle_spelled v h = handle_head v h ++ h.end_key
+
+-- the count, and then the handles in order
+unfoldable pub handles_payload : TableVersion → List Handle → List ℕ
+handles_payload v hs = le4 (length hs) ++ flat_map (handle_spelled v) hs
+
+-- what has a spelling
+pub record HandleFits (v : TableVersion) (h : Handle) : Type 0 where
+  pub number : h.seqno < 2 ^ 64
+  pub offset : h.offset < 2 ^ 64
+  pub size : h.size < 2 ^ 32
+  pub key_len : length h.end_key < key_limit v
+
+abbrev pub HandlesFit : TableVersion → List Handle → Type 0
+HandlesFit v hs = (length hs < 2 ^ 32) × AllByRecursion (HandleFits v) hs
+
+-- the handle at the front of some bytes, and the bytes after it
+unfoldable pub handle_at : TableVersion → List ℕ → Option (Handle × List ℕ)
+handle_at v bytes =
+    let k = key_len_at v (drop 20 bytes) in
+    let rest = drop (20 + key_width v) bytes in
+    if nat_lt (length bytes) (20 + key_width v) then None
+    else (if nat_lt (length rest) k then None
+    else Some (record { end_key = take k rest; seqno = num8 bytes; offset = num8 (drop 8 bytes); size = num4 (drop 16 bytes) }, drop k rest))
+
+-- n handles that use the bytes up
+unfoldable pub handles_at : TableVersion → ℕ → List ℕ → Option (List Handle)
+handles_at v zero [] = Some []
+handles_at v zero (b ∷ bytes) = None
+handles_at v (suc n) bytes = option_and_then (λ (x : Handle × List ℕ). option_map (λ hs. x.0 ∷ hs) (handles_at v n x.1)) (handle_at v bytes)
+
+-- the strict list of handles that a payload spells, where it spells one
+unfoldable pub handles_in : TableVersion → List ℕ → Option (List Handle)
+handles_in v bytes =
+    if nat_lt (length bytes) 4 then None
+    else option_and_then (λ hs. if is_strict_after None (map end_of hs) then Some hs else None) (handles_at v (num4 bytes) (drop 4 bytes))
+
+-- the handle's block may hold the key numbered below a bound, or what comes after it
+abbrev pub reaches : List ℕ → ℕ → Handle → Bool
+reaches key bound h = key_lt key h.end_key || (same_key h.end_key key && nat_lt h.seqno bound)
+
+-- the handle's block ends above the key
+abbrev pub is_above : List ℕ → Handle → Bool
+is_above key h = key_lt key h.end_key
+
+-- from the first that passes a test on; up to and with the first that does, or all
+abbrev pub from_first : {A : Type 0} → (A → Bool) → List A → List A
+from_first p [] = []
+from_first p (x ∷ xs) = if p x then x ∷ xs else from_first p xs
+
+abbrev pub up_to_first : {A : Type 0} → (A → Bool) → List A → List A
+up_to_first p [] = []
+up_to_first p (x ∷ xs) = if p x then x ∷ [] else x ∷ up_to_first p xs
+
+-- the edges of a window; a side without one takes all
+abbrev pub from_edge : Option (List ℕ × ℕ) → List Handle → List Handle
+from_edge None hs = hs
+from_edge (Some edge) hs = from_first (reaches edge.0 edge.1) hs
+
+abbrev pub to_edge : Option (List ℕ) → List Handle → List Handle
+to_edge None hs = hs
+to_edge (Some key) hs = up_to_first (is_above key) hs
+
+-- the handles from the first that reaches the lower edge up to the first whose end key is above the upper one, or up to the last
+abbrev pub window : List Handle → Option (List ℕ × ℕ) → Option (List ℕ) → List Handle
+window hs lo hi = from_edge lo (to_edge hi hs)

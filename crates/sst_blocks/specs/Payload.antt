@@ -1,0 +1,29 @@
+-- The payload of a data or meta block: the one spelling of a list of entries.
+use Rattle.std.specs.Prelude.{◌≡◌, ℕ, ◌+◌, ◌<◌, ◌^◌, List, [], ◌∷◌, ◌++◌, length}
+use Rattle.std.specs.List.{flat_map, AllByRecursion}
+use Rattle.sst_blocks.specs.declared.version.TableVersion.{TableVersion}
+use Rattle.sst_blocks.specs.Entry.{Entry}
+use Rattle.sst_blocks.specs.Kind.{tag_of}
+use Rattle.sst_blocks.specs.Number.{le4, le8}
+use Rattle.sst_blocks.specs.Version.{key_len_bytes, key_limit}
+
+-- the tag, the number and both lengths
+abbrev pub entry_head : TableVersion → Entry → List ℕ
+entry_head v e = (tag_of e.kind ∷ []) ++ le8 e.seqno ++ key_len_bytes v (length e.user_key) ++ le4 (length e.value)
+
+-- one entry: its head, its key, its value
+unfoldable pub spelled : TableVersion → Entry → List ℕ
+spelled v e = entry_head v e ++ e.user_key ++ e.value
+
+-- the count, and then the entries in order
+unfoldable pub payload : TableVersion → List Entry → List ℕ
+payload v es = le4 (length es) ++ flat_map (spelled v) es
+
+-- what has a spelling
+pub record Fits (v : TableVersion) (e : Entry) : Type 0 where
+  pub number : e.seqno < 2 ^ 64
+  pub key_len : length e.user_key < key_limit v
+  pub value_len : length e.value < 2 ^ 32
+
+abbrev pub AreFit : TableVersion → List Entry → Type 0
+AreFit v es = (length es < 2 ^ 32) × AllByRecursion (Fits v) es

@@ -1,0 +1,12 @@
+-- A point read, and the entries within bounds.
+use Rattle.std.specs.Prelude.{◌≡◌, ℕ, Bool, true, false, ◌&&◌, not, nat_lt, List, Option, Some, None, find, filter}
+use Rattle.sst_blocks.specs.Entry.{Entry}
+use Rattle.sst_blocks.specs.Key.{same_key, key_lt}
+
+-- the entry has the key, and a number below the bound
+abbrev pub is_hit : List ℕ → ℕ → Entry → Bool
+is_hit key bound e = same_key e.user_key key && nat_lt e.seqno bound
+
+-- the first entry of the key numbered below the bound
+unfoldable pub point : List Entry → List ℕ → ℕ → Option Entry
+point es key bound = find (is_hit key bound) es

@@ -1,0 +1,37 @@
+-- What the payload of a data or meta block spells.
+use Rattle.std.specs.Prelude.{◌≡◌, ℕ, zero, suc, ◌+◌, ◌<◌, List, [], ◌∷◌, length, take, drop, slice_index, Bool, true, false, Option, Some, None, unwrap_or, option_and_then, nat_lt, is_some, if◌then◌else◌}
+use Rattle.std.specs.Option.{option_map}
+use Rattle.sst_blocks.specs.declared.version.TableVersion.{TableVersion}
+use Rattle.sst_blocks.specs.declared.value_type.ValueType.{ValueType}
+use Rattle.sst_blocks.specs.Entry.{Entry, entry}
+use Rattle.sst_blocks.specs.Kind.{kind_of}
+use Rattle.sst_blocks.specs.Number.{num4, num8}
+use Rattle.sst_blocks.specs.Version.{key_width, key_len_at}
+use Rattle.sst_blocks.specs.Strict.{is_strict_after}
+
+-- after the tag and the number: both lengths, the key and the value
+unfoldable pub parts_at : TableVersion → ValueType → ℕ → List ℕ → Option (Entry × List ℕ)
+parts_at v t n bytes =
+    let k = key_len_at v bytes in
+    let m = num4 (drop (key_width v) bytes) in
+    let rest = drop 4 (drop (key_width v) bytes) in
+    if nat_lt (length rest) (k + m) then None
+    else Some (entry (take k rest) (take m (drop k rest)) n t, drop m (drop k rest))
+
+-- the entry at the front of some bytes, and the bytes after it
+unfoldable pub entry_at : TableVersion → List ℕ → Option (Entry × List ℕ)
+entry_at v bytes =
+    if nat_lt (length bytes) (13 + key_width v) then None
+    else option_and_then (λ t. parts_at v t (num8 (drop 1 bytes)) (drop 8 (drop 1 bytes))) (kind_of (slice_index bytes 0))
+
+-- n entries that use the bytes up
+unfoldable pub entries_at : TableVersion → ℕ → List ℕ → Option (List Entry)
+entries_at v zero [] = Some []
+entries_at v zero (b ∷ bytes) = None
+entries_at v (suc n) bytes = option_and_then (λ (x : Entry × List ℕ). option_map (λ es. x.0 ∷ es) (entries_at v n x.1)) (entry_at v bytes)
+
+-- the strict list of entries that a payload spells, where it spells one
+unfoldable pub entries_in : TableVersion → List ℕ → Option (List Entry)
+entries_in v bytes =
+    if nat_lt (length bytes) 4 then None
+    else option_and_then (λ es. if is_strict_after None es then Some es else None) (entries_at v (num4 bytes) (drop 4 bytes))

@@ -1,0 +1,5 @@
+//! Checksums.
+
+/// A checksum, wide enough for any hash that a table may be checked by.
+#[derive(Clone, Copy, Debug, PartialEq, Eq)]
+pub struct Checksum(pub u128);

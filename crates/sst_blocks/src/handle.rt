@@ -1,0 +1,144 @@
+//! Where a block lies.
+ghost use Rattle.std.specs.Prelude.{◌≡◌, ◌+◌, ◌<◌, ◌^◌, IfOk, IfErr};
+
+use crate::{SeqNo, UserKey};
+use std::alloc::{AllocError, Allocator, Global};
+use std::marker::Model;
+
+/// A position in a table's bytes.
+#[derive(Clone, Copy, Debug, Default, PartialEq, Eq, PartialOrd, Ord)]
+pub struct BlockOffset(pub u64);
+
+/// Where a block lies: its position and its size with the header, both in bytes.
+#[derive(Clone, Copy, Debug, Default, PartialEq, Eq)]
+pub struct BlockHandle {
+    offset: BlockOffset,
+    size: u32,
+}
+
+impl Model for BlockHandle {
+    ghost use Rattle.sst_blocks.specs.Place.{Place};
+
+    ghost Value = { Place };
+
+    ghost view = { λ h. record { offset = h.offset.0; size = h.size } };
+
+    ghost inverse = { λ p. record { offset = record { 0 = p.offset }; size = p.size } };
+}
+
+impl BlockHandle {
+    /// A block of `size` bytes, header included, at `offset`.
+    pub fn new(offset: BlockOffset, size: u32) -> BlockHandle
+        ensures offset { result.offset ≡ offset.0 }
+        ensures size { result.size ≡ size }
+    {
+        BlockHandle { offset, size }
+    }
+
+    /// The block's position.
+    pub fn offset(&self) -> BlockOffset
+        ensures { result.0 ≡ self.now.offset }
+    {
+        self.offset
+    }
+
+    /// The block's size in bytes, header included.
+    pub fn size(&self) -> u32
+        ensures { result ≡ self.now.size }
+    {
+        self.size
+    }
+}
+
+/// A block's handle with the key and the number of the block's last entry.
+#[derive(Drop)]
+#[derive_where(Debug, PartialEq, Eq)]
+pub struct KeyedBlockHandle<A: Allocator = Global> {
+    end_key: UserKey<A>,
+    seqno: SeqNo,
+    inner: BlockHandle,
+}
+
+impl<A: Allocator> Model for KeyedBlockHandle<A> {
+    ghost use Rattle.sst_blocks.specs.Handle.{Handle};
+
+    ghost Value = { Handle };
+
+    ghost view = { λ h. record { end_key = h.end_key; seqno = h.seqno; offset = h.inner.offset; size = h.inner.size } };
+
+    ghost inverse = { λ h. record { end_key = h.end_key; seqno = h.seqno; inner = record { offset = h.offset; size = h.size } } };
+}
+
+impl<A: Allocator> Clone for KeyedBlockHandle<A> {
+    ghost use Rattle.std.specs.Prelude.{◌≡◌};
+
+    ghost is_clone = { λ h copy. copy ≡ h };
+
+    fn clone(&self) -> Result<KeyedBlockHandle<A>, AllocError> {
+        Ok(KeyedBlockHandle {
+            end_key: self.end_key.clone()?,
+            seqno: self.seqno,
+            inner: self.inner,
+        })
+    }
+}
+
+impl<A: Allocator> KeyedBlockHandle<A> {
+    /// A handle of its parts.
+    pub fn new(end_key: UserKey<A>, seqno: SeqNo, handle: BlockHandle) -> KeyedBlockHandle<A>
+        ensures { result ≡ record { end_key = end_key; seqno = seqno; offset = handle.offset; size = handle.size } }
+    {
+        KeyedBlockHandle {
+            end_key,
+            seqno,
+            inner: handle,
+        }
+    }
+
+    /// The key of the block's last entry.
+    pub fn end_key(&self) -> &UserKey<A>
+        ensures { result.now ≡ self.now.end_key }
+    {
+        &self.end_key
+    }
+
+    /// The number of the block's last entry.
+    pub fn seqno(&self) -> SeqNo
+        ensures { result ≡ self.now.seqno }
+    {
+        self.seqno
+    }
+
+    /// The block's position.
+    pub fn offset(&self) -> BlockOffset
+        ensures { result.0 ≡ self.now.offset }
+    {
+        self.inner.offset()
+    }
+
+    /// The block's size in bytes, header included.
+    pub fn size(&self) -> u32
+        ensures { result ≡ self.now.size }
+    {
+        self.inner.size()
+    }
+
+    /// Moves the handle towards the end by `delta` bytes.
+    pub fn shift(&mut self, delta: BlockOffset)
+        requires { self.old.offset + delta.0 < 2 ^ 64 }
+        ensures { self.new ≡ record self.old { offset = self.old.offset + delta.0 } }
+    {
+        self.inner = BlockHandle::new(
+            BlockOffset(self.inner.offset().0 + delta.0),
+            self.inner.size(),
+        );
+    }
+
+    /// The handle without its key and number.
+    pub fn into_inner(self) -> BlockHandle
+        ensures offset { result.offset ≡ self.offset }
+        ensures size { result.size ≡ self.size }
+    {
+        self.inner
+    }
+}
