@@ -1,5 +1,5 @@
 -- Refusals: their numbers, and what a call that may want memory promises.
-use Rattle.std.specs.Prelude.{◌≡◌, ℕ, Bool, true, false, Result, Ok, Err}
+use Rattle.std.specs.Prelude.{◌≡◌, ℕ, Bool, true, false, Option, Some, None, Result, Ok, Err}
 use Rattle.sst_blocks.specs.declared.error.Error.{Error}
 use Rattle.sst_blocks.specs.declared.error.Error.TheVariants.{OutOfMemory, Truncated, InvalidHeader, InvalidTag, ChecksumMismatch, InvalidBlock, KeyTooLong, ValueTooLong, BlockTooLarge, SectionTooLarge, InvalidTrailer, MissingSection, MetaKeyMissing, InvalidMetaValue, UnsupportedTableVersion, UnsupportedHashType, UnsupportedChecksumType, UnsupportedIndexInterval, UnsupportedCompression, GlobalSeqNoTooLarge, SeqNoOverflow, TableIdsSpent, WriterFailed, Source}
 
@@ -42,3 +42,8 @@ Fails e told = is_memory e ≡ false → told ≡ Err e
 abbrev pub Gives : {X Y : Type 0} → (X → Y) → Result X Error → Result Y Error → Type 0
 Gives view (Ok x) told = told ≡ Ok (view x)
 Gives view (Err e) told = Fails e told
+
+-- memory aside, a call refuses exactly with the fault that is told, and succeeds where none is
+abbrev pub Faults : {X : Type 0} → Result X Error → Option Error → Type 0
+Faults (Ok x) told = told ≡ None
+Faults (Err e) told = is_memory e ≡ false → told ≡ Some e

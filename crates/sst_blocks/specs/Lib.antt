@@ -16,3 +16,6 @@ pub mod Fnv
 pub mod Block
 pub mod Bounds
 pub mod Span
+pub mod Starts
+pub mod Encoding
+pub mod Sections

@@ -2,24 +2,32 @@
 //! and the sections of a table's bytes.
 #![tactic(auto)]
 
+mod block;
 mod block_type;
 mod checksum;
 mod compression;
+mod data_block;
 mod error;
 mod handle;
+mod index_block;
 mod key;
+mod section;
 mod slice;
 mod stream;
 mod value;
 mod value_type;
 mod version;
 
+pub use block::Block;
 pub use block_type::BlockType;
 pub use checksum::Checksum;
 pub use compression::CompressionType;
+pub use data_block::{DataBlock, data_block_bound};
 pub use error::{Error, TagName};
 pub use handle::{BlockHandle, BlockOffset, KeyedBlockHandle};
+pub use index_block::{IndexBlock, index_block_bound};
 pub use key::InternalKey;
+pub use section::{Section, SectionName, SectionWriter};
 pub use slice::{Slice, UserKey, UserValue};
 pub use stream::{Direction, IterItem, answer_at, answers_at, source_of};
 pub use value::InternalValue;

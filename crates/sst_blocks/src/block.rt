@@ -1,0 +1,71 @@
+//! Blocks: a checked payload of one kind.
+ghost use Rattle.std.specs.Prelude.{◌≡◌, ◌+◌, ◌++◌, ◌<◌, ◌^◌, length, IfOk, IfErr, OnOk, OnErr};
+ghost use Rattle.sst_blocks.specs.Block.{block_bytes, Loaded};
+ghost use Rattle.sst_blocks.specs.Starts.{IsBlock};
+ghost use Rattle.sst_blocks.specs.declared.version.TableVersion.TheVariants.{V4};
+ghost use Rattle.sst_blocks.specs.declared.error.Error.TheVariants.{OutOfMemory};
+
+use crate::section::SectionWriter;
+use crate::{BlockHandle, BlockType, CompressionType, Error, Slice, TableVersion};
+use std::alloc::{Allocator, Global};
+use std::marker::Model;
+
+/// A block that was loaded: its payload is in the grammar of its kind. It shares the table's bytes.
+#[derive(Drop)]
+pub struct Block<A: Allocator = Global> {
+    pub(crate) version: TableVersion,
+    pub(crate) kind: BlockType,
+    pub(crate) payload: Slice<A>,
+    // where the entries or handles begin, found by the one pass that tests the grammar
+    pub(crate) starts: Vec<u32, A>,
+}
+
+impl<A: Allocator> Model for Block<A> {
+    ghost use Rattle.sst_blocks.specs.Block.{Loaded};
+    ghost use Rattle.sst_blocks.specs.Starts.{IsBlock};
+
+    ghost Value = { Loaded };
+
+    ghost view = { λ b. record { version = b.version; kind = b.kind; payload = b.payload } };
+
+    ghost invariant = { λ b. IsBlock b.version b.kind b.payload b.starts.items };
+}
+
+impl<A: Allocator> Block<A> {
+    /// The length of a block header in bytes.
+    pub const HEADER_LEN: u32 = 24;
+
+    /// What the payload holds.
+    pub fn kind(&self) -> BlockType
+        ensures { result ≡ self.now.kind }
+    {
+        self.kind
+    }
+
+    /// The length of the payload in bytes.
+    pub fn size(&self) -> usize
+        ensures { result ≡ length self.now.payload }
+    {
+        self.payload.len()
+    }
+}
+
+impl<A: Allocator + Clone> Block<A> {
+    /// Writes a block with this payload at the end, and answers where it lies. Refused [`Error::OutOfMemory`]; nothing
+    /// changes then.
+    pub fn write_into(
+        writer: &mut SectionWriter<A>,
+        payload: &[u8],
+        kind: BlockType,
+        compression: CompressionType,
+    ) -> Result<BlockHandle, Error>
+        requires { length payload.now + 24 < 2 ^ 32 }
+        ensures ok { OnOk result (writer.new ≡ record writer.old { bytes = writer.old.bytes ++ block_bytes V4 kind payload.now }) }
+        ensures handle { IfOk result (λ h. h ≡ record { offset = length writer.old.bytes; size = 24 + length payload.now }) }
+        ensures unchanged { OnErr result (writer.new ≡ writer.old) }
+        ensures err { IfErr result (λ e. e ≡ OutOfMemory) }
+    {
+        let _ = compression;
+        Err(Error::OutOfMemory)
+    }
+}
