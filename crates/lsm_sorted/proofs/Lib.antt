@@ -1,3 +1,5 @@
+pub mod IntervalLemmas
+pub mod SpanLemmas
 pub mod KeyLemmas
 pub mod EndsLemmas
 pub mod MvccLemmas

@@ -3,3 +3,4 @@ pub mod Peeked
 pub mod Union
 pub mod Newest
 pub mod Mvcc
+pub mod KeyRange

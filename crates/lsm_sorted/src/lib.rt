@@ -3,7 +3,9 @@
 #![tactic(auto)]
 
 mod ends;
+mod key_range;
 mod mvcc_stream;
 mod peeked;
 
+pub use key_range::KeyRange;
 pub use mvcc_stream::MvccStream;
