@@ -1,0 +1,6 @@
+pub mod Told
+pub mod Regions
+pub mod ItemName
+pub mod Meta
+pub mod Load
+pub mod Seen
