@@ -1,9 +1,15 @@
 //! Sorted tables: opening a table's bytes, point reads, scans, and runs of tables.
 #![tactic(auto)]
 
+mod block_index;
+mod inner;
 mod item_name;
 mod meta;
+mod point;
 mod regions;
 
+pub use block_index::FullBlockIndex;
+pub use inner::Inner;
 pub use meta::ParsedMeta;
+pub use point::point_in;
 pub use regions::ParsedRegions;

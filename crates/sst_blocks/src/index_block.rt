@@ -1,16 +1,16 @@
 //! Index blocks: strict lists of block handles.
-ghost use Rattle.std.specs.Prelude.{◌≡◌, ◌+◌, ◌++◌, ◌<◌, ◌^◌, List, Some, None, false, length, IfOk, IfErr, OnOk, OnErr};
+ghost use Rattle.std.specs.Prelude.{◌≡◌, ◌+◌, ◌++◌, ◌<◌, ◌^◌, List, Some, None, false, find, length, IfOk, IfErr, OnOk, OnErr};
 ghost use Rattle.sst_blocks.specs.Block.{handles_of};
 ghost use Rattle.sst_blocks.specs.Bounds.{index_block_bound_of};
 ghost use Rattle.sst_blocks.specs.Encoding.{handles_fault};
 ghost use Rattle.sst_blocks.specs.Error.{Faults, is_memory};
-ghost use Rattle.sst_blocks.specs.Handles.{handles_payload, handles_in, AreStrictHandles};
+ghost use Rattle.sst_blocks.specs.Handles.{handles_payload, handles_in, AreStrictHandles, reaches};
 ghost use Rattle.sst_blocks.specs.Starts.{HandlesAt};
 ghost use Rattle.sst_blocks.specs.declared.block_type.BlockType.TheVariants.{Index};
 ghost use Rattle.sst_blocks.specs.declared.error.Error.TheVariants.{OutOfMemory, InvalidBlock};
 ghost use Rattle.sst_blocks.specs.declared.version.TableVersion.TheVariants.{V4};
 
-use crate::{Block, Error, KeyedBlockHandle, Slice, TableVersion};
+use crate::{Block, Error, KeyedBlockHandle, SeqNo, Slice, TableVersion};
 use std::alloc::{Allocator, Global};
 use std::marker::Model;
 
@@ -86,6 +86,14 @@ impl<A: Allocator> IndexBlock<A> {
         ensures reads { OnOk result (handles_in V4 (handles_payload V4 handles.now) ≡ Some handles.now) }
         ensures bound { OnOk result (24 + length (handles_payload V4 handles.now) ≡ index_block_bound_of handles.now) }
         ensures short { OnOk result (24 + length (handles_payload V4 handles.now) < 2 ^ 32) }
+    {
+        Err(Error::OutOfMemory)
+    }
+
+    /// The first handle that reaches a key numbered below `seqno`. Refused [`Error::OutOfMemory`] alone.
+    pub fn find(&self, key: &[u8], seqno: SeqNo) -> Result<Option<KeyedBlockHandle<A>>, Error>
+        ensures found { IfOk result (λ found. found ≡ find (reaches key.now seqno) self.now) }
+        ensures err { IfErr result (λ e. e ≡ OutOfMemory) }
     {
         Err(Error::OutOfMemory)
     }

@@ -1,0 +1,82 @@
+//! Point reads, over whatever blocks can be loaded from.
+ghost use Rattle.std.specs.Prelude.{◌≡◌, ◌+◌, ◌<◌, ◌^◌, Option, Some, IfOk, IfErr};
+ghost use Rattle.sst_blocks.specs.Opened.{counted};
+ghost use Rattle.sst_blocks.specs.declared.block_type.BlockType.TheVariants.{Data};
+ghost use Rattle.sst_blocks.specs.declared.error.Error.TheVariants.{OutOfMemory};
+ghost use Rattle.sst_blocks.specs.Entry.{Entry};
+ghost use Rattle.sst_blocks.specs.Error.{Gives};
+ghost use Rattle.sst_blocks.specs.Fnv.{fnv1a};
+ghost use Rattle.lsm_tables.specs.Answer.{answer_told, handle_for, read_told, lifted, Opens};
+ghost use Rattle.lsm_tables.specs.Seen.{parts_of};
+
+use crate::Inner;
+use sst_blocks::{
+    BlockType, DataBlock, Error, InternalValue, KeyedBlockHandle, LoadBlocks, SeqNo,
+};
+use std::alloc::Allocator;
+
+// The entry with the global number added, which the caller has tested to fit.
+fn lift<A: Allocator>(item: InternalValue<A>, global_seqno: SeqNo) -> InternalValue<A>
+    requires { item.seqno + global_seqno < 2 ^ 64 }
+    ensures { result ≡ lifted global_seqno item }
+{
+    let mut item = item;
+    item.key.seqno += global_seqno;
+    item
+}
+
+// The handle of the one data block that a point read rests on.
+fn handle_of<A: Allocator>(inner: &Inner<A>, key: &[u8], seqno: SeqNo) -> Result<Option<KeyedBlockHandle<A>>, Error>
+    ensures found { IfOk result (λ h. h ≡ handle_for (parts_of inner.now) inner.now.global_seqno key.now seqno) }
+    ensures err { IfErr result (λ e. e ≡ OutOfMemory) }
+{
+    let seqno = seqno.saturating_sub(inner.global_seqno);
+    if inner.metadata.seqnos.0 >= seqno {
+        return Ok(None);
+    }
+    inner.pinned_block_index.inner().find(key, seqno)
+}
+
+// What that block answers.
+fn read_in<S: LoadBlocks>(
+    source: &mut S,
+    handle: KeyedBlockHandle<S::Alloc>,
+    global_seqno: SeqNo,
+    key: &[u8],
+    seqno: SeqNo,
+) -> Result<Option<InternalValue<S::Alloc>>, Error>
+    ensures told { Gives (λ (found : Option Entry). found) result (read_told (S.body source.old) global_seqno key.now seqno (Some handle)) }
+    ensures body { S.body source.new ≡ S.body source.old }
+    ensures counted { S.opened source.new ≡ counted Data (S.opened source.old) }
+{
+    let block = source.load(&handle.into_inner(), BlockType::Data)?;
+    let block = DataBlock::new(block);
+    let bound = seqno.saturating_sub(global_seqno);
+    match block.point_read(key, bound)? {
+        Some(item) => Ok(Some(lift(item, global_seqno))),
+        None => Ok(None),
+    }
+}
+
+/// The first entry of a key numbered below `seqno`, its number with the global number added. One data block is loaded at
+/// most, and it is the source's only way to one: the first whose end reaches the key at that number. Refused with the first
+/// fault of loading it, and [`Error::OutOfMemory`].
+#[tactic(auto, unfolding(crate::specs::Answer::answer_told))]
+pub fn point_in<S: LoadBlocks>(
+    source: &mut S,
+    inner: &Inner<S::Alloc>,
+    key: &[u8],
+    seqno: SeqNo,
+    key_hash: u64,
+) -> Result<Option<InternalValue<S::Alloc>>, Error>
+    requires { key_hash ≡ fnv1a key.now }
+    ensures told { Gives (λ (found : Option Entry). found) result (answer_told (S.body source.old) inner.now.global_seqno (parts_of inner.now) key.now seqno) }
+    ensures body { S.body source.new ≡ S.body source.old }
+    ensures opened { Opens result (handle_for (parts_of inner.now) inner.now.global_seqno key.now seqno) (S.opened source.old) (S.opened source.new) }
+{
+    let _ = key_hash;
+    match handle_of(inner, key, seqno)? {
+        Some(handle) => read_in(source, handle, inner.global_seqno, key, seqno),
+        None => Ok(None),
+    }
+}
