@@ -6,3 +6,5 @@ pub mod Load
 pub mod Parts
 pub mod Seen
 pub mod Answer
+pub mod TableSeen
+pub mod Handled

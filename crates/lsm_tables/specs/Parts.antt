@@ -1,10 +1,11 @@
 -- What a table is recovered to: what it says of itself, where its parts lie, and the handles of its data blocks.
-use Rattle.std.specs.Prelude.{ℕ, ◌+◌, ◌-◌, ◌^◌, nat_lt, List, map, Option, Result, Ok, Err, if◌then◌else◌}
+use Rattle.std.specs.Prelude.{ℕ, ◌+◌, ◌-◌, ◌^◌, nat_lt, List, map, Option, Some, None, Result, Ok, Err, if◌then◌else◌}
 use Rattle.sst_blocks.specs.declared.block_type.BlockType.TheVariants.{Index}
 use Rattle.sst_blocks.specs.declared.error.Error.{Error}
 use Rattle.sst_blocks.specs.declared.error.Error.TheVariants.{GlobalSeqNoTooLarge}
 use Rattle.sst_blocks.specs.Block.{load_told, handles_of, unless}
 use Rattle.sst_blocks.specs.Handle.{Handle}
+use Rattle.sst_blocks.specs.Place.{Place}
 use Rattle.sst_blocks.specs.Sections.{body_of, section_in, section_names, trailer_fault}
 use Rattle.lsm_tables.specs.declared.regions.ParsedRegions.{ParsedRegions}
 use Rattle.lsm_tables.specs.Meta.{Facts}
@@ -37,3 +38,8 @@ parts_told bytes g =
 -- what opening some bytes tells: the trailer first
 abbrev pub recovered_told : List ℕ → ℕ → Result Parts Error
 recovered_told bytes g = unless (trailer_fault bytes) (parts_told bytes g)
+
+-- the size of a part, or 0 where it is absent
+abbrev pub size_of : Option Place → ℕ
+size_of None = 0
+size_of (Some p) = p.size

@@ -2,14 +2,17 @@
 #![tactic(auto)]
 
 mod block_index;
+mod handle;
 mod inner;
 mod item_name;
 mod meta;
 mod point;
 mod regions;
+mod table;
 
 pub use block_index::FullBlockIndex;
 pub use inner::Inner;
 pub use meta::ParsedMeta;
 pub use point::point_in;
 pub use regions::ParsedRegions;
+pub use table::{Table, TableInner};

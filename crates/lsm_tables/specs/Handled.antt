@@ -1,0 +1,13 @@
+-- What the handles of a table share, as a table.
+use Rattle.std.specs.Prelude.{◌≡◌, ℕ, List, Ok}
+use Rattle.lsm_tables.specs.declared.handle.Shared.{Shared}
+use Rattle.lsm_tables.specs.Parts.{recovered_told}
+use Rattle.lsm_tables.specs.Seen.{parts_of}
+use Rattle.lsm_tables.specs.TableSeen.{TableSeen}
+
+abbrev pub table_of : {A : Type 0} → Shared A → TableSeen
+table_of s = record { bytes = s.source; global_seqno = s.inner.global_seqno; tree_id = s.inner.tree_id; checksum = s.inner.checksum.0; parts = parts_of s.inner }
+
+-- the table was recovered from its bytes
+abbrev pub IsRecovered : TableSeen → Type 0
+IsRecovered t = recovered_told t.bytes t.global_seqno ≡ Ok t.parts

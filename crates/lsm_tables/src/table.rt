@@ -1,0 +1,227 @@
+//! Tables: opening a table's bytes, and reading from them.
+ghost use Rattle.std.specs.Prelude.{◌≡◌, ◌+◌, ℕ, List, Option, Result, Ok, IfOk, IfErr};
+ghost use Rattle.sst_blocks.specs.Entry.{Entry};
+ghost use Rattle.sst_blocks.specs.Error.{Gives};
+ghost use Rattle.sst_blocks.specs.Fnv.{fnv1a};
+ghost use Rattle.sst_blocks.specs.Opened.{none_opened};
+ghost use Rattle.sst_blocks.specs.Sections.{body_of};
+ghost use Rattle.lsm_tables.specs.Answer.{answer_told, handle_for, Opens};
+ghost use Rattle.lsm_tables.specs.Handled.{IsRecovered};
+ghost use Rattle.lsm_tables.specs.Parts.{recovered_told, parts_told, index_told, number_told, size_of};
+ghost use Rattle.lsm_tables.specs.Seen.{parts_of, facts_of};
+ghost use Rattle.lsm_tables.specs.TableSeen.{TableSeen};
+
+use crate::block_index::FullBlockIndex;
+use crate::handle::Shared;
+use crate::{Inner, ParsedMeta, ParsedRegions, point_in};
+use sst_blocks::{
+    BlockSource, BlockType, Checksum, Counted, Error, IndexBlock, InternalValue, Opened, SeqNo,
+    Slice, hash,
+};
+use std::alloc::{AllocError, Allocator, Global};
+use std::marker::Model;
+use std::ops::Deref;
+use std::sync::Arc;
+
+/// What the handles of a table share, but for its bytes.
+pub type TableInner<A = Global> = Inner<A>;
+
+/// A table that was opened: a shared handle. A contract sees its bytes, what it was opened with and what it was
+/// recovered to.
+#[derive(Drop)]
+pub struct Table<A: Allocator = Global>(Arc<Shared<A>, A>);
+
+impl<A: Allocator> Model for Table<A> {
+    ghost use Rattle.std.specs.Arc.{arc_value};
+    ghost use Rattle.lsm_tables.specs.TableSeen.{TableSeen};
+    ghost use Rattle.lsm_tables.specs.Handled.{table_of, IsRecovered};
+
+    ghost Value = { TableSeen };
+
+    ghost view = { λ t. table_of (arc_value t.0) };
+
+    ghost invariant = { λ t. IsRecovered (table_of (arc_value t.0)) };
+}
+
+impl<A: Allocator> Clone for Table<A> {
+    ghost use Rattle.std.specs.Prelude.{◌≡◌};
+
+    ghost is_clone = { λ t copy. copy ≡ t };
+
+    fn clone(&self) -> Result<Table<A>, AllocError> {
+        Ok(Table(self.0.clone()?))
+    }
+}
+
+impl<A: Allocator> Deref for Table<A> {
+    ghost use Rattle.std.specs.Prelude.{◌≡◌};
+    ghost use Rattle.lsm_tables.specs.Seen.{parts_of};
+
+    type Target = Inner<A>;
+
+    ghost deref_gives = { λ t inner. parts_of inner ≡ t.parts };
+
+    fn deref(&self) -> &Inner<A> {
+        &self.0.inner
+    }
+}
+
+fn load_index<A: Allocator + Clone>(source: &BlockSource<A>, regions: &ParsedRegions) -> Result<FullBlockIndex<A>, Error>
+    ensures { Gives (λ (hs : _). hs) result (index_told (body_of source.now) regions.now) }
+{
+    let mut opened = Opened::none();
+    let block = source.load(&regions.tli, BlockType::Index, &mut opened)?;
+    Ok(FullBlockIndex::new(IndexBlock::new(block)))
+}
+
+fn test_number<A: Allocator>(metadata: &ParsedMeta<A>, global_seqno: SeqNo) -> Result<(), Error>
+    ensures { Gives (λ (_ : _). facts_of metadata.now) result (number_told (facts_of metadata.now) global_seqno) }
+{
+    match metadata.seqnos.1.checked_add(global_seqno) {
+        Some(_) => Ok(()),
+        None => Err(Error::GlobalSeqNoTooLarge),
+    }
+}
+
+#[tactic(auto, unfolding(crate::specs::Parts::parts_told))]
+fn recover_inner<A: Allocator + Clone>(
+    source: &BlockSource<A>,
+    checksum: Checksum,
+    global_seqno: SeqNo,
+    tree_id: u64,
+) -> Result<Inner<A>, Error>
+    ensures told { Gives parts_of result (parts_told source.now global_seqno) }
+    ensures numbers { IfOk result (λ inner. (inner.global_seqno ≡ global_seqno) × (inner.tree_id ≡ tree_id) × (inner.checksum ≡ checksum)) }
+{
+    let regions = ParsedRegions::parse_from_toc(source.toc())?;
+    let metadata = ParsedMeta::load_with_handle(source, &regions.metadata)?;
+    test_number(&metadata, global_seqno)?;
+    let pinned_block_index = load_index(source, &regions)?;
+    Ok(Inner {
+        tree_id,
+        global_seqno,
+        checksum,
+        metadata,
+        regions,
+        pinned_block_index,
+    })
+}
+
+impl<A: Allocator + Clone> Table<A> {
+    /// Opens a table's bytes. Refused with the first fault, in this order: those of the trailer, the regions, the meta block
+    /// and its items, [`Error::GlobalSeqNoTooLarge`] where the highest stored number plus `global_seqno` passes `u64`, and
+    /// those of loading the index; and [`Error::OutOfMemory`]. The checksum is kept, and not compared.
+    ///
+    /// Every index is full for now and stays loaded, whatever the flags say, and no filter is read.
+    pub fn recover(
+        alloc: A,
+        bytes: Slice<A>,
+        checksum: Checksum,
+        global_seqno: SeqNo,
+        tree_id: u64,
+        pin_filter: bool,
+        pin_index: bool,
+    ) -> Result<Table<A>, Error>
+        ensures told { Gives (λ (t : TableSeen). t.parts) result (recovered_told bytes global_seqno) }
+        ensures bytes { IfOk result (λ t. t.bytes ≡ bytes) }
+        ensures numbers { IfOk result (λ t. (t.global_seqno ≡ global_seqno) × (t.tree_id ≡ tree_id) × (t.checksum ≡ checksum.0)) }
+    {
+        let _ = pin_filter;
+        let _ = pin_index;
+        let source = BlockSource::new(alloc.clone()?, bytes)?;
+        let inner = recover_inner(&source, checksum, global_seqno, tree_id)?;
+        Ok(Table(Arc::new(alloc, Shared { inner, source })?))
+    }
+
+    /// The hash of a key, which a point read is given.
+    pub fn key_hash(key: &[u8]) -> u64
+        ensures { result ≡ fnv1a key.now }
+    {
+        hash(key)
+    }
+
+    /// The first entry of a key numbered below `seqno`, with how many blocks were loaded for it. Answers as [`Table::get`].
+    pub fn get_counted(&self, key: &[u8], seqno: SeqNo, key_hash: u64) -> (Result<Option<InternalValue<A>>, Error>, Opened)
+        requires { key_hash ≡ fnv1a key.now }
+        ensures told { Gives (λ (found : Option Entry). found) result.0 (answer_told (body_of self.now.bytes) self.now.global_seqno self.now.parts key.now seqno) }
+        ensures opened { Opens result.0 (handle_for self.now.parts self.now.global_seqno key.now seqno) none_opened result.1 }
+        ensures recovered { IsRecovered self.now }
+    {
+        let shared: &Shared<A> = &self.0;
+        let mut source = Counted::new(&shared.source);
+        let found = point_in(&mut source, &shared.inner, key, seqno, key_hash);
+        (found, source.opened())
+    }
+
+    /// The first entry of a key numbered below `seqno`, its number with the global number added. `key_hash` is the key's
+    /// [`Table::key_hash`]. Refused with the first fault of loading the one data block that the read rests on, and
+    /// [`Error::OutOfMemory`]; nothing changes then.
+    pub fn get(&self, key: &[u8], seqno: SeqNo, key_hash: u64) -> Result<Option<InternalValue<A>>, Error>
+        requires { key_hash ≡ fnv1a key.now }
+        ensures told { Gives (λ (found : Option Entry). found) result (answer_told (body_of self.now.bytes) self.now.global_seqno self.now.parts key.now seqno) }
+        ensures recovered { IsRecovered self.now }
+    {
+        self.get_counted(key, seqno, key_hash).0
+    }
+}
+
+impl<A: Allocator> Table<A> {
+    /// The table's id.
+    pub fn id(&self) -> u64
+        ensures { result ≡ self.now.parts.facts.id }
+    {
+        self.0.inner.metadata.id
+    }
+
+    /// The number that is added to every stored number.
+    pub fn global_seqno(&self) -> SeqNo
+        ensures { result ≡ self.now.global_seqno }
+    {
+        self.0.inner.global_seqno
+    }
+
+    /// The checksum that the table was opened with.
+    pub fn checksum(&self) -> Checksum
+        ensures { result.0 ≡ self.now.checksum }
+    {
+        self.0.inner.checksum
+    }
+
+    /// The highest number: the stored one plus the global number.
+    pub fn get_highest_seqno(&self) -> SeqNo
+        ensures { result ≡ self.now.parts.facts.seqno_max + self.now.global_seqno }
+    {
+        self.0.inner.metadata.seqnos.1 + self.0.inner.global_seqno
+    }
+
+    /// How many entries are tombstones of either kind.
+    pub fn tombstone_count(&self) -> u64
+        ensures { result ≡ self.now.parts.facts.tombstone_count }
+    {
+        self.0.inner.metadata.tombstone_count
+    }
+
+    /// How many entries are weak tombstones.
+    pub fn weak_tombstone_count(&self) -> u64
+        ensures { result ≡ self.now.parts.facts.weak_tombstone_count }
+    {
+        self.0.inner.metadata.weak_tombstone_count
+    }
+
+    /// How many values stand directly after a weak tombstone of their key.
+    pub fn weak_tombstone_reclaimable(&self) -> u64
+        ensures { result ≡ self.now.parts.facts.weak_tombstone_reclaimable }
+    {
+        self.0.inner.metadata.weak_tombstone_reclaimable
+    }
+
+    /// The length of the `filter` section in bytes, or 0 where there is none.
+    pub fn filter_size(&self) -> u32
+        ensures { result ≡ size_of self.now.parts.regions.filter }
+    {
+        match self.0.inner.regions.filter {
+            Some(handle) => handle.size(),
+            None => 0,
+        }
+    }
+}
