@@ -1,0 +1,12 @@
+use Rattle.std.proofs.Common.{arith, rules, ◌<◌, ◌+◌, ◌^◌}
+use Rattle.std.specs.Arc.{arc_value}
+use Rattle.lsm_tables.specs.Handled.{table_of}
+use Rattle.lsm_tables.proofs.Recovered.{highest_fits}
+use Rattle.lsm_tables.proofs.table.Table.get_highest_seqno.Goals as goal
+
+pub overflow_add-result : goal.overflow_add-result
+overflow_add-result g c =
+    let f = highest_fits (table_of (arc_value c.self.inside.0)) c.self.invariant in
+    let d = c.deref.ensures in
+    let e = c.deref-2.ensures in
+    rw (d, e) (search rules)
