@@ -2,3 +2,8 @@ pub mod StreamLemmas
 pub mod VecSource
 pub mod Numbers
 pub mod FnvLemmas
+pub mod Items
+pub mod Entries
+pub mod HandleLaws
+pub mod SpanLemmas
+pub mod Reaching

@@ -1,0 +1,190 @@
+-- What is read as a handle is spelled so, and what is spelled so is read.
+use Rattle.std.proofs.Common.{◌≡◌, ℕ, zero, suc, ◌+◌, ◌-◌, ◌^◌, ◌<◌, ◌≤◌, Bool, true, false, cond, ltb, List, [], ◌∷◌, ◌++◌, length, get_or, take, drop, map, Option, Some, None, refl, sym, ap, subst, ◌∙◌, append_assoc, arith}
+use Rattle.std.proofs.lemmas.Bool.{ltb-false, le-ltb}
+use Rattle.std.specs.Prelude.{option_and_then, unwrap_or, if◌then◌else◌}
+use Rattle.std.specs.List.{flat_map, slice_range, slice_get}
+use Rattle.std.specs.Option.{option_map}
+use Rattle.std.proofs.lemmas.List.{get_or_default, take_at, drop_at, take-append-drop, length-append, length-take, length-drop, drop-drop}
+use Rattle.std.proofs.lemmas.Option.{some_pair_parts, slice_get-get_or, option_and_then_some, cond_some}
+use Rattle.sst_blocks.specs.declared.version.TableVersion.{TableVersion}
+use Rattle.sst_blocks.specs.Handle.{Handle}
+use Rattle.sst_blocks.specs.Handles.{handle_head, handle_spelled, handles_payload, handle_at, handles_at, handles_in, HandleFits, HandlesFit, AreStrictHandles, end_of}
+use Rattle.sst_blocks.specs.Number.{le4, le8, num4, num8}
+use Rattle.sst_blocks.specs.Starts.{starts_of, HandlesAt}
+use Rattle.sst_blocks.specs.Strict.{is_strict_after}
+use Rattle.sst_blocks.specs.Version.{key_width, key_limit, key_len_bytes, key_len_at}
+use Rattle.sst_blocks.proofs.Items.{Format, IsFormat, items_at, items_in, in_order, items_in_take, items_in_again, guard_some, Here, length-starts, item_holds, strict_from_test}
+use Rattle.sst_blocks.proofs.Numbers.{IsBytes, IsBytes-drop, wide4, wide8, key_wide}
+
+-- the parts of a handle one after another, and then other bytes
+pub handle_parts : (v : TableVersion) (h : Handle) (rest : List ℕ) → handle_spelled v h ++ rest ≡ le8 h.seqno ++ (le8 h.offset ++ (le4 h.size ++ (key_len_bytes v (length h.end_key) ++ (h.end_key ++ rest))))
+unfolding handle_spelled
+handle_parts v h rest = simp append_assoc
+
+pub length-handle_head : (v : TableVersion) (h : Handle) → length (handle_head v h) ≡ 20 + key_width v
+length-handle_head v h =
+    omega (arith, length-append (le8 h.seqno ++ le8 h.offset ++ le4 h.size) (key_len_bytes v (length h.end_key)), length-append (le8 h.seqno ++ le8 h.offset) (le4 h.size), length-append (le8 h.seqno) (le8 h.offset), wide8.len h.seqno, wide8.len h.offset, wide4.len h.size, (key_wide v).len (length h.end_key))
+
+pub length-handle_spelled : (v : TableVersion) (h : Handle) → length (handle_spelled v h) ≡ 20 + key_width v + length h.end_key
+unfolding handle_spelled
+length-handle_spelled v h = omega (arith, length-append (handle_head v h) h.end_key, length-handle_head v h)
+
+joined : (v : TableVersion) (s o z k : ℕ) (K R : List ℕ) → length K ≡ k → le8 s ++ (le8 o ++ (le4 z ++ (key_len_bytes v k ++ (K ++ R)))) ≡ handle_spelled v (record { end_key = K; seqno = s; offset = o; size = z }) ++ R
+joined v s o z k K R len = rw (← len) (sym (handle_parts v (record { end_key = K; seqno = s; offset = o; size = z }) R))
+
+pub handle_takes : (v : TableVersion) (bytes : List ℕ) (h : Handle) (rest : List ℕ) → IsBytes bytes → handle_at v bytes ≡ Some (h, rest) → (bytes ≡ handle_spelled v h ++ rest) × HandleFits v h
+unfolding handle_at
+handle_takes v bytes h rest fits told =
+    let w = key_width v in
+    let b8 = drop 8 bytes in
+    let b16 = drop 16 bytes in
+    let b20 = drop 20 bytes in
+    let r = drop (20 + w) bytes in
+    let k = key_len_at v b20 in
+    let K = take k r in
+    let R = drop k r in
+    let made : Handle = record { end_key = K; seqno = num8 bytes; offset = num8 b8; size = num4 b16 } in
+    let g = guard_some (ltb (length bytes) (20 + w)) (cond (ltb (length r) k) None (Some (made, R))) (h, rest) told in
+    let long : 20 + w ≤ length bytes = ltb-false _ _ g.0 in
+    let g2 = guard_some (ltb (length r) k) (Some (made, R)) (h, rest) g.1 in
+    let room : k ≤ length r = ltb-false _ _ g2.0 in
+    let p = some_pair_parts made h R rest g2.1 in
+    let lk : length K ≡ k = omega (arith, length-take k r) in
+    let f8 : IsBytes b8 = IsBytes-drop 8 bytes fits in
+    let f16 : IsBytes b16 = IsBytes-drop 16 bytes fits in
+    let f20 : IsBytes b20 = IsBytes-drop 20 bytes fits in
+    let e0 : bytes ≡ le8 (num8 bytes) ++ b8 = wide8.front bytes (omega arith) fits in
+    let e1 : b8 ≡ le8 (num8 b8) ++ b16 = wide8.front b8 (omega (arith, length-drop 8 bytes)) f8 ∙ ap (λ (x : List ℕ). le8 (num8 b8) ++ x) (drop-drop 8 8 bytes) in
+    let e2 : b16 ≡ le4 (num4 b16) ++ b20 = wide4.front b16 (omega (arith, length-drop 16 bytes)) f16 ∙ ap (λ (x : List ℕ). le4 (num4 b16) ++ x) (drop-drop 4 16 bytes) in
+    let e3 : b20 ≡ key_len_bytes v k ++ r = (key_wide v).front b20 (omega (arith, length-drop 20 bytes)) f20 ∙ ap (λ (x : List ℕ). key_len_bytes v k ++ x) (drop-drop w 20 bytes) in
+    let e4 : r ≡ K ++ R = sym (take-append-drop k r) in
+    let flat : bytes ≡ le8 (num8 bytes) ++ (le8 (num8 b8) ++ (le4 (num4 b16) ++ (key_len_bytes v k ++ (K ++ R)))) =
+      e0 ∙ ap (λ (x : List ℕ). le8 (num8 bytes) ++ x) (e1 ∙ ap (λ (x : List ℕ). le8 (num8 b8) ++ x) (e2 ∙ ap (λ (x : List ℕ). le4 (num4 b16) ++ x) (e3 ∙ ap (λ (x : List ℕ). key_len_bytes v k ++ x) e4))) in
+    let whole : bytes ≡ handle_spelled v made ++ R = flat ∙ joined v (num8 bytes) (num8 b8) (num4 b16) k K R lk in
+    let below_k : length K < key_limit v = rw lk ((key_wide v).below b20 f20) in
+    let fit : HandleFits v made = record { number = wide8.below bytes fits; offset = wide8.below b8 f8; size = wide4.below b16 f16; key_len = below_k } in
+    (whole ∙ ap (λ (x : Handle). handle_spelled v x ++ R) p.0 ∙ ap (λ (x : List ℕ). handle_spelled v h ++ x) p.1, subst (HandleFits v) p.0 fit)
+
+-- the bytes after a part of w bytes
+after : (w n : ℕ) (part rest bytes : List ℕ) → drop n bytes ≡ part ++ rest → length part ≡ w → drop (n + w) bytes ≡ rest
+after w n part rest bytes e len = sym (drop-drop w n bytes) ∙ ap (drop w) e ∙ drop_at part rest w len
+
+pub handle_again : (v : TableVersion) (h : Handle) (rest : List ℕ) → HandleFits v h → handle_at v (handle_spelled v h ++ rest) ≡ Some (h, rest)
+unfolding handle_at
+handle_again v h rest fits =
+    let w = key_width v in
+    let K = h.end_key in
+    let k = length K in
+    let x3 = key_len_bytes v k ++ (K ++ rest) in
+    let x2 = le4 h.size ++ x3 in
+    let x1 = le8 h.offset ++ x2 in
+    let all = le8 h.seqno ++ x1 in
+    let d8 : drop 8 all ≡ x1 = drop_at (le8 h.seqno) x1 8 (wide8.len h.seqno) in
+    let d16 : drop 16 all ≡ x2 = after 8 8 (le8 h.offset) x2 all d8 (wide8.len h.offset) in
+    let d20 : drop 20 all ≡ x3 = after 4 16 (le4 h.size) x3 all d16 (wide4.len h.size) in
+    let dw : drop (20 + w) all ≡ K ++ rest = after w 20 (key_len_bytes v k) (K ++ rest) all d20 ((key_wide v).len k) in
+    let long : ltb (length all) (20 + w) ≡ false = le-ltb _ _ (omega (arith, length-append (le8 h.seqno) x1, wide8.len h.seqno, length-append (le8 h.offset) x2, wide8.len h.offset, length-append (le4 h.size) x3, wide4.len h.size, length-append (key_len_bytes v k) (K ++ rest), (key_wide v).len k)) in
+    let room : ltb (length (K ++ rest)) k ≡ false = le-ltb _ _ (omega (arith, length-append K rest)) in
+    let len : key_len_at v x3 ≡ k = (key_wide v).again k (K ++ rest) fits.key_len in
+    ap (handle_at v) (handle_parts v h rest)
+    ∙ rw (long, dw, d20, d16, d8, len, room, wide8.again h.seqno x1 fits.number, wide8.again h.offset x2 fits.offset, wide4.again h.size x3 fits.size, take_at K rest k refl, drop_at K rest k refl) refl
+
+-- ---- lists of handles
+
+-- handles are a format of items
+abbrev pub handle_format : TableVersion → Format Handle
+handle_format v = record { spell = handle_spelled v; read = handle_at v; key = end_of }
+
+pub handles_format : (v : TableVersion) → IsFormat (handle_format v) (HandleFits v)
+handles_format v = record { takes = handle_takes v; again = handle_again v }
+
+and_then_same : {A B : Type 0} (f g : A → Option B) → ((x : A) → f x ≡ g x) → (o : Option A) → option_and_then f o ≡ option_and_then g o
+and_then_same f g same None = refl
+and_then_same f g same (Some x) = same x
+
+handles_at_same : (v : TableVersion) (n : ℕ) (bytes : List ℕ) → handles_at v n bytes ≡ items_at (handle_at v) n bytes
+unfolding handles_at
+handles_at_same v zero [] = refl
+handles_at_same v zero (b ∷ bytes) = refl
+handles_at_same v (suc n) bytes =
+    and_then_same (λ (x : Handle × List ℕ). option_map (λ hs. x.0 ∷ hs) (handles_at v n x.1)) (λ (x : Handle × List ℕ). option_map (λ hs. x.0 ∷ hs) (items_at (handle_at v) n x.1))
+    (λ x. ap (option_map (λ hs. x.0 ∷ hs)) (handles_at_same v n x.1)) (handle_at v bytes)
+
+pub handles_in_same : (v : TableVersion) (bytes : List ℕ) → handles_in v bytes ≡ items_in (handle_format v) bytes
+unfolding handles_in
+handles_in_same v bytes =
+    let ordered = λ (hs : List Handle). if in_order (handle_format v) hs then Some hs else None in
+    ap (cond (ltb (length bytes) 4) None) (ap (option_and_then ordered) (handles_at_same v (num4 bytes) (drop 4 bytes)))
+
+-- what a payload spells is its list
+pub handles_spelled : (v : TableVersion) (bytes : List ℕ) (hs : List Handle) → IsBytes bytes → handles_in v bytes ≡ Some hs → (bytes ≡ handles_payload v hs) × HandlesFit v hs × AreStrictHandles hs
+unfolding handles_payload
+handles_spelled v bytes hs fits h =
+    let t = items_in_take (handle_format v) (HandleFits v) (handles_format v) bytes hs fits (sym (handles_in_same v bytes) ∙ h) in
+    (t.0, (t.1, t.2), t.3)
+
+-- a strict list is what its payload spells
+pub handles_read : (v : TableVersion) (hs : List Handle) → HandlesFit v hs → AreStrictHandles hs → handles_in v (handles_payload v hs) ≡ Some hs
+unfolding handles_payload
+handles_read v hs fit strict =
+    handles_in_same v (le4 (length hs) ++ flat_map (handle_spelled v) hs)
+    ∙ items_in_again (handle_format v) (HandleFits v) (handles_format v) hs fit.0 fit.1 strict
+
+-- the end key is a part of the bytes
+pub end_key_part : (v : TableVersion) (bytes : List ℕ) (at from to : ℕ) (h : Handle) → Here (handle_format v) bytes at h → from ≡ at + (20 + key_width v) → to ≡ from + length h.end_key → slice_range bytes from to ≡ h.end_key
+unfolding handle_spelled
+end_key_part v bytes at from to h here begins ends =
+    let n = 20 + key_width v in
+    let k : to - from ≡ length h.end_key = omega arith in
+    let flat : handle_spelled v h ++ here.rest ≡ handle_head v h ++ (h.end_key ++ here.rest) = append_assoc (handle_head v h) h.end_key here.rest in
+    let tail : drop (at + n) bytes ≡ h.end_key ++ here.rest = sym (drop-drop n at bytes) ∙ ap (drop n) (here.parts ∙ flat) ∙ drop_at (handle_head v h) (h.end_key ++ here.rest) n (length-handle_head v h) in
+    rw k (ap (λ (m : ℕ). take (length h.end_key) (drop m bytes)) begins ∙ ap (take (length h.end_key)) tail ∙ take_at h.end_key here.rest (length h.end_key) refl)
+
+-- ---- a loaded block
+
+pub block_spells : (v : TableVersion) (bytes starts : List ℕ) (hs : List Handle) → HandlesAt v bytes starts → unwrap_or (handles_in v bytes) [] ≡ hs → handles_in v bytes ≡ Some hs
+block_spells v bytes starts hs block view = block.are ∙ ap (λ (xs : List Handle). Some xs) (sym (ap (λ (o : Option (List Handle)). unwrap_or o []) block.are) ∙ view)
+
+pub block_starts : (v : TableVersion) (bytes starts : List ℕ) (hs : List Handle) → HandlesAt v bytes starts → unwrap_or (handles_in v bytes) [] ≡ hs → starts ≡ starts_of (handle_spelled v) 4 hs
+block_starts v bytes starts hs block view = block.places ∙ ap (starts_of (handle_spelled v) 4) (sym (ap (λ (o : Option (List Handle)). unwrap_or o []) block.are) ∙ view)
+
+pub block_length : (v : TableVersion) (bytes starts : List ℕ) (hs : List Handle) → HandlesAt v bytes starts → unwrap_or (handles_in v bytes) [] ≡ hs → length starts ≡ length hs
+block_length v bytes starts hs block view = ap length (block_starts v bytes starts hs block view) ∙ length-starts (handle_spelled v) 4 hs
+
+pub handles_strict : (v : TableVersion) (bytes : List ℕ) (hs : List Handle) → handles_in v bytes ≡ Some hs → AreStrictHandles hs
+unfolding handles_in
+handles_strict v bytes hs h =
+    let ordered = λ (xs : List Handle). if is_strict_after None (map end_of xs) then Some xs else None in
+    let read = handles_at v (num4 bytes) (drop 4 bytes) in
+    let g = guard_some (ltb (length bytes) 4) (option_and_then ordered read) hs h in
+    option_and_then_some ordered read hs g.1
+    (λ xs is tested.
+      let t = cond_some (is_strict_after None (map end_of xs)) xs hs tested in
+      subst AreStrictHandles t.1 (strict_from_test None (map end_of xs) t.0))
+
+no_handle : Handle
+no_handle = record { end_key = []; seqno = 0; offset = 0; size = 0 }
+
+-- the handle of a place, which begins at the place's start
+pub record At (v : TableVersion) (bytes : List ℕ) (i at : ℕ) : Type 0 where
+  pub handle : Handle
+  pub told : slice_get (unwrap_or (handles_in v bytes) []) i ≡ Some handle
+  pub here : Here (handle_format v) bytes at handle
+  pub within : at + (20 + key_width v) + length handle.end_key ≤ length bytes
+
+pub block_at : (v : TableVersion) (bytes starts : List ℕ) (i : ℕ) → IsBytes bytes → HandlesAt v bytes starts → i < length starts → At v bytes i (get_or starts i 0)
+block_at v bytes starts i fits block lt =
+    let hs = unwrap_or (handles_in v bytes) [] in
+    let at = get_or starts i 0 in
+    let within : i < length hs = omega (arith, block_length v bytes starts hs block refl) in
+    let here = item_holds (handle_format v) (HandleFits v) (handles_format v) bytes starts hs i at no_handle fits (sym (handles_in_same v bytes) ∙ block_spells v bytes starts hs block refl) (block_starts v bytes starts hs block refl) within (get_or_default starts i 0 at lt) in
+    record {
+      handle = get_or hs i no_handle;
+      told = slice_get-get_or hs i no_handle within;
+      here = here;
+      within = omega (arith, here.within, length-handle_spelled v (get_or hs i no_handle));
+    }
+
+-- what is read at the start is the handle
+pub read_is : (v : TableVersion) (bytes : List ℕ) (i at : ℕ) (part : List ℕ) (h : Handle) (rest : List ℕ) → (x : At v bytes i at) → part ≡ drop at bytes → Some (h, rest) ≡ handle_at v part → x.handle ≡ h
+read_is v bytes i at part h rest x same told = (some_pair_parts x.handle h x.here.rest rest (sym x.here.found ∙ sym (ap (handle_at v) same) ∙ sym told)).0
