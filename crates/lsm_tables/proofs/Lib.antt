@@ -2,3 +2,4 @@ pub mod Loads
 pub mod Points
 pub mod Recovered
 pub mod ChunkReads
+pub mod MetaReads
