@@ -5,10 +5,14 @@ ghost use Rattle.sst_blocks.specs.Starts.{IsBlock};
 ghost use Rattle.sst_blocks.specs.declared.version.TableVersion.TheVariants.{V4};
 ghost use Rattle.sst_blocks.specs.declared.error.Error.TheVariants.{OutOfMemory};
 
+mod header;
+
 use crate::section::SectionWriter;
-use crate::{BlockHandle, BlockType, CompressionType, Error, Slice, TableVersion};
+use crate::{BlockHandle, BlockOffset, BlockType, CompressionType, Error, Slice, TableVersion};
 use std::alloc::{Allocator, Global};
 use std::marker::Model;
+
+pub(crate) use header::Header;
 
 /// A block that was loaded: its payload is in the grammar of its kind. It shares the table's bytes.
 #[derive(Drop)]
@@ -33,7 +37,7 @@ impl<A: Allocator> Model for Block<A> {
 
 impl<A: Allocator> Block<A> {
     /// The length of a block header in bytes.
-    pub const HEADER_LEN: u32 = 24;
+    pub const HEADER_LEN: u32 = Header::LEN;
 
     /// What the payload holds.
     pub fn kind(&self) -> BlockType
@@ -65,7 +69,18 @@ impl<A: Allocator + Clone> Block<A> {
         ensures unchanged { OnErr result (writer.new ≡ writer.old) }
         ensures err { IfErr result (λ e. e ≡ OutOfMemory) }
     {
-        let _ = compression;
-        Err(Error::OutOfMemory)
+        match compression {
+            CompressionType::None => {}
+        }
+        let offset = BlockOffset(writer.position());
+        let len = payload.len() as u32;
+        let header = Header {
+            version: TableVersion::WRITTEN,
+            data_len: len,
+            uncompressed_len: len,
+            checksum: writer.checksum_of(payload),
+        };
+        writer.append_both(&header.encode(kind), payload)?;
+        Ok(BlockHandle::new(offset, Header::LEN + len))
     }
 }
