@@ -3,3 +3,4 @@ pub mod VecSource
 pub mod Numbers
 pub mod FnvLemmas
 pub mod LoadLemmas
+pub mod TrailerLemmas

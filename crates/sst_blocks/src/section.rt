@@ -63,6 +63,9 @@ const NAMES: [SectionName; 7] = [
 /// What a trailer ends with.
 pub(crate) const TRAILER_MARK: [u8; 8] = *b"LSMTSEC1";
 
+/// The length of a trailer in bytes: seven slots of sixteen, and the mark.
+pub(crate) const TRAILER_LEN: usize = 120;
+
 /// Writes the sections of a table one after another, and the trailer behind them.
 #[derive(Drop)]
 pub struct SectionWriter<A: Allocator = Global> {

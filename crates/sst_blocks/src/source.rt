@@ -7,16 +7,10 @@ ghost use Rattle.sst_blocks.specs.Sections.{body_of, section_in, section_names, 
 ghost use Rattle.sst_blocks.specs.declared.opened.Opened.{Opened};
 
 use crate::block::Header;
-use crate::section::TRAILER_MARK;
+use crate::section::TRAILER_LEN;
 use crate::{Block, BlockHandle, BlockType, Error, Opened, Slice, Toc};
 use std::alloc::{Allocator, Global};
 use std::marker::Model;
-
-/// The length of a trailer in bytes: seven slots of sixteen, and the mark.
-const TRAILER_LEN: usize = 120;
-
-/// Where the mark stands in a trailer.
-const MARK_AT: usize = 112;
 
 /// The length of a block header in bytes.
 const HEADER_LEN: usize = Header::LEN as usize;
@@ -47,15 +41,7 @@ impl<A: Allocator + Clone> BlockSource<A> {
         ensures ok { IfOk result (λ s. s ≡ bytes) }
         ensures refused { Faults result (trailer_fault bytes) }
     {
-        if bytes.len() < TRAILER_LEN {
-            return Err(Error::InvalidTrailer);
-        }
-        let end = bytes.len() - TRAILER_LEN;
-        let trailer = &bytes.as_slice()[end..];
-        let toc = Toc::read(trailer);
-        if &trailer[MARK_AT..] != TRAILER_MARK.as_slice() || toc.passes(end) {
-            return Err(Error::InvalidTrailer);
-        }
+        let toc = Toc::of(bytes.as_slice())?;
         Ok(BlockSource { bytes, toc, alloc })
     }
 

@@ -1,11 +1,15 @@
 //! What a trailer says of the sections.
-ghost use Rattle.std.specs.Prelude.{◌≡◌, ◌*◌, ◌≤◌, ◌<◌, ◌^◌, None, drop, length, map, slice_index_or};
+ghost use Rattle.std.specs.Prelude.{◌≡◌, ◌*◌, ◌≤◌, ◌<◌, ◌^◌, None, Some, drop, length, map, slice_index_or, IfOk, MatchResult};
 ghost use Rattle.std.specs.List.{list_any};
-ghost use Rattle.sst_blocks.specs.Sections.{is_past, place_of, section_at, section_names};
+ghost use Rattle.sst_blocks.specs.Sections.{is_past, place_of, section_at, section_in, section_names, trailer_fault};
 
 use crate::number::u64_at;
-use crate::{Section, SectionName};
+use crate::section::{TRAILER_LEN, TRAILER_MARK};
+use crate::{Error, Section, SectionName};
 use std::marker::Model;
+
+/// Where the mark stands in a trailer.
+const MARK_AT: usize = TRAILER_LEN - TRAILER_MARK.len();
 
 /// Where each section of a table lies. A contract sees the list of the sections in the trailer's order.
 #[derive(Clone, Copy, Debug)]
@@ -32,8 +36,30 @@ impl Toc {
         self.sections[name.place()]
     }
 
+    /// Reads the trailer of a table's bytes. Refused [`Error::InvalidTrailer`] where there are fewer bytes than a trailer has,
+    /// the mark differs or a section passes the end of the body.
+    pub(crate) fn of(bytes: &[u8]) -> Result<Toc, Error>
+        requires { length bytes.now < 2 ^ 63 }
+        ensures toc { IfOk result (λ toc. toc ≡ map (section_in bytes.now) section_names) }
+        ensures fault { MatchResult result (λ _. trailer_fault bytes.now ≡ None) (λ e. trailer_fault bytes.now ≡ Some e) }
+    {
+        if bytes.len() < TRAILER_LEN {
+            return Err(Error::InvalidTrailer);
+        }
+        let end = bytes.len() - TRAILER_LEN;
+        let (_, trailer) = bytes.split_at(end);
+        if &trailer[MARK_AT..] != TRAILER_MARK.as_slice() {
+            return Err(Error::InvalidTrailer);
+        }
+        let toc = Toc::read(trailer);
+        if toc.passes(end) {
+            return Err(Error::InvalidTrailer);
+        }
+        Ok(toc)
+    }
+
     /// Reads the seven slots of a trailer.
-    pub(crate) fn read(trailer: &[u8]) -> Toc
+    fn read(trailer: &[u8]) -> Toc
         requires { 112 ≤ length trailer.now }
         ensures { result ≡ map (λ name. section_at (drop (16 * place_of name) trailer.now)) section_names }
     {
@@ -51,7 +77,7 @@ impl Toc {
     }
 
     /// Whether some section passes the end of a body.
-    pub(crate) fn passes(&self, end: usize) -> bool
+    fn passes(&self, end: usize) -> bool
         ensures { result ≡ list_any (is_past end) self.now }
     {
         self.sections.iter().any(|section| is_past(end, section))
