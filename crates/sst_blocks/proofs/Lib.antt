@@ -4,3 +4,4 @@ pub mod Numbers
 pub mod FnvLemmas
 pub mod LoadLemmas
 pub mod TrailerLemmas
+pub mod BlockLaws
