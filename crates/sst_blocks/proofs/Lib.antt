@@ -7,3 +7,6 @@ pub mod Entries
 pub mod HandleLaws
 pub mod SpanLemmas
 pub mod Reaching
+pub mod LoadLemmas
+pub mod TrailerLemmas
+pub mod BlockLaws

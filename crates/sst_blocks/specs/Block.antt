@@ -81,6 +81,15 @@ payload_told kind head payload =
     else (if not (in_grammar (version_in head) kind payload) then Err InvalidBlock
     else Ok (record { version = version_in head; kind = kind; payload = payload }))
 
+-- the same by the version and the checksum that a header says
+abbrev pub grammar_fault : TableVersion → BlockType → List ℕ → Option Error
+grammar_fault v kind payload = if not (in_grammar v kind payload) then Some InvalidBlock else None
+
+unfoldable pub checked_payload : TableVersion → ℕ → BlockType → List ℕ → Result Loaded Error
+checked_payload v checksum kind payload =
+    if not (fnv1a payload == checksum) then Err ChecksumMismatch
+    else unless (grammar_fault v kind payload) (Ok (record { version = v; kind = kind; payload = payload }))
+
 -- the block of a kind at a place in the bytes before the trailer, or the first fault
 unfoldable pub load_told : List ℕ → ℕ → ℕ → BlockType → Result Loaded Error
 load_told body offset size kind =

@@ -42,6 +42,11 @@ abbrev pub section_of : ℕ → List (SectionName × ℕ) → SectionName → Op
 section_of end [] name = None
 section_of end (s ∷ ss) name = if place_of s.0 == place_of name then Some (record { position = s.1; len = next_start end ss - s.1 }) else section_of end ss name
 
+-- each section begins where the one before it does, or further on, and none of them past the end
+abbrev pub AreAscending : ℕ → List (SectionName × ℕ) → Type 0
+AreAscending end [] = Unit {0}
+AreAscending end (s ∷ ss) = (s.1 ≤ next_start end ss) × AreAscending end ss
+
 -- what the trailer says of a section: its position and length, or sixteen bytes ff
 abbrev pub slot : Option Section → List ℕ
 slot None = replicate 16 255

@@ -1,14 +1,22 @@
 //! Blocks: a checked payload of one kind.
 ghost use Rattle.std.specs.Prelude.{◌≡◌, ◌+◌, ◌++◌, ◌<◌, ◌^◌, length, IfOk, IfErr, OnOk, OnErr};
-ghost use Rattle.sst_blocks.specs.Block.{block_bytes, Loaded};
+ghost use Rattle.sst_blocks.specs.Block.{block_bytes, checked_payload, grammar_fault, is_filter, Loaded};
+ghost use Rattle.sst_blocks.specs.Error.{Faults, Gives};
 ghost use Rattle.sst_blocks.specs.Starts.{IsBlock};
 ghost use Rattle.sst_blocks.specs.declared.version.TableVersion.TheVariants.{V4};
 ghost use Rattle.sst_blocks.specs.declared.error.Error.TheVariants.{OutOfMemory};
 
+mod header;
+
+use crate::data_block::entry_starts;
+use crate::fnv::Fnv1a;
+use crate::index_block::handle_starts;
 use crate::section::SectionWriter;
-use crate::{BlockHandle, BlockType, CompressionType, Error, Slice, TableVersion};
+use crate::{BlockHandle, BlockOffset, BlockType, CompressionType, Error, Slice, TableVersion};
 use std::alloc::{Allocator, Global};
 use std::marker::Model;
+
+pub(crate) use header::Header;
 
 /// A block that was loaded: its payload is in the grammar of its kind. It shares the table's bytes.
 #[derive(Drop)]
@@ -33,7 +41,7 @@ impl<A: Allocator> Model for Block<A> {
 
 impl<A: Allocator> Block<A> {
     /// The length of a block header in bytes.
-    pub const HEADER_LEN: u32 = 24;
+    pub const HEADER_LEN: u32 = Header::LEN;
 
     /// What the payload holds.
     pub fn kind(&self) -> BlockType
@@ -47,6 +55,52 @@ impl<A: Allocator> Block<A> {
         ensures { result ≡ length self.now.payload }
     {
         self.payload.len()
+    }
+
+    /// The block of a payload, by the version and the checksum that its header says. Refused [`Error::ChecksumMismatch`], then
+    /// [`Error::InvalidBlock`], and [`Error::OutOfMemory`].
+    #[tactic(auto, unfolding(crate::specs::Block::checked_payload))]
+    pub(crate) fn open(alloc: A, header: Header, kind: BlockType, payload: Slice<A>) -> Result<Block<A>, Error>
+        requires { length payload < 2 ^ 32 }
+        ensures { Gives (λ (b : Loaded). b) result (checked_payload header.version header.checksum kind payload) }
+    {
+        let mut checksum = Fnv1a::new();
+        checksum.update(payload.as_slice());
+        if checksum.finish() != header.checksum {
+            return Err(Error::ChecksumMismatch);
+        }
+        let starts = item_starts(alloc, header.version, kind, payload.as_slice())?;
+        Ok(Block {
+            version: header.version,
+            kind,
+            payload,
+            starts,
+        })
+    }
+}
+
+/// Where the entries or handles of a payload begin; a filter has none. Refused [`Error::InvalidBlock`] where the payload is not
+/// in the grammar of its kind, and [`Error::OutOfMemory`].
+fn item_starts<A: Allocator>(alloc: A, version: TableVersion, kind: BlockType, payload: &[u8]) -> Result<Vec<u32, A>, Error>
+    requires { length payload.now < 2 ^ 32 }
+    ensures found { IfOk result (λ starts. IsBlock version kind payload.now starts.items) }
+    ensures refused { Faults result (grammar_fault version kind payload.now) }
+{
+    match kind {
+        BlockType::Data | BlockType::Meta => entry_starts(alloc, version, payload),
+        BlockType::Index => handle_starts(alloc, version, payload),
+        BlockType::Filter if is_filter(payload) => Ok(Vec::new(alloc)),
+        BlockType::Filter => Err(Error::InvalidBlock),
+    }
+}
+
+/// Whether a payload is that of a filter: the number of probes, from 1 to 30, and at least one byte of bits.
+fn is_filter(payload: &[u8]) -> bool
+    ensures { result ≡ is_filter payload.now }
+{
+    match payload {
+        [] | [_] => false,
+        [probes, ..] => (1..=30).contains(probes),
     }
 }
 
@@ -65,7 +119,18 @@ impl<A: Allocator + Clone> Block<A> {
         ensures unchanged { OnErr result (writer.new ≡ writer.old) }
         ensures err { IfErr result (λ e. e ≡ OutOfMemory) }
     {
-        let _ = compression;
-        Err(Error::OutOfMemory)
+        match compression {
+            CompressionType::None => {}
+        }
+        let offset = BlockOffset(writer.position());
+        let len = payload.len() as u32;
+        let header = Header {
+            version: TableVersion::WRITTEN,
+            data_len: len,
+            uncompressed_len: len,
+            checksum: writer.checksum_of(payload),
+        };
+        writer.append_both(&header.encode(kind), payload)?;
+        Ok(BlockHandle::new(offset, Header::LEN + len))
     }
 }

@@ -12,6 +12,7 @@ mod fnv;
 mod handle;
 mod index_block;
 mod key;
+mod number;
 mod opened;
 mod section;
 mod slice;

@@ -1,14 +1,19 @@
 //! The only way to the blocks of a table's bytes.
-ghost use Rattle.std.specs.Prelude.{◌≡◌, List, ℕ, map, IfOk};
-ghost use Rattle.sst_blocks.specs.Block.{load_told, load_at_told, Loaded};
+ghost use Rattle.std.specs.Prelude.{◌≡◌, ◌+◌, ◌<◌, ◌≤◌, ◌^◌, List, ℕ, length, map, slice_range, IfOk, None};
+ghost use Rattle.sst_blocks.specs.Block.{checked_payload, load_told, load_at_told, Loaded};
 ghost use Rattle.sst_blocks.specs.Error.{Gives, Faults};
 ghost use Rattle.sst_blocks.specs.Opened.{counted, none_opened};
 ghost use Rattle.sst_blocks.specs.Sections.{body_of, section_in, section_names, trailer_fault};
 ghost use Rattle.sst_blocks.specs.declared.opened.Opened.{Opened};
 
+use crate::block::Header;
+use crate::section::TRAILER_LEN;
 use crate::{Block, BlockHandle, BlockType, Error, Opened, Slice, Toc};
 use std::alloc::{Allocator, Global};
 use std::marker::Model;
+
+/// The length of a block header in bytes.
+const HEADER_LEN: usize = Header::LEN as usize;
 
 /// A table's bytes, whose trailer was read. Blocks are loaded from it, and in no other way. A contract sees the bytes.
 #[derive(Drop)]
@@ -36,9 +41,8 @@ impl<A: Allocator + Clone> BlockSource<A> {
         ensures ok { IfOk result (λ s. s ≡ bytes) }
         ensures refused { Faults result (trailer_fault bytes) }
     {
-        let _ = bytes;
-        let _ = alloc;
-        Err(Error::OutOfMemory)
+        let toc = Toc::of(bytes.as_slice())?;
+        Ok(BlockSource { bytes, toc, alloc })
     }
 
     /// Where the sections lie.
@@ -59,8 +63,17 @@ impl<A: Allocator + Clone> BlockSource<A> {
         ensures counted { opened.new ≡ counted kind opened.old }
     {
         opened.count(kind);
-        let _ = handle;
-        Err(Error::OutOfMemory)
+        let body = self.body();
+        let size = handle.size() as usize;
+        if size < HEADER_LEN || body.len() < size || ((body.len() - size) as u64) < handle.offset().0 {
+            return Err(Error::Truncated);
+        }
+        let start = handle.offset().0 as usize;
+        let header = Header::decode(&body[start..start + HEADER_LEN], kind)?;
+        if header.data_len != header.uncompressed_len || HEADER_LEN + header.data_len as usize != size {
+            return Err(Error::InvalidHeader);
+        }
+        self.block(header, kind, start + HEADER_LEN, start + size)
     }
 
     /// The block of a kind that begins at a position, with the size that its header says. Refused as [`BlockSource::load`];
@@ -70,8 +83,40 @@ impl<A: Allocator + Clone> BlockSource<A> {
         ensures counted { opened.new ≡ counted kind opened.old }
     {
         opened.count(kind);
-        let _ = position;
-        Err(Error::OutOfMemory)
+        let body = self.body();
+        if body.len() < HEADER_LEN || ((body.len() - HEADER_LEN) as u64) < position {
+            return Err(Error::Truncated);
+        }
+        let header_start = position as usize;
+        let start = header_start + HEADER_LEN;
+        let header = Header::decode(&body[header_start..start], kind)?;
+        if header.data_len != header.uncompressed_len {
+            return Err(Error::InvalidHeader);
+        }
+        let len = header.data_len as usize;
+        if body.len() - start < len {
+            return Err(Error::Truncated);
+        }
+        self.block(header, kind, start, start + len)
+    }
+
+    /// The bytes before the trailer.
+    fn body(&self) -> &[u8]
+        ensures body { result.now ≡ body_of self.now }
+        ensures bound { length result.now < 2 ^ 63 }
+    {
+        &self.bytes.as_slice()[..self.bytes.len() - TRAILER_LEN]
+    }
+
+    /// The block whose header was read and whose payload lies from `start` up to `end`.
+    fn block(&self, header: Header, kind: BlockType, start: usize, end: usize) -> Result<Block<A>, Error>
+        requires ordered { start ≤ end }
+        requires within { end ≤ length (body_of self.now) }
+        requires short { end < start + 2 ^ 32 }
+        ensures { Gives (λ (b : Loaded). b) result (checked_payload header.version header.checksum kind (slice_range (body_of self.now) start end)) }
+    {
+        let payload = self.bytes.slice(start, end)?;
+        Block::open(self.alloc.clone()?, header, kind, payload)
     }
 }
 

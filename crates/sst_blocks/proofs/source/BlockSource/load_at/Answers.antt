@@ -1,0 +1,40 @@
+use Rattle.std.proofs.Common.{◌≡◌, ◌+◌, ◌<◌, ◌≤◌, List, ℕ, length, slice_range, sym, subst, arith}
+use Rattle.std.specs.Prelude.{Result}
+use Rattle.std.proofs.lemmas.Result.{err_from_is_err_and}
+use Rattle.sst_blocks.specs.declared.error.Error.{Error}
+use Rattle.sst_blocks.specs.Block.{Loaded, load_at_told, checked_payload}
+use Rattle.sst_blocks.specs.Error.{Gives}
+use Rattle.sst_blocks.specs.Sections.{body_of}
+use Rattle.sst_blocks.proofs.LoadLemmas.{load_at_truncated, load_at_fault, load_at_lengths, load_at_passes, load_at_checked}
+use Rattle.sst_blocks.proofs.source.BlockSource.load_at.Goals as goal
+use Rattle.sst_blocks.proofs.source.BlockSource.load_at.Goals.{then-body-lt-HEADER_LEN-via-then-body-lt-HEADER_LEN, then-body-lt-HEADER_LEN-via-else-body-lt-HEADER_LEN+then-body-position}
+
+pub returns-then-body-lt-HEADER_LEN-clause-told : goal.returns-then-body-lt-HEADER_LEN-clause-told
+returns-then-body-lt-HEADER_LEN-clause-told g c =
+    let told = load_at_truncated c.body-body.result.now c.args.position c.args.kind (λ within. elim c.then-body-lt-HEADER_LEN.branch [
+      | then-body-lt-HEADER_LEN-via-then-body-lt-HEADER_LEN w ↦ omega arith
+      | then-body-lt-HEADER_LEN-via-else-body-lt-HEADER_LEN+then-body-position w ↦ omega arith
+    ]) in
+    λ _. cc c.body-body.ensures.body
+
+pub returns-in_err-header-clause-told : goal.returns-in_err-header-clause-told
+returns-in_err-header-clause-told g c =
+    let p = err_from_is_err_and c.from_residual.result c.from_residual.ensures.1 in
+    let told = load_at_fault c.body-body.result.now c.args.position c.args.kind c.in_err-header.field-0.0 (omega arith) c.in_err-header.ensures.fault in
+    rw (p.1, p.2) (λ _. cc c.body-body.ensures.body)
+
+pub returns-then-header-clause-told : goal.returns-then-header-clause-told
+returns-then-header-clause-told g c =
+    let told = load_at_lengths c.body-body.result.now c.args.position c.args.kind (omega arith) c.in_ok-header.ensures.fault (λ same. omega (arith, c.in_ok-header.ensures.data_len, c.in_ok-header.ensures.uncompressed_len)) in
+    λ _. cc c.body-body.ensures.body
+
+pub returns-then-body-start-clause-told : goal.returns-then-body-start-clause-told
+returns-then-body-start-clause-told g c =
+    let told = load_at_passes c.body-body.result.now c.args.position c.args.kind (omega arith) c.in_ok-header.ensures.fault (omega (arith, c.in_ok-header.ensures.data_len, c.in_ok-header.ensures.uncompressed_len)) (omega (arith, c.in_ok-header.ensures.data_len)) in
+    λ _. cc c.body-body.ensures.body
+
+pub returns-clause-told : goal.returns-clause-told
+returns-clause-told g c =
+    let told = load_at_checked c.body-body.result.now c.args.position c.args.kind (omega arith) c.in_ok-header.ensures.fault (omega (arith, c.in_ok-header.ensures.data_len, c.in_ok-header.ensures.uncompressed_len)) (omega (arith, c.in_ok-header.ensures.data_len)) in
+    let whole : load_at_told (body_of c.args.self.now) c.args.position c.args.kind ≡ checked_payload c.in_ok-header.header.version c.in_ok-header.header.checksum c.args.kind (slice_range (body_of c.args.self.now) (c.args.position + 24) (c.args.position + 24 + c.in_ok-header.header.data_len)) = cc (c.body-body.ensures.body, c.in_ok-header.ensures.version, c.in_ok-header.ensures.checksum, c.in_ok-header.ensures.data_len) in
+    subst (λ (told : Result Loaded Error). Gives {X = Loaded} {Y = Loaded} (λ b. b) c.block.result told) (sym whole) c.block.ensures

@@ -1,0 +1,70 @@
+//! Block headers.
+ghost use Rattle.std.specs.Prelude.{◌≡◌, ◌∷◌, ◌++◌, [], length, None, Some, IfOk, MatchResult};
+ghost use Rattle.sst_blocks.specs.Block.{kind_tag, header_fault, version_in, data_len, uncompressed_len, stored_checksum};
+ghost use Rattle.sst_blocks.specs.Number.{le4, le8};
+ghost use Rattle.sst_blocks.specs.Version.{mark};
+
+use crate::number::{u32_at, u64_at};
+use crate::{BlockType, Error, TableVersion, TagName};
+
+/// What a block's header says of its payload.
+#[derive(Clone, Copy, Debug, PartialEq, Eq)]
+pub(crate) struct Header {
+    /// The version whose grammar the payload has.
+    pub(crate) version: TableVersion,
+    /// The length of the payload in bytes.
+    pub(crate) data_len: u32,
+    /// The same, since no payload is compressed.
+    pub(crate) uncompressed_len: u32,
+    /// The checksum of the payload.
+    pub(crate) checksum: u64,
+}
+
+impl Header {
+    /// The length of a header in bytes.
+    pub(crate) const LEN: u32 = 24;
+
+    /// The header of a block of a kind.
+    #[tactic(auto, unfolding(crate::specs::Number::le4, crate::specs::Number::le8))]
+    pub(crate) fn encode(self, kind: BlockType) -> [u8; 24]
+        ensures { result ≡ mark self.version ++ (kind_tag kind ∷ 0 ∷ 0 ∷ 0 ∷ []) ++ le4 self.data_len ++ le4 self.uncompressed_len ++ le8 self.checksum }
+    {
+        let mut bytes = [0; 24];
+        bytes[..4].copy_from_slice(&self.version.mark());
+        bytes[4] = kind.tag();
+        bytes[8..12].copy_from_slice(&self.data_len.to_le_bytes());
+        bytes[12..16].copy_from_slice(&self.uncompressed_len.to_le_bytes());
+        bytes[16..].copy_from_slice(&self.checksum.to_le_bytes());
+        bytes
+    }
+
+    /// Reads the header of a block of a kind. Refused with the first fault, in this order: [`Error::InvalidHeader`] for the mark
+    /// or the zero bytes, [`Error::InvalidTag`], [`Error::UnsupportedCompression`].
+    pub(crate) fn decode(bytes: &[u8], kind: BlockType) -> Result<Header, Error>
+        requires { length bytes.now ≡ 24 }
+        ensures fault { MatchResult result (λ _. header_fault kind bytes.now ≡ None) (λ e. header_fault kind bytes.now ≡ Some e) }
+        ensures version { IfOk result (λ h. h.version ≡ version_in bytes.now) }
+        ensures data_len { IfOk result (λ h. h.data_len ≡ data_len bytes.now) }
+        ensures uncompressed_len { IfOk result (λ h. h.uncompressed_len ≡ uncompressed_len bytes.now) }
+        ensures checksum { IfOk result (λ h. h.checksum ≡ stored_checksum bytes.now) }
+    {
+        let Some(version) = TableVersion::from_mark(&bytes[..4]) else {
+            return Err(Error::InvalidHeader);
+        };
+        if bytes[6] != 0 || bytes[7] != 0 {
+            return Err(Error::InvalidHeader);
+        }
+        if bytes[4] != kind.tag() {
+            return Err(Error::InvalidTag(TagName::BlockType, bytes[4]));
+        }
+        if bytes[5] != 0 {
+            return Err(Error::UnsupportedCompression);
+        }
+        Ok(Header {
+            version,
+            data_len: u32_at(&bytes[8..]),
+            uncompressed_len: u32_at(&bytes[12..]),
+            checksum: u64_at(&bytes[16..]),
+        })
+    }
+}
