@@ -36,7 +36,7 @@ less_of Less h = refl
 less_of Equal h = absurd cc
 less_of Greater h = absurd cc
 
-before_trans : (a b c : Entry) → is_before a b ≡ true → is_before b c ≡ true → is_before a c ≡ true
+pub before_trans : (a b c : Entry) → is_before a b ≡ true → is_before b c ≡ true → is_before a c ≡ true
 before_trans a b c p q = ap is_lt (number_total.trans a b c (less_of (number_cmp a b) p) (less_of (number_cmp b c) q))
 
 -- the entry comes after a read of the key at the bound
@@ -92,7 +92,7 @@ above_apart key bound e above =
 
 -- ---- a chunk before the one that is read
 
-later : (x y : Entry) (ys : List Entry) → IsStrictAfter (Some x) (y ∷ ys) → is_before x (last_entry (y ∷ ys)) ≡ true
+pub later : (x y : Entry) (ys : List Entry) → IsStrictAfter (Some x) (y ∷ ys) → is_before x (last_entry (y ∷ ys)) ≡ true
 unfolding IsStrictAfter last_of
 later x y [] strict = strict.0
 later x y (z ∷ zs) strict = before_trans x y (last_entry (z ∷ zs)) strict.0 (later y z zs strict.1)
@@ -141,7 +141,7 @@ unfolding IsStrictAfter last_of
 strict_after last [] rest strict = strict
 strict_after last (e ∷ es) rest strict = strict_after (Some e) es rest strict.1
 
-strict_front : (last : Option Entry) (es rest : List Entry) → IsStrictAfter last (es ++ rest) → IsStrictAfter last es
+pub strict_front : (last : Option Entry) (es rest : List Entry) → IsStrictAfter last (es ++ rest) → IsStrictAfter last es
 unfolding IsStrictAfter
 strict_front last [] rest strict = tt
 strict_front last (e ∷ es) rest strict = (strict.0, strict_front (Some e) es rest strict.1)

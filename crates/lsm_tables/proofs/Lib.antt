@@ -3,3 +3,5 @@ pub mod Points
 pub mod Recovered
 pub mod ChunkReads
 pub mod MetaReads
+pub mod FileLengths
+pub mod MetaBlocks

@@ -8,3 +8,4 @@ pub mod Seen
 pub mod Answer
 pub mod TableSeen
 pub mod Handled
+pub mod Fits

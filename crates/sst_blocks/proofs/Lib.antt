@@ -10,3 +10,4 @@ pub mod Reaching
 pub mod LoadLemmas
 pub mod TrailerLemmas
 pub mod BlockLaws
+pub mod SectionLaws
