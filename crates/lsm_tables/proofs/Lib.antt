@@ -5,3 +5,4 @@ pub mod ChunkReads
 pub mod MetaReads
 pub mod FileLengths
 pub mod MetaBlocks
+pub mod FileReads

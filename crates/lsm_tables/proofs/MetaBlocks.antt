@@ -10,7 +10,7 @@ use Rattle.sst_blocks.specs.Payload.{payload, spelled, AreFit}
 use Rattle.sst_blocks.specs.Payload as written
 use Rattle.sst_blocks.specs.Reading.{entries_in}
 use Rattle.sst_blocks.specs.Strict.{IsStrict, is_strict_after}
-use Rattle.sst_blocks.specs.Version.{key_width, longest_key}
+use Rattle.sst_blocks.specs.Version.{key_width, key_limit, longest_key}
 use Rattle.sst_blocks.proofs.Entries.{entries_read, length-spelled}
 use Rattle.sst_blocks.proofs.Items.{strict_from_test}
 use Rattle.sst_blocks.proofs.Numbers.{wide4, wide8}
@@ -27,6 +27,14 @@ wide16-len n = refl
 key_narrow : (v : TableVersion) → key_width v ≤ 4
 key_narrow V3 = omega arith
 key_narrow V4 = omega arith
+
+key_wide_enough : (v : TableVersion) → 30 < key_limit v
+key_wide_enough V3 = omega arith
+key_wide_enough V4 = omega arith
+
+-- an item has a short name and number 0
+small : (v : TableVersion) (e : Entry) → e.seqno ≡ 0 → length e.user_key ≤ 30 → length e.value < 2 ^ 32 → written.Fits v e
+small v e zero short value = record { number = omega arith; key_len = omega (arith, key_wide_enough v); value_len = value }
 
 -- how many bytes an entry takes
 abbrev taken : TableVersion → Entry → ℕ
@@ -64,3 +72,40 @@ module _ (v : TableVersion) (label : Label) (options : Options) (cs : List (List
 
   pub meta_length : length (payload v es) ≤ 2000 + length (facts (joined cs)).min_key + length (facts (joined cs)).max_key
   meta_length = omega (arith, meta_taken, length-payload v es)
+
+  meta_fits : length (facts (joined cs)).min_key < 2 ^ 32 → length (facts (joined cs)).max_key < 2 ^ 32 → AllByRecursion (written.Fits v) es
+  meta_fits min max =
+    let f = facts (joined cs) in
+    (small v _ refl (omega arith) (omega (arith, wide8.len ((length cs)))),
+      (small v _ refl (omega arith) (omega (arith, wide8.len (blocks.filter))),
+      (small v _ refl (omega arith) (omega (arith, wide8.len (blocks.index))),
+      (small v _ refl (omega arith) (omega arith),
+      (small v _ refl (omega arith) (omega arith),
+      (small v _ refl (omega arith) (omega arith),
+      (small v _ refl (omega arith) (omega arith),
+      (small v _ refl (omega arith) (omega (arith, wide16-len (label.created_at))),
+      (small v _ refl (omega arith) (omega (arith, wide4.len (options.data_block_hash_ratio))),
+      (small v _ refl (omega arith) (omega (arith, wide8.len ((length (data_section v cs))))),
+      (small v _ refl (omega arith) (omega arith),
+      (small v _ refl (omega arith) (omega arith),
+      (small v _ refl (omega arith) (omega arith),
+      (small v _ refl (omega arith) (omega (arith, wide8.len (f.item_count))),
+      (small v _ refl (omega arith) (max),
+      (small v _ refl (omega arith) (min),
+      (small v _ refl (omega arith) (omega (arith, wide8.len (f.key_count))),
+      (small v _ refl (omega arith) (omega arith),
+      (small v _ refl (omega arith) (omega arith),
+      (small v _ refl (omega arith) (omega arith),
+      (small v _ refl (omega arith) (omega arith),
+      (small v _ refl (omega arith) (omega (arith, wide8.len (f.highest))),
+      (small v _ refl (omega arith) (omega (arith, wide8.len (f.lowest))),
+      (small v _ refl (omega arith) (omega (arith, wide8.len (label.table_id))),
+      (small v _ refl (omega arith) (omega arith),
+      (small v _ refl (omega arith) (omega (arith, wide8.len (f.tombstone_count))),
+      (small v _ refl (omega arith) (omega (arith, wide8.len ((sum_by (λ c. length (payload v c)) cs)))),
+      (small v _ refl (omega arith) (omega (arith, wide8.len (f.weak_tombstone_count))),
+      (small v _ refl (omega arith) (omega (arith, wide8.len (f.weak_tombstone_reclaimable))),
+      tt)))))))))))))))))))))))))))))
+
+  pub meta_reads : length (facts (joined cs)).min_key < 2 ^ 32 → length (facts (joined cs)).max_key < 2 ^ 32 → entries_in v (payload v es) ≡ Some es
+  meta_reads min max = entries_read v es (omega arith, meta_fits min max) meta_strict
