@@ -92,7 +92,7 @@ highest_below v (e ∷ es) fits = max_lt e.seqno (highest_seqno es) (2 ^ 64) (om
 
 -- ---- handles
 
-last_fits : (v : TableVersion) (e : Entry) (es : List Entry) → AllByRecursion (EntryFits v) (e ∷ es) → EntryFits v (last_entry (e ∷ es))
+pub last_fits : (v : TableVersion) (e : Entry) (es : List Entry) → AllByRecursion (EntryFits v) (e ∷ es) → EntryFits v (last_entry (e ∷ es))
 unfolding last_of
 last_fits v e [] fits = fits.0
 last_fits v e (x ∷ xs) fits = last_fits v x xs fits.1
@@ -118,7 +118,7 @@ handles_short v hs = omega (arith, handles_wide v hs, wide4.len (length hs), len
 
 -- ---- the handles are strict
 
-last_some : (x : Entry) (xs : List Entry) → last_of (Some x) xs ≡ Some (last_entry (x ∷ xs))
+pub last_some : (x : Entry) (xs : List Entry) → last_of (Some x) xs ≡ Some (last_entry (x ∷ xs))
 unfolding last_of
 last_some x [] = refl
 last_some x (y ∷ ys) = last_some y ys

@@ -60,7 +60,7 @@ module _ (v : TableVersion) (label : Label) (options : Options) (cs : List (List
   body_is : w.bytes ≡ the_data ++ (the_index ++ (the_version ++ the_meta))
   body_is = ap (λ (xs : List ℕ). the_data ++ (the_index ++ (the_version ++ xs))) (append-nil the_meta)
 
-  length-body : length w.bytes ≡ length the_data + (length the_index + (1 + length the_meta))
+  pub length-body : length w.bytes ≡ length the_data + (length the_index + (1 + length the_meta))
   length-body = omega (arith, ap length body_is, length-append the_data (the_index ++ (the_version ++ the_meta)), length-append the_index (the_version ++ the_meta), length-append the_version the_meta)
 
   ascending : AreAscending (length w.bytes) w.started
@@ -103,7 +103,7 @@ module _ (v : TableVersion) (label : Label) (options : Options) (cs : List (List
     regions_from (map (section_in (finished w)) section_names) (in_w FilterTli) (in_w Tli ∙ tli_of) (in_w IndexSection) (in_w FilterSection) (in_w MetaSection ∙ meta_of) short_index short_meta
 
   -- the index and the meta block are loaded
-  is_body : body_of (finished w) ≡ the_data ++ (the_index ++ (the_version ++ the_meta))
+  pub is_body : body_of (finished w) ≡ the_data ++ (the_index ++ (the_version ++ the_meta))
   is_body = finished_body w ∙ body_is
 
   abbrev pub index_loaded : Loaded
@@ -128,8 +128,8 @@ module _ (v : TableVersion) (label : Label) (options : Options) (cs : List (List
     ap (λ (n : ℕ). load_told (body_of (finished w)) (length the_data + length the_index + 1) n Meta) size
     ∙ written_loads v Meta pre m [] (body_of (finished w)) (length the_data + length the_index + 1) short (ap is_some reads) at whole
 
-  index_read : length (handles_payload v (handles v cs)) < 2 ^ 32 → handles_in v (handles_payload v (handles v cs)) ≡ Some (handles v cs) → index_told (body_of (finished w)) the_regions ≡ Ok (handles v cs)
+  pub index_read : length (handles_payload v (handles v cs)) < 2 ^ 32 → handles_in v (handles_payload v (handles v cs)) ≡ Some (handles v cs) → index_told (body_of (finished w)) the_regions ≡ Ok (handles v cs)
   index_read short reads = rw (index_at short reads, reads) refl
 
-  meta_read : length (payload v (meta_entries v label options cs counted_blocks)) < 2 ^ 32 → entries_in v (payload v (meta_entries v label options cs counted_blocks)) ≡ Some (meta_entries v label options cs counted_blocks) → FactsFit label options cs v counted_blocks → meta_told (body_of (finished w)) the_regions.metadata ≡ Ok (written_facts v label cs counted_blocks)
+  pub meta_read : length (payload v (meta_entries v label options cs counted_blocks)) < 2 ^ 32 → entries_in v (payload v (meta_entries v label options cs counted_blocks)) ≡ Some (meta_entries v label options cs counted_blocks) → FactsFit label options cs v counted_blocks → meta_told (body_of (finished w)) the_regions.metadata ≡ Ok (written_facts v label cs counted_blocks)
   meta_read short reads fit = rw (meta_at short reads, reads) (facts_read v label options cs counted_blocks fit)

@@ -6,3 +6,4 @@ pub mod MetaReads
 pub mod FileLengths
 pub mod MetaBlocks
 pub mod FileReads
+pub mod FilePoints
