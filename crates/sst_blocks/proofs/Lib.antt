@@ -5,3 +5,4 @@ pub mod FnvLemmas
 pub mod LoadLemmas
 pub mod TrailerLemmas
 pub mod BlockLaws
+pub mod SectionLaws
