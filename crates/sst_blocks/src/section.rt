@@ -111,7 +111,7 @@ impl<A: Allocator + Clone> SectionWriter<A> {
         ensures unchanged { OnErr result (self.new ≡ self.old) }
         ensures err { IfErr result (λ e. e ≡ OutOfMemory) }
     {
-        let position = self.bytes.len() as u64;
+        let position = self.position();
         self.started.push((name, position))?;
         Ok(())
     }
