@@ -225,3 +225,6 @@ fn put_trailer<A: Allocator>(bytes: &mut Vec<u8, A>, end: u64, started: &[(Secti
     bytes.extend_from_slice(&TRAILER_MARK)?;
     Ok(())
 }
+
+#[cfg(test)]
+mod tests;
