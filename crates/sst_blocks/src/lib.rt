@@ -17,6 +17,8 @@ mod opened;
 mod section;
 mod slice;
 mod source;
+#[cfg(test)]
+mod stored_table;
 mod stream;
 mod toc;
 mod value;

@@ -111,7 +111,7 @@ impl<A: Allocator + Clone> SectionWriter<A> {
         ensures unchanged { OnErr result (self.new ≡ self.old) }
         ensures err { IfErr result (λ e. e ≡ OutOfMemory) }
     {
-        let position = self.bytes.len() as u64;
+        let position = self.position();
         self.started.push((name, position))?;
         Ok(())
     }
@@ -225,3 +225,6 @@ fn put_trailer<A: Allocator>(bytes: &mut Vec<u8, A>, end: u64, started: &[(Secti
     bytes.extend_from_slice(&TRAILER_MARK)?;
     Ok(())
 }
+
+#[cfg(test)]
+mod tests;
