@@ -21,9 +21,9 @@ use Rattle.sst_blocks.specs.Sections.{finished, body_of, trailer, section_in, se
 use Rattle.sst_blocks.specs.Strict.{IsStrict, IsStrictAfter, last_of}
 use Rattle.sst_blocks.specs.Version.{longest_key}
 use Rattle.sst_blocks.proofs.BlockLaws.{written_loads}
-use Rattle.lsm_writers.specs.Chunks.{joined}
+use Rattle.lsm_writers.specs.Chunks.{joined, AreChunksFrom}
 use Rattle.lsm_writers.specs.Facts.{facts, first_key, last_key, lowest_seqno, is_tombstone, is_weak, is_reclaimable}
-use Rattle.lsm_writers.specs.File.{file, counted_blocks}
+use Rattle.lsm_writers.specs.File.{file, counted_blocks, IsFile}
 use Rattle.lsm_writers.specs.Index.{handles, handle_of, data_block, data_section, last_entry}
 use Rattle.lsm_writers.specs.MetaBlock.{meta_entries}
 use Rattle.lsm_writers.specs.Options.{Options, Label}
@@ -137,47 +137,47 @@ record Told (v : TableVersion) (label : Label) (cs : List (List Entry)) (parts :
 
 module _ (v : TableVersion) (label : Label) (options : Options) (cs : List (List Entry)) (g : ℕ) (parts : Parts)
     (short : length (finished (w v label options cs)) < 2 ^ 63) (some : AreSome cs) (strict : IsStrict (joined cs)) (fits : Fits v label options cs) (told : recovered_told (finished (w v label options cs)) g ≡ Ok parts) where
-  abbrev bytes : List ℕ
-  bytes = finished (w v label options cs)
+  abbrev the_bytes : List ℕ
+  the_bytes = finished (w v label options cs)
 
-  body_short : length (w v label options cs).bytes < 2 ^ 63
-  body_short = omega (arith, short, length-append (w v label options cs).bytes (trailer (w v label options cs)))
+  body_short : length (w v label options cs).the_bytes < 2 ^ 63
+  body_short = omega (arith, short, length-append (w v label options cs).the_bytes (trailer (w v label options cs)))
 
   data_short : length (data_section v cs) < 2 ^ 63
   data_short = omega (arith, body_short, length-body v label options cs)
 
-  the_steps : Steps bytes g parts
-  the_steps = steps bytes g parts told
+  the_steps : Steps the_bytes g parts
+  the_steps = steps the_bytes g parts told
 
   regions_are : parts.regions ≡ the_regions v label options cs
   regions_are =
     let index = length-block v Index (handles_payload v (handles v cs)) in
     let meta = length-block v Meta (payload v (meta_entries v label options cs counted_blocks)) in
-    ok_same (regions_told (map (section_in bytes) section_names)) parts.regions (the_regions v label options cs) (the_steps.regions)
+    ok_same (regions_told (map (section_in the_bytes) section_names)) parts.regions (the_regions v label options cs) (the_steps.regions)
     (regions_read v label options cs (omega (arith, body_short)) (omega (arith, index, fits.index)) (omega (arith, meta, meta_short v label options cs fits)))
 
   pub facts_are : parts.facts ≡ written_facts v label cs counted_blocks
   facts_are =
-    let e = ap (λ (r : ParsedRegions). meta_told (body_of bytes) r.metadata) regions_are in
+    let e = ap (λ (r : ParsedRegions). meta_told (body_of the_bytes) r.metadata) regions_are in
     let key = longest_below v in
-    ok_same (meta_told (body_of bytes) parts.regions.metadata) parts.facts (written_facts v label cs counted_blocks) (the_steps.facts)
+    ok_same (meta_told (body_of the_bytes) parts.regions.metadata) parts.facts (written_facts v label cs counted_blocks) (the_steps.facts)
     (e ∙ meta_read v label options cs (omega (arith, meta_short v label options cs fits))
       (meta_reads v label options cs counted_blocks (omega (arith, first_short v (joined cs) fits.entries, key)) (omega (arith, last_short v (joined cs) fits.entries, key)))
       (facts_fit v label options cs data_short fits))
 
   pub index_is : parts.index ≡ handles v cs
   index_is =
-    let e = ap (λ (r : ParsedRegions). index_told (body_of bytes) r) regions_are in
-    ok_same (index_told (body_of bytes) parts.regions) parts.index (handles v cs) (the_steps.index)
+    let e = ap (λ (r : ParsedRegions). index_told (body_of the_bytes) r) regions_are in
+    ok_same (index_told (body_of the_bytes) parts.regions) parts.index (handles v cs) (the_steps.index)
     (e ∙ index_read v label options cs (omega (arith, fits.index)) (index_reads v cs (omega (arith, data_short)) some strict fits.entries fits.blocks fits.index))
 
   -- the block of a chunk is loaded by its handle
-  chunk_at : (before behind : List (List Entry)) (c : List Entry) → cs ≡ before ++ c ∷ behind → length (payload v c) < 2 ^ 32 → entries_in v (payload v c) ≡ Some c → load_told (body_of bytes) (length (data_section v before)) (24 + length (payload v c)) Data ≡ Ok (record { version = v; kind = Data; payload = payload v c })
+  chunk_at : (before behind : List (List Entry)) (c : List Entry) → cs ≡ before ++ c ∷ behind → length (payload v c) < 2 ^ 32 → entries_in v (payload v c) ≡ Some c → load_told (body_of the_bytes) (length (data_section v before)) (24 + length (payload v c)) Data ≡ Ok (record { version = v; kind = Data; payload = payload v c })
   chunk_at before behind c parts_are small reads =
     let others = the_index v label options cs ++ (the_version v label options cs ++ the_meta v label options cs) in
     let cut : data_section v cs ≡ data_section v before ++ (data_block v c ++ data_section v behind) = ap (data_section v) parts_are ∙ flat_map-append (data_block v) before (c ∷ behind) in
-    let whole : body_of bytes ≡ data_section v before ++ data_block v c ++ (data_section v behind ++ others) = is_body v label options cs ∙ ap (λ (xs : List ℕ). xs ++ others) cut ∙ simp append_assoc in
-    written_loads v Data (data_section v before) (payload v c) (data_section v behind ++ others) (body_of bytes) (length (data_section v before)) small (ap is_some reads) refl whole
+    let whole : body_of the_bytes ≡ data_section v before ++ data_block v c ++ (data_section v behind ++ others) = is_body v label options cs ∙ ap (λ (xs : List ℕ). xs ++ others) cut ∙ simp append_assoc in
+    written_loads v Data (data_section v before) (payload v c) (data_section v behind ++ others) (body_of the_bytes) (length (data_section v before)) small (ap is_some reads) refl whole
 
   -- a chunk of a strict list is strict
   chunk_strict : (last : Option Entry) (before behind : List (List Entry)) (c : List Entry) → IsStrictAfter last (joined (before ++ c ∷ behind)) → IsStrict c
@@ -193,7 +193,7 @@ module _ (v : TableVersion) (label : Label) (options : Options) (cs : List (List
   block_fits (b ∷ before) behind c h = block_fits before behind c h.1
 
   -- the read of a chunk by its handle
-  chunk_told : (key : List ℕ) (bound : ℕ) (h : Handle) → ReadsChunk v 0 cs key (bound - g) h → read_told (body_of bytes) g key bound (Some h) ≡ Ok (option_map (lifted g) (find (is_hit key (bound - g)) (joined cs)))
+  chunk_told : (key : List ℕ) (bound : ℕ) (h : Handle) → ReadsChunk v 0 cs key (bound - g) h → read_told (body_of the_bytes) g key bound (Some h) ≡ Ok (option_map (lifted g) (find (is_hit key (bound - g)) (joined cs)))
   unfolding point
   chunk_told key bound h r =
     let c = r.chunk in
@@ -205,11 +205,11 @@ module _ (v : TableVersion) (label : Label) (options : Options) (cs : List (List
     let from : 0 + length (data_section v r.before) ≡ length (data_section v r.before) = omega arith in
     rw (r.handle, from, loaded, reads, r.answer) refl
 
-  by_chunks : (key : List ℕ) (bound : ℕ) (o : Option Handle) → ReadsBy v 0 cs key (bound - g) o → read_told (body_of bytes) g key bound o ≡ Ok (option_map (lifted g) (find (is_hit key (bound - g)) (joined cs)))
+  by_chunks : (key : List ℕ) (bound : ℕ) (o : Option Handle) → ReadsBy v 0 cs key (bound - g) o → read_told (body_of the_bytes) g key bound o ≡ Ok (option_map (lifted g) (find (is_hit key (bound - g)) (joined cs)))
   by_chunks key bound None none = rw none refl
   by_chunks key bound (Some h) r = chunk_told key bound h r
 
-  low_or_read : (key : List ℕ) (bound : ℕ) (low : Bool) → leb (bound - g) (lowest_seqno (joined cs)) ≡ low → read_told (body_of bytes) g key bound (cond low None (find (reaches key (bound - g)) (handles v cs))) ≡ Ok (option_map (lifted g) (find (is_hit key (bound - g)) (joined cs)))
+  low_or_read : (key : List ℕ) (bound : ℕ) (low : Bool) → leb (bound - g) (lowest_seqno (joined cs)) ≡ low → read_told (body_of the_bytes) g key bound (cond low None (find (reaches key (bound - g)) (handles v cs))) ≡ Ok (option_map (lifted g) (find (is_hit key (bound - g)) (joined cs)))
   low_or_read key bound true e = rw (none_low (joined cs) key (bound - g) (leb-true _ _ e)) refl
   low_or_read key bound false e = by_chunks key bound (find (reaches key (bound - g)) (handles v cs)) (chunk_read v 0 None cs key (bound - g) some strict)
 
@@ -218,8 +218,24 @@ module _ (v : TableVersion) (label : Label) (options : Options) (cs : List (List
   lifted_point key bound = point_lifted (joined cs) g key bound
 
   -- a point read answers the first match, its number with the global number added
-  pub answers : (key : List ℕ) (bound : ℕ) → answer_told (body_of bytes) g parts key bound ≡ Ok (point (lift (joined cs) g) key bound)
+  pub answers : (key : List ℕ) (bound : ℕ) → answer_told (body_of the_bytes) g parts key bound ≡ Ok (point (lift (joined cs) g) key bound)
   unfolding answer_told
   answers key bound =
     let seen : option_map (lifted g) (find (is_hit key (bound - g)) (joined cs)) ≡ point (lift (joined cs) g) key bound = sym (lifted_point key bound) in
     rw (facts_are, index_is) (low_or_read key bound (leb (bound - g) (lowest_seqno (joined cs))) refl ∙ ap (λ (o : Option Entry). Ok o) seen)
+
+-- each chunk of a cut list has an entry
+some_chunks : (size : ℕ) (spills : List ℕ) (at : ℕ) (cs : List (List Entry)) → AreChunksFrom size spills at cs → AreSome cs
+some_chunks size spills at [] h = tt
+some_chunks size spills at (c ∷ cs) h = ((h.0).some, some_chunks size spills (at + length c) cs h.2)
+
+pub file_answers : (v : TableVersion) (the_bytes : List ℕ) (label : Label) (options : Options) (spills : List ℕ) (es : List Entry) (f : IsFile v the_bytes label options spills es) (g : ℕ) (parts : Parts) → IsStrict es → Fits v label options f.blocks → length the_bytes < 2 ^ 63 → recovered_told the_bytes g ≡ Ok parts → (key : List ℕ) (bound : ℕ) → answer_told (body_of the_bytes) g parts key bound ≡ Ok (point (lift es g) key bound)
+file_answers v the_bytes label options spills es f g parts strict fits short told key bound =
+    let cs = f.blocks in
+    let short_file : length (finished (w v label options cs)) < 2 ^ 63 = subst (λ (b : List ℕ). length b < 2 ^ 63) f.are short in
+    let told_file : recovered_told (finished (w v label options cs)) g ≡ Ok parts = subst (λ (b : List ℕ). recovered_told b g ≡ Ok parts) f.are told in
+    let line : IsStrict (joined cs) = subst IsStrict (sym (f.chunks).whole) strict in
+    let some = some_chunks options.data_block_size spills 0 cs (f.chunks).each in
+    ap (λ (b : List ℕ). answer_told (body_of b) g parts key bound) f.are
+    ∙ answers v label options cs g parts short_file some line fits told_file key bound
+    ∙ ap (λ (xs : List Entry). Ok (point (lift xs g) key bound)) (f.chunks).whole

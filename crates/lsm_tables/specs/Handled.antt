@@ -1,5 +1,5 @@
 -- What the handles of a table share, as a table.
-use Rattle.std.specs.Prelude.{◌≡◌, ℕ, List, Ok}
+use Rattle.std.specs.Prelude.{◌≡◌, ℕ, ◌<◌, ◌^◌, List, length, Ok}
 use Rattle.lsm_tables.specs.declared.handle.Shared.{Shared}
 use Rattle.lsm_tables.specs.Parts.{recovered_told}
 use Rattle.lsm_tables.specs.Seen.{parts_of}
@@ -11,3 +11,8 @@ table_of s = record { bytes = s.source; global_seqno = s.inner.global_seqno; tre
 -- the table was recovered from its bytes
 abbrev pub IsRecovered : TableSeen → Type 0
 IsRecovered t = recovered_told t.bytes t.global_seqno ≡ Ok t.parts
+
+-- and its bytes are in memory
+pub record IsOpen (t : TableSeen) : Type 0 where
+  pub recovered : IsRecovered t
+  pub short : length t.bytes < 2 ^ 63

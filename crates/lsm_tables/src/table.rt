@@ -5,8 +5,14 @@ ghost use Rattle.sst_blocks.specs.Error.{Gives};
 ghost use Rattle.sst_blocks.specs.Fnv.{fnv1a};
 ghost use Rattle.sst_blocks.specs.Opened.{none_opened};
 ghost use Rattle.sst_blocks.specs.Sections.{body_of};
-ghost use Rattle.lsm_tables.specs.Answer.{answer_told, handle_for, Opens};
-ghost use Rattle.lsm_tables.specs.Handled.{IsRecovered};
+ghost use Rattle.sst_blocks.specs.declared.version.TableVersion.{TableVersion};
+ghost use Rattle.sst_blocks.specs.Point.{point};
+ghost use Rattle.sst_blocks.specs.Strict.{IsStrict};
+ghost use Rattle.lsm_writers.specs.File.{IsFile};
+ghost use Rattle.lsm_writers.specs.Options.{Options, Label};
+ghost use Rattle.lsm_tables.specs.Answer.{answer_told, handle_for, lift, Opens};
+ghost use Rattle.lsm_tables.specs.Fits.{Fits};
+ghost use Rattle.lsm_tables.specs.Handled.{IsRecovered, IsOpen};
 ghost use Rattle.lsm_tables.specs.Parts.{recovered_told, parts_told, index_told, number_told, size_of};
 ghost use Rattle.lsm_tables.specs.Seen.{parts_of, facts_of};
 ghost use Rattle.lsm_tables.specs.TableSeen.{TableSeen};
@@ -34,13 +40,13 @@ pub struct Table<A: Allocator = Global>(Arc<Shared<A>, A>);
 impl<A: Allocator> Model for Table<A> {
     ghost use Rattle.std.specs.Arc.{arc_value};
     ghost use Rattle.lsm_tables.specs.TableSeen.{TableSeen};
-    ghost use Rattle.lsm_tables.specs.Handled.{table_of, IsRecovered};
+    ghost use Rattle.lsm_tables.specs.Handled.{table_of, IsOpen};
 
     ghost Value = { TableSeen };
 
     ghost view = { λ t. table_of (arc_value t.0) };
 
-    ghost invariant = { λ t. IsRecovered (table_of (arc_value t.0)) };
+    ghost invariant = { λ t. IsOpen (table_of (arc_value t.0)) };
 }
 
 impl<A: Allocator> Clone for Table<A> {
@@ -145,7 +151,7 @@ impl<A: Allocator + Clone> Table<A> {
         requires { key_hash ≡ fnv1a key.now }
         ensures told { Gives (λ (found : Option Entry). found) result.0 (answer_told (body_of self.now.bytes) self.now.global_seqno self.now.parts key.now seqno) }
         ensures opened { Opens result.0 (handle_for self.now.parts self.now.global_seqno key.now seqno) none_opened result.1 }
-        ensures recovered { IsRecovered self.now }
+        ensures open { IsOpen self.now }
     {
         let shared: &Shared<A> = &self.0;
         let mut source = Counted::new(&shared.source);
@@ -160,6 +166,8 @@ impl<A: Allocator + Clone> Table<A> {
         requires { key_hash ≡ fnv1a key.now }
         ensures told { Gives (λ (found : Option Entry). found) result (answer_told (body_of self.now.bytes) self.now.global_seqno self.now.parts key.now seqno) }
         ensures recovered { IsRecovered self.now }
+        // On a table of a list it is the first match in the list, its numbers lifted.
+        ensures file { (v : TableVersion) (label : Label) (options : Options) (spills : List ℕ) (es : List Entry) (f : IsFile v self.now.bytes label options spills es) → IsStrict es → Fits v label options f.blocks → Gives (λ (found : Option Entry). found) result (Ok (point (lift es self.now.global_seqno) key.now seqno)) }
     {
         self.get_counted(key, seqno, key_hash).0
     }

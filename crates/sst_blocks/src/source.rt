@@ -39,6 +39,7 @@ impl<A: Allocator + Clone> BlockSource<A> {
     /// passes the end of the body, and [`Error::OutOfMemory`].
     pub fn new(alloc: A, bytes: Slice<A>) -> Result<BlockSource<A>, Error>
         ensures ok { IfOk result (λ s. s ≡ bytes) }
+        ensures short { length bytes < 2 ^ 63 }
         ensures refused { Faults result (trailer_fault bytes) }
     {
         let toc = Toc::of(bytes.as_slice())?;

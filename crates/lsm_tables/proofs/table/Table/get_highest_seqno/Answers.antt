@@ -6,7 +6,7 @@ use Rattle.lsm_tables.proofs.table.Table.get_highest_seqno.Goals as goal
 
 pub overflow_add-result : goal.overflow_add-result
 overflow_add-result g c =
-    let f = highest_fits (table_of (arc_value c.self.inside.0)) c.self.invariant in
+    let f = highest_fits (table_of (arc_value c.self.inside.0)) c.self.invariant.recovered in
     let d = c.deref.ensures in
     let e = c.deref-2.ensures in
     rw (d, e) (search rules)

@@ -1,0 +1,13 @@
+use Rattle.std.proofs.Common.{◌≡◌, sym, subst, rules}
+use Rattle.std.specs.Prelude.{Result, Option}
+use Rattle.sst_blocks.specs.declared.error.Error.{Error}
+use Rattle.sst_blocks.specs.Entry.{Entry}
+use Rattle.sst_blocks.specs.Error.{Gives}
+use Rattle.lsm_tables.proofs.FilePoints.{file_answers}
+use Rattle.lsm_tables.proofs.table.Table.get.Goals as goal
+
+pub returns-clause-file : goal.returns-clause-file
+returns-clause-file g c v label options spills es f strict fits =
+    let t = c.args.self.now in
+    let same = file_answers v t.bytes label options spills es f t.global_seqno t.parts strict fits (c.get_counted.ensures.open).short (c.get_counted.ensures.open).recovered c.args.key.now c.args.seqno in
+    subst (λ (told : Result (Option Entry) Error). Gives (λ (found : Option Entry). found) (c.get_counted.result).0 told) same c.get_counted.ensures.told
