@@ -229,8 +229,8 @@ some_chunks : (size : ℕ) (spills : List ℕ) (at : ℕ) (cs : List (List Entry
 some_chunks size spills at [] h = tt
 some_chunks size spills at (c ∷ cs) h = ((h.0).some, some_chunks size spills (at + length c) cs h.2)
 
-pub file_answers : (v : TableVersion) (the_bytes : List ℕ) (label : Label) (options : Options) (spills : List ℕ) (es : List Entry) (f : IsFile v the_bytes label options spills es) (g : ℕ) (parts : Parts) → IsStrict es → Fits v label options f.blocks → length the_bytes < 2 ^ 63 → recovered_told the_bytes g ≡ Ok parts → (key : List ℕ) (bound : ℕ) → answer_told (body_of the_bytes) g parts key bound ≡ Ok (point (lift es g) key bound)
-file_answers v the_bytes label options spills es f g parts strict fits short told key bound =
+pub file_answers : (v : TableVersion) (stored : List ℕ) (label : Label) (options : Options) (spills : List ℕ) (es : List Entry) (f : IsFile v stored label options spills es) (g : ℕ) (parts : Parts) → IsStrict es → Fits v label options f.blocks → length stored < 2 ^ 63 → recovered_told stored g ≡ Ok parts → (key : List ℕ) (bound : ℕ) → answer_told (body_of stored) g parts key bound ≡ Ok (point (lift es g) key bound)
+file_answers v stored label options spills es f g parts strict fits short told key bound =
     let cs = f.blocks in
     let short_file : length (finished (w v label options cs)) < 2 ^ 63 = subst (λ (b : List ℕ). length b < 2 ^ 63) f.are short in
     let told_file : recovered_told (finished (w v label options cs)) g ≡ Ok parts = subst (λ (b : List ℕ). recovered_told b g ≡ Ok parts) f.are told in
