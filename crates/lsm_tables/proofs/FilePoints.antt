@@ -140,8 +140,8 @@ module _ (v : TableVersion) (label : Label) (options : Options) (cs : List (List
   abbrev the_bytes : List ℕ
   the_bytes = finished (w v label options cs)
 
-  body_short : length (w v label options cs).the_bytes < 2 ^ 63
-  body_short = omega (arith, short, length-append (w v label options cs).the_bytes (trailer (w v label options cs)))
+  body_short : length (w v label options cs).bytes < 2 ^ 63
+  body_short = omega (arith, short, length-append (w v label options cs).bytes (trailer (w v label options cs)))
 
   data_short : length (data_section v cs) < 2 ^ 63
   data_short = omega (arith, body_short, length-body v label options cs)
