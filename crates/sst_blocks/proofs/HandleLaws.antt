@@ -1,0 +1,89 @@
+-- What is read as a handle is spelled so, and what is spelled so is read.
+use Rattle.std.proofs.Common.{◌≡◌, ℕ, ◌+◌, ◌^◌, ◌<◌, ◌≤◌, Bool, true, false, cond, ltb, List, [], ◌∷◌, ◌++◌, length, take, drop, Option, Some, None, refl, sym, ap, subst, ◌∙◌, append_assoc, arith}
+use Rattle.std.proofs.lemmas.Bool.{ltb-false, le-ltb}
+use Rattle.std.proofs.lemmas.List.{take_at, drop_at, take-append-drop, length-append, length-take, length-drop, drop-drop}
+use Rattle.std.proofs.lemmas.Option.{some_pair_parts}
+use Rattle.sst_blocks.specs.declared.version.TableVersion.{TableVersion}
+use Rattle.sst_blocks.specs.Handle.{Handle}
+use Rattle.sst_blocks.specs.Handles.{handle_head, handle_spelled, handle_at, HandleFits}
+use Rattle.sst_blocks.specs.Number.{le4, le8, num4, num8}
+use Rattle.sst_blocks.specs.Version.{key_width, key_limit, key_len_bytes, key_len_at}
+use Rattle.sst_blocks.proofs.Numbers.{IsBytes, IsBytes-drop, wide4, wide8, key_wide}
+
+-- a test that did not fail
+guard_some : {A : Type 0} (b : Bool) (o : Option A) (y : A) → cond b None o ≡ Some y → (b ≡ false) × (o ≡ Some y)
+guard_some true o y e = absurd cc
+guard_some false o y e = (refl, e)
+
+-- the parts of a handle one after another, and then other bytes
+pub handle_parts : (v : TableVersion) (h : Handle) (rest : List ℕ) → handle_spelled v h ++ rest ≡ le8 h.seqno ++ (le8 h.offset ++ (le4 h.size ++ (key_len_bytes v (length h.end_key) ++ (h.end_key ++ rest))))
+unfolding handle_spelled
+handle_parts v h rest = simp append_assoc
+
+pub length-handle_head : (v : TableVersion) (h : Handle) → length (handle_head v h) ≡ 20 + key_width v
+length-handle_head v h =
+    omega (arith, length-append (le8 h.seqno ++ le8 h.offset ++ le4 h.size) (key_len_bytes v (length h.end_key)), length-append (le8 h.seqno ++ le8 h.offset) (le4 h.size), length-append (le8 h.seqno) (le8 h.offset), wide8.len h.seqno, wide8.len h.offset, wide4.len h.size, (key_wide v).len (length h.end_key))
+
+pub length-handle_spelled : (v : TableVersion) (h : Handle) → length (handle_spelled v h) ≡ 20 + key_width v + length h.end_key
+unfolding handle_spelled
+length-handle_spelled v h = omega (arith, length-append (handle_head v h) h.end_key, length-handle_head v h)
+
+joined : (v : TableVersion) (s o z k : ℕ) (K R : List ℕ) → length K ≡ k → le8 s ++ (le8 o ++ (le4 z ++ (key_len_bytes v k ++ (K ++ R)))) ≡ handle_spelled v (record { end_key = K; seqno = s; offset = o; size = z }) ++ R
+joined v s o z k K R len = rw (← len) (sym (handle_parts v (record { end_key = K; seqno = s; offset = o; size = z }) R))
+
+pub handle_takes : (v : TableVersion) (bytes : List ℕ) (h : Handle) (rest : List ℕ) → IsBytes bytes → handle_at v bytes ≡ Some (h, rest) → (bytes ≡ handle_spelled v h ++ rest) × HandleFits v h
+unfolding handle_at
+handle_takes v bytes h rest fits told =
+    let w = key_width v in
+    let b8 = drop 8 bytes in
+    let b16 = drop 16 bytes in
+    let b20 = drop 20 bytes in
+    let r = drop (20 + w) bytes in
+    let k = key_len_at v b20 in
+    let K = take k r in
+    let R = drop k r in
+    let made : Handle = record { end_key = K; seqno = num8 bytes; offset = num8 b8; size = num4 b16 } in
+    let g = guard_some (ltb (length bytes) (20 + w)) (cond (ltb (length r) k) None (Some (made, R))) (h, rest) told in
+    let long : 20 + w ≤ length bytes = ltb-false _ _ g.0 in
+    let g2 = guard_some (ltb (length r) k) (Some (made, R)) (h, rest) g.1 in
+    let room : k ≤ length r = ltb-false _ _ g2.0 in
+    let p = some_pair_parts made h R rest g2.1 in
+    let lk : length K ≡ k = omega (arith, length-take k r) in
+    let f8 : IsBytes b8 = IsBytes-drop 8 bytes fits in
+    let f16 : IsBytes b16 = IsBytes-drop 16 bytes fits in
+    let f20 : IsBytes b20 = IsBytes-drop 20 bytes fits in
+    let e0 : bytes ≡ le8 (num8 bytes) ++ b8 = wide8.front bytes (omega arith) fits in
+    let e1 : b8 ≡ le8 (num8 b8) ++ b16 = wide8.front b8 (omega (arith, length-drop 8 bytes)) f8 ∙ ap (λ (x : List ℕ). le8 (num8 b8) ++ x) (drop-drop 8 8 bytes) in
+    let e2 : b16 ≡ le4 (num4 b16) ++ b20 = wide4.front b16 (omega (arith, length-drop 16 bytes)) f16 ∙ ap (λ (x : List ℕ). le4 (num4 b16) ++ x) (drop-drop 4 16 bytes) in
+    let e3 : b20 ≡ key_len_bytes v k ++ r = (key_wide v).front b20 (omega (arith, length-drop 20 bytes)) f20 ∙ ap (λ (x : List ℕ). key_len_bytes v k ++ x) (drop-drop w 20 bytes) in
+    let e4 : r ≡ K ++ R = sym (take-append-drop k r) in
+    let flat : bytes ≡ le8 (num8 bytes) ++ (le8 (num8 b8) ++ (le4 (num4 b16) ++ (key_len_bytes v k ++ (K ++ R)))) =
+      e0 ∙ ap (λ (x : List ℕ). le8 (num8 bytes) ++ x) (e1 ∙ ap (λ (x : List ℕ). le8 (num8 b8) ++ x) (e2 ∙ ap (λ (x : List ℕ). le4 (num4 b16) ++ x) (e3 ∙ ap (λ (x : List ℕ). key_len_bytes v k ++ x) e4))) in
+    let whole : bytes ≡ handle_spelled v made ++ R = flat ∙ joined v (num8 bytes) (num8 b8) (num4 b16) k K R lk in
+    let below_k : length K < key_limit v = rw lk ((key_wide v).below b20 f20) in
+    let fit : HandleFits v made = record { number = wide8.below bytes fits; offset = wide8.below b8 f8; size = wide4.below b16 f16; key_len = below_k } in
+    (whole ∙ ap (λ (x : Handle). handle_spelled v x ++ R) p.0 ∙ ap (λ (x : List ℕ). handle_spelled v h ++ x) p.1, subst (HandleFits v) p.0 fit)
+
+-- the bytes after a part of w bytes
+after : (w n : ℕ) (part rest bytes : List ℕ) → drop n bytes ≡ part ++ rest → length part ≡ w → drop (n + w) bytes ≡ rest
+after w n part rest bytes e len = sym (drop-drop w n bytes) ∙ ap (drop w) e ∙ drop_at part rest w len
+
+pub handle_again : (v : TableVersion) (h : Handle) (rest : List ℕ) → HandleFits v h → handle_at v (handle_spelled v h ++ rest) ≡ Some (h, rest)
+unfolding handle_at
+handle_again v h rest fits =
+    let w = key_width v in
+    let K = h.end_key in
+    let k = length K in
+    let x3 = key_len_bytes v k ++ (K ++ rest) in
+    let x2 = le4 h.size ++ x3 in
+    let x1 = le8 h.offset ++ x2 in
+    let all = le8 h.seqno ++ x1 in
+    let d8 : drop 8 all ≡ x1 = drop_at (le8 h.seqno) x1 8 (wide8.len h.seqno) in
+    let d16 : drop 16 all ≡ x2 = after 8 8 (le8 h.offset) x2 all d8 (wide8.len h.offset) in
+    let d20 : drop 20 all ≡ x3 = after 4 16 (le4 h.size) x3 all d16 (wide4.len h.size) in
+    let dw : drop (20 + w) all ≡ K ++ rest = after w 20 (key_len_bytes v k) (K ++ rest) all d20 ((key_wide v).len k) in
+    let long : ltb (length all) (20 + w) ≡ false = le-ltb _ _ (omega (arith, length-append (le8 h.seqno) x1, wide8.len h.seqno, length-append (le8 h.offset) x2, wide8.len h.offset, length-append (le4 h.size) x3, wide4.len h.size, length-append (key_len_bytes v k) (K ++ rest), (key_wide v).len k)) in
+    let room : ltb (length (K ++ rest)) k ≡ false = le-ltb _ _ (omega (arith, length-append K rest)) in
+    let len : key_len_at v x3 ≡ k = (key_wide v).again k (K ++ rest) fits.key_len in
+    ap (handle_at v) (handle_parts v h rest)
+    ∙ rw (long, dw, d20, d16, d8, len, room, wide8.again h.seqno x1 fits.number, wide8.again h.offset x2 fits.offset, wide4.again h.size x3 fits.size, take_at K rest k refl, drop_at K rest k refl) refl
