@@ -3,3 +3,4 @@ pub mod VecSource
 pub mod Numbers
 pub mod HandleLaws
 pub mod SpanLemmas
+pub mod Reaching
