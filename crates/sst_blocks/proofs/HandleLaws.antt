@@ -1,19 +1,19 @@
 -- What is read as a handle is spelled so, and what is spelled so is read.
-use Rattle.std.proofs.Common.{◌≡◌, ℕ, ◌+◌, ◌^◌, ◌<◌, ◌≤◌, Bool, true, false, cond, ltb, List, [], ◌∷◌, ◌++◌, length, take, drop, Option, Some, None, refl, sym, ap, subst, ◌∙◌, append_assoc, arith}
+use Rattle.std.proofs.Common.{◌≡◌, ℕ, zero, suc, ◌+◌, ◌-◌, ◌^◌, ◌<◌, ◌≤◌, Bool, true, false, cond, ltb, List, [], ◌∷◌, ◌++◌, length, take, drop, map, Option, Some, None, refl, sym, ap, subst, ◌∙◌, append_assoc, arith}
 use Rattle.std.proofs.lemmas.Bool.{ltb-false, le-ltb}
+use Rattle.std.specs.Prelude.{option_and_then, if◌then◌else◌}
+use Rattle.std.specs.List.{flat_map, slice_range}
+use Rattle.std.specs.Option.{option_map}
 use Rattle.std.proofs.lemmas.List.{take_at, drop_at, take-append-drop, length-append, length-take, length-drop, drop-drop}
 use Rattle.std.proofs.lemmas.Option.{some_pair_parts}
 use Rattle.sst_blocks.specs.declared.version.TableVersion.{TableVersion}
 use Rattle.sst_blocks.specs.Handle.{Handle}
-use Rattle.sst_blocks.specs.Handles.{handle_head, handle_spelled, handle_at, HandleFits}
+use Rattle.sst_blocks.specs.Handles.{handle_head, handle_spelled, handles_payload, handle_at, handles_at, handles_in, HandleFits, HandlesFit, AreStrictHandles, end_of}
 use Rattle.sst_blocks.specs.Number.{le4, le8, num4, num8}
+use Rattle.sst_blocks.specs.Strict.{is_strict_after}
 use Rattle.sst_blocks.specs.Version.{key_width, key_limit, key_len_bytes, key_len_at}
+use Rattle.sst_blocks.proofs.Items.{Format, IsFormat, items_at, items_in, in_order, items_in_take, items_in_again, guard_some, Here}
 use Rattle.sst_blocks.proofs.Numbers.{IsBytes, IsBytes-drop, wide4, wide8, key_wide}
-
--- a test that did not fail
-guard_some : {A : Type 0} (b : Bool) (o : Option A) (y : A) → cond b None o ≡ Some y → (b ≡ false) × (o ≡ Some y)
-guard_some true o y e = absurd cc
-guard_some false o y e = (refl, e)
 
 -- the parts of a handle one after another, and then other bytes
 pub handle_parts : (v : TableVersion) (h : Handle) (rest : List ℕ) → handle_spelled v h ++ rest ≡ le8 h.seqno ++ (le8 h.offset ++ (le4 h.size ++ (key_len_bytes v (length h.end_key) ++ (h.end_key ++ rest))))
@@ -87,3 +87,54 @@ handle_again v h rest fits =
     let len : key_len_at v x3 ≡ k = (key_wide v).again k (K ++ rest) fits.key_len in
     ap (handle_at v) (handle_parts v h rest)
     ∙ rw (long, dw, d20, d16, d8, len, room, wide8.again h.seqno x1 fits.number, wide8.again h.offset x2 fits.offset, wide4.again h.size x3 fits.size, take_at K rest k refl, drop_at K rest k refl) refl
+
+-- ---- lists of handles
+
+-- handles are a format of items
+abbrev pub handle_format : TableVersion → Format Handle
+handle_format v = record { spell = handle_spelled v; read = handle_at v; key = end_of }
+
+pub handles_format : (v : TableVersion) → IsFormat (handle_format v) (HandleFits v)
+handles_format v = record { takes = handle_takes v; again = handle_again v }
+
+and_then_same : {A B : Type 0} (f g : A → Option B) → ((x : A) → f x ≡ g x) → (o : Option A) → option_and_then f o ≡ option_and_then g o
+and_then_same f g same None = refl
+and_then_same f g same (Some x) = same x
+
+handles_at_same : (v : TableVersion) (n : ℕ) (bytes : List ℕ) → handles_at v n bytes ≡ items_at (handle_at v) n bytes
+unfolding handles_at
+handles_at_same v zero [] = refl
+handles_at_same v zero (b ∷ bytes) = refl
+handles_at_same v (suc n) bytes =
+    and_then_same (λ (x : Handle × List ℕ). option_map (λ hs. x.0 ∷ hs) (handles_at v n x.1)) (λ (x : Handle × List ℕ). option_map (λ hs. x.0 ∷ hs) (items_at (handle_at v) n x.1))
+    (λ x. ap (option_map (λ hs. x.0 ∷ hs)) (handles_at_same v n x.1)) (handle_at v bytes)
+
+pub handles_in_same : (v : TableVersion) (bytes : List ℕ) → handles_in v bytes ≡ items_in (handle_format v) bytes
+unfolding handles_in
+handles_in_same v bytes =
+    let ordered = λ (hs : List Handle). if in_order (handle_format v) hs then Some hs else None in
+    ap (cond (ltb (length bytes) 4) None) (ap (option_and_then ordered) (handles_at_same v (num4 bytes) (drop 4 bytes)))
+
+-- what a payload spells is its list
+pub handles_spelled : (v : TableVersion) (bytes : List ℕ) (hs : List Handle) → IsBytes bytes → handles_in v bytes ≡ Some hs → (bytes ≡ handles_payload v hs) × HandlesFit v hs × AreStrictHandles hs
+unfolding handles_payload
+handles_spelled v bytes hs fits h =
+    let t = items_in_take (handle_format v) (HandleFits v) (handles_format v) bytes hs fits (sym (handles_in_same v bytes) ∙ h) in
+    (t.0, (t.1, t.2), t.3)
+
+-- a strict list is what its payload spells
+pub handles_read : (v : TableVersion) (hs : List Handle) → HandlesFit v hs → AreStrictHandles hs → handles_in v (handles_payload v hs) ≡ Some hs
+unfolding handles_payload
+handles_read v hs fit strict =
+    handles_in_same v (le4 (length hs) ++ flat_map (handle_spelled v) hs)
+    ∙ items_in_again (handle_format v) (HandleFits v) (handles_format v) hs fit.0 fit.1 strict
+
+-- the end key is a part of the bytes
+pub end_key_part : (v : TableVersion) (bytes : List ℕ) (at from to : ℕ) (h : Handle) → Here (handle_format v) bytes at h → from ≡ at + (20 + key_width v) → to ≡ from + length h.end_key → slice_range bytes from to ≡ h.end_key
+unfolding handle_spelled
+end_key_part v bytes at from to h here begins ends =
+    let n = 20 + key_width v in
+    let k : to - from ≡ length h.end_key = omega arith in
+    let flat : handle_spelled v h ++ here.rest ≡ handle_head v h ++ (h.end_key ++ here.rest) = append_assoc (handle_head v h) h.end_key here.rest in
+    let tail : drop (at + n) bytes ≡ h.end_key ++ here.rest = sym (drop-drop n at bytes) ∙ ap (drop n) (here.parts ∙ flat) ∙ drop_at (handle_head v h) (h.end_key ++ here.rest) n (length-handle_head v h) in
+    rw k (ap (λ (m : ℕ). take (length h.end_key) (drop m bytes)) begins ∙ ap (take (length h.end_key)) tail ∙ take_at h.end_key here.rest (length h.end_key) refl)

@@ -1,6 +1,8 @@
 pub mod StreamLemmas
 pub mod VecSource
 pub mod Numbers
+pub mod Items
+pub mod Entries
 pub mod HandleLaws
 pub mod SpanLemmas
 pub mod Reaching
