@@ -10,6 +10,10 @@ ghost use Rattle.sst_blocks.specs.declared.block_type.BlockType.TheVariants.{Ind
 ghost use Rattle.sst_blocks.specs.declared.error.Error.TheVariants.{OutOfMemory, InvalidBlock};
 ghost use Rattle.sst_blocks.specs.declared.version.TableVersion.TheVariants.{V4};
 
+mod read;
+
+pub(crate) use read::handle_starts;
+
 use crate::{Block, Error, KeyedBlockHandle, Slice, TableVersion};
 use std::alloc::{Allocator, Global};
 use std::marker::Model;
@@ -33,18 +37,6 @@ impl<A: Allocator> Model for IndexBlock<A> {
     ghost view = { λ b. unwrap_or (handles_in b.version b.payload) [] };
 
     ghost invariant = { λ b. HandlesAt b.version b.payload b.starts.items };
-}
-
-/// Where the handles of a payload begin. Refused [`Error::InvalidBlock`] where the payload does not spell a strict list of
-/// handles, and [`Error::OutOfMemory`].
-pub(crate) fn handle_starts<A: Allocator>(alloc: A, version: TableVersion, payload: &[u8]) -> Result<Vec<u32, A>, Error>
-    requires { length payload.now < 2 ^ 32 }
-    ensures found { IfOk result (λ starts. HandlesAt version payload.now starts.items) }
-    ensures fault { IfErr result (λ e. is_memory e ≡ false → (e ≡ InvalidBlock) × (handles_in version payload.now ≡ None)) }
-{
-    let _ = alloc;
-    let _ = version;
-    Err(Error::OutOfMemory)
 }
 
 /// An upper bound on the length of the block of these handles, with its header, in bytes. It stays at `u64::MAX` where
