@@ -1,18 +1,19 @@
 -- What is read as a handle is spelled so, and what is spelled so is read.
-use Rattle.std.proofs.Common.{◌≡◌, ℕ, zero, suc, ◌+◌, ◌-◌, ◌^◌, ◌<◌, ◌≤◌, Bool, true, false, cond, ltb, List, [], ◌∷◌, ◌++◌, length, take, drop, map, Option, Some, None, refl, sym, ap, subst, ◌∙◌, append_assoc, arith}
+use Rattle.std.proofs.Common.{◌≡◌, ℕ, zero, suc, ◌+◌, ◌-◌, ◌^◌, ◌<◌, ◌≤◌, Bool, true, false, cond, ltb, List, [], ◌∷◌, ◌++◌, length, get_or, take, drop, map, Option, Some, None, refl, sym, ap, subst, ◌∙◌, append_assoc, arith}
 use Rattle.std.proofs.lemmas.Bool.{ltb-false, le-ltb}
-use Rattle.std.specs.Prelude.{option_and_then, if◌then◌else◌}
-use Rattle.std.specs.List.{flat_map, slice_range}
+use Rattle.std.specs.Prelude.{option_and_then, unwrap_or, if◌then◌else◌}
+use Rattle.std.specs.List.{flat_map, slice_range, slice_get}
 use Rattle.std.specs.Option.{option_map}
-use Rattle.std.proofs.lemmas.List.{take_at, drop_at, take-append-drop, length-append, length-take, length-drop, drop-drop}
-use Rattle.std.proofs.lemmas.Option.{some_pair_parts}
+use Rattle.std.proofs.lemmas.List.{get_or_default, take_at, drop_at, take-append-drop, length-append, length-take, length-drop, drop-drop}
+use Rattle.std.proofs.lemmas.Option.{some_pair_parts, slice_get-get_or, option_and_then_some, cond_some}
 use Rattle.sst_blocks.specs.declared.version.TableVersion.{TableVersion}
 use Rattle.sst_blocks.specs.Handle.{Handle}
 use Rattle.sst_blocks.specs.Handles.{handle_head, handle_spelled, handles_payload, handle_at, handles_at, handles_in, HandleFits, HandlesFit, AreStrictHandles, end_of}
 use Rattle.sst_blocks.specs.Number.{le4, le8, num4, num8}
+use Rattle.sst_blocks.specs.Starts.{starts_of, HandlesAt}
 use Rattle.sst_blocks.specs.Strict.{is_strict_after}
 use Rattle.sst_blocks.specs.Version.{key_width, key_limit, key_len_bytes, key_len_at}
-use Rattle.sst_blocks.proofs.Items.{Format, IsFormat, items_at, items_in, in_order, items_in_take, items_in_again, guard_some, Here}
+use Rattle.sst_blocks.proofs.Items.{Format, IsFormat, items_at, items_in, in_order, items_in_take, items_in_again, guard_some, Here, length-starts, item_holds, strict_from_test}
 use Rattle.sst_blocks.proofs.Numbers.{IsBytes, IsBytes-drop, wide4, wide8, key_wide}
 
 -- the parts of a handle one after another, and then other bytes
@@ -138,3 +139,52 @@ end_key_part v bytes at from to h here begins ends =
     let flat : handle_spelled v h ++ here.rest ≡ handle_head v h ++ (h.end_key ++ here.rest) = append_assoc (handle_head v h) h.end_key here.rest in
     let tail : drop (at + n) bytes ≡ h.end_key ++ here.rest = sym (drop-drop n at bytes) ∙ ap (drop n) (here.parts ∙ flat) ∙ drop_at (handle_head v h) (h.end_key ++ here.rest) n (length-handle_head v h) in
     rw k (ap (λ (m : ℕ). take (length h.end_key) (drop m bytes)) begins ∙ ap (take (length h.end_key)) tail ∙ take_at h.end_key here.rest (length h.end_key) refl)
+
+-- ---- a loaded block
+
+pub block_spells : (v : TableVersion) (bytes starts : List ℕ) (hs : List Handle) → HandlesAt v bytes starts → unwrap_or (handles_in v bytes) [] ≡ hs → handles_in v bytes ≡ Some hs
+block_spells v bytes starts hs block view = block.are ∙ ap (λ (xs : List Handle). Some xs) (sym (ap (λ (o : Option (List Handle)). unwrap_or o []) block.are) ∙ view)
+
+pub block_starts : (v : TableVersion) (bytes starts : List ℕ) (hs : List Handle) → HandlesAt v bytes starts → unwrap_or (handles_in v bytes) [] ≡ hs → starts ≡ starts_of (handle_spelled v) 4 hs
+block_starts v bytes starts hs block view = block.places ∙ ap (starts_of (handle_spelled v) 4) (sym (ap (λ (o : Option (List Handle)). unwrap_or o []) block.are) ∙ view)
+
+pub block_length : (v : TableVersion) (bytes starts : List ℕ) (hs : List Handle) → HandlesAt v bytes starts → unwrap_or (handles_in v bytes) [] ≡ hs → length starts ≡ length hs
+block_length v bytes starts hs block view = ap length (block_starts v bytes starts hs block view) ∙ length-starts (handle_spelled v) 4 hs
+
+pub handles_strict : (v : TableVersion) (bytes : List ℕ) (hs : List Handle) → handles_in v bytes ≡ Some hs → AreStrictHandles hs
+unfolding handles_in
+handles_strict v bytes hs h =
+    let ordered = λ (xs : List Handle). if is_strict_after None (map end_of xs) then Some xs else None in
+    let read = handles_at v (num4 bytes) (drop 4 bytes) in
+    let g = guard_some (ltb (length bytes) 4) (option_and_then ordered read) hs h in
+    option_and_then_some ordered read hs g.1
+    (λ xs is tested.
+      let t = cond_some (is_strict_after None (map end_of xs)) xs hs tested in
+      subst AreStrictHandles t.1 (strict_from_test None (map end_of xs) t.0))
+
+no_handle : Handle
+no_handle = record { end_key = []; seqno = 0; offset = 0; size = 0 }
+
+-- the handle of a place, which begins at the place's start
+pub record At (v : TableVersion) (bytes : List ℕ) (i at : ℕ) : Type 0 where
+  pub handle : Handle
+  pub told : slice_get (unwrap_or (handles_in v bytes) []) i ≡ Some handle
+  pub here : Here (handle_format v) bytes at handle
+  pub within : at + (20 + key_width v) + length handle.end_key ≤ length bytes
+
+pub block_at : (v : TableVersion) (bytes starts : List ℕ) (i : ℕ) → IsBytes bytes → HandlesAt v bytes starts → i < length starts → At v bytes i (get_or starts i 0)
+block_at v bytes starts i fits block lt =
+    let hs = unwrap_or (handles_in v bytes) [] in
+    let at = get_or starts i 0 in
+    let within : i < length hs = omega (arith, block_length v bytes starts hs block refl) in
+    let here = item_holds (handle_format v) (HandleFits v) (handles_format v) bytes starts hs i at no_handle fits (sym (handles_in_same v bytes) ∙ block_spells v bytes starts hs block refl) (block_starts v bytes starts hs block refl) within (get_or_default starts i 0 at lt) in
+    record {
+      handle = get_or hs i no_handle;
+      told = slice_get-get_or hs i no_handle within;
+      here = here;
+      within = omega (arith, here.within, length-handle_spelled v (get_or hs i no_handle));
+    }
+
+-- what is read at the start is the handle
+pub read_is : (v : TableVersion) (bytes : List ℕ) (i at : ℕ) (part : List ℕ) (h : Handle) (rest : List ℕ) → (x : At v bytes i at) → part ≡ drop at bytes → Some (h, rest) ≡ handle_at v part → x.handle ≡ h
+read_is v bytes i at part h rest x same told = (some_pair_parts x.handle h x.here.rest rest (sym x.here.found ∙ sym (ap (handle_at v) same) ∙ sym told)).0

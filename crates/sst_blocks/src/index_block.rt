@@ -1,20 +1,23 @@
 //! Index blocks: strict lists of block handles.
-ghost use Rattle.std.specs.Prelude.{◌≡◌, ◌+◌, ◌++◌, ◌<◌, ◌^◌, List, Some, None, false, length, IfOk, IfErr, OnOk, OnErr};
+ghost use Rattle.std.specs.Prelude.{◌≡◌, ◌+◌, ◌++◌, ◌<◌, ◌^◌, ◌≤◌, ◌↔◌, [], Some, None, false, not, length, find, IsTrue, IfOk, IfErr, OnOk, OnErr};
+ghost use Rattle.std.specs.List.{slice_get};
 ghost use Rattle.sst_blocks.specs.Block.{handles_of};
 ghost use Rattle.sst_blocks.specs.Bounds.{index_block_bound_of};
 ghost use Rattle.sst_blocks.specs.Encoding.{handles_fault};
-ghost use Rattle.sst_blocks.specs.Error.{Faults, is_memory};
-ghost use Rattle.sst_blocks.specs.Handles.{handles_payload, handles_in, AreStrictHandles};
-ghost use Rattle.sst_blocks.specs.Starts.{HandlesAt};
+ghost use Rattle.sst_blocks.specs.Error.{Faults};
+ghost use Rattle.sst_blocks.specs.Handles.{handles_payload, handles_in, reaches, is_above, AreStrictHandles};
+ghost use Rattle.sst_blocks.specs.SeenHandle.{seen_handle};
+ghost use Rattle.sst_blocks.specs.Span.{front_length};
 ghost use Rattle.sst_blocks.specs.declared.block_type.BlockType.TheVariants.{Index};
-ghost use Rattle.sst_blocks.specs.declared.error.Error.TheVariants.{OutOfMemory, InvalidBlock};
+ghost use Rattle.sst_blocks.specs.declared.error.Error.TheVariants.{OutOfMemory};
 ghost use Rattle.sst_blocks.specs.declared.version.TableVersion.TheVariants.{V4};
 
 mod read;
 
 pub(crate) use read::handle_starts;
 
-use crate::{Block, Error, KeyedBlockHandle, Slice, TableVersion};
+use crate::{Block, BlockHandle, BlockOffset, Error, KeyedBlockHandle, SeqNo, Slice, TableVersion};
+use read::{HandleRef, head_len, read_handle_at};
 use std::alloc::{Allocator, Global};
 use std::marker::Model;
 
@@ -64,6 +67,91 @@ impl<A: Allocator> IndexBlock<A> {
             payload: block.payload,
             starts: block.starts,
         }
+    }
+
+    /// How many handles there are.
+    pub fn len(&self) -> usize
+        ensures value { result ≡ length self.now }
+        ensures strict { AreStrictHandles self.now }
+    {
+        self.starts.len()
+    }
+
+    /// Whether there are no handles.
+    pub fn is_empty(&self) -> bool
+        ensures { IsTrue result ↔ (self.now ≡ []) }
+    {
+        self.len() == 0
+    }
+
+    // The handle at a place, without a count of its sharers.
+    fn handle_ref(&self, index: usize) -> HandleRef<'_>
+        requires { index < length self.now }
+        ensures { slice_get self.now index ≡ Some (seen_handle result) }
+    {
+        read_handle_at(
+            self.version,
+            self.payload.as_slice(),
+            self.starts.as_slice(),
+            index,
+        )
+    }
+
+    /// The handle at a place, whose end key shares the block's bytes. Refused [`Error::OutOfMemory`] alone.
+    pub fn handle(&self, index: usize) -> Result<KeyedBlockHandle<A>, Error>
+        requires { index < length self.now }
+        ensures found { IfOk result (λ h. slice_get self.now index ≡ Some h) }
+        ensures err { IfErr result (λ e. e ≡ OutOfMemory) }
+    {
+        let payload = self.payload.as_slice();
+        let handle = read_handle_at(self.version, payload, self.starts.as_slice(), index);
+        let start = self.starts[index] as usize + head_len(self.version);
+        let end_key = self
+            .payload
+            .slice(start, start + handle.end_key.len())?;
+        let inner = BlockHandle::new(BlockOffset(handle.offset), handle.size);
+        Ok(KeyedBlockHandle::new(end_key, handle.seqno, inner))
+    }
+
+    /// How many handles stand before the first that reaches a key and a number: whose end key is greater, or equal and
+    /// numbered below `seqno`.
+    pub fn first_reaching(&self, key: &[u8], seqno: SeqNo) -> usize
+        ensures place { result ≡ front_length (λ h. not (reaches key.now seqno h)) self.now }
+        ensures within { result ≤ length self.now }
+    {
+        let mut low = 0;
+        let mut high = self.len();
+        while low < high {
+            let middle = low + (high - low) / 2;
+            if self.handle_ref(middle).reaches(key, seqno) {
+                high = middle;
+            } else {
+                low = middle + 1;
+            }
+        }
+        low
+    }
+
+    /// How many handles stand before the first whose end key is greater than a key.
+    pub fn first_above(&self, key: &[u8]) -> usize
+        ensures place { result ≡ front_length (λ h. not (is_above key.now h)) self.now }
+        ensures within { result ≤ length self.now }
+    {
+        // No entry of the key is numbered below 0.
+        self.first_reaching(key, 0)
+    }
+
+    /// The first handle that reaches a key and a number: whose block alone may hold the newest entry of the key numbered
+    /// below `seqno`. Refused [`Error::OutOfMemory`] alone.
+    pub fn find(&self, key: &[u8], seqno: SeqNo) -> Result<Option<KeyedBlockHandle<A>>, Error>
+        ensures found { IfOk result (λ found. found ≡ find (reaches key.now seqno) self.now) }
+        ensures err { IfErr result (λ e. e ≡ OutOfMemory) }
+    {
+        let index = self.first_reaching(key, seqno);
+        if index == self.len() {
+            return Ok(None);
+        }
+        Ok(Some(self.handle(index)?))
     }
 
     /// Writes the payload of a block of these handles at the end of `buf`. Refused [`Error::KeyTooLong`] where an end key is
