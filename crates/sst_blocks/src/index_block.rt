@@ -1,5 +1,5 @@
 //! Index blocks: strict lists of block handles.
-ghost use Rattle.std.specs.Prelude.{◌≡◌, ◌+◌, ◌++◌, ◌<◌, ◌^◌, ◌≤◌, ◌↔◌, [], Some, None, false, not, length, find, IsTrue, IfOk, IfErr, OnOk, OnErr};
+ghost use Rattle.std.specs.Prelude.{◌≡◌, ◌+◌, ◌++◌, ◌<◌, ◌^◌, ◌≤◌, ◌↔◌, [], Bool, Some, None, true, not, length, find, IsTrue, IfOk, IfErr, OnOk, OnErr};
 ghost use Rattle.std.specs.List.{slice_get};
 ghost use Rattle.sst_blocks.specs.Block.{handles_of};
 ghost use Rattle.sst_blocks.specs.Bounds.{index_block_bound_of};
@@ -8,12 +8,16 @@ ghost use Rattle.sst_blocks.specs.Error.{Faults};
 ghost use Rattle.sst_blocks.specs.Handles.{handles_payload, handles_in, reaches, is_above, AreStrictHandles};
 ghost use Rattle.sst_blocks.specs.SeenHandle.{seen_handle};
 ghost use Rattle.sst_blocks.specs.Span.{front_length};
+ghost use Rattle.sst_blocks.specs.Stream.{Deals, CanDeal, all_ok, stopped};
+ghost use Rattle.sst_blocks.specs.declared.error.Error.{Error};
 ghost use Rattle.sst_blocks.specs.declared.block_type.BlockType.TheVariants.{Index};
 ghost use Rattle.sst_blocks.specs.declared.error.Error.TheVariants.{OutOfMemory};
 ghost use Rattle.sst_blocks.specs.declared.version.TableVersion.TheVariants.{V4};
 
+mod iter;
 mod read;
 
+pub use iter::Iter;
 pub(crate) use read::handle_starts;
 
 use crate::{Block, BlockHandle, BlockOffset, Error, KeyedBlockHandle, SeqNo, Slice, TableVersion};
@@ -152,6 +156,15 @@ impl<A: Allocator> IndexBlock<A> {
             return Ok(None);
         }
         Ok(Some(self.handle(index)?))
+    }
+
+    /// The handles, from both ends.
+    pub fn iter<'a>(&'a self) -> Iter<'a, A>
+        ensures span { result ≡ record { list = self.now; from = 0; to = length self.now } }
+        ensures deals { (stops : Error → Bool) → stops OutOfMemory ≡ true → Deals (stopped stops) ⟦<Iter<'a, A> as Iterator>⟧.next_gives ⟦<Iter<'a, A> as DoubleEndedIterator>⟧.next_back_gives result (all_ok self.now) }
+        ensures can { CanDeal ⟦<Iter<'a, A> as Iterator>⟧.next_gives ⟦<Iter<'a, A> as DoubleEndedIterator>⟧.next_back_gives ⟦<Iter<'a, A> as Iterator>⟧.can_next ⟦<Iter<'a, A> as DoubleEndedIterator>⟧.can_next_back result }
+    {
+        Iter::new(self)
     }
 
     /// Writes the payload of a block of these handles at the end of `buf`. Refused [`Error::KeyTooLong`] where an end key is

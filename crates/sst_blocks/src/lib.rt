@@ -26,7 +26,7 @@ pub use compression::CompressionType;
 pub use data_block::{DataBlock, data_block_bound};
 pub use error::{Error, TagName};
 pub use handle::{BlockHandle, BlockOffset, KeyedBlockHandle};
-pub use index_block::{IndexBlock, index_block_bound};
+pub use index_block::{IndexBlock, Iter as IndexBlockIter, index_block_bound};
 pub use key::InternalKey;
 pub use section::{Section, SectionName, SectionWriter};
 pub use slice::{Slice, UserKey, UserValue};
