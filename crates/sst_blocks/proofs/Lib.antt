@@ -6,3 +6,5 @@ pub mod Entries
 pub mod HandleLaws
 pub mod SpanLemmas
 pub mod Reaching
+pub mod Faults
+pub mod HandleFaults

@@ -14,6 +14,7 @@ ghost use Rattle.sst_blocks.specs.declared.block_type.BlockType.TheVariants.{Ind
 ghost use Rattle.sst_blocks.specs.declared.error.Error.TheVariants.{OutOfMemory};
 ghost use Rattle.sst_blocks.specs.declared.version.TableVersion.TheVariants.{V4};
 
+mod encode;
 mod iter;
 mod read;
 
@@ -21,6 +22,7 @@ pub use iter::Iter;
 pub(crate) use read::handle_starts;
 
 use crate::{Block, BlockHandle, BlockOffset, Error, KeyedBlockHandle, SeqNo, Slice, TableVersion};
+use encode::{key_fault, put_handles};
 use read::{HandleRef, head_len, read_handle_at};
 use std::alloc::{Allocator, Global};
 use std::marker::Model;
@@ -180,6 +182,17 @@ impl<A: Allocator> IndexBlock<A> {
         ensures bound { OnOk result (24 + length (handles_payload V4 handles.now) ≡ index_block_bound_of handles.now) }
         ensures short { OnOk result (24 + length (handles_payload V4 handles.now) < 2 ^ 32) }
     {
-        Err(Error::OutOfMemory)
+        if let Some(fault) = key_fault(handles) {
+            return Err(fault);
+        }
+        if index_block_bound(handles) > u64::from(u32::MAX) {
+            return Err(Error::BlockTooLarge);
+        }
+        let start = buf.len();
+        let outcome = put_handles(buf, handles);
+        if outcome.is_err() {
+            buf.truncate(start);
+        }
+        outcome
     }
 }
