@@ -3,8 +3,9 @@ pub mod VecSource
 pub mod Numbers
 pub mod Items
 pub mod Entries
-pub mod HandleLaws
 pub mod SpanLemmas
-pub mod Reaching
 pub mod Faults
+pub mod Fronts
+pub mod HandleLaws
 pub mod HandleFaults
+pub mod Reaching

@@ -23,7 +23,7 @@ pub(crate) use read::handle_starts;
 
 use crate::{Block, BlockHandle, BlockOffset, Error, KeyedBlockHandle, SeqNo, Slice, TableVersion};
 use encode::{key_fault, put_handles};
-use read::{HandleRef, head_len, read_handle_at};
+use read::{HandleRef, head_len, read_handle};
 use std::alloc::{Allocator, Global};
 use std::marker::Model;
 
@@ -95,12 +95,12 @@ impl<A: Allocator> IndexBlock<A> {
         requires { index < length self.now }
         ensures { slice_get self.now index ≡ Some (seen_handle result) }
     {
-        read_handle_at(
-            self.version,
-            self.payload.as_slice(),
-            self.starts.as_slice(),
-            index,
-        )
+        let start = self.starts[index] as usize;
+        let bytes = self.payload.as_slice();
+        match read_handle(self.version, &bytes[start..]) {
+            Some((handle, _)) => handle,
+            None => unreachable!(),
+        }
     }
 
     /// The handle at a place, whose end key shares the block's bytes. Refused [`Error::OutOfMemory`] alone.
@@ -109,8 +109,7 @@ impl<A: Allocator> IndexBlock<A> {
         ensures found { IfOk result (λ h. slice_get self.now index ≡ Some h) }
         ensures err { IfErr result (λ e. e ≡ OutOfMemory) }
     {
-        let payload = self.payload.as_slice();
-        let handle = read_handle_at(self.version, payload, self.starts.as_slice(), index);
+        let handle = self.handle_ref(index);
         let start = self.starts[index] as usize + head_len(self.version);
         let end_key = self
             .payload

@@ -1,5 +1,5 @@
 //! Numbers as bytes, the low byte first.
-ghost use Rattle.std.specs.Prelude.{◌≡◌, ◌++◌, ◌≤◌, length, OnOk, OnErr, IfErr};
+ghost use Rattle.std.specs.Prelude.{◌≡◌, ◌++◌, ◌<◌, ◌≤◌, ◌^◌, length, OnOk, OnErr, IfErr};
 ghost use Rattle.sst_blocks.specs.Number.{le4, le8, num2, num4, num8};
 ghost use Rattle.sst_blocks.specs.Version.{key_len_at, key_width};
 ghost use Rattle.sst_blocks.specs.declared.error.Error.TheVariants.{OutOfMemory};
@@ -49,7 +49,8 @@ pub(crate) fn key_width(version: TableVersion) -> usize
 #[inline]
 pub(crate) fn key_len_at(version: TableVersion, bytes: &[u8]) -> usize
     requires { key_width version ≤ length bytes.now }
-    ensures { result ≡ key_len_at version bytes.now }
+    ensures value { result ≡ key_len_at version bytes.now }
+    ensures short { result < 2 ^ 32 }
 {
     match version {
         TableVersion::V3 => usize::from(u16_at(bytes)),

@@ -1,6 +1,5 @@
 //! Reading the handles of a payload.
-ghost use Rattle.std.specs.Prelude.{◌≡◌, ◌+◌, ◌<◌, ◌≤◌, ◌^◌, [], None, Some, false, length, slice_index, slice_range, unwrap_or, IfOk, IfErr};
-ghost use Rattle.std.specs.List.{slice_get};
+ghost use Rattle.std.specs.Prelude.{◌≡◌, ◌+◌, ◌<◌, ◌^◌, None, false, length, IfOk, IfErr};
 ghost use Rattle.std.specs.Option.{option_map};
 ghost use Rattle.sst_blocks.specs.Error.{is_memory};
 ghost use Rattle.sst_blocks.specs.Handles.{handle_at, handles_in, end_of, reaches};
@@ -80,28 +79,6 @@ impl HandleRef<'_> {
         ensures { result ≡ reaches key.now seqno (seen_handle self.now) }
     {
         key.cmp(self.end_key).then(self.seqno.cmp(&seqno)).is_lt()
-    }
-}
-
-/// The handle that begins at one of the starts.
-#[inline]
-pub(crate) fn read_handle_at<'a>(
-    version: TableVersion,
-    payload: &'a [u8],
-    starts: &[u32],
-    index: usize,
-) -> HandleRef<'a>
-    requires block { HandlesAt version payload.now starts.now }
-    requires within { index < length starts.now }
-    ensures handle { slice_get (unwrap_or (handles_in version payload.now) []) index ≡ Some (seen_handle result) }
-    // Where the end key lies.
-    ensures within { slice_index starts.now index + (20 + key_width version) + length result.end_key.now ≤ length payload.now }
-    ensures end_key { slice_range payload.now (slice_index starts.now index + (20 + key_width version)) (slice_index starts.now index + (20 + key_width version) + length result.end_key.now) ≡ result.end_key.now }
-{
-    let start = starts[index] as usize;
-    match read_handle(version, &payload[start..]) {
-        Some((handle, _)) => handle,
-        None => unreachable!(),
     }
 }
 
