@@ -3,7 +3,7 @@ use Rattle.std.proofs.Common.{◌≡◌, ℕ, zero, suc, ◌+◌, ◌*◌, ◌-�
 use Rattle.std.specs.Prelude.{Result, Ok, Err, OnOk}
 use Rattle.std.specs.List.{flat_map, sum_by}
 use Rattle.std.proofs.lemmas.Bool.{lt-ltb, le-ltb, ltb-false}
-use Rattle.std.proofs.lemmas.List.{drop_more, drop_all, length-append}
+use Rattle.std.proofs.lemmas.List.{drop_more, drop_all, take_all, length-append}
 use Rattle.std.proofs.lemmas.List.Sums.{sum_by-cons}
 use Rattle.sst_blocks.specs.declared.error.Error.{Error}
 use Rattle.sst_blocks.specs.declared.error.Error.TheVariants.{KeyTooLong, BlockTooLarge}
@@ -82,6 +82,11 @@ few_handles hs small = omega (arith, count_sum hs)
 pub payload_length : (hs : List Handle) → index_block_bound_of hs < 2 ^ 32 → 24 + length (handles_payload V4 hs) ≡ index_block_bound_of hs
 unfolding handles_payload
 payload_length hs small = omega (arith, length-append (le4 (length hs)) (flat_map (handle_spelled V4) hs), wide4.len (length hs), spelled_sum hs)
+
+-- once all handles are written, the payload is
+pub all_written : (buf front : List ℕ) (hs : List Handle) (n : ℕ) → length hs ≤ n → buf ≡ front ++ (le4 (length hs) ++ flat_map (handle_spelled V4) (take n hs)) → buf ≡ front ++ handles_payload V4 hs
+unfolding handles_payload
+all_written buf front hs n le written = written ∙ ap (λ (xs : List Handle). front ++ (le4 (length hs) ++ flat_map (handle_spelled V4) xs)) (take_all n hs le)
 
 -- what holds on success may be said in other words
 pub on_ok : {X E : Type 0} (P Q : Type 0) (r : Result X E) → OnOk r P → (P → Q) → OnOk r Q

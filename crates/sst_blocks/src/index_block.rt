@@ -184,10 +184,13 @@ impl<A: Allocator> IndexBlock<A> {
         if let Some(fault) = key_fault(handles) {
             return Err(fault);
         }
-        if index_block_bound(handles) > u64::from(u32::MAX) {
+        let bound = index_block_bound(handles);
+        if bound > u64::from(u32::MAX) {
             return Err(Error::BlockTooLarge);
         }
         let start = buf.len();
+        // The bound is the block's length with its header: one growth holds the payload.
+        buf.reserve(bound as usize - 24)?;
         let outcome = put_handles(buf, handles);
         if outcome.is_err() {
             buf.truncate(start);

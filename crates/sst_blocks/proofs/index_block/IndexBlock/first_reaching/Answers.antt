@@ -3,7 +3,7 @@ use Rattle.std.proofs.lemmas.Option.{get_or_from_slice_get}
 use Rattle.sst_blocks.specs.Handle.{Handle}
 use Rattle.sst_blocks.specs.Handles.{reaches}
 use Rattle.sst_blocks.specs.SeenHandle.{seen_handle}
-use Rattle.sst_blocks.proofs.Reaching.{below_place, first_place}
+use Rattle.sst_blocks.proofs.Reaching.{below_place, early_at, first_place}
 use Rattle.sst_blocks.proofs.index_block.IndexBlock.first_reaching.Goals as goal
 
 pub loop-low-preserved : goal.loop-low-preserved
@@ -11,11 +11,10 @@ loop-low-preserved g c =
     let hs = c.args.self.now in
     let middle = c.loop-low.low + (c.loop-low.high - c.loop-low.low) / 2 in
     let lt : middle < length hs = omega (arith, c.loop-low.invariant.within) in
-    let early : (d : Handle) → reaches c.args.key.now c.args.seqno (get_or hs middle d) ≡ false = λ d. ap (reaches c.args.key.now c.args.seqno) (get_or_from_slice_get hs middle (seen_handle c.handle_ref.result) d c.handle_ref.ensures) ∙ sym c.reaches.ensures ∙ c.if-reaches.false in
     record {
       ordered = omega arith;
       within = c.loop-low.invariant.within;
-      before = λ i d le. below_place hs c.args.key.now c.args.seqno middle d c.len-high.ensures.strict lt (early d) i le;
+      before = λ i d le. below_place hs c.args.key.now c.args.seqno middle d c.len-high.ensures.strict lt (early_at hs c.args.key.now c.args.seqno middle (seen_handle c.handle_ref.result) d c.reaches.result c.handle_ref.ensures c.reaches.ensures c.if-reaches.false) i le;
       after = c.loop-low.invariant.after;
     }
 

@@ -6,7 +6,7 @@ use Rattle.sst_blocks.specs.Handles.{handles_payload, handle_spelled}
 use Rattle.sst_blocks.specs.Number.{le4}
 use Rattle.sst_blocks.specs.declared.version.TableVersion.TheVariants.{V4}
 use Rattle.sst_blocks.proofs.Faults.{front_again}
-use Rattle.sst_blocks.proofs.HandleFaults.{short_key_at}
+use Rattle.sst_blocks.proofs.HandleFaults.{short_key_at, all_written}
 use Rattle.sst_blocks.proofs.index_block.encode.put_handles.Goals as goal
 
 pub put_handle-requires : goal.put_handle-requires
@@ -19,8 +19,5 @@ returns-in_err-put_handle-clause-front g c =
     front_again _ _ _ _ _ _ (search rules) (search rules) c.loop-handle.invariant.written c.put_handle.ensures.front
 
 pub returns-clause-ok : goal.returns-clause-ok
-unfolding handles_payload
 returns-clause-ok g c =
-    let le : length c.args.handles.now ≤ c.loop-handle.handle-index = omega arith in
-    c.loop-handle.invariant.written
-    ∙ ap (λ (hs : List Handle). c.args.buf.now.items ++ (le4 (length c.args.handles.now) ++ flat_map (handle_spelled V4) hs)) (take_all c.loop-handle.handle-index c.args.handles.now le)
+    all_written c.loop-handle.buf.items c.args.buf.now.items c.args.handles.now c.loop-handle.handle-index (omega arith) c.loop-handle.invariant.written
