@@ -4,8 +4,8 @@ use Rattle.std.proofs.lemmas.Bool.{ltb-false, le-ltb}
 use Rattle.std.specs.Prelude.{option_and_then, unwrap_or, if◌then◌else◌}
 use Rattle.std.specs.List.{flat_map, slice_range, slice_get}
 use Rattle.std.specs.Option.{option_map}
-use Rattle.std.proofs.lemmas.List.{get_or_default, take_at, drop_at, take-append-drop, length-append, length-take, length-drop, drop-drop}
-use Rattle.std.proofs.lemmas.Option.{some_pair_parts, slice_get-get_or, option_and_then_some, cond_some}
+use Rattle.std.proofs.lemmas.List.{take_at, drop_at, take-append-drop, length-append, length-take, length-drop, drop-drop}
+use Rattle.std.proofs.lemmas.Option.{some_pair_parts, slice_get-get_or, slice_get_within, get_or_from_slice_get}
 use Rattle.sst_blocks.specs.declared.version.TableVersion.{TableVersion}
 use Rattle.sst_blocks.specs.Handle.{Handle}
 use Rattle.sst_blocks.specs.Handles.{handle_head, handle_spelled, handles_payload, handle_at, handles_at, handles_in, HandleFits, HandlesFit, AreStrictHandles, end_of}
@@ -13,7 +13,7 @@ use Rattle.sst_blocks.specs.Number.{le4, le8, num4, num8}
 use Rattle.sst_blocks.specs.Starts.{starts_of, HandlesAt}
 use Rattle.sst_blocks.specs.Strict.{is_strict_after}
 use Rattle.sst_blocks.specs.Version.{key_width, key_limit, key_len_bytes, key_len_at}
-use Rattle.sst_blocks.proofs.Items.{Format, IsFormat, items_at, items_in, in_order, items_in_take, items_in_again, guard_some, Here, length-starts, item_holds, strict_from_test}
+use Rattle.sst_blocks.proofs.Items.{Format, IsFormat, items_at, items_in, in_order, items_in_take, items_in_again, guard_some, Here, Advances, length-starts, item_holds, items_strict}
 use Rattle.sst_blocks.proofs.Numbers.{IsBytes, IsBytes-drop, wide4, wide8, key_wide}
 
 -- the parts of a handle one after another, and then other bytes
@@ -130,61 +130,86 @@ handles_read v hs fit strict =
     handles_in_same v (le4 (length hs) ++ flat_map (handle_spelled v) hs)
     ∙ items_in_again (handle_format v) (HandleFits v) (handles_format v) hs fit.0 fit.1 strict
 
--- the end key is a part of the bytes
-pub end_key_part : (v : TableVersion) (bytes : List ℕ) (at from to : ℕ) (h : Handle) → Here (handle_format v) bytes at h → from ≡ at + (20 + key_width v) → to ≡ from + length h.end_key → slice_range bytes from to ≡ h.end_key
-unfolding handle_spelled
-end_key_part v bytes at from to h here begins ends =
-    let n = 20 + key_width v in
-    let k : to - from ≡ length h.end_key = omega arith in
-    let flat : handle_spelled v h ++ here.rest ≡ handle_head v h ++ (h.end_key ++ here.rest) = append_assoc (handle_head v h) h.end_key here.rest in
-    let tail : drop (at + n) bytes ≡ h.end_key ++ here.rest = sym (drop-drop n at bytes) ∙ ap (drop n) (here.parts ∙ flat) ∙ drop_at (handle_head v h) (h.end_key ++ here.rest) n (length-handle_head v h) in
-    rw k (ap (λ (m : ℕ). take (length h.end_key) (drop m bytes)) begins ∙ ap (take (length h.end_key)) tail ∙ take_at h.end_key here.rest (length h.end_key) refl)
+-- ---- where a handle lies
 
--- ---- a loaded block
+-- the end key is a part of the bytes that a handle is read from, and nothing but the handle is read
+record Lies (v : TableVersion) (bytes : List ℕ) (h : Handle) (rest : List ℕ) : Type 0 where
+  pub key : take (length h.end_key) (drop (20 + key_width v) bytes) ≡ h.end_key
+  pub rest_is : rest ≡ drop (20 + key_width v + length h.end_key) bytes
+  pub within : 20 + key_width v + length h.end_key ≤ length bytes
 
-pub block_spells : (v : TableVersion) (bytes starts : List ℕ) (hs : List Handle) → HandlesAt v bytes starts → unwrap_or (handles_in v bytes) [] ≡ hs → handles_in v bytes ≡ Some hs
-block_spells v bytes starts hs block view = block.are ∙ ap (λ (xs : List Handle). Some xs) (sym (ap (λ (o : Option (List Handle)). unwrap_or o []) block.are) ∙ view)
+handle_lies : (v : TableVersion) (bytes : List ℕ) (h : Handle) (rest : List ℕ) → handle_at v bytes ≡ Some (h, rest) → Lies v bytes h rest
+unfolding handle_at
+handle_lies v bytes h rest told =
+    let w = 20 + key_width v in
+    let r = drop w bytes in
+    let k = key_len_at v (drop 20 bytes) in
+    let K = take k r in
+    let R = drop k r in
+    let made : Handle = record { end_key = K; seqno = num8 bytes; offset = num8 (drop 8 bytes); size = num4 (drop 16 bytes) } in
+    let g = guard_some (ltb (length bytes) w) (cond (ltb (length r) k) None (Some (made, R))) (h, rest) told in
+    let g2 = guard_some (ltb (length r) k) (Some (made, R)) (h, rest) g.1 in
+    let p = some_pair_parts made h R rest g2.1 in
+    let long : w ≤ length bytes = ltb-false _ _ g.0 in
+    let room : k ≤ length r = ltb-false _ _ g2.0 in
+    let len : length K ≡ k = omega (arith, length-take k r) in
+    let lies : Lies v bytes made R = record {
+      key = ap (λ (n : ℕ). take n r) len;
+      rest_is = drop-drop k w bytes ∙ ap (λ (n : ℕ). drop (w + n) bytes) (sym len);
+      within = omega (arith, len, length-drop w bytes);
+    } in
+    subst (λ (x : Handle). Lies v bytes x rest) p.0 (subst (λ (x : List ℕ). Lies v bytes made x) p.1 lies)
 
-pub block_starts : (v : TableVersion) (bytes starts : List ℕ) (hs : List Handle) → HandlesAt v bytes starts → unwrap_or (handles_in v bytes) [] ≡ hs → starts ≡ starts_of (handle_spelled v) 4 hs
-block_starts v bytes starts hs block view = block.places ∙ ap (starts_of (handle_spelled v) 4) (sym (ap (λ (o : Option (List Handle)). unwrap_or o []) block.are) ∙ view)
+pub handles_advance : (v : TableVersion) → Advances (handle_format v)
+handles_advance v bytes h rest told =
+    let l = handle_lies v bytes h rest told in
+    (l.rest_is ∙ ap (λ (n : ℕ). drop n bytes) (sym (length-handle_spelled v h)), omega (arith, l.within, length-handle_spelled v h))
 
-pub block_length : (v : TableVersion) (bytes starts : List ℕ) (hs : List Handle) → HandlesAt v bytes starts → unwrap_or (handles_in v bytes) [] ≡ hs → length starts ≡ length hs
-block_length v bytes starts hs block view = ap length (block_starts v bytes starts hs block view) ∙ length-starts (handle_spelled v) 4 hs
+-- ---- a handle of a block
 
-pub handles_strict : (v : TableVersion) (bytes : List ℕ) (hs : List Handle) → handles_in v bytes ≡ Some hs → AreStrictHandles hs
-unfolding handles_in
-handles_strict v bytes hs h =
-    let ordered = λ (xs : List Handle). if is_strict_after None (map end_of xs) then Some xs else None in
-    let read = handles_at v (num4 bytes) (drop 4 bytes) in
-    let g = guard_some (ltb (length bytes) 4) (option_and_then ordered read) hs h in
-    option_and_then_some ordered read hs g.1
-    (λ xs is tested.
-      let t = cond_some (is_strict_after None (map end_of xs)) xs hs tested in
-      subst AreStrictHandles t.1 (strict_from_test None (map end_of xs) t.0))
+-- the handle stands at the place, with its end key behind its head
+pub record Stands (v : TableVersion) (bytes : List ℕ) (at : ℕ) (h : Handle) : Type 0 where
+  pub rest : List ℕ
+  pub found : handle_at v (drop at bytes) ≡ Some (h, rest)
+  pub within : at + (20 + key_width v) + length h.end_key ≤ length bytes
+  pub key : slice_range bytes (at + (20 + key_width v)) (at + (20 + key_width v) + length h.end_key) ≡ h.end_key
 
-no_handle : Handle
-no_handle = record { end_key = []; seqno = 0; offset = 0; size = 0 }
-
--- the handle of a place, which begins at the place's start
-pub record At (v : TableVersion) (bytes : List ℕ) (i at : ℕ) : Type 0 where
-  pub handle : Handle
-  pub told : slice_get (unwrap_or (handles_in v bytes) []) i ≡ Some handle
-  pub here : Here (handle_format v) bytes at handle
-  pub within : at + (20 + key_width v) + length handle.end_key ≤ length bytes
-
-pub block_at : (v : TableVersion) (bytes starts : List ℕ) (i : ℕ) → IsBytes bytes → HandlesAt v bytes starts → i < length starts → At v bytes i (get_or starts i 0)
-block_at v bytes starts i fits block lt =
-    let hs = unwrap_or (handles_in v bytes) [] in
-    let at = get_or starts i 0 in
-    let within : i < length hs = omega (arith, block_length v bytes starts hs block refl) in
-    let here = item_holds (handle_format v) (HandleFits v) (handles_format v) bytes starts hs i at no_handle fits (sym (handles_in_same v bytes) ∙ block_spells v bytes starts hs block refl) (block_starts v bytes starts hs block refl) within (get_or_default starts i 0 at lt) in
+stands : (v : TableVersion) (bytes : List ℕ) (at : ℕ) (h : Handle) → Here (handle_format v) bytes at h → Stands v bytes at h
+stands v bytes at h here =
+    let w = 20 + key_width v in
+    let l = handle_lies v (drop at bytes) h here.rest here.found in
+    let k : at + w + length h.end_key - (at + w) ≡ length h.end_key = omega arith in
     record {
-      handle = get_or hs i no_handle;
-      told = slice_get-get_or hs i no_handle within;
-      here = here;
-      within = omega (arith, here.within, length-handle_spelled v (get_or hs i no_handle));
+      rest = here.rest;
+      found = here.found;
+      within = omega (arith, here.within, length-handle_spelled v h);
+      key = ap (λ (n : ℕ). take n (drop (at + w) bytes)) k ∙ ap (take (length h.end_key)) (sym (drop-drop w at bytes)) ∙ l.key;
     }
 
--- what is read at the start is the handle
-pub read_is : (v : TableVersion) (bytes : List ℕ) (i at : ℕ) (part : List ℕ) (h : Handle) (rest : List ℕ) → (x : At v bytes i at) → part ≡ drop at bytes → Some (h, rest) ≡ handle_at v part → x.handle ≡ h
-read_is v bytes i at part h rest x same told = (some_pair_parts x.handle h x.here.rest rest (sym x.here.found ∙ sym (ap (handle_at v) same) ∙ sym told)).0
+-- what a block's fields say of its list
+pub block_spells : (v : TableVersion) (bytes starts : List ℕ) (hs : List Handle) → HandlesAt v bytes starts → unwrap_or (handles_in v bytes) [] ≡ hs → (handles_in v bytes ≡ Some hs) × (starts ≡ starts_of (handle_spelled v) 4 hs)
+block_spells v bytes starts hs block view =
+    let same : block.items ≡ hs = sym (ap (λ (o : Option (List Handle)). unwrap_or o []) block.are) ∙ view in
+    (block.are ∙ ap (λ xs. Some xs) same, block.places ∙ ap (starts_of (handle_spelled v) 4) same)
+
+pub block_len : (v : TableVersion) (bytes starts : List ℕ) (hs : List Handle) → HandlesAt v bytes starts → unwrap_or (handles_in v bytes) [] ≡ hs → length starts ≡ length hs
+block_len v bytes starts hs block view = let b = block_spells v bytes starts hs block view in ap length b.1 ∙ length-starts (handle_spelled v) 4 hs
+
+-- what a payload spells is strict
+pub handles_strict : (v : TableVersion) (bytes : List ℕ) (hs : List Handle) → handles_in v bytes ≡ Some hs → AreStrictHandles hs
+handles_strict v bytes hs told = items_strict (handle_format v) (handles_advance v) bytes hs (sym (handles_in_same v bytes) ∙ told)
+
+pub block_strict : (v : TableVersion) (bytes starts : List ℕ) (hs : List Handle) → HandlesAt v bytes starts → unwrap_or (handles_in v bytes) [] ≡ hs → AreStrictHandles hs
+block_strict v bytes starts hs block view = handles_strict v bytes hs (block_spells v bytes starts hs block view).0
+
+-- at a start stands the handle of its place
+pub block_holds : (v : TableVersion) (bytes starts : List ℕ) (hs : List Handle) (i at : ℕ) (h : Handle) → HandlesAt v bytes starts → unwrap_or (handles_in v bytes) [] ≡ hs → slice_get hs i ≡ Some h → at ≡ get_or starts i at → Stands v bytes at h
+block_holds v bytes starts hs i at h block view some is_at =
+    let b = block_spells v bytes starts hs block view in
+    let here = item_holds (handle_format v) (handles_advance v) bytes starts hs i at h (sym (handles_in_same v bytes) ∙ b.0) b.1 (slice_get_within hs i h some) is_at in
+    stands v bytes at h (subst (Here (handle_format v) bytes at) (get_or_from_slice_get hs i h h some) here)
+
+pub some_at : (hs : List Handle) (i : ℕ) → i < length hs → (h : Handle) × (slice_get hs i ≡ Some h)
+some_at hs i lt =
+    let blank : Handle = record { end_key = []; seqno = 0; offset = 0; size = 0 } in
+    (get_or hs i blank, slice_get-get_or hs i blank lt)

@@ -11,3 +11,6 @@ pub mod LoadLemmas
 pub mod TrailerLemmas
 pub mod BlockLaws
 pub mod SectionLaws
+pub mod Faults
+pub mod Fronts
+pub mod HandleFaults

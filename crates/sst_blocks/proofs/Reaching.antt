@@ -1,7 +1,7 @@
 -- Where the handles that reach a key begin, and the windows that seeks leave.
 use Rattle.std.proofs.Common.{◌≡◌, refl, sym, ◌∙◌, ap, subst, ℕ, zero, suc, ◌+◌, ◌-◌, ◌<◌, ◌≤◌, Bool, true, false, cond, List, [], ◌∷◌, length, take, drop, get_or, map, arith, inl, inr, rules}
 use Rattle.std.specs.Prelude.{Option, Some, None, min, max, not, nat_eq, nat_lt, ◌&&◌, ◌||◌, ◌==◌}
-use Rattle.std.specs.List.{slice_range}
+use Rattle.std.specs.List.{slice_range, slice_get}
 use Rattle.std.specs.declared.cmp.Ordering.{Ordering}
 use Rattle.std.specs.declared.cmp.Ordering.TheVariants.{Less, Equal, Greater}
 use Rattle.std.specs.Ordering.{nat_cmp, is_lt, is_eq, ordering_then, ordering_reverse}
@@ -10,6 +10,7 @@ use Rattle.std.specs.Cmp.Rules.{comparing}
 use Rattle.std.specs.Cmp.Lexicographic.{slice_cmp, pointwise, nat_list_cmp_total, texts_ties}
 use Rattle.std.proofs.lemmas.Bool.{cases_lt, le-ltb}
 use Rattle.std.proofs.lemmas.List.{drop-take, drop_all, length-take, length-drop, take_all, length-map, get_or-map}
+use Rattle.std.proofs.lemmas.Option.{get_or_from_slice_get}
 use Rattle.sst_blocks.specs.declared.value_type.ValueType.TheVariants.{Value}
 use Rattle.sst_blocks.specs.Entry.{Entry, entry}
 use Rattle.sst_blocks.specs.Handle.{Handle}
@@ -101,6 +102,9 @@ below_place hs key bound n d strict within early i le =
       | inl below ↦ is_false (reaches key bound (get_or hs i d)) (λ hit. apart (reaches key bound (get_or hs n d)) (later_reaches hs key bound i n d strict below within hit) early)
       | inr above ↦ let e : n ≡ i = omega arith in subst (λ (k : ℕ). reaches key bound (get_or hs k d) ≡ false) e early
     ]
+
+pub early_at : (hs : List Handle) (key : List ℕ) (bound i : ℕ) (h d : Handle) (r : Bool) → slice_get hs i ≡ Some h → r ≡ reaches key bound h → r ≡ false → reaches key bound (get_or hs i d) ≡ false
+early_at hs key bound i h d r here told early = ap (reaches key bound) (get_or_from_slice_get hs i h d here) ∙ sym told ∙ early
 
 pub first_place : (hs : List Handle) (key : List ℕ) (bound n : ℕ) (d : Handle) → n ≤ length hs → ((i : ℕ) → i < n → reaches key bound (get_or hs i d) ≡ false) → (n < length hs → reaches key bound (get_or hs n d) ≡ true) → n ≡ front_length (λ h. not (reaches key bound h)) hs
 first_place hs key bound n d le before after = front_length_is (λ (h : Handle). not (reaches key bound h)) hs n d le (λ i lt. ap not (before i lt)) (λ lt. ap not (after lt))

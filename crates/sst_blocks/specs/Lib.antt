@@ -20,3 +20,4 @@ pub mod Starts
 pub mod Encoding
 pub mod Sections
 pub mod Opened
+pub mod SeenHandle

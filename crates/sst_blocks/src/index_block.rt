@@ -1,16 +1,29 @@
 //! Index blocks: strict lists of block handles.
-ghost use Rattle.std.specs.Prelude.{◌≡◌, ◌+◌, ◌++◌, ◌<◌, ◌^◌, List, Some, None, false, find, length, IfOk, IfErr, OnOk, OnErr};
+ghost use Rattle.std.specs.Prelude.{◌≡◌, ◌+◌, ◌++◌, ◌<◌, ◌^◌, ◌≤◌, ◌↔◌, [], Bool, Some, None, true, not, length, find, IsTrue, IfOk, IfErr, OnOk, OnErr};
+ghost use Rattle.std.specs.List.{slice_get};
 ghost use Rattle.sst_blocks.specs.Block.{handles_of};
 ghost use Rattle.sst_blocks.specs.Bounds.{index_block_bound_of};
 ghost use Rattle.sst_blocks.specs.Encoding.{handles_fault};
-ghost use Rattle.sst_blocks.specs.Error.{Faults, is_memory};
-ghost use Rattle.sst_blocks.specs.Handles.{handles_payload, handles_in, AreStrictHandles, reaches};
-ghost use Rattle.sst_blocks.specs.Starts.{HandlesAt};
+ghost use Rattle.sst_blocks.specs.Error.{Faults};
+ghost use Rattle.sst_blocks.specs.Handles.{handles_payload, handles_in, reaches, is_above, AreStrictHandles};
+ghost use Rattle.sst_blocks.specs.SeenHandle.{seen_handle};
+ghost use Rattle.sst_blocks.specs.Span.{front_length};
+ghost use Rattle.sst_blocks.specs.Stream.{Deals, CanDeal, all_ok, stopped};
+ghost use Rattle.sst_blocks.specs.declared.error.Error.{Error};
 ghost use Rattle.sst_blocks.specs.declared.block_type.BlockType.TheVariants.{Index};
-ghost use Rattle.sst_blocks.specs.declared.error.Error.TheVariants.{OutOfMemory, InvalidBlock};
+ghost use Rattle.sst_blocks.specs.declared.error.Error.TheVariants.{OutOfMemory};
 ghost use Rattle.sst_blocks.specs.declared.version.TableVersion.TheVariants.{V4};
 
-use crate::{Block, Error, KeyedBlockHandle, SeqNo, Slice, TableVersion};
+mod encode;
+mod iter;
+mod read;
+
+pub use iter::Iter;
+pub(crate) use read::handle_starts;
+
+use crate::{Block, BlockHandle, BlockOffset, Error, KeyedBlockHandle, SeqNo, Slice, TableVersion};
+use encode::{key_fault, put_handles};
+use read::{HandleRef, head_len, read_handle};
 use std::alloc::{Allocator, Global};
 use std::marker::Model;
 
@@ -33,18 +46,6 @@ impl<A: Allocator> Model for IndexBlock<A> {
     ghost view = { λ b. unwrap_or (handles_in b.version b.payload) [] };
 
     ghost invariant = { λ b. HandlesAt b.version b.payload b.starts.items };
-}
-
-/// Where the handles of a payload begin. Refused [`Error::InvalidBlock`] where the payload does not spell a strict list of
-/// handles, and [`Error::OutOfMemory`].
-pub(crate) fn handle_starts<A: Allocator>(alloc: A, version: TableVersion, payload: &[u8]) -> Result<Vec<u32, A>, Error>
-    requires { length payload.now < 2 ^ 32 }
-    ensures found { IfOk result (λ starts. HandlesAt version payload.now starts.items) }
-    ensures fault { IfErr result (λ e. is_memory e ≡ false → (e ≡ InvalidBlock) × (handles_in version payload.now ≡ None)) }
-{
-    let _ = alloc;
-    let _ = version;
-    Err(Error::OutOfMemory)
 }
 
 /// An upper bound on the length of the block of these handles, with its header, in bytes. It stays at `u64::MAX` where
@@ -74,6 +75,99 @@ impl<A: Allocator> IndexBlock<A> {
         }
     }
 
+    /// How many handles there are.
+    pub fn len(&self) -> usize
+        ensures value { result ≡ length self.now }
+        ensures strict { AreStrictHandles self.now }
+    {
+        self.starts.len()
+    }
+
+    /// Whether there are no handles.
+    pub fn is_empty(&self) -> bool
+        ensures { IsTrue result ↔ (self.now ≡ []) }
+    {
+        self.len() == 0
+    }
+
+    // The handle at a place, without a count of its sharers.
+    fn handle_ref(&self, index: usize) -> HandleRef<'_>
+        requires { index < length self.now }
+        ensures { slice_get self.now index ≡ Some (seen_handle result) }
+    {
+        let start = self.starts[index] as usize;
+        let bytes = self.payload.as_slice();
+        match read_handle(self.version, &bytes[start..]) {
+            Some((handle, _)) => handle,
+            None => unreachable!(),
+        }
+    }
+
+    /// The handle at a place, whose end key shares the block's bytes. Refused [`Error::OutOfMemory`] alone.
+    pub fn handle(&self, index: usize) -> Result<KeyedBlockHandle<A>, Error>
+        requires { index < length self.now }
+        ensures found { IfOk result (λ h. slice_get self.now index ≡ Some h) }
+        ensures err { IfErr result (λ e. e ≡ OutOfMemory) }
+    {
+        let handle = self.handle_ref(index);
+        let start = self.starts[index] as usize + head_len(self.version);
+        let end_key = self
+            .payload
+            .slice(start, start + handle.end_key.len())?;
+        let inner = BlockHandle::new(BlockOffset(handle.offset), handle.size);
+        Ok(KeyedBlockHandle::new(end_key, handle.seqno, inner))
+    }
+
+    /// How many handles stand before the first that reaches a key and a number: whose end key is greater, or equal and
+    /// numbered below `seqno`.
+    pub fn first_reaching(&self, key: &[u8], seqno: SeqNo) -> usize
+        ensures place { result ≡ front_length (λ h. not (reaches key.now seqno h)) self.now }
+        ensures within { result ≤ length self.now }
+    {
+        let mut low = 0;
+        let mut high = self.len();
+        while low < high {
+            let middle = low + (high - low) / 2;
+            if self.handle_ref(middle).reaches(key, seqno) {
+                high = middle;
+            } else {
+                low = middle + 1;
+            }
+        }
+        low
+    }
+
+    /// How many handles stand before the first whose end key is greater than a key.
+    pub fn first_above(&self, key: &[u8]) -> usize
+        ensures place { result ≡ front_length (λ h. not (is_above key.now h)) self.now }
+        ensures within { result ≤ length self.now }
+    {
+        // No entry of the key is numbered below 0.
+        self.first_reaching(key, 0)
+    }
+
+    /// The first handle that reaches a key and a number: whose block alone may hold the newest entry of the key numbered
+    /// below `seqno`. Refused [`Error::OutOfMemory`] alone.
+    pub fn find(&self, key: &[u8], seqno: SeqNo) -> Result<Option<KeyedBlockHandle<A>>, Error>
+        ensures found { IfOk result (λ found. found ≡ find (reaches key.now seqno) self.now) }
+        ensures err { IfErr result (λ e. e ≡ OutOfMemory) }
+    {
+        let index = self.first_reaching(key, seqno);
+        if index == self.len() {
+            return Ok(None);
+        }
+        Ok(Some(self.handle(index)?))
+    }
+
+    /// The handles, from both ends.
+    pub fn iter<'a>(&'a self) -> Iter<'a, A>
+        ensures span { result ≡ record { list = self.now; from = 0; to = length self.now } }
+        ensures deals { (stops : Error → Bool) → stops OutOfMemory ≡ true → Deals (stopped stops) ⟦<Iter<'a, A> as Iterator>⟧.next_gives ⟦<Iter<'a, A> as DoubleEndedIterator>⟧.next_back_gives result (all_ok self.now) }
+        ensures can { CanDeal ⟦<Iter<'a, A> as Iterator>⟧.next_gives ⟦<Iter<'a, A> as DoubleEndedIterator>⟧.next_back_gives ⟦<Iter<'a, A> as Iterator>⟧.can_next ⟦<Iter<'a, A> as DoubleEndedIterator>⟧.can_next_back result }
+    {
+        Iter::new(self)
+    }
+
     /// Writes the payload of a block of these handles at the end of `buf`. Refused [`Error::KeyTooLong`] where an end key is
     /// too long, then [`Error::BlockTooLarge`] where [`index_block_bound`] is 2^32 or more; and [`Error::OutOfMemory`]. `buf`
     /// is then as it was.
@@ -87,14 +181,20 @@ impl<A: Allocator> IndexBlock<A> {
         ensures bound { OnOk result (24 + length (handles_payload V4 handles.now) ≡ index_block_bound_of handles.now) }
         ensures short { OnOk result (24 + length (handles_payload V4 handles.now) < 2 ^ 32) }
     {
-        Err(Error::OutOfMemory)
-    }
-
-    /// The first handle that reaches a key numbered below `seqno`. Refused [`Error::OutOfMemory`] alone.
-    pub fn find(&self, key: &[u8], seqno: SeqNo) -> Result<Option<KeyedBlockHandle<A>>, Error>
-        ensures found { IfOk result (λ found. found ≡ find (reaches key.now seqno) self.now) }
-        ensures err { IfErr result (λ e. e ≡ OutOfMemory) }
-    {
-        Err(Error::OutOfMemory)
+        if let Some(fault) = key_fault(handles) {
+            return Err(fault);
+        }
+        let bound = index_block_bound(handles);
+        if bound > u64::from(u32::MAX) {
+            return Err(Error::BlockTooLarge);
+        }
+        let start = buf.len();
+        // The bound is the block's length with its header: one growth holds the payload.
+        buf.reserve(bound as usize - 24)?;
+        let outcome = put_handles(buf, handles);
+        if outcome.is_err() {
+            buf.truncate(start);
+        }
+        outcome
     }
 }

@@ -2,6 +2,8 @@
 //! and the sections of a table's bytes.
 #![tactic(auto)]
 
+#[cfg(test)]
+
 mod block;
 mod block_type;
 mod checksum;
@@ -17,7 +19,6 @@ mod opened;
 mod section;
 mod slice;
 mod source;
-#[cfg(test)]
 mod stored_table;
 mod stream;
 mod toc;
@@ -33,7 +34,7 @@ pub use data_block::{DataBlock, data_block_bound};
 pub use error::{Error, TagName};
 pub use fnv::hash;
 pub use handle::{BlockHandle, BlockOffset, KeyedBlockHandle};
-pub use index_block::{IndexBlock, index_block_bound};
+pub use index_block::{IndexBlock, Iter as IndexBlockIter, index_block_bound};
 pub use key::InternalKey;
 pub use opened::Opened;
 pub use section::{Section, SectionName, SectionWriter};

@@ -1,0 +1,47 @@
+use Rattle.std.proofs.Common.{◌≡◌, ◌≤◌, ◌<◌, ◌-◌, ◌++◌, ◌∷◌, [], length, drop, refl, rules, arith, true, false, Option, Some, None, subst, sym, ◌∙◌, List, ℕ}
+use Rattle.std.specs.Option.{option_map}
+use Rattle.std.proofs.lemmas.List.{take_rest}
+use Rattle.sst_blocks.specs.Handles.{handle_at, end_of, handles_in}
+use Rattle.sst_blocks.specs.SeenHandle.{seen_handle}
+use Rattle.sst_blocks.specs.Starts.{SpellsAt}
+use Rattle.sst_blocks.specs.Strict.{may_follow}
+use Rattle.sst_blocks.proofs.HandleLaws.{handle_format, handles_format, handles_in_same}
+use Rattle.sst_blocks.proofs.Items.{Walk, walk_begins, walk_on, walk_short, walk_missing, walk_unordered, walk_over, walk_ends}
+use Rattle.sst_blocks.proofs.Numbers.{IsBytes}
+use Rattle.sst_blocks.proofs.index_block.read.handle_starts.Goals as goal
+
+pub returns-then-payload-lt4-clause-fault : goal.returns-then-payload-lt4-clause-fault
+returns-then-payload-lt4-clause-fault g c memory = (refl, handles_in_same _ _ ∙ walk_short (handle_format c.args.version) _ c.if-payload-lt4.true)
+
+pub loop-init : goal.loop-init
+loop-init g c =
+    let long : 4 ≤ length c.args.payload.now = omega arith in
+    let fits : IsBytes c.args.payload.now = λ i. omega (arith, c.type_inv.payload i) in
+    rw (c.in_ok-starts.ensures.items, take_rest c.args.payload.now 4) (walk_begins (handle_format c.args.version) c.args.payload.now long fits)
+
+pub returns-in_default-clause-fault : goal.returns-in_default-clause-fault
+returns-in_default-clause-fault g c memory =
+    let none : handle_at c.args.version c.loop.rest.now ≡ None = search rules in
+    (refl, handles_in_same _ _ ∙ walk_missing (handle_format c.args.version) _ _ _ _ _ c.loop.invariant (omega arith) none)
+
+pub returns-then-not-may_follow-clause-fault : goal.returns-then-not-may_follow-clause-fault
+returns-then-not-may_follow-clause-fault g c memory =
+    let some : handle_at c.args.version c.loop.rest.now ≡ Some (seen_handle c.in-Some.handle, c.in-Some.after.now) = search rules in
+    let early : may_follow (option_map (λ h. end_of (seen_handle h)) c.loop.last) (end_of (seen_handle c.in-Some.handle)) ≡ false = search rules in
+    (refl, handles_in_same _ _ ∙ walk_unordered (handle_format c.args.version) _ _ _ _ _ _ _ c.loop.invariant (omega arith) some early)
+
+pub loop-preserved : goal.loop-preserved
+loop-preserved g c =
+    let some : handle_at c.args.version c.loop.rest.now ≡ Some (seen_handle c.in-Some.handle, c.in-Some.after.now) = search rules in
+    let follows : may_follow (option_map (λ h. end_of (seen_handle h)) c.loop.last) (end_of (seen_handle c.in-Some.handle)) ≡ true = search rules in
+    rw c.in_ok-push.ensures.items (walk_on (handle_format c.args.version) _ (handles_format c.args.version) _ _ _ _ _ _ _ c.loop.invariant some follows)
+
+pub returns-then-not-is_empty-clause-fault : goal.returns-then-not-is_empty-clause-fault
+returns-then-not-is_empty-clause-fault g c memory =
+    let more : 0 < length c.loop.rest.now = search rules in
+    (refl, handles_in_same _ _ ∙ walk_over (handle_format c.args.version) _ _ _ _ _ c.loop.invariant (omega arith) more)
+
+pub returns-clause-found : goal.returns-clause-found
+returns-clause-found g c =
+    let none : length c.loop.rest.now ≡ 0 = search rules in
+    rw handles_in_same (walk_ends (handle_format c.args.version) _ _ _ _ _ c.requires c.loop.invariant (omega arith) none)

@@ -1,0 +1,117 @@
+//! Reading the handles of a payload.
+ghost use Rattle.std.specs.Prelude.{◌≡◌, ◌+◌, ◌<◌, ◌^◌, None, false, length, IfOk, IfErr};
+ghost use Rattle.std.specs.Option.{option_map};
+ghost use Rattle.sst_blocks.specs.Error.{is_memory};
+ghost use Rattle.sst_blocks.specs.Handles.{handle_at, handles_in, end_of, reaches};
+ghost use Rattle.sst_blocks.specs.SeenHandle.{seen_handle};
+ghost use Rattle.sst_blocks.specs.Starts.{HandlesAt};
+ghost use Rattle.sst_blocks.specs.Strict.{may_follow};
+ghost use Rattle.sst_blocks.specs.Version.{key_width};
+ghost use Rattle.sst_blocks.specs.declared.error.Error.TheVariants.{InvalidBlock};
+
+use crate::number::{key_len_at, key_width, u32_at, u64_at};
+use crate::{Error, SeqNo, TableVersion};
+use std::alloc::Allocator;
+
+/// A handle whose end key lies in borrowed bytes.
+#[derive(Clone, Copy)]
+pub(crate) struct HandleRef<'a> {
+    pub(crate) end_key: &'a [u8],
+    pub(crate) seqno: SeqNo,
+    pub(crate) offset: u64,
+    pub(crate) size: u32,
+}
+
+/// The length of what stands before a handle's end key: the number, the position, the size and the key length.
+#[inline]
+pub(crate) fn head_len(version: TableVersion) -> usize
+    ensures { result ≡ 20 + key_width version }
+{
+    20 + key_width(version)
+}
+
+/// The handle at the front of some bytes, and the bytes after it.
+#[inline]
+#[tactic(auto, unfolding(crate::specs::Handles::handle_at))]
+pub(crate) fn read_handle(version: TableVersion, bytes: &[u8]) -> Option<(HandleRef<'_>, &[u8])>
+    ensures { option_map (λ x. (seen_handle x.0, x.1.now)) result ≡ handle_at version bytes.now }
+{
+    let head = head_len(version);
+    if bytes.len() < head {
+        return None;
+    }
+    let key_len = key_len_at(version, &bytes[20..]);
+    let rest = &bytes[head..];
+    if rest.len() < key_len {
+        return None;
+    }
+    let (end_key, rest) = rest.split_at(key_len);
+    Some((
+        HandleRef {
+            end_key,
+            seqno: u64_at(bytes),
+            offset: u64_at(&bytes[8..]),
+            size: u32_at(&bytes[16..]),
+        },
+        rest,
+    ))
+}
+
+impl HandleRef<'_> {
+    /// Whether the handle may stand after another, or at the front.
+    #[inline]
+    pub(crate) fn may_follow(&self, last: &Option<HandleRef<'_>>) -> bool
+        ensures { result ≡ may_follow (option_map (λ h. end_of (seen_handle h)) last.now) (end_of (seen_handle self.now)) }
+    {
+        match last {
+            None => true,
+            Some(last) => last
+                .end_key
+                .cmp(self.end_key)
+                .then(self.seqno.cmp(&last.seqno))
+                .is_lt(),
+        }
+    }
+
+    /// Whether the handle's block may hold the key numbered below `seqno`, or what comes after it.
+    #[inline]
+    pub(crate) fn reaches(&self, key: &[u8], seqno: SeqNo) -> bool
+        ensures { result ≡ reaches key.now seqno (seen_handle self.now) }
+    {
+        key.cmp(self.end_key).then(self.seqno.cmp(&seqno)).is_lt()
+    }
+}
+
+/// Where the handles of a payload begin. Refused [`Error::InvalidBlock`] where the payload does not spell a strict list of
+/// handles, and [`Error::OutOfMemory`].
+pub(crate) fn handle_starts<A: Allocator>(alloc: A, version: TableVersion, payload: &[u8]) -> Result<Vec<u32, A>, Error>
+    requires { length payload.now < 2 ^ 32 }
+    ensures found { IfOk result (λ starts. HandlesAt version payload.now starts.items) }
+    ensures fault { IfErr result (λ e. is_memory e ≡ false → (e ≡ InvalidBlock) × (handles_in version payload.now ≡ None)) }
+{
+    if payload.len() < 4 {
+        return Err(Error::InvalidBlock);
+    }
+    let count = u32_at(payload);
+    let mut rest = &payload[4..];
+    // No more than the payload has room for, whatever count it claims.
+    let most = rest.len() / head_len(version);
+    let mut starts = Vec::with_capacity(alloc, most.min(count as usize))?;
+    let mut last: Option<HandleRef<'_>> = None;
+    for _ in 0..count {
+        let start = (payload.len() - rest.len()) as u32;
+        let Some((handle, after)) = read_handle(version, rest) else {
+            return Err(Error::InvalidBlock);
+        };
+        if !handle.may_follow(&last) {
+            return Err(Error::InvalidBlock);
+        }
+        starts.push(start)?;
+        last = Some(handle);
+        rest = after;
+    }
+    if !rest.is_empty() {
+        return Err(Error::InvalidBlock);
+    }
+    Ok(starts)
+}
