@@ -1,3 +1,4 @@
 pub mod StreamLemmas
 pub mod VecSource
 pub mod Numbers
+pub mod Items

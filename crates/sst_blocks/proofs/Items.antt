@@ -1,0 +1,321 @@
+-- Payloads of items, whatever an item's format: one walk from the left, the two laws of reading, and what stands at each start.
+use Rattle.std.proofs.Common.{◌≡◌, ℕ, zero, suc, ◌+◌, ◌-◌, ◌^◌, ◌<◌, ◌≤◌, Bool, true, false, cond, ltb, ◌&&◌, List, [], ◌∷◌, ◌++◌, length, get_or, take, drop, map, Option, Some, None, refl, sym, ap, subst, ◌∙◌, append_assoc, arith}
+use Rattle.std.specs.Prelude.{option_and_then, nat_lt, if◌then◌else◌}
+use Rattle.std.specs.List.{flat_map, AllByRecursion}
+use Rattle.std.specs.Option.{option_map}
+use Rattle.std.proofs.lemmas.Bool.{ltb-true, ltb-false, lt-ltb, le-ltb}
+use Rattle.std.proofs.lemmas.List.{take_at, drop_at, take-append-drop, length-append, length-take, length-drop, map_push, map-append, append-nil, nil_from_length}
+use Rattle.std.proofs.lemmas.List.Concat.{flat_map-append}
+use Rattle.std.proofs.lemmas.List.Prefix.{end_rest}
+use Rattle.std.proofs.lemmas.Option.{some_pair_parts, none-some, same_Some, cond_some, option_and_then_some}
+use Rattle.sst_blocks.specs.Entry.{Entry}
+use Rattle.sst_blocks.specs.Number.{le4, num4}
+use Rattle.sst_blocks.specs.Starts.{starts_of, SpellsAt}
+use Rattle.sst_blocks.specs.Strict.{may_follow, IsStrictAfter, is_strict_after, last_of}
+use Rattle.sst_blocks.proofs.Numbers.{IsBytes, IsBytes-drop, wide4}
+
+-- how an item is spelled and read, and the entry whose place in the order it has
+pub record Format (X : Type 0) : Type 0 where
+  pub spell : X → List ℕ
+  pub read : List ℕ → Option (X × List ℕ)
+  pub key : X → Entry
+
+-- what is read is spelled so, and what is spelled so is read
+pub record IsFormat {X : Type 0} (f : Format X) (Fits : X → Type 0) : Type 0 where
+  pub takes : (bytes : List ℕ) (x : X) (rest : List ℕ) → IsBytes bytes → f.read bytes ≡ Some (x, rest) → (bytes ≡ f.spell x ++ rest) × Fits x
+  pub again : (x : X) (rest : List ℕ) → Fits x → f.read (f.spell x ++ rest) ≡ Some (x, rest)
+
+-- n items that use the bytes up
+abbrev pub items_at : {X : Type 0} → (List ℕ → Option (X × List ℕ)) → ℕ → List ℕ → Option (List X)
+items_at read zero [] = Some []
+items_at read zero (b ∷ bytes) = None
+items_at {X} read (suc n) bytes = option_and_then (λ (x : X × List ℕ). option_map (λ xs. x.0 ∷ xs) (items_at read n x.1)) (read bytes)
+
+abbrev pub in_order : {X : Type 0} → Format X → List X → Bool
+in_order f xs = is_strict_after None (map f.key xs)
+
+-- the strict list of items that a payload spells
+abbrev pub items_in : {X : Type 0} → Format X → List ℕ → Option (List X)
+items_in f bytes =
+    if nat_lt (length bytes) 4 then None
+    else option_and_then (λ xs. if in_order f xs then Some xs else None) (items_at f.read (num4 bytes) (drop 4 bytes))
+
+-- ---- lists of entries in order
+
+and_left : (a b : Bool) → (a && b) ≡ true → a ≡ true
+and_left true b h = refl
+and_left false b h = h
+
+and_right : (a b : Bool) → (a && b) ≡ true → b ≡ true
+and_right true b h = h
+and_right false b h = absurd cc
+
+and_both : (a b : Bool) → a ≡ true → b ≡ true → (a && b) ≡ true
+and_both a b p q = rw (p, q) refl
+
+and_false : (a b : Bool) → b ≡ false → (a && b) ≡ false
+and_false true b h = h
+and_false false b h = refl
+
+pub strict_from_test : (last : Option Entry) (es : List Entry) → is_strict_after last es ≡ true → IsStrictAfter last es
+unfolding is_strict_after IsStrictAfter
+strict_from_test last [] h = tt
+strict_from_test last (e ∷ es) h = (and_left (may_follow last e) (is_strict_after (Some e) es) h, strict_from_test (Some e) es (and_right (may_follow last e) (is_strict_after (Some e) es) h))
+
+pub test_from_strict : (last : Option Entry) (es : List Entry) → IsStrictAfter last es → is_strict_after last es ≡ true
+unfolding is_strict_after IsStrictAfter
+test_from_strict last [] h = refl
+test_from_strict last (e ∷ es) h = and_both (may_follow last e) (is_strict_after (Some e) es) h.0 (test_from_strict (Some e) es h.1)
+
+test_push : (last : Option Entry) (es : List Entry) (e : Entry) → is_strict_after last es ≡ true → may_follow (last_of last es) e ≡ true → is_strict_after last (es ++ e ∷ []) ≡ true
+unfolding is_strict_after last_of
+test_push last [] e h f = and_both (may_follow last e) true f refl
+test_push last (x ∷ es) e h f = and_both (may_follow last x) (is_strict_after (Some x) (es ++ e ∷ [])) (and_left (may_follow last x) (is_strict_after (Some x) es) h) (test_push (Some x) es e (and_right (may_follow last x) (is_strict_after (Some x) es) h) f)
+
+test_fails : (last : Option Entry) (es : List Entry) (e : Entry) (more : List Entry) → may_follow (last_of last es) e ≡ false → is_strict_after last (es ++ e ∷ more) ≡ false
+unfolding is_strict_after last_of
+test_fails last [] e more h = rw h refl
+test_fails last (x ∷ es) e more h = and_false (may_follow last x) (is_strict_after (Some x) (es ++ e ∷ more)) (test_fails (Some x) es e more h)
+
+last_push : (last : Option Entry) (es : List Entry) (e : Entry) → last_of last (es ++ e ∷ []) ≡ Some e
+unfolding last_of
+last_push last [] e = refl
+last_push last (x ∷ es) e = last_push (Some x) es e
+
+-- ---- starts
+
+starts_push : {X : Type 0} (spell : X → List ℕ) (at : ℕ) (xs : List X) (x : X) → starts_of spell at (xs ++ x ∷ []) ≡ starts_of spell at xs ++ (at + length (flat_map spell xs)) ∷ []
+unfolding starts_of
+starts_push spell at [] x =
+    let k : at ≡ at + 0 = omega arith in
+    ap (λ (n : ℕ). n ∷ []) k
+starts_push spell at (y ∷ xs) x =
+    let k : (at + length (spell y)) + length (flat_map spell xs) ≡ at + length (spell y ++ flat_map spell xs) = omega (arith, length-append (spell y) (flat_map spell xs)) in
+    ap (λ (s : List ℕ). at ∷ s) (starts_push spell (at + length (spell y)) xs x ∙ ap (λ (n : ℕ). starts_of spell (at + length (spell y)) xs ++ n ∷ []) k)
+
+pub length-starts : {X : Type 0} (spell : X → List ℕ) (at : ℕ) (xs : List X) → length (starts_of spell at xs) ≡ length xs
+unfolding starts_of
+length-starts spell at [] = refl
+length-starts spell at (x ∷ xs) = ap suc (length-starts spell (at + length (spell x)) xs)
+
+-- ---- the two laws
+
+none_in_some : {A : Type 0} (o : Option A) → o ≡ None → (x : A) → o ≡ Some x → ⊥
+none_in_some o none x some = none-some x (sym none ∙ some)
+
+option_map_some : {A B P : Type 0} (f : A → B) (o : Option A) (y : B) → option_map f o ≡ Some y → ((x : A) → o ≡ Some x → f x ≡ y → P) → P
+option_map_some f None y h k = absurd (none-some y h)
+option_map_some f (Some x) y h k = k x refl (same_Some (f x) y h)
+
+-- a test that did not fail
+pub guard_some : {A : Type 0} (b : Bool) (o : Option A) (y : A) → cond b None o ≡ Some y → (b ≡ false) × (o ≡ Some y)
+guard_some true o y e = absurd cc
+guard_some false o y e = (refl, e)
+
+tail_bytes : (bytes front rest : List ℕ) → IsBytes bytes → bytes ≡ front ++ rest → IsBytes rest
+tail_bytes bytes front rest fits e = subst IsBytes (ap (drop (length front)) e ∙ drop_at front rest (length front) refl) (IsBytes-drop (length front) bytes fits)
+
+module _ {X : Type 0} (f : Format X) (Fits : X → Type 0) (law : IsFormat f Fits) where
+  pub items_take : (n : ℕ) (bytes : List ℕ) (xs : List X) → IsBytes bytes → items_at f.read n bytes ≡ Some xs → (bytes ≡ flat_map f.spell xs) × (length xs ≡ n) × AllByRecursion Fits xs
+  items_take zero [] [] fits h = (refl, refl, tt)
+  items_take zero [] (x ∷ xs) fits h = absurd cc
+  items_take zero (b ∷ bytes) xs fits h = absurd (none-some xs h)
+  items_take (suc n) bytes xs fits h =
+      option_and_then_some (λ (x : X × List ℕ). option_map (λ ys. x.0 ∷ ys) (items_at f.read n x.1)) (f.read bytes) xs h
+      (λ x read more.
+        option_map_some (λ (ys : List X). x.0 ∷ ys) (items_at f.read n x.1) xs more
+        (λ ys others whole.
+          let one = law.takes bytes x.0 x.1 fits read in
+          let rest = items_take n x.1 ys (tail_bytes bytes (f.spell x.0) x.1 fits one.0) others in
+          subst (λ (zs : List X). (bytes ≡ flat_map f.spell zs) × (length zs ≡ suc n) × AllByRecursion Fits zs) whole
+          (one.0 ∙ ap (λ (b : List ℕ). f.spell x.0 ++ b) rest.0, ap suc rest.1, (one.1, rest.2))))
+
+  pub items_again : (xs : List X) → AllByRecursion Fits xs → items_at f.read (length xs) (flat_map f.spell xs) ≡ Some xs
+  items_again [] fit = refl
+  items_again (x ∷ xs) fit = rw (law.again x (flat_map f.spell xs) fit.0, items_again xs fit.1) refl
+
+  -- what a payload spells is a strict list, and the payload is its spelling
+  pub items_in_take : (bytes : List ℕ) (xs : List X) → IsBytes bytes → items_in f bytes ≡ Some xs
+      → (bytes ≡ le4 (length xs) ++ flat_map f.spell xs) × (length xs < 2 ^ 32) × AllByRecursion Fits xs × IsStrictAfter None (map f.key xs)
+  items_in_take bytes xs fits h =
+      let body : Option (List X) = option_and_then (λ (ys : List X). if in_order f ys then Some ys else None) (items_at f.read (num4 bytes) (drop 4 bytes)) in
+      let g = guard_some (ltb (length bytes) 4) body xs h in
+      let long : 4 ≤ length bytes = ltb-false _ _ g.0 in
+      option_and_then_some (λ (ys : List X). if in_order f ys then Some ys else None) (items_at f.read (num4 bytes) (drop 4 bytes)) xs g.1
+      (λ ys read tested.
+        let t = cond_some (in_order f ys) ys xs tested in
+        let k = items_take (num4 bytes) (drop 4 bytes) ys (IsBytes-drop 4 bytes fits) read in
+        let whole : bytes ≡ le4 (length ys) ++ flat_map f.spell ys = wide4.front bytes long fits ∙ ap (λ (b : List ℕ). le4 (num4 bytes) ++ b) k.0 ∙ ap (λ (n : ℕ). le4 n ++ flat_map f.spell ys) (sym k.1) in
+        let few : length ys < 2 ^ 32 = rw k.1 (wide4.below bytes fits) in
+        subst (λ (zs : List X). (bytes ≡ le4 (length zs) ++ flat_map f.spell zs) × (length zs < 2 ^ 32) × AllByRecursion Fits zs × IsStrictAfter None (map f.key zs)) t.1
+        (whole, few, k.2, strict_from_test None (map f.key ys) t.0))
+
+  -- a strict list is what its spelling spells
+  pub items_in_again : (xs : List X) → length xs < 2 ^ 32 → AllByRecursion Fits xs → IsStrictAfter None (map f.key xs) → items_in f (le4 (length xs) ++ flat_map f.spell xs) ≡ Some xs
+  items_in_again xs few fit strict =
+      let B = flat_map f.spell xs in
+      let long : ltb (length (le4 (length xs) ++ B)) 4 ≡ false = le-ltb _ _ (omega (arith, length-append (le4 (length xs)) B, wide4.len (length xs))) in
+      let ordered : in_order f xs ≡ true = test_from_strict None (map f.key xs) strict in
+      rw (long, wide4.again (length xs) B few, drop_at (le4 (length xs)) B 4 (wide4.len (length xs)), items_again xs fit, ordered) refl
+
+-- ---- one walk from the left
+
+-- after n items, rest is left: what is read from here on is read of the whole
+pub record Walk {X : Type 0} (f : Format X) (bytes rest starts : List ℕ) (last : Option Entry) (n : ℕ) : Type 0 where
+  pub items : List X
+  pub many : length items ≡ n
+  pub long : 4 ≤ length bytes
+  pub fits : IsBytes rest
+  pub reads : (m : ℕ) → n + m ≡ num4 bytes → items_at f.read (num4 bytes) (drop 4 bytes) ≡ option_map (λ more. items ++ more) (items_at f.read m rest)
+  pub ordered : in_order f items ≡ true
+  pub last_is : last ≡ last_of None (map f.key items)
+  pub places : starts ≡ starts_of f.spell 4 items
+  pub place : length bytes ≡ 4 + length (flat_map f.spell items) + length rest
+
+map_nothing : {X : Type 0} (o : Option (List X)) → o ≡ option_map (λ more. [] ++ more) o
+map_nothing None = refl
+map_nothing (Some xs) = refl
+
+map_one : {X : Type 0} (xs : List X) (x : X) (o : Option (List X)) → option_map (λ more. xs ++ more) (option_map (λ more. x ∷ more) o) ≡ option_map (λ more. (xs ++ x ∷ []) ++ more) o
+map_one xs x None = refl
+map_one xs x (Some more) = ap (λ ys. Some ys) (sym (append_assoc xs (x ∷ []) more))
+
+module _ {X : Type 0} (f : Format X) where
+  pub walk_begins : (bytes : List ℕ) → 4 ≤ length bytes → IsBytes bytes → Walk f bytes (drop 4 bytes) [] None 0
+  unfolding is_strict_after last_of starts_of
+  walk_begins bytes long fits = record {
+    items = [];
+    many = refl;
+    long = long;
+    fits = IsBytes-drop 4 bytes fits;
+    reads = λ m count.
+        let same : m ≡ num4 bytes = omega arith in
+        map_nothing (items_at f.read (num4 bytes) (drop 4 bytes)) ∙ ap (λ (k : ℕ). option_map (λ more. [] ++ more) (items_at f.read k (drop 4 bytes))) (sym same);
+    ordered = refl;
+    last_is = refl;
+    places = refl;
+    place = omega (arith, length-drop 4 bytes);
+  }
+
+  pub walk_on : (Fits : X → Type 0) → IsFormat f Fits → (bytes rest starts : List ℕ) (last : Option Entry) (n : ℕ) (x : X) (after : List ℕ) → Walk f bytes rest starts last n
+      → f.read rest ≡ Some (x, after) → may_follow last (f.key x) ≡ true → Walk f bytes after (starts ++ (length bytes - length rest) ∷ []) (Some (f.key x)) (n + 1)
+  walk_on Fits law bytes rest starts last n x after w read follows =
+      let one = law.takes rest x after w.fits read in
+      let es = map f.key w.items in
+      let keys : map f.key (w.items ++ x ∷ []) ≡ es ++ f.key x ∷ [] = map_push f.key w.items x in
+      let step : (m : ℕ) → items_at f.read (suc m) rest ≡ option_map (λ more. x ∷ more) (items_at f.read m after) = λ m. rw read refl in
+      let flat : flat_map f.spell (w.items ++ x ∷ []) ≡ flat_map f.spell w.items ++ f.spell x = flat_map-append f.spell w.items (x ∷ []) ∙ ap (λ (b : List ℕ). flat_map f.spell w.items ++ b) (append-nil (f.spell x)) in
+      let at : length bytes - length rest ≡ 4 + length (flat_map f.spell w.items) = omega (arith, w.place) in
+      record {
+        items = w.items ++ x ∷ [];
+        many = omega (arith, w.many, length-append w.items (x ∷ []));
+        long = w.long;
+        fits = tail_bytes rest (f.spell x) after w.fits one.0;
+        reads = λ m count.
+            let more : n + suc m ≡ num4 bytes = omega arith in
+            w.reads (suc m) more ∙ ap (option_map (λ more. w.items ++ more)) (step m) ∙ map_one w.items x (items_at f.read m after);
+        ordered = ap (is_strict_after None) keys ∙ test_push None es (f.key x) w.ordered (subst (λ (o : Option Entry). may_follow o (f.key x) ≡ true) w.last_is follows);
+        last_is = sym (ap (last_of None) keys ∙ last_push None es (f.key x));
+        places = ap (λ (s : List ℕ). s ++ (length bytes - length rest) ∷ []) w.places ∙ ap (λ (k : ℕ). starts_of f.spell 4 w.items ++ k ∷ []) at ∙ sym (starts_push f.spell 4 w.items x);
+        place = omega (arith, w.place, ap length one.0, length-append (f.spell x) after, ap length flat, length-append (flat_map f.spell w.items) (f.spell x));
+      }
+
+  -- a payload of which no items are read spells nothing
+  nothing_in : (bytes : List ℕ) → ((xs : List X) → items_at f.read (num4 bytes) (drop 4 bytes) ≡ Some xs → in_order f xs ≡ false) → items_in f bytes ≡ None
+  nothing_in bytes h = under (nat_lt (length bytes) 4) (items_at f.read (num4 bytes) (drop 4 bytes)) h
+    where
+      tested : (xs : List X) → in_order f xs ≡ false → (if in_order f xs then Some xs else None) ≡ None
+      tested xs wrong = rw wrong refl
+
+      under : (b : Bool) (o : Option (List X)) → ((xs : List X) → o ≡ Some xs → in_order f xs ≡ false) → (if b then None else option_and_then (λ xs. if in_order f xs then Some xs else None) o) ≡ None
+      under true o h = refl
+      under false None h = refl
+      under false (Some xs) h = tested xs (h xs refl)
+
+  -- fewer than four bytes hold no count
+  pub walk_short : (bytes : List ℕ) → length bytes < 4 → items_in f bytes ≡ None
+  walk_short bytes lt = let short : ltb (length bytes) 4 ≡ true = lt-ltb _ _ lt in rw short refl
+
+  -- an item is not there
+  pub walk_missing : (bytes rest starts : List ℕ) (last : Option Entry) (n : ℕ) → Walk f bytes rest starts last n → n < num4 bytes → f.read rest ≡ None → items_in f bytes ≡ None
+  walk_missing bytes rest starts last n w lt none =
+      let m = num4 bytes - n - 1 in
+      let nothing : items_at f.read (suc m) rest ≡ None = rw none refl in
+      let whole : items_at f.read (num4 bytes) (drop 4 bytes) ≡ None = w.reads (suc m) (omega arith) ∙ ap (option_map (λ more. w.items ++ more)) nothing in
+      nothing_in bytes (λ xs some. absurd (none_in_some _ whole xs some))
+
+  -- an item is out of order
+  pub walk_unordered : (bytes rest starts : List ℕ) (last : Option Entry) (n : ℕ) (x : X) (after : List ℕ) → Walk f bytes rest starts last n → n < num4 bytes
+      → f.read rest ≡ Some (x, after) → may_follow last (f.key x) ≡ false → items_in f bytes ≡ None
+  walk_unordered bytes rest starts last n x after w lt read early =
+      let m = num4 bytes - n - 1 in
+      let es = map f.key w.items in
+      let step : items_at f.read (suc m) rest ≡ option_map (λ more. x ∷ more) (items_at f.read m after) = rw read refl in
+      let whole : items_at f.read (num4 bytes) (drop 4 bytes) ≡ option_map (λ more. (w.items ++ x ∷ []) ++ more) (items_at f.read m after) =
+          w.reads (suc m) (omega arith) ∙ ap (option_map (λ more. w.items ++ more)) step ∙ map_one w.items x (items_at f.read m after) in
+      nothing_in bytes (λ xs some.
+        option_map_some (λ (more : List X). (w.items ++ x ∷ []) ++ more) (items_at f.read m after) xs (sym whole ∙ some)
+        (λ more there is.
+          let keys : map f.key ((w.items ++ x ∷ []) ++ more) ≡ es ++ f.key x ∷ map f.key more = ap (map f.key) (append_assoc w.items (x ∷ []) more) ∙ map-append f.key w.items (x ∷ more) in
+          ap (in_order f) (sym is) ∙ ap (is_strict_after None) keys ∙ test_fails None es (f.key x) (map f.key more) (subst (λ (o : Option Entry). may_follow o (f.key x) ≡ false) w.last_is early)))
+
+  none_after_last : (rest : List ℕ) → 0 < length rest → items_at f.read 0 rest ≡ None
+  none_after_last [] lt = absurd (omega arith)
+  none_after_last (b ∷ rest) lt = refl
+
+  -- bytes stand after the last item
+  pub walk_over : (bytes rest starts : List ℕ) (last : Option Entry) (n : ℕ) → Walk f bytes rest starts last n → n ≡ num4 bytes → 0 < length rest → items_in f bytes ≡ None
+  walk_over bytes rest starts last n w all more =
+      let whole : items_at f.read (num4 bytes) (drop 4 bytes) ≡ None = w.reads 0 (omega arith) ∙ ap (option_map (λ more. w.items ++ more)) (none_after_last rest more) in
+      nothing_in bytes (λ xs some. absurd (none_in_some _ whole xs some))
+
+  -- the walk has used the bytes up
+  pub walk_ends : (bytes rest starts : List ℕ) (last : Option Entry) (n : ℕ) → length bytes < 2 ^ 32 → Walk f bytes rest starts last n → n ≡ num4 bytes → length rest ≡ 0
+      → SpellsAt X f.spell (items_in f bytes) bytes starts
+  walk_ends bytes rest starts last n short w all none =
+      let empty : rest ≡ [] = nil_from_length rest none in
+      let whole : items_at f.read (num4 bytes) (drop 4 bytes) ≡ Some w.items =
+          w.reads 0 (omega arith) ∙ ap (λ (b : List ℕ). option_map (λ more. w.items ++ more) (items_at f.read 0 b)) empty ∙ ap (λ xs. Some xs) (append-nil w.items) in
+      let long : ltb (length bytes) 4 ≡ false = le-ltb _ _ w.long in
+      record {
+        items = w.items;
+        are = rw (long, whole, w.ordered) refl;
+        places = w.places;
+        short = short;
+      }
+
+-- ---- what stands at a start
+
+-- the item begins at the place
+pub record Here {X : Type 0} (f : Format X) (bytes : List ℕ) (at : ℕ) (x : X) : Type 0 where
+  pub rest : List ℕ
+  pub parts : drop at bytes ≡ f.spell x ++ rest
+  pub found : f.read (drop at bytes) ≡ Some (x, rest)
+  pub within : at + length (f.spell x) ≤ length bytes
+
+module _ {X : Type 0} (f : Format X) (Fits : X → Type 0) (law : IsFormat f Fits) where
+  start_holds : (pre : List ℕ) (at : ℕ) (xs : List X) (i d : ℕ) (b : X) → length pre ≡ at → AllByRecursion Fits xs → i < length xs → Here f (pre ++ flat_map f.spell xs) (get_or (starts_of f.spell at xs) i d) (get_or xs i b)
+  unfolding starts_of
+  start_holds pre at [] i d b len fits lt = absurd (omega (arith, lt))
+  start_holds pre at (x ∷ xs) zero d b len fits lt =
+      let F = flat_map f.spell xs in
+      let parts : drop at (pre ++ (f.spell x ++ F)) ≡ f.spell x ++ F = drop_at pre (f.spell x ++ F) at len in
+      record {
+        rest = F;
+        parts = parts;
+        found = ap f.read parts ∙ law.again x F fits.0;
+        within = omega (arith, len, length-append pre (f.spell x ++ F), length-append (f.spell x) F);
+      }
+  start_holds pre at (x ∷ xs) (suc i) d b len fits lt =
+      let h = start_holds (pre ++ f.spell x) (at + length (f.spell x)) xs i d b (omega (arith, len, length-append pre (f.spell x))) fits.1 (omega (arith, lt)) in
+      subst (λ (p : List ℕ). Here f p (get_or (starts_of f.spell (at + length (f.spell x)) xs) i d) (get_or xs i b)) (append_assoc pre (f.spell x) (flat_map f.spell xs)) h
+
+  -- at the start of a place stands the item of the place
+  pub item_holds : (bytes starts : List ℕ) (xs : List X) (i at : ℕ) (b : X) → IsBytes bytes → items_in f bytes ≡ Some xs → starts ≡ starts_of f.spell 4 xs → i < length xs → at ≡ get_or starts i at
+      → Here f bytes at (get_or xs i b)
+  item_holds bytes starts xs i at b fits are places lt is_at =
+      let t = items_in_take f Fits law bytes xs fits are in
+      let h = start_holds (le4 (length xs)) 4 xs i at b (wide4.len (length xs)) t.2 lt in
+      let a = subst (λ (p : List ℕ). Here f p (get_or (starts_of f.spell 4 xs) i at) (get_or xs i b)) (sym t.0) h in
+      let c = subst (λ (s : List ℕ). Here f bytes (get_or s i at) (get_or xs i b)) (sym places) a in
+      subst (λ (n : ℕ). Here f bytes n (get_or xs i b)) (sym is_at) c
