@@ -2,3 +2,4 @@ pub mod StreamLemmas
 pub mod VecSource
 pub mod Numbers
 pub mod Items
+pub mod Entries

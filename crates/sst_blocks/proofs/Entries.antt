@@ -1,0 +1,223 @@
+-- Entries as a format of items: what is read is spelled so, and what is spelled so is read.
+use Rattle.std.proofs.Common.{◌≡◌, ℕ, zero, suc, ◌+◌, ◌-◌, ◌^◌, ◌<◌, ◌≤◌, Bool, true, false, cond, ltb, List, [], ◌∷◌, ◌++◌, length, take, drop, map, Option, Some, None, refl, sym, ap, subst, ◌∙◌, append_assoc, arith, inl, inr, eqb, ◌⊎◌}
+use Rattle.std.specs.Prelude.{option_and_then, slice_index, slice_range, if◌then◌else◌}
+use Rattle.std.specs.List.{flat_map, AllByRecursion}
+use Rattle.std.specs.Option.{option_map}
+use Rattle.std.proofs.lemmas.Bool.{eqb-true, ltb-false, le-ltb}
+use Rattle.std.proofs.lemmas.List.{take_at, drop_at, drop-drop, take-append-drop, length-append, length-take, length-drop, drop_more, map-id}
+use Rattle.std.proofs.lemmas.Option.{option_and_then_some, some_pair_parts}
+use Rattle.sst_blocks.specs.declared.version.TableVersion.{TableVersion}
+use Rattle.sst_blocks.specs.declared.value_type.ValueType.{ValueType}
+use Rattle.sst_blocks.specs.declared.value_type.ValueType.TheVariants.{Value, Tombstone, WeakTombstone, Indirection}
+use Rattle.sst_blocks.specs.Entry.{Entry, entry}
+use Rattle.sst_blocks.specs.Kind.{tag_of, kind_of}
+use Rattle.sst_blocks.specs.Number.{le4, le8, num4, num8}
+use Rattle.sst_blocks.specs.Payload.{entry_head, spelled, payload, Fits, AreFit}
+use Rattle.sst_blocks.specs.Reading.{parts_at, entry_at, entries_at, entries_in}
+use Rattle.sst_blocks.specs.Strict.{IsStrict, IsStrictAfter, is_strict_after}
+use Rattle.sst_blocks.specs.Version.{key_width, key_limit, key_len_bytes, key_len_at}
+use Rattle.sst_blocks.proofs.Numbers.{IsBytes, IsBytes-drop, wide4, wide8, key_wide}
+use Rattle.sst_blocks.proofs.Items.{Format, IsFormat, Here, items_at, items_in, in_order, guard_some, items_in_take, items_in_again}
+
+-- ---- kinds and their tags
+
+-- which way a test went
+pick : {A : Type 0} (b : Bool) (x : A) (o : Option A) (y : A) → cond b (Some x) o ≡ Some y → ((b ≡ true) × (x ≡ y)) ⊎ ((b ≡ false) × (o ≡ Some y))
+pick true x o y e = inl (refl, cc)
+pick false x o y e = inr (refl, e)
+
+abbrev kind_above2 : ℕ → Option ValueType
+kind_above2 n = cond (eqb n 4) (Some Indirection) None
+
+abbrev kind_above1 : ℕ → Option ValueType
+kind_above1 n = cond (eqb n 2) (Some WeakTombstone) (kind_above2 n)
+
+abbrev kind_above0 : ℕ → Option ValueType
+kind_above0 n = cond (eqb n 1) (Some Tombstone) (kind_above1 n)
+
+pub tag_of_kind : (n : ℕ) (t : ValueType) → kind_of n ≡ Some t → tag_of t ≡ n
+tag_of_kind n t e =
+    elim (pick (eqb n 0) Value (kind_above0 n) t e) [
+      | inl p ↦ ap tag_of (sym p.1) ∙ sym (eqb-true _ _ p.0)
+      | inr p ↦ elim (pick (eqb n 1) Tombstone (kind_above1 n) t p.1) [
+        | inl p ↦ ap tag_of (sym p.1) ∙ sym (eqb-true _ _ p.0)
+        | inr p ↦ elim (pick (eqb n 2) WeakTombstone (kind_above2 n) t p.1) [
+          | inl p ↦ ap tag_of (sym p.1) ∙ sym (eqb-true _ _ p.0)
+          | inr p ↦ elim (pick (eqb n 4) Indirection None t p.1) [
+            | inl p ↦ ap tag_of (sym p.1) ∙ sym (eqb-true _ _ p.0)
+            | inr p ↦ absurd cc
+          ]
+        ]
+      ]
+    ]
+
+pub kind_of_tag : (t : ValueType) → kind_of (tag_of t) ≡ Some t
+kind_of_tag Value = refl
+kind_of_tag Tombstone = refl
+kind_of_tag WeakTombstone = refl
+kind_of_tag Indirection = refl
+
+-- ---- one entry
+
+-- the lengths, the key and the value
+abbrev tail_of : TableVersion → Entry → List ℕ
+tail_of v e = key_len_bytes v (length e.user_key) ++ (le4 (length e.value) ++ (e.user_key ++ e.value))
+
+flattened : (v : TableVersion) (e : Entry) (rest : List ℕ) → spelled v e ++ rest ≡ tag_of e.kind ∷ (le8 e.seqno ++ (tail_of v e ++ rest))
+unfolding spelled
+flattened v e rest = simp append_assoc
+
+record Took (v : TableVersion) (bytes : List ℕ) (t : ValueType) (n : ℕ) (e : Entry) (rest : List ℕ) : Type 0 where
+  pub parts : bytes ≡ tail_of v e ++ rest
+  pub kind : e.kind ≡ t
+  pub number : e.seqno ≡ n
+  pub key_len : length e.user_key < key_limit v
+  pub value_len : length e.value < 2 ^ 32
+
+joined : (v : TableVersion) (k m : ℕ) (K V R : List ℕ) → length K ≡ k → length V ≡ m → key_len_bytes v k ++ (le4 m ++ (K ++ (V ++ R))) ≡ (key_len_bytes v (length K) ++ (le4 (length V) ++ (K ++ V))) ++ R
+joined v k m K V R lk lv = rw (lk, lv) (simp append_assoc)
+
+parts_take : (v : TableVersion) (t : ValueType) (n : ℕ) (bytes : List ℕ) (e : Entry) (rest : List ℕ) → IsBytes bytes → key_width v + 4 ≤ length bytes → parts_at v t n bytes ≡ Some (e, rest) → Took v bytes t n e rest
+unfolding parts_at
+parts_take v t n bytes e rest fits long h =
+    let w = key_width v in
+    let k = key_len_at v bytes in
+    let b = drop w bytes in
+    let m = num4 b in
+    let r = drop 4 b in
+    let K = take k r in
+    let V = take m (drop k r) in
+    let R = drop m (drop k r) in
+    let g = guard_some (ltb (length r) (k + m)) (Some (entry K V n t, R)) (e, rest) h in
+    let room : k + m ≤ length r = ltb-false _ _ g.0 in
+    let p = some_pair_parts (entry K V n t) e R rest g.1 in
+    let lk : length K ≡ k = omega (arith, length-take k r) in
+    let lv : length V ≡ m = omega (arith, length-take m (drop k r), length-drop k r) in
+    let e0 : bytes ≡ key_len_bytes v k ++ b = (key_wide v).front bytes (omega arith) fits in
+    let e1 : b ≡ le4 m ++ r = wide4.front b (omega (arith, length-drop w bytes)) (IsBytes-drop w bytes fits) in
+    let e2 : r ≡ K ++ (V ++ R) = sym (take-append-drop k r) ∙ ap (λ (x : List ℕ). K ++ x) (sym (take-append-drop m (drop k r))) in
+    let flat : bytes ≡ key_len_bytes v k ++ (le4 m ++ (K ++ (V ++ R))) = e0 ∙ ap (λ (x : List ℕ). key_len_bytes v k ++ x) (e1 ∙ ap (λ (x : List ℕ). le4 m ++ x) e2) in
+    let whole : bytes ≡ tail_of v (entry K V n t) ++ R = flat ∙ joined v k m K V R lk lv in
+    let below_k : length K < key_limit v = rw lk ((key_wide v).below bytes fits) in
+    let below_v : length V < 2 ^ 32 = rw lv (wide4.below b (IsBytes-drop w bytes fits)) in
+    let made : Took v bytes t n (entry K V n t) R = record { parts = whole; kind = refl; number = refl; key_len = below_k; value_len = below_v } in
+    subst (λ (x : Entry). Took v bytes t n x rest) p.0 (subst (λ (x : List ℕ). Took v bytes t n (entry K V n t) x) p.1 made)
+
+parts_again : (v : TableVersion) (e : Entry) (rest : List ℕ) → Fits v e → parts_at v e.kind e.seqno (tail_of v e ++ rest) ≡ Some (e, rest)
+unfolding parts_at
+parts_again v e rest fits =
+    let w = key_width v in
+    let K = e.user_key in
+    let V = e.value in
+    let k = length K in
+    let m = length V in
+    let X = K ++ (V ++ rest) in
+    let flat : tail_of v e ++ rest ≡ key_len_bytes v k ++ (le4 m ++ X) = simp append_assoc in
+    let room : ltb (length X) (k + m) ≡ false = le-ltb _ _ (omega (arith, length-append K (V ++ rest), length-append V rest)) in
+    ap (parts_at v e.kind e.seqno) flat
+    ∙ rw ((key_wide v).again k (le4 m ++ X) fits.key_len, drop_at (key_len_bytes v k) (le4 m ++ X) w ((key_wide v).len k), wide4.again m X fits.value_len, drop_at (le4 m) X 4 (wide4.len m), room, take_at K (V ++ rest) k refl, drop_at K (V ++ rest) k refl, take_at V rest m refl, drop_at V rest m refl) refl
+
+pub entry_takes : (v : TableVersion) (bytes : List ℕ) (e : Entry) (rest : List ℕ) → IsBytes bytes → entry_at v bytes ≡ Some (e, rest) → (bytes ≡ spelled v e ++ rest) × Fits v e
+unfolding entry_at
+entry_takes v bytes e rest fits h =
+    let b = drop 1 bytes in
+    let f = λ (t : ValueType). parts_at v t (num8 b) (drop 8 b) in
+    let g = guard_some (ltb (length bytes) (13 + key_width v)) (option_and_then f (kind_of (slice_index bytes 0))) (e, rest) h in
+    let long : 13 + key_width v ≤ length bytes = ltb-false _ _ g.0 in
+    let fb : IsBytes b = IsBytes-drop 1 bytes fits in
+    option_and_then_some f (kind_of (slice_index bytes 0)) (e, rest) g.1
+    (λ t kind parts.
+      let m = parts_take v t (num8 b) (drop 8 b) e rest (IsBytes-drop 8 b fb) (omega (arith, length-drop 8 b, length-drop 1 bytes)) parts in
+      let e0 : bytes ≡ slice_index bytes 0 ∷ b = drop_more bytes 0 0 (omega arith) in
+      let e1 : b ≡ le8 (num8 b) ++ drop 8 b = wide8.front b (omega (arith, length-drop 1 bytes)) fb in
+      let tag : tag_of e.kind ≡ slice_index bytes 0 = ap tag_of m.kind ∙ tag_of_kind (slice_index bytes 0) t kind in
+      let flat : bytes ≡ tag_of e.kind ∷ (le8 e.seqno ++ (tail_of v e ++ rest)) = rw (tag, m.number) (e0 ∙ ap (λ (x : List ℕ). slice_index bytes 0 ∷ x) (e1 ∙ ap (λ (x : List ℕ). le8 (num8 b) ++ x) m.parts)) in
+      let number : e.seqno < 2 ^ 64 = rw m.number (wide8.below b fb) in
+      (flat ∙ sym (flattened v e rest), record { number = number; key_len = m.key_len; value_len = m.value_len }))
+
+pub entry_again : (v : TableVersion) (e : Entry) (rest : List ℕ) → Fits v e → entry_at v (spelled v e ++ rest) ≡ Some (e, rest)
+unfolding entry_at
+entry_again v e rest fits =
+    let n = e.seqno in
+    let k = length e.user_key in
+    let X = tail_of v e ++ rest in
+    let all = tag_of e.kind ∷ (le8 n ++ X) in
+    let long : ltb (length all) (13 + key_width v) ≡ false = le-ltb _ _ (omega (arith, length-append (le8 n) X, wide8.len n, length-append (tail_of v e) rest, length-append (key_len_bytes v k) (le4 (length e.value) ++ (e.user_key ++ e.value)), (key_wide v).len k, length-append (le4 (length e.value)) (e.user_key ++ e.value), wide4.len (length e.value))) in
+    ap (entry_at v) (flattened v e rest)
+    ∙ rw (long, kind_of_tag e.kind, wide8.again n X fits.number, drop_at (le8 n) X 8 (wide8.len n), parts_again v e rest fits) refl
+
+-- ---- payloads of entries
+
+abbrev pub entry_format : TableVersion → Format Entry
+entry_format v = record { spell = spelled v; read = entry_at v; key = λ e. e }
+
+pub entries_format : (v : TableVersion) → IsFormat (entry_format v) (Fits v)
+entries_format v = record { takes = entry_takes v; again = entry_again v }
+
+and_then_same : {A B : Type 0} (f g : A → Option B) → ((x : A) → f x ≡ g x) → (o : Option A) → option_and_then f o ≡ option_and_then g o
+and_then_same f g same None = refl
+and_then_same f g same (Some x) = same x
+
+entries_at_same : (v : TableVersion) (n : ℕ) (bytes : List ℕ) → entries_at v n bytes ≡ items_at (entry_at v) n bytes
+unfolding entries_at
+entries_at_same v zero [] = refl
+entries_at_same v zero (b ∷ bytes) = refl
+entries_at_same v (suc n) bytes =
+    and_then_same (λ (x : Entry × List ℕ). option_map (λ es. x.0 ∷ es) (entries_at v n x.1)) (λ (x : Entry × List ℕ). option_map (λ es. x.0 ∷ es) (items_at (entry_at v) n x.1))
+    (λ x. ap (option_map (λ es. x.0 ∷ es)) (entries_at_same v n x.1)) (entry_at v bytes)
+
+pub entries_in_same : (v : TableVersion) (bytes : List ℕ) → entries_in v bytes ≡ items_in (entry_format v) bytes
+unfolding entries_in
+entries_in_same v bytes =
+    let tested = λ (es : List Entry). if is_strict_after None es then Some es else None in
+    let ordered = λ (es : List Entry). if in_order (entry_format v) es then Some es else None in
+    let same : (es : List Entry) → tested es ≡ ordered es = λ es. ap (λ (xs : List Entry). if is_strict_after None xs then Some es else None) (sym (map-id es)) in
+    let o = entries_at v (num4 bytes) (drop 4 bytes) in
+    let read : option_and_then tested o ≡ option_and_then ordered (items_at (entry_at v) (num4 bytes) (drop 4 bytes)) =
+        and_then_same tested ordered same o ∙ ap (option_and_then ordered) (entries_at_same v (num4 bytes) (drop 4 bytes)) in
+    ap (cond (ltb (length bytes) 4) None) read
+
+-- what a payload spells is its list
+pub entries_spelled : (v : TableVersion) (bytes : List ℕ) (es : List Entry) → IsBytes bytes → entries_in v bytes ≡ Some es → (bytes ≡ payload v es) × AreFit v es × IsStrict es
+unfolding payload
+entries_spelled v bytes es fits h =
+    let t = items_in_take (entry_format v) (Fits v) (entries_format v) bytes es fits (sym (entries_in_same v bytes) ∙ h) in
+    (t.0, (t.1, t.2), subst (IsStrictAfter None) (map-id es) t.3)
+
+-- a strict list is what its payload spells
+pub entries_read : (v : TableVersion) (es : List Entry) → AreFit v es → IsStrict es → entries_in v (payload v es) ≡ Some es
+unfolding payload
+entries_read v es fit strict =
+    entries_in_same v (le4 (length es) ++ flat_map (spelled v) es)
+    ∙ items_in_again (entry_format v) (Fits v) (entries_format v) es fit.0 fit.1 (subst (IsStrictAfter None) (sym (map-id es)) strict)
+
+-- ---- the parts of an entry
+
+length-head : (v : TableVersion) (e : Entry) → length (entry_head v e) ≡ 13 + key_width v
+length-head v e =
+    omega (arith, length-append (le8 e.seqno) (key_len_bytes v (length e.user_key)), length-append (le8 e.seqno ++ key_len_bytes v (length e.user_key)) (le4 (length e.value)), wide8.len e.seqno, (key_wide v).len (length e.user_key), wide4.len (length e.value))
+
+pub length-spelled : (v : TableVersion) (e : Entry) → length (spelled v e) ≡ 13 + key_width v + length e.user_key + length e.value
+unfolding spelled
+length-spelled v e = omega (arith, length-head v e, length-append (entry_head v e ++ e.user_key) e.value, length-append (entry_head v e) e.user_key)
+
+key_tail : (v : TableVersion) (bytes : List ℕ) (at : ℕ) (e : Entry) → (h : Here (entry_format v) bytes at e) → drop (at + (13 + key_width v)) bytes ≡ e.user_key ++ (e.value ++ h.rest)
+unfolding spelled
+key_tail v bytes at e h =
+    let n = 13 + key_width v in
+    let X = e.user_key ++ (e.value ++ h.rest) in
+    let flat : spelled v e ++ h.rest ≡ entry_head v e ++ X = append_assoc (entry_head v e ++ e.user_key) e.value h.rest ∙ append_assoc (entry_head v e) e.user_key (e.value ++ h.rest) in
+    sym (drop-drop n at bytes) ∙ ap (drop n) (h.parts ∙ flat) ∙ drop_at (entry_head v e) X n (length-head v e)
+
+-- the key and the value are parts of the bytes
+pub key_part : (v : TableVersion) (bytes : List ℕ) (at from to : ℕ) (e : Entry) → Here (entry_format v) bytes at e → from ≡ at + (13 + key_width v) → to ≡ from + length e.user_key → slice_range bytes from to ≡ e.user_key
+key_part v bytes at from to e h begins ends =
+    let k : to - from ≡ length e.user_key = omega arith in
+    rw k (ap (λ (n : ℕ). take (length e.user_key) (drop n bytes)) begins ∙ ap (take (length e.user_key)) (key_tail v bytes at e h) ∙ take_at e.user_key (e.value ++ h.rest) (length e.user_key) refl)
+
+pub value_part : (v : TableVersion) (bytes : List ℕ) (at from to : ℕ) (e : Entry) → Here (entry_format v) bytes at e → from ≡ at + (13 + key_width v) + length e.user_key → to ≡ from + length e.value → slice_range bytes from to ≡ e.value
+value_part v bytes at from to e h begins ends =
+    let n = length e.user_key in
+    let k : to - from ≡ length e.value = omega arith in
+    let tail : drop from bytes ≡ e.value ++ h.rest = ap (λ (m : ℕ). drop m bytes) begins ∙ sym (drop-drop n (at + (13 + key_width v)) bytes) ∙ ap (drop n) (key_tail v bytes at e h) ∙ drop_at e.user_key (e.value ++ h.rest) n refl in
+    rw k (ap (take (length e.value)) tail ∙ take_at e.value h.rest (length e.value) refl)
