@@ -1,11 +1,11 @@
 -- Entries as a format of items: what is read is spelled so, and what is spelled so is read.
-use Rattle.std.proofs.Common.{◌≡◌, ℕ, zero, suc, ◌+◌, ◌-◌, ◌^◌, ◌<◌, ◌≤◌, Bool, true, false, cond, ltb, List, [], ◌∷◌, ◌++◌, length, take, drop, map, Option, Some, None, refl, sym, ap, subst, ◌∙◌, append_assoc, arith, inl, inr, eqb, ◌⊎◌}
-use Rattle.std.specs.Prelude.{option_and_then, slice_index, slice_range, if◌then◌else◌}
-use Rattle.std.specs.List.{flat_map, AllByRecursion}
+use Rattle.std.proofs.Common.{◌≡◌, ℕ, zero, suc, ◌+◌, ◌-◌, ◌^◌, ◌<◌, ◌≤◌, Bool, true, false, cond, ltb, List, [], ◌∷◌, ◌++◌, length, get_or, take, drop, map, Option, Some, None, refl, sym, ap, subst, ◌∙◌, append_assoc, arith, inl, inr, eqb, ◌⊎◌}
+use Rattle.std.specs.Prelude.{option_and_then, unwrap_or, slice_index, slice_range, if◌then◌else◌}
+use Rattle.std.specs.List.{flat_map, AllByRecursion, slice_get}
 use Rattle.std.specs.Option.{option_map}
 use Rattle.std.proofs.lemmas.Bool.{eqb-true, ltb-false, le-ltb}
 use Rattle.std.proofs.lemmas.List.{take_at, drop_at, drop-drop, take-append-drop, length-append, length-take, length-drop, drop_more, map-id}
-use Rattle.std.proofs.lemmas.Option.{option_and_then_some, some_pair_parts}
+use Rattle.std.proofs.lemmas.Option.{option_and_then_some, some_pair_parts, slice_get-get_or}
 use Rattle.sst_blocks.specs.declared.version.TableVersion.{TableVersion}
 use Rattle.sst_blocks.specs.declared.value_type.ValueType.{ValueType}
 use Rattle.sst_blocks.specs.declared.value_type.ValueType.TheVariants.{Value, Tombstone, WeakTombstone, Indirection}
@@ -14,10 +14,11 @@ use Rattle.sst_blocks.specs.Kind.{tag_of, kind_of}
 use Rattle.sst_blocks.specs.Number.{le4, le8, num4, num8}
 use Rattle.sst_blocks.specs.Payload.{entry_head, spelled, payload, Fits, AreFit}
 use Rattle.sst_blocks.specs.Reading.{parts_at, entry_at, entries_at, entries_in}
+use Rattle.sst_blocks.specs.Starts.{starts_of, EntriesAt}
 use Rattle.sst_blocks.specs.Strict.{IsStrict, IsStrictAfter, is_strict_after}
 use Rattle.sst_blocks.specs.Version.{key_width, key_limit, key_len_bytes, key_len_at}
 use Rattle.sst_blocks.proofs.Numbers.{IsBytes, IsBytes-drop, wide4, wide8, key_wide}
-use Rattle.sst_blocks.proofs.Items.{Format, IsFormat, Here, items_at, items_in, in_order, guard_some, items_in_take, items_in_again}
+use Rattle.sst_blocks.proofs.Items.{Format, IsFormat, Advances, Here, items_at, items_in, in_order, guard_some, items_in_take, items_in_again, items_strict, item_holds, length-starts}
 
 -- ---- kinds and their tags
 
@@ -201,23 +202,98 @@ pub length-spelled : (v : TableVersion) (e : Entry) → length (spelled v e) ≡
 unfolding spelled
 length-spelled v e = omega (arith, length-head v e, length-append (entry_head v e ++ e.user_key) e.value, length-append (entry_head v e) e.user_key)
 
-key_tail : (v : TableVersion) (bytes : List ℕ) (at : ℕ) (e : Entry) → (h : Here (entry_format v) bytes at e) → drop (at + (13 + key_width v)) bytes ≡ e.user_key ++ (e.value ++ h.rest)
-unfolding spelled
-key_tail v bytes at e h =
-    let n = 13 + key_width v in
-    let X = e.user_key ++ (e.value ++ h.rest) in
-    let flat : spelled v e ++ h.rest ≡ entry_head v e ++ X = append_assoc (entry_head v e ++ e.user_key) e.value h.rest ∙ append_assoc (entry_head v e) e.user_key (e.value ++ h.rest) in
-    sym (drop-drop n at bytes) ∙ ap (drop n) (h.parts ∙ flat) ∙ drop_at (entry_head v e) X n (length-head v e)
+-- the key and the value are parts of the bytes that an entry is read from, and nothing but the entry is read
+record Lies (v : TableVersion) (bytes : List ℕ) (e : Entry) (rest : List ℕ) : Type 0 where
+  pub key : take (length e.user_key) (drop (13 + key_width v) bytes) ≡ e.user_key
+  pub value : take (length e.value) (drop (13 + key_width v + length e.user_key) bytes) ≡ e.value
+  pub rest_is : rest ≡ drop (13 + key_width v + length e.user_key + length e.value) bytes
+  pub within : 13 + key_width v + length e.user_key + length e.value ≤ length bytes
 
--- the key and the value are parts of the bytes
-pub key_part : (v : TableVersion) (bytes : List ℕ) (at from to : ℕ) (e : Entry) → Here (entry_format v) bytes at e → from ≡ at + (13 + key_width v) → to ≡ from + length e.user_key → slice_range bytes from to ≡ e.user_key
-key_part v bytes at from to e h begins ends =
-    let k : to - from ≡ length e.user_key = omega arith in
-    rw k (ap (λ (n : ℕ). take (length e.user_key) (drop n bytes)) begins ∙ ap (take (length e.user_key)) (key_tail v bytes at e h) ∙ take_at e.user_key (e.value ++ h.rest) (length e.user_key) refl)
+entry_lies : (v : TableVersion) (bytes : List ℕ) (e : Entry) (rest : List ℕ) → entry_at v bytes ≡ Some (e, rest) → Lies v bytes e rest
+unfolding entry_at parts_at
+entry_lies v bytes e rest h =
+    let w = key_width v in
+    let b1 = drop 1 bytes in
+    let b = drop 8 b1 in
+    let f = λ (t : ValueType). parts_at v t (num8 b1) b in
+    let g = guard_some (ltb (length bytes) (13 + w)) (option_and_then f (kind_of (slice_index bytes 0))) (e, rest) h in
+    option_and_then_some f (kind_of (slice_index bytes 0)) (e, rest) g.1
+    (λ t kind parts.
+      let k = key_len_at v b in
+      let m = num4 (drop w b) in
+      let r = drop 4 (drop w b) in
+      let K = take k r in
+      let V = take m (drop k r) in
+      let R = drop m (drop k r) in
+      let made = guard_some (ltb (length r) (k + m)) (Some (entry K V (num8 b1) t, R)) (e, rest) parts in
+      let p = some_pair_parts (entry K V (num8 b1) t) e R rest made.1 in
+      let room : k + m ≤ length r = ltb-false _ _ made.0 in
+      let long : 13 + w ≤ length bytes = ltb-false _ _ g.0 in
+      let lk : length K ≡ k = omega (arith, length-take k r) in
+      let lv : length V ≡ m = omega (arith, length-take m (drop k r), length-drop k r) in
+      let at : r ≡ drop (13 + w) bytes = drop-drop 4 w b ∙ drop-drop (w + 4) 8 b1 ∙ drop-drop (8 + (w + 4)) 1 bytes ∙ ap (λ (n : ℕ). drop n bytes) (omega arith) in
+      let lies : Lies v bytes (entry K V (num8 b1) t) R = record {
+        key = ap (λ (n : ℕ). take n (drop (13 + w) bytes)) lk ∙ ap (take k) (sym at);
+        value =
+            let tail : drop (13 + w + length K) bytes ≡ drop k r = ap (λ (n : ℕ). drop (13 + w + n) bytes) lk ∙ sym (drop-drop k (13 + w) bytes) ∙ ap (drop k) (sym at) in
+            ap (λ (n : ℕ). take n (drop (13 + w + length K) bytes)) lv ∙ ap (take m) tail;
+        rest_is =
+            let n : k + m ≡ length K + length V = omega (arith, lk, lv) in
+            drop-drop m k r ∙ ap (drop (k + m)) at ∙ drop-drop (k + m) (13 + w) bytes ∙ ap (λ (n : ℕ). drop n bytes) (omega (arith, n));
+        within = omega (arith, lk, lv, ap length at, length-drop (13 + w) bytes);
+      } in
+      subst (λ (x : Entry). Lies v bytes x rest) p.0 (subst (λ (x : List ℕ). Lies v bytes (entry K V (num8 b1) t) x) p.1 lies))
 
-pub value_part : (v : TableVersion) (bytes : List ℕ) (at from to : ℕ) (e : Entry) → Here (entry_format v) bytes at e → from ≡ at + (13 + key_width v) + length e.user_key → to ≡ from + length e.value → slice_range bytes from to ≡ e.value
-value_part v bytes at from to e h begins ends =
-    let n = length e.user_key in
-    let k : to - from ≡ length e.value = omega arith in
-    let tail : drop from bytes ≡ e.value ++ h.rest = ap (λ (m : ℕ). drop m bytes) begins ∙ sym (drop-drop n (at + (13 + key_width v)) bytes) ∙ ap (drop n) (key_tail v bytes at e h) ∙ drop_at e.user_key (e.value ++ h.rest) n refl in
-    rw k (ap (take (length e.value)) tail ∙ take_at e.value h.rest (length e.value) refl)
+pub entries_advance : (v : TableVersion) → Advances (entry_format v)
+entries_advance v bytes e rest h =
+    let l = entry_lies v bytes e rest h in
+    (l.rest_is ∙ ap (λ (n : ℕ). drop n bytes) (sym (length-spelled v e)), omega (arith, l.within, length-spelled v e))
+
+-- ---- an entry of a block
+
+-- the payload's places, and where an entry lies
+pub record Stands (v : TableVersion) (bytes : List ℕ) (at : ℕ) (e : Entry) : Type 0 where
+  pub rest : List ℕ
+  pub found : entry_at v (drop at bytes) ≡ Some (e, rest)
+  pub within : at + (13 + key_width v) + length e.user_key + length e.value ≤ length bytes
+  pub key : slice_range bytes (at + (13 + key_width v)) (at + (13 + key_width v) + length e.user_key) ≡ e.user_key
+  pub value : slice_range bytes (at + (13 + key_width v) + length e.user_key) (at + (13 + key_width v) + length e.user_key + length e.value) ≡ e.value
+
+stands : (v : TableVersion) (bytes : List ℕ) (at : ℕ) (e : Entry) → Here (entry_format v) bytes at e → Stands v bytes at e
+stands v bytes at e h =
+    let w = 13 + key_width v in
+    let k = length e.user_key in
+    let m = length e.value in
+    let l = entry_lies v (drop at bytes) e h.rest h.found in
+    let nk : at + w + k - (at + w) ≡ k = omega arith in
+    let nm : at + w + k + m - (at + w + k) ≡ m = omega arith in
+    record {
+      rest = h.rest;
+      found = h.found;
+      within = omega (arith, h.within, length-spelled v e);
+      key = ap (λ (n : ℕ). take n (drop (at + w) bytes)) nk ∙ ap (take k) (sym (drop-drop w at bytes)) ∙ l.key;
+      value = ap (λ (n : ℕ). take n (drop (at + w + k) bytes)) nm ∙ ap (take m) (ap (λ (n : ℕ). drop n bytes) (omega arith) ∙ sym (drop-drop (w + k) at bytes)) ∙ l.value;
+    }
+
+-- what a block's fields say of its list
+pub block_spells : (v : TableVersion) (bytes starts : List ℕ) (es : List Entry) → EntriesAt v bytes starts → unwrap_or (entries_in v bytes) [] ≡ es → (entries_in v bytes ≡ Some es) × (starts ≡ starts_of (spelled v) 4 es)
+block_spells v bytes starts es block view =
+    let same : block.items ≡ es = sym (ap (λ (o : Option (List Entry)). unwrap_or o []) block.are) ∙ view in
+    (block.are ∙ ap (λ xs. Some xs) same, block.places ∙ ap (starts_of (spelled v) 4) same)
+
+pub block_len : (v : TableVersion) (bytes starts : List ℕ) (es : List Entry) → EntriesAt v bytes starts → unwrap_or (entries_in v bytes) [] ≡ es → length starts ≡ length es
+block_len v bytes starts es block view = let b = block_spells v bytes starts es block view in ap length b.1 ∙ length-starts (spelled v) 4 es
+
+pub block_strict : (v : TableVersion) (bytes starts : List ℕ) (es : List Entry) → EntriesAt v bytes starts → unwrap_or (entries_in v bytes) [] ≡ es → IsStrict es
+block_strict v bytes starts es block view =
+    let b = block_spells v bytes starts es block view in
+    subst (IsStrictAfter None) (map-id es) (items_strict (entry_format v) (entries_advance v) bytes es (sym (entries_in_same v bytes) ∙ b.0))
+
+-- at a start stands the entry of its place
+pub block_holds : (v : TableVersion) (bytes starts : List ℕ) (es : List Entry) (i at : ℕ) → EntriesAt v bytes starts → unwrap_or (entries_in v bytes) [] ≡ es → i < length es → at ≡ get_or starts i at
+    → (e : Entry) × (slice_get es i ≡ Some e) × Stands v bytes at e
+block_holds v bytes starts es i at block view lt is_at =
+    let b = block_spells v bytes starts es block view in
+    let blank = entry [] [] 0 Value in
+    let h = item_holds (entry_format v) (entries_advance v) bytes starts es i at blank (sym (entries_in_same v bytes) ∙ b.0) b.1 lt is_at in
+    (get_or es i blank, slice_get-get_or es i blank lt, stands v bytes at (get_or es i blank) h)

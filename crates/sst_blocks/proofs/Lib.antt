@@ -3,3 +3,4 @@ pub mod VecSource
 pub mod Numbers
 pub mod Items
 pub mod Entries
+pub mod SpanLemmas

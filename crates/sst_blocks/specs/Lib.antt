@@ -19,3 +19,4 @@ pub mod Span
 pub mod Starts
 pub mod Encoding
 pub mod Sections
+pub mod Seen

@@ -11,6 +11,7 @@ mod error;
 mod handle;
 mod index_block;
 mod key;
+mod number;
 mod section;
 mod slice;
 mod stream;
