@@ -4,7 +4,7 @@ use Rattle.std.specs.Prelude.{option_and_then, unwrap_or, slice_index, slice_ran
 use Rattle.std.specs.List.{flat_map, AllByRecursion, slice_get}
 use Rattle.std.specs.Option.{option_map}
 use Rattle.std.proofs.lemmas.Bool.{eqb-true, ltb-false, le-ltb}
-use Rattle.std.proofs.lemmas.List.{take_at, drop_at, drop-drop, take-append-drop, length-append, length-take, length-drop, drop_more, map-id}
+use Rattle.std.proofs.lemmas.List.{take_at, drop_at, drop-drop, take-append-drop, length-append, length-take, length-drop, drop_more, map-id, take_rest}
 use Rattle.std.proofs.lemmas.Option.{option_and_then_some, some_pair_parts, slice_get-get_or}
 use Rattle.sst_blocks.specs.declared.version.TableVersion.{TableVersion}
 use Rattle.sst_blocks.specs.declared.value_type.ValueType.{ValueType}
@@ -297,3 +297,6 @@ block_holds v bytes starts es i at block view lt is_at =
     let blank = entry [] [] 0 Value in
     let h = item_holds (entry_format v) (entries_advance v) bytes starts es i at blank (sym (entries_in_same v bytes) ∙ b.0) b.1 lt is_at in
     (get_or es i blank, slice_get-get_or es i blank lt, stands v bytes at (get_or es i blank) h)
+
+pub whole_tail : (p bytes : List ℕ) (at : ℕ) → p ≡ bytes → take (length p - at) (drop at p) ≡ drop at bytes
+whole_tail p bytes at e = take_rest p at ∙ ap (drop at) e

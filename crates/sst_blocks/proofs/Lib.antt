@@ -4,3 +4,4 @@ pub mod Numbers
 pub mod Items
 pub mod Entries
 pub mod SpanLemmas
+pub mod Faults

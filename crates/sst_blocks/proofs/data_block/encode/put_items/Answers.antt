@@ -1,0 +1,23 @@
+use Rattle.std.proofs.Common.{◌≡◌, ◌+◌, List, ◌++◌, ◌∷◌, [], ◌≤◌, take, length, rules, arith, ap, sym, subst, ◌∙◌}
+use Rattle.std.proofs.lemmas.List.{take_all, take_more}
+use Rattle.std.specs.List.{flat_map, AllByRecursion}
+use Rattle.sst_blocks.specs.Entry.{Entry}
+use Rattle.sst_blocks.specs.Number.{le4}
+use Rattle.sst_blocks.specs.Payload.{payload, spelled, Fits}
+use Rattle.sst_blocks.specs.declared.version.TableVersion.TheVariants.{V4}
+use Rattle.sst_blocks.proofs.Faults.{Short, short_at, all_push, front_again}
+use Rattle.sst_blocks.proofs.data_block.encode.put_items.Goals as goal
+
+pub put_entry-requires-clause-key : goal.put_entry-requires-clause-key
+put_entry-requires-clause-key g c =
+    let s = short_at c.args.items.now c.loop-item.item-index c.item-item.result c.requires.short c.loop-item-test.true in
+    rw c.item-item.is s.key
+
+pub put_entry-requires-clause-value : goal.put_entry-requires-clause-value
+put_entry-requires-clause-value g c =
+    let s = short_at c.args.items.now c.loop-item.item-index c.item-item.result c.requires.short c.loop-item-test.true in
+    rw c.item-item.is s.value
+
+pub returns-in_err-put_entry-clause-front : goal.returns-in_err-put_entry-clause-front
+returns-in_err-put_entry-clause-front g c =
+    front_again _ _ _ _ _ _ (search rules) (search rules) c.loop-item.invariant.written c.put_entry.ensures.front
