@@ -48,7 +48,7 @@ pub no_fault_left : (es : List Entry) (i : ℕ) → length_fault es ≡ length_f
 no_fault_left es i fine le = sym (fine ∙ ap length_fault (drop_all i es le))
 
 -- without a fault no entry is too long
-record Short (e : Entry) : Type 0 where
+pub record Short (e : Entry) : Type 0 where
   pub key : length e.user_key ≤ 1048576
   pub value : length e.value < 2 ^ 32
 

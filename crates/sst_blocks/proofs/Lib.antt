@@ -5,3 +5,4 @@ pub mod Items
 pub mod Entries
 pub mod SpanLemmas
 pub mod Faults
+pub mod Fronts

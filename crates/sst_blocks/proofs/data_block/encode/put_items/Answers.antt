@@ -21,3 +21,15 @@ put_entry-requires-clause-value g c =
 pub returns-in_err-put_entry-clause-front : goal.returns-in_err-put_entry-clause-front
 returns-in_err-put_entry-clause-front g c =
     front_again _ _ _ _ _ _ (search rules) (search rules) c.loop-item.invariant.written c.put_entry.ensures.front
+
+pub returns-clause-ok : goal.returns-clause-ok
+unfolding payload
+returns-clause-ok g c =
+    let le : length c.args.items.now ≤ c.loop-item.item-index = omega arith in
+    c.loop-item.invariant.written
+    ∙ ap (λ (es : List Entry). c.args.buf.now.items ++ (le4 (length c.args.items.now) ++ flat_map (spelled V4) es)) (take_all c.loop-item.item-index c.args.items.now le)
+
+pub returns-clause-fit : goal.returns-clause-fit
+returns-clause-fit g c =
+    let le : length c.args.items.now ≤ c.loop-item.item-index = omega arith in
+    (c.requires.few, subst (AllByRecursion (Fits V4)) (take_all c.loop-item.item-index c.args.items.now le) c.loop-item.invariant.fit)

@@ -1,0 +1,25 @@
+-- The front of a list that passes a test, found by binary search.
+use Rattle.std.proofs.Common.{◌≡◌, ℕ, zero, suc, ◌+◌, ◌<◌, ◌≤◌, Bool, true, false, cond, List, [], ◌∷◌, length, get_or, Some, refl, sym, ap, ◌∙◌, arith}
+use Rattle.std.specs.List.{slice_get}
+use Rattle.std.specs.List.Sorted.{IsPartitionedBy}
+use Rattle.std.proofs.lemmas.Option.{slice_get_within, get_or_from_slice_get}
+use Rattle.sst_blocks.specs.Span.{front_length}
+
+module _ {X : Type 0} (p : X → Bool) where
+  pub passes_below : (xs : List X) (n : ℕ) (x : X) → IsPartitionedBy p xs → slice_get xs n ≡ Some x → p x ≡ true → (i : ℕ) (y : X) → i < n + 1 → slice_get xs i ≡ Some y → p y ≡ true
+  passes_below xs n x parted here passed i y le there =
+      let at_n : p (get_or xs n x) ≡ true = ap p (get_or_from_slice_get xs n x x here) ∙ passed in
+      ap p (sym (get_or_from_slice_get xs i y x there)) ∙ parted i n x (omega (arith, le)) (slice_get_within xs n x here) at_n
+
+  fails_at : (xs : List X) (x : X) → p x ≡ false → 0 ≡ front_length p (x ∷ xs)
+  fails_at xs x failed = rw failed refl
+
+  passes_at : (xs : List X) (x : X) (n : ℕ) → p x ≡ true → n ≡ front_length p xs → suc n ≡ front_length p (x ∷ xs)
+  passes_at xs x n passed more = let one : suc n ≡ 1 + n = omega arith in rw passed (one ∙ ap (λ (k : ℕ). 1 + k) more)
+
+  -- what is below a place passes, and what stands there does not
+  pub front_found : (xs : List X) (n : ℕ) → n ≤ length xs → ((i : ℕ) (x : X) → i < n → slice_get xs i ≡ Some x → p x ≡ true) → ((x : X) → slice_get xs n ≡ Some x → p x ≡ false) → n ≡ front_length p xs
+  front_found [] n le pass fail = omega (arith, le)
+  front_found (x ∷ xs) zero le pass fail = fails_at xs x (fail x refl)
+  front_found (x ∷ xs) (suc n) le pass fail =
+      passes_at xs x n (pass 0 x (omega arith) refl) (front_found xs n (omega (arith, le)) (λ i y lt. pass (suc i) y (omega (arith, lt))) fail)
