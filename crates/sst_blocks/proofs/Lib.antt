@@ -6,3 +6,5 @@ pub mod Entries
 pub mod SpanLemmas
 pub mod Faults
 pub mod Fronts
+pub mod Points
+pub mod Lengths

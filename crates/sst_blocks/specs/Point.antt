@@ -1,9 +1,9 @@
 -- A point read, and the entries within bounds.
-use Rattle.std.specs.Prelude.{◌≡◌, ℕ, Bool, true, false, ◌&&◌, not, nat_lt, List, Option, Some, None, find, filter}
+use Rattle.std.specs.Prelude.{ℕ, Bool, ◌&&◌, nat_lt, List, Option, find}
 use Rattle.std.specs.Prelude.{[]}
 use Rattle.sst_blocks.specs.declared.value_type.ValueType.TheVariants.{Value}
 use Rattle.sst_blocks.specs.Entry.{Entry, entry}
-use Rattle.sst_blocks.specs.Key.{same_key, key_lt}
+use Rattle.sst_blocks.specs.Key.{same_key}
 
 -- the entry has the key, and a number below the bound
 abbrev pub is_hit : List ℕ → ℕ → Entry → Bool

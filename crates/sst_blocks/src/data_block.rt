@@ -9,12 +9,12 @@ ghost use Rattle.sst_blocks.specs.Entry.{Entry};
 ghost use Rattle.sst_blocks.specs.Error.{Faults, is_memory};
 ghost use Rattle.sst_blocks.specs.Key.{key_lt};
 ghost use Rattle.sst_blocks.specs.Payload.{payload, AreFit};
-ghost use Rattle.sst_blocks.specs.Point.{bound_of, point};
+ghost use Rattle.sst_blocks.specs.Point.{point};
 ghost use Rattle.sst_blocks.specs.Reading.{entries_in};
 ghost use Rattle.sst_blocks.specs.Seen.{seen};
 ghost use Rattle.sst_blocks.specs.Span.{front_length};
 ghost use Rattle.sst_blocks.specs.Starts.{EntriesAt, HoldsEntries};
-ghost use Rattle.sst_blocks.specs.Strict.{IsStrict, is_before};
+ghost use Rattle.sst_blocks.specs.Strict.{IsStrict};
 ghost use Rattle.sst_blocks.specs.declared.error.Error.TheVariants.{OutOfMemory, InvalidBlock};
 ghost use Rattle.sst_blocks.specs.declared.version.TableVersion.TheVariants.{V4};
 
@@ -51,7 +51,11 @@ impl<A: Allocator> Model for DataBlock<A> {
 
 /// Where the entries of a payload begin. Refused [`Error::InvalidBlock`] where the payload does not spell a strict list of
 /// entries, and [`Error::OutOfMemory`].
-pub(crate) fn entry_starts<A: Allocator>(alloc: A, version: TableVersion, payload: &[u8]) -> Result<Vec<u32, A>, Error>
+pub(crate) fn entry_starts<A: Allocator>(
+    alloc: A,
+    version: TableVersion,
+    payload: &[u8],
+) -> Result<Vec<u32, A>, Error>
     requires { length payload.now < 2 ^ 32 }
     ensures found { IfOk result (λ starts. EntriesAt version payload.now starts.items) }
     ensures fault { IfErr result (λ e. is_memory e ≡ false → (e ≡ InvalidBlock) × (entries_in version payload.now ≡ None)) }
@@ -96,14 +100,6 @@ pub fn data_block_bound<A: Allocator>(items: &[InternalValue<A>]) -> u64
             .saturating_add(item.value.len() as u64);
     }
     bound
-}
-
-/// Whether an entry comes after a key and a number, as the order of a block has them.
-#[inline]
-fn is_past(key: &[u8], seqno: SeqNo, entry: &EntryRef<'_>) -> bool
-    ensures { result ≡ is_before (bound_of key.now seqno) (seen entry.now) }
-{
-    key.cmp(entry.key).then(entry.seqno.cmp(&seqno)).is_lt()
 }
 
 impl<A: Allocator> DataBlock<A> {
@@ -197,18 +193,14 @@ impl<A: Allocator> DataBlock<A> {
         let end = value_at + entry.value.len();
         let key = self.payload.slice(key_at, value_at)?;
         let value = self.payload.slice(value_at, end)?;
-        Ok(InternalValue::from_components(
-            key,
-            value,
-            entry.seqno,
-            entry.kind,
-        ))
+        Ok(InternalValue::from_components(key, value, entry.seqno, entry.kind))
     }
 
     /// How many entries at the front pass a test, by binary search: no entry passes after one that does not.
     fn front_len<P: Fn(&EntryRef<'_>) -> bool>(&self, passes: P) -> usize
         requires { P.IsAlwaysCallable passes }
         ensures within { result ≤ length self.now }
+        ensures strict { IsStrict self.now }
         ensures value { (p : Entry → Bool) → ((x : _) (r : _) → P.post passes x r → r ≡ p (seen x.now)) → IsPartitionedBy p self.now → result ≡ front_length p self.now }
     {
         let mut lo = 0;
@@ -228,14 +220,14 @@ impl<A: Allocator> DataBlock<A> {
     pub fn first_at_least(&self, key: &[u8]) -> usize
         ensures { result ≡ front_length (λ e. key_lt e.user_key key.now) self.now }
     {
-        self.front_len(|entry| entry.key < key)
+        self.front_len(|entry| entry.is_below(key))
     }
 
     /// How many entries do not stand above a key: the place of the first entry of a greater key.
     pub fn first_above(&self, key: &[u8]) -> usize
         ensures { result ≡ front_length (λ e. not (key_lt key.now e.user_key)) self.now }
     {
-        self.front_len(|entry| entry.key <= key)
+        self.front_len(|entry| !entry.is_above(key))
     }
 
     /// The first entry of a key numbered below `seqno`. Refused [`Error::OutOfMemory`] alone.
@@ -243,7 +235,7 @@ impl<A: Allocator> DataBlock<A> {
         ensures found { IfOk result (λ found. found ≡ point self.now key.now seqno) }
         ensures err { IfErr result (λ e. e ≡ OutOfMemory) }
     {
-        let i = self.front_len(|entry| !is_past(key, seqno, entry));
+        let i = self.front_len(move |entry| entry.is_up_to(key, seqno));
         if i == self.len() || self.entry_ref(i).key != key {
             return Ok(None);
         }

@@ -45,7 +45,10 @@ fn put_entry<A: Allocator>(buf: &mut Vec<u8, A>, item: &InternalValue<A>) -> Res
 }
 
 /// Writes the count and then each entry. What `buf` held stays at its front.
-pub(crate) fn put_items<A: Allocator>(buf: &mut Vec<u8, A>, items: &[InternalValue<A>]) -> Result<(), Error>
+pub(crate) fn put_items<A: Allocator>(
+    buf: &mut Vec<u8, A>,
+    items: &[InternalValue<A>],
+) -> Result<(), Error>
     requires short { length_fault items.now ≡ None }
     requires few { length items.now < 2 ^ 32 }
     ensures ok { OnOk result (buf.new.items ≡ buf.old.items ++ payload V4 items.now) }

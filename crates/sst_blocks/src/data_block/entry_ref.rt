@@ -1,9 +1,11 @@
 //! Reading one entry of a payload.
-ghost use Rattle.std.specs.Prelude.{◌≡◌, ◌+◌, ◌≤◌, length};
+ghost use Rattle.std.specs.Prelude.{◌≡◌, ◌+◌, ◌≤◌, length, not};
 ghost use Rattle.std.specs.Option.{option_map};
+ghost use Rattle.sst_blocks.specs.Key.{key_lt};
+ghost use Rattle.sst_blocks.specs.Point.{bound_of};
 ghost use Rattle.sst_blocks.specs.Reading.{parts_at, entry_at};
 ghost use Rattle.sst_blocks.specs.Seen.{seen};
-ghost use Rattle.sst_blocks.specs.Strict.{may_follow};
+ghost use Rattle.sst_blocks.specs.Strict.{is_before, may_follow};
 ghost use Rattle.sst_blocks.specs.Version.{key_width};
 
 use crate::number::{key_len_at, key_width, u32_at, u64_at};
@@ -28,7 +30,12 @@ pub(crate) fn head_len(version: TableVersion) -> usize
 
 #[inline]
 #[tactic(auto, unfolding(crate::specs::Reading::parts_at))]
-fn read_parts(version: TableVersion, kind: ValueType, seqno: SeqNo, bytes: &[u8]) -> Option<(EntryRef<'_>, &[u8])>
+fn read_parts(
+    version: TableVersion,
+    kind: ValueType,
+    seqno: SeqNo,
+    bytes: &[u8],
+) -> Option<(EntryRef<'_>, &[u8])>
     requires { key_width version + 4 ≤ length bytes.now }
     ensures { option_map (λ x. (seen x.0, x.1.now)) result ≡ parts_at version kind seqno bytes.now }
 {
@@ -80,5 +87,29 @@ impl EntryRef<'_> {
                 .then(self.seqno.cmp(&last.seqno))
                 .is_lt(),
         }
+    }
+
+    /// Whether the entry's key is less than another.
+    #[inline]
+    pub(crate) fn is_below(&self, key: &[u8]) -> bool
+        ensures { result ≡ key_lt (seen self.now).user_key key.now }
+    {
+        self.key.cmp(key).is_lt()
+    }
+
+    /// Whether the entry's key is greater than another.
+    #[inline]
+    pub(crate) fn is_above(&self, key: &[u8]) -> bool
+        ensures { result ≡ key_lt key.now (seen self.now).user_key }
+    {
+        key.cmp(self.key).is_lt()
+    }
+
+    /// Whether the entry does not come after a key and a number in the order of a block.
+    #[inline]
+    pub(crate) fn is_up_to(&self, key: &[u8], seqno: SeqNo) -> bool
+        ensures { result ≡ not (is_before (bound_of key.now seqno) (seen self.now)) }
+    {
+        !key.cmp(self.key).then(self.seqno.cmp(&seqno)).is_lt()
     }
 }

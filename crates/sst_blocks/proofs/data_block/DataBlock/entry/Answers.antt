@@ -1,7 +1,7 @@
-use Rattle.std.proofs.Common.{◌≡◌, Some, arith, ap, ◌∙◌, sym, length, refl}
-use Rattle.sst_blocks.specs.Entry.{Entry, entry}
+use Rattle.std.proofs.Common.{◌≡◌, Some, arith, ap, ◌∙◌, sym, refl}
+use Rattle.sst_blocks.specs.Entry.{entry}
 use Rattle.sst_blocks.specs.Seen.{seen}
-use Rattle.sst_blocks.proofs.Entries.{Stands, block_holds, block_len}
+use Rattle.sst_blocks.proofs.Entries.{block_holds, block_len}
 use Rattle.sst_blocks.proofs.data_block.DataBlock.entry.Goals as goal
 
 pub index-requires : goal.index-requires

@@ -1,7 +1,7 @@
-use Rattle.std.proofs.Common.{◌≡◌, ◌≤◌, Some, rules, arith, ap, ◌∙◌, sym, length}
+use Rattle.std.proofs.Common.{◌≤◌, Some, rules, arith, ap, ◌∙◌, sym, length}
 use Rattle.std.proofs.lemmas.Option.{none-some, some_pair_parts}
 use Rattle.sst_blocks.specs.Reading.{entry_at}
-use Rattle.sst_blocks.proofs.Entries.{Stands, block_holds, block_len, some_at, whole_tail}
+use Rattle.sst_blocks.proofs.Entries.{block_holds, block_len, some_at, whole_tail}
 use Rattle.sst_blocks.proofs.data_block.DataBlock.entry_ref.Goals as goal
 
 pub index-requires : goal.index-requires

@@ -1,5 +1,4 @@
-use Rattle.std.proofs.Common.{◌≡◌, ◌+◌, ◌-◌, ◌/◌, ◌≤◌, ℕ, true, false, length, subst, sym, ◌∙◌, arith}
-use Rattle.std.specs.Prelude.{slice_get}
+use Rattle.std.proofs.Common.{◌≡◌, true, sym, ◌∙◌, arith}
 use Rattle.sst_blocks.specs.Seen.{seen}
 use Rattle.sst_blocks.proofs.Fronts.{passes_below, front_found}
 use Rattle.sst_blocks.proofs.data_block.DataBlock.front_len.Goals as goal

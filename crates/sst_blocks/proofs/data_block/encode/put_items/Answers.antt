@@ -1,11 +1,11 @@
-use Rattle.std.proofs.Common.{◌≡◌, ◌+◌, List, ◌++◌, ◌∷◌, [], ◌≤◌, take, length, rules, arith, ap, sym, subst, ◌∙◌}
-use Rattle.std.proofs.lemmas.List.{take_all, take_more}
+use Rattle.std.proofs.Common.{List, ◌++◌, ◌≤◌, length, rules, arith, ap, subst, ◌∙◌}
+use Rattle.std.proofs.lemmas.List.{take_all}
 use Rattle.std.specs.List.{flat_map, AllByRecursion}
 use Rattle.sst_blocks.specs.Entry.{Entry}
 use Rattle.sst_blocks.specs.Number.{le4}
 use Rattle.sst_blocks.specs.Payload.{payload, spelled, Fits}
 use Rattle.sst_blocks.specs.declared.version.TableVersion.TheVariants.{V4}
-use Rattle.sst_blocks.proofs.Faults.{Short, short_at, all_push, front_again}
+use Rattle.sst_blocks.proofs.Faults.{short_at, front_again}
 use Rattle.sst_blocks.proofs.data_block.encode.put_items.Goals as goal
 
 pub put_entry-requires-clause-key : goal.put_entry-requires-clause-key
