@@ -8,3 +8,4 @@ pub mod Faults
 pub mod Fronts
 pub mod Points
 pub mod Lengths
+pub mod Within

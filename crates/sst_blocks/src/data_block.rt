@@ -1,5 +1,5 @@
 //! Data blocks: strict lists of entries.
-ghost use Rattle.std.specs.Prelude.{◌≡◌, ◌+◌, ◌++◌, ◌<◌, ◌≤◌, ◌^◌, ◌↔◌, List, [], Some, None, Bool, false, not, length, IsTrue, IfOk, IfErr, OnOk, OnErr};
+ghost use Rattle.std.specs.Prelude.{◌≡◌, ◌+◌, ◌++◌, ◌<◌, ◌≤◌, ◌^◌, ◌↔◌, List, [], Some, None, Bool, true, false, not, length, IsTrue, IfOk, IfErr, OnOk, OnErr};
 ghost use Rattle.std.specs.List.{slice_get};
 ghost use Rattle.std.specs.List.Sorted.{IsPartitionedBy};
 ghost use Rattle.sst_blocks.specs.Block.{entries_of};
@@ -15,11 +15,16 @@ ghost use Rattle.sst_blocks.specs.Seen.{seen};
 ghost use Rattle.sst_blocks.specs.Span.{front_length};
 ghost use Rattle.sst_blocks.specs.Starts.{EntriesAt, HoldsEntries};
 ghost use Rattle.sst_blocks.specs.Strict.{IsStrict};
+ghost use Rattle.sst_blocks.specs.Stream.{Deals, CanDeal, all_ok, stopped};
+ghost use Rattle.sst_blocks.specs.declared.error.Error.{Error};
 ghost use Rattle.sst_blocks.specs.declared.error.Error.TheVariants.{OutOfMemory, InvalidBlock};
 ghost use Rattle.sst_blocks.specs.declared.version.TableVersion.TheVariants.{V4};
 
 mod encode;
 mod entry_ref;
+mod iter;
+
+pub use iter::Iter;
 
 use crate::number::u32_at;
 use crate::{Block, Error, InternalValue, SeqNo, Slice, TableVersion};
@@ -228,6 +233,15 @@ impl<A: Allocator> DataBlock<A> {
         ensures { result ≡ front_length (λ e. not (key_lt key.now e.user_key)) self.now }
     {
         self.front_len(|entry| !entry.is_above(key))
+    }
+
+    /// The entries, from both ends.
+    pub fn iter<'a>(&'a self) -> Iter<'a, A>
+        ensures span { result ≡ record { list = self.now; from = 0; to = length self.now } }
+        ensures deals { (stops : Error → Bool) → stops OutOfMemory ≡ true → Deals (stopped stops) ⟦<Iter<'a, A> as Iterator>⟧.next_gives ⟦<Iter<'a, A> as DoubleEndedIterator>⟧.next_back_gives result (all_ok self.now) }
+        ensures can { CanDeal ⟦<Iter<'a, A> as Iterator>⟧.next_gives ⟦<Iter<'a, A> as DoubleEndedIterator>⟧.next_back_gives ⟦<Iter<'a, A> as Iterator>⟧.can_next ⟦<Iter<'a, A> as DoubleEndedIterator>⟧.can_next_back result }
+    {
+        Iter::new(self)
     }
 
     /// The first entry of a key numbered below `seqno`. Refused [`Error::OutOfMemory`] alone.
