@@ -71,12 +71,18 @@ unfolding is_strict_after last_of
 test_push last [] e h f = and_both (may_follow last e) true f refl
 test_push last (x ∷ es) e h f = and_both (may_follow last x) (is_strict_after (Some x) (es ++ e ∷ [])) (and_left (may_follow last x) (is_strict_after (Some x) es) h) (test_push (Some x) es e (and_right (may_follow last x) (is_strict_after (Some x) es) h) f)
 
+-- one entry more
+pub strict_push : (last : Option Entry) (es : List Entry) (e : Entry) → IsStrictAfter last es → may_follow (last_of last es) e ≡ true → IsStrictAfter last (es ++ e ∷ [])
+unfolding IsStrictAfter last_of
+strict_push last [] e h f = (f, tt)
+strict_push last (x ∷ es) e h f = (h.0, strict_push (Some x) es e h.1 f)
+
 test_fails : (last : Option Entry) (es : List Entry) (e : Entry) (more : List Entry) → may_follow (last_of last es) e ≡ false → is_strict_after last (es ++ e ∷ more) ≡ false
 unfolding is_strict_after last_of
 test_fails last [] e more h = rw h refl
 test_fails last (x ∷ es) e more h = and_false (may_follow last x) (is_strict_after (Some x) (es ++ e ∷ more)) (test_fails (Some x) es e more h)
 
-last_push : (last : Option Entry) (es : List Entry) (e : Entry) → last_of last (es ++ e ∷ []) ≡ Some e
+pub last_push : (last : Option Entry) (es : List Entry) (e : Entry) → last_of last (es ++ e ∷ []) ≡ Some e
 unfolding last_of
 last_push last [] e = refl
 last_push last (x ∷ es) e = last_push (Some x) es e

@@ -223,14 +223,16 @@ impl<A: Allocator> DataBlock<A> {
 
     /// How many entries stand below a key: the place of the first entry of the key or of a greater one.
     pub fn first_at_least(&self, key: &[u8]) -> usize
-        ensures { result ≡ front_length (λ e. key_lt e.user_key key.now) self.now }
+        ensures place { result ≡ front_length (λ e. key_lt e.user_key key.now) self.now }
+        ensures within { result ≤ length self.now }
     {
         self.front_len(|entry| entry.is_below(key))
     }
 
     /// How many entries do not stand above a key: the place of the first entry of a greater key.
     pub fn first_above(&self, key: &[u8]) -> usize
-        ensures { result ≡ front_length (λ e. not (key_lt key.now e.user_key)) self.now }
+        ensures place { result ≡ front_length (λ e. not (key_lt key.now e.user_key)) self.now }
+        ensures within { result ≤ length self.now }
     {
         self.front_len(|entry| !entry.is_above(key))
     }
@@ -256,3 +258,6 @@ impl<A: Allocator> DataBlock<A> {
         Ok(Some(self.entry(i)?))
     }
 }
+
+#[cfg(test)]
+mod tests;
