@@ -1,7 +1,7 @@
 -- Entries as a format of items: what is read is spelled so, and what is spelled so is read.
-use Rattle.std.proofs.Common.{◌≡◌, ℕ, zero, suc, ◌+◌, ◌-◌, ◌^◌, ◌<◌, ◌≤◌, Bool, true, false, cond, ltb, List, [], ◌∷◌, ◌++◌, length, get_or, take, drop, map, Option, Some, None, refl, sym, ap, subst, ◌∙◌, append_assoc, arith, inl, inr, eqb, ◌⊎◌}
+use Rattle.std.proofs.Common.{◌≡◌, ℕ, zero, suc, ◌+◌, ◌-◌, ◌^◌, ◌<◌, ◌≤◌, Bool, true, false, cond, ltb, List, [], ◌∷◌, ◌++◌, length, get_or, take, drop, Option, Some, None, refl, sym, ap, subst, ◌∙◌, append_assoc, arith, inl, inr, eqb, ◌⊎◌}
 use Rattle.std.specs.Prelude.{option_and_then, unwrap_or, slice_index, slice_range, if◌then◌else◌}
-use Rattle.std.specs.List.{flat_map, AllByRecursion, slice_get}
+use Rattle.std.specs.List.{flat_map, slice_get}
 use Rattle.std.specs.Option.{option_map}
 use Rattle.std.proofs.lemmas.Bool.{eqb-true, ltb-false, le-ltb}
 use Rattle.std.proofs.lemmas.List.{take_at, drop_at, drop-drop, take-append-drop, length-append, length-take, length-drop, drop_more, map-id, take_rest}
@@ -18,7 +18,7 @@ use Rattle.sst_blocks.specs.Starts.{starts_of, EntriesAt}
 use Rattle.sst_blocks.specs.Strict.{IsStrict, IsStrictAfter, is_strict_after}
 use Rattle.sst_blocks.specs.Version.{key_width, key_limit, key_len_bytes, key_len_at}
 use Rattle.sst_blocks.proofs.Numbers.{IsBytes, IsBytes-drop, wide4, wide8, key_wide}
-use Rattle.sst_blocks.proofs.Items.{Format, IsFormat, Advances, Here, items_at, items_in, in_order, guard_some, items_in_take, items_in_again, items_strict, item_holds, length-starts}
+use Rattle.sst_blocks.proofs.Items.{Format, IsFormat, Advances, ReadAt, items_at, items_in, in_order, guard_some, items_in_take, items_in_again, items_strict, item_reads, length-starts}
 
 -- ---- kinds and their tags
 
@@ -128,13 +128,13 @@ entry_takes v bytes e rest fits h =
     let fb : IsBytes b = IsBytes-drop 1 bytes fits in
     option_and_then_some f (kind_of (slice_index bytes 0)) (e, rest) g.1
     (λ t kind parts.
-      let m = parts_take v t (num8 b) (drop 8 b) e rest (IsBytes-drop 8 b fb) (omega (arith, length-drop 8 b, length-drop 1 bytes)) parts in
-      let e0 : bytes ≡ slice_index bytes 0 ∷ b = drop_more bytes 0 0 (omega arith) in
-      let e1 : b ≡ le8 (num8 b) ++ drop 8 b = wide8.front b (omega (arith, length-drop 1 bytes)) fb in
-      let tag : tag_of e.kind ≡ slice_index bytes 0 = ap tag_of m.kind ∙ tag_of_kind (slice_index bytes 0) t kind in
-      let flat : bytes ≡ tag_of e.kind ∷ (le8 e.seqno ++ (tail_of v e ++ rest)) = rw (tag, m.number) (e0 ∙ ap (λ (x : List ℕ). slice_index bytes 0 ∷ x) (e1 ∙ ap (λ (x : List ℕ). le8 (num8 b) ++ x) m.parts)) in
-      let number : e.seqno < 2 ^ 64 = rw m.number (wide8.below b fb) in
-      (flat ∙ sym (flattened v e rest), record { number = number; key_len = m.key_len; value_len = m.value_len }))
+    let m = parts_take v t (num8 b) (drop 8 b) e rest (IsBytes-drop 8 b fb) (omega (arith, length-drop 8 b, length-drop 1 bytes)) parts in
+    let e0 : bytes ≡ slice_index bytes 0 ∷ b = drop_more bytes 0 0 (omega arith) in
+    let e1 : b ≡ le8 (num8 b) ++ drop 8 b = wide8.front b (omega (arith, length-drop 1 bytes)) fb in
+    let tag : tag_of e.kind ≡ slice_index bytes 0 = ap tag_of m.kind ∙ tag_of_kind (slice_index bytes 0) t kind in
+    let flat : bytes ≡ tag_of e.kind ∷ (le8 e.seqno ++ (tail_of v e ++ rest)) = rw (tag, m.number) (e0 ∙ ap (λ (x : List ℕ). slice_index bytes 0 ∷ x) (e1 ∙ ap (λ (x : List ℕ). le8 (num8 b) ++ x) m.parts)) in
+    let number : e.seqno < 2 ^ 64 = rw m.number (wide8.below b fb) in
+    (flat ∙ sym (flattened v e rest), record { number = number; key_len = m.key_len; value_len = m.value_len }))
 
 pub entry_again : (v : TableVersion) (e : Entry) (rest : List ℕ) → Fits v e → entry_at v (spelled v e ++ rest) ≡ Some (e, rest)
 unfolding entry_at
@@ -175,7 +175,7 @@ entries_in_same v bytes =
     let same : (es : List Entry) → tested es ≡ ordered es = λ es. ap (λ (xs : List Entry). if is_strict_after None xs then Some es else None) (sym (map-id es)) in
     let o = entries_at v (num4 bytes) (drop 4 bytes) in
     let read : option_and_then tested o ≡ option_and_then ordered (items_at (entry_at v) (num4 bytes) (drop 4 bytes)) =
-        and_then_same tested ordered same o ∙ ap (option_and_then ordered) (entries_at_same v (num4 bytes) (drop 4 bytes)) in
+    and_then_same tested ordered same o ∙ ap (option_and_then ordered) (entries_at_same v (num4 bytes) (drop 4 bytes)) in
     ap (cond (ltb (length bytes) 4) None) read
 
 -- what a payload spells is its list
@@ -219,30 +219,30 @@ entry_lies v bytes e rest h =
     let g = guard_some (ltb (length bytes) (13 + w)) (option_and_then f (kind_of (slice_index bytes 0))) (e, rest) h in
     option_and_then_some f (kind_of (slice_index bytes 0)) (e, rest) g.1
     (λ t kind parts.
-      let k = key_len_at v b in
-      let m = num4 (drop w b) in
-      let r = drop 4 (drop w b) in
-      let K = take k r in
-      let V = take m (drop k r) in
-      let R = drop m (drop k r) in
-      let made = guard_some (ltb (length r) (k + m)) (Some (entry K V (num8 b1) t, R)) (e, rest) parts in
-      let p = some_pair_parts (entry K V (num8 b1) t) e R rest made.1 in
-      let room : k + m ≤ length r = ltb-false _ _ made.0 in
-      let long : 13 + w ≤ length bytes = ltb-false _ _ g.0 in
-      let lk : length K ≡ k = omega (arith, length-take k r) in
-      let lv : length V ≡ m = omega (arith, length-take m (drop k r), length-drop k r) in
-      let at : r ≡ drop (13 + w) bytes = drop-drop 4 w b ∙ drop-drop (w + 4) 8 b1 ∙ drop-drop (8 + (w + 4)) 1 bytes ∙ ap (λ (n : ℕ). drop n bytes) (omega arith) in
-      let lies : Lies v bytes (entry K V (num8 b1) t) R = record {
-        key = ap (λ (n : ℕ). take n (drop (13 + w) bytes)) lk ∙ ap (take k) (sym at);
-        value =
-            let tail : drop (13 + w + length K) bytes ≡ drop k r = ap (λ (n : ℕ). drop (13 + w + n) bytes) lk ∙ sym (drop-drop k (13 + w) bytes) ∙ ap (drop k) (sym at) in
-            ap (λ (n : ℕ). take n (drop (13 + w + length K) bytes)) lv ∙ ap (take m) tail;
-        rest_is =
-            let n : k + m ≡ length K + length V = omega (arith, lk, lv) in
-            drop-drop m k r ∙ ap (drop (k + m)) at ∙ drop-drop (k + m) (13 + w) bytes ∙ ap (λ (n : ℕ). drop n bytes) (omega (arith, n));
-        within = omega (arith, lk, lv, ap length at, length-drop (13 + w) bytes);
-      } in
-      subst (λ (x : Entry). Lies v bytes x rest) p.0 (subst (λ (x : List ℕ). Lies v bytes (entry K V (num8 b1) t) x) p.1 lies))
+    let k = key_len_at v b in
+    let m = num4 (drop w b) in
+    let r = drop 4 (drop w b) in
+    let K = take k r in
+    let V = take m (drop k r) in
+    let R = drop m (drop k r) in
+    let made = guard_some (ltb (length r) (k + m)) (Some (entry K V (num8 b1) t, R)) (e, rest) parts in
+    let p = some_pair_parts (entry K V (num8 b1) t) e R rest made.1 in
+    let room : k + m ≤ length r = ltb-false _ _ made.0 in
+    let long : 13 + w ≤ length bytes = ltb-false _ _ g.0 in
+    let lk : length K ≡ k = omega (arith, length-take k r) in
+    let lv : length V ≡ m = omega (arith, length-take m (drop k r), length-drop k r) in
+    let at : r ≡ drop (13 + w) bytes = drop-drop 4 w b ∙ drop-drop (w + 4) 8 b1 ∙ drop-drop (8 + (w + 4)) 1 bytes ∙ ap (λ (n : ℕ). drop n bytes) (omega arith) in
+    let lies : Lies v bytes (entry K V (num8 b1) t) R = record {
+      key = ap (λ (n : ℕ). take n (drop (13 + w) bytes)) lk ∙ ap (take k) (sym at);
+      value =
+          let tail : drop (13 + w + length K) bytes ≡ drop k r = ap (λ (n : ℕ). drop (13 + w + n) bytes) lk ∙ sym (drop-drop k (13 + w) bytes) ∙ ap (drop k) (sym at) in
+          ap (λ (n : ℕ). take n (drop (13 + w + length K) bytes)) lv ∙ ap (take m) tail;
+      rest_is =
+          let n : k + m ≡ length K + length V = omega (arith, lk, lv) in
+          drop-drop m k r ∙ ap (drop (k + m)) at ∙ drop-drop (k + m) (13 + w) bytes ∙ ap (λ (n : ℕ). drop n bytes) (omega (arith, n));
+      within = omega (arith, lk, lv, ap length at, length-drop (13 + w) bytes);
+    } in
+    subst (λ (x : Entry). Lies v bytes x rest) p.0 (subst (λ (x : List ℕ). Lies v bytes (entry K V (num8 b1) t) x) p.1 lies))
 
 pub entries_advance : (v : TableVersion) → Advances (entry_format v)
 entries_advance v bytes e rest h =
@@ -259,7 +259,7 @@ pub record Stands (v : TableVersion) (bytes : List ℕ) (at : ℕ) (e : Entry) :
   pub key : slice_range bytes (at + (13 + key_width v)) (at + (13 + key_width v) + length e.user_key) ≡ e.user_key
   pub value : slice_range bytes (at + (13 + key_width v) + length e.user_key) (at + (13 + key_width v) + length e.user_key + length e.value) ≡ e.value
 
-stands : (v : TableVersion) (bytes : List ℕ) (at : ℕ) (e : Entry) → Here (entry_format v) bytes at e → Stands v bytes at e
+stands : (v : TableVersion) (bytes : List ℕ) (at : ℕ) (e : Entry) → ReadAt (entry_format v) bytes at e → Stands v bytes at e
 stands v bytes at e h =
     let w = 13 + key_width v in
     let k = length e.user_key in
@@ -293,8 +293,8 @@ block_strict v bytes starts es block view =
 pub block_holds : (v : TableVersion) (bytes starts : List ℕ) (es : List Entry) (i at : ℕ) (e : Entry) → EntriesAt v bytes starts → unwrap_or (entries_in v bytes) [] ≡ es → slice_get es i ≡ Some e → at ≡ get_or starts i at → Stands v bytes at e
 block_holds v bytes starts es i at e block view some is_at =
     let b = block_spells v bytes starts es block view in
-    let h = item_holds (entry_format v) (entries_advance v) bytes starts es i at e (sym (entries_in_same v bytes) ∙ b.0) b.1 (slice_get_within es i e some) is_at in
-    stands v bytes at e (subst (Here (entry_format v) bytes at) (get_or_from_slice_get es i e e some) h)
+    let h = item_reads (entry_format v) (entries_advance v) bytes starts es i at e (sym (entries_in_same v bytes) ∙ b.0) b.1 (slice_get_within es i e some) is_at in
+    stands v bytes at e (subst (ReadAt (entry_format v) bytes at) (get_or_from_slice_get es i e e some) h)
 
 pub some_at : (es : List Entry) (i : ℕ) → i < length es → (e : Entry) × (slice_get es i ≡ Some e)
 some_at es i lt = let blank = entry [] [] 0 Value in (get_or es i blank, slice_get-get_or es i blank lt)

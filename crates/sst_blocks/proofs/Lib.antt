@@ -14,3 +14,6 @@ pub mod SectionLaws
 pub mod Faults
 pub mod Fronts
 pub mod HandleFaults
+pub mod Points
+pub mod Lengths
+pub mod Within

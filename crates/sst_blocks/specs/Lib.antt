@@ -21,3 +21,4 @@ pub mod Encoding
 pub mod Sections
 pub mod Opened
 pub mod SeenHandle
+pub mod Seen

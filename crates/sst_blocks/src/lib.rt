@@ -2,9 +2,6 @@
 //! and the sections of a table's bytes.
 #![tactic(auto)]
 
-#[cfg(test)]
-
-mod block;
 mod block_type;
 mod checksum;
 mod compression;
@@ -19,7 +16,6 @@ mod opened;
 mod section;
 mod slice;
 mod source;
-mod stored_table;
 mod stream;
 mod toc;
 mod value;
@@ -30,7 +26,7 @@ pub use block::Block;
 pub use block_type::BlockType;
 pub use checksum::Checksum;
 pub use compression::CompressionType;
-pub use data_block::{DataBlock, data_block_bound};
+pub use data_block::{DataBlock, Iter as DataBlockIter, data_block_bound};
 pub use error::{Error, TagName};
 pub use fnv::hash;
 pub use handle::{BlockHandle, BlockOffset, KeyedBlockHandle};
@@ -48,3 +44,6 @@ pub use version::TableVersion;
 
 /// The number of an entry: of two versions of a key, the one with the greater number is newer.
 pub type SeqNo = u64;
+
+#[cfg(test)]
+mod stored_table;

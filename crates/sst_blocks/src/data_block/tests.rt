@@ -1,0 +1,379 @@
+ghost use Rattle.std.specs.Prelude.{◌≡◌, ◌<◌, ◌^◌, true, length};
+ghost use Rattle.std.specs.Option.{option_map};
+ghost use Rattle.sst_blocks.specs.Strict.{IsStrict, may_follow};
+
+use super::entry_starts;
+use crate::{
+    Block, BlockType, DataBlock, DataBlockIter, Error, InternalValue, IterItem, SeqNo, Slice, TableVersion,
+    ValueType, data_block_bound,
+};
+use refusing::{Refusing, each_refused};
+use std::alloc::Allocator;
+use std::test::Fail;
+
+fn entry<A: Allocator + Clone>(
+    alloc: A,
+    key: &[u8],
+    seqno: SeqNo,
+    kind: ValueType,
+    value: &[u8],
+) -> Result<InternalValue<A>, Error> {
+    let key = Slice::from(alloc.clone()?, key)?;
+    let value = Slice::from(alloc, value)?;
+    Ok(InternalValue::from_components(key, value, seqno, kind))
+}
+
+fn may_follow<A: Allocator>(last: Option<&InternalValue<A>>, item: &InternalValue<A>) -> bool
+    ensures { result ≡ may_follow (option_map (λ e. e.now) last.entry) item.now }
+{
+    match last {
+        None => true,
+        Some(last) => {
+            let keys = last.key.user_key.cmp(&item.key.user_key);
+            keys.then(item.key.seqno.cmp(&last.key.seqno)).is_lt()
+        }
+    }
+}
+
+// Whether the entries may stand in one block.
+fn are_strict<A: Allocator>(items: &[InternalValue<A>]) -> bool
+    ensures { result ≡ true → IsStrict items.now }
+{
+    let mut last: Option<&InternalValue<A>> = None;
+    for item in items {
+        if !may_follow(last, item) {
+            return false;
+        }
+        last = Some(item);
+    }
+    true
+}
+
+// The block of a payload.
+fn load<A: Allocator + Clone>(alloc: A, version: TableVersion, bytes: &[u8]) -> Result<DataBlock<A>, Error>
+    requires { length bytes.now < 2 ^ 32 }
+{
+    let starts = entry_starts(alloc.clone()?, version, bytes)?;
+    let payload = Slice::from(alloc, bytes)?;
+    Ok(DataBlock::new(Block {
+        version,
+        kind: BlockType::Data,
+        payload,
+        starts,
+    }))
+}
+
+// The block of these entries, by way of its bytes.
+fn written_and_loaded<A: Allocator + Clone>(
+    alloc: A,
+    items: &[InternalValue<A>],
+) -> Result<DataBlock<A>, Error> {
+    if !are_strict(items) {
+        return Err(Error::InvalidBlock);
+    }
+    let mut bytes = Vec::new(alloc.clone()?);
+    DataBlock::encode_into(&mut bytes, items, 16, 0)?;
+    load(alloc, TableVersion::V4, bytes.as_slice())
+}
+
+// a@9, a@7 as a tombstone, a@5, c@0 and e@3.
+fn five_entries<A: Allocator + Clone>(alloc: A) -> Result<Vec<InternalValue<A>, A>, Error> {
+    let mut items = Vec::with_capacity(alloc.clone()?, 5)?;
+    items.push(entry(alloc.clone()?, b"a", 9, ValueType::Value, b"newest")?)?;
+    items.push(entry(alloc.clone()?, b"a", 7, ValueType::Tombstone, b"")?)?;
+    items.push(entry(alloc.clone()?, b"a", 5, ValueType::Value, b"")?)?;
+    items.push(entry(alloc.clone()?, b"c", 0, ValueType::WeakTombstone, b"")?)?;
+    items.push(entry(alloc, b"e", 3, ValueType::Indirection, b"far")?)?;
+    Ok(items)
+}
+
+// a@1, a value of `x`.
+const ONE_IN_V3: [u8; 21] = [
+    1, 0, 0, 0, 0, 1, 0, 0, 0, 0, 0, 0, 0, 1, 0, 1, 0, 0, 0, 0x61, 0x78,
+];
+
+const ONE_IN_V4: [u8; 23] = [
+    1, 0, 0, 0, 0, 1, 0, 0, 0, 0, 0, 0, 0, 1, 0, 0, 0, 1, 0, 0, 0, 0x61, 0x78,
+];
+
+#[test]
+fn payloads_of_both_versions_read_as_their_entries(rt: HostRuntime) -> Result<(), Fail> {
+    let alloc = rt.alloc();
+    let old = ONE_IN_V3;
+    let new = ONE_IN_V4;
+    let mut items = Vec::new(alloc);
+    items.push(entry(alloc, b"a", 1, ValueType::Value, b"x")?)?;
+    for (version, bytes) in [
+        (TableVersion::V3, old.as_slice()),
+        (TableVersion::V4, new.as_slice()),
+    ] {
+        assert!(rt; bytes.len() < 24);
+        let block = load(alloc, version, bytes)?;
+        assert_eq!(rt; block.len(), 1);
+        assert!(rt; !block.is_empty());
+        let found = block.point_read(b"a", 2)?;
+        assert!(rt; found.as_ref() == items.first());
+        assert!(rt; block.point_read(b"a", 1)?.is_none());
+    }
+    assert_eq!(rt; data_block_bound(&items), 24 + 23);
+    assert!(rt; are_strict(&items));
+    let mut written = Vec::new(alloc);
+    written.push(7)?;
+    DataBlock::encode_into(&mut written, &items, 16, 0)?;
+    assert!(rt; written.len() == 24);
+    assert!(rt; &written[1..] == new.as_slice());
+    Ok(())
+}
+
+#[test]
+fn a_point_read_finds_the_newest_version_below_a_number(rt: HostRuntime) -> Result<(), Fail> {
+    let alloc = rt.alloc();
+    let items = five_entries(alloc)?;
+    let block = written_and_loaded(alloc, &items)?;
+    assert_eq!(rt; block.len(), 5);
+    // A key and a number, and the place of the entry that is found.
+    for (key, seqno, place) in [
+        (b"a", u64::MAX, Some(0usize)),
+        (b"a", 10, Some(0)),
+        (b"a", 9, Some(1)),
+        (b"a", 8, Some(1)),
+        (b"a", 7, Some(2)),
+        (b"a", 6, Some(2)),
+        (b"a", 5, None),
+        (b"a", 0, None),
+        (b"b", u64::MAX, None),
+        (b"c", 1, Some(3)),
+        (b"c", 0, None),
+        (b"d", u64::MAX, None),
+        (b"e", 4, Some(4)),
+        (b"e", 3, None),
+        (b"f", u64::MAX, None),
+    ] {
+        let found = block.point_read(key, seqno)?;
+        let expected = match place {
+            Some(place) => items.get(place),
+            None => None,
+        };
+        assert!(rt; found.as_ref() == expected, "{key:?} below {seqno}");
+    }
+    assert!(rt; block.point_read(b"", u64::MAX)?.is_none());
+    assert!(rt; block.point_read(b"aa", u64::MAX)?.is_none());
+    let none: [u8; 4] = [0; 4];
+    let empty = load(alloc, TableVersion::V3, &none)?;
+    assert!(rt; empty.is_empty());
+    assert!(rt; empty.point_read(b"a", u64::MAX)?.is_none());
+    assert!(rt; empty.iter().next().is_none());
+    assert!(rt; empty.iter().next_back().is_none());
+    Ok(())
+}
+
+// The number of the next entry, from the front or the back, or 99 where there is none.
+fn number<A: Allocator>(answer: Option<IterItem<A>>) -> Result<SeqNo, Error> {
+    match answer {
+        Some(item) => Ok(item?.key.seqno),
+        None => Ok(99),
+    }
+}
+
+// A seek by its name.
+fn sought<A: Allocator>(iter: &mut DataBlockIter<'_, A>, edge: &str, key: &[u8]) -> bool {
+    match edge {
+        "at least" => iter.seek(key),
+        "above" => iter.seek_exclusive(key),
+        "at most" => iter.seek_upper(key),
+        _ => iter.seek_upper_exclusive(key),
+    }
+}
+
+#[test]
+fn seeks_narrow_a_window_that_both_ends_deal(rt: HostRuntime) -> Result<(), Fail> {
+    let alloc = rt.alloc();
+    let items = five_entries(alloc)?;
+    let block = written_and_loaded(alloc, &items)?;
+    // A seek, and the numbers of the first and the last entry of its window.
+    for (edge, key, first, last) in [
+        ("at least", b"a", 9, 3),
+        ("at least", b"b", 0, 3),
+        ("at least", b"c", 0, 3),
+        ("at least", b"e", 3, 3),
+        ("at least", b"f", 99, 99),
+        ("above", b"Z", 9, 3),
+        ("above", b"a", 0, 3),
+        ("above", b"c", 3, 3),
+        ("above", b"e", 99, 99),
+        ("at most", b"Z", 99, 99),
+        ("at most", b"a", 9, 5),
+        ("at most", b"b", 9, 5),
+        ("at most", b"c", 9, 0),
+        ("at most", b"f", 9, 3),
+        ("below", b"a", 99, 99),
+        ("below", b"b", 9, 5),
+        ("below", b"c", 9, 5),
+        ("below", b"d", 9, 0),
+        ("below", b"f", 9, 3),
+    ] {
+        let mut iter = block.iter();
+        assert_eq!(rt; sought(&mut iter, edge, key), first != 99, "{edge} {key:?}");
+        assert_eq!(rt; number(iter.next())?, first, "{edge} {key:?}");
+        let mut iter = block.iter();
+        sought(&mut iter, edge, key);
+        assert_eq!(rt; number(iter.next_back())?, last, "{edge} {key:?}");
+    }
+    let mut iter = block.iter();
+    for expected in [9, 7, 5, 0, 3, 99, 99] {
+        assert_eq!(rt; number(iter.next())?, expected);
+    }
+    assert_eq!(rt; number(iter.next_back())?, 99);
+    let mut iter = block.iter();
+    for (from_front, expected) in [(true, 9), (false, 3), (true, 7), (false, 0), (false, 5), (true, 99), (false, 99)] {
+        let answer = if from_front { iter.next() } else { iter.next_back() };
+        assert_eq!(rt; number(answer)?, expected);
+    }
+    // The edges cross, and a later seek widens nothing.
+    let mut iter = block.iter();
+    assert!(rt; iter.seek_exclusive(b"a"));
+    assert!(rt; !iter.seek_upper(b"a"));
+    assert!(rt; !iter.seek(b"a"));
+    assert_eq!(rt; number(iter.next())?, 99);
+    assert_eq!(rt; number(iter.next_back())?, 99);
+    Ok(())
+}
+
+// An entry's bytes, with a tag and lengths of any kind.
+fn put_raw<A: Allocator>(
+    buf: &mut Vec<u8, A>,
+    tag: u8,
+    seqno: u64,
+    lengths: (u32, u32),
+    key_and_value: &[u8],
+) -> Result<(), Error> {
+    buf.push(tag)?;
+    buf.extend_from_slice(&seqno.to_le_bytes())?;
+    buf.extend_from_slice(&lengths.0.to_le_bytes())?;
+    buf.extend_from_slice(&lengths.1.to_le_bytes())?;
+    buf.extend_from_slice(key_and_value)?;
+    Ok(())
+}
+
+#[test]
+fn payloads_out_of_the_grammar_are_refused(rt: HostRuntime) -> Result<(), Fail> {
+    let alloc = rt.alloc();
+    // A count, the entries behind it (tag, number, both lengths, key and value), and whether they are in the grammar.
+    let cases: [(u32, &[(u8, u64, (u32, u32), &[u8])], bool); 18] = [
+        (0, &[], true),
+        (1, &[], false),
+        (u32::MAX, &[], false),
+        (1, &[(0, 1, (1, 1), b"ax")], true),
+        (1, &[(1, 1, (1, 0), b"a")], true),
+        (1, &[(2, 1, (1, 0), b"a")], true),
+        (1, &[(4, 1, (1, 1), b"ax")], true),
+        (1, &[(3, 1, (1, 1), b"ax")], false),
+        (1, &[(5, 1, (1, 1), b"ax")], false),
+        (0, &[(0, 1, (1, 1), b"ax")], false),
+        (2, &[(0, 1, (1, 1), b"ax")], false),
+        (1, &[(0, 1, (2, 1), b"ax")], false),
+        (1, &[(0, 1, (1, 2), b"ax")], false),
+        (1, &[(0, 1, (1, 0), b"ax")], false),
+        (1, &[(0, 1, (u32::MAX, u32::MAX), b"ax")], false),
+        (2, &[(0, 2, (1, 0), b"a"), (0, 1, (1, 0), b"a")], true),
+        (2, &[(0, 1, (1, 0), b"a"), (1, 1, (1, 0), b"a")], false),
+        (2, &[(0, 1, (1, 0), b"b"), (0, 2, (1, 0), b"a")], false),
+    ];
+    for (i, (count, entries, good)) in cases.iter().enumerate() {
+        let mut bytes = Vec::new(alloc);
+        bytes.extend_from_slice(&count.to_le_bytes())?;
+        for (tag, seqno, lengths, rest) in *entries {
+            put_raw(&mut bytes, *tag, *seqno, *lengths, rest)?;
+        }
+        assert!(rt; bytes.len() < 100);
+        match load(alloc, TableVersion::V4, &bytes) {
+            Ok(block) => assert!(rt; *good && block.len() == entries.len(), "{i}"),
+            Err(error) => assert!(rt; !*good && error == Error::InvalidBlock, "{i}"),
+        }
+    }
+    // Fewer bytes than a count has, a head and a value that are cut short, and the key length of the other version.
+    let old = ONE_IN_V3;
+    let new = ONE_IN_V4;
+    for (version, bytes) in [
+        (TableVersion::V3, &old[..3]),
+        (TableVersion::V3, &old[..18]),
+        (TableVersion::V3, &old[..20]),
+        (TableVersion::V3, new.as_slice()),
+        (TableVersion::V4, old.as_slice()),
+    ] {
+        let answer = load(alloc, version, bytes);
+        assert!(rt; matches!(&answer, Err(Error::InvalidBlock)));
+    }
+    Ok(())
+}
+
+#[test]
+fn what_is_too_long_is_refused_and_writes_nothing(rt: HostRuntime) -> Result<(), Fail> {
+    let alloc = rt.alloc();
+    let bytes = vec![in alloc; 0u8; 1048577]?;
+    let mut buf = Vec::new(alloc);
+    buf.push(7)?;
+    for (key_len, outcome) in [
+        (65536usize, Ok(())),
+        (1048576, Ok(())),
+        (1048577, Err(Error::KeyTooLong)),
+    ] {
+        assert!(rt; key_len <= bytes.len());
+        let mut items = Vec::new(alloc);
+        items.push(entry(alloc, &bytes[..key_len], 1, ValueType::Value, b"")?)?;
+        assert!(rt; are_strict(&items));
+        let answer = DataBlock::encode_into(&mut buf, &items, 16, 0);
+        assert!(rt; answer == outcome, "{key_len}");
+        let written = if answer.is_ok() { 4 + 17 + key_len } else { 0 };
+        assert_eq!(rt; buf.len(), 1 + written, "{key_len}");
+        buf.truncate(1);
+    }
+    // A block of more than 2^32 bytes, of values that share their memory. A key that is too long comes before that.
+    let shared = Slice::from(alloc, &bytes)?;
+    let mut items = Vec::new(alloc);
+    for i in 0..4096u16 {
+        let key = Slice::from(alloc, &i.to_be_bytes())?;
+        items.push(InternalValue::from_components(key, shared.clone()?, 1, ValueType::Value))?;
+    }
+    assert_eq!(rt; data_block_bound(&items), 28 + 4096 * (17 + 2 + 1048577));
+    assert!(rt; are_strict(&items));
+    assert!(rt; DataBlock::encode_into(&mut buf, &items, 16, 0) == Err(Error::BlockTooLarge));
+    let key = vec![in alloc; 0xffu8; 1048577]?;
+    items.push(entry(alloc, &key, 1, ValueType::Value, b"")?)?;
+    assert!(rt; are_strict(&items));
+    assert!(rt; DataBlock::encode_into(&mut buf, &items, 16, 0) == Err(Error::KeyTooLong));
+    assert!(rt; buf.as_slice() == [7].as_slice());
+    Ok(())
+}
+
+// The ends of a block and a point read, by way of the block's bytes.
+fn write_and_read<A: Allocator + Clone>(alloc: A) -> Result<(SeqNo, SeqNo, bool), Error> {
+    let items = five_entries(alloc.clone()?)?;
+    let block = written_and_loaded(alloc, &items)?;
+    let mut iter = block.iter();
+    let first = number(iter.next())?;
+    let last = number(iter.next_back())?;
+    let found = block.point_read(b"c", 1)?;
+    Ok((first, last, found.is_some()))
+}
+
+#[test]
+fn each_request_refused_is_answered_so(rt: HostRuntime) -> Result<(), Fail> {
+    let answers = each_refused(rt.alloc(), |heap, may_fail| match write_and_read(heap) {
+        Ok(answer) => answer == (9, 3, true),
+        Err(Error::OutOfMemory) => may_fail,
+        Err(_) => false,
+    });
+    assert_eq!(rt; answers, Ok(19));
+    // A refused growth leaves the buffer as it was.
+    let heap = Refusing::new(rt.alloc(), 7);
+    let mut items = Vec::new(&heap);
+    items.push(entry(&heap, b"a", 1, ValueType::Value, b"x")?)?;
+    assert!(rt; are_strict(&items));
+    let mut buf = Vec::new(&heap);
+    buf.push(7)?;
+    assert!(rt; DataBlock::encode_into(&mut buf, &items, 16, 0) == Err(Error::OutOfMemory));
+    assert!(rt; buf.as_slice() == [7].as_slice());
+    assert_eq!(rt; heap.requests(), 7);
+    Ok(())
+}
