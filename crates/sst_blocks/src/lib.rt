@@ -2,6 +2,7 @@
 //! and the sections of a table's bytes.
 #![tactic(auto)]
 
+mod block;
 mod block_type;
 mod checksum;
 mod compression;
