@@ -85,12 +85,12 @@ overlap_shared a b wa wb h =
 pub overlap_says : (a b : Interval) (r : Bool) → r ≡ overlaps a b → IsTrue (well_formed a) → IsTrue (well_formed b) → (IsTrue r ↔ ShareKey a b)
 overlap_says a b r is wa wb = ((λ t. overlap_shared a b wa wb (sym is ∙ t)), (λ s. is ∙ shared_overlap a b s))
 
-lower_up : (lower : Bound (List ℕ)) (k m : List ℕ) → from_lower lower k ≡ true → key_le k m ≡ true → from_lower lower m ≡ true
+pub lower_up : (lower : Bound (List ℕ)) (k m : List ℕ) → from_lower lower k ≡ true → key_le k m ≡ true → from_lower lower m ≡ true
 lower_up (Included low) k m p q = le_trans low k m p q
 lower_up (Excluded low) k m p q = lt_then_le low k m p q
 lower_up Unbounded k m p q = refl
 
-upper_down : (upper : Bound (List ℕ)) (k m : List ℕ) → up_to_upper upper k ≡ true → key_le m k ≡ true → up_to_upper upper m ≡ true
+pub upper_down : (upper : Bound (List ℕ)) (k m : List ℕ) → up_to_upper upper k ≡ true → key_le m k ≡ true → up_to_upper upper m ≡ true
 upper_down (Included high) k m p q = le_trans m k high q p
 upper_down (Excluded high) k m p q = le_then_lt m k high q p
 upper_down Unbounded k m p q = refl

@@ -2,7 +2,7 @@
 ghost use Rattle.sst_blocks.specs.declared.error.Error.{Error};
 ghost use Rattle.std.specs.Prelude.{Bool, ◌≡◌, ℕ, ◌+◌, ◌<◌, false};
 ghost use Rattle.std.specs.Iterator.{IsFinite};
-ghost use Rattle.sst_blocks.specs.Stream.{Deals, CanDeal};
+ghost use Rattle.sst_blocks.specs.Stream.{Deals, CanDeal, nowhere};
 ghost use Rattle.lsm_sorted.specs.Ends.{Left, Goes, ends_size};
 ghost use Rattle.sst_blocks.specs.Stream.{DealsFirst, DealsLast, Lowers};
 
@@ -15,14 +15,16 @@ pub struct Ends<I> {
     pub(crate) done: bool,
 }
 
-impl<I: DoubleEndedIterator<Item = IterItem<A>>, A: Allocator> Ends<I> {
+impl<I> Ends<I> {
     pub(crate) fn new(iter: I) -> Self
         ensures iter { result.iter ≡ iter }
         ensures fresh { result.done ≡ false }
     {
         Ends { iter, done: false }
     }
+}
 
+impl<I: DoubleEndedIterator<Item = IterItem<A>>, A: Allocator> Ends<I> {
     pub(crate) fn next(&mut self) -> Option<IterItem<A>>
         requires { Goes I.next_gives I.next_back_gives I.can_next I.can_next_back I.remaining self.old }
         ensures goes { Goes I.next_gives I.next_back_gives I.can_next I.can_next_back I.remaining self.new }
@@ -33,7 +35,7 @@ impl<I: DoubleEndedIterator<Item = IterItem<A>>, A: Allocator> Ends<I> {
             return None;
         }
         match self.iter.next() {
-            Some(x) => Some(x),
+            Some(first) => Some(first),
             None => {
                 self.done = true;
                 None
@@ -51,6 +53,27 @@ impl<I: DoubleEndedIterator<Item = IterItem<A>>, A: Allocator> Ends<I> {
             return None;
         }
         match self.iter.next_back() {
+            Some(last) => Some(last),
+            None => {
+                self.done = true;
+                None
+            }
+        }
+    }
+}
+
+impl<I: Iterator<Item = IterItem<A>>, A: Allocator> Ends<I> {
+    // The next item of an iterator that is taken from the front alone.
+    pub(crate) fn next_in_front(&mut self) -> Option<IterItem<A>>
+        requires { Goes I.next_gives nowhere I.can_next I.can_next I.remaining self.old }
+        ensures goes { Goes I.next_gives nowhere I.can_next I.can_next I.remaining self.new }
+        ensures deals { (stops : Error → Bool) → DealsFirst stops (Left stops I.next_gives nowhere) self.old result self.new }
+        ensures lowers { Lowers result (ends_size I.remaining self.old) (ends_size I.remaining self.new) }
+    {
+        if self.done {
+            return None;
+        }
+        match self.iter.next() {
             Some(x) => Some(x),
             None => {
                 self.done = true;

@@ -162,7 +162,7 @@ fn greater<'a, A: Allocator>(a: &'a UserKey<A>, b: &'a UserKey<A>) -> &'a UserKe
     if a < b { b } else { a }
 }
 
-fn is_from_lower(lower: &Bound<&[u8]>, key: &[u8]) -> bool
+pub(crate) fn is_from_lower(lower: &Bound<&[u8]>, key: &[u8]) -> bool
     ensures { result ≡ from_lower (bound_of lower.now) key.now }
 {
     match lower {
@@ -172,7 +172,7 @@ fn is_from_lower(lower: &Bound<&[u8]>, key: &[u8]) -> bool
     }
 }
 
-fn is_up_to_upper(upper: &Bound<&[u8]>, key: &[u8]) -> bool
+pub(crate) fn is_up_to_upper(upper: &Bound<&[u8]>, key: &[u8]) -> bool
     ensures { result ≡ up_to_upper (bound_of upper.now) key.now }
 {
     match upper {

@@ -102,3 +102,6 @@ impl<I: DoubleEndedIterator<Item = IterItem<A>>, A: Allocator> DoubleEndedIterat
         }
     }
 }
+
+#[cfg(test)]
+mod tests;

@@ -1,0 +1,81 @@
+-- What the winners of the brackets say of the items, and what a change of one slot leaves.
+use Rattle.std.proofs.Common.{◌≡◌, ◌≢◌, ◌⊎◌, ℕ, zero, suc, ◌+◌, ◌*◌, ◌^◌, ◌<◌, ◌≤◌, Bool, true, false, List, [], ◌∷◌, Option, Some, None, Ordering, length, get_or, set, replicate, refl, sym, ◌∙◌, ap, subst, ⊎_elim, inl, inr, arith}
+use Rattle.std.specs.Ordering.{is_gt, flip_args}
+use Rattle.std.specs.Option.{IfNone}
+use Rattle.std.specs.List.{All}
+use Rattle.std.specs.Cmp.{IsTotalOrder}
+use Rattle.std.proofs.lemmas.Cmp.{back_total}
+use Rattle.std.proofs.lemmas.List.{length-set, length-replicate, get_or-replicate}
+use Rattle.std.proofs.lemmas.List.Elements.{All-nil, All-cons}
+use Rattle.lsm_sorted.specs.declared.side.Side.{Side}
+use Rattle.lsm_sorted.specs.declared.side.Side.TheVariants as sides
+use Rattle.lsm_sorted.specs.declared.tournament.brackets.Bracket.{Bracket}
+use Rattle.lsm_sorted.specs.declared.tournament.brackets.Brackets.{Brackets}
+use Rattle.lsm_sorted.specs.Slots.{items_of, slot_at}
+use Rattle.lsm_sorted.specs.Side.{toward}
+use Rattle.lsm_sorted.specs.Brackets.{is_beaten, IsDecided, IsBracket, AllDecided, DecidedButAbove, IsUnplayed, IsWon, IsWonButAbove, AreWon, AreWonButAbove}
+use Rattle.lsm_sorted.proofs.SideLemmas.{toward_total}
+use Rattle.lsm_sorted.proofs.BracketLemmas.{decided_but_above, unbeaten}
+
+pub IfNone-from : {X : Type 0} (r : Option X) (P : Type 0) → P → IfNone r P
+IfNone-from None P p = p
+IfNone-from (Some x) P p = tt
+
+-- an item that no place beats comes before all items, or is as good
+pub all_behind : {T : Type 0} (cmp : T → T → Ordering) (x : T) (places : List (Option T)) → ((k : ℕ) → k < length places → is_beaten cmp (Some x) (slot_at places k) ≡ false) → All (λ y. is_gt (cmp x y) ≡ false) (items_of places)
+all_behind cmp x [] h = All-nil (λ y. is_gt (cmp x y) ≡ false)
+all_behind cmp x (None ∷ places) h = all_behind cmp x places (λ k low. h (suc k) (omega arith))
+all_behind cmp x (Some y ∷ places) h = All-cons (λ y. is_gt (cmp x y) ≡ false) y (items_of places) (h 0 (omega arith)) (all_behind cmp x places (λ k low. h (suc k) (omega arith)))
+
+-- where an empty place is not beaten, all are empty
+all_empty : {T : Type 0} (cmp : T → T → Ordering) (places : List (Option T)) → ((k : ℕ) → k < length places → is_beaten cmp None (slot_at places k) ≡ false) → items_of places ≡ []
+all_empty cmp [] h = refl
+all_empty cmp (None ∷ places) h = all_empty cmp places (λ k low. h (suc k) (omega arith))
+all_empty cmp (Some y ∷ places) h = let wrong = h 0 (omega arith) in cc
+
+pub none_left : {T : Type 0} (cmp : T → T → Ordering) (places : List (Option T)) (o : Option T) → None ≡ o → ((k : ℕ) → k < length places → is_beaten cmp o (slot_at places k) ≡ false) → items_of places ≡ []
+none_left {T} cmp places o e h = all_empty cmp places (λ k low. subst (λ (x : Option T). is_beaten cmp x (slot_at places k) ≡ false) (sym e) (h k low))
+
+module _ {T Z : Type 0} (cmp : T → T → Ordering) (slots : List (Option T)) where
+  -- the slot that a bracket names is beaten by none
+  pub winner_unbeaten : (o : IsTotalOrder cmp) (b : Bracket Z) (side : Side) → b.side ≡ side → IsWon cmp slots b → (slot : ℕ) → slot ≡ get_or b.nodes.items 1 0 → (k : ℕ) → k < length slots → is_beaten (toward side cmp) (slot_at slots slot) (slot_at slots k) ≡ false
+  winner_unbeaten o b side e won slot is k low =
+      let u = unbeaten (toward b.side cmp) slots b.nodes.items won.nodes won.decided (toward_total b.side o) k low in
+      rw (is, ← e) u
+
+  won_but_above : (b : Bracket Z) (s : ℕ) (x : Option T) → IsWon cmp slots b → IsWonButAbove cmp (set slots s x) (length (set slots s x) + s) b
+  won_but_above b s x won = record {
+    nodes = rw (length-set slots s x) won.nodes;
+    others =
+        let d = decided_but_above (toward b.side cmp) slots b.nodes.items won.nodes won.decided s x in
+        subst (λ (n : ℕ). DecidedButAbove (toward b.side cmp) (set slots s x) b.nodes.items (n + s)) (sym (length-set slots s x)) d;
+  }
+
+  pub are_won_but_above : (b : Brackets Z) (s : ℕ) (x : Option T) → AreWon cmp slots b → AreWonButAbove cmp (set slots s x) s b
+  are_won_but_above b s x won = record {
+    least_side = won.least_side;
+    greatest_side = won.greatest_side;
+    least = won_but_above b.least s x won.least;
+    greatest = won_but_above b.greatest s x won.greatest;
+  }
+
+  -- over empty slots it does not matter who wins
+  won_unplayed : (n : ℕ) (b : Bracket Z) (side : Side) → slots ≡ replicate n None → IsUnplayed n side b → IsWon cmp slots b
+  won_unplayed n b side e un =
+      let size : length slots ≡ n = ap length e ∙ length-replicate n None in
+      record {
+        nodes = rw size un.nodes;
+        decided = λ m inside low.
+            let empty : (k : ℕ) → k < n → slot_at slots k ≡ None = λ k h. ap (λ l. slot_at l k) e ∙ get_or-replicate n k None None h in
+            let left = empty (get_or b.nodes.items (2 * m) 0) (un.nodes.within (2 * m) (omega (arith, un.nodes.size))) in
+            let right = empty (get_or b.nodes.items (2 * m + 1) 0) (un.nodes.within (2 * m + 1) (omega (arith, un.nodes.size))) in
+            record { from = inl (un.first m inside (omega arith)); first = rw left refl; second = rw right refl };
+      }
+
+  pub are_won_unplayed : (n : ℕ) (b : Brackets Z) → slots ≡ replicate n None → IsUnplayed n sides.Least b.least → IsUnplayed n sides.Greatest b.greatest → AreWon cmp slots b
+  are_won_unplayed n b e least greatest = record {
+    least_side = least.side_is;
+    greatest_side = greatest.side_is;
+    least = won_unplayed n b.least sides.Least e least;
+    greatest = won_unplayed n b.greatest sides.Greatest e greatest;
+  }

@@ -1,0 +1,17 @@
+-- An iterator that is taken from the front alone, with a place for one entry before it.
+use Rattle.std.specs.Prelude.{◌≡◌, ℕ, Bool, ◌+◌, List, ◌++◌, Option, Result}
+use Rattle.std.specs.Iterator.{Count}
+use Rattle.sst_blocks.specs.declared.error.Error.{Error}
+use Rattle.sst_blocks.specs.Stream.{nowhere}
+use Rattle.lsm_sorted.specs.declared.ahead.Ahead.{Ahead}
+use Rattle.lsm_sorted.specs.Ends.{R, Left, ends_size}
+use Rattle.lsm_sorted.specs.Peeked.{held, held_count}
+
+-- the list that is still to come
+pub record HoldsAhead {S : Type 0} (stops : Error → Bool) (front : S → Option R → S → Type 0) (s : Ahead S R) (xs : List R) : Type 0 where
+  pub rest : List R
+  pub source : Left stops front nowhere s.source rest
+  pub parts : xs ≡ held s.front ++ rest
+
+abbrev pub ahead_size : {S : Type 0} → (S → Count) → Ahead S R → ℕ
+ahead_size left s = ends_size left s.source + held_count s.front

@@ -1,0 +1,105 @@
+-- A compaction call by call, on what is left of a list of results.
+use Rattle.std.specs.Prelude.{◌≡◌, ℕ, Bool, true, false, not, ◌&&◌, if◌then◌else◌, nat_lt, List, [], ◌∷◌, ◌++◌, Option, Some, None, Result, Ok, Err}
+use Rattle.sst_blocks.specs.Entry.{Entry}
+use Rattle.sst_blocks.specs.Kind.{is_tombstone_kind}
+use Rattle.sst_blocks.specs.Key.{same_key}
+use Rattle.sst_blocks.specs.Stream.{first}
+use Rattle.sst_blocks.specs.declared.error.Error.{Error}
+use Rattle.lsm_sorted.specs.Ends.{R}
+use Rattle.lsm_sorted.specs.Newest.{after_key}
+use Rattle.lsm_sorted.specs.Compaction.{Verdict, keep, Judged, JudgedItem, items, Rules, told_by, reports_by, goes, zeroed, outs, reported, asked}
+
+-- the longest stretch of entries of this key in front
+abbrev pub of_key : List ℕ → List R → List Entry
+of_key key [] = []
+of_key key (Ok x ∷ rs) = if same_key x.user_key key then x ∷ of_key key rs else []
+of_key key (Err e ∷ rs) = []
+
+-- one turn: what it answers, or none where the call starts again, what it leaves of the list, and what it reports
+pub record Turn : Type 0 where
+  pub answer : Option R
+  pub rest : List R
+  pub reports : List Entry
+
+abbrev pub unless : Rules → Bool → Entry → Option R
+unless rules skipped head = if skipped then None else Some (Ok (zeroed rules head))
+
+-- the stretch of the head's key is drained and reported: an error after it is answered, else the head, unless it goes
+abbrev pub close : Rules → Entry → List Entry → List R → Turn
+close rules head drained [] = record { answer = unless rules (goes rules.evict head.kind (first drained)) head; rest = []; reports = drained }
+close rules head drained (Ok x ∷ rs) = record { answer = unless rules (goes rules.evict head.kind (first drained)) head; rest = Ok x ∷ rs; reports = drained }
+close rules head drained (Err e ∷ rs) = record { answer = Some (Err e); rest = rs; reports = drained }
+
+-- whether an entry of the key is in front
+abbrev pub follows : List ℕ → List R → Bool
+follows key [] = false
+follows key (Ok x ∷ rs) = same_key x.user_key key
+follows key (Err e ∷ rs) = false
+
+-- a head that the filter left: it is answered where an older version follows that a reader may still want
+abbrev pub settled : Rules → Entry → List R → Turn
+settled rules head rs =
+    if follows head.user_key rs && not (nat_lt head.seqno rules.watermark)
+    then record { answer = Some (Ok (zeroed rules head)); rest = rs; reports = [] }
+    else close rules head (of_key head.user_key rs) (after_key head.user_key rs)
+
+-- a head by what the filter leaves of it
+abbrev pub turned : Rules → Result (Option Entry) Error → List R → Turn
+turned rules (Ok (Some head)) rs = settled rules head rs
+turned rules (Ok None) rs = record { answer = None; rest = rs; reports = [] }
+turned rules (Err e) rs = record { answer = Some (Err e); rest = rs; reports = [] }
+
+module _ {F : Type 0} (gives : F → Entry → Result Verdict Error → F → Type 0) where
+  abbrev pub AsksIf : Bool → F → Entry → Result Verdict Error → F → Type 0
+  AsksIf false f x v g = (v ≡ Ok keep) × (g ≡ f)
+  AsksIf true f x v g = gives f x v g
+
+  -- a filter is asked of each entry that is no tombstone
+  abbrev pub Asks : F → Entry → Result Verdict Error → F → Type 0
+  Asks f x v g = AsksIf (not (is_tombstone_kind x.kind)) f x v g
+
+  -- a filter was asked of these one after another, and said so of each
+  abbrev pub SaysOf : F → List Judged → F → Type 0
+  SaysOf f [] g = g ≡ f
+  SaysOf f (j ∷ js) g = (h : F) × gives f j.entry j.verdict h × SaysOf h js g
+
+module _ {C : Type 0} (gets : C → Entry → C → Type 0) where
+  -- a callback got these one after another
+  abbrev pub GetsAll : C → List Entry → C → Type 0
+  GetsAll c [] d = d ≡ c
+  GetsAll c (x ∷ xs) d = (b : C) × gets c x b × GetsAll b xs d
+
+module _ {F C : Type 0} (gives : F → Entry → Result Verdict Error → F → Type 0) (gets : C → Entry → C → Type 0) (rules : Rules) where
+  -- a turn at a head x before rs: the filter says something of it, and the callback gets what that reports and what is drained
+  pub record Turns (f : F) (c : C) (x : Entry) (rs : List R) (answer : Option R) (g : F) (d : C) (ys : List R) : Type 0 where
+    pub verdict : Result Verdict Error
+    pub asks : Asks gives f x verdict g
+    pub answers : answer ≡ (turned rules (told_by x verdict) rs).answer
+    pub leaves : ys ≡ (turned rules (told_by x verdict) rs).rest
+    pub reports : GetsAll gets c (reports_by x verdict ++ (turned rules (told_by x verdict) rs).reports) d
+
+  -- a call, from a filter, a callback and a list to an answer and what is left of the three
+  pub data Calls : F → C → List R → Option R → F → C → List R → Type 0 where
+    -- nothing is left
+    ended : {f : F} {c : C} → Calls f c [] None f c []
+    -- an error in front is answered
+    failed : {f : F} {c : C} {e : Error} {rs : List R} → Calls f c (Err e ∷ rs) (Some (Err e)) f c rs
+    -- a turn answers
+    answered : {f g : F} {c d : C} {x : Entry} {rs ys : List R} {r : R} → Turns f c x rs (Some r) g d ys → Calls f c (Ok x ∷ rs) (Some r) g d ys
+    -- a turn answers nothing, and the next one follows
+    again : {f h g : F} {c b d : C} {x : Entry} {rs zs ys : List R} {r : Option R} → Turns f c x rs None h b zs → Calls h b zs r g d ys → Calls f c (Ok x ∷ rs) r g d ys
+
+-- a filter is not asked of tombstones, which stay
+abbrev pub KeepsTombstones : List JudgedItem → Type 0
+KeepsTombstones [] = Unit {0}
+KeepsTombstones (Ok j ∷ js) = (is_tombstone_kind j.entry.kind ≡ true → j.verdict ≡ Ok keep) × KeepsTombstones js
+KeepsTombstones (Err e ∷ js) = KeepsTombstones js
+
+-- a whole compaction of a list of results: the filter said something of its entries, and what the compaction gave, asked and reported is what follows from that
+pub record Compacted {F C : Type 0} (gives : F → Entry → Result Verdict Error → F → Type 0) (gets : C → Entry → C → Type 0) (rules : Rules) (f : F) (c : C) (xs gave : List R) (g : F) (d : C) : Type 0 where
+  pub judged : List JudgedItem
+  pub over : items judged ≡ xs
+  pub tombstones : KeepsTombstones judged
+  pub answers : gave ≡ outs rules judged
+  pub says : SaysOf gives f (asked rules judged) g
+  pub reports : GetsAll gets c (reported rules judged) d

@@ -1,0 +1,185 @@
+-- What a compaction keeps and reports, one key at a time.
+use Rattle.std.specs.Prelude.{ℕ, Bool, true, false, not, ◌&&◌, if◌then◌else◌, nat_lt, List, [], ◌∷◌, ◌++◌, map, filter, Option, Some, None, Result, Ok, Err}
+use Rattle.sst_blocks.specs.Entry.{Entry}
+use Rattle.sst_blocks.specs.Kind.{is_tombstone_kind}
+use Rattle.sst_blocks.specs.Key.{same_key}
+use Rattle.sst_blocks.specs.Stream.{first, all_ok}
+use Rattle.sst_blocks.specs.declared.error.Error.{Error}
+use Rattle.sst_blocks.specs.declared.value_type.ValueType.{ValueType}
+use Rattle.sst_blocks.specs.declared.value_type.ValueType.TheVariants.{Value, Tombstone, WeakTombstone, Indirection}
+use Rattle.lsm_sorted.specs.Ends.{R}
+use Rattle.lsm_sorted.specs.Union.{entries_of}
+
+-- what a filter says of an entry: it stays as it is, it gets this kind and value, or it goes
+pub data Verdict : Type 0 where
+  keep : Verdict
+  replace : ValueType → List ℕ → Verdict
+  drop : Verdict
+
+-- an entry with what the filter says of it, or the filter's error
+pub record Judged : Type 0 where
+  pub entry : Entry
+  pub verdict : Result Verdict Error
+
+-- what a list of results holds once the filter was asked
+abbrev pub JudgedItem : Type 0
+JudgedItem = Result Judged Error
+
+-- the results that were judged
+abbrev pub items : List JudgedItem → List R
+items [] = []
+items (Ok j ∷ js) = Ok j.entry ∷ items js
+items (Err e ∷ js) = Err e ∷ items js
+
+-- how a compaction is set: no reader stands below the watermark, whether tombstones are evicted, whether numbers become 0
+pub record Rules : Type 0 where
+  pub watermark : ℕ
+  pub evict : Bool
+  pub zeroing : Bool
+
+-- the entry as the filter leaves it, where it leaves one
+abbrev pub told_by : Entry → Result Verdict Error → Result (Option Entry) Error
+told_by x (Ok keep) = Ok (Some x)
+told_by x (Ok (replace kind value)) = Ok (Some (record { user_key = x.user_key; seqno = x.seqno; kind = kind; value = value }))
+told_by x (Ok drop) = Ok None
+told_by x (Err e) = Err e
+
+abbrev pub told : Judged → Result (Option Entry) Error
+told j = told_by j.entry j.verdict
+
+abbrev pub is_left : Result (Option Entry) Error → Bool
+is_left (Ok (Some x)) = true
+is_left (Ok None) = false
+is_left (Err e) = false
+
+-- a dropped or replaced entry is reported as it was
+abbrev pub reports_by : Entry → Result Verdict Error → List Entry
+reports_by x (Ok keep) = []
+reports_by x (Ok (replace kind value)) = x ∷ []
+reports_by x (Ok drop) = x ∷ []
+reports_by x (Err e) = []
+
+-- a version that the filter leaves, numbered below the watermark, hides all older ones from every reader
+abbrev pub is_cut : ℕ → Judged → Bool
+is_cut watermark j = is_left (told j) && nat_lt j.entry.seqno watermark
+
+-- the versions of a key up to the first cut, or all of them
+abbrev pub heads : ℕ → List Judged → List Judged
+heads watermark [] = []
+heads watermark (j ∷ js) = j ∷ (if is_cut watermark j then [] else heads watermark js)
+
+-- the versions after the first cut
+abbrev pub expired : ℕ → List Judged → List Judged
+expired watermark [] = []
+expired watermark (j ∷ js) = if is_cut watermark j then js else expired watermark js
+
+abbrev pub is_value : ValueType → Bool
+is_value Value = true
+is_value Tombstone = false
+is_value WeakTombstone = false
+is_value Indirection = false
+
+-- whether the last head goes: a tombstone under eviction, but a weak one that hides a version exactly where that is a value
+abbrev pub goes : Bool → ValueType → Option Entry → Bool
+goes evict Value next = false
+goes evict Tombstone next = evict
+goes evict WeakTombstone None = evict
+goes evict WeakTombstone (Some next) = is_value next.kind
+goes evict Indirection next = false
+
+-- a number below the watermark becomes 0, where the rules say so
+abbrev pub zeroed : Rules → Entry → Entry
+zeroed rules x = record { user_key = x.user_key; seqno = (if rules.zeroing && nat_lt x.seqno rules.watermark then 0 else x.seqno); kind = x.kind; value = x.value }
+
+-- what a head gives: itself as the filter leaves it, unless it goes, or the filter's error
+abbrev pub given_by : Rules → (Entry → Bool) → Result (Option Entry) Error → List R
+given_by rules gone (Ok (Some x)) = if gone x then [] else Ok (zeroed rules x) ∷ []
+given_by rules gone (Ok None) = []
+given_by rules gone (Err e) = Err e ∷ []
+
+-- what the heads of a key give, where only the last may go
+abbrev pub given : Rules → (Entry → Bool) → List Judged → List R
+given rules gone [] = []
+given rules gone (j ∷ []) = given_by rules gone (told j)
+given rules gone (j ∷ k ∷ ks) = given_by rules (λ x. false) (told j) ++ given rules gone (k ∷ ks)
+
+-- the versions of one key one after another, and the error that follows them, if one does
+pub record Versions : Type 0 where
+  pub versions : List Judged
+  pub error : Option Error
+
+-- whether a version belongs to these: it has their key, or nothing but an error follows it
+abbrev pub is_version_of : List Judged → Judged → Bool
+is_version_of [] j = true
+is_version_of (k ∷ ks) j = same_key k.entry.user_key j.entry.user_key
+
+-- a version before the versions of its own key or of another
+abbrev pub before : Judged → List Versions → List Versions
+before j [] = record { versions = j ∷ []; error = None } ∷ []
+before j (v ∷ vs) = if is_version_of v.versions j then record { versions = j ∷ v.versions; error = v.error } ∷ vs else record { versions = j ∷ []; error = None } ∷ v ∷ vs
+
+-- a list of results by keys and errors
+abbrev pub by_key : List JudgedItem → List Versions
+by_key [] = []
+by_key (Ok j ∷ js) = before j (by_key js)
+by_key (Err e ∷ js) = record { versions = []; error = Some e } ∷ by_key js
+
+-- the last head goes by its kind, and always where an error follows
+abbrev pub gone : Rules → Option Entry → Option Error → Entry → Bool
+gone rules next None x = goes rules.evict x.kind next
+gone rules next (Some e) x = true
+
+abbrev pub error_of : Option Error → List R
+error_of None = []
+error_of (Some e) = Err e ∷ []
+
+abbrev pub entries : List Judged → List Entry
+entries js = map (λ j. j.entry) js
+
+-- what the versions of a key give: what their heads give, and the error that follows
+abbrev pub outs_of : Rules → Versions → List R
+outs_of rules v = given rules (gone rules (first (entries (expired rules.watermark v.versions))) v.error) (heads rules.watermark v.versions) ++ error_of v.error
+
+-- what is reported of them: the dropped and replaced heads, and all that follow the cut
+abbrev pub reported_heads : List Judged → List Entry
+reported_heads [] = []
+reported_heads (j ∷ js) = reports_by j.entry j.verdict ++ reported_heads js
+
+abbrev pub reported_of : Rules → Versions → List Entry
+reported_of rules v = reported_heads (heads rules.watermark v.versions) ++ entries (expired rules.watermark v.versions)
+
+-- of which the filter is asked: the heads that are no tombstones
+abbrev pub asked_of : Rules → Versions → List Judged
+asked_of rules v = filter (λ j. not (is_tombstone_kind j.entry.kind)) (heads rules.watermark v.versions)
+
+-- joined over the keys in order
+abbrev pub joined : {A : Type 0} → (Versions → List A) → List Versions → List A
+joined f [] = []
+joined f (v ∷ vs) = f v ++ joined f vs
+
+-- all that a compaction gives, reports and asks
+abbrev pub outs : Rules → List JudgedItem → List R
+outs rules js = joined (outs_of rules) (by_key js)
+
+abbrev pub reported : Rules → List JudgedItem → List Entry
+reported rules js = joined (reported_of rules) (by_key js)
+
+abbrev pub asked : Rules → List JudgedItem → List Judged
+asked rules js = joined (asked_of rules) (by_key js)
+
+-- the entries that a compaction keeps of a list without errors
+abbrev pub kept : Rules → List Judged → List Entry
+kept rules js = entries_of (outs rules (all_ok js))
+
+-- a list of which a filter keeps all
+abbrev pub as_is : Entry → Judged
+as_is x = record { entry = x; verdict = Ok keep }
+
+abbrev pub unfiltered : List Entry → List Judged
+unfiltered xs = map as_is xs
+
+-- results of which a filter keeps all
+abbrev pub as_they_are : List R → List JudgedItem
+as_they_are [] = []
+as_they_are (Ok x ∷ rs) = Ok (as_is x) ∷ as_they_are rs
+as_they_are (Err e ∷ rs) = Err e ∷ as_they_are rs

@@ -1,0 +1,80 @@
+-- What a compaction stream stands for, and its calls.
+use Rattle.std.specs.Prelude.{◌≡◌, ℕ, Bool, false, not, cond, List, [], ◌∷◌, Option, Some, None, Result, Ok, Err}
+use Rattle.std.specs.Iterator.{Count}
+use Rattle.sst_blocks.specs.Entry.{Entry}
+use Rattle.sst_blocks.specs.declared.error.Error.{Error}
+use Rattle.sst_blocks.specs.Stream.{stopped, stopped_result, nowhere}
+use Rattle.lsm_sorted.specs.declared.ahead.Ahead.{Ahead}
+use Rattle.lsm_sorted.specs.declared.compaction.stream.CompactionStream.{CompactionStream}
+use Rattle.lsm_sorted.specs.Ends.{R, Goes}
+use Rattle.lsm_sorted.specs.Newest.{after_key}
+use Rattle.lsm_sorted.specs.Ahead.{HoldsAhead, ahead_size}
+use Rattle.lsm_sorted.specs.Compaction.{Verdict, Rules, told_by, reports_by, zeroed}
+use Rattle.lsm_sorted.specs.Compacting.{of_key, unless, settled, Turn, Asks, GetsAll, Calls}
+
+module _ {S F C : Type 0} where
+  -- how the stream is set
+  abbrev pub rules_of : CompactionStream S F C R → Rules
+  rules_of s = record { watermark = s.gc_seqno_threshold; evict = s.evict_tombstones; zeroing = s.zero_seqnos }
+
+  -- what the stream reads from
+  abbrev pub source_of : CompactionStream S F C R → Ahead S R
+  source_of s = s.inner
+
+  abbrev pub filter_of : CompactionStream S F C R → F
+  filter_of s = s.filter
+
+  abbrev pub callback_of : CompactionStream S F C R → C
+  callback_of s = s.dropped_callback
+
+  -- the list of results that the stream still goes through
+  abbrev pub Compacts : (Error → Bool) → (S → Option R → S → Type 0) → CompactionStream S F C R → List R → Type 0
+  Compacts stops front s xs = HoldsAhead stops front (source_of s) xs
+
+  abbrev pub MayCompact : (S → Option R → S → Type 0) → (S → Type 0) → (S → Count) → CompactionStream S F C R → Type 0
+  MayCompact front can left s = Goes front nowhere can can left (source_of s).source
+
+  abbrev pub compaction_size : (S → Count) → CompactionStream S F C R → ℕ
+  compaction_size left s = ahead_size left (source_of s)
+
+  -- one call: it may be called again, its rules stay, and where it goes through xs, the answer and what is left are those of a call on xs, up to an error that stops it
+  pub record CompactsNext (front : S → Option R → S → Type 0) (can : S → Type 0) (left : S → Count) (gives : F → Entry → Result Verdict Error → F → Type 0) (gets : C → Entry → C → Type 0) (s : CompactionStream S F C R) (r : Option R) (t : CompactionStream S F C R) : Type 0 where
+    pub may : MayCompact front can left t
+    pub rules : rules_of t ≡ rules_of s
+    pub calls : (stops : Error → Bool) (xs : List R) → Compacts stops front s xs → stopped stops r ≡ false → (ys : List R) × Compacts stops front t ys × Calls gives gets (rules_of s) (filter_of s) (callback_of s) xs r (filter_of t) (callback_of t) ys
+
+-- the error of a refusal
+abbrev pub refusal : {X : Type 0} → Result X Error → Option Error
+refusal (Ok x) = None
+refusal (Err e) = Some e
+
+-- the error in front, and what is left once it was answered
+abbrev pub error_first : List R → Option Error
+error_first [] = None
+error_first (Ok x ∷ rs) = None
+error_first (Err e ∷ rs) = Some e
+
+abbrev pub past_error : List R → List R
+past_error [] = []
+past_error (Ok x ∷ rs) = Ok x ∷ rs
+past_error (Err e ∷ rs) = rs
+
+-- the entries of a key in front were taken and reported, up to an error that stops it
+pub record DrainsKey {T C X : Type 0} (stops : Error → Bool) (Has : T → List R → Type 0) (gets : C → Entry → C → Type 0) (key : List ℕ) (s : T) (c : C) (result : Result X Error) (t : T) (d : C) : Type 0 where
+  pub at : (xs : List R) → Has s xs → stopped_result stops result ≡ false → (refusal result ≡ error_first (after_key key xs)) × Has t (past_error (after_key key xs)) × GetsAll gets c (of_key key xs) d
+
+-- what a turn answers at a head that goes or stays
+abbrev pub answer_of : Rules → Entry → Result Bool Error → Option R
+answer_of rules head (Ok gone) = unless rules gone head
+answer_of rules head (Err e) = Some (Err e)
+
+-- a head was settled, up to an error that stops it
+pub record Settles {T C : Type 0} (stops : Error → Bool) (Has : T → List R → Type 0) (gets : C → Entry → C → Type 0) (rules : Rules) (head : Entry) (s : T) (c : C) (result : Result Bool Error) (t : T) (d : C) : Type 0 where
+  pub at : (xs : List R) → Has s xs → stopped_result stops result ≡ false → (answer_of rules head result ≡ (settled rules head xs).answer) × Has t (settled rules head xs).rest × GetsAll gets c (settled rules head xs).reports d
+
+-- a head was filtered, and reported as told
+pub record Filters {F C : Type 0} (gives : F → Entry → Result Verdict Error → F → Type 0) (gets : C → Entry → C → Type 0) (head : Entry) (f : F) (c : C) (result : Result (Option Entry) Error) (g : F) (d : C) : Type 0 where
+  pub verdict : Result Verdict Error
+  pub asks : Asks gives f head verdict g
+  pub tells : result ≡ told_by head verdict
+  pub reports : GetsAll gets c (reports_by head verdict) d

@@ -1,0 +1,24 @@
+-- Places for items.
+use Rattle.std.specs.Prelude.{◌≡◌, ◌≢◌, ℕ, ◌+◌, ◌<◌, List, [], ◌∷◌, Option, Some, None, length, slice_index, slice_index_or}
+
+-- the places, and how many of them may be taken
+pub record Places (T : Type 0) : Type 0 where
+  pub places : List (Option T)
+  pub room : ℕ
+
+-- the items in the places that are taken
+abbrev pub items_of : {T : Type 0} → List (Option T) → List T
+items_of [] = []
+items_of (None ∷ places) = items_of places
+items_of (Some x ∷ places) = x ∷ items_of places
+
+-- what a slot holds
+abbrev pub slot_at : {T : Type 0} → List (Option T) → ℕ → Option T
+slot_at places k = slice_index_or places k None
+
+-- with the items that are held, as many slots are listed as there is room for; they are empty, and none is listed twice
+pub record IsFreeList {T : Type 0} (places : List (Option T)) (free : List ℕ) (room : ℕ) : Type 0 where
+  pub count : length (items_of places) + length free ≡ room
+  pub within : (i : ℕ) → i < length free → slice_index free i < length places
+  pub empty : (i : ℕ) → i < length free → slot_at places (slice_index free i) ≡ None
+  pub apart : (i j : ℕ) → i < j → j < length free → slice_index free i ≢ slice_index free j

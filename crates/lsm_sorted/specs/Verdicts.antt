@@ -1,0 +1,17 @@
+-- What a filter said, without its memory.
+use Rattle.std.specs.Prelude.{Result, Ok, Err}
+use Rattle.sst_blocks.specs.declared.error.Error.{Error}
+use Rattle.lsm_sorted.specs.declared.compaction.stream.StreamFilterVerdict.{StreamFilterVerdict}
+use Rattle.lsm_sorted.specs.declared.compaction.stream.StreamFilterVerdict.TheVariants.{Keep, Replace, Drop}
+use Rattle.lsm_sorted.specs.Compaction.{Verdict, keep, replace, drop}
+
+-- the verdict as a plain value
+abbrev pub verdict_of : {A : Type 0} → StreamFilterVerdict A → Verdict
+verdict_of Keep = keep
+verdict_of (Replace p) = replace p.0 p.1
+verdict_of Drop = drop
+
+-- a filter's answer with its verdict as a plain value
+abbrev pub said : {A : Type 0} → Result (StreamFilterVerdict A) Error → Result Verdict Error
+said (Ok v) = Ok (verdict_of v)
+said (Err e) = Err e

@@ -1,0 +1,53 @@
+// An iterator that is taken from the front alone, with a place for one entry before it.
+ghost use Rattle.sst_blocks.specs.declared.error.Error.{Error};
+ghost use Rattle.std.specs.Prelude.{Bool, ◌≡◌, ℕ, ◌+◌, ◌<◌, List, ◌∷◌, false};
+ghost use Rattle.lsm_sorted.specs.Ends.{R, Goes};
+ghost use Rattle.sst_blocks.specs.Stream.{DealsFirst, Lowers, nowhere};
+ghost use Rattle.lsm_sorted.specs.Ahead.{HoldsAhead, ahead_size};
+
+use crate::ends::Ends;
+use sst_blocks::IterItem;
+use sst_blocks::InternalValue;
+use std::alloc::Allocator;
+
+#[derive(Drop)]
+pub struct Ahead<I: Iterator> {
+    pub(crate) source: Ends<I>,
+    pub(crate) front: Option<I::Item>,
+}
+
+impl<I: Iterator<Item = IterItem<A>>, A: Allocator> Ahead<I> {
+    pub(crate) fn new(iter: I) -> Self
+        ensures iter { result.source.iter ≡ iter }
+        ensures fresh { result.source.done ≡ false }
+        ensures front { result.front ≡ None }
+    {
+        Ahead {
+            source: Ends::new(iter),
+            front: None,
+        }
+    }
+
+    pub(crate) fn next(&mut self) -> Option<IterItem<A>>
+        requires { Goes I.next_gives nowhere I.can_next I.can_next I.remaining self.old.source }
+        ensures goes { Goes I.next_gives nowhere I.can_next I.can_next I.remaining self.new.source }
+        ensures deals { (stops : Error → Bool) → DealsFirst stops (HoldsAhead stops I.next_gives) self.old result self.new }
+        ensures lowers { Lowers result (ahead_size I.remaining self.old) (ahead_size I.remaining self.new) }
+        ensures free { self.new.front ≡ None }
+    {
+        if let Some(x) = self.front.take() {
+            return Some(x);
+        }
+        self.source.next_in_front()
+    }
+
+    // Puts an entry before what is left.
+    pub(crate) fn put_back(&mut self, x: InternalValue<A>)
+        requires { self.old.front ≡ None }
+        ensures source { self.new.source ≡ self.old.source }
+        ensures lists { (stops : Error → Bool) (xs : List R) → HoldsAhead stops I.next_gives self.old xs → HoldsAhead stops I.next_gives self.new (Ok x ∷ xs) }
+        ensures size { ahead_size I.remaining self.new ≡ ahead_size I.remaining self.old + 1 }
+    {
+        self.front = Some(Ok(x));
+    }
+}

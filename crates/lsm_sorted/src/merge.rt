@@ -1,0 +1,274 @@
+//! Several sorted sources as one.
+ghost use Rattle.std.specs.Prelude.{◌≡◌, ℕ, ◌+◌, ◌<◌, ◌≤◌, Bool, true, false, List, [], length, map, All, IfOk, IfErr, MatchResult, MatchOption};
+ghost use Rattle.std.specs.List.{AllZip, AllByRecursion};
+ghost use Rattle.std.specs.Iterator.{at_most, IsFinite};
+ghost use Rattle.sst_blocks.specs.Entry.{Entry};
+ghost use Rattle.sst_blocks.specs.Stream.{Deals, CanDeal, Runs, NoneStops, stopped, all_ok, deal, front_of, back_of};
+ghost use Rattle.sst_blocks.specs.declared.error.Error.{Error};
+ghost use Rattle.sst_blocks.specs.declared.error.Error.TheVariants.{OutOfMemory};
+ghost use Rattle.sst_blocks.specs.declared.stream.Direction.{Direction};
+ghost use Rattle.lsm_sorted.specs.Ends.{R, fresh, Goes};
+ghost use Rattle.lsm_sorted.specs.Tournament.{held, room};
+ghost use Rattle.lsm_sorted.specs.Union.{Ascends, IsUnion, IsStrict, entries_of, all_errors, merged};
+ghost use Rattle.lsm_sorted.specs.Merge.{Leaves, Takes, Fills, Steps, Adds, SameRoom, Fits, MayMerge, Merges, DealsUntil, HoldsFew, held_of, merge_total, merge_size, entry_of};
+
+use crate::ends::Ends;
+use crate::tournament::Tournament;
+use sst_blocks::{Error, InternalKey, InternalValue, IterItem, UserValue};
+use std::alloc::{Allocator, Global};
+
+// An entry on its way through the heap. Where keys tie, entries of earlier sources come first,
+// and those of one source in its order: the one from its front before the one from its back.
+#[derive(Drop)]
+#[derive_where(PartialEq, Eq, PartialOrd, Ord)]
+pub struct HeapItem<A: Allocator> {
+    key: InternalKey<A>,
+    source: usize,
+    from_back: bool,
+    #[derive_where(skip(EqHashOrd))]
+    value: UserValue<A>,
+}
+
+impl<A: Allocator> HeapItem<A> {
+    fn new(item: InternalValue<A>, source: usize, from_back: bool) -> Self
+        ensures entry { entry_of result ≡ item }
+        ensures source { result.source ≡ source }
+        ensures from_back { result.from_back ≡ from_back }
+    {
+        HeapItem {
+            key: item.key,
+            source,
+            from_back,
+            value: item.value,
+        }
+    }
+
+    fn into_item(self) -> InternalValue<A>
+        ensures { result ≡ entry_of self }
+    {
+        InternalValue {
+            key: self.key,
+            value: self.value,
+        }
+    }
+}
+
+/// Gives the entries of several sorted sources in order.
+#[derive(Drop)]
+pub struct Merger<I, A: Allocator = Global> {
+    sources: Vec<Ends<I>, A>,
+    heap: Tournament<HeapItem<A>, A>,
+    front_ready: bool,
+    back_ready: bool,
+    failed: bool,
+}
+
+// The sources before any call.
+fn fused<I: DoubleEndedIterator<Item = IterItem<A>>, A: Allocator>(
+    alloc: A,
+    iterators: Vec<I, A>,
+) -> Result<Vec<Ends<I>, A>, Error>
+    ensures ok { IfOk result (λ v. v.items ≡ map fresh iterators.items) }
+    ensures err { IfErr result (λ e. e ≡ OutOfMemory) }
+{
+    let sources = iterators
+        .into_iter()
+        .map(|iter| Ends { iter, done: false })
+        .collect(alloc)?;
+    Ok(sources)
+}
+
+impl<I: DoubleEndedIterator<Item = IterItem<A>>, A: Allocator + Clone> Merger<I, A> {
+    /// Merges sources that each deal their entries in order. Reserves two places for each source;
+    /// no step takes memory. Refused [`Error::OutOfMemory`] alone.
+    pub fn new(alloc: A, iterators: Vec<I, A>) -> Result<Self, Error>
+        // What sorted sources have together is dealt in order, whatever the ends.
+        ensures deals { IfOk result (λ m. (stops : Error → Bool) (lists : List (List R)) → AllZip (Deals (stopped stops) I.next_gives I.next_back_gives) iterators.items lists → AllByRecursion (λ rs. Ascends (entries_of rs)) lists → all_errors lists ≡ [] → Deals (stopped stops) ⟦<Merger<I, A> as Iterator>⟧.next_gives ⟦<Merger<I, A> as DoubleEndedIterator>⟧.next_back_gives m (all_ok (merged lists))) }
+        // With errors among it, up to the first that a source answers; nothing comes after that.
+        ensures until { IfOk result (λ m. (stops : Error → Bool) (lists : List (List R)) → AllZip (Deals (stopped stops) I.next_gives I.next_back_gives) iterators.items lists → AllByRecursion (λ rs. Ascends (entries_of rs)) lists → DealsUntil stops ⟦<Merger<I, A> as Iterator>⟧.next_gives ⟦<Merger<I, A> as DoubleEndedIterator>⟧.next_back_gives m (merged lists) (all_errors lists)) }
+        // That is a union, and where no two entries share a key and number the only one.
+        ensures union { IfOk result (λ _. (lists : List (List R)) → IsUnion lists (merged lists)) }
+        ensures only { IfOk result (λ _. (lists : List (List R)) (xs : List Entry) → IsUnion lists xs → IsStrict xs → xs ≡ merged lists) }
+        ensures can { IfOk result (λ m. All (CanDeal I.next_gives I.next_back_gives I.can_next I.can_next_back) iterators.items → All (λ s. IsFinite (I.remaining s)) iterators.items → CanDeal ⟦<Merger<I, A> as Iterator>⟧.next_gives ⟦<Merger<I, A> as DoubleEndedIterator>⟧.next_back_gives ⟦<Merger<I, A> as Iterator>⟧.can_next ⟦<Merger<I, A> as DoubleEndedIterator>⟧.can_next_back m) }
+        ensures few { IfOk result (λ m. All (CanDeal I.next_gives I.next_back_gives I.can_next I.can_next_back) iterators.items → All (λ s. IsFinite (I.remaining s)) iterators.items → HoldsFew ⟦<Merger<I, A> as Iterator>⟧.next_gives ⟦<Merger<I, A> as DoubleEndedIterator>⟧.next_back_gives m) }
+        ensures err { IfErr result (λ e. e ≡ OutOfMemory) }
+    {
+        let Some(places) = iterators.len().checked_mul(2) else {
+            return Err(Error::OutOfMemory);
+        };
+        let heap = Tournament::with_capacity(alloc.clone()?, places)?;
+        let sources = fused(alloc, iterators)?;
+        Ok(Merger {
+            sources,
+            heap,
+            front_ready: false,
+            back_ready: false,
+            failed: false,
+        })
+    }
+}
+
+impl<I: DoubleEndedIterator<Item = IterItem<A>>, A: Allocator> Merger<I, A> {
+    // Moves the first of what source `i` still deals into the heap.
+    fn take_front(&mut self, i: usize) -> Result<(), Error>
+        requires place { i < length self.old.sources.items }
+        requires goes { All (Goes I.next_gives I.next_back_gives I.can_next I.can_next_back I.remaining) self.old.sources.items }
+        requires space { length (held self.old.heap) < room self.old.heap }
+        ensures goes { All (Goes I.next_gives I.next_back_gives I.can_next I.can_next_back I.remaining) self.new.sources.items }
+        ensures same { SameRoom self.old self.new }
+        ensures adds { Adds false i (held self.old.heap) (held self.new.heap) }
+        ensures lowers { MatchResult result (λ _. merge_total I.remaining self.new ≤ merge_total I.remaining self.old) (λ _. merge_total I.remaining self.new < merge_total I.remaining self.old) }
+        ensures takes { (stops : Error → Bool) → Takes stops I.next_gives I.next_back_gives false i self.old result self.new }
+    {
+        let source = &mut self.sources[i];
+        match source.next() {
+            Some(Ok(item)) => {
+                self.heap.push(HeapItem::new(item, i, false));
+                Ok(())
+            }
+            Some(Err(error)) => Err(error),
+            None => Ok(()),
+        }
+    }
+
+    // Moves the last of what source `i` still deals into the heap.
+    fn take_back(&mut self, i: usize) -> Result<(), Error>
+        requires place { i < length self.old.sources.items }
+        requires goes { All (Goes I.next_gives I.next_back_gives I.can_next I.can_next_back I.remaining) self.old.sources.items }
+        requires space { length (held self.old.heap) < room self.old.heap }
+        ensures goes { All (Goes I.next_gives I.next_back_gives I.can_next I.can_next_back I.remaining) self.new.sources.items }
+        ensures same { SameRoom self.old self.new }
+        ensures adds { Adds true i (held self.old.heap) (held self.new.heap) }
+        ensures lowers { MatchResult result (λ _. merge_total I.remaining self.new ≤ merge_total I.remaining self.old) (λ _. merge_total I.remaining self.new < merge_total I.remaining self.old) }
+        ensures takes { (stops : Error → Bool) → Takes stops I.next_gives I.next_back_gives true i self.old result self.new }
+    {
+        let source = &mut self.sources[i];
+        match source.next_back() {
+            Some(Ok(item)) => {
+                self.heap.push(HeapItem::new(item, i, true));
+                Ok(())
+            }
+            Some(Err(error)) => Err(error),
+            None => Ok(()),
+        }
+    }
+
+    // Once, moves the first of each source into the heap.
+    fn fill_front(&mut self) -> Result<(), Error>
+        requires { Fits I.next_gives I.next_back_gives I.can_next I.can_next_back I.remaining self.old }
+        ensures fits { MatchResult result (λ _. Fits I.next_gives I.next_back_gives I.can_next I.can_next_back I.remaining self.new) (λ _. (k : ℕ) → held_of k self.new ≤ 2) }
+        ensures ready { IfOk result (λ _. self.new.front_ready ≡ true) }
+        ensures other { self.new.back_ready ≡ self.old.back_ready }
+        ensures failed { self.new.failed ≡ self.old.failed }
+        ensures lowers { MatchResult result (λ _. merge_total I.remaining self.new ≤ merge_total I.remaining self.old) (λ _. merge_total I.remaining self.new < merge_total I.remaining self.old) }
+        ensures fills { (stops : Error → Bool) → Fills stops I.next_gives I.next_back_gives self.old result self.new }
+    {
+        if self.front_ready {
+            return Ok(());
+        }
+        for i in 0..self.sources.len() {
+            self.take_front(i)?;
+        }
+        self.front_ready = true;
+        Ok(())
+    }
+
+    // Once, moves the last of each source into the heap.
+    fn fill_back(&mut self) -> Result<(), Error>
+        requires { Fits I.next_gives I.next_back_gives I.can_next I.can_next_back I.remaining self.old }
+        ensures fits { MatchResult result (λ _. Fits I.next_gives I.next_back_gives I.can_next I.can_next_back I.remaining self.new) (λ _. (k : ℕ) → held_of k self.new ≤ 2) }
+        ensures ready { IfOk result (λ _. self.new.back_ready ≡ true) }
+        ensures other { self.new.front_ready ≡ self.old.front_ready }
+        ensures failed { self.new.failed ≡ self.old.failed }
+        ensures lowers { MatchResult result (λ _. merge_total I.remaining self.new ≤ merge_total I.remaining self.old) (λ _. merge_total I.remaining self.new < merge_total I.remaining self.old) }
+        ensures fills { (stops : Error → Bool) → Fills stops I.next_gives I.next_back_gives self.old result self.new }
+    {
+        if self.back_ready {
+            return Ok(());
+        }
+        for i in 0..self.sources.len() {
+            self.take_back(i)?;
+        }
+        self.back_ready = true;
+        Ok(())
+    }
+
+    // Takes the least entry of all sources, and the next of its source into the heap.
+    fn step_front(&mut self) -> Result<Option<InternalValue<A>>, Error>
+        requires { Fits I.next_gives I.next_back_gives I.can_next I.can_next_back I.remaining self.old }
+        ensures fits { MatchResult result (λ _. Fits I.next_gives I.next_back_gives I.can_next I.can_next_back I.remaining self.new) (λ _. (k : ℕ) → held_of k self.new ≤ 2) }
+        ensures failed { self.new.failed ≡ self.old.failed }
+        ensures lowers { MatchResult result (λ o. MatchOption o (merge_total I.remaining self.new ≤ merge_total I.remaining self.old) (λ _. merge_total I.remaining self.new < merge_total I.remaining self.old)) (λ _. merge_total I.remaining self.new < merge_total I.remaining self.old) }
+        ensures steps { (stops : Error → Bool) → Steps stops I.next_gives I.next_back_gives front_of self.old result self.new }
+    {
+        self.fill_front()?;
+        let Some(least) = self.heap.pop_min() else {
+            return Ok(None);
+        };
+        self.take_front(least.source)?;
+        Ok(Some(least.into_item()))
+    }
+
+    // Takes the greatest entry of all sources, and the next of its source into the heap.
+    fn step_back(&mut self) -> Result<Option<InternalValue<A>>, Error>
+        requires { Fits I.next_gives I.next_back_gives I.can_next I.can_next_back I.remaining self.old }
+        ensures fits { MatchResult result (λ _. Fits I.next_gives I.next_back_gives I.can_next I.can_next_back I.remaining self.new) (λ _. (k : ℕ) → held_of k self.new ≤ 2) }
+        ensures failed { self.new.failed ≡ self.old.failed }
+        ensures lowers { MatchResult result (λ o. MatchOption o (merge_total I.remaining self.new ≤ merge_total I.remaining self.old) (λ _. merge_total I.remaining self.new < merge_total I.remaining self.old)) (λ _. merge_total I.remaining self.new < merge_total I.remaining self.old) }
+        ensures steps { (stops : Error → Bool) → Steps stops I.next_gives I.next_back_gives back_of self.old result self.new }
+    {
+        self.fill_back()?;
+        let Some(greatest) = self.heap.pop_max() else {
+            return Ok(None);
+        };
+        self.take_back(greatest.source)?;
+        Ok(Some(greatest.into_item()))
+    }
+
+    // An error ends the merge for good.
+    fn fail(&mut self, error: Error) -> Option<IterItem<A>>
+        ensures answer { result ≡ Some (Err error) }
+        ensures state { self.new ≡ record self.old { failed = true } }
+    {
+        self.failed = true;
+        Some(Err(error))
+    }
+}
+
+impl<I: DoubleEndedIterator<Item = IterItem<A>>, A: Allocator> Iterator for Merger<I, A> {
+    type Item = IterItem<A>;
+
+    ghost can_next = { MayMerge I.next_gives I.next_back_gives I.can_next I.can_next_back I.remaining };
+
+    ghost next_gives = { Merges (MayMerge I.next_gives I.next_back_gives I.can_next I.can_next_back I.remaining) (λ stops. Leaves stops I.next_gives I.next_back_gives) front_of };
+
+    ghost remaining = { λ m. at_most (merge_size I.remaining m) };
+
+    fn next(&mut self) -> Option<IterItem<A>> {
+        if self.failed {
+            return None;
+        }
+        match self.step_front() {
+            Ok(Some(item)) => Some(Ok(item)),
+            Ok(None) => None,
+            Err(error) => self.fail(error),
+        }
+    }
+}
+
+impl<I: DoubleEndedIterator<Item = IterItem<A>>, A: Allocator> DoubleEndedIterator for Merger<I, A> {
+    ghost can_next_back = { MayMerge I.next_gives I.next_back_gives I.can_next I.can_next_back I.remaining };
+
+    ghost next_back_gives = { Merges (MayMerge I.next_gives I.next_back_gives I.can_next I.can_next_back I.remaining) (λ stops. Leaves stops I.next_gives I.next_back_gives) back_of };
+
+    fn next_back(&mut self) -> Option<IterItem<A>> {
+        if self.failed {
+            return None;
+        }
+        match self.step_back() {
+            Ok(Some(item)) => Some(Ok(item)),
+            Ok(None) => None,
+            Err(error) => self.fail(error),
+        }
+    }
+}
