@@ -1,6 +1,6 @@
 -- A block that was written loads.
-use Rattle.std.proofs.Common.{◌≡◌, ℕ, ◌+◌, ◌*◌, ◌-◌, ◌%◌, ◌^◌, ◌<◌, ◌≤◌, ◌==◌, not, nat_eq, Bool, true, false, if◌then◌else◌, List, [], ◌∷◌, ◌++◌, length, take, drop, slice_range, refl, sym, ap, subst, ◌∙◌, arith, append_assoc, length-append}
-use Rattle.std.specs.Prelude.{Option, Some, None, Result, Ok, Err, bit_xor}
+use Rattle.std.proofs.Common.{◌≡◌, ℕ, ◌+◌, ◌*◌, ◌-◌, ◌^◌, ◌<◌, ◌≤◌, true, List, [], ◌∷◌, ◌++◌, length, drop, slice_range, refl, sym, ap, ◌∙◌, arith, append_assoc, length-append}
+use Rattle.std.specs.Prelude.{None, Ok, bit_xor}
 use Rattle.std.proofs.lemmas.List.{take_at, drop_at, append-nil}
 use Rattle.std.proofs.lemmas.Bool.{eq-eqb}
 use Rattle.std.proofs.Math.Nat.{mod-lt}
@@ -8,12 +8,10 @@ use Rattle.sst_blocks.specs.declared.version.TableVersion.{TableVersion}
 use Rattle.sst_blocks.specs.declared.version.TableVersion.TheVariants.{V3, V4}
 use Rattle.sst_blocks.specs.declared.block_type.BlockType.{BlockType}
 use Rattle.sst_blocks.specs.declared.block_type.BlockType.TheVariants.{Data, Index, Filter, Meta}
-use Rattle.sst_blocks.specs.declared.error.Error.{Error}
 use Rattle.sst_blocks.specs.Fnv.{fnv1a, fnv_from, fnv_basis, fnv_prime, fnv_step}
 use Rattle.sst_blocks.specs.Number.{le4, le8, num4, num8}
-use Rattle.sst_blocks.specs.Version.{mark}
-use Rattle.sst_blocks.specs.Block.{Loaded, header, block_bytes, header_fault, data_len, uncompressed_len, stored_checksum, version_in, in_grammar, checked_payload, load_told, load_at_told}
-use Rattle.sst_blocks.proofs.Numbers.{IsWide, wide4, wide8}
+use Rattle.sst_blocks.specs.Block.{header, block_bytes, header_fault, data_len, uncompressed_len, stored_checksum, version_in, in_grammar, checked_payload, load_told, load_at_told}
+use Rattle.sst_blocks.proofs.Numbers.{wide4, wide8}
 use Rattle.sst_blocks.proofs.LoadLemmas.{load_checked, load_at_checked}
 
 -- hashes are numbers of eight bytes

@@ -1,10 +1,10 @@
 -- What a load tells, one fault after another.
-use Rattle.std.proofs.Common.{◌≡◌, ℕ, ◌+◌, ◌-◌, ◌<◌, ◌≤◌, ◌==◌, ◌&&◌, ◌||◌, not, nat_eq, nat_lt, Bool, true, false, if◌then◌else◌, List, length, take, drop, slice_range, refl, sym, ap, ◌∙◌, arith, inl, inr}
-use Rattle.std.specs.Prelude.{Option, Some, None, Result, Ok, Err}
+use Rattle.std.proofs.Common.{◌≡◌, ℕ, ◌+◌, ◌<◌, ◌≤◌, ◌==◌, ◌||◌, not, nat_lt, Bool, false, if◌then◌else◌, List, length, slice_range, refl, ◌∙◌, arith}
+use Rattle.std.specs.Prelude.{Option, Some, None, Result, Err}
 use Rattle.sst_blocks.specs.declared.block_type.BlockType.{BlockType}
 use Rattle.sst_blocks.specs.declared.error.Error.{Error}
 use Rattle.sst_blocks.specs.declared.error.Error.TheVariants.{Truncated, InvalidHeader}
-use Rattle.sst_blocks.specs.Block.{Loaded, header_fault, unless, data_len, uncompressed_len, stored_checksum, version_in, in_grammar, grammar_fault, payload_told, checked_payload, load_told, load_at_told}
+use Rattle.sst_blocks.specs.Block.{header_fault, unless, data_len, uncompressed_len, stored_checksum, version_in, payload_told, checked_payload, load_told, load_at_told}
 
 -- the test of a payload reads only two fields of the header
 pub told_checked : (kind : BlockType) (head payload : List ℕ) → payload_told kind head payload ≡ checked_payload (version_in head) (stored_checksum head) kind payload

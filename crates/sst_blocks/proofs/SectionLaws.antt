@@ -1,19 +1,17 @@
 -- The bytes of a finished writer read back as its sections.
-use Rattle.std.proofs.Common.{◌≡◌, ℕ, zero, suc, ◌+◌, ◌*◌, ◌-◌, ◌^◌, ◌<◌, ◌≤◌, ◌==◌, ◌&&◌, ◌||◌, not, nat_eq, nat_lt, Bool, true, false, if◌then◌else◌, List, [], ◌∷◌, ◌++◌, length, get_or, take, drop, map, replicate, refl, sym, ap, subst, ◌∙◌, arith, append_assoc, length-append, inl, inr}
+use Rattle.std.proofs.Common.{◌≡◌, ℕ, zero, suc, ◌+◌, ◌*◌, ◌-◌, ◌^◌, ◌<◌, ◌≤◌, ◌==◌, not, nat_eq, Bool, true, false, if◌then◌else◌, List, [], ◌∷◌, ◌++◌, length, get_or, take, drop, map, replicate, refl, sym, ap, ◌∙◌, arith, append_assoc, length-append}
 use Rattle.std.specs.Prelude.{Option, Some, None}
 use Rattle.std.specs.List.{flat_map, list_any}
 use Rattle.std.specs.Cmp.Lexicographic.{pointwise}
-use Rattle.std.proofs.lemmas.List.{take_at, drop_at, append-nil, take-append-le}
+use Rattle.std.proofs.lemmas.List.{take_at, drop_at, append-nil}
 use Rattle.std.proofs.Math.Seq.{drop-append-add}
 use Rattle.std.proofs.lemmas.Bool.{eqb-true, and_parts}
 use Rattle.sst_blocks.specs.declared.section.SectionName.{SectionName}
 use Rattle.sst_blocks.specs.declared.section.SectionName.TheVariants.{Data, Index, Tli, Filter, FilterTli, TableVersion, Meta}
 use Rattle.sst_blocks.specs.declared.section.Section.{Section}
-use Rattle.sst_blocks.specs.declared.error.Error.{Error}
-use Rattle.sst_blocks.specs.declared.error.Error.TheVariants.{InvalidTrailer}
 use Rattle.sst_blocks.specs.Number.{le8, num8}
 use Rattle.sst_blocks.specs.Sections.{Written, section_names, place_of, trailer_mark, next_start, section_of, AreAscending, slot, trailer, finished, body_of, trailer_of, section_at, section_in, is_past, trailer_fault}
-use Rattle.sst_blocks.proofs.Numbers.{IsWide, wide8}
+use Rattle.sst_blocks.proofs.Numbers.{wide8}
 use Rattle.sst_blocks.proofs.TrailerLemmas.{trailer_fine}
 
 -- a section within the first `end` bytes

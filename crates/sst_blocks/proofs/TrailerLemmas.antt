@@ -1,12 +1,10 @@
 -- What a trailer says, and when it is refused.
-use Rattle.std.proofs.Common.{◌≡◌, ℕ, ◌*◌, ◌-◌, ◌≤◌, ◌||◌, not, nat_eq, nat_lt, Bool, true, false, if◌then◌else◌, List, length, take, drop, map, refl, sym, ap, ◌∙◌, arith}
-use Rattle.std.specs.Prelude.{Option, Some, None}
+use Rattle.std.proofs.Common.{◌≡◌, ℕ, ◌*◌, ◌-◌, ◌≤◌, ◌||◌, not, nat_eq, Bool, true, false, if◌then◌else◌, List, length, drop, map, refl, ap, ◌∙◌, arith}
+use Rattle.std.specs.Prelude.{Some, None}
 use Rattle.std.specs.List.{list_any}
 use Rattle.std.specs.Cmp.Lexicographic.{pointwise}
 use Rattle.std.proofs.lemmas.List.{length-take}
-use Rattle.sst_blocks.specs.declared.error.Error.{Error}
 use Rattle.sst_blocks.specs.declared.error.Error.TheVariants.{InvalidTrailer}
-use Rattle.sst_blocks.specs.declared.section.Section.{Section}
 use Rattle.sst_blocks.specs.Sections.{section_names, place_of, trailer_mark, trailer_of, body_of, section_at, section_in, is_past, trailer_fault}
 
 -- the seven slots of a trailer

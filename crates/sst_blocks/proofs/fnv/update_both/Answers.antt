@@ -1,6 +1,5 @@
-use Rattle.std.proofs.Common.{◌≡◌, take, drop, length, arith, sym, ap, ◌∙◌}
+use Rattle.std.proofs.Common.{◌≡◌, arith, sym}
 use Rattle.std.proofs.lemmas.List.{take_rest}
-use Rattle.sst_blocks.specs.Fnv.{fnv_from, fnv_step}
 use Rattle.sst_blocks.proofs.FnvLemmas.{fnv_from-more, fnv_from-none, fnv_from-split}
 use Rattle.sst_blocks.proofs.fnv.update_both.Goals as goal
 

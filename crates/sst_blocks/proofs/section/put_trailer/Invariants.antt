@@ -1,4 +1,4 @@
-use Rattle.std.proofs.Common.{◌≡◌, ◌++◌, take, length}
+use Rattle.std.proofs.Common.{◌≡◌, ◌++◌, take}
 use Rattle.std.specs.List.{flat_map}
 use Rattle.sst_blocks.specs.Sections.{section_names, section_of, slot}
 use Rattle.sst_blocks.proofs.section.put_trailer.Given as goal

@@ -1,6 +1,4 @@
-use Rattle.std.proofs.Common.{◌≡◌, take, length, arith, sym, ap, ◌∙◌}
-use Rattle.std.proofs.lemmas.List.{take_all}
-use Rattle.sst_blocks.specs.Fnv.{fnv_from, fnv_step}
+use Rattle.std.proofs.Common.{arith, sym}
 use Rattle.sst_blocks.proofs.FnvLemmas.{fnv_from-more, fnv_from-none}
 use Rattle.sst_blocks.proofs.fnv.Fnv1a.update.Goals as goal
 

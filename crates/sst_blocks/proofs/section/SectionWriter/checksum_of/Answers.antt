@@ -1,6 +1,6 @@
-use Rattle.std.proofs.Common.{◌≡◌, ◌≤◌, ◌-◌, take, drop, length, arith}
+use Rattle.std.proofs.Common.{arith}
 use Rattle.std.proofs.lemmas.List.{take_rest, take_all}
-use Rattle.sst_blocks.specs.Fnv.{fnv_basis, fnv_from}
+use Rattle.sst_blocks.specs.Fnv.{fnv_basis}
 use Rattle.sst_blocks.proofs.FnvLemmas.{fnv_from-split}
 use Rattle.sst_blocks.proofs.section.SectionWriter.checksum_of.Goals as goal
 

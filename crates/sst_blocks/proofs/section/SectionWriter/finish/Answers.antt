@@ -1,6 +1,6 @@
-use Rattle.std.proofs.Common.{◌≡◌, ◌≤◌, ◌-◌, ◌++◌, take, drop, length, rules, arith, ap, ◌∙◌}
+use Rattle.std.proofs.Common.{◌≡◌, length, rules, arith, ap}
 use Rattle.std.proofs.lemmas.List.{take_rest}
-use Rattle.sst_blocks.specs.Fnv.{fnv_basis, fnv_from}
+use Rattle.sst_blocks.specs.Fnv.{fnv_basis}
 use Rattle.sst_blocks.specs.Sections.{Written, finished, trailer}
 use Rattle.sst_blocks.proofs.FnvLemmas.{fnv_from-grown}
 use Rattle.sst_blocks.proofs.section.SectionWriter.finish.Goals as goal

@@ -1,4 +1,4 @@
-use Rattle.std.proofs.Common.{◌≡◌, ◌≤◌, sym, ◌∙◌, arith}
+use Rattle.std.proofs.Common.{sym, ◌∙◌, arith}
 use Rattle.sst_blocks.specs.Fnv.{fnv_basis}
 use Rattle.sst_blocks.proofs.FnvLemmas.{fnv_from-none}
 use Rattle.sst_blocks.proofs.section.SectionWriter.new.Goals as goal

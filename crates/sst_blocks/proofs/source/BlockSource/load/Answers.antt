@@ -1,4 +1,4 @@
-use Rattle.std.proofs.Common.{◌≡◌, ◌+◌, ◌<◌, ◌≤◌, List, ℕ, length, slice_range, sym, subst, arith}
+use Rattle.std.proofs.Common.{◌≡◌, ◌+◌, slice_range, sym, subst, arith}
 use Rattle.std.specs.Prelude.{Result}
 use Rattle.std.proofs.lemmas.Result.{err_from_is_err_and}
 use Rattle.sst_blocks.specs.declared.error.Error.{Error}

@@ -1,10 +1,5 @@
-use Rattle.std.proofs.Common.{◌≡◌, ℕ, List, ◌-◌, ◌≤◌, Bool, true, false, not, nat_eq, drop, map, length, refl, sym, ap, ◌∙◌, arith}
-use Rattle.std.specs.Prelude.{Option}
-use Rattle.std.specs.List.{list_any}
-use Rattle.std.specs.Cmp.Lexicographic.{pointwise}
+use Rattle.std.proofs.Common.{ℕ, List, ◌∙◌, arith}
 use Rattle.std.proofs.lemmas.List.{take_rest}
-use Rattle.sst_blocks.specs.declared.section.Section.{Section}
-use Rattle.sst_blocks.specs.Sections.{section_names, section_in, is_past, trailer_mark, trailer_of}
 use Rattle.sst_blocks.proofs.TrailerLemmas.{sections_read, trailer_passes, trailer_fine}
 use Rattle.sst_blocks.proofs.toc.Toc.of.Goals as goal
 
