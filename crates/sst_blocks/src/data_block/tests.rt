@@ -244,32 +244,18 @@ fn both_ends_deal_one_window(rt: HostRuntime) -> Result<(), Fail> {
     Ok(())
 }
 
-// An entry's bytes, with a tag and lengths of any kind.
-fn put_raw<A: Allocator>(
-    buf: &mut Vec<u8, A>,
-    tag: u8,
-    seqno: u64,
-    lengths: (u32, u32),
-    key_and_value: &[u8],
-) -> Result<(), Error> {
-    buf.push(tag)?;
-    buf.extend_from_slice(&seqno.to_le_bytes())?;
-    buf.extend_from_slice(&lengths.0.to_le_bytes())?;
-    buf.extend_from_slice(&lengths.1.to_le_bytes())?;
-    buf.extend_from_slice(key_and_value)?;
-    Ok(())
-}
-
-// Whether a payload of this count and these entries (tag, number, both lengths, key and value) is in the grammar.
-fn is_read<A: Allocator + Clone>(
-    alloc: A,
-    count: u32,
-    entries: &[(u8, u64, (u32, u32), &[u8])],
-) -> Result<bool, Error> {
+// Whether a payload is in the grammar: its count, and then its entries, each by its tag, its number, both of its lengths
+// and the first of the two bytes behind them.
+fn is_read<A: Allocator + Clone>(alloc: A, count: u32, entries: &[[u32; 5]]) -> Result<bool, Error> {
     let mut bytes = Vec::new(alloc.clone()?);
     bytes.extend_from_slice(&count.to_le_bytes())?;
-    for (tag, seqno, lengths, rest) in entries {
-        put_raw(&mut bytes, *tag, *seqno, *lengths, rest)?;
+    for [tag, seqno, key_len, value_len, first] in entries {
+        bytes.push((*tag & 0xff) as u8)?;
+        bytes.extend_from_slice(&u64::from(*seqno).to_le_bytes())?;
+        bytes.extend_from_slice(&key_len.to_le_bytes())?;
+        bytes.extend_from_slice(&value_len.to_le_bytes())?;
+        bytes.push((*first & 0xff) as u8)?;
+        bytes.push(b'x')?;
     }
     if bytes.len() > 100 {
         return Ok(false);
@@ -282,39 +268,29 @@ fn is_read<A: Allocator + Clone>(
 }
 
 #[test]
-fn payloads_in_the_grammar_are_read(rt: HostRuntime) -> Result<(), Fail> {
-    let cases: [(u32, &[(u8, u64, (u32, u32), &[u8])]); 6] = [
-        (0, &[]),
-        (1, &[(0, 1, (1, 1), b"ax")]),
-        (1, &[(1, 1, (1, 0), b"a")]),
-        (1, &[(2, 1, (1, 0), b"a")]),
-        (1, &[(4, 1, (0, 2), b"ax")]),
-        (2, &[(0, 2, (1, 0), b"a"), (0, 1, (1, 0), b"a")]),
+fn payloads_are_read_where_they_are_in_the_grammar(rt: HostRuntime) -> Result<(), Fail> {
+    let cases: [(u32, &[[u32; 5]], bool); 18] = [
+        (0, &[], true),
+        (1, &[], false),
+        (u32::MAX, &[], false),
+        (1, &[[0, 1, 1, 1, 97]], true),
+        (1, &[[1, 1, 2, 0, 97]], true),
+        (1, &[[2, 1, 2, 0, 97]], true),
+        (1, &[[4, 1, 0, 2, 97]], true),
+        (1, &[[3, 1, 1, 1, 97]], false),
+        (1, &[[5, 1, 1, 1, 97]], false),
+        (0, &[[0, 1, 1, 1, 97]], false),
+        (2, &[[0, 1, 1, 1, 97]], false),
+        (1, &[[0, 1, 2, 1, 97]], false),
+        (1, &[[0, 1, 1, 2, 97]], false),
+        (1, &[[0, 1, 1, 0, 97]], false),
+        (1, &[[0, 1, u32::MAX, u32::MAX, 97]], false),
+        (2, &[[0, 2, 1, 1, 97], [0, 1, 1, 1, 97]], true),
+        (2, &[[0, 1, 1, 1, 97], [1, 1, 1, 1, 97]], false),
+        (2, &[[0, 1, 1, 1, 98], [0, 2, 1, 1, 97]], false),
     ];
-    for (count, entries) in &cases {
-        assert!(rt; is_read(rt.alloc(), *count, entries)?, "{count} {entries:?}");
-    }
-    Ok(())
-}
-
-#[test]
-fn payloads_out_of_the_grammar_are_refused(rt: HostRuntime) -> Result<(), Fail> {
-    let cases: [(u32, &[(u8, u64, (u32, u32), &[u8])]); 12] = [
-        (1, &[]),
-        (u32::MAX, &[]),
-        (1, &[(3, 1, (1, 1), b"ax")]),
-        (1, &[(5, 1, (1, 1), b"ax")]),
-        (0, &[(0, 1, (1, 1), b"ax")]),
-        (2, &[(0, 1, (1, 1), b"ax")]),
-        (1, &[(0, 1, (2, 1), b"ax")]),
-        (1, &[(0, 1, (1, 2), b"ax")]),
-        (1, &[(0, 1, (1, 0), b"ax")]),
-        (1, &[(0, 1, (u32::MAX, u32::MAX), b"ax")]),
-        (2, &[(0, 1, (1, 0), b"a"), (1, 1, (1, 0), b"a")]),
-        (2, &[(0, 1, (1, 0), b"b"), (0, 2, (1, 0), b"a")]),
-    ];
-    for (count, entries) in &cases {
-        assert!(rt; !is_read(rt.alloc(), *count, entries)?, "{count} {entries:?}");
+    for (count, entries, good) in cases {
+        assert_eq!(rt; is_read(rt.alloc(), count, entries)?, good, "{count} {entries:?}");
     }
     Ok(())
 }
