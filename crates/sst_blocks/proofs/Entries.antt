@@ -18,7 +18,7 @@ use Rattle.sst_blocks.specs.Starts.{starts_of, EntriesAt}
 use Rattle.sst_blocks.specs.Strict.{IsStrict, IsStrictAfter, is_strict_after}
 use Rattle.sst_blocks.specs.Version.{key_width, key_limit, key_len_bytes, key_len_at}
 use Rattle.sst_blocks.proofs.Numbers.{IsBytes, IsBytes-drop, wide4, wide8, key_wide}
-use Rattle.sst_blocks.proofs.Items.{Format, IsFormat, Advances, ReadAt, items_at, items_in, in_order, guard_some, items_in_take, items_in_again, items_strict, item_reads, length-starts}
+use Rattle.sst_blocks.proofs.Items.{Format, IsFormat, Advances, Here, items_at, items_in, in_order, guard_some, items_in_take, items_in_again, items_strict, item_holds, length-starts}
 
 -- ---- kinds and their tags
 
@@ -259,7 +259,7 @@ pub record Stands (v : TableVersion) (bytes : List ℕ) (at : ℕ) (e : Entry) :
   pub key : slice_range bytes (at + (13 + key_width v)) (at + (13 + key_width v) + length e.user_key) ≡ e.user_key
   pub value : slice_range bytes (at + (13 + key_width v) + length e.user_key) (at + (13 + key_width v) + length e.user_key + length e.value) ≡ e.value
 
-stands : (v : TableVersion) (bytes : List ℕ) (at : ℕ) (e : Entry) → ReadAt (entry_format v) bytes at e → Stands v bytes at e
+stands : (v : TableVersion) (bytes : List ℕ) (at : ℕ) (e : Entry) → Here (entry_format v) bytes at e → Stands v bytes at e
 stands v bytes at e h =
     let w = 13 + key_width v in
     let k = length e.user_key in
@@ -293,8 +293,8 @@ block_strict v bytes starts es block view =
 pub block_holds : (v : TableVersion) (bytes starts : List ℕ) (es : List Entry) (i at : ℕ) (e : Entry) → EntriesAt v bytes starts → unwrap_or (entries_in v bytes) [] ≡ es → slice_get es i ≡ Some e → at ≡ get_or starts i at → Stands v bytes at e
 block_holds v bytes starts es i at e block view some is_at =
     let b = block_spells v bytes starts es block view in
-    let h = item_reads (entry_format v) (entries_advance v) bytes starts es i at e (sym (entries_in_same v bytes) ∙ b.0) b.1 (slice_get_within es i e some) is_at in
-    stands v bytes at e (subst (ReadAt (entry_format v) bytes at) (get_or_from_slice_get es i e e some) h)
+    let h = item_holds (entry_format v) (entries_advance v) bytes starts es i at e (sym (entries_in_same v bytes) ∙ b.0) b.1 (slice_get_within es i e some) is_at in
+    stands v bytes at e (subst (Here (entry_format v) bytes at) (get_or_from_slice_get es i e e some) h)
 
 pub some_at : (es : List Entry) (i : ℕ) → i < length es → (e : Entry) × (slice_get es i ≡ Some e)
 some_at es i lt = let blank = entry [] [] 0 Value in (get_or es i blank, slice_get-get_or es i blank lt)

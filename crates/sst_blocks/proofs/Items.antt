@@ -291,48 +291,12 @@ module _ {X : Type 0} (f : Format X) where
 
 -- ---- what stands at a start
 
--- the item begins at the place
-pub record Here {X : Type 0} (f : Format X) (bytes : List ℕ) (at : ℕ) (x : X) : Type 0 where
-  pub rest : List ℕ
-  pub parts : drop at bytes ≡ f.spell x ++ rest
-  pub found : f.read (drop at bytes) ≡ Some (x, rest)
-  pub within : at + length (f.spell x) ≤ length bytes
-
-module _ {X : Type 0} (f : Format X) (Fits : X → Type 0) (law : IsFormat f Fits) where
-  start_holds : (pre : List ℕ) (at : ℕ) (xs : List X) (i d : ℕ) (b : X) → length pre ≡ at → AllByRecursion Fits xs → i < length xs → Here f (pre ++ flat_map f.spell xs) (get_or (starts_of f.spell at xs) i d) (get_or xs i b)
-  unfolding starts_of
-  start_holds pre at [] i d b len fits lt = absurd (omega (arith, lt))
-  start_holds pre at (x ∷ xs) zero d b len fits lt =
-      let F = flat_map f.spell xs in
-      let parts : drop at (pre ++ (f.spell x ++ F)) ≡ f.spell x ++ F = drop_at pre (f.spell x ++ F) at len in
-      record {
-        rest = F;
-        parts = parts;
-        found = ap f.read parts ∙ law.again x F fits.0;
-        within = omega (arith, len, length-append pre (f.spell x ++ F), length-append (f.spell x) F);
-      }
-  start_holds pre at (x ∷ xs) (suc i) d b len fits lt =
-      let h = start_holds (pre ++ f.spell x) (at + length (f.spell x)) xs i d b (omega (arith, len, length-append pre (f.spell x))) fits.1 (omega (arith, lt)) in
-      subst (λ (p : List ℕ). Here f p (get_or (starts_of f.spell (at + length (f.spell x)) xs) i d) (get_or xs i b)) (append_assoc pre (f.spell x) (flat_map f.spell xs)) h
-
-  -- at the start of a place stands the item of the place
-  pub item_holds : (bytes starts : List ℕ) (xs : List X) (i at : ℕ) (b : X) → IsBytes bytes → items_in f bytes ≡ Some xs → starts ≡ starts_of f.spell 4 xs → i < length xs → at ≡ get_or starts i at
-      → Here f bytes at (get_or xs i b)
-  item_holds bytes starts xs i at b fits are places lt is_at =
-      let t = items_in_take f Fits law bytes xs fits are in
-      let h = start_holds (le4 (length xs)) 4 xs i at b (wide4.len (length xs)) t.2 lt in
-      let a = subst (λ (p : List ℕ). Here f p (get_or (starts_of f.spell 4 xs) i at) (get_or xs i b)) (sym t.0) h in
-      let c = subst (λ (s : List ℕ). Here f bytes (get_or s i at) (get_or xs i b)) (sym places) a in
-      subst (λ (n : ℕ). Here f bytes n (get_or xs i b)) (sym is_at) c
-
--- ---- what is read at a start
-
 -- an item is read from as many bytes as its spelling has
 abbrev pub Advances : {X : Type 0} → Format X → Type 0
 Advances {X} f = (bytes : List ℕ) (x : X) (rest : List ℕ) → f.read bytes ≡ Some (x, rest) → (rest ≡ drop (length (f.spell x)) bytes) × (length (f.spell x) ≤ length bytes)
 
 -- the item is read from the place on
-pub record ReadAt {X : Type 0} (f : Format X) (bytes : List ℕ) (at : ℕ) (x : X) : Type 0 where
+pub record Here {X : Type 0} (f : Format X) (bytes : List ℕ) (at : ℕ) (x : X) : Type 0 where
   pub rest : List ℕ
   pub found : f.read (drop at bytes) ≡ Some (x, rest)
   pub within : at + length (f.spell x) ≤ length bytes
@@ -342,19 +306,19 @@ module _ {X : Type 0} (f : Format X) (advances : Advances f) where
   no_items [] x xs h = cc
   no_items (b ∷ bytes) x xs h = cc
 
-  start_reads : (n : ℕ) (bytes : List ℕ) (at : ℕ) (xs : List X) (i d : ℕ) (b : X) → at ≤ length bytes → items_at f.read n (drop at bytes) ≡ Some xs → i < length xs → ReadAt f bytes (get_or (starts_of f.spell at xs) i d) (get_or xs i b)
+  start_holds : (n : ℕ) (bytes : List ℕ) (at : ℕ) (xs : List X) (i d : ℕ) (b : X) → at ≤ length bytes → items_at f.read n (drop at bytes) ≡ Some xs → i < length xs → Here f bytes (get_or (starts_of f.spell at xs) i d) (get_or xs i b)
   unfolding starts_of
-  start_reads n bytes at [] i d b le h lt = absurd (omega (arith, lt))
-  start_reads zero bytes at (x ∷ xs) i d b le h lt = absurd (no_items (drop at bytes) x xs h)
-  start_reads (suc n) bytes at (x ∷ xs) zero d b le h lt =
+  start_holds n bytes at [] i d b le h lt = absurd (omega (arith, lt))
+  start_holds zero bytes at (x ∷ xs) i d b le h lt = absurd (no_items (drop at bytes) x xs h)
+  start_holds (suc n) bytes at (x ∷ xs) zero d b le h lt =
       option_and_then_some (λ (y : X × List ℕ). option_map (λ ys. y.0 ∷ ys) (items_at f.read n y.1)) (f.read (drop at bytes)) (x ∷ xs) h
       (λ y read more.
       option_map_some (λ (ys : List X). y.0 ∷ ys) (items_at f.read n y.1) (x ∷ xs) more
       (λ ys others whole.
       let is : y.0 ≡ x = cc in
       let far = (advances (drop at bytes) y.0 y.1 read).1 in
-      subst (ReadAt f bytes at) is (record { rest = y.1; found = read; within = omega (arith, far, length-drop at bytes) })))
-  start_reads (suc n) bytes at (x ∷ xs) (suc i) d b le h lt =
+      subst (Here f bytes at) is (record { rest = y.1; found = read; within = omega (arith, far, length-drop at bytes) })))
+  start_holds (suc n) bytes at (x ∷ xs) (suc i) d b le h lt =
       option_and_then_some (λ (y : X × List ℕ). option_map (λ ys. y.0 ∷ ys) (items_at f.read n y.1)) (f.read (drop at bytes)) (x ∷ xs) h
       (λ y read more.
       option_map_some (λ (ys : List X). y.0 ∷ ys) (items_at f.read n y.1) (x ∷ xs) more
@@ -366,7 +330,7 @@ module _ {X : Type 0} (f : Format X) (advances : Advances f) where
       let left : y.1 ≡ drop next bytes = step.0 ∙ ap (λ (z : X). drop (length (f.spell z)) (drop at bytes)) is ∙ drop-drop (length (f.spell x)) at bytes in
       let long : next ≤ length bytes = omega (arith, step.1, ap (λ (z : X). length (f.spell z)) is, length-drop at bytes) in
       let reads : items_at f.read n (drop next bytes) ≡ Some xs = ap (items_at f.read n) (sym left) ∙ others ∙ ap (λ zs. Some zs) are in
-      start_reads n bytes next xs i d b long reads (omega (arith, lt))))
+      start_holds n bytes next xs i d b long reads (omega (arith, lt))))
 
   -- what a payload spells is read from its fourth byte on
   items_read : (bytes : List ℕ) (xs : List X) → items_in f bytes ≡ Some xs → (4 ≤ length bytes) × (items_at f.read (num4 bytes) (drop 4 bytes) ≡ Some xs) × (in_order f xs ≡ true)
@@ -379,11 +343,11 @@ module _ {X : Type 0} (f : Format X) (advances : Advances f) where
       (ltb-false _ _ g.0, read ∙ ap (λ zs. Some zs) t.1, ap (in_order f) (sym t.1) ∙ t.0))
 
   -- at the start of a place stands the item of the place
-  pub item_reads : (bytes starts : List ℕ) (xs : List X) (i at : ℕ) (b : X) → items_in f bytes ≡ Some xs → starts ≡ starts_of f.spell 4 xs → i < length xs → at ≡ get_or starts i at → ReadAt f bytes at (get_or xs i b)
-  item_reads bytes starts xs i at b are places lt is_at =
+  pub item_holds : (bytes starts : List ℕ) (xs : List X) (i at : ℕ) (b : X) → items_in f bytes ≡ Some xs → starts ≡ starts_of f.spell 4 xs → i < length xs → at ≡ get_or starts i at → Here f bytes at (get_or xs i b)
+  item_holds bytes starts xs i at b are places lt is_at =
       let t = items_read bytes xs are in
-      let h = start_reads (num4 bytes) bytes 4 xs i at b t.0 t.1 lt in
-      subst (λ (n : ℕ). ReadAt f bytes n (get_or xs i b)) (sym (is_at ∙ ap (λ (s : List ℕ). get_or s i at) places)) h
+      let h = start_holds (num4 bytes) bytes 4 xs i at b t.0 t.1 lt in
+      subst (λ (n : ℕ). Here f bytes n (get_or xs i b)) (sym (is_at ∙ ap (λ (s : List ℕ). get_or s i at) places)) h
 
   -- what a payload spells is strict
   pub items_strict : (bytes : List ℕ) (xs : List X) → items_in f bytes ≡ Some xs → IsStrictAfter None (map f.key xs)

@@ -174,11 +174,11 @@ impl<A: Allocator> DataBlock<A> {
         self.starts.is_empty()
     }
 
-    fn entry_ref(&self, i: usize) -> EntryRef<'_>
-        requires { i < length self.now }
-        ensures { slice_get self.now i ≡ Some (seen result) }
+    fn entry_ref(&self, index: usize) -> EntryRef<'_>
+        requires { index < length self.now }
+        ensures { slice_get self.now index ≡ Some (seen result) }
     {
-        let start = self.starts[i] as usize;
+        let start = self.starts[index] as usize;
         let bytes = self.payload.as_slice();
         match read_entry(self.version, &bytes[start..]) {
             Some((entry, _)) => entry,
@@ -187,13 +187,13 @@ impl<A: Allocator> DataBlock<A> {
     }
 
     /// The entry of a place, whose key and value share the block's memory. Refused [`Error::OutOfMemory`] alone.
-    pub fn entry(&self, i: usize) -> Result<InternalValue<A>, Error>
-        requires { i < length self.now }
-        ensures found { IfOk result (λ e. slice_get self.now i ≡ Some e) }
+    pub fn entry(&self, index: usize) -> Result<InternalValue<A>, Error>
+        requires { index < length self.now }
+        ensures found { IfOk result (λ e. slice_get self.now index ≡ Some e) }
         ensures err { IfErr result (λ e. e ≡ OutOfMemory) }
     {
-        let entry = self.entry_ref(i);
-        let key_at = self.starts[i] as usize + head_len(self.version);
+        let entry = self.entry_ref(index);
+        let key_at = self.starts[index] as usize + head_len(self.version);
         let value_at = key_at + entry.key.len();
         let end = value_at + entry.value.len();
         let key = self.payload.slice(key_at, value_at)?;
@@ -208,17 +208,17 @@ impl<A: Allocator> DataBlock<A> {
         ensures strict { IsStrict self.now }
         ensures value { (p : Entry → Bool) → ((x : _) (r : _) → P.post passes x r → r ≡ p (seen x.now)) → IsPartitionedBy p self.now → result ≡ front_length p self.now }
     {
-        let mut lo = 0;
-        let mut hi = self.len();
-        while lo < hi {
-            let mid = lo + (hi - lo) / 2;
-            if passes(&self.entry_ref(mid)) {
-                lo = mid + 1;
+        let mut low = 0;
+        let mut high = self.len();
+        while low < high {
+            let middle = low + (high - low) / 2;
+            if passes(&self.entry_ref(middle)) {
+                low = middle + 1;
             } else {
-                hi = mid;
+                high = middle;
             }
         }
-        lo
+        low
     }
 
     /// How many entries stand below a key: the place of the first entry of the key or of a greater one.
@@ -251,11 +251,11 @@ impl<A: Allocator> DataBlock<A> {
         ensures found { IfOk result (λ found. found ≡ point self.now key.now seqno) }
         ensures err { IfErr result (λ e. e ≡ OutOfMemory) }
     {
-        let i = self.front_len(move |entry| entry.is_up_to(key, seqno));
-        if i == self.len() || self.entry_ref(i).key != key {
+        let index = self.front_len(move |entry| entry.is_up_to(key, seqno));
+        if index == self.len() || self.entry_ref(index).key != key {
             return Ok(None);
         }
-        Ok(Some(self.entry(i)?))
+        Ok(Some(self.entry(index)?))
     }
 }
 

@@ -4,7 +4,7 @@ ghost use Rattle.sst_blocks.specs.Strict.{IsStrict, may_follow};
 
 use super::entry_starts;
 use crate::{
-    Block, BlockType, DataBlock, DataBlockIter, Error, InternalValue, IterItem, SeqNo, Slice, TableVersion,
+    Block, BlockType, DataBlock, Error, InternalValue, IterItem, SeqNo, Slice, TableVersion,
     ValueType, data_block_bound,
 };
 use refusing::{Refusing, each_refused};
@@ -127,43 +127,44 @@ fn payloads_of_both_versions_read_as_their_entries(rt: HostRuntime) -> Result<()
 
 #[test]
 fn a_point_read_finds_the_newest_version_below_a_number(rt: HostRuntime) -> Result<(), Fail> {
-    let alloc = rt.alloc();
-    let items = five_entries(alloc)?;
-    let block = written_and_loaded(alloc, &items)?;
+    let items = five_entries(rt.alloc())?;
+    let block = written_and_loaded(rt.alloc(), &items)?;
     assert_eq!(rt; block.len(), 5);
-    // A key and a number, and the place of the entry that is found.
-    for (key, seqno, place) in [
-        (b"a", u64::MAX, Some(0usize)),
-        (b"a", 10, Some(0)),
-        (b"a", 9, Some(1)),
-        (b"a", 8, Some(1)),
-        (b"a", 7, Some(2)),
-        (b"a", 6, Some(2)),
-        (b"a", 5, None),
-        (b"a", 0, None),
-        (b"b", u64::MAX, None),
-        (b"c", 1, Some(3)),
-        (b"c", 0, None),
-        (b"d", u64::MAX, None),
-        (b"e", 4, Some(4)),
-        (b"e", 3, None),
-        (b"f", u64::MAX, None),
-    ] {
-        let found = block.point_read(key, seqno)?;
-        let expected = match place {
-            Some(place) => items.get(place),
-            None => None,
-        };
-        assert!(rt; found.as_ref() == expected, "{key:?} below {seqno}");
+    // A key and a number, and the place of the entry that is found, or 5 for none.
+    let reads: [(&[u8], SeqNo, usize); 17] = [
+        (b"", u64::MAX, 5),
+        (b"a", u64::MAX, 0),
+        (b"a", 10, 0),
+        (b"a", 9, 1),
+        (b"a", 8, 1),
+        (b"a", 7, 2),
+        (b"a", 6, 2),
+        (b"a", 5, 5),
+        (b"a", 0, 5),
+        (b"aa", u64::MAX, 5),
+        (b"b", u64::MAX, 5),
+        (b"c", 1, 3),
+        (b"c", 0, 5),
+        (b"d", u64::MAX, 5),
+        (b"e", 4, 4),
+        (b"e", 3, 5),
+        (b"f", u64::MAX, 5),
+    ];
+    for (key, seqno, place) in &reads {
+        let found = block.point_read(key, *seqno)?;
+        assert!(rt; found.as_ref() == items.get(*place), "{key:?} below {seqno}");
     }
-    assert!(rt; block.point_read(b"", u64::MAX)?.is_none());
-    assert!(rt; block.point_read(b"aa", u64::MAX)?.is_none());
-    let none: [u8; 4] = [0; 4];
-    let empty = load(alloc, TableVersion::V3, &none)?;
-    assert!(rt; empty.is_empty());
-    assert!(rt; empty.point_read(b"a", u64::MAX)?.is_none());
-    assert!(rt; empty.iter().next().is_none());
-    assert!(rt; empty.iter().next_back().is_none());
+    Ok(())
+}
+
+#[test]
+fn a_block_without_entries_has_none(rt: HostRuntime) -> Result<(), Fail> {
+    let count = [0; 4];
+    let block = load(rt.alloc(), TableVersion::V3, &count)?;
+    assert!(rt; block.is_empty());
+    assert!(rt; block.point_read(b"a", u64::MAX)?.is_none());
+    assert!(rt; block.iter().next().is_none());
+    assert!(rt; block.iter().next_back().is_none());
     Ok(())
 }
 
@@ -175,55 +176,59 @@ fn number<A: Allocator>(answer: Option<IterItem<A>>) -> Result<SeqNo, Error> {
     }
 }
 
-// A seek by its name.
-fn sought<A: Allocator>(iter: &mut DataBlockIter<'_, A>, edge: &str, key: &[u8]) -> bool {
-    match edge {
+// The numbers of the first and the last entry that a seek leaves, and whether it says that it leaves one.
+fn left_by<A: Allocator>(
+    block: &DataBlock<A>,
+    seek: &str,
+    key: &[u8],
+) -> Result<(SeqNo, SeqNo, bool), Error> {
+    let mut iter = block.iter();
+    let any = match seek {
         "at least" => iter.seek(key),
         "above" => iter.seek_exclusive(key),
         "at most" => iter.seek_upper(key),
         _ => iter.seek_upper_exclusive(key),
-    }
+    };
+    let first = number(iter.next())?;
+    let last = number(iter.next_back())?;
+    Ok((first, last, any))
 }
 
 #[test]
-fn seeks_narrow_a_window_that_both_ends_deal(rt: HostRuntime) -> Result<(), Fail> {
-    let alloc = rt.alloc();
-    let items = five_entries(alloc)?;
-    let block = written_and_loaded(alloc, &items)?;
-    // A seek, and the numbers of the first and the last entry of its window.
-    for (edge, key, first, last) in [
+fn seeks_narrow_to_the_entries_on_one_side_of_a_key(rt: HostRuntime) -> Result<(), Fail> {
+    let items = five_entries(rt.alloc())?;
+    let block = written_and_loaded(rt.alloc(), &items)?;
+    // The last entry is 99 where there are fewer than two.
+    let seeks: [(&str, &[u8], SeqNo, SeqNo); 17] = [
         ("at least", b"a", 9, 3),
         ("at least", b"b", 0, 3),
         ("at least", b"c", 0, 3),
-        ("at least", b"e", 3, 3),
+        ("at least", b"e", 3, 99),
         ("at least", b"f", 99, 99),
         ("above", b"Z", 9, 3),
         ("above", b"a", 0, 3),
-        ("above", b"c", 3, 3),
+        ("above", b"c", 3, 99),
         ("above", b"e", 99, 99),
         ("at most", b"Z", 99, 99),
         ("at most", b"a", 9, 5),
-        ("at most", b"b", 9, 5),
         ("at most", b"c", 9, 0),
         ("at most", b"f", 9, 3),
         ("below", b"a", 99, 99),
-        ("below", b"b", 9, 5),
         ("below", b"c", 9, 5),
         ("below", b"d", 9, 0),
         ("below", b"f", 9, 3),
-    ] {
-        let mut iter = block.iter();
-        assert_eq!(rt; sought(&mut iter, edge, key), first != 99, "{edge} {key:?}");
-        assert_eq!(rt; number(iter.next())?, first, "{edge} {key:?}");
-        let mut iter = block.iter();
-        sought(&mut iter, edge, key);
-        assert_eq!(rt; number(iter.next_back())?, last, "{edge} {key:?}");
+    ];
+    for (seek, key, first, last) in &seeks {
+        let answer = left_by(&block, seek, key)?;
+        assert_eq!(rt; answer, (*first, *last, *first != 99), "{seek} {key:?}");
     }
-    let mut iter = block.iter();
-    for expected in [9, 7, 5, 0, 3, 99, 99] {
-        assert_eq!(rt; number(iter.next())?, expected);
-    }
-    assert_eq!(rt; number(iter.next_back())?, 99);
+    Ok(())
+}
+
+#[test]
+fn both_ends_deal_one_window(rt: HostRuntime) -> Result<(), Fail> {
+    let items = five_entries(rt.alloc())?;
+    let block = written_and_loaded(rt.alloc(), &items)?;
     let mut iter = block.iter();
     for (from_front, expected) in [(true, 9), (false, 3), (true, 7), (false, 0), (false, 5), (true, 99), (false, 99)] {
         let answer = if from_front { iter.next() } else { iter.next_back() };
@@ -239,59 +244,59 @@ fn seeks_narrow_a_window_that_both_ends_deal(rt: HostRuntime) -> Result<(), Fail
     Ok(())
 }
 
-// An entry's bytes, with a tag and lengths of any kind.
-fn put_raw<A: Allocator>(
-    buf: &mut Vec<u8, A>,
-    tag: u8,
-    seqno: u64,
-    lengths: (u32, u32),
-    key_and_value: &[u8],
-) -> Result<(), Error> {
-    buf.push(tag)?;
-    buf.extend_from_slice(&seqno.to_le_bytes())?;
-    buf.extend_from_slice(&lengths.0.to_le_bytes())?;
-    buf.extend_from_slice(&lengths.1.to_le_bytes())?;
-    buf.extend_from_slice(key_and_value)?;
+// Whether a payload is in the grammar: its count, and then its entries, each by its tag, its number, both of its lengths
+// and the first of the two bytes behind them.
+fn is_read<A: Allocator + Clone>(alloc: A, count: u32, entries: &[[u32; 5]]) -> Result<bool, Error> {
+    let mut bytes = Vec::new(alloc.clone()?);
+    bytes.extend_from_slice(&count.to_le_bytes())?;
+    for [tag, seqno, key_len, value_len, first] in entries {
+        bytes.push((*tag & 0xff) as u8)?;
+        bytes.extend_from_slice(&u64::from(*seqno).to_le_bytes())?;
+        bytes.extend_from_slice(&key_len.to_le_bytes())?;
+        bytes.extend_from_slice(&value_len.to_le_bytes())?;
+        bytes.push((*first & 0xff) as u8)?;
+        bytes.push(b'x')?;
+    }
+    if bytes.len() > 100 {
+        return Ok(false);
+    }
+    match load(alloc, TableVersion::V4, &bytes) {
+        Ok(block) => Ok(block.len() == entries.len()),
+        Err(Error::InvalidBlock) => Ok(false),
+        Err(error) => Err(error),
+    }
+}
+
+#[test]
+fn payloads_are_read_where_they_are_in_the_grammar(rt: HostRuntime) -> Result<(), Fail> {
+    let cases: [(u32, &[[u32; 5]], bool); 18] = [
+        (0, &[], true),
+        (1, &[], false),
+        (u32::MAX, &[], false),
+        (1, &[[0, 1, 1, 1, 97]], true),
+        (1, &[[1, 1, 2, 0, 97]], true),
+        (1, &[[2, 1, 2, 0, 97]], true),
+        (1, &[[4, 1, 0, 2, 97]], true),
+        (1, &[[3, 1, 1, 1, 97]], false),
+        (1, &[[5, 1, 1, 1, 97]], false),
+        (0, &[[0, 1, 1, 1, 97]], false),
+        (2, &[[0, 1, 1, 1, 97]], false),
+        (1, &[[0, 1, 2, 1, 97]], false),
+        (1, &[[0, 1, 1, 2, 97]], false),
+        (1, &[[0, 1, 1, 0, 97]], false),
+        (1, &[[0, 1, u32::MAX, u32::MAX, 97]], false),
+        (2, &[[0, 2, 1, 1, 97], [0, 1, 1, 1, 97]], true),
+        (2, &[[0, 1, 1, 1, 97], [1, 1, 1, 1, 97]], false),
+        (2, &[[0, 1, 1, 1, 98], [0, 2, 1, 1, 97]], false),
+    ];
+    for (count, entries, good) in cases {
+        assert_eq!(rt; is_read(rt.alloc(), count, entries)?, good, "{count} {entries:?}");
+    }
     Ok(())
 }
 
 #[test]
-fn payloads_out_of_the_grammar_are_refused(rt: HostRuntime) -> Result<(), Fail> {
-    let alloc = rt.alloc();
-    // A count, the entries behind it (tag, number, both lengths, key and value), and whether they are in the grammar.
-    let cases: [(u32, &[(u8, u64, (u32, u32), &[u8])], bool); 18] = [
-        (0, &[], true),
-        (1, &[], false),
-        (u32::MAX, &[], false),
-        (1, &[(0, 1, (1, 1), b"ax")], true),
-        (1, &[(1, 1, (1, 0), b"a")], true),
-        (1, &[(2, 1, (1, 0), b"a")], true),
-        (1, &[(4, 1, (1, 1), b"ax")], true),
-        (1, &[(3, 1, (1, 1), b"ax")], false),
-        (1, &[(5, 1, (1, 1), b"ax")], false),
-        (0, &[(0, 1, (1, 1), b"ax")], false),
-        (2, &[(0, 1, (1, 1), b"ax")], false),
-        (1, &[(0, 1, (2, 1), b"ax")], false),
-        (1, &[(0, 1, (1, 2), b"ax")], false),
-        (1, &[(0, 1, (1, 0), b"ax")], false),
-        (1, &[(0, 1, (u32::MAX, u32::MAX), b"ax")], false),
-        (2, &[(0, 2, (1, 0), b"a"), (0, 1, (1, 0), b"a")], true),
-        (2, &[(0, 1, (1, 0), b"a"), (1, 1, (1, 0), b"a")], false),
-        (2, &[(0, 1, (1, 0), b"b"), (0, 2, (1, 0), b"a")], false),
-    ];
-    for (i, (count, entries, good)) in cases.iter().enumerate() {
-        let mut bytes = Vec::new(alloc);
-        bytes.extend_from_slice(&count.to_le_bytes())?;
-        for (tag, seqno, lengths, rest) in *entries {
-            put_raw(&mut bytes, *tag, *seqno, *lengths, rest)?;
-        }
-        assert!(rt; bytes.len() < 100);
-        match load(alloc, TableVersion::V4, &bytes) {
-            Ok(block) => assert!(rt; *good && block.len() == entries.len(), "{i}"),
-            Err(error) => assert!(rt; !*good && error == Error::InvalidBlock, "{i}"),
-        }
-    }
-    // Fewer bytes than a count has, a head and a value that are cut short, and the key length of the other version.
+fn payloads_cut_short_or_of_the_other_version_are_refused(rt: HostRuntime) {
     let old = ONE_IN_V3;
     let new = ONE_IN_V4;
     for (version, bytes) in [
@@ -301,43 +306,58 @@ fn payloads_out_of_the_grammar_are_refused(rt: HostRuntime) -> Result<(), Fail> 
         (TableVersion::V3, new.as_slice()),
         (TableVersion::V4, old.as_slice()),
     ] {
-        let answer = load(alloc, version, bytes);
+        assert!(rt; bytes.len() < 24);
+        let answer = load(rt.alloc(), version, bytes);
         assert!(rt; matches!(&answer, Err(Error::InvalidBlock)));
     }
-    Ok(())
+}
+
+// What encoding the one entry of a key of so many bytes adds to a buffer.
+fn written_len<A: Allocator + Clone>(alloc: A, key_len: usize) -> Result<usize, Error> {
+    let key = vec![in alloc.clone()?; 0u8; key_len]?;
+    let mut items = Vec::new(alloc.clone()?);
+    items.push(InternalValue::from_components(
+        Slice::from_vec(key)?,
+        Slice::empty(),
+        1,
+        ValueType::Value,
+    ))?;
+    let mut buf = Vec::new(alloc);
+    if are_strict(&items) {
+        DataBlock::encode_into(&mut buf, &items, 16, 0)?;
+    }
+    Ok(buf.len())
 }
 
 #[test]
-fn what_is_too_long_is_refused_and_writes_nothing(rt: HostRuntime) -> Result<(), Fail> {
+fn keys_of_a_mebibyte_are_taken_and_longer_ones_refused(rt: HostRuntime) {
     let alloc = rt.alloc();
-    let bytes = vec![in alloc; 0u8; 1048577]?;
+    assert!(rt; written_len(alloc, 65536) == Ok(4 + 17 + 65536));
+    assert!(rt; written_len(alloc, 1048576) == Ok(4 + 17 + 1048576));
+    assert!(rt; written_len(alloc, 1048577) == Err(Error::KeyTooLong));
+}
+
+// Entries of 4,096 keys, whose values of a mebibyte share their memory.
+fn many_entries<A: Allocator + Clone>(alloc: A) -> Result<Vec<InternalValue<A>, A>, Error> {
+    let value = Slice::from_vec(vec![in alloc.clone()?; 0u8; 1048576]?)?;
+    let mut items = Vec::new(alloc.clone()?);
+    for i in 0..4096u16 {
+        let key = Slice::from(alloc.clone()?, &i.to_be_bytes())?;
+        items.push(InternalValue::from_components(key, value.clone()?, 1, ValueType::Value))?;
+    }
+    Ok(items)
+}
+
+#[test]
+fn a_block_of_four_gibibytes_is_refused(rt: HostRuntime) -> Result<(), Fail> {
+    let alloc = rt.alloc();
+    let mut items = many_entries(alloc)?;
+    assert_eq!(rt; data_block_bound(&items), 28 + 4096 * (17 + 2 + 1048576));
+    assert!(rt; are_strict(&items));
     let mut buf = Vec::new(alloc);
     buf.push(7)?;
-    for (key_len, outcome) in [
-        (65536usize, Ok(())),
-        (1048576, Ok(())),
-        (1048577, Err(Error::KeyTooLong)),
-    ] {
-        assert!(rt; key_len <= bytes.len());
-        let mut items = Vec::new(alloc);
-        items.push(entry(alloc, &bytes[..key_len], 1, ValueType::Value, b"")?)?;
-        assert!(rt; are_strict(&items));
-        let answer = DataBlock::encode_into(&mut buf, &items, 16, 0);
-        assert!(rt; answer == outcome, "{key_len}");
-        let written = if answer.is_ok() { 4 + 17 + key_len } else { 0 };
-        assert_eq!(rt; buf.len(), 1 + written, "{key_len}");
-        buf.truncate(1);
-    }
-    // A block of more than 2^32 bytes, of values that share their memory. A key that is too long comes before that.
-    let shared = Slice::from(alloc, &bytes)?;
-    let mut items = Vec::new(alloc);
-    for i in 0..4096u16 {
-        let key = Slice::from(alloc, &i.to_be_bytes())?;
-        items.push(InternalValue::from_components(key, shared.clone()?, 1, ValueType::Value))?;
-    }
-    assert_eq!(rt; data_block_bound(&items), 28 + 4096 * (17 + 2 + 1048577));
-    assert!(rt; are_strict(&items));
     assert!(rt; DataBlock::encode_into(&mut buf, &items, 16, 0) == Err(Error::BlockTooLarge));
+    // A key that is too long is told first.
     let key = vec![in alloc; 0xffu8; 1048577]?;
     items.push(entry(alloc, &key, 1, ValueType::Value, b"")?)?;
     assert!(rt; are_strict(&items));
