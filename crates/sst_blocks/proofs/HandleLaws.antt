@@ -59,7 +59,7 @@ handle_takes v bytes h rest fits told =
     let e3 : b20 ≡ key_len_bytes v k ++ r = (key_wide v).front b20 (omega (arith, length-drop 20 bytes)) f20 ∙ ap (λ (x : List ℕ). key_len_bytes v k ++ x) (drop-drop w 20 bytes) in
     let e4 : r ≡ K ++ R = sym (take-append-drop k r) in
     let flat : bytes ≡ le8 (num8 bytes) ++ (le8 (num8 b8) ++ (le4 (num4 b16) ++ (key_len_bytes v k ++ (K ++ R)))) =
-      e0 ∙ ap (λ (x : List ℕ). le8 (num8 bytes) ++ x) (e1 ∙ ap (λ (x : List ℕ). le8 (num8 b8) ++ x) (e2 ∙ ap (λ (x : List ℕ). le4 (num4 b16) ++ x) (e3 ∙ ap (λ (x : List ℕ). key_len_bytes v k ++ x) e4))) in
+    e0 ∙ ap (λ (x : List ℕ). le8 (num8 bytes) ++ x) (e1 ∙ ap (λ (x : List ℕ). le8 (num8 b8) ++ x) (e2 ∙ ap (λ (x : List ℕ). le4 (num4 b16) ++ x) (e3 ∙ ap (λ (x : List ℕ). key_len_bytes v k ++ x) e4))) in
     let whole : bytes ≡ handle_spelled v made ++ R = flat ∙ joined v (num8 bytes) (num8 b8) (num4 b16) k K R lk in
     let below_k : length K < key_limit v = rw lk ((key_wide v).below b20 f20) in
     let fit : HandleFits v made = record { number = wide8.below bytes fits; offset = wide8.below b8 f8; size = wide4.below b16 f16; key_len = below_k } in

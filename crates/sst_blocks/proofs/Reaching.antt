@@ -149,13 +149,13 @@ module _ {X : Type 0} where
   cut n f xs =
       elim (cases_lt n f) [
         | inl short ↦
-          let e : min n f ≡ n = omega (arith, short) in
-          let k : n - f ≡ 0 = omega (arith, short) in
-          ap (λ (m : ℕ). drop m (take n xs)) e ∙ drop_all n (take n xs) (omega (arith, length-take n xs)) ∙ sym (ap (λ (m : ℕ). take m (drop f xs)) k)
+            let e : min n f ≡ n = omega (arith, short) in
+            let k : n - f ≡ 0 = omega (arith, short) in
+            ap (λ (m : ℕ). drop m (take n xs)) e ∙ drop_all n (take n xs) (omega (arith, length-take n xs)) ∙ sym (ap (λ (m : ℕ). take m (drop f xs)) k)
         | inr long ↦
-          let e : min n f ≡ f = omega (arith, long) in
-          let k : n ≡ f + (n - f) = omega (arith, long) in
-          ap (λ (m : ℕ). drop m (take n xs)) e ∙ ap (λ (m : ℕ). drop f (take m xs)) k ∙ drop-take f (n - f) xs
+            let e : min n f ≡ f = omega (arith, long) in
+            let k : n ≡ f + (n - f) = omega (arith, long) in
+            ap (λ (m : ℕ). drop m (take n xs)) e ∙ ap (λ (m : ℕ). drop f (take m xs)) k ∙ drop-take f (n - f) xs
       ]
 
   -- the end of the list bounds a cut
@@ -163,11 +163,11 @@ module _ {X : Type 0} where
   within_list n f xs =
       elim (cases_lt (length xs) n) [
         | inl past ↦
-          let e : min (length xs) n - f ≡ length xs - f = omega (arith, past) in
-          ap (λ (m : ℕ). take m (drop f xs)) e ∙ take_all (length xs - f) (drop f xs) (omega (arith, length-drop f xs)) ∙ sym (take_all (n - f) (drop f xs) (omega (arith, past, length-drop f xs)))
+            let e : min (length xs) n - f ≡ length xs - f = omega (arith, past) in
+            ap (λ (m : ℕ). take m (drop f xs)) e ∙ take_all (length xs - f) (drop f xs) (omega (arith, length-drop f xs)) ∙ sym (take_all (n - f) (drop f xs) (omega (arith, past, length-drop f xs)))
         | inr within ↦
-          let e : min (length xs) n - f ≡ n - f = omega (arith, within) in
-          ap (λ (m : ℕ). take m (drop f xs)) e
+            let e : min (length xs) n - f ≡ n - f = omega (arith, within) in
+            ap (λ (m : ℕ). take m (drop f xs)) e
       ]
 
 -- where the seeks put the places of a span

@@ -128,10 +128,8 @@ impl<A: Allocator> KeyedBlockHandle<A> {
         requires { self.old.offset + delta.0 < 2 ^ 64 }
         ensures { self.new ≡ record self.old { offset = self.old.offset + delta.0 } }
     {
-        self.inner = BlockHandle::new(
-            BlockOffset(self.inner.offset().0 + delta.0),
-            self.inner.size(),
-        );
+        let offset = BlockOffset(self.offset().0 + delta.0);
+        self.inner = BlockHandle::new(offset, self.size());
     }
 
     /// The handle without its key and number.

@@ -17,12 +17,13 @@ ghost use Rattle.sst_blocks.specs.declared.version.TableVersion.TheVariants.{V4}
 mod encode;
 mod iter;
 mod read;
-
-pub use iter::Iter;
-pub(crate) use read::handle_starts;
+#[cfg(test)]
+mod tests;
 
 use crate::{Block, BlockHandle, BlockOffset, Error, KeyedBlockHandle, SeqNo, Slice, TableVersion};
 use encode::{key_fault, put_handles};
+pub use iter::Iter;
+pub(crate) use read::handle_starts;
 use read::{HandleRef, head_len, read_handle};
 use std::alloc::{Allocator, Global};
 use std::marker::Model;
@@ -111,9 +112,7 @@ impl<A: Allocator> IndexBlock<A> {
     {
         let handle = self.handle_ref(index);
         let start = self.starts[index] as usize + head_len(self.version);
-        let end_key = self
-            .payload
-            .slice(start, start + handle.end_key.len())?;
+        let end_key = self.payload.slice(start, start + handle.end_key.len())?;
         let inner = BlockHandle::new(BlockOffset(handle.offset), handle.size);
         Ok(KeyedBlockHandle::new(end_key, handle.seqno, inner))
     }

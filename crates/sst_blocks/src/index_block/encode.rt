@@ -39,7 +39,10 @@ fn put_handle<A: Allocator>(buf: &mut Vec<u8, A>, handle: &KeyedBlockHandle<A>) 
 }
 
 /// Writes the count and then each handle. What `buf` held stays at its front.
-pub(crate) fn put_handles<A: Allocator>(buf: &mut Vec<u8, A>, handles: &[KeyedBlockHandle<A>]) -> Result<(), Error>
+pub(crate) fn put_handles<A: Allocator>(
+    buf: &mut Vec<u8, A>,
+    handles: &[KeyedBlockHandle<A>],
+) -> Result<(), Error>
     requires short { key_fault handles.now ≡ None }
     requires few { length handles.now < 2 ^ 32 }
     ensures ok { OnOk result (buf.new.items ≡ buf.old.items ++ handles_payload V4 handles.now) }

@@ -84,7 +84,11 @@ impl HandleRef<'_> {
 
 /// Where the handles of a payload begin. Refused [`Error::InvalidBlock`] where the payload does not spell a strict list of
 /// handles, and [`Error::OutOfMemory`].
-pub(crate) fn handle_starts<A: Allocator>(alloc: A, version: TableVersion, payload: &[u8]) -> Result<Vec<u32, A>, Error>
+pub(crate) fn handle_starts<A: Allocator>(
+    alloc: A,
+    version: TableVersion,
+    payload: &[u8],
+) -> Result<Vec<u32, A>, Error>
     requires { length payload.now < 2 ^ 32 }
     ensures found { IfOk result (λ starts. HandlesAt version payload.now starts.items) }
     ensures fault { IfErr result (λ e. is_memory e ≡ false → (e ≡ InvalidBlock) × (handles_in version payload.now ≡ None)) }

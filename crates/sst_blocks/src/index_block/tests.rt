@@ -1,0 +1,379 @@
+ghost use Rattle.std.specs.Prelude.{◌≡◌, ◌<◌, ◌^◌, true, length};
+ghost use Rattle.sst_blocks.specs.Handles.{AreStrictHandles, end_of};
+ghost use Rattle.sst_blocks.specs.Strict.{may_follow};
+ghost use Rattle.std.specs.Option.{option_map};
+
+use crate::index_block::handle_starts;
+use crate::{
+    Block, BlockHandle, BlockOffset, BlockType, Error, IndexBlock, KeyedBlockHandle, SeqNo, Slice,
+    TableVersion, index_block_bound,
+};
+use refusing::{Refusing, each_refused};
+use std::alloc::Allocator;
+use std::test::Fail;
+
+fn handle<A: Allocator + Clone>(
+    alloc: A,
+    end_key: &[u8],
+    seqno: SeqNo,
+    offset: u64,
+    size: u32,
+) -> Result<KeyedBlockHandle<A>, Error> {
+    let inner = BlockHandle::new(BlockOffset(offset), size);
+    Ok(KeyedBlockHandle::new(Slice::from(alloc, end_key)?, seqno, inner))
+}
+
+fn may_follow<A: Allocator>(
+    last: Option<&KeyedBlockHandle<A>>,
+    handle: &KeyedBlockHandle<A>,
+) -> bool
+    ensures { result ≡ may_follow (option_map (λ h. end_of h.now) last.entry) (end_of handle.now) }
+{
+    match last {
+        None => true,
+        Some(last) => last
+            .end_key()
+            .cmp(handle.end_key())
+            .then(handle.seqno().cmp(&last.seqno()))
+            .is_lt(),
+    }
+}
+
+// Whether the handles may stand in one block.
+fn are_strict<A: Allocator>(handles: &[KeyedBlockHandle<A>]) -> bool
+    ensures { result ≡ true → AreStrictHandles handles.now }
+{
+    let mut last: Option<&KeyedBlockHandle<A>> = None;
+    for handle in handles {
+        if !may_follow(last, handle) {
+            return false;
+        }
+        last = Some(handle);
+    }
+    true
+}
+
+// The block of a payload.
+fn load<A: Allocator + Clone>(
+    alloc: A,
+    version: TableVersion,
+    bytes: &[u8],
+) -> Result<IndexBlock<A>, Error>
+    requires { length bytes.now < 2 ^ 32 }
+{
+    let starts = handle_starts(alloc.clone()?, version, bytes)?;
+    let payload = Slice::from(alloc, bytes)?;
+    Ok(IndexBlock::new(Block {
+        version,
+        kind: BlockType::Index,
+        payload,
+        starts,
+    }))
+}
+
+// b@5, b@3, d@9 and f@1, at the positions 0, 10, 20 and 30.
+fn four_handles<A: Allocator + Clone>(alloc: A) -> Result<Vec<KeyedBlockHandle<A>, A>, Error> {
+    let mut handles = Vec::new(alloc.clone()?);
+    handles.push(handle(alloc.clone()?, b"b", 5, 0, 10)?)?;
+    handles.push(handle(alloc.clone()?, b"b", 3, 10, 10)?)?;
+    handles.push(handle(alloc.clone()?, b"d", 9, 20, 10)?)?;
+    handles.push(handle(alloc, b"f", 1, 30, 10)?)?;
+    Ok(handles)
+}
+
+const ONE_IN_V3: [u8; 27] = [
+    1, 0, 0, 0, 1, 0, 0, 0, 0, 0, 0, 0, 0, 0, 0, 0, 0, 0, 0, 0, 0x2d, 0, 0, 0, 1, 0, 0x61,
+];
+
+const ONE_IN_V4: [u8; 29] = [
+    1, 0, 0, 0, 1, 0, 0, 0, 0, 0, 0, 0, 0, 0, 0, 0, 0, 0, 0, 0, 0x2f, 0, 0, 0, 1, 0, 0, 0, 0x61,
+];
+
+#[test]
+fn payloads_of_both_versions_read_as_their_handles(rt: HostRuntime) -> Result<(), Fail> {
+    let alloc = rt.alloc();
+    let old = ONE_IN_V3;
+    let new = ONE_IN_V4;
+    for (version, bytes, size) in [
+        (TableVersion::V3, old.as_slice(), 45),
+        (TableVersion::V4, new.as_slice(), 47),
+    ] {
+        assert!(rt; bytes.len() < 30);
+        let block = load(alloc, version, bytes)?;
+        assert_eq!(rt; block.len(), 1);
+        assert!(rt; !block.is_empty());
+        let expected = handle(alloc, b"a", 1, 0, size)?;
+        assert!(rt; block.find(b"a", 2)? == Some(expected));
+        assert!(rt; block.find(b"a", 1)?.is_none());
+    }
+    let mut handles = Vec::new(alloc);
+    handles.push(handle(alloc, b"a", 1, 0, 47)?)?;
+    assert!(rt; are_strict(&handles));
+    let mut written = Vec::new(alloc);
+    written.push(7)?;
+    IndexBlock::encode_into(&mut written, &handles)?;
+    assert!(rt; written.len() == 30);
+    assert!(rt; &written[1..] == new.as_slice());
+    Ok(())
+}
+
+// The position of the next handle, from the front or the back, or 99 where there is none.
+fn position<A: Allocator>(
+    answer: Option<Result<KeyedBlockHandle<A>, Error>>,
+) -> Result<u64, Error> {
+    match answer {
+        Some(handle) => Ok(handle?.offset().0),
+        None => Ok(99),
+    }
+}
+
+// A block with these handles, through its bytes.
+fn written_and_loaded<A: Allocator + Clone>(
+    alloc: A,
+    handles: &[KeyedBlockHandle<A>],
+) -> Result<IndexBlock<A>, Error> {
+    if !are_strict(handles) {
+        return Err(Error::InvalidBlock);
+    }
+    let mut bytes = Vec::new(alloc.clone()?);
+    IndexBlock::encode_into(&mut bytes, handles)?;
+    load(alloc, TableVersion::V4, bytes.as_slice())
+}
+
+// Whether handles are left after a seek, and the position of the first.
+fn first_after_seek<A: Allocator>(
+    block: &IndexBlock<A>,
+    key: &[u8],
+    seqno: SeqNo,
+) -> Result<(bool, u64), Error> {
+    let mut iter = block.iter();
+    let left = iter.seek(key, seqno);
+    Ok((left, position(iter.next())?))
+}
+
+// Whether handles are left after a seek of the upper end, and the position of the last.
+fn last_after_seek<A: Allocator>(block: &IndexBlock<A>, key: &[u8]) -> Result<(bool, u64), Error> {
+    let mut iter = block.iter();
+    let left = iter.seek_upper(key, 0);
+    Ok((left, position(iter.next_back())?))
+}
+
+// The positions from the back, from the front twice and from the back again, after both seeks.
+fn after_both_seeks<A: Allocator>(
+    block: &IndexBlock<A>,
+    key: &[u8],
+    seqno: SeqNo,
+    upper: &[u8],
+) -> Result<(u64, u64, u64, u64), Error> {
+    let mut iter = block.iter();
+    iter.seek(key, seqno);
+    iter.seek_upper(upper, 0);
+    let last = position(iter.next_back())?;
+    let first = position(iter.next())?;
+    let second = position(iter.next())?;
+    Ok((last, first, second, position(iter.next_back())?))
+}
+
+// A key and a number, and the position of the first handle that reaches them.
+const FIRST: [(u8, u64, u64); 12] = [
+    (b'a', u64::MAX, 0),
+    (b'b', 6, 0),
+    (b'b', 5, 10),
+    (b'b', 4, 10),
+    (b'b', 3, 20),
+    (b'b', 0, 20),
+    (b'c', 0, 20),
+    (b'd', 10, 20),
+    (b'd', 9, 30),
+    (b'f', 2, 30),
+    (b'f', 1, 99),
+    (b'g', u64::MAX, 99),
+];
+
+// A key, and the position of the first handle whose end key is above it, or of the last.
+const LAST: [(u8, u64); 6] = [
+    (b'a', 0),
+    (b'b', 20),
+    (b'c', 20),
+    (b'd', 30),
+    (b'f', 30),
+    (b'g', 30),
+];
+
+// The first case of `FIRST` that the block answers otherwise.
+fn wrong_first<A: Allocator>(block: &IndexBlock<A>) -> Result<Option<u64>, Error> {
+    let cases = FIRST;
+    for case in &cases {
+        let (key, seqno, first) = *case;
+        if first_after_seek(block, &[key], seqno)? != (first != 99, first) {
+            return Ok(Some(first));
+        }
+        if position(block.find(&[key], seqno)?.map(|handle| Ok(handle)))? != first {
+            return Ok(Some(first));
+        }
+    }
+    Ok(None)
+}
+
+// The first case of `LAST` that the block answers otherwise.
+fn wrong_last<A: Allocator>(block: &IndexBlock<A>) -> Result<Option<u64>, Error> {
+    let cases = LAST;
+    for case in &cases {
+        let (key, last) = *case;
+        if last_after_seek(block, &[key])? != (true, last) {
+            return Ok(Some(last));
+        }
+    }
+    Ok(None)
+}
+
+#[test]
+fn seeks_narrow_to_the_handles_that_may_hold_a_key(rt: HostRuntime) -> Result<(), Fail> {
+    let alloc = rt.alloc();
+    let handles = four_handles(alloc)?;
+    let block = written_and_loaded(alloc, &handles)?;
+    assert_eq!(rt; wrong_first(&block)?, None);
+    assert_eq!(rt; wrong_last(&block)?, None);
+    assert!(rt; after_both_seeks(&block, b"b", 4, b"c")? == (20, 10, 99, 99));
+    assert!(rt; after_both_seeks(&block, b"d", 9, b"a")? == (99, 99, 99, 99));
+    Ok(())
+}
+
+// What comes of a payload with this count, and then a handle for each three bytes: its end key, the key length that it
+// claims and its number.
+fn handles_claimed<A: Allocator + Clone>(
+    alloc: A,
+    count: u32,
+    claims: &[u8],
+) -> Result<usize, Error>
+    requires { length claims.now < 2 ^ 20 }
+{
+    let mut bytes = Vec::new(alloc.clone()?);
+    bytes.extend_from_slice(&count.to_le_bytes())?;
+    let mut claims = claims;
+    while let [key, key_len, seqno, rest @ ..] = claims {
+        bytes.extend_from_slice(&u64::from(*seqno).to_le_bytes())?;
+        bytes.extend_from_slice(&[0; 12])?;
+        bytes.extend_from_slice(&u32::from(*key_len).to_le_bytes())?;
+        bytes.push(*key)?;
+        claims = rest;
+    }
+    if bytes.len() > 1000 {
+        return Err(Error::BlockTooLarge);
+    }
+    let block = load(alloc, TableVersion::V4, bytes.as_slice())?;
+    Ok(block.len())
+}
+
+#[test]
+fn payloads_out_of_the_grammar_are_refused(rt: HostRuntime) -> Result<(), Fail> {
+    let alloc = rt.alloc();
+    assert!(rt; handles_claimed(alloc, 0, b"") == Ok(0));
+    assert!(rt; handles_claimed(alloc, 1, b"a\x01\x01") == Ok(1));
+    assert!(rt; handles_claimed(alloc, 2, b"a\x01\x02a\x01\x01") == Ok(2));
+    assert!(rt; handles_claimed(alloc, 2, b"a\x01\x01b\x01\x02") == Ok(2));
+    // Fewer handles or more than the count says, an end key that is cut short, a byte behind the last one, and handles that
+    // are not strict: the same twice, numbers upward, keys downward.
+    let faults: [(u32, &[u8]); 8] = [
+        (1, b""),
+        (u32::MAX, b"a\x01\x01"),
+        (0, b"a\x01\x01"),
+        (1, b"a\x02\x01"),
+        (1, b"a\x00\x01"),
+        (2, b"a\x01\x01a\x01\x01"),
+        (2, b"a\x01\x01a\x01\x02"),
+        (2, b"b\x01\x01a\x01\x00"),
+    ];
+    for (count, claims) in &faults {
+        assert!(rt; claims.len() < 10);
+        assert!(rt;
+            handles_claimed(alloc, *count, claims) == Err(Error::InvalidBlock),
+            "{count}"
+        );
+    }
+    // Fewer bytes than a count has, a head that is cut short, and the key length of the other version.
+    let old = ONE_IN_V3;
+    for bytes in [&old[..3], &old[..20], old.as_slice()] {
+        assert!(rt; bytes.len() < 30);
+        let answer = load(alloc, TableVersion::V4, bytes);
+        assert!(rt; matches!(&answer, Err(Error::InvalidBlock)));
+    }
+    Ok(())
+}
+
+#[test]
+fn what_is_too_long_is_refused_and_writes_nothing(rt: HostRuntime) -> Result<(), Fail> {
+    let alloc = rt.alloc();
+    let mut bytes = vec![in alloc; 0u8; 1048577]?;
+    let mut buf = Vec::new(alloc);
+    buf.push(7)?;
+    let mut handles = Vec::new(alloc);
+    handles.push(handle(alloc, &bytes, 1, 0, 24)?)?;
+    assert!(rt; are_strict(&handles));
+    assert!(rt; IndexBlock::encode_into(&mut buf, &handles) == Err(Error::KeyTooLong));
+    assert!(rt; buf.as_slice() == [7].as_slice());
+    bytes.truncate(1048576);
+    handles.clear();
+    handles.push(handle(alloc, &bytes, 1, 0, 24)?)?;
+    assert!(rt; are_strict(&handles));
+    IndexBlock::encode_into(&mut buf, &handles)?;
+    assert_eq!(rt; buf.len(), 1 + 4 + 24 + 1048576);
+    Ok(())
+}
+
+#[test]
+fn a_block_of_four_gibibytes_is_refused(rt: HostRuntime) -> Result<(), Fail> {
+    let alloc = rt.alloc();
+    // Keys of 2^20 bytes that share their memory: key i begins with i, the high byte first.
+    let mut bytes = Vec::new(alloc);
+    for i in 0..4096u16 {
+        bytes.extend_from_slice(&i.to_be_bytes())?;
+    }
+    bytes.resize(8190 + 1048576, 0)?;
+    let shared = Slice::from_vec(bytes)?;
+    let mut handles = Vec::new(alloc);
+    for i in 0..4096usize {
+        assert!(rt; 2 * i + 1048576 <= shared.len());
+        let end_key = shared.slice(2 * i, 2 * i + 1048576)?;
+        let inner = BlockHandle::new(BlockOffset(0), 24);
+        handles.push(KeyedBlockHandle::new(end_key, 1, inner))?;
+    }
+    assert_eq!(rt; index_block_bound(&handles), 28 + 4096 * (24 + 1048576));
+    assert!(rt; are_strict(&handles));
+    let mut buf = Vec::new(alloc);
+    buf.push(7)?;
+    assert!(rt; IndexBlock::encode_into(&mut buf, &handles) == Err(Error::BlockTooLarge));
+    assert!(rt; buf.as_slice() == [7].as_slice());
+    Ok(())
+}
+
+// The handles of a block from both ends, and the one that reaches b@5, by way of its bytes.
+fn write_and_read<A: Allocator + Clone>(alloc: A) -> Result<(u64, u64, u64), Error> {
+    let handles = four_handles(alloc.clone()?)?;
+    let block = written_and_loaded(alloc, &handles)?;
+    let mut iter = block.iter();
+    let first = position(iter.next())?;
+    let last = position(iter.next_back())?;
+    let found = block.find(b"b", 5)?;
+    Ok((first, last, position(found.map(|handle| Ok(handle)))?))
+}
+
+#[test]
+fn each_request_refused_is_answered_so(rt: HostRuntime) -> Result<(), Fail> {
+    let answers = each_refused(rt.alloc(), |heap, may_fail| match write_and_read(heap) {
+        Ok(answer) => answer == (0, 30, 10),
+        Err(Error::OutOfMemory) => may_fail,
+        Err(_) => false,
+    });
+    assert_eq!(rt; answers, Ok(13));
+    // A refused growth leaves the buffer as it was.
+    let heap = Refusing::new(rt.alloc(), 4);
+    let mut handles = Vec::new(&heap);
+    handles.push(handle(&heap, b"a", 1, 0, 47)?)?;
+    assert!(rt; are_strict(&handles));
+    let mut buf = Vec::new(&heap);
+    assert!(rt; IndexBlock::encode_into(&mut buf, &handles) == Err(Error::OutOfMemory));
+    assert_eq!(rt; buf.len(), 0);
+    assert_eq!(rt; heap.requests(), 4);
+    Ok(())
+}
