@@ -1,6 +1,6 @@
 -- A merger of fresh sources deals what they have together.
-use Rattle.std.proofs.Common.{◌≡◌, refl, sym, ◌∙◌, ap, subst, ℕ, zero, suc, ◌+◌, ◌<◌, ◌≤◌, Bool, true, false, List, [], ◌∷◌, ◌++◌, map, length, reverse, arith}
-use Rattle.std.specs.Prelude.{◌==◌, Option, Some, None, Result, Ok, Err, All, Contains, count_by}
+use Rattle.std.proofs.Common.{◌≡◌, refl, sym, ◌∙◌, ap, subst, ℕ, zero, suc, ◌+◌, ◌<◌, ◌≤◌, Bool, true, false, List, [], ◌∷◌, map, length, reverse, arith}
+use Rattle.std.specs.Prelude.{◌==◌, Option, Some, None, Ok, Err, All, count_by}
 use Rattle.std.specs.Option.{option_map}
 use Rattle.std.specs.List.{AllZip, AllByRecursion}
 use Rattle.std.specs.Iterator.{Count, IsFinite}
@@ -18,7 +18,7 @@ use Rattle.lsm_sorted.specs.declared.merge.Merger.{Merger}
 use Rattle.lsm_sorted.specs.Ends.{R, Left, Goes, fresh}
 use Rattle.lsm_sorted.specs.Tournament.{held, room}
 use Rattle.lsm_sorted.specs.Union.{Ascends, entries_of, all_errors, merged}
-use Rattle.lsm_sorted.specs.Merge.{entry_of, count_of, is_ready, Ready, LeavesIf, Kept, whole, taken, HeapHolds, Stands, Merging, Leaves, MayMerge, MergeAnswer, Merges, Follows, DealsUntil, HoldsFew, held_of}
+use Rattle.lsm_sorted.specs.Merge.{entry_of, count_of, is_ready, Ready, LeavesIf, Kept, whole, taken, HeapHolds, Leaves, MayMerge, MergeAnswer, Merges, Follows, DealsUntil, HoldsFew, held_of}
 use Rattle.lsm_sorted.proofs.NewestLemmas.{map_reverse}
 use Rattle.lsm_sorted.proofs.PopLemmas.{length_map}
 use Rattle.lsm_sorted.proofs.RoomLemmas.{may_merge}

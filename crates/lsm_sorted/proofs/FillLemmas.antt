@@ -1,19 +1,16 @@
 -- One from an end of each source is taken into the heap.
-use Rattle.std.proofs.Common.{◌≡◌, ◌≢◌, ◌⊎◌, inl, inr, refl, sym, ◌∙◌, ap, subst, ℕ, zero, suc, ◌+◌, ◌<◌, ◌≤◌, Bool, true, false, cond, nat_lt, List, [], ◌∷◌, map, length, arith}
-use Rattle.std.specs.Prelude.{not, Option, Some, None, Contains}
+use Rattle.std.proofs.Common.{◌≡◌, inl, inr, refl, sym, ◌∙◌, ap, subst, ℕ, ◌+◌, Bool, true, false, List, [], length, arith}
+use Rattle.std.specs.Prelude.{not, Option, None}
 use Rattle.std.specs.List.{AllZip}
-use Rattle.std.specs.Iterator.{Count}
 use Rattle.std.proofs.lemmas.Bool.{cases_eq, cases_lt}
-use Rattle.std.proofs.lemmas.Bool.Decides.{nat_tests}
 use Rattle.std.proofs.lemmas.List.{get_or_past}
 use Rattle.sst_blocks.specs.Entry.{Entry}
 use Rattle.sst_blocks.specs.declared.error.Error.{Error}
-use Rattle.lsm_sorted.specs.declared.ends.Ends.{Ends}
 use Rattle.lsm_sorted.specs.declared.merge.Merger.{Merger}
 use Rattle.lsm_sorted.specs.Ends.{R, Left}
 use Rattle.lsm_sorted.specs.Tournament.{held}
 use Rattle.lsm_sorted.specs.Union.{all_errors, merged}
-use Rattle.lsm_sorted.specs.Merge.{Kept, whole, kept_at, taken, Ready, is_ready, HeapHolds, Stands, Merging, Took, Filled}
+use Rattle.lsm_sorted.specs.Merge.{Kept, kept_at, taken, Ready, is_ready, HeapHolds, Stands, Merging, Took, Filled}
 use Rattle.lsm_sorted.proofs.TakeLemmas.{zip_length}
 
 -- an end or the other

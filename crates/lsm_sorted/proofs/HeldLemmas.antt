@@ -1,15 +1,15 @@
 -- A merger's heap has just the entries that were taken: one is added, and one is taken out.
-use Rattle.std.proofs.Common.{◌≡◌, ◌≢◌, ◌⊎◌, inl, inr, refl, sym, ◌∙◌, ap, subst, ℕ, zero, suc, ◌+◌, ◌<◌, ◌≤◌, Bool, true, false, cond, List, [], ◌∷◌, length, arith, slice_index_or, slice_set}
-use Rattle.std.specs.Prelude.{◌==◌, ◌&&◌, Option, Some, None, All, Contains, IsPermutation, count_by}
+use Rattle.std.proofs.Common.{◌≡◌, ◌≢◌, ◌⊎◌, inl, inr, refl, sym, ◌∙◌, ap, subst, ℕ, zero, suc, ◌+◌, ◌<◌, ◌≤◌, Bool, true, false, cond, List, [], ◌∷◌, length, arith, slice_set}
+use Rattle.std.specs.Prelude.{◌==◌, ◌&&◌, Option, Some, None, Contains, IsPermutation, count_by}
 use Rattle.std.specs.List.{AllByRecursion}
 use Rattle.std.proofs.lemmas.Bool.{eqb-true, eq-eqb, cases_lt}
 use Rattle.std.proofs.lemmas.List.{get_or-set_same, get_or-set_other, get_or_past}
 use Rattle.std.proofs.lemmas.List.Elements.{recursion_from_All, All-from_recursion}
-use Rattle.std.proofs.lemmas.List.Sorted.{All-permutation, sum_by-IsPermutation, IsPermutation-sym}
+use Rattle.std.proofs.lemmas.List.Sorted.{All-permutation, sum_by-IsPermutation}
 use Rattle.std.proofs.lemmas.List.Sums.{sum_by-cons}
 use Rattle.sst_blocks.specs.Entry.{Entry}
 use Rattle.lsm_sorted.specs.declared.merge.HeapItem.{HeapItem}
-use Rattle.lsm_sorted.specs.Merge.{entry_of, same_end, is_from, Kept, count_of, taken_at, kept_at, taken, HeapHolds, Adds}
+use Rattle.lsm_sorted.specs.Merge.{entry_of, same_end, is_from, Kept, count_of, taken_at, kept_at, taken, HeapHolds}
 
 -- ---- tests
 
@@ -173,6 +173,7 @@ taken_within ks k b y e = elim (cases k (length ks)) [ inl lt ↦ lt | inr ge �
   where
     cases : (m n : ℕ) → (m < n) ⊎ (n ≤ m)
     cases m n = cases_lt m n
+
     nowhere : (b : Bool) → taken_at b (record { front = None; rest = []; back = None }) ≡ Some y → ⊥
     nowhere true e = absurd cc
     nowhere false e = absurd cc

@@ -1,5 +1,5 @@
 -- What an exchange of two items leaves of the order of an interval heap.
-use Rattle.std.proofs.Common.{◌≡◌, ◌≢◌, ◌⊎◌, ℕ, zero, suc, ◌+◌, ◌-◌, ◌*◌, ◌/◌, ◌%◌, ◌<◌, ◌≤◌, Bool, true, false, Ordering, List, [], length, ◌++◌, get_or, take, drop, min, inl, inr, ⊎_elim, sym, ◌∙◌, ap, refl, arith}
+use Rattle.std.proofs.Common.{◌≡◌, ◌≢◌, ◌⊎◌, ℕ, zero, suc, ◌+◌, ◌-◌, ◌*◌, ◌/◌, ◌%◌, ◌<◌, ◌≤◌, true, false, Ordering, List, length, ◌++◌, get_or, take, drop, min, inl, inr, ⊎_elim, sym, ◌∙◌, ap, refl, arith}
 use Rattle.std.specs.Ordering.{is_gt}
 use Rattle.std.specs.List.{swap}
 use Rattle.std.specs.Cmp.{IsTotalOrder}
@@ -12,8 +12,8 @@ use Rattle.lsm_sorted.specs.declared.side.Side.TheVariants.{Least, Greatest}
 use Rattle.lsm_sorted.specs.Side.{toward}
 use Rattle.lsm_sorted.specs.Intervals.{Precedes, IsIntervalHeap, PrecedesOn, IsEnd, above_of, IsOtherAbove, InOrder, IsRisingAt, IsSinkingAt, SinksFrom, IsChildEnd}
 use Rattle.lsm_sorted.proofs.SideLemmas.{toward_total, not_both}
-use Rattle.lsm_sorted.proofs.PlaceLemmas.{on_apart, on_one_way, on_within, none_above_root, one_above, above_precedes, above_is_end, above_below, IsOther, other_precedes, other_is, one_other, after_other, other_above_after, no_other_above_root, after_end, child_is_end, child_within, one_end, child_nodes, end_below, full_above_child, no_other_above_full, precedes_shorter, after_single, above_single, before_pair, after_low_pair, after_pair, none_among_one, precedes_longer}
-use Rattle.lsm_sorted.proofs.MoveLemmas.{Upto, ordered_now, rest_rest, v_rest, u_rest, rest_u, rest_v, rise_others, rise_around, sink_others, sink_around, node_others, node_around}
+use Rattle.lsm_sorted.proofs.PlaceLemmas.{on_apart, on_one_way, on_within, none_above_root, one_above, above_precedes, above_is_end, above_below, IsOther, other_precedes, other_is, one_other, after_other, other_above_after, no_other_above_root, after_end, child_is_end, child_within, one_end, child_nodes, full_above_child, no_other_above_full, precedes_shorter, after_single, above_single, before_pair, after_low_pair, after_pair, none_among_one, precedes_longer}
+use Rattle.lsm_sorted.proofs.MoveLemmas.{ordered_now, rest_rest, v_rest, u_rest, rest_v, rise_others, rise_around, sink_others, sink_around, node_others, node_around}
 
 -- from one side to both
 pub heap_from : {T : Type 0} (side : Side) (cmp : T → T → Ordering) (xs : List T) → ((a b : ℕ) → PrecedesOn side (length xs) a b → InOrder side cmp xs a b) → IsIntervalHeap cmp xs
@@ -48,8 +48,8 @@ module _ {T : Type 0} (side : Side) (cmp : T → T → Ordering) (o : IsTotalOrd
   pub first_alone : (u left : ℕ) → left < length xs → IsEnd side (length xs) left → left / 2 ≡ u / 2 * 2 + 1 → length xs ≤ 2 * (u / 2 * 2 + 1 + 1) → (b : ℕ) → IsChildEnd side (length xs) u b → InOrder side cmp xs left b
   first_alone u left low ends node past b child = ⊎_elim
       (λ (e : b / 2 ≡ u / 2 * 2 + 1).
-          let same = one_end side (length xs) b left (child_is_end side (length xs) u b child) ends (child_within side (length xs) u b child) low (e ∙ sym node) in
-          rw same (in_order_itself left))
+      let same = one_end side (length xs) b left (child_is_end side (length xs) u b child) ends (child_within side (length xs) u b child) low (e ∙ sym node) in
+      rw same (in_order_itself left))
       (λ (e : b / 2 ≡ u / 2 * 2 + 1 + 1). let inside = child_within side (length xs) u b child in absurd (omega arith))
       (child_nodes side (length xs) u b child)
 
@@ -79,8 +79,8 @@ module _ {T : Type 0} (side : Side) (cmp : T → T → Ordering) (o : IsTotalOrd
     pub sunk : ((b : ℕ) → IsChildEnd side (length xs) u b → InOrder side cmp xs u b) → IsIntervalHeap cmp xs
     sunk children = heap_from side cmp xs (λ a b p. ⊎_elim
         (λ (e : a ≡ u).
-            let p' : PrecedesOn side (length xs) u b = rw (← e) p in
-            rw e (⊎_elim (λ same. ordered b p' same) (λ rest. ⊎_elim (λ child. children b child) (λ other. r.below_other b other) rest) (after_end side (length xs) u b p')))
+        let p' : PrecedesOn side (length xs) u b = rw (← e) p in
+        rw e (⊎_elim (λ same. ordered b p' same) (λ rest. ⊎_elim (λ child. children b child) (λ other. r.below_other b other) rest) (after_end side (length xs) u b p')))
         (λ (ne : a ≢ u). r.others a b p ne)
         (cases_eq a u))
 
@@ -147,12 +147,12 @@ module _ {T : Type 0} (side : Side) (cmp : T → T → Ordering) (o : IsTotalOrd
         let only = λ (a : ℕ) (p : PrecedesOn side (length xs) a v). one_above side (length xs) a v ends p ∙ sym (one_above side (length xs) u v ends uv) in
         let back = λ (d : T). not_both (toward side cmp) (toward_total side o) (get_or xs u d) (get_or xs v d) (strict d) in
         let before = λ (d : T) (b : ℕ) (p : PrecedesOn side (length xs) u b) (ne : b ≢ v). ⊎_elim
-            (λ (same : b / 2 ≡ u / 2). upto (toward_total side o) _ _ _ (back d) (ordered b p same d))
-            (λ (rest : IsChildEnd side (length xs) u b ⊎ IsOtherAbove side u b). ⊎_elim
-                (λ (k : IsChildEnd side (length xs) u b). first b k d)
-                (λ (other : IsOtherAbove side u b). absurd (no_other_above_full side (length xs) u v b child p other))
-                rest)
-            (after_end side (length xs) u b p) in
+        (λ (same : b / 2 ≡ u / 2). upto (toward_total side o) _ _ _ (back d) (ordered b p same d))
+        (λ (rest : IsChildEnd side (length xs) u b ⊎ IsOtherAbove side u b). ⊎_elim
+        (λ (k : IsChildEnd side (length xs) u b). first b k d)
+        (λ (other : IsOtherAbove side u b). absurd (no_other_above_full side (length xs) u v b child p other))
+        rest)
+        (after_end side (length xs) u b p) in
         record {
           within = rw size low_v;
           end = rw size ends;
@@ -219,8 +219,8 @@ module _ {T : Type 0} (cmp : T → T → Ordering) (o : IsTotalOrder cmp) (xs : 
               let low_b : b < last = below_last b inside.1 ne in
               ⊎_elim
               (λ (e : a ≡ last).
-                  let there : b ≡ low + 1 = after_is b (from_at (last + 1) a last b e q) in
-                  rw (e, there) (upto o _ _ _ (not_both cmp o (get_or xs low d) (get_or xs last d) (strict d)) (above_order d)))
+              let there : b ≡ low + 1 = after_is b (from_at (last + 1) a last b e q) in
+              rw (e, there) (upto o _ _ _ (not_both cmp o (get_or xs low d) (get_or xs last d) (strict d)) (above_order d)))
               (λ (ne' : a ≢ last). old a b q (below_last a inside.0 ne') low_b d)
               (cases_eq a last);
           around = λ a b p q d.
@@ -289,17 +289,17 @@ module _ {T : Type 0} (cmp : T → T → Ordering) (o : IsTotalOrder cmp) (xs : 
               let inside = on_within Least (last + 1) a b q in
               ⊎_elim
               (λ (e : b ≡ last).
-                  let there = before_pair last a odd (to_at (last + 1) a b last e q) in
-                  let same : a ≡ first = omega arith in
-                  rw (e, same) (ordered_now cmp o (λ k. get_or xs k d) (λ k. get_or ys k d) first last (s d) (strict d)))
+              let there = before_pair last a odd (to_at (last + 1) a b last e q) in
+              let same : a ≡ first = omega arith in
+              rw (e, same) (ordered_now cmp o (λ k. get_or xs k d) (λ k. get_or ys k d) first last (s d) (strict d)))
               (λ (b_last : b ≢ last). ⊎_elim
-                  (λ (e : a ≡ last). rw e (v_rest cmp o (λ k. get_or xs k d) (λ k. get_or ys k d) first last (s d) (strict d) b ne b_last (single_order b (from_at (last + 1) a last b e q) d)))
-                  (λ (a_last : a ≢ last). ⊎_elim
-                      (λ (e : a ≡ first). absurd (b_last (after_low_pair last b odd (from_at (last + 1) a (last - 1) b (e ∙ is_first) q))))
-                      (λ (a_first : a ≢ first). rest_rest cmp o (λ k. get_or xs k d) (λ k. get_or ys k d) first last (s d) (strict d) a b a_first a_last ne b_last
-                          (old a b q (below_last a inside.0 a_last) (below_last b inside.1 b_last) d))
-                      (cases_eq a first))
-                  (cases_eq a last))
+              (λ (e : a ≡ last). rw e (v_rest cmp o (λ k. get_or xs k d) (λ k. get_or ys k d) first last (s d) (strict d) b ne b_last (single_order b (from_at (last + 1) a last b e q) d)))
+              (λ (a_last : a ≢ last). ⊎_elim
+              (λ (e : a ≡ first). absurd (b_last (after_low_pair last b odd (from_at (last + 1) a (last - 1) b (e ∙ is_first) q))))
+              (λ (a_first : a ≢ first). rest_rest cmp o (λ k. get_or xs k d) (λ k. get_or ys k d) first last (s d) (strict d) a b a_first a_last ne b_last
+              (old a b q (below_last a inside.0 a_last) (below_last b inside.1 b_last) d))
+              (cases_eq a first))
+              (cases_eq a last))
               (cases_eq b last);
           around = λ a b p q d.
               let pa : Precedes (last + 1) a first = rw (← size_y) p in
@@ -309,7 +309,7 @@ module _ {T : Type 0} (cmp : T → T → Ordering) (o : IsTotalOrder cmp) (xs : 
               let a_first = on_apart Least (last + 1) a first pa in
               let a_last : a ≢ last = λ e. let there = after_pair_first last first a odd is_first e pa in absurd there in
               rw at_b (rest_v cmp o (λ k. get_or xs k d) (λ k. get_or ys k d) first last (s d) (strict d) a a_first a_last
-                  (old a first pa (below_last a inside.0 a_last) (omega arith) d));
+              (old a first pa (below_last a inside.0 a_last) (omega arith) d));
         }
 
 -- what a slice of a vector leaves there
@@ -348,9 +348,9 @@ end_or_after Least n k low = ⊎_elim
     (cases_eq (k % 2) 0)
 end_or_after Greatest n k low = ⊎_elim
     (λ (even : k % 2 ≡ 0). ⊎_elim
-        (λ (last : k + 1 ≡ n). inl (λ e. last))
-        (λ (full : k + 1 ≢ n). inr (k + 1, omega arith, (λ e. absurd (omega arith)), inr (inl (record { low = even; high = refl; within = omega arith }))))
-        (cases_eq (k + 1) n))
+    (λ (last : k + 1 ≡ n). inl (λ e. last))
+    (λ (full : k + 1 ≢ n). inr (k + 1, omega arith, (λ e. absurd (omega arith)), inr (inl (record { low = even; high = refl; within = omega arith }))))
+    (cases_eq (k + 1) n))
     (λ (odd : k % 2 ≢ 0). inl (λ e. absurd (odd e)))
     (cases_eq (k % 2) 0)
 
@@ -360,11 +360,11 @@ module _ {T : Type 0} (side : Side) (cmp : T → T → Ordering) (o : IsTotalOrd
   ends_after_root is (suc f) k enough low ends = ⊎_elim
       (λ (near : k < 2). rw (end_is_root side (length xs) k root is ends low (omega arith)) (in_order_itself side cmp o xs root))
       (λ (far : 2 ≤ k).
-          let above : ℕ = above_of side k in
-          let below = above_below side k far in
-          let p = above_precedes side (length xs) k ends far low in
-          let up = ends_after_root is f (above_of side k) (omega arith) (omega arith) (above_is_end side (length xs) k) in
-          λ d. upto (toward_total side o) _ _ _ (up d) (heap_to side cmp xs heap (above_of side k) k p d))
+      let above : ℕ = above_of side k in
+      let below = above_below side k far in
+      let p = above_precedes side (length xs) k ends far low in
+      let up = ends_after_root is f (above_of side k) (omega arith) (omega arith) (above_is_end side (length xs) k) in
+      λ d. upto (toward_total side o) _ _ _ (up d) (heap_to side cmp xs heap (above_of side k) k p d))
       (cases_lt k 2)
 
   pub root_first : IsRoot side (length xs) root → (k : ℕ) → k < length xs → InOrder side cmp xs root k

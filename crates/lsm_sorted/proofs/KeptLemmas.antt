@@ -24,8 +24,8 @@ module _ (rules : Rules) (Q : List Entry → Type 0)
       let s = split x.user_key es in
       let few_rest : length es ≤ n = omega arith in
       let closes : (nat_lt x.seqno rules.watermark ≡ true) ⊎ (s.own ≡ []) → Q (x ∷ es) = λ last.
-        let few' : length s.rest ≤ n = length_rest s.own s.rest n (subst (λ (ys : List Entry). length ys ≤ n) s.is few_rest) in
-        subst (λ (ys : List Entry). Q (x ∷ ys)) (sym s.is) (at_close x s.own s.rest s.all s.over last (kept_close rules x s.own s.rest s.all s.over last) (within n s.rest few')) in
+      let few' : length s.rest ≤ n = length_rest s.own s.rest n (subst (λ (ys : List Entry). length ys ≤ n) s.is few_rest) in
+      subst (λ (ys : List Entry). Q (x ∷ ys)) (sym s.is) (at_close x s.own s.rest s.all s.over last (kept_close rules x s.own s.rest s.all s.over last) (within n s.rest few')) in
       elim (nat_lt x.seqno rules.watermark) as (λ b. nat_lt x.seqno rules.watermark ≡ b → Q (x ∷ es)) [
         | true ↦ λ low. closes (inl low)
         | false ↦ λ high. elim s.own as (λ own. s.own ≡ own → Q (x ∷ es)) [
@@ -57,7 +57,7 @@ module _ (rules : Rules) (P : Entry → Type 0) (lowers : (e : Entry) → P e �
       (λ x own rest all over last is more h. subst (AllByRecursion P) (sym is) (all_append P (left_alone rules x own) (kept rules (unfiltered rest)) (alone_all x own h.0) (more (all_rest P own rest h.1))))
 
 -- a number that becomes 0 is no greater
-zeroed_below : (rules : Rules) (e : Entry) → (zeroed rules e).seqno ≤ e.seqno
+pub zeroed_below : (rules : Rules) (e : Entry) → (zeroed rules e).seqno ≤ e.seqno
 zeroed_below rules e = elim (rules.zeroing && nat_lt e.seqno rules.watermark) as (λ b. cond b 0 e.seqno ≤ e.seqno) [ true ↦ omega arith | false ↦ omega arith ]
 
 zeroed_high : (rules : Rules) (e : Entry) → nat_lt e.seqno rules.watermark ≡ false → (zeroed rules e).seqno ≡ e.seqno
@@ -110,16 +110,16 @@ pub stays_strict : StaysStrict
 stays_strict rules = kept_by rules (λ es. Strict es → Strict (kept rules (unfiltered es)))
     (λ h. tt)
     (λ x es high is more h.
-      let number : (zeroed rules x).seqno ≡ x.seqno = zeroed_high rules x high in
-      let behind : AllByRecursion (Precedes (zeroed rules x)) (kept rules (unfiltered es)) =
-      all_kept rules (Precedes (zeroed rules x)) (precedes_zeroed rules (zeroed rules x)) es (precede_all x (zeroed rules x) refl (sym number) es h.0) in
-      subst Strict (sym is) (behind, more h.1))
+    let number : (zeroed rules x).seqno ≡ x.seqno = zeroed_high rules x high in
+    let behind : AllByRecursion (Precedes (zeroed rules x)) (kept rules (unfiltered es)) =
+    all_kept rules (Precedes (zeroed rules x)) (precedes_zeroed rules (zeroed rules x)) es (precede_all x (zeroed rules x) refl (sym number) es h.0) in
+    subst Strict (sym is) (behind, more h.1))
     (λ x own rest all over last is more h.
-      let none : NoneOf x.user_key rest = rest_none x.user_key rest (strict_up rest (strict_rest own rest h.1)) (all_rest (λ y. KeyLe x.user_key y.user_key) own rest (all_key_le x (own ++ rest) h.0)) over in
-      let behind : AllByRecursion (Precedes (zeroed rules x)) (kept rules (unfiltered rest)) =
-      all_kept rules (Precedes (zeroed rules x)) (precedes_zeroed rules (zeroed rules x)) rest (other_precedes x (zeroed rules x) rest refl (all_rest (Precedes x) own rest h.0) none) in
-      let later : Strict (kept rules (unfiltered rest)) = more (strict_rest own rest h.1) in
-      subst Strict (sym is) (elim (goes rules.evict x.kind (first own)) as (λ b. Strict (cond b [] (zeroed rules x ∷ []) ++ kept rules (unfiltered rest))) [ true ↦ later | false ↦ (behind, later) ]))
+    let none : NoneOf x.user_key rest = rest_none x.user_key rest (strict_up rest (strict_rest own rest h.1)) (all_rest (λ y. KeyLe x.user_key y.user_key) own rest (all_key_le x (own ++ rest) h.0)) over in
+    let behind : AllByRecursion (Precedes (zeroed rules x)) (kept rules (unfiltered rest)) =
+    all_kept rules (Precedes (zeroed rules x)) (precedes_zeroed rules (zeroed rules x)) rest (other_precedes x (zeroed rules x) rest refl (all_rest (Precedes x) own rest h.0) none) in
+    let later : Strict (kept rules (unfiltered rest)) = more (strict_rest own rest h.1) in
+    subst Strict (sym is) (elim (goes rules.evict x.kind (first own)) as (λ b. Strict (cond b [] (zeroed rules x ∷ []) ++ kept rules (unfiltered rest))) [ true ↦ later | false ↦ (behind, later) ]))
   where
     precede_all : (x y : Entry) → x.user_key ≡ y.user_key → x.seqno ≡ y.seqno → (es : List Entry) → AllByRecursion (Precedes x) es → AllByRecursion (Precedes y) es
     precede_all x y key number [] h = tt

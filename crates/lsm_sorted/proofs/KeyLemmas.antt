@@ -89,7 +89,7 @@ le_lt a b c p q =
       | false ↦ λ e. lt_trans a b c (le_other a b p e) q
     ] refl
 
-gt_first : (o p : Ordering) → is_gt (ordering_then o p) ≡ false → is_gt o ≡ false
+pub gt_first : (o p : Ordering) → is_gt (ordering_then o p) ≡ false → is_gt o ≡ false
 gt_first Less p h = refl
 gt_first Equal p h = refl
 gt_first Greater p h = absurd cc

@@ -29,6 +29,7 @@ pub mod GoingLemmas
 pub mod WholeLemmas
 pub mod ReadLemmas
 pub mod KeptLemmas
+pub mod PartLemmas
 pub mod IntervalLemmas
 pub mod SpanLemmas
 pub mod RunLemmas

@@ -1,5 +1,5 @@
 -- The least and the greatest of merged lists.
-use Rattle.std.proofs.Common.{◌≡◌, refl, sym, ◌∙◌, ap, subst, ℕ, zero, suc, ◌<◌, Bool, true, false, cond, List, [], ◌∷◌, ◌++◌, length, arith, rules, slice_index_or, slice_set}
+use Rattle.std.proofs.Common.{◌≡◌, refl, sym, ◌∙◌, ap, ℕ, zero, suc, ◌<◌, Bool, true, false, cond, List, [], ◌∷◌, ◌++◌, length, arith, rules, slice_index_or, slice_set}
 use Rattle.std.specs.List.{AllByRecursion}
 use Rattle.std.specs.Cmp.{IsTotalOrder}
 use Rattle.std.specs.Cmp.Lexicographic.{slice_cmp}
@@ -11,7 +11,7 @@ use Rattle.std.proofs.lemmas.Cmp.{upto}
 use Rattle.sst_blocks.specs.Entry.{Entry}
 use Rattle.sst_blocks.specs.Kind.{tag_of}
 use Rattle.lsm_sorted.specs.Ends.{R}
-use Rattle.lsm_sorted.specs.Union.{item_cmp, AtMost, Ascends, entries_of, all_entries, inserted, in_order, merged}
+use Rattle.lsm_sorted.specs.Union.{item_cmp, AtMost, entries_of, all_entries, inserted, in_order, merged}
 
 abbrev by_parts : Entry → Entry → Ordering
 by_parts = then_cmp (on (λ (e : Entry). e.user_key) (slice_cmp nat_cmp)) (then_cmp (flip_args (on (λ (e : Entry). e.seqno) nat_cmp)) (on (λ (e : Entry). tag_of e.kind) nat_cmp))

@@ -1,5 +1,5 @@
 -- What holds of an order among places after two of them have exchanged what they hold.
-use Rattle.std.proofs.Common.{◌≡◌, ◌≢◌, ◌⊎◌, ℕ, ◌<◌, Bool, true, false, Ordering, List, length, get_or, sym, ap, ◌∙◌, ⊎_elim, refl, arith}
+use Rattle.std.proofs.Common.{◌≡◌, ◌≢◌, ℕ, true, false, Ordering, sym, ⊎_elim}
 use Rattle.std.specs.Ordering.{is_gt}
 use Rattle.std.specs.Cmp.{IsTotalOrder}
 use Rattle.std.proofs.lemmas.Cmp.{upto}
@@ -50,12 +50,12 @@ module _ {T : Type 0} (cmp : T → T → Ordering) (o : IsTotalOrder cmp) (f g :
       rise_others a b e b_u = ⊎_elim
           (λ (bv : b ≡ v). let au : a ≡ u = only a (rw (← bv) e) in rw (au, bv) ordered_now)
           (λ (b_v : b ≢ v). ⊎_elim
-              (λ (au : a ≡ u). let ub : E u b = rw (← au) e in rw au (u_rest b b_u b_v (upto o _ _ _ turned_back (others u b ub b_v))))
-              (λ (a_u : a ≢ u). ⊎_elim
-                  (λ (av : a ≡ v). let vb : E v b = rw (← av) e in rw av (v_rest b b_u b_v (around u b uv vb)))
-                  (λ (a_v : a ≢ v). rest_rest a b a_u a_v b_u b_v (others a b e b_v))
-                  (cases_eq a v))
-              (cases_eq a u))
+          (λ (au : a ≡ u). let ub : E u b = rw (← au) e in rw au (u_rest b b_u b_v (upto o _ _ _ turned_back (others u b ub b_v))))
+          (λ (a_u : a ≢ u). ⊎_elim
+          (λ (av : a ≡ v). let vb : E v b = rw (← av) e in rw av (v_rest b b_u b_v (around u b uv vb)))
+          (λ (a_v : a ≢ v). rest_rest a b a_u a_v b_u b_v (others a b e b_v))
+          (cases_eq a v))
+          (cases_eq a u))
           (cases_eq b v)
 
       pub rise_around : (a b : ℕ) → E a u → E u b → Upto cmp g a b
@@ -75,16 +75,16 @@ module _ {T : Type 0} (cmp : T → T → Ordering) (o : IsTotalOrder cmp) (f g :
         pub sink_others : (a b : ℕ) → E a b → a ≢ v → Upto cmp g a b
         sink_others a b e a_v = ⊎_elim
             (λ (au : a ≡ u). let ub : E u b = rw (← au) e in
-                ⊎_elim (λ (bv : b ≡ v). rw (au, bv) ordered_now)
-                (λ (b_v : b ≢ v). rw au (u_rest b (λ x. apart u b ub (sym x)) b_v (first b ub b_v)))
-                (cases_eq b v))
+            ⊎_elim (λ (bv : b ≡ v). rw (au, bv) ordered_now)
+            (λ (b_v : b ≢ v). rw au (u_rest b (λ x. apart u b ub (sym x)) b_v (first b ub b_v)))
+            (cases_eq b v))
             (λ (a_u : a ≢ u). ⊎_elim
-                (λ (bu : b ≡ u). let eu : E a u = rw (← bu) e in rw bu (rest_u a a_u a_v (around a v eu uv)))
-                (λ (b_u : b ≢ u). ⊎_elim
-                    (λ (bv : b ≡ v). absurd (a_u (only a (rw (← bv) e))))
-                    (λ (b_v : b ≢ v). rest_rest a b a_u a_v b_u b_v (others a b e a_u))
-                    (cases_eq b v))
-                (cases_eq b u))
+            (λ (bu : b ≡ u). let eu : E a u = rw (← bu) e in rw bu (rest_u a a_u a_v (around a v eu uv)))
+            (λ (b_u : b ≢ u). ⊎_elim
+            (λ (bv : b ≡ v). absurd (a_u (only a (rw (← bv) e))))
+            (λ (b_v : b ≢ v). rest_rest a b a_u a_v b_u b_v (others a b e a_u))
+            (cases_eq b v))
+            (cases_eq b u))
             (cases_eq a u)
 
         pub sink_around : (a b : ℕ) → E a v → E v b → Upto cmp g a b
@@ -99,15 +99,15 @@ module _ {T : Type 0} (cmp : T → T → Ordering) (o : IsTotalOrder cmp) (f g :
         pub node_others : (a b : ℕ) → E a b → a ≢ u → Upto cmp g a b
         node_others a b e a_u = ⊎_elim
             (λ (av : a ≡ v). let vb : E v b = rw (← av) e in
-                let b_u : b ≢ u = λ x. one_way u v uv (rw (← x) vb) in
-                rw av (v_rest b b_u (λ x. apart v b vb (sym x)) (below b vb)))
+            let b_u : b ≢ u = λ x. one_way u v uv (rw (← x) vb) in
+            rw av (v_rest b b_u (λ x. apart v b vb (sym x)) (below b vb)))
             (λ (a_v : a ≢ v). ⊎_elim
-                (λ (bv : b ≡ v). rw bv (rest_v a a_u a_v (upto o _ _ _ (others a v (rw (← bv) e) a_u) turned_back)))
-                (λ (b_v : b ≢ v). ⊎_elim
-                    (λ (bu : b ≡ u). let eu : E a u = rw (← bu) e in rw bu (rest_u a a_u a_v (around a v eu uv)))
-                    (λ (b_u : b ≢ u). rest_rest a b a_u a_v b_u b_v (others a b e a_u))
-                    (cases_eq b u))
-                (cases_eq b v))
+            (λ (bv : b ≡ v). rw bv (rest_v a a_u a_v (upto o _ _ _ (others a v (rw (← bv) e) a_u) turned_back)))
+            (λ (b_v : b ≢ v). ⊎_elim
+            (λ (bu : b ≡ u). let eu : E a u = rw (← bu) e in rw bu (rest_u a a_u a_v (around a v eu uv)))
+            (λ (b_u : b ≢ u). rest_rest a b a_u a_v b_u b_v (others a b e a_u))
+            (cases_eq b u))
+            (cases_eq b v))
             (cases_eq a v)
 
         pub node_around : (a b : ℕ) → E a u → E u b → Upto cmp g a b

@@ -128,7 +128,7 @@ module _ (rules : Rules) (j : Judged) (y : Entry) (left : told j ≡ Ok (Some y)
     pub open_outs : outs rules (Ok j ∷ Ok k ∷ js) ≡ Ok (zeroed rules y) ∷ outs rules (Ok k ∷ js)
     open_outs = first_joined (outs_of rules) (Ok (zeroed rules y) ∷ [])
         (λ V e. ap (λ (b : Bool). outs_if b (k ∷ V) e) (high_is_no_cut high)
-          ∙ ap (λ (o : Result (Option Entry) Error). (given_by rules (λ x. false) o ++ given rules (gone rules (first (entries (expired rules.watermark (k ∷ V)))) e) (heads rules.watermark (k ∷ V))) ++ error_of e) left)
+        ∙ ap (λ (o : Result (Option Entry) Error). (given_by rules (λ x. false) o ++ given rules (gone rules (first (entries (expired rules.watermark (k ∷ V)))) e) (heads rules.watermark (k ∷ V))) ++ error_of e) left)
 
     pub open_reported : reported rules (Ok j ∷ Ok k ∷ js) ≡ reports_by j.entry j.verdict ++ reported rules (Ok k ∷ js)
     open_reported = first_joined (reported_of rules) (reports_by j.entry j.verdict)
@@ -194,8 +194,8 @@ module _ (key : List ℕ) (js : List JudgedItem) (over : follows_in key js ≡ f
     by_cut {B} f same = elim cut_or [
       | inl cut ↦ ap (λ (b : Bool). f b (unfiltered es)) cut
       | inr none ↦ ap (λ (zs : List Entry). f (is_cut rules.watermark j) (unfiltered zs)) none
-        ∙ elim (is_cut rules.watermark j) as (λ b. f b [] ≡ f true []) [ true ↦ refl | false ↦ sym same ]
-        ∙ sym (ap (λ (zs : List Entry). f true (unfiltered zs)) none)
+          ∙ elim (is_cut rules.watermark j) as (λ b. f b [] ≡ f true []) [ true ↦ refl | false ↦ sym same ]
+          ∙ sym (ap (λ (zs : List Entry). f true (unfiltered zs)) none)
     ]
 
     pub close_outs : outs rules (Ok j ∷ (all_ok (unfiltered es) ++ js)) ≡ given_by rules (gone rules (first es) (error_in js)) (Ok (Some y)) ++ (error_of (error_in js) ++ outs rules (behind_error js))

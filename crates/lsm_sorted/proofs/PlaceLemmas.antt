@@ -1,9 +1,9 @@
 -- The places of an interval heap: which may not come after which.
-use Rattle.std.proofs.Common.{◌≡◌, ◌≢◌, ◌⊎◌, ℕ, zero, suc, ◌+◌, ◌-◌, ◌*◌, ◌/◌, ◌%◌, ◌<◌, ◌≤◌, inl, inr, ⊎_elim, sym, ap, refl, arith}
-use Rattle.std.proofs.lemmas.Bool.{cases_eq, cases_lt}
+use Rattle.std.proofs.Common.{◌≡◌, ◌≢◌, ◌⊎◌, ℕ, ◌+◌, ◌-◌, ◌*◌, ◌/◌, ◌%◌, ◌<◌, ◌≤◌, inl, inr, ⊎_elim, sym, arith}
+use Rattle.std.proofs.lemmas.Bool.{cases_eq}
 use Rattle.lsm_sorted.specs.declared.side.Side.{Side}
 use Rattle.lsm_sorted.specs.declared.side.Side.TheVariants.{Least, Greatest}
-use Rattle.lsm_sorted.specs.Intervals.{IsLowAbove, IsNode, IsHighAbove, Precedes, PrecedesOn, IsEnd, above_of, IsOtherAbove, IsChildEnd}
+use Rattle.lsm_sorted.specs.Intervals.{Precedes, PrecedesOn, IsEnd, above_of, IsOtherAbove, IsChildEnd}
 
 -- the other place of a node
 pub record IsOther (k b : ℕ) : Type 0 where
@@ -233,7 +233,9 @@ precedes_longer m a b (inl r) = inl (inl (record { above = r.above; low = r.low;
 precedes_longer m a b (inr (inl r)) = inl (inr (inl (record { low = r.low; high = r.high; within = omega arith })))
 precedes_longer m a b (inr (inr r)) = ⊎_elim
     (λ (even : a % 2 ≡ 0). let last = r.high even in
-        inr (inr (inl (record { low = even; high = omega arith; within = omega arith })),
-             inr (inr (record { above = r.above; high = λ e. absurd (omega arith); from = omega arith; upto = omega arith; within = omega arith }))))
+    inr (
+      inr (inl (record { low = even; high = omega arith; within = omega arith })),
+      inr (inr (record { above = r.above; high = λ e. absurd (omega arith); from = omega arith; upto = omega arith; within = omega arith })),
+    ))
     (λ (odd : a % 2 ≢ 0). inl (inr (inr (record { above = r.above; high = λ e. absurd (odd e); from = r.from; upto = r.upto; within = omega arith }))))
     (cases_eq (a % 2) 0)

@@ -1,6 +1,6 @@
 -- The least or the greatest item is taken out of a merger's heap: it is the first or the last entry of all that is left.
-use Rattle.std.proofs.Common.{◌≡◌, ◌≢◌, ◌⊎◌, inl, inr, refl, sym, ◌∙◌, ap, subst, ℕ, zero, suc, ◌<◌, ◌≤◌, Bool, true, false, List, [], ◌∷◌, ◌++◌, map, length, arith, slice_index_or, slice_set}
-use Rattle.std.specs.Prelude.{not, Option, Some, None, Result, Ok, Err, All, Contains, IsPermutation}
+use Rattle.std.proofs.Common.{◌≡◌, inl, inr, refl, sym, ◌∙◌, ap, subst, ℕ, zero, suc, ◌<◌, Bool, true, false, List, [], ◌∷◌, ◌++◌, map, length, arith, slice_index_or, slice_set}
+use Rattle.std.specs.Prelude.{Option, Some, None, Ok, Err, All, IsPermutation}
 use Rattle.std.specs.List.{AllByRecursion}
 use Rattle.std.specs.Ordering.{nat_cmp, bool_cmp, is_gt, ordering_then, ordering_reverse}
 use Rattle.std.specs.declared.cmp.Ordering.{Ordering}
@@ -16,7 +16,7 @@ use Rattle.lsm_sorted.specs.declared.merge.HeapItem.{HeapItem}
 use Rattle.lsm_sorted.specs.Ends.{R}
 use Rattle.lsm_sorted.specs.Union.{item_cmp, AtMost, Ascends, entries_of, errors_of, all_errors, merged}
 use Rattle.lsm_sorted.specs.Merge.{entry_of, Kept, one, whole, taken_at, kept_at, taken, HeapHolds, Ready}
-use Rattle.lsm_sorted.proofs.MergedLemmas.{item_total, Above, at_most_chain, above_at_most, merged_least, merged_greatest}
+use Rattle.lsm_sorted.proofs.MergedLemmas.{item_total, Above, at_most_chain, merged_least, merged_greatest}
 use Rattle.lsm_sorted.proofs.HeldLemmas.{Elsewhere, held_first, held_pop, held_found, taken_set_same, kept_set_other, taken_within}
 use Rattle.lsm_sorted.proofs.TakeLemmas.{all_at, all_set}
 
@@ -254,6 +254,7 @@ module _ {A : Type 0} (hs mid : List (HeapItem A)) (h : HeapItem A) (ks : List K
       where
         before : (j : ℕ) (b : Bool) (y : Entry) → j < h.source → taken ks j b ≡ Some y → Above y (entry_of h)
         before j b y lt e = let g = over j b y e in subst (λ (z : Entry). Above z (entry_of h)) g.3 (turn_source h g.0 g.4 (subst (λ (i : ℕ). i < h.source) (sym g.1) lt))
+
         above_chain : (y z : Entry) → AtMost y z → Above y (entry_of h) → Above z (entry_of h)
         above_chain y z le up = either (is_gt (item_cmp z (entry_of h))) refl
           where
@@ -318,6 +319,7 @@ module _ {A : Type 0} (hs mid : List (HeapItem A)) (h : HeapItem A) (ks : List K
       where
         after : (j : ℕ) (b : Bool) (y : Entry) → h.source < j → taken ks j b ≡ Some y → Above (entry_of h) y
         after j b y gt e = let g = under j b y e in subst (Above (entry_of h)) g.3 (turn_source g.0 h g.4 (subst (λ (i : ℕ). h.source < i) (sym g.1) gt))
+
         above_chain : (y z : Entry) → AtMost y z → Above (entry_of h) z → Above (entry_of h) y
         above_chain y z le up = either (is_gt (item_cmp (entry_of h) y)) refl
           where

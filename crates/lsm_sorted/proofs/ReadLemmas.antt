@@ -119,12 +119,12 @@ and_both true true h = (refl, refl)
 and_both true false h = absurd cc
 and_both false b h = absurd cc
 
-and_not : (a b : Bool) → a && b ≡ false → (a ≡ false) ⊎ ((a ≡ true) × (b ≡ false))
+pub and_not : (a b : Bool) → a && b ≡ false → (a ≡ false) ⊎ ((a ≡ true) × (b ≡ false))
 and_not false b h = inl refl
 and_not true true h = absurd cc
 and_not true false h = inr (refl, refl)
 
-not_under : (n low bound : ℕ) → low ≤ bound → nat_lt n bound ≡ false → nat_lt n low ≡ false
+pub not_under : (n low bound : ℕ) → low ≤ bound → nat_lt n bound ≡ false → nat_lt n low ≡ false
 not_under n low bound h k = grind (arith, nat_tests)
 
 not_below : (n bound : ℕ) → n < bound → nat_lt n bound ≡ false → ⊥
@@ -135,7 +135,7 @@ apart true h k = absurd cc
 apart false h k = absurd cc
 
 module _ (rules : Rules) (key : List ℕ) (bound : ℕ) where
-  abbrev Same : List Entry → Type 0
+  abbrev pub Same : List Entry → Type 0
   Same es = seen (kept rules (unfiltered es)) key bound ≡ seen es key bound
 
   served_rest : (xs ys : List Entry) → IsServed rules.watermark (xs ++ ys) key bound → IsServed rules.watermark ys key bound
@@ -203,18 +203,18 @@ module _ (rules : Rules) (key : List ℕ) (bound : ℕ) where
     closed served = elim (is_hit key bound x) as (λ b. is_hit key bound x ≡ b → Same (x ∷ (own ++ rest))) [ true ↦ λ e. closed_hit e | false ↦ λ e. closed_past served e ] refl
 
   -- by the number of entries
-  same_within : (n : ℕ) (es : List Entry) → length es ≤ n → KeysUp es → IsServed rules.watermark es key bound → Same es
+  pub same_within : (n : ℕ) (es : List Entry) → length es ≤ n → KeysUp es → IsServed rules.watermark es key bound → Same es
   same_within n [] few up served = refl
   same_within zero (x ∷ es) few up served = absurd (omega arith)
   same_within (suc n) (x ∷ es) few up served =
       let s = split x.user_key es in
       let few_rest : length es ≤ n = omega arith in
       let closes : (nat_lt x.seqno rules.watermark ≡ true) ⊎ (s.own ≡ []) → Same (x ∷ es) = λ last.
-        let few' : length s.rest ≤ n = length_rest s.own s.rest n (subst (λ (ys : List Entry). length ys ≤ n) s.is few_rest) in
-        let up' : KeysUp (x ∷ (s.own ++ s.rest)) = subst (λ (ys : List Entry). KeysUp (x ∷ ys)) s.is up in
-        let served' : IsServed rules.watermark (x ∷ (s.own ++ s.rest)) key bound = subst (λ (ys : List Entry). IsServed rules.watermark (x ∷ ys) key bound) s.is served in
-        let deeper : Same s.rest = same_within n s.rest few' (up_rest s.own s.rest up'.1) (served_rest (x ∷ s.own) s.rest served') in
-        subst (λ (ys : List Entry). Same (x ∷ ys)) (sym s.is) (closed x s.own s.rest up' s.all s.over last deeper served') in
+      let few' : length s.rest ≤ n = length_rest s.own s.rest n (subst (λ (ys : List Entry). length ys ≤ n) s.is few_rest) in
+      let up' : KeysUp (x ∷ (s.own ++ s.rest)) = subst (λ (ys : List Entry). KeysUp (x ∷ ys)) s.is up in
+      let served' : IsServed rules.watermark (x ∷ (s.own ++ s.rest)) key bound = subst (λ (ys : List Entry). IsServed rules.watermark (x ∷ ys) key bound) s.is served in
+      let deeper : Same s.rest = same_within n s.rest few' (up_rest s.own s.rest up'.1) (served_rest (x ∷ s.own) s.rest served') in
+      subst (λ (ys : List Entry). Same (x ∷ ys)) (sym s.is) (closed x s.own s.rest up' s.all s.over last deeper served') in
       elim (nat_lt x.seqno rules.watermark) as (λ b. nat_lt x.seqno rules.watermark ≡ b → Same (x ∷ es)) [
         | true ↦ λ low. closes (inl low)
         | false ↦ λ high. elim s.own as (λ own. s.own ≡ own → Same (x ∷ es)) [

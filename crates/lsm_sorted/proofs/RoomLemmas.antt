@@ -1,9 +1,8 @@
 -- How many entries a merger holds.
-use Rattle.std.proofs.Common.{◌≡◌, ◌≢◌, ◌⊎◌, inl, inr, refl, sym, ◌∙◌, ap, subst, ℕ, zero, suc, ◌+◌, ◌<◌, ◌≤◌, Bool, true, false, cond, nat_lt, List, [], ◌∷◌, length, arith}
+use Rattle.std.proofs.Common.{◌≡◌, ◌≢◌, inl, inr, refl, sym, ◌∙◌, ap, subst, ℕ, suc, ◌+◌, ◌<◌, ◌≤◌, Bool, true, false, cond, nat_lt, List, ◌∷◌, length, arith}
 use Rattle.std.specs.Prelude.{◌==◌, Option, All, IsPermutation, count_by}
-use Rattle.std.specs.List.{AllByRecursion}
 use Rattle.std.specs.Iterator.{Count}
-use Rattle.std.proofs.lemmas.Bool.{eqb-true, eq-eqb}
+use Rattle.std.proofs.lemmas.Bool.{eqb-true}
 use Rattle.std.proofs.lemmas.Bool.Decides.{nat_tests}
 use Rattle.std.proofs.lemmas.List.Elements.{recursion_from_All, All-from_recursion}
 use Rattle.std.proofs.lemmas.List.Sorted.{All-permutation, sum_by-IsPermutation, length_permutation}
@@ -69,24 +68,24 @@ module _ {S A : Type 0} (front back : S → Option R → S → Type 0) (can can_
           each = λ k. let c : held_of k t ≡ held_of k s = ap (count_by (of_source k)) (sym e) in omega (arith, was.each k, wider k);
         }
         | inr new ↦
-          let h : HeapItem A = new.0 in
-          let source : h.source ≡ i = new.1 in
-          record {
-            sources = goes;
-            known = All-permutation (Known (length t.sources.items)) (h ∷ held s.heap) (held t.heap) new.3 (All-from_recursion (λ h. h.source < length t.sources.items) (h ∷ held s.heap) (omega arith, recursion_from_All (Known (length t.sources.items)) (held s.heap) old_known));
-            space = space;
-            few = omega (arith, was.few, length_permutation (h ∷ held s.heap) (held t.heap) new.3);
-            each = λ k.
-                let c : held_of k t ≡ count_by (of_source k) (h ∷ held s.heap) = count_perm k (h ∷ held s.heap) (held t.heap) new.3 in
-                elim (h.source == k) as (λ b. (h.source == k) ≡ b → held_of k t ≤ more k) [
-                  | true ↦ λ e.
-                      let at : k ≡ i = sym (eqb-true h.source k e) ∙ source in
-                      let here : held_of k s ≤ limit i = subst (λ (j : ℕ). held_of k s ≤ limit j) at (was.each k) in
-                      let there : limit i < more k = subst (λ (j : ℕ). limit i < more j) (sym at) room_i in
-                      omega (arith, c, here, there, count_yes (of_source k) h (held s.heap) e)
-                  | false ↦ λ e. omega (arith, c, was.each k, wider k, count_no (of_source k) h (held s.heap) e)
-                ] refl;
-          }
+            let h : HeapItem A = new.0 in
+            let source : h.source ≡ i = new.1 in
+            record {
+              sources = goes;
+              known = All-permutation (Known (length t.sources.items)) (h ∷ held s.heap) (held t.heap) new.3 (All-from_recursion (λ h. h.source < length t.sources.items) (h ∷ held s.heap) (omega arith, recursion_from_All (Known (length t.sources.items)) (held s.heap) old_known));
+              space = space;
+              few = omega (arith, was.few, length_permutation (h ∷ held s.heap) (held t.heap) new.3);
+              each = λ k.
+                  let c : held_of k t ≡ count_by (of_source k) (h ∷ held s.heap) = count_perm k (h ∷ held s.heap) (held t.heap) new.3 in
+                  elim (h.source == k) as (λ b. (h.source == k) ≡ b → held_of k t ≤ more k) [
+                    | true ↦ λ e.
+                        let at : k ≡ i = sym (eqb-true h.source k e) ∙ source in
+                        let here : held_of k s ≤ limit i = subst (λ (j : ℕ). held_of k s ≤ limit j) at (was.each k) in
+                        let there : limit i < more k = subst (λ (j : ℕ). limit i < more j) (sym at) room_i in
+                        omega (arith, c, here, there, count_yes (of_source k) h (held s.heap) e)
+                    | false ↦ λ e. omega (arith, c, was.each k, wider k, count_no (of_source k) h (held s.heap) e)
+                  ] refl;
+            }
       ]
 
   -- one was taken out, and one of its source may have been added
@@ -108,18 +107,18 @@ module _ {S A : Type 0} (front back : S → Option R → S → Type 0) (can can_
           each = λ k. let c : held_of k t ≡ count_by (of_source k) mid = ap (count_by (of_source k)) (sym e) in omega (arith, counts k, count_cons (of_source k) h mid);
         }
         | inr new ↦
-          let x : HeapItem A = new.0 in
-          let source : x.source ≡ h.source = new.1 in
-          record {
-            sources = goes;
-            known = All-permutation (Known (length t.sources.items)) (x ∷ mid) (held t.heap) new.3 (All-from_recursion (λ y. y.source < length t.sources.items) (x ∷ mid) (let low : h.source < length t.sources.items = known.0 in omega arith, known.1));
-            space = space;
-            few = omega (arith, length_permutation (x ∷ mid) (held t.heap) new.3);
-            each = λ k.
-                let c : held_of k t ≡ count_by (of_source k) (x ∷ mid) = count_perm k (x ∷ mid) (held t.heap) new.3 in
-                let same_weight : weight (of_source k x) ≡ weight (of_source k h) = ap (λ (j : ℕ). weight (j == k)) source in
-                omega (arith, c, counts k, same_weight, count_cons (of_source k) x mid, count_cons (of_source k) h mid);
-          }
+            let x : HeapItem A = new.0 in
+            let source : x.source ≡ h.source = new.1 in
+            record {
+              sources = goes;
+              known = All-permutation (Known (length t.sources.items)) (x ∷ mid) (held t.heap) new.3 (All-from_recursion (λ y. y.source < length t.sources.items) (x ∷ mid) (let low : h.source < length t.sources.items = known.0 in omega arith, known.1));
+              space = space;
+              few = omega (arith, length_permutation (x ∷ mid) (held t.heap) new.3);
+              each = λ k.
+                  let c : held_of k t ≡ count_by (of_source k) (x ∷ mid) = count_perm k (x ∷ mid) (held t.heap) new.3 in
+                  let same_weight : weight (of_source k x) ≡ weight (of_source k h) = ap (λ (j : ℕ). weight (j == k)) source in
+                  omega (arith, c, counts k, same_weight, count_cons (of_source k) x mid, count_cons (of_source k) h mid);
+            }
       ]
 
   -- a merger with the same sources and the same heap, within wider bounds

@@ -43,8 +43,7 @@ module _ {T C : Type 0} (stops : Error → Bool) (Has : T → List R → Type 0)
     drained_at s u t c b result was ends = record {
       at = λ xs h fine.
           let w = was.at xs h in
-          let e = ends w.0 w.1 fine in
-          (
+          let e = ends w.0 w.1 fine in (
             e.0 ∙ sym (ap error_first w.2),
             subst (λ (zs : List R). Has t (past_error zs)) (sym w.2) e.1,
             w.3 b (subst (λ (ys : List Entry). GetsAll gets b ys b) (sym e.2) refl),
@@ -53,23 +52,23 @@ module _ {T C : Type 0} (stops : Error → Bool) (Has : T → List R → Type 0)
 
     pub drained_stop : {X : Type 0} (s u v t : T) (c b : C) (x : Entry) (y : X) → Draining s c u b → DealsFirst stops Has u (Some (Ok x)) v → same_key x.user_key key ≡ false → ((zs : List R) → Has v zs → Has t (Ok x ∷ zs)) → DrainsKey stops Has gets key s c (Ok y) t b
     drained_stop s u v t c b x y was d other put = drained_at s u t c b (Ok y) was (λ zs h fine.
-      let one = d zs h refl in
-      let whole : zs ≡ Ok x ∷ but_first zs = from_first zs (Ok x) one.0 in
-      let after : after_key key zs ≡ Ok x ∷ but_first zs = ap (after_key key) whole ∙ ap (λ (t : Bool). cond t (after_key key (but_first zs)) (Ok x ∷ but_first zs)) other in
-      let stretch : of_key key zs ≡ [] = ap (of_key key) whole ∙ ap (λ (t : Bool). cond t (x ∷ of_key key (but_first zs)) []) other in
-      (sym (ap error_first after), subst (λ (ys : List R). Has t (past_error ys)) (sym after) (put (but_first zs) one.1), stretch))
+        let one = d zs h refl in
+        let whole : zs ≡ Ok x ∷ but_first zs = from_first zs (Ok x) one.0 in
+        let after : after_key key zs ≡ Ok x ∷ but_first zs = ap (after_key key) whole ∙ ap (λ (t : Bool). cond t (after_key key (but_first zs)) (Ok x ∷ but_first zs)) other in
+        let stretch : of_key key zs ≡ [] = ap (of_key key) whole ∙ ap (λ (t : Bool). cond t (x ∷ of_key key (but_first zs)) []) other in
+        (sym (ap error_first after), subst (λ (ys : List R). Has t (past_error ys)) (sym after) (put (but_first zs) one.1), stretch))
 
     pub drained_err : {X : Type 0} (s u t : T) (c b : C) (e : Error) → Draining s c u b → DealsFirst stops Has u (Some (Err e)) t → DrainsKey {X = X} stops Has gets key s c (Err e) t b
     drained_err s u t c b e was d = drained_at s u t c b (Err e) was (λ zs h fine.
-      let one = d zs h fine in
-      let whole : zs ≡ Err e ∷ but_first zs = from_first zs (Err e) one.0 in
-      (sym (ap (λ (ys : List R). error_first (after_key key ys)) whole), subst (λ (ys : List R). Has t (past_error (after_key key ys))) (sym whole) one.1, ap (of_key key) whole))
+        let one = d zs h fine in
+        let whole : zs ≡ Err e ∷ but_first zs = from_first zs (Err e) one.0 in
+        (sym (ap (λ (ys : List R). error_first (after_key key ys)) whole), subst (λ (ys : List R). Has t (past_error (after_key key ys))) (sym whole) one.1, ap (of_key key) whole))
 
     pub drained_end : {X : Type 0} (s u t : T) (c b : C) (y : X) → Draining s c u b → DealsFirst stops Has u None t → DrainsKey stops Has gets key s c (Ok y) t b
     drained_end s u t c b y was d = drained_at s u t c b (Ok y) was (λ zs h fine.
-      let one = d zs h refl in
-      let none : zs ≡ [] = none_first zs one.0 in
-      (sym (ap (λ (ys : List R). error_first (after_key key ys)) none), subst (Has t) (ap but_first none ∙ sym (ap (λ (ys : List R). past_error (after_key key ys)) none)) one.1, ap (of_key key) none))
+        let one = d zs h refl in
+        let none : zs ≡ [] = none_first zs one.0 in
+        (sym (ap (λ (ys : List R). error_first (after_key key ys)) none), subst (Has t) (ap but_first none ∙ sym (ap (λ (ys : List R). past_error (after_key key ys)) none)) one.1, ap (of_key key) none))
 
   module _ (rules : Rules) (head : Entry) where
     close_well : (es : List Entry) (rs : List R) → None ≡ error_first rs → close rules head es rs ≡ record { answer = unless rules (goes rules.evict head.kind (first es)) head; rest = past_error rs; reports = es }
@@ -97,15 +96,15 @@ module _ {T C : Type 0} (stops : Error → Bool) (Has : T → List R → Type 0)
 
     pub settles_end : (s t : T) (c : C) (gone : Bool) → DealsFirst stops Has s None t → gone ≡ goes rules.evict head.kind None → Settles stops Has gets rules head s c (Ok gone) t c
     settles_end s t c gone d e = settles_as s t c c (Ok gone) (λ xs h fine.
-      let one = d xs h refl in
-      let none : xs ≡ [] = none_first xs one.0 in
-      (settled rules head [], ap (settled rules head) none, answer_alone gone e, subst (Has t) (ap but_first none) one.1, refl))
+        let one = d xs h refl in
+        let none : xs ≡ [] = none_first xs one.0 in
+        (settled rules head [], ap (settled rules head) none, answer_alone gone e, subst (Has t) (ap but_first none) one.1, refl))
 
     pub settles_err : (s t : T) (c : C) (e : Error) → DealsFirst stops Has s (Some (Err e)) t → Settles stops Has gets rules head s c (Err e) t c
     settles_err s t c e d = settles_as s t c c (Err e) (λ xs h fine.
-      let one = d xs h fine in
-      let whole : xs ≡ Err e ∷ but_first xs = from_first xs (Err e) one.0 in
-      (settled rules head (Err e ∷ but_first xs), ap (settled rules head) whole, refl, one.1, refl))
+        let one = d xs h fine in
+        let whole : xs ≡ Err e ∷ but_first xs = from_first xs (Err e) one.0 in
+        (settled rules head (Err e ∷ but_first xs), ap (settled rules head) whole, refl, one.1, refl))
 
     abbrev settled_if : Bool → Bool → Entry → List R → Turn
     settled_if same low x rs = cond (same && not low) (record { answer = Some (Ok (zeroed rules head)); rest = Ok x ∷ rs; reports = [] })
@@ -113,27 +112,25 @@ module _ {T C : Type 0} (stops : Error → Bool) (Has : T → List R → Type 0)
 
     pub settles_other : (s v t : T) (c : C) (x : Entry) (gone : Bool) → DealsFirst stops Has s (Some (Ok x)) v → same_key x.user_key head.user_key ≡ false → ((zs : List R) → Has v zs → Has t (Ok x ∷ zs)) → gone ≡ goes rules.evict head.kind None → Settles stops Has gets rules head s c (Ok gone) t c
     settles_other s v t c x gone d other put e = settles_as s t c c (Ok gone) (λ xs h fine.
-      let one = d xs h refl in
-      let whole : xs ≡ Ok x ∷ but_first xs = from_first xs (Ok x) one.0 in
-      (
-        settled_if false (nat_lt head.seqno rules.watermark) x (but_first xs),
-        ap (settled rules head) whole ∙ ap (λ (b : Bool). settled_if b (nat_lt head.seqno rules.watermark) x (but_first xs)) other,
-        answer_alone gone e,
-        put (but_first xs) one.1,
-        refl,
-      ))
+        let one = d xs h refl in
+        let whole : xs ≡ Ok x ∷ but_first xs = from_first xs (Ok x) one.0 in (
+          settled_if false (nat_lt head.seqno rules.watermark) x (but_first xs),
+          ap (settled rules head) whole ∙ ap (λ (b : Bool). settled_if b (nat_lt head.seqno rules.watermark) x (but_first xs)) other,
+          answer_alone gone e,
+          put (but_first xs) one.1,
+          refl,
+        ))
 
     pub settles_open : (s v t : T) (c : C) (x : Entry) → DealsFirst stops Has s (Some (Ok x)) v → same_key x.user_key head.user_key ≡ true → nat_lt head.seqno rules.watermark ≡ false → ((zs : List R) → Has v zs → Has t (Ok x ∷ zs)) → Settles stops Has gets rules head s c (Ok false) t c
     settles_open s v t c x d same high put = settles_as s t c c (Ok false) (λ xs h fine.
-      let one = d xs h refl in
-      let whole : xs ≡ Ok x ∷ but_first xs = from_first xs (Ok x) one.0 in
-      (
-        settled_if true false x (but_first xs),
-        ap (settled rules head) whole ∙ ap (λ (b : Bool). settled_if b (nat_lt head.seqno rules.watermark) x (but_first xs)) same ∙ ap (λ (b : Bool). settled_if true b x (but_first xs)) high,
-        refl,
-        put (but_first xs) one.1,
-        refl,
-      ))
+        let one = d xs h refl in
+        let whole : xs ≡ Ok x ∷ but_first xs = from_first xs (Ok x) one.0 in (
+          settled_if true false x (but_first xs),
+          ap (settled rules head) whole ∙ ap (λ (b : Bool). settled_if b (nat_lt head.seqno rules.watermark) x (but_first xs)) same ∙ ap (λ (b : Bool). settled_if true b x (but_first xs)) high,
+          refl,
+          put (but_first xs) one.1,
+          refl,
+        ))
 
     -- the next version is taken, and the others are drained
     module _ (s v t : T) (c b d : C) (x : Entry) (deals : DealsFirst stops Has s (Some (Ok x)) v) (same : same_key x.user_key head.user_key ≡ true) (low : nat_lt head.seqno rules.watermark ≡ true) (got : gets c x b) where
@@ -143,26 +140,24 @@ module _ {T C : Type 0} (stops : Error → Bool) (Has : T → List R → Type 0)
 
       pub settles_close : {X : Type 0} (y : X) (gone : Bool) → DrainsKey stops Has gets head.user_key v b (Ok y) t d → gone ≡ goes rules.evict head.kind (Some x) → Settles stops Has gets rules head s c (Ok gone) t d
       settles_close y gone drains e = settles_as s t c d (Ok gone) (λ xs h fine.
-        let one = deals xs h refl in
-        let k = drains.at (but_first xs) one.1 refl in
-        let rest = after_key head.user_key (but_first xs) in
-        (
-          record { answer = unless rules (goes rules.evict head.kind (Some x)) head; rest = past_error rest; reports = x ∷ of_key head.user_key (but_first xs) },
-          closing xs one.0 ∙ close_well (x ∷ of_key head.user_key (but_first xs)) rest k.0,
-          ap (λ (g : Bool). unless rules g head) e,
-          k.1,
-          (b, got, k.2),
-        ))
+          let one = deals xs h refl in
+          let k = drains.at (but_first xs) one.1 refl in
+          let rest = after_key head.user_key (but_first xs) in (
+            record { answer = unless rules (goes rules.evict head.kind (Some x)) head; rest = past_error rest; reports = x ∷ of_key head.user_key (but_first xs) },
+            closing xs one.0 ∙ close_well (x ∷ of_key head.user_key (but_first xs)) rest k.0,
+            ap (λ (g : Bool). unless rules g head) e,
+            k.1,
+            (b, got, k.2),
+          ))
 
       pub settles_close_err : {X : Type 0} (e : Error) → DrainsKey {X = X} stops Has gets head.user_key v b (Err e) t d → Settles stops Has gets rules head s c (Err e) t d
       settles_close_err e drains = settles_as s t c d (Err e) (λ xs h fine.
-        let one = deals xs h refl in
-        let k = drains.at (but_first xs) one.1 fine in
-        let rest = after_key head.user_key (but_first xs) in
-        (
-          record { answer = Some (Err e); rest = past_error rest; reports = x ∷ of_key head.user_key (but_first xs) },
-          closing xs one.0 ∙ close_ill (x ∷ of_key head.user_key (but_first xs)) rest e k.0,
-          refl,
-          k.1,
-          (b, got, k.2),
-        ))
+          let one = deals xs h refl in
+          let k = drains.at (but_first xs) one.1 fine in
+          let rest = after_key head.user_key (but_first xs) in (
+            record { answer = Some (Err e); rest = past_error rest; reports = x ∷ of_key head.user_key (but_first xs) },
+            closing xs one.0 ∙ close_ill (x ∷ of_key head.user_key (but_first xs)) rest e k.0,
+            refl,
+            k.1,
+            (b, got, k.2),
+          ))

@@ -1,5 +1,5 @@
 -- What holds of an order seen from either end.
-use Rattle.std.proofs.Common.{◌≡◌, Bool, true, false, Ordering, ap}
+use Rattle.std.proofs.Common.{◌≡◌, true, false, Ordering, ap}
 use Rattle.std.specs.Ordering.{is_gt, ordering_reverse}
 use Rattle.std.specs.declared.cmp.Ordering.TheVariants.{Less, Equal, Greater}
 use Rattle.std.specs.Cmp.{IsTotalOrder}

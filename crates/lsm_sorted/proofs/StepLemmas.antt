@@ -1,6 +1,6 @@
 -- One step of a merger at either end: the least or the greatest is popped, and the next of its source is taken.
-use Rattle.std.proofs.Common.{◌≡◌, ◌≢◌, ◌⊎◌, inl, inr, refl, sym, ◌∙◌, ap, subst, ℕ, zero, suc, ◌<◌, Bool, true, false, List, [], ◌∷◌, ◌++◌, reverse, map, length, arith, slice_index_or, slice_set}
-use Rattle.std.specs.Prelude.{not, Option, Some, None, All, Contains, IsPermutation}
+use Rattle.std.proofs.Common.{◌≡◌, ◌⊎◌, inl, inr, refl, sym, ◌∙◌, ap, subst, ℕ, zero, suc, Bool, true, false, List, [], ◌∷◌, ◌++◌, reverse, map, slice_index_or, slice_set}
+use Rattle.std.specs.Prelude.{not, Option, Some, None, All, IsPermutation}
 use Rattle.std.specs.List.{AllZip, AllByRecursion}
 use Rattle.std.specs.Ordering.{is_gt}
 use Rattle.std.proofs.lemmas.Bool.{cases_eq}
@@ -8,7 +8,6 @@ use Rattle.std.proofs.lemmas.List.{reverse-append, reverse-reverse}
 use Rattle.sst_blocks.specs.Entry.{Entry}
 use Rattle.sst_blocks.specs.Stream.{first, but_first, last, but_last}
 use Rattle.sst_blocks.specs.declared.error.Error.{Error}
-use Rattle.lsm_sorted.specs.declared.ends.Ends.{Ends}
 use Rattle.lsm_sorted.specs.declared.merge.HeapItem.{HeapItem}
 use Rattle.lsm_sorted.specs.declared.merge.Merger.{Merger}
 use Rattle.lsm_sorted.specs.Ends.{R, Left}
@@ -17,7 +16,7 @@ use Rattle.lsm_sorted.specs.Union.{entries_of, all_entries, all_errors, in_order
 use Rattle.lsm_sorted.specs.Merge.{entry_of, Kept, one, whole, taken_at, kept_at, taken, Ready, is_ready, HeapHolds, Stands, Merging, LeavesIf, Leaves, Took}
 use Rattle.lsm_sorted.proofs.HeldLemmas.{held_none}
 use Rattle.lsm_sorted.proofs.FillLemmas.{by_end, other_ready, other_end}
-use Rattle.lsm_sorted.proofs.PopLemmas.{turn_cmp, cleared, Sorted, without, within, without_gone, without_elsewhere, without_rest, without_heap, least_merged, least_errors, least_sorted, least_spent, least_free, greatest_merged, greatest_errors, greatest_sorted, greatest_spent, greatest_free}
+use Rattle.lsm_sorted.proofs.PopLemmas.{turn_cmp, cleared, Sorted, without, without_gone, without_elsewhere, without_rest, without_heap, least_merged, least_errors, least_sorted, least_spent, least_free, greatest_merged, greatest_errors, greatest_sorted, greatest_spent, greatest_free}
 
 same_or_not : (b c : Bool) → (b ≡ c) ⊎ (b ≡ c → ⊥)
 same_or_not true true = inl refl

@@ -1,10 +1,9 @@
 -- What the winners of the brackets say of the items, and what a change of one slot leaves.
-use Rattle.std.proofs.Common.{◌≡◌, ◌≢◌, ◌⊎◌, ℕ, zero, suc, ◌+◌, ◌*◌, ◌^◌, ◌<◌, ◌≤◌, Bool, true, false, List, [], ◌∷◌, Option, Some, None, Ordering, length, get_or, set, replicate, refl, sym, ◌∙◌, ap, subst, ⊎_elim, inl, inr, arith}
-use Rattle.std.specs.Ordering.{is_gt, flip_args}
+use Rattle.std.proofs.Common.{◌≡◌, ℕ, suc, ◌+◌, ◌*◌, ◌<◌, false, List, [], ◌∷◌, Option, Some, None, Ordering, length, get_or, set, replicate, refl, sym, ◌∙◌, ap, subst, inl, arith}
+use Rattle.std.specs.Ordering.{is_gt}
 use Rattle.std.specs.Option.{IfNone}
 use Rattle.std.specs.List.{All}
 use Rattle.std.specs.Cmp.{IsTotalOrder}
-use Rattle.std.proofs.lemmas.Cmp.{back_total}
 use Rattle.std.proofs.lemmas.List.{length-set, length-replicate, get_or-replicate}
 use Rattle.std.proofs.lemmas.List.Elements.{All-nil, All-cons}
 use Rattle.lsm_sorted.specs.declared.side.Side.{Side}
@@ -13,7 +12,7 @@ use Rattle.lsm_sorted.specs.declared.tournament.brackets.Bracket.{Bracket}
 use Rattle.lsm_sorted.specs.declared.tournament.brackets.Brackets.{Brackets}
 use Rattle.lsm_sorted.specs.Slots.{items_of, slot_at}
 use Rattle.lsm_sorted.specs.Side.{toward}
-use Rattle.lsm_sorted.specs.Brackets.{is_beaten, IsDecided, IsBracket, AllDecided, DecidedButAbove, IsUnplayed, IsWon, IsWonButAbove, AreWon, AreWonButAbove}
+use Rattle.lsm_sorted.specs.Brackets.{is_beaten, DecidedButAbove, IsUnplayed, IsWon, IsWonButAbove, AreWon, AreWonButAbove}
 use Rattle.lsm_sorted.proofs.SideLemmas.{toward_total}
 use Rattle.lsm_sorted.proofs.BracketLemmas.{decided_but_above, unbeaten}
 

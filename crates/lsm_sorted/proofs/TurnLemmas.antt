@@ -118,9 +118,9 @@ module _ (P : Judged → Type 0) (plain : (x : Entry) → P (as_is x)) (rules : 
             js = Ok j ∷ (all_ok (unfiltered es) ++ js);
             over = ap (λ (ys : List R). Ok j.entry ∷ ys) (items_append es js ∙ ap (λ (ys : List R). all_ok es ++ ys) fits ∙ sym parts);
             gives = close_outs y.user_key js over rules j y left es its all last'
-              ∙ ap (λ (o : Option Error). given_by rules (gone rules (first es) o) (Ok (Some y)) ++ (error_of o ++ outs rules (behind_error js))) none
-              ∙ ap (λ (ks : List JudgedItem). given_by rules (gone rules (first es) None) (Ok (Some y)) ++ outs rules ks) same
-              ∙ answer_listed (outs rules js);
+                ∙ ap (λ (o : Option Error). given_by rules (gone rules (first es) o) (Ok (Some y)) ++ (error_of o ++ outs rules (behind_error js))) none
+                ∙ ap (λ (ks : List JudgedItem). given_by rules (gone rules (first es) None) (Ok (Some y)) ++ outs rules ks) same
+                ∙ answer_listed (outs rules js);
             reports = close_reported y.user_key js over rules j y left es its all last' ∙ ap (λ (ks : List JudgedItem). (reports_by j.entry j.verdict ++ es) ++ reported rules ks) same;
             asks = close_asked y.user_key js over rules j y left es its all last' ∙ ap (λ (ks : List JudgedItem). asked_head j ++ asked rules ks) same;
             each = λ p h. (p, each_unfiltered es js h);

@@ -1,5 +1,5 @@
 -- Merged lists are a union of the lists, and the only one where it is strict.
-use Rattle.std.proofs.Common.{◌≡◌, refl, sym, ◌∙◌, ap, subst, ℕ, ◌+◌, ◌<◌, ◌≤◌, Bool, true, false, cond, List, [], ◌∷◌, arith}
+use Rattle.std.proofs.Common.{◌≡◌, refl, sym, ◌∙◌, ap, ℕ, ◌+◌, ◌<◌, Bool, true, false, cond, List, [], ◌∷◌, arith}
 use Rattle.std.specs.Prelude.{◌==◌, ◌&&◌, not, count_by}
 use Rattle.std.specs.List.{AllByRecursion}
 use Rattle.std.specs.Cmp.Lexicographic.{slice_cmp}
@@ -149,7 +149,7 @@ strict_only [] (y ∷ ys) strict up same = let e = same.count (λ z. true) in ab
 strict_only (x ∷ xs) [] strict up same = let e = same.count (λ z. true) in absurd (omega (arith, e, count_yes (λ (z : Entry). true) x xs refl))
 strict_only (x ∷ xs) (y ∷ ys) strict up same =
     let over : AllByRecursion (λ z. is_gt (item_cmp y z) ≡ false) (x ∷ xs) =
-        none_counted (λ z. is_gt (item_cmp y z)) (x ∷ xs) (same.count (λ z. is_gt (item_cmp y z)) ∙ none_pass (λ z. is_gt (item_cmp y z)) (y ∷ ys) (at_most_itself y, up.0)) in
+    none_counted (λ z. is_gt (item_cmp y z)) (x ∷ xs) (same.count (λ z. is_gt (item_cmp y z)) ∙ none_pass (λ z. is_gt (item_cmp y z)) (y ∷ ys) (at_most_itself y, up.0)) in
     let first : is_lt (version_cmp x y) ≡ false = not_before over.0 in
     let e : y ≡ x = entry_is y x (found first) in
     sym (ap (λ (z : Entry). z ∷ ys) e ∙ ap (λ (zs : List Entry). x ∷ zs) (sym (strict_only xs ys strict.1 up.1 (tail e))))
@@ -160,11 +160,13 @@ strict_only (x ∷ xs) (y ∷ ys) strict up same =
         either : (b : Bool) → is_lt (version_cmp x y) ≡ b → is_lt (version_cmp x y) ≡ false
         either true h = let no : true ≡ false = sym (version_less x y h) ∙ le in absurd cc
         either false h = h
+
     found : is_lt (version_cmp x y) ≡ false → is_entry y x ≡ true
     found first =
         let here : after x y y ≡ true = join (is_entry y y) _ (entry_itself y) (ap not first) in
         let none : count_by (after x y) xs ≡ 0 = none_pass (after x y) xs (all_more (λ z. is_lt (version_cmp x z) ≡ true) (λ z. after x y z ≡ false) (λ z lt. no_after x y z lt) xs strict.0) in
         (both (is_entry y x) _ (some_weight (after x y x) (omega (arith, none, same.count (after x y), count_cons (after x y) x xs, count_yes (after x y) y ys here)))).0
+
     tail : y ≡ x → SameBag xs ys
     tail e = record { count = λ p. let c = same.count p in let w : weight (p y) ≡ weight (p x) = ap (λ (z : Entry). weight (p z)) e in omega (arith, c, w, count_cons p x xs, count_cons p y ys) }
 

@@ -103,8 +103,7 @@ module _ {S F C : Type 0} (front : S → Option R → S → Type 0) (can : S →
       let same : outs (rules_of s) (as_they_are was.list) ≡ listed r ++ outs (rules_of s) (as_they_are call.0) = call_keeps gets (rules_of s) (filter_of s) (filter_of t) (callback_of s) (callback_of t) was.list call.0 r call.2 in
       let whole : gives ≡ listed r ++ outs rules (as_they_are call.0) = was.is ∙ subst (λ (o : Rules). outs o (as_they_are was.list) ≡ listed r ++ outs o (as_they_are call.0)) was.set same in
       let at_end : r ≡ None → outs rules (as_they_are call.0) ≡ [] = λ e. ap (λ (ys : List R). outs rules (as_they_are ys)) (call_none KeepsAll gets (rules_of s) (filter_of s) (filter_of t) (callback_of s) (callback_of t) was.list call.0 r call.2 e) in
-      let two = listed_first r (outs rules (as_they_are call.0)) at_end in
-      (
+      let two = listed_first r (outs rules (as_they_are call.0)) at_end in (
         two.0 ∙ sym (ap first whole),
         record { list = call.0; has = call.1; set = step.rules ∙ was.set; is = ap but_first whole ∙ sym two.1 },
       )

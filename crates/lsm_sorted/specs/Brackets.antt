@@ -1,6 +1,6 @@
 -- Tournaments over slots: full binary trees whose leaves are the slots, in which each inner node names the winner of its two
 -- children. Node 1 is the root, and the children of node n are 2n and 2n + 1.
-use Rattle.std.specs.Prelude.{◌≡◌, ◌⊎◌, ℕ, zero, suc, ◌+◌, ◌*◌, ◌/◌, ◌^◌, ◌<◌, Bool, true, false, List, [], ◌∷◌, Option, Some, None, length, slice_index}
+use Rattle.std.specs.Prelude.{◌≡◌, ◌⊎◌, ℕ, zero, suc, ◌+◌, ◌*◌, ◌/◌, ◌^◌, ◌<◌, Bool, true, false, List, Option, Some, None, length, slice_index}
 use Rattle.std.specs.declared.cmp.Ordering.{Ordering}
 use Rattle.std.specs.Ordering.{is_gt}
 use Rattle.lsm_sorted.specs.declared.side.Side.{Side}

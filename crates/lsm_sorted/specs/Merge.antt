@@ -10,7 +10,7 @@ use Rattle.lsm_sorted.specs.declared.merge.HeapItem.{HeapItem}
 use Rattle.lsm_sorted.specs.declared.merge.Merger.{Merger}
 use Rattle.lsm_sorted.specs.Ends.{R, Left, Goes, ends_size}
 use Rattle.lsm_sorted.specs.Tournament.{held, room}
-use Rattle.lsm_sorted.specs.Union.{Ascends, entries_of, errors_of, all_errors, merged}
+use Rattle.lsm_sorted.specs.Union.{Ascends, entries_of, all_errors, merged}
 
 -- the entry of a heap item
 abbrev pub entry_of : {A : Type 0} → HeapItem A → Entry

@@ -1,9 +1,11 @@
 -- What readers see before and after a compaction.
-use Rattle.std.specs.Prelude.{◌≡◌, ◌<◌, ◌≤◌, ◌⊎◌, ℕ, Bool, true, List, [], ◌∷◌}
+use Rattle.std.specs.Prelude.{◌≡◌, ◌≢◌, ◌<◌, ◌≤◌, ◌⊎◌, ℕ, Bool, true, false, List, [], ◌∷◌, ◌++◌}
 use Rattle.std.specs.List.{AllByRecursion}
 use Rattle.sst_blocks.specs.Entry.{Entry}
 use Rattle.sst_blocks.specs.Key.{same_key, key_lt}
-use Rattle.lsm_sorted.specs.Union.{Ascends}
+use Rattle.sst_blocks.specs.declared.value_type.ValueType.{ValueType}
+use Rattle.sst_blocks.specs.declared.value_type.ValueType.TheVariants.{Value, Tombstone, WeakTombstone, Indirection}
+use Rattle.lsm_sorted.specs.Union.{Ascends, SameBag}
 use Rattle.lsm_sorted.specs.Point.{seen}
 use Rattle.lsm_sorted.specs.Compaction.{Rules, kept, unfiltered}
 
@@ -31,3 +33,31 @@ Strict (x ∷ xs) = AllByRecursion (Precedes x) xs × Strict xs
 -- what is kept of such a list is such a list, also where numbers become 0
 abbrev pub StaysStrict : Type 0
 StaysStrict = (rules : Rules) (es : List Entry) → Strict es → Strict (kept rules (unfiltered es))
+
+-- no entry of one list has the key and the number of one of the other
+abbrev pub Distinct : List Entry → List Entry → Type 0
+Distinct xs ys = AllByRecursion (λ x. AllByRecursion (λ y. x.user_key ≡ y.user_key → x.seqno ≢ y.seqno) ys) xs
+
+-- each version in the second list is newer than those of its key in the first
+abbrev pub AllNewer : List Entry → List Entry → Type 0
+AllNewer xs ys = AllByRecursion (λ x. AllByRecursion (λ y. x.user_key ≡ y.user_key → x.seqno < y.seqno) ys) xs
+
+-- a sorted list that has each entry as often as two lists have it together
+pub record IsMerged (xs ys zs : List Entry) : Type 0 where
+  pub ascends : Ascends zs
+  pub same : SameBag zs (xs ++ ys)
+
+abbrev pub is_weak : ValueType → Bool
+is_weak Value = false
+is_weak Tombstone = false
+is_weak WeakTombstone = true
+is_weak Indirection = false
+
+-- nothing is evicted or zeroed, and no weak tombstone may go with the version that it hides
+abbrev pub IsPlain : Rules → List Entry → Type 0
+IsPlain rules es = (rules.evict ≡ false) × (rules.zeroing ≡ false) × AllByRecursion (λ e. is_weak e.kind ≡ false) es
+
+-- where a part of the entries is compacted and others stay, a reader at the watermark or above sees the same
+abbrev pub PartLaw : Type 0
+PartLaw = (rules : Rules) (part others all left : List Entry) → Strict part → Strict others → Distinct part others → IsMerged part others all → IsMerged (kept rules (unfiltered part)) others left
+    → IsPlain rules part ⊎ AllNewer part others → (key : List ℕ) (bound : ℕ) → rules.watermark ≤ bound → seen left key bound ≡ seen all key bound

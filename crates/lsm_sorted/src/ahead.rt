@@ -1,4 +1,4 @@
-// An iterator that is taken from the front alone, with a place for one entry before it.
+//! An iterator that is taken from the front alone, with a place for one entry before it.
 ghost use Rattle.sst_blocks.specs.declared.error.Error.{Error};
 ghost use Rattle.std.specs.Prelude.{Bool, ◌≡◌, ℕ, ◌+◌, ◌<◌, List, ◌∷◌, false};
 ghost use Rattle.lsm_sorted.specs.Ends.{R, Goes};
@@ -6,10 +6,10 @@ ghost use Rattle.sst_blocks.specs.Stream.{DealsFirst, Lowers, nowhere};
 ghost use Rattle.lsm_sorted.specs.Ahead.{HoldsAhead, ahead_size};
 
 use crate::ends::Ends;
-use sst_blocks::IterItem;
-use sst_blocks::InternalValue;
+use sst_blocks::{InternalValue, IterItem};
 use std::alloc::Allocator;
 
+/// An iterator to which the entry that was taken last may be given back.
 #[derive(Drop)]
 pub struct Ahead<I: Iterator> {
     pub(crate) source: Ends<I>,

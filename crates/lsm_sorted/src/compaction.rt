@@ -1,5 +1,4 @@
 //! Compaction: older versions and tombstones that no reader needs are left out.
 pub mod stream;
-
 #[cfg(test)]
 mod tests;

@@ -1,4 +1,4 @@
-// An iterator that is not called again once it gave `None`, and what it deals.
+//! An iterator that is not called again once it gave `None`, since it then promises nothing.
 ghost use Rattle.sst_blocks.specs.declared.error.Error.{Error};
 ghost use Rattle.std.specs.Prelude.{Bool, ◌≡◌, ℕ, ◌+◌, ◌<◌, false};
 ghost use Rattle.std.specs.Iterator.{IsFinite};
@@ -9,6 +9,7 @@ ghost use Rattle.sst_blocks.specs.Stream.{DealsFirst, DealsLast, Lowers};
 use sst_blocks::IterItem;
 use std::alloc::Allocator;
 
+/// An iterator that has ended at both ends once either end gave `None`.
 #[derive(Drop)]
 pub struct Ends<I> {
     pub(crate) iter: I,

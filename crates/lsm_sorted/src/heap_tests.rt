@@ -83,23 +83,21 @@ fn agree(alloc: Global, items: &[u8], mut pattern: u32) -> Result<bool, Error> {
         let (first, second, want) = if pattern % 2 == 0 {
             (tournament.pop_min(), heap.pop_min(), counts.take_least())
         } else {
-            (
-                tournament.pop_max(),
-                heap.pop_max(),
-                counts.take_greatest(),
-            )
+            (tournament.pop_max(), heap.pop_max(), counts.take_greatest())
         };
         if first != want || second != want || want.is_none() {
             return Ok(false);
         }
         pattern /= 2;
     }
-    Ok(tournament.len() == 0
-        && heap.len() == 0
-        && tournament.pop_min().is_none()
-        && tournament.pop_max().is_none()
-        && heap.pop_min().is_none()
-        && heap.pop_max().is_none())
+    Ok(
+        tournament.len() == 0
+            && heap.len() == 0
+            && tournament.pop_min().is_none()
+            && tournament.pop_max().is_none()
+            && heap.pop_min().is_none()
+            && heap.pop_max().is_none(),
+    )
 }
 
 #[test]

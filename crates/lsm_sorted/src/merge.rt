@@ -256,7 +256,8 @@ impl<I: DoubleEndedIterator<Item = IterItem<A>>, A: Allocator> Iterator for Merg
     }
 }
 
-impl<I: DoubleEndedIterator<Item = IterItem<A>>, A: Allocator> DoubleEndedIterator for Merger<I, A> {
+impl<I: DoubleEndedIterator<Item = IterItem<A>>, A: Allocator> DoubleEndedIterator
+    for Merger<I, A> {
     ghost can_next_back = { MayMerge I.next_gives I.next_back_gives I.can_next I.can_next_back I.remaining };
 
     ghost next_back_gives = { Merges (MayMerge I.next_gives I.next_back_gives I.can_next I.can_next_back I.remaining) (λ stops. Leaves stops I.next_gives I.next_back_gives) back_of };

@@ -1,11 +1,14 @@
 use crate::{Merger, newest_of};
 use refusing::{Refusing, each_refused};
 use sst_blocks::Direction::{Back, Front};
-use sst_blocks::{Direction, Error, InternalValue, IterItem, Slice, ValueType, answer_at, answers_at};
+use sst_blocks::{
+    Direction, Error, InternalValue, IterItem, Slice, ValueType, answer_at, answers_at,
+};
 use std::alloc::Allocator;
 use std::test::Fail;
 
 const F: Direction = Front;
+
 const B: Direction = Back;
 
 // A result in short.
@@ -151,16 +154,103 @@ const END: Row = Row::Nothing;
 fn gives_the_entries_of_all_sources_in_order_up_to_an_error(rt: HostRuntime) -> Result<(), Fail> {
     let cases: [(&[Row], &[Direction], &[Row]); 10] = [
         (&[], &[F, B], &[END, END]),
-        (&[at(b'a', 0), END, at(b'b', 0), END], &[F, F, F], &[at(b'a', 0), at(b'b', 0), END]),
-        (&[at(b'a', 1), at(b'c', 1), END, at(b'b', 2), END], &[F, B, F, B], &[at(b'a', 1), at(b'c', 1), at(b'b', 2), END]),
-        (&[at(b'a', 1), Row::Fails(7), END, at(b'b', 1), END], &[F, F], &[Row::Fails(7), END]),
-        (&[at(b'a', 1), at(b'b', 1), END, at(b'c', 1), Row::Fails(7), END], &[F, F, F, F], &[at(b'a', 1), at(b'b', 1), Row::Fails(7), END]),
-        (&[at(b'a', 1), at(b'b', 1), END, at(b'c', 1), Row::Fails(7), END], &[B, B, F], &[Row::Fails(7), END, END]),
-        (&[at(b'a', 3), at(b'b', 1), Row::Refused, END, at(b'a', 2), END], &[F, F, F, B], &[at(b'a', 3), at(b'a', 2), Row::Refused, END]),
-        (&[at(b'a', 3), at(b'a', 1), END, at(b'a', 2), at(b'b', 9), END, END], &[B, F, B, F, F, B], &[at(b'b', 9), at(b'a', 3), at(b'a', 1), at(b'a', 2), END, END]),
+        (
+            &[at(b'a', 0), END, at(b'b', 0), END],
+            &[F, F, F],
+            &[at(b'a', 0), at(b'b', 0), END],
+        ),
+        (
+            &[at(b'a', 1), at(b'c', 1), END, at(b'b', 2), END],
+            &[F, B, F, B],
+            &[at(b'a', 1), at(b'c', 1), at(b'b', 2), END],
+        ),
+        (
+            &[at(b'a', 1), Row::Fails(7), END, at(b'b', 1), END],
+            &[F, F],
+            &[Row::Fails(7), END],
+        ),
+        (
+            &[
+                at(b'a', 1),
+                at(b'b', 1),
+                END,
+                at(b'c', 1),
+                Row::Fails(7),
+                END,
+            ],
+            &[F, F, F, F],
+            &[at(b'a', 1), at(b'b', 1), Row::Fails(7), END],
+        ),
+        (
+            &[
+                at(b'a', 1),
+                at(b'b', 1),
+                END,
+                at(b'c', 1),
+                Row::Fails(7),
+                END,
+            ],
+            &[B, B, F],
+            &[Row::Fails(7), END, END],
+        ),
+        (
+            &[
+                at(b'a', 3),
+                at(b'b', 1),
+                Row::Refused,
+                END,
+                at(b'a', 2),
+                END,
+            ],
+            &[F, F, F, B],
+            &[at(b'a', 3), at(b'a', 2), Row::Refused, END],
+        ),
+        (
+            &[
+                at(b'a', 3),
+                at(b'a', 1),
+                END,
+                at(b'a', 2),
+                at(b'b', 9),
+                END,
+                END,
+            ],
+            &[B, F, B, F, F, B],
+            &[at(b'b', 9), at(b'a', 3), at(b'a', 1), at(b'a', 2), END, END],
+        ),
         // Entries that tie: the earlier source first, from either end.
-        (&[Row::Entry(b'a', 1, 1), Row::Entry(b'a', 1, 2), END, Row::Entry(b'a', 1, 3), END], &[F, F, F, F], &[Row::Entry(b'a', 1, 1), Row::Entry(b'a', 1, 2), Row::Entry(b'a', 1, 3), END]),
-        (&[Row::Entry(b'a', 1, 1), Row::Entry(b'a', 1, 2), END, Row::Entry(b'a', 1, 3), END], &[B, F, B, B], &[Row::Entry(b'a', 1, 3), Row::Entry(b'a', 1, 1), Row::Entry(b'a', 1, 2), END]),
+        (
+            &[
+                Row::Entry(b'a', 1, 1),
+                Row::Entry(b'a', 1, 2),
+                END,
+                Row::Entry(b'a', 1, 3),
+                END,
+            ],
+            &[F, F, F, F],
+            &[
+                Row::Entry(b'a', 1, 1),
+                Row::Entry(b'a', 1, 2),
+                Row::Entry(b'a', 1, 3),
+                END,
+            ],
+        ),
+        (
+            &[
+                Row::Entry(b'a', 1, 1),
+                Row::Entry(b'a', 1, 2),
+                END,
+                Row::Entry(b'a', 1, 3),
+                END,
+            ],
+            &[B, F, B, B],
+            &[
+                Row::Entry(b'a', 1, 3),
+                Row::Entry(b'a', 1, 1),
+                Row::Entry(b'a', 1, 2),
+                END,
+            ],
+        ),
     ];
     for (sources, ends, wanted) in cases {
         assert_eq!(rt; merged(&rt.alloc(), sources, ends)?.as_slice(), wanted);
@@ -170,11 +260,30 @@ fn gives_the_entries_of_all_sources_in_order_up_to_an_error(rt: HostRuntime) -> 
 
 #[test]
 fn gives_the_newest_version_of_each_key_of_all_sources(rt: HostRuntime) -> Result<(), Fail> {
-    let sources = [at(b'a', 3), at(b'b', 1), at(b'c', 4), END, at(b'a', 7), at(b'b', 2), END, at(b'd', 1), END];
+    let sources = [
+        at(b'a', 3),
+        at(b'b', 1),
+        at(b'c', 4),
+        END,
+        at(b'a', 7),
+        at(b'b', 2),
+        END,
+        at(b'd', 1),
+        END,
+    ];
     let cases: [(&[Direction], &[Row]); 3] = [
-        (&[F, F, F, F, F], &[at(b'a', 7), at(b'b', 2), at(b'c', 4), at(b'd', 1), END]),
-        (&[B, B, B, B, B], &[at(b'd', 1), at(b'c', 4), at(b'b', 2), at(b'a', 7), END]),
-        (&[F, B, F, B, F], &[at(b'a', 7), at(b'd', 1), at(b'b', 2), at(b'c', 4), END]),
+        (
+            &[F, F, F, F, F],
+            &[at(b'a', 7), at(b'b', 2), at(b'c', 4), at(b'd', 1), END],
+        ),
+        (
+            &[B, B, B, B, B],
+            &[at(b'd', 1), at(b'c', 4), at(b'b', 2), at(b'a', 7), END],
+        ),
+        (
+            &[F, B, F, B, F],
+            &[at(b'a', 7), at(b'd', 1), at(b'b', 2), at(b'c', 4), END],
+        ),
     ];
     for (ends, wanted) in cases {
         assert_eq!(rt; newest(&rt.alloc(), &sources, ends)?.as_slice(), wanted);
@@ -205,6 +314,14 @@ fn refuses_memory_when_made_and_takes_none_after(rt: HostRuntime) -> Result<(), 
     let fourth = answer_at(&mut merger, B);
     assert_eq!(rt; heap.requests(), made);
     assert!(rt; made > before);
-    assert_eq!(rt; [row_of(&first), row_of(&second), row_of(&third), row_of(&fourth)], [at(b'a', 1), at(b'c', 1), at(b'b', 2), END]);
+    assert_eq!(rt;
+        [
+            row_of(&first),
+            row_of(&second),
+            row_of(&third),
+            row_of(&fourth)
+        ],
+        [at(b'a', 1), at(b'c', 1), at(b'b', 2), END]
+    );
     Ok(())
 }

@@ -1,4 +1,4 @@
-// The newest version of each key.
+//! A stream of the newest version of each key.
 ghost use Rattle.sst_blocks.specs.declared.error.Error.{Error};
 ghost use Rattle.std.specs.Prelude.{not, Bool, ◌≡◌, ℕ, ◌+◌, ◌<◌, List};
 ghost use Rattle.std.specs.Iterator.{at_most, IsFinite};
@@ -10,11 +10,11 @@ ghost use Rattle.lsm_sorted.specs.Union.{Ascends, newest};
 ghost use Rattle.sst_blocks.specs.Entry.{Entry};
 ghost use Rattle.lsm_sorted.specs.Mvcc.{StandsFor, MayStep, mvcc_size};
 
-use sst_blocks::IterItem;
 use crate::peeked::Peeked;
-use sst_blocks::InternalValue;
+use sst_blocks::{InternalValue, IterItem};
 use std::alloc::Allocator;
 
+// By equality alone, which asks less of the order than the back does.
 fn has_other_key<A: Allocator>(x: &InternalValue<A>, y: &InternalValue<A>) -> bool
     ensures { result ≡ not (same_key x.now.user_key y.now.user_key) }
 {
@@ -27,13 +27,19 @@ fn has_lower_key<A: Allocator>(x: &InternalValue<A>, y: &InternalValue<A>) -> bo
     x.key.user_key < y.key.user_key
 }
 
-/// Gives the newest version of each key.
+/// Gives the newest version of each key, from either end.
+///
+/// The entries come by key upward, and the versions of a key from the newest down. Tombstones are
+/// given like values. An error is passed on in the place where it stands, and the version that it
+/// interrupts is given up: at the front the one before it, at the back the stretch of its key after
+/// it. A step looks at each version of its key once, and holds two entries at most.
 #[derive(Drop)]
 pub struct MvccStream<I: DoubleEndedIterator> {
     inner: Peeked<I>,
 }
 
 impl<I: DoubleEndedIterator<Item = IterItem<A>>, A: Allocator> MvccStream<I> {
+    /// A stream over sorted entries. Nothing is taken from them yet.
     pub fn new(iter: I) -> Self
         ensures stands { (stops : Error → Bool) (xs : List R) → Deals (stopped stops) I.next_gives I.next_back_gives iter xs → StandsFor I.next_gives I.next_back_gives stops result xs }
         ensures may { CanDeal I.next_gives I.next_back_gives I.can_next I.can_next_back iter → IsFinite (I.remaining iter) → MayStep I.next_gives I.next_back_gives I.can_next I.can_next_back I.remaining result }
@@ -76,7 +82,8 @@ impl<I: DoubleEndedIterator<Item = IterItem<A>>, A: Allocator> Iterator for Mvcc
     }
 }
 
-impl<I: DoubleEndedIterator<Item = IterItem<A>>, A: Allocator> DoubleEndedIterator for MvccStream<I> {
+impl<I: DoubleEndedIterator<Item = IterItem<A>>, A: Allocator> DoubleEndedIterator
+    for MvccStream<I> {
     ghost can_next_back = { MayStep I.next_gives I.next_back_gives I.can_next I.can_next_back I.remaining };
 
     ghost next_back_gives = { Answers (MayStep I.next_gives I.next_back_gives I.can_next I.can_next_back I.remaining) (StandsFor I.next_gives I.next_back_gives) back_step };

@@ -1,4 +1,4 @@
-// An iterator with a place for one entry before it and one behind it.
+//! An iterator with a place for one entry before it and one behind it.
 ghost use Rattle.sst_blocks.specs.declared.error.Error.{Error};
 ghost use Rattle.std.specs.Prelude.{Bool, ◌≡◌, ℕ, ◌+◌, ◌<◌, List, ◌∷◌, ◌++◌, [], false};
 ghost use Rattle.std.specs.Iterator.{IsFinite};
@@ -7,10 +7,11 @@ ghost use Rattle.sst_blocks.specs.Stream.{DealsFirst, DealsLast, Lowers};
 ghost use Rattle.lsm_sorted.specs.Peeked.{Holds, held, peeked_size};
 
 use crate::ends::Ends;
-use sst_blocks::IterItem;
-use sst_blocks::InternalValue;
+use sst_blocks::{InternalValue, IterItem};
 use std::alloc::Allocator;
 
+/// An iterator to which an entry may be given back at either end. What is given back at one end is
+/// still found from the other, once nothing is left between.
 #[derive(Drop)]
 pub struct Peeked<I: DoubleEndedIterator> {
     pub(crate) source: Ends<I>,

@@ -251,24 +251,45 @@ fn packed_runs(rt: HostRuntime) -> Result<(), Fail> {
     Ok(())
 }
 
+// Whether packing gives runs of these ids, and the chain has as many places, or memory was refused where it may be.
+fn packs_to<A: Allocator + Clone>(
+    alloc: &A,
+    runs: &[&[(u64, &str, &str)]],
+    ids: &[&[u64]],
+    may_fail: bool,
+) -> bool {
+    match packed_and_chained(alloc, runs) {
+        Ok((packed, chained)) => have_ids(&packed, ids) && chained == ids.len(),
+        Err(Error::OutOfMemory) => may_fail,
+        Err(_) => false,
+    }
+}
+
+fn packed_and_chained<A: Allocator + Clone>(
+    alloc: &A,
+    runs: &[&[(u64, &str, &str)]],
+) -> Result<(Vec<Run<FakeTable<A>, A>, A>, usize), Error> {
+    let made = runs_of(alloc.clone()?, runs)?;
+    let chain = overlap_chain(alloc.clone()?, &made)?;
+    Ok((optimize_runs(alloc.clone()?, made)?, chain.len()))
+}
+
 #[test]
 fn each_request_for_memory_refused(rt: HostRuntime) -> Result<(), Fail> {
-    let two: [&[(u64, &str, &str)]; 2] = [&[(1, "d", "f")], &[(0, "a", "c")]];
-    let packed = each_refused(rt.alloc(), |heap, may_fail| {
-        match runs_of(heap, &two).and_then(|runs| optimize_runs(heap, runs)) {
-            Ok(runs) => have_ids(&runs, &[&[0, 1]]),
-            Err(Error::OutOfMemory) => may_fail,
-            Err(_) => false,
-        }
+    let three = each_refused(rt.alloc(), |heap, may_fail| {
+        let runs: [&[(u64, &str, &str)]; 3] = [&[(2, "m", "p")], &[(1, "a", "z")], &[(0, "a", "c")]];
+        packs_to(&heap, &runs, &[&[2], &[1], &[0]], may_fail)
     });
-    assert!(rt; packed.is_ok_and(|requests| requests > 5));
-    let chained = each_refused(rt.alloc(), |heap, may_fail| {
-        match runs_of(heap, &two).and_then(|runs| overlap_chain(heap, &runs)) {
-            Ok(chain) => chain.len() == 1,
-            Err(Error::OutOfMemory) => may_fail,
-            Err(_) => false,
-        }
+    assert!(rt; three.is_ok_and(|requests| requests > 5));
+    let four = each_refused(rt.alloc(), |heap, may_fail| {
+        let runs: [&[(u64, &str, &str)]; 4] = [
+            &[(0, "a", "c"), (1, "m", "p")],
+            &[(2, "b", "n")],
+            &[(3, "d", "f")],
+            &[(4, "x", "z")],
+        ];
+        packs_to(&heap, &runs, &[&[0, 1, 4], &[2], &[3]], may_fail)
     });
-    assert!(rt; chained.is_ok_and(|requests| requests > 5));
+    assert!(rt; four.is_ok_and(|requests| requests > 5));
     Ok(())
 }

@@ -9,7 +9,7 @@ pub enum Row {
     At(u8, u64, ValueType, u8),
     /// The error of a caller's own source, with its code.
     Fails(u64),
-    /// Any other error, with its number.
+    /// Any other error, with its number. A source of rows answers want of memory for it.
     Refused(u8),
 }
 
@@ -44,7 +44,7 @@ fn result_of(alloc: Global, row: Row) -> Result<IterItem, Error> {
             kind,
         )),
         Row::Fails(code) => Err(Error::Source(code)),
-        Row::Refused(_) => Err(Error::Truncated),
+        Row::Refused(_) => Err(Error::OutOfMemory),
     })
 }
 

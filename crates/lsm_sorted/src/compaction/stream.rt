@@ -9,7 +9,7 @@ ghost use Rattle.lsm_sorted.specs.CompactionState.{rules_of, source_of, filter_o
 ghost use Rattle.lsm_sorted.specs.Ahead.{HoldsAhead};
 ghost use Rattle.lsm_sorted.specs.Compaction.{goes, zeroed, outs, kept, as_they_are, unfiltered};
 ghost use Rattle.lsm_sorted.specs.Compacting.{Compacted};
-ghost use Rattle.lsm_sorted.specs.ReadLaw.{ReadLaw, StaysStrict};
+ghost use Rattle.lsm_sorted.specs.ReadLaw.{ReadLaw, StaysStrict, PartLaw};
 ghost use Rattle.lsm_sorted.specs.declared.compaction.stream.CompactionStream.{CompactionStream};
 ghost use Rattle.std.specs.List.{AllByRecursion};
 ghost use Rattle.lsm_sorted.specs.Ends.{R};
@@ -203,7 +203,12 @@ fn has_key_of<A: Allocator>(x: &InternalValue<A>, head: &InternalValue<A>) -> bo
     x.key.user_key == head.key.user_key
 }
 
-impl<I: Iterator<Item = IterItem<A>>, F: StreamFilter<A>, C: DroppedKvCallback<A>, A: Allocator> CompactionStream<I, F, C> {
+impl<
+    I: Iterator<Item = IterItem<A>>,
+    F: StreamFilter<A>,
+    C: DroppedKvCallback<A>,
+    A: Allocator,
+> CompactionStream<I, F, C> {
     // The head as the filter leaves it, or none where the filter drops it.
     fn filtered(&mut self, mut head: InternalValue<A>) -> Result<Option<InternalValue<A>>, Error>
         ensures source { source_of self.new ≡ source_of self.old }
@@ -317,7 +322,12 @@ impl<I: Iterator<Item = IterItem<A>>, F, C, A: Allocator> CompactionStream<I, F,
     }
 }
 
-impl<I: Iterator<Item = IterItem<A>>, F: StreamFilter<A> + Drop, C: DroppedKvCallback<A> + Drop, A: Allocator> Iterator for CompactionStream<I, F, C> {
+impl<
+    I: Iterator<Item = IterItem<A>>,
+    F: StreamFilter<A> + Drop,
+    C: DroppedKvCallback<A> + Drop,
+    A: Allocator,
+> Iterator for CompactionStream<I, F, C> {
     type Item = IterItem<A>;
 
     ghost can_next = { MayCompact I.next_gives I.can_next I.remaining };
@@ -347,7 +357,12 @@ impl<I: Iterator<Item = IterItem<A>>, F: StreamFilter<A> + Drop, C: DroppedKvCal
     }
 }
 
-impl<I: Iterator<Item = IterItem<A>>, F: StreamFilter<A> + Drop, C: DroppedKvCallback<A> + Drop, A: Allocator> CompactionStream<I, F, C> {
+impl<
+    I: Iterator<Item = IterItem<A>>,
+    F: StreamFilter<A> + Drop,
+    C: DroppedKvCallback<A> + Drop,
+    A: Allocator,
+> CompactionStream<I, F, C> {
     /// What a stream does over a whole list, from now until it answers `None`: what it gives is what
     /// the verdicts of its filter let of each key, the filter is asked of nothing but the heads that
     /// are no tombstones, and the callback receives exactly what is reported. Every call leaves a
@@ -355,26 +370,34 @@ impl<I: Iterator<Item = IterItem<A>>, F: StreamFilter<A> + Drop, C: DroppedKvCal
     pub fn whole_run(&self)
         ensures gives { (stops : Error → Bool) (xs gave : List R) (s t : CompactionStream I F C R) → Compacts stops I.next_gives self.now xs → AllByRecursion (λ r. stopped_result stops r ≡ false) gave → Yields ⟦<CompactionStream<I, F, C> as Iterator>⟧.next_gives self.now gave s → ⟦<CompactionStream<I, F, C> as Iterator>⟧.next_gives s None t → Compacted F.gives C.gets (rules_of self.now) (filter_of self.now) (callback_of self.now) xs gave (filter_of t) (callback_of t) }
         ensures can { MayCompact I.next_gives I.can_next I.remaining self.now → CanDeal ⟦<CompactionStream<I, F, C> as Iterator>⟧.next_gives nowhere ⟦<CompactionStream<I, F, C> as Iterator>⟧.can_next ⟦<CompactionStream<I, F, C> as Iterator>⟧.can_next self.now }
-    {
-    }
+    {}
 }
 
-impl<I: Iterator<Item = IterItem<A>>, C: DroppedKvCallback<A> + Drop, A: Allocator> CompactionStream<I, NoFilter, C> {
+impl<
+    I: Iterator<Item = IterItem<A>>,
+    C: DroppedKvCallback<A> + Drop,
+    A: Allocator,
+> CompactionStream<I, NoFilter, C> {
     /// What a stream without a filter deals: of any list of results what is given of it, and of
     /// entries without errors those that are kept. The call does nothing: its contract says so.
     pub fn unfiltered_run(&self)
         ensures outs { (stops : Error → Bool) (xs : List R) → Compacts stops I.next_gives self.now xs → Deals (stopped stops) ⟦<CompactionStream<I, NoFilter, C> as Iterator>⟧.next_gives nowhere self.now (outs (rules_of self.now) (as_they_are xs)) }
         ensures kept { (stops : Error → Bool) (xs : List Entry) → Compacts stops I.next_gives self.now (all_ok xs) → Deals (stopped stops) ⟦<CompactionStream<I, NoFilter, C> as Iterator>⟧.next_gives nowhere self.now (all_ok (kept (rules_of self.now) (unfiltered xs))) }
-    {
-    }
+    {}
 }
 
-/// The laws of what is kept. A reader whose bound is the watermark or above, or above every version
-/// of its key, sees the same of every key in what is kept of a sorted list as in the list, whatever
-/// is evicted and zeroed. Of a list in which each entry comes before the next by key, or by number
-/// downward, what is kept is such a list again. The call does nothing: its contract says so.
+/// The laws of what is kept.
+///
+/// A reader whose bound is the watermark or above, or above every version of its key, sees the same
+/// of every key in what is kept of a sorted list as in the list, whatever is evicted and zeroed. Of a
+/// list in which each entry comes before the next by key, or by number downward, what is kept is such
+/// a list again. And where a part of the entries is compacted and others stay, a reader whose bound
+/// is the watermark or above sees the same in both together, if nothing is evicted or zeroed and the
+/// part has no weak tombstone, or if of each key all others are newer than the part.
+///
+/// The call does nothing: its contract says so.
 pub fn read_law()
     ensures reads { ReadLaw }
     ensures strict { StaysStrict }
-{
-}
+    ensures part { PartLaw }
+{}

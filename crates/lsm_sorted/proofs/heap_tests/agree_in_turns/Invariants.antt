@@ -1,4 +1,4 @@
-use Rattle.std.proofs.Common.{◌≡◌, length}
+use Rattle.std.proofs.Common.{◌≡◌}
 use Rattle.lsm_sorted.specs.Tournament as tournament
 use Rattle.lsm_sorted.specs.IntervalHeap as interval
 use Rattle.lsm_sorted.proofs.heap_tests.agree_in_turns.Given as goal

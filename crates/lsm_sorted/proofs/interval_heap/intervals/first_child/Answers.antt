@@ -1,9 +1,7 @@
-use Rattle.std.proofs.Common.{◌≡◌, ◌⊎◌, ℕ, ◌<◌, ◌≤◌, ◌∙◌, length, sym, get_or, ⊎_elim, arith}
+use Rattle.std.proofs.Common.{ℕ, sym}
 use Rattle.std.proofs.lemmas.List.{get_or_read}
-use Rattle.std.proofs.lemmas.Cmp.{tied_itself}
 use Rattle.lsm_sorted.specs.Side.{toward}
 use Rattle.lsm_sorted.proofs.SideLemmas.{toward_total, not_both}
-use Rattle.lsm_sorted.proofs.PlaceLemmas.{end_below}
 use Rattle.lsm_sorted.proofs.IntervalHeapLemmas.{in_order_itself, first_alone, first_of_two}
 use Rattle.lsm_sorted.proofs.interval_heap.intervals.first_child.Goals as goal
 

@@ -1,15 +1,15 @@
-use Rattle.std.proofs.Common.{◌≡◌, ℕ, ◌<◌, ◌≤◌, ◌∙◌, length, sym, get_or, arith}
+use Rattle.std.proofs.Common.{sym, arith}
 use Rattle.std.proofs.lemmas.List.{get_or_read}
-use Rattle.lsm_sorted.specs.Side.{toward}
 use Rattle.lsm_sorted.proofs.PlaceLemmas.{IsOther}
-use Rattle.lsm_sorted.proofs.IntervalHeapLemmas.{Strict, sinking_still, node_ordered, node_alone, node_kept}
+use Rattle.lsm_sorted.proofs.IntervalHeapLemmas.{sinking_still, node_ordered}
 use Rattle.lsm_sorted.proofs.interval_heap.intervals.order_node.Goals as goal
 use Rattle.lsm_sorted.proofs.interval_heap.intervals.order_node.Goals.{Joined-place-eq0, then-place-eq0, else-place-eq0}
 
 is_other : (g : _) (c : Joined-place-eq0 g) → IsOther c.args.place c.if-place-eq0.other
 is_other g c = elim c.if-place-eq0.branch [
-    then-place-eq0 w ↦ record { same = omega arith; differs = omega arith }
-  | else-place-eq0 w ↦ record { same = omega arith; differs = omega arith } ]
+  | then-place-eq0 w ↦ record { same = omega arith; differs = omega arith }
+  | else-place-eq0 w ↦ record { same = omega arith; differs = omega arith }
+]
 
 pub returns-then-is_before-clause-sinking : goal.returns-then-is_before-clause-sinking
 returns-then-is_before-clause-sinking g c =

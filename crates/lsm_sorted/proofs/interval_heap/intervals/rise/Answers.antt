@@ -1,9 +1,6 @@
-use Rattle.std.proofs.Common.{◌≡◌, ℕ, ◌<◌, ◌∙◌, length, Bool, true, false, sym, get_or, arith}
-use Rattle.std.specs.Ordering.{is_gt}
+use Rattle.std.proofs.Common.{◌<◌, ◌∙◌, length, sym, arith}
 use Rattle.std.proofs.lemmas.List.{get_or_read}
 use Rattle.std.proofs.lemmas.List.Sorted.{IsPermutation-trans}
-use Rattle.lsm_sorted.specs.Side.{toward}
-use Rattle.lsm_sorted.specs.Intervals.{above_of}
 use Rattle.lsm_sorted.proofs.PlaceLemmas.{above_below}
 use Rattle.lsm_sorted.proofs.IntervalHeapLemmas.{rising_more, risen_to_root, risen_below}
 use Rattle.lsm_sorted.proofs.interval_heap.intervals.rise.Goals as goal

@@ -1,7 +1,6 @@
-use Rattle.std.proofs.Common.{◌≡◌, ℕ, ◌<◌, ◌≤◌, ◌∙◌, length, sym, get_or, arith}
+use Rattle.std.proofs.Common.{◌∙◌, length, sym}
 use Rattle.std.proofs.lemmas.List.{get_or_read}
 use Rattle.std.proofs.lemmas.List.Sorted.{IsPermutation-trans, length_permutation}
-use Rattle.lsm_sorted.specs.Side.{toward}
 use Rattle.lsm_sorted.proofs.PlaceLemmas.{child_within}
 use Rattle.lsm_sorted.proofs.IntervalHeapLemmas.{sunk_last, sunk_first, sinking_more}
 use Rattle.lsm_sorted.proofs.interval_heap.intervals.sink.Goals as goal

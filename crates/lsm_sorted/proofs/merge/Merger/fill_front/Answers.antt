@@ -1,9 +1,9 @@
-use Rattle.std.proofs.Common.{◌≡◌, ◌<◌, ◌≤◌, ◌+◌, ℕ, Bool, cond, refl, sym, ◌∙◌, ap, subst, true, false, List, length, arith}
+use Rattle.std.proofs.Common.{◌≡◌, ◌<◌, ◌≤◌, ℕ, Bool, cond, refl, sym, ◌∙◌, ap, subst, true, false, List, length, arith}
 use Rattle.std.specs.Prelude.{Contains}
 use Rattle.std.proofs.lemmas.Result.{err_from_is_err_and}
 use Rattle.sst_blocks.specs.declared.error.Error.{Error}
 use Rattle.lsm_sorted.specs.Union.{all_errors}
-use Rattle.lsm_sorted.specs.Merge.{Ready, SameRoom}
+use Rattle.lsm_sorted.specs.Merge.{Ready}
 use Rattle.lsm_sorted.proofs.RoomLemmas.{one_if, fill_first, fill_next, fill_fails, fill_last}
 use Rattle.lsm_sorted.proofs.FillLemmas.{filled_none, filled_more, merging_filled}
 use Rattle.lsm_sorted.proofs.merge.Merger.fill_front.Goals as goal

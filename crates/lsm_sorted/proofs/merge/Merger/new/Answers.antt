@@ -1,4 +1,4 @@
-use Rattle.std.proofs.Common.{◌≡◌, ◌+◌, ◌≤◌, refl, length, arith}
+use Rattle.std.proofs.Common.{◌+◌, ◌≤◌, refl, length, arith}
 use Rattle.lsm_sorted.specs.Tournament.{room}
 use Rattle.lsm_sorted.proofs.UnionLemmas.{merged_union, only_union}
 use Rattle.lsm_sorted.proofs.DealsMerged.{new_leaves, new_may, deals_merged, deals_until, can_merge, holds_few}

@@ -1,12 +1,12 @@
-use Rattle.std.proofs.Common.{◌≡◌, refl, sym, ◌∙◌, ap, subst, Bool, true, false, List, ◌∷◌, arith}
-use Rattle.std.specs.Prelude.{Some, Contains}
+use Rattle.std.proofs.Common.{refl, sym, ◌∙◌, ap, subst, true, List, ◌∷◌, arith}
+use Rattle.std.specs.Prelude.{Contains}
 use Rattle.std.proofs.lemmas.List.Sorted.{length_permutation}
 use Rattle.std.proofs.lemmas.Result.{err_from_is_err_and}
 use Rattle.sst_blocks.specs.Entry.{Entry}
-use Rattle.sst_blocks.specs.Stream.{first, but_first, last, but_last}
+use Rattle.sst_blocks.specs.Stream.{last, but_last}
 use Rattle.sst_blocks.specs.declared.error.Error.{Error}
 use Rattle.lsm_sorted.specs.Tournament.{held}
-use Rattle.lsm_sorted.specs.Merge.{Merging, SameRoom}
+use Rattle.lsm_sorted.specs.Merge.{Merging}
 use Rattle.lsm_sorted.proofs.RoomLemmas.{popped_known, popped_space, same_popped, fits_turn, fits_two}
 use Rattle.lsm_sorted.proofs.StepLemmas.{none_left, others, back_stands, back_free, back_errors, back_gives}
 use Rattle.lsm_sorted.proofs.merge.Merger.step_back.Goals as goal
@@ -66,8 +66,8 @@ returns-clause-steps g c stops xs errors was =
     let m = record c.fill_back.new.self { heap = c.pop_max.new.self } in
     let left = c.in_ok-fill_back.ensures.fills stops xs errors was in
     let took = c.in_ok-take_back.ensures.takes stops (others stops g.I.Iterator.next_gives g.I.DoubleEndedIterator.next_back_gives c.fill_back.new.self m xs errors left c.in-Some.greatest c.in-Some.ensures.taken refl)
-        (back_stands stops g.I.Iterator.next_gives g.I.DoubleEndedIterator.next_back_gives c.fill_back.new.self m xs errors left c.in-Some.greatest c.in-Some.ensures.taken refl c.in-Some.ensures.greatest c.in_ok-fill_back.ensures.ready)
-        (back_free stops g.I.Iterator.next_gives g.I.DoubleEndedIterator.next_back_gives c.fill_back.new.self m xs errors left c.in-Some.greatest c.in-Some.ensures.taken refl c.in-Some.ensures.greatest c.in_ok-fill_back.ensures.ready) in
+    (back_stands stops g.I.Iterator.next_gives g.I.DoubleEndedIterator.next_back_gives c.fill_back.new.self m xs errors left c.in-Some.greatest c.in-Some.ensures.taken refl c.in-Some.ensures.greatest c.in_ok-fill_back.ensures.ready)
+    (back_free stops g.I.Iterator.next_gives g.I.DoubleEndedIterator.next_back_gives c.fill_back.new.self m xs errors left c.in-Some.greatest c.in-Some.ensures.taken refl c.in-Some.ensures.greatest c.in_ok-fill_back.ensures.ready) in
     let gives = back_gives stops g.I.Iterator.next_gives g.I.DoubleEndedIterator.next_back_gives c.fill_back.new.self m xs errors left c.in-Some.greatest c.in-Some.ensures.taken refl c.in-Some.ensures.greatest c.in_ok-fill_back.ensures.ready
-        c.take_back.new.self took (c.take_back.ensures.same.back_ready ∙ c.in_ok-fill_back.ensures.ready) c.take_back.ensures.same.front_ready in
+    c.take_back.new.self took (c.take_back.ensures.same.back_ready ∙ c.in_ok-fill_back.ensures.ready) c.take_back.ensures.same.front_ready in
     rw c.into_item.ensures gives

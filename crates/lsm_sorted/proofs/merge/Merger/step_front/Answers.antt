@@ -1,12 +1,12 @@
-use Rattle.std.proofs.Common.{◌≡◌, refl, sym, ◌∙◌, ap, subst, Bool, true, false, List, ◌∷◌, arith}
-use Rattle.std.specs.Prelude.{Some, Contains}
+use Rattle.std.proofs.Common.{refl, sym, ◌∙◌, ap, subst, false, List, ◌∷◌, arith}
+use Rattle.std.specs.Prelude.{Contains}
 use Rattle.std.proofs.lemmas.List.Sorted.{length_permutation}
 use Rattle.std.proofs.lemmas.Result.{err_from_is_err_and}
 use Rattle.sst_blocks.specs.Entry.{Entry}
-use Rattle.sst_blocks.specs.Stream.{first, but_first, last, but_last}
+use Rattle.sst_blocks.specs.Stream.{first, but_first}
 use Rattle.sst_blocks.specs.declared.error.Error.{Error}
 use Rattle.lsm_sorted.specs.Tournament.{held}
-use Rattle.lsm_sorted.specs.Merge.{Merging, SameRoom}
+use Rattle.lsm_sorted.specs.Merge.{Merging}
 use Rattle.lsm_sorted.proofs.RoomLemmas.{popped_known, popped_space, same_popped, fits_turn, fits_two}
 use Rattle.lsm_sorted.proofs.StepLemmas.{none_left, others, front_stands, front_free, front_errors, front_gives}
 use Rattle.lsm_sorted.proofs.merge.Merger.step_front.Goals as goal
@@ -66,8 +66,8 @@ returns-clause-steps g c stops xs errors was =
     let m = record c.fill_front.new.self { heap = c.pop_min.new.self } in
     let left = c.in_ok-fill_front.ensures.fills stops xs errors was in
     let took = c.in_ok-take_front.ensures.takes stops (others stops g.I.Iterator.next_gives g.I.DoubleEndedIterator.next_back_gives c.fill_front.new.self m xs errors left c.in-Some.least c.in-Some.ensures.taken refl)
-        (front_stands stops g.I.Iterator.next_gives g.I.DoubleEndedIterator.next_back_gives c.fill_front.new.self m xs errors left c.in-Some.least c.in-Some.ensures.taken refl c.in-Some.ensures.least c.in_ok-fill_front.ensures.ready)
-        (front_free stops g.I.Iterator.next_gives g.I.DoubleEndedIterator.next_back_gives c.fill_front.new.self m xs errors left c.in-Some.least c.in-Some.ensures.taken refl c.in-Some.ensures.least c.in_ok-fill_front.ensures.ready) in
+    (front_stands stops g.I.Iterator.next_gives g.I.DoubleEndedIterator.next_back_gives c.fill_front.new.self m xs errors left c.in-Some.least c.in-Some.ensures.taken refl c.in-Some.ensures.least c.in_ok-fill_front.ensures.ready)
+    (front_free stops g.I.Iterator.next_gives g.I.DoubleEndedIterator.next_back_gives c.fill_front.new.self m xs errors left c.in-Some.least c.in-Some.ensures.taken refl c.in-Some.ensures.least c.in_ok-fill_front.ensures.ready) in
     let gives = front_gives stops g.I.Iterator.next_gives g.I.DoubleEndedIterator.next_back_gives c.fill_front.new.self m xs errors left c.in-Some.least c.in-Some.ensures.taken refl c.in-Some.ensures.least c.in_ok-fill_front.ensures.ready
-        c.take_front.new.self took (c.take_front.ensures.same.front_ready ∙ c.in_ok-fill_front.ensures.ready) c.take_front.ensures.same.back_ready in
+    c.take_front.new.self took (c.take_front.ensures.same.front_ready ∙ c.in_ok-fill_front.ensures.ready) c.take_front.ensures.same.back_ready in
     rw c.into_item.ensures gives

@@ -1,9 +1,8 @@
 use Rattle.std.proofs.Common.{◌≡◌, ◌<◌, refl, sym, ◌∙◌, ap, [], arith}
-use Rattle.std.specs.Prelude.{None, Option}
+use Rattle.std.specs.Prelude.{None}
 use Rattle.sst_blocks.specs.Stream.{first, but_first}
-use Rattle.lsm_sorted.specs.Merge.{merge_size, merge_total}
+use Rattle.lsm_sorted.specs.Merge.{merge_total}
 use Rattle.lsm_sorted.proofs.EndsLemmas.{none_first}
-use Rattle.lsm_sorted.proofs.TakeLemmas.{none_last}
 use Rattle.lsm_sorted.proofs.RoomLemmas.{may_merge, size_of}
 use Rattle.lsm_sorted.proofs.StepLemmas.{leaves_merging, merging_leaves, leaves_nothing}
 use Rattle.lsm_sorted.proofs.merge.MergerIterator.next.Goals as goal

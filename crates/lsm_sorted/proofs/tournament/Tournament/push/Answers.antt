@@ -1,6 +1,5 @@
-use Rattle.std.proofs.Common.{◌≡◌, ◌<◌, ap, length, arith}
+use Rattle.std.proofs.Common.{ap}
 use Rattle.lsm_sorted.specs.Tournament.{Contest}
-use Rattle.lsm_sorted.specs.Slots.{items_of}
 use Rattle.lsm_sorted.proofs.SlotLemmas.{items_of-fill}
 use Rattle.lsm_sorted.proofs.TournamentLemmas.{are_won_but_above}
 use Rattle.lsm_sorted.proofs.tournament.Tournament.push.Goals as goal

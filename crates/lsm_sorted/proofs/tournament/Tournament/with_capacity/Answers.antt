@@ -1,4 +1,4 @@
-use Rattle.std.proofs.Common.{◌≡◌, ◌^◌, ◌∙◌, sym, ap, length, Option, None, arith}
+use Rattle.std.proofs.Common.{◌^◌, ◌∙◌, sym, ap, length, Option, None}
 use Rattle.std.proofs.lemmas.List.{length-replicate}
 use Rattle.lsm_sorted.specs.Tournament.{height}
 use Rattle.lsm_sorted.proofs.SlotLemmas.{items_of-replicate}

@@ -1,4 +1,4 @@
-use Rattle.std.proofs.Common.{◌≡◌, arith, refl, sym, Option, Some, None}
+use Rattle.std.proofs.Common.{sym, Some, None}
 use Rattle.std.proofs.lemmas.List.{get_or_read}
 use Rattle.lsm_sorted.specs.Side.{toward}
 use Rattle.lsm_sorted.proofs.SideLemmas.{toward_total}

@@ -1,4 +1,4 @@
-use Rattle.std.proofs.Common.{◌≡◌, Option, None, replicate}
+use Rattle.std.proofs.Common.{◌≡◌, None, replicate}
 use Rattle.std.specs.Vec.{vec_capacity}
 use Rattle.lsm_sorted.proofs.tournament.slots.empty_places.Given as goal
 

@@ -52,8 +52,8 @@ returns-in-Ok-false-clause-steps g c =
       may = c.lets_go.ensures.may;
       rules = rules;
       calls = λ stops. called_along stops (HoldsAhead stops g.I.Iterator.next_gives) g.F.StreamFilter.gives g.C.DroppedKvCallback.gets (rules_of c.args.self.now) c.args.self.now.inner c.lets_go.new.self.inner c.args.self.now.filter c.filtered.new.self.filter c.lets_go.new.self.filter c.args.self.now.dropped_callback c.lets_go.new.self.dropped_callback (Some (Ok (zeroed (rules_of c.args.self.now) c.in-Ok-Some.head))) (Some (Ok c.zeroed.result))
-        (sym (ap (λ (x : Entry). Some (Ok x)) (c.zeroed.ensures ∙ ap (λ (o : Rules). zeroed o c.in-Ok-Some.head) rules))) (sym c.lets_go.ensures.filter)
-        (called_kept stops (HoldsAhead stops g.I.Iterator.next_gives) g.F.StreamFilter.gives g.C.DroppedKvCallback.gets (rules_of c.args.self.now) c.args.self.now.inner c.loop-head.self.inner c.next.new.self c.args.self.now.filter c.loop-head.self.filter c.filtered.new.self.filter c.args.self.now.dropped_callback c.loop-head.self.dropped_callback c.filtered.new.self.dropped_callback c.in-Some-Ok.head (c.loop-head.invariant.going stops) (rw c.in-Some-Ok.field-0-is at (c.in-Some-Ok.ensures.deals stops)) c.in-Ok-Some.head (rw c.in-Ok-Some.field-0-is at c.in-Ok-Some.ensures.filters) c.lets_go.new.self.inner c.lets_go.new.self.dropped_callback (settles_along stops (HoldsAhead stops g.I.Iterator.next_gives) g.F.StreamFilter.gives g.C.DroppedKvCallback.gets (rules_of c.args.self.now) (rules_of c.filtered.new.self) (rules_of c.args.self.now) c.in-Ok-Some.head c.filtered.new.self.inner c.next.new.self c.lets_go.new.self.inner c.filtered.new.self.dropped_callback c.lets_go.new.self.dropped_callback (Ok false) (c.filtered.ensures.rules ∙ c.loop-head.invariant.rules) c.filtered.ensures.source (rw c.in-Ok-false.field-0-test at (c.in-Ok-false.ensures.settles stops))));
+          (sym (ap (λ (x : Entry). Some (Ok x)) (c.zeroed.ensures ∙ ap (λ (o : Rules). zeroed o c.in-Ok-Some.head) rules))) (sym c.lets_go.ensures.filter)
+          (called_kept stops (HoldsAhead stops g.I.Iterator.next_gives) g.F.StreamFilter.gives g.C.DroppedKvCallback.gets (rules_of c.args.self.now) c.args.self.now.inner c.loop-head.self.inner c.next.new.self c.args.self.now.filter c.loop-head.self.filter c.filtered.new.self.filter c.args.self.now.dropped_callback c.loop-head.self.dropped_callback c.filtered.new.self.dropped_callback c.in-Some-Ok.head (c.loop-head.invariant.going stops) (rw c.in-Some-Ok.field-0-is at (c.in-Some-Ok.ensures.deals stops)) c.in-Ok-Some.head (rw c.in-Ok-Some.field-0-is at c.in-Ok-Some.ensures.filters) c.lets_go.new.self.inner c.lets_go.new.self.dropped_callback (settles_along stops (HoldsAhead stops g.I.Iterator.next_gives) g.F.StreamFilter.gives g.C.DroppedKvCallback.gets (rules_of c.args.self.now) (rules_of c.filtered.new.self) (rules_of c.args.self.now) c.in-Ok-Some.head c.filtered.new.self.inner c.next.new.self c.lets_go.new.self.inner c.filtered.new.self.dropped_callback c.lets_go.new.self.dropped_callback (Ok false) (c.filtered.ensures.rules ∙ c.loop-head.invariant.rules) c.filtered.ensures.source (rw c.in-Ok-false.field-0-test at (c.in-Ok-false.ensures.settles stops))));
     }
 
 pub returns-in-Err-lets_go-clause-steps : goal.returns-in-Err-lets_go-clause-steps
@@ -61,7 +61,7 @@ returns-in-Err-lets_go-clause-steps g c = record {
   may = c.lets_go.ensures.may;
   rules = c.lets_go.ensures.rules ∙ c.filtered.ensures.rules ∙ c.loop-head.invariant.rules;
   calls = λ stops. called_along stops (HoldsAhead stops g.I.Iterator.next_gives) g.F.StreamFilter.gives g.C.DroppedKvCallback.gets (rules_of c.args.self.now) c.args.self.now.inner c.lets_go.new.self.inner c.args.self.now.filter c.filtered.new.self.filter c.lets_go.new.self.filter c.args.self.now.dropped_callback c.lets_go.new.self.dropped_callback (Some (Err c.in-Err-lets_go.error)) (Some (Err c.in-Err-lets_go.error)) refl (sym c.lets_go.ensures.filter)
-    (called_err stops (HoldsAhead stops g.I.Iterator.next_gives) g.F.StreamFilter.gives g.C.DroppedKvCallback.gets (rules_of c.args.self.now) c.args.self.now.inner c.loop-head.self.inner c.next.new.self c.args.self.now.filter c.loop-head.self.filter c.filtered.new.self.filter c.args.self.now.dropped_callback c.loop-head.self.dropped_callback c.filtered.new.self.dropped_callback c.in-Some-Ok.head (c.loop-head.invariant.going stops) (rw c.in-Some-Ok.field-0-is at (c.in-Some-Ok.ensures.deals stops)) c.in-Ok-Some.head (rw c.in-Ok-Some.field-0-is at c.in-Ok-Some.ensures.filters) c.lets_go.new.self.inner c.lets_go.new.self.dropped_callback c.in-Err-lets_go.error (settles_along stops (HoldsAhead stops g.I.Iterator.next_gives) g.F.StreamFilter.gives g.C.DroppedKvCallback.gets (rules_of c.args.self.now) (rules_of c.filtered.new.self) (rules_of c.args.self.now) c.in-Ok-Some.head c.filtered.new.self.inner c.next.new.self c.lets_go.new.self.inner c.filtered.new.self.dropped_callback c.lets_go.new.self.dropped_callback (Err c.in-Err-lets_go.error) (c.filtered.ensures.rules ∙ c.loop-head.invariant.rules) c.filtered.ensures.source (c.in-Err-lets_go.ensures.settles stops)));
+      (called_err stops (HoldsAhead stops g.I.Iterator.next_gives) g.F.StreamFilter.gives g.C.DroppedKvCallback.gets (rules_of c.args.self.now) c.args.self.now.inner c.loop-head.self.inner c.next.new.self c.args.self.now.filter c.loop-head.self.filter c.filtered.new.self.filter c.args.self.now.dropped_callback c.loop-head.self.dropped_callback c.filtered.new.self.dropped_callback c.in-Some-Ok.head (c.loop-head.invariant.going stops) (rw c.in-Some-Ok.field-0-is at (c.in-Some-Ok.ensures.deals stops)) c.in-Ok-Some.head (rw c.in-Ok-Some.field-0-is at c.in-Ok-Some.ensures.filters) c.lets_go.new.self.inner c.lets_go.new.self.dropped_callback c.in-Err-lets_go.error (settles_along stops (HoldsAhead stops g.I.Iterator.next_gives) g.F.StreamFilter.gives g.C.DroppedKvCallback.gets (rules_of c.args.self.now) (rules_of c.filtered.new.self) (rules_of c.args.self.now) c.in-Ok-Some.head c.filtered.new.self.inner c.next.new.self c.lets_go.new.self.inner c.filtered.new.self.dropped_callback c.lets_go.new.self.dropped_callback (Err c.in-Err-lets_go.error) (c.filtered.ensures.rules ∙ c.loop-head.invariant.rules) c.filtered.ensures.source (c.in-Err-lets_go.ensures.settles stops)));
 }
 
 pub loop-head-preserved-in-Ok-true : goal.loop-head-preserved-in-Ok-true
@@ -70,7 +70,7 @@ loop-head-preserved-in-Ok-true g c = record {
   rules = c.lets_go.ensures.rules ∙ c.filtered.ensures.rules ∙ c.loop-head.invariant.rules;
   size = omega (arith, c.lets_go.ensures.size, rw c.filtered.ensures.source at c.lets_go.ensures.size, c.in-Some-Ok.ensures.lowers, c.loop-head.invariant.size);
   going = λ stops. going_along stops (HoldsAhead stops g.I.Iterator.next_gives) g.F.StreamFilter.gives g.C.DroppedKvCallback.gets (rules_of c.args.self.now) c.args.self.now.inner c.lets_go.new.self.inner c.args.self.now.filter c.filtered.new.self.filter c.lets_go.new.self.filter c.args.self.now.dropped_callback c.lets_go.new.self.dropped_callback (sym c.lets_go.ensures.filter)
-    (going_on stops (HoldsAhead stops g.I.Iterator.next_gives) g.F.StreamFilter.gives g.C.DroppedKvCallback.gets (rules_of c.args.self.now) c.args.self.now.inner c.loop-head.self.inner c.next.new.self c.args.self.now.filter c.loop-head.self.filter c.filtered.new.self.filter c.args.self.now.dropped_callback c.loop-head.self.dropped_callback c.filtered.new.self.dropped_callback c.in-Some-Ok.head (c.loop-head.invariant.going stops) (rw c.in-Some-Ok.field-0-is at (c.in-Some-Ok.ensures.deals stops)) c.in-Ok-Some.head (rw c.in-Ok-Some.field-0-is at c.in-Ok-Some.ensures.filters) c.lets_go.new.self.inner c.lets_go.new.self.dropped_callback (settles_along stops (HoldsAhead stops g.I.Iterator.next_gives) g.F.StreamFilter.gives g.C.DroppedKvCallback.gets (rules_of c.args.self.now) (rules_of c.filtered.new.self) (rules_of c.args.self.now) c.in-Ok-Some.head c.filtered.new.self.inner c.next.new.self c.lets_go.new.self.inner c.filtered.new.self.dropped_callback c.lets_go.new.self.dropped_callback (Ok true) (c.filtered.ensures.rules ∙ c.loop-head.invariant.rules) c.filtered.ensures.source (rw c.in-Ok-true.field-0-test at (c.in-Ok-true.ensures.settles stops))));
+      (going_on stops (HoldsAhead stops g.I.Iterator.next_gives) g.F.StreamFilter.gives g.C.DroppedKvCallback.gets (rules_of c.args.self.now) c.args.self.now.inner c.loop-head.self.inner c.next.new.self c.args.self.now.filter c.loop-head.self.filter c.filtered.new.self.filter c.args.self.now.dropped_callback c.loop-head.self.dropped_callback c.filtered.new.self.dropped_callback c.in-Some-Ok.head (c.loop-head.invariant.going stops) (rw c.in-Some-Ok.field-0-is at (c.in-Some-Ok.ensures.deals stops)) c.in-Ok-Some.head (rw c.in-Ok-Some.field-0-is at c.in-Ok-Some.ensures.filters) c.lets_go.new.self.inner c.lets_go.new.self.dropped_callback (settles_along stops (HoldsAhead stops g.I.Iterator.next_gives) g.F.StreamFilter.gives g.C.DroppedKvCallback.gets (rules_of c.args.self.now) (rules_of c.filtered.new.self) (rules_of c.args.self.now) c.in-Ok-Some.head c.filtered.new.self.inner c.next.new.self c.lets_go.new.self.inner c.filtered.new.self.dropped_callback c.lets_go.new.self.dropped_callback (Ok true) (c.filtered.ensures.rules ∙ c.loop-head.invariant.rules) c.filtered.ensures.source (rw c.in-Ok-true.field-0-test at (c.in-Ok-true.ensures.settles stops))));
 }
 
 pub loop-head-preserved : goal.loop-head-preserved
@@ -79,6 +79,5 @@ loop-head-preserved g c = record {
   rules = c.lets_go.ensures.rules ∙ c.filtered.ensures.rules ∙ c.loop-head.invariant.rules;
   size = omega (arith, c.lets_go.ensures.size, rw c.filtered.ensures.source at c.lets_go.ensures.size, c.in-Some-Ok.ensures.lowers, c.loop-head.invariant.size);
   going = λ stops. going_along stops (HoldsAhead stops g.I.Iterator.next_gives) g.F.StreamFilter.gives g.C.DroppedKvCallback.gets (rules_of c.args.self.now) c.args.self.now.inner c.lets_go.new.self.inner c.args.self.now.filter c.filtered.new.self.filter c.lets_go.new.self.filter c.args.self.now.dropped_callback c.lets_go.new.self.dropped_callback (sym c.lets_go.ensures.filter)
-    (going_on stops (HoldsAhead stops g.I.Iterator.next_gives) g.F.StreamFilter.gives g.C.DroppedKvCallback.gets (rules_of c.args.self.now) c.args.self.now.inner c.loop-head.self.inner c.next.new.self c.args.self.now.filter c.loop-head.self.filter c.filtered.new.self.filter c.args.self.now.dropped_callback c.loop-head.self.dropped_callback c.filtered.new.self.dropped_callback c.in-Some-Ok.head (c.loop-head.invariant.going stops) (rw c.in-Some-Ok.field-0-is at (c.in-Some-Ok.ensures.deals stops)) c.in-Ok-Some.head (rw c.in-Ok-Some.field-0-is at c.in-Ok-Some.ensures.filters) c.lets_go.new.self.inner c.lets_go.new.self.dropped_callback (settles_along stops (HoldsAhead stops g.I.Iterator.next_gives) g.F.StreamFilter.gives g.C.DroppedKvCallback.gets (rules_of c.args.self.now) (rules_of c.filtered.new.self) (rules_of c.args.self.now) c.in-Ok-Some.head c.filtered.new.self.inner c.next.new.self c.lets_go.new.self.inner c.filtered.new.self.dropped_callback c.lets_go.new.self.dropped_callback (Ok true) (c.filtered.ensures.rules ∙ c.loop-head.invariant.rules) c.filtered.ensures.source (rw c.in-Ok-true.field-0-test at (c.in-Ok-true.ensures.settles stops))));
+      (going_on stops (HoldsAhead stops g.I.Iterator.next_gives) g.F.StreamFilter.gives g.C.DroppedKvCallback.gets (rules_of c.args.self.now) c.args.self.now.inner c.loop-head.self.inner c.next.new.self c.args.self.now.filter c.loop-head.self.filter c.filtered.new.self.filter c.args.self.now.dropped_callback c.loop-head.self.dropped_callback c.filtered.new.self.dropped_callback c.in-Some-Ok.head (c.loop-head.invariant.going stops) (rw c.in-Some-Ok.field-0-is at (c.in-Some-Ok.ensures.deals stops)) c.in-Ok-Some.head (rw c.in-Ok-Some.field-0-is at c.in-Ok-Some.ensures.filters) c.lets_go.new.self.inner c.lets_go.new.self.dropped_callback (settles_along stops (HoldsAhead stops g.I.Iterator.next_gives) g.F.StreamFilter.gives g.C.DroppedKvCallback.gets (rules_of c.args.self.now) (rules_of c.filtered.new.self) (rules_of c.args.self.now) c.in-Ok-Some.head c.filtered.new.self.inner c.next.new.self c.lets_go.new.self.inner c.filtered.new.self.dropped_callback c.lets_go.new.self.dropped_callback (Ok true) (c.filtered.ensures.rules ∙ c.loop-head.invariant.rules) c.filtered.ensures.source (rw c.in-Ok-true.field-0-test at (c.in-Ok-true.ensures.settles stops))));
 }
-

@@ -1,4 +1,4 @@
-use Rattle.std.proofs.Common.{◌≡◌, ℕ, ◌+◌, ◌*◌, ◌^◌, ◌<◌, ◌≤◌, length}
+use Rattle.std.proofs.Common.{◌≡◌, ℕ, ◌+◌, ◌^◌, ◌<◌, ◌≤◌, length}
 use Rattle.lsm_sorted.specs.Side.{toward}
 use Rattle.lsm_sorted.specs.Brackets.{IsBracket, DecidedButAbove}
 use Rattle.lsm_sorted.proofs.BracketLemmas.{LeavesRounds}

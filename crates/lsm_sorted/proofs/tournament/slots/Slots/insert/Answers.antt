@@ -1,4 +1,3 @@
-use Rattle.std.proofs.Common.{arith}
 use Rattle.lsm_sorted.proofs.SlotLemmas.{IsFreeList-fill}
 use Rattle.lsm_sorted.proofs.tournament.slots.Slots.insert.Goals as goal
 

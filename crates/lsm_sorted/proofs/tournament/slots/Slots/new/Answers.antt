@@ -1,4 +1,3 @@
-use Rattle.std.proofs.Common.{arith}
 use Rattle.lsm_sorted.proofs.SlotLemmas.{IsFreeList-new}
 use Rattle.lsm_sorted.proofs.tournament.slots.Slots.new.Goals as goal
 
