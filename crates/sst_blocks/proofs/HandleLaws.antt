@@ -13,7 +13,7 @@ use Rattle.sst_blocks.specs.Number.{le4, le8, num4, num8}
 use Rattle.sst_blocks.specs.Starts.{starts_of, HandlesAt}
 use Rattle.sst_blocks.specs.Strict.{is_strict_after}
 use Rattle.sst_blocks.specs.Version.{key_width, key_limit, key_len_bytes, key_len_at}
-use Rattle.sst_blocks.proofs.Items.{Format, IsFormat, items_at, items_in, in_order, items_in_take, items_in_again, guard_some, ReadAt, Advances, length-starts, item_reads, items_strict}
+use Rattle.sst_blocks.proofs.Items.{Format, IsFormat, items_at, items_in, in_order, items_in_take, items_in_again, guard_some, Here, Advances, length-starts, item_holds, items_strict}
 use Rattle.sst_blocks.proofs.Numbers.{IsBytes, IsBytes-drop, wide4, wide8, key_wide}
 
 -- the parts of a handle one after another, and then other bytes
@@ -174,7 +174,7 @@ pub record Stands (v : TableVersion) (bytes : List ℕ) (at : ℕ) (h : Handle) 
   pub within : at + (20 + key_width v) + length h.end_key ≤ length bytes
   pub key : slice_range bytes (at + (20 + key_width v)) (at + (20 + key_width v) + length h.end_key) ≡ h.end_key
 
-stands : (v : TableVersion) (bytes : List ℕ) (at : ℕ) (h : Handle) → ReadAt (handle_format v) bytes at h → Stands v bytes at h
+stands : (v : TableVersion) (bytes : List ℕ) (at : ℕ) (h : Handle) → Here (handle_format v) bytes at h → Stands v bytes at h
 stands v bytes at h here =
     let w = 20 + key_width v in
     let l = handle_lies v (drop at bytes) h here.rest here.found in
@@ -206,8 +206,8 @@ block_strict v bytes starts hs block view = handles_strict v bytes hs (block_spe
 pub block_holds : (v : TableVersion) (bytes starts : List ℕ) (hs : List Handle) (i at : ℕ) (h : Handle) → HandlesAt v bytes starts → unwrap_or (handles_in v bytes) [] ≡ hs → slice_get hs i ≡ Some h → at ≡ get_or starts i at → Stands v bytes at h
 block_holds v bytes starts hs i at h block view some is_at =
     let b = block_spells v bytes starts hs block view in
-    let here = item_reads (handle_format v) (handles_advance v) bytes starts hs i at h (sym (handles_in_same v bytes) ∙ b.0) b.1 (slice_get_within hs i h some) is_at in
-    stands v bytes at h (subst (ReadAt (handle_format v) bytes at) (get_or_from_slice_get hs i h h some) here)
+    let here = item_holds (handle_format v) (handles_advance v) bytes starts hs i at h (sym (handles_in_same v bytes) ∙ b.0) b.1 (slice_get_within hs i h some) is_at in
+    stands v bytes at h (subst (Here (handle_format v) bytes at) (get_or_from_slice_get hs i h h some) here)
 
 pub some_at : (hs : List Handle) (i : ℕ) → i < length hs → (h : Handle) × (slice_get hs i ≡ Some h)
 some_at hs i lt =
