@@ -251,7 +251,7 @@ entries_advance v bytes e rest h =
 
 -- ---- an entry of a block
 
--- the payload's places, and where an entry lies
+-- the entry is read at a place, and its key and its value lie behind its head
 pub record Stands (v : TableVersion) (bytes : List ℕ) (at : ℕ) (e : Entry) : Type 0 where
   pub rest : List ℕ
   pub found : entry_at v (drop at bytes) ≡ Some (e, rest)

@@ -1,5 +1,5 @@
 -- What seeks to both edges leave of a strict list are the entries within the edges.
-use Rattle.std.proofs.Common.{◌≡◌, ℕ, zero, suc, ◌+◌, ◌-◌, ◌<◌, ◌≤◌, Bool, true, false, cond, List, [], ◌∷◌, length, get_or, take, drop, max, min, refl, sym, ap, subst, ◌∙◌, arith}
+use Rattle.std.proofs.Common.{◌≡◌, ℕ, zero, suc, ◌+◌, ◌-◌, ◌<◌, ◌≤◌, Bool, true, false, List, [], ◌∷◌, length, get_or, take, drop, max, min, refl, sym, ap, ◌∙◌, arith}
 use Rattle.std.specs.Prelude.{not, filter, ◌&&◌}
 use Rattle.std.specs.List.{slice_range}
 use Rattle.std.specs.List.Sorted.{IsPartitionedBy}
@@ -9,7 +9,7 @@ use Rattle.std.proofs.lemmas.List.{take_all}
 use Rattle.sst_blocks.specs.Entry.{Entry}
 use Rattle.sst_blocks.specs.Key.{key_lt}
 use Rattle.sst_blocks.specs.Point.{is_from, is_to, within, lower_place, upper_place}
-use Rattle.sst_blocks.specs.Span.{Span, left_in, front_length}
+use Rattle.sst_blocks.specs.Span.{left_in, front_length}
 use Rattle.sst_blocks.specs.Strict.{IsStrict}
 use Rattle.sst_blocks.proofs.Points.{below_parted, up_to_parted}
 use Rattle.sst_blocks.proofs.SpanLemmas.{front_length-le}
