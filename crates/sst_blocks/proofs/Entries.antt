@@ -1,7 +1,7 @@
 -- Entries as a format of items: what is read is spelled so, and what is spelled so is read.
-use Rattle.std.proofs.Common.{◌≡◌, ℕ, zero, suc, ◌+◌, ◌-◌, ◌^◌, ◌<◌, ◌≤◌, Bool, true, false, cond, ltb, List, [], ◌∷◌, ◌++◌, length, get_or, take, drop, map, Option, Some, None, refl, sym, ap, subst, ◌∙◌, append_assoc, arith, inl, inr, eqb, ◌⊎◌}
+use Rattle.std.proofs.Common.{◌≡◌, ℕ, zero, suc, ◌+◌, ◌-◌, ◌^◌, ◌<◌, ◌≤◌, Bool, true, false, cond, ltb, List, [], ◌∷◌, ◌++◌, length, get_or, take, drop, Option, Some, None, refl, sym, ap, subst, ◌∙◌, append_assoc, arith, inl, inr, eqb, ◌⊎◌}
 use Rattle.std.specs.Prelude.{option_and_then, unwrap_or, slice_index, slice_range, if◌then◌else◌}
-use Rattle.std.specs.List.{flat_map, AllByRecursion, slice_get}
+use Rattle.std.specs.List.{flat_map, slice_get}
 use Rattle.std.specs.Option.{option_map}
 use Rattle.std.proofs.lemmas.Bool.{eqb-true, ltb-false, le-ltb}
 use Rattle.std.proofs.lemmas.List.{take_at, drop_at, drop-drop, take-append-drop, length-append, length-take, length-drop, drop_more, map-id, take_rest}
@@ -128,13 +128,13 @@ entry_takes v bytes e rest fits h =
     let fb : IsBytes b = IsBytes-drop 1 bytes fits in
     option_and_then_some f (kind_of (slice_index bytes 0)) (e, rest) g.1
     (λ t kind parts.
-      let m = parts_take v t (num8 b) (drop 8 b) e rest (IsBytes-drop 8 b fb) (omega (arith, length-drop 8 b, length-drop 1 bytes)) parts in
-      let e0 : bytes ≡ slice_index bytes 0 ∷ b = drop_more bytes 0 0 (omega arith) in
-      let e1 : b ≡ le8 (num8 b) ++ drop 8 b = wide8.front b (omega (arith, length-drop 1 bytes)) fb in
-      let tag : tag_of e.kind ≡ slice_index bytes 0 = ap tag_of m.kind ∙ tag_of_kind (slice_index bytes 0) t kind in
-      let flat : bytes ≡ tag_of e.kind ∷ (le8 e.seqno ++ (tail_of v e ++ rest)) = rw (tag, m.number) (e0 ∙ ap (λ (x : List ℕ). slice_index bytes 0 ∷ x) (e1 ∙ ap (λ (x : List ℕ). le8 (num8 b) ++ x) m.parts)) in
-      let number : e.seqno < 2 ^ 64 = rw m.number (wide8.below b fb) in
-      (flat ∙ sym (flattened v e rest), record { number = number; key_len = m.key_len; value_len = m.value_len }))
+    let m = parts_take v t (num8 b) (drop 8 b) e rest (IsBytes-drop 8 b fb) (omega (arith, length-drop 8 b, length-drop 1 bytes)) parts in
+    let e0 : bytes ≡ slice_index bytes 0 ∷ b = drop_more bytes 0 0 (omega arith) in
+    let e1 : b ≡ le8 (num8 b) ++ drop 8 b = wide8.front b (omega (arith, length-drop 1 bytes)) fb in
+    let tag : tag_of e.kind ≡ slice_index bytes 0 = ap tag_of m.kind ∙ tag_of_kind (slice_index bytes 0) t kind in
+    let flat : bytes ≡ tag_of e.kind ∷ (le8 e.seqno ++ (tail_of v e ++ rest)) = rw (tag, m.number) (e0 ∙ ap (λ (x : List ℕ). slice_index bytes 0 ∷ x) (e1 ∙ ap (λ (x : List ℕ). le8 (num8 b) ++ x) m.parts)) in
+    let number : e.seqno < 2 ^ 64 = rw m.number (wide8.below b fb) in
+    (flat ∙ sym (flattened v e rest), record { number = number; key_len = m.key_len; value_len = m.value_len }))
 
 pub entry_again : (v : TableVersion) (e : Entry) (rest : List ℕ) → Fits v e → entry_at v (spelled v e ++ rest) ≡ Some (e, rest)
 unfolding entry_at
@@ -175,7 +175,7 @@ entries_in_same v bytes =
     let same : (es : List Entry) → tested es ≡ ordered es = λ es. ap (λ (xs : List Entry). if is_strict_after None xs then Some es else None) (sym (map-id es)) in
     let o = entries_at v (num4 bytes) (drop 4 bytes) in
     let read : option_and_then tested o ≡ option_and_then ordered (items_at (entry_at v) (num4 bytes) (drop 4 bytes)) =
-        and_then_same tested ordered same o ∙ ap (option_and_then ordered) (entries_at_same v (num4 bytes) (drop 4 bytes)) in
+    and_then_same tested ordered same o ∙ ap (option_and_then ordered) (entries_at_same v (num4 bytes) (drop 4 bytes)) in
     ap (cond (ltb (length bytes) 4) None) read
 
 -- what a payload spells is its list
@@ -219,30 +219,30 @@ entry_lies v bytes e rest h =
     let g = guard_some (ltb (length bytes) (13 + w)) (option_and_then f (kind_of (slice_index bytes 0))) (e, rest) h in
     option_and_then_some f (kind_of (slice_index bytes 0)) (e, rest) g.1
     (λ t kind parts.
-      let k = key_len_at v b in
-      let m = num4 (drop w b) in
-      let r = drop 4 (drop w b) in
-      let K = take k r in
-      let V = take m (drop k r) in
-      let R = drop m (drop k r) in
-      let made = guard_some (ltb (length r) (k + m)) (Some (entry K V (num8 b1) t, R)) (e, rest) parts in
-      let p = some_pair_parts (entry K V (num8 b1) t) e R rest made.1 in
-      let room : k + m ≤ length r = ltb-false _ _ made.0 in
-      let long : 13 + w ≤ length bytes = ltb-false _ _ g.0 in
-      let lk : length K ≡ k = omega (arith, length-take k r) in
-      let lv : length V ≡ m = omega (arith, length-take m (drop k r), length-drop k r) in
-      let at : r ≡ drop (13 + w) bytes = drop-drop 4 w b ∙ drop-drop (w + 4) 8 b1 ∙ drop-drop (8 + (w + 4)) 1 bytes ∙ ap (λ (n : ℕ). drop n bytes) (omega arith) in
-      let lies : Lies v bytes (entry K V (num8 b1) t) R = record {
-        key = ap (λ (n : ℕ). take n (drop (13 + w) bytes)) lk ∙ ap (take k) (sym at);
-        value =
-            let tail : drop (13 + w + length K) bytes ≡ drop k r = ap (λ (n : ℕ). drop (13 + w + n) bytes) lk ∙ sym (drop-drop k (13 + w) bytes) ∙ ap (drop k) (sym at) in
-            ap (λ (n : ℕ). take n (drop (13 + w + length K) bytes)) lv ∙ ap (take m) tail;
-        rest_is =
-            let n : k + m ≡ length K + length V = omega (arith, lk, lv) in
-            drop-drop m k r ∙ ap (drop (k + m)) at ∙ drop-drop (k + m) (13 + w) bytes ∙ ap (λ (n : ℕ). drop n bytes) (omega (arith, n));
-        within = omega (arith, lk, lv, ap length at, length-drop (13 + w) bytes);
-      } in
-      subst (λ (x : Entry). Lies v bytes x rest) p.0 (subst (λ (x : List ℕ). Lies v bytes (entry K V (num8 b1) t) x) p.1 lies))
+    let k = key_len_at v b in
+    let m = num4 (drop w b) in
+    let r = drop 4 (drop w b) in
+    let K = take k r in
+    let V = take m (drop k r) in
+    let R = drop m (drop k r) in
+    let made = guard_some (ltb (length r) (k + m)) (Some (entry K V (num8 b1) t, R)) (e, rest) parts in
+    let p = some_pair_parts (entry K V (num8 b1) t) e R rest made.1 in
+    let room : k + m ≤ length r = ltb-false _ _ made.0 in
+    let long : 13 + w ≤ length bytes = ltb-false _ _ g.0 in
+    let lk : length K ≡ k = omega (arith, length-take k r) in
+    let lv : length V ≡ m = omega (arith, length-take m (drop k r), length-drop k r) in
+    let at : r ≡ drop (13 + w) bytes = drop-drop 4 w b ∙ drop-drop (w + 4) 8 b1 ∙ drop-drop (8 + (w + 4)) 1 bytes ∙ ap (λ (n : ℕ). drop n bytes) (omega arith) in
+    let lies : Lies v bytes (entry K V (num8 b1) t) R = record {
+      key = ap (λ (n : ℕ). take n (drop (13 + w) bytes)) lk ∙ ap (take k) (sym at);
+      value =
+          let tail : drop (13 + w + length K) bytes ≡ drop k r = ap (λ (n : ℕ). drop (13 + w + n) bytes) lk ∙ sym (drop-drop k (13 + w) bytes) ∙ ap (drop k) (sym at) in
+          ap (λ (n : ℕ). take n (drop (13 + w + length K) bytes)) lv ∙ ap (take m) tail;
+      rest_is =
+          let n : k + m ≡ length K + length V = omega (arith, lk, lv) in
+          drop-drop m k r ∙ ap (drop (k + m)) at ∙ drop-drop (k + m) (13 + w) bytes ∙ ap (λ (n : ℕ). drop n bytes) (omega (arith, n));
+      within = omega (arith, lk, lv, ap length at, length-drop (13 + w) bytes);
+    } in
+    subst (λ (x : Entry). Lies v bytes x rest) p.0 (subst (λ (x : List ℕ). Lies v bytes (entry K V (num8 b1) t) x) p.1 lies))
 
 pub entries_advance : (v : TableVersion) → Advances (entry_format v)
 entries_advance v bytes e rest h =

@@ -23,3 +23,22 @@ module _ {X : Type 0} (p : X → Bool) where
   front_found (x ∷ xs) zero le pass fail = fails_at xs x (fail x refl)
   front_found (x ∷ xs) (suc n) le pass fail =
       passes_at xs x n (pass 0 x (omega arith) refl) (front_found xs n (omega (arith, le)) (λ i y lt. pass (suc i) y (omega (arith, lt))) fail)
+
+  front_within : (xs : List X) (x : X) (d : X) → ((i : ℕ) → i < front_length p xs → p (get_or xs i d) ≡ true) → (b : Bool) → p x ≡ b → (i : ℕ) → i < cond b (1 + front_length p xs) 0 → p (get_or (x ∷ xs) i d) ≡ true
+  front_within xs x d more true here zero lt = here
+  front_within xs x d more true here (suc i) lt = more i (omega (arith, lt))
+  front_within xs x d more false here i lt = absurd (omega (arith, lt))
+
+  pub front_passes : (xs : List X) (i : ℕ) (d : X) → i < front_length p xs → p (get_or xs i d) ≡ true
+  front_passes [] i d lt = absurd (omega (arith, lt))
+  front_passes (x ∷ xs) i d lt = front_within xs x d (λ k below. front_passes xs k d below) (p x) refl i lt
+
+  front_end : (xs : List X) (x : X) (d : X) → (front_length p xs < length xs → p (get_or xs (front_length p xs) d) ≡ false) → (b : Bool) → p x ≡ b → cond b (1 + front_length p xs) 0 < length (x ∷ xs) → p (get_or (x ∷ xs) (cond b (1 + front_length p xs) 0) d) ≡ false
+  front_end xs x d more true here lt =
+      let e : 1 + front_length p xs ≡ suc (front_length p xs) = omega arith in
+      rw e (more (omega (arith, lt)))
+  front_end xs x d more false here lt = here
+
+  pub front_stops : (xs : List X) (d : X) → front_length p xs < length xs → p (get_or xs (front_length p xs) d) ≡ false
+  front_stops [] d lt = absurd (omega (arith, lt))
+  front_stops (x ∷ xs) d lt = front_end xs x d (front_stops xs d) (p x) refl lt

@@ -1,12 +1,12 @@
 -- Payloads of items, whatever an item's format: one walk from the left, the two laws of reading, and what stands at each start.
-use Rattle.std.proofs.Common.{◌≡◌, ℕ, zero, suc, ◌+◌, ◌-◌, ◌^◌, ◌<◌, ◌≤◌, Bool, true, false, cond, ltb, ◌&&◌, List, [], ◌∷◌, ◌++◌, length, get_or, take, drop, map, Option, Some, None, refl, sym, ap, subst, ◌∙◌, append_assoc, arith}
+use Rattle.std.proofs.Common.{◌≡◌, ℕ, zero, suc, ◌+◌, ◌-◌, ◌^◌, ◌<◌, ◌≤◌, Bool, true, false, cond, ltb, ◌&&◌, List, [], ◌∷◌, ◌++◌, length, get_or, drop, map, Option, Some, None, refl, sym, ap, subst, ◌∙◌, append_assoc, arith}
 use Rattle.std.specs.Prelude.{option_and_then, nat_lt, if◌then◌else◌}
 use Rattle.std.specs.List.{flat_map, AllByRecursion}
 use Rattle.std.specs.Option.{option_map}
-use Rattle.std.proofs.lemmas.Bool.{ltb-true, ltb-false, lt-ltb, le-ltb}
+use Rattle.std.proofs.lemmas.Bool.{ltb-false, lt-ltb, le-ltb}
 use Rattle.std.proofs.lemmas.List.{drop_at, drop-drop, length-append, length-drop, map_push, map-append, append-nil, nil_from_length}
 use Rattle.std.proofs.lemmas.List.Concat.{flat_map-append}
-use Rattle.std.proofs.lemmas.Option.{some_pair_parts, none-some, same_Some, cond_some, option_and_then_some}
+use Rattle.std.proofs.lemmas.Option.{none-some, same_Some, cond_some, option_and_then_some}
 use Rattle.sst_blocks.specs.Entry.{Entry}
 use Rattle.sst_blocks.specs.Number.{le4, num4}
 use Rattle.sst_blocks.specs.Starts.{starts_of, SpellsAt}
@@ -71,12 +71,18 @@ unfolding is_strict_after last_of
 test_push last [] e h f = and_both (may_follow last e) true f refl
 test_push last (x ∷ es) e h f = and_both (may_follow last x) (is_strict_after (Some x) (es ++ e ∷ [])) (and_left (may_follow last x) (is_strict_after (Some x) es) h) (test_push (Some x) es e (and_right (may_follow last x) (is_strict_after (Some x) es) h) f)
 
+-- one entry more
+pub strict_push : (last : Option Entry) (es : List Entry) (e : Entry) → IsStrictAfter last es → may_follow (last_of last es) e ≡ true → IsStrictAfter last (es ++ e ∷ [])
+unfolding IsStrictAfter last_of
+strict_push last [] e h f = (f, tt)
+strict_push last (x ∷ es) e h f = (h.0, strict_push (Some x) es e h.1 f)
+
 test_fails : (last : Option Entry) (es : List Entry) (e : Entry) (more : List Entry) → may_follow (last_of last es) e ≡ false → is_strict_after last (es ++ e ∷ more) ≡ false
 unfolding is_strict_after last_of
 test_fails last [] e more h = rw h refl
 test_fails last (x ∷ es) e more h = and_false (may_follow last x) (is_strict_after (Some x) (es ++ e ∷ more)) (test_fails (Some x) es e more h)
 
-last_push : (last : Option Entry) (es : List Entry) (e : Entry) → last_of last (es ++ e ∷ []) ≡ Some e
+pub last_push : (last : Option Entry) (es : List Entry) (e : Entry) → last_of last (es ++ e ∷ []) ≡ Some e
 unfolding last_of
 last_push last [] e = refl
 last_push last (x ∷ es) e = last_push (Some x) es e
@@ -122,12 +128,12 @@ module _ {X : Type 0} (f : Format X) (Fits : X → Type 0) (law : IsFormat f Fit
   items_take (suc n) bytes xs fits h =
       option_and_then_some (λ (x : X × List ℕ). option_map (λ ys. x.0 ∷ ys) (items_at f.read n x.1)) (f.read bytes) xs h
       (λ x read more.
-        option_map_some (λ (ys : List X). x.0 ∷ ys) (items_at f.read n x.1) xs more
-        (λ ys others whole.
-          let one = law.takes bytes x.0 x.1 fits read in
-          let rest = items_take n x.1 ys (tail_bytes bytes (f.spell x.0) x.1 fits one.0) others in
-          subst (λ (zs : List X). (bytes ≡ flat_map f.spell zs) × (length zs ≡ suc n) × AllByRecursion Fits zs) whole
-          (one.0 ∙ ap (λ (b : List ℕ). f.spell x.0 ++ b) rest.0, ap suc rest.1, (one.1, rest.2))))
+      option_map_some (λ (ys : List X). x.0 ∷ ys) (items_at f.read n x.1) xs more
+      (λ ys others whole.
+      let one = law.takes bytes x.0 x.1 fits read in
+      let rest = items_take n x.1 ys (tail_bytes bytes (f.spell x.0) x.1 fits one.0) others in
+      subst (λ (zs : List X). (bytes ≡ flat_map f.spell zs) × (length zs ≡ suc n) × AllByRecursion Fits zs) whole
+      (one.0 ∙ ap (λ (b : List ℕ). f.spell x.0 ++ b) rest.0, ap suc rest.1, (one.1, rest.2))))
 
   pub items_again : (xs : List X) → AllByRecursion Fits xs → items_at f.read (length xs) (flat_map f.spell xs) ≡ Some xs
   items_again [] fit = refl
@@ -142,12 +148,12 @@ module _ {X : Type 0} (f : Format X) (Fits : X → Type 0) (law : IsFormat f Fit
       let long : 4 ≤ length bytes = ltb-false _ _ g.0 in
       option_and_then_some (λ (ys : List X). if in_order f ys then Some ys else None) (items_at f.read (num4 bytes) (drop 4 bytes)) xs g.1
       (λ ys read tested.
-        let t = cond_some (in_order f ys) ys xs tested in
-        let k = items_take (num4 bytes) (drop 4 bytes) ys (IsBytes-drop 4 bytes fits) read in
-        let whole : bytes ≡ le4 (length ys) ++ flat_map f.spell ys = wide4.front bytes long fits ∙ ap (λ (b : List ℕ). le4 (num4 bytes) ++ b) k.0 ∙ ap (λ (n : ℕ). le4 n ++ flat_map f.spell ys) (sym k.1) in
-        let few : length ys < 2 ^ 32 = rw k.1 (wide4.below bytes fits) in
-        subst (λ (zs : List X). (bytes ≡ le4 (length zs) ++ flat_map f.spell zs) × (length zs < 2 ^ 32) × AllByRecursion Fits zs × IsStrictAfter None (map f.key zs)) t.1
-        (whole, few, k.2, strict_from_test None (map f.key ys) t.0))
+      let t = cond_some (in_order f ys) ys xs tested in
+      let k = items_take (num4 bytes) (drop 4 bytes) ys (IsBytes-drop 4 bytes fits) read in
+      let whole : bytes ≡ le4 (length ys) ++ flat_map f.spell ys = wide4.front bytes long fits ∙ ap (λ (b : List ℕ). le4 (num4 bytes) ++ b) k.0 ∙ ap (λ (n : ℕ). le4 n ++ flat_map f.spell ys) (sym k.1) in
+      let few : length ys < 2 ^ 32 = rw k.1 (wide4.below bytes fits) in
+      subst (λ (zs : List X). (bytes ≡ le4 (length zs) ++ flat_map f.spell zs) × (length zs < 2 ^ 32) × AllByRecursion Fits zs × IsStrictAfter None (map f.key zs)) t.1
+      (whole, few, k.2, strict_from_test None (map f.key ys) t.0))
 
   -- a strict list is what its spelling spells
   pub items_in_again : (xs : List X) → length xs < 2 ^ 32 → AllByRecursion Fits xs → IsStrictAfter None (map f.key xs) → items_in f (le4 (length xs) ++ flat_map f.spell xs) ≡ Some xs
@@ -251,12 +257,12 @@ module _ {X : Type 0} (f : Format X) where
       let es = map f.key w.items in
       let step : items_at f.read (suc m) rest ≡ option_map (λ more. x ∷ more) (items_at f.read m after) = rw read refl in
       let whole : items_at f.read (num4 bytes) (drop 4 bytes) ≡ option_map (λ more. (w.items ++ x ∷ []) ++ more) (items_at f.read m after) =
-          w.reads (suc m) (omega arith) ∙ ap (option_map (λ more. w.items ++ more)) step ∙ map_one w.items x (items_at f.read m after) in
+      w.reads (suc m) (omega arith) ∙ ap (option_map (λ more. w.items ++ more)) step ∙ map_one w.items x (items_at f.read m after) in
       nothing_in bytes (λ xs some.
-        option_map_some (λ (more : List X). (w.items ++ x ∷ []) ++ more) (items_at f.read m after) xs (sym whole ∙ some)
-        (λ more there is.
-          let keys : map f.key ((w.items ++ x ∷ []) ++ more) ≡ es ++ f.key x ∷ map f.key more = ap (map f.key) (append_assoc w.items (x ∷ []) more) ∙ map-append f.key w.items (x ∷ more) in
-          ap (in_order f) (sym is) ∙ ap (is_strict_after None) keys ∙ test_fails None es (f.key x) (map f.key more) (subst (λ (o : Option Entry). may_follow o (f.key x) ≡ false) w.last_is early)))
+      option_map_some (λ (more : List X). (w.items ++ x ∷ []) ++ more) (items_at f.read m after) xs (sym whole ∙ some)
+      (λ more there is.
+      let keys : map f.key ((w.items ++ x ∷ []) ++ more) ≡ es ++ f.key x ∷ map f.key more = ap (map f.key) (append_assoc w.items (x ∷ []) more) ∙ map-append f.key w.items (x ∷ more) in
+      ap (in_order f) (sym is) ∙ ap (is_strict_after None) keys ∙ test_fails None es (f.key x) (map f.key more) (subst (λ (o : Option Entry). may_follow o (f.key x) ≡ false) w.last_is early)))
 
   none_after_last : (rest : List ℕ) → 0 < length rest → items_at f.read 0 rest ≡ None
   none_after_last [] lt = absurd (omega arith)
@@ -274,7 +280,7 @@ module _ {X : Type 0} (f : Format X) where
   walk_ends bytes rest starts last n short w all none =
       let empty : rest ≡ [] = nil_from_length rest none in
       let whole : items_at f.read (num4 bytes) (drop 4 bytes) ≡ Some w.items =
-          w.reads 0 (omega arith) ∙ ap (λ (b : List ℕ). option_map (λ more. w.items ++ more) (items_at f.read 0 b)) empty ∙ ap (λ xs. Some xs) (append-nil w.items) in
+      w.reads 0 (omega arith) ∙ ap (λ (b : List ℕ). option_map (λ more. w.items ++ more) (items_at f.read 0 b)) empty ∙ ap (λ xs. Some xs) (append-nil w.items) in
       let long : ltb (length bytes) 4 ≡ false = le-ltb _ _ w.long in
       record {
         items = w.items;
@@ -307,24 +313,24 @@ module _ {X : Type 0} (f : Format X) (advances : Advances f) where
   start_holds (suc n) bytes at (x ∷ xs) zero d b le h lt =
       option_and_then_some (λ (y : X × List ℕ). option_map (λ ys. y.0 ∷ ys) (items_at f.read n y.1)) (f.read (drop at bytes)) (x ∷ xs) h
       (λ y read more.
-        option_map_some (λ (ys : List X). y.0 ∷ ys) (items_at f.read n y.1) (x ∷ xs) more
-        (λ ys others whole.
-          let is : y.0 ≡ x = cc in
-          let far = (advances (drop at bytes) y.0 y.1 read).1 in
-          subst (Here f bytes at) is (record { rest = y.1; found = read; within = omega (arith, far, length-drop at bytes) })))
+      option_map_some (λ (ys : List X). y.0 ∷ ys) (items_at f.read n y.1) (x ∷ xs) more
+      (λ ys others whole.
+      let is : y.0 ≡ x = cc in
+      let far = (advances (drop at bytes) y.0 y.1 read).1 in
+      subst (Here f bytes at) is (record { rest = y.1; found = read; within = omega (arith, far, length-drop at bytes) })))
   start_holds (suc n) bytes at (x ∷ xs) (suc i) d b le h lt =
       option_and_then_some (λ (y : X × List ℕ). option_map (λ ys. y.0 ∷ ys) (items_at f.read n y.1)) (f.read (drop at bytes)) (x ∷ xs) h
       (λ y read more.
-        option_map_some (λ (ys : List X). y.0 ∷ ys) (items_at f.read n y.1) (x ∷ xs) more
-        (λ ys others whole.
-          let is : y.0 ≡ x = cc in
-          let are : ys ≡ xs = cc in
-          let step = advances (drop at bytes) y.0 y.1 read in
-          let next = at + length (f.spell x) in
-          let left : y.1 ≡ drop next bytes = step.0 ∙ ap (λ (z : X). drop (length (f.spell z)) (drop at bytes)) is ∙ drop-drop (length (f.spell x)) at bytes in
-          let long : next ≤ length bytes = omega (arith, step.1, ap (λ (z : X). length (f.spell z)) is, length-drop at bytes) in
-          let reads : items_at f.read n (drop next bytes) ≡ Some xs = ap (items_at f.read n) (sym left) ∙ others ∙ ap (λ zs. Some zs) are in
-          start_holds n bytes next xs i d b long reads (omega (arith, lt))))
+      option_map_some (λ (ys : List X). y.0 ∷ ys) (items_at f.read n y.1) (x ∷ xs) more
+      (λ ys others whole.
+      let is : y.0 ≡ x = cc in
+      let are : ys ≡ xs = cc in
+      let step = advances (drop at bytes) y.0 y.1 read in
+      let next = at + length (f.spell x) in
+      let left : y.1 ≡ drop next bytes = step.0 ∙ ap (λ (z : X). drop (length (f.spell z)) (drop at bytes)) is ∙ drop-drop (length (f.spell x)) at bytes in
+      let long : next ≤ length bytes = omega (arith, step.1, ap (λ (z : X). length (f.spell z)) is, length-drop at bytes) in
+      let reads : items_at f.read n (drop next bytes) ≡ Some xs = ap (items_at f.read n) (sym left) ∙ others ∙ ap (λ zs. Some zs) are in
+      start_holds n bytes next xs i d b long reads (omega (arith, lt))))
 
   -- what a payload spells is read from its fourth byte on
   items_read : (bytes : List ℕ) (xs : List X) → items_in f bytes ≡ Some xs → (4 ≤ length bytes) × (items_at f.read (num4 bytes) (drop 4 bytes) ≡ Some xs) × (in_order f xs ≡ true)
@@ -333,8 +339,8 @@ module _ {X : Type 0} (f : Format X) (advances : Advances f) where
       let g = guard_some (ltb (length bytes) 4) body xs h in
       option_and_then_some (λ (ys : List X). if in_order f ys then Some ys else None) (items_at f.read (num4 bytes) (drop 4 bytes)) xs g.1
       (λ ys read tested.
-        let t = cond_some (in_order f ys) ys xs tested in
-        (ltb-false _ _ g.0, read ∙ ap (λ zs. Some zs) t.1, ap (in_order f) (sym t.1) ∙ t.0))
+      let t = cond_some (in_order f ys) ys xs tested in
+      (ltb-false _ _ g.0, read ∙ ap (λ zs. Some zs) t.1, ap (in_order f) (sym t.1) ∙ t.0))
 
   -- at the start of a place stands the item of the place
   pub item_holds : (bytes starts : List ℕ) (xs : List X) (i at : ℕ) (b : X) → items_in f bytes ≡ Some xs → starts ≡ starts_of f.spell 4 xs → i < length xs → at ≡ get_or starts i at → Here f bytes at (get_or xs i b)

@@ -6,6 +6,9 @@ pub mod Entries
 pub mod SpanLemmas
 pub mod Faults
 pub mod Fronts
+pub mod Points
+pub mod Lengths
+pub mod Within
 pub mod HandleLaws
 pub mod HandleFaults
 pub mod Reaching

@@ -51,6 +51,9 @@ module _ {X : Type 0} (p : X → Bool) where
 
 -- ---- what is left
 
+no_error : (stops : Error → Bool) (e : Error) → stops OutOfMemory ≡ true → e ≡ OutOfMemory → stops e ≡ false → ⊥
+no_error stops e memory err fine = let wrong : true ≡ false = sym memory ∙ sym (ap stops err) ∙ fine in absurd cc
+
 module _ {X : Type 0} where
   pub left_empty : (s : Span X) → s.to ≤ s.from → left_in s ≡ []
   left_empty s le = let e : s.to - s.from ≡ 0 = omega (arith, le) in ap (λ (n : ℕ). take n (drop s.from s.list)) e
@@ -75,42 +78,31 @@ module _ {X : Type 0} where
       ∙ take_more (drop s.from s.list) n x room
       ∙ ap (λ (z : X). take n (drop s.from s.list) ++ z ∷ []) y
 
-  -- an item, or want of memory
-  told : (stops : Error → Bool) (r : Result X Error) (x : X) → stops OutOfMemory ≡ true → IfOk r (λ y. y ≡ x) → IfErr r (λ e. e ≡ OutOfMemory) → stopped stops (Some r) ≡ false → Some r ≡ Some (Ok x)
-  told stops (Ok y) x memory ok err fine = ap (λ (z : X). Some (Ok z)) ok
-  told stops (Err e) x memory ok err fine = let wrong : true ≡ false = sym memory ∙ sym (ap stops err) ∙ fine in absurd cc
-
-  pub span_front : (s : Span X) (r : Result X Error) (x : X) → s.from < s.to → slice_get s.list s.from ≡ Some x → IfOk r (λ y. y ≡ x) → IfErr r (λ e. e ≡ OutOfMemory)
+  -- the first item of what is left, or want of memory
+  pub span_front : (s : Span X) (r : Result X Error) → s.from < s.to → IfOk r (λ x. slice_get s.list s.from ≡ Some x) → IfErr r (λ e. e ≡ OutOfMemory)
       → Answers (λ _. Unit {0}) SpanHas front_of s (Some r) (record s { from = s.from + 1 })
-  span_front s r x lt here ok err = record {
+  span_front s (Ok x) lt ok err = record {
     may = tt;
     gives = λ stops xs has fine.
-        let whole = has.1 ∙ ap all_ok (left_front s x lt here) in
-        (told stops r x has.0 ok err fine ∙ sym (ap first whole), (has.0, ap but_first whole));
+        let whole = has.1 ∙ ap all_ok (left_front s x lt ok) in
+        (sym (ap first whole), (has.0, ap but_first whole));
   }
+  span_front s (Err e) lt ok err = record { may = tt; gives = λ stops xs has fine. absurd (no_error stops e has.0 err fine) }
 
-  pub span_back : (s : Span X) (r : Result X Error) (x : X) → s.from < s.to → slice_get s.list (s.to - 1) ≡ Some x → IfOk r (λ y. y ≡ x) → IfErr r (λ e. e ≡ OutOfMemory)
+  -- the last item
+  pub span_back : (s : Span X) (r : Result X Error) → s.from < s.to → IfOk r (λ x. slice_get s.list (s.to - 1) ≡ Some x) → IfErr r (λ e. e ≡ OutOfMemory)
       → Answers (λ _. Unit {0}) SpanHas back_of s (Some r) (record s { to = s.to - 1 })
-  span_back s r x lt here ok err = record {
+  span_back s (Ok x) lt ok err = record {
     may = tt;
     gives = λ stops xs has fine.
         let t : Span X = record s { to = s.to - 1 } in
-        let whole : xs ≡ all_ok (left_in t) ++ Ok x ∷ [] = has.1 ∙ ap all_ok (left_back s x lt here) ∙ map-append (λ (y : X). Ok y) (left_in t) (x ∷ []) in
+        let whole : xs ≡ all_ok (left_in t) ++ Ok x ∷ [] = has.1 ∙ ap all_ok (left_back s x lt ok) ∙ map-append (λ (y : X). Ok y) (left_in t) (x ∷ []) in
         let turned : reverse xs ≡ Ok x ∷ reverse (all_ok (left_in t)) = ap reverse whole ∙ reverse-append (all_ok (left_in t)) (Ok x ∷ []) in
-        (told stops r x has.0 ok err fine ∙ sym (ap first turned), (has.0, ap (λ (ys : List (Result X Error)). reverse (but_first ys)) turned ∙ reverse-reverse (all_ok (left_in t))));
+        (sym (ap first turned), (has.0, ap (λ (ys : List (Result X Error)). reverse (but_first ys)) turned ∙ reverse-reverse (all_ok (left_in t))));
   }
+  span_back s (Err e) lt ok err = record { may = tt; gives = λ stops xs has fine. absurd (no_error stops e has.0 err fine) }
 
-  -- where a call answers the item of its place, or want of memory
-  pub span_next : (s : Span X) (r : Result X Error) → s.from < s.to → IfOk r (λ x. slice_get s.list s.from ≡ Some x) → IfErr r (λ e. e ≡ OutOfMemory)
-      → Answers (λ _. Unit {0}) SpanHas front_of s (Some r) (record s { from = s.from + 1 })
-  span_next s (Ok x) lt ok err = span_front s (Ok x) x lt ok refl err
-  span_next s (Err e) lt ok err = record { may = tt; gives = λ stops xs has fine. let wrong : true ≡ false = sym has.0 ∙ sym (ap stops err) ∙ fine in absurd cc }
-
-  pub span_next_back : (s : Span X) (r : Result X Error) → s.from < s.to → IfOk r (λ x. slice_get s.list (s.to - 1) ≡ Some x) → IfErr r (λ e. e ≡ OutOfMemory)
-      → Answers (λ _. Unit {0}) SpanHas back_of s (Some r) (record s { to = s.to - 1 })
-  span_next_back s (Ok x) lt ok err = span_back s (Ok x) x lt ok refl err
-  span_next_back s (Err e) lt ok err = record { may = tt; gives = λ stops xs has fine. let wrong : true ≡ false = sym has.0 ∙ sym (ap stops err) ∙ fine in absurd cc }
-
+  -- nothing is left
   pub span_front_end : (s : Span X) → s.to ≤ s.from → Answers (λ _. Unit {0}) SpanHas front_of s None s
   span_front_end s le = record {
     may = tt;

@@ -19,4 +19,5 @@ pub mod Span
 pub mod Starts
 pub mod Encoding
 pub mod Sections
+pub mod Seen
 pub mod SeenHandle

@@ -1,18 +1,35 @@
 //! Data blocks: strict lists of entries.
-ghost use Rattle.std.specs.Prelude.{◌≡◌, ◌+◌, ◌++◌, ◌<◌, ◌^◌, List, Some, None, false, length, IfOk, IfErr, OnOk, OnErr};
+ghost use Rattle.std.specs.Prelude.{◌≡◌, ◌+◌, ◌++◌, ◌<◌, ◌≤◌, ◌^◌, ◌↔◌, List, [], Some, None, Bool, true, false, not, length, IsTrue, IfOk, IfErr, OnOk, OnErr};
+ghost use Rattle.std.specs.List.{slice_get};
+ghost use Rattle.std.specs.List.Sorted.{IsPartitionedBy};
 ghost use Rattle.sst_blocks.specs.Block.{entries_of};
 ghost use Rattle.sst_blocks.specs.Bounds.{data_block_bound_of};
 ghost use Rattle.sst_blocks.specs.Encoding.{entries_fault};
+ghost use Rattle.sst_blocks.specs.Entry.{Entry};
 ghost use Rattle.sst_blocks.specs.Error.{Faults, is_memory};
+ghost use Rattle.sst_blocks.specs.Key.{key_lt};
 ghost use Rattle.sst_blocks.specs.Payload.{payload, AreFit};
 ghost use Rattle.sst_blocks.specs.Point.{point};
 ghost use Rattle.sst_blocks.specs.Reading.{entries_in};
+ghost use Rattle.sst_blocks.specs.Seen.{seen};
+ghost use Rattle.sst_blocks.specs.Span.{front_length};
 ghost use Rattle.sst_blocks.specs.Starts.{EntriesAt, HoldsEntries};
 ghost use Rattle.sst_blocks.specs.Strict.{IsStrict};
+ghost use Rattle.sst_blocks.specs.Stream.{Deals, CanDeal, all_ok, stopped};
+ghost use Rattle.sst_blocks.specs.declared.error.Error.{Error};
 ghost use Rattle.sst_blocks.specs.declared.error.Error.TheVariants.{OutOfMemory, InvalidBlock};
 ghost use Rattle.sst_blocks.specs.declared.version.TableVersion.TheVariants.{V4};
 
+mod encode;
+mod entry_ref;
+mod iter;
+
+pub use iter::Iter;
+
+use crate::number::u32_at;
 use crate::{Block, Error, InternalValue, SeqNo, Slice, TableVersion};
+use encode::{length_fault, put_items};
+use entry_ref::{EntryRef, head_len, read_entry};
 use std::alloc::{Allocator, Global};
 use std::marker::Model;
 
@@ -39,14 +56,40 @@ impl<A: Allocator> Model for DataBlock<A> {
 
 /// Where the entries of a payload begin. Refused [`Error::InvalidBlock`] where the payload does not spell a strict list of
 /// entries, and [`Error::OutOfMemory`].
-pub(crate) fn entry_starts<A: Allocator>(alloc: A, version: TableVersion, payload: &[u8]) -> Result<Vec<u32, A>, Error>
+pub(crate) fn entry_starts<A: Allocator>(
+    alloc: A,
+    version: TableVersion,
+    payload: &[u8],
+) -> Result<Vec<u32, A>, Error>
     requires { length payload.now < 2 ^ 32 }
     ensures found { IfOk result (λ starts. EntriesAt version payload.now starts.items) }
     ensures fault { IfErr result (λ e. is_memory e ≡ false → (e ≡ InvalidBlock) × (entries_in version payload.now ≡ None)) }
 {
-    let _ = alloc;
-    let _ = version;
-    Err(Error::OutOfMemory)
+    if payload.len() < 4 {
+        return Err(Error::InvalidBlock);
+    }
+    let count = u32_at(payload);
+    // A count that the payload has no room for takes no more memory than one that it has.
+    let room = payload.len() / head_len(version);
+    let mut starts = Vec::with_capacity(alloc, room.min(count as usize))?;
+    let mut rest = &payload[4..];
+    let mut last: Option<EntryRef<'_>> = None;
+    for _ in 0..count {
+        let start = (payload.len() - rest.len()) as u32;
+        let Some((entry, after)) = read_entry(version, rest) else {
+            return Err(Error::InvalidBlock);
+        };
+        if !entry.may_follow(&last) {
+            return Err(Error::InvalidBlock);
+        }
+        starts.push(start)?;
+        last = Some(entry);
+        rest = after;
+    }
+    if !rest.is_empty() {
+        return Err(Error::InvalidBlock);
+    }
+    Ok(starts)
 }
 
 /// An upper bound on the length of the block of these entries, with its header, in bytes. It stays at `u64::MAX` where
@@ -99,7 +142,108 @@ impl<A: Allocator> DataBlock<A> {
     {
         let _ = restart_interval;
         let _ = hash_ratio;
-        Err(Error::OutOfMemory)
+        if let Some(error) = length_fault(items) {
+            return Err(error);
+        }
+        let bound = data_block_bound(items);
+        if bound > u64::from(u32::MAX) {
+            return Err(Error::BlockTooLarge);
+        }
+        let start = buf.len();
+        // The bound is the block's length with its header: one growth holds the payload.
+        buf.reserve(bound as usize - 24)?;
+        let outcome = put_items(buf, items);
+        if outcome.is_err() {
+            buf.truncate(start);
+        }
+        outcome
+    }
+
+    /// How many entries the block has.
+    pub fn len(&self) -> usize
+        ensures value { result ≡ length self.now }
+        ensures strict { IsStrict self.now }
+    {
+        self.starts.len()
+    }
+
+    /// Whether the block has no entries.
+    pub fn is_empty(&self) -> bool
+        ensures { IsTrue result ↔ (self.now ≡ []) }
+    {
+        self.starts.is_empty()
+    }
+
+    fn entry_ref(&self, index: usize) -> EntryRef<'_>
+        requires { index < length self.now }
+        ensures { slice_get self.now index ≡ Some (seen result) }
+    {
+        let start = self.starts[index] as usize;
+        let bytes = self.payload.as_slice();
+        match read_entry(self.version, &bytes[start..]) {
+            Some((entry, _)) => entry,
+            None => unreachable!(),
+        }
+    }
+
+    /// The entry of a place, whose key and value share the block's memory. Refused [`Error::OutOfMemory`] alone.
+    pub fn entry(&self, index: usize) -> Result<InternalValue<A>, Error>
+        requires { index < length self.now }
+        ensures found { IfOk result (λ e. slice_get self.now index ≡ Some e) }
+        ensures err { IfErr result (λ e. e ≡ OutOfMemory) }
+    {
+        let entry = self.entry_ref(index);
+        let key_at = self.starts[index] as usize + head_len(self.version);
+        let value_at = key_at + entry.key.len();
+        let end = value_at + entry.value.len();
+        let key = self.payload.slice(key_at, value_at)?;
+        let value = self.payload.slice(value_at, end)?;
+        Ok(InternalValue::from_components(key, value, entry.seqno, entry.kind))
+    }
+
+    /// How many entries at the front pass a test, by binary search: no entry passes after one that does not.
+    fn front_len<P: Fn(&EntryRef<'_>) -> bool>(&self, passes: P) -> usize
+        requires { P.IsAlwaysCallable passes }
+        ensures within { result ≤ length self.now }
+        ensures strict { IsStrict self.now }
+        ensures value { (p : Entry → Bool) → ((x : _) (r : _) → P.post passes x r → r ≡ p (seen x.now)) → IsPartitionedBy p self.now → result ≡ front_length p self.now }
+    {
+        let mut low = 0;
+        let mut high = self.len();
+        while low < high {
+            let middle = low + (high - low) / 2;
+            if passes(&self.entry_ref(middle)) {
+                low = middle + 1;
+            } else {
+                high = middle;
+            }
+        }
+        low
+    }
+
+    /// How many entries stand below a key: the place of the first entry of the key or of a greater one.
+    pub fn first_at_least(&self, key: &[u8]) -> usize
+        ensures place { result ≡ front_length (λ e. key_lt e.user_key key.now) self.now }
+        ensures within { result ≤ length self.now }
+    {
+        self.front_len(|entry| entry.is_below(key))
+    }
+
+    /// How many entries do not stand above a key: the place of the first entry of a greater key.
+    pub fn first_above(&self, key: &[u8]) -> usize
+        ensures place { result ≡ front_length (λ e. not (key_lt key.now e.user_key)) self.now }
+        ensures within { result ≤ length self.now }
+    {
+        self.front_len(|entry| !entry.is_above(key))
+    }
+
+    /// The entries, from both ends.
+    pub fn iter<'a>(&'a self) -> Iter<'a, A>
+        ensures span { result ≡ record { list = self.now; from = 0; to = length self.now } }
+        ensures deals { (stops : Error → Bool) → stops OutOfMemory ≡ true → Deals (stopped stops) ⟦<Iter<'a, A> as Iterator>⟧.next_gives ⟦<Iter<'a, A> as DoubleEndedIterator>⟧.next_back_gives result (all_ok self.now) }
+        ensures can { CanDeal ⟦<Iter<'a, A> as Iterator>⟧.next_gives ⟦<Iter<'a, A> as DoubleEndedIterator>⟧.next_back_gives ⟦<Iter<'a, A> as Iterator>⟧.can_next ⟦<Iter<'a, A> as DoubleEndedIterator>⟧.can_next_back result }
+    {
+        Iter::new(self)
     }
 
     /// The first entry of a key numbered below `seqno`. Refused [`Error::OutOfMemory`] alone.
@@ -107,6 +251,13 @@ impl<A: Allocator> DataBlock<A> {
         ensures found { IfOk result (λ found. found ≡ point self.now key.now seqno) }
         ensures err { IfErr result (λ e. e ≡ OutOfMemory) }
     {
-        Err(Error::OutOfMemory)
+        let index = self.front_len(move |entry| entry.is_up_to(key, seqno));
+        if index == self.len() || self.entry_ref(index).key != key {
+            return Ok(None);
+        }
+        Ok(Some(self.entry(index)?))
     }
 }
+
+#[cfg(test)]
+mod tests;

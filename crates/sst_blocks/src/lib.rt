@@ -23,7 +23,7 @@ pub use block::Block;
 pub use block_type::BlockType;
 pub use checksum::Checksum;
 pub use compression::CompressionType;
-pub use data_block::{DataBlock, data_block_bound};
+pub use data_block::{DataBlock, Iter as DataBlockIter, data_block_bound};
 pub use error::{Error, TagName};
 pub use handle::{BlockHandle, BlockOffset, KeyedBlockHandle};
 pub use index_block::{IndexBlock, Iter as IndexBlockIter, index_block_bound};

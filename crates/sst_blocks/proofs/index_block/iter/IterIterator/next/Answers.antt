@@ -1,7 +1,7 @@
 use Rattle.std.proofs.Common.{◌<◌, arith}
-use Rattle.sst_blocks.proofs.SpanLemmas.{span_next}
+use Rattle.sst_blocks.proofs.SpanLemmas.{span_front}
 use Rattle.sst_blocks.proofs.index_block.iter.IterIterator.next.Goals as goal
 
 pub returns-clause-steps : goal.returns-clause-steps
 returns-clause-steps g c =
-    rw (← c.self.view_is) (span_next (record { list = c.self.inside.block.now; from = c.self.inside.from; to = c.self.inside.to }) c.handle.result (omega arith) c.handle.ensures.found c.handle.ensures.err)
+    rw (← c.self.view_is) (span_front (record { list = c.self.inside.block.now; from = c.self.inside.from; to = c.self.inside.to }) c.handle.result (omega arith) c.handle.ensures.found c.handle.ensures.err)

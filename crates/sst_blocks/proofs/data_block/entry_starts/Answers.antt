@@ -1,0 +1,54 @@
+use Rattle.std.proofs.Common.{◌≡◌, ◌≤◌, ◌<◌, length, refl, rules, arith, true, false, Some, None, ◌∙◌}
+use Rattle.std.specs.Option.{option_map}
+use Rattle.std.proofs.lemmas.List.{take_rest}
+use Rattle.sst_blocks.specs.Number.{num4}
+use Rattle.sst_blocks.specs.Payload.{Fits}
+use Rattle.sst_blocks.specs.Reading.{entry_at}
+use Rattle.sst_blocks.specs.Seen.{seen}
+use Rattle.sst_blocks.specs.Strict.{may_follow}
+use Rattle.sst_blocks.proofs.Entries.{entry_format, entries_format, entries_in_same}
+use Rattle.sst_blocks.proofs.Items.{walk_begins, walk_on, walk_ends, walk_short, walk_missing, walk_unordered, walk_over}
+use Rattle.sst_blocks.proofs.data_block.entry_starts.Goals as goal
+
+pub returns-then-payload-lt4-clause-fault : goal.returns-then-payload-lt4-clause-fault
+returns-then-payload-lt4-clause-fault g c _ =
+    (refl, entries_in_same c.args.version c.args.payload.now ∙ walk_short (entry_format c.args.version) c.args.payload.now c.if-payload-lt4.true)
+
+pub loop-init : goal.loop-init
+loop-init g c =
+    let long : 4 ≤ length c.args.payload.now = omega arith in
+    rw (c.in_ok-starts.ensures.items, take_rest c.args.payload.now 4) (walk_begins (entry_format c.args.version) c.args.payload.now long (λ i. omega (arith, c.type_inv.payload i)))
+
+pub overflow_sub-start : goal.overflow_sub-start
+overflow_sub-start g c = omega (arith, c.loop.invariant.place)
+
+pub returns-in_default-clause-fault : goal.returns-in_default-clause-fault
+returns-in_default-clause-fault g c _ =
+    let none : entry_at c.args.version c.loop.rest.now ≡ None = search rules in
+    let lt : c.loop.counter < num4 c.args.payload.now = omega (arith, c.loop-test.true, c.u32_at-count.ensures) in
+    (refl, entries_in_same c.args.version c.args.payload.now ∙ walk_missing (entry_format c.args.version) _ _ _ _ _ c.loop.invariant lt none)
+
+pub returns-then-not-may_follow-clause-fault : goal.returns-then-not-may_follow-clause-fault
+returns-then-not-may_follow-clause-fault g c _ =
+    let some : entry_at c.args.version c.loop.rest.now ≡ Some (seen c.in-Some.entry, c.in-Some.after.now) = search rules in
+    let early : may_follow (option_map seen c.loop.last) (seen c.in-Some.entry) ≡ false = search rules in
+    let lt : c.loop.counter < num4 c.args.payload.now = omega (arith, c.loop-test.true, c.u32_at-count.ensures) in
+    (refl, entries_in_same c.args.version c.args.payload.now ∙ walk_unordered (entry_format c.args.version) _ _ _ _ _ _ _ c.loop.invariant lt some early)
+
+pub loop-preserved : goal.loop-preserved
+loop-preserved g c =
+    let some : entry_at c.args.version c.loop.rest.now ≡ Some (seen c.in-Some.entry, c.in-Some.after.now) = search rules in
+    let follows : may_follow (option_map seen c.loop.last) (seen c.in-Some.entry) ≡ true = search rules in
+    rw c.in_ok-push.ensures.items (walk_on (entry_format c.args.version) (Fits c.args.version) (entries_format c.args.version) _ _ _ _ _ _ _ c.loop.invariant some follows)
+
+pub returns-then-not-is_empty-clause-fault : goal.returns-then-not-is_empty-clause-fault
+returns-then-not-is_empty-clause-fault g c _ =
+    let all : c.loop.counter ≡ num4 c.args.payload.now = omega (arith, c.loop-test.false, c.loop.auto.counter-end, c.u32_at-count.ensures) in
+    let more : 0 < length c.loop.rest.now = search rules in
+    (refl, entries_in_same c.args.version c.args.payload.now ∙ walk_over (entry_format c.args.version) _ _ _ _ _ c.loop.invariant all more)
+
+pub returns-clause-found : goal.returns-clause-found
+returns-clause-found g c =
+    let all : c.loop.counter ≡ num4 c.args.payload.now = omega (arith, c.loop-test.false, c.loop.auto.counter-end, c.u32_at-count.ensures) in
+    let none : length c.loop.rest.now ≡ 0 = search rules in
+    rw (entries_in_same c.args.version c.args.payload.now) (walk_ends (entry_format c.args.version) _ _ _ _ _ c.requires c.loop.invariant all none)

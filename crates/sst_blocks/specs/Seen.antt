@@ -1,0 +1,6 @@
+-- A borrowed entry as an entry.
+use Rattle.sst_blocks.specs.Entry.{Entry, entry}
+use Rattle.sst_blocks.specs.declared.data_block.entry_ref.EntryRef.{EntryRef}
+
+abbrev pub seen : EntryRef → Entry
+seen e = entry e.key.now e.value.now e.seqno e.kind

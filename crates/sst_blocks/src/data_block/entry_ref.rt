@@ -1,0 +1,115 @@
+//! Reading one entry of a payload.
+ghost use Rattle.std.specs.Prelude.{◌≡◌, ◌+◌, ◌≤◌, length, not};
+ghost use Rattle.std.specs.Option.{option_map};
+ghost use Rattle.sst_blocks.specs.Key.{key_lt};
+ghost use Rattle.sst_blocks.specs.Point.{bound_of};
+ghost use Rattle.sst_blocks.specs.Reading.{parts_at, entry_at};
+ghost use Rattle.sst_blocks.specs.Seen.{seen};
+ghost use Rattle.sst_blocks.specs.Strict.{is_before, may_follow};
+ghost use Rattle.sst_blocks.specs.Version.{key_width};
+
+use crate::number::{key_len_at, key_width, u32_at, u64_at};
+use crate::{SeqNo, TableVersion, ValueType};
+
+/// An entry whose key and value lie in borrowed bytes.
+#[derive(Clone, Copy)]
+pub(crate) struct EntryRef<'a> {
+    pub(crate) key: &'a [u8],
+    pub(crate) value: &'a [u8],
+    pub(crate) seqno: SeqNo,
+    pub(crate) kind: ValueType,
+}
+
+/// The length of what stands before an entry's key: its tag, its number and both lengths.
+#[inline]
+pub(crate) fn head_len(version: TableVersion) -> usize
+    ensures { result ≡ 13 + key_width version }
+{
+    13 + key_width(version)
+}
+
+#[inline]
+#[tactic(auto, unfolding(crate::specs::Reading::parts_at))]
+fn read_parts(
+    version: TableVersion,
+    kind: ValueType,
+    seqno: SeqNo,
+    bytes: &[u8],
+) -> Option<(EntryRef<'_>, &[u8])>
+    requires { key_width version + 4 ≤ length bytes.now }
+    ensures { option_map (λ x. (seen x.0, x.1.now)) result ≡ parts_at version kind seqno bytes.now }
+{
+    let key_len = key_len_at(version, bytes);
+    let bytes = &bytes[key_width(version)..];
+    let value_len = u32_at(bytes) as usize;
+    let rest = &bytes[4..];
+    if rest.len() < key_len + value_len {
+        return None;
+    }
+    let (key, rest) = rest.split_at(key_len);
+    let (value, rest) = rest.split_at(value_len);
+    Some((
+        EntryRef {
+            key,
+            value,
+            seqno,
+            kind,
+        },
+        rest,
+    ))
+}
+
+/// The entry at the front of some bytes, and the bytes after it.
+#[inline]
+#[tactic(auto, unfolding(crate::specs::Reading::entry_at))]
+pub(crate) fn read_entry(version: TableVersion, bytes: &[u8]) -> Option<(EntryRef<'_>, &[u8])>
+    ensures { option_map (λ x. (seen x.0, x.1.now)) result ≡ entry_at version bytes.now }
+{
+    if bytes.len() < head_len(version) {
+        return None;
+    }
+    let kind = ValueType::from_tag(bytes[0])?;
+    let rest = &bytes[1..];
+    read_parts(version, kind, u64_at(rest), &rest[8..])
+}
+
+impl EntryRef<'_> {
+    /// Whether the entry may stand after another, or at the front.
+    #[inline]
+    pub(crate) fn may_follow(&self, last: &Option<EntryRef<'_>>) -> bool
+        ensures { result ≡ may_follow (option_map seen last.now) (seen self.now) }
+    {
+        match last {
+            None => true,
+            Some(last) => last
+                .key
+                .cmp(self.key)
+                .then(self.seqno.cmp(&last.seqno))
+                .is_lt(),
+        }
+    }
+
+    /// Whether the entry's key is less than another.
+    #[inline]
+    pub(crate) fn is_below(&self, key: &[u8]) -> bool
+        ensures { result ≡ key_lt (seen self.now).user_key key.now }
+    {
+        self.key.cmp(key).is_lt()
+    }
+
+    /// Whether the entry's key is greater than another.
+    #[inline]
+    pub(crate) fn is_above(&self, key: &[u8]) -> bool
+        ensures { result ≡ key_lt key.now (seen self.now).user_key }
+    {
+        key.cmp(self.key).is_lt()
+    }
+
+    /// Whether the entry does not come after a key and a number in the order of a block.
+    #[inline]
+    pub(crate) fn is_up_to(&self, key: &[u8], seqno: SeqNo) -> bool
+        ensures { result ≡ not (is_before (bound_of key.now seqno) (seen self.now)) }
+    {
+        !key.cmp(self.key).then(self.seqno.cmp(&seqno)).is_lt()
+    }
+}

@@ -1,0 +1,399 @@
+ghost use Rattle.std.specs.Prelude.{◌≡◌, ◌<◌, ◌^◌, true, length};
+ghost use Rattle.std.specs.Option.{option_map};
+ghost use Rattle.sst_blocks.specs.Strict.{IsStrict, may_follow};
+
+use super::entry_starts;
+use crate::{
+    Block, BlockType, DataBlock, Error, InternalValue, IterItem, SeqNo, Slice, TableVersion,
+    ValueType, data_block_bound,
+};
+use refusing::{Refusing, each_refused};
+use std::alloc::Allocator;
+use std::test::Fail;
+
+fn entry<A: Allocator + Clone>(
+    alloc: A,
+    key: &[u8],
+    seqno: SeqNo,
+    kind: ValueType,
+    value: &[u8],
+) -> Result<InternalValue<A>, Error> {
+    let key = Slice::from(alloc.clone()?, key)?;
+    let value = Slice::from(alloc, value)?;
+    Ok(InternalValue::from_components(key, value, seqno, kind))
+}
+
+fn may_follow<A: Allocator>(last: Option<&InternalValue<A>>, item: &InternalValue<A>) -> bool
+    ensures { result ≡ may_follow (option_map (λ e. e.now) last.entry) item.now }
+{
+    match last {
+        None => true,
+        Some(last) => {
+            let keys = last.key.user_key.cmp(&item.key.user_key);
+            keys.then(item.key.seqno.cmp(&last.key.seqno)).is_lt()
+        }
+    }
+}
+
+// Whether the entries may stand in one block.
+fn are_strict<A: Allocator>(items: &[InternalValue<A>]) -> bool
+    ensures { result ≡ true → IsStrict items.now }
+{
+    let mut last: Option<&InternalValue<A>> = None;
+    for item in items {
+        if !may_follow(last, item) {
+            return false;
+        }
+        last = Some(item);
+    }
+    true
+}
+
+// The block of a payload.
+fn load<A: Allocator + Clone>(alloc: A, version: TableVersion, bytes: &[u8]) -> Result<DataBlock<A>, Error>
+    requires { length bytes.now < 2 ^ 32 }
+{
+    let starts = entry_starts(alloc.clone()?, version, bytes)?;
+    let payload = Slice::from(alloc, bytes)?;
+    Ok(DataBlock::new(Block {
+        version,
+        kind: BlockType::Data,
+        payload,
+        starts,
+    }))
+}
+
+// The block of these entries, by way of its bytes.
+fn written_and_loaded<A: Allocator + Clone>(
+    alloc: A,
+    items: &[InternalValue<A>],
+) -> Result<DataBlock<A>, Error> {
+    if !are_strict(items) {
+        return Err(Error::InvalidBlock);
+    }
+    let mut bytes = Vec::new(alloc.clone()?);
+    DataBlock::encode_into(&mut bytes, items, 16, 0)?;
+    load(alloc, TableVersion::V4, bytes.as_slice())
+}
+
+// a@9, a@7 as a tombstone, a@5, c@0 and e@3.
+fn five_entries<A: Allocator + Clone>(alloc: A) -> Result<Vec<InternalValue<A>, A>, Error> {
+    let mut items = Vec::with_capacity(alloc.clone()?, 5)?;
+    items.push(entry(alloc.clone()?, b"a", 9, ValueType::Value, b"newest")?)?;
+    items.push(entry(alloc.clone()?, b"a", 7, ValueType::Tombstone, b"")?)?;
+    items.push(entry(alloc.clone()?, b"a", 5, ValueType::Value, b"")?)?;
+    items.push(entry(alloc.clone()?, b"c", 0, ValueType::WeakTombstone, b"")?)?;
+    items.push(entry(alloc, b"e", 3, ValueType::Indirection, b"far")?)?;
+    Ok(items)
+}
+
+// a@1, a value of `x`.
+const ONE_IN_V3: [u8; 21] = [
+    1, 0, 0, 0, 0, 1, 0, 0, 0, 0, 0, 0, 0, 1, 0, 1, 0, 0, 0, 0x61, 0x78,
+];
+
+const ONE_IN_V4: [u8; 23] = [
+    1, 0, 0, 0, 0, 1, 0, 0, 0, 0, 0, 0, 0, 1, 0, 0, 0, 1, 0, 0, 0, 0x61, 0x78,
+];
+
+#[test]
+fn payloads_of_both_versions_read_as_their_entries(rt: HostRuntime) -> Result<(), Fail> {
+    let alloc = rt.alloc();
+    let old = ONE_IN_V3;
+    let new = ONE_IN_V4;
+    let mut items = Vec::new(alloc);
+    items.push(entry(alloc, b"a", 1, ValueType::Value, b"x")?)?;
+    for (version, bytes) in [
+        (TableVersion::V3, old.as_slice()),
+        (TableVersion::V4, new.as_slice()),
+    ] {
+        assert!(rt; bytes.len() < 24);
+        let block = load(alloc, version, bytes)?;
+        assert_eq!(rt; block.len(), 1);
+        assert!(rt; !block.is_empty());
+        let found = block.point_read(b"a", 2)?;
+        assert!(rt; found.as_ref() == items.first());
+        assert!(rt; block.point_read(b"a", 1)?.is_none());
+    }
+    assert_eq!(rt; data_block_bound(&items), 24 + 23);
+    assert!(rt; are_strict(&items));
+    let mut written = Vec::new(alloc);
+    written.push(7)?;
+    DataBlock::encode_into(&mut written, &items, 16, 0)?;
+    assert!(rt; written.len() == 24);
+    assert!(rt; &written[1..] == new.as_slice());
+    Ok(())
+}
+
+#[test]
+fn a_point_read_finds_the_newest_version_below_a_number(rt: HostRuntime) -> Result<(), Fail> {
+    let items = five_entries(rt.alloc())?;
+    let block = written_and_loaded(rt.alloc(), &items)?;
+    assert_eq!(rt; block.len(), 5);
+    // A key and a number, and the place of the entry that is found, or 5 for none.
+    let reads: [(&[u8], SeqNo, usize); 17] = [
+        (b"", u64::MAX, 5),
+        (b"a", u64::MAX, 0),
+        (b"a", 10, 0),
+        (b"a", 9, 1),
+        (b"a", 8, 1),
+        (b"a", 7, 2),
+        (b"a", 6, 2),
+        (b"a", 5, 5),
+        (b"a", 0, 5),
+        (b"aa", u64::MAX, 5),
+        (b"b", u64::MAX, 5),
+        (b"c", 1, 3),
+        (b"c", 0, 5),
+        (b"d", u64::MAX, 5),
+        (b"e", 4, 4),
+        (b"e", 3, 5),
+        (b"f", u64::MAX, 5),
+    ];
+    for (key, seqno, place) in &reads {
+        let found = block.point_read(key, *seqno)?;
+        assert!(rt; found.as_ref() == items.get(*place), "{key:?} below {seqno}");
+    }
+    Ok(())
+}
+
+#[test]
+fn a_block_without_entries_has_none(rt: HostRuntime) -> Result<(), Fail> {
+    let count = [0; 4];
+    let block = load(rt.alloc(), TableVersion::V3, &count)?;
+    assert!(rt; block.is_empty());
+    assert!(rt; block.point_read(b"a", u64::MAX)?.is_none());
+    assert!(rt; block.iter().next().is_none());
+    assert!(rt; block.iter().next_back().is_none());
+    Ok(())
+}
+
+// The number of the next entry, from the front or the back, or 99 where there is none.
+fn number<A: Allocator>(answer: Option<IterItem<A>>) -> Result<SeqNo, Error> {
+    match answer {
+        Some(item) => Ok(item?.key.seqno),
+        None => Ok(99),
+    }
+}
+
+// The numbers of the first and the last entry that a seek leaves, and whether it says that it leaves one.
+fn left_by<A: Allocator>(
+    block: &DataBlock<A>,
+    seek: &str,
+    key: &[u8],
+) -> Result<(SeqNo, SeqNo, bool), Error> {
+    let mut iter = block.iter();
+    let any = match seek {
+        "at least" => iter.seek(key),
+        "above" => iter.seek_exclusive(key),
+        "at most" => iter.seek_upper(key),
+        _ => iter.seek_upper_exclusive(key),
+    };
+    let first = number(iter.next())?;
+    let last = number(iter.next_back())?;
+    Ok((first, last, any))
+}
+
+#[test]
+fn seeks_narrow_to_the_entries_on_one_side_of_a_key(rt: HostRuntime) -> Result<(), Fail> {
+    let items = five_entries(rt.alloc())?;
+    let block = written_and_loaded(rt.alloc(), &items)?;
+    // The last entry is 99 where there are fewer than two.
+    let seeks: [(&str, &[u8], SeqNo, SeqNo); 17] = [
+        ("at least", b"a", 9, 3),
+        ("at least", b"b", 0, 3),
+        ("at least", b"c", 0, 3),
+        ("at least", b"e", 3, 99),
+        ("at least", b"f", 99, 99),
+        ("above", b"Z", 9, 3),
+        ("above", b"a", 0, 3),
+        ("above", b"c", 3, 99),
+        ("above", b"e", 99, 99),
+        ("at most", b"Z", 99, 99),
+        ("at most", b"a", 9, 5),
+        ("at most", b"c", 9, 0),
+        ("at most", b"f", 9, 3),
+        ("below", b"a", 99, 99),
+        ("below", b"c", 9, 5),
+        ("below", b"d", 9, 0),
+        ("below", b"f", 9, 3),
+    ];
+    for (seek, key, first, last) in &seeks {
+        let answer = left_by(&block, seek, key)?;
+        assert_eq!(rt; answer, (*first, *last, *first != 99), "{seek} {key:?}");
+    }
+    Ok(())
+}
+
+#[test]
+fn both_ends_deal_one_window(rt: HostRuntime) -> Result<(), Fail> {
+    let items = five_entries(rt.alloc())?;
+    let block = written_and_loaded(rt.alloc(), &items)?;
+    let mut iter = block.iter();
+    for (from_front, expected) in [(true, 9), (false, 3), (true, 7), (false, 0), (false, 5), (true, 99), (false, 99)] {
+        let answer = if from_front { iter.next() } else { iter.next_back() };
+        assert_eq!(rt; number(answer)?, expected);
+    }
+    // The edges cross, and a later seek widens nothing.
+    let mut iter = block.iter();
+    assert!(rt; iter.seek_exclusive(b"a"));
+    assert!(rt; !iter.seek_upper(b"a"));
+    assert!(rt; !iter.seek(b"a"));
+    assert_eq!(rt; number(iter.next())?, 99);
+    assert_eq!(rt; number(iter.next_back())?, 99);
+    Ok(())
+}
+
+// Whether a payload is in the grammar: its count, and then its entries, each by its tag, its number, both of its lengths
+// and the first of the two bytes behind them.
+fn is_read<A: Allocator + Clone>(alloc: A, count: u32, entries: &[[u32; 5]]) -> Result<bool, Error> {
+    let mut bytes = Vec::new(alloc.clone()?);
+    bytes.extend_from_slice(&count.to_le_bytes())?;
+    for [tag, seqno, key_len, value_len, first] in entries {
+        bytes.push((*tag & 0xff) as u8)?;
+        bytes.extend_from_slice(&u64::from(*seqno).to_le_bytes())?;
+        bytes.extend_from_slice(&key_len.to_le_bytes())?;
+        bytes.extend_from_slice(&value_len.to_le_bytes())?;
+        bytes.push((*first & 0xff) as u8)?;
+        bytes.push(b'x')?;
+    }
+    if bytes.len() > 100 {
+        return Ok(false);
+    }
+    match load(alloc, TableVersion::V4, &bytes) {
+        Ok(block) => Ok(block.len() == entries.len()),
+        Err(Error::InvalidBlock) => Ok(false),
+        Err(error) => Err(error),
+    }
+}
+
+#[test]
+fn payloads_are_read_where_they_are_in_the_grammar(rt: HostRuntime) -> Result<(), Fail> {
+    let cases: [(u32, &[[u32; 5]], bool); 18] = [
+        (0, &[], true),
+        (1, &[], false),
+        (u32::MAX, &[], false),
+        (1, &[[0, 1, 1, 1, 97]], true),
+        (1, &[[1, 1, 2, 0, 97]], true),
+        (1, &[[2, 1, 2, 0, 97]], true),
+        (1, &[[4, 1, 0, 2, 97]], true),
+        (1, &[[3, 1, 1, 1, 97]], false),
+        (1, &[[5, 1, 1, 1, 97]], false),
+        (0, &[[0, 1, 1, 1, 97]], false),
+        (2, &[[0, 1, 1, 1, 97]], false),
+        (1, &[[0, 1, 2, 1, 97]], false),
+        (1, &[[0, 1, 1, 2, 97]], false),
+        (1, &[[0, 1, 1, 0, 97]], false),
+        (1, &[[0, 1, u32::MAX, u32::MAX, 97]], false),
+        (2, &[[0, 2, 1, 1, 97], [0, 1, 1, 1, 97]], true),
+        (2, &[[0, 1, 1, 1, 97], [1, 1, 1, 1, 97]], false),
+        (2, &[[0, 1, 1, 1, 98], [0, 2, 1, 1, 97]], false),
+    ];
+    for (count, entries, good) in cases {
+        assert_eq!(rt; is_read(rt.alloc(), count, entries)?, good, "{count} {entries:?}");
+    }
+    Ok(())
+}
+
+#[test]
+fn payloads_cut_short_or_of_the_other_version_are_refused(rt: HostRuntime) {
+    let old = ONE_IN_V3;
+    let new = ONE_IN_V4;
+    for (version, bytes) in [
+        (TableVersion::V3, &old[..3]),
+        (TableVersion::V3, &old[..18]),
+        (TableVersion::V3, &old[..20]),
+        (TableVersion::V3, new.as_slice()),
+        (TableVersion::V4, old.as_slice()),
+    ] {
+        assert!(rt; bytes.len() < 24);
+        let answer = load(rt.alloc(), version, bytes);
+        assert!(rt; matches!(&answer, Err(Error::InvalidBlock)));
+    }
+}
+
+// What encoding the one entry of a key of so many bytes adds to a buffer.
+fn written_len<A: Allocator + Clone>(alloc: A, key_len: usize) -> Result<usize, Error> {
+    let key = vec![in alloc.clone()?; 0u8; key_len]?;
+    let mut items = Vec::new(alloc.clone()?);
+    items.push(InternalValue::from_components(
+        Slice::from_vec(key)?,
+        Slice::empty(),
+        1,
+        ValueType::Value,
+    ))?;
+    let mut buf = Vec::new(alloc);
+    if are_strict(&items) {
+        DataBlock::encode_into(&mut buf, &items, 16, 0)?;
+    }
+    Ok(buf.len())
+}
+
+#[test]
+fn keys_of_a_mebibyte_are_taken_and_longer_ones_refused(rt: HostRuntime) {
+    let alloc = rt.alloc();
+    assert!(rt; written_len(alloc, 65536) == Ok(4 + 17 + 65536));
+    assert!(rt; written_len(alloc, 1048576) == Ok(4 + 17 + 1048576));
+    assert!(rt; written_len(alloc, 1048577) == Err(Error::KeyTooLong));
+}
+
+// Entries of 4,096 keys, whose values of a mebibyte share their memory.
+fn many_entries<A: Allocator + Clone>(alloc: A) -> Result<Vec<InternalValue<A>, A>, Error> {
+    let value = Slice::from_vec(vec![in alloc.clone()?; 0u8; 1048576]?)?;
+    let mut items = Vec::new(alloc.clone()?);
+    for i in 0..4096u16 {
+        let key = Slice::from(alloc.clone()?, &i.to_be_bytes())?;
+        items.push(InternalValue::from_components(key, value.clone()?, 1, ValueType::Value))?;
+    }
+    Ok(items)
+}
+
+#[test]
+fn a_block_of_four_gibibytes_is_refused(rt: HostRuntime) -> Result<(), Fail> {
+    let alloc = rt.alloc();
+    let mut items = many_entries(alloc)?;
+    assert_eq!(rt; data_block_bound(&items), 28 + 4096 * (17 + 2 + 1048576));
+    assert!(rt; are_strict(&items));
+    let mut buf = Vec::new(alloc);
+    buf.push(7)?;
+    assert!(rt; DataBlock::encode_into(&mut buf, &items, 16, 0) == Err(Error::BlockTooLarge));
+    // A key that is too long is told first.
+    let key = vec![in alloc; 0xffu8; 1048577]?;
+    items.push(entry(alloc, &key, 1, ValueType::Value, b"")?)?;
+    assert!(rt; are_strict(&items));
+    assert!(rt; DataBlock::encode_into(&mut buf, &items, 16, 0) == Err(Error::KeyTooLong));
+    assert!(rt; buf.as_slice() == [7].as_slice());
+    Ok(())
+}
+
+// The ends of a block and a point read, by way of the block's bytes.
+fn write_and_read<A: Allocator + Clone>(alloc: A) -> Result<(SeqNo, SeqNo, bool), Error> {
+    let items = five_entries(alloc.clone()?)?;
+    let block = written_and_loaded(alloc, &items)?;
+    let mut iter = block.iter();
+    let first = number(iter.next())?;
+    let last = number(iter.next_back())?;
+    let found = block.point_read(b"c", 1)?;
+    Ok((first, last, found.is_some()))
+}
+
+#[test]
+fn each_request_refused_is_answered_so(rt: HostRuntime) -> Result<(), Fail> {
+    let answers = each_refused(rt.alloc(), |heap, may_fail| match write_and_read(heap) {
+        Ok(answer) => answer == (9, 3, true),
+        Err(Error::OutOfMemory) => may_fail,
+        Err(_) => false,
+    });
+    assert_eq!(rt; answers, Ok(19));
+    // A refused growth leaves the buffer as it was.
+    let heap = Refusing::new(rt.alloc(), 7);
+    let mut items = Vec::new(&heap);
+    items.push(entry(&heap, b"a", 1, ValueType::Value, b"x")?)?;
+    assert!(rt; are_strict(&items));
+    let mut buf = Vec::new(&heap);
+    buf.push(7)?;
+    assert!(rt; DataBlock::encode_into(&mut buf, &items, 16, 0) == Err(Error::OutOfMemory));
+    assert!(rt; buf.as_slice() == [7].as_slice());
+    assert_eq!(rt; heap.requests(), 7);
+    Ok(())
+}
