@@ -1,16 +1,14 @@
 -- Calls of a compaction, and what the rest of them gives.
-use Rattle.std.proofs.Common.{◌≡◌, refl, sym, ◌∙◌, ap, subst, ℕ, Bool, true, false, cond, not, List, [], ◌∷◌, ◌++◌, append_assoc}
-use Rattle.std.specs.Prelude.{Option, Some, None, Result, Ok, Err, filter}
-use Rattle.std.specs.List.{AllByRecursion}
+use Rattle.std.proofs.Common.{◌≡◌, refl, sym, ◌∙◌, ap, subst, true, false, cond, not, List, [], ◌∷◌, ◌++◌}
+use Rattle.std.specs.Prelude.{Option, None, Result, Ok, Err}
 use Rattle.sst_blocks.specs.Entry.{Entry}
 use Rattle.sst_blocks.specs.Kind.{is_tombstone_kind}
-use Rattle.sst_blocks.specs.Stream.{first, but_first}
 use Rattle.sst_blocks.specs.declared.error.Error.{Error}
 use Rattle.lsm_sorted.specs.Ends.{R}
-use Rattle.lsm_sorted.specs.Compaction.{Verdict, keep, Judged, JudgedItem, items, Rules, told_by, reports_by, outs, reported, asked, as_is, as_they_are}
+use Rattle.lsm_sorted.specs.Compaction.{Verdict, keep, Judged, JudgedItem, Rules, told_by, reports_by, reported, asked}
 use Rattle.lsm_sorted.specs.Compacting.{turned, AsksIf, Asks, SaysOf, GetsAll, Turns, Calls, ended, failed, answered, again, KeepsTombstones, Compacted}
 use Rattle.lsm_sorted.proofs.OutsLemmas.{listed, asked_head, judged}
-use Rattle.lsm_sorted.proofs.TurnLemmas.{EachJudged, Explained, turn_explained}
+use Rattle.lsm_sorted.proofs.TurnLemmas.{EachJudged, turn_explained}
 
 abbrev StaysIfTombstone : Judged → Type 0
 StaysIfTombstone j = is_tombstone_kind j.entry.kind ≡ true → j.verdict ≡ Ok keep

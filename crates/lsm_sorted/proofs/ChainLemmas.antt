@@ -26,10 +26,10 @@ module _ {T : Type 0} (range : T → Interval) (runs : List (List T)) (packed : 
   pub places_of : AreAtPlaces runs (tables_of packed)
   places_of =
       all_by (λ (l : Link T). table_at runs l.run l.index ≡ Some l.table.now) (tables_of packed)
-        (λ l m.
-          let there = contains_mem h.links l (Contains-permutation (tables_of packed) h.links l (IsPermutation-sym h.links (tables_of packed) h.same) (mem_contains (tables_of packed) l m)) in
-          let tag : Mem (tag_of l) (tags 0 runs) = subst (λ (ts : List (Tagged T)). Mem (tag_of l) ts) h.tags_are (mem-map (λ (k : Link T). tag_of k) h.links l there) in
-          tag_at runs (tag_of l) tag)
+      (λ l m.
+      let there = contains_mem h.links l (Contains-permutation (tables_of packed) h.links l (IsPermutation-sym h.links (tables_of packed) h.same) (mem_contains (tables_of packed) l m)) in
+      let tag : Mem (tag_of l) (tags 0 runs) = subst (λ (ts : List (Tagged T)). Mem (tag_of l) ts) h.tags_are (mem-map (λ (k : Link T). tag_of k) h.links l there) in
+      tag_at runs (tag_of l) tag)
 
   map-map : (g : Tagged T → T) (ls : List (Link T)) → map (λ l. g (tag_of l)) ls ≡ map g (map (λ l. tag_of l) ls)
   map-map g [] = refl
@@ -74,9 +74,9 @@ module _ {T : Type 0} (range : T → Interval) (runs : List (List T)) (packed : 
     chain_least chain found is whole =
         let f : Link T → Interval = λ l. range l.table.now in
         let size : length packed ≡ length (put_all range (tables_of runs) []) =
-            ap length (h.put formed_tags)
-            ∙ sym (length-map (map (λ (l : Link T). l.table.now)) (put_all f h.links []))
-            ∙ ap length (put_all-map (λ (l : Link T). l.table.now) range h.links [] ∙ ap (λ ts. put_all range ts []) tables_are) in
+        ap length (h.put formed_tags)
+        ∙ sym (length-map (map (λ (l : Link T). l.table.now)) (put_all f h.links []))
+        ∙ ap length (put_all-map (λ (l : Link T). l.table.now) range h.links [] ∙ ap (λ ts. put_all range ts []) tables_are) in
         subst (IsLeastSize range runs) (sym (ap length is ∙ length-reverse found ∙ whole stack_of ∙ size)) (least_size range runs d)
 
 pub chain_some : (chain found : List (ℕ × ℕ)) → chain ≡ reverse found → chain ≡ [] → found ≡ []

@@ -18,7 +18,7 @@ use Rattle.lsm_sorted.specs.declared.merge.Merger.{Merger}
 use Rattle.lsm_sorted.specs.Ends.{R, Left, Goes, fresh}
 use Rattle.lsm_sorted.specs.Tournament.{held, room}
 use Rattle.lsm_sorted.specs.Union.{Ascends, entries_of, all_errors, merged}
-use Rattle.lsm_sorted.specs.Merge.{entry_of, count_of, is_ready, Ready, LeavesIf, Kept, whole, taken, HeapHolds, Leaves, MayMerge, MergeAnswer, Merges, Follows, DealsUntil, HoldsFew, held_of}
+use Rattle.lsm_sorted.specs.Merge.{entry_of, count_of, is_ready, Ready, LeavesIf, Kept, whole, taken, HeapHolds, Leaves, MayMerge, MergeAnswer, Merges, NothingAfterError, EndsAtError, Follows, DealsUntil, HoldsFew, held_of}
 use Rattle.lsm_sorted.proofs.NewestLemmas.{map_reverse}
 use Rattle.lsm_sorted.proofs.PopLemmas.{length_map}
 use Rattle.lsm_sorted.proofs.RoomLemmas.{may_merge}
@@ -102,12 +102,12 @@ all_last xs = ap first (map_reverse xs) ∙ all_first (reverse xs)
 all_but_last : (xs : List Entry) → but_last (all_ok xs) ≡ all_ok (but_last xs)
 all_but_last xs = ap (λ (rs : List R). reverse (but_first rs)) (map_reverse xs) ∙ ap reverse (all_but_first (reverse xs)) ∙ map_reverse (but_first (reverse xs))
 
-module _ {T : Type 0} (May : T → Type 0) (Has : (Error → Bool) → T → List Entry → List Error → Type 0) where
+module _ {T : Type 0} (May Ended : T → Type 0) (Has : (Error → Bool) → T → List Entry → List Error → Type 0) where
   abbrev Forth : T → Option R → T → Type 0
-  Forth = Merges May Has front_of
+  Forth = Merges May Ended Has front_of
 
   abbrev Behind : T → Option R → T → Type 0
-  Behind = Merges May Has back_of
+  Behind = Merges May Ended Has back_of
 
   module _ (stops : Error → Bool) where
     abbrev Dealt : T → List R → Type 0
@@ -177,6 +177,29 @@ module _ {T : Type 0} (May : T → Type 0) (Has : (Error → Bool) → T → Lis
   runs_may (Front ∷ ends) (r ∷ rs) s t may runs = runs_may ends rs runs.0 t runs.1.may runs.2
   runs_may (Back ∷ ends) (r ∷ rs) s t may runs = runs_may ends rs runs.0 t runs.1.may runs.2
 
-pub holds_few : {S A : Type 0} (front back : S → Option R → S → Type 0) (can can_back : S → Type 0) (left : S → Count) (Has : (Error → Bool) → Merger S A → List Entry → List Error → Type 0) (m : Merger S A) → MayMerge front back can can_back left m
-    → HoldsFew (Merges (MayMerge front back can can_back left) Has front_of) (Merges (MayMerge front back can can_back left) Has back_of) m
-holds_few front back can can_back left Has m may = record { at = λ ends rs t runs. (runs_may (MayMerge front back can can_back left) Has ends rs m t may runs).few }
+  -- once it has ended, it gives `None`
+  ended_more : (ends : List Direction) (rs : List (Option R)) (s t : T) → Ended s → Runs Forth Behind s ends rs t → AllByRecursion (λ r. r ≡ None) rs
+  ended_more [] [] s t over runs = tt
+  ended_more [] (r ∷ rs) s t over runs = absurd runs
+  ended_more (e ∷ ends) [] s t over runs = absurd runs
+  ended_more (Front ∷ ends) (r ∷ rs) s t over runs = let one = runs.1.ended over in (one.0, ended_more ends rs runs.0 t one.1 runs.2)
+  ended_more (Back ∷ ends) (r ∷ rs) s t over runs = let one = runs.1.ended over in (one.0, ended_more ends rs runs.0 t one.1 runs.2)
+
+  one_ends : (r : Option R) (rs : List (Option R)) → ((e : Error) → r ≡ Some (Err e) → AllByRecursion (λ q. q ≡ None) rs) → NothingAfterError rs → NothingAfterError (r ∷ rs)
+  one_ends None rs over more = more
+  one_ends (Some (Ok x)) rs over more = more
+  one_ends (Some (Err e)) rs over more = over e refl
+
+  nothing_after : (ends : List Direction) (rs : List (Option R)) (s t : T) → Runs Forth Behind s ends rs t → NothingAfterError rs
+  nothing_after [] [] s t runs = tt
+  nothing_after [] (r ∷ rs) s t runs = absurd runs
+  nothing_after (e ∷ ends) [] s t runs = absurd runs
+  nothing_after (Front ∷ ends) (r ∷ rs) s t runs = one_ends r rs (λ e is. ended_more ends rs runs.0 t (runs.1.ends e is) runs.2) (nothing_after ends rs runs.0 t runs.2)
+  nothing_after (Back ∷ ends) (r ∷ rs) s t runs = one_ends r rs (λ e is. ended_more ends rs runs.0 t (runs.1.ends e is) runs.2) (nothing_after ends rs runs.0 t runs.2)
+
+  pub ends_at_error : (s : T) → EndsAtError Forth Behind s
+  ends_at_error s = record { answers = λ ends rs t runs. nothing_after ends rs s t runs }
+
+pub holds_few : {S A : Type 0} (front back : S → Option R → S → Type 0) (can can_back : S → Type 0) (left : S → Count) (Ended : Merger S A → Type 0) (Has : (Error → Bool) → Merger S A → List Entry → List Error → Type 0) (m : Merger S A) → MayMerge front back can can_back left m
+    → HoldsFew (Merges (MayMerge front back can can_back left) Ended Has front_of) (Merges (MayMerge front back can can_back left) Ended Has back_of) m
+holds_few front back can can_back left Ended Has m may = record { at = λ ends rs t runs. (runs_may (MayMerge front back can can_back left) Ended Has ends rs m t may runs).few }

@@ -1,17 +1,14 @@
 -- A stream of newest versions over sorted entries deals the newest of them.
-use Rattle.std.proofs.Common.{◌≡◌, refl, sym, ◌∙◌, ap, subst, Bool, false, List}
+use Rattle.std.proofs.Common.{◌≡◌, refl, sym, ◌∙◌, ap, subst, Bool, List}
 use Rattle.std.specs.Prelude.{Option}
-use Rattle.std.specs.Iterator.{Count}
 use Rattle.sst_blocks.specs.Entry.{Entry}
 use Rattle.sst_blocks.specs.declared.error.Error.{Error}
-use Rattle.lsm_sorted.specs.declared.mvcc_stream.MvccStream.{MvccStream}
 use Rattle.sst_blocks.specs.Stream.{Deals, CanDeal, stopped, first, but_first, last, but_last, all_ok, Answers}
 use Rattle.lsm_sorted.specs.Ends.{R}
 use Rattle.lsm_sorted.specs.Newest.{front_step, back_step}
-use Rattle.lsm_sorted.specs.Mvcc.{StandsFor, MayStep}
 use Rattle.lsm_sorted.specs.Union.{Ascends, newest}
 use Rattle.sst_blocks.proofs.StreamLemmas.{deals_by, can_by}
-use Rattle.lsm_sorted.proofs.NewestLemmas.{KeysUp, keys_up, NewestStep, front_newest, back_newest}
+use Rattle.lsm_sorted.proofs.NewestLemmas.{KeysUp, keys_up, front_newest, back_newest}
 
 module _ (stops : Error → Bool) {T : Type 0} (May : T → Type 0) (Has : (Error → Bool) → T → List R → Type 0) where
   -- t stands for sorted entries of which ys are the newest

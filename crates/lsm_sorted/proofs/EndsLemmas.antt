@@ -1,7 +1,7 @@
 -- One call of an `Ends` that isn't done.
-use Rattle.std.proofs.Common.{◌≡◌, refl, sym, ◌∙◌, ap, subst, Bool, true, false, List, [], ◌∷◌, reverse}
-use Rattle.std.specs.Prelude.{Option, Some, None, Result}
-use Rattle.std.specs.Iterator.{Count, IsFinite, size}
+use Rattle.std.proofs.Common.{◌≡◌, refl, sym, ap, subst, Bool, true, false, List, [], ◌∷◌, reverse}
+use Rattle.std.specs.Prelude.{Option, Some, None}
+use Rattle.std.specs.Iterator.{Count, IsFinite}
 use Rattle.sst_blocks.specs.declared.error.Error.{Error}
 use Rattle.lsm_sorted.specs.declared.ends.Ends.{Ends}
 use Rattle.sst_blocks.specs.Stream.{first, but_first, last, but_last, stopped, Deals, CanDeal}

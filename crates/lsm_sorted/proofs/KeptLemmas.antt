@@ -1,7 +1,6 @@
 -- What a compaction keeps of a strict list is strict.
-use Rattle.std.proofs.Common.{◌≡◌, refl, sym, ◌∙◌, ap, subst, ℕ, ◌+◌, ◌<◌, ◌≤◌, ◌⊎◌, inl, inr, Bool, true, false, cond, not, ◌&&◌, nat_lt, List, [], ◌∷◌, ◌++◌, length, arith, zero, suc}
+use Rattle.std.proofs.Common.{◌≡◌, refl, sym, ◌∙◌, ap, subst, ℕ, ◌<◌, ◌≤◌, ◌⊎◌, inl, inr, Bool, true, false, cond, ◌&&◌, nat_lt, List, [], ◌∷◌, ◌++◌, length, arith, zero, suc}
 use Rattle.std.specs.List.{AllByRecursion}
-use Rattle.std.proofs.lemmas.Bool.Decides.{nat_tests}
 use Rattle.sst_blocks.specs.Entry.{Entry}
 use Rattle.sst_blocks.specs.Key.{same_key, key_lt}
 use Rattle.sst_blocks.specs.Stream.{first, all_ok}
@@ -10,7 +9,7 @@ use Rattle.lsm_sorted.specs.ReadLaw.{Precedes, Strict, StaysStrict}
 use Rattle.lsm_sorted.proofs.KeyLemmas.{KeyLe, same_itself, lt_trans, le_itself}
 use Rattle.lsm_sorted.proofs.NewestLemmas.{KeysUp}
 use Rattle.lsm_sorted.proofs.OutsLemmas.{AllOf, follows_in}
-use Rattle.lsm_sorted.proofs.ReadLemmas.{Split, split, left_alone, kept_open, kept_close, NoneOf, rest_none, all_rest, up_rest, length_rest, apart}
+use Rattle.lsm_sorted.proofs.ReadLemmas.{split, left_alone, kept_open, kept_close, NoneOf, rest_none, all_rest, length_rest, apart}
 
 -- an induction over what is kept: a head before others that stay, or the last head of its key
 module _ (rules : Rules) (Q : List Entry → Type 0)

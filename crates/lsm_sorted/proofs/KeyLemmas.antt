@@ -1,15 +1,15 @@
 -- The order of keys.
-use Rattle.std.proofs.Common.{◌≡◌, refl, sym, ◌∙◌, ap, subst, ℕ, Bool, true, false, List, [], ◌∷◌, arith}
-use Rattle.std.specs.Prelude.{not, nat_eq}
+use Rattle.std.proofs.Common.{◌≡◌, refl, sym, ◌∙◌, ap, subst, ℕ, Bool, true, false, List}
+use Rattle.std.specs.Prelude.{not}
 use Rattle.std.specs.declared.cmp.Ordering.{Ordering}
 use Rattle.std.specs.declared.cmp.Ordering.TheVariants.{Less, Equal, Greater}
 use Rattle.std.specs.Ordering.{nat_cmp, is_lt, is_gt, is_eq, ordering_then, ordering_reverse}
-use Rattle.std.specs.Cmp.Lexicographic.{slice_cmp, pointwise, nat_list_cmp_total, nat_list_eq_equiv, same_text, other_text, texts_ties}
+use Rattle.std.specs.Cmp.Lexicographic.{slice_cmp, nat_list_cmp_total, nat_list_eq_equiv, same_text, texts_ties}
 use Rattle.std.proofs.lemmas.Cmp.{tied_itself}
 use Rattle.sst_blocks.specs.Entry.{Entry}
 use Rattle.sst_blocks.specs.Kind.{tag_of}
 use Rattle.sst_blocks.specs.Key.{same_key, key_lt}
-use Rattle.lsm_sorted.specs.Union.{item_cmp, AtMost}
+use Rattle.lsm_sorted.specs.Union.{AtMost}
 
 abbrev pub KeyLe : List ℕ → List ℕ → Type 0
 KeyLe a b = key_lt b a ≡ false

@@ -25,11 +25,11 @@ module _ {X : Type 0} where
 
   pub contains_mem : (xs : List X) (x : X) → Contains xs x → Mem x xs
   contains_mem xs x (k, lt, at) = go xs k lt at
-      where
-        go : (ys : List X) (k : ℕ) → k < length ys → get_or ys k x ≡ x → Mem x ys
-        go [] k lt at = absurd (omega arith)
-        go (y ∷ ys) zero lt at = inl (sym at)
-        go (y ∷ ys) (suc k) lt at = inr (go ys k (omega arith) at)
+    where
+      go : (ys : List X) (k : ℕ) → k < length ys → get_or ys k x ≡ x → Mem x ys
+      go [] k lt at = absurd (omega arith)
+      go (y ∷ ys) zero lt at = inl (sym at)
+      go (y ∷ ys) (suc k) lt at = inr (go ys k (omega arith) at)
 
   filter_yes : (p : X → Bool) (z : X) (zs : List X) → p z ≡ true → filter p (z ∷ zs) ≡ z ∷ filter p zs
   filter_yes p z zs e = rw e refl
@@ -113,22 +113,22 @@ module _ {T : Type 0} (range : T → Interval) where
         tags_are = map-push (λ l. tag_of l) h.links link ∙ ap (λ l. l ++ tag_of link ∷ []) h.tags_are;
         same = IsPermutation-trans (h.links ++ link ∷ []) (tables_of now ++ link ∷ []) (tables_of next) (IsPermutation-append_left (link ∷ []) h.links (tables_of now) h.same) same;
         put = λ formed.
-          let k = formed_parts (λ (x : Tagged T). range x.table) ts (tag_of link) formed in
-          let is = h.put k.0 in
-          let formed_links : AreFormed f h.links = formed-map (λ (x : Tagged T). range x.table) (λ (l : Link T). tag_of l) h.links (subst (AreFormed (λ (x : Tagged T). range x.table)) (sym h.tags_are) k.0) in
-          let ordered : AreInOrder f now = subst (AreInOrder f) (sym is) (in_order_of f (put_all f h.links []) (put_all_packed f h.links [] formed_links tt)) in
-          put_one ordered ∙ ap (λ rs. put f link rs) is ∙ sym (put_all-append f h.links (link ∷ []) []);
+            let k = formed_parts (λ (x : Tagged T). range x.table) ts (tag_of link) formed in
+            let is = h.put k.0 in
+            let formed_links : AreFormed f h.links = formed-map (λ (x : Tagged T). range x.table) (λ (l : Link T). tag_of l) h.links (subst (AreFormed (λ (x : Tagged T). range x.table)) (sym h.tags_are) k.0) in
+            let ordered : AreInOrder f now = subst (AreInOrder f) (sym is) (in_order_of f (put_all f h.links []) (put_all_packed f h.links [] formed_links tt)) in
+            put_one ordered ∙ ap (λ rs. put f link rs) is ∙ sym (put_all-append f h.links (link ∷ []) []);
         some = some h.some;
       }
 
   pub links_more : (ts : List (Tagged T)) (i j : ℕ) (tables : List T) (now next : List (List (Link T))) (link : Link T) → IsPermutation (tables_of now ++ link ∷ []) (tables_of next) → (AreInOrder (λ l. range l.table.now) now → next ≡ put (λ l. range l.table.now) link now) → (AreNotEmpty now → AreNotEmpty next) → j < length tables → link.table.now ≡ get_or tables j link.table.now → link.run ≡ i → link.index ≡ j → ArePackedLinks range (ts ++ tags_in i 0 (take j tables)) now → ArePackedLinks range (ts ++ tags_in i 0 (take (j + 1) tables)) next
   links_more ts i j tables now next link same put_one some lt at run_is index_is h =
       subst (λ (xs : List (Tagged T)). ArePackedLinks range xs next)
-        (append_assoc ts (tags_in i 0 (take j tables)) (tag_of link ∷ [])
-        ∙ ap (λ n. ts ++ (tags_in i 0 (take j tables) ++ tagged link.table.now n link.index ∷ [])) run_is
-        ∙ ap (λ n. ts ++ (tags_in i 0 (take j tables) ++ tagged link.table.now i n ∷ [])) index_is
-        ∙ ap (λ l. ts ++ l) (sym (tags_in-more i j tables link.table.now lt at)))
-        (links_push (ts ++ tags_in i 0 (take j tables)) now next link h put_one same some)
+      (append_assoc ts (tags_in i 0 (take j tables)) (tag_of link ∷ [])
+      ∙ ap (λ n. ts ++ (tags_in i 0 (take j tables) ++ tagged link.table.now n link.index ∷ [])) run_is
+      ∙ ap (λ n. ts ++ (tags_in i 0 (take j tables) ++ tagged link.table.now i n ∷ [])) index_is
+      ∙ ap (λ l. ts ++ l) (sym (tags_in-more i j tables link.table.now lt at)))
+      (links_push (ts ++ tags_in i 0 (take j tables)) now next link h put_one same some)
 
   pub links_at_start : (ts : List (Tagged T)) (i : ℕ) (tables : List T) (packed : List (List (Link T))) → ArePackedLinks range ts packed → ArePackedLinks range (ts ++ tags_in i 0 (take 0 tables)) packed
   links_at_start ts i tables packed h = subst (λ (xs : List (Tagged T)). ArePackedLinks range xs packed) (sym (append-nil ts)) h

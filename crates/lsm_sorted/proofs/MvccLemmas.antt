@@ -1,7 +1,6 @@
 -- The loops of `MvccStream`.
-use Rattle.std.proofs.Common.{◌≡◌, ◌≢◌, refl, sym, ◌∙◌, ap, subst, ℕ, ◌<◌, ◌≤◌, Bool, true, false, cond, nat_lt, nat_eq, List, [], ◌∷◌, ◌++◌, reverse, arith}
-use Rattle.std.specs.Prelude.{Option, Some, None, Result, Ok, Err, ◌==◌}
-use Rattle.std.proofs.lemmas.Bool.Decides.{nat_tests}
+use Rattle.std.proofs.Common.{◌≡◌, refl, sym, ◌∙◌, ap, subst, Bool, true, false, cond, List, [], ◌∷◌, ◌++◌, reverse}
+use Rattle.std.specs.Prelude.{Option, Some, None, Ok, Err}
 use Rattle.std.proofs.lemmas.List.{reverse-reverse, reverse-append}
 use Rattle.sst_blocks.specs.Entry.{Entry}
 use Rattle.sst_blocks.specs.declared.error.Error.{Error}
@@ -9,7 +8,7 @@ use Rattle.sst_blocks.specs.Stream.{first, but_first, last, but_last, stopped}
 use Rattle.sst_blocks.specs.Key.{same_key, key_lt}
 use Rattle.lsm_sorted.specs.Ends.{R}
 use Rattle.sst_blocks.specs.Stream.{DealsFirst, DealsLast}
-use Rattle.lsm_sorted.specs.Newest.{is_of, after_key, settle, front_step, climb, back_of, back_step}
+use Rattle.lsm_sorted.specs.Newest.{after_key, settle, front_step, climb, back_of, back_step}
 use Rattle.lsm_sorted.proofs.EndsLemmas.{none_first}
 
 pub from_first : {A : Type 0} (xs : List A) (r : A) → Some r ≡ first xs → xs ≡ r ∷ but_first xs

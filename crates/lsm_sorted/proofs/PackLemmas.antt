@@ -101,12 +101,12 @@ module _ {X : Type 0} where
 
 pub overlaps_comm : (a b : Interval) → overlaps a b ≡ overlaps b a
 overlaps_comm a b = flip (key_le b.min a.max) (key_le a.min b.max)
-    where
-      flip : (x y : Bool) → (x && y) ≡ (y && x)
-      flip true true = refl
-      flip true false = refl
-      flip false true = refl
-      flip false false = refl
+  where
+    flip : (x y : Bool) → (x && y) ≡ (y && x)
+    flip true true = refl
+    flip true false = refl
+    flip false true = refl
+    flip false false = refl
 
 module _ {T : Type 0} (range : T → Interval) where
   -- of two that have a key, each touches the other
@@ -150,19 +150,19 @@ module _ {T : Type 0} (range : T → Interval) where
             ap (λ rs. holders range rs k) (put_here t run runs e)
             ∙ filter-append p (with_table range t run) (tables_of runs)
             ∙ elim (cases_Bool (has_key (range t) k)) [
-                | inl has ↦
-                    let none_here : filter p run ≡ [] = filter_none p run (no_holder t run k has (any_fails (λ x. overlaps (range x) (range t)) run parted.0)) in
-                    let none_later : filter p (tables_of runs) ≡ [] = filter_none p (tables_of runs) (no_holder t (tables_of runs) k has (untouched (range t) runs parted.1)) in
-                    ap (λ l. l ++ filter p (tables_of runs)) (filter-insert_alone p run (how_many (λ r. key_le r.min (range t).min) (map range run)) t has none_here)
-                    ∙ ap (λ l. t ∷ l) none_later
-                    ∙ sym (filter-cons_yes p t [] has)
-                    ∙ ap (λ l. l ++ filter p (t ∷ [])) (sym (filter-append p run (tables_of runs) ∙ ap (λ l. l ++ filter p (tables_of runs)) none_here ∙ none_later))
-                | inr has ↦
-                    ap (λ l. l ++ filter p (tables_of runs)) (filter-insert_no p run (how_many (λ r. key_le r.min (range t).min) (map range run)) t has)
-                    ∙ sym (filter-append p run (tables_of runs))
-                    ∙ sym (append-nil (filter p (run ++ tables_of runs)))
-                    ∙ ap (λ l. filter p (run ++ tables_of runs) ++ l) (sym (filter-cons_no p t [] has))
-              ]
+              | inl has ↦
+                  let none_here : filter p run ≡ [] = filter_none p run (no_holder t run k has (any_fails (λ x. overlaps (range x) (range t)) run parted.0)) in
+                  let none_later : filter p (tables_of runs) ≡ [] = filter_none p (tables_of runs) (no_holder t (tables_of runs) k has (untouched (range t) runs parted.1)) in
+                  ap (λ l. l ++ filter p (tables_of runs)) (filter-insert_alone p run (how_many (λ r. key_le r.min (range t).min) (map range run)) t has none_here)
+                  ∙ ap (λ l. t ∷ l) none_later
+                  ∙ sym (filter-cons_yes p t [] has)
+                  ∙ ap (λ l. l ++ filter p (t ∷ [])) (sym (filter-append p run (tables_of runs) ∙ ap (λ l. l ++ filter p (tables_of runs)) none_here ∙ none_later))
+              | inr has ↦
+                  ap (λ l. l ++ filter p (tables_of runs)) (filter-insert_no p run (how_many (λ r. key_le r.min (range t).min) (map range run)) t has)
+                  ∙ sym (filter-append p run (tables_of runs))
+                  ∙ sym (append-nil (filter p (run ++ tables_of runs)))
+                  ∙ ap (λ l. filter p (run ++ tables_of runs) ++ l) (sym (filter-cons_no p t [] has))
+            ]
       ]
 
   pub put_all_holders : (k : List ℕ) (ts : List T) (runs : List (List T)) → holders range (put_all range ts runs) k ≡ holders range runs k ++ filter (λ x. has_key (range x) k) ts
@@ -241,10 +241,10 @@ module _ {T : Type 0} (range : T → Interval) where
 
   some_more : (xs : List T) (n : ℕ) (t : T) → insert xs n t ≢ []
   some_more xs n t e = go (take n xs) e
-      where
-        go : (ys : List T) → ys ++ t ∷ drop n xs ≡ [] → ⊥
-        go [] h = absurd cc
-        go (y ∷ ys) h = absurd cc
+    where
+      go : (ys : List T) → ys ++ t ∷ drop n xs ≡ [] → ⊥
+      go [] h = absurd cc
+      go (y ∷ ys) h = absurd cc
 
   pub put_packed : (t : T) (runs : List (List T)) → well_formed (range t) ≡ true → ArePacked range runs → ArePacked range (put range t runs)
   put_packed t [] wt h = ((in_order_from (range t) [] (record { formed = wt; before = refl; rest = refl }), (λ e. absurd cc)), tt)
@@ -254,7 +254,7 @@ module _ {T : Type 0} (range : T → Interval) where
         | inr e ↦
             let parted = or_parts (touches range (range t) run) (list_any (touches range (range t)) runs) e in
             subst (ArePacked range) (sym (put_here range t run runs e))
-              ((with_table_in_order t run h.0.0 wt (any_fails (λ x. overlaps (range x) (range t)) run parted.0), some_more run (how_many (λ r. key_le r.min (range t).min) (map range run)) t), h.1)
+            ((with_table_in_order t run h.0.0 wt (any_fails (λ x. overlaps (range x) (range t)) run parted.0), some_more run (how_many (λ r. key_le r.min (range t).min) (map range run)) t), h.1)
       ]
 
   pub put_all_packed : (ts : List T) (runs : List (List T)) → AreFormed range ts → ArePacked range runs → ArePacked range (put_all range ts runs)
@@ -268,21 +268,21 @@ module _ {T : Type 0} (range : T → Interval) where
         | inl e ↦
             subst (λ (rs : List (List T)). IsPermutation (tables_of (run ∷ runs) ++ t ∷ []) (tables_of rs)) (sym (put_behind range t run runs e))
             (subst (λ (l : List T). IsPermutation l (run ++ tables_of (put range t runs))) (sym (append_assoc run (tables_of runs) (t ∷ [])))
-              (IsPermutation-append_right run (tables_of runs ++ t ∷ []) (tables_of (put range t runs)) (put_permutes t runs)))
+            (IsPermutation-append_right run (tables_of runs ++ t ∷ []) (tables_of (put range t runs)) (put_permutes t runs)))
         | inr e ↦
             subst (λ (rs : List (List T)). IsPermutation (tables_of (run ∷ runs) ++ t ∷ []) (tables_of rs)) (sym (put_here range t run runs e))
             (IsPermutation-trans (tables_of (run ∷ runs) ++ t ∷ []) (t ∷ (run ++ tables_of runs)) (with_table range t run ++ tables_of runs)
-              (IsPermutation-to_front (run ++ tables_of runs) t)
-              (IsPermutation-append_left (tables_of runs) (t ∷ run) (with_table range t run) (IsPermutation-insert run (how_many (λ r. key_le r.min (range t).min) (map range run)) t)))
+            (IsPermutation-to_front (run ++ tables_of runs) t)
+            (IsPermutation-append_left (tables_of runs) (t ∷ run) (with_table range t run) (IsPermutation-insert run (how_many (λ r. key_le r.min (range t).min) (map range run)) t)))
       ]
 
   pub put_all_permutes : (ts : List T) (runs : List (List T)) → IsPermutation (tables_of runs ++ ts) (tables_of (put_all range ts runs))
   put_all_permutes [] runs = subst (λ (l : List T). IsPermutation l (tables_of runs)) (sym (append-nil (tables_of runs))) (IsPermutation-refl (tables_of runs))
   put_all_permutes (t ∷ ts) runs =
       IsPermutation-trans (tables_of runs ++ t ∷ ts) (tables_of (put range t runs) ++ ts) (tables_of (put_all range ts (put range t runs)))
-        (subst (λ (l : List T). IsPermutation l (tables_of (put range t runs) ++ ts)) (append_assoc (tables_of runs) (t ∷ []) ts)
-          (IsPermutation-append_left ts (tables_of runs ++ t ∷ []) (tables_of (put range t runs)) (put_permutes t runs)))
-        (put_all_permutes ts (put range t runs))
+      (subst (λ (l : List T). IsPermutation l (tables_of (put range t runs) ++ ts)) (append_assoc (tables_of runs) (t ∷ []) ts)
+      (IsPermutation-append_left ts (tables_of runs ++ t ∷ []) (tables_of (put range t runs)) (put_permutes t runs)))
+      (put_all_permutes ts (put range t runs))
 
   pub put_all-append : (ts us : List T) (runs : List (List T)) → put_all range (ts ++ us) runs ≡ put_all range us (put_all range ts runs)
   put_all-append [] us runs = refl
@@ -341,7 +341,7 @@ module _ {T : Type 0} (range : T → Interval) where
             let n_is : n ≡ suc tail = rw e at is in
             let below : tail < length runs = omega arith in
             subst (λ (m : ℕ). set (run ∷ runs) m (with_table range t (get_or (run ∷ runs) m d)) ≡ put range t (run ∷ runs)) (sym n_is)
-              (ap (λ rs. run ∷ rs) (put_set t runs tail d refl below) ∙ sym (put_behind range t run runs e))
+            (ap (λ rs. run ∷ rs) (put_set t runs tail d refl below) ∙ sym (put_behind range t run runs e))
         | inr e ↦
             let n_is : n ≡ 0 = rw e at is in
             subst (λ (m : ℕ). set (run ∷ runs) m (with_table range t (get_or (run ∷ runs) m d)) ≡ put range t (run ∷ runs)) (sym n_is) (sym (put_here range t run runs e))
@@ -424,18 +424,18 @@ module _ {T : Type 0} where
   permutes_in t (run ∷ runs) zero old new lt at same =
       let here : IsPermutation (run ++ t ∷ []) new = subst (λ (l : List T). IsPermutation (l ++ t ∷ []) new) at same in
       IsPermutation-trans ((run ++ tables_of runs) ++ t ∷ []) ((run ++ t ∷ []) ++ tables_of runs) (new ++ tables_of runs)
-        (IsPermutation-trans ((run ++ tables_of runs) ++ t ∷ []) (t ∷ (run ++ tables_of runs)) ((run ++ t ∷ []) ++ tables_of runs)
-          (IsPermutation-to_front (run ++ tables_of runs) t)
-          (IsPermutation-append_left (tables_of runs) (t ∷ run) (run ++ t ∷ []) (IsPermutation-sym (run ++ t ∷ []) (t ∷ run) (IsPermutation-to_front run t))))
-        (IsPermutation-append_left (tables_of runs) (run ++ t ∷ []) new here)
+      (IsPermutation-trans ((run ++ tables_of runs) ++ t ∷ []) (t ∷ (run ++ tables_of runs)) ((run ++ t ∷ []) ++ tables_of runs)
+      (IsPermutation-to_front (run ++ tables_of runs) t)
+      (IsPermutation-append_left (tables_of runs) (t ∷ run) (run ++ t ∷ []) (IsPermutation-sym (run ++ t ∷ []) (t ∷ run) (IsPermutation-to_front run t))))
+      (IsPermutation-append_left (tables_of runs) (run ++ t ∷ []) new here)
   permutes_in t (run ∷ runs) (suc n) old new lt at same =
       subst (λ (l : List T). IsPermutation l (run ++ tables_of (set runs n new))) (sym (append_assoc run (tables_of runs) (t ∷ [])))
-        (IsPermutation-append_right run (tables_of runs ++ t ∷ []) (tables_of (set runs n new)) (permutes_in t runs n old new (omega arith) at same))
+      (IsPermutation-append_right run (tables_of runs ++ t ∷ []) (tables_of (set runs n new)) (permutes_in t runs n old new (omega arith) at same))
 
   pub permutes_behind : (t : T) (items after : List (List T)) (run : List T) → run ≡ t ∷ [] → after ≡ items ++ run ∷ [] → IsPermutation (tables_of items ++ t ∷ []) (tables_of after)
   permutes_behind t items after run only is =
       subst (λ (l : List T). IsPermutation (tables_of items ++ t ∷ []) l) (sym (ap tables_of is ∙ flat_map-append (λ (ts : List T). ts) items (run ∷ []) ∙ ap (λ l. tables_of items ++ l) (append-nil run ∙ only)))
-        (IsPermutation-refl (tables_of items ++ t ∷ []))
+      (IsPermutation-refl (tables_of items ++ t ∷ []))
 
   -- a list with one element more, in any order, is not empty
   more_than_none : (xs ys : List T) (t : T) → IsPermutation (xs ++ t ∷ []) ys → ys ≢ []
@@ -451,24 +451,24 @@ module _ {T : Type 0} where
 
   pub not_empty_behind : (t : T) (items after : List (List T)) (run : List T) → run ≡ t ∷ [] → after ≡ items ++ run ∷ [] → AreNotEmpty items → AreNotEmpty after
   not_empty_behind t items after run only is h = subst AreNotEmpty (sym is) (go items h)
-      where
-        go : (ls : List (List T)) → AreNotEmpty ls → AreNotEmpty (ls ++ run ∷ [])
-        go [] k = ((λ e. let z : t ∷ [] ≡ [] = sym only ∙ e in absurd cc), tt)
-        go (l ∷ ls) k = (k.0, go ls k.1)
+    where
+      go : (ls : List (List T)) → AreNotEmpty ls → AreNotEmpty (ls ++ run ∷ [])
+      go [] k = ((λ e. let z : t ∷ [] ≡ [] = sym only ∙ e in absurd cc), tt)
+      go (l ∷ ls) k = (k.0, go ls k.1)
 
   pub permutes_more : (start done now next : List T) (t : T) → IsPermutation (start ++ done) now → IsPermutation (now ++ t ∷ []) next → IsPermutation (start ++ (done ++ t ∷ [])) next
   permutes_more start done now next t before one =
       IsPermutation-trans (start ++ (done ++ t ∷ [])) (now ++ t ∷ []) next
-        (subst (λ (l : List T). IsPermutation l (now ++ t ∷ [])) (append_assoc start done (t ∷ [])) (IsPermutation-append_left (t ∷ []) (start ++ done) now before))
-        one
+      (subst (λ (l : List T). IsPermutation l (now ++ t ∷ [])) (append_assoc start done (t ∷ [])) (IsPermutation-append_left (t ∷ []) (start ++ done) now before))
+      one
 
   pub permutes_run : (done : List (List T)) (run : List T) (now next : List T) → IsPermutation (tables_of done) now → IsPermutation (now ++ run) next → IsPermutation (tables_of (done ++ run ∷ [])) next
   permutes_run done run now next before one =
       subst (λ (l : List T). IsPermutation l next) (sym (flat_map-append (λ (ts : List T). ts) done (run ∷ []) ∙ ap (λ l. tables_of done ++ l) (append-nil run)))
-        (IsPermutation-trans (tables_of done ++ run) (now ++ run) next (IsPermutation-append_left run (tables_of done) now before) one)
+      (IsPermutation-trans (tables_of done ++ run) (now ++ run) next (IsPermutation-append_left run (tables_of done) now before) one)
 
   pub permutes_inserted : (old items new : List T) (n : ℕ) (t : T) → items ≡ old → new ≡ insert items n t → IsPermutation (old ++ t ∷ []) new
   permutes_inserted old items new n t same is =
       subst (λ (l : List T). IsPermutation (l ++ t ∷ []) new) same
-        (subst (λ (l : List T). IsPermutation (items ++ t ∷ []) l) (sym is)
-          (IsPermutation-trans (items ++ t ∷ []) (t ∷ items) (insert items n t) (IsPermutation-to_front items t) (IsPermutation-insert items n t)))
+      (subst (λ (l : List T). IsPermutation (items ++ t ∷ []) l) (sym is)
+      (IsPermutation-trans (items ++ t ∷ []) (t ∷ items) (insert items n t) (IsPermutation-to_front items t) (IsPermutation-insert items n t)))

@@ -112,20 +112,22 @@ module _ {X : Type 0} (f : X → Interval) (at : X → ℕ) where
   put_apart t [] later h = ((λ x y m n o. absurd n), tt)
   put_apart t (l ∷ ls) later h =
       elim (cases_Bool (touches f (f t) l || list_any (touches f (f t)) ls)) [
-        | inl e ↦ subst (Apart f at) (sym (put_behind f t l ls e))
-            ((λ x y m n o. elim (mem-put_cases t ls y n) [
-                | inl k ↦ h.0 x y m k o
-                | inr is ↦ subst (λ (v : X). at x < at v) (sym is) (later x (mem-append_left l (tables_of ls) x m) (subst (λ (v : X). overlaps (f x) (f v) ≡ true) is o))
-              ]),
-              put_apart t ls (λ y m o. later y (mem-append_right l (tables_of ls) y m) o) h.1)
+        | inl e ↦ subst (Apart f at) (sym (put_behind f t l ls e)) (
+          (λ x y m n o. elim (mem-put_cases t ls y n) [
+            | inl k ↦ h.0 x y m k o
+            | inr is ↦ subst (λ (v : X). at x < at v) (sym is) (later x (mem-append_left l (tables_of ls) x m) (subst (λ (v : X). overlaps (f x) (f v) ≡ true) is o))
+          ]),
+          put_apart t ls (λ y m o. later y (mem-append_right l (tables_of ls) y m) o) h.1,
+        )
         | inr e ↦
             let parted = or_parts (touches f (f t) l) (list_any (touches f (f t)) ls) e in
-            subst (Apart f at) (sym (put_here f t l ls e))
-            ((λ x y m n o. elim (mem-insert_cases l (how_many (λ r. key_le r.min (f t).min) (map f l)) t x m) [
+            subst (Apart f at) (sym (put_here f t l ls e)) (
+              (λ x y m n o. elim (mem-insert_cases l (how_many (λ r. key_le r.min (f t).min) (map f l)) t x m) [
                 | inl k ↦ h.0 x y k n o
                 | inr is ↦ absurd (both_ways (overlaps (f y) (f t)) (untouched f (f t) ls parted.1 y n) (overlaps_comm (f y) (f t) ∙ subst (λ (v : X). overlaps (f v) (f y) ≡ true) is o))
               ]),
-              h.1)
+              h.1,
+            )
       ]
 
   touched : (t : X) (l : List X) → After t l → touches f (f t) l ≡ true → (x : X) × Mem x l × (overlaps (f x) (f t) ≡ true) × (at x < at t)
@@ -163,10 +165,10 @@ module _ {X : Type 0} (f : X → Interval) (at : X → ℕ) where
             (steps_put t l ls later e h.0, put_steps t ls (λ y m o. later y (mem-append_right l (tables_of ls) y m) o) h.1)
         | inr e ↦ subst (Steps f at) (sym (put_here f t l ls e)) (wider ls h.0, h.1)
       ]
-      where
-        wider : (ms : List (List X)) → StepsTo f at l ms → StepsTo f at (with_table f t l) ms
-        wider [] k = tt
-        wider (m ∷ ms) k = λ y n. let s = k y n in (s.0, mem-insert_old l (how_many (λ r. key_le r.min (f t).min) (map f l)) t s.0 s.1, s.2, s.3)
+    where
+      wider : (ms : List (List X)) → StepsTo f at l ms → StepsTo f at (with_table f t l) ms
+      wider [] k = tt
+      wider (m ∷ ms) k = λ y n. let s = k y n in (s.0, mem-insert_old l (how_many (λ r. key_le r.min (f t).min) (map f l)) t s.0 s.1, s.2, s.3)
 
   -- what holds of the levels once all elements are put in
   pub record Stacked (ts : List X) (ls : List (List X)) : Type 0 where
@@ -189,14 +191,14 @@ module _ {X : Type 0} (f : X → Interval) (at : X → ℕ) where
         ];
       } in
       subst (λ (k : List X). Stacked k (put_all f ts (put f t ls))) (append_assoc done (t ∷ []) ts)
-        (stack (done ++ t ∷ []) ts (put f t ls) next r.1
-          (λ u m y n o. elim (mem-append_cases done (t ∷ []) y n) [
-            | inl k ↦ later u (inr m) y k o
-            | inr k ↦ elim k [
-                | inl e ↦ subst (λ (v : X). at v < at u) (sym e) (r.0 u m (subst (λ (v : X). overlaps (f v) (f u) ≡ true) e o))
-                | inr z ↦ absurd z
-              ]
-          ]))
+      (stack (done ++ t ∷ []) ts (put f t ls) next r.1
+      (λ u m y n o. elim (mem-append_cases done (t ∷ []) y n) [
+        | inl k ↦ later u (inr m) y k o
+        | inr k ↦ elim k [
+          | inl e ↦ subst (λ (v : X). at v < at u) (sym e) (r.0 u m (subst (λ (v : X). overlaps (f v) (f u) ≡ true) e o))
+          | inr z ↦ absurd z
+        ]
+      ]))
 
   pub stacked : (ts : List X) → Rises ts → Stacked ts (put_all f ts [])
   stacked ts r = stack [] ts [] (record { apart = tt; steps = tt; from = λ x m. absurd m; has = λ x m. absurd m }) r (λ t m y n o. absurd n)

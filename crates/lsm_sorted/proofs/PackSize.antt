@@ -87,17 +87,17 @@ module _ {X : Type 0} (f : X → Interval) (at : X → ℕ) where
       omega (arith, counted x.0 x.1, upto-length ns (N x.0))
   climb N ns l (m ∷ ms) k grows among counted some packed steps rest =
       let next : suc k + length ms ≤ length ns =
-          climb N ns m ms (suc k)
-            (λ x y p q. grows x y (mem-append_right l (m ++ tables_of ms) x p) (mem-append_right l (m ++ tables_of ms) y q))
-            (λ x p. among x (mem-append_right l (m ++ tables_of ms) x p))
-            (λ y p.
-              let s = steps y p in
-              let mem_s = mem-append_left l (m ++ tables_of ms) s.0 s.1 in
-              let mem_y = mem-append_right l (m ++ tables_of ms) y (mem-append_left m (tables_of ms) y p) in
-              let lower = grows s.0 y mem_s mem_y s.2 s.3 in
-              let y_in = among y mem_y in
-              omega (arith, counted s.0 s.1, upto-grows ns (N s.0) (N y) y_in.0 lower y_in.1 y_in.2))
-            packed.0.1 packed.1 rest.0 rest.1 in
+      climb N ns m ms (suc k)
+      (λ x y p q. grows x y (mem-append_right l (m ++ tables_of ms) x p) (mem-append_right l (m ++ tables_of ms) y q))
+      (λ x p. among x (mem-append_right l (m ++ tables_of ms) x p))
+      (λ y p.
+      let s = steps y p in
+      let mem_s = mem-append_left l (m ++ tables_of ms) s.0 s.1 in
+      let mem_y = mem-append_right l (m ++ tables_of ms) y (mem-append_left m (tables_of ms) y p) in
+      let lower = grows s.0 y mem_s mem_y s.2 s.3 in
+      let y_in = among y mem_y in
+      omega (arith, counted s.0 s.1, upto-grows ns (N s.0) (N y) y_in.0 lower y_in.1 y_in.2))
+      packed.0.1 packed.1 rest.0 rest.1 in
       omega (arith, next)
 
   -- no list of fewer numbers than levels holds the numbers of all elements
@@ -105,18 +105,18 @@ module _ {X : Type 0} (f : X → Interval) (at : X → ℕ) where
   at_least N ns [] grows among packed steps = omega arith
   at_least N ns (l ∷ ls) grows among packed steps =
       let up : 1 + length ls ≤ length ns =
-          climb N ns l ls 1 grows among
-            (λ x p. let x_in = among x (mem-append_left l (tables_of ls) x p) in upto-some ns (N x) x_in.0 x_in.1 x_in.2)
-            packed.0.1 packed.1 steps.0 steps.1 in
+      climb N ns l ls 1 grows among
+      (λ x p. let x_in = among x (mem-append_left l (tables_of ls) x p) in upto-some ns (N x) x_in.0 x_in.1 x_in.2)
+      packed.0.1 packed.1 steps.0 steps.1 in
       omega (arith, up)
 
 any-append : {X : Type 0} (p : X → Bool) (xs ys : List X) → list_any p (xs ++ ys) ≡ (list_any p xs || list_any p ys)
 any-append p [] ys = refl
 any-append p (x ∷ xs) ys = ap (λ b. p x || b) (any-append p xs ys) ∙ assoc (p x) (list_any p xs) (list_any p ys)
-    where
-      assoc : (a b c : Bool) → (a || (b || c)) ≡ ((a || b) || c)
-      assoc true b c = refl
-      assoc false b c = refl
+  where
+    assoc : (a b c : Bool) → (a || (b || c)) ≡ ((a || b) || c)
+    assoc true b c = refl
+    assoc false b c = refl
 
 module _ {X : Type 0} (f : X → Interval) (at : X → ℕ) where
   all_later : (p : Interval → Bool) (xs : List X) → list_all p (map f xs) ≡ true → (y : X) → Mem y xs → p (f y) ≡ true
@@ -238,11 +238,11 @@ module _ {T : Type 0} where
       let a : i ≡ i + 0 = omega arith in
       let b : 0 + m ≡ m = omega arith in
       mem-append_left (tags_in i 0 run) (tags (suc i) runs) (tagged t (i + 0) m)
-        (subst (λ (v : ℕ). Mem (tagged t v m) (tags_in i 0 run)) a (subst (λ (v : ℕ). Mem (tagged t i v) (tags_in i 0 run)) b (tag_in_run i 0 m run t h)))
+      (subst (λ (v : ℕ). Mem (tagged t v m) (tags_in i 0 run)) a (subst (λ (v : ℕ). Mem (tagged t i v) (tags_in i 0 run)) b (tag_in_run i 0 m run t h)))
   tag_in_runs i (suc n) m (run ∷ runs) t h =
       let a : suc i + n ≡ i + suc n = omega arith in
       mem-append_right (tags_in i 0 run) (tags (suc i) runs) (tagged t (i + suc n) m)
-        (subst (λ (v : ℕ). Mem (tagged t v m) (tags (suc i) runs)) a (tag_in_runs (suc i) n m runs t h))
+      (subst (λ (v : ℕ). Mem (tagged t v m) (tags (suc i) runs)) a (tag_in_runs (suc i) n m runs t h))
 
   pub has_tag : (runs : List (List T)) (i j : ℕ) (t : T) → table_at runs i j ≡ Some t → Mem (tagged t i j) (tags 0 runs)
   has_tag runs i j t h = let a : 0 + i ≡ i = omega arith in subst (λ (v : ℕ). Mem (tagged t v j) (tags 0 runs)) a (tag_in_runs 0 i j runs t h)
@@ -272,21 +272,23 @@ module _ {T : Type 0} (range : T → Interval) where
   rises_in : (i j : ℕ) (ts : List T) → disjoint (map range ts) ≡ true → Rises range_of run_of (tags_in i j ts)
   rises_in i j [] h = tt
   rises_in i j (t ∷ ts) h =
-      let k = and_parts (not (list_any (overlaps (range t)) (map range ts))) (disjoint (map range ts)) h in
-      ((λ y m o. absurd (both_ways (overlaps (range t) (range y.table)) (any_fails (overlaps (range t)) (map range ts) (not-true (list_any (overlaps (range t)) (map range ts)) k.0) (range y.table) (mem_range i (suc j) ts y m)) o)),
-        rises_in i (suc j) ts k.1)
+      let k = and_parts (not (list_any (overlaps (range t)) (map range ts))) (disjoint (map range ts)) h in (
+        (λ y m o. absurd (both_ways (overlaps (range t) (range y.table)) (any_fails (overlaps (range t)) (map range ts) (not-true (list_any (overlaps (range t)) (map range ts)) k.0) (range y.table) (mem_range i (suc j) ts y m)) o)),
+        rises_in i (suc j) ts k.1,
+      )
 
   rises-append : (xs ys : List (Tagged T)) → Rises range_of run_of xs → Rises range_of run_of ys → ((x y : Tagged T) → Mem x xs → Mem y ys → x.run < y.run) → Rises range_of run_of (xs ++ ys)
   rises-append [] ys rx ry later = ry
-  rises-append (x ∷ xs) ys rx ry later =
-      ((λ y m o. elim (mem-append_cases xs ys y m) [ inl a ↦ rx.0 y a o | inr b ↦ later x y (inl refl) b ]),
-        rises-append xs ys rx.1 ry (λ u v m n. later u v (inr m) n))
+  rises-append (x ∷ xs) ys rx ry later = (
+    (λ y m o. elim (mem-append_cases xs ys y m) [ inl a ↦ rx.0 y a o | inr b ↦ later x y (inl refl) b ]),
+    rises-append xs ys rx.1 ry (λ u v m n. later u v (inr m) n),
+  )
 
   pub rises_all : (i : ℕ) (runs : List (List T)) → AllByRecursion (λ run. disjoint (map range run) ≡ true) runs → Rises range_of run_of (tags i runs)
   rises_all i [] h = tt
   rises_all i (run ∷ runs) h =
       rises-append (tags_in i 0 run) (tags (suc i) runs) (rises_in i 0 run h.0) (rises_all (suc i) runs h.1)
-        (λ x y m n. let a = in_run i 0 run x m in let b = in_runs (suc i) runs y n in omega (arith, a.0, b.1))
+      (λ x y m n. let a = in_run i 0 run x m in let b = in_runs (suc i) runs y n in omega (arith, a.0, b.1))
 
   pub formed-map : {X : Type 0} (g : X → T) (xs : List X) → AreFormed range (map g xs) → AreFormed (λ x. range (g x)) xs
   formed-map g [] h = tt
@@ -328,7 +330,7 @@ module _ {X T : Type 0} (g : X → T) (range : T → Interval) where
   put-map x (l ∷ ls) =
       let r = range (g x) in
       let same : (touches (λ v. range (g v)) r l || list_any (touches (λ v. range (g v)) r) ls) ≡ (touches range r (map g l) || list_any (touches range r) (map (map g) ls)) =
-          ap (λ b. b || list_any (touches (λ v. range (g v)) r) ls) (touches-map r l) ∙ ap (λ b. touches range r (map g l) || b) (any_touches-map r ls) in
+      ap (λ b. b || list_any (touches (λ v. range (g v)) r) ls) (touches-map r l) ∙ ap (λ b. touches range r (map g l) || b) (any_touches-map r ls) in
       elim (cases_Bool (touches (λ v. range (g v)) (range (g x)) l || list_any (touches (λ v. range (g v)) (range (g x))) ls)) [
         | inl e ↦
             ap (map (map g)) (put_behind (λ v. range (g v)) x l ls e)
@@ -360,7 +362,7 @@ module _ {T : Type 0} (range : T → Interval) (runs : List (List T)) (h : AreDi
   unfolding levels
   levels_packed =
       put_all_packed (range_of range) (tags 0 runs) []
-        (formed-map range (λ (x : Tagged T). x.table) (tags 0 runs) (subst (AreFormed range) (sym (tables_tagged 0 runs)) h.formed)) tt
+      (formed-map range (λ (x : Tagged T). x.table) (tags 0 runs) (subst (AreFormed range) (sym (tables_tagged 0 runs)) h.formed)) tt
 
   size_is : length levels ≡ length (put_all range (tables_of runs) [])
   unfolding levels
@@ -392,22 +394,23 @@ module _ {T : Type 0} (range : T → Interval) (runs : List (List T)) (h : AreDi
   least_levels : IsLeastSize range runs (length levels)
   least_levels = record {
     at_least = λ number ns placement holds.
-      at_least (range_of range) (run_of range) (λ x. number x.run x.place) ns levels
+        at_least (range_of range) (run_of range) (λ x. number x.run x.place) ns levels
         (λ x y p q o lt. placement.keeps x.run x.place y.run y.place x.table y.table lt (tag_at runs x (levels_stacked.from x p)) (tag_at runs y (levels_stacked.from y q)) o)
         (λ x p. holds x.run x.place x.table (tag_at runs x (levels_stacked.from x p)))
         levels_packed levels_stacked.steps;
-    reached =
-      ((λ i j. level_of (range_of range) (run_of range) (is_at i j) levels),
-        record {
-          keeps = λ i j i' j' t t' lt a b o.
+    reached = (
+      (λ i j. level_of (range_of range) (run_of range) (is_at i j) levels),
+      record {
+        keeps = λ i j i' j' t t' lt a b o.
             level_rises (range_of range) (run_of range) (is_at i j) (is_at i' j') levels
-              (λ x y m n px qy.
-                let k = table_is x i j t (levels_stacked.from x m) px a in
-                let l = table_is y i' j' t' (levels_stacked.from y n) qy b in
-                (ap (λ v. overlaps (range v) (range y.table)) k.0 ∙ ap (λ v. overlaps (range t) (range v)) l.0 ∙ o, omega (arith, k.1, l.1, lt)))
-              levels_stacked.apart levels_packed (found_at i j t a) (found_at i' j' t' b);
-        },
-        (λ i j t a. level_below (range_of range) (run_of range) (is_at i j) levels (found_at i j t a)));
+            (λ x y m n px qy.
+            let k = table_is x i j t (levels_stacked.from x m) px a in
+            let l = table_is y i' j' t' (levels_stacked.from y n) qy b in
+            (ap (λ v. overlaps (range v) (range y.table)) k.0 ∙ ap (λ v. overlaps (range t) (range v)) l.0 ∙ o, omega (arith, k.1, l.1, lt)))
+            levels_stacked.apart levels_packed (found_at i j t a) (found_at i' j' t' b);
+      },
+      (λ i j t a. level_below (range_of range) (run_of range) (is_at i j) levels (found_at i j t a)),
+    );
   }
 
   pub least_size : IsLeastSize range runs (length (put_all range (tables_of runs) []))
@@ -424,8 +427,8 @@ least_single {T = T} range ((t ∷ ts) ∷ []) le h = record {
   at_least = λ number ns placement holds. let k = holds 0 0 t refl in omega (arith, k.1);
   reached = ((λ i j. 0), record { keeps = λ i j i' j' u u' lt a b o. absurd (past i i' j' u' lt b) }, (λ i j u a. omega arith));
 }
-    where
-      past : (i i' j' : ℕ) (u' : T) → i < i' → table_at ((t ∷ ts) ∷ []) i' j' ≡ Some u' → ⊥
-      past i zero j' u' lt b = omega arith
-      past i (suc i') j' u' lt b = cc
+  where
+    past : (i i' j' : ℕ) (u' : T) → i < i' → table_at ((t ∷ ts) ∷ []) i' j' ≡ Some u' → ⊥
+    past i zero j' u' lt b = omega arith
+    past i (suc i') j' u' lt b = cc
 least_single range (run ∷ other ∷ runs) le h = absurd (omega arith)

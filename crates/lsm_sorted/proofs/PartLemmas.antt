@@ -1,5 +1,5 @@
 -- Where a part of the entries is compacted, a reader at the watermark or above sees the same.
-use Rattle.std.proofs.Common.{◌≡◌, ◌≢◌, refl, sym, ◌∙◌, ap, subst, ℕ, ◌+◌, ◌<◌, ◌≤◌, ◌⊎◌, inl, inr, Bool, true, false, cond, not, ◌&&◌, nat_lt, nat_eq, List, [], ◌∷◌, ◌++◌, length, count_by, arith}
+use Rattle.std.proofs.Common.{◌≡◌, ◌≢◌, refl, sym, ◌∙◌, ap, subst, ℕ, ◌<◌, ◌≤◌, ◌⊎◌, inl, inr, Bool, true, false, cond, ◌&&◌, nat_lt, nat_eq, List, [], ◌∷◌, ◌++◌, length, count_by, arith}
 use Rattle.std.specs.Prelude.{Option, Some, None}
 use Rattle.std.specs.List.{AllByRecursion}
 use Rattle.std.specs.Ordering.{nat_cmp, is_gt, ordering_then, MatchOrdering}
@@ -12,16 +12,16 @@ use Rattle.std.proofs.lemmas.List.Sums.{sum_by-cons}
 use Rattle.sst_blocks.specs.Entry.{Entry}
 use Rattle.sst_blocks.specs.Kind.{tag_of}
 use Rattle.sst_blocks.specs.Key.{same_key, key_lt}
-use Rattle.sst_blocks.specs.Stream.{first, all_ok}
+use Rattle.sst_blocks.specs.Stream.{first}
 use Rattle.sst_blocks.specs.declared.value_type.ValueType.{ValueType}
 use Rattle.sst_blocks.specs.declared.value_type.ValueType.TheVariants.{Value, Tombstone, WeakTombstone, Indirection}
 use Rattle.lsm_sorted.specs.Union.{Ascends, AtMost, SameBag}
-use Rattle.lsm_sorted.specs.Point.{is_hit, point, shown, seen}
+use Rattle.lsm_sorted.specs.Point.{is_hit, point, shown}
 use Rattle.lsm_sorted.specs.Compaction.{Rules, goes, zeroed, kept, unfiltered}
-use Rattle.lsm_sorted.specs.ReadLaw.{Precedes, Strict, Distinct, AllNewer, IsMerged, is_weak, IsPlain, PartLaw}
-use Rattle.lsm_sorted.proofs.KeyLemmas.{KeyLe, same_is, same_itself, le_itself, gt_first}
-use Rattle.lsm_sorted.proofs.OutsLemmas.{AllOf, follows_in}
-use Rattle.lsm_sorted.proofs.ReadLemmas.{left_alone, and_both, and_not, apart, all_rest, none_before, none_of_other, not_under, same_within}
+use Rattle.lsm_sorted.specs.ReadLaw.{Precedes, Strict, Distinct, AllNewer, IsMerged, is_weak, PartLaw}
+use Rattle.lsm_sorted.proofs.KeyLemmas.{same_is, same_itself, le_itself, gt_first}
+use Rattle.lsm_sorted.proofs.OutsLemmas.{AllOf}
+use Rattle.lsm_sorted.proofs.ReadLemmas.{and_both, and_not, apart, all_rest, none_before, none_of_other, not_under, same_within}
 use Rattle.lsm_sorted.proofs.KeptLemmas.{kept_by, all_kept, zeroed_below, strict_up, stays_strict}
 
 -- x is among xs

@@ -1,20 +1,19 @@
 -- A reader at the watermark or above sees the same before and after a compaction.
-use Rattle.std.proofs.Common.{◌≡◌, refl, sym, ◌∙◌, ap, subst, ℕ, ◌+◌, ◌<◌, ◌≤◌, ◌⊎◌, inl, inr, Bool, true, false, cond, not, ◌&&◌, nat_lt, List, [], ◌∷◌, ◌++◌, length, map, append_assoc, arith, zero, suc}
-use Rattle.std.specs.Prelude.{Option, Some, None, Result, Ok, Err}
-use Rattle.std.specs.List.{AllByRecursion, find}
+use Rattle.std.proofs.Common.{◌≡◌, refl, sym, ◌∙◌, ap, subst, ℕ, ◌<◌, ◌≤◌, ◌⊎◌, inl, inr, Bool, true, false, cond, ◌&&◌, nat_lt, List, [], ◌∷◌, ◌++◌, length, arith, zero, suc}
+use Rattle.std.specs.Prelude.{Option, Some, None, Ok}
+use Rattle.std.specs.List.{AllByRecursion}
 use Rattle.std.proofs.lemmas.Bool.Decides.{nat_tests}
 use Rattle.sst_blocks.specs.Entry.{Entry}
 use Rattle.sst_blocks.specs.Kind.{is_tombstone_kind}
 use Rattle.sst_blocks.specs.Key.{same_key, key_lt}
 use Rattle.sst_blocks.specs.Stream.{first, all_ok}
-use Rattle.sst_blocks.specs.declared.error.Error.{Error}
 use Rattle.sst_blocks.specs.declared.value_type.ValueType.{ValueType}
 use Rattle.sst_blocks.specs.declared.value_type.ValueType.TheVariants.{Value, Tombstone, WeakTombstone, Indirection}
 use Rattle.lsm_sorted.specs.Ends.{R}
-use Rattle.lsm_sorted.specs.Union.{entries_of, Ascends}
+use Rattle.lsm_sorted.specs.Union.{entries_of}
 use Rattle.lsm_sorted.specs.Point.{is_hit, point, shown, seen}
-use Rattle.lsm_sorted.specs.Compaction.{Judged, JudgedItem, Rules, goes, zeroed, outs, kept, as_is, unfiltered}
-use Rattle.lsm_sorted.specs.ReadLaw.{AllBelow, IsServed, ReadLaw}
+use Rattle.lsm_sorted.specs.Compaction.{JudgedItem, Rules, goes, zeroed, outs, kept, as_is, unfiltered}
+use Rattle.lsm_sorted.specs.ReadLaw.{IsServed, ReadLaw}
 use Rattle.lsm_sorted.proofs.KeyLemmas.{KeyLe, same_is, same_itself, lt_other, le_other, lt_le}
 use Rattle.lsm_sorted.proofs.NewestLemmas.{KeysUp, keys_up}
 use Rattle.lsm_sorted.proofs.OutsLemmas.{AllOf, follows_in, open_outs, close_outs}

@@ -60,7 +60,7 @@ parts r rs h =
 pub in_order_from : (r : Interval) (rs : List Interval) → Parts r rs → in_order (r ∷ rs) ≡ true
 in_order_from r rs h =
     and_from (well_formed r && list_all (λ later. key_lt r.max later.min) rs) (in_order rs)
-      (and_from (well_formed r) (list_all (λ later. key_lt r.max later.min) rs) h.formed h.before) h.rest
+    (and_from (well_formed r) (list_all (λ later. key_lt r.max later.min) rs) h.formed h.before) h.rest
 
 module _ {T : Type 0} (f : T → Interval) where
   -- what holds of each of a list holds of the one at a place
@@ -98,8 +98,8 @@ module _ {T : Type 0} (f : T → Interval) where
       let b = and_parts (key_lt r.max (f x).min) (list_all (λ later. key_lt r.max later.min) (map f xs)) before in
       let k = parts (f x) (map f xs) ordered in
       and_from (not (p (f x))) (list_all (λ t. not (p (f t))) xs)
-        (not_by (p (f x)) (λ q. both_ways (p r) no_pass (falls.at r (f x) wr k.formed b.0 q)))
-        (later_fails p falls r wr no_pass xs b.1 k.rest)
+      (not_by (p (f x)) (λ q. both_ways (p r) no_pass (falls.at r (f x) wr k.formed b.0 q)))
+      (later_fails p falls r wr no_pass xs b.1 k.rest)
 
   pub in_order-drop : (n : ℕ) (xs : List T) → in_order (map f xs) ≡ true → in_order (map f (drop n xs)) ≡ true
   in_order-drop zero xs h = h
@@ -230,24 +230,24 @@ module _ {T : Type 0} (f : T → Interval) where
 
     pub key_found : (t : T) → Some t ≡ slice_get rest 0 → key_le (f t).min key ≡ true → Some t ≡ find (λ t'. has_key (f t') key) xs
     key_found t at starts = sym (key_among ∙ go rest at)
-        where
-          go : (ys : List T) → Some t ≡ slice_get ys 0 → first (filter (λ x. key_le (f x).min key) ys) ≡ Some t
-          go [] h = absurd cc
-          go (y ∷ ys) h = let e : t ≡ y = cc in subst (λ (v : T). first (filter (λ x. key_le (f x).min key) (v ∷ ys)) ≡ Some t) e (passes_first (λ r. key_le r.min key) t ys starts)
+      where
+        go : (ys : List T) → Some t ≡ slice_get ys 0 → first (filter (λ x. key_le (f x).min key) ys) ≡ Some t
+        go [] h = absurd cc
+        go (y ∷ ys) h = let e : t ≡ y = cc in subst (λ (v : T). first (filter (λ x. key_le (f x).min key) (v ∷ ys)) ≡ Some t) e (passes_first (λ r. key_le r.min key) t ys starts)
 
     pub key_past : (t : T) → Some t ≡ slice_get rest 0 → key_le (f t).min key ≡ false → None ≡ find (λ t'. has_key (f t') key) xs
     key_past t at starts = sym (key_among ∙ go rest at (rest_in_order xs rest n rest_is ordered))
-        where
-          go : (ys : List T) → Some t ≡ slice_get ys 0 → in_order (map f ys) ≡ true → first (filter (λ x. key_le (f x).min key) ys) ≡ None
-          go [] h o = absurd cc
-          go (y ∷ ys) h o = let e : t ≡ y = cc in none_after (λ r. key_le r.min key) (falls-starts_within (Included key)) y ys o (subst (λ (v : T). key_le (f v).min key ≡ false) e starts)
+      where
+        go : (ys : List T) → Some t ≡ slice_get ys 0 → in_order (map f ys) ≡ true → first (filter (λ x. key_le (f x).min key) ys) ≡ None
+        go [] h o = absurd cc
+        go (y ∷ ys) h o = let e : t ≡ y = cc in none_after (λ r. key_le r.min key) (falls-starts_within (Included key)) y ys o (subst (λ (v : T). key_le (f v).min key ≡ false) e starts)
 
     pub key_none : None ≡ slice_get rest 0 → None ≡ find (λ t'. has_key (f t') key) xs
     key_none at = sym (key_among ∙ go rest at)
-        where
-          go : (ys : List T) → None ≡ slice_get ys 0 → first (filter (λ x. key_le (f x).min key) ys) ≡ None
-          go [] h = refl
-          go (y ∷ ys) h = absurd cc
+      where
+        go : (ys : List T) → None ≡ slice_get ys 0 → first (filter (λ x. key_le (f x).min key) ys) ≡ None
+        go [] h = refl
+        go (y ∷ ys) h = absurd cc
 
   -- the last of a list with its first is at the place before its length
   last_at : (x : T) (xs : List T) (d : T) → last_max (f x) (map f xs) ≡ (f (get_or (x ∷ xs) (length xs) d)).max
@@ -309,10 +309,10 @@ module _ {T : Type 0} (f : T → Interval) where
   found_between e s q falls_e falls_s agree kr whole tables rest part low high n m same low_is high_is n_is rest_is m_is part_is whole_ordered =
       let ordered : in_order (map f tables) ≡ true = subst (λ (ys : List T). in_order (map f ys) ≡ true) (sym same) whole_ordered in
       middle f (e kr.min) (s kr.max) (q kr) (falls_e kr.min) (falls_s kr.max) (agree kr) tables rest part n m ordered
-        (n_is ordered ∙ ap (λ k. how_many (e k) (map f tables)) low_is)
-        rest_is
-        (m_is (rest_in_order f tables rest n rest_is ordered) ∙ ap (λ k. how_many (s k) (map f rest)) high_is)
-        part_is
+      (n_is ordered ∙ ap (λ k. how_many (e k) (map f tables)) low_is)
+      rest_is
+      (m_is (rest_in_order f tables rest n rest_is ordered) ∙ ap (λ k. how_many (s k) (map f rest)) high_is)
+      part_is
       ∙ ap (λ ys. filter (λ t. q kr (f t)) ys) same
 
   pub overlapping : (kr : Interval) (whole tables rest part : List T) (low high : List ℕ) (n m : ℕ) → tables ≡ whole → low ≡ kr.min → high ≡ kr.max → (in_order (map f tables) ≡ true → n ≡ how_many (ends_before (Included low)) (map f tables)) → rest ≡ drop n tables → (in_order (map f rest) ≡ true → m ≡ how_many (starts_within (Included high)) (map f rest)) → part ≡ take m rest → in_order (map f whole) ≡ true → part ≡ filter (λ t. overlaps (f t) kr) whole

@@ -1,17 +1,14 @@
 -- Draining a key, and settling a head.
-use Rattle.std.proofs.Common.{◌≡◌, refl, sym, ◌∙◌, ap, subst, ℕ, Bool, true, false, cond, not, ◌&&◌, nat_lt, List, [], ◌∷◌, ◌++◌}
-use Rattle.std.specs.Prelude.{Option, Some, None, Result, Ok, Err}
+use Rattle.std.proofs.Common.{◌≡◌, refl, sym, ◌∙◌, ap, subst, ℕ, Bool, true, false, cond, not, ◌&&◌, nat_lt, List, [], ◌∷◌}
+use Rattle.std.specs.Prelude.{Some, None, Result, Ok, Err}
 use Rattle.sst_blocks.specs.Entry.{Entry}
-use Rattle.sst_blocks.specs.Kind.{is_tombstone_kind}
 use Rattle.sst_blocks.specs.Key.{same_key}
-use Rattle.sst_blocks.specs.Stream.{first, but_first, stopped, stopped_result, DealsFirst}
+use Rattle.sst_blocks.specs.Stream.{first, but_first, stopped_result, DealsFirst}
 use Rattle.sst_blocks.specs.declared.error.Error.{Error}
-use Rattle.sst_blocks.specs.declared.value_type.ValueType.{ValueType}
-use Rattle.sst_blocks.specs.declared.value_type.ValueType.TheVariants.{Value, Tombstone, WeakTombstone, Indirection}
 use Rattle.lsm_sorted.specs.Ends.{R}
 use Rattle.lsm_sorted.specs.Newest.{after_key}
 use Rattle.lsm_sorted.specs.Compaction.{Rules, goes, zeroed}
-use Rattle.lsm_sorted.specs.Compacting.{of_key, follows, Turn, unless, close, settled, GetsAll}
+use Rattle.lsm_sorted.specs.Compacting.{of_key, Turn, unless, close, settled, GetsAll}
 use Rattle.lsm_sorted.specs.CompactionState.{refusal, error_first, past_error, DrainsKey, answer_of, Settles}
 use Rattle.lsm_sorted.proofs.EndsLemmas.{none_first}
 use Rattle.lsm_sorted.proofs.MvccLemmas.{from_first}

@@ -82,8 +82,8 @@ rest_of : (xs : List (Bor Interval)) (i : ℕ) (x : Bor Interval) (later : List 
 rest_of xs i x later lt is rest =
     at_drop_more (λ rs. disjoint (intervals rs)) xs i x lt
     ∙ subst (λ (y : Bor Interval). disjoint (intervals (y ∷ drop (i + 1) xs)) ≡ (not (list_any (λ z. overlaps x.now z.now) later) && disjoint (intervals later))) is
-      (subst (λ (ys : List (Bor Interval)). disjoint (intervals (x ∷ ys)) ≡ (not (list_any (λ z. overlaps x.now z.now) later) && disjoint (intervals later))) rest
-        (ap (λ b. not b && disjoint (intervals later)) (any-map (overlaps x.now) (λ (r : Bor Interval). r.now) later)))
+    (subst (λ (ys : List (Bor Interval)). disjoint (intervals (x ∷ ys)) ≡ (not (list_any (λ z. overlaps x.now z.now) later) && disjoint (intervals later))) rest
+    (ap (λ b. not b && disjoint (intervals later)) (any-map (overlaps x.now) (λ (r : Bor Interval). r.now) later)))
 
 -- an interval that overlaps no later one may be left out
 pub disjoint_rest : (xs : List (Bor Interval)) (i : ℕ) (x : Bor Interval) (later : List (Bor Interval)) (r : Bool) → i < length xs → x ≡ get_or xs i x → later ≡ drop (i + 1) xs → r ≡ list_any (λ y. overlaps x.now y.now) later → r ≡ false → disjoint (intervals (drop i xs)) ≡ disjoint (intervals (drop (i + 1) xs))
@@ -101,8 +101,8 @@ pub aggregate_at_end : (ranges : List (Bor Interval)) (first : Bor Interval) (ot
 aggregate_at_end ranges first others low₀ high₀ low high i min max split is_low is_high along past min_is max_is =
     subst (λ (rs : List (Bor Interval)). IsAggregate (intervals rs) (interval min max)) (sym split)
     (aggregate_of first.now (intervals others) (interval min max)
-      (ap (λ k. interval k max) min_is ∙ ap (λ k. interval low k) max_is
-      ∙ sym (ap (λ rs. span_from low high (intervals rs)) (drop_of_length-le others past))
-      ∙ sym along
-      ∙ ap (λ k. span_from k high₀ (intervals others)) is_low
-      ∙ ap (λ k. span_from first.now.min k (intervals others)) is_high))
+    (ap (λ k. interval k max) min_is ∙ ap (λ k. interval low k) max_is
+    ∙ sym (ap (λ rs. span_from low high (intervals rs)) (drop_of_length-le others past))
+    ∙ sym along
+    ∙ ap (λ k. span_from k high₀ (intervals others)) is_low
+    ∙ ap (λ k. span_from first.now.min k (intervals others)) is_high))

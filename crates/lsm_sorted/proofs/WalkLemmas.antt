@@ -79,20 +79,21 @@ module _ {T : Type 0} (range : T → Interval) where
   chain_more : (runs : List (List T)) (packed : List (List (Link T))) (above : Option (Link T)) (chain : List (ℕ × ℕ)) (level : ℕ) (link : Link T) → Walk packed above chain level → AreAtPlaces runs (tables_of packed) → Mem link (tables_of packed) → MatchOption above (Unit {0}) (λ a. IsBelow range link a) → IsChain range runs ((link.run, link.index) ∷ reverse chain)
   chain_more runs packed None chain level link w places m below =
       subst (λ (ps : List (ℕ × ℕ)). IsChain range runs ((link.run, link.index) ∷ reverse ps)) (sym (w.none refl).0)
-        (link.table.now, all_of (λ (l : Link T). table_at runs l.run l.index ≡ Some l.table.now) (tables_of packed) places link m)
+      (link.table.now, all_of (λ (l : Link T). table_at runs l.run l.index ≡ Some l.table.now) (tables_of packed) places link m)
   chain_more runs packed (Some a) chain level link w places m below =
       let t = w.top a refl in
       let rest = t.1.0 in
-      subst (λ (ps : List (ℕ × ℕ)). IsChain range runs ((link.run, link.index) ∷ ps)) (sym t.1.1)
-        (record {
-            first = link.table.now;
-            second = a.table.now;
-            first_at = all_of (λ (l : Link T). table_at runs l.run l.index ≡ Some l.table.now) (tables_of packed) places link m;
-            second_at = all_of (λ (l : Link T). table_at runs l.run l.index ≡ Some l.table.now) (tables_of packed) places a t.0;
-            later = below.0;
-            overlap = below.1;
-          },
-          subst (λ (ps : List (ℕ × ℕ)). IsChain range runs ps) t.1.1 (w.linked runs places))
+      subst (λ (ps : List (ℕ × ℕ)). IsChain range runs ((link.run, link.index) ∷ ps)) (sym t.1.1) (
+        record {
+          first = link.table.now;
+          second = a.table.now;
+          first_at = all_of (λ (l : Link T). table_at runs l.run l.index ≡ Some l.table.now) (tables_of packed) places link m;
+          second_at = all_of (λ (l : Link T). table_at runs l.run l.index ≡ Some l.table.now) (tables_of packed) places a t.0;
+          later = below.0;
+          overlap = below.1;
+        },
+        subst (λ (ps : List (ℕ × ℕ)). IsChain range runs ps) t.1.1 (w.linked runs places),
+      )
 
   pub walk_on : (packed : List (List (Link T))) (above : Option (Link T)) (chain next : List (ℕ × ℕ)) (level : ℕ) (run : List (Link T)) (link : Link T) → Walk packed above chain level → 0 < level → level ≤ length packed → run ≡ get_or packed (level - 1) run → Contains run link → MatchOption above (Unit {0}) (λ a. IsBelow range link a) → next ≡ chain ++ (link.run, link.index) ∷ [] → Walk packed (Some link) next (level - 1)
   walk_on packed above chain next level run link w some le at within below is =
@@ -103,7 +104,7 @@ module _ {T : Type 0} (range : T → Interval) where
       record {
         linked = λ runs places. subst (λ (ps : List (ℕ × ℕ)). IsChain range runs ps) (sym turned) (chain_more runs packed above chain level link w places among below);
         top = λ a e. let g : link ≡ a = cc in
-          (subst (λ (v : Link T). Mem v (tables_of packed)) g among, (reverse chain, turned ∙ ap (λ (v : Link T). (v.run, v.index) ∷ reverse chain) g));
+            (subst (λ (v : Link T). Mem v (tables_of packed)) g among, (reverse chain, turned ∙ ap (λ (v : Link T). (v.run, v.index) ∷ reverse chain) g));
         none = λ e. absurd cc;
         counted = λ s. let k = w.counted s in let long = ap length is ∙ length-append chain ((link.run, link.index) ∷ []) in omega (arith, k, long);
         last_run = λ a e. let g : link ≡ a = cc in (run, here, subst (λ (v : Link T). Mem v run) g member);
@@ -115,15 +116,15 @@ module _ {T : Type 0} (range : T → Interval) where
       let here : slice_get packed (level - 1) ≡ Some run = slice_at packed (level - 1) run (omega arith) at in
       let place : suc (level - 1) ≡ level = omega arith in
       by above refl here place
-      where
-        by : (o : Option (Link T)) → above ≡ o → slice_get packed (level - 1) ≡ Some run → suc (level - 1) ≡ level → ⊥
-        by None e here place = first e (some_at packed (level - 1) run here stack.some)
-        by (Some a) e here place =
-            let l = w.last_run a e in
-            let there : slice_get packed (suc (level - 1)) ≡ Some l.0 = ap (λ n. slice_get packed n) place ∙ l.1 in
-            next a e (order_of range_of run_of packed (level - 1) run here stack.order)
-              (λ x c o. apart_at range_of run_of packed (level - 1) run l.0 here there stack.apart x a (contains_mem run x c) l.2 o)
-              (steps_at range_of run_of packed (level - 1) run l.0 here there stack.steps a l.2)
+    where
+      by : (o : Option (Link T)) → above ≡ o → slice_get packed (level - 1) ≡ Some run → suc (level - 1) ≡ level → ⊥
+      by None e here place = first e (some_at packed (level - 1) run here stack.some)
+      by (Some a) e here place =
+          let l = w.last_run a e in
+          let there : slice_get packed (suc (level - 1)) ≡ Some l.0 = ap (λ n. slice_get packed n) place ∙ l.1 in
+          next a e (order_of range_of run_of packed (level - 1) run here stack.order)
+          (λ x c o. apart_at range_of run_of packed (level - 1) run l.0 here there stack.apart x a (contains_mem run x c) l.2 o)
+          (steps_at range_of run_of packed (level - 1) run l.0 here there stack.steps a l.2)
 
   -- no place yet means no step yet
   not_started : (packed : List (List (Link T))) (above : Option (Link T)) (chain : List (ℕ × ℕ)) (level : ℕ) → Walk packed above chain level → chain ≡ [] → above ≡ None

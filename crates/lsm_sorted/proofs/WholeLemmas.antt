@@ -1,8 +1,8 @@
 -- Whole compactions, from their calls.
-use Rattle.std.proofs.Common.{◌≡◌, refl, sym, ◌∙◌, ap, subst, ℕ, Bool, true, false, cond, not, List, [], ◌∷◌, ◌++◌, map}
+use Rattle.std.proofs.Common.{◌≡◌, refl, sym, ◌∙◌, ap, subst, ℕ, Bool, true, false, cond, not, List, [], ◌∷◌, ◌++◌}
 use Rattle.std.specs.Prelude.{Option, Some, None, Result, Ok, Err, is_ok}
 use Rattle.std.specs.List.{AllByRecursion}
-use Rattle.std.specs.Iterator.{Count, Yields, YieldsThen}
+use Rattle.std.specs.Iterator.{Count, Yields}
 use Rattle.sst_blocks.specs.Entry.{Entry}
 use Rattle.sst_blocks.specs.Kind.{is_tombstone_kind}
 use Rattle.sst_blocks.specs.declared.stream.Direction.{Direction}
@@ -13,11 +13,11 @@ use Rattle.lsm_sorted.specs.declared.compaction.stream.CompactionStream.{Compact
 use Rattle.sst_blocks.proofs.StreamLemmas.{deals_by, can_by, tail_eq}
 use Rattle.lsm_sorted.specs.Union.{entries_of}
 use Rattle.lsm_sorted.specs.Ends.{R}
-use Rattle.lsm_sorted.specs.Compaction.{Verdict, keep, replace, drop, Judged, JudgedItem, items, Rules, told_by, told, is_cut, heads, expired, zeroed, given_by, given, Versions, is_version_of, before, by_key, gone, error_of, entries, outs_of, joined, outs, reported, asked, kept, as_is, as_they_are, unfiltered}
-use Rattle.lsm_sorted.specs.Compacting.{turned, AsksIf, Asks, SaysOf, GetsAll, Turns, Calls, ended, failed, answered, again, KeepsTombstones, Compacted}
+use Rattle.lsm_sorted.specs.Compaction.{Verdict, keep, replace, drop, Judged, JudgedItem, items, Rules, told_by, told, is_cut, heads, expired, zeroed, given_by, given, Versions, is_version_of, before, by_key, gone, error_of, entries, outs_of, joined, outs, kept, as_is, as_they_are, unfiltered}
+use Rattle.lsm_sorted.specs.Compacting.{AsksIf, Asks, Turns, Calls, ended, failed, answered, again, Compacted}
 use Rattle.lsm_sorted.specs.CompactionState.{rules_of, filter_of, callback_of, Compacts, MayCompact, CompactsNext}
 use Rattle.lsm_sorted.proofs.OutsLemmas.{listed, judged}
-use Rattle.lsm_sorted.proofs.TurnLemmas.{EachJudged, Explained, turn_explained}
+use Rattle.lsm_sorted.proofs.TurnLemmas.{EachJudged, turn_explained}
 use Rattle.lsm_sorted.proofs.CallLemmas.{call_more, call_none}
 
 module _ {F C : Type 0} (gives : F → Entry → Result Verdict Error → F → Type 0) (gets : C → Entry → C → Type 0) (rules : Rules) where

@@ -1,5 +1,5 @@
 -- An iterator that is taken from the front alone, with a place for one entry before it.
-use Rattle.std.specs.Prelude.{◌≡◌, ℕ, Bool, ◌+◌, List, ◌++◌, Option, Result}
+use Rattle.std.specs.Prelude.{◌≡◌, ℕ, Bool, ◌+◌, List, ◌++◌, Option}
 use Rattle.std.specs.Iterator.{Count}
 use Rattle.sst_blocks.specs.declared.error.Error.{Error}
 use Rattle.sst_blocks.specs.Stream.{nowhere}

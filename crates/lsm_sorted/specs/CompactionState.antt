@@ -1,5 +1,5 @@
 -- What a compaction stream stands for, and its calls.
-use Rattle.std.specs.Prelude.{◌≡◌, ℕ, Bool, false, not, cond, List, [], ◌∷◌, Option, Some, None, Result, Ok, Err}
+use Rattle.std.specs.Prelude.{◌≡◌, ℕ, Bool, false, List, [], ◌∷◌, Option, Some, None, Result, Ok, Err}
 use Rattle.std.specs.Iterator.{Count}
 use Rattle.sst_blocks.specs.Entry.{Entry}
 use Rattle.sst_blocks.specs.declared.error.Error.{Error}
@@ -9,8 +9,8 @@ use Rattle.lsm_sorted.specs.declared.compaction.stream.CompactionStream.{Compact
 use Rattle.lsm_sorted.specs.Ends.{R, Goes}
 use Rattle.lsm_sorted.specs.Newest.{after_key}
 use Rattle.lsm_sorted.specs.Ahead.{HoldsAhead, ahead_size}
-use Rattle.lsm_sorted.specs.Compaction.{Verdict, Rules, told_by, reports_by, zeroed}
-use Rattle.lsm_sorted.specs.Compacting.{of_key, unless, settled, Turn, Asks, GetsAll, Calls}
+use Rattle.lsm_sorted.specs.Compaction.{Verdict, Rules, told_by, reports_by}
+use Rattle.lsm_sorted.specs.Compacting.{of_key, unless, settled, Asks, GetsAll, Calls}
 
 module _ {S F C : Type 0} where
   -- how the stream is set

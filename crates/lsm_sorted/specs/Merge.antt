@@ -136,6 +136,10 @@ module _ {S : Type 0} (stops : Error → Bool) (front back : S → Option R → 
 abbrev pub Adds : {A : Type 0} → Bool → ℕ → List (HeapItem A) → List (HeapItem A) → Type 0
 Adds {A} at_back i old new = (old ≡ new) ⊎ ((h : HeapItem A) × (h.source ≡ i) × (h.from_back ≡ at_back) × IsPermutation (h ∷ old) new)
 
+-- a source gave an error
+abbrev pub Failed : {S A : Type 0} → Merger S A → Type 0
+Failed m = m.failed ≡ true
+
 -- how many calls may still give something
 abbrev pub merge_total : {S A : Type 0} → (S → Count) → Merger S A → ℕ
 merge_total left m = sum_by (ends_size left) m.sources.items + length (held m.heap)
@@ -181,10 +185,12 @@ MergeAnswer Has step errors None t = (step.0 ≡ None) × (errors ≡ []) × Has
 MergeAnswer Has step errors (Some (Ok x)) t = (step.0 ≡ Some x) × Has t step.1 errors
 MergeAnswer Has step errors (Some (Err e)) t = Contains errors e × Has t [] []
 
--- one call of a merger
-pub record Merges {T : Type 0} (May : T → Type 0) (Has : (Error → Bool) → T → List Entry → List Error → Type 0) (end : List Entry → Option Entry × List Entry) (s : T) (r : Option R) (t : T) : Type 0 where
+-- one call of a merger. An error ends it: from then on it gives `None`
+pub record Merges {T : Type 0} (May Ended : T → Type 0) (Has : (Error → Bool) → T → List Entry → List Error → Type 0) (end : List Entry → Option Entry × List Entry) (s : T) (r : Option R) (t : T) : Type 0 where
   pub may : May t
   pub gives : (stops : Error → Bool) (xs : List Entry) (errors : List Error) → Has stops s xs errors → stopped stops r ≡ false → MergeAnswer (Has stops) (end xs) errors r t
+  pub ends : (e : Error) → r ≡ Some (Err e) → Ended t
+  pub ended : Ended s → (r ≡ None) × Ended t
 
 -- answers to calls are those that are told, up to an error: that is one of the errors, and `None` follows. `None` comes earlier only where there are no errors
 abbrev pub Follows : List Error → List (Option R) → List (Option R) → Type 0
@@ -201,3 +207,14 @@ pub record DealsUntil {S : Type 0} (stops : Error → Bool) (front back : S → 
 -- wherever calls lead, at most two entries of each source are held
 pub record HoldsFew {S A : Type 0} (front back : Merger S A → Option R → Merger S A → Type 0) (m : Merger S A) : Type 0 where
   pub at : (ends : List Direction) (rs : List (Option R)) (t : Merger S A) → Runs front back m ends rs t → (k : ℕ) → held_of k t ≤ 2
+
+-- nothing follows an error
+abbrev pub NothingAfterError : List (Option R) → Type 0
+NothingAfterError [] = Unit {0}
+NothingAfterError (None ∷ rs) = NothingAfterError rs
+NothingAfterError (Some (Ok x) ∷ rs) = NothingAfterError rs
+NothingAfterError (Some (Err e) ∷ rs) = AllByRecursion (λ r. r ≡ None) rs
+
+-- for every list of ends, whatever the sources give, nothing follows an error
+pub record EndsAtError {S : Type 0} (front back : S → Option R → S → Type 0) (s : S) : Type 0 where
+  pub answers : (ends : List Direction) (rs : List (Option R)) (t : S) → Runs front back s ends rs t → NothingAfterError rs

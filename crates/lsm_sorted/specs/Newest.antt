@@ -1,5 +1,5 @@
 -- One step of a stream of newest versions, on what is left of a list of results.
-use Rattle.std.specs.Prelude.{◌≡◌, ℕ, Bool, true, false, cond, List, [], ◌∷◌, reverse, Option, Some, None, Result, Ok, Err}
+use Rattle.std.specs.Prelude.{ℕ, Bool, false, cond, List, [], ◌∷◌, reverse, Option, Some, None, Ok, Err}
 use Rattle.sst_blocks.specs.Entry.{Entry}
 use Rattle.lsm_sorted.specs.Ends.{R}
 use Rattle.sst_blocks.specs.Key.{same_key, key_lt}

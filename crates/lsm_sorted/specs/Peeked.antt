@@ -1,10 +1,9 @@
 -- An iterator with a place for one entry before it and one behind it.
-use Rattle.std.specs.Prelude.{◌≡◌, ℕ, Bool, ◌+◌, List, [], ◌∷◌, ◌++◌, Option, Some, None, Result, Ok}
+use Rattle.std.specs.Prelude.{◌≡◌, ℕ, Bool, ◌+◌, List, [], ◌∷◌, ◌++◌, Option, Some, None}
 use Rattle.std.specs.Iterator.{Count}
-use Rattle.sst_blocks.specs.Entry.{Entry}
 use Rattle.sst_blocks.specs.declared.error.Error.{Error}
 use Rattle.lsm_sorted.specs.declared.peeked.Peeked.{Peeked}
-use Rattle.lsm_sorted.specs.Ends.{R, Left, Goes, ends_size}
+use Rattle.lsm_sorted.specs.Ends.{R, Left, ends_size}
 
 -- what a place holds
 abbrev pub held : Option R → List R

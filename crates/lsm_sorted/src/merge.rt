@@ -1,16 +1,15 @@
 //! Several sorted sources as one.
-ghost use Rattle.std.specs.Prelude.{◌≡◌, ℕ, ◌+◌, ◌<◌, ◌≤◌, Bool, true, false, List, [], length, map, All, IfOk, IfErr, MatchResult, MatchOption};
+ghost use Rattle.std.specs.Prelude.{◌≡◌, ℕ, ◌<◌, ◌≤◌, Bool, true, false, List, [], length, map, All, IfOk, IfErr, MatchResult, MatchOption};
 ghost use Rattle.std.specs.List.{AllZip, AllByRecursion};
 ghost use Rattle.std.specs.Iterator.{at_most, IsFinite};
 ghost use Rattle.sst_blocks.specs.Entry.{Entry};
-ghost use Rattle.sst_blocks.specs.Stream.{Deals, CanDeal, Runs, NoneStops, stopped, all_ok, deal, front_of, back_of};
+ghost use Rattle.sst_blocks.specs.Stream.{Deals, CanDeal, stopped, all_ok, front_of, back_of};
 ghost use Rattle.sst_blocks.specs.declared.error.Error.{Error};
 ghost use Rattle.sst_blocks.specs.declared.error.Error.TheVariants.{OutOfMemory};
-ghost use Rattle.sst_blocks.specs.declared.stream.Direction.{Direction};
 ghost use Rattle.lsm_sorted.specs.Ends.{R, fresh, Goes};
 ghost use Rattle.lsm_sorted.specs.Tournament.{held, room};
 ghost use Rattle.lsm_sorted.specs.Union.{Ascends, IsUnion, IsStrict, entries_of, all_errors, merged};
-ghost use Rattle.lsm_sorted.specs.Merge.{Leaves, Takes, Fills, Steps, Adds, SameRoom, Fits, MayMerge, Merges, DealsUntil, HoldsFew, held_of, merge_total, merge_size, entry_of};
+ghost use Rattle.lsm_sorted.specs.Merge.{Failed, EndsAtError, Leaves, Takes, Fills, Steps, Adds, SameRoom, Fits, MayMerge, Merges, DealsUntil, HoldsFew, held_of, merge_total, merge_size, entry_of};
 
 use crate::ends::Ends;
 use crate::tournament::Tournament;
@@ -21,7 +20,7 @@ use std::alloc::{Allocator, Global};
 // and those of one source in its order: the one from its front before the one from its back.
 #[derive(Drop)]
 #[derive_where(PartialEq, Eq, PartialOrd, Ord)]
-pub struct HeapItem<A: Allocator> {
+struct HeapItem<A: Allocator> {
     key: InternalKey<A>,
     source: usize,
     from_back: bool,
@@ -53,7 +52,9 @@ impl<A: Allocator> HeapItem<A> {
     }
 }
 
-/// Gives the entries of several sorted sources in order.
+/// Gives the entries of several sorted sources in order, from both ends. Entries with the same key, number and kind come
+/// source by source. An error of a source is the answer of the call that met it; the entry that was taken in that call is
+/// given up, and nothing comes after it from either end.
 #[derive(Drop)]
 pub struct Merger<I, A: Allocator = Global> {
     sources: Vec<Ends<I>, A>,
@@ -84,9 +85,11 @@ impl<I: DoubleEndedIterator<Item = IterItem<A>>, A: Allocator + Clone> Merger<I,
     pub fn new(alloc: A, iterators: Vec<I, A>) -> Result<Self, Error>
         // What sorted sources have together is dealt in order, whatever the ends.
         ensures deals { IfOk result (λ m. (stops : Error → Bool) (lists : List (List R)) → AllZip (Deals (stopped stops) I.next_gives I.next_back_gives) iterators.items lists → AllByRecursion (λ rs. Ascends (entries_of rs)) lists → all_errors lists ≡ [] → Deals (stopped stops) ⟦<Merger<I, A> as Iterator>⟧.next_gives ⟦<Merger<I, A> as DoubleEndedIterator>⟧.next_back_gives m (all_ok (merged lists))) }
-        // With errors among it, up to the first that a source answers; nothing comes after that.
+        // With errors among it, up to the call in which a source answers one: that is its answer.
         ensures until { IfOk result (λ m. (stops : Error → Bool) (lists : List (List R)) → AllZip (Deals (stopped stops) I.next_gives I.next_back_gives) iterators.items lists → AllByRecursion (λ rs. Ascends (entries_of rs)) lists → DealsUntil stops ⟦<Merger<I, A> as Iterator>⟧.next_gives ⟦<Merger<I, A> as DoubleEndedIterator>⟧.next_back_gives m (merged lists) (all_errors lists)) }
-        // That is a union, and where no two entries share a key and number the only one.
+        // Nothing follows an error, whatever the sources give.
+        ensures ends { IfOk result (λ m. EndsAtError ⟦<Merger<I, A> as Iterator>⟧.next_gives ⟦<Merger<I, A> as DoubleEndedIterator>⟧.next_back_gives m) }
+        // What is dealt is a union, and where no two entries share a key and number the only one.
         ensures union { IfOk result (λ _. (lists : List (List R)) → IsUnion lists (merged lists)) }
         ensures only { IfOk result (λ _. (lists : List (List R)) (xs : List Entry) → IsUnion lists xs → IsStrict xs → xs ≡ merged lists) }
         ensures can { IfOk result (λ m. All (CanDeal I.next_gives I.next_back_gives I.can_next I.can_next_back) iterators.items → All (λ s. IsFinite (I.remaining s)) iterators.items → CanDeal ⟦<Merger<I, A> as Iterator>⟧.next_gives ⟦<Merger<I, A> as DoubleEndedIterator>⟧.next_back_gives ⟦<Merger<I, A> as Iterator>⟧.can_next ⟦<Merger<I, A> as DoubleEndedIterator>⟧.can_next_back m) }
@@ -240,7 +243,7 @@ impl<I: DoubleEndedIterator<Item = IterItem<A>>, A: Allocator> Iterator for Merg
 
     ghost can_next = { MayMerge I.next_gives I.next_back_gives I.can_next I.can_next_back I.remaining };
 
-    ghost next_gives = { Merges (MayMerge I.next_gives I.next_back_gives I.can_next I.can_next_back I.remaining) (λ stops. Leaves stops I.next_gives I.next_back_gives) front_of };
+    ghost next_gives = { Merges (MayMerge I.next_gives I.next_back_gives I.can_next I.can_next_back I.remaining) Failed (λ stops. Leaves stops I.next_gives I.next_back_gives) front_of };
 
     ghost remaining = { λ m. at_most (merge_size I.remaining m) };
 
@@ -260,7 +263,7 @@ impl<I: DoubleEndedIterator<Item = IterItem<A>>, A: Allocator> DoubleEndedIterat
     for Merger<I, A> {
     ghost can_next_back = { MayMerge I.next_gives I.next_back_gives I.can_next I.can_next_back I.remaining };
 
-    ghost next_back_gives = { Merges (MayMerge I.next_gives I.next_back_gives I.can_next I.can_next_back I.remaining) (λ stops. Leaves stops I.next_gives I.next_back_gives) back_of };
+    ghost next_back_gives = { Merges (MayMerge I.next_gives I.next_back_gives I.can_next I.can_next_back I.remaining) Failed (λ stops. Leaves stops I.next_gives I.next_back_gives) back_of };
 
     fn next_back(&mut self) -> Option<IterItem<A>> {
         if self.failed {

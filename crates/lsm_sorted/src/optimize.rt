@@ -80,22 +80,7 @@ pub fn overlap_chain<T: Ranged, A: Allocator + Clone, B: Allocator>(
     ensures some { IfOk result (λ chain. chain.items ≡ [] → tables_of runs.now ≡ []) }
     ensures err { IfErr result (λ e. e ≡ OutOfMemory) }
 {
-    let packed = Vec::new(alloc.clone()?);
-    chain_through(alloc, packed, runs)
-}
-
-// Packs the tables of the runs beside their places, and walks down.
-fn chain_through<'a, T: Ranged, A: Allocator + Clone, B: Allocator>(
-    alloc: A,
-    mut packed: Vec<Run<Link<'a, T>, A>, A>,
-    runs: &'a [Run<T, B>],
-) -> Result<Vec<(usize, usize), A>, Error>
-    requires { packed.items ≡ [] }
-    ensures chain { IfOk result (λ chain. IsChain T.range runs.now chain.items) }
-    ensures least { IfOk result (λ chain. AreDisjointRuns T.range runs.now → IsLeastSize T.range runs.now (length chain.items)) }
-    ensures some { IfOk result (λ chain. chain.items ≡ [] → tables_of runs.now ≡ []) }
-    ensures err { IfErr result (λ e. e ≡ OutOfMemory) }
-{
+    let mut packed = Vec::new(alloc.clone()?);
     pack_links(&alloc, &mut packed, runs)?;
     let mut chain = Vec::new(alloc);
     walk_down(&packed, &mut chain)?;
@@ -104,7 +89,7 @@ fn chain_through<'a, T: Ranged, A: Allocator + Clone, B: Allocator>(
 }
 
 // A table of the runs that a chain goes through, with its place.
-#[derive_where(Clone, Copy)]
+#[derive(Drop)]
 struct Link<'a, T> {
     table: &'a T,
     run: usize,

@@ -86,7 +86,11 @@ fn has_ids<A: Allocator>(tables: &[FakeTable<A>], ids: &[u64]) -> bool {
 }
 
 fn have_ids<A: Allocator>(runs: &[Run<FakeTable<A>, A>], ids: &[&[u64]]) -> bool {
-    runs.len() == ids.len() && runs.iter().zip(ids).all(|(run, ids)| has_ids(run.as_slice(), ids))
+    runs.len() == ids.len()
+        && runs
+            .iter()
+            .zip(ids)
+            .all(|(run, ids)| has_ids(run.as_slice(), ids))
 }
 
 fn numbers(alloc: Global, low: u64, high: u64) -> Result<KeyRange, Error> {
@@ -125,11 +129,19 @@ fn key_ranges(rt: HostRuntime) -> Result<(), Fail> {
         assert_eq!(rt; a.contains_range(&b), contains);
         assert_eq!(rt; KeyRange::is_disjoint(&[&a, &b]), !overlap);
     }
-    let (a, b, c) = (range_of(alloc, "a", "d")?, range_of(alloc, "d", "e")?, range_of(alloc, "f", "z")?);
+    let (a, b, c) = (
+        range_of(alloc, "a", "d")?,
+        range_of(alloc, "d", "e")?,
+        range_of(alloc, "f", "z")?,
+    );
     assert!(rt; !KeyRange::is_disjoint(&[&a, &b, &c]));
     assert!(rt; !range_of(alloc, "b", "a")?.is_well_formed());
     assert!(rt; KeyRange::<Global>::empty().contains_key(b""));
-    let (a, b, c) = (numbers(alloc, 2, 4)?, numbers(alloc, 0, 4)?, numbers(alloc, 7, 10)?);
+    let (a, b, c) = (
+        numbers(alloc, 2, 4)?,
+        numbers(alloc, 0, 4)?,
+        numbers(alloc, 7, 10)?,
+    );
     assert!(rt; KeyRange::aggregate(&[&a, &b, &c])? == numbers(alloc, 0, 10)?);
     let none: [&KeyRange; 0] = [];
     assert!(rt; KeyRange::aggregate(&none)? == KeyRange::empty());
@@ -151,7 +163,10 @@ fn key_ranges_and_bounds(rt: HostRuntime) -> Result<(), Fail> {
         (Bound::Included("key5"), Bound::Unbounded, true),
         (Bound::Included("key4"), Bound::Included("key2"), true),
     ] {
-        let bounds = (low.map(|key| key.as_bytes()), high.map(|key| key.as_bytes()));
+        let bounds = (
+            low.map(|key| key.as_bytes()),
+            high.map(|key| key.as_bytes()),
+        );
         assert_eq!(rt; range.overlaps_with_bounds(&bounds), overlap);
     }
     Ok(())
@@ -163,8 +178,20 @@ fn searches_of_a_run(rt: HostRuntime) -> Result<(), Fail> {
     let run = run_of(alloc, &FOUR)?;
     assert!(rt; run.is_in_order());
     assert!(rt; run.aggregate_key_range()? == range_of(alloc, "a", "z")?);
-    for (key, id) in [("a", Some(0)), ("aaa", Some(0)), ("d", Some(0)), ("e", Some(1)), ("j", Some(1)), ("z", Some(3)), ("zzz", None)] {
-        assert_eq!(rt; run.get_for_key(key.as_bytes()).map(|table| table.id), id, "{key}");
+    for (key, id) in [
+        ("a", Some(0)),
+        ("aaa", Some(0)),
+        ("d", Some(0)),
+        ("e", Some(1)),
+        ("j", Some(1)),
+        ("z", Some(3)),
+        ("zzz", None),
+    ] {
+        assert_eq!(rt;
+            run.get_for_key(key.as_bytes()).map(|table| table.id),
+            id,
+            "{key}"
+        );
     }
     for (low, high, span) in [
         (Bound::Unbounded, Bound::Unbounded, Some((0, 3))),
@@ -177,7 +204,10 @@ fn searches_of_a_run(rt: HostRuntime) -> Result<(), Fail> {
         (Bound::Included("n"), Bound::Included("l"), Some((2, 2))),
         (Bound::Excluded("d"), Bound::Excluded("e"), None),
     ] {
-        let (low, high) = (low.map(|key| key.as_bytes()), high.map(|key| key.as_bytes()));
+        let (low, high) = (
+            low.map(|key| key.as_bytes()),
+            high.map(|key| key.as_bytes()),
+        );
         assert_eq!(rt; run.range_overlap_indexes(low, high), span);
     }
     for (min, max, overlapping, contained) in [
@@ -189,8 +219,14 @@ fn searches_of_a_run(rt: HostRuntime) -> Result<(), Fail> {
         ("zzz", "zzzz", &[], &[]),
     ] {
         let range = range_of(alloc, min, max)?;
-        assert!(rt; has_ids(run.get_overlapping(&range), overlapping), "{min} to {max}");
-        assert!(rt; has_ids(run.get_contained(&range), contained), "{min} to {max}");
+        assert!(rt;
+            has_ids(run.get_overlapping(&range), overlapping),
+            "{min} to {max}"
+        );
+        assert!(rt;
+            has_ids(run.get_contained(&range), contained),
+            "{min} to {max}"
+        );
     }
     Ok(())
 }
@@ -202,7 +238,10 @@ fn changes_of_a_run(rt: HostRuntime) -> Result<(), Fail> {
     assert!(rt; Run::<FakeTable>::new(Vec::new(alloc)).is_none());
     assert_eq!(rt; run.remove(1).id, 1);
     assert!(rt; run.get_for_key(b"e").is_none());
-    assert_eq!(rt; run.range_overlap_indexes(Bound::Included(b"e"), Bound::Included(b"j")), None);
+    assert_eq!(rt;
+        run.range_overlap_indexes(Bound::Included(b"e"), Bound::Included(b"j")),
+        None
+    );
     run.extend(tables_of(alloc, &[(4, "b", "c")])?)?;
     assert!(rt; !run.is_in_order());
     assert!(rt; has_ids(run.as_slice(), &[0, 2, 3, 4]));
@@ -211,7 +250,10 @@ fn changes_of_a_run(rt: HostRuntime) -> Result<(), Fail> {
     run.retain(|_| false);
     assert!(rt; run.is_in_order());
     assert!(rt; run.get_for_key(b"a").is_none());
-    assert_eq!(rt; run.range_overlap_indexes(Bound::Unbounded, Bound::Unbounded), None);
+    assert_eq!(rt;
+        run.range_overlap_indexes(Bound::Unbounded, Bound::Unbounded),
+        None
+    );
     let mut pushed = run_of(alloc, &[(0, "a", "b")])?;
     for table in tables_of(alloc, &[(1, "a", "c"), (2, "a", "a")])? {
         pushed.push(table)?;
@@ -219,7 +261,10 @@ fn changes_of_a_run(rt: HostRuntime) -> Result<(), Fail> {
     assert!(rt; has_ids(pushed.as_slice(), &[0, 1, 2]));
     pushed.inner_mut().clear();
     assert!(rt; pushed.as_slice().is_empty());
-    let table = Indexed::new(FakeTable { id: 7, range: range_of(alloc, "k", "l")? });
+    let table = Indexed::new(FakeTable {
+        id: 7,
+        range: range_of(alloc, "k", "l")?,
+    });
     assert_eq!(rt; table.id, 7);
     assert!(rt; *table.key_range() == range_of(alloc, "k", "l")?);
     Ok(())
@@ -231,12 +276,37 @@ fn packed_runs(rt: HostRuntime) -> Result<(), Fail> {
     let cases: [(&[&[(u64, &str, &str)]], &[&[u64]], &[(usize, usize)]); 9] = [
         (&[], &[], &[]),
         (&[&[(0, "a", "b")]], &[&[0]], &[(0, 0)]),
-        (&[&[(0, "a", "b")], &[(1, "a", "b")]], &[&[0], &[1]], &[(0, 0), (1, 0)]),
-        (&[&[(0, "a", "z")], &[(1, "c", "f")]], &[&[0], &[1]], &[(0, 0), (1, 0)]),
-        (&[&[(0, "c", "f")], &[(1, "a", "z")]], &[&[0], &[1]], &[(0, 0), (1, 0)]),
+        (
+            &[&[(0, "a", "b")], &[(1, "a", "b")]],
+            &[&[0], &[1]],
+            &[(0, 0), (1, 0)],
+        ),
+        (
+            &[&[(0, "a", "z")], &[(1, "c", "f")]],
+            &[&[0], &[1]],
+            &[(0, 0), (1, 0)],
+        ),
+        (
+            &[&[(0, "c", "f")], &[(1, "a", "z")]],
+            &[&[0], &[1]],
+            &[(0, 0), (1, 0)],
+        ),
         (&[&[(1, "d", "f")], &[(0, "a", "c")]], &[&[0, 1]], &[(0, 0)]),
-        (&[&[(2, "m", "p")], &[(1, "a", "z")], &[(0, "a", "c")]], &[&[2], &[1], &[0]], &[(0, 0), (1, 0), (2, 0)]),
-        (&[&[(0, "a", "c"), (1, "m", "p")], &[(2, "b", "n")], &[(3, "d", "f")], &[(4, "x", "z")]], &[&[0, 1, 4], &[2], &[3]], &[(0, 0), (1, 0), (2, 0)]),
+        (
+            &[&[(2, "m", "p")], &[(1, "a", "z")], &[(0, "a", "c")]],
+            &[&[2], &[1], &[0]],
+            &[(0, 0), (1, 0), (2, 0)],
+        ),
+        (
+            &[
+                &[(0, "a", "c"), (1, "m", "p")],
+                &[(2, "b", "n")],
+                &[(3, "d", "f")],
+                &[(4, "x", "z")],
+            ],
+            &[&[0, 1, 4], &[2], &[3]],
+            &[(0, 0), (1, 0), (2, 0)],
+        ),
         (&[&[(0, "a", "z"), (1, "c", "d")]], &[&[0, 1]], &[(0, 0)]),
     ];
     for (runs, packed, chain) in cases {
@@ -244,7 +314,12 @@ fn packed_runs(rt: HostRuntime) -> Result<(), Fail> {
         assert_eq!(rt; found.len(), chain.len());
         // of several tables that could be a chain's only one, any may be
         if chain.len() > 1 {
-            assert!(rt; found.iter().zip(chain).all(|(found, place)| found.0 == place.0));
+            assert!(rt;
+                found
+                    .iter()
+                    .zip(chain)
+                    .all(|(found, place)| found.0 == place.0)
+            );
         }
         assert!(rt; have_ids(&optimize_runs(alloc, runs_of(alloc, runs)?)?, packed));
     }
@@ -277,7 +352,11 @@ fn packed_and_chained<A: Allocator + Clone>(
 #[test]
 fn each_request_for_memory_refused(rt: HostRuntime) -> Result<(), Fail> {
     let three = each_refused(rt.alloc(), |heap, may_fail| {
-        let runs: [&[(u64, &str, &str)]; 3] = [&[(2, "m", "p")], &[(1, "a", "z")], &[(0, "a", "c")]];
+        let runs: [&[(u64, &str, &str)]; 3] = [
+            &[(2, "m", "p")],
+            &[(1, "a", "z")],
+            &[(0, "a", "c")],
+        ];
         packs_to(&heap, &runs, &[&[2], &[1], &[0]], may_fail)
     });
     assert!(rt; three.is_ok_and(|requests| requests > 5));

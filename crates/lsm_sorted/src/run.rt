@@ -88,9 +88,9 @@ impl<T: Ranged> Deref for Indexed<T> {
 /// A contract sees the list of the tables.
 #[derive(Drop)]
 #[derive_where(Debug; T)]
-pub struct Run<T: Ranged, A: Allocator = Global>(Vec<T, A>);
+pub struct Run<T, A: Allocator = Global>(Vec<T, A>);
 
-impl<T: Ranged, A: Allocator> Model for Run<T, A> {
+impl<T, A: Allocator> Model for Run<T, A> {
     ghost use Rattle.std.specs.Prelude.{List};
 
     ghost Value = { List T };
@@ -98,7 +98,7 @@ impl<T: Ranged, A: Allocator> Model for Run<T, A> {
     ghost view = { λ run. run.0.items };
 }
 
-impl<T: Ranged + PartialEq, A: Allocator> PartialEq for Run<T, A> {
+impl<T: PartialEq, A: Allocator> PartialEq for Run<T, A> {
     ghost eq = { pointwise T.eq };
 
     ghost laws = { lists_per T.laws };
@@ -108,7 +108,7 @@ impl<T: Ranged + PartialEq, A: Allocator> PartialEq for Run<T, A> {
     }
 }
 
-impl<T: Ranged + Eq, A: Allocator> Eq for Run<T, A> {
+impl<T: Eq, A: Allocator> Eq for Run<T, A> {
     ghost laws = { lists_equiv T.Eq.laws };
 }
 
@@ -158,7 +158,11 @@ impl<T: Ranged, A: Allocator> Run<T, A> {
 
     /// The first and the last place of the tables whose ranges reach past both bounds, of a run
     /// that is in order. Of any other run, some first and last place or none.
-    pub fn range_overlap_indexes(&self, lower: Bound<&[u8]>, upper: Bound<&[u8]>) -> Option<(usize, usize)>
+    pub fn range_overlap_indexes(
+        &self,
+        lower: Bound<&[u8]>,
+        upper: Bound<&[u8]>,
+    ) -> Option<(usize, usize)>
         ensures found { IsTrue (in_order (map T.range self.now)) → result ≡ overlap_indexes (bound_of lower.entry) (bound_of upper.entry) (map T.range self.now) }
         ensures within { IfSome result (λ span. (span.0 ≤ span.1) × (span.1 < length self.now)) }
     {
@@ -180,8 +184,14 @@ impl<T: Ranged, A: Allocator> Run<T, A> {
         ensures within { IsPartOf self.now result.now }
     {
         let tables = self.0.as_slice();
-        let (_, rest) = tables.split_at(count_ends_before(tables, Bound::Included(key_range.min().as_slice())));
-        let (found, _) = rest.split_at(count_starts_within(rest, Bound::Included(key_range.max().as_slice())));
+        let (_, rest) = tables.split_at(count_ends_before(
+            tables,
+            Bound::Included(key_range.min().as_slice()),
+        ));
+        let (found, _) = rest.split_at(count_starts_within(
+            rest,
+            Bound::Included(key_range.max().as_slice()),
+        ));
         found
     }
 
@@ -227,7 +237,7 @@ impl<T: Ranged, A: Allocator> Run<T, A> {
     // Puts a table into a run that is in order, behind those that start no later.
     pub(crate) fn insert_in_order(&mut self, table: T) -> Result<(), Error>
     where
-        T: Drop
+        T: Drop,
         ensures sorted { OnOk result (IsTrue (in_order (map T.range self.old)) → self.new ≡ with_table T.range table self.old) }
         ensures permutation { OnOk result (IsPermutation (self.old ++ table ∷ []) self.new) }
         ensures err { IfErr result (λ e. e ≡ OutOfMemory) }
@@ -252,7 +262,7 @@ impl<T: Ranged, A: Allocator> Run<T, A> {
     /// [`Error::OutOfMemory`] alone; the run is unchanged then, and the tables are given up.
     pub fn extend(&mut self, items: Vec<T, A>) -> Result<(), Error>
     where
-        T: Drop
+        T: Drop,
         ensures ok { OnOk result (self.new ≡ self.old ++ items.items) }
         ensures err { IfErr result (λ e. (e ≡ OutOfMemory) × (self.new ≡ self.old)) }
     {
@@ -264,7 +274,7 @@ impl<T: Ranged, A: Allocator> Run<T, A> {
     /// Keeps the tables for which `keeps` answers true, in their order. The run can be left empty.
     pub fn retain<F: Fn(&T) -> bool>(&mut self, keeps: F)
     where
-        T: Drop
+        T: Drop,
         requires { F.IsAlwaysCallable keeps }
         ensures { IsFiltered (CalledAt F.FnMut) keeps self.old self.new }
     {
@@ -273,7 +283,7 @@ impl<T: Ranged, A: Allocator> Run<T, A> {
 
     /// The vector of the tables, to change it at will. The run can be left empty or out of order.
     pub fn inner_mut(&mut self) -> &mut Vec<T, A>
-        ensures* writes_back { sem 𝓛 (Lends (the_row T.row A.row T.Alloc.row T.Ranged T.Alloc.Allocator A.Allocator) (vec.the_row T.row A.row A.Allocator) self.entry result (λ v. v.items)) }
+        ensures* writes_back { sem 𝓛 (Lends (the_row T.row A.row A.Allocator) (vec.the_row T.row A.row A.Allocator) self.entry result (λ v. v.items)) }
         ensures value { result.now.items ≡ self.old }
     {
         &mut self.0

@@ -12,19 +12,19 @@ pub returns-clause-holders : goal.returns-clause-holders
 returns-clause-holders g c =
     let range = g.T.Ranged.range in
     if_ok c.pack.result
-      (λ packed says formed k. ap (λ rs. holders range rs k) (says formed) ∙ put_all_holders range k (tables_of c.args.runs.items) [])
-      c.pack.ensures.ok
+    (λ packed says formed k. ap (λ rs. holders range rs k) (says formed) ∙ put_all_holders range k (tables_of c.args.runs.items) [])
+    c.pack.ensures.ok
 
 pub returns-clause-ordered : goal.returns-clause-ordered
 returns-clause-ordered g c =
     let range = g.T.Ranged.range in
     if_ok c.pack.result
-      (λ packed says formed many. subst (ArePacked range) (sym (says formed)) (put_all_packed range (tables_of c.args.runs.items) [] formed tt))
-      c.pack.ensures.ok
+    (λ packed says formed many. subst (ArePacked range) (sym (says formed)) (put_all_packed range (tables_of c.args.runs.items) [] formed tt))
+    c.pack.ensures.ok
 
 pub returns-clause-least : goal.returns-clause-least
 returns-clause-least g c =
     let range = g.T.Ranged.range in
     if_ok c.pack.result
-      (λ packed says disjoint. subst (λ rs. IsLeastSize range c.args.runs.items (length rs)) (sym (says disjoint.formed)) (least_size range c.args.runs.items disjoint))
-      c.pack.ensures.ok
+    (λ packed says disjoint. subst (λ rs. IsLeastSize range c.args.runs.items (length rs)) (sym (says disjoint.formed)) (least_size range c.args.runs.items disjoint))
+    c.pack.ensures.ok

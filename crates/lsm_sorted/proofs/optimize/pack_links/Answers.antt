@@ -10,7 +10,7 @@ loop-run-init g c = links_none g.T.Ranged.range c.args.packed.now.items c.requir
 pub loop-run-preserved : goal.loop-run-preserved
 loop-run-preserved g c =
     links_run g.T.Ranged.range c.loop-run.run c.args.runs.now c.index-runs-run.result c.as_slice.result.now c.place_links.new.packed.items
-      c.loop-run-test.true c.index-runs-run.is c.as_slice.ensures (c.in_ok-place_links.ensures.ok (tags 0 (take c.loop-run.run c.args.runs.now)) c.loop-run.invariant)
+    c.loop-run-test.true c.index-runs-run.is c.as_slice.ensures (c.in_ok-place_links.ensures.ok (tags 0 (take c.loop-run.run c.args.runs.now)) c.loop-run.invariant)
 
 pub returns-clause-ok : goal.returns-clause-ok
 returns-clause-ok g c = links_of_all g.T.Ranged.range c.loop-run.run c.args.runs.now c.loop-run.packed.items (omega arith) c.loop-run.invariant

@@ -13,5 +13,5 @@ loop-other-preserved g c =
 pub returns-clause-ok : goal.returns-clause-ok
 returns-clause-ok g c =
     aggregate_at_end c.args.ranges.now c.in-Some.first.now c.in-Some.others.now c.min-min.result.now c.max-max.result.now
-      c.loop-other.min.now c.loop-other.max.now c.loop-other.other-index c.in_ok-clone.field-0 c.in_ok-clone-2.field-0
-      c.in-Some.ensures.cases.0 c.min-min.ensures c.max-max.ensures c.loop-other.invariant (omega arith) c.in_ok-clone.ensures.cases c.in_ok-clone-2.ensures.cases
+    c.loop-other.min.now c.loop-other.max.now c.loop-other.other-index c.in_ok-clone.field-0 c.in_ok-clone-2.field-0
+    c.in-Some.ensures.cases.0 c.min-min.ensures c.max-max.ensures c.loop-other.invariant (omega arith) c.in_ok-clone.ensures.cases c.in_ok-clone-2.ensures.cases

@@ -1,4 +1,4 @@
-use Rattle.std.proofs.Common.{◌≡◌, ◌<◌, refl, sym, ◌∙◌, ap, [], arith}
+use Rattle.std.proofs.Common.{true, false, ◌≡◌, ◌<◌, refl, sym, ◌∙◌, ap, [], arith}
 use Rattle.std.specs.Prelude.{None}
 use Rattle.sst_blocks.specs.Stream.{last, but_last}
 use Rattle.lsm_sorted.specs.Merge.{merge_total}
@@ -13,6 +13,8 @@ returns-in-Ok-Some-clause-steps g c = record {
   gives = λ stops xs errors leaves ok.
       let step = c.in-Ok-Some.ensures.steps stops xs errors (leaves_merging stops g.I.Iterator.next_gives g.I.DoubleEndedIterator.next_back_gives c.args.self.now c.if-self.false xs errors leaves) in
       (sym step.0 ∙ c.in-Ok-Some.field-0-is, merging_leaves stops g.I.Iterator.next_gives g.I.DoubleEndedIterator.next_back_gives c.step_back.new.self (c.step_back.ensures.failed ∙ c.if-self.false) (but_last xs) errors step.1);
+  ends = λ e is. absurd cc;
+  ended = λ over. let no : true ≡ false = sym over ∙ c.if-self.false in absurd cc;
 }
 
 pub returns-in-Ok-Some-clause-goes : goal.returns-in-Ok-Some-clause-goes
@@ -34,12 +36,16 @@ returns-in-Ok-None-clause-steps g c = record {
       let empty : xs ≡ [] = none_last xs none in
       let no_errors : errors ≡ [] = step.2 c.in-Ok-None.field-0-is in
       (sym none, no_errors, leaves_nothing stops g.I.Iterator.next_gives g.I.DoubleEndedIterator.next_back_gives c.step_back.new.self (c.step_back.ensures.failed ∙ c.if-self.false) xs (but_last xs) errors empty (ap but_last empty ∙ sym empty) no_errors step.1);
+  ends = λ e is. absurd cc;
+  ended = λ over. let no : true ≡ false = sym over ∙ c.if-self.false in absurd cc;
 }
 
 pub returns-in-Err-clause-steps : goal.returns-in-Err-clause-steps
 returns-in-Err-clause-steps g c = rw (c.fail.ensures.answer, c.fail.ensures.state) (record {
   may = record { fits = tt; few = c.in-Err.ensures.fits };
   gives = λ stops xs errors leaves ok. (c.in-Err.ensures.steps stops xs errors (leaves_merging stops g.I.Iterator.next_gives g.I.DoubleEndedIterator.next_back_gives c.args.self.now c.if-self.false xs errors leaves) ok, record { parts = (refl, refl) });
+  ends = λ e is. refl;
+  ended = λ over. let no : true ≡ false = sym over ∙ c.if-self.false in absurd cc;
 })
 
 pub returns-in-Err-clause-goes : goal.returns-in-Err-clause-goes

@@ -1,6 +1,6 @@
-use Rattle.std.proofs.Common.{◌<◌, arith, sym, ◌∙◌}
-use Rattle.lsm_sorted.specs.Peeked.{Holds, peeked_size}
-use Rattle.lsm_sorted.proofs.MvccLemmas.{Climbed, climbed_first, climbed_more, climbed_stop, climbed_err, climbed_end, back_err, back_none}
+use Rattle.std.proofs.Common.{arith, sym, ◌∙◌}
+use Rattle.lsm_sorted.specs.Peeked.{Holds}
+use Rattle.lsm_sorted.proofs.MvccLemmas.{climbed_first, climbed_more, climbed_stop, climbed_err, climbed_end, back_err, back_none}
 use Rattle.lsm_sorted.proofs.mvcc_stream.MvccStreamDoubleEndedIterator.next_back.Goals as goal
 
 pub returns-in-Some-Err-clause-steps : goal.returns-in-Some-Err-clause-steps

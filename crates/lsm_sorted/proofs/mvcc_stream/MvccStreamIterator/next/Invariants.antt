@@ -1,5 +1,5 @@
 use Rattle.sst_blocks.specs.declared.error.Error.{Error}
-use Rattle.std.proofs.Common.{Bool, ℕ, ◌<◌}
+use Rattle.std.proofs.Common.{Bool, ◌<◌}
 use Rattle.lsm_sorted.specs.Ends.{Goes}
 use Rattle.lsm_sorted.specs.Peeked.{Holds, peeked_size}
 use Rattle.lsm_sorted.proofs.MvccLemmas.{Drained}

@@ -13,14 +13,14 @@ pub loop-table-preserved : goal.loop-table-preserved
 loop-table-preserved g c =
     c.loop-table.invariant
     ∙ goes_on g.T.Ranged.range (option_copied c.loop-table.last) c.deref-table-items.result.now c.loop-table.table-index c.table-item.result c.key_range-range.result.now c.goes_on.result
-      (omega arith) c.table-item.is c.key_range-range.ensures c.goes_on.ensures c.if-not-goes_on.false
+    (omega arith) c.table-item.is c.key_range-range.ensures c.goes_on.ensures c.if-not-goes_on.false
     ∙ ap (λ k. ascends_after (Some k) (map g.T.Ranged.range (drop (c.loop-table.table-index + 1) c.deref-table-items.result.now))) (sym c.max.ensures)
 
 pub returns-then-not-goes_on : goal.returns-then-not-goes_on
 returns-then-not-goes_on g c =
     sym (sym (ascends_from_first (map g.T.Ranged.range c.args.self.now)) ∙ c.loop-table.invariant
     ∙ stops g.T.Ranged.range (option_copied c.loop-table.last) c.deref-table-items.result.now c.loop-table.table-index c.table-item.result c.key_range-range.result.now c.goes_on.result
-      (omega arith) c.table-item.is c.key_range-range.ensures c.goes_on.ensures c.if-not-goes_on.true)
+    (omega arith) c.table-item.is c.key_range-range.ensures c.goes_on.ensures c.if-not-goes_on.true)
 
 pub returns : goal.returns
 returns g c =

@@ -1,7 +1,6 @@
 use Rattle.std.proofs.Common.{◌∙◌, sym, arith}
 use Rattle.lsm_sorted.specs.Ahead.{HoldsAhead}
-use Rattle.lsm_sorted.proofs.KeyLemmas.{keys_apart, keys_same}
-use Rattle.lsm_sorted.proofs.SettleLemmas.{draining_first, draining_more, drained_stop, drained_err, drained_end}
+use Rattle.lsm_sorted.proofs.SettleLemmas.{draining_more, drained_stop, drained_err, drained_end}
 use Rattle.lsm_sorted.proofs.compaction.stream.CompactionStream.drain_key.Goals as goal
 
 pub loop-x-preserved : goal.loop-x-preserved

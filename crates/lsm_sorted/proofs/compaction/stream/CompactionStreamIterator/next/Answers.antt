@@ -1,10 +1,9 @@
-use Rattle.std.proofs.Common.{◌≡◌, ◌≤◌, refl, sym, ◌∙◌, ap, Bool, true, false, arith}
-use Rattle.std.specs.Prelude.{Option, Some, None, Result, Ok, Err}
+use Rattle.std.proofs.Common.{◌≡◌, refl, sym, ◌∙◌, ap, true, false, arith}
+use Rattle.std.specs.Prelude.{Some, Ok, Err}
 use Rattle.sst_blocks.specs.Entry.{Entry}
-use Rattle.lsm_sorted.specs.Ends.{R}
 use Rattle.lsm_sorted.specs.Ahead.{HoldsAhead}
 use Rattle.lsm_sorted.specs.Compaction.{Rules, zeroed}
-use Rattle.lsm_sorted.specs.CompactionState.{rules_of, CompactsNext}
+use Rattle.lsm_sorted.specs.CompactionState.{rules_of}
 use Rattle.lsm_sorted.proofs.GoingLemmas.{settles_along, going_along, called_along, going_first, going_dropped, called_filter_err, going_on, called_kept, called_err, called_source_err, called_none}
 use Rattle.lsm_sorted.proofs.compaction.stream.CompactionStreamIterator.next.Goals as goal
 
