@@ -1,8 +1,8 @@
 -- Sorted lists of entries, and lists with the same entries.
-use Rattle.std.specs.Prelude.{◌≡◌, ◌<◌, Bool, true, false, not, List, [], ◌∷◌, ◌++◌, filter, count_by, Ok, Err}
+use Rattle.std.specs.Prelude.{◌≡◌, ◌<◌, Bool, true, false, cond, not, List, [], ◌∷◌, ◌++◌, filter, count_by, Ok, Err}
 use Rattle.std.specs.declared.cmp.Ordering.{Ordering}
 use Rattle.std.specs.List.{AllByRecursion}
-use Rattle.std.specs.Ordering.{ordering_then, is_gt, nat_cmp}
+use Rattle.std.specs.Ordering.{ordering_then, is_gt, is_lt, nat_cmp}
 use Rattle.sst_blocks.specs.Entry.{Entry}
 use Rattle.sst_blocks.specs.Kind.{tag_of}
 use Rattle.sst_blocks.specs.Key.{same_key}
@@ -58,3 +58,26 @@ pub record IsUnion (lists : List (List R)) (xs : List Entry) : Type 0 where
 abbrev pub newest : List Entry → List Entry
 newest [] = []
 newest (x ∷ xs) = x ∷ filter (λ y. not (same_key y.user_key x.user_key)) (newest xs)
+
+-- x put before the first of xs that it is not above
+abbrev pub inserted : Entry → List Entry → List Entry
+inserted x [] = x ∷ []
+inserted x (y ∷ ys) = cond (is_gt (item_cmp x y)) (y ∷ inserted x ys) (x ∷ y ∷ ys)
+
+-- the entries sorted; those that tie stay as they stand
+abbrev pub in_order : List Entry → List Entry
+in_order [] = []
+in_order (x ∷ xs) = inserted x (in_order xs)
+
+-- the entries of all lists sorted; those that tie, list by list
+abbrev pub merged : List (List R) → List Entry
+merged lists = in_order (all_entries lists)
+
+-- by key upward, then by number downward, the kind left out
+abbrev pub version_cmp : Entry → Entry → Ordering
+version_cmp a b = ordering_then (slice_cmp nat_cmp a.user_key b.user_key) (nat_cmp b.seqno a.seqno)
+
+-- each entry comes before the later ones by key and number alone
+abbrev pub IsStrict : List Entry → Type 0
+IsStrict [] = Unit {0}
+IsStrict (x ∷ xs) = AllByRecursion (λ y. is_lt (version_cmp x y) ≡ true) xs × IsStrict xs

@@ -16,7 +16,12 @@ use std::alloc::Allocator;
 
 /// Packs the tables of some runs into as few runs as there can be, so that each key keeps the order
 /// of its tables. At most one run comes back as it is. Else each table, in run order, goes behind
-/// the last new run that has a table which overlaps it, or into the first.
+/// the last new run that has a table which overlaps it, or into the first; tables are moved, none
+/// is cloned.
+///
+/// A table is tried against each new run from the last one down, by two binary searches among the
+/// run's tables, so n tables in r new runs take at most about n times r times log n comparisons of
+/// keys. Refused [`Error::OutOfMemory`] alone; the runs are given up then.
 pub fn optimize_runs<T: Clone + Ranged + Drop, A: Allocator + Clone>(
     alloc: A,
     runs: Vec<Run<T, A>, A>,
