@@ -1,0 +1,69 @@
+-- What a writer counts while it writes.
+use Rattle.std.specs.Prelude.{◌≡◌, ℕ, ◌+◌, ◌-◌, ◌<◌, ◌^◌, List, ◌++◌, length, min, max, count_by, sum_by, Option, Some, None}
+use Rattle.sst_blocks.specs.declared.version.TableVersion.{TableVersion}
+use Rattle.sst_blocks.specs.Entry.{Entry}
+use Rattle.sst_blocks.specs.Payload.{payload}
+use Rattle.lsm_writers.specs.declared.writer.meta.Metadata.{Metadata}
+use Rattle.lsm_writers.specs.Chunks.{joined}
+use Rattle.lsm_writers.specs.Facts.{is_tombstone, is_weak, starts_key, is_reclaimable, one_if, count_after, lowest_seqno, highest_seqno, first_key, last_key}
+use Rattle.lsm_writers.specs.Index.{data_section}
+
+-- nothing was written
+abbrev pub no_counts : {A : Type 0} → Metadata A
+no_counts = record {
+  data_block_count = 0;
+  item_count = 0;
+  tombstone_count = 0;
+  weak_tombstone_count = 0;
+  weak_tombstone_reclaimable_count = 0;
+  key_count = 0;
+  file_pos = record { 0 = 0 };
+  uncompressed_size = 0;
+  first_key = None;
+  last_key = None;
+  lowest_seqno = 2 ^ 64 - 1;
+  highest_seqno = 0
+}
+
+-- the blocks, their items, bytes and last key are those that were cut; the rest counts the whole list
+abbrev pub metadata_of : {A : Type 0} → TableVersion → List (List Entry) → List Entry → Metadata A
+metadata_of v cut pending =
+    let es = joined cut ++ pending in
+    record {
+      data_block_count = length cut;
+      item_count = length (joined cut);
+      tombstone_count = count_by is_tombstone es;
+      weak_tombstone_count = count_by is_weak es;
+      weak_tombstone_reclaimable_count = count_after is_reclaimable None es;
+      key_count = count_after starts_key None es;
+      file_pos = record { 0 = length (data_section v cut) };
+      uncompressed_size = sum_by (λ c. length (payload v c)) cut;
+      first_key = first_key es;
+      last_key = last_key (joined cut);
+      lowest_seqno = lowest_seqno es;
+      highest_seqno = highest_seqno es
+    }
+
+-- the first of two that there is
+abbrev pub or_first : {X : Type 0} → Option X → Option X → Option X
+or_first None other = other
+or_first (Some x) other = Some x
+
+-- one more entry is counted, after the one before it
+abbrev pub counted : {A : Type 0} → Option Entry → Entry → Metadata A → Metadata A
+counted before e m = record m {
+  tombstone_count = m.tombstone_count + one_if (is_tombstone e);
+  weak_tombstone_count = m.weak_tombstone_count + one_if (is_weak e);
+  weak_tombstone_reclaimable_count = m.weak_tombstone_reclaimable_count + one_if (is_reclaimable before e);
+  key_count = m.key_count + one_if (starts_key before e);
+  first_key = or_first m.first_key (Some e.user_key);
+  lowest_seqno = min m.lowest_seqno e.seqno;
+  highest_seqno = max m.highest_seqno e.seqno
+}
+
+-- no count is at its largest value
+pub record HasRoom {A : Type 0} (m : Metadata A) : Type 0 where
+  pub tombstones : m.tombstone_count + 1 < 2 ^ 64
+  pub weak : m.weak_tombstone_count + 1 < 2 ^ 64
+  pub reclaimable : m.weak_tombstone_reclaimable_count + 1 < 2 ^ 64
+  pub keys : m.key_count + 1 < 2 ^ 64

@@ -1,0 +1,42 @@
+-- The bytes of a table.
+use Rattle.std.specs.Prelude.{◌≡◌, ℕ, List, [], ◌∷◌, ◌++◌}
+use Rattle.sst_blocks.specs.declared.version.TableVersion.{TableVersion}
+use Rattle.sst_blocks.specs.declared.block_type.BlockType.TheVariants.{Index, Meta}
+use Rattle.sst_blocks.specs.declared.section.SectionName.TheVariants.{Data, Tli, TableVersion as VersionSection, Meta as MetaSection}
+use Rattle.sst_blocks.specs.Block.{block_bytes}
+use Rattle.sst_blocks.specs.Entry.{Entry}
+use Rattle.sst_blocks.specs.Handles.{handles_payload}
+use Rattle.sst_blocks.specs.Payload.{payload}
+use Rattle.sst_blocks.specs.Sections.{finished}
+use Rattle.lsm_writers.specs.Chunks.{AreChunks}
+use Rattle.lsm_writers.specs.Index.{handles, data_section}
+use Rattle.lsm_writers.specs.Layout.{Sections, laid}
+use Rattle.lsm_writers.specs.MetaBlock.{Blocks, meta_entries, version_number}
+use Rattle.lsm_writers.specs.Options.{Options, Label}
+
+-- a full index: one block of all handles
+abbrev pub index_sections : TableVersion → List (List Entry) → Sections
+index_sections v cs = (Tli, block_bytes v Index (handles_payload v (handles v cs))) ∷ []
+
+-- one block for a full index, and one for a full filter, even where it has no keys
+abbrev pub counted_blocks : Blocks
+counted_blocks = record { index = 1; filter = 1 }
+
+-- the number of the version, and the block of the meta items
+abbrev pub closing_sections : TableVersion → Label → Options → List (List Entry) → Sections
+closing_sections v label options cs =
+    (VersionSection, version_number v ∷ []) ∷ (MetaSection, block_bytes v Meta (payload v (meta_entries v label options cs counted_blocks))) ∷ []
+
+-- the data blocks, the index, the version and the meta block, in this order
+abbrev pub sections_of : TableVersion → Label → Options → List (List Entry) → Sections
+sections_of v label options cs = (Data, data_section v cs) ∷ (index_sections v cs ++ closing_sections v label options cs)
+
+-- a table's bytes: the sections and their trailer
+abbrev pub file : TableVersion → Label → Options → List (List Entry) → List ℕ
+file v label options cs = finished (laid (sections_of v label options cs))
+
+-- the bytes are a table of a list, whose data blocks hold its chunks
+pub record IsFile (v : TableVersion) (bytes : List ℕ) (label : Label) (options : Options) (spills : List ℕ) (es : List Entry) : Type 0 where
+  pub blocks : List (List Entry)
+  pub chunks : AreChunks options.data_block_size spills es blocks
+  pub are : bytes ≡ file v label options blocks

@@ -1,0 +1,11 @@
+pub mod Chunks
+pub mod Index
+pub mod Facts
+pub mod Options
+pub mod Layout
+pub mod MetaBlock
+pub mod File
+pub mod Counts
+pub mod Cut
+pub mod Writing
+pub mod Registered

@@ -1,0 +1,73 @@
+-- The state of a writer, and what its calls do to it.
+use Rattle.std.specs.Prelude.{◌≡◌, ℕ, ◌+◌, ◌-◌, ◌^◌, Bool, true, false, ◌&&◌, nat_lt, nat_le, List, [], ◌∷◌, ◌++◌, length, Option, Some, None, if◌then◌else◌}
+use Rattle.sst_blocks.specs.declared.version.TableVersion.TheVariants.{V4}
+use Rattle.sst_blocks.specs.declared.value_type.ValueType.TheVariants.{Value}
+use Rattle.sst_blocks.specs.declared.error.Error.{Error}
+use Rattle.sst_blocks.specs.declared.error.Error.TheVariants.{KeyTooLong, ValueTooLong, WriterFailed}
+use Rattle.sst_blocks.specs.Bounds.{data_block_bound_of, index_block_bound_of}
+use Rattle.sst_blocks.specs.Encoding.{is_long_key, large_fault}
+use Rattle.sst_blocks.specs.Entry.{Entry, entry}
+use Rattle.sst_blocks.specs.Strict.{may_follow, last_of}
+use Rattle.lsm_writers.specs.Chunks.{joined, is_full}
+use Rattle.lsm_writers.specs.Index.{handles}
+use Rattle.lsm_writers.specs.Options.{Options, Label}
+
+-- the chunks whose blocks were cut, the entries of the next block, and whether the writer has refused
+pub record Writing : Type 0 where
+  pub label : Label
+  pub options : Options
+  pub cut : List (List Entry)
+  pub pending : List Entry
+  pub failed : Bool
+
+-- the list written: the entries of the cut blocks, then the pending ones
+abbrev pub written : Writing → List Entry
+written w = joined w.cut ++ w.pending
+
+-- no entry was given yet
+abbrev pub IsFresh : Writing → Type 0
+IsFresh w = (w.cut ≡ []) × (w.pending ≡ []) × (w.failed ≡ false)
+
+-- a key and number may come next: the number is below the largest one, and they come strictly after the last entry
+abbrev pub follows : List Entry → List ℕ → ℕ → Bool
+follows es key seqno = nat_lt seqno (2 ^ 64 - 1) && may_follow (last_of None es) (entry key [] seqno Value)
+
+-- what writing an entry refuses: the first fault
+abbrev pub write_fault : Writing → Entry → Option Error
+write_fault w e =
+    if w.failed then Some WriterFailed
+    else (if is_long_key e.user_key then Some KeyTooLong
+    else (if nat_le (2 ^ 32) (length e.value) then Some ValueTooLong
+    else large_fault (data_block_bound_of (w.pending ++ e ∷ []))))
+
+-- one more entry; the block is cut once it is full
+abbrev pub gained : Writing → Entry → Writing
+gained w e =
+    let chunk = w.pending ++ e ∷ [] in
+    if is_full w.options.data_block_size chunk then record w { cut = w.cut ++ chunk ∷ []; pending = [] } else record w { pending = chunk }
+
+-- what is left as a chunk, where there is something
+abbrev pub rest_of : List Entry → List (List Entry)
+rest_of [] = []
+rest_of (e ∷ es) = (e ∷ es) ∷ []
+
+-- all chunks, with what is pending as the last one
+abbrev pub blocks_of : Writing → List (List Entry)
+blocks_of w = w.cut ++ rest_of w.pending
+
+-- the pending entries are cut off as a block
+abbrev pub spilled : Writing → Writing
+spilled w = record w { cut = blocks_of w; pending = [] }
+
+-- where chunks end that are not full, the first of them at a place
+unfoldable pub early_ends : ℕ → ℕ → List (List Entry) → List ℕ
+early_ends size at [] = []
+early_ends size at (c ∷ cs) = if is_full size c then early_ends size (at + length c) cs else (at + length c) ∷ early_ends size (at + length c) cs
+
+-- the places where a block was spilled before it was full
+abbrev pub spills_of : Writing → List ℕ
+spills_of w = early_ends w.options.data_block_size 0 w.cut
+
+-- what finishing refuses: the block of the index is too large
+abbrev pub finish_fault : Writing → Option Error
+finish_fault w = if w.failed then Some WriterFailed else large_fault (index_block_bound_of (handles V4 (blocks_of w)))

@@ -1,0 +1,11 @@
+//! Writing sorted tables: entries in strict order come in, and the bytes of a table come out.
+#![tactic(auto)]
+
+mod id;
+mod timestamp;
+mod writer;
+
+pub use id::{GlobalTableId, TableId, TreeId};
+pub use timestamp::Timestamp;
+pub use writer::index::{BlockIndexWriter, FullIndexWriter};
+pub use writer::meta::Metadata;

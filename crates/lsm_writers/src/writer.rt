@@ -1,0 +1,4 @@
+//! Writing a table.
+
+pub mod index;
+pub mod meta;

@@ -1,0 +1,125 @@
+//! What a writer knows of the table so far.
+ghost use Rattle.std.specs.Prelude.{◌≡◌, OnOk, OnErr, IfErr};
+ghost use Rattle.std.specs.Option.{option_copied};
+ghost use Rattle.sst_blocks.specs.declared.error.Error.TheVariants.{OutOfMemory};
+ghost use Rattle.lsm_writers.specs.Facts.{is_weak, is_weak_kind, is_value_kind, starts_key, is_reclaimable};
+
+use sst_blocks::{BlockOffset, Error, InternalValue, SeqNo, UserKey, ValueType};
+use std::alloc::{Allocator, Global};
+
+/// Counts of what was written. The fields that speak of blocks, with `item_count` and `last_key`, change when a block is
+/// cut; the others change with each entry.
+#[derive(Drop)]
+#[derive_where(Debug)]
+pub struct Metadata<A: Allocator = Global> {
+    /// Data blocks that were cut.
+    pub data_block_count: usize,
+    /// Entries in the blocks that were cut.
+    pub item_count: usize,
+    /// Entries that are tombstones of either kind.
+    pub tombstone_count: usize,
+    /// Entries that are weak tombstones.
+    pub weak_tombstone_count: usize,
+    /// Values directly after a weak tombstone of their key, which both may go once no reader needs them.
+    pub weak_tombstone_reclaimable_count: usize,
+    /// Distinct keys.
+    pub key_count: usize,
+    /// Where the next data block begins.
+    pub file_pos: BlockOffset,
+    /// The payloads of the data blocks that were cut, in bytes.
+    pub uncompressed_size: u64,
+    /// The first key.
+    pub first_key: Option<UserKey<A>>,
+    /// The last key of the blocks that were cut.
+    pub last_key: Option<UserKey<A>>,
+    /// The lowest number, `u64::MAX` where there is none.
+    pub lowest_seqno: SeqNo,
+    /// The highest number, 0 where there is none.
+    pub highest_seqno: SeqNo,
+}
+
+impl<A: Allocator> Default for Metadata<A> {
+    ghost use Rattle.std.specs.Prelude.{◌≡◌};
+    ghost use Rattle.lsm_writers.specs.Counts.{no_counts};
+
+    fn default() -> Metadata<A>
+        ensures { result ≡ no_counts }
+    {
+        Metadata {
+            data_block_count: 0,
+            item_count: 0,
+            tombstone_count: 0,
+            weak_tombstone_count: 0,
+            weak_tombstone_reclaimable_count: 0,
+            key_count: 0,
+            file_pos: BlockOffset(0),
+            uncompressed_size: 0,
+            first_key: None,
+            last_key: None,
+            lowest_seqno: SeqNo::MAX,
+            highest_seqno: 0,
+        }
+    }
+}
+
+/// Whether an entry is the first of its key, by the entry directly before it.
+fn starts_key<A: Allocator>(before: Option<&InternalValue<A>>, item: &InternalValue<A>) -> bool
+    ensures { result ≡ starts_key (option_copied before.entry) item.now }
+{
+    match before {
+        None => true,
+        Some(before) => before.key.user_key != item.key.user_key,
+    }
+}
+
+/// Whether an entry is a value directly after a weak tombstone of its key.
+fn is_reclaimable<A: Allocator>(before: Option<&InternalValue<A>>, item: &InternalValue<A>) -> bool
+    ensures { result ≡ is_reclaimable (option_copied before.entry) item.now }
+{
+    match before {
+        None => false,
+        Some(before) => {
+            is_value(item.key.value_type)
+                && is_weak(before.key.value_type)
+                && before.key.user_key == item.key.user_key
+        }
+    }
+}
+
+fn is_weak(kind: ValueType) -> bool
+    ensures { result ≡ is_weak_kind kind }
+{
+    matches!(kind, ValueType::WeakTombstone)
+}
+
+fn is_value(kind: ValueType) -> bool
+    ensures { result ≡ is_value_kind kind }
+{
+    matches!(kind, ValueType::Value)
+}
+
+impl<A: Allocator> Metadata<A> {
+    ghost use Rattle.std.specs.Prelude.{◌≡◌, OnOk, OnErr, IfErr};
+    ghost use Rattle.std.specs.Option.{option_copied};
+    ghost use Rattle.sst_blocks.specs.declared.error.Error.TheVariants.{OutOfMemory};
+    ghost use Rattle.lsm_writers.specs.Counts.{counted, HasRoom};
+
+    /// Counts one more entry, after the one before it. Refused [`Error::OutOfMemory`]; nothing changes then.
+    pub(crate) fn count(&mut self, before: Option<&InternalValue<A>>, item: &InternalValue<A>) -> Result<(), Error>
+        requires { HasRoom self.old }
+        ensures ok { OnOk result (self.new ≡ counted (option_copied before.entry) item.now self.old) }
+        ensures unchanged { OnErr result (self.new ≡ self.old) }
+        ensures err { IfErr result (λ e. e ≡ OutOfMemory) }
+    {
+        if self.first_key.is_none() {
+            self.first_key = Some(item.key.user_key.clone()?);
+        }
+        self.tombstone_count += usize::from(item.is_tombstone());
+        self.weak_tombstone_count += usize::from(is_weak(item.key.value_type));
+        self.weak_tombstone_reclaimable_count += usize::from(is_reclaimable(before, item));
+        self.key_count += usize::from(starts_key(before, item));
+        self.lowest_seqno = self.lowest_seqno.min(item.key.seqno);
+        self.highest_seqno = self.highest_seqno.max(item.key.seqno);
+        Ok(())
+    }
+}
