@@ -8,7 +8,7 @@ use sst_blocks::{CompressionType, Error, KeyedBlockHandle, SectionWriter};
 use std::alloc::Allocator;
 
 /// Takes the handles of the data blocks, and writes an index of them.
-pub trait BlockIndexWriter {
+pub trait BlockIndexWriter<A: Allocator> {
     ghost use Rattle.std.specs.Prelude.{◌≡◌, ℕ, Bool, true, false, List, [], ◌∷◌, ◌++◌, length, take, Option, OnOk, OnErr, IfOk};
     ghost use Rattle.sst_blocks.specs.Error.{Faults};
     ghost use Rattle.sst_blocks.specs.Handle.{Handle};
@@ -16,9 +16,6 @@ pub trait BlockIndexWriter {
     ghost use Rattle.sst_blocks.specs.declared.error.Error.{Error};
     ghost use Rattle.lsm_writers.specs.Layout.{Sections};
     ghost use Rattle.lsm_writers.specs.Registered.{HasNoIndex, appended, failed_fault};
-
-    /// The allocator of the handles.
-    type Alloc: Allocator;
 
     /// The handles that were registered.
     ghost registered: { Self → List Handle };
@@ -37,9 +34,9 @@ pub trait BlockIndexWriter {
 
     /// Registers a data block. The blocks are registered in strict order of their end keys and numbers. Refused
     /// [`Error::WriterFailed`] where it has refused before, and [`Error::OutOfMemory`]; it has then failed.
-    fn register_data_block(&mut self, handle: KeyedBlockHandle<Self::Alloc>) -> Result<(), Error>
-        requires { AreStrictHandles (registered self.old ++ handle ∷ []) }
-        ensures ok { OnOk result (registered self.new ≡ registered self.old ++ handle ∷ []) }
+    fn register_data_block(&mut self, handle: &KeyedBlockHandle<A>) -> Result<(), Error>
+        requires { AreStrictHandles (registered self.old ++ handle.now ∷ []) }
+        ensures ok { OnOk result (registered self.new ≡ registered self.old ++ handle.now ∷ []) }
         ensures works { OnOk result (has_failed self.new ≡ false) }
         ensures unchanged { OnErr result (registered self.new ≡ registered self.old) }
         ensures failed { OnErr result (has_failed self.new ≡ true) }
@@ -47,7 +44,7 @@ pub trait BlockIndexWriter {
 
     /// Writes the index, and answers of how many blocks it is. Refused [`Error::WriterFailed`] where it has refused before,
     /// where a block or a section is too large, and [`Error::OutOfMemory`]; the bytes that were written before stay.
-    fn finish(self, writer: &mut SectionWriter<Self::Alloc>) -> Result<usize, Error>
+    fn finish(self, writer: &mut SectionWriter<A>) -> Result<usize, Error>
         requires { HasNoIndex writer.old }
         ensures ok { OnOk result (writer.new ≡ appended writer.old (index_sections self (length writer.old.bytes))) }
         ensures count { IfOk result (λ n. n ≡ block_count self) }

@@ -38,13 +38,11 @@ impl<A: Allocator> FullIndexWriter<A> {
     }
 }
 
-impl<A: Allocator + Clone> BlockIndexWriter for FullIndexWriter<A> {
+impl<A: Allocator + Clone> BlockIndexWriter<A> for FullIndexWriter<A> {
     ghost use Rattle.std.specs.Prelude.{◌≡◌, true, false, [], ◌∷◌, ◌++◌, length, take, OnOk, OnErr, IfOk};
     ghost use Rattle.sst_blocks.specs.Error.{Faults};
     ghost use Rattle.sst_blocks.specs.Handles.{AreStrictHandles};
     ghost use Rattle.lsm_writers.specs.Registered.{HasNoIndex, appended, failed_fault, full_index, full_index_fault};
-
-    type Alloc = A;
 
     ghost registered = { λ w. w.handles };
 
@@ -56,9 +54,9 @@ impl<A: Allocator + Clone> BlockIndexWriter for FullIndexWriter<A> {
 
     ghost finish_fault = { full_index_fault };
 
-    fn register_data_block(&mut self, handle: KeyedBlockHandle<A>) -> Result<(), Error>
-        requires { AreStrictHandles (self.old.handles ++ handle ∷ []) }
-        ensures ok { OnOk result (self.new.handles ≡ self.old.handles ++ handle ∷ []) }
+    fn register_data_block(&mut self, handle: &KeyedBlockHandle<A>) -> Result<(), Error>
+        requires { AreStrictHandles (self.old.handles ++ handle.now ∷ []) }
+        ensures ok { OnOk result (self.new.handles ≡ self.old.handles ++ handle.now ∷ []) }
         ensures works { OnOk result (self.new.failed ≡ false) }
         ensures unchanged { OnErr result (self.new.handles ≡ self.old.handles) }
         ensures failed { OnErr result (self.new.failed ≡ true) }
@@ -68,7 +66,7 @@ impl<A: Allocator + Clone> BlockIndexWriter for FullIndexWriter<A> {
             return Err(Error::WriterFailed);
         }
         self.failed = true;
-        self.block_handles.push(handle)?;
+        self.block_handles.push(handle.clone()?)?;
         self.failed = false;
         Ok(())
     }
