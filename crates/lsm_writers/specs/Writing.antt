@@ -9,6 +9,7 @@ use Rattle.sst_blocks.specs.Encoding.{is_long_key, large_fault}
 use Rattle.sst_blocks.specs.Entry.{Entry, entry}
 use Rattle.sst_blocks.specs.Strict.{may_follow, last_of}
 use Rattle.lsm_writers.specs.Chunks.{joined, is_full}
+use Rattle.lsm_writers.specs.Cut.{rest_of}
 use Rattle.lsm_writers.specs.Index.{handles}
 use Rattle.lsm_writers.specs.Options.{Options, Label}
 
@@ -45,11 +46,6 @@ abbrev pub gained : Writing → Entry → Writing
 gained w e =
     let chunk = w.pending ++ e ∷ [] in
     if is_full w.options.data_block_size chunk then record w { cut = w.cut ++ chunk ∷ []; pending = [] } else record w { pending = chunk }
-
--- what is left as a chunk, where there is something
-abbrev pub rest_of : List Entry → List (List Entry)
-rest_of [] = []
-rest_of (e ∷ es) = (e ∷ es) ∷ []
 
 -- all chunks, with what is pending as the last one
 abbrev pub blocks_of : Writing → List (List Entry)
