@@ -1,3 +1,4 @@
 pub mod Listing
 pub mod Orders
 pub mod Cutting
+pub mod Taking

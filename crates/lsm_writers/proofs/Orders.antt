@@ -1,6 +1,6 @@
 -- Strict lists of entries and of the handles of their chunks.
 use Rattle.std.proofs.Common.{◌≡◌, refl, sym, ◌∙◌, ap, subst, ℕ, suc, ◌+◌, ◌-◌, ◌<◌, Bool, true, false, List, [], ◌∷◌, ◌++◌, length, get_or, map, arith, rules}
-use Rattle.std.specs.Prelude.{Option, Some, None, unwrap_or, slice_get, ◌&&◌}
+use Rattle.std.specs.Prelude.{Option, Some, None, unwrap_or, slice_get, nat_lt, ◌^◌, ◌&&◌}
 use Rattle.std.specs.List.{flat_map, AllByRecursion}
 use Rattle.std.proofs.lemmas.Option.{get_or_from_slice_get}
 use Rattle.std.specs.declared.cmp.Ordering.{Ordering}
@@ -14,6 +14,7 @@ use Rattle.sst_blocks.specs.Entry.{Entry, entry}
 use Rattle.sst_blocks.specs.Handles.{end_of, AreStrictHandles}
 use Rattle.sst_blocks.specs.Strict.{number_cmp, is_before, may_follow, IsStrictAfter, IsStrict, last_of}
 use Rattle.lsm_writers.specs.Chunks.{joined}
+use Rattle.lsm_writers.specs.Writing.{follows}
 use Rattle.lsm_writers.specs.Index.{last_entry, block_size, handle_of, handles_from, handles}
 
 number_total : IsTotalOrder number_cmp
@@ -124,3 +125,20 @@ last_popped d es x n r e h k p =
     let at : Some x ≡ slice_get es (length es - 1) = subst (λ (y : List Entry). Some x ≡ slice_get y (length y - 1)) e h in
     let here : get_or es (n - 1) x ≡ x = rw k (get_or_from_slice_get es (length es - 1) x x (sym at)) in
     p ∙ ap (λ (y : Entry). Some y) (here ∙ sym (last_place d es x e h).1)
+
+pub last_is : (before : Option Entry) (es : List Entry) (x : Entry) → Some x ≡ slice_get es (length es - 1) → Some x ≡ last_of before es
+last_is before es x h = sym (last_at before es x h).1
+
+pub last_is_before : (before : Option Entry) (es : List Entry) → None ≡ slice_get es (length es - 1) → before ≡ last_of before es
+unfolding last_of
+last_is_before before es h = rw (no_place es h) refl
+
+-- what may follow is told by the key and the number
+pub follows_last : (es : List Entry) (key : List ℕ) (n : ℕ) (last : Entry) → last_of None es ≡ Some last → nat_lt n (2 ^ 64 - 1) ≡ true → is_before last (entry key [] n Value) ≡ follows es key n
+follows_last es key n last h lt = rw (h, lt) refl
+
+pub follows_nothing : (es : List Entry) (key : List ℕ) (n : ℕ) → last_of None es ≡ None → nat_lt n (2 ^ 64 - 1) ≡ true → true ≡ follows es key n
+follows_nothing es key n h lt = rw (h, lt) refl
+
+pub last_written_is : (r o : Option Entry) (cut : List (List Entry)) (pending d : List Entry) → r ≡ last_of o d → o ≡ last_of None (joined cut) → d ≡ pending → last_of None (joined cut ++ pending) ≡ r
+last_written_is r o cut pending d er eo ed = last_of-append None (joined cut) pending ∙ sym (rw (er, eo, ed) refl)

@@ -33,13 +33,16 @@ IsFresh w = (w.cut ≡ []) × (w.pending ≡ []) × (w.failed ≡ false)
 abbrev pub follows : List Entry → List ℕ → ℕ → Bool
 follows es key seqno = nat_lt seqno (2 ^ 64 - 1) && may_follow (last_of None es) (entry key [] seqno Value)
 
--- what writing an entry refuses: the first fault
-abbrev pub write_fault : Writing → Entry → Option Error
-write_fault w e =
-    if w.failed then Some WriterFailed
-    else (if is_long_key e.user_key then Some KeyTooLong
+-- what is wrong with an entry after the pending ones: the first fault
+abbrev pub item_fault : List Entry → Entry → Option Error
+item_fault pending e =
+    if is_long_key e.user_key then Some KeyTooLong
     else (if nat_le (2 ^ 32) (length e.value) then Some ValueTooLong
-    else large_fault (data_block_bound_of (w.pending ++ e ∷ []))))
+    else large_fault (data_block_bound_of (pending ++ e ∷ [])))
+
+-- what writing an entry refuses
+abbrev pub write_fault : Writing → Entry → Option Error
+write_fault w e = if w.failed then Some WriterFailed else item_fault w.pending e
 
 -- one more entry; the block is cut once it is full
 abbrev pub gained : Writing → Entry → Writing
