@@ -69,7 +69,7 @@ same_before a b [] same h = tt
 same_before a b (e ∷ es) same h = (same e ∙ h.0, h.1)
 
 -- only the key and the number of what comes next count
-ends_follow : (before : Option Entry) (a b : Entry) → a.user_key ≡ b.user_key → a.seqno ≡ b.seqno → may_follow before b ≡ true → may_follow before a ≡ true
+pub ends_follow : (before : Option Entry) (a b : Entry) → a.user_key ≡ b.user_key → a.seqno ≡ b.seqno → may_follow before b ≡ true → may_follow before a ≡ true
 ends_follow None a b k n f = refl
 ends_follow (Some x) a b k n f = rw (k, n) f
 

@@ -126,6 +126,7 @@ impl<A: Allocator + Clone> Writer<A> {
             return Err(Error::WriterFailed);
         }
         self.failed = true;
+        let options = self.options;
         check_item(&self.chunk, self.chunk_size, &item)?;
         self.chunk.reserve(1)?;
         let cut = self.blocks.last();
@@ -133,8 +134,8 @@ impl<A: Allocator + Clone> Writer<A> {
         self.meta.count(before, &item)?;
         self.chunk_size += item.key.user_key.len() + item.value.len();
         self.chunk.push(item)?;
-        if self.chunk_size >= self.options.data_block_size as usize {
-            self.blocks.cut(&mut self.chunk, &mut self.meta, &self.options)?;
+        if self.chunk_size >= options.data_block_size as usize {
+            self.blocks.cut(&mut self.chunk, &mut self.meta, &options)?;
             self.chunk_size = 0;
         }
         self.failed = false;

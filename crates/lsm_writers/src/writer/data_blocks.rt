@@ -1,5 +1,5 @@
 //! The data blocks of a table, with the index that they are registered with.
-ghost use Rattle.std.specs.Prelude.{◌≡◌, ◌+◌, ◌++◌, ◌^◌, ◌<◌, [], None, false, length, IfOk, IfErr, OnOk, OnErr};
+ghost use Rattle.std.specs.Prelude.{◌≡◌, ◌+◌, ◌*◌, ◌++◌, ◌^◌, ◌<◌, [], None, false, length, IfOk, IfErr, OnOk, OnErr};
 ghost use Rattle.std.specs.Option.{option_copied};
 ghost use Rattle.sst_blocks.specs.declared.error.Error.TheVariants.{OutOfMemory};
 ghost use Rattle.sst_blocks.specs.Encoding.{entries_fault};
@@ -27,15 +27,16 @@ pub(crate) struct DataBlocks<A: Allocator = Global> {
 }
 
 impl<A: Allocator> Model for DataBlocks<A> {
-    ghost use Rattle.std.specs.Prelude.{length};
+    ghost use Rattle.std.specs.Prelude.{◌*◌, ◌^◌, ◌<◌, length};
     ghost use Rattle.sst_blocks.specs.declared.version.TableVersion.TheVariants.{V4};
+    ghost use Rattle.lsm_writers.specs.Chunks.{joined};
     ghost use Rattle.lsm_writers.specs.Cut.{Cut, chunks_in, AreCut};
 
     ghost Value = { Cut };
 
     ghost view = { λ b. record { chunks = chunks_in V4 (length b.index_writer.handles) b.file_writer.bytes; failed = b.index_writer.failed } };
 
-    ghost invariant = { λ b. AreCut (chunks_in V4 (length b.index_writer.handles) b.file_writer.bytes) b.file_writer b.index_writer.handles b.last b.index_writer.failed };
+    ghost invariant = { λ b. AreCut (chunks_in V4 (length b.index_writer.handles) b.file_writer.bytes) b.file_writer b.index_writer.handles b.last b.index_writer.failed × (17 * length (joined (chunks_in V4 (length b.index_writer.handles) b.file_writer.bytes)) < 2 ^ 64) };
 }
 
 impl<A: Allocator + Clone> DataBlocks<A> {
@@ -56,7 +57,9 @@ impl<A: Allocator + Clone> DataBlocks<A> {
 
     /// The last entry of the blocks.
     pub(crate) fn last(&self) -> Option<&InternalValue<A>>
-        ensures { option_copied result ≡ last_of None (joined self.now.chunks) }
+        ensures last { option_copied result ≡ last_of None (joined self.now.chunks) }
+        // Each entry has bytes of its own, so there are fewer than can be counted.
+        ensures few { 17 * length (joined self.now.chunks) < 2 ^ 64 }
     {
         self.last.as_ref()
     }

@@ -10,7 +10,7 @@ use Rattle.sst_blocks.specs.Strict.{IsStrict}
 use Rattle.lsm_writers.specs.Chunks.{joined}
 use Rattle.lsm_writers.specs.Cut.{chunks_in, AreCut, IsReadable, Cut, with_cut, rest_of}
 use Rattle.lsm_writers.specs.Index.{last_entry, handles, data_section, handle_of}
-use Rattle.lsm_writers.proofs.Cutting.{cut_more, cut_lost, held_again, held_by_bytes, counted_more, readable_of, handle_is, registered_strict, rest_is, room_for, at_least_blocks, exact_blocks}
+use Rattle.lsm_writers.proofs.Cutting.{cut_more, cut_lost, held_again, held_by_bytes, counted_more, readable_of, handle_is, registered_strict, rest_is, room_for, at_least_blocks, exact_blocks, sizes}
 use Rattle.lsm_writers.proofs.Listing.{on_err}
 use Rattle.lsm_writers.proofs.Orders.{strict_alone, strict_back, last_place, last_popped}
 use Rattle.lsm_writers.proofs.writer.data_blocks.DataBlocks.cut.Goals as goal
@@ -27,18 +27,18 @@ register_data_block-requires g c =
     let readable = readable_of _ _ c.deref-2.ensures.value place.0 c.in_ok-encode_into.ensures.reads c.in_ok-encode_into.ensures.short c.in_ok-encode_into.ensures.bound in
     let spelled : c.deref-3.result.now ≡ payload V4 c.args.chunk.now.items = rw (c.deref-3.ensures.value, c.in_ok-encode_into.ensures.ok, c.clear.ensures.items, c.deref-2.ensures.value) refl in
     let handle = handle_is c.new-handle.result _ _ c.in_ok-place.place c.self.inside.file_writer c.deref-3.result.now c.args.chunk.now.items c.in-Some.last.now c.new-handle.ensures (c.in_ok-end_key.ensures.cases ∙ ap (λ (y : Entry). y.user_key) c.last-2.view_is) (ap (λ (y : Entry). y.seqno) c.last-2.view_is) place.1 c.in_ok-place.ensures.handle spelled in
-    registered_strict _ _ _ _ _ _ _ c.self.invariant works strict readable handle
+    registered_strict _ _ _ _ _ _ _ c.self.invariant.0 works strict readable handle
 
 pub invariant_of-self-in_err-register_data_block :
     goal.invariant_of-self-in_err-register_data_block
 invariant_of-self-in_err-register_data_block g c =
-    let lost = cut_lost _ c.self.inside.file_writer c.write_into.new.writer c.self.inside.index_writer.handles c.register_data_block.new.self.handles _ c.self.inside.index_writer.failed c.register_data_block.new.self.failed _ c.self.invariant c.in_ok-place.ensures.ok c.in_err-register_data_block.ensures.unchanged c.in_err-register_data_block.ensures.failed in
-    held_by_bytes _ _ _ _ _ lost
+    let lost = cut_lost _ c.self.inside.file_writer c.write_into.new.writer c.self.inside.index_writer.handles c.register_data_block.new.self.handles _ c.self.inside.index_writer.failed c.register_data_block.new.self.failed _ c.self.invariant.0 c.in_ok-place.ensures.ok c.in_err-register_data_block.ensures.unchanged c.in_err-register_data_block.ensures.failed in
+    (held_by_bytes _ _ _ _ _ lost, rw (held_again _ _ _ _ _ lost) c.self.invariant.1)
 
 pub returns-in_err-register_data_block-clause-unchanged :
     goal.returns-in_err-register_data_block-clause-unchanged
 returns-in_err-register_data_block-clause-unchanged g c =
-    let lost = cut_lost _ c.self.inside.file_writer c.write_into.new.writer c.self.inside.index_writer.handles c.register_data_block.new.self.handles _ c.self.inside.index_writer.failed c.register_data_block.new.self.failed _ c.self.invariant c.in_ok-place.ensures.ok c.in_err-register_data_block.ensures.unchanged c.in_err-register_data_block.ensures.failed in
+    let lost = cut_lost _ c.self.inside.file_writer c.write_into.new.writer c.self.inside.index_writer.handles c.register_data_block.new.self.handles _ c.self.inside.index_writer.failed c.register_data_block.new.self.failed _ c.self.invariant.0 c.in_ok-place.ensures.ok c.in_err-register_data_block.ensures.unchanged c.in_err-register_data_block.ensures.failed in
     let same : chunks_in V4 (length c.register_data_block.new.self.handles) c.write_into.new.writer.bytes ≡ c.args.self.now.chunks = held_again _ _ _ _ _ lost ∙ ap (λ (x : Cut). x.chunks) c.self.view_is in
     on_err _ same
 
@@ -55,7 +55,7 @@ overflow_add-meta g c =
     let bytes : c.write_into.new.writer ≡ record w { bytes = w.bytes ++ block_bytes V4 Data (payload V4 c.args.chunk.now.items) } = c.in_ok-place.ensures.ok ∙ ap (λ (p : List ℕ). record w { bytes = w.bytes ++ block_bytes V4 Data p }) spelled in
     let hs : c.register_data_block.new.self.handles ≡ c.self.inside.index_writer.handles ++ handle_of V4 (length w.bytes) c.args.chunk.now.items ∷ [] = c.in_ok-register_data_block.ensures.ok ∙ ap (λ (h : Handle). c.self.inside.index_writer.handles ++ h ∷ []) handle in
     let last : Some (last_entry c.args.chunk.now.items) ≡ Some (last_entry c.args.chunk.now.items) = refl in
-    let more = cut_more _ w c.write_into.new.writer c.self.inside.index_writer.handles c.register_data_block.new.self.handles c.self.inside.last (Some (last_entry c.args.chunk.now.items)) c.self.inside.index_writer.failed c.register_data_block.new.self.failed c.args.chunk.now.items c.self.invariant works strict readable bytes hs last in
+    let more = cut_more _ w c.write_into.new.writer c.self.inside.index_writer.handles c.register_data_block.new.self.handles c.self.inside.last (Some (last_entry c.args.chunk.now.items)) c.self.inside.index_writer.failed c.register_data_block.new.self.failed c.args.chunk.now.items c.self.invariant.0 works strict readable bytes hs last in
     let are = subst (λ (x : List (List Entry)). c.args.meta.now ≡ with_cut x c.args.meta.now) (sym cs) c.requires.counts.are in
     let le = at_least_blocks _ _ _ _ _ more in
     let lt : length c.write_into.new.writer.bytes < 2 ^ 64 = omega arith in
@@ -75,7 +75,7 @@ overflow_add-meta-2 g c =
     let bytes : c.write_into.new.writer ≡ record w { bytes = w.bytes ++ block_bytes V4 Data (payload V4 c.args.chunk.now.items) } = c.in_ok-place.ensures.ok ∙ ap (λ (p : List ℕ). record w { bytes = w.bytes ++ block_bytes V4 Data p }) spelled in
     let hs : c.register_data_block.new.self.handles ≡ c.self.inside.index_writer.handles ++ handle_of V4 (length w.bytes) c.args.chunk.now.items ∷ [] = c.in_ok-register_data_block.ensures.ok ∙ ap (λ (h : Handle). c.self.inside.index_writer.handles ++ h ∷ []) handle in
     let last : Some (last_entry c.args.chunk.now.items) ≡ Some (last_entry c.args.chunk.now.items) = refl in
-    let more = cut_more _ w c.write_into.new.writer c.self.inside.index_writer.handles c.register_data_block.new.self.handles c.self.inside.last (Some (last_entry c.args.chunk.now.items)) c.self.inside.index_writer.failed c.register_data_block.new.self.failed c.args.chunk.now.items c.self.invariant works strict readable bytes hs last in
+    let more = cut_more _ w c.write_into.new.writer c.self.inside.index_writer.handles c.register_data_block.new.self.handles c.self.inside.last (Some (last_entry c.args.chunk.now.items)) c.self.inside.index_writer.failed c.register_data_block.new.self.failed c.args.chunk.now.items c.self.invariant.0 works strict readable bytes hs last in
     let are = subst (λ (x : List (List Entry)). c.args.meta.now ≡ with_cut x c.args.meta.now) (sym cs) c.requires.counts.are in
     let le = at_least_blocks _ _ _ _ _ more in
     let lt : length c.write_into.new.writer.bytes < 2 ^ 64 = omega arith in
@@ -96,7 +96,7 @@ overflow_add-meta-3 g c =
     let bytes : c.write_into.new.writer ≡ record w { bytes = w.bytes ++ block_bytes V4 Data (payload V4 c.args.chunk.now.items) } = c.in_ok-place.ensures.ok ∙ ap (λ (p : List ℕ). record w { bytes = w.bytes ++ block_bytes V4 Data p }) spelled in
     let hs : c.register_data_block.new.self.handles ≡ c.self.inside.index_writer.handles ++ handle_of V4 (length w.bytes) c.args.chunk.now.items ∷ [] = c.in_ok-register_data_block.ensures.ok ∙ ap (λ (h : Handle). c.self.inside.index_writer.handles ++ h ∷ []) handle in
     let last : Some (last_entry c.args.chunk.now.items) ≡ Some (last_entry c.args.chunk.now.items) = refl in
-    let more = cut_more _ w c.write_into.new.writer c.self.inside.index_writer.handles c.register_data_block.new.self.handles c.self.inside.last (Some (last_entry c.args.chunk.now.items)) c.self.inside.index_writer.failed c.register_data_block.new.self.failed c.args.chunk.now.items c.self.invariant works strict readable bytes hs last in
+    let more = cut_more _ w c.write_into.new.writer c.self.inside.index_writer.handles c.register_data_block.new.self.handles c.self.inside.last (Some (last_entry c.args.chunk.now.items)) c.self.inside.index_writer.failed c.register_data_block.new.self.failed c.args.chunk.now.items c.self.invariant.0 works strict readable bytes hs last in
     let are = subst (λ (x : List (List Entry)). c.args.meta.now ≡ with_cut x c.args.meta.now) (sym cs) c.requires.counts.are in
     let le = at_least_blocks _ _ _ _ _ more in
     let lt : length c.write_into.new.writer.bytes < 2 ^ 64 = omega arith in
@@ -119,8 +119,10 @@ invariant_of-self-2 g c =
     let hs : c.register_data_block.new.self.handles ≡ c.self.inside.index_writer.handles ++ handle_of V4 (length w.bytes) c.args.chunk.now.items ∷ [] = c.in_ok-register_data_block.ensures.ok ∙ ap (λ (h : Handle). c.self.inside.index_writer.handles ++ h ∷ []) handle in
     let n : vec_len c.args.chunk.now ≡ length c.args.chunk.now.items = search rules in
     let last : c.pop.result ≡ Some (last_entry c.args.chunk.now.items) = last_popped _ _ c.in-Some.last.now _ _ c.deref.ensures.value c.in-Some.ensures.value n (c.pop.ensures.value c.in-Some.last.now (omega (arith, n, place.0))) in
-    let more = cut_more _ w c.write_into.new.writer c.self.inside.index_writer.handles c.register_data_block.new.self.handles c.self.inside.last c.pop.result c.self.inside.index_writer.failed c.register_data_block.new.self.failed c.args.chunk.now.items c.self.invariant works strict readable bytes hs last in
-    held_by_bytes _ _ _ _ _ more
+    let more = cut_more _ w c.write_into.new.writer c.self.inside.index_writer.handles c.register_data_block.new.self.handles c.self.inside.last c.pop.result c.self.inside.index_writer.failed c.register_data_block.new.self.failed c.args.chunk.now.items c.self.invariant.0 works strict readable bytes hs last in
+    let le = at_least_blocks _ _ _ _ _ more in
+    let lt : length c.write_into.new.writer.bytes < 2 ^ 64 = omega arith in
+    (held_by_bytes _ _ _ _ _ more, rw (held_again _ _ _ _ _ more) (omega (arith, (sizes _ more.readable).items, le, lt)))
 
 pub returns-clause-ok : goal.returns-clause-ok
 returns-clause-ok g c =
@@ -135,7 +137,7 @@ returns-clause-ok g c =
     let bytes : c.write_into.new.writer ≡ record w { bytes = w.bytes ++ block_bytes V4 Data (payload V4 c.args.chunk.now.items) } = c.in_ok-place.ensures.ok ∙ ap (λ (p : List ℕ). record w { bytes = w.bytes ++ block_bytes V4 Data p }) spelled in
     let hs : c.register_data_block.new.self.handles ≡ c.self.inside.index_writer.handles ++ handle_of V4 (length w.bytes) c.args.chunk.now.items ∷ [] = c.in_ok-register_data_block.ensures.ok ∙ ap (λ (h : Handle). c.self.inside.index_writer.handles ++ h ∷ []) handle in
     let last : Some (last_entry c.args.chunk.now.items) ≡ Some (last_entry c.args.chunk.now.items) = refl in
-    let more = cut_more _ w c.write_into.new.writer c.self.inside.index_writer.handles c.register_data_block.new.self.handles c.self.inside.last (Some (last_entry c.args.chunk.now.items)) c.self.inside.index_writer.failed c.register_data_block.new.self.failed c.args.chunk.now.items c.self.invariant works strict readable bytes hs last in
+    let more = cut_more _ w c.write_into.new.writer c.self.inside.index_writer.handles c.register_data_block.new.self.handles c.self.inside.last (Some (last_entry c.args.chunk.now.items)) c.self.inside.index_writer.failed c.register_data_block.new.self.failed c.args.chunk.now.items c.self.invariant.0 works strict readable bytes hs last in
     held_again _ _ _ _ _ more ∙ ap (λ (x : List (List Entry)). x ++ c.args.chunk.now.items ∷ []) cs ∙ ap (λ (x : List (List Entry)). c.args.self.now.chunks ++ x) (sym (rest_is c.args.chunk.now.items place.0))
 
 pub returns-clause-counted : goal.returns-clause-counted
@@ -151,7 +153,7 @@ returns-clause-counted g c =
     let bytes : c.write_into.new.writer ≡ record w { bytes = w.bytes ++ block_bytes V4 Data (payload V4 c.args.chunk.now.items) } = c.in_ok-place.ensures.ok ∙ ap (λ (p : List ℕ). record w { bytes = w.bytes ++ block_bytes V4 Data p }) spelled in
     let hs : c.register_data_block.new.self.handles ≡ c.self.inside.index_writer.handles ++ handle_of V4 (length w.bytes) c.args.chunk.now.items ∷ [] = c.in_ok-register_data_block.ensures.ok ∙ ap (λ (h : Handle). c.self.inside.index_writer.handles ++ h ∷ []) handle in
     let last : Some (last_entry c.args.chunk.now.items) ≡ Some (last_entry c.args.chunk.now.items) = refl in
-    let more = cut_more _ w c.write_into.new.writer c.self.inside.index_writer.handles c.register_data_block.new.self.handles c.self.inside.last (Some (last_entry c.args.chunk.now.items)) c.self.inside.index_writer.failed c.register_data_block.new.self.failed c.args.chunk.now.items c.self.invariant works strict readable bytes hs last in
+    let more = cut_more _ w c.write_into.new.writer c.self.inside.index_writer.handles c.register_data_block.new.self.handles c.self.inside.last (Some (last_entry c.args.chunk.now.items)) c.self.inside.index_writer.failed c.register_data_block.new.self.failed c.args.chunk.now.items c.self.invariant.0 works strict readable bytes hs last in
     let are = subst (λ (x : List (List Entry)). c.args.meta.now ≡ with_cut x c.args.meta.now) (sym cs) c.requires.counts.are in
     let le = at_least_blocks _ _ _ _ _ more in
     let lt : length c.write_into.new.writer.bytes < 2 ^ 64 = omega arith in
