@@ -11,6 +11,8 @@ use Rattle.sst_blocks.specs.Strict.{may_follow, last_of}
 use Rattle.lsm_writers.specs.Chunks.{joined, is_full}
 use Rattle.lsm_writers.specs.Cut.{rest_of}
 use Rattle.lsm_writers.specs.Index.{handles}
+use Rattle.sst_blocks.specs.Fnv.{fnv1a}
+use Rattle.lsm_writers.specs.File.{IsFile}
 use Rattle.lsm_writers.specs.Options.{Options, Label}
 
 -- the chunks whose blocks were cut, the entries of the next block, and whether the writer has refused
@@ -70,3 +72,9 @@ spills_of w = early_ends w.options.data_block_size 0 w.cut
 -- what finishing refuses: the block of the index is too large
 abbrev pub finish_fault : Writing → Option Error
 finish_fault w = if w.failed then Some WriterFailed else large_fault (index_block_bound_of (handles V4 (blocks_of w)))
+
+-- a finished table: its id, its bytes, and the checksum of these
+pub record IsFinished (w : Writing) (id : ℕ) (checksum : ℕ) (bytes : List ℕ) : Type 0 where
+  pub id_is : id ≡ w.label.table_id
+  pub checksum_is : checksum ≡ fnv1a bytes
+  pub file_is : IsFile V4 bytes w.label w.options (spills_of w) (written w)

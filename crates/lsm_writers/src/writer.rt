@@ -14,6 +14,7 @@ ghost use Rattle.lsm_writers.specs.Registered.{failed_fault};
 mod data_blocks;
 pub mod index;
 pub mod meta;
+mod meta_block;
 mod options;
 
 use crate::{TableId, Timestamp};
