@@ -2,3 +2,5 @@ pub mod Listing
 pub mod Orders
 pub mod Cutting
 pub mod Taking
+pub mod Chunking
+pub mod Laying

@@ -75,6 +75,7 @@ finish_fault w = if w.failed then Some WriterFailed else large_fault (index_bloc
 
 -- a finished table: its id, its bytes, and the checksum of these
 pub record IsFinished (w : Writing) (id : ℕ) (checksum : ℕ) (bytes : List ℕ) : Type 0 where
+  pub some : written w ≡ [] → ⊥
   pub id_is : id ≡ w.label.table_id
   pub checksum_is : checksum ≡ fnv1a bytes
   pub file_is : IsFile V4 bytes w.label w.options (spills_of w) (written w)

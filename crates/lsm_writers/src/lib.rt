@@ -9,4 +9,4 @@ pub use id::{GlobalTableId, TableId, TreeId};
 pub use timestamp::Timestamp;
 pub use writer::index::{BlockIndexWriter, FullIndexWriter};
 pub use writer::meta::Metadata;
-pub use writer::Writer;
+pub use writer::{FinishedTable, Writer};

@@ -1,11 +1,18 @@
 //! The data blocks of a table, with the index that they are registered with.
-ghost use Rattle.std.specs.Prelude.{◌≡◌, ◌+◌, ◌*◌, ◌++◌, ◌^◌, ◌<◌, [], None, false, length, IfOk, IfErr, OnOk, OnErr};
+ghost use Rattle.std.specs.Prelude.{◌≡◌, ◌+◌, ◌*◌, ◌++◌, ◌^◌, ◌<◌, [], ◌∷◌, None, false, length, IfOk, IfErr, OnOk, OnErr};
 ghost use Rattle.std.specs.Option.{option_copied};
 ghost use Rattle.sst_blocks.specs.declared.error.Error.TheVariants.{OutOfMemory};
-ghost use Rattle.sst_blocks.specs.Encoding.{entries_fault};
+ghost use Rattle.sst_blocks.specs.declared.section.SectionName.TheVariants.{Data};
+ghost use Rattle.sst_blocks.specs.declared.version.TableVersion.TheVariants.{V4};
+ghost use Rattle.sst_blocks.specs.Bounds.{index_block_bound_of};
+ghost use Rattle.sst_blocks.specs.Encoding.{entries_fault, key_fault, large_fault};
+ghost use Rattle.sst_blocks.specs.Error.{Faults};
 ghost use Rattle.sst_blocks.specs.Strict.{IsStrict, last_of};
 ghost use Rattle.lsm_writers.specs.Chunks.{joined};
 ghost use Rattle.lsm_writers.specs.Cut.{Cut, CountsCut, with_cut, rest_of};
+ghost use Rattle.lsm_writers.specs.File.{index_sections};
+ghost use Rattle.lsm_writers.specs.Index.{handles, data_section};
+ghost use Rattle.lsm_writers.specs.Layout.{laid};
 
 use crate::writer::index::{BlockIndexWriter, FullIndexWriter};
 use crate::writer::meta::Metadata;
@@ -105,5 +112,23 @@ impl<A: Allocator + Clone> DataBlocks<A> {
         self.last = chunk.pop();
         chunk.clear();
         Ok(())
+    }
+
+    /// Writes the index behind the blocks, and answers the sections so far, with memory for what is left to encode. Refused
+    /// [`Error::BlockTooLarge`] where the bound of the index reaches 2^32, and [`Error::OutOfMemory`].
+    pub(crate) fn finish_index(self) -> Result<(SectionWriter<A>, Vec<u8, A>), Error>
+        requires works { self.failed ≡ false }
+        requires short { key_fault (handles V4 self.chunks) ≡ None }
+        ensures ok { IfOk result (λ x. x.0 ≡ laid ((Data, data_section V4 self.chunks) ∷ index_sections V4 self.chunks)) }
+        ensures refused { Faults result (large_fault (index_block_bound_of (handles V4 self.chunks))) }
+    {
+        let DataBlocks {
+            mut file_writer,
+            index_writer,
+            block_buffer,
+            last: _,
+        } = self;
+        index_writer.finish(&mut file_writer)?;
+        Ok((file_writer, block_buffer))
     }
 }
