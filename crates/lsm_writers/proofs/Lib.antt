@@ -4,3 +4,4 @@ pub mod Cutting
 pub mod Taking
 pub mod Chunking
 pub mod Laying
+pub mod Finishing

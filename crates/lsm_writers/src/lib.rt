@@ -4,6 +4,8 @@
 mod id;
 mod timestamp;
 mod writer;
+#[cfg(test)]
+mod tests;
 
 pub use id::{GlobalTableId, TableId, TreeId};
 pub use timestamp::Timestamp;
