@@ -1,0 +1,7 @@
+pub mod Listing
+pub mod Orders
+pub mod Cutting
+pub mod Taking
+pub mod Chunking
+pub mod Laying
+pub mod Finishing

@@ -1,11 +1,11 @@
 -- What a writer counts while it writes.
-use Rattle.std.specs.Prelude.{◌≡◌, ℕ, ◌+◌, ◌-◌, ◌<◌, ◌^◌, List, ◌++◌, length, min, max, count_by, sum_by, Option, Some, None}
+use Rattle.std.specs.Prelude.{◌≡◌, ℕ, ◌+◌, ◌-◌, ◌<◌, ◌^◌, List, [], ◌++◌, length, min, max, count_by, sum_by, Option, Some, None, unwrap_or}
 use Rattle.sst_blocks.specs.declared.version.TableVersion.{TableVersion}
 use Rattle.sst_blocks.specs.Entry.{Entry}
 use Rattle.sst_blocks.specs.Payload.{payload}
 use Rattle.lsm_writers.specs.declared.writer.meta.Metadata.{Metadata}
 use Rattle.lsm_writers.specs.Chunks.{joined}
-use Rattle.lsm_writers.specs.Facts.{is_tombstone, is_weak, starts_key, is_reclaimable, one_if, count_after, lowest_seqno, highest_seqno, first_key, last_key}
+use Rattle.lsm_writers.specs.Facts.{Facts, is_tombstone, is_weak, starts_key, is_reclaimable, one_if, count_after, lowest_seqno, highest_seqno, first_key, last_key}
 use Rattle.lsm_writers.specs.Index.{data_section}
 
 -- nothing was written
@@ -67,3 +67,17 @@ pub record HasRoom {A : Type 0} (m : Metadata A) : Type 0 where
   pub weak : m.weak_tombstone_count + 1 < 2 ^ 64
   pub reclaimable : m.weak_tombstone_reclaimable_count + 1 < 2 ^ 64
   pub keys : m.key_count + 1 < 2 ^ 64
+
+-- what a meta block says of the list that was counted
+abbrev pub counted_facts : {A : Type 0} → Metadata A → Facts
+counted_facts m = record {
+  item_count = m.item_count;
+  tombstone_count = m.tombstone_count;
+  weak_tombstone_count = m.weak_tombstone_count;
+  weak_tombstone_reclaimable = m.weak_tombstone_reclaimable_count;
+  key_count = m.key_count;
+  min_key = unwrap_or m.first_key [];
+  max_key = unwrap_or m.last_key [];
+  lowest = m.lowest_seqno;
+  highest = m.highest_seqno
+}

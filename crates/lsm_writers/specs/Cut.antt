@@ -1,10 +1,26 @@
--- The chunks that a data section holds, read back from its bytes.
-use Rattle.std.specs.Prelude.{◌≡◌, ℕ, zero, suc, ◌+◌, ◌*◌, ◌<◌, ◌≤◌, ◌^◌, List, [], ◌∷◌, length, take, drop, Some, unwrap_or, sum_by}
+-- The data blocks that were cut, and the chunks that their bytes hold.
+use Rattle.std.specs.Prelude.{◌≡◌, ℕ, zero, suc, ◌+◌, ◌*◌, ◌<◌, ◌≤◌, ◌^◌, Bool, true, false, List, [], ◌∷◌, ◌++◌, length, take, drop, Option, Some, None, unwrap_or, sum_by}
+use Rattle.std.specs.List.{AllByRecursion}
 use Rattle.sst_blocks.specs.declared.version.TableVersion.{TableVersion}
+use Rattle.sst_blocks.specs.declared.version.TableVersion.TheVariants.{V4}
+use Rattle.sst_blocks.specs.declared.section.SectionName.TheVariants.{Data}
 use Rattle.sst_blocks.specs.Block.{data_len}
 use Rattle.sst_blocks.specs.Entry.{Entry}
+use Rattle.sst_blocks.specs.Handle.{Handle}
 use Rattle.sst_blocks.specs.Payload.{payload}
 use Rattle.sst_blocks.specs.Reading.{entries_in}
+use Rattle.sst_blocks.specs.Sections.{Written}
+use Rattle.sst_blocks.specs.Strict.{IsStrict, last_of}
+use Rattle.lsm_writers.specs.declared.writer.meta.Metadata.{Metadata}
+use Rattle.lsm_writers.specs.Chunks.{joined}
+use Rattle.lsm_writers.specs.Counts.{metadata_of}
+use Rattle.lsm_writers.specs.Facts.{last_key}
+use Rattle.lsm_writers.specs.Index.{handles, data_section}
+
+-- the chunks of the blocks that were cut, and whether cutting has refused
+pub record Cut : Type 0 where
+  pub chunks : List (List Entry)
+  pub failed : Bool
 
 -- the entries of n blocks at the front of some bytes, a list for each block
 unfoldable pub chunks_in : TableVersion → ℕ → List ℕ → List (List Entry)
@@ -13,6 +29,37 @@ chunks_in v (suc n) bytes = unwrap_or (entries_in v (take (data_len bytes) (drop
 
 -- a chunk whose block reads back
 pub record IsReadable (v : TableVersion) (c : List Entry) : Type 0 where
+  pub some : 0 < length c
   pub reads : entries_in v (payload v c) ≡ Some c
   pub short : 24 + length (payload v c) < 2 ^ 32
   pub wide : 17 * length c ≤ length (payload v c)
+
+-- the bytes begin with the blocks of the chunks, and have nothing else unless a block could not be registered; the index has the handles of all blocks
+pub record AreCut (chunks : List (List Entry)) (w : Written) (hs : List Handle) (last : Option Entry) (failed : Bool) : Type 0 where
+  pub rest : List ℕ
+  pub bytes : w.bytes ≡ data_section V4 chunks ++ rest
+  pub whole : failed ≡ false → rest ≡ []
+  pub started : w.started ≡ (Data, 0) ∷ []
+  pub readable : AllByRecursion (IsReadable V4) chunks
+  pub index : hs ≡ handles V4 chunks
+  pub strict : IsStrict (joined chunks)
+  pub last_is : last ≡ last_of None (joined chunks)
+
+-- what is left as a chunk, where there is something
+abbrev pub rest_of : List Entry → List (List Entry)
+rest_of [] = []
+rest_of (e ∷ es) = (e ∷ es) ∷ []
+
+-- the counts of the blocks that were cut
+abbrev pub with_cut : {A : Type 0} → List (List Entry) → Metadata A → Metadata A
+with_cut cs m = record m {
+  data_block_count = length cs;
+  item_count = length (joined cs);
+  file_pos = record { 0 = length (data_section V4 cs) };
+  uncompressed_size = sum_by (λ c. length (payload V4 c)) cs;
+  last_key = last_key (joined cs)
+}
+
+-- the counts are those of the blocks that were cut
+pub record CountsCut {A : Type 0} (cs : List (List Entry)) (m : Metadata A) : Type 0 where
+  pub are : m ≡ with_cut cs m

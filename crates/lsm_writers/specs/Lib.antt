@@ -9,3 +9,4 @@ pub mod Counts
 pub mod Cut
 pub mod Writing
 pub mod Registered
+pub mod Held

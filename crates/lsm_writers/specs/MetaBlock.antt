@@ -26,9 +26,9 @@ pub record Blocks : Type 0 where
   pub filter : ℕ
 
 -- the names in byte order: the counts of blocks, the formats and the label
-abbrev pub block_items : TableVersion → Label → Options → List (List Entry) → Blocks → List Entry
-block_items v label options cs counted =
-    meta_entry (codes "block_count#data") (le8 (length cs))
+abbrev pub block_items : Label → Options → Blocks → ℕ → ℕ → List Entry
+block_items label options counted data_blocks file_size =
+    meta_entry (codes "block_count#data") (le8 data_blocks)
     ∷ meta_entry (codes "block_count#filter") (le8 counted.filter)
     ∷ meta_entry (codes "block_count#index") (le8 counted.index)
     ∷ meta_entry (codes "checksum_type") (1 ∷ [])
@@ -37,7 +37,7 @@ block_items v label options cs counted =
     ∷ meta_entry (codes "crate_version") (codes "3.1.10")
     ∷ meta_entry (codes "created_at") (le16 label.created_at)
     ∷ meta_entry (codes "data_block_hash_ratio") (le4 options.data_block_hash_ratio)
-    ∷ meta_entry (codes "file_size") (le8 (length (data_section v cs)))
+    ∷ meta_entry (codes "file_size") (le8 file_size)
     ∷ []
 
 -- then the hash, the level, the number of items and the keys
@@ -66,16 +66,20 @@ option_items v label options f =
     ∷ []
 
 -- then the other counts
-abbrev pub count_items : TableVersion → Facts → List (List Entry) → List Entry
-count_items v f cs =
+abbrev pub count_items : Facts → ℕ → List Entry
+count_items f user_data_size =
     meta_entry (codes "tombstone_count") (le8 f.tombstone_count)
-    ∷ meta_entry (codes "user_data_size") (le8 (sum_by (λ c. length (payload v c)) cs))
+    ∷ meta_entry (codes "user_data_size") (le8 user_data_size)
     ∷ meta_entry (codes "weak_tombstone_count") (le8 f.weak_tombstone_count)
     ∷ meta_entry (codes "weak_tombstone_reclaimable") (le8 f.weak_tombstone_reclaimable)
     ∷ []
 
--- all 29 items of a table of these chunks
+-- all 29 items, by the facts, the number of data blocks, the length of their section and of their payloads
+abbrev pub meta_items : TableVersion → Label → Options → Blocks → Facts → ℕ → ℕ → ℕ → List Entry
+meta_items v label options counted f data_blocks file_size user_data_size =
+    block_items label options counted data_blocks file_size ++ key_items label f ++ option_items v label options f ++ count_items f user_data_size
+
+-- the items of a table of these chunks
 abbrev pub meta_entries : TableVersion → Label → Options → List (List Entry) → Blocks → List Entry
 meta_entries v label options cs counted =
-    let f = facts (joined cs) in
-    block_items v label options cs counted ++ key_items label f ++ option_items v label options f ++ count_items v f cs
+    meta_items v label options counted (facts (joined cs)) (length cs) (length (data_section v cs)) (sum_by (λ c. length (payload v c)) cs)

@@ -9,7 +9,10 @@ use Rattle.sst_blocks.specs.Encoding.{is_long_key, large_fault}
 use Rattle.sst_blocks.specs.Entry.{Entry, entry}
 use Rattle.sst_blocks.specs.Strict.{may_follow, last_of}
 use Rattle.lsm_writers.specs.Chunks.{joined, is_full}
+use Rattle.lsm_writers.specs.Cut.{rest_of}
 use Rattle.lsm_writers.specs.Index.{handles}
+use Rattle.sst_blocks.specs.Fnv.{fnv1a}
+use Rattle.lsm_writers.specs.File.{IsFile}
 use Rattle.lsm_writers.specs.Options.{Options, Label}
 
 -- the chunks whose blocks were cut, the entries of the next block, and whether the writer has refused
@@ -32,24 +35,22 @@ IsFresh w = (w.cut ≡ []) × (w.pending ≡ []) × (w.failed ≡ false)
 abbrev pub follows : List Entry → List ℕ → ℕ → Bool
 follows es key seqno = nat_lt seqno (2 ^ 64 - 1) && may_follow (last_of None es) (entry key [] seqno Value)
 
--- what writing an entry refuses: the first fault
-abbrev pub write_fault : Writing → Entry → Option Error
-write_fault w e =
-    if w.failed then Some WriterFailed
-    else (if is_long_key e.user_key then Some KeyTooLong
+-- what is wrong with an entry after the pending ones: the first fault
+abbrev pub item_fault : List Entry → Entry → Option Error
+item_fault pending e =
+    if is_long_key e.user_key then Some KeyTooLong
     else (if nat_le (2 ^ 32) (length e.value) then Some ValueTooLong
-    else large_fault (data_block_bound_of (w.pending ++ e ∷ []))))
+    else large_fault (data_block_bound_of (pending ++ e ∷ [])))
+
+-- what writing an entry refuses
+abbrev pub write_fault : Writing → Entry → Option Error
+write_fault w e = if w.failed then Some WriterFailed else item_fault w.pending e
 
 -- one more entry; the block is cut once it is full
 abbrev pub gained : Writing → Entry → Writing
 gained w e =
     let chunk = w.pending ++ e ∷ [] in
     if is_full w.options.data_block_size chunk then record w { cut = w.cut ++ chunk ∷ []; pending = [] } else record w { pending = chunk }
-
--- what is left as a chunk, where there is something
-abbrev pub rest_of : List Entry → List (List Entry)
-rest_of [] = []
-rest_of (e ∷ es) = (e ∷ es) ∷ []
 
 -- all chunks, with what is pending as the last one
 abbrev pub blocks_of : Writing → List (List Entry)
@@ -71,3 +72,10 @@ spills_of w = early_ends w.options.data_block_size 0 w.cut
 -- what finishing refuses: the block of the index is too large
 abbrev pub finish_fault : Writing → Option Error
 finish_fault w = if w.failed then Some WriterFailed else large_fault (index_block_bound_of (handles V4 (blocks_of w)))
+
+-- a finished table: its id, its bytes, and the checksum of these
+pub record IsFinished (w : Writing) (id : ℕ) (checksum : ℕ) (bytes : List ℕ) : Type 0 where
+  pub some : written w ≡ [] → ⊥
+  pub id_is : id ≡ w.label.table_id
+  pub checksum_is : checksum ≡ fnv1a bytes
+  pub file_is : IsFile V4 bytes w.label w.options (spills_of w) (written w)

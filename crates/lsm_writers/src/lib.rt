@@ -4,8 +4,11 @@
 mod id;
 mod timestamp;
 mod writer;
+#[cfg(test)]
+mod tests;
 
 pub use id::{GlobalTableId, TableId, TreeId};
 pub use timestamp::Timestamp;
 pub use writer::index::{BlockIndexWriter, FullIndexWriter};
 pub use writer::meta::Metadata;
+pub use writer::{FinishedTable, Writer};

@@ -1,4 +1,344 @@
 //! Writing a table.
+ghost use Rattle.std.specs.Prelude.{◌≡◌, ◌↔◌, ◌<◌, ◌≤◌, ◌+◌, ◌*◌, ◌^◌, [], ◌∷◌, ◌++◌, None, Some, false, true, length, IsTrue, IfOk, IfErr, OnOk, OnErr, MatchResult, MatchOption};
+ghost use Rattle.std.specs.Option.{option_copied};
+ghost use Rattle.sst_blocks.specs.declared.error.Error.TheVariants.{OutOfMemory};
+ghost use Rattle.sst_blocks.specs.declared.version.TableVersion.TheVariants.{V4};
+ghost use Rattle.sst_blocks.specs.Error.{Faults};
+ghost use Rattle.sst_blocks.specs.Strict.{IsStrict, last_of};
+ghost use Rattle.lsm_writers.specs.Chunks.{size_of};
+ghost use Rattle.lsm_writers.specs.Options.{default_options};
+ghost use Rattle.lsm_writers.specs.Counts.{metadata_of};
+ghost use Rattle.lsm_writers.specs.Writing.{written, IsFresh, follows, write_fault, item_fault, gained, spilled, finish_fault, IsFinished};
+ghost use Rattle.std.specs.List.{AllByRecursion};
+ghost use Rattle.lsm_writers.specs.Held.{IsShort};
+ghost use Rattle.lsm_writers.specs.Registered.{failed_fault, appended};
+ghost use Rattle.lsm_writers.specs.File.{end_sections, HasNoEnd};
+ghost use Rattle.sst_blocks.specs.Encoding.{entries_fault};
+ghost use Rattle.sst_blocks.specs.Fnv.{fnv1a};
+ghost use Rattle.sst_blocks.specs.Sections.{finished};
 
+mod data_blocks;
 pub mod index;
 pub mod meta;
+mod meta_block;
+mod options;
+
+use crate::{TableId, Timestamp};
+use data_blocks::DataBlocks;
+use meta::Metadata;
+use meta_block::{TableLabel, meta_items};
+use options::WriterOptions;
+use sst_blocks::{Block, BlockType, Checksum, CompressionType, DataBlock, Error, InternalKey, InternalValue, SectionName, SectionWriter, SeqNo, Slice, TableVersion};
+use std::alloc::{Allocator, Global};
+use std::marker::Model;
+
+/// Writes the entries of a table into blocks, and the blocks into the bytes of a table. A contract sees the list written: the
+/// chunks whose blocks were cut, and the entries that are pending.
+#[derive(Drop)]
+pub struct Writer<A: Allocator = Global> {
+    label: TableLabel,
+    options: WriterOptions,
+    blocks: DataBlocks<A>,
+    // the entries of the next block, and how many bytes their keys and values have
+    chunk: Vec<InternalValue<A>, A>,
+    chunk_size: usize,
+    meta: Metadata<A>,
+    // it stands while a call works, so that whatever the call refuses stays refused
+    failed: bool,
+}
+
+impl<A: Allocator> Model for Writer<A> {
+    ghost use Rattle.lsm_writers.specs.Writing.{Writing};
+    ghost use Rattle.lsm_writers.specs.Held.{IsHeld, CanGoOn};
+
+    ghost Value = { Writing };
+
+    ghost view = { λ w. record { label = w.label; options = w.options; cut = w.blocks.chunks; pending = w.chunk.items; failed = w.failed } };
+
+    ghost invariant = { λ w. IsHeld w.options.data_block_size w.blocks.chunks w.chunk.items w.chunk_size w.meta × CanGoOn w.failed w.options.data_block_size w.blocks w.chunk.items };
+}
+
+impl<A: Allocator + Clone> Writer<A> {
+    /// A writer of the table `id`, which stands at `initial_level` and is created at a moment that is handed in. Refused
+    /// [`Error::OutOfMemory`] alone.
+    pub fn new(alloc: A, id: TableId, initial_level: u8, created_at: Timestamp) -> Result<Writer<A>, Error>
+        ensures ok { IfOk result (λ w. w ≡ record { label = record { table_id = id; initial_level = initial_level; created_at = created_at }; options = default_options; cut = []; pending = []; failed = false }) }
+        ensures err { IfErr result (λ e. e ≡ OutOfMemory) }
+    {
+        let chunk = Vec::new(alloc.clone()?);
+        Ok(Writer {
+            label: TableLabel {
+                table_id: id,
+                initial_level,
+                created_at,
+            },
+            options: WriterOptions::new(),
+            blocks: DataBlocks::new(alloc)?,
+            chunk,
+            chunk_size: 0,
+            meta: Metadata::default(),
+            failed: false,
+        })
+    }
+
+    /// Whether no entry was given yet, also none that was refused.
+    pub fn is_empty(&self) -> bool
+        ensures { IsTrue result ↔ IsFresh self.now }
+    {
+        !self.failed && self.chunk.is_empty() && self.meta.data_block_count == 0
+    }
+
+    /// Whether an entry of this key may be written next: its number is below `u64::MAX`, and it comes strictly after the last
+    /// one by key and number.
+    pub fn can_follow(&self, key: &InternalKey<A>) -> bool
+        ensures { result ≡ follows (written self.now) key.now.user_key key.now.seqno }
+    {
+        key.seqno < SeqNo::MAX
+            && match last_written(&self.chunk, self.blocks.last()) {
+                None => true,
+                Some(last) => last
+                    .key
+                    .user_key
+                    .cmp(&key.user_key)
+                    .then(key.seqno.cmp(&last.key.seqno))
+                    .is_lt(),
+            }
+    }
+
+    /// Counts of what was written so far.
+    pub fn metadata(&self) -> &Metadata<A>
+        ensures { result.now ≡ metadata_of V4 self.now.cut self.now.pending }
+    {
+        &self.meta
+    }
+
+    /// How many bytes the keys and values have that wait for the next block.
+    pub fn chunk_size(&self) -> usize
+        ensures { result ≡ size_of self.now.pending }
+    {
+        self.chunk_size
+    }
+
+    /// Writes an entry. The block is cut once its keys and values reach the data block size.
+    ///
+    /// Refused [`Error::WriterFailed`] where a call was refused before, then [`Error::KeyTooLong`], then
+    /// [`Error::ValueTooLong`], then [`Error::BlockTooLarge`] where the bound of the block that is being filled reaches 2^32;
+    /// and [`Error::OutOfMemory`]. Whatever is refused, each later call is refused [`Error::WriterFailed`].
+    pub fn write(&mut self, item: InternalValue<A>) -> Result<(), Error>
+        requires { IsTrue (follows (written self.old) item.user_key item.seqno) }
+        ensures ok { OnOk result (self.new ≡ gained self.old item) }
+        ensures refused { Faults result (write_fault self.old item) }
+        ensures failed { OnErr result (self.new.failed ≡ true) }
+    {
+        if self.failed {
+            return Err(Error::WriterFailed);
+        }
+        self.failed = true;
+        let options = self.options;
+        check_item(&self.chunk, self.chunk_size, &item)?;
+        self.chunk.reserve(1)?;
+        let cut = self.blocks.last();
+        let before = last_written(&self.chunk, cut);
+        self.meta.count(before, &item)?;
+        self.chunk_size += item.key.user_key.len() + item.value.len();
+        self.chunk.push(item)?;
+        if self.chunk_size >= options.data_block_size as usize {
+            self.blocks.cut(&mut self.chunk, &mut self.meta, &options)?;
+            self.chunk_size = 0;
+        }
+        self.failed = false;
+        Ok(())
+    }
+
+    /// Cuts the pending entries off as a block, full or not; nothing happens where none are pending. Refused
+    /// [`Error::WriterFailed`] where a call was refused before, and [`Error::OutOfMemory`]; each later call is then refused
+    /// [`Error::WriterFailed`].
+    pub fn spill_block(&mut self) -> Result<(), Error>
+        ensures ok { OnOk result (self.new ≡ spilled self.old) }
+        ensures refused { Faults result (failed_fault self.old.failed) }
+        ensures failed { OnErr result (self.new.failed ≡ true) }
+    {
+        if self.failed {
+            return Err(Error::WriterFailed);
+        }
+        self.failed = true;
+        self.blocks.cut(&mut self.chunk, &mut self.meta, &self.options)?;
+        self.chunk_size = 0;
+        self.failed = false;
+        Ok(())
+    }
+
+    /// Cuts the rest off as a block, writes the index, the version and the meta block, and answers the table: `None` where
+    /// nothing was written.
+    ///
+    /// Refused [`Error::WriterFailed`] where a call was refused before, [`Error::BlockTooLarge`] where the bound of the index
+    /// reaches 2^32, and [`Error::OutOfMemory`].
+    pub fn finish(mut self) -> Result<Option<FinishedTable<A>>, Error>
+        ensures table { IfOk result (λ t. MatchOption t (written self ≡ []) (λ f. IsFinished self f.id f.checksum.0 f.bytes)) }
+        ensures refused { Faults result (finish_fault self) }
+        // The list that was written is strict, and its entries are as long as a table holds.
+        ensures strict { IfOk result (λ t. IsStrict (written self)) }
+        ensures short { IfOk result (λ t. AllByRecursion IsShort (written self)) }
+    {
+        if self.failed {
+            return Err(Error::WriterFailed);
+        }
+        self.blocks.cut(&mut self.chunk, &mut self.meta, &self.options)?;
+        if self.meta.item_count == 0 {
+            return Ok(None);
+        }
+        let Writer {
+            label,
+            options,
+            blocks,
+            chunk,
+            chunk_size: _,
+            meta,
+            failed: _,
+        } = self;
+        let items = meta_items(chunk.allocator().clone()?, &label, &options, &meta)?;
+        let (file_writer, buffer) = blocks.finish_index()?;
+        let (bytes, checksum) = close(file_writer, buffer, &items)?;
+        Ok(Some(FinishedTable {
+            id: label.table_id,
+            checksum,
+            bytes,
+        }))
+    }
+
+    /// After how many entries at most a data block has a place where reading can restart.
+    pub fn use_data_block_restart_interval(mut self, interval: u8) -> Writer<A>
+        requires fresh { IsFresh self }
+        requires some { 0 < interval }
+        ensures { result ≡ record self { options = record self.options { data_block_restart_interval = interval } } }
+    {
+        self.options.data_block_restart_interval = interval;
+        self
+    }
+
+    /// The same for the blocks of the index. Only tables written with 1 can be opened.
+    pub fn use_index_block_restart_interval(mut self, interval: u8) -> Writer<A>
+        requires { IsFresh self }
+        ensures { result ≡ record self { options = record self.options { index_block_restart_interval = interval } } }
+    {
+        self.options.index_block_restart_interval = interval;
+        self
+    }
+
+    /// How many buckets a data block's hash index has for each entry, in thousandths; 0 for none.
+    pub fn use_data_block_hash_ratio(mut self, ratio: u32) -> Writer<A>
+        requires { IsFresh self }
+        ensures { result ≡ record self { options = record self.options { data_block_hash_ratio = ratio } } }
+    {
+        self.options.data_block_hash_ratio = ratio;
+        self
+    }
+
+    /// How many bytes of keys and values a data block has when it is cut.
+    pub fn use_data_block_size(mut self, size: u32) -> Writer<A>
+        requires fresh { IsFresh self }
+        requires small { size ≤ 4194304 }
+        ensures { result ≡ record self { options = record self.options { data_block_size = size } } }
+    {
+        self.options.data_block_size = size;
+        self
+    }
+
+    /// How many bytes a partition of the index or of the filter has when it is cut.
+    pub fn use_meta_partition_size(mut self, size: u32) -> Writer<A>
+        requires fresh { IsFresh self }
+        requires small { size ≤ 4194304 }
+        ensures { result ≡ record self { options = record self.options { meta_partition_size = size } } }
+    {
+        self.options.meta_partition_size = size;
+        self
+    }
+
+    /// How data blocks are compressed.
+    pub fn use_data_block_compression(self, compression: CompressionType) -> Writer<A>
+        requires { IsFresh self }
+        ensures { result ≡ self }
+    {
+        match compression {
+            CompressionType::None => self,
+        }
+    }
+
+    /// How the blocks of the index are compressed.
+    pub fn use_index_block_compression(self, compression: CompressionType) -> Writer<A>
+        requires { IsFresh self }
+        ensures { result ≡ self }
+    {
+        match compression {
+            CompressionType::None => self,
+        }
+    }
+}
+
+/// A table whose bytes are complete.
+#[derive(Drop)]
+#[derive_where(Debug)]
+pub struct FinishedTable<A: Allocator = Global> {
+    /// The table's id.
+    pub id: TableId,
+    /// The checksum of all bytes.
+    pub checksum: Checksum,
+    /// The sections and their trailer.
+    pub bytes: Slice<A>,
+}
+
+/// The entry written last: the last pending one, or the last of the blocks that were cut.
+fn last_written<'a, A: Allocator>(
+    chunk: &'a [InternalValue<A>],
+    cut: Option<&'a InternalValue<A>>,
+) -> Option<&'a InternalValue<A>>
+    ensures { option_copied result ≡ last_of (option_copied cut.entry) chunk.now }
+{
+    match chunk.last() {
+        Some(item) => Some(item),
+        None => cut,
+    }
+}
+
+/// Refused where an entry is too long, or would make the block of the pending ones too large.
+fn check_item<A: Allocator>(chunk: &[InternalValue<A>], chunk_size: usize, item: &InternalValue<A>) -> Result<(), Error>
+    requires sized { chunk_size ≡ size_of chunk.now }
+    requires small { 28 + 17 * length chunk.now + chunk_size < 2 ^ 32 }
+    ensures { MatchResult result (λ _. item_fault chunk.now item.now ≡ None) (λ e. item_fault chunk.now item.now ≡ Some e) }
+{
+    if item.key.user_key.len() > TableVersion::WRITTEN.longest_key() {
+        return Err(Error::KeyTooLong);
+    }
+    let value_len = item.value.len() as u64;
+    if value_len >= 1 << 32 {
+        return Err(Error::ValueTooLong);
+    }
+    let entries = chunk.len() as u64 + 1;
+    let bytes = chunk_size as u64 + item.key.user_key.len() as u64 + value_len;
+    if 28 + 17 * entries + bytes >= 1 << 32 {
+        return Err(Error::BlockTooLarge);
+    }
+    Ok(())
+}
+
+/// Writes the version and the meta block behind the other sections, and the trailer.
+fn close<A: Allocator + Clone>(
+    mut file_writer: SectionWriter<A>,
+    mut buffer: Vec<u8, A>,
+    items: &[InternalValue<A>],
+) -> Result<(Slice<A>, Checksum), Error>
+    requires fresh { HasNoEnd file_writer }
+    requires strict { IsStrict items.now }
+    requires fit { entries_fault items.now ≡ None }
+    ensures bytes { IfOk result (λ x. x.0 ≡ finished (appended file_writer (end_sections items.now))) }
+    ensures checksum { IfOk result (λ x. x.1.0 ≡ fnv1a (finished (appended file_writer (end_sections items.now)))) }
+    ensures err { IfErr result (λ e. e ≡ OutOfMemory) }
+{
+    file_writer.start(SectionName::TableVersion)?;
+    file_writer.append(&[4])?;
+    file_writer.start(SectionName::Meta)?;
+    buffer.clear();
+    DataBlock::encode_into(&mut buffer, items, 1, 0)?;
+    Block::write_into(&mut file_writer, &buffer, BlockType::Meta, CompressionType::None)?;
+    file_writer.finish()
+}

@@ -1,0 +1,215 @@
+-- Entries that a writer takes, and what is pending.
+use Rattle.std.proofs.Common.{◌≡◌, refl, sym, ◌∙◌, ap, subst, ℕ, suc, ◌+◌, ◌-◌, ◌*◌, ◌<◌, ◌≤◌, ◌^◌, Bool, true, false, List, [], ◌∷◌, ◌++◌, length, take, append_assoc, arith, length-append, rules, cond, inl, inr, IsTrue}
+use Rattle.std.specs.Prelude.{Option, Some, None, nat_lt, nat_le, min, max, sum_by, count_by, ◌&&◌}
+use Rattle.std.specs.List.{AllByRecursion}
+use Rattle.std.proofs.lemmas.Bool.{le-ltb, ltb-false, le-leb, lt-leb, leb-false, cases_lt}
+use Rattle.std.proofs.lemmas.List.{take-append-le, take_at, append-nil}
+use Rattle.std.proofs.lemmas.List.Sums.{sum_by-append, sum_by-cons, count_by-le-length}
+use Rattle.sst_blocks.specs.declared.error.Error.{Error}
+use Rattle.sst_blocks.specs.declared.error.Error.TheVariants.{KeyTooLong, ValueTooLong, BlockTooLarge}
+use Rattle.sst_blocks.specs.Bounds.{data_block_bound_of, entry_bound}
+use Rattle.sst_blocks.specs.Encoding.{is_long_key, length_fault, entries_fault, large_fault}
+use Rattle.sst_blocks.specs.Entry.{Entry, entry}
+use Rattle.lsm_writers.specs.Chunks.{joined, entry_size, size_of, is_full}
+use Rattle.sst_blocks.specs.Strict.{IsStrictAfter, IsStrict, last_of}
+use Rattle.sst_blocks.specs.declared.value_type.ValueType.TheVariants.{Value}
+use Rattle.sst_blocks.specs.declared.version.TableVersion.TheVariants.{V4}
+use Rattle.lsm_writers.specs.declared.writer.meta.Metadata.{Metadata}
+use Rattle.lsm_writers.specs.Counts.{no_counts, metadata_of, counted, or_first, HasRoom}
+use Rattle.lsm_writers.specs.Cut.{Cut, rest_of, with_cut}
+use Rattle.lsm_writers.specs.Facts.{count_after, lowest_seqno, highest_seqno, is_tombstone, is_weak, is_reclaimable, starts_key, one_if, first_key}
+use Rattle.lsm_writers.specs.Held.{IsShort, IsOpen, IsHeld, CanGoOn, IsShortest}
+use Rattle.lsm_writers.specs.Writing.{item_fault, follows}
+use Rattle.lsm_writers.proofs.Cutting.{joined_more}
+use Rattle.lsm_writers.proofs.Listing.{all-append}
+use Rattle.lsm_writers.proofs.Orders.{strict_more, ends_follow}
+
+-- the bound of a block, by the number of its entries and their size
+bound_sum : (es : List Entry) → sum_by entry_bound es ≡ 17 * length es + size_of es
+bound_sum [] = refl
+bound_sum (e ∷ es) = omega (arith, bound_sum es, sum_by-cons entry_bound e es, sum_by-cons entry_size e es)
+
+pub size_more : (es : List Entry) (e : Entry) → size_of (es ++ e ∷ []) ≡ size_of es + entry_size e
+size_more es e = sum_by-append entry_size es (e ∷ []) ∙ ap (λ (n : ℕ). size_of es + n) (omega (arith, sum_by-cons entry_size e []))
+
+-- the block of one entry more
+pub bound_more : (es : List Entry) (e : Entry) → sum_by entry_bound (es ++ e ∷ []) ≡ 17 * (length es + 1) + (size_of es + entry_size e)
+bound_more es e = bound_sum (es ++ e ∷ []) ∙ omega (arith, size_more es e, length-append es (e ∷ []))
+
+pub large_is : (n : ℕ) → 2 ^ 32 ≤ n → large_fault n ≡ Some BlockTooLarge
+large_is n h = rw (le-leb _ _ h) refl
+
+pub small_is : (n : ℕ) → n < 2 ^ 32 → large_fault n ≡ None
+small_is n h = rw (lt-leb _ _ h) refl
+
+pub too_large : (es : List Entry) (e : Entry) → 2 ^ 32 ≤ 28 + 17 * (length es + 1) + (size_of es + entry_size e) → large_fault (data_block_bound_of (es ++ e ∷ [])) ≡ Some BlockTooLarge
+too_large es e h = large_is _ (omega (arith, bound_more es e))
+
+pub fits_still : (es : List Entry) (e : Entry) → 28 + 17 * (length es + 1) + (size_of es + entry_size e) < 2 ^ 32 → large_fault (data_block_bound_of (es ++ e ∷ [])) ≡ None
+fits_still es e h = small_is _ (omega (arith, bound_more es e))
+
+pub no_length_fault : (es : List Entry) → AllByRecursion IsShort es → length_fault es ≡ None
+no_length_fault [] h = refl
+no_length_fault (e ∷ es) h = rw (h.0.key, lt-leb _ _ h.0.value) (no_length_fault es h.1)
+
+-- what is pending encodes
+pub no_fault : (es : List Entry) → AllByRecursion IsShort es → 28 + 17 * length es + size_of es < 2 ^ 32 → entries_fault es ≡ None
+no_fault es h small = rw (no_length_fault es h) (small_is _ (omega (arith, bound_sum es)))
+
+pub item_large : (es : List Entry) (e : Entry) → length e.user_key ≤ 1048576 → length e.value < 2 ^ 32 → 2 ^ 32 ≤ 28 + 17 * (length es + 1) + (size_of es + entry_size e) → item_fault es e ≡ Some BlockTooLarge
+item_large es e k v h = rw (le-ltb _ _ k, lt-leb _ _ v) (too_large es e h)
+
+pub item_fits : (es : List Entry) (e : Entry) → length e.user_key ≤ 1048576 → length e.value < 2 ^ 32 → 28 + 17 * (length es + 1) + (size_of es + entry_size e) < 2 ^ 32 → item_fault es e ≡ None
+item_fits es e k v h = rw (le-ltb _ _ k, lt-leb _ _ v) (fits_still es e h)
+
+-- ---- between the calls
+
+pub nothing_held : {A : Type 0} (size : ℕ) (cut : Cut) (pending : List Entry) (meta : Metadata A) → cut ≡ record { chunks = []; failed = false } → pending ≡ [] → meta ≡ no_counts → IsHeld size cut.chunks pending 0 meta × CanGoOn false size cut pending
+unfolding IsStrictAfter last_of count_after lowest_seqno highest_seqno
+nothing_held size cut pending meta c p m =
+    let held : IsHeld size [] [] 0 meta = record { strict = tt; short = tt; shortest = tt; front = λ n lt le. absurd (omega (arith, lt, le)); counted = m; sized = refl; small = omega arith } in
+    let ready : CanGoOn false size (record { chunks = []; failed = false }) [] = record { works = λ _. refl; room = λ _. tt } in
+    rw (c, p) (held, ready)
+
+-- ---- one entry more
+
+and_parts : (a b : Bool) → IsTrue (a && b) → (a ≡ true) × (b ≡ true)
+and_parts true b h = (refl, h)
+and_parts false b h = absurd cc
+
+pub strict_gained : (es : List Entry) (e : Entry) → IsStrict es → IsTrue (follows es e.user_key e.seqno) → IsStrict (es ++ e ∷ [])
+strict_gained es e h f =
+    let p = and_parts _ _ f in
+    strict_more None es e h (ends_follow (last_of None es) e (entry e.user_key [] e.seqno Value) refl refl p.1)
+
+fault_none : (b : Bool) (x : Error) (o : Option Error) → cond b (Some x) o ≡ None → (b ≡ false) × (o ≡ None)
+fault_none true x o h = absurd cc
+fault_none false x o h = (refl, h)
+
+-- an entry without a fault is short, and the block has room for it
+pub short_of : (es : List Entry) (e : Entry) → item_fault es e ≡ None → IsShort e × (28 + 17 * (length es + 1) + (size_of es + entry_size e) < 2 ^ 32)
+short_of es e h =
+    let bound = data_block_bound_of (es ++ e ∷ []) in
+    let o2 = large_fault bound in
+    let o1 = cond (nat_le (2 ^ 32) (length e.value)) (Some ValueTooLong) o2 in
+    let k = fault_none (is_long_key e.user_key) KeyTooLong o1 h in
+    let v = fault_none (nat_le (2 ^ 32) (length e.value)) ValueTooLong o2 k.1 in
+    let b = fault_none (nat_le (2 ^ 32) bound) BlockTooLarge None v.1 in
+    let small : bound < 2 ^ 32 = leb-false _ _ b.0 in
+    (record { key = k.0; value = leb-false _ _ v.0 }, omega (arith, small, bound_more es e))
+
+snoc_assoc : (xs ys : List Entry) (e : Entry) → xs ++ (ys ++ e ∷ []) ≡ (xs ++ ys) ++ e ∷ []
+snoc_assoc xs ys e = sym (append_assoc xs ys (e ∷ []))
+
+-- what is pending may not be full before one more
+front_more : (size : ℕ) (pending : List Entry) (e : Entry) → IsOpen size pending → ((n : ℕ) → 0 < n → n < length pending → is_full size (take n pending) ≡ false) → (n : ℕ) → 0 < n → n < length (pending ++ e ∷ []) → is_full size (take n (pending ++ e ∷ [])) ≡ false
+front_more size [] e o f n pos lt = absurd (omega (arith, pos, lt))
+front_more size (x ∷ xs) e o f n pos lt =
+    let p = x ∷ xs in
+    elim (cases_lt n (length p)) [
+      | inl less ↦ ap (is_full size) (take-append-le n p (e ∷ []) (omega arith)) ∙ f n pos less
+      | inr more ↦
+        let same : n ≡ length p = omega (arith, length-append p (e ∷ []), lt, more) in
+        ap (is_full size) (take_at p (e ∷ []) n (sym same)) ∙ o
+    ]
+
+-- ---- counts
+
+count_more : (p : Entry → Bool) (es : List Entry) (e : Entry) → count_by p (es ++ e ∷ []) ≡ count_by p es + one_if (p e)
+count_more p es e =
+    let f = λ (x : Entry). one_if (p x) in
+    sum_by-append f es (e ∷ []) ∙ ap (λ (n : ℕ). sum_by f es + n) (omega (arith, sum_by-cons f e []))
+
+after_more : (test : Option Entry → Entry → Bool) (before : Option Entry) (es : List Entry) (e : Entry) → count_after test before (es ++ e ∷ []) ≡ count_after test before es + one_if (test (last_of before es) e)
+unfolding count_after last_of
+after_more test before [] e = omega arith
+after_more test before (x ∷ xs) e = omega (arith, after_more test (Some x) xs e)
+
+lowest_more : (es : List Entry) (e : Entry) → lowest_seqno (es ++ e ∷ []) ≡ min (lowest_seqno es) e.seqno
+unfolding lowest_seqno
+lowest_more [] e = omega arith
+lowest_more (x ∷ xs) e = omega (arith, lowest_more xs e)
+
+highest_more : (es : List Entry) (e : Entry) → highest_seqno (es ++ e ∷ []) ≡ max (highest_seqno es) e.seqno
+unfolding highest_seqno
+highest_more [] e = omega arith
+highest_more (x ∷ xs) e = omega (arith, highest_more xs e)
+
+first_more : (es : List Entry) (e : Entry) → first_key (es ++ e ∷ []) ≡ or_first (first_key es) (Some e.user_key)
+first_more [] e = refl
+first_more (x ∷ xs) e = refl
+
+pub counted_is : {A : Type 0} (cut : List (List Entry)) (pending : List Entry) (e : Entry) (m : Metadata A) → m ≡ metadata_of V4 cut pending → counted (last_of None (joined cut ++ pending)) e m ≡ metadata_of V4 cut (pending ++ e ∷ [])
+counted_is cut pending e m h =
+    let es = joined cut ++ pending in
+    rw (h, snoc_assoc (joined cut) pending e, count_more is_tombstone es e, count_more is_weak es e, after_more is_reclaimable None es e, after_more starts_key None es e, lowest_more es e, highest_more es e, first_more es e) refl
+
+-- ---- room for one more
+
+one_if-le : (b : Bool) → one_if b ≤ 1
+one_if-le true = omega arith
+one_if-le false = omega arith
+
+after-le : (test : Option Entry → Entry → Bool) (before : Option Entry) (es : List Entry) → count_after test before es ≤ length es
+unfolding count_after
+after-le test before [] = omega arith
+after-le test before (x ∷ xs) = omega (arith, after-le test (Some x) xs, one_if-le (test before x))
+
+pub has_room : {A : Type 0} (cut : List (List Entry)) (pending : List Entry) (m : Metadata A) → m ≡ metadata_of V4 cut pending → 17 * length (joined cut) < 2 ^ 64 → 17 * length pending < 2 ^ 32 → HasRoom m
+has_room {A} cut pending m h few small =
+    let es = joined cut ++ pending in
+    let n = length-append (joined cut) pending in
+    record {
+      tombstones = omega (arith, ap (λ (x : Metadata A). x.tombstone_count) h, count_by-le-length is_tombstone es, n, few, small);
+      weak = omega (arith, ap (λ (x : Metadata A). x.weak_tombstone_count) h, count_by-le-length is_weak es, n, few, small);
+      reclaimable = omega (arith, ap (λ (x : Metadata A). x.weak_tombstone_reclaimable_count) h, after-le is_reclaimable None es, n, few, small);
+      keys = omega (arith, ap (λ (x : Metadata A). x.key_count) h, after-le starts_key None es, n, few, small);
+    }
+
+-- ---- a writer's parts after a call
+
+pub held_more : {A : Type 0} (size : ℕ) (cut : List (List Entry)) (pending : List Entry) (n : ℕ) (m : Metadata A) (e : Entry)
+    → IsHeld size cut pending n m → IsOpen size pending → IsTrue (follows (joined cut ++ pending) e.user_key e.seqno) → item_fault pending e ≡ None
+    → IsHeld size cut (pending ++ e ∷ []) (n + entry_size e) (counted (last_of None (joined cut ++ pending)) e m)
+held_more size cut pending n m e old o f ok =
+    let short = short_of pending e ok in
+    record {
+      strict = rw (snoc_assoc (joined cut) pending e) (strict_gained (joined cut ++ pending) e old.strict f);
+      short = rw (snoc_assoc (joined cut) pending e) (all-append IsShort (joined cut ++ pending) (e ∷ []) old.short (short.0, tt));
+      shortest = old.shortest;
+      front = front_more size pending e o old.front;
+      counted = counted_is cut pending e m old.counted;
+      sized = omega (arith, old.sized, size_more pending e);
+      small = omega (arith, short.1, old.sized, length-append pending (e ∷ []));
+    }
+
+cut_counted : {A : Type 0} (m : Metadata A) (cut : List (List Entry)) (pending : List Entry) (cs : List (List Entry)) → m ≡ metadata_of V4 cut pending → joined cs ++ [] ≡ joined cut ++ pending → with_cut cs m ≡ metadata_of V4 cs []
+cut_counted m cut pending cs h e = rw (h, e) refl
+
+pub held_cut : {A : Type 0} (size : ℕ) (cut : List (List Entry)) (pending : List Entry) (n : ℕ) (m : Metadata A)
+    → IsHeld size cut pending n m
+    → IsHeld size (cut ++ rest_of pending) [] 0 (with_cut (cut ++ rest_of pending) m)
+held_cut {A} size cut [] n m old =
+    let same : cut ++ [] ≡ cut = append-nil cut in
+    let P : List (List Entry) → Type 0 = λ cs. IsHeld size cs [] 0 (with_cut cs m) in
+    let made : P cut = record {
+      strict = old.strict; short = old.short; shortest = old.shortest; front = old.front;
+      counted = cut_counted m cut [] cut old.counted refl; sized = refl; small = omega arith
+    } in
+    subst P (sym same) made
+held_cut {A} size cut (e ∷ es) n m old =
+    let p = e ∷ es in
+    let whole : joined (cut ++ p ∷ []) ++ [] ≡ joined cut ++ p = append-nil (joined (cut ++ p ∷ [])) ∙ joined_more cut p in
+    record {
+      strict = rw whole old.strict;
+      short = rw whole old.short;
+      shortest = all-append (IsShortest size) cut (p ∷ []) old.shortest (record { some = omega arith; shortest = old.front }, tt);
+      front = λ k pos lt. absurd (omega (arith, pos, lt));
+      counted = cut_counted m cut p (cut ++ p ∷ []) old.counted whole;
+      sized = refl;
+      small = omega arith;
+    }
+
+pub not_full : (size n : ℕ) (pending : List Entry) → n ≡ size_of pending → n < size → IsOpen size pending
+not_full size n [] e lt = tt
+not_full size n (x ∷ xs) e lt = lt-leb _ _ (omega (arith, e, lt))

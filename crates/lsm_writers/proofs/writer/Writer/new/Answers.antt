@@ -1,0 +1,9 @@
+use Rattle.std.proofs.Common.{◌≡◌, ap, refl, [], length, arith, rules}
+use Rattle.lsm_writers.specs.Cut.{Cut}
+use Rattle.lsm_writers.specs.Facts.{count_after, lowest_seqno, highest_seqno}
+use Rattle.sst_blocks.specs.Strict.{IsStrictAfter, last_of}
+use Rattle.lsm_writers.proofs.Taking.{nothing_held}
+use Rattle.lsm_writers.proofs.writer.Writer.new.Goals as goal
+
+pub invariant_of-result : goal.invariant_of-result
+invariant_of-result g c = nothing_held _ c.in_ok-new.field-0 _ _ c.in_ok-new.ensures.ok c.new-chunk.ensures.items c.default.ensures

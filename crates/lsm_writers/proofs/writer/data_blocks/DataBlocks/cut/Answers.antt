@@ -1,0 +1,166 @@
+use Rattle.std.proofs.Common.{◌≡◌, ◌∙◌, ap, sym, refl, subst, ℕ, ◌+◌, ◌<◌, ◌≤◌, ◌^◌, Bool, false, List, [], ◌∷◌, ◌++◌, length, arith, rules, Fits, w64, vec_len}
+use Rattle.std.specs.Prelude.{Option, Some, None}
+use Rattle.sst_blocks.specs.declared.version.TableVersion.TheVariants.{V4}
+use Rattle.sst_blocks.specs.declared.block_type.BlockType.TheVariants.{Data}
+use Rattle.sst_blocks.specs.Block.{block_bytes}
+use Rattle.sst_blocks.specs.Entry.{Entry}
+use Rattle.sst_blocks.specs.Handle.{Handle}
+use Rattle.sst_blocks.specs.Payload.{payload}
+use Rattle.sst_blocks.specs.Strict.{IsStrict}
+use Rattle.lsm_writers.specs.Chunks.{joined}
+use Rattle.lsm_writers.specs.Cut.{chunks_in, AreCut, IsReadable, Cut, with_cut, rest_of}
+use Rattle.lsm_writers.specs.Index.{last_entry, handles, data_section, handle_of}
+use Rattle.lsm_writers.proofs.Cutting.{cut_more, cut_lost, held_again, held_by_bytes, counted_more, readable_of, handle_is, registered_strict, rest_is, room_for, at_least_blocks, exact_blocks, sizes}
+use Rattle.lsm_writers.proofs.Listing.{on_err}
+use Rattle.lsm_writers.proofs.Orders.{strict_alone, strict_back, last_place, last_popped}
+use Rattle.lsm_writers.proofs.writer.data_blocks.DataBlocks.cut.Goals as goal
+
+pub encode_into-requires : goal.encode_into-requires
+encode_into-requires g c = rw c.deref-2.ensures.value (strict_alone _ _ (strict_back None _ _ c.requires.strict))
+
+pub register_data_block-requires : goal.register_data_block-requires
+register_data_block-requires g c =
+    let works : c.self.inside.index_writer.failed ≡ false = ap (λ (x : Cut). x.failed) c.self.view_is ∙ c.requires.works in
+    let cs : chunks_in V4 (length c.self.inside.index_writer.handles) c.self.inside.file_writer.bytes ≡ c.args.self.now.chunks = ap (λ (x : Cut). x.chunks) c.self.view_is in
+    let strict : IsStrict (joined (chunks_in V4 (length c.self.inside.index_writer.handles) c.self.inside.file_writer.bytes) ++ c.args.chunk.now.items) = rw cs c.requires.strict in
+    let place = last_place _ _ _ c.deref.ensures.value c.in-Some.ensures.value in
+    let readable = readable_of _ _ c.deref-2.ensures.value place.0 c.in_ok-encode_into.ensures.reads c.in_ok-encode_into.ensures.short c.in_ok-encode_into.ensures.bound in
+    let spelled : c.deref-3.result.now ≡ payload V4 c.args.chunk.now.items = rw (c.deref-3.ensures.value, c.in_ok-encode_into.ensures.ok, c.clear.ensures.items, c.deref-2.ensures.value) refl in
+    let handle = handle_is c.new-handle.result _ _ c.in_ok-place.place c.self.inside.file_writer c.deref-3.result.now c.args.chunk.now.items c.in-Some.last.now c.new-handle.ensures (c.in_ok-end_key.ensures.cases ∙ ap (λ (y : Entry). y.user_key) c.last-2.view_is) (ap (λ (y : Entry). y.seqno) c.last-2.view_is) place.1 c.in_ok-place.ensures.handle spelled in
+    registered_strict _ _ _ _ _ _ _ c.self.invariant.0 works strict readable handle
+
+pub invariant_of-self-in_err-register_data_block :
+    goal.invariant_of-self-in_err-register_data_block
+invariant_of-self-in_err-register_data_block g c =
+    let lost = cut_lost _ c.self.inside.file_writer c.write_into.new.writer c.self.inside.index_writer.handles c.register_data_block.new.self.handles _ c.self.inside.index_writer.failed c.register_data_block.new.self.failed _ c.self.invariant.0 c.in_ok-place.ensures.ok c.in_err-register_data_block.ensures.unchanged c.in_err-register_data_block.ensures.failed in
+    (held_by_bytes _ _ _ _ _ lost, rw (held_again _ _ _ _ _ lost) c.self.invariant.1)
+
+pub returns-in_err-register_data_block-clause-unchanged :
+    goal.returns-in_err-register_data_block-clause-unchanged
+returns-in_err-register_data_block-clause-unchanged g c =
+    let lost = cut_lost _ c.self.inside.file_writer c.write_into.new.writer c.self.inside.index_writer.handles c.register_data_block.new.self.handles _ c.self.inside.index_writer.failed c.register_data_block.new.self.failed _ c.self.invariant.0 c.in_ok-place.ensures.ok c.in_err-register_data_block.ensures.unchanged c.in_err-register_data_block.ensures.failed in
+    let same : chunks_in V4 (length c.register_data_block.new.self.handles) c.write_into.new.writer.bytes ≡ c.args.self.now.chunks = held_again _ _ _ _ _ lost ∙ ap (λ (x : Cut). x.chunks) c.self.view_is in
+    on_err _ same
+
+pub overflow_add-meta : goal.overflow_add-meta
+overflow_add-meta g c =
+    let works : c.self.inside.index_writer.failed ≡ false = ap (λ (x : Cut). x.failed) c.self.view_is ∙ c.requires.works in
+    let cs : chunks_in V4 (length c.self.inside.index_writer.handles) c.self.inside.file_writer.bytes ≡ c.args.self.now.chunks = ap (λ (x : Cut). x.chunks) c.self.view_is in
+    let strict : IsStrict (joined (chunks_in V4 (length c.self.inside.index_writer.handles) c.self.inside.file_writer.bytes) ++ c.args.chunk.now.items) = rw cs c.requires.strict in
+    let place = last_place _ _ _ c.deref.ensures.value c.in-Some.ensures.value in
+    let readable = readable_of _ _ c.deref-2.ensures.value place.0 c.in_ok-encode_into.ensures.reads c.in_ok-encode_into.ensures.short c.in_ok-encode_into.ensures.bound in
+    let spelled : c.deref-3.result.now ≡ payload V4 c.args.chunk.now.items = rw (c.deref-3.ensures.value, c.in_ok-encode_into.ensures.ok, c.clear.ensures.items, c.deref-2.ensures.value) refl in
+    let handle = handle_is c.new-handle.result _ _ c.in_ok-place.place c.self.inside.file_writer c.deref-3.result.now c.args.chunk.now.items c.in-Some.last.now c.new-handle.ensures (c.in_ok-end_key.ensures.cases ∙ ap (λ (y : Entry). y.user_key) c.last-2.view_is) (ap (λ (y : Entry). y.seqno) c.last-2.view_is) place.1 c.in_ok-place.ensures.handle spelled in
+    let w = c.self.inside.file_writer in
+    let bytes : c.write_into.new.writer ≡ record w { bytes = w.bytes ++ block_bytes V4 Data (payload V4 c.args.chunk.now.items) } = c.in_ok-place.ensures.ok ∙ ap (λ (p : List ℕ). record w { bytes = w.bytes ++ block_bytes V4 Data p }) spelled in
+    let hs : c.register_data_block.new.self.handles ≡ c.self.inside.index_writer.handles ++ handle_of V4 (length w.bytes) c.args.chunk.now.items ∷ [] = c.in_ok-register_data_block.ensures.ok ∙ ap (λ (h : Handle). c.self.inside.index_writer.handles ++ h ∷ []) handle in
+    let last : Some (last_entry c.args.chunk.now.items) ≡ Some (last_entry c.args.chunk.now.items) = refl in
+    let more = cut_more _ w c.write_into.new.writer c.self.inside.index_writer.handles c.register_data_block.new.self.handles c.self.inside.last (Some (last_entry c.args.chunk.now.items)) c.self.inside.index_writer.failed c.register_data_block.new.self.failed c.args.chunk.now.items c.self.invariant.0 works strict readable bytes hs last in
+    let are = subst (λ (x : List (List Entry)). c.args.meta.now ≡ with_cut x c.args.meta.now) (sym cs) c.requires.counts.are in
+    let le = at_least_blocks _ _ _ _ _ more in
+    let lt : length c.write_into.new.writer.bytes < 2 ^ 64 = omega arith in
+    let room = room_for c.args.meta.now _ c.args.chunk.now.items _ are more.readable le lt in
+    omega (arith, room.0)
+
+pub overflow_add-meta-2 : goal.overflow_add-meta-2
+overflow_add-meta-2 g c =
+    let works : c.self.inside.index_writer.failed ≡ false = ap (λ (x : Cut). x.failed) c.self.view_is ∙ c.requires.works in
+    let cs : chunks_in V4 (length c.self.inside.index_writer.handles) c.self.inside.file_writer.bytes ≡ c.args.self.now.chunks = ap (λ (x : Cut). x.chunks) c.self.view_is in
+    let strict : IsStrict (joined (chunks_in V4 (length c.self.inside.index_writer.handles) c.self.inside.file_writer.bytes) ++ c.args.chunk.now.items) = rw cs c.requires.strict in
+    let place = last_place _ _ _ c.deref.ensures.value c.in-Some.ensures.value in
+    let readable = readable_of _ _ c.deref-2.ensures.value place.0 c.in_ok-encode_into.ensures.reads c.in_ok-encode_into.ensures.short c.in_ok-encode_into.ensures.bound in
+    let spelled : c.deref-3.result.now ≡ payload V4 c.args.chunk.now.items = rw (c.deref-3.ensures.value, c.in_ok-encode_into.ensures.ok, c.clear.ensures.items, c.deref-2.ensures.value) refl in
+    let handle = handle_is c.new-handle.result _ _ c.in_ok-place.place c.self.inside.file_writer c.deref-3.result.now c.args.chunk.now.items c.in-Some.last.now c.new-handle.ensures (c.in_ok-end_key.ensures.cases ∙ ap (λ (y : Entry). y.user_key) c.last-2.view_is) (ap (λ (y : Entry). y.seqno) c.last-2.view_is) place.1 c.in_ok-place.ensures.handle spelled in
+    let w = c.self.inside.file_writer in
+    let bytes : c.write_into.new.writer ≡ record w { bytes = w.bytes ++ block_bytes V4 Data (payload V4 c.args.chunk.now.items) } = c.in_ok-place.ensures.ok ∙ ap (λ (p : List ℕ). record w { bytes = w.bytes ++ block_bytes V4 Data p }) spelled in
+    let hs : c.register_data_block.new.self.handles ≡ c.self.inside.index_writer.handles ++ handle_of V4 (length w.bytes) c.args.chunk.now.items ∷ [] = c.in_ok-register_data_block.ensures.ok ∙ ap (λ (h : Handle). c.self.inside.index_writer.handles ++ h ∷ []) handle in
+    let last : Some (last_entry c.args.chunk.now.items) ≡ Some (last_entry c.args.chunk.now.items) = refl in
+    let more = cut_more _ w c.write_into.new.writer c.self.inside.index_writer.handles c.register_data_block.new.self.handles c.self.inside.last (Some (last_entry c.args.chunk.now.items)) c.self.inside.index_writer.failed c.register_data_block.new.self.failed c.args.chunk.now.items c.self.invariant.0 works strict readable bytes hs last in
+    let are = subst (λ (x : List (List Entry)). c.args.meta.now ≡ with_cut x c.args.meta.now) (sym cs) c.requires.counts.are in
+    let le = at_least_blocks _ _ _ _ _ more in
+    let lt : length c.write_into.new.writer.bytes < 2 ^ 64 = omega arith in
+    let room = room_for c.args.meta.now _ c.args.chunk.now.items _ are more.readable le lt in
+    let n : c.len.result ≡ length c.args.chunk.now.items = search rules in
+    omega (arith, n, room.1)
+
+pub overflow_add-meta-3 : goal.overflow_add-meta-3
+overflow_add-meta-3 g c =
+    let works : c.self.inside.index_writer.failed ≡ false = ap (λ (x : Cut). x.failed) c.self.view_is ∙ c.requires.works in
+    let cs : chunks_in V4 (length c.self.inside.index_writer.handles) c.self.inside.file_writer.bytes ≡ c.args.self.now.chunks = ap (λ (x : Cut). x.chunks) c.self.view_is in
+    let strict : IsStrict (joined (chunks_in V4 (length c.self.inside.index_writer.handles) c.self.inside.file_writer.bytes) ++ c.args.chunk.now.items) = rw cs c.requires.strict in
+    let place = last_place _ _ _ c.deref.ensures.value c.in-Some.ensures.value in
+    let readable = readable_of _ _ c.deref-2.ensures.value place.0 c.in_ok-encode_into.ensures.reads c.in_ok-encode_into.ensures.short c.in_ok-encode_into.ensures.bound in
+    let spelled : c.deref-3.result.now ≡ payload V4 c.args.chunk.now.items = rw (c.deref-3.ensures.value, c.in_ok-encode_into.ensures.ok, c.clear.ensures.items, c.deref-2.ensures.value) refl in
+    let handle = handle_is c.new-handle.result _ _ c.in_ok-place.place c.self.inside.file_writer c.deref-3.result.now c.args.chunk.now.items c.in-Some.last.now c.new-handle.ensures (c.in_ok-end_key.ensures.cases ∙ ap (λ (y : Entry). y.user_key) c.last-2.view_is) (ap (λ (y : Entry). y.seqno) c.last-2.view_is) place.1 c.in_ok-place.ensures.handle spelled in
+    let w = c.self.inside.file_writer in
+    let bytes : c.write_into.new.writer ≡ record w { bytes = w.bytes ++ block_bytes V4 Data (payload V4 c.args.chunk.now.items) } = c.in_ok-place.ensures.ok ∙ ap (λ (p : List ℕ). record w { bytes = w.bytes ++ block_bytes V4 Data p }) spelled in
+    let hs : c.register_data_block.new.self.handles ≡ c.self.inside.index_writer.handles ++ handle_of V4 (length w.bytes) c.args.chunk.now.items ∷ [] = c.in_ok-register_data_block.ensures.ok ∙ ap (λ (h : Handle). c.self.inside.index_writer.handles ++ h ∷ []) handle in
+    let last : Some (last_entry c.args.chunk.now.items) ≡ Some (last_entry c.args.chunk.now.items) = refl in
+    let more = cut_more _ w c.write_into.new.writer c.self.inside.index_writer.handles c.register_data_block.new.self.handles c.self.inside.last (Some (last_entry c.args.chunk.now.items)) c.self.inside.index_writer.failed c.register_data_block.new.self.failed c.args.chunk.now.items c.self.invariant.0 works strict readable bytes hs last in
+    let are = subst (λ (x : List (List Entry)). c.args.meta.now ≡ with_cut x c.args.meta.now) (sym cs) c.requires.counts.are in
+    let le = at_least_blocks _ _ _ _ _ more in
+    let lt : length c.write_into.new.writer.bytes < 2 ^ 64 = omega arith in
+    let room = room_for c.args.meta.now _ c.args.chunk.now.items _ are more.readable le lt in
+    let buffer : c.encode_into.new.buf.items ≡ payload V4 c.args.chunk.now.items = sym c.deref-3.ensures.value ∙ spelled in
+    let n : c.len-2.result ≡ length c.encode_into.new.buf.items = search rules in
+    omega (arith, n ∙ ap length buffer, room.2)
+
+pub invariant_of-self-2 : goal.invariant_of-self-2
+invariant_of-self-2 g c =
+    let works : c.self.inside.index_writer.failed ≡ false = ap (λ (x : Cut). x.failed) c.self.view_is ∙ c.requires.works in
+    let cs : chunks_in V4 (length c.self.inside.index_writer.handles) c.self.inside.file_writer.bytes ≡ c.args.self.now.chunks = ap (λ (x : Cut). x.chunks) c.self.view_is in
+    let strict : IsStrict (joined (chunks_in V4 (length c.self.inside.index_writer.handles) c.self.inside.file_writer.bytes) ++ c.args.chunk.now.items) = rw cs c.requires.strict in
+    let place = last_place _ _ _ c.deref.ensures.value c.in-Some.ensures.value in
+    let readable = readable_of _ _ c.deref-2.ensures.value place.0 c.in_ok-encode_into.ensures.reads c.in_ok-encode_into.ensures.short c.in_ok-encode_into.ensures.bound in
+    let spelled : c.deref-3.result.now ≡ payload V4 c.args.chunk.now.items = rw (c.deref-3.ensures.value, c.in_ok-encode_into.ensures.ok, c.clear.ensures.items, c.deref-2.ensures.value) refl in
+    let handle = handle_is c.new-handle.result _ _ c.in_ok-place.place c.self.inside.file_writer c.deref-3.result.now c.args.chunk.now.items c.in-Some.last.now c.new-handle.ensures (c.in_ok-end_key.ensures.cases ∙ ap (λ (y : Entry). y.user_key) c.last-2.view_is) (ap (λ (y : Entry). y.seqno) c.last-2.view_is) place.1 c.in_ok-place.ensures.handle spelled in
+    let w = c.self.inside.file_writer in
+    let bytes : c.write_into.new.writer ≡ record w { bytes = w.bytes ++ block_bytes V4 Data (payload V4 c.args.chunk.now.items) } = c.in_ok-place.ensures.ok ∙ ap (λ (p : List ℕ). record w { bytes = w.bytes ++ block_bytes V4 Data p }) spelled in
+    let hs : c.register_data_block.new.self.handles ≡ c.self.inside.index_writer.handles ++ handle_of V4 (length w.bytes) c.args.chunk.now.items ∷ [] = c.in_ok-register_data_block.ensures.ok ∙ ap (λ (h : Handle). c.self.inside.index_writer.handles ++ h ∷ []) handle in
+    let n : vec_len c.args.chunk.now ≡ length c.args.chunk.now.items = search rules in
+    let last : c.pop.result ≡ Some (last_entry c.args.chunk.now.items) = last_popped _ _ c.in-Some.last.now _ _ c.deref.ensures.value c.in-Some.ensures.value n (c.pop.ensures.value c.in-Some.last.now (omega (arith, n, place.0))) in
+    let more = cut_more _ w c.write_into.new.writer c.self.inside.index_writer.handles c.register_data_block.new.self.handles c.self.inside.last c.pop.result c.self.inside.index_writer.failed c.register_data_block.new.self.failed c.args.chunk.now.items c.self.invariant.0 works strict readable bytes hs last in
+    let le = at_least_blocks _ _ _ _ _ more in
+    let lt : length c.write_into.new.writer.bytes < 2 ^ 64 = omega arith in
+    (held_by_bytes _ _ _ _ _ more, rw (held_again _ _ _ _ _ more) (omega (arith, (sizes _ more.readable).items, le, lt)))
+
+pub returns-clause-ok : goal.returns-clause-ok
+returns-clause-ok g c =
+    let works : c.self.inside.index_writer.failed ≡ false = ap (λ (x : Cut). x.failed) c.self.view_is ∙ c.requires.works in
+    let cs : chunks_in V4 (length c.self.inside.index_writer.handles) c.self.inside.file_writer.bytes ≡ c.args.self.now.chunks = ap (λ (x : Cut). x.chunks) c.self.view_is in
+    let strict : IsStrict (joined (chunks_in V4 (length c.self.inside.index_writer.handles) c.self.inside.file_writer.bytes) ++ c.args.chunk.now.items) = rw cs c.requires.strict in
+    let place = last_place _ _ _ c.deref.ensures.value c.in-Some.ensures.value in
+    let readable = readable_of _ _ c.deref-2.ensures.value place.0 c.in_ok-encode_into.ensures.reads c.in_ok-encode_into.ensures.short c.in_ok-encode_into.ensures.bound in
+    let spelled : c.deref-3.result.now ≡ payload V4 c.args.chunk.now.items = rw (c.deref-3.ensures.value, c.in_ok-encode_into.ensures.ok, c.clear.ensures.items, c.deref-2.ensures.value) refl in
+    let handle = handle_is c.new-handle.result _ _ c.in_ok-place.place c.self.inside.file_writer c.deref-3.result.now c.args.chunk.now.items c.in-Some.last.now c.new-handle.ensures (c.in_ok-end_key.ensures.cases ∙ ap (λ (y : Entry). y.user_key) c.last-2.view_is) (ap (λ (y : Entry). y.seqno) c.last-2.view_is) place.1 c.in_ok-place.ensures.handle spelled in
+    let w = c.self.inside.file_writer in
+    let bytes : c.write_into.new.writer ≡ record w { bytes = w.bytes ++ block_bytes V4 Data (payload V4 c.args.chunk.now.items) } = c.in_ok-place.ensures.ok ∙ ap (λ (p : List ℕ). record w { bytes = w.bytes ++ block_bytes V4 Data p }) spelled in
+    let hs : c.register_data_block.new.self.handles ≡ c.self.inside.index_writer.handles ++ handle_of V4 (length w.bytes) c.args.chunk.now.items ∷ [] = c.in_ok-register_data_block.ensures.ok ∙ ap (λ (h : Handle). c.self.inside.index_writer.handles ++ h ∷ []) handle in
+    let last : Some (last_entry c.args.chunk.now.items) ≡ Some (last_entry c.args.chunk.now.items) = refl in
+    let more = cut_more _ w c.write_into.new.writer c.self.inside.index_writer.handles c.register_data_block.new.self.handles c.self.inside.last (Some (last_entry c.args.chunk.now.items)) c.self.inside.index_writer.failed c.register_data_block.new.self.failed c.args.chunk.now.items c.self.invariant.0 works strict readable bytes hs last in
+    held_again _ _ _ _ _ more ∙ ap (λ (x : List (List Entry)). x ++ c.args.chunk.now.items ∷ []) cs ∙ ap (λ (x : List (List Entry)). c.args.self.now.chunks ++ x) (sym (rest_is c.args.chunk.now.items place.0))
+
+pub returns-clause-counted : goal.returns-clause-counted
+returns-clause-counted g c =
+    let works : c.self.inside.index_writer.failed ≡ false = ap (λ (x : Cut). x.failed) c.self.view_is ∙ c.requires.works in
+    let cs : chunks_in V4 (length c.self.inside.index_writer.handles) c.self.inside.file_writer.bytes ≡ c.args.self.now.chunks = ap (λ (x : Cut). x.chunks) c.self.view_is in
+    let strict : IsStrict (joined (chunks_in V4 (length c.self.inside.index_writer.handles) c.self.inside.file_writer.bytes) ++ c.args.chunk.now.items) = rw cs c.requires.strict in
+    let place = last_place _ _ _ c.deref.ensures.value c.in-Some.ensures.value in
+    let readable = readable_of _ _ c.deref-2.ensures.value place.0 c.in_ok-encode_into.ensures.reads c.in_ok-encode_into.ensures.short c.in_ok-encode_into.ensures.bound in
+    let spelled : c.deref-3.result.now ≡ payload V4 c.args.chunk.now.items = rw (c.deref-3.ensures.value, c.in_ok-encode_into.ensures.ok, c.clear.ensures.items, c.deref-2.ensures.value) refl in
+    let handle = handle_is c.new-handle.result _ _ c.in_ok-place.place c.self.inside.file_writer c.deref-3.result.now c.args.chunk.now.items c.in-Some.last.now c.new-handle.ensures (c.in_ok-end_key.ensures.cases ∙ ap (λ (y : Entry). y.user_key) c.last-2.view_is) (ap (λ (y : Entry). y.seqno) c.last-2.view_is) place.1 c.in_ok-place.ensures.handle spelled in
+    let w = c.self.inside.file_writer in
+    let bytes : c.write_into.new.writer ≡ record w { bytes = w.bytes ++ block_bytes V4 Data (payload V4 c.args.chunk.now.items) } = c.in_ok-place.ensures.ok ∙ ap (λ (p : List ℕ). record w { bytes = w.bytes ++ block_bytes V4 Data p }) spelled in
+    let hs : c.register_data_block.new.self.handles ≡ c.self.inside.index_writer.handles ++ handle_of V4 (length w.bytes) c.args.chunk.now.items ∷ [] = c.in_ok-register_data_block.ensures.ok ∙ ap (λ (h : Handle). c.self.inside.index_writer.handles ++ h ∷ []) handle in
+    let last : Some (last_entry c.args.chunk.now.items) ≡ Some (last_entry c.args.chunk.now.items) = refl in
+    let more = cut_more _ w c.write_into.new.writer c.self.inside.index_writer.handles c.register_data_block.new.self.handles c.self.inside.last (Some (last_entry c.args.chunk.now.items)) c.self.inside.index_writer.failed c.register_data_block.new.self.failed c.args.chunk.now.items c.self.invariant.0 works strict readable bytes hs last in
+    let are = subst (λ (x : List (List Entry)). c.args.meta.now ≡ with_cut x c.args.meta.now) (sym cs) c.requires.counts.are in
+    let le = at_least_blocks _ _ _ _ _ more in
+    let lt : length c.write_into.new.writer.bytes < 2 ^ 64 = omega arith in
+    let room = room_for c.args.meta.now _ c.args.chunk.now.items _ are more.readable le lt in
+    let n : c.len.result ≡ length c.args.chunk.now.items = search rules in
+    let buffer : c.encode_into.new.buf.items ≡ payload V4 c.args.chunk.now.items = sym c.deref-3.ensures.value ∙ spelled in
+    let m : c.len-2.result ≡ length c.encode_into.new.buf.items = search rules in
+    let key : c.in_ok-last_key.last_key ≡ (last_entry c.args.chunk.now.items).user_key = c.in_ok-last_key.ensures.cases ∙ c.in_ok-end_key.ensures.cases ∙ ap (λ (y : Entry). y.user_key) c.last-2.view_is ∙ ap (λ (y : Entry). y.user_key) (sym place.1) in
+    let at = c.position-file_pos.ensures ∙ exact_blocks _ _ _ _ _ more c.in_ok-register_data_block.ensures.works in
+    rw (n, m ∙ ap length buffer, key, held_again _ _ _ _ _ more) (counted_more c.args.meta.now _ c.args.chunk.now.items _ are place.0 at)

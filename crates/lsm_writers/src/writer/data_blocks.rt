@@ -1,0 +1,134 @@
+//! The data blocks of a table, with the index that they are registered with.
+ghost use Rattle.std.specs.Prelude.{◌≡◌, ◌+◌, ◌*◌, ◌++◌, ◌^◌, ◌<◌, [], ◌∷◌, None, false, length, IfOk, IfErr, OnOk, OnErr};
+ghost use Rattle.std.specs.Option.{option_copied};
+ghost use Rattle.sst_blocks.specs.declared.error.Error.TheVariants.{OutOfMemory};
+ghost use Rattle.sst_blocks.specs.declared.section.SectionName.TheVariants.{Data};
+ghost use Rattle.sst_blocks.specs.declared.version.TableVersion.TheVariants.{V4};
+ghost use Rattle.sst_blocks.specs.Bounds.{index_block_bound_of};
+ghost use Rattle.sst_blocks.specs.Encoding.{entries_fault, key_fault, large_fault};
+ghost use Rattle.sst_blocks.specs.Error.{Faults};
+ghost use Rattle.sst_blocks.specs.Strict.{IsStrict, last_of};
+ghost use Rattle.lsm_writers.specs.Chunks.{joined};
+ghost use Rattle.lsm_writers.specs.Cut.{Cut, CountsCut, with_cut, rest_of};
+ghost use Rattle.lsm_writers.specs.File.{index_sections};
+ghost use Rattle.lsm_writers.specs.Index.{handles, data_section};
+ghost use Rattle.lsm_writers.specs.Layout.{laid};
+
+use crate::writer::index::{BlockIndexWriter, FullIndexWriter};
+use crate::writer::meta::Metadata;
+use crate::writer::options::WriterOptions;
+use sst_blocks::{Block, BlockHandle, BlockOffset, BlockType, CompressionType, DataBlock, Error, InternalValue, KeyedBlockHandle, SectionName, SectionWriter};
+use std::alloc::{Allocator, Global};
+use std::marker::Model;
+
+/// The data blocks that were cut so far, behind one another in the data section, and the index that has their handles. A
+/// contract sees the chunks that the blocks hold, as they are read back from the bytes.
+#[derive(Drop)]
+pub(crate) struct DataBlocks<A: Allocator = Global> {
+    file_writer: SectionWriter<A>,
+    index_writer: FullIndexWriter<A>,
+    // what a block is encoded into; it keeps its memory from block to block
+    block_buffer: Vec<u8, A>,
+    // the last entry of the last block
+    last: Option<InternalValue<A>>,
+}
+
+impl<A: Allocator> Model for DataBlocks<A> {
+    ghost use Rattle.std.specs.Prelude.{◌*◌, ◌^◌, ◌<◌, length};
+    ghost use Rattle.sst_blocks.specs.declared.version.TableVersion.TheVariants.{V4};
+    ghost use Rattle.lsm_writers.specs.Chunks.{joined};
+    ghost use Rattle.lsm_writers.specs.Cut.{Cut, chunks_in, AreCut};
+
+    ghost Value = { Cut };
+
+    ghost view = { λ b. record { chunks = chunks_in V4 (length b.index_writer.handles) b.file_writer.bytes; failed = b.index_writer.failed } };
+
+    ghost invariant = { λ b. AreCut (chunks_in V4 (length b.index_writer.handles) b.file_writer.bytes) b.file_writer b.index_writer.handles b.last b.index_writer.failed × (17 * length (joined (chunks_in V4 (length b.index_writer.handles) b.file_writer.bytes)) < 2 ^ 64) };
+}
+
+impl<A: Allocator + Clone> DataBlocks<A> {
+    /// No blocks, and the data section started.
+    pub(crate) fn new(alloc: A) -> Result<DataBlocks<A>, Error>
+        ensures ok { IfOk result (λ b. b ≡ record { chunks = []; failed = false }) }
+        ensures err { IfErr result (λ e. e ≡ OutOfMemory) }
+    {
+        let mut file_writer = SectionWriter::new(alloc.clone()?)?;
+        file_writer.start(SectionName::Data)?;
+        Ok(DataBlocks {
+            file_writer,
+            index_writer: FullIndexWriter::new(alloc.clone()?),
+            block_buffer: Vec::new(alloc),
+            last: None,
+        })
+    }
+
+    /// The last entry of the blocks.
+    pub(crate) fn last(&self) -> Option<&InternalValue<A>>
+        ensures last { option_copied result ≡ last_of None (joined self.now.chunks) }
+        // Each entry has bytes of its own, so there are fewer than can be counted.
+        ensures few { 17 * length (joined self.now.chunks) < 2 ^ 64 }
+    {
+        self.last.as_ref()
+    }
+
+    /// Cuts the entries of `chunk` off as a block, where there are some, and registers it with the index. `chunk` is then
+    /// empty, and `meta` counts the block. Refused [`Error::OutOfMemory`] alone; `chunk` and `meta` stay then as they were.
+    pub(crate) fn cut(
+        &mut self,
+        chunk: &mut Vec<InternalValue<A>, A>,
+        meta: &mut Metadata<A>,
+        options: &WriterOptions,
+    ) -> Result<(), Error>
+        requires works { self.old.failed ≡ false }
+        requires strict { IsStrict (joined self.old.chunks ++ chunk.old.items) }
+        requires fit { entries_fault chunk.old.items ≡ None }
+        requires counts { CountsCut self.old.chunks meta.old }
+        ensures ok { OnOk result (self.new.chunks ≡ self.old.chunks ++ rest_of chunk.old.items) }
+        ensures works { OnOk result (self.new.failed ≡ false) }
+        ensures taken { OnOk result (chunk.new.items ≡ []) }
+        ensures counted { OnOk result (meta.new ≡ with_cut self.new.chunks meta.old) }
+        ensures unchanged { OnErr result (self.new.chunks ≡ self.old.chunks) }
+        ensures left { OnErr result (chunk.new.items ≡ chunk.old.items) }
+        ensures uncounted { OnErr result (meta.new ≡ meta.old) }
+        ensures err { IfErr result (λ e. e ≡ OutOfMemory) }
+    {
+        let Some(last) = chunk.last() else {
+            return Ok(());
+        };
+        let seqno = last.key.seqno;
+        let end_key = last.key.user_key.clone()?;
+        let last_key = end_key.clone()?;
+        self.block_buffer.clear();
+        DataBlock::encode_into(&mut self.block_buffer, chunk, options.data_block_restart_interval, options.data_block_hash_ratio)?;
+        let place = Block::write_into(&mut self.file_writer, &self.block_buffer, BlockType::Data, CompressionType::None)?;
+        let handle = KeyedBlockHandle::new(end_key, seqno, place);
+        self.index_writer.register_data_block(&handle)?;
+        let file_pos = self.file_writer.position();
+        meta.data_block_count += 1;
+        meta.item_count += chunk.len();
+        meta.file_pos = BlockOffset(file_pos);
+        meta.uncompressed_size += self.block_buffer.len() as u64;
+        meta.last_key = Some(last_key);
+        self.last = chunk.pop();
+        chunk.clear();
+        Ok(())
+    }
+
+    /// Writes the index behind the blocks, and answers the sections so far, with memory for what is left to encode. Refused
+    /// [`Error::BlockTooLarge`] where the bound of the index reaches 2^32, and [`Error::OutOfMemory`].
+    pub(crate) fn finish_index(self) -> Result<(SectionWriter<A>, Vec<u8, A>), Error>
+        requires works { self.failed ≡ false }
+        requires short { key_fault (handles V4 self.chunks) ≡ None }
+        ensures ok { IfOk result (λ x. x.0 ≡ laid ((Data, data_section V4 self.chunks) ∷ index_sections V4 self.chunks)) }
+        ensures refused { Faults result (large_fault (index_block_bound_of (handles V4 self.chunks))) }
+    {
+        let DataBlocks {
+            mut file_writer,
+            index_writer,
+            block_buffer,
+            last: _,
+        } = self;
+        index_writer.finish(&mut file_writer)?;
+        Ok((file_writer, block_buffer))
+    }
+}
