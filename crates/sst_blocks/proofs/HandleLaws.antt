@@ -1,5 +1,5 @@
 -- What is read as a handle is spelled so, and what is spelled so is read.
-use Rattle.std.proofs.Common.{◌≡◌, ℕ, zero, suc, ◌+◌, ◌-◌, ◌^◌, ◌<◌, ◌≤◌, Bool, true, false, cond, ltb, List, [], ◌∷◌, ◌++◌, length, get_or, take, drop, map, Option, Some, None, refl, sym, ap, subst, ◌∙◌, append_assoc, arith}
+use Rattle.std.proofs.Common.{◌≡◌, ℕ, zero, suc, ◌+◌, ◌-◌, ◌<◌, ◌≤◌, false, cond, ltb, List, [], ◌∷◌, ◌++◌, length, get_or, take, drop, Option, Some, None, refl, sym, ap, subst, ◌∙◌, append_assoc, arith}
 use Rattle.std.proofs.lemmas.Bool.{ltb-false, le-ltb}
 use Rattle.std.specs.Prelude.{option_and_then, unwrap_or, if◌then◌else◌}
 use Rattle.std.specs.List.{flat_map, slice_range, slice_get}
@@ -11,7 +11,6 @@ use Rattle.sst_blocks.specs.Handle.{Handle}
 use Rattle.sst_blocks.specs.Handles.{handle_head, handle_spelled, handles_payload, handle_at, handles_at, handles_in, HandleFits, HandlesFit, AreStrictHandles, end_of}
 use Rattle.sst_blocks.specs.Number.{le4, le8, num4, num8}
 use Rattle.sst_blocks.specs.Starts.{starts_of, HandlesAt}
-use Rattle.sst_blocks.specs.Strict.{is_strict_after}
 use Rattle.sst_blocks.specs.Version.{key_width, key_limit, key_len_bytes, key_len_at}
 use Rattle.sst_blocks.proofs.Items.{Format, IsFormat, items_at, items_in, in_order, items_in_take, items_in_again, guard_some, Here, Advances, length-starts, item_holds, items_strict}
 use Rattle.sst_blocks.proofs.Numbers.{IsBytes, IsBytes-drop, wide4, wide8, key_wide}

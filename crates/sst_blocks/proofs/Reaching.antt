@@ -1,14 +1,14 @@
 -- Where the handles that reach a key begin, and the windows that seeks leave.
 use Rattle.std.proofs.Common.{◌≡◌, refl, sym, ◌∙◌, ap, subst, ℕ, zero, suc, ◌+◌, ◌-◌, ◌<◌, ◌≤◌, Bool, true, false, cond, List, [], ◌∷◌, length, take, drop, get_or, map, arith, inl, inr, rules}
-use Rattle.std.specs.Prelude.{Option, Some, None, min, max, not, nat_eq, nat_lt, ◌&&◌, ◌||◌, ◌==◌}
-use Rattle.std.specs.List.{slice_range, slice_get}
+use Rattle.std.specs.Prelude.{Option, Some, None, min, max, not, nat_lt, ◌&&◌, ◌||◌, ◌==◌}
+use Rattle.std.specs.List.{slice_get}
 use Rattle.std.specs.declared.cmp.Ordering.{Ordering}
 use Rattle.std.specs.declared.cmp.Ordering.TheVariants.{Less, Equal, Greater}
 use Rattle.std.specs.Ordering.{nat_cmp, is_lt, is_eq, ordering_then, ordering_reverse}
 use Rattle.std.specs.Cmp.{IsTotalOrder}
 use Rattle.std.specs.Cmp.Rules.{comparing}
-use Rattle.std.specs.Cmp.Lexicographic.{slice_cmp, pointwise, nat_list_cmp_total, texts_ties}
-use Rattle.std.proofs.lemmas.Bool.{cases_lt, le-ltb}
+use Rattle.std.specs.Cmp.Lexicographic.{slice_cmp, nat_list_cmp_total, texts_ties}
+use Rattle.std.proofs.lemmas.Bool.{cases_lt, le-ltb, ltb-false, ltb-true}
 use Rattle.std.proofs.lemmas.List.{drop-take, drop_all, length-take, length-drop, take_all, length-map, get_or-map}
 use Rattle.std.proofs.lemmas.Option.{get_or_from_slice_get}
 use Rattle.sst_blocks.specs.declared.value_type.ValueType.TheVariants.{Value}
@@ -17,8 +17,8 @@ use Rattle.sst_blocks.specs.Handle.{Handle}
 use Rattle.sst_blocks.specs.Handles.{reaches, is_above, end_of, AreStrictHandles, from_first, up_to_first, window}
 use Rattle.sst_blocks.specs.Key.{same_key, key_lt}
 use Rattle.sst_blocks.specs.Span.{Span, left_in, front_length}
-use Rattle.sst_blocks.specs.Strict.{number_cmp, is_before, may_follow, IsStrictAfter}
-use Rattle.sst_blocks.proofs.SpanLemmas.{front_length_is}
+use Rattle.sst_blocks.specs.Strict.{number_cmp, is_before, IsStrictAfter}
+use Rattle.sst_blocks.proofs.SpanLemmas.{front_length_is, left_empty}
 
 -- ---- to reach a key is to end after it
 
@@ -210,3 +210,12 @@ left_both hs key bound end =
     ∙ ap (λ (m : ℕ). drop m (take n hs)) (sym (front_length-take R n hs))
     ∙ sym (from_first_drop (reaches key bound) (take n hs))
     ∙ ap (from_first (reaches key bound)) (sym (up_to_first_take (is_above end) hs))
+
+-- ---- what a seek's answer says
+
+module _ {X : Type 0} where
+  pub nothing_left : (s : Span X) → nat_lt s.from s.to ≡ false → left_in s ≡ []
+  nothing_left s none = left_empty s (ltb-false s.from s.to none)
+
+  pub something_left : (s : Span X) → s.to ≤ length s.list → nat_lt s.from s.to ≡ true → 0 < length (left_in s)
+  something_left s within some = omega (arith, ltb-true s.from s.to some, length-take (s.to - s.from) (drop s.from s.list), length-drop s.from s.list)

@@ -1,4 +1,4 @@
-use Rattle.std.proofs.Common.{◌≡◌, ◌<◌, ◌+◌, ◌^◌, length, arith, OnOk, Some}
+use Rattle.std.proofs.Common.{◌≡◌, ◌<◌, ◌+◌, ◌^◌, length, arith, Some}
 use Rattle.sst_blocks.specs.Bounds.{index_block_bound_of}
 use Rattle.sst_blocks.specs.Handles.{HandlesFit, handles_in, handles_payload}
 use Rattle.sst_blocks.specs.declared.version.TableVersion.TheVariants.{V4}

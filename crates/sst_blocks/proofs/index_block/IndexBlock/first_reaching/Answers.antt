@@ -1,7 +1,5 @@
-use Rattle.std.proofs.Common.{◌≡◌, ℕ, ◌+◌, ◌-◌, ◌/◌, ◌<◌, ◌≤◌, length, get_or, false, true, rules, arith, ap, ◌∙◌, sym}
-use Rattle.std.proofs.lemmas.Option.{get_or_from_slice_get}
+use Rattle.std.proofs.Common.{◌≡◌, ◌+◌, ◌-◌, ◌/◌, ◌<◌, length, arith}
 use Rattle.sst_blocks.specs.Handle.{Handle}
-use Rattle.sst_blocks.specs.Handles.{reaches}
 use Rattle.sst_blocks.specs.SeenHandle.{seen_handle}
 use Rattle.sst_blocks.proofs.Reaching.{below_place, early_at, first_place}
 use Rattle.sst_blocks.proofs.index_block.IndexBlock.first_reaching.Goals as goal

@@ -1,6 +1,6 @@
-use Rattle.std.proofs.Common.{◌≡◌, Some, arith, ap, ◌∙◌, sym, length, refl}
+use Rattle.std.proofs.Common.{◌≡◌, Some, arith, ap, ◌∙◌, sym, refl}
 use Rattle.sst_blocks.specs.SeenHandle.{seen_handle}
-use Rattle.sst_blocks.proofs.HandleLaws.{Stands, block_holds, block_len}
+use Rattle.sst_blocks.proofs.HandleLaws.{block_holds, block_len}
 use Rattle.sst_blocks.proofs.index_block.IndexBlock.handle.Goals as goal
 
 pub index-requires : goal.index-requires

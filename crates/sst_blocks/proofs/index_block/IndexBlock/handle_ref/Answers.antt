@@ -1,8 +1,8 @@
-use Rattle.std.proofs.Common.{◌≡◌, ◌≤◌, Some, rules, arith, ap, ◌∙◌, sym, length}
+use Rattle.std.proofs.Common.{◌≤◌, Some, rules, arith, ap, ◌∙◌, sym, length}
 use Rattle.std.proofs.lemmas.Option.{none-some, some_pair_parts}
 use Rattle.sst_blocks.specs.Handles.{handle_at}
 use Rattle.sst_blocks.proofs.Entries.{whole_tail}
-use Rattle.sst_blocks.proofs.HandleLaws.{Stands, block_holds, block_len, some_at}
+use Rattle.sst_blocks.proofs.HandleLaws.{block_holds, block_len, some_at}
 use Rattle.sst_blocks.proofs.index_block.IndexBlock.handle_ref.Goals as goal
 
 pub index-requires : goal.index-requires

@@ -1,10 +1,4 @@
-use Rattle.std.proofs.Common.{◌≡◌, List, ◌++◌, ◌≤◌, take, length, rules, arith, ap, ◌∙◌}
-use Rattle.std.proofs.lemmas.List.{take_all}
-use Rattle.std.specs.List.{flat_map}
-use Rattle.sst_blocks.specs.Handle.{Handle}
-use Rattle.sst_blocks.specs.Handles.{handles_payload, handle_spelled}
-use Rattle.sst_blocks.specs.Number.{le4}
-use Rattle.sst_blocks.specs.declared.version.TableVersion.TheVariants.{V4}
+use Rattle.std.proofs.Common.{rules, arith}
 use Rattle.sst_blocks.proofs.Faults.{front_again}
 use Rattle.sst_blocks.proofs.HandleFaults.{short_key_at, all_written}
 use Rattle.sst_blocks.proofs.index_block.encode.put_handles.Goals as goal

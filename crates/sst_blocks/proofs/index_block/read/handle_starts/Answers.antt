@@ -1,12 +1,11 @@
-use Rattle.std.proofs.Common.{◌≡◌, ◌≤◌, ◌<◌, ◌-◌, ◌++◌, ◌∷◌, [], length, drop, refl, rules, arith, true, false, Option, Some, None, subst, sym, ◌∙◌, List, ℕ}
+use Rattle.std.proofs.Common.{◌≡◌, ◌≤◌, ◌<◌, length, refl, rules, arith, true, false, Some, None, ◌∙◌}
 use Rattle.std.specs.Option.{option_map}
 use Rattle.std.proofs.lemmas.List.{take_rest}
-use Rattle.sst_blocks.specs.Handles.{handle_at, end_of, handles_in}
+use Rattle.sst_blocks.specs.Handles.{handle_at, end_of}
 use Rattle.sst_blocks.specs.SeenHandle.{seen_handle}
-use Rattle.sst_blocks.specs.Starts.{SpellsAt}
 use Rattle.sst_blocks.specs.Strict.{may_follow}
 use Rattle.sst_blocks.proofs.HandleLaws.{handle_format, handles_format, handles_in_same}
-use Rattle.sst_blocks.proofs.Items.{Walk, walk_begins, walk_on, walk_short, walk_missing, walk_unordered, walk_over, walk_ends}
+use Rattle.sst_blocks.proofs.Items.{walk_begins, walk_on, walk_short, walk_missing, walk_unordered, walk_over, walk_ends}
 use Rattle.sst_blocks.proofs.Numbers.{IsBytes}
 use Rattle.sst_blocks.proofs.index_block.read.handle_starts.Goals as goal
 

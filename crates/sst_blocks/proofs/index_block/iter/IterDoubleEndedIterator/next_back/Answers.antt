@@ -1,4 +1,4 @@
-use Rattle.std.proofs.Common.{◌<◌, arith}
+use Rattle.std.proofs.Common.{arith}
 use Rattle.sst_blocks.proofs.SpanLemmas.{span_back}
 use Rattle.sst_blocks.proofs.index_block.iter.IterDoubleEndedIterator.next_back.Goals as goal
 

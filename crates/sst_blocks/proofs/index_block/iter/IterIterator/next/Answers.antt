@@ -1,4 +1,4 @@
-use Rattle.std.proofs.Common.{◌<◌, arith}
+use Rattle.std.proofs.Common.{arith}
 use Rattle.sst_blocks.proofs.SpanLemmas.{span_front}
 use Rattle.sst_blocks.proofs.index_block.iter.IterIterator.next.Goals as goal
 
