@@ -96,20 +96,20 @@ module _ {X : Type 0} (low high : X → Bool) where
       let more = between xs (parted_tail below x xs l) (parted_tail high x xs h) in
       elim (low x) as (λ c. low x ≡ c → slice_range (x ∷ xs) (front_length below (x ∷ xs)) (front_length high (x ∷ xs)) ≡ filter both (x ∷ xs)) [
         | true ↦ λ t.
-          let fails : not (low x) ≡ false = rw t refl in
-          let all : (i : ℕ) (d : X) → i < length (x ∷ xs) → low (get_or (x ∷ xs) i d) ≡ true = all_low x xs t (λ i d lt. not_true (low (get_or xs i d)) (fail_behind below x xs l fails i d lt)) in
-          let n : front_length high (x ∷ xs) - 0 ≡ front_length high (x ∷ xs) = omega arith in
-          ap (λ (k : ℕ). slice_range (x ∷ xs) k (front_length high (x ∷ xs))) (begins x xs t) ∙ ap (λ (k : ℕ). take k (x ∷ xs)) n ∙ front_left (x ∷ xs) all h
+            let fails : not (low x) ≡ false = rw t refl in
+            let all : (i : ℕ) (d : X) → i < length (x ∷ xs) → low (get_or (x ∷ xs) i d) ≡ true = all_low x xs t (λ i d lt. not_true (low (get_or xs i d)) (fail_behind below x xs l fails i d lt)) in
+            let n : front_length high (x ∷ xs) - 0 ≡ front_length high (x ∷ xs) = omega arith in
+            ap (λ (k : ℕ). slice_range (x ∷ xs) k (front_length high (x ∷ xs))) (begins x xs t) ∙ ap (λ (k : ℕ). take k (x ∷ xs)) n ∙ front_left (x ∷ xs) all h
         | false ↦ λ t.
-          ap (λ (k : ℕ). slice_range (x ∷ xs) k (front_length high (x ∷ xs))) (skips x xs t)
-          ∙ (elim (high x) as (λ c. high x ≡ c → slice_range (x ∷ xs) (suc a) (front_length high (x ∷ xs)) ≡ filter both (x ∷ xs)) [
-            | true ↦ λ u.
-              let n : suc b - suc a ≡ b - a = omega arith in
-              ap (slice_range (x ∷ xs) (suc a)) (goes_on x xs u) ∙ ap (λ (k : ℕ). take k (drop a xs)) n ∙ more ∙ sym (none_low x xs t)
-            | false ↦ λ u.
-              let n : 0 - suc a ≡ 0 = omega arith in
-              ap (slice_range (x ∷ xs) (suc a)) (stops x xs u) ∙ ap (λ (k : ℕ). take k (drop a xs)) n ∙ sym (none_low x xs t ∙ none_left xs (fail_behind high x xs h u))
-          ] refl)
+            ap (λ (k : ℕ). slice_range (x ∷ xs) k (front_length high (x ∷ xs))) (skips x xs t)
+            ∙ (elim (high x) as (λ c. high x ≡ c → slice_range (x ∷ xs) (suc a) (front_length high (x ∷ xs)) ≡ filter both (x ∷ xs)) [
+              | true ↦ λ u.
+                  let n : suc b - suc a ≡ b - a = omega arith in
+                  ap (slice_range (x ∷ xs) (suc a)) (goes_on x xs u) ∙ ap (λ (k : ℕ). take k (drop a xs)) n ∙ more ∙ sym (none_low x xs t)
+              | false ↦ λ u.
+                  let n : 0 - suc a ≡ 0 = omega arith in
+                  ap (slice_range (x ∷ xs) (suc a)) (stops x xs u) ∙ ap (λ (k : ℕ). take k (drop a xs)) n ∙ sym (none_low x xs t ∙ none_left xs (fail_behind high x xs h u))
+            ] refl)
       ] refl
 
 -- ---- entries within edges

@@ -24,12 +24,11 @@ mod encode;
 mod entry_ref;
 mod iter;
 
-pub use iter::Iter;
-
 use crate::number::u32_at;
 use crate::{Block, Error, InternalValue, SeqNo, Slice, TableVersion};
 use encode::{length_fault, put_items};
 use entry_ref::{EntryRef, head_len, read_entry};
+pub use iter::Iter;
 use std::alloc::{Allocator, Global};
 use std::marker::Model;
 

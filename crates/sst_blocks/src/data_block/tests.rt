@@ -50,7 +50,11 @@ fn are_strict<A: Allocator>(items: &[InternalValue<A>]) -> bool
 }
 
 // The block of a payload.
-fn load<A: Allocator + Clone>(alloc: A, version: TableVersion, bytes: &[u8]) -> Result<DataBlock<A>, Error>
+fn load<A: Allocator + Clone>(
+    alloc: A,
+    version: TableVersion,
+    bytes: &[u8],
+) -> Result<DataBlock<A>, Error>
     requires { length bytes.now < 2 ^ 32 }
 {
     let starts = entry_starts(alloc.clone()?, version, bytes)?;
@@ -152,7 +156,10 @@ fn a_point_read_finds_the_newest_version_below_a_number(rt: HostRuntime) -> Resu
     ];
     for (key, seqno, place) in &reads {
         let found = block.point_read(key, *seqno)?;
-        assert!(rt; found.as_ref() == items.get(*place), "{key:?} below {seqno}");
+        assert!(rt;
+            found.as_ref() == items.get(*place),
+            "{key:?} below {seqno}"
+        );
     }
     Ok(())
 }
@@ -230,8 +237,20 @@ fn both_ends_deal_one_window(rt: HostRuntime) -> Result<(), Fail> {
     let items = five_entries(rt.alloc())?;
     let block = written_and_loaded(rt.alloc(), &items)?;
     let mut iter = block.iter();
-    for (from_front, expected) in [(true, 9), (false, 3), (true, 7), (false, 0), (false, 5), (true, 99), (false, 99)] {
-        let answer = if from_front { iter.next() } else { iter.next_back() };
+    for (from_front, expected) in [
+        (true, 9),
+        (false, 3),
+        (true, 7),
+        (false, 0),
+        (false, 5),
+        (true, 99),
+        (false, 99),
+    ] {
+        let answer = if from_front {
+            iter.next()
+        } else {
+            iter.next_back()
+        };
         assert_eq!(rt; number(answer)?, expected);
     }
     // The edges cross, and a later seek widens nothing.
@@ -246,7 +265,11 @@ fn both_ends_deal_one_window(rt: HostRuntime) -> Result<(), Fail> {
 
 // Whether a payload is in the grammar: its count, and then its entries, each by its tag, its number, both of its lengths
 // and the first of the two bytes behind them.
-fn is_read<A: Allocator + Clone>(alloc: A, count: u32, entries: &[[u32; 5]]) -> Result<bool, Error> {
+fn is_read<A: Allocator + Clone>(
+    alloc: A,
+    count: u32,
+    entries: &[[u32; 5]],
+) -> Result<bool, Error> {
     let mut bytes = Vec::new(alloc.clone()?);
     bytes.extend_from_slice(&count.to_le_bytes())?;
     for [tag, seqno, key_len, value_len, first] in entries {
@@ -290,7 +313,11 @@ fn payloads_are_read_where_they_are_in_the_grammar(rt: HostRuntime) -> Result<()
         (2, &[[0, 1, 1, 1, 98], [0, 2, 1, 1, 97]], false),
     ];
     for (count, entries, good) in cases {
-        assert_eq!(rt; is_read(rt.alloc(), count, entries)?, good, "{count} {entries:?}");
+        assert_eq!(rt;
+            is_read(rt.alloc(), count, entries)?,
+            good,
+            "{count} {entries:?}"
+        );
     }
     Ok(())
 }
