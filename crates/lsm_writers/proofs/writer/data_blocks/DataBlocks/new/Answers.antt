@@ -6,9 +6,9 @@ use Rattle.lsm_writers.specs.Registered.{Registered}
 use Rattle.lsm_writers.proofs.Cutting.{nothing_cut}
 use Rattle.lsm_writers.proofs.writer.data_blocks.DataBlocks.new.Goals as goal
 
-pub invariant_of-result : goal.invariant_of-result
+pub invariant_of-result-2 : goal.invariant_of-result-2
 unfolding chunks_in
-invariant_of-result g c =
+invariant_of-result-2 g c =
     let started : c.start.new.self ≡ record { bytes = []; started = (Data, 0) ∷ [] } = rw (c.in_ok-start.ensures.ok, c.in_ok-file_writer.ensures.ok) refl in
     let none = ap (λ (x : Registered). x.handles) c.new-2.ensures in
     (nothing_cut _ _ _ (c.file_writer.view_is ∙ started) none, rw none (lit< tt))
