@@ -177,6 +177,7 @@ fn searches_of_a_run(rt: HostRuntime) -> Result<(), Fail> {
     let alloc = rt.alloc();
     let run = run_of(alloc, &FOUR)?;
     assert!(rt; run.is_in_order());
+    assert!(rt; run.as_slice().len() == 4);
     assert!(rt; run.aggregate_key_range()? == range_of(alloc, "a", "z")?);
     for (key, id) in [
         ("a", Some(0)),
@@ -236,6 +237,7 @@ fn changes_of_a_run(rt: HostRuntime) -> Result<(), Fail> {
     let alloc = rt.alloc();
     let mut run = run_of(alloc, &FOUR)?;
     assert!(rt; Run::<FakeTable>::new(Vec::new(alloc)).is_none());
+    assert!(rt; run.as_slice().len() == 4);
     assert_eq!(rt; run.remove(1).id, 1);
     assert!(rt; run.get_for_key(b"e").is_none());
     assert_eq!(rt;

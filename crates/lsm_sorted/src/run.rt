@@ -42,16 +42,22 @@ pub trait Ranged {
     ghost steady: { (x y : Self) → meaning x ≡ meaning y → range x ≡ range y };
 }
 
-/// A table of a run.
+/// A table of a run. A contract sees the table.
 #[derive(Drop)]
 pub struct Indexed<T: Ranged> {
     inner: T,
 }
 
+impl<T: Ranged> Model for Indexed<T> {
+    ghost Value = { T };
+
+    ghost view = { λ t. t.inner };
+}
+
 impl<T: Ranged> Indexed<T> {
     /// A table of a run.
     pub fn new(inner: T) -> Indexed<T>
-        ensures { result.inner ≡ inner }
+        ensures { result ≡ inner }
     {
         Indexed { inner }
     }
@@ -62,21 +68,21 @@ impl<T: Ranged> Ranged for Indexed<T> {
 
     ghost Meaning = { T.Meaning };
 
-    ghost meaning = { λ t. T.meaning t.inner };
+    ghost meaning = { λ t. T.meaning t };
 
-    ghost range = { λ t. T.range t.inner };
+    ghost range = { λ t. T.range t };
 
     fn key_range(&self) -> &KeyRange<T::Alloc> {
         self.inner.key_range()
     }
 
-    ghost steady = { λ x y same. T.steady x.inner y.inner same };
+    ghost steady = { λ x y same. T.steady x y same };
 }
 
 impl<T: Ranged> Deref for Indexed<T> {
     type Target = T;
 
-    ghost deref_gives = { λ t inner. inner ≡ t.inner };
+    ghost deref_gives = { λ t inner. inner ≡ t };
 
     fn deref(&self) -> &T {
         &self.inner
