@@ -93,6 +93,14 @@ fn have_ids<A: Allocator>(runs: &[Run<FakeTable<A>, A>], ids: &[&[u64]]) -> bool
             .all(|(run, ids)| has_ids(run.as_slice(), ids))
 }
 
+fn bytes_of<'a>(bound: Bound<&'a str>) -> Bound<&'a [u8]> {
+    match bound {
+        Bound::Included(key) => Bound::Included(key.as_bytes()),
+        Bound::Excluded(key) => Bound::Excluded(key.as_bytes()),
+        Bound::Unbounded => Bound::Unbounded,
+    }
+}
+
 fn numbers(alloc: Global, low: u64, high: u64) -> Result<KeyRange, Error> {
     let low = Slice::from(alloc, &low.to_be_bytes())?;
     Ok(KeyRange::new((low, Slice::from(alloc, &high.to_be_bytes())?)))
@@ -163,10 +171,7 @@ fn key_ranges_and_bounds(rt: HostRuntime) -> Result<(), Fail> {
         (Bound::Included("key5"), Bound::Unbounded, true),
         (Bound::Included("key4"), Bound::Included("key2"), true),
     ] {
-        let bounds = (
-            low.map(|key| key.as_bytes()),
-            high.map(|key| key.as_bytes()),
-        );
+        let bounds = (bytes_of(low), bytes_of(high));
         assert_eq!(rt; range.overlaps_with_bounds(&bounds), overlap);
     }
     Ok(())
@@ -205,10 +210,7 @@ fn searches_of_a_run(rt: HostRuntime) -> Result<(), Fail> {
         (Bound::Included("n"), Bound::Included("l"), Some((2, 2))),
         (Bound::Excluded("d"), Bound::Excluded("e"), None),
     ] {
-        let (low, high) = (
-            low.map(|key| key.as_bytes()),
-            high.map(|key| key.as_bytes()),
-        );
+        let (low, high) = (bytes_of(low), bytes_of(high));
         assert_eq!(rt; run.range_overlap_indexes(low, high), span);
     }
     for (min, max, overlapping, contained) in [
