@@ -1,12 +1,11 @@
 -- The chain that the walk gives, and its length.
-use Rattle.std.proofs.Common.{◌≡◌, refl, sym, ◌∙◌, ap, subst, ℕ, ◌<◌, ◌≤◌, true, List, [], ◌∷◌, ◌++◌, length, zero, suc, inl, inr, arith, Some, None, Option}
-use Rattle.std.specs.Prelude.{map, reverse, Contains, IsPermutation}
-use Rattle.std.specs.List.{AllByRecursion}
+use Rattle.std.proofs.Common.{◌≡◌, refl, sym, ◌∙◌, ap, subst, ℕ, List, [], ◌∷◌, length, inl, inr, arith, Some}
+use Rattle.std.specs.Prelude.{map, reverse, IsPermutation}
 use Rattle.std.proofs.lemmas.List.Sorted.{Contains-permutation, IsPermutation-sym, length_permutation}
 use Rattle.std.proofs.lemmas.List.{length-reverse}
-use Rattle.lsm_sorted.specs.KeyRange.{Interval, overlaps}
+use Rattle.lsm_sorted.specs.KeyRange.{Interval}
 use Rattle.lsm_sorted.specs.Packing.{tables_of, table_at, put_all, AreFormed, AreDisjointRuns, AreNotEmpty, IsLeastSize}
-use Rattle.lsm_sorted.specs.Links.{Mem, Tagged, tagged, tags, IsStack}
+use Rattle.lsm_sorted.specs.Links.{Mem, Tagged, tags, IsStack}
 use Rattle.lsm_sorted.specs.LinkedRuns.{tag_of, ArePackedLinks, AreAtPlaces}
 use Rattle.lsm_sorted.specs.declared.optimize.Link.{Link}
 use Rattle.lsm_sorted.proofs.PackLemmas.{put_all_packed, in_order_of, all_by}

@@ -1,17 +1,17 @@
 -- The order of keys, and what intervals share.
-use Rattle.std.proofs.Common.{◌≡◌, refl, sym, ◌∙◌, ap, subst, ℕ, Bool, true, false, List, [], ◌∷◌, inl, inr, ⊎_elim}
+use Rattle.std.proofs.Common.{◌≡◌, refl, sym, ◌∙◌, ap, ℕ, Bool, true, false, List, inl, inr}
 use Rattle.std.specs.Prelude.{not, ◌&&◌, ◌↔◌, IsTrue}
 use Rattle.std.specs.declared.cmp.Ordering.{Ordering}
 use Rattle.std.specs.declared.cmp.Ordering.TheVariants.{Less, Equal, Greater}
 use Rattle.std.specs.declared.ops.Bound.{Bound}
 use Rattle.std.specs.declared.ops.Bound.TheVariants.{Included, Excluded, Unbounded}
-use Rattle.std.specs.Ordering.{nat_cmp, is_lt, is_le, is_gt, ordering_reverse}
+use Rattle.std.specs.Ordering.{nat_cmp, is_lt, is_le, ordering_reverse}
 use Rattle.std.specs.Cmp.Lexicographic.{slice_cmp, nat_list_cmp_total}
 use Rattle.std.proofs.lemmas.Cmp.{tied_itself}
-use Rattle.std.proofs.lemmas.Bool.{and_parts, and_from, cases_Bool, both_ways, false_from_ne_true}
+use Rattle.std.proofs.lemmas.Bool.{and_parts, and_from, cases_Bool, both_ways}
 use Rattle.sst_blocks.specs.Key.{key_lt}
-use Rattle.lsm_sorted.specs.KeyRange.{Interval, key_le, well_formed, has_key, has_range, overlaps, ShareKey, from_lower, up_to_upper}
-use Rattle.lsm_sorted.proofs.KeyLemmas.{lt_trans, lt_le, le_lt, KeyLe}
+use Rattle.lsm_sorted.specs.KeyRange.{Interval, key_le, well_formed, has_key, overlaps, ShareKey, from_lower, up_to_upper}
+use Rattle.lsm_sorted.proofs.KeyLemmas.{lt_le, le_lt}
 
 is_le_flip : (o : Ordering) → is_le (ordering_reverse o) ≡ not (is_lt o)
 is_le_flip Less = refl

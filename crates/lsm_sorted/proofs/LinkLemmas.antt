@@ -1,16 +1,16 @@
 -- Links: tables with their places, packed one after the other, and the walk down the packed runs.
-use Rattle.std.proofs.Common.{◌≡◌, refl, sym, ◌∙◌, ap, subst, ℕ, ◌<◌, ◌≤◌, ◌+◌, ◌-◌, Bool, true, false, cond, List, [], ◌∷◌, ◌++◌, append_assoc, append-nil, zero-add, length, length-append, take, drop, get_or, zero, suc, inl, inr, arith, Some, None, Option}
-use Rattle.std.specs.Prelude.{◌⊎◌, ◌≢◌, map, filter, reverse, Contains, slice_get, IsPermutation}
-use Rattle.std.specs.List.{list_any, AllByRecursion}
-use Rattle.std.proofs.lemmas.Bool.{cases_Bool, both_ways}
+use Rattle.std.proofs.Common.{◌≡◌, refl, sym, ◌∙◌, ap, subst, ℕ, ◌<◌, ◌≤◌, ◌+◌, Bool, true, false, List, [], ◌∷◌, ◌++◌, append_assoc, append-nil, zero-add, length, take, get_or, zero, suc, inl, inr, arith, Some, None}
+use Rattle.std.specs.Prelude.{map, filter, Contains, slice_get, IsPermutation}
+use Rattle.std.specs.List.{list_any}
+use Rattle.std.proofs.lemmas.Bool.{cases_Bool}
 use Rattle.std.proofs.lemmas.List.{take_more, take_all, length-take-le}
-use Rattle.std.proofs.lemmas.List.Sorted.{IsPermutation-trans, IsPermutation-append_left, Contains-permutation, IsPermutation-sym, IsPermutation-refl}
-use Rattle.lsm_sorted.specs.KeyRange.{Interval, overlaps, well_formed}
-use Rattle.lsm_sorted.specs.Packing.{tables_of, table_at, touches, put, put_all, AreFormed, AreInOrder, ArePacked, AreNotEmpty}
+use Rattle.std.proofs.lemmas.List.Sorted.{IsPermutation-trans, IsPermutation-append_left, IsPermutation-refl}
+use Rattle.lsm_sorted.specs.KeyRange.{Interval}
+use Rattle.lsm_sorted.specs.Packing.{tables_of, put, put_all, AreFormed, AreInOrder, AreNotEmpty}
 use Rattle.lsm_sorted.specs.Links.{Mem, Tagged, tagged, tags_in, tags}
-use Rattle.lsm_sorted.specs.LinkedRuns.{tag_of, ArePackedLinks, AreAtPlaces, IsBelow}
+use Rattle.lsm_sorted.specs.LinkedRuns.{tag_of, ArePackedLinks}
 use Rattle.lsm_sorted.specs.declared.optimize.Link.{Link}
-use Rattle.lsm_sorted.proofs.PackLemmas.{put_all_packed, put_all-append, any_found, formed_parts, in_order_of}
+use Rattle.lsm_sorted.proofs.PackLemmas.{put_all_packed, put_all-append, formed_parts, in_order_of}
 use Rattle.lsm_sorted.proofs.PackSize.{formed-map}
 
 module _ {X : Type 0} where

@@ -1,6 +1,6 @@
 -- Putting a table into packed runs: order, and what each key's tables are.
-use Rattle.std.proofs.Common.{◌≡◌, refl, sym, ◌∙◌, ap, subst, ℕ, ◌<◌, ◌≤◌, ◌+◌, Bool, true, false, cond, List, [], ◌∷◌, ◌++◌, append_assoc, append-nil, length, length-append, take, drop, get_or, ◌-◌, zero, suc, inl, inr, arith, Some, None, Option}
-use Rattle.std.specs.Prelude.{◌⊎◌, ◌≢◌, map, filter, not, ◌&&◌, ◌||◌, ◌==◌, flat_map, IsPermutation, IfOk, Result, Ok, Err}
+use Rattle.std.proofs.Common.{◌≡◌, refl, sym, ◌∙◌, ap, subst, ℕ, ◌<◌, ◌≤◌, ◌+◌, Bool, true, false, cond, List, [], ◌∷◌, ◌++◌, append_assoc, append-nil, length, length-append, take, drop, get_or, ◌-◌, zero, suc, inl, inr, arith}
+use Rattle.std.specs.Prelude.{◌⊎◌, ◌≢◌, map, filter, not, ◌&&◌, ◌||◌, ◌==◌, IsPermutation, IfOk, Result, Ok, Err}
 use Rattle.std.specs.List.{list_all, list_any, AllByRecursion, insert}
 use Rattle.std.specs.declared.ops.Bound.TheVariants.{Included}
 use Rattle.std.proofs.Math.ListN.{set, drop_of_length-le}
@@ -14,8 +14,8 @@ use Rattle.lsm_sorted.specs.KeyRange.{Interval, key_le, well_formed, has_key, ov
 use Rattle.lsm_sorted.specs.Run.{in_order, how_many}
 use Rattle.lsm_sorted.specs.Packing.{tables_of, holders, touches, with_table, put, put_all, count_to_last, AreInOrder, ArePacked, AreFormed, AreWellFormed, AreNotEmpty}
 use Rattle.lsm_sorted.specs.Links.{Mem}
-use Rattle.lsm_sorted.proofs.IntervalLemmas.{above, le_trans, lt_to_le, lt_then_le, le_then_lt, shared_overlap}
-use Rattle.lsm_sorted.proofs.RunLemmas.{Falls, falls-starts_within, Parts, parts, in_order_from, further, none_count}
+use Rattle.lsm_sorted.proofs.IntervalLemmas.{above, le_trans, lt_to_le, lt_then_le, shared_overlap}
+use Rattle.lsm_sorted.proofs.RunLemmas.{falls-starts_within, parts, in_order_from, further, none_count}
 
 module _ {X : Type 0} where
   pub mem-append_left : (xs ys : List X) (x : X) → Mem x xs → Mem x (xs ++ ys)

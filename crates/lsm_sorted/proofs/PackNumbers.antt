@@ -1,16 +1,13 @@
 -- Packed runs are as few as can be: each table behind the first run overlaps one of the run before it, from an earlier run of the input.
-use Rattle.std.proofs.Common.{◌≡◌, refl, sym, ◌∙◌, ap, subst, ℕ, ◌<◌, ◌≤◌, ◌+◌, ◌-◌, Bool, true, false, cond, List, [], ◌∷◌, ◌++◌, append_assoc, append-nil, length, take, drop, get_or, zero, suc, inl, inr, arith, Some, None, Option}
-use Rattle.std.specs.Prelude.{◌⊎◌, ◌≢◌, map, filter, not, ◌&&◌, ◌||◌, ◌==◌, nat_le, Contains, slice_get}
-use Rattle.std.specs.List.{list_all, list_any, AllByRecursion, insert}
-use Rattle.std.proofs.lemmas.Bool.{and_parts, and_from, or_cases, or_parts, cases_Bool, both_ways, eqb-true, eq-eqb, leb-true, leb-false, le-leb, lt-leb}
-use Rattle.sst_blocks.specs.Key.{key_lt}
-use Rattle.lsm_sorted.specs.KeyRange.{Interval, key_le, overlaps, disjoint}
-use Rattle.lsm_sorted.specs.Run.{in_order, how_many}
-use Rattle.lsm_sorted.specs.Packing.{tables_of, touches, with_table, put, put_all, ArePacked}
+use Rattle.std.proofs.Common.{◌≡◌, refl, sym, ◌∙◌, ap, subst, ℕ, ◌<◌, Bool, true, false, List, [], ◌∷◌, ◌++◌, append_assoc, append-nil, take, drop, zero, suc, inl, inr}
+use Rattle.std.specs.Prelude.{◌⊎◌, map, ◌||◌}
+use Rattle.std.specs.List.{list_any, insert}
+use Rattle.std.proofs.lemmas.Bool.{or_parts, cases_Bool, both_ways}
+use Rattle.lsm_sorted.specs.KeyRange.{Interval, key_le, overlaps}
+use Rattle.lsm_sorted.specs.Run.{how_many}
+use Rattle.lsm_sorted.specs.Packing.{tables_of, touches, with_table, put, put_all}
 use Rattle.lsm_sorted.specs.Links.{Mem, Apart, Steps, StepsTo}
-use Rattle.lsm_sorted.proofs.IntervalLemmas.{le_from}
-use Rattle.lsm_sorted.proofs.RunLemmas.{parts}
-use Rattle.lsm_sorted.proofs.PackLemmas.{mem-append_left, mem-append_right, mem-append_cases, any_fails, any_found, any_from, overlaps_comm, untouched, put_here, put_behind}
+use Rattle.lsm_sorted.proofs.PackLemmas.{mem-append_left, mem-append_right, mem-append_cases, any_found, overlaps_comm, untouched, put_here, put_behind}
 
 module _ {X : Type 0} where
   mem-take : (n : ℕ) (xs : List X) (x : X) → Mem x (take n xs) → Mem x xs

@@ -1,12 +1,12 @@
 -- The number of packed runs is the least size of a placement.
-use Rattle.std.proofs.Common.{◌≡◌, refl, sym, ◌∙◌, ap, subst, ℕ, ◌<◌, ◌≤◌, ◌+◌, Bool, true, false, cond, List, [], ◌∷◌, ◌++◌, append-nil, length, take, drop, get_or, zero, suc, inl, inr, arith, Some, None, Option}
-use Rattle.std.specs.Prelude.{◌⊎◌, ◌≢◌, map, filter, not, ◌&&◌, ◌||◌, ◌==◌, nat_le, Contains, slice_get, flat_map}
+use Rattle.std.proofs.Common.{◌≡◌, refl, sym, ◌∙◌, ap, subst, ℕ, ◌<◌, ◌≤◌, ◌+◌, Bool, true, false, cond, List, [], ◌∷◌, ◌++◌, length, take, drop, get_or, zero, suc, inl, inr, arith, Some}
+use Rattle.std.specs.Prelude.{◌≢◌, map, not, ◌&&◌, ◌||◌, ◌==◌, nat_le, Contains, slice_get}
 use Rattle.std.specs.List.{list_all, list_any, AllByRecursion, insert}
-use Rattle.std.proofs.lemmas.Bool.{and_parts, and_from, or_cases, or_parts, or_left, or_right, cases_Bool, both_ways, eqb-true, eq-eqb, leb-true, leb-false, le-leb, lt-leb, not-true}
+use Rattle.std.proofs.lemmas.Bool.{and_parts, and_from, cases_Bool, both_ways, eqb-true, eq-eqb, leb-true, le-leb, lt-leb, not-true}
 use Rattle.sst_blocks.specs.Key.{key_lt}
 use Rattle.lsm_sorted.specs.KeyRange.{Interval, key_le, overlaps, disjoint}
 use Rattle.lsm_sorted.specs.Run.{in_order, how_many}
-use Rattle.lsm_sorted.specs.Packing.{tables_of, table_at, touches, with_table, put, put_all, ArePacked, AreFormed, AreDisjointRuns, IsPlacement, IsLeastSize}
+use Rattle.lsm_sorted.specs.Packing.{tables_of, table_at, touches, with_table, put, put_all, ArePacked, AreFormed, AreDisjointRuns, IsLeastSize}
 use Rattle.lsm_sorted.proofs.IntervalLemmas.{le_from}
 use Rattle.lsm_sorted.proofs.RunLemmas.{parts}
 use Rattle.lsm_sorted.proofs.PackLemmas.{mem-append_left, mem-append_right, mem-append_cases, any_fails, any_found, any_from, overlaps_comm, put_all_packed, put_here, put_behind}

@@ -1,20 +1,20 @@
 -- What searches find in tables whose ranges are in order.
-use Rattle.std.proofs.Common.{◌≡◌, refl, sym, ◌∙◌, ap, subst, ℕ, ◌<◌, ◌≤◌, ◌+◌, ◌-◌, Bool, true, false, cond, List, [], ◌∷◌, ◌++◌, length, take, drop, get_or, zero, suc, inl, inr, arith, Some, None, Option, Result, Ok, Err}
-use Rattle.std.specs.Prelude.{IsTrue, map, filter, find, not, ◌&&◌, slice_index_or, slice_get, ◌==◌, OnOk}
-use Rattle.std.specs.List.{list_all, AllWithin}
+use Rattle.std.proofs.Common.{◌≡◌, refl, sym, ◌∙◌, ap, subst, ℕ, ◌<◌, ◌≤◌, ◌+◌, ◌-◌, Bool, true, false, List, [], ◌∷◌, length, take, drop, get_or, zero, suc, inl, inr, arith, Some, None, Option, Result, Ok, Err}
+use Rattle.std.specs.Prelude.{map, filter, find, not, ◌&&◌, slice_get, ◌==◌, OnOk}
+use Rattle.std.specs.List.{list_all}
 use Rattle.std.specs.Option.{option_map_or}
 use Rattle.std.proofs.Math.ListN.{drop_of_length-le}
 use Rattle.std.proofs.lemmas.List.{at_drop_more}
 use Rattle.sst_blocks.specs.Stream.{first}
 use Rattle.std.specs.List.Sorted.{IsPartitionedBy, IsPartitionPoint}
 use Rattle.std.specs.declared.ops.Bound.{Bound}
-use Rattle.std.specs.declared.ops.Bound.TheVariants.{Included, Excluded, Unbounded}
-use Rattle.std.proofs.lemmas.Bool.{and_parts, and_from, and_right, ne_eqb, cases_Bool, both_ways, not_from_true, not_from_false, false_from_ne_true, not-true}
+use Rattle.std.specs.declared.ops.Bound.TheVariants.{Included}
+use Rattle.std.proofs.lemmas.Bool.{and_parts, and_from, and_right, ne_eqb, cases_Bool, both_ways, not_from_false, false_from_ne_true, not-true}
 use Rattle.sst_blocks.specs.Key.{key_lt}
-use Rattle.lsm_sorted.specs.KeyRange.{Interval, interval, key_le, well_formed, has_key, has_range, overlaps, from_lower, up_to_upper}
+use Rattle.lsm_sorted.specs.KeyRange.{Interval, interval, key_le, well_formed, has_key, has_range, overlaps, from_lower}
 use Rattle.lsm_sorted.specs.Run.{in_order, ends_before, starts_within, how_many, places, overlap_indexes, first_to_last, last_max}
 use Rattle.lsm_sorted.proofs.KeyLemmas.{lt_trans}
-use Rattle.lsm_sorted.proofs.IntervalLemmas.{le_trans, le_not, lt_to_le, lt_then_le, le_then_lt, lower_up, upper_down, above, not_le, le_from}
+use Rattle.lsm_sorted.proofs.IntervalLemmas.{le_trans, le_not, lt_to_le, lt_then_le, le_then_lt, lower_up, upper_down}
 
 -- an interval that passes shows that each that ends before it passes too
 pub record Falls (p : Interval → Bool) : Type 0 where

@@ -1,6 +1,6 @@
 -- The span of a list of intervals.
 use Rattle.std.proofs.Common.{◌≡◌, refl, sym, ◌∙◌, ap, subst, ℕ, ◌<◌, ◌≤◌, Bool, true, false, cond, List, [], ◌∷◌, ◌++◌, append_assoc, append-nil, length, drop, get_or, ◌+◌, arith, inl, inr}
-use Rattle.std.specs.Prelude.{IsTrue, map, All, Contains, not, ◌&&◌, ◌||◌}
+use Rattle.std.specs.Prelude.{map, Contains, not, ◌&&◌, ◌||◌}
 use Rattle.std.specs.List.{list_any}
 use Rattle.std.specs.Borrow.{Bor}
 use Rattle.std.proofs.Math.ListN.{drop_of_length-le}
@@ -9,7 +9,6 @@ use Rattle.std.proofs.lemmas.List.{at_drop_more}
 use Rattle.std.proofs.lemmas.List.Elements.{All-push, Contains-push, Contains-append_left}
 use Rattle.sst_blocks.specs.Key.{key_lt}
 use Rattle.lsm_sorted.specs.KeyRange.{Interval, interval, key_le, Spans, IsAggregate, overlaps, disjoint, intervals}
-use Rattle.lsm_sorted.proofs.KeyLemmas.{lt_trans}
 use Rattle.lsm_sorted.proofs.IntervalLemmas.{le_refl, le_trans, le_to, lt_to_le}
 
 -- the lesser and the greater of two keys, the first where they are the same

@@ -1,16 +1,15 @@
 -- The walk down packed runs, from the last one, that gives a chain.
-use Rattle.std.proofs.Common.{◌≡◌, refl, sym, ◌∙◌, ap, subst, ℕ, ◌<◌, ◌≤◌, ◌+◌, ◌-◌, Bool, true, false, List, [], ◌∷◌, ◌++◌, length, length-append, get_or, zero, suc, inl, inr, arith, Some, None, Option}
-use Rattle.std.specs.Prelude.{◌⊎◌, ◌≢◌, map, reverse, Contains, slice_get, MatchOption}
-use Rattle.std.specs.List.{list_any, AllByRecursion}
+use Rattle.std.proofs.Common.{◌≡◌, refl, sym, ◌∙◌, ap, subst, ℕ, ◌<◌, ◌≤◌, ◌+◌, ◌-◌, true, List, [], ◌∷◌, ◌++◌, length, length-append, get_or, zero, suc, arith, Some, None, Option}
+use Rattle.std.specs.Prelude.{◌≢◌, map, reverse, Contains, slice_get, MatchOption}
 use Rattle.std.proofs.lemmas.List.{reverse-append}
 use Rattle.lsm_sorted.specs.KeyRange.{Interval, overlaps}
 use Rattle.lsm_sorted.specs.Run.{in_order}
-use Rattle.lsm_sorted.specs.Packing.{tables_of, table_at, touches, AreInOrder, AreNotEmpty, AreLinked, IsChain}
+use Rattle.lsm_sorted.specs.Packing.{tables_of, table_at, touches, AreInOrder, AreNotEmpty, IsChain}
 use Rattle.lsm_sorted.specs.Links.{Mem, Apart, Steps, StepsTo, IsStack}
 use Rattle.lsm_sorted.specs.LinkedRuns.{AreAtPlaces, IsBelow}
 use Rattle.lsm_sorted.specs.declared.optimize.Link.{Link}
 use Rattle.lsm_sorted.proofs.PackLemmas.{mem-append_left, mem-append_right, any_from, all_of}
-use Rattle.lsm_sorted.proofs.LinkLemmas.{mem_contains, contains_mem}
+use Rattle.lsm_sorted.proofs.LinkLemmas.{contains_mem}
 
 module _ {X : Type 0} where
   pub slice_at : (xs : List X) (k : ℕ) (x : X) → k < length xs → x ≡ get_or xs k x → slice_get xs k ≡ Some x

@@ -1,7 +1,6 @@
 -- Links: tables of an input that are packed beside their places.
-use Rattle.std.specs.Prelude.{◌≡◌, ◌≢◌, ℕ, ◌<◌, true, List, [], ◌∷◌, map, IsPermutation, Option, Some, None, Contains, MatchOption, ⊤}
+use Rattle.std.specs.Prelude.{◌≡◌, ◌<◌, true, List, [], map, IsPermutation, Some}
 use Rattle.std.specs.List.{AllByRecursion}
-use Rattle.std.specs.Borrow.{Bor}
 use Rattle.lsm_sorted.specs.KeyRange.{Interval, overlaps}
 use Rattle.lsm_sorted.specs.Packing.{tables_of, table_at, put_all, AreFormed, AreNotEmpty}
 use Rattle.lsm_sorted.specs.Links.{Tagged, tagged}

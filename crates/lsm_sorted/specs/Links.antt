@@ -1,9 +1,7 @@
 -- Tables with their places in the runs of an input, and what holds of packed runs of them.
-use Rattle.std.specs.Prelude.{◌≡◌, ◌≢◌, ℕ, zero, suc, ◌<◌, ◌⊎◌, true, List, [], ◌∷◌, ◌++◌, map, reverse, IsPermutation, Option, Some, None, Contains, MatchOption, ⊤}
-use Rattle.std.specs.List.{AllByRecursion}
-use Rattle.std.specs.Borrow.{Bor}
+use Rattle.std.specs.Prelude.{◌≡◌, ℕ, suc, ◌<◌, ◌⊎◌, true, List, [], ◌∷◌, ◌++◌}
 use Rattle.lsm_sorted.specs.KeyRange.{Interval, overlaps}
-use Rattle.lsm_sorted.specs.Packing.{tables_of, table_at, put_all, AreFormed, AreInOrder, AreNotEmpty, IsChain}
+use Rattle.lsm_sorted.specs.Packing.{tables_of, AreInOrder, AreNotEmpty}
 
 -- x is among the elements
 abbrev pub Mem : {X : Type 0} → X → List X → Type 0

@@ -1,5 +1,5 @@
 -- Packing runs: into how few runs tables can go while each key keeps the order of its tables.
-use Rattle.std.specs.Prelude.{◌≡◌, ◌≢◌, ℕ, zero, suc, ◌<◌, ◌≤◌, Bool, true, List, [], ◌∷◌, length, map, filter, flat_map, slice_get, if◌then◌else◌, ◌||◌, Contains, IsTrue, Option, Some, None}
+use Rattle.std.specs.Prelude.{◌≡◌, ◌≢◌, ℕ, zero, suc, ◌<◌, ◌≤◌, Bool, true, List, [], ◌∷◌, length, map, filter, flat_map, slice_get, if◌then◌else◌, ◌||◌, Contains, Option, Some, None}
 use Rattle.std.specs.List.{AllByRecursion, list_any, insert}
 use Rattle.lsm_sorted.specs.KeyRange.{Interval, has_key, key_le, overlaps, well_formed, disjoint}
 use Rattle.lsm_sorted.specs.Run.{how_many, in_order}

@@ -186,9 +186,17 @@ pub length-block : (v : TableVersion) (kind : BlockType) (bytes : List ℕ) → 
 length-block v kind bytes =
     let n = length bytes in
     let fixed = kind_tag kind ∷ 0 ∷ 0 ∷ 0 ∷ [] in
-    omega (arith, length-mark v, wide4.len n, wide8.len (fnv1a bytes),
-      length-append (mark v) fixed, length-append (mark v ++ fixed) (le4 n), length-append ((mark v ++ fixed) ++ le4 n) (le4 n),
-      length-append (((mark v ++ fixed) ++ le4 n) ++ le4 n) (le8 (fnv1a bytes)), length-append ((((mark v ++ fixed) ++ le4 n) ++ le4 n) ++ le8 (fnv1a bytes)) bytes)
+    omega (
+      arith,
+      length-mark v,
+      wide4.len n,
+      wide8.len (fnv1a bytes),
+      length-append (mark v) fixed,
+      length-append (mark v ++ fixed) (le4 n),
+      length-append ((mark v ++ fixed) ++ le4 n) (le4 n),
+      length-append (((mark v ++ fixed) ++ le4 n) ++ le4 n) (le8 (fnv1a bytes)),
+      length-append ((((mark v ++ fixed) ++ le4 n) ++ le4 n) ++ le8 (fnv1a bytes)) bytes,
+    )
 
 decided : (v : TableVersion) (offset : ℕ) (last : Option Entry) (x : Entry) (xs : List Entry) (cs : List (List Entry)) (key : List ℕ) (bound : ℕ) (o : Option Handle) (b : Bool) → IsStrictAfter last ((x ∷ xs) ++ joined cs)
     → reaches key bound (handle_of v offset (x ∷ xs)) ≡ b → ReadsBy v (offset + block_size v (x ∷ xs)) cs key bound o → ReadsBy v offset ((x ∷ xs) ∷ cs) key bound (cond b (Some (handle_of v offset (x ∷ xs))) o)

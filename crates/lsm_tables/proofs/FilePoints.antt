@@ -50,9 +50,9 @@ lifted_hit key g bound e = ap (λ (b : Bool). same_key e.user_key key && b) (lt_
   where
     lt_lifted : (n g s : ℕ) → ltb (n + g) s ≡ ltb n (s - g)
     lt_lifted n g s = elim (cases_lt (n + g) s) [
-        | inl lt ↦ lt-ltb (n + g) s lt ∙ sym (lt-ltb n (s - g) (omega arith))
-        | inr le ↦ le-ltb (n + g) s le ∙ sym (le-ltb n (s - g) (omega arith))
-      ]
+      | inl lt ↦ lt-ltb (n + g) s lt ∙ sym (lt-ltb n (s - g) (omega arith))
+      | inr le ↦ le-ltb (n + g) s le ∙ sym (le-ltb n (s - g) (omega arith))
+    ]
 
 found_lifted : (g : ℕ) (e : Entry) (o : Option Entry) (p : Option Entry) (b : Bool) → p ≡ option_map (lifted g) o → cond b (Some (lifted g e)) p ≡ option_map (lifted g) (cond b (Some e) o)
 found_lifted g e o p true h = refl
@@ -151,33 +151,33 @@ module _ (v : TableVersion) (label : Label) (options : Options) (cs : List (List
 
   regions_are : parts.regions ≡ the_regions v label options cs
   regions_are =
-    let index = length-block v Index (handles_payload v (handles v cs)) in
-    let meta = length-block v Meta (payload v (meta_entries v label options cs counted_blocks)) in
-    ok_same (regions_told (map (section_in the_bytes) section_names)) parts.regions (the_regions v label options cs) (the_steps.regions)
-    (regions_read v label options cs (omega (arith, body_short)) (omega (arith, index, fits.index)) (omega (arith, meta, meta_short v label options cs fits)))
+      let index = length-block v Index (handles_payload v (handles v cs)) in
+      let meta = length-block v Meta (payload v (meta_entries v label options cs counted_blocks)) in
+      ok_same (regions_told (map (section_in the_bytes) section_names)) parts.regions (the_regions v label options cs) (the_steps.regions)
+      (regions_read v label options cs (omega (arith, body_short)) (omega (arith, index, fits.index)) (omega (arith, meta, meta_short v label options cs fits)))
 
   pub facts_are : parts.facts ≡ written_facts v label cs counted_blocks
   facts_are =
-    let e = ap (λ (r : ParsedRegions). meta_told (body_of the_bytes) r.metadata) regions_are in
-    let key = longest_below v in
-    ok_same (meta_told (body_of the_bytes) parts.regions.metadata) parts.facts (written_facts v label cs counted_blocks) (the_steps.facts)
-    (e ∙ meta_read v label options cs (omega (arith, meta_short v label options cs fits))
+      let e = ap (λ (r : ParsedRegions). meta_told (body_of the_bytes) r.metadata) regions_are in
+      let key = longest_below v in
+      ok_same (meta_told (body_of the_bytes) parts.regions.metadata) parts.facts (written_facts v label cs counted_blocks) (the_steps.facts)
+      (e ∙ meta_read v label options cs (omega (arith, meta_short v label options cs fits))
       (meta_reads v label options cs counted_blocks (omega (arith, first_short v (joined cs) fits.entries, key)) (omega (arith, last_short v (joined cs) fits.entries, key)))
       (facts_fit v label options cs data_short fits))
 
   pub index_is : parts.index ≡ handles v cs
   index_is =
-    let e = ap (λ (r : ParsedRegions). index_told (body_of the_bytes) r) regions_are in
-    ok_same (index_told (body_of the_bytes) parts.regions) parts.index (handles v cs) (the_steps.index)
-    (e ∙ index_read v label options cs (omega (arith, fits.index)) (index_reads v cs (omega (arith, data_short)) some strict fits.entries fits.blocks fits.index))
+      let e = ap (λ (r : ParsedRegions). index_told (body_of the_bytes) r) regions_are in
+      ok_same (index_told (body_of the_bytes) parts.regions) parts.index (handles v cs) (the_steps.index)
+      (e ∙ index_read v label options cs (omega (arith, fits.index)) (index_reads v cs (omega (arith, data_short)) some strict fits.entries fits.blocks fits.index))
 
   -- the block of a chunk is loaded by its handle
   chunk_at : (before behind : List (List Entry)) (c : List Entry) → cs ≡ before ++ c ∷ behind → length (payload v c) < 2 ^ 32 → entries_in v (payload v c) ≡ Some c → load_told (body_of the_bytes) (length (data_section v before)) (24 + length (payload v c)) Data ≡ Ok (record { version = v; kind = Data; payload = payload v c })
   chunk_at before behind c parts_are small reads =
-    let others = the_index v label options cs ++ (the_version v label options cs ++ the_meta v label options cs) in
-    let cut : data_section v cs ≡ data_section v before ++ (data_block v c ++ data_section v behind) = ap (data_section v) parts_are ∙ flat_map-append (data_block v) before (c ∷ behind) in
-    let whole : body_of the_bytes ≡ data_section v before ++ data_block v c ++ (data_section v behind ++ others) = is_body v label options cs ∙ ap (λ (xs : List ℕ). xs ++ others) cut ∙ simp append_assoc in
-    written_loads v Data (data_section v before) (payload v c) (data_section v behind ++ others) (body_of the_bytes) (length (data_section v before)) small (ap is_some reads) refl whole
+      let others = the_index v label options cs ++ (the_version v label options cs ++ the_meta v label options cs) in
+      let cut : data_section v cs ≡ data_section v before ++ (data_block v c ++ data_section v behind) = ap (data_section v) parts_are ∙ flat_map-append (data_block v) before (c ∷ behind) in
+      let whole : body_of the_bytes ≡ data_section v before ++ data_block v c ++ (data_section v behind ++ others) = is_body v label options cs ∙ ap (λ (xs : List ℕ). xs ++ others) cut ∙ simp append_assoc in
+      written_loads v Data (data_section v before) (payload v c) (data_section v behind ++ others) (body_of the_bytes) (length (data_section v before)) small (ap is_some reads) refl whole
 
   -- a chunk of a strict list is strict
   chunk_strict : (last : Option Entry) (before behind : List (List Entry)) (c : List Entry) → IsStrictAfter last (joined (before ++ c ∷ behind)) → IsStrict c
@@ -196,14 +196,14 @@ module _ (v : TableVersion) (label : Label) (options : Options) (cs : List (List
   chunk_told : (key : List ℕ) (bound : ℕ) (h : Handle) → ReadsChunk v 0 cs key (bound - g) h → read_told (body_of the_bytes) g key bound (Some h) ≡ Ok (option_map (lifted g) (find (is_hit key (bound - g)) (joined cs)))
   unfolding point
   chunk_told key bound h r =
-    let c = r.chunk in
-    let fit = chunk_fits r.before r.behind c (subst (λ (x : List (List Entry)). AllByRecursion (EntryFits v) (joined x)) r.parts fits.entries) in
-    let block = block_fits r.before r.behind c (subst (λ (x : List (List Entry)). AllByRecursion (BlockFits v) x) r.parts fits.blocks) in
-    let line = chunk_strict None r.before r.behind c (subst (λ (x : List (List Entry)). IsStrict (joined x)) r.parts strict) in
-    let reads = chunk_reads v c fit line block in
-    let loaded = chunk_at r.before r.behind c r.parts (omega (arith, block.short)) reads in
-    let from : 0 + length (data_section v r.before) ≡ length (data_section v r.before) = omega arith in
-    rw (r.handle, from, loaded, reads, r.answer) refl
+      let c = r.chunk in
+      let fit = chunk_fits r.before r.behind c (subst (λ (x : List (List Entry)). AllByRecursion (EntryFits v) (joined x)) r.parts fits.entries) in
+      let block = block_fits r.before r.behind c (subst (λ (x : List (List Entry)). AllByRecursion (BlockFits v) x) r.parts fits.blocks) in
+      let line = chunk_strict None r.before r.behind c (subst (λ (x : List (List Entry)). IsStrict (joined x)) r.parts strict) in
+      let reads = chunk_reads v c fit line block in
+      let loaded = chunk_at r.before r.behind c r.parts (omega (arith, block.short)) reads in
+      let from : 0 + length (data_section v r.before) ≡ length (data_section v r.before) = omega arith in
+      rw (r.handle, from, loaded, reads, r.answer) refl
 
   by_chunks : (key : List ℕ) (bound : ℕ) (o : Option Handle) → ReadsBy v 0 cs key (bound - g) o → read_told (body_of the_bytes) g key bound o ≡ Ok (option_map (lifted g) (find (is_hit key (bound - g)) (joined cs)))
   by_chunks key bound None none = rw none refl
@@ -221,8 +221,8 @@ module _ (v : TableVersion) (label : Label) (options : Options) (cs : List (List
   pub answers : (key : List ℕ) (bound : ℕ) → answer_told (body_of the_bytes) g parts key bound ≡ Ok (point (lift (joined cs) g) key bound)
   unfolding answer_told
   answers key bound =
-    let seen : option_map (lifted g) (find (is_hit key (bound - g)) (joined cs)) ≡ point (lift (joined cs) g) key bound = sym (lifted_point key bound) in
-    rw (facts_are, index_is) (low_or_read key bound (leb (bound - g) (lowest_seqno (joined cs))) refl ∙ ap (λ (o : Option Entry). Ok o) seen)
+      let seen : option_map (lifted g) (find (is_hit key (bound - g)) (joined cs)) ≡ point (lift (joined cs) g) key bound = sym (lifted_point key bound) in
+      rw (facts_are, index_is) (low_or_read key bound (leb (bound - g) (lowest_seqno (joined cs))) refl ∙ ap (λ (o : Option Entry). Ok o) seen)
 
 -- each chunk of a cut list has an entry
 some_chunks : (size : ℕ) (spills : List ℕ) (at : ℕ) (cs : List (List Entry)) → AreChunksFrom size spills at cs → AreSome cs

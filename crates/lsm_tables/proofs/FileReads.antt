@@ -92,15 +92,15 @@ module _ (v : TableVersion) (label : Label) (options : Options) (cs : List (List
   regions_from : (toc : List (Option Section)) → section_named toc FilterTli ≡ None → section_named toc Tli ≡ Some tli_place → section_named toc IndexSection ≡ None → section_named toc FilterSection ≡ None → section_named toc MetaSection ≡ Some meta_place → length the_index < 2 ^ 32 → length the_meta < 2 ^ 32 → regions_told toc ≡ Ok the_regions
   unfolding regions_told
   regions_from toc ft t i f m short_index short_meta =
-    let large_index = lt-leb (2 ^ 32) (length the_index) short_index in
-    let large_meta = lt-leb (2 ^ 32) (length the_meta) short_meta in
-    rw (ft, t, i, f, m, large_index, large_meta) refl
+      let large_index = lt-leb (2 ^ 32) (length the_index) short_index in
+      let large_meta = lt-leb (2 ^ 32) (length the_meta) short_meta in
+      rw (ft, t, i, f, m, large_index, large_meta) refl
 
   -- the trailer names them
   pub regions_read : length w.bytes < 2 ^ 64 → length the_index < 2 ^ 32 → length the_meta < 2 ^ 32 → regions_told (map (section_in (finished w)) section_names) ≡ Ok the_regions
   regions_read short short_index short_meta =
-    let in_w = λ (name : SectionName). finished_section w name short ascending in
-    regions_from (map (section_in (finished w)) section_names) (in_w FilterTli) (in_w Tli ∙ tli_of) (in_w IndexSection) (in_w FilterSection) (in_w MetaSection ∙ meta_of) short_index short_meta
+      let in_w = λ (name : SectionName). finished_section w name short ascending in
+      regions_from (map (section_in (finished w)) section_names) (in_w FilterTli) (in_w Tli ∙ tli_of) (in_w IndexSection) (in_w FilterSection) (in_w MetaSection ∙ meta_of) short_index short_meta
 
   -- the index and the meta block are loaded
   pub is_body : body_of (finished w) ≡ the_data ++ (the_index ++ (the_version ++ the_meta))
@@ -114,19 +114,19 @@ module _ (v : TableVersion) (label : Label) (options : Options) (cs : List (List
 
   index_at : length (handles_payload v (handles v cs)) < 2 ^ 32 → handles_in v (handles_payload v (handles v cs)) ≡ Some (handles v cs) → load_told (body_of (finished w)) (length the_data) (length the_index) Index ≡ Ok index_loaded
   index_at short reads =
-    let size = length-block v Index (handles_payload v (handles v cs)) in
-    ap (λ (n : ℕ). load_told (body_of (finished w)) (length the_data) n Index) size
-    ∙ written_loads v Index the_data (handles_payload v (handles v cs)) (the_version ++ the_meta) (body_of (finished w)) (length the_data) short (ap is_some reads) refl (is_body ∙ sym (append_assoc the_data the_index (the_version ++ the_meta)))
+      let size = length-block v Index (handles_payload v (handles v cs)) in
+      ap (λ (n : ℕ). load_told (body_of (finished w)) (length the_data) n Index) size
+      ∙ written_loads v Index the_data (handles_payload v (handles v cs)) (the_version ++ the_meta) (body_of (finished w)) (length the_data) short (ap is_some reads) refl (is_body ∙ sym (append_assoc the_data the_index (the_version ++ the_meta)))
 
   meta_at : length (payload v (meta_entries v label options cs counted_blocks)) < 2 ^ 32 → entries_in v (payload v (meta_entries v label options cs counted_blocks)) ≡ Some (meta_entries v label options cs counted_blocks) → load_told (body_of (finished w)) (length the_data + length the_index + 1) (length the_meta) Meta ≡ Ok meta_loaded
   meta_at short reads =
-    let m = payload v (meta_entries v label options cs counted_blocks) in
-    let size = length-block v Meta m in
-    let pre = the_data ++ (the_index ++ the_version) in
-    let at : length the_data + length the_index + 1 ≡ length pre = omega (arith, length-append the_data (the_index ++ the_version), length-append the_index the_version) in
-    let whole : body_of (finished w) ≡ pre ++ the_meta ++ [] = is_body ∙ simp (append_assoc, append-nil) in
-    ap (λ (n : ℕ). load_told (body_of (finished w)) (length the_data + length the_index + 1) n Meta) size
-    ∙ written_loads v Meta pre m [] (body_of (finished w)) (length the_data + length the_index + 1) short (ap is_some reads) at whole
+      let m = payload v (meta_entries v label options cs counted_blocks) in
+      let size = length-block v Meta m in
+      let pre = the_data ++ (the_index ++ the_version) in
+      let at : length the_data + length the_index + 1 ≡ length pre = omega (arith, length-append the_data (the_index ++ the_version), length-append the_index the_version) in
+      let whole : body_of (finished w) ≡ pre ++ the_meta ++ [] = is_body ∙ simp (append_assoc, append-nil) in
+      ap (λ (n : ℕ). load_told (body_of (finished w)) (length the_data + length the_index + 1) n Meta) size
+      ∙ written_loads v Meta pre m [] (body_of (finished w)) (length the_data + length the_index + 1) short (ap is_some reads) at whole
 
   pub index_read : length (handles_payload v (handles v cs)) < 2 ^ 32 → handles_in v (handles_payload v (handles v cs)) ≡ Some (handles v cs) → index_told (body_of (finished w)) the_regions ≡ Ok (handles v cs)
   index_read short reads = rw (index_at short reads, reads) refl

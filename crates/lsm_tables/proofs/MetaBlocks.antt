@@ -66,46 +66,120 @@ module _ (v : TableVersion) (label : Label) (options : Options) (cs : List (List
   -- what the two keys leave is fixed
   meta_taken : all_taken v es ≤ 1900 + length (facts (joined cs)).min_key + length (facts (joined cs)).max_key
   meta_taken =
-    let f = facts (joined cs) in
-    omega (arith, key_narrow v, wide8.len (length cs), wide8.len blocks.filter, wide8.len blocks.index, wide16-len label.created_at, wide4.len options.data_block_hash_ratio, wide8.len (length (data_section v cs)),
-      wide8.len f.item_count, wide8.len f.key_count, wide8.len f.highest, wide8.len f.lowest, wide8.len label.table_id, wide8.len f.tombstone_count, wide8.len (sum_by (λ c. length (payload v c)) cs), wide8.len f.weak_tombstone_count, wide8.len f.weak_tombstone_reclaimable)
+      let f = facts (joined cs) in
+      omega (
+        arith,
+        key_narrow v,
+        wide8.len (length cs),
+        wide8.len blocks.filter,
+        wide8.len blocks.index,
+        wide16-len label.created_at,
+        wide4.len options.data_block_hash_ratio,
+        wide8.len (length (data_section v cs)),
+        wide8.len f.item_count,
+        wide8.len f.key_count,
+        wide8.len f.highest,
+        wide8.len f.lowest,
+        wide8.len label.table_id,
+        wide8.len f.tombstone_count,
+        wide8.len (sum_by (λ c. length (payload v c)) cs),
+        wide8.len f.weak_tombstone_count,
+        wide8.len f.weak_tombstone_reclaimable,
+      )
 
   pub meta_length : length (payload v es) ≤ 2000 + length (facts (joined cs)).min_key + length (facts (joined cs)).max_key
   meta_length = omega (arith, meta_taken, length-payload v es)
 
   meta_fits : length (facts (joined cs)).min_key < 2 ^ 32 → length (facts (joined cs)).max_key < 2 ^ 32 → AllByRecursion (written.Fits v) es
   meta_fits min max =
-    let f = facts (joined cs) in
-    (small v _ refl (omega arith) (omega (arith, wide8.len ((length cs)))),
-      (small v _ refl (omega arith) (omega (arith, wide8.len (blocks.filter))),
-      (small v _ refl (omega arith) (omega (arith, wide8.len (blocks.index))),
-      (small v _ refl (omega arith) (omega arith),
-      (small v _ refl (omega arith) (omega arith),
-      (small v _ refl (omega arith) (omega arith),
-      (small v _ refl (omega arith) (omega arith),
-      (small v _ refl (omega arith) (omega (arith, wide16-len (label.created_at))),
-      (small v _ refl (omega arith) (omega (arith, wide4.len (options.data_block_hash_ratio))),
-      (small v _ refl (omega arith) (omega (arith, wide8.len ((length (data_section v cs))))),
-      (small v _ refl (omega arith) (omega arith),
-      (small v _ refl (omega arith) (omega arith),
-      (small v _ refl (omega arith) (omega arith),
-      (small v _ refl (omega arith) (omega (arith, wide8.len (f.item_count))),
-      (small v _ refl (omega arith) (max),
-      (small v _ refl (omega arith) (min),
-      (small v _ refl (omega arith) (omega (arith, wide8.len (f.key_count))),
-      (small v _ refl (omega arith) (omega arith),
-      (small v _ refl (omega arith) (omega arith),
-      (small v _ refl (omega arith) (omega arith),
-      (small v _ refl (omega arith) (omega arith),
-      (small v _ refl (omega arith) (omega (arith, wide8.len (f.highest))),
-      (small v _ refl (omega arith) (omega (arith, wide8.len (f.lowest))),
-      (small v _ refl (omega arith) (omega (arith, wide8.len (label.table_id))),
-      (small v _ refl (omega arith) (omega arith),
-      (small v _ refl (omega arith) (omega (arith, wide8.len (f.tombstone_count))),
-      (small v _ refl (omega arith) (omega (arith, wide8.len ((sum_by (λ c. length (payload v c)) cs)))),
-      (small v _ refl (omega arith) (omega (arith, wide8.len (f.weak_tombstone_count))),
-      (small v _ refl (omega arith) (omega (arith, wide8.len (f.weak_tombstone_reclaimable))),
-      tt)))))))))))))))))))))))))))))
+      let f = facts (joined cs) in (
+        small v _ refl (omega arith) (omega (arith, wide8.len ((length cs)))),
+        (
+          small v _ refl (omega arith) (omega (arith, wide8.len (blocks.filter))),
+          (
+            small v _ refl (omega arith) (omega (arith, wide8.len (blocks.index))),
+            (
+              small v _ refl (omega arith) (omega arith),
+              (
+                small v _ refl (omega arith) (omega arith),
+                (
+                  small v _ refl (omega arith) (omega arith),
+                  (
+                    small v _ refl (omega arith) (omega arith),
+                    (
+                      small v _ refl (omega arith) (omega (arith, wide16-len (label.created_at))),
+                      (
+                        small v _ refl (omega arith) (omega (arith, wide4.len (options.data_block_hash_ratio))),
+                        (
+                          small v _ refl (omega arith) (omega (arith, wide8.len ((length (data_section v cs))))),
+                          (
+                            small v _ refl (omega arith) (omega arith),
+                            (
+                              small v _ refl (omega arith) (omega arith),
+                              (
+                                small v _ refl (omega arith) (omega arith),
+                                (
+                                  small v _ refl (omega arith) (omega (arith, wide8.len (f.item_count))),
+                                  (
+                                    small v _ refl (omega arith) (max),
+                                    (
+                                      small v _ refl (omega arith) (min),
+                                      (
+                                        small v _ refl (omega arith) (omega (arith, wide8.len (f.key_count))),
+                                        (
+                                          small v _ refl (omega arith) (omega arith),
+                                          (
+                                            small v _ refl (omega arith) (omega arith),
+                                            (
+                                              small v _ refl (omega arith) (omega arith),
+                                              (
+                                                small v _ refl (omega arith) (omega arith),
+                                                (
+                                                  small v _ refl (omega arith) (omega (arith, wide8.len (f.highest))),
+                                                  (
+                                                    small v _ refl (omega arith) (omega (arith, wide8.len (f.lowest))),
+                                                    (
+                                                      small v _ refl (omega arith) (omega (arith, wide8.len (label.table_id))),
+                                                      (
+                                                        small v _ refl (omega arith) (omega arith),
+                                                        (
+                                                          small v _ refl (omega arith) (omega (arith, wide8.len (f.tombstone_count))),
+                                                          (
+                                                            small v _ refl (omega arith) (omega (arith, wide8.len ((sum_by (λ c. length (payload v c)) cs)))),
+                                                            (
+                                                              small v _ refl (omega arith) (omega (arith, wide8.len (f.weak_tombstone_count))),
+                                                              (
+                                                                small v _ refl (omega arith) (omega (arith, wide8.len (f.weak_tombstone_reclaimable))),
+                                                                tt,
+                                                              ),
+                                                            ),
+                                                          ),
+                                                        ),
+                                                      ),
+                                                    ),
+                                                  ),
+                                                ),
+                                              ),
+                                            ),
+                                          ),
+                                        ),
+                                      ),
+                                    ),
+                                  ),
+                                ),
+                              ),
+                            ),
+                          ),
+                        ),
+                      ),
+                    ),
+                  ),
+                ),
+              ),
+            ),
+          ),
+        ),
+      )
 
   pub meta_reads : length (facts (joined cs)).min_key < 2 ^ 32 → length (facts (joined cs)).max_key < 2 ^ 32 → entries_in v (payload v es) ≡ Some es
   meta_reads min max = entries_read v es (omega arith, meta_fits min max) meta_strict

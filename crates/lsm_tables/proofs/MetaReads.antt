@@ -166,10 +166,10 @@ module _ (v : TableVersion) (label : Label) (options : Options) (cs : List (List
   created_read : label.created_at < 2 ^ 128 → created_told es ≡ Ok label.created_at
   unfolding created_told
   created_read fits =
-    let n = label.created_at in
-    let whole : num16 (le16 n) ≡ n = ap num16 (sym (append-nil (le16 n))) ∙ wide16-again n [] fits in
-    let long = le-ltb (length (le16 n)) 16 (omega (arith, wide16-len n)) in
-    rw (item-CreatedAt, long, whole) refl
+      let n = label.created_at in
+      let whole : num16 (le16 n) ≡ n = ap num16 (sym (append-nil (le16 n))) ∙ wide16-again n [] fits in
+      let long = le-ltb (length (le16 n)) 16 (omega (arith, wide16-len n)) in
+      rw (item-CreatedAt, long, whole) refl
 
   keys_read : keys_told es ≡ Ok (interval (facts (joined cs)).min_key (facts (joined cs)).max_key)
   unfolding keys_told

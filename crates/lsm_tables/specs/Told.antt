@@ -3,7 +3,6 @@ use Rattle.std.specs.Prelude.{Result, Ok, Err}
 use Rattle.sst_blocks.specs.declared.error.Error.{Error}
 
 infixl 10 ◌>>=◌
-
 -- the first fault, or else what the next step tells
 abbrev pub ◌>>=◌ : {A B : Type 0} → Result A Error → (A → Result B Error) → Result B Error
 (Ok x) >>= f = f x

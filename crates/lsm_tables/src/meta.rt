@@ -90,7 +90,12 @@ fn u64_item<A: Allocator>(block: &DataBlock<A>, name: ItemName) -> Result<u64, E
 }
 
 #[tactic(auto, unfolding(crate::specs::Meta::byte_told))]
-fn byte_item<A: Allocator>(block: &DataBlock<A>, name: ItemName, byte: u8, fault: Error) -> Result<(), Error>
+fn byte_item<A: Allocator>(
+    block: &DataBlock<A>,
+    name: ItemName,
+    byte: u8,
+    fault: Error,
+) -> Result<(), Error>
     ensures { Gives (λ (_ : _). tt) result (byte_told block.now name byte fault) }
 {
     let value = item(block, name)?;
@@ -102,7 +107,12 @@ fn byte_item<A: Allocator>(block: &DataBlock<A>, name: ItemName, byte: u8, fault
 }
 
 #[tactic(auto, unfolding(crate::specs::Meta::first_told))]
-fn first_item<A: Allocator>(block: &DataBlock<A>, name: ItemName, byte: u8, fault: Error) -> Result<(), Error>
+fn first_item<A: Allocator>(
+    block: &DataBlock<A>,
+    name: ItemName,
+    byte: u8,
+    fault: Error,
+) -> Result<(), Error>
     ensures { Gives (λ (_ : _). tt) result (first_told block.now name byte fault) }
 {
     let value = item(block, name)?;
@@ -131,17 +141,42 @@ fn version_item<A: Allocator>(block: &DataBlock<A>) -> Result<u8, Error>
 fn test_kinds<A: Allocator>(block: &DataBlock<A>) -> Result<(), Error>
     ensures { Gives (λ (_ : _). tt) result (kinds_told block.now) }
 {
-    byte_item(block, ItemName::FilterHashType, 1, Error::UnsupportedHashType)?;
-    byte_item(block, ItemName::ChecksumType, 1, Error::UnsupportedChecksumType)?;
-    first_item(block, ItemName::RestartIntervalIndex, 1, Error::UnsupportedIndexInterval)
+    byte_item(
+        block,
+        ItemName::FilterHashType,
+        1,
+        Error::UnsupportedHashType,
+    )?;
+    byte_item(
+        block,
+        ItemName::ChecksumType,
+        1,
+        Error::UnsupportedChecksumType,
+    )?;
+    first_item(
+        block,
+        ItemName::RestartIntervalIndex,
+        1,
+        Error::UnsupportedIndexInterval,
+    )
 }
 
 #[tactic(auto, unfolding(crate::specs::Meta::compressions_told))]
 fn test_compressions<A: Allocator>(block: &DataBlock<A>) -> Result<(), Error>
     ensures { Gives (λ (_ : _). tt) result (compressions_told block.now) }
 {
-    first_item(block, ItemName::CompressionData, 0, Error::UnsupportedCompression)?;
-    first_item(block, ItemName::CompressionIndex, 0, Error::UnsupportedCompression)
+    first_item(
+        block,
+        ItemName::CompressionData,
+        0,
+        Error::UnsupportedCompression,
+    )?;
+    first_item(
+        block,
+        ItemName::CompressionIndex,
+        0,
+        Error::UnsupportedCompression,
+    )
 }
 
 #[tactic(auto, unfolding(crate::specs::Meta::created_told))]
@@ -153,7 +188,12 @@ fn created_item<A: Allocator>(block: &DataBlock<A>) -> Result<u128, Error>
 }
 
 #[tactic(auto, unfolding(crate::specs::Meta::triple_told))]
-fn three_items<A: Allocator>(block: &DataBlock<A>, a: ItemName, b: ItemName, c: ItemName) -> Result<(u64, u64, u64), Error>
+fn three_items<A: Allocator>(
+    block: &DataBlock<A>,
+    a: ItemName,
+    b: ItemName,
+    c: ItemName,
+) -> Result<(u64, u64, u64), Error>
     ensures { Gives (λ (n : ℕ × ℕ × ℕ). n) result (triple_told block.now a b c) }
 {
     let x = u64_item(block, a)?;
@@ -231,7 +271,10 @@ impl<A: Allocator + Clone> ParsedMeta<A> {
     /// item, [`Error::MetaKeyMissing`] where one is not there, [`Error::InvalidMetaValue`] where a value is too short, and
     /// the refusal of a version, hash, checksum, index interval or compression that is not known; and
     /// [`Error::OutOfMemory`].
-    pub fn load_with_handle(source: &BlockSource<A>, handle: &BlockHandle) -> Result<ParsedMeta<A>, Error>
+    pub fn load_with_handle(
+        source: &BlockSource<A>,
+        handle: &BlockHandle,
+    ) -> Result<ParsedMeta<A>, Error>
         ensures { Gives facts_of result (meta_told (body_of source.now) handle.now) }
     {
         let mut opened = Opened::none();

@@ -10,9 +10,7 @@ ghost use Rattle.lsm_tables.specs.Answer.{answer_told, handle_for, read_told, li
 ghost use Rattle.lsm_tables.specs.Seen.{parts_of};
 
 use crate::Inner;
-use sst_blocks::{
-    BlockType, DataBlock, Error, InternalValue, KeyedBlockHandle, LoadBlocks, SeqNo,
-};
+use sst_blocks::{BlockType, DataBlock, Error, InternalValue, KeyedBlockHandle, LoadBlocks, SeqNo};
 use std::alloc::Allocator;
 
 // The entry with the global number added, which the caller has tested to fit.
@@ -26,7 +24,11 @@ fn lift<A: Allocator>(item: InternalValue<A>, global_seqno: SeqNo) -> InternalVa
 }
 
 // The handle of the one data block that a point read rests on.
-fn handle_of<A: Allocator>(inner: &Inner<A>, key: &[u8], seqno: SeqNo) -> Result<Option<KeyedBlockHandle<A>>, Error>
+fn handle_of<A: Allocator>(
+    inner: &Inner<A>,
+    key: &[u8],
+    seqno: SeqNo,
+) -> Result<Option<KeyedBlockHandle<A>>, Error>
     ensures found { IfOk result (λ h. h ≡ handle_for (parts_of inner.now) inner.now.global_seqno key.now seqno) }
     ensures err { IfErr result (λ e. e ≡ OutOfMemory) }
 {

@@ -72,7 +72,10 @@ impl<A: Allocator> Deref for Table<A> {
     }
 }
 
-fn load_index<A: Allocator + Clone>(source: &BlockSource<A>, regions: &ParsedRegions) -> Result<FullBlockIndex<A>, Error>
+fn load_index<A: Allocator + Clone>(
+    source: &BlockSource<A>,
+    regions: &ParsedRegions,
+) -> Result<FullBlockIndex<A>, Error>
     ensures { Gives (λ (hs : _). hs) result (index_told (body_of source.now) regions.now) }
 {
     let mut opened = Opened::none();
@@ -147,7 +150,12 @@ impl<A: Allocator + Clone> Table<A> {
     }
 
     /// The first entry of a key numbered below `seqno`, with how many blocks were loaded for it. Answers as [`Table::get`].
-    pub fn get_counted(&self, key: &[u8], seqno: SeqNo, key_hash: u64) -> (Result<Option<InternalValue<A>>, Error>, Opened)
+    pub fn get_counted(
+        &self,
+        key: &[u8],
+        seqno: SeqNo,
+        key_hash: u64,
+    ) -> (Result<Option<InternalValue<A>>, Error>, Opened)
         requires { key_hash ≡ fnv1a key.now }
         ensures told { Gives (λ (found : Option Entry). found) result.0 (answer_told (body_of self.now.bytes) self.now.global_seqno self.now.parts key.now seqno) }
         ensures opened { Opens result.0 (handle_for self.now.parts self.now.global_seqno key.now seqno) none_opened result.1 }
@@ -162,7 +170,12 @@ impl<A: Allocator + Clone> Table<A> {
     /// The first entry of a key numbered below `seqno`, its number with the global number added. `key_hash` is the key's
     /// [`Table::key_hash`]. Refused with the first fault of loading the one data block that the read rests on, and
     /// [`Error::OutOfMemory`]; nothing changes then.
-    pub fn get(&self, key: &[u8], seqno: SeqNo, key_hash: u64) -> Result<Option<InternalValue<A>>, Error>
+    pub fn get(
+        &self,
+        key: &[u8],
+        seqno: SeqNo,
+        key_hash: u64,
+    ) -> Result<Option<InternalValue<A>>, Error>
         requires { key_hash ≡ fnv1a key.now }
         ensures told { Gives (λ (found : Option Entry). found) result (answer_told (body_of self.now.bytes) self.now.global_seqno self.now.parts key.now seqno) }
         ensures recovered { IsRecovered self.now }

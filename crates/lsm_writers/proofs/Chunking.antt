@@ -61,9 +61,9 @@ chunks_from size S at (c ∷ cs) last h same end =
     let chunk : IsChunk size S at c = record {
       some = h.0.some;
       shortest = λ n pos' lt.
-        let past : (at' == at + n) ≡ false = ne_eqb _ _ (λ e. omega (arith, e, lt)) in
-        let none : is_spilled S (at + n) ≡ false = same (at + n) (omega (arith, pos')) ∙ skip (is_full size c) E at' (at + n) past ∙ none_before size at' cs (at + n) h.1 (omega (arith, lt)) in
-        both_false _ _ (h.0.shortest n pos' lt) none
+          let past : (at' == at + n) ≡ false = ne_eqb _ _ (λ e. omega (arith, e, lt)) in
+          let none : is_spilled S (at + n) ≡ false = same (at + n) (omega (arith, pos')) ∙ skip (is_full size c) E at' (at + n) past ∙ none_before size at' cs (at + n) h.1 (omega (arith, lt)) in
+          both_false _ _ (h.0.shortest n pos' lt) none;
     } in
     let ended' : ends_after size S at c (length c) ≡ true = ended (is_full size c) size S at c E refl (same at' pos) in
     let same' = λ (p : ℕ) (lt : at' < p). same p (omega (arith, lt)) ∙ skip (is_full size c) E at' p (ne_eqb _ _ (λ e. omega (arith, e, lt))) in

@@ -219,10 +219,11 @@ room_for {A} m cs c n are readable le lt =
     let a : m.data_block_count ≡ length cs = ap (λ (x : Metadata A). x.data_block_count) are in
     let b : m.item_count ≡ length (joined cs) = ap (λ (x : Metadata A). x.item_count) are in
     let d : m.uncompressed_size ≡ sum_by size cs = ap (λ (x : Metadata A). x.uncompressed_size) are in
-    let joined_len : length (joined (cs ++ c ∷ [])) ≡ length (joined cs) + length c = ap length (joined_more cs c) ∙ length-append (joined cs) c in
-    ( omega (arith, s.blocks, a, length-append cs (c ∷ []), le, lt)
-    , omega (arith, s.items, b, joined_len, le, lt)
-    , omega (arith, s.payloads, d, sum_by-append size cs (c ∷ []), sum_by-cons size c [], le, lt))
+    let joined_len : length (joined (cs ++ c ∷ [])) ≡ length (joined cs) + length c = ap length (joined_more cs c) ∙ length-append (joined cs) c in (
+      omega (arith, s.blocks, a, length-append cs (c ∷ []), le, lt),
+      omega (arith, s.items, b, joined_len, le, lt),
+      omega (arith, s.payloads, d, sum_by-append size cs (c ∷ []), sum_by-cons size c [], le, lt),
+    )
 
 -- the bytes have at least the blocks
 pub at_least_blocks : (cs : List (List Entry)) (w : Written) (hs : List Handle) (last : Option Entry) (failed : Bool) → AreCut cs w hs last failed → length (data_section V4 cs) ≤ length w.bytes

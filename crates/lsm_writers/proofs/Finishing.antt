@@ -86,37 +86,94 @@ small_sum [] h = omega arith
 small_sum (e ∷ es) h = omega (arith, small_sum es h.1, h.0.key, h.0.value, sum_by-cons entry_size e es)
 
 items_small : (label : Label) (options : Options) (counted : Blocks) (f : Facts) (a b d : ℕ) → length f.max_key ≤ 1048576 → length f.min_key ≤ 1048576 → AllByRecursion IsSmall (meta_items V4 label options counted f a b d)
-items_small label options counted f a b d top low =
-    (small8 _ _ (omega arith),
-    (small8 _ _ (omega arith),
-    (small8 _ _ (omega arith),
-    (record { key = omega arith; value = omega arith },
-    (record { key = omega arith; value = omega arith },
-    (record { key = omega arith; value = omega arith },
-    (record { key = omega arith; value = omega arith },
-    (small16 _ _ (omega arith),
-    (small4 _ _ (omega arith),
-    (small8 _ _ (omega arith),
-    (record { key = omega arith; value = omega arith },
-    (record { key = omega arith; value = omega arith },
-    (record { key = omega arith; value = omega arith },
-    (small8 _ _ (omega arith),
-    (record { key = omega arith; value = top },
-    (record { key = omega arith; value = low },
-    (small8 _ _ (omega arith),
-    (record { key = omega arith; value = omega arith },
-    (record { key = omega arith; value = omega arith },
-    (record { key = omega arith; value = omega arith },
-    (record { key = omega arith; value = omega arith },
-    (small8 _ _ (omega arith),
-    (small8 _ _ (omega arith),
-    (small8 _ _ (omega arith),
-    (record { key = omega arith; value = omega arith },
-    (small8 _ _ (omega arith),
-    (small8 _ _ (omega arith),
-    (small8 _ _ (omega arith),
-    (small8 _ _ (omega arith),
-    tt)))))))))))))))))))))))))))))
+items_small label options counted f a b d top low = (
+  small8 _ _ (omega arith),
+  (
+    small8 _ _ (omega arith),
+    (
+      small8 _ _ (omega arith),
+      (
+        record { key = omega arith; value = omega arith },
+        (
+          record { key = omega arith; value = omega arith },
+          (
+            record { key = omega arith; value = omega arith },
+            (
+              record { key = omega arith; value = omega arith },
+              (
+                small16 _ _ (omega arith),
+                (
+                  small4 _ _ (omega arith),
+                  (
+                    small8 _ _ (omega arith),
+                    (
+                      record { key = omega arith; value = omega arith },
+                      (
+                        record { key = omega arith; value = omega arith },
+                        (
+                          record { key = omega arith; value = omega arith },
+                          (
+                            small8 _ _ (omega arith),
+                            (
+                              record { key = omega arith; value = top },
+                              (
+                                record { key = omega arith; value = low },
+                                (
+                                  small8 _ _ (omega arith),
+                                  (
+                                    record { key = omega arith; value = omega arith },
+                                    (
+                                      record { key = omega arith; value = omega arith },
+                                      (
+                                        record { key = omega arith; value = omega arith },
+                                        (
+                                          record { key = omega arith; value = omega arith },
+                                          (
+                                            small8 _ _ (omega arith),
+                                            (
+                                              small8 _ _ (omega arith),
+                                              (
+                                                small8 _ _ (omega arith),
+                                                (
+                                                  record { key = omega arith; value = omega arith },
+                                                  (
+                                                    small8 _ _ (omega arith),
+                                                    (
+                                                      small8 _ _ (omega arith),
+                                                      (
+                                                        small8 _ _ (omega arith),
+                                                        (
+                                                          small8 _ _ (omega arith),
+                                                          tt,
+                                                        ),
+                                                      ),
+                                                    ),
+                                                  ),
+                                                ),
+                                              ),
+                                            ),
+                                          ),
+                                        ),
+                                      ),
+                                    ),
+                                  ),
+                                ),
+                              ),
+                            ),
+                          ),
+                        ),
+                      ),
+                    ),
+                  ),
+                ),
+              ),
+            ),
+          ),
+        ),
+      ),
+    ),
+  ),
+)
 
 pub items_fit : (label : Label) (options : Options) (counted : Blocks) (f : Facts) (a b d : ℕ) → length f.max_key ≤ 1048576 → length f.min_key ≤ 1048576 → entries_fault (meta_items V4 label options counted f a b d) ≡ None
 items_fit label options counted f a b d top low =

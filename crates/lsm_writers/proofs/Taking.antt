@@ -109,8 +109,8 @@ front_more size (x ∷ xs) e o f n pos lt =
     elim (cases_lt n (length p)) [
       | inl less ↦ ap (is_full size) (take-append-le n p (e ∷ []) (omega arith)) ∙ f n pos less
       | inr more ↦
-        let same : n ≡ length p = omega (arith, length-append p (e ∷ []), lt, more) in
-        ap (is_full size) (take_at p (e ∷ []) n (sym same)) ∙ o
+          let same : n ≡ length p = omega (arith, length-append p (e ∷ []), lt, more) in
+          ap (is_full size) (take_at p (e ∷ []) n (sym same)) ∙ o
     ]
 
 -- ---- counts
@@ -193,8 +193,13 @@ held_cut {A} size cut [] n m old =
     let same : cut ++ [] ≡ cut = append-nil cut in
     let P : List (List Entry) → Type 0 = λ cs. IsHeld size cs [] 0 (with_cut cs m) in
     let made : P cut = record {
-      strict = old.strict; short = old.short; shortest = old.shortest; front = old.front;
-      counted = cut_counted m cut [] cut old.counted refl; sized = refl; small = omega arith
+      strict = old.strict;
+      short = old.short;
+      shortest = old.shortest;
+      front = old.front;
+      counted = cut_counted m cut [] cut old.counted refl;
+      sized = refl;
+      small = omega arith;
     } in
     subst P (sym same) made
 held_cut {A} size cut (e ∷ es) n m old =

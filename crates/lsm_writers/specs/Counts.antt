@@ -22,7 +22,7 @@ no_counts = record {
   first_key = None;
   last_key = None;
   lowest_seqno = 2 ^ 64 - 1;
-  highest_seqno = 0
+  highest_seqno = 0;
 }
 
 -- the blocks, their items, bytes and last key are those that were cut; the rest counts the whole list
@@ -41,7 +41,7 @@ metadata_of v cut pending =
       first_key = first_key es;
       last_key = last_key (joined cut);
       lowest_seqno = lowest_seqno es;
-      highest_seqno = highest_seqno es
+      highest_seqno = highest_seqno es;
     }
 
 -- the first of two that there is
@@ -58,7 +58,7 @@ counted before e m = record m {
   key_count = m.key_count + one_if (starts_key before e);
   first_key = or_first m.first_key (Some e.user_key);
   lowest_seqno = min m.lowest_seqno e.seqno;
-  highest_seqno = max m.highest_seqno e.seqno
+  highest_seqno = max m.highest_seqno e.seqno;
 }
 
 -- no count is at its largest value
@@ -79,5 +79,5 @@ counted_facts m = record {
   min_key = unwrap_or m.first_key [];
   max_key = unwrap_or m.last_key [];
   lowest = m.lowest_seqno;
-  highest = m.highest_seqno
+  highest = m.highest_seqno;
 }

@@ -57,7 +57,7 @@ with_cut cs m = record m {
   item_count = length (joined cs);
   file_pos = record { 0 = length (data_section V4 cs) };
   uncompressed_size = sum_by (λ c. length (payload V4 c)) cs;
-  last_key = last_key (joined cs)
+  last_key = last_key (joined cs);
 }
 
 -- the counts are those of the blocks that were cut

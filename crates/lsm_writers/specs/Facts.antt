@@ -82,5 +82,5 @@ facts es = record {
   min_key = unwrap_or (first_key es) [];
   max_key = unwrap_or (last_key es) [];
   lowest = lowest_seqno es;
-  highest = highest_seqno es
+  highest = highest_seqno es;
 }

@@ -15,7 +15,7 @@ default_options = record {
   index_block_restart_interval = 1;
   data_block_hash_ratio = 0;
   data_block_size = 4096;
-  meta_partition_size = 4096
+  meta_partition_size = 4096;
 }
 
 -- a table's id, its level and the moment of its creation, which are handed in

@@ -2,10 +2,10 @@
 #![tactic(auto)]
 
 mod id;
-mod timestamp;
-mod writer;
 #[cfg(test)]
 mod tests;
+mod timestamp;
+mod writer;
 
 pub use id::{GlobalTableId, TableId, TreeId};
 pub use timestamp::Timestamp;

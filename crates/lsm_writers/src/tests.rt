@@ -1,24 +1,35 @@
 mod table;
 
-use crate::{BlockIndexWriter, FinishedTable, FullIndexWriter, GlobalTableId, Metadata, Timestamp, Writer};
+use crate::{
+    BlockIndexWriter, FinishedTable, FullIndexWriter, GlobalTableId, Metadata, Timestamp, Writer,
+};
 use refusing::{Refusing, each_refused};
 use sst_blocks::{
-    BlockHandle, BlockOffset, Checksum, CompressionType, Error, InternalValue, KeyedBlockHandle, SectionWriter, SeqNo, Slice,
-    ValueType,
+    BlockHandle, BlockOffset, Checksum, CompressionType, Error, InternalValue, KeyedBlockHandle,
+    SectionWriter, SeqNo, Slice, ValueType,
 };
 use std::alloc::Allocator;
 use std::process::Abort;
 use std::test::Fail;
 use table::{TABLE, TABLE_CHECKSUM};
 
-fn entry<A: Allocator + Clone>(alloc: A, key: &[u8], seqno: SeqNo, kind: ValueType, value: &[u8]) -> Result<InternalValue<A>, Error> {
+fn entry<A: Allocator + Clone>(
+    alloc: A,
+    key: &[u8],
+    seqno: SeqNo,
+    kind: ValueType,
+    value: &[u8],
+) -> Result<InternalValue<A>, Error> {
     let key = Slice::from(alloc.clone()?, key)?;
     let value = Slice::from(alloc, value)?;
     Ok(InternalValue::from_components(key, value, seqno, kind))
 }
 
 // Writes an entry that may follow; `None` where it may not.
-fn put<A: Allocator + Clone>(writer: &mut Writer<A>, item: InternalValue<A>) -> Option<Result<(), Error>> {
+fn put<A: Allocator + Clone>(
+    writer: &mut Writer<A>,
+    item: InternalValue<A>,
+) -> Option<Result<(), Error>> {
     if !writer.can_follow(&item.key) {
         return None;
     }
@@ -46,7 +57,9 @@ fn counts_what_is_written(rt: HostRuntime) -> Result<(), Fail> {
     let mut writer = Writer::new(alloc, 1, 0, Timestamp::from(7))?;
     assert!(rt; writer.is_empty());
     for (i, key) in [b"a", b"b", b"c"].iter().enumerate() {
-        assert!(rt; put(&mut writer, entry(alloc, *key, 0, ValueType::Value, *key)?) == Some(Ok(())));
+        assert!(rt;
+            put(&mut writer, entry(alloc, *key, 0, ValueType::Value, *key)?) == Some(Ok(()))
+        );
         assert_eq!(rt; writer.metadata().key_count, i + 1);
         assert_eq!(rt; writer.chunk_size(), 2 * (i + 1));
         assert_eq!(rt; writer.metadata().item_count, 0);
@@ -57,9 +70,19 @@ fn counts_what_is_written(rt: HostRuntime) -> Result<(), Fail> {
     assert_eq!(rt; writer.metadata().item_count, 3);
     assert_eq!(rt; writer.metadata().data_block_count, 1);
     // A weak tombstone directly before a value of its key.
-    assert!(rt; put(&mut writer, entry(alloc, b"d", 9, ValueType::WeakTombstone, b"")?) == Some(Ok(())));
+    assert!(rt;
+        put(
+            &mut writer,
+            entry(alloc, b"d", 9, ValueType::WeakTombstone, b"")?
+        ) == Some(Ok(()))
+    );
     assert!(rt; put(&mut writer, entry(alloc, b"d", 8, ValueType::Value, b"v")?) == Some(Ok(())));
-    assert!(rt; put(&mut writer, entry(alloc, b"e", 3, ValueType::Tombstone, b"")?) == Some(Ok(())));
+    assert!(rt;
+        put(
+            &mut writer,
+            entry(alloc, b"e", 3, ValueType::Tombstone, b"")?
+        ) == Some(Ok(()))
+    );
     let meta = writer.metadata();
     assert_eq!(rt; meta.key_count, 5);
     assert_eq!(rt; meta.tombstone_count, 2);
@@ -68,7 +91,12 @@ fn counts_what_is_written(rt: HostRuntime) -> Result<(), Fail> {
     assert_eq!(rt; (meta.lowest_seqno, meta.highest_seqno), (0, 9));
     // Neither an older key, nor the same number again, nor the largest number may follow.
     for (key, seqno) in [(b"d", 1), (b"e", 3), (b"f", SeqNo::MAX)] {
-        assert!(rt; put(&mut writer, entry(alloc, key, seqno, ValueType::Value, b"")?) == None);
+        assert!(rt;
+            put(
+                &mut writer,
+                entry(alloc, key, seqno, ValueType::Value, b"")?
+            ) == None
+        );
     }
     Ok(())
 }
@@ -78,12 +106,20 @@ fn cuts_a_block_for_each_entry_at_size_0(rt: HostRuntime) -> Result<(), Fail> {
     let alloc = rt.alloc();
     let mut writer = Writer::new(alloc, 1, 0, Timestamp::from(0))?.use_data_block_size(0);
     for seqno in [9, 7, 5] {
-        assert!(rt; put(&mut writer, entry(alloc, b"a", seqno, ValueType::Value, b"")?) == Some(Ok(())));
+        assert!(rt;
+            put(
+                &mut writer,
+                entry(alloc, b"a", seqno, ValueType::Value, b"")?
+            ) == Some(Ok(()))
+        );
     }
     assert_eq!(rt; writer.metadata().data_block_count, 3);
     assert_eq!(rt; writer.metadata().key_count, 1);
     // Each block has a header of 24 bytes, a count of 4, and 17 bytes and the key for its entry.
-    assert_eq!(rt; writer.metadata().file_pos, BlockOffset(3 * (24 + 4 + 17 + 1)));
+    assert_eq!(rt;
+        writer.metadata().file_pos,
+        BlockOffset(3 * (24 + 4 + 17 + 1))
+    );
     Ok(())
 }
 
@@ -93,14 +129,32 @@ fn refuses_long_keys_and_whatever_follows(rt: HostRuntime) -> Result<(), Fail> {
     let mut writer = Writer::new(alloc, 1, 0, Timestamp::from(0))?;
     let longest = vec![in alloc; 0x61u8; 1_048_576]?;
     let longer = vec![in alloc; 0x61u8; 1_048_577]?;
-    assert!(rt; put(&mut writer, entry(alloc, &longest, 1, ValueType::Value, b"")?) == Some(Ok(())));
-    assert!(rt; put(&mut writer, entry(alloc, &longer, 1, ValueType::Value, b"")?) == Some(Err(Error::KeyTooLong)));
-    assert!(rt; put(&mut writer, entry(alloc, b"b", 1, ValueType::Value, b"")?) == Some(Err(Error::WriterFailed)));
+    assert!(rt;
+        put(
+            &mut writer,
+            entry(alloc, &longest, 1, ValueType::Value, b"")?
+        ) == Some(Ok(()))
+    );
+    assert!(rt;
+        put(
+            &mut writer,
+            entry(alloc, &longer, 1, ValueType::Value, b"")?
+        ) == Some(Err(Error::KeyTooLong))
+    );
+    assert!(rt;
+        put(&mut writer, entry(alloc, b"b", 1, ValueType::Value, b"")?)
+            == Some(Err(Error::WriterFailed))
+    );
     assert!(rt; writer.spill_block() == Err(Error::WriterFailed));
     assert!(rt; writer.finish().is_err());
     // A refused first entry was given.
     let mut writer = Writer::new(alloc, 1, 0, Timestamp::from(0))?;
-    assert!(rt; put(&mut writer, entry(alloc, &longer, 1, ValueType::Value, b"")?) == Some(Err(Error::KeyTooLong)));
+    assert!(rt;
+        put(
+            &mut writer,
+            entry(alloc, &longer, 1, ValueType::Value, b"")?
+        ) == Some(Err(Error::KeyTooLong))
+    );
     assert!(rt; !writer.is_empty());
     Ok(())
 }
@@ -118,7 +172,10 @@ fn takes_options_and_gives_no_table_of_nothing(rt: HostRuntime) -> Result<(), Fa
         .use_index_block_compression(CompressionType::None);
     assert!(rt; writer.is_empty());
     assert!(rt; writer.finish()?.is_none());
-    assert_eq!(rt; Metadata::<std::alloc::Global>::default().lowest_seqno, SeqNo::MAX);
+    assert_eq!(rt;
+        Metadata::<std::alloc::Global>::default().lowest_seqno,
+        SeqNo::MAX
+    );
     Ok(())
 }
 
@@ -153,11 +210,18 @@ fn a_full_index_is_one_block(rt: HostRuntime) -> Result<(), Fail> {
 fn three_blocks<A: Allocator + Clone>(alloc: A) -> Result<(Option<FinishedTable<A>>, bool), Error> {
     let mut writer = Writer::new(alloc.clone()?, 1, 0, Timestamp::from(0))?.use_data_block_size(0);
     for seqno in [9, 7, 5] {
-        match put(&mut writer, entry(alloc.clone()?, b"a", seqno, ValueType::Value, b"x")?) {
+        match put(
+            &mut writer,
+            entry(alloc.clone()?, b"a", seqno, ValueType::Value, b"x")?,
+        ) {
             Some(Err(error)) => {
                 // Whatever was refused, the writer refuses from then on.
                 let failed = writer.spill_block() == Err(Error::WriterFailed);
-                return if failed { Err(error) } else { Ok((None, false)) };
+                return if failed {
+                    Err(error)
+                } else {
+                    Ok((None, false))
+                };
             }
             Some(Ok(())) => {}
             None => return Ok((None, false)),

@@ -28,7 +28,10 @@ use data_blocks::DataBlocks;
 use meta::Metadata;
 use meta_block::{TableLabel, meta_items};
 use options::WriterOptions;
-use sst_blocks::{Block, BlockType, Checksum, CompressionType, DataBlock, Error, InternalKey, InternalValue, SectionName, SectionWriter, SeqNo, Slice, TableVersion};
+use sst_blocks::{
+    Block, BlockType, Checksum, CompressionType, DataBlock, Error, InternalKey, InternalValue,
+    SectionName, SectionWriter, SeqNo, Slice, TableVersion,
+};
 use std::alloc::{Allocator, Global};
 use std::marker::Model;
 
@@ -61,7 +64,12 @@ impl<A: Allocator> Model for Writer<A> {
 impl<A: Allocator + Clone> Writer<A> {
     /// A writer of the table `id`, which stands at `initial_level` and is created at a moment that is handed in. Refused
     /// [`Error::OutOfMemory`] alone.
-    pub fn new(alloc: A, id: TableId, initial_level: u8, created_at: Timestamp) -> Result<Writer<A>, Error>
+    pub fn new(
+        alloc: A,
+        id: TableId,
+        initial_level: u8,
+        created_at: Timestamp,
+    ) -> Result<Writer<A>, Error>
         ensures ok { IfOk result (λ w. w ≡ record { label = record { table_id = id; initial_level = initial_level; created_at = created_at }; options = default_options; cut = []; pending = []; failed = false }) }
         ensures err { IfErr result (λ e. e ≡ OutOfMemory) }
     {
@@ -162,7 +170,8 @@ impl<A: Allocator + Clone> Writer<A> {
             return Err(Error::WriterFailed);
         }
         self.failed = true;
-        self.blocks.cut(&mut self.chunk, &mut self.meta, &self.options)?;
+        self.blocks
+            .cut(&mut self.chunk, &mut self.meta, &self.options)?;
         self.chunk_size = 0;
         self.failed = false;
         Ok(())
@@ -183,7 +192,8 @@ impl<A: Allocator + Clone> Writer<A> {
         if self.failed {
             return Err(Error::WriterFailed);
         }
-        self.blocks.cut(&mut self.chunk, &mut self.meta, &self.options)?;
+        self.blocks
+            .cut(&mut self.chunk, &mut self.meta, &self.options)?;
         if self.meta.item_count == 0 {
             return Ok(None);
         }
@@ -301,7 +311,11 @@ fn last_written<'a, A: Allocator>(
 }
 
 /// Refused where an entry is too long, or would make the block of the pending ones too large.
-fn check_item<A: Allocator>(chunk: &[InternalValue<A>], chunk_size: usize, item: &InternalValue<A>) -> Result<(), Error>
+fn check_item<A: Allocator>(
+    chunk: &[InternalValue<A>],
+    chunk_size: usize,
+    item: &InternalValue<A>,
+) -> Result<(), Error>
     requires sized { chunk_size ≡ size_of chunk.now }
     requires small { 28 + 17 * length chunk.now + chunk_size < 2 ^ 32 }
     ensures { MatchResult result (λ _. item_fault chunk.now item.now ≡ None) (λ e. item_fault chunk.now item.now ≡ Some e) }
@@ -339,6 +353,11 @@ fn close<A: Allocator + Clone>(
     file_writer.start(SectionName::Meta)?;
     buffer.clear();
     DataBlock::encode_into(&mut buffer, items, 1, 0)?;
-    Block::write_into(&mut file_writer, &buffer, BlockType::Meta, CompressionType::None)?;
+    Block::write_into(
+        &mut file_writer,
+        &buffer,
+        BlockType::Meta,
+        CompressionType::None,
+    )?;
     file_writer.finish()
 }

@@ -91,11 +91,11 @@ met : (v : TableVersion) (kind : BlockType) (payload head pre post body : List �
     → body ≡ (pre ++ (head ++ payload)) ++ post → Met v kind payload body offset
 met v kind payload head pre post body offset told ok at e =
     let head_is : slice_range body offset (offset + 24) ≡ head =
-      ap (λ (xs : List ℕ). slice_range xs offset (offset + 24)) (e ∙ regroup pre head payload post) ∙ part_at pre head (payload ++ post) offset (offset + 24) at (omega (arith, told.len)) in
+    ap (λ (xs : List ℕ). slice_range xs offset (offset + 24)) (e ∙ regroup pre head payload post) ∙ part_at pre head (payload ++ post) offset (offset + 24) at (omega (arith, told.len)) in
     let front : length (pre ++ head) ≡ offset + 24 = omega (arith, length-append pre head, told.len) in
     let payload_is : slice_range body (offset + 24) (offset + (24 + length payload)) ≡ payload =
-      ap (λ (xs : List ℕ). slice_range xs (offset + 24) (offset + (24 + length payload))) (e ∙ regroup_left pre head payload post)
-      ∙ part_at (pre ++ head) payload post (offset + 24) (offset + (24 + length payload)) (sym front) (omega arith) in
+    ap (λ (xs : List ℕ). slice_range xs (offset + 24) (offset + (24 + length payload))) (e ∙ regroup_left pre head payload post)
+    ∙ part_at (pre ++ head) payload post (offset + 24) (offset + (24 + length payload)) (sym front) (omega arith) in
     record {
       within = omega (arith, ap length e, length-append (pre ++ (head ++ payload)) post, length-append pre (head ++ payload), length-append head payload, told.len);
       fault = rw head_is told.fault;

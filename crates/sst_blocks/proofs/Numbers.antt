@@ -1,11 +1,11 @@
 -- Numbers of 2, 4 and 8 bytes, read and written.
-use Rattle.std.proofs.Common.{◌≡◌, ℕ, ◌+◌, ◌*◌, ◌^◌, ◌<◌, ◌≤◌, List, [], ◌∷◌, ◌++◌, length, get_or, take, drop, refl, sym, ap, ◌∙◌, arith, inl, inr}
+use Rattle.std.proofs.Common.{◌≡◌, ℕ, ◌+◌, ◌^◌, ◌<◌, ◌≤◌, List, ◌++◌, length, get_or, take, drop, refl, sym, ap, ◌∙◌, arith, inl, inr}
 use Rattle.std.specs.Int.{w16, w32, w64, from_le_bytes}
 use Rattle.std.proofs.lemmas.Bool.{cases_lt}
-use Rattle.std.proofs.lemmas.List.{take-append-drop, length-append, length-take, get_or-drop, get_or-take, get_or_past}
+use Rattle.std.proofs.lemmas.List.{take-append-drop, length-take, get_or-drop, get_or-take, get_or_past}
 use Rattle.std.proofs.lemmas.Nat.{le_bytes_2, le_bytes_4, le_bytes_8}
 use Rattle.byteorder.specs.Endian.{little_from}
-use Rattle.byteorder.specs.Numbers.{little_number-reads_back, little_from-lt, little_from-take, length-bytes_low_first}
+use Rattle.byteorder.specs.Numbers.{little_number-reads_back, little_from-lt, little_from-take}
 use Rattle.sst_blocks.specs.declared.version.TableVersion.{TableVersion}
 use Rattle.sst_blocks.specs.declared.version.TableVersion.TheVariants.{V3, V4}
 use Rattle.sst_blocks.specs.Version.{key_width, key_limit, key_len_bytes, key_len_at}
@@ -45,8 +45,8 @@ unfolding num2 le2
 wide2 = record {
   len = λ n. refl;
   front = λ bytes long fits.
-    let first = le_bytes_2 (take 2 bytes) (little_from 0 2 bytes) (omega (arith, length-take 2 bytes)) (IsBytes-take 2 bytes fits) (sym (little_from-take 0 2 2 bytes (omega arith)) ∙ same2 (take 2 bytes)) in
-    sym (take-append-drop 2 bytes) ∙ ap (λ (x : List ℕ). x ++ drop 2 bytes) (sym first);
+      let first = le_bytes_2 (take 2 bytes) (little_from 0 2 bytes) (omega (arith, length-take 2 bytes)) (IsBytes-take 2 bytes fits) (sym (little_from-take 0 2 2 bytes (omega arith)) ∙ same2 (take 2 bytes)) in
+      sym (take-append-drop 2 bytes) ∙ ap (λ (x : List ℕ). x ++ drop 2 bytes) (sym first);
   again = λ n rest lt. little_number-reads_back 2 n rest lt;
   below = λ bytes fits. little_from-lt 0 2 bytes fits;
 }
@@ -56,8 +56,8 @@ unfolding num4 le4
 wide4 = record {
   len = λ n. refl;
   front = λ bytes long fits.
-    let first = le_bytes_4 (take 4 bytes) (little_from 0 4 bytes) (omega (arith, length-take 4 bytes)) (IsBytes-take 4 bytes fits) (sym (little_from-take 0 4 4 bytes (omega arith)) ∙ same4 (take 4 bytes)) in
-    sym (take-append-drop 4 bytes) ∙ ap (λ (x : List ℕ). x ++ drop 4 bytes) (sym first);
+      let first = le_bytes_4 (take 4 bytes) (little_from 0 4 bytes) (omega (arith, length-take 4 bytes)) (IsBytes-take 4 bytes fits) (sym (little_from-take 0 4 4 bytes (omega arith)) ∙ same4 (take 4 bytes)) in
+      sym (take-append-drop 4 bytes) ∙ ap (λ (x : List ℕ). x ++ drop 4 bytes) (sym first);
   again = λ n rest lt. little_number-reads_back 4 n rest lt;
   below = λ bytes fits. little_from-lt 0 4 bytes fits;
 }
@@ -67,8 +67,8 @@ unfolding num8 le8
 wide8 = record {
   len = λ n. refl;
   front = λ bytes long fits.
-    let first = le_bytes_8 (take 8 bytes) (little_from 0 8 bytes) (omega (arith, length-take 8 bytes)) (IsBytes-take 8 bytes fits) (sym (little_from-take 0 8 8 bytes (omega arith)) ∙ same8 (take 8 bytes)) in
-    sym (take-append-drop 8 bytes) ∙ ap (λ (x : List ℕ). x ++ drop 8 bytes) (sym first);
+      let first = le_bytes_8 (take 8 bytes) (little_from 0 8 bytes) (omega (arith, length-take 8 bytes)) (IsBytes-take 8 bytes fits) (sym (little_from-take 0 8 8 bytes (omega arith)) ∙ same8 (take 8 bytes)) in
+      sym (take-append-drop 8 bytes) ∙ ap (λ (x : List ℕ). x ++ drop 8 bytes) (sym first);
   again = λ n rest lt. little_number-reads_back 8 n rest lt;
   below = λ bytes fits. little_from-lt 0 8 bytes fits;
 }

@@ -172,5 +172,5 @@ finished_fine w small asc =
     trailer_fine bytes (omega (arith, length-append w.bytes (trailer w), trailer_len w))
     (ap (λ (mark : List ℕ). not (pointwise nat_eq mark trailer_mark)) marked)
     (ap (λ (n : ℕ). list_any (is_past n) (map (section_in bytes) section_names)) end
-      ∙ ap (λ (ss : List (Option Section)). list_any (is_past (length w.bytes)) ss) read
-      ∙ none_past told (length w.bytes) section_names (λ name. section_of-within (length w.bytes) w.started name asc))
+    ∙ ap (λ (ss : List (Option Section)). list_any (is_past (length w.bytes)) ss) read
+    ∙ none_past told (length w.bytes) section_names (λ name. section_of-within (length w.bytes) w.started name asc))

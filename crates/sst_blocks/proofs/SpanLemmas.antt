@@ -1,14 +1,13 @@
 -- Spans: one step at either end, and what a span deals.
-use Rattle.std.proofs.Common.{◌≡◌, refl, sym, ◌∙◌, ap, subst, ℕ, zero, suc, ◌+◌, ◌-◌, ◌<◌, ◌≤◌, Bool, true, false, List, [], ◌∷◌, ◌++◌, length, take, drop, get_or, reverse, arith, inl, inr}
-use Rattle.std.specs.Prelude.{Option, Some, None, Result, Ok, Err, IfOk, IfErr, find, not, if◌then◌else◌, map, cond, min}
-use Rattle.std.specs.List.{slice_get, slice_range}
-use Rattle.std.proofs.lemmas.Bool.{cases_lt}
-use Rattle.std.proofs.lemmas.List.{reverse-append, reverse-reverse, map-append, take_more, drop_more, get_or-drop, length-drop, length-take, take-append-drop, drop_all, drop-take}
+use Rattle.std.proofs.Common.{◌≡◌, refl, sym, ◌∙◌, ap, ℕ, zero, suc, ◌+◌, ◌-◌, ◌<◌, ◌≤◌, Bool, true, false, List, [], ◌∷◌, ◌++◌, length, take, drop, get_or, reverse, arith}
+use Rattle.std.specs.Prelude.{Option, Some, None, Result, Ok, Err, IfOk, IfErr, find, not, cond}
+use Rattle.std.specs.List.{slice_get}
+use Rattle.std.proofs.lemmas.List.{reverse-append, reverse-reverse, map-append, take_more, drop_more, get_or-drop, length-drop}
 use Rattle.std.proofs.lemmas.Option.{slice_get_within, get_or_from_slice_get}
 use Rattle.sst_blocks.specs.declared.error.Error.{Error}
 use Rattle.sst_blocks.specs.declared.error.Error.TheVariants.{OutOfMemory}
 use Rattle.sst_blocks.specs.Span.{Span, left_in, front_length, SpanHas}
-use Rattle.sst_blocks.specs.Stream.{first, but_first, last, but_last, front_of, back_of, all_ok, stopped, stopped_result, Answers, Deals, CanDeal}
+use Rattle.sst_blocks.specs.Stream.{first, but_first, last, but_last, front_of, back_of, all_ok, stopped, Answers, Deals, CanDeal}
 use Rattle.sst_blocks.proofs.StreamLemmas.{deals_by, can_by}
 
 -- ---- fronts that pass a test

@@ -1,6 +1,6 @@
 -- What `Deals` and `CanDeal` give for one call, and how they are proved from an invariant.
-use Rattle.std.proofs.Common.{◌≡◌, refl, sym, ◌∙◌, ap, subst, Bool, true, false, List, [], ◌∷◌, ◌++◌}
-use Rattle.std.specs.Prelude.{Option, Some, None}
+use Rattle.std.proofs.Common.{◌≡◌, refl, sym, subst, Bool, false, List, [], ◌∷◌, ◌++◌}
+use Rattle.std.specs.Prelude.{Option}
 use Rattle.sst_blocks.specs.declared.stream.Direction.{Direction}
 use Rattle.sst_blocks.specs.declared.stream.Direction.TheVariants.{Front, Back}
 use Rattle.sst_blocks.specs.Stream.{first, but_first, last, but_last, deal, NoneStops, Steps, Runs, Deals, CanDeal}

@@ -1,5 +1,5 @@
 -- Blocks in a table's bytes: a header of 24 bytes, then the payload. Which block a load gives, or the first fault that it meets.
-use Rattle.std.specs.Prelude.{◌≡◌, ℕ, ◌+◌, ◌==◌, ◌&&◌, ◌||◌, not, nat_lt, nat_le, nat_eq, Bool, true, false, List, [], ◌∷◌, ◌++◌, length, take, drop, slice_index, slice_range, Option, Some, None, is_some, is_none, unwrap_or, Result, Ok, Err, if◌then◌else◌}
+use Rattle.std.specs.Prelude.{ℕ, ◌+◌, ◌==◌, ◌&&◌, ◌||◌, not, nat_lt, nat_le, Bool, false, List, [], ◌∷◌, ◌++◌, length, take, drop, slice_index, slice_range, Option, Some, None, is_some, is_none, unwrap_or, Result, Ok, Err, if◌then◌else◌}
 use Rattle.sst_blocks.specs.declared.version.TableVersion.{TableVersion}
 use Rattle.sst_blocks.specs.declared.version.TableVersion.TheVariants.{V4}
 use Rattle.sst_blocks.specs.declared.block_type.BlockType.{BlockType}
@@ -96,8 +96,8 @@ load_told body offset size kind =
     let head = slice_range body offset (offset + 24) in
     if nat_lt size 24 || nat_lt (length body) (offset + size) then Err Truncated
     else unless (header_fault kind head)
-      (if not (data_len head == uncompressed_len head) || not (24 + data_len head == size) then Err InvalidHeader
-      else payload_told kind head (slice_range body (offset + 24) (offset + size)))
+    (if not (data_len head == uncompressed_len head) || not (24 + data_len head == size) then Err InvalidHeader
+    else payload_told kind head (slice_range body (offset + 24) (offset + size)))
 
 -- the same with the size that the header says
 unfoldable pub load_at_told : List ℕ → ℕ → BlockType → Result Loaded Error
@@ -105,9 +105,9 @@ load_at_told body position kind =
     let head = slice_range body position (position + 24) in
     if nat_lt (length body) (position + 24) then Err Truncated
     else unless (header_fault kind head)
-      (if not (data_len head == uncompressed_len head) then Err InvalidHeader
-      else (if nat_lt (length body) (position + 24 + data_len head) then Err Truncated
-      else payload_told kind head (slice_range body (position + 24) (position + 24 + data_len head))))
+    (if not (data_len head == uncompressed_len head) then Err InvalidHeader
+    else (if nat_lt (length body) (position + 24 + data_len head) then Err Truncated
+    else payload_told kind head (slice_range body (position + 24) (position + 24 + data_len head))))
 
 -- the entries, and the handles, of a loaded block
 abbrev pub entries_of : Loaded → List Entry

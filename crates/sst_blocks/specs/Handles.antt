@@ -1,5 +1,5 @@
 -- The payload of an index block: the one spelling of a list of handles, what a payload spells, and what a handle reaches.
-use Rattle.std.specs.Prelude.{◌≡◌, ℕ, zero, suc, ◌+◌, ◌<◌, ◌^◌, List, [], ◌∷◌, ◌++◌, length, take, drop, Bool, true, false, ◌&&◌, ◌||◌, not, nat_lt, Option, Some, None, option_and_then, if◌then◌else◌}
+use Rattle.std.specs.Prelude.{ℕ, zero, suc, ◌+◌, ◌<◌, ◌^◌, List, [], ◌∷◌, ◌++◌, length, take, drop, Bool, ◌&&◌, ◌||◌, nat_lt, Option, Some, None, option_and_then, if◌then◌else◌}
 use Rattle.std.specs.List.{flat_map, AllByRecursion}
 use Rattle.std.specs.Option.{option_map}
 use Rattle.sst_blocks.specs.declared.version.TableVersion.{TableVersion}
@@ -9,7 +9,7 @@ use Rattle.sst_blocks.specs.Handle.{Handle}
 use Rattle.sst_blocks.specs.Key.{same_key, key_lt}
 use Rattle.sst_blocks.specs.Number.{le4, le8, num4, num8}
 use Rattle.sst_blocks.specs.Version.{key_width, key_len_bytes, key_len_at, key_limit}
-use Rattle.sst_blocks.specs.Strict.{is_before, IsStrict, is_strict_after}
+use Rattle.sst_blocks.specs.Strict.{IsStrict, is_strict_after}
 use Rattle.std.specs.Prelude.{map}
 
 -- the last entry of a handle's block, as far as the handle tells

@@ -1,5 +1,5 @@
 -- A source stands for the list that it still deals, from the front by `next` and from the back by `next_back`.
-use Rattle.std.specs.Prelude.{◌≡◌, ℕ, ◌<◌, Bool, true, false, List, [], ◌∷◌, map, reverse, Option, Some, None, MatchOption, Result, Ok, Err}
+use Rattle.std.specs.Prelude.{◌≡◌, ℕ, ◌<◌, Bool, false, List, [], ◌∷◌, map, reverse, Option, Some, None, MatchOption, Result, Ok, Err}
 use Rattle.sst_blocks.specs.declared.stream.Direction.{Direction}
 use Rattle.sst_blocks.specs.declared.stream.Direction.TheVariants.{Front, Back}
 use Rattle.sst_blocks.specs.declared.error.Error.{Error}

@@ -13,10 +13,9 @@ use crate::fnv::Fnv1a;
 use crate::index_block::handle_starts;
 use crate::section::SectionWriter;
 use crate::{BlockHandle, BlockOffset, BlockType, CompressionType, Error, Slice, TableVersion};
+pub(crate) use header::Header;
 use std::alloc::{Allocator, Global};
 use std::marker::Model;
-
-pub(crate) use header::Header;
 
 /// A block that was loaded: its payload is in the grammar of its kind. It shares the table's bytes.
 #[derive(Drop)]
@@ -60,7 +59,12 @@ impl<A: Allocator> Block<A> {
     /// The block of a payload, by the version and the checksum that its header says. Refused [`Error::ChecksumMismatch`], then
     /// [`Error::InvalidBlock`], and [`Error::OutOfMemory`].
     #[tactic(auto, unfolding(crate::specs::Block::checked_payload))]
-    pub(crate) fn open(alloc: A, header: Header, kind: BlockType, payload: Slice<A>) -> Result<Block<A>, Error>
+    pub(crate) fn open(
+        alloc: A,
+        header: Header,
+        kind: BlockType,
+        payload: Slice<A>,
+    ) -> Result<Block<A>, Error>
         requires { length payload < 2 ^ 32 }
         ensures { Gives (λ (b : Loaded). b) result (checked_payload header.version header.checksum kind payload) }
     {
@@ -81,7 +85,12 @@ impl<A: Allocator> Block<A> {
 
 /// Where the entries or handles of a payload begin; a filter has none. Refused [`Error::InvalidBlock`] where the payload is not
 /// in the grammar of its kind, and [`Error::OutOfMemory`].
-fn item_starts<A: Allocator>(alloc: A, version: TableVersion, kind: BlockType, payload: &[u8]) -> Result<Vec<u32, A>, Error>
+fn item_starts<A: Allocator>(
+    alloc: A,
+    version: TableVersion,
+    kind: BlockType,
+    payload: &[u8],
+) -> Result<Vec<u32, A>, Error>
     requires { length payload.now < 2 ^ 32 }
     ensures found { IfOk result (λ starts. IsBlock version kind payload.now starts.items) }
     ensures refused { Faults result (grammar_fault version kind payload.now) }

@@ -41,7 +41,12 @@ impl Fnv1a {
 }
 
 /// As [`Fnv1a::update`] of each, in one loop as far as the shorter of the two reaches.
-pub(crate) fn update_both(first: &mut Fnv1a, first_bytes: &[u8], second: &mut Fnv1a, second_bytes: &[u8])
+pub(crate) fn update_both(
+    first: &mut Fnv1a,
+    first_bytes: &[u8],
+    second: &mut Fnv1a,
+    second_bytes: &[u8],
+)
     ensures first { first.new.0 ≡ fnv_from first.old.0 first_bytes.now }
     ensures second { second.new.0 ≡ fnv_from second.old.0 second_bytes.now }
 {

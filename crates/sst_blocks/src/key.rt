@@ -1,6 +1,5 @@
 //! Keys with their number and kind.
 ghost use Rattle.sst_blocks.specs.Key.{key_cmp};
-
 ghost use Rattle.std.proofs.Common.{rules};
 ghost use Rattle.std.specs.Cmp.{partial_order_from_own_ties};
 ghost use Rattle.std.specs.Cmp.Rules.{comparing};

@@ -215,7 +215,11 @@ fn put_slot<A: Allocator>(bytes: &mut Vec<u8, A>, section: Option<Section>) -> R
 }
 
 /// Writes the trailer of a body of `end` bytes.
-fn put_trailer<A: Allocator>(bytes: &mut Vec<u8, A>, end: u64, started: &[(SectionName, u64)]) -> Result<(), Error>
+fn put_trailer<A: Allocator>(
+    bytes: &mut Vec<u8, A>,
+    end: u64,
+    started: &[(SectionName, u64)],
+) -> Result<(), Error>
     ensures ok { OnOk result (bytes.new.items ≡ bytes.old.items ++ (flat_map (λ name. slot (section_of end started.now name)) section_names ++ trailer_mark)) }
     ensures err { IfErr result (λ e. e ≡ OutOfMemory) }
 {

@@ -122,6 +122,7 @@ impl<A: Allocator + Clone> Slice<A> {
         })
     }
 }
+
 impl<A: Allocator> PartialEq for Slice<A> {
     ghost eq = { pointwise nat_eq };
 

@@ -59,19 +59,29 @@ impl<A: Allocator + Clone> BlockSource<A> {
     /// [`Error::InvalidTag`], [`Error::UnsupportedCompression`], [`Error::InvalidHeader`] for lengths that do not agree,
     /// [`Error::ChecksumMismatch`], [`Error::InvalidBlock`]; and [`Error::OutOfMemory`]. Each call counts, also where it
     /// refuses.
-    pub fn load(&self, handle: &BlockHandle, kind: BlockType, opened: &mut Opened) -> Result<Block<A>, Error>
+    pub fn load(
+        &self,
+        handle: &BlockHandle,
+        kind: BlockType,
+        opened: &mut Opened,
+    ) -> Result<Block<A>, Error>
         ensures told { Gives (λ (b : Loaded). b) result (load_told (body_of self.now) handle.now.offset handle.now.size kind) }
         ensures counted { opened.new ≡ counted kind opened.old }
     {
         opened.count(kind);
         let body = self.body();
         let size = handle.size() as usize;
-        if size < HEADER_LEN || body.len() < size || ((body.len() - size) as u64) < handle.offset().0 {
+        if size < HEADER_LEN
+            || body.len() < size
+            || ((body.len() - size) as u64) < handle.offset().0
+        {
             return Err(Error::Truncated);
         }
         let start = handle.offset().0 as usize;
         let header = Header::decode(&body[start..start + HEADER_LEN], kind)?;
-        if header.data_len != header.uncompressed_len || HEADER_LEN + header.data_len as usize != size {
+        if header.data_len != header.uncompressed_len
+            || HEADER_LEN + header.data_len as usize != size
+        {
             return Err(Error::InvalidHeader);
         }
         self.block(header, kind, start + HEADER_LEN, start + size)
@@ -79,7 +89,12 @@ impl<A: Allocator + Clone> BlockSource<A> {
 
     /// The block of a kind that begins at a position, with the size that its header says. Refused as [`BlockSource::load`];
     /// a payload that passes the body is [`Error::Truncated`]. Each call counts, also where it refuses.
-    pub fn load_at(&self, position: u64, kind: BlockType, opened: &mut Opened) -> Result<Block<A>, Error>
+    pub fn load_at(
+        &self,
+        position: u64,
+        kind: BlockType,
+        opened: &mut Opened,
+    ) -> Result<Block<A>, Error>
         ensures told { Gives (λ (b : Loaded). b) result (load_at_told (body_of self.now) position kind) }
         ensures counted { opened.new ≡ counted kind opened.old }
     {
@@ -110,7 +125,13 @@ impl<A: Allocator + Clone> BlockSource<A> {
     }
 
     /// The block whose header was read and whose payload lies from `start` up to `end`.
-    fn block(&self, header: Header, kind: BlockType, start: usize, end: usize) -> Result<Block<A>, Error>
+    fn block(
+        &self,
+        header: Header,
+        kind: BlockType,
+        start: usize,
+        end: usize,
+    ) -> Result<Block<A>, Error>
         requires ordered { start ≤ end }
         requires within { end ≤ length (body_of self.now) }
         requires short { end < start + 2 ^ 32 }

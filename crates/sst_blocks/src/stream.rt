@@ -54,7 +54,9 @@ pub fn answers_at<I: DoubleEndedIterator<Item = Result<X, Error>>, X: Drop, A: A
 }
 
 /// A vector's iterator, which deals the vector's items whatever errors are among them.
-pub fn source_of<X: Drop, A: Allocator>(items: Vec<Result<X, Error>, A>) -> std::vec::IntoIter<Result<X, Error>, A>
+pub fn source_of<X: Drop, A: Allocator>(
+    items: Vec<Result<X, Error>, A>,
+) -> std::vec::IntoIter<Result<X, Error>, A>
     ensures { (stops : Error → Bool) → Deals (stopped stops) ⟦<std::vec::IntoIter<Result<X, Error>, A> as Iterator>⟧.next_gives ⟦<std::vec::IntoIter<Result<X, Error>, A> as DoubleEndedIterator>⟧.next_back_gives result items.items }
 {
     items.into_iter()

@@ -17,7 +17,10 @@ ghost use Rattle.lsm_writers.specs.Layout.{laid};
 use crate::writer::index::{BlockIndexWriter, FullIndexWriter};
 use crate::writer::meta::Metadata;
 use crate::writer::options::WriterOptions;
-use sst_blocks::{Block, BlockHandle, BlockOffset, BlockType, CompressionType, DataBlock, Error, InternalValue, KeyedBlockHandle, SectionName, SectionWriter};
+use sst_blocks::{
+    Block, BlockHandle, BlockOffset, BlockType, CompressionType, DataBlock, Error, InternalValue,
+    KeyedBlockHandle, SectionName, SectionWriter,
+};
 use std::alloc::{Allocator, Global};
 use std::marker::Model;
 
@@ -99,8 +102,18 @@ impl<A: Allocator + Clone> DataBlocks<A> {
         let end_key = last.key.user_key.clone()?;
         let last_key = end_key.clone()?;
         self.block_buffer.clear();
-        DataBlock::encode_into(&mut self.block_buffer, chunk, options.data_block_restart_interval, options.data_block_hash_ratio)?;
-        let place = Block::write_into(&mut self.file_writer, &self.block_buffer, BlockType::Data, CompressionType::None)?;
+        DataBlock::encode_into(
+            &mut self.block_buffer,
+            chunk,
+            options.data_block_restart_interval,
+            options.data_block_hash_ratio,
+        )?;
+        let place = Block::write_into(
+            &mut self.file_writer,
+            &self.block_buffer,
+            BlockType::Data,
+            CompressionType::None,
+        )?;
         let handle = KeyedBlockHandle::new(end_key, seqno, place);
         self.index_writer.register_data_block(&handle)?;
         let file_pos = self.file_writer.position();

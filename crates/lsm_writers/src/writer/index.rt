@@ -3,7 +3,6 @@
 pub mod full;
 
 pub use full::FullIndexWriter;
-
 use sst_blocks::{CompressionType, Error, KeyedBlockHandle, SectionWriter};
 use std::alloc::Allocator;
 

@@ -105,7 +105,11 @@ impl<A: Allocator> Metadata<A> {
     ghost use Rattle.lsm_writers.specs.Counts.{counted, HasRoom};
 
     /// Counts one more entry, after the one before it. Refused [`Error::OutOfMemory`]; nothing changes then.
-    pub(crate) fn count(&mut self, before: Option<&InternalValue<A>>, item: &InternalValue<A>) -> Result<(), Error>
+    pub(crate) fn count(
+        &mut self,
+        before: Option<&InternalValue<A>>,
+        item: &InternalValue<A>,
+    ) -> Result<(), Error>
         requires { HasRoom self.old }
         ensures ok { OnOk result (self.new ≡ counted (option_copied before.entry) item.now self.old) }
         ensures unchanged { OnErr result (self.new ≡ self.old) }

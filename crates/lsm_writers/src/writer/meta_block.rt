@@ -68,7 +68,11 @@ fn put_block_items<A: Allocator + Clone>(
     put(items, b"compression#index", &[0])?;
     put(items, b"crate_version", b"3.1.10")?;
     put_u128(items, b"created_at", *label.created_at)?;
-    put_u32(items, b"data_block_hash_ratio", options.data_block_hash_ratio)?;
+    put_u32(
+        items,
+        b"data_block_hash_ratio",
+        options.data_block_hash_ratio,
+    )?;
     put_u64(items, b"file_size", meta.file_pos.0)?;
     Ok(())
 }
@@ -104,8 +108,16 @@ fn put_option_items<A: Allocator + Clone>(
 {
     put(items, b"prefix_truncation#data", &[0])?;
     put(items, b"prefix_truncation#index", &[0])?;
-    put(items, b"restart_interval#data", &[options.data_block_restart_interval])?;
-    put(items, b"restart_interval#index", &[options.index_block_restart_interval])?;
+    put(
+        items,
+        b"restart_interval#data",
+        &[options.data_block_restart_interval],
+    )?;
+    put(
+        items,
+        b"restart_interval#index",
+        &[options.index_block_restart_interval],
+    )?;
     put_u64(items, b"seqno#max", meta.highest_seqno)?;
     put_u64(items, b"seqno#min", meta.lowest_seqno)?;
     put_u64(items, b"table_id", label.table_id)?;
@@ -114,14 +126,25 @@ fn put_option_items<A: Allocator + Clone>(
 }
 
 /// The other counts.
-fn put_count_items<A: Allocator + Clone>(items: &mut Vec<InternalValue<A>, A>, meta: &Metadata<A>) -> Result<(), Error>
+fn put_count_items<A: Allocator + Clone>(
+    items: &mut Vec<InternalValue<A>, A>,
+    meta: &Metadata<A>,
+) -> Result<(), Error>
     ensures ok { OnOk result (items.new.items ≡ items.old.items ++ count_items (counted_facts meta.now) meta.now.uncompressed_size) }
     ensures err { IfErr result (λ e. e ≡ OutOfMemory) }
 {
     put_u64(items, b"tombstone_count", meta.tombstone_count as u64)?;
     put_u64(items, b"user_data_size", meta.uncompressed_size)?;
-    put_u64(items, b"weak_tombstone_count", meta.weak_tombstone_count as u64)?;
-    put_u64(items, b"weak_tombstone_reclaimable", meta.weak_tombstone_reclaimable_count as u64)?;
+    put_u64(
+        items,
+        b"weak_tombstone_count",
+        meta.weak_tombstone_count as u64,
+    )?;
+    put_u64(
+        items,
+        b"weak_tombstone_reclaimable",
+        meta.weak_tombstone_reclaimable_count as u64,
+    )?;
     Ok(())
 }
 
@@ -136,7 +159,11 @@ fn bytes_of<A: Allocator>(key: &Option<UserKey<A>>) -> &[u8]
 }
 
 #[tactic(auto, unfolding(sst_blocks::specs::Number::le4))]
-fn put_u32<A: Allocator + Clone>(items: &mut Vec<InternalValue<A>, A>, name: &[u8], value: u32) -> Result<(), Error>
+fn put_u32<A: Allocator + Clone>(
+    items: &mut Vec<InternalValue<A>, A>,
+    name: &[u8],
+    value: u32,
+) -> Result<(), Error>
     ensures ok { OnOk result (items.new.items ≡ items.old.items ++ meta_entry name.now (le4 value) ∷ []) }
     ensures err { IfErr result (λ e. e ≡ OutOfMemory) }
 {
@@ -144,7 +171,11 @@ fn put_u32<A: Allocator + Clone>(items: &mut Vec<InternalValue<A>, A>, name: &[u
 }
 
 #[tactic(auto, unfolding(sst_blocks::specs::Number::le8))]
-fn put_u64<A: Allocator + Clone>(items: &mut Vec<InternalValue<A>, A>, name: &[u8], value: u64) -> Result<(), Error>
+fn put_u64<A: Allocator + Clone>(
+    items: &mut Vec<InternalValue<A>, A>,
+    name: &[u8],
+    value: u64,
+) -> Result<(), Error>
     ensures ok { OnOk result (items.new.items ≡ items.old.items ++ meta_entry name.now (le8 value) ∷ []) }
     ensures err { IfErr result (λ e. e ≡ OutOfMemory) }
 {
@@ -152,7 +183,11 @@ fn put_u64<A: Allocator + Clone>(items: &mut Vec<InternalValue<A>, A>, name: &[u
 }
 
 #[tactic(auto, unfolding(sst_blocks::specs::Number::le16))]
-fn put_u128<A: Allocator + Clone>(items: &mut Vec<InternalValue<A>, A>, name: &[u8], value: u128) -> Result<(), Error>
+fn put_u128<A: Allocator + Clone>(
+    items: &mut Vec<InternalValue<A>, A>,
+    name: &[u8],
+    value: u128,
+) -> Result<(), Error>
     ensures ok { OnOk result (items.new.items ≡ items.old.items ++ meta_entry name.now (le16 value) ∷ []) }
     ensures err { IfErr result (λ e. e ≡ OutOfMemory) }
 {
@@ -161,7 +196,11 @@ fn put_u128<A: Allocator + Clone>(items: &mut Vec<InternalValue<A>, A>, name: &[
 }
 
 /// One item more. Refused [`Error::OutOfMemory`] alone.
-fn put<A: Allocator + Clone>(items: &mut Vec<InternalValue<A>, A>, name: &[u8], value: &[u8]) -> Result<(), Error>
+fn put<A: Allocator + Clone>(
+    items: &mut Vec<InternalValue<A>, A>,
+    name: &[u8],
+    value: &[u8],
+) -> Result<(), Error>
     ensures ok { OnOk result (items.new.items ≡ items.old.items ++ meta_entry name.now value.now ∷ []) }
     ensures err { IfErr result (λ e. e ≡ OutOfMemory) }
 {

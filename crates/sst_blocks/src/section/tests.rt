@@ -1,6 +1,9 @@
 use crate::block::Header;
 use crate::fnv::{Fnv1a, update_both};
-use crate::{Block, BlockOffset, BlockSource, BlockType, CompressionType, Error, Section, SectionName, SectionWriter, Slice, TableVersion, stored_table};
+use crate::{
+    Block, BlockOffset, BlockSource, BlockType, CompressionType, Error, Section, SectionName,
+    SectionWriter, Slice, TableVersion, stored_table,
+};
 use refusing::each_refused;
 use std::alloc::Allocator;
 use std::test::Fail;
@@ -26,7 +29,11 @@ fn hashes_alone_and_two_at_once(rt: HostRuntime) -> Result<(), Fail> {
             let mut one = Fnv1a::new();
             let mut other = Fnv1a::new();
             update_both(&mut one, bytes, &mut other, other_bytes);
-            assert_eq!(rt; (one.finish(), other.finish()), (hash, other_hash), "of {bytes:?} and {other_bytes:?}");
+            assert_eq!(rt;
+                (one.finish(), other.finish()),
+                (hash, other_hash),
+                "of {bytes:?} and {other_bytes:?}"
+            );
         }
     }
     Ok(())
@@ -71,7 +78,8 @@ fn a_stored_table_is_written_again(rt: HostRuntime) -> Result<(), Fail> {
         assert_eq!(rt; source.toc().section(name), expected, "{name:?}");
     }
     let refused = each_refused(rt.alloc(), |heap, may_fail| match write_again(heap) {
-        Ok((bytes, checksum)) => bytes.as_slice() == stored_table::bytes().as_slice() && checksum == 0x30fc_eabc_de57_bd50,
+        Ok((bytes, checksum)) => bytes.as_slice() == stored_table::bytes().as_slice()
+            && checksum == 0x30fc_eabc_de57_bd50,
         Err(Error::OutOfMemory) => may_fail,
         Err(_) => false,
     });
@@ -89,14 +97,27 @@ fn headers_and_blocks_as_bytes(rt: HostRuntime) -> Result<(), Fail> {
         checksum: 0x1c39_83e9_2eaf_2c44,
     };
     assert!(rt; stored_table::bytes().starts_with(&old.encode(BlockType::Data)));
-    let payload = [1, 0, 0, 0, 0, 1, 0, 0, 0, 0, 0, 0, 0, 1, 0, 0, 0, 1, 0, 0, 0, b'a', b'x'];
+    let payload = [
+        1, 0, 0, 0, 0, 1, 0, 0, 0, 0, 0, 0, 0, 1, 0, 0, 0, 1, 0, 0, 0, b'a', b'x',
+    ];
     let header = [
-        0x4c, 0x42, 0x4b, 0x32, 0, 0, 0, 0, 0x17, 0, 0, 0, 0x17, 0, 0, 0, 0x24, 0x49, 0xa9, 0x5e, 0x44, 0x4c, 0x6e, 0x97,
+        0x4c, 0x42, 0x4b, 0x32, 0, 0, 0, 0, 0x17, 0, 0, 0, 0x17, 0, 0, 0, 0x24, 0x49, 0xa9, 0x5e,
+        0x44, 0x4c, 0x6e, 0x97,
     ];
     let mut writer = SectionWriter::new(rt.alloc())?;
     writer.start(SectionName::Data)?;
-    let first = Block::write_into(&mut writer, &payload, BlockType::Data, CompressionType::None)?;
-    let second = Block::write_into(&mut writer, b"\x06\xff", BlockType::Filter, CompressionType::None)?;
+    let first = Block::write_into(
+        &mut writer,
+        &payload,
+        BlockType::Data,
+        CompressionType::None,
+    )?;
+    let second = Block::write_into(
+        &mut writer,
+        b"\x06\xff",
+        BlockType::Filter,
+        CompressionType::None,
+    )?;
     assert_eq!(rt; (first.offset(), first.size()), (BlockOffset(0), 47));
     assert_eq!(rt; (second.offset(), second.size()), (BlockOffset(47), 26));
     assert_eq!(rt; writer.position(), 73);

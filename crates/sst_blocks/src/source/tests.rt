@@ -1,4 +1,7 @@
-use crate::{Block, BlockHandle, BlockOffset, BlockSource, BlockType, CompressionType, Counted, Error, LoadBlocks, Opened, SectionName, SectionWriter, Slice, TagName, stored_table};
+use crate::{
+    Block, BlockHandle, BlockOffset, BlockSource, BlockType, CompressionType, Counted, Error,
+    LoadBlocks, Opened, SectionName, SectionWriter, Slice, TagName, stored_table,
+};
 use refusing::each_refused;
 use std::alloc::{Allocator, Global};
 use std::test::Fail;
@@ -98,14 +101,40 @@ fn bytes_without_a_trailer(rt: HostRuntime) -> Result<(), Fail> {
         // one byte past the end of the body
         (&[(1242, 0x12)], false),
         // a position of 2^64 - 1: the sum of both is 44 where it wraps
-        (&[(1138, ff), (1139, ff), (1140, ff), (1141, ff), (1142, ff), (1143, ff), (1144, ff), (1145, ff)], false),
+        (
+            &[
+                (1138, ff),
+                (1139, ff),
+                (1140, ff),
+                (1141, ff),
+                (1142, ff),
+                (1143, ff),
+                (1144, ff),
+                (1145, ff),
+            ],
+            false,
+        ),
         // up to the end of the body
         (&[(1146, 0x72), (1147, 0x04)], true),
         // no data section
         (
             &[
-                (1138, ff), (1139, ff), (1140, ff), (1141, ff), (1142, ff), (1143, ff), (1144, ff), (1145, ff), (1146, ff),
-                (1147, ff), (1148, ff), (1149, ff), (1150, ff), (1151, ff), (1152, ff), (1153, ff),
+                (1138, ff),
+                (1139, ff),
+                (1140, ff),
+                (1141, ff),
+                (1142, ff),
+                (1143, ff),
+                (1144, ff),
+                (1145, ff),
+                (1146, ff),
+                (1147, ff),
+                (1148, ff),
+                (1149, ff),
+                (1150, ff),
+                (1151, ff),
+                (1152, ff),
+                (1153, ff),
             ],
             true,
         ),
@@ -114,7 +143,11 @@ fn bytes_without_a_trailer(rt: HostRuntime) -> Result<(), Fail> {
         let answer = BlockSource::new(rt.alloc(), changed(rt.alloc(), changes)?);
         match answer {
             Ok(_) => assert!(rt; is_taken, "{changes:?}"),
-            Err(error) => assert_eq!(rt; (error, is_taken), (Error::InvalidTrailer, false), "{changes:?}"),
+            Err(error) => assert_eq!(rt;
+                (error, is_taken),
+                (Error::InvalidTrailer, false),
+                "{changes:?}"
+            ),
         }
     }
     Ok(())
@@ -187,16 +220,32 @@ fn each_request_of_a_load_refused(rt: HostRuntime) -> Result<(), Fail> {
         Err(Error::OutOfMemory) => may_fail,
         Err(_) => false,
     });
-    assert!(rt; matches!(refused, Ok(requests) if requests > 3), "{refused:?}");
+    assert!(rt;
+        matches!(refused, Ok(requests) if requests > 3),
+        "{refused:?}"
+    );
     Ok(())
 }
 
 // Writes a filter block and loads it again.
-fn write_and_load<A: Allocator + Clone>(alloc: A, payload: &[u8; 2], is_short: bool) -> Result<(BlockType, usize), Error> {
-    let payload = if is_short { &payload[..1] } else { &payload[..2] };
+fn write_and_load<A: Allocator + Clone>(
+    alloc: A,
+    payload: &[u8; 2],
+    is_short: bool,
+) -> Result<(BlockType, usize), Error> {
+    let payload = if is_short {
+        &payload[..1]
+    } else {
+        &payload[..2]
+    };
     let mut writer = SectionWriter::new(alloc.clone()?)?;
     writer.start(SectionName::Filter)?;
-    let lies = Block::write_into(&mut writer, payload, BlockType::Filter, CompressionType::None)?;
+    let lies = Block::write_into(
+        &mut writer,
+        payload,
+        BlockType::Filter,
+        CompressionType::None,
+    )?;
     let (bytes, _checksum) = writer.finish()?;
     let source = BlockSource::new(alloc, bytes)?;
     let mut opened = Opened::none();

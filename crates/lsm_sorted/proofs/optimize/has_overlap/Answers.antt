@@ -1,5 +1,5 @@
 -- Some table overlaps where those that overlap are not none.
-use Rattle.std.proofs.Common.{◌≡◌, ◌∙◌, ap, length}
+use Rattle.std.proofs.Common.{◌∙◌, ap, length}
 use Rattle.std.specs.Prelude.{not, ◌==◌}
 use Rattle.lsm_sorted.specs.KeyRange.{overlaps}
 use Rattle.lsm_sorted.proofs.PackLemmas.{any_filter}

@@ -1,7 +1,7 @@
 -- Where a table overlaps, the first of those that overlap is there.
 use Rattle.std.proofs.Common.{◌≡◌, ◌∙◌, sym, ap, rules, arith, true}
 use Rattle.std.proofs.lemmas.Bool.{both_ways}
-use Rattle.lsm_sorted.specs.KeyRange.{Interval, overlaps}
+use Rattle.lsm_sorted.specs.KeyRange.{overlaps}
 use Rattle.lsm_sorted.specs.Packing.{touches}
 use Rattle.lsm_sorted.specs.declared.optimize.Link.{Link}
 use Rattle.lsm_sorted.proofs.LinkLemmas.{first_passes, first_found}

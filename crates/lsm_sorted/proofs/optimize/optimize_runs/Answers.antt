@@ -1,5 +1,5 @@
 -- What holds of the tables of the runs once they were put in one after the other.
-use Rattle.std.proofs.Common.{◌≡◌, ◌∙◌, sym, ap, subst, [], length, rules}
+use Rattle.std.proofs.Common.{◌∙◌, sym, ap, subst, [], length, rules}
 use Rattle.lsm_sorted.specs.Packing.{holders, tables_of, ArePacked, IsLeastSize}
 use Rattle.lsm_sorted.proofs.PackLemmas.{put_all_holders, put_all_packed, if_ok}
 use Rattle.lsm_sorted.proofs.PackSize.{least_size, least_single}

@@ -1,6 +1,6 @@
 -- The walk goes down runs of links to all tables.
-use Rattle.std.proofs.Common.{◌≡◌, ◌∙◌, sym, ap, subst}
-use Rattle.lsm_sorted.specs.Packing.{IsChain, AreNotEmpty, tables_of}
+use Rattle.std.proofs.Common.{sym, subst}
+use Rattle.lsm_sorted.specs.Packing.{IsChain}
 use Rattle.lsm_sorted.specs.Links.{tags}
 use Rattle.lsm_sorted.specs.LinkedRuns.{ArePackedLinks}
 use Rattle.lsm_sorted.proofs.ChainLemmas.{places_of, no_chain, chain_least, chain_some}

@@ -1,5 +1,5 @@
 -- A table goes into the run behind the last one that it touches, or starts a new one.
-use Rattle.std.proofs.Common.{◌≡◌, ◌∙◌, ap, length, arith, ◌++◌, ◌∷◌, []}
+use Rattle.std.proofs.Common.{◌∙◌, ap, length, arith, ◌++◌, ◌∷◌, []}
 use Rattle.lsm_sorted.proofs.PackLemmas.{placed_in, placed_behind, permutes_in, permutes_behind, not_empty_in, not_empty_behind}
 use Rattle.lsm_sorted.proofs.optimize.place.Goals as goal
 

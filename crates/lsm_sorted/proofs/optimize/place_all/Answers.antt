@@ -1,7 +1,4 @@
 -- One more table is put in.
-use Rattle.std.proofs.Common.{sym, subst, append-nil}
-use Rattle.std.specs.Prelude.{IsPermutation}
-use Rattle.std.proofs.lemmas.List.Sorted.{IsPermutation-refl}
 use Rattle.lsm_sorted.specs.Packing.{tables_of}
 use Rattle.lsm_sorted.proofs.PackLemmas.{put_more, permutes_more}
 use Rattle.lsm_sorted.proofs.optimize.place_all.Goals as goal

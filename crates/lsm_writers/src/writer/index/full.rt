@@ -2,7 +2,10 @@
 ghost use Rattle.std.specs.Prelude.{◌≡◌, [], false};
 
 use crate::writer::index::BlockIndexWriter;
-use sst_blocks::{Block, BlockType, CompressionType, Error, IndexBlock, KeyedBlockHandle, SectionName, SectionWriter};
+use sst_blocks::{
+    Block, BlockType, CompressionType, Error, IndexBlock, KeyedBlockHandle, SectionName,
+    SectionWriter,
+};
 use std::alloc::{Allocator, Global};
 use std::marker::Model;
 

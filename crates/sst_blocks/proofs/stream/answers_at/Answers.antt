@@ -1,4 +1,4 @@
-use Rattle.std.proofs.Common.{◌<◌, length, subst, take, List, ◌++◌, ◌∷◌, [], sym, arith}
+use Rattle.std.proofs.Common.{◌<◌, length, arith}
 use Rattle.std.proofs.lemmas.List.{take_more}
 use Rattle.sst_blocks.specs.declared.stream.Direction.TheVariants.{Front}
 use Rattle.sst_blocks.proofs.StreamLemmas.{runs_more}

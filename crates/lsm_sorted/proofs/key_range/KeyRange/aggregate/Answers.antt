@@ -1,7 +1,7 @@
 -- One more range moves the ends on; the ends along all are those of the span.
-use Rattle.std.proofs.Common.{◌≡◌, ◌∙◌, sym, ap, arith, rules, ◌∷◌, drop}
+use Rattle.std.proofs.Common.{arith}
 use Rattle.std.proofs.lemmas.List.{at_drop_more}
-use Rattle.lsm_sorted.specs.KeyRange.{interval, intervals}
+use Rattle.lsm_sorted.specs.KeyRange.{intervals}
 use Rattle.lsm_sorted.proofs.SpanLemmas.{span_from, aggregate_at_end}
 use Rattle.lsm_sorted.proofs.key_range.KeyRange.aggregate.Goals as goal
 

@@ -1,5 +1,5 @@
 -- A range that overlaps no later one may be left out.
-use Rattle.std.proofs.Common.{◌≡◌, ◌∙◌, sym, arith, rules}
+use Rattle.std.proofs.Common.{◌∙◌, sym, arith}
 use Rattle.lsm_sorted.proofs.SpanLemmas.{disjoint_rest, disjoint_stops}
 use Rattle.lsm_sorted.proofs.key_range.KeyRange.is_disjoint.Goals as goal
 

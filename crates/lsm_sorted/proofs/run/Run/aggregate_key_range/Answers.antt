@@ -1,5 +1,5 @@
 -- The least key of the first and the greatest of the last.
-use Rattle.std.proofs.Common.{◌≡◌, ◌∙◌, sym, ap, subst, Some, ◌<◌, ◌-◌, length, get_or, arith}
+use Rattle.std.proofs.Common.{◌≡◌, ◌∙◌, sym, ap, subst, Some, ◌<◌, length}
 use Rattle.std.specs.Prelude.{map}
 use Rattle.lsm_sorted.specs.KeyRange.{interval}
 use Rattle.lsm_sorted.specs.Run.{first_to_last}

@@ -1,5 +1,5 @@
 -- Of the tables that do not end before the key, the first decides.
-use Rattle.std.proofs.Common.{◌≡◌, ◌∙◌, sym, ap, subst, rules, true, Some, None}
+use Rattle.std.proofs.Common.{◌≡◌, ◌∙◌, sym, ap, subst, rules, true}
 use Rattle.std.specs.Prelude.{map, find}
 use Rattle.lsm_sorted.specs.KeyRange.{has_key}
 use Rattle.lsm_sorted.specs.Run.{in_order}

@@ -1,5 +1,5 @@
 -- One more table goes on above the last one, or does not.
-use Rattle.std.proofs.Common.{◌≡◌, ◌∙◌, sym, ap, rules, arith, None, Some, refl, drop, ◌+◌}
+use Rattle.std.proofs.Common.{◌∙◌, sym, ap, arith, None, Some, drop, ◌+◌}
 use Rattle.std.specs.Prelude.{map}
 use Rattle.std.specs.Option.{option_copied}
 use Rattle.lsm_sorted.proofs.RunLemmas.{goes_on, stops, ended, ascends_from_first, ascends_after}

@@ -1,5 +1,5 @@
 -- The places that start within the upper bound, of those that do not end before the lower one.
-use Rattle.std.proofs.Common.{◌≡◌, ◌∙◌, sym}
+use Rattle.std.proofs.Common.{◌∙◌, sym}
 use Rattle.lsm_sorted.specs.KeyRange.{bound_of}
 use Rattle.lsm_sorted.proofs.RunLemmas.{indexes_found, places-none, places-some}
 use Rattle.lsm_sorted.proofs.run.Run.range_overlap_indexes.Goals as goal

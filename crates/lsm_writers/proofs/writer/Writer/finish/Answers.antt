@@ -104,15 +104,15 @@ returns-clause-table g c =
     let front : Sections = (Data, data_section V4 cut) ∷ index_sections V4 cut in
     let index : c.in_ok-file_writer.file_writer ≡ laid front = c.in_ok-file_writer.ensures.ok ∙ ap (λ (cs : List (List Entry)). laid ((Data, data_section V4 cs) ∷ index_sections V4 cs)) c.in_ok-cut.ensures.ok in
     let bytes : c.in_ok-bytes.bytes ≡ file V4 i.label i.options cut =
-      c.in_ok-bytes.ensures.bytes
-      ∙ ap (λ (w : Written). finished (appended w (end_sections c.deref.result.now))) index
-      ∙ ap (λ (es : List Entry). finished (appended (laid front) (end_sections es))) items
-      ∙ ap finished (laid_more front (closing_sections V4 i.label i.options cut)) in
+    c.in_ok-bytes.ensures.bytes
+    ∙ ap (λ (w : Written). finished (appended w (end_sections c.deref.result.now))) index
+    ∙ ap (λ (es : List Entry). finished (appended (laid front) (end_sections es))) items
+    ∙ ap finished (laid_more front (closing_sections V4 i.label i.options cut)) in
     let w : Writing = record { label = i.label; options = i.options; cut = i.blocks.chunks; pending = i.chunk.items; failed = i.failed } in
     let made : IsFinished w c.label.inside.table_id c.in_ok-bytes.checksum.0 c.in_ok-bytes.bytes = record {
       some = λ e.
-        let zero : c.cut.new.meta.item_count ≡ 0 = ap (λ (m : Metadata g.row.A.Denot). m.item_count) meta ∙ ap length (chunks.whole ∙ e) in
-        c.if-self-eq0.false zero;
+          let zero : c.cut.new.meta.item_count ≡ 0 = ap (λ (m : Metadata g.row.A.Denot). m.item_count) meta ∙ ap length (chunks.whole ∙ e) in
+          c.if-self-eq0.false zero;
       id_is = ap (λ (l : Label). l.table_id) c.label.view_is;
       checksum_is = c.in_ok-bytes.ensures.checksum ∙ ap fnv1a (sym c.in_ok-bytes.ensures.bytes);
       file_is = record { blocks = cut; chunks = chunks; are = bytes };

@@ -84,10 +84,10 @@ invariant_of-self-2 g c =
     let more = held_more size cut i.chunk.items i.chunk_size i.meta e c.self.invariant.0 (c.self.invariant.1.room c.if-self.false) next ok in
     elim c.if-self-options.branch [
       | then-self-options+in_ok-cut w ↦
-        let after = w.in_ok-cut.ensures in
-        let held = held_cut size cut (i.chunk.items ++ e ∷ []) _ _ more in
-        rw (w.self-inside-is, after.taken, after.counted, after.ok, pushed, meta) (held, record { works = λ _. after.works; room = λ _. tt })
+          let after = w.in_ok-cut.ensures in
+          let held = held_cut size cut (i.chunk.items ++ e ∷ []) _ _ more in
+          rw (w.self-inside-is, after.taken, after.counted, after.ok, pushed, meta) (held, record { works = λ _. after.works; room = λ _. tt })
       | else-self-options w ↦
-        let below : (i.chunk_size + entry_size e) < size = omega (arith, w.if-self-options.false, ap (λ (o : Options). o.data_block_size) c.options.view_is, c.len.ensures.value, c.len-2.ensures.value) in
-        rw (w.self-inside-is, pushed, meta, c.len.ensures.value, c.len-2.ensures.value) (more, record { works = λ _. c.self.invariant.1.works c.if-self.false; room = λ _. not_full size _ _ more.sized below })
+          let below : (i.chunk_size + entry_size e) < size = omega (arith, w.if-self-options.false, ap (λ (o : Options). o.data_block_size) c.options.view_is, c.len.ensures.value, c.len-2.ensures.value) in
+          rw (w.self-inside-is, pushed, meta, c.len.ensures.value, c.len-2.ensures.value) (more, record { works = λ _. c.self.invariant.1.works c.if-self.false; room = λ _. not_full size _ _ more.sized below })
     ]

@@ -7,4 +7,3 @@ loop-byte-init c = sym (fnv_from-none c.args.self.now.0)
 
 pub loop-byte-preserved : goal.loop-byte-preserved
 loop-byte-preserved c = let more = fnv_from-more c.args.self.now.0 c.args.bytes.now c.loop-byte.byte-index (omega arith) in cc
-

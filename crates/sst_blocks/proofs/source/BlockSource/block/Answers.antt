@@ -12,5 +12,5 @@ returns g c =
     let within : c.args.end ≤ length bytes - 120 = omega (arith, c.requires.within, length-take (length bytes - 120) bytes) in
     let part = slice_range_front (body_of bytes) bytes c.args.start c.args.end (length bytes - 120) refl within in
     let cut : c.in_ok-payload.payload ≡ slice_range bytes c.args.start c.args.end =
-      ◌∙◌ {b = slice_range c.self.inside.bytes c.args.start c.args.end} c.in_ok-payload.ensures.ok (ap (λ (xs : List ℕ). slice_range xs c.args.start c.args.end) c.self.view_is) in
+    ◌∙◌ {b = slice_range c.self.inside.bytes c.args.start c.args.end} c.in_ok-payload.ensures.ok (ap (λ (xs : List ℕ). slice_range xs c.args.start c.args.end) c.self.view_is) in
     subst (λ (payload : List ℕ). Gives {X = Loaded} {Y = Loaded} (λ b. b) c.open.result (checked_payload c.args.header.version c.args.header.checksum c.args.kind payload)) (cut ∙ sym part) c.open.ensures
