@@ -16,3 +16,6 @@ pub use meta::ParsedMeta;
 pub use point::point_in;
 pub use regions::ParsedRegions;
 pub use table::{Table, TableInner};
+
+#[cfg(test)]
+mod tests;
