@@ -11,6 +11,7 @@ use Rattle.std.specs.Cmp.Rules.{comparing}
 use Rattle.sst_blocks.specs.declared.version.TableVersion.{TableVersion}
 use Rattle.sst_blocks.specs.declared.value_type.ValueType.TheVariants.{Value}
 use Rattle.sst_blocks.specs.Entry.{Entry, entry}
+use Rattle.sst_blocks.specs.Handle.{Handle}
 use Rattle.sst_blocks.specs.Handles.{end_of, AreStrictHandles}
 use Rattle.sst_blocks.specs.Strict.{number_cmp, is_before, may_follow, IsStrictAfter, IsStrict, last_of}
 use Rattle.lsm_writers.specs.Chunks.{joined}
@@ -142,3 +143,8 @@ follows_nothing es key n h lt = rw (h, lt) refl
 
 pub last_written_is : (r o : Option Entry) (cut : List (List Entry)) (pending d : List Entry) → r ≡ last_of o d → o ≡ last_of None (joined cut) → d ≡ pending → last_of None (joined cut ++ pending) ≡ r
 last_written_is r o cut pending d er eo ed = last_of-append None (joined cut) pending ∙ sym (rw (er, eo, ed) refl)
+
+-- one handle after none
+pub one_handle_strict : (hs : List Handle) (h : Handle) → hs ≡ [] → AreStrictHandles (hs ++ h ∷ [])
+unfolding IsStrictAfter
+one_handle_strict hs h e = subst (λ (l : List Handle). AreStrictHandles (l ++ h ∷ [])) (sym e) (refl, tt)

@@ -193,6 +193,7 @@ fn ids_and_moments_give_their_parts_back(rt: HostRuntime) -> Result<(), Fail> {
 }
 
 #[test]
+#[tactic(auto, using(crate::proofs::Orders::one_handle_strict))]
 fn a_full_index_is_one_block(rt: HostRuntime) -> Result<(), Fail> {
     let alloc = rt.alloc();
     let mut sections = SectionWriter::new(alloc)?;
