@@ -5,7 +5,8 @@ use Rattle.sst_blocks.specs.Entry.{Entry}
 use Rattle.sst_blocks.specs.Key.{same_key, key_lt}
 use Rattle.sst_blocks.specs.Stream.{first, all_ok}
 use Rattle.lsm_sorted.specs.Compaction.{Rules, goes, zeroed, kept, unfiltered}
-use Rattle.lsm_sorted.specs.ReadLaw.{Precedes, Strict, StaysStrict}
+use Rattle.lsm_sorted.specs.ReadLaw.{StaysStrict}
+use Rattle.lsm_sorted.proofs.Pairs.{Precedes, Strict, as_pairs, from_pairs}
 use Rattle.lsm_sorted.proofs.KeyLemmas.{KeyLe, same_itself, lt_trans, le_itself}
 use Rattle.lsm_sorted.proofs.NewestLemmas.{KeysUp}
 use Rattle.lsm_sorted.proofs.OutsLemmas.{AllOf, follows_in}
@@ -105,8 +106,8 @@ other_precedes x y (e ∷ es) key h none = (
   other_precedes x y es key h.1 none.1,
 )
 
-pub stays_strict : StaysStrict
-stays_strict rules = kept_by rules (λ es. Strict es → Strict (kept rules (unfiltered es)))
+pub pairs_stay : (rules : Rules) (es : List Entry) → Strict es → Strict (kept rules (unfiltered es))
+pairs_stay rules = kept_by rules (λ es. Strict es → Strict (kept rules (unfiltered es)))
     (λ h. tt)
     (λ x es high is more h.
     let number : (zeroed rules x).seqno ≡ x.seqno = zeroed_high rules x high in
@@ -123,3 +124,6 @@ stays_strict rules = kept_by rules (λ es. Strict es → Strict (kept rules (unf
     precede_all : (x y : Entry) → x.user_key ≡ y.user_key → x.seqno ≡ y.seqno → (es : List Entry) → AllByRecursion (Precedes x) es → AllByRecursion (Precedes y) es
     precede_all x y key number [] h = tt
     precede_all x y key number (e ∷ es) h = (precedes_as x y e key number h.0, precede_all x y key number es h.1)
+
+pub stays_strict : StaysStrict
+stays_strict rules es h = from_pairs (kept rules (unfiltered es)) (pairs_stay rules es (as_pairs es h))

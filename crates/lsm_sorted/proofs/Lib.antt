@@ -27,6 +27,8 @@ pub mod FilterLemmas
 pub mod SettleLemmas
 pub mod GoingLemmas
 pub mod WholeLemmas
+pub mod Hits
+pub mod Pairs
 pub mod ReadLemmas
 pub mod KeptLemmas
 pub mod PartLemmas

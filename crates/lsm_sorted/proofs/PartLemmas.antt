@@ -10,19 +10,22 @@ use Rattle.std.specs.declared.cmp.Ordering.TheVariants.{Less, Equal, Greater}
 use Rattle.std.proofs.lemmas.Bool.Decides.{nat_tests}
 use Rattle.std.proofs.lemmas.List.Sums.{sum_by-cons}
 use Rattle.sst_blocks.specs.Entry.{Entry}
-use Rattle.sst_blocks.specs.Kind.{tag_of}
+use Rattle.sst_blocks.specs.Kind.{tag_of, is_weak_kind}
 use Rattle.sst_blocks.specs.Key.{same_key, key_lt}
 use Rattle.sst_blocks.specs.Stream.{first}
 use Rattle.sst_blocks.specs.declared.value_type.ValueType.{ValueType}
 use Rattle.sst_blocks.specs.declared.value_type.ValueType.TheVariants.{Value, Tombstone, WeakTombstone, Indirection}
 use Rattle.lsm_sorted.specs.Union.{Ascends, AtMost, SameBag}
-use Rattle.lsm_sorted.specs.Point.{is_hit, point, shown}
+use Rattle.sst_blocks.specs.Point.{is_hit, point}
+use Rattle.lsm_sorted.specs.Point.{shown}
 use Rattle.lsm_sorted.specs.Compaction.{Rules, goes, zeroed, kept, unfiltered}
-use Rattle.lsm_sorted.specs.ReadLaw.{Precedes, Strict, Distinct, AllNewer, IsMerged, is_weak, PartLaw}
+use Rattle.lsm_sorted.specs.ReadLaw.{Distinct, AllNewer, IsMerged, PartLaw}
+use Rattle.lsm_sorted.proofs.Hits.{first_hit}
+use Rattle.lsm_sorted.proofs.Pairs.{Precedes, Strict, as_pairs}
 use Rattle.lsm_sorted.proofs.KeyLemmas.{same_is, same_itself, le_itself, gt_first}
 use Rattle.lsm_sorted.proofs.OutsLemmas.{AllOf}
 use Rattle.lsm_sorted.proofs.ReadLemmas.{and_both, and_not, apart, all_rest, none_before, none_of_other, not_under, same_within}
-use Rattle.lsm_sorted.proofs.KeptLemmas.{kept_by, all_kept, zeroed_below, strict_up, stays_strict}
+use Rattle.lsm_sorted.proofs.KeptLemmas.{kept_by, all_kept, zeroed_below, strict_up, pairs_stay}
 
 -- x is among xs
 abbrev IsIn : Entry → List Entry → Type 0
@@ -211,26 +214,26 @@ module _ (key : List ℕ) (bound : ℕ) where
   hit_key : (x : Entry) → is_hit key bound x ≡ true → x.user_key ≡ key
   hit_key x h = same_is x.user_key key (and_both (same_key x.user_key key) (nat_lt x.seqno bound) h).0
 
-  point_in : (es : List Entry) (x : Entry) → point es key bound ≡ Some x → IsIn x es × (is_hit key bound x ≡ true)
+  point_in : (es : List Entry) (x : Entry) → first_hit es key bound ≡ Some x → IsIn x es × (is_hit key bound x ≡ true)
   point_in [] x h = absurd cc
   point_in (e ∷ es) x h =
-      elim (is_hit key bound e) as (λ b. is_hit key bound e ≡ b → cond b (Some e) (point es key bound) ≡ Some x → IsIn x (e ∷ es) × (is_hit key bound x ≡ true)) [
+      elim (is_hit key bound e) as (λ b. is_hit key bound e ≡ b → cond b (Some e) (first_hit es key bound) ≡ Some x → IsIn x (e ∷ es) × (is_hit key bound x ≡ true)) [
         | true ↦ λ hit k. let same : x ≡ e = cc in (inl same, subst (λ (z : Entry). is_hit key bound z ≡ true) (sym same) hit)
         | false ↦ λ miss k. let more = point_in es x k in (inr more.0, more.1)
       ] refl h
 
-  point_none : (es : List Entry) → point es key bound ≡ None → (y : Entry) → IsIn y es → is_hit key bound y ≡ true → ⊥
+  point_none : (es : List Entry) → first_hit es key bound ≡ None → (y : Entry) → IsIn y es → is_hit key bound y ≡ true → ⊥
   point_none [] h y i hit = absurd i
   point_none (e ∷ es) h y i hit =
-      elim (is_hit key bound e) as (λ b. is_hit key bound e ≡ b → cond b (Some e) (point es key bound) ≡ None → ⊥) [
+      elim (is_hit key bound e) as (λ b. is_hit key bound e ≡ b → cond b (Some e) (first_hit es key bound) ≡ None → ⊥) [
         | true ↦ λ has k. absurd cc
         | false ↦ λ miss k. elim i [ inl is ↦ apart (is_hit key bound e) (subst (λ (z : Entry). is_hit key bound z ≡ true) is hit) miss | inr more ↦ point_none es k y more hit ]
       ] refl h
 
-  point_down : (es : List Entry) → Down es → (x : Entry) → point es key bound ≡ Some x → (y : Entry) → IsIn y es → is_hit key bound y ≡ true → y.seqno ≤ x.seqno
+  point_down : (es : List Entry) → Down es → (x : Entry) → first_hit es key bound ≡ Some x → (y : Entry) → IsIn y es → is_hit key bound y ≡ true → y.seqno ≤ x.seqno
   point_down [] down x h y i hit = absurd i
   point_down (e ∷ es) down x h y i hit =
-      elim (is_hit key bound e) as (λ b. is_hit key bound e ≡ b → cond b (Some e) (point es key bound) ≡ Some x → y.seqno ≤ x.seqno) [
+      elim (is_hit key bound e) as (λ b. is_hit key bound e ≡ b → cond b (Some e) (first_hit es key bound) ≡ Some x → y.seqno ≤ x.seqno) [
         | true ↦ λ has k.
             let same : e ≡ x = cc in
             subst (λ (z : Entry). y.seqno ≤ z.seqno) same (elim i [
@@ -254,8 +257,8 @@ module _ (key : List ℕ) (bound : ℕ) where
     down : Down zs
     down = ascends_down zs merged.ascends
 
-    newest_point : (x : Entry) → IsIn x (xs ++ ys) → is_hit key bound x ≡ true → ((y : Entry) → IsIn y (xs ++ ys) → is_hit key bound y ≡ true → y.seqno ≤ x.seqno) → point zs key bound ≡ Some x
-    newest_point x i hit top = elim (point zs key bound) as (λ o. point zs key bound ≡ o → o ≡ Some x) [
+    newest_point : (x : Entry) → IsIn x (xs ++ ys) → is_hit key bound x ≡ true → ((y : Entry) → IsIn y (xs ++ ys) → is_hit key bound y ≡ true → y.seqno ≤ x.seqno) → first_hit zs key bound ≡ Some x
+    newest_point x i hit top = elim (first_hit zs key bound) as (λ o. first_hit zs key bound ≡ o → o ≡ Some x) [
       | None ↦ λ e. absurd (point_none zs e x (in_same zs (xs ++ ys) merged.same x i) hit)
       | Some u ↦ λ e.
           let two = point_in zs u e in
@@ -266,28 +269,28 @@ module _ (key : List ℕ) (bound : ℕ) where
           ap (λ (z : Entry). Some z) (joined_unique xs ys sx sy apart u x uin i (hit_key u two.1 ∙ sym (hit_key x hit)) number)
     ] refl
 
-    no_point : ((y : Entry) → IsIn y (xs ++ ys) → is_hit key bound y ≡ true → ⊥) → point zs key bound ≡ None
-    no_point none = elim (point zs key bound) as (λ o. point zs key bound ≡ o → o ≡ None) [
+    no_point : ((y : Entry) → IsIn y (xs ++ ys) → is_hit key bound y ≡ true → ⊥) → first_hit zs key bound ≡ None
+    no_point none = elim (first_hit zs key bound) as (λ o. first_hit zs key bound ≡ o → o ≡ None) [
       | None ↦ λ e. refl
       | Some u ↦ λ e. let two = point_in zs u e in absurd (none u (same_in zs (xs ++ ys) merged.same u two.0) two.1)
     ] refl
 
-    joined_point : point zs key bound ≡ later (point xs key bound) (point ys key bound)
-    joined_point = elim (point xs key bound) as (λ o. point xs key bound ≡ o → point zs key bound ≡ later o (point ys key bound)) [
-      | None ↦ λ ex. elim (point ys key bound) as (λ o. point ys key bound ≡ o → point zs key bound ≡ o) [
+    joined_point : first_hit zs key bound ≡ later (first_hit xs key bound) (first_hit ys key bound)
+    joined_point = elim (first_hit xs key bound) as (λ o. first_hit xs key bound ≡ o → first_hit zs key bound ≡ later o (first_hit ys key bound)) [
+      | None ↦ λ ex. elim (first_hit ys key bound) as (λ o. first_hit ys key bound ≡ o → first_hit zs key bound ≡ o) [
         | None ↦ λ ey. no_point (λ y i hit. elim (in_either y xs ys i) [ inl a ↦ point_none xs ex y a hit | inr b ↦ point_none ys ey y b hit ])
         | Some q ↦ λ ey.
             let two = point_in ys q ey in
             newest_point q (in_right q xs ys two.0) two.1 (λ y i hit. elim (in_either y xs ys i) [ inl a ↦ absurd (point_none xs ex y a hit) | inr b ↦ point_down ys (strict_down ys sy) q ey y b hit ])
       ] refl
-      | Some a ↦ λ ex. elim (point ys key bound) as (λ o. point ys key bound ≡ o → point zs key bound ≡ later (Some a) o) [
+      | Some a ↦ λ ex. elim (first_hit ys key bound) as (λ o. first_hit ys key bound ≡ o → first_hit zs key bound ≡ later (Some a) o) [
         | None ↦ λ ey.
             let two = point_in xs a ex in
             newest_point a (in_left a xs ys two.0) two.1 (λ y i hit. elim (in_either y xs ys i) [ inl b ↦ point_down xs (strict_down xs sx) a ex y b hit | inr b ↦ absurd (point_none ys ey y b hit) ])
         | Some q ↦ λ ey.
             let ain = point_in xs a ex in
             let qin = point_in ys q ey in
-            elim (nat_lt a.seqno q.seqno) as (λ b. nat_lt a.seqno q.seqno ≡ b → point zs key bound ≡ cond b (Some q) (Some a)) [
+            elim (nat_lt a.seqno q.seqno) as (λ b. nat_lt a.seqno q.seqno ≡ b → first_hit zs key bound ≡ cond b (Some q) (Some a)) [
               | true ↦ λ lower. newest_point q (in_right q xs ys qin.0) qin.1 (λ y i hit. elim (in_either y xs ys i) [ inl b ↦ let k = point_down xs (strict_down xs sx) a ex y b hit in at_most_lower a.seqno q.seqno y.seqno lower k | inr b ↦ point_down ys (strict_down ys sy) q ey y b hit ])
               | false ↦ λ upper. newest_point a (in_left a xs ys ain.0) ain.1 (λ y i hit. elim (in_either y xs ys i) [ inl b ↦ point_down xs (strict_down xs sx) a ex y b hit | inr b ↦ let k = point_down ys (strict_down ys sy) q ey y b hit in at_most_upper a.seqno q.seqno y.seqno upper k ])
             ] refl
@@ -295,8 +298,8 @@ module _ (key : List ℕ) (bound : ℕ) where
     ] refl
 
   -- where the second list is newer, it decides
-  newer_later : (xs ys : List Entry) → AllNewer xs ys → (q : Entry) → point ys key bound ≡ Some q → later (point xs key bound) (Some q) ≡ Some q
-  newer_later xs ys newer q ey = elim (point xs key bound) as (λ o. point xs key bound ≡ o → later o (Some q) ≡ Some q) [
+  newer_later : (xs ys : List Entry) → AllNewer xs ys → (q : Entry) → first_hit ys key bound ≡ Some q → later (first_hit xs key bound) (Some q) ≡ Some q
+  newer_later xs ys newer q ey = elim (first_hit xs key bound) as (λ o. first_hit xs key bound ≡ o → later o (Some q) ≡ Some q) [
     | None ↦ λ ex. refl
     | Some a ↦ λ ex.
         let ain = point_in xs a ex in
@@ -306,17 +309,17 @@ module _ (key : List ℕ) (bound : ℕ) where
   ] refl
 
   -- where nothing goes or becomes 0, a reader at the watermark or above hits the same entry
-  plain_point : (rules : Rules) → rules.evict ≡ false → rules.zeroing ≡ false → rules.watermark ≤ bound → (es : List Entry) → AllByRecursion (λ e. is_weak e.kind ≡ false) es → point (kept rules (unfiltered es)) key bound ≡ point es key bound
-  plain_point rules evict zeroing reads = kept_by rules (λ es. AllByRecursion (λ e. is_weak e.kind ≡ false) es → point (kept rules (unfiltered es)) key bound ≡ point es key bound)
+  plain_point : (rules : Rules) → rules.evict ≡ false → rules.zeroing ≡ false → rules.watermark ≤ bound → (es : List Entry) → AllByRecursion (λ e. is_weak_kind e.kind ≡ false) es → first_hit (kept rules (unfiltered es)) key bound ≡ first_hit es key bound
+  plain_point rules evict zeroing reads = kept_by rules (λ es. AllByRecursion (λ e. is_weak_kind e.kind ≡ false) es → first_hit (kept rules (unfiltered es)) key bound ≡ first_hit es key bound)
       (λ h. refl)
       (λ x es high is more h.
-      ap (λ (ys : List Entry). point ys key bound) (is ∙ ap (λ (z : Entry). z ∷ kept rules (unfiltered es)) (unzeroed rules zeroing x)) ∙ ap (λ (o : Option Entry). cond (is_hit key bound x) (Some x) o) (more h.1))
+      ap (λ (ys : List Entry). first_hit ys key bound) (is ∙ ap (λ (z : Entry). z ∷ kept rules (unfiltered es)) (unzeroed rules zeroing x)) ∙ ap (λ (o : Option Entry). cond (is_hit key bound x) (Some x) o) (more h.1))
       (λ x own rest all over last is more h.
       let stays : goes rules.evict x.kind (first own) ≡ false = ap (λ (b : Bool). goes b x.kind (first own)) evict ∙ goes_plain x.kind (first own) h.0 in
-      let deeper : point (kept rules (unfiltered rest)) key bound ≡ point rest key bound = more (all_rest (λ e. is_weak e.kind ≡ false) own rest h.1) in
-      ap (λ (ys : List Entry). point ys key bound) (is ∙ ap (λ (b : Bool). cond b [] (zeroed rules x ∷ []) ++ kept rules (unfiltered rest)) stays ∙ ap (λ (z : Entry). z ∷ kept rules (unfiltered rest)) (unzeroed rules zeroing x))
+      let deeper : first_hit (kept rules (unfiltered rest)) key bound ≡ first_hit rest key bound = more (all_rest (λ e. is_weak_kind e.kind ≡ false) own rest h.1) in
+      ap (λ (ys : List Entry). first_hit ys key bound) (is ∙ ap (λ (b : Bool). cond b [] (zeroed rules x ∷ []) ++ kept rules (unfiltered rest)) stays ∙ ap (λ (z : Entry). z ∷ kept rules (unfiltered rest)) (unzeroed rules zeroing x))
       ∙ ap (λ (o : Option Entry). cond (is_hit key bound x) (Some x) o) deeper
-      ∙ elim (is_hit key bound x) as (λ b. is_hit key bound x ≡ b → cond b (Some x) (point rest key bound) ≡ cond b (Some x) (point (own ++ rest) key bound)) [
+      ∙ elim (is_hit key bound x) as (λ b. is_hit key bound x ≡ b → cond b (Some x) (first_hit rest key bound) ≡ cond b (Some x) (first_hit (own ++ rest) key bound)) [
         | true ↦ λ hit. refl
         | false ↦ λ miss. sym (past rules reads x own rest all last miss)
       ] refl)
@@ -324,18 +327,18 @@ module _ (key : List ℕ) (bound : ℕ) where
       unzeroed : (rules : Rules) → rules.zeroing ≡ false → (x : Entry) → zeroed rules x ≡ x
       unzeroed rules zeroing x = ap (λ (b : Bool). record { user_key = x.user_key; seqno = cond (b && nat_lt x.seqno rules.watermark) 0 x.seqno; kind = x.kind; value = x.value }) zeroing
 
-      goes_plain : (kind : ValueType) (next : Option Entry) → is_weak kind ≡ false → goes false kind next ≡ false
+      goes_plain : (kind : ValueType) (next : Option Entry) → is_weak_kind kind ≡ false → goes false kind next ≡ false
       goes_plain Value next h = refl
       goes_plain Tombstone next h = refl
       goes_plain WeakTombstone next h = absurd cc
       goes_plain Indirection next h = refl
 
-      past : (rules : Rules) → rules.watermark ≤ bound → (x : Entry) (own rest : List Entry) → AllOf x.user_key own → (nat_lt x.seqno rules.watermark ≡ true) ⊎ (own ≡ []) → is_hit key bound x ≡ false → point (own ++ rest) key bound ≡ point rest key bound
+      past : (rules : Rules) → rules.watermark ≤ bound → (x : Entry) (own rest : List Entry) → AllOf x.user_key own → (nat_lt x.seqno rules.watermark ≡ true) ⊎ (own ≡ []) → is_hit key bound x ≡ false → first_hit (own ++ rest) key bound ≡ first_hit rest key bound
       past rules reads x own rest all last miss = elim (and_not (same_key x.user_key key) (nat_lt x.seqno bound) miss) [
         | inl other ↦ none_before key bound own rest (none_of_other key x.user_key own all other)
         | inr both ↦ elim last [
           | inl low ↦ absurd (apart (nat_lt x.seqno rules.watermark) low (not_under x.seqno rules.watermark bound reads both.1))
-          | inr none ↦ ap (λ (ys : List Entry). point (ys ++ rest) key bound) none
+          | inr none ↦ ap (λ (ys : List Entry). first_hit (ys ++ rest) key bound) none
         ]
       ]
 
@@ -353,19 +356,22 @@ kept_distinct rules zeroing xs ys = all_kept rules (λ x. AllByRecursion (λ y. 
     (λ y h e n. h e (sym (ap (λ (b : Bool). cond (b && nat_lt x.seqno rules.watermark) 0 x.seqno) zeroing) ∙ n)) ys all) xs
 
 pub reads_alike_of_part : PartLaw
-reads_alike_of_part rules part others all left sp so apart whole rest cases key bound reads =
-    let strict : Strict (kept rules (unfiltered part)) = stays_strict rules part sp in
-    let before : point all key bound ≡ later key bound (point part key bound) (point others key bound) = joined_point key bound part others all sp so apart whole in
+unfolding point
+reads_alike_of_part rules part others all left strict_part strict_others apart whole rest cases key bound reads =
+    let sp = as_pairs part strict_part in
+    let so = as_pairs others strict_others in
+    let strict : Strict (kept rules (unfiltered part)) = pairs_stay rules part sp in
+    let before : first_hit all key bound ≡ later key bound (first_hit part key bound) (first_hit others key bound) = joined_point key bound part others all sp so apart whole in
     elim cases [
       | inl plain ↦
           let apart' = kept_distinct rules plain.1 part others apart in
-          let after : point left key bound ≡ later key bound (point (kept rules (unfiltered part)) key bound) (point others key bound) = joined_point key bound (kept rules (unfiltered part)) others left strict so apart' rest in
-          ap shown (after ∙ ap (λ (o : Option Entry). later key bound o (point others key bound)) (plain_point key bound rules plain.0 plain.1 reads part plain.2) ∙ sym before)
+          let after : first_hit left key bound ≡ later key bound (first_hit (kept rules (unfiltered part)) key bound) (first_hit others key bound) = joined_point key bound (kept rules (unfiltered part)) others left strict so apart' rest in
+          ap shown (after ∙ ap (λ (o : Option Entry). later key bound o (first_hit others key bound)) (plain_point key bound rules plain.0 plain.1 reads part plain.2) ∙ sym before)
       | inr newer ↦
           let newer' = kept_newer rules part others newer in
-          let after : point left key bound ≡ later key bound (point (kept rules (unfiltered part)) key bound) (point others key bound) = joined_point key bound (kept rules (unfiltered part)) others left strict so (newer_distinct (kept rules (unfiltered part)) others newer') rest in
-          ap shown after ∙ elim (point others key bound) as (λ o. point others key bound ≡ o → shown (later key bound (point (kept rules (unfiltered part)) key bound) o) ≡ shown (later key bound (point part key bound) o)) [
-            | None ↦ λ e. ap shown (later_none key bound (point (kept rules (unfiltered part)) key bound)) ∙ same_within rules key bound (length part) part (omega arith) (strict_up part sp) (inl reads) ∙ sym (ap shown (later_none key bound (point part key bound)))
+          let after : first_hit left key bound ≡ later key bound (first_hit (kept rules (unfiltered part)) key bound) (first_hit others key bound) = joined_point key bound (kept rules (unfiltered part)) others left strict so (newer_distinct (kept rules (unfiltered part)) others newer') rest in
+          ap shown after ∙ elim (first_hit others key bound) as (λ o. first_hit others key bound ≡ o → shown (later key bound (first_hit (kept rules (unfiltered part)) key bound) o) ≡ shown (later key bound (first_hit part key bound) o)) [
+            | None ↦ λ e. ap shown (later_none key bound (first_hit (kept rules (unfiltered part)) key bound)) ∙ same_within rules key bound (length part) part (omega arith) (strict_up part sp) (inl reads) ∙ sym (ap shown (later_none key bound (first_hit part key bound)))
             | Some q ↦ λ e. ap shown (newer_later key bound (kept rules (unfiltered part)) others newer' q e ∙ sym (newer_later key bound part others newer q e))
           ] refl ∙ sym (ap shown before)
     ]

@@ -11,9 +11,11 @@ use Rattle.sst_blocks.specs.declared.value_type.ValueType.{ValueType}
 use Rattle.sst_blocks.specs.declared.value_type.ValueType.TheVariants.{Value, Tombstone, WeakTombstone, Indirection}
 use Rattle.lsm_sorted.specs.Ends.{R}
 use Rattle.lsm_sorted.specs.Union.{entries_of}
-use Rattle.lsm_sorted.specs.Point.{is_hit, point, shown, seen}
+use Rattle.sst_blocks.specs.Point.{is_hit, point}
+use Rattle.lsm_sorted.specs.Point.{shown}
 use Rattle.lsm_sorted.specs.Compaction.{JudgedItem, Rules, goes, zeroed, outs, kept, as_is, unfiltered}
 use Rattle.lsm_sorted.specs.ReadLaw.{IsServed, ReadLaw}
+use Rattle.lsm_sorted.proofs.Hits.{first_hit, hit_shown}
 use Rattle.lsm_sorted.proofs.KeyLemmas.{KeyLe, same_is, same_itself, lt_other, le_other, lt_le}
 use Rattle.lsm_sorted.proofs.NewestLemmas.{KeysUp, keys_up}
 use Rattle.lsm_sorted.proofs.OutsLemmas.{AllOf, follows_in, open_outs, close_outs}
@@ -73,13 +75,13 @@ goes_dead evict Indirection next h = absurd cc
 abbrev pub NoneOf : List ℕ → List Entry → Type 0
 NoneOf key es = AllByRecursion (λ e. same_key e.user_key key ≡ false) es
 
-pub none_seen : (key : List ℕ) (bound : ℕ) (es : List Entry) → NoneOf key es → point es key bound ≡ None
+pub none_seen : (key : List ℕ) (bound : ℕ) (es : List Entry) → NoneOf key es → first_hit es key bound ≡ None
 none_seen key bound [] h = refl
-none_seen key bound (e ∷ es) h = ap (λ (b : Bool). cond (b && nat_lt e.seqno bound) (Some e) (point es key bound)) h.0 ∙ none_seen key bound es h.1
+none_seen key bound (e ∷ es) h = ap (λ (b : Bool). cond (b && nat_lt e.seqno bound) (Some e) (first_hit es key bound)) h.0 ∙ none_seen key bound es h.1
 
-pub none_before : (key : List ℕ) (bound : ℕ) (es rest : List Entry) → NoneOf key es → point (es ++ rest) key bound ≡ point rest key bound
+pub none_before : (key : List ℕ) (bound : ℕ) (es rest : List Entry) → NoneOf key es → first_hit (es ++ rest) key bound ≡ first_hit rest key bound
 none_before key bound [] rest h = refl
-none_before key bound (e ∷ es) rest h = ap (λ (b : Bool). cond (b && nat_lt e.seqno bound) (Some e) (point (es ++ rest) key bound)) h.0 ∙ none_before key bound es rest h.1
+none_before key bound (e ∷ es) rest h = ap (λ (b : Bool). cond (b && nat_lt e.seqno bound) (Some e) (first_hit (es ++ rest) key bound)) h.0 ∙ none_before key bound es rest h.1
 
 pub none_of_other : (key other : List ℕ) (es : List Entry) → AllOf other es → same_key other key ≡ false → NoneOf key es
 none_of_other key other [] all h = tt
@@ -135,25 +137,25 @@ apart false h k = absurd cc
 
 module _ (rules : Rules) (key : List ℕ) (bound : ℕ) where
   abbrev pub Same : List Entry → Type 0
-  Same es = seen (kept rules (unfiltered es)) key bound ≡ seen es key bound
+  Same es = hit_shown (kept rules (unfiltered es)) key bound ≡ hit_shown es key bound
 
   served_rest : (xs ys : List Entry) → IsServed rules.watermark (xs ++ ys) key bound → IsServed rules.watermark ys key bound
   served_rest xs ys h = elim h [ inl w ↦ inl w | inr below ↦ inr (all_rest (λ e. same_key e.user_key key ≡ true → e.seqno < bound) xs ys below) ]
 
   -- an entry in front, hit or not
-  seen_hit : (x : Entry) (es : List Entry) → is_hit key bound x ≡ true → seen (x ∷ es) key bound ≡ shown (Some x)
-  seen_hit x es h = ap (λ (b : Bool). shown (cond b (Some x) (point es key bound))) h
+  seen_hit : (x : Entry) (es : List Entry) → is_hit key bound x ≡ true → hit_shown (x ∷ es) key bound ≡ shown (Some x)
+  seen_hit x es h = ap (λ (b : Bool). shown (cond b (Some x) (first_hit es key bound))) h
 
-  seen_miss : (x : Entry) (es : List Entry) → is_hit key bound x ≡ false → seen (x ∷ es) key bound ≡ seen es key bound
-  seen_miss x es h = ap (λ (b : Bool). shown (cond b (Some x) (point es key bound))) h
+  seen_miss : (x : Entry) (es : List Entry) → is_hit key bound x ≡ false → hit_shown (x ∷ es) key bound ≡ hit_shown es key bound
+  seen_miss x es h = ap (λ (b : Bool). shown (cond b (Some x) (first_hit es key bound))) h
 
   -- a head at the watermark or above, before others that stay
   same_open : (x : Entry) (es : List Entry) → nat_lt x.seqno rules.watermark ≡ false → kept rules (unfiltered (x ∷ es)) ≡ zeroed rules x ∷ kept rules (unfiltered es) → Same es → Same (x ∷ es)
   same_open x es high is same =
       let number : (zeroed rules x).seqno ≡ x.seqno = high_same rules.zeroing (nat_lt x.seqno rules.watermark) x.seqno high in
       let hit : is_hit key bound (zeroed rules x) ≡ is_hit key bound x = ap (λ (n : ℕ). same_key x.user_key key && nat_lt n bound) number in
-      ap (λ (ys : List Entry). seen ys key bound) is
-      ∙ elim (is_hit key bound x) as (λ b. is_hit key bound x ≡ b → seen (zeroed rules x ∷ kept rules (unfiltered es)) key bound ≡ seen (x ∷ es) key bound) [
+      ap (λ (ys : List Entry). hit_shown ys key bound) is
+      ∙ elim (is_hit key bound x) as (λ b. is_hit key bound x ≡ b → hit_shown (zeroed rules x ∷ kept rules (unfiltered es)) key bound ≡ hit_shown (x ∷ es) key bound) [
         | true ↦ λ e. seen_hit (zeroed rules x) (kept rules (unfiltered es)) (hit ∙ e) ∙ sym (seen_hit x es e)
         | false ↦ λ e. seen_miss (zeroed rules x) (kept rules (unfiltered es)) (hit ∙ e) ∙ same ∙ sym (seen_miss x es e)
       ] refl
@@ -168,17 +170,17 @@ module _ (rules : Rules) (key : List ℕ) (bound : ℕ) where
         let two = and_both (same_key x.user_key key) (nat_lt x.seqno bound) hit in
         let still : is_hit key bound (zeroed rules x) ≡ true = ap (λ (b : Bool). b && nat_lt (zeroed rules x).seqno bound) two.0 ∙ zero_hit rules.zeroing (nat_lt x.seqno rules.watermark) x.seqno bound two.1 in
         let none : NoneOf key rest = subst (λ (k : List ℕ). NoneOf k rest) (same_is x.user_key key two.0) (rest_none x.user_key rest (up_rest own rest up.1) (all_rest (λ y. KeyLe x.user_key y.user_key) own rest up.0) over) in
-        ap (λ (ys : List Entry). seen ys key bound) out
-        ∙ elim (goes rules.evict x.kind (first own)) as (λ b. goes rules.evict x.kind (first own) ≡ b → seen (cond b [] (zeroed rules x ∷ []) ++ kept rules (unfiltered rest)) key bound ≡ shown (Some x)) [
+        ap (λ (ys : List Entry). hit_shown ys key bound) out
+        ∙ elim (goes rules.evict x.kind (first own)) as (λ b. goes rules.evict x.kind (first own) ≡ b → hit_shown (cond b [] (zeroed rules x ∷ []) ++ kept rules (unfiltered rest)) key bound ≡ shown (Some x)) [
           | true ↦ λ e. same ∙ ap shown (none_seen key bound rest none) ∙ sym (ap (λ (b : Bool). cond b None (Some (x.kind, x.value))) (goes_dead rules.evict x.kind (first own) e))
           | false ↦ λ e. seen_hit (zeroed rules x) (kept rules (unfiltered rest)) still
         ] refl ∙ sym (seen_hit x (own ++ rest) hit)
 
     -- the reader hits neither the head nor what follows of its key
-    closed_miss : is_hit key bound x ≡ false → is_hit key bound (zeroed rules x) ≡ false → point (own ++ rest) key bound ≡ point rest key bound → Same (x ∷ (own ++ rest))
+    closed_miss : is_hit key bound x ≡ false → is_hit key bound (zeroed rules x) ≡ false → first_hit (own ++ rest) key bound ≡ first_hit rest key bound → Same (x ∷ (own ++ rest))
     closed_miss miss still past =
-        ap (λ (ys : List Entry). seen ys key bound) out
-        ∙ elim (goes rules.evict x.kind (first own)) as (λ b. seen (cond b [] (zeroed rules x ∷ []) ++ kept rules (unfiltered rest)) key bound ≡ seen (kept rules (unfiltered rest)) key bound) [
+        ap (λ (ys : List Entry). hit_shown ys key bound) out
+        ∙ elim (goes rules.evict x.kind (first own)) as (λ b. hit_shown (cond b [] (zeroed rules x ∷ []) ++ kept rules (unfiltered rest)) key bound ≡ hit_shown (kept rules (unfiltered rest)) key bound) [
           | true ↦ refl
           | false ↦ seen_miss (zeroed rules x) (kept rules (unfiltered rest)) still
         ] ∙ same ∙ sym (seen_miss x (own ++ rest) miss ∙ ap shown past)
@@ -193,7 +195,7 @@ module _ (rules : Rules) (key : List ℕ) (bound : ℕ) where
                 let high : nat_lt x.seqno rules.watermark ≡ false = not_under x.seqno rules.watermark bound reads both.1 in
                 let alone : own ≡ [] = elim last [ inl low ↦ absurd (apart (nat_lt x.seqno rules.watermark) low high) | inr none ↦ none ] in
                 let number : (zeroed rules x).seqno ≡ x.seqno = high_same rules.zeroing (nat_lt x.seqno rules.watermark) x.seqno high in
-                closed_miss miss (ap (λ (n : ℕ). same_key x.user_key key && nat_lt n bound) number ∙ miss) (ap (λ (ys : List Entry). point (ys ++ rest) key bound) alone)
+                closed_miss miss (ap (λ (n : ℕ). same_key x.user_key key && nat_lt n bound) number ∙ miss) (ap (λ (ys : List Entry). first_hit (ys ++ rest) key bound) alone)
             | inr below ↦ absurd (not_below x.seqno bound (below.0 both.0) both.1)
           ]
         ]
@@ -228,4 +230,5 @@ module _ (rules : Rules) (key : List ℕ) (bound : ℕ) where
       ] refl
 
 pub reads_alike : ReadLaw
+unfolding point
 reads_alike rules es up key bound served = same_within rules key bound (length es) es (omega arith) (keys_up es up) served

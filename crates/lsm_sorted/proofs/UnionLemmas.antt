@@ -13,8 +13,10 @@ use Rattle.sst_blocks.specs.Kind.{tag_of}
 use Rattle.sst_blocks.specs.declared.value_type.ValueType.{ValueType}
 use Rattle.sst_blocks.specs.declared.value_type.ValueType.TheVariants.{Value, Tombstone, WeakTombstone, Indirection}
 use Rattle.lsm_sorted.specs.Ends.{R}
-use Rattle.lsm_sorted.specs.Union.{item_cmp, AtMost, Ascends, SameBag, all_entries, IsUnion, inserted, in_order, merged, version_cmp, IsStrict}
+use Rattle.lsm_sorted.specs.Union.{item_cmp, AtMost, Ascends, SameBag, all_entries, IsUnion, inserted, in_order, merged}
+use Rattle.sst_blocks.specs.Strict.{number_cmp, IsStrict}
 use Rattle.lsm_sorted.proofs.KeyLemmas.{same_is, same_itself}
+use Rattle.lsm_sorted.proofs.Pairs.{AllBefore, pairs_of}
 use Rattle.lsm_sorted.proofs.MergedLemmas.{item_total, Above, at_most_chain, above_at_most, all_inserted}
 use Rattle.lsm_sorted.proofs.HeldLemmas.{weight, weight_false, count_cons, count_yes, count_no, none_counted}
 
@@ -111,9 +113,9 @@ then_less Less b c h = refl
 then_less Equal b c h = ap (λ (o : Ordering). ordering_then o c) h
 then_less Greater b c h = absurd cc
 
-version_less : (x y : Entry) → is_lt (version_cmp x y) ≡ true → Above y x
+version_less : (x y : Entry) → is_lt (number_cmp x y) ≡ true → Above y x
 version_less x y h =
-    let less : item_cmp x y ≡ Less = then_less (slice_cmp nat_cmp x.user_key y.user_key) (nat_cmp y.seqno x.seqno) (nat_cmp (tag_of x.kind) (tag_of y.kind)) (lt_less (version_cmp x y) h) in
+    let less : item_cmp x y ≡ Less = then_less (slice_cmp nat_cmp x.user_key y.user_key) (nat_cmp y.seqno x.seqno) (nat_cmp (tag_of x.kind) (tag_of y.kind)) (lt_less (number_cmp x y) h) in
     ap is_gt (item_total.antisymm y x ∙ ap ordering_reverse less)
 
 at_most_itself : (x : Entry) → AtMost x x
@@ -134,41 +136,41 @@ some_weight false h = let none = weight_false in absurd (omega (arith, none, h))
 
 -- y, and not after x by key and number
 abbrev after : Entry → Entry → Entry → Bool
-after x y z = is_entry y z && not (is_lt (version_cmp x z))
+after x y z = is_entry y z && not (is_lt (number_cmp x z))
 
-no_after : (x y z : Entry) → is_lt (version_cmp x z) ≡ true → after x y z ≡ false
+no_after : (x y z : Entry) → is_lt (number_cmp x z) ≡ true → after x y z ≡ false
 no_after x y z h = ap (λ (b : Bool). is_entry y z && not b) h ∙ and_false (is_entry y z)
   where
     and_false : (b : Bool) → (b && false) ≡ false
     and_false true = refl
     and_false false = refl
 
-strict_only : (xs ys : List Entry) → IsStrict xs → Ascends ys → SameBag xs ys → xs ≡ ys
+strict_only : (xs ys : List Entry) → AllBefore xs → Ascends ys → SameBag xs ys → xs ≡ ys
 strict_only [] [] strict up same = refl
 strict_only [] (y ∷ ys) strict up same = let e = same.count (λ z. true) in absurd (omega (arith, e, count_yes (λ (z : Entry). true) y ys refl))
 strict_only (x ∷ xs) [] strict up same = let e = same.count (λ z. true) in absurd (omega (arith, e, count_yes (λ (z : Entry). true) x xs refl))
 strict_only (x ∷ xs) (y ∷ ys) strict up same =
     let over : AllByRecursion (λ z. is_gt (item_cmp y z) ≡ false) (x ∷ xs) =
     none_counted (λ z. is_gt (item_cmp y z)) (x ∷ xs) (same.count (λ z. is_gt (item_cmp y z)) ∙ none_pass (λ z. is_gt (item_cmp y z)) (y ∷ ys) (at_most_itself y, up.0)) in
-    let first : is_lt (version_cmp x y) ≡ false = not_before over.0 in
+    let first : is_lt (number_cmp x y) ≡ false = not_before over.0 in
     let e : y ≡ x = entry_is y x (found first) in
     sym (ap (λ (z : Entry). z ∷ ys) e ∙ ap (λ (zs : List Entry). x ∷ zs) (sym (strict_only xs ys strict.1 up.1 (tail e))))
   where
-    not_before : AtMost y x → is_lt (version_cmp x y) ≡ false
-    not_before le = either (is_lt (version_cmp x y)) refl
+    not_before : AtMost y x → is_lt (number_cmp x y) ≡ false
+    not_before le = either (is_lt (number_cmp x y)) refl
       where
-        either : (b : Bool) → is_lt (version_cmp x y) ≡ b → is_lt (version_cmp x y) ≡ false
+        either : (b : Bool) → is_lt (number_cmp x y) ≡ b → is_lt (number_cmp x y) ≡ false
         either true h = let no : true ≡ false = sym (version_less x y h) ∙ le in absurd cc
         either false h = h
 
-    found : is_lt (version_cmp x y) ≡ false → is_entry y x ≡ true
+    found : is_lt (number_cmp x y) ≡ false → is_entry y x ≡ true
     found first =
         let here : after x y y ≡ true = join (is_entry y y) _ (entry_itself y) (ap not first) in
-        let none : count_by (after x y) xs ≡ 0 = none_pass (after x y) xs (all_more (λ z. is_lt (version_cmp x z) ≡ true) (λ z. after x y z ≡ false) (λ z lt. no_after x y z lt) xs strict.0) in
+        let none : count_by (after x y) xs ≡ 0 = none_pass (after x y) xs (all_more (λ z. is_lt (number_cmp x z) ≡ true) (λ z. after x y z ≡ false) (λ z lt. no_after x y z lt) xs strict.0) in
         (both (is_entry y x) _ (some_weight (after x y x) (omega (arith, none, same.count (after x y), count_cons (after x y) x xs, count_yes (after x y) y ys here)))).0
 
     tail : y ≡ x → SameBag xs ys
     tail e = record { count = λ p. let c = same.count p in let w : weight (p y) ≡ weight (p x) = ap (λ (z : Entry). weight (p z)) e in omega (arith, c, w, count_cons p x xs, count_cons p y ys) }
 
 pub only_union : (lists : List (List R)) (xs : List Entry) → IsUnion lists xs → IsStrict xs → xs ≡ merged lists
-only_union lists xs union strict = strict_only xs (merged lists) strict (ascends_in_order (all_entries lists)) (record { count = λ p. union.same.count p ∙ sym (count_in_order p (all_entries lists)) })
+only_union lists xs union strict = strict_only xs (merged lists) (pairs_of xs strict) (ascends_in_order (all_entries lists)) (record { count = λ p. union.same.count p ∙ sym (count_in_order p (all_entries lists)) })

@@ -2,9 +2,10 @@
 use Rattle.std.specs.Prelude.{◌≡◌, ◌≢◌, ◌<◌, ◌≤◌, ◌⊎◌, ℕ, Bool, true, false, List, [], ◌∷◌, ◌++◌}
 use Rattle.std.specs.List.{AllByRecursion}
 use Rattle.sst_blocks.specs.Entry.{Entry}
-use Rattle.sst_blocks.specs.Key.{same_key, key_lt}
+use Rattle.sst_blocks.specs.Key.{same_key}
+use Rattle.sst_blocks.specs.Strict.{IsStrict}
 use Rattle.sst_blocks.specs.declared.value_type.ValueType.{ValueType}
-use Rattle.sst_blocks.specs.declared.value_type.ValueType.TheVariants.{Value, Tombstone, WeakTombstone, Indirection}
+use Rattle.sst_blocks.specs.Kind.{is_weak_kind}
 use Rattle.lsm_sorted.specs.Union.{Ascends, SameBag}
 use Rattle.lsm_sorted.specs.Point.{seen}
 use Rattle.lsm_sorted.specs.Compaction.{Rules, kept, unfiltered}
@@ -21,18 +22,9 @@ IsServed watermark es key bound = (watermark ≤ bound) ⊎ AllBelow key bound e
 abbrev pub ReadLaw : Type 0
 ReadLaw = (rules : Rules) (es : List Entry) → Ascends es → (key : List ℕ) (bound : ℕ) → IsServed rules.watermark es key bound → seen (kept rules (unfiltered es)) key bound ≡ seen es key bound
 
--- an entry comes before another: its key is smaller, or it is a newer version of the same key
-abbrev pub Precedes : Entry → Entry → Type 0
-Precedes x y = (key_lt x.user_key y.user_key ≡ true) ⊎ ((x.user_key ≡ y.user_key) × (y.seqno < x.seqno))
-
--- each entry comes before all later ones
-abbrev pub Strict : List Entry → Type 0
-Strict [] = Unit {0}
-Strict (x ∷ xs) = AllByRecursion (Precedes x) xs × Strict xs
-
--- what is kept of such a list is such a list, also where numbers become 0
+-- what is kept of a strict list is strict, also where numbers become 0
 abbrev pub StaysStrict : Type 0
-StaysStrict = (rules : Rules) (es : List Entry) → Strict es → Strict (kept rules (unfiltered es))
+StaysStrict = (rules : Rules) (es : List Entry) → IsStrict es → IsStrict (kept rules (unfiltered es))
 
 -- no entry of one list has the key and the number of one of the other
 abbrev pub Distinct : List Entry → List Entry → Type 0
@@ -47,17 +39,11 @@ pub record IsMerged (xs ys zs : List Entry) : Type 0 where
   pub ascends : Ascends zs
   pub same : SameBag zs (xs ++ ys)
 
-abbrev pub is_weak : ValueType → Bool
-is_weak Value = false
-is_weak Tombstone = false
-is_weak WeakTombstone = true
-is_weak Indirection = false
-
 -- nothing is evicted or zeroed, and no weak tombstone may go with the version that it hides
 abbrev pub IsPlain : Rules → List Entry → Type 0
-IsPlain rules es = (rules.evict ≡ false) × (rules.zeroing ≡ false) × AllByRecursion (λ e. is_weak e.kind ≡ false) es
+IsPlain rules es = (rules.evict ≡ false) × (rules.zeroing ≡ false) × AllByRecursion (λ e. is_weak_kind e.kind ≡ false) es
 
 -- where a part of the entries is compacted and others stay, a reader at the watermark or above sees the same
 abbrev pub PartLaw : Type 0
-PartLaw = (rules : Rules) (part others all left : List Entry) → Strict part → Strict others → Distinct part others → IsMerged part others all → IsMerged (kept rules (unfiltered part)) others left
+PartLaw = (rules : Rules) (part others all left : List Entry) → IsStrict part → IsStrict others → Distinct part others → IsMerged part others all → IsMerged (kept rules (unfiltered part)) others left
     → IsPlain rules part ⊎ AllNewer part others → (key : List ℕ) (bound : ℕ) → rules.watermark ≤ bound → seen left key bound ≡ seen all key bound

@@ -2,7 +2,7 @@
 use Rattle.std.specs.Prelude.{◌≡◌, ◌<◌, Bool, true, false, cond, not, List, [], ◌∷◌, ◌++◌, filter, count_by, Ok, Err}
 use Rattle.std.specs.declared.cmp.Ordering.{Ordering}
 use Rattle.std.specs.List.{AllByRecursion}
-use Rattle.std.specs.Ordering.{ordering_then, is_gt, is_lt, nat_cmp}
+use Rattle.std.specs.Ordering.{ordering_then, is_gt, nat_cmp}
 use Rattle.sst_blocks.specs.Entry.{Entry}
 use Rattle.sst_blocks.specs.Kind.{tag_of}
 use Rattle.sst_blocks.specs.Key.{same_key}
@@ -72,12 +72,3 @@ in_order (x ∷ xs) = inserted x (in_order xs)
 -- the entries of all lists sorted; those that tie, list by list
 abbrev pub merged : List (List R) → List Entry
 merged lists = in_order (all_entries lists)
-
--- by key upward, then by number downward, the kind left out
-abbrev pub version_cmp : Entry → Entry → Ordering
-version_cmp a b = ordering_then (slice_cmp nat_cmp a.user_key b.user_key) (nat_cmp b.seqno a.seqno)
-
--- each entry comes before the later ones by key and number alone
-abbrev pub IsStrict : List Entry → Type 0
-IsStrict [] = Unit {0}
-IsStrict (x ∷ xs) = AllByRecursion (λ y. is_lt (version_cmp x y) ≡ true) xs × IsStrict xs

@@ -4,11 +4,12 @@ ghost use Rattle.std.specs.List.{AllZip, AllByRecursion};
 ghost use Rattle.std.specs.Iterator.{at_most, IsFinite};
 ghost use Rattle.sst_blocks.specs.Entry.{Entry};
 ghost use Rattle.sst_blocks.specs.Stream.{Deals, CanDeal, stopped, all_ok, front_of, back_of};
+ghost use Rattle.sst_blocks.specs.Strict.{IsStrict};
 ghost use Rattle.sst_blocks.specs.declared.error.Error.{Error};
 ghost use Rattle.sst_blocks.specs.declared.error.Error.TheVariants.{OutOfMemory};
 ghost use Rattle.lsm_sorted.specs.Ends.{R, fresh, Goes};
 ghost use Rattle.lsm_sorted.specs.Tournament.{held, room};
-ghost use Rattle.lsm_sorted.specs.Union.{Ascends, IsUnion, IsStrict, entries_of, all_errors, merged};
+ghost use Rattle.lsm_sorted.specs.Union.{Ascends, IsUnion, entries_of, all_errors, merged};
 ghost use Rattle.lsm_sorted.specs.Merge.{Failed, EndsAtError, Leaves, Takes, Fills, Steps, Adds, SameRoom, Fits, MayMerge, Merges, DealsUntil, HoldsFew, held_of, merge_total, merge_size, entry_of};
 
 use crate::ends::Ends;

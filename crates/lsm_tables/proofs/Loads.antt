@@ -5,10 +5,10 @@ use Rattle.sst_blocks.specs.declared.error.Error.{Error}
 use Rattle.sst_blocks.specs.declared.block_type.BlockType.{BlockType}
 use Rattle.sst_blocks.specs.declared.block_type.BlockType.TheVariants.{Data, Meta, Index, Filter}
 use Rattle.sst_blocks.specs.declared.version.TableVersion.{TableVersion}
-use Rattle.sst_blocks.specs.declared.error.Error.TheVariants.{ChecksumMismatch, InvalidBlock, InvalidHeader, Truncated}
+use Rattle.sst_blocks.specs.declared.error.Error.TheVariants.{ChecksumMismatch, InvalidHeader, Truncated}
 use Rattle.sst_blocks.specs.Fnv.{fnv1a}
 use Rattle.std.specs.Prelude.{not, ◌==◌, ◌||◌, slice_range, nat_lt, length, ◌+◌}
-use Rattle.sst_blocks.specs.Block.{Loaded, load_told, payload_told, unless, version_in, stored_checksum, in_grammar, header_fault, data_len, uncompressed_len}
+use Rattle.sst_blocks.specs.Block.{Loaded, load_told, checked_payload, grammar_fault, unless, version_in, stored_checksum, header_fault, data_len, uncompressed_len}
 use Rattle.sst_blocks.specs.Starts.{HoldsEntries}
 
 -- a test that did not fail
@@ -23,30 +23,30 @@ unless_ok (Some e) r x h = absurd cc
 abbrev made : TableVersion → BlockType → List ℕ → Loaded
 made v kind payload = record { version = v; kind = kind; payload = payload }
 
--- the two last tests
-two_tests : (p q : Bool) (d e : Error) (v : TableVersion) (kind : BlockType) (payload : List ℕ) (b : Loaded) → cond p (Err d) (cond q (Err e) (Ok (made v kind payload))) ≡ Ok b → made v kind payload ≡ b
-two_tests true q d e v kind payload b h = absurd cc
-two_tests false true d e v kind payload b h = absurd cc
-two_tests false false d e v kind payload b h = cc
+-- the grammar that was tested last
+grammar_ok : (v : TableVersion) (kind : BlockType) (payload : List ℕ) (fault : Option Error) (b : Loaded) → unless fault (Ok (made v kind payload)) ≡ Ok b → made v kind payload ≡ b
+grammar_ok v kind payload None b h = cc
+grammar_ok v kind payload (Some e) b h = absurd cc
 
-pub payload_ok : (kind : BlockType) (head payload : List ℕ) (b : Loaded) → payload_told kind head payload ≡ Ok b → made (version_in head) kind payload ≡ b
-unfolding payload_told
-payload_ok kind head payload b h =
-    two_tests (not (fnv1a payload == stored_checksum head)) (not (in_grammar (version_in head) kind payload)) ChecksumMismatch InvalidBlock (version_in head) kind payload b h
+pub payload_ok : (v : TableVersion) (checksum : ℕ) (kind : BlockType) (payload : List ℕ) (b : Loaded) → checked_payload v checksum kind payload ≡ Ok b → made v kind payload ≡ b
+unfolding checked_payload
+payload_ok v checksum kind payload b h =
+    let checked = unless (grammar_fault v kind payload) (Ok (made v kind payload)) in
+    grammar_ok v kind payload (grammar_fault v kind payload) b (guard_ok (not (fnv1a payload == checksum)) ChecksumMismatch checked b h)
 
 pub load_kind : (body : List ℕ) (offset size : ℕ) (kind : BlockType) (b : Loaded) → load_told body offset size kind ≡ Ok b → b.kind ≡ kind
 unfolding load_told
 load_kind body offset size kind b h =
     let head = slice_range body offset (offset + 24) in
     let payload = slice_range body (offset + 24) (offset + size) in
-    let tail = payload_told kind head payload in
+    let tail = checked_payload (version_in head) (stored_checksum head) kind payload in
     let wrong = not (data_len head == uncompressed_len head) || not (24 + data_len head == size) in
     let past = nat_lt size 24 || nat_lt (length body) (offset + size) in
     let rest = cond wrong (Err InvalidHeader) tail in
     let one = guard_ok past Truncated (unless (header_fault kind head) rest) b h in
     let two = unless_ok (header_fault kind head) rest b one in
     let three = guard_ok wrong InvalidHeader tail b two in
-    sym (ap (λ (l : Loaded). l.kind) (payload_ok kind head payload b three))
+    sym (ap (λ (l : Loaded). l.kind) (payload_ok (version_in head) (stored_checksum head) kind payload b three))
 
 pub meta_holds : (k : BlockType) → k ≡ Meta → HoldsEntries k
 meta_holds Meta e = tt

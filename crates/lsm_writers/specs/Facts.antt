@@ -5,18 +5,12 @@ use Rattle.sst_blocks.specs.declared.value_type.ValueType.{ValueType}
 use Rattle.sst_blocks.specs.declared.value_type.ValueType.TheVariants.{Value, Tombstone, WeakTombstone, Indirection}
 use Rattle.sst_blocks.specs.Entry.{Entry}
 use Rattle.sst_blocks.specs.Key.{same_key}
-use Rattle.sst_blocks.specs.Kind.{is_tombstone_kind}
+use Rattle.sst_blocks.specs.Kind.{is_tombstone_kind, is_weak_kind}
 use Rattle.sst_blocks.specs.Stream.{first}
 use Rattle.sst_blocks.specs.Strict.{last_of}
 
 abbrev pub is_tombstone : Entry → Bool
 is_tombstone e = is_tombstone_kind e.kind
-
-abbrev pub is_weak_kind : ValueType → Bool
-is_weak_kind Value = false
-is_weak_kind Tombstone = false
-is_weak_kind WeakTombstone = true
-is_weak_kind Indirection = false
 
 abbrev pub is_weak : Entry → Bool
 is_weak e = is_weak_kind e.kind

@@ -4,12 +4,7 @@ use Rattle.std.specs.Prelude.{Option, Some, None, Result, Err}
 use Rattle.sst_blocks.specs.declared.block_type.BlockType.{BlockType}
 use Rattle.sst_blocks.specs.declared.error.Error.{Error}
 use Rattle.sst_blocks.specs.declared.error.Error.TheVariants.{Truncated, InvalidHeader}
-use Rattle.sst_blocks.specs.Block.{header_fault, unless, data_len, uncompressed_len, stored_checksum, version_in, payload_told, checked_payload, load_told, load_at_told}
-
--- the test of a payload reads only two fields of the header
-pub told_checked : (kind : BlockType) (head payload : List ℕ) → payload_told kind head payload ≡ checked_payload (version_in head) (stored_checksum head) kind payload
-unfolding payload_told checked_payload
-told_checked kind head payload = grind arith
+use Rattle.sst_blocks.specs.Block.{header_fault, unless, data_len, uncompressed_len, stored_checksum, version_in, checked_payload, load_told, load_at_told}
 
 -- no fault yet
 after : {A : Type 0} (wrong : Bool) (e : Error) (fault : Option Error) (told : Result A Error) → wrong ≡ false → fault ≡ None → (if wrong then Err e else unless fault told) ≡ told
@@ -53,7 +48,7 @@ module _ (body : List ℕ) (offset size : ℕ) (kind : BlockType) where
       → data_len (slice_range body offset (offset + 24)) ≡ uncompressed_len (slice_range body offset (offset + 24)) → 24 + data_len (slice_range body offset (offset + 24)) ≡ size
       → load_told body offset size kind ≡ checked_payload (version_in (slice_range body offset (offset + 24))) (stored_checksum (slice_range body offset (offset + 24))) kind (slice_range body (offset + 24) (offset + size))
   unfolding load_told
-  load_checked long within fault same whole = after _ _ _ _ (fits long within) fault ∙ lengths_agree _ _ _ _ same whole ∙ told_checked _ _ _
+  load_checked long within fault same whole = after _ _ _ _ (fits long within) fault ∙ lengths_agree _ _ _ _ same whole
 
 module _ (body : List ℕ) (position : ℕ) (kind : BlockType) where
   pub load_at_truncated : (position + 24 ≤ length body → ⊥) → load_at_told body position kind ≡ Err Truncated
@@ -83,4 +78,4 @@ module _ (body : List ℕ) (position : ℕ) (kind : BlockType) where
       → data_len (slice_range body position (position + 24)) ≡ uncompressed_len (slice_range body position (position + 24)) → position + 24 + data_len (slice_range body position (position + 24)) ≤ length body
       → load_at_told body position kind ≡ checked_payload (version_in (slice_range body position (position + 24))) (stored_checksum (slice_range body position (position + 24))) kind (slice_range body (position + 24) (position + 24 + data_len (slice_range body position (position + 24))))
   unfolding load_at_told
-  load_at_checked within fault same whole = after _ _ _ _ (header_fits within) fault ∙ equal_within _ _ _ _ _ same whole ∙ told_checked _ _ _
+  load_at_checked within fault same whole = after _ _ _ _ (header_fits within) fault ∙ equal_within _ _ _ _ _ same whole

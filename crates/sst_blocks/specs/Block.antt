@@ -74,17 +74,10 @@ stored_checksum head = num8 (drop 16 head)
 abbrev pub version_in : List ℕ → TableVersion
 version_in head = unwrap_or (version_of (take 4 head)) V4
 
--- the payload is tested last: its checksum, then its grammar
-unfoldable pub payload_told : BlockType → List ℕ → List ℕ → Result Loaded Error
-payload_told kind head payload =
-    if not (fnv1a payload == stored_checksum head) then Err ChecksumMismatch
-    else (if not (in_grammar (version_in head) kind payload) then Err InvalidBlock
-    else Ok (record { version = version_in head; kind = kind; payload = payload }))
-
--- the same by the version and the checksum that a header says
 abbrev pub grammar_fault : TableVersion → BlockType → List ℕ → Option Error
 grammar_fault v kind payload = if not (in_grammar v kind payload) then Some InvalidBlock else None
 
+-- the payload is tested last, by what its header says: its checksum, then its grammar
 unfoldable pub checked_payload : TableVersion → ℕ → BlockType → List ℕ → Result Loaded Error
 checked_payload v checksum kind payload =
     if not (fnv1a payload == checksum) then Err ChecksumMismatch
@@ -97,7 +90,7 @@ load_told body offset size kind =
     if nat_lt size 24 || nat_lt (length body) (offset + size) then Err Truncated
     else unless (header_fault kind head)
     (if not (data_len head == uncompressed_len head) || not (24 + data_len head == size) then Err InvalidHeader
-    else payload_told kind head (slice_range body (offset + 24) (offset + size)))
+    else checked_payload (version_in head) (stored_checksum head) kind (slice_range body (offset + 24) (offset + size)))
 
 -- the same with the size that the header says
 unfoldable pub load_at_told : List ℕ → ℕ → BlockType → Result Loaded Error
@@ -107,7 +100,7 @@ load_at_told body position kind =
     else unless (header_fault kind head)
     (if not (data_len head == uncompressed_len head) then Err InvalidHeader
     else (if nat_lt (length body) (position + 24 + data_len head) then Err Truncated
-    else payload_told kind head (slice_range body (position + 24) (position + 24 + data_len head))))
+    else checked_payload (version_in head) (stored_checksum head) kind (slice_range body (position + 24) (position + 24 + data_len head))))
 
 -- the entries, and the handles, of a loaded block
 abbrev pub entries_of : Loaded → List Entry

@@ -18,3 +18,9 @@ is_tombstone_kind Value = false
 is_tombstone_kind Tombstone = true
 is_tombstone_kind WeakTombstone = true
 is_tombstone_kind Indirection = false
+
+abbrev pub is_weak_kind : ValueType → Bool
+is_weak_kind Value = false
+is_weak_kind Tombstone = false
+is_weak_kind WeakTombstone = true
+is_weak_kind Indirection = false

@@ -185,19 +185,27 @@ impl<A: Allocator> DataBlock<A> {
         }
     }
 
-    /// The entry of a place, whose key and value share the block's memory. Refused [`Error::OutOfMemory`] alone.
-    pub fn entry(&self, index: usize) -> Result<InternalValue<A>, Error>
-        requires { index < length self.now }
-        ensures found { IfOk result (λ e. slice_get self.now index ≡ Some e) }
+    // The entry that was read at a place. Its key and value share the block's memory.
+    fn share(&self, index: usize, entry: &EntryRef<'_>) -> Result<InternalValue<A>, Error>
+        requires { slice_get self.now index ≡ Some (seen entry.now) }
+        ensures found { IfOk result (λ e. e ≡ seen entry.now) }
         ensures err { IfErr result (λ e. e ≡ OutOfMemory) }
     {
-        let entry = self.entry_ref(index);
         let key_at = self.starts[index] as usize + head_len(self.version);
         let value_at = key_at + entry.key.len();
         let end = value_at + entry.value.len();
         let key = self.payload.slice(key_at, value_at)?;
         let value = self.payload.slice(value_at, end)?;
         Ok(InternalValue::from_components(key, value, entry.seqno, entry.kind))
+    }
+
+    /// The entry of a place, whose key and value share the block's memory. Refused [`Error::OutOfMemory`] alone.
+    pub fn entry(&self, index: usize) -> Result<InternalValue<A>, Error>
+        requires { index < length self.now }
+        ensures found { IfOk result (λ e. slice_get self.now index ≡ Some e) }
+        ensures err { IfErr result (λ e. e ≡ OutOfMemory) }
+    {
+        self.share(index, &self.entry_ref(index))
     }
 
     /// How many entries at the front pass a test, by binary search: no entry passes after one that does not.
@@ -251,10 +259,14 @@ impl<A: Allocator> DataBlock<A> {
         ensures err { IfErr result (λ e. e ≡ OutOfMemory) }
     {
         let index = self.front_len(move |entry| entry.is_up_to(key, seqno));
-        if index == self.len() || self.entry_ref(index).key != key {
+        if index == self.len() {
             return Ok(None);
         }
-        Ok(Some(self.entry(index)?))
+        let entry = self.entry_ref(index);
+        if entry.key != key {
+            return Ok(None);
+        }
+        Ok(Some(self.share(index, &entry)?))
     }
 }
 

@@ -6,7 +6,6 @@ use Rattle.sst_blocks.specs.Span.{front_length}
 use Rattle.sst_blocks.specs.Strict.{is_before}
 use Rattle.sst_blocks.proofs.Points.{past_parted, keys_apart, keys_same, read_past, read_other, read_hit}
 use Rattle.sst_blocks.proofs.data_block.DataBlock.point_read.Goals as goal
-use Rattle.sst_blocks.proofs.data_block.DataBlock.point_read.Goals.{then-index-len-via-then-index-len, then-index-len-via-else-index-len+then-ne}
 
 pub returns-then-index-len-clause-found : goal.returns-then-index-len-clause-found
 returns-then-index-len-clause-found g c =
@@ -14,10 +13,15 @@ returns-then-index-len-clause-found g c =
     let key = c.args.key.now in
     let n = c.front_len-index.result in
     let place : n ≡ front_length (λ (e : Entry). not (is_before (bound_of key c.args.seqno) e)) es = c.front_len-index.ensures.value (λ (e : Entry). not (is_before (bound_of key c.args.seqno) e)) (λ x r h. search rules) (past_parted es key c.args.seqno c.front_len-index.ensures.strict) in
-    elim c.then-index-len.branch [
-      | then-index-len-via-then-index-len w ↦ read_past es key c.args.seqno n place (search rules)
-      | then-index-len-via-else-index-len+then-ne w ↦ read_other es key c.args.seqno n (seen w.entry_ref.result) c.front_len-index.ensures.strict place w.entry_ref.ensures (keys_apart w.entry_ref.result.key.now key w.ne.result w.ne.ensures w.if-ne.true)
-    ]
+    read_past es key c.args.seqno n place (search rules)
+
+pub returns-then-ne-clause-found : goal.returns-then-ne-clause-found
+returns-then-ne-clause-found g c =
+    let es = c.args.self.now in
+    let key = c.args.key.now in
+    let n = c.front_len-index.result in
+    let place : n ≡ front_length (λ (e : Entry). not (is_before (bound_of key c.args.seqno) e)) es = c.front_len-index.ensures.value (λ (e : Entry). not (is_before (bound_of key c.args.seqno) e)) (λ x r h. search rules) (past_parted es key c.args.seqno c.front_len-index.ensures.strict) in
+    read_other es key c.args.seqno n (seen c.entry_ref-entry.result) c.front_len-index.ensures.strict place c.entry_ref-entry.ensures (keys_apart c.entry_ref-entry.result.key.now key c.ne.result c.ne.ensures c.if-ne.true)
 
 pub returns-clause-found : goal.returns-clause-found
 returns-clause-found g c =
@@ -25,5 +29,5 @@ returns-clause-found g c =
     let key = c.args.key.now in
     let n = c.front_len-index.result in
     let place : n ≡ front_length (λ (e : Entry). not (is_before (bound_of key c.args.seqno) e)) es = c.front_len-index.ensures.value (λ (e : Entry). not (is_before (bound_of key c.args.seqno) e)) (λ x r h. search rules) (past_parted es key c.args.seqno c.front_len-index.ensures.strict) in
-    let same = keys_same c.entry_ref.result.key.now key c.ne.result c.ne.ensures c.if-ne.false in
-    sym c.in_ok-entry.ensures.found ∙ c.entry_ref.ensures ∙ read_hit es key c.args.seqno n (seen c.entry_ref.result) place c.entry_ref.ensures same
+    let same = keys_same c.entry_ref-entry.result.key.now key c.ne.result c.ne.ensures c.if-ne.false in
+    cc (c.in_ok-share.ensures.found, read_hit es key c.args.seqno n (seen c.entry_ref-entry.result) place c.entry_ref-entry.ensures same)
