@@ -2,7 +2,8 @@
 ghost use Rattle.std.specs.Prelude.{◌≡◌, OnOk, OnErr, IfErr};
 ghost use Rattle.std.specs.Option.{option_copied};
 ghost use Rattle.sst_blocks.specs.declared.error.Error.TheVariants.{OutOfMemory};
-ghost use Rattle.lsm_writers.specs.Facts.{is_weak, is_weak_kind, is_value_kind, starts_key, is_reclaimable};
+ghost use Rattle.lsm_writers.specs.Facts.{is_weak, is_value_kind, starts_key, is_reclaimable};
+ghost use Rattle.sst_blocks.specs.Kind.{is_weak_kind};
 
 use sst_blocks::{BlockOffset, Error, InternalValue, SeqNo, UserKey, ValueType};
 use std::alloc::{Allocator, Global};
