@@ -8,6 +8,7 @@ mod item_name;
 mod meta;
 mod point;
 mod regions;
+mod scanner;
 mod table;
 
 pub use block_index::FullBlockIndex;
@@ -15,6 +16,7 @@ pub use inner::Inner;
 pub use meta::ParsedMeta;
 pub use point::point_in;
 pub use regions::ParsedRegions;
+pub use scanner::Scanner;
 pub use table::{Table, TableInner};
 
 #[cfg(test)]
