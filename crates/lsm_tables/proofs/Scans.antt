@@ -262,16 +262,30 @@ scans_fault s u t e reached none some told is =
     } in
     subst (ScansNext s (Some (Err e))) (sym is) step
 
+-- no entry is left in the block that was reached
+pub record AtEnd (s t : Scan) : Type 0 where
+  pub reached : Reached s t
+  pub none : t.entries ≡ []
+
+pub at_end : (s u t : Scan) → Reached s u → (u.entries ≡ []) × (t ≡ u) → AtEnd s t
+at_end s u t reached none = subst (AtEnd s) (sym none.1) (record { reached = reached; none = none.0 })
+
+not_some : (n : ℕ) → (0 < n → ⊥) → n ≡ 0
+not_some zero h = refl
+not_some (suc n) h = absurd (h (omega arith))
+
 -- nothing is left
-pub scans_none : (s u : Scan) → Reached s u → IsEnded u → ScansNext s None u
-scans_none s u reached done = record {
-  answers = answers_from s u u None reached (gave_none u done);
-  ends = done;
-  count = reached.count;
-  counts = reached.counts;
-  within = omega (arith, reached.falls);
-  falls = tt;
-}
+pub scans_none : (s u : Scan) → AtEnd s u → (0 < u.blocks → ⊥) → ScansNext s None u
+scans_none s u end last =
+    let done : IsEnded u = (end.none, not_some u.blocks last) in
+    record {
+      answers = answers_from s u u None end.reached (gave_none u done);
+      ends = done;
+      count = (end.reached).count;
+      counts = (end.reached).counts;
+      within = omega (arith, (end.reached).falls);
+      falls = tt;
+    }
 
 -- ---- how many items come at most
 

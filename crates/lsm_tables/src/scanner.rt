@@ -12,8 +12,9 @@ ghost use Rattle.sst_blocks.specs.declared.error.Error.{Error};
 ghost use Rattle.sst_blocks.specs.declared.error.Error.TheVariants.{OutOfMemory};
 ghost use Rattle.lsm_tables.specs.Scan.{Scan, ScansNext, TakesEntry, block_told, ended, fault_of, lifted_told, scan_size, scan_told};
 
+use crate::HEADER_LEN;
 use sst_blocks::{
-    Block, BlockSource, BlockType, CompressionType, DataBlock, Error, IterItem, Opened, SeqNo,
+    BlockSource, BlockType, CompressionType, DataBlock, Error, IterItem, Opened, SeqNo,
 };
 use std::alloc::{Allocator, Global};
 use std::marker::Model;
@@ -56,7 +57,7 @@ fn block_at<A: Allocator + Clone>(
     ensures counted { opened.new ≡ counted Data opened.old }
 {
     let block = source.load_at(position, BlockType::Data, opened)?;
-    let next = position + u64::from(Block::<A>::HEADER_LEN) + block.size() as u64;
+    let next = position + u64::from(HEADER_LEN) + block.size() as u64;
     Ok((DataBlock::new(block), next))
 }
 

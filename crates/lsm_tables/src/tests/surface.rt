@@ -1,5 +1,8 @@
 use super::{ROWS, table_of};
+use crate::HEADER_LEN;
 use lsm_sorted::Ranged;
+use sst_blocks::Block;
+use std::alloc::Global;
 use std::ops::Bound;
 use std::test::Fail;
 
@@ -10,6 +13,7 @@ fn a_table_shows_its_id_and_its_range(rt: HostRuntime) -> Result<(), Fail> {
     assert_eq!(rt; table.key_range().max().as_slice(), b"b".as_slice());
     let text = format!(in rt.alloc(); "{table:?}")?;
     assert!(rt; text.starts_with("Table:1("));
+    assert_eq!(rt; HEADER_LEN, Block::<Global>::HEADER_LEN);
     Ok(())
 }
 

@@ -1,4 +1,4 @@
-use Rattle.std.proofs.Common.{◌≡◌, ℕ, ◌+◌, List, refl, ap, ◌∙◌, sym, arith, rules}
+use Rattle.std.proofs.Common.{◌≡◌, ℕ, ◌+◌, List, refl, ap, ◌∙◌, sym, arith}
 use Rattle.std.specs.Prelude.{Result, Ok}
 use Rattle.sst_blocks.specs.declared.error.Error.{Error}
 use Rattle.sst_blocks.specs.Block.{Loaded, entries_of}
@@ -20,6 +20,5 @@ both xs ys m n e f = rw (e, f) refl
 pub returns-clause-told : goal.returns-clause-told
 returns-clause-told g c =
     let b = c.in_ok-block.block in
-    let header : c.HEADER_LEN.result ≡ 24 = search rules in
     ap (λ (r : Result Loaded Error). r >>= λ x. Ok (entries_of x, behind c.args.position x)) c.in_ok-block.ensures.told
-    ∙ both (entries_of b) c.new.result (behind c.args.position b) (c.args.position + c.from.result + c.size.result) (sym c.new.ensures) (omega (arith, c.from.ensures, c.size.ensures, header))
+    ∙ both (entries_of b) c.new.result (behind c.args.position b) (c.args.position + c.from.result + c.size.result) (sym c.new.ensures) (omega (arith, c.from.ensures, c.size.ensures))

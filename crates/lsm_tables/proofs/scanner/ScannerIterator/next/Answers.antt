@@ -1,7 +1,5 @@
-use Rattle.std.proofs.Common.{◌≡◌, ℕ, ◌<◌, rules, arith}
-use Rattle.std.specs.Prelude.{None}
-use Rattle.lsm_tables.specs.Scan.{Scan}
-use Rattle.lsm_tables.proofs.Scans.{scans_entry, scans_none, scans_fault, reached_next, progress}
+use Rattle.std.proofs.Common.{◌≡◌, true, false, sym, subst, ◌∙◌}
+use Rattle.lsm_tables.proofs.Scans.{Reached, at_end, scans_entry, scans_none, scans_fault, reached_next, progress}
 use Rattle.lsm_tables.proofs.scanner.ScannerIterator.next.Goals as goal
 
 pub returns-in-Some-clause-steps : goal.returns-in-Some-clause-steps
@@ -12,22 +10,22 @@ returns-in-Some-clause-goes g c = progress c.args.self.now c.next_entry.new.self
 
 pub returns-then-not-has_block-clause-steps : goal.returns-then-not-has_block-clause-steps
 returns-then-not-has_block-clause-steps g c =
-    let none = c.in_default.ensures.none in
-    let is = c.in_default.is in
-    let not = c.in_default.not-Some in
-    let last = c.if-not-has_block.true in
-    let test = c.has_block.ensures in
-    ?
+    let end = at_end c.args.self.now c.loop-item.self c.next_entry.new.self c.loop-item.invariant c.in_default.ensures.none in
+    scans_none c.args.self.now c.next_entry.new.self end (λ more. let no : true ≡ false = sym (c.has_block.ensures.1 more) ∙ c.if-not-has_block.true in cc)
 
 pub returns-in-Err-clause-steps : goal.returns-in-Err-clause-steps
 returns-in-Err-clause-steps g c =
-    let err = c.in-Err.ensures.err in
-    let refused = c.in-Err.ensures.refused in
-    let more = c.if-not-has_block.false in
-    ?
+    let end = at_end c.args.self.now c.loop-item.self c.next_entry.new.self c.loop-item.invariant c.in_default.ensures.none in
+    scans_fault c.args.self.now c.next_entry.new.self c.next_block.new.self c.in-Err.error end.reached end.none (c.has_block.ensures.0 c.if-not-has_block.false) c.in-Err.ensures.refused c.in-Err.ensures.err
+
+pub returns-in-Err-clause-goes : goal.returns-in-Err-clause-goes
+returns-in-Err-clause-goes g c =
+    let end = at_end c.args.self.now c.loop-item.self c.next_entry.new.self c.loop-item.invariant c.in_default.ensures.none in
+    progress c.args.self.now c.next_block.new.self _
+    (scans_fault c.args.self.now c.next_entry.new.self c.next_block.new.self c.in-Err.error end.reached end.none (c.has_block.ensures.0 c.if-not-has_block.false) c.in-Err.ensures.refused c.in-Err.ensures.err)
 
 pub loop-item-preserved : goal.loop-item-preserved
 loop-item-preserved g c =
-    let is = c.in_default-next_block.is in
-    let ok = c.in_default-next_block.ensures.ok in
-    ?
+    let end = at_end c.args.self.now c.loop-item.self c.next_entry.new.self c.loop-item.invariant c.in_default.ensures.none in
+    let block = c.in_default-next_block.ensures.ok in
+    subst (Reached c.args.self.now) (sym block.3) (reached_next c.args.self.now c.next_entry.new.self block.0 block.1 end.reached end.none (c.has_block.ensures.0 c.if-not-has_block.false) block.2)
