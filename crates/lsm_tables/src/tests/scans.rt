@@ -54,9 +54,18 @@ fn a_scan_of_a_stored_table(rt: HostRuntime) -> Result<(), Fail> {
     assert_eq!(rt; stored_scan(alloc, whole, 1, 0)?, ([1, 0, 0, 0, 0, 0], 1));
     assert_eq!(rt; stored_scan(alloc, whole, 0, 0)?, ([1, 0, 0, 0, 0, 0], 1));
     // What lies behind the data block is no data block.
-    assert_eq!(rt; stored_scan(alloc, whole, 9, 0)?, ([1, 1004, 0, 0, 0, 0], 2));
-    assert_eq!(rt; stored_scan(alloc, whole, 1, u64::MAX - 1)?.0, [u64::MAX, 0, 0, 0, 0, 0]);
-    assert_eq!(rt; stored_scan(alloc, whole, 9, u64::MAX)?, ([1021, 0, 0, 0, 0, 0], 1));
+    assert_eq!(rt;
+        stored_scan(alloc, whole, 9, 0)?,
+        ([1, 1004, 0, 0, 0, 0], 2)
+    );
+    assert_eq!(rt;
+        stored_scan(alloc, whole, 1, u64::MAX - 1)?.0,
+        [u64::MAX, 0, 0, 0, 0, 0]
+    );
+    assert_eq!(rt;
+        stored_scan(alloc, whole, 9, u64::MAX)?,
+        ([1021, 0, 0, 0, 0, 0], 1)
+    );
     assert!(rt; matches!(stored_scan(alloc, 44, 1, 0), Err(Error::ChecksumMismatch)));
     Ok(())
 }

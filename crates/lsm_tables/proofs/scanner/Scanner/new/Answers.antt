@@ -19,5 +19,5 @@ returns-clause-deals g c stops memory =
     let body = body_of c.args.source.now in
     let left = first_left body c.args.global_seqno c.args.block_count c.in_ok-block.block c.in_ok-block.position c.in_ok-block.ensures.told in
     let rest = same_left body (body_of c.in_ok-clone.field-0) c.args.global_seqno c.in_ok-block.block c.in_ok-block.block c.in_ok-block.position (c.args.block_count - 1) c.saturating_sub.result
-        (ap body_of (sym c.in_ok-clone.ensures.cases)) refl (sym c.saturating_sub.ensures) in
+    (ap body_of (sym c.in_ok-clone.ensures.cases)) refl (sym c.saturating_sub.ensures) in
     scan_deals stops _ (scan_told body c.args.block_count c.args.global_seqno) (left ∙ rest, inr memory)
