@@ -115,7 +115,7 @@ facts_fit v label options cs short fits =
       file_size = omega arith;
     }
 
-any_front : (last : Option Entry) (c : List Entry) → IsStrictAfter last c → IsStrict c
+pub any_front : (last : Option Entry) (c : List Entry) → IsStrictAfter last c → IsStrict c
 unfolding IsStrictAfter
 any_front last [] h = tt
 any_front last (x ∷ xs) h = (refl, h.1)
@@ -225,7 +225,7 @@ module _ (v : TableVersion) (label : Label) (options : Options) (cs : List (List
       rw (facts_are, index_is) (low_or_read key bound (leb (bound - g) (lowest_seqno (joined cs))) refl ∙ ap (λ (o : Option Entry). Ok o) seen)
 
 -- each chunk of a cut list has an entry
-some_chunks : (size : ℕ) (spills : List ℕ) (at : ℕ) (cs : List (List Entry)) → AreChunksFrom size spills at cs → AreSome cs
+pub some_chunks : (size : ℕ) (spills : List ℕ) (at : ℕ) (cs : List (List Entry)) → AreChunksFrom size spills at cs → AreSome cs
 some_chunks size spills at [] h = tt
 some_chunks size spills at (c ∷ cs) h = ((h.0).some, some_chunks size spills (at + length c) cs h.2)
 

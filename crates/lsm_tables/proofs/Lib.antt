@@ -7,3 +7,5 @@ pub mod FileLengths
 pub mod MetaBlocks
 pub mod FileReads
 pub mod FilePoints
+pub mod Scans
+pub mod FileScans

@@ -4,6 +4,8 @@ use Rattle.std.specs.Prelude.{map, Result, Ok, Err}
 use Rattle.std.proofs.lemmas.Bool.{ltb-false}
 use Rattle.sst_blocks.specs.declared.error.Error.{Error}
 use Rattle.sst_blocks.specs.declared.error.Error.TheVariants.{GlobalSeqNoTooLarge}
+use Rattle.sst_blocks.specs.declared.block_type.BlockType.TheVariants.{Index}
+use Rattle.sst_blocks.specs.Block.{Loaded, load_told, handles_of}
 use Rattle.sst_blocks.specs.Handle.{Handle}
 use Rattle.sst_blocks.specs.Sections.{body_of, section_in, section_names, trailer_fault}
 use Rattle.lsm_tables.specs.declared.regions.ParsedRegions.{ParsedRegions}
@@ -61,3 +63,10 @@ steps bytes g parts h =
 
 pub highest_fits : (t : TableSeen) → IsRecovered t → t.parts.facts.seqno_max + t.global_seqno < 2 ^ 64
 highest_fits t h = (steps t.bytes t.global_seqno t.parts h).fits
+
+-- the index block is loaded
+pub index_opens : (t : TableSeen) → IsRecovered t → (b : Loaded) × (load_told (body_of t.bytes) t.parts.regions.tli.offset t.parts.regions.tli.size Index ≡ Ok b)
+index_opens t h =
+    let tli = t.parts.regions.tli in
+    let i = bind_ok (load_told (body_of t.bytes) tli.offset tli.size Index) (λ block. Ok (handles_of block)) t.parts.index (steps t.bytes t.global_seqno t.parts h).index in
+    (i.0, i.1)

@@ -9,3 +9,5 @@ pub mod Answer
 pub mod TableSeen
 pub mod Handled
 pub mod Fits
+pub mod Scan
+pub mod Range

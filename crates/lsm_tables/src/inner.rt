@@ -1,6 +1,7 @@
 //! What the handles of a table share, but for its bytes.
 use crate::block_index::FullBlockIndex;
 use crate::{ParsedMeta, ParsedRegions};
+use lsm_writers::TreeId;
 use sst_blocks::{Checksum, SeqNo};
 use std::alloc::{Allocator, Global};
 
@@ -8,7 +9,7 @@ use std::alloc::{Allocator, Global};
 #[derive(Drop)]
 pub struct Inner<A: Allocator = Global> {
     /// The tree that the table belongs to.
-    pub tree_id: u64,
+    pub tree_id: TreeId,
     /// The number that is added to every stored number.
     pub global_seqno: SeqNo,
     /// The checksum that the table was recovered with. It is kept, and not compared.

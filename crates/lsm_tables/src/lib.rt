@@ -8,6 +8,7 @@ mod item_name;
 mod meta;
 mod point;
 mod regions;
+mod scanner;
 mod table;
 
 pub use block_index::FullBlockIndex;
@@ -15,7 +16,11 @@ pub use inner::Inner;
 pub use meta::ParsedMeta;
 pub use point::point_in;
 pub use regions::ParsedRegions;
+pub use scanner::Scanner;
 pub use table::{Table, TableInner};
+
+/// The length of a block header in bytes, [`sst_blocks::Block::HEADER_LEN`].
+const HEADER_LEN: u32 = 24;
 
 #[cfg(test)]
 mod tests;

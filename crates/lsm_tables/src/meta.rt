@@ -10,6 +10,7 @@ ghost use Rattle.lsm_tables.specs.Seen.{facts_of};
 use crate::item_name::ItemName;
 use byteorder::{ByteOrder, LittleEndian};
 use lsm_sorted::KeyRange;
+use lsm_writers::{TableId, Timestamp};
 use sst_blocks::{
     BlockHandle, BlockSource, BlockType, CompressionType, DataBlock, Error, Opened, SeqNo, Slice,
 };
@@ -23,9 +24,9 @@ pub struct ParsedMeta<A: Allocator = Global> {
     /// The version of the table, 3 or 4.
     pub table_version: u8,
     /// The table's id.
-    pub id: u64,
-    /// When the table was written, in nanoseconds.
-    pub created_at: u128,
+    pub id: TableId,
+    /// When the table was written.
+    pub created_at: Timestamp,
     /// How many data blocks there are.
     pub data_block_count: u64,
     /// How many index blocks there are.
@@ -251,7 +252,7 @@ fn read_facts<A: Allocator>(block: &DataBlock<A>) -> Result<ParsedMeta<A>, Error
     Ok(ParsedMeta {
         table_version,
         id,
-        created_at,
+        created_at: Timestamp::from(created_at),
         data_block_count,
         index_block_count,
         key_range,

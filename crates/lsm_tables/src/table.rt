@@ -1,32 +1,42 @@
 //! Tables: opening a table's bytes, and reading from them.
-ghost use Rattle.std.specs.Prelude.{◌≡◌, ◌+◌, ℕ, List, Option, Result, Ok, IfOk, IfErr};
+ghost use Rattle.std.specs.Prelude.{◌≡◌, ◌+◌, ◌<◌, ◌&&◌, ℕ, Bool, List, [], Option, Some, Result, Ok, Err, true, length, IfOk, IfErr, MatchResult};
+ghost use Rattle.sst_blocks.specs.Block.{Loaded, load_told, load_at_told};
 ghost use Rattle.sst_blocks.specs.Entry.{Entry};
-ghost use Rattle.sst_blocks.specs.Error.{Gives};
+ghost use Rattle.sst_blocks.specs.Error.{Faults, Gives};
 ghost use Rattle.sst_blocks.specs.Fnv.{fnv1a};
-ghost use Rattle.sst_blocks.specs.Opened.{none_opened};
+ghost use Rattle.sst_blocks.specs.Opened.{counted, none_opened};
 ghost use Rattle.sst_blocks.specs.Sections.{body_of};
 ghost use Rattle.sst_blocks.specs.declared.version.TableVersion.{TableVersion};
 ghost use Rattle.sst_blocks.specs.Point.{point};
+ghost use Rattle.sst_blocks.specs.Stream.{CanDeal, Deals, all_ok, nowhere, stopped};
 ghost use Rattle.sst_blocks.specs.Strict.{IsStrict};
+ghost use Rattle.sst_blocks.specs.declared.block_type.BlockType.TheVariants.{Data, Index};
+ghost use Rattle.sst_blocks.specs.declared.error.Error.{Error};
+ghost use Rattle.sst_blocks.specs.declared.error.Error.TheVariants.{OutOfMemory};
+ghost use Rattle.lsm_sorted.specs.KeyRange.{bound_of, from_lower, up_to_upper};
 ghost use Rattle.lsm_writers.specs.File.{IsFile};
 ghost use Rattle.lsm_writers.specs.Options.{Options, Label};
 ghost use Rattle.lsm_tables.specs.Answer.{answer_told, handle_for, lift, Opens};
 ghost use Rattle.lsm_tables.specs.Fits.{Fits};
 ghost use Rattle.lsm_tables.specs.Handled.{IsRecovered, IsOpen};
 ghost use Rattle.lsm_tables.specs.Parts.{recovered_told, parts_told, index_told, number_told, size_of};
+ghost use Rattle.lsm_tables.specs.Scan.{Scan, fault_of, scan_told};
 ghost use Rattle.lsm_tables.specs.Seen.{parts_of, facts_of};
 ghost use Rattle.lsm_tables.specs.TableSeen.{TableSeen};
 
 use crate::block_index::FullBlockIndex;
 use crate::handle::Shared;
-use crate::{Inner, ParsedMeta, ParsedRegions, point_in};
+use crate::{HEADER_LEN, Inner, ParsedMeta, ParsedRegions, Scanner, point_in};
+use lsm_sorted::{KeyRange, Ranged};
+use lsm_writers::{TableId, TreeId};
 use sst_blocks::{
     BlockSource, BlockType, Checksum, Counted, Error, IndexBlock, InternalValue, Opened, SeqNo,
     Slice, hash,
 };
 use std::alloc::{AllocError, Allocator, Global};
+use std::fmt;
 use std::marker::Model;
-use std::ops::Deref;
+use std::ops::{Bound, Deref};
 use std::sync::Arc;
 
 /// What the handles of a table share, but for its bytes.
@@ -65,10 +75,39 @@ impl<A: Allocator> Deref for Table<A> {
 
     type Target = Inner<A>;
 
-    ghost deref_gives = { λ t inner. parts_of inner ≡ t.parts };
+    ghost deref_gives = { λ t inner. (parts_of inner ≡ t.parts) × (inner.global_seqno ≡ t.global_seqno) × (inner.tree_id ≡ t.tree_id) × (inner.checksum.0 ≡ t.checksum) };
 
     fn deref(&self) -> &Inner<A> {
         &self.0.inner
+    }
+}
+
+impl<A: Allocator> Ranged for Table<A> {
+    ghost use Rattle.std.proofs.Common.{ap};
+    ghost use Rattle.std.specs.Prelude.{List, ℕ};
+    ghost use Rattle.lsm_tables.specs.Range.{range_told};
+
+    type Alloc = A;
+
+    // The table's bytes and its global number.
+    ghost Meaning = { List ℕ × ℕ };
+
+    ghost meaning = { λ t. (t.bytes, t.global_seqno) };
+
+    ghost range = { λ t. range_told (t.bytes, t.global_seqno) };
+
+    fn key_range(&self) -> &KeyRange<A> {
+        &self.0.inner.metadata.key_range
+    }
+
+    ghost steady = { λ x y same. ap range_told same };
+}
+
+impl<A: Allocator> fmt::Debug for Table<A> {
+    fn fmt<W: fmt::Write>(&self, f: &mut fmt::Formatter<W>) -> fmt::Result {
+        let id = self.id();
+        let key_range = &self.0.inner.metadata.key_range;
+        write!(f, "Table:{id}({key_range:?})")
     }
 }
 
@@ -97,7 +136,7 @@ fn recover_inner<A: Allocator + Clone>(
     source: &BlockSource<A>,
     checksum: Checksum,
     global_seqno: SeqNo,
-    tree_id: u64,
+    tree_id: TreeId,
 ) -> Result<Inner<A>, Error>
     ensures told { Gives parts_of result (parts_told source.now global_seqno) }
     ensures numbers { IfOk result (λ inner. (inner.global_seqno ≡ global_seqno) × (inner.tree_id ≡ tree_id) × (inner.checksum ≡ checksum)) }
@@ -127,7 +166,7 @@ impl<A: Allocator + Clone> Table<A> {
         bytes: Slice<A>,
         checksum: Checksum,
         global_seqno: SeqNo,
-        tree_id: u64,
+        tree_id: TreeId,
         pin_filter: bool,
         pin_index: bool,
     ) -> Result<Table<A>, Error>
@@ -184,11 +223,35 @@ impl<A: Allocator + Clone> Table<A> {
     {
         self.get_counted(key, seqno, key_hash).0
     }
+
+    /// All entries in order, their numbers with the global number added. Each data block is read once, in file order.
+    /// Refused with the first fault of loading the first of them, and [`Error::OutOfMemory`].
+    pub fn scan(&self) -> Result<Scanner<A>, Error>
+        ensures refused { Faults result (fault_of (load_at_told (body_of self.now.bytes) 0 Data)) }
+        // Want of memory aside, it gives the entries of as many blocks as the table says that it has.
+        ensures deals { (stops : Error → Bool) → stops OutOfMemory ≡ true → IfOk result (λ s. Deals (stopped stops) ⟦<Scanner<A> as Iterator>⟧.next_gives nowhere s (scan_told (body_of self.now.bytes) self.now.parts.facts.data_block_count self.now.global_seqno)) }
+        ensures can { IfOk result (λ s. CanDeal ⟦<Scanner<A> as Iterator>⟧.next_gives nowhere ⟦<Scanner<A> as Iterator>⟧.can_next ⟦<Scanner<A> as Iterator>⟧.can_next s) }
+        // After an error nothing comes, whatever the error is.
+        ensures ends { (stops : Error → Bool) (s t : Scan) (e : Error) → ⟦<Scanner<A> as Iterator>⟧.next_gives s (Some (Err e)) t → Deals (stopped stops) ⟦<Scanner<A> as Iterator>⟧.next_gives nowhere t [] }
+        ensures opened { IfOk result (λ s. s.opened ≡ counted Data none_opened) }
+        // On a table of a list it is the list, its numbers lifted, and nothing but want of memory refuses it.
+        ensures file { (v : TableVersion) (label : Label) (options : Options) (spills : List ℕ) (es : List Entry) (f : IsFile v self.now.bytes label options spills es) → IsStrict es → Fits v label options f.blocks → 0 < length es → MatchResult result (λ s. (stops : Error → Bool) → stops OutOfMemory ≡ true → Deals (stopped stops) ⟦<Scanner<A> as Iterator>⟧.next_gives nowhere s (all_ok (lift es self.now.global_seqno))) (λ e. e ≡ OutOfMemory) }
+        ensures open { IsOpen self.now }
+    {
+        let shared: &Shared<A> = &self.0;
+        let inner = &shared.inner;
+        Scanner::new(
+            &shared.source,
+            inner.metadata.data_block_count,
+            inner.metadata.data_block_compression,
+            inner.global_seqno,
+        )
+    }
 }
 
 impl<A: Allocator> Table<A> {
     /// The table's id.
-    pub fn id(&self) -> u64
+    pub fn id(&self) -> TableId
         ensures { result ≡ self.now.parts.facts.id }
     {
         self.0.inner.metadata.id
@@ -234,6 +297,28 @@ impl<A: Allocator> Table<A> {
         ensures { result ≡ self.now.parts.facts.weak_tombstone_reclaimable }
     {
         self.0.inner.metadata.weak_tombstone_reclaimable
+    }
+
+    /// The payload length of the filter block that stays loaded, in bytes: 0, since no filter is read.
+    pub fn pinned_filter_size(&self) -> usize
+        ensures { result ≡ 0 }
+    {
+        0
+    }
+
+    /// The payload length of the index block that stays loaded, in bytes.
+    pub fn pinned_block_index_size(&self) -> usize
+        ensures size { result + 24 ≡ self.now.parts.regions.tli.size }
+        ensures payload { (b : Loaded) → load_told (body_of self.now.bytes) self.now.parts.regions.tli.offset self.now.parts.regions.tli.size Index ≡ Ok b → result ≡ length b.payload }
+    {
+        (self.0.inner.regions.tli.size() - HEADER_LEN) as usize
+    }
+
+    /// Whether the table's key range reaches past both bounds. Where it does not, no key of the table lies within them.
+    pub fn check_key_range_overlap(&self, bounds: &(Bound<&[u8]>, Bound<&[u8]>)) -> bool
+        ensures { result ≡ (from_lower (bound_of bounds.now.0) self.now.parts.facts.key_range.max && up_to_upper (bound_of bounds.now.1) self.now.parts.facts.key_range.min) }
+    {
+        self.0.inner.metadata.key_range.overlaps_with_bounds(bounds)
     }
 
     /// The length of the `filter` section in bytes, or 0 where there is none.

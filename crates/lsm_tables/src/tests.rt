@@ -1,4 +1,6 @@
+mod scans;
 mod stored_table;
+mod surface;
 
 use crate::Table;
 use lsm_writers::{Timestamp, Writer};

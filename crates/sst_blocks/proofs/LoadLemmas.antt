@@ -1,10 +1,14 @@
 -- What a load tells, one fault after another.
-use Rattle.std.proofs.Common.{◌≡◌, ℕ, ◌+◌, ◌<◌, ◌≤◌, ◌==◌, ◌||◌, not, nat_lt, Bool, false, if◌then◌else◌, List, length, slice_range, refl, ◌∙◌, arith}
-use Rattle.std.specs.Prelude.{Option, Some, None, Result, Err}
+use Rattle.std.proofs.Common.{◌≡◌, ℕ, ◌+◌, ◌-◌, ◌<◌, ◌≤◌, ◌==◌, ◌||◌, not, nat_lt, Bool, true, false, if◌then◌else◌, List, length, drop, slice_range, refl, sym, ap, ◌∙◌, arith}
+use Rattle.std.specs.Prelude.{Option, Some, None, Result, Ok, Err, IfOk}
+use Rattle.std.proofs.lemmas.List.{length-take}
 use Rattle.sst_blocks.specs.declared.block_type.BlockType.{BlockType}
 use Rattle.sst_blocks.specs.declared.error.Error.{Error}
-use Rattle.sst_blocks.specs.declared.error.Error.TheVariants.{Truncated, InvalidHeader}
-use Rattle.sst_blocks.specs.Block.{header_fault, unless, data_len, uncompressed_len, stored_checksum, version_in, checked_payload, load_told, load_at_told}
+use Rattle.sst_blocks.specs.declared.error.Error.TheVariants.{Truncated, InvalidHeader, ChecksumMismatch}
+use Rattle.sst_blocks.specs.declared.version.TableVersion.{TableVersion}
+use Rattle.sst_blocks.specs.Error.{Gives}
+use Rattle.sst_blocks.specs.Fnv.{fnv1a}
+use Rattle.sst_blocks.specs.Block.{Loaded, grammar_fault, header_fault, unless, data_len, uncompressed_len, stored_checksum, version_in, checked_payload, load_told, load_at_told}
 
 -- no fault yet
 after : {A : Type 0} (wrong : Bool) (e : Error) (fault : Option Error) (told : Result A Error) → wrong ≡ false → fault ≡ None → (if wrong then Err e else unless fault told) ≡ told
@@ -79,3 +83,22 @@ module _ (body : List ℕ) (position : ℕ) (kind : BlockType) where
       → load_at_told body position kind ≡ checked_payload (version_in (slice_range body position (position + 24))) (stored_checksum (slice_range body position (position + 24))) kind (slice_range body (position + 24) (position + 24 + data_len (slice_range body position (position + 24))))
   unfolding load_at_told
   load_at_checked within fault same whole = after _ _ _ _ (header_fits within) fault ∙ equal_within _ _ _ _ _ same whole
+
+-- ---- how far a block reaches
+
+two_tests : (p : Bool) (fault : Option Error) (payload : List ℕ) (b made : Loaded) → made.payload ≡ payload → (if p then Err ChecksumMismatch else unless fault (Ok made)) ≡ Ok b → b.payload ≡ payload
+two_tests true fault payload b made is h = absurd cc
+two_tests false (Some e) payload b made is h = absurd cc
+two_tests false None payload b made is h = let same : made ≡ b = cc in sym (ap (λ (x : Loaded). x.payload) same) ∙ is
+
+payload_is : (v : TableVersion) (checksum : ℕ) (kind : BlockType) (payload : List ℕ) (b : Loaded) → checked_payload v checksum kind payload ≡ Ok b → b.payload ≡ payload
+unfolding checked_payload
+payload_is v checksum kind payload b h = two_tests (not (fnv1a payload == checksum)) (grammar_fault v kind payload) payload b (record { version = v; kind = kind; payload = payload }) refl h
+
+-- a block that was loaded has the payload that was tested
+pub loaded_within : (v : TableVersion) (checksum : ℕ) (kind : BlockType) (payload : List ℕ) (n end : ℕ) (r : Result Loaded Error) → Gives {X = Loaded} {Y = Loaded} (λ b. b) r (checked_payload v checksum kind payload) → n + length payload < end → IfOk r (λ b. n + length b.payload < end)
+loaded_within v checksum kind payload n end (Ok b) told lt = let e = payload_is v checksum kind payload b told in rw e lt
+loaded_within v checksum kind payload n end (Err e) told lt = tt
+
+pub range_short : (xs : List ℕ) (from len : ℕ) → length (slice_range xs from (from + len)) ≤ len
+range_short xs from len = omega (arith, length-take (from + len - from) (drop from xs))

@@ -9,7 +9,7 @@ ghost use Rattle.sst_blocks.specs.declared.opened.Opened.{Opened};
 use crate::block::Header;
 use crate::section::TRAILER_LEN;
 use crate::{Block, BlockHandle, BlockType, Error, Opened, Slice, Toc};
-use std::alloc::{Allocator, Global};
+use std::alloc::{AllocError, Allocator, Global};
 use std::marker::Model;
 
 /// The length of a block header in bytes.
@@ -32,6 +32,21 @@ impl<A: Allocator> Model for BlockSource<A> {
     ghost view = { λ s. s.bytes };
 
     ghost invariant = { λ s. (s.toc ≡ map (section_in s.bytes) section_names) × (trailer_fault s.bytes ≡ None) };
+}
+
+impl<A: Allocator + Clone> Clone for BlockSource<A> {
+    ghost use Rattle.std.specs.Prelude.{◌≡◌};
+
+    ghost is_clone = { λ s copy. copy ≡ s };
+
+    /// A source over the same bytes, which both share. Refused where the count of sharers is refused.
+    fn clone(&self) -> Result<BlockSource<A>, AllocError> {
+        Ok(BlockSource {
+            bytes: self.bytes.clone()?,
+            toc: self.toc,
+            alloc: self.alloc.clone()?,
+        })
+    }
 }
 
 impl<A: Allocator + Clone> BlockSource<A> {
@@ -96,6 +111,8 @@ impl<A: Allocator + Clone> BlockSource<A> {
         opened: &mut Opened,
     ) -> Result<Block<A>, Error>
         ensures told { Gives (λ (b : Loaded). b) result (load_at_told (body_of self.now) position kind) }
+        // A block ends within memory.
+        ensures within { IfOk result (λ b. position + 24 + length b.payload < 2 ^ 63) }
         ensures counted { opened.new ≡ counted kind opened.old }
     {
         opened.count(kind);

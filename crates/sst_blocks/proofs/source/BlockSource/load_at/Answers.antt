@@ -1,11 +1,11 @@
-use Rattle.std.proofs.Common.{◌≡◌, ◌+◌, slice_range, sym, subst, arith}
+use Rattle.std.proofs.Common.{◌≡◌, ◌+◌, ◌^◌, slice_range, sym, subst, arith}
 use Rattle.std.specs.Prelude.{Result}
 use Rattle.std.proofs.lemmas.Result.{err_from_is_err_and}
 use Rattle.sst_blocks.specs.declared.error.Error.{Error}
 use Rattle.sst_blocks.specs.Block.{Loaded, load_at_told, checked_payload}
 use Rattle.sst_blocks.specs.Error.{Gives}
 use Rattle.sst_blocks.specs.Sections.{body_of}
-use Rattle.sst_blocks.proofs.LoadLemmas.{load_at_truncated, load_at_fault, load_at_lengths, load_at_passes, load_at_checked}
+use Rattle.sst_blocks.proofs.LoadLemmas.{load_at_truncated, load_at_fault, load_at_lengths, load_at_passes, load_at_checked, loaded_within, range_short}
 use Rattle.sst_blocks.proofs.source.BlockSource.load_at.Goals as goal
 use Rattle.sst_blocks.proofs.source.BlockSource.load_at.Goals.{then-body-lt-HEADER_LEN-via-then-body-lt-HEADER_LEN, then-body-lt-HEADER_LEN-via-else-body-lt-HEADER_LEN+then-body-position}
 
@@ -38,3 +38,10 @@ returns-clause-told g c =
     let told = load_at_checked c.body-body.result.now c.args.position c.args.kind (omega arith) c.in_ok-header.ensures.fault (omega (arith, c.in_ok-header.ensures.data_len, c.in_ok-header.ensures.uncompressed_len)) (omega (arith, c.in_ok-header.ensures.data_len)) in
     let whole : load_at_told (body_of c.args.self.now) c.args.position c.args.kind ≡ checked_payload c.in_ok-header.header.version c.in_ok-header.header.checksum c.args.kind (slice_range (body_of c.args.self.now) (c.args.position + 24) (c.args.position + 24 + c.in_ok-header.header.data_len)) = cc (c.body-body.ensures.body, c.in_ok-header.ensures.version, c.in_ok-header.ensures.checksum, c.in_ok-header.ensures.data_len) in
     subst (λ (told : Result Loaded Error). Gives {X = Loaded} {Y = Loaded} (λ b. b) c.block.result told) (sym whole) c.block.ensures
+
+pub returns-clause-within : goal.returns-clause-within
+returns-clause-within g c =
+    let from = c.args.position + 24 in
+    let to = from + c.in_ok-header.header.data_len in
+    let size = range_short (body_of c.args.self.now) from c.in_ok-header.header.data_len in
+    loaded_within c.in_ok-header.header.version c.in_ok-header.header.checksum c.args.kind (slice_range (body_of c.args.self.now) from to) from (2 ^ 63) c.block.result c.block.ensures (omega (arith, size, c.body-body.ensures.bound))
