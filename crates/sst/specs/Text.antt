@@ -11,6 +11,11 @@ letter_of Tombstone = 84
 letter_of WeakTombstone = 87
 letter_of Indirection = 73
 
+-- bytes as they are printed: - for none
+abbrev pub shown : List ℕ → List ℕ
+shown [] = 45 ∷ []
+shown (b ∷ bs) = b ∷ bs
+
 -- decimal digits of a number that fits 64 bits, the first no zero but in the number 0
 pub record IsNumber (word : List ℕ) : Type 0 where
   pub some : 0 < length word

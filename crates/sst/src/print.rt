@@ -1,6 +1,8 @@
 //! The text of answers.
-ghost use Rattle.std.specs.Prelude.{◌≡◌};
-ghost use Rattle.sst.specs.Text.{letter_of};
+ghost use Rattle.std.specs.Prelude.{◌≡◌, OnOk};
+ghost use Rattle.std.specs.Io.KnownBytes.{Appends};
+ghost use Rattle.sst.specs.Answer.{answer_line, entry_line, refusal_line};
+ghost use Rattle.sst.specs.Text.{letter_of, shown};
 
 use sst_blocks::{InternalValue, ValueType};
 use std::alloc::Allocator;
@@ -18,10 +20,9 @@ pub(crate) enum Answer<A: Allocator> {
 }
 
 /// Prints an answer.
-pub(crate) fn print_answer<W: Write, A: Allocator>(
-    output: &mut W,
-    answer: &Answer<A>,
-) -> Result<()> {
+pub(crate) fn print_answer<W: Write, A: Allocator>(output: &mut W, answer: &Answer<A>) -> Result<()>
+    ensures { OnOk result (Appends (W.contents output.old) (W.contents output.new) (answer_line answer.now)) }
+{
     match answer {
         Answer::Silent => Ok(()),
         Answer::Tables(count) => writeln!(output, "tables {count}"),
@@ -31,12 +32,16 @@ pub(crate) fn print_answer<W: Write, A: Allocator>(
 }
 
 /// Prints the number of a refusal.
-pub(crate) fn print_refusal<W: Write>(output: &mut W, number: u8) -> Result<()> {
+pub(crate) fn print_refusal<W: Write>(output: &mut W, number: u8) -> Result<()>
+    ensures { OnOk result (Appends (W.contents output.old) (W.contents output.new) (refusal_line number)) }
+{
     writeln!(output, "refused {number}")
 }
 
 // A key, a number, a kind and a value.
-fn print_entry<W: Write, A: Allocator>(output: &mut W, item: &InternalValue<A>) -> Result<()> {
+fn print_entry<W: Write, A: Allocator>(output: &mut W, item: &InternalValue<A>) -> Result<()>
+    ensures { OnOk result (Appends (W.contents output.old) (W.contents output.new) (entry_line item.now)) }
+{
     let seqno = item.key.seqno;
     output.write_all(shown(item.key.user_key.as_slice()))?;
     write!(output, " {seqno} ")?;
@@ -46,7 +51,9 @@ fn print_entry<W: Write, A: Allocator>(output: &mut W, item: &InternalValue<A>) 
 }
 
 // Bytes as they are printed: `-` for none.
-fn shown(bytes: &[u8]) -> &[u8] {
+fn shown(bytes: &[u8]) -> &[u8]
+    ensures { result.now ≡ shown bytes.now }
+{
     if bytes.is_empty() { b"-" } else { bytes }
 }
 
