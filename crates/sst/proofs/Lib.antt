@@ -1,0 +1,3 @@
+pub mod CommandLemmas
+pub mod PendingLemmas
+pub mod RunLemmas

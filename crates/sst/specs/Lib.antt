@@ -1,0 +1,5 @@
+pub mod Answer
+pub mod Command
+pub mod Pending
+pub mod Runs
+pub mod Text

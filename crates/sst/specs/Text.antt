@@ -1,0 +1,24 @@
+-- The words of a script's lines.
+use Rattle.std.specs.Prelude.{◌≡◌, ℕ, ◌<◌, ◌^◌, List, [], ◌∷◌, length, slice_index}
+use Rattle.std.specs.Str.Parse.{AllDigits, digits_value}
+use Rattle.sst_blocks.specs.declared.value_type.ValueType.{ValueType}
+use Rattle.sst_blocks.specs.declared.value_type.ValueType.TheVariants.{Value, Tombstone, WeakTombstone, Indirection}
+
+-- the letter of a kind: V, T, W or I
+abbrev pub letter_of : ValueType → ℕ
+letter_of Value = 86
+letter_of Tombstone = 84
+letter_of WeakTombstone = 87
+letter_of Indirection = 73
+
+-- bytes as they are printed: - for none
+abbrev pub shown : List ℕ → List ℕ
+shown [] = 45 ∷ []
+shown (b ∷ bs) = b ∷ bs
+
+-- decimal digits of a number that fits 64 bits, the first no zero but in the number 0
+pub record IsNumber (word : List ℕ) : Type 0 where
+  pub some : 0 < length word
+  pub digits : AllDigits 10 word
+  pub no_zeros : slice_index word 0 ≡ 48 → length word ≡ 1
+  pub fits : digits_value 10 word < 2 ^ 64

@@ -1,0 +1,157 @@
+//! Running a script.
+ghost use Rattle.std.specs.Prelude.{◌≡◌, ◌⊎◌};
+
+use crate::command::{Command, parse_command};
+use crate::pending::Pending;
+use crate::print::{Answer, print_answer, print_refusal};
+use crate::runs::{is_held, newest_answer, open};
+use crate::stop::{Failure, Stop};
+use lsm_tables::Table;
+use lsm_writers::TableId;
+use sst_blocks::Error;
+use std::alloc::{AllocError, Allocator};
+use std::io::{BufRead, BufReader, BufWriter, Read, Write};
+use std::{io, mem};
+
+/// Runs the script that `input` gives, line by line, and answers the status: 0, or 2 where the script ends before its last
+/// line.
+///
+/// Answers go to `output`, each before the next line is read. A command that is refused prints `refused` and the refusal's
+/// number, and the script goes on. A line that is none of a script's ends it with `sst: line` and the line's number on
+/// `errors`, failing input, also want of memory for it, with `sst: input`, and failing output with `sst: output`. Whether
+/// `errors` takes that is passed over.
+pub fn run_script<A: Allocator + Clone, R: Read + Drop, W: Write + Drop, E: Write + Drop>(
+    alloc: A,
+    input: R,
+    output: W,
+    mut errors: E,
+) -> u8
+    ensures { (result ≡ 0) ⊎ (result ≡ 2) }
+{
+    match answer_script(alloc, input, output) {
+        Ok(()) => 0,
+        Err(stop) => {
+            let _ = writeln!(errors, "{stop}");
+            2
+        }
+    }
+}
+
+fn answer_script<A: Allocator + Clone, R: Read + Drop, W: Write + Drop>(
+    alloc: A,
+    input: R,
+    output: W,
+) -> Result<(), Stop> {
+    let mut script = Script::new(alloc.clone()?)?;
+    let mut line = Vec::new(alloc.clone()?);
+    let mut input = BufReader::new(alloc.clone()?, input).map_err(|_| Stop::Input)?;
+    let mut output = BufWriter::new(alloc, output).map_err(|_| Stop::Input)?;
+    for number in 1..=u64::MAX {
+        if !read_line(&mut input, &mut line).map_err(|_| Stop::Input)? {
+            return Ok(());
+        }
+        if !line.is_empty() {
+            script.answer_line(number, &line, &mut output)?;
+        }
+    }
+    Err(Stop::Input)
+}
+
+// Reads the next line, without its end; `false` where there is none.
+fn read_line<R: BufRead, A: Allocator>(input: &mut R, line: &mut Vec<u8, A>) -> io::Result<bool> {
+    line.clear();
+    let length = input.read_until(b'\n', line)?;
+    if line.last() == Some(&b'\n') {
+        line.pop();
+    }
+    Ok(length > 0)
+}
+
+// What a script has built so far.
+#[derive(Drop)]
+struct Script<A: Allocator> {
+    alloc: A,
+    pending: Pending<A>,
+    // one table each, the newest first
+    runs: Vec<Table<A>, A>,
+    // none after the last id was used up
+    next_id: Option<TableId>,
+}
+
+impl<A: Allocator + Clone> Script<A> {
+    fn new(alloc: A) -> Result<Script<A>, AllocError> {
+        Ok(Script {
+            pending: Pending::new(alloc.clone()?),
+            runs: Vec::new(alloc.clone()?),
+            next_id: Some(1),
+            alloc,
+        })
+    }
+
+    // Prints the answer of a line that is not empty.
+    fn answer_line<W: Write>(
+        &mut self,
+        number: u64,
+        line: &[u8],
+        output: &mut W,
+    ) -> Result<(), Stop> {
+        let command = parse_command(line).ok_or(Stop::Line(number))?;
+        let printed = match self.execute(command) {
+            Ok(answer) => print_answer(output, &answer),
+            Err(Failure::Refused(error)) => print_refusal(output, error.number()),
+            Err(Failure::BadLine) => return Err(Stop::Line(number)),
+        };
+        printed.map_err(|_| Stop::Output)?;
+        output.flush().map_err(|_| Stop::Output)
+    }
+
+    fn execute(&mut self, command: Command<'_>) -> Result<Answer<A>, Failure> {
+        match command {
+            Command::Entry {
+                key,
+                seqno,
+                kind,
+                value,
+            } => {
+                self.pending.add(key, seqno, kind, value)?;
+                Ok(Answer::Silent)
+            }
+            Command::Table => {
+                let written = self.write_table();
+                self.pending.clear();
+                Ok(Answer::Tables(written?))
+            }
+            Command::Get { key, bound } => {
+                let found = newest_answer(&self.runs, key, bound)?;
+                Ok(Answer::Found(found))
+            }
+        }
+    }
+
+    // Writes the pending entries as a run of one table, and answers how many tables there are. Where it is refused, the runs
+    // and the next id stay.
+    fn write_table(&mut self) -> Result<u64, Failure> {
+        if self.is_repeated()? {
+            return Err(Failure::BadLine);
+        }
+        let id = self.next_id.ok_or(Error::TableIdsSpent)?;
+        let pending = mem::replace(&mut self.pending, Pending::new(self.alloc.clone()?));
+        let Some(table) = pending.write(self.alloc.clone()?, id)? else {
+            return Ok(0);
+        };
+        let run = open(self.alloc.clone()?, table)?;
+        self.runs.insert(0, run)?;
+        self.next_id = id.checked_add(1);
+        Ok(1)
+    }
+
+    // Whether a run already holds a pending entry's key and number.
+    fn is_repeated(&self) -> Result<bool, Error> {
+        for item in self.pending.items() {
+            if is_held(&self.runs, item.key.user_key.as_slice(), item.key.seqno)? {
+                return Ok(true);
+            }
+        }
+        Ok(false)
+    }
+}
