@@ -1,0 +1,168 @@
+//! What opening and reading a stored table answers where its bytes were changed.
+use crate::stored::one_entry;
+use crate::tables::{open, read};
+use sst_blocks::{Error, SeqNo, Slice, TagName};
+use std::alloc::Allocator;
+use std::test::Fail;
+
+// A refusal to open, or what a read then answers: the number found, if any, and how many data blocks it loads.
+type Answer = Result<(Result<Option<SeqNo>, Error>, u64), Error>;
+
+// Opens bytes, and reads `a` below 2.
+fn open_and_read<A: Allocator + Clone>(alloc: A, bytes: Slice<A>, global_seqno: SeqNo) -> Answer {
+    let table = open(alloc, bytes, global_seqno)?;
+    Ok(read(&table, b"a", 2))
+}
+
+// The stored table with some runs of bytes overwritten: from where, and with what.
+fn overwritten<A: Allocator + Clone>(
+    alloc: A,
+    changes: &[(usize, &[u8])],
+) -> Result<Slice<A>, Error> {
+    let mut bytes = Vec::from_slice(alloc, &one_entry::BYTES)?;
+    for (from, written) in changes {
+        for (i, byte) in written.iter().enumerate() {
+            if let Some(place) = bytes.get_mut(from.saturating_add(i)) {
+                *place = *byte;
+            }
+        }
+    }
+    Slice::from_vec(bytes)
+}
+
+const FF: [u8; 16] = [0xff; 16];
+
+// What the trailer says of the index and of the meta block.
+const TLI_SLOT: [u8; 16] = [45, 0, 0, 0, 0, 0, 0, 0, 51, 0, 0, 0, 0, 0, 0, 0];
+
+const META_SLOT: [u8; 16] = [97, 0, 0, 0, 0, 0, 0, 0, 0x11, 4, 0, 0, 0, 0, 0, 0];
+
+// The slots of the trailer begin at 1,138: that of the data, then, 32 bytes on, of the index, and 64 bytes on of the meta block.
+const DATA_AT: usize = 1138;
+
+const TLI_AT: usize = 1170;
+
+const META_AT: usize = 1234;
+
+#[test]
+fn the_first_fault_of_sections_and_blocks(rt: HostRuntime) -> Result<(), Fail> {
+    let of_kind = |tag| Error::InvalidTag(TagName::BlockType, tag);
+    let faults: [(&[(usize, &[u8])], Error); 16] = [
+        (&[(TLI_AT, &META_SLOT), (META_AT, &TLI_SLOT)], of_kind(1)),
+        (&[(TLI_AT, &FF)], Error::MissingSection),
+        (&[(META_AT, &FF)], Error::MissingSection),
+        // a length of 2^32
+        (&[(TLI_AT + 8, &[0, 0, 0, 0, 1])], Error::InvalidTrailer),
+        // a length of 23, and one that is a byte too short
+        (&[(META_AT + 8, &[23, 0])], Error::Truncated),
+        (&[(TLI_AT + 8, &[23])], Error::Truncated),
+        (&[(META_AT + 8, &[0x10])], Error::InvalidHeader),
+        // a position in the byte of the version
+        (&[(META_AT, &[96])], Error::InvalidHeader),
+        // the mark, the kind, the compression and the payload of the meta block and of the index
+        (&[(97, b"l")], Error::InvalidHeader),
+        (&[(101, &[2])], of_kind(2)),
+        (&[(102, &[1])], Error::UnsupportedCompression),
+        (&[(121, &[30])], Error::ChecksumMismatch),
+        (&[(50, &[1])], Error::UnsupportedCompression),
+        // of two faults the first: a section that is missing, then the meta block, then the index
+        (&[(TLI_AT, &FF), (121, &[30])], Error::MissingSection),
+        (&[(121, &[30]), (50, &[1])], Error::ChecksumMismatch),
+        (&[(1250, b"l"), (META_AT, &FF)], Error::InvalidTrailer),
+    ];
+    for (changes, fault) in faults {
+        let bytes = overwritten(rt.alloc(), changes)?;
+        assert_eq!(rt;
+            open_and_read(rt.alloc(), bytes, 0),
+            Err(fault),
+            "{changes:?}"
+        );
+    }
+    Ok(())
+}
+
+#[test]
+fn changes_that_opening_does_not_see(rt: HostRuntime) -> Result<(), Fail> {
+    let answers: [(&[(usize, &[u8])], Result<Option<SeqNo>, Error>); 5] = [
+        (&[], Ok(Some(1))),
+        // no data section, and another version behind the index
+        (&[(DATA_AT, &FF)], Ok(Some(1))),
+        (&[(96, &[9])], Ok(Some(1))),
+        // the value, and the compression of the data block
+        (&[(44, b"y")], Err(Error::ChecksumMismatch)),
+        (&[(5, &[1])], Err(Error::UnsupportedCompression)),
+    ];
+    for (changes, answer) in answers {
+        let bytes = overwritten(rt.alloc(), changes)?;
+        assert_eq!(rt;
+            open_and_read(rt.alloc(), bytes, 0),
+            Ok((answer, 1)),
+            "{changes:?}"
+        );
+    }
+    Ok(())
+}
+
+#[test]
+fn the_global_number_is_tested_between_meta_block_and_index(rt: HostRuntime) -> Result<(), Fail> {
+    let too_large = Err(Error::GlobalSeqNoTooLarge);
+    let answers: [(&[(usize, &[u8])], SeqNo, Answer); 4] = [
+        (&[], SeqNo::MAX, Err(Error::GlobalSeqNoTooLarge)),
+        (&[], SeqNo::MAX - 1, Ok((Ok(None), 0))),
+        (&[(121, &[30])], SeqNo::MAX, Err(Error::ChecksumMismatch)),
+        (&[(50, &[1])], SeqNo::MAX, too_large),
+    ];
+    for (changes, global_seqno, answer) in answers {
+        let bytes = overwritten(rt.alloc(), changes)?;
+        assert_eq!(rt;
+            open_and_read(rt.alloc(), bytes, global_seqno),
+            answer,
+            "{changes:?}"
+        );
+    }
+    Ok(())
+}
+
+// Whether a block with one byte changed may be refused so.
+fn is_block_fault(error: &Error) -> bool {
+    matches!(
+        error,
+        Error::InvalidHeader
+            | Error::InvalidTag(..)
+            | Error::UnsupportedCompression
+            | Error::ChecksumMismatch
+    )
+}
+
+// Whether an answer is right where the byte of a place was changed.
+fn is_right(place: usize, answer: &Answer) -> bool {
+    match (place, answer) {
+        (0..45, Ok((Err(error), 1))) => is_block_fault(error),
+        (0..45, _) => false,
+        // the version, which is not read
+        (96, answer) => *answer == Ok((Ok(Some(1)), 1)),
+        (45..1138, Err(error)) => is_block_fault(error),
+        (45..1138, _) => false,
+        // the mark of the trailer
+        (1250.., answer) => *answer == Err(Error::InvalidTrailer),
+        (_, Ok((_, loads))) => *loads <= 1,
+        (_, Err(_)) => true,
+    }
+}
+
+#[test]
+fn each_byte_changed_in_turn(rt: HostRuntime) -> Result<(), Fail> {
+    for (place, byte) in one_entry::BYTES.iter().enumerate() {
+        for changed in [0, 0xff, !*byte] {
+            if changed != *byte {
+                let bytes = overwritten(rt.alloc(), &[(place, &[changed])])?;
+                let answer = open_and_read(rt.alloc(), bytes, 0);
+                assert!(rt;
+                    is_right(place, &answer),
+                    "{changed} at {place}: {answer:?}"
+                );
+            }
+        }
+    }
+    Ok(())
+}

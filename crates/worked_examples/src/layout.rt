@@ -1,0 +1,215 @@
+//! Where the parts of written and of stored tables lie, and what the tables say of themselves.
+use crate::stored::{filter_parts, one_entry, one_entry_filtered, two_levels};
+use crate::tables::{Row, fill, new_writer, open, read};
+use lsm_tables::{ParsedMeta, ParsedRegions};
+use sst_blocks::{
+    BlockHandle, BlockSource, BlockType, DataBlock, Error, IndexBlock, Opened, SectionName, SeqNo,
+    Slice, ValueType,
+};
+use std::alloc::Allocator;
+use std::test::Fail;
+
+const NAMES: [SectionName; 7] = [
+    SectionName::Data,
+    SectionName::Index,
+    SectionName::Tli,
+    SectionName::Filter,
+    SectionName::FilterTli,
+    SectionName::TableVersion,
+    SectionName::Meta,
+];
+
+// The position and the length of each section, in the order of the names.
+type Sections = [Option<(u64, u64)>; 7];
+
+fn sections<A: Allocator + Clone>(source: &BlockSource<A>) -> Sections {
+    let mut sections = [None; 7];
+    for (i, name) in NAMES.iter().enumerate() {
+        if let Some(section) = source.toc().section(*name)
+            && i < 7
+        {
+            sections[i] = Some((section.position, section.len));
+        }
+    }
+    sections
+}
+
+fn source_of<A: Allocator + Clone>(alloc: A, bytes: &[u8]) -> Result<BlockSource<A>, Error> {
+    let bytes = Slice::from(alloc.clone()?, bytes)?;
+    BlockSource::new(alloc, bytes)
+}
+
+#[test]
+fn sections_of_stored_tables(rt: HostRuntime) -> Result<(), Fail> {
+    let data = Some((0, 45));
+    let tli = Some((45, 51));
+    let tables: [(&[u8], Sections); 4] = [
+        (
+            &one_entry::BYTES,
+            [data, None, tli, None, None, Some((96, 1)), Some((97, 1041))],
+        ),
+        (
+            &one_entry_filtered::BYTES,
+            [
+                data,
+                None,
+                tli,
+                Some((96, 33)),
+                None,
+                Some((129, 1)),
+                Some((130, 1041)),
+            ],
+        ),
+        (
+            &two_levels::BYTES,
+            [
+                Some((0, 176)),
+                Some((176, 204)),
+                Some((380, 120)),
+                None,
+                None,
+                Some((500, 1)),
+                Some((501, 1041)),
+            ],
+        ),
+        (
+            &filter_parts::BYTES,
+            [
+                Some((0, 176)),
+                None,
+                Some((176, 120)),
+                Some((296, 66)),
+                Some((362, 74)),
+                Some((436, 1)),
+                Some((437, 1041)),
+            ],
+        ),
+    ];
+    for (bytes, expected) in tables {
+        assert_eq!(rt; sections(&source_of(rt.alloc(), bytes)?), expected);
+    }
+    Ok(())
+}
+
+#[test]
+fn sections_of_a_table_that_is_written(rt: HostRuntime) -> Result<(), Fail> {
+    let rows: [Row<'static>; 1] = [(b"a", 1, ValueType::Value, b"x")];
+    let bytes = fill(new_writer(rt.alloc())?, rt.alloc(), &rows)?.bytes;
+    assert_eq!(rt; bytes.len(), 1320);
+    let source = source_of(rt.alloc(), bytes.as_slice())?;
+    assert_eq!(rt;
+        sections(&source),
+        [
+            Some((0, 47)),
+            None,
+            Some((47, 53)),
+            None,
+            None,
+            Some((100, 1)),
+            Some((101, 1099))
+        ]
+    );
+    let table = open(rt.alloc(), bytes, 0)?;
+    assert_eq!(rt; table.filter_size(), 0);
+    assert_eq!(rt; read(&table, b"a", 2), (Ok(Some(1)), 1));
+    Ok(())
+}
+
+// What a table says of itself: its version, its id, how many entries, data blocks and index blocks it has, the length of its
+// data blocks, and its lowest and its highest number.
+fn facts<A: Allocator + Clone>(alloc: A, bytes: &[u8]) -> Result<[u64; 8], Error> {
+    let source = source_of(alloc, bytes)?;
+    let regions = ParsedRegions::parse_from_toc(source.toc())?;
+    let meta = ParsedMeta::load_with_handle(&source, &regions.metadata)?;
+    let (lowest, highest) = meta.seqnos;
+    Ok([
+        u64::from(meta.table_version),
+        meta.id,
+        meta.item_count,
+        meta.data_block_count,
+        meta.index_block_count,
+        meta.file_size,
+        lowest,
+        highest,
+    ])
+}
+
+#[test]
+fn facts_of_stored_tables(rt: HostRuntime) -> Result<(), Fail> {
+    let tables: [(&[u8], [u64; 8]); 4] = [
+        (&one_entry::BYTES, [3, 1, 1, 1, 1, 45, 1, 1]),
+        (&one_entry_filtered::BYTES, [3, 1, 1, 1, 1, 45, 1, 1]),
+        (&two_levels::BYTES, [3, 1, 4, 4, 4, 176, 1, 9]),
+        (&filter_parts::BYTES, [3, 1, 4, 4, 1, 176, 1, 9]),
+    ];
+    for (bytes, expected) in tables {
+        assert_eq!(rt; facts(rt.alloc(), bytes)?, expected);
+    }
+    Ok(())
+}
+
+// The numbers of a data block's entries.
+fn put_numbers<A: Allocator + Clone>(
+    source: &BlockSource<A>,
+    handle: &BlockHandle,
+    opened: &mut Opened,
+    numbers: &mut Vec<SeqNo>,
+) -> Result<(), Error> {
+    let block = DataBlock::new(source.load(handle, BlockType::Data, opened)?);
+    for i in 0..block.len() {
+        numbers.push(block.entry(i)?.key.seqno)?;
+    }
+    Ok(())
+}
+
+// The numbers of the entries below one partition of an index.
+fn put_part<A: Allocator + Clone>(
+    source: &BlockSource<A>,
+    handle: &BlockHandle,
+    opened: &mut Opened,
+    numbers: &mut Vec<SeqNo>,
+) -> Result<(), Error> {
+    let part = IndexBlock::new(source.load(handle, BlockType::Index, opened)?);
+    for i in 0..part.len() {
+        put_numbers(source, &part.handle(i)?.into_inner(), opened, numbers)?;
+    }
+    Ok(())
+}
+
+#[test]
+fn two_levels_lead_to_every_entry(rt: HostRuntime) -> Result<(), Fail> {
+    let source = source_of(rt.alloc(), &two_levels::BYTES)?;
+    let regions = ParsedRegions::parse_from_toc(source.toc())?;
+    let mut opened = Opened::none();
+    let mut numbers = Vec::new(rt.alloc());
+    let tli = IndexBlock::new(source.load(&regions.tli, BlockType::Index, &mut opened)?);
+    for i in 0..tli.len() {
+        put_part(
+            &source,
+            &tli.handle(i)?.into_inner(),
+            &mut opened,
+            &mut numbers,
+        )?;
+    }
+    assert_eq!(rt; numbers.as_slice(), [9, 7, 5, 1].as_slice());
+    assert_eq!(rt; (opened.index_loads, opened.data_loads), (5, 4));
+    Ok(())
+}
+
+#[test]
+fn the_top_level_of_a_filter_leads_to_its_parts(rt: HostRuntime) -> Result<(), Fail> {
+    let source = source_of(rt.alloc(), &filter_parts::BYTES)?;
+    let regions = ParsedRegions::parse_from_toc(source.toc())?;
+    let mut opened = Opened::none();
+    let mut parts = Vec::new(rt.alloc());
+    let handle = regions.filter_tli.unwrap_or_default();
+    let top = IndexBlock::new(source.load(&handle, BlockType::Index, &mut opened)?);
+    for i in 0..top.len() {
+        let part = top.handle(i)?.into_inner();
+        let block = source.load(&part, BlockType::Filter, &mut opened)?;
+        parts.push((part.offset().0, block.size()))?;
+    }
+    assert_eq!(rt; parts.as_slice(), [(296, 9), (329, 9)].as_slice());
+    assert_eq!(rt; opened.filter_loads, 2);
+    Ok(())
+}

@@ -1,0 +1,19 @@
+//! Worked examples: tests that go through several crates, from entries to bytes and back. Nothing here is for use.
+#![tactic(auto)]
+
+#[cfg(test)]
+mod changed_bytes;
+#[cfg(test)]
+mod changed_meta;
+#[cfg(test)]
+mod layout;
+#[cfg(test)]
+mod point_reads;
+#[cfg(test)]
+mod scans;
+#[cfg(test)]
+mod stored;
+#[cfg(test)]
+mod tables;
+#[cfg(test)]
+mod writing;

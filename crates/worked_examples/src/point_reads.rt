@@ -1,0 +1,137 @@
+//! Point reads of a table that is written and opened.
+use crate::tables::{Row, fill, new_writer, open, read};
+use lsm_tables::{Table, point_in};
+use refusing::each_refused;
+use sst_blocks::{
+    Block, BlockHandle, BlockSource, BlockType, Counted, Error, LoadBlocks, SeqNo, ValueType,
+};
+use std::alloc::{Allocator, Global};
+use std::test::Fail;
+
+const ROWS: [Row<'static>; 4] = [
+    (b"a", 9, ValueType::Value, b""),
+    (b"a", 7, ValueType::Value, b""),
+    (b"a", 5, ValueType::Value, b""),
+    (b"b", 1, ValueType::Value, b""),
+];
+
+// Lists the handles of the blocks that it loads: where each lies, and its size.
+#[derive(Drop)]
+struct Listing<'a, A: Allocator> {
+    source: Counted<'a, A>,
+    handles: Vec<(u64, u32)>,
+}
+
+impl<A: Allocator + Clone> LoadBlocks for Listing<'_, A> {
+    ghost use Rattle.sst_blocks.specs.Sections.{body_of};
+
+    type Alloc = A;
+
+    ghost body = { λ l. body_of l.source.0 };
+
+    ghost opened = { λ l. l.source.1 };
+
+    fn load(&mut self, handle: &BlockHandle, kind: BlockType) -> Result<Block<A>, Error> {
+        let block = self.source.load(handle, kind);
+        self.handles.push((handle.offset().0, handle.size()))?;
+        block
+    }
+}
+
+// What each of three reads finds, and the one handle that it asks for.
+type Reads = [(Option<SeqNo>, Option<(u64, u32)>); 3];
+
+// A read through a source that lists its loads.
+fn listed_read<A: Allocator + Clone>(
+    heap: Global,
+    source: &BlockSource<A>,
+    table: &Table<A>,
+    key: &[u8],
+    seqno: SeqNo,
+) -> Result<(Option<SeqNo>, Option<(u64, u32)>), Error> {
+    let mut listing = Listing {
+        source: Counted::new(source),
+        handles: Vec::new(heap),
+    };
+    let found = point_in(&mut listing, table, key, seqno, Table::<A>::key_hash(key))?;
+    let seqno = match found {
+        Some(item) => Some(item.key.seqno),
+        None => None,
+    };
+    match listing.handles.as_slice() {
+        [] => Ok((seqno, None)),
+        [handle] => Ok((seqno, Some(*handle))),
+        _ => Err(Error::Source(2)),
+    }
+}
+
+// The three reads, over one allocator. A read that is refused is asked again.
+fn three_reads<A: Allocator + Clone>(heap: Global, alloc: A) -> Result<Reads, Error> {
+    let writer = new_writer(alloc.clone()?)?.use_data_block_size(0);
+    let bytes = fill(writer, alloc.clone()?, &ROWS)?.bytes;
+    let source = BlockSource::new(alloc.clone()?, bytes.clone()?)?;
+    let table = open(alloc, bytes, 0)?;
+    let mut reads = [(None, None), (None, None), (None, None)];
+    let asked: [(&[u8], SeqNo); 3] = [(b"a", 8), (b"a", 5), (b"c", 100)];
+    for i in 0..3 {
+        let (key, seqno) = asked[i];
+        reads[i] = match listed_read(heap, &source, &table, key, seqno) {
+            Err(Error::OutOfMemory) => listed_read(heap, &source, &table, key, seqno)?,
+            answer => answer?,
+        };
+    }
+    Ok(reads)
+}
+
+// Each block has a header of 24 bytes, a count of 4, and 17 bytes and the key for its one entry.
+const EXPECTED: Reads = [
+    (Some(7), Some((46, 46))),
+    (None, Some((138, 46))),
+    (None, None),
+];
+
+#[test]
+fn a_read_asks_for_one_handle_at_most(rt: HostRuntime) -> Result<(), Fail> {
+    assert_eq!(rt; three_reads(rt.alloc(), rt.alloc())?, EXPECTED);
+    Ok(())
+}
+
+#[test]
+fn each_request_of_writing_and_reading_refused(rt: HostRuntime) -> Result<(), Fail> {
+    let heap = rt.alloc();
+    let refused = each_refused(
+        heap,
+        move |alloc, may_fail| match three_reads(heap, alloc) {
+            Ok(answer) => answer == EXPECTED,
+            Err(Error::OutOfMemory) => may_fail,
+            Err(_) => false,
+        },
+    );
+    assert!(rt;
+        matches!(refused, Ok(requests) if requests > 20),
+        "{refused:?}"
+    );
+    Ok(())
+}
+
+#[test]
+fn a_clone_outlives_its_original(rt: HostRuntime) -> Result<(), Fail> {
+    let writer = new_writer(rt.alloc())?.use_data_block_size(0);
+    let bytes = fill(writer, rt.alloc(), &ROWS)?.bytes;
+    let table = open(rt.alloc(), bytes, 0)?;
+    let reads: [(&[u8], SeqNo, Option<SeqNo>, u64); 4] = [
+        (b"a", 8, Some(7), 1),
+        (b"a", 5, None, 1),
+        (b"b", 2, Some(1), 1),
+        (b"c", 100, None, 0),
+    ];
+    let copy = table.clone()?;
+    for (key, seqno, found, loads) in reads {
+        assert_eq!(rt; read(&table, key, seqno), (Ok(found), loads));
+    }
+    drop(table);
+    for (key, seqno, found, loads) in reads {
+        assert_eq!(rt; read(&copy, key, seqno), (Ok(found), loads));
+    }
+    Ok(())
+}

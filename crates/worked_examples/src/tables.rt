@@ -1,0 +1,59 @@
+//! Writing a table, opening it and reading from it, for the tests.
+use lsm_tables::Table;
+use lsm_writers::{FinishedTable, Timestamp, Writer};
+use sst_blocks::{Checksum, Error, InternalValue, SeqNo, Slice, ValueType};
+use std::alloc::Allocator;
+
+/// A key, a number, a kind and a value.
+pub(crate) type Row<'a> = (&'a [u8], SeqNo, ValueType, &'a [u8]);
+
+/// A writer of the table 1 at level 0 and moment 0.
+pub(crate) fn new_writer<A: Allocator + Clone>(alloc: A) -> Result<Writer<A>, Error> {
+    Writer::new(alloc, 1, 0, Timestamp::from(0))
+}
+
+/// The table of some rows. `Source(0)` where a row may not follow the one before, `Source(1)` where there are none.
+pub(crate) fn fill<A: Allocator + Clone>(
+    writer: Writer<A>,
+    alloc: A,
+    rows: &[Row<'_>],
+) -> Result<FinishedTable<A>, Error> {
+    let mut writer = writer;
+    for (key, seqno, kind, value) in rows {
+        let key = Slice::from(alloc.clone()?, key)?;
+        let value = Slice::from(alloc.clone()?, value)?;
+        let item = InternalValue::from_components(key, value, *seqno, *kind);
+        if !writer.can_follow(&item.key) {
+            return Err(Error::Source(0));
+        }
+        writer.write(item)?;
+    }
+    match writer.finish()? {
+        Some(table) => Ok(table),
+        None => Err(Error::Source(1)),
+    }
+}
+
+/// The table of some bytes, all of it loaded that can be.
+pub(crate) fn open<A: Allocator + Clone>(
+    alloc: A,
+    bytes: Slice<A>,
+    global_seqno: SeqNo,
+) -> Result<Table<A>, Error> {
+    Table::recover(alloc, bytes, Checksum(0), global_seqno, 0, true, true)
+}
+
+/// The number that a read finds, if any, and how many data blocks it loads.
+pub(crate) fn read<A: Allocator + Clone>(
+    table: &Table<A>,
+    key: &[u8],
+    seqno: SeqNo,
+) -> (Result<Option<SeqNo>, Error>, u64) {
+    let (found, opened) = table.get_counted(key, seqno, Table::<A>::key_hash(key));
+    let found = match found {
+        Ok(Some(item)) => Ok(Some(item.key.seqno)),
+        Ok(None) => Ok(None),
+        Err(error) => Err(error),
+    };
+    (found, opened.data_loads)
+}
