@@ -1,5 +1,5 @@
 -- A scan of a written table gives its list.
-use Rattle.std.proofs.Common.{◌≡◌, ℕ, suc, ◌+◌, ◌-◌, ◌^◌, ◌<◌, ◌≤◌, List, [], ◌∷◌, ◌++◌, length, map, max, slice_range, take, refl, sym, ap, subst, ◌∙◌, append_assoc, length-append, arith}
+use Rattle.std.proofs.Common.{◌≡◌, ℕ, ◌+◌, ◌^◌, ◌<◌, ◌≤◌, List, [], ◌∷◌, ◌++◌, length, map, max, slice_range, take, refl, sym, ap, subst, ◌∙◌, append_assoc, length-append, arith}
 use Rattle.std.specs.Prelude.{Option, Some, None, Result, Ok, Err, IfOk, MatchResult, is_some, unwrap_or, false, Bool, true}
 use Rattle.std.specs.List.{AllByRecursion, flat_map}
 use Rattle.std.proofs.lemmas.List.{map-append, take_at}
@@ -22,7 +22,7 @@ use Rattle.sst_blocks.proofs.BlockLaws.{written_loads_at}
 use Rattle.sst_blocks.proofs.LoadLemmas.{load_at_fault}
 use Rattle.lsm_writers.specs.Chunks.{joined}
 use Rattle.lsm_writers.specs.Facts.{highest_seqno}
-use Rattle.lsm_writers.specs.File.{file, counted_blocks, IsFile}
+use Rattle.lsm_writers.specs.File.{IsFile}
 use Rattle.lsm_writers.specs.Index.{handles, data_block, data_section}
 use Rattle.lsm_writers.specs.Options.{Options, Label}
 use Rattle.lsm_tables.specs.Answer.{lifted, lift}
@@ -34,7 +34,6 @@ use Rattle.lsm_tables.proofs.ChunkReads.{AreSome, length-block, strict_front, st
 use Rattle.lsm_tables.proofs.FileLengths.{all_front, all_behind, chunk_reads}
 use Rattle.lsm_tables.proofs.FilePoints.{any_front, some_chunks, facts_are}
 use Rattle.lsm_tables.proofs.FileReads.{the_index, the_meta, the_version, is_body, w}
-use Rattle.lsm_tables.proofs.MetaReads.{written_facts}
 use Rattle.lsm_tables.proofs.Recovered.{steps}
 use Rattle.lsm_tables.proofs.Scans.{lifted_ok, memory_is}
 
