@@ -1,5 +1,5 @@
 -- A point read of chunks is decided by the first chunk whose last entry reaches the key.
-use Rattle.std.proofs.Common.{◌≡◌, ℕ, ◌+◌, ◌<◌, Bool, true, false, cond, List, [], ◌∷◌, ◌++◌, length, refl, sym, ap, subst, ◌∙◌, append_assoc, length-append, arith, rules}
+use Rattle.std.proofs.Common.{◌≡◌, ℕ, ◌+◌, ◌<◌, Bool, true, false, cond, List, [], ◌∷◌, ◌++◌, length, refl, sym, ap, subst, ◌∙◌, length-append, arith, rules}
 use Rattle.std.specs.Prelude.{Option, Some, None, find, ◌&&◌, ◌||◌, nat_lt}
 use Rattle.std.specs.Cmp.{IsTotalOrder}
 use Rattle.std.specs.Cmp.Rules.{comparing}
@@ -11,9 +11,9 @@ use Rattle.sst_blocks.specs.declared.version.TableVersion.{TableVersion}
 use Rattle.sst_blocks.specs.declared.value_type.ValueType.TheVariants.{Value}
 use Rattle.sst_blocks.specs.Entry.{Entry, entry}
 use Rattle.sst_blocks.specs.Handle.{Handle}
-use Rattle.sst_blocks.specs.Handles.{reaches, is_above}
+use Rattle.sst_blocks.specs.Handles.{reaches}
 use Rattle.sst_blocks.specs.Key.{same_key, key_lt}
-use Rattle.sst_blocks.specs.Point.{is_hit, point}
+use Rattle.sst_blocks.specs.Point.{is_hit}
 use Rattle.sst_blocks.specs.declared.version.TableVersion.TheVariants.{V3, V4}
 use Rattle.sst_blocks.specs.declared.block_type.BlockType.{BlockType}
 use Rattle.sst_blocks.specs.declared.block_type.BlockType.TheVariants.{Data}
@@ -23,7 +23,7 @@ use Rattle.sst_blocks.specs.Number.{le4, le8}
 use Rattle.sst_blocks.specs.Payload.{payload}
 use Rattle.sst_blocks.specs.Version.{mark}
 use Rattle.sst_blocks.proofs.Numbers.{wide4, wide8}
-use Rattle.sst_blocks.specs.Strict.{number_cmp, is_before, may_follow, IsStrictAfter, IsStrict, last_of}
+use Rattle.sst_blocks.specs.Strict.{number_cmp, is_before, IsStrictAfter, last_of}
 use Rattle.sst_blocks.proofs.Reaching.{reaches_after, above_reaches}
 use Rattle.lsm_writers.specs.Chunks.{joined}
 use Rattle.lsm_writers.specs.Index.{last_entry, handle_of, handles_from, block_size, data_block, data_section}

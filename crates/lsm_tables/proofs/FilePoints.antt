@@ -1,7 +1,7 @@
 -- A point read of a written table is the first match in the list.
-use Rattle.std.proofs.Common.{◌≡◌, ℕ, ◌+◌, ◌-◌, ◌^◌, ◌<◌, ◌≤◌, Bool, true, false, cond, ltb, leb, List, [], ◌∷◌, ◌++◌, length, map, refl, sym, ap, subst, ◌∙◌, append_assoc, length-append, arith, rules, inl, inr}
-use Rattle.std.specs.Prelude.{Option, Some, None, Result, Ok, Err, find, unwrap_or, is_some, count_by, min, ◌&&◌}
-use Rattle.std.specs.List.{AllByRecursion, flat_map}
+use Rattle.std.proofs.Common.{◌≡◌, ℕ, ◌+◌, ◌-◌, ◌^◌, ◌<◌, ◌≤◌, Bool, true, false, cond, ltb, leb, List, [], ◌∷◌, ◌++◌, length, map, refl, sym, ap, subst, ◌∙◌, append_assoc, length-append, arith, inl, inr}
+use Rattle.std.specs.Prelude.{Option, Some, None, Result, Ok, Err, find, unwrap_or, is_some, ◌&&◌}
+use Rattle.std.specs.List.{AllByRecursion}
 use Rattle.std.specs.Option.{option_map}
 use Rattle.std.proofs.lemmas.Bool.{cases_lt, lt-ltb, le-ltb, leb-true}
 use Rattle.std.proofs.lemmas.List.Sums.{count_by-le-length}
@@ -9,7 +9,7 @@ use Rattle.sst_blocks.specs.declared.version.TableVersion.{TableVersion}
 use Rattle.sst_blocks.specs.declared.version.TableVersion.TheVariants.{V3, V4}
 use Rattle.sst_blocks.specs.declared.block_type.BlockType.TheVariants.{Data, Index, Meta}
 use Rattle.sst_blocks.specs.declared.error.Error.{Error}
-use Rattle.sst_blocks.specs.Block.{Loaded, block_bytes, load_told, entries_of}
+use Rattle.sst_blocks.specs.Block.{load_told}
 use Rattle.sst_blocks.specs.Entry.{Entry}
 use Rattle.sst_blocks.specs.Handle.{Handle}
 use Rattle.sst_blocks.specs.Handles.{reaches, handles_payload}
@@ -22,15 +22,14 @@ use Rattle.sst_blocks.specs.Strict.{IsStrict, IsStrictAfter, last_of}
 use Rattle.sst_blocks.specs.Version.{longest_key}
 use Rattle.sst_blocks.proofs.BlockLaws.{written_loads}
 use Rattle.lsm_writers.specs.Chunks.{joined, AreChunksFrom}
-use Rattle.lsm_writers.specs.Facts.{facts, first_key, last_key, lowest_seqno, is_tombstone, is_weak, is_reclaimable}
-use Rattle.lsm_writers.specs.File.{file, counted_blocks, IsFile}
-use Rattle.lsm_writers.specs.Index.{handles, handle_of, data_block, data_section, last_entry}
+use Rattle.lsm_writers.specs.Facts.{first_key, last_key, lowest_seqno, is_tombstone, is_weak, is_reclaimable}
+use Rattle.lsm_writers.specs.File.{counted_blocks, IsFile}
+use Rattle.lsm_writers.specs.Index.{handles, data_block, data_section}
 use Rattle.lsm_writers.specs.MetaBlock.{meta_entries}
 use Rattle.lsm_writers.specs.Options.{Options, Label}
-use Rattle.lsm_tables.specs.Answer.{lifted, lift, handle_for, read_told, answer_told}
+use Rattle.lsm_tables.specs.Answer.{lifted, lift, read_told, answer_told}
 use Rattle.lsm_tables.specs.Fits.{EntryFits, BlockFits, Fits}
 use Rattle.lsm_tables.specs.Parts.{Parts, recovered_told}
-use Rattle.lsm_tables.specs.Told.{◌>>=◌}
 use Rattle.lsm_tables.proofs.ChunkReads.{AreSome, ReadsChunk, ReadsBy, chunk_read, length-block, strict_front, strict_after}
 use Rattle.lsm_tables.proofs.FileLengths.{last_fits, last_some, all_front, all_behind, after_within, lowest_fits, highest_below, section_wide, chunk_reads, index_reads}
 use Rattle.lsm_tables.specs.declared.regions.ParsedRegions.{ParsedRegions}
@@ -38,7 +37,7 @@ use Rattle.lsm_tables.specs.Load.{meta_told}
 use Rattle.lsm_tables.specs.Parts.{index_told}
 use Rattle.lsm_tables.specs.Regions.{regions_told}
 use Rattle.std.proofs.lemmas.List.Concat.{flat_map-append}
-use Rattle.lsm_tables.proofs.FileReads.{the_index, the_meta, the_data, the_version, the_regions, is_body, length-body, regions_read, index_read, meta_read, w}
+use Rattle.lsm_tables.proofs.FileReads.{the_index, the_meta, the_version, the_regions, is_body, length-body, regions_read, index_read, meta_read, w}
 use Rattle.lsm_tables.proofs.MetaBlocks.{meta_reads, meta_length}
 use Rattle.lsm_tables.proofs.MetaReads.{FactsFit, written_facts}
 use Rattle.lsm_tables.proofs.Recovered.{Steps, steps}

@@ -1,44 +1,32 @@
 -- The bytes of a table tell what was written.
-use Rattle.std.proofs.Common.{◌≡◌, ℕ, ◌+◌, ◌-◌, ◌^◌, ◌<◌, ◌≤◌, Bool, true, false, cond, ltb, List, [], ◌∷◌, ◌++◌, length, map, refl, sym, ap, subst, ◌∙◌, append_assoc, length-append, arith, rules}
-use Rattle.std.specs.Prelude.{Option, Some, None, Result, Ok, Err, is_some, unwrap_or}
-use Rattle.std.specs.List.{flat_map, AllByRecursion}
+use Rattle.std.proofs.Common.{◌≡◌, ℕ, ◌+◌, ◌^◌, ◌<◌, List, [], ◌∷◌, ◌++◌, length, map, refl, sym, ap, ◌∙◌, append_assoc, length-append, arith}
+use Rattle.std.specs.Prelude.{Option, Some, None, Ok, is_some}
 use Rattle.std.proofs.lemmas.List.{append-nil}
 use Rattle.std.proofs.lemmas.Bool.{lt-leb}
 use Rattle.sst_blocks.specs.declared.version.TableVersion.{TableVersion}
-use Rattle.sst_blocks.specs.declared.block_type.BlockType.TheVariants.{Data, Index, Meta}
-use Rattle.sst_blocks.specs.declared.error.Error.{Error}
+use Rattle.sst_blocks.specs.declared.block_type.BlockType.TheVariants.{Index, Meta}
 use Rattle.sst_blocks.specs.declared.section.SectionName.{SectionName}
-use Rattle.sst_blocks.specs.declared.section.SectionName.TheVariants.{Data as DataSection, Index as IndexSection, Tli, Filter as FilterSection, FilterTli, TableVersion as VersionSection, Meta as MetaSection}
+use Rattle.sst_blocks.specs.declared.section.SectionName.TheVariants.{Index as IndexSection, Tli, Filter as FilterSection, FilterTli, Meta as MetaSection}
 use Rattle.sst_blocks.specs.declared.section.Section.{Section}
-use Rattle.sst_blocks.specs.Block.{Loaded, block_bytes, load_told, entries_of, handles_of, in_grammar}
+use Rattle.sst_blocks.specs.Block.{Loaded, block_bytes, load_told}
 use Rattle.sst_blocks.specs.Entry.{Entry}
-use Rattle.sst_blocks.specs.Handle.{Handle}
 use Rattle.sst_blocks.specs.Handles.{handles_payload, handles_in}
 use Rattle.sst_blocks.specs.Payload.{payload}
-use Rattle.sst_blocks.specs.Place.{Place}
 use Rattle.sst_blocks.specs.Reading.{entries_in}
-use Rattle.sst_blocks.specs.Sections.{Written, finished, body_of, section_in, section_of, section_names, trailer_fault, AreAscending}
+use Rattle.sst_blocks.specs.Sections.{Written, finished, body_of, section_in, section_of, section_names, AreAscending}
 use Rattle.sst_blocks.proofs.BlockLaws.{written_loads}
-use Rattle.sst_blocks.proofs.SectionLaws.{finished_body, finished_section, finished_fine}
-use Rattle.lsm_writers.specs.Chunks.{joined}
-use Rattle.lsm_writers.specs.File.{file, sections_of, counted_blocks}
-use Rattle.lsm_writers.specs.Index.{handles, data_section, data_block}
+use Rattle.sst_blocks.proofs.SectionLaws.{finished_body, finished_section}
+use Rattle.lsm_writers.specs.File.{sections_of, counted_blocks}
+use Rattle.lsm_writers.specs.Index.{handles, data_section}
 use Rattle.lsm_writers.specs.Layout.{laid}
 use Rattle.lsm_writers.specs.MetaBlock.{meta_entries, version_number}
 use Rattle.lsm_writers.specs.Options.{Options, Label}
 use Rattle.lsm_tables.specs.declared.regions.ParsedRegions.{ParsedRegions}
-use Rattle.lsm_tables.specs.Regions.{regions_told, region_told, optional_told, needed_told, section_named}
-use Rattle.lsm_tables.specs.Fits.{EntryFits, BlockFits, Fits}
-use Rattle.lsm_tables.specs.Handled.{IsRecovered}
+use Rattle.lsm_tables.specs.Regions.{regions_told, section_named}
 use Rattle.lsm_tables.specs.Load.{meta_told}
-use Rattle.lsm_tables.specs.Meta.{Facts, facts_told}
-use Rattle.lsm_tables.specs.Parts.{Parts, recovered_told, index_told}
-use Rattle.lsm_tables.specs.Told.{◌>>=◌}
-use Rattle.lsm_tables.proofs.ChunkReads.{AreSome, length-block, ReadsChunk}
-use Rattle.lsm_tables.proofs.FileLengths.{index_reads, chunk_reads, section_wide}
-use Rattle.lsm_tables.proofs.MetaBlocks.{meta_reads, meta_length}
+use Rattle.lsm_tables.specs.Parts.{index_told}
+use Rattle.lsm_tables.proofs.ChunkReads.{length-block}
 use Rattle.lsm_tables.proofs.MetaReads.{FactsFit, facts_read, written_facts}
-use Rattle.lsm_tables.proofs.Recovered.{Steps, steps}
 
 module _ (v : TableVersion) (label : Label) (options : Options) (cs : List (List Entry)) where
   abbrev pub the_index : List ℕ

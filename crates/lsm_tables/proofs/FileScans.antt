@@ -1,25 +1,29 @@
 -- A scan of a written table gives its list.
-use Rattle.std.proofs.Common.{◌≡◌, ℕ, suc, ◌+◌, ◌-◌, ◌^◌, ◌<◌, ◌≤◌, List, [], ◌∷◌, ◌++◌, length, map, max, refl, sym, ap, subst, ◌∙◌, append_assoc, length-append, arith}
+use Rattle.std.proofs.Common.{◌≡◌, ℕ, ◌+◌, ◌^◌, ◌<◌, ◌≤◌, List, [], ◌∷◌, ◌++◌, length, map, max, slice_range, take, refl, sym, ap, subst, ◌∙◌, append_assoc, length-append, arith}
 use Rattle.std.specs.Prelude.{Option, Some, None, Result, Ok, Err, IfOk, MatchResult, is_some, unwrap_or, false, Bool, true}
 use Rattle.std.specs.List.{AllByRecursion, flat_map}
-use Rattle.std.proofs.lemmas.List.{map-append}
-use Rattle.sst_blocks.specs.declared.block_type.BlockType.TheVariants.{Data}
+use Rattle.std.proofs.lemmas.List.{map-append, take_at}
+use Rattle.sst_blocks.specs.declared.block_type.BlockType.TheVariants.{Data, Index}
 use Rattle.sst_blocks.specs.declared.error.Error.{Error}
-use Rattle.sst_blocks.specs.declared.error.Error.TheVariants.{OutOfMemory}
+use Rattle.sst_blocks.specs.declared.error.Error.TheVariants.{OutOfMemory, InvalidTag}
+use Rattle.sst_blocks.specs.declared.error.TagName.TheVariants.{BlockType as BlockTypeTag}
+use Rattle.sst_blocks.specs.declared.version.TableVersion.TheVariants.{V3, V4}
 use Rattle.sst_blocks.specs.declared.version.TableVersion.{TableVersion}
-use Rattle.sst_blocks.specs.Block.{Loaded, load_at_told, entries_of}
+use Rattle.sst_blocks.specs.Block.{Loaded, block_bytes, header, header_fault, load_at_told, entries_of}
 use Rattle.sst_blocks.specs.Entry.{Entry}
 use Rattle.sst_blocks.specs.Error.{Faults, is_memory}
+use Rattle.sst_blocks.specs.Handles.{handles_payload}
 use Rattle.sst_blocks.specs.Payload.{payload}
 use Rattle.sst_blocks.specs.Reading.{entries_in}
 use Rattle.sst_blocks.specs.Sections.{body_of, finished}
 use Rattle.sst_blocks.specs.Stream.{all_ok, Deals, nowhere, stopped}
 use Rattle.sst_blocks.specs.Strict.{IsStrict, IsStrictAfter, last_of}
 use Rattle.sst_blocks.proofs.BlockLaws.{written_loads_at}
+use Rattle.sst_blocks.proofs.LoadLemmas.{load_at_fault}
 use Rattle.lsm_writers.specs.Chunks.{joined}
 use Rattle.lsm_writers.specs.Facts.{highest_seqno}
-use Rattle.lsm_writers.specs.File.{file, counted_blocks, IsFile}
-use Rattle.lsm_writers.specs.Index.{data_block, data_section}
+use Rattle.lsm_writers.specs.File.{IsFile}
+use Rattle.lsm_writers.specs.Index.{handles, data_block, data_section}
 use Rattle.lsm_writers.specs.Options.{Options, Label}
 use Rattle.lsm_tables.specs.Answer.{lifted, lift}
 use Rattle.lsm_tables.specs.Fits.{EntryFits, BlockFits, Fits}
@@ -30,7 +34,6 @@ use Rattle.lsm_tables.proofs.ChunkReads.{AreSome, length-block, strict_front, st
 use Rattle.lsm_tables.proofs.FileLengths.{all_front, all_behind, chunk_reads}
 use Rattle.lsm_tables.proofs.FilePoints.{any_front, some_chunks, facts_are}
 use Rattle.lsm_tables.proofs.FileReads.{the_index, the_meta, the_version, is_body, w}
-use Rattle.lsm_tables.proofs.MetaReads.{written_facts}
 use Rattle.lsm_tables.proofs.Recovered.{steps}
 use Rattle.lsm_tables.proofs.Scans.{lifted_ok, memory_is}
 
@@ -99,10 +102,10 @@ chunk_entries v g (c ∷ cs) reads =
 -- ---- the table
 
 -- a scan gives these, and its first block is loaded
-pub record Scans (body : List ℕ) (count g : ℕ) (xs : List (Result Entry Error)) : Type 0 where
-  pub all : scan_told body count g ≡ xs
-  pub first : Loaded
-  pub loads : load_at_told body 0 Data ≡ Ok first
+record Scans (body : List ℕ) (count g : ℕ) (xs : List (Result Entry Error)) : Type 0 where
+  all : scan_told body count g ≡ xs
+  first : Loaded
+  loads : load_at_told body 0 Data ≡ Ok first
 
 chunks_scan : (v : TableVersion) (c : List Entry) (cs : List (List Entry)) (post body : List ℕ) (g : ℕ) → AllByRecursion (Reads v) (c ∷ cs) → highest_seqno (joined (c ∷ cs)) + g < 2 ^ 64 → body ≡ data_section v (c ∷ cs) ++ post → Scans body (length (c ∷ cs)) g (all_ok (lift (joined (c ∷ cs)) g))
 unfolding entries_from
@@ -135,7 +138,7 @@ module _ (v : TableVersion) (label : Label) (options : Options) (cs : List (List
       subst (λ (n : ℕ). Scans (body_of (finished (w v label options cs))) n g (all_ok (lift (joined cs) g))) (sym count)
       (some_scan v cs others (body_of (finished (w v label options cs))) g any (all_read v None cs strict fits.entries fits.blocks) fit (is_body v label options cs))
 
-pub file_scans : (v : TableVersion) (stored : List ℕ) (label : Label) (options : Options) (spills : List ℕ) (es : List Entry) (f : IsFile v stored label options spills es) (g : ℕ) (parts : Parts) → IsStrict es → Fits v label options f.blocks → length stored < 2 ^ 63 → recovered_told stored g ≡ Ok parts → 0 < length es → Scans (body_of stored) parts.facts.data_block_count g (all_ok (lift es g))
+file_scans : (v : TableVersion) (stored : List ℕ) (label : Label) (options : Options) (spills : List ℕ) (es : List Entry) (f : IsFile v stored label options spills es) (g : ℕ) (parts : Parts) → IsStrict es → Fits v label options f.blocks → length stored < 2 ^ 63 → recovered_told stored g ≡ Ok parts → 0 < length es → Scans (body_of stored) parts.facts.data_block_count g (all_ok (lift es g))
 file_scans v stored label options spills es f g parts strict fits short told any =
     let cs = f.blocks in
     let short_file : length (finished (w v label options cs)) < 2 ^ 63 = subst (λ (b : List ℕ). length b < 2 ^ 63) f.are short in
@@ -154,11 +157,54 @@ memory_or : (e : Error) (b : Bool) → is_memory e ≡ b → (is_memory e ≡ fa
 memory_or e true m h = memory_is e m
 memory_or e false m h = absurd (let no = h m in cc)
 
-pub memory_alone : (told : Result Loaded Error) (b : Loaded) (e : Error) → told ≡ Ok b → (is_memory e ≡ false → fault_of told ≡ Some e) → e ≡ OutOfMemory
+memory_alone : (told : Result Loaded Error) (b : Loaded) (e : Error) → told ≡ Ok b → (is_memory e ≡ false → fault_of told ≡ Some e) → e ≡ OutOfMemory
 memory_alone told b e ok h = memory_or e (is_memory e) refl (λ m. sym (ap fault_of ok) ∙ h m)
 
--- where a scan gives a list, and its first block is loaded, it opens and deals the list, or wants memory
-pub scan_opens : (r : Result Scan Error) (body : List ℕ) (count g : ℕ) (xs : List (Result Entry Error)) → Scans body count g xs → ((stops : Error → Bool) → stops OutOfMemory ≡ true → IfOk r (λ s. Deals (stopped stops) ScansNext nowhere s (scan_told body count g))) → Faults r (fault_of (load_at_told body 0 Data))
-    → MatchResult r (λ s. (stops : Error → Bool) → stops OutOfMemory ≡ true → Deals (stopped stops) ScansNext nowhere s xs) (λ e. e ≡ OutOfMemory)
-scan_opens (Ok s) body count g xs scans deals faults = λ stops memory. subst (λ (ys : List (Result Entry Error)). Deals (stopped stops) ScansNext nowhere s ys) scans.all (deals stops memory)
-scan_opens (Err e) body count g xs scans deals faults = memory_alone (load_at_told body 0 Data) scans.first e scans.loads faults
+-- ---- a table without entries
+
+-- an index block is not loaded as a data block
+index_head : (v : TableVersion) (bytes : List ℕ) → header_fault Data (header v Index bytes) ≡ Some (InvalidTag BlockTypeTag 1)
+index_head V3 bytes = refl
+index_head V4 bytes = refl
+
+length-header : (v : TableVersion) (bytes : List ℕ) → length (header v Index bytes) ≡ 24
+length-header v bytes = omega (arith, length-block v Index bytes, length-append (header v Index bytes) bytes)
+
+index_refused : (v : TableVersion) (bytes rest body : List ℕ) → body ≡ block_bytes v Index bytes ++ rest → load_at_told body 0 Data ≡ Err (InvalidTag BlockTypeTag 1)
+index_refused v bytes rest body e =
+    let head = header v Index bytes in
+    let whole : body ≡ head ++ (bytes ++ rest) = e ∙ append_assoc head bytes rest in
+    let long : 0 + 24 ≤ length body = omega (arith, ap length whole, length-append head (bytes ++ rest), length-header v bytes) in
+    let front : slice_range body 0 (0 + 24) ≡ head = ap (λ (xs : List ℕ). take 24 xs) whole ∙ take_at head (bytes ++ rest) 24 (length-header v bytes) in
+    load_at_fault body 0 Data (InvalidTag BlockTypeTag 1) long (ap (header_fault Data) front ∙ index_head v bytes)
+
+no_chunks : (cs : List (List Entry)) → AreSome cs → length (joined cs) ≡ 0 → cs ≡ []
+no_chunks [] some none = refl
+no_chunks (c ∷ cs) some none = absurd (omega (arith, some.0, none, length-append c (joined cs)))
+
+-- its first block is the index
+empty_refused : (v : TableVersion) (stored : List ℕ) (label : Label) (options : Options) (spills : List ℕ) (es : List Entry) (f : IsFile v stored label options spills es) → length es ≡ 0 → load_at_told (body_of stored) 0 Data ≡ Err (InvalidTag BlockTypeTag 1)
+empty_refused v stored label options spills es f none =
+    let cs = f.blocks in
+    let empty = no_chunks cs (some_chunks options.data_block_size spills 0 cs (f.chunks).each) (ap length (f.chunks).whole ∙ none) in
+    let rest = the_version v label options cs ++ the_meta v label options cs in
+    let whole = ap body_of f.are ∙ is_body v label options cs ∙ ap (λ (ds : List (List Entry)). data_section v ds ++ (the_index v label options cs ++ rest)) empty in
+    index_refused v (handles_payload v (handles v cs)) rest (body_of stored) whole
+
+-- ---- what a scan of a table of a list answers
+
+abbrev Opens : Result Scan Error → List Entry → ℕ → Type 0
+Opens r es g = MatchResult r (λ s. (stops : Error → Bool) → stops OutOfMemory ≡ true → Deals (stopped stops) ScansNext nowhere s (all_ok (lift es g))) (λ e. 0 < length es → e ≡ OutOfMemory)
+
+opens : (r : Result Scan Error) (body : List ℕ) (count g : ℕ) (es : List Entry) (fault : Error) → (length es ≡ 0 → load_at_told body 0 Data ≡ Err fault) → (0 < length es → Scans body count g (all_ok (lift es g)))
+    → ((stops : Error → Bool) → stops OutOfMemory ≡ true → IfOk r (λ s. Deals (stopped stops) ScansNext nowhere s (scan_told body count g))) → Faults r (fault_of (load_at_told body 0 Data)) → Opens r es g
+opens (Ok s) body count g [] fault none some deals faults = absurd (let no : None ≡ Some fault = sym faults ∙ ap fault_of (none refl) in cc)
+opens (Err e) body count g [] fault none some deals faults = λ more. absurd (omega (arith, more))
+opens (Ok s) body count g (x ∷ xs) fault none some deals faults =
+    λ stops memory. subst (λ (ys : List (Result Entry Error)). Deals (stopped stops) ScansNext nowhere s ys) (some (omega arith)).all (deals stops memory)
+opens (Err e) body count g (x ∷ xs) fault none some deals faults = λ more. memory_alone (load_at_told body 0 Data) (some more).first e (some more).loads faults
+
+pub file_opens : (v : TableVersion) (stored : List ℕ) (label : Label) (options : Options) (spills : List ℕ) (es : List Entry) (f : IsFile v stored label options spills es) (g : ℕ) (parts : Parts) → IsStrict es → Fits v label options f.blocks → length stored < 2 ^ 63 → recovered_told stored g ≡ Ok parts → (r : Result Scan Error)
+    → ((stops : Error → Bool) → stops OutOfMemory ≡ true → IfOk r (λ s. Deals (stopped stops) ScansNext nowhere s (scan_told (body_of stored) parts.facts.data_block_count g))) → Faults r (fault_of (load_at_told (body_of stored) 0 Data)) → Opens r es g
+file_opens v stored label options spills es f g parts strict fits short told r deals faults =
+    opens r (body_of stored) parts.facts.data_block_count g es (InvalidTag BlockTypeTag 1) (empty_refused v stored label options spills es f) (file_scans v stored label options spills es f g parts strict fits short told) deals faults

@@ -1,9 +1,8 @@
 -- What a written meta block tells.
-use Rattle.std.proofs.Common.{◌≡◌, ℕ, ◌+◌, ◌^◌, ◌<◌, ◌≤◌, Bool, true, false, cond, List, [], ◌∷◌, ◌++◌, length, refl, sym, ap, ◌∙◌, arith, rules}
-use Rattle.std.specs.Prelude.{Result, Ok, Err, Option, Some, None}
+use Rattle.std.proofs.Common.{◌≡◌, ℕ, ◌^◌, ◌<◌, cond, List, [], ◌∷◌, ◌++◌, length, refl, sym, ap, ◌∙◌, arith}
+use Rattle.std.specs.Prelude.{Ok, Err}
 use Rattle.std.proofs.lemmas.List.{append-nil}
 use Rattle.std.proofs.lemmas.Bool.{le-ltb}
-use Rattle.sst_blocks.specs.declared.error.Error.{Error}
 use Rattle.sst_blocks.specs.declared.version.TableVersion.{TableVersion}
 use Rattle.sst_blocks.specs.declared.version.TableVersion.TheVariants.{V3, V4}
 use Rattle.sst_blocks.specs.Entry.{Entry}
@@ -23,7 +22,7 @@ use Rattle.std.specs.Cmp.Lexicographic.{pointwise}
 use Rattle.byteorder.specs.Numbers.{little_number-reads_back}
 use Rattle.sst_blocks.specs.declared.error.Error.TheVariants.{UnsupportedTableVersion}
 use Rattle.lsm_sorted.specs.KeyRange.{interval}
-use Rattle.lsm_tables.specs.Meta.{Facts, item_told, u64_told, number8_told, value_told, version_told, kinds_told, byte_told, first_told, compressions_told, created_told, keys_told, seqnos_told, triple_told, facts_told}
+use Rattle.lsm_tables.specs.Meta.{Facts, item_told, u64_told, version_told, kinds_told, byte_told, first_told, compressions_told, created_told, keys_told, seqnos_told, triple_told, facts_told}
 
 -- a number that was written is read
 pub u64_read : (es : List Entry) (name : ItemName) (n : ℕ) → item_told es name ≡ Ok (le8 n) → n < 2 ^ 64 → u64_told es name ≡ Ok n

@@ -1,6 +1,6 @@
 -- What is left of a scan: one step of it, and what it deals.
-use Rattle.std.proofs.Common.{◌≡◌, ℕ, zero, suc, ◌+◌, ◌-◌, ◌^◌, ◌<◌, ◌≤◌, Bool, true, false, cond, ltb, List, [], ◌∷◌, ◌++◌, length, drop, get_or, map, max, refl, sym, ap, subst, ◌∙◌, append_assoc, arith, inl, inr}
-use Rattle.std.specs.Prelude.{Option, Some, None, Result, Ok, Err, IfOk, IfErr, ◌⊎◌}
+use Rattle.std.proofs.Common.{◌≡◌, ℕ, zero, suc, ◌+◌, ◌-◌, ◌^◌, ◌<◌, ◌≤◌, Bool, true, false, List, [], ◌∷◌, ◌++◌, length, drop, get_or, map, max, refl, sym, ap, subst, ◌∙◌, arith, inl, inr}
+use Rattle.std.specs.Prelude.{Option, Some, None, Result, Ok, Err, ◌⊎◌}
 use Rattle.std.specs.Iterator.{MakesProgress, at_most}
 use Rattle.std.specs.List.{flat_map, slice_get}
 use Rattle.std.proofs.lemmas.Bool.{le-ltb, lt-ltb}
@@ -9,12 +9,11 @@ use Rattle.std.proofs.lemmas.Option.{slice_get_within, get_or_from_slice_get}
 use Rattle.sst_blocks.specs.declared.block_type.BlockType.TheVariants.{Data}
 use Rattle.sst_blocks.specs.declared.error.Error.{Error}
 use Rattle.sst_blocks.specs.declared.error.Error.TheVariants.{OutOfMemory, SeqNoOverflow, Truncated, InvalidHeader, InvalidTag, ChecksumMismatch, InvalidBlock, KeyTooLong, ValueTooLong, BlockTooLarge, SectionTooLarge, InvalidTrailer, MissingSection, MetaKeyMissing, InvalidMetaValue, UnsupportedTableVersion, UnsupportedHashType, UnsupportedChecksumType, UnsupportedIndexInterval, UnsupportedCompression, GlobalSeqNoTooLarge, TableIdsSpent, WriterFailed, Source}
-use Rattle.sst_blocks.specs.declared.opened.Opened.{Opened}
 use Rattle.sst_blocks.specs.Block.{Loaded, load_at_told, entries_of}
 use Rattle.sst_blocks.specs.Entry.{Entry}
-use Rattle.sst_blocks.specs.Error.{Gives, Fails, is_memory}
+use Rattle.sst_blocks.specs.Error.{is_memory}
 use Rattle.sst_blocks.specs.Opened.{counted}
-use Rattle.sst_blocks.specs.Stream.{Answers, Deals, CanDeal, first, but_first, front_of, nowhere, stopped, stopped_result}
+use Rattle.sst_blocks.specs.Stream.{Answers, Deals, CanDeal, first, but_first, front_of, nowhere, stopped}
 use Rattle.sst_blocks.proofs.StreamLemmas.{head_eq, deals_by, can_by}
 use Rattle.lsm_tables.specs.Answer.{lifted}
 use Rattle.lsm_tables.specs.Scan.{lifted_told, then_blocks, behind, blocks_told, entries_told, up_to_error, entries_from, scan_told, fault_of, block_told, Scan, scan_left, ended, IsEnded, TakesEntry, ScanHas, loads, ScansNext, scan_size}

@@ -1,5 +1,5 @@
 -- What the handles of a table share, as a table.
-use Rattle.std.specs.Prelude.{◌≡◌, ℕ, ◌<◌, ◌^◌, List, length, Ok}
+use Rattle.std.specs.Prelude.{◌≡◌, ◌<◌, ◌^◌, length, Ok}
 use Rattle.lsm_tables.specs.declared.handle.Shared.{Shared}
 use Rattle.lsm_tables.specs.Parts.{recovered_told}
 use Rattle.lsm_tables.specs.Seen.{parts_of}

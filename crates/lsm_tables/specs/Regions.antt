@@ -1,5 +1,5 @@
 -- Where the parts of a table lie, from what its trailer says of the sections.
-use Rattle.std.specs.Prelude.{ℕ, ◌^◌, nat_le, List, [], ◌∷◌, Option, Some, None, Result, Ok, Err, slice_index_or, if◌then◌else◌}
+use Rattle.std.specs.Prelude.{◌^◌, nat_le, List, Option, Some, None, Result, Ok, Err, slice_index_or, if◌then◌else◌}
 use Rattle.sst_blocks.specs.declared.error.Error.{Error}
 use Rattle.sst_blocks.specs.declared.error.Error.TheVariants.{SectionTooLarge, MissingSection}
 use Rattle.sst_blocks.specs.declared.section.Section.{Section}

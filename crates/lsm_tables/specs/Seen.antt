@@ -1,5 +1,4 @@
 -- What a table says of itself, without its memory.
-use Rattle.std.specs.Prelude.{ℕ, List}
 use Rattle.lsm_tables.specs.declared.meta.ParsedMeta.{ParsedMeta}
 use Rattle.lsm_tables.specs.declared.inner.Inner.{Inner}
 use Rattle.lsm_tables.specs.Meta.{Facts}

@@ -234,8 +234,9 @@ impl<A: Allocator + Clone> Table<A> {
         // After an error nothing comes, whatever the error is.
         ensures ends { (stops : Error → Bool) (s t : Scan) (e : Error) → ⟦<Scanner<A> as Iterator>⟧.next_gives s (Some (Err e)) t → Deals (stopped stops) ⟦<Scanner<A> as Iterator>⟧.next_gives nowhere t [] }
         ensures opened { IfOk result (λ s. s.opened ≡ counted Data none_opened) }
-        // On a table of a list it is the list, its numbers lifted, and nothing but want of memory refuses it.
-        ensures file { (v : TableVersion) (label : Label) (options : Options) (spills : List ℕ) (es : List Entry) (f : IsFile v self.now.bytes label options spills es) → IsStrict es → Fits v label options f.blocks → 0 < length es → MatchResult result (λ s. (stops : Error → Bool) → stops OutOfMemory ≡ true → Deals (stopped stops) ⟦<Scanner<A> as Iterator>⟧.next_gives nowhere s (all_ok (lift es self.now.global_seqno))) (λ e. e ≡ OutOfMemory) }
+        // On a table of a list it is the list, its numbers lifted; where the list has an entry, nothing but want of memory
+        // refuses it.
+        ensures file { (v : TableVersion) (label : Label) (options : Options) (spills : List ℕ) (es : List Entry) (f : IsFile v self.now.bytes label options spills es) → IsStrict es → Fits v label options f.blocks → MatchResult result (λ s. (stops : Error → Bool) → stops OutOfMemory ≡ true → Deals (stopped stops) ⟦<Scanner<A> as Iterator>⟧.next_gives nowhere s (all_ok (lift es self.now.global_seqno))) (λ e. 0 < length es → e ≡ OutOfMemory) }
         ensures open { IsOpen self.now }
     {
         let shared: &Shared<A> = &self.0;

@@ -1,4 +1,4 @@
-use Rattle.std.proofs.Common.{◌≡◌, ◌<◌, ◌-◌, rules, arith, sym, ◌∙◌}
+use Rattle.std.proofs.Common.{◌≡◌, ◌<◌, rules, arith}
 use Rattle.std.specs.Prelude.{Some}
 use Rattle.sst_blocks.specs.Point.{point}
 use Rattle.lsm_tables.proofs.Loads.{load_kind, data_holds}

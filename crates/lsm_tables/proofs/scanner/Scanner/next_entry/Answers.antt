@@ -1,4 +1,4 @@
-use Rattle.std.proofs.Common.{◌≡◌, ◌+◌, ◌<◌, length, drop, ap, sym, ◌∙◌, arith}
+use Rattle.std.proofs.Common.{◌+◌, ◌<◌, length, drop, ap, sym, ◌∙◌, arith}
 use Rattle.lsm_tables.specs.Scan.{Scan}
 use Rattle.lsm_tables.proofs.Scans.{cut_at}
 use Rattle.lsm_tables.proofs.scanner.Scanner.next_entry.Goals as goal

@@ -1,4 +1,4 @@
-use Rattle.std.proofs.Common.{arith, rules, ◌<◌, ◌+◌, ◌^◌}
+use Rattle.std.proofs.Common.{rules}
 use Rattle.std.specs.Arc.{arc_value}
 use Rattle.lsm_tables.specs.Handled.{table_of}
 use Rattle.lsm_tables.proofs.Recovered.{highest_fits}

@@ -4,12 +4,11 @@ use Rattle.sst_blocks.specs.declared.block_type.BlockType.TheVariants.{Data}
 use Rattle.sst_blocks.specs.Block.{load_at_told}
 use Rattle.sst_blocks.specs.Error.{Faults}
 use Rattle.sst_blocks.specs.Sections.{body_of}
-use Rattle.sst_blocks.specs.Stream.{Deals, all_ok, nowhere, stopped}
-use Rattle.lsm_tables.specs.Answer.{lift}
+use Rattle.sst_blocks.specs.Stream.{Deals, nowhere, stopped}
 use Rattle.lsm_tables.specs.Handled.{IsOpen, table_of}
 use Rattle.lsm_tables.specs.Scan.{Scan, ScansNext, fault_of, scan_told}
 use Rattle.lsm_tables.specs.TableSeen.{TableSeen}
-use Rattle.lsm_tables.proofs.FileScans.{file_scans, scan_opens}
+use Rattle.lsm_tables.proofs.FileScans.{file_opens}
 use Rattle.lsm_tables.proofs.table.Table.scan.Goals as goal
 
 pub returns-clause-deals : goal.returns-clause-deals
@@ -18,11 +17,10 @@ returns-clause-deals g c stops memory =
     subst (λ (u : TableSeen). IfOk c.new.result (λ (s : Scan). Deals (stopped stops) ScansNext nowhere s (scan_told (body_of u.bytes) u.parts.facts.data_block_count u.global_seqno))) seen (c.new.ensures.deals stops memory)
 
 pub returns-clause-file : goal.returns-clause-file
-returns-clause-file g c v label options spills es f strict fits some =
+returns-clause-file g c v label options spills es f strict fits =
     let t = c.args.self.now in
     let seen = ap table_of c.deref-shared.ensures ∙ c.self.view_is in
     let held = subst IsOpen c.self.view_is c.self.invariant in
-    let scans = file_scans v t.bytes label options spills es f t.global_seqno t.parts strict fits held.short held.recovered some in
-    scan_opens c.new.result (body_of t.bytes) t.parts.facts.data_block_count t.global_seqno (all_ok (lift es t.global_seqno)) scans
+    file_opens v t.bytes label options spills es f t.global_seqno t.parts strict fits held.short held.recovered c.new.result
     (λ stops memory. subst (λ (u : TableSeen). IfOk c.new.result (λ (s : Scan). Deals (stopped stops) ScansNext nowhere s (scan_told (body_of u.bytes) u.parts.facts.data_block_count u.global_seqno))) seen (c.new.ensures.deals stops memory))
     (subst (λ (u : TableSeen). Faults c.new.result (fault_of (load_at_told (body_of u.bytes) 0 Data))) seen c.new.ensures.refused)
