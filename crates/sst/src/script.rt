@@ -2,7 +2,8 @@
 ghost use Rattle.std.specs.Prelude.{◌≡◌, ◌⊎◌, Bool, false, true, Ok, IfOk, IfErr, OnOk, OnErr};
 ghost use Rattle.sst_blocks.specs.Error.{Gives};
 ghost use Rattle.sst.specs.declared.stop.Failure.TheVariants.{BadLine};
-ghost use Rattle.sst.specs.Script.{repeated_told, Writes};
+ghost use Rattle.sst.specs.declared.stop.Stop.TheVariants.{Line, Output};
+ghost use Rattle.sst.specs.Script.{built, repeated_told, Writes, Executes};
 
 use crate::command::{Command, parse_command};
 use crate::pending::Pending;
@@ -97,7 +98,9 @@ impl<A: Allocator + Clone> Script<A> {
         number: u64,
         line: &[u8],
         output: &mut W,
-    ) -> Result<(), Stop> {
+    ) -> Result<(), Stop>
+        ensures { IfErr result (λ stop. (stop ≡ Line number) ⊎ (stop ≡ Output)) }
+    {
         let command = parse_command(line).ok_or(Stop::Line(number))?;
         let printed = match self.execute(command) {
             Ok(answer) => print_answer(output, &answer),
@@ -108,7 +111,9 @@ impl<A: Allocator + Clone> Script<A> {
         output.flush().map_err(|_| Stop::Output)
     }
 
-    fn execute(&mut self, command: Command<'_>) -> Result<Answer<A>, Failure> {
+    fn execute(&mut self, command: Command<'_>) -> Result<Answer<A>, Failure>
+        ensures { Executes command.entry (built self.old.pending self.old.runs.items self.old.next_id) result (built self.new.pending self.new.runs.items self.new.next_id) }
+    {
         match command {
             Command::Entry {
                 key,

@@ -1,4 +1,4 @@
-use Rattle.std.proofs.Common.{◌≡◌, refl, inr, ◌∷◌, List, rules}
+use Rattle.std.proofs.Common.{◌≡◌, refl, inr, ◌∷◌, rules}
 use Rattle.std.specs.Prelude.{Some}
 use Rattle.sst.specs.Script.{next_id}
 use Rattle.sst.proofs.script.Script.write_table.Goals as goal
@@ -13,10 +13,18 @@ returns-clause-written g c =
     let drawn : c.args.self.now.next_id ≡ Some id = search rules in
     let next : c.checked_add-self.result ≡ next_id id = search rules in
     let same : run.bytes ≡ c.in-Some.table.bytes = c.in_ok-run.ensures.bytes in
-    inr (refl, (id, drawn, next, record {
-      run = run;
-      runs_are = runs;
-      unlifted = c.in_ok-run.ensures.unlifted;
-      spills = table.spills;
-      file = rw same table.file;
-    }))
+    inr (
+      refl,
+      (
+        id,
+        drawn,
+        next,
+        record {
+          run = run;
+          runs_are = runs;
+          unlifted = c.in_ok-run.ensures.unlifted;
+          spills = table.spills;
+          file = rw same table.file;
+        },
+      ),
+    )
