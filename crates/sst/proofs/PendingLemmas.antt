@@ -1,12 +1,11 @@
 -- Lists that a table can be written of.
-use Rattle.std.proofs.Common.{◌≡◌, refl, sym, ◌∙◌, ap, subst, ℕ, ◌+◌, ◌-◌, ◌<◌, ◌^◌, Bool, true, false, IsTrue, append_assoc, List, [], ◌∷◌, ◌++◌, arith, ltb-true, lt-ltb}
-use Rattle.std.specs.Prelude.{Option, Some, None, nat_lt, ◌&&◌}
-use Rattle.std.specs.List.{AllByRecursion, flat_map}
+use Rattle.std.proofs.Common.{◌≡◌, refl, sym, ◌∙◌, ap, Bool, true, false, IsTrue, append_assoc, List, [], ◌∷◌, ◌++◌, ltb-true, lt-ltb}
+use Rattle.std.specs.Prelude.{None, ◌&&◌}
 use Rattle.std.proofs.lemmas.Grind.{flat_map-append}
 use Rattle.std.proofs.lemmas.List.{append-nil}
 use Rattle.sst_blocks.specs.declared.value_type.ValueType.TheVariants.{Value}
 use Rattle.sst_blocks.specs.Entry.{Entry, entry}
-use Rattle.sst_blocks.specs.Strict.{may_follow, last_of, IsStrict, IsStrictAfter}
+use Rattle.sst_blocks.specs.Strict.{last_of, IsStrictAfter}
 use Rattle.lsm_writers.specs.Writing.{follows, gained, written, Writing}
 use Rattle.lsm_writers.specs.Chunks.{joined, is_full}
 use Rattle.lsm_writers.proofs.Listing.{all-append, all_back}

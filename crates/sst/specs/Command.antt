@@ -1,5 +1,5 @@
 -- The forms of a script's lines.
-use Rattle.std.specs.Prelude.{◌≡◌, ℕ, ◌<◌, ◌==◌, Bool, true, List, [], ◌∷◌, length, nat_eq, codes, if◌then◌else◌, Option, Some, None}
+use Rattle.std.specs.Prelude.{◌≡◌, ℕ, ◌<◌, ◌==◌, true, List, [], ◌∷◌, length, nat_eq, codes, if◌then◌else◌, Option, Some, None}
 use Rattle.std.specs.Char.{is_ascii_graphic}
 use Rattle.std.specs.Cmp.Lexicographic.{pointwise}
 use Rattle.std.specs.List.{list_all, slice_split}

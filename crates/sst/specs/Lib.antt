@@ -2,4 +2,5 @@ pub mod Answer
 pub mod Command
 pub mod Pending
 pub mod Runs
+pub mod Script
 pub mod Text

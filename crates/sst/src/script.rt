@@ -1,5 +1,9 @@
 //! Running a script.
-ghost use Rattle.std.specs.Prelude.{◌≡◌, ◌⊎◌};
+ghost use Rattle.std.specs.Prelude.{◌≡◌, ◌⊎◌, Bool, false, true, Ok, IfOk, IfErr, OnOk, OnErr};
+ghost use Rattle.sst_blocks.specs.Error.{Gives};
+ghost use Rattle.sst.specs.declared.stop.Failure.TheVariants.{BadLine};
+ghost use Rattle.sst.specs.declared.stop.Stop.TheVariants.{Line, Output};
+ghost use Rattle.sst.specs.Script.{built, repeated_told, Writes, Executes};
 
 use crate::command::{Command, parse_command};
 use crate::pending::Pending;
@@ -94,7 +98,9 @@ impl<A: Allocator + Clone> Script<A> {
         number: u64,
         line: &[u8],
         output: &mut W,
-    ) -> Result<(), Stop> {
+    ) -> Result<(), Stop>
+        ensures { IfErr result (λ stop. (stop ≡ Line number) ⊎ (stop ≡ Output)) }
+    {
         let command = parse_command(line).ok_or(Stop::Line(number))?;
         let printed = match self.execute(command) {
             Ok(answer) => print_answer(output, &answer),
@@ -105,7 +111,9 @@ impl<A: Allocator + Clone> Script<A> {
         output.flush().map_err(|_| Stop::Output)
     }
 
-    fn execute(&mut self, command: Command<'_>) -> Result<Answer<A>, Failure> {
+    fn execute(&mut self, command: Command<'_>) -> Result<Answer<A>, Failure>
+        ensures { Executes command.entry (built self.old.pending self.old.runs.items self.old.next_id) result (built self.new.pending self.new.runs.items self.new.next_id) }
+    {
         match command {
             Command::Entry {
                 key,
@@ -130,7 +138,13 @@ impl<A: Allocator + Clone> Script<A> {
 
     // Writes the pending entries as a run of one table, and answers how many tables there are. Where it is refused, the runs
     // and the next id stay.
-    fn write_table(&mut self) -> Result<u64, Failure> {
+    fn write_table(&mut self) -> Result<u64, Failure>
+        ensures written { IfOk result (λ count. Writes self.old.pending self.old.runs.items self.new.runs.items self.old.next_id self.new.next_id count) }
+        ensures new { OnOk result (repeated_told self.old.runs.items self.old.pending ≡ Ok false) }
+        ensures line { IfErr result (λ e. e ≡ BadLine → repeated_told self.old.runs.items self.old.pending ≡ Ok true) }
+        ensures runs { OnErr result (self.new.runs.items ≡ self.old.runs.items) }
+        ensures id { OnErr result (self.new.next_id ≡ self.old.next_id) }
+    {
         if self.is_repeated()? {
             return Err(Failure::BadLine);
         }
@@ -146,7 +160,9 @@ impl<A: Allocator + Clone> Script<A> {
     }
 
     // Whether a run already holds a pending entry's key and number.
-    fn is_repeated(&self) -> Result<bool, Error> {
+    fn is_repeated(&self) -> Result<bool, Error>
+        ensures { Gives (λ (held : Bool). held) result (repeated_told self.now.runs.items self.now.pending) }
+    {
         for item in self.pending.items() {
             if is_held(&self.runs, item.key.user_key.as_slice(), item.key.seqno)? {
                 return Ok(true);

@@ -1,4 +1,4 @@
-use Rattle.std.proofs.Common.{◌≡◌, List, ℕ, ◌∷◌, false, rules}
+use Rattle.std.proofs.Common.{◌≡◌, ◌∷◌, false, rules}
 use Rattle.std.specs.Prelude.{codes, nat_eq}
 use Rattle.std.specs.Cmp.Lexicographic.{pointwise}
 use Rattle.sst.specs.Command.{words_of}

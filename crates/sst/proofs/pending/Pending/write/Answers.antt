@@ -1,4 +1,4 @@
-use Rattle.std.proofs.Common.{◌≡◌, ◌∙◌, sym, ap, subst, IsTrue, List, [], ◌∷◌, ◌++◌, append_assoc, rules}
+use Rattle.std.proofs.Common.{◌≡◌, ◌∙◌, sym, ap, subst, IsTrue, List, [], ◌∷◌, ◌++◌, append_assoc}
 use Rattle.sst_blocks.specs.Entry.{Entry}
 use Rattle.lsm_writers.specs.Writing.{Writing, written, follows, gained}
 use Rattle.sst.specs.Pending.{IsPending}

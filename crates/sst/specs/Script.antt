@@ -1,0 +1,69 @@
+-- What a script's commands do to its runs.
+use Rattle.std.specs.Prelude.{◌≡◌, ℕ, ◌+◌, ◌^◌, Bool, true, false, IsTrue, nat_lt, List, [], ◌∷◌, ◌++◌, Option, Some, None, Result, Ok, MatchResult, ◌⊎◌, if◌then◌else◌}
+use Rattle.sst_blocks.specs.declared.error.Error.{Error}
+use Rattle.sst_blocks.specs.declared.error.Error.TheVariants.{OutOfMemory}
+use Rattle.sst_blocks.specs.declared.version.TableVersion.TheVariants.{V4}
+use Rattle.sst_blocks.specs.Entry.{Entry, entry}
+use Rattle.sst_blocks.specs.Error.{Fails}
+use Rattle.lsm_writers.specs.File.{IsFile}
+use Rattle.lsm_writers.specs.Options.{default_options}
+use Rattle.lsm_writers.specs.Writing.{follows}
+use Rattle.lsm_tables.specs.TableSeen.{TableSeen}
+use Rattle.lsm_tables.specs.Told.{◌>>=◌}
+use Rattle.sst.specs.declared.command.Command.{Command}
+use Rattle.sst.specs.declared.command.Command.TheVariants.{Entry as Add, Table, Get}
+use Rattle.sst.specs.declared.print.Answer.{Answer}
+use Rattle.sst.specs.declared.print.Answer.TheVariants.{Silent, Tables, Found}
+use Rattle.sst.specs.declared.stop.Failure.{Failure}
+use Rattle.sst.specs.declared.stop.Failure.TheVariants.{BadLine, Refused}
+use Rattle.sst.specs.Runs.{held_told, newest_told}
+
+-- what a script has built so far: the entries of the next table, the runs, the newest first, and the next id
+pub record Built : Type 0 where
+  pub pending : List Entry
+  pub runs : List TableSeen
+  pub next_id : Option ℕ
+
+abbrev pub built : List Entry → List TableSeen → Option ℕ → Built
+built pending runs id = record { pending = pending; runs = runs; next_id = id }
+
+-- whether a run holds an entry with the key and number of one of some entries
+abbrev pub repeated_told : List TableSeen → List Entry → Result Bool Error
+repeated_told runs [] = Ok false
+repeated_told runs (e ∷ es) = held_told runs e.user_key e.seqno >>= λ held. if held then Ok true else repeated_told runs es
+
+-- the id after one, if there is one
+abbrev pub next_id : ℕ → Option ℕ
+next_id id = if nat_lt (id + 1) (2 ^ 64) then Some (id + 1) else None
+
+-- a run of one table of a list stands before the others
+pub record AddsRun (es : List Entry) (id : ℕ) (old new : List TableSeen) : Type 0 where
+  pub run : TableSeen
+  pub runs_are : new ≡ run ∷ old
+  pub unlifted : run.global_seqno ≡ 0
+  pub spills : List ℕ
+  pub file : IsFile V4 run.bytes (record { table_id = id; initial_level = 0; created_at = 0 }) default_options spills es
+
+-- a list was written as one table, whose id was used up; or there was nothing to write
+abbrev pub Writes : List Entry → List TableSeen → List TableSeen → Option ℕ → Option ℕ → ℕ → Type 0
+Writes es old new old_id new_id count =
+    ((es ≡ []) × (count ≡ 0) × (new ≡ old) × (new_id ≡ old_id))
+    ⊎ ((count ≡ 1) × ((id : ℕ) × (old_id ≡ Some id) × (new_id ≡ next_id id) × AddsRun es id old new))
+
+-- a command's answer, and what it leaves
+abbrev pub Executes : {A : Type 0} → Command → Built → Result (Answer A) Failure → Built → Type 0
+Executes (Add key seqno kind value) old r new =
+    (new.runs ≡ old.runs) × (new.next_id ≡ old.next_id)
+    × MatchResult r
+    (λ a. (a ≡ Silent) × IsTrue (follows old.pending key.now seqno) × (new.pending ≡ old.pending ++ entry key.now value.now seqno kind ∷ []))
+    (λ e. (e ≡ (if follows old.pending key.now seqno then Refused OutOfMemory else BadLine)) × (new.pending ≡ old.pending))
+Executes Table old r new =
+    (new.pending ≡ [])
+    × MatchResult r
+    (λ a. (count : ℕ) × (a ≡ Tables count) × Writes old.pending old.runs new.runs old.next_id new.next_id count)
+    (λ e. (new.runs ≡ old.runs) × (new.next_id ≡ old.next_id) × (e ≡ BadLine → repeated_told old.runs old.pending ≡ Ok true))
+Executes (Get key bound) old r new =
+    (new ≡ old)
+    × MatchResult r
+    (λ a. (found : Option Entry) × (a ≡ Found found) × (newest_told old.runs key.now bound ≡ Ok found))
+    (λ e. (error : Error) × (e ≡ Refused error) × Fails error (newest_told old.runs key.now bound))
