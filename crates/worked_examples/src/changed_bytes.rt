@@ -1,6 +1,6 @@
 //! What opening and reading a stored table answers where its bytes were changed.
 use crate::stored::one_entry;
-use crate::tables::{open, read};
+use crate::tables::{open, overwritten, read};
 use sst_blocks::{Error, SeqNo, Slice, TagName};
 use std::alloc::Allocator;
 use std::test::Fail;
@@ -12,22 +12,6 @@ type Answer = Result<(Result<Option<SeqNo>, Error>, u64), Error>;
 fn open_and_read<A: Allocator + Clone>(alloc: A, bytes: Slice<A>, global_seqno: SeqNo) -> Answer {
     let table = open(alloc, bytes, global_seqno)?;
     Ok(read(&table, b"a", 2))
-}
-
-// The stored table with some runs of bytes overwritten: from where, and with what.
-fn overwritten<A: Allocator + Clone>(
-    alloc: A,
-    changes: &[(usize, &[u8])],
-) -> Result<Slice<A>, Error> {
-    let mut bytes = Vec::from_slice(alloc, &one_entry::BYTES)?;
-    for (from, written) in changes {
-        for (i, byte) in written.iter().enumerate() {
-            if let Some(place) = bytes.get_mut(from.saturating_add(i)) {
-                *place = *byte;
-            }
-        }
-    }
-    Slice::from_vec(bytes)
 }
 
 const FF: [u8; 16] = [0xff; 16];
@@ -71,7 +55,7 @@ fn the_first_fault_of_sections_and_blocks(rt: HostRuntime) -> Result<(), Fail> {
         (&[(1250, b"l"), (META_AT, &FF)], Error::InvalidTrailer),
     ];
     for (changes, fault) in faults {
-        let bytes = overwritten(rt.alloc(), changes)?;
+        let bytes = overwritten(rt.alloc(), &one_entry::BYTES, changes)?;
         assert_eq!(rt;
             open_and_read(rt.alloc(), bytes, 0),
             Err(fault),
@@ -93,7 +77,7 @@ fn changes_that_opening_does_not_see(rt: HostRuntime) -> Result<(), Fail> {
         (&[(5, &[1])], Err(Error::UnsupportedCompression)),
     ];
     for (changes, answer) in answers {
-        let bytes = overwritten(rt.alloc(), changes)?;
+        let bytes = overwritten(rt.alloc(), &one_entry::BYTES, changes)?;
         assert_eq!(rt;
             open_and_read(rt.alloc(), bytes, 0),
             Ok((answer, 1)),
@@ -113,7 +97,7 @@ fn the_global_number_is_tested_between_meta_block_and_index(rt: HostRuntime) -> 
         (&[(50, &[1])], SeqNo::MAX, too_large),
     ];
     for (changes, global_seqno, answer) in answers {
-        let bytes = overwritten(rt.alloc(), changes)?;
+        let bytes = overwritten(rt.alloc(), &one_entry::BYTES, changes)?;
         assert_eq!(rt;
             open_and_read(rt.alloc(), bytes, global_seqno),
             answer,
@@ -155,7 +139,7 @@ fn each_byte_changed_in_turn(rt: HostRuntime) -> Result<(), Fail> {
     for (place, byte) in one_entry::BYTES.iter().enumerate() {
         for changed in [0, 0xff, !*byte] {
             if changed != *byte {
-                let bytes = overwritten(rt.alloc(), &[(place, &[changed])])?;
+                let bytes = overwritten(rt.alloc(), &one_entry::BYTES, &[(place, &[changed])])?;
                 let answer = open_and_read(rt.alloc(), bytes, 0);
                 assert!(rt;
                     is_right(place, &answer),

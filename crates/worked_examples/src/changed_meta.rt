@@ -1,10 +1,10 @@
 //! What opening a table answers where one item or more of its meta block was changed.
 use crate::stored::one_entry;
-use crate::tables::open;
+use crate::tables::{load_entries, open};
 use refusing::each_refused;
 use sst_blocks::{
-    Block, BlockHandle, BlockOffset, BlockSource, BlockType, CompressionType, DataBlock, Error,
-    InternalValue, Opened, SectionName, SectionWriter, SeqNo, Slice,
+    Block, BlockHandle, BlockOffset, BlockSource, BlockType, CompressionType, Error, InternalValue,
+    Opened, SectionName, SectionWriter, SeqNo, Slice,
 };
 use std::alloc::Allocator;
 use std::test::Fail;
@@ -76,7 +76,7 @@ fn meta_payload<A: Allocator + Clone>(alloc: A, changes: &[Item]) -> Result<Vec<
     )?;
     let handle = BlockHandle::new(BlockOffset(97), 1041);
     let mut opened = Opened::none();
-    let block = DataBlock::new(source.load(&handle, BlockType::Meta, &mut opened)?);
+    let block = load_entries(&source, &handle, BlockType::Meta, &mut opened)?;
     let mut items = Vec::new(alloc.clone()?);
     let mut count = 0u32;
     for i in 0..block.len() {

@@ -1,10 +1,9 @@
 //! Where the parts of written and of stored tables lie, and what the tables say of themselves.
 use crate::stored::{filter_parts, one_entry, one_entry_filtered, two_levels};
-use crate::tables::{Row, fill, new_writer, open, read};
+use crate::tables::{Row, fill, load_entries, load_handles, new_writer, open, read};
 use lsm_tables::{ParsedMeta, ParsedRegions};
 use sst_blocks::{
-    BlockHandle, BlockSource, BlockType, DataBlock, Error, IndexBlock, Opened, SectionName, SeqNo,
-    Slice, ValueType,
+    BlockHandle, BlockSource, BlockType, Error, Opened, SectionName, SeqNo, Slice, ValueType,
 };
 use std::alloc::Allocator;
 use std::test::Fail;
@@ -155,7 +154,7 @@ fn put_numbers<A: Allocator + Clone>(
     opened: &mut Opened,
     numbers: &mut Vec<SeqNo>,
 ) -> Result<(), Error> {
-    let block = DataBlock::new(source.load(handle, BlockType::Data, opened)?);
+    let block = load_entries(source, handle, BlockType::Data, opened)?;
     for i in 0..block.len() {
         numbers.push(block.entry(i)?.key.seqno)?;
     }
@@ -169,7 +168,7 @@ fn put_part<A: Allocator + Clone>(
     opened: &mut Opened,
     numbers: &mut Vec<SeqNo>,
 ) -> Result<(), Error> {
-    let part = IndexBlock::new(source.load(handle, BlockType::Index, opened)?);
+    let part = load_handles(source, handle, opened)?;
     for i in 0..part.len() {
         put_numbers(source, &part.handle(i)?.into_inner(), opened, numbers)?;
     }
@@ -182,7 +181,7 @@ fn two_levels_lead_to_every_entry(rt: HostRuntime) -> Result<(), Fail> {
     let regions = ParsedRegions::parse_from_toc(source.toc())?;
     let mut opened = Opened::none();
     let mut numbers = Vec::new(rt.alloc());
-    let tli = IndexBlock::new(source.load(&regions.tli, BlockType::Index, &mut opened)?);
+    let tli = load_handles(&source, &regions.tli, &mut opened)?;
     for i in 0..tli.len() {
         put_part(
             &source,
@@ -203,7 +202,7 @@ fn the_top_level_of_a_filter_leads_to_its_parts(rt: HostRuntime) -> Result<(), F
     let mut opened = Opened::none();
     let mut parts = Vec::new(rt.alloc());
     let handle = regions.filter_tli.unwrap_or_default();
-    let top = IndexBlock::new(source.load(&handle, BlockType::Index, &mut opened)?);
+    let top = load_handles(&source, &handle, &mut opened)?;
     for i in 0..top.len() {
         let part = top.handle(i)?.into_inner();
         let block = source.load(&part, BlockType::Filter, &mut opened)?;

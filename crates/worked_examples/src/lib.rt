@@ -14,6 +14,8 @@ mod scans;
 #[cfg(test)]
 mod stored;
 #[cfg(test)]
+mod stored_reads;
+#[cfg(test)]
 mod tables;
 #[cfg(test)]
 mod writing;

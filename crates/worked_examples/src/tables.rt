@@ -1,14 +1,22 @@
-//! Writing a table, opening it and reading from it, for the tests.
+//! Writing a table, changing its bytes, opening it and reading from it, for the tests.
+ghost use Rattle.std.specs.Prelude.{IfOk};
+ghost use Rattle.lsm_writers.specs.Writing.{IsFresh};
+
 use lsm_tables::Table;
 use lsm_writers::{FinishedTable, Timestamp, Writer};
-use sst_blocks::{Checksum, Error, InternalValue, SeqNo, Slice, ValueType};
+use sst_blocks::{
+    BlockHandle, BlockSource, BlockType, Checksum, DataBlock, Error, IndexBlock, InternalValue,
+    Opened, SeqNo, Slice, ValueType,
+};
 use std::alloc::Allocator;
 
 /// A key, a number, a kind and a value.
 pub(crate) type Row<'a> = (&'a [u8], SeqNo, ValueType, &'a [u8]);
 
 /// A writer of the table 1 at level 0 and moment 0.
-pub(crate) fn new_writer<A: Allocator + Clone>(alloc: A) -> Result<Writer<A>, Error> {
+pub(crate) fn new_writer<A: Allocator + Clone>(alloc: A) -> Result<Writer<A>, Error>
+    ensures { IfOk result (λ w. IsFresh w) }
+{
     Writer::new(alloc, 1, 0, Timestamp::from(0))
 }
 
@@ -56,4 +64,48 @@ pub(crate) fn read<A: Allocator + Clone>(
         Err(error) => Err(error),
     };
     (found, opened.data_loads)
+}
+
+/// Some bytes, of which some runs are overwritten: from where, and with what.
+pub(crate) fn overwritten<A: Allocator + Clone>(
+    alloc: A,
+    bytes: &[u8],
+    changes: &[(usize, &[u8])],
+) -> Result<Slice<A>, Error> {
+    let mut bytes = Vec::from_slice(alloc, bytes)?;
+    for (from, written) in changes {
+        for (i, byte) in written.iter().enumerate() {
+            if let Some(place) = bytes.get_mut(from.saturating_add(i)) {
+                *place = *byte;
+            }
+        }
+    }
+    Slice::from_vec(bytes)
+}
+
+/// The entries of a data block or of a meta block.
+pub(crate) fn load_entries<A: Allocator + Clone>(
+    source: &BlockSource<A>,
+    handle: &BlockHandle,
+    kind: BlockType,
+    opened: &mut Opened,
+) -> Result<DataBlock<A>, Error> {
+    let block = source.load(handle, kind, opened)?;
+    match block.kind() {
+        BlockType::Data | BlockType::Meta => Ok(DataBlock::new(block)),
+        BlockType::Index | BlockType::Filter => Err(Error::Source(2)),
+    }
+}
+
+/// The handles of an index block.
+pub(crate) fn load_handles<A: Allocator + Clone>(
+    source: &BlockSource<A>,
+    handle: &BlockHandle,
+    opened: &mut Opened,
+) -> Result<IndexBlock<A>, Error> {
+    let block = source.load(handle, BlockType::Index, opened)?;
+    match block.kind() {
+        BlockType::Index => Ok(IndexBlock::new(block)),
+        BlockType::Data | BlockType::Meta | BlockType::Filter => Err(Error::Source(3)),
+    }
 }

@@ -1,0 +1,95 @@
+//! Point reads of tables that were stored in version 3.
+use crate::stored::{filter_parts, one_entry, one_entry_filtered};
+use crate::tables::{open, overwritten, read};
+use sst_blocks::{Error, SeqNo, Slice};
+use std::alloc::Allocator;
+use std::test::Fail;
+
+// A key, a bound, the number that is found, if any, and how many data blocks are loaded.
+type Read = (&'static [u8], SeqNo, Option<SeqNo>, u64);
+
+const OF_ONE_ENTRY: [Read; 3] = [
+    (b"a", 2, Some(1), 1),
+    (b"a", SeqNo::MAX, Some(1), 1),
+    (b"a", 1, None, 0),
+];
+
+const OF_FOUR_ENTRIES: [Read; 9] = [
+    (b"a", SeqNo::MAX, Some(9), 1),
+    (b"a", 10, Some(9), 1),
+    (b"a", 9, Some(7), 1),
+    (b"a", 7, Some(5), 1),
+    (b"a", 5, None, 1),
+    (b"a", 2, None, 1),
+    (b"a", 1, None, 0),
+    (b"b", 2, Some(1), 1),
+    (b"b", 1, None, 0),
+];
+
+// The first of some reads that a table answers otherwise.
+fn wrong_read<A: Allocator + Clone>(
+    alloc: A,
+    bytes: &[u8],
+    reads: &[Read],
+) -> Result<Option<Read>, Error> {
+    let bytes = Slice::from(alloc.clone()?, bytes)?;
+    let table = open(alloc, bytes, 0)?;
+    for (key, seqno, found, loads) in reads {
+        if read(&table, key, *seqno) != (Ok(*found), *loads) {
+            return Ok(Some((key, *seqno, *found, *loads)));
+        }
+    }
+    Ok(None)
+}
+
+#[test]
+fn stored_tables_answer_their_reads(rt: HostRuntime) -> Result<(), Fail> {
+    let alloc = rt.alloc();
+    assert_eq!(rt; wrong_read(alloc, &one_entry::BYTES, &OF_ONE_ENTRY)?, None);
+    assert_eq!(rt;
+        wrong_read(alloc, &one_entry_filtered::BYTES, &OF_ONE_ENTRY)?,
+        None
+    );
+    assert_eq!(rt;
+        wrong_read(alloc, &filter_parts::BYTES, &OF_FOUR_ENTRIES)?,
+        None
+    );
+    Ok(())
+}
+
+#[test]
+fn filters_of_stored_tables(rt: HostRuntime) -> Result<(), Fail> {
+    let tables: [(&[u8], u32); 3] = [
+        (&one_entry::BYTES, 0),
+        (&one_entry_filtered::BYTES, 33),
+        (&filter_parts::BYTES, 66),
+    ];
+    for (bytes, size) in tables {
+        let table = open(rt.alloc(), Slice::from(rt.alloc(), bytes)?, 0)?;
+        assert_eq!(rt; table.filter_size(), size);
+    }
+    Ok(())
+}
+
+// Each data block has 44 bytes, and in three of them the last byte is changed.
+#[test]
+fn a_damaged_block_refuses_its_own_reads(rt: HostRuntime) -> Result<(), Fail> {
+    let changes: [(usize, &[u8]); 3] = [(43, b"?"), (131, b"?"), (175, b"?")];
+    let bytes = overwritten(rt.alloc(), &filter_parts::BYTES, &changes)?;
+    let table = open(rt.alloc(), bytes, 0)?;
+    let reads: [(&[u8], SeqNo, Result<Option<SeqNo>, Error>); 5] = [
+        (b"a", 8, Ok(Some(7))),
+        (b"a", 10, Err(Error::ChecksumMismatch)),
+        (b"a", 6, Err(Error::ChecksumMismatch)),
+        (b"a", 5, Err(Error::ChecksumMismatch)),
+        (b"b", 2, Err(Error::ChecksumMismatch)),
+    ];
+    for (key, seqno, answer) in reads {
+        assert_eq!(rt;
+            read(&table, key, seqno),
+            (answer, 1),
+            "{key:?} below {seqno}"
+        );
+    }
+    Ok(())
+}
