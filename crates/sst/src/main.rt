@@ -13,7 +13,7 @@ mod stop;
 #[cfg(test)]
 mod tests;
 
-use script::run_script;
+pub use script::run_script;
 use std::process::ExitCode;
 
 fn main(rt: HostRuntime) -> ExitCode {
