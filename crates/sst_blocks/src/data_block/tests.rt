@@ -100,32 +100,50 @@ const ONE_IN_V4: [u8; 23] = [
     1, 0, 0, 0, 0, 1, 0, 0, 0, 0, 0, 0, 0, 1, 0, 0, 0, 1, 0, 0, 0, 0x61, 0x78,
 ];
 
+// Whether a payload is a block of a@1 alone, with the value `x`.
+fn has_one_entry<A: Allocator + Clone>(
+    alloc: A,
+    version: TableVersion,
+    bytes: &[u8],
+) -> Result<bool, Error>
+    requires { length bytes.now < 2 ^ 32 }
+{
+    let expected = entry(alloc.clone()?, b"a", 1, ValueType::Value, b"x")?;
+    let block = load(alloc, version, bytes)?;
+    let found = block.point_read(b"a", 2)?;
+    let missed = block.point_read(b"a", 1)?;
+    Ok(block.len() == 1 && !block.is_empty() && found == Some(expected) && missed.is_none())
+}
+
+// What is written of some entries at the end of the byte 7.
+fn written_behind<A: Allocator + Clone>(
+    alloc: A,
+    items: &[InternalValue<A>],
+) -> Result<Vec<u8, A>, Error> {
+    if !are_strict(items) {
+        return Err(Error::InvalidBlock);
+    }
+    let mut written = Vec::new(alloc);
+    written.push(7)?;
+    DataBlock::encode_into(&mut written, items, 16, 0)?;
+    Ok(written)
+}
+
 #[test]
 fn payloads_of_both_versions_read_as_their_entries(rt: HostRuntime) -> Result<(), Fail> {
     let alloc = rt.alloc();
-    let old = ONE_IN_V3;
-    let new = ONE_IN_V4;
-    let mut items = Vec::new(alloc);
-    items.push(entry(alloc, b"a", 1, ValueType::Value, b"x")?)?;
-    for (version, bytes) in [
-        (TableVersion::V3, old.as_slice()),
-        (TableVersion::V4, new.as_slice()),
-    ] {
-        assert!(rt; bytes.len() < 24);
-        let block = load(alloc, version, bytes)?;
-        assert_eq!(rt; block.len(), 1);
-        assert!(rt; !block.is_empty());
-        let found = block.point_read(b"a", 2)?;
-        assert!(rt; found.as_ref() == items.first());
-        assert!(rt; block.point_read(b"a", 1)?.is_none());
-    }
+    assert!(rt; has_one_entry(alloc, TableVersion::V3, &ONE_IN_V3)?);
+    assert!(rt; has_one_entry(alloc, TableVersion::V4, &ONE_IN_V4)?);
+    Ok(())
+}
+
+#[test]
+fn entries_are_written_behind_what_was_there(rt: HostRuntime) -> Result<(), Fail> {
+    let item = entry(rt.alloc(), b"a", 1, ValueType::Value, b"x")?;
+    let items = [item];
     assert_eq!(rt; data_block_bound(&items), 24 + 23);
-    assert!(rt; are_strict(&items));
-    let mut written = Vec::new(alloc);
-    written.push(7)?;
-    DataBlock::encode_into(&mut written, &items, 16, 0)?;
-    assert!(rt; written.len() == 24);
-    assert!(rt; &written[1..] == new.as_slice());
+    let written = written_behind(rt.alloc(), &items)?;
+    assert!(rt; matches!(written.as_slice(), [7, payload @ ..] if payload == ONE_IN_V4.as_slice()));
     Ok(())
 }
 

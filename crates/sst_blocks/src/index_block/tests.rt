@@ -89,31 +89,49 @@ const ONE_IN_V4: [u8; 29] = [
     1, 0, 0, 0, 1, 0, 0, 0, 0, 0, 0, 0, 0, 0, 0, 0, 0, 0, 0, 0, 0x2f, 0, 0, 0, 1, 0, 0, 0, 0x61,
 ];
 
+// Whether a payload is a block of one handle: a@1, at the position 0.
+fn has_one_handle<A: Allocator + Clone>(
+    alloc: A,
+    version: TableVersion,
+    bytes: &[u8],
+    size: u32,
+) -> Result<bool, Error>
+    requires { length bytes.now < 2 ^ 32 }
+{
+    let expected = handle(alloc.clone()?, b"a", 1, 0, size)?;
+    let block = load(alloc, version, bytes)?;
+    let found = block.find(b"a", 2)?;
+    let missed = block.find(b"a", 1)?;
+    Ok(block.len() == 1 && !block.is_empty() && found == Some(expected) && missed.is_none())
+}
+
+// What is written of some handles at the end of the byte 7.
+fn written_behind<A: Allocator + Clone>(
+    alloc: A,
+    handles: &[KeyedBlockHandle<A>],
+) -> Result<Vec<u8, A>, Error> {
+    if !are_strict(handles) {
+        return Err(Error::InvalidBlock);
+    }
+    let mut written = Vec::new(alloc);
+    written.push(7)?;
+    IndexBlock::encode_into(&mut written, handles)?;
+    Ok(written)
+}
+
 #[test]
 fn payloads_of_both_versions_read_as_their_handles(rt: HostRuntime) -> Result<(), Fail> {
     let alloc = rt.alloc();
-    let old = ONE_IN_V3;
-    let new = ONE_IN_V4;
-    for (version, bytes, size) in [
-        (TableVersion::V3, old.as_slice(), 45),
-        (TableVersion::V4, new.as_slice(), 47),
-    ] {
-        assert!(rt; bytes.len() < 30);
-        let block = load(alloc, version, bytes)?;
-        assert_eq!(rt; block.len(), 1);
-        assert!(rt; !block.is_empty());
-        let expected = handle(alloc, b"a", 1, 0, size)?;
-        assert!(rt; block.find(b"a", 2)? == Some(expected));
-        assert!(rt; block.find(b"a", 1)?.is_none());
-    }
-    let mut handles = Vec::new(alloc);
-    handles.push(handle(alloc, b"a", 1, 0, 47)?)?;
-    assert!(rt; are_strict(&handles));
-    let mut written = Vec::new(alloc);
-    written.push(7)?;
-    IndexBlock::encode_into(&mut written, &handles)?;
-    assert!(rt; written.len() == 30);
-    assert!(rt; &written[1..] == new.as_slice());
+    assert!(rt; has_one_handle(alloc, TableVersion::V3, &ONE_IN_V3, 45)?);
+    assert!(rt; has_one_handle(alloc, TableVersion::V4, &ONE_IN_V4, 47)?);
+    Ok(())
+}
+
+#[test]
+fn handles_are_written_behind_what_was_there(rt: HostRuntime) -> Result<(), Fail> {
+    let handles = [handle(rt.alloc(), b"a", 1, 0, 47)?];
+    let written = written_behind(rt.alloc(), &handles)?;
+    assert!(rt; matches!(written.as_slice(), [7, payload @ ..] if payload == ONE_IN_V4.as_slice()));
     Ok(())
 }
 
