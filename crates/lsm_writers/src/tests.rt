@@ -51,52 +51,87 @@ fn writes_a_table_byte_for_byte(rt: HostRuntime) -> Result<(), Fail> {
     Ok(())
 }
 
+// A key, a number, a kind and a value.
+type Row<'a> = (&'a [u8], SeqNo, ValueType, &'a [u8]);
+
+// Writes some rows, up to one that may not follow; `false` where there is such a row.
+fn put_rows<A: Allocator + Clone>(
+    alloc: A,
+    writer: &mut Writer<A>,
+    rows: &[Row<'_>],
+) -> Result<bool, Error> {
+    for (key, seqno, kind, value) in rows {
+        match put(writer, entry(alloc.clone()?, key, *seqno, *kind, value)?) {
+            Some(written) => written?,
+            None => return Ok(false),
+        }
+    }
+    Ok(true)
+}
+
+// How many entries and blocks are cut, how many keys, tombstones, weak ones and values behind those are written, and how
+// many bytes wait.
+fn counts<A: Allocator + Clone>(writer: &Writer<A>) -> [usize; 7] {
+    let meta = writer.metadata();
+    [
+        meta.item_count,
+        meta.data_block_count,
+        meta.key_count,
+        meta.tombstone_count,
+        meta.weak_tombstone_count,
+        meta.weak_tombstone_reclaimable_count,
+        writer.chunk_size(),
+    ]
+}
+
 #[test]
 fn counts_what_is_written(rt: HostRuntime) -> Result<(), Fail> {
     let alloc = rt.alloc();
     let mut writer = Writer::new(alloc, 1, 0, Timestamp::from(7))?;
-    assert!(rt; writer.is_empty());
-    for (i, key) in [b"a", b"b", b"c"].iter().enumerate() {
-        assert!(rt;
-            put(&mut writer, entry(alloc, *key, 0, ValueType::Value, *key)?) == Some(Ok(()))
-        );
-        assert_eq!(rt; writer.metadata().key_count, i + 1);
-        assert_eq!(rt; writer.chunk_size(), 2 * (i + 1));
-        assert_eq!(rt; writer.metadata().item_count, 0);
-    }
-    assert!(rt; !writer.is_empty());
+    let rows: [Row<'_>; 3] = [
+        (b"a", 0, ValueType::Value, b"a"),
+        (b"b", 0, ValueType::Value, b"b"),
+        (b"c", 0, ValueType::Value, b"c"),
+    ];
+    assert!(rt; put_rows(alloc, &mut writer, &rows)?);
+    assert_eq!(rt; counts(&writer), [0, 0, 3, 0, 0, 0, 6]);
     writer.spill_block()?;
-    assert_eq!(rt; writer.chunk_size(), 0);
-    assert_eq!(rt; writer.metadata().item_count, 3);
-    assert_eq!(rt; writer.metadata().data_block_count, 1);
+    assert_eq!(rt; counts(&writer), [3, 1, 3, 0, 0, 0, 0]);
+    Ok(())
+}
+
+#[test]
+fn counts_tombstones_and_what_they_hide(rt: HostRuntime) -> Result<(), Fail> {
+    let alloc = rt.alloc();
+    let mut writer = Writer::new(alloc, 1, 0, Timestamp::from(7))?;
     // A weak tombstone directly before a value of its key.
-    assert!(rt;
-        put(
-            &mut writer,
-            entry(alloc, b"d", 9, ValueType::WeakTombstone, b"")?
-        ) == Some(Ok(()))
-    );
-    assert!(rt; put(&mut writer, entry(alloc, b"d", 8, ValueType::Value, b"v")?) == Some(Ok(())));
-    assert!(rt;
-        put(
-            &mut writer,
-            entry(alloc, b"e", 3, ValueType::Tombstone, b"")?
-        ) == Some(Ok(()))
-    );
+    let rows: [Row<'_>; 4] = [
+        (b"c", 0, ValueType::Value, b"c"),
+        (b"d", 9, ValueType::WeakTombstone, b""),
+        (b"d", 8, ValueType::Value, b"v"),
+        (b"e", 3, ValueType::Tombstone, b""),
+    ];
+    assert!(rt; put_rows(alloc, &mut writer, &rows)?);
+    assert_eq!(rt; counts(&writer), [0, 0, 3, 2, 1, 1, 6]);
     let meta = writer.metadata();
-    assert_eq!(rt; meta.key_count, 5);
-    assert_eq!(rt; meta.tombstone_count, 2);
-    assert_eq!(rt; meta.weak_tombstone_count, 1);
-    assert_eq!(rt; meta.weak_tombstone_reclaimable_count, 1);
     assert_eq!(rt; (meta.lowest_seqno, meta.highest_seqno), (0, 9));
-    // Neither an older key, nor the same number again, nor the largest number may follow.
-    for (key, seqno) in [(b"d", 1), (b"e", 3), (b"f", SeqNo::MAX)] {
-        assert!(rt;
-            put(
-                &mut writer,
-                entry(alloc, key, seqno, ValueType::Value, b"")?
-            ) == None
-        );
+    Ok(())
+}
+
+#[test]
+fn entries_that_may_not_follow_are_told_before(rt: HostRuntime) -> Result<(), Fail> {
+    let alloc = rt.alloc();
+    let mut writer = Writer::new(alloc, 1, 0, Timestamp::from(7))?;
+    assert!(rt; put_rows(alloc, &mut writer, &[(b"e", 3, ValueType::Tombstone, b"")])?);
+    assert!(rt; !writer.is_empty());
+    // Neither an older key, nor the same number again, nor the largest number.
+    let rows: [Row<'_>; 3] = [
+        (b"d", 1, ValueType::Value, b""),
+        (b"e", 3, ValueType::Value, b""),
+        (b"f", SeqNo::MAX, ValueType::Value, b""),
+    ];
+    for row in rows {
+        assert!(rt; !put_rows(alloc, &mut writer, &[row])?);
     }
     Ok(())
 }
@@ -129,32 +164,26 @@ fn refuses_long_keys_and_whatever_follows(rt: HostRuntime) -> Result<(), Fail> {
     let mut writer = Writer::new(alloc, 1, 0, Timestamp::from(0))?;
     let longest = vec![in alloc; 0x61u8; 1_048_576]?;
     let longer = vec![in alloc; 0x61u8; 1_048_577]?;
-    assert!(rt;
-        put(
-            &mut writer,
-            entry(alloc, &longest, 1, ValueType::Value, b"")?
-        ) == Some(Ok(()))
-    );
-    assert!(rt;
-        put(
-            &mut writer,
-            entry(alloc, &longer, 1, ValueType::Value, b"")?
-        ) == Some(Err(Error::KeyTooLong))
-    );
-    assert!(rt;
-        put(&mut writer, entry(alloc, b"b", 1, ValueType::Value, b"")?)
-            == Some(Err(Error::WriterFailed))
-    );
+    let rows: [(Row<'_>, Result<bool, Error>); 3] = [
+        ((&longest, 1, ValueType::Value, b""), Ok(true)),
+        ((&longer, 1, ValueType::Value, b""), Err(Error::KeyTooLong)),
+        ((b"b", 1, ValueType::Value, b""), Err(Error::WriterFailed)),
+    ];
+    for (row, answer) in rows {
+        assert!(rt; put_rows(alloc, &mut writer, &[row]) == answer);
+    }
     assert!(rt; writer.spill_block() == Err(Error::WriterFailed));
     assert!(rt; writer.finish().is_err());
-    // A refused first entry was given.
+    Ok(())
+}
+
+#[test]
+fn a_refused_first_entry_was_given(rt: HostRuntime) -> Result<(), Fail> {
+    let alloc = rt.alloc();
     let mut writer = Writer::new(alloc, 1, 0, Timestamp::from(0))?;
-    assert!(rt;
-        put(
-            &mut writer,
-            entry(alloc, &longer, 1, ValueType::Value, b"")?
-        ) == Some(Err(Error::KeyTooLong))
-    );
+    let longer = vec![in alloc; 0x61u8; 1_048_577]?;
+    let refused = put_rows(alloc, &mut writer, &[(&longer, 1, ValueType::Value, b"")]);
+    assert!(rt; refused == Err(Error::KeyTooLong));
     assert!(rt; !writer.is_empty());
     Ok(())
 }
