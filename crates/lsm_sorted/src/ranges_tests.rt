@@ -108,52 +108,90 @@ fn numbers(alloc: Global, low: u64, high: u64) -> Result<KeyRange, Error> {
 
 const FOUR: [(u64, &str, &str); 4] = [(0, "a", "d"), (1, "e", "j"), (2, "k", "o"), (3, "p", "z")];
 
+// Whether a range with these ends is well-formed and has a key.
+fn has_key(alloc: Global, ends: (&str, &str), key: &str) -> Result<bool, Error> {
+    let range = range_of(alloc, ends.0, ends.1)?;
+    let min = range.min().as_slice() == ends.0.as_bytes();
+    let max = range.max().as_slice() == ends.1.as_bytes();
+    Ok(min && max && range.is_well_formed() && range.contains_key(key.as_bytes()))
+}
+
 #[test]
-fn key_ranges(rt: HostRuntime) -> Result<(), Fail> {
-    let alloc = rt.alloc();
-    for (min, max, key, inside) in [
-        ("key1", "key5", "key0", false),
-        ("key1", "key5", "key01", false),
-        ("key1", "key5", "key1", true),
-        ("key1", "key5", "key4x", true),
-        ("key1", "key5", "key5", true),
-        ("key1", "key5", "key5x", false),
-        ("key1", "key5", "key6", false),
+fn a_range_has_the_keys_between_its_ends(rt: HostRuntime) -> Result<(), Fail> {
+    for (key, inside) in [
+        ("key0", false),
+        ("key01", false),
+        ("key1", true),
+        ("key4x", true),
+        ("key5", true),
+        ("key5x", false),
+        ("key6", false),
     ] {
-        let range = range_of(alloc, min, max)?;
-        assert_eq!(rt; range.contains_key(key.as_bytes()), inside, "{key}");
-        assert_eq!(rt; range.min().as_slice(), min.as_bytes());
-        assert_eq!(rt; range.max().as_slice(), max.as_bytes());
-        assert!(rt; range.is_well_formed());
+        assert_eq!(rt;
+            has_key(rt.alloc(), ("key1", "key5"), key)?,
+            inside,
+            "{key}"
+        );
     }
-    for (a, b, overlap, contains) in [
-        (("a", "f"), ("b", "h"), true, false),
-        (("a", "f"), ("f", "t"), true, false),
-        (("a", "f"), ("g", "t"), false, false),
-        (("a", "z"), ("c", "f"), true, true),
-    ] {
-        let (a, b) = (range_of(alloc, a.0, a.1)?, range_of(alloc, b.0, b.1)?);
-        assert_eq!(rt; a.overlaps_with_key_range(&b), overlap);
-        assert_eq!(rt; a.contains_range(&b), contains);
-        assert_eq!(rt; KeyRange::is_disjoint(&[&a, &b]), !overlap);
-    }
-    let (a, b, c) = (
-        range_of(alloc, "a", "d")?,
-        range_of(alloc, "d", "e")?,
-        range_of(alloc, "f", "z")?,
-    );
-    assert!(rt; !KeyRange::is_disjoint(&[&a, &b, &c]));
-    assert!(rt; !range_of(alloc, "b", "a")?.is_well_formed());
+    assert!(rt; !has_key(rt.alloc(), ("b", "a"), "a")?);
     assert!(rt; KeyRange::<Global>::empty().contains_key(b""));
-    let (a, b, c) = (
-        numbers(alloc, 2, 4)?,
-        numbers(alloc, 0, 4)?,
-        numbers(alloc, 7, 10)?,
-    );
-    assert!(rt; KeyRange::aggregate(&[&a, &b, &c])? == numbers(alloc, 0, 10)?);
+    Ok(())
+}
+
+// Whether two ranges overlap, and whether the first contains the second; `None` where they do not overlap and yet are not
+// disjoint, or the other way round.
+fn compared(
+    alloc: Global,
+    first: (&str, &str),
+    second: (&str, &str),
+) -> Result<Option<(bool, bool)>, Error> {
+    let first = range_of(alloc, first.0, first.1)?;
+    let second = range_of(alloc, second.0, second.1)?;
+    let overlap = first.overlaps_with_key_range(&second);
+    let contains = first.contains_range(&second);
+    if KeyRange::is_disjoint(&[&first, &second]) == overlap {
+        return Ok(None);
+    }
+    Ok(Some((overlap, contains)))
+}
+
+#[test]
+fn ranges_that_meet_overlap(rt: HostRuntime) -> Result<(), Fail> {
+    for (first, second, wanted) in [
+        (("a", "f"), ("b", "h"), (true, false)),
+        (("a", "f"), ("f", "t"), (true, false)),
+        (("a", "f"), ("g", "t"), (false, false)),
+        (("a", "z"), ("c", "f"), (true, true)),
+    ] {
+        assert_eq!(rt; compared(rt.alloc(), first, second)?, Some(wanted));
+    }
+    Ok(())
+}
+
+#[test]
+fn the_first_two_of_three_ranges_meet(rt: HostRuntime) -> Result<(), Fail> {
+    let first = range_of(rt.alloc(), "a", "d")?;
+    let second = range_of(rt.alloc(), "d", "e")?;
+    let third = range_of(rt.alloc(), "f", "z")?;
+    assert!(rt; !KeyRange::is_disjoint(&[&first, &second, &third]));
+    Ok(())
+}
+
+// The aggregate of three ranges of numbers.
+fn aggregate_of(alloc: Global, ends: [(u64, u64); 3]) -> Result<KeyRange, Error> {
+    let first = numbers(alloc, ends[0].0, ends[0].1)?;
+    let second = numbers(alloc, ends[1].0, ends[1].1)?;
+    let third = numbers(alloc, ends[2].0, ends[2].1)?;
+    KeyRange::aggregate(&[&first, &second, &third])
+}
+
+#[test]
+fn an_aggregate_reaches_from_the_least_to_the_greatest_key(rt: HostRuntime) -> Result<(), Fail> {
+    let aggregate = aggregate_of(rt.alloc(), [(2, 4), (0, 4), (7, 10)])?;
+    assert!(rt; aggregate == numbers(rt.alloc(), 0, 10)?);
+    assert!(rt; aggregate.clone()? == aggregate);
     let none: [&KeyRange; 0] = [];
     assert!(rt; KeyRange::aggregate(&none)? == KeyRange::empty());
-    assert!(rt; a.clone()? == a);
     Ok(())
 }
 
@@ -178,12 +216,11 @@ fn key_ranges_and_bounds(rt: HostRuntime) -> Result<(), Fail> {
 }
 
 #[test]
-fn searches_of_a_run(rt: HostRuntime) -> Result<(), Fail> {
-    let alloc = rt.alloc();
-    let run = run_of(alloc, &FOUR)?;
+fn the_table_of_a_key(rt: HostRuntime) -> Result<(), Fail> {
+    let run = run_of(rt.alloc(), &FOUR)?;
     assert!(rt; run.is_in_order());
     assert!(rt; run.as_slice().len() == 4);
-    assert!(rt; run.aggregate_key_range()? == range_of(alloc, "a", "z")?);
+    assert!(rt; run.aggregate_key_range()? == range_of(rt.alloc(), "a", "z")?);
     for (key, id) in [
         ("a", Some(0)),
         ("aaa", Some(0)),
@@ -193,12 +230,15 @@ fn searches_of_a_run(rt: HostRuntime) -> Result<(), Fail> {
         ("z", Some(3)),
         ("zzz", None),
     ] {
-        assert_eq!(rt;
-            run.get_for_key(key.as_bytes()).map(|table| table.id),
-            id,
-            "{key}"
-        );
+        let found = run.get_for_key(key.as_bytes()).map(|table| table.id);
+        assert_eq!(rt; found, id, "{key}");
     }
+    Ok(())
+}
+
+#[test]
+fn the_tables_between_two_bounds(rt: HostRuntime) -> Result<(), Fail> {
+    let run = run_of(rt.alloc(), &FOUR)?;
     for (low, high, span) in [
         (Bound::Unbounded, Bound::Unbounded, Some((0, 3))),
         (Bound::Included("a"), Bound::Included("a"), Some((0, 0))),
@@ -213,93 +253,140 @@ fn searches_of_a_run(rt: HostRuntime) -> Result<(), Fail> {
         let (low, high) = (bytes_of(low), bytes_of(high));
         assert_eq!(rt; run.range_overlap_indexes(low, high), span);
     }
-    for (min, max, overlapping, contained) in [
-        ("a", "a", &[0u64] as &[u64], &[] as &[u64]),
-        ("a", "d", &[0], &[0]),
-        ("a", "f", &[0, 1], &[0]),
-        ("a", "k", &[0, 1, 2], &[0, 1]),
-        ("a", "zzz", &[0, 1, 2, 3], &[0, 1, 2, 3]),
-        ("zzz", "zzzz", &[], &[]),
+    Ok(())
+}
+
+// Whether the tables of four that overlap a range, and those that it contains, have these ids.
+fn found_in_four(
+    alloc: Global,
+    range: (&str, &str),
+    overlapping: &[u64],
+    contained: &[u64],
+) -> Result<bool, Error> {
+    let run = run_of(alloc, &FOUR)?;
+    let range = range_of(alloc, range.0, range.1)?;
+    Ok(
+        has_ids(run.get_overlapping(&range), overlapping)
+            && has_ids(run.get_contained(&range), contained),
+    )
+}
+
+#[test]
+fn the_tables_that_overlap_a_range(rt: HostRuntime) -> Result<(), Fail> {
+    for (range, overlapping, contained) in [
+        (("a", "a"), &[0u64] as &[u64], &[] as &[u64]),
+        (("a", "d"), &[0], &[0]),
+        (("a", "f"), &[0, 1], &[0]),
+        (("a", "k"), &[0, 1, 2], &[0, 1]),
+        (("a", "zzz"), &[0, 1, 2, 3], &[0, 1, 2, 3]),
+        (("zzz", "zzzz"), &[], &[]),
     ] {
-        let range = range_of(alloc, min, max)?;
-        assert!(rt;
-            has_ids(run.get_overlapping(&range), overlapping),
-            "{min} to {max}"
-        );
-        assert!(rt;
-            has_ids(run.get_contained(&range), contained),
-            "{min} to {max}"
-        );
+        let found = found_in_four(rt.alloc(), range, overlapping, contained)?;
+        assert!(rt; found, "{range:?}");
     }
     Ok(())
 }
 
 #[test]
-fn changes_of_a_run(rt: HostRuntime) -> Result<(), Fail> {
-    let alloc = rt.alloc();
-    let mut run = run_of(alloc, &FOUR)?;
-    assert!(rt; Run::<FakeTable>::new(Vec::new(alloc)).is_none());
+fn a_removed_table_is_not_found(rt: HostRuntime) -> Result<(), Fail> {
+    let mut run = run_of(rt.alloc(), &FOUR)?;
     assert!(rt; run.as_slice().len() == 4);
     assert_eq!(rt; run.remove(1).id, 1);
     assert!(rt; run.get_for_key(b"e").is_none());
-    assert_eq!(rt;
-        run.range_overlap_indexes(Bound::Included(b"e"), Bound::Included(b"j")),
-        None
-    );
-    run.extend(tables_of(alloc, &[(4, "b", "c")])?)?;
+    let span = run.range_overlap_indexes(Bound::Included(b"e"), Bound::Included(b"j"));
+    assert_eq!(rt; span, None);
+    Ok(())
+}
+
+#[test]
+fn tables_are_put_behind_and_retained(rt: HostRuntime) -> Result<(), Fail> {
+    let mut run = run_of(rt.alloc(), &FOUR)?;
+    run.extend(tables_of(rt.alloc(), &[(4, "b", "c")])?)?;
     assert!(rt; !run.is_in_order());
-    assert!(rt; has_ids(run.as_slice(), &[0, 2, 3, 4]));
+    assert!(rt; has_ids(run.as_slice(), &[0, 1, 2, 3, 4]));
     run.retain(|table| table.id != 4);
-    assert!(rt; run == run_of(alloc, &[(0, "a", "d"), (2, "k", "o"), (3, "p", "z")])?);
+    assert!(rt; run == run_of(rt.alloc(), &FOUR)?);
+    Ok(())
+}
+
+#[test]
+fn a_run_may_be_emptied(rt: HostRuntime) -> Result<(), Fail> {
+    assert!(rt; Run::<FakeTable>::new(Vec::new(rt.alloc())).is_none());
+    let mut run = run_of(rt.alloc(), &FOUR)?;
     run.retain(|_| false);
     assert!(rt; run.is_in_order());
     assert!(rt; run.get_for_key(b"a").is_none());
-    assert_eq!(rt;
-        run.range_overlap_indexes(Bound::Unbounded, Bound::Unbounded),
-        None
-    );
-    let mut pushed = run_of(alloc, &[(0, "a", "b")])?;
-    for table in tables_of(alloc, &[(1, "a", "c"), (2, "a", "a")])? {
-        pushed.push(table)?;
-    }
-    assert!(rt; has_ids(pushed.as_slice(), &[0, 1, 2]));
-    pushed.inner_mut().clear();
-    assert!(rt; pushed.as_slice().is_empty());
-    let table = Indexed::new(FakeTable {
-        id: 7,
-        range: range_of(alloc, "k", "l")?,
-    });
-    assert_eq!(rt; table.id, 7);
-    assert!(rt; *table.key_range() == range_of(alloc, "k", "l")?);
+    let span = run.range_overlap_indexes(Bound::Unbounded, Bound::Unbounded);
+    assert_eq!(rt; span, None);
     Ok(())
+}
+
+// A run of a table, into which some others are pushed.
+fn pushed(alloc: Global) -> Result<Run<FakeTable>, Error> {
+    let mut run = run_of(alloc, &[(0, "a", "b")])?;
+    for table in tables_of(alloc, &[(1, "a", "c"), (2, "a", "a")])? {
+        run.push(table)?;
+    }
+    Ok(run)
+}
+
+#[test]
+fn tables_of_one_least_key_keep_their_order(rt: HostRuntime) -> Result<(), Fail> {
+    let mut run = pushed(rt.alloc())?;
+    assert!(rt; has_ids(run.as_slice(), &[0, 1, 2]));
+    run.inner_mut().clear();
+    assert!(rt; run.as_slice().is_empty());
+    Ok(())
+}
+
+#[test]
+fn a_table_of_a_run_has_its_range(rt: HostRuntime) -> Result<(), Fail> {
+    let range = range_of(rt.alloc(), "k", "l")?;
+    let table = Indexed::new(FakeTable { id: 7, range });
+    assert_eq!(rt; table.id, 7);
+    assert!(rt; *table.key_range() == range_of(rt.alloc(), "k", "l")?);
+    Ok(())
+}
+
+// Whether some runs are packed into runs of these ids, and a chain has these runs. Of several tables that could be a
+// chain's only one, any may be.
+fn packs(
+    alloc: Global,
+    runs: &[&[(u64, &str, &str)]],
+    packed: &[&[u64]],
+    chain: &[usize],
+) -> Result<bool, Error> {
+    let made = runs_of(alloc, runs)?;
+    let found = overlap_chain(alloc, &made)?;
+    let chained = found.len() == 1 || found.iter().zip(chain).all(|(found, run)| found.0 == *run);
+    Ok(found.len() == chain.len() && chained && have_ids(&optimize_runs(alloc, made)?, packed))
 }
 
 #[test]
 fn packed_runs(rt: HostRuntime) -> Result<(), Fail> {
-    let alloc = rt.alloc();
-    let cases: [(&[&[(u64, &str, &str)]], &[&[u64]], &[(usize, usize)]); 9] = [
+    let cases: [(&[&[(u64, &str, &str)]], &[&[u64]], &[usize]); 9] = [
         (&[], &[], &[]),
-        (&[&[(0, "a", "b")]], &[&[0]], &[(0, 0)]),
+        (&[&[(0, "a", "b")]], &[&[0]], &[0]),
         (
             &[&[(0, "a", "b")], &[(1, "a", "b")]],
             &[&[0], &[1]],
-            &[(0, 0), (1, 0)],
+            &[0, 1],
         ),
         (
             &[&[(0, "a", "z")], &[(1, "c", "f")]],
             &[&[0], &[1]],
-            &[(0, 0), (1, 0)],
+            &[0, 1],
         ),
         (
             &[&[(0, "c", "f")], &[(1, "a", "z")]],
             &[&[0], &[1]],
-            &[(0, 0), (1, 0)],
+            &[0, 1],
         ),
-        (&[&[(1, "d", "f")], &[(0, "a", "c")]], &[&[0, 1]], &[(0, 0)]),
+        (&[&[(1, "d", "f")], &[(0, "a", "c")]], &[&[0, 1]], &[0]),
         (
             &[&[(2, "m", "p")], &[(1, "a", "z")], &[(0, "a", "c")]],
             &[&[2], &[1], &[0]],
-            &[(0, 0), (1, 0), (2, 0)],
+            &[0, 1, 2],
         ),
         (
             &[
@@ -309,23 +396,12 @@ fn packed_runs(rt: HostRuntime) -> Result<(), Fail> {
                 &[(4, "x", "z")],
             ],
             &[&[0, 1, 4], &[2], &[3]],
-            &[(0, 0), (1, 0), (2, 0)],
+            &[0, 1, 2],
         ),
-        (&[&[(0, "a", "z"), (1, "c", "d")]], &[&[0, 1]], &[(0, 0)]),
+        (&[&[(0, "a", "z"), (1, "c", "d")]], &[&[0, 1]], &[0]),
     ];
     for (runs, packed, chain) in cases {
-        let found = overlap_chain(alloc, &runs_of(alloc, runs)?)?;
-        assert_eq!(rt; found.len(), chain.len());
-        // of several tables that could be a chain's only one, any may be
-        if chain.len() > 1 {
-            assert!(rt;
-                found
-                    .iter()
-                    .zip(chain)
-                    .all(|(found, place)| found.0 == place.0)
-            );
-        }
-        assert!(rt; have_ids(&optimize_runs(alloc, runs_of(alloc, runs)?)?, packed));
+        assert!(rt; packs(rt.alloc(), runs, packed, chain)?);
     }
     Ok(())
 }
