@@ -1,5 +1,5 @@
 //! Running a script.
-ghost use Rattle.std.specs.Prelude.{◌≡◌, ◌⊎◌, Bool, false, true, Ok, IfOk, IfErr, OnOk, OnErr};
+ghost use Rattle.std.specs.Prelude.{◌≡◌, ◌⊎◌, [], Bool, false, true, Some, Ok, IfOk, IfErr, OnOk, OnErr};
 ghost use Rattle.sst_blocks.specs.Error.{Gives};
 ghost use Rattle.sst.specs.declared.stop.Failure.TheVariants.{BadLine};
 ghost use Rattle.sst.specs.declared.stop.Stop.TheVariants.{Line, Output};
@@ -83,7 +83,9 @@ struct Script<A: Allocator> {
 }
 
 impl<A: Allocator + Clone> Script<A> {
-    fn new(alloc: A) -> Result<Script<A>, AllocError> {
+    fn new(alloc: A) -> Result<Script<A>, AllocError>
+        ensures { IfOk result (λ script. built script.pending script.runs.items script.next_id ≡ built [] [] (Some 1)) }
+    {
         Ok(Script {
             pending: Pending::new(alloc.clone()?),
             runs: Vec::new(alloc.clone()?),

@@ -27,6 +27,11 @@ impl fmt::Display for Stop {
 
 /// Want of memory for reading the script.
 impl From<AllocError> for Stop {
+    ghost use Rattle.std.specs.Prelude.{◌≡◌};
+    ghost use Rattle.sst.specs.declared.stop.Stop.TheVariants.{Input};
+
+    ghost from_gives = { λ _ stop. stop ≡ Input };
+
     fn from(_: AllocError) -> Stop {
         Stop::Input
     }
