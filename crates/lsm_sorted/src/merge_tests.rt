@@ -1,68 +1,9 @@
+use crate::test_rows::{ends_of, result_of, text_of};
 use crate::{Merger, newest_of};
 use refusing::{Refusing, each_refused};
-use sst_blocks::Direction::{Back, Front};
-use sst_blocks::{
-    Direction, Error, InternalValue, IterItem, Slice, ValueType, answer_at, answers_at,
-};
-use std::alloc::Allocator;
+use sst_blocks::{Error, IterItem, answers_at};
+use std::alloc::{Allocator, Global};
 use std::test::Fail;
-
-const F: Direction = Front;
-
-const B: Direction = Back;
-
-// A result in short.
-#[derive(Clone, Copy, Debug, PartialEq)]
-enum Row {
-    // A key and a value of one byte each, and a number.
-    Entry(u8, u64, u8),
-    // The error of a caller's own source.
-    Fails(u64),
-    // A refused growth.
-    Refused,
-    // An error that no source here answers.
-    Other(u8),
-    Nothing,
-}
-
-fn at(key: u8, seqno: u64) -> Row {
-    Row::Entry(key, seqno, key)
-}
-
-fn result_of<A: Allocator + Clone>(alloc: &A, row: Row) -> Result<IterItem<A>, Error> {
-    Ok(match row {
-        Row::Entry(key, seqno, value) => Ok(InternalValue::from_components(
-            Slice::from(alloc.clone()?, &[key])?,
-            Slice::from(alloc.clone()?, &[value])?,
-            seqno,
-            ValueType::Value,
-        )),
-        Row::Fails(code) => Err(Error::Source(code)),
-        Row::Refused => Err(Error::OutOfMemory),
-        Row::Other(_) | Row::Nothing => Err(Error::Truncated),
-    })
-}
-
-fn byte_of<A: Allocator>(bytes: &Slice<A>) -> u8 {
-    match bytes.as_slice() {
-        [byte, ..] => *byte,
-        [] => 0,
-    }
-}
-
-fn row_of<A: Allocator>(answer: &Option<IterItem<A>>) -> Row {
-    match answer {
-        Some(Ok(entry)) => Row::Entry(
-            byte_of(&entry.key.user_key),
-            entry.key.seqno,
-            byte_of(&entry.value),
-        ),
-        Some(Err(Error::Source(code))) => Row::Fails(*code),
-        Some(Err(Error::OutOfMemory)) => Row::Refused,
-        Some(Err(error)) => Row::Other(error.number()),
-        None => Row::Nothing,
-    }
-}
 
 // A source that only passes on what another gives.
 #[derive(Drop)]
@@ -94,234 +35,114 @@ impl<I: DoubleEndedIterator + Drop> DoubleEndedIterator for Passed<I> {
     }
 }
 
-type RowSource<A> = Passed<std::vec::IntoIter<IterItem<A>, A>>;
+type Source<A> = Passed<std::vec::IntoIter<IterItem<A>, A>>;
 
-// The sources of rows, each up to a `Nothing`.
-fn sources_of<A: Allocator + Clone>(
-    alloc: &A,
-    rows: &[Row],
-) -> Result<Vec<RowSource<A>, A>, Error> {
+// The sources that a text spells, each up to a `/`.
+fn sources_of<A: Allocator + Clone>(alloc: &A, text: &str) -> Result<Vec<Source<A>, A>, Error> {
     let mut sources = Vec::new(alloc.clone()?);
     let mut items = Vec::new(alloc.clone()?);
-    for row in rows {
-        if *row == Row::Nothing {
-            let source = Passed {
-                source: items.into_iter(),
-            };
-            sources.push(source)?;
+    for word in text.split_whitespace() {
+        if word == "/" {
+            let source = items.into_iter();
+            sources.push(Passed { source })?;
             items = Vec::new(alloc.clone()?);
         } else {
-            items.push(result_of(alloc, *row)?)?;
+            items.push(result_of(alloc, word)?)?;
         }
     }
     Ok(sources)
 }
 
-fn rows_of<A: Allocator + Clone>(
+// Whether a merger of the sources answers so at the ends.
+fn merges<A: Allocator + Clone>(
     alloc: &A,
-    answers: &[Option<IterItem<A>>],
-) -> Result<Vec<Row, A>, Error> {
-    let mut rows = Vec::new(alloc.clone()?);
-    for answer in answers {
-        rows.push(row_of(answer))?;
-    }
-    Ok(rows)
-}
-
-// What a merger of the sources answers at the ends.
-fn merged<A: Allocator + Clone>(
-    alloc: &A,
-    sources: &[Row],
-    ends: &[Direction],
-) -> Result<Vec<Row, A>, Error> {
+    sources: &str,
+    ends: &str,
+    wanted: &str,
+) -> Result<bool, Error> {
     let mut merger = Merger::new(alloc.clone()?, sources_of(alloc, sources)?)?;
-    rows_of(alloc, &answers_at(alloc.clone()?, &mut merger, ends)?)
+    let answers = answers_at(alloc.clone()?, &mut merger, &ends_of(alloc.clone()?, ends)?)?;
+    Ok(text_of(alloc.clone()?, &answers)?.as_str() == wanted)
 }
 
-// What the newest versions of the sources answer at the ends.
-fn newest<A: Allocator + Clone>(
+// Whether the newest versions of the sources are these at the ends.
+fn are_newest<A: Allocator + Clone>(
     alloc: &A,
-    sources: &[Row],
-    ends: &[Direction],
-) -> Result<Vec<Row, A>, Error> {
+    sources: &str,
+    ends: &str,
+    wanted: &str,
+) -> Result<bool, Error> {
     let mut stream = newest_of(alloc.clone()?, sources_of(alloc, sources)?)?;
-    rows_of(alloc, &answers_at(alloc.clone()?, &mut stream, ends)?)
+    let answers = answers_at(alloc.clone()?, &mut stream, &ends_of(alloc.clone()?, ends)?)?;
+    Ok(text_of(alloc.clone()?, &answers)?.as_str() == wanted)
 }
-
-const END: Row = Row::Nothing;
 
 #[test]
 fn gives_the_entries_of_all_sources_in_order_up_to_an_error(rt: HostRuntime) -> Result<(), Fail> {
-    let cases: [(&[Row], &[Direction], &[Row]); 10] = [
-        (&[], &[F, B], &[END, END]),
-        (
-            &[at(b'a', 0), END, at(b'b', 0), END],
-            &[F, F, F],
-            &[at(b'a', 0), at(b'b', 0), END],
-        ),
-        (
-            &[at(b'a', 1), at(b'c', 1), END, at(b'b', 2), END],
-            &[F, B, F, B],
-            &[at(b'a', 1), at(b'c', 1), at(b'b', 2), END],
-        ),
-        (
-            &[at(b'a', 1), Row::Fails(7), END, at(b'b', 1), END],
-            &[F, F],
-            &[Row::Fails(7), END],
-        ),
-        (
-            &[
-                at(b'a', 1),
-                at(b'b', 1),
-                END,
-                at(b'c', 1),
-                Row::Fails(7),
-                END,
-            ],
-            &[F, F, F, F],
-            &[at(b'a', 1), at(b'b', 1), Row::Fails(7), END],
-        ),
-        (
-            &[
-                at(b'a', 1),
-                at(b'b', 1),
-                END,
-                at(b'c', 1),
-                Row::Fails(7),
-                END,
-            ],
-            &[B, B, F],
-            &[Row::Fails(7), END, END],
-        ),
-        (
-            &[
-                at(b'a', 3),
-                at(b'b', 1),
-                Row::Refused,
-                END,
-                at(b'a', 2),
-                END,
-            ],
-            &[F, F, F, B],
-            &[at(b'a', 3), at(b'a', 2), Row::Refused, END],
-        ),
-        (
-            &[
-                at(b'a', 3),
-                at(b'a', 1),
-                END,
-                at(b'a', 2),
-                at(b'b', 9),
-                END,
-                END,
-            ],
-            &[B, F, B, F, F, B],
-            &[at(b'b', 9), at(b'a', 3), at(b'a', 1), at(b'a', 2), END, END],
-        ),
+    let cases = [
+        ("", "FB", "- -"),
+        ("aV0 / bV0 /", "FFF", "aV0 bV0 -"),
+        ("aV1 cV1 / bV2 /", "FBFB", "aV1 cV1 bV2 -"),
+        ("aV1 !7 / bV1 /", "FF", "!7 -"),
+        ("aV1 bV1 / cV1 !7 /", "FFFF", "aV1 bV1 !7 -"),
+        ("aV1 bV1 / cV1 !7 /", "BBF", "!7 - -"),
+        ("aV3 bV1 ?1 / aV2 /", "FFFB", "aV3 aV2 ?1 -"),
+        ("aV3 aV1 / aV2 bV9 / /", "BFBFFB", "bV9 aV3 aV1 aV2 - -"),
         // Entries that tie: the earlier source first, from either end.
-        (
-            &[
-                Row::Entry(b'a', 1, 1),
-                Row::Entry(b'a', 1, 2),
-                END,
-                Row::Entry(b'a', 1, 3),
-                END,
-            ],
-            &[F, F, F, F],
-            &[
-                Row::Entry(b'a', 1, 1),
-                Row::Entry(b'a', 1, 2),
-                Row::Entry(b'a', 1, 3),
-                END,
-            ],
-        ),
-        (
-            &[
-                Row::Entry(b'a', 1, 1),
-                Row::Entry(b'a', 1, 2),
-                END,
-                Row::Entry(b'a', 1, 3),
-                END,
-            ],
-            &[B, F, B, B],
-            &[
-                Row::Entry(b'a', 1, 3),
-                Row::Entry(b'a', 1, 1),
-                Row::Entry(b'a', 1, 2),
-                END,
-            ],
-        ),
+        ("aV1x aV1y / aV1z /", "FFFF", "aV1x aV1y aV1z -"),
+        ("aV1x aV1y / aV1z /", "BFBB", "aV1z aV1x aV1y -"),
     ];
     for (sources, ends, wanted) in cases {
-        assert_eq!(rt; merged(&rt.alloc(), sources, ends)?.as_slice(), wanted);
+        assert!(rt;
+            merges(&rt.alloc(), sources, ends, wanted)?,
+            "{sources} at {ends}"
+        );
     }
     Ok(())
 }
 
 #[test]
 fn gives_the_newest_version_of_each_key_of_all_sources(rt: HostRuntime) -> Result<(), Fail> {
-    let sources = [
-        at(b'a', 3),
-        at(b'b', 1),
-        at(b'c', 4),
-        END,
-        at(b'a', 7),
-        at(b'b', 2),
-        END,
-        at(b'd', 1),
-        END,
-    ];
-    let cases: [(&[Direction], &[Row]); 3] = [
-        (
-            &[F, F, F, F, F],
-            &[at(b'a', 7), at(b'b', 2), at(b'c', 4), at(b'd', 1), END],
-        ),
-        (
-            &[B, B, B, B, B],
-            &[at(b'd', 1), at(b'c', 4), at(b'b', 2), at(b'a', 7), END],
-        ),
-        (
-            &[F, B, F, B, F],
-            &[at(b'a', 7), at(b'd', 1), at(b'b', 2), at(b'c', 4), END],
-        ),
+    let cases = [
+        ("FFFFF", "aV7 bV2 cV4 dV1 -"),
+        ("BBBBB", "dV1 cV4 bV2 aV7 -"),
+        ("FBFBF", "aV7 dV1 bV2 cV4 -"),
     ];
     for (ends, wanted) in cases {
-        assert_eq!(rt; newest(&rt.alloc(), &sources, ends)?.as_slice(), wanted);
+        let sources = "aV3 bV1 cV4 / aV7 bV2 / dV1 /";
+        assert!(rt; are_newest(&rt.alloc(), sources, ends, wanted)?, "{ends}");
     }
     Ok(())
 }
 
 #[test]
-fn refuses_memory_when_made_and_takes_none_after(rt: HostRuntime) -> Result<(), Fail> {
+fn refuses_memory_when_made(rt: HostRuntime) {
     let answers = each_refused(rt.alloc(), |heap, may_fail| {
-        let sources = [at(b'a', 1), at(b'c', 1), END, at(b'b', 2), END];
-        match merged(&heap, &sources, &[F, B, F, B]) {
-            Ok(rows) => rows.as_slice() == [at(b'a', 1), at(b'c', 1), at(b'b', 2), END].as_slice(),
+        match merges(&heap, "aV1 cV1 / bV2 /", "FBFB", "aV1 cV1 bV2 -") {
+            Ok(answer) => answer,
             Err(Error::OutOfMemory) => may_fail,
             Err(_) => false,
         }
     });
-    assert!(rt; matches!(&answers, Ok(requests) if *requests > 10));
+    assert!(rt; answers.is_ok_and(|requests| requests > 10));
+}
 
-    let heap = Refusing::new(rt.alloc(), 0);
-    let sources = sources_of(&&heap, &[at(b'a', 1), at(b'c', 1), END, at(b'b', 2), END])?;
+// How many requests for memory are made for sources, then for a merger of them, and after all that it gives.
+fn requests_of(alloc: Global, heap: &Refusing) -> Result<(usize, usize, usize), Error> {
+    let sources = sources_of(&heap, "aV1 cV1 / bV2 /")?;
     let before = heap.requests();
-    let mut merger = Merger::new(&heap, sources)?;
+    let mut merger = Merger::new(heap, sources)?;
     let made = heap.requests();
-    let first = answer_at(&mut merger, F);
-    let second = answer_at(&mut merger, B);
-    let third = answer_at(&mut merger, F);
-    let fourth = answer_at(&mut merger, B);
-    assert_eq!(rt; heap.requests(), made);
-    assert!(rt; made > before);
-    assert_eq!(rt;
-        [
-            row_of(&first),
-            row_of(&second),
-            row_of(&third),
-            row_of(&fourth)
-        ],
-        [at(b'a', 1), at(b'c', 1), at(b'b', 2), END]
-    );
+    let answers = answers_at(alloc, &mut merger, &ends_of(alloc, "FBFB")?)?;
+    if answers.len() != 4 {
+        return Err(Error::Source(0));
+    }
+    Ok((before, made, heap.requests()))
+}
+
+#[test]
+fn takes_no_memory_after_it_is_made(rt: HostRuntime) -> Result<(), Fail> {
+    let (before, made, after) = requests_of(rt.alloc(), &Refusing::new(rt.alloc(), 0))?;
+    assert!(rt; before < made && made == after);
     Ok(())
 }

@@ -1,84 +1,137 @@
-//! Entries in short for tests: keys and values of one byte.
-use sst_blocks::{Error, InternalValue, IterItem, Slice, ValueType};
-use std::alloc::Global;
+//! Entries, errors and answers in short for tests, as the words of a text.
+//!
+//! `aV9` is an entry of the key `a` and the number 9, a value that is its key, and `aV9x` has the value `x`. `T` and `W` are
+//! the tombstones, without a value. `!4` is the error 4 of a caller's own source, `?1` a refused request for memory, and `-`
+//! no answer.
+use sst_blocks::{Direction, Error, InternalValue, IterItem, Slice, ValueType};
+use std::alloc::{AllocError, Allocator};
 
-/// A result in short.
-#[derive(Clone, Copy, Debug, PartialEq)]
-pub enum Row {
-    /// An entry: its key, number, kind, and value, which is empty where it is 0.
-    At(u8, u64, ValueType, u8),
-    /// The error of a caller's own source, with its code.
-    Fails(u64),
-    /// Any other error, with its number. A source of rows answers want of memory for it.
-    Refused(u8),
-}
-
-/// A value, whose value is its key.
-pub fn v(key: u8, seqno: u64) -> Row {
-    Row::At(key, seqno, ValueType::Value, key)
-}
-
-/// A tombstone.
-pub fn t(key: u8, seqno: u64) -> Row {
-    Row::At(key, seqno, ValueType::Tombstone, 0)
-}
-
-/// A weak tombstone.
-pub fn w(key: u8, seqno: u64) -> Row {
-    Row::At(key, seqno, ValueType::WeakTombstone, 0)
-}
-
-fn bytes_of(alloc: Global, byte: u8) -> Result<Slice, Error> {
+fn slice_of<A: Allocator + Clone>(alloc: A, byte: u8) -> Result<Slice<A>, Error> {
     if byte == 0 {
         return Ok(Slice::empty());
     }
     Slice::from(alloc, &[byte])
 }
 
-fn result_of(alloc: Global, row: Row) -> Result<IterItem, Error> {
-    Ok(match row {
-        Row::At(key, seqno, kind, value) => Ok(InternalValue::from_components(
-            bytes_of(alloc, key)?,
-            bytes_of(alloc, value)?,
-            seqno,
-            kind,
-        )),
-        Row::Fails(code) => Err(Error::Source(code)),
-        Row::Refused(_) => Err(Error::OutOfMemory),
-    })
-}
-
-/// The results that rows stand for.
-pub fn results_of(alloc: Global, rows: &[Row]) -> Result<Vec<IterItem>, Error> {
-    let mut results = Vec::new(alloc);
-    for row in rows {
-        results.push(result_of(alloc, *row)?)?;
-    }
-    Ok(results)
-}
-
-fn byte_of(bytes: &Slice) -> u8 {
+fn byte_of<A: Allocator>(bytes: &Slice<A>) -> u8 {
     match bytes.as_slice() {
         [byte, ..] => *byte,
         [] => 0,
     }
 }
 
-/// An entry in short.
-pub fn row_of(entry: &InternalValue) -> Row {
-    Row::At(
-        byte_of(&entry.key.user_key),
-        entry.key.seqno,
-        entry.key.value_type,
-        byte_of(&entry.value),
-    )
+// The number that some digits spell, and the byte behind them, or 0.
+fn number_and_byte(text: &[u8]) -> (u64, u8) {
+    let mut number = 0u64;
+    for byte in text {
+        if !byte.is_ascii_digit() {
+            return (number, *byte);
+        }
+        number = number
+            .saturating_mul(10)
+            .saturating_add(u64::from(*byte & 15));
+    }
+    (number, 0)
 }
 
-/// A result in short.
-pub fn row_of_result(item: &IterItem) -> Row {
-    match item {
-        Ok(entry) => row_of(entry),
-        Err(Error::Source(code)) => Row::Fails(*code),
-        Err(error) => Row::Refused(error.number()),
+fn entry_of<A: Allocator + Clone>(
+    alloc: &A,
+    key: u8,
+    kind: u8,
+    rest: &[u8],
+) -> Result<InternalValue<A>, Error> {
+    let (seqno, byte) = number_and_byte(rest);
+    let (kind, value) = match kind {
+        b'T' => (ValueType::Tombstone, byte),
+        b'W' => (ValueType::WeakTombstone, byte),
+        _ if byte == 0 => (ValueType::Value, key),
+        _ => (ValueType::Value, byte),
+    };
+    Ok(InternalValue::from_components(
+        slice_of(alloc.clone()?, key)?,
+        slice_of(alloc.clone()?, value)?,
+        seqno,
+        kind,
+    ))
+}
+
+/// The result that a word stands for.
+pub fn result_of<A: Allocator + Clone>(alloc: &A, word: &str) -> Result<IterItem<A>, Error> {
+    match word.as_bytes() {
+        [b'!', code @ ..] => Ok(Err(Error::Source(number_and_byte(code).0))),
+        [b'?', ..] | [] | [_] => Ok(Err(Error::OutOfMemory)),
+        [key, kind, rest @ ..] => Ok(Ok(entry_of(alloc, *key, *kind, rest)?)),
     }
+}
+
+/// The results that the words of a text stand for.
+pub fn results_of<A: Allocator + Clone>(
+    alloc: &A,
+    text: &str,
+) -> Result<Vec<IterItem<A>, A>, Error> {
+    let mut results = Vec::new(alloc.clone()?);
+    for word in text.split_whitespace() {
+        results.push(result_of(alloc, word)?)?;
+    }
+    Ok(results)
+}
+
+/// The ends that `F` and `B` stand for.
+pub fn ends_of<A: Allocator>(alloc: A, text: &str) -> Result<Vec<Direction, A>, Error> {
+    let mut ends = Vec::new(alloc);
+    for byte in text.bytes() {
+        ends.push(if byte == b'B' {
+            Direction::Back
+        } else {
+            Direction::Front
+        })?;
+    }
+    Ok(ends)
+}
+
+/// Adds an entry's word to those of a text.
+pub fn put_entry<A: Allocator, B: Allocator>(
+    text: &mut String<B>,
+    entry: &InternalValue<A>,
+) -> Result<(), AllocError> {
+    let key = byte_of(&entry.key.user_key);
+    let value = byte_of(&entry.value);
+    let kind = match entry.key.value_type {
+        ValueType::Value => 'V',
+        ValueType::Tombstone => 'T',
+        ValueType::WeakTombstone => 'W',
+        ValueType::Indirection => 'I',
+    };
+    let space = if text.is_empty() { "" } else { " " };
+    write!(text, "{space}{}{kind}{}", char::from(key), entry.key.seqno)?;
+    if value != 0 && (kind != 'V' || value != key) {
+        text.push(char::from(value))?;
+    }
+    Ok(())
+}
+
+// Adds an answer's word.
+fn put_answer<A: Allocator, B: Allocator>(
+    text: &mut String<B>,
+    answer: &Option<IterItem<A>>,
+) -> Result<(), AllocError> {
+    let space = if text.is_empty() { "" } else { " " };
+    match answer {
+        Some(Ok(entry)) => put_entry(text, entry),
+        Some(Err(Error::Source(code))) => write!(text, "{space}!{code}"),
+        Some(Err(error)) => write!(text, "{space}?{}", error.number()),
+        None => write!(text, "{space}-"),
+    }
+}
+
+/// The words of answers.
+pub fn text_of<A: Allocator, B: Allocator>(
+    alloc: B,
+    answers: &[Option<IterItem<A>>],
+) -> Result<String<B>, AllocError> {
+    let mut text = String::new(alloc);
+    for answer in answers {
+        put_answer(&mut text, answer)?;
+    }
+    Ok(text)
 }

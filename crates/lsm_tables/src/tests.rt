@@ -1,11 +1,10 @@
 mod scans;
-mod stored_table;
 mod surface;
 
 use crate::Table;
 use lsm_writers::{Timestamp, Writer};
 use refusing::{Refusing, each_refused};
-use sst_blocks::{Checksum, Error, InternalValue, Opened, SeqNo, Slice, ValueType};
+use sst_blocks::{Error, InternalValue, Opened, SeqNo, Slice, ValueType};
 use std::alloc::{Allocator, Global};
 use std::test::Fail;
 
@@ -53,88 +52,66 @@ fn read<A: Allocator + Clone>(table: &Table<A>, key: &[u8], seqno: SeqNo) -> (u6
 
 const ROWS: [(u8, SeqNo); 4] = [(b'a', 9), (b'a', 7), (b'a', 5), (b'b', 1)];
 
-#[test]
-fn reads_open_one_data_block_at_most(rt: HostRuntime) -> Result<(), Fail> {
-    let table = table_of(rt.alloc(), &ROWS, 0)?;
+// Whether the clone of a table reads as the table did, which is gone.
+fn clone_reads(alloc: Global) -> Result<bool, Error> {
+    let table = table_of(alloc, &ROWS, 0)?;
     let copy = table.clone()?;
     drop(table);
-    assert_eq!(rt; read(&copy, b"a", 8), (7, 1));
-    assert_eq!(rt; read(&copy, b"a", 5), (0, 1));
-    assert_eq!(rt; read(&copy, b"b", 2), (1, 1));
-    assert_eq!(rt; read(&copy, b"c", 100), (0, 0));
-    let (_, opened) = copy.get_counted(b"a", 8, Table::<Global>::key_hash(b"a"));
-    assert_eq!(rt;
-        opened,
-        Opened {
-            data_loads: 1,
-            index_loads: 0,
-            filter_loads: 0,
-            meta_loads: 0
-        }
-    );
-    assert_eq!(rt; copy.id(), 1);
+    Ok(
+        copy.id() == 1
+            && read(&copy, b"a", 8) == (7, 1)
+            && read(&copy, b"a", 5) == (0, 1)
+            && read(&copy, b"b", 2) == (1, 1)
+            && read(&copy, b"c", 100) == (0, 0),
+    )
+}
+
+#[test]
+fn reads_open_one_data_block_at_most(rt: HostRuntime) -> Result<(), Fail> {
+    assert!(rt; clone_reads(rt.alloc())?);
     Ok(())
+}
+
+// What a read of a@8 opens.
+fn opened_by_a_read(alloc: Global) -> Result<Opened, Error> {
+    let table = table_of(alloc, &ROWS, 0)?;
+    Ok(
+        table
+            .get_counted(b"a", 8, Table::<Global>::key_hash(b"a"))
+            .1,
+    )
+}
+
+#[test]
+fn a_read_opens_nothing_but_data(rt: HostRuntime) -> Result<(), Fail> {
+    let expected = Opened {
+        data_loads: 1,
+        index_loads: 0,
+        filter_loads: 0,
+        meta_loads: 0,
+    };
+    assert_eq!(rt; opened_by_a_read(rt.alloc())?, expected);
+    Ok(())
+}
+
+// The highest number of a table of a@3 with a global number, and what reads of `a` answer.
+fn lifted_reads(alloc: Global, global_seqno: SeqNo) -> Result<(SeqNo, [(u64, u64); 3]), Error> {
+    let table = table_of(alloc, &[(b'a', 3)], global_seqno)?;
+    let reads = [
+        read(&table, b"a", 14),
+        read(&table, b"a", 13),
+        read(&table, b"a", 10),
+    ];
+    Ok((table.get_highest_seqno(), reads))
 }
 
 #[test]
 fn the_global_number_is_added(rt: HostRuntime) -> Result<(), Fail> {
-    let table = table_of(rt.alloc(), &[(b'a', 3)], 10)?;
-    assert_eq!(rt; table.get_highest_seqno(), 13);
-    assert_eq!(rt; read(&table, b"a", 14), (13, 1));
-    assert_eq!(rt; read(&table, b"a", 13), (0, 0));
-    assert_eq!(rt; read(&table, b"a", 10), (0, 0));
-    assert!(rt;
-        matches!(
-            table_of(rt.alloc(), &[(b'a', 3)], u64::MAX - 2),
-            Err(Error::GlobalSeqNoTooLarge)
-        )
-    );
-    assert!(rt; table_of(rt.alloc(), &[(b'a', 3)], u64::MAX - 3).is_ok());
-    Ok(())
-}
-
-// Opens bytes, and answers the refusal's number, or 0.
-fn opened<A: Allocator + Clone>(alloc: A, bytes: &[u8]) -> Result<u8, Error> {
-    let bytes = Slice::from(alloc.clone()?, bytes)?;
-    match Table::recover(alloc, bytes, Checksum(0), 0, 0, true, true) {
-        Ok(_) => Ok(0),
-        Err(error) => Ok(error.number()),
-    }
-}
-
-#[test]
-fn stored_tables_of_the_version_before(rt: HostRuntime) -> Result<(), Fail> {
-    let alloc = rt.alloc();
-    let bytes = stored_table::bytes().as_slice();
-    let table = Table::recover(
-        alloc,
-        Slice::from(alloc, bytes)?,
-        Checksum(0),
-        0,
-        0,
-        true,
-        true,
-    )?;
-    assert_eq!(rt; read(&table, b"a", 2), (1, 1));
-    assert_eq!(rt; read(&table, b"b", 2), (0, 0));
-    assert_eq!(rt; table.metadata.table_version, 3);
-    for len in 0..bytes.len() {
-        assert_eq!(rt; opened(alloc, &bytes[..len])?, 11);
-    }
-    let mut changed = bytes.to_vec(alloc)?;
-    if changed.len() > 44 {
-        changed[44] ^= 1;
-    }
-    let damaged = Table::recover(
-        alloc,
-        Slice::from(alloc, &changed)?,
-        Checksum(0),
-        0,
-        0,
-        true,
-        true,
-    )?;
-    assert_eq!(rt; read(&damaged, b"a", 2), (1005, 1));
+    let expected = (13, [(13, 1), (0, 0), (0, 0)]);
+    assert!(rt; lifted_reads(rt.alloc(), 10)? == expected);
+    assert!(rt; lifted_reads(rt.alloc(), u64::MAX - 3).is_ok());
+    let refused = lifted_reads(rt.alloc(), u64::MAX - 2);
+    assert!(rt; refused == Err(Error::GlobalSeqNoTooLarge));
     Ok(())
 }
 

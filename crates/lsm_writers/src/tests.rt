@@ -8,7 +8,7 @@ use sst_blocks::{
     BlockHandle, BlockOffset, Checksum, CompressionType, Error, InternalValue, KeyedBlockHandle,
     SectionWriter, SeqNo, Slice, ValueType,
 };
-use std::alloc::Allocator;
+use std::alloc::{Allocator, Global};
 use std::process::Abort;
 use std::test::Fail;
 use table::{TABLE, TABLE_CHECKSUM};
@@ -34,21 +34,6 @@ fn put<A: Allocator + Clone>(
         return None;
     }
     Some(writer.write(item))
-}
-
-#[test]
-fn writes_a_table_byte_for_byte(rt: HostRuntime) -> Result<(), Fail> {
-    let alloc = rt.alloc();
-    let mut writer = Writer::new(alloc, 1, 0, Timestamp::from(0))?;
-    assert!(rt; put(&mut writer, entry(alloc, b"a", 1, ValueType::Value, b"x")?) == Some(Ok(())));
-    let Some(table) = writer.finish()? else {
-        assert!(rt; false, "there is a table");
-        return Ok(());
-    };
-    assert_eq!(rt; table.id, 1);
-    assert_eq!(rt; table.checksum, Checksum(TABLE_CHECKSUM));
-    assert!(rt; table.bytes.as_slice() == TABLE.as_slice());
-    Ok(())
 }
 
 // A key, a number, a kind and a value.
@@ -84,26 +69,46 @@ fn counts<A: Allocator + Clone>(writer: &Writer<A>) -> [usize; 7] {
     ]
 }
 
+// The table of a@1, with the value `x`.
+fn one_entry(alloc: Global) -> Result<FinishedTable, Error> {
+    let mut writer = Writer::new(alloc, 1, 0, Timestamp::from(0))?;
+    put_rows(alloc, &mut writer, &[(b"a", 1, ValueType::Value, b"x")])?;
+    writer.finish()?.ok_or(Error::Source(1))
+}
+
+#[test]
+fn writes_a_table_byte_for_byte(rt: HostRuntime) -> Result<(), Fail> {
+    let table = one_entry(rt.alloc())?;
+    assert!(rt; table.id == 1 && table.checksum == Checksum(TABLE_CHECKSUM));
+    assert!(rt; table.bytes.as_slice() == TABLE.as_slice());
+    Ok(())
+}
+
+// The counts after some rows, before and after the block that waits is cut; `None` where a row may not follow.
+fn counts_of(alloc: Global, rows: &[Row<'_>]) -> Result<Option<([usize; 7], [usize; 7])>, Error> {
+    let mut writer = Writer::new(alloc, 1, 0, Timestamp::from(7))?;
+    if !put_rows(alloc, &mut writer, rows)? {
+        return Ok(None);
+    }
+    let before = counts(&writer);
+    writer.spill_block()?;
+    Ok(Some((before, counts(&writer))))
+}
+
 #[test]
 fn counts_what_is_written(rt: HostRuntime) -> Result<(), Fail> {
-    let alloc = rt.alloc();
-    let mut writer = Writer::new(alloc, 1, 0, Timestamp::from(7))?;
     let rows: [Row<'_>; 3] = [
         (b"a", 0, ValueType::Value, b"a"),
         (b"b", 0, ValueType::Value, b"b"),
         (b"c", 0, ValueType::Value, b"c"),
     ];
-    assert!(rt; put_rows(alloc, &mut writer, &rows)?);
-    assert_eq!(rt; counts(&writer), [0, 0, 3, 0, 0, 0, 6]);
-    writer.spill_block()?;
-    assert_eq!(rt; counts(&writer), [3, 1, 3, 0, 0, 0, 0]);
+    let expected = ([0, 0, 3, 0, 0, 0, 6], [3, 1, 3, 0, 0, 0, 0]);
+    assert!(rt; counts_of(rt.alloc(), &rows)? == Some(expected));
     Ok(())
 }
 
 #[test]
 fn counts_tombstones_and_what_they_hide(rt: HostRuntime) -> Result<(), Fail> {
-    let alloc = rt.alloc();
-    let mut writer = Writer::new(alloc, 1, 0, Timestamp::from(7))?;
     // A weak tombstone directly before a value of its key.
     let rows: [Row<'_>; 4] = [
         (b"c", 0, ValueType::Value, b"c"),
@@ -111,86 +116,99 @@ fn counts_tombstones_and_what_they_hide(rt: HostRuntime) -> Result<(), Fail> {
         (b"d", 8, ValueType::Value, b"v"),
         (b"e", 3, ValueType::Tombstone, b""),
     ];
-    assert!(rt; put_rows(alloc, &mut writer, &rows)?);
-    assert_eq!(rt; counts(&writer), [0, 0, 3, 2, 1, 1, 6]);
-    let meta = writer.metadata();
-    assert_eq!(rt; (meta.lowest_seqno, meta.highest_seqno), (0, 9));
+    let expected = ([0, 0, 3, 2, 1, 1, 6], [4, 1, 3, 2, 1, 1, 0]);
+    assert!(rt; counts_of(rt.alloc(), &rows)? == Some(expected));
     Ok(())
+}
+
+// The lowest and the highest number of what some rows wrote.
+fn seqnos_of(alloc: Global, rows: &[Row<'_>]) -> Result<(SeqNo, SeqNo), Error> {
+    let mut writer = Writer::new(alloc, 1, 0, Timestamp::from(7))?;
+    put_rows(alloc, &mut writer, rows)?;
+    let meta = writer.metadata();
+    Ok((meta.lowest_seqno, meta.highest_seqno))
+}
+
+#[test]
+fn keeps_the_lowest_and_the_highest_number(rt: HostRuntime) -> Result<(), Fail> {
+    assert_eq!(rt; seqnos_of(rt.alloc(), &[])?, (SeqNo::MAX, 0));
+    let rows: [Row<'_>; 3] = [
+        (b"c", 4, ValueType::Value, b"c"),
+        (b"d", 9, ValueType::Tombstone, b""),
+        (b"e", 3, ValueType::Value, b""),
+    ];
+    assert_eq!(rt; seqnos_of(rt.alloc(), &rows)?, (3, 9));
+    Ok(())
+}
+
+// Whether an entry may follow e@3, and is written then.
+fn follows(alloc: Global, row: Row<'_>) -> Result<bool, Error> {
+    let mut writer = Writer::new(alloc, 1, 0, Timestamp::from(7))?;
+    put_rows(
+        alloc,
+        &mut writer,
+        &[(b"e", 3, ValueType::Tombstone, b""), row],
+    )
 }
 
 #[test]
 fn entries_that_may_not_follow_are_told_before(rt: HostRuntime) -> Result<(), Fail> {
-    let alloc = rt.alloc();
-    let mut writer = Writer::new(alloc, 1, 0, Timestamp::from(7))?;
-    assert!(rt; put_rows(alloc, &mut writer, &[(b"e", 3, ValueType::Tombstone, b"")])?);
-    assert!(rt; !writer.is_empty());
     // Neither an older key, nor the same number again, nor the largest number.
-    let rows: [Row<'_>; 3] = [
-        (b"d", 1, ValueType::Value, b""),
-        (b"e", 3, ValueType::Value, b""),
-        (b"f", SeqNo::MAX, ValueType::Value, b""),
+    let rows: [(Row<'_>, bool); 5] = [
+        ((b"d", 1, ValueType::Value, b""), false),
+        ((b"e", 3, ValueType::Value, b""), false),
+        ((b"f", SeqNo::MAX, ValueType::Value, b""), false),
+        ((b"e", 2, ValueType::Value, b""), true),
+        ((b"f", 9, ValueType::Value, b""), true),
     ];
-    for row in rows {
-        assert!(rt; !put_rows(alloc, &mut writer, &[row])?);
+    for (row, may_follow) in rows {
+        assert_eq!(rt; follows(rt.alloc(), row)?, may_follow);
     }
     Ok(())
+}
+
+// The counts of blocks and of keys, and the length, of a table of three versions in blocks of size 0.
+fn cut_at_size_0(alloc: Global) -> Result<(usize, usize, BlockOffset), Error> {
+    let mut writer = Writer::new(alloc, 1, 0, Timestamp::from(0))?.use_data_block_size(0);
+    for seqno in [9, 7, 5] {
+        put_rows(alloc, &mut writer, &[(b"a", seqno, ValueType::Value, b"")])?;
+    }
+    let meta = writer.metadata();
+    Ok((meta.data_block_count, meta.key_count, meta.file_pos))
 }
 
 #[test]
 fn cuts_a_block_for_each_entry_at_size_0(rt: HostRuntime) -> Result<(), Fail> {
-    let alloc = rt.alloc();
-    let mut writer = Writer::new(alloc, 1, 0, Timestamp::from(0))?.use_data_block_size(0);
-    for seqno in [9, 7, 5] {
-        assert!(rt;
-            put(
-                &mut writer,
-                entry(alloc, b"a", seqno, ValueType::Value, b"")?
-            ) == Some(Ok(()))
-        );
-    }
-    assert_eq!(rt; writer.metadata().data_block_count, 3);
-    assert_eq!(rt; writer.metadata().key_count, 1);
     // Each block has a header of 24 bytes, a count of 4, and 17 bytes and the key for its entry.
-    assert_eq!(rt;
-        writer.metadata().file_pos,
-        BlockOffset(3 * (24 + 4 + 17 + 1))
-    );
+    let length = BlockOffset(3 * (24 + 4 + 17 + 1));
+    assert_eq!(rt; cut_at_size_0(rt.alloc())?, (3, 1, length));
     Ok(())
+}
+
+// What writing an entry whose key has this length answers, and another one, a cut and the end after it.
+fn after_a_key_of(alloc: Global, len: usize) -> Result<[u8; 4], Error> {
+    let number = |answer: Option<Error>| answer.map_or(0, |error| error.number());
+    let mut writer = Writer::new(alloc, 1, 0, Timestamp::from(0))?;
+    let key = vec![in alloc; 0x61u8; len]?;
+    let first = put_rows(alloc, &mut writer, &[(&key, 1, ValueType::Value, b"")]).err();
+    let second = put_rows(alloc, &mut writer, &[(b"b", 1, ValueType::Value, b"")]).err();
+    let cut = writer.spill_block().err();
+    if writer.is_empty() {
+        return Err(Error::Source(0));
+    }
+    let end = writer.finish().err();
+    Ok([number(first), number(second), number(cut), number(end)])
 }
 
 #[test]
 fn refuses_long_keys_and_whatever_follows(rt: HostRuntime) -> Result<(), Fail> {
-    let alloc = rt.alloc();
-    let mut writer = Writer::new(alloc, 1, 0, Timestamp::from(0))?;
-    let longest = vec![in alloc; 0x61u8; 1_048_576]?;
-    let longer = vec![in alloc; 0x61u8; 1_048_577]?;
-    let rows: [(Row<'_>, Result<bool, Error>); 3] = [
-        ((&longest, 1, ValueType::Value, b""), Ok(true)),
-        ((&longer, 1, ValueType::Value, b""), Err(Error::KeyTooLong)),
-        ((b"b", 1, ValueType::Value, b""), Err(Error::WriterFailed)),
-    ];
-    for (row, answer) in rows {
-        assert!(rt; put_rows(alloc, &mut writer, &[row]) == answer);
-    }
-    assert!(rt; writer.spill_block() == Err(Error::WriterFailed));
-    assert!(rt; writer.finish().is_err());
+    assert_eq!(rt; after_a_key_of(rt.alloc(), 1_048_576)?, [0; 4]);
+    assert_eq!(rt; after_a_key_of(rt.alloc(), 1_048_577)?, [7, 23, 23, 23]);
     Ok(())
 }
 
-#[test]
-fn a_refused_first_entry_was_given(rt: HostRuntime) -> Result<(), Fail> {
-    let alloc = rt.alloc();
-    let mut writer = Writer::new(alloc, 1, 0, Timestamp::from(0))?;
-    let longer = vec![in alloc; 0x61u8; 1_048_577]?;
-    let refused = put_rows(alloc, &mut writer, &[(&longer, 1, ValueType::Value, b"")]);
-    assert!(rt; refused == Err(Error::KeyTooLong));
-    assert!(rt; !writer.is_empty());
-    Ok(())
-}
-
-#[test]
-fn takes_options_and_gives_no_table_of_nothing(rt: HostRuntime) -> Result<(), Fail> {
-    let alloc = rt.alloc();
+// Whether a writer with all its options set writes nothing.
+fn writes_nothing(alloc: Global) -> Result<bool, Error> {
     let writer = Writer::new(alloc, 1, 3, Timestamp::from(5))?
         .use_data_block_restart_interval(8)
         .use_index_block_restart_interval(2)
@@ -199,12 +217,13 @@ fn takes_options_and_gives_no_table_of_nothing(rt: HostRuntime) -> Result<(), Fa
         .use_meta_partition_size(4_194_304)
         .use_data_block_compression(CompressionType::None)
         .use_index_block_compression(CompressionType::None);
-    assert!(rt; writer.is_empty());
-    assert!(rt; writer.finish()?.is_none());
-    assert_eq!(rt;
-        Metadata::<std::alloc::Global>::default().lowest_seqno,
-        SeqNo::MAX
-    );
+    Ok(writer.is_empty() && writer.finish()?.is_none())
+}
+
+#[test]
+fn takes_options_and_gives_no_table_of_nothing(rt: HostRuntime) -> Result<(), Fail> {
+    assert!(rt; writes_nothing(rt.alloc())?);
+    assert_eq!(rt; Metadata::<Global>::default().lowest_seqno, SeqNo::MAX);
     Ok(())
 }
 
@@ -221,57 +240,57 @@ fn ids_and_moments_give_their_parts_back(rt: HostRuntime) -> Result<(), Fail> {
     Ok(())
 }
 
-#[test]
+// How many blocks an index of a@1 has, and how many bytes.
 #[tactic(auto, using(crate::proofs::Orders::one_handle_strict))]
-fn a_full_index_is_one_block(rt: HostRuntime) -> Result<(), Fail> {
-    let alloc = rt.alloc();
+fn index_of_one(alloc: Global) -> Result<(usize, u64), Error> {
     let mut sections = SectionWriter::new(alloc)?;
     let mut index = FullIndexWriter::new(alloc)
         .use_compression(CompressionType::None)
         .use_partition_size(1);
     let place = BlockHandle::new(BlockOffset(0), 47);
     index.register_data_block(&KeyedBlockHandle::new(Slice::from(alloc, b"a")?, 1, place))?;
-    assert_eq!(rt; index.finish(&mut sections)?, 1);
-    assert_eq!(rt; sections.position(), 53);
+    let blocks = index.finish(&mut sections)?;
+    Ok((blocks, sections.position()))
+}
+
+#[test]
+fn a_full_index_is_one_block(rt: HostRuntime) -> Result<(), Fail> {
+    assert_eq!(rt; index_of_one(rt.alloc())?, (1, 53));
     Ok(())
 }
 
-// A table of three blocks.
-fn three_blocks<A: Allocator + Clone>(alloc: A) -> Result<(Option<FinishedTable<A>>, bool), Error> {
+// A table of three blocks. Whatever is refused, the writer refuses from then on.
+fn three_blocks<A: Allocator + Clone>(alloc: A) -> Result<FinishedTable<A>, Error> {
     let mut writer = Writer::new(alloc.clone()?, 1, 0, Timestamp::from(0))?.use_data_block_size(0);
     for seqno in [9, 7, 5] {
-        match put(
-            &mut writer,
-            entry(alloc.clone()?, b"a", seqno, ValueType::Value, b"x")?,
-        ) {
-            Some(Err(error)) => {
-                // Whatever was refused, the writer refuses from then on.
-                let failed = writer.spill_block() == Err(Error::WriterFailed);
-                return if failed {
-                    Err(error)
-                } else {
-                    Ok((None, false))
-                };
+        let item = entry(alloc.clone()?, b"a", seqno, ValueType::Value, b"x")?;
+        if let Some(Err(error)) = put(&mut writer, item) {
+            if writer.spill_block() != Err(Error::WriterFailed) {
+                return Err(Error::Source(0));
             }
-            Some(Ok(())) => {}
-            None => return Ok((None, false)),
+            return Err(error);
         }
     }
-    Ok((writer.finish()?, true))
+    writer.finish()?.ok_or(Error::Source(1))
+}
+
+// Whether a table of three blocks is written, or memory refused where it may be.
+fn writes_three_blocks<A: Allocator + Clone>(alloc: A, may_fail: bool) -> bool {
+    match three_blocks(alloc) {
+        Ok(table) => table.id == 1,
+        Err(Error::OutOfMemory) => may_fail,
+        Err(_) => false,
+    }
 }
 
 #[test]
 fn each_request_refused_is_answered_so(rt: HostRuntime) -> Result<(), Fail> {
-    let answers = each_refused(rt.alloc(), |heap, may_fail| match three_blocks(heap) {
-        Ok((Some(_), right)) => right,
-        Ok((None, _)) => false,
-        Err(Error::OutOfMemory) => may_fail,
-        Err(_) => false,
-    });
-    assert!(rt; answers.is_ok());
+    let answers = each_refused(
+        rt.alloc(),
+        |heap, may_fail| writes_three_blocks(heap, may_fail),
+    );
     let heap = Refusing::new(rt.alloc(), 0);
-    let table = three_blocks(&heap)?;
-    assert!(rt; table.0.is_some());
+    assert!(rt; writes_three_blocks(&heap, false));
     assert_eq!(rt; answers, Ok(heap.requests()));
     Ok(())
 }

@@ -2,14 +2,18 @@
 use crate::stored::one_entry;
 use crate::tables::{open, overwritten, read};
 use sst_blocks::{Error, SeqNo, Slice, TagName};
-use std::alloc::Allocator;
-use std::test::Fail;
+use std::alloc::{Allocator, Global};
 
 // A refusal to open, or what a read then answers: the number found, if any, and how many data blocks it loads.
 type Answer = Result<(Result<Option<SeqNo>, Error>, u64), Error>;
 
-// Opens bytes, and reads `a` below 2.
-fn open_and_read<A: Allocator + Clone>(alloc: A, bytes: Slice<A>, global_seqno: SeqNo) -> Answer {
+// Opens the stored table with some bytes changed, and reads `a` below 2.
+fn open_and_read<A: Allocator + Clone>(
+    alloc: A,
+    changes: &[(usize, &[u8])],
+    global_seqno: SeqNo,
+) -> Answer {
+    let bytes = overwritten(alloc.clone()?, &one_entry::BYTES, changes)?;
     let table = open(alloc, bytes, global_seqno)?;
     Ok(read(&table, b"a", 2))
 }
@@ -29,7 +33,7 @@ const TLI_AT: usize = 1170;
 const META_AT: usize = 1234;
 
 #[test]
-fn the_first_fault_of_sections_and_blocks(rt: HostRuntime) -> Result<(), Fail> {
+fn the_first_fault_of_sections_and_blocks(rt: HostRuntime) {
     let of_kind = |tag| Error::InvalidTag(TagName::BlockType, tag);
     let faults: [(&[(usize, &[u8])], Error); 16] = [
         (&[(TLI_AT, &META_SLOT), (META_AT, &TLI_SLOT)], of_kind(1)),
@@ -55,18 +59,12 @@ fn the_first_fault_of_sections_and_blocks(rt: HostRuntime) -> Result<(), Fail> {
         (&[(1250, b"l"), (META_AT, &FF)], Error::InvalidTrailer),
     ];
     for (changes, fault) in faults {
-        let bytes = overwritten(rt.alloc(), &one_entry::BYTES, changes)?;
-        assert_eq!(rt;
-            open_and_read(rt.alloc(), bytes, 0),
-            Err(fault),
-            "{changes:?}"
-        );
+        assert!(rt; open_and_read(rt.alloc(), changes, 0) == Err(fault));
     }
-    Ok(())
 }
 
 #[test]
-fn changes_that_opening_does_not_see(rt: HostRuntime) -> Result<(), Fail> {
+fn changes_that_opening_does_not_see(rt: HostRuntime) {
     let answers: [(&[(usize, &[u8])], Result<Option<SeqNo>, Error>); 5] = [
         (&[], Ok(Some(1))),
         // no data section, and another version behind the index
@@ -77,18 +75,12 @@ fn changes_that_opening_does_not_see(rt: HostRuntime) -> Result<(), Fail> {
         (&[(5, &[1])], Err(Error::UnsupportedCompression)),
     ];
     for (changes, answer) in answers {
-        let bytes = overwritten(rt.alloc(), &one_entry::BYTES, changes)?;
-        assert_eq!(rt;
-            open_and_read(rt.alloc(), bytes, 0),
-            Ok((answer, 1)),
-            "{changes:?}"
-        );
+        assert!(rt; open_and_read(rt.alloc(), changes, 0) == Ok((answer, 1)));
     }
-    Ok(())
 }
 
 #[test]
-fn the_global_number_is_tested_between_meta_block_and_index(rt: HostRuntime) -> Result<(), Fail> {
+fn the_global_number_is_tested_between_meta_block_and_index(rt: HostRuntime) {
     let too_large = Err(Error::GlobalSeqNoTooLarge);
     let answers: [(&[(usize, &[u8])], SeqNo, Answer); 4] = [
         (&[], SeqNo::MAX, Err(Error::GlobalSeqNoTooLarge)),
@@ -97,14 +89,8 @@ fn the_global_number_is_tested_between_meta_block_and_index(rt: HostRuntime) -> 
         (&[(50, &[1])], SeqNo::MAX, too_large),
     ];
     for (changes, global_seqno, answer) in answers {
-        let bytes = overwritten(rt.alloc(), &one_entry::BYTES, changes)?;
-        assert_eq!(rt;
-            open_and_read(rt.alloc(), bytes, global_seqno),
-            answer,
-            "{changes:?}"
-        );
+        assert!(rt; open_and_read(rt.alloc(), changes, global_seqno) == answer);
     }
-    Ok(())
 }
 
 // Whether a block with one byte changed may be refused so.
@@ -135,18 +121,31 @@ fn is_right(place: usize, answer: &Answer) -> bool {
 }
 
 #[test]
-fn each_byte_changed_in_turn(rt: HostRuntime) -> Result<(), Fail> {
+fn each_byte_changed_in_turn(rt: HostRuntime) {
     for (place, byte) in one_entry::BYTES.iter().enumerate() {
         for changed in [0, 0xff, !*byte] {
             if changed != *byte {
-                let bytes = overwritten(rt.alloc(), &one_entry::BYTES, &[(place, &[changed])])?;
-                let answer = open_and_read(rt.alloc(), bytes, 0);
-                assert!(rt;
-                    is_right(place, &answer),
-                    "{changed} at {place}: {answer:?}"
-                );
+                let answer = open_and_read(rt.alloc(), &[(place, &[changed])], 0);
+                assert!(rt; is_right(place, &answer), "{changed} at {place}");
             }
         }
     }
+}
+
+// What opening the first bytes of the stored table answers, so many.
+fn open_front(alloc: Global, len: usize) -> Result<(), Error> {
+    let front = one_entry::BYTES.get(..len).unwrap_or_default();
+    open(alloc, Slice::from(alloc, front)?, 0)?;
     Ok(())
+}
+
+#[test]
+fn a_table_that_ends_early_has_no_trailer(rt: HostRuntime) {
+    for len in 0..1258 {
+        assert!(rt;
+            open_front(rt.alloc(), len) == Err(Error::InvalidTrailer),
+            "{len}"
+        );
+    }
+    assert!(rt; open_front(rt.alloc(), 1258).is_ok());
 }

@@ -7,7 +7,6 @@ use sst_blocks::{
     Opened, SectionName, SectionWriter, SeqNo, Slice,
 };
 use std::alloc::Allocator;
-use std::test::Fail;
 
 // What becomes of an item.
 #[derive(Clone, Copy, Debug)]
@@ -137,7 +136,7 @@ const INTERVAL: u8 = 18;
 const COMPRESSION: u8 = 19;
 
 #[test]
-fn one_item_with_another_value(rt: HostRuntime) -> Result<(), Fail> {
+fn one_item_with_another_value(rt: HostRuntime) {
     let values: [(&'static [u8], &'static [u8], u8); 22] = [
         (b"table_version", &[5], VERSION),
         (b"table_version", &[], VERSION),
@@ -164,9 +163,8 @@ fn one_item_with_another_value(rt: HostRuntime) -> Result<(), Fail> {
     ];
     for (name, value, expected) in values {
         let answer = reopen(rt.alloc(), &[(name, Change::Value(value))]);
-        assert_eq!(rt; number(answer), expected, "{name:?} {value:?}");
+        assert_eq!(rt; number(answer), expected);
     }
-    Ok(())
 }
 
 const READ: [&[u8]; 20] = [
@@ -205,7 +203,7 @@ const NOT_READ: [&[u8]; 9] = [
 ];
 
 #[test]
-fn an_item_that_is_read_has_to_be_there(rt: HostRuntime) -> Result<(), Fail> {
+fn an_item_that_is_read_has_to_be_there(rt: HostRuntime) {
     for name in READ {
         for (change, expected) in [
             (Change::Gone, MISSING),
@@ -215,19 +213,22 @@ fn an_item_that_is_read_has_to_be_there(rt: HostRuntime) -> Result<(), Fail> {
             (Change::Tombstone, 0),
         ] {
             let answer = reopen(rt.alloc(), &[(name, change)]);
-            assert_eq!(rt; number(answer), expected, "{name:?} {change:?}");
+            assert_eq!(rt; number(answer), expected);
         }
     }
+}
+
+#[test]
+fn an_item_that_is_not_read_may_be_gone(rt: HostRuntime) {
     for name in NOT_READ {
         let answer = reopen(rt.alloc(), &[(name, Change::Gone)]);
-        assert_eq!(rt; number(answer), 0, "{name:?}");
+        assert_eq!(rt; number(answer), 0);
     }
-    Ok(())
 }
 
 // Of two faults, the one that is told.
 #[test]
-fn items_are_read_in_one_order(rt: HostRuntime) -> Result<(), Fail> {
+fn items_are_read_in_one_order(rt: HostRuntime) {
     let gone = Change::Gone;
     let two = Change::Value(&[2]);
     let short = Change::Value(&[]);
@@ -255,13 +256,12 @@ fn items_are_read_in_one_order(rt: HostRuntime) -> Result<(), Fail> {
     ];
     for (first, second, expected) in pairs {
         let answer = reopen(rt.alloc(), &[first, second]);
-        assert_eq!(rt; number(answer), expected, "{first:?} {second:?}");
+        assert_eq!(rt; number(answer), expected);
     }
-    Ok(())
 }
 
 #[test]
-fn each_request_refused_before_a_fault(rt: HostRuntime) -> Result<(), Fail> {
+fn each_request_refused_before_a_fault(rt: HostRuntime) {
     let changes: [Item; 1] = [(b"checksum_type", Change::Value(&[2]))];
     let refused = each_refused(rt.alloc(), |alloc, may_fail| {
         match reopen(alloc, &changes) {
@@ -270,9 +270,5 @@ fn each_request_refused_before_a_fault(rt: HostRuntime) -> Result<(), Fail> {
             Err(error) => error == Error::UnsupportedChecksumType,
         }
     });
-    assert!(rt;
-        matches!(refused, Ok(requests) if requests > 5),
-        "{refused:?}"
-    );
-    Ok(())
+    assert!(rt; refused.is_ok_and(|requests| requests > 5));
 }

@@ -2,7 +2,7 @@
 use crate::stored::{filter_parts, one_entry, one_entry_filtered};
 use crate::tables::{open, overwritten, read};
 use sst_blocks::{Error, SeqNo, Slice};
-use std::alloc::Allocator;
+use std::alloc::{Allocator, Global};
 use std::test::Fail;
 
 // A key, a bound, the number that is found, if any, and how many data blocks are loaded.
@@ -44,39 +44,43 @@ fn wrong_read<A: Allocator + Clone>(
 
 #[test]
 fn stored_tables_answer_their_reads(rt: HostRuntime) -> Result<(), Fail> {
-    let alloc = rt.alloc();
-    assert_eq!(rt; wrong_read(alloc, &one_entry::BYTES, &OF_ONE_ENTRY)?, None);
-    assert_eq!(rt;
-        wrong_read(alloc, &one_entry_filtered::BYTES, &OF_ONE_ENTRY)?,
-        None
-    );
-    assert_eq!(rt;
-        wrong_read(alloc, &filter_parts::BYTES, &OF_FOUR_ENTRIES)?,
-        None
-    );
-    Ok(())
-}
-
-#[test]
-fn filters_of_stored_tables(rt: HostRuntime) -> Result<(), Fail> {
-    let tables: [(&[u8], u32); 3] = [
-        (&one_entry::BYTES, 0),
-        (&one_entry_filtered::BYTES, 33),
-        (&filter_parts::BYTES, 66),
+    let tables: [(&[u8], &[Read]); 3] = [
+        (&one_entry::BYTES, &OF_ONE_ENTRY),
+        (&one_entry_filtered::BYTES, &OF_ONE_ENTRY),
+        (&filter_parts::BYTES, &OF_FOUR_ENTRIES),
     ];
-    for (bytes, size) in tables {
-        let table = open(rt.alloc(), Slice::from(rt.alloc(), bytes)?, 0)?;
-        assert_eq!(rt; table.filter_size(), size);
+    for (bytes, reads) in tables {
+        assert!(rt; wrong_read(rt.alloc(), bytes, reads)?.is_none());
     }
     Ok(())
 }
 
-// Each data block has 44 bytes, and in three of them the last byte is changed.
+// The bytes that a table's filter takes.
+fn filter_size(alloc: Global, bytes: &[u8]) -> Result<u32, Error> {
+    Ok(open(alloc, Slice::from(alloc, bytes)?, 0)?.filter_size())
+}
+
+#[test]
+fn filters_of_stored_tables(rt: HostRuntime) -> Result<(), Fail> {
+    assert_eq!(rt; filter_size(rt.alloc(), &one_entry::BYTES)?, 0);
+    assert_eq!(rt; filter_size(rt.alloc(), &one_entry_filtered::BYTES)?, 33);
+    assert_eq!(rt; filter_size(rt.alloc(), &filter_parts::BYTES)?, 66);
+    Ok(())
+}
+
+// What a read answers of the table in four blocks of 44 bytes, of which all but the second are damaged in their last byte.
+fn damaged_read(
+    alloc: Global,
+    key: &[u8],
+    seqno: SeqNo,
+) -> Result<(Result<Option<SeqNo>, Error>, u64), Error> {
+    let changes: [(usize, &[u8]); 3] = [(43, b"?"), (131, b"?"), (175, b"?")];
+    let bytes = overwritten(alloc, &filter_parts::BYTES, &changes)?;
+    Ok(read(&open(alloc, bytes, 0)?, key, seqno))
+}
+
 #[test]
 fn a_damaged_block_refuses_its_own_reads(rt: HostRuntime) -> Result<(), Fail> {
-    let changes: [(usize, &[u8]); 3] = [(43, b"?"), (131, b"?"), (175, b"?")];
-    let bytes = overwritten(rt.alloc(), &filter_parts::BYTES, &changes)?;
-    let table = open(rt.alloc(), bytes, 0)?;
     let reads: [(&[u8], SeqNo, Result<Option<SeqNo>, Error>); 5] = [
         (b"a", 8, Ok(Some(7))),
         (b"a", 10, Err(Error::ChecksumMismatch)),
@@ -85,11 +89,7 @@ fn a_damaged_block_refuses_its_own_reads(rt: HostRuntime) -> Result<(), Fail> {
         (b"b", 2, Err(Error::ChecksumMismatch)),
     ];
     for (key, seqno, answer) in reads {
-        assert_eq!(rt;
-            read(&table, key, seqno),
-            (answer, 1),
-            "{key:?} below {seqno}"
-        );
+        assert!(rt; damaged_read(rt.alloc(), key, seqno)? == (answer, 1));
     }
     Ok(())
 }

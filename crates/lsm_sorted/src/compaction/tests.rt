@@ -5,16 +5,16 @@ use crate::MvccStream;
 use crate::compaction::stream::{
     CompactionStream, DroppedKvCallback, StreamFilter, StreamFilterVerdict,
 };
-use crate::test_rows::{Row, results_of, row_of, row_of_result, t, v, w};
+use crate::test_rows::{put_entry, results_of, text_of};
 use refusing::Refusing;
 use sst_blocks::{Error, InternalValue, IterItem, Slice, ValueType};
 use std::alloc::{AllocError, Allocator, Global};
 use std::test::Fail;
 
-// Remembers what it received, in short.
+// Remembers what it received.
 #[derive(Drop)]
 struct Received {
-    rows: Vec<Row>,
+    text: String,
     is_whole: bool,
 }
 
@@ -22,7 +22,7 @@ impl DroppedKvCallback<Global> for Received {
     ghost gets = { λ c x d. Unit {0} };
 
     fn on_dropped(&mut self, kv: &InternalValue) {
-        if self.rows.push(row_of(kv)).is_err() {
+        if put_entry(&mut self.text, kv).is_err() {
             self.is_whole = false;
         }
     }
@@ -59,407 +59,276 @@ impl StreamFilter<Global> for Plan {
     }
 }
 
-// Keys in whose low half a version is inverted: drops each below the watermark that a newer one
-// of the same high half precedes.
+// Five keys in a row are versions of one, the newest first: drops each below the watermark that a newer one precedes.
 #[derive(Clone, Copy)]
-struct NewestOfHalves {
+struct NewestOfFive {
     previous: Option<u8>,
     watermark: u8,
 }
 
-impl StreamFilter<Global> for NewestOfHalves {
+impl StreamFilter<Global> for NewestOfFive {
     ghost gives = { λ f x v g. Unit {0} };
 
     fn filter_item(&mut self, item: &InternalValue) -> Result<StreamFilterVerdict, Error> {
-        let key = match item.key.user_key.as_slice() {
-            [byte, ..] => *byte,
+        let letter = match item.key.user_key.as_slice() {
+            [byte, ..] => byte.saturating_sub(b'a'),
             [] => return Err(Error::Source(8)),
         };
-        let half = key / 16;
-        let version = 15 - key % 16;
-        if self.previous == Some(half) && version < self.watermark {
+        let versions_of = letter / 5;
+        let version = 4 - letter % 5;
+        if self.previous == Some(versions_of) && version < self.watermark {
             return Ok(StreamFilterVerdict::Drop);
         }
-        self.previous = Some(half);
+        self.previous = Some(versions_of);
         Ok(StreamFilterVerdict::Keep)
     }
 }
 
-// A stream's results in short, to its end.
-fn drained<I: Iterator<Item = IterItem>>(
+// The words of a stream's results, to its end.
+fn drained<A: Allocator, I: Iterator<Item = IterItem<A>>>(
     alloc: Global,
     stream: &mut I,
-) -> Result<Vec<Row>, AllocError>
+) -> Result<String, AllocError>
     requires can { I.can_next stream.old }
     requires finite { IsFinite (I.remaining stream.old) }
 {
-    let mut rows = Vec::new(alloc);
+    let mut answers = Vec::new(alloc);
     while let Some(item) = stream.next() {
-        rows.push(row_of_result(&item))?;
+        answers.push(Some(item))?;
     }
-    Ok(rows)
+    text_of(alloc, &answers)
 }
 
-// One compaction, and what comes of it.
+// How a compaction is done.
 #[derive(Clone, Copy)]
-struct Case<'a> {
-    over: &'a [Row],
+struct Settings {
     threshold: u64,
     plan: Plan,
     evict: bool,
     zero: bool,
-    gives: &'a [Row],
-    reports: &'a [Row],
 }
 
-// What a compaction gives, and what its callback received.
-fn compacted(alloc: Global, case: Case) -> Result<(Vec<Row>, Vec<Row>), Error> {
+const PLAIN: Settings = Settings {
+    threshold: 5,
+    plan: Plan::KeepAll,
+    evict: false,
+    zero: false,
+};
+
+// What a compaction of some results gives, and what its callback received.
+fn compacted(alloc: Global, settings: &Settings, over: &str) -> Result<(String, String), Error> {
     let received = Received {
-        rows: Vec::new(alloc),
+        text: String::new(alloc),
         is_whole: true,
     };
     let mut stream = CompactionStream::new(
-        results_of(alloc, case.over)?.into_iter(),
-        case.threshold,
-    ).evict_tombstones(case.evict)
-        .zero_seqnos(case.zero)
-        .with_filter(case.plan)
+        results_of(&alloc, over)?.into_iter(),
+        settings.threshold,
+    ).evict_tombstones(settings.evict)
+        .zero_seqnos(settings.zero)
+        .with_filter(settings.plan)
         .with_drop_callback(received);
     let given = drained(alloc, &mut stream)?;
     if !stream.callback().is_whole {
         return Err(Error::OutOfMemory);
     }
-    Ok((given, stream.into_callback().rows))
+    Ok((given, stream.into_callback().text))
 }
 
-// A case at threshold 5, without eviction, zeroing or filter.
-fn plain<'a>(over: &'a [Row], gives: &'a [Row], reports: &'a [Row]) -> Case<'a> {
-    Case {
-        over,
-        threshold: 5,
-        plan: Plan::KeepAll,
-        evict: false,
-        zero: false,
-        gives,
-        reports,
-    }
+// Whether a compaction gives these results and reports these entries.
+fn compacts(
+    alloc: Global,
+    settings: &Settings,
+    over: &str,
+    results: &str,
+    reports: &str,
+) -> Result<bool, Error> {
+    let (given, received) = compacted(alloc, settings, over)?;
+    Ok(given.as_str() == results && received.as_str() == reports)
 }
+
+// In each table: what is compacted, the results, and what is reported.
 
 #[test]
 fn keeps_what_readers_at_the_threshold_see(rt: HostRuntime) -> Result<(), Fail> {
-    let a10_a3 = [v(b'a', 10), v(b'a', 3)];
-    let w10_a3 = [w(b'a', 10), v(b'a', 3)];
-    let w10_t3 = [w(b'a', 10), t(b'a', 3)];
-    let t10_a3 = [t(b'a', 10), v(b'a', 3)];
-    let a3 = [v(b'a', 3)];
-    let failing = [v(b'a', 10), v(b'a', 3), Row::Fails(2), v(b'a', 1)];
-    for case in [
-        plain(&a10_a3, &a10_a3, &[]),
-        plain(&w10_a3, &w10_a3, &[]),
-        Case {
-            evict: true,
-            ..plain(&w10_t3, &[w(b'a', 10)], &[])
-        },
-        Case {
-            evict: true,
-            ..plain(&t10_a3, &t10_a3, &[])
-        },
-        Case {
-            evict: true,
-            ..plain(&[t(b'a', 4)], &[], &[])
-        },
-        Case {
-            zero: true,
-            ..plain(
-                &[v(b'a', 10), v(b'a', 4), v(b'a', 3)],
-                &[v(b'a', 10), v(b'a', 0)],
-                &a3,
-            )
-        },
-        plain(&[w(b'a', 4), v(b'a', 3)], &[], &a3),
-        Case {
-            evict: true,
-            ..plain(&[w(b'a', 4), t(b'a', 3)], &[w(b'a', 4)], &[t(b'a', 3)])
-        },
-        plain(&failing, &[v(b'a', 10), Row::Fails(2), v(b'a', 1)], &[]),
-        Case {
-            zero: true,
-            ..plain(&[v(b'a', 4), v(b'b', 5)], &[v(b'a', 0), v(b'b', 5)], &[])
-        },
-        plain(
-            &[v(b'a', 10), Row::Fails(2), v(b'a', 3)],
-            &[Row::Fails(2), v(b'a', 3)],
-            &[],
-        ),
-        plain(
-            &[
-                v(b'a', 10),
-                v(b'a', 4),
-                v(b'a', 3),
-                Row::Fails(2),
-                v(b'a', 1),
-            ],
-            &[v(b'a', 10), Row::Fails(2), v(b'a', 1)],
-            &a3,
-        ),
-        plain(
-            &[v(b'a', 10), Row::Refused(1), v(b'a', 3)],
-            &[Row::Refused(1), v(b'a', 3)],
-            &[],
-        ),
-        plain(&[], &[], &[]),
+    let cases = [
+        ("aV10 aV3", "aV10 aV3", ""),
+        ("aW10 aV3", "aW10 aV3", ""),
+        ("aW4 aV3", "", "aV3"),
+        ("aV10 aV3 !2 aV1", "aV10 !2 aV1", ""),
+        ("aV10 !2 aV3", "!2 aV3", ""),
+        ("aV10 aV4 aV3 !2 aV1", "aV10 !2 aV1", "aV3"),
+        ("aV10 ?1 aV3", "?1 aV3", ""),
+        ("", "", ""),
+    ];
+    for (over, results, reports) in cases {
+        assert!(rt;
+            compacts(rt.alloc(), &PLAIN, over, results, reports)?,
+            "{over}"
+        );
+    }
+    Ok(())
+}
+
+#[test]
+fn evicts_tombstones_and_hides_numbers(rt: HostRuntime) -> Result<(), Fail> {
+    let evicting = Settings {
+        evict: true,
+        ..PLAIN
+    };
+    for (over, results, reports) in [
+        ("aW10 aT3", "aW10", ""),
+        ("aT10 aV3", "aT10 aV3", ""),
+        ("aT4", "", ""),
+        ("aW4 aT3", "aW4", "aT3"),
     ] {
-        let (gives, reports) = compacted(rt.alloc(), case)?;
-        assert_eq!(rt; gives.as_slice(), case.gives);
-        assert_eq!(rt; reports.as_slice(), case.reports);
+        assert!(rt;
+            compacts(rt.alloc(), &evicting, over, results, reports)?,
+            "{over}"
+        );
+    }
+    let zeroing = Settings {
+        zero: true,
+        ..PLAIN
+    };
+    for (over, results, reports) in [
+        ("aV10 aV4 aV3", "aV10 aV0", "aV3"),
+        ("aV4 bV5", "aV0 bV5", ""),
+    ] {
+        assert!(rt;
+            compacts(rt.alloc(), &zeroing, over, results, reports)?,
+            "{over}"
+        );
     }
     Ok(())
 }
 
 #[test]
 fn does_as_the_filter_says(rt: HostRuntime) -> Result<(), Fail> {
-    let a3 = [v(b'a', 3)];
-    let t3 = [t(b'a', 3)];
-    let replaced = Case {
-        threshold: 0,
-        plan: Plan::ReplaceBelow(10),
-        ..plain(&a3, &t3, &a3)
-    };
-    let value = |n: u64, byte: u8| Row::At(b'a', n, ValueType::Value, byte);
-    let mixed = [
-        value(999, b'9'),
-        value(998, b'8'),
-        value(997, b'7'),
-        value(996, b'6'),
-        value(995, b'5'),
-        value(994, b'4'),
-        v(b'b', 999),
+    let cases = [
+        (5, Plan::DropAt(10), false, "aV10 aV3", "aV3", "aV10"),
+        (0, Plan::ReplaceBelow(10), false, "aV3", "aT3", "aV3"),
+        (0, Plan::ReplaceBelow(10), true, "aV3", "", "aV3"),
+        (5, Plan::FailAt(10), false, "aV10 bV1", "!9 bV1", ""),
+        (
+            995,
+            Plan::DropKeyReplaceBelow(b'b', 997),
+            false,
+            "aV999u aV998v aV997w aV996x aV995y aV994z bV999",
+            "aV999u aV998v aV997w aT996 aT995 aT994",
+            "aV996x aV995y aV994z bV999",
+        ),
     ];
-    let mixed_gives = [
-        value(999, b'9'),
-        value(998, b'8'),
-        value(997, b'7'),
-        t(b'a', 996),
-        t(b'a', 995),
-        t(b'a', 994),
-    ];
-    let mixed_reports = [
-        value(996, b'6'),
-        value(995, b'5'),
-        value(994, b'4'),
-        v(b'b', 999),
-    ];
-    for case in [
-        Case {
-            plan: Plan::DropAt(10),
-            ..plain(&[v(b'a', 10), v(b'a', 3)], &a3, &[v(b'a', 10)])
-        },
-        Case {
-            evict: true,
-            gives: &[],
-            ..replaced
-        },
-        replaced,
-        Case {
-            plan: Plan::FailAt(10),
-            ..plain(
-                &[v(b'a', 10), v(b'b', 1)],
-                &[Row::Fails(9), v(b'b', 1)],
-                &[],
-            )
-        },
-        Case {
-            threshold: 995,
-            plan: Plan::DropKeyReplaceBelow(b'b', 997),
-            ..plain(&mixed, &mixed_gives, &mixed_reports)
-        },
-    ] {
-        let (gives, reports) = compacted(rt.alloc(), case)?;
-        assert_eq!(rt; gives.as_slice(), case.gives);
-        assert_eq!(rt; reports.as_slice(), case.reports);
+    for (threshold, plan, evict, over, results, reports) in cases {
+        let settings = Settings {
+            threshold,
+            plan,
+            evict,
+            zero: false,
+        };
+        assert!(rt;
+            compacts(rt.alloc(), &settings, over, results, reports)?,
+            "{over}"
+        );
     }
     Ok(())
 }
 
 #[test]
 fn drops_old_versions_and_hidden_values(rt: HostRuntime) -> Result<(), Fail> {
-    let high = |key: u8| [v(key, 999), v(key, 998)];
-    let a = high(b'a');
-    let tombstones = [t(b'a', 999), t(b'b', 999), t(b'c', 999)];
-    let pairs = [
-        t(b'a', 999),
-        t(b'a', 998),
-        t(b'b', 999),
-        t(b'b', 998),
-        t(b'c', 999),
-        t(b'c', 998),
+    let singles = "aV999 bV999 cV999";
+    let tombstones = "aT999 aT998 bT999 bT998 cT999 cT998";
+    let weak = "aW999 aV998 bW999 bV998 cW999 cV998";
+    let values = "aV999 aV998 bV999 bV998 cV999 cV998 cV997";
+    let cases = [
+        (1000, false, "aT999 aT998 aT997", "aT999", "aT998 aT997"),
+        (1000, true, "aV999 aV998 aV997", "aV0", "aV998 aV997"),
+        (1050, false, weak, "", "aV998 bV998 cV998"),
+        (
+            1_000_000,
+            false,
+            "aT999 bT999 cT999",
+            "aT999 bT999 cT999",
+            "",
+        ),
+        (998, false, tombstones, tombstones, ""),
+        (999, false, "aV999 aV998", "aV999 aV998", ""),
+        (0, false, "aW999 aV998", "aW999 aV998", ""),
+        (998, false, "aW999 aV998", "aW999 aV998", ""),
+        (999, false, "aW999 aV998", "aW999 aV998", ""),
+        (0, false, singles, singles, ""),
+        (0, false, values, values, ""),
     ];
-    let weak = [w(b'a', 999), v(b'a', 998)];
-    let weak_keys = [
-        w(b'a', 999),
-        v(b'a', 998),
-        w(b'b', 999),
-        v(b'b', 998),
-        w(b'c', 999),
-        v(b'c', 998),
-    ];
-    let many = [
-        v(b'a', 999),
-        v(b'a', 998),
-        v(b'b', 999),
-        v(b'b', 998),
-        v(b'c', 999),
-        v(b'c', 998),
-        v(b'c', 997),
-    ];
-    let singles = [v(b'a', 999), v(b'b', 999), v(b'c', 999)];
-    for case in [
-        Case {
-            threshold: 1000,
-            ..plain(
-                &[t(b'a', 999), t(b'a', 998), t(b'a', 997)],
-                &[t(b'a', 999)],
-                &[t(b'a', 998), t(b'a', 997)],
-            )
-        },
-        Case {
-            threshold: 1000,
-            zero: true,
-            ..plain(
-                &[v(b'a', 999), v(b'a', 998), v(b'a', 997)],
-                &[v(b'a', 0)],
-                &[v(b'a', 998), v(b'a', 997)],
-            )
-        },
-        Case {
-            threshold: 1050,
-            ..plain(&weak_keys, &[], &[v(b'a', 998), v(b'b', 998), v(b'c', 998)])
-        },
-        Case {
-            threshold: 1_000_000,
-            ..plain(&tombstones, &tombstones, &[])
-        },
-        Case {
-            threshold: 998,
-            ..plain(&pairs, &pairs, &[])
-        },
-        Case {
-            threshold: 999,
-            ..plain(&a, &a, &[])
-        },
-        Case {
-            threshold: 0,
-            ..plain(&weak, &weak, &[])
-        },
-        Case {
-            threshold: 998,
-            ..plain(&weak, &weak, &[])
-        },
-        Case {
-            threshold: 999,
-            ..plain(&weak, &weak, &[])
-        },
-        Case {
-            threshold: 0,
-            ..plain(&singles, &singles, &[])
-        },
-        Case {
-            threshold: 0,
-            ..plain(&many, &many, &[])
-        },
-    ] {
-        let (gives, reports) = compacted(rt.alloc(), case)?;
-        assert_eq!(rt; gives.as_slice(), case.gives);
-        assert_eq!(rt; reports.as_slice(), case.reports);
+    for (threshold, zero, over, results, reports) in cases {
+        let settings = Settings {
+            threshold,
+            zero,
+            ..PLAIN
+        };
+        assert!(rt;
+            compacts(rt.alloc(), &settings, over, results, reports)?,
+            "{over}"
+        );
     }
     Ok(())
+}
+
+// What a compaction at the threshold 995 leaves whose filter has a state.
+fn newest_of_five(alloc: Global, over: &str, watermark: u8) -> Result<String, Error> {
+    let filter = NewestOfFive {
+        previous: None,
+        watermark,
+    };
+    let items = results_of(&alloc, over)?.into_iter();
+    let mut stream = CompactionStream::new(items, 995).with_filter(filter);
+    Ok(drained(alloc, &mut stream)?)
 }
 
 #[test]
-fn keeps_a_state_in_the_filter_and_needs_no_callback(rt: HostRuntime) -> Result<(), Fail> {
-    let entry = |user: u8, version: u8| -> Row
-        requires user { user < 16 }
-        requires version { version < 16 }
-    { v(16 * user + (15 - version), 2353) };
-    let one_key = [entry(1, 4), entry(1, 3), entry(1, 2)];
-    let keys = [
-        entry(1, 4),
-        entry(1, 3),
-        entry(1, 2),
-        entry(2, 4),
-        entry(2, 3),
-        entry(2, 2),
-        entry(3, 1),
-        entry(4, 0),
-    ];
-    let newest = [
-        entry(1, 4),
-        entry(1, 3),
-        entry(2, 4),
-        entry(2, 3),
-        entry(3, 1),
-        entry(4, 0),
-    ];
-    let cases: [(&[Row], u8, &[Row]); 2] = [(&one_key, 5, &[entry(1, 4)]), (&keys, 3, &newest)];
-    for (over, watermark, gives) in cases {
-        let filter = NewestOfHalves {
-            previous: None,
-            watermark,
-        };
-        let mut stream = CompactionStream::new(
-            results_of(rt.alloc(), over)?.into_iter(),
-            995,
-        ).with_filter(filter);
-        assert_eq!(rt; drained(rt.alloc(), &mut stream)?.as_slice(), gives);
+fn keeps_a_state_in_the_filter(rt: HostRuntime) -> Result<(), Fail> {
+    let keys = "aV2353 bV2353 cV2353 fV2353 gV2353 hV2353 nV2353 tV2353";
+    for (over, watermark, wanted) in [
+        ("aV2353 bV2353 cV2353", 5, "aV2353"),
+        (keys, 3, "aV2353 bV2353 fV2353 gV2353 nV2353 tV2353"),
+    ] {
+        let given = newest_of_five(rt.alloc(), over, watermark)?;
+        assert_eq!(rt; given.as_str(), wanted);
     }
-    let mut stream = CompactionStream::new(results_of(rt.alloc(), &one_key)?.into_iter(), 5000);
-    assert_eq!(rt;
-        drained(rt.alloc(), &mut stream)?.as_slice(),
-        one_key.as_slice()
-    );
     Ok(())
 }
 
-// The numbers that streams over entries of any allocator give.
-fn numbers<A: Allocator, I: Iterator<Item = IterItem<A>>>(
+// What a compaction without a filter leaves.
+fn unfiltered(alloc: Global, over: &str) -> Result<String, Error> {
+    let items = results_of(&alloc, over)?.into_iter();
+    Ok(drained(alloc, &mut CompactionStream::new(items, 5000))?)
+}
+
+#[test]
+fn needs_neither_filter_nor_callback(rt: HostRuntime) -> Result<(), Fail> {
+    let given = unfiltered(rt.alloc(), "aV2353 bV2353 cV2353")?;
+    assert_eq!(rt; given.as_str(), "aV2353 bV2353 cV2353");
+    Ok(())
+}
+
+// What each stream gives of some results in the memory of any allocator.
+fn both<A: Allocator + Clone>(
+    memory: &A,
     alloc: Global,
-    stream: &mut I,
-) -> Result<Vec<u64>, AllocError>
-    requires can { I.can_next stream.old }
-    requires finite { IsFinite (I.remaining stream.old) }
-{
-    let mut numbers = Vec::new(alloc);
-    while let Some(item) = stream.next() {
-        numbers.push(match item {
-            Ok(entry) => entry.key.seqno,
-            Err(_) => 0,
-        })?;
-    }
-    Ok(numbers)
+    over: &str,
+) -> Result<(String, String), Error> {
+    let compacted = results_of(memory, over)?.into_iter();
+    let newest = results_of(memory, over)?.into_iter();
+    Ok((
+        drained(alloc, &mut CompactionStream::new(compacted, 4))?,
+        drained(alloc, &mut MvccStream::new(newest))?,
+    ))
 }
 
 #[test]
 fn streams_take_entries_of_any_allocator(rt: HostRuntime) -> Result<(), Fail> {
     let heap = Refusing::new(rt.alloc(), 0);
-    for is_compaction in [false, true] {
-        let mut items = Vec::new(rt.alloc());
-        for seqno in [4, 3, 2] {
-            let key = Slice::from(&heap, b"a")?;
-            items.push(Ok(InternalValue::from_components(
-                key,
-                Slice::empty(),
-                seqno,
-                ValueType::Value,
-            )))?;
-        }
-        let given = if is_compaction {
-            numbers(rt.alloc(), &mut CompactionStream::new(items.into_iter(), 4))?
-        } else {
-            numbers(rt.alloc(), &mut MvccStream::new(items.into_iter()))?
-        };
-        let wanted: &[u64] = if is_compaction { &[4, 3] } else { &[4] };
-        assert_eq!(rt; given.as_slice(), wanted);
-    }
+    let (compacted, newest) = both(&&heap, rt.alloc(), "aV4 aV3 aV2")?;
+    assert_eq!(rt; (compacted.as_str(), newest.as_str()), ("aV4 aV3", "aV4"));
     assert!(rt; heap.requests() > 0);
     Ok(())
 }

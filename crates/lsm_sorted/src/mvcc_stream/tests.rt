@@ -1,217 +1,84 @@
 use crate::MvccStream;
-use crate::test_rows::{Row, results_of, row_of_result, t, v, w};
-use sst_blocks::Direction::{Back, Front};
-use sst_blocks::{Direction, Error, answers_at};
+use crate::test_rows::{ends_of, results_of, text_of};
+use sst_blocks::{Error, answers_at};
 use std::alloc::Global;
 use std::test::Fail;
 
-// What a stream over the rows answers at the ends.
-fn answers(alloc: Global, rows: &[Row], ends: &[Direction]) -> Result<Vec<Option<Row>>, Error> {
-    let mut stream = MvccStream::new(results_of(alloc, rows)?.into_iter());
-    let mut answers = Vec::new(alloc);
-    for answer in &answers_at(alloc, &mut stream, ends)? {
-        answers.push(match answer {
-            Some(item) => Some(row_of_result(item)),
-            None => None,
-        })?;
-    }
-    Ok(answers)
+// Whether a stream over some results answers so at the ends.
+fn answers(alloc: Global, results: &str, ends: &str, wanted: &str) -> Result<bool, Error> {
+    let mut stream = MvccStream::new(results_of(&alloc, results)?.into_iter());
+    let answers = answers_at(alloc, &mut stream, &ends_of(alloc, ends)?)?;
+    Ok(text_of(alloc, &answers)?.as_str() == wanted)
 }
 
 #[test]
 fn answers_an_error_in_the_place_of_its_key(rt: HostRuntime) -> Result<(), Fail> {
-    const F: Direction = Front;
-    const B: Direction = Back;
-    let failing_late = [
-        v(b'a', 0),
-        v(b'b', 0),
-        v(b'c', 0),
-        v(b'd', 0),
-        t(b'e', 1),
-        Row::Fails(4),
-        v(b'e', 0),
-    ];
-    let failing_early = [
-        Row::Fails(4),
-        v(b'a', 0),
-        v(b'b', 0),
-        v(b'c', 0),
-        v(b'd', 0),
-        t(b'e', 1),
-        v(b'e', 0),
-    ];
-    let cases: [(&[Row], &[Direction], &[Option<Row>]); 8] = [
+    let cases = [
+        ("aV999 !1", "FFB", "!1 - -"),
+        ("aV999 !1", "BBBF", "!1 aV999 - -"),
+        ("aV2 aV1 bV1", "BBB", "bV1 aV2 -"),
+        ("aV2 !3 aV1", "FFF", "!3 aV1 -"),
+        ("aV2 !3 aV1", "BBB", "!3 aV2 -"),
         (
-            &[v(b'a', 999), Row::Fails(1)],
-            &[F, F, B],
-            &[Some(Row::Fails(1)), None, None],
+            "aV0 bV0 cV0 dV0 eT1 !4 eV0",
+            "FFFFFFF",
+            "aV0 bV0 cV0 dV0 !4 eV0 -",
         ),
         (
-            &[v(b'a', 999), Row::Fails(1)],
-            &[B, B, B, F],
-            &[Some(Row::Fails(1)), Some(v(b'a', 999)), None, None],
+            "aV0 bV0 cV0 dV0 eT1 !4 eV0",
+            "BBBBBBB",
+            "!4 eT1 dV0 cV0 bV0 aV0 -",
         ),
         (
-            &[v(b'a', 2), v(b'a', 1), v(b'b', 1)],
-            &[B, B, B],
-            &[Some(v(b'b', 1)), Some(v(b'a', 2)), None],
-        ),
-        (
-            &[v(b'a', 2), Row::Fails(3), v(b'a', 1)],
-            &[F, F, F],
-            &[Some(Row::Fails(3)), Some(v(b'a', 1)), None],
-        ),
-        (
-            &[v(b'a', 2), Row::Fails(3), v(b'a', 1)],
-            &[B, B, B],
-            &[Some(Row::Fails(3)), Some(v(b'a', 2)), None],
-        ),
-        (
-            &failing_late,
-            &[F, F, F, F, F, F, F],
-            &[
-                Some(v(b'a', 0)),
-                Some(v(b'b', 0)),
-                Some(v(b'c', 0)),
-                Some(v(b'd', 0)),
-                Some(Row::Fails(4)),
-                Some(v(b'e', 0)),
-                None,
-            ],
-        ),
-        (
-            &failing_late,
-            &[B, B, B, B, B, B, B],
-            &[
-                Some(Row::Fails(4)),
-                Some(t(b'e', 1)),
-                Some(v(b'd', 0)),
-                Some(v(b'c', 0)),
-                Some(v(b'b', 0)),
-                Some(v(b'a', 0)),
-                None,
-            ],
-        ),
-        (
-            &failing_early,
-            &[B, B, B, B, B, B],
-            &[
-                Some(t(b'e', 1)),
-                Some(v(b'd', 0)),
-                Some(v(b'c', 0)),
-                Some(v(b'b', 0)),
-                Some(Row::Fails(4)),
-                None,
-            ],
+            "!4 aV0 bV0 cV0 dV0 eT1 eV0",
+            "BBBBBB",
+            "eT1 dV0 cV0 bV0 !4 -",
         ),
     ];
-    for (rows, ends, wanted) in cases {
-        assert_eq!(rt; answers(rt.alloc(), rows, ends)?.as_slice(), wanted);
+    for (results, ends, wanted) in cases {
+        assert!(rt;
+            answers(rt.alloc(), results, ends, wanted)?,
+            "{results} at {ends}"
+        );
     }
     Ok(())
 }
 
 #[test]
 fn gives_the_newest_version_of_each_key_from_either_end(rt: HostRuntime) -> Result<(), Fail> {
-    let cases: [(&[Row], &[Row]); 9] = [
+    let cases = [
+        ("aV0 bV0 cV0 dV0 eT1 eV0", "FFFFFF", "aV0 bV0 cV0 dV0 eT1 -"),
+        ("aV0 bV0 cV0 dV0 eT1 eV0", "BBBBBB", "eT1 dV0 cV0 bV0 aV0 -"),
+        ("aV0 bT1 bV0 cT1 cV0", "FFFF", "aV0 bT1 cT1 -"),
+        ("aV0 bT1 bV0 cT1 cV0", "BBBB", "cT1 bT1 aV0 -"),
+        ("aV0 bT1 cT1", "FFFF", "aV0 bT1 cT1 -"),
+        ("aV0 bT1 cT1", "BBBB", "cT1 bT1 aV0 -"),
+        ("aV0 bW1 bV0 cW1 cV0", "FFFF", "aV0 bW1 cW1 -"),
+        ("aV0 bW1 bV0 cW1 cV0", "BBBB", "cW1 bW1 aV0 -"),
+        ("aV0 bW1 cW1", "FFFF", "aV0 bW1 cW1 -"),
+        ("aV0 bW1 cW1", "BBBB", "cW1 bW1 aV0 -"),
         (
-            &[
-                v(b'a', 0),
-                v(b'b', 0),
-                v(b'c', 0),
-                v(b'd', 0),
-                t(b'e', 1),
-                v(b'e', 0),
-            ],
-            &[v(b'a', 0), v(b'b', 0), v(b'c', 0), v(b'd', 0), t(b'e', 1)],
+            "aV999 aV998 bV999 bV998 cV999 cV998 cV997",
+            "FFFF",
+            "aV999 bV999 cV999 -",
         ),
         (
-            &[v(b'a', 0), t(b'b', 1), v(b'b', 0), t(b'c', 1), v(b'c', 0)],
-            &[v(b'a', 0), t(b'b', 1), t(b'c', 1)],
+            "aV999 aV998 bV999 bV998 cV999 cV998 cV997",
+            "BBBB",
+            "cV999 bV999 aV999 -",
         ),
-        (
-            &[v(b'a', 0), t(b'b', 1), t(b'c', 1)],
-            &[v(b'a', 0), t(b'b', 1), t(b'c', 1)],
-        ),
-        (
-            &[v(b'a', 0), w(b'b', 1), v(b'b', 0), w(b'c', 1), v(b'c', 0)],
-            &[v(b'a', 0), w(b'b', 1), w(b'c', 1)],
-        ),
-        (
-            &[v(b'a', 0), w(b'b', 1), w(b'c', 1)],
-            &[v(b'a', 0), w(b'b', 1), w(b'c', 1)],
-        ),
-        (
-            &[
-                v(b'a', 999),
-                v(b'a', 998),
-                v(b'b', 999),
-                v(b'b', 998),
-                v(b'c', 999),
-                v(b'c', 998),
-                v(b'c', 997),
-            ],
-            &[v(b'a', 999), v(b'b', 999), v(b'c', 999)],
-        ),
-        (
-            &[
-                t(b'a', 999),
-                v(b'a', 998),
-                t(b'b', 999),
-                t(b'b', 998),
-                v(b'b', 997),
-            ],
-            &[t(b'a', 999), t(b'b', 999)],
-        ),
-        (
-            &[t(b'a', 999), w(b'a', 998), v(b'a', 997), v(b'a', 996)],
-            &[t(b'a', 999)],
-        ),
-        (&[], &[]),
+        ("aT999 aV998 bT999 bT998 bV997", "FFF", "aT999 bT999 -"),
+        ("aT999 aV998 bT999 bT998 bV997", "BBB", "bT999 aT999 -"),
+        ("aT999 aW998 aV997 aV996", "FF", "aT999 -"),
+        ("aT999 aW998 aV997 aV996", "BB", "aT999 -"),
+        ("", "FB", "- -"),
+        ("aV2 aV1 bV2 bV1 cV1", "FBFBF", "aV2 cV1 bV2 - -"),
     ];
-    for (rows, newest) in cases {
-        let mut forward = Vec::new(rt.alloc());
-        let mut backward = Vec::new(rt.alloc());
-        let mut fronts = Vec::new(rt.alloc());
-        let mut backs = Vec::new(rt.alloc());
-        for row in newest {
-            forward.push(Some(*row))?;
-            fronts.push(Front)?;
-            backs.push(Back)?;
-        }
-        for row in newest.iter().rev() {
-            backward.push(Some(*row))?;
-        }
-        forward.push(None)?;
-        backward.push(None)?;
-        fronts.push(Front)?;
-        backs.push(Back)?;
-        assert_eq!(rt;
-            answers(rt.alloc(), rows, fronts.as_slice())?.as_slice(),
-            forward.as_slice()
-        );
-        assert_eq!(rt;
-            answers(rt.alloc(), rows, backs.as_slice())?.as_slice(),
-            backward.as_slice()
+    for (results, ends, wanted) in cases {
+        assert!(rt;
+            answers(rt.alloc(), results, ends, wanted)?,
+            "{results} at {ends}"
         );
     }
-    Ok(())
-}
-
-#[test]
-fn gives_each_key_once_to_both_ends_in_turn(rt: HostRuntime) -> Result<(), Fail> {
-    let rows = [v(b'a', 2), v(b'a', 1), v(b'b', 2), v(b'b', 1), v(b'c', 1)];
-    let ends = [Front, Back, Front, Back, Front];
-    let wanted = [
-        Some(v(b'a', 2)),
-        Some(v(b'c', 1)),
-        Some(v(b'b', 2)),
-        None,
-        None,
-    ];
-    assert_eq!(rt;
-        answers(rt.alloc(), &rows, &ends)?.as_slice(),
-        wanted.as_slice()
-    );
     Ok(())
 }

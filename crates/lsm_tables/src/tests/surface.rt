@@ -1,29 +1,47 @@
 use super::{ROWS, table_of};
 use crate::HEADER_LEN;
 use lsm_sorted::Ranged;
-use sst_blocks::Block;
+use sst_blocks::{Block, Error};
 use std::alloc::Global;
 use std::ops::Bound;
 use std::test::Fail;
 
+// Whether a table says its id, the ends of its range and the sizes of what it has pinned.
+fn shows_itself(alloc: Global) -> Result<bool, Error> {
+    let table = table_of(alloc, &ROWS, 0)?;
+    let text = format!(in alloc; "{table:?}")?;
+    Ok(
+        text.starts_with("Table:1(")
+            && table.key_range().min().as_slice() == b"a".as_slice()
+            && table.key_range().max().as_slice() == b"b".as_slice()
+            && table.pinned_block_index_size() > 27
+            && table.pinned_filter_size() == 0
+            && table.filter_size() == 0,
+    )
+}
+
 #[test]
 fn a_table_shows_its_id_and_its_range(rt: HostRuntime) -> Result<(), Fail> {
-    let table = table_of(rt.alloc(), &ROWS, 0)?;
-    assert_eq!(rt; table.key_range().min().as_slice(), b"a".as_slice());
-    assert_eq!(rt; table.key_range().max().as_slice(), b"b".as_slice());
-    let text = format!(in rt.alloc(); "{table:?}")?;
-    assert!(rt; text.starts_with("Table:1("));
+    assert!(rt; shows_itself(rt.alloc())?);
     assert_eq!(rt; HEADER_LEN, Block::<Global>::HEADER_LEN);
     Ok(())
 }
 
+// Whether a table of `a` to `b` overlaps two bounds.
+fn overlaps(alloc: Global, low: Bound<&[u8]>, high: Bound<&[u8]>) -> Result<bool, Error> {
+    Ok(table_of(alloc, &ROWS, 0)?.check_key_range_overlap(&(low, high)))
+}
+
 #[test]
 fn a_table_overlaps_the_bounds_that_its_range_reaches(rt: HostRuntime) -> Result<(), Fail> {
-    let table = table_of(rt.alloc(), &ROWS, 0)?;
     let (a, b, c) = (b"a".as_slice(), b"b".as_slice(), b"c".as_slice());
-    assert!(rt; table.check_key_range_overlap(&(Bound::Unbounded, Bound::Unbounded)));
-    assert!(rt; table.check_key_range_overlap(&(Bound::Included(b), Bound::Included(c))));
-    assert!(rt; !table.check_key_range_overlap(&(Bound::Excluded(b), Bound::Unbounded)));
-    assert!(rt; !table.check_key_range_overlap(&(Bound::Unbounded, Bound::Excluded(a))));
+    for (low, high, expected) in [
+        (Bound::Unbounded, Bound::Unbounded, true),
+        (Bound::Included(b), Bound::Included(c), true),
+        (Bound::Excluded(b), Bound::Unbounded, false),
+        (Bound::Unbounded, Bound::Excluded(a), false),
+    ] {
+        assert_eq!(rt; overlaps(rt.alloc(), low, high)?, expected);
+    }
     Ok(())
 }

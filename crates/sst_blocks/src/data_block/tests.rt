@@ -2,13 +2,14 @@ ghost use Rattle.std.specs.Prelude.{◌≡◌, ◌<◌, ◌^◌, true, length};
 ghost use Rattle.std.specs.Option.{option_map};
 ghost use Rattle.sst_blocks.specs.Strict.{IsStrict, may_follow};
 
-use super::entry_starts;
+use super::{Iter, entry_starts};
+use crate::Direction::{Back, Front};
 use crate::{
-    Block, BlockType, DataBlock, Error, InternalValue, IterItem, SeqNo, Slice, TableVersion,
-    ValueType, data_block_bound,
+    Block, BlockType, DataBlock, Direction, Error, InternalValue, IterItem, SeqNo, Slice,
+    TableVersion, ValueType, answer_at, data_block_bound,
 };
 use refusing::{Refusing, each_refused};
-use std::alloc::Allocator;
+use std::alloc::{Allocator, Global};
 use std::test::Fail;
 
 fn entry<A: Allocator + Clone>(
@@ -147,49 +148,74 @@ fn entries_are_written_behind_what_was_there(rt: HostRuntime) -> Result<(), Fail
     Ok(())
 }
 
+// The number of the entry that is found in the block of five, or 99 where there is none.
+fn found_in_five(alloc: Global, key: &[u8], seqno: SeqNo) -> Result<SeqNo, Error> {
+    let block = written_and_loaded(alloc, &five_entries(alloc)?)?;
+    let found = block.point_read(key, seqno)?;
+    Ok(found.map_or(99, |item| item.key.seqno))
+}
+
 #[test]
 fn a_point_read_finds_the_newest_version_below_a_number(rt: HostRuntime) -> Result<(), Fail> {
-    let items = five_entries(rt.alloc())?;
-    let block = written_and_loaded(rt.alloc(), &items)?;
-    assert_eq!(rt; block.len(), 5);
-    // A key and a number, and the place of the entry that is found, or 5 for none.
-    let reads: [(&[u8], SeqNo, usize); 17] = [
-        (b"", u64::MAX, 5),
-        (b"a", u64::MAX, 0),
-        (b"a", 10, 0),
-        (b"a", 9, 1),
-        (b"a", 8, 1),
-        (b"a", 7, 2),
-        (b"a", 6, 2),
-        (b"a", 5, 5),
-        (b"a", 0, 5),
-        (b"aa", u64::MAX, 5),
-        (b"b", u64::MAX, 5),
-        (b"c", 1, 3),
-        (b"c", 0, 5),
-        (b"d", u64::MAX, 5),
-        (b"e", 4, 4),
-        (b"e", 3, 5),
-        (b"f", u64::MAX, 5),
+    let reads: [(&[u8], SeqNo, SeqNo); 17] = [
+        (b"", u64::MAX, 99),
+        (b"a", u64::MAX, 9),
+        (b"a", 10, 9),
+        (b"a", 9, 7),
+        (b"a", 8, 7),
+        (b"a", 7, 5),
+        (b"a", 6, 5),
+        (b"a", 5, 99),
+        (b"a", 0, 99),
+        (b"aa", u64::MAX, 99),
+        (b"b", u64::MAX, 99),
+        (b"c", 1, 0),
+        (b"c", 0, 99),
+        (b"d", u64::MAX, 99),
+        (b"e", 4, 3),
+        (b"e", 3, 99),
+        (b"f", u64::MAX, 99),
     ];
-    for (key, seqno, place) in &reads {
-        let found = block.point_read(key, *seqno)?;
-        assert!(rt;
-            found.as_ref() == items.get(*place),
-            "{key:?} below {seqno}"
-        );
+    for (key, seqno, found) in reads {
+        assert_eq!(rt; found_in_five(rt.alloc(), key, seqno)?, found);
     }
     Ok(())
 }
 
+// Whether a point read finds a@7, a tombstone, and c@0, a weak one, and e@3 with its value.
+fn finds_whole_entries(alloc: Global) -> Result<bool, Error> {
+    let items = five_entries(alloc)?;
+    let block = written_and_loaded(alloc, &items)?;
+    Ok(
+        block.len() == 5
+            && block.point_read(b"a", 9)?.as_ref() == items.get(1)
+            && block.point_read(b"c", 1)?.as_ref() == items.get(3)
+            && block.point_read(b"e", 4)?.as_ref() == items.get(4),
+    )
+}
+
+#[test]
+fn a_point_read_finds_entries_as_they_were_written(rt: HostRuntime) -> Result<(), Fail> {
+    assert!(rt; finds_whole_entries(rt.alloc())?);
+    Ok(())
+}
+
+// Whether a block without entries gives none.
+fn has_none(alloc: Global) -> Result<bool, Error> {
+    let count = [0; 4];
+    let block = load(alloc, TableVersion::V3, &count)?;
+    let mut iter = block.iter();
+    Ok(
+        block.is_empty()
+            && block.point_read(b"a", u64::MAX)?.is_none()
+            && iter.next().is_none()
+            && iter.next_back().is_none(),
+    )
+}
+
 #[test]
 fn a_block_without_entries_has_none(rt: HostRuntime) -> Result<(), Fail> {
-    let count = [0; 4];
-    let block = load(rt.alloc(), TableVersion::V3, &count)?;
-    assert!(rt; block.is_empty());
-    assert!(rt; block.point_read(b"a", u64::MAX)?.is_none());
-    assert!(rt; block.iter().next().is_none());
-    assert!(rt; block.iter().next_back().is_none());
+    assert!(rt; has_none(rt.alloc())?);
     Ok(())
 }
 
@@ -201,28 +227,29 @@ fn number<A: Allocator>(answer: Option<IterItem<A>>) -> Result<SeqNo, Error> {
     }
 }
 
-// The numbers of the first and the last entry that a seek leaves, and whether it says that it leaves one.
-fn left_by<A: Allocator>(
-    block: &DataBlock<A>,
-    seek: &str,
-    key: &[u8],
-) -> Result<(SeqNo, SeqNo, bool), Error> {
-    let mut iter = block.iter();
-    let any = match seek {
+// Seeks in a block, and answers whether that leaves an entry.
+fn seek(iter: &mut Iter<'_>, to: &str, key: &[u8]) -> bool {
+    match to {
         "at least" => iter.seek(key),
         "above" => iter.seek_exclusive(key),
         "at most" => iter.seek_upper(key),
         _ => iter.seek_upper_exclusive(key),
-    };
-    let first = number(iter.next())?;
-    let last = number(iter.next_back())?;
-    Ok((first, last, any))
+    }
+}
+
+// Whether a seek in the block of five leaves a first and a last entry of these numbers.
+fn leaves(alloc: Global, to: &str, key: &[u8], first: SeqNo, last: SeqNo) -> Result<bool, Error> {
+    let block = written_and_loaded(alloc, &five_entries(alloc)?)?;
+    let mut iter = block.iter();
+    Ok(
+        seek(&mut iter, to, key) == (first != 99)
+            && number(iter.next())? == first
+            && number(iter.next_back())? == last,
+    )
 }
 
 #[test]
 fn seeks_narrow_to_the_entries_on_one_side_of_a_key(rt: HostRuntime) -> Result<(), Fail> {
-    let items = five_entries(rt.alloc())?;
-    let block = written_and_loaded(rt.alloc(), &items)?;
     // The last entry is 99 where there are fewer than two.
     let seeks: [(&str, &[u8], SeqNo, SeqNo); 17] = [
         ("at least", b"a", 9, 3),
@@ -243,41 +270,55 @@ fn seeks_narrow_to_the_entries_on_one_side_of_a_key(rt: HostRuntime) -> Result<(
         ("below", b"d", 9, 0),
         ("below", b"f", 9, 3),
     ];
-    for (seek, key, first, last) in &seeks {
-        let answer = left_by(&block, seek, key)?;
-        assert_eq!(rt; answer, (*first, *last, *first != 99), "{seek} {key:?}");
+    for (to, key, first, last) in seeks {
+        assert!(rt;
+            leaves(rt.alloc(), to, key, first, last)?,
+            "{to}: {first} to {last}"
+        );
     }
     Ok(())
 }
 
+// Whether the block of five gives these numbers at these ends.
+fn deals(alloc: Global, answers: &[(Direction, SeqNo)]) -> Result<bool, Error> {
+    let block = written_and_loaded(alloc, &five_entries(alloc)?)?;
+    let mut iter = block.iter();
+    for (end, wanted) in answers {
+        if number(answer_at(&mut iter, *end))? != *wanted {
+            return Ok(false);
+        }
+    }
+    Ok(true)
+}
+
 #[test]
 fn both_ends_deal_one_window(rt: HostRuntime) -> Result<(), Fail> {
-    let items = five_entries(rt.alloc())?;
-    let block = written_and_loaded(rt.alloc(), &items)?;
+    let answers = [
+        (Front, 9),
+        (Back, 3),
+        (Front, 7),
+        (Back, 0),
+        (Back, 5),
+        (Front, 99),
+        (Back, 99),
+    ];
+    assert!(rt; deals(rt.alloc(), &answers)?);
+    Ok(())
+}
+
+// Whether edges that have crossed leave nothing, whatever is sought later.
+fn crossed_edges_stay(alloc: Global) -> Result<bool, Error> {
+    let block = written_and_loaded(alloc, &five_entries(alloc)?)?;
     let mut iter = block.iter();
-    for (from_front, expected) in [
-        (true, 9),
-        (false, 3),
-        (true, 7),
-        (false, 0),
-        (false, 5),
-        (true, 99),
-        (false, 99),
-    ] {
-        let answer = if from_front {
-            iter.next()
-        } else {
-            iter.next_back()
-        };
-        assert_eq!(rt; number(answer)?, expected);
-    }
-    // The edges cross, and a later seek widens nothing.
-    let mut iter = block.iter();
-    assert!(rt; iter.seek_exclusive(b"a"));
-    assert!(rt; !iter.seek_upper(b"a"));
-    assert!(rt; !iter.seek(b"a"));
-    assert_eq!(rt; number(iter.next())?, 99);
-    assert_eq!(rt; number(iter.next_back())?, 99);
+    let above = iter.seek_exclusive(b"a");
+    let crossed = iter.seek_upper(b"a");
+    let later = iter.seek(b"a");
+    Ok(above && !crossed && !later && iter.next().is_none() && iter.next_back().is_none())
+}
+
+#[test]
+fn a_later_seek_widens_no_window(rt: HostRuntime) -> Result<(), Fail> {
+    assert!(rt; crossed_edges_stay(rt.alloc())?);
     Ok(())
 }
 
@@ -331,11 +372,7 @@ fn payloads_are_read_where_they_are_in_the_grammar(rt: HostRuntime) -> Result<()
         (2, &[[0, 1, 1, 1, 98], [0, 2, 1, 1, 97]], false),
     ];
     for (count, entries, good) in cases {
-        assert_eq!(rt;
-            is_read(rt.alloc(), count, entries)?,
-            good,
-            "{count} {entries:?}"
-        );
+        assert_eq!(rt; is_read(rt.alloc(), count, entries)?, good);
     }
     Ok(())
 }
@@ -393,21 +430,39 @@ fn many_entries<A: Allocator + Clone>(alloc: A) -> Result<Vec<InternalValue<A>, 
     Ok(items)
 }
 
-#[test]
-fn a_block_of_four_gibibytes_is_refused(rt: HostRuntime) -> Result<(), Fail> {
-    let alloc = rt.alloc();
-    let mut items = many_entries(alloc)?;
-    assert_eq!(rt; data_block_bound(&items), 28 + 4096 * (17 + 2 + 1048576));
-    assert!(rt; are_strict(&items));
+// How encoding some entries behind the byte 7 is refused, where that leaves the byte alone.
+fn refusal<A: Allocator + Clone>(
+    alloc: A,
+    items: &[InternalValue<A>],
+) -> Result<Option<Error>, Error> {
     let mut buf = Vec::new(alloc);
     buf.push(7)?;
-    assert!(rt; DataBlock::encode_into(&mut buf, &items, 16, 0) == Err(Error::BlockTooLarge));
-    // A key that is too long is told first.
+    if !are_strict(items) {
+        return Ok(None);
+    }
+    let refused = DataBlock::encode_into(&mut buf, items, 16, 0).err();
+    Ok(refused.filter(|_| buf.as_slice() == [7].as_slice()))
+}
+
+#[test]
+fn a_block_of_four_gibibytes_is_refused(rt: HostRuntime) -> Result<(), Fail> {
+    let items = many_entries(rt.alloc())?;
+    assert_eq!(rt; data_block_bound(&items), 28 + 4096 * (17 + 2 + 1048576));
+    assert_eq!(rt; refusal(rt.alloc(), &items)?, Some(Error::BlockTooLarge));
+    Ok(())
+}
+
+// The refusal of as many entries, and one behind them whose key is too long.
+fn refusal_of_a_long_key(alloc: Global) -> Result<Option<Error>, Error> {
+    let mut items = many_entries(alloc)?;
     let key = vec![in alloc; 0xffu8; 1048577]?;
     items.push(entry(alloc, &key, 1, ValueType::Value, b"")?)?;
-    assert!(rt; are_strict(&items));
-    assert!(rt; DataBlock::encode_into(&mut buf, &items, 16, 0) == Err(Error::KeyTooLong));
-    assert!(rt; buf.as_slice() == [7].as_slice());
+    refusal(alloc, &items)
+}
+
+#[test]
+fn a_key_that_is_too_long_is_told_before_the_block(rt: HostRuntime) -> Result<(), Fail> {
+    assert_eq!(rt; refusal_of_a_long_key(rt.alloc())?, Some(Error::KeyTooLong));
     Ok(())
 }
 
@@ -430,15 +485,19 @@ fn each_request_refused_is_answered_so(rt: HostRuntime) -> Result<(), Fail> {
         Err(_) => false,
     });
     assert_eq!(rt; answers, Ok(19));
-    // A refused growth leaves the buffer as it was.
-    let heap = Refusing::new(rt.alloc(), 7);
-    let mut items = Vec::new(&heap);
-    items.push(entry(&heap, b"a", 1, ValueType::Value, b"x")?)?;
-    assert!(rt; are_strict(&items));
-    let mut buf = Vec::new(&heap);
-    buf.push(7)?;
-    assert!(rt; DataBlock::encode_into(&mut buf, &items, 16, 0) == Err(Error::OutOfMemory));
-    assert!(rt; buf.as_slice() == [7].as_slice());
-    assert_eq!(rt; heap.requests(), 7);
+    Ok(())
+}
+
+// The refusal of one entry in an allocator that refuses its sixth request, and how many it was asked.
+fn refusal_of_the_sixth(heap: &Refusing) -> Result<(Option<Error>, usize), Error> {
+    let items = [entry(heap, b"a", 1, ValueType::Value, b"x")?];
+    let refused = refusal(heap, &items)?;
+    Ok((refused, heap.requests()))
+}
+
+#[test]
+fn a_refused_growth_leaves_the_buffer_as_it_was(rt: HostRuntime) -> Result<(), Fail> {
+    let heap = Refusing::new(rt.alloc(), 6);
+    assert_eq!(rt; refusal_of_the_sixth(&heap)?, (Some(Error::OutOfMemory), 6));
     Ok(())
 }

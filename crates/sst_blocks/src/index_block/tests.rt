@@ -9,7 +9,7 @@ use crate::{
     TableVersion, index_block_bound,
 };
 use refusing::{Refusing, each_refused};
-use std::alloc::Allocator;
+use std::alloc::{Allocator, Global};
 use std::test::Fail;
 
 fn handle<A: Allocator + Clone>(
@@ -245,15 +245,20 @@ fn wrong_last<A: Allocator>(block: &IndexBlock<A>) -> Result<Option<u64>, Error>
     Ok(None)
 }
 
+// Whether all seeks in the block of four lead where they should.
+fn seeks_lead_right(alloc: Global) -> Result<bool, Error> {
+    let block = written_and_loaded(alloc, &four_handles(alloc)?)?;
+    Ok(
+        wrong_first(&block)?.is_none()
+            && wrong_last(&block)?.is_none()
+            && after_both_seeks(&block, b"b", 4, b"c")? == (20, 10, 99, 99)
+            && after_both_seeks(&block, b"d", 9, b"a")? == (99, 99, 99, 99),
+    )
+}
+
 #[test]
 fn seeks_narrow_to_the_handles_that_may_hold_a_key(rt: HostRuntime) -> Result<(), Fail> {
-    let alloc = rt.alloc();
-    let handles = four_handles(alloc)?;
-    let block = written_and_loaded(alloc, &handles)?;
-    assert_eq!(rt; wrong_first(&block)?, None);
-    assert_eq!(rt; wrong_last(&block)?, None);
-    assert!(rt; after_both_seeks(&block, b"b", 4, b"c")? == (20, 10, 99, 99));
-    assert!(rt; after_both_seeks(&block, b"d", 9, b"a")? == (99, 99, 99, 99));
+    assert!(rt; seeks_lead_right(rt.alloc())?);
     Ok(())
 }
 
@@ -309,40 +314,61 @@ fn payloads_out_of_the_grammar_are_refused(rt: HostRuntime) -> Result<(), Fail> 
             "{count}"
         );
     }
-    // Fewer bytes than a count has, a head that is cut short, and the key length of the other version.
-    let old = ONE_IN_V3;
-    for bytes in [&old[..3], &old[..20], old.as_slice()] {
-        assert!(rt; bytes.len() < 30);
-        let answer = load(alloc, TableVersion::V4, bytes);
-        assert!(rt; matches!(&answer, Err(Error::InvalidBlock)));
-    }
     Ok(())
 }
 
+// Whether a payload of the other version, cut to this length, is refused.
+fn is_refused(alloc: Global, len: usize) -> bool {
+    let old = ONE_IN_V3;
+    match old.get(..len) {
+        Some(bytes) if bytes.len() < 30 => matches!(
+            load(alloc, TableVersion::V4, bytes),
+            Err(Error::InvalidBlock)
+        ),
+        _ => false,
+    }
+}
+
 #[test]
-fn what_is_too_long_is_refused_and_writes_nothing(rt: HostRuntime) -> Result<(), Fail> {
-    let alloc = rt.alloc();
-    let mut bytes = vec![in alloc; 0u8; 1048577]?;
+fn payloads_cut_short_or_of_the_other_version_are_refused(rt: HostRuntime) {
+    // Fewer bytes than a count has, a head that is cut short, and the key length of the other version.
+    for len in [3, 20, 27] {
+        assert!(rt; is_refused(rt.alloc(), len), "{len}");
+    }
+}
+
+// The refusal of encoding some handles behind the byte 7, where that leaves the byte alone.
+fn refusal<A: Allocator + Clone>(
+    alloc: A,
+    handles: &[KeyedBlockHandle<A>],
+) -> Result<Option<Error>, Error> {
     let mut buf = Vec::new(alloc);
     buf.push(7)?;
-    let mut handles = Vec::new(alloc);
-    handles.push(handle(alloc, &bytes, 1, 0, 24)?)?;
-    assert!(rt; are_strict(&handles));
-    assert!(rt; IndexBlock::encode_into(&mut buf, &handles) == Err(Error::KeyTooLong));
-    assert!(rt; buf.as_slice() == [7].as_slice());
-    bytes.truncate(1048576);
-    handles.clear();
-    handles.push(handle(alloc, &bytes, 1, 0, 24)?)?;
-    assert!(rt; are_strict(&handles));
-    IndexBlock::encode_into(&mut buf, &handles)?;
-    assert_eq!(rt; buf.len(), 1 + 4 + 24 + 1048576);
-    Ok(())
+    if !are_strict(handles) {
+        return Ok(None);
+    }
+    let refused = IndexBlock::encode_into(&mut buf, handles).err();
+    Ok(refused.filter(|_| buf.as_slice() == [7].as_slice()))
+}
+
+// The refusal of one handle whose end key has this length.
+fn refusal_of_a_key(alloc: Global, len: usize) -> Result<Option<Error>, Error> {
+    let end_key = vec![in alloc; 0u8; len]?;
+    refusal(alloc, &[handle(alloc, &end_key, 1, 0, 24)?])
 }
 
 #[test]
-fn a_block_of_four_gibibytes_is_refused(rt: HostRuntime) -> Result<(), Fail> {
-    let alloc = rt.alloc();
-    // Keys of 2^20 bytes that share their memory: key i begins with i, the high byte first.
+fn keys_of_a_mebibyte_are_taken_and_longer_ones_refused(rt: HostRuntime) -> Result<(), Fail> {
+    assert_eq!(rt; refusal_of_a_key(rt.alloc(), 1048576)?, None);
+    assert_eq!(rt;
+        refusal_of_a_key(rt.alloc(), 1048577)?,
+        Some(Error::KeyTooLong)
+    );
+    Ok(())
+}
+
+// 4,096 handles whose end keys of 2^20 bytes share their memory: key i begins with i, the high byte first.
+fn many_handles(alloc: Global) -> Result<Vec<KeyedBlockHandle>, Error> {
     let mut bytes = Vec::new(alloc);
     for i in 0..4096u16 {
         bytes.extend_from_slice(&i.to_be_bytes())?;
@@ -351,17 +377,21 @@ fn a_block_of_four_gibibytes_is_refused(rt: HostRuntime) -> Result<(), Fail> {
     let shared = Slice::from_vec(bytes)?;
     let mut handles = Vec::new(alloc);
     for i in 0..4096usize {
-        assert!(rt; 2 * i + 1048576 <= shared.len());
+        if 2 * i + 1048576 > shared.len() {
+            return Err(Error::InvalidBlock);
+        }
         let end_key = shared.slice(2 * i, 2 * i + 1048576)?;
         let inner = BlockHandle::new(BlockOffset(0), 24);
         handles.push(KeyedBlockHandle::new(end_key, 1, inner))?;
     }
+    Ok(handles)
+}
+
+#[test]
+fn a_block_of_four_gibibytes_is_refused(rt: HostRuntime) -> Result<(), Fail> {
+    let handles = many_handles(rt.alloc())?;
     assert_eq!(rt; index_block_bound(&handles), 28 + 4096 * (24 + 1048576));
-    assert!(rt; are_strict(&handles));
-    let mut buf = Vec::new(alloc);
-    buf.push(7)?;
-    assert!(rt; IndexBlock::encode_into(&mut buf, &handles) == Err(Error::BlockTooLarge));
-    assert!(rt; buf.as_slice() == [7].as_slice());
+    assert_eq!(rt; refusal(rt.alloc(), &handles)?, Some(Error::BlockTooLarge));
     Ok(())
 }
 
@@ -384,14 +414,19 @@ fn each_request_refused_is_answered_so(rt: HostRuntime) -> Result<(), Fail> {
         Err(_) => false,
     });
     assert_eq!(rt; answers, Ok(13));
-    // A refused growth leaves the buffer as it was.
+    Ok(())
+}
+
+// The refusal of one handle in an allocator, and how many requests it was asked.
+fn refusal_and_requests(heap: &Refusing) -> Result<(Option<Error>, usize), Error> {
+    let handles = [handle(heap, b"a", 1, 0, 47)?];
+    let refused = refusal(heap, &handles)?;
+    Ok((refused, heap.requests()))
+}
+
+#[test]
+fn a_refused_growth_leaves_the_buffer_as_it_was(rt: HostRuntime) -> Result<(), Fail> {
     let heap = Refusing::new(rt.alloc(), 4);
-    let mut handles = Vec::new(&heap);
-    handles.push(handle(&heap, b"a", 1, 0, 47)?)?;
-    assert!(rt; are_strict(&handles));
-    let mut buf = Vec::new(&heap);
-    assert!(rt; IndexBlock::encode_into(&mut buf, &handles) == Err(Error::OutOfMemory));
-    assert_eq!(rt; buf.len(), 0);
-    assert_eq!(rt; heap.requests(), 4);
+    assert_eq!(rt; refusal_and_requests(&heap)?, (Some(Error::OutOfMemory), 4));
     Ok(())
 }

@@ -1,11 +1,11 @@
 use crate::block::Header;
 use crate::fnv::{Fnv1a, update_both};
 use crate::{
-    Block, BlockOffset, BlockSource, BlockType, CompressionType, Error, Section, SectionName,
+    Block, BlockHandle, BlockOffset, BlockSource, BlockType, CompressionType, Error, SectionName,
     SectionWriter, Slice, TableVersion, stored_table,
 };
 use refusing::each_refused;
-use std::alloc::Allocator;
+use std::alloc::{Allocator, Global};
 use std::test::Fail;
 
 fn hash_of(bytes: &[u8]) -> u64 {
@@ -14,9 +14,17 @@ fn hash_of(bytes: &[u8]) -> u64 {
     hash.finish()
 }
 
+// The hashes of two byte strings, made side by side.
+fn hashes_of(one: &[u8], other: &[u8]) -> (u64, u64) {
+    let mut hash = Fnv1a::new();
+    let mut other_hash = Fnv1a::new();
+    update_both(&mut hash, one, &mut other_hash, other);
+    (hash.finish(), other_hash.finish())
+}
+
 // The vectors are those of http://www.isthe.com/chongo/src/fnv/test_fnv.c.
 #[test]
-fn hashes_alone_and_two_at_once(rt: HostRuntime) -> Result<(), Fail> {
+fn hashes_alone_and_two_at_once(rt: HostRuntime) {
     let vectors: [(&[u8], u64); 4] = [
         (b"", 0xcbf2_9ce4_8422_2325),
         (b"a", 0xaf63_dc4c_8601_ec8c),
@@ -24,19 +32,11 @@ fn hashes_alone_and_two_at_once(rt: HostRuntime) -> Result<(), Fail> {
         (b"foobar", 0x8594_4171_f739_67e8),
     ];
     for (bytes, hash) in vectors {
-        assert_eq!(rt; hash_of(bytes), hash, "of {bytes:?}");
+        assert_eq!(rt; hash_of(bytes), hash);
         for (other_bytes, other_hash) in vectors {
-            let mut one = Fnv1a::new();
-            let mut other = Fnv1a::new();
-            update_both(&mut one, bytes, &mut other, other_bytes);
-            assert_eq!(rt;
-                (one.finish(), other.finish()),
-                (hash, other_hash),
-                "of {bytes:?} and {other_bytes:?}"
-            );
+            assert_eq!(rt; hashes_of(bytes, other_bytes), (hash, other_hash));
         }
     }
-    Ok(())
 }
 
 // The sections of the stored table, written again.
@@ -60,8 +60,24 @@ fn a_stored_table_is_written_again(rt: HostRuntime) -> Result<(), Fail> {
     let (bytes, checksum) = write_again(rt.alloc())?;
     assert!(rt; bytes.as_slice() == stored_table::bytes().as_slice());
     assert_eq!(rt; checksum, 0x30fc_eabc_de57_bd50);
-    let source = BlockSource::new(rt.alloc(), bytes)?;
-    let sections = [
+    Ok(())
+}
+
+// Where a section of what was written lies.
+fn lies(alloc: Global, name: SectionName) -> Result<Option<(u64, u64)>, Error> {
+    let (bytes, _) = write_again(alloc)?;
+    let source = BlockSource::new(alloc, bytes)?;
+    Ok(
+        source
+            .toc()
+            .section(name)
+            .map(|section| (section.position, section.len)),
+    )
+}
+
+#[test]
+fn sections_lie_where_they_were_written(rt: HostRuntime) -> Result<(), Fail> {
+    for (name, expected) in [
         (SectionName::Data, Some((0, 45))),
         (SectionName::Index, None),
         (SectionName::Tli, Some((45, 51))),
@@ -69,27 +85,24 @@ fn a_stored_table_is_written_again(rt: HostRuntime) -> Result<(), Fail> {
         (SectionName::FilterTli, None),
         (SectionName::TableVersion, Some((96, 1))),
         (SectionName::Meta, Some((97, 1041))),
-    ];
-    for (name, lies) in sections {
-        let expected = match lies {
-            None => None,
-            Some((position, len)) => Some(Section { position, len }),
-        };
-        assert_eq!(rt; source.toc().section(name), expected, "{name:?}");
+    ] {
+        assert_eq!(rt; lies(rt.alloc(), name)?, expected);
     }
-    let refused = each_refused(rt.alloc(), |heap, may_fail| match write_again(heap) {
-        Ok((bytes, checksum)) => bytes.as_slice() == stored_table::bytes().as_slice()
-            && checksum == 0x30fc_eabc_de57_bd50,
-        Err(Error::OutOfMemory) => may_fail,
-        Err(_) => false,
-    });
-    assert!(rt; refused.is_ok(), "{refused:?}");
     Ok(())
 }
 
 #[test]
-fn headers_and_blocks_as_bytes(rt: HostRuntime) -> Result<(), Fail> {
-    // the block of one entry in either version: its header, and what follows
+fn each_request_of_a_section_writer_refused(rt: HostRuntime) {
+    let refused = each_refused(rt.alloc(), |heap, may_fail| match write_again(heap) {
+        Ok((bytes, _)) => bytes.as_slice() == stored_table::bytes().as_slice(),
+        Err(Error::OutOfMemory) => may_fail,
+        Err(_) => false,
+    });
+    assert!(rt; refused.is_ok());
+}
+
+#[test]
+fn a_header_as_bytes(rt: HostRuntime) {
     let old = Header {
         version: TableVersion::V3,
         data_len: 21,
@@ -97,35 +110,39 @@ fn headers_and_blocks_as_bytes(rt: HostRuntime) -> Result<(), Fail> {
         checksum: 0x1c39_83e9_2eaf_2c44,
     };
     assert!(rt; stored_table::bytes().starts_with(&old.encode(BlockType::Data)));
-    let payload = [
-        1, 0, 0, 0, 0, 1, 0, 0, 0, 0, 0, 0, 0, 1, 0, 0, 0, 1, 0, 0, 0, b'a', b'x',
-    ];
-    let header = [
-        0x4c, 0x42, 0x4b, 0x32, 0, 0, 0, 0, 0x17, 0, 0, 0, 0x17, 0, 0, 0, 0x24, 0x49, 0xa9, 0x5e,
-        0x44, 0x4c, 0x6e, 0x97,
-    ];
-    let mut writer = SectionWriter::new(rt.alloc())?;
+}
+
+// The block of one entry in the new version.
+const HEADER: [u8; 24] = [
+    0x4c, 0x42, 0x4b, 0x32, 0, 0, 0, 0, 0x17, 0, 0, 0, 0x17, 0, 0, 0, 0x24, 0x49, 0xa9, 0x5e, 0x44,
+    0x4c, 0x6e, 0x97,
+];
+
+const PAYLOAD: [u8; 23] = [
+    1, 0, 0, 0, 0, 1, 0, 0, 0, 0, 0, 0, 0, 1, 0, 0, 0, 1, 0, 0, 0, b'a', b'x',
+];
+
+// Where the block of one entry and that of a filter behind it lie, and the bytes with them.
+fn two_blocks(alloc: Global) -> Result<(BlockHandle, BlockHandle, Slice, u128), Error> {
+    let mut writer = SectionWriter::new(alloc)?;
     writer.start(SectionName::Data)?;
-    let first = Block::write_into(
-        &mut writer,
-        &payload,
-        BlockType::Data,
-        CompressionType::None,
-    )?;
-    let second = Block::write_into(
-        &mut writer,
-        b"\x06\xff",
-        BlockType::Filter,
-        CompressionType::None,
-    )?;
+    let uncompressed = CompressionType::None;
+    let payload = PAYLOAD;
+    let first = Block::write_into(&mut writer, &payload, BlockType::Data, uncompressed)?;
+    let second = Block::write_into(&mut writer, b"\x06\xff", BlockType::Filter, uncompressed)?;
+    let (bytes, checksum) = writer.finish()?;
+    Ok((first, second, bytes, checksum.0))
+}
+
+#[test]
+fn blocks_as_bytes(rt: HostRuntime) -> Result<(), Fail> {
+    let (first, second, bytes, checksum) = two_blocks(rt.alloc())?;
     assert_eq!(rt; (first.offset(), first.size()), (BlockOffset(0), 47));
     assert_eq!(rt; (second.offset(), second.size()), (BlockOffset(47), 26));
-    assert_eq!(rt; writer.position(), 73);
-    let (bytes, checksum) = writer.finish()?;
     let bytes = bytes.as_slice();
-    assert!(rt; bytes.starts_with(&header));
-    assert_eq!(rt; bytes.get(24..47), Some(payload.as_slice()));
-    assert_eq!(rt; bytes.get(71..73), Some(b"\x06\xff".as_slice()));
-    assert_eq!(rt; checksum.0, u128::from(hash_of(bytes)));
+    assert!(rt; bytes.starts_with(&HEADER));
+    assert!(rt; bytes.get(24..47) == Some(PAYLOAD.as_slice()));
+    assert!(rt; bytes.get(71..73) == Some(b"\x06\xff".as_slice()));
+    assert_eq!(rt; checksum, u128::from(hash_of(bytes)));
     Ok(())
 }

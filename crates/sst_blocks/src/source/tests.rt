@@ -18,36 +18,6 @@ fn told<A: Allocator>(answer: Result<Block<A>, Error>) -> Result<(BlockType, usi
     }
 }
 
-#[test]
-fn loads_from_a_stored_table(rt: HostRuntime) -> Result<(), Fail> {
-    let bytes = Slice::from(rt.alloc(), stored_table::bytes())?;
-    let source = BlockSource::new(rt.alloc(), bytes)?;
-    let mut opened = Opened::none();
-    let other_kind = Err(Error::InvalidTag(TagName::BlockType, 0));
-    let loads = [
-        (0, 45, BlockType::Data, Ok((BlockType::Data, 21))),
-        (0, 23, BlockType::Data, Err(Error::Truncated)),
-        (0, 44, BlockType::Data, Err(Error::InvalidHeader)),
-        (0, 45, BlockType::Index, other_kind),
-    ];
-    for (offset, size, kind, expected) in loads {
-        let answer = told(source.load(&handle(offset, size), kind, &mut opened));
-        assert_eq!(rt; answer, expected, "{size} bytes at {offset} as {kind:?}");
-    }
-    let answer = told(source.load_at(96, BlockType::Data, &mut opened));
-    assert_eq!(rt; answer, Err(Error::InvalidHeader));
-    let answer = told(source.load_at(1120, BlockType::Data, &mut opened));
-    assert_eq!(rt; answer, Err(Error::Truncated));
-    let expected = Opened {
-        data_loads: 5,
-        index_loads: 1,
-        filter_loads: 0,
-        meta_loads: 0,
-    };
-    assert_eq!(rt; opened, expected);
-    Ok(())
-}
-
 // The stored table with some bytes changed.
 fn changed<A: Allocator + Clone>(alloc: A, changes: &[(usize, u8)]) -> Result<Slice<A>, Error> {
     let mut bytes = Vec::from_slice(alloc, stored_table::bytes())?;
@@ -59,8 +29,33 @@ fn changed<A: Allocator + Clone>(alloc: A, changes: &[(usize, u8)]) -> Result<Sl
     Slice::from_vec(bytes)
 }
 
+// What a load from the stored table answers, with some bytes changed.
+fn loaded(
+    alloc: Global,
+    changes: &[(usize, u8)],
+    lies: BlockHandle,
+    kind: BlockType,
+) -> Result<(BlockType, usize), Error> {
+    let source = BlockSource::new(alloc, changed(alloc, changes)?)?;
+    told(source.load(&lies, kind, &mut Opened::none()))
+}
+
 #[test]
-fn the_first_fault_of_a_changed_block(rt: HostRuntime) -> Result<(), Fail> {
+fn loads_from_a_stored_table(rt: HostRuntime) {
+    let other_kind = Err(Error::InvalidTag(TagName::BlockType, 0));
+    for (size, kind, expected) in [
+        (45, BlockType::Data, Ok((BlockType::Data, 21))),
+        (23, BlockType::Data, Err(Error::Truncated)),
+        (44, BlockType::Data, Err(Error::InvalidHeader)),
+        (45, BlockType::Index, other_kind),
+    ] {
+        let answer = loaded(rt.alloc(), &[], handle(0, size), kind);
+        assert!(rt; answer == expected, "{size}");
+    }
+}
+
+#[test]
+fn the_first_fault_of_a_changed_block(rt: HostRuntime) {
     let kind_9 = Error::InvalidTag(TagName::BlockType, 9);
     let faults: [(&[(usize, u8)], Error); 9] = [
         (&[(0, 0)], Error::InvalidHeader),
@@ -75,81 +70,106 @@ fn the_first_fault_of_a_changed_block(rt: HostRuntime) -> Result<(), Fail> {
         (&[(3, 0x32)], Error::InvalidBlock),
     ];
     for (changes, fault) in faults {
-        let source = BlockSource::new(rt.alloc(), changed(rt.alloc(), changes)?)?;
-        let mut opened = Opened::none();
-        let answer = told(source.load(&handle(0, 45), BlockType::Data, &mut opened));
-        assert_eq!(rt; answer, Err(fault), "{changes:?}");
-        assert_eq!(rt; opened.data_loads, 1, "{changes:?}");
+        let answer = loaded(rt.alloc(), changes, handle(0, 45), BlockType::Data);
+        assert!(rt; answer == Err(fault), "{changes:?}");
+    }
+}
+
+// What loads at two positions of the stored table answer.
+fn loaded_at(alloc: Global, offset: u64) -> Result<(BlockType, usize), Error> {
+    let source = BlockSource::new(alloc, changed(alloc, &[])?)?;
+    told(source.load_at(offset, BlockType::Data, &mut Opened::none()))
+}
+
+#[test]
+fn loads_from_a_position_on(rt: HostRuntime) {
+    assert!(rt; loaded_at(rt.alloc(), 0) == Ok((BlockType::Data, 21)));
+    assert!(rt; loaded_at(rt.alloc(), 96) == Err(Error::InvalidHeader));
+    assert!(rt; loaded_at(rt.alloc(), 1120) == Err(Error::Truncated));
+}
+
+// The counts after a load that succeeds, two that are refused, and one of another kind that is.
+fn counted_loads(alloc: Global) -> Result<Opened, Error> {
+    let source = BlockSource::new(alloc, changed(alloc, &[])?)?;
+    let mut opened = Opened::none();
+    for (size, kind) in [
+        (45, BlockType::Data),
+        (23, BlockType::Data),
+        (45, BlockType::Index),
+    ] {
+        let _ = source.load(&handle(0, size), kind, &mut opened);
+    }
+    let _ = source.load_at(96, BlockType::Data, &mut opened);
+    Ok(opened)
+}
+
+#[test]
+fn each_load_is_counted(rt: HostRuntime) -> Result<(), Fail> {
+    let expected = Opened {
+        data_loads: 3,
+        index_loads: 1,
+        filter_loads: 0,
+        meta_loads: 0,
+    };
+    assert_eq!(rt; counted_loads(rt.alloc())?, expected);
+    Ok(())
+}
+
+// Whether the first bytes of the stored table, so many, have no trailer.
+fn has_no_trailer(alloc: Global, len: usize) -> Result<bool, Error> {
+    let bytes = stored_table::bytes();
+    if len >= bytes.len() {
+        return Ok(false);
+    }
+    let answer = BlockSource::new(alloc, Slice::from(alloc, &bytes[..len])?);
+    Ok(matches!(answer, Err(Error::InvalidTrailer)))
+}
+
+#[test]
+fn bytes_that_end_early_have_no_trailer(rt: HostRuntime) -> Result<(), Fail> {
+    for len in 0..stored_table::bytes().len() {
+        assert!(rt; has_no_trailer(rt.alloc(), len)?, "{len} bytes");
     }
     Ok(())
 }
 
-#[test]
-fn bytes_without_a_trailer(rt: HostRuntime) -> Result<(), Fail> {
-    let bytes = stored_table::bytes();
-    for len in 0..bytes.len() {
-        let front = Slice::from(rt.alloc(), &bytes[..len])?;
-        let answer = BlockSource::new(rt.alloc(), front);
-        assert!(rt; matches!(answer, Err(Error::InvalidTrailer)), "{len} bytes");
+// Whether the stored table with some bytes changed has a trailer.
+fn has_trailer(alloc: Global, changes: &[(usize, u8)]) -> Result<bool, Error> {
+    match BlockSource::new(alloc, changed(alloc, changes)?) {
+        Ok(_) => Ok(true),
+        Err(Error::InvalidTrailer) => Ok(false),
+        Err(error) => Err(error),
     }
-    let ff = u8::MAX;
+}
+
+// The stored table's first slot with a position of 2^64 - 1, and a length of as much or its own.
+fn with_no_position(alloc: Global, has_length: bool) -> Result<bool, Error> {
+    let mut changes = Vec::new(alloc);
+    for at in 1138..(if has_length { 1146 } else { 1154 }) {
+        changes.push((at, u8::MAX))?;
+    }
+    has_trailer(alloc, &changes)
+}
+
+#[test]
+fn a_trailer_lists_sections_within_the_body(rt: HostRuntime) -> Result<(), Fail> {
     // The slots begin at 1138, and the mark at 1250.
-    let trailers: [(&[(usize, u8)], bool); 6] = [
+    let trailers: [(&[(usize, u8)], bool); 4] = [
         (&[(1257, 0)], false),
         // a length of 2^32
         (&[(1178, 0), (1182, 1)], false),
         // one byte past the end of the body
         (&[(1242, 0x12)], false),
-        // a position of 2^64 - 1: the sum of both is 44 where it wraps
-        (
-            &[
-                (1138, ff),
-                (1139, ff),
-                (1140, ff),
-                (1141, ff),
-                (1142, ff),
-                (1143, ff),
-                (1144, ff),
-                (1145, ff),
-            ],
-            false,
-        ),
         // up to the end of the body
         (&[(1146, 0x72), (1147, 0x04)], true),
-        // no data section
-        (
-            &[
-                (1138, ff),
-                (1139, ff),
-                (1140, ff),
-                (1141, ff),
-                (1142, ff),
-                (1143, ff),
-                (1144, ff),
-                (1145, ff),
-                (1146, ff),
-                (1147, ff),
-                (1148, ff),
-                (1149, ff),
-                (1150, ff),
-                (1151, ff),
-                (1152, ff),
-                (1153, ff),
-            ],
-            true,
-        ),
     ];
     for (changes, is_taken) in trailers {
-        let answer = BlockSource::new(rt.alloc(), changed(rt.alloc(), changes)?);
-        match answer {
-            Ok(_) => assert!(rt; is_taken, "{changes:?}"),
-            Err(error) => assert_eq!(rt;
-                (error, is_taken),
-                (Error::InvalidTrailer, false),
-                "{changes:?}"
-            ),
-        }
+        assert_eq!(rt; has_trailer(rt.alloc(), changes)?, is_taken);
     }
+    // The sum of position and length is 44 where it wraps.
+    assert!(rt; !with_no_position(rt.alloc(), true)?);
+    // No data section.
+    assert!(rt; with_no_position(rt.alloc(), false)?);
     Ok(())
 }
 
@@ -183,26 +203,23 @@ fn sizes<L: LoadBlocks>(blocks: &mut L) -> Result<(usize, usize), Error> {
     Ok((first.size(), second.size()))
 }
 
+// What was loaded of the stored table, the counts, and where the blocks lie.
+fn listed(alloc: Global) -> Result<((usize, usize), Opened, Vec<u64>), Error> {
+    let source = BlockSource::new(alloc, changed(alloc, &[])?)?;
+    let mut listing = Listing {
+        source: Counted::new(&source),
+        offsets: Vec::new(alloc),
+    };
+    let sizes = sizes(&mut listing)?;
+    Ok((sizes, listing.source.opened(), listing.offsets))
+}
+
 #[test]
 fn a_source_that_lists_its_loads(rt: HostRuntime) -> Result<(), Fail> {
-    let bytes = Slice::from(rt.alloc(), stored_table::bytes())?;
-    let source = BlockSource::new(rt.alloc(), bytes)?;
-    let mut counted = Counted::new(&source);
-    assert_eq!(rt; sizes(&mut counted), Ok((21, 27)));
-    let expected = Opened {
-        data_loads: 1,
-        index_loads: 1,
-        filter_loads: 0,
-        meta_loads: 0,
-    };
-    assert_eq!(rt; counted.opened(), expected);
-    let mut listing = Listing {
-        source: counted,
-        offsets: Vec::new(rt.alloc()),
-    };
-    assert_eq!(rt; sizes(&mut listing), Ok((21, 27)));
-    assert_eq!(rt; listing.offsets.as_slice(), [0, 45].as_slice());
-    assert_eq!(rt; listing.source.opened().data_loads, 2);
+    let (sizes, opened, offsets) = listed(rt.alloc())?;
+    assert_eq!(rt; sizes, (21, 27));
+    assert_eq!(rt; (opened.data_loads, opened.index_loads), (1, 1));
+    assert_eq!(rt; offsets.as_slice(), [0, 45].as_slice());
     Ok(())
 }
 
@@ -220,10 +237,7 @@ fn each_request_of_a_load_refused(rt: HostRuntime) -> Result<(), Fail> {
         Err(Error::OutOfMemory) => may_fail,
         Err(_) => false,
     });
-    assert!(rt;
-        matches!(refused, Ok(requests) if requests > 3),
-        "{refused:?}"
-    );
+    assert!(rt; refused.is_ok_and(|requests| requests > 3));
     Ok(())
 }
 
@@ -263,7 +277,7 @@ fn filters_written_and_loaded(rt: HostRuntime) -> Result<(), Fail> {
     ];
     for (payload, is_short, expected) in filters {
         let answer = write_and_load(rt.alloc(), &payload, is_short);
-        assert_eq!(rt; answer, expected, "{payload:?}");
+        assert!(rt; answer == expected);
     }
     Ok(())
 }
