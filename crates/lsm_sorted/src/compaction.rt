@@ -1,4 +1,2 @@
 //! Compaction: older versions and tombstones that no reader needs are left out.
 pub mod stream;
-#[cfg(test)]
-mod tests;

@@ -24,12 +24,3 @@ pub use newest::newest_of;
 pub use optimize::{optimize_runs, overlap_chain};
 pub use run::{Indexed, Ranged, Run};
 pub use tournament::Tournament;
-
-#[cfg(test)]
-mod heap_tests;
-#[cfg(test)]
-mod merge_tests;
-#[cfg(test)]
-mod ranges_tests;
-#[cfg(test)]
-mod test_rows;

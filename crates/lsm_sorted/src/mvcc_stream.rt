@@ -109,6 +109,3 @@ impl<I: DoubleEndedIterator<Item = IterItem<A>>, A: Allocator> DoubleEndedIterat
         }
     }
 }
-
-#[cfg(test)]
-mod tests;

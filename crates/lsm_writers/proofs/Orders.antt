@@ -143,8 +143,3 @@ follows_nothing es key n h lt = rw (h, lt) refl
 
 pub last_written_is : (r o : Option Entry) (cut : List (List Entry)) (pending d : List Entry) → r ≡ last_of o d → o ≡ last_of None (joined cut) → d ≡ pending → last_of None (joined cut ++ pending) ≡ r
 last_written_is r o cut pending d er eo ed = last_of-append None (joined cut) pending ∙ sym (rw (er, eo, ed) refl)
-
--- one handle after none
-pub one_handle_strict : (hs : List Handle) (h : Handle) → hs ≡ [] → AreStrictHandles (hs ++ h ∷ [])
-unfolding IsStrictAfter
-one_handle_strict hs h e = subst (λ (l : List Handle). AreStrictHandles (l ++ h ∷ [])) (sym e) (refl, tt)

@@ -2,8 +2,6 @@
 #![tactic(auto)]
 
 mod id;
-#[cfg(test)]
-mod tests;
 mod timestamp;
 mod writer;
 

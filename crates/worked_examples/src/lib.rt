@@ -18,4 +18,6 @@ mod stored_reads;
 #[cfg(test)]
 mod tables;
 #[cfg(test)]
+mod writers;
+#[cfg(test)]
 mod writing;

@@ -20,6 +20,32 @@ pub(crate) fn new_writer<A: Allocator + Clone>(alloc: A) -> Result<Writer<A>, Er
     Writer::new(alloc, 1, 0, Timestamp::from(0))
 }
 
+/// The entry of a row.
+pub(crate) fn entry<A: Allocator + Clone>(
+    alloc: A,
+    row: &Row<'_>,
+) -> Result<InternalValue<A>, Error> {
+    let key = Slice::from(alloc.clone()?, row.0)?;
+    let value = Slice::from(alloc, row.3)?;
+    Ok(InternalValue::from_components(key, value, row.1, row.2))
+}
+
+/// Writes some rows, up to one that may not follow; `false` where there is such a row.
+pub(crate) fn put_rows<A: Allocator + Clone>(
+    alloc: A,
+    writer: &mut Writer<A>,
+    rows: &[Row<'_>],
+) -> Result<bool, Error> {
+    for row in rows {
+        let item = entry(alloc.clone()?, row)?;
+        if !writer.can_follow(&item.key) {
+            return Ok(false);
+        }
+        writer.write(item)?;
+    }
+    Ok(true)
+}
+
 /// The table of some rows. `Source(0)` where a row may not follow the one before, `Source(1)` where there are none.
 pub(crate) fn fill<A: Allocator + Clone>(
     writer: Writer<A>,
@@ -27,19 +53,10 @@ pub(crate) fn fill<A: Allocator + Clone>(
     rows: &[Row<'_>],
 ) -> Result<FinishedTable<A>, Error> {
     let mut writer = writer;
-    for (key, seqno, kind, value) in rows {
-        let key = Slice::from(alloc.clone()?, key)?;
-        let value = Slice::from(alloc.clone()?, value)?;
-        let item = InternalValue::from_components(key, value, *seqno, *kind);
-        if !writer.can_follow(&item.key) {
-            return Err(Error::Source(0));
-        }
-        writer.write(item)?;
+    if !put_rows(alloc, &mut writer, rows)? {
+        return Err(Error::Source(0));
     }
-    match writer.finish()? {
-        Some(table) => Ok(table),
-        None => Err(Error::Source(1)),
-    }
+    writer.finish()?.ok_or(Error::Source(1))
 }
 
 /// The table of some bytes, all of it loaded that can be.

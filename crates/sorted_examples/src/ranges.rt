@@ -1,7 +1,7 @@
 //! Key ranges, runs and their packing on worked examples, over tables that have an id and a range alone.
 ghost use Rattle.std.specs.Prelude.{◌≡◌};
 
-use crate::{Indexed, KeyRange, Ranged, Run, optimize_runs, overlap_chain};
+use lsm_sorted::{Indexed, KeyRange, Ranged, Run, optimize_runs, overlap_chain};
 use refusing::each_refused;
 use sst_blocks::{Error, Slice};
 use std::alloc::{AllocError, Allocator, Global};

@@ -1,58 +1,16 @@
-mod table;
-
-use crate::{
+//! What writers count, cut, write and refuse.
+use crate::stored::one_entry_v4;
+use crate::tables::{Row, entry, new_writer, put_rows};
+use lsm_writers::{
     BlockIndexWriter, FinishedTable, FullIndexWriter, GlobalTableId, Metadata, Timestamp, Writer,
 };
 use refusing::{Refusing, each_refused};
 use sst_blocks::{
-    BlockHandle, BlockOffset, Checksum, CompressionType, Error, InternalValue, KeyedBlockHandle,
-    SectionWriter, SeqNo, Slice, ValueType,
+    BlockHandle, BlockOffset, Checksum, CompressionType, Error, KeyedBlockHandle, SectionWriter,
+    SeqNo, Slice, ValueType,
 };
 use std::alloc::{Allocator, Global};
-use std::process::Abort;
 use std::test::Fail;
-use table::{TABLE, TABLE_CHECKSUM};
-
-fn entry<A: Allocator + Clone>(
-    alloc: A,
-    key: &[u8],
-    seqno: SeqNo,
-    kind: ValueType,
-    value: &[u8],
-) -> Result<InternalValue<A>, Error> {
-    let key = Slice::from(alloc.clone()?, key)?;
-    let value = Slice::from(alloc, value)?;
-    Ok(InternalValue::from_components(key, value, seqno, kind))
-}
-
-// Writes an entry that may follow; `None` where it may not.
-fn put<A: Allocator + Clone>(
-    writer: &mut Writer<A>,
-    item: InternalValue<A>,
-) -> Option<Result<(), Error>> {
-    if !writer.can_follow(&item.key) {
-        return None;
-    }
-    Some(writer.write(item))
-}
-
-// A key, a number, a kind and a value.
-type Row<'a> = (&'a [u8], SeqNo, ValueType, &'a [u8]);
-
-// Writes some rows, up to one that may not follow; `false` where there is such a row.
-fn put_rows<A: Allocator + Clone>(
-    alloc: A,
-    writer: &mut Writer<A>,
-    rows: &[Row<'_>],
-) -> Result<bool, Error> {
-    for (key, seqno, kind, value) in rows {
-        match put(writer, entry(alloc.clone()?, key, *seqno, *kind, value)?) {
-            Some(written) => written?,
-            None => return Ok(false),
-        }
-    }
-    Ok(true)
-}
 
 // How many entries and blocks are cut, how many keys, tombstones, weak ones and values behind those are written, and how
 // many bytes wait.
@@ -71,7 +29,7 @@ fn counts<A: Allocator + Clone>(writer: &Writer<A>) -> [usize; 7] {
 
 // The table of a@1, with the value `x`.
 fn one_entry(alloc: Global) -> Result<FinishedTable, Error> {
-    let mut writer = Writer::new(alloc, 1, 0, Timestamp::from(0))?;
+    let mut writer = new_writer(alloc)?;
     put_rows(alloc, &mut writer, &[(b"a", 1, ValueType::Value, b"x")])?;
     writer.finish()?.ok_or(Error::Source(1))
 }
@@ -79,14 +37,14 @@ fn one_entry(alloc: Global) -> Result<FinishedTable, Error> {
 #[test]
 fn writes_a_table_byte_for_byte(rt: HostRuntime) -> Result<(), Fail> {
     let table = one_entry(rt.alloc())?;
-    assert!(rt; table.id == 1 && table.checksum == Checksum(TABLE_CHECKSUM));
-    assert!(rt; table.bytes.as_slice() == TABLE.as_slice());
+    assert!(rt; table.id == 1 && table.checksum == Checksum(one_entry_v4::CHECKSUM));
+    assert!(rt; table.bytes.as_slice() == one_entry_v4::BYTES.as_slice());
     Ok(())
 }
 
 // The counts after some rows, before and after the block that waits is cut; `None` where a row may not follow.
 fn counts_of(alloc: Global, rows: &[Row<'_>]) -> Result<Option<([usize; 7], [usize; 7])>, Error> {
-    let mut writer = Writer::new(alloc, 1, 0, Timestamp::from(7))?;
+    let mut writer = new_writer(alloc)?;
     if !put_rows(alloc, &mut writer, rows)? {
         return Ok(None);
     }
@@ -123,7 +81,7 @@ fn counts_tombstones_and_what_they_hide(rt: HostRuntime) -> Result<(), Fail> {
 
 // The lowest and the highest number of what some rows wrote.
 fn seqnos_of(alloc: Global, rows: &[Row<'_>]) -> Result<(SeqNo, SeqNo), Error> {
-    let mut writer = Writer::new(alloc, 1, 0, Timestamp::from(7))?;
+    let mut writer = new_writer(alloc)?;
     put_rows(alloc, &mut writer, rows)?;
     let meta = writer.metadata();
     Ok((meta.lowest_seqno, meta.highest_seqno))
@@ -143,7 +101,7 @@ fn keeps_the_lowest_and_the_highest_number(rt: HostRuntime) -> Result<(), Fail> 
 
 // Whether an entry may follow e@3, and is written then.
 fn follows(alloc: Global, row: Row<'_>) -> Result<bool, Error> {
-    let mut writer = Writer::new(alloc, 1, 0, Timestamp::from(7))?;
+    let mut writer = new_writer(alloc)?;
     put_rows(
         alloc,
         &mut writer,
@@ -169,7 +127,7 @@ fn entries_that_may_not_follow_are_told_before(rt: HostRuntime) -> Result<(), Fa
 
 // The counts of blocks and of keys, and the length, of a table of three versions in blocks of size 0.
 fn cut_at_size_0(alloc: Global) -> Result<(usize, usize, BlockOffset), Error> {
-    let mut writer = Writer::new(alloc, 1, 0, Timestamp::from(0))?.use_data_block_size(0);
+    let mut writer = new_writer(alloc)?.use_data_block_size(0);
     for seqno in [9, 7, 5] {
         put_rows(alloc, &mut writer, &[(b"a", seqno, ValueType::Value, b"")])?;
     }
@@ -188,7 +146,7 @@ fn cuts_a_block_for_each_entry_at_size_0(rt: HostRuntime) -> Result<(), Fail> {
 // What writing an entry whose key has this length answers, and another one, a cut and the end after it.
 fn after_a_key_of(alloc: Global, len: usize) -> Result<[u8; 4], Error> {
     let number = |answer: Option<Error>| answer.map_or(0, |error| error.number());
-    let mut writer = Writer::new(alloc, 1, 0, Timestamp::from(0))?;
+    let mut writer = new_writer(alloc)?;
     let key = vec![in alloc; 0x61u8; len]?;
     let first = put_rows(alloc, &mut writer, &[(&key, 1, ValueType::Value, b"")]).err();
     let second = put_rows(alloc, &mut writer, &[(b"b", 1, ValueType::Value, b"")]).err();
@@ -241,7 +199,7 @@ fn ids_and_moments_give_their_parts_back(rt: HostRuntime) -> Result<(), Fail> {
 }
 
 // How many blocks an index of a@1 has, and how many bytes.
-#[tactic(auto, using(crate::proofs::Orders::one_handle_strict))]
+#[tactic(auto, using(crate::proofs::HandleLemmas::one_handle_strict))]
 fn index_of_one(alloc: Global) -> Result<(usize, u64), Error> {
     let mut sections = SectionWriter::new(alloc)?;
     let mut index = FullIndexWriter::new(alloc)
@@ -261,10 +219,13 @@ fn a_full_index_is_one_block(rt: HostRuntime) -> Result<(), Fail> {
 
 // A table of three blocks. Whatever is refused, the writer refuses from then on.
 fn three_blocks<A: Allocator + Clone>(alloc: A) -> Result<FinishedTable<A>, Error> {
-    let mut writer = Writer::new(alloc.clone()?, 1, 0, Timestamp::from(0))?.use_data_block_size(0);
+    let mut writer = new_writer(alloc.clone()?)?.use_data_block_size(0);
     for seqno in [9, 7, 5] {
-        let item = entry(alloc.clone()?, b"a", seqno, ValueType::Value, b"x")?;
-        if let Some(Err(error)) = put(&mut writer, item) {
+        let item = entry(alloc.clone()?, &(b"a", seqno, ValueType::Value, b"x"))?;
+        if !writer.can_follow(&item.key) {
+            return Err(Error::Source(0));
+        }
+        if let Err(error) = writer.write(item) {
             if writer.spill_block() != Err(Error::WriterFailed) {
                 return Err(Error::Source(0));
             }

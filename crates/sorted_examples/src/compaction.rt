@@ -1,11 +1,12 @@
+//! Compaction of some results, with filters and callbacks.
 ghost use Rattle.std.specs.Prelude.{◌<◌};
 ghost use Rattle.std.specs.Iterator.{IsFinite};
 
-use crate::MvccStream;
-use crate::compaction::stream::{
+use crate::words::{put_entry, results_of, text_of};
+use lsm_sorted::MvccStream;
+use lsm_sorted::compaction::stream::{
     CompactionStream, DroppedKvCallback, StreamFilter, StreamFilterVerdict,
 };
-use crate::test_rows::{put_entry, results_of, text_of};
 use refusing::Refusing;
 use sst_blocks::{Error, InternalValue, IterItem, Slice, ValueType};
 use std::alloc::{AllocError, Allocator, Global};

@@ -1,7 +1,7 @@
 use Rattle.std.proofs.Common.{◌≡◌}
 use Rattle.lsm_sorted.specs.Tournament as tournament
 use Rattle.lsm_sorted.specs.IntervalHeap as interval
-use Rattle.lsm_sorted.proofs.heap_tests.agree_in_turns.Given as goal
+use Rattle.sorted_examples.proofs.heaps.agree_in_turns.Given as goal
 
 abbrev pub invariant-loop-turn : goal.invariant-loop-turn
 invariant-loop-turn l = (tournament.room l.tournament ≡ 4) × (interval.room l.heap ≡ 4)

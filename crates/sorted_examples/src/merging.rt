@@ -1,5 +1,6 @@
-use crate::test_rows::{ends_of, result_of, text_of};
-use crate::{Merger, newest_of};
+//! Merging several sources from both ends, and what that takes of memory.
+use crate::words::{ends_of, result_of, text_of};
+use lsm_sorted::{Merger, newest_of};
 use refusing::{Refusing, each_refused};
 use sst_blocks::{Error, IterItem, answers_at};
 use std::alloc::{Allocator, Global};

@@ -1,6 +1,6 @@
 use Rattle.std.proofs.Common.{◌≡◌, length}
 use Rattle.lsm_sorted.specs.IntervalHeap as interval
-use Rattle.lsm_sorted.proofs.heap_tests.interval_heap_of.Given as goal
+use Rattle.sorted_examples.proofs.heaps.interval_heap_of.Given as goal
 
 abbrev pub invariant-loop-item : goal.invariant-loop-item
 invariant-loop-item l = interval.room l.queue ≡ length l.items

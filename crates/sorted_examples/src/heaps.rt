@@ -1,9 +1,9 @@
-// Both priority queues against a count of each number, and what they take of memory.
+//! Both priority queues against a count of each number, and what they take of memory.
 ghost use Rattle.std.specs.Prelude.{◌≡◌};
 ghost use Rattle.lsm_sorted.specs.IntervalHeap as interval;
 ghost use Rattle.lsm_sorted.specs.Tournament as tournament;
 
-use crate::{IntervalHeap, Tournament};
+use lsm_sorted::{IntervalHeap, Tournament};
 use refusing::{Refusing, each_refused};
 use sst_blocks::Error;
 use std::alloc::{Allocator, Global};

@@ -1,0 +1,16 @@
+//! Worked examples of `lsm_sorted`: tests in a crate of their own, since tests are proved together with the crate they stand in.
+//! Nothing here is for use.
+#![tactic(auto)]
+
+#[cfg(test)]
+mod compaction;
+#[cfg(test)]
+mod heaps;
+#[cfg(test)]
+mod merging;
+#[cfg(test)]
+mod newest;
+#[cfg(test)]
+mod ranges;
+#[cfg(test)]
+mod words;
