@@ -101,11 +101,6 @@ fn bytes_of<'a>(bound: Bound<&'a str>) -> Bound<&'a [u8]> {
     }
 }
 
-fn numbers(alloc: Global, low: u64, high: u64) -> Result<KeyRange, Error> {
-    let low = Slice::from(alloc, &low.to_be_bytes())?;
-    Ok(KeyRange::new((low, Slice::from(alloc, &high.to_be_bytes())?)))
-}
-
 const FOUR: [(u64, &str, &str); 4] = [(0, "a", "d"), (1, "e", "j"), (2, "k", "o"), (3, "p", "z")];
 
 // Whether a range with these ends is well-formed and has a key.
@@ -138,21 +133,18 @@ fn a_range_has_the_keys_between_its_ends(rt: HostRuntime) -> Result<(), Fail> {
     Ok(())
 }
 
-// Whether two ranges overlap, and whether the first contains the second; `None` where they do not overlap and yet are not
-// disjoint, or the other way round.
+// Whether two ranges overlap, and whether the first contains the second.
 fn compared(
     alloc: Global,
     first: (&str, &str),
     second: (&str, &str),
-) -> Result<Option<(bool, bool)>, Error> {
+) -> Result<(bool, bool), Error> {
     let first = range_of(alloc, first.0, first.1)?;
     let second = range_of(alloc, second.0, second.1)?;
-    let overlap = first.overlaps_with_key_range(&second);
-    let contains = first.contains_range(&second);
-    if KeyRange::is_disjoint(&[&first, &second]) == overlap {
-        return Ok(None);
-    }
-    Ok(Some((overlap, contains)))
+    Ok((
+        first.overlaps_with_key_range(&second),
+        first.contains_range(&second),
+    ))
 }
 
 #[test]
@@ -163,35 +155,49 @@ fn ranges_that_meet_overlap(rt: HostRuntime) -> Result<(), Fail> {
         (("a", "f"), ("g", "t"), (false, false)),
         (("a", "z"), ("c", "f"), (true, true)),
     ] {
-        assert_eq!(rt; compared(rt.alloc(), first, second)?, Some(wanted));
+        assert_eq!(rt; compared(rt.alloc(), first, second)?, wanted);
+    }
+    Ok(())
+}
+
+fn ranges_of(alloc: Global, ends: &[(&str, &str)]) -> Result<Vec<KeyRange>, Error> {
+    let mut ranges = Vec::new(alloc);
+    for (min, max) in ends {
+        ranges.push(range_of(alloc, min, max)?)?;
+    }
+    Ok(ranges)
+}
+
+// Whether no two of some ranges have a key in common, and the aggregate of them all.
+fn taken_together(alloc: Global, ends: &[(&str, &str)]) -> Result<(bool, KeyRange), Error> {
+    let ranges = ranges_of(alloc, ends)?;
+    let mut all = Vec::new(alloc);
+    for range in &ranges {
+        all.push(range)?;
+    }
+    Ok((KeyRange::is_disjoint(&all), KeyRange::aggregate(&all)?))
+}
+
+#[test]
+fn an_aggregate_reaches_from_the_least_to_the_greatest_key(rt: HostRuntime) -> Result<(), Fail> {
+    let cases: [(&[(&str, &str)], bool, &str, &str); 4] = [
+        (&[("2", "4"), ("0", "4"), ("7", "9")], false, "0", "9"),
+        (&[("a", "d"), ("d", "e"), ("f", "z")], false, "a", "z"),
+        (&[("a", "d"), ("e", "e"), ("f", "z")], true, "a", "z"),
+        (&[], true, "", ""),
+    ];
+    for (ranges, disjoint, min, max) in cases {
+        let (is_disjoint, aggregate) = taken_together(rt.alloc(), ranges)?;
+        assert!(rt; is_disjoint == disjoint);
+        assert!(rt; aggregate == range_of(rt.alloc(), min, max)?);
     }
     Ok(())
 }
 
 #[test]
-fn the_first_two_of_three_ranges_meet(rt: HostRuntime) -> Result<(), Fail> {
-    let first = range_of(rt.alloc(), "a", "d")?;
-    let second = range_of(rt.alloc(), "d", "e")?;
-    let third = range_of(rt.alloc(), "f", "z")?;
-    assert!(rt; !KeyRange::is_disjoint(&[&first, &second, &third]));
-    Ok(())
-}
-
-// The aggregate of three ranges of numbers.
-fn aggregate_of(alloc: Global, ends: [(u64, u64); 3]) -> Result<KeyRange, Error> {
-    let first = numbers(alloc, ends[0].0, ends[0].1)?;
-    let second = numbers(alloc, ends[1].0, ends[1].1)?;
-    let third = numbers(alloc, ends[2].0, ends[2].1)?;
-    KeyRange::aggregate(&[&first, &second, &third])
-}
-
-#[test]
-fn an_aggregate_reaches_from_the_least_to_the_greatest_key(rt: HostRuntime) -> Result<(), Fail> {
-    let aggregate = aggregate_of(rt.alloc(), [(2, 4), (0, 4), (7, 10)])?;
-    assert!(rt; aggregate == numbers(rt.alloc(), 0, 10)?);
-    assert!(rt; aggregate.clone()? == aggregate);
-    let none: [&KeyRange; 0] = [];
-    assert!(rt; KeyRange::aggregate(&none)? == KeyRange::empty());
+fn a_clone_is_the_same_range(rt: HostRuntime) -> Result<(), Fail> {
+    let range = range_of(rt.alloc(), "a", "z")?;
+    assert!(rt; range.clone()? == range);
     Ok(())
 }
 
@@ -339,12 +345,21 @@ fn tables_of_one_least_key_keep_their_order(rt: HostRuntime) -> Result<(), Fail>
     Ok(())
 }
 
+// Whether a table as it stands in a run shows its id and its range.
+fn shows_its_table(alloc: Global) -> Result<bool, Error> {
+    let range = range_of(alloc, "k", "l")?;
+    let table = Indexed::new(FakeTable { id: 7, range });
+    let range = table.key_range();
+    Ok(
+        table.id == 7
+            && range.min().as_slice() == b"k".as_slice()
+            && range.max().as_slice() == b"l".as_slice(),
+    )
+}
+
 #[test]
 fn a_table_of_a_run_has_its_range(rt: HostRuntime) -> Result<(), Fail> {
-    let range = range_of(rt.alloc(), "k", "l")?;
-    let table = Indexed::new(FakeTable { id: 7, range });
-    assert_eq!(rt; table.id, 7);
-    assert!(rt; *table.key_range() == range_of(rt.alloc(), "k", "l")?);
+    assert!(rt; shows_its_table(rt.alloc())?);
     Ok(())
 }
 

@@ -22,16 +22,15 @@ fn byte_of<A: Allocator>(bytes: &Slice<A>) -> u8 {
 
 // The number that some digits spell, and the byte behind them, or 0.
 fn number_and_byte(text: &[u8]) -> (u64, u8) {
-    let mut number = 0u64;
-    for byte in text {
-        if !byte.is_ascii_digit() {
-            return (number, *byte);
-        }
-        number = number
-            .saturating_mul(10)
-            .saturating_add(u64::from(*byte & 15));
-    }
-    (number, 0)
+    let (digits, byte) = match text {
+        [digits @ .., byte] if !byte.is_ascii_digit() => (digits, *byte),
+        digits => (digits, 0),
+    };
+    let number = match str::from_utf8(digits) {
+        Ok(digits) => digits.parse::<u64>().unwrap_or(0),
+        Err(_) => 0,
+    };
+    (number, byte)
 }
 
 fn entry_of<A: Allocator + Clone>(

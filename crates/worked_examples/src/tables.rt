@@ -5,8 +5,8 @@ ghost use Rattle.lsm_writers.specs.Writing.{IsFresh};
 use lsm_tables::Table;
 use lsm_writers::{FinishedTable, Timestamp, Writer};
 use sst_blocks::{
-    BlockHandle, BlockSource, BlockType, Checksum, DataBlock, Error, IndexBlock, InternalValue,
-    Opened, SeqNo, Slice, ValueType,
+    Block, BlockHandle, BlockSource, BlockType, Checksum, DataBlock, Error, IndexBlock,
+    InternalValue, Opened, SeqNo, Slice, ValueType,
 };
 use std::alloc::Allocator;
 
@@ -100,6 +100,14 @@ pub(crate) fn overwritten<A: Allocator + Clone>(
     Slice::from_vec(bytes)
 }
 
+// The entries of a block, where it has a kind that holds them.
+fn entries_of<A: Allocator>(block: Block<A>) -> Result<DataBlock<A>, Error> {
+    match block.kind() {
+        BlockType::Data | BlockType::Meta => Ok(DataBlock::new(block)),
+        BlockType::Index | BlockType::Filter => Err(Error::Source(2)),
+    }
+}
+
 /// The entries of a data block or of a meta block.
 pub(crate) fn load_entries<A: Allocator + Clone>(
     source: &BlockSource<A>,
@@ -107,10 +115,14 @@ pub(crate) fn load_entries<A: Allocator + Clone>(
     kind: BlockType,
     opened: &mut Opened,
 ) -> Result<DataBlock<A>, Error> {
-    let block = source.load(handle, kind, opened)?;
+    entries_of(source.load(handle, kind, opened)?)
+}
+
+// The handles of a block, where it has a kind that holds them.
+fn handles_of<A: Allocator>(block: Block<A>) -> Result<IndexBlock<A>, Error> {
     match block.kind() {
-        BlockType::Data | BlockType::Meta => Ok(DataBlock::new(block)),
-        BlockType::Index | BlockType::Filter => Err(Error::Source(2)),
+        BlockType::Index => Ok(IndexBlock::new(block)),
+        BlockType::Data | BlockType::Meta | BlockType::Filter => Err(Error::Source(3)),
     }
 }
 
@@ -120,9 +132,5 @@ pub(crate) fn load_handles<A: Allocator + Clone>(
     handle: &BlockHandle,
     opened: &mut Opened,
 ) -> Result<IndexBlock<A>, Error> {
-    let block = source.load(handle, BlockType::Index, opened)?;
-    match block.kind() {
-        BlockType::Index => Ok(IndexBlock::new(block)),
-        BlockType::Data | BlockType::Meta | BlockType::Filter => Err(Error::Source(3)),
-    }
+    handles_of(source.load(handle, BlockType::Index, opened)?)
 }
