@@ -16,6 +16,11 @@ pub(crate) enum Stop {
 }
 
 impl fmt::Display for Stop {
+    ghost use Rattle.std.specs.Prelude.{Some};
+    ghost use Rattle.sst.specs.Stop.{stop_text};
+
+    ghost output = { λ stop. Some (stop_text stop) };
+
     fn fmt<W: fmt::Write>(&self, f: &mut fmt::Formatter<W>) -> fmt::Result {
         match self {
             Stop::Line(number) => write!(f, "sst: line {number}"),
