@@ -1,12 +1,15 @@
 -- Entries that wait for a table.
-use Rattle.std.specs.Prelude.{◌≡◌, ℕ, ◌-◌, ◌^◌, ◌<◌, List}
+use Rattle.std.specs.Prelude.{◌≡◌, ℕ, ◌-◌, ◌^◌, ◌<◌, false, List, [], ◌∷◌, Option}
 use Rattle.std.specs.List.{AllByRecursion}
+use Rattle.std.specs.Option.{option_or}
+use Rattle.sst_blocks.specs.declared.error.Error.{Error}
 use Rattle.sst_blocks.specs.declared.version.TableVersion.TheVariants.{V4}
 use Rattle.sst_blocks.specs.Entry.{Entry}
 use Rattle.sst_blocks.specs.Fnv.{fnv1a}
 use Rattle.sst_blocks.specs.Strict.{IsStrict}
 use Rattle.lsm_writers.specs.File.{IsFile}
 use Rattle.lsm_writers.specs.Options.{default_options}
+use Rattle.lsm_writers.specs.Writing.{Writing, write_fault, finish_fault, gained}
 
 -- an entry is numbered below the largest number
 pub record IsNumbered (e : Entry) : Type 0 where
@@ -23,3 +26,16 @@ pub record IsTableOf (es : List Entry) (id found checksum : ℕ) (bytes : List �
   pub checksum_is : checksum ≡ fnv1a bytes
   pub spills : List ℕ
   pub file : IsFile V4 bytes (record { table_id = id; initial_level = 0; created_at = 0 }) default_options spills es
+
+-- a writer of a table that has no entry yet
+abbrev pub new_writing : ℕ → Writing
+new_writing id = record { label = record { table_id = id; initial_level = 0; created_at = 0 }; options = default_options; cut = []; pending = []; failed = false }
+
+-- the first fault of writing some entries one by one and then finishing
+abbrev pub writing_fault : Writing → List Entry → Option Error
+writing_fault w [] = finish_fault w
+writing_fault w (e ∷ es) = option_or (write_fault w e) (writing_fault (gained w e) es)
+
+-- what writing a list as a table refuses
+abbrev pub table_fault : ℕ → List Entry → Option Error
+table_fault id es = writing_fault (new_writing id) es

@@ -2,9 +2,10 @@
 ghost use Rattle.std.specs.Prelude.{◌≡◌, [], ◌∷◌, ◌++◌, IsTrue, IfOk, IfErr, OnOk, OnErr, MatchOption, if◌then◌else◌};
 ghost use Rattle.sst_blocks.specs.declared.error.Error.TheVariants.{OutOfMemory};
 ghost use Rattle.sst_blocks.specs.Entry.{entry};
+ghost use Rattle.sst_blocks.specs.Error.{Faults};
 ghost use Rattle.lsm_writers.specs.Writing.{follows};
 ghost use Rattle.sst.specs.declared.stop.Failure.TheVariants.{BadLine, Refused};
-ghost use Rattle.sst.specs.Pending.{IsPending, IsTableOf};
+ghost use Rattle.sst.specs.Pending.{IsPending, IsTableOf, table_fault};
 
 use crate::stop::Failure;
 use lsm_writers::{FinishedTable, TableId, Timestamp, Writer};
@@ -97,9 +98,11 @@ impl<A: Allocator + Clone> Pending<A> {
         self.items.clear();
     }
 
-    /// Writes the entries as one table; `None` where there are none.
+    /// Writes the entries as one table; `None` where there are none. Refused with the first fault of an entry or of finishing
+    /// the table, and [`Error::OutOfMemory`].
     pub(crate) fn write(self, alloc: A, id: TableId) -> Result<Option<FinishedTable<A>>, Error>
-        ensures { IfOk result (λ t. MatchOption t (self ≡ []) (λ f. IsTableOf self id f.id f.checksum.0 f.bytes)) }
+        ensures table { IfOk result (λ t. MatchOption t (self ≡ []) (λ f. IsTableOf self id f.id f.checksum.0 f.bytes)) }
+        ensures refused { Faults result (table_fault id self) }
     {
         let mut writer = Writer::new(alloc, id, 0, Timestamp::from(0))?;
         for item in self.items {

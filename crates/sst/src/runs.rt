@@ -2,6 +2,8 @@
 ghost use Rattle.std.specs.Prelude.{◌≡◌, ◌-◌, ◌<◌, ◌^◌, Bool, Option, IfOk};
 ghost use Rattle.sst_blocks.specs.Entry.{Entry};
 ghost use Rattle.sst_blocks.specs.Error.{Gives};
+ghost use Rattle.lsm_tables.specs.Parts.{recovered_told};
+ghost use Rattle.lsm_tables.specs.TableSeen.{TableSeen};
 ghost use Rattle.sst.specs.Runs.{newer_of, newest_told, held_told};
 
 use lsm_tables::Table;
@@ -9,11 +11,12 @@ use lsm_writers::FinishedTable;
 use sst_blocks::{Error, InternalValue, SeqNo};
 use std::alloc::Allocator;
 
-/// Opens a table that was written.
+/// Opens a table that was written. Refused with the first fault of its bytes, and [`Error::OutOfMemory`].
 pub(crate) fn open<A: Allocator + Clone>(
     alloc: A,
     table: FinishedTable<A>,
 ) -> Result<Table<A>, Error>
+    ensures told { Gives (λ (t : TableSeen). t.parts) result (recovered_told table.bytes 0) }
     ensures bytes { IfOk result (λ t. t.bytes ≡ table.bytes) }
     ensures unlifted { IfOk result (λ t. t.global_seqno ≡ 0) }
 {

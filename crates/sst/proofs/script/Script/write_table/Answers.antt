@@ -7,7 +7,7 @@ pub returns-clause-written : goal.returns-clause-written
 returns-clause-written g c =
     let id = c.in_ok-id.id in
     let run = c.in_ok-run.run' in
-    let found = rw c.in-Some.is at c.in_ok-table.ensures in
+    let found = rw c.in-Some.is at c.in_ok-table.ensures.table in
     let table = rw c.replace-pending.ensures.value at found in
     let runs : c.insert.new.self.items ≡ run ∷ c.args.self.now.runs.items = c.in_ok-insert.ensures.items in
     let drawn : c.args.self.now.next_id ≡ Some id = search rules in
