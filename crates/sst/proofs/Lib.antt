@@ -1,3 +1,4 @@
 pub mod CommandLemmas
 pub mod PendingLemmas
 pub mod RunLemmas
+pub mod ScriptLemmas

@@ -14,8 +14,14 @@ mod stop;
 mod tests;
 
 pub use script::run_script;
+use std::io::BufWriter;
 use std::process::ExitCode;
 
 fn main(rt: HostRuntime) -> ExitCode {
-    ExitCode::from(run_script(rt.alloc(), rt.stdin(), rt.stdout(), rt.stderr()))
+    let status = match BufWriter::new(rt.alloc(), rt.stdout()) {
+        Ok(mut output) => run_script(rt.alloc(), rt.stdin(), &mut output, &mut rt.stderr()),
+        // The answers need no buffer.
+        Err(_) => run_script(rt.alloc(), rt.stdin(), &mut rt.stdout(), &mut rt.stderr()),
+    };
+    ExitCode::from(status)
 }

@@ -1,8 +1,14 @@
 //! Running a script.
-ghost use Rattle.std.specs.Prelude.{◌≡◌, ◌⊎◌, [], Bool, false, true, Some, Ok, IfOk, IfErr, OnOk, OnErr};
+ghost use Rattle.std.specs.Prelude.{◌≡◌, ◌⊎◌, [], ◌∷◌, ◌++◌, ⊤, Bool, false, true, Some, Result, Ok, IfOk, IfErr, OnOk, OnErr};
+ghost use Rattle.std.specs.Io.BufRead.{strip_last};
+ghost use Rattle.std.specs.Io.KnownBytes.{Appends};
 ghost use Rattle.sst_blocks.specs.Error.{Gives};
 ghost use Rattle.sst.specs.declared.stop.Failure.TheVariants.{BadLine};
 ghost use Rattle.sst.specs.declared.stop.Stop.TheVariants.{Line, Output};
+ghost use Rattle.sst.specs.declared.stop.Stop.{Stop};
+ghost use Rattle.sst.specs.Answering.{LineEnds, PrintEnds, ScriptEnds, printed, status_of};
+ghost use Rattle.sst.specs.Lines.{ReadsLine};
+ghost use Rattle.sst.specs.Stop.{stop_text};
 ghost use Rattle.sst.specs.Script.{built, repeated_told, Writes, Executes};
 
 use crate::command::{Command, parse_command};
@@ -14,7 +20,7 @@ use lsm_tables::Table;
 use lsm_writers::TableId;
 use sst_blocks::Error;
 use std::alloc::{AllocError, Allocator};
-use std::io::{BufRead, BufReader, BufWriter, Read, Write};
+use std::io::{BufRead, BufReader, Read, Write};
 use std::{io, mem};
 
 /// Runs the script that `input` gives, line by line, and answers the status: 0, or 2 where the script ends before its last
@@ -24,51 +30,83 @@ use std::{io, mem};
 /// number, and the script goes on. A line that is none of a script's ends it with `sst: line` and the line's number on
 /// `errors`, failing input, also want of memory for it, with `sst: input`, and failing output with `sst: output`. Whether
 /// `errors` takes that is passed over.
-pub fn run_script<A: Allocator + Clone, R: Read + Drop, W: Write + Drop, E: Write + Drop>(
+pub fn run_script<A: Allocator + Clone, R: Read + Drop, W: Write, E: Write>(
     alloc: A,
     input: R,
-    output: W,
-    mut errors: E,
+    output: &mut W,
+    errors: &mut E,
 ) -> u8
-    ensures { (result ≡ 0) ⊎ (result ≡ 2) }
+    ensures status { (result ≡ 0) ⊎ (result ≡ 2) }
+    ensures ended { (ended : Result ⊤ Stop) × (result ≡ status_of ended) × ScriptEnds A (R.remaining input) (W.contents output.old) (W.contents output.new) ended }
+    ensures silent { result ≡ 0 → errors.new ≡ errors.old }
 {
     match answer_script(alloc, input, output) {
         Ok(()) => 0,
         Err(stop) => {
-            let _ = writeln!(errors, "{stop}");
+            let _ = report(errors, stop);
             2
         }
     }
 }
 
-fn answer_script<A: Allocator + Clone, R: Read + Drop, W: Write + Drop>(
+fn report<E: Write>(errors: &mut E, stop: Stop) -> io::Result<()>
+    ensures { OnOk result (Appends (E.contents errors.old) (E.contents errors.new) (stop_text stop ++ 10 ∷ [])) }
+{
+    writeln!(errors, "{stop}")
+}
+
+fn answer_script<A: Allocator + Clone, R: Read + Drop, W: Write>(
     alloc: A,
     input: R,
-    output: W,
-) -> Result<(), Stop> {
+    output: &mut W,
+) -> Result<(), Stop>
+    ensures { ScriptEnds A (R.remaining input) (W.contents output.old) (W.contents output.new) result }
+{
     let mut script = Script::new(alloc.clone()?)?;
     let mut line = Vec::new(alloc.clone()?);
-    let mut input = BufReader::new(alloc.clone()?, input).map_err(|_| Stop::Input)?;
-    let mut output = BufWriter::new(alloc, output).map_err(|_| Stop::Input)?;
-    for number in 1..=u64::MAX {
+    let mut input = BufReader::new(alloc, input).map_err(|_| Stop::Input)?;
+    for before in 0..u64::MAX {
         if !read_line(&mut input, &mut line).map_err(|_| Stop::Input)? {
             return Ok(());
         }
-        if !line.is_empty() {
-            script.answer_line(number, &line, &mut output)?;
-        }
+        script.answer_line(before + 1, &line, output)?;
     }
     Err(Stop::Input)
 }
 
 // Reads the next line, without its end; `false` where there is none.
-fn read_line<R: BufRead, A: Allocator>(input: &mut R, line: &mut Vec<u8, A>) -> io::Result<bool> {
+fn read_line<R: BufRead, A: Allocator>(input: &mut R, line: &mut Vec<u8, A>) -> io::Result<bool>
+    ensures { IfOk result (ReadsLine (R.remaining input.old) (R.remaining input.new) line.new.items) }
+{
     line.clear();
     let length = input.read_until(b'\n', line)?;
+    strip_end(line);
+    Ok(length > 0)
+}
+
+fn strip_end<A: Allocator>(line: &mut Vec<u8, A>)
+    ensures { line.new.items ≡ strip_last 10 line.old.items }
+{
     if line.last() == Some(&b'\n') {
         line.pop();
     }
-    Ok(length > 0)
+}
+
+// Prints what a command came to.
+fn print_outcome<W: Write, A: Allocator>(
+    output: &mut W,
+    number: u64,
+    outcome: &Result<Answer<A>, Failure>,
+) -> Result<(), Stop>
+    ensures { PrintEnds number (printed outcome.now) (W.contents output.old) (W.contents output.new) result }
+{
+    let printed = match outcome {
+        Ok(answer) => print_answer(output, answer),
+        Err(Failure::Refused(error)) => print_refusal(output, error.number()),
+        Err(Failure::BadLine) => return Err(Stop::Line(number)),
+    };
+    printed.map_err(|_| Stop::Output)?;
+    output.flush().map_err(|_| Stop::Output)
 }
 
 // What a script has built so far.
@@ -94,23 +132,21 @@ impl<A: Allocator + Clone> Script<A> {
         })
     }
 
-    // Prints the answer of a line that is not empty.
+    // Prints the answer of a line; an empty one has none.
     fn answer_line<W: Write>(
         &mut self,
         number: u64,
         line: &[u8],
         output: &mut W,
     ) -> Result<(), Stop>
-        ensures { IfErr result (λ stop. (stop ≡ Line number) ⊎ (stop ≡ Output)) }
+        ensures stops { IfErr result (λ stop. (stop ≡ Line number) ⊎ (stop ≡ Output)) }
+        ensures ended { LineEnds A number line.now (built self.old.pending self.old.runs.items self.old.next_id) (built self.new.pending self.new.runs.items self.new.next_id) (W.contents output.old) (W.contents output.new) result }
     {
+        if line.is_empty() {
+            return Ok(());
+        }
         let command = parse_command(line).ok_or(Stop::Line(number))?;
-        let printed = match self.execute(command) {
-            Ok(answer) => print_answer(output, &answer),
-            Err(Failure::Refused(error)) => print_refusal(output, error.number()),
-            Err(Failure::BadLine) => return Err(Stop::Line(number)),
-        };
-        printed.map_err(|_| Stop::Output)?;
-        output.flush().map_err(|_| Stop::Output)
+        print_outcome(output, number, &self.execute(command))
     }
 
     fn execute(&mut self, command: Command<'_>) -> Result<Answer<A>, Failure>

@@ -220,17 +220,23 @@ fn failing_output_ends_the_script(rt: HostRuntime) -> Result<(), Fail> {
     ];
     for (script, told) in cases {
         let mut errors = Vec::new(alloc);
-        assert_eq!(rt; run_script(alloc, script, FailingWriter, &mut errors), 2);
+        assert_eq!(rt;
+            run_script(alloc, script, &mut FailingWriter, &mut errors),
+            2
+        );
         assert!(rt; errors.as_slice() == told);
         // Where errors cannot be told either, the status is the same.
-        assert_eq!(rt; run_script(alloc, script, FailingWriter, FailingWriter), 2);
+        assert_eq!(rt;
+            run_script(alloc, script, &mut FailingWriter, &mut FailingWriter),
+            2
+        );
     }
     assert_eq!(rt;
         run_script(
             alloc,
             b"entry a 1 V x\n".as_slice(),
-            FailingWriter,
-            FailingWriter
+            &mut FailingWriter,
+            &mut FailingWriter
         ),
         0
     );
