@@ -1,13 +1,14 @@
 -- What a script's commands do to its runs.
-use Rattle.std.specs.Prelude.{◌≡◌, ℕ, ◌+◌, ◌^◌, Bool, true, false, IsTrue, nat_lt, List, [], ◌∷◌, ◌++◌, Option, Some, None, Result, Ok, MatchResult, ◌⊎◌, if◌then◌else◌}
+use Rattle.std.specs.Prelude.{◌≡◌, ℕ, ◌+◌, ◌^◌, Bool, true, false, IsTrue, nat_lt, List, [], ◌∷◌, ◌++◌, Option, Some, None, Result, Ok, Err, MatchResult, ◌⊎◌, if◌then◌else◌}
 use Rattle.sst_blocks.specs.declared.error.Error.{Error}
-use Rattle.sst_blocks.specs.declared.error.Error.TheVariants.{OutOfMemory}
+use Rattle.sst_blocks.specs.declared.error.Error.TheVariants.{OutOfMemory, TableIdsSpent}
 use Rattle.sst_blocks.specs.declared.version.TableVersion.TheVariants.{V4}
 use Rattle.sst_blocks.specs.Entry.{Entry, entry}
 use Rattle.sst_blocks.specs.Error.{Fails}
 use Rattle.lsm_writers.specs.File.{IsFile}
 use Rattle.lsm_writers.specs.Options.{default_options}
 use Rattle.lsm_writers.specs.Writing.{follows}
+use Rattle.lsm_tables.specs.Parts.{recovered_told}
 use Rattle.lsm_tables.specs.TableSeen.{TableSeen}
 use Rattle.lsm_tables.specs.Told.{◌>>=◌}
 use Rattle.sst.specs.declared.command.Command.{Command}
@@ -16,6 +17,7 @@ use Rattle.sst.specs.declared.print.Answer.{Answer}
 use Rattle.sst.specs.declared.print.Answer.TheVariants.{Silent, Tables, Found}
 use Rattle.sst.specs.declared.stop.Failure.{Failure}
 use Rattle.sst.specs.declared.stop.Failure.TheVariants.{BadLine, Refused}
+use Rattle.sst.specs.Pending.{IsTableOf, table_fault}
 use Rattle.sst.specs.Runs.{held_told, newest_told}
 
 -- what a script has built so far: the entries of the next table, the runs, the newest first, and the next id
@@ -50,6 +52,18 @@ Writes es old new old_id new_id count =
     ((es ≡ []) × (count ≡ 0) × (new ≡ old) × (new_id ≡ old_id))
     ⊎ ((count ≡ 1) × ((id : ℕ) × (old_id ≡ Some id) × (new_id ≡ next_id id) × AddsRun es id old new))
 
+-- why a list is not written as a table: ids are used up, the list has a fault, or what is written of it cannot be opened
+abbrev pub IsUnwritten : List Entry → Option ℕ → Error → Type 0
+IsUnwritten es None e = e ≡ TableIdsSpent
+IsUnwritten es (Some id) e =
+    (table_fault id es ≡ Some e)
+    ⊎ ((checksum : ℕ) × (bytes : List ℕ) × IsTableOf es id id checksum bytes × (recovered_told bytes 0 ≡ Err e))
+
+-- why pending entries become no run: a run holds one of them; or a run's read, memory or writing them is refused
+abbrev pub RefusesTable : List TableSeen → List Entry → Option ℕ → Failure → Type 0
+RefusesTable runs es id BadLine = repeated_told runs es ≡ Ok true
+RefusesTable runs es id (Refused e) = Fails e (repeated_told runs es) ⊎ IsUnwritten es id e
+
 -- a command's answer, and what it leaves
 abbrev pub Executes : {A : Type 0} → Command → Built → Result (Answer A) Failure → Built → Type 0
 Executes (Add key seqno kind value) old r new =
@@ -61,7 +75,7 @@ Executes Table old r new =
     (new.pending ≡ [])
     × MatchResult r
     (λ a. (count : ℕ) × (a ≡ Tables count) × Writes old.pending old.runs new.runs old.next_id new.next_id count)
-    (λ e. (new.runs ≡ old.runs) × (new.next_id ≡ old.next_id) × (e ≡ BadLine → repeated_told old.runs old.pending ≡ Ok true))
+    (λ e. (new.runs ≡ old.runs) × (new.next_id ≡ old.next_id) × RefusesTable old.runs old.pending old.next_id e)
 Executes (Get key bound) old r new =
     (new ≡ old)
     × MatchResult r

@@ -3,13 +3,12 @@ ghost use Rattle.std.specs.Prelude.{◌≡◌, ◌⊎◌, [], ◌∷◌, ◌++�
 ghost use Rattle.std.specs.Io.BufRead.{strip_last};
 ghost use Rattle.std.specs.Io.KnownBytes.{Appends};
 ghost use Rattle.sst_blocks.specs.Error.{Gives};
-ghost use Rattle.sst.specs.declared.stop.Failure.TheVariants.{BadLine};
 ghost use Rattle.sst.specs.declared.stop.Stop.TheVariants.{Line, Output};
 ghost use Rattle.sst.specs.declared.stop.Stop.{Stop};
 ghost use Rattle.sst.specs.Answering.{LineEnds, PrintEnds, ScriptEnds, printed, status_of};
 ghost use Rattle.sst.specs.Lines.{ReadsLine};
 ghost use Rattle.sst.specs.Stop.{stop_text};
-ghost use Rattle.sst.specs.Script.{built, repeated_told, Writes, Executes};
+ghost use Rattle.sst.specs.Script.{built, repeated_told, RefusesTable, Writes, Executes};
 
 use crate::command::{Command, parse_command};
 use crate::pending::Pending;
@@ -179,7 +178,7 @@ impl<A: Allocator + Clone> Script<A> {
     fn write_table(&mut self) -> Result<u64, Failure>
         ensures written { IfOk result (λ count. Writes self.old.pending self.old.runs.items self.new.runs.items self.old.next_id self.new.next_id count) }
         ensures new { OnOk result (repeated_told self.old.runs.items self.old.pending ≡ Ok false) }
-        ensures line { IfErr result (λ e. e ≡ BadLine → repeated_told self.old.runs.items self.old.pending ≡ Ok true) }
+        ensures refused { IfErr result (λ e. RefusesTable self.old.runs.items self.old.pending self.old.next_id e) }
         ensures runs { OnErr result (self.new.runs.items ≡ self.old.runs.items) }
         ensures id { OnErr result (self.new.next_id ≡ self.old.next_id) }
     {
