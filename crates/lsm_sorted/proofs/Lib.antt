@@ -1,4 +1,3 @@
-pub mod KeyLemmas
 pub mod EndsLemmas
 pub mod MvccLemmas
 pub mod NewestLemmas
@@ -32,12 +31,3 @@ pub mod Pairs
 pub mod ReadLemmas
 pub mod KeptLemmas
 pub mod PartLemmas
-pub mod IntervalLemmas
-pub mod SpanLemmas
-pub mod RunLemmas
-pub mod PackLemmas
-pub mod PackNumbers
-pub mod PackSize
-pub mod LinkLemmas
-pub mod WalkLemmas
-pub mod ChainLemmas

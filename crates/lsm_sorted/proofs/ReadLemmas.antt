@@ -16,7 +16,7 @@ use Rattle.lsm_sorted.specs.Point.{shown}
 use Rattle.lsm_sorted.specs.Compaction.{JudgedItem, Rules, goes, zeroed, outs, kept, as_is, unfiltered}
 use Rattle.lsm_sorted.specs.ReadLaw.{IsServed, ReadLaw}
 use Rattle.lsm_sorted.proofs.Hits.{first_hit, hit_shown}
-use Rattle.lsm_sorted.proofs.KeyLemmas.{KeyLe, same_is, same_itself, lt_other, le_other, lt_le}
+use Rattle.lsm_ranges.proofs.KeyLemmas.{KeyLe, same_is, same_itself, lt_other, le_other, lt_le}
 use Rattle.lsm_sorted.proofs.NewestLemmas.{KeysUp, keys_up}
 use Rattle.lsm_sorted.proofs.OutsLemmas.{AllOf, follows_in, open_outs, close_outs}
 

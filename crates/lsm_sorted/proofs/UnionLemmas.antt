@@ -15,7 +15,7 @@ use Rattle.sst_blocks.specs.declared.value_type.ValueType.TheVariants.{Value, To
 use Rattle.lsm_sorted.specs.Ends.{R}
 use Rattle.lsm_sorted.specs.Union.{item_cmp, AtMost, Ascends, SameBag, all_entries, IsUnion, inserted, in_order, merged}
 use Rattle.sst_blocks.specs.Strict.{number_cmp, IsStrict}
-use Rattle.lsm_sorted.proofs.KeyLemmas.{same_is, same_itself}
+use Rattle.lsm_ranges.proofs.KeyLemmas.{same_is, same_itself}
 use Rattle.lsm_sorted.proofs.Pairs.{AllBefore, pairs_of}
 use Rattle.lsm_sorted.proofs.MergedLemmas.{item_total, Above, at_most_chain, above_at_most, all_inserted}
 use Rattle.lsm_sorted.proofs.HeldLemmas.{weight, weight_false, count_cons, count_yes, count_no, none_counted}

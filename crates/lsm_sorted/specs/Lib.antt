@@ -18,8 +18,6 @@ pub mod Verdicts
 pub mod Ahead
 pub mod CompactionState
 pub mod ReadLaw
-pub mod KeyRange
-pub mod Run
-pub mod Packing
-pub mod Links
-pub mod LinkedRuns
+pub use Rattle.lsm_ranges.specs.KeyRange
+pub use Rattle.lsm_ranges.specs.Run
+pub use Rattle.lsm_ranges.specs.Packing

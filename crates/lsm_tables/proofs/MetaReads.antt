@@ -21,7 +21,7 @@ use Rattle.std.specs.Prelude.{nat_eq, ◌||◌}
 use Rattle.std.specs.Cmp.Lexicographic.{pointwise}
 use Rattle.byteorder.specs.Numbers.{little_number-reads_back}
 use Rattle.sst_blocks.specs.declared.error.Error.TheVariants.{UnsupportedTableVersion}
-use Rattle.lsm_sorted.specs.KeyRange.{interval}
+use Rattle.lsm_ranges.specs.KeyRange.{interval}
 use Rattle.lsm_tables.specs.Meta.{Facts, item_told, u64_told, version_told, kinds_told, byte_told, first_told, compressions_told, created_told, keys_told, seqnos_told, triple_told, facts_told}
 
 -- a number that was written is read

@@ -6,7 +6,7 @@ use Rattle.sst_blocks.specs.declared.error.Error.TheVariants.{MetaKeyMissing, In
 use Rattle.sst_blocks.specs.Entry.{Entry}
 use Rattle.sst_blocks.specs.Number.{num8, num16}
 use Rattle.sst_blocks.specs.Point.{point}
-use Rattle.lsm_sorted.specs.KeyRange.{Interval, interval}
+use Rattle.lsm_ranges.specs.KeyRange.{Interval, interval}
 use Rattle.lsm_tables.specs.ItemName.{name_of}
 use Rattle.lsm_tables.specs.declared.item_name.ItemName.{ItemName}
 use Rattle.lsm_tables.specs.declared.item_name.ItemName.TheVariants.{BlockCountData, BlockCountFilter, BlockCountIndex, ChecksumType, CompressionData, CompressionIndex, CreatedAt, FileSize, FilterHashType, ItemCount, KeyMax, KeyMin, RestartIntervalIndex, SeqnoMax, SeqnoMin, TableId, TableVersion, TombstoneCount, WeakTombstoneCount, WeakTombstoneReclaimable}

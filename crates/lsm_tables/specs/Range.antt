@@ -1,7 +1,7 @@
 -- The key range of a table, which its bytes and its global number tell.
 use Rattle.std.specs.Prelude.{ℕ, List, [], Result, Ok, Err}
 use Rattle.sst_blocks.specs.declared.error.Error.{Error}
-use Rattle.lsm_sorted.specs.KeyRange.{Interval, interval}
+use Rattle.lsm_ranges.specs.KeyRange.{Interval, interval}
 use Rattle.lsm_tables.specs.Parts.{Parts, recovered_told}
 
 -- the range that the meta block says, where the bytes are a table

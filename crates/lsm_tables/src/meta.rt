@@ -3,13 +3,13 @@ ghost use Rattle.std.specs.Prelude.{◌≡◌, ◌-◌, ◌^◌, List, ℕ, Resu
 ghost use Rattle.sst_blocks.specs.Error.{Gives};
 ghost use Rattle.sst_blocks.specs.Sections.{body_of};
 ghost use Rattle.lsm_tables.specs.Meta.{Facts, item_told, number8_told, number16_told, u64_told, byte_told, first_told, version_told, kinds_told, compressions_told, created_told, triple_told, keys_told, seqnos_told, facts_told};
-ghost use Rattle.lsm_sorted.specs.KeyRange.{Interval};
+ghost use Rattle.lsm_ranges.specs.KeyRange.{Interval};
 ghost use Rattle.lsm_tables.specs.Load.{meta_told};
 ghost use Rattle.lsm_tables.specs.Seen.{facts_of};
 
 use crate::item_name::ItemName;
 use byteorder::{ByteOrder, LittleEndian};
-use lsm_sorted::KeyRange;
+use lsm_ranges::KeyRange;
 use lsm_writers::{TableId, Timestamp};
 use sst_blocks::{
     BlockHandle, BlockSource, BlockType, CompressionType, DataBlock, Error, Opened, SeqNo, Slice,

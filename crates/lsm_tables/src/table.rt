@@ -13,7 +13,7 @@ ghost use Rattle.sst_blocks.specs.Strict.{IsStrict};
 ghost use Rattle.sst_blocks.specs.declared.block_type.BlockType.TheVariants.{Data, Index};
 ghost use Rattle.sst_blocks.specs.declared.error.Error.{Error};
 ghost use Rattle.sst_blocks.specs.declared.error.Error.TheVariants.{OutOfMemory};
-ghost use Rattle.lsm_sorted.specs.KeyRange.{bound_of, from_lower, up_to_upper};
+ghost use Rattle.lsm_ranges.specs.KeyRange.{bound_of, from_lower, up_to_upper};
 ghost use Rattle.lsm_writers.specs.File.{IsFile};
 ghost use Rattle.lsm_writers.specs.Options.{Options, Label};
 ghost use Rattle.lsm_tables.specs.Answer.{answer_told, handle_for, lift, Opens};
@@ -27,7 +27,7 @@ ghost use Rattle.lsm_tables.specs.TableSeen.{TableSeen};
 use crate::block_index::FullBlockIndex;
 use crate::handle::Shared;
 use crate::{HEADER_LEN, Inner, ParsedMeta, ParsedRegions, Scanner, point_in};
-use lsm_sorted::{KeyRange, Ranged};
+use lsm_ranges::{KeyRange, Ranged};
 use lsm_writers::{TableId, TreeId};
 use sst_blocks::{
     BlockSource, BlockType, Checksum, Counted, Error, IndexBlock, InternalValue, Opened, SeqNo,

@@ -1,6 +1,6 @@
 use super::{ROWS, table_of};
 use crate::HEADER_LEN;
-use lsm_sorted::Ranged;
+use lsm_ranges::Ranged;
 use sst_blocks::{Block, Error};
 use std::alloc::Global;
 use std::ops::Bound;

@@ -1,0 +1,105 @@
+-- The order of keys.
+use Rattle.std.proofs.Common.{◌≡◌, refl, sym, ◌∙◌, ap, subst, ℕ, Bool, true, false, List}
+use Rattle.std.specs.Prelude.{not}
+use Rattle.std.specs.declared.cmp.Ordering.{Ordering}
+use Rattle.std.specs.declared.cmp.Ordering.TheVariants.{Less, Equal, Greater}
+use Rattle.std.specs.Ordering.{nat_cmp, is_lt, is_gt, is_eq, ordering_then, ordering_reverse}
+use Rattle.std.specs.Cmp.Lexicographic.{slice_cmp, nat_list_cmp_total, nat_list_eq_equiv, same_text, texts_ties}
+use Rattle.std.proofs.lemmas.Cmp.{tied_itself}
+use Rattle.sst_blocks.specs.Entry.{Entry}
+use Rattle.sst_blocks.specs.Kind.{tag_of}
+use Rattle.sst_blocks.specs.Key.{same_key, key_lt}
+use Rattle.lsm_ranges.specs.Union.{AtMost}
+
+abbrev pub KeyLe : List ℕ → List ℕ → Type 0
+KeyLe a b = key_lt b a ≡ false
+
+apart : (b : Bool) → b ≡ true → b ≡ false → ⊥
+apart b p q = let e : true ≡ false = sym p ∙ q in absurd cc
+
+is_false : (b : Bool) → (b ≡ true → ⊥) → b ≡ false
+is_false true h = absurd (h refl)
+is_false false h = refl
+
+less_of : (o : Ordering) → is_lt o ≡ true → o ≡ Less
+less_of Less h = refl
+less_of Equal h = absurd cc
+less_of Greater h = absurd cc
+
+-- what a test by != says
+not_true : (b r : Bool) → r ≡ not b → r ≡ true → b ≡ false
+not_true true r e h = let k : false ≡ true = sym e ∙ h in absurd cc
+not_true false r e h = refl
+
+not_false : (b r : Bool) → r ≡ not b → r ≡ false → b ≡ true
+not_false true r e h = refl
+not_false false r e h = let k : true ≡ false = sym e ∙ h in absurd cc
+
+pub keys_apart : (a b : List ℕ) (r : Bool) → r ≡ not (same_key a b) → r ≡ true → same_key a b ≡ false
+keys_apart a b r e h = not_true (same_key a b) r e h
+
+pub keys_same : (a b : List ℕ) (r : Bool) → r ≡ not (same_key a b) → r ≡ false → same_key a b ≡ true
+keys_same a b r e h = not_false (same_key a b) r e h
+
+pub same_is : (a b : List ℕ) → same_key a b ≡ true → a ≡ b
+same_is a b h = same_text a b (sym h)
+
+pub same_itself : (a : List ℕ) → same_key a a ≡ true
+same_itself a = nat_list_eq_equiv.refl a
+
+pub le_itself : (a : List ℕ) → KeyLe a a
+le_itself a = ap is_lt (tied_itself nat_list_cmp_total a)
+
+pub lt_trans : (a b c : List ℕ) → key_lt a b ≡ true → key_lt b c ≡ true → key_lt a c ≡ true
+lt_trans a b c p q = ap is_lt (nat_list_cmp_total.trans a b c (less_of (slice_cmp nat_cmp a b) p) (less_of (slice_cmp nat_cmp b c) q))
+
+-- a key above another is not the same
+pub lt_other : (a b : List ℕ) → key_lt a b ≡ true → same_key b a ≡ false
+lt_other a b h = is_false (same_key b a) (λ same. apart (key_lt a b) h (subst (λ (k : List ℕ). key_lt a k ≡ false) (sym (same_is b a same)) (le_itself a)))
+
+flip_lt : (o : Ordering) → is_lt (ordering_reverse o) ≡ false → (is_eq o ≡ true → ⊥) → is_lt o ≡ true
+flip_lt Less h other = refl
+flip_lt Equal h other = absurd (other refl)
+flip_lt Greater h other = absurd cc
+
+-- below or the same
+pub le_other : (a b : List ℕ) → KeyLe a b → same_key b a ≡ false → key_lt a b ≡ true
+le_other a b h other =
+    flip_lt (slice_cmp nat_cmp a b) (ap is_lt (sym (nat_list_cmp_total.antisymm b a)) ∙ h)
+    (λ tie. apart (same_key b a) (subst (λ (k : List ℕ). same_key k a ≡ true) (same_text a b (sym (texts_ties a b ∙ tie))) (same_itself a)) other)
+
+pub le_same : (a b : List ℕ) → KeyLe a b → key_lt a b ≡ false → same_key b a ≡ true
+le_same a b h nay =
+    elim (same_key b a) as (λ v. same_key b a ≡ v → v ≡ true) [
+      | true ↦ λ e. refl
+      | false ↦ λ e. absurd (apart (key_lt a b) (le_other a b h e) nay)
+    ] refl
+
+pub lt_le : (a b c : List ℕ) → key_lt a b ≡ true → KeyLe b c → key_lt a c ≡ true
+lt_le a b c p q =
+    elim (same_key c b) as (λ v. same_key c b ≡ v → key_lt a c ≡ true) [
+      | true ↦ λ e. subst (λ (k : List ℕ). key_lt a k ≡ true) (sym (same_is c b e)) p
+      | false ↦ λ e. lt_trans a b c p (le_other b c q e)
+    ] refl
+
+pub le_lt : (a b c : List ℕ) → KeyLe a b → key_lt b c ≡ true → key_lt a c ≡ true
+le_lt a b c p q =
+    elim (same_key b a) as (λ v. same_key b a ≡ v → key_lt a c ≡ true) [
+      | true ↦ λ e. subst (λ (k : List ℕ). key_lt k c ≡ true) (same_is b a e) q
+      | false ↦ λ e. lt_trans a b c (le_other a b p e) q
+    ] refl
+
+pub gt_first : (o p : Ordering) → is_gt (ordering_then o p) ≡ false → is_gt o ≡ false
+gt_first Less p h = refl
+gt_first Equal p h = refl
+gt_first Greater p h = absurd cc
+
+lt_reverse : (o : Ordering) → is_lt (ordering_reverse o) ≡ is_gt o
+lt_reverse Less = refl
+lt_reverse Equal = refl
+lt_reverse Greater = refl
+
+pub key_le : (x y : Entry) → AtMost x y → KeyLe x.user_key y.user_key
+key_le x y h =
+    ap is_lt (nat_list_cmp_total.antisymm y.user_key x.user_key) ∙ lt_reverse (slice_cmp nat_cmp x.user_key y.user_key)
+    ∙ gt_first (slice_cmp nat_cmp x.user_key y.user_key) (ordering_then (nat_cmp y.seqno x.seqno) (nat_cmp (tag_of x.kind) (tag_of y.kind))) h

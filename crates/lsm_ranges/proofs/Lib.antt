@@ -1,0 +1,10 @@
+pub mod KeyLemmas
+pub mod IntervalLemmas
+pub mod SpanLemmas
+pub mod RunLemmas
+pub mod PackLemmas
+pub mod PackNumbers
+pub mod PackSize
+pub mod LinkLemmas
+pub mod WalkLemmas
+pub mod ChainLemmas

@@ -1,0 +1,5 @@
+pub mod KeyRange
+pub mod Run
+pub mod Packing
+pub mod Links
+pub mod LinkedRuns

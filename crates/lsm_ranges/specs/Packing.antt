@@ -1,0 +1,93 @@
+-- Packing runs: into how few runs tables can go while each key keeps the order of its tables.
+use Rattle.std.specs.Prelude.{◌≡◌, ◌≢◌, ℕ, zero, suc, ◌<◌, ◌≤◌, Bool, true, List, [], ◌∷◌, length, map, filter, flat_map, slice_get, if◌then◌else◌, ◌||◌, Contains, Option, Some, None}
+use Rattle.std.specs.List.{AllByRecursion, list_any, insert}
+use Rattle.lsm_ranges.specs.KeyRange.{Interval, has_key, key_le, overlaps, well_formed, disjoint}
+use Rattle.lsm_ranges.specs.Run.{how_many, in_order}
+
+-- the tables of runs, in run order
+abbrev pub tables_of : {T : Type 0} → List (List T) → List T
+tables_of runs = flat_map (λ run. run) runs
+
+-- the table at a place of a run
+abbrev pub table_at : {T : Type 0} → List (List T) → ℕ → ℕ → Option T
+table_at [] i j = None
+table_at (run ∷ runs) zero j = slice_get run j
+table_at (run ∷ runs) (suc i) j = table_at runs i j
+
+module _ {T : Type 0} (range : T → Interval) where
+  -- the tables, in run order, whose range has a key
+  abbrev pub holders : List (List T) → List ℕ → List T
+  holders runs k = filter (λ t. has_key (range t) k) (tables_of runs)
+
+  -- each table's range is well-formed
+  abbrev pub AreFormed : List T → Type 0
+  AreFormed tables = AllByRecursion (λ t. well_formed (range t) ≡ true) tables
+
+  -- each table's range is well-formed
+  abbrev pub AreWellFormed : List (List T) → Type 0
+  AreWellFormed runs = AreFormed (tables_of runs)
+
+  -- each run is in order and has a table
+  abbrev pub ArePacked : List (List T) → Type 0
+  ArePacked runs = AllByRecursion (λ run. (in_order (map range run) ≡ true) × (run ≢ [])) runs
+
+  -- each run has a table, ranges in a run are disjoint, and all ranges are well-formed
+  pub record AreDisjointRuns (runs : List (List T)) : Type 0 where
+    pub some : AllByRecursion (λ run. run ≢ []) runs
+    pub apart : AllByRecursion (λ run. disjoint (map range run) ≡ true) runs
+    pub formed : AreWellFormed runs
+
+  -- a number for each table, by run and place: of two overlapping tables the one in the earlier run has the smaller number
+  pub record IsPlacement (runs : List (List T)) (number : ℕ → ℕ → ℕ) : Type 0 where
+    pub keeps : (i j i' j' : ℕ) (t t' : T) → i < i' → table_at runs i j ≡ Some t → table_at runs i' j' ≡ Some t' → overlaps (range t) (range t') ≡ true → number i j < number i' j'
+
+  -- n is the least count of numbers of a placement: no list of fewer holds all numbers of one, and one has all its numbers below n
+  pub record IsLeastSize (runs : List (List T)) (n : ℕ) : Type 0 where
+    pub at_least : (number : ℕ → ℕ → ℕ) (numbers : List ℕ) → IsPlacement runs number → ((i j : ℕ) (t : T) → table_at runs i j ≡ Some t → Contains numbers (number i j)) → n ≤ length numbers
+    pub reached : (number : ℕ → ℕ → ℕ) × IsPlacement runs number × ((i j : ℕ) (t : T) → table_at runs i j ≡ Some t → number i j < n)
+
+  -- there are tables at two places, the second in a later run, and they overlap
+  pub record AreLinked (runs : List (List T)) (p q : ℕ × ℕ) : Type 0 where
+    pub first : T
+    pub second : T
+    pub first_at : table_at runs p.0 p.1 ≡ Some first
+    pub second_at : table_at runs q.0 q.1 ≡ Some second
+    pub later : p.0 < q.0
+    pub overlap : overlaps (range first) (range second) ≡ true
+
+  -- places of tables, each of which overlaps the next one, which is in a later run
+  abbrev pub IsChain : List (List T) → List (ℕ × ℕ) → Type 0
+  IsChain runs [] = Unit {0}
+  IsChain runs (p ∷ []) = (t : T) × (table_at runs p.0 p.1 ≡ Some t)
+  IsChain runs (p ∷ q ∷ ps) = AreLinked runs p q × IsChain runs (q ∷ ps)
+
+  -- whether an interval overlaps a table of a run
+  abbrev pub touches : Interval → List T → Bool
+  touches r run = list_any (λ t. overlaps (range t) r) run
+
+  -- a run with a table more, behind those that start no later
+  abbrev pub with_table : T → List T → List T
+  with_table t run = insert run (how_many (λ r. key_le r.min (range t).min) (map range run)) t
+
+  -- runs with a table more: in the first run from which on none overlaps it, or in a new run
+  abbrev pub put : T → List (List T) → List (List T)
+  put t [] = (t ∷ []) ∷ []
+  put t (run ∷ runs) = if touches (range t) run || list_any (touches (range t)) runs then run ∷ put t runs else with_table t run ∷ runs
+
+  -- runs with more tables, one after the other
+  abbrev pub put_all : List T → List (List T) → List (List T)
+  put_all [] runs = runs
+  put_all (t ∷ ts) runs = put_all ts (put t runs)
+
+  -- each run is in order
+  abbrev pub AreInOrder : List (List T) → Type 0
+  AreInOrder runs = AllByRecursion (λ run. in_order (map range run) ≡ true) runs
+
+-- each run has a table
+abbrev pub AreNotEmpty : {T : Type 0} → List (List T) → Type 0
+AreNotEmpty runs = AllByRecursion (λ run. run ≢ []) runs
+
+-- how many elements there are up to the last one that passes
+abbrev pub count_to_last : {X : Type 0} → (X → Bool) → List X → ℕ
+count_to_last p [] = 0
+count_to_last p (x ∷ xs) = if p x || list_any p xs then suc (count_to_last p xs) else 0

@@ -1,0 +1,53 @@
+-- Runs: lists of tables, and what a search finds in one whose ranges ascend.
+use Rattle.std.specs.Prelude.{◌≡◌, ℕ, ◌+◌, ◌-◌, ◌≤◌, Bool, true, not, ◌&&◌, ◌==◌, if◌then◌else◌, List, [], ◌∷◌, drop, length, filter, take, Option, Some, None}
+use Rattle.std.specs.declared.ops.Bound.{Bound}
+use Rattle.std.specs.declared.cmp.Ordering.{Ordering}
+use Rattle.std.specs.List.{list_all}
+use Rattle.std.specs.Cmp.Lexicographic.{slice_cmp}
+use Rattle.std.specs.Ordering.{nat_cmp}
+use Rattle.sst_blocks.specs.Key.{key_lt}
+use Rattle.lsm_ranges.specs.KeyRange.{Interval, interval, well_formed, from_lower, up_to_upper}
+
+-- the order of intervals by their least keys
+abbrev pub min_cmp : Interval → Interval → Ordering
+min_cmp a b = slice_cmp nat_cmp a.min b.min
+
+-- each interval is well-formed and ends before each later one starts
+abbrev pub in_order : List Interval → Bool
+in_order [] = true
+in_order (r ∷ rs) = well_formed r && list_all (λ later. key_lt r.max later.min) rs && in_order rs
+
+-- whether an interval ends before a lower bound
+abbrev pub ends_before : Bound (List ℕ) → Interval → Bool
+ends_before lower r = not (from_lower lower r.max)
+
+-- whether an interval starts within an upper bound
+abbrev pub starts_within : Bound (List ℕ) → Interval → Bool
+starts_within upper r = up_to_upper upper r.min
+
+-- how many intervals of a list pass a test
+abbrev pub how_many : (Interval → Bool) → List Interval → ℕ
+how_many p rs = length (filter p rs)
+
+-- `count` places from `low` on, by the first and the last of them
+abbrev pub places : ℕ → ℕ → Option (ℕ × ℕ)
+places low count = if count == 0 then None else Some (low, low + count - 1)
+
+-- the first place whose interval reaches the lower bound, and the last one from there on whose interval starts within the upper bound
+abbrev pub overlap_indexes : Bound (List ℕ) → Bound (List ℕ) → List Interval → Option (ℕ × ℕ)
+overlap_indexes lower upper rs =
+    let low = how_many (ends_before lower) rs in places low (how_many (starts_within upper) (drop low rs))
+
+-- the tables at neighbouring places of a list
+abbrev pub IsPartOf : {T : Type 0} → List T → List T → Type 0
+IsPartOf tables part = (low count : ℕ) × (low + count ≤ length tables) × (part ≡ take count (drop low tables))
+
+-- the greatest key of the last interval
+abbrev pub last_max : Interval → List Interval → List ℕ
+last_max r [] = r.max
+last_max r (next ∷ rs) = last_max next rs
+
+-- the first interval's least key and the last one's greatest
+abbrev pub first_to_last : List Interval → Option Interval
+first_to_last [] = None
+first_to_last (r ∷ rs) = Some (interval r.min (last_max r rs))

@@ -1,0 +1,375 @@
+//! Runs: tables in key order.
+ghost use Rattle.std.specs.Prelude.{◌≡◌, ◌≢◌, ◌<◌, ◌≤◌, ◌∷◌, ◌++◌, ◌&&◌, ℕ, Bool, true, IsTrue, Some, map, find, Contains, IfOk, IfSome, List, [], length, filter, remove, slice_get, MatchOption, OnOk, OnErr, IfErr};
+ghost use Rattle.std.specs.Fn.{CalledAt};
+ghost use Rattle.std.specs.List.Retain.{IsFiltered};
+ghost use Rattle.std.specs.Cmp.Lexicographic.{pointwise, lists_per, lists_equiv};
+ghost use Rattle.sst_blocks.specs.declared.error.Error.TheVariants.{OutOfMemory};
+ghost use Rattle.std.specs.Option.{option_copied, option_map_or};
+ghost use Rattle.std.specs.List.Sorted.{IsPermutation, IsSortedByKey, IsStableByKey};
+ghost use Rattle.sst_blocks.specs.Key.{key_lt};
+ghost use Rattle.lsm_ranges.specs.KeyRange.{bound_of, has_key, has_range, key_le, overlaps, well_formed};
+ghost use Rattle.lsm_ranges.specs.Packing.{with_table};
+ghost use Rattle.lsm_ranges.specs.Run.{in_order, ends_before, starts_within, how_many, overlap_indexes, first_to_last, min_cmp, IsPartOf};
+
+use crate::KeyRange;
+use crate::key_range::{is_from_lower, is_up_to_upper};
+use sst_blocks::{Error, UserKey};
+use std::alloc::{AllocError, Allocator, Global};
+use std::marker::Model;
+use std::ops::{Bound, Deref};
+
+/// What has a range of keys, as a table has.
+pub trait Ranged {
+    ghost use Rattle.std.specs.Prelude.{◌≡◌, ℕ, List};
+    ghost use Rattle.lsm_ranges.specs.KeyRange.{Interval};
+
+    /// Where the keys of the range lie.
+    type Alloc: Allocator;
+
+    // What a value stands for, as a table stands for its bytes and its global number.
+    ghost Meaning: { Type 0 };
+
+    ghost meaning: { Self → Meaning };
+
+    // The range of the keys.
+    ghost range: { Self → Interval };
+
+    /// The least and the greatest key.
+    fn key_range(&self) -> &KeyRange<Self::Alloc>
+        ensures { result.now ≡ range self.now };
+
+    // Values that stand for the same have the same range.
+    ghost steady: { (x y : Self) → meaning x ≡ meaning y → range x ≡ range y };
+}
+
+/// A table of a run. A contract sees the table.
+#[derive(Drop)]
+pub struct Indexed<T: Ranged> {
+    inner: T,
+}
+
+impl<T: Ranged> Model for Indexed<T> {
+    ghost Value = { T };
+
+    ghost view = { λ t. t.inner };
+}
+
+impl<T: Ranged> Indexed<T> {
+    /// A table of a run.
+    pub fn new(inner: T) -> Indexed<T>
+        ensures { result ≡ inner }
+    {
+        Indexed { inner }
+    }
+}
+
+impl<T: Ranged> Ranged for Indexed<T> {
+    type Alloc = T::Alloc;
+
+    ghost Meaning = { T.Meaning };
+
+    ghost meaning = { λ t. T.meaning t };
+
+    ghost range = { λ t. T.range t };
+
+    fn key_range(&self) -> &KeyRange<T::Alloc> {
+        self.inner.key_range()
+    }
+
+    ghost steady = { λ x y same. T.steady x y same };
+}
+
+impl<T: Ranged> Deref for Indexed<T> {
+    type Target = T;
+
+    ghost deref_gives = { λ t inner. inner ≡ t };
+
+    fn deref(&self) -> &T {
+        &self.inner
+    }
+}
+
+/// Tables in the order in which a search goes through them. Those of a run that is in order, see
+/// [`Run::is_in_order`], have ranges that do not overlap and ascend, so a search is a binary one.
+/// A contract sees the list of the tables.
+#[derive(Drop)]
+#[derive_where(Debug; T)]
+pub struct Run<T, A: Allocator = Global>(Vec<T, A>);
+
+impl<T, A: Allocator> Model for Run<T, A> {
+    ghost use Rattle.std.specs.Prelude.{List};
+
+    ghost Value = { List T };
+
+    ghost view = { λ run. run.0.items };
+}
+
+impl<T: PartialEq, A: Allocator> PartialEq for Run<T, A> {
+    ghost eq = { pointwise T.eq };
+
+    ghost laws = { lists_per T.laws };
+
+    fn eq(&self, other: &Self) -> bool {
+        self.0.as_slice() == other.0.as_slice()
+    }
+}
+
+impl<T: Eq, A: Allocator> Eq for Run<T, A> {
+    ghost laws = { lists_equiv T.Eq.laws };
+}
+
+impl<T: Ranged, A: Allocator> Run<T, A> {
+    ghost use Rattle.std.specs.Borrow.{Lends, sem};
+    ghost use Rattle.std.specs.contracts.vec.Vec as vec;
+    ghost use Rattle.lsm_ranges.specs.contracts.run.Run.{the_row};
+
+    /// The tables.
+    #[inline]
+    pub fn as_slice(&self) -> &[T]
+        ensures { result.now ≡ self.now }
+    {
+        self.0.as_slice()
+    }
+
+    /// Whether the ranges are well-formed, do not overlap and ascend; true for no tables.
+    pub fn is_in_order(&self) -> bool
+        ensures { result ≡ in_order (map T.range self.now) }
+    {
+        let mut last: Option<&UserKey<T::Alloc>> = None;
+        for table in &self.0 {
+            let range = table.key_range();
+            if !goes_on(last, range) {
+                return false;
+            }
+            last = Some(range.max());
+        }
+        true
+    }
+
+    /// The table whose range has the key, of a run that is in order. Of any other run, some table
+    /// or none.
+    pub fn get_for_key(&self, key: &[u8]) -> Option<&T>
+        ensures found { IsTrue (in_order (map T.range self.now)) → option_copied result ≡ find (λ t. has_key (T.range t) key.now) self.now }
+        ensures within { IfSome result (λ t. Contains self.now t.now) }
+    {
+        let tables = self.0.as_slice();
+        let (_, rest) = tables.split_at(count_ends_before(tables, Bound::Included(key)));
+        let table = rest.first()?;
+        if table.key_range().min().as_slice().cmp(key).is_le() {
+            Some(table)
+        } else {
+            None
+        }
+    }
+
+    /// The first and the last place of the tables whose ranges reach past both bounds, of a run
+    /// that is in order. Of any other run, some first and last place or none.
+    pub fn range_overlap_indexes(
+        &self,
+        lower: Bound<&[u8]>,
+        upper: Bound<&[u8]>,
+    ) -> Option<(usize, usize)>
+        ensures found { IsTrue (in_order (map T.range self.now)) → result ≡ overlap_indexes (bound_of lower.entry) (bound_of upper.entry) (map T.range self.now) }
+        ensures within { IfSome result (λ span. (span.0 ≤ span.1) × (span.1 < length self.now)) }
+    {
+        let tables = self.0.as_slice();
+        let first = count_ends_before(tables, lower);
+        let (_, rest) = tables.split_at(first);
+        let count = count_starts_within(rest, upper);
+        if count == 0 {
+            None
+        } else {
+            Some((first, first + count - 1))
+        }
+    }
+
+    /// The tables whose ranges overlap a range, of a run that is in order. Of any other run, some
+    /// tables that stand together.
+    pub fn get_overlapping(&self, key_range: &KeyRange<T::Alloc>) -> &[T]
+        ensures found { IsTrue (in_order (map T.range self.now)) → result.now ≡ filter (λ t. overlaps (T.range t) key_range.now) self.now }
+        ensures within { IsPartOf self.now result.now }
+    {
+        let tables = self.0.as_slice();
+        let (_, rest) = tables.split_at(count_ends_before(
+            tables,
+            Bound::Included(key_range.min().as_slice()),
+        ));
+        let (found, _) = rest.split_at(count_starts_within(
+            rest,
+            Bound::Included(key_range.max().as_slice()),
+        ));
+        found
+    }
+
+    /// The tables whose ranges lie wholly inside a range, of a run that is in order. Of any other
+    /// run, some tables that stand together.
+    pub fn get_contained(&self, key_range: &KeyRange<T::Alloc>) -> &[T]
+        ensures found { IsTrue (in_order (map T.range self.now)) → result.now ≡ filter (λ t. has_range key_range.now (T.range t)) self.now }
+        ensures within { IsPartOf self.now result.now }
+    {
+        let tables = self.0.as_slice();
+        let (_, rest) = tables.split_at(count_starts_before(tables, key_range.min().as_slice()));
+        let (found, _) = rest.split_at(count_ends_within(rest, key_range.max().as_slice()));
+        found
+    }
+
+    /// The range from the first table's least key to the last table's greatest. Conditions: there
+    /// is a table. Refused [`Error::OutOfMemory`] where a count of sharers is refused.
+    pub fn aggregate_key_range(&self) -> Result<KeyRange<T::Alloc>, Error>
+        requires { 0 < length self.now }
+        ensures ok { IfOk result (λ range. first_to_last (map T.range self.now) ≡ Some range) }
+        ensures err { IfErr result (λ e. e ≡ OutOfMemory) }
+    {
+        let tables = self.0.as_slice();
+        let first = tables[0].key_range();
+        let last = tables[tables.len() - 1].key_range();
+        Ok(KeyRange::new((first.min().clone()?, last.max().clone()?)))
+    }
+
+    // The tables, given up by the run.
+    pub(crate) fn into_vec(self) -> Vec<T, A>
+        ensures { result.items ≡ self }
+    {
+        self.0
+    }
+
+    // A run of these tables, which may be none.
+    pub(crate) fn of_tables(tables: Vec<T, A>) -> Run<T, A>
+        ensures { result ≡ tables.items }
+    {
+        Run(tables)
+    }
+
+    // Puts a table into a run that is in order, behind those that start no later.
+    pub(crate) fn insert_in_order(&mut self, table: T) -> Result<(), Error>
+    where
+        T: Drop,
+        ensures sorted { OnOk result (IsTrue (in_order (map T.range self.old)) → self.new ≡ with_table T.range table self.old) }
+        ensures permutation { OnOk result (IsPermutation (self.old ++ table ∷ []) self.new) }
+        ensures err { IfErr result (λ e. e ≡ OutOfMemory) }
+    {
+        let start = table.key_range().min().as_slice();
+        let place = count_starts_within(self.0.as_slice(), Bound::Included(start));
+        self.0.insert(place, table)?;
+        Ok(())
+    }
+
+    /// Takes the table at a place out; those behind it move up. Conditions: the place is below the
+    /// number of tables. The run can be left empty.
+    pub fn remove(&mut self, place: usize) -> T
+        requires { place < length self.old }
+        ensures taken { slice_get self.old place ≡ Some result }
+        ensures left { self.new ≡ remove self.old place }
+    {
+        self.0.remove(place)
+    }
+
+    /// Puts tables behind those of the run, in their order: nothing is sorted. Refused
+    /// [`Error::OutOfMemory`] alone; the run is unchanged then, and the tables are given up.
+    pub fn extend(&mut self, items: Vec<T, A>) -> Result<(), Error>
+    where
+        T: Drop,
+        ensures ok { OnOk result (self.new ≡ self.old ++ items.items) }
+        ensures err { IfErr result (λ e. (e ≡ OutOfMemory) × (self.new ≡ self.old)) }
+    {
+        let mut items = items;
+        self.0.append(&mut items)?;
+        Ok(())
+    }
+
+    /// Keeps the tables for which `keeps` answers true, in their order. The run can be left empty.
+    pub fn retain<F: Fn(&T) -> bool>(&mut self, keeps: F)
+    where
+        T: Drop,
+        requires { F.IsAlwaysCallable keeps }
+        ensures { IsFiltered (CalledAt F.FnMut) keeps self.old self.new }
+    {
+        self.0.retain(keeps)
+    }
+
+    /// The vector of the tables, to change it at will. The run can be left empty or out of order.
+    pub fn inner_mut(&mut self) -> &mut Vec<T, A>
+        ensures* writes_back { sem 𝓛 (Lends (the_row T.row A.row A.Allocator) (vec.the_row T.row A.row A.Allocator) self.entry result (λ v. v.items)) }
+        ensures value { result.now.items ≡ self.old }
+    {
+        &mut self.0
+    }
+}
+
+impl<T: Ranged + Drop, A: Allocator> Run<T, A> {
+    /// Puts a table in and sorts the run by the tables' least keys; of two with the same least key
+    /// the earlier one stays in front. Refused [`Error::OutOfMemory`] alone; the run is unchanged
+    /// then, and the table is given up.
+    pub fn push(&mut self, item: T) -> Result<(), Error>
+        ensures permutation { OnOk result (IsPermutation (self.old ++ item ∷ []) self.new) }
+        ensures sorted { OnOk result (IsSortedByKey T.range min_cmp self.new) }
+        ensures stable { OnOk result (IsStableByKey T.range min_cmp (self.old ++ item ∷ []) self.new) }
+        ensures err { IfErr result (λ e. (e ≡ OutOfMemory) × (self.new ≡ self.old)) }
+    {
+        self.0.push(item)?;
+        if let Err(refused) = sort_by_min(&mut self.0) {
+            self.0.pop();
+            return Err(refused.into());
+        }
+        Ok(())
+    }
+
+    /// A run of some tables, as they stand, and `None` exactly for no tables.
+    pub fn new(items: Vec<T, A>) -> Option<Run<T, A>>
+        ensures { MatchOption result (items.items ≡ []) (λ run. (run ≡ items.items) × (items.items ≢ [])) }
+    {
+        if items.is_empty() {
+            None
+        } else {
+            Some(Run(items))
+        }
+    }
+}
+
+// Whether a range is well-formed and starts above the last key, where there is one.
+fn goes_on<B: Allocator>(last: Option<&UserKey<B>>, range: &KeyRange<B>) -> bool
+    ensures { result ≡ (well_formed range.now && option_map_or (λ k. key_lt k range.now.min) (option_copied last.entry) true) }
+{
+    let starts_above = match last {
+        Some(last) => last < range.min(),
+        None => true,
+    };
+    range.is_well_formed() && starts_above
+}
+
+fn sort_by_min<T: Ranged, A: Allocator>(tables: &mut Vec<T, A>) -> Result<(), AllocError>
+    ensures permutation { IsPermutation tables.old.items tables.new.items }
+    ensures sorted { OnOk result (IsSortedByKey T.range min_cmp tables.new.items) }
+    ensures stable { IsStableByKey T.range min_cmp tables.old.items tables.new.items }
+    ensures err { OnErr result (tables.new.items ≡ tables.old.items) }
+{
+    tables.sort_by(|a, b| a.key_range().min().cmp(b.key_range().min()))
+}
+
+fn count_ends_before<T: Ranged>(tables: &[T], lower: Bound<&[u8]>) -> usize
+    ensures exact { IsTrue (in_order (map T.range tables.now)) → result ≡ how_many (ends_before (bound_of lower.entry)) (map T.range tables.now) }
+    ensures within { result ≤ length tables.now }
+{
+    tables.partition_point(|table| !is_from_lower(&lower, table.key_range().max().as_slice()))
+}
+
+fn count_starts_within<T: Ranged>(tables: &[T], upper: Bound<&[u8]>) -> usize
+    ensures exact { IsTrue (in_order (map T.range tables.now)) → result ≡ how_many (starts_within (bound_of upper.entry)) (map T.range tables.now) }
+    ensures within { result ≤ length tables.now }
+{
+    tables.partition_point(|table| is_up_to_upper(&upper, table.key_range().min().as_slice()))
+}
+
+fn count_starts_before<T: Ranged>(tables: &[T], key: &[u8]) -> usize
+    ensures exact { IsTrue (in_order (map T.range tables.now)) → result ≡ how_many (λ r. key_lt r.min key.now) (map T.range tables.now) }
+    ensures within { result ≤ length tables.now }
+{
+    tables.partition_point(|table| table.key_range().min().as_slice().cmp(key).is_lt())
+}
+
+fn count_ends_within<T: Ranged>(tables: &[T], key: &[u8]) -> usize
+    ensures exact { IsTrue (in_order (map T.range tables.now)) → result ≡ how_many (λ r. key_le r.max key.now) (map T.range tables.now) }
+    ensures within { result ≤ length tables.now }
+{
+    tables.partition_point(|table| table.key_range().max().as_slice().cmp(key).is_le())
+}

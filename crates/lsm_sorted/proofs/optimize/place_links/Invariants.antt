@@ -1,9 +1,0 @@
--- The tables so far are packed with their places.
-use Rattle.std.proofs.Common.{List, ◌++◌, take}
-use Rattle.lsm_sorted.specs.Links.{Tagged, tags_in}
-use Rattle.lsm_sorted.specs.LinkedRuns.{ArePackedLinks}
-use Rattle.lsm_sorted.proofs.optimize.place_links.Given as goal
-
-abbrev pub invariant-loop-index : goal.invariant-loop-index
-invariant-loop-index g l =
-    (ts : List (Tagged g.row.T.Denot)) → ArePackedLinks g.T.Ranged.range ts l.initial.packed.items → ArePackedLinks g.T.Ranged.range (ts ++ tags_in l.run 0 (take l.index l.tables)) l.packed.items
