@@ -6,10 +6,7 @@ use Rattle.std.specs.declared.cmp.Ordering.TheVariants.{Less, Equal, Greater}
 use Rattle.std.specs.Ordering.{nat_cmp, is_lt, is_gt, is_eq, ordering_then, ordering_reverse}
 use Rattle.std.specs.Cmp.Lexicographic.{slice_cmp, nat_list_cmp_total, nat_list_eq_equiv, same_text, texts_ties}
 use Rattle.std.proofs.lemmas.Cmp.{tied_itself}
-use Rattle.sst_blocks.specs.Entry.{Entry}
-use Rattle.sst_blocks.specs.Kind.{tag_of}
 use Rattle.sst_blocks.specs.Key.{same_key, key_lt}
-use Rattle.lsm_ranges.specs.Union.{AtMost}
 
 abbrev pub KeyLe : List ℕ → List ℕ → Type 0
 KeyLe a b = key_lt b a ≡ false
@@ -93,13 +90,3 @@ pub gt_first : (o p : Ordering) → is_gt (ordering_then o p) ≡ false → is_g
 gt_first Less p h = refl
 gt_first Equal p h = refl
 gt_first Greater p h = absurd cc
-
-lt_reverse : (o : Ordering) → is_lt (ordering_reverse o) ≡ is_gt o
-lt_reverse Less = refl
-lt_reverse Equal = refl
-lt_reverse Greater = refl
-
-pub key_le : (x y : Entry) → AtMost x y → KeyLe x.user_key y.user_key
-key_le x y h =
-    ap is_lt (nat_list_cmp_total.antisymm y.user_key x.user_key) ∙ lt_reverse (slice_cmp nat_cmp x.user_key y.user_key)
-    ∙ gt_first (slice_cmp nat_cmp x.user_key y.user_key) (ordering_then (nat_cmp y.seqno x.seqno) (nat_cmp (tag_of x.kind) (tag_of y.kind))) h

@@ -1,3 +1,4 @@
+pub mod EntryKeyLemmas
 pub mod EndsLemmas
 pub mod MvccLemmas
 pub mod NewestLemmas

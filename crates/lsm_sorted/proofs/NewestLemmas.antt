@@ -8,7 +8,8 @@ use Rattle.sst_blocks.specs.Stream.{first, but_first, last, but_last}
 use Rattle.lsm_sorted.specs.Ends.{R}
 use Rattle.lsm_sorted.specs.Newest.{after_key, settle, front_step, climb, back_of, back_step}
 use Rattle.sst_blocks.specs.Key.{same_key, key_lt}
-use Rattle.lsm_ranges.proofs.KeyLemmas.{KeyLe, same_is, lt_other, le_other, le_same, lt_le, le_lt, key_le}
+use Rattle.lsm_ranges.proofs.KeyLemmas.{KeyLe, same_is, lt_other, le_other, le_same, lt_le, le_lt}
+use Rattle.lsm_sorted.proofs.EntryKeyLemmas.{key_le}
 use Rattle.lsm_sorted.specs.Union.{AtMost, Ascends, newest}
 use Rattle.sst_blocks.specs.Stream.{all_ok}
 
