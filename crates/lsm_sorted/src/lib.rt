@@ -1,5 +1,5 @@
-//! Key ranges, runs of tables, merging and compaction: everything that works on sorted entries, whatever table they come
-//! from.
+//! Merging, newest versions and compaction, and with `lsm_ranges` key ranges and runs of tables: everything that works on
+//! sorted entries, whatever table they come from.
 #![tactic(auto)]
 
 mod ahead;
