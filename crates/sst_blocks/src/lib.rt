@@ -45,6 +45,3 @@ pub use version::TableVersion;
 
 /// The number of an entry: of two versions of a key, the one with the greater number is newer.
 pub type SeqNo = u64;
-
-#[cfg(test)]
-mod stored_table;

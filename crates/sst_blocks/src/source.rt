@@ -233,6 +233,3 @@ impl<A: Allocator + Clone> LoadBlocks for Counted<'_, A> {
         self.source.load(handle, kind, &mut self.opened)
     }
 }
-
-#[cfg(test)]
-mod tests;

@@ -1,11 +1,10 @@
 use crate::block::Header;
 use crate::fnv::{Fnv1a, update_both};
 use crate::{
-    Block, BlockHandle, BlockOffset, BlockSource, BlockType, CompressionType, Error, SectionName,
-    SectionWriter, Slice, TableVersion, stored_table,
+    Block, BlockHandle, BlockOffset, BlockType, CompressionType, Error, SectionName, SectionWriter,
+    Slice, TableVersion,
 };
-use refusing::each_refused;
-use std::alloc::{Allocator, Global};
+use std::alloc::Global;
 use std::test::Fail;
 
 fn hash_of(bytes: &[u8]) -> u64 {
@@ -39,68 +38,6 @@ fn hashes_alone_and_two_at_once(rt: HostRuntime) {
     }
 }
 
-// The sections of the stored table, written again.
-fn write_again<A: Allocator + Clone>(alloc: A) -> Result<(Slice<A>, u128), Error> {
-    let bytes = stored_table::bytes();
-    let mut writer = SectionWriter::new(alloc)?;
-    writer.start(SectionName::Data)?;
-    writer.append(&bytes[..45])?;
-    writer.start(SectionName::Tli)?;
-    writer.append(&bytes[45..96])?;
-    writer.start(SectionName::TableVersion)?;
-    writer.append(&bytes[96..97])?;
-    writer.start(SectionName::Meta)?;
-    writer.append(&bytes[97..1138])?;
-    let (bytes, checksum) = writer.finish()?;
-    Ok((bytes, checksum.0))
-}
-
-#[test]
-fn a_stored_table_is_written_again(rt: HostRuntime) -> Result<(), Fail> {
-    let (bytes, checksum) = write_again(rt.alloc())?;
-    assert!(rt; bytes.as_slice() == stored_table::bytes().as_slice());
-    assert_eq!(rt; checksum, 0x30fc_eabc_de57_bd50);
-    Ok(())
-}
-
-// Where a section of what was written lies.
-fn lies(alloc: Global, name: SectionName) -> Result<Option<(u64, u64)>, Error> {
-    let (bytes, _) = write_again(alloc)?;
-    let source = BlockSource::new(alloc, bytes)?;
-    Ok(
-        source
-            .toc()
-            .section(name)
-            .map(|section| (section.position, section.len)),
-    )
-}
-
-#[test]
-fn sections_lie_where_they_were_written(rt: HostRuntime) -> Result<(), Fail> {
-    for (name, expected) in [
-        (SectionName::Data, Some((0, 45))),
-        (SectionName::Index, None),
-        (SectionName::Tli, Some((45, 51))),
-        (SectionName::Filter, None),
-        (SectionName::FilterTli, None),
-        (SectionName::TableVersion, Some((96, 1))),
-        (SectionName::Meta, Some((97, 1041))),
-    ] {
-        assert_eq!(rt; lies(rt.alloc(), name)?, expected);
-    }
-    Ok(())
-}
-
-#[test]
-fn each_request_of_a_section_writer_refused(rt: HostRuntime) {
-    let refused = each_refused(rt.alloc(), |heap, may_fail| match write_again(heap) {
-        Ok((bytes, _)) => bytes.as_slice() == stored_table::bytes().as_slice(),
-        Err(Error::OutOfMemory) => may_fail,
-        Err(_) => false,
-    });
-    assert!(rt; refused.is_ok());
-}
-
 #[test]
 fn a_header_as_bytes(rt: HostRuntime) {
     let old = Header {
@@ -109,7 +46,11 @@ fn a_header_as_bytes(rt: HostRuntime) {
         uncompressed_len: 21,
         checksum: 0x1c39_83e9_2eaf_2c44,
     };
-    assert!(rt; stored_table::bytes().starts_with(&old.encode(BlockType::Data)));
+    let bytes = [
+        0x4c, 0x42, 0x4b, 0x31, 0, 0, 0, 0, 0x15, 0, 0, 0, 0x15, 0, 0, 0, 0x44, 0x2c, 0xaf, 0x2e,
+        0xe9, 0x83, 0x39, 0x1c,
+    ];
+    assert!(rt; old.encode(BlockType::Data).as_slice() == bytes.as_slice());
 }
 
 // The block of one entry in the new version.

@@ -1,8 +1,10 @@
-use crate::{
-    Block, BlockHandle, BlockOffset, BlockSource, BlockType, CompressionType, Counted, Error,
-    LoadBlocks, Opened, SectionName, SectionWriter, Slice, TagName, stored_table,
-};
+//! Loading the blocks of a stored table, and what its changed bytes are refused for.
+use crate::stored_table;
 use refusing::each_refused;
+use sst_blocks::{
+    Block, BlockHandle, BlockOffset, BlockSource, BlockType, CompressionType, Counted, Error,
+    LoadBlocks, Opened, SectionName, SectionWriter, Slice, TagName,
+};
 use std::alloc::{Allocator, Global};
 use std::test::Fail;
 

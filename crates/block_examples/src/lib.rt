@@ -1,0 +1,9 @@
+//! Worked examples of `sst_blocks`: tests that need nothing private, in a crate of their own. Nothing here is for use.
+#![tactic(auto)]
+
+#[cfg(test)]
+mod loading;
+#[cfg(test)]
+mod sections;
+#[cfg(test)]
+mod stored_table;

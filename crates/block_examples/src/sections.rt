@@ -1,0 +1,68 @@
+//! The sections of a stored table, written again.
+use crate::stored_table;
+use refusing::each_refused;
+use sst_blocks::{BlockSource, Error, SectionName, SectionWriter, Slice};
+use std::alloc::{Allocator, Global};
+use std::test::Fail;
+
+// The sections of the stored table, written again.
+fn write_again<A: Allocator + Clone>(alloc: A) -> Result<(Slice<A>, u128), Error> {
+    let bytes = stored_table::bytes();
+    let mut writer = SectionWriter::new(alloc)?;
+    writer.start(SectionName::Data)?;
+    writer.append(&bytes[..45])?;
+    writer.start(SectionName::Tli)?;
+    writer.append(&bytes[45..96])?;
+    writer.start(SectionName::TableVersion)?;
+    writer.append(&bytes[96..97])?;
+    writer.start(SectionName::Meta)?;
+    writer.append(&bytes[97..1138])?;
+    let (bytes, checksum) = writer.finish()?;
+    Ok((bytes, checksum.0))
+}
+
+#[test]
+fn a_stored_table_is_written_again(rt: HostRuntime) -> Result<(), Fail> {
+    let (bytes, checksum) = write_again(rt.alloc())?;
+    assert!(rt; bytes.as_slice() == stored_table::bytes().as_slice());
+    assert_eq!(rt; checksum, 0x30fc_eabc_de57_bd50);
+    Ok(())
+}
+
+// Where a section of what was written lies.
+fn lies(alloc: Global, name: SectionName) -> Result<Option<(u64, u64)>, Error> {
+    let (bytes, _) = write_again(alloc)?;
+    let source = BlockSource::new(alloc, bytes)?;
+    Ok(
+        source
+            .toc()
+            .section(name)
+            .map(|section| (section.position, section.len)),
+    )
+}
+
+#[test]
+fn sections_lie_where_they_were_written(rt: HostRuntime) -> Result<(), Fail> {
+    for (name, expected) in [
+        (SectionName::Data, Some((0, 45))),
+        (SectionName::Index, None),
+        (SectionName::Tli, Some((45, 51))),
+        (SectionName::Filter, None),
+        (SectionName::FilterTli, None),
+        (SectionName::TableVersion, Some((96, 1))),
+        (SectionName::Meta, Some((97, 1041))),
+    ] {
+        assert_eq!(rt; lies(rt.alloc(), name)?, expected);
+    }
+    Ok(())
+}
+
+#[test]
+fn each_request_of_a_section_writer_refused(rt: HostRuntime) {
+    let refused = each_refused(rt.alloc(), |heap, may_fail| match write_again(heap) {
+        Ok((bytes, _)) => bytes.as_slice() == stored_table::bytes().as_slice(),
+        Err(Error::OutOfMemory) => may_fail,
+        Err(_) => false,
+    });
+    assert!(rt; refused.is_ok());
+}
