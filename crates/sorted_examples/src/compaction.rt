@@ -172,7 +172,7 @@ fn keeps_what_readers_at_the_threshold_see(rt: HostRuntime) -> Result<(), Fail> 
 }
 
 #[test]
-fn evicts_tombstones_and_hides_numbers(rt: HostRuntime) -> Result<(), Fail> {
+fn evicts_tombstones_and_zeroes_numbers(rt: HostRuntime) -> Result<(), Fail> {
     let evicting = Settings {
         evict: true,
         ..PLAIN
