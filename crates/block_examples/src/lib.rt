@@ -2,7 +2,15 @@
 #![tactic(auto)]
 
 #[cfg(test)]
+mod data_blocks;
+#[cfg(test)]
+mod hashes;
+#[cfg(test)]
+mod index_blocks;
+#[cfg(test)]
 mod loading;
+#[cfg(test)]
+mod payloads;
 #[cfg(test)]
 mod sections;
 #[cfg(test)]

@@ -21,6 +21,3 @@ pub use table::{Table, TableInner};
 
 /// The length of a block header in bytes, [`sst_blocks::Block::HEADER_LEN`].
 const HEADER_LEN: u32 = 24;
-
-#[cfg(test)]
-mod tests;

@@ -5,17 +5,18 @@ ghost use Rattle.sst_blocks.specs.declared.error.Error.TheVariants.{OutOfMemory}
 ghost use Rattle.sst_blocks.specs.declared.version.TableVersion.TheVariants.{V4};
 ghost use Rattle.sst_blocks.specs.Error.{Faults};
 ghost use Rattle.sst_blocks.specs.Strict.{IsStrict, last_of};
-ghost use Rattle.lsm_writers.specs.Chunks.{size_of};
+ghost use Rattle.lsm_writers.specs.Chunks.{joined, size_of};
 ghost use Rattle.lsm_writers.specs.Options.{default_options};
 ghost use Rattle.lsm_writers.specs.Counts.{metadata_of};
 ghost use Rattle.lsm_writers.specs.Writing.{written, IsFresh, follows, write_fault, item_fault, gained, spilled, finish_fault, IsFinished};
 ghost use Rattle.std.specs.List.{AllByRecursion};
 ghost use Rattle.lsm_writers.specs.Held.{IsShort};
-ghost use Rattle.lsm_writers.specs.Registered.{failed_fault, appended};
-ghost use Rattle.lsm_writers.specs.File.{end_sections, HasNoEnd};
-ghost use Rattle.sst_blocks.specs.Encoding.{entries_fault};
+ghost use Rattle.lsm_writers.specs.Registered.{failed_fault};
+ghost use Rattle.lsm_writers.specs.File.{file};
+ghost use Rattle.lsm_writers.specs.Index.{handles};
+ghost use Rattle.sst_blocks.specs.Bounds.{index_block_bound_of};
+ghost use Rattle.sst_blocks.specs.Encoding.{key_fault, large_fault};
 ghost use Rattle.sst_blocks.specs.Fnv.{fnv1a};
-ghost use Rattle.sst_blocks.specs.Sections.{finished};
 
 mod data_blocks;
 pub mod index;
@@ -29,8 +30,7 @@ use meta::Metadata;
 use meta_block::{TableLabel, meta_items};
 use options::WriterOptions;
 use sst_blocks::{
-    Block, BlockType, Checksum, CompressionType, DataBlock, Error, InternalKey, InternalValue,
-    SectionName, SectionWriter, SeqNo, Slice, TableVersion,
+    Checksum, CompressionType, Error, InternalKey, InternalValue, SeqNo, Slice, TableVersion,
 };
 use std::alloc::{Allocator, Global};
 use std::marker::Model;
@@ -206,14 +206,8 @@ impl<A: Allocator + Clone> Writer<A> {
             meta,
             failed: _,
         } = self;
-        let items = meta_items(chunk.allocator().clone()?, &label, &options, &meta)?;
-        let (file_writer, buffer) = blocks.finish_index()?;
-        let (bytes, checksum) = close(file_writer, buffer, &items)?;
-        Ok(Some(FinishedTable {
-            id: label.table_id,
-            checksum,
-            bytes,
-        }))
+        let table = table_of(chunk.allocator(), &label, &options, blocks, &meta)?;
+        Ok(Some(table))
     }
 
     /// After how many entries at most a data block has a place where reading can restart.
@@ -335,29 +329,29 @@ fn check_item<A: Allocator>(
     Ok(())
 }
 
-/// Writes the version and the meta block behind the other sections, and the trailer.
-fn close<A: Allocator + Clone>(
-    mut file_writer: SectionWriter<A>,
-    mut buffer: Vec<u8, A>,
-    items: &[InternalValue<A>],
-) -> Result<(Slice<A>, Checksum), Error>
-    requires fresh { HasNoEnd file_writer }
-    requires strict { IsStrict items.now }
-    requires fit { entries_fault items.now ≡ None }
-    ensures bytes { IfOk result (λ x. x.0 ≡ finished (appended file_writer (end_sections items.now))) }
-    ensures checksum { IfOk result (λ x. x.1.0 ≡ fnv1a (finished (appended file_writer (end_sections items.now)))) }
-    ensures err { IfErr result (λ e. e ≡ OutOfMemory) }
+/// The table of these blocks: behind them stand their index, the version, the meta block and the trailer. Refused
+/// [`Error::BlockTooLarge`] where the bound of the index reaches 2^32, and [`Error::OutOfMemory`].
+fn table_of<A: Allocator + Clone>(
+    alloc: &A,
+    label: &TableLabel,
+    options: &WriterOptions,
+    blocks: DataBlocks<A>,
+    meta: &Metadata<A>,
+) -> Result<FinishedTable<A>, Error>
+    requires works { blocks.failed ≡ false }
+    requires keys { key_fault (handles V4 blocks.chunks) ≡ None }
+    requires short { AllByRecursion IsShort (joined blocks.chunks) }
+    requires counted { meta.now ≡ metadata_of V4 blocks.chunks [] }
+    ensures id { IfOk result (λ t. t.id ≡ label.now.table_id) }
+    ensures checksum { IfOk result (λ t. t.checksum.0 ≡ fnv1a t.bytes) }
+    ensures bytes { IfOk result (λ t. t.bytes ≡ file V4 label.now options.now blocks.chunks) }
+    ensures refused { Faults result (large_fault (index_block_bound_of (handles V4 blocks.chunks))) }
 {
-    file_writer.start(SectionName::TableVersion)?;
-    file_writer.append(&[4])?;
-    file_writer.start(SectionName::Meta)?;
-    buffer.clear();
-    DataBlock::encode_into(&mut buffer, items, 1, 0)?;
-    Block::write_into(
-        &mut file_writer,
-        &buffer,
-        BlockType::Meta,
-        CompressionType::None,
-    )?;
-    file_writer.finish()
+    let items = meta_items(alloc.clone()?, label, options, meta)?;
+    let (bytes, checksum) = blocks.finish(&items)?;
+    Ok(FinishedTable {
+        id: label.table_id,
+        checksum,
+        bytes,
+    })
 }

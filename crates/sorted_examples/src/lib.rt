@@ -1,5 +1,5 @@
-//! Worked examples of `lsm_ranges` and `lsm_sorted`: tests in a crate of their own, since tests are proved together with the
-//! crate that they stand in. Nothing here is for use.
+//! Worked examples of `lsm_sorted`: tests in a crate of their own, since tests are proved together with the crate that they
+//! stand in. Nothing here is for use.
 #![tactic(auto)]
 
 #[cfg(test)]
@@ -10,7 +10,5 @@ mod heaps;
 mod merging;
 #[cfg(test)]
 mod newest;
-#[cfg(test)]
-mod ranges;
 #[cfg(test)]
 mod words;

@@ -48,12 +48,14 @@ pub fn run_script<A: Allocator + Clone, R: Read + Drop, W: Write, E: Write>(
     }
 }
 
+// Says on `errors` why the script ended.
 fn report<E: Write>(errors: &mut E, stop: Stop) -> io::Result<()>
     ensures { OnOk result (Appends (E.contents errors.old) (E.contents errors.new) (stop_text stop ++ 10 ∷ [])) }
 {
     writeln!(errors, "{stop}")
 }
 
+// Answers the lines of `input` up to the last one, or up to the one at which the script ends.
 fn answer_script<A: Allocator + Clone, R: Read + Drop, W: Write>(
     alloc: A,
     input: R,
@@ -83,6 +85,7 @@ fn read_line<R: BufRead, A: Allocator>(input: &mut R, line: &mut Vec<u8, A>) -> 
     Ok(length > 0)
 }
 
+// Takes away the end of a line, which the last line may lack.
 fn strip_end<A: Allocator>(line: &mut Vec<u8, A>)
     ensures { line.new.items ≡ strip_last 10 line.old.items }
 {

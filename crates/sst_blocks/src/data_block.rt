@@ -269,6 +269,3 @@ impl<A: Allocator> DataBlock<A> {
         Ok(Some(self.share(index, &entry)?))
     }
 }
-
-#[cfg(test)]
-mod tests;

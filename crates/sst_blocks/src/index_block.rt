@@ -17,8 +17,6 @@ ghost use Rattle.sst_blocks.specs.declared.version.TableVersion.TheVariants.{V4}
 mod encode;
 mod iter;
 mod read;
-#[cfg(test)]
-mod tests;
 
 use crate::{Block, BlockHandle, BlockOffset, Error, KeyedBlockHandle, SeqNo, Slice, TableVersion};
 use encode::{key_fault, put_handles};

@@ -229,6 +229,3 @@ fn put_trailer<A: Allocator>(
     bytes.extend_from_slice(&TRAILER_MARK)?;
     Ok(())
 }
-
-#[cfg(test)]
-mod tests;

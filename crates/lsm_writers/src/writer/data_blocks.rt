@@ -7,19 +7,22 @@ ghost use Rattle.sst_blocks.specs.declared.version.TableVersion.TheVariants.{V4}
 ghost use Rattle.sst_blocks.specs.Bounds.{index_block_bound_of};
 ghost use Rattle.sst_blocks.specs.Encoding.{entries_fault, key_fault, large_fault};
 ghost use Rattle.sst_blocks.specs.Error.{Faults};
+ghost use Rattle.sst_blocks.specs.Fnv.{fnv1a};
+ghost use Rattle.sst_blocks.specs.Sections.{finished};
 ghost use Rattle.sst_blocks.specs.Strict.{IsStrict, last_of};
 ghost use Rattle.lsm_writers.specs.Chunks.{joined};
 ghost use Rattle.lsm_writers.specs.Cut.{Cut, CountsCut, with_cut, rest_of};
-ghost use Rattle.lsm_writers.specs.File.{index_sections};
+ghost use Rattle.lsm_writers.specs.File.{end_sections, index_sections, HasNoEnd};
 ghost use Rattle.lsm_writers.specs.Index.{handles, data_section};
 ghost use Rattle.lsm_writers.specs.Layout.{laid};
+ghost use Rattle.lsm_writers.specs.Registered.{appended};
 
 use crate::writer::index::{BlockIndexWriter, FullIndexWriter};
 use crate::writer::meta::Metadata;
 use crate::writer::options::WriterOptions;
 use sst_blocks::{
-    Block, BlockHandle, BlockOffset, BlockType, CompressionType, DataBlock, Error, InternalValue,
-    KeyedBlockHandle, SectionName, SectionWriter,
+    Block, BlockHandle, BlockOffset, BlockType, Checksum, CompressionType, DataBlock, Error,
+    InternalValue, KeyedBlockHandle, SectionName, SectionWriter, Slice,
 };
 use std::alloc::{Allocator, Global};
 use std::marker::Model;
@@ -127,9 +130,24 @@ impl<A: Allocator + Clone> DataBlocks<A> {
         Ok(())
     }
 
+    /// Writes the index behind the blocks, then the version and a meta block of these items, and the trailer. Refused
+    /// [`Error::BlockTooLarge`] where the bound of the index reaches 2^32, and [`Error::OutOfMemory`].
+    pub(crate) fn finish(self, items: &[InternalValue<A>]) -> Result<(Slice<A>, Checksum), Error>
+        requires works { self.failed ≡ false }
+        requires short { key_fault (handles V4 self.chunks) ≡ None }
+        requires strict { IsStrict items.now }
+        requires fit { entries_fault items.now ≡ None }
+        ensures bytes { IfOk result (λ x. x.0 ≡ finished (appended (laid ((Data, data_section V4 self.chunks) ∷ index_sections V4 self.chunks)) (end_sections items.now))) }
+        ensures checksum { IfOk result (λ x. x.1.0 ≡ fnv1a x.0) }
+        ensures refused { Faults result (large_fault (index_block_bound_of (handles V4 self.chunks))) }
+    {
+        let (file_writer, buffer) = self.finish_index()?;
+        close(file_writer, buffer, items)
+    }
+
     /// Writes the index behind the blocks, and answers the sections so far, with memory for what is left to encode. Refused
     /// [`Error::BlockTooLarge`] where the bound of the index reaches 2^32, and [`Error::OutOfMemory`].
-    pub(crate) fn finish_index(self) -> Result<(SectionWriter<A>, Vec<u8, A>), Error>
+    fn finish_index(self) -> Result<(SectionWriter<A>, Vec<u8, A>), Error>
         requires works { self.failed ≡ false }
         requires short { key_fault (handles V4 self.chunks) ≡ None }
         ensures ok { IfOk result (λ x. x.0 ≡ laid ((Data, data_section V4 self.chunks) ∷ index_sections V4 self.chunks)) }
@@ -144,4 +162,31 @@ impl<A: Allocator + Clone> DataBlocks<A> {
         index_writer.finish(&mut file_writer)?;
         Ok((file_writer, block_buffer))
     }
+}
+
+/// Writes the version and the meta block behind the other sections, and the trailer.
+fn close<A: Allocator + Clone>(
+    mut file_writer: SectionWriter<A>,
+    mut buffer: Vec<u8, A>,
+    items: &[InternalValue<A>],
+) -> Result<(Slice<A>, Checksum), Error>
+    requires fresh { HasNoEnd file_writer }
+    requires strict { IsStrict items.now }
+    requires fit { entries_fault items.now ≡ None }
+    ensures bytes { IfOk result (λ x. x.0 ≡ finished (appended file_writer (end_sections items.now))) }
+    ensures checksum { IfOk result (λ x. x.1.0 ≡ fnv1a x.0) }
+    ensures err { IfErr result (λ e. e ≡ OutOfMemory) }
+{
+    file_writer.start(SectionName::TableVersion)?;
+    file_writer.append(&[4])?;
+    file_writer.start(SectionName::Meta)?;
+    buffer.clear();
+    DataBlock::encode_into(&mut buffer, items, 1, 0)?;
+    Block::write_into(
+        &mut file_writer,
+        &buffer,
+        BlockType::Meta,
+        CompressionType::None,
+    )?;
+    file_writer.finish()
 }

@@ -3,7 +3,7 @@ use Rattle.std.proofs.lemmas.List.{take_more}
 use Rattle.sst_blocks.specs.Entry.{Entry}
 use Rattle.sst_blocks.specs.Strict.{IsStrict, IsStrictAfter, last_of, may_follow}
 use Rattle.sst_blocks.proofs.Items.{strict_push, last_push}
-use Rattle.sst_blocks.proofs.data_block.tests.are_strict.Goals as goal
+use Rattle.block_examples.proofs.data_blocks.are_strict.Goals as goal
 
 pub loop-item-init : goal.loop-item-init
 unfolding IsStrictAfter last_of

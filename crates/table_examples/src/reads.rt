@@ -1,15 +1,13 @@
-mod scans;
-mod surface;
-
-use crate::Table;
+//! Point reads of a table.
+use lsm_tables::Table;
 use lsm_writers::{Timestamp, Writer};
 use refusing::{Refusing, each_refused};
 use sst_blocks::{Error, InternalValue, Opened, SeqNo, Slice, ValueType};
 use std::alloc::{Allocator, Global};
 use std::test::Fail;
 
-// A table of some keys and numbers without values, in blocks of one entry each.
-fn table_of<A: Allocator + Clone>(
+/// A table of some keys and numbers without values, in blocks of one entry each.
+pub(crate) fn table_of<A: Allocator + Clone>(
     alloc: A,
     rows: &[(u8, SeqNo)],
     global_seqno: SeqNo,
@@ -50,7 +48,8 @@ fn read<A: Allocator + Clone>(table: &Table<A>, key: &[u8], seqno: SeqNo) -> (u6
     (told, opened.data_loads)
 }
 
-const ROWS: [(u8, SeqNo); 4] = [(b'a', 9), (b'a', 7), (b'a', 5), (b'b', 1)];
+/// The rows of a table of four entries.
+pub(crate) const ROWS: [(u8, SeqNo); 4] = [(b'a', 9), (b'a', 7), (b'a', 5), (b'b', 1)];
 
 // Whether the clone of a table reads as the table did, which is gone.
 fn clone_reads(alloc: Global) -> Result<bool, Error> {

@@ -6,7 +6,7 @@ use Rattle.sst_blocks.specs.Handle.{Handle}
 use Rattle.sst_blocks.specs.Handles.{end_of}
 use Rattle.sst_blocks.specs.Strict.{may_follow, is_strict_after}
 use Rattle.sst_blocks.proofs.Items.{strict_from_test}
-use Rattle.sst_blocks.proofs.index_block.tests.are_strict.Goals as goal
+use Rattle.block_examples.proofs.index_blocks.are_strict.Goals as goal
 
 one_more : (whole : Bool) (last : Option Entry) (hs : List Handle) (i : ℕ) (h : Handle) → i < length hs → h ≡ get_or hs i h → may_follow last (end_of h) ≡ true
     → whole ≡ is_strict_after last (map end_of (drop i hs)) → whole ≡ is_strict_after (Some (end_of h)) (map end_of (drop (i + 1) hs))

@@ -1,5 +1,5 @@
 use Rattle.std.proofs.Common.{length}
-use Rattle.sst_blocks.proofs.index_block.tests.handles_claimed.Given as goal
+use Rattle.block_examples.proofs.index_blocks.handles_claimed.Given as goal
 
 abbrev pub decreases-loop-claims : goal.decreases-loop-claims
 decreases-loop-claims g l = length l.claims

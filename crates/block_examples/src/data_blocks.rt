@@ -1,14 +1,15 @@
-ghost use Rattle.std.specs.Prelude.{◌≡◌, ◌<◌, ◌^◌, true, length};
+//! Data blocks: what is written of entries, and what reads and seeks find.
+ghost use Rattle.std.specs.Prelude.{◌≡◌, true};
 ghost use Rattle.std.specs.Option.{option_map};
 ghost use Rattle.sst_blocks.specs.Strict.{IsStrict, may_follow};
 
-use super::{Iter, entry_starts};
-use crate::Direction::{Back, Front};
-use crate::{
-    Block, BlockType, DataBlock, Direction, Error, InternalValue, IterItem, SeqNo, Slice,
+use crate::payloads::data_block;
+use refusing::{Refusing, each_refused};
+use sst_blocks::Direction::{Back, Front};
+use sst_blocks::{
+    DataBlock, DataBlockIter, Direction, Error, InternalValue, IterItem, SeqNo, Slice,
     TableVersion, ValueType, answer_at, data_block_bound,
 };
-use refusing::{Refusing, each_refused};
 use std::alloc::{Allocator, Global};
 use std::test::Fail;
 
@@ -50,24 +51,6 @@ fn are_strict<A: Allocator>(items: &[InternalValue<A>]) -> bool
     true
 }
 
-// The block of a payload.
-fn load<A: Allocator + Clone>(
-    alloc: A,
-    version: TableVersion,
-    bytes: &[u8],
-) -> Result<DataBlock<A>, Error>
-    requires { length bytes.now < 2 ^ 32 }
-{
-    let starts = entry_starts(alloc.clone()?, version, bytes)?;
-    let payload = Slice::from(alloc, bytes)?;
-    Ok(DataBlock::new(Block {
-        version,
-        kind: BlockType::Data,
-        payload,
-        starts,
-    }))
-}
-
 // The block of these entries, by way of its bytes.
 fn written_and_loaded<A: Allocator + Clone>(
     alloc: A,
@@ -78,7 +61,7 @@ fn written_and_loaded<A: Allocator + Clone>(
     }
     let mut bytes = Vec::new(alloc.clone()?);
     DataBlock::encode_into(&mut bytes, items, 16, 0)?;
-    load(alloc, TableVersion::V4, bytes.as_slice())
+    data_block(alloc, TableVersion::V4, bytes.as_slice())
 }
 
 // a@9, a@7 as a tombstone, a@5, c@0 and e@3.
@@ -106,11 +89,9 @@ fn has_one_entry<A: Allocator + Clone>(
     alloc: A,
     version: TableVersion,
     bytes: &[u8],
-) -> Result<bool, Error>
-    requires { length bytes.now < 2 ^ 32 }
-{
+) -> Result<bool, Error> {
     let expected = entry(alloc.clone()?, b"a", 1, ValueType::Value, b"x")?;
-    let block = load(alloc, version, bytes)?;
+    let block = data_block(alloc, version, bytes)?;
     let found = block.point_read(b"a", 2)?;
     let missed = block.point_read(b"a", 1)?;
     Ok(block.len() == 1 && !block.is_empty() && found == Some(expected) && missed.is_none())
@@ -203,7 +184,7 @@ fn a_point_read_finds_entries_as_they_were_written(rt: HostRuntime) -> Result<()
 // Whether a block without entries gives none.
 fn has_none(alloc: Global) -> Result<bool, Error> {
     let count = [0; 4];
-    let block = load(alloc, TableVersion::V3, &count)?;
+    let block = data_block(alloc, TableVersion::V3, &count)?;
     let mut iter = block.iter();
     Ok(
         block.is_empty()
@@ -228,7 +209,7 @@ fn number<A: Allocator>(answer: Option<IterItem<A>>) -> Result<SeqNo, Error> {
 }
 
 // Seeks in a block, and answers whether that leaves an entry.
-fn seek(iter: &mut Iter<'_>, to: &str, key: &[u8]) -> bool {
+fn seek(iter: &mut DataBlockIter<'_>, to: &str, key: &[u8]) -> bool {
     match to {
         "at least" => iter.seek(key),
         "above" => iter.seek_exclusive(key),
@@ -339,10 +320,7 @@ fn is_read<A: Allocator + Clone>(
         bytes.push((*first & 0xff) as u8)?;
         bytes.push(b'x')?;
     }
-    if bytes.len() > 100 {
-        return Ok(false);
-    }
-    match load(alloc, TableVersion::V4, &bytes) {
+    match data_block(alloc, TableVersion::V4, &bytes) {
         Ok(block) => Ok(block.len() == entries.len()),
         Err(Error::InvalidBlock) => Ok(false),
         Err(error) => Err(error),
@@ -388,8 +366,7 @@ fn payloads_cut_short_or_of_the_other_version_are_refused(rt: HostRuntime) {
         (TableVersion::V3, new.as_slice()),
         (TableVersion::V4, old.as_slice()),
     ] {
-        assert!(rt; bytes.len() < 24);
-        let answer = load(rt.alloc(), version, bytes);
+        let answer = data_block(rt.alloc(), version, bytes);
         assert!(rt; matches!(&answer, Err(Error::InvalidBlock)));
     }
 }
@@ -484,7 +461,7 @@ fn each_request_refused_is_answered_so(rt: HostRuntime) -> Result<(), Fail> {
         Err(Error::OutOfMemory) => may_fail,
         Err(_) => false,
     });
-    assert_eq!(rt; answers, Ok(19));
+    assert_eq!(rt; answers, Ok(24));
     Ok(())
 }
 

@@ -1,7 +1,7 @@
 //! Key ranges, runs and their packing on worked examples, over tables that have an id and a range alone.
 ghost use Rattle.std.specs.Prelude.{◌≡◌};
 
-use lsm_sorted::{Indexed, KeyRange, Ranged, Run, optimize_runs, overlap_chain};
+use lsm_ranges::{Indexed, KeyRange, Ranged, Run, optimize_runs, overlap_chain};
 use refusing::each_refused;
 use sst_blocks::{Error, Slice};
 use std::alloc::{AllocError, Allocator, Global};
@@ -18,7 +18,7 @@ struct FakeTable<A: Allocator = Global> {
 impl<A: Allocator> Ranged for FakeTable<A> {
     ghost use Rattle.std.specs.Prelude.{ℕ};
     ghost use Rattle.std.proofs.Common.{ap};
-    ghost use Rattle.lsm_sorted.specs.KeyRange.{Interval};
+    ghost use Rattle.lsm_ranges.specs.KeyRange.{Interval};
 
     type Alloc = A;
 

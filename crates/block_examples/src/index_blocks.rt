@@ -1,14 +1,15 @@
-ghost use Rattle.std.specs.Prelude.{◌≡◌, ◌<◌, ◌^◌, true, length};
+//! Index blocks: what is written of handles, and what reads and seeks find.
+ghost use Rattle.std.specs.Prelude.{◌≡◌, true};
 ghost use Rattle.sst_blocks.specs.Handles.{AreStrictHandles, end_of};
 ghost use Rattle.sst_blocks.specs.Strict.{may_follow};
 ghost use Rattle.std.specs.Option.{option_map};
 
-use crate::index_block::handle_starts;
-use crate::{
-    Block, BlockHandle, BlockOffset, BlockType, Error, IndexBlock, KeyedBlockHandle, SeqNo, Slice,
-    TableVersion, index_block_bound,
-};
+use crate::payloads::index_block;
 use refusing::{Refusing, each_refused};
+use sst_blocks::{
+    BlockHandle, BlockOffset, Error, IndexBlock, KeyedBlockHandle, SeqNo, Slice, TableVersion,
+    index_block_bound,
+};
 use std::alloc::{Allocator, Global};
 use std::test::Fail;
 
@@ -53,24 +54,6 @@ fn are_strict<A: Allocator>(handles: &[KeyedBlockHandle<A>]) -> bool
     true
 }
 
-// The block of a payload.
-fn load<A: Allocator + Clone>(
-    alloc: A,
-    version: TableVersion,
-    bytes: &[u8],
-) -> Result<IndexBlock<A>, Error>
-    requires { length bytes.now < 2 ^ 32 }
-{
-    let starts = handle_starts(alloc.clone()?, version, bytes)?;
-    let payload = Slice::from(alloc, bytes)?;
-    Ok(IndexBlock::new(Block {
-        version,
-        kind: BlockType::Index,
-        payload,
-        starts,
-    }))
-}
-
 // b@5, b@3, d@9 and f@1, at the positions 0, 10, 20 and 30.
 fn four_handles<A: Allocator + Clone>(alloc: A) -> Result<Vec<KeyedBlockHandle<A>, A>, Error> {
     let mut handles = Vec::new(alloc.clone()?);
@@ -95,11 +78,9 @@ fn has_one_handle<A: Allocator + Clone>(
     version: TableVersion,
     bytes: &[u8],
     size: u32,
-) -> Result<bool, Error>
-    requires { length bytes.now < 2 ^ 32 }
-{
+) -> Result<bool, Error> {
     let expected = handle(alloc.clone()?, b"a", 1, 0, size)?;
-    let block = load(alloc, version, bytes)?;
+    let block = index_block(alloc, version, bytes)?;
     let found = block.find(b"a", 2)?;
     let missed = block.find(b"a", 1)?;
     Ok(block.len() == 1 && !block.is_empty() && found == Some(expected) && missed.is_none())
@@ -155,7 +136,7 @@ fn written_and_loaded<A: Allocator + Clone>(
     }
     let mut bytes = Vec::new(alloc.clone()?);
     IndexBlock::encode_into(&mut bytes, handles)?;
-    load(alloc, TableVersion::V4, bytes.as_slice())
+    index_block(alloc, TableVersion::V4, bytes.as_slice())
 }
 
 // Whether handles are left after a seek, and the position of the first.
@@ -268,9 +249,7 @@ fn handles_claimed<A: Allocator + Clone>(
     alloc: A,
     count: u32,
     claims: &[u8],
-) -> Result<usize, Error>
-    requires { length claims.now < 2 ^ 20 }
-{
+) -> Result<usize, Error> {
     let mut bytes = Vec::new(alloc.clone()?);
     bytes.extend_from_slice(&count.to_le_bytes())?;
     let mut claims = claims;
@@ -281,10 +260,7 @@ fn handles_claimed<A: Allocator + Clone>(
         bytes.push(*key)?;
         claims = rest;
     }
-    if bytes.len() > 1000 {
-        return Err(Error::BlockTooLarge);
-    }
-    let block = load(alloc, TableVersion::V4, bytes.as_slice())?;
+    let block = index_block(alloc, TableVersion::V4, bytes.as_slice())?;
     Ok(block.len())
 }
 
@@ -308,7 +284,6 @@ fn payloads_out_of_the_grammar_are_refused(rt: HostRuntime) -> Result<(), Fail> 
         (2, b"b\x01\x01a\x01\x00"),
     ];
     for (count, claims) in &faults {
-        assert!(rt; claims.len() < 10);
         assert!(rt;
             handles_claimed(alloc, *count, claims) == Err(Error::InvalidBlock),
             "{count}"
@@ -321,11 +296,11 @@ fn payloads_out_of_the_grammar_are_refused(rt: HostRuntime) -> Result<(), Fail> 
 fn is_refused(alloc: Global, len: usize) -> bool {
     let old = ONE_IN_V3;
     match old.get(..len) {
-        Some(bytes) if bytes.len() < 30 => matches!(
-            load(alloc, TableVersion::V4, bytes),
+        Some(bytes) => matches!(
+            index_block(alloc, TableVersion::V4, bytes),
             Err(Error::InvalidBlock)
         ),
-        _ => false,
+        None => false,
     }
 }
 
@@ -413,7 +388,7 @@ fn each_request_refused_is_answered_so(rt: HostRuntime) -> Result<(), Fail> {
         Err(Error::OutOfMemory) => may_fail,
         Err(_) => false,
     });
-    assert_eq!(rt; answers, Ok(13));
+    assert_eq!(rt; answers, Ok(18));
     Ok(())
 }
 

@@ -1,56 +1,23 @@
-use crate::block::Header;
-use crate::fnv::{Fnv1a, update_both};
-use crate::{
+//! Hashes, and the bytes of blocks.
+use sst_blocks::{
     Block, BlockHandle, BlockOffset, BlockType, CompressionType, Error, SectionName, SectionWriter,
-    Slice, TableVersion,
+    Slice, hash,
 };
 use std::alloc::Global;
 use std::test::Fail;
 
-fn hash_of(bytes: &[u8]) -> u64 {
-    let mut hash = Fnv1a::new();
-    hash.update(bytes);
-    hash.finish()
-}
-
-// The hashes of two byte strings, made side by side.
-fn hashes_of(one: &[u8], other: &[u8]) -> (u64, u64) {
-    let mut hash = Fnv1a::new();
-    let mut other_hash = Fnv1a::new();
-    update_both(&mut hash, one, &mut other_hash, other);
-    (hash.finish(), other_hash.finish())
-}
-
 // The vectors are those of http://www.isthe.com/chongo/src/fnv/test_fnv.c.
 #[test]
-fn hashes_alone_and_two_at_once(rt: HostRuntime) {
+fn hashes_of_byte_strings(rt: HostRuntime) {
     let vectors: [(&[u8], u64); 4] = [
         (b"", 0xcbf2_9ce4_8422_2325),
         (b"a", 0xaf63_dc4c_8601_ec8c),
         (b"b", 0xaf63_df4c_8601_f1a5),
         (b"foobar", 0x8594_4171_f739_67e8),
     ];
-    for (bytes, hash) in vectors {
-        assert_eq!(rt; hash_of(bytes), hash);
-        for (other_bytes, other_hash) in vectors {
-            assert_eq!(rt; hashes_of(bytes, other_bytes), (hash, other_hash));
-        }
+    for (bytes, expected) in vectors {
+        assert_eq!(rt; hash(bytes), expected);
     }
-}
-
-#[test]
-fn a_header_as_bytes(rt: HostRuntime) {
-    let old = Header {
-        version: TableVersion::V3,
-        data_len: 21,
-        uncompressed_len: 21,
-        checksum: 0x1c39_83e9_2eaf_2c44,
-    };
-    let bytes = [
-        0x4c, 0x42, 0x4b, 0x31, 0, 0, 0, 0, 0x15, 0, 0, 0, 0x15, 0, 0, 0, 0x44, 0x2c, 0xaf, 0x2e,
-        0xe9, 0x83, 0x39, 0x1c,
-    ];
-    assert!(rt; old.encode(BlockType::Data).as_slice() == bytes.as_slice());
 }
 
 // The block of one entry in the new version.
@@ -75,6 +42,7 @@ fn two_blocks(alloc: Global) -> Result<(BlockHandle, BlockHandle, Slice, u128), 
     Ok((first, second, bytes, checksum.0))
 }
 
+// Two hashes are made at once here, the payload's and that of all bytes.
 #[test]
 fn blocks_as_bytes(rt: HostRuntime) -> Result<(), Fail> {
     let (first, second, bytes, checksum) = two_blocks(rt.alloc())?;
@@ -84,6 +52,6 @@ fn blocks_as_bytes(rt: HostRuntime) -> Result<(), Fail> {
     assert!(rt; bytes.starts_with(&HEADER));
     assert!(rt; bytes.get(24..47) == Some(PAYLOAD.as_slice()));
     assert!(rt; bytes.get(71..73) == Some(b"\x06\xff".as_slice()));
-    assert_eq!(rt; checksum, u128::from(hash_of(bytes)));
+    assert_eq!(rt; checksum, u128::from(hash(bytes)));
     Ok(())
 }

@@ -1,5 +1,6 @@
-use super::{ROWS, table_of};
-use crate::Scanner;
+//! Scans of a table.
+use crate::reads::{ROWS, table_of};
+use lsm_tables::Scanner;
 use refusing::{Refusing, each_refused};
 use sst_blocks::{Error, SeqNo};
 use std::alloc::{Allocator, Global};

@@ -1,7 +1,7 @@
-use super::{ROWS, table_of};
-use crate::HEADER_LEN;
+//! What a table says of itself.
+use crate::reads::{ROWS, table_of};
 use lsm_ranges::Ranged;
-use sst_blocks::{Block, Error};
+use sst_blocks::Error;
 use std::alloc::Global;
 use std::ops::Bound;
 use std::test::Fail;
@@ -23,7 +23,6 @@ fn shows_itself(alloc: Global) -> Result<bool, Error> {
 #[test]
 fn a_table_shows_its_id_and_its_range(rt: HostRuntime) -> Result<(), Fail> {
     assert!(rt; shows_itself(rt.alloc())?);
-    assert_eq!(rt; HEADER_LEN, Block::<Global>::HEADER_LEN);
     Ok(())
 }
 
