@@ -182,30 +182,29 @@ impl<A: Allocator + Clone> Writer<A> {
     ///
     /// Refused [`Error::WriterFailed`] where a call was refused before, [`Error::BlockTooLarge`] where the bound of the index
     /// reaches 2^32, and [`Error::OutOfMemory`].
-    pub fn finish(mut self) -> Result<Option<FinishedTable<A>>, Error>
+    pub fn finish(self) -> Result<Option<FinishedTable<A>>, Error>
         ensures table { IfOk result (λ t. MatchOption t (written self ≡ []) (λ f. IsFinished self f.id f.checksum.0 f.bytes)) }
         ensures refused { Faults result (finish_fault self) }
         // The list that was written is strict, and its entries are as long as a table holds.
         ensures strict { IfOk result (λ t. IsStrict (written self)) }
         ensures short { IfOk result (λ t. AllByRecursion IsShort (written self)) }
     {
-        if self.failed {
-            return Err(Error::WriterFailed);
-        }
-        self.blocks
-            .cut(&mut self.chunk, &mut self.meta, &self.options)?;
-        if self.meta.item_count == 0 {
-            return Ok(None);
-        }
         let Writer {
             label,
             options,
-            blocks,
-            chunk,
+            mut blocks,
+            mut chunk,
             chunk_size: _,
-            meta,
-            failed: _,
+            mut meta,
+            failed,
         } = self;
+        if failed {
+            return Err(Error::WriterFailed);
+        }
+        blocks.cut(&mut chunk, &mut meta, &options)?;
+        if meta.item_count == 0 {
+            return Ok(None);
+        }
         let table = table_of(chunk.allocator(), &label, &options, blocks, &meta)?;
         Ok(Some(table))
     }

@@ -119,12 +119,8 @@ impl<A: Allocator + Clone> DataBlocks<A> {
         )?;
         let handle = KeyedBlockHandle::new(end_key, seqno, place);
         self.index_writer.register_data_block(&handle)?;
-        let file_pos = self.file_writer.position();
-        meta.data_block_count += 1;
-        meta.item_count += chunk.len();
-        meta.file_pos = BlockOffset(file_pos);
-        meta.uncompressed_size += self.block_buffer.len() as u64;
-        meta.last_key = Some(last_key);
+        let end = BlockOffset(self.file_writer.position());
+        meta.count_block(chunk.len(), self.block_buffer.len(), end, last_key);
         self.last = chunk.pop();
         chunk.clear();
         Ok(())

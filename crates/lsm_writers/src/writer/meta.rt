@@ -1,5 +1,5 @@
 //! What a writer knows of the table so far.
-ghost use Rattle.std.specs.Prelude.{◌≡◌, OnOk, OnErr, IfErr};
+ghost use Rattle.std.specs.Prelude.{◌≡◌, ◌+◌, ◌<◌, ◌^◌, Some, OnOk, OnErr, IfErr};
 ghost use Rattle.std.specs.Option.{option_copied};
 ghost use Rattle.sst_blocks.specs.declared.error.Error.TheVariants.{OutOfMemory};
 ghost use Rattle.lsm_writers.specs.Facts.{is_weak, is_value_kind, starts_key, is_reclaimable};
@@ -100,7 +100,7 @@ fn is_value(kind: ValueType) -> bool
 }
 
 impl<A: Allocator> Metadata<A> {
-    ghost use Rattle.std.specs.Prelude.{◌≡◌, OnOk, OnErr, IfErr};
+    ghost use Rattle.std.specs.Prelude.{◌≡◌, ◌+◌, ◌<◌, ◌^◌, Some, OnOk, OnErr, IfErr};
     ghost use Rattle.std.specs.Option.{option_copied};
     ghost use Rattle.sst_blocks.specs.declared.error.Error.TheVariants.{OutOfMemory};
     ghost use Rattle.lsm_writers.specs.Counts.{counted, HasRoom};
@@ -126,5 +126,23 @@ impl<A: Allocator> Metadata<A> {
         self.lowest_seqno = self.lowest_seqno.min(item.key.seqno);
         self.highest_seqno = self.highest_seqno.max(item.key.seqno);
         Ok(())
+    }
+
+    /// Counts a block that was cut: its entries, the bytes of its payload, where it ends and its last key.
+    pub(crate) fn count_block(
+        &mut self,
+        items: usize,
+        size: usize,
+        end: BlockOffset,
+        last_key: UserKey<A>,
+    )
+        requires { (self.old.data_block_count + 1 < 2 ^ 64) × (self.old.item_count + items < 2 ^ 64) × (self.old.uncompressed_size + size < 2 ^ 64) }
+        ensures { self.new ≡ record self.old { data_block_count = self.old.data_block_count + 1; item_count = self.old.item_count + items; file_pos = end; uncompressed_size = self.old.uncompressed_size + size; last_key = Some last_key } }
+    {
+        self.data_block_count += 1;
+        self.item_count += items;
+        self.file_pos = end;
+        self.uncompressed_size += size as u64;
+        self.last_key = Some(last_key);
     }
 }

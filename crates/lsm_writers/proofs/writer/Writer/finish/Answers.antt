@@ -30,8 +30,8 @@ cut-requires-clause-fit g c =
     let held = c.self.invariant.0 in
     no_fault c.self.inside.chunk.items (all_back IsShort (joined c.self.inside.blocks.chunks) c.self.inside.chunk.items held.short) (omega (arith, held.sized, held.small))
 
-pub returns-then-self-eq0-clause-table : goal.returns-then-self-eq0-clause-table
-returns-then-self-eq0-clause-table g c =
+pub returns-then-meta-eq0-clause-table : goal.returns-then-meta-eq0-clause-table
+returns-then-meta-eq0-clause-table g c =
     let i = c.self.inside in
     let size = i.options.data_block_size in
     let held = c.self.invariant.0 in
@@ -40,12 +40,12 @@ returns-then-self-eq0-clause-table g c =
     let chunks = are_chunks size i.blocks.chunks i.chunk.items held.shortest held.front in
     let meta : c.cut.new.meta ≡ metadata_of V4 cut [] = c.in_ok-cut.ensures.counted ∙ ap (λ (cs : List (List Entry)). with_cut cs i.meta) c.in_ok-cut.ensures.ok ∙ done.counted in
     let short : AllByRecursion IsShort (joined cut) = all_front IsShort (joined cut) [] done.short in
-    let count : length (joined cut) ≡ 0 = sym (ap (λ (m : Metadata g.row.A.Denot). m.item_count) meta) ∙ c.if-self-eq0.true in
+    let count : length (joined cut) ≡ 0 = sym (ap (λ (m : Metadata g.row.A.Denot). m.item_count) meta) ∙ c.if-meta-eq0.true in
     let nothing : joined i.blocks.chunks ++ i.chunk.items ≡ [] = sym chunks.whole ∙ nil_from_length (joined cut) count in
     subst (λ (w : Writing). written w ≡ []) c.self.view_is nothing
 
-pub returns-then-self-eq0-clause-refused : goal.returns-then-self-eq0-clause-refused
-returns-then-self-eq0-clause-refused g c =
+pub returns-then-meta-eq0-clause-refused : goal.returns-then-meta-eq0-clause-refused
+returns-then-meta-eq0-clause-refused g c =
     let i = c.self.inside in
     let size = i.options.data_block_size in
     let held = c.self.invariant.0 in
@@ -54,9 +54,9 @@ returns-then-self-eq0-clause-refused g c =
     let chunks = are_chunks size i.blocks.chunks i.chunk.items held.shortest held.front in
     let meta : c.cut.new.meta ≡ metadata_of V4 cut [] = c.in_ok-cut.ensures.counted ∙ ap (λ (cs : List (List Entry)). with_cut cs i.meta) c.in_ok-cut.ensures.ok ∙ done.counted in
     let short : AllByRecursion IsShort (joined cut) = all_front IsShort (joined cut) [] done.short in
-    let count : length (joined cut) ≡ 0 = sym (ap (λ (m : Metadata g.row.A.Denot). m.item_count) meta) ∙ c.if-self-eq0.true in
+    let count : length (joined cut) ≡ 0 = sym (ap (λ (m : Metadata g.row.A.Denot). m.item_count) meta) ∙ c.if-meta-eq0.true in
     let no = no_index_fault cut (no_chunks size cut done.shortest count) in
-    subst (λ (w : Writing). finish_fault w ≡ None) c.self.view_is (rw c.if-self.false no)
+    subst (λ (w : Writing). finish_fault w ≡ None) c.self.view_is (rw c.if-failed.false no)
 
 pub table_of-requires-clause-keys : goal.table_of-requires-clause-keys
 table_of-requires-clause-keys g c =
@@ -99,7 +99,7 @@ returns-clause-table g c =
     let made : IsFinished w c.in_ok-table.table.id c.in_ok-table.table.checksum.0 c.in_ok-table.table.bytes = record {
       some = λ e.
           let zero : c.cut.new.meta.item_count ≡ 0 = ap (λ (m : Metadata g.row.A.Denot). m.item_count) meta ∙ ap length (chunks.whole ∙ e) in
-          c.if-self-eq0.false zero;
+          c.if-meta-eq0.false zero;
       id_is = c.in_ok-table.ensures.id;
       checksum_is = c.in_ok-table.ensures.checksum;
       file_is = record { blocks = cut; chunks = chunks; are = bytes };

@@ -42,28 +42,8 @@ returns-in_err-register_data_block-clause-unchanged g c =
     let same : chunks_in V4 (length c.register_data_block.new.self.handles) c.write_into.new.writer.bytes ≡ c.args.self.now.chunks = held_again _ _ _ _ _ lost ∙ ap (λ (x : Cut). x.chunks) c.self.view_is in
     on_err _ same
 
-pub overflow_add-meta : goal.overflow_add-meta
-overflow_add-meta g c =
-    let works : c.self.inside.index_writer.failed ≡ false = ap (λ (x : Cut). x.failed) c.self.view_is ∙ c.requires.works in
-    let cs : chunks_in V4 (length c.self.inside.index_writer.handles) c.self.inside.file_writer.bytes ≡ c.args.self.now.chunks = ap (λ (x : Cut). x.chunks) c.self.view_is in
-    let strict : IsStrict (joined (chunks_in V4 (length c.self.inside.index_writer.handles) c.self.inside.file_writer.bytes) ++ c.args.chunk.now.items) = rw cs c.requires.strict in
-    let place = last_place _ _ _ c.deref.ensures.value c.in-Some.ensures.value in
-    let readable = readable_of _ _ c.deref-2.ensures.value place.0 c.in_ok-encode_into.ensures.reads c.in_ok-encode_into.ensures.short c.in_ok-encode_into.ensures.bound in
-    let spelled : c.deref-3.result.now ≡ payload V4 c.args.chunk.now.items = rw (c.deref-3.ensures.value, c.in_ok-encode_into.ensures.ok, c.clear.ensures.items, c.deref-2.ensures.value) refl in
-    let handle = handle_is c.new-handle.result _ _ c.in_ok-place.place c.self.inside.file_writer c.deref-3.result.now c.args.chunk.now.items c.in-Some.last.now c.new-handle.ensures (c.in_ok-end_key.ensures.cases ∙ ap (λ (y : Entry). y.user_key) c.last-2.view_is) (ap (λ (y : Entry). y.seqno) c.last-2.view_is) place.1 c.in_ok-place.ensures.handle spelled in
-    let w = c.self.inside.file_writer in
-    let bytes : c.write_into.new.writer ≡ record w { bytes = w.bytes ++ block_bytes V4 Data (payload V4 c.args.chunk.now.items) } = c.in_ok-place.ensures.ok ∙ ap (λ (p : List ℕ). record w { bytes = w.bytes ++ block_bytes V4 Data p }) spelled in
-    let hs : c.register_data_block.new.self.handles ≡ c.self.inside.index_writer.handles ++ handle_of V4 (length w.bytes) c.args.chunk.now.items ∷ [] = c.in_ok-register_data_block.ensures.ok ∙ ap (λ (h : Handle). c.self.inside.index_writer.handles ++ h ∷ []) handle in
-    let last : Some (last_entry c.args.chunk.now.items) ≡ Some (last_entry c.args.chunk.now.items) = refl in
-    let more = cut_more _ w c.write_into.new.writer c.self.inside.index_writer.handles c.register_data_block.new.self.handles c.self.inside.last (Some (last_entry c.args.chunk.now.items)) c.self.inside.index_writer.failed c.register_data_block.new.self.failed c.args.chunk.now.items c.self.invariant.0 works strict readable bytes hs last in
-    let are = subst (λ (x : List (List Entry)). c.args.meta.now ≡ with_cut x c.args.meta.now) (sym cs) c.requires.counts.are in
-    let le = at_least_blocks _ _ _ _ _ more in
-    let lt : length c.write_into.new.writer.bytes < 2 ^ 64 = omega arith in
-    let room = room_for c.args.meta.now _ c.args.chunk.now.items _ are more.readable le lt in
-    omega (arith, room.0)
-
-pub overflow_add-meta-2 : goal.overflow_add-meta-2
-overflow_add-meta-2 g c =
+pub count_block-requires : goal.count_block-requires
+count_block-requires g c =
     let works : c.self.inside.index_writer.failed ≡ false = ap (λ (x : Cut). x.failed) c.self.view_is ∙ c.requires.works in
     let cs : chunks_in V4 (length c.self.inside.index_writer.handles) c.self.inside.file_writer.bytes ≡ c.args.self.now.chunks = ap (λ (x : Cut). x.chunks) c.self.view_is in
     let strict : IsStrict (joined (chunks_in V4 (length c.self.inside.index_writer.handles) c.self.inside.file_writer.bytes) ++ c.args.chunk.now.items) = rw cs c.requires.strict in
@@ -81,29 +61,9 @@ overflow_add-meta-2 g c =
     let lt : length c.write_into.new.writer.bytes < 2 ^ 64 = omega arith in
     let room = room_for c.args.meta.now _ c.args.chunk.now.items _ are more.readable le lt in
     let n : c.len.result ≡ length c.args.chunk.now.items = search rules in
-    omega (arith, n, room.1)
-
-pub overflow_add-meta-3 : goal.overflow_add-meta-3
-overflow_add-meta-3 g c =
-    let works : c.self.inside.index_writer.failed ≡ false = ap (λ (x : Cut). x.failed) c.self.view_is ∙ c.requires.works in
-    let cs : chunks_in V4 (length c.self.inside.index_writer.handles) c.self.inside.file_writer.bytes ≡ c.args.self.now.chunks = ap (λ (x : Cut). x.chunks) c.self.view_is in
-    let strict : IsStrict (joined (chunks_in V4 (length c.self.inside.index_writer.handles) c.self.inside.file_writer.bytes) ++ c.args.chunk.now.items) = rw cs c.requires.strict in
-    let place = last_place _ _ _ c.deref.ensures.value c.in-Some.ensures.value in
-    let readable = readable_of _ _ c.deref-2.ensures.value place.0 c.in_ok-encode_into.ensures.reads c.in_ok-encode_into.ensures.short c.in_ok-encode_into.ensures.bound in
-    let spelled : c.deref-3.result.now ≡ payload V4 c.args.chunk.now.items = rw (c.deref-3.ensures.value, c.in_ok-encode_into.ensures.ok, c.clear.ensures.items, c.deref-2.ensures.value) refl in
-    let handle = handle_is c.new-handle.result _ _ c.in_ok-place.place c.self.inside.file_writer c.deref-3.result.now c.args.chunk.now.items c.in-Some.last.now c.new-handle.ensures (c.in_ok-end_key.ensures.cases ∙ ap (λ (y : Entry). y.user_key) c.last-2.view_is) (ap (λ (y : Entry). y.seqno) c.last-2.view_is) place.1 c.in_ok-place.ensures.handle spelled in
-    let w = c.self.inside.file_writer in
-    let bytes : c.write_into.new.writer ≡ record w { bytes = w.bytes ++ block_bytes V4 Data (payload V4 c.args.chunk.now.items) } = c.in_ok-place.ensures.ok ∙ ap (λ (p : List ℕ). record w { bytes = w.bytes ++ block_bytes V4 Data p }) spelled in
-    let hs : c.register_data_block.new.self.handles ≡ c.self.inside.index_writer.handles ++ handle_of V4 (length w.bytes) c.args.chunk.now.items ∷ [] = c.in_ok-register_data_block.ensures.ok ∙ ap (λ (h : Handle). c.self.inside.index_writer.handles ++ h ∷ []) handle in
-    let last : Some (last_entry c.args.chunk.now.items) ≡ Some (last_entry c.args.chunk.now.items) = refl in
-    let more = cut_more _ w c.write_into.new.writer c.self.inside.index_writer.handles c.register_data_block.new.self.handles c.self.inside.last (Some (last_entry c.args.chunk.now.items)) c.self.inside.index_writer.failed c.register_data_block.new.self.failed c.args.chunk.now.items c.self.invariant.0 works strict readable bytes hs last in
-    let are = subst (λ (x : List (List Entry)). c.args.meta.now ≡ with_cut x c.args.meta.now) (sym cs) c.requires.counts.are in
-    let le = at_least_blocks _ _ _ _ _ more in
-    let lt : length c.write_into.new.writer.bytes < 2 ^ 64 = omega arith in
-    let room = room_for c.args.meta.now _ c.args.chunk.now.items _ are more.readable le lt in
     let buffer : c.encode_into.new.buf.items ≡ payload V4 c.args.chunk.now.items = sym c.deref-3.ensures.value ∙ spelled in
-    let n : c.len-2.result ≡ length c.encode_into.new.buf.items = search rules in
-    omega (arith, n ∙ ap length buffer, room.2)
+    let m : c.len-2.result ≡ length c.encode_into.new.buf.items = search rules in
+    (room.0, omega (arith, n, room.1), omega (arith, m ∙ ap length buffer, room.2))
 
 pub invariant_of-self-2 : goal.invariant_of-self-2
 invariant_of-self-2 g c =
@@ -162,5 +122,5 @@ returns-clause-counted g c =
     let buffer : c.encode_into.new.buf.items ≡ payload V4 c.args.chunk.now.items = sym c.deref-3.ensures.value ∙ spelled in
     let m : c.len-2.result ≡ length c.encode_into.new.buf.items = search rules in
     let key : c.in_ok-last_key.last_key ≡ (last_entry c.args.chunk.now.items).user_key = c.in_ok-last_key.ensures.cases ∙ c.in_ok-end_key.ensures.cases ∙ ap (λ (y : Entry). y.user_key) c.last-2.view_is ∙ ap (λ (y : Entry). y.user_key) (sym place.1) in
-    let at = c.position-file_pos.ensures ∙ exact_blocks _ _ _ _ _ more c.in_ok-register_data_block.ensures.works in
-    rw (n, m ∙ ap length buffer, key, held_again _ _ _ _ _ more) (counted_more c.args.meta.now _ c.args.chunk.now.items _ are place.0 at)
+    let at = c.position.ensures ∙ exact_blocks _ _ _ _ _ more c.in_ok-register_data_block.ensures.works in
+    c.count_block.ensures ∙ rw (n, m ∙ ap length buffer, key, held_again _ _ _ _ _ more) (counted_more c.args.meta.now _ c.args.chunk.now.items _ are place.0 at)
