@@ -1,6 +1,6 @@
 -- Draining a key, and settling a head.
 use Rattle.std.proofs.Common.{◌≡◌, refl, sym, ◌∙◌, ap, subst, ℕ, Bool, true, false, cond, not, ◌&&◌, nat_lt, List, [], ◌∷◌}
-use Rattle.std.specs.Prelude.{Some, None, Result, Ok, Err}
+use Rattle.std.specs.Prelude.{Some, None, Result, Ok, Err, IfOk}
 use Rattle.sst_blocks.specs.Entry.{Entry}
 use Rattle.sst_blocks.specs.Key.{same_key}
 use Rattle.sst_blocks.specs.Stream.{first, but_first, stopped_result, DealsFirst}
@@ -31,6 +31,12 @@ module _ {T C : Type 0} (stops : Error → Bool) (Has : T → List R → Type 0)
           let after : after_key key w.0 ≡ after_key key (but_first w.0) = ap (after_key key) whole ∙ ap (λ (t : Bool). cond t (after_key key (but_first w.0)) (Ok x ∷ but_first w.0)) same in
           let stretch : of_key key w.0 ≡ x ∷ of_key key (but_first w.0) = ap (of_key key) whole ∙ ap (λ (t : Bool). cond t (x ∷ of_key key (but_first w.0)) []) same in
           (but_first w.0, one.1, w.2 ∙ after, λ e k. w.3 e (subst (λ (ys : List Entry). GetsAll gets b ys e) (sym stretch) (a, got, k)));
+    }
+
+    -- what else is answered does not matter
+    pub drains_as : {X Y : Type 0} (s t : T) (c d : C) (r : Result X Error) (q : Result Y Error) → refusal q ≡ refusal r → stopped_result stops q ≡ stopped_result stops r → DrainsKey stops Has gets key s c r t d → DrainsKey stops Has gets key s c q t d
+    drains_as s t c d r q e fine drains = record {
+      at = λ xs h goes_on. let k = drains.at xs h (sym fine ∙ goes_on) in (e ∙ k.0, k.1, k.2);
     }
 
     -- what is left to drain, where it is known
@@ -158,3 +164,7 @@ module _ {T C : Type 0} (stops : Error → Bool) (Has : T → List R → Type 0)
             k.1,
             (b, got, k.2),
           ))
+
+      pub settles_closed : (result : Result Bool Error) → DrainsKey stops Has gets head.user_key v b result t d → IfOk result (λ gone. gone ≡ goes rules.evict head.kind (Some x)) → Settles stops Has gets rules head s c result t d
+      settles_closed (Ok gone) drains e = settles_close gone gone drains e
+      settles_closed (Err e) drains h = settles_close_err e drains

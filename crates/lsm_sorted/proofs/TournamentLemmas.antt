@@ -1,15 +1,17 @@
 -- What the winners of the brackets say of the items, and what a change of one slot leaves.
-use Rattle.std.proofs.Common.{◌≡◌, ℕ, suc, ◌+◌, ◌*◌, ◌<◌, false, List, [], ◌∷◌, Option, Some, None, Ordering, length, get_or, set, replicate, refl, sym, ◌∙◌, ap, subst, inl, arith}
+use Rattle.std.proofs.Common.{◌≡◌, ℕ, suc, ◌+◌, ◌*◌, ◌^◌, ◌<◌, ◌≤◌, false, List, [], ◌∷◌, Option, Some, None, Ordering, length, get_or, set, replicate, refl, sym, ◌∙◌, ap, subst, inl, arith}
 use Rattle.std.specs.Ordering.{is_gt}
 use Rattle.std.specs.Option.{IfNone}
 use Rattle.std.specs.List.{All}
 use Rattle.std.specs.Cmp.{IsTotalOrder}
 use Rattle.std.proofs.lemmas.List.{length-set, length-replicate, get_or-replicate}
 use Rattle.std.proofs.lemmas.List.Elements.{All-nil, All-cons}
+use Rattle.std.proofs.Math.Pow.{pow_pos}
 use Rattle.lsm_sorted.specs.declared.side.Side.{Side}
 use Rattle.lsm_sorted.specs.declared.side.Side.TheVariants as sides
 use Rattle.lsm_sorted.specs.declared.tournament.brackets.Bracket.{Bracket}
 use Rattle.lsm_sorted.specs.declared.tournament.brackets.Brackets.{Brackets}
+use Rattle.lsm_sorted.specs.Tournament.{Contest, room, steps, height, PlaysAtMost}
 use Rattle.lsm_sorted.specs.Slots.{items_of, slot_at}
 use Rattle.lsm_sorted.specs.Side.{toward}
 use Rattle.lsm_sorted.specs.Brackets.{is_beaten, DecidedButAbove, IsUnplayed, IsWon, IsWonButAbove, AreWon, AreWonButAbove}
@@ -19,6 +21,17 @@ use Rattle.lsm_sorted.proofs.BracketLemmas.{decided_but_above, unbeaten}
 pub IfNone-from : {X : Type 0} (r : Option X) (P : Type 0) → P → IfNone r P
 IfNone-from None P p = p
 IfNone-from (Some x) P p = tt
+
+-- the root is one of the nodes
+pub root_inside : (leaves size h : ℕ) → leaves ≡ 2 ^ h → size ≡ 2 * leaves → 1 < size
+root_inside leaves size h e double = let some : 0 < 2 ^ h = pow_pos h in omega arith
+
+pub plays_none : {T : Type 0} (n : ℕ) (old new : Contest T) → steps new ≡ steps old → PlaysAtMost n old new
+plays_none n old new e = record { rises = omega arith; bound = omega arith }
+
+-- two brackets are replayed
+pub plays_at_most : {T : Type 0} (old new : Contest T) (slots : ℕ) → slots ≡ 2 ^ height (room old) → steps old ≤ steps new → ((h : ℕ) → slots ≡ 2 ^ h → steps new ≤ steps old + 2 * h) → PlaysAtMost (2 * height (room old)) old new
+plays_at_most old new slots e rises bound = record { rises = rises; bound = bound (height (room old)) e }
 
 -- an item that no place beats comes before all items, or is as good
 pub all_behind : {T : Type 0} (cmp : T → T → Ordering) (x : T) (places : List (Option T)) → ((k : ℕ) → k < length places → is_beaten cmp (Some x) (slot_at places k) ≡ false) → All (λ y. is_gt (cmp x y) ≡ false) (items_of places)

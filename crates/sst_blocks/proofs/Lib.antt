@@ -17,3 +17,4 @@ pub mod HandleFaults
 pub mod Points
 pub mod Lengths
 pub mod Within
+pub mod Grown

@@ -1,14 +1,14 @@
 //! A stream of entries that leaves out what no reader needs.
-ghost use Rattle.std.specs.Prelude.{◌≡◌, ◌≤◌, nat_lt, Bool, false, List, Some, None, Result, Ok};
+ghost use Rattle.std.specs.Prelude.{◌≡◌, ◌≤◌, nat_lt, Bool, false, List, Some, None, Result, Ok, IfOk};
 ghost use Rattle.std.specs.Iterator.{at_most, IsFinite, Yields};
 ghost use Rattle.sst_blocks.specs.Entry.{Entry};
 ghost use Rattle.sst_blocks.specs.declared.error.Error.{Error};
 ghost use Rattle.lsm_sorted.specs.Compaction.{Verdict, keep};
-ghost use Rattle.lsm_sorted.specs.Verdicts.{said};
+ghost use Rattle.lsm_sorted.specs.Verdicts.{said, verdict_of};
 ghost use Rattle.lsm_sorted.specs.CompactionState.{rules_of, source_of, filter_of, callback_of, Compacts, MayCompact, compaction_size, CompactsNext, Filters, DrainsKey, Settles};
 ghost use Rattle.lsm_sorted.specs.Ahead.{HoldsAhead};
-ghost use Rattle.lsm_sorted.specs.Compaction.{goes, zeroed, outs, kept, as_they_are, unfiltered};
-ghost use Rattle.lsm_sorted.specs.Compacting.{Compacted};
+ghost use Rattle.lsm_sorted.specs.Compaction.{goes, zeroed, outs, kept, as_they_are, unfiltered, told_by, reports_by};
+ghost use Rattle.lsm_sorted.specs.Compacting.{Compacted, GetsAll};
 ghost use Rattle.lsm_sorted.specs.ReadLaw.{ReadLaw, StaysStrict, PartLaw};
 ghost use Rattle.lsm_sorted.specs.declared.compaction.stream.CompactionStream.{CompactionStream};
 ghost use Rattle.std.specs.List.{AllByRecursion};
@@ -203,6 +203,30 @@ fn has_key_of<A: Allocator>(x: &InternalValue<A>, head: &InternalValue<A>) -> bo
     x.key.user_key == head.key.user_key
 }
 
+// The head as a verdict leaves it, or none where the verdict drops it. A head that is changed or dropped is reported.
+fn told<C: DroppedKvCallback<A>, A: Allocator>(
+    callback: &mut C,
+    mut head: InternalValue<A>,
+    verdict: StreamFilterVerdict<A>,
+) -> Option<InternalValue<A>>
+    ensures told { Ok result ≡ told_by head (Ok (verdict_of verdict)) }
+    ensures reports { GetsAll C.gets callback.old (reports_by head (Ok (verdict_of verdict))) callback.new }
+{
+    match verdict {
+        StreamFilterVerdict::Keep => Some(head),
+        StreamFilterVerdict::Replace((kind, value)) => {
+            callback.on_dropped(&head);
+            head.key.value_type = kind;
+            head.value = value;
+            Some(head)
+        }
+        StreamFilterVerdict::Drop => {
+            callback.on_dropped(&head);
+            None
+        }
+    }
+}
+
 impl<
     I: Iterator<Item = IterItem<A>>,
     F: StreamFilter<A>,
@@ -210,7 +234,7 @@ impl<
     A: Allocator,
 > CompactionStream<I, F, C> {
     // The head as the filter leaves it, or none where the filter drops it.
-    fn filtered(&mut self, mut head: InternalValue<A>) -> Result<Option<InternalValue<A>>, Error>
+    fn filtered(&mut self, head: InternalValue<A>) -> Result<Option<InternalValue<A>>, Error>
         ensures source { source_of self.new ≡ source_of self.old }
         ensures rules { rules_of self.new ≡ rules_of self.old }
         ensures filters { Filters F.gives C.gets head (filter_of self.old) (callback_of self.old) result (filter_of self.new) (callback_of self.new) }
@@ -218,19 +242,8 @@ impl<
         if head.is_tombstone() {
             return Ok(Some(head));
         }
-        match self.filter.filter_item(&head)? {
-            StreamFilterVerdict::Keep => Ok(Some(head)),
-            StreamFilterVerdict::Replace((kind, value)) => {
-                self.dropped_callback.on_dropped(&head);
-                head.key.value_type = kind;
-                head.value = value;
-                Ok(Some(head))
-            }
-            StreamFilterVerdict::Drop => {
-                self.dropped_callback.on_dropped(&head);
-                Ok(None)
-            }
-        }
+        let verdict = self.filter.filter_item(&head)?;
+        Ok(told(&mut self.dropped_callback, head, verdict))
     }
 
     // Takes the entries of the head's key that are next, and reports them.
@@ -280,9 +293,22 @@ impl<
             self.inner.put_back(next);
             return Ok(false);
         }
-        self.dropped_callback.on_dropped(&next);
+        self.close(head, &next)
+    }
+
+    // Reports this version and the older ones that are next, and says whether the head goes, which hides them.
+    fn close(&mut self, head: &InternalValue<A>, next: &InternalValue<A>) -> Result<bool, Error>
+        requires { MayCompact I.next_gives I.can_next I.remaining self.old }
+        ensures may { MayCompact I.next_gives I.can_next I.remaining self.new }
+        ensures rules { rules_of self.new ≡ rules_of self.old }
+        ensures filter { filter_of self.new ≡ filter_of self.old }
+        ensures size { compaction_size I.remaining self.new ≤ compaction_size I.remaining self.old }
+        ensures goes { IfOk result (λ b. b ≡ goes (rules_of self.old).evict head.now.kind (Some next.now)) }
+        ensures drains { (stops : Error → Bool) → ((d : C) × C.gets (callback_of self.old) next.now d × DrainsKey stops (HoldsAhead stops I.next_gives) C.gets head.now.user_key (source_of self.old) d result (source_of self.new) (callback_of self.new)) }
+    {
+        self.dropped_callback.on_dropped(next);
         self.drain_key(head)?;
-        Ok(self.goes_before(head, &next))
+        Ok(self.goes_before(head, next))
     }
 }
 

@@ -1,15 +1,14 @@
-use Rattle.std.proofs.Common.{◌≡◌, ℕ, ◌<◌, [], false, Option, None, length, set, sym, ◌∙◌, ap, arith}
+use Rattle.std.proofs.Common.{◌≡◌, ℕ, ◌^◌, ◌<◌, [], false, Option, None, length, set, sym, ◌∙◌, ap}
 use Rattle.std.specs.Ordering.{flip_args}
-use Rattle.std.proofs.lemmas.List.{set-get_or}
-use Rattle.std.proofs.Math.Pow.{pow_pos}
+use Rattle.std.proofs.lemmas.List.{length-set, set-get_or}
 use Rattle.lsm_sorted.specs.declared.side.Side.TheVariants.{Greatest}
 use Rattle.lsm_sorted.specs.Tournament.{Contest, height}
 use Rattle.lsm_sorted.specs.Slots.{items_of, slot_at}
 use Rattle.lsm_sorted.specs.Brackets.{is_beaten}
 use Rattle.lsm_sorted.proofs.SlotLemmas.{items_of-empty}
-use Rattle.lsm_sorted.proofs.TournamentLemmas.{IfNone-from, all_behind, none_left, winner_unbeaten, are_won_but_above}
+use Rattle.lsm_sorted.proofs.TournamentLemmas.{IfNone-from, all_behind, none_left, winner_unbeaten, are_won_but_above, root_inside, plays_none, plays_at_most}
 use Rattle.lsm_sorted.proofs.tournament.Tournament.pop_max.Goals as goal
-use Rattle.lsm_sorted.proofs.tournament.Tournament.pop_max.Goals.{After-winner-slot}
+use Rattle.lsm_sorted.proofs.tournament.Tournament.pop_max.Goals.{After-winner-slot, After-from_residual, After-replay}
 
 same_items : (g : _) (c : After-winner-slot g) → items_of c.self.inside.slots.places ≡ c.args.self.now.items
 same_items g c = ap (λ (t : Contest g.row.T.Denot). t.items) c.self.view_is
@@ -20,8 +19,18 @@ wins g c = winner_unbeaten g.T.Ord.cmp c.self.inside.slots.places g.met.T.Ord.to
 
 within : (g : _) (c : After-winner-slot g) → c.winner-slot.result < length c.self.inside.slots.places
 within g c =
-    let some : 0 < length c.self.inside.slots.places = rw c.self.invariant.leaves (pow_pos (height c.self.inside.slots.room)) in
-    rw c.winner-slot.ensures (c.self.invariant.won.greatest.nodes.within 1 (omega (arith, c.self.invariant.won.greatest.nodes.size)))
+    rw c.winner-slot.ensures (c.self.invariant.won.greatest.nodes.within 1 (root_inside (length c.self.inside.slots.places) (length c.self.inside.brackets.greatest.nodes.items) (height c.self.inside.slots.room) c.self.invariant.leaves c.self.invariant.won.greatest.nodes.size))
+
+-- an empty slot was emptied
+same_places : (g : _) (c : After-from_residual g) → c.remove.new.self.places ≡ c.self.inside.slots.places
+same_places g c =
+    let same : set c.self.inside.slots.places c.winner-slot.result None ≡ c.self.inside.slots.places =
+    ap (λ (o : Option g.row.T.Denot). set c.self.inside.slots.places c.winner-slot.result o) c.in_err-item.ensures.value ∙ set-get_or c.self.inside.slots.places c.winner-slot.result None in
+    c.remove.ensures.places ∙ same
+
+-- there are as many slots as before
+same_leaves : (g : _) (c : After-replay g) → length c.remove.new.self.places ≡ 2 ^ height c.self.inside.slots.room
+same_leaves g c = rw (c.remove.ensures.places, length-set) c.self.invariant.leaves
 
 pub returns-in_err-item-clause-none : goal.returns-in_err-item-clause-none
 returns-in_err-item-clause-none g c =
@@ -33,9 +42,7 @@ pub returns-in_err-item-clause-unchanged : goal.returns-in_err-item-clause-uncha
 returns-in_err-item-clause-unchanged g c =
     let before = (goal.at.returns-in_err-item-clause-unchanged g c).After-winner-slot in
     let none : items_of c.self.inside.slots.places ≡ [] = none_left (flip_args g.T.Ord.cmp) c.self.inside.slots.places (slot_at c.self.inside.slots.places c.winner-slot.result) c.in_err-item.ensures.value (wins g before) in
-    let same : set c.self.inside.slots.places c.winner-slot.result None ≡ c.self.inside.slots.places =
-    ap (λ (o : Option g.row.T.Denot). set c.self.inside.slots.places c.winner-slot.result o) c.in_err-item.ensures.value ∙ set-get_or c.self.inside.slots.places c.winner-slot.result None in
-    IfNone-from _ _ (ap items_of (c.remove.ensures.places ∙ same) ∙ none)
+    IfNone-from _ _ (ap items_of (same_places g c) ∙ none)
 
 pub replay-requires-clause-won : goal.replay-requires-clause-won
 replay-requires-clause-won g c =
@@ -52,3 +59,49 @@ returns-clause-greatest g c =
     let before = (goal.at.returns-clause-greatest g c).After-winner-slot in
     rw (← same_items g before)
     (all_behind (flip_args g.T.Ord.cmp) c.in_ok-item.item c.self.inside.slots.places (λ k low. rw c.in_ok-item.ensures.value (wins g before k low)))
+
+pub winner-slot-requires : goal.winner-slot-requires
+winner-slot-requires g c = root_inside (length c.self.inside.slots.places) (length c.self.inside.brackets.greatest.nodes.items) (height c.self.inside.slots.room) c.self.invariant.leaves c.self.invariant.won.greatest.nodes.size
+
+pub remove-requires : goal.remove-requires
+remove-requires g c = within g (goal.at.remove-requires g c).After-winner-slot
+
+pub invariant_of-self : goal.invariant_of-self
+invariant_of-self g c = record {
+  leaves = rw (same_places g c, c.remove.ensures.room) c.self.invariant.leaves;
+  won = rw (same_places g c) c.self.invariant.won;
+}
+
+pub returns-in_err-item-clause-taken : goal.returns-in_err-item-clause-taken
+returns-in_err-item-clause-taken g c = rw c.from_residual.ensures tt
+
+pub returns-in_err-item-clause-greatest : goal.returns-in_err-item-clause-greatest
+returns-in_err-item-clause-greatest g c = rw c.from_residual.ensures tt
+
+pub returns-in_err-item-clause-room : goal.returns-in_err-item-clause-room
+returns-in_err-item-clause-room g c = rw (← c.self.view_is) c.remove.ensures.room
+
+pub returns-in_err-item-clause-steps : goal.returns-in_err-item-clause-steps
+returns-in_err-item-clause-steps g c = plays_none _ _ _ (ap (λ (t : Contest g.row.T.Denot). t.steps) c.self.view_is)
+
+pub replay-requires-clause-within : goal.replay-requires-clause-within
+replay-requires-clause-within g c = rw (c.as_slice.ensures, c.remove.ensures.places, length-set) (within g (goal.at.replay-requires-clause-within g c).After-winner-slot)
+
+pub invariant_of-self-2 : goal.invariant_of-self-2
+invariant_of-self-2 g c = record {
+  leaves = rw c.remove.ensures.room (same_leaves g c);
+  won = rw c.as_slice.ensures at c.replay.ensures.won;
+}
+
+pub returns-clause-none : goal.returns-clause-none
+returns-clause-none g c = tt
+
+pub returns-clause-unchanged : goal.returns-clause-unchanged
+returns-clause-unchanged g c = tt
+
+pub returns-clause-room : goal.returns-clause-room
+returns-clause-room g c = rw (← c.self.view_is) c.remove.ensures.room
+
+pub returns-clause-steps : goal.returns-clause-steps
+returns-clause-steps g c =
+    rw (← c.self.view_is) (plays_at_most _ _ (length c.as_slice.result.now) (rw c.as_slice.ensures (same_leaves g c)) c.replay.ensures.rises c.replay.ensures.bound)

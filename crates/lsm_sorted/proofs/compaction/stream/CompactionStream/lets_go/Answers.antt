@@ -1,10 +1,15 @@
-use Rattle.std.proofs.Common.{◌∙◌, sym, ap}
-use Rattle.std.specs.Prelude.{Some}
-use Rattle.lsm_sorted.specs.Compaction.{Rules, goes}
-use Rattle.std.proofs.lemmas.Result.{err_from_is_err_and}
-use Rattle.lsm_sorted.specs.Ahead.{HoldsAhead}
-use Rattle.lsm_sorted.proofs.SettleLemmas.{settles_end, settles_err, settles_other, settles_open, settles_close, settles_close_err}
+use Rattle.std.proofs.Common.{◌≡◌, ◌∙◌, refl, sym, ℕ, ◌+◌, ◌<◌, ◌≤◌, arith}
+use Rattle.lsm_sorted.specs.Ahead.{HoldsAhead, ahead_size}
+use Rattle.lsm_sorted.proofs.SettleLemmas.{settles_end, settles_err, settles_other, settles_open, settles_closed}
 use Rattle.lsm_sorted.proofs.compaction.stream.CompactionStream.lets_go.Goals as goal
+
+-- an entry was taken and put back
+size_again : (old between new : ℕ) → between < old → new ≡ between + 1 → new ≤ old
+size_again old between new less e = omega arith
+
+-- an entry was taken, and then more
+size_less : (old between new : ℕ) → between < old → new ≤ between → new ≤ old
+size_less old between new less more = omega arith
 
 pub returns-in-Some-Err-clause-settles : goal.returns-in-Some-Err-clause-settles
 returns-in-Some-Err-clause-settles g c stops = settles_err stops (HoldsAhead stops g.I.Iterator.next_gives) g.C.DroppedKvCallback.gets _ c.args.head.now _ _ _ c.in-Some-Err.error (rw c.in-Some-Err.field-0-is at (c.in-Some-Err.ensures.deals stops))
@@ -20,12 +25,43 @@ pub returns-then-not-is_below_threshold-clause-settles : goal.returns-then-not-i
 returns-then-not-is_below_threshold-clause-settles g c stops =
     settles_open stops (HoldsAhead stops g.I.Iterator.next_gives) g.C.DroppedKvCallback.gets _ c.args.head.now _ c.next.new.self _ _ c.in-Some-Ok.next (rw c.in-Some-Ok.field-0-is at (c.in-Some-Ok.ensures.deals stops)) (sym c.has_key_of.ensures ∙ c.if-not-has_key_of.false) (sym c.is_below_threshold.ensures ∙ c.if-not-is_below_threshold.true) (c.put_back-then-not-is_below_threshold.ensures.lists stops)
 
-pub returns-in_err-drain_key-clause-settles : goal.returns-in_err-drain_key-clause-settles
-returns-in_err-drain_key-clause-settles g c stops =
-    let p = err_from_is_err_and c.from_residual.result c.from_residual.ensures.1 in
-    rw (p.1, p.2) (settles_close_err stops (HoldsAhead stops g.I.Iterator.next_gives) g.C.DroppedKvCallback.gets _ c.args.head.now c.args.self.now.inner c.next.new.self _ c.args.self.now.dropped_callback c.on_dropped.new.self _ c.in-Some-Ok.next (rw c.in-Some-Ok.field-0-is at (c.in-Some-Ok.ensures.deals stops)) (sym c.has_key_of.ensures ∙ c.if-not-has_key_of.false) (sym c.is_below_threshold.ensures ∙ c.if-not-is_below_threshold.false) c.on_dropped.ensures c.in_err-drain_key.field-0.0 (c.in_err-drain_key.ensures.drains stops))
-
 pub returns-clause-settles : goal.returns-clause-settles
 returns-clause-settles g c stops =
-    settles_close stops (HoldsAhead stops g.I.Iterator.next_gives) g.C.DroppedKvCallback.gets _ c.args.head.now c.args.self.now.inner c.next.new.self _ c.args.self.now.dropped_callback c.on_dropped.new.self _ c.in-Some-Ok.next (rw c.in-Some-Ok.field-0-is at (c.in-Some-Ok.ensures.deals stops)) (sym c.has_key_of.ensures ∙ c.if-not-has_key_of.false) (sym c.is_below_threshold.ensures ∙ c.if-not-is_below_threshold.false) c.on_dropped.ensures c.in_ok-drain_key.field-0 _ (c.in_ok-drain_key.ensures.drains stops)
-    (c.goes_before.ensures ∙ ap (λ (r : Rules). goes r.evict c.args.head.now.kind (Some c.in-Some-Ok.next)) c.in_ok-drain_key.ensures.rules)
+    let drains = c.close.ensures.drains stops in
+    settles_closed stops (HoldsAhead stops g.I.Iterator.next_gives) g.C.DroppedKvCallback.gets _ c.args.head.now c.args.self.now.inner c.next.new.self _ c.args.self.now.dropped_callback drains.0 _ c.in-Some-Ok.next (rw c.in-Some-Ok.field-0-is at (c.in-Some-Ok.ensures.deals stops)) (sym c.has_key_of.ensures ∙ c.if-not-has_key_of.false) (sym c.is_below_threshold.ensures ∙ c.if-not-is_below_threshold.false) drains.1 c.close.result drains.2 c.close.ensures.goes
+
+pub returns-then-not-has_key_of-clause-may : goal.returns-then-not-has_key_of-clause-may
+returns-then-not-has_key_of-clause-may g c = rw c.put_back.ensures.source c.in-Some-Ok.ensures.goes
+
+pub returns-then-not-has_key_of-clause-rules : goal.returns-then-not-has_key_of-clause-rules
+returns-then-not-has_key_of-clause-rules g c = refl
+
+pub returns-then-not-has_key_of-clause-filter : goal.returns-then-not-has_key_of-clause-filter
+returns-then-not-has_key_of-clause-filter g c = refl
+
+pub returns-then-not-has_key_of-clause-size : goal.returns-then-not-has_key_of-clause-size
+returns-then-not-has_key_of-clause-size g c = size_again (ahead_size g.I.Iterator.remaining c.args.self.now.inner) (ahead_size g.I.Iterator.remaining c.next.new.self) _ c.in-Some-Ok.ensures.lowers c.put_back.ensures.size
+
+pub returns-then-not-is_below_threshold-clause-may : goal.returns-then-not-is_below_threshold-clause-may
+returns-then-not-is_below_threshold-clause-may g c = rw c.put_back-then-not-is_below_threshold.ensures.source c.in-Some-Ok.ensures.goes
+
+pub returns-then-not-is_below_threshold-clause-rules : goal.returns-then-not-is_below_threshold-clause-rules
+returns-then-not-is_below_threshold-clause-rules g c = refl
+
+pub returns-then-not-is_below_threshold-clause-filter : goal.returns-then-not-is_below_threshold-clause-filter
+returns-then-not-is_below_threshold-clause-filter g c = refl
+
+pub returns-then-not-is_below_threshold-clause-size : goal.returns-then-not-is_below_threshold-clause-size
+returns-then-not-is_below_threshold-clause-size g c = size_again (ahead_size g.I.Iterator.remaining c.args.self.now.inner) (ahead_size g.I.Iterator.remaining c.next.new.self) _ c.in-Some-Ok.ensures.lowers c.put_back-then-not-is_below_threshold.ensures.size
+
+pub returns-clause-may : goal.returns-clause-may
+returns-clause-may g c = c.close.ensures.may
+
+pub returns-clause-rules : goal.returns-clause-rules
+returns-clause-rules g c = c.close.ensures.rules
+
+pub returns-clause-filter : goal.returns-clause-filter
+returns-clause-filter g c = c.close.ensures.filter
+
+pub returns-clause-size : goal.returns-clause-size
+returns-clause-size g c = size_less (ahead_size g.I.Iterator.remaining c.args.self.now.inner) (ahead_size g.I.Iterator.remaining c.next.new.self) _ c.in-Some-Ok.ensures.lowers c.close.ensures.size

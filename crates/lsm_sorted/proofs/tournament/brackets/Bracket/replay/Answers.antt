@@ -1,8 +1,44 @@
-use Rattle.std.proofs.Common.{◌≡◌, ℕ, ◌+◌, ◌*◌, ◌/◌, ◌<◌, length, get_or, refl, ⊎_elim, arith}
+use Rattle.std.proofs.Common.{◌≡◌, ℕ, ◌+◌, ◌*◌, ◌/◌, ◌^◌, ◌<◌, List, length, get_or, refl, ◌∙◌, ⊎_elim, le_refl, arith}
+use Rattle.std.specs.Vec.{vec_len}
+use Rattle.std.specs.declared.vec.Vec.{Vec}
 use Rattle.std.proofs.lemmas.List.{get_or_read, length-set}
 use Rattle.lsm_sorted.specs.Side.{toward}
-use Rattle.lsm_sorted.proofs.BracketLemmas.{IsBracket-set, decided_more, all_decided, LeavesRounds-more}
+use Rattle.lsm_sorted.specs.Brackets.{IsBracket}
+use Rattle.lsm_sorted.proofs.BracketLemmas.{IsBracket-set, decided_more, all_decided, LeavesRounds, LeavesRounds-more, LeavesRounds-end}
 use Rattle.lsm_sorted.proofs.tournament.brackets.Bracket.replay.Goals as goal
+
+count_is : {Z : Type 0} (v : Vec ℕ Z) → vec_len v ≡ length v.items
+count_is v = v.ok.0
+
+-- the leaf of a slot, counted from half of the nodes
+leaf_is : (leaves size slot : ℕ) → size ≡ 2 * leaves → size / 2 + slot ≡ leaves + slot
+leaf_is leaves size slot e = omega arith
+
+leaf_low : (leaves size slot : ℕ) → size ≡ 2 * leaves → slot < leaves → leaves + slot < size
+leaf_low leaves size slot e h = omega arith
+
+LeavesRounds-leaf : (leaves slot steps h : ℕ) → slot < leaves → leaves ≡ 2 ^ h → LeavesRounds (leaves + slot) steps (steps + h)
+LeavesRounds-leaf leaves slot steps h low e = record { rounds = h; near = omega arith; left = omega arith }
+
+positive : (leaves slot : ℕ) → slot < leaves → 0 < leaves + slot
+positive leaves slot h = omega arith
+
+-- the children of the node above n
+left_low : (n size : ℕ) → n < size → 2 * (n / 2) < size
+left_low n size h = omega arith
+
+right_low : (n size leaves : ℕ) → size ≡ 2 * leaves → n < size → 2 * (n / 2) + 1 < size
+right_low n size leaves e h = omega arith
+
+half_less : (n : ℕ) → 1 < n → n / 2 < n
+half_less n h = omega arith
+
+half_low : (n size : ℕ) → n < size → n / 2 < size
+half_low n size h = omega arith
+
+-- what is read of the nodes is a slot
+slot_low : (leaves : ℕ) (nodes : List ℕ) (k w : ℕ) → IsBracket leaves nodes → k < length nodes → w ≡ get_or nodes k w → w < leaves
+slot_low leaves nodes k w b low read = rw (get_or_read nodes k w low read 0) (b.within k low)
 
 pub loop-node-preserved : goal.loop-node-preserved
 loop-node-preserved g c =
@@ -36,3 +72,51 @@ returns-clause-won g c = record {
   nodes = c.loop-node.invariant.bracket;
   decided = all_decided (toward c.loop-node.self.side g.T.Ord.cmp) c.args.slots.now c.loop-node.self.nodes.items c.loop-node.node c.loop-node-test.false c.loop-node.invariant.others;
 }
+
+pub overflow_add-node : goal.overflow_add-node
+overflow_add-node g c = omega (arith, leaf_low (length c.args.slots.now) c.len.result c.args.slot (c.len.ensures ∙ count_is c.args.self.now.nodes ∙ c.requires.won.nodes.size) c.requires.within, leaf_is (length c.args.slots.now) c.len.result c.args.slot (c.len.ensures ∙ count_is c.args.self.now.nodes ∙ c.requires.won.nodes.size))
+
+pub loop-node-init : goal.loop-node-init
+loop-node-init g c =
+    let leaf = leaf_is (length c.args.slots.now) c.len.result c.args.slot (c.len.ensures ∙ count_is c.args.self.now.nodes ∙ c.requires.won.nodes.size) in
+    let low = leaf_low (length c.args.slots.now) (length c.args.self.now.nodes.items) c.args.slot c.requires.won.nodes.size c.requires.within in
+    rw leaf (record {
+      bracket = c.requires.won.nodes;
+      others = c.requires.won.others;
+      side = refl;
+      inside = positive (length c.args.slots.now) c.args.slot c.requires.within;
+      below = low;
+      rises = le_refl c.args.steps.now;
+      bound = λ h e. LeavesRounds-leaf (length c.args.slots.now) c.args.slot c.args.steps.now h c.requires.within e;
+    })
+
+pub index-requires : goal.index-requires
+index-requires g c = rw (count_is c.loop-node.self.nodes) (left_low c.loop-node.node (length c.loop-node.self.nodes.items) c.loop-node.invariant.below)
+
+pub index-requires-in-loop-node : goal.index-requires-in-loop-node
+index-requires-in-loop-node g c = rw (count_is c.loop-node.self.nodes) (right_low c.loop-node.node (length c.loop-node.self.nodes.items) (length c.args.slots.now) c.loop-node.invariant.bracket.size c.loop-node.invariant.below)
+
+pub winner_of-requires-clause-first : goal.winner_of-requires-clause-first
+winner_of-requires-clause-first g c =
+    slot_low (length c.args.slots.now) c.loop-node.self.nodes.items (2 * (c.loop-node.node / 2)) c.index.result.now c.loop-node.invariant.bracket
+    (left_low c.loop-node.node (length c.loop-node.self.nodes.items) c.loop-node.invariant.below) c.index.ensures
+
+pub winner_of-requires-clause-second : goal.winner_of-requires-clause-second
+winner_of-requires-clause-second g c =
+    slot_low (length c.args.slots.now) c.loop-node.self.nodes.items (2 * (c.loop-node.node / 2) + 1) c.index-in-loop-node.result.now c.loop-node.invariant.bracket
+    (right_low c.loop-node.node (length c.loop-node.self.nodes.items) (length c.args.slots.now) c.loop-node.invariant.bracket.size c.loop-node.invariant.below) c.index-in-loop-node.ensures
+
+pub index_mut-requires : goal.index_mut-requires
+index_mut-requires g c = rw (count_is c.loop-node.self.nodes) (half_low c.loop-node.node (length c.loop-node.self.nodes.items) c.loop-node.invariant.below)
+
+pub loop-node-smaller : goal.loop-node-smaller
+loop-node-smaller g c = half_less c.loop-node.node c.loop-node-test.true
+
+pub returns-clause-side : goal.returns-clause-side
+returns-clause-side g c = c.loop-node.invariant.side
+
+pub returns-clause-rises : goal.returns-clause-rises
+returns-clause-rises g c = c.loop-node.invariant.rises
+
+pub returns-clause-bound : goal.returns-clause-bound
+returns-clause-bound g c h e = LeavesRounds-end c.loop-node.node c.loop-node.steps (c.args.steps.now + h) (c.loop-node.invariant.bound h e)
