@@ -1,7 +1,7 @@
 //! Data blocks: what is written of entries, and what reads and seeks find.
 ghost use Rattle.std.specs.Prelude.{◌≡◌, true};
 ghost use Rattle.std.specs.Option.{option_map};
-ghost use Rattle.sst_blocks.specs.Strict.{IsStrict, may_follow};
+ghost use Rattle.sst_entries.specs.Strict.{IsStrict, may_follow};
 
 use crate::payloads::data_block;
 use refusing::{Refusing, each_refused};

@@ -1,7 +1,7 @@
 //! Index blocks: what is written of handles, and what reads and seeks find.
 ghost use Rattle.std.specs.Prelude.{◌≡◌, true};
 ghost use Rattle.sst_blocks.specs.Handles.{AreStrictHandles, end_of};
-ghost use Rattle.sst_blocks.specs.Strict.{may_follow};
+ghost use Rattle.sst_entries.specs.Strict.{may_follow};
 ghost use Rattle.std.specs.Option.{option_map};
 
 use crate::payloads::index_block;

@@ -9,7 +9,7 @@ use Rattle.std.specs.Ordering.{nat_cmp, is_lt, is_le, ordering_reverse}
 use Rattle.std.specs.Cmp.Lexicographic.{slice_cmp, nat_list_cmp_total}
 use Rattle.std.proofs.lemmas.Cmp.{tied_itself}
 use Rattle.std.proofs.lemmas.Bool.{and_parts, and_from, cases_Bool, both_ways}
-use Rattle.sst_blocks.specs.Key.{key_lt}
+use Rattle.sst_entries.specs.Key.{key_lt}
 use Rattle.lsm_ranges.specs.KeyRange.{Interval, key_le, well_formed, has_key, overlaps, ShareKey, from_lower, up_to_upper}
 use Rattle.lsm_ranges.proofs.KeyLemmas.{lt_le, le_lt}
 

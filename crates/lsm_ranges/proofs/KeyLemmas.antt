@@ -6,7 +6,7 @@ use Rattle.std.specs.declared.cmp.Ordering.TheVariants.{Less, Equal, Greater}
 use Rattle.std.specs.Ordering.{nat_cmp, is_lt, is_gt, is_eq, ordering_then, ordering_reverse}
 use Rattle.std.specs.Cmp.Lexicographic.{slice_cmp, nat_list_cmp_total, nat_list_eq_equiv, same_text, texts_ties}
 use Rattle.std.proofs.lemmas.Cmp.{tied_itself}
-use Rattle.sst_blocks.specs.Key.{same_key, key_lt}
+use Rattle.sst_entries.specs.Key.{same_key, key_lt}
 
 abbrev pub KeyLe : List ℕ → List ℕ → Type 0
 KeyLe a b = key_lt b a ≡ false

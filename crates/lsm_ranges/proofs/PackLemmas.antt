@@ -9,7 +9,7 @@ use Rattle.std.proofs.lemmas.List.Concat.{flat_map-append}
 use Rattle.std.proofs.lemmas.List.Elements.{filter-append}
 use Rattle.std.proofs.lemmas.List.Sorted.{IsPermutation-refl, IsPermutation-trans, IsPermutation-sym, IsPermutation-append_left, IsPermutation-append_right, IsPermutation-insert, IsPermutation-to_front, length_permutation}
 use Rattle.std.proofs.lemmas.Bool.{and_parts, and_from, and_cases, or_cases, or_parts, or_left, or_right, or_from, cases_Bool, both_ways, ne_eqb}
-use Rattle.sst_blocks.specs.Key.{key_lt}
+use Rattle.sst_entries.specs.Key.{key_lt}
 use Rattle.lsm_ranges.specs.KeyRange.{Interval, key_le, well_formed, has_key, overlaps}
 use Rattle.lsm_ranges.specs.Run.{in_order, how_many}
 use Rattle.lsm_ranges.specs.Packing.{tables_of, holders, touches, with_table, put, put_all, count_to_last, AreInOrder, ArePacked, AreFormed, AreWellFormed, AreNotEmpty}

@@ -3,7 +3,7 @@ use Rattle.std.proofs.Common.{◌≡◌, refl, sym, ◌∙◌, ap, subst, ℕ, �
 use Rattle.std.specs.Prelude.{◌≢◌, map, not, ◌&&◌, ◌||◌, ◌==◌, nat_le, Contains, slice_get}
 use Rattle.std.specs.List.{list_all, list_any, AllByRecursion, insert}
 use Rattle.std.proofs.lemmas.Bool.{and_parts, and_from, cases_Bool, both_ways, eqb-true, eq-eqb, leb-true, le-leb, lt-leb, not-true}
-use Rattle.sst_blocks.specs.Key.{key_lt}
+use Rattle.sst_entries.specs.Key.{key_lt}
 use Rattle.lsm_ranges.specs.KeyRange.{Interval, key_le, overlaps, disjoint}
 use Rattle.lsm_ranges.specs.Run.{in_order, how_many}
 use Rattle.lsm_ranges.specs.Packing.{tables_of, table_at, touches, with_table, put, put_all, ArePacked, AreFormed, AreDisjointRuns, IsLeastSize}

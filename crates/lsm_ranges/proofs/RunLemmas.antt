@@ -5,12 +5,12 @@ use Rattle.std.specs.List.{list_all}
 use Rattle.std.specs.Option.{option_map_or}
 use Rattle.std.proofs.Math.ListN.{drop_of_length-le}
 use Rattle.std.proofs.lemmas.List.{at_drop_more}
-use Rattle.sst_blocks.specs.Stream.{first}
+use Rattle.sst_entries.specs.Stream.{first}
 use Rattle.std.specs.List.Sorted.{IsPartitionedBy, IsPartitionPoint}
 use Rattle.std.specs.declared.ops.Bound.{Bound}
 use Rattle.std.specs.declared.ops.Bound.TheVariants.{Included}
 use Rattle.std.proofs.lemmas.Bool.{and_parts, and_from, and_right, ne_eqb, cases_Bool, both_ways, not_from_false, false_from_ne_true, not-true}
-use Rattle.sst_blocks.specs.Key.{key_lt}
+use Rattle.sst_entries.specs.Key.{key_lt}
 use Rattle.lsm_ranges.specs.KeyRange.{Interval, interval, key_le, well_formed, has_key, has_range, overlaps, from_lower}
 use Rattle.lsm_ranges.specs.Run.{in_order, ends_before, starts_within, how_many, places, overlap_indexes, first_to_last, last_max}
 use Rattle.lsm_ranges.proofs.KeyLemmas.{lt_trans}

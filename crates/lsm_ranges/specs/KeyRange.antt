@@ -6,7 +6,7 @@ use Rattle.std.specs.Ordering.{nat_cmp, is_le}
 use Rattle.std.specs.Borrow.{Bor}
 use Rattle.std.specs.declared.ops.Bound.{Bound}
 use Rattle.std.specs.declared.ops.Bound.TheVariants.{Included, Excluded, Unbounded}
-use Rattle.sst_blocks.specs.Key.{key_lt}
+use Rattle.sst_entries.specs.Key.{key_lt}
 
 -- the keys from `min` to `max`, both included
 pub record Interval : Type 0 where

@@ -3,10 +3,10 @@ ghost use Rattle.std.specs.Prelude.{◌≡◌, ◌↔◌, if◌then◌else◌, �
 ghost use Rattle.lsm_ranges.specs.KeyRange.{has_key, has_range, overlaps, well_formed, from_lower, up_to_upper};
 ghost use Rattle.std.specs.List.{list_any};
 ghost use Rattle.lsm_ranges.specs.KeyRange.{bound_of, disjoint, interval, intervals, ShareKey, IsAggregate};
-ghost use Rattle.sst_blocks.specs.Key.{key_lt};
-ghost use Rattle.sst_blocks.specs.declared.error.Error.TheVariants.{OutOfMemory};
+ghost use Rattle.sst_entries.specs.Key.{key_lt};
+ghost use Rattle.sst_entries.specs.declared.error.Error.TheVariants.{OutOfMemory};
 
-use sst_blocks::{Error, Slice, UserKey};
+use sst_entries::{Error, Slice, UserKey};
 use std::alloc::{AllocError, Allocator, Global};
 use std::marker::Model;
 use std::ops::Bound;

@@ -8,10 +8,10 @@ ghost use Rattle.lsm_ranges.specs.LinkedRuns.{AreAtPlaces, ArePackedLinks, IsBel
 ghost use Rattle.lsm_ranges.specs.declared.optimize.Link.{Link};
 ghost use Rattle.lsm_ranges.specs.Run.{in_order};
 ghost use Rattle.lsm_ranges.specs.Packing.{holders, ArePacked, AreFormed, AreNotEmpty, count_to_last, put, put_all, tables_of, touches, with_table, AreInOrder, AreDisjointRuns, AreWellFormed, IsChain, IsLeastSize};
-ghost use Rattle.sst_blocks.specs.declared.error.Error.TheVariants.{OutOfMemory};
+ghost use Rattle.sst_entries.specs.declared.error.Error.TheVariants.{OutOfMemory};
 
 use crate::{KeyRange, Ranged, Run};
-use sst_blocks::Error;
+use sst_entries::Error;
 use std::alloc::Allocator;
 
 /// Packs the tables of some runs into as few runs as there can be, so that each key keeps the order

@@ -3,17 +3,17 @@ ghost use Rattle.std.specs.Prelude.{◌≡◌, ◌≢◌, ◌<◌, ◌≤◌, �
 ghost use Rattle.std.specs.Fn.{CalledAt};
 ghost use Rattle.std.specs.List.Retain.{IsFiltered};
 ghost use Rattle.std.specs.Cmp.Lexicographic.{pointwise, lists_per, lists_equiv};
-ghost use Rattle.sst_blocks.specs.declared.error.Error.TheVariants.{OutOfMemory};
+ghost use Rattle.sst_entries.specs.declared.error.Error.TheVariants.{OutOfMemory};
 ghost use Rattle.std.specs.Option.{option_copied, option_map_or};
 ghost use Rattle.std.specs.List.Sorted.{IsPermutation, IsSortedByKey, IsStableByKey};
-ghost use Rattle.sst_blocks.specs.Key.{key_lt};
+ghost use Rattle.sst_entries.specs.Key.{key_lt};
 ghost use Rattle.lsm_ranges.specs.KeyRange.{bound_of, has_key, has_range, key_le, overlaps, well_formed};
 ghost use Rattle.lsm_ranges.specs.Packing.{with_table};
 ghost use Rattle.lsm_ranges.specs.Run.{in_order, ends_before, starts_within, how_many, overlap_indexes, first_to_last, min_cmp, IsPartOf};
 
 use crate::KeyRange;
 use crate::key_range::{is_from_lower, is_up_to_upper};
-use sst_blocks::{Error, UserKey};
+use sst_entries::{Error, UserKey};
 use std::alloc::{AllocError, Allocator, Global};
 use std::marker::Model;
 use std::ops::{Bound, Deref};

@@ -1,9 +1,9 @@
 -- Calls of a compaction, and what the rest of them gives.
 use Rattle.std.proofs.Common.{◌≡◌, refl, sym, ◌∙◌, ap, subst, true, false, cond, not, List, [], ◌∷◌, ◌++◌}
 use Rattle.std.specs.Prelude.{Option, None, Result, Ok, Err}
-use Rattle.sst_blocks.specs.Entry.{Entry}
-use Rattle.sst_blocks.specs.Kind.{is_tombstone_kind}
-use Rattle.sst_blocks.specs.declared.error.Error.{Error}
+use Rattle.sst_entries.specs.Entry.{Entry}
+use Rattle.sst_entries.specs.Kind.{is_tombstone_kind}
+use Rattle.sst_entries.specs.declared.error.Error.{Error}
 use Rattle.lsm_sorted.specs.Ends.{R}
 use Rattle.lsm_sorted.specs.Compaction.{Verdict, keep, Judged, JudgedItem, Rules, told_by, reports_by, reported, asked}
 use Rattle.lsm_sorted.specs.Compacting.{turned, AsksIf, Asks, SaysOf, GetsAll, Turns, Calls, ended, failed, answered, again, KeepsTombstones, Compacted}

@@ -6,12 +6,12 @@ use Rattle.std.specs.List.{AllZip, AllByRecursion}
 use Rattle.std.specs.Iterator.{Count, IsFinite}
 use Rattle.std.proofs.lemmas.List.{append-nil}
 use Rattle.std.proofs.lemmas.List.Elements.{recursion_from_All, All-from_recursion, All-nil}
-use Rattle.sst_blocks.specs.Entry.{Entry}
-use Rattle.sst_blocks.specs.Stream.{Deals, CanDeal, stopped, NoneStops, Runs, first, but_first, last, but_last, deal, all_ok, front_of, back_of}
-use Rattle.sst_blocks.specs.declared.error.Error.{Error}
-use Rattle.sst_blocks.specs.declared.stream.Direction.{Direction}
-use Rattle.sst_blocks.specs.declared.stream.Direction.TheVariants.{Front, Back}
-use Rattle.sst_blocks.proofs.StreamLemmas.{deals_by, can_by}
+use Rattle.sst_entries.specs.Entry.{Entry}
+use Rattle.sst_entries.specs.Stream.{Deals, CanDeal, stopped, NoneStops, Runs, first, but_first, last, but_last, deal, all_ok, front_of, back_of}
+use Rattle.sst_entries.specs.declared.error.Error.{Error}
+use Rattle.sst_entries.specs.declared.stream.Direction.{Direction}
+use Rattle.sst_entries.specs.declared.stream.Direction.TheVariants.{Front, Back}
+use Rattle.sst_entries.proofs.StreamLemmas.{deals_by, can_by}
 use Rattle.lsm_sorted.specs.declared.ends.Ends.{Ends}
 use Rattle.lsm_sorted.specs.declared.merge.HeapItem.{HeapItem}
 use Rattle.lsm_sorted.specs.declared.merge.Merger.{Merger}

@@ -1,13 +1,13 @@
 -- A stream of newest versions over sorted entries deals the newest of them.
 use Rattle.std.proofs.Common.{◌≡◌, refl, sym, ◌∙◌, ap, subst, Bool, List}
 use Rattle.std.specs.Prelude.{Option}
-use Rattle.sst_blocks.specs.Entry.{Entry}
-use Rattle.sst_blocks.specs.declared.error.Error.{Error}
-use Rattle.sst_blocks.specs.Stream.{Deals, CanDeal, stopped, first, but_first, last, but_last, all_ok, Answers}
+use Rattle.sst_entries.specs.Entry.{Entry}
+use Rattle.sst_entries.specs.declared.error.Error.{Error}
+use Rattle.sst_entries.specs.Stream.{Deals, CanDeal, stopped, first, but_first, last, but_last, all_ok, Answers}
 use Rattle.lsm_sorted.specs.Ends.{R}
 use Rattle.lsm_sorted.specs.Newest.{front_step, back_step}
 use Rattle.lsm_sorted.specs.Union.{Ascends, newest}
-use Rattle.sst_blocks.proofs.StreamLemmas.{deals_by, can_by}
+use Rattle.sst_entries.proofs.StreamLemmas.{deals_by, can_by}
 use Rattle.lsm_sorted.proofs.NewestLemmas.{KeysUp, keys_up, front_newest, back_newest}
 
 module _ (stops : Error → Bool) {T : Type 0} (May : T → Type 0) (Has : (Error → Bool) → T → List R → Type 0) where

@@ -2,12 +2,12 @@
 use Rattle.std.proofs.Common.{◌≡◌, refl, sym, ap, subst, Bool, true, false, List, [], ◌∷◌, reverse}
 use Rattle.std.specs.Prelude.{Option, Some, None}
 use Rattle.std.specs.Iterator.{Count, IsFinite}
-use Rattle.sst_blocks.specs.declared.error.Error.{Error}
+use Rattle.sst_entries.specs.declared.error.Error.{Error}
 use Rattle.lsm_sorted.specs.declared.ends.Ends.{Ends}
-use Rattle.sst_blocks.specs.Stream.{first, but_first, last, but_last, stopped, Deals, CanDeal}
+use Rattle.sst_entries.specs.Stream.{first, but_first, last, but_last, stopped, Deals, CanDeal}
 use Rattle.lsm_sorted.specs.Ends.{R, LeftIf, Left, GoesIf, Goes}
-use Rattle.sst_blocks.specs.Stream.{DealsFirst, DealsLast}
-use Rattle.sst_blocks.proofs.StreamLemmas.{deals_front, deals_back, can_front, can_after_back, can_now, can_now_back}
+use Rattle.sst_entries.specs.Stream.{DealsFirst, DealsLast}
+use Rattle.sst_entries.proofs.StreamLemmas.{deals_front, deals_back, can_front, can_after_back, can_now, can_now_back}
 
 pub none_first : {A : Type 0} (xs : List A) → None ≡ first xs → xs ≡ []
 none_first [] e = refl

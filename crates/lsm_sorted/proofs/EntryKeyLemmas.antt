@@ -4,8 +4,8 @@ use Rattle.std.specs.declared.cmp.Ordering.{Ordering}
 use Rattle.std.specs.declared.cmp.Ordering.TheVariants.{Less, Equal, Greater}
 use Rattle.std.specs.Ordering.{nat_cmp, is_lt, is_gt, ordering_then, ordering_reverse}
 use Rattle.std.specs.Cmp.Lexicographic.{slice_cmp, nat_list_cmp_total}
-use Rattle.sst_blocks.specs.Entry.{Entry}
-use Rattle.sst_blocks.specs.Kind.{tag_of}
+use Rattle.sst_entries.specs.Entry.{Entry}
+use Rattle.sst_entries.specs.Kind.{tag_of}
 use Rattle.lsm_ranges.proofs.KeyLemmas.{KeyLe, gt_first}
 use Rattle.lsm_sorted.specs.Union.{AtMost}
 

@@ -1,9 +1,9 @@
 -- A head and its filter.
 use Rattle.std.proofs.Common.{◌≡◌, refl, sym, subst, Bool, true, false, not}
 use Rattle.std.specs.Prelude.{Option, Some, Result, Ok}
-use Rattle.sst_blocks.specs.Entry.{Entry}
-use Rattle.sst_blocks.specs.Kind.{is_tombstone_kind}
-use Rattle.sst_blocks.specs.declared.error.Error.{Error}
+use Rattle.sst_entries.specs.Entry.{Entry}
+use Rattle.sst_entries.specs.Kind.{is_tombstone_kind}
+use Rattle.sst_entries.specs.declared.error.Error.{Error}
 use Rattle.lsm_sorted.specs.Compaction.{Verdict, keep, told_by, reports_by}
 use Rattle.lsm_sorted.specs.Compacting.{AsksIf, GetsAll}
 use Rattle.lsm_sorted.specs.CompactionState.{Filters}

@@ -1,8 +1,8 @@
 -- The first hit of a reader in a list, entry by entry.
 use Rattle.std.specs.Prelude.{ℕ, List, Option, find}
-use Rattle.sst_blocks.specs.Entry.{Entry}
-use Rattle.sst_blocks.specs.Point.{is_hit}
-use Rattle.sst_blocks.specs.declared.value_type.ValueType.{ValueType}
+use Rattle.sst_entries.specs.Entry.{Entry}
+use Rattle.sst_entries.specs.Point.{is_hit}
+use Rattle.sst_entries.specs.declared.value_type.ValueType.{ValueType}
 use Rattle.lsm_sorted.specs.Point.{shown}
 
 -- a point read that computes

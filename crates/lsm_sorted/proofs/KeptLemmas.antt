@@ -1,9 +1,9 @@
 -- What a compaction keeps of a strict list is strict.
 use Rattle.std.proofs.Common.{◌≡◌, refl, sym, ◌∙◌, ap, subst, ℕ, ◌<◌, ◌≤◌, ◌⊎◌, inl, inr, Bool, true, false, cond, ◌&&◌, nat_lt, List, [], ◌∷◌, ◌++◌, length, arith, zero, suc}
 use Rattle.std.specs.List.{AllByRecursion}
-use Rattle.sst_blocks.specs.Entry.{Entry}
-use Rattle.sst_blocks.specs.Key.{same_key, key_lt}
-use Rattle.sst_blocks.specs.Stream.{first, all_ok}
+use Rattle.sst_entries.specs.Entry.{Entry}
+use Rattle.sst_entries.specs.Key.{same_key, key_lt}
+use Rattle.sst_entries.specs.Stream.{first, all_ok}
 use Rattle.lsm_sorted.specs.Compaction.{Rules, goes, zeroed, kept, unfiltered}
 use Rattle.lsm_sorted.specs.ReadLaw.{StaysStrict}
 use Rattle.lsm_sorted.proofs.Pairs.{Precedes, Strict, as_pairs, from_pairs}

@@ -8,8 +8,8 @@ use Rattle.std.specs.Ordering.{nat_cmp, on, flip_args, then_cmp, is_gt, ordering
 use Rattle.std.specs.declared.cmp.Ordering.{Ordering}
 use Rattle.std.specs.declared.cmp.Ordering.TheVariants.{Less, Equal, Greater}
 use Rattle.std.proofs.lemmas.Cmp.{upto}
-use Rattle.sst_blocks.specs.Entry.{Entry}
-use Rattle.sst_blocks.specs.Kind.{tag_of}
+use Rattle.sst_entries.specs.Entry.{Entry}
+use Rattle.sst_entries.specs.Kind.{tag_of}
 use Rattle.lsm_sorted.specs.Ends.{R}
 use Rattle.lsm_sorted.specs.Union.{item_cmp, AtMost, entries_of, all_entries, inserted, in_order, merged}
 

@@ -2,12 +2,12 @@
 use Rattle.std.proofs.Common.{◌≡◌, refl, sym, ◌∙◌, ap, subst, Bool, true, false, cond, List, [], ◌∷◌, ◌++◌, reverse}
 use Rattle.std.specs.Prelude.{Option, Some, None, Ok, Err}
 use Rattle.std.proofs.lemmas.List.{reverse-reverse, reverse-append}
-use Rattle.sst_blocks.specs.Entry.{Entry}
-use Rattle.sst_blocks.specs.declared.error.Error.{Error}
-use Rattle.sst_blocks.specs.Stream.{first, but_first, last, but_last, stopped}
-use Rattle.sst_blocks.specs.Key.{same_key, key_lt}
+use Rattle.sst_entries.specs.Entry.{Entry}
+use Rattle.sst_entries.specs.declared.error.Error.{Error}
+use Rattle.sst_entries.specs.Stream.{first, but_first, last, but_last, stopped}
+use Rattle.sst_entries.specs.Key.{same_key, key_lt}
 use Rattle.lsm_sorted.specs.Ends.{R}
-use Rattle.sst_blocks.specs.Stream.{DealsFirst, DealsLast}
+use Rattle.sst_entries.specs.Stream.{DealsFirst, DealsLast}
 use Rattle.lsm_sorted.specs.Newest.{after_key, settle, front_step, climb, back_of, back_step}
 use Rattle.lsm_sorted.proofs.EndsLemmas.{none_first}
 

@@ -3,15 +3,15 @@ use Rattle.std.proofs.Common.{◌≡◌, refl, sym, ◌∙◌, ap, subst, ℕ, B
 use Rattle.std.specs.Prelude.{Option, Some, None, Ok, not, filter}
 use Rattle.std.specs.List.{AllByRecursion}
 use Rattle.std.proofs.lemmas.List.{reverse-reverse, reverse-append, append-nil}
-use Rattle.sst_blocks.specs.Entry.{Entry}
-use Rattle.sst_blocks.specs.Stream.{first, but_first, last, but_last}
+use Rattle.sst_entries.specs.Entry.{Entry}
+use Rattle.sst_entries.specs.Stream.{first, but_first, last, but_last}
 use Rattle.lsm_sorted.specs.Ends.{R}
 use Rattle.lsm_sorted.specs.Newest.{after_key, settle, front_step, climb, back_of, back_step}
-use Rattle.sst_blocks.specs.Key.{same_key, key_lt}
+use Rattle.sst_entries.specs.Key.{same_key, key_lt}
 use Rattle.lsm_ranges.proofs.KeyLemmas.{KeyLe, same_is, lt_other, le_other, le_same, lt_le, le_lt}
 use Rattle.lsm_sorted.proofs.EntryKeyLemmas.{key_le}
 use Rattle.lsm_sorted.specs.Union.{AtMost, Ascends, newest}
-use Rattle.sst_blocks.specs.Stream.{all_ok}
+use Rattle.sst_entries.specs.Stream.{all_ok}
 
 -- no key is below an earlier one
 abbrev pub KeysUp : List Entry → Type 0

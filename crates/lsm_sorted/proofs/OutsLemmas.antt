@@ -2,11 +2,11 @@
 use Rattle.std.proofs.Common.{◌≡◌, refl, sym, ◌∙◌, ap, subst, ℕ, Bool, true, false, cond, not, ◌&&◌, nat_lt, List, [], ◌∷◌, ◌++◌, append_assoc, ◌⊎◌, inl, inr}
 use Rattle.std.specs.Prelude.{Option, Some, None, Result, Ok, Err, filter}
 use Rattle.std.specs.List.{AllByRecursion}
-use Rattle.sst_blocks.specs.Entry.{Entry}
-use Rattle.sst_blocks.specs.Kind.{is_tombstone_kind}
-use Rattle.sst_blocks.specs.Key.{same_key}
-use Rattle.sst_blocks.specs.Stream.{first, all_ok}
-use Rattle.sst_blocks.specs.declared.error.Error.{Error}
+use Rattle.sst_entries.specs.Entry.{Entry}
+use Rattle.sst_entries.specs.Kind.{is_tombstone_kind}
+use Rattle.sst_entries.specs.Key.{same_key}
+use Rattle.sst_entries.specs.Stream.{first, all_ok}
+use Rattle.sst_entries.specs.declared.error.Error.{Error}
 use Rattle.lsm_sorted.specs.Ends.{R}
 use Rattle.lsm_sorted.specs.Compaction.{Verdict, drop, Judged, JudgedItem, Rules, told, is_left, reports_by, is_cut, heads, expired, zeroed, given_by, given, Versions, is_version_of, before, by_key, gone, error_of, entries, outs_of, reported_heads, reported_of, asked_of, joined, outs, reported, asked, as_is, unfiltered}
 use Rattle.std.proofs.lemmas.List.{append-nil}

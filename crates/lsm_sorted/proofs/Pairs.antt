@@ -8,9 +8,9 @@ use Rattle.std.specs.Ordering.{nat_cmp, is_lt, is_eq, ordering_then}
 use Rattle.std.specs.Cmp.{IsTotalOrder}
 use Rattle.std.specs.Cmp.Rules.{comparing}
 use Rattle.std.specs.Cmp.Lexicographic.{slice_cmp, same_text, texts_ties}
-use Rattle.sst_blocks.specs.Entry.{Entry}
-use Rattle.sst_blocks.specs.Key.{key_lt}
-use Rattle.sst_blocks.specs.Strict.{number_cmp, is_before, IsStrictAfter, IsStrict}
+use Rattle.sst_entries.specs.Entry.{Entry}
+use Rattle.sst_entries.specs.Key.{key_lt}
+use Rattle.sst_entries.specs.Strict.{number_cmp, is_before, IsStrictAfter, IsStrict}
 
 -- each entry comes before all later ones
 abbrev pub AllBefore : List Entry → Type 0

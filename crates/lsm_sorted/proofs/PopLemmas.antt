@@ -9,9 +9,9 @@ use Rattle.std.proofs.lemmas.Bool.{cases_eq}
 use Rattle.std.proofs.lemmas.Bool.Decides.{nat_tests}
 use Rattle.std.proofs.lemmas.List.{append-nil, append_assoc, map-set, get_or-set_same}
 use Rattle.std.proofs.Math.ListN.{get_or-map}
-use Rattle.sst_blocks.specs.Entry.{Entry}
-use Rattle.sst_blocks.specs.Key.{key_cmp}
-use Rattle.sst_blocks.specs.declared.error.Error.{Error}
+use Rattle.sst_entries.specs.Entry.{Entry}
+use Rattle.sst_entries.specs.Key.{key_cmp}
+use Rattle.sst_entries.specs.declared.error.Error.{Error}
 use Rattle.lsm_sorted.specs.declared.merge.HeapItem.{HeapItem}
 use Rattle.lsm_sorted.specs.Ends.{R}
 use Rattle.lsm_sorted.specs.Union.{item_cmp, AtMost, Ascends, entries_of, errors_of, all_errors, merged}

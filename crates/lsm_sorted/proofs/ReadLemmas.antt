@@ -3,15 +3,15 @@ use Rattle.std.proofs.Common.{◌≡◌, refl, sym, ◌∙◌, ap, subst, ℕ, �
 use Rattle.std.specs.Prelude.{Option, Some, None, Ok}
 use Rattle.std.specs.List.{AllByRecursion}
 use Rattle.std.proofs.lemmas.Bool.Decides.{nat_tests}
-use Rattle.sst_blocks.specs.Entry.{Entry}
-use Rattle.sst_blocks.specs.Kind.{is_tombstone_kind}
-use Rattle.sst_blocks.specs.Key.{same_key, key_lt}
-use Rattle.sst_blocks.specs.Stream.{first, all_ok}
-use Rattle.sst_blocks.specs.declared.value_type.ValueType.{ValueType}
-use Rattle.sst_blocks.specs.declared.value_type.ValueType.TheVariants.{Value, Tombstone, WeakTombstone, Indirection}
+use Rattle.sst_entries.specs.Entry.{Entry}
+use Rattle.sst_entries.specs.Kind.{is_tombstone_kind}
+use Rattle.sst_entries.specs.Key.{same_key, key_lt}
+use Rattle.sst_entries.specs.Stream.{first, all_ok}
+use Rattle.sst_entries.specs.declared.value_type.ValueType.{ValueType}
+use Rattle.sst_entries.specs.declared.value_type.ValueType.TheVariants.{Value, Tombstone, WeakTombstone, Indirection}
 use Rattle.lsm_sorted.specs.Ends.{R}
 use Rattle.lsm_sorted.specs.Union.{entries_of}
-use Rattle.sst_blocks.specs.Point.{is_hit, point}
+use Rattle.sst_entries.specs.Point.{is_hit, point}
 use Rattle.lsm_sorted.specs.Point.{shown}
 use Rattle.lsm_sorted.specs.Compaction.{JudgedItem, Rules, goes, zeroed, outs, kept, as_is, unfiltered}
 use Rattle.lsm_sorted.specs.ReadLaw.{IsServed, ReadLaw}

@@ -7,14 +7,14 @@ use Rattle.std.specs.Ordering.{nat_cmp, is_gt, is_lt, ordering_then, ordering_re
 use Rattle.std.specs.declared.cmp.Ordering.{Ordering}
 use Rattle.std.specs.declared.cmp.Ordering.TheVariants.{Less, Equal, Greater}
 use Rattle.std.proofs.lemmas.Bool.{eqb-true, eq-eqb}
-use Rattle.sst_blocks.specs.Entry.{Entry}
-use Rattle.sst_blocks.specs.Key.{same_key}
-use Rattle.sst_blocks.specs.Kind.{tag_of}
-use Rattle.sst_blocks.specs.declared.value_type.ValueType.{ValueType}
-use Rattle.sst_blocks.specs.declared.value_type.ValueType.TheVariants.{Value, Tombstone, WeakTombstone, Indirection}
+use Rattle.sst_entries.specs.Entry.{Entry}
+use Rattle.sst_entries.specs.Key.{same_key}
+use Rattle.sst_entries.specs.Kind.{tag_of}
+use Rattle.sst_entries.specs.declared.value_type.ValueType.{ValueType}
+use Rattle.sst_entries.specs.declared.value_type.ValueType.TheVariants.{Value, Tombstone, WeakTombstone, Indirection}
 use Rattle.lsm_sorted.specs.Ends.{R}
 use Rattle.lsm_sorted.specs.Union.{item_cmp, AtMost, Ascends, SameBag, all_entries, IsUnion, inserted, in_order, merged}
-use Rattle.sst_blocks.specs.Strict.{number_cmp, IsStrict}
+use Rattle.sst_entries.specs.Strict.{number_cmp, IsStrict}
 use Rattle.lsm_ranges.proofs.KeyLemmas.{same_is, same_itself}
 use Rattle.lsm_sorted.proofs.Pairs.{AllBefore, pairs_of}
 use Rattle.lsm_sorted.proofs.MergedLemmas.{item_total, Above, at_most_chain, above_at_most, all_inserted}

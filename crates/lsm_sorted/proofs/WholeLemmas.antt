@@ -3,14 +3,14 @@ use Rattle.std.proofs.Common.{◌≡◌, refl, sym, ◌∙◌, ap, subst, ℕ, B
 use Rattle.std.specs.Prelude.{Option, Some, None, Result, Ok, Err, is_ok}
 use Rattle.std.specs.List.{AllByRecursion}
 use Rattle.std.specs.Iterator.{Count, Yields}
-use Rattle.sst_blocks.specs.Entry.{Entry}
-use Rattle.sst_blocks.specs.Kind.{is_tombstone_kind}
-use Rattle.sst_blocks.specs.declared.stream.Direction.{Direction}
-use Rattle.sst_blocks.specs.declared.stream.Direction.TheVariants.{Front, Back}
-use Rattle.sst_blocks.specs.Stream.{Deals, CanDeal, Runs, nowhere, stopped, stopped_result, first, but_first, all_ok}
-use Rattle.sst_blocks.specs.declared.error.Error.{Error}
+use Rattle.sst_entries.specs.Entry.{Entry}
+use Rattle.sst_entries.specs.Kind.{is_tombstone_kind}
+use Rattle.sst_entries.specs.declared.stream.Direction.{Direction}
+use Rattle.sst_entries.specs.declared.stream.Direction.TheVariants.{Front, Back}
+use Rattle.sst_entries.specs.Stream.{Deals, CanDeal, Runs, nowhere, stopped, stopped_result, first, but_first, all_ok}
+use Rattle.sst_entries.specs.declared.error.Error.{Error}
 use Rattle.lsm_sorted.specs.declared.compaction.stream.CompactionStream.{CompactionStream}
-use Rattle.sst_blocks.proofs.StreamLemmas.{deals_by, can_by, tail_eq}
+use Rattle.sst_entries.proofs.StreamLemmas.{deals_by, can_by, tail_eq}
 use Rattle.lsm_sorted.specs.Union.{entries_of}
 use Rattle.lsm_sorted.specs.Ends.{R}
 use Rattle.lsm_sorted.specs.Compaction.{Verdict, keep, replace, drop, Judged, JudgedItem, items, Rules, told_by, told, is_cut, heads, expired, zeroed, given_by, given, Versions, is_version_of, before, by_key, gone, error_of, entries, outs_of, joined, outs, kept, as_is, as_they_are, unfiltered}

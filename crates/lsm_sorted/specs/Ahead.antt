@@ -1,8 +1,8 @@
 -- An iterator that is taken from the front alone, with a place for one entry before it.
 use Rattle.std.specs.Prelude.{◌≡◌, ℕ, Bool, ◌+◌, List, ◌++◌, Option}
 use Rattle.std.specs.Iterator.{Count}
-use Rattle.sst_blocks.specs.declared.error.Error.{Error}
-use Rattle.sst_blocks.specs.Stream.{nowhere}
+use Rattle.sst_entries.specs.declared.error.Error.{Error}
+use Rattle.sst_entries.specs.Stream.{nowhere}
 use Rattle.lsm_sorted.specs.declared.ahead.Ahead.{Ahead}
 use Rattle.lsm_sorted.specs.Ends.{R, Left, ends_size}
 use Rattle.lsm_sorted.specs.Peeked.{held, held_count}

@@ -1,9 +1,9 @@
 -- What a compaction stream stands for, and its calls.
 use Rattle.std.specs.Prelude.{◌≡◌, ℕ, Bool, false, List, [], ◌∷◌, Option, Some, None, Result, Ok, Err}
 use Rattle.std.specs.Iterator.{Count}
-use Rattle.sst_blocks.specs.Entry.{Entry}
-use Rattle.sst_blocks.specs.declared.error.Error.{Error}
-use Rattle.sst_blocks.specs.Stream.{stopped, stopped_result, nowhere}
+use Rattle.sst_entries.specs.Entry.{Entry}
+use Rattle.sst_entries.specs.declared.error.Error.{Error}
+use Rattle.sst_entries.specs.Stream.{stopped, stopped_result, nowhere}
 use Rattle.lsm_sorted.specs.declared.ahead.Ahead.{Ahead}
 use Rattle.lsm_sorted.specs.declared.compaction.stream.CompactionStream.{CompactionStream}
 use Rattle.lsm_sorted.specs.Ends.{R, Goes}

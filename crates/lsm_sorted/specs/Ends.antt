@@ -1,10 +1,10 @@
 -- An iterator that is not called again once it gave `None`.
 use Rattle.std.specs.Prelude.{◌≡◌, ℕ, Bool, true, false, cond, List, [], Option, Result}
 use Rattle.std.specs.Iterator.{Count, IsFinite, size}
-use Rattle.sst_blocks.specs.Entry.{Entry}
-use Rattle.sst_blocks.specs.declared.error.Error.{Error}
+use Rattle.sst_entries.specs.Entry.{Entry}
+use Rattle.sst_entries.specs.declared.error.Error.{Error}
 use Rattle.lsm_sorted.specs.declared.ends.Ends.{Ends}
-use Rattle.sst_blocks.specs.Stream.{Deals, CanDeal, stopped}
+use Rattle.sst_entries.specs.Stream.{Deals, CanDeal, stopped}
 
 abbrev pub R : Type 0
 R = Result Entry Error

@@ -2,10 +2,10 @@
 use Rattle.std.specs.Prelude.{◌≡◌, ℕ, ◌+◌, ◌<◌, ◌≤◌, ◌==◌, ◌&&◌, ◌⊎◌, not, Bool, true, false, cond, List, [], ◌∷◌, ◌++◌, length, map, All, Contains, IsPermutation, count_by, slice_index_or, Option, Some, None, Result, Ok, Err, MatchResult, sum_by}
 use Rattle.std.specs.List.{AllZip, AllByRecursion}
 use Rattle.std.specs.Iterator.{Count}
-use Rattle.sst_blocks.specs.Entry.{Entry, entry}
-use Rattle.sst_blocks.specs.Stream.{stopped, all_ok, deal, NoneStops, Runs}
-use Rattle.sst_blocks.specs.declared.stream.Direction.{Direction}
-use Rattle.sst_blocks.specs.declared.error.Error.{Error}
+use Rattle.sst_entries.specs.Entry.{Entry, entry}
+use Rattle.sst_entries.specs.Stream.{stopped, all_ok, deal, NoneStops, Runs}
+use Rattle.sst_entries.specs.declared.stream.Direction.{Direction}
+use Rattle.sst_entries.specs.declared.error.Error.{Error}
 use Rattle.lsm_sorted.specs.declared.merge.HeapItem.{HeapItem}
 use Rattle.lsm_sorted.specs.declared.merge.Merger.{Merger}
 use Rattle.lsm_sorted.specs.Ends.{R, Left, Goes, ends_size}

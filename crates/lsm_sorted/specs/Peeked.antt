@@ -1,7 +1,7 @@
 -- An iterator with a place for one entry before it and one behind it.
 use Rattle.std.specs.Prelude.{◌≡◌, ℕ, Bool, ◌+◌, List, [], ◌∷◌, ◌++◌, Option, Some, None}
 use Rattle.std.specs.Iterator.{Count}
-use Rattle.sst_blocks.specs.declared.error.Error.{Error}
+use Rattle.sst_entries.specs.declared.error.Error.{Error}
 use Rattle.lsm_sorted.specs.declared.peeked.Peeked.{Peeked}
 use Rattle.lsm_sorted.specs.Ends.{R, Left, ends_size}
 

@@ -1,9 +1,9 @@
 -- What a reader sees of a key in a list of entries.
 use Rattle.std.specs.Prelude.{ℕ, if◌then◌else◌, List, Option, Some, None}
-use Rattle.sst_blocks.specs.Entry.{Entry}
-use Rattle.sst_blocks.specs.Kind.{is_tombstone_kind}
-use Rattle.sst_blocks.specs.Point.{point}
-use Rattle.sst_blocks.specs.declared.value_type.ValueType.{ValueType}
+use Rattle.sst_entries.specs.Entry.{Entry}
+use Rattle.sst_entries.specs.Kind.{is_tombstone_kind}
+use Rattle.sst_entries.specs.Point.{point}
+use Rattle.sst_entries.specs.declared.value_type.ValueType.{ValueType}
 
 -- the kind and the value of an entry, absent where it is a tombstone
 abbrev pub shown : Option Entry → Option (ValueType × List ℕ)

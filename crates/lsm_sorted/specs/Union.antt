@@ -3,11 +3,11 @@ use Rattle.std.specs.Prelude.{◌≡◌, ◌<◌, Bool, true, false, cond, not, 
 use Rattle.std.specs.declared.cmp.Ordering.{Ordering}
 use Rattle.std.specs.List.{AllByRecursion}
 use Rattle.std.specs.Ordering.{ordering_then, is_gt, nat_cmp}
-use Rattle.sst_blocks.specs.Entry.{Entry}
-use Rattle.sst_blocks.specs.Kind.{tag_of}
-use Rattle.sst_blocks.specs.Key.{same_key}
+use Rattle.sst_entries.specs.Entry.{Entry}
+use Rattle.sst_entries.specs.Kind.{tag_of}
+use Rattle.sst_entries.specs.Key.{same_key}
 use Rattle.std.specs.Cmp.Lexicographic.{slice_cmp}
-use Rattle.sst_blocks.specs.declared.error.Error.{Error}
+use Rattle.sst_entries.specs.declared.error.Error.{Error}
 use Rattle.lsm_sorted.specs.Ends.{R}
 
 -- key up, number down, kind

@@ -1,6 +1,6 @@
 -- What a filter said, without its memory.
 use Rattle.std.specs.Prelude.{Result, Ok, Err}
-use Rattle.sst_blocks.specs.declared.error.Error.{Error}
+use Rattle.sst_entries.specs.declared.error.Error.{Error}
 use Rattle.lsm_sorted.specs.declared.compaction.stream.StreamFilterVerdict.{StreamFilterVerdict}
 use Rattle.lsm_sorted.specs.declared.compaction.stream.StreamFilterVerdict.TheVariants.{Keep, Replace, Drop}
 use Rattle.lsm_sorted.specs.Compaction.{Verdict, keep, replace, drop}

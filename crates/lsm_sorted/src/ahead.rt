@@ -1,12 +1,12 @@
 //! An iterator that is taken from the front alone, with a place for one entry before it.
-ghost use Rattle.sst_blocks.specs.declared.error.Error.{Error};
+ghost use Rattle.sst_entries.specs.declared.error.Error.{Error};
 ghost use Rattle.std.specs.Prelude.{Bool, ◌≡◌, ℕ, ◌+◌, ◌<◌, List, ◌∷◌, false};
 ghost use Rattle.lsm_sorted.specs.Ends.{R, Goes};
-ghost use Rattle.sst_blocks.specs.Stream.{DealsFirst, Lowers, nowhere};
+ghost use Rattle.sst_entries.specs.Stream.{DealsFirst, Lowers, nowhere};
 ghost use Rattle.lsm_sorted.specs.Ahead.{HoldsAhead, ahead_size};
 
 use crate::ends::Ends;
-use sst_blocks::{InternalValue, IterItem};
+use sst_entries::{InternalValue, IterItem};
 use std::alloc::Allocator;
 
 /// An iterator to which the entry that was taken last may be given back.

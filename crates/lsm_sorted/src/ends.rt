@@ -1,12 +1,12 @@
 //! An iterator that is not called again once it gave `None`, since it then promises nothing.
-ghost use Rattle.sst_blocks.specs.declared.error.Error.{Error};
+ghost use Rattle.sst_entries.specs.declared.error.Error.{Error};
 ghost use Rattle.std.specs.Prelude.{Bool, ◌≡◌, ℕ, ◌+◌, ◌<◌, false};
 ghost use Rattle.std.specs.Iterator.{IsFinite};
-ghost use Rattle.sst_blocks.specs.Stream.{Deals, CanDeal, nowhere};
+ghost use Rattle.sst_entries.specs.Stream.{Deals, CanDeal, nowhere};
 ghost use Rattle.lsm_sorted.specs.Ends.{Left, Goes, ends_size};
-ghost use Rattle.sst_blocks.specs.Stream.{DealsFirst, DealsLast, Lowers};
+ghost use Rattle.sst_entries.specs.Stream.{DealsFirst, DealsLast, Lowers};
 
-use sst_blocks::IterItem;
+use sst_entries::IterItem;
 use std::alloc::Allocator;
 
 /// An iterator that has ended at both ends once either end gave `None`.

@@ -1,6 +1,6 @@
 //! A priority queue with two ends, as an interval heap.
 ghost use Rattle.std.specs.Prelude.{◌≡◌, ◌⊎◌, ℕ, ◌+◌, ◌*◌, ◌/◌, ◌%◌, ◌<◌, ◌≤◌, [], ◌∷◌, length, IfOk, IfErr, IfNone, IfSome, IsPermutation, MatchOption};
-ghost use Rattle.sst_blocks.specs.declared.error.Error.TheVariants.{OutOfMemory};
+ghost use Rattle.sst_entries.specs.declared.error.Error.TheVariants.{OutOfMemory};
 ghost use Rattle.lsm_sorted.specs.Bag.{IsLeast, IsGreatest};
 ghost use Rattle.lsm_sorted.specs.IntervalHeap.{held, room};
 
@@ -8,7 +8,7 @@ mod intervals;
 
 use crate::side::Side;
 use intervals::{order_last, sink};
-use sst_blocks::Error;
+use sst_entries::Error;
 use std::alloc::{Allocator, Global};
 use std::marker::Model;
 

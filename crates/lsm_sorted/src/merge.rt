@@ -2,11 +2,11 @@
 ghost use Rattle.std.specs.Prelude.{◌≡◌, ℕ, ◌<◌, ◌≤◌, Bool, true, false, List, [], length, map, All, IfOk, IfErr, MatchResult, MatchOption};
 ghost use Rattle.std.specs.List.{AllZip, AllByRecursion};
 ghost use Rattle.std.specs.Iterator.{at_most, IsFinite};
-ghost use Rattle.sst_blocks.specs.Entry.{Entry};
-ghost use Rattle.sst_blocks.specs.Stream.{Deals, CanDeal, stopped, all_ok, front_of, back_of};
-ghost use Rattle.sst_blocks.specs.Strict.{IsStrict};
-ghost use Rattle.sst_blocks.specs.declared.error.Error.{Error};
-ghost use Rattle.sst_blocks.specs.declared.error.Error.TheVariants.{OutOfMemory};
+ghost use Rattle.sst_entries.specs.Entry.{Entry};
+ghost use Rattle.sst_entries.specs.Stream.{Deals, CanDeal, stopped, all_ok, front_of, back_of};
+ghost use Rattle.sst_entries.specs.Strict.{IsStrict};
+ghost use Rattle.sst_entries.specs.declared.error.Error.{Error};
+ghost use Rattle.sst_entries.specs.declared.error.Error.TheVariants.{OutOfMemory};
 ghost use Rattle.lsm_sorted.specs.Ends.{R, fresh, Goes};
 ghost use Rattle.lsm_sorted.specs.Tournament.{held, room};
 ghost use Rattle.lsm_sorted.specs.Union.{Ascends, IsUnion, entries_of, all_errors, merged};
@@ -14,7 +14,7 @@ ghost use Rattle.lsm_sorted.specs.Merge.{Failed, EndsAtError, Leaves, Takes, Fil
 
 use crate::ends::Ends;
 use crate::tournament::Tournament;
-use sst_blocks::{Error, InternalKey, InternalValue, IterItem, UserValue};
+use sst_entries::{Error, InternalKey, InternalValue, IterItem, UserValue};
 use std::alloc::{Allocator, Global};
 
 // An entry on its way through the heap. Where keys tie, entries of earlier sources come first,

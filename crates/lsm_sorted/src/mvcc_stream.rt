@@ -1,17 +1,17 @@
 //! A stream of the newest version of each key.
-ghost use Rattle.sst_blocks.specs.declared.error.Error.{Error};
+ghost use Rattle.sst_entries.specs.declared.error.Error.{Error};
 ghost use Rattle.std.specs.Prelude.{not, Bool, ◌≡◌, ℕ, ◌+◌, ◌<◌, List};
 ghost use Rattle.std.specs.Iterator.{at_most, IsFinite};
-ghost use Rattle.sst_blocks.specs.Stream.{Deals, CanDeal, stopped, all_ok, Answers};
+ghost use Rattle.sst_entries.specs.Stream.{Deals, CanDeal, stopped, all_ok, Answers};
 ghost use Rattle.lsm_sorted.specs.Ends.{R};
-ghost use Rattle.sst_blocks.specs.Key.{same_key, key_lt};
+ghost use Rattle.sst_entries.specs.Key.{same_key, key_lt};
 ghost use Rattle.lsm_sorted.specs.Newest.{front_step, back_step};
 ghost use Rattle.lsm_sorted.specs.Union.{Ascends, newest};
-ghost use Rattle.sst_blocks.specs.Entry.{Entry};
+ghost use Rattle.sst_entries.specs.Entry.{Entry};
 ghost use Rattle.lsm_sorted.specs.Mvcc.{StandsFor, MayStep, mvcc_size};
 
 use crate::peeked::Peeked;
-use sst_blocks::{InternalValue, IterItem};
+use sst_entries::{InternalValue, IterItem};
 use std::alloc::Allocator;
 
 // By equality alone, which asks less of the order than the back does.

@@ -2,15 +2,15 @@
 ghost use Rattle.std.specs.Prelude.{Bool, ◌≡◌, List, [], IfOk, IfErr, All};
 ghost use Rattle.std.specs.List.{AllZip, AllByRecursion};
 ghost use Rattle.std.specs.Iterator.{IsFinite};
-ghost use Rattle.sst_blocks.specs.Stream.{Deals, CanDeal, stopped, all_ok};
-ghost use Rattle.sst_blocks.specs.declared.error.Error.{Error};
-ghost use Rattle.sst_blocks.specs.declared.error.Error.TheVariants.{OutOfMemory};
+ghost use Rattle.sst_entries.specs.Stream.{Deals, CanDeal, stopped, all_ok};
+ghost use Rattle.sst_entries.specs.declared.error.Error.{Error};
+ghost use Rattle.sst_entries.specs.declared.error.Error.TheVariants.{OutOfMemory};
 ghost use Rattle.lsm_sorted.specs.Ends.{R};
 ghost use Rattle.lsm_sorted.specs.Union.{Ascends, entries_of, all_errors, merged, newest};
 
 use crate::merge::Merger;
 use crate::mvcc_stream::MvccStream;
-use sst_blocks::{Error, IterItem};
+use sst_entries::{Error, IterItem};
 use std::alloc::Allocator;
 
 /// The newest version of each key of several sources that each deal their entries in order.

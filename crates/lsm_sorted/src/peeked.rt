@@ -1,13 +1,13 @@
 //! An iterator with a place for one entry before it and one behind it.
-ghost use Rattle.sst_blocks.specs.declared.error.Error.{Error};
+ghost use Rattle.sst_entries.specs.declared.error.Error.{Error};
 ghost use Rattle.std.specs.Prelude.{Bool, ◌≡◌, ℕ, ◌+◌, ◌<◌, List, ◌∷◌, ◌++◌, [], false};
 ghost use Rattle.std.specs.Iterator.{IsFinite};
 ghost use Rattle.lsm_sorted.specs.Ends.{R, Left, Goes, ends_size};
-ghost use Rattle.sst_blocks.specs.Stream.{DealsFirst, DealsLast, Lowers};
+ghost use Rattle.sst_entries.specs.Stream.{DealsFirst, DealsLast, Lowers};
 ghost use Rattle.lsm_sorted.specs.Peeked.{Holds, held, peeked_size};
 
 use crate::ends::Ends;
-use sst_blocks::{InternalValue, IterItem};
+use sst_entries::{InternalValue, IterItem};
 use std::alloc::Allocator;
 
 /// An iterator to which an entry may be given back at either end. What is given back at one end is

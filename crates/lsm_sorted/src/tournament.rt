@@ -1,6 +1,6 @@
 //! A priority queue with two ends, as two tournaments over the same slots.
 ghost use Rattle.std.specs.Prelude.{◌≡◌, ◌*◌, ◌<◌, [], ◌∷◌, length, IfOk, IfErr, IfNone, IfSome, IsPermutation};
-ghost use Rattle.sst_blocks.specs.declared.error.Error.TheVariants.{OutOfMemory};
+ghost use Rattle.sst_entries.specs.declared.error.Error.TheVariants.{OutOfMemory};
 ghost use Rattle.lsm_sorted.specs.Bag.{IsLeast, IsGreatest};
 ghost use Rattle.lsm_sorted.specs.Tournament.{held, room, steps, height, PlaysAtMost};
 
@@ -9,7 +9,7 @@ mod slots;
 
 use brackets::Brackets;
 use slots::Slots;
-use sst_blocks::Error;
+use sst_entries::Error;
 use std::alloc::{Allocator, Global};
 use std::marker::Model;
 

@@ -8,12 +8,12 @@ use Rattle.std.specs.declared.cmp.Ordering.TheVariants.{Less, Equal, Greater}
 use Rattle.std.specs.Ordering.{is_lt, is_eq, nat_cmp, ordering_reverse}
 use Rattle.std.specs.Cmp.Lexicographic.{slice_cmp, nat_list_cmp_total, texts_ties}
 use Rattle.sst_blocks.specs.declared.version.TableVersion.{TableVersion}
-use Rattle.sst_blocks.specs.declared.value_type.ValueType.TheVariants.{Value}
-use Rattle.sst_blocks.specs.Entry.{Entry, entry}
+use Rattle.sst_entries.specs.declared.value_type.ValueType.TheVariants.{Value}
+use Rattle.sst_entries.specs.Entry.{Entry, entry}
 use Rattle.sst_blocks.specs.Handle.{Handle}
 use Rattle.sst_blocks.specs.Handles.{reaches}
-use Rattle.sst_blocks.specs.Key.{same_key, key_lt}
-use Rattle.sst_blocks.specs.Point.{is_hit}
+use Rattle.sst_entries.specs.Key.{same_key, key_lt}
+use Rattle.sst_entries.specs.Point.{is_hit}
 use Rattle.sst_blocks.specs.declared.version.TableVersion.TheVariants.{V3, V4}
 use Rattle.sst_blocks.specs.declared.block_type.BlockType.{BlockType}
 use Rattle.sst_blocks.specs.declared.block_type.BlockType.TheVariants.{Data}
@@ -23,7 +23,7 @@ use Rattle.sst_blocks.specs.Number.{le4, le8}
 use Rattle.sst_blocks.specs.Payload.{payload}
 use Rattle.sst_blocks.specs.Version.{mark}
 use Rattle.sst_blocks.proofs.Numbers.{wide4, wide8}
-use Rattle.sst_blocks.specs.Strict.{number_cmp, is_before, IsStrictAfter, last_of}
+use Rattle.sst_entries.specs.Strict.{number_cmp, is_before, IsStrictAfter, last_of}
 use Rattle.sst_blocks.proofs.Reaching.{reaches_after, above_reaches}
 use Rattle.lsm_writers.specs.Chunks.{joined}
 use Rattle.lsm_writers.specs.Index.{last_entry, handle_of, handles_from, block_size, data_block, data_section}

@@ -5,14 +5,14 @@ use Rattle.std.specs.List.{flat_map, AllByRecursion}
 use Rattle.sst_blocks.specs.declared.version.TableVersion.{TableVersion}
 use Rattle.sst_blocks.specs.declared.version.TableVersion.TheVariants.{V3, V4}
 use Rattle.sst_blocks.specs.declared.block_type.BlockType.TheVariants.{Data}
-use Rattle.sst_blocks.specs.Entry.{Entry}
+use Rattle.sst_entries.specs.Entry.{Entry}
 use Rattle.sst_blocks.specs.Handle.{Handle}
 use Rattle.sst_blocks.specs.Handles.{handles_payload, handles_in, handle_spelled, HandleFits, AreStrictHandles, end_of}
 use Rattle.sst_blocks.specs.Number.{le4}
 use Rattle.sst_blocks.specs.Payload.{payload, spelled, AreFit}
 use Rattle.sst_blocks.specs.Payload as written
 use Rattle.sst_blocks.specs.Reading.{entries_in}
-use Rattle.sst_blocks.specs.Strict.{is_before, may_follow, IsStrictAfter, IsStrict, last_of}
+use Rattle.sst_entries.specs.Strict.{is_before, may_follow, IsStrictAfter, IsStrict, last_of}
 use Rattle.sst_blocks.specs.Version.{key_limit, longest_key}
 use Rattle.sst_blocks.proofs.Entries.{entries_read, length-spelled}
 use Rattle.sst_blocks.proofs.HandleLaws.{handles_read, length-handle_spelled}

@@ -8,17 +8,17 @@ use Rattle.std.proofs.lemmas.List.Sums.{count_by-le-length}
 use Rattle.sst_blocks.specs.declared.version.TableVersion.{TableVersion}
 use Rattle.sst_blocks.specs.declared.version.TableVersion.TheVariants.{V3, V4}
 use Rattle.sst_blocks.specs.declared.block_type.BlockType.TheVariants.{Data, Index, Meta}
-use Rattle.sst_blocks.specs.declared.error.Error.{Error}
+use Rattle.sst_entries.specs.declared.error.Error.{Error}
 use Rattle.sst_blocks.specs.Block.{load_told}
-use Rattle.sst_blocks.specs.Entry.{Entry}
+use Rattle.sst_entries.specs.Entry.{Entry}
 use Rattle.sst_blocks.specs.Handle.{Handle}
 use Rattle.sst_blocks.specs.Handles.{reaches, handles_payload}
-use Rattle.sst_blocks.specs.Key.{same_key}
+use Rattle.sst_entries.specs.Key.{same_key}
 use Rattle.sst_blocks.specs.Payload.{payload}
-use Rattle.sst_blocks.specs.Point.{is_hit, point}
+use Rattle.sst_entries.specs.Point.{is_hit, point}
 use Rattle.sst_blocks.specs.Reading.{entries_in}
 use Rattle.sst_blocks.specs.Sections.{finished, body_of, trailer, section_in, section_names}
-use Rattle.sst_blocks.specs.Strict.{IsStrict, IsStrictAfter, last_of}
+use Rattle.sst_entries.specs.Strict.{IsStrict, IsStrictAfter, last_of}
 use Rattle.sst_blocks.specs.Version.{longest_key}
 use Rattle.sst_blocks.proofs.BlockLaws.{written_loads}
 use Rattle.lsm_writers.specs.Chunks.{joined, AreChunksFrom}

@@ -9,7 +9,7 @@ use Rattle.sst_blocks.specs.declared.section.SectionName.{SectionName}
 use Rattle.sst_blocks.specs.declared.section.SectionName.TheVariants.{Index as IndexSection, Tli, Filter as FilterSection, FilterTli, Meta as MetaSection}
 use Rattle.sst_blocks.specs.declared.section.Section.{Section}
 use Rattle.sst_blocks.specs.Block.{Loaded, block_bytes, load_told}
-use Rattle.sst_blocks.specs.Entry.{Entry}
+use Rattle.sst_entries.specs.Entry.{Entry}
 use Rattle.sst_blocks.specs.Handles.{handles_payload, handles_in}
 use Rattle.sst_blocks.specs.Payload.{payload}
 use Rattle.sst_blocks.specs.Reading.{entries_in}

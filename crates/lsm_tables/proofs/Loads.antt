@@ -3,11 +3,11 @@ use Rattle.std.proofs.Common.{◌≡◌, ℕ, ◌-◌, ◌≤◌, Bool, true, fa
 use Rattle.std.proofs.lemmas.Bool.{cases_lt}
 use Rattle.std.proofs.lemmas.List.{length-take}
 use Rattle.std.specs.Prelude.{Option, Some, None, Result, Ok, Err}
-use Rattle.sst_blocks.specs.declared.error.Error.{Error}
+use Rattle.sst_entries.specs.declared.error.Error.{Error}
 use Rattle.sst_blocks.specs.declared.block_type.BlockType.{BlockType}
 use Rattle.sst_blocks.specs.declared.block_type.BlockType.TheVariants.{Data, Meta, Index, Filter}
 use Rattle.sst_blocks.specs.declared.version.TableVersion.{TableVersion}
-use Rattle.sst_blocks.specs.declared.error.Error.TheVariants.{ChecksumMismatch, InvalidHeader, Truncated}
+use Rattle.sst_entries.specs.declared.error.Error.TheVariants.{ChecksumMismatch, InvalidHeader, Truncated}
 use Rattle.sst_blocks.specs.Fnv.{fnv1a}
 use Rattle.std.specs.Prelude.{not, ◌==◌, ◌||◌, slice_range, nat_lt, length, ◌+◌}
 use Rattle.sst_blocks.specs.Block.{Loaded, load_told, load_at_told, checked_payload, grammar_fault, unless, version_in, stored_checksum, header_fault, data_len, uncompressed_len}

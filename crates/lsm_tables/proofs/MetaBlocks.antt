@@ -4,12 +4,12 @@ use Rattle.std.specs.Prelude.{Some, None, sum_by}
 use Rattle.std.specs.List.{flat_map, AllByRecursion}
 use Rattle.sst_blocks.specs.declared.version.TableVersion.{TableVersion}
 use Rattle.sst_blocks.specs.declared.version.TableVersion.TheVariants.{V3, V4}
-use Rattle.sst_blocks.specs.Entry.{Entry}
+use Rattle.sst_entries.specs.Entry.{Entry}
 use Rattle.sst_blocks.specs.Number.{le4, le16}
 use Rattle.sst_blocks.specs.Payload.{payload, spelled, AreFit}
 use Rattle.sst_blocks.specs.Payload as written
 use Rattle.sst_blocks.specs.Reading.{entries_in}
-use Rattle.sst_blocks.specs.Strict.{IsStrict, is_strict_after}
+use Rattle.sst_entries.specs.Strict.{IsStrict, is_strict_after}
 use Rattle.sst_blocks.specs.Version.{key_width, key_limit}
 use Rattle.sst_blocks.proofs.Entries.{entries_read, length-spelled}
 use Rattle.sst_blocks.proofs.Items.{strict_from_test}

@@ -2,9 +2,9 @@
 use Rattle.std.proofs.Common.{◌≡◌, ℕ, ◌<◌, Bool, true, false, cond, ltb, List, [], ◌∷◌, Option, Some, refl, subst}
 use Rattle.std.specs.Prelude.{◌&&◌, find}
 use Rattle.std.proofs.lemmas.Bool.{ltb-true}
-use Rattle.sst_blocks.specs.Entry.{Entry}
-use Rattle.sst_blocks.specs.Key.{same_key}
-use Rattle.sst_blocks.specs.Point.{is_hit, point}
+use Rattle.sst_entries.specs.Entry.{Entry}
+use Rattle.sst_entries.specs.Key.{same_key}
+use Rattle.sst_entries.specs.Point.{is_hit, point}
 
 passes_by : {X : Type 0} (p : X → Bool) (x y : X) (o : Option X) (b : Bool) → p x ≡ b → (o ≡ Some y → p y ≡ true) → cond b (Some x) o ≡ Some y → p y ≡ true
 passes_by p x y o true e rest h = let same : x ≡ y = cc in subst (λ z. p z ≡ true) same e

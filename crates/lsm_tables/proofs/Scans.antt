@@ -7,14 +7,14 @@ use Rattle.std.proofs.lemmas.Bool.{le-ltb, lt-ltb}
 use Rattle.std.proofs.lemmas.List.{drop_more}
 use Rattle.std.proofs.lemmas.Option.{slice_get_within, get_or_from_slice_get}
 use Rattle.sst_blocks.specs.declared.block_type.BlockType.TheVariants.{Data}
-use Rattle.sst_blocks.specs.declared.error.Error.{Error}
-use Rattle.sst_blocks.specs.declared.error.Error.TheVariants.{OutOfMemory, SeqNoOverflow, Truncated, InvalidHeader, InvalidTag, ChecksumMismatch, InvalidBlock, KeyTooLong, ValueTooLong, BlockTooLarge, SectionTooLarge, InvalidTrailer, MissingSection, MetaKeyMissing, InvalidMetaValue, UnsupportedTableVersion, UnsupportedHashType, UnsupportedChecksumType, UnsupportedIndexInterval, UnsupportedCompression, GlobalSeqNoTooLarge, TableIdsSpent, WriterFailed, Source}
+use Rattle.sst_entries.specs.declared.error.Error.{Error}
+use Rattle.sst_entries.specs.declared.error.Error.TheVariants.{OutOfMemory, SeqNoOverflow, Truncated, InvalidHeader, InvalidTag, ChecksumMismatch, InvalidBlock, KeyTooLong, ValueTooLong, BlockTooLarge, SectionTooLarge, InvalidTrailer, MissingSection, MetaKeyMissing, InvalidMetaValue, UnsupportedTableVersion, UnsupportedHashType, UnsupportedChecksumType, UnsupportedIndexInterval, UnsupportedCompression, GlobalSeqNoTooLarge, TableIdsSpent, WriterFailed, Source}
 use Rattle.sst_blocks.specs.Block.{Loaded, load_at_told, entries_of}
-use Rattle.sst_blocks.specs.Entry.{Entry}
-use Rattle.sst_blocks.specs.Error.{is_memory}
+use Rattle.sst_entries.specs.Entry.{Entry}
+use Rattle.sst_entries.specs.Error.{is_memory}
 use Rattle.sst_blocks.specs.Opened.{counted}
-use Rattle.sst_blocks.specs.Stream.{Answers, Deals, CanDeal, first, but_first, front_of, nowhere, stopped}
-use Rattle.sst_blocks.proofs.StreamLemmas.{head_eq, deals_by, can_by}
+use Rattle.sst_entries.specs.Stream.{Answers, Deals, CanDeal, first, but_first, front_of, nowhere, stopped}
+use Rattle.sst_entries.proofs.StreamLemmas.{head_eq, deals_by, can_by}
 use Rattle.lsm_tables.specs.Answer.{lifted}
 use Rattle.lsm_tables.specs.Scan.{lifted_told, then_blocks, behind, blocks_told, entries_told, up_to_error, entries_from, scan_told, fault_of, block_told, Scan, scan_left, ended, IsEnded, TakesEntry, ScanHas, loads, ScansNext, scan_size}
 use Rattle.lsm_tables.specs.Told.{◌>>=◌}

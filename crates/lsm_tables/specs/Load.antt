@@ -1,6 +1,6 @@
 -- What a table's meta block tells.
 use Rattle.std.specs.Prelude.{List, ℕ, Result}
-use Rattle.sst_blocks.specs.declared.error.Error.{Error}
+use Rattle.sst_entries.specs.declared.error.Error.{Error}
 use Rattle.sst_blocks.specs.declared.block_type.BlockType.TheVariants.{Meta}
 use Rattle.sst_blocks.specs.Block.{load_told, entries_of}
 use Rattle.sst_blocks.specs.Place.{Place}

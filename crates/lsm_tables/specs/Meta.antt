@@ -1,11 +1,11 @@
 -- What a meta block tells of its table, item by item, or the first fault.
 use Rattle.std.specs.Prelude.{ℕ, ◌-◌, ◌^◌, ◌==◌, ◌||◌, nat_lt, nat_eq, List, [], ◌∷◌, length, slice_index, Option, Some, None, Result, Ok, Err, if◌then◌else◌}
 use Rattle.std.specs.Cmp.Lexicographic.{pointwise}
-use Rattle.sst_blocks.specs.declared.error.Error.{Error}
-use Rattle.sst_blocks.specs.declared.error.Error.TheVariants.{MetaKeyMissing, InvalidMetaValue, UnsupportedTableVersion, UnsupportedHashType, UnsupportedChecksumType, UnsupportedIndexInterval, UnsupportedCompression}
-use Rattle.sst_blocks.specs.Entry.{Entry}
+use Rattle.sst_entries.specs.declared.error.Error.{Error}
+use Rattle.sst_entries.specs.declared.error.Error.TheVariants.{MetaKeyMissing, InvalidMetaValue, UnsupportedTableVersion, UnsupportedHashType, UnsupportedChecksumType, UnsupportedIndexInterval, UnsupportedCompression}
+use Rattle.sst_entries.specs.Entry.{Entry}
 use Rattle.sst_blocks.specs.Number.{num8, num16}
-use Rattle.sst_blocks.specs.Point.{point}
+use Rattle.sst_entries.specs.Point.{point}
 use Rattle.lsm_ranges.specs.KeyRange.{Interval, interval}
 use Rattle.lsm_tables.specs.ItemName.{name_of}
 use Rattle.lsm_tables.specs.declared.item_name.ItemName.{ItemName}

@@ -1,8 +1,8 @@
 -- What a table is recovered to: what it says of itself, where its parts lie, and the handles of its data blocks.
 use Rattle.std.specs.Prelude.{ℕ, ◌+◌, ◌-◌, ◌^◌, nat_lt, List, map, Option, Some, None, Result, Ok, Err, if◌then◌else◌}
 use Rattle.sst_blocks.specs.declared.block_type.BlockType.TheVariants.{Index}
-use Rattle.sst_blocks.specs.declared.error.Error.{Error}
-use Rattle.sst_blocks.specs.declared.error.Error.TheVariants.{GlobalSeqNoTooLarge}
+use Rattle.sst_entries.specs.declared.error.Error.{Error}
+use Rattle.sst_entries.specs.declared.error.Error.TheVariants.{GlobalSeqNoTooLarge}
 use Rattle.sst_blocks.specs.Block.{load_told, handles_of, unless}
 use Rattle.sst_blocks.specs.Handle.{Handle}
 use Rattle.sst_blocks.specs.Place.{Place}

@@ -1,6 +1,6 @@
 -- The key range of a table, which its bytes and its global number tell.
 use Rattle.std.specs.Prelude.{ℕ, List, [], Result, Ok, Err}
-use Rattle.sst_blocks.specs.declared.error.Error.{Error}
+use Rattle.sst_entries.specs.declared.error.Error.{Error}
 use Rattle.lsm_ranges.specs.KeyRange.{Interval, interval}
 use Rattle.lsm_tables.specs.Parts.{Parts, recovered_told}
 

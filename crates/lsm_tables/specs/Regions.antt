@@ -1,7 +1,7 @@
 -- Where the parts of a table lie, from what its trailer says of the sections.
 use Rattle.std.specs.Prelude.{◌^◌, nat_le, List, Option, Some, None, Result, Ok, Err, slice_index_or, if◌then◌else◌}
-use Rattle.sst_blocks.specs.declared.error.Error.{Error}
-use Rattle.sst_blocks.specs.declared.error.Error.TheVariants.{SectionTooLarge, MissingSection}
+use Rattle.sst_entries.specs.declared.error.Error.{Error}
+use Rattle.sst_entries.specs.declared.error.Error.TheVariants.{SectionTooLarge, MissingSection}
 use Rattle.sst_blocks.specs.declared.section.Section.{Section}
 use Rattle.sst_blocks.specs.declared.section.SectionName.{SectionName}
 use Rattle.sst_blocks.specs.declared.section.SectionName.TheVariants.{Index, Tli, Filter, FilterTli, Meta}

@@ -1,6 +1,6 @@
 -- What is told of bytes: a value, or the first fault.
 use Rattle.std.specs.Prelude.{Result, Ok, Err}
-use Rattle.sst_blocks.specs.declared.error.Error.{Error}
+use Rattle.sst_entries.specs.declared.error.Error.{Error}
 
 infixl 10 ◌>>=◌
 -- the first fault, or else what the next step tells

@@ -2,9 +2,9 @@
 ghost use Rattle.std.specs.Prelude.{◌≡◌, ◌+◌, ◌<◌, ◌^◌, Option, Some, IfOk, IfErr};
 ghost use Rattle.sst_blocks.specs.Opened.{counted};
 ghost use Rattle.sst_blocks.specs.declared.block_type.BlockType.TheVariants.{Data};
-ghost use Rattle.sst_blocks.specs.declared.error.Error.TheVariants.{OutOfMemory};
-ghost use Rattle.sst_blocks.specs.Entry.{Entry};
-ghost use Rattle.sst_blocks.specs.Error.{Gives};
+ghost use Rattle.sst_entries.specs.declared.error.Error.TheVariants.{OutOfMemory};
+ghost use Rattle.sst_entries.specs.Entry.{Entry};
+ghost use Rattle.sst_entries.specs.Error.{Gives};
 ghost use Rattle.sst_blocks.specs.Fnv.{fnv1a};
 ghost use Rattle.lsm_tables.specs.Answer.{answer_told, handle_for, read_told, lifted, Opens};
 ghost use Rattle.lsm_tables.specs.Seen.{parts_of};

@@ -2,14 +2,14 @@
 ghost use Rattle.std.specs.Prelude.{◌≡◌, ◌∷◌, ◌<◌, ◌-◌, ◌↔◌, ℕ, [], Bool, List, Some, Ok, Err, true, length, IsTrue, IfNone, IfOk, IfErr, IfSome};
 ghost use Rattle.std.specs.Iterator.{at_most};
 ghost use Rattle.sst_blocks.specs.Block.{load_at_told};
-ghost use Rattle.sst_blocks.specs.Entry.{Entry};
-ghost use Rattle.sst_blocks.specs.Error.{Faults, Gives};
+ghost use Rattle.sst_entries.specs.Entry.{Entry};
+ghost use Rattle.sst_entries.specs.Error.{Faults, Gives};
 ghost use Rattle.sst_blocks.specs.Opened.{counted, none_opened};
 ghost use Rattle.sst_blocks.specs.Sections.{body_of};
-ghost use Rattle.sst_blocks.specs.Stream.{CanDeal, Deals, nowhere, stopped};
+ghost use Rattle.sst_entries.specs.Stream.{CanDeal, Deals, nowhere, stopped};
 ghost use Rattle.sst_blocks.specs.declared.block_type.BlockType.TheVariants.{Data};
-ghost use Rattle.sst_blocks.specs.declared.error.Error.{Error};
-ghost use Rattle.sst_blocks.specs.declared.error.Error.TheVariants.{OutOfMemory};
+ghost use Rattle.sst_entries.specs.declared.error.Error.{Error};
+ghost use Rattle.sst_entries.specs.declared.error.Error.TheVariants.{OutOfMemory};
 ghost use Rattle.lsm_tables.specs.Scan.{Scan, ScansNext, TakesEntry, block_told, ended, fault_of, lifted_told, scan_size, scan_told};
 
 use crate::HEADER_LEN;

@@ -1,18 +1,18 @@
 //! Tables: opening a table's bytes, and reading from them.
 ghost use Rattle.std.specs.Prelude.{◌≡◌, ◌+◌, ◌<◌, ◌&&◌, ℕ, Bool, List, [], Option, Some, Result, Ok, Err, true, length, IfOk, IfErr, MatchResult};
 ghost use Rattle.sst_blocks.specs.Block.{Loaded, load_told, load_at_told};
-ghost use Rattle.sst_blocks.specs.Entry.{Entry};
-ghost use Rattle.sst_blocks.specs.Error.{Faults, Gives};
+ghost use Rattle.sst_entries.specs.Entry.{Entry};
+ghost use Rattle.sst_entries.specs.Error.{Faults, Gives};
 ghost use Rattle.sst_blocks.specs.Fnv.{fnv1a};
 ghost use Rattle.sst_blocks.specs.Opened.{counted, none_opened};
 ghost use Rattle.sst_blocks.specs.Sections.{body_of};
 ghost use Rattle.sst_blocks.specs.declared.version.TableVersion.{TableVersion};
-ghost use Rattle.sst_blocks.specs.Point.{point};
-ghost use Rattle.sst_blocks.specs.Stream.{CanDeal, Deals, all_ok, nowhere, stopped};
-ghost use Rattle.sst_blocks.specs.Strict.{IsStrict};
+ghost use Rattle.sst_entries.specs.Point.{point};
+ghost use Rattle.sst_entries.specs.Stream.{CanDeal, Deals, all_ok, nowhere, stopped};
+ghost use Rattle.sst_entries.specs.Strict.{IsStrict};
 ghost use Rattle.sst_blocks.specs.declared.block_type.BlockType.TheVariants.{Data, Index};
-ghost use Rattle.sst_blocks.specs.declared.error.Error.{Error};
-ghost use Rattle.sst_blocks.specs.declared.error.Error.TheVariants.{OutOfMemory};
+ghost use Rattle.sst_entries.specs.declared.error.Error.{Error};
+ghost use Rattle.sst_entries.specs.declared.error.Error.TheVariants.{OutOfMemory};
 ghost use Rattle.lsm_ranges.specs.KeyRange.{bound_of, from_lower, up_to_upper};
 ghost use Rattle.lsm_writers.specs.File.{IsFile};
 ghost use Rattle.lsm_writers.specs.Options.{Options, Label};

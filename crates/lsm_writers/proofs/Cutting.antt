@@ -11,7 +11,7 @@ use Rattle.sst_blocks.specs.declared.version.TableVersion.TheVariants.{V4}
 use Rattle.sst_blocks.specs.declared.block_type.BlockType.TheVariants.{Data as DataKind}
 use Rattle.sst_blocks.specs.declared.section.SectionName.TheVariants.{Data}
 use Rattle.sst_blocks.specs.Block.{block_bytes, header, data_len}
-use Rattle.sst_blocks.specs.Entry.{Entry}
+use Rattle.sst_entries.specs.Entry.{Entry}
 use Rattle.sst_blocks.specs.Fnv.{fnv1a}
 use Rattle.sst_blocks.specs.Bounds.{data_block_bound_of, entry_bound}
 use Rattle.sst_blocks.specs.Handle.{Handle}
@@ -21,7 +21,7 @@ use Rattle.sst_blocks.specs.Number.{le4, le8, num4}
 use Rattle.sst_blocks.specs.Payload.{payload}
 use Rattle.sst_blocks.specs.Reading.{entries_in}
 use Rattle.sst_blocks.specs.Sections.{Written}
-use Rattle.sst_blocks.specs.Strict.{IsStrictAfter, IsStrict, last_of}
+use Rattle.sst_entries.specs.Strict.{IsStrictAfter, IsStrict, last_of}
 use Rattle.sst_blocks.proofs.Numbers.{wide4, wide8}
 use Rattle.lsm_writers.specs.Chunks.{joined}
 use Rattle.lsm_writers.specs.declared.writer.meta.Metadata.{Metadata}

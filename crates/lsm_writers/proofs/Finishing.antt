@@ -9,9 +9,9 @@ use Rattle.sst_blocks.specs.declared.version.TableVersion.{TableVersion}
 use Rattle.sst_blocks.specs.declared.version.TableVersion.TheVariants.{V4}
 use Rattle.sst_blocks.specs.Bounds.{index_block_bound_of}
 use Rattle.sst_blocks.specs.Encoding.{is_long_key, key_fault, entries_fault, large_fault}
-use Rattle.sst_blocks.specs.Entry.{Entry}
+use Rattle.sst_entries.specs.Entry.{Entry}
 use Rattle.sst_blocks.specs.Number.{le4, le8, le16}
-use Rattle.sst_blocks.specs.Strict.{IsStrictAfter, IsStrict, last_of}
+use Rattle.sst_entries.specs.Strict.{IsStrictAfter, IsStrict, last_of}
 use Rattle.sst_blocks.proofs.Numbers.{wide4, wide8}
 use Rattle.lsm_writers.specs.declared.writer.meta.Metadata.{Metadata}
 use Rattle.lsm_writers.specs.Chunks.{joined, entry_size, size_of}

@@ -9,11 +9,11 @@ use Rattle.std.specs.Ordering.{is_lt}
 use Rattle.std.specs.Cmp.{IsTotalOrder}
 use Rattle.std.specs.Cmp.Rules.{comparing}
 use Rattle.sst_blocks.specs.declared.version.TableVersion.{TableVersion}
-use Rattle.sst_blocks.specs.declared.value_type.ValueType.TheVariants.{Value}
-use Rattle.sst_blocks.specs.Entry.{Entry, entry}
+use Rattle.sst_entries.specs.declared.value_type.ValueType.TheVariants.{Value}
+use Rattle.sst_entries.specs.Entry.{Entry, entry}
 use Rattle.sst_blocks.specs.Handle.{Handle}
 use Rattle.sst_blocks.specs.Handles.{end_of, AreStrictHandles}
-use Rattle.sst_blocks.specs.Strict.{number_cmp, is_before, may_follow, IsStrictAfter, IsStrict, last_of}
+use Rattle.sst_entries.specs.Strict.{number_cmp, is_before, may_follow, IsStrictAfter, IsStrict, last_of}
 use Rattle.lsm_writers.specs.Chunks.{joined}
 use Rattle.lsm_writers.specs.Writing.{follows}
 use Rattle.lsm_writers.specs.Index.{last_entry, block_size, handle_of, handles_from, handles}

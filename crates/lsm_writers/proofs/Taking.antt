@@ -5,14 +5,14 @@ use Rattle.std.specs.List.{AllByRecursion}
 use Rattle.std.proofs.lemmas.Bool.{le-ltb, ltb-false, le-leb, lt-leb, leb-false, cases_lt}
 use Rattle.std.proofs.lemmas.List.{take-append-le, take_at, append-nil}
 use Rattle.std.proofs.lemmas.List.Sums.{sum_by-append, sum_by-cons, count_by-le-length}
-use Rattle.sst_blocks.specs.declared.error.Error.{Error}
-use Rattle.sst_blocks.specs.declared.error.Error.TheVariants.{KeyTooLong, ValueTooLong, BlockTooLarge}
+use Rattle.sst_entries.specs.declared.error.Error.{Error}
+use Rattle.sst_entries.specs.declared.error.Error.TheVariants.{KeyTooLong, ValueTooLong, BlockTooLarge}
 use Rattle.sst_blocks.specs.Bounds.{data_block_bound_of, entry_bound}
 use Rattle.sst_blocks.specs.Encoding.{is_long_key, length_fault, entries_fault, large_fault}
-use Rattle.sst_blocks.specs.Entry.{Entry, entry}
+use Rattle.sst_entries.specs.Entry.{Entry, entry}
 use Rattle.lsm_writers.specs.Chunks.{joined, entry_size, size_of, is_full}
-use Rattle.sst_blocks.specs.Strict.{IsStrictAfter, IsStrict, last_of}
-use Rattle.sst_blocks.specs.declared.value_type.ValueType.TheVariants.{Value}
+use Rattle.sst_entries.specs.Strict.{IsStrictAfter, IsStrict, last_of}
+use Rattle.sst_entries.specs.declared.value_type.ValueType.TheVariants.{Value}
 use Rattle.sst_blocks.specs.declared.version.TableVersion.TheVariants.{V4}
 use Rattle.lsm_writers.specs.declared.writer.meta.Metadata.{Metadata}
 use Rattle.lsm_writers.specs.Counts.{no_counts, metadata_of, counted, or_first, HasRoom}

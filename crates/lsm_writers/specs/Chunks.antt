@@ -1,7 +1,7 @@
 -- How a list of entries is cut into chunks, one for each data block.
 use Rattle.std.specs.Prelude.{◌≡◌, ℕ, ◌+◌, ◌<◌, ◌==◌, ◌||◌, Bool, true, false, nat_le, List, [], ◌∷◌, length, take, sum_by}
 use Rattle.std.specs.List.{flat_map, list_any}
-use Rattle.sst_blocks.specs.Entry.{Entry}
+use Rattle.sst_entries.specs.Entry.{Entry}
 
 -- the bytes of an entry that count towards the size of its chunk
 abbrev pub entry_size : Entry → ℕ

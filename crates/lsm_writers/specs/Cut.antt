@@ -5,12 +5,12 @@ use Rattle.sst_blocks.specs.declared.version.TableVersion.{TableVersion}
 use Rattle.sst_blocks.specs.declared.version.TableVersion.TheVariants.{V4}
 use Rattle.sst_blocks.specs.declared.section.SectionName.TheVariants.{Data}
 use Rattle.sst_blocks.specs.Block.{data_len}
-use Rattle.sst_blocks.specs.Entry.{Entry}
+use Rattle.sst_entries.specs.Entry.{Entry}
 use Rattle.sst_blocks.specs.Handle.{Handle}
 use Rattle.sst_blocks.specs.Payload.{payload}
 use Rattle.sst_blocks.specs.Reading.{entries_in}
 use Rattle.sst_blocks.specs.Sections.{Written}
-use Rattle.sst_blocks.specs.Strict.{IsStrict, last_of}
+use Rattle.sst_entries.specs.Strict.{IsStrict, last_of}
 use Rattle.lsm_writers.specs.declared.writer.meta.Metadata.{Metadata}
 use Rattle.lsm_writers.specs.Chunks.{joined}
 use Rattle.lsm_writers.specs.Counts.{metadata_of}

@@ -1,13 +1,13 @@
 -- What a table's meta block says of the list of its entries.
 use Rattle.std.specs.Prelude.{◌≡◌, ℕ, ◌+◌, ◌-◌, ◌^◌, Bool, true, false, not, ◌&&◌, List, [], ◌∷◌, length, min, max, count_by, Option, Some, None, unwrap_or, if◌then◌else◌}
 use Rattle.std.specs.Option.{option_map}
-use Rattle.sst_blocks.specs.declared.value_type.ValueType.{ValueType}
-use Rattle.sst_blocks.specs.declared.value_type.ValueType.TheVariants.{Value, Tombstone, WeakTombstone, Indirection}
-use Rattle.sst_blocks.specs.Entry.{Entry}
-use Rattle.sst_blocks.specs.Key.{same_key}
-use Rattle.sst_blocks.specs.Kind.{is_tombstone_kind, is_weak_kind}
-use Rattle.sst_blocks.specs.Stream.{first}
-use Rattle.sst_blocks.specs.Strict.{last_of}
+use Rattle.sst_entries.specs.declared.value_type.ValueType.{ValueType}
+use Rattle.sst_entries.specs.declared.value_type.ValueType.TheVariants.{Value, Tombstone, WeakTombstone, Indirection}
+use Rattle.sst_entries.specs.Entry.{Entry}
+use Rattle.sst_entries.specs.Key.{same_key}
+use Rattle.sst_entries.specs.Kind.{is_tombstone_kind, is_weak_kind}
+use Rattle.sst_entries.specs.Stream.{first}
+use Rattle.sst_entries.specs.Strict.{last_of}
 
 abbrev pub is_tombstone : Entry → Bool
 is_tombstone e = is_tombstone_kind e.kind

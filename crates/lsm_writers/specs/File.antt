@@ -6,7 +6,7 @@ use Rattle.sst_blocks.specs.declared.section.SectionName.{SectionName}
 use Rattle.sst_blocks.specs.declared.block_type.BlockType.TheVariants.{Index, Meta}
 use Rattle.sst_blocks.specs.declared.section.SectionName.TheVariants.{Data, Tli, TableVersion as VersionSection, Meta as MetaSection}
 use Rattle.sst_blocks.specs.Block.{block_bytes}
-use Rattle.sst_blocks.specs.Entry.{Entry}
+use Rattle.sst_entries.specs.Entry.{Entry}
 use Rattle.sst_blocks.specs.Handles.{handles_payload}
 use Rattle.sst_blocks.specs.Payload.{payload}
 use Rattle.sst_blocks.specs.Sections.{finished, Written, place_of}

@@ -3,12 +3,12 @@ use Rattle.std.specs.Prelude.{ℕ, ◌+◌, List, [], ◌∷◌, ◌++◌, lengt
 use Rattle.std.specs.List.{flat_map}
 use Rattle.sst_blocks.specs.declared.version.TableVersion.{TableVersion}
 use Rattle.sst_blocks.specs.declared.block_type.BlockType.TheVariants.{Data}
-use Rattle.sst_blocks.specs.declared.value_type.ValueType.TheVariants.{Value}
+use Rattle.sst_entries.specs.declared.value_type.ValueType.TheVariants.{Value}
 use Rattle.sst_blocks.specs.Block.{block_bytes}
-use Rattle.sst_blocks.specs.Entry.{Entry, entry}
+use Rattle.sst_entries.specs.Entry.{Entry, entry}
 use Rattle.sst_blocks.specs.Handle.{Handle}
 use Rattle.sst_blocks.specs.Payload.{payload}
-use Rattle.sst_blocks.specs.Strict.{last_of}
+use Rattle.sst_entries.specs.Strict.{last_of}
 
 -- the last entry of a list that has one
 abbrev pub last_entry : List Entry → Entry

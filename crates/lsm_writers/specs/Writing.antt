@@ -1,13 +1,13 @@
 -- The state of a writer, and what its calls do to it.
 use Rattle.std.specs.Prelude.{◌≡◌, ℕ, ◌+◌, ◌-◌, ◌^◌, Bool, true, false, ◌&&◌, nat_lt, nat_le, List, [], ◌∷◌, ◌++◌, length, Option, Some, None, if◌then◌else◌}
 use Rattle.sst_blocks.specs.declared.version.TableVersion.TheVariants.{V4}
-use Rattle.sst_blocks.specs.declared.value_type.ValueType.TheVariants.{Value}
-use Rattle.sst_blocks.specs.declared.error.Error.{Error}
-use Rattle.sst_blocks.specs.declared.error.Error.TheVariants.{KeyTooLong, ValueTooLong, WriterFailed}
+use Rattle.sst_entries.specs.declared.value_type.ValueType.TheVariants.{Value}
+use Rattle.sst_entries.specs.declared.error.Error.{Error}
+use Rattle.sst_entries.specs.declared.error.Error.TheVariants.{KeyTooLong, ValueTooLong, WriterFailed}
 use Rattle.sst_blocks.specs.Bounds.{data_block_bound_of, index_block_bound_of}
 use Rattle.sst_blocks.specs.Encoding.{is_long_key, large_fault}
-use Rattle.sst_blocks.specs.Entry.{Entry, entry}
-use Rattle.sst_blocks.specs.Strict.{may_follow, last_of}
+use Rattle.sst_entries.specs.Entry.{Entry, entry}
+use Rattle.sst_entries.specs.Strict.{may_follow, last_of}
 use Rattle.lsm_writers.specs.Chunks.{joined, is_full}
 use Rattle.lsm_writers.specs.Cut.{rest_of}
 use Rattle.lsm_writers.specs.Index.{handles}

@@ -1,10 +1,10 @@
 //! Writing a table.
 ghost use Rattle.std.specs.Prelude.{◌≡◌, ◌↔◌, ◌<◌, ◌≤◌, ◌+◌, ◌*◌, ◌^◌, [], ◌∷◌, ◌++◌, None, Some, false, true, length, IsTrue, IfOk, IfErr, OnOk, OnErr, MatchResult, MatchOption};
 ghost use Rattle.std.specs.Option.{option_copied};
-ghost use Rattle.sst_blocks.specs.declared.error.Error.TheVariants.{OutOfMemory};
+ghost use Rattle.sst_entries.specs.declared.error.Error.TheVariants.{OutOfMemory};
 ghost use Rattle.sst_blocks.specs.declared.version.TableVersion.TheVariants.{V4};
-ghost use Rattle.sst_blocks.specs.Error.{Faults};
-ghost use Rattle.sst_blocks.specs.Strict.{IsStrict, last_of};
+ghost use Rattle.sst_entries.specs.Error.{Faults};
+ghost use Rattle.sst_entries.specs.Strict.{IsStrict, last_of};
 ghost use Rattle.lsm_writers.specs.Chunks.{joined, size_of};
 ghost use Rattle.lsm_writers.specs.Options.{default_options};
 ghost use Rattle.lsm_writers.specs.Counts.{metadata_of};

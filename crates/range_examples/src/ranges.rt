@@ -3,7 +3,7 @@ ghost use Rattle.std.specs.Prelude.{◌≡◌};
 
 use lsm_ranges::{Indexed, KeyRange, Ranged, Run, optimize_runs, overlap_chain};
 use refusing::each_refused;
-use sst_blocks::{Error, Slice};
+use sst_entries::{Error, Slice};
 use std::alloc::{AllocError, Allocator, Global};
 use std::ops::Bound;
 use std::test::Fail;

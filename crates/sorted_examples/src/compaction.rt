@@ -8,7 +8,7 @@ use lsm_sorted::compaction::stream::{
     CompactionStream, DroppedKvCallback, StreamFilter, StreamFilterVerdict,
 };
 use refusing::Refusing;
-use sst_blocks::{Error, InternalValue, IterItem, Slice, ValueType};
+use sst_entries::{Error, InternalValue, IterItem, Slice, ValueType};
 use std::alloc::{AllocError, Allocator, Global};
 use std::test::Fail;
 

@@ -5,7 +5,7 @@ ghost use Rattle.lsm_sorted.specs.Tournament as tournament;
 
 use lsm_sorted::{IntervalHeap, Tournament};
 use refusing::{Refusing, each_refused};
-use sst_blocks::Error;
+use sst_entries::Error;
 use std::alloc::{Allocator, Global};
 use std::test::Fail;
 

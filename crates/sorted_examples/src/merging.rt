@@ -2,7 +2,7 @@
 use crate::words::{ends_of, result_of, text_of};
 use lsm_sorted::{Merger, newest_of};
 use refusing::{Refusing, each_refused};
-use sst_blocks::{Error, IterItem, answers_at};
+use sst_entries::{Error, IterItem, answers_at};
 use std::alloc::{Allocator, Global};
 use std::test::Fail;
 

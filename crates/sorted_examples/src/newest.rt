@@ -1,7 +1,7 @@
 //! The newest versions of some results, from both ends.
 use crate::words::{ends_of, results_of, text_of};
 use lsm_sorted::MvccStream;
-use sst_blocks::{Error, answers_at};
+use sst_entries::{Error, answers_at};
 use std::alloc::Global;
 use std::test::Fail;
 

@@ -3,7 +3,7 @@
 //! `aV9` is an entry of the key `a` and the number 9, a value that is its key, and `aV9x` has the value `x`. `T` and `W` are
 //! the tombstones, without a value. `!4` is the error 4 of a caller's own source, `?1` a refused request for memory, and `-`
 //! no answer.
-use sst_blocks::{Direction, Error, InternalValue, IterItem, Slice, ValueType};
+use sst_entries::{Direction, Error, InternalValue, IterItem, Slice, ValueType};
 use std::alloc::{AllocError, Allocator};
 
 fn slice_of<A: Allocator + Clone>(alloc: A, byte: u8) -> Result<Slice<A>, Error> {

@@ -1,8 +1,8 @@
 -- Answers of several runs, from a place on.
 use Rattle.std.proofs.Common.{ℕ, ◌+◌, Bool, List, drop, map}
 use Rattle.std.specs.Prelude.{Option, Result, Ok}
-use Rattle.sst_blocks.specs.declared.error.Error.{Error}
-use Rattle.sst_blocks.specs.Entry.{Entry}
+use Rattle.sst_entries.specs.declared.error.Error.{Error}
+use Rattle.sst_entries.specs.Entry.{Entry}
 use Rattle.lsm_tables.specs.TableSeen.{TableSeen}
 use Rattle.lsm_tables.specs.Told.{◌>>=◌}
 use Rattle.sst.specs.Runs.{run_told, newer_of, newest_of, one_has_number}

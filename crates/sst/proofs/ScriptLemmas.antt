@@ -12,7 +12,7 @@ use Rattle.sst.specs.declared.print.Answer.{Answer}
 use Rattle.sst.specs.declared.stop.Failure.{Failure}
 use Rattle.sst.specs.declared.stop.Failure.TheVariants.{BadLine, Refused}
 use Rattle.sst.specs.Answer.{answer_line, refusal_line}
-use Rattle.sst_blocks.specs.Error.{number_of}
+use Rattle.sst_entries.specs.Error.{number_of}
 use Rattle.sst.specs.Command.{words_of, AskFor}
 use Rattle.sst.specs.Script.{Built, built, Executes}
 use Rattle.sst.specs.Lines.{lines_of, LosesLine, HasLines}

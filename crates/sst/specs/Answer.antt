@@ -2,7 +2,7 @@
 use Rattle.std.specs.Prelude.{ℕ, List, [], ◌∷◌, ◌++◌, Some, None, codes}
 use Rattle.std.specs.Fmt.{decimal}
 use Rattle.std.specs.List.{join_with_byte}
-use Rattle.sst_blocks.specs.Entry.{Entry}
+use Rattle.sst_entries.specs.Entry.{Entry}
 use Rattle.sst.specs.declared.print.Answer.{Answer}
 use Rattle.sst.specs.declared.print.Answer.TheVariants.{Silent, Tables, Found}
 use Rattle.sst.specs.Text.{letter_of, shown}

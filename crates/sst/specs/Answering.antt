@@ -1,7 +1,7 @@
 -- How the lines of a script are answered.
 use Rattle.std.specs.Prelude.{◌≡◌, ◌<◌, ℕ, ◌+◌, List, [], ◌∷◌, ◌++◌, length, Option, Some, None, Result, Ok, Err, MatchResult, ◌⊎◌}
 use Rattle.std.specs.Io.KnownBytes.{Appends}
-use Rattle.sst_blocks.specs.Error.{number_of}
+use Rattle.sst_entries.specs.Error.{number_of}
 use Rattle.sst.specs.declared.command.Command.{Command}
 use Rattle.sst.specs.declared.print.Answer.{Answer}
 use Rattle.sst.specs.declared.stop.Failure.{Failure}

@@ -4,7 +4,7 @@ use Rattle.std.specs.Char.{is_ascii_graphic}
 use Rattle.std.specs.Cmp.Lexicographic.{pointwise}
 use Rattle.std.specs.List.{list_all, slice_split}
 use Rattle.std.specs.Str.Parse.{digits_value}
-use Rattle.sst_blocks.specs.declared.value_type.ValueType.{ValueType}
+use Rattle.sst_entries.specs.declared.value_type.ValueType.{ValueType}
 use Rattle.sst.specs.declared.command.Command.{Command}
 use Rattle.sst.specs.declared.command.Command.TheVariants.{Entry, Table, Get}
 use Rattle.sst.specs.Text.{letter_of, IsNumber}

@@ -2,11 +2,11 @@
 use Rattle.std.specs.Prelude.{◌≡◌, ℕ, ◌-◌, ◌^◌, ◌<◌, false, List, [], ◌∷◌, Option}
 use Rattle.std.specs.List.{AllByRecursion}
 use Rattle.std.specs.Option.{option_or}
-use Rattle.sst_blocks.specs.declared.error.Error.{Error}
+use Rattle.sst_entries.specs.declared.error.Error.{Error}
 use Rattle.sst_blocks.specs.declared.version.TableVersion.TheVariants.{V4}
-use Rattle.sst_blocks.specs.Entry.{Entry}
+use Rattle.sst_entries.specs.Entry.{Entry}
 use Rattle.sst_blocks.specs.Fnv.{fnv1a}
-use Rattle.sst_blocks.specs.Strict.{IsStrict}
+use Rattle.sst_entries.specs.Strict.{IsStrict}
 use Rattle.lsm_writers.specs.File.{IsFile}
 use Rattle.lsm_writers.specs.Options.{default_options}
 use Rattle.lsm_writers.specs.Writing.{Writing, write_fault, finish_fault, gained}

@@ -4,7 +4,7 @@ ghost use Rattle.std.specs.Option.{SomeIff, option_copied};
 ghost use Rattle.std.specs.Char.{is_ascii_graphic};
 ghost use Rattle.std.specs.List.{list_all, position};
 ghost use Rattle.std.specs.Str.Parse.{digits_value};
-ghost use Rattle.sst_blocks.specs.declared.value_type.ValueType.{ValueType};
+ghost use Rattle.sst_entries.specs.declared.value_type.ValueType.{ValueType};
 ghost use Rattle.sst.specs.declared.command.Command.{Command};
 ghost use Rattle.sst.specs.Command.{words_of, words_behind, StandsFor, AddsEntry, ReadsKey, AskFor};
 ghost use Rattle.sst.specs.Text.{letter_of, IsNumber};

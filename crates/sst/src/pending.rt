@@ -1,8 +1,8 @@
 //! The entries that wait for the next table.
 ghost use Rattle.std.specs.Prelude.{◌≡◌, [], ◌∷◌, ◌++◌, IsTrue, IfOk, IfErr, OnOk, OnErr, MatchOption, if◌then◌else◌};
-ghost use Rattle.sst_blocks.specs.declared.error.Error.TheVariants.{OutOfMemory};
-ghost use Rattle.sst_blocks.specs.Entry.{entry};
-ghost use Rattle.sst_blocks.specs.Error.{Faults};
+ghost use Rattle.sst_entries.specs.declared.error.Error.TheVariants.{OutOfMemory};
+ghost use Rattle.sst_entries.specs.Entry.{entry};
+ghost use Rattle.sst_entries.specs.Error.{Faults};
 ghost use Rattle.lsm_writers.specs.Writing.{follows};
 ghost use Rattle.sst.specs.declared.stop.Failure.TheVariants.{BadLine, Refused};
 ghost use Rattle.sst.specs.Pending.{IsPending, IsTableOf, table_fault};
@@ -21,7 +21,7 @@ pub(crate) struct Pending<A: Allocator> {
 
 impl<A: Allocator> Model for Pending<A> {
     ghost use Rattle.std.specs.Prelude.{List};
-    ghost use Rattle.sst_blocks.specs.Entry.{Entry};
+    ghost use Rattle.sst_entries.specs.Entry.{Entry};
     ghost use Rattle.sst.specs.Pending.{IsPending};
 
     ghost Value = { List Entry };

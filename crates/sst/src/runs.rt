@@ -1,7 +1,7 @@
 //! The tables that a script has written.
 ghost use Rattle.std.specs.Prelude.{◌≡◌, ◌-◌, ◌<◌, ◌^◌, Bool, Option, IfOk};
-ghost use Rattle.sst_blocks.specs.Entry.{Entry};
-ghost use Rattle.sst_blocks.specs.Error.{Gives};
+ghost use Rattle.sst_entries.specs.Entry.{Entry};
+ghost use Rattle.sst_entries.specs.Error.{Gives};
 ghost use Rattle.lsm_tables.specs.Parts.{recovered_told};
 ghost use Rattle.lsm_tables.specs.TableSeen.{TableSeen};
 ghost use Rattle.sst.specs.Runs.{newer_of, newest_told, held_told};

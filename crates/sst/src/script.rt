@@ -2,7 +2,7 @@
 ghost use Rattle.std.specs.Prelude.{◌≡◌, ◌⊎◌, [], ◌∷◌, ◌++◌, ⊤, Bool, false, true, Some, Result, Ok, IfOk, IfErr, OnOk, OnErr};
 ghost use Rattle.std.specs.Io.BufRead.{strip_last};
 ghost use Rattle.std.specs.Io.KnownBytes.{Appends};
-ghost use Rattle.sst_blocks.specs.Error.{Gives};
+ghost use Rattle.sst_entries.specs.Error.{Gives};
 ghost use Rattle.sst.specs.declared.stop.Stop.TheVariants.{Line, Output};
 ghost use Rattle.sst.specs.declared.stop.Stop.{Stop};
 ghost use Rattle.sst.specs.Answering.{LineEnds, PrintEnds, ScriptEnds, printed, status_of};

@@ -64,7 +64,7 @@ impl From<Error> for Failure {
 
 impl From<AllocError> for Failure {
     ghost use Rattle.std.specs.Prelude.{◌≡◌};
-    ghost use Rattle.sst_blocks.specs.declared.error.Error.TheVariants.{OutOfMemory};
+    ghost use Rattle.sst_entries.specs.declared.error.Error.TheVariants.{OutOfMemory};
     ghost use Rattle.sst.specs.declared.stop.Failure.TheVariants.{Refused};
 
     ghost from_gives = { λ _ failure. failure ≡ Refused OutOfMemory };
@@ -76,7 +76,7 @@ impl From<AllocError> for Failure {
 
 impl<T: Drop> From<AllocFailed<T>> for Failure {
     ghost use Rattle.std.specs.Prelude.{◌≡◌};
-    ghost use Rattle.sst_blocks.specs.declared.error.Error.TheVariants.{OutOfMemory};
+    ghost use Rattle.sst_entries.specs.declared.error.Error.TheVariants.{OutOfMemory};
     ghost use Rattle.sst.specs.declared.stop.Failure.TheVariants.{Refused};
 
     ghost from_gives = { λ _ failure. failure ≡ Refused OutOfMemory };

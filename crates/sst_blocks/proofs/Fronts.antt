@@ -3,7 +3,7 @@ use Rattle.std.proofs.Common.{◌≡◌, ℕ, zero, suc, ◌+◌, ◌<◌, ◌�
 use Rattle.std.specs.List.{slice_get}
 use Rattle.std.specs.List.Sorted.{IsPartitionedBy}
 use Rattle.std.proofs.lemmas.Option.{slice_get_within, get_or_from_slice_get}
-use Rattle.sst_blocks.specs.Span.{front_length}
+use Rattle.sst_entries.specs.Span.{front_length}
 
 module _ {X : Type 0} (p : X → Bool) where
   pub passes_below : (xs : List X) (n : ℕ) (x : X) → IsPartitionedBy p xs → slice_get xs n ≡ Some x → p x ≡ true → (i : ℕ) (y : X) → i < n + 1 → slice_get xs i ≡ Some y → p y ≡ true

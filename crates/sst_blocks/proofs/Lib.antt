@@ -1,5 +1,3 @@
-pub mod StreamLemmas
-pub mod VecSource
 pub mod Numbers
 pub mod FnvLemmas
 pub mod Items

@@ -12,12 +12,12 @@ use Rattle.std.proofs.lemmas.Cmp.{tied_itself}
 use Rattle.std.proofs.lemmas.Option.{slice_get_within, get_or_from_slice_get}
 use Rattle.std.specs.List.{slice_get}
 use Rattle.std.specs.List.Sorted.{IsPartitionedBy}
-use Rattle.sst_blocks.specs.declared.value_type.ValueType.TheVariants.{Value}
-use Rattle.sst_blocks.specs.Entry.{Entry, entry}
-use Rattle.sst_blocks.specs.Key.{key_lt}
-use Rattle.sst_blocks.specs.Point.{is_hit, point, bound_of}
-use Rattle.sst_blocks.specs.Span.{front_length}
-use Rattle.sst_blocks.specs.Strict.{number_cmp, is_before, IsStrictAfter, IsStrict}
+use Rattle.sst_entries.specs.declared.value_type.ValueType.TheVariants.{Value}
+use Rattle.sst_entries.specs.Entry.{Entry, entry}
+use Rattle.sst_entries.specs.Key.{key_lt}
+use Rattle.sst_entries.specs.Point.{is_hit, point, bound_of}
+use Rattle.sst_entries.specs.Span.{front_length}
+use Rattle.sst_entries.specs.Strict.{number_cmp, is_before, IsStrictAfter, IsStrict}
 use Rattle.sst_blocks.proofs.Fronts.{front_passes, front_stops}
 
 abbrev blank : Entry

@@ -4,11 +4,11 @@ use Rattle.std.specs.Prelude.{Option, Some, None, Result, Ok, Err, IfOk, IfErr, 
 use Rattle.std.specs.List.{slice_get}
 use Rattle.std.proofs.lemmas.List.{reverse-append, reverse-reverse, map-append, take_more, drop_more, get_or-drop, length-drop}
 use Rattle.std.proofs.lemmas.Option.{slice_get_within, get_or_from_slice_get}
-use Rattle.sst_blocks.specs.declared.error.Error.{Error}
-use Rattle.sst_blocks.specs.declared.error.Error.TheVariants.{OutOfMemory}
-use Rattle.sst_blocks.specs.Span.{Span, left_in, front_length, SpanHas}
-use Rattle.sst_blocks.specs.Stream.{first, but_first, last, but_last, front_of, back_of, all_ok, stopped, Answers, Deals, CanDeal}
-use Rattle.sst_blocks.proofs.StreamLemmas.{deals_by, can_by}
+use Rattle.sst_entries.specs.declared.error.Error.{Error}
+use Rattle.sst_entries.specs.declared.error.Error.TheVariants.{OutOfMemory}
+use Rattle.sst_entries.specs.Span.{Span, left_in, front_length, SpanHas}
+use Rattle.sst_entries.specs.Stream.{first, but_first, last, but_last, front_of, back_of, all_ok, stopped, Answers, Deals, CanDeal}
+use Rattle.sst_entries.proofs.StreamLemmas.{deals_by, can_by}
 
 -- ---- fronts that pass a test
 

@@ -4,7 +4,7 @@ use Rattle.std.specs.Prelude.{Some, None}
 use Rattle.std.specs.List.{list_any}
 use Rattle.std.specs.Cmp.Lexicographic.{pointwise}
 use Rattle.std.proofs.lemmas.List.{length-take}
-use Rattle.sst_blocks.specs.declared.error.Error.TheVariants.{InvalidTrailer}
+use Rattle.sst_entries.specs.declared.error.Error.TheVariants.{InvalidTrailer}
 use Rattle.sst_blocks.specs.Sections.{section_names, place_of, trailer_mark, trailer_of, body_of, section_at, section_in, is_past, trailer_fault}
 
 -- the seven slots of a trailer

@@ -6,11 +6,11 @@ use Rattle.std.specs.List.Sorted.{IsPartitionedBy}
 use Rattle.std.specs.declared.ops.Bound.{Bound}
 use Rattle.std.specs.declared.ops.Bound.TheVariants.{Included, Excluded, Unbounded}
 use Rattle.std.proofs.lemmas.List.{take_all}
-use Rattle.sst_blocks.specs.Entry.{Entry}
-use Rattle.sst_blocks.specs.Key.{key_lt}
-use Rattle.sst_blocks.specs.Point.{is_from, is_to, within, lower_place, upper_place}
-use Rattle.sst_blocks.specs.Span.{left_in, front_length}
-use Rattle.sst_blocks.specs.Strict.{IsStrict}
+use Rattle.sst_entries.specs.Entry.{Entry}
+use Rattle.sst_entries.specs.Key.{key_lt}
+use Rattle.sst_entries.specs.Point.{is_from, is_to, within, lower_place, upper_place}
+use Rattle.sst_entries.specs.Span.{left_in, front_length}
+use Rattle.sst_entries.specs.Strict.{IsStrict}
 use Rattle.sst_blocks.proofs.Points.{below_parted, up_to_parted}
 use Rattle.sst_blocks.proofs.SpanLemmas.{front_length-le}
 

@@ -4,10 +4,10 @@ use Rattle.sst_blocks.specs.declared.version.TableVersion.{TableVersion}
 use Rattle.sst_blocks.specs.declared.version.TableVersion.TheVariants.{V4}
 use Rattle.sst_blocks.specs.declared.block_type.BlockType.{BlockType}
 use Rattle.sst_blocks.specs.declared.block_type.BlockType.TheVariants.{Data, Index, Filter, Meta}
-use Rattle.sst_blocks.specs.declared.error.Error.{Error}
-use Rattle.sst_blocks.specs.declared.error.Error.TheVariants.{Truncated, InvalidHeader, InvalidTag, ChecksumMismatch, InvalidBlock, UnsupportedCompression}
-use Rattle.sst_blocks.specs.declared.error.TagName.TheVariants.{BlockType as BlockTypeTag}
-use Rattle.sst_blocks.specs.Entry.{Entry}
+use Rattle.sst_entries.specs.declared.error.Error.{Error}
+use Rattle.sst_entries.specs.declared.error.Error.TheVariants.{Truncated, InvalidHeader, InvalidTag, ChecksumMismatch, InvalidBlock, UnsupportedCompression}
+use Rattle.sst_entries.specs.declared.error.TagName.TheVariants.{BlockType as BlockTypeTag}
+use Rattle.sst_entries.specs.Entry.{Entry}
 use Rattle.sst_blocks.specs.Fnv.{fnv1a}
 use Rattle.sst_blocks.specs.Handle.{Handle}
 use Rattle.sst_blocks.specs.Handles.{handles_in}

@@ -1,6 +1,6 @@
 -- Length bounds of blocks, as u64, which stay at the largest value where a sum would pass it.
 use Rattle.std.specs.Prelude.{ℕ, ◌+◌, ◌-◌, ◌^◌, List, length, min, sum_by}
-use Rattle.sst_blocks.specs.Entry.{Entry}
+use Rattle.sst_entries.specs.Entry.{Entry}
 use Rattle.sst_blocks.specs.Handle.{Handle}
 
 abbrev pub capped : ℕ → ℕ

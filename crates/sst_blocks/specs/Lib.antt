@@ -1,12 +1,5 @@
-pub mod Error
-pub mod Kind
-pub mod Entry
-pub mod Key
-pub mod Stream
 pub mod Number
 pub mod Version
-pub mod Strict
-pub mod Point
 pub mod Payload
 pub mod Reading
 pub mod Place
@@ -15,7 +8,6 @@ pub mod Handles
 pub mod Fnv
 pub mod Block
 pub mod Bounds
-pub mod Span
 pub mod Starts
 pub mod Encoding
 pub mod Sections

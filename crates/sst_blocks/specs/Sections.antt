@@ -5,8 +5,8 @@ use Rattle.std.specs.List.{flat_map, list_any}
 use Rattle.sst_blocks.specs.declared.section.SectionName.{SectionName}
 use Rattle.sst_blocks.specs.declared.section.SectionName.TheVariants.{Data, Index, Tli, Filter, FilterTli, TableVersion, Meta}
 use Rattle.sst_blocks.specs.declared.section.Section.{Section}
-use Rattle.sst_blocks.specs.declared.error.Error.{Error}
-use Rattle.sst_blocks.specs.declared.error.Error.TheVariants.{InvalidTrailer}
+use Rattle.sst_entries.specs.declared.error.Error.{Error}
+use Rattle.sst_entries.specs.declared.error.Error.TheVariants.{InvalidTrailer}
 use Rattle.sst_blocks.specs.Number.{le8, num8}
 
 -- the order in which the trailer lists the sections

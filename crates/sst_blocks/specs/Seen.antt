@@ -1,5 +1,5 @@
 -- A borrowed entry as an entry.
-use Rattle.sst_blocks.specs.Entry.{Entry, entry}
+use Rattle.sst_entries.specs.Entry.{Entry, entry}
 use Rattle.sst_blocks.specs.declared.data_block.entry_ref.EntryRef.{EntryRef}
 
 abbrev pub seen : EntryRef → Entry

@@ -1,10 +1,10 @@
 //! Blocks: a checked payload of one kind.
 ghost use Rattle.std.specs.Prelude.{◌≡◌, ◌+◌, ◌++◌, ◌<◌, ◌^◌, length, IfOk, IfErr, OnOk, OnErr};
 ghost use Rattle.sst_blocks.specs.Block.{block_bytes, checked_payload, grammar_fault, is_filter, Loaded};
-ghost use Rattle.sst_blocks.specs.Error.{Faults, Gives};
+ghost use Rattle.sst_entries.specs.Error.{Faults, Gives};
 ghost use Rattle.sst_blocks.specs.Starts.{IsBlock};
 ghost use Rattle.sst_blocks.specs.declared.version.TableVersion.TheVariants.{V4};
-ghost use Rattle.sst_blocks.specs.declared.error.Error.TheVariants.{OutOfMemory};
+ghost use Rattle.sst_entries.specs.declared.error.Error.TheVariants.{OutOfMemory};
 
 mod header;
 

@@ -5,19 +5,19 @@ ghost use Rattle.std.specs.List.Sorted.{IsPartitionedBy};
 ghost use Rattle.sst_blocks.specs.Block.{entries_of};
 ghost use Rattle.sst_blocks.specs.Bounds.{data_block_bound_of};
 ghost use Rattle.sst_blocks.specs.Encoding.{entries_fault};
-ghost use Rattle.sst_blocks.specs.Entry.{Entry};
-ghost use Rattle.sst_blocks.specs.Error.{Faults, is_memory};
-ghost use Rattle.sst_blocks.specs.Key.{key_lt};
+ghost use Rattle.sst_entries.specs.Entry.{Entry};
+ghost use Rattle.sst_entries.specs.Error.{Faults, is_memory};
+ghost use Rattle.sst_entries.specs.Key.{key_lt};
 ghost use Rattle.sst_blocks.specs.Payload.{payload, AreFit};
-ghost use Rattle.sst_blocks.specs.Point.{point};
+ghost use Rattle.sst_entries.specs.Point.{point};
 ghost use Rattle.sst_blocks.specs.Reading.{entries_in};
 ghost use Rattle.sst_blocks.specs.Seen.{seen};
-ghost use Rattle.sst_blocks.specs.Span.{front_length};
+ghost use Rattle.sst_entries.specs.Span.{front_length};
 ghost use Rattle.sst_blocks.specs.Starts.{EntriesAt, HoldsEntries};
-ghost use Rattle.sst_blocks.specs.Strict.{IsStrict};
-ghost use Rattle.sst_blocks.specs.Stream.{Deals, CanDeal, all_ok, stopped};
-ghost use Rattle.sst_blocks.specs.declared.error.Error.{Error};
-ghost use Rattle.sst_blocks.specs.declared.error.Error.TheVariants.{OutOfMemory, InvalidBlock};
+ghost use Rattle.sst_entries.specs.Strict.{IsStrict};
+ghost use Rattle.sst_entries.specs.Stream.{Deals, CanDeal, all_ok, stopped};
+ghost use Rattle.sst_entries.specs.declared.error.Error.{Error};
+ghost use Rattle.sst_entries.specs.declared.error.Error.TheVariants.{OutOfMemory, InvalidBlock};
 ghost use Rattle.sst_blocks.specs.declared.version.TableVersion.TheVariants.{V4};
 
 mod encode;
@@ -42,7 +42,7 @@ pub struct DataBlock<A: Allocator = Global> {
 
 impl<A: Allocator> Model for DataBlock<A> {
     ghost use Rattle.std.specs.Prelude.{List, unwrap_or, []};
-    ghost use Rattle.sst_blocks.specs.Entry.{Entry};
+    ghost use Rattle.sst_entries.specs.Entry.{Entry};
     ghost use Rattle.sst_blocks.specs.Reading.{entries_in};
     ghost use Rattle.sst_blocks.specs.Starts.{EntriesAt};
 

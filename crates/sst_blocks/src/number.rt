@@ -2,7 +2,7 @@
 ghost use Rattle.std.specs.Prelude.{◌≡◌, ◌++◌, ◌<◌, ◌≤◌, ◌^◌, length, OnOk, OnErr, IfErr};
 ghost use Rattle.sst_blocks.specs.Number.{le4, le8, num2, num4, num8};
 ghost use Rattle.sst_blocks.specs.Version.{key_len_at, key_width};
-ghost use Rattle.sst_blocks.specs.declared.error.Error.TheVariants.{OutOfMemory};
+ghost use Rattle.sst_entries.specs.declared.error.Error.TheVariants.{OutOfMemory};
 
 use crate::{Error, TableVersion};
 use byteorder::{ByteOrder, LittleEndian};

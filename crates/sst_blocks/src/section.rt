@@ -4,7 +4,7 @@ ghost use Rattle.std.specs.List.{flat_map};
 ghost use Rattle.sst_blocks.specs.Fnv.{fnv1a};
 ghost use Rattle.sst_blocks.specs.Number.{le8};
 ghost use Rattle.sst_blocks.specs.Sections.{Written, finished, place_of, section_names, section_of, slot, trailer_mark};
-ghost use Rattle.sst_blocks.specs.declared.error.Error.TheVariants.{OutOfMemory};
+ghost use Rattle.sst_entries.specs.declared.error.Error.TheVariants.{OutOfMemory};
 
 use crate::fnv::{Fnv1a, update_both};
 use crate::number::put_u64;

@@ -1,7 +1,7 @@
 //! The only way to the blocks of a table's bytes.
 ghost use Rattle.std.specs.Prelude.{◌≡◌, ◌+◌, ◌<◌, ◌≤◌, ◌^◌, List, ℕ, length, map, slice_range, IfOk, None};
 ghost use Rattle.sst_blocks.specs.Block.{checked_payload, load_told, load_at_told, Loaded};
-ghost use Rattle.sst_blocks.specs.Error.{Gives, Faults};
+ghost use Rattle.sst_entries.specs.Error.{Gives, Faults};
 ghost use Rattle.sst_blocks.specs.Opened.{counted, none_opened};
 ghost use Rattle.sst_blocks.specs.Sections.{body_of, section_in, section_names, trailer_fault};
 ghost use Rattle.sst_blocks.specs.declared.opened.Opened.{Opened};
@@ -163,7 +163,7 @@ impl<A: Allocator + Clone> BlockSource<A> {
 pub trait LoadBlocks {
     ghost use Rattle.std.specs.Prelude.{◌≡◌, List, ℕ};
     ghost use Rattle.sst_blocks.specs.Block.{load_told, Loaded};
-    ghost use Rattle.sst_blocks.specs.Error.{Gives};
+    ghost use Rattle.sst_entries.specs.Error.{Gives};
     ghost use Rattle.sst_blocks.specs.Opened.{counted};
     ghost use Rattle.sst_blocks.specs.declared.opened.Opened.{Opened};
 

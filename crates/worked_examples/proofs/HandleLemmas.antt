@@ -2,7 +2,7 @@
 use Rattle.std.proofs.Common.{◌≡◌, refl, sym, subst, List, [], ◌∷◌, ◌++◌}
 use Rattle.sst_blocks.specs.Handle.{Handle}
 use Rattle.sst_blocks.specs.Handles.{AreStrictHandles}
-use Rattle.sst_blocks.specs.Strict.{IsStrictAfter}
+use Rattle.sst_entries.specs.Strict.{IsStrictAfter}
 
 -- one handle after none
 pub one_handle_strict : (hs : List Handle) (h : Handle) → hs ≡ [] → AreStrictHandles (hs ++ h ∷ [])

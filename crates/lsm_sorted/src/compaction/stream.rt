@@ -1,8 +1,8 @@
 //! A stream of entries that leaves out what no reader needs.
 ghost use Rattle.std.specs.Prelude.{◌≡◌, ◌≤◌, nat_lt, Bool, false, List, Some, None, Result, Ok, IfOk};
 ghost use Rattle.std.specs.Iterator.{at_most, IsFinite, Yields};
-ghost use Rattle.sst_blocks.specs.Entry.{Entry};
-ghost use Rattle.sst_blocks.specs.declared.error.Error.{Error};
+ghost use Rattle.sst_entries.specs.Entry.{Entry};
+ghost use Rattle.sst_entries.specs.declared.error.Error.{Error};
 ghost use Rattle.lsm_sorted.specs.Compaction.{Verdict, keep};
 ghost use Rattle.lsm_sorted.specs.Verdicts.{said, verdict_of};
 ghost use Rattle.lsm_sorted.specs.CompactionState.{rules_of, source_of, filter_of, callback_of, Compacts, MayCompact, compaction_size, CompactsNext, Filters, DrainsKey, Settles};
@@ -13,11 +13,11 @@ ghost use Rattle.lsm_sorted.specs.ReadLaw.{ReadLaw, StaysStrict, PartLaw};
 ghost use Rattle.lsm_sorted.specs.declared.compaction.stream.CompactionStream.{CompactionStream};
 ghost use Rattle.std.specs.List.{AllByRecursion};
 ghost use Rattle.lsm_sorted.specs.Ends.{R};
-ghost use Rattle.sst_blocks.specs.Key.{same_key};
-ghost use Rattle.sst_blocks.specs.Stream.{Deals, CanDeal, nowhere, stopped, stopped_result, all_ok};
+ghost use Rattle.sst_entries.specs.Key.{same_key};
+ghost use Rattle.sst_entries.specs.Stream.{Deals, CanDeal, nowhere, stopped, stopped_result, all_ok};
 
 use crate::ahead::Ahead;
-use sst_blocks::{Error, InternalValue, IterItem, SeqNo, UserValue, ValueType};
+use sst_entries::{Error, InternalValue, IterItem, SeqNo, UserValue, ValueType};
 use std::alloc::{Allocator, Global};
 
 /// A callback that receives every entry that a compaction drops or replaces.

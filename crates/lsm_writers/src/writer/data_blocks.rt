@@ -1,15 +1,15 @@
 //! The data blocks of a table, with the index that they are registered with.
 ghost use Rattle.std.specs.Prelude.{◌≡◌, ◌+◌, ◌*◌, ◌++◌, ◌^◌, ◌<◌, [], ◌∷◌, None, false, length, IfOk, IfErr, OnOk, OnErr};
 ghost use Rattle.std.specs.Option.{option_copied};
-ghost use Rattle.sst_blocks.specs.declared.error.Error.TheVariants.{OutOfMemory};
+ghost use Rattle.sst_entries.specs.declared.error.Error.TheVariants.{OutOfMemory};
 ghost use Rattle.sst_blocks.specs.declared.section.SectionName.TheVariants.{Data};
 ghost use Rattle.sst_blocks.specs.declared.version.TableVersion.TheVariants.{V4};
 ghost use Rattle.sst_blocks.specs.Bounds.{index_block_bound_of};
 ghost use Rattle.sst_blocks.specs.Encoding.{entries_fault, key_fault, large_fault};
-ghost use Rattle.sst_blocks.specs.Error.{Faults};
+ghost use Rattle.sst_entries.specs.Error.{Faults};
 ghost use Rattle.sst_blocks.specs.Fnv.{fnv1a};
 ghost use Rattle.sst_blocks.specs.Sections.{finished};
-ghost use Rattle.sst_blocks.specs.Strict.{IsStrict, last_of};
+ghost use Rattle.sst_entries.specs.Strict.{IsStrict, last_of};
 ghost use Rattle.lsm_writers.specs.Chunks.{joined};
 ghost use Rattle.lsm_writers.specs.Cut.{Cut, CountsCut, with_cut, rest_of};
 ghost use Rattle.lsm_writers.specs.File.{end_sections, index_sections, HasNoEnd};

@@ -9,10 +9,10 @@ use std::alloc::Allocator;
 /// Takes the handles of the data blocks, and writes an index of them.
 pub trait BlockIndexWriter<A: Allocator> {
     ghost use Rattle.std.specs.Prelude.{◌≡◌, ℕ, Bool, true, false, List, [], ◌∷◌, ◌++◌, length, take, Option, OnOk, OnErr, IfOk};
-    ghost use Rattle.sst_blocks.specs.Error.{Faults};
+    ghost use Rattle.sst_entries.specs.Error.{Faults};
     ghost use Rattle.sst_blocks.specs.Handle.{Handle};
     ghost use Rattle.sst_blocks.specs.Handles.{AreStrictHandles};
-    ghost use Rattle.sst_blocks.specs.declared.error.Error.{Error};
+    ghost use Rattle.sst_entries.specs.declared.error.Error.{Error};
     ghost use Rattle.lsm_writers.specs.Layout.{Sections};
     ghost use Rattle.lsm_writers.specs.Registered.{HasNoIndex, appended, failed_fault};
 

@@ -1,9 +1,9 @@
 //! What a writer knows of the table so far.
 ghost use Rattle.std.specs.Prelude.{◌≡◌, ◌+◌, ◌<◌, ◌^◌, Some, OnOk, OnErr, IfErr};
 ghost use Rattle.std.specs.Option.{option_copied};
-ghost use Rattle.sst_blocks.specs.declared.error.Error.TheVariants.{OutOfMemory};
+ghost use Rattle.sst_entries.specs.declared.error.Error.TheVariants.{OutOfMemory};
 ghost use Rattle.lsm_writers.specs.Facts.{is_weak, is_value_kind, starts_key, is_reclaimable};
-ghost use Rattle.sst_blocks.specs.Kind.{is_weak_kind};
+ghost use Rattle.sst_entries.specs.Kind.{is_weak_kind};
 
 use sst_blocks::{BlockOffset, Error, InternalValue, SeqNo, UserKey, ValueType};
 use std::alloc::{Allocator, Global};
@@ -102,7 +102,7 @@ fn is_value(kind: ValueType) -> bool
 impl<A: Allocator> Metadata<A> {
     ghost use Rattle.std.specs.Prelude.{◌≡◌, ◌+◌, ◌<◌, ◌^◌, Some, OnOk, OnErr, IfErr};
     ghost use Rattle.std.specs.Option.{option_copied};
-    ghost use Rattle.sst_blocks.specs.declared.error.Error.TheVariants.{OutOfMemory};
+    ghost use Rattle.sst_entries.specs.declared.error.Error.TheVariants.{OutOfMemory};
     ghost use Rattle.lsm_writers.specs.Counts.{counted, HasRoom};
 
     /// Counts one more entry, after the one before it. Refused [`Error::OutOfMemory`]; nothing changes then.

@@ -1,11 +1,11 @@
 //! Reading one entry of a payload.
 ghost use Rattle.std.specs.Prelude.{◌≡◌, ◌+◌, ◌≤◌, length, not};
 ghost use Rattle.std.specs.Option.{option_map};
-ghost use Rattle.sst_blocks.specs.Key.{key_lt};
-ghost use Rattle.sst_blocks.specs.Point.{bound_of};
+ghost use Rattle.sst_entries.specs.Key.{key_lt};
+ghost use Rattle.sst_entries.specs.Point.{bound_of};
 ghost use Rattle.sst_blocks.specs.Reading.{parts_at, entry_at};
 ghost use Rattle.sst_blocks.specs.Seen.{seen};
-ghost use Rattle.sst_blocks.specs.Strict.{is_before, may_follow};
+ghost use Rattle.sst_entries.specs.Strict.{is_before, may_follow};
 ghost use Rattle.sst_blocks.specs.Version.{key_width};
 
 use crate::number::{key_len_at, key_width, u32_at, u64_at};

@@ -1,9 +1,9 @@
 //! The entries of a data block, from both ends.
 ghost use Rattle.std.specs.Prelude.{◌≡◌, ◌-◌, nat_lt, length, min, max, not};
 ghost use Rattle.std.specs.Iterator.{at_most};
-ghost use Rattle.sst_blocks.specs.Key.{key_lt};
-ghost use Rattle.sst_blocks.specs.Span.{SpanHas, front_length};
-ghost use Rattle.sst_blocks.specs.Stream.{Answers, front_of, back_of};
+ghost use Rattle.sst_entries.specs.Key.{key_lt};
+ghost use Rattle.sst_entries.specs.Span.{SpanHas, front_length};
+ghost use Rattle.sst_entries.specs.Stream.{Answers, front_of, back_of};
 
 use super::DataBlock;
 use crate::IterItem;
@@ -21,8 +21,8 @@ pub struct Iter<'a, A: Allocator = Global> {
 
 impl<'a, A: Allocator> Model for Iter<'a, A> {
     ghost use Rattle.std.specs.Prelude.{◌≤◌, length};
-    ghost use Rattle.sst_blocks.specs.Entry.{Entry};
-    ghost use Rattle.sst_blocks.specs.Span.{Span};
+    ghost use Rattle.sst_entries.specs.Entry.{Entry};
+    ghost use Rattle.sst_entries.specs.Span.{Span};
 
     ghost Value = { Span Entry };
 

@@ -2,7 +2,7 @@
 ghost use Rattle.std.specs.Prelude.{◌≡◌, ◌<◌, ◌≤◌, ◌^◌, ◌++◌, length, take, vec_len, OnOk, IfErr, None};
 ghost use Rattle.sst_blocks.specs.Encoding.{key_fault};
 ghost use Rattle.sst_blocks.specs.Handles.{HandleFits, HandlesFit, handle_spelled, handles_payload};
-ghost use Rattle.sst_blocks.specs.declared.error.Error.TheVariants.{OutOfMemory};
+ghost use Rattle.sst_entries.specs.declared.error.Error.TheVariants.{OutOfMemory};
 ghost use Rattle.sst_blocks.specs.declared.version.TableVersion.TheVariants.{V4};
 
 use crate::number::{put_u32, put_u64};

@@ -2,8 +2,8 @@
 ghost use Rattle.std.specs.Prelude.{◌≡◌, ◌+◌, ◌-◌, nat_lt, length, min, max, not};
 ghost use Rattle.std.specs.Iterator.{at_most};
 ghost use Rattle.sst_blocks.specs.Handles.{reaches, is_above};
-ghost use Rattle.sst_blocks.specs.Span.{SpanHas, front_length};
-ghost use Rattle.sst_blocks.specs.Stream.{Answers, front_of, back_of};
+ghost use Rattle.sst_entries.specs.Span.{SpanHas, front_length};
+ghost use Rattle.sst_entries.specs.Stream.{Answers, front_of, back_of};
 
 use super::IndexBlock;
 use crate::{Error, KeyedBlockHandle, SeqNo};
@@ -21,7 +21,7 @@ pub struct Iter<'a, A: Allocator = Global> {
 impl<'a, A: Allocator> Model for Iter<'a, A> {
     ghost use Rattle.std.specs.Prelude.{◌≤◌, length};
     ghost use Rattle.sst_blocks.specs.Handle.{Handle};
-    ghost use Rattle.sst_blocks.specs.Span.{Span};
+    ghost use Rattle.sst_entries.specs.Span.{Span};
 
     ghost Value = { Span Handle };
 

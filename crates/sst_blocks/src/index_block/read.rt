@@ -1,13 +1,13 @@
 //! Reading the handles of a payload.
 ghost use Rattle.std.specs.Prelude.{◌≡◌, ◌+◌, ◌<◌, ◌^◌, None, false, length, IfOk, IfErr};
 ghost use Rattle.std.specs.Option.{option_map};
-ghost use Rattle.sst_blocks.specs.Error.{is_memory};
+ghost use Rattle.sst_entries.specs.Error.{is_memory};
 ghost use Rattle.sst_blocks.specs.Handles.{handle_at, handles_in, end_of, reaches};
 ghost use Rattle.sst_blocks.specs.SeenHandle.{seen_handle};
 ghost use Rattle.sst_blocks.specs.Starts.{HandlesAt};
-ghost use Rattle.sst_blocks.specs.Strict.{may_follow};
+ghost use Rattle.sst_entries.specs.Strict.{may_follow};
 ghost use Rattle.sst_blocks.specs.Version.{key_width};
-ghost use Rattle.sst_blocks.specs.declared.error.Error.TheVariants.{InvalidBlock};
+ghost use Rattle.sst_entries.specs.declared.error.Error.TheVariants.{InvalidBlock};
 
 use crate::number::{key_len_at, key_width, u32_at, u64_at};
 use crate::{Error, SeqNo, TableVersion};

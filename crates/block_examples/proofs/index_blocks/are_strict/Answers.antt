@@ -1,10 +1,10 @@
 use Rattle.std.proofs.Common.{◌≡◌, ◌≤◌, ◌∷◌, [], ℕ, ◌+◌, ◌<◌, List, Bool, true, Option, Some, None, length, get_or, drop, map, sym, ap, ◌∙◌, rules, arith, refl}
 use Rattle.std.specs.Option.{option_map}
 use Rattle.std.proofs.lemmas.List.{drop_more, drop_all}
-use Rattle.sst_blocks.specs.Entry.{Entry}
+use Rattle.sst_entries.specs.Entry.{Entry}
 use Rattle.sst_blocks.specs.Handle.{Handle}
 use Rattle.sst_blocks.specs.Handles.{end_of}
-use Rattle.sst_blocks.specs.Strict.{may_follow, is_strict_after}
+use Rattle.sst_entries.specs.Strict.{may_follow, is_strict_after}
 use Rattle.sst_blocks.proofs.Items.{strict_from_test}
 use Rattle.block_examples.proofs.index_blocks.are_strict.Goals as goal
 

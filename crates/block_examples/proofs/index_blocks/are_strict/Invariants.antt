@@ -1,7 +1,7 @@
 use Rattle.std.proofs.Common.{◌≡◌, drop, map, None}
 use Rattle.std.specs.Option.{option_map}
 use Rattle.sst_blocks.specs.Handles.{end_of}
-use Rattle.sst_blocks.specs.Strict.{is_strict_after}
+use Rattle.sst_entries.specs.Strict.{is_strict_after}
 use Rattle.block_examples.proofs.index_blocks.are_strict.Given as goal
 
 abbrev pub invariant-loop-handle : goal.invariant-loop-handle

@@ -1,7 +1,7 @@
 -- The tables that start before the key stand in front.
 use Rattle.std.proofs.Common.{◌∙◌, sym, rules}
 use Rattle.std.proofs.lemmas.List.Sorted.{IsPartitionPoint-from_clause}
-use Rattle.sst_blocks.specs.Key.{key_lt}
+use Rattle.sst_entries.specs.Key.{key_lt}
 use Rattle.lsm_ranges.specs.KeyRange.{Interval}
 use Rattle.lsm_ranges.proofs.RunLemmas.{partitioned, point_count, how_many-map, falls-starts_before}
 use Rattle.lsm_ranges.proofs.run.count_starts_before.Goals as goal

@@ -1,6 +1,6 @@
 use Rattle.std.proofs.Common.{◌≡◌, ◌<◌, rules, arith}
 use Rattle.std.specs.Prelude.{Some}
-use Rattle.sst_blocks.specs.Point.{point}
+use Rattle.sst_entries.specs.Point.{point}
 use Rattle.lsm_tables.proofs.Loads.{load_kind, data_holds}
 use Rattle.lsm_tables.proofs.Points.{point_below}
 use Rattle.lsm_tables.proofs.point.read_in.Goals as goal

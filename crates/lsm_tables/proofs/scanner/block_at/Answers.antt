@@ -1,8 +1,8 @@
 use Rattle.std.proofs.Common.{◌≡◌, ℕ, ◌+◌, List, refl, ap, ◌∙◌, sym, arith}
 use Rattle.std.specs.Prelude.{Result, Ok}
-use Rattle.sst_blocks.specs.declared.error.Error.{Error}
+use Rattle.sst_entries.specs.declared.error.Error.{Error}
 use Rattle.sst_blocks.specs.Block.{Loaded, entries_of}
-use Rattle.sst_blocks.specs.Entry.{Entry}
+use Rattle.sst_entries.specs.Entry.{Entry}
 use Rattle.lsm_tables.specs.Scan.{behind}
 use Rattle.lsm_tables.specs.Told.{◌>>=◌}
 use Rattle.lsm_tables.proofs.Loads.{load_at_kind, data_holds}

@@ -1,7 +1,7 @@
 use Rattle.std.proofs.Common.{◌≡◌, subst, arith}
 use Rattle.std.specs.Prelude.{Some, None}
-use Rattle.sst_blocks.specs.declared.error.Error.TheVariants.{BlockTooLarge}
-use Rattle.sst_blocks.specs.Entry.{Entry}
+use Rattle.sst_entries.specs.declared.error.Error.TheVariants.{BlockTooLarge}
+use Rattle.sst_entries.specs.Entry.{Entry}
 use Rattle.lsm_writers.specs.Writing.{item_fault}
 use Rattle.lsm_writers.proofs.Taking.{item_large, item_fits}
 use Rattle.lsm_writers.proofs.writer.check_item.Goals as goal

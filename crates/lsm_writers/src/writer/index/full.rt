@@ -43,7 +43,7 @@ impl<A: Allocator> FullIndexWriter<A> {
 
 impl<A: Allocator + Clone> BlockIndexWriter<A> for FullIndexWriter<A> {
     ghost use Rattle.std.specs.Prelude.{◌≡◌, true, false, [], ◌∷◌, ◌++◌, length, take, OnOk, OnErr, IfOk};
-    ghost use Rattle.sst_blocks.specs.Error.{Faults};
+    ghost use Rattle.sst_entries.specs.Error.{Faults};
     ghost use Rattle.sst_blocks.specs.Handles.{AreStrictHandles};
     ghost use Rattle.lsm_writers.specs.Registered.{HasNoIndex, appended, failed_fault, full_index, full_index_fault};
 

@@ -1,7 +1,7 @@
 use Rattle.std.proofs.Common.{◌≡◌, ◌∙◌, sym, ap, ℕ, suc, ◌+◌, ◌<◌, Bool, true, false, List, ◌∷◌, length, get_or, drop, drop-cons, add-one, map, rules}
 use Rattle.std.specs.Prelude.{Option, Result, Ok, if◌then◌else◌}
-use Rattle.sst_blocks.specs.declared.error.Error.{Error}
-use Rattle.sst_blocks.specs.Entry.{Entry}
+use Rattle.sst_entries.specs.declared.error.Error.{Error}
+use Rattle.sst_entries.specs.Entry.{Entry}
 use Rattle.lsm_tables.specs.TableSeen.{TableSeen}
 use Rattle.lsm_tables.specs.Told.{◌>>=◌}
 use Rattle.sst.specs.Runs.{run_told, has_number, one_has_number, held_told}

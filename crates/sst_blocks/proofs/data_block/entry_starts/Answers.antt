@@ -5,7 +5,7 @@ use Rattle.sst_blocks.specs.Number.{num4}
 use Rattle.sst_blocks.specs.Payload.{Fits}
 use Rattle.sst_blocks.specs.Reading.{entry_at}
 use Rattle.sst_blocks.specs.Seen.{seen}
-use Rattle.sst_blocks.specs.Strict.{may_follow}
+use Rattle.sst_entries.specs.Strict.{may_follow}
 use Rattle.sst_blocks.proofs.Entries.{entry_format, entries_format, entries_in_same}
 use Rattle.sst_blocks.proofs.Items.{walk_begins, walk_on, walk_ends, walk_short, walk_missing, walk_unordered, walk_over}
 use Rattle.sst_blocks.proofs.data_block.entry_starts.Goals as goal

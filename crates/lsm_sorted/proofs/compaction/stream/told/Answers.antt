@@ -1,6 +1,6 @@
 use Rattle.std.proofs.Common.{refl, ap}
 use Rattle.std.specs.Prelude.{Ok}
-use Rattle.sst_blocks.specs.Entry.{Entry}
+use Rattle.sst_entries.specs.Entry.{Entry}
 use Rattle.lsm_sorted.specs.Compaction.{replace, told_by}
 use Rattle.lsm_sorted.proofs.compaction.stream.told.Goals as goal
 

@@ -1,5 +1,5 @@
 use Rattle.std.proofs.Common.{Bool, true, false, List, ◌+◌, ◌≤◌, cond, nat_lt, length}
-use Rattle.sst_blocks.specs.declared.error.Error.{Error}
+use Rattle.sst_entries.specs.declared.error.Error.{Error}
 use Rattle.lsm_sorted.specs.Merge.{Kept, Ready, Stands, Filled, SameRoom, Bounded, merge_total}
 use Rattle.lsm_sorted.proofs.merge.Merger.fill_back.Given as goal
 

@@ -1,7 +1,7 @@
 use Rattle.std.proofs.Common.{◌≡◌, ◌<◌, ◌≤◌, ℕ, Bool, cond, refl, sym, ◌∙◌, ap, subst, true, false, List, length, arith}
 use Rattle.std.specs.Prelude.{Contains}
 use Rattle.std.proofs.lemmas.Result.{err_from_is_err_and}
-use Rattle.sst_blocks.specs.declared.error.Error.{Error}
+use Rattle.sst_entries.specs.declared.error.Error.{Error}
 use Rattle.lsm_sorted.specs.Union.{all_errors}
 use Rattle.lsm_sorted.specs.Merge.{Ready}
 use Rattle.lsm_sorted.proofs.RoomLemmas.{one_if, fill_first, fill_next, fill_fails, fill_last}

@@ -2,9 +2,9 @@ use Rattle.std.proofs.Common.{refl, sym, ◌∙◌, ap, subst, false, List, ◌�
 use Rattle.std.specs.Prelude.{Contains}
 use Rattle.std.proofs.lemmas.List.Sorted.{length_permutation}
 use Rattle.std.proofs.lemmas.Result.{err_from_is_err_and}
-use Rattle.sst_blocks.specs.Entry.{Entry}
-use Rattle.sst_blocks.specs.Stream.{first, but_first}
-use Rattle.sst_blocks.specs.declared.error.Error.{Error}
+use Rattle.sst_entries.specs.Entry.{Entry}
+use Rattle.sst_entries.specs.Stream.{first, but_first}
+use Rattle.sst_entries.specs.declared.error.Error.{Error}
 use Rattle.lsm_sorted.specs.Tournament.{held}
 use Rattle.lsm_sorted.specs.Merge.{Merging}
 use Rattle.lsm_sorted.proofs.RoomLemmas.{popped_known, popped_space, same_popped, fits_turn, fits_two}

@@ -1,6 +1,6 @@
 use Rattle.std.proofs.Common.{true, false, ◌≡◌, ◌<◌, refl, sym, ◌∙◌, ap, [], arith}
 use Rattle.std.specs.Prelude.{None}
-use Rattle.sst_blocks.specs.Stream.{last, but_last}
+use Rattle.sst_entries.specs.Stream.{last, but_last}
 use Rattle.lsm_sorted.specs.Merge.{merge_total}
 use Rattle.lsm_sorted.proofs.TakeLemmas.{none_last}
 use Rattle.lsm_sorted.proofs.RoomLemmas.{may_merge, size_of}

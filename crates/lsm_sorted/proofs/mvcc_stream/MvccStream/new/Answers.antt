@@ -1,6 +1,6 @@
 use Rattle.std.proofs.Common.{arith}
 use Rattle.std.proofs.lemmas.Grind.{common_steps}
-use Rattle.sst_blocks.specs.Stream.{all_ok}
+use Rattle.sst_entries.specs.Stream.{all_ok}
 use Rattle.lsm_sorted.proofs.DealsNewest.{deals_newest, can_answer}
 use Rattle.lsm_sorted.proofs.mvcc_stream.MvccStream.new.Goals as goal
 

@@ -1,4 +1,4 @@
-use Rattle.sst_blocks.specs.declared.error.Error.{Error}
+use Rattle.sst_entries.specs.declared.error.Error.{Error}
 use Rattle.std.proofs.Common.{Bool, ◌<◌}
 use Rattle.lsm_sorted.specs.Ends.{Goes}
 use Rattle.lsm_sorted.specs.Peeked.{Holds, peeked_size}

@@ -1,6 +1,6 @@
 use Rattle.std.proofs.Common.{◌≡◌, ℕ, ◌+◌, ◌<◌, ◌≤◌, ◌^◌, arith, ap, ◌∙◌, inl, inr}
 use Rattle.std.proofs.lemmas.Bool.{cases_lt}
-use Rattle.sst_blocks.specs.Entry.{Entry, entry}
+use Rattle.sst_entries.specs.Entry.{Entry, entry}
 use Rattle.lsm_tables.specs.Scan.{Scan}
 use Rattle.lsm_tables.proofs.Scans.{entry_is, lifted_is, lifted_past}
 use Rattle.lsm_tables.proofs.scanner.Scanner.entry.Goals as goal

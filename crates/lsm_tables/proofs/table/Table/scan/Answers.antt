@@ -2,9 +2,9 @@ use Rattle.std.proofs.Common.{ap, subst, ◌∙◌}
 use Rattle.std.specs.Prelude.{IfOk}
 use Rattle.sst_blocks.specs.declared.block_type.BlockType.TheVariants.{Data}
 use Rattle.sst_blocks.specs.Block.{load_at_told}
-use Rattle.sst_blocks.specs.Error.{Faults}
+use Rattle.sst_entries.specs.Error.{Faults}
 use Rattle.sst_blocks.specs.Sections.{body_of}
-use Rattle.sst_blocks.specs.Stream.{Deals, nowhere, stopped}
+use Rattle.sst_entries.specs.Stream.{Deals, nowhere, stopped}
 use Rattle.lsm_tables.specs.Handled.{IsOpen, table_of}
 use Rattle.lsm_tables.specs.Scan.{Scan, ScansNext, fault_of, scan_told}
 use Rattle.lsm_tables.specs.TableSeen.{TableSeen}

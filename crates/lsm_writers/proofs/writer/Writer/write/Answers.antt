@@ -1,8 +1,8 @@
 use Rattle.std.proofs.Common.{◌≡◌, ◌∙◌, sym, ap, refl, subst, ℕ, ◌+◌, ◌<◌, ◌^◌, Bool, true, false, List, [], ◌∷◌, ◌++◌, length, arith, rules, IsTrue}
 use Rattle.std.specs.Prelude.{Option, Some, None}
 use Rattle.std.specs.Option.{option_copied}
-use Rattle.sst_blocks.specs.Entry.{Entry}
-use Rattle.sst_blocks.specs.Strict.{IsStrict, last_of}
+use Rattle.sst_entries.specs.Entry.{Entry}
+use Rattle.sst_entries.specs.Strict.{IsStrict, last_of}
 use Rattle.lsm_writers.specs.Chunks.{joined, is_full, entry_size}
 use Rattle.lsm_writers.specs.Counts.{counted}
 use Rattle.lsm_writers.specs.Held.{IsHeld, CanGoOn, IsOpen, IsShort}

@@ -1,8 +1,8 @@
 use Rattle.std.proofs.Common.{◌≡◌, ◌∙◌, sym, ap, subst, IsTrue, List, [], ◌∷◌, ◌++◌, append_assoc}
 use Rattle.std.specs.Prelude.{Option, None}
 use Rattle.std.specs.Option.{option_or}
-use Rattle.sst_blocks.specs.declared.error.Error.{Error}
-use Rattle.sst_blocks.specs.Entry.{Entry}
+use Rattle.sst_entries.specs.declared.error.Error.{Error}
+use Rattle.sst_entries.specs.Entry.{Entry}
 use Rattle.lsm_writers.specs.Writing.{Writing, written, write_fault, follows, gained}
 use Rattle.sst.specs.Pending.{IsPending, writing_fault}
 use Rattle.sst.proofs.PendingLemmas.{pending_follows, written_gained, same_label}

@@ -1,7 +1,7 @@
 use Rattle.std.proofs.Common.{◌≡◌, ℕ, ◌-◌, ◌<◌, ◌≤◌, length, Bool, true, false, Some}
 use Rattle.std.specs.List.{slice_get}
 use Rattle.std.specs.List.Sorted.{IsPartitionedBy}
-use Rattle.sst_blocks.specs.Entry.{Entry}
+use Rattle.sst_entries.specs.Entry.{Entry}
 use Rattle.sst_blocks.specs.Seen.{seen}
 use Rattle.sst_blocks.proofs.data_block.DataBlock.front_len.Given as goal
 

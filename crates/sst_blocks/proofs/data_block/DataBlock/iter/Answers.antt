@@ -1,6 +1,6 @@
 use Rattle.std.proofs.Common.{◌≡◌, ◌∙◌, ap}
-use Rattle.sst_blocks.specs.Entry.{Entry}
-use Rattle.sst_blocks.specs.Span.{Span, left_in}
+use Rattle.sst_entries.specs.Entry.{Entry}
+use Rattle.sst_entries.specs.Span.{Span, left_in}
 use Rattle.sst_blocks.proofs.SpanLemmas.{span_deals}
 use Rattle.sst_blocks.proofs.Within.{left_whole}
 use Rattle.sst_blocks.proofs.data_block.DataBlock.iter.Goals as goal

@@ -1,9 +1,9 @@
 use Rattle.std.proofs.Common.{◌≡◌, not, rules, ◌∙◌, sym}
-use Rattle.sst_blocks.specs.Entry.{Entry}
-use Rattle.sst_blocks.specs.Point.{bound_of}
+use Rattle.sst_entries.specs.Entry.{Entry}
+use Rattle.sst_entries.specs.Point.{bound_of}
 use Rattle.sst_blocks.specs.Seen.{seen}
-use Rattle.sst_blocks.specs.Span.{front_length}
-use Rattle.sst_blocks.specs.Strict.{is_before}
+use Rattle.sst_entries.specs.Span.{front_length}
+use Rattle.sst_entries.specs.Strict.{is_before}
 use Rattle.sst_blocks.proofs.Points.{past_parted, keys_apart, keys_same, read_past, read_other, read_hit}
 use Rattle.sst_blocks.proofs.data_block.DataBlock.point_read.Goals as goal
 

@@ -1,5 +1,5 @@
 use Rattle.std.proofs.Common.{◌≡◌, arith, ◌∙◌, refl}
-use Rattle.sst_blocks.specs.Entry.{entry}
+use Rattle.sst_entries.specs.Entry.{entry}
 use Rattle.sst_blocks.specs.Seen.{seen}
 use Rattle.std.proofs.lemmas.Option.{slice_get_within}
 use Rattle.sst_blocks.proofs.Entries.{block_holds, block_len}

@@ -1,5 +1,5 @@
 use Rattle.std.proofs.Common.{◌<◌, ◌≤◌, ◌^◌, length, arith, ap}
-use Rattle.sst_blocks.specs.Entry.{Entry}
+use Rattle.sst_entries.specs.Entry.{Entry}
 use Rattle.sst_blocks.proofs.Faults.{key_fault_at, value_fault_at, no_fault_at, no_fault_left}
 use Rattle.sst_blocks.proofs.data_block.encode.length_fault.Goals as goal
 

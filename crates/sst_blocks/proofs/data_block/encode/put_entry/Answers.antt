@@ -1,7 +1,7 @@
 use Rattle.std.proofs.Common.{◌≡◌, ℕ, List, [], ◌∷◌, ◌++◌, length, rules, arith, append_assoc, ap, ◌∙◌}
 use Rattle.std.proofs.lemmas.Result.{IfOk-from_err}
-use Rattle.sst_blocks.specs.Entry.{Entry}
-use Rattle.sst_blocks.specs.Kind.{tag_of}
+use Rattle.sst_entries.specs.Entry.{Entry}
+use Rattle.sst_entries.specs.Kind.{tag_of}
 use Rattle.sst_blocks.specs.Number.{le4, le8}
 use Rattle.sst_blocks.specs.Payload.{spelled}
 use Rattle.sst_blocks.specs.declared.version.TableVersion.TheVariants.{V4}

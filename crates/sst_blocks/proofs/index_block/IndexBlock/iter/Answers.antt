@@ -1,6 +1,6 @@
 use Rattle.std.proofs.Common.{◌≡◌, ◌∙◌, ap}
 use Rattle.sst_blocks.specs.Handle.{Handle}
-use Rattle.sst_blocks.specs.Span.{Span, left_in}
+use Rattle.sst_entries.specs.Span.{Span, left_in}
 use Rattle.sst_blocks.proofs.SpanLemmas.{span_deals}
 use Rattle.sst_blocks.proofs.Reaching.{left_whole}
 use Rattle.sst_blocks.proofs.index_block.IndexBlock.iter.Goals as goal

@@ -3,7 +3,7 @@ use Rattle.std.specs.Option.{option_map}
 use Rattle.std.proofs.lemmas.List.{take_rest}
 use Rattle.sst_blocks.specs.Handles.{handle_at, end_of}
 use Rattle.sst_blocks.specs.SeenHandle.{seen_handle}
-use Rattle.sst_blocks.specs.Strict.{may_follow}
+use Rattle.sst_entries.specs.Strict.{may_follow}
 use Rattle.sst_blocks.proofs.HandleLaws.{handle_format, handles_format, handles_in_same}
 use Rattle.sst_blocks.proofs.Items.{walk_begins, walk_on, walk_short, walk_missing, walk_unordered, walk_over, walk_ends}
 use Rattle.sst_blocks.proofs.Numbers.{IsBytes}

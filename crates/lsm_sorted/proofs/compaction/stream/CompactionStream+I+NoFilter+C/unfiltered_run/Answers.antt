@@ -1,4 +1,4 @@
-use Rattle.sst_blocks.specs.Stream.{all_ok}
+use Rattle.sst_entries.specs.Stream.{all_ok}
 use Rattle.lsm_sorted.specs.CompactionState.{rules_of}
 use Rattle.lsm_sorted.proofs.WholeLemmas.{deals_outs, outs_unfiltered}
 use Rattle.lsm_sorted.proofs.compaction.stream.«CompactionStream+I+NoFilter+C».unfiltered_run.Goals as goal

@@ -1,6 +1,6 @@
 use Rattle.std.proofs.Common.{◌≡◌, refl, sym, ◌∙◌, ap, true, false, arith}
 use Rattle.std.specs.Prelude.{Some, Ok, Err}
-use Rattle.sst_blocks.specs.Entry.{Entry}
+use Rattle.sst_entries.specs.Entry.{Entry}
 use Rattle.lsm_sorted.specs.Ahead.{HoldsAhead}
 use Rattle.lsm_sorted.specs.Compaction.{Rules, zeroed}
 use Rattle.lsm_sorted.specs.CompactionState.{rules_of}

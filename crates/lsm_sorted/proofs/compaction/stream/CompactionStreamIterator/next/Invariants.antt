@@ -1,6 +1,6 @@
 use Rattle.std.proofs.Common.{◌≡◌, ◌≤◌, Bool}
-use Rattle.sst_blocks.specs.declared.error.Error.{Error}
-use Rattle.sst_blocks.specs.Stream.{nowhere}
+use Rattle.sst_entries.specs.declared.error.Error.{Error}
+use Rattle.sst_entries.specs.Stream.{nowhere}
 use Rattle.lsm_sorted.specs.Ends.{Goes}
 use Rattle.lsm_sorted.specs.Ahead.{HoldsAhead, ahead_size}
 use Rattle.lsm_sorted.specs.CompactionState.{rules_of}

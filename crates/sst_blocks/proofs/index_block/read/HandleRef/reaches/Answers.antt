@@ -1,9 +1,9 @@
 use Rattle.std.proofs.Common.{rules, ◌≡◌, [], ◌∙◌, sym}
-use Rattle.sst_blocks.specs.declared.value_type.ValueType.TheVariants.{Value}
-use Rattle.sst_blocks.specs.Entry.{entry}
+use Rattle.sst_entries.specs.declared.value_type.ValueType.TheVariants.{Value}
+use Rattle.sst_entries.specs.Entry.{entry}
 use Rattle.sst_blocks.specs.Handles.{end_of}
 use Rattle.sst_blocks.specs.SeenHandle.{seen_handle}
-use Rattle.sst_blocks.specs.Strict.{is_before}
+use Rattle.sst_entries.specs.Strict.{is_before}
 use Rattle.sst_blocks.proofs.Reaching.{reaches_after}
 use Rattle.sst_blocks.proofs.index_block.read.HandleRef.reaches.Goals as goal
 

@@ -1,4 +1,4 @@
-use Rattle.sst_blocks.specs.Strict.{IsStrictAfter}
+use Rattle.sst_entries.specs.Strict.{IsStrictAfter}
 use Rattle.lsm_writers.proofs.writer.index.full.FullIndexWriter.new.Goals as goal
 
 pub invariant_of-result : goal.invariant_of-result

@@ -1,0 +1,82 @@
+-- What `Deals` and `CanDeal` give for one call, and how they are proved from an invariant.
+use Rattle.std.proofs.Common.{◌≡◌, refl, sym, subst, Bool, false, List, [], ◌∷◌, ◌++◌}
+use Rattle.std.specs.Prelude.{Option}
+use Rattle.sst_entries.specs.declared.stream.Direction.{Direction}
+use Rattle.sst_entries.specs.declared.stream.Direction.TheVariants.{Front, Back}
+use Rattle.sst_entries.specs.Stream.{first, but_first, last, but_last, deal, NoneStops, Steps, Runs, Deals, CanDeal}
+
+-- the head and the tail of an equation of lists
+pub head_eq : {A : Type 0} {x y : A} {xs ys : List A} → x ∷ xs ≡ y ∷ ys → x ≡ y
+head_eq e = cc
+
+pub tail_eq : {A : Type 0} {x y : A} {xs ys : List A} → x ∷ xs ≡ y ∷ ys → xs ≡ ys
+tail_eq e = cc
+
+module _ {S A : Type 0} (stops : Option A → Bool) (front back : S → Option A → S → Type 0) where
+  -- a call at the front gives the first, and leaves the others
+  pub deals_front : (s : S) (xs : List A) (r : Option A) (t : S) → Deals stops front back s xs → front s r t → stops r ≡ false → (r ≡ first xs) × Deals stops front back t (but_first xs)
+  deals_front s xs r t d step goes = (
+    head_eq (d.answers (Front ∷ []) (r ∷ []) t (t, step, refl) (goes, tt)),
+    record { answers = λ ends rs u runs fine. tail_eq (d.answers (Front ∷ ends) (r ∷ rs) u (t, step, runs) (goes, fine)) },
+  )
+
+  -- a call at the back gives the last
+  pub deals_back : (s : S) (xs : List A) (r : Option A) (t : S) → Deals stops front back s xs → back s r t → stops r ≡ false → (r ≡ last xs) × Deals stops front back t (but_last xs)
+  deals_back s xs r t d step goes = (
+    head_eq (d.answers (Back ∷ []) (r ∷ []) t (t, step, refl) (goes, tt)),
+    record { answers = λ ends rs u runs fine. tail_eq (d.answers (Back ∷ ends) (r ∷ rs) u (t, step, runs) (goes, fine)) },
+  )
+
+  -- what every call keeps is enough
+  pub deals_by : (Has : S → List A → Type 0)
+      → ((s : S) (xs : List A) (r : Option A) (t : S) → Has s xs → front s r t → stops r ≡ false → (r ≡ first xs) × Has t (but_first xs))
+      → ((s : S) (xs : List A) (r : Option A) (t : S) → Has s xs → back s r t → stops r ≡ false → (r ≡ last xs) × Has t (but_last xs))
+      → (s : S) (xs : List A) → Has s xs → Deals stops front back s xs
+  deals_by Has at_front at_back s xs has = record { answers = λ ends rs t. along ends rs s xs t has }
+    where
+      along : (ends : List Direction) (rs : List (Option A)) (s : S) (xs : List A) (t : S) → Has s xs → Runs front back s ends rs t → NoneStops stops rs → rs ≡ deal xs ends
+      along [] [] s xs t has runs fine = refl
+      along [] (r ∷ rs) s xs t has runs fine = absurd runs
+      along (e ∷ ends) [] s xs t has runs fine = absurd runs
+      along (Front ∷ ends) (r ∷ rs) s xs t has runs fine =
+          let one = at_front s xs r runs.0 has runs.1 fine.0 in
+          let more = along ends rs runs.0 (but_first xs) t one.1 runs.2 fine.1 in
+          cc (one.0, more)
+      along (Back ∷ ends) (r ∷ rs) s xs t has runs fine =
+          let one = at_back s xs r runs.0 has runs.1 fine.0 in
+          let more = along ends rs runs.0 (but_last xs) t one.1 runs.2 fine.1 in
+          cc (one.0, more)
+
+module _ {S A : Type 0} (front back : S → Option A → S → Type 0) (can can_back : S → Type 0) where
+  pub can_front : (s : S) (r : Option A) (t : S) → CanDeal front back can can_back s → front s r t → CanDeal front back can can_back t
+  can_front s r t d step = record { at = λ ends rs u runs. d.at (Front ∷ ends) (r ∷ rs) u (t, step, runs) }
+
+  pub can_after_back : (s : S) (r : Option A) (t : S) → CanDeal front back can can_back s → back s r t → CanDeal front back can can_back t
+  can_after_back s r t d step = record { at = λ ends rs u runs. d.at (Back ∷ ends) (r ∷ rs) u (t, step, runs) }
+
+  pub can_now : (s : S) → CanDeal front back can can_back s → can s
+  can_now s d = (d.at [] [] s refl).0
+
+  pub can_now_back : (s : S) → CanDeal front back can can_back s → can_back s
+  can_now_back s d = (d.at [] [] s refl).1
+
+  pub can_by : (May : S → Type 0)
+      → ((s : S) → May s → can s × can_back s)
+      → ((s : S) (r : Option A) (t : S) → May s → front s r t → May t)
+      → ((s : S) (r : Option A) (t : S) → May s → back s r t → May t)
+      → (s : S) → May s → CanDeal front back can can_back s
+  can_by May ready at_front at_back s may = record { at = λ ends rs t. along ends rs s t may }
+    where
+      along : (ends : List Direction) (rs : List (Option A)) (s t : S) → May s → Runs front back s ends rs t → can t × can_back t
+      along [] [] s t may runs = subst (λ (u : S). can u × can_back u) runs (ready s may)
+      along [] (r ∷ rs) s t may runs = absurd runs
+      along (e ∷ ends) [] s t may runs = absurd runs
+      along (Front ∷ ends) (r ∷ rs) s t may runs = along ends rs runs.0 t (at_front s r runs.0 may runs.1) runs.2
+      along (Back ∷ ends) (r ∷ rs) s t may runs = along ends rs runs.0 t (at_back s r runs.0 may runs.1) runs.2
+
+-- one call more
+pub runs_more : {S A : Type 0} (front back : S → Option A → S → Type 0) (e : Direction) (r : Option A) (t u : S) → Steps front back e t r u → (ends : List Direction) (rs : List (Option A)) (s : S) → Runs front back s ends rs t → Runs front back s (ends ++ e ∷ []) (rs ++ r ∷ []) u
+runs_more front back e r t u step [] [] s runs = (u, subst (λ s. Steps front back e s r u) (sym runs) step, refl)
+runs_more front back e r t u step [] (q ∷ rs) s runs = absurd runs
+runs_more front back e r t u step (d ∷ ends) [] s runs = absurd runs
+runs_more front back e r t u step (d ∷ ends) (q ∷ rs) s runs = (runs.0, runs.1, runs_more front back e r t u step ends rs runs.0 runs.2)

@@ -1,0 +1,52 @@
+//! Keys with their number and kind.
+ghost use Rattle.sst_entries.specs.Key.{key_cmp};
+ghost use Rattle.std.proofs.Common.{rules};
+ghost use Rattle.std.specs.Cmp.{partial_order_from_own_ties};
+ghost use Rattle.std.specs.Cmp.Rules.{comparing};
+ghost use Rattle.std.specs.Ordering.{as_partial_cmp};
+
+use crate::{SeqNo, UserKey, ValueType};
+use std::alloc::{Allocator, Global};
+use std::cmp::Ordering;
+
+/// A user key with the number and the kind of one of its versions.
+///
+/// Keys are ordered bytewise upward, versions of a key by number downward, and a remaining tie by
+/// the tag upward, so that the order agrees with equality.
+#[derive(Drop)]
+#[derive_where(Debug, PartialEq, Eq, Hash)]
+pub struct InternalKey<A: Allocator = Global> {
+    /// The key.
+    pub user_key: UserKey<A>,
+    /// The version's number.
+    pub seqno: SeqNo,
+    /// The version's kind.
+    pub value_type: ValueType,
+}
+
+impl<A: Allocator> Ord for InternalKey<A> {
+    ghost cmp = { key_cmp };
+
+    ghost total = { Prim.search (comparing, rules) };
+
+    ghost matches_partial_cmp = { Prim.search (comparing, rules) };
+
+    ghost matches_eq = { Prim.search (comparing, rules) };
+
+    fn cmp(&self, other: &InternalKey<A>) -> Ordering {
+        self.user_key
+            .cmp(&other.user_key)
+            .then(other.seqno.cmp(&self.seqno))
+            .then(self.value_type.cmp(&other.value_type))
+    }
+}
+
+impl<A: Allocator> PartialOrd for InternalKey<A> {
+    ghost partial_cmp = { as_partial_cmp key_cmp };
+
+    ghost laws = { partial_order_from_own_ties (Prim.search (comparing, rules) depth 9) (Prim.search (comparing, rules) depth 9) };
+
+    fn partial_cmp(&self, other: &InternalKey<A>) -> Option<Ordering> {
+        Some(self.cmp(other))
+    }
+}

@@ -1,0 +1,20 @@
+//! The entries of sorted tables: shared byte slices, keys, entries and their order, errors, and what the two ends of a list of
+//! entries answer.
+#![tactic(auto)]
+
+mod error;
+mod key;
+mod slice;
+mod stream;
+mod value;
+mod value_type;
+
+pub use error::{Error, TagName};
+pub use key::InternalKey;
+pub use slice::{Slice, UserKey, UserValue};
+pub use stream::{Direction, IterItem, answer_at, answers_at, source_of};
+pub use value::InternalValue;
+pub use value_type::ValueType;
+
+/// The number of an entry: of two versions of a key, the one with the greater number is newer.
+pub type SeqNo = u64;

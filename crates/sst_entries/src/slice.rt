@@ -1,0 +1,172 @@
+//! Shared runs of bytes.
+ghost use Rattle.std.specs.Prelude.{◌≡◌, ◌<◌, ◌≤◌, ◌^◌, ◌↔◌, [], length, slice_range, IsTrue, IfOk, IfErr};
+ghost use Rattle.std.specs.Prelude.{nat_eq, refl, Some};
+ghost use Rattle.std.specs.Ordering.{nat_cmp};
+ghost use Rattle.std.specs.Hash as fed;
+ghost use Rattle.std.specs.Cmp.Lexicographic.{pointwise, slice_cmp, nat_list_eq_equiv, nat_list_cmp_total, texts_ties, texts_po};
+ghost use Rattle.std.specs.Cmp.{partial_equiv_from_equiv};
+ghost use Rattle.std.specs.Cmp.Rules.{hashing};
+ghost use Rattle.std.proofs.Common.{rules};
+ghost use Rattle.sst_entries.specs.declared.error.Error.TheVariants.{OutOfMemory};
+
+use crate::Error;
+use bytes::Bytes;
+use std::alloc::{AllocError, Allocator, Global};
+use std::cmp::Ordering;
+use std::hash::{Hash, Hasher};
+use std::marker::Model;
+
+/// The bytes of a key.
+pub type UserKey<A = Global> = Slice<A>;
+
+/// The bytes of a value.
+pub type UserValue<A = Global> = Slice<A>;
+
+/// Bytes that are never changed, whose clones and parts share their memory. A contract sees the
+/// list of the bytes. Equality, order and hash are those of the bytes.
+#[derive(Drop)]
+#[derive_where(Debug)]
+pub struct Slice<A: Allocator = Global> {
+    bytes: Bytes<A>,
+}
+
+impl<A: Allocator> Model for Slice<A> {
+    ghost use Rattle.std.specs.Prelude.{ℕ, List};
+
+    ghost Value = { List ℕ };
+
+    ghost view = { λ s. s.bytes };
+
+    ghost inverse = { λ b. record { bytes = b } };
+}
+
+impl<A: Allocator> Clone for Slice<A> {
+    ghost use Rattle.std.specs.Prelude.{◌≡◌};
+
+    ghost is_clone = { λ s copy. copy ≡ s };
+
+    fn clone(&self) -> Result<Slice<A>, AllocError> {
+        Ok(Slice {
+            bytes: self.bytes.clone()?,
+        })
+    }
+}
+
+impl<A: Allocator> Slice<A> {
+    /// No bytes, and no memory.
+    pub fn empty() -> Slice<A>
+        ensures { result ≡ [] }
+    {
+        Slice {
+            bytes: Bytes::new(),
+        }
+    }
+
+    /// The bytes.
+    #[inline]
+    pub fn as_slice(&self) -> &[u8]
+        ensures { result.now ≡ self.now }
+    {
+        self.bytes.as_slice()
+    }
+
+    /// How many bytes there are.
+    #[inline]
+    pub fn len(&self) -> usize
+        ensures value { result ≡ length self.now }
+        ensures bound { result < 2 ^ 63 }
+    {
+        self.bytes.len()
+    }
+
+    /// Whether there are no bytes.
+    pub fn is_empty(&self) -> bool
+        ensures { IsTrue result ↔ (self.now ≡ []) }
+    {
+        self.as_slice().is_empty()
+    }
+
+    /// The bytes from `start` up to `end`, which share the memory of these. Refused
+    /// [`Error::OutOfMemory`] where the count of sharers is refused; nothing changes then.
+    pub fn slice(&self, start: usize, end: usize) -> Result<Slice<A>, Error>
+        requires ordered { start ≤ end }
+        requires within { end ≤ length self.now }
+        ensures ok { IfOk result (λ s. s ≡ slice_range self.now start end) }
+        ensures err { IfErr result (λ e. e ≡ OutOfMemory) }
+    {
+        Ok(Slice {
+            bytes: self.bytes.slice(start..end)?,
+        })
+    }
+}
+
+impl<A: Allocator + Clone> Slice<A> {
+    /// A copy of some bytes. Refused [`Error::OutOfMemory`] alone.
+    pub fn from(alloc: A, bytes: &[u8]) -> Result<Slice<A>, Error>
+        ensures ok { IfOk result (λ s. s ≡ bytes.now) }
+        ensures err { IfErr result (λ e. e ≡ OutOfMemory) }
+    {
+        Ok(Slice {
+            bytes: Bytes::copy_from_slice(alloc, bytes)?,
+        })
+    }
+
+    /// The bytes of a vector, which is given up and not copied. Refused [`Error::OutOfMemory`]
+    /// alone.
+    pub fn from_vec(vec: Vec<u8, A>) -> Result<Slice<A>, Error>
+        ensures ok { IfOk result (λ s. s ≡ vec.items) }
+        ensures err { IfErr result (λ e. e ≡ OutOfMemory) }
+    {
+        Ok(Slice {
+            bytes: Bytes::from_vec(vec)?,
+        })
+    }
+}
+
+impl<A: Allocator> PartialEq for Slice<A> {
+    ghost eq = { pointwise nat_eq };
+
+    ghost laws = { partial_equiv_from_equiv nat_list_eq_equiv };
+
+    fn eq(&self, other: &Self) -> bool {
+        self.as_slice() == other.as_slice()
+    }
+}
+
+impl<A: Allocator> Eq for Slice<A> {
+    ghost laws = { nat_list_eq_equiv };
+}
+
+impl<A: Allocator> PartialOrd for Slice<A> {
+    ghost partial_cmp = { λ x y. Some (slice_cmp nat_cmp x y) };
+
+    ghost laws = { texts_po };
+
+    fn partial_cmp(&self, other: &Self) -> Option<Ordering> {
+        Some(self.cmp(other))
+    }
+}
+
+impl<A: Allocator> Ord for Slice<A> {
+    ghost cmp = { slice_cmp nat_cmp };
+
+    ghost total = { nat_list_cmp_total };
+
+    ghost matches_partial_cmp = { λ x y. refl };
+
+    ghost matches_eq = { texts_ties };
+
+    fn cmp(&self, other: &Self) -> Ordering {
+        self.as_slice().cmp(other.as_slice())
+    }
+}
+
+impl<A: Allocator> Hash for Slice<A> {
+    ghost hash_input = { fed.slice fed.u8 };
+
+    ghost respects_eq = { Prim.search (hashing, rules) };
+
+    fn hash<H: Hasher>(&self, state: &mut H) {
+        self.as_slice().hash(state);
+    }
+}

@@ -1,0 +1,55 @@
+//! Entries: a key with its number and kind, and a value.
+ghost use Rattle.std.specs.Prelude.{◌≡◌};
+ghost use Rattle.sst_entries.specs.Kind.{is_tombstone_kind};
+
+use crate::{InternalKey, SeqNo, UserKey, UserValue, ValueType};
+use std::alloc::{Allocator, Global};
+use std::marker::Model;
+
+/// An entry of a table. A contract sees it as a plain record, without its memory.
+#[derive(Drop)]
+#[derive_where(Debug, PartialEq, Eq)]
+pub struct InternalValue<A: Allocator = Global> {
+    /// The key, with its number and kind.
+    pub key: InternalKey<A>,
+    /// The value, empty for a tombstone.
+    pub value: UserValue<A>,
+}
+
+impl<A: Allocator> Model for InternalValue<A> {
+    ghost use Rattle.sst_entries.specs.Entry.{Entry};
+
+    ghost Value = { Entry };
+
+    ghost view = { λ v. record { user_key = v.key.user_key; seqno = v.key.seqno; kind = v.key.value_type; value = v.value } };
+
+    ghost inverse = { λ e. record { key = record { user_key = e.user_key; seqno = e.seqno; value_type = e.kind }; value = e.value } };
+}
+
+impl<A: Allocator> InternalValue<A> {
+    /// An entry of its parts.
+    pub fn from_components(
+        user_key: UserKey<A>,
+        value: UserValue<A>,
+        seqno: SeqNo,
+        value_type: ValueType,
+    ) -> InternalValue<A>
+        ensures { result ≡ record { user_key = user_key; seqno = seqno; kind = value_type; value = value } }
+    {
+        InternalValue {
+            key: InternalKey {
+                user_key,
+                seqno,
+                value_type,
+            },
+            value,
+        }
+    }
+
+    /// Whether the entry is one of the two kinds of tombstone.
+    pub fn is_tombstone(&self) -> bool
+        ensures { result ≡ is_tombstone_kind self.now.kind }
+    {
+        self.key.value_type.is_tombstone()
+    }
+}

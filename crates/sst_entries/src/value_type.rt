@@ -1,0 +1,45 @@
+//! Kinds of entries.
+ghost use Rattle.std.specs.Prelude.{◌≡◌};
+ghost use Rattle.sst_entries.specs.Kind.{tag_of, kind_of, is_tombstone_kind};
+
+/// The kind of an entry. The discriminants are the tags that a block stores.
+#[derive(Clone, Copy, Debug, PartialEq, Eq, PartialOrd, Ord, Hash)]
+pub enum ValueType {
+    /// A value.
+    Value = 0,
+    /// A deletion of every older version of the key.
+    Tombstone = 1,
+    /// A deletion of the one version directly before it.
+    WeakTombstone = 2,
+    /// A value that lies elsewhere, which the entry's value points to.
+    Indirection = 4,
+}
+
+impl ValueType {
+    /// The tag that a block stores for the kind.
+    pub fn tag(self) -> u8
+        ensures { result ≡ tag_of self }
+    {
+        self as u8
+    }
+
+    /// The kind of a tag, or `None` for a byte that is no tag.
+    pub fn from_tag(tag: u8) -> Option<ValueType>
+        ensures { result ≡ kind_of tag }
+    {
+        match tag {
+            0 => Some(ValueType::Value),
+            1 => Some(ValueType::Tombstone),
+            2 => Some(ValueType::WeakTombstone),
+            4 => Some(ValueType::Indirection),
+            _ => None,
+        }
+    }
+
+    /// Whether the kind is one of the two tombstones.
+    pub fn is_tombstone(self) -> bool
+        ensures { result ≡ is_tombstone_kind self }
+    {
+        matches!(self, ValueType::Tombstone | ValueType::WeakTombstone)
+    }
+}
