@@ -50,6 +50,7 @@ fn blocks_as_bytes(rt: HostRuntime) -> Result<(), Fail> {
     assert_eq!(rt; (second.offset(), second.size()), (BlockOffset(47), 26));
     let bytes = bytes.as_slice();
     assert!(rt; bytes.starts_with(&HEADER));
+    assert_eq!(rt; Block::<Global>::HEADER_LEN, 24);
     assert!(rt; bytes.get(24..47) == Some(PAYLOAD.as_slice()));
     assert!(rt; bytes.get(71..73) == Some(b"\x06\xff".as_slice()));
     assert_eq!(rt; checksum, u128::from(hash(bytes)));

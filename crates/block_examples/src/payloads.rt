@@ -1,7 +1,7 @@
 //! Blocks of payloads that are spelled byte by byte.
 use sst_blocks::{
     Block, BlockSource, BlockType, DataBlock, Error, IndexBlock, Opened, SectionName,
-    SectionWriter, TableVersion, hash,
+    SectionWriter, TableVersion, TagName, hash,
 };
 use std::alloc::Allocator;
 
@@ -44,7 +44,7 @@ pub(crate) fn data_block<A: Allocator + Clone>(
     let block = load(alloc, version, BlockType::Data, payload)?;
     match block.kind() {
         BlockType::Data => Ok(DataBlock::new(block)),
-        _ => Err(Error::InvalidTag(sst_blocks::TagName::BlockType, 0)),
+        _ => Err(Error::InvalidTag(TagName::BlockType, 0)),
     }
 }
 
@@ -57,6 +57,6 @@ pub(crate) fn index_block<A: Allocator + Clone>(
     let block = load(alloc, version, BlockType::Index, payload)?;
     match block.kind() {
         BlockType::Index => Ok(IndexBlock::new(block)),
-        _ => Err(Error::InvalidTag(sst_blocks::TagName::BlockType, 1)),
+        _ => Err(Error::InvalidTag(TagName::BlockType, 1)),
     }
 }

@@ -204,7 +204,7 @@ fn has_key_of<A: Allocator>(x: &InternalValue<A>, head: &InternalValue<A>) -> bo
 }
 
 // The head as a verdict leaves it, or none where the verdict drops it. A head that is changed or dropped is reported.
-fn told<C: DroppedKvCallback<A>, A: Allocator>(
+fn apply_verdict<C: DroppedKvCallback<A>, A: Allocator>(
     callback: &mut C,
     mut head: InternalValue<A>,
     verdict: StreamFilterVerdict<A>,
@@ -243,7 +243,7 @@ impl<
             return Ok(Some(head));
         }
         let verdict = self.filter.filter_item(&head)?;
-        Ok(told(&mut self.dropped_callback, head, verdict))
+        Ok(apply_verdict(&mut self.dropped_callback, head, verdict))
     }
 
     // Takes the entries of the head's key that are next, and reports them.
@@ -293,11 +293,15 @@ impl<
             self.inner.put_back(next);
             return Ok(false);
         }
-        self.close(head, &next)
+        self.drain_hidden(head, &next)
     }
 
     // Reports this version and the older ones that are next, and says whether the head goes, which hides them.
-    fn close(&mut self, head: &InternalValue<A>, next: &InternalValue<A>) -> Result<bool, Error>
+    fn drain_hidden(
+        &mut self,
+        head: &InternalValue<A>,
+        next: &InternalValue<A>,
+    ) -> Result<bool, Error>
         requires { MayCompact I.next_gives I.can_next I.remaining self.old }
         ensures may { MayCompact I.next_gives I.can_next I.remaining self.new }
         ensures rules { rules_of self.new ≡ rules_of self.old }

@@ -2,7 +2,7 @@ use Rattle.std.proofs.Common.{refl, ap}
 use Rattle.std.specs.Prelude.{Ok}
 use Rattle.sst_entries.specs.Entry.{Entry}
 use Rattle.lsm_sorted.specs.Compaction.{replace, told_by}
-use Rattle.lsm_sorted.proofs.compaction.stream.told.Goals as goal
+use Rattle.lsm_sorted.proofs.compaction.stream.apply_verdict.Goals as goal
 
 pub returns-in-Replace-clause-told : goal.returns-in-Replace-clause-told
 returns-in-Replace-clause-told g c = rw c.in-Replace.is (ap (λ (h : Entry). told_by h (Ok (replace c.in-Replace.kind c.in-Replace.value))) c.head.view_is)

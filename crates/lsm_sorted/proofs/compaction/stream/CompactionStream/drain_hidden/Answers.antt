@@ -4,7 +4,7 @@ use Rattle.std.specs.Prelude.{Some, Ok, Err}
 use Rattle.lsm_sorted.specs.Ahead.{HoldsAhead}
 use Rattle.lsm_sorted.specs.Compaction.{Rules, goes}
 use Rattle.lsm_sorted.proofs.SettleLemmas.{drains_as}
-use Rattle.lsm_sorted.proofs.compaction.stream.CompactionStream.close.Goals as goal
+use Rattle.lsm_sorted.proofs.compaction.stream.CompactionStream.drain_hidden.Goals as goal
 
 pub returns-clause-goes : goal.returns-clause-goes
 returns-clause-goes g c = c.goes_before.ensures ∙ ap (λ (r : Rules). goes r.evict c.args.head.now.kind (Some c.args.next.now)) c.in_ok-drain_key.ensures.rules
