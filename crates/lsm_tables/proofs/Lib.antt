@@ -1,3 +1,4 @@
+pub mod Told
 pub mod Loads
 pub mod Points
 pub mod Recovered

@@ -1,11 +1,12 @@
 -- What a recovered table's parts keep.
 use Rattle.std.proofs.Common.{◌≡◌, ℕ, ◌+◌, ◌-◌, ◌^◌, ◌<◌, ◌≤◌, Bool, true, false, cond, ltb, List, refl, sym, ap, subst, ◌∙◌, arith}
-use Rattle.std.specs.Prelude.{map, Result, Ok, Err}
+use Rattle.std.specs.Prelude.{length, map, Option, Some, None, Result, Ok, Err}
 use Rattle.std.proofs.lemmas.Bool.{ltb-false}
 use Rattle.sst_entries.specs.declared.error.Error.{Error}
 use Rattle.sst_entries.specs.declared.error.Error.TheVariants.{GlobalSeqNoTooLarge}
+use Rattle.sst_entries.specs.Error.{Fails, is_memory}
 use Rattle.sst_blocks.specs.declared.block_type.BlockType.TheVariants.{Index}
-use Rattle.sst_blocks.specs.Block.{Loaded, load_told, handles_of}
+use Rattle.sst_blocks.specs.Block.{Loaded, load_told, handles_of, unless}
 use Rattle.sst_blocks.specs.Handle.{Handle}
 use Rattle.sst_blocks.specs.Sections.{body_of, section_in, section_names, trailer_fault}
 use Rattle.lsm_tables.specs.declared.regions.ParsedRegions.{ParsedRegions}
@@ -13,7 +14,7 @@ use Rattle.lsm_tables.specs.Meta.{Facts}
 use Rattle.lsm_tables.specs.Load.{meta_told}
 use Rattle.lsm_tables.specs.Regions.{regions_told}
 use Rattle.lsm_tables.specs.Parts.{Parts, parts_told, recovered_told, number_told, index_told}
-use Rattle.lsm_tables.specs.Handled.{IsRecovered}
+use Rattle.lsm_tables.specs.Handled.{IsRecovered, IsOpen}
 use Rattle.lsm_tables.specs.TableSeen.{TableSeen}
 use Rattle.lsm_tables.specs.Told.{◌>>=◌}
 use Rattle.lsm_tables.proofs.Loads.{unless_ok}
@@ -70,3 +71,17 @@ index_opens t h =
     let tli = t.parts.regions.tli in
     let i = bind_ok (load_told (body_of t.bytes) tli.offset tli.size Index) (λ block. Ok (handles_of block)) t.parts.index (steps t.bytes t.global_seqno t.parts h).index in
     (i.0, i.1)
+
+-- opening what has no fault in its trailer tells what its parts tell
+pub opening_told : (bytes source : List ℕ) (g : ℕ) (told : Result Parts Error) → trailer_fault bytes ≡ None → source ≡ bytes → parts_told source g ≡ told → recovered_told bytes g ≡ told
+opening_told bytes source g told none same parts = ap (λ (o : Option Error). unless o (parts_told bytes g)) none ∙ ap (λ (b : List ℕ). parts_told b g) (sym same) ∙ parts
+
+pub opening_fails : (bytes : List ℕ) (g : ℕ) (e : Error) → (is_memory e ≡ false → trailer_fault bytes ≡ Some e) → Fails e (recovered_told bytes g)
+opening_fails bytes g e fault memory = ap (λ (o : Option Error). unless o (parts_told bytes g)) (fault memory)
+
+-- a table of such bytes
+pub is_open : (t : TableSeen) (bytes : List ℕ) (g : ℕ) → t.bytes ≡ bytes → t.global_seqno ≡ g → length bytes < 2 ^ 63 → recovered_told bytes g ≡ Ok t.parts → IsOpen t
+is_open t bytes g same number short told = record {
+  recovered = ap (λ (b : List ℕ). recovered_told b t.global_seqno) same ∙ ap (recovered_told bytes) number ∙ told;
+  short = subst (λ (b : List ℕ). length b < 2 ^ 63) (sym same) short;
+}

@@ -12,6 +12,7 @@ use Rattle.sst_entries.specs.declared.error.Error.TheVariants.{OutOfMemory, SeqN
 use Rattle.sst_blocks.specs.Block.{Loaded, load_at_told, entries_of}
 use Rattle.sst_entries.specs.Entry.{Entry}
 use Rattle.sst_entries.specs.Error.{is_memory}
+use Rattle.sst_blocks.specs.declared.opened.Opened.{Opened}
 use Rattle.sst_blocks.specs.Opened.{counted}
 use Rattle.sst_entries.specs.Stream.{Answers, Deals, CanDeal, first, but_first, front_of, nowhere, stopped}
 use Rattle.sst_entries.proofs.StreamLemmas.{head_eq, deals_by, can_by}
@@ -181,6 +182,9 @@ answers_from s u t r reached answer = record {
 abbrev pub moved : Scan → List Entry → ℕ → Scan
 moved u es next = record u { entries = es; position = next; blocks = u.blocks - 1; opened = counted Data u.opened }
 
+pub moved_is : (u s : Scan) (es : List Entry) (next : ℕ) (o : Opened) → u ≡ s → o ≡ counted Data u.opened → record (moved u es next) { opened = o } ≡ moved s es next
+moved_is u s es next o same counts = ap (λ (p : Opened). record (moved u es next) { opened = p }) counts ∙ ap (λ (v : Scan). moved v es next) same
+
 next_is : (u : Scan) (n : ℕ) → u.entries ≡ [] → u.blocks ≡ suc n → scan_left u ≡ next_left u.body u.global_seqno n (block_told u.body u.position)
 next_is u n none some = ap (λ (es : List Entry). entries_from u.body u.global_seqno es u.position u.blocks) none ∙ ap (λ (k : ℕ). entries_from u.body u.global_seqno [] u.position k) some ∙ block_left u.body u.global_seqno u.position n
 
@@ -241,6 +245,9 @@ scans_entry s u t (Err fault) reached taken = subst (ScansNext s (Some (Err faul
 -- a block could not be loaded
 abbrev pub halted : Scan → Scan
 halted u = record (ended u) { opened = counted Data u.opened }
+
+pub halted_is : (u s : Scan) (o : Opened) → u ≡ s → o ≡ counted Data u.opened → record (ended u) { opened = o } ≡ halted s
+halted_is u s o same counts = ap (λ (p : Opened). record (ended u) { opened = p }) counts ∙ ap halted same
 
 fault_is : {X : Type 0} (r : Result X Error) (e : Error) → fault_of r ≡ Some e → r ≡ Err e
 fault_is (Ok x) e h = absurd cc

@@ -26,6 +26,10 @@ index_told body regions = load_told body regions.tli.offset regions.tli.size Ind
 abbrev pub number_told : Facts → ℕ → Result Facts Error
 number_told facts g = if nat_lt (2 ^ 64 - 1) (facts.seqno_max + g) then Err GlobalSeqNoTooLarge else Ok facts
 
+-- what the meta block says, where the global number fits
+abbrev pub fitting_told : List ℕ → Place → ℕ → Result Facts Error
+fitting_told body place g = meta_told body place >>= λ facts. number_told facts g
+
 -- the regions, the meta block, the global number and the index, in this order
 unfoldable pub parts_told : List ℕ → ℕ → Result Parts Error
 parts_told bytes g =

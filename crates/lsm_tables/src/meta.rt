@@ -221,7 +221,6 @@ fn seqno_items<A: Allocator>(block: &DataBlock<A>) -> Result<(SeqNo, SeqNo), Err
     Ok((min, max))
 }
 
-#[tactic(auto, unfolding(crate::specs::Meta::facts_told))]
 fn read_facts<A: Allocator>(block: &DataBlock<A>) -> Result<ParsedMeta<A>, Error>
     ensures { Gives facts_of result (facts_told block.now) }
 {

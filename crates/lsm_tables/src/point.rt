@@ -1,10 +1,12 @@
 //! Point reads, over whatever blocks can be loaded from.
-ghost use Rattle.std.specs.Prelude.{◌≡◌, ◌+◌, ◌<◌, ◌^◌, Option, Some, IfOk, IfErr};
+ghost use Rattle.std.specs.Prelude.{◌≡◌, ◌+◌, ◌-◌, ◌<◌, ◌^◌, Option, Some, IfOk, IfErr};
 ghost use Rattle.sst_blocks.specs.Opened.{counted};
 ghost use Rattle.sst_blocks.specs.declared.block_type.BlockType.TheVariants.{Data};
 ghost use Rattle.sst_entries.specs.declared.error.Error.TheVariants.{OutOfMemory};
 ghost use Rattle.sst_entries.specs.Entry.{Entry};
 ghost use Rattle.sst_entries.specs.Error.{Gives};
+ghost use Rattle.sst_entries.specs.Point.{point};
+ghost use Rattle.std.specs.Option.{option_map};
 ghost use Rattle.sst_blocks.specs.Fnv.{fnv1a};
 ghost use Rattle.lsm_tables.specs.Answer.{answer_told, handle_for, read_told, lifted, Opens};
 ghost use Rattle.lsm_tables.specs.Seen.{parts_of};
@@ -39,6 +41,23 @@ fn handle_of<A: Allocator>(
     inner.pinned_block_index.inner().find(key, seqno)
 }
 
+/// The first entry of a key in a block, its number lifted. Refused [`Error::OutOfMemory`] alone.
+fn lifted_read<A: Allocator>(
+    block: &DataBlock<A>,
+    global_seqno: SeqNo,
+    key: &[u8],
+    seqno: SeqNo,
+) -> Result<Option<InternalValue<A>>, Error>
+    ensures found { IfOk result (λ found. found ≡ option_map (lifted global_seqno) (point block.now key.now (seqno - global_seqno))) }
+    ensures err { IfErr result (λ e. e ≡ OutOfMemory) }
+{
+    let bound = seqno.saturating_sub(global_seqno);
+    match block.point_read(key, bound)? {
+        Some(item) => Ok(Some(lift(item, global_seqno))),
+        None => Ok(None),
+    }
+}
+
 // What that block answers.
 fn read_in<S: LoadBlocks>(
     source: &mut S,
@@ -52,12 +71,7 @@ fn read_in<S: LoadBlocks>(
     ensures counted { S.opened source.new ≡ counted Data (S.opened source.old) }
 {
     let block = source.load(&handle.into_inner(), BlockType::Data)?;
-    let block = DataBlock::new(block);
-    let bound = seqno.saturating_sub(global_seqno);
-    match block.point_read(key, bound)? {
-        Some(item) => Ok(Some(lift(item, global_seqno))),
-        None => Ok(None),
-    }
+    lifted_read(&DataBlock::new(block), global_seqno, key, seqno)
 }
 
 /// The first entry of a key numbered below `seqno`, its number with the global number added. One data block is loaded at

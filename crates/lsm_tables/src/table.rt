@@ -19,7 +19,7 @@ ghost use Rattle.lsm_writers.specs.Options.{Options, Label};
 ghost use Rattle.lsm_tables.specs.Answer.{answer_told, handle_for, lift, Opens};
 ghost use Rattle.lsm_tables.specs.Fits.{Fits};
 ghost use Rattle.lsm_tables.specs.Handled.{IsRecovered, IsOpen};
-ghost use Rattle.lsm_tables.specs.Parts.{recovered_told, parts_told, index_told, number_told, size_of};
+ghost use Rattle.lsm_tables.specs.Parts.{recovered_told, parts_told, fitting_told, index_told, number_told, size_of};
 ghost use Rattle.lsm_tables.specs.Scan.{Scan, fault_of, scan_told};
 ghost use Rattle.lsm_tables.specs.Seen.{parts_of, facts_of};
 ghost use Rattle.lsm_tables.specs.TableSeen.{TableSeen};
@@ -30,8 +30,8 @@ use crate::{HEADER_LEN, Inner, ParsedMeta, ParsedRegions, Scanner, point_in};
 use lsm_ranges::{KeyRange, Ranged};
 use lsm_writers::{TableId, TreeId};
 use sst_blocks::{
-    BlockSource, BlockType, Checksum, Counted, Error, IndexBlock, InternalValue, Opened, SeqNo,
-    Slice, hash,
+    BlockHandle, BlockSource, BlockType, Checksum, Counted, Error, IndexBlock, InternalValue,
+    Opened, SeqNo, Slice, hash,
 };
 use std::alloc::{AllocError, Allocator, Global};
 use std::fmt;
@@ -131,7 +131,19 @@ fn test_number<A: Allocator>(metadata: &ParsedMeta<A>, global_seqno: SeqNo) -> R
     }
 }
 
-#[tactic(auto, unfolding(crate::specs::Parts::parts_told))]
+/// What the meta block says. Refused as [`ParsedMeta::load_with_handle`], then where the global number does not fit.
+fn fitting_metadata<A: Allocator + Clone>(
+    source: &BlockSource<A>,
+    handle: &BlockHandle,
+    global_seqno: SeqNo,
+) -> Result<ParsedMeta<A>, Error>
+    ensures { Gives facts_of result (fitting_told (body_of source.now) handle.now global_seqno) }
+{
+    let metadata = ParsedMeta::load_with_handle(source, handle)?;
+    test_number(&metadata, global_seqno)?;
+    Ok(metadata)
+}
+
 fn recover_inner<A: Allocator + Clone>(
     source: &BlockSource<A>,
     checksum: Checksum,
@@ -142,8 +154,7 @@ fn recover_inner<A: Allocator + Clone>(
     ensures numbers { IfOk result (λ inner. (inner.global_seqno ≡ global_seqno) × (inner.tree_id ≡ tree_id) × (inner.checksum ≡ checksum)) }
 {
     let regions = ParsedRegions::parse_from_toc(source.toc())?;
-    let metadata = ParsedMeta::load_with_handle(source, &regions.metadata)?;
-    test_number(&metadata, global_seqno)?;
+    let metadata = fitting_metadata(source, &regions.metadata, global_seqno)?;
     let pinned_block_index = load_index(source, &regions)?;
     Ok(Inner {
         tree_id,

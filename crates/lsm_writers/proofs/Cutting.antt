@@ -16,7 +16,6 @@ use Rattle.sst_blocks.specs.Fnv.{fnv1a}
 use Rattle.sst_blocks.specs.Bounds.{data_block_bound_of, entry_bound}
 use Rattle.sst_blocks.specs.Handle.{Handle}
 use Rattle.sst_blocks.specs.Handles.{AreStrictHandles}
-use Rattle.sst_blocks.specs.Place.{Place}
 use Rattle.sst_blocks.specs.Number.{le4, le8, num4}
 use Rattle.sst_blocks.specs.Payload.{payload}
 use Rattle.sst_blocks.specs.Reading.{entries_in}
@@ -187,13 +186,6 @@ readable_of d es e some reads short bound =
     let some' : 0 < length d = rw e some in
     let made : IsReadable V4 d = record { some = some'; reads = reads; short = short; wide = wide } in
     subst P e made
-
-pub handle_is : (h : Handle) (key : List ℕ) (n : ℕ) (place : Place) (w : Written) (p : List ℕ) (es : List Entry) (x : Entry)
-    → h ≡ record { end_key = key; seqno = n; offset = place.offset; size = place.size }
-    → key ≡ x.user_key → n ≡ x.seqno → last_entry es ≡ x
-    → place ≡ record { offset = length w.bytes; size = 24 + length p } → p ≡ payload V4 es
-    → h ≡ handle_of V4 (length w.bytes) es
-handle_is h key n place w p es x eh ek en el ep ey = rw (eh, ek, en, ep, ey, el) refl
 
 pub registered_strict : (cs : List (List Entry)) (w : Written) (hs : List Handle) (before : Option Entry) (failed : Bool) (c : List Entry) (h : Handle)
     → AreCut cs w hs before failed → failed ≡ false → IsStrict (joined cs ++ c) → IsReadable V4 c → h ≡ handle_of V4 (length w.bytes) c

@@ -1,30 +1,34 @@
 -- A finished table: its index, its meta block and its sections.
-use Rattle.std.proofs.Common.{◌≡◌, refl, sym, ◌∙◌, ap, subst, ℕ, ◌+◌, ◌*◌, ◌<◌, ◌≤◌, ◌^◌, Bool, true, false, List, [], ◌∷◌, ◌++◌, length, take, arith, length-append, rules}
-use Rattle.std.specs.Prelude.{Option, Some, None, unwrap_or, sum_by}
-use Rattle.std.specs.List.{flat_map, AllByRecursion}
+use Rattle.std.proofs.Common.{◌≡◌, refl, sym, ◌∙◌, ap, subst, ℕ, ◌+◌, ◌*◌, ◌<◌, ◌≤◌, Bool, true, false, List, [], ◌∷◌, ◌++◌, length, take, arith, length-append}
+use Rattle.std.specs.Prelude.{None, unwrap_or}
+use Rattle.std.specs.List.{AllByRecursion}
 use Rattle.std.proofs.lemmas.Bool.{ltb-false, le-ltb}
-use Rattle.std.proofs.lemmas.List.{append-nil}
+use Rattle.std.proofs.lemmas.List.{append-nil, nil_from_length}
 use Rattle.std.proofs.lemmas.List.Sums.{sum_by-cons}
-use Rattle.sst_blocks.specs.declared.version.TableVersion.{TableVersion}
 use Rattle.sst_blocks.specs.declared.version.TableVersion.TheVariants.{V4}
 use Rattle.sst_blocks.specs.Bounds.{index_block_bound_of}
 use Rattle.sst_blocks.specs.Encoding.{is_long_key, key_fault, entries_fault, large_fault}
 use Rattle.sst_entries.specs.Entry.{Entry}
+use Rattle.sst_blocks.specs.Fnv.{fnv1a}
 use Rattle.sst_blocks.specs.Number.{le4, le8, le16}
 use Rattle.sst_entries.specs.Strict.{IsStrictAfter, IsStrict, last_of}
 use Rattle.sst_blocks.proofs.Numbers.{wide4, wide8}
 use Rattle.lsm_writers.specs.declared.writer.meta.Metadata.{Metadata}
-use Rattle.lsm_writers.specs.Chunks.{joined, entry_size, size_of}
+use Rattle.lsm_writers.specs.Chunks.{joined, entry_size, size_of, is_full, AreChunks}
 use Rattle.lsm_writers.specs.Counts.{metadata_of, counted_facts}
+use Rattle.lsm_writers.specs.Cut.{rest_of}
 use Rattle.lsm_writers.specs.Facts.{Facts, first_key, last_key}
-use Rattle.lsm_writers.specs.File.{counted_blocks}
-use Rattle.lsm_writers.specs.Held.{IsShort, IsShortest}
+use Rattle.lsm_writers.specs.File.{counted_blocks, file}
+use Rattle.lsm_writers.specs.Held.{IsShort, IsShortest, IsHeld}
 use Rattle.lsm_writers.specs.Index.{handles, handles_from, last_entry, block_size}
 use Rattle.lsm_writers.specs.MetaBlock.{Blocks, meta_entry, meta_items, meta_entries}
 use Rattle.lsm_writers.specs.Options.{Options, Label}
+use Rattle.lsm_writers.specs.Registered.{failed_fault}
+use Rattle.lsm_writers.specs.Writing.{Writing, written, spilled, blocks_of, spills_of, finish_fault, IsFinished}
+use Rattle.lsm_writers.proofs.Chunking.{are_chunks}
 use Rattle.lsm_writers.proofs.Listing.{all_of, all_back, all_front}
 use Rattle.lsm_writers.proofs.Orders.{last_of_cons}
-use Rattle.lsm_writers.proofs.Taking.{no_fault, small_is}
+use Rattle.lsm_writers.proofs.Taking.{no_fault}
 
 -- ---- the index
 
@@ -193,3 +197,71 @@ last_nothing = refl
 pub last_short : (es : List Entry) → AllByRecursion IsShort es → length (unwrap_or (last_key es) []) ≤ 1048576
 last_short [] h = rw last_nothing (omega arith)
 last_short (e ∷ es) h = rw (last_of_cons None e es) (ltb-false _ _ (last_all IsShort e es h).key)
+
+-- ---- a writer that has nothing pending
+
+pub none_pending : {A : Type 0} (size : ℕ) (cs : List (List Entry)) (pending : List Entry) (n : ℕ) (m : Metadata A) → IsHeld size cs pending n m → pending ≡ [] → IsHeld size cs [] n m
+none_pending size cs pending n m h e = subst (λ (p : List Entry). IsHeld size cs p n m) e h
+
+pub held_keys : {A : Type 0} (size : ℕ) (cs : List (List Entry)) (n : ℕ) (m : Metadata A) → IsHeld size cs [] n m → key_fault (handles V4 cs) ≡ None
+held_keys size cs n m h = short_keys size cs h.shortest (all_front IsShort (joined cs) [] h.short)
+
+pub held_items_fit : {A : Type 0} (label : Label) (options : Options) (size : ℕ) (cs : List (List Entry)) (n : ℕ) (m : Metadata A) → IsHeld size cs [] n m
+    → entries_fault (meta_items V4 label options counted_blocks (counted_facts m) m.data_block_count m.file_pos.0 m.uncompressed_size) ≡ None
+held_items_fit label options size cs n m h =
+    let top : length (unwrap_or m.last_key []) ≤ 1048576 = rw h.counted (last_short (joined cs) (all_front IsShort (joined cs) [] h.short)) in
+    let low : length (unwrap_or m.first_key []) ≤ 1048576 = rw h.counted (first_short (joined cs ++ []) h.short) in
+    items_fit label options counted_blocks (counted_facts m) m.data_block_count m.file_pos.0 m.uncompressed_size top low
+
+-- ---- a writer whose pending entries were cut off
+
+pub spilled_is : {A : Type 0} (w v : Writing) (n : ℕ) (m : Metadata A) → v ≡ spilled w → IsHeld v.options.data_block_size v.cut v.pending n m → IsHeld w.options.data_block_size (blocks_of w) [] n m
+spilled_is w v n m e h = subst (λ (x : Writing). IsHeld x.options.data_block_size x.cut x.pending n m) e h
+
+rest_front : (size : ℕ) (pending : List Entry) → AllByRecursion (IsShortest size) (rest_of pending) → (n : ℕ) → 0 < n → n < length pending → is_full size (take n pending) ≡ false
+rest_front size [] h n pos lt = absurd (omega (arith, pos, lt))
+rest_front size (e ∷ es) h n pos lt = h.0.shortest n pos lt
+
+all_written : (w : Writing) → AllByRecursion (IsShortest w.options.data_block_size) (blocks_of w) → AreChunks w.options.data_block_size (spills_of w) (written w) (blocks_of w)
+all_written w h =
+    let size = w.options.data_block_size in
+    let rest = rest_of w.pending in
+    are_chunks size w.cut w.pending (all_front (IsShortest size) w.cut rest h) (rest_front size w.pending (all_back (IsShortest size) w.cut rest h))
+
+no_entries : {A : Type 0} (size : ℕ) (cs : List (List Entry)) (n : ℕ) (m : Metadata A) → IsHeld size cs [] n m → m.item_count ≡ 0 → length (joined cs) ≡ 0
+no_entries {A} size cs n m h none = sym (ap (λ (x : Metadata A). x.item_count) h.counted) ∙ none
+
+pub written_none : {A : Type 0} (w : Writing) (n : ℕ) (m : Metadata A) → IsHeld w.options.data_block_size (blocks_of w) [] n m → m.item_count ≡ 0 → written w ≡ []
+written_none w n m h none = sym (all_written w h.shortest).whole ∙ nil_from_length (joined (blocks_of w)) (no_entries _ _ n m h none)
+
+pub works_still : (failed : Bool) → failed_fault failed ≡ None → failed ≡ false
+works_still true h = absurd cc
+works_still false h = refl
+
+pub no_finish_fault : {A : Type 0} (w : Writing) (n : ℕ) (m : Metadata A) → IsHeld w.options.data_block_size (blocks_of w) [] n m → failed_fault w.failed ≡ None → m.item_count ≡ 0 → finish_fault w ≡ None
+no_finish_fault w n m h f none =
+    let cs = blocks_of w in
+    rw (works_still w.failed f) (no_index_fault cs (no_chunks w.options.data_block_size cs h.shortest (no_entries _ cs n m h none)))
+
+pub index_fault_is : (w v : Writing) → v ≡ spilled w → failed_fault w.failed ≡ None → large_fault (index_block_bound_of (handles V4 v.cut)) ≡ finish_fault w
+index_fault_is w v e f = rw (works_still w.failed f) (ap (λ (x : Writing). large_fault (index_block_bound_of (handles V4 x.cut))) e)
+
+written_all : (w : Writing) → AllByRecursion (IsShortest w.options.data_block_size) (blocks_of w) → joined (blocks_of w) ++ [] ≡ written w
+written_all w h = append-nil (joined (blocks_of w)) ∙ (all_written w h).whole
+
+pub written_strict : {A : Type 0} (w : Writing) (n : ℕ) (m : Metadata A) → IsHeld w.options.data_block_size (blocks_of w) [] n m → IsStrict (written w)
+written_strict w n m h = subst (λ (es : List Entry). IsStrict es) (written_all w h.shortest) h.strict
+
+pub written_short : {A : Type 0} (w : Writing) (n : ℕ) (m : Metadata A) → IsHeld w.options.data_block_size (blocks_of w) [] n m → AllByRecursion IsShort (written w)
+written_short w n m h = subst (λ (es : List Entry). AllByRecursion IsShort es) (written_all w h.shortest) h.short
+
+pub finished_is : {A : Type 0} (w : Writing) (n : ℕ) (m : Metadata A) (id checksum : ℕ) (bytes : List ℕ) → IsHeld w.options.data_block_size (blocks_of w) [] n m → (m.item_count ≡ 0 → ⊥)
+    → id ≡ w.label.table_id → checksum ≡ fnv1a bytes → bytes ≡ file V4 w.label w.options (blocks_of w) → IsFinished w id checksum bytes
+finished_is {A} w n m id checksum bytes h some i s b =
+    let chunks = all_written w h.shortest in
+    record {
+      some = λ e. some (ap (λ (x : Metadata A). x.item_count) h.counted ∙ ap length (chunks.whole ∙ e));
+      id_is = i;
+      checksum_is = s;
+      file_is = record { blocks = blocks_of w; chunks = chunks; are = b };
+    }

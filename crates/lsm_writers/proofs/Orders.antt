@@ -112,6 +112,11 @@ last_place d es x e h =
     let r = last_at None es x (subst (λ (y : List Entry). Some x ≡ slice_get y (length y - 1)) e h) in
     (r.0, ap (λ (o : Option Entry). unwrap_or o (entry [] [] 0 Value)) r.1)
 
+pub some_last : (es : List Entry) (x : Entry) → last_of None es ≡ Some x → 0 < length es
+unfolding last_of
+some_last [] x h = absurd cc
+some_last (e ∷ es) x h = omega arith
+
 -- without a last place there is nothing
 pub no_place : (es : List Entry) → None ≡ slice_get es (length es - 1) → es ≡ []
 no_place [] h = refl

@@ -1,8 +1,8 @@
 -- Entries that a writer takes, and what is pending.
-use Rattle.std.proofs.Common.{◌≡◌, refl, sym, ◌∙◌, ap, subst, ℕ, suc, ◌+◌, ◌-◌, ◌*◌, ◌<◌, ◌≤◌, ◌^◌, Bool, true, false, List, [], ◌∷◌, ◌++◌, length, take, append_assoc, arith, length-append, rules, cond, inl, inr, IsTrue}
-use Rattle.std.specs.Prelude.{Option, Some, None, nat_lt, nat_le, min, max, sum_by, count_by, ◌&&◌}
+use Rattle.std.proofs.Common.{◌≡◌, refl, sym, ◌∙◌, ap, subst, ℕ, ◌+◌, ◌*◌, ◌<◌, ◌≤◌, ◌^◌, Bool, true, false, List, [], ◌∷◌, ◌++◌, length, take, append_assoc, arith, length-append, cond, inl, inr, IsTrue}
+use Rattle.std.specs.Prelude.{Option, Some, None, nat_le, min, max, sum_by, count_by, ◌&&◌}
 use Rattle.std.specs.List.{AllByRecursion}
-use Rattle.std.proofs.lemmas.Bool.{le-ltb, ltb-false, le-leb, lt-leb, leb-false, cases_lt}
+use Rattle.std.proofs.lemmas.Bool.{le-ltb, le-leb, lt-leb, leb-false, cases_lt}
 use Rattle.std.proofs.lemmas.List.{take-append-le, take_at, append-nil}
 use Rattle.std.proofs.lemmas.List.Sums.{sum_by-append, sum_by-cons, count_by-le-length}
 use Rattle.sst_entries.specs.declared.error.Error.{Error}
@@ -21,8 +21,8 @@ use Rattle.lsm_writers.specs.Facts.{count_after, lowest_seqno, highest_seqno, is
 use Rattle.lsm_writers.specs.Held.{IsShort, IsOpen, IsHeld, CanGoOn, IsShortest}
 use Rattle.lsm_writers.specs.Writing.{item_fault, follows}
 use Rattle.lsm_writers.proofs.Cutting.{joined_more}
-use Rattle.lsm_writers.proofs.Listing.{all-append}
-use Rattle.lsm_writers.proofs.Orders.{strict_more, ends_follow}
+use Rattle.lsm_writers.proofs.Listing.{all-append, all_back}
+use Rattle.lsm_writers.proofs.Orders.{strict_more, ends_follow, last_of-append}
 
 -- the bound of a block, by the number of its entries and their size
 bound_sum : (es : List Entry) → sum_by entry_bound es ≡ 17 * length es + size_of es
@@ -218,3 +218,17 @@ held_cut {A} size cut (e ∷ es) n m old =
 pub not_full : (size n : ℕ) (pending : List Entry) → n ≡ size_of pending → n < size → IsOpen size pending
 not_full size n [] e lt = tt
 not_full size n (x ∷ xs) e lt = lt-leb _ _ (omega (arith, e, lt))
+
+-- a writer's parts once an entry was taken
+pub taken_held : {A : Type 0} (size : ℕ) (cut : List (List Entry)) (pending : List Entry) (n : ℕ) (m : Metadata A) (e : Entry) (last : Option Entry) (items : List Entry) (k : ℕ) (o : Metadata A)
+    → IsHeld size cut pending n m → IsOpen size pending → IsTrue (follows (joined cut ++ pending) e.user_key e.seqno) → item_fault pending e ≡ None → last ≡ last_of None (joined cut)
+    → items ≡ pending ++ e ∷ [] → k ≡ n + entry_size e → o ≡ counted (last_of last pending) e m
+    → IsHeld size cut items k o
+taken_held {A} size cut pending n m e last items k o old room f ok l i s c =
+    let before : last_of last pending ≡ last_of None (joined cut ++ pending) = ap (λ (x : Option Entry). last_of x pending) l ∙ sym (last_of-append None (joined cut) pending) in
+    let meta : o ≡ counted (last_of None (joined cut ++ pending)) e m = c ∙ ap (λ (x : Option Entry). counted x e m) before in
+    rw (i, s, meta) (held_more size cut pending n m e old room f ok)
+
+-- what is pending encodes, as it is held
+pub held_fits : {A : Type 0} (size : ℕ) (cut : List (List Entry)) (pending : List Entry) (n : ℕ) (m : Metadata A) → IsHeld size cut pending n m → entries_fault pending ≡ None
+held_fits size cut pending n m h = no_fault pending (all_back IsShort (joined cut) pending h.short) (omega (arith, h.sized, h.small))

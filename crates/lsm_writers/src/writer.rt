@@ -5,9 +5,9 @@ ghost use Rattle.sst_entries.specs.declared.error.Error.TheVariants.{OutOfMemory
 ghost use Rattle.sst_blocks.specs.declared.version.TableVersion.TheVariants.{V4};
 ghost use Rattle.sst_entries.specs.Error.{Faults};
 ghost use Rattle.sst_entries.specs.Strict.{IsStrict, last_of};
-ghost use Rattle.lsm_writers.specs.Chunks.{joined, size_of};
+ghost use Rattle.lsm_writers.specs.Chunks.{entry_size, size_of};
 ghost use Rattle.lsm_writers.specs.Options.{default_options};
-ghost use Rattle.lsm_writers.specs.Counts.{metadata_of};
+ghost use Rattle.lsm_writers.specs.Counts.{metadata_of, counted, HasRoom};
 ghost use Rattle.lsm_writers.specs.Writing.{written, IsFresh, follows, write_fault, item_fault, gained, spilled, finish_fault, IsFinished};
 ghost use Rattle.std.specs.List.{AllByRecursion};
 ghost use Rattle.lsm_writers.specs.Held.{IsShort};
@@ -15,7 +15,7 @@ ghost use Rattle.lsm_writers.specs.Registered.{failed_fault};
 ghost use Rattle.lsm_writers.specs.File.{file};
 ghost use Rattle.lsm_writers.specs.Index.{handles};
 ghost use Rattle.sst_blocks.specs.Bounds.{index_block_bound_of};
-ghost use Rattle.sst_blocks.specs.Encoding.{key_fault, large_fault};
+ghost use Rattle.sst_blocks.specs.Encoding.{large_fault};
 ghost use Rattle.sst_blocks.specs.Fnv.{fnv1a};
 
 mod data_blocks;
@@ -143,13 +143,13 @@ impl<A: Allocator + Clone> Writer<A> {
         }
         self.failed = true;
         let options = self.options;
-        check_item(&self.chunk, self.chunk_size, &item)?;
-        self.chunk.reserve(1)?;
-        let cut = self.blocks.last();
-        let before = last_written(&self.chunk, cut);
-        self.meta.count(before, &item)?;
-        self.chunk_size += item.key.user_key.len() + item.value.len();
-        self.chunk.push(item)?;
+        take_item(
+            &mut self.chunk,
+            &mut self.chunk_size,
+            &mut self.meta,
+            self.blocks.last(),
+            item,
+        )?;
         if self.chunk_size >= options.data_block_size as usize {
             self.blocks.cut(&mut self.chunk, &mut self.meta, &options)?;
             self.chunk_size = 0;
@@ -182,31 +182,43 @@ impl<A: Allocator + Clone> Writer<A> {
     ///
     /// Refused [`Error::WriterFailed`] where a call was refused before, [`Error::BlockTooLarge`] where the bound of the index
     /// reaches 2^32, and [`Error::OutOfMemory`].
-    pub fn finish(self) -> Result<Option<FinishedTable<A>>, Error>
+    pub fn finish(mut self) -> Result<Option<FinishedTable<A>>, Error>
         ensures table { IfOk result (λ t. MatchOption t (written self ≡ []) (λ f. IsFinished self f.id f.checksum.0 f.bytes)) }
         ensures refused { Faults result (finish_fault self) }
         // The list that was written is strict, and its entries are as long as a table holds.
         ensures strict { IfOk result (λ t. IsStrict (written self)) }
         ensures short { IfOk result (λ t. AllByRecursion IsShort (written self)) }
     {
-        let Writer {
-            label,
-            options,
-            mut blocks,
-            mut chunk,
-            chunk_size: _,
-            mut meta,
-            failed,
-        } = self;
-        if failed {
-            return Err(Error::WriterFailed);
-        }
-        blocks.cut(&mut chunk, &mut meta, &options)?;
-        if meta.item_count == 0 {
+        self.spill_block()?;
+        if self.meta.item_count == 0 {
             return Ok(None);
         }
-        let table = table_of(chunk.allocator(), &label, &options, blocks, &meta)?;
-        Ok(Some(table))
+        Ok(Some(self.table()?))
+    }
+
+    /// The table of the blocks that were cut: behind them stand their index, the version, the meta block and the trailer.
+    /// Refused [`Error::BlockTooLarge`] where the bound of the index reaches 2^32, and [`Error::OutOfMemory`].
+    fn table(self) -> Result<FinishedTable<A>, Error>
+        requires works { self.failed ≡ false }
+        requires cut { self.pending ≡ [] }
+        ensures id { IfOk result (λ t. t.id ≡ self.label.table_id) }
+        ensures checksum { IfOk result (λ t. t.checksum.0 ≡ fnv1a t.bytes) }
+        ensures bytes { IfOk result (λ t. t.bytes ≡ file V4 self.label self.options self.cut) }
+        ensures refused { Faults result (large_fault (index_block_bound_of (handles V4 self.cut))) }
+    {
+        let items = meta_items(
+            self.chunk.allocator(),
+            &self.label,
+            &self.options,
+            &self.meta,
+        )?;
+        let Writer { label, blocks, .. } = self;
+        let (bytes, checksum) = blocks.finish(&items)?;
+        Ok(FinishedTable {
+            id: label.table_id,
+            checksum,
+            bytes,
+        })
     }
 
     /// After how many entries at most a data block has a place where reading can restart.
@@ -303,6 +315,34 @@ fn last_written<'a, A: Allocator>(
     }
 }
 
+/// Puts an entry behind the pending ones, and counts it; `cut` is the last entry of the blocks that were cut. Whatever is
+/// refused, nothing changes.
+fn take_item<A: Allocator + Clone>(
+    chunk: &mut Vec<InternalValue<A>, A>,
+    chunk_size: &mut usize,
+    meta: &mut Metadata<A>,
+    cut: Option<&InternalValue<A>>,
+    item: InternalValue<A>,
+) -> Result<(), Error>
+    requires sized { chunk_size.old ≡ size_of chunk.old.items }
+    requires small { 28 + 17 * length chunk.old.items + chunk_size.old < 2 ^ 32 }
+    requires room { HasRoom meta.old }
+    ensures taken { OnOk result (chunk.new.items ≡ chunk.old.items ++ item ∷ []) }
+    ensures sized { OnOk result (chunk_size.new ≡ chunk_size.old + entry_size item) }
+    ensures counted { OnOk result (meta.new ≡ counted (last_of (option_copied cut.entry) chunk.old.items) item meta.old) }
+    ensures left { OnErr result (chunk.new.items ≡ chunk.old.items) }
+    ensures same_size { OnErr result (chunk_size.new ≡ chunk_size.old) }
+    ensures uncounted { OnErr result (meta.new ≡ meta.old) }
+    ensures refused { Faults result (item_fault chunk.old.items item) }
+{
+    check_item(chunk, *chunk_size, &item)?;
+    chunk.reserve(1)?;
+    meta.count(last_written(chunk, cut), &item)?;
+    *chunk_size += item.key.user_key.len() + item.value.len();
+    chunk.push(item)?;
+    Ok(())
+}
+
 /// Refused where an entry is too long, or would make the block of the pending ones too large.
 fn check_item<A: Allocator>(
     chunk: &[InternalValue<A>],
@@ -326,31 +366,4 @@ fn check_item<A: Allocator>(
         return Err(Error::BlockTooLarge);
     }
     Ok(())
-}
-
-/// The table of these blocks: behind them stand their index, the version, the meta block and the trailer. Refused
-/// [`Error::BlockTooLarge`] where the bound of the index reaches 2^32, and [`Error::OutOfMemory`].
-fn table_of<A: Allocator + Clone>(
-    alloc: &A,
-    label: &TableLabel,
-    options: &WriterOptions,
-    blocks: DataBlocks<A>,
-    meta: &Metadata<A>,
-) -> Result<FinishedTable<A>, Error>
-    requires works { blocks.failed ≡ false }
-    requires keys { key_fault (handles V4 blocks.chunks) ≡ None }
-    requires short { AllByRecursion IsShort (joined blocks.chunks) }
-    requires counted { meta.now ≡ metadata_of V4 blocks.chunks [] }
-    ensures id { IfOk result (λ t. t.id ≡ label.now.table_id) }
-    ensures checksum { IfOk result (λ t. t.checksum.0 ≡ fnv1a t.bytes) }
-    ensures bytes { IfOk result (λ t. t.bytes ≡ file V4 label.now options.now blocks.chunks) }
-    ensures refused { Faults result (large_fault (index_block_bound_of (handles V4 blocks.chunks))) }
-{
-    let items = meta_items(alloc.clone()?, label, options, meta)?;
-    let (bytes, checksum) = blocks.finish(&items)?;
-    Ok(FinishedTable {
-        id: label.table_id,
-        checksum,
-        bytes,
-    })
 }

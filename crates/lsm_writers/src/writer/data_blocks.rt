@@ -1,5 +1,5 @@
 //! The data blocks of a table, with the index that they are registered with.
-ghost use Rattle.std.specs.Prelude.{◌≡◌, ◌+◌, ◌*◌, ◌++◌, ◌^◌, ◌<◌, [], ◌∷◌, None, false, length, IfOk, IfErr, OnOk, OnErr};
+ghost use Rattle.std.specs.Prelude.{◌≡◌, ◌+◌, ◌*◌, ◌++◌, ◌^◌, ◌<◌, [], ◌∷◌, None, Some, false, length, IfOk, IfErr, OnOk, OnErr};
 ghost use Rattle.std.specs.Option.{option_copied};
 ghost use Rattle.sst_entries.specs.declared.error.Error.TheVariants.{OutOfMemory};
 ghost use Rattle.sst_blocks.specs.declared.section.SectionName.TheVariants.{Data};
@@ -11,9 +11,10 @@ ghost use Rattle.sst_blocks.specs.Fnv.{fnv1a};
 ghost use Rattle.sst_blocks.specs.Sections.{finished};
 ghost use Rattle.sst_entries.specs.Strict.{IsStrict, last_of};
 ghost use Rattle.lsm_writers.specs.Chunks.{joined};
-ghost use Rattle.lsm_writers.specs.Cut.{Cut, CountsCut, with_cut, rest_of};
+ghost use Rattle.lsm_writers.specs.Cut.{Cut, CountsCut, IsReadable, with_cut, rest_of};
 ghost use Rattle.lsm_writers.specs.File.{end_sections, index_sections, HasNoEnd};
-ghost use Rattle.lsm_writers.specs.Index.{handles, data_section};
+ghost use Rattle.lsm_writers.specs.Index.{handles, handle_of, data_block, data_section};
+ghost use Rattle.sst_blocks.specs.Payload.{payload};
 ghost use Rattle.lsm_writers.specs.Layout.{laid};
 ghost use Rattle.lsm_writers.specs.Registered.{appended};
 
@@ -101,23 +102,14 @@ impl<A: Allocator + Clone> DataBlocks<A> {
         let Some(last) = chunk.last() else {
             return Ok(());
         };
-        let seqno = last.key.seqno;
-        let end_key = last.key.user_key.clone()?;
-        let last_key = end_key.clone()?;
-        self.block_buffer.clear();
-        DataBlock::encode_into(
+        let last_key = last.key.user_key.clone()?;
+        let handle = write_chunk(
+            &mut self.file_writer,
             &mut self.block_buffer,
             chunk,
-            options.data_block_restart_interval,
-            options.data_block_hash_ratio,
+            last,
+            options,
         )?;
-        let place = Block::write_into(
-            &mut self.file_writer,
-            &self.block_buffer,
-            BlockType::Data,
-            CompressionType::None,
-        )?;
-        let handle = KeyedBlockHandle::new(end_key, seqno, place);
         self.index_writer.register_data_block(&handle)?;
         let end = BlockOffset(self.file_writer.position());
         meta.count_block(chunk.len(), self.block_buffer.len(), end, last_key);
@@ -158,6 +150,37 @@ impl<A: Allocator + Clone> DataBlocks<A> {
         index_writer.finish(&mut file_writer)?;
         Ok((file_writer, block_buffer))
     }
+}
+
+/// Encodes these entries into the buffer and writes them as a block at the end. Answers what the index has of the block.
+/// Refused [`Error::OutOfMemory`] alone; nothing is written then.
+fn write_chunk<A: Allocator + Clone>(
+    file_writer: &mut SectionWriter<A>,
+    buffer: &mut Vec<u8, A>,
+    items: &[InternalValue<A>],
+    last: &InternalValue<A>,
+    options: &WriterOptions,
+) -> Result<KeyedBlockHandle<A>, Error>
+    requires last { last_of None items.now ≡ Some last.now }
+    requires strict { IsStrict items.now }
+    requires fit { entries_fault items.now ≡ None }
+    ensures ok { OnOk result (file_writer.new ≡ record file_writer.old { bytes = file_writer.old.bytes ++ data_block V4 items.now }) }
+    ensures encoded { OnOk result (buffer.new.items ≡ payload V4 items.now) }
+    ensures handle { IfOk result (λ h. h ≡ handle_of V4 (length file_writer.old.bytes) items.now) }
+    ensures readable { OnOk result (IsReadable V4 items.now) }
+    ensures unchanged { OnErr result (file_writer.new ≡ file_writer.old) }
+    ensures err { IfErr result (λ e. e ≡ OutOfMemory) }
+{
+    let end_key = last.key.user_key.clone()?;
+    buffer.clear();
+    DataBlock::encode_into(
+        buffer,
+        items,
+        options.data_block_restart_interval,
+        options.data_block_hash_ratio,
+    )?;
+    let place = Block::write_into(file_writer, buffer, BlockType::Data, CompressionType::None)?;
+    Ok(KeyedBlockHandle::new(end_key, last.key.seqno, place))
 }
 
 /// Writes the version and the meta block behind the other sections, and the trailer.

@@ -1,8 +1,7 @@
 //! The meta block of a table: what a reader is told of it.
-ghost use Rattle.std.specs.Prelude.{◌≡◌, [], ◌∷◌, ◌++◌, unwrap_or, IfOk, IfErr, OnOk};
+ghost use Rattle.std.specs.Prelude.{◌≡◌, [], ◌∷◌, ◌++◌, unwrap_or, map, IfOk, IfErr, OnOk};
 ghost use Rattle.sst_entries.specs.declared.error.Error.TheVariants.{OutOfMemory};
 ghost use Rattle.sst_blocks.specs.declared.version.TableVersion.TheVariants.{V4};
-ghost use Rattle.sst_blocks.specs.Number.{le4, le8, le16};
 ghost use Rattle.lsm_writers.specs.Counts.{counted_facts};
 ghost use Rattle.lsm_writers.specs.File.{counted_blocks};
 ghost use Rattle.lsm_writers.specs.MetaBlock.{meta_entry, block_items, key_items, option_items, count_items, meta_items};
@@ -34,7 +33,7 @@ impl Model for TableLabel {
 
 /// The items of the meta block, in the byte order of their names. Refused [`Error::OutOfMemory`] alone.
 pub(crate) fn meta_items<A: Allocator + Clone>(
-    alloc: A,
+    alloc: &A,
     label: &TableLabel,
     options: &WriterOptions,
     meta: &Metadata<A>,
@@ -42,7 +41,7 @@ pub(crate) fn meta_items<A: Allocator + Clone>(
     ensures ok { IfOk result (λ items. items.items ≡ meta_items V4 label.now options.now counted_blocks (counted_facts meta.now) meta.now.data_block_count meta.now.file_pos.0 meta.now.uncompressed_size) }
     ensures err { IfErr result (λ e. e ≡ OutOfMemory) }
 {
-    let mut items = Vec::new(alloc);
+    let mut items = Vec::new(alloc.clone()?);
     put_block_items(&mut items, label, options, meta)?;
     put_key_items(&mut items, label, meta)?;
     put_option_items(&mut items, label, options, meta)?;
@@ -60,21 +59,27 @@ fn put_block_items<A: Allocator + Clone>(
     ensures ok { OnOk result (items.new.items ≡ items.old.items ++ block_items label.now options.now counted_blocks meta.now.data_block_count meta.now.file_pos.0) }
     ensures err { IfErr result (λ e. e ≡ OutOfMemory) }
 {
-    put_u64(items, b"block_count#data", meta.data_block_count as u64)?;
-    put_u64(items, b"block_count#filter", 1)?;
-    put_u64(items, b"block_count#index", 1)?;
-    put(items, b"checksum_type", &[1])?;
-    put(items, b"compression#data", &[0])?;
-    put(items, b"compression#index", &[0])?;
-    put(items, b"crate_version", b"3.1.10")?;
-    put_u128(items, b"created_at", *label.created_at)?;
-    put_u32(
+    put_all(
         items,
-        b"data_block_hash_ratio",
-        options.data_block_hash_ratio,
-    )?;
-    put_u64(items, b"file_size", meta.file_pos.0)?;
-    Ok(())
+        &[
+            (
+                b"block_count#data",
+                &(meta.data_block_count as u64).to_le_bytes(),
+            ),
+            (b"block_count#filter", &1_u64.to_le_bytes()),
+            (b"block_count#index", &1_u64.to_le_bytes()),
+            (b"checksum_type", &[1]),
+            (b"compression#data", &[0]),
+            (b"compression#index", &[0]),
+            (b"crate_version", b"3.1.10"),
+            (b"created_at", &label.created_at.to_le_bytes()),
+            (
+                b"data_block_hash_ratio",
+                &options.data_block_hash_ratio.to_le_bytes(),
+            ),
+            (b"file_size", &meta.file_pos.0.to_le_bytes()),
+        ],
+    )
 }
 
 /// The hash, the level, the number of items and the keys.
@@ -86,14 +91,18 @@ fn put_key_items<A: Allocator + Clone>(
     ensures ok { OnOk result (items.new.items ≡ items.old.items ++ key_items label.now (counted_facts meta.now)) }
     ensures err { IfErr result (λ e. e ≡ OutOfMemory) }
 {
-    put(items, b"filter_hash_type", &[1])?;
-    put(items, b"index_keys_have_seqno", &[1])?;
-    put(items, b"initial_level", &[label.initial_level])?;
-    put_u64(items, b"item_count", meta.item_count as u64)?;
+    put_all(
+        items,
+        &[
+            (b"filter_hash_type", &[1]),
+            (b"index_keys_have_seqno", &[1]),
+            (b"initial_level", &[label.initial_level]),
+            (b"item_count", &(meta.item_count as u64).to_le_bytes()),
+        ],
+    )?;
     put(items, b"key#max", bytes_of(&meta.last_key))?;
     put(items, b"key#min", bytes_of(&meta.first_key))?;
-    put_u64(items, b"key_count", meta.key_count as u64)?;
-    Ok(())
+    put(items, b"key_count", &(meta.key_count as u64).to_le_bytes())
 }
 
 /// The options and the numbers.
@@ -106,23 +115,25 @@ fn put_option_items<A: Allocator + Clone>(
     ensures ok { OnOk result (items.new.items ≡ items.old.items ++ option_items V4 label.now options.now (counted_facts meta.now)) }
     ensures err { IfErr result (λ e. e ≡ OutOfMemory) }
 {
-    put(items, b"prefix_truncation#data", &[0])?;
-    put(items, b"prefix_truncation#index", &[0])?;
-    put(
+    put_all(
         items,
-        b"restart_interval#data",
-        &[options.data_block_restart_interval],
-    )?;
-    put(
-        items,
-        b"restart_interval#index",
-        &[options.index_block_restart_interval],
-    )?;
-    put_u64(items, b"seqno#max", meta.highest_seqno)?;
-    put_u64(items, b"seqno#min", meta.lowest_seqno)?;
-    put_u64(items, b"table_id", label.table_id)?;
-    put(items, b"table_version", &[4])?;
-    Ok(())
+        &[
+            (b"prefix_truncation#data", &[0]),
+            (b"prefix_truncation#index", &[0]),
+            (
+                b"restart_interval#data",
+                &[options.data_block_restart_interval],
+            ),
+            (
+                b"restart_interval#index",
+                &[options.index_block_restart_interval],
+            ),
+            (b"seqno#max", &meta.highest_seqno.to_le_bytes()),
+            (b"seqno#min", &meta.lowest_seqno.to_le_bytes()),
+            (b"table_id", &label.table_id.to_le_bytes()),
+            (b"table_version", &[4]),
+        ],
+    )
 }
 
 /// The other counts.
@@ -133,18 +144,37 @@ fn put_count_items<A: Allocator + Clone>(
     ensures ok { OnOk result (items.new.items ≡ items.old.items ++ count_items (counted_facts meta.now) meta.now.uncompressed_size) }
     ensures err { IfErr result (λ e. e ≡ OutOfMemory) }
 {
-    put_u64(items, b"tombstone_count", meta.tombstone_count as u64)?;
-    put_u64(items, b"user_data_size", meta.uncompressed_size)?;
-    put_u64(
+    put_all(
         items,
-        b"weak_tombstone_count",
-        meta.weak_tombstone_count as u64,
-    )?;
-    put_u64(
-        items,
-        b"weak_tombstone_reclaimable",
-        meta.weak_tombstone_reclaimable_count as u64,
-    )?;
+        &[
+            (
+                b"tombstone_count",
+                &(meta.tombstone_count as u64).to_le_bytes(),
+            ),
+            (b"user_data_size", &meta.uncompressed_size.to_le_bytes()),
+            (
+                b"weak_tombstone_count",
+                &(meta.weak_tombstone_count as u64).to_le_bytes(),
+            ),
+            (
+                b"weak_tombstone_reclaimable",
+                &(meta.weak_tombstone_reclaimable_count as u64).to_le_bytes(),
+            ),
+        ],
+    )
+}
+
+/// An item more for each name and value.
+fn put_all<A: Allocator + Clone>(
+    items: &mut Vec<InternalValue<A>, A>,
+    named: &[(&[u8], &[u8])],
+) -> Result<(), Error>
+    ensures ok { OnOk result (items.new.items ≡ items.old.items ++ map (λ x. meta_entry x.0.now x.1.now) named.now) }
+    ensures err { IfErr result (λ e. e ≡ OutOfMemory) }
+{
+    for (name, value) in named {
+        put(items, name, value)?;
+    }
     Ok(())
 }
 
@@ -156,43 +186,6 @@ fn bytes_of<A: Allocator>(key: &Option<UserKey<A>>) -> &[u8]
         Some(key) => key.as_slice(),
         None => &[],
     }
-}
-
-#[tactic(auto, unfolding(sst_blocks::specs::Number::le4))]
-fn put_u32<A: Allocator + Clone>(
-    items: &mut Vec<InternalValue<A>, A>,
-    name: &[u8],
-    value: u32,
-) -> Result<(), Error>
-    ensures ok { OnOk result (items.new.items ≡ items.old.items ++ meta_entry name.now (le4 value) ∷ []) }
-    ensures err { IfErr result (λ e. e ≡ OutOfMemory) }
-{
-    put(items, name, &value.to_le_bytes())
-}
-
-#[tactic(auto, unfolding(sst_blocks::specs::Number::le8))]
-fn put_u64<A: Allocator + Clone>(
-    items: &mut Vec<InternalValue<A>, A>,
-    name: &[u8],
-    value: u64,
-) -> Result<(), Error>
-    ensures ok { OnOk result (items.new.items ≡ items.old.items ++ meta_entry name.now (le8 value) ∷ []) }
-    ensures err { IfErr result (λ e. e ≡ OutOfMemory) }
-{
-    put(items, name, &value.to_le_bytes())
-}
-
-#[tactic(auto, unfolding(sst_blocks::specs::Number::le16))]
-fn put_u128<A: Allocator + Clone>(
-    items: &mut Vec<InternalValue<A>, A>,
-    name: &[u8],
-    value: u128,
-) -> Result<(), Error>
-    ensures ok { OnOk result (items.new.items ≡ items.old.items ++ meta_entry name.now (le16 value) ∷ []) }
-    ensures err { IfErr result (λ e. e ≡ OutOfMemory) }
-{
-    put(items, name, &value.to_le_bytes())?;
-    Ok(())
 }
 
 /// One item more. Refused [`Error::OutOfMemory`] alone.

@@ -1,5 +1,6 @@
-use Rattle.std.proofs.Common.{append_assoc}
+use Rattle.sst_blocks.specs.Number.{le4, le8, le16}
 use Rattle.lsm_writers.proofs.writer.meta_block.put_block_items.Goals as goal
 
 pub returns-clause-ok : goal.returns-clause-ok
-returns-clause-ok g c = rw (c.in_ok-put_u64-4.ensures.ok, c.in_ok-put_u32.ensures.ok, c.in_ok-put_u128.ensures.ok, c.in_ok-put-4.ensures.ok, c.in_ok-put-3.ensures.ok, c.in_ok-put-2.ensures.ok, c.in_ok-put.ensures.ok, c.in_ok-put_u64-3.ensures.ok, c.in_ok-put_u64-2.ensures.ok, c.in_ok-put_u64.ensures.ok, c.deref.ensures, ← c.label.view_is, ← c.options.view_is) (simp append_assoc)
+unfolding le4 le8 le16
+returns-clause-ok g c = rw (← c.label.view_is, ← c.options.view_is) (rw (c.to_le_bytes.ensures, c.to_le_bytes-2.ensures, c.to_le_bytes-3.ensures, c.to_le_bytes-4.ensures, c.deref.ensures, c.to_le_bytes-5.ensures, c.to_le_bytes-6.ensures) at c.put_all.ensures.ok)

@@ -1,0 +1,6 @@
+use Rattle.std.proofs.Common.{◌≡◌, ◌++◌, map, take}
+use Rattle.lsm_writers.specs.MetaBlock.{meta_entry}
+use Rattle.lsm_writers.proofs.writer.meta_block.put_all.Given as goal
+
+abbrev pub invariant-loop-name : goal.invariant-loop-name
+invariant-loop-name g l = l.items.items ≡ l.fn.items.items ++ map (λ x. meta_entry x.0.now x.1.now) (take l.name-index l.named)
