@@ -1,17 +1,22 @@
 -- Lists that a table can be written of.
-use Rattle.std.proofs.Common.{◌≡◌, refl, sym, ◌∙◌, ap, Bool, true, false, IsTrue, append_assoc, List, [], ◌∷◌, ◌++◌, ltb-true, lt-ltb}
-use Rattle.std.specs.Prelude.{None, ◌&&◌}
+use Rattle.std.proofs.Common.{◌≡◌, refl, sym, ◌∙◌, ap, subst, ℕ, Bool, true, false, IsTrue, append_assoc, List, [], ◌∷◌, ◌++◌, ltb-true, lt-ltb}
+use Rattle.std.specs.Prelude.{Option, Some, None, Result, Ok, Err, IfOk, MatchOption, ◌&&◌}
 use Rattle.std.proofs.lemmas.Grind.{flat_map-append}
 use Rattle.std.proofs.lemmas.List.{append-nil}
 use Rattle.sst_entries.specs.declared.value_type.ValueType.TheVariants.{Value}
 use Rattle.sst_entries.specs.Entry.{Entry, entry}
 use Rattle.sst_entries.specs.Strict.{last_of, IsStrictAfter}
-use Rattle.lsm_writers.specs.Writing.{follows, gained, written, Writing}
+use Rattle.sst_entries.specs.declared.error.Error.{Error}
+use Rattle.sst_blocks.specs.declared.version.TableVersion.TheVariants.{V4}
+use Rattle.lsm_writers.specs.declared.writer.FinishedTable.{FinishedTable}
+use Rattle.lsm_writers.specs.File.{IsFile}
+use Rattle.lsm_writers.specs.Options.{Options, Label, default_options}
+use Rattle.lsm_writers.specs.Writing.{follows, gained, written, spills_of, IsFinished, Writing}
 use Rattle.lsm_writers.specs.Chunks.{joined, is_full}
 use Rattle.lsm_writers.proofs.Listing.{all-append, all_back}
 use Rattle.lsm_writers.proofs.Orders.{strict_back, ends_follow}
 use Rattle.lsm_writers.proofs.Taking.{strict_gained}
-use Rattle.sst.specs.Pending.{IsNumbered, IsPending}
+use Rattle.sst.specs.Pending.{IsNumbered, IsPending, IsTableOf}
 
 and_left : (a b : Bool) → IsTrue (a && b) → a ≡ true
 and_left true b h = refl
@@ -59,3 +64,22 @@ label_by w e false h = rw h (refl, refl)
 
 pub same_label : (w : Writing) (e : Entry) → ((gained w e).label ≡ w.label) × ((gained w e).options ≡ w.options)
 same_label w e = label_by w e _ refl
+
+-- what a writer of all entries finishes
+module _ (w : Writing) (es : List Entry) (id : ℕ) (all : written w ≡ es) (label : w.label ≡ record { table_id = id; initial_level = 0; created_at = 0 }) (options : w.options ≡ default_options) where
+  finished : (found checksum : ℕ) (bytes : List ℕ) → IsFinished w found checksum bytes → IsTableOf es id found checksum bytes
+  finished found checksum bytes f = record {
+    id_is = f.id_is ∙ ap (λ (l : Label). l.table_id) label;
+    checksum_is = f.checksum_is;
+    spills = spills_of w;
+    file =
+        subst (λ (l : Label). IsFile V4 bytes l default_options (spills_of w) es) label
+        (subst (λ (o : Options). IsFile V4 bytes w.label o (spills_of w) es) options
+        (subst (λ (xs : List Entry). IsFile V4 bytes w.label w.options (spills_of w) xs) all f.file_is));
+  }
+
+pub table_by : {A : Type 0} (r : Result (Option (FinishedTable A)) Error) (w : Writing) (es : List Entry) (id : ℕ) → written w ≡ es → w.label ≡ record { table_id = id; initial_level = 0; created_at = 0 } → w.options ≡ default_options
+    → IfOk r (λ t. MatchOption t (written w ≡ []) (λ f. IsFinished w f.id f.checksum.0 f.bytes)) → IfOk r (λ t. MatchOption t (es ≡ []) (λ f. IsTableOf es id f.id f.checksum.0 f.bytes))
+table_by (Err e) w es id all label options h = tt
+table_by (Ok None) w es id all label options h = sym all ∙ h
+table_by (Ok (Some f)) w es id all label options h = finished w es id all label options f.id f.checksum.0 f.bytes h

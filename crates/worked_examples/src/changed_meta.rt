@@ -3,8 +3,8 @@ use crate::stored::one_entry;
 use crate::tables::{load_entries, open};
 use refusing::each_refused;
 use sst_blocks::{
-    Block, BlockHandle, BlockOffset, BlockSource, BlockType, CompressionType, Error, InternalValue,
-    Opened, SectionName, SectionWriter, SeqNo, Slice,
+    Block, BlockHandle, BlockOffset, BlockSource, BlockType, CompressionType, DataBlock, Error,
+    InternalValue, Opened, SectionName, SectionWriter, SeqNo, Slice,
 };
 use std::alloc::Allocator;
 
@@ -67,23 +67,36 @@ fn put_changed<A: Allocator>(
     Ok(1)
 }
 
-// The payload of the stored table's meta block in version 4, with some of its items changed.
-fn meta_payload<A: Allocator + Clone>(alloc: A, changes: &[Item]) -> Result<Vec<u8, A>, Error> {
-    let source = BlockSource::new(
-        alloc.clone()?,
-        Slice::from(alloc.clone()?, &one_entry::BYTES)?,
-    )?;
-    let handle = BlockHandle::new(BlockOffset(97), 1041);
-    let mut opened = Opened::none();
-    let block = load_entries(&source, &handle, BlockType::Meta, &mut opened)?;
-    let mut items = Vec::new(alloc.clone()?);
+// The items of the stored table's meta block.
+fn stored_items<A: Allocator + Clone>(alloc: A) -> Result<DataBlock<A>, Error> {
+    let bytes = Slice::from(alloc.clone()?, &one_entry::BYTES)?;
+    load_entries(
+        &BlockSource::new(alloc, bytes)?,
+        &BlockHandle::new(BlockOffset(97), 1041),
+        BlockType::Meta,
+        &mut Opened::none(),
+    )
+}
+
+// Appends the items of a meta block, some of them changed, and answers how many are left.
+fn put_items<A: Allocator + Clone>(
+    payload: &mut Vec<u8, A>,
+    block: &DataBlock<A>,
+    changes: &[Item],
+) -> Result<u32, Error> {
     let mut count = 0u32;
     for i in 0..block.len() {
-        let written = put_changed(&mut items, &block.entry(i)?, changes)?;
+        let written = put_changed(payload, &block.entry(i)?, changes)?;
         count = count.saturating_add(written);
     }
-    let mut payload = Vec::new(alloc);
-    payload.extend_from_slice(&count.to_le_bytes())?;
+    Ok(count)
+}
+
+// The payload of the stored table's meta block in version 4, with some of its items changed.
+fn meta_payload<A: Allocator + Clone>(alloc: A, changes: &[Item]) -> Result<Vec<u8, A>, Error> {
+    let mut items = Vec::new(alloc.clone()?);
+    let count = put_items(&mut items, &stored_items(alloc.clone()?)?, changes)?;
+    let mut payload = Vec::from_slice(alloc, &count.to_le_bytes())?;
     payload.extend_from_slice(&items)?;
     Ok(payload)
 }

@@ -3,7 +3,8 @@ use crate::stored::{filter_parts, one_entry, one_entry_filtered, two_levels};
 use crate::tables::{Row, fill, load_entries, load_handles, new_writer};
 use lsm_tables::{ParsedMeta, ParsedRegions};
 use sst_blocks::{
-    BlockHandle, BlockSource, BlockType, Error, Opened, SectionName, SeqNo, Slice, ValueType,
+    BlockHandle, BlockSource, BlockType, DataBlock, Error, IndexBlock, Opened, SectionName, SeqNo,
+    Slice, ValueType,
 };
 use std::alloc::{Allocator, Global};
 use std::test::Fail;
@@ -150,44 +151,67 @@ fn facts_of_stored_tables(rt: HostRuntime) -> Result<(), Fail> {
 }
 
 // The numbers of a data block's entries.
-fn put_numbers<A: Allocator + Clone>(
-    source: &BlockSource<A>,
-    handle: &BlockHandle,
-    opened: &mut Opened,
-    numbers: &mut Vec<SeqNo>,
-) -> Result<(), Error> {
-    let block = load_entries(source, handle, BlockType::Data, opened)?;
+fn put_numbers(block: &DataBlock, numbers: &mut Vec<SeqNo>) -> Result<(), Error> {
     for i in 0..block.len() {
         numbers.push(block.entry(i)?.key.seqno)?;
     }
     Ok(())
 }
 
-// The numbers of the entries below one partition of an index.
-fn put_part<A: Allocator + Clone>(
-    source: &BlockSource<A>,
-    handle: &BlockHandle,
-    opened: &mut Opened,
-    numbers: &mut Vec<SeqNo>,
-) -> Result<(), Error> {
-    let part = load_handles(source, handle, opened)?;
-    for i in 0..part.len() {
-        put_numbers(source, &part.handle(i)?.into_inner(), opened, numbers)?;
+// Where the blocks of an index block's handles lie.
+fn put_places(block: &IndexBlock, places: &mut Vec<BlockHandle>) -> Result<(), Error> {
+    for i in 0..block.len() {
+        places.push(block.handle(i)?.into_inner())?;
     }
     Ok(())
 }
 
-// The numbers of the entries below both levels of an index, and how many blocks were loaded.
-fn below_two_levels(alloc: Global) -> Result<(Vec<SeqNo>, Opened), Error> {
-    let source = source_of(alloc, &two_levels::BYTES)?;
+// Where the blocks below an index block lie.
+fn places_below(
+    alloc: Global,
+    source: &BlockSource,
+    handle: &BlockHandle,
+    opened: &mut Opened,
+) -> Result<Vec<BlockHandle>, Error> {
+    let mut places = Vec::new(alloc);
+    put_places(&load_handles(source, handle, opened)?, &mut places)?;
+    Ok(places)
+}
+
+// The numbers of the entries below one partition of an index.
+fn put_part(
+    alloc: Global,
+    source: &BlockSource,
+    handle: &BlockHandle,
+    opened: &mut Opened,
+    numbers: &mut Vec<SeqNo>,
+) -> Result<(), Error> {
+    for place in places_below(alloc, source, handle, opened)?.iter() {
+        let block = load_entries(source, place, BlockType::Data, opened)?;
+        put_numbers(&block, numbers)?;
+    }
+    Ok(())
+}
+
+// The numbers of the entries below both levels of an index; answers how many blocks were loaded.
+fn put_both_levels(
+    alloc: Global,
+    source: &BlockSource,
+    numbers: &mut Vec<SeqNo>,
+) -> Result<Opened, Error> {
     let regions = ParsedRegions::parse_from_toc(source.toc())?;
     let mut opened = Opened::none();
-    let mut numbers = Vec::new(alloc);
-    let tli = load_handles(&source, &regions.tli, &mut opened)?;
-    for i in 0..tli.len() {
-        let part = tli.handle(i)?.into_inner();
-        put_part(&source, &part, &mut opened, &mut numbers)?;
+    for part in places_below(alloc, source, &regions.tli, &mut opened)?.iter() {
+        put_part(alloc, source, part, &mut opened, numbers)?;
     }
+    Ok(opened)
+}
+
+// The numbers of the entries below both levels of an index, and how many blocks were loaded.
+fn below_two_levels(alloc: Global) -> Result<(Vec<SeqNo>, Opened), Error> {
+    let mut numbers = Vec::new(alloc);
+    let source = source_of(alloc, &two_levels::BYTES)?;
+    let opened = put_both_levels(alloc, &source, &mut numbers)?;
     Ok((numbers, opened))
 }
 
@@ -199,19 +223,36 @@ fn two_levels_lead_to_every_entry(rt: HostRuntime) -> Result<(), Fail> {
     Ok(())
 }
 
+// Where a part of a filter lies, and the size of its payload.
+fn filter_part(
+    source: &BlockSource,
+    place: &BlockHandle,
+    opened: &mut Opened,
+) -> Result<(u64, usize), Error> {
+    let block = source.load(place, BlockType::Filter, opened)?;
+    Ok((place.offset().0, block.size()))
+}
+
+// Appends where the parts of a filter lie, and the sizes of their payloads.
+fn put_filter_parts(
+    alloc: Global,
+    source: &BlockSource,
+    parts: &mut Vec<(u64, usize)>,
+) -> Result<(), Error> {
+    let regions = ParsedRegions::parse_from_toc(source.toc())?;
+    let handle = regions.filter_tli.unwrap_or_default();
+    let mut opened = Opened::none();
+    for place in places_below(alloc, source, &handle, &mut opened)?.iter() {
+        parts.push(filter_part(source, place, &mut opened)?)?;
+    }
+    Ok(())
+}
+
 // Where the parts of a filter lie, and the sizes of their payloads.
 fn filter_parts_of(alloc: Global) -> Result<Vec<(u64, usize)>, Error> {
-    let source = source_of(alloc, &filter_parts::BYTES)?;
-    let regions = ParsedRegions::parse_from_toc(source.toc())?;
-    let mut opened = Opened::none();
     let mut parts = Vec::new(alloc);
-    let handle = regions.filter_tli.unwrap_or_default();
-    let top = load_handles(&source, &handle, &mut opened)?;
-    for i in 0..top.len() {
-        let part = top.handle(i)?.into_inner();
-        let block = source.load(&part, BlockType::Filter, &mut opened)?;
-        parts.push((part.offset().0, block.size()))?;
-    }
+    let source = source_of(alloc, &filter_parts::BYTES)?;
+    put_filter_parts(alloc, &source, &mut parts)?;
     Ok(parts)
 }
 

@@ -3,7 +3,7 @@ use crate::tables::{Row, fill, new_writer, open, read};
 use lsm_tables::{Table, point_in};
 use refusing::each_refused;
 use sst_blocks::{
-    Block, BlockHandle, BlockSource, BlockType, Counted, Error, LoadBlocks, SeqNo, ValueType,
+    Block, BlockHandle, BlockSource, BlockType, Counted, Error, LoadBlocks, SeqNo, Slice, ValueType,
 };
 use std::alloc::{Allocator, Global};
 use std::test::Fail;
@@ -38,8 +38,10 @@ impl<A: Allocator + Clone> LoadBlocks for Listing<'_, A> {
     }
 }
 
-// What each of three reads finds, and the one handle that it asks for.
-type Reads = [(Option<SeqNo>, Option<(u64, u32)>); 3];
+// What a read finds, and the one handle that it asks for.
+type Read = (Option<SeqNo>, Option<(u64, u32)>);
+
+type Reads = [Read; 3];
 
 // A read through a source that lists its loads.
 fn listed_read<A: Allocator + Clone>(
@@ -48,7 +50,7 @@ fn listed_read<A: Allocator + Clone>(
     table: &Table<A>,
     key: &[u8],
     seqno: SeqNo,
-) -> Result<(Option<SeqNo>, Option<(u64, u32)>), Error> {
+) -> Result<Read, Error> {
     let mut listing = Listing {
         source: Counted::new(source),
         handles: Vec::new(heap),
@@ -65,22 +67,44 @@ fn listed_read<A: Allocator + Clone>(
     }
 }
 
-// The three reads, over one allocator. A read that is refused is asked again.
-fn three_reads<A: Allocator + Clone>(heap: Global, alloc: A) -> Result<Reads, Error> {
-    let writer = new_writer(alloc.clone()?)?.use_data_block_size(0);
-    let bytes = fill(writer, alloc.clone()?, &ROWS)?.bytes;
-    let source = BlockSource::new(alloc.clone()?, bytes.clone()?)?;
-    let table = open(alloc, bytes, 0)?;
-    let mut reads = [(None, None), (None, None), (None, None)];
-    let asked: [(&[u8], SeqNo); 3] = [(b"a", 8), (b"a", 5), (b"c", 100)];
-    for i in 0..3 {
-        let (key, seqno) = asked[i];
-        reads[i] = match listed_read(heap, &source, &table, key, seqno) {
-            Err(Error::OutOfMemory) => listed_read(heap, &source, &table, key, seqno)?,
-            answer => answer?,
-        };
+// The same read. Where it is refused for want of memory, it is asked again.
+fn repeated_read<A: Allocator + Clone>(
+    heap: Global,
+    source: &BlockSource<A>,
+    table: &Table<A>,
+    key: &[u8],
+    seqno: SeqNo,
+) -> Result<Read, Error> {
+    match listed_read(heap, source, table, key, seqno) {
+        Err(Error::OutOfMemory) => listed_read(heap, source, table, key, seqno),
+        answer => answer,
     }
-    Ok(reads)
+}
+
+// The bytes of a table of the rows, each in a block of its own.
+fn written_rows<A: Allocator + Clone>(alloc: A) -> Result<Slice<A>, Error> {
+    let writer = new_writer(alloc.clone()?)?.use_data_block_size(0);
+    Ok(fill(writer, alloc, &ROWS)?.bytes)
+}
+
+// Three reads of a table.
+fn reads_of<A: Allocator + Clone>(
+    heap: Global,
+    source: &BlockSource<A>,
+    table: &Table<A>,
+) -> Result<Reads, Error> {
+    Ok([
+        repeated_read(heap, source, table, b"a", 8)?,
+        repeated_read(heap, source, table, b"a", 5)?,
+        repeated_read(heap, source, table, b"c", 100)?,
+    ])
+}
+
+// The three reads of the rows' table, over one allocator.
+fn three_reads<A: Allocator + Clone>(heap: Global, alloc: A) -> Result<Reads, Error> {
+    let bytes = written_rows(alloc.clone()?)?;
+    let source = BlockSource::new(alloc.clone()?, bytes.clone()?)?;
+    reads_of(heap, &source, &open(alloc, bytes, 0)?)
 }
 
 // Each block has a header of 24 bytes, a count of 4, and 17 bytes and the key for its one entry.

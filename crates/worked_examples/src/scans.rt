@@ -51,7 +51,17 @@ fn a_scan_ends_at_a_damaged_block(rt: HostRuntime) -> Result<(), Fail> {
     Ok(())
 }
 
-// What the first five steps of a scan of so many blocks of the stored table answer, from its bytes on.
+// The first five steps of a scan of so many blocks.
+fn five_of_source(
+    source: &BlockSource,
+    block_count: u64,
+    global_seqno: SeqNo,
+) -> Result<[SeqNo; 5], Error> {
+    let mut scan = Scanner::new(source, block_count, CompressionType::None, global_seqno)?;
+    Ok(five_steps(&mut scan))
+}
+
+// The first five steps of a scan of so many blocks of the stored table, from its bytes on.
 fn five_of_blocks(
     alloc: Global,
     changes: &[(usize, &[u8])],
@@ -59,9 +69,7 @@ fn five_of_blocks(
     global_seqno: SeqNo,
 ) -> Result<[SeqNo; 5], Error> {
     let bytes = overwritten(alloc, &one_entry::BYTES, changes)?;
-    let source = BlockSource::new(alloc, bytes)?;
-    let mut scan = Scanner::new(&source, block_count, CompressionType::None, global_seqno)?;
-    Ok(five_steps(&mut scan))
+    five_of_source(&BlockSource::new(alloc, bytes)?, block_count, global_seqno)
 }
 
 #[test]

@@ -30,6 +30,20 @@ pub(crate) fn entry<A: Allocator + Clone>(
     Ok(InternalValue::from_components(key, value, row.1, row.2))
 }
 
+// Writes a row; `false` where it may not follow.
+fn put_row<A: Allocator + Clone>(
+    alloc: A,
+    writer: &mut Writer<A>,
+    row: &Row<'_>,
+) -> Result<bool, Error> {
+    let item = entry(alloc, row)?;
+    if !writer.can_follow(&item.key) {
+        return Ok(false);
+    }
+    writer.write(item)?;
+    Ok(true)
+}
+
 /// Writes some rows, up to one that may not follow; `false` where there is such a row.
 pub(crate) fn put_rows<A: Allocator + Clone>(
     alloc: A,
@@ -37,13 +51,24 @@ pub(crate) fn put_rows<A: Allocator + Clone>(
     rows: &[Row<'_>],
 ) -> Result<bool, Error> {
     for row in rows {
-        let item = entry(alloc.clone()?, row)?;
-        if !writer.can_follow(&item.key) {
+        if !put_row(alloc.clone()?, writer, row)? {
             return Ok(false);
         }
-        writer.write(item)?;
     }
     Ok(true)
+}
+
+/// The writer, once it has written some rows. `Source(0)` where a row may not follow the one before.
+pub(crate) fn filled<A: Allocator + Clone>(
+    mut writer: Writer<A>,
+    alloc: A,
+    rows: &[Row<'_>],
+) -> Result<Writer<A>, Error> {
+    if put_rows(alloc, &mut writer, rows)? {
+        Ok(writer)
+    } else {
+        Err(Error::Source(0))
+    }
 }
 
 /// The table of some rows. `Source(0)` where a row may not follow the one before, `Source(1)` where there are none.
@@ -52,11 +77,9 @@ pub(crate) fn fill<A: Allocator + Clone>(
     alloc: A,
     rows: &[Row<'_>],
 ) -> Result<FinishedTable<A>, Error> {
-    let mut writer = writer;
-    if !put_rows(alloc, &mut writer, rows)? {
-        return Err(Error::Source(0));
-    }
-    writer.finish()?.ok_or(Error::Source(1))
+    filled(writer, alloc, rows)?
+        .finish()?
+        .ok_or(Error::Source(1))
 }
 
 /// The table of some bytes, all of it loaded that can be.

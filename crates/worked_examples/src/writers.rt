@@ -1,13 +1,13 @@
 //! What writers count, cut, write and refuse.
 use crate::stored::one_entry_v4;
-use crate::tables::{Row, entry, new_writer, put_rows};
+use crate::tables::{Row, entry, fill, filled, new_writer, put_rows};
 use lsm_writers::{
     BlockIndexWriter, FinishedTable, FullIndexWriter, GlobalTableId, Metadata, Timestamp, Writer,
 };
 use refusing::{Refusing, each_refused};
 use sst_blocks::{
-    BlockHandle, BlockOffset, Checksum, CompressionType, Error, KeyedBlockHandle, SectionWriter,
-    SeqNo, Slice, ValueType,
+    BlockHandle, BlockOffset, Checksum, CompressionType, Error, InternalValue, KeyedBlockHandle,
+    SectionWriter, SeqNo, Slice, ValueType,
 };
 use std::alloc::{Allocator, Global};
 use std::test::Fail;
@@ -29,9 +29,8 @@ fn counts<A: Allocator + Clone>(writer: &Writer<A>) -> [usize; 7] {
 
 // The table of a@1, with the value `x`.
 fn one_entry(alloc: Global) -> Result<FinishedTable, Error> {
-    let mut writer = new_writer(alloc)?;
-    put_rows(alloc, &mut writer, &[(b"a", 1, ValueType::Value, b"x")])?;
-    writer.finish()?.ok_or(Error::Source(1))
+    let row: Row<'_> = (b"a", 1, ValueType::Value, b"x");
+    fill(new_writer(alloc)?, alloc, &[row])
 }
 
 #[test]
@@ -42,15 +41,16 @@ fn writes_a_table_byte_for_byte(rt: HostRuntime) -> Result<(), Fail> {
     Ok(())
 }
 
-// The counts after some rows, before and after the block that waits is cut; `None` where a row may not follow.
-fn counts_of(alloc: Global, rows: &[Row<'_>]) -> Result<Option<([usize; 7], [usize; 7])>, Error> {
-    let mut writer = new_writer(alloc)?;
-    if !put_rows(alloc, &mut writer, rows)? {
-        return Ok(None);
-    }
-    let before = counts(&writer);
+// The counts before and after the block that waits is cut.
+fn counts_around_a_cut(writer: &mut Writer) -> Result<([usize; 7], [usize; 7]), Error> {
+    let before = counts(writer);
     writer.spill_block()?;
-    Ok(Some((before, counts(&writer))))
+    Ok((before, counts(writer)))
+}
+
+// The counts after some rows, before and after the block that waits is cut.
+fn counts_of(alloc: Global, rows: &[Row<'_>]) -> Result<([usize; 7], [usize; 7]), Error> {
+    counts_around_a_cut(&mut filled(new_writer(alloc)?, alloc, rows)?)
 }
 
 #[test]
@@ -61,7 +61,7 @@ fn counts_what_is_written(rt: HostRuntime) -> Result<(), Fail> {
         (b"c", 0, ValueType::Value, b"c"),
     ];
     let expected = ([0, 0, 3, 0, 0, 0, 6], [3, 1, 3, 0, 0, 0, 0]);
-    assert!(rt; counts_of(rt.alloc(), &rows)? == Some(expected));
+    assert!(rt; counts_of(rt.alloc(), &rows)? == expected);
     Ok(())
 }
 
@@ -75,16 +75,19 @@ fn counts_tombstones_and_what_they_hide(rt: HostRuntime) -> Result<(), Fail> {
         (b"e", 3, ValueType::Tombstone, b""),
     ];
     let expected = ([0, 0, 3, 2, 1, 1, 6], [4, 1, 3, 2, 1, 1, 0]);
-    assert!(rt; counts_of(rt.alloc(), &rows)? == Some(expected));
+    assert!(rt; counts_of(rt.alloc(), &rows)? == expected);
     Ok(())
+}
+
+// The lowest and the highest number that were written.
+fn seqnos(writer: &Writer) -> (SeqNo, SeqNo) {
+    let meta = writer.metadata();
+    (meta.lowest_seqno, meta.highest_seqno)
 }
 
 // The lowest and the highest number of what some rows wrote.
 fn seqnos_of(alloc: Global, rows: &[Row<'_>]) -> Result<(SeqNo, SeqNo), Error> {
-    let mut writer = new_writer(alloc)?;
-    put_rows(alloc, &mut writer, rows)?;
-    let meta = writer.metadata();
-    Ok((meta.lowest_seqno, meta.highest_seqno))
+    Ok(seqnos(&filled(new_writer(alloc)?, alloc, rows)?))
 }
 
 #[test]
@@ -125,14 +128,21 @@ fn entries_that_may_not_follow_are_told_before(rt: HostRuntime) -> Result<(), Fa
     Ok(())
 }
 
+// How many blocks and keys were cut, and how long the blocks are.
+fn cut_so_far(writer: &Writer) -> (usize, usize, BlockOffset) {
+    let meta = writer.metadata();
+    (meta.data_block_count, meta.key_count, meta.file_pos)
+}
+
 // The counts of blocks and of keys, and the length, of a table of three versions in blocks of size 0.
 fn cut_at_size_0(alloc: Global) -> Result<(usize, usize, BlockOffset), Error> {
-    let mut writer = new_writer(alloc)?.use_data_block_size(0);
-    for seqno in [9, 7, 5] {
-        put_rows(alloc, &mut writer, &[(b"a", seqno, ValueType::Value, b"")])?;
-    }
-    let meta = writer.metadata();
-    Ok((meta.data_block_count, meta.key_count, meta.file_pos))
+    let rows: [Row<'_>; 3] = [
+        (b"a", 9, ValueType::Value, b""),
+        (b"a", 7, ValueType::Value, b""),
+        (b"a", 5, ValueType::Value, b""),
+    ];
+    let writer = new_writer(alloc)?.use_data_block_size(0);
+    Ok(cut_so_far(&filled(writer, alloc, &rows)?))
 }
 
 #[test]
@@ -143,19 +153,29 @@ fn cuts_a_block_for_each_entry_at_size_0(rt: HostRuntime) -> Result<(), Fail> {
     Ok(())
 }
 
+// The number of a refusal, 0 for none.
+fn number(refused: Option<Error>) -> u8 {
+    refused.map_or(0, |error| error.number())
+}
+
+// What writing an entry of this key answers, and another one and a cut after it.
+fn after_a_key(alloc: Global, writer: &mut Writer, key: &[u8]) -> [u8; 3] {
+    [
+        number(put_rows(alloc, writer, &[(key, 1, ValueType::Value, b"")]).err()),
+        number(put_rows(alloc, writer, &[(b"b", 1, ValueType::Value, b"")]).err()),
+        number(writer.spill_block().err()),
+    ]
+}
+
 // What writing an entry whose key has this length answers, and another one, a cut and the end after it.
 fn after_a_key_of(alloc: Global, len: usize) -> Result<[u8; 4], Error> {
-    let number = |answer: Option<Error>| answer.map_or(0, |error| error.number());
-    let mut writer = new_writer(alloc)?;
     let key = vec![in alloc; 0x61u8; len]?;
-    let first = put_rows(alloc, &mut writer, &[(&key, 1, ValueType::Value, b"")]).err();
-    let second = put_rows(alloc, &mut writer, &[(b"b", 1, ValueType::Value, b"")]).err();
-    let cut = writer.spill_block().err();
+    let mut writer = new_writer(alloc)?;
+    let [first, second, cut] = after_a_key(alloc, &mut writer, &key);
     if writer.is_empty() {
         return Err(Error::Source(0));
     }
-    let end = writer.finish().err();
-    Ok([number(first), number(second), number(cut), number(end)])
+    Ok([first, second, cut, number(writer.finish().err())])
 }
 
 #[test]
@@ -217,21 +237,34 @@ fn a_full_index_is_one_block(rt: HostRuntime) -> Result<(), Fail> {
     Ok(())
 }
 
+// Writes an entry. Where that is refused, the writer refuses a cut from then on.
+fn write_or_fail<A: Allocator + Clone>(
+    writer: &mut Writer<A>,
+    item: InternalValue<A>,
+) -> Result<(), Error> {
+    if !writer.can_follow(&item.key) {
+        return Err(Error::Source(0));
+    }
+    let answer = writer.write(item);
+    if answer.is_err() && writer.spill_block() != Err(Error::WriterFailed) {
+        return Err(Error::Source(0));
+    }
+    answer
+}
+
+// Writes three versions of a key.
+fn write_three<A: Allocator + Clone>(alloc: A, writer: &mut Writer<A>) -> Result<(), Error> {
+    for seqno in [9, 7, 5] {
+        let item = entry(alloc.clone()?, &(b"a", seqno, ValueType::Value, b"x"))?;
+        write_or_fail(writer, item)?;
+    }
+    Ok(())
+}
+
 // A table of three blocks. Whatever is refused, the writer refuses from then on.
 fn three_blocks<A: Allocator + Clone>(alloc: A) -> Result<FinishedTable<A>, Error> {
     let mut writer = new_writer(alloc.clone()?)?.use_data_block_size(0);
-    for seqno in [9, 7, 5] {
-        let item = entry(alloc.clone()?, &(b"a", seqno, ValueType::Value, b"x"))?;
-        if !writer.can_follow(&item.key) {
-            return Err(Error::Source(0));
-        }
-        if let Err(error) = writer.write(item) {
-            if writer.spill_block() != Err(Error::WriterFailed) {
-                return Err(Error::Source(0));
-            }
-            return Err(error);
-        }
-    }
+    write_three(alloc, &mut writer)?;
     writer.finish()?.ok_or(Error::Source(1))
 }
 

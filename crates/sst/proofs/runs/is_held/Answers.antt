@@ -1,15 +1,12 @@
-use Rattle.std.proofs.Common.{◌≡◌, ◌∙◌, sym, ap, ℕ, suc, ◌+◌, ◌<◌, Bool, true, false, List, ◌∷◌, length, get_or, drop, drop-cons, add-one, map, rules}
+use Rattle.std.proofs.Common.{◌≡◌, ◌∙◌, ap, ℕ, ◌+◌, ◌<◌, Bool, true, false, List, length, get_or, map, rules}
 use Rattle.std.specs.Prelude.{Option, Result, Ok, if◌then◌else◌}
 use Rattle.sst_entries.specs.declared.error.Error.{Error}
 use Rattle.sst_entries.specs.Entry.{Entry}
 use Rattle.lsm_tables.specs.TableSeen.{TableSeen}
 use Rattle.lsm_tables.specs.Told.{◌>>=◌}
 use Rattle.sst.specs.Runs.{run_told, has_number, one_has_number, held_told}
-use Rattle.sst.proofs.RunLemmas.{held_from}
+use Rattle.sst.proofs.RunLemmas.{held_from, rest_of}
 use Rattle.sst.proofs.runs.is_held.Goals as goal
-
-rest_of : (runs : List TableSeen) (i : ℕ) (run : TableSeen) → i < length runs → run ≡ get_or runs i run → drop i runs ≡ run ∷ drop (i + 1) runs
-rest_of runs i run h is = rw add-one (drop-cons runs i run h ∙ ap (λ (r : TableSeen). r ∷ drop (suc i) runs) (sym is))
 
 -- what all runs tell, once the runs before a place hold nothing, by what the run there answers
 past_run : (runs : List TableSeen) (key : List ℕ) (n i : ℕ) (run : TableSeen) (found : Option Entry) (holds : Bool)

@@ -3,17 +3,18 @@ use Rattle.std.specs.Prelude.{Err}
 use Rattle.std.specs.Io.Buffered.{reader_remaining}
 use Rattle.sst.specs.declared.stop.Stop.TheVariants.{Input}
 use Rattle.sst.specs.Lines.{LosesLine}
+use Rattle.sst.proofs.RefusalLemmas.{passed}
 use Rattle.sst.proofs.ScriptLemmas.{at_start, at_more, at_failure, at_stop}
 use Rattle.sst.proofs.script.answer_script.Goals as goal
 
 pub returns-in_err-clone : goal.returns-in_err-clone
-returns-in_err-clone g c = at_failure c.from_residual.result (search rules) (at_start g.row.A.Denot _ _)
+returns-in_err-clone g c = at_failure c.from_residual.result (passed c.from_residual.result Input c.from_residual.ensures.1) (at_start g.row.A.Denot _ _)
 
 pub returns-in_err-script : goal.returns-in_err-script
-returns-in_err-script g c = at_failure c.from_residual-in_err-script.result (search rules) (at_start g.row.A.Denot _ _)
+returns-in_err-script g c = at_failure c.from_residual-in_err-script.result (passed c.from_residual-in_err-script.result Input c.from_residual-in_err-script.ensures.1) (at_start g.row.A.Denot _ _)
 
 pub returns-in_err-clone-2 : goal.returns-in_err-clone-2
-returns-in_err-clone-2 g c = at_failure c.from_residual-in_err-clone-2.result (search rules) (at_start g.row.A.Denot _ _)
+returns-in_err-clone-2 g c = at_failure c.from_residual-in_err-clone-2.result (passed c.from_residual-in_err-clone-2.result Input c.from_residual-in_err-clone-2.ensures.1) (at_start g.row.A.Denot _ _)
 
 pub returns-in_err-input : goal.returns-in_err-input
 returns-in_err-input g c = at_failure c.from_residual-in_err-input.result (search rules) (at_start g.row.A.Denot _ _)
@@ -27,7 +28,7 @@ returns-in_err-answer_line g c =
     let stop = c.in_err-answer_line.field-0.0 in
     let left = reader_remaining g.R.Read.remaining c.read_line.new.input in
     let loses : LosesLine (reader_remaining g.R.Read.remaining c.loop-before.input) left line = search rules in
-    at_stop c.from_residual-in_err-answer_line.result left _ _ line stop c.answer_line.result (search rules) (search rules) c.loop-before.invariant loses c.answer_line.ensures.ended
+    at_stop c.from_residual-in_err-answer_line.result left _ _ line stop c.answer_line.result (passed c.from_residual-in_err-answer_line.result stop c.from_residual-in_err-answer_line.ensures.1) c.in_err-answer_line.was c.loop-before.invariant loses c.answer_line.ensures.ended
 
 pub loop-before-preserved : goal.loop-before-preserved
 loop-before-preserved g c =

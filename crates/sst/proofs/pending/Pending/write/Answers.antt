@@ -1,11 +1,14 @@
-use Rattle.std.proofs.Common.{◌≡◌, ◌∙◌, sym, ap, subst, IsTrue, List, [], ◌∷◌, ◌++◌, append_assoc}
+use Rattle.std.proofs.Common.{◌≡◌, ◌∙◌, sym, ap, subst, IsTrue, List, [], ◌∷◌, ◌++◌, append_assoc, append-nil}
+use Rattle.std.proofs.lemmas.List.{nil_from_length}
 use Rattle.std.specs.Prelude.{Option, None}
 use Rattle.std.specs.Option.{option_or}
 use Rattle.sst_entries.specs.declared.error.Error.{Error}
 use Rattle.sst_entries.specs.Entry.{Entry}
 use Rattle.lsm_writers.specs.Writing.{Writing, written, write_fault, follows, gained}
-use Rattle.sst.specs.Pending.{IsPending, writing_fault}
-use Rattle.sst.proofs.PendingLemmas.{pending_follows, written_gained, same_label}
+use Rattle.sst_entries.specs.Error.{is_memory, Faults}
+use Rattle.sst.specs.Pending.{IsPending, writing_fault, table_fault}
+use Rattle.sst.proofs.PendingLemmas.{pending_follows, written_gained, same_label, table_by}
+use Rattle.sst.proofs.RefusalLemmas.{faults_refusal}
 use Rattle.sst.proofs.pending.Pending.write.Goals as goal
 
 pub write-requires : goal.write-requires
@@ -34,3 +37,33 @@ loop-item-preserved g c =
       fault = c.loop-item.invariant.fault ∙ ap (writing_fault w) first ∙ ap (λ (x : Option Error). option_or x (writing_fault (gained w e) rest)) none ∙ ap (λ (x : Writing). writing_fault x rest) (sym more);
       whole = c.loop-item.invariant.whole ∙ ap (λ (x : List Entry). before ++ x) first ∙ sym (append_assoc before (e ∷ []) rest);
     }
+
+pub returns-in_err-writer-clause-refused : goal.returns-in_err-writer-clause-refused
+returns-in_err-writer-clause-refused g c =
+    let e = c.in_err-writer.field-0.0 in
+    let memory = ap is_memory c.in_err-writer.ensures.err in
+    faults_refusal c.from_residual.result e (table_fault c.args.id c.args.self) c.from_residual.ensures.1 (λ other. absurd (cc (memory, other)))
+
+pub returns-in_err-write-clause-refused : goal.returns-in_err-write-clause-refused
+returns-in_err-write-clause-refused g c =
+    let e = c.in_err-write.field-0.0 in
+    let item = c.in-Some.item in
+    let w = c.loop-item.writer in
+    let rest = c.next.new.self.rest.items in
+    let first : c.loop-item.item-iterator.rest.items ≡ item ∷ rest = c.in-Some.ensures.steps.0 in
+    faults_refusal c.from_residual-in_err-write.result e (table_fault c.args.id c.args.self) c.from_residual-in_err-write.ensures.1
+    (λ memory. c.loop-item.invariant.fault ∙ ap (writing_fault w) first ∙ ap (λ (x : Option Error). option_or x (writing_fault (gained w item) rest)) (c.in_err-write.ensures.refused memory))
+
+pub returns-clause-refused : goal.returns-clause-refused
+returns-clause-refused g c =
+    let w = c.loop-item.writer in
+    let none : c.loop-item.item-iterator.rest.items ≡ [] = nil_from_length c.loop-item.item-iterator.rest.items (sym c.loop-item.item-iterator.rest.ok.0 ∙ c.in-None.ensures.steps.0) in
+    subst (λ (x : Option Error). Faults c.finish.result x) (sym (c.loop-item.invariant.fault ∙ ap (writing_fault w) none)) c.finish.ensures.refused
+
+pub returns-clause-table : goal.returns-clause-table
+returns-clause-table g c =
+    let w = c.loop-item.writer in
+    let before = c.loop-item.yielded in
+    let none : c.loop-item.item-iterator.rest.items ≡ [] = nil_from_length c.loop-item.item-iterator.rest.items (sym c.loop-item.item-iterator.rest.ok.0 ∙ c.in-None.ensures.steps.0) in
+    let all : c.args.self ≡ before = c.loop-item.invariant.whole ∙ ap (λ (x : List Entry). before ++ x) none ∙ append-nil before in
+    table_by c.finish.result w c.args.self c.args.id (c.loop-item.invariant.listed ∙ sym all) c.loop-item.invariant.label c.loop-item.invariant.options c.finish.ensures.table

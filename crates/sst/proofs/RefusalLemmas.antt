@@ -1,0 +1,26 @@
+-- Refusals that a call passes on.
+use Rattle.std.proofs.Common.{◌≡◌, ap, false}
+use Rattle.std.specs.Prelude.{Option, Some, Result, Ok, Err, IfErr}
+use Rattle.std.specs.Result.{IsErrAnd}
+use Rattle.sst_entries.specs.declared.error.Error.{Error}
+use Rattle.sst_entries.specs.Error.{is_memory, Fails, Gives, Faults}
+
+-- an error of which something holds
+pub passes : {T E : Type 0} (r : Result T E) (e : E) (P : E → Type 0) → IsErrAnd r (λ y. y ≡ e) → P e → IfErr r P
+passes (Ok x) e P is p = absurd is
+passes (Err y) e P is p = rw is p
+
+-- the error itself
+pub passed : {T E : Type 0} (r : Result T E) (e : E) → IsErrAnd r (λ y. y ≡ e) → r ≡ Err e
+passed {T} {E} (Ok x) e is = absurd is
+passed {T} {E} (Err y) e is = ap (λ (f : E). Err f) is
+
+-- what is told, memory aside
+pub gives_refusal : {X Y : Type 0} (view : X → Y) (r : Result X Error) (e : Error) (told : Result Y Error) → IsErrAnd r (λ y. y ≡ e) → Fails e told → Gives view r told
+gives_refusal view (Ok x) e told is fails = absurd is
+gives_refusal view (Err y) e told is fails = rw is fails
+
+-- the fault that is told, memory aside
+pub faults_refusal : {X : Type 0} (r : Result X Error) (e : Error) (told : Option Error) → IsErrAnd r (λ y. y ≡ e) → (is_memory e ≡ false → told ≡ Some e) → Faults r told
+faults_refusal (Ok x) e told is fault = absurd is
+faults_refusal (Err y) e told is fault = rw is fault
