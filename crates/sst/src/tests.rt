@@ -2,7 +2,7 @@ mod streams;
 
 use crate::script::run_script;
 use refusing::{Refusing, each_refused};
-use std::alloc::{AllocError, Allocator};
+use std::alloc::{AllocError, Allocator, Global};
 use std::test::Fail;
 use streams::{FailingReader, FailingWriter};
 
@@ -189,6 +189,15 @@ fn a_key_too_long_is_refused_by_the_table(rt: HostRuntime) -> Result<(), Fail> {
     Ok(())
 }
 
+// Whether input that fails behind a script ends it there, once that much was shown and told.
+fn ends_where_input_fails(alloc: Global, script: &[u8], shown: &[u8], told: &[u8]) -> bool {
+    let mut output = Vec::new(alloc);
+    let mut errors = Vec::new(alloc);
+    let input = FailingReader::new(script);
+    let status = run_script(alloc, input, &mut output, &mut errors);
+    status == 2 && output.as_slice() == shown && errors.as_slice() == told
+}
+
 #[test]
 fn failing_input_ends_the_script(rt: HostRuntime) -> Result<(), Fail> {
     let alloc = rt.alloc();
@@ -199,14 +208,21 @@ fn failing_input_ends_the_script(rt: HostRuntime) -> Result<(), Fail> {
         (b"get a 1\nrange\n", b"none\n", b"sst: line 2\n"),
     ];
     for (script, shown, told) in cases {
-        let mut output = Vec::new(alloc);
-        let mut errors = Vec::new(alloc);
-        let input = FailingReader::new(script);
-        assert_eq!(rt; run_script(alloc, input, &mut output, &mut errors), 2);
-        assert!(rt; output.as_slice() == shown);
-        assert!(rt; errors.as_slice() == told);
+        assert!(rt; ends_where_input_fails(alloc, script, shown, told));
     }
     Ok(())
+}
+
+// Whether output that fails ends a script, and that much is told.
+fn ends_where_output_fails(alloc: Global, script: &[u8], told: &[u8]) -> bool {
+    let mut errors = Vec::new(alloc);
+    let status = run_script(alloc, script, &mut FailingWriter, &mut errors);
+    status == 2 && errors.as_slice() == told
+}
+
+// The status where neither output nor errors can be written.
+fn status_untold(alloc: Global, script: &[u8]) -> u8 {
+    run_script(alloc, script, &mut FailingWriter, &mut FailingWriter)
 }
 
 #[test]
@@ -219,27 +235,11 @@ fn failing_output_ends_the_script(rt: HostRuntime) -> Result<(), Fail> {
         (b"entry a 1 V x\nrange\ntable\n", b"sst: line 2\n"),
     ];
     for (script, told) in cases {
-        let mut errors = Vec::new(alloc);
-        assert_eq!(rt;
-            run_script(alloc, script, &mut FailingWriter, &mut errors),
-            2
-        );
-        assert!(rt; errors.as_slice() == told);
+        assert!(rt; ends_where_output_fails(alloc, script, told));
         // Where errors cannot be told either, the status is the same.
-        assert_eq!(rt;
-            run_script(alloc, script, &mut FailingWriter, &mut FailingWriter),
-            2
-        );
+        assert_eq!(rt; status_untold(alloc, script), 2);
     }
-    assert_eq!(rt;
-        run_script(
-            alloc,
-            b"entry a 1 V x\n".as_slice(),
-            &mut FailingWriter,
-            &mut FailingWriter
-        ),
-        0
-    );
+    assert_eq!(rt; status_untold(alloc, b"entry a 1 V x\n"), 0);
     Ok(())
 }
 
