@@ -13,14 +13,14 @@ use sst_blocks::{
 use std::alloc::{Allocator, Global};
 use std::test::Fail;
 
-fn entry<A: Allocator + Clone>(
+fn entry<A: Allocator + Copy>(
     alloc: A,
     key: &[u8],
     seqno: SeqNo,
     kind: ValueType,
     value: &[u8],
 ) -> Result<InternalValue<A>, Error> {
-    let key = Slice::from(alloc.clone()?, key)?;
+    let key = Slice::from(alloc, key)?;
     let value = Slice::from(alloc, value)?;
     Ok(InternalValue::from_components(key, value, seqno, kind))
 }
@@ -51,28 +51,73 @@ fn are_strict<A: Allocator>(items: &[InternalValue<A>]) -> bool
     true
 }
 
-// The block of these entries, by way of its bytes.
-fn written_and_loaded<A: Allocator + Clone>(
+// What is written of some entries, behind some bytes.
+fn written_behind<A: Allocator + Copy>(
     alloc: A,
+    front: &[u8],
     items: &[InternalValue<A>],
-) -> Result<DataBlock<A>, Error> {
+) -> Result<Vec<u8, A>, Error> {
     if !are_strict(items) {
         return Err(Error::InvalidBlock);
     }
-    let mut bytes = Vec::new(alloc.clone()?);
-    DataBlock::encode_into(&mut bytes, items, 16, 0)?;
+    let mut written = Vec::from_slice(alloc, front)?;
+    DataBlock::encode_into(&mut written, items, 16, 0)?;
+    Ok(written)
+}
+
+// The block of these entries, by way of its bytes.
+fn written_and_loaded<A: Allocator + Copy>(
+    alloc: A,
+    items: &[InternalValue<A>],
+) -> Result<DataBlock<A>, Error> {
+    let bytes = written_behind(alloc, b"", items)?;
     data_block(alloc, TableVersion::V4, bytes.as_slice())
 }
 
 // a@9, a@7 as a tombstone, a@5, c@0 and e@3.
-fn five_entries<A: Allocator + Clone>(alloc: A) -> Result<Vec<InternalValue<A>, A>, Error> {
-    let mut items = Vec::with_capacity(alloc.clone()?, 5)?;
-    items.push(entry(alloc.clone()?, b"a", 9, ValueType::Value, b"newest")?)?;
-    items.push(entry(alloc.clone()?, b"a", 7, ValueType::Tombstone, b"")?)?;
-    items.push(entry(alloc.clone()?, b"a", 5, ValueType::Value, b"")?)?;
-    items.push(entry(alloc.clone()?, b"c", 0, ValueType::WeakTombstone, b"")?)?;
-    items.push(entry(alloc, b"e", 3, ValueType::Indirection, b"far")?)?;
+const FIVE: [(&[u8], SeqNo, ValueType, &[u8]); 5] = [
+    (b"a", 9, ValueType::Value, b"newest"),
+    (b"a", 7, ValueType::Tombstone, b""),
+    (b"a", 5, ValueType::Value, b""),
+    (b"c", 0, ValueType::WeakTombstone, b""),
+    (b"e", 3, ValueType::Indirection, b"far"),
+];
+
+// The five entries.
+fn five_entries<A: Allocator + Copy>(alloc: A) -> Result<Vec<InternalValue<A>, A>, Error> {
+    let five = FIVE;
+    let mut items = Vec::with_capacity(alloc, 5)?;
+    for (key, seqno, kind, value) in &five {
+        items.push(entry(alloc, key, *seqno, *kind, value)?)?;
+    }
     Ok(items)
+}
+
+// The block of the five entries, by way of its bytes.
+fn block_of_five<A: Allocator + Copy>(alloc: A) -> Result<DataBlock<A>, Error> {
+    let items = five_entries(alloc)?;
+    written_and_loaded(alloc, &items)
+}
+
+// Whether a point read finds this entry.
+fn finds<A: Allocator>(
+    block: &DataBlock<A>,
+    key: &[u8],
+    seqno: SeqNo,
+    expected: Option<&InternalValue<A>>,
+) -> Result<bool, Error> {
+    let found = block.point_read(key, seqno)?;
+    Ok(found.as_ref() == expected)
+}
+
+// The number of the entry that a point read finds, or 99 where it finds none.
+fn number_found<A: Allocator>(
+    block: &DataBlock<A>,
+    key: &[u8],
+    seqno: SeqNo,
+) -> Result<SeqNo, Error> {
+    let found = block.point_read(key, seqno)?;
+    Ok(found.map_or(99, |item| item.key.seqno))
 }
 
 // a@1, a value of `x`.
@@ -84,56 +129,60 @@ const ONE_IN_V4: [u8; 23] = [
     1, 0, 0, 0, 0, 1, 0, 0, 0, 0, 0, 0, 0, 1, 0, 0, 0, 1, 0, 0, 0, 0x61, 0x78,
 ];
 
-// Whether a payload is a block of a@1 alone, with the value `x`.
-fn has_one_entry<A: Allocator + Clone>(
-    alloc: A,
-    version: TableVersion,
-    bytes: &[u8],
-) -> Result<bool, Error> {
-    let expected = entry(alloc.clone()?, b"a", 1, ValueType::Value, b"x")?;
-    let block = data_block(alloc, version, bytes)?;
-    let found = block.point_read(b"a", 2)?;
-    let missed = block.point_read(b"a", 1)?;
-    Ok(block.len() == 1 && !block.is_empty() && found == Some(expected) && missed.is_none())
+// Whether a point read finds a@1, with the value `x`.
+fn finds_x(alloc: Global, block: &DataBlock) -> Result<bool, Error> {
+    let expected = entry(alloc, b"a", 1, ValueType::Value, b"x")?;
+    finds(block, b"a", 2, Some(&expected))
 }
 
-// What is written of some entries at the end of the byte 7.
-fn written_behind<A: Allocator + Clone>(
-    alloc: A,
-    items: &[InternalValue<A>],
-) -> Result<Vec<u8, A>, Error> {
-    if !are_strict(items) {
-        return Err(Error::InvalidBlock);
-    }
-    let mut written = Vec::new(alloc);
-    written.push(7)?;
-    DataBlock::encode_into(&mut written, items, 16, 0)?;
-    Ok(written)
+// Whether a block has a@1 alone, with the value `x`.
+fn has_one_entry(alloc: Global, block: &DataBlock) -> Result<bool, Error> {
+    Ok(
+        block.len() == 1
+            && !block.is_empty()
+            && finds_x(alloc, block)?
+            && number_found(block, b"a", 1)? == 99,
+    )
+}
+
+// Whether a payload is such a block.
+fn is_one_entry(alloc: Global, version: TableVersion, bytes: &[u8]) -> Result<bool, Error> {
+    let block = data_block(alloc, version, bytes)?;
+    has_one_entry(alloc, &block)
 }
 
 #[test]
 fn payloads_of_both_versions_read_as_their_entries(rt: HostRuntime) -> Result<(), Fail> {
     let alloc = rt.alloc();
-    assert!(rt; has_one_entry(alloc, TableVersion::V3, &ONE_IN_V3)?);
-    assert!(rt; has_one_entry(alloc, TableVersion::V4, &ONE_IN_V4)?);
+    assert!(rt; is_one_entry(alloc, TableVersion::V3, &ONE_IN_V3)?);
+    assert!(rt; is_one_entry(alloc, TableVersion::V4, &ONE_IN_V4)?);
     Ok(())
+}
+
+// Whether some bytes are 7 and then the payload of a@1.
+fn is_behind_seven(written: &[u8]) -> bool {
+    matches!(written, [7, payload @ ..] if payload == ONE_IN_V4.as_slice())
+}
+
+// The bound on the block of a@1, and whether its payload is written behind the byte 7.
+fn bound_and_payload(alloc: Global) -> Result<(u64, bool), Error> {
+    let items = [entry(alloc, b"a", 1, ValueType::Value, b"x")?];
+    let written = written_behind(alloc, &[7], &items)?;
+    Ok((data_block_bound(&items), is_behind_seven(&written)))
 }
 
 #[test]
 fn entries_are_written_behind_what_was_there(rt: HostRuntime) -> Result<(), Fail> {
-    let item = entry(rt.alloc(), b"a", 1, ValueType::Value, b"x")?;
-    let items = [item];
-    assert_eq!(rt; data_block_bound(&items), 24 + 23);
-    let written = written_behind(rt.alloc(), &items)?;
-    assert!(rt; matches!(written.as_slice(), [7, payload @ ..] if payload == ONE_IN_V4.as_slice()));
+    let (bound, is_behind) = bound_and_payload(rt.alloc())?;
+    assert_eq!(rt; bound, 24 + 23);
+    assert!(rt; is_behind);
     Ok(())
 }
 
-// The number of the entry that is found in the block of five, or 99 where there is none.
+// The number of the entry that a point read finds in the block of five, or 99 where it finds none.
 fn found_in_five(alloc: Global, key: &[u8], seqno: SeqNo) -> Result<SeqNo, Error> {
-    let block = written_and_loaded(alloc, &five_entries(alloc)?)?;
-    let found = block.point_read(key, seqno)?;
-    Ok(found.map_or(99, |item| item.key.seqno))
+    let block = block_of_five(alloc)?;
+    number_found(&block, key, seqno)
 }
 
 #[test]
@@ -163,40 +212,26 @@ fn a_point_read_finds_the_newest_version_below_a_number(rt: HostRuntime) -> Resu
     Ok(())
 }
 
-// Whether a point read finds a@7, a tombstone, and c@0, a weak one, and e@3 with its value.
+// Whether point reads in the block of five find a@7, a tombstone, and c@0, a weak one, and e@3 with its value.
+fn finds_three(block: &DataBlock, items: &[InternalValue]) -> Result<bool, Error> {
+    Ok(
+        block.len() == 5
+            && finds(block, b"a", 9, items.get(1))?
+            && finds(block, b"c", 1, items.get(3))?
+            && finds(block, b"e", 4, items.get(4))?,
+    )
+}
+
+// Whether the block of five gives such entries back whole.
 fn finds_whole_entries(alloc: Global) -> Result<bool, Error> {
     let items = five_entries(alloc)?;
     let block = written_and_loaded(alloc, &items)?;
-    Ok(
-        block.len() == 5
-            && block.point_read(b"a", 9)?.as_ref() == items.get(1)
-            && block.point_read(b"c", 1)?.as_ref() == items.get(3)
-            && block.point_read(b"e", 4)?.as_ref() == items.get(4),
-    )
+    finds_three(&block, &items)
 }
 
 #[test]
 fn a_point_read_finds_entries_as_they_were_written(rt: HostRuntime) -> Result<(), Fail> {
     assert!(rt; finds_whole_entries(rt.alloc())?);
-    Ok(())
-}
-
-// Whether a block without entries gives none.
-fn has_none(alloc: Global) -> Result<bool, Error> {
-    let count = [0; 4];
-    let block = data_block(alloc, TableVersion::V3, &count)?;
-    let mut iter = block.iter();
-    Ok(
-        block.is_empty()
-            && block.point_read(b"a", u64::MAX)?.is_none()
-            && iter.next().is_none()
-            && iter.next_back().is_none(),
-    )
-}
-
-#[test]
-fn a_block_without_entries_has_none(rt: HostRuntime) -> Result<(), Fail> {
-    assert!(rt; has_none(rt.alloc())?);
     Ok(())
 }
 
@@ -206,6 +241,33 @@ fn number<A: Allocator>(answer: Option<IterItem<A>>) -> Result<SeqNo, Error> {
         Some(item) => Ok(item?.key.seqno),
         None => Ok(99),
     }
+}
+
+// The numbers of the first entry and of the last, 99 where there is none.
+fn ends<A: Allocator>(iter: &mut DataBlockIter<'_, A>) -> Result<(SeqNo, SeqNo), Error> {
+    let first = number(iter.next())?;
+    Ok((first, number(iter.next_back())?))
+}
+
+// Whether a block gives no entries.
+fn gives_none(block: &DataBlock) -> Result<bool, Error> {
+    Ok(
+        block.is_empty()
+            && number_found(block, b"a", u64::MAX)? == 99
+            && ends(&mut block.iter())? == (99, 99),
+    )
+}
+
+// Whether a block without entries gives none.
+fn has_none(alloc: Global) -> Result<bool, Error> {
+    let block = data_block(alloc, TableVersion::V3, &[0; 4])?;
+    gives_none(&block)
+}
+
+#[test]
+fn a_block_without_entries_has_none(rt: HostRuntime) -> Result<(), Fail> {
+    assert!(rt; has_none(rt.alloc())?);
+    Ok(())
 }
 
 // Seeks in a block, and answers whether that leaves an entry.
@@ -218,15 +280,16 @@ fn seek(iter: &mut DataBlockIter<'_>, to: &str, key: &[u8]) -> bool {
     }
 }
 
+// Whether a seek leaves entries, and the numbers of the first and of the last.
+fn ends_after(block: &DataBlock, to: &str, key: &[u8]) -> Result<(bool, (SeqNo, SeqNo)), Error> {
+    let mut iter = block.iter();
+    Ok((seek(&mut iter, to, key), ends(&mut iter)?))
+}
+
 // Whether a seek in the block of five leaves a first and a last entry of these numbers.
 fn leaves(alloc: Global, to: &str, key: &[u8], first: SeqNo, last: SeqNo) -> Result<bool, Error> {
-    let block = written_and_loaded(alloc, &five_entries(alloc)?)?;
-    let mut iter = block.iter();
-    Ok(
-        seek(&mut iter, to, key) == (first != 99)
-            && number(iter.next())? == first
-            && number(iter.next_back())? == last,
-    )
+    let block = block_of_five(alloc)?;
+    Ok(ends_after(&block, to, key)? == (first != 99, (first, last)))
 }
 
 #[test]
@@ -260,9 +323,8 @@ fn seeks_narrow_to_the_entries_on_one_side_of_a_key(rt: HostRuntime) -> Result<(
     Ok(())
 }
 
-// Whether the block of five gives these numbers at these ends.
-fn deals(alloc: Global, answers: &[(Direction, SeqNo)]) -> Result<bool, Error> {
-    let block = written_and_loaded(alloc, &five_entries(alloc)?)?;
+// Whether a block gives these numbers at these ends.
+fn gives(block: &DataBlock, answers: &[(Direction, SeqNo)]) -> Result<bool, Error> {
     let mut iter = block.iter();
     for (end, wanted) in answers {
         if number(answer_at(&mut iter, *end))? != *wanted {
@@ -270,6 +332,12 @@ fn deals(alloc: Global, answers: &[(Direction, SeqNo)]) -> Result<bool, Error> {
         }
     }
     Ok(true)
+}
+
+// Whether the block of five gives these numbers at these ends.
+fn deals(alloc: Global, answers: &[(Direction, SeqNo)]) -> Result<bool, Error> {
+    let block = block_of_five(alloc)?;
+    gives(&block, answers)
 }
 
 #[test]
@@ -287,14 +355,19 @@ fn both_ends_deal_one_window(rt: HostRuntime) -> Result<(), Fail> {
     Ok(())
 }
 
-// Whether edges that have crossed leave nothing, whatever is sought later.
-fn crossed_edges_stay(alloc: Global) -> Result<bool, Error> {
-    let block = written_and_loaded(alloc, &five_entries(alloc)?)?;
+// Whether edges that cross at a block's first key leave nothing, whatever is sought later.
+fn edges_stay_crossed(block: &DataBlock) -> Result<bool, Error> {
     let mut iter = block.iter();
     let above = iter.seek_exclusive(b"a");
     let crossed = iter.seek_upper(b"a");
     let later = iter.seek(b"a");
-    Ok(above && !crossed && !later && iter.next().is_none() && iter.next_back().is_none())
+    Ok(above && !crossed && !later && ends(&mut iter)? == (99, 99))
+}
+
+// Whether such edges leave nothing in the block of five.
+fn crossed_edges_stay(alloc: Global) -> Result<bool, Error> {
+    let block = block_of_five(alloc)?;
+    edges_stay_crossed(&block)
 }
 
 #[test]
@@ -303,24 +376,34 @@ fn a_later_seek_widens_no_window(rt: HostRuntime) -> Result<(), Fail> {
     Ok(())
 }
 
-// Whether a payload is in the grammar: its count, and then its entries, each by its tag, its number, both of its lengths
-// and the first of the two bytes behind them.
-fn is_read<A: Allocator + Clone>(
+// Spells an entry by its tag, its number, both of its lengths and the first of the two bytes behind them.
+fn spell<A: Allocator>(bytes: &mut Vec<u8, A>, entry: &[u32; 5]) -> Result<(), Error> {
+    let [tag, seqno, key_len, value_len, first] = entry;
+    bytes.push((*tag & 0xff) as u8)?;
+    bytes.extend_from_slice(&u64::from(*seqno).to_le_bytes())?;
+    bytes.extend_from_slice(&key_len.to_le_bytes())?;
+    bytes.extend_from_slice(&value_len.to_le_bytes())?;
+    bytes.extend_from_slice(&[(*first & 0xff) as u8, b'x'])?;
+    Ok(())
+}
+
+// A payload of a count, and then of entries.
+fn spelled<A: Allocator + Copy>(
     alloc: A,
     count: u32,
     entries: &[[u32; 5]],
-) -> Result<bool, Error> {
-    let mut bytes = Vec::new(alloc.clone()?);
-    bytes.extend_from_slice(&count.to_le_bytes())?;
-    for [tag, seqno, key_len, value_len, first] in entries {
-        bytes.push((*tag & 0xff) as u8)?;
-        bytes.extend_from_slice(&u64::from(*seqno).to_le_bytes())?;
-        bytes.extend_from_slice(&key_len.to_le_bytes())?;
-        bytes.extend_from_slice(&value_len.to_le_bytes())?;
-        bytes.push((*first & 0xff) as u8)?;
-        bytes.push(b'x')?;
+) -> Result<Vec<u8, A>, Error> {
+    let mut bytes = Vec::from_slice(alloc, &count.to_le_bytes())?;
+    for entry in entries {
+        spell(&mut bytes, entry)?;
     }
-    match data_block(alloc, TableVersion::V4, &bytes) {
+    Ok(bytes)
+}
+
+// Whether a payload of a count and of entries is in the grammar.
+fn is_read<A: Allocator + Copy>(alloc: A, count: u32, entries: &[[u32; 5]]) -> Result<bool, Error> {
+    let bytes = spelled(alloc, count, entries)?;
+    match data_block(alloc, TableVersion::V4, bytes.as_slice()) {
         Ok(block) => Ok(block.len() == entries.len()),
         Err(Error::InvalidBlock) => Ok(false),
         Err(error) => Err(error),
@@ -355,6 +438,11 @@ fn payloads_are_read_where_they_are_in_the_grammar(rt: HostRuntime) -> Result<()
     Ok(())
 }
 
+// Whether a payload is no block.
+fn is_refused(alloc: Global, version: TableVersion, bytes: &[u8]) -> bool {
+    matches!(data_block(alloc, version, bytes), Err(Error::InvalidBlock))
+}
+
 #[test]
 fn payloads_cut_short_or_of_the_other_version_are_refused(rt: HostRuntime) {
     let old = ONE_IN_V3;
@@ -366,26 +454,24 @@ fn payloads_cut_short_or_of_the_other_version_are_refused(rt: HostRuntime) {
         (TableVersion::V3, new.as_slice()),
         (TableVersion::V4, old.as_slice()),
     ] {
-        let answer = data_block(rt.alloc(), version, bytes);
-        assert!(rt; matches!(&answer, Err(Error::InvalidBlock)));
+        assert!(rt; is_refused(rt.alloc(), version, bytes));
     }
 }
 
-// What encoding the one entry of a key of so many bytes adds to a buffer.
-fn written_len<A: Allocator + Clone>(alloc: A, key_len: usize) -> Result<usize, Error> {
-    let key = vec![in alloc.clone()?; 0u8; key_len]?;
-    let mut items = Vec::new(alloc.clone()?);
-    items.push(InternalValue::from_components(
-        Slice::from_vec(key)?,
-        Slice::empty(),
-        1,
-        ValueType::Value,
-    ))?;
-    let mut buf = Vec::new(alloc);
-    if are_strict(&items) {
-        DataBlock::encode_into(&mut buf, &items, 16, 0)?;
-    }
-    Ok(buf.len())
+// An entry whose key is a byte so many times.
+fn entry_of_key_len<A: Allocator + Copy>(
+    alloc: A,
+    byte: u8,
+    key_len: usize,
+) -> Result<InternalValue<A>, Error> {
+    let key = Slice::from_vec(vec![in alloc; byte; key_len]?)?;
+    Ok(InternalValue::from_components(key, Slice::empty(), 1, ValueType::Value))
+}
+
+// How many bytes are written of one entry, of a key of so many.
+fn written_len<A: Allocator + Copy>(alloc: A, key_len: usize) -> Result<usize, Error> {
+    let items = [entry_of_key_len(alloc, 0, key_len)?];
+    Ok(written_behind(alloc, b"", &items)?.len())
 }
 
 #[test]
@@ -396,19 +482,36 @@ fn keys_of_a_mebibyte_are_taken_and_longer_ones_refused(rt: HostRuntime) {
     assert!(rt; written_len(alloc, 1048577) == Err(Error::KeyTooLong));
 }
 
-// Entries of 4,096 keys, whose values of a mebibyte share their memory.
-fn many_entries<A: Allocator + Clone>(alloc: A) -> Result<Vec<InternalValue<A>, A>, Error> {
-    let value = Slice::from_vec(vec![in alloc.clone()?; 0u8; 1048576]?)?;
-    let mut items = Vec::new(alloc.clone()?);
-    for i in 0..4096u16 {
-        let key = Slice::from(alloc.clone()?, &i.to_be_bytes())?;
-        items.push(InternalValue::from_components(key, value.clone()?, 1, ValueType::Value))?;
+// An entry whose key is a number, the high byte first, and whose value shares its memory.
+fn entry_sharing<A: Allocator + Copy>(
+    alloc: A,
+    number: u16,
+    value: &Slice<A>,
+) -> Result<InternalValue<A>, Error> {
+    let key = Slice::from(alloc, &number.to_be_bytes())?;
+    Ok(InternalValue::from_components(key, value.clone()?, 1, ValueType::Value))
+}
+
+// Entries of 4,096 keys, which share this value's memory.
+fn entries_sharing<A: Allocator + Copy>(
+    alloc: A,
+    value: &Slice<A>,
+) -> Result<Vec<InternalValue<A>, A>, Error> {
+    let mut items = Vec::new(alloc);
+    for number in 0..4096 {
+        items.push(entry_sharing(alloc, number, value)?)?;
     }
     Ok(items)
 }
 
+// Entries of 4,096 keys, whose values of a mebibyte share their memory.
+fn many_entries<A: Allocator + Copy>(alloc: A) -> Result<Vec<InternalValue<A>, A>, Error> {
+    let value = Slice::from_vec(vec![in alloc; 0u8; 1048576]?)?;
+    entries_sharing(alloc, &value)
+}
+
 // How encoding some entries behind the byte 7 is refused, where that leaves the byte alone.
-fn refusal<A: Allocator + Clone>(
+fn refusal<A: Allocator + Copy>(
     alloc: A,
     items: &[InternalValue<A>],
 ) -> Result<Option<Error>, Error> {
@@ -421,19 +524,25 @@ fn refusal<A: Allocator + Clone>(
     Ok(refused.filter(|_| buf.as_slice() == [7].as_slice()))
 }
 
+// The bound on the block of as many entries, and how they are refused.
+fn bound_and_refusal(alloc: Global) -> Result<(u64, Option<Error>), Error> {
+    let items = many_entries(alloc)?;
+    let refused = refusal(alloc, &items)?;
+    Ok((data_block_bound(&items), refused))
+}
+
 #[test]
 fn a_block_of_four_gibibytes_is_refused(rt: HostRuntime) -> Result<(), Fail> {
-    let items = many_entries(rt.alloc())?;
-    assert_eq!(rt; data_block_bound(&items), 28 + 4096 * (17 + 2 + 1048576));
-    assert_eq!(rt; refusal(rt.alloc(), &items)?, Some(Error::BlockTooLarge));
+    let (bound, refused) = bound_and_refusal(rt.alloc())?;
+    assert_eq!(rt; bound, 28 + 4096 * (17 + 2 + 1048576));
+    assert_eq!(rt; refused, Some(Error::BlockTooLarge));
     Ok(())
 }
 
 // The refusal of as many entries, and one behind them whose key is too long.
 fn refusal_of_a_long_key(alloc: Global) -> Result<Option<Error>, Error> {
     let mut items = many_entries(alloc)?;
-    let key = vec![in alloc; 0xffu8; 1048577]?;
-    items.push(entry(alloc, &key, 1, ValueType::Value, b"")?)?;
+    items.push(entry_of_key_len(alloc, 0xff, 1048577)?)?;
     refusal(alloc, &items)
 }
 
@@ -443,21 +552,22 @@ fn a_key_that_is_too_long_is_told_before_the_block(rt: HostRuntime) -> Result<()
     Ok(())
 }
 
-// The ends of a block and a point read, by way of the block's bytes.
-fn write_and_read<A: Allocator + Clone>(alloc: A) -> Result<(SeqNo, SeqNo, bool), Error> {
-    let items = five_entries(alloc.clone()?)?;
-    let block = written_and_loaded(alloc, &items)?;
-    let mut iter = block.iter();
-    let first = number(iter.next())?;
-    let last = number(iter.next_back())?;
-    let found = block.point_read(b"c", 1)?;
-    Ok((first, last, found.is_some()))
+// The numbers of a block's ends and of what a point read finds.
+fn read<A: Allocator>(block: &DataBlock<A>) -> Result<(SeqNo, SeqNo, SeqNo), Error> {
+    let (first, last) = ends(&mut block.iter())?;
+    Ok((first, last, number_found(block, b"c", 1)?))
+}
+
+// These numbers of the block of five, by way of its bytes.
+fn write_and_read<A: Allocator + Copy>(alloc: A) -> Result<(SeqNo, SeqNo, SeqNo), Error> {
+    let block = block_of_five(alloc)?;
+    read(&block)
 }
 
 #[test]
 fn each_request_refused_is_answered_so(rt: HostRuntime) -> Result<(), Fail> {
     let answers = each_refused(rt.alloc(), |heap, may_fail| match write_and_read(heap) {
-        Ok(answer) => answer == (9, 3, true),
+        Ok(answer) => answer == (9, 3, 0),
         Err(Error::OutOfMemory) => may_fail,
         Err(_) => false,
     });

@@ -1,7 +1,6 @@
 //! Hashes, and the bytes of blocks.
 use sst_blocks::{
-    Block, BlockHandle, BlockOffset, BlockType, CompressionType, Error, SectionName, SectionWriter,
-    Slice, hash,
+    Block, BlockHandle, BlockType, CompressionType, Error, SectionName, SectionWriter, Slice, hash,
 };
 use std::alloc::Global;
 use std::test::Fail;
@@ -30,29 +29,54 @@ const PAYLOAD: [u8; 23] = [
     1, 0, 0, 0, 0, 1, 0, 0, 0, 0, 0, 0, 0, 1, 0, 0, 0, 1, 0, 0, 0, b'a', b'x',
 ];
 
-// Where the block of one entry and that of a filter behind it lie, and the bytes with them.
-fn two_blocks(alloc: Global) -> Result<(BlockHandle, BlockHandle, Slice, u128), Error> {
-    let mut writer = SectionWriter::new(alloc)?;
-    writer.start(SectionName::Data)?;
+// The position and the size of a block.
+fn lies(handle: BlockHandle) -> (u64, u32) {
+    (handle.offset().0, handle.size())
+}
+
+// Writes the block of one entry and that of a filter behind it, and answers where each lies.
+fn write_both(writer: &mut SectionWriter) -> Result<[(u64, u32); 2], Error> {
     let uncompressed = CompressionType::None;
     let payload = PAYLOAD;
-    let first = Block::write_into(&mut writer, &payload, BlockType::Data, uncompressed)?;
-    let second = Block::write_into(&mut writer, b"\x06\xff", BlockType::Filter, uncompressed)?;
+    let first = Block::write_into(writer, &payload, BlockType::Data, uncompressed)?;
+    let second = Block::write_into(writer, b"\x06\xff", BlockType::Filter, uncompressed)?;
+    Ok([lies(first), lies(second)])
+}
+
+// Where both blocks lie, and the bytes with them and their checksum.
+fn two_blocks(alloc: Global) -> Result<([(u64, u32); 2], Slice, u128), Error> {
+    let mut writer = SectionWriter::new(alloc)?;
+    writer.start(SectionName::Data)?;
+    let both = write_both(&mut writer)?;
     let (bytes, checksum) = writer.finish()?;
-    Ok((first, second, bytes, checksum.0))
+    Ok((both, bytes, checksum.0))
+}
+
+// Whether some bytes begin with both blocks: header and payload, and a header more and the filter.
+fn begin_with_both(bytes: &[u8]) -> bool {
+    bytes.starts_with(&HEADER)
+        && bytes.get(24..47) == Some(PAYLOAD.as_slice())
+        && bytes.get(71..73) == Some(b"\x06\xff".as_slice())
+}
+
+// Where both blocks lie, whether the bytes hold them there, and whether the checksum is the bytes' hash.
+fn as_bytes(alloc: Global) -> Result<([(u64, u32); 2], bool, bool), Error> {
+    let (both, bytes, checksum) = two_blocks(alloc)?;
+    let bytes = bytes.as_slice();
+    Ok((
+        both,
+        begin_with_both(bytes),
+        checksum == u128::from(hash(bytes)),
+    ))
 }
 
 // Two hashes are made at once here, the payload's and that of all bytes.
 #[test]
 fn blocks_as_bytes(rt: HostRuntime) -> Result<(), Fail> {
-    let (first, second, bytes, checksum) = two_blocks(rt.alloc())?;
-    assert_eq!(rt; (first.offset(), first.size()), (BlockOffset(0), 47));
-    assert_eq!(rt; (second.offset(), second.size()), (BlockOffset(47), 26));
-    let bytes = bytes.as_slice();
-    assert!(rt; bytes.starts_with(&HEADER));
+    let (both, are_there, is_their_hash) = as_bytes(rt.alloc())?;
+    assert_eq!(rt; both, [(0, 47), (47, 26)]);
     assert_eq!(rt; Block::<Global>::HEADER_LEN, 24);
-    assert!(rt; bytes.get(24..47) == Some(PAYLOAD.as_slice()));
-    assert!(rt; bytes.get(71..73) == Some(b"\x06\xff".as_slice()));
-    assert_eq!(rt; checksum, u128::from(hash(bytes)));
+    assert!(rt; are_there);
+    assert!(rt; is_their_hash);
     Ok(())
 }

@@ -13,7 +13,7 @@ use sst_blocks::{
 use std::alloc::{Allocator, Global};
 use std::test::Fail;
 
-fn handle<A: Allocator + Clone>(
+fn handle<A: Allocator + Copy>(
     alloc: A,
     end_key: &[u8],
     seqno: SeqNo,
@@ -54,14 +54,30 @@ fn are_strict<A: Allocator>(handles: &[KeyedBlockHandle<A>]) -> bool
     true
 }
 
-// b@5, b@3, d@9 and f@1, at the positions 0, 10, 20 and 30.
-fn four_handles<A: Allocator + Clone>(alloc: A) -> Result<Vec<KeyedBlockHandle<A>, A>, Error> {
-    let mut handles = Vec::new(alloc.clone()?);
-    handles.push(handle(alloc.clone()?, b"b", 5, 0, 10)?)?;
-    handles.push(handle(alloc.clone()?, b"b", 3, 10, 10)?)?;
-    handles.push(handle(alloc.clone()?, b"d", 9, 20, 10)?)?;
-    handles.push(handle(alloc, b"f", 1, 30, 10)?)?;
+// b@5, b@3, d@9 and f@1, and the positions of their blocks.
+const FOUR: [(&[u8], SeqNo, u64); 4] = [(b"b", 5, 0), (b"b", 3, 10), (b"d", 9, 20), (b"f", 1, 30)];
+
+// The four handles.
+fn four_handles<A: Allocator + Copy>(alloc: A) -> Result<Vec<KeyedBlockHandle<A>, A>, Error> {
+    let four = FOUR;
+    let mut handles = Vec::new(alloc);
+    for (end_key, seqno, offset) in &four {
+        handles.push(handle(alloc, end_key, *seqno, *offset, 10)?)?;
+    }
     Ok(handles)
+}
+
+// The position of the handle that is found, or 99 where there is none.
+fn found_at<A: Allocator>(block: &IndexBlock<A>, key: &[u8], seqno: SeqNo) -> Result<u64, Error> {
+    let found = block.find(key, seqno)?;
+    Ok(found.map_or(99, |handle| handle.offset().0))
+}
+
+// Whether what reaches a@2 is a@1, at the position 0.
+fn finds_one(alloc: Global, block: &IndexBlock, size: u32) -> Result<bool, Error> {
+    let expected = handle(alloc, b"a", 1, 0, size)?;
+    let found = block.find(b"a", 2)?;
+    Ok(found == Some(expected))
 }
 
 const ONE_IN_V3: [u8; 27] = [
@@ -72,30 +88,37 @@ const ONE_IN_V4: [u8; 29] = [
     1, 0, 0, 0, 1, 0, 0, 0, 0, 0, 0, 0, 0, 0, 0, 0, 0, 0, 0, 0, 0x2f, 0, 0, 0, 1, 0, 0, 0, 0x61,
 ];
 
-// Whether a payload is a block of one handle: a@1, at the position 0.
-fn has_one_handle<A: Allocator + Clone>(
-    alloc: A,
+// Whether a block has one handle: a@1, at the position 0.
+fn has_one_handle(alloc: Global, block: &IndexBlock, size: u32) -> Result<bool, Error> {
+    Ok(
+        block.len() == 1
+            && !block.is_empty()
+            && finds_one(alloc, block, size)?
+            && found_at(block, b"a", 1)? == 99,
+    )
+}
+
+// Whether a payload is such a block.
+fn is_one_handle(
+    alloc: Global,
     version: TableVersion,
     bytes: &[u8],
     size: u32,
 ) -> Result<bool, Error> {
-    let expected = handle(alloc.clone()?, b"a", 1, 0, size)?;
     let block = index_block(alloc, version, bytes)?;
-    let found = block.find(b"a", 2)?;
-    let missed = block.find(b"a", 1)?;
-    Ok(block.len() == 1 && !block.is_empty() && found == Some(expected) && missed.is_none())
+    has_one_handle(alloc, &block, size)
 }
 
-// What is written of some handles at the end of the byte 7.
-fn written_behind<A: Allocator + Clone>(
+// What is written of some handles behind some bytes.
+fn written_behind<A: Allocator + Copy>(
     alloc: A,
+    front: &[u8],
     handles: &[KeyedBlockHandle<A>],
 ) -> Result<Vec<u8, A>, Error> {
     if !are_strict(handles) {
         return Err(Error::InvalidBlock);
     }
-    let mut written = Vec::new(alloc);
-    written.push(7)?;
+    let mut written = Vec::from_slice(alloc, front)?;
     IndexBlock::encode_into(&mut written, handles)?;
     Ok(written)
 }
@@ -103,16 +126,20 @@ fn written_behind<A: Allocator + Clone>(
 #[test]
 fn payloads_of_both_versions_read_as_their_handles(rt: HostRuntime) -> Result<(), Fail> {
     let alloc = rt.alloc();
-    assert!(rt; has_one_handle(alloc, TableVersion::V3, &ONE_IN_V3, 45)?);
-    assert!(rt; has_one_handle(alloc, TableVersion::V4, &ONE_IN_V4, 47)?);
+    assert!(rt; is_one_handle(alloc, TableVersion::V3, &ONE_IN_V3, 45)?);
+    assert!(rt; is_one_handle(alloc, TableVersion::V4, &ONE_IN_V4, 47)?);
     Ok(())
+}
+
+// Whether the payload of a@1 is written behind the byte 7.
+fn is_behind_seven(alloc: Global) -> Result<bool, Error> {
+    let written = written_behind(alloc, &[7], &[handle(alloc, b"a", 1, 0, 47)?])?;
+    Ok(matches!(written.as_slice(), [7, payload @ ..] if payload == ONE_IN_V4.as_slice()))
 }
 
 #[test]
 fn handles_are_written_behind_what_was_there(rt: HostRuntime) -> Result<(), Fail> {
-    let handles = [handle(rt.alloc(), b"a", 1, 0, 47)?];
-    let written = written_behind(rt.alloc(), &handles)?;
-    assert!(rt; matches!(written.as_slice(), [7, payload @ ..] if payload == ONE_IN_V4.as_slice()));
+    assert!(rt; is_behind_seven(rt.alloc())?);
     Ok(())
 }
 
@@ -127,16 +154,18 @@ fn position<A: Allocator>(
 }
 
 // A block with these handles, through its bytes.
-fn written_and_loaded<A: Allocator + Clone>(
+fn written_and_loaded<A: Allocator + Copy>(
     alloc: A,
     handles: &[KeyedBlockHandle<A>],
 ) -> Result<IndexBlock<A>, Error> {
-    if !are_strict(handles) {
-        return Err(Error::InvalidBlock);
-    }
-    let mut bytes = Vec::new(alloc.clone()?);
-    IndexBlock::encode_into(&mut bytes, handles)?;
+    let bytes = written_behind(alloc, b"", handles)?;
     index_block(alloc, TableVersion::V4, bytes.as_slice())
+}
+
+// The block of the four handles, through its bytes.
+fn block_of_four<A: Allocator + Copy>(alloc: A) -> Result<IndexBlock<A>, Error> {
+    let handles = four_handles(alloc)?;
+    written_and_loaded(alloc, &handles)
 }
 
 // Whether handles are left after a seek, and the position of the first.
@@ -207,7 +236,7 @@ fn wrong_first<A: Allocator>(block: &IndexBlock<A>) -> Result<Option<u64>, Error
         if first_after_seek(block, &[key], seqno)? != (first != 99, first) {
             return Ok(Some(first));
         }
-        if position(block.find(&[key], seqno)?.map(|handle| Ok(handle)))? != first {
+        if found_at(block, &[key], seqno)? != first {
             return Ok(Some(first));
         }
     }
@@ -226,15 +255,20 @@ fn wrong_last<A: Allocator>(block: &IndexBlock<A>) -> Result<Option<u64>, Error>
     Ok(None)
 }
 
-// Whether all seeks in the block of four lead where they should.
-fn seeks_lead_right(alloc: Global) -> Result<bool, Error> {
-    let block = written_and_loaded(alloc, &four_handles(alloc)?)?;
+// Whether all seeks in a block of the four handles lead where they should.
+fn lead_right(block: &IndexBlock) -> Result<bool, Error> {
     Ok(
-        wrong_first(&block)?.is_none()
-            && wrong_last(&block)?.is_none()
-            && after_both_seeks(&block, b"b", 4, b"c")? == (20, 10, 99, 99)
-            && after_both_seeks(&block, b"d", 9, b"a")? == (99, 99, 99, 99),
+        wrong_first(block)?.is_none()
+            && wrong_last(block)?.is_none()
+            && after_both_seeks(block, b"b", 4, b"c")? == (20, 10, 99, 99)
+            && after_both_seeks(block, b"d", 9, b"a")? == (99, 99, 99, 99),
     )
+}
+
+// Whether they do so in the block of four, by way of its bytes.
+fn seeks_lead_right(alloc: Global) -> Result<bool, Error> {
+    let block = block_of_four(alloc)?;
+    lead_right(&block)
 }
 
 #[test]
@@ -243,45 +277,57 @@ fn seeks_narrow_to_the_handles_that_may_hold_a_key(rt: HostRuntime) -> Result<()
     Ok(())
 }
 
-// What comes of a payload with this count, and then a handle for each three bytes: its end key, the key length that it
-// claims and its number.
-fn handles_claimed<A: Allocator + Clone>(
+// Spells a handle by its end key, the key length that it claims and its number.
+fn spell<A: Allocator>(bytes: &mut Vec<u8, A>, claim: &[u8; 3]) -> Result<(), Error> {
+    let [key, key_len, seqno] = claim;
+    bytes.extend_from_slice(&u64::from(*seqno).to_le_bytes())?;
+    bytes.extend_from_slice(&[0; 12])?;
+    bytes.extend_from_slice(&u32::from(*key_len).to_le_bytes())?;
+    bytes.push(*key)?;
+    Ok(())
+}
+
+// A payload of a count, and then of handles.
+fn spelled<A: Allocator + Copy>(
     alloc: A,
     count: u32,
-    claims: &[u8],
-) -> Result<usize, Error> {
-    let mut bytes = Vec::new(alloc.clone()?);
-    bytes.extend_from_slice(&count.to_le_bytes())?;
-    let mut claims = claims;
-    while let [key, key_len, seqno, rest @ ..] = claims {
-        bytes.extend_from_slice(&u64::from(*seqno).to_le_bytes())?;
-        bytes.extend_from_slice(&[0; 12])?;
-        bytes.extend_from_slice(&u32::from(*key_len).to_le_bytes())?;
-        bytes.push(*key)?;
-        claims = rest;
+    claims: &[[u8; 3]],
+) -> Result<Vec<u8, A>, Error> {
+    let mut bytes = Vec::from_slice(alloc, &count.to_le_bytes())?;
+    for claim in claims {
+        spell(&mut bytes, claim)?;
     }
-    let block = index_block(alloc, TableVersion::V4, bytes.as_slice())?;
-    Ok(block.len())
+    Ok(bytes)
+}
+
+// How many handles a payload of a count and of handles has.
+fn handles_claimed<A: Allocator + Copy>(
+    alloc: A,
+    count: u32,
+    claims: &[[u8; 3]],
+) -> Result<usize, Error> {
+    let bytes = spelled(alloc, count, claims)?;
+    Ok(index_block(alloc, TableVersion::V4, bytes.as_slice())?.len())
 }
 
 #[test]
 fn payloads_out_of_the_grammar_are_refused(rt: HostRuntime) -> Result<(), Fail> {
     let alloc = rt.alloc();
-    assert!(rt; handles_claimed(alloc, 0, b"") == Ok(0));
-    assert!(rt; handles_claimed(alloc, 1, b"a\x01\x01") == Ok(1));
-    assert!(rt; handles_claimed(alloc, 2, b"a\x01\x02a\x01\x01") == Ok(2));
-    assert!(rt; handles_claimed(alloc, 2, b"a\x01\x01b\x01\x02") == Ok(2));
+    assert!(rt; handles_claimed(alloc, 0, &[]) == Ok(0));
+    assert!(rt; handles_claimed(alloc, 1, &[[b'a', 1, 1]]) == Ok(1));
+    assert!(rt; handles_claimed(alloc, 2, &[[b'a', 1, 2], [b'a', 1, 1]]) == Ok(2));
+    assert!(rt; handles_claimed(alloc, 2, &[[b'a', 1, 1], [b'b', 1, 2]]) == Ok(2));
     // Fewer handles or more than the count says, an end key that is cut short, a byte behind the last one, and handles that
     // are not strict: the same twice, numbers upward, keys downward.
-    let faults: [(u32, &[u8]); 8] = [
-        (1, b""),
-        (u32::MAX, b"a\x01\x01"),
-        (0, b"a\x01\x01"),
-        (1, b"a\x02\x01"),
-        (1, b"a\x00\x01"),
-        (2, b"a\x01\x01a\x01\x01"),
-        (2, b"a\x01\x01a\x01\x02"),
-        (2, b"b\x01\x01a\x01\x00"),
+    let faults: [(u32, &[[u8; 3]]); 8] = [
+        (1, &[]),
+        (u32::MAX, &[[b'a', 1, 1]]),
+        (0, &[[b'a', 1, 1]]),
+        (1, &[[b'a', 2, 1]]),
+        (1, &[[b'a', 0, 1]]),
+        (2, &[[b'a', 1, 1], [b'a', 1, 1]]),
+        (2, &[[b'a', 1, 1], [b'a', 1, 2]]),
+        (2, &[[b'b', 1, 1], [b'a', 1, 0]]),
     ];
     for (count, claims) in &faults {
         assert!(rt;
@@ -313,7 +359,7 @@ fn payloads_cut_short_or_of_the_other_version_are_refused(rt: HostRuntime) {
 }
 
 // The refusal of encoding some handles behind the byte 7, where that leaves the byte alone.
-fn refusal<A: Allocator + Clone>(
+fn refusal<A: Allocator + Copy>(
     alloc: A,
     handles: &[KeyedBlockHandle<A>],
 ) -> Result<Option<Error>, Error> {
@@ -342,43 +388,68 @@ fn keys_of_a_mebibyte_are_taken_and_longer_ones_refused(rt: HostRuntime) -> Resu
     Ok(())
 }
 
-// 4,096 handles whose end keys of 2^20 bytes share their memory: key i begins with i, the high byte first.
-fn many_handles(alloc: Global) -> Result<Vec<KeyedBlockHandle>, Error> {
+// 4,096 numbers, the high bytes first, and zeroes up to 2^20 bytes from the last.
+fn numbers(alloc: Global) -> Result<Slice, Error> {
     let mut bytes = Vec::new(alloc);
-    for i in 0..4096u16 {
-        bytes.extend_from_slice(&i.to_be_bytes())?;
+    for number in 0..4096u16 {
+        bytes.extend_from_slice(&number.to_be_bytes())?;
     }
     bytes.resize(8190 + 1048576, 0)?;
-    let shared = Slice::from_vec(bytes)?;
+    Slice::from_vec(bytes)
+}
+
+// A handle whose end key is 2^20 of the bytes from a place on, and shares their memory.
+fn handle_within(bytes: &Slice, start: usize) -> Result<KeyedBlockHandle, Error> {
+    let end = start.saturating_add(1048576);
+    if end > bytes.len() {
+        return Err(Error::InvalidBlock);
+    }
+    let inner = BlockHandle::new(BlockOffset(0), 24);
+    Ok(KeyedBlockHandle::new(bytes.slice(start, end)?, 1, inner))
+}
+
+// 4,096 handles whose end keys of 2^20 bytes share their memory: key i begins with i, the high byte first.
+fn many_handles(alloc: Global) -> Result<Vec<KeyedBlockHandle>, Error> {
+    let shared = numbers(alloc)?;
     let mut handles = Vec::new(alloc);
     for i in 0..4096usize {
-        if 2 * i + 1048576 > shared.len() {
-            return Err(Error::InvalidBlock);
-        }
-        let end_key = shared.slice(2 * i, 2 * i + 1048576)?;
-        let inner = BlockHandle::new(BlockOffset(0), 24);
-        handles.push(KeyedBlockHandle::new(end_key, 1, inner))?;
+        handles.push(handle_within(&shared, 2 * i)?)?;
     }
     Ok(handles)
 }
 
+// The bound on the block of as many handles, and how they are refused.
+fn bound_and_refusal(alloc: Global) -> Result<(u64, Option<Error>), Error> {
+    let handles = many_handles(alloc)?;
+    let refused = refusal(alloc, &handles)?;
+    Ok((index_block_bound(&handles), refused))
+}
+
 #[test]
 fn a_block_of_four_gibibytes_is_refused(rt: HostRuntime) -> Result<(), Fail> {
-    let handles = many_handles(rt.alloc())?;
-    assert_eq!(rt; index_block_bound(&handles), 28 + 4096 * (24 + 1048576));
-    assert_eq!(rt; refusal(rt.alloc(), &handles)?, Some(Error::BlockTooLarge));
+    let (bound, refused) = bound_and_refusal(rt.alloc())?;
+    assert_eq!(rt; bound, 28 + 4096 * (24 + 1048576));
+    assert_eq!(rt; refused, Some(Error::BlockTooLarge));
     Ok(())
 }
 
-// The handles of a block from both ends, and the one that reaches b@5, by way of its bytes.
-fn write_and_read<A: Allocator + Clone>(alloc: A) -> Result<(u64, u64, u64), Error> {
-    let handles = four_handles(alloc.clone()?)?;
-    let block = written_and_loaded(alloc, &handles)?;
+// The positions of a block's first handle and of its last, 99 where there is none.
+fn ends<A: Allocator>(block: &IndexBlock<A>) -> Result<(u64, u64), Error> {
     let mut iter = block.iter();
     let first = position(iter.next())?;
-    let last = position(iter.next_back())?;
-    let found = block.find(b"b", 5)?;
-    Ok((first, last, position(found.map(|handle| Ok(handle)))?))
+    Ok((first, position(iter.next_back())?))
+}
+
+// The positions of a block's ends and of the handle that reaches b@5.
+fn read<A: Allocator>(block: &IndexBlock<A>) -> Result<(u64, u64, u64), Error> {
+    let (first, last) = ends(block)?;
+    Ok((first, last, found_at(block, b"b", 5)?))
+}
+
+// These positions in the block of four, by way of its bytes.
+fn write_and_read<A: Allocator + Copy>(alloc: A) -> Result<(u64, u64, u64), Error> {
+    let block = block_of_four(alloc)?;
+    read(&block)
 }
 
 #[test]

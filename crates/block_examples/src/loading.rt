@@ -21,7 +21,7 @@ fn told<A: Allocator>(answer: Result<Block<A>, Error>) -> Result<(BlockType, usi
 }
 
 // The stored table with some bytes changed.
-fn changed<A: Allocator + Clone>(alloc: A, changes: &[(usize, u8)]) -> Result<Slice<A>, Error> {
+fn changed<A: Allocator + Copy>(alloc: A, changes: &[(usize, u8)]) -> Result<Slice<A>, Error> {
     let mut bytes = Vec::from_slice(alloc, stored_table::bytes())?;
     for (at, value) in changes {
         if let Some(byte) = bytes.get_mut(*at) {
@@ -203,8 +203,8 @@ fn a_source_that_counts_its_loads(rt: HostRuntime) -> Result<(), Fail> {
 }
 
 // The sizes, over any allocator.
-fn open_and_load<A: Allocator + Clone>(alloc: A) -> Result<(usize, usize), Error> {
-    let bytes = Slice::from(alloc.clone()?, stored_table::bytes())?;
+fn open_and_load<A: Allocator + Copy>(alloc: A) -> Result<(usize, usize), Error> {
+    let bytes = Slice::from(alloc, stored_table::bytes())?;
     let source = BlockSource::new(alloc, bytes)?;
     sizes(&mut Counted::new(&source))
 }
@@ -220,18 +220,18 @@ fn each_request_of_a_load_refused(rt: HostRuntime) -> Result<(), Fail> {
     Ok(())
 }
 
-// Writes a filter block and loads it again.
-fn write_and_load<A: Allocator + Clone>(
-    alloc: A,
+// A table of a filter block alone, and where the block lies.
+fn filter_table(
+    alloc: Global,
     payload: &[u8; 2],
     is_short: bool,
-) -> Result<(BlockType, usize), Error> {
+) -> Result<(BlockHandle, Slice), Error> {
     let payload = if is_short {
         &payload[..1]
     } else {
         &payload[..2]
     };
-    let mut writer = SectionWriter::new(alloc.clone()?)?;
+    let mut writer = SectionWriter::new(alloc)?;
     writer.start(SectionName::Filter)?;
     let lies = Block::write_into(
         &mut writer,
@@ -240,9 +240,18 @@ fn write_and_load<A: Allocator + Clone>(
         CompressionType::None,
     )?;
     let (bytes, _checksum) = writer.finish()?;
+    Ok((lies, bytes))
+}
+
+// Writes a filter block and loads it again.
+fn write_and_load(
+    alloc: Global,
+    payload: &[u8; 2],
+    is_short: bool,
+) -> Result<(BlockType, usize), Error> {
+    let (lies, bytes) = filter_table(alloc, payload, is_short)?;
     let source = BlockSource::new(alloc, bytes)?;
-    let mut opened = Opened::none();
-    told(source.load(&lies, BlockType::Filter, &mut opened))
+    told(source.load(&lies, BlockType::Filter, &mut Opened::none()))
 }
 
 #[test]

@@ -1,14 +1,17 @@
 //! The sections of a stored table, written again.
+ghost use Rattle.std.specs.Prelude.{◌≡◌, []};
+
 use crate::stored_table;
 use refusing::each_refused;
 use sst_blocks::{BlockSource, Error, SectionName, SectionWriter, Slice};
 use std::alloc::{Allocator, Global};
 use std::test::Fail;
 
-// The sections of the stored table, written again.
-fn write_again<A: Allocator + Clone>(alloc: A) -> Result<(Slice<A>, u128), Error> {
+// Writes the sections of the stored table.
+fn write_sections<A: Allocator + Copy>(writer: &mut SectionWriter<A>) -> Result<(), Error>
+    requires { writer.old.started ≡ [] }
+{
     let bytes = stored_table::bytes();
-    let mut writer = SectionWriter::new(alloc)?;
     writer.start(SectionName::Data)?;
     writer.append(&bytes[..45])?;
     writer.start(SectionName::Tli)?;
@@ -16,15 +19,30 @@ fn write_again<A: Allocator + Clone>(alloc: A) -> Result<(Slice<A>, u128), Error
     writer.start(SectionName::TableVersion)?;
     writer.append(&bytes[96..97])?;
     writer.start(SectionName::Meta)?;
-    writer.append(&bytes[97..1138])?;
+    writer.append(&bytes[97..1138])
+}
+
+// The sections of the stored table, written again.
+fn write_again<A: Allocator + Copy>(alloc: A) -> Result<(Slice<A>, u128), Error> {
+    let mut writer = SectionWriter::new(alloc)?;
+    write_sections(&mut writer)?;
     let (bytes, checksum) = writer.finish()?;
     Ok((bytes, checksum.0))
 }
 
+// Whether the stored table is the same when written again, and the checksum of what is written.
+fn is_same<A: Allocator + Copy>(alloc: A) -> Result<(bool, u128), Error> {
+    let (bytes, checksum) = write_again(alloc)?;
+    Ok((
+        bytes.as_slice() == stored_table::bytes().as_slice(),
+        checksum,
+    ))
+}
+
 #[test]
 fn a_stored_table_is_written_again(rt: HostRuntime) -> Result<(), Fail> {
-    let (bytes, checksum) = write_again(rt.alloc())?;
-    assert!(rt; bytes.as_slice() == stored_table::bytes().as_slice());
+    let (is_same, checksum) = is_same(rt.alloc())?;
+    assert!(rt; is_same);
     assert_eq!(rt; checksum, 0x30fc_eabc_de57_bd50);
     Ok(())
 }
@@ -59,8 +77,8 @@ fn sections_lie_where_they_were_written(rt: HostRuntime) -> Result<(), Fail> {
 
 #[test]
 fn each_request_of_a_section_writer_refused(rt: HostRuntime) {
-    let refused = each_refused(rt.alloc(), |heap, may_fail| match write_again(heap) {
-        Ok((bytes, _)) => bytes.as_slice() == stored_table::bytes().as_slice(),
+    let refused = each_refused(rt.alloc(), |heap, may_fail| match is_same(heap) {
+        Ok((is_same, _)) => is_same,
         Err(Error::OutOfMemory) => may_fail,
         Err(_) => false,
     });
