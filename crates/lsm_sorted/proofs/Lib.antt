@@ -1,6 +1,7 @@
 pub mod EntryKeyLemmas
 pub mod EndsLemmas
 pub mod MvccLemmas
+pub mod PeekedLemmas
 pub mod NewestLemmas
 pub mod DealsNewest
 pub mod SideLemmas

@@ -220,3 +220,12 @@ moved_total size xs i was is old new h at found less perm =
     let total = sum_by-set size xs i is was at in
     let size_was : size was ≡ size (slice_index_or xs i was) = ap size found in
     omega (arith, total, size_was, length_permutation (h ∷ old) new perm)
+
+pub lowered_total : {E : Type 0} (size : E → ℕ) (xs : List E) (i : ℕ) (was is : E) (others : ℕ) → i < length xs → was ≡ slice_index_or xs i was → size is < size was → sum_by size (slice_set xs i is) + others < sum_by size xs + others
+lowered_total size xs i was is others at found less =
+    let total = sum_by-set size xs i is was at in
+    let size_was : size was ≡ size (slice_index_or xs i was) = ap size found in
+    omega (arith, total, size_was, less)
+
+pub ended_total : {E : Type 0} (size : E → ℕ) (xs : List E) (i : ℕ) (was is : E) (others : ℕ) → i < length xs → size is ≡ 0 → sum_by size (slice_set xs i is) + others ≤ sum_by size xs + others
+ended_total size xs i was is others at none = let total = sum_by-set size xs i is was at in omega (arith, total, none)

@@ -46,3 +46,34 @@ returns-in-None-next_back-clause-steps g c = record {
   may = c.in-None-next_back.ensures.goes;
   gives = λ stops. climbed_end stops (Holds stops g.I.Iterator.next_gives g.I.DoubleEndedIterator.next_back_gives) c.args.self.now.inner c.loop-before.self.inner c.next_back-in-loop-before.new.self c.loop-before.tail (c.loop-before.invariant.climbed stops) (c.in-None-next_back.ensures.deals stops);
 }
+
+pub returns-in-Some-Err-clause-goes : goal.returns-in-Some-Err-clause-goes
+returns-in-Some-Err-clause-goes g c = record {
+  on = λ _. (c.in-Some-Err.ensures.goes, tt, c.in-Some-Err.ensures.lowers);
+  keeps = c.in-Some-Err.ensures.goes;
+  rests = λ _. tt;
+}
+
+pub returns-in-None-clause-goes : goal.returns-in-None-clause-goes
+returns-in-None-clause-goes g c = record { on = λ _. tt; keeps = tt; rests = λ _. tt }
+
+pub returns-then-has_lower_key-clause-goes : goal.returns-then-has_lower_key-clause-goes
+returns-then-has_lower_key-clause-goes g c = record {
+  on = λ _. (rw c.put_back.ensures.source c.in-Some-Ok-next_back.ensures.goes, tt, omega (arith, c.put_back.ensures.size, c.in-Some-Ok-next_back.ensures.lowers, c.loop-before.invariant.fewer));
+  keeps = rw c.put_back.ensures.source c.in-Some-Ok-next_back.ensures.goes;
+  rests = λ _. tt;
+}
+
+pub returns-in-Some-Err-next_back-clause-goes : goal.returns-in-Some-Err-next_back-clause-goes
+returns-in-Some-Err-next_back-clause-goes g c = record {
+  on = λ _. (c.in-Some-Err-next_back.ensures.goes, tt, omega (arith, c.in-Some-Err-next_back.ensures.lowers, c.loop-before.invariant.fewer));
+  keeps = c.in-Some-Err-next_back.ensures.goes;
+  rests = λ _. tt;
+}
+
+pub returns-in-None-next_back-clause-goes : goal.returns-in-None-next_back-clause-goes
+returns-in-None-next_back-clause-goes g c = record {
+  on = λ _. (c.in-None-next_back.ensures.goes, tt, omega (arith, c.in-None-next_back.ensures.lowers, c.loop-before.invariant.fewer));
+  keeps = c.in-None-next_back.ensures.goes;
+  rests = λ _. tt;
+}

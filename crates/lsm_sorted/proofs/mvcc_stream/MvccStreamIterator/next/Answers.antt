@@ -54,3 +54,34 @@ returns-in-None-next-clause-steps g c = record {
   may = c.in-None-next.ensures.goes;
   gives = λ stops. drained_end stops (Holds stops g.I.Iterator.next_gives g.I.DoubleEndedIterator.next_back_gives) c.args.self.now.inner c.loop-other.self.inner c.next-in-loop-other.new.self c.loop-other.head (c.loop-other.invariant.drained stops) (c.in-None-next.ensures.deals stops);
 }
+
+pub returns-in-Some-Err-clause-goes : goal.returns-in-Some-Err-clause-goes
+returns-in-Some-Err-clause-goes g c = record {
+  on = λ _. (c.in-Some-Err.ensures.goes, tt, c.in-Some-Err.ensures.lowers);
+  keeps = c.in-Some-Err.ensures.goes;
+  rests = λ _. tt;
+}
+
+pub returns-in-None-clause-goes : goal.returns-in-None-clause-goes
+returns-in-None-clause-goes g c = record { on = λ _. tt; keeps = tt; rests = λ _. tt }
+
+pub returns-then-has_other_key-clause-goes : goal.returns-then-has_other_key-clause-goes
+returns-then-has_other_key-clause-goes g c = record {
+  on = λ _. (rw c.put_front.ensures.source c.in-Some-Ok-next.ensures.goes, tt, omega (arith, c.put_front.ensures.size, c.in-Some-Ok-next.ensures.lowers, c.loop-other.invariant.fewer));
+  keeps = rw c.put_front.ensures.source c.in-Some-Ok-next.ensures.goes;
+  rests = λ _. tt;
+}
+
+pub returns-in-Some-Err-next-clause-goes : goal.returns-in-Some-Err-next-clause-goes
+returns-in-Some-Err-next-clause-goes g c = record {
+  on = λ _. (c.in-Some-Err-next.ensures.goes, tt, omega (arith, c.in-Some-Err-next.ensures.lowers, c.loop-other.invariant.fewer));
+  keeps = c.in-Some-Err-next.ensures.goes;
+  rests = λ _. tt;
+}
+
+pub returns-in-None-next-clause-goes : goal.returns-in-None-next-clause-goes
+returns-in-None-next-clause-goes g c = record {
+  on = λ _. (c.in-None-next.ensures.goes, tt, omega (arith, c.in-None-next.ensures.lowers, c.loop-other.invariant.fewer));
+  keeps = c.in-None-next.ensures.goes;
+  rests = λ _. tt;
+}

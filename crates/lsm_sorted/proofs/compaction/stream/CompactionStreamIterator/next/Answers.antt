@@ -80,3 +80,34 @@ loop-head-preserved g c = record {
   going = λ stops. going_along stops (HoldsAhead stops g.I.Iterator.next_gives) g.F.StreamFilter.gives g.C.DroppedKvCallback.gets (rules_of c.args.self.now) c.args.self.now.inner c.lets_go.new.self.inner c.args.self.now.filter c.filtered.new.self.filter c.lets_go.new.self.filter c.args.self.now.dropped_callback c.lets_go.new.self.dropped_callback (sym c.lets_go.ensures.filter)
       (going_on stops (HoldsAhead stops g.I.Iterator.next_gives) g.F.StreamFilter.gives g.C.DroppedKvCallback.gets (rules_of c.args.self.now) c.args.self.now.inner c.loop-head.self.inner c.next.new.self c.args.self.now.filter c.loop-head.self.filter c.filtered.new.self.filter c.args.self.now.dropped_callback c.loop-head.self.dropped_callback c.filtered.new.self.dropped_callback c.in-Some-Ok.head (c.loop-head.invariant.going stops) (rw c.in-Some-Ok.field-0-is at (c.in-Some-Ok.ensures.deals stops)) c.in-Ok-Some.head (rw c.in-Ok-Some.field-0-is at c.in-Ok-Some.ensures.filters) c.lets_go.new.self.inner c.lets_go.new.self.dropped_callback (settles_along stops (HoldsAhead stops g.I.Iterator.next_gives) g.F.StreamFilter.gives g.C.DroppedKvCallback.gets (rules_of c.args.self.now) (rules_of c.filtered.new.self) (rules_of c.args.self.now) c.in-Ok-Some.head c.filtered.new.self.inner c.next.new.self c.lets_go.new.self.inner c.filtered.new.self.dropped_callback c.lets_go.new.self.dropped_callback (Ok true) (c.filtered.ensures.rules ∙ c.loop-head.invariant.rules) c.filtered.ensures.source (rw c.in-Ok-true.field-0-test at (c.in-Ok-true.ensures.settles stops))));
 }
+
+pub returns-in-Some-Err-clause-goes : goal.returns-in-Some-Err-clause-goes
+returns-in-Some-Err-clause-goes g c = record {
+  on = λ _. (c.in-Some-Err.ensures.goes, tt, omega (arith, c.in-Some-Err.ensures.lowers, c.loop-head.invariant.size));
+  keeps = c.in-Some-Err.ensures.goes;
+  rests = λ _. tt;
+}
+
+pub returns-in-None-clause-goes : goal.returns-in-None-clause-goes
+returns-in-None-clause-goes g c = record { on = λ _. tt; keeps = tt; rests = λ _. tt }
+
+pub returns-in-Err-clause-goes : goal.returns-in-Err-clause-goes
+returns-in-Err-clause-goes g c = record {
+  on = λ _. (rw c.filtered.ensures.source c.in-Some-Ok.ensures.goes, tt, rw c.filtered.ensures.source (omega (arith, c.in-Some-Ok.ensures.lowers, c.loop-head.invariant.size)));
+  keeps = rw c.filtered.ensures.source c.in-Some-Ok.ensures.goes;
+  rests = λ _. tt;
+}
+
+pub returns-in-Ok-false-clause-goes : goal.returns-in-Ok-false-clause-goes
+returns-in-Ok-false-clause-goes g c = record {
+  on = λ _. (c.lets_go.ensures.may, tt, omega (arith, c.lets_go.ensures.size, rw c.filtered.ensures.source at c.lets_go.ensures.size, c.in-Some-Ok.ensures.lowers, c.loop-head.invariant.size));
+  keeps = c.lets_go.ensures.may;
+  rests = λ _. tt;
+}
+
+pub returns-in-Err-lets_go-clause-goes : goal.returns-in-Err-lets_go-clause-goes
+returns-in-Err-lets_go-clause-goes g c = record {
+  on = λ _. (c.lets_go.ensures.may, tt, omega (arith, c.lets_go.ensures.size, rw c.filtered.ensures.source at c.lets_go.ensures.size, c.in-Some-Ok.ensures.lowers, c.loop-head.invariant.size));
+  keeps = c.lets_go.ensures.may;
+  rests = λ _. tt;
+}
