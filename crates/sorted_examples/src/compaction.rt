@@ -19,6 +19,23 @@ struct Received {
     is_whole: bool,
 }
 
+impl Received {
+    fn new(alloc: Global) -> Received {
+        Received {
+            text: String::new(alloc),
+            is_whole: true,
+        }
+    }
+
+    fn into_text(self) -> Result<String, Error> {
+        if self.is_whole {
+            Ok(self.text)
+        } else {
+            Err(Error::OutOfMemory)
+        }
+    }
+}
+
 impl DroppedKvCallback<Global> for Received {
     ghost gets = { λ c x d. Unit {0} };
 
@@ -118,22 +135,14 @@ const PLAIN: Settings = Settings {
 
 // What a compaction of some results gives, and what its callback received.
 fn compacted(alloc: Global, settings: &Settings, over: &str) -> Result<(String, String), Error> {
-    let received = Received {
-        text: String::new(alloc),
-        is_whole: true,
-    };
-    let mut stream = CompactionStream::new(
-        results_of(&alloc, over)?.into_iter(),
-        settings.threshold,
-    ).evict_tombstones(settings.evict)
+    let items = results_of(&alloc, over)?.into_iter();
+    let mut stream = CompactionStream::new(items, settings.threshold)
+        .evict_tombstones(settings.evict)
         .zero_seqnos(settings.zero)
         .with_filter(settings.plan)
-        .with_drop_callback(received);
+        .with_drop_callback(Received::new(alloc));
     let given = drained(alloc, &mut stream)?;
-    if !stream.callback().is_whole {
-        return Err(Error::OutOfMemory);
-    }
-    Ok((given, stream.into_callback().text))
+    Ok((given, stream.into_callback().into_text()?))
 }
 
 // Whether a compaction gives these results and reports these entries.
@@ -298,37 +307,35 @@ fn keeps_a_state_in_the_filter(rt: HostRuntime) -> Result<(), Fail> {
     Ok(())
 }
 
-// What a compaction without a filter leaves.
-fn unfiltered(alloc: Global, over: &str) -> Result<String, Error> {
-    let items = results_of(&alloc, over)?.into_iter();
-    Ok(drained(alloc, &mut CompactionStream::new(items, 5000))?)
+// What a compaction without a filter leaves of some results in the memory of any allocator.
+fn unfiltered<A: Allocator + Clone>(
+    memory: &A,
+    alloc: Global,
+    over: &str,
+    threshold: u64,
+) -> Result<String, Error> {
+    let items = results_of(memory, over)?.into_iter();
+    Ok(drained(alloc, &mut CompactionStream::new(items, threshold))?)
 }
 
 #[test]
 fn needs_neither_filter_nor_callback(rt: HostRuntime) -> Result<(), Fail> {
-    let given = unfiltered(rt.alloc(), "aV2353 bV2353 cV2353")?;
+    let given = unfiltered(&rt.alloc(), rt.alloc(), "aV2353 bV2353 cV2353", 5000)?;
     assert_eq!(rt; given.as_str(), "aV2353 bV2353 cV2353");
     Ok(())
 }
 
-// What each stream gives of some results in the memory of any allocator.
-fn both<A: Allocator + Clone>(
-    memory: &A,
-    alloc: Global,
-    over: &str,
-) -> Result<(String, String), Error> {
-    let compacted = results_of(memory, over)?.into_iter();
-    let newest = results_of(memory, over)?.into_iter();
-    Ok((
-        drained(alloc, &mut CompactionStream::new(compacted, 4))?,
-        drained(alloc, &mut MvccStream::new(newest))?,
-    ))
+// What a stream of the newest versions gives of some results in the memory of any allocator.
+fn newest<A: Allocator + Clone>(memory: &A, alloc: Global, over: &str) -> Result<String, Error> {
+    let items = results_of(memory, over)?.into_iter();
+    Ok(drained(alloc, &mut MvccStream::new(items))?)
 }
 
 #[test]
 fn streams_take_entries_of_any_allocator(rt: HostRuntime) -> Result<(), Fail> {
     let heap = Refusing::new(rt.alloc(), 0);
-    let (compacted, newest) = both(&&heap, rt.alloc(), "aV4 aV3 aV2")?;
+    let compacted = unfiltered(&&heap, rt.alloc(), "aV4 aV3 aV2", 4)?;
+    let newest = newest(&&heap, rt.alloc(), "aV4 aV3 aV2")?;
     assert_eq!(rt; (compacted.as_str(), newest.as_str()), ("aV4 aV3", "aV4"));
     assert!(rt; heap.requests() > 0);
     Ok(())

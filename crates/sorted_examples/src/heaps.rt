@@ -32,6 +32,10 @@ impl Counts {
         }
     }
 
+    fn is_empty(&self) -> bool {
+        self.of == [0; 3]
+    }
+
     fn take_least(&mut self) -> Option<u8> {
         (0..3u8).find(|number| self.take(*number as usize))
     }
@@ -71,6 +75,35 @@ fn digits(mut code: u32) -> [u8; 6] {
     digits
 }
 
+// Whether both queues give up the number that is counted as the least, or the greatest, or none.
+fn pop_alike(
+    queue: &mut Tournament<u8>,
+    heap: &mut IntervalHeap<u8>,
+    counts: &mut Counts,
+    least: bool,
+) -> bool
+    ensures queue { tournament.room queue.new ≡ tournament.room queue.old }
+    ensures heap { interval.room heap.new ≡ interval.room heap.old }
+{
+    if least {
+        let want = counts.take_least();
+        queue.pop_min() == want && heap.pop_min() == want
+    } else {
+        let want = counts.take_greatest();
+        queue.pop_max() == want && heap.pop_max() == want
+    }
+}
+
+// Whether both queues are empty, and give up nothing.
+fn give_up_nothing(queue: &mut Tournament<u8>, heap: &mut IntervalHeap<u8>) -> bool {
+    queue.len() == 0
+        && heap.len() == 0
+        && queue.pop_min().is_none()
+        && queue.pop_max().is_none()
+        && heap.pop_min().is_none()
+        && heap.pop_max().is_none()
+}
+
 // Whether both queues give the least and the greatest number in turn as the pattern has it, and then none.
 fn agree(alloc: Global, items: &[u8], mut pattern: u32) -> Result<bool, Error> {
     let mut tournament = tournament_of(alloc, items)?;
@@ -80,24 +113,13 @@ fn agree(alloc: Global, items: &[u8], mut pattern: u32) -> Result<bool, Error> {
         counts.put(*item);
     }
     for _ in items {
-        let (first, second, want) = if pattern % 2 == 0 {
-            (tournament.pop_min(), heap.pop_min(), counts.take_least())
-        } else {
-            (tournament.pop_max(), heap.pop_max(), counts.take_greatest())
-        };
-        if first != want || second != want || want.is_none() {
+        let least = pattern % 2 == 0;
+        if counts.is_empty() || !pop_alike(&mut tournament, &mut heap, &mut counts, least) {
             return Ok(false);
         }
         pattern /= 2;
     }
-    Ok(
-        tournament.len() == 0
-            && heap.len() == 0
-            && tournament.pop_min().is_none()
-            && tournament.pop_max().is_none()
-            && heap.pop_min().is_none()
-            && heap.pop_max().is_none(),
-    )
+    Ok(give_up_nothing(&mut tournament, &mut heap))
 }
 
 #[test]
@@ -132,15 +154,8 @@ fn agree_in_turns(alloc: Global, mut code: u32, turns: u8) -> Result<bool, Error
                 heap.push(item);
                 counts.put(item);
             }
-            1 => {
-                let want = counts.take_least();
-                if tournament.pop_min() != want || heap.pop_min() != want {
-                    return Ok(false);
-                }
-            }
-            _ => {
-                let want = counts.take_greatest();
-                if tournament.pop_max() != want || heap.pop_max() != want {
+            end => {
+                if !pop_alike(&mut tournament, &mut heap, &mut counts, end == 1) {
                     return Ok(false);
                 }
             }
@@ -170,25 +185,50 @@ fn push_to_four(queue: &mut Tournament<char>, item: char) -> u64
     queue.steps()
 }
 
+// Pushes four letters to one with room for four, and answers the steps after each, and how many items there are.
+fn push_four(queue: &mut Tournament<char>) -> ([u64; 4], usize)
+    requires { tournament.room queue.old ≡ 4 }
+{
+    let steps = [
+        push_to_four(queue, 'd'),
+        push_to_four(queue, 'b'),
+        push_to_four(queue, 'c'),
+        push_to_four(queue, 'a'),
+    ];
+    (steps, queue.len())
+}
+
+// What pushing four letters answers.
+fn four_pushed(alloc: Global) -> Result<([u64; 4], usize), Error> {
+    Ok(push_four(&mut Tournament::with_capacity(alloc, 4)?))
+}
+
+// What is given up of four letters, from the front and then from the back, and the steps after each.
+fn four_popped(alloc: Global) -> Result<[(Option<char>, u64); 2], Error> {
+    let mut queue = Tournament::with_capacity(alloc, 4)?;
+    push_four(&mut queue);
+    Ok([
+        (queue.pop_min(), queue.steps()),
+        (queue.pop_max(), queue.steps()),
+    ])
+}
+
+// The steps after one letter is pushed, what is given up, and then the steps and how many items there are.
+fn one_pushed_and_popped(alloc: Global) -> Result<(u64, Option<char>, u64, usize), Error> {
+    let mut queue = Tournament::with_capacity(alloc, 1)?;
+    queue.push('a');
+    Ok((queue.steps(), queue.pop_max(), queue.steps(), queue.len()))
+}
+
 #[test]
 fn steps_are_the_matches_played(rt: HostRuntime) -> Result<(), Fail> {
-    let mut one = Tournament::with_capacity(rt.alloc(), 1)?;
-    one.push('a');
-    assert_eq!(rt; one.steps(), 0);
-    assert_eq!(rt; one.pop_max(), Some('a'));
-    assert_eq!(rt; (one.steps(), one.len()), (0, 0));
-
+    assert_eq!(rt; one_pushed_and_popped(rt.alloc())?, (0, Some('a'), 0, 0));
     // Each match is played for the least and for the greatest.
-    let mut four = Tournament::with_capacity(rt.alloc(), 4)?;
-    assert_eq!(rt; push_to_four(&mut four, 'd'), 0);
-    assert_eq!(rt; push_to_four(&mut four, 'b'), 2);
-    assert_eq!(rt; push_to_four(&mut four, 'c'), 4);
-    assert_eq!(rt; push_to_four(&mut four, 'a'), 8);
-    assert_eq!(rt; four.len(), 4);
-    assert_eq!(rt; four.pop_min(), Some('a'));
-    assert_eq!(rt; four.steps(), 10);
-    assert_eq!(rt; four.pop_max(), Some('d'));
-    assert_eq!(rt; four.steps(), 12);
+    assert_eq!(rt; four_pushed(rt.alloc())?, ([0, 2, 4, 8], 4));
+    assert_eq!(rt;
+        four_popped(rt.alloc())?,
+        [(Some('a'), 10), (Some('d'), 12)]
+    );
     Ok(())
 }
 
@@ -228,31 +268,56 @@ fn reuse_interval_heap<A: Allocator>(queue: &mut IntervalHeap<u8, A>) -> bool
     queue.len() == 0
 }
 
+// Whether a tournament with room for three is made, and empty, where no memory is refused, and else is refused.
+fn makes_tournament<A: Allocator + Clone>(memory: A, may_fail: bool) -> bool {
+    match Tournament::<u8, A>::with_capacity(memory, 3) {
+        Ok(queue) => !may_fail && queue.len() == 0,
+        Err(error) => may_fail && error == Error::OutOfMemory,
+    }
+}
+
+// The same of an interval heap.
+fn makes_interval_heap<A: Allocator>(memory: A, may_fail: bool) -> bool {
+    match IntervalHeap::<u8, A>::with_capacity(memory, 3) {
+        Ok(queue) => !may_fail && queue.len() == 0,
+        Err(error) => may_fail && error == Error::OutOfMemory,
+    }
+}
+
+// Whether a tournament with room for two makes so many requests for memory, all before it is used over and over.
+fn tournament_makes(memory: &Refusing, requests: usize) -> Result<bool, Error> {
+    let mut queue = Tournament::with_capacity(memory, 2)?;
+    let at_first = memory.requests();
+    let is_reused = reuse_tournament(&mut queue);
+    Ok(is_reused && at_first == requests && memory.requests() == requests)
+}
+
+// The same of an interval heap.
+fn interval_heap_makes(memory: &Refusing, requests: usize) -> Result<bool, Error> {
+    let mut queue = IntervalHeap::with_capacity(memory, 2)?;
+    let at_first = memory.requests();
+    let is_reused = reuse_interval_heap(&mut queue);
+    Ok(is_reused && at_first == requests && memory.requests() == requests)
+}
+
+// What a tournament without room gives up from either end.
+fn given_up_without_room(alloc: Global) -> Result<(Option<u8>, Option<u8>), Error> {
+    let mut none = Tournament::<u8>::with_capacity(alloc, 0)?;
+    Ok((none.pop_min(), none.pop_max()))
+}
+
 #[test]
 fn memory_is_taken_at_first_alone(rt: HostRuntime) -> Result<(), Fail> {
     let refusals = each_refused(rt.alloc(), |memory, may_fail| {
-        match Tournament::<u8, _>::with_capacity(memory, 3) {
-            Ok(queue) => !may_fail && queue.len() == 0,
-            Err(error) => may_fail && error == Error::OutOfMemory,
-        }
+        makes_tournament(memory, may_fail)
     });
     assert_eq!(rt; refusals, Ok(4));
     let refusals = each_refused(rt.alloc(), |memory, may_fail| {
-        match IntervalHeap::<u8, _>::with_capacity(memory, 3) {
-            Ok(queue) => !may_fail && queue.len() == 0,
-            Err(error) => may_fail && error == Error::OutOfMemory,
-        }
+        makes_interval_heap(memory, may_fail)
     });
     assert_eq!(rt; refusals, Ok(1));
-
-    let memory = Refusing::new(rt.alloc(), 0);
-    let mut tournament = Tournament::with_capacity(&memory, 2)?;
-    let mut heap = IntervalHeap::with_capacity(&memory, 2)?;
-    assert_eq!(rt; memory.requests(), 5);
-    assert!(rt; reuse_tournament(&mut tournament));
-    assert!(rt; reuse_interval_heap(&mut heap));
-    assert_eq!(rt; memory.requests(), 5);
-    let mut none = Tournament::<u8, _>::with_capacity(&memory, 0)?;
-    assert_eq!(rt; (none.pop_min(), none.pop_max()), (None, None));
+    assert!(rt; tournament_makes(&Refusing::new(rt.alloc(), 0), 4)?);
+    assert!(rt; interval_heap_makes(&Refusing::new(rt.alloc(), 0), 1)?);
+    assert_eq!(rt; given_up_without_room(rt.alloc())?, (None, None));
     Ok(())
 }

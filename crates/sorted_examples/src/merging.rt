@@ -1,8 +1,8 @@
 //! Merging several sources from both ends, and what that takes of memory.
-use crate::words::{ends_of, result_of, text_of};
+use crate::words::{answers_so, result_of};
 use lsm_sorted::{Merger, newest_of};
 use refusing::{Refusing, each_refused};
-use sst_entries::{Error, IterItem, answers_at};
+use sst_entries::{Error, IterItem};
 use std::alloc::{Allocator, Global};
 use std::test::Fail;
 
@@ -62,20 +62,13 @@ fn merges<A: Allocator + Clone>(
     wanted: &str,
 ) -> Result<bool, Error> {
     let mut merger = Merger::new(alloc.clone()?, sources_of(alloc, sources)?)?;
-    let answers = answers_at(alloc.clone()?, &mut merger, &ends_of(alloc.clone()?, ends)?)?;
-    Ok(text_of(alloc.clone()?, &answers)?.as_str() == wanted)
+    answers_so(alloc, &mut merger, ends, wanted)
 }
 
 // Whether the newest versions of the sources are these at the ends.
-fn are_newest<A: Allocator + Clone>(
-    alloc: &A,
-    sources: &str,
-    ends: &str,
-    wanted: &str,
-) -> Result<bool, Error> {
-    let mut stream = newest_of(alloc.clone()?, sources_of(alloc, sources)?)?;
-    let answers = answers_at(alloc.clone()?, &mut stream, &ends_of(alloc.clone()?, ends)?)?;
-    Ok(text_of(alloc.clone()?, &answers)?.as_str() == wanted)
+fn are_newest(alloc: Global, sources: &str, ends: &str, wanted: &str) -> Result<bool, Error> {
+    let mut stream = newest_of(alloc, sources_of(&alloc, sources)?)?;
+    answers_so(&alloc, &mut stream, ends, wanted)
 }
 
 #[test]
@@ -111,7 +104,7 @@ fn gives_the_newest_version_of_each_key_of_all_sources(rt: HostRuntime) -> Resul
     ];
     for (ends, wanted) in cases {
         let sources = "aV3 bV1 cV4 / aV7 bV2 / dV1 /";
-        assert!(rt; are_newest(&rt.alloc(), sources, ends, wanted)?, "{ends}");
+        assert!(rt; are_newest(rt.alloc(), sources, ends, wanted)?, "{ends}");
     }
     Ok(())
 }
@@ -128,22 +121,23 @@ fn refuses_memory_when_made(rt: HostRuntime) {
     assert!(rt; answers.is_ok_and(|requests| requests > 10));
 }
 
-// How many requests for memory are made for sources, then for a merger of them, and after all that it gives.
-fn requests_of(alloc: Global, heap: &Refusing) -> Result<(usize, usize, usize), Error> {
-    let sources = sources_of(&heap, "aV1 cV1 / bV2 /")?;
+// Whether a merger of sources, all in memory over a heap, makes requests of it when it is made, and none while it answers.
+fn requests_at_first_alone<A: Allocator + Clone>(
+    alloc: Global,
+    heap: &Refusing,
+    memory: &A,
+) -> Result<bool, Error> {
+    let sources = sources_of(memory, "aV1 cV1 / bV2 /")?;
     let before = heap.requests();
-    let mut merger = Merger::new(heap, sources)?;
+    let mut merger = Merger::new(memory.clone()?, sources)?;
     let made = heap.requests();
-    let answers = answers_at(alloc, &mut merger, &ends_of(alloc, "FBFB")?)?;
-    if answers.len() != 4 {
-        return Err(Error::Source(0));
-    }
-    Ok((before, made, heap.requests()))
+    let is_right = answers_so(&alloc, &mut merger, "FBFB", "aV1 cV1 bV2 -")?;
+    Ok(is_right && before < made && made == heap.requests())
 }
 
 #[test]
 fn takes_no_memory_after_it_is_made(rt: HostRuntime) -> Result<(), Fail> {
-    let (before, made, after) = requests_of(rt.alloc(), &Refusing::new(rt.alloc(), 0))?;
-    assert!(rt; before < made && made == after);
+    let heap = Refusing::new(rt.alloc(), 0);
+    assert!(rt; requests_at_first_alone(rt.alloc(), &heap, &&heap)?);
     Ok(())
 }

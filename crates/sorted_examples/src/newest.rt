@@ -1,15 +1,14 @@
 //! The newest versions of some results, from both ends.
-use crate::words::{ends_of, results_of, text_of};
+use crate::words::{answers_so, results_of};
 use lsm_sorted::MvccStream;
-use sst_entries::{Error, answers_at};
+use sst_entries::Error;
 use std::alloc::Global;
 use std::test::Fail;
 
 // Whether a stream over some results answers so at the ends.
 fn answers(alloc: Global, results: &str, ends: &str, wanted: &str) -> Result<bool, Error> {
     let mut stream = MvccStream::new(results_of(&alloc, results)?.into_iter());
-    let answers = answers_at(alloc, &mut stream, &ends_of(alloc, ends)?)?;
-    Ok(text_of(alloc, &answers)?.as_str() == wanted)
+    answers_so(&alloc, &mut stream, ends, wanted)
 }
 
 #[test]

@@ -3,7 +3,9 @@
 //! `aV9` is an entry of the key `a` and the number 9, a value that is its key, and `aV9x` has the value `x`. `T` and `W` are
 //! the tombstones, without a value. `!4` is the error 4 of a caller's own source, `?1` a refused request for memory, and `-`
 //! no answer.
-use sst_entries::{Direction, Error, InternalValue, IterItem, Slice, ValueType};
+ghost use Rattle.sst_entries.specs.Stream.{CanDeal};
+
+use sst_entries::{Direction, Error, InternalValue, IterItem, Slice, ValueType, answers_at};
 use std::alloc::{AllocError, Allocator};
 
 fn slice_of<A: Allocator + Clone>(alloc: A, byte: u8) -> Result<Slice<A>, Error> {
@@ -75,8 +77,8 @@ pub fn results_of<A: Allocator + Clone>(
     Ok(results)
 }
 
-/// The ends that `F` and `B` stand for.
-pub fn ends_of<A: Allocator>(alloc: A, text: &str) -> Result<Vec<Direction, A>, Error> {
+// The ends that `F` and `B` stand for.
+fn ends_of<A: Allocator>(alloc: A, text: &str) -> Result<Vec<Direction, A>, Error> {
     let mut ends = Vec::new(alloc);
     for byte in text.bytes() {
         ends.push(if byte == b'B' {
@@ -133,4 +135,18 @@ pub fn text_of<A: Allocator, B: Allocator>(
         put_answer(&mut text, answer)?;
     }
     Ok(text)
+}
+
+/// Whether a stream answers so at the ends that `F` and `B` stand for.
+pub fn answers_so<A: Allocator, B: Allocator + Clone, I: DoubleEndedIterator<Item = IterItem<A>>>(
+    alloc: &B,
+    stream: &mut I,
+    ends: &str,
+    wanted: &str,
+) -> Result<bool, Error>
+    requires { CanDeal I.next_gives I.next_back_gives I.can_next I.can_next_back stream.old }
+{
+    let ends = ends_of(alloc.clone()?, ends)?;
+    let answers = answers_at(alloc.clone()?, stream, &ends)?;
+    Ok(text_of(alloc.clone()?, &answers)?.as_str() == wanted)
 }
