@@ -111,40 +111,49 @@ fn has_key(alloc: Global, ends: (&str, &str), key: &str) -> Result<bool, Error> 
     Ok(min && max && range.is_well_formed() && range.contains_key(key.as_bytes()))
 }
 
+fn the_empty_range_has(key: &[u8]) -> bool {
+    KeyRange::<Global>::empty().contains_key(key)
+}
+
 #[test]
 fn a_range_has_the_keys_between_its_ends(rt: HostRuntime) -> Result<(), Fail> {
-    for (key, inside) in [
-        ("key0", false),
-        ("key01", false),
-        ("key1", true),
-        ("key4x", true),
-        ("key5", true),
-        ("key5x", false),
-        ("key6", false),
+    for (ends, key, inside) in [
+        (("key1", "key5"), "key0", false),
+        (("key1", "key5"), "key01", false),
+        (("key1", "key5"), "key1", true),
+        (("key1", "key5"), "key4x", true),
+        (("key1", "key5"), "key5", true),
+        (("key1", "key5"), "key5x", false),
+        (("key1", "key5"), "key6", false),
+        (("b", "a"), "a", false),
     ] {
-        assert_eq!(rt;
-            has_key(rt.alloc(), ("key1", "key5"), key)?,
-            inside,
-            "{key}"
-        );
+        assert!(rt; has_key(rt.alloc(), ends, key)? == inside, "{key}");
     }
-    assert!(rt; !has_key(rt.alloc(), ("b", "a"), "a")?);
-    assert!(rt; KeyRange::<Global>::empty().contains_key(b""));
+    assert!(rt; the_empty_range_has(b""));
     Ok(())
 }
 
-// Whether two ranges overlap, and whether the first contains the second.
+// Whether a range overlaps with another, and whether it contains the other.
+fn compared_to(
+    alloc: Global,
+    range: &KeyRange,
+    other: (&str, &str),
+) -> Result<(bool, bool), Error> {
+    let other = range_of(alloc, other.0, other.1)?;
+    Ok((
+        range.overlaps_with_key_range(&other),
+        range.contains_range(&other),
+    ))
+}
+
+// The same of two ranges with these ends.
 fn compared(
     alloc: Global,
     first: (&str, &str),
     second: (&str, &str),
 ) -> Result<(bool, bool), Error> {
     let first = range_of(alloc, first.0, first.1)?;
-    let second = range_of(alloc, second.0, second.1)?;
-    Ok((
-        first.overlaps_with_key_range(&second),
-        first.contains_range(&second),
-    ))
+    compared_to(alloc, &first, second)
 }
 
 #[test]
@@ -168,42 +177,67 @@ fn ranges_of(alloc: Global, ends: &[(&str, &str)]) -> Result<Vec<KeyRange>, Erro
     Ok(ranges)
 }
 
-// Whether no two of some ranges have a key in common, and the aggregate of them all.
-fn taken_together(alloc: Global, ends: &[(&str, &str)]) -> Result<(bool, KeyRange), Error> {
+// Whether no two of some ranges have a key in common, and whether their aggregate is a range.
+fn taken_together(
+    alloc: Global,
+    ends: &[(&str, &str)],
+    aggregate: &KeyRange,
+) -> Result<(bool, bool), Error> {
     let ranges = ranges_of(alloc, ends)?;
-    let mut all = Vec::new(alloc);
-    for range in &ranges {
-        all.push(range)?;
-    }
-    Ok((KeyRange::is_disjoint(&all), KeyRange::aggregate(&all)?))
+    let all: Vec<&KeyRange> = ranges.iter().collect(alloc)?;
+    Ok((
+        KeyRange::is_disjoint(&all),
+        KeyRange::aggregate(&all)? == *aggregate,
+    ))
+}
+
+// Whether some ranges, taken together, are disjoint or not as wanted, and reach from one key to another.
+fn reach_together(
+    alloc: Global,
+    ends: &[(&str, &str)],
+    disjoint: bool,
+    reach: (&str, &str),
+) -> Result<bool, Error> {
+    let aggregate = range_of(alloc, reach.0, reach.1)?;
+    Ok(taken_together(alloc, ends, &aggregate)? == (disjoint, true))
 }
 
 #[test]
 fn an_aggregate_reaches_from_the_least_to_the_greatest_key(rt: HostRuntime) -> Result<(), Fail> {
-    let cases: [(&[(&str, &str)], bool, &str, &str); 4] = [
-        (&[("2", "4"), ("0", "4"), ("7", "9")], false, "0", "9"),
-        (&[("a", "d"), ("d", "e"), ("f", "z")], false, "a", "z"),
-        (&[("a", "d"), ("e", "e"), ("f", "z")], true, "a", "z"),
-        (&[], true, "", ""),
+    let cases: [(&[(&str, &str)], bool, (&str, &str)); 4] = [
+        (&[("2", "4"), ("0", "4"), ("7", "9")], false, ("0", "9")),
+        (&[("a", "d"), ("d", "e"), ("f", "z")], false, ("a", "z")),
+        (&[("a", "d"), ("e", "e"), ("f", "z")], true, ("a", "z")),
+        (&[], true, ("", "")),
     ];
-    for (ranges, disjoint, min, max) in cases {
-        let (is_disjoint, aggregate) = taken_together(rt.alloc(), ranges)?;
-        assert!(rt; is_disjoint == disjoint);
-        assert!(rt; aggregate == range_of(rt.alloc(), min, max)?);
+    for (ranges, disjoint, reach) in cases {
+        assert!(rt;
+            reach_together(rt.alloc(), ranges, disjoint, reach)?,
+            "{ranges:?}"
+        );
     }
     Ok(())
+}
+
+fn equals_its_clone(range: &KeyRange) -> Result<bool, AllocError> {
+    Ok(range.clone()? == *range)
 }
 
 #[test]
 fn a_clone_is_the_same_range(rt: HostRuntime) -> Result<(), Fail> {
     let range = range_of(rt.alloc(), "a", "z")?;
-    assert!(rt; range.clone()? == range);
+    assert!(rt; equals_its_clone(&range)?);
     Ok(())
+}
+
+// Whether the range from "key1" to "key5" overlaps with two bounds.
+fn overlaps(alloc: Global, low: Bound<&str>, high: Bound<&str>) -> Result<bool, Error> {
+    let range = range_of(alloc, "key1", "key5")?;
+    Ok(range.overlaps_with_bounds(&(bytes_of(low), bytes_of(high))))
 }
 
 #[test]
 fn key_ranges_and_bounds(rt: HostRuntime) -> Result<(), Fail> {
-    let range = range_of(rt.alloc(), "key1", "key5")?;
     for (low, high, overlap) in [
         (Bound::Included("key1"), Bound::Included("key5"), true),
         (Bound::Included("key1"), Bound::Excluded("key5"), true),
@@ -215,18 +249,32 @@ fn key_ranges_and_bounds(rt: HostRuntime) -> Result<(), Fail> {
         (Bound::Included("key5"), Bound::Unbounded, true),
         (Bound::Included("key4"), Bound::Included("key2"), true),
     ] {
-        let bounds = (bytes_of(low), bytes_of(high));
-        assert_eq!(rt; range.overlaps_with_bounds(&bounds), overlap);
+        assert!(rt; overlaps(rt.alloc(), low, high)? == overlap);
     }
     Ok(())
 }
 
+// Whether a run is in order, has four tables, and reaches over a range.
+fn has_four_over(run: &Run<FakeTable>, range: &KeyRange) -> Result<bool, Error> {
+    let has_four = run.as_slice().len() == 4;
+    Ok(run.is_in_order() && has_four && run.aggregate_key_range()? == *range)
+}
+
+// Whether four tables make a run from the least to the greatest of their keys.
+fn four_make_a_run(alloc: Global) -> Result<bool, Error> {
+    let run = run_of(alloc, &FOUR)?;
+    has_four_over(&run, &range_of(alloc, "a", "z")?)
+}
+
+// The id of the one of four tables that has a key.
+fn id_of_four(alloc: Global, key: &str) -> Result<Option<u64>, Error> {
+    let run = run_of(alloc, &FOUR)?;
+    Ok(run.get_for_key(key.as_bytes()).map(|table| table.id))
+}
+
 #[test]
 fn the_table_of_a_key(rt: HostRuntime) -> Result<(), Fail> {
-    let run = run_of(rt.alloc(), &FOUR)?;
-    assert!(rt; run.is_in_order());
-    assert!(rt; run.as_slice().len() == 4);
-    assert!(rt; run.aggregate_key_range()? == range_of(rt.alloc(), "a", "z")?);
+    assert!(rt; four_make_a_run(rt.alloc())?);
     for (key, id) in [
         ("a", Some(0)),
         ("aaa", Some(0)),
@@ -236,15 +284,23 @@ fn the_table_of_a_key(rt: HostRuntime) -> Result<(), Fail> {
         ("z", Some(3)),
         ("zzz", None),
     ] {
-        let found = run.get_for_key(key.as_bytes()).map(|table| table.id);
-        assert_eq!(rt; found, id, "{key}");
+        assert!(rt; id_of_four(rt.alloc(), key)? == id, "{key}");
     }
     Ok(())
 }
 
+// The places of the first and the last of four tables that overlap with two bounds.
+fn span_of_four(
+    alloc: Global,
+    low: Bound<&str>,
+    high: Bound<&str>,
+) -> Result<Option<(usize, usize)>, Error> {
+    let run = run_of(alloc, &FOUR)?;
+    Ok(run.range_overlap_indexes(bytes_of(low), bytes_of(high)))
+}
+
 #[test]
 fn the_tables_between_two_bounds(rt: HostRuntime) -> Result<(), Fail> {
-    let run = run_of(rt.alloc(), &FOUR)?;
     for (low, high, span) in [
         (Bound::Unbounded, Bound::Unbounded, Some((0, 3))),
         (Bound::Included("a"), Bound::Included("a"), Some((0, 0))),
@@ -256,8 +312,7 @@ fn the_tables_between_two_bounds(rt: HostRuntime) -> Result<(), Fail> {
         (Bound::Included("n"), Bound::Included("l"), Some((2, 2))),
         (Bound::Excluded("d"), Bound::Excluded("e"), None),
     ] {
-        let (low, high) = (bytes_of(low), bytes_of(high));
-        assert_eq!(rt; run.range_overlap_indexes(low, high), span);
+        assert!(rt; span_of_four(rt.alloc(), low, high)? == span);
     }
     Ok(())
 }
@@ -377,45 +432,47 @@ fn packs(
     Ok(found.len() == chain.len() && chained && have_ids(&optimize_runs(alloc, made)?, packed))
 }
 
+// In each: some runs, the ids of the runs that they are packed into, and the runs of a chain.
+const PACKINGS: [(&[&[(u64, &str, &str)]], &[&[u64]], &[usize]); 9] = [
+    (&[], &[], &[]),
+    (&[&[(0, "a", "b")]], &[&[0]], &[0]),
+    (
+        &[&[(0, "a", "b")], &[(1, "a", "b")]],
+        &[&[0], &[1]],
+        &[0, 1],
+    ),
+    (
+        &[&[(0, "a", "z")], &[(1, "c", "f")]],
+        &[&[0], &[1]],
+        &[0, 1],
+    ),
+    (
+        &[&[(0, "c", "f")], &[(1, "a", "z")]],
+        &[&[0], &[1]],
+        &[0, 1],
+    ),
+    (&[&[(1, "d", "f")], &[(0, "a", "c")]], &[&[0, 1]], &[0]),
+    (
+        &[&[(2, "m", "p")], &[(1, "a", "z")], &[(0, "a", "c")]],
+        &[&[2], &[1], &[0]],
+        &[0, 1, 2],
+    ),
+    (
+        &[
+            &[(0, "a", "c"), (1, "m", "p")],
+            &[(2, "b", "n")],
+            &[(3, "d", "f")],
+            &[(4, "x", "z")],
+        ],
+        &[&[0, 1, 4], &[2], &[3]],
+        &[0, 1, 2],
+    ),
+    (&[&[(0, "a", "z"), (1, "c", "d")]], &[&[0, 1]], &[0]),
+];
+
 #[test]
 fn packed_runs(rt: HostRuntime) -> Result<(), Fail> {
-    let cases: [(&[&[(u64, &str, &str)]], &[&[u64]], &[usize]); 9] = [
-        (&[], &[], &[]),
-        (&[&[(0, "a", "b")]], &[&[0]], &[0]),
-        (
-            &[&[(0, "a", "b")], &[(1, "a", "b")]],
-            &[&[0], &[1]],
-            &[0, 1],
-        ),
-        (
-            &[&[(0, "a", "z")], &[(1, "c", "f")]],
-            &[&[0], &[1]],
-            &[0, 1],
-        ),
-        (
-            &[&[(0, "c", "f")], &[(1, "a", "z")]],
-            &[&[0], &[1]],
-            &[0, 1],
-        ),
-        (&[&[(1, "d", "f")], &[(0, "a", "c")]], &[&[0, 1]], &[0]),
-        (
-            &[&[(2, "m", "p")], &[(1, "a", "z")], &[(0, "a", "c")]],
-            &[&[2], &[1], &[0]],
-            &[0, 1, 2],
-        ),
-        (
-            &[
-                &[(0, "a", "c"), (1, "m", "p")],
-                &[(2, "b", "n")],
-                &[(3, "d", "f")],
-                &[(4, "x", "z")],
-            ],
-            &[&[0, 1, 4], &[2], &[3]],
-            &[0, 1, 2],
-        ),
-        (&[&[(0, "a", "z"), (1, "c", "d")]], &[&[0, 1]], &[0]),
-    ];
-    for (runs, packed, chain) in cases {
+    for (runs, packed, chain) in PACKINGS {
         assert!(rt; packs(rt.alloc(), runs, packed, chain)?);
     }
     Ok(())
