@@ -41,7 +41,8 @@ fn handle_of<A: Allocator>(
     inner.pinned_block_index.inner().find(key, seqno)
 }
 
-/// The first entry of a key in a block, its number lifted. Refused [`Error::OutOfMemory`] alone.
+/// The first entry of a key in a block whose lifted number is below `seqno`, with that number. Refused
+/// [`Error::OutOfMemory`] alone.
 fn lifted_read<A: Allocator>(
     block: &DataBlock<A>,
     global_seqno: SeqNo,

@@ -111,6 +111,7 @@ fn has_key(alloc: Global, ends: (&str, &str), key: &str) -> Result<bool, Error> 
     Ok(min && max && range.is_well_formed() && range.contains_key(key.as_bytes()))
 }
 
+// Whether the range of the empty key alone has a key.
 fn the_empty_range_has(key: &[u8]) -> bool {
     KeyRange::<Global>::empty().contains_key(key)
 }
@@ -219,6 +220,7 @@ fn an_aggregate_reaches_from_the_least_to_the_greatest_key(rt: HostRuntime) -> R
     Ok(())
 }
 
+// Whether a clone of a range equals it.
 fn equals_its_clone(range: &KeyRange) -> Result<bool, AllocError> {
     Ok(range.clone()? == *range)
 }
