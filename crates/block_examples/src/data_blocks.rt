@@ -410,29 +410,31 @@ fn is_read<A: Allocator + Copy>(alloc: A, count: u32, entries: &[[u32; 5]]) -> R
     }
 }
 
+// A count, entries, and whether they are a payload.
+const PAYLOADS: &[(u32, &[[u32; 5]], bool)] = &[
+    (0, &[], true),
+    (1, &[], false),
+    (u32::MAX, &[], false),
+    (1, &[[0, 1, 1, 1, 97]], true),
+    (1, &[[1, 1, 2, 0, 97]], true),
+    (1, &[[2, 1, 2, 0, 97]], true),
+    (1, &[[4, 1, 0, 2, 97]], true),
+    (1, &[[3, 1, 1, 1, 97]], false),
+    (1, &[[5, 1, 1, 1, 97]], false),
+    (0, &[[0, 1, 1, 1, 97]], false),
+    (2, &[[0, 1, 1, 1, 97]], false),
+    (1, &[[0, 1, 2, 1, 97]], false),
+    (1, &[[0, 1, 1, 2, 97]], false),
+    (1, &[[0, 1, 1, 0, 97]], false),
+    (1, &[[0, 1, u32::MAX, u32::MAX, 97]], false),
+    (2, &[[0, 2, 1, 1, 97], [0, 1, 1, 1, 97]], true),
+    (2, &[[0, 1, 1, 1, 97], [1, 1, 1, 1, 97]], false),
+    (2, &[[0, 1, 1, 1, 98], [0, 2, 1, 1, 97]], false),
+];
+
 #[test]
 fn payloads_are_read_where_they_are_in_the_grammar(rt: HostRuntime) -> Result<(), Fail> {
-    let cases: [(u32, &[[u32; 5]], bool); 18] = [
-        (0, &[], true),
-        (1, &[], false),
-        (u32::MAX, &[], false),
-        (1, &[[0, 1, 1, 1, 97]], true),
-        (1, &[[1, 1, 2, 0, 97]], true),
-        (1, &[[2, 1, 2, 0, 97]], true),
-        (1, &[[4, 1, 0, 2, 97]], true),
-        (1, &[[3, 1, 1, 1, 97]], false),
-        (1, &[[5, 1, 1, 1, 97]], false),
-        (0, &[[0, 1, 1, 1, 97]], false),
-        (2, &[[0, 1, 1, 1, 97]], false),
-        (1, &[[0, 1, 2, 1, 97]], false),
-        (1, &[[0, 1, 1, 2, 97]], false),
-        (1, &[[0, 1, 1, 0, 97]], false),
-        (1, &[[0, 1, u32::MAX, u32::MAX, 97]], false),
-        (2, &[[0, 2, 1, 1, 97], [0, 1, 1, 1, 97]], true),
-        (2, &[[0, 1, 1, 1, 97], [1, 1, 1, 1, 97]], false),
-        (2, &[[0, 1, 1, 1, 98], [0, 2, 1, 1, 97]], false),
-    ];
-    for (count, entries, good) in cases {
+    for &(count, entries, good) in PAYLOADS {
         assert_eq!(rt; is_read(rt.alloc(), count, entries)?, good);
     }
     Ok(())

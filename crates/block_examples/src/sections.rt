@@ -59,17 +59,19 @@ fn lies(alloc: Global, name: SectionName) -> Result<Option<(u64, u64)>, Error> {
     )
 }
 
+const SECTIONS: &[(SectionName, Option<(u64, u64)>)] = &[
+    (SectionName::Data, Some((0, 45))),
+    (SectionName::Index, None),
+    (SectionName::Tli, Some((45, 51))),
+    (SectionName::Filter, None),
+    (SectionName::FilterTli, None),
+    (SectionName::TableVersion, Some((96, 1))),
+    (SectionName::Meta, Some((97, 1041))),
+];
+
 #[test]
 fn sections_lie_where_they_were_written(rt: HostRuntime) -> Result<(), Fail> {
-    for (name, expected) in [
-        (SectionName::Data, Some((0, 45))),
-        (SectionName::Index, None),
-        (SectionName::Tli, Some((45, 51))),
-        (SectionName::Filter, None),
-        (SectionName::FilterTli, None),
-        (SectionName::TableVersion, Some((96, 1))),
-        (SectionName::Meta, Some((97, 1041))),
-    ] {
+    for &(name, expected) in SECTIONS {
         assert_eq!(rt; lies(rt.alloc(), name)?, expected);
     }
     Ok(())

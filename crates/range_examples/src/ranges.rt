@@ -116,18 +116,20 @@ fn the_empty_range_has(key: &[u8]) -> bool {
     KeyRange::<Global>::empty().contains_key(key)
 }
 
+const KEYS: &[((&str, &str), &str, bool)] = &[
+    (("key1", "key5"), "key0", false),
+    (("key1", "key5"), "key01", false),
+    (("key1", "key5"), "key1", true),
+    (("key1", "key5"), "key4x", true),
+    (("key1", "key5"), "key5", true),
+    (("key1", "key5"), "key5x", false),
+    (("key1", "key5"), "key6", false),
+    (("b", "a"), "a", false),
+];
+
 #[test]
 fn a_range_has_the_keys_between_its_ends(rt: HostRuntime) -> Result<(), Fail> {
-    for (ends, key, inside) in [
-        (("key1", "key5"), "key0", false),
-        (("key1", "key5"), "key01", false),
-        (("key1", "key5"), "key1", true),
-        (("key1", "key5"), "key4x", true),
-        (("key1", "key5"), "key5", true),
-        (("key1", "key5"), "key5x", false),
-        (("key1", "key5"), "key6", false),
-        (("b", "a"), "a", false),
-    ] {
+    for &(ends, key, inside) in KEYS {
         assert!(rt; has_key(rt.alloc(), ends, key)? == inside, "{key}");
     }
     assert!(rt; the_empty_range_has(b""));
@@ -157,14 +159,16 @@ fn compared(
     compared_to(alloc, &first, second)
 }
 
+const PAIRS: &[((&str, &str), (&str, &str), (bool, bool))] = &[
+    (("a", "f"), ("b", "h"), (true, false)),
+    (("a", "f"), ("f", "t"), (true, false)),
+    (("a", "f"), ("g", "t"), (false, false)),
+    (("a", "z"), ("c", "f"), (true, true)),
+];
+
 #[test]
 fn ranges_that_meet_overlap(rt: HostRuntime) -> Result<(), Fail> {
-    for (first, second, wanted) in [
-        (("a", "f"), ("b", "h"), (true, false)),
-        (("a", "f"), ("f", "t"), (true, false)),
-        (("a", "f"), ("g", "t"), (false, false)),
-        (("a", "z"), ("c", "f"), (true, true)),
-    ] {
+    for &(first, second, wanted) in PAIRS {
         assert_eq!(rt; compared(rt.alloc(), first, second)?, wanted);
     }
     Ok(())
@@ -203,15 +207,16 @@ fn reach_together(
     Ok(taken_together(alloc, ends, &aggregate)? == (disjoint, true))
 }
 
+const AGGREGATES: &[(&[(&str, &str)], bool, (&str, &str))] = &[
+    (&[("2", "4"), ("0", "4"), ("7", "9")], false, ("0", "9")),
+    (&[("a", "d"), ("d", "e"), ("f", "z")], false, ("a", "z")),
+    (&[("a", "d"), ("e", "e"), ("f", "z")], true, ("a", "z")),
+    (&[], true, ("", "")),
+];
+
 #[test]
 fn an_aggregate_reaches_from_the_least_to_the_greatest_key(rt: HostRuntime) -> Result<(), Fail> {
-    let cases: [(&[(&str, &str)], bool, (&str, &str)); 4] = [
-        (&[("2", "4"), ("0", "4"), ("7", "9")], false, ("0", "9")),
-        (&[("a", "d"), ("d", "e"), ("f", "z")], false, ("a", "z")),
-        (&[("a", "d"), ("e", "e"), ("f", "z")], true, ("a", "z")),
-        (&[], true, ("", "")),
-    ];
-    for (ranges, disjoint, reach) in cases {
+    for &(ranges, disjoint, reach) in AGGREGATES {
         assert!(rt;
             reach_together(rt.alloc(), ranges, disjoint, reach)?,
             "{ranges:?}"
@@ -238,19 +243,21 @@ fn overlaps(alloc: Global, low: Bound<&str>, high: Bound<&str>) -> Result<bool, 
     Ok(range.overlaps_with_bounds(&(bytes_of(low), bytes_of(high))))
 }
 
+const BOUNDS: &[(Bound<&str>, Bound<&str>, bool)] = &[
+    (Bound::Included("key1"), Bound::Included("key5"), true),
+    (Bound::Included("key1"), Bound::Excluded("key5"), true),
+    (Bound::Excluded("key5"), Bound::Excluded("key6"), false),
+    (Bound::Unbounded, Bound::Unbounded, true),
+    (Bound::Unbounded, Bound::Excluded("key1"), false),
+    (Bound::Excluded("key5"), Bound::Unbounded, false),
+    (Bound::Unbounded, Bound::Included("key1"), true),
+    (Bound::Included("key5"), Bound::Unbounded, true),
+    (Bound::Included("key4"), Bound::Included("key2"), true),
+];
+
 #[test]
 fn key_ranges_and_bounds(rt: HostRuntime) -> Result<(), Fail> {
-    for (low, high, overlap) in [
-        (Bound::Included("key1"), Bound::Included("key5"), true),
-        (Bound::Included("key1"), Bound::Excluded("key5"), true),
-        (Bound::Excluded("key5"), Bound::Excluded("key6"), false),
-        (Bound::Unbounded, Bound::Unbounded, true),
-        (Bound::Unbounded, Bound::Excluded("key1"), false),
-        (Bound::Excluded("key5"), Bound::Unbounded, false),
-        (Bound::Unbounded, Bound::Included("key1"), true),
-        (Bound::Included("key5"), Bound::Unbounded, true),
-        (Bound::Included("key4"), Bound::Included("key2"), true),
-    ] {
+    for &(low, high, overlap) in BOUNDS {
         assert!(rt; overlaps(rt.alloc(), low, high)? == overlap);
     }
     Ok(())
@@ -274,18 +281,20 @@ fn id_of_four(alloc: Global, key: &str) -> Result<Option<u64>, Error> {
     Ok(run.get_for_key(key.as_bytes()).map(|table| table.id))
 }
 
+const FOUND: &[(&str, Option<u64>)] = &[
+    ("a", Some(0)),
+    ("aaa", Some(0)),
+    ("d", Some(0)),
+    ("e", Some(1)),
+    ("j", Some(1)),
+    ("z", Some(3)),
+    ("zzz", None),
+];
+
 #[test]
 fn the_table_of_a_key(rt: HostRuntime) -> Result<(), Fail> {
     assert!(rt; four_make_a_run(rt.alloc())?);
-    for (key, id) in [
-        ("a", Some(0)),
-        ("aaa", Some(0)),
-        ("d", Some(0)),
-        ("e", Some(1)),
-        ("j", Some(1)),
-        ("z", Some(3)),
-        ("zzz", None),
-    ] {
+    for &(key, id) in FOUND {
         assert!(rt; id_of_four(rt.alloc(), key)? == id, "{key}");
     }
     Ok(())
@@ -301,19 +310,21 @@ fn span_of_four(
     Ok(run.range_overlap_indexes(bytes_of(low), bytes_of(high)))
 }
 
+const SPANS: &[(Bound<&str>, Bound<&str>, Option<(usize, usize)>)] = &[
+    (Bound::Unbounded, Bound::Unbounded, Some((0, 3))),
+    (Bound::Included("a"), Bound::Included("a"), Some((0, 0))),
+    (Bound::Included("a"), Bound::Excluded("d"), Some((0, 0))),
+    (Bound::Included("a"), Bound::Included("g"), Some((0, 1))),
+    (Bound::Included("j"), Bound::Included("j"), Some((1, 1))),
+    (Bound::Included("z"), Bound::Unbounded, Some((3, 3))),
+    (Bound::Included("zzz"), Bound::Included("zzzzzzz"), None),
+    (Bound::Included("n"), Bound::Included("l"), Some((2, 2))),
+    (Bound::Excluded("d"), Bound::Excluded("e"), None),
+];
+
 #[test]
 fn the_tables_between_two_bounds(rt: HostRuntime) -> Result<(), Fail> {
-    for (low, high, span) in [
-        (Bound::Unbounded, Bound::Unbounded, Some((0, 3))),
-        (Bound::Included("a"), Bound::Included("a"), Some((0, 0))),
-        (Bound::Included("a"), Bound::Excluded("d"), Some((0, 0))),
-        (Bound::Included("a"), Bound::Included("g"), Some((0, 1))),
-        (Bound::Included("j"), Bound::Included("j"), Some((1, 1))),
-        (Bound::Included("z"), Bound::Unbounded, Some((3, 3))),
-        (Bound::Included("zzz"), Bound::Included("zzzzzzz"), None),
-        (Bound::Included("n"), Bound::Included("l"), Some((2, 2))),
-        (Bound::Excluded("d"), Bound::Excluded("e"), None),
-    ] {
+    for &(low, high, span) in SPANS {
         assert!(rt; span_of_four(rt.alloc(), low, high)? == span);
     }
     Ok(())
@@ -334,16 +345,18 @@ fn found_in_four(
     )
 }
 
+const OVERLAPS: &[((&str, &str), &[u64], &[u64])] = &[
+    (("a", "a"), &[0], &[]),
+    (("a", "d"), &[0], &[0]),
+    (("a", "f"), &[0, 1], &[0]),
+    (("a", "k"), &[0, 1, 2], &[0, 1]),
+    (("a", "zzz"), &[0, 1, 2, 3], &[0, 1, 2, 3]),
+    (("zzz", "zzzz"), &[], &[]),
+];
+
 #[test]
 fn the_tables_that_overlap_a_range(rt: HostRuntime) -> Result<(), Fail> {
-    for (range, overlapping, contained) in [
-        (("a", "a"), &[0u64] as &[u64], &[] as &[u64]),
-        (("a", "d"), &[0], &[0]),
-        (("a", "f"), &[0, 1], &[0]),
-        (("a", "k"), &[0, 1, 2], &[0, 1]),
-        (("a", "zzz"), &[0, 1, 2, 3], &[0, 1, 2, 3]),
-        (("zzz", "zzzz"), &[], &[]),
-    ] {
+    for &(range, overlapping, contained) in OVERLAPS {
         let found = found_in_four(rt.alloc(), range, overlapping, contained)?;
         assert!(rt; found, "{range:?}");
     }

@@ -159,19 +159,20 @@ fn compacts(
 
 // In each table: what is compacted, the results, and what is reported.
 
+const KEPT: &[(&str, &str, &str)] = &[
+    ("aV10 aV3", "aV10 aV3", ""),
+    ("aW10 aV3", "aW10 aV3", ""),
+    ("aW4 aV3", "", "aV3"),
+    ("aV10 aV3 !2 aV1", "aV10 !2 aV1", ""),
+    ("aV10 !2 aV3", "!2 aV3", ""),
+    ("aV10 aV4 aV3 !2 aV1", "aV10 !2 aV1", "aV3"),
+    ("aV10 ?1 aV3", "?1 aV3", ""),
+    ("", "", ""),
+];
+
 #[test]
 fn keeps_what_readers_at_the_threshold_see(rt: HostRuntime) -> Result<(), Fail> {
-    let cases = [
-        ("aV10 aV3", "aV10 aV3", ""),
-        ("aW10 aV3", "aW10 aV3", ""),
-        ("aW4 aV3", "", "aV3"),
-        ("aV10 aV3 !2 aV1", "aV10 !2 aV1", ""),
-        ("aV10 !2 aV3", "!2 aV3", ""),
-        ("aV10 aV4 aV3 !2 aV1", "aV10 !2 aV1", "aV3"),
-        ("aV10 ?1 aV3", "?1 aV3", ""),
-        ("", "", ""),
-    ];
-    for (over, results, reports) in cases {
+    for &(over, results, reports) in KEPT {
         assert!(rt;
             compacts(rt.alloc(), &PLAIN, over, results, reports)?,
             "{over}"
@@ -180,18 +181,25 @@ fn keeps_what_readers_at_the_threshold_see(rt: HostRuntime) -> Result<(), Fail> 
     Ok(())
 }
 
+const EVICTED: &[(&str, &str, &str)] = &[
+    ("aW10 aT3", "aW10", ""),
+    ("aT10 aV3", "aT10 aV3", ""),
+    ("aT4", "", ""),
+    ("aW4 aT3", "aW4", "aT3"),
+];
+
+const ZEROED: &[(&str, &str, &str)] = &[
+    ("aV10 aV4 aV3", "aV10 aV0", "aV3"),
+    ("aV4 bV5", "aV0 bV5", ""),
+];
+
 #[test]
 fn evicts_tombstones_and_zeroes_numbers(rt: HostRuntime) -> Result<(), Fail> {
     let evicting = Settings {
         evict: true,
         ..PLAIN
     };
-    for (over, results, reports) in [
-        ("aW10 aT3", "aW10", ""),
-        ("aT10 aV3", "aT10 aV3", ""),
-        ("aT4", "", ""),
-        ("aW4 aT3", "aW4", "aT3"),
-    ] {
+    for &(over, results, reports) in EVICTED {
         assert!(rt;
             compacts(rt.alloc(), &evicting, over, results, reports)?,
             "{over}"
@@ -201,10 +209,7 @@ fn evicts_tombstones_and_zeroes_numbers(rt: HostRuntime) -> Result<(), Fail> {
         zero: true,
         ..PLAIN
     };
-    for (over, results, reports) in [
-        ("aV10 aV4 aV3", "aV10 aV0", "aV3"),
-        ("aV4 bV5", "aV0 bV5", ""),
-    ] {
+    for &(over, results, reports) in ZEROED {
         assert!(rt;
             compacts(rt.alloc(), &zeroing, over, results, reports)?,
             "{over}"
@@ -213,23 +218,24 @@ fn evicts_tombstones_and_zeroes_numbers(rt: HostRuntime) -> Result<(), Fail> {
     Ok(())
 }
 
+const FILTERED: &[(u64, Plan, bool, &str, &str, &str)] = &[
+    (5, Plan::DropAt(10), false, "aV10 aV3", "aV3", "aV10"),
+    (0, Plan::ReplaceBelow(10), false, "aV3", "aT3", "aV3"),
+    (0, Plan::ReplaceBelow(10), true, "aV3", "", "aV3"),
+    (5, Plan::FailAt(10), false, "aV10 bV1", "!9 bV1", ""),
+    (
+        995,
+        Plan::DropKeyReplaceBelow(b'b', 997),
+        false,
+        "aV999u aV998v aV997w aV996x aV995y aV994z bV999",
+        "aV999u aV998v aV997w aT996 aT995 aT994",
+        "aV996x aV995y aV994z bV999",
+    ),
+];
+
 #[test]
 fn does_as_the_filter_says(rt: HostRuntime) -> Result<(), Fail> {
-    let cases = [
-        (5, Plan::DropAt(10), false, "aV10 aV3", "aV3", "aV10"),
-        (0, Plan::ReplaceBelow(10), false, "aV3", "aT3", "aV3"),
-        (0, Plan::ReplaceBelow(10), true, "aV3", "", "aV3"),
-        (5, Plan::FailAt(10), false, "aV10 bV1", "!9 bV1", ""),
-        (
-            995,
-            Plan::DropKeyReplaceBelow(b'b', 997),
-            false,
-            "aV999u aV998v aV997w aV996x aV995y aV994z bV999",
-            "aV999u aV998v aV997w aT996 aT995 aT994",
-            "aV996x aV995y aV994z bV999",
-        ),
-    ];
-    for (threshold, plan, evict, over, results, reports) in cases {
+    for &(threshold, plan, evict, over, results, reports) in FILTERED {
         let settings = Settings {
             threshold,
             plan,
@@ -244,32 +250,37 @@ fn does_as_the_filter_says(rt: HostRuntime) -> Result<(), Fail> {
     Ok(())
 }
 
+const SINGLES: &str = "aV999 bV999 cV999";
+
+const TOMBSTONES: &str = "aT999 aT998 bT999 bT998 cT999 cT998";
+
+const WEAK: &str = "aW999 aV998 bW999 bV998 cW999 cV998";
+
+const VALUES: &str = "aV999 aV998 bV999 bV998 cV999 cV998 cV997";
+
+const OLD_VERSIONS: &[(u64, bool, &str, &str, &str)] = &[
+    (1000, false, "aT999 aT998 aT997", "aT999", "aT998 aT997"),
+    (1000, true, "aV999 aV998 aV997", "aV0", "aV998 aV997"),
+    (1050, false, WEAK, "", "aV998 bV998 cV998"),
+    (
+        1_000_000,
+        false,
+        "aT999 bT999 cT999",
+        "aT999 bT999 cT999",
+        "",
+    ),
+    (998, false, TOMBSTONES, TOMBSTONES, ""),
+    (999, false, "aV999 aV998", "aV999 aV998", ""),
+    (0, false, "aW999 aV998", "aW999 aV998", ""),
+    (998, false, "aW999 aV998", "aW999 aV998", ""),
+    (999, false, "aW999 aV998", "aW999 aV998", ""),
+    (0, false, SINGLES, SINGLES, ""),
+    (0, false, VALUES, VALUES, ""),
+];
+
 #[test]
 fn drops_old_versions_and_hidden_values(rt: HostRuntime) -> Result<(), Fail> {
-    let singles = "aV999 bV999 cV999";
-    let tombstones = "aT999 aT998 bT999 bT998 cT999 cT998";
-    let weak = "aW999 aV998 bW999 bV998 cW999 cV998";
-    let values = "aV999 aV998 bV999 bV998 cV999 cV998 cV997";
-    let cases = [
-        (1000, false, "aT999 aT998 aT997", "aT999", "aT998 aT997"),
-        (1000, true, "aV999 aV998 aV997", "aV0", "aV998 aV997"),
-        (1050, false, weak, "", "aV998 bV998 cV998"),
-        (
-            1_000_000,
-            false,
-            "aT999 bT999 cT999",
-            "aT999 bT999 cT999",
-            "",
-        ),
-        (998, false, tombstones, tombstones, ""),
-        (999, false, "aV999 aV998", "aV999 aV998", ""),
-        (0, false, "aW999 aV998", "aW999 aV998", ""),
-        (998, false, "aW999 aV998", "aW999 aV998", ""),
-        (999, false, "aW999 aV998", "aW999 aV998", ""),
-        (0, false, singles, singles, ""),
-        (0, false, values, values, ""),
-    ];
-    for (threshold, zero, over, results, reports) in cases {
+    for &(threshold, zero, over, results, reports) in OLD_VERSIONS {
         let settings = Settings {
             threshold,
             zero,
@@ -294,13 +305,19 @@ fn newest_of_five(alloc: Global, over: &str, watermark: u8) -> Result<String, Er
     Ok(drained(alloc, &mut stream)?)
 }
 
+// What is compacted, the watermark of the filter, and the results.
+const NEWEST_OF_FIVE: &[(&str, u8, &str)] = &[
+    ("aV2353 bV2353 cV2353", 5, "aV2353"),
+    (
+        "aV2353 bV2353 cV2353 fV2353 gV2353 hV2353 nV2353 tV2353",
+        3,
+        "aV2353 bV2353 fV2353 gV2353 nV2353 tV2353",
+    ),
+];
+
 #[test]
 fn keeps_a_state_in_the_filter(rt: HostRuntime) -> Result<(), Fail> {
-    let keys = "aV2353 bV2353 cV2353 fV2353 gV2353 hV2353 nV2353 tV2353";
-    for (over, watermark, wanted) in [
-        ("aV2353 bV2353 cV2353", 5, "aV2353"),
-        (keys, 3, "aV2353 bV2353 fV2353 gV2353 nV2353 tV2353"),
-    ] {
+    for &(over, watermark, wanted) in NEWEST_OF_FIVE {
         let given = newest_of_five(rt.alloc(), over, watermark)?;
         assert_eq!(rt; given.as_str(), wanted);
     }

@@ -71,22 +71,24 @@ fn are_newest(alloc: Global, sources: &str, ends: &str, wanted: &str) -> Result<
     answers_so(&alloc, &mut stream, ends, wanted)
 }
 
+// Sources, ends and answers.
+const MERGED: &[(&str, &str, &str)] = &[
+    ("", "FB", "- -"),
+    ("aV0 / bV0 /", "FFF", "aV0 bV0 -"),
+    ("aV1 cV1 / bV2 /", "FBFB", "aV1 cV1 bV2 -"),
+    ("aV1 !7 / bV1 /", "FF", "!7 -"),
+    ("aV1 bV1 / cV1 !7 /", "FFFF", "aV1 bV1 !7 -"),
+    ("aV1 bV1 / cV1 !7 /", "BBF", "!7 - -"),
+    ("aV3 bV1 ?1 / aV2 /", "FFFB", "aV3 aV2 ?1 -"),
+    ("aV3 aV1 / aV2 bV9 / /", "BFBFFB", "bV9 aV3 aV1 aV2 - -"),
+    // Entries that tie: the earlier source first, from either end.
+    ("aV1x aV1y / aV1z /", "FFFF", "aV1x aV1y aV1z -"),
+    ("aV1x aV1y / aV1z /", "BFBB", "aV1z aV1x aV1y -"),
+];
+
 #[test]
 fn gives_the_entries_of_all_sources_in_order_up_to_an_error(rt: HostRuntime) -> Result<(), Fail> {
-    let cases = [
-        ("", "FB", "- -"),
-        ("aV0 / bV0 /", "FFF", "aV0 bV0 -"),
-        ("aV1 cV1 / bV2 /", "FBFB", "aV1 cV1 bV2 -"),
-        ("aV1 !7 / bV1 /", "FF", "!7 -"),
-        ("aV1 bV1 / cV1 !7 /", "FFFF", "aV1 bV1 !7 -"),
-        ("aV1 bV1 / cV1 !7 /", "BBF", "!7 - -"),
-        ("aV3 bV1 ?1 / aV2 /", "FFFB", "aV3 aV2 ?1 -"),
-        ("aV3 aV1 / aV2 bV9 / /", "BFBFFB", "bV9 aV3 aV1 aV2 - -"),
-        // Entries that tie: the earlier source first, from either end.
-        ("aV1x aV1y / aV1z /", "FFFF", "aV1x aV1y aV1z -"),
-        ("aV1x aV1y / aV1z /", "BFBB", "aV1z aV1x aV1y -"),
-    ];
-    for (sources, ends, wanted) in cases {
+    for &(sources, ends, wanted) in MERGED {
         assert!(rt;
             merges(&rt.alloc(), sources, ends, wanted)?,
             "{sources} at {ends}"
@@ -95,14 +97,16 @@ fn gives_the_entries_of_all_sources_in_order_up_to_an_error(rt: HostRuntime) -> 
     Ok(())
 }
 
+// Ends and answers.
+const NEWEST: &[(&str, &str)] = &[
+    ("FFFFF", "aV7 bV2 cV4 dV1 -"),
+    ("BBBBB", "dV1 cV4 bV2 aV7 -"),
+    ("FBFBF", "aV7 dV1 bV2 cV4 -"),
+];
+
 #[test]
 fn gives_the_newest_version_of_each_key_of_all_sources(rt: HostRuntime) -> Result<(), Fail> {
-    let cases = [
-        ("FFFFF", "aV7 bV2 cV4 dV1 -"),
-        ("BBBBB", "dV1 cV4 bV2 aV7 -"),
-        ("FBFBF", "aV7 dV1 bV2 cV4 -"),
-    ];
-    for (ends, wanted) in cases {
+    for &(ends, wanted) in NEWEST {
         let sources = "aV3 bV1 cV4 / aV7 bV2 / dV1 /";
         assert!(rt; are_newest(rt.alloc(), sources, ends, wanted)?, "{ends}");
     }

@@ -49,104 +49,109 @@ const FIRST: &[u8] =
 
 const FIRST_OUTPUT: &[u8] = b"tables 1\na 7 T -\na 9 V x\nnone\n";
 
+// Scripts, and what they print.
+const READ_BACK: &[(&[u8], &[u8])] = &[
+    (FIRST, FIRST_OUTPUT),
+    (b"", b""),
+    (b"\n\ntable\n\ntable", b"tables 0\ntables 0\n"),
+    (b"get - 0\nget - 18446744073709551615", b"none\nnone\n"),
+    (
+        b"entry - 0 W ~!\ntable\nget - 1\nget - 0",
+        b"tables 1\n- 0 W ~!\nnone\n",
+    ),
+    (
+        b"entry - 18446744073709551614 I -\ntable\nget - 18446744073709551615",
+        b"tables 1\n- 18446744073709551614 I -\n",
+    ),
+    // The newest answer comes from the older run.
+    (
+        b"entry a 9 V x\ntable\nentry a 3 V y\nentry b 1 T -\ntable\nget a 10\nget a 9\nget b 2",
+        b"tables 1\ntables 1\na 9 V x\na 3 V y\nb 1 T -\n",
+    ),
+    // A number of a key may stand in one run only, and another number of it in another.
+    (
+        b"entry a 2 V x\ntable\nentry a 1 V y\ntable\nentry b 2 V z\ntable\nget a 2\nget b 3",
+        b"tables 1\ntables 1\ntables 1\na 1 V y\nb 2 V z\n",
+    ),
+];
+
 #[test]
 fn reads_back_what_was_written(rt: HostRuntime) -> Result<(), Fail> {
     let alloc = rt.alloc();
-    let cases: [(&[u8], &[u8]); 8] = [
-        (FIRST, FIRST_OUTPUT),
-        (b"", b""),
-        (b"\n\ntable\n\ntable", b"tables 0\ntables 0\n"),
-        (b"get - 0\nget - 18446744073709551615", b"none\nnone\n"),
-        (
-            b"entry - 0 W ~!\ntable\nget - 1\nget - 0",
-            b"tables 1\n- 0 W ~!\nnone\n",
-        ),
-        (
-            b"entry - 18446744073709551614 I -\ntable\nget - 18446744073709551615",
-            b"tables 1\n- 18446744073709551614 I -\n",
-        ),
-        // The newest answer comes from the older run.
-        (
-            b"entry a 9 V x\ntable\nentry a 3 V y\nentry b 1 T -\ntable\nget a 10\nget a 9\nget b 2",
-            b"tables 1\ntables 1\na 9 V x\na 3 V y\nb 1 T -\n",
-        ),
-        // A number of a key may stand in one run only, and another number of it in another.
-        (
-            b"entry a 2 V x\ntable\nentry a 1 V y\ntable\nentry b 2 V z\ntable\nget a 2\nget b 3",
-            b"tables 1\ntables 1\ntables 1\na 1 V y\nb 2 V z\n",
-        ),
-    ];
-    for (script, output) in cases {
+    for &(script, output) in READ_BACK {
         assert!(rt; gives(alloc, script, output)?);
     }
     Ok(())
 }
 
+const NO_COMMANDS: &[&[u8]] = &[
+    b"range * *",
+    b"Table",
+    b" table",
+    b"table ",
+    b"table x",
+    b"table\r",
+    b"\t",
+    b" ",
+    b"get",
+    b"get ",
+    b"get a",
+    b"get a ",
+    b"get  1",
+    b"get a  1",
+    b"get a 1 ",
+    b"get a 1 2",
+    b"get a -",
+    b"get a 01",
+    b"get a 00",
+    b"get a +1",
+    b"get a 1x",
+    b"get a 18446744073709551616",
+    b"get a 99999999999999999999999999999999",
+    b"get a\t 1",
+    b"get \x7f 1",
+    b"get \x80 1",
+    b"entry a 1 V",
+    b"entry a 1 V x y",
+    b"entry a 1 X x",
+    b"entry a 1 v x",
+    b"entry a 1 VV x",
+    b"entry a 1  x",
+    b"entry a 1 V \x1f",
+    b"entry a 18446744073709551615 V x",
+];
+
 #[test]
 fn a_line_of_no_such_form_ends_the_script(rt: HostRuntime) -> Result<(), Fail> {
     let alloc = rt.alloc();
-    let lines: [&[u8]; 34] = [
-        b"range * *",
-        b"Table",
-        b" table",
-        b"table ",
-        b"table x",
-        b"table\r",
-        b"\t",
-        b" ",
-        b"get",
-        b"get ",
-        b"get a",
-        b"get a ",
-        b"get  1",
-        b"get a  1",
-        b"get a 1 ",
-        b"get a 1 2",
-        b"get a -",
-        b"get a 01",
-        b"get a 00",
-        b"get a +1",
-        b"get a 1x",
-        b"get a 18446744073709551616",
-        b"get a 99999999999999999999999999999999",
-        b"get a\t 1",
-        b"get \x7f 1",
-        b"get \x80 1",
-        b"entry a 1 V",
-        b"entry a 1 V x y",
-        b"entry a 1 X x",
-        b"entry a 1 v x",
-        b"entry a 1 VV x",
-        b"entry a 1  x",
-        b"entry a 1 V \x1f",
-        b"entry a 18446744073709551615 V x",
-    ];
-    for line in lines {
+    for &line in NO_COMMANDS {
         assert!(rt; stops(alloc, line, b"", b"sst: line 1\n")?, "{line:?}");
     }
     Ok(())
 }
 
+// Scripts, what they print, and what they report.
+const OUT_OF_ORDER: &[(&[u8], &[u8], &[u8])] = &[
+    (b"entry a 1 V x\nentry a 2 V y", b"", b"sst: line 2\n"),
+    (b"entry a 1 V x\n\nentry a 1 T -", b"", b"sst: line 3\n"),
+    (b"entry b 1 V x\nentry a 2 V y\nget", b"", b"sst: line 2\n"),
+    (b"entry aa 1 V x\nentry a 0 V y", b"", b"sst: line 2\n"),
+    (
+        b"entry a 9 V x\ntable\nentry a 8 V x\nentry a 7 V y\ntable\nentry - 1 V x\nentry a 9 T -\ntable\ntable",
+        b"tables 1\ntables 1\n",
+        b"sst: line 8\n",
+    ),
+    (
+        b"entry a 9 V x\nentry a 8 V x\nentry b 7 V x\ntable\nget b 8\nentry a 8 V x\ntable",
+        b"tables 1\nb 7 V x\n",
+        b"sst: line 7\n",
+    ),
+];
+
 #[test]
 fn an_entry_out_of_order_or_twice_ends_the_script(rt: HostRuntime) -> Result<(), Fail> {
     let alloc = rt.alloc();
-    let cases: [(&[u8], &[u8], &[u8]); 6] = [
-        (b"entry a 1 V x\nentry a 2 V y", b"", b"sst: line 2\n"),
-        (b"entry a 1 V x\n\nentry a 1 T -", b"", b"sst: line 3\n"),
-        (b"entry b 1 V x\nentry a 2 V y\nget", b"", b"sst: line 2\n"),
-        (b"entry aa 1 V x\nentry a 0 V y", b"", b"sst: line 2\n"),
-        (
-            b"entry a 9 V x\ntable\nentry a 8 V x\nentry a 7 V y\ntable\nentry - 1 V x\nentry a 9 T -\ntable\ntable",
-            b"tables 1\ntables 1\n",
-            b"sst: line 8\n",
-        ),
-        (
-            b"entry a 9 V x\nentry a 8 V x\nentry b 7 V x\ntable\nget b 8\nentry a 8 V x\ntable",
-            b"tables 1\nb 7 V x\n",
-            b"sst: line 7\n",
-        ),
-    ];
-    for (script, output, errors) in cases {
+    for &(script, output, errors) in OUT_OF_ORDER {
         assert!(rt; stops(alloc, script, output, errors)?);
     }
     Ok(())
@@ -198,16 +203,18 @@ fn ends_where_input_fails(alloc: Global, script: &[u8], shown: &[u8], told: &[u8
     status == 2 && output.as_slice() == shown && errors.as_slice() == told
 }
 
+// Likewise, where input fails behind the script.
+const BEFORE_FAILING_INPUT: &[(&[u8], &[u8], &[u8])] = &[
+    (b"", b"", b"sst: input\n"),
+    (b"get a 1\n\n", b"none\n", b"sst: input\n"),
+    (b"get a 1\nget b 1", b"none\n", b"sst: input\n"),
+    (b"get a 1\nrange\n", b"none\n", b"sst: line 2\n"),
+];
+
 #[test]
 fn failing_input_ends_the_script(rt: HostRuntime) -> Result<(), Fail> {
     let alloc = rt.alloc();
-    let cases: [(&[u8], &[u8], &[u8]); 4] = [
-        (b"", b"", b"sst: input\n"),
-        (b"get a 1\n\n", b"none\n", b"sst: input\n"),
-        (b"get a 1\nget b 1", b"none\n", b"sst: input\n"),
-        (b"get a 1\nrange\n", b"none\n", b"sst: line 2\n"),
-    ];
-    for (script, shown, told) in cases {
+    for &(script, shown, told) in BEFORE_FAILING_INPUT {
         assert!(rt; ends_where_input_fails(alloc, script, shown, told));
     }
     Ok(())
@@ -225,16 +232,18 @@ fn status_untold(alloc: Global, script: &[u8]) -> u8 {
     run_script(alloc, script, &mut FailingWriter, &mut FailingWriter)
 }
 
+// Scripts whose output fails, and what they report.
+const WITH_FAILING_OUTPUT: &[(&[u8], &[u8])] = &[
+    (b"get a 1\n", b"sst: output\n"),
+    (b"entry a 1 V x\ntable\nrange\n", b"sst: output\n"),
+    (b"get a 1\nrange\n", b"sst: output\n"),
+    (b"entry a 1 V x\nrange\ntable\n", b"sst: line 2\n"),
+];
+
 #[test]
 fn failing_output_ends_the_script(rt: HostRuntime) -> Result<(), Fail> {
     let alloc = rt.alloc();
-    let cases: [(&[u8], &[u8]); 4] = [
-        (b"get a 1\n", b"sst: output\n"),
-        (b"entry a 1 V x\ntable\nrange\n", b"sst: output\n"),
-        (b"get a 1\nrange\n", b"sst: output\n"),
-        (b"entry a 1 V x\nrange\ntable\n", b"sst: line 2\n"),
-    ];
-    for (script, told) in cases {
+    for &(script, told) in WITH_FAILING_OUTPUT {
         assert!(rt; ends_where_output_fails(alloc, script, told));
         // Where errors cannot be told either, the status is the same.
         assert_eq!(rt; status_untold(alloc, script), 2);

@@ -215,16 +215,19 @@ const NOT_READ: [&[u8]; 9] = [
     b"user_data_size",
 ];
 
+// What is done to an item, and the number of the refusal or 0.
+const CHANGES: &[(Change, u8)] = &[
+    (Change::Gone, MISSING),
+    // Items are looked for below the largest number, and whatever their kind.
+    (Change::Seqno(SeqNo::MAX), MISSING),
+    (Change::Seqno(SeqNo::MAX - 1), 0),
+    (Change::Tombstone, 0),
+];
+
 #[test]
 fn an_item_that_is_read_has_to_be_there(rt: HostRuntime) {
     for name in READ {
-        for (change, expected) in [
-            (Change::Gone, MISSING),
-            // Items are looked for below the largest number, and whatever their kind.
-            (Change::Seqno(SeqNo::MAX), MISSING),
-            (Change::Seqno(SeqNo::MAX - 1), 0),
-            (Change::Tombstone, 0),
-        ] {
+        for &(change, expected) in CHANGES {
             let answer = reopen(rt.alloc(), &[(name, change)]);
             assert_eq!(rt; number(answer), expected);
         }

@@ -72,16 +72,19 @@ fn five_of_blocks(
     five_of_source(&BlockSource::new(alloc, bytes)?, block_count, global_seqno)
 }
 
+// A count of blocks, a global number, and the numbers of the first five steps.
+const SCANS: &[(u64, SeqNo, [SeqNo; 5])] = &[
+    (1, 0, [1, 0, 0, 0, 0]),
+    (0, 0, [1, 0, 0, 0, 0]),
+    // What lies behind the data block is no data block.
+    (9, 0, [1, 1004, 0, 0, 0]),
+    (1, u64::MAX - 1, [u64::MAX, 0, 0, 0, 0]),
+    (9, u64::MAX, [1021, 0, 0, 0, 0]),
+];
+
 #[test]
 fn a_scan_of_blocks_goes_on_up_to_what_is_none(rt: HostRuntime) -> Result<(), Fail> {
-    for (block_count, global_seqno, numbers) in [
-        (1, 0, [1, 0, 0, 0, 0]),
-        (0, 0, [1, 0, 0, 0, 0]),
-        // What lies behind the data block is no data block.
-        (9, 0, [1, 1004, 0, 0, 0]),
-        (1, u64::MAX - 1, [u64::MAX, 0, 0, 0, 0]),
-        (9, u64::MAX, [1021, 0, 0, 0, 0]),
-    ] {
+    for &(block_count, global_seqno, numbers) in SCANS {
         let answer = five_of_blocks(rt.alloc(), &[], block_count, global_seqno)?;
         assert_eq!(rt; answer, numbers);
     }
