@@ -1,6 +1,7 @@
 //! Hashes, and the bytes of blocks.
 use sst_blocks::{
-    Block, BlockHandle, BlockType, CompressionType, Error, SectionName, SectionWriter, Slice, hash,
+    Block, BlockHandle, BlockType, CompressionType, Error, Header, SectionName, SectionWriter,
+    Slice, hash,
 };
 use std::alloc::Global;
 use std::test::Fail;
@@ -75,7 +76,7 @@ fn as_bytes(alloc: Global) -> Result<([(u64, u32); 2], bool, bool), Error> {
 fn blocks_as_bytes(rt: HostRuntime) -> Result<(), Fail> {
     let (both, are_there, is_their_hash) = as_bytes(rt.alloc())?;
     assert_eq!(rt; both, [(0, 47), (47, 26)]);
-    assert_eq!(rt; Block::<Global>::HEADER_LEN, 24);
+    assert_eq!(rt; Header::serialized_len(), 24);
     assert!(rt; are_there);
     assert!(rt; is_their_hash);
     Ok(())

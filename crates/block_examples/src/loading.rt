@@ -90,25 +90,28 @@ fn loads_from_a_position_on(rt: HostRuntime) {
     assert!(rt; loaded_at(rt.alloc(), 1120) == Err(Error::Truncated));
 }
 
-// The counts after a load that succeeds, two that are refused, and one of another kind that is.
+// The counts after a load that succeeds, five that are refused, one of them of another kind.
 fn counted_loads(alloc: Global) -> Result<Opened, Error> {
     let source = BlockSource::new(alloc, changed(alloc, &[])?)?;
     let mut opened = Opened::none();
     for (size, kind) in [
         (45, BlockType::Data),
         (23, BlockType::Data),
+        (44, BlockType::Data),
         (45, BlockType::Index),
     ] {
         let _ = source.load(&handle(0, size), kind, &mut opened);
     }
-    let _ = source.load_at(96, BlockType::Data, &mut opened);
+    for position in [96, 1120] {
+        let _ = source.load_at(position, BlockType::Data, &mut opened);
+    }
     Ok(opened)
 }
 
 #[test]
 fn each_load_is_counted(rt: HostRuntime) -> Result<(), Fail> {
     let expected = Opened {
-        data_loads: 3,
+        data_loads: 5,
         index_loads: 1,
         filter_loads: 0,
         meta_loads: 0,

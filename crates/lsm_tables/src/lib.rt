@@ -18,6 +18,3 @@ pub use point::point_in;
 pub use regions::ParsedRegions;
 pub use scanner::Scanner;
 pub use table::{Table, TableInner};
-
-/// The length of a block header in bytes, [`sst_blocks::Block::HEADER_LEN`].
-const HEADER_LEN: u32 = 24;

@@ -12,9 +12,8 @@ ghost use Rattle.sst_entries.specs.declared.error.Error.{Error};
 ghost use Rattle.sst_entries.specs.declared.error.Error.TheVariants.{OutOfMemory};
 ghost use Rattle.lsm_tables.specs.Scan.{Scan, ScansNext, TakesEntry, block_told, ended, fault_of, lifted_told, scan_size, scan_told};
 
-use crate::HEADER_LEN;
 use sst_blocks::{
-    BlockSource, BlockType, CompressionType, DataBlock, Error, IterItem, Opened, SeqNo,
+    BlockSource, BlockType, CompressionType, DataBlock, Error, Header, IterItem, Opened, SeqNo,
 };
 use std::alloc::{Allocator, Global};
 use std::marker::Model;
@@ -57,7 +56,7 @@ fn block_at<A: Allocator + Clone>(
     ensures counted { opened.new ≡ counted Data opened.old }
 {
     let block = source.load_at(position, BlockType::Data, opened)?;
-    let next = position + u64::from(HEADER_LEN) + block.size() as u64;
+    let next = position + Header::serialized_len() as u64 + block.size() as u64;
     Ok((DataBlock::new(block), next))
 }
 

@@ -26,12 +26,12 @@ ghost use Rattle.lsm_tables.specs.TableSeen.{TableSeen};
 
 use crate::block_index::FullBlockIndex;
 use crate::handle::Shared;
-use crate::{HEADER_LEN, Inner, ParsedMeta, ParsedRegions, Scanner, point_in};
+use crate::{Inner, ParsedMeta, ParsedRegions, Scanner, point_in};
 use lsm_ranges::{KeyRange, Ranged};
 use lsm_writers::{TableId, TreeId};
 use sst_blocks::{
-    BlockHandle, BlockSource, BlockType, Checksum, Counted, Error, IndexBlock, InternalValue,
-    Opened, SeqNo, Slice, hash,
+    BlockHandle, BlockSource, BlockType, Checksum, Counted, Error, Header, IndexBlock,
+    InternalValue, Opened, SeqNo, Slice, hash,
 };
 use std::alloc::{AllocError, Allocator, Global};
 use std::fmt;
@@ -323,7 +323,7 @@ impl<A: Allocator> Table<A> {
         ensures size { result + 24 ≡ self.now.parts.regions.tli.size }
         ensures payload { (b : Loaded) → load_told (body_of self.now.bytes) self.now.parts.regions.tli.offset self.now.parts.regions.tli.size Index ≡ Ok b → result ≡ length b.payload }
     {
-        (self.0.inner.regions.tli.size() - HEADER_LEN) as usize
+        self.0.inner.regions.tli.size() as usize - Header::serialized_len()
     }
 
     /// Whether the table's key range reaches past both bounds. Where it does not, no key of the table lies within them.

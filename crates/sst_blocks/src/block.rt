@@ -13,7 +13,7 @@ use crate::fnv::Fnv1a;
 use crate::index_block::handle_starts;
 use crate::section::SectionWriter;
 use crate::{BlockHandle, BlockOffset, BlockType, CompressionType, Error, Slice, TableVersion};
-pub(crate) use header::Header;
+pub use header::Header;
 use std::alloc::{Allocator, Global};
 use std::marker::Model;
 
@@ -39,9 +39,6 @@ impl<A: Allocator> Model for Block<A> {
 }
 
 impl<A: Allocator> Block<A> {
-    /// The length of a block header in bytes.
-    pub const HEADER_LEN: u32 = Header::LEN;
-
     /// What the payload holds.
     pub fn kind(&self) -> BlockType
         ensures { result ≡ self.now.kind }

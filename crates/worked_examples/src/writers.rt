@@ -53,15 +53,26 @@ fn counts_of(alloc: Global, rows: &[Row<'_>]) -> Result<([usize; 7], [usize; 7])
     counts_around_a_cut(&mut filled(new_writer(alloc)?, alloc, rows)?)
 }
 
+const THREE_KEYS: &[Row<'static>] = &[
+    (b"a", 0, ValueType::Value, b"a"),
+    (b"b", 0, ValueType::Value, b"b"),
+    (b"c", 0, ValueType::Value, b"c"),
+];
+
+// How many rows are written, and the counts then, before and after the block that waits is cut.
+const COUNTS: &[(usize, [usize; 7], [usize; 7])] = &[
+    (0, [0, 0, 0, 0, 0, 0, 0], [0, 0, 0, 0, 0, 0, 0]),
+    (1, [0, 0, 1, 0, 0, 0, 2], [1, 1, 1, 0, 0, 0, 0]),
+    (2, [0, 0, 2, 0, 0, 0, 4], [2, 1, 2, 0, 0, 0, 0]),
+    (3, [0, 0, 3, 0, 0, 0, 6], [3, 1, 3, 0, 0, 0, 0]),
+];
+
 #[test]
 fn counts_what_is_written(rt: HostRuntime) -> Result<(), Fail> {
-    let rows: [Row<'_>; 3] = [
-        (b"a", 0, ValueType::Value, b"a"),
-        (b"b", 0, ValueType::Value, b"b"),
-        (b"c", 0, ValueType::Value, b"c"),
-    ];
-    let expected = ([0, 0, 3, 0, 0, 0, 6], [3, 1, 3, 0, 0, 0, 0]);
-    assert!(rt; counts_of(rt.alloc(), &rows)? == expected);
+    for &(len, before, after) in COUNTS {
+        let rows = THREE_KEYS.get(..len).unwrap_or_default();
+        assert_eq!(rt; counts_of(rt.alloc(), rows)?, (before, after));
+    }
     Ok(())
 }
 

@@ -9,7 +9,7 @@ use crate::{BlockType, Error, TableVersion, TagName};
 
 /// What a block's header says of its payload.
 #[derive(Clone, Copy, Debug, PartialEq, Eq)]
-pub(crate) struct Header {
+pub struct Header {
     /// The version whose grammar the payload has.
     pub(crate) version: TableVersion,
     /// The length of the payload in bytes.
@@ -21,8 +21,14 @@ pub(crate) struct Header {
 }
 
 impl Header {
-    /// The length of a header in bytes.
     pub(crate) const LEN: u32 = 24;
+
+    /// The length of a header in bytes.
+    pub fn serialized_len() -> usize
+        ensures { result ≡ 24 }
+    {
+        Self::LEN as usize
+    }
 
     /// The header of a block of a kind.
     #[tactic(auto, unfolding(crate::specs::Number::le4, crate::specs::Number::le8))]

@@ -21,4 +21,4 @@ pub returns-clause-told : goal.returns-clause-told
 returns-clause-told g c =
     let b = c.in_ok-block.block in
     ap (λ (r : Result Loaded Error). r >>= λ x. Ok (entries_of x, behind c.args.position x)) c.in_ok-block.ensures.told
-    ∙ both (entries_of b) c.new.result (behind c.args.position b) (c.args.position + c.from.result + c.size.result) (sym c.new.ensures) (omega (arith, c.from.ensures, c.size.ensures))
+    ∙ both (entries_of b) c.new.result (behind c.args.position b) (c.args.position + c.serialized_len.result + c.size.result) (sym c.new.ensures) (omega (arith, c.serialized_len.ensures, c.size.ensures))
