@@ -1,5 +1,5 @@
 -- What an index writer holds, and what it writes.
-use Rattle.std.specs.Prelude.{◌≡◌, ℕ, ◌+◌, Bool, List, [], ◌∷◌, ◌++◌, length, Option, Some, None, All, if◌then◌else◌}
+use Rattle.std.specs.Prelude.{◌≡◌, ℕ, Bool, List, [], ◌∷◌, ◌++◌, length, Option, Some, None, All, if◌then◌else◌}
 use Rattle.std.specs.List.{flat_map}
 use Rattle.sst_blocks.specs.declared.version.TableVersion.TheVariants.{V4}
 use Rattle.sst_blocks.specs.declared.block_type.BlockType.TheVariants.{Index}

@@ -1,4 +1,4 @@
-use Rattle.std.proofs.Common.{◌≡◌, ◌≤◌, ◌∷◌, [], ℕ, ◌+◌, ◌<◌, List, Bool, true, Option, Some, None, length, get_or, drop, map, sym, ap, ◌∙◌, rules, arith, refl}
+use Rattle.std.proofs.Common.{◌≡◌, ◌≤◌, ◌∷◌, ℕ, ◌+◌, ◌<◌, List, Bool, true, Option, Some, None, length, get_or, drop, map, sym, ap, ◌∙◌, rules, refl}
 use Rattle.std.specs.Option.{option_map}
 use Rattle.std.proofs.lemmas.List.{drop_more, drop_all}
 use Rattle.sst_entries.specs.Entry.{Entry}

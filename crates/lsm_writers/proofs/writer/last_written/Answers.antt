@@ -1,4 +1,3 @@
-use Rattle.std.proofs.Common.{◌≡◌}
 use Rattle.lsm_writers.proofs.Orders.{last_is, last_is_before}
 use Rattle.lsm_writers.proofs.writer.last_written.Goals as goal
 

@@ -1,9 +1,8 @@
-use Rattle.std.proofs.Common.{◌≡◌, ◌∙◌, sym, ap, refl, ◌-◌, ◌^◌, Bool, true, List, [], rules, lt-ltb}
-use Rattle.std.specs.Prelude.{Option, Some, None, nat_lt}
+use Rattle.std.proofs.Common.{◌≡◌, ◌∙◌, ap, ◌-◌, ◌^◌, true, [], rules, lt-ltb}
+use Rattle.std.specs.Prelude.{Some, None, nat_lt}
 use Rattle.sst_entries.specs.declared.value_type.ValueType.TheVariants.{Value}
 use Rattle.sst_entries.specs.Entry.{Entry, entry}
-use Rattle.sst_entries.specs.Strict.{is_before, last_of}
-use Rattle.lsm_writers.specs.Writing.{written, follows}
+use Rattle.sst_entries.specs.Strict.{is_before}
 use Rattle.lsm_writers.proofs.Orders.{follows_nothing, follows_last, last_written_is}
 use Rattle.lsm_writers.proofs.writer.Writer.can_follow.Goals as goal
 

@@ -1,7 +1,3 @@
-use Rattle.std.proofs.Common.{◌≡◌, ap, refl, [], length, arith, rules}
-use Rattle.lsm_writers.specs.Cut.{Cut}
-use Rattle.lsm_writers.specs.Facts.{count_after, lowest_seqno, highest_seqno}
-use Rattle.sst_entries.specs.Strict.{IsStrictAfter, last_of}
 use Rattle.lsm_writers.proofs.Taking.{nothing_held}
 use Rattle.lsm_writers.proofs.writer.Writer.new.Goals as goal
 

@@ -1,4 +1,4 @@
-use Rattle.std.proofs.Common.{◌≡◌, arith}
+use Rattle.std.proofs.Common.{arith}
 use Rattle.lsm_writers.specs.Held.{IsShort}
 use Rattle.lsm_writers.specs.Chunks.{joined}
 use Rattle.lsm_writers.proofs.Listing.{all_back}

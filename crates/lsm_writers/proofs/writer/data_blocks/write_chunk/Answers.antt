@@ -1,7 +1,4 @@
-use Rattle.std.proofs.Common.{◌≡◌, ◌∙◌, ap, sym, refl, List, ◌<◌, length}
-use Rattle.sst_blocks.specs.declared.version.TableVersion.TheVariants.{V4}
-use Rattle.sst_entries.specs.Entry.{Entry}
-use Rattle.sst_blocks.specs.Payload.{payload}
+use Rattle.std.proofs.Common.{refl}
 use Rattle.lsm_writers.proofs.Cutting.{readable_of}
 use Rattle.lsm_writers.proofs.Orders.{some_last}
 use Rattle.lsm_writers.proofs.writer.data_blocks.write_chunk.Goals as goal

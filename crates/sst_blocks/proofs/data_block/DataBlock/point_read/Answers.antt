@@ -1,4 +1,4 @@
-use Rattle.std.proofs.Common.{◌≡◌, not, rules, ◌∙◌, sym}
+use Rattle.std.proofs.Common.{◌≡◌, not, rules}
 use Rattle.sst_entries.specs.Entry.{Entry}
 use Rattle.sst_entries.specs.Point.{bound_of}
 use Rattle.sst_blocks.specs.Seen.{seen}

@@ -1,13 +1,13 @@
-use Rattle.std.proofs.Common.{◌≡◌, ◌∙◌, ap, sym, refl, subst, ℕ, ◌+◌, ◌<◌, ◌≤◌, ◌^◌, Bool, false, List, [], ◌∷◌, ◌++◌, ◌-◌, length, slice_get, arith, rules, Fits, w64, vec_len}
-use Rattle.std.specs.Prelude.{Option, Some, None}
+use Rattle.std.proofs.Common.{◌≡◌, ◌∙◌, ap, sym, refl, subst, ◌<◌, ◌^◌, false, List, [], ◌∷◌, ◌++◌, ◌-◌, length, slice_get, arith, rules, vec_len}
+use Rattle.std.specs.Prelude.{Some, None}
 use Rattle.sst_blocks.specs.declared.version.TableVersion.TheVariants.{V4}
 use Rattle.sst_entries.specs.Entry.{Entry}
 use Rattle.sst_blocks.specs.Handle.{Handle}
 use Rattle.sst_blocks.specs.Payload.{payload}
 use Rattle.sst_entries.specs.Strict.{IsStrict}
 use Rattle.lsm_writers.specs.Chunks.{joined}
-use Rattle.lsm_writers.specs.Cut.{chunks_in, AreCut, IsReadable, Cut, with_cut, rest_of}
-use Rattle.lsm_writers.specs.Index.{last_entry, handles, data_section, data_block, handle_of}
+use Rattle.lsm_writers.specs.Cut.{chunks_in, IsReadable, Cut, with_cut}
+use Rattle.lsm_writers.specs.Index.{last_entry, data_block, handle_of}
 use Rattle.lsm_writers.proofs.Cutting.{cut_more, cut_lost, held_again, held_by_bytes, counted_more, registered_strict, rest_is, room_for, at_least_blocks, exact_blocks, sizes}
 use Rattle.lsm_writers.proofs.Listing.{on_err}
 use Rattle.lsm_writers.proofs.Orders.{strict_alone, strict_back, last_is, last_place, last_popped}
