@@ -59,6 +59,7 @@ fn lies(alloc: Global, name: SectionName) -> Result<Option<(u64, u64)>, Error> {
     )
 }
 
+// A section, and its position and length.
 const SECTIONS: &[(SectionName, Option<(u64, u64)>)] = &[
     (SectionName::Data, Some((0, 45))),
     (SectionName::Index, None),

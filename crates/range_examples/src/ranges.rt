@@ -116,6 +116,7 @@ fn the_empty_range_has(key: &[u8]) -> bool {
     KeyRange::<Global>::empty().contains_key(key)
 }
 
+// The ends of a range, a key, and whether the range is well-formed and has it.
 const KEYS: &[((&str, &str), &str, bool)] = &[
     (("key1", "key5"), "key0", false),
     (("key1", "key5"), "key01", false),
@@ -159,6 +160,7 @@ fn compared(
     compared_to(alloc, &first, second)
 }
 
+// The ends of two ranges, and whether they overlap, and whether the first contains the second.
 const PAIRS: &[((&str, &str), (&str, &str), (bool, bool))] = &[
     (("a", "f"), ("b", "h"), (true, false)),
     (("a", "f"), ("f", "t"), (true, false)),
@@ -207,6 +209,7 @@ fn reach_together(
     Ok(taken_together(alloc, ends, &aggregate)? == (disjoint, true))
 }
 
+// The ends of ranges, whether they are disjoint, and the ends of their aggregate.
 const AGGREGATES: &[(&[(&str, &str)], bool, (&str, &str))] = &[
     (&[("2", "4"), ("0", "4"), ("7", "9")], false, ("0", "9")),
     (&[("a", "d"), ("d", "e"), ("f", "z")], false, ("a", "z")),
@@ -243,6 +246,7 @@ fn overlaps(alloc: Global, low: Bound<&str>, high: Bound<&str>) -> Result<bool, 
     Ok(range.overlaps_with_bounds(&(bytes_of(low), bytes_of(high))))
 }
 
+// A lower and an upper bound, and whether the range from "key1" to "key5" overlaps with them.
 const BOUNDS: &[(Bound<&str>, Bound<&str>, bool)] = &[
     (Bound::Included("key1"), Bound::Included("key5"), true),
     (Bound::Included("key1"), Bound::Excluded("key5"), true),
@@ -281,6 +285,7 @@ fn id_of_four(alloc: Global, key: &str) -> Result<Option<u64>, Error> {
     Ok(run.get_for_key(key.as_bytes()).map(|table| table.id))
 }
 
+// A key, and the id of the one of four tables that has it.
 const FOUND: &[(&str, Option<u64>)] = &[
     ("a", Some(0)),
     ("aaa", Some(0)),
@@ -310,6 +315,7 @@ fn span_of_four(
     Ok(run.range_overlap_indexes(bytes_of(low), bytes_of(high)))
 }
 
+// A lower and an upper bound, and the places of the first and the last of four tables between them.
 const SPANS: &[(Bound<&str>, Bound<&str>, Option<(usize, usize)>)] = &[
     (Bound::Unbounded, Bound::Unbounded, Some((0, 3))),
     (Bound::Included("a"), Bound::Included("a"), Some((0, 0))),
@@ -345,6 +351,7 @@ fn found_in_four(
     )
 }
 
+// The ends of a range, and the ids of the tables of four that overlap with it, and of those inside it.
 const OVERLAPS: &[((&str, &str), &[u64], &[u64])] = &[
     (("a", "a"), &[0], &[]),
     (("a", "d"), &[0], &[0]),

@@ -218,6 +218,7 @@ fn evicts_tombstones_and_zeroes_numbers(rt: HostRuntime) -> Result<(), Fail> {
     Ok(())
 }
 
+// The threshold, the filter and whether tombstones are evicted come first here.
 const FILTERED: &[(u64, Plan, bool, &str, &str, &str)] = &[
     (5, Plan::DropAt(10), false, "aV10 aV3", "aV3", "aV10"),
     (0, Plan::ReplaceBelow(10), false, "aV3", "aT3", "aV3"),
@@ -258,6 +259,7 @@ const WEAK: &str = "aW999 aV998 bW999 bV998 cW999 cV998";
 
 const VALUES: &str = "aV999 aV998 bV999 bV998 cV999 cV998 cV997";
 
+// The threshold and whether numbers are zeroed come first here.
 const OLD_VERSIONS: &[(u64, bool, &str, &str, &str)] = &[
     (1000, false, "aT999 aT998 aT997", "aT999", "aT998 aT997"),
     (1000, true, "aV999 aV998 aV997", "aV0", "aV998 aV997"),

@@ -46,7 +46,7 @@ fn answers_an_error_in_the_place_of_its_key(rt: HostRuntime) -> Result<(), Fail>
     Ok(())
 }
 
-// Likewise.
+// The same without errors.
 const WITHOUT_ERRORS: &[(&str, &str, &str)] = &[
     ("aV0 bV0 cV0 dV0 eT1 eV0", "FFFFFF", "aV0 bV0 cV0 dV0 eT1 -"),
     ("aV0 bV0 cV0 dV0 eT1 eV0", "BBBBBB", "eT1 dV0 cV0 bV0 aV0 -"),
