@@ -1,2 +1,7 @@
 pub mod StreamLemmas
 pub mod VecSource
+pub mod FrontLemmas
+pub mod Booleans
+pub mod Lists
+pub mod OrderLemmas
+pub mod Strictness

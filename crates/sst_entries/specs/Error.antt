@@ -47,3 +47,17 @@ Gives view (Err e) told = Fails e told
 abbrev pub Faults : {X : Type 0} → Result X Error → Option Error → Type 0
 Faults (Ok x) told = told ≡ None
 Faults (Err e) told = is_memory e ≡ false → told ≡ Some e
+
+-- the first fault, or else what comes after it
+abbrev pub unless : {A : Type 0} → Option Error → Result A Error → Result A Error
+unless None told = told
+unless (Some e) told = Err e
+
+-- a call refuses exactly with the fault that is told, and succeeds where none is
+abbrev pub Refuses : {X : Type 0} → Result X Error → Option Error → Type 0
+Refuses (Ok x) told = told ≡ None
+Refuses (Err e) told = told ≡ Some e
+
+-- a fault that needs no memory to be found comes before any want of memory: where it is told, it is the refusal
+abbrev pub FaultsFirst : {X : Type 0} → Result X Error → Option Error → Type 0
+FaultsFirst result told = (e : Error) → told ≡ Some e → Refuses result (Some e)

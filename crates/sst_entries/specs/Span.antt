@@ -1,5 +1,5 @@
 -- A window in a list, which both ends deal out.
-use Rattle.std.specs.Prelude.{◌≡◌, ℕ, ◌+◌, Bool, true, List, [], ◌∷◌, Result, slice_range, if◌then◌else◌}
+use Rattle.std.specs.Prelude.{◌≡◌, ℕ, ◌+◌, Bool, true, List, [], ◌∷◌, Option, Some, None, Result, Ok, Err, slice_range, if◌then◌else◌}
 use Rattle.sst_entries.specs.declared.error.Error.{Error}
 use Rattle.sst_entries.specs.declared.error.Error.TheVariants.{OutOfMemory}
 use Rattle.sst_entries.specs.Stream.{all_ok}
@@ -22,3 +22,15 @@ front_length p (x ∷ xs) = if p x then 1 + front_length p xs else 0
 -- a span stands for the results of what is left, where want of memory stops its reader
 abbrev pub SpanHas : {X : Type 0} → (Error → Bool) → Span X → List (Result X Error) → Type 0
 SpanHas stops s xs = (stops OutOfMemory ≡ true) × (xs ≡ all_ok (left_in s))
+
+-- what a call at an end of a span gives: the entry there, and the others are left; want of memory where there is an entry, and
+-- nothing is left; or nothing, where nothing is left
+abbrev pub SpanAnswer : {X : Type 0} → (List X → Option X × List X) → Span X → Option (Result X Error) → Span X → Type 0
+SpanAnswer end s None t = (left_in s ≡ []) × (left_in t ≡ [])
+SpanAnswer end s (Some (Ok x)) t = ((end (left_in s)).0 ≡ Some x) × (left_in t ≡ (end (left_in s)).1)
+SpanAnswer end s (Some (Err e)) t = (e ≡ OutOfMemory) × (left_in s ≡ [] → ⊥) × (left_in t ≡ [])
+
+-- one call at an end of a span; the list stays
+pub record SpanGives {X : Type 0} (end : List X → Option X × List X) (s : Span X) (r : Option (Result X Error)) (t : Span X) : Type 0 where
+  pub answer : SpanAnswer end s r t
+  pub list : t.list ≡ s.list

@@ -4,6 +4,7 @@
 
 mod error;
 mod key;
+mod order;
 mod slice;
 mod stream;
 mod value;
@@ -11,8 +12,9 @@ mod value_type;
 
 pub use error::{Error, TagName};
 pub use key::InternalKey;
+pub use order::{are_strict, compare_versions};
 pub use slice::{Slice, UserKey, UserValue};
-pub use stream::{Direction, IterItem, answer_at, answers_at, source_of};
+pub use stream::{Direction, IterItem, answer_at, answers_at, from_the_front, source_of};
 pub use value::InternalValue;
 pub use value_type::ValueType;
 

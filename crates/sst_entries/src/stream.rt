@@ -1,6 +1,6 @@
 //! Streams of results that are taken from both ends.
 ghost use Rattle.std.specs.Prelude.{Bool, ◌≡◌, IfOk, List, Result};
-ghost use Rattle.sst_entries.specs.Stream.{Deals, CanDeal, Runs, Steps, NoneStops, stopped, deal};
+ghost use Rattle.sst_entries.specs.Stream.{Deals, CanDeal, Runs, Steps, NoneStops, nowhere, stopped, deal};
 ghost use Rattle.sst_entries.specs.declared.error.Error.{Error};
 
 use crate::{Error, InternalValue};
@@ -60,4 +60,13 @@ pub fn source_of<X: Drop, A: Allocator>(
     ensures { (stops : Error → Bool) → Deals (stopped stops) ⟦<std::vec::IntoIter<Result<X, Error>, A> as Iterator>⟧.next_gives ⟦<std::vec::IntoIter<Result<X, Error>, A> as DoubleEndedIterator>⟧.next_back_gives result items.items }
 {
     items.into_iter()
+}
+
+/// A law for sources of both ends that are taken from the front alone: what such a source deals from both ends, it deals from
+/// the front, and where both ends may be asked, the front may be. The call does nothing.
+pub fn from_the_front<I: DoubleEndedIterator<Item = Result<X, Error>>, X>(source: &I)
+    ensures deals { (stops : Error → Bool) (xs : List (Result X Error)) → Deals (stopped stops) I.next_gives I.next_back_gives source.now xs → Deals (stopped stops) I.next_gives nowhere source.now xs }
+    ensures can { CanDeal I.next_gives I.next_back_gives I.can_next I.can_next_back source.now → CanDeal I.next_gives nowhere I.can_next I.can_next source.now }
+{
+    let _ = source;
 }

@@ -1,8 +1,10 @@
 //! Entries: a key with its number and kind, and a value.
 ghost use Rattle.std.specs.Prelude.{◌≡◌};
+ghost use Rattle.std.specs.Option.{option_map};
 ghost use Rattle.sst_entries.specs.Kind.{is_tombstone_kind};
+ghost use Rattle.sst_entries.specs.Strict.{may_follow};
 
-use crate::{InternalKey, SeqNo, UserKey, UserValue, ValueType};
+use crate::{InternalKey, SeqNo, UserKey, UserValue, ValueType, compare_versions};
 use std::alloc::{Allocator, Global};
 use std::marker::Model;
 
@@ -51,5 +53,21 @@ impl<A: Allocator> InternalValue<A> {
         ensures { result ≡ is_tombstone_kind self.now.kind }
     {
         self.key.value_type.is_tombstone()
+    }
+
+    /// Whether the entry may stand behind another in strict order, or at the front where there is none.
+    pub fn may_follow(&self, last: Option<&InternalValue<A>>) -> bool
+        ensures { result ≡ may_follow (option_map (λ e. e.now) last.entry) self.now }
+    {
+        match last {
+            None => true,
+            Some(last) => compare_versions(
+                last.key.user_key.as_slice(),
+                last.key.seqno,
+                self.key.user_key.as_slice(),
+                self.key.seqno,
+            )
+            .is_lt(),
+        }
     }
 }

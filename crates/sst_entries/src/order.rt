@@ -1,0 +1,31 @@
+//! The order of entries by key and number alone.
+ghost use Rattle.std.specs.Prelude.{◌≡◌, IsTrue, ◌↔◌, None};
+ghost use Rattle.sst_entries.specs.Point.{bound_of};
+ghost use Rattle.sst_entries.specs.Strict.{IsStrict, is_strict_after, number_cmp};
+
+use crate::{InternalValue, SeqNo};
+use std::alloc::Allocator;
+use std::cmp::Ordering;
+
+/// Compares two versions of keys: by key upward, then by number downward. Kind and value are not looked at.
+#[inline]
+pub fn compare_versions(key: &[u8], seqno: SeqNo, other_key: &[u8], other_seqno: SeqNo) -> Ordering
+    ensures { result ≡ number_cmp (bound_of key.now seqno) (bound_of other_key.now other_seqno) }
+{
+    key.cmp(other_key).then(other_seqno.cmp(&seqno))
+}
+
+/// Whether each entry comes before the next by key and number alone: what a block or a table asks of its entries.
+pub fn are_strict<A: Allocator>(items: &[InternalValue<A>]) -> bool
+    ensures test { result ≡ is_strict_after None items.now }
+    ensures means { IsTrue result ↔ IsStrict items.now }
+{
+    let mut last: Option<&InternalValue<A>> = None;
+    for item in items {
+        if !item.may_follow(last) {
+            return false;
+        }
+        last = Some(item);
+    }
+    true
+}
