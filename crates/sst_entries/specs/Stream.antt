@@ -96,3 +96,13 @@ back_of xs = (last xs, but_last xs)
 pub record Answers {T X : Type 0} (May : T → Type 0) (Has : (Error → Bool) → T → List (Result X Error) → Type 0) (stepped : List (Result X Error) → Option (Result X Error) × List (Result X Error)) (s : T) (r : Option (Result X Error)) (t : T) : Type 0 where
   pub may : May t
   pub gives : (stops : Error → Bool) (xs : List (Result X Error)) → Has stops s xs → stopped stops r ≡ false → (r ≡ (stepped xs).0) × Has stops t (stepped xs).1
+
+-- answers to calls at these ends are those that the source's list deals, up to an error that stops it
+abbrev pub AnswersOf : {S X : Type 0} (front back : S → Option (Result X Error) → S → Type 0) → S → List Direction → List (Option (Result X Error)) → Type 0
+AnswersOf {X = X} front back s ends rs =
+    (stops : Error → Bool) (xs : List (Result X Error)) → Deals (stopped stops) front back s xs → NoneStops (stopped stops) rs → rs ≡ deal xs ends
+
+-- what the source deals from both ends, it deals from the front
+abbrev pub DealsInFront : {S X : Type 0} (front back : S → Option (Result X Error) → S → Type 0) → S → Type 0
+DealsInFront {X = X} front back s =
+    (stops : Error → Bool) (xs : List (Result X Error)) → Deals (stopped stops) front back s xs → Deals (stopped stops) front nowhere s xs

@@ -1,6 +1,6 @@
 //! Streams of results that are taken from both ends.
-ghost use Rattle.std.specs.Prelude.{Bool, ◌≡◌, IfOk, List, Result};
-ghost use Rattle.sst_entries.specs.Stream.{Deals, CanDeal, Runs, Steps, NoneStops, nowhere, stopped, deal};
+ghost use Rattle.std.specs.Prelude.{Bool, IfOk};
+ghost use Rattle.sst_entries.specs.Stream.{AnswersOf, CanDeal, Deals, DealsInFront, Runs, Steps, nowhere, stopped};
 ghost use Rattle.sst_entries.specs.declared.error.Error.{Error};
 
 use crate::{Error, InternalValue};
@@ -41,9 +41,11 @@ pub fn answers_at<I: DoubleEndedIterator<Item = Result<X, Error>>, X: Drop, A: A
     ends: &[Direction],
 ) -> Result<Vec<Option<Result<X, Error>>, A>, AllocError>
     requires { CanDeal I.next_gives I.next_back_gives I.can_next I.can_next_back source.old }
-    ensures ran { IfOk result (λ answers. Runs I.next_gives I.next_back_gives source.old ends.now answers.items source.new) }
+    ensures ran { IfOk result (λ answers.
+        Runs I.next_gives I.next_back_gives source.old ends.now answers.items source.new) }
     // Up to an error that stops the source, they are the answers that its list deals.
-    ensures dealt { IfOk result (λ answers. (stops : Error → Bool) (xs : List (Result X Error)) → Deals (stopped stops) I.next_gives I.next_back_gives source.old xs → NoneStops (stopped stops) answers.items → answers.items ≡ deal xs ends.now) }
+    ensures dealt { IfOk result (λ answers.
+        AnswersOf I.next_gives I.next_back_gives source.old ends.now answers.items) }
 {
     let mut answers = Vec::new(alloc);
     for end in ends {
@@ -57,7 +59,10 @@ pub fn answers_at<I: DoubleEndedIterator<Item = Result<X, Error>>, X: Drop, A: A
 pub fn source_of<X: Drop, A: Allocator>(
     items: Vec<Result<X, Error>, A>,
 ) -> std::vec::IntoIter<Result<X, Error>, A>
-    ensures { (stops : Error → Bool) → Deals (stopped stops) ⟦<std::vec::IntoIter<Result<X, Error>, A> as Iterator>⟧.next_gives ⟦<std::vec::IntoIter<Result<X, Error>, A> as DoubleEndedIterator>⟧.next_back_gives result items.items }
+    ensures { (stops : Error → Bool) → Deals (stopped stops)
+        ⟦<std::vec::IntoIter<Result<X, Error>, A> as Iterator>⟧.next_gives
+        ⟦<std::vec::IntoIter<Result<X, Error>, A> as DoubleEndedIterator>⟧.next_back_gives
+        result items.items }
 {
     items.into_iter()
 }
@@ -65,8 +70,9 @@ pub fn source_of<X: Drop, A: Allocator>(
 /// A law for sources of both ends that are taken from the front alone: what such a source deals from both ends, it deals from
 /// the front, and where both ends may be asked, the front may be. The call does nothing.
 pub fn from_the_front<I: DoubleEndedIterator<Item = Result<X, Error>>, X>(source: &I)
-    ensures deals { (stops : Error → Bool) (xs : List (Result X Error)) → Deals (stopped stops) I.next_gives I.next_back_gives source.now xs → Deals (stopped stops) I.next_gives nowhere source.now xs }
-    ensures can { CanDeal I.next_gives I.next_back_gives I.can_next I.can_next_back source.now → CanDeal I.next_gives nowhere I.can_next I.can_next source.now }
+    ensures deals { DealsInFront I.next_gives I.next_back_gives source.now }
+    ensures can { CanDeal I.next_gives I.next_back_gives I.can_next I.can_next_back source.now →
+        CanDeal I.next_gives nowhere I.can_next I.can_next source.now }
 {
     let _ = source;
 }

@@ -1,6 +1,7 @@
 //! Entries: a key with its number and kind, and a value.
 ghost use Rattle.std.specs.Prelude.{◌≡◌};
 ghost use Rattle.std.specs.Option.{option_map};
+ghost use Rattle.sst_entries.specs.Entry.{entry};
 ghost use Rattle.sst_entries.specs.Kind.{is_tombstone_kind};
 ghost use Rattle.sst_entries.specs.Strict.{may_follow};
 
@@ -36,7 +37,7 @@ impl<A: Allocator> InternalValue<A> {
         seqno: SeqNo,
         value_type: ValueType,
     ) -> InternalValue<A>
-        ensures { result ≡ record { user_key = user_key; seqno = seqno; kind = value_type; value = value } }
+        ensures { result ≡ entry user_key value seqno value_type }
     {
         InternalValue {
             key: InternalKey {
