@@ -4,6 +4,7 @@ pub mod SpanLemmas
 pub mod RunLemmas
 pub mod PackLemmas
 pub mod PackNumbers
+pub mod PlaceLemmas
 pub mod PackSize
 pub mod LinkLemmas
 pub mod WalkLemmas

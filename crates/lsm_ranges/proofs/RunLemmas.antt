@@ -354,6 +354,11 @@ module _ {T : Type 0} (f : T → Interval) where
   pub ended : (last : Option (List ℕ)) (xs : List T) (i : ℕ) → length xs ≤ i → ascends_after last (map f (drop i xs)) ≡ true
   ended last xs i past = ap (λ ys. ascends_after last (map f ys)) (drop_of_length-le xs past)
 
+module _ {T : Type 0} (range : T → Interval) where
+  -- from the pair on whose later table stands at a place, no table starts before the one in front of it
+  abbrev pub AscendsFrom : List T → ℕ → Type 0
+  AscendsFrom xs place = (k : ℕ) (d : T) → place ≤ k + 1 → k + 1 < length xs → key_lt (range (get_or xs (k + 1) d)).min (range (get_or xs k d)).min ≡ false
+
 -- a fact of success gives another
 pub on_ok : {X E P Q : Type 0} (r : Result X E) → (P → Q) → OnOk r P → OnOk r Q
 on_ok (Ok x) h p = h p

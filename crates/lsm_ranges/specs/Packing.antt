@@ -1,5 +1,5 @@
 -- Packing runs: into how few runs tables can go while each key keeps the order of its tables.
-use Rattle.std.specs.Prelude.{◌≡◌, ◌≢◌, ℕ, zero, suc, ◌<◌, ◌≤◌, Bool, true, List, [], ◌∷◌, length, map, filter, flat_map, slice_get, if◌then◌else◌, ◌||◌, Contains, Option, Some, None}
+use Rattle.std.specs.Prelude.{◌≡◌, ◌≢◌, ℕ, zero, suc, ◌<◌, ◌≤◌, ◌==◌, max, Bool, true, List, [], ◌∷◌, length, map, filter, flat_map, slice_get, if◌then◌else◌, ◌||◌, Contains, Option, Some, None, IsPermutation}
 use Rattle.std.specs.List.{AllByRecursion, list_any, insert}
 use Rattle.lsm_ranges.specs.KeyRange.{Interval, has_key, key_le, overlaps, well_formed, disjoint}
 use Rattle.lsm_ranges.specs.Run.{how_many, in_order}
@@ -91,3 +91,46 @@ AreNotEmpty runs = AllByRecursion (λ run. run ≢ []) runs
 abbrev pub count_to_last : {X : Type 0} → (X → Bool) → List X → ℕ
 count_to_last p [] = 0
 count_to_last p (x ∷ xs) = if p x || list_any p xs then suc (count_to_last p xs) else 0
+
+-- ---- the rule by which tables go into new runs, over the order in which they come
+
+-- the least number above each of some numbers: 0 where there are none
+abbrev pub least_above : List ℕ → ℕ
+least_above [] = 0
+least_above (n ∷ ns) = max (suc n) (least_above ns)
+
+-- a table with the number of its new run
+pub record Numbered (T : Type 0) : Type 0 where
+  pub table : T
+  pub number : ℕ
+
+-- the numbers of tables
+abbrev pub numbers_of : {T : Type 0} → List (Numbered T) → List ℕ
+numbers_of xs = map (λ x. x.number) xs
+
+-- the tables of a number
+abbrev pub tables_numbered : {T : Type 0} → List (Numbered T) → ℕ → List T
+tables_numbered xs n = map (λ x. x.table) (filter (λ x. x.number == n) xs)
+
+module _ {T : Type 0} (range : T → Interval) where
+  -- a table's number: one more than the greatest among the earlier tables that overlap it, 0 where none does
+  abbrev pub number_behind : List (Numbered T) → T → ℕ
+  number_behind earlier t = least_above (numbers_of (filter (λ x. overlaps (range x.table) (range t)) earlier))
+
+  -- tables with their numbers, the latest first, in front of the earlier ones
+  abbrev pub numbered_after : List (Numbered T) → List T → List (Numbered T)
+  numbered_after earlier [] = earlier
+  numbered_after earlier (t ∷ ts) = numbered_after (record { table = t; number = number_behind earlier t } ∷ earlier) ts
+
+  -- tables with their numbers, the latest first
+  abbrev pub numbered : List T → List (Numbered T)
+  numbered ts = numbered_after [] ts
+
+  -- new runs: each has the tables of its number, and each number has its run
+  pub record AreGrouped (xs : List (Numbered T)) (packed : List (List T)) : Type 0 where
+    pub count : length packed ≡ least_above (numbers_of xs)
+    pub members : (n : ℕ) (run : List T) → slice_get packed n ≡ Some run → IsPermutation (tables_numbered xs n) run
+
+  -- new runs of tables that go, one after the other, behind the last new run that overlaps them, or into the first
+  abbrev pub ArePlaced : List T → List (List T) → Type 0
+  ArePlaced ts packed = AreGrouped (numbered ts) packed

@@ -7,7 +7,7 @@ ghost use Rattle.lsm_ranges.specs.Links.{tags, tags_in, IsStack, Tagged};
 ghost use Rattle.lsm_ranges.specs.LinkedRuns.{AreAtPlaces, ArePackedLinks, IsBelow};
 ghost use Rattle.lsm_ranges.specs.declared.optimize.Link.{Link};
 ghost use Rattle.lsm_ranges.specs.Run.{in_order};
-ghost use Rattle.lsm_ranges.specs.Packing.{holders, ArePacked, AreFormed, AreNotEmpty, count_to_last, put, put_all, tables_of, touches, with_table, AreInOrder, AreDisjointRuns, AreWellFormed, IsChain, IsLeastSize};
+ghost use Rattle.lsm_ranges.specs.Packing.{holders, ArePacked, ArePlaced, AreFormed, AreNotEmpty, count_to_last, put, put_all, tables_of, touches, with_table, AreInOrder, AreDisjointRuns, AreWellFormed, IsChain, IsLeastSize};
 ghost use Rattle.sst_entries.specs.declared.error.Error.TheVariants.{OutOfMemory};
 
 use crate::{KeyRange, Ranged, Run};
@@ -30,6 +30,7 @@ pub fn optimize_runs<T: Clone + Ranged + Drop, A: Allocator + Clone>(
     ensures tables { IfOk result (λ packed. IsPermutation (tables_of runs.items) (tables_of packed.items)) }
     ensures holders { IfOk result (λ packed. AreWellFormed T.range runs.items → (k : List ℕ) → holders T.range packed.items k ≡ holders T.range runs.items k) }
     ensures ordered { IfOk result (λ packed. AreWellFormed T.range runs.items → 1 < length runs.items → ArePacked T.range packed.items) }
+    ensures placed { IfOk result (λ packed. AreWellFormed T.range runs.items → 1 < length runs.items → ArePlaced T.range (tables_of runs.items) packed.items) }
     ensures least { IfOk result (λ packed. AreDisjointRuns T.range runs.items → IsLeastSize T.range runs.items (length packed.items)) }
     ensures err { IfErr result (λ e. e ≡ OutOfMemory) }
 {

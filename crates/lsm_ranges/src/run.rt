@@ -307,6 +307,9 @@ impl<T: Ranged + Drop, A: Allocator> Run<T, A> {
         ensures err { IfErr result (λ e. (e ≡ OutOfMemory) × (self.new ≡ self.old)) }
     {
         self.0.push(item)?;
+        if starts_ascend(self.0.as_slice()) {
+            return Ok(());
+        }
         if let Err(refused) = sort_by_min(&mut self.0) {
             self.0.pop();
             return Err(refused.into());
@@ -335,6 +338,19 @@ fn goes_on<B: Allocator>(last: Option<&UserKey<B>>, range: &KeyRange<B>) -> bool
         None => true,
     };
     range.is_well_formed() && starts_above
+}
+
+// Whether no table starts before the one in front of it. The last two are compared first: a table
+// that was just put at the end and does not belong there is found at once.
+fn starts_ascend<T: Ranged>(tables: &[T]) -> bool
+    ensures { IsTrue result → IsSortedByKey T.range min_cmp tables.now }
+{
+    for place in (1..tables.len()).rev() {
+        if tables[place].key_range().min() < tables[place - 1].key_range().min() {
+            return false;
+        }
+    }
+    true
 }
 
 fn sort_by_min<T: Ranged, A: Allocator>(tables: &mut Vec<T, A>) -> Result<(), AllocError>
