@@ -1,6 +1,6 @@
 -- Why pending entries become no table.
 use Rattle.std.proofs.Common.{◌≡◌, refl, sym, subst, inl, inr, ℕ, Bool, true, false, List}
-use Rattle.std.specs.Prelude.{Option, Some, None, Err, ok_or}
+use Rattle.std.specs.Prelude.{Option, Some, None, Ok, Err, ok_or}
 use Rattle.sst_entries.specs.declared.error.Error.{Error}
 use Rattle.sst_entries.specs.declared.error.Error.TheVariants.{OutOfMemory, TableIdsSpent}
 use Rattle.sst_entries.specs.Entry.{Entry}
@@ -20,22 +20,23 @@ module _ (runs : List TableSeen) (es : List Entry) where
   pub unread : (next : Option ℕ) (e : Error) → Fails e (repeated_told runs es) → RefusesTable runs es next (Refused e)
   unread next e fails = inl fails
 
-  -- no id is left
-  pub ids_spent : (next : Option ℕ) (e : Error) → next ≡ None → Err e ≡ ok_or next TableIdsSpent → RefusesTable runs es next (Refused e)
-  ids_spent None e none is = inr cc
-  ids_spent (Some id) e none is = absurd cc
+  module _ (new : repeated_told runs es ≡ Ok false) where
+    -- no id is left
+    pub ids_spent : (next : Option ℕ) (e : Error) → next ≡ None → Err e ≡ ok_or next TableIdsSpent → RefusesTable runs es next (Refused e)
+    ids_spent None e none is = inr (new, cc)
+    ids_spent (Some id) e none is = absurd cc
 
-  unwritten_by : (next : Option ℕ) (e : Error) (b : Bool) → is_memory e ≡ b → (is_memory e ≡ false → IsUnwritten es next e) → RefusesTable runs es next (Refused e)
-  unwritten_by next e true is unwritten = inl (λ memory. absurd cc)
-  unwritten_by next e false is unwritten = inr (unwritten is)
+    unwritten_by : (next : Option ℕ) (e : Error) (b : Bool) → is_memory e ≡ b → (is_memory e ≡ false → IsUnwritten es next e) → RefusesTable runs es next (Refused e)
+    unwritten_by next e true is unwritten = inl (λ memory. absurd cc)
+    unwritten_by next e false is unwritten = inr (new, unwritten is)
 
-  -- the entries could not be written
-  pub unwritten : (next : Option ℕ) (id : ℕ) (e : Error) → next ≡ Some id → (is_memory e ≡ false → table_fault id es ≡ Some e) → RefusesTable runs es next (Refused e)
-  unwritten next id e drawn fault =
-      unwritten_by next e _ refl (λ memory. subst (λ (n : Option ℕ). IsUnwritten es n e) (sym drawn) (inl (fault memory)))
+    -- the entries could not be written
+    pub unwritten : (next : Option ℕ) (id : ℕ) (e : Error) → next ≡ Some id → (is_memory e ≡ false → table_fault id es ≡ Some e) → RefusesTable runs es next (Refused e)
+    unwritten next id e drawn fault =
+        unwritten_by next e _ refl (λ memory. subst (λ (n : Option ℕ). IsUnwritten es n e) (sym drawn) (inl (fault memory)))
 
-  -- what was written of them could not be opened
-  pub unopened : (next : Option ℕ) (id : ℕ) (e : Error) (found checksum : ℕ) (bytes : List ℕ) → next ≡ Some id → IsTableOf es id found checksum bytes → Fails e (recovered_told bytes 0) → RefusesTable runs es next (Refused e)
-  unopened next id e found checksum bytes drawn table fails =
-      let named : IsTableOf es id id checksum bytes = subst (λ (n : ℕ). IsTableOf es id n checksum bytes) table.id_is table in
-      unwritten_by next e _ refl (λ memory. subst (λ (n : Option ℕ). IsUnwritten es n e) (sym drawn) (inr (checksum, bytes, named, fails memory)))
+    -- what was written of them could not be opened
+    pub unopened : (next : Option ℕ) (id : ℕ) (e : Error) (found checksum : ℕ) (bytes : List ℕ) → next ≡ Some id → IsTableOf es id found checksum bytes → Fails e (recovered_told bytes 0) → RefusesTable runs es next (Refused e)
+    unopened next id e found checksum bytes drawn table fails =
+        let named : IsTableOf es id id checksum bytes = subst (λ (n : ℕ). IsTableOf es id n checksum bytes) table.id_is table in
+        unwritten_by next e _ refl (λ memory. subst (λ (n : Option ℕ). IsUnwritten es n e) (sym drawn) (inr (checksum, bytes, named, fails memory)))

@@ -3,6 +3,7 @@ use Rattle.std.specs.Prelude.{◌≡◌, ℕ, ◌+◌, ◌^◌, Bool, true, fals
 use Rattle.sst_entries.specs.declared.error.Error.{Error}
 use Rattle.sst_entries.specs.declared.error.Error.TheVariants.{OutOfMemory, TableIdsSpent}
 use Rattle.sst_blocks.specs.declared.version.TableVersion.TheVariants.{V4}
+use Rattle.sst_blocks.specs.Fnv.{fnv1a}
 use Rattle.sst_entries.specs.Entry.{Entry, entry}
 use Rattle.sst_entries.specs.Error.{Fails}
 use Rattle.lsm_writers.specs.File.{IsFile}
@@ -38,11 +39,15 @@ repeated_told runs (e ∷ es) = held_told runs e.user_key e.seqno >>= λ held. i
 abbrev pub next_id : ℕ → Option ℕ
 next_id id = if nat_lt (id + 1) (2 ^ 64) then Some (id + 1) else None
 
--- a run of one table of a list stands before the others
+-- a run of one table of a list stands before the others: opened from the bytes that were written, with global number 0, tree 0
+-- and their checksum
 pub record AddsRun (es : List Entry) (id : ℕ) (old new : List TableSeen) : Type 0 where
   pub run : TableSeen
   pub runs_are : new ≡ run ∷ old
+  pub opened : recovered_told run.bytes 0 ≡ Ok run.parts
   pub unlifted : run.global_seqno ≡ 0
+  pub tree : run.tree_id ≡ 0
+  pub checksum : run.checksum ≡ fnv1a run.bytes
   pub spills : List ℕ
   pub file : IsFile V4 run.bytes (record { table_id = id; initial_level = 0; created_at = 0 }) default_options spills es
 
@@ -59,10 +64,12 @@ IsUnwritten es (Some id) e =
     (table_fault id es ≡ Some e)
     ⊎ ((checksum : ℕ) × (bytes : List ℕ) × IsTableOf es id id checksum bytes × (recovered_told bytes 0 ≡ Err e))
 
--- why pending entries become no run: a run holds one of them; or a run's read, memory or writing them is refused
+-- why pending entries become no run: a run holds one of them; a run's read is refused; or no run holds one, and writing them is
+-- refused. Memory may be refused throughout
 abbrev pub RefusesTable : List TableSeen → List Entry → Option ℕ → Failure → Type 0
 RefusesTable runs es id BadLine = repeated_told runs es ≡ Ok true
-RefusesTable runs es id (Refused e) = Fails e (repeated_told runs es) ⊎ IsUnwritten es id e
+RefusesTable runs es id (Refused e) =
+    Fails e (repeated_told runs es) ⊎ ((repeated_told runs es ≡ Ok false) × IsUnwritten es id e)
 
 -- a command's answer, and what it leaves
 abbrev pub Executes : {A : Type 0} → Command → Built → Result (Answer A) Failure → Built → Type 0

@@ -19,6 +19,8 @@ pub(crate) fn open<A: Allocator + Clone>(
     ensures told { Gives (λ (t : TableSeen). t.parts) result (recovered_told table.bytes 0) }
     ensures bytes { IfOk result (λ t. t.bytes ≡ table.bytes) }
     ensures unlifted { IfOk result (λ t. t.global_seqno ≡ 0) }
+    ensures tree { IfOk result (λ t. t.tree_id ≡ 0) }
+    ensures checksum { IfOk result (λ t. t.checksum ≡ table.checksum.0) }
 {
     Table::recover(alloc, table.bytes, table.checksum, 0, 0, true, true)
 }

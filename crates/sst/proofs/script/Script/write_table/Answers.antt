@@ -1,5 +1,6 @@
 use Rattle.std.proofs.Common.{◌≡◌, ◌∙◌, sym, ap, refl, inl, inr, Bool, ◌∷◌, rules}
 use Rattle.std.specs.Prelude.{Some, Ok}
+use Rattle.sst_blocks.specs.Fnv.{fnv1a}
 use Rattle.sst_entries.specs.declared.error.Error.TheVariants.{OutOfMemory}
 use Rattle.sst.specs.declared.stop.Failure.TheVariants.{Refused}
 use Rattle.sst.specs.Script.{next_id, RefusesTable}
@@ -17,7 +18,7 @@ pub returns-in_err-id-clause-refused : goal.returns-in_err-id-clause-refused
 returns-in_err-id-clause-refused g c =
     let s = c.args.self.now in
     let e = c.in_err-id.field-0.0 in
-    passes c.from_residual-in_err-id.result (Refused e) (RefusesTable s.runs.items s.pending s.next_id) c.from_residual-in_err-id.ensures.1 (ids_spent s.runs.items s.pending s.next_id e c.in_err-id.ensures.ok_part c.in_err-id.ensures.value)
+    passes c.from_residual-in_err-id.result (Refused e) (RefusesTable s.runs.items s.pending s.next_id) c.from_residual-in_err-id.ensures.1 (ids_spent s.runs.items s.pending (c.in_ok-is_repeated.ensures ∙ ap (λ (b : Bool). Ok b) c.if-branch.false) s.next_id e c.in_err-id.ensures.ok_part c.in_err-id.ensures.value)
 
 pub returns-in_err-clone-clause-refused : goal.returns-in_err-clone-clause-refused
 returns-in_err-clone-clause-refused g c =
@@ -34,7 +35,7 @@ returns-in_err-table-clause-refused g c =
     let s = c.args.self.now in
     let e = c.in_err-table.field-0.0 in
     let fault = rw c.replace-pending.ensures.value at c.in_err-table.ensures.refused in
-    passes c.from_residual-in_err-table.result (Refused e) (RefusesTable s.runs.items s.pending s.next_id) c.from_residual-in_err-table.ensures.1 (unwritten s.runs.items s.pending s.next_id c.in_ok-id.id e c.in_ok-id.ensures.ok_part fault)
+    passes c.from_residual-in_err-table.result (Refused e) (RefusesTable s.runs.items s.pending s.next_id) c.from_residual-in_err-table.ensures.1 (unwritten s.runs.items s.pending (c.in_ok-is_repeated.ensures ∙ ap (λ (b : Bool). Ok b) c.if-branch.false) s.next_id c.in_ok-id.id e c.in_ok-id.ensures.ok_part fault)
 
 pub returns-in_default-clause-written : goal.returns-in_default-clause-written
 returns-in_default-clause-written g c =
@@ -56,7 +57,7 @@ returns-in_err-run-clause-refused g c =
     let t = c.in-Some.table in
     let found = rw c.in-Some.is at c.in_ok-table.ensures.table in
     let table = rw c.replace-pending.ensures.value at found in
-    passes c.from_residual-in_err-run.result (Refused e) (RefusesTable s.runs.items s.pending s.next_id) c.from_residual-in_err-run.ensures.1 (unopened s.runs.items s.pending s.next_id c.in_ok-id.id e t.id t.checksum.0 t.bytes c.in_ok-id.ensures.ok_part table c.in_err-run.ensures.told)
+    passes c.from_residual-in_err-run.result (Refused e) (RefusesTable s.runs.items s.pending s.next_id) c.from_residual-in_err-run.ensures.1 (unopened s.runs.items s.pending (c.in_ok-is_repeated.ensures ∙ ap (λ (b : Bool). Ok b) c.if-branch.false) s.next_id c.in_ok-id.id e t.id t.checksum.0 t.bytes c.in_ok-id.ensures.ok_part table c.in_err-run.ensures.told)
 
 pub returns-in_err-insert-clause-refused : goal.returns-in_err-insert-clause-refused
 returns-in_err-insert-clause-refused g c =
@@ -85,7 +86,10 @@ returns-clause-written g c =
         record {
           run = run;
           runs_are = runs;
+          opened = rw same c.in_ok-run.ensures.told;
           unlifted = c.in_ok-run.ensures.unlifted;
+          tree = c.in_ok-run.ensures.tree;
+          checksum = c.in_ok-run.ensures.checksum ∙ table.checksum_is ∙ ap fnv1a (sym same);
           spills = table.spills;
           file = rw same table.file;
         },

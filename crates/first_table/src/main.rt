@@ -1,0 +1,66 @@
+//! Writes a table, opens it and reads it back: the calls that a store makes first.
+#![tactic(auto)]
+
+use lsm_tables::Table;
+use lsm_writers::{FinishedTable, Timestamp, Writer};
+use sst_blocks::{Error, InternalValue, SeqNo, Slice, ValueType};
+use std::alloc::{Allocator, Global};
+
+/// Keys, the numbers of their versions, and values: keys upward, and the versions of a key from the newest on.
+const ENTRIES: [(&[u8], SeqNo, &[u8]); 3] = [
+    (b"apple", 7, b"red"),
+    (b"apple", 3, b"green"),
+    (b"pear", 5, b"yellow"),
+];
+
+/// Writes the entries as table 1 of level 0, created at moment 0.
+fn write_table<A: Allocator + Copy>(alloc: A) -> Result<Option<FinishedTable<A>>, Error> {
+    let mut writer = Writer::new(alloc, 1, 0, Timestamp::from(0))?;
+    let entries = ENTRIES;
+    for (key, seqno, value) in &entries {
+        let key = Slice::from(alloc, key)?;
+        let value = Slice::from(alloc, value)?;
+        let item = InternalValue::from_components(key, value, *seqno, ValueType::Value);
+        // Each entry must come after the one before it, by key and number.
+        if writer.can_follow(&item.key) {
+            writer.write(item)?;
+        }
+    }
+    writer.finish()
+}
+
+/// Opens the bytes of a table.
+fn open_table<A: Allocator + Copy>(alloc: A, written: FinishedTable<A>) -> Result<Table<A>, Error> {
+    let global_seqno = 0; // added to every stored number
+    let tree_id = 0;
+    let pin_filter = true; // whether the filter stays loaded
+    let pin_index = true; // whether the index does
+    Table::recover(
+        alloc,
+        written.bytes,
+        written.checksum,
+        global_seqno,
+        tree_id,
+        pin_filter,
+        pin_index,
+    )
+}
+
+fn main(rt: HostRuntime) -> anyhow::Result<()> {
+    let Some(written) = write_table(rt.alloc())? else {
+        return Ok(());
+    };
+    let table = open_table(rt.alloc(), written)?;
+
+    // The newest version of a key that is numbered below 5.
+    let key = b"apple";
+    let hash = Table::<Global>::key_hash(key);
+    if let Some(item) = table.get(key, 5, hash)? {
+        println!(rt; "found number {}", item.key.seqno)?;
+    }
+
+    for item in table.scan()? {
+        println!(rt; "scanned number {}", item?.key.seqno)?;
+    }
+    Ok(())
+}
