@@ -5,53 +5,46 @@ use Rattle.std.specs.declared.cmp.Ordering.{Ordering}
 use Rattle.std.specs.declared.cmp.Ordering.TheVariants.{Less, Equal, Greater}
 use Rattle.std.specs.declared.ops.Bound.{Bound}
 use Rattle.std.specs.declared.ops.Bound.TheVariants.{Included, Excluded, Unbounded}
-use Rattle.std.specs.Ordering.{nat_cmp, is_lt, is_le, ordering_reverse}
+use Rattle.std.specs.Ordering.{nat_cmp, is_lt, is_ge, ordering_reverse}
 use Rattle.std.specs.Cmp.Lexicographic.{slice_cmp, nat_list_cmp_total}
-use Rattle.std.proofs.lemmas.Cmp.{tied_itself}
+use Rattle.sst_entries.proofs.Booleans.{not_is, not_not}
 use Rattle.std.proofs.lemmas.Bool.{and_parts, and_from, cases_Bool, both_ways}
 use Rattle.sst_entries.specs.Key.{key_lt}
-use Rattle.lsm_ranges.specs.KeyRange.{Interval, key_le, well_formed, has_key, overlaps, ShareKey, from_lower, up_to_upper}
-use Rattle.lsm_ranges.proofs.KeyLemmas.{lt_le, le_lt}
+use Rattle.lsm_ranges.specs.KeyRange.{Interval, key_le, well_formed, has_key, overlaps, ShareKey}
+use Rattle.sst_entries.specs.Point.{is_from, is_to}
+use Rattle.lsm_ranges.proofs.KeyLemmas.{le_itself, lt_le, le_lt}
 
-is_le_flip : (o : Ordering) → is_le (ordering_reverse o) ≡ not (is_lt o)
-is_le_flip Less = refl
-is_le_flip Equal = refl
-is_le_flip Greater = refl
+-- what a test by `>=` says
+pub ge_is : (o : Ordering) → is_ge o ≡ not (is_lt o)
+ge_is Less = refl
+ge_is Equal = refl
+ge_is Greater = refl
 
--- one key is not above another where the other is not below it
 pub le_not : (a b : List ℕ) → key_le a b ≡ not (key_lt b a)
-le_not a b = ap is_le (nat_list_cmp_total.antisymm a b) ∙ is_le_flip (slice_cmp nat_cmp b a)
+le_not a b = refl
 
 pub le_to : (a b : List ℕ) → key_lt b a ≡ false → key_le a b ≡ true
-le_to a b h = le_not a b ∙ ap not h
-
-not_true : (b : Bool) → not b ≡ true → b ≡ false
-not_true true h = absurd cc
-not_true false h = refl
-
-not_false : (b : Bool) → not b ≡ false → b ≡ true
-not_false true h = refl
-not_false false h = absurd cc
+le_to a b h = ap not h
 
 pub le_from : (a b : List ℕ) → key_le a b ≡ true → key_lt b a ≡ false
-le_from a b h = not_true (key_lt b a) (sym (le_not a b) ∙ h)
+le_from a b h = not_is (key_lt b a) h
 
 pub above : (a b : List ℕ) → key_le a b ≡ false → key_lt b a ≡ true
-above a b h = not_false (key_lt b a) (sym (le_not a b) ∙ h)
+above a b h = not_not (key_lt b a) h
 
 pub not_le : (a b : List ℕ) → key_lt b a ≡ true → key_le a b ≡ false
-not_le a b h = le_not a b ∙ ap not h
+not_le a b h = ap not h
 
 pub le_refl : (a : List ℕ) → key_le a a ≡ true
-le_refl a = ap is_le (tied_itself nat_list_cmp_total a)
+le_refl a = ap not (le_itself a)
 
-lt_is_le : (o : Ordering) → is_lt o ≡ true → is_le o ≡ true
-lt_is_le Less h = refl
-lt_is_le Equal h = refl
-lt_is_le Greater h = absurd cc
+not_above : (o : Ordering) → is_lt o ≡ true → not (is_lt (ordering_reverse o)) ≡ true
+not_above Less h = refl
+not_above Equal h = absurd cc
+not_above Greater h = absurd cc
 
 pub lt_to_le : (a b : List ℕ) → key_lt a b ≡ true → key_le a b ≡ true
-lt_to_le a b h = lt_is_le (slice_cmp nat_cmp a b) h
+lt_to_le a b h = ap (λ o. not (is_lt o)) (nat_list_cmp_total.antisymm b a) ∙ not_above (slice_cmp nat_cmp a b) h
 
 pub lt_then_le : (a b c : List ℕ) → key_lt a b ≡ true → key_le b c ≡ true → key_lt a c ≡ true
 lt_then_le a b c p q = lt_le a b c p (le_from b c q)
@@ -85,18 +78,18 @@ overlap_shared a b wa wb h =
 pub overlap_says : (a b : Interval) (r : Bool) → r ≡ overlaps a b → IsTrue (well_formed a) → IsTrue (well_formed b) → (IsTrue r ↔ ShareKey a b)
 overlap_says a b r is wa wb = ((λ t. overlap_shared a b wa wb (sym is ∙ t)), (λ s. is ∙ shared_overlap a b s))
 
-pub lower_up : (lower : Bound (List ℕ)) (k m : List ℕ) → from_lower lower k ≡ true → key_le k m ≡ true → from_lower lower m ≡ true
+pub lower_up : (lower : Bound (List ℕ)) (k m : List ℕ) → is_from lower k ≡ true → key_le k m ≡ true → is_from lower m ≡ true
 lower_up (Included low) k m p q = le_trans low k m p q
 lower_up (Excluded low) k m p q = lt_then_le low k m p q
 lower_up Unbounded k m p q = refl
 
-pub upper_down : (upper : Bound (List ℕ)) (k m : List ℕ) → up_to_upper upper k ≡ true → key_le m k ≡ true → up_to_upper upper m ≡ true
+pub upper_down : (upper : Bound (List ℕ)) (k m : List ℕ) → is_to upper k ≡ true → key_le m k ≡ true → is_to upper m ≡ true
 upper_down (Included high) k m p q = le_trans m k high q p
 upper_down (Excluded high) k m p q = le_then_lt m k high q p
 upper_down Unbounded k m p q = refl
 
 -- a key of an interval within two bounds shows that the interval reaches past both
-pub none_within : (r : Interval) (lower upper : Bound (List ℕ)) (b : Bool) → b ≡ from_lower lower r.max && up_to_upper upper r.min → b ≡ false → (k : List ℕ) → IsTrue (has_key r k) → IsTrue (from_lower lower k) → IsTrue (up_to_upper upper k) → ⊥
+pub none_within : (r : Interval) (lower upper : Bound (List ℕ)) (b : Bool) → b ≡ is_from lower r.max && is_to upper r.min → b ≡ false → (k : List ℕ) → IsTrue (has_key r k) → IsTrue (is_from lower k) → IsTrue (is_to upper k) → ⊥
 none_within r lower upper b is no_overlap k inside low high =
     let x = and_parts (key_le r.min k) (key_le k r.max) inside in
-    both_ways b no_overlap (is ∙ and_from (from_lower lower r.max) (up_to_upper upper r.min) (lower_up lower k r.max low x.1) (upper_down upper k r.min high x.0))
+    both_ways b no_overlap (is ∙ and_from (is_from lower r.max) (is_to upper r.min) (lower_up lower k r.max low x.1) (upper_down upper k r.min high x.0))

@@ -3,34 +3,15 @@ use Rattle.std.proofs.Common.{◌≡◌, refl, sym, ◌∙◌, ap, subst, ℕ, B
 use Rattle.std.specs.Prelude.{not}
 use Rattle.std.specs.declared.cmp.Ordering.{Ordering}
 use Rattle.std.specs.declared.cmp.Ordering.TheVariants.{Less, Equal, Greater}
-use Rattle.std.specs.Ordering.{nat_cmp, is_lt, is_gt, is_eq, ordering_then, ordering_reverse}
+use Rattle.std.specs.Ordering.{nat_cmp, is_lt, is_eq, ordering_reverse}
 use Rattle.std.specs.Cmp.Lexicographic.{slice_cmp, nat_list_cmp_total, nat_list_eq_equiv, same_text, texts_ties}
 use Rattle.std.proofs.lemmas.Cmp.{tied_itself}
 use Rattle.sst_entries.specs.Key.{same_key, key_lt}
+use Rattle.sst_entries.proofs.Booleans.{apart, is_false, not_true, not_false}
+use Rattle.sst_entries.proofs.OrderLemmas.{lt_trans}
 
 abbrev pub KeyLe : List ℕ → List ℕ → Type 0
 KeyLe a b = key_lt b a ≡ false
-
-apart : (b : Bool) → b ≡ true → b ≡ false → ⊥
-apart b p q = let e : true ≡ false = sym p ∙ q in absurd cc
-
-is_false : (b : Bool) → (b ≡ true → ⊥) → b ≡ false
-is_false true h = absurd (h refl)
-is_false false h = refl
-
-less_of : (o : Ordering) → is_lt o ≡ true → o ≡ Less
-less_of Less h = refl
-less_of Equal h = absurd cc
-less_of Greater h = absurd cc
-
--- what a test by != says
-not_true : (b r : Bool) → r ≡ not b → r ≡ true → b ≡ false
-not_true true r e h = let k : false ≡ true = sym e ∙ h in absurd cc
-not_true false r e h = refl
-
-not_false : (b r : Bool) → r ≡ not b → r ≡ false → b ≡ true
-not_false true r e h = refl
-not_false false r e h = let k : true ≡ false = sym e ∙ h in absurd cc
 
 pub keys_apart : (a b : List ℕ) (r : Bool) → r ≡ not (same_key a b) → r ≡ true → same_key a b ≡ false
 keys_apart a b r e h = not_true (same_key a b) r e h
@@ -46,9 +27,6 @@ same_itself a = nat_list_eq_equiv.refl a
 
 pub le_itself : (a : List ℕ) → KeyLe a a
 le_itself a = ap is_lt (tied_itself nat_list_cmp_total a)
-
-pub lt_trans : (a b c : List ℕ) → key_lt a b ≡ true → key_lt b c ≡ true → key_lt a c ≡ true
-lt_trans a b c p q = ap is_lt (nat_list_cmp_total.trans a b c (less_of (slice_cmp nat_cmp a b) p) (less_of (slice_cmp nat_cmp b c) q))
 
 -- a key above another is not the same
 pub lt_other : (a b : List ℕ) → key_lt a b ≡ true → same_key b a ≡ false
@@ -85,8 +63,3 @@ le_lt a b c p q =
       | true ↦ λ e. subst (λ (k : List ℕ). key_lt k c ≡ true) (same_is b a e) q
       | false ↦ λ e. lt_trans a b c (le_other a b p e) q
     ] refl
-
-pub gt_first : (o p : Ordering) → is_gt (ordering_then o p) ≡ false → is_gt o ≡ false
-gt_first Less p h = refl
-gt_first Equal p h = refl
-gt_first Greater p h = absurd cc

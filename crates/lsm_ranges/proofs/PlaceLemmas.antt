@@ -1,16 +1,15 @@
 -- Putting tables in one after the other places them by the rule.
-use Rattle.std.proofs.Common.{◌≡◌, refl, sym, ◌∙◌, ap, subst, ℕ, zero, suc, ◌<◌, ◌≤◌, Bool, true, false, List, [], ◌∷◌, ◌++◌, length, get_or, inl, inr, arith, Some}
-use Rattle.std.specs.Prelude.{◌≢◌, ◌||◌, ◌==◌, max, map, filter, slice_get, IsPermutation}
+use Rattle.std.proofs.Common.{◌≡◌, refl, sym, ◌∙◌, ap, subst, ℕ, zero, suc, ◌<◌, ◌≤◌, Bool, true, false, List, [], ◌∷◌, length, get_or, inl, inr, arith}
+use Rattle.std.specs.Prelude.{◌||◌, ◌==◌, max, map, filter, IsPermutation}
 use Rattle.std.specs.List.{list_any}
 use Rattle.std.proofs.Math.Nat.{le-max_left, le-max_right, max-le, zero-max}
 use native.Mathlib.Numerals.{unary_clauses}
-use Rattle.std.proofs.lemmas.Bool.{or_parts, or_left, or_right, cases_Bool, both_ways, eqb-true, eq-eqb, ne_eqb}
+use Rattle.std.proofs.lemmas.Bool.{or_left, or_right, cases_Bool, both_ways, eqb-true, eq-eqb}
 use Rattle.std.proofs.lemmas.List.Sorted.{IsPermutation-refl, IsPermutation-trans, IsPermutation-cons, IsPermutation-insert, list_any-IsPermutation}
 use Rattle.std.proofs.lemmas.Option.{get_or_from_slice_get}
 use Rattle.lsm_ranges.specs.KeyRange.{Interval, key_le, overlaps}
 use Rattle.lsm_ranges.specs.Run.{how_many}
-use Rattle.lsm_ranges.specs.Packing.{count_to_last, least_above, number_behind, numbered_after, numbers_of, put, put_all, tables_numbered, touches, with_table, AreGrouped, ArePlaced, Numbered}
-use Rattle.lsm_ranges.proofs.PackLemmas.{put_here, put_behind}
+use Rattle.lsm_ranges.specs.Packing.{count_to_last, least_above, number_behind, numbered_after, numbers_of, put, put_all, tables_numbered, touches, with_table, ArePlaced, Numbered}
 
 max_suc : (a b : ℕ) → max (suc a) (suc b) ≡ suc (max a b)
 max_suc a b = simp unary_clauses

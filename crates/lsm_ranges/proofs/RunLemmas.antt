@@ -11,9 +11,10 @@ use Rattle.std.specs.declared.ops.Bound.{Bound}
 use Rattle.std.specs.declared.ops.Bound.TheVariants.{Included}
 use Rattle.std.proofs.lemmas.Bool.{and_parts, and_from, and_right, ne_eqb, cases_Bool, both_ways, not_from_false, false_from_ne_true, not-true}
 use Rattle.sst_entries.specs.Key.{key_lt}
-use Rattle.lsm_ranges.specs.KeyRange.{Interval, interval, key_le, well_formed, has_key, has_range, overlaps, from_lower}
+use Rattle.lsm_ranges.specs.KeyRange.{Interval, interval, key_le, well_formed, has_key, has_range, overlaps}
+use Rattle.sst_entries.specs.Point.{is_from}
 use Rattle.lsm_ranges.specs.Run.{in_order, ends_before, starts_within, how_many, places, overlap_indexes, first_to_last, last_max}
-use Rattle.lsm_ranges.proofs.KeyLemmas.{lt_trans}
+use Rattle.sst_entries.proofs.OrderLemmas.{lt_trans}
 use Rattle.lsm_ranges.proofs.IntervalLemmas.{le_trans, le_not, lt_to_le, lt_then_le, le_then_lt, lower_up, upper_down}
 
 -- an interval that passes shows that each that ends before it passes too
@@ -34,7 +35,7 @@ not_by : (b : Bool) → (b ≡ true → ⊥) → not b ≡ true
 not_by b h = not_from_false b (false_from_ne_true b h)
 
 pub falls-ends_before : (lower : Bound (List ℕ)) → Falls (ends_before lower)
-falls-ends_before lower = record { at = λ a b wa wb h p. not_by (from_lower lower a.max) (λ q. not_not (from_lower lower b.max) p (lower_up lower a.max b.max q (maxs a b wb h))) }
+falls-ends_before lower = record { at = λ a b wa wb h p. not_by (is_from lower a.max) (λ q. not_not (is_from lower b.max) p (lower_up lower a.max b.max q (maxs a b wb h))) }
 
 pub falls-starts_within : (upper : Bound (List ℕ)) → Falls (starts_within upper)
 falls-starts_within upper = record { at = λ a b wa wb h p. upper_down upper b.min a.min p (mins a b wa h) }

@@ -1,12 +1,11 @@
 -- Closed intervals of keys.
 use Rattle.std.specs.Prelude.{◌≡◌, ℕ, Bool, true, not, ◌&&◌, IsTrue, List, [], ◌∷◌, map, All, Contains}
 use Rattle.std.specs.List.{list_any}
-use Rattle.std.specs.Cmp.Lexicographic.{slice_cmp}
-use Rattle.std.specs.Ordering.{nat_cmp, is_le}
 use Rattle.std.specs.Borrow.{Bor}
 use Rattle.std.specs.declared.ops.Bound.{Bound}
 use Rattle.std.specs.declared.ops.Bound.TheVariants.{Included, Excluded, Unbounded}
 use Rattle.sst_entries.specs.Key.{key_lt}
+use Rattle.sst_entries.specs.Point.{is_from, is_to}
 
 -- the keys from `min` to `max`, both included
 pub record Interval : Type 0 where
@@ -19,7 +18,7 @@ interval low high = record { min = low; max = high }
 
 -- a key is not above another
 abbrev pub key_le : List ℕ → List ℕ → Bool
-key_le a b = is_le (slice_cmp nat_cmp a b)
+key_le a b = not (key_lt b a)
 
 -- the least key is not above the greatest
 abbrev pub well_formed : Interval → Bool
@@ -50,17 +49,13 @@ intervals rs = map (λ r. r.now) rs
 abbrev pub ShareKey : Interval → Interval → Type 0
 ShareKey a b = (k : List ℕ) × IsTrue (has_key a k) × IsTrue (has_key b k)
 
--- the key is not before a lower bound
-abbrev pub from_lower : Bound (List ℕ) → List ℕ → Bool
-from_lower (Included low) k = key_le low k
-from_lower (Excluded low) k = key_lt low k
-from_lower Unbounded k = true
+-- whether an interval reaches past both bounds: it does not end before the lower one, nor start past the upper one
+abbrev pub reaches : Bound (List ℕ) → Bound (List ℕ) → Interval → Bool
+reaches low high r = is_from low r.max && is_to high r.min
 
--- the key is not past an upper bound
-abbrev pub up_to_upper : Bound (List ℕ) → List ℕ → Bool
-up_to_upper (Included high) k = key_le k high
-up_to_upper (Excluded high) k = key_lt k high
-up_to_upper Unbounded k = true
+-- no key of an interval lies within two bounds
+abbrev pub IsOutside : Bound (List ℕ) → Bound (List ℕ) → Interval → Type 0
+IsOutside low high r = (k : List ℕ) → IsTrue (has_key r k) → IsTrue (is_from low k) → IsTrue (is_to high k) → ⊥
 
 -- a bound of bytes, by the bytes that it points to
 abbrev pub bound_of : Bound (Bor (List ℕ)) → Bound (List ℕ)

@@ -1,12 +1,14 @@
 -- Runs: lists of tables, and what a search finds in one whose ranges ascend.
-use Rattle.std.specs.Prelude.{◌≡◌, ℕ, ◌+◌, ◌-◌, ◌≤◌, Bool, true, not, ◌&&◌, ◌==◌, if◌then◌else◌, List, [], ◌∷◌, drop, length, filter, take, Option, Some, None}
+use Rattle.std.specs.Prelude.{◌≡◌, ℕ, ◌+◌, ◌-◌, ◌<◌, ◌≤◌, Bool, true, not, ◌&&◌, ◌==◌, if◌then◌else◌, List, [], ◌∷◌, drop, find, length, filter, map, take, IsTrue, Option, Some, None}
+use Rattle.std.specs.Option.{option_map_or}
 use Rattle.std.specs.declared.ops.Bound.{Bound}
 use Rattle.std.specs.declared.cmp.Ordering.{Ordering}
 use Rattle.std.specs.List.{list_all}
 use Rattle.std.specs.Cmp.Lexicographic.{slice_cmp}
 use Rattle.std.specs.Ordering.{nat_cmp}
 use Rattle.sst_entries.specs.Key.{key_lt}
-use Rattle.lsm_ranges.specs.KeyRange.{Interval, interval, well_formed, from_lower, up_to_upper}
+use Rattle.lsm_ranges.specs.KeyRange.{Interval, interval, has_key, has_range, overlaps, well_formed}
+use Rattle.sst_entries.specs.Point.{is_from, is_to}
 
 -- the order of intervals by their least keys
 abbrev pub min_cmp : Interval → Interval → Ordering
@@ -17,13 +19,32 @@ abbrev pub in_order : List Interval → Bool
 in_order [] = true
 in_order (r ∷ rs) = well_formed r && list_all (λ later. key_lt r.max later.min) rs && in_order rs
 
+-- the tables' intervals are in order
+abbrev pub IsInOrder : {T : Type 0} → (T → Interval) → List T → Type 0
+IsInOrder range tables = IsTrue (in_order (map range tables))
+
+-- the first table whose interval has a key
+abbrev pub table_of_key : {T : Type 0} → (T → Interval) → List ℕ → List T → Option T
+table_of_key range key tables = find (λ t. has_key (range t) key) tables
+
+-- the tables whose intervals overlap an interval, and those that lie inside it
+abbrev pub tables_across : {T : Type 0} → (T → Interval) → Interval → List T → List T
+tables_across range r tables = filter (λ t. overlaps (range t) r) tables
+
+abbrev pub tables_inside : {T : Type 0} → (T → Interval) → Interval → List T → List T
+tables_inside range r tables = filter (λ t. has_range r (range t)) tables
+
+-- whether an interval starts above a last key, where there is one, and is well-formed
+abbrev pub may_come_next : Option (List ℕ) → Interval → Bool
+may_come_next last r = well_formed r && option_map_or (λ k. key_lt k r.min) last true
+
 -- whether an interval ends before a lower bound
 abbrev pub ends_before : Bound (List ℕ) → Interval → Bool
-ends_before lower r = not (from_lower lower r.max)
+ends_before lower r = not (is_from lower r.max)
 
 -- whether an interval starts within an upper bound
 abbrev pub starts_within : Bound (List ℕ) → Interval → Bool
-starts_within upper r = up_to_upper upper r.min
+starts_within upper r = is_to upper r.min
 
 -- how many intervals of a list pass a test
 abbrev pub how_many : (Interval → Bool) → List Interval → ℕ
@@ -37,6 +58,10 @@ places low count = if count == 0 then None else Some (low, low + count - 1)
 abbrev pub overlap_indexes : Bound (List ℕ) → Bound (List ℕ) → List Interval → Option (ℕ × ℕ)
 overlap_indexes lower upper rs =
     let low = how_many (ends_before lower) rs in places low (how_many (starts_within upper) (drop low rs))
+
+-- a first and a last place of a list, in this order
+abbrev pub AreWithin : {T : Type 0} → List T → ℕ × ℕ → Type 0
+AreWithin tables span = (span.0 ≤ span.1) × (span.1 < length tables)
 
 -- the tables at neighbouring places of a list
 abbrev pub IsPartOf : {T : Type 0} → List T → List T → Type 0

@@ -1,10 +1,10 @@
 //! Closed intervals of keys.
-ghost use Rattle.std.specs.Prelude.{◌≡◌, ◌↔◌, if◌then◌else◌, ◌&&◌, ℕ, List, false, IsTrue, IfOk, IfErr, []};
-ghost use Rattle.lsm_ranges.specs.KeyRange.{has_key, has_range, overlaps, well_formed, from_lower, up_to_upper};
+ghost use Rattle.std.specs.Prelude.{◌≡◌, ◌↔◌, if◌then◌else◌, false, IsTrue, IfOk, IfErr, []};
 ghost use Rattle.std.specs.List.{list_any};
-ghost use Rattle.lsm_ranges.specs.KeyRange.{bound_of, disjoint, interval, intervals, ShareKey, IsAggregate};
 ghost use Rattle.sst_entries.specs.Key.{key_lt};
+ghost use Rattle.sst_entries.specs.Point.{is_from, is_to};
 ghost use Rattle.sst_entries.specs.declared.error.Error.TheVariants.{OutOfMemory};
+ghost use Rattle.lsm_ranges.specs.KeyRange.{bound_of, disjoint, has_key, has_range, interval, intervals, key_le, overlaps, reaches, well_formed, IsAggregate, IsOutside, ShareKey};
 
 use sst_entries::{Error, Slice, UserKey};
 use std::alloc::{AllocError, Allocator, Global};
@@ -73,7 +73,7 @@ impl<A: Allocator> KeyRange<A> {
     pub fn is_well_formed(&self) -> bool
         ensures { result ≡ well_formed self.now }
     {
-        self.0 <= self.1
+        is_at_most(self.0.as_slice(), self.1.as_slice())
     }
 
     /// Whether no two of the ranges overlap. Each is compared with each later one.
@@ -111,35 +111,47 @@ impl<A: Allocator> KeyRange<A> {
     pub fn contains_key(&self, key: &[u8]) -> bool
         ensures { result ≡ has_key self.now key.now }
     {
-        self.0.as_slice().cmp(key).is_le() && key.cmp(self.1.as_slice()).is_le()
+        is_at_most(self.0.as_slice(), key) && is_at_most(key, self.1.as_slice())
     }
 
     /// Whether the other range lies inside this one.
     pub fn contains_range(&self, other: &KeyRange<A>) -> bool
         ensures { result ≡ has_range self.now other.now }
     {
-        self.0 <= other.0 && other.1 <= self.1
+        is_at_most(self.0.as_slice(), other.0.as_slice())
+            && is_at_most(other.1.as_slice(), self.1.as_slice())
     }
 
     /// Whether neither range ends before the other one starts. For well-formed ranges that is
     /// whether some key lies in both.
     pub fn overlaps_with_key_range(&self, other: &KeyRange<A>) -> bool
         ensures value { result ≡ overlaps self.now other.now }
-        ensures shared { IsTrue (well_formed self.now) → IsTrue (well_formed other.now) → (IsTrue result ↔ ShareKey self.now other.now) }
+        ensures shared { IsTrue (well_formed self.now) → IsTrue (well_formed other.now) →
+            (IsTrue result ↔ ShareKey self.now other.now) }
     {
-        other.0 <= self.1 && self.0 <= other.1
+        is_at_most(other.0.as_slice(), self.1.as_slice())
+            && is_at_most(self.0.as_slice(), other.1.as_slice())
     }
 
     /// Whether the range reaches past both bounds: its greatest key is not before the lower one,
     /// and its least key is not past the upper one. Where it does not, no key of the range lies
     /// within the bounds. Bounds that are reversed can both be met.
     pub fn overlaps_with_bounds(&self, bounds: &(Bound<&[u8]>, Bound<&[u8]>)) -> bool
-        ensures value { result ≡ from_lower (bound_of bounds.now.0) self.now.max && up_to_upper (bound_of bounds.now.1) self.now.min }
-        ensures outside { result ≡ false → (k : List ℕ) → IsTrue (has_key self.now k) → IsTrue (from_lower (bound_of bounds.now.0) k) → IsTrue (up_to_upper (bound_of bounds.now.1) k) → ⊥ }
+        ensures value { result ≡ reaches (bound_of bounds.now.0) (bound_of bounds.now.1) self.now }
+        ensures outside { result ≡ false →
+            IsOutside (bound_of bounds.now.0) (bound_of bounds.now.1) self.now }
     {
         let (lower, upper) = bounds;
         is_from_lower(lower, self.1.as_slice()) && is_up_to_upper(upper, self.0.as_slice())
     }
+}
+
+// Whether a key is not above another.
+#[tactic(auto, using(crate::proofs::IntervalLemmas::ge_is))]
+pub(crate) fn is_at_most(key: &[u8], other: &[u8]) -> bool
+    ensures { result ≡ key_le key.now other.now }
+{
+    other.cmp(key).is_ge()
 }
 
 fn overlaps_any<A: Allocator>(range: &KeyRange<A>, others: &[&KeyRange<A>]) -> bool
@@ -163,20 +175,20 @@ fn greater<'a, A: Allocator>(a: &'a UserKey<A>, b: &'a UserKey<A>) -> &'a UserKe
 }
 
 pub(crate) fn is_from_lower(lower: &Bound<&[u8]>, key: &[u8]) -> bool
-    ensures { result ≡ from_lower (bound_of lower.now) key.now }
+    ensures { result ≡ is_from (bound_of lower.now) key.now }
 {
     match lower {
-        Bound::Included(low) => low.cmp(key).is_le(),
+        Bound::Included(low) => is_at_most(low, key),
         Bound::Excluded(low) => low.cmp(key).is_lt(),
         Bound::Unbounded => true,
     }
 }
 
 pub(crate) fn is_up_to_upper(upper: &Bound<&[u8]>, key: &[u8]) -> bool
-    ensures { result ≡ up_to_upper (bound_of upper.now) key.now }
+    ensures { result ≡ is_to (bound_of upper.now) key.now }
 {
     match upper {
-        Bound::Included(high) => key.cmp(high).is_le(),
+        Bound::Included(high) => is_at_most(key, high),
         Bound::Excluded(high) => key.cmp(high).is_lt(),
         Bound::Unbounded => true,
     }

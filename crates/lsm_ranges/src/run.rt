@@ -1,18 +1,19 @@
 //! Runs: tables in key order.
-ghost use Rattle.std.specs.Prelude.{◌≡◌, ◌≢◌, ◌<◌, ◌≤◌, ◌∷◌, ◌++◌, ◌&&◌, ℕ, Bool, true, IsTrue, Some, map, find, Contains, IfOk, IfSome, List, [], length, filter, remove, slice_get, MatchOption, OnOk, OnErr, IfErr};
+ghost use Rattle.std.specs.Prelude.{◌≡◌, ◌≢◌, ◌<◌, ◌≤◌, ◌∷◌, ◌++◌, IsTrue, Some, map, Contains, IfOk, IfSome, [], length, remove, slice_get, MatchOption, OnOk, OnErr, IfErr};
+ghost use Rattle.std.specs.Borrow.{Lends, sem};
+ghost use Rattle.std.specs.Cmp.Lexicographic.{pointwise, lists_per, lists_equiv};
 ghost use Rattle.std.specs.Fn.{CalledAt};
 ghost use Rattle.std.specs.List.Retain.{IsFiltered};
-ghost use Rattle.std.specs.Cmp.Lexicographic.{pointwise, lists_per, lists_equiv};
-ghost use Rattle.sst_entries.specs.declared.error.Error.TheVariants.{OutOfMemory};
-ghost use Rattle.std.specs.Option.{option_copied, option_map_or};
 ghost use Rattle.std.specs.List.Sorted.{IsPermutation, IsSortedByKey, IsStableByKey};
+ghost use Rattle.std.specs.Option.{option_copied};
 ghost use Rattle.sst_entries.specs.Key.{key_lt};
-ghost use Rattle.lsm_ranges.specs.KeyRange.{bound_of, has_key, has_range, key_le, overlaps, well_formed};
+ghost use Rattle.sst_entries.specs.declared.error.Error.TheVariants.{OutOfMemory};
+ghost use Rattle.lsm_ranges.specs.KeyRange.{bound_of, key_le, Interval};
 ghost use Rattle.lsm_ranges.specs.Packing.{with_table};
-ghost use Rattle.lsm_ranges.specs.Run.{in_order, ends_before, starts_within, how_many, overlap_indexes, first_to_last, min_cmp, IsPartOf};
+ghost use Rattle.lsm_ranges.specs.Run.{in_order, ends_before, starts_within, how_many, may_come_next, overlap_indexes, first_to_last, min_cmp, tables_across, tables_inside, table_of_key, AreWithin, IsInOrder, IsPartOf};
 
 use crate::KeyRange;
-use crate::key_range::{is_from_lower, is_up_to_upper};
+use crate::key_range::{is_at_most, is_from_lower, is_up_to_upper};
 use sst_entries::{Error, UserKey};
 use std::alloc::{AllocError, Allocator, Global};
 use std::marker::Model;
@@ -119,7 +120,6 @@ impl<T: Eq, A: Allocator> Eq for Run<T, A> {
 }
 
 impl<T: Ranged, A: Allocator> Run<T, A> {
-    ghost use Rattle.std.specs.Borrow.{Lends, sem};
     ghost use Rattle.std.specs.contracts.vec.Vec as vec;
     ghost use Rattle.lsm_ranges.specs.contracts.run.Run.{the_row};
 
@@ -149,13 +149,14 @@ impl<T: Ranged, A: Allocator> Run<T, A> {
     /// The table whose range has the key, of a run that is in order. Of any other run, some table
     /// or none.
     pub fn get_for_key(&self, key: &[u8]) -> Option<&T>
-        ensures found { IsTrue (in_order (map T.range self.now)) → option_copied result ≡ find (λ t. has_key (T.range t) key.now) self.now }
+        ensures found { IsInOrder T.range self.now →
+            option_copied result ≡ table_of_key T.range key.now self.now }
         ensures within { IfSome result (λ t. Contains self.now t.now) }
     {
         let tables = self.0.as_slice();
         let (_, rest) = tables.split_at(count_ends_before(tables, Bound::Included(key)));
         let table = rest.first()?;
-        if table.key_range().min().as_slice().cmp(key).is_le() {
+        if is_at_most(table.key_range().min().as_slice(), key) {
             Some(table)
         } else {
             None
@@ -169,8 +170,9 @@ impl<T: Ranged, A: Allocator> Run<T, A> {
         lower: Bound<&[u8]>,
         upper: Bound<&[u8]>,
     ) -> Option<(usize, usize)>
-        ensures found { IsTrue (in_order (map T.range self.now)) → result ≡ overlap_indexes (bound_of lower.entry) (bound_of upper.entry) (map T.range self.now) }
-        ensures within { IfSome result (λ span. (span.0 ≤ span.1) × (span.1 < length self.now)) }
+        ensures found { IsInOrder T.range self.now →
+            result ≡ overlap_indexes (bound_of lower.entry) (bound_of upper.entry) (map T.range self.now) }
+        ensures within { IfSome result (λ span. AreWithin self.now span) }
     {
         let tables = self.0.as_slice();
         let first = count_ends_before(tables, lower);
@@ -186,7 +188,8 @@ impl<T: Ranged, A: Allocator> Run<T, A> {
     /// The tables whose ranges overlap a range, of a run that is in order. Of any other run, some
     /// tables that stand together.
     pub fn get_overlapping(&self, key_range: &KeyRange<T::Alloc>) -> &[T]
-        ensures found { IsTrue (in_order (map T.range self.now)) → result.now ≡ filter (λ t. overlaps (T.range t) key_range.now) self.now }
+        ensures found { IsInOrder T.range self.now →
+            result.now ≡ tables_across T.range key_range.now self.now }
         ensures within { IsPartOf self.now result.now }
     {
         let tables = self.0.as_slice();
@@ -204,7 +207,8 @@ impl<T: Ranged, A: Allocator> Run<T, A> {
     /// The tables whose ranges lie wholly inside a range, of a run that is in order. Of any other
     /// run, some tables that stand together.
     pub fn get_contained(&self, key_range: &KeyRange<T::Alloc>) -> &[T]
-        ensures found { IsTrue (in_order (map T.range self.now)) → result.now ≡ filter (λ t. has_range key_range.now (T.range t)) self.now }
+        ensures found { IsInOrder T.range self.now →
+            result.now ≡ tables_inside T.range key_range.now self.now }
         ensures within { IsPartOf self.now result.now }
     {
         let tables = self.0.as_slice();
@@ -244,7 +248,8 @@ impl<T: Ranged, A: Allocator> Run<T, A> {
     pub(crate) fn insert_in_order(&mut self, table: T) -> Result<(), Error>
     where
         T: Drop,
-        ensures sorted { OnOk result (IsTrue (in_order (map T.range self.old)) → self.new ≡ with_table T.range table self.old) }
+        ensures sorted { OnOk result (IsInOrder T.range self.old →
+            self.new ≡ with_table T.range table self.old) }
         ensures permutation { OnOk result (IsPermutation (self.old ++ table ∷ []) self.new) }
         ensures err { IfErr result (λ e. e ≡ OutOfMemory) }
     {
@@ -289,7 +294,8 @@ impl<T: Ranged, A: Allocator> Run<T, A> {
 
     /// The vector of the tables, to change it at will. The run can be left empty or out of order.
     pub fn inner_mut(&mut self) -> &mut Vec<T, A>
-        ensures* writes_back { sem 𝓛 (Lends (the_row T.row A.row A.Allocator) (vec.the_row T.row A.row A.Allocator) self.entry result (λ v. v.items)) }
+        ensures* writes_back { sem 𝓛 (Lends (the_row T.row A.row A.Allocator)
+            (vec.the_row T.row A.row A.Allocator) self.entry result (λ v. v.items)) }
         ensures value { result.now.items ≡ self.old }
     {
         &mut self.0
@@ -303,7 +309,8 @@ impl<T: Ranged + Drop, A: Allocator> Run<T, A> {
     pub fn push(&mut self, item: T) -> Result<(), Error>
         ensures permutation { OnOk result (IsPermutation (self.old ++ item ∷ []) self.new) }
         ensures sorted { OnOk result (IsSortedByKey T.range min_cmp self.new) }
-        ensures stable { OnOk result (IsStableByKey T.range min_cmp (self.old ++ item ∷ []) self.new) }
+        ensures stable { OnOk result
+            (IsStableByKey T.range min_cmp (self.old ++ item ∷ []) self.new) }
         ensures err { IfErr result (λ e. (e ≡ OutOfMemory) × (self.new ≡ self.old)) }
     {
         self.0.push(item)?;
@@ -319,7 +326,8 @@ impl<T: Ranged + Drop, A: Allocator> Run<T, A> {
 
     /// A run of some tables, as they stand, and `None` exactly for no tables.
     pub fn new(items: Vec<T, A>) -> Option<Run<T, A>>
-        ensures { MatchOption result (items.items ≡ []) (λ run. (run ≡ items.items) × (items.items ≢ [])) }
+        ensures { MatchOption result (items.items ≡ [])
+            (λ run. (run ≡ items.items) × (items.items ≢ [])) }
     {
         if items.is_empty() {
             None
@@ -331,7 +339,7 @@ impl<T: Ranged + Drop, A: Allocator> Run<T, A> {
 
 // Whether a range is well-formed and starts above the last key, where there is one.
 fn goes_on<B: Allocator>(last: Option<&UserKey<B>>, range: &KeyRange<B>) -> bool
-    ensures { result ≡ (well_formed range.now && option_map_or (λ k. key_lt k range.now.min) (option_copied last.entry) true) }
+    ensures { result ≡ may_come_next (option_copied last.entry) range.now }
 {
     let starts_above = match last {
         Some(last) => last < range.min(),
@@ -363,29 +371,33 @@ fn sort_by_min<T: Ranged, A: Allocator>(tables: &mut Vec<T, A>) -> Result<(), Al
 }
 
 fn count_ends_before<T: Ranged>(tables: &[T], lower: Bound<&[u8]>) -> usize
-    ensures exact { IsTrue (in_order (map T.range tables.now)) → result ≡ how_many (ends_before (bound_of lower.entry)) (map T.range tables.now) }
+    ensures exact { IsInOrder T.range tables.now →
+        result ≡ how_many (ends_before (bound_of lower.entry)) (map T.range tables.now) }
     ensures within { result ≤ length tables.now }
 {
     tables.partition_point(|table| !is_from_lower(&lower, table.key_range().max().as_slice()))
 }
 
 fn count_starts_within<T: Ranged>(tables: &[T], upper: Bound<&[u8]>) -> usize
-    ensures exact { IsTrue (in_order (map T.range tables.now)) → result ≡ how_many (starts_within (bound_of upper.entry)) (map T.range tables.now) }
+    ensures exact { IsInOrder T.range tables.now →
+        result ≡ how_many (starts_within (bound_of upper.entry)) (map T.range tables.now) }
     ensures within { result ≤ length tables.now }
 {
     tables.partition_point(|table| is_up_to_upper(&upper, table.key_range().min().as_slice()))
 }
 
 fn count_starts_before<T: Ranged>(tables: &[T], key: &[u8]) -> usize
-    ensures exact { IsTrue (in_order (map T.range tables.now)) → result ≡ how_many (λ r. key_lt r.min key.now) (map T.range tables.now) }
+    ensures exact { IsInOrder T.range tables.now →
+        result ≡ how_many (λ r. key_lt r.min key.now) (map T.range tables.now) }
     ensures within { result ≤ length tables.now }
 {
     tables.partition_point(|table| table.key_range().min().as_slice().cmp(key).is_lt())
 }
 
 fn count_ends_within<T: Ranged>(tables: &[T], key: &[u8]) -> usize
-    ensures exact { IsTrue (in_order (map T.range tables.now)) → result ≡ how_many (λ r. key_le r.max key.now) (map T.range tables.now) }
+    ensures exact { IsInOrder T.range tables.now →
+        result ≡ how_many (λ r. key_le r.max key.now) (map T.range tables.now) }
     ensures within { result ≤ length tables.now }
 {
-    tables.partition_point(|table| table.key_range().max().as_slice().cmp(key).is_le())
+    tables.partition_point(|table| is_at_most(table.key_range().max().as_slice(), key))
 }

@@ -14,15 +14,15 @@ returns-in_err-table-clause-found g c ordered =
     (c.count_ends_before.ensures.exact (subst (λ ts. in_order (map g.T.Ranged.range ts) ≡ true) (sym whole) ordered)) c.split_at.ensures.back c.in_err-table.ensures.value
     ∙ ap (λ ts. find (λ t. has_key (g.T.Ranged.range t) c.args.key.now) ts) whole)
 
-pub returns-then-is_le-clause-found : goal.returns-then-is_le-clause-found
-returns-then-is_le-clause-found g c ordered =
+pub returns-then-is_at_most-clause-found : goal.returns-then-is_at_most-clause-found
+returns-then-is_at_most-clause-found g c ordered =
     let whole : c.as_slice-tables.result.now ≡ c.args.self.now = c.as_slice-tables.ensures.value ∙ c.self.view_is in
     key_found g.T.Ranged.range c.args.key.now c.as_slice-tables.result.now c.split_at.result.1.now c.count_ends_before.result (subst (λ ts. in_order (map g.T.Ranged.range ts) ≡ true) (sym whole) ordered)
     (c.count_ends_before.ensures.exact (subst (λ ts. in_order (map g.T.Ranged.range ts) ≡ true) (sym whole) ordered)) c.split_at.ensures.back c.in_ok-table.table.now c.in_ok-table.ensures.value (search rules)
     ∙ ap (λ ts. find (λ t. has_key (g.T.Ranged.range t) c.args.key.now) ts) whole
 
-pub returns-else-is_le-clause-found : goal.returns-else-is_le-clause-found
-returns-else-is_le-clause-found g c ordered =
+pub returns-else-is_at_most-clause-found : goal.returns-else-is_at_most-clause-found
+returns-else-is_at_most-clause-found g c ordered =
     let whole : c.as_slice-tables.result.now ≡ c.args.self.now = c.as_slice-tables.ensures.value ∙ c.self.view_is in
     key_past g.T.Ranged.range c.args.key.now c.as_slice-tables.result.now c.split_at.result.1.now c.count_ends_before.result (subst (λ ts. in_order (map g.T.Ranged.range ts) ≡ true) (sym whole) ordered)
     (c.count_ends_before.ensures.exact (subst (λ ts. in_order (map g.T.Ranged.range ts) ≡ true) (sym whole) ordered)) c.split_at.ensures.back c.in_ok-table.table.now c.in_ok-table.ensures.value (search rules)
