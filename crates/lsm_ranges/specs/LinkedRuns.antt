@@ -1,5 +1,5 @@
 -- Links: tables of an input that are packed beside their places.
-use Rattle.std.specs.Prelude.{◌≡◌, ◌<◌, true, List, [], map, IsPermutation, Some}
+use Rattle.std.specs.Prelude.{◌≡◌, ◌<◌, true, List, [], map, Contains, IsPermutation, Some}
 use Rattle.std.specs.List.{AllByRecursion}
 use Rattle.lsm_ranges.specs.KeyRange.{Interval, overlaps}
 use Rattle.lsm_ranges.specs.Packing.{tables_of, table_at, put_all, AreFormed, AreNotEmpty}
@@ -22,6 +22,14 @@ module _ {T : Type 0} where
     pub same : IsPermutation links (tables_of packed)
     pub put : AreFormed (λ x. range x.table) ts → packed ≡ put_all (λ link. range link.table.now) links []
     pub some : AreNotEmpty packed
+
+  -- the range of a link's table
+  abbrev pub link_range : (T → Interval) → Link T → Interval
+  link_range range link = range link.table.now
+
+  -- those of some links that overlap a link are from earlier runs
+  abbrev pub AreEarlier : (T → Interval) → List (Link T) → Link T → Type 0
+  AreEarlier range links above = (x : Link T) → Contains links x → overlaps (link_range range x) (link_range range above) ≡ true → x.run < above.run
 
   -- a link is from an earlier run than another, and overlaps it
   abbrev pub IsBelow : (T → Interval) → Link T → Link T → Type 0

@@ -1,5 +1,5 @@
 -- Packing runs: into how few runs tables can go while each key keeps the order of its tables.
-use Rattle.std.specs.Prelude.{◌≡◌, ◌≢◌, ℕ, zero, suc, ◌<◌, ◌≤◌, ◌==◌, max, Bool, true, List, [], ◌∷◌, length, map, filter, flat_map, slice_get, if◌then◌else◌, ◌||◌, Contains, Option, Some, None, IsPermutation}
+use Rattle.std.specs.Prelude.{◌≡◌, ◌≢◌, ℕ, zero, suc, ◌<◌, ◌≤◌, ◌==◌, max, Bool, true, List, [], ◌∷◌, ◌++◌, length, map, filter, flat_map, slice_get, if◌then◌else◌, ◌||◌, Contains, Option, Some, None, IsPermutation}
 use Rattle.std.specs.List.{AllByRecursion, list_any, insert}
 use Rattle.lsm_ranges.specs.KeyRange.{Interval, has_key, key_le, overlaps, well_formed, disjoint}
 use Rattle.lsm_ranges.specs.Run.{how_many, in_order}
@@ -14,6 +14,14 @@ table_at [] i j = None
 table_at (run ∷ runs) zero j = slice_get run j
 table_at (run ∷ runs) (suc i) j = table_at runs i j
 
+-- runs have the same tables, each as often
+abbrev pub SameTables : {T : Type 0} → List (List T) → List (List T) → Type 0
+SameTables runs packed = IsPermutation (tables_of runs) (tables_of packed)
+
+-- runs have the tables of other ones, and some more
+abbrev pub AddsTables : {T : Type 0} → List (List T) → List T → List (List T) → Type 0
+AddsTables runs tables packed = IsPermutation (tables_of runs ++ tables) (tables_of packed)
+
 module _ {T : Type 0} (range : T → Interval) where
   -- the tables, in run order, whose range has a key
   abbrev pub holders : List (List T) → List ℕ → List T
@@ -26,6 +34,10 @@ module _ {T : Type 0} (range : T → Interval) where
   -- each table's range is well-formed
   abbrev pub AreWellFormed : List (List T) → Type 0
   AreWellFormed runs = AreFormed (tables_of runs)
+
+  -- for each key, the tables whose range has it come in the same order
+  abbrev pub SameHolders : List (List T) → List (List T) → Type 0
+  SameHolders runs packed = (k : List ℕ) → holders packed k ≡ holders runs k
 
   -- each run is in order and has a table
   abbrev pub ArePacked : List (List T) → Type 0

@@ -4,15 +4,24 @@ use Rattle.std.specs.Option.{option_map_or}
 use Rattle.std.specs.declared.ops.Bound.{Bound}
 use Rattle.std.specs.declared.cmp.Ordering.{Ordering}
 use Rattle.std.specs.List.{list_all}
+use Rattle.std.specs.List.Sorted.{IsSortedByKey, IsStableByKey}
 use Rattle.std.specs.Cmp.Lexicographic.{slice_cmp}
 use Rattle.std.specs.Ordering.{nat_cmp}
 use Rattle.sst_entries.specs.Key.{key_lt}
-use Rattle.lsm_ranges.specs.KeyRange.{Interval, interval, has_key, has_range, overlaps, well_formed}
+use Rattle.lsm_ranges.specs.KeyRange.{Interval, interval, has_key, has_range, key_le, overlaps, well_formed}
 use Rattle.sst_entries.specs.Point.{is_from, is_to}
 
 -- the order of intervals by their least keys
 abbrev pub min_cmp : Interval → Interval → Ordering
 min_cmp a b = slice_cmp nat_cmp a.min b.min
+
+-- no table starts before the one in front of it
+abbrev pub IsSortedByMin : {T : Type 0} → (T → Interval) → List T → Type 0
+IsSortedByMin range tables = IsSortedByKey range min_cmp tables
+
+-- tables of one least key stand in the order that they had
+abbrev pub IsStableByMin : {T : Type 0} → (T → Interval) → List T → List T → Type 0
+IsStableByMin range old new = IsStableByKey range min_cmp old new
 
 -- each interval is well-formed and ends before each later one starts
 abbrev pub in_order : List Interval → Bool
@@ -45,6 +54,13 @@ ends_before lower r = not (is_from lower r.max)
 -- whether an interval starts within an upper bound
 abbrev pub starts_within : Bound (List ℕ) → Interval → Bool
 starts_within upper r = is_to upper r.min
+
+-- whether an interval starts before a key, and whether it ends no later than one
+abbrev pub starts_before : List ℕ → Interval → Bool
+starts_before key r = key_lt r.min key
+
+abbrev pub ends_within : List ℕ → Interval → Bool
+ends_within key r = key_le r.max key
 
 -- how many intervals of a list pass a test
 abbrev pub how_many : (Interval → Bool) → List Interval → ℕ

@@ -1,14 +1,12 @@
 //! Packing runs into as few as there can be.
-ghost use Rattle.std.specs.Prelude.{◌≡◌, ◌≢◌, ◌<◌, ◌≤◌, ◌∷◌, ◌++◌, ⊤, ℕ, true, List, [], length, map, reverse, Contains, IsPermutation, IsSome, IsTrue, IfOk, IfErr, IfSome, MatchOption, OnOk, None, Ok, Some};
-ghost use Rattle.std.specs.List.{AllByRecursion};
+ghost use Rattle.std.specs.Prelude.{◌≡◌, ◌≢◌, ◌<◌, ◌≤◌, ◌∷◌, ◌++◌, ⊤, true, List, [], length, reverse, Contains, IsSome, IfOk, IfErr, IfSome, MatchOption, OnOk, None, Ok, Some};
 ghost use Rattle.std.specs.Option.{option_copied};
-ghost use Rattle.lsm_ranges.specs.KeyRange.{overlaps};
-ghost use Rattle.lsm_ranges.specs.Links.{tags, tags_in, IsStack, Tagged};
-ghost use Rattle.lsm_ranges.specs.LinkedRuns.{AreAtPlaces, ArePackedLinks, IsBelow};
-ghost use Rattle.lsm_ranges.specs.declared.optimize.Link.{Link};
-ghost use Rattle.lsm_ranges.specs.Run.{in_order};
-ghost use Rattle.lsm_ranges.specs.Packing.{holders, ArePacked, ArePlaced, AreFormed, AreNotEmpty, count_to_last, put, put_all, tables_of, touches, with_table, AreInOrder, AreDisjointRuns, AreWellFormed, IsChain, IsLeastSize};
 ghost use Rattle.sst_entries.specs.declared.error.Error.TheVariants.{OutOfMemory};
+ghost use Rattle.lsm_ranges.specs.Links.{tags, tags_in, IsStack, Tagged};
+ghost use Rattle.lsm_ranges.specs.LinkedRuns.{link_range, AreAtPlaces, AreEarlier, ArePackedLinks, IsBelow};
+ghost use Rattle.lsm_ranges.specs.declared.optimize.Link.{Link};
+ghost use Rattle.lsm_ranges.specs.Packing.{count_to_last, put, put_all, tables_of, touches, AddsTables, AreDisjointRuns, AreFormed, AreInOrder, AreNotEmpty, ArePacked, ArePlaced, AreWellFormed, IsChain, IsLeastSize, SameHolders, SameTables};
+ghost use Rattle.lsm_ranges.specs.Run.{IsInOrder};
 
 use crate::{KeyRange, Ranged, Run};
 use sst_entries::Error;
@@ -27,11 +25,15 @@ pub fn optimize_runs<T: Clone + Ranged + Drop, A: Allocator + Clone>(
     runs: Vec<Run<T, A>, A>,
 ) -> Result<Vec<Run<T, A>, A>, Error>
     ensures one { length runs.items ≤ 1 → result ≡ Ok runs }
-    ensures tables { IfOk result (λ packed. IsPermutation (tables_of runs.items) (tables_of packed.items)) }
-    ensures holders { IfOk result (λ packed. AreWellFormed T.range runs.items → (k : List ℕ) → holders T.range packed.items k ≡ holders T.range runs.items k) }
-    ensures ordered { IfOk result (λ packed. AreWellFormed T.range runs.items → 1 < length runs.items → ArePacked T.range packed.items) }
-    ensures placed { IfOk result (λ packed. AreWellFormed T.range runs.items → 1 < length runs.items → ArePlaced T.range (tables_of runs.items) packed.items) }
-    ensures least { IfOk result (λ packed. AreDisjointRuns T.range runs.items → IsLeastSize T.range runs.items (length packed.items)) }
+    ensures tables { IfOk result (λ packed. SameTables runs.items packed.items) }
+    ensures holders { IfOk result (λ packed. AreWellFormed T.range runs.items →
+        SameHolders T.range runs.items packed.items) }
+    ensures ordered { IfOk result (λ packed. AreWellFormed T.range runs.items → 1 < length runs.items →
+        ArePacked T.range packed.items) }
+    ensures placed { IfOk result (λ packed. AreWellFormed T.range runs.items → 1 < length runs.items →
+        ArePlaced T.range (tables_of runs.items) packed.items) }
+    ensures least { IfOk result (λ packed. AreDisjointRuns T.range runs.items →
+        IsLeastSize T.range runs.items (length packed.items)) }
     ensures err { IfErr result (λ e. e ≡ OutOfMemory) }
 {
     if runs.len() <= 1 {
@@ -46,8 +48,9 @@ fn pack<T: Ranged + Drop, A: Allocator + Clone>(
     alloc: &A,
     runs: Vec<Run<T, A>, A>,
 ) -> Result<Vec<Run<T, A>, A>, Error>
-    ensures ok { IfOk result (λ packed. AreWellFormed T.range runs.items → packed.items ≡ put_all T.range (tables_of runs.items) []) }
-    ensures permutation { IfOk result (λ packed. IsPermutation (tables_of runs.items) (tables_of packed.items)) }
+    ensures ok { IfOk result (λ packed. AreWellFormed T.range runs.items →
+        packed.items ≡ put_all T.range (tables_of runs.items) []) }
+    ensures permutation { IfOk result (λ packed. SameTables runs.items packed.items) }
     ensures err { IfErr result (λ e. e ≡ OutOfMemory) }
 {
     let mut packed = Vec::new(alloc.clone()?);
@@ -63,8 +66,9 @@ fn place_all<T: Ranged + Drop, A: Allocator + Clone>(
     packed: &mut Vec<Run<T, A>, A>,
     tables: Vec<T, A>,
 ) -> Result<(), Error>
-    ensures ok { OnOk result (AreFormed T.range tables.items → ArePacked T.range packed.old.items → packed.new.items ≡ put_all T.range tables.items packed.old.items) }
-    ensures permutation { OnOk result (IsPermutation (tables_of packed.old.items ++ tables.items) (tables_of packed.new.items)) }
+    ensures ok { OnOk result (AreFormed T.range tables.items → ArePacked T.range packed.old.items →
+        packed.new.items ≡ put_all T.range tables.items packed.old.items) }
+    ensures permutation { OnOk result (AddsTables packed.old.items tables.items packed.new.items) }
     ensures err { IfErr result (λ e. e ≡ OutOfMemory) }
 {
     for table in tables {
@@ -82,7 +86,8 @@ pub fn overlap_chain<T: Ranged, A: Allocator + Clone, B: Allocator>(
     runs: &[Run<T, B>],
 ) -> Result<Vec<(usize, usize), A>, Error>
     ensures chain { IfOk result (λ chain. IsChain T.range runs.now chain.items) }
-    ensures least { IfOk result (λ chain. AreDisjointRuns T.range runs.now → IsLeastSize T.range runs.now (length chain.items)) }
+    ensures least { IfOk result (λ chain. AreDisjointRuns T.range runs.now →
+        IsLeastSize T.range runs.now (length chain.items)) }
     ensures some { IfOk result (λ chain. chain.items ≡ [] → tables_of runs.now ≡ []) }
     ensures err { IfErr result (λ e. e ≡ OutOfMemory) }
 {
@@ -139,7 +144,8 @@ fn place_links<'a, T: Ranged, A: Allocator + Clone>(
     run: usize,
     tables: &'a [T],
 ) -> Result<(), Error>
-    ensures ok { OnOk result ((ts : List (Tagged T)) → ArePackedLinks T.range ts packed.old.items → ArePackedLinks T.range (ts ++ tags_in run 0 tables.now) packed.new.items) }
+    ensures ok { OnOk result ((ts : List (Tagged T)) → ArePackedLinks T.range ts packed.old.items →
+        ArePackedLinks T.range (ts ++ tags_in run 0 tables.now) packed.new.items) }
     ensures err { IfErr result (λ e. e ≡ OutOfMemory) }
 {
     for (index, table) in tables.iter().enumerate() {
@@ -154,9 +160,12 @@ fn walk_down<'a, T: Ranged, A: Allocator>(
     chain: &mut Vec<(usize, usize), A>,
 ) -> Result<(), Error>
     requires { chain.old.items ≡ [] }
-    ensures chain { OnOk result ((runs : List (List T)) → AreAtPlaces runs (tables_of packed.now) → IsChain T.range runs (reverse chain.new.items)) }
-    ensures whole { OnOk result (IsStack (λ link. T.range link.table.now) (λ link. link.run) packed.now → length chain.new.items ≡ length packed.now) }
-    ensures some { OnOk result (AreNotEmpty packed.now → chain.new.items ≡ [] → packed.now ≡ []) }
+    ensures chain { OnOk result ((runs : List (List T)) → AreAtPlaces runs (tables_of packed.now) →
+        IsChain T.range runs (reverse chain.new.items)) }
+    ensures whole { OnOk result (IsStack (link_range T.range) (λ link. link.run) packed.now →
+        length chain.new.items ≡ length packed.now) }
+    ensures some { OnOk result (AreNotEmpty packed.now →
+        chain.new.items ≡ [] → packed.now ≡ []) }
     ensures err { IfErr result (λ e. e ≡ OutOfMemory) }
 {
     let mut above: Option<&Link<'a, T>> = None;
@@ -175,9 +184,12 @@ fn link_below<'r, 'a, T: Ranged, A: Allocator>(
     run: &'r Run<Link<'a, T>, A>,
     above: Option<&Link<'a, T>>,
 ) -> Option<&'r Link<'a, T>>
-    ensures found { IfSome result (λ link. Contains run.now link.now × MatchOption (option_copied above.entry) ⊤ (λ a. IsBelow T.range link.now a)) }
+    ensures found { IfSome result (λ link. Contains run.now link.now ×
+        MatchOption (option_copied above.entry) ⊤ (λ a. IsBelow T.range link.now a)) }
     ensures first { option_copied above.entry ≡ None → run.now ≢ [] → IsSome result }
-    ensures next { (a : Link T) → option_copied above.entry ≡ Some a → IsTrue (in_order (map (λ link. T.range link.table.now) run.now)) → ((x : Link T) → Contains run.now x → overlaps (T.range x.table.now) (T.range a.table.now) ≡ true → x.run < a.run) → touches (λ link. T.range link.table.now) (T.range a.table.now) run.now ≡ true → IsSome result }
+    ensures next { (a : Link T) → option_copied above.entry ≡ Some a →
+        IsInOrder (link_range T.range) run.now → AreEarlier T.range run.now a →
+        touches (link_range T.range) (link_range T.range a) run.now ≡ true → IsSome result }
 {
     match above {
         Some(above) => link_to(run, above),
@@ -189,8 +201,10 @@ fn link_to<'r, 'a, T: Ranged, A: Allocator>(
     run: &'r Run<Link<'a, T>, A>,
     above: &Link<'a, T>,
 ) -> Option<&'r Link<'a, T>>
-    ensures found { IfSome result (λ link. Contains run.now link.now × IsBelow T.range link.now above.now) }
-    ensures next { IsTrue (in_order (map (λ link. T.range link.table.now) run.now)) → ((x : Link T) → Contains run.now x → overlaps (T.range x.table.now) (T.range above.now.table.now) ≡ true → x.run < above.now.run) → touches (λ link. T.range link.table.now) (T.range above.now.table.now) run.now ≡ true → IsSome result }
+    ensures found { IfSome result (λ link.
+        Contains run.now link.now × IsBelow T.range link.now above.now) }
+    ensures next { IsInOrder (link_range T.range) run.now → AreEarlier T.range run.now above.now →
+        touches (link_range T.range) (link_range T.range above.now) run.now ≡ true → IsSome result }
 {
     let link = run.get_overlapping(above.key_range()).first()?;
     if link.run < above.run && link.key_range().overlaps_with_key_range(above.key_range()) {
@@ -206,8 +220,9 @@ fn place<T: Ranged + Drop, A: Allocator + Clone>(
     packed: &mut Vec<Run<T, A>, A>,
     table: T,
 ) -> Result<(), Error>
-    ensures ok { OnOk result (AreInOrder T.range packed.old.items → packed.new.items ≡ put T.range table packed.old.items) }
-    ensures permutation { OnOk result (IsPermutation (tables_of packed.old.items ++ table ∷ []) (tables_of packed.new.items)) }
+    ensures ok { OnOk result (AreInOrder T.range packed.old.items →
+        packed.new.items ≡ put T.range table packed.old.items) }
+    ensures permutation { OnOk result (AddsTables packed.old.items (table ∷ []) packed.new.items) }
     ensures some { OnOk result (AreNotEmpty packed.old.items → AreNotEmpty packed.new.items) }
     ensures err { IfErr result (λ e. e ≡ OutOfMemory) }
 {
@@ -226,7 +241,8 @@ fn count_to_last_touched<T: Ranged, A: Allocator>(
     packed: &[Run<T, A>],
     range: &KeyRange<T::Alloc>,
 ) -> usize
-    ensures value { AreInOrder T.range packed.now → result ≡ count_to_last (touches T.range range.now) packed.now }
+    ensures value { AreInOrder T.range packed.now →
+        result ≡ count_to_last (touches T.range range.now) packed.now }
     ensures within { result ≤ length packed.now }
 {
     for level in (0..packed.len()).rev() {
@@ -238,7 +254,7 @@ fn count_to_last_touched<T: Ranged, A: Allocator>(
 }
 
 fn has_overlap<T: Ranged, A: Allocator>(run: &Run<T, A>, range: &KeyRange<T::Alloc>) -> bool
-    ensures { IsTrue (in_order (map T.range run.now)) → result ≡ touches T.range range.now run.now }
+    ensures { IsInOrder T.range run.now → result ≡ touches T.range range.now run.now }
 {
     !run.get_overlapping(range).is_empty()
 }

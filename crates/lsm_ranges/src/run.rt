@@ -1,16 +1,14 @@
 //! Runs: tables in key order.
-ghost use Rattle.std.specs.Prelude.{◌≡◌, ◌≢◌, ◌<◌, ◌≤◌, ◌∷◌, ◌++◌, IsTrue, Some, map, Contains, IfOk, IfSome, [], length, remove, slice_get, MatchOption, OnOk, OnErr, IfErr};
+ghost use Rattle.std.specs.Prelude.{◌≡◌, ◌≢◌, ◌<◌, ◌≤◌, ◌∷◌, ◌++◌, IsTrue, List, Some, map, Contains, IfOk, IfSome, [], length, remove, slice_get, IsPermutation, MatchOption, OnOk, OnErr, IfErr};
 ghost use Rattle.std.specs.Borrow.{Lends, sem};
 ghost use Rattle.std.specs.Cmp.Lexicographic.{pointwise, lists_per, lists_equiv};
 ghost use Rattle.std.specs.Fn.{CalledAt};
 ghost use Rattle.std.specs.List.Retain.{IsFiltered};
-ghost use Rattle.std.specs.List.Sorted.{IsPermutation, IsSortedByKey, IsStableByKey};
 ghost use Rattle.std.specs.Option.{option_copied};
-ghost use Rattle.sst_entries.specs.Key.{key_lt};
 ghost use Rattle.sst_entries.specs.declared.error.Error.TheVariants.{OutOfMemory};
-ghost use Rattle.lsm_ranges.specs.KeyRange.{bound_of, key_le, Interval};
+ghost use Rattle.lsm_ranges.specs.KeyRange.{bound_of, Interval};
 ghost use Rattle.lsm_ranges.specs.Packing.{with_table};
-ghost use Rattle.lsm_ranges.specs.Run.{in_order, ends_before, starts_within, how_many, may_come_next, overlap_indexes, first_to_last, min_cmp, tables_across, tables_inside, table_of_key, AreWithin, IsInOrder, IsPartOf};
+ghost use Rattle.lsm_ranges.specs.Run.{ends_before, ends_within, first_to_last, how_many, in_order, may_come_next, overlap_indexes, starts_before, starts_within, tables_across, tables_inside, table_of_key, AreWithin, IsInOrder, IsPartOf, IsSortedByMin, IsStableByMin};
 
 use crate::KeyRange;
 use crate::key_range::{is_at_most, is_from_lower, is_up_to_upper};
@@ -21,9 +19,6 @@ use std::ops::{Bound, Deref};
 
 /// What has a range of keys, as a table has.
 pub trait Ranged {
-    ghost use Rattle.std.specs.Prelude.{◌≡◌, ℕ, List};
-    ghost use Rattle.lsm_ranges.specs.KeyRange.{Interval};
-
     /// Where the keys of the range lie.
     type Alloc: Allocator;
 
@@ -98,8 +93,6 @@ impl<T: Ranged> Deref for Indexed<T> {
 pub struct Run<T, A: Allocator = Global>(Vec<T, A>);
 
 impl<T, A: Allocator> Model for Run<T, A> {
-    ghost use Rattle.std.specs.Prelude.{List};
-
     ghost Value = { List T };
 
     ghost view = { λ run. run.0.items };
@@ -308,9 +301,8 @@ impl<T: Ranged + Drop, A: Allocator> Run<T, A> {
     /// then, and the table is given up.
     pub fn push(&mut self, item: T) -> Result<(), Error>
         ensures permutation { OnOk result (IsPermutation (self.old ++ item ∷ []) self.new) }
-        ensures sorted { OnOk result (IsSortedByKey T.range min_cmp self.new) }
-        ensures stable { OnOk result
-            (IsStableByKey T.range min_cmp (self.old ++ item ∷ []) self.new) }
+        ensures sorted { OnOk result (IsSortedByMin T.range self.new) }
+        ensures stable { OnOk result (IsStableByMin T.range (self.old ++ item ∷ []) self.new) }
         ensures err { IfErr result (λ e. (e ≡ OutOfMemory) × (self.new ≡ self.old)) }
     {
         self.0.push(item)?;
@@ -351,7 +343,7 @@ fn goes_on<B: Allocator>(last: Option<&UserKey<B>>, range: &KeyRange<B>) -> bool
 // Whether no table starts before the one in front of it. The last two are compared first: a table
 // that was just put at the end and does not belong there is found at once.
 fn starts_ascend<T: Ranged>(tables: &[T]) -> bool
-    ensures { IsTrue result → IsSortedByKey T.range min_cmp tables.now }
+    ensures { IsTrue result → IsSortedByMin T.range tables.now }
 {
     for place in (1..tables.len()).rev() {
         if tables[place].key_range().min() < tables[place - 1].key_range().min() {
@@ -363,8 +355,8 @@ fn starts_ascend<T: Ranged>(tables: &[T]) -> bool
 
 fn sort_by_min<T: Ranged, A: Allocator>(tables: &mut Vec<T, A>) -> Result<(), AllocError>
     ensures permutation { IsPermutation tables.old.items tables.new.items }
-    ensures sorted { OnOk result (IsSortedByKey T.range min_cmp tables.new.items) }
-    ensures stable { IsStableByKey T.range min_cmp tables.old.items tables.new.items }
+    ensures sorted { OnOk result (IsSortedByMin T.range tables.new.items) }
+    ensures stable { IsStableByMin T.range tables.old.items tables.new.items }
     ensures err { OnErr result (tables.new.items ≡ tables.old.items) }
 {
     tables.sort_by(|a, b| a.key_range().min().cmp(b.key_range().min()))
@@ -388,7 +380,7 @@ fn count_starts_within<T: Ranged>(tables: &[T], upper: Bound<&[u8]>) -> usize
 
 fn count_starts_before<T: Ranged>(tables: &[T], key: &[u8]) -> usize
     ensures exact { IsInOrder T.range tables.now →
-        result ≡ how_many (λ r. key_lt r.min key.now) (map T.range tables.now) }
+        result ≡ how_many (starts_before key.now) (map T.range tables.now) }
     ensures within { result ≤ length tables.now }
 {
     tables.partition_point(|table| table.key_range().min().as_slice().cmp(key).is_lt())
@@ -396,7 +388,7 @@ fn count_starts_before<T: Ranged>(tables: &[T], key: &[u8]) -> usize
 
 fn count_ends_within<T: Ranged>(tables: &[T], key: &[u8]) -> usize
     ensures exact { IsInOrder T.range tables.now →
-        result ≡ how_many (λ r. key_le r.max key.now) (map T.range tables.now) }
+        result ≡ how_many (ends_within key.now) (map T.range tables.now) }
     ensures within { result ≤ length tables.now }
 {
     tables.partition_point(|table| is_at_most(table.key_range().max().as_slice(), key))
