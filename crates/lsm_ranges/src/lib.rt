@@ -1,4 +1,5 @@
-//! Key ranges, runs of tables whose ranges lie one behind another, and packing tables into as few runs as can be.
+//! Key ranges, runs of tables whose ranges lie one behind another, and packing tables into as few
+//! runs as can be.
 #![tactic(auto)]
 
 mod key_range;

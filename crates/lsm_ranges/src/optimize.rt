@@ -28,10 +28,10 @@ pub fn optimize_runs<T: Clone + Ranged + Drop, A: Allocator + Clone>(
     ensures tables { IfOk result (λ packed. SameTables runs.items packed.items) }
     ensures holders { IfOk result (λ packed. AreWellFormed T.range runs.items →
         SameHolders T.range runs.items packed.items) }
-    ensures ordered { IfOk result (λ packed. AreWellFormed T.range runs.items → 1 < length runs.items →
-        ArePacked T.range packed.items) }
-    ensures placed { IfOk result (λ packed. AreWellFormed T.range runs.items → 1 < length runs.items →
-        ArePlaced T.range (tables_of runs.items) packed.items) }
+    ensures ordered { IfOk result (λ packed. AreWellFormed T.range runs.items →
+        1 < length runs.items → ArePacked T.range packed.items) }
+    ensures placed { IfOk result (λ packed. AreWellFormed T.range runs.items →
+        1 < length runs.items → ArePlaced T.range (tables_of runs.items) packed.items) }
     ensures least { IfOk result (λ packed. AreDisjointRuns T.range runs.items →
         IsLeastSize T.range runs.items (length packed.items)) }
     ensures err { IfErr result (λ e. e ≡ OutOfMemory) }

@@ -164,7 +164,8 @@ impl<T: Ranged, A: Allocator> Run<T, A> {
         upper: Bound<&[u8]>,
     ) -> Option<(usize, usize)>
         ensures found { IsInOrder T.range self.now →
-            result ≡ overlap_indexes (bound_of lower.entry) (bound_of upper.entry) (map T.range self.now) }
+            result ≡ overlap_indexes (bound_of lower.entry) (bound_of upper.entry)
+            (map T.range self.now) }
         ensures within { IfSome result (λ span. AreWithin self.now span) }
     {
         let tables = self.0.as_slice();
