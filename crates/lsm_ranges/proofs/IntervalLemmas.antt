@@ -10,7 +10,7 @@ use Rattle.std.specs.Cmp.Lexicographic.{slice_cmp, nat_list_cmp_total}
 use Rattle.sst_entries.proofs.Booleans.{not_is, not_not}
 use Rattle.std.proofs.lemmas.Bool.{and_parts, and_from, cases_Bool, both_ways}
 use Rattle.sst_entries.specs.Key.{key_lt}
-use Rattle.lsm_ranges.specs.KeyRange.{Interval, key_le, well_formed, has_key, overlaps, ShareKey}
+use Rattle.lsm_ranges.specs.KeyRange.{Interval, key_le, is_well_formed, has_key, overlaps, ShareKey}
 use Rattle.sst_entries.specs.Point.{is_from, is_to}
 use Rattle.lsm_ranges.proofs.KeyLemmas.{le_itself, lt_le, le_lt}
 
@@ -67,7 +67,7 @@ shared_overlap a b (k, p, q) =
     and_from (key_le b.min a.max) (key_le a.min b.max) (le_trans b.min k a.max y.0 x.1) (le_trans a.min k b.max x.0 y.1)
 
 -- well-formed intervals that overlap share the greater of their minima
-pub overlap_shared : (a b : Interval) → well_formed a ≡ true → well_formed b ≡ true → overlaps a b ≡ true → ShareKey a b
+pub overlap_shared : (a b : Interval) → is_well_formed a ≡ true → is_well_formed b ≡ true → overlaps a b ≡ true → ShareKey a b
 overlap_shared a b wa wb h =
     let x = and_parts (key_le b.min a.max) (key_le a.min b.max) h in
     elim (cases_Bool (key_le a.min b.min)) [
@@ -75,7 +75,7 @@ overlap_shared a b wa wb h =
       | inr e ↦ (a.min, and_from (key_le a.min a.min) (key_le a.min a.max) (le_refl a.min) wa, and_from (key_le b.min a.min) (key_le a.min b.max) (lt_to_le b.min a.min (above a.min b.min e)) x.1)
     ]
 
-pub overlap_says : (a b : Interval) (r : Bool) → r ≡ overlaps a b → IsTrue (well_formed a) → IsTrue (well_formed b) → (IsTrue r ↔ ShareKey a b)
+pub overlap_says : (a b : Interval) (r : Bool) → r ≡ overlaps a b → IsTrue (is_well_formed a) → IsTrue (is_well_formed b) → (IsTrue r ↔ ShareKey a b)
 overlap_says a b r is wa wb = ((λ t. overlap_shared a b wa wb (sym is ∙ t)), (λ s. is ∙ shared_overlap a b s))
 
 pub lower_up : (lower : Bound (List ℕ)) (k m : List ℕ) → is_from lower k ≡ true → key_le k m ≡ true → is_from lower m ≡ true

@@ -7,7 +7,7 @@ use Rattle.std.proofs.lemmas.List.{take_more, take_all, length-take-le}
 use Rattle.std.proofs.lemmas.List.Sorted.{IsPermutation-trans, IsPermutation-append_left, IsPermutation-refl}
 use Rattle.lsm_ranges.specs.KeyRange.{Interval}
 use Rattle.lsm_ranges.specs.Packing.{tables_of, put, put_all, AreFormed, AreInOrder, AreNotEmpty}
-use Rattle.lsm_ranges.specs.Links.{Mem, Tagged, tagged, tags_in, tags}
+use Rattle.lsm_ranges.specs.Links.{Mem, Tagged, tag, tags_in, tags}
 use Rattle.lsm_ranges.specs.LinkedRuns.{tag_of, ArePackedLinks}
 use Rattle.lsm_ranges.specs.declared.optimize.Link.{Link}
 use Rattle.lsm_ranges.proofs.PackLemmas.{put_all_packed, put_all-append, formed_parts, in_order_of}
@@ -68,18 +68,18 @@ module _ {X : Type 0} where
   first_found p xs ys x is at = let k = some_first p xs x (at ∙ ap (λ l. slice_get l 0) is) in (mem_contains xs x k.0, k.1)
 
 module _ {T : Type 0} where
-  tags_in-push : (i k : ℕ) (ts : List T) (t : T) → tags_in i k (ts ++ t ∷ []) ≡ tags_in i k ts ++ tagged t i (k + length ts) ∷ []
-  tags_in-push i k [] t = let e : k ≡ k + 0 = omega arith in ap (λ n. tagged t i n ∷ []) e
+  tags_in-push : (i k : ℕ) (ts : List T) (t : T) → tags_in i k (ts ++ t ∷ []) ≡ tags_in i k ts ++ tag t i (k + length ts) ∷ []
+  tags_in-push i k [] t = let e : k ≡ k + 0 = omega arith in ap (λ n. tag t i n ∷ []) e
   tags_in-push i k (x ∷ xs) t =
       let e : suc k + length xs ≡ k + suc (length xs) = omega arith in
-      ap (λ l. tagged x i k ∷ l) (tags_in-push i (suc k) xs t ∙ ap (λ n. tags_in i (suc k) xs ++ tagged t i n ∷ []) e)
+      ap (λ l. tag x i k ∷ l) (tags_in-push i (suc k) xs t ∙ ap (λ n. tags_in i (suc k) xs ++ tag t i n ∷ []) e)
 
-  tags_in-more : (i j : ℕ) (ts : List T) (t : T) → j < length ts → t ≡ get_or ts j t → tags_in i 0 (take (j + 1) ts) ≡ tags_in i 0 (take j ts) ++ tagged t i j ∷ []
+  tags_in-more : (i j : ℕ) (ts : List T) (t : T) → j < length ts → t ≡ get_or ts j t → tags_in i 0 (take (j + 1) ts) ≡ tags_in i 0 (take j ts) ++ tag t i j ∷ []
   tags_in-more i j ts t lt at =
       let long : 0 + length (take j ts) ≡ j = zero-add (length (take j ts)) ∙ length-take-le j ts (omega arith) in
       ap (tags_in i 0) (take_more ts j t lt ∙ ap (λ v. take j ts ++ v ∷ []) (sym at))
       ∙ tags_in-push i 0 (take j ts) t
-      ∙ ap (λ n. tags_in i 0 (take j ts) ++ tagged t i n ∷ []) long
+      ∙ ap (λ n. tags_in i 0 (take j ts) ++ tag t i n ∷ []) long
 
   tags-push : (k : ℕ) (runs : List (List T)) (run : List T) → tags k (runs ++ run ∷ []) ≡ tags k runs ++ tags_in (k + length runs) 0 run
   tags-push k [] run = let e : k ≡ k + 0 = omega arith in append-nil (tags_in k 0 run) ∙ ap (λ n. tags_in n 0 run) e
@@ -125,8 +125,8 @@ module _ {T : Type 0} (range : T → Interval) where
   links_more ts i j tables now next link same put_one some lt at run_is index_is h =
       subst (λ (xs : List (Tagged T)). ArePackedLinks range xs next)
       (append_assoc ts (tags_in i 0 (take j tables)) (tag_of link ∷ [])
-      ∙ ap (λ n. ts ++ (tags_in i 0 (take j tables) ++ tagged link.table.now n link.index ∷ [])) run_is
-      ∙ ap (λ n. ts ++ (tags_in i 0 (take j tables) ++ tagged link.table.now i n ∷ [])) index_is
+      ∙ ap (λ n. ts ++ (tags_in i 0 (take j tables) ++ tag link.table.now n link.index ∷ [])) run_is
+      ∙ ap (λ n. ts ++ (tags_in i 0 (take j tables) ++ tag link.table.now i n ∷ [])) index_is
       ∙ ap (λ l. ts ++ l) (sym (tags_in-more i j tables link.table.now lt at)))
       (links_push (ts ++ tags_in i 0 (take j tables)) now next link h put_one same some)
 

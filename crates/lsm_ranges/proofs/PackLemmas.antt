@@ -10,8 +10,8 @@ use Rattle.std.proofs.lemmas.List.Elements.{filter-append}
 use Rattle.std.proofs.lemmas.List.Sorted.{IsPermutation-refl, IsPermutation-trans, IsPermutation-sym, IsPermutation-append_left, IsPermutation-append_right, IsPermutation-insert, IsPermutation-to_front, length_permutation}
 use Rattle.std.proofs.lemmas.Bool.{and_parts, and_from, and_cases, or_cases, or_parts, or_left, or_right, or_from, cases_Bool, both_ways, ne_eqb}
 use Rattle.sst_entries.specs.Key.{key_lt}
-use Rattle.lsm_ranges.specs.KeyRange.{Interval, key_le, well_formed, has_key, overlaps}
-use Rattle.lsm_ranges.specs.Run.{in_order, how_many}
+use Rattle.lsm_ranges.specs.KeyRange.{Interval, key_le, is_well_formed, has_key, overlaps}
+use Rattle.lsm_ranges.specs.Run.{are_in_order, how_many}
 use Rattle.lsm_ranges.specs.Packing.{tables_of, holders, touches, with_table, put, put_all, count_to_last, AreInOrder, ArePacked, AreFormed, AreWellFormed, AreNotEmpty}
 use Rattle.lsm_ranges.specs.Links.{Mem}
 use Rattle.lsm_ranges.proofs.IntervalLemmas.{above, le_trans, lt_to_le, lt_then_le, shared_overlap}
@@ -191,7 +191,7 @@ module _ {T : Type 0} (range : T → Interval) where
   ins t [] = t ∷ []
   ins t (x ∷ xs) = cond (key_le (range x).min (range t).min) (x ∷ ins t xs) (t ∷ x ∷ xs)
 
-  with_table_is : (t : T) (run : List T) → in_order (map range run) ≡ true → with_table range t run ≡ ins t run
+  with_table_is : (t : T) (run : List T) → are_in_order (map range run) ≡ true → with_table range t run ≡ ins t run
   with_table_is t [] h = refl
   with_table_is t (x ∷ xs) h =
       elim (cases_Bool (key_le (range x).min (range t).min)) [
@@ -210,7 +210,7 @@ module _ {T : Type 0} (range : T → Interval) where
         | inr e ↦ rw e (and_from (p (range t)) (p (range x) && list_all p (map range xs)) h all)
       ]
 
-  ins_in_order : (t : T) (xs : List T) → in_order (map range xs) ≡ true → well_formed (range t) ≡ true → ((x : T) → Mem x xs → overlaps (range x) (range t) ≡ false) → in_order (map range (ins t xs)) ≡ true
+  ins_in_order : (t : T) (xs : List T) → are_in_order (map range xs) ≡ true → is_well_formed (range t) ≡ true → ((x : T) → Mem x xs → overlaps (range x) (range t) ≡ false) → are_in_order (map range (ins t xs)) ≡ true
   ins_in_order t [] h wt apart = in_order_from (range t) [] (record { formed = wt; before = refl; rest = refl })
   ins_in_order t (x ∷ xs) h wt apart =
       let k = parts (range x) (map range xs) h in
@@ -236,8 +236,8 @@ module _ {T : Type 0} (range : T → Interval) where
             }))
       ]
 
-  pub with_table_in_order : (t : T) (run : List T) → in_order (map range run) ≡ true → well_formed (range t) ≡ true → ((x : T) → Mem x run → overlaps (range x) (range t) ≡ false) → in_order (map range (with_table range t run)) ≡ true
-  with_table_in_order t run h wt apart = subst (λ (l : List T). in_order (map range l) ≡ true) (sym (with_table_is t run h)) (ins_in_order t run h wt apart)
+  pub with_table_in_order : (t : T) (run : List T) → are_in_order (map range run) ≡ true → is_well_formed (range t) ≡ true → ((x : T) → Mem x run → overlaps (range x) (range t) ≡ false) → are_in_order (map range (with_table range t run)) ≡ true
+  with_table_in_order t run h wt apart = subst (λ (l : List T). are_in_order (map range l) ≡ true) (sym (with_table_is t run h)) (ins_in_order t run h wt apart)
 
   some_more : (xs : List T) (n : ℕ) (t : T) → insert xs n t ≢ []
   some_more xs n t e = go (take n xs) e
@@ -246,7 +246,7 @@ module _ {T : Type 0} (range : T → Interval) where
       go [] h = absurd cc
       go (y ∷ ys) h = absurd cc
 
-  pub put_packed : (t : T) (runs : List (List T)) → well_formed (range t) ≡ true → ArePacked range runs → ArePacked range (put range t runs)
+  pub put_packed : (t : T) (runs : List (List T)) → is_well_formed (range t) ≡ true → ArePacked range runs → ArePacked range (put range t runs)
   put_packed t [] wt h = ((in_order_from (range t) [] (record { formed = wt; before = refl; rest = refl }), (λ e. absurd cc)), tt)
   put_packed t (run ∷ runs) wt h =
       elim (cases_Bool (touches range (range t) run || list_any (touches range (range t)) runs)) [
@@ -326,7 +326,7 @@ module _ {X : Type 0} (p : X → Bool) where
   count_start xs = ap (list_any p) (drop_of_length-le xs (omega arith))
 
 module _ {T : Type 0} (range : T → Interval) where
-  pub order_at : (runs : List (List T)) (n : ℕ) (d : List T) → n < length runs → AreInOrder range runs → in_order (map range (get_or runs n d)) ≡ true
+  pub order_at : (runs : List (List T)) (n : ℕ) (d : List T) → n < length runs → AreInOrder range runs → are_in_order (map range (get_or runs n d)) ≡ true
   order_at [] n d lt h = absurd (omega arith)
   order_at (run ∷ runs) zero d lt h = h.0
   order_at (run ∷ runs) (suc n) d lt h = order_at runs n d (omega arith) h.1
@@ -367,9 +367,9 @@ module _ {T : Type 0} (range : T → Interval) where
       ∙ ap (λ k. count_to_last (touches range k) items) is
 
   -- the run behind the last one that the table touches has it now
-  pub placed_in : (t : T) (view items : List (List T)) (r : Interval) (n : ℕ) (old new : List T) → view ≡ items → r ≡ range t → (AreInOrder range view → n ≡ count_to_last (touches range r) view) → n < length items → old ≡ get_or items n old → (in_order (map range old) ≡ true → new ≡ with_table range t old) → AreInOrder range items → set items n new ≡ put range t items
+  pub placed_in : (t : T) (view items : List (List T)) (r : Interval) (n : ℕ) (old new : List T) → view ≡ items → r ≡ range t → (AreInOrder range view → n ≡ count_to_last (touches range r) view) → n < length items → old ≡ get_or items n old → (are_in_order (map range old) ≡ true → new ≡ with_table range t old) → AreInOrder range items → set items n new ≡ put range t items
   placed_in t view items r n old new same is counted lt at more ordered =
-      let here : in_order (map range old) ≡ true = subst (λ (run : List T). in_order (map range run) ≡ true) (sym at) (order_at items n old lt ordered) in
+      let here : are_in_order (map range old) ≡ true = subst (λ (run : List T). are_in_order (map range run) ≡ true) (sym at) (order_at items n old lt ordered) in
       ap (λ run. set items n run) (more here ∙ ap (λ run. with_table range t run) at)
       ∙ put_set t items n old (count_at t view items r n same is counted ordered) lt
 
@@ -383,7 +383,7 @@ module _ {T : Type 0} (range : T → Interval) where
   in_order_of [] h = tt
   in_order_of (run ∷ runs) h = (h.0.0, in_order_of runs h.1)
 
-  pub formed_parts : (ts : List T) (t : T) → AreFormed range (ts ++ t ∷ []) → AreFormed range ts × (well_formed (range t) ≡ true)
+  pub formed_parts : (ts : List T) (t : T) → AreFormed range (ts ++ t ∷ []) → AreFormed range ts × (is_well_formed (range t) ≡ true)
   formed_parts [] t h = (tt, h.0)
   formed_parts (x ∷ xs) t h = let k = formed_parts xs t h.1 in ((h.0, k.0), k.1)
 

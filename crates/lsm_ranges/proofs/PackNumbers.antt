@@ -6,7 +6,7 @@ use Rattle.std.proofs.lemmas.Bool.{or_parts, cases_Bool, both_ways}
 use Rattle.lsm_ranges.specs.KeyRange.{Interval, key_le, overlaps}
 use Rattle.lsm_ranges.specs.Run.{how_many}
 use Rattle.lsm_ranges.specs.Packing.{tables_of, touches, with_table, put, put_all}
-use Rattle.lsm_ranges.specs.Links.{Mem, Apart, Steps, StepsTo}
+use Rattle.lsm_ranges.specs.Links.{Mem, AreApart, AreSteps, IsStepTo}
 use Rattle.lsm_ranges.proofs.PackLemmas.{mem-append_left, mem-append_right, mem-append_cases, any_found, overlaps_comm, untouched, put_here, put_behind}
 
 module _ {X : Type 0} where
@@ -105,11 +105,11 @@ module _ {X : Type 0} (f : X → Interval) (at : X → ℕ) where
   abbrev pub After : X → List X → Type 0
   After t xs = (y : X) → Mem y xs → overlaps (f y) (f t) ≡ true → at y < at t
 
-  put_apart : (t : X) (ls : List (List X)) → After t (tables_of ls) → Apart f at ls → Apart f at (put f t ls)
+  put_apart : (t : X) (ls : List (List X)) → After t (tables_of ls) → AreApart f at ls → AreApart f at (put f t ls)
   put_apart t [] later h = ((λ x y m n o. absurd n), tt)
   put_apart t (l ∷ ls) later h =
       elim (cases_Bool (touches f (f t) l || list_any (touches f (f t)) ls)) [
-        | inl e ↦ subst (Apart f at) (sym (put_behind f t l ls e)) (
+        | inl e ↦ subst (AreApart f at) (sym (put_behind f t l ls e)) (
           (λ x y m n o. elim (mem-put_cases t ls y n) [
             | inl k ↦ h.0 x y m k o
             | inr is ↦ subst (λ (v : X). at x < at v) (sym is) (later x (mem-append_left l (tables_of ls) x m) (subst (λ (v : X). overlaps (f x) (f v) ≡ true) is o))
@@ -118,7 +118,7 @@ module _ {X : Type 0} (f : X → Interval) (at : X → ℕ) where
         )
         | inr e ↦
             let parted = or_parts (touches f (f t) l) (list_any (touches f (f t)) ls) e in
-            subst (Apart f at) (sym (put_here f t l ls e)) (
+            subst (AreApart f at) (sym (put_here f t l ls e)) (
               (λ x y m n o. elim (mem-insert_cases l (how_many (λ r. key_le r.min (f t).min) (map f l)) t x m) [
                 | inl k ↦ h.0 x y k n o
                 | inr is ↦ absurd (both_ways (overlaps (f y) (f t)) (untouched f (f t) ls parted.1 y n) (overlaps_comm (f y) (f t) ∙ subst (λ (v : X). overlaps (f v) (f y) ≡ true) is o))
@@ -134,7 +134,7 @@ module _ {X : Type 0} (f : X → Interval) (at : X → ℕ) where
   one_of true b h k = refl
   one_of false b h k = absurd (both_ways b k h)
 
-  steps_put : (t : X) (l : List X) (ls : List (List X)) → After t (l ++ tables_of ls) → (touches f (f t) l || list_any (touches f (f t)) ls) ≡ true → StepsTo f at l ls → StepsTo f at l (put f t ls)
+  steps_put : (t : X) (l : List X) (ls : List (List X)) → After t (l ++ tables_of ls) → (touches f (f t) l || list_any (touches f (f t)) ls) ≡ true → IsStepTo f at l ls → IsStepTo f at l (put f t ls)
   steps_put t l [] later e h =
       λ y m. elim m [
         | inl is ↦
@@ -144,8 +144,8 @@ module _ {X : Type 0} (f : X → Interval) (at : X → ℕ) where
       ]
   steps_put t l (m ∷ ms) later e h =
       elim (cases_Bool (touches f (f t) m || list_any (touches f (f t)) ms)) [
-        | inl e2 ↦ subst (StepsTo f at l) (sym (put_behind f t m ms e2)) h
-        | inr e2 ↦ subst (StepsTo f at l) (sym (put_here f t m ms e2))
+        | inl e2 ↦ subst (IsStepTo f at l) (sym (put_behind f t m ms e2)) h
+        | inr e2 ↦ subst (IsStepTo f at l) (sym (put_here f t m ms e2))
             (λ y n. elim (mem-insert_cases m (how_many (λ r. key_le r.min (f t).min) (map f m)) t y n) [
               | inl old ↦ h y old
               | inr is ↦
@@ -154,23 +154,23 @@ module _ {X : Type 0} (f : X → Interval) (at : X → ℕ) where
             ])
       ]
 
-  put_steps : (t : X) (ls : List (List X)) → After t (tables_of ls) → Steps f at ls → Steps f at (put f t ls)
+  put_steps : (t : X) (ls : List (List X)) → After t (tables_of ls) → AreSteps f at ls → AreSteps f at (put f t ls)
   put_steps t [] later h = (tt, tt)
   put_steps t (l ∷ ls) later h =
       elim (cases_Bool (touches f (f t) l || list_any (touches f (f t)) ls)) [
-        | inl e ↦ subst (Steps f at) (sym (put_behind f t l ls e))
+        | inl e ↦ subst (AreSteps f at) (sym (put_behind f t l ls e))
             (steps_put t l ls later e h.0, put_steps t ls (λ y m o. later y (mem-append_right l (tables_of ls) y m) o) h.1)
-        | inr e ↦ subst (Steps f at) (sym (put_here f t l ls e)) (wider ls h.0, h.1)
+        | inr e ↦ subst (AreSteps f at) (sym (put_here f t l ls e)) (wider ls h.0, h.1)
       ]
     where
-      wider : (ms : List (List X)) → StepsTo f at l ms → StepsTo f at (with_table f t l) ms
+      wider : (ms : List (List X)) → IsStepTo f at l ms → IsStepTo f at (with_table f t l) ms
       wider [] k = tt
       wider (m ∷ ms) k = λ y n. let s = k y n in (s.0, mem-insert_old l (how_many (λ r. key_le r.min (f t).min) (map f l)) t s.0 s.1, s.2, s.3)
 
   -- what holds of the levels once all elements are put in
   pub record Stacked (ts : List X) (ls : List (List X)) : Type 0 where
-    pub apart : Apart f at ls
-    pub steps : Steps f at ls
+    pub apart : AreApart f at ls
+    pub steps : AreSteps f at ls
     pub from : (x : X) → Mem x (tables_of ls) → Mem x ts
     pub has : (x : X) → Mem x ts → Mem x (tables_of ls)
 

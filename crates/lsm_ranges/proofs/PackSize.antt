@@ -4,13 +4,13 @@ use Rattle.std.specs.Prelude.{◌≢◌, map, not, ◌&&◌, ◌||◌, ◌==◌,
 use Rattle.std.specs.List.{list_all, list_any, AllByRecursion, insert}
 use Rattle.std.proofs.lemmas.Bool.{and_parts, and_from, cases_Bool, both_ways, eqb-true, eq-eqb, leb-true, le-leb, lt-leb, not-true}
 use Rattle.sst_entries.specs.Key.{key_lt}
-use Rattle.lsm_ranges.specs.KeyRange.{Interval, key_le, overlaps, disjoint}
-use Rattle.lsm_ranges.specs.Run.{in_order, how_many}
+use Rattle.lsm_ranges.specs.KeyRange.{Interval, key_le, overlaps, are_disjoint}
+use Rattle.lsm_ranges.specs.Run.{are_in_order, how_many}
 use Rattle.lsm_ranges.specs.Packing.{tables_of, table_at, touches, with_table, put, put_all, ArePacked, AreFormed, AreDisjointRuns, IsLeastSize}
 use Rattle.lsm_ranges.proofs.IntervalLemmas.{le_from}
 use Rattle.lsm_ranges.proofs.RunLemmas.{parts}
 use Rattle.lsm_ranges.proofs.PackLemmas.{mem-append_left, mem-append_right, mem-append_cases, any_fails, any_found, any_from, overlaps_comm, put_all_packed, put_here, put_behind}
-use Rattle.lsm_ranges.specs.Links.{Mem, Tagged, tagged, tags_in, tags, Apart, Steps, StepsTo}
+use Rattle.lsm_ranges.specs.Links.{Mem, Tagged, tag, tags_in, tags, AreApart, AreSteps, IsStepTo}
 use Rattle.lsm_ranges.proofs.PackNumbers.{Rises, Stacked, stacked}
 
 -- how many numbers are at most m
@@ -81,7 +81,7 @@ module _ {X : Type 0} (f : X → Interval) (at : X → ℕ) where
   head_of (x ∷ xs) h = (x, inl refl)
 
   -- each level has an element whose number is above as many numbers as there are levels before it
-  climb : (N : X → ℕ) (ns : List ℕ) (l : List X) (ls : List (List X)) (k : ℕ) → ((x y : X) → Mem x (l ++ tables_of ls) → Mem y (l ++ tables_of ls) → overlaps (f x) (f y) ≡ true → at x < at y → N x < N y) → ((x : X) → Mem x (l ++ tables_of ls) → Contains ns (N x)) → ((x : X) → Mem x l → k ≤ upto ns (N x)) → l ≢ [] → ArePacked f ls → StepsTo f at l ls → Steps f at ls → k + length ls ≤ length ns
+  climb : (N : X → ℕ) (ns : List ℕ) (l : List X) (ls : List (List X)) (k : ℕ) → ((x y : X) → Mem x (l ++ tables_of ls) → Mem y (l ++ tables_of ls) → overlaps (f x) (f y) ≡ true → at x < at y → N x < N y) → ((x : X) → Mem x (l ++ tables_of ls) → Contains ns (N x)) → ((x : X) → Mem x l → k ≤ upto ns (N x)) → l ≢ [] → ArePacked f ls → IsStepTo f at l ls → AreSteps f at ls → k + length ls ≤ length ns
   climb N ns l [] k grows among counted some packed steps rest =
       let x = head_of l some in
       omega (arith, counted x.0 x.1, upto-length ns (N x.0))
@@ -101,7 +101,7 @@ module _ {X : Type 0} (f : X → Interval) (at : X → ℕ) where
       omega (arith, next)
 
   -- no list of fewer numbers than levels holds the numbers of all elements
-  pub at_least : (N : X → ℕ) (ns : List ℕ) (ls : List (List X)) → ((x y : X) → Mem x (tables_of ls) → Mem y (tables_of ls) → overlaps (f x) (f y) ≡ true → at x < at y → N x < N y) → ((x : X) → Mem x (tables_of ls) → Contains ns (N x)) → ArePacked f ls → Steps f at ls → length ls ≤ length ns
+  pub at_least : (N : X → ℕ) (ns : List ℕ) (ls : List (List X)) → ((x y : X) → Mem x (tables_of ls) → Mem y (tables_of ls) → overlaps (f x) (f y) ≡ true → at x < at y → N x < N y) → ((x : X) → Mem x (tables_of ls) → Contains ns (N x)) → ArePacked f ls → AreSteps f at ls → length ls ≤ length ns
   at_least N ns [] grows among packed steps = omega arith
   at_least N ns (l ∷ ls) grows among packed steps =
       let up : 1 + length ls ≤ length ns =
@@ -129,7 +129,7 @@ module _ {X : Type 0} (f : X → Interval) (at : X → ℕ) where
   clash x y lt o = both_ways (key_lt (f x).max (f y).min) (le_from (f y).min (f x).max (and_parts (key_le (f y).min (f x).max) (key_le (f x).min (f y).max) o).0) lt
 
   -- in a run that is in order, only a table itself overlaps it
-  same_in_order : (l : List X) → in_order (map f l) ≡ true → (x y : X) → Mem x l → Mem y l → overlaps (f x) (f y) ≡ true → x ≡ y
+  same_in_order : (l : List X) → are_in_order (map f l) ≡ true → (x y : X) → Mem x l → Mem y l → overlaps (f x) (f y) ≡ true → x ≡ y
   same_in_order [] h x y m n o = absurd m
   same_in_order (z ∷ zs) h x y m n o =
       let k = parts (f z) (map f zs) h in
@@ -164,7 +164,7 @@ module _ {X : Type 0} (f : X → Interval) (at : X → ℕ) where
       ]
 
   -- of elements that overlap, the one from the later run is in a later level
-  level_rises : (p q : X → Bool) (ls : List (List X)) → ((x y : X) → Mem x (tables_of ls) → Mem y (tables_of ls) → p x ≡ true → q y ≡ true → (overlaps (f x) (f y) ≡ true) × (at x < at y)) → Apart f at ls → ArePacked f ls → list_any p (tables_of ls) ≡ true → list_any q (tables_of ls) ≡ true → level_of p ls < level_of q ls
+  level_rises : (p q : X → Bool) (ls : List (List X)) → ((x y : X) → Mem x (tables_of ls) → Mem y (tables_of ls) → p x ≡ true → q y ≡ true → (overlaps (f x) (f y) ≡ true) × (at x < at y)) → AreApart f at ls → ArePacked f ls → list_any p (tables_of ls) ≡ true → list_any q (tables_of ls) ≡ true → level_of p ls < level_of q ls
   unfolding level_of
   level_rises p q [] pairs apart packed hp hq = absurd cc
   level_rises p q (l ∷ ls) pairs apart packed hp hq =
@@ -227,25 +227,25 @@ module _ {T : Type 0} where
       ap (λ n. table_at runs n x.place) run ∙ k.2
 
   -- each table has its tag
-  tag_in_run : (i j m : ℕ) (ts : List T) (t : T) → slice_get ts m ≡ Some t → Mem (tagged t i (j + m)) (tags_in i j ts)
+  tag_in_run : (i j m : ℕ) (ts : List T) (t : T) → slice_get ts m ≡ Some t → Mem (tag t i (j + m)) (tags_in i j ts)
   tag_in_run i j m [] t h = absurd cc
-  tag_in_run i j zero (x ∷ xs) t h = let e : x ≡ t = cc in let n : j + 0 ≡ j = omega arith in inl (ap (λ v. tagged v i (j + 0)) (sym e) ∙ ap (λ v. tagged x i v) n)
-  tag_in_run i j (suc m) (x ∷ xs) t h = let n : suc j + m ≡ j + suc m = omega arith in inr (subst (λ (v : ℕ). Mem (tagged t i v) (tags_in i (suc j) xs)) n (tag_in_run i (suc j) m xs t h))
+  tag_in_run i j zero (x ∷ xs) t h = let e : x ≡ t = cc in let n : j + 0 ≡ j = omega arith in inl (ap (λ v. tag v i (j + 0)) (sym e) ∙ ap (λ v. tag x i v) n)
+  tag_in_run i j (suc m) (x ∷ xs) t h = let n : suc j + m ≡ j + suc m = omega arith in inr (subst (λ (v : ℕ). Mem (tag t i v) (tags_in i (suc j) xs)) n (tag_in_run i (suc j) m xs t h))
 
-  tag_in_runs : (i n m : ℕ) (runs : List (List T)) (t : T) → table_at runs n m ≡ Some t → Mem (tagged t (i + n) m) (tags i runs)
+  tag_in_runs : (i n m : ℕ) (runs : List (List T)) (t : T) → table_at runs n m ≡ Some t → Mem (tag t (i + n) m) (tags i runs)
   tag_in_runs i n m [] t h = absurd cc
   tag_in_runs i zero m (run ∷ runs) t h =
       let a : i ≡ i + 0 = omega arith in
       let b : 0 + m ≡ m = omega arith in
-      mem-append_left (tags_in i 0 run) (tags (suc i) runs) (tagged t (i + 0) m)
-      (subst (λ (v : ℕ). Mem (tagged t v m) (tags_in i 0 run)) a (subst (λ (v : ℕ). Mem (tagged t i v) (tags_in i 0 run)) b (tag_in_run i 0 m run t h)))
+      mem-append_left (tags_in i 0 run) (tags (suc i) runs) (tag t (i + 0) m)
+      (subst (λ (v : ℕ). Mem (tag t v m) (tags_in i 0 run)) a (subst (λ (v : ℕ). Mem (tag t i v) (tags_in i 0 run)) b (tag_in_run i 0 m run t h)))
   tag_in_runs i (suc n) m (run ∷ runs) t h =
       let a : suc i + n ≡ i + suc n = omega arith in
-      mem-append_right (tags_in i 0 run) (tags (suc i) runs) (tagged t (i + suc n) m)
-      (subst (λ (v : ℕ). Mem (tagged t v m) (tags (suc i) runs)) a (tag_in_runs (suc i) n m runs t h))
+      mem-append_right (tags_in i 0 run) (tags (suc i) runs) (tag t (i + suc n) m)
+      (subst (λ (v : ℕ). Mem (tag t v m) (tags (suc i) runs)) a (tag_in_runs (suc i) n m runs t h))
 
-  pub has_tag : (runs : List (List T)) (i j : ℕ) (t : T) → table_at runs i j ≡ Some t → Mem (tagged t i j) (tags 0 runs)
-  has_tag runs i j t h = let a : 0 + i ≡ i = omega arith in subst (λ (v : ℕ). Mem (tagged t v j) (tags 0 runs)) a (tag_in_runs 0 i j runs t h)
+  pub has_tag : (runs : List (List T)) (i j : ℕ) (t : T) → table_at runs i j ≡ Some t → Mem (tag t i j) (tags 0 runs)
+  has_tag runs i j t h = let a : 0 + i ≡ i = omega arith in subst (λ (v : ℕ). Mem (tag t v j) (tags 0 runs)) a (tag_in_runs 0 i j runs t h)
 
   tables_in : (i j : ℕ) (ts : List T) → map (λ x. x.table) (tags_in i j ts) ≡ ts
   tables_in i j [] = refl
@@ -269,10 +269,10 @@ module _ {T : Type 0} (range : T → Interval) where
   mem_range i j [] x h = absurd h
   mem_range i j (t ∷ ts) x h = elim h [ inl e ↦ inl (ap (λ v. range v.table) e) | inr m ↦ inr (mem_range i (suc j) ts x m) ]
 
-  rises_in : (i j : ℕ) (ts : List T) → disjoint (map range ts) ≡ true → Rises range_of run_of (tags_in i j ts)
+  rises_in : (i j : ℕ) (ts : List T) → are_disjoint (map range ts) ≡ true → Rises range_of run_of (tags_in i j ts)
   rises_in i j [] h = tt
   rises_in i j (t ∷ ts) h =
-      let k = and_parts (not (list_any (overlaps (range t)) (map range ts))) (disjoint (map range ts)) h in (
+      let k = and_parts (not (list_any (overlaps (range t)) (map range ts))) (are_disjoint (map range ts)) h in (
         (λ y m o. absurd (both_ways (overlaps (range t) (range y.table)) (any_fails (overlaps (range t)) (map range ts) (not-true (list_any (overlaps (range t)) (map range ts)) k.0) (range y.table) (mem_range i (suc j) ts y m)) o)),
         rises_in i (suc j) ts k.1,
       )
@@ -284,7 +284,7 @@ module _ {T : Type 0} (range : T → Interval) where
     rises-append xs ys rx.1 ry (λ u v m n. later u v (inr m) n),
   )
 
-  pub rises_all : (i : ℕ) (runs : List (List T)) → AllByRecursion (λ run. disjoint (map range run) ≡ true) runs → Rises range_of run_of (tags i runs)
+  pub rises_all : (i : ℕ) (runs : List (List T)) → AllByRecursion (λ run. are_disjoint (map range run) ≡ true) runs → Rises range_of run_of (tags i runs)
   rises_all i [] h = tt
   rises_all i (run ∷ runs) h =
       rises-append (tags_in i 0 run) (tags (suc i) runs) (rises_in i 0 run h.0) (rises_all (suc i) runs h.1)
@@ -373,7 +373,7 @@ module _ {T : Type 0} (range : T → Interval) (runs : List (List T)) (h : AreDi
   is_at : ℕ → ℕ → Tagged T → Bool
   is_at i j x = (x.run == i) && (x.place == j)
 
-  is_at_itself : (t : T) (i j : ℕ) → is_at i j (tagged t i j) ≡ true
+  is_at_itself : (t : T) (i j : ℕ) → is_at i j (tag t i j) ≡ true
   unfolding is_at
   is_at_itself t i j = and_from (i == i) (j == j) (eq-eqb i i refl) (eq-eqb j j refl)
 
@@ -389,7 +389,7 @@ module _ {T : Type 0} (range : T → Interval) (runs : List (List T)) (h : AreDi
       (cc, run)
 
   found_at : (i j : ℕ) (t : T) → table_at runs i j ≡ Some t → list_any (is_at i j) (tables_of levels) ≡ true
-  found_at i j t a = any_from (is_at i j) (tables_of levels) (tagged t i j) (levels_stacked.has (tagged t i j) (has_tag runs i j t a)) (is_at_itself t i j)
+  found_at i j t a = any_from (is_at i j) (tables_of levels) (tag t i j) (levels_stacked.has (tag t i j) (has_tag runs i j t a)) (is_at_itself t i j)
 
   least_levels : IsLeastSize range runs (length levels)
   least_levels = record {

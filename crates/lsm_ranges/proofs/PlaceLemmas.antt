@@ -9,7 +9,7 @@ use Rattle.std.proofs.lemmas.List.Sorted.{IsPermutation-refl, IsPermutation-tran
 use Rattle.std.proofs.lemmas.Option.{get_or_from_slice_get}
 use Rattle.lsm_ranges.specs.KeyRange.{Interval, key_le, overlaps}
 use Rattle.lsm_ranges.specs.Run.{how_many}
-use Rattle.lsm_ranges.specs.Packing.{count_to_last, least_above, number_behind, numbered_after, numbers_of, put, put_all, tables_numbered, touches, with_table, ArePlaced, Numbered}
+use Rattle.lsm_ranges.specs.Packing.{count_to_last, least_above, number_behind, numbering_after, numbers_of, put, put_all, tables_numbered, touches, with_table, ArePlaced, Numbered}
 
 max_suc : (a b : ℕ) → max (suc a) (suc b) ≡ suc (max a b)
 max_suc a b = simp unary_clauses
@@ -177,7 +177,7 @@ module _ {T : Type 0} (range : T → Interval) where
         ];
       }
 
-  stand_all : (ts : List T) (xs : List (Numbered T)) (runs : List (List T)) → Stand xs runs → Stand (numbered_after range xs ts) (put_all range ts runs)
+  stand_all : (ts : List T) (xs : List (Numbered T)) (runs : List (List T)) → Stand xs runs → Stand (numbering_after range xs ts) (put_all range ts runs)
   stand_all [] xs runs h = h
   stand_all (t ∷ ts) xs runs h = stand_all ts (record { table = t; number = number_behind range xs t } ∷ xs) (put range t runs) (stand_more t xs runs h)
 
@@ -187,5 +187,5 @@ module _ {T : Type 0} (range : T → Interval) where
       let stand = stand_all ts [] [] (record { count = refl; members = λ n. IsPermutation-refl [] }) in
       record {
         count = stand.count;
-        members = λ n run at. subst (λ (l : List T). IsPermutation (tables_numbered (numbered_after range [] ts) n) l) (get_or_from_slice_get (put_all range ts []) n run [] at) (stand.members n);
+        members = λ n run at. subst (λ (l : List T). IsPermutation (tables_numbered (numbering_after range [] ts) n) l) (get_or_from_slice_get (put_all range ts []) n run [] at) (stand.members n);
       }

@@ -11,21 +11,21 @@ use Rattle.std.specs.declared.ops.Bound.{Bound}
 use Rattle.std.specs.declared.ops.Bound.TheVariants.{Included}
 use Rattle.std.proofs.lemmas.Bool.{and_parts, and_from, and_right, ne_eqb, cases_Bool, both_ways, not_from_false, false_from_ne_true, not-true}
 use Rattle.sst_entries.specs.Key.{key_lt}
-use Rattle.lsm_ranges.specs.KeyRange.{Interval, interval, key_le, well_formed, has_key, has_range, overlaps}
+use Rattle.lsm_ranges.specs.KeyRange.{Interval, interval, key_le, is_well_formed, has_key, has_range, overlaps}
 use Rattle.sst_entries.specs.Point.{is_from}
-use Rattle.lsm_ranges.specs.Run.{in_order, ends_before, starts_within, how_many, places, overlap_indexes, first_to_last, last_max}
+use Rattle.lsm_ranges.specs.Run.{are_in_order, ends_before, starts_within, how_many, places, overlap_indexes, first_to_last, last_max}
 use Rattle.sst_entries.proofs.OrderLemmas.{lt_trans}
 use Rattle.lsm_ranges.proofs.IntervalLemmas.{le_trans, le_not, lt_to_le, lt_then_le, le_then_lt, lower_up, upper_down}
 
 -- an interval that passes shows that each that ends before it passes too
 pub record Falls (p : Interval → Bool) : Type 0 where
-  pub at : (a b : Interval) → well_formed a ≡ true → well_formed b ≡ true → key_lt a.max b.min ≡ true → p b ≡ true → p a ≡ true
+  pub at : (a b : Interval) → is_well_formed a ≡ true → is_well_formed b ≡ true → key_lt a.max b.min ≡ true → p b ≡ true → p a ≡ true
 
 -- the ends of intervals of which one ends before the other
-mins : (a b : Interval) → well_formed a ≡ true → key_lt a.max b.min ≡ true → key_le a.min b.min ≡ true
+mins : (a b : Interval) → is_well_formed a ≡ true → key_lt a.max b.min ≡ true → key_le a.min b.min ≡ true
 mins a b wa h = lt_to_le a.min b.min (le_then_lt a.min a.max b.min wa h)
 
-maxs : (a b : Interval) → well_formed b ≡ true → key_lt a.max b.min ≡ true → key_le a.max b.max ≡ true
+maxs : (a b : Interval) → is_well_formed b ≡ true → key_lt a.max b.min ≡ true → key_le a.max b.max ≡ true
 maxs a b wb h = lt_to_le a.max b.max (lt_then_le a.max b.min b.max h wb)
 
 not_not : (b : Bool) → not b ≡ true → b ≡ true → ⊥
@@ -48,20 +48,20 @@ falls-ends_within key = record { at = λ a b wa wb h p. le_trans a.max b.max key
 
 -- the parts of an order
 pub record Parts (r : Interval) (rs : List Interval) : Type 0 where
-  pub formed : well_formed r ≡ true
+  pub formed : is_well_formed r ≡ true
   pub before : list_all (λ later. key_lt r.max later.min) rs ≡ true
-  pub rest : in_order rs ≡ true
+  pub rest : are_in_order rs ≡ true
 
-pub parts : (r : Interval) (rs : List Interval) → in_order (r ∷ rs) ≡ true → Parts r rs
+pub parts : (r : Interval) (rs : List Interval) → are_in_order (r ∷ rs) ≡ true → Parts r rs
 parts r rs h =
-    let x = and_parts (well_formed r && list_all (λ later. key_lt r.max later.min) rs) (in_order rs) h in
-    let y = and_parts (well_formed r) (list_all (λ later. key_lt r.max later.min) rs) x.0 in
+    let x = and_parts (is_well_formed r && list_all (λ later. key_lt r.max later.min) rs) (are_in_order rs) h in
+    let y = and_parts (is_well_formed r) (list_all (λ later. key_lt r.max later.min) rs) x.0 in
     record { formed = y.0; before = y.1; rest = x.1 }
 
-pub in_order_from : (r : Interval) (rs : List Interval) → Parts r rs → in_order (r ∷ rs) ≡ true
+pub in_order_from : (r : Interval) (rs : List Interval) → Parts r rs → are_in_order (r ∷ rs) ≡ true
 in_order_from r rs h =
-    and_from (well_formed r && list_all (λ later. key_lt r.max later.min) rs) (in_order rs)
-    (and_from (well_formed r) (list_all (λ later. key_lt r.max later.min) rs) h.formed h.before) h.rest
+    and_from (is_well_formed r && list_all (λ later. key_lt r.max later.min) rs) (are_in_order rs)
+    (and_from (is_well_formed r) (list_all (λ later. key_lt r.max later.min) rs) h.formed h.before) h.rest
 
 module _ {T : Type 0} (f : T → Interval) where
   -- what holds of each of a list holds of the one at a place
@@ -70,12 +70,12 @@ module _ {T : Type 0} (f : T → Interval) where
   all_at p (x ∷ xs) h zero d lt = (and_parts (p (f x)) (list_all p (map f xs)) h).0
   all_at p (x ∷ xs) h (suc j) d lt = all_at p xs (and_parts (p (f x)) (list_all p (map f xs)) h).1 j d (omega arith)
 
-  formed_at : (xs : List T) → in_order (map f xs) ≡ true → (j : ℕ) (d : T) → j < length xs → well_formed (f (get_or xs j d)) ≡ true
+  formed_at : (xs : List T) → are_in_order (map f xs) ≡ true → (j : ℕ) (d : T) → j < length xs → is_well_formed (f (get_or xs j d)) ≡ true
   formed_at [] h j d lt = absurd (omega arith)
   formed_at (x ∷ xs) h zero d lt = (parts (f x) (map f xs) h).formed
   formed_at (x ∷ xs) h (suc j) d lt = formed_at xs (parts (f x) (map f xs) h).rest j d (omega arith)
 
-  pub partitioned : (p : Interval → Bool) → Falls p → (xs : List T) → in_order (map f xs) ≡ true → IsPartitionedBy (λ t. p (f t)) xs
+  pub partitioned : (p : Interval → Bool) → Falls p → (xs : List T) → are_in_order (map f xs) ≡ true → IsPartitionedBy (λ t. p (f t)) xs
   partitioned p falls [] h i j d le lt q = absurd (omega arith)
   partitioned p falls (x ∷ xs) h zero zero d le lt q = q
   partitioned p falls (x ∷ xs) h zero (suc j) d le lt q =
@@ -93,7 +93,7 @@ module _ {T : Type 0} (f : T → Interval) where
       ]
 
   -- a later interval fails where an earlier one does
-  later_fails : (p : Interval → Bool) → Falls p → (r : Interval) → well_formed r ≡ true → p r ≡ false → (xs : List T) → list_all (λ later. key_lt r.max later.min) (map f xs) ≡ true → in_order (map f xs) ≡ true → list_all (λ t. not (p (f t))) xs ≡ true
+  later_fails : (p : Interval → Bool) → Falls p → (r : Interval) → is_well_formed r ≡ true → p r ≡ false → (xs : List T) → list_all (λ later. key_lt r.max later.min) (map f xs) ≡ true → are_in_order (map f xs) ≡ true → list_all (λ t. not (p (f t))) xs ≡ true
   later_fails p falls r wr no_pass [] before ordered = refl
   later_fails p falls r wr no_pass (x ∷ xs) before ordered =
       let b = and_parts (key_lt r.max (f x).min) (list_all (λ later. key_lt r.max later.min) (map f xs)) before in
@@ -102,7 +102,7 @@ module _ {T : Type 0} (f : T → Interval) where
       (not_by (p (f x)) (λ q. both_ways (p r) no_pass (falls.at r (f x) wr k.formed b.0 q)))
       (later_fails p falls r wr no_pass xs b.1 k.rest)
 
-  pub in_order-drop : (n : ℕ) (xs : List T) → in_order (map f xs) ≡ true → in_order (map f (drop n xs)) ≡ true
+  pub in_order-drop : (n : ℕ) (xs : List T) → are_in_order (map f xs) ≡ true → are_in_order (map f (drop n xs)) ≡ true
   in_order-drop zero xs h = h
   in_order-drop (suc n) [] h = h
   in_order-drop (suc n) (x ∷ xs) h = in_order-drop n xs (parts (f x) (map f xs) h).rest
@@ -147,12 +147,12 @@ module _ {T : Type 0} (f : T → Interval) (p : Interval → Bool) (falls : Fall
     pub back : drop (how_many p (map f xs)) xs ≡ filter (λ t. not (p (f t))) xs
 
   -- where the first fails, none passes
-  pub none_count : (x : T) (xs : List T) → in_order (map f (x ∷ xs)) ≡ true → p (f x) ≡ false → how_many p (map f xs) ≡ 0
+  pub none_count : (x : T) (xs : List T) → are_in_order (map f (x ∷ xs)) ≡ true → p (f x) ≡ false → how_many p (map f xs) ≡ 0
   none_count x xs h e =
       let k = parts (f x) (map f xs) h in
       how_many-map f p xs ∙ ap length (none_pass (λ t. p (f t)) xs (later_fails f p falls (f x) k.formed e xs k.before k.rest)).0
 
-  pub splits : (xs : List T) → in_order (map f xs) ≡ true → Splits xs
+  pub splits : (xs : List T) → are_in_order (map f xs) ≡ true → Splits xs
   splits [] h = record { front = refl; back = refl }
   splits (x ∷ xs) h =
       let k = parts (f x) (map f xs) h in
@@ -174,16 +174,16 @@ module _ {T : Type 0} (f : T → Interval) (p : Interval → Bool) (falls : Fall
 
 module _ {T : Type 0} (f : T → Interval) where
   -- the places that pass, out of those that fail before them: what passes both tests
-  pub middle : (e s q : Interval → Bool) → Falls e → Falls s → ((r : Interval) → q r ≡ (not (e r) && s r)) → (xs rest part : List T) (n m : ℕ) → in_order (map f xs) ≡ true → n ≡ how_many e (map f xs) → rest ≡ drop n xs → m ≡ how_many s (map f rest) → part ≡ take m rest → part ≡ filter (λ t. q (f t)) xs
+  pub middle : (e s q : Interval → Bool) → Falls e → Falls s → ((r : Interval) → q r ≡ (not (e r) && s r)) → (xs rest part : List T) (n m : ℕ) → are_in_order (map f xs) ≡ true → n ≡ how_many e (map f xs) → rest ≡ drop n xs → m ≡ how_many s (map f rest) → part ≡ take m rest → part ≡ filter (λ t. q (f t)) xs
   middle e s q falls_e falls_s agree xs rest part n m ordered n_is rest_is m_is part_is =
       let back : rest ≡ filter (λ t. not (e (f t))) xs = rest_is ∙ ap (λ k. drop k xs) n_is ∙ (splits f e falls_e xs ordered).back in
-      let rest_ordered : in_order (map f rest) ≡ true = subst (λ (ys : List T). in_order (map f ys) ≡ true) (sym rest_is) (in_order-drop f n xs ordered) in
+      let rest_ordered : are_in_order (map f rest) ≡ true = subst (λ (ys : List T). are_in_order (map f ys) ≡ true) (sym rest_is) (in_order-drop f n xs ordered) in
       part_is ∙ ap (λ k. take k rest) m_is ∙ (splits f s falls_s rest rest_ordered).front
       ∙ ap (λ ys. filter (λ t. s (f t)) ys) back
       ∙ filter_both (λ t. e (f t)) (λ t. s (f t)) (λ t. q (f t)) (λ t. agree (f t)) xs
 
-  pub rest_in_order : (xs rest : List T) (n : ℕ) → rest ≡ drop n xs → in_order (map f xs) ≡ true → in_order (map f rest) ≡ true
-  rest_in_order xs rest n is ordered = subst (λ (ys : List T). in_order (map f ys) ≡ true) (sym is) (in_order-drop f n xs ordered)
+  pub rest_in_order : (xs rest : List T) (n : ℕ) → rest ≡ drop n xs → are_in_order (map f xs) ≡ true → are_in_order (map f rest) ≡ true
+  rest_in_order xs rest n is ordered = subst (λ (ys : List T). are_in_order (map f ys) ≡ true) (sym is) (in_order-drop f n xs ordered)
 
   map-drop : (n : ℕ) (xs : List T) → map f (drop n xs) ≡ drop n (map f xs)
   map-drop zero xs = refl
@@ -208,7 +208,7 @@ module _ {T : Type 0} (f : T → Interval) where
   passes_first : (s : Interval → Bool) (t : T) (ts : List T) → s (f t) ≡ true → first (filter (λ x. s (f x)) (t ∷ ts)) ≡ Some t
   passes_first s t ts e = rw e refl
 
-  none_after : (s : Interval → Bool) → Falls s → (t : T) (ts : List T) → in_order (map f (t ∷ ts)) ≡ true → s (f t) ≡ false → first (filter (λ x. s (f x)) (t ∷ ts)) ≡ None
+  none_after : (s : Interval → Bool) → Falls s → (t : T) (ts : List T) → are_in_order (map f (t ∷ ts)) ≡ true → s (f t) ≡ false → first (filter (λ x. s (f x)) (t ∷ ts)) ≡ None
   none_after s falls t ts ordered e =
       let k = parts (f t) (map f ts) ordered in
       let none = none_pass (λ x. s (f x)) ts (later_fails f s falls (f t) k.formed e ts k.before k.rest) in
@@ -221,7 +221,7 @@ module _ {T : Type 0} (f : T → Interval) where
   swapped false false = refl
 
   -- of the tables that do not end before the key, the first decides
-  module _ (key : List ℕ) (xs rest : List T) (n : ℕ) (ordered : in_order (map f xs) ≡ true) (n_is : n ≡ how_many (ends_before (Included key)) (map f xs)) (rest_is : rest ≡ drop n xs) where
+  module _ (key : List ℕ) (xs rest : List T) (n : ℕ) (ordered : are_in_order (map f xs) ≡ true) (n_is : n ≡ how_many (ends_before (Included key)) (map f xs)) (rest_is : rest ≡ drop n xs) where
     key_among : find (λ t. has_key (f t) key) xs ≡ first (filter (λ t. key_le (f t).min key) rest)
     key_among =
         let back : rest ≡ filter (λ t. not (ends_before (Included key) (f t))) xs = rest_is ∙ ap (λ k. drop k xs) n_is ∙ (splits f (ends_before (Included key)) (falls-ends_before (Included key)) xs ordered).back in
@@ -239,7 +239,7 @@ module _ {T : Type 0} (f : T → Interval) where
     pub key_past : (t : T) → Some t ≡ slice_get rest 0 → key_le (f t).min key ≡ false → None ≡ find (λ t'. has_key (f t') key) xs
     key_past t at starts = sym (key_among ∙ go rest at (rest_in_order xs rest n rest_is ordered))
       where
-        go : (ys : List T) → Some t ≡ slice_get ys 0 → in_order (map f ys) ≡ true → first (filter (λ x. key_le (f x).min key) ys) ≡ None
+        go : (ys : List T) → Some t ≡ slice_get ys 0 → are_in_order (map f ys) ≡ true → first (filter (λ x. key_le (f x).min key) ys) ≡ None
         go [] h o = absurd cc
         go (y ∷ ys) h o = let e : t ≡ y = cc in none_after (λ r. key_le r.min key) (falls-starts_within (Included key)) y ys o (subst (λ (v : T). key_le (f v).min key ≡ false) e starts)
 
@@ -267,18 +267,18 @@ module _ {T : Type 0} (f : T → Interval) where
 -- after the last greatest key, each interval is well-formed and starts above the one before it
 abbrev pub ascends_after : Option (List ℕ) → List Interval → Bool
 ascends_after last [] = true
-ascends_after last (r ∷ rs) = well_formed r && option_map_or (λ k. key_lt k r.min) last true && ascends_after (Some r.max) rs
+ascends_after last (r ∷ rs) = is_well_formed r && option_map_or (λ k. key_lt k r.min) last true && ascends_after (Some r.max) rs
 
-pub further : (k : List ℕ) (r : Interval) (rs : List Interval) → well_formed r ≡ true → key_lt k r.min ≡ true → list_all (λ later. key_lt r.max later.min) rs ≡ true → list_all (λ later. key_lt k later.min) rs ≡ true
+pub further : (k : List ℕ) (r : Interval) (rs : List Interval) → is_well_formed r ≡ true → key_lt k r.min ≡ true → list_all (λ later. key_lt r.max later.min) rs ≡ true → list_all (λ later. key_lt k later.min) rs ≡ true
 further k r [] w e all = refl
 further k r (s ∷ rs) w e all =
     let x = and_parts (key_lt r.max s.min) (list_all (λ later. key_lt r.max later.min) rs) all in
     and_from (key_lt k s.min) (list_all (λ later. key_lt k later.min) rs) (lt_trans k r.max s.min (lt_then_le k r.min r.max e w) x.0) (further k r rs w e x.1)
 
-ascends_is : (k : List ℕ) (rs : List Interval) → ascends_after (Some k) rs ≡ (list_all (λ r. key_lt k r.min) rs && in_order rs)
+ascends_is : (k : List ℕ) (rs : List Interval) → ascends_after (Some k) rs ≡ (list_all (λ r. key_lt k r.min) rs && are_in_order rs)
 ascends_is k [] = refl
 ascends_is k (r ∷ rs) =
-    elim (cases_Bool (well_formed r)) [
+    elim (cases_Bool (is_well_formed r)) [
       | inl w ↦
           elim (cases_Bool (key_lt k r.min)) [
             | inl e ↦
@@ -292,10 +292,10 @@ ascends_is k (r ∷ rs) =
     ]
 
 -- tables in order ascend from the first on
-pub ascends_from_first : (rs : List Interval) → ascends_after None rs ≡ in_order rs
+pub ascends_from_first : (rs : List Interval) → ascends_after None rs ≡ are_in_order rs
 ascends_from_first [] = refl
 ascends_from_first (r ∷ rs) =
-    elim (cases_Bool (well_formed r)) [
+    elim (cases_Bool (is_well_formed r)) [
       | inl w ↦ rw (w, ascends_is r.max rs) refl
       | inr w ↦ rw w refl
     ]
@@ -306,9 +306,9 @@ kept_twice false b = refl
 
 module _ {T : Type 0} (f : T → Interval) where
   -- what the two counts of a search cut out of the tables
-  pub found_between : (e s : List ℕ → Interval → Bool) (q : Interval → Interval → Bool) → ((k : List ℕ) → Falls (e k)) → ((k : List ℕ) → Falls (s k)) → ((kr r : Interval) → q kr r ≡ (not (e kr.min r) && s kr.max r)) → (kr : Interval) (whole tables rest part : List T) (low high : List ℕ) (n m : ℕ) → tables ≡ whole → low ≡ kr.min → high ≡ kr.max → (in_order (map f tables) ≡ true → n ≡ how_many (e low) (map f tables)) → rest ≡ drop n tables → (in_order (map f rest) ≡ true → m ≡ how_many (s high) (map f rest)) → part ≡ take m rest → in_order (map f whole) ≡ true → part ≡ filter (λ t. q kr (f t)) whole
+  pub found_between : (e s : List ℕ → Interval → Bool) (q : Interval → Interval → Bool) → ((k : List ℕ) → Falls (e k)) → ((k : List ℕ) → Falls (s k)) → ((kr r : Interval) → q kr r ≡ (not (e kr.min r) && s kr.max r)) → (kr : Interval) (whole tables rest part : List T) (low high : List ℕ) (n m : ℕ) → tables ≡ whole → low ≡ kr.min → high ≡ kr.max → (are_in_order (map f tables) ≡ true → n ≡ how_many (e low) (map f tables)) → rest ≡ drop n tables → (are_in_order (map f rest) ≡ true → m ≡ how_many (s high) (map f rest)) → part ≡ take m rest → are_in_order (map f whole) ≡ true → part ≡ filter (λ t. q kr (f t)) whole
   found_between e s q falls_e falls_s agree kr whole tables rest part low high n m same low_is high_is n_is rest_is m_is part_is whole_ordered =
-      let ordered : in_order (map f tables) ≡ true = subst (λ (ys : List T). in_order (map f ys) ≡ true) (sym same) whole_ordered in
+      let ordered : are_in_order (map f tables) ≡ true = subst (λ (ys : List T). are_in_order (map f ys) ≡ true) (sym same) whole_ordered in
       middle f (e kr.min) (s kr.max) (q kr) (falls_e kr.min) (falls_s kr.max) (agree kr) tables rest part n m ordered
       (n_is ordered ∙ ap (λ k. how_many (e k) (map f tables)) low_is)
       rest_is
@@ -316,15 +316,15 @@ module _ {T : Type 0} (f : T → Interval) where
       part_is
       ∙ ap (λ ys. filter (λ t. q kr (f t)) ys) same
 
-  pub overlapping : (kr : Interval) (whole tables rest part : List T) (low high : List ℕ) (n m : ℕ) → tables ≡ whole → low ≡ kr.min → high ≡ kr.max → (in_order (map f tables) ≡ true → n ≡ how_many (ends_before (Included low)) (map f tables)) → rest ≡ drop n tables → (in_order (map f rest) ≡ true → m ≡ how_many (starts_within (Included high)) (map f rest)) → part ≡ take m rest → in_order (map f whole) ≡ true → part ≡ filter (λ t. overlaps (f t) kr) whole
+  pub overlapping : (kr : Interval) (whole tables rest part : List T) (low high : List ℕ) (n m : ℕ) → tables ≡ whole → low ≡ kr.min → high ≡ kr.max → (are_in_order (map f tables) ≡ true → n ≡ how_many (ends_before (Included low)) (map f tables)) → rest ≡ drop n tables → (are_in_order (map f rest) ≡ true → m ≡ how_many (starts_within (Included high)) (map f rest)) → part ≡ take m rest → are_in_order (map f whole) ≡ true → part ≡ filter (λ t. overlaps (f t) kr) whole
   overlapping = found_between (λ k r. ends_before (Included k) r) (λ k r. starts_within (Included k) r) (λ kr r. overlaps r kr) (λ k. falls-ends_before (Included k)) (λ k. falls-starts_within (Included k)) (λ kr r. kept_twice (key_le kr.min r.max) (key_le r.min kr.max))
 
-  pub contained : (kr : Interval) (whole tables rest part : List T) (low high : List ℕ) (n m : ℕ) → tables ≡ whole → low ≡ kr.min → high ≡ kr.max → (in_order (map f tables) ≡ true → n ≡ how_many (λ r. key_lt r.min low) (map f tables)) → rest ≡ drop n tables → (in_order (map f rest) ≡ true → m ≡ how_many (λ r. key_le r.max high) (map f rest)) → part ≡ take m rest → in_order (map f whole) ≡ true → part ≡ filter (λ t. has_range kr (f t)) whole
+  pub contained : (kr : Interval) (whole tables rest part : List T) (low high : List ℕ) (n m : ℕ) → tables ≡ whole → low ≡ kr.min → high ≡ kr.max → (are_in_order (map f tables) ≡ true → n ≡ how_many (λ r. key_lt r.min low) (map f tables)) → rest ≡ drop n tables → (are_in_order (map f rest) ≡ true → m ≡ how_many (λ r. key_le r.max high) (map f rest)) → part ≡ take m rest → are_in_order (map f whole) ≡ true → part ≡ filter (λ t. has_range kr (f t)) whole
   contained = found_between (λ k r. key_lt r.min k) (λ k r. key_le r.max k) (λ kr r. has_range kr r) falls-starts_before falls-ends_within (λ kr r. ap (λ b. b && key_le r.max kr.max) (le_not kr.min r.min))
 
-  pub indexes_found : (lower upper : Bound (List ℕ)) (whole tables rest : List T) (n m : ℕ) → tables ≡ whole → (in_order (map f tables) ≡ true → n ≡ how_many (ends_before lower) (map f tables)) → rest ≡ drop n tables → (in_order (map f rest) ≡ true → m ≡ how_many (starts_within upper) (map f rest)) → in_order (map f whole) ≡ true → overlap_indexes lower upper (map f whole) ≡ places n m
+  pub indexes_found : (lower upper : Bound (List ℕ)) (whole tables rest : List T) (n m : ℕ) → tables ≡ whole → (are_in_order (map f tables) ≡ true → n ≡ how_many (ends_before lower) (map f tables)) → rest ≡ drop n tables → (are_in_order (map f rest) ≡ true → m ≡ how_many (starts_within upper) (map f rest)) → are_in_order (map f whole) ≡ true → overlap_indexes lower upper (map f whole) ≡ places n m
   indexes_found lower upper whole tables rest n m same n_is rest_is m_is whole_ordered =
-      let ordered : in_order (map f tables) ≡ true = subst (λ (ys : List T). in_order (map f ys) ≡ true) (sym same) whole_ordered in
+      let ordered : are_in_order (map f tables) ≡ true = subst (λ (ys : List T). are_in_order (map f ys) ≡ true) (sym same) whole_ordered in
       ap (λ ys. overlap_indexes lower upper (map f ys)) (sym same)
       ∙ indexes f lower upper tables rest n m (n_is ordered) rest_is (m_is (rest_in_order f tables rest n rest_is ordered))
 
@@ -335,7 +335,7 @@ pub places-some : (n m : ℕ) → (m ≡ 0 → ⊥) → places n m ≡ Some (n, 
 places-some n m h = let e : (m == 0) ≡ false = ne_eqb m 0 h in rw e refl
 
 module _ {T : Type 0} (f : T → Interval) where
-  step : (last : Option (List ℕ)) (xs : List T) (i : ℕ) (x : T) (r : Interval) (b : Bool) → i < length xs → x ≡ get_or xs i x → r ≡ f x → b ≡ (well_formed r && option_map_or (λ k. key_lt k r.min) last true) → ascends_after last (map f (drop i xs)) ≡ (b && ascends_after (Some r.max) (map f (drop (i + 1) xs)))
+  step : (last : Option (List ℕ)) (xs : List T) (i : ℕ) (x : T) (r : Interval) (b : Bool) → i < length xs → x ≡ get_or xs i x → r ≡ f x → b ≡ (is_well_formed r && option_map_or (λ k. key_lt k r.min) last true) → ascends_after last (map f (drop i xs)) ≡ (b && ascends_after (Some r.max) (map f (drop (i + 1) xs)))
   step last xs i x r b lt at r_is b_is =
       at_drop_more (λ ys. ascends_after last (map f ys)) xs i x lt
       ∙ ap (λ y. ascends_after last (f y ∷ map f (drop (i + 1) xs))) (sym at)
@@ -343,11 +343,11 @@ module _ {T : Type 0} (f : T → Interval) where
       ∙ ap (λ v. v && ascends_after (Some r.max) (map f (drop (i + 1) xs))) (sym b_is)
 
   -- one more table that goes on, or one that does not
-  pub goes_on : (last : Option (List ℕ)) (xs : List T) (i : ℕ) (x : T) (r : Interval) (b : Bool) → i < length xs → x ≡ get_or xs i x → r ≡ f x → b ≡ (well_formed r && option_map_or (λ k. key_lt k r.min) last true) → b ≡ true → ascends_after last (map f (drop i xs)) ≡ ascends_after (Some r.max) (map f (drop (i + 1) xs))
+  pub goes_on : (last : Option (List ℕ)) (xs : List T) (i : ℕ) (x : T) (r : Interval) (b : Bool) → i < length xs → x ≡ get_or xs i x → r ≡ f x → b ≡ (is_well_formed r && option_map_or (λ k. key_lt k r.min) last true) → b ≡ true → ascends_after last (map f (drop i xs)) ≡ ascends_after (Some r.max) (map f (drop (i + 1) xs))
   goes_on last xs i x r b lt at r_is b_is h =
       step last xs i x r b lt at r_is b_is ∙ ap (λ v. v && ascends_after (Some r.max) (map f (drop (i + 1) xs))) h
 
-  pub stops : (last : Option (List ℕ)) (xs : List T) (i : ℕ) (x : T) (r : Interval) (b : Bool) → i < length xs → x ≡ get_or xs i x → r ≡ f x → b ≡ (well_formed r && option_map_or (λ k. key_lt k r.min) last true) → b ≡ false → ascends_after last (map f (drop i xs)) ≡ false
+  pub stops : (last : Option (List ℕ)) (xs : List T) (i : ℕ) (x : T) (r : Interval) (b : Bool) → i < length xs → x ≡ get_or xs i x → r ≡ f x → b ≡ (is_well_formed r && option_map_or (λ k. key_lt k r.min) last true) → b ≡ false → ascends_after last (map f (drop i xs)) ≡ false
   stops last xs i x r b lt at r_is b_is h =
       step last xs i x r b lt at r_is b_is ∙ ap (λ v. v && ascends_after (Some r.max) (map f (drop (i + 1) xs))) h
 

@@ -8,7 +8,7 @@ use Rattle.std.proofs.lemmas.Bool.{cases_Bool, cond-true, cond-false}
 use Rattle.std.proofs.lemmas.List.{at_drop_more}
 use Rattle.std.proofs.lemmas.List.Elements.{All-push, Contains-push, Contains-append_left}
 use Rattle.sst_entries.specs.Key.{key_lt}
-use Rattle.lsm_ranges.specs.KeyRange.{Interval, interval, key_le, Spans, IsAggregate, overlaps, disjoint, intervals}
+use Rattle.lsm_ranges.specs.KeyRange.{Interval, interval, key_le, Spans, IsAggregate, overlaps, are_disjoint, intervals}
 use Rattle.lsm_ranges.proofs.IntervalLemmas.{le_refl, le_trans, le_to, lt_to_le}
 
 -- the lesser and the greater of two keys, the first where they are the same
@@ -77,23 +77,23 @@ any-map : {X Y : Type 0} (p : Y → Bool) (f : X → Y) (xs : List X) → list_a
 any-map p f [] = refl
 any-map p f (x ∷ xs) = ap (λ b. p (f x) || b) (any-map p f xs)
 
-rest_of : (xs : List (Bor Interval)) (i : ℕ) (x : Bor Interval) (later : List (Bor Interval)) → i < length xs → x ≡ get_or xs i x → later ≡ drop (i + 1) xs → disjoint (intervals (drop i xs)) ≡ (not (list_any (λ y. overlaps x.now y.now) later) && disjoint (intervals later))
+rest_of : (xs : List (Bor Interval)) (i : ℕ) (x : Bor Interval) (later : List (Bor Interval)) → i < length xs → x ≡ get_or xs i x → later ≡ drop (i + 1) xs → are_disjoint (intervals (drop i xs)) ≡ (not (list_any (λ y. overlaps x.now y.now) later) && are_disjoint (intervals later))
 rest_of xs i x later lt is rest =
-    at_drop_more (λ rs. disjoint (intervals rs)) xs i x lt
-    ∙ subst (λ (y : Bor Interval). disjoint (intervals (y ∷ drop (i + 1) xs)) ≡ (not (list_any (λ z. overlaps x.now z.now) later) && disjoint (intervals later))) is
-    (subst (λ (ys : List (Bor Interval)). disjoint (intervals (x ∷ ys)) ≡ (not (list_any (λ z. overlaps x.now z.now) later) && disjoint (intervals later))) rest
-    (ap (λ b. not b && disjoint (intervals later)) (any-map (overlaps x.now) (λ (r : Bor Interval). r.now) later)))
+    at_drop_more (λ rs. are_disjoint (intervals rs)) xs i x lt
+    ∙ subst (λ (y : Bor Interval). are_disjoint (intervals (y ∷ drop (i + 1) xs)) ≡ (not (list_any (λ z. overlaps x.now z.now) later) && are_disjoint (intervals later))) is
+    (subst (λ (ys : List (Bor Interval)). are_disjoint (intervals (x ∷ ys)) ≡ (not (list_any (λ z. overlaps x.now z.now) later) && are_disjoint (intervals later))) rest
+    (ap (λ b. not b && are_disjoint (intervals later)) (any-map (overlaps x.now) (λ (r : Bor Interval). r.now) later)))
 
 -- an interval that overlaps no later one may be left out
-pub disjoint_rest : (xs : List (Bor Interval)) (i : ℕ) (x : Bor Interval) (later : List (Bor Interval)) (r : Bool) → i < length xs → x ≡ get_or xs i x → later ≡ drop (i + 1) xs → r ≡ list_any (λ y. overlaps x.now y.now) later → r ≡ false → disjoint (intervals (drop i xs)) ≡ disjoint (intervals (drop (i + 1) xs))
+pub disjoint_rest : (xs : List (Bor Interval)) (i : ℕ) (x : Bor Interval) (later : List (Bor Interval)) (r : Bool) → i < length xs → x ≡ get_or xs i x → later ≡ drop (i + 1) xs → r ≡ list_any (λ y. overlaps x.now y.now) later → r ≡ false → are_disjoint (intervals (drop i xs)) ≡ are_disjoint (intervals (drop (i + 1) xs))
 disjoint_rest xs i x later r lt is rest says h =
     rest_of xs i x later lt is rest
-    ∙ ap (λ b. not b && disjoint (intervals later)) (sym says ∙ h)
-    ∙ ap (λ ys. disjoint (intervals ys)) rest
+    ∙ ap (λ b. not b && are_disjoint (intervals later)) (sym says ∙ h)
+    ∙ ap (λ ys. are_disjoint (intervals ys)) rest
 
-pub disjoint_stops : (xs : List (Bor Interval)) (i : ℕ) (x : Bor Interval) (later : List (Bor Interval)) (r : Bool) → i < length xs → x ≡ get_or xs i x → later ≡ drop (i + 1) xs → r ≡ list_any (λ y. overlaps x.now y.now) later → r ≡ true → disjoint (intervals (drop i xs)) ≡ false
+pub disjoint_stops : (xs : List (Bor Interval)) (i : ℕ) (x : Bor Interval) (later : List (Bor Interval)) (r : Bool) → i < length xs → x ≡ get_or xs i x → later ≡ drop (i + 1) xs → r ≡ list_any (λ y. overlaps x.now y.now) later → r ≡ true → are_disjoint (intervals (drop i xs)) ≡ false
 disjoint_stops xs i x later r lt is rest says h =
-    rest_of xs i x later lt is rest ∙ ap (λ b. not b && disjoint (intervals later)) (sym says ∙ h)
+    rest_of xs i x later lt is rest ∙ ap (λ b. not b && are_disjoint (intervals later)) (sym says ∙ h)
 
 -- after the last range, the ends are those of the span of all
 pub aggregate_at_end : (ranges : List (Bor Interval)) (first : Bor Interval) (others : List (Bor Interval)) (low₀ high₀ low high : List ℕ) (i : ℕ) (min max : List ℕ) → ranges ≡ first ∷ others → low₀ ≡ first.now.min → high₀ ≡ first.now.max → span_from low₀ high₀ (intervals others) ≡ span_from low high (intervals (drop i others)) → length others ≤ i → min ≡ low → max ≡ high → IsAggregate (intervals ranges) (interval min max)

@@ -3,9 +3,9 @@ use Rattle.std.proofs.Common.{◌≡◌, refl, sym, ◌∙◌, ap, subst, ℕ, �
 use Rattle.std.specs.Prelude.{◌≢◌, map, reverse, Contains, slice_get, MatchOption}
 use Rattle.std.proofs.lemmas.List.{reverse-append}
 use Rattle.lsm_ranges.specs.KeyRange.{Interval, overlaps}
-use Rattle.lsm_ranges.specs.Run.{in_order}
+use Rattle.lsm_ranges.specs.Run.{are_in_order}
 use Rattle.lsm_ranges.specs.Packing.{tables_of, table_at, touches, AreInOrder, AreNotEmpty, IsChain}
-use Rattle.lsm_ranges.specs.Links.{Mem, Apart, Steps, StepsTo, IsStack}
+use Rattle.lsm_ranges.specs.Links.{Mem, AreApart, AreSteps, IsStepTo, IsStack}
 use Rattle.lsm_ranges.specs.LinkedRuns.{AreAtPlaces, IsBelow}
 use Rattle.lsm_ranges.specs.declared.optimize.Link.{Link}
 use Rattle.lsm_ranges.proofs.PackLemmas.{mem-append_left, mem-append_right, any_from, all_of}
@@ -28,24 +28,24 @@ module _ {X : Type 0} where
   some_at (k ∷ ks) (suc n) l h some = some_at ks n l h some.1
 
 module _ {X : Type 0} (f : X → Interval) (at : X → ℕ) where
-  order_of : (ls : List (List X)) (n : ℕ) (l : List X) → slice_get ls n ≡ Some l → AreInOrder f ls → in_order (map f l) ≡ true
+  order_of : (ls : List (List X)) (n : ℕ) (l : List X) → slice_get ls n ≡ Some l → AreInOrder f ls → are_in_order (map f l) ≡ true
   order_of [] n l h o = absurd cc
-  order_of (k ∷ ks) zero l h o = let e : k ≡ l = cc in subst (λ (v : List X). in_order (map f v) ≡ true) e o.0
+  order_of (k ∷ ks) zero l h o = let e : k ≡ l = cc in subst (λ (v : List X). are_in_order (map f v) ≡ true) e o.0
   order_of (k ∷ ks) (suc n) l h o = order_of ks n l h o.1
 
-  apart_at : (ls : List (List X)) (n : ℕ) (l m : List X) → slice_get ls n ≡ Some l → slice_get ls (suc n) ≡ Some m → Apart f at ls → (x y : X) → Mem x l → Mem y m → overlaps (f x) (f y) ≡ true → at x < at y
+  apart_at : (ls : List (List X)) (n : ℕ) (l m : List X) → slice_get ls n ≡ Some l → slice_get ls (suc n) ≡ Some m → AreApart f at ls → (x y : X) → Mem x l → Mem y m → overlaps (f x) (f y) ≡ true → at x < at y
   apart_at [] n l m a b h x y p q o = absurd cc
   apart_at (k ∷ ks) zero l m a b h x y p q o = let e : l ≡ k = cc in h.0 x y (subst (λ (v : List X). Mem x v) e p) (mem_at ks 0 m y b q) o
   apart_at (k ∷ ks) (suc n) l m a b h x y p q o = apart_at ks n l m a b h.1 x y p q o
 
-  steps_here : (l : List X) (ls : List (List X)) (m : List X) → slice_get ls 0 ≡ Some m → StepsTo f at l ls → (y : X) → Mem y m → touches f (f y) l ≡ true
+  steps_here : (l : List X) (ls : List (List X)) (m : List X) → slice_get ls 0 ≡ Some m → IsStepTo f at l ls → (y : X) → Mem y m → touches f (f y) l ≡ true
   steps_here l [] m b h y q = absurd cc
   steps_here l (k ∷ ks) m b h y q =
       let e : m ≡ k = cc in
       let s = h y (subst (λ (v : List X). Mem y v) e q) in
       any_from (λ t. overlaps (f t) (f y)) l s.0 s.1 s.2
 
-  steps_at : (ls : List (List X)) (n : ℕ) (l m : List X) → slice_get ls n ≡ Some l → slice_get ls (suc n) ≡ Some m → Steps f at ls → (y : X) → Mem y m → touches f (f y) l ≡ true
+  steps_at : (ls : List (List X)) (n : ℕ) (l m : List X) → slice_get ls n ≡ Some l → slice_get ls (suc n) ≡ Some m → AreSteps f at ls → (y : X) → Mem y m → touches f (f y) l ≡ true
   steps_at [] n l m a b h y q = absurd cc
   steps_at (k ∷ ks) zero l m a b h y q = let e : k ≡ l = cc in subst (λ (v : List X). touches f (f y) v ≡ true) e (steps_here k ks m b h.0 y q)
   steps_at (k ∷ ks) (suc n) l m a b h y q = steps_at ks n l m a b h.1 y q
@@ -110,7 +110,7 @@ module _ {T : Type 0} (range : T → Interval) where
       }
 
   -- at a run below, there is a table to go on to
-  goes_on_at : (packed : List (List (Link T))) (above : Option (Link T)) (chain : List (ℕ × ℕ)) (level : ℕ) (run : List (Link T)) → Walk packed above chain level → 0 < level → level ≤ length packed → run ≡ get_or packed (level - 1) run → (above ≡ None → run ≢ [] → ⊥) → ((a : Link T) → above ≡ Some a → in_order (map range_of run) ≡ true → ((x : Link T) → Contains run x → overlaps (range_of x) (range_of a) ≡ true → x.run < a.run) → touches range_of (range_of a) run ≡ true → ⊥) → IsStack range_of run_of packed → ⊥
+  goes_on_at : (packed : List (List (Link T))) (above : Option (Link T)) (chain : List (ℕ × ℕ)) (level : ℕ) (run : List (Link T)) → Walk packed above chain level → 0 < level → level ≤ length packed → run ≡ get_or packed (level - 1) run → (above ≡ None → run ≢ [] → ⊥) → ((a : Link T) → above ≡ Some a → are_in_order (map range_of run) ≡ true → ((x : Link T) → Contains run x → overlaps (range_of x) (range_of a) ≡ true → x.run < a.run) → touches range_of (range_of a) run ≡ true → ⊥) → IsStack range_of run_of packed → ⊥
   goes_on_at packed above chain level run w some le at first next stack =
       let here : slice_get packed (level - 1) ≡ Some run = slice_at packed (level - 1) run (omega arith) at in
       let place : suc (level - 1) ≡ level = omega arith in
@@ -138,7 +138,7 @@ module _ {T : Type 0} (range : T → Interval) where
       let here : slice_get packed (level - 1) ≡ Some run = slice_at packed (level - 1) run (omega arith) at in
       absurd (first (not_started packed above chain level w e) (some_at packed (level - 1) run here filled))
 
-  pub stopped_whole : (packed : List (List (Link T))) (above : Option (Link T)) (chain : List (ℕ × ℕ)) (level : ℕ) (run : List (Link T)) → Walk packed above chain level → 0 < level → level ≤ length packed → run ≡ get_or packed (level - 1) run → (above ≡ None → run ≢ [] → ⊥) → ((a : Link T) → above ≡ Some a → in_order (map range_of run) ≡ true → ((x : Link T) → Contains run x → overlaps (range_of x) (range_of a) ≡ true → x.run < a.run) → touches range_of (range_of a) run ≡ true → ⊥) → IsStack range_of run_of packed → length chain ≡ length packed
+  pub stopped_whole : (packed : List (List (Link T))) (above : Option (Link T)) (chain : List (ℕ × ℕ)) (level : ℕ) (run : List (Link T)) → Walk packed above chain level → 0 < level → level ≤ length packed → run ≡ get_or packed (level - 1) run → (above ≡ None → run ≢ [] → ⊥) → ((a : Link T) → above ≡ Some a → are_in_order (map range_of run) ≡ true → ((x : Link T) → Contains run x → overlaps (range_of x) (range_of a) ≡ true → x.run < a.run) → touches range_of (range_of a) run ≡ true → ⊥) → IsStack range_of run_of packed → length chain ≡ length packed
   stopped_whole packed above chain level run w some le at first next stack = absurd (goes_on_at packed above chain level run w some le at first next stack)
 
   no_length : {Y : Type 0} (ys : List Y) → length ys ≡ 0 → ys ≡ []

@@ -21,8 +21,8 @@ abbrev pub key_le : List ℕ → List ℕ → Bool
 key_le a b = not (key_lt b a)
 
 -- the least key is not above the greatest
-abbrev pub well_formed : Interval → Bool
-well_formed r = key_le r.min r.max
+abbrev pub is_well_formed : Interval → Bool
+is_well_formed r = key_le r.min r.max
 
 -- the key lies in the interval
 abbrev pub has_key : Interval → List ℕ → Bool
@@ -37,9 +37,9 @@ abbrev pub overlaps : Interval → Interval → Bool
 overlaps a b = key_le b.min a.max && key_le a.min b.max
 
 -- no interval overlaps a later one
-abbrev pub disjoint : List Interval → Bool
-disjoint [] = true
-disjoint (x ∷ xs) = not (list_any (overlaps x) xs) && disjoint xs
+abbrev pub are_disjoint : List Interval → Bool
+are_disjoint [] = true
+are_disjoint (x ∷ xs) = not (list_any (overlaps x) xs) && are_disjoint xs
 
 -- the intervals that references point to
 abbrev pub intervals : List (Bor Interval) → List Interval

@@ -3,13 +3,13 @@ use Rattle.std.specs.Prelude.{◌≡◌, ◌<◌, true, List, [], map, Contains,
 use Rattle.std.specs.List.{AllByRecursion}
 use Rattle.lsm_ranges.specs.KeyRange.{Interval, overlaps}
 use Rattle.lsm_ranges.specs.Packing.{tables_of, table_at, put_all, AreFormed, AreNotEmpty}
-use Rattle.lsm_ranges.specs.Links.{Tagged, tagged}
+use Rattle.lsm_ranges.specs.Links.{Tagged, tag}
 use Rattle.lsm_ranges.specs.declared.optimize.Link.{Link}
 
 module _ {T : Type 0} where
   -- the table of a link, with its place
   abbrev pub tag_of : Link T → Tagged T
-  tag_of link = tagged link.table.now link.run link.index
+  tag_of link = tag link.table.now link.run link.index
 
   -- each link's table stands at its place
   abbrev pub AreAtPlaces : List (List T) → List (Link T) → Type 0

@@ -14,13 +14,13 @@ pub record Tagged (T : Type 0) : Type 0 where
   pub run : ℕ
   pub place : ℕ
 
-abbrev pub tagged : {T : Type 0} → T → ℕ → ℕ → Tagged T
-tagged t i j = record { table = t; run = i; place = j }
+abbrev pub tag : {T : Type 0} → T → ℕ → ℕ → Tagged T
+tag t i j = record { table = t; run = i; place = j }
 
 -- the tables of a run from a place on, with their places
 abbrev pub tags_in : {T : Type 0} → ℕ → ℕ → List T → List (Tagged T)
 tags_in i j [] = []
-tags_in i j (t ∷ ts) = tagged t i j ∷ tags_in i (suc j) ts
+tags_in i j (t ∷ ts) = tag t i j ∷ tags_in i (suc j) ts
 
 -- the tables of runs from a run on, with their places
 abbrev pub tags : {T : Type 0} → ℕ → List (List T) → List (Tagged T)
@@ -29,22 +29,22 @@ tags i (run ∷ runs) = tags_in i 0 run ++ tags (suc i) runs
 
 module _ {X : Type 0} (f : X → Interval) (at : X → ℕ) where
   -- of two that overlap, the one in a later packed run is from a later run of the input
-  abbrev pub Apart : List (List X) → Type 0
-  Apart [] = Unit {0}
-  Apart (l ∷ ls) = ((x y : X) → Mem x l → Mem y (tables_of ls) → overlaps (f x) (f y) ≡ true → at x < at y) × Apart ls
+  abbrev pub AreApart : List (List X) → Type 0
+  AreApart [] = Unit {0}
+  AreApart (l ∷ ls) = ((x y : X) → Mem x l → Mem y (tables_of ls) → overlaps (f x) (f y) ≡ true → at x < at y) × AreApart ls
 
   -- each of the next packed run overlaps one of this, from an earlier run of the input
-  abbrev pub StepsTo : List X → List (List X) → Type 0
-  StepsTo l [] = Unit {0}
-  StepsTo l (m ∷ ms) = (y : X) → Mem y m → (x : X) × Mem x l × (overlaps (f x) (f y) ≡ true) × (at x < at y)
+  abbrev pub IsStepTo : List X → List (List X) → Type 0
+  IsStepTo l [] = Unit {0}
+  IsStepTo l (m ∷ ms) = (y : X) → Mem y m → (x : X) × Mem x l × (overlaps (f x) (f y) ≡ true) × (at x < at y)
 
-  abbrev pub Steps : List (List X) → Type 0
-  Steps [] = Unit {0}
-  Steps (l ∷ ls) = StepsTo l ls × Steps ls
+  abbrev pub AreSteps : List (List X) → Type 0
+  AreSteps [] = Unit {0}
+  AreSteps (l ∷ ls) = IsStepTo l ls × AreSteps ls
 
   -- all that holds of packed runs
   pub record IsStack (ls : List (List X)) : Type 0 where
     pub order : AreInOrder f ls
     pub some : AreNotEmpty ls
-    pub apart : Apart ls
-    pub steps : Steps ls
+    pub apart : AreApart ls
+    pub steps : AreSteps ls

@@ -1,8 +1,8 @@
 -- Packing runs: into how few runs tables can go while each key keeps the order of its tables.
 use Rattle.std.specs.Prelude.{◌≡◌, ◌≢◌, ℕ, zero, suc, ◌<◌, ◌≤◌, ◌==◌, max, Bool, true, List, [], ◌∷◌, ◌++◌, length, map, filter, flat_map, slice_get, if◌then◌else◌, ◌||◌, Contains, Option, Some, None, IsPermutation}
 use Rattle.std.specs.List.{AllByRecursion, list_any, insert}
-use Rattle.lsm_ranges.specs.KeyRange.{Interval, has_key, key_le, overlaps, well_formed, disjoint}
-use Rattle.lsm_ranges.specs.Run.{how_many, in_order}
+use Rattle.lsm_ranges.specs.KeyRange.{Interval, has_key, key_le, overlaps, is_well_formed, are_disjoint}
+use Rattle.lsm_ranges.specs.Run.{how_many, are_in_order}
 
 -- the tables of runs, in run order
 abbrev pub tables_of : {T : Type 0} → List (List T) → List T
@@ -29,7 +29,7 @@ module _ {T : Type 0} (range : T → Interval) where
 
   -- each table's range is well-formed
   abbrev pub AreFormed : List T → Type 0
-  AreFormed tables = AllByRecursion (λ t. well_formed (range t) ≡ true) tables
+  AreFormed tables = AllByRecursion (λ t. is_well_formed (range t) ≡ true) tables
 
   -- each table's range is well-formed
   abbrev pub AreWellFormed : List (List T) → Type 0
@@ -41,12 +41,12 @@ module _ {T : Type 0} (range : T → Interval) where
 
   -- each run is in order and has a table
   abbrev pub ArePacked : List (List T) → Type 0
-  ArePacked runs = AllByRecursion (λ run. (in_order (map range run) ≡ true) × (run ≢ [])) runs
+  ArePacked runs = AllByRecursion (λ run. (are_in_order (map range run) ≡ true) × (run ≢ [])) runs
 
   -- each run has a table, ranges in a run are disjoint, and all ranges are well-formed
   pub record AreDisjointRuns (runs : List (List T)) : Type 0 where
     pub some : AllByRecursion (λ run. run ≢ []) runs
-    pub apart : AllByRecursion (λ run. disjoint (map range run) ≡ true) runs
+    pub apart : AllByRecursion (λ run. are_disjoint (map range run) ≡ true) runs
     pub formed : AreWellFormed runs
 
   -- a number for each table, by run and place: of two overlapping tables the one in the earlier run has the smaller number
@@ -93,7 +93,7 @@ module _ {T : Type 0} (range : T → Interval) where
 
   -- each run is in order
   abbrev pub AreInOrder : List (List T) → Type 0
-  AreInOrder runs = AllByRecursion (λ run. in_order (map range run) ≡ true) runs
+  AreInOrder runs = AllByRecursion (λ run. are_in_order (map range run) ≡ true) runs
 
 -- each run has a table
 abbrev pub AreNotEmpty : {T : Type 0} → List (List T) → Type 0
@@ -130,13 +130,13 @@ module _ {T : Type 0} (range : T → Interval) where
   number_behind earlier t = least_above (numbers_of (filter (λ x. overlaps (range x.table) (range t)) earlier))
 
   -- tables with their numbers, the latest first, in front of the earlier ones
-  abbrev pub numbered_after : List (Numbered T) → List T → List (Numbered T)
-  numbered_after earlier [] = earlier
-  numbered_after earlier (t ∷ ts) = numbered_after (record { table = t; number = number_behind earlier t } ∷ earlier) ts
+  abbrev pub numbering_after : List (Numbered T) → List T → List (Numbered T)
+  numbering_after earlier [] = earlier
+  numbering_after earlier (t ∷ ts) = numbering_after (record { table = t; number = number_behind earlier t } ∷ earlier) ts
 
   -- tables with their numbers, the latest first
-  abbrev pub numbered : List T → List (Numbered T)
-  numbered ts = numbered_after [] ts
+  abbrev pub numbering : List T → List (Numbered T)
+  numbering ts = numbering_after [] ts
 
   -- new runs: each has the tables of its number, and each number has its run
   pub record AreGrouped (xs : List (Numbered T)) (packed : List (List T)) : Type 0 where
@@ -145,4 +145,4 @@ module _ {T : Type 0} (range : T → Interval) where
 
   -- new runs of tables that go, one after the other, behind the last new run that overlaps them, or into the first
   abbrev pub ArePlaced : List T → List (List T) → Type 0
-  ArePlaced ts packed = AreGrouped (numbered ts) packed
+  ArePlaced ts packed = AreGrouped (numbering ts) packed

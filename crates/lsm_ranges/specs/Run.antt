@@ -8,7 +8,7 @@ use Rattle.std.specs.List.Sorted.{IsSortedByKey, IsStableByKey}
 use Rattle.std.specs.Cmp.Lexicographic.{slice_cmp}
 use Rattle.std.specs.Ordering.{nat_cmp}
 use Rattle.sst_entries.specs.Key.{key_lt}
-use Rattle.lsm_ranges.specs.KeyRange.{Interval, interval, has_key, has_range, key_le, overlaps, well_formed}
+use Rattle.lsm_ranges.specs.KeyRange.{Interval, interval, has_key, has_range, key_le, overlaps, is_well_formed}
 use Rattle.sst_entries.specs.Point.{is_from, is_to}
 
 -- the order of intervals by their least keys
@@ -24,13 +24,13 @@ abbrev pub IsStableByMin : {T : Type 0} → (T → Interval) → List T → List
 IsStableByMin range old new = IsStableByKey range min_cmp old new
 
 -- each interval is well-formed and ends before each later one starts
-abbrev pub in_order : List Interval → Bool
-in_order [] = true
-in_order (r ∷ rs) = well_formed r && list_all (λ later. key_lt r.max later.min) rs && in_order rs
+abbrev pub are_in_order : List Interval → Bool
+are_in_order [] = true
+are_in_order (r ∷ rs) = is_well_formed r && list_all (λ later. key_lt r.max later.min) rs && are_in_order rs
 
 -- the tables' intervals are in order
 abbrev pub IsInOrder : {T : Type 0} → (T → Interval) → List T → Type 0
-IsInOrder range tables = IsTrue (in_order (map range tables))
+IsInOrder range tables = IsTrue (are_in_order (map range tables))
 
 -- the first table whose interval has a key
 abbrev pub table_of_key : {T : Type 0} → (T → Interval) → List ℕ → List T → Option T
@@ -45,7 +45,7 @@ tables_inside range r tables = filter (λ t. has_range r (range t)) tables
 
 -- whether an interval starts above a last key, where there is one, and is well-formed
 abbrev pub may_come_next : Option (List ℕ) → Interval → Bool
-may_come_next last r = well_formed r && option_map_or (λ k. key_lt k r.min) last true
+may_come_next last r = is_well_formed r && option_map_or (λ k. key_lt k r.min) last true
 
 -- whether an interval ends before a lower bound
 abbrev pub ends_before : Bound (List ℕ) → Interval → Bool

@@ -4,7 +4,7 @@ ghost use Rattle.std.specs.List.{list_any};
 ghost use Rattle.sst_entries.specs.Key.{key_lt};
 ghost use Rattle.sst_entries.specs.Point.{is_from, is_to};
 ghost use Rattle.sst_entries.specs.declared.error.Error.TheVariants.{OutOfMemory};
-ghost use Rattle.lsm_ranges.specs.KeyRange.{bound_of, disjoint, has_key, has_range, interval, intervals, key_le, overlaps, reaches, well_formed, IsAggregate, IsOutside, ShareKey};
+ghost use Rattle.lsm_ranges.specs.KeyRange.{bound_of, are_disjoint, has_key, has_range, interval, intervals, key_le, overlaps, reaches, is_well_formed, IsAggregate, IsOutside, ShareKey};
 
 use sst_entries::{Error, Slice, UserKey};
 use std::alloc::{AllocError, Allocator, Global};
@@ -71,14 +71,14 @@ impl<A: Allocator> KeyRange<A> {
 
     /// Whether the least key is not above the greatest, so that the range has a key.
     pub fn is_well_formed(&self) -> bool
-        ensures { result ≡ well_formed self.now }
+        ensures { result ≡ is_well_formed self.now }
     {
         is_at_most(self.0.as_slice(), self.1.as_slice())
     }
 
     /// Whether no two of the ranges overlap. Each is compared with each later one.
     pub fn is_disjoint(ranges: &[&KeyRange<A>]) -> bool
-        ensures { result ≡ disjoint (intervals ranges.now) }
+        ensures { result ≡ are_disjoint (intervals ranges.now) }
     {
         for (place, range) in ranges.iter().enumerate() {
             let (_, later) = ranges.split_at(place + 1);
@@ -126,7 +126,7 @@ impl<A: Allocator> KeyRange<A> {
     /// whether some key lies in both.
     pub fn overlaps_with_key_range(&self, other: &KeyRange<A>) -> bool
         ensures value { result ≡ overlaps self.now other.now }
-        ensures shared { IsTrue (well_formed self.now) → IsTrue (well_formed other.now) →
+        ensures shared { IsTrue (is_well_formed self.now) → IsTrue (is_well_formed other.now) →
             (IsTrue result ↔ ShareKey self.now other.now) }
     {
         is_at_most(other.0.as_slice(), self.1.as_slice())

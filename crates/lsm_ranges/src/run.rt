@@ -8,7 +8,7 @@ ghost use Rattle.std.specs.Option.{option_copied};
 ghost use Rattle.sst_entries.specs.declared.error.Error.TheVariants.{OutOfMemory};
 ghost use Rattle.lsm_ranges.specs.KeyRange.{bound_of, Interval};
 ghost use Rattle.lsm_ranges.specs.Packing.{with_table};
-ghost use Rattle.lsm_ranges.specs.Run.{ends_before, ends_within, first_to_last, how_many, in_order, may_come_next, overlap_indexes, starts_before, starts_within, tables_across, tables_inside, table_of_key, AreWithin, IsInOrder, IsPartOf, IsSortedByMin, IsStableByMin};
+ghost use Rattle.lsm_ranges.specs.Run.{ends_before, ends_within, first_to_last, how_many, are_in_order, may_come_next, overlap_indexes, starts_before, starts_within, tables_across, tables_inside, table_of_key, AreWithin, IsInOrder, IsPartOf, IsSortedByMin, IsStableByMin};
 
 use crate::KeyRange;
 use crate::key_range::{is_at_most, is_from_lower, is_up_to_upper};
@@ -126,7 +126,7 @@ impl<T: Ranged, A: Allocator> Run<T, A> {
 
     /// Whether the ranges are well-formed, do not overlap and ascend; true for no tables.
     pub fn is_in_order(&self) -> bool
-        ensures { result ≡ in_order (map T.range self.now) }
+        ensures { result ≡ are_in_order (map T.range self.now) }
     {
         let mut last: Option<&UserKey<T::Alloc>> = None;
         for table in &self.0 {

@@ -22,7 +22,8 @@ use Rattle.lsm_sorted.specs.Compaction.{Rules, goes, zeroed, kept, unfiltered}
 use Rattle.lsm_sorted.specs.ReadLaw.{Distinct, AllNewer, IsMerged, PartLaw}
 use Rattle.lsm_sorted.proofs.Hits.{first_hit}
 use Rattle.lsm_sorted.proofs.Pairs.{Precedes, Strict, as_pairs}
-use Rattle.lsm_ranges.proofs.KeyLemmas.{same_is, same_itself, le_itself, gt_first}
+use Rattle.lsm_ranges.proofs.KeyLemmas.{same_is, same_itself, le_itself}
+use Rattle.sst_entries.proofs.OrderLemmas.{gt_first}
 use Rattle.lsm_sorted.proofs.OutsLemmas.{AllOf}
 use Rattle.lsm_sorted.proofs.ReadLemmas.{and_both, and_not, apart, all_rest, none_before, none_of_other, not_under, same_within}
 use Rattle.lsm_sorted.proofs.KeptLemmas.{kept_by, all_kept, zeroed_below, strict_up, pairs_stay}

@@ -1,5 +1,5 @@
 //! Tables: opening a table's bytes, and reading from them.
-ghost use Rattle.std.specs.Prelude.{◌≡◌, ◌+◌, ◌<◌, ◌&&◌, ℕ, Bool, List, [], Option, Some, Result, Ok, Err, true, length, IfOk, IfErr, MatchResult};
+ghost use Rattle.std.specs.Prelude.{◌≡◌, ◌+◌, ◌<◌, ℕ, Bool, List, [], Option, Some, Result, Ok, Err, true, length, IfOk, IfErr, MatchResult};
 ghost use Rattle.sst_blocks.specs.Block.{Loaded, load_told, load_at_told};
 ghost use Rattle.sst_entries.specs.Entry.{Entry};
 ghost use Rattle.sst_entries.specs.Error.{Faults, Gives};
@@ -13,7 +13,7 @@ ghost use Rattle.sst_entries.specs.Strict.{IsStrict};
 ghost use Rattle.sst_blocks.specs.declared.block_type.BlockType.TheVariants.{Data, Index};
 ghost use Rattle.sst_entries.specs.declared.error.Error.{Error};
 ghost use Rattle.sst_entries.specs.declared.error.Error.TheVariants.{OutOfMemory};
-ghost use Rattle.lsm_ranges.specs.KeyRange.{bound_of, from_lower, up_to_upper};
+ghost use Rattle.lsm_ranges.specs.KeyRange.{bound_of, reaches};
 ghost use Rattle.lsm_writers.specs.File.{IsFile};
 ghost use Rattle.lsm_writers.specs.Options.{Options, Label};
 ghost use Rattle.lsm_tables.specs.Answer.{answer_told, handle_for, lift, Opens};
@@ -328,7 +328,8 @@ impl<A: Allocator> Table<A> {
 
     /// Whether the table's key range reaches past both bounds. Where it does not, no key of the table lies within them.
     pub fn check_key_range_overlap(&self, bounds: &(Bound<&[u8]>, Bound<&[u8]>)) -> bool
-        ensures { result ≡ (from_lower (bound_of bounds.now.0) self.now.parts.facts.key_range.max && up_to_upper (bound_of bounds.now.1) self.now.parts.facts.key_range.min) }
+        ensures { result ≡ reaches (bound_of bounds.now.0) (bound_of bounds.now.1)
+            self.now.parts.facts.key_range }
     {
         self.0.inner.metadata.key_range.overlaps_with_bounds(bounds)
     }

@@ -34,5 +34,5 @@ pub returns-clause-least : goal.returns-clause-least
 returns-clause-least g c =
     let range = g.T.Ranged.range in
     if_ok c.pack.result
-    (λ packed says disjoint. subst (λ rs. IsLeastSize range c.args.runs.items (length rs)) (sym (says disjoint.formed)) (least_size range c.args.runs.items disjoint))
+    (λ packed says are_disjoint. subst (λ rs. IsLeastSize range c.args.runs.items (length rs)) (sym (says are_disjoint.formed)) (least_size range c.args.runs.items are_disjoint))
     c.pack.ensures.ok

@@ -13,9 +13,9 @@ returns-clause-chain g c =
     (c.in_ok-walk_down.ensures.chain c.args.runs.now (places_of g.T.Ranged.range c.args.runs.now c.deref.result.now packed))
 
 pub returns-clause-least : goal.returns-clause-least
-returns-clause-least g c disjoint =
+returns-clause-least g c are_disjoint =
     let packed : ArePackedLinks g.T.Ranged.range (tags 0 c.args.runs.now) c.deref.result.now = subst (λ ls. ArePackedLinks g.T.Ranged.range (tags 0 c.args.runs.now) ls) (sym c.deref.ensures.value) c.in_ok-pack_links.ensures.ok in
-    chain_least g.T.Ranged.range c.args.runs.now c.deref.result.now packed disjoint c.reverse.new.self.items c.walk_down.new.chain.items c.reverse.ensures.items c.in_ok-walk_down.ensures.whole
+    chain_least g.T.Ranged.range c.args.runs.now c.deref.result.now packed are_disjoint c.reverse.new.self.items c.walk_down.new.chain.items c.reverse.ensures.items c.in_ok-walk_down.ensures.whole
 
 pub returns-clause-some : goal.returns-clause-some
 returns-clause-some g c none =
