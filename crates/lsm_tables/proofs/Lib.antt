@@ -10,3 +10,4 @@ pub mod FileReads
 pub mod FilePoints
 pub mod Scans
 pub mod FileScans
+pub mod Places

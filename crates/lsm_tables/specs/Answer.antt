@@ -10,6 +10,7 @@ use Rattle.sst_entries.specs.Entry.{Entry}
 use Rattle.sst_blocks.specs.Handle.{Handle}
 use Rattle.sst_blocks.specs.Handles.{reaches}
 use Rattle.sst_blocks.specs.Opened.{counted}
+use Rattle.sst_blocks.specs.Place.{Place, place_of}
 use Rattle.sst_entries.specs.Point.{point}
 use Rattle.lsm_tables.specs.Parts.{Parts}
 use Rattle.lsm_tables.specs.Told.{◌>>=◌}
@@ -25,10 +26,13 @@ lift es g = map (lifted g) es
 abbrev pub handle_for : Parts → ℕ → List ℕ → ℕ → Option Handle
 handle_for parts g key bound = if nat_le (bound - g) parts.facts.seqno_min then None else find (reaches key (bound - g)) parts.index
 
--- what that block answers
+-- what the block at a place answers, and what the block of a handle does
+abbrev pub read_at : List ℕ → ℕ → List ℕ → ℕ → Place → Result (Option Entry) Error
+read_at body g key bound place = load_told body place.offset place.size Data >>= λ block. Ok (option_map (lifted g) (point (entries_of block) key (bound - g)))
+
 abbrev pub read_told : List ℕ → ℕ → List ℕ → ℕ → Option Handle → Result (Option Entry) Error
 read_told body g key bound None = Ok None
-read_told body g key bound (Some h) = load_told body h.offset h.size Data >>= λ block. Ok (option_map (lifted g) (point (entries_of block) key (bound - g)))
+read_told body g key bound (Some h) = read_at body g key bound (place_of h)
 
 -- what a point read answers over the bytes before the trailer
 unfoldable pub answer_told : List ℕ → ℕ → Parts → List ℕ → ℕ → Result (Option Entry) Error

@@ -1,6 +1,7 @@
 //! Point reads, over whatever blocks can be loaded from.
 ghost use Rattle.std.specs.Prelude.{◌≡◌, ◌+◌, ◌-◌, ◌<◌, ◌^◌, Option, Some, IfOk, IfErr};
 ghost use Rattle.sst_blocks.specs.Opened.{counted};
+ghost use Rattle.sst_blocks.specs.Place.{place_of};
 ghost use Rattle.sst_blocks.specs.declared.block_type.BlockType.TheVariants.{Data};
 ghost use Rattle.sst_entries.specs.declared.error.Error.TheVariants.{OutOfMemory};
 ghost use Rattle.sst_entries.specs.Entry.{Entry};
@@ -8,11 +9,11 @@ ghost use Rattle.sst_entries.specs.Error.{Gives};
 ghost use Rattle.sst_entries.specs.Point.{point};
 ghost use Rattle.std.specs.Option.{option_map};
 ghost use Rattle.sst_blocks.specs.Fnv.{fnv1a};
-ghost use Rattle.lsm_tables.specs.Answer.{answer_told, handle_for, read_told, lifted, Opens};
+ghost use Rattle.lsm_tables.specs.Answer.{answer_told, handle_for, read_at, lifted, Opens};
 ghost use Rattle.lsm_tables.specs.Seen.{parts_of};
 
 use crate::Inner;
-use sst_blocks::{BlockType, DataBlock, Error, InternalValue, KeyedBlockHandle, LoadBlocks, SeqNo};
+use sst_blocks::{BlockHandle, BlockType, DataBlock, Error, InternalValue, LoadBlocks, SeqNo};
 use std::alloc::Allocator;
 
 // The entry with the global number added, which the caller has tested to fit.
@@ -25,18 +26,14 @@ fn lift<A: Allocator>(item: InternalValue<A>, global_seqno: SeqNo) -> InternalVa
     item
 }
 
-// The handle of the one data block that a point read rests on.
-fn handle_of<A: Allocator>(
-    inner: &Inner<A>,
-    key: &[u8],
-    seqno: SeqNo,
-) -> Result<Option<KeyedBlockHandle<A>>, Error>
-    ensures found { IfOk result (λ h. h ≡ handle_for (parts_of inner.now) inner.now.global_seqno key.now seqno) }
-    ensures err { IfErr result (λ e. e ≡ OutOfMemory) }
+// Where the one data block lies that a point read rests on.
+fn handle_of<A: Allocator>(inner: &Inner<A>, key: &[u8], seqno: SeqNo) -> Option<BlockHandle>
+    ensures { let handle = handle_for (parts_of inner.now) inner.now.global_seqno key.now seqno in
+        result ≡ option_map place_of handle }
 {
     let seqno = seqno.saturating_sub(inner.global_seqno);
     if inner.metadata.seqnos.0 >= seqno {
-        return Ok(None);
+        return None;
     }
     inner.pinned_block_index.inner().find(key, seqno)
 }
@@ -62,16 +59,17 @@ fn lifted_read<A: Allocator>(
 // What that block answers.
 fn read_in<S: LoadBlocks>(
     source: &mut S,
-    handle: KeyedBlockHandle<S::Alloc>,
+    handle: BlockHandle,
     global_seqno: SeqNo,
     key: &[u8],
     seqno: SeqNo,
 ) -> Result<Option<InternalValue<S::Alloc>>, Error>
-    ensures told { Gives (λ (found : Option Entry). found) result (read_told (S.body source.old) global_seqno key.now seqno (Some handle)) }
+    ensures told { let told = read_at (S.body source.old) global_seqno key.now seqno handle in
+        Gives (λ (found : Option Entry). found) result told }
     ensures body { S.body source.new ≡ S.body source.old }
     ensures counted { S.opened source.new ≡ counted Data (S.opened source.old) }
 {
-    let block = source.load(&handle.into_inner(), BlockType::Data)?;
+    let block = source.load(&handle, BlockType::Data)?;
     lifted_read(&DataBlock::new(block), global_seqno, key, seqno)
 }
 
@@ -92,7 +90,7 @@ pub fn point_in<S: LoadBlocks>(
     ensures opened { Opens result (handle_for (parts_of inner.now) inner.now.global_seqno key.now seqno) (S.opened source.old) (S.opened source.new) }
 {
     let _ = key_hash;
-    match handle_of(inner, key, seqno)? {
+    match handle_of(inner, key, seqno) {
         Some(handle) => read_in(source, handle, inner.global_seqno, key, seqno),
         None => Ok(None),
     }

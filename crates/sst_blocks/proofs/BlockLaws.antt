@@ -1,6 +1,6 @@
 -- A block that was written loads.
 use Rattle.std.proofs.Common.{◌≡◌, ℕ, ◌+◌, ◌*◌, ◌-◌, ◌^◌, ◌<◌, ◌≤◌, true, List, [], ◌∷◌, ◌++◌, length, drop, slice_range, refl, sym, ap, ◌∙◌, arith, append_assoc, length-append}
-use Rattle.std.specs.Prelude.{None, Ok, bit_xor}
+use Rattle.std.specs.Prelude.{None, Some, Ok, is_some, bit_xor}
 use Rattle.std.proofs.lemmas.List.{take_at, drop_at, append-nil}
 use Rattle.std.proofs.lemmas.Bool.{eq-eqb}
 use Rattle.std.proofs.Math.Nat.{mod-lt}
@@ -10,7 +10,16 @@ use Rattle.sst_blocks.specs.declared.block_type.BlockType.{BlockType}
 use Rattle.sst_blocks.specs.declared.block_type.BlockType.TheVariants.{Data, Index, Filter, Meta}
 use Rattle.sst_blocks.specs.Fnv.{fnv1a, fnv_from, fnv_basis, fnv_prime, fnv_step}
 use Rattle.sst_blocks.specs.Number.{le4, le8, num4, num8}
-use Rattle.sst_blocks.specs.Block.{header, block_bytes, header_fault, data_len, uncompressed_len, stored_checksum, version_in, in_grammar, checked_payload, load_told, load_at_told}
+use Rattle.sst_blocks.specs.Block.{header, block_bytes, header_fault, data_len, uncompressed_len, stored_checksum, version_in, in_grammar, checked_payload, load_told, load_at_told, entries_of, handles_of, loaded, LoadsBack}
+use Rattle.sst_blocks.specs.Handle.{Handle}
+use Rattle.sst_blocks.specs.Handles.{handles_payload, AreStrictHandles, HandlesFit}
+use Rattle.sst_blocks.specs.Payload.{payload, AreFit}
+use Rattle.sst_blocks.specs.Reading.{entries_in}
+use Rattle.sst_blocks.specs.Starts.{HoldsEntries}
+use Rattle.sst_entries.specs.Entry.{Entry}
+use Rattle.sst_entries.specs.Strict.{IsStrict}
+use Rattle.sst_blocks.proofs.Entries.{entries_read}
+use Rattle.sst_blocks.proofs.HandleLaws.{handles_read}
 use Rattle.sst_blocks.proofs.Numbers.{wide4, wide8}
 use Rattle.sst_blocks.proofs.LoadLemmas.{load_checked, load_at_checked}
 
@@ -120,3 +129,29 @@ written_loads_at v kind pre payload post body offset lt ok at e =
     load_at_checked body offset kind (omega (arith, m.within)) m.fault (m.stored ∙ sym m.uncompressed) (omega (arith, m.within, m.stored))
     ∙ ap (λ (to : ℕ). checked_payload (version_in (slice_range body offset (offset + 24))) (stored_checksum (slice_range body offset (offset + 24))) kind (slice_range body (offset + 24) to)) end
     ∙ m.checked
+
+-- ---- lists
+
+loads_back : (v : TableVersion) (kind : BlockType) (bytes : List ℕ) → length bytes < 2 ^ 32 → in_grammar v kind bytes ≡ true → LoadsBack v kind bytes
+loads_back v kind bytes lt ok front behind =
+    let body = front ++ block_bytes v kind bytes ++ behind in
+    (written_loads v kind front bytes behind body (length front) lt ok refl refl, written_loads_at v kind front bytes behind body (length front) lt ok refl refl)
+
+entries_ok : (v : TableVersion) (kind : BlockType) (bytes : List ℕ) (es : List Entry) → HoldsEntries kind → entries_in v bytes ≡ Some es → in_grammar v kind bytes ≡ true
+entries_ok v Data bytes es holds told = ap is_some told
+entries_ok v Meta bytes es holds told = ap is_some told
+entries_ok v Index bytes es holds told = absurd holds
+entries_ok v Filter bytes es holds told = absurd holds
+
+-- a block of a list that was written loads, and holds the list
+pub entries_load : (v : TableVersion) (kind : BlockType) (es : List Entry) → HoldsEntries kind → IsStrict es → AreFit v es → length (payload v es) < 2 ^ 32
+    → LoadsBack v kind (payload v es) × (entries_of (loaded v kind (payload v es)) ≡ es)
+entries_load v kind es holds strict fit lt =
+    let told = entries_read v es fit strict in
+    (loads_back v kind (payload v es) lt (entries_ok v kind (payload v es) es holds told), rw told refl)
+
+pub handles_load : (v : TableVersion) (hs : List Handle) → AreStrictHandles hs → HandlesFit v hs → length (handles_payload v hs) < 2 ^ 32
+    → LoadsBack v Index (handles_payload v hs) × (handles_of (loaded v Index (handles_payload v hs)) ≡ hs)
+handles_load v hs strict fit lt =
+    let told = handles_read v hs fit strict in
+    (loads_back v Index (handles_payload v hs) lt (ap is_some told), rw told refl)

@@ -1,7 +1,9 @@
 -- A list that grew at its end, part by part.
-use Rattle.std.proofs.Common.{◌≡◌, ℕ, ◌+◌, ◌<◌, ◌≤◌, List, [], ◌∷◌, ◌++◌, length, get_or, take, sym, ap, subst, ◌∙◌, append_assoc}
-use Rattle.std.specs.List.{flat_map, AllByRecursion}
+use Rattle.std.proofs.Common.{◌≡◌, ℕ, ◌+◌, ◌<◌, ◌≤◌, List, [], ◌∷◌, ◌++◌, length, get_or, take, sym, ap, subst, ◌∙◌, append_assoc, arith}
+use Rattle.std.specs.List.{flat_map, sum_by, AllByRecursion}
 use Rattle.std.proofs.lemmas.List.{take_at, take_all, take_more, append-nil, flat_map_more}
+use Rattle.std.proofs.lemmas.List.Sums.{sum_by-append, sum_by-cons}
+use Rattle.sst_blocks.specs.Bounds.{capped}
 use Rattle.sst_blocks.proofs.Faults.{all_push}
 
 -- the second list is the first and what was written behind it
@@ -46,3 +48,14 @@ module _ {X : Type 0} where
 
   pub all_fit : (P : X → Type 0) (xs : List X) (i : ℕ) → length xs ≤ i → AllByRecursion P (take i xs) → AllByRecursion P xs
   all_fit P xs i le fit = subst (AllByRecursion P) (take_all i xs le) fit
+
+  -- a sum that stays at its largest value, with one more summand
+  pub one_more_summed : (f : X → ℕ) (start : ℕ) (xs : List X) (i : ℕ) (x : X) (n m : ℕ) → i < length xs → x ≡ get_or xs i x → n ≡ capped (start + sum_by f (take i xs)) → m ≡ capped (n + f x)
+      → m ≡ capped (start + sum_by f (take (i + 1) xs))
+  one_more_summed f start xs i x n m lt is sum more =
+      let whole : sum_by f (take (i + 1) xs) ≡ sum_by f (take i xs) + f x =
+      ap (sum_by f) (up_to xs i x lt is) ∙ omega (arith, sum_by-append f (take i xs) (x ∷ []), sum_by-cons f x []) in
+      omega (arith, sum, more, whole)
+
+  pub all_summed : (f : X → ℕ) (start : ℕ) (xs : List X) (i n : ℕ) → length xs ≤ i → n ≡ capped (start + sum_by f (take i xs)) → n ≡ capped (start + sum_by f xs)
+  all_summed f start xs i n le sum = sum ∙ ap (λ (ys : List X). capped (start + sum_by f ys)) (take_all i xs le)

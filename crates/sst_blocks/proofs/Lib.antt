@@ -16,3 +16,4 @@ pub mod Points
 pub mod Lengths
 pub mod Within
 pub mod Grown
+pub mod Narrowing

@@ -6,9 +6,10 @@ use Rattle.sst_blocks.specs.declared.block_type.BlockType.{BlockType}
 use Rattle.sst_entries.specs.declared.error.Error.{Error}
 use Rattle.sst_entries.specs.declared.error.Error.TheVariants.{Truncated, InvalidHeader, ChecksumMismatch}
 use Rattle.sst_blocks.specs.declared.version.TableVersion.{TableVersion}
-use Rattle.sst_entries.specs.Error.{Gives}
+use Rattle.sst_entries.specs.Error.{Gives, FaultsFirst}
+use Rattle.std.specs.Option.{option_or}
 use Rattle.sst_blocks.specs.Fnv.{fnv1a}
-use Rattle.sst_blocks.specs.Block.{Loaded, grammar_fault, header_fault, unless, data_len, uncompressed_len, stored_checksum, version_in, checked_payload, load_told, load_at_told}
+use Rattle.sst_blocks.specs.Block.{Loaded, grammar_fault, header_fault, unless, data_len, uncompressed_len, stored_checksum, version_in, checked_payload, load_told, load_at_told, place_fault, position_fault}
 
 -- no fault yet
 after : {A : Type 0} (wrong : Bool) (e : Error) (fault : Option Error) (told : Result A Error) → wrong ≡ false → fault ≡ None → (if wrong then Err e else unless fault told) ≡ told
@@ -102,3 +103,77 @@ loaded_within v checksum kind payload n end (Err e) told lt = tt
 
 pub range_short : (xs : List ℕ) (from len : ℕ) → length (slice_range xs from (from + len)) ≤ len
 range_short xs from len = omega (arith, length-take (from + len - from) (drop from xs))
+
+-- ---- faults that are found before the payload is looked at
+
+pub none_told : {X : Type 0} (r : Result X Error) (fault : Option Error) → fault ≡ None → FaultsFirst r fault
+none_told r fault none f is = let wrong : Some f ≡ None = sym is ∙ none in absurd cc
+
+behind : (wrong : Bool) (e : Error) (fault next : Option Error) → wrong ≡ false → fault ≡ None → (if wrong then Some e else option_or fault next) ≡ next
+behind wrong e fault next fine none = rw (fine, none) refl
+
+here : (wrong : Bool) (e f : Error) (fault next : Option Error) → wrong ≡ false → fault ≡ Some f → (if wrong then Some e else option_or fault next) ≡ Some f
+here wrong e f fault next fine some = rw (fine, some) refl
+
+module _ (body : List ℕ) (offset size : ℕ) (kind : BlockType) where
+  pub place_truncated : (24 ≤ size → offset + size ≤ length body → ⊥) → place_fault body offset size kind ≡ Some Truncated
+  unfolding place_fault
+  place_truncated short = grind arith
+
+  pub place_header : (e : Error) → 24 ≤ size → offset + size ≤ length body → header_fault kind (slice_range body offset (offset + 24)) ≡ Some e → place_fault body offset size kind ≡ Some e
+  unfolding place_fault
+  place_header e long within fault = here _ _ _ _ _ (fits body offset size kind long within) fault
+
+  two_lengths : (d u : ℕ) → (d ≡ u → 24 + d ≡ size → ⊥) → (if not (d == u) || not (24 + d == size) then Some InvalidHeader else None) ≡ Some InvalidHeader
+  two_lengths d u differ = grind arith
+
+  one_length : (d u : ℕ) → d ≡ u → 24 + d ≡ size → (if not (d == u) || not (24 + d == size) then Some InvalidHeader else None) ≡ None
+  one_length d u same whole = grind arith
+
+  pub place_lengths : 24 ≤ size → offset + size ≤ length body → header_fault kind (slice_range body offset (offset + 24)) ≡ None
+      → (data_len (slice_range body offset (offset + 24)) ≡ uncompressed_len (slice_range body offset (offset + 24)) → 24 + data_len (slice_range body offset (offset + 24)) ≡ size → ⊥)
+      → place_fault body offset size kind ≡ Some InvalidHeader
+  unfolding place_fault
+  place_lengths long within fault differ = behind _ _ _ _ (fits body offset size kind long within) fault ∙ two_lengths _ _ differ
+
+  pub place_fine : 24 ≤ size → offset + size ≤ length body → header_fault kind (slice_range body offset (offset + 24)) ≡ None
+      → data_len (slice_range body offset (offset + 24)) ≡ uncompressed_len (slice_range body offset (offset + 24)) → 24 + data_len (slice_range body offset (offset + 24)) ≡ size
+      → place_fault body offset size kind ≡ None
+  unfolding place_fault
+  place_fine long within fault same whole = behind _ _ _ _ (fits body offset size kind long within) fault ∙ one_length _ _ same whole
+
+module _ (body : List ℕ) (position : ℕ) (kind : BlockType) where
+  pub position_truncated : (position + 24 ≤ length body → ⊥) → position_fault body position kind ≡ Some Truncated
+  unfolding position_fault
+  position_truncated short = grind arith
+
+  pub position_header : (e : Error) → position + 24 ≤ length body → header_fault kind (slice_range body position (position + 24)) ≡ Some e → position_fault body position kind ≡ Some e
+  unfolding position_fault
+  position_header e within fault = here _ _ _ _ _ (header_fits body position kind within) fault
+
+  differ_at : (d u end past : ℕ) → (d ≡ u → ⊥) → (if not (d == u) then Some InvalidHeader else (if nat_lt end past then Some Truncated else None)) ≡ Some InvalidHeader
+  differ_at d u end past differ = grind arith
+
+  pass_at : (d u end past : ℕ) → d ≡ u → end < past → (if not (d == u) then Some InvalidHeader else (if nat_lt end past then Some Truncated else None)) ≡ Some Truncated
+  pass_at d u end past same lt = grind arith
+
+  fine_at : (d u end past : ℕ) → d ≡ u → past ≤ end → (if not (d == u) then Some InvalidHeader else (if nat_lt end past then Some Truncated else None)) ≡ None
+  fine_at d u end past same le = grind arith
+
+  pub position_lengths : position + 24 ≤ length body → header_fault kind (slice_range body position (position + 24)) ≡ None
+      → (data_len (slice_range body position (position + 24)) ≡ uncompressed_len (slice_range body position (position + 24)) → ⊥)
+      → position_fault body position kind ≡ Some InvalidHeader
+  unfolding position_fault
+  position_lengths within fault differ = behind _ _ _ _ (header_fits body position kind within) fault ∙ differ_at _ _ _ _ differ
+
+  pub position_passes : position + 24 ≤ length body → header_fault kind (slice_range body position (position + 24)) ≡ None
+      → data_len (slice_range body position (position + 24)) ≡ uncompressed_len (slice_range body position (position + 24)) → length body < position + 24 + data_len (slice_range body position (position + 24))
+      → position_fault body position kind ≡ Some Truncated
+  unfolding position_fault
+  position_passes within fault same past = behind _ _ _ _ (header_fits body position kind within) fault ∙ pass_at _ _ _ _ same past
+
+  pub position_fine : position + 24 ≤ length body → header_fault kind (slice_range body position (position + 24)) ≡ None
+      → data_len (slice_range body position (position + 24)) ≡ uncompressed_len (slice_range body position (position + 24)) → position + 24 + data_len (slice_range body position (position + 24)) ≤ length body
+      → position_fault body position kind ≡ None
+  unfolding position_fault
+  position_fine within fault same whole = behind _ _ _ _ (header_fits body position kind within) fault ∙ fine_at _ _ _ _ same whole

@@ -128,7 +128,7 @@ module _ {X : Type 0} where
   from_step true x xs n rest e = refl
   from_step false x xs n rest e = let k : 1 + n ≡ suc n = omega arith in e ∙ sym (ap (λ (m : ℕ). drop m (x ∷ xs)) k)
 
-  from_first_drop : (p : X → Bool) (xs : List X) → from_first p xs ≡ drop (front_length (λ x. not (p x)) xs) xs
+  pub from_first_drop : (p : X → Bool) (xs : List X) → from_first p xs ≡ drop (front_length (λ x. not (p x)) xs) xs
   from_first_drop p [] = refl
   from_first_drop p (x ∷ xs) = from_step (p x) x xs (front_length (λ y. not (p y)) xs) (from_first p xs) (from_first_drop p xs)
 
@@ -136,16 +136,16 @@ module _ {X : Type 0} where
   to_step true x xs n rest e = refl
   to_step false x xs n rest e = let k : 1 + (1 + n) ≡ suc (1 + n) = omega arith in ap (λ (ys : List X). x ∷ ys) e ∙ sym (ap (λ (m : ℕ). take m (x ∷ xs)) k)
 
-  up_to_first_take : (p : X → Bool) (xs : List X) → up_to_first p xs ≡ take (1 + front_length (λ x. not (p x)) xs) xs
+  pub up_to_first_take : (p : X → Bool) (xs : List X) → up_to_first p xs ≡ take (1 + front_length (λ x. not (p x)) xs) xs
   up_to_first_take p [] = refl
   up_to_first_take p (x ∷ xs) = to_step (p x) x xs (front_length (λ y. not (p y)) xs) (up_to_first p xs) (up_to_first_take p xs)
 
-  front_length-take : (q : X → Bool) (n : ℕ) (xs : List X) → front_length q (take n xs) ≡ min n (front_length q xs)
+  pub front_length-take : (q : X → Bool) (n : ℕ) (xs : List X) → front_length q (take n xs) ≡ min n (front_length q xs)
   front_length-take q zero xs = omega arith
   front_length-take q (suc n) [] = omega arith
   front_length-take q (suc n) (x ∷ xs) = front_step (q x) (front_length q (take n xs)) n (front_length q xs) (front_length-take q n xs)
 
-  cut : (n f : ℕ) (xs : List X) → drop (min n f) (take n xs) ≡ take (n - f) (drop f xs)
+  pub cut : (n f : ℕ) (xs : List X) → drop (min n f) (take n xs) ≡ take (n - f) (drop f xs)
   cut n f xs =
       elim (cases_lt n f) [
         | inl short ↦

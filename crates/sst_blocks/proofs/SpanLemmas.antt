@@ -1,13 +1,17 @@
 -- Spans: one step at either end, and what a span deals.
 use Rattle.std.proofs.Common.{◌≡◌, refl, sym, ◌∙◌, ap, ℕ, zero, suc, ◌+◌, ◌-◌, ◌<◌, ◌≤◌, Bool, true, false, List, [], ◌∷◌, ◌++◌, length, take, drop, get_or, reverse, arith}
-use Rattle.std.specs.Prelude.{Option, Some, None, Result, Ok, Err, IfOk, IfErr, find, not, cond}
-use Rattle.std.specs.List.{slice_get}
-use Rattle.std.proofs.lemmas.List.{reverse-append, reverse-reverse, map-append, take_more, drop_more, get_or-drop, length-drop}
+use Rattle.std.specs.Prelude.{Option, Some, None, Result, Ok, Err, find, not, cond}
+use Rattle.std.specs.List.{slice_get, AllByRecursion}
+use Rattle.std.proofs.lemmas.List.{reverse-append, reverse-reverse, map-append, take_more, drop_more, get_or-drop, length-drop, length-take}
 use Rattle.std.proofs.lemmas.Option.{slice_get_within, get_or_from_slice_get}
 use Rattle.sst_entries.specs.declared.error.Error.{Error}
 use Rattle.sst_entries.specs.declared.error.Error.TheVariants.{OutOfMemory}
-use Rattle.sst_entries.specs.Span.{Span, left_in, front_length, SpanHas}
-use Rattle.sst_entries.specs.Stream.{first, but_first, last, but_last, front_of, back_of, all_ok, stopped, Answers, Deals, CanDeal}
+use Rattle.sst_entries.specs.declared.stream.Direction.{Direction}
+use Rattle.sst_entries.specs.declared.stream.Direction.TheVariants.{Front, Back}
+use Rattle.sst_entries.specs.Span.{Span, left_in, front_length, SpanHas, SpanGives}
+use Rattle.sst_entries.specs.Stream.{first, but_first, last, but_last, front_of, back_of, all_ok, stopped, Runs, Deals, CanDeal}
+use Rattle.sst_blocks.specs.Ending.{EndAtError, EndsAtError}
+use Rattle.sst_blocks.specs.Seeking.{DealsLeft}
 use Rattle.sst_entries.proofs.StreamLemmas.{deals_by, can_by}
 
 -- ---- fronts that pass a test
@@ -77,51 +81,110 @@ module _ {X : Type 0} where
       ∙ take_more (drop s.from s.list) n x room
       ∙ ap (λ (z : X). take n (drop s.from s.list) ++ z ∷ []) y
 
-  -- the first item of what is left, or want of memory
-  pub span_front : (s : Span X) (r : Result X Error) → s.from < s.to → IfOk r (λ x. slice_get s.list s.from ≡ Some x) → IfErr r (λ e. e ≡ OutOfMemory)
-      → Answers (λ _. Unit {0}) SpanHas front_of s (Some r) (record s { from = s.from + 1 })
-  span_front s (Ok x) lt ok err = record {
-    may = tt;
-    gives = λ stops xs has fine.
-        let whole = has.1 ∙ ap all_ok (left_front s x lt ok) in
-        (sym (ap first whole), (has.0, ap but_first whole));
-  }
-  span_front s (Err e) lt ok err = record { may = tt; gives = λ stops xs has fine. absurd (no_error stops e has.0 err fine) }
+  pub left_some : (s : Span X) → s.from < s.to → s.to ≤ length s.list → left_in s ≡ [] → ⊥
+  left_some s lt within none = omega (arith, lt, within, ap length none, length-take (s.to - s.from) (drop s.from s.list), length-drop s.from s.list)
+
+  -- the first item of what is left
+  pub gives_front : (s : Span X) (x : X) → s.from < s.to → slice_get s.list s.from ≡ Some x → SpanGives front_of s (Some (Ok x)) (record s { from = s.from + 1 })
+  gives_front s x lt here =
+      let whole = left_front s x lt here in
+      record { answer = (ap first whole, sym (ap but_first whole)); list = refl }
 
   -- the last item
-  pub span_back : (s : Span X) (r : Result X Error) → s.from < s.to → IfOk r (λ x. slice_get s.list (s.to - 1) ≡ Some x) → IfErr r (λ e. e ≡ OutOfMemory)
-      → Answers (λ _. Unit {0}) SpanHas back_of s (Some r) (record s { to = s.to - 1 })
-  span_back s (Ok x) lt ok err = record {
-    may = tt;
-    gives = λ stops xs has fine.
-        let t : Span X = record s { to = s.to - 1 } in
-        let whole : xs ≡ all_ok (left_in t) ++ Ok x ∷ [] = has.1 ∙ ap all_ok (left_back s x lt ok) ∙ map-append (λ (y : X). Ok y) (left_in t) (x ∷ []) in
-        let turned : reverse xs ≡ Ok x ∷ reverse (all_ok (left_in t)) = ap reverse whole ∙ reverse-append (all_ok (left_in t)) (Ok x ∷ []) in
-        (sym (ap first turned), (has.0, ap (λ (ys : List (Result X Error)). reverse (but_first ys)) turned ∙ reverse-reverse (all_ok (left_in t))));
-  }
-  span_back s (Err e) lt ok err = record { may = tt; gives = λ stops xs has fine. absurd (no_error stops e has.0 err fine) }
+  pub gives_back : (s : Span X) (x : X) → s.from < s.to → slice_get s.list (s.to - 1) ≡ Some x → SpanGives back_of s (Some (Ok x)) (record s { to = s.to - 1 })
+  gives_back s x lt here =
+      let t : Span X = record s { to = s.to - 1 } in
+      let turned : reverse (left_in s) ≡ x ∷ reverse (left_in t) = ap reverse (left_back s x lt here) ∙ reverse-append (left_in t) (x ∷ []) in
+      record { answer = (ap first turned, sym (ap (λ (ys : List X). reverse (but_first ys)) turned ∙ reverse-reverse (left_in t))); list = refl }
+
+  -- want of memory, after which nothing is left
+  pub gives_refusal : (end : List X → Option X × List X) (s : Span X) (e : Error) → s.from < s.to → s.to ≤ length s.list → e ≡ OutOfMemory → SpanGives end s (Some (Err e)) (record s { from = s.to })
+  gives_refusal end s e lt within memory =
+      record { answer = (memory, left_some s lt within, left_empty (record s { from = s.to }) (omega arith)); list = refl }
 
   -- nothing is left
-  pub span_front_end : (s : Span X) → s.to ≤ s.from → Answers (λ _. Unit {0}) SpanHas front_of s None s
-  span_front_end s le = record {
-    may = tt;
-    gives = λ stops xs has fine.
-        let none : xs ≡ [] = has.1 ∙ ap all_ok (left_empty s le) in
-        (sym (ap first none), (has.0, ap but_first none ∙ sym none ∙ has.1));
-  }
+  pub gives_none : (end : List X → Option X × List X) (s : Span X) → s.to ≤ s.from → SpanGives end s None s
+  gives_none end s le = let none = left_empty s le in record { answer = (none, none); list = refl }
 
-  pub span_back_end : (s : Span X) → s.to ≤ s.from → Answers (λ _. Unit {0}) SpanHas back_of s None s
-  span_back_end s le = record {
-    may = tt;
-    gives = λ stops xs has fine.
-        let none : xs ≡ [] = has.1 ∙ ap all_ok (left_empty s le) in
-        (sym (ap last none), (has.0, ap but_last none ∙ sym none ∙ has.1));
-  }
+  -- ---- what a span deals
+
+  first_is : (ys ts : List X) (x : X) → first ys ≡ Some x → ts ≡ but_first ys → (Some (Ok x) ≡ first (all_ok ys)) × (but_first (all_ok ys) ≡ all_ok ts)
+  first_is [] ts x h e = absurd cc
+  first_is (y ∷ ys) ts x h e = (let same : y ≡ x = cc in ap (λ (z : X). Some (Ok z)) (sym same), sym (ap all_ok e))
+
+  turned_ok : (ys : List X) → reverse (all_ok ys) ≡ all_ok (reverse ys)
+  turned_ok [] = refl
+  turned_ok (y ∷ ys) =
+      reverse-append (Ok y ∷ []) (all_ok ys)
+      ∙ ap (λ (zs : List (Result X Error)). zs ++ Ok y ∷ []) (turned_ok ys)
+      ∙ sym (map-append (λ (z : X). Ok z) (reverse ys) (y ∷ []))
+      ∙ sym (ap all_ok (reverse-append (y ∷ []) ys))
+
+  last_is : (ys ts : List X) (x : X) → last ys ≡ Some x → ts ≡ but_last ys → (Some (Ok x) ≡ last (all_ok ys)) × (but_last (all_ok ys) ≡ all_ok ts)
+  last_is ys ts x h e =
+      let one = first_is (reverse ys) (but_first (reverse ys)) x h refl in
+      (one.0 ∙ sym (ap first (turned_ok ys)),
+      ap (λ (zs : List (Result X Error)). reverse (but_first zs)) (turned_ok ys) ∙ ap reverse one.1 ∙ turned_ok (but_first (reverse ys)) ∙ sym (ap all_ok e))
+
+  front_step : (stops : Error → Bool) (s : Span X) (xs : List (Result X Error)) (r : Option (Result X Error)) (t : Span X) → SpanHas stops s xs → SpanGives front_of s r t → stopped stops r ≡ false → (r ≡ first xs) × SpanHas stops t (but_first xs)
+  front_step stops s xs None t has step fine =
+      let none : xs ≡ [] = has.1 ∙ ap all_ok step.answer.0 in
+      (sym (ap first none), (has.0, ap but_first none ∙ sym (ap all_ok step.answer.1)))
+  front_step stops s xs (Some (Ok x)) t has step fine =
+      let one = first_is (left_in s) (left_in t) x step.answer.0 step.answer.1 in
+      (one.0 ∙ sym (ap first has.1), (has.0, ap but_first has.1 ∙ one.1))
+  front_step stops s xs (Some (Err e)) t has step fine = absurd (no_error stops e has.0 step.answer.0 fine)
+
+  back_step : (stops : Error → Bool) (s : Span X) (xs : List (Result X Error)) (r : Option (Result X Error)) (t : Span X) → SpanHas stops s xs → SpanGives back_of s r t → stopped stops r ≡ false → (r ≡ last xs) × SpanHas stops t (but_last xs)
+  back_step stops s xs None t has step fine =
+      let none : xs ≡ [] = has.1 ∙ ap all_ok step.answer.0 in
+      (sym (ap last none), (has.0, ap but_last none ∙ sym (ap all_ok step.answer.1)))
+  back_step stops s xs (Some (Ok x)) t has step fine =
+      let one = last_is (left_in s) (left_in t) x step.answer.0 step.answer.1 in
+      (one.0 ∙ sym (ap last has.1), (has.0, ap but_last has.1 ∙ one.1))
+  back_step stops s xs (Some (Err e)) t has step fine = absurd (no_error stops e has.0 step.answer.0 fine)
 
   -- want of memory aside, a span deals what is left
-  pub span_deals : (stops : Error → Bool) (s : Span X) → stops OutOfMemory ≡ true → Deals (stopped stops) (Answers (λ _. Unit {0}) SpanHas front_of) (Answers (λ _. Unit {0}) SpanHas back_of) s (all_ok (left_in s))
-  span_deals stops s memory = deals_by (stopped stops) (Answers (λ _. Unit {0}) SpanHas front_of) (Answers (λ _. Unit {0}) SpanHas back_of) (SpanHas stops) (λ s xs r t has step fine. step.gives stops xs has fine) (λ s xs r t has step fine. step.gives stops xs has fine) s (all_ok (left_in s)) (memory, refl)
+  pub span_deals : (stops : Error → Bool) (s : Span X) → stops OutOfMemory ≡ true → Deals (stopped stops) (SpanGives front_of) (SpanGives back_of) s (all_ok (left_in s))
+  span_deals stops s memory = deals_by (stopped stops) (SpanGives front_of) (SpanGives back_of) (SpanHas stops) (front_step stops) (back_step stops) s (all_ok (left_in s)) (memory, refl)
 
   -- it may be asked at either end, however often
-  pub span_can : (s : Span X) → CanDeal (Answers (λ _. Unit {0}) SpanHas front_of) (Answers (λ _. Unit {0}) SpanHas back_of) (λ _. Unit {0}) (λ _. Unit {0}) s
-  span_can s = can_by (Answers (λ _. Unit {0}) SpanHas front_of) (Answers (λ _. Unit {0}) SpanHas back_of) (λ _. Unit {0}) (λ _. Unit {0}) (λ _. Unit {0}) (λ s may. (tt, tt)) (λ s r t may step. tt) (λ s r t may step. tt) s tt
+  pub span_can : (s : Span X) → CanDeal (SpanGives front_of) (SpanGives back_of) (λ _. Unit {0}) (λ _. Unit {0}) s
+  span_can s = can_by (SpanGives front_of) (SpanGives back_of) (λ _. Unit {0}) (λ _. Unit {0}) (λ _. Unit {0}) (λ s may. (tt, tt)) (λ s r t may step. tt) (λ s r t may step. tt) s tt
+
+  -- ---- nothing comes after a refusal
+
+  -- an end of a list deals nothing of an empty one
+  abbrev DealsNone : (List X → Option X × List X) → Type 0
+  DealsNone end = (end []).0 ≡ None
+
+  none_step : (end : List X → Option X × List X) (s : Span X) (r : Option (Result X Error)) (t : Span X) → DealsNone end → left_in s ≡ [] → SpanGives end s r t → (r ≡ None) × (left_in t ≡ [])
+  none_step end s None t deals none step = (refl, step.answer.1)
+  none_step end s (Some (Ok x)) t deals none step =
+      let wrong : Some x ≡ None = sym step.answer.0 ∙ ap (λ (ys : List X). (end ys).0) none ∙ deals in absurd cc
+  none_step end s (Some (Err e)) t deals none step = absurd (step.answer.1 none)
+
+  none_along : (ends : List Direction) (rs : List (Option (Result X Error))) (s t : Span X) → left_in s ≡ [] → Runs (SpanGives front_of) (SpanGives back_of) s ends rs t → AllByRecursion (λ r. r ≡ None) rs
+  none_along [] [] s t none runs = tt
+  none_along [] (r ∷ rs) s t none runs = absurd runs
+  none_along (e ∷ ends) [] s t none runs = absurd runs
+  none_along (Front ∷ ends) (r ∷ rs) s t none runs =
+      let one = none_step front_of s r runs.0 refl none runs.1 in (one.0, none_along ends rs runs.0 t one.1 runs.2)
+  none_along (Back ∷ ends) (r ∷ rs) s t none runs =
+      let one = none_step back_of s r runs.0 refl none runs.1 in (one.0, none_along ends rs runs.0 t one.1 runs.2)
+
+  end_along : (ends : List Direction) (rs : List (Option (Result X Error))) (s t : Span X) → Runs (SpanGives front_of) (SpanGives back_of) s ends rs t → EndAtError rs
+  end_along [] [] s t runs = tt
+  end_along [] (r ∷ rs) s t runs = absurd runs
+  end_along (e ∷ ends) [] s t runs = absurd runs
+  end_along (e ∷ ends) (None ∷ rs) s t runs = end_along ends rs runs.0 t runs.2
+  end_along (e ∷ ends) (Some (Ok x) ∷ rs) s t runs = end_along ends rs runs.0 t runs.2
+  end_along (Front ∷ ends) (Some (Err e) ∷ rs) s t runs = none_along ends rs runs.0 t runs.1.answer.2 runs.2
+  end_along (Back ∷ ends) (Some (Err e) ∷ rs) s t runs = none_along ends rs runs.0 t runs.1.answer.2 runs.2
+
+  -- a span ends for good at its first refusal
+  pub span_ends : (s : Span X) → EndsAtError (SpanGives front_of) (SpanGives back_of) s
+  span_ends s = record { answers = λ ends rs t runs. end_along ends rs s t runs }
+
+  pub span_left : (s : Span X) → DealsLeft (SpanGives front_of) (SpanGives back_of) s
+  span_left s = record { deals = λ stops memory. span_deals stops s memory; ends = span_ends s }

@@ -20,7 +20,7 @@ left_whole xs = take_all (length xs - 0) xs (omega arith)
 -- ---- tests that cut a list in two
 
 module _ {X : Type 0} (p : X → Bool) where
-  parted_tail : (x : X) (xs : List X) → IsPartitionedBy p (x ∷ xs) → IsPartitionedBy p xs
+  pub parted_tail : (x : X) (xs : List X) → IsPartitionedBy p (x ∷ xs) → IsPartitionedBy p xs
   parted_tail x xs h i j d le lt passed = h (suc i) (suc j) d (omega (arith, le)) (omega (arith, lt)) passed
 
   is_false : (b : Bool) → (b ≡ true → ⊥) → b ≡ false
@@ -28,7 +28,7 @@ module _ {X : Type 0} (p : X → Bool) where
   is_false false h = refl
 
   -- behind one that fails none passes
-  fail_behind : (x : X) (xs : List X) → IsPartitionedBy p (x ∷ xs) → p x ≡ false → (i : ℕ) (d : X) → i < length xs → p (get_or xs i d) ≡ false
+  pub fail_behind : (x : X) (xs : List X) → IsPartitionedBy p (x ∷ xs) → p x ≡ false → (i : ℕ) (d : X) → i < length xs → p (get_or xs i d) ≡ false
   fail_behind x xs h fails i d lt =
       is_false (p (get_or xs i d)) (λ passed. let wrong : true ≡ false = sym (h 0 (suc i) d (omega arith) (omega (arith, lt)) passed) ∙ fails in absurd cc)
 
@@ -129,26 +129,26 @@ same_front p q same (x ∷ xs) = rw (same x, same_front p q same xs) refl
 same_parts : {X : Type 0} (p q : X → Bool) → ((x : X) → p x ≡ q x) → (xs : List X) → IsPartitionedBy p xs → IsPartitionedBy q xs
 same_parts p q same xs h i j d le lt passed = sym (same _) ∙ h i j d le lt (same _ ∙ passed)
 
-abbrev before : Bound (List ℕ) → Entry → Bool
+abbrev pub before : Bound (List ℕ) → Entry → Bool
 before low e = not (is_from low e.user_key)
 
-lower_parted : (low : Bound (List ℕ)) (es : List Entry) → IsStrict es → IsPartitionedBy (before low) es
+pub lower_parted : (low : Bound (List ℕ)) (es : List Entry) → IsStrict es → IsPartitionedBy (before low) es
 lower_parted (Included low) es strict = same_parts (λ (e : Entry). key_lt e.user_key low) (before (Included low)) (λ e. sym (not_not (key_lt e.user_key low))) es (below_parted es low strict)
 lower_parted (Excluded low) es strict = up_to_parted es low strict
 lower_parted Unbounded es strict = λ i j d le lt passed. absurd cc
 
-lower_is : (low : Bound (List ℕ)) (es : List Entry) → lower_place low es ≡ front_length (before low) es
+pub lower_is : (low : Bound (List ℕ)) (es : List Entry) → lower_place low es ≡ front_length (before low) es
 lower_is (Included low) es = same_front (λ (e : Entry). key_lt e.user_key low) (before (Included low)) (λ e. sym (not_not (key_lt e.user_key low))) es
 lower_is (Excluded low) es = refl
 lower_is Unbounded [] = refl
 lower_is Unbounded (e ∷ es) = refl
 
-upper_parted : (high : Bound (List ℕ)) (es : List Entry) → IsStrict es → IsPartitionedBy (λ e. is_to high e.user_key) es
+pub upper_parted : (high : Bound (List ℕ)) (es : List Entry) → IsStrict es → IsPartitionedBy (λ e. is_to high e.user_key) es
 upper_parted (Included high) es strict = up_to_parted es high strict
 upper_parted (Excluded high) es strict = below_parted es high strict
 upper_parted Unbounded es strict = λ i j d le lt passed. refl
 
-upper_is : (high : Bound (List ℕ)) (es : List Entry) → upper_place high es ≡ front_length (λ e. is_to high e.user_key) es
+pub upper_is : (high : Bound (List ℕ)) (es : List Entry) → upper_place high es ≡ front_length (λ e. is_to high e.user_key) es
 upper_is (Included high) es = refl
 upper_is (Excluded high) es = refl
 upper_is Unbounded es = sym (front_all es)

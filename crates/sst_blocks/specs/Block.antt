@@ -1,5 +1,6 @@
 -- Blocks in a table's bytes: a header of 24 bytes, then the payload. Which block a load gives, or the first fault that it meets.
-use Rattle.std.specs.Prelude.{ℕ, ◌+◌, ◌==◌, ◌&&◌, ◌||◌, not, nat_lt, nat_le, Bool, false, List, [], ◌∷◌, ◌++◌, length, take, drop, slice_index, slice_range, Option, Some, None, is_some, is_none, unwrap_or, Result, Ok, Err, if◌then◌else◌}
+use Rattle.std.specs.Prelude.{◌≡◌, ℕ, ◌+◌, ◌==◌, ◌&&◌, ◌||◌, not, nat_lt, nat_le, Bool, false, List, [], ◌∷◌, ◌++◌, length, take, drop, slice_index, slice_range, Option, Some, None, is_some, is_none, unwrap_or, Result, Ok, Err, if◌then◌else◌}
+use Rattle.std.specs.Option.{option_or}
 use Rattle.sst_blocks.specs.declared.version.TableVersion.{TableVersion}
 use Rattle.sst_blocks.specs.declared.version.TableVersion.TheVariants.{V4}
 use Rattle.sst_blocks.specs.declared.block_type.BlockType.{BlockType}
@@ -101,6 +102,34 @@ load_at_told body position kind =
     (if not (data_len head == uncompressed_len head) then Err InvalidHeader
     else (if nat_lt (length body) (position + 24 + data_len head) then Err Truncated
     else checked_payload (version_in head) (stored_checksum head) kind (slice_range body (position + 24) (position + 24 + data_len head))))
+
+-- what a load finds wrong before it looks at the payload: too few bytes, the header, its lengths; the first fault
+unfoldable pub place_fault : List ℕ → ℕ → ℕ → BlockType → Option Error
+place_fault body offset size kind =
+    let head = slice_range body offset (offset + 24) in
+    if nat_lt size 24 || nat_lt (length body) (offset + size) then Some Truncated
+    else option_or (header_fault kind head)
+    (if not (data_len head == uncompressed_len head) || not (24 + data_len head == size) then Some InvalidHeader else None)
+
+-- the same with the size that the header says
+unfoldable pub position_fault : List ℕ → ℕ → BlockType → Option Error
+position_fault body position kind =
+    let head = slice_range body position (position + 24) in
+    if nat_lt (length body) (position + 24) then Some Truncated
+    else option_or (header_fault kind head)
+    (if not (data_len head == uncompressed_len head) then Some InvalidHeader
+    else (if nat_lt (length body) (position + 24 + data_len head) then Some Truncated else None))
+
+-- a block without its header
+abbrev pub loaded : TableVersion → BlockType → List ℕ → Loaded
+loaded v kind payload = record { version = v; kind = kind; payload = payload }
+
+-- whatever stands before and behind it, the block of a payload loads, by its handle and at its position
+abbrev pub LoadsBack : TableVersion → BlockType → List ℕ → Type 0
+LoadsBack v kind payload =
+    (front behind : List ℕ) → let body = front ++ block_bytes v kind payload ++ behind in
+    (load_told body (length front) (24 + length payload) kind ≡ Ok (loaded v kind payload))
+    × (load_at_told body (length front) kind ≡ Ok (loaded v kind payload))
 
 -- the entries, and the handles, of a loaded block
 abbrev pub entries_of : Loaded → List Entry

@@ -6,16 +6,27 @@ use Rattle.sst_blocks.specs.Handle.{Handle}
 abbrev pub capped : ℕ → ℕ
 capped n = min n (2 ^ 64 - 1)
 
+-- a block that holds nothing: its header and a count
+abbrev pub empty_len : ℕ
+empty_len = 28
+
+-- what an entry takes beside its key and its value, and a handle beside its end key
+abbrev pub entry_head_len : ℕ
+entry_head_len = 17
+
+abbrev pub handle_head_len : ℕ
+handle_head_len = 24
+
 -- what an entry and a handle take at most
 abbrev pub entry_bound : Entry → ℕ
-entry_bound e = 17 + length e.user_key + length e.value
+entry_bound e = entry_head_len + length e.user_key + length e.value
 
 abbrev pub handle_bound : Handle → ℕ
-handle_bound h = 24 + length h.end_key
+handle_bound h = handle_head_len + length h.end_key
 
 -- the block of a list of entries, and of a list of handles
 abbrev pub data_block_bound_of : List Entry → ℕ
-data_block_bound_of es = capped (28 + sum_by entry_bound es)
+data_block_bound_of es = capped (empty_len + sum_by entry_bound es)
 
 abbrev pub index_block_bound_of : List Handle → ℕ
-index_block_bound_of hs = capped (28 + sum_by handle_bound hs)
+index_block_bound_of hs = capped (empty_len + sum_by handle_bound hs)

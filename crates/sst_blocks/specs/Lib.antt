@@ -2,8 +2,8 @@ pub mod Number
 pub mod Version
 pub mod Payload
 pub mod Reading
-pub mod Place
 pub mod Handle
+pub mod Place
 pub mod Handles
 pub mod Fnv
 pub mod Block
@@ -14,3 +14,5 @@ pub mod Sections
 pub mod Opened
 pub mod SeenHandle
 pub mod Seen
+pub mod Ending
+pub mod Seeking

@@ -1,8 +1,16 @@
 //! Blocks: a checked payload of one kind.
-ghost use Rattle.std.specs.Prelude.{◌≡◌, ◌+◌, ◌++◌, ◌<◌, ◌^◌, length, IfOk, IfErr, OnOk, OnErr};
-ghost use Rattle.sst_blocks.specs.Block.{block_bytes, checked_payload, grammar_fault, is_filter, Loaded};
+ghost use Rattle.std.specs.Prelude.{◌≡◌, ◌+◌, ◌++◌, ◌<◌, ◌^◌, List, length, IfOk, IfErr, OnOk, OnErr};
+ghost use Rattle.sst_blocks.specs.Block.{block_bytes, checked_payload, entries_of, grammar_fault, handles_of, is_filter, loaded, Loaded, LoadsBack};
+ghost use Rattle.sst_blocks.specs.Handle.{Handle};
+ghost use Rattle.sst_blocks.specs.Handles.{handles_payload, AreStrictHandles, HandlesFit};
+ghost use Rattle.sst_blocks.specs.Payload.{payload, AreFit};
+ghost use Rattle.sst_entries.specs.Entry.{Entry};
+ghost use Rattle.sst_entries.specs.Strict.{IsStrict};
 ghost use Rattle.sst_entries.specs.Error.{Faults, Gives};
-ghost use Rattle.sst_blocks.specs.Starts.{IsBlock};
+ghost use Rattle.sst_blocks.specs.Starts.{HoldsEntries, IsBlock};
+ghost use Rattle.sst_blocks.specs.declared.block_type.BlockType.{BlockType};
+ghost use Rattle.sst_blocks.specs.declared.block_type.BlockType.TheVariants.{Index};
+ghost use Rattle.sst_blocks.specs.declared.version.TableVersion.{TableVersion};
 ghost use Rattle.sst_blocks.specs.declared.version.TableVersion.TheVariants.{V4};
 ghost use Rattle.sst_entries.specs.declared.error.Error.TheVariants.{OutOfMemory};
 
@@ -16,6 +24,9 @@ use crate::{BlockHandle, BlockOffset, BlockType, CompressionType, Error, Slice, 
 pub use header::Header;
 use std::alloc::{Allocator, Global};
 use std::marker::Model;
+
+/// The length of a block that holds nothing: its header and a count.
+pub(crate) const EMPTY_LEN: u64 = 28;
 
 /// A block that was loaded: its payload is in the grammar of its kind. It shares the table's bytes.
 #[derive(Drop)]
@@ -139,4 +150,16 @@ impl<A: Allocator + Clone> Block<A> {
         writer.append_both(&header.encode(kind), payload)?;
         Ok(BlockHandle::new(offset, Header::LEN + len))
     }
+}
+
+/// A law of blocks that were written: whatever stands before and behind it, the block of a strict list that its version can
+/// spell loads, by its handle and at its position, and holds the list. The call does nothing.
+pub fn written_blocks_load()
+    ensures entries { (v : TableVersion) (kind : BlockType) (es : List Entry) → HoldsEntries kind →
+        IsStrict es → AreFit v es → length (payload v es) < 2 ^ 32 →
+        LoadsBack v kind (payload v es) × (entries_of (loaded v kind (payload v es)) ≡ es) }
+    ensures handles { (v : TableVersion) (hs : List Handle) → AreStrictHandles hs → HandlesFit v hs →
+        length (handles_payload v hs) < 2 ^ 32 → LoadsBack v Index (handles_payload v hs)
+        × (handles_of (loaded v Index (handles_payload v hs)) ≡ hs) }
+{
 }

@@ -6,7 +6,7 @@ ghost use Rattle.sst_blocks.specs.Block.{entries_of};
 ghost use Rattle.sst_blocks.specs.Bounds.{data_block_bound_of};
 ghost use Rattle.sst_blocks.specs.Encoding.{entries_fault};
 ghost use Rattle.sst_entries.specs.Entry.{Entry};
-ghost use Rattle.sst_entries.specs.Error.{Faults, is_memory};
+ghost use Rattle.sst_entries.specs.Error.{Faults, FaultsFirst, is_memory};
 ghost use Rattle.sst_entries.specs.Key.{key_lt};
 ghost use Rattle.sst_blocks.specs.Payload.{payload, AreFit};
 ghost use Rattle.sst_entries.specs.Point.{point};
@@ -16,6 +16,8 @@ ghost use Rattle.sst_entries.specs.Span.{front_length};
 ghost use Rattle.sst_blocks.specs.Starts.{EntriesAt, HoldsEntries};
 ghost use Rattle.sst_entries.specs.Strict.{IsStrict};
 ghost use Rattle.sst_entries.specs.Stream.{Deals, CanDeal, all_ok, stopped};
+ghost use Rattle.sst_blocks.specs.Ending.{EndsAtError};
+ghost use Rattle.sst_blocks.specs.Seeking.{whole};
 ghost use Rattle.sst_entries.specs.declared.error.Error.{Error};
 ghost use Rattle.sst_entries.specs.declared.error.Error.TheVariants.{OutOfMemory, InvalidBlock};
 ghost use Rattle.sst_blocks.specs.declared.version.TableVersion.TheVariants.{V4};
@@ -24,9 +26,10 @@ mod encode;
 mod entry_ref;
 mod iter;
 
+use crate::block::{EMPTY_LEN, Header};
 use crate::number::u32_at;
 use crate::{Block, Error, InternalValue, SeqNo, Slice, TableVersion};
-use encode::{length_fault, put_items};
+use encode::{block_len, put_items, with_entry};
 use entry_ref::{EntryRef, head_len, read_entry};
 pub use iter::Iter;
 use std::alloc::{Allocator, Global};
@@ -96,12 +99,9 @@ pub(crate) fn entry_starts<A: Allocator>(
 pub fn data_block_bound<A: Allocator>(items: &[InternalValue<A>]) -> u64
     ensures { result ≡ data_block_bound_of items.now }
 {
-    let mut bound = 28u64;
+    let mut bound = EMPTY_LEN;
     for item in items {
-        bound = bound
-            .saturating_add(17)
-            .saturating_add(item.key.user_key.len() as u64)
-            .saturating_add(item.value.len() as u64);
+        bound = with_entry(bound, item);
     }
     bound
 }
@@ -134,6 +134,8 @@ impl<A: Allocator> DataBlock<A> {
         ensures ok { OnOk result (buf.new.items ≡ buf.old.items ++ payload V4 items.now) }
         ensures unchanged { OnErr result (buf.new.items ≡ buf.old.items) }
         ensures refused { Faults result (entries_fault items.now) }
+        // What is found before anything is written takes no memory.
+        ensures first { FaultsFirst result (entries_fault items.now) }
         // What was written spells the entries, and its block's length is the bound.
         ensures reads { OnOk result (entries_in V4 (payload V4 items.now) ≡ Some items.now) }
         ensures bound { OnOk result (24 + length (payload V4 items.now) ≡ data_block_bound_of items.now) }
@@ -141,16 +143,10 @@ impl<A: Allocator> DataBlock<A> {
     {
         let _ = restart_interval;
         let _ = hash_ratio;
-        if let Some(error) = length_fault(items) {
-            return Err(error);
-        }
-        let bound = data_block_bound(items);
-        if bound > u64::from(u32::MAX) {
-            return Err(Error::BlockTooLarge);
-        }
+        let len = block_len(items)?;
         let start = buf.len();
-        // The bound is the block's length with its header: one growth holds the payload.
-        buf.reserve(bound as usize - 24)?;
+        // One growth holds the payload.
+        buf.reserve(len as usize - Header::LEN as usize)?;
         let outcome = put_items(buf, items);
         if outcome.is_err() {
             buf.truncate(start);
@@ -173,6 +169,7 @@ impl<A: Allocator> DataBlock<A> {
         self.starts.is_empty()
     }
 
+    #[inline(always)]
     fn entry_ref(&self, index: usize) -> EntryRef<'_>
         requires { index < length self.now }
         ensures { slice_get self.now index ≡ Some (seen result) }
@@ -186,6 +183,7 @@ impl<A: Allocator> DataBlock<A> {
     }
 
     // The entry that was read at a place. Its key and value share the block's memory.
+    #[inline(always)]
     fn share(&self, index: usize, entry: &EntryRef<'_>) -> Result<InternalValue<A>, Error>
         requires { slice_get self.now index ≡ Some (seen entry.now) }
         ensures found { IfOk result (λ e. e ≡ seen entry.now) }
@@ -200,6 +198,7 @@ impl<A: Allocator> DataBlock<A> {
     }
 
     /// The entry of a place, whose key and value share the block's memory. Refused [`Error::OutOfMemory`] alone.
+    #[inline(always)]
     pub fn entry(&self, index: usize) -> Result<InternalValue<A>, Error>
         requires { index < length self.now }
         ensures found { IfOk result (λ e. slice_get self.now index ≡ Some e) }
@@ -232,6 +231,7 @@ impl<A: Allocator> DataBlock<A> {
     pub fn first_at_least(&self, key: &[u8]) -> usize
         ensures place { result ≡ front_length (λ e. key_lt e.user_key key.now) self.now }
         ensures within { result ≤ length self.now }
+        ensures strict { IsStrict self.now }
     {
         self.front_len(|entry| entry.is_below(key))
     }
@@ -240,15 +240,24 @@ impl<A: Allocator> DataBlock<A> {
     pub fn first_above(&self, key: &[u8]) -> usize
         ensures place { result ≡ front_length (λ e. not (key_lt key.now e.user_key)) self.now }
         ensures within { result ≤ length self.now }
+        ensures strict { IsStrict self.now }
     {
         self.front_len(|entry| !entry.is_above(key))
     }
 
     /// The entries, from both ends.
     pub fn iter<'a>(&'a self) -> Iter<'a, A>
-        ensures span { result ≡ record { list = self.now; from = 0; to = length self.now } }
-        ensures deals { (stops : Error → Bool) → stops OutOfMemory ≡ true → Deals (stopped stops) ⟦<Iter<'a, A> as Iterator>⟧.next_gives ⟦<Iter<'a, A> as DoubleEndedIterator>⟧.next_back_gives result (all_ok self.now) }
-        ensures can { CanDeal ⟦<Iter<'a, A> as Iterator>⟧.next_gives ⟦<Iter<'a, A> as DoubleEndedIterator>⟧.next_back_gives ⟦<Iter<'a, A> as Iterator>⟧.can_next ⟦<Iter<'a, A> as DoubleEndedIterator>⟧.can_next_back result }
+        ensures span { result ≡ whole self.now }
+        ensures deals { (stops : Error → Bool) → stops OutOfMemory ≡ true →
+            Deals (stopped stops) ⟦<Iter<'a, A> as Iterator>⟧.next_gives
+            ⟦<Iter<'a, A> as DoubleEndedIterator>⟧.next_back_gives result (all_ok self.now) }
+        ensures can { CanDeal ⟦<Iter<'a, A> as Iterator>⟧.next_gives
+            ⟦<Iter<'a, A> as DoubleEndedIterator>⟧.next_back_gives
+            ⟦<Iter<'a, A> as Iterator>⟧.can_next
+            ⟦<Iter<'a, A> as DoubleEndedIterator>⟧.can_next_back result }
+        // After a refusal every call, at either end, answers `None`.
+        ensures ends { EndsAtError ⟦<Iter<'a, A> as Iterator>⟧.next_gives
+            ⟦<Iter<'a, A> as DoubleEndedIterator>⟧.next_back_gives result }
     {
         Iter::new(self)
     }

@@ -1,14 +1,18 @@
 //! Index blocks: strict lists of block handles.
 ghost use Rattle.std.specs.Prelude.{◌≡◌, ◌+◌, ◌++◌, ◌<◌, ◌^◌, ◌≤◌, ◌↔◌, [], Bool, Some, None, true, not, length, find, IsTrue, IfOk, IfErr, OnOk, OnErr};
 ghost use Rattle.std.specs.List.{slice_get};
+ghost use Rattle.std.specs.Option.{option_map};
 ghost use Rattle.sst_blocks.specs.Block.{handles_of};
 ghost use Rattle.sst_blocks.specs.Bounds.{index_block_bound_of};
 ghost use Rattle.sst_blocks.specs.Encoding.{handles_fault};
-ghost use Rattle.sst_entries.specs.Error.{Faults};
+ghost use Rattle.sst_entries.specs.Error.{Faults, FaultsFirst};
 ghost use Rattle.sst_blocks.specs.Handles.{handles_payload, handles_in, reaches, is_above, AreStrictHandles};
+ghost use Rattle.sst_blocks.specs.Place.{place_of};
 ghost use Rattle.sst_blocks.specs.SeenHandle.{seen_handle};
 ghost use Rattle.sst_entries.specs.Span.{front_length};
 ghost use Rattle.sst_entries.specs.Stream.{Deals, CanDeal, all_ok, stopped};
+ghost use Rattle.sst_blocks.specs.Ending.{EndsAtError};
+ghost use Rattle.sst_blocks.specs.Seeking.{whole};
 ghost use Rattle.sst_entries.specs.declared.error.Error.{Error};
 ghost use Rattle.sst_blocks.specs.declared.block_type.BlockType.TheVariants.{Index};
 ghost use Rattle.sst_entries.specs.declared.error.Error.TheVariants.{OutOfMemory};
@@ -18,8 +22,9 @@ mod encode;
 mod iter;
 mod read;
 
+use crate::block::{EMPTY_LEN, Header};
 use crate::{Block, BlockHandle, BlockOffset, Error, KeyedBlockHandle, SeqNo, Slice, TableVersion};
-use encode::{key_fault, put_handles};
+use encode::{block_len, put_handles, with_handle};
 pub use iter::Iter;
 pub(crate) use read::handle_starts;
 use read::{HandleRef, head_len, read_handle};
@@ -52,11 +57,9 @@ impl<A: Allocator> Model for IndexBlock<A> {
 pub fn index_block_bound<A: Allocator>(handles: &[KeyedBlockHandle<A>]) -> u64
     ensures { result ≡ index_block_bound_of handles.now }
 {
-    let mut bound = 28u64;
+    let mut bound = EMPTY_LEN;
     for handle in handles {
-        bound = bound
-            .saturating_add(24)
-            .saturating_add(handle.end_key().len() as u64);
+        bound = with_handle(bound, handle);
     }
     bound
 }
@@ -120,6 +123,7 @@ impl<A: Allocator> IndexBlock<A> {
     pub fn first_reaching(&self, key: &[u8], seqno: SeqNo) -> usize
         ensures place { result ≡ front_length (λ h. not (reaches key.now seqno h)) self.now }
         ensures within { result ≤ length self.now }
+        ensures strict { AreStrictHandles self.now }
     {
         let mut low = 0;
         let mut high = self.len();
@@ -143,24 +147,32 @@ impl<A: Allocator> IndexBlock<A> {
         self.first_reaching(key, 0)
     }
 
-    /// The first handle that reaches a key and a number: whose block alone may hold the newest entry of the key numbered
-    /// below `seqno`. Refused [`Error::OutOfMemory`] alone.
-    pub fn find(&self, key: &[u8], seqno: SeqNo) -> Result<Option<KeyedBlockHandle<A>>, Error>
-        ensures found { IfOk result (λ found. found ≡ find (reaches key.now seqno) self.now) }
-        ensures err { IfErr result (λ e. e ≡ OutOfMemory) }
+    /// Where the first block lies whose handle reaches a key and a number: it alone may hold the newest entry of the key
+    /// numbered below `seqno`. No memory is taken.
+    pub fn find(&self, key: &[u8], seqno: SeqNo) -> Option<BlockHandle>
+        ensures { result ≡ option_map place_of (find (reaches key.now seqno) self.now) }
     {
         let index = self.first_reaching(key, seqno);
         if index == self.len() {
-            return Ok(None);
+            return None;
         }
-        Ok(Some(self.handle(index)?))
+        let handle = self.handle_ref(index);
+        Some(BlockHandle::new(BlockOffset(handle.offset), handle.size))
     }
 
     /// The handles, from both ends.
     pub fn iter<'a>(&'a self) -> Iter<'a, A>
-        ensures span { result ≡ record { list = self.now; from = 0; to = length self.now } }
-        ensures deals { (stops : Error → Bool) → stops OutOfMemory ≡ true → Deals (stopped stops) ⟦<Iter<'a, A> as Iterator>⟧.next_gives ⟦<Iter<'a, A> as DoubleEndedIterator>⟧.next_back_gives result (all_ok self.now) }
-        ensures can { CanDeal ⟦<Iter<'a, A> as Iterator>⟧.next_gives ⟦<Iter<'a, A> as DoubleEndedIterator>⟧.next_back_gives ⟦<Iter<'a, A> as Iterator>⟧.can_next ⟦<Iter<'a, A> as DoubleEndedIterator>⟧.can_next_back result }
+        ensures span { result ≡ whole self.now }
+        ensures deals { (stops : Error → Bool) → stops OutOfMemory ≡ true →
+            Deals (stopped stops) ⟦<Iter<'a, A> as Iterator>⟧.next_gives
+            ⟦<Iter<'a, A> as DoubleEndedIterator>⟧.next_back_gives result (all_ok self.now) }
+        ensures can { CanDeal ⟦<Iter<'a, A> as Iterator>⟧.next_gives
+            ⟦<Iter<'a, A> as DoubleEndedIterator>⟧.next_back_gives
+            ⟦<Iter<'a, A> as Iterator>⟧.can_next
+            ⟦<Iter<'a, A> as DoubleEndedIterator>⟧.can_next_back result }
+        // After a refusal every call, at either end, answers `None`.
+        ensures ends { EndsAtError ⟦<Iter<'a, A> as Iterator>⟧.next_gives
+            ⟦<Iter<'a, A> as DoubleEndedIterator>⟧.next_back_gives result }
     {
         Iter::new(self)
     }
@@ -173,21 +185,17 @@ impl<A: Allocator> IndexBlock<A> {
         ensures ok { OnOk result (buf.new.items ≡ buf.old.items ++ handles_payload V4 handles.now) }
         ensures unchanged { OnErr result (buf.new.items ≡ buf.old.items) }
         ensures refused { Faults result (handles_fault handles.now) }
+        // What is found before anything is written takes no memory.
+        ensures first { FaultsFirst result (handles_fault handles.now) }
         // What was written spells the handles, and its block's length is the bound.
         ensures reads { OnOk result (handles_in V4 (handles_payload V4 handles.now) ≡ Some handles.now) }
         ensures bound { OnOk result (24 + length (handles_payload V4 handles.now) ≡ index_block_bound_of handles.now) }
         ensures short { OnOk result (24 + length (handles_payload V4 handles.now) < 2 ^ 32) }
     {
-        if let Some(fault) = key_fault(handles) {
-            return Err(fault);
-        }
-        let bound = index_block_bound(handles);
-        if bound > u64::from(u32::MAX) {
-            return Err(Error::BlockTooLarge);
-        }
+        let len = block_len(handles)?;
         let start = buf.len();
-        // The bound is the block's length with its header: one growth holds the payload.
-        buf.reserve(bound as usize - 24)?;
+        // One growth holds the payload.
+        buf.reserve(len as usize - Header::LEN as usize)?;
         let outcome = put_handles(buf, handles);
         if outcome.is_err() {
             buf.truncate(start);

@@ -16,7 +16,7 @@ mod source;
 mod toc;
 mod version;
 
-pub use block::{Block, Header};
+pub use block::{Block, Header, written_blocks_load};
 pub use block_type::BlockType;
 pub use checksum::Checksum;
 pub use compression::CompressionType;

@@ -1,7 +1,7 @@
 //! The only way to the blocks of a table's bytes.
 ghost use Rattle.std.specs.Prelude.{◌≡◌, ◌+◌, ◌<◌, ◌≤◌, ◌^◌, List, ℕ, length, map, slice_range, IfOk, None};
-ghost use Rattle.sst_blocks.specs.Block.{checked_payload, load_told, load_at_told, Loaded};
-ghost use Rattle.sst_entries.specs.Error.{Gives, Faults};
+ghost use Rattle.sst_blocks.specs.Block.{checked_payload, load_told, load_at_told, place_fault, position_fault, Loaded};
+ghost use Rattle.sst_entries.specs.Error.{Gives, Refuses, FaultsFirst};
 ghost use Rattle.sst_blocks.specs.Opened.{counted, none_opened};
 ghost use Rattle.sst_blocks.specs.Sections.{body_of, section_in, section_names, trailer_fault};
 ghost use Rattle.sst_blocks.specs.declared.opened.Opened.{Opened};
@@ -50,12 +50,12 @@ impl<A: Allocator + Clone> Clone for BlockSource<A> {
 }
 
 impl<A: Allocator + Clone> BlockSource<A> {
-    /// Reads the trailer. Refused [`Error::InvalidTrailer`] where there are fewer than 120 bytes, the mark differs or a section
-    /// passes the end of the body, and [`Error::OutOfMemory`].
+    /// Reads the trailer, and takes no memory. Refused [`Error::InvalidTrailer`] where there are fewer than 120 bytes, the mark
+    /// differs or a section passes the end of the body.
     pub fn new(alloc: A, bytes: Slice<A>) -> Result<BlockSource<A>, Error>
         ensures ok { IfOk result (λ s. s ≡ bytes) }
         ensures short { length bytes < 2 ^ 63 }
-        ensures refused { Faults result (trailer_fault bytes) }
+        ensures refused { Refuses result (trailer_fault bytes) }
     {
         let toc = Toc::of(bytes.as_slice())?;
         Ok(BlockSource { bytes, toc, alloc })
@@ -72,15 +72,19 @@ impl<A: Allocator + Clone> BlockSource<A> {
     /// The block of a kind that a handle names. Refused with the first fault, in this order: [`Error::Truncated`] where the
     /// handle's size is below a header's or passes the body, [`Error::InvalidHeader`] for the mark or the zero bytes,
     /// [`Error::InvalidTag`], [`Error::UnsupportedCompression`], [`Error::InvalidHeader`] for lengths that do not agree,
-    /// [`Error::ChecksumMismatch`], [`Error::InvalidBlock`]; and [`Error::OutOfMemory`]. Each call counts, also where it
-    /// refuses.
+    /// [`Error::ChecksumMismatch`], [`Error::InvalidBlock`]; and [`Error::OutOfMemory`], which stands in the place of none
+    /// of the faults before the checksum. Each call counts, also where it refuses.
     pub fn load(
         &self,
         handle: &BlockHandle,
         kind: BlockType,
         opened: &mut Opened,
     ) -> Result<Block<A>, Error>
-        ensures told { Gives (λ (b : Loaded). b) result (load_told (body_of self.now) handle.now.offset handle.now.size kind) }
+        ensures told { let body = body_of self.now in
+            Gives (λ (b : Loaded). b) result (load_told body handle.now.offset handle.now.size kind) }
+        // What is found before the payload is looked at takes no memory.
+        ensures first { let body = body_of self.now in
+            FaultsFirst result (place_fault body handle.now.offset handle.now.size kind) }
         ensures counted { opened.new ≡ counted kind opened.old }
     {
         opened.count(kind);
@@ -111,6 +115,7 @@ impl<A: Allocator + Clone> BlockSource<A> {
         opened: &mut Opened,
     ) -> Result<Block<A>, Error>
         ensures told { Gives (λ (b : Loaded). b) result (load_at_told (body_of self.now) position kind) }
+        ensures first { FaultsFirst result (position_fault (body_of self.now) position kind) }
         // A block ends within memory.
         ensures within { IfOk result (λ b. position + 24 + length b.payload < 2 ^ 63) }
         ensures counted { opened.new ≡ counted kind opened.old }
@@ -162,8 +167,8 @@ impl<A: Allocator + Clone> BlockSource<A> {
 /// Whatever blocks can be loaded from, one handle at a time.
 pub trait LoadBlocks {
     ghost use Rattle.std.specs.Prelude.{◌≡◌, List, ℕ};
-    ghost use Rattle.sst_blocks.specs.Block.{load_told, Loaded};
-    ghost use Rattle.sst_entries.specs.Error.{Gives};
+    ghost use Rattle.sst_blocks.specs.Block.{load_told, place_fault, Loaded};
+    ghost use Rattle.sst_entries.specs.Error.{Gives, FaultsFirst};
     ghost use Rattle.sst_blocks.specs.Opened.{counted};
     ghost use Rattle.sst_blocks.specs.declared.opened.Opened.{Opened};
 
@@ -179,7 +184,10 @@ pub trait LoadBlocks {
     /// The block of a kind that a handle names, or the first fault, as [`BlockSource::load`] answers it over the bytes that
     /// the source stands for.
     fn load(&mut self, handle: &BlockHandle, kind: BlockType) -> Result<Block<Self::Alloc>, Error>
-        ensures told { Gives (λ (b : Loaded). b) result (load_told (body self.old) handle.now.offset handle.now.size kind) }
+        ensures told { let bytes = body self.old in
+            Gives (λ (b : Loaded). b) result (load_told bytes handle.now.offset handle.now.size kind) }
+        ensures first { let bytes = body self.old in
+            FaultsFirst result (place_fault bytes handle.now.offset handle.now.size kind) }
         ensures body { body self.new ≡ body self.old }
         ensures counted { opened self.new ≡ counted kind (opened self.old) };
 }

@@ -21,6 +21,7 @@ pub struct Header {
 }
 
 impl Header {
+    /// The length of a header in bytes.
     pub(crate) const LEN: u32 = 24;
 
     /// The length of a header in bytes.

@@ -1,27 +1,51 @@
 //! Writing the payload of a data block.
-ghost use Rattle.std.specs.Prelude.{◌≡◌, ◌<◌, ◌≤◌, ◌^◌, ◌++◌, length, take, vec_len, OnOk, OnErr, IfErr, None};
-ghost use Rattle.sst_blocks.specs.Encoding.{length_fault};
+ghost use Rattle.std.specs.Prelude.{◌≡◌, ◌+◌, ◌<◌, ◌≤◌, ◌^◌, ◌++◌, length, take, vec_len, OnOk, OnErr, IfOk, IfErr, None};
+ghost use Rattle.sst_blocks.specs.Bounds.{capped, data_block_bound_of, entry_bound};
+ghost use Rattle.sst_blocks.specs.Encoding.{entries_fault, length_fault};
+ghost use Rattle.sst_entries.specs.Error.{Refuses};
 ghost use Rattle.sst_blocks.specs.Payload.{Fits, AreFit, spelled, payload};
 ghost use Rattle.sst_entries.specs.declared.error.Error.TheVariants.{OutOfMemory};
 ghost use Rattle.sst_blocks.specs.declared.version.TableVersion.TheVariants.{V4};
 
+use crate::block::EMPTY_LEN;
 use crate::number::{put_u32, put_u64};
 use crate::{Error, InternalValue, TableVersion};
 use std::alloc::Allocator;
 
-/// The first entry that is too long: its key, else its value.
-pub(crate) fn length_fault<A: Allocator>(items: &[InternalValue<A>]) -> Option<Error>
-    ensures { result ≡ length_fault items.now }
+/// What an entry takes beside its key and its value, as it is written: its tag, its number and both lengths.
+const ENTRY_HEAD_LEN: u64 = 17;
+
+/// A bound on a block's length with one more entry in it. It stays at `u64::MAX` where the sum would pass it.
+pub(crate) fn with_entry<A: Allocator>(bound: u64, item: &InternalValue<A>) -> u64
+    ensures { result ≡ capped (bound + entry_bound item.now) }
 {
+    bound
+        .saturating_add(ENTRY_HEAD_LEN)
+        .saturating_add(item.key.user_key.len() as u64)
+        .saturating_add(item.value.len() as u64)
+}
+
+/// The length of the block of these entries, with its header. Refused [`Error::KeyTooLong`], else [`Error::ValueTooLong`],
+/// for the first entry that is too long, then [`Error::BlockTooLarge`] where the length is 2^32 or more.
+pub(crate) fn block_len<A: Allocator>(items: &[InternalValue<A>]) -> Result<u64, Error>
+    ensures len { IfOk result (λ len. (len ≡ data_block_bound_of items.now) × (len < 2 ^ 32)) }
+    ensures short { OnOk result (length_fault items.now ≡ None) }
+    ensures refused { Refuses result (entries_fault items.now) }
+{
+    let mut bound = EMPTY_LEN;
     for item in items {
         if item.key.user_key.len() > TableVersion::WRITTEN.longest_key() {
-            return Some(Error::KeyTooLong);
+            return Err(Error::KeyTooLong);
         }
         if item.value.len() > u32::MAX as usize {
-            return Some(Error::ValueTooLong);
+            return Err(Error::ValueTooLong);
         }
+        bound = with_entry(bound, item);
     }
-    None
+    if bound > u64::from(u32::MAX) {
+        return Err(Error::BlockTooLarge);
+    }
+    Ok(bound)
 }
 
 #[tactic(auto, unfolding(crate::specs::Payload::spelled))]

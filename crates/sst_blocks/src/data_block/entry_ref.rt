@@ -10,6 +10,7 @@ ghost use Rattle.sst_blocks.specs.Version.{key_width};
 
 use crate::number::{key_len_at, key_width, u32_at, u64_at};
 use crate::{SeqNo, TableVersion, ValueType};
+use sst_entries::compare_versions;
 
 /// An entry whose key and value lie in borrowed bytes.
 #[derive(Clone, Copy)]
@@ -81,11 +82,9 @@ impl EntryRef<'_> {
     {
         match last {
             None => true,
-            Some(last) => last
-                .key
-                .cmp(self.key)
-                .then(self.seqno.cmp(&last.seqno))
-                .is_lt(),
+            Some(last) => {
+                compare_versions(last.key, last.seqno, self.key, self.seqno).is_lt()
+            }
         }
     }
 
@@ -110,6 +109,6 @@ impl EntryRef<'_> {
     pub(crate) fn is_up_to(&self, key: &[u8], seqno: SeqNo) -> bool
         ensures { result ≡ not (is_before (bound_of key.now seqno) (seen self.now)) }
     {
-        !key.cmp(self.key).then(self.seqno.cmp(&seqno)).is_lt()
+        !compare_versions(key, seqno, self.key, self.seqno).is_lt()
     }
 }

@@ -1,17 +1,19 @@
 //! The entries of a data block, from both ends.
-ghost use Rattle.std.specs.Prelude.{◌≡◌, ◌-◌, nat_lt, length, min, max, not};
+ghost use Rattle.std.specs.Prelude.{◌≡◌, ◌-◌, nat_lt};
 ghost use Rattle.std.specs.Iterator.{at_most};
-ghost use Rattle.sst_entries.specs.Key.{key_lt};
-ghost use Rattle.sst_entries.specs.Span.{SpanHas, front_length};
-ghost use Rattle.sst_entries.specs.Stream.{Answers, front_of, back_of};
+ghost use Rattle.std.specs.declared.ops.Bound.TheVariants.{Included, Excluded, Unbounded};
+ghost use Rattle.sst_entries.specs.Point.{lower_place, upper_place, within};
+ghost use Rattle.sst_entries.specs.Span.{SpanGives, left_in};
+ghost use Rattle.sst_entries.specs.Stream.{front_of, back_of};
+ghost use Rattle.sst_blocks.specs.Seeking.{whole, span_from, span_to, DealsLeft, KeepsLower, KeepsUpper};
 
 use super::DataBlock;
 use crate::IterItem;
 use std::alloc::{Allocator, Global};
 use std::marker::Model;
 
-/// The entries of a data block, dealt from both ends. A call that is refused [`crate::Error::OutOfMemory`] uses its entry
-/// up.
+/// The entries of a data block, dealt from both ends. After a call that is refused [`crate::Error::OutOfMemory`] nothing
+/// more comes, from either end.
 #[derive(Drop)]
 pub struct Iter<'a, A: Allocator = Global> {
     block: &'a DataBlock<A>,
@@ -33,7 +35,7 @@ impl<'a, A: Allocator> Model for Iter<'a, A> {
 
 impl<'a, A: Allocator> Iter<'a, A> {
     pub(super) fn new(block: &'a DataBlock<A>) -> Iter<'a, A>
-        ensures { result ≡ record { list = block.now; from = 0; to = length block.now } }
+        ensures { result ≡ whole block.now }
     {
         Iter {
             block,
@@ -44,8 +46,12 @@ impl<'a, A: Allocator> Iter<'a, A> {
 
     /// Drops the entries below a key. Answers whether an entry is left.
     pub fn seek(&mut self, key: &[u8]) -> bool
-        ensures narrowed { self.new ≡ record self.old { from = max self.old.from (front_length (λ e. key_lt e.user_key key.now) self.old.list) } }
+        ensures narrowed { self.new ≡ span_from (lower_place (Included key.now) self.old.list) self.old }
         ensures left { result ≡ nat_lt self.new.from self.new.to }
+        ensures kept { left_in self.new ≡ within (Included key.now) Unbounded (left_in self.old) }
+        ensures both { KeepsUpper (Included key.now) self.old self.new }
+        ensures deals { DealsLeft ⟦<Iter<'a, A> as Iterator>⟧.next_gives
+            ⟦<Iter<'a, A> as DoubleEndedIterator>⟧.next_back_gives self.new }
     {
         self.from = self.from.max(self.block.first_at_least(key));
         self.from < self.to
@@ -53,8 +59,12 @@ impl<'a, A: Allocator> Iter<'a, A> {
 
     /// Drops the entries up to a key. Answers whether an entry is left.
     pub fn seek_exclusive(&mut self, key: &[u8]) -> bool
-        ensures narrowed { self.new ≡ record self.old { from = max self.old.from (front_length (λ e. not (key_lt key.now e.user_key)) self.old.list) } }
+        ensures narrowed { self.new ≡ span_from (lower_place (Excluded key.now) self.old.list) self.old }
         ensures left { result ≡ nat_lt self.new.from self.new.to }
+        ensures kept { left_in self.new ≡ within (Excluded key.now) Unbounded (left_in self.old) }
+        ensures both { KeepsUpper (Excluded key.now) self.old self.new }
+        ensures deals { DealsLeft ⟦<Iter<'a, A> as Iterator>⟧.next_gives
+            ⟦<Iter<'a, A> as DoubleEndedIterator>⟧.next_back_gives self.new }
     {
         self.from = self.from.max(self.block.first_above(key));
         self.from < self.to
@@ -62,8 +72,12 @@ impl<'a, A: Allocator> Iter<'a, A> {
 
     /// Drops the entries above a key. Answers whether an entry is left.
     pub fn seek_upper(&mut self, key: &[u8]) -> bool
-        ensures narrowed { self.new ≡ record self.old { to = min self.old.to (front_length (λ e. not (key_lt key.now e.user_key)) self.old.list) } }
+        ensures narrowed { self.new ≡ span_to (upper_place (Included key.now) self.old.list) self.old }
         ensures left { result ≡ nat_lt self.new.from self.new.to }
+        ensures kept { left_in self.new ≡ within Unbounded (Included key.now) (left_in self.old) }
+        ensures both { KeepsLower (Included key.now) self.old self.new }
+        ensures deals { DealsLeft ⟦<Iter<'a, A> as Iterator>⟧.next_gives
+            ⟦<Iter<'a, A> as DoubleEndedIterator>⟧.next_back_gives self.new }
     {
         self.to = self.to.min(self.block.first_above(key));
         self.from < self.to
@@ -71,8 +85,12 @@ impl<'a, A: Allocator> Iter<'a, A> {
 
     /// Drops the entries from a key on. Answers whether an entry is left.
     pub fn seek_upper_exclusive(&mut self, key: &[u8]) -> bool
-        ensures narrowed { self.new ≡ record self.old { to = min self.old.to (front_length (λ e. key_lt e.user_key key.now) self.old.list) } }
+        ensures narrowed { self.new ≡ span_to (upper_place (Excluded key.now) self.old.list) self.old }
         ensures left { result ≡ nat_lt self.new.from self.new.to }
+        ensures kept { left_in self.new ≡ within Unbounded (Excluded key.now) (left_in self.old) }
+        ensures both { KeepsLower (Excluded key.now) self.old self.new }
+        ensures deals { DealsLeft ⟦<Iter<'a, A> as Iterator>⟧.next_gives
+            ⟦<Iter<'a, A> as DoubleEndedIterator>⟧.next_back_gives self.new }
     {
         self.to = self.to.min(self.block.first_at_least(key));
         self.from < self.to
@@ -84,7 +102,7 @@ impl<A: Allocator> Iterator for Iter<'_, A> {
 
     ghost can_next = { λ _. Unit {0} };
 
-    ghost next_gives = { Answers (λ _. Unit {0}) SpanHas front_of };
+    ghost next_gives = { SpanGives front_of };
 
     ghost remaining = { λ s. at_most (s.to - s.from) };
 
@@ -92,22 +110,39 @@ impl<A: Allocator> Iterator for Iter<'_, A> {
         if self.to <= self.from {
             return None;
         }
-        let index = self.from;
-        self.from += 1;
-        Some(self.block.entry(index))
+        match self.block.entry(self.from) {
+            Ok(entry) => {
+                self.from += 1;
+                Some(Ok(entry))
+            }
+            Err(refusal) => {
+                // Nothing more comes.
+                self.from = self.to;
+                Some(Err(refusal))
+            }
+        }
     }
 }
 
 impl<A: Allocator> DoubleEndedIterator for Iter<'_, A> {
     ghost can_next_back = { λ _. Unit {0} };
 
-    ghost next_back_gives = { Answers (λ _. Unit {0}) SpanHas back_of };
+    ghost next_back_gives = { SpanGives back_of };
 
     fn next_back(&mut self) -> Option<IterItem<A>> {
         if self.to <= self.from {
             return None;
         }
-        self.to -= 1;
-        Some(self.block.entry(self.to))
+        match self.block.entry(self.to - 1) {
+            Ok(entry) => {
+                self.to -= 1;
+                Some(Ok(entry))
+            }
+            Err(refusal) => {
+                // Nothing more comes.
+                self.from = self.to;
+                Some(Err(refusal))
+            }
+        }
     }
 }

@@ -1,24 +1,47 @@
 //! Writing the payload of an index block.
-ghost use Rattle.std.specs.Prelude.{◌≡◌, ◌<◌, ◌≤◌, ◌^◌, ◌++◌, length, take, vec_len, OnOk, IfErr, None};
-ghost use Rattle.sst_blocks.specs.Encoding.{key_fault};
+ghost use Rattle.std.specs.Prelude.{◌≡◌, ◌+◌, ◌<◌, ◌≤◌, ◌^◌, ◌++◌, length, take, vec_len, OnOk, IfOk, IfErr, None};
+ghost use Rattle.sst_blocks.specs.Bounds.{capped, handle_bound, index_block_bound_of};
+ghost use Rattle.sst_blocks.specs.Encoding.{handles_fault, key_fault};
+ghost use Rattle.sst_entries.specs.Error.{Refuses};
 ghost use Rattle.sst_blocks.specs.Handles.{HandleFits, HandlesFit, handle_spelled, handles_payload};
 ghost use Rattle.sst_entries.specs.declared.error.Error.TheVariants.{OutOfMemory};
 ghost use Rattle.sst_blocks.specs.declared.version.TableVersion.TheVariants.{V4};
 
+use crate::block::EMPTY_LEN;
 use crate::number::{put_u32, put_u64};
 use crate::{Error, KeyedBlockHandle, TableVersion};
 use std::alloc::Allocator;
 
-/// The fault of the first end key that is too long.
-pub(crate) fn key_fault<A: Allocator>(handles: &[KeyedBlockHandle<A>]) -> Option<Error>
-    ensures { result ≡ key_fault handles.now }
+/// What a handle takes beside its end key, as it is written: its number, its place and the key's length.
+const HANDLE_HEAD_LEN: u64 = 24;
+
+/// A bound on a block's length with one more handle in it. It stays at `u64::MAX` where the sum would pass it.
+pub(crate) fn with_handle<A: Allocator>(bound: u64, handle: &KeyedBlockHandle<A>) -> u64
+    ensures { result ≡ capped (bound + handle_bound handle.now) }
 {
+    bound
+        .saturating_add(HANDLE_HEAD_LEN)
+        .saturating_add(handle.end_key().len() as u64)
+}
+
+/// The length of the block of these handles, with its header. Refused [`Error::KeyTooLong`] where an end key is too long,
+/// then [`Error::BlockTooLarge`] where the length is 2^32 or more.
+pub(crate) fn block_len<A: Allocator>(handles: &[KeyedBlockHandle<A>]) -> Result<u64, Error>
+    ensures len { IfOk result (λ len. (len ≡ index_block_bound_of handles.now) × (len < 2 ^ 32)) }
+    ensures short { OnOk result (key_fault handles.now ≡ None) }
+    ensures refused { Refuses result (handles_fault handles.now) }
+{
+    let mut bound = EMPTY_LEN;
     for handle in handles {
         if handle.end_key().len() > TableVersion::WRITTEN.longest_key() {
-            return Some(Error::KeyTooLong);
+            return Err(Error::KeyTooLong);
         }
+        bound = with_handle(bound, handle);
     }
-    None
+    if bound > u64::from(u32::MAX) {
+        return Err(Error::BlockTooLarge);
+    }
+    Ok(bound)
 }
 
 #[tactic(auto, unfolding(crate::specs::Handles::handle_spelled))]

@@ -1,16 +1,18 @@
 //! The handles of an index block, from both ends.
-ghost use Rattle.std.specs.Prelude.{◌≡◌, ◌+◌, ◌-◌, nat_lt, length, min, max, not};
+ghost use Rattle.std.specs.Prelude.{◌≡◌, ◌+◌, ◌-◌, nat_lt, Some, None};
 ghost use Rattle.std.specs.Iterator.{at_most};
-ghost use Rattle.sst_blocks.specs.Handles.{reaches, is_above};
-ghost use Rattle.sst_entries.specs.Span.{SpanHas, front_length};
-ghost use Rattle.sst_entries.specs.Stream.{Answers, front_of, back_of};
+ghost use Rattle.sst_blocks.specs.Handles.{window};
+ghost use Rattle.sst_entries.specs.Span.{SpanGives, left_in};
+ghost use Rattle.sst_entries.specs.Stream.{front_of, back_of};
+ghost use Rattle.sst_blocks.specs.Seeking.{whole, span_from, span_to, reaching_place, above_place, DealsLeft, KeepsLowerEdge, KeepsUpperEdge};
 
 use super::IndexBlock;
 use crate::{Error, KeyedBlockHandle, SeqNo};
 use std::alloc::{Allocator, Global};
 use std::marker::Model;
 
-/// The handles of an index block, dealt from both ends. A call that is refused [`Error::OutOfMemory`] uses its handle up.
+/// The handles of an index block, dealt from both ends. After a call that is refused [`Error::OutOfMemory`] nothing more
+/// comes, from either end.
 #[derive(Drop)]
 pub struct Iter<'a, A: Allocator = Global> {
     block: &'a IndexBlock<A>,
@@ -32,7 +34,7 @@ impl<'a, A: Allocator> Model for Iter<'a, A> {
 
 impl<'a, A: Allocator> Iter<'a, A> {
     pub(super) fn new(block: &'a IndexBlock<A>) -> Iter<'a, A>
-        ensures { result ≡ record { list = block.now; from = 0; to = length block.now } }
+        ensures { result ≡ whole block.now }
     {
         Iter {
             block,
@@ -44,8 +46,13 @@ impl<'a, A: Allocator> Iter<'a, A> {
     /// Drops what stands before the first handle that reaches a key and a number: whose end key is greater, or equal and
     /// numbered below `seqno`. Answers whether a handle is left.
     pub fn seek(&mut self, key: &[u8], seqno: SeqNo) -> bool
-        ensures narrowed { self.new ≡ record self.old { from = max self.old.from (front_length (λ h. not (reaches key.now seqno h)) self.old.list) } }
+        ensures narrowed { let place = reaching_place (key.now, seqno) self.old.list in
+            self.new ≡ span_from place self.old }
         ensures left { result ≡ nat_lt self.new.from self.new.to }
+        ensures kept { left_in self.new ≡ window (left_in self.old) (Some (key.now, seqno)) None }
+        ensures both { KeepsUpperEdge (key.now, seqno) self.old self.new }
+        ensures deals { DealsLeft ⟦<Iter<'a, A> as Iterator>⟧.next_gives
+            ⟦<Iter<'a, A> as DoubleEndedIterator>⟧.next_back_gives self.new }
     {
         self.from = self.from.max(self.block.first_reaching(key, seqno));
         self.from < self.to
@@ -54,13 +61,17 @@ impl<'a, A: Allocator> Iter<'a, A> {
     /// Drops what stands behind the first handle whose end key is greater than a key. Answers whether a handle is left. The
     /// number is not looked at: versions of the key may go on in the block of a handle that ends with the key.
     pub fn seek_upper(&mut self, key: &[u8], _seqno: SeqNo) -> bool
-        ensures narrowed { self.new ≡ record self.old { to = min self.old.to (1 + front_length (λ h. not (is_above key.now h)) self.old.list) } }
+        ensures narrowed { self.new ≡ span_to (1 + above_place key.now self.old.list) self.old }
         ensures left { result ≡ nat_lt self.new.from self.new.to }
+        // Of what was left, the part that stands in the list's window up to the key.
+        ensures kept { let upper = window self.old.list None (Some key.now) in
+            left_in self.new ≡ left_in (record self.old { list = upper }) }
+        ensures both { KeepsLowerEdge key.now self.old self.new }
+        ensures deals { DealsLeft ⟦<Iter<'a, A> as Iterator>⟧.next_gives
+            ⟦<Iter<'a, A> as DoubleEndedIterator>⟧.next_back_gives self.new }
     {
         let last = self.block.first_above(key);
-        if last < self.to {
-            self.to = last + 1;
-        }
+        self.to = self.to.min(last.saturating_add(1));
         self.from < self.to
     }
 }
@@ -70,7 +81,7 @@ impl<A: Allocator> Iterator for Iter<'_, A> {
 
     ghost can_next = { λ _. Unit {0} };
 
-    ghost next_gives = { Answers (λ _. Unit {0}) SpanHas front_of };
+    ghost next_gives = { SpanGives front_of };
 
     ghost remaining = { λ s. at_most (s.to - s.from) };
 
@@ -78,22 +89,39 @@ impl<A: Allocator> Iterator for Iter<'_, A> {
         if self.to <= self.from {
             return None;
         }
-        let index = self.from;
-        self.from += 1;
-        Some(self.block.handle(index))
+        match self.block.handle(self.from) {
+            Ok(handle) => {
+                self.from += 1;
+                Some(Ok(handle))
+            }
+            Err(refusal) => {
+                // Nothing more comes.
+                self.from = self.to;
+                Some(Err(refusal))
+            }
+        }
     }
 }
 
 impl<A: Allocator> DoubleEndedIterator for Iter<'_, A> {
     ghost can_next_back = { λ _. Unit {0} };
 
-    ghost next_back_gives = { Answers (λ _. Unit {0}) SpanHas back_of };
+    ghost next_back_gives = { SpanGives back_of };
 
     fn next_back(&mut self) -> Option<Self::Item> {
         if self.to <= self.from {
             return None;
         }
-        self.to -= 1;
-        Some(self.block.handle(self.to))
+        match self.block.handle(self.to - 1) {
+            Ok(handle) => {
+                self.to -= 1;
+                Some(Ok(handle))
+            }
+            Err(refusal) => {
+                // Nothing more comes.
+                self.from = self.to;
+                Some(Err(refusal))
+            }
+        }
     }
 }

@@ -11,6 +11,7 @@ ghost use Rattle.sst_entries.specs.declared.error.Error.TheVariants.{InvalidBloc
 
 use crate::number::{key_len_at, key_width, u32_at, u64_at};
 use crate::{Error, SeqNo, TableVersion};
+use sst_entries::compare_versions;
 use std::alloc::Allocator;
 
 /// A handle whose end key lies in borrowed bytes.
@@ -65,11 +66,9 @@ impl HandleRef<'_> {
     {
         match last {
             None => true,
-            Some(last) => last
-                .end_key
-                .cmp(self.end_key)
-                .then(self.seqno.cmp(&last.seqno))
-                .is_lt(),
+            Some(last) => {
+                compare_versions(last.end_key, last.seqno, self.end_key, self.seqno).is_lt()
+            }
         }
     }
 
@@ -78,7 +77,7 @@ impl HandleRef<'_> {
     pub(crate) fn reaches(&self, key: &[u8], seqno: SeqNo) -> bool
         ensures { result ≡ reaches key.now seqno (seen_handle self.now) }
     {
-        key.cmp(self.end_key).then(self.seqno.cmp(&seqno)).is_lt()
+        compare_versions(key, seqno, self.end_key, self.seqno).is_lt()
     }
 }
 

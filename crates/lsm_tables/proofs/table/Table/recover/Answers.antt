@@ -17,7 +17,7 @@ read parts = Ok parts
 pub returns-in_err-source-clause-told : goal.returns-in_err-source-clause-told
 returns-in_err-source-clause-told g c =
     passes_fault (λ (t : TableSeen). t.parts) c.from_residual-in_err-source.result _ c.in_err-source.field-0.0 c.from_residual-in_err-source.ensures.1
-    (opening_fails c.args.bytes c.args.global_seqno _ c.in_err-source.ensures.refused)
+    (opening_fails c.args.bytes c.args.global_seqno _ (λ _. c.in_err-source.ensures.refused))
 
 pub returns-in_err-inner-clause-told : goal.returns-in_err-inner-clause-told
 returns-in_err-inner-clause-told g c =

@@ -16,7 +16,7 @@ always (Err e) Q q = tt
 
 pub put_items-outcome-requires-clause-few : goal.put_items-outcome-requires-clause-few
 put_items-outcome-requires-clause-few g c =
-    let room : data_block_bound_of c.args.items.now < 2 ^ 32 = omega (arith, c.data_block_bound-bound.ensures, c.from.ensures, c.if-bound-from.false) in
+    let room : data_block_bound_of c.args.items.now < 2 ^ 32 = omega (arith, c.in_ok-len.ensures.len.0, c.in_ok-len.ensures.len.1) in
     entries_few c.args.items.now room
 
 pub returns-else-is_err-clause-reads : goal.returns-else-is_err-clause-reads
@@ -24,10 +24,10 @@ returns-else-is_err-clause-reads g c = and_so c.put_items-outcome.result _ _ c.p
 
 pub returns-else-is_err-clause-bound : goal.returns-else-is_err-clause-bound
 returns-else-is_err-clause-bound g c =
-    let room : data_block_bound_of c.args.items.now < 2 ^ 32 = omega (arith, c.data_block_bound-bound.ensures, c.from.ensures, c.if-bound-from.false) in
+    let room : data_block_bound_of c.args.items.now < 2 ^ 32 = omega (arith, c.in_ok-len.ensures.len.0, c.in_ok-len.ensures.len.1) in
     always c.put_items-outcome.result _ (bound_is c.args.items.now room)
 
 pub returns-else-is_err-clause-short : goal.returns-else-is_err-clause-short
 returns-else-is_err-clause-short g c =
-    let room : data_block_bound_of c.args.items.now < 2 ^ 32 = omega (arith, c.data_block_bound-bound.ensures, c.from.ensures, c.if-bound-from.false) in
+    let room : data_block_bound_of c.args.items.now < 2 ^ 32 = omega (arith, c.in_ok-len.ensures.len.0, c.in_ok-len.ensures.len.1) in
     always c.put_items-outcome.result _ (omega (arith, bound_is c.args.items.now room))

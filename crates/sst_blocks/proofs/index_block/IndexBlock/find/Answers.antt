@@ -1,15 +1,28 @@
-use Rattle.std.proofs.Common.{◌≤◌, ◌∙◌, sym, ap, length, arith}
+use Rattle.std.proofs.Common.{◌≡◌, ◌≤◌, ◌∙◌, sym, ap, length, arith}
+use Rattle.std.specs.Prelude.{Some, None, find}
 use Rattle.std.specs.List.{slice_get}
+use Rattle.std.specs.Option.{option_map}
 use Rattle.std.proofs.lemmas.Option.{slice_get_past}
 use Rattle.sst_blocks.specs.Handles.{reaches}
+use Rattle.sst_blocks.specs.Place.{Place, place_of}
+use Rattle.sst_blocks.specs.SeenHandle.{seen_handle}
 use Rattle.sst_blocks.proofs.SpanLemmas.{find_at_front}
 use Rattle.sst_blocks.proofs.index_block.IndexBlock.find.Goals as goal
 
-pub returns-then-index-len-clause-found : goal.returns-then-index-len-clause-found
-returns-then-index-len-clause-found g c =
-    let past : length c.args.self.now ≤ c.first_reaching-index.result = omega arith in
-    sym (find_at_front (reaches c.args.key.now c.args.seqno) c.args.self.now ∙ ap (slice_get c.args.self.now) (sym c.first_reaching-index.ensures.place) ∙ slice_get_past c.args.self.now c.first_reaching-index.result past)
+same_place : (p q : Place) → p.offset ≡ q.offset → p.size ≡ q.size → p ≡ q
+same_place p q offset size = ap (λ n. record p { offset = n }) offset ∙ ap (λ n. record { offset = q.offset; size = n }) size
 
-pub returns-clause-found : goal.returns-clause-found
-returns-clause-found g c =
-    sym (find_at_front (reaches c.args.key.now c.args.seqno) c.args.self.now ∙ ap (slice_get c.args.self.now) (sym c.first_reaching-index.ensures.place) ∙ c.in_ok-handle.ensures.found)
+pub returns-then-index-len : goal.returns-then-index-len
+returns-then-index-len g c =
+    let hs = c.args.self.now in
+    let past : length hs ≤ c.first_reaching-index.result = omega arith in
+    let none : find (reaches c.args.key.now c.args.seqno) hs ≡ None = find_at_front (reaches c.args.key.now c.args.seqno) hs ∙ ap (slice_get hs) (sym c.first_reaching-index.ensures.place) ∙ slice_get_past hs c.first_reaching-index.result past in
+    sym (ap (option_map place_of) none)
+
+pub returns : goal.returns
+returns g c =
+    let hs = c.args.self.now in
+    let h = seen_handle c.handle_ref-handle.result in
+    let some : find (reaches c.args.key.now c.args.seqno) hs ≡ Some h = find_at_front (reaches c.args.key.now c.args.seqno) hs ∙ ap (slice_get hs) (sym c.first_reaching-index.ensures.place) ∙ c.handle_ref-handle.ensures in
+    let place : c.new.result ≡ place_of h = same_place c.new.result (place_of h) c.new.ensures.offset c.new.ensures.size in
+    ap (λ (p : Place). Some p) place ∙ sym (ap (option_map place_of) some)

@@ -1,11 +1,13 @@
-use Rattle.std.proofs.Common.{◌≡◌, ◌+◌, ◌^◌, slice_range, sym, subst, arith}
+use Rattle.std.proofs.Common.{◌≡◌, ◌+◌, ◌^◌, slice_range, sym, subst, ◌∙◌, arith}
 use Rattle.std.specs.Prelude.{Result}
 use Rattle.std.proofs.lemmas.Result.{err_from_is_err_and}
+use Rattle.std.specs.Prelude.{Some, None}
 use Rattle.sst_entries.specs.declared.error.Error.{Error}
-use Rattle.sst_blocks.specs.Block.{Loaded, load_at_told, checked_payload}
+use Rattle.sst_entries.specs.declared.error.Error.TheVariants.{Truncated, InvalidHeader}
+use Rattle.sst_blocks.specs.Block.{Loaded, load_at_told, position_fault, checked_payload}
 use Rattle.sst_entries.specs.Error.{Gives}
 use Rattle.sst_blocks.specs.Sections.{body_of}
-use Rattle.sst_blocks.proofs.LoadLemmas.{load_at_truncated, load_at_fault, load_at_lengths, load_at_passes, load_at_checked, loaded_within, range_short}
+use Rattle.sst_blocks.proofs.LoadLemmas.{load_at_truncated, load_at_fault, load_at_lengths, load_at_passes, load_at_checked, loaded_within, range_short, position_truncated, position_header, position_lengths, position_passes, position_fine, none_told}
 use Rattle.sst_blocks.proofs.source.BlockSource.load_at.Goals as goal
 use Rattle.sst_blocks.proofs.source.BlockSource.load_at.Goals.{then-body-lt-HEADER_LEN-via-then-body-lt-HEADER_LEN, then-body-lt-HEADER_LEN-via-else-body-lt-HEADER_LEN+then-body-position}
 
@@ -45,3 +47,39 @@ returns-clause-within g c =
     let to = from + c.in_ok-header.header.data_len in
     let size = range_short (body_of c.args.self.now) from c.in_ok-header.header.data_len in
     loaded_within c.in_ok-header.header.version c.in_ok-header.header.checksum c.args.kind (slice_range (body_of c.args.self.now) from to) from (2 ^ 63) c.block.result c.block.ensures (omega (arith, size, c.body-body.ensures.bound))
+
+-- what is found before the payload
+
+pub returns-then-body-lt-HEADER_LEN-clause-first : goal.returns-then-body-lt-HEADER_LEN-clause-first
+returns-then-body-lt-HEADER_LEN-clause-first g c =
+    let told = position_truncated c.body-body.result.now c.args.position c.args.kind (λ within. elim c.then-body-lt-HEADER_LEN.branch [
+      | then-body-lt-HEADER_LEN-via-then-body-lt-HEADER_LEN w ↦ omega arith
+      | then-body-lt-HEADER_LEN-via-else-body-lt-HEADER_LEN+then-body-position w ↦ omega arith
+    ]) in
+    let fault : position_fault (body_of c.args.self.now) c.args.position c.args.kind ≡ Some Truncated = cc c.body-body.ensures.body in
+    λ f is. sym is ∙ fault
+
+pub returns-in_err-header-clause-first : goal.returns-in_err-header-clause-first
+returns-in_err-header-clause-first g c =
+    let p = err_from_is_err_and c.from_residual.result c.from_residual.ensures.1 in
+    let told = position_header c.body-body.result.now c.args.position c.args.kind c.in_err-header.field-0.0 (omega arith) c.in_err-header.ensures.fault in
+    let fault : position_fault (body_of c.args.self.now) c.args.position c.args.kind ≡ Some c.in_err-header.field-0.0 = cc c.body-body.ensures.body in
+    rw (p.1, p.2) (λ f is. sym is ∙ fault)
+
+pub returns-then-header-clause-first : goal.returns-then-header-clause-first
+returns-then-header-clause-first g c =
+    let told = position_lengths c.body-body.result.now c.args.position c.args.kind (omega arith) c.in_ok-header.ensures.fault (λ same. omega (arith, c.in_ok-header.ensures.data_len, c.in_ok-header.ensures.uncompressed_len)) in
+    let fault : position_fault (body_of c.args.self.now) c.args.position c.args.kind ≡ Some InvalidHeader = cc c.body-body.ensures.body in
+    λ f is. sym is ∙ fault
+
+pub returns-then-body-start-clause-first : goal.returns-then-body-start-clause-first
+returns-then-body-start-clause-first g c =
+    let told = position_passes c.body-body.result.now c.args.position c.args.kind (omega arith) c.in_ok-header.ensures.fault (omega (arith, c.in_ok-header.ensures.data_len, c.in_ok-header.ensures.uncompressed_len)) (omega (arith, c.in_ok-header.ensures.data_len)) in
+    let fault : position_fault (body_of c.args.self.now) c.args.position c.args.kind ≡ Some Truncated = cc c.body-body.ensures.body in
+    λ f is. sym is ∙ fault
+
+pub returns-clause-first : goal.returns-clause-first
+returns-clause-first g c =
+    let told = position_fine c.body-body.result.now c.args.position c.args.kind (omega arith) c.in_ok-header.ensures.fault (omega (arith, c.in_ok-header.ensures.data_len, c.in_ok-header.ensures.uncompressed_len)) (omega (arith, c.in_ok-header.ensures.data_len)) in
+    let none : position_fault (body_of c.args.self.now) c.args.position c.args.kind ≡ None = cc c.body-body.ensures.body in
+    none_told c.block.result (position_fault (body_of c.args.self.now) c.args.position c.args.kind) none

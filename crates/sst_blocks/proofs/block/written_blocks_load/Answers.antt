@@ -1,0 +1,8 @@
+use Rattle.sst_blocks.proofs.BlockLaws.{entries_load, handles_load}
+use Rattle.sst_blocks.proofs.block.written_blocks_load.Goals as goal
+
+pub returns-clause-entries : goal.returns-clause-entries
+returns-clause-entries c v kind es holds strict fit lt = entries_load v kind es holds strict fit lt
+
+pub returns-clause-handles : goal.returns-clause-handles
+returns-clause-handles c v hs strict fit lt = handles_load v hs strict fit lt

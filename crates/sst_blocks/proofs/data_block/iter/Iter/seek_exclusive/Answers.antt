@@ -1,0 +1,23 @@
+use Rattle.std.proofs.Common.{◌≡◌, max, arith}
+use Rattle.std.specs.declared.ops.Bound.TheVariants.{Excluded}
+use Rattle.sst_entries.specs.Entry.{Entry}
+use Rattle.sst_entries.specs.Point.{lower_place}
+use Rattle.sst_entries.specs.Span.{Span}
+use Rattle.sst_blocks.proofs.Narrowing.{sought_lower, keeps_upper}
+use Rattle.sst_blocks.proofs.SpanLemmas.{span_left}
+use Rattle.sst_blocks.proofs.data_block.iter.Iter.seek_exclusive.Goals as goal
+
+pub returns-clause-kept : goal.returns-clause-kept
+returns-clause-kept g c =
+    let s : Span Entry = record { list = c.self.inside.block.now; from = c.self.inside.from; to = c.self.inside.to } in
+    let place : c.max-self-inside.result ≡ max s.from (lower_place (Excluded c.args.key.now) s.list) = omega arith in
+    rw (← c.self.view_is) (sought_lower (Excluded c.args.key.now) s c.max-self-inside.result c.first_above.ensures.strict place)
+
+pub returns-clause-both : goal.returns-clause-both
+returns-clause-both g c =
+    let s : Span Entry = record { list = c.self.inside.block.now; from = c.self.inside.from; to = c.self.inside.to } in
+    let place : c.max-self-inside.result ≡ max s.from (lower_place (Excluded c.args.key.now) s.list) = omega arith in
+    rw (← c.self.view_is) (keeps_upper (Excluded c.args.key.now) s (record s { from = c.max-self-inside.result }) (sought_lower (Excluded c.args.key.now) s c.max-self-inside.result c.first_above.ensures.strict place))
+
+pub returns-clause-deals : goal.returns-clause-deals
+returns-clause-deals g c = span_left (record { list = c.self.inside.block.now; from = c.max-self-inside.result; to = c.self.inside.to })

@@ -1,0 +1,23 @@
+use Rattle.std.proofs.Common.{◌≡◌, min}
+use Rattle.std.specs.declared.ops.Bound.TheVariants.{Included}
+use Rattle.sst_entries.specs.Entry.{Entry}
+use Rattle.sst_entries.specs.Point.{upper_place}
+use Rattle.sst_entries.specs.Span.{Span}
+use Rattle.sst_blocks.proofs.Narrowing.{sought_upper, keeps_lower}
+use Rattle.sst_blocks.proofs.SpanLemmas.{span_left}
+use Rattle.sst_blocks.proofs.data_block.iter.Iter.seek_upper.Goals as goal
+
+pub returns-clause-kept : goal.returns-clause-kept
+returns-clause-kept g c =
+    let s : Span Entry = record { list = c.self.inside.block.now; from = c.self.inside.from; to = c.self.inside.to } in
+    let place : c.min-self-inside.result ≡ min s.to (upper_place (Included c.args.key.now) s.list) = cc (c.min-self-inside.ensures, c.first_above.ensures.place) in
+    rw (← c.self.view_is) (sought_upper (Included c.args.key.now) s c.min-self-inside.result c.first_above.ensures.strict place)
+
+pub returns-clause-both : goal.returns-clause-both
+returns-clause-both g c =
+    let s : Span Entry = record { list = c.self.inside.block.now; from = c.self.inside.from; to = c.self.inside.to } in
+    let place : c.min-self-inside.result ≡ min s.to (upper_place (Included c.args.key.now) s.list) = cc (c.min-self-inside.ensures, c.first_above.ensures.place) in
+    rw (← c.self.view_is) (keeps_lower (Included c.args.key.now) s (record s { to = c.min-self-inside.result }) (sought_upper (Included c.args.key.now) s c.min-self-inside.result c.first_above.ensures.strict place))
+
+pub returns-clause-deals : goal.returns-clause-deals
+returns-clause-deals g c = span_left (record { list = c.self.inside.block.now; from = c.self.inside.from; to = c.min-self-inside.result })

@@ -1,0 +1,49 @@
+-- What seeks leave of a span.
+use Rattle.std.specs.Prelude.{◌≡◌, ℕ, Bool, true, List, length, min, max, not, Option, Some, None, Result}
+use Rattle.std.specs.declared.ops.Bound.{Bound}
+use Rattle.std.specs.declared.ops.Bound.TheVariants.{Unbounded}
+use Rattle.sst_blocks.specs.Ending.{EndsAtError}
+use Rattle.sst_blocks.specs.Handle.{Handle}
+use Rattle.sst_blocks.specs.Handles.{reaches, is_above, window}
+use Rattle.sst_entries.specs.declared.error.Error.{Error}
+use Rattle.sst_entries.specs.declared.error.Error.TheVariants.{OutOfMemory}
+use Rattle.sst_entries.specs.Entry.{Entry}
+use Rattle.sst_entries.specs.Point.{within}
+use Rattle.sst_entries.specs.Span.{Span, left_in, front_length}
+use Rattle.sst_entries.specs.Stream.{Deals, all_ok, stopped}
+
+-- all of a list; without what stands before a place; without what stands from a place on
+abbrev pub whole : {X : Type 0} → List X → Span X
+whole xs = record { list = xs; from = 0; to = length xs }
+
+abbrev pub span_from : {X : Type 0} → ℕ → Span X → Span X
+span_from n s = record s { from = max s.from n }
+
+abbrev pub span_to : {X : Type 0} → ℕ → Span X → Span X
+span_to n s = record s { to = min s.to n }
+
+-- a span deals what is left of it, where want of memory stops its reader, and ends for good there
+pub record DealsLeft {X : Type 0} (front back : Span X → Option (Result X Error) → Span X → Type 0) (s : Span X) : Type 0 where
+  pub deals : (stops : Error → Bool) → stops OutOfMemory ≡ true → Deals (stopped stops) front back s (all_ok (left_in s))
+  pub ends : EndsAtError front back s
+
+-- of the entries within an upper edge, those within both edges are left; and the same of a lower edge
+abbrev pub KeepsUpper : Bound (List ℕ) → Span Entry → Span Entry → Type 0
+KeepsUpper low old new = (high : Bound (List ℕ)) (es : List Entry) → left_in old ≡ within Unbounded high es → left_in new ≡ within low high es
+
+abbrev pub KeepsLower : Bound (List ℕ) → Span Entry → Span Entry → Type 0
+KeepsLower high old new = (low : Bound (List ℕ)) (es : List Entry) → left_in old ≡ within low Unbounded es → left_in new ≡ within low high es
+
+-- how many handles stand before the first that reaches an edge, and before the first that ends above a key
+abbrev pub reaching_place : List ℕ × ℕ → List Handle → ℕ
+reaching_place edge hs = front_length (λ h. not (reaches edge.0 edge.1 h)) hs
+
+abbrev pub above_place : List ℕ → List Handle → ℕ
+above_place key hs = front_length (λ h. not (is_above key h)) hs
+
+-- of a window up to an edge, the window between both edges is left; and of one from an edge on
+abbrev pub KeepsUpperEdge : List ℕ × ℕ → Span Handle → Span Handle → Type 0
+KeepsUpperEdge edge old new = (key : Option (List ℕ)) (hs : List Handle) → left_in old ≡ window hs None key → left_in new ≡ window hs (Some edge) key
+
+abbrev pub KeepsLowerEdge : List ℕ → Span Handle → Span Handle → Type 0
+KeepsLowerEdge key old new = (edge : Option (List ℕ × ℕ)) → left_in old ≡ window old.list edge None → left_in new ≡ window old.list edge (Some key)
