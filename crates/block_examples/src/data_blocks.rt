@@ -577,6 +577,33 @@ fn each_request_refused_is_answered_so(rt: HostRuntime) -> Result<(), Fail> {
     Ok(())
 }
 
+// Whether a block's entries, taken from the back, end for good at the first that is refused.
+fn ends_at_refusal<A: Allocator>(block: &DataBlock<A>) -> bool {
+    let mut iter = block.iter();
+    for _ in 0..block.len() {
+        match iter.next_back() {
+            Some(Ok(_)) => {}
+            Some(Err(_)) => return iter.next().is_none() && iter.next_back().is_none(),
+            None => return false,
+        }
+    }
+    iter.next_back().is_none()
+}
+
+// Whether it does so for one allocator's block of five; memory may have run out before.
+fn is_ended<A: Allocator + Copy>(alloc: A) -> bool {
+    match block_of_five(alloc) {
+        Ok(block) => ends_at_refusal(&block),
+        Err(_) => true,
+    }
+}
+
+#[test]
+fn nothing_comes_after_a_refused_entry(rt: HostRuntime) {
+    let answers = each_refused(rt.alloc(), |heap, _| is_ended(heap));
+    assert!(rt; answers.is_ok());
+}
+
 // The refusal of one entry in an allocator that refuses its sixth request, and how many it was asked.
 fn refusal_of_the_sixth(heap: &Refusing) -> Result<(Option<Error>, usize), Error> {
     let items = [entry(heap, b"a", 1, ValueType::Value, b"x")?];

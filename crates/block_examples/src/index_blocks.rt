@@ -68,16 +68,14 @@ fn four_handles<A: Allocator + Copy>(alloc: A) -> Result<Vec<KeyedBlockHandle<A>
 }
 
 // The position of the handle that is found, or 99 where there is none.
-fn found_at<A: Allocator>(block: &IndexBlock<A>, key: &[u8], seqno: SeqNo) -> Result<u64, Error> {
-    let found = block.find(key, seqno)?;
-    Ok(found.map_or(99, |handle| handle.offset().0))
+fn found_at<A: Allocator>(block: &IndexBlock<A>, key: &[u8], seqno: SeqNo) -> u64 {
+    let found = block.find(key, seqno);
+    found.map_or(99, |handle| handle.offset().0)
 }
 
-// Whether what reaches a@2 is a@1, at the position 0.
-fn finds_one(alloc: Global, block: &IndexBlock, size: u32) -> Result<bool, Error> {
-    let expected = handle(alloc, b"a", 1, 0, size)?;
-    let found = block.find(b"a", 2)?;
-    Ok(found == Some(expected))
+// Whether what reaches a@2 lies at the position 0, and has a size.
+fn finds_one(block: &IndexBlock, size: u32) -> bool {
+    block.find(b"a", 2) == Some(BlockHandle::new(BlockOffset(0), size))
 }
 
 const ONE_IN_V3: [u8; 27] = [
@@ -88,14 +86,12 @@ const ONE_IN_V4: [u8; 29] = [
     1, 0, 0, 0, 1, 0, 0, 0, 0, 0, 0, 0, 0, 0, 0, 0, 0, 0, 0, 0, 0x2f, 0, 0, 0, 1, 0, 0, 0, 0x61,
 ];
 
-// Whether a block has one handle: a@1, at the position 0.
-fn has_one_handle(alloc: Global, block: &IndexBlock, size: u32) -> Result<bool, Error> {
-    Ok(
-        block.len() == 1
-            && !block.is_empty()
-            && finds_one(alloc, block, size)?
-            && found_at(block, b"a", 1)? == 99,
-    )
+// Whether a block has one handle, which reaches a@2 and not a@1, at the position 0.
+fn has_one_handle(block: &IndexBlock, size: u32) -> bool {
+    block.len() == 1
+        && !block.is_empty()
+        && finds_one(block, size)
+        && found_at(block, b"a", 1) == 99
 }
 
 // Whether a payload is such a block.
@@ -106,7 +102,7 @@ fn is_one_handle(
     size: u32,
 ) -> Result<bool, Error> {
     let block = index_block(alloc, version, bytes)?;
-    has_one_handle(alloc, &block, size)
+    Ok(has_one_handle(&block, size))
 }
 
 // What is written of some handles behind some bytes.
@@ -236,7 +232,7 @@ fn wrong_first<A: Allocator>(block: &IndexBlock<A>) -> Result<Option<u64>, Error
         if first_after_seek(block, &[key], seqno)? != (first != 99, first) {
             return Ok(Some(first));
         }
-        if found_at(block, &[key], seqno)? != first {
+        if found_at(block, &[key], seqno) != first {
             return Ok(Some(first));
         }
     }
@@ -443,7 +439,7 @@ fn ends<A: Allocator>(block: &IndexBlock<A>) -> Result<(u64, u64), Error> {
 // The positions of a block's ends and of the handle that reaches b@5.
 fn read<A: Allocator>(block: &IndexBlock<A>) -> Result<(u64, u64, u64), Error> {
     let (first, last) = ends(block)?;
-    Ok((first, last, found_at(block, b"b", 5)?))
+    Ok((first, last, found_at(block, b"b", 5)))
 }
 
 // These positions in the block of four, by way of its bytes.
@@ -461,6 +457,33 @@ fn each_request_refused_is_answered_so(rt: HostRuntime) -> Result<(), Fail> {
     });
     assert_eq!(rt; answers, Ok(18));
     Ok(())
+}
+
+// Whether a block's handles, taken from the front, end for good at the first that is refused.
+fn ends_at_refusal<A: Allocator>(block: &IndexBlock<A>) -> bool {
+    let mut iter = block.iter();
+    for _ in 0..block.len() {
+        match iter.next() {
+            Some(Ok(_)) => {}
+            Some(Err(_)) => return iter.next_back().is_none() && iter.next().is_none(),
+            None => return false,
+        }
+    }
+    iter.next().is_none()
+}
+
+// Whether it does so for one allocator's block of four; memory may have run out before.
+fn is_ended<A: Allocator + Copy>(alloc: A) -> bool {
+    match block_of_four(alloc) {
+        Ok(block) => ends_at_refusal(&block),
+        Err(_) => true,
+    }
+}
+
+#[test]
+fn nothing_comes_after_a_refused_handle(rt: HostRuntime) {
+    let answers = each_refused(rt.alloc(), |heap, _| is_ended(heap));
+    assert!(rt; answers.is_ok());
 }
 
 // The refusal of one handle in an allocator, and how many requests it was asked.

@@ -3,7 +3,7 @@ use crate::stored_table;
 use refusing::each_refused;
 use sst_blocks::{
     Block, BlockHandle, BlockOffset, BlockSource, BlockType, CompressionType, Counted, Error,
-    LoadBlocks, Opened, SectionName, SectionWriter, Slice, TagName,
+    LoadBlocks, Opened, SectionName, SectionWriter, Slice, TagName, written_blocks_load,
 };
 use std::alloc::{Allocator, Global};
 use std::test::Fail;
@@ -44,6 +44,7 @@ fn loaded(
 
 #[test]
 fn loads_from_a_stored_table(rt: HostRuntime) {
+    written_blocks_load();
     let other_kind = Err(Error::InvalidTag(TagName::BlockType, 0));
     for (size, kind, expected) in [
         (45, BlockType::Data, Ok((BlockType::Data, 21))),

@@ -10,4 +10,3 @@ pub mod FileReads
 pub mod FilePoints
 pub mod Scans
 pub mod FileScans
-pub mod Places

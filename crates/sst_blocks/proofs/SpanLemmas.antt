@@ -98,9 +98,8 @@ module _ {X : Type 0} where
       record { answer = (ap first turned, sym (ap (λ (ys : List X). reverse (but_first ys)) turned ∙ reverse-reverse (left_in t))); list = refl }
 
   -- want of memory, after which nothing is left
-  pub gives_refusal : (end : List X → Option X × List X) (s : Span X) (e : Error) → s.from < s.to → s.to ≤ length s.list → e ≡ OutOfMemory → SpanGives end s (Some (Err e)) (record s { from = s.to })
-  gives_refusal end s e lt within memory =
-      record { answer = (memory, left_some s lt within, left_empty (record s { from = s.to }) (omega arith)); list = refl }
+  pub gives_refusal : (end : List X → Option X × List X) (s t : Span X) (e : Error) → s.from < s.to → s.to ≤ length s.list → e ≡ OutOfMemory → t.list ≡ s.list → t.to ≤ t.from → SpanGives end s (Some (Err e)) t
+  gives_refusal end s t e lt within memory list none = record { answer = (memory, left_some s lt within, left_empty t none); list = list }
 
   -- nothing is left
   pub gives_none : (end : List X → Option X × List X) (s : Span X) → s.to ≤ s.from → SpanGives end s None s

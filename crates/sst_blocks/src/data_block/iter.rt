@@ -140,7 +140,7 @@ impl<A: Allocator> DoubleEndedIterator for Iter<'_, A> {
             }
             Err(refusal) => {
                 // Nothing more comes.
-                self.from = self.to;
+                self.to = self.from;
                 Some(Err(refusal))
             }
         }

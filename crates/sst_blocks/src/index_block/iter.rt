@@ -119,7 +119,7 @@ impl<A: Allocator> DoubleEndedIterator for Iter<'_, A> {
             }
             Err(refusal) => {
                 // Nothing more comes.
-                self.from = self.to;
+                self.to = self.from;
                 Some(Err(refusal))
             }
         }

@@ -1,4 +1,4 @@
-use Rattle.std.proofs.Common.{arith}
+use Rattle.std.proofs.Common.{refl, arith}
 use Rattle.sst_entries.specs.Stream.{front_of}
 use Rattle.sst_blocks.proofs.SpanLemmas.{gives_front, gives_refusal}
 use Rattle.sst_blocks.proofs.index_block.iter.IterIterator.next.Goals as goal
@@ -9,4 +9,4 @@ returns-in-Ok-clause-steps g c =
 
 pub returns-in-Err-clause-steps : goal.returns-in-Err-clause-steps
 returns-in-Err-clause-steps g c =
-    rw (← c.self.view_is) (gives_refusal front_of (record { list = c.self.inside.block.now; from = c.self.inside.from; to = c.self.inside.to }) c.in-Err.refusal (omega arith) c.self.invariant c.in-Err.ensures.err)
+    rw (← c.self.view_is) (gives_refusal front_of (record { list = c.self.inside.block.now; from = c.self.inside.from; to = c.self.inside.to }) (record { list = c.self.inside.block.now; from = c.self.inside.to; to = c.self.inside.to }) c.in-Err.refusal (omega arith) c.self.invariant c.in-Err.ensures.err refl (omega arith))
