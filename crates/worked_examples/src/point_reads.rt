@@ -32,9 +32,9 @@ impl<A: Allocator + Clone> LoadBlocks for Listing<'_, A> {
     ghost opened = { λ l. l.source.1 };
 
     fn load(&mut self, handle: &BlockHandle, kind: BlockType) -> Result<Block<A>, Error> {
-        let block = self.source.load(handle, kind);
+        let block = self.source.load(handle, kind)?;
         self.handles.push((handle.offset().0, handle.size()))?;
-        block
+        Ok(block)
     }
 }
 

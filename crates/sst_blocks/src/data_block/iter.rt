@@ -46,7 +46,8 @@ impl<'a, A: Allocator> Iter<'a, A> {
 
     /// Drops the entries below a key. Answers whether an entry is left.
     pub fn seek(&mut self, key: &[u8]) -> bool
-        ensures narrowed { self.new ≡ span_from (lower_place (Included key.now) self.old.list) self.old }
+        ensures narrowed { let place = lower_place (Included key.now) self.old.list in
+            self.new ≡ span_from place self.old }
         ensures left { result ≡ nat_lt self.new.from self.new.to }
         ensures kept { left_in self.new ≡ within (Included key.now) Unbounded (left_in self.old) }
         ensures both { KeepsUpper (Included key.now) self.old self.new }
@@ -59,7 +60,8 @@ impl<'a, A: Allocator> Iter<'a, A> {
 
     /// Drops the entries up to a key. Answers whether an entry is left.
     pub fn seek_exclusive(&mut self, key: &[u8]) -> bool
-        ensures narrowed { self.new ≡ span_from (lower_place (Excluded key.now) self.old.list) self.old }
+        ensures narrowed { let place = lower_place (Excluded key.now) self.old.list in
+            self.new ≡ span_from place self.old }
         ensures left { result ≡ nat_lt self.new.from self.new.to }
         ensures kept { left_in self.new ≡ within (Excluded key.now) Unbounded (left_in self.old) }
         ensures both { KeepsUpper (Excluded key.now) self.old self.new }
@@ -72,7 +74,8 @@ impl<'a, A: Allocator> Iter<'a, A> {
 
     /// Drops the entries above a key. Answers whether an entry is left.
     pub fn seek_upper(&mut self, key: &[u8]) -> bool
-        ensures narrowed { self.new ≡ span_to (upper_place (Included key.now) self.old.list) self.old }
+        ensures narrowed { let place = upper_place (Included key.now) self.old.list in
+            self.new ≡ span_to place self.old }
         ensures left { result ≡ nat_lt self.new.from self.new.to }
         ensures kept { left_in self.new ≡ within Unbounded (Included key.now) (left_in self.old) }
         ensures both { KeepsLower (Included key.now) self.old self.new }
@@ -85,7 +88,8 @@ impl<'a, A: Allocator> Iter<'a, A> {
 
     /// Drops the entries from a key on. Answers whether an entry is left.
     pub fn seek_upper_exclusive(&mut self, key: &[u8]) -> bool
-        ensures narrowed { self.new ≡ span_to (upper_place (Excluded key.now) self.old.list) self.old }
+        ensures narrowed { let place = upper_place (Excluded key.now) self.old.list in
+            self.new ≡ span_to place self.old }
         ensures left { result ≡ nat_lt self.new.from self.new.to }
         ensures kept { left_in self.new ≡ within Unbounded (Excluded key.now) (left_in self.old) }
         ensures both { KeepsLower (Excluded key.now) self.old self.new }
