@@ -121,9 +121,10 @@ module _ {X : Type 0} where
 
   last_is : (ys ts : List X) (x : X) → last ys ≡ Some x → ts ≡ but_last ys → (Some (Ok x) ≡ last (all_ok ys)) × (but_last (all_ok ys) ≡ all_ok ts)
   last_is ys ts x h e =
-      let one = first_is (reverse ys) (but_first (reverse ys)) x h refl in
-      (one.0 ∙ sym (ap first (turned_ok ys)),
-      ap (λ (zs : List (Result X Error)). reverse (but_first zs)) (turned_ok ys) ∙ ap reverse one.1 ∙ turned_ok (but_first (reverse ys)) ∙ sym (ap all_ok e))
+      let one = first_is (reverse ys) (but_first (reverse ys)) x h refl in (
+        one.0 ∙ sym (ap first (turned_ok ys)),
+        ap (λ (zs : List (Result X Error)). reverse (but_first zs)) (turned_ok ys) ∙ ap reverse one.1 ∙ turned_ok (but_first (reverse ys)) ∙ sym (ap all_ok e),
+      )
 
   front_step : (stops : Error → Bool) (s : Span X) (xs : List (Result X Error)) (r : Option (Result X Error)) (t : Span X) → SpanHas stops s xs → SpanGives front_of s r t → stopped stops r ≡ false → (r ≡ first xs) × SpanHas stops t (but_first xs)
   front_step stops s xs None t has step fine =

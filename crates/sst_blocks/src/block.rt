@@ -161,5 +161,4 @@ pub fn written_blocks_load()
     ensures handles { (v : TableVersion) (hs : List Handle) → AreStrictHandles hs → HandlesFit v hs →
         length (handles_payload v hs) < 2 ^ 32 → LoadsBack v Index (handles_payload v hs)
         × (handles_of (loaded v Index (handles_payload v hs)) ≡ hs) }
-{
-}
+{}

@@ -82,9 +82,7 @@ impl EntryRef<'_> {
     {
         match last {
             None => true,
-            Some(last) => {
-                compare_versions(last.key, last.seqno, self.key, self.seqno).is_lt()
-            }
+            Some(last) => { compare_versions(last.key, last.seqno, self.key, self.seqno).is_lt() }
         }
     }
 
