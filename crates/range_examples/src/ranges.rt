@@ -422,6 +422,18 @@ fn tables_of_one_least_key_keep_their_order(rt: HostRuntime) -> Result<(), Fail>
     Ok(())
 }
 
+#[test]
+fn a_push_sorts_a_run_that_is_out_of_order(rt: HostRuntime) -> Result<(), Fail> {
+    let mut run = run_of(rt.alloc(), &FOUR)?;
+    run.extend(tables_of(rt.alloc(), &[(4, "b", "c"), (5, "q", "r")])?)?;
+    let mut last = tables_of(rt.alloc(), &[(6, "y", "z")])?;
+    if let Some(table) = last.pop() {
+        run.push(table)?;
+    }
+    assert!(rt; has_ids(run.as_slice(), &[0, 4, 1, 2, 3, 5, 6]));
+    Ok(())
+}
+
 // Whether a table as it stands in a run shows its id and its range.
 fn shows_its_table(alloc: Global) -> Result<bool, Error> {
     let range = range_of(alloc, "k", "l")?;
