@@ -11,14 +11,14 @@ use Rattle.sst_entries.specs.Stream.{Deals, CanDeal, stopped, NoneStops, Runs, f
 use Rattle.sst_entries.specs.declared.error.Error.{Error}
 use Rattle.sst_entries.specs.declared.stream.Direction.{Direction}
 use Rattle.sst_entries.specs.declared.stream.Direction.TheVariants.{Front, Back}
-use Rattle.sst_entries.proofs.StreamLemmas.{deals_by, can_by}
+use Rattle.sst_entries.proofs.StreamLemmas.{deals_by}
 use Rattle.lsm_sorted.specs.declared.ends.Ends.{Ends}
 use Rattle.lsm_sorted.specs.declared.merge.HeapItem.{HeapItem}
 use Rattle.lsm_sorted.specs.declared.merge.Merger.{Merger}
 use Rattle.lsm_sorted.specs.Ends.{R, Left, Goes, fresh}
 use Rattle.lsm_sorted.specs.Tournament.{held, room}
 use Rattle.lsm_sorted.specs.Union.{Ascends, entries_of, all_errors, merged}
-use Rattle.lsm_sorted.specs.Merge.{entry_of, count_of, is_ready, Ready, LeavesIf, Kept, whole, taken, HeapHolds, Leaves, MayMerge, MergeAnswer, Merges, NothingAfterError, EndsAtError, Follows, DealsUntil, HoldsFew, held_of}
+use Rattle.lsm_sorted.specs.Merge.{entry_of, count_of, is_ready, Ready, LeavesIf, Kept, whole, taken, HeapHolds, Leaves, MayMerge, MergeAnswer, Merges, NothingAfterError, EndsAtError, Follows, DealsUntil, held_of}
 use Rattle.lsm_sorted.proofs.NewestLemmas.{map_reverse}
 use Rattle.lsm_sorted.proofs.PopLemmas.{length_map}
 use Rattle.lsm_sorted.proofs.RoomLemmas.{may_merge}
@@ -166,17 +166,6 @@ module _ {T : Type 0} (May Ended : T → Type 0) (Has : (Error → Bool) → T �
     pub deals_until : (s : T) (xs : List Entry) (errors : List Error) → Has stops s xs errors → DealsUntil stops Forth Behind s xs errors
     deals_until s xs errors has = record { answers = λ ends rs t runs fine. follows errors ends rs s t xs has runs fine }
 
-  pub can_merge : (s : T) → May s → CanDeal Forth Behind May May s
-  can_merge s may = can_by Forth Behind May May May (λ s m. (m, m)) (λ s r t m step. step.may) (λ s r t m step. step.may) s may
-
-  -- a run leads to a state that may be called
-  pub runs_may : (ends : List Direction) (rs : List (Option R)) (s t : T) → May s → Runs Forth Behind s ends rs t → May t
-  runs_may [] [] s t may runs = subst May runs may
-  runs_may [] (r ∷ rs) s t may runs = absurd runs
-  runs_may (e ∷ ends) [] s t may runs = absurd runs
-  runs_may (Front ∷ ends) (r ∷ rs) s t may runs = runs_may ends rs runs.0 t runs.1.may runs.2
-  runs_may (Back ∷ ends) (r ∷ rs) s t may runs = runs_may ends rs runs.0 t runs.1.may runs.2
-
   -- once it has ended, it gives `None`
   ended_more : (ends : List Direction) (rs : List (Option R)) (s t : T) → Ended s → Runs Forth Behind s ends rs t → AllByRecursion (λ r. r ≡ None) rs
   ended_more [] [] s t over runs = tt
@@ -199,7 +188,3 @@ module _ {T : Type 0} (May Ended : T → Type 0) (Has : (Error → Bool) → T �
 
   pub ends_at_error : (s : T) → EndsAtError Forth Behind s
   ends_at_error s = record { answers = λ ends rs t runs. nothing_after ends rs s t runs }
-
-pub holds_few : {S A : Type 0} (front back : S → Option R → S → Type 0) (can can_back : S → Type 0) (left : S → Count) (Ended : Merger S A → Type 0) (Has : (Error → Bool) → Merger S A → List Entry → List Error → Type 0) (m : Merger S A) → MayMerge front back can can_back left m
-    → HoldsFew (Merges (MayMerge front back can can_back left) Ended Has front_of) (Merges (MayMerge front back can can_back left) Ended Has back_of) m
-holds_few front back can can_back left Ended Has m may = record { at = λ ends rs t runs. (runs_may (MayMerge front back can can_back left) Ended Has ends rs m t may runs).few }

@@ -21,6 +21,8 @@ pub mod PopLemmas
 pub mod StepLemmas
 pub mod UnionLemmas
 pub mod DealsMerged
+pub mod AsksLemmas
+pub mod CallsMerged
 pub mod OutsLemmas
 pub mod TurnLemmas
 pub mod CallLemmas

@@ -15,16 +15,12 @@ use Rattle.sst_entries.specs.declared.error.Error.{Error}
 use Rattle.lsm_sorted.specs.declared.merge.HeapItem.{HeapItem}
 use Rattle.lsm_sorted.specs.Ends.{R}
 use Rattle.lsm_sorted.specs.Union.{item_cmp, AtMost, Ascends, entries_of, errors_of, all_errors, merged}
-use Rattle.lsm_sorted.specs.Merge.{entry_of, Kept, one, whole, taken_at, kept_at, taken, HeapHolds, Ready}
+use Rattle.lsm_sorted.specs.Merge.{turn_cmp, entry_of, Kept, one, whole, taken_at, kept_at, taken, HeapHolds, Ready}
 use Rattle.lsm_sorted.proofs.MergedLemmas.{item_total, Above, at_most_chain, merged_least, merged_greatest}
 use Rattle.lsm_sorted.proofs.HeldLemmas.{Elsewhere, held_first, held_pop, held_found, taken_set_same, kept_set_other, taken_within}
 use Rattle.lsm_sorted.proofs.TakeLemmas.{all_at, all_set}
 
 -- ---- the order of heap items
-
--- by key, then by source, then the front before the back
-abbrev pub turn_cmp : {A : Type 0} → HeapItem A → HeapItem A → Ordering
-turn_cmp x y = ordering_then (key_cmp x.key y.key) (ordering_then (nat_cmp x.source y.source) (bool_cmp x.from_back y.from_back))
 
 first_not_gt : (o p : Ordering) → is_gt (ordering_then o p) ≡ false → is_gt o ≡ false
 first_not_gt Less p h = refl

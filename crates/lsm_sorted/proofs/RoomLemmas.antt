@@ -14,14 +14,14 @@ use Rattle.lsm_sorted.specs.Merge.{held_of, Adds, SameRoom, Bounded, Fits, FitsI
 use Rattle.lsm_sorted.proofs.HeldLemmas.{weight, count_cons, count_yes, count_no}
 
 -- an item of source k
-abbrev of_source : {A : Type 0} → ℕ → HeapItem A → Bool
+abbrev pub of_source : {A : Type 0} → ℕ → HeapItem A → Bool
 of_source k h = h.source == k
 
 -- of one of n sources
 abbrev Known : {A : Type 0} → ℕ → HeapItem A → Type 0
 Known n h = h.source < n
 
-count_perm : {A : Type 0} (k : ℕ) (xs ys : List (HeapItem A)) → IsPermutation xs ys → count_by (of_source k) ys ≡ count_by (of_source k) xs
+pub count_perm : {A : Type 0} (k : ℕ) (xs ys : List (HeapItem A)) → IsPermutation xs ys → count_by (of_source k) ys ≡ count_by (of_source k) xs
 count_perm k xs ys perm = sum_by-IsPermutation (λ h. cond (of_source k h) 1 0) xs ys perm
 
 not_same : {A : Type 0} (k : ℕ) (h : HeapItem A) → k ≢ h.source → of_source k h ≡ false
@@ -36,16 +36,6 @@ limit_more i k other = grind (arith, nat_tests)
 
 limit_here : (i : ℕ) (other : Bool) → cond (nat_lt i i) 1 0 + cond other 1 0 < cond (nat_lt i (i + 1)) 1 0 + cond other 1 0
 limit_here i other = grind (arith, nat_tests)
-
-limit_two : (b other : Bool) → cond b 1 0 + cond other 1 0 ≤ 2
-limit_two true true = omega arith
-limit_two true false = omega arith
-limit_two false true = omega arith
-limit_two false false = omega arith
-
-limit_here_two : (i : ℕ) (other : Bool) → cond (nat_lt i i) 1 0 + cond other 1 0 < 2
-limit_here_two i true = grind (arith, nat_tests)
-limit_here_two i false = grind (arith, nat_tests)
 
 pub limit_ready : (b other : Bool) → cond b 1 0 + cond other 1 0 ≤ 1 + cond other 1 0
 limit_ready true other = omega arith
@@ -154,17 +144,9 @@ module _ {S A : Type 0} (front back : S → Option R → S → Type 0) (can can_
       (bounded_adds (λ k. cond (nat_lt k i) 1 0 + cond other 1 0) (λ k. cond (nat_lt k (i + 1)) 1 0 + cond other 1 0) (i + most) i end s t was adds goes same within (λ k. limit_more i k other) (limit_here i other))
       refl refl (λ k. omega arith) (omega arith)
 
-  -- where source i fails
-  pub fill_fails : (other end : Bool) (i most : ℕ) (s t : Merger S A) → Within (λ k. cond (nat_lt k i) 1 0 + cond other 1 0) most s → Adds end i (held s.heap) (held t.heap) → All (Goes front back can can_back left) t.sources.items → SameRoom s t → i < length s.sources.items
-      → (k : ℕ) → held_of k t ≤ 2
-  fill_fails other end i most s t was adds goes same within = (bounded_adds (λ k. cond (nat_lt k i) 1 0 + cond other 1 0) (λ k. 2) most i end s t was adds goes same within (λ k. limit_two (nat_lt k i) other) (limit_here_two i other)).each
-
   -- after all sources
   pub fill_last : (other : Bool) (i most : ℕ) (s t : Merger S A) (limit : ℕ → ℕ) (few : ℕ) → Within (λ k. cond (nat_lt k i) 1 0 + cond other 1 0) most s → t.sources ≡ s.sources → t.heap ≡ s.heap → ((k : ℕ) → 1 + cond other 1 0 ≤ limit k) → most ≤ few → Within limit few t
   fill_last other i most s t limit few was sources heap wider fewer = bounded_same (λ k. cond (nat_lt k i) 1 0 + cond other 1 0) limit most few s t was sources heap (λ k. omega (arith, limit_ready (nat_lt k i) other, wider k)) fewer
-
-  pub fits_two : (s : Merger S A) (most : ℕ) → Within (λ k. cond s.front_ready 1 0 + cond s.back_ready 1 0) most s → (k : ℕ) → held_of k s ≤ 2
-  fits_two s most was k = omega (arith, was.each k, limit_two s.front_ready s.back_ready)
 
   -- the source of a popped item
   pub popped_known : (s : Merger S A) (h : HeapItem A) (mid : List (HeapItem A)) (limit : ℕ → ℕ) (most : ℕ) → Within limit most s → IsPermutation (held s.heap) (h ∷ mid) → h.source < length s.sources.items
@@ -205,7 +187,6 @@ module _ {S A : Type 0} (front back : S → Option R → S → Type 0) (can can_
   pub may_merge : (m : Merger S A) → m.failed ≡ false → Fits front back can can_back left m → MayMerge front back can can_back left m
   may_merge m fine fits = record {
     fits = subst (λ (b : Bool). FitsIf front back can can_back left b m) (sym fine) fits;
-    few = fits_two m _ fits;
   }
 
   pub size_of : (m : Merger S A) → m.failed ≡ false → merge_size left m ≡ merge_total left m

@@ -13,10 +13,10 @@ use Rattle.lsm_sorted.specs.declared.merge.Merger.{Merger}
 use Rattle.lsm_sorted.specs.Ends.{R, Left}
 use Rattle.lsm_sorted.specs.Tournament.{held}
 use Rattle.lsm_sorted.specs.Union.{entries_of, all_entries, all_errors, in_order, merged}
-use Rattle.lsm_sorted.specs.Merge.{entry_of, Kept, one, whole, taken_at, kept_at, taken, Ready, is_ready, HeapHolds, Stands, Merging, LeavesIf, Leaves, Took}
+use Rattle.lsm_sorted.specs.Merge.{turn_cmp, entry_of, Kept, one, whole, taken_at, kept_at, taken, Ready, is_ready, HeapHolds, Stands, Merging, LeavesIf, Leaves, Took}
 use Rattle.lsm_sorted.proofs.HeldLemmas.{held_none}
 use Rattle.lsm_sorted.proofs.FillLemmas.{by_end, other_ready, other_end}
-use Rattle.lsm_sorted.proofs.PopLemmas.{turn_cmp, cleared, Sorted, without, without_gone, without_elsewhere, without_rest, without_heap, least_merged, least_errors, least_sorted, least_spent, least_free, greatest_merged, greatest_errors, greatest_sorted, greatest_spent, greatest_free}
+use Rattle.lsm_sorted.proofs.PopLemmas.{cleared, Sorted, without, without_gone, without_elsewhere, without_rest, without_heap, least_merged, least_errors, least_sorted, least_spent, least_free, greatest_merged, greatest_errors, greatest_sorted, greatest_spent, greatest_free}
 
 same_or_not : (b c : Bool) → (b ≡ c) ⊎ (b ≡ c → ⊥)
 same_or_not true true = inl refl

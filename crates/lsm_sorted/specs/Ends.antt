@@ -1,5 +1,5 @@
 -- An iterator that is not called again once it gave `None`.
-use Rattle.std.specs.Prelude.{◌≡◌, ℕ, Bool, true, false, cond, List, [], Option, Result}
+use Rattle.std.specs.Prelude.{◌≡◌, ℕ, Bool, true, false, cond, List, [], Option, None, Result, is_none}
 use Rattle.std.specs.Iterator.{Count, IsFinite, size}
 use Rattle.sst_entries.specs.Entry.{Entry}
 use Rattle.sst_entries.specs.declared.error.Error.{Error}
@@ -34,3 +34,11 @@ ends_size left s = cond s.done 0 (size (left s.iter))
 -- before any call
 abbrev pub fresh : {S : Type 0} → S → Ends S
 fresh s = record { iter = s; done = false }
+
+abbrev pub AskedIf : {S : Type 0} → (S → Option R → S → Type 0) → Bool → Ends S → Option R → Ends S → Type 0
+AskedIf ask true s r t = (r ≡ None) × (t ≡ s)
+AskedIf ask false s r t = ask s.iter r t.iter × (t.done ≡ is_none r)
+
+-- the iterator was asked once, in this way; one that has ended was left alone
+pub record Asked {S : Type 0} (ask : S → Option R → S → Type 0) (s : Ends S) (r : Option R) (t : Ends S) : Type 0 where
+  pub call : AskedIf ask s.done s r t

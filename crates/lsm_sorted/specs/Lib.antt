@@ -11,6 +11,8 @@ pub mod Tournament
 pub mod Intervals
 pub mod IntervalHeap
 pub mod Merge
+pub mod Asks
+pub mod MergeLaws
 pub mod Point
 pub mod Compaction
 pub mod Compacting

@@ -1,7 +1,10 @@
 -- A merger of sources: what it holds, and the sorted entries that it stands for.
-use Rattle.std.specs.Prelude.{◌≡◌, ℕ, ◌+◌, ◌<◌, ◌≤◌, ◌==◌, ◌&&◌, ◌⊎◌, not, Bool, true, false, cond, List, [], ◌∷◌, ◌++◌, length, map, All, Contains, IsPermutation, count_by, slice_index_or, Option, Some, None, Result, Ok, Err, MatchResult, sum_by}
+use Rattle.std.specs.Prelude.{◌≡◌, ℕ, ◌+◌, ◌<◌, ◌≤◌, ◌==◌, ◌&&◌, ◌⊎◌, not, Bool, true, false, cond, List, [], ◌∷◌, ◌++◌, length, map, All, Contains, IsPermutation, count_by, slice_index_or, Option, Some, None, Result, Ok, Err, MatchResult, MatchOption, sum_by}
 use Rattle.std.specs.List.{AllZip, AllByRecursion}
 use Rattle.std.specs.Iterator.{Count}
+use Rattle.std.specs.Ordering.{nat_cmp, bool_cmp, ordering_then}
+use Rattle.std.specs.declared.cmp.Ordering.{Ordering}
+use Rattle.sst_entries.specs.Key.{key_cmp}
 use Rattle.sst_entries.specs.Entry.{Entry, entry}
 use Rattle.sst_entries.specs.Stream.{stopped, all_ok, deal, NoneStops, Runs}
 use Rattle.sst_entries.specs.declared.stream.Direction.{Direction}
@@ -15,6 +18,10 @@ use Rattle.lsm_sorted.specs.Union.{Ascends, entries_of, all_errors, merged}
 -- the entry of a heap item
 abbrev pub entry_of : {A : Type 0} → HeapItem A → Entry
 entry_of h = entry h.key.user_key h.value h.key.seqno h.key.value_type
+
+-- by key, then by source, then the front before the back
+abbrev pub turn_cmp : {A : Type 0} → HeapItem A → HeapItem A → Ordering
+turn_cmp x y = ordering_then (key_cmp x.key y.key) (ordering_then (nat_cmp x.source y.source) (bool_cmp x.from_back y.from_back))
 
 -- whether b is true where back is, and only there
 abbrev pub same_end : Bool → Bool → Bool
@@ -116,20 +123,6 @@ module _ {S : Type 0} (stops : Error → Bool) (front back : S → Option R → 
     pub other : (k : ℕ) → taken kept k (not at_back) ≡ taken ks k (not at_back)
     pub shrinks : (k : ℕ) → (kept_at ks k).rest ≡ [] → (kept_at kept k).rest ≡ []
 
-  -- a take from an end of source i, none of which is held: an error is one of those to come
-  abbrev pub Takes : {A : Type 0} → Bool → ℕ → Merger S A → Result (Unit {0}) Error → Merger S A → Type 0
-  Takes at_back i s r t = (ks : List Kept) → Stands s ks → taken ks i at_back ≡ None
-      → MatchResult r (λ _. Took at_back i ks t) (λ e. stops e ≡ false → Contains (all_errors (map whole ks)) e)
-
-  -- a fill changes nothing of what is dealt
-  abbrev pub Fills : {A : Type 0} → Merger S A → Result (Unit {0}) Error → Merger S A → Type 0
-  Fills s r t = (xs : List Entry) (errors : List Error) → Merging s xs errors → MatchResult r (λ _. Merging t xs errors) (λ e. stops e ≡ false → Contains errors e)
-
-  -- a step gives the entry of that end and leaves the others; nothing only where nothing is left, no error either; an error is one of those to come
-  abbrev pub Steps : {A : Type 0} → (List Entry → Option Entry × List Entry) → Merger S A → Result (Option Entry) Error → Merger S A → Type 0
-  Steps end s r t = (xs : List Entry) (errors : List Error) → Merging s xs errors
-      → MatchResult r (λ o. (o ≡ (end xs).0) × Merging t (end xs).1 errors × (o ≡ None → errors ≡ [])) (λ e. stops e ≡ false → Contains errors e)
-
 -- ---- room, for any sources
 
 -- one more item than before, from an end of source i, or none
@@ -146,6 +139,16 @@ merge_total left m = sum_by (ends_size left) m.sources.items + length (held m.he
 
 abbrev pub merge_size : {S A : Type 0} → (S → Count) → Merger S A → ℕ
 merge_size left m = cond m.failed 0 (merge_total left m)
+
+-- no more calls may give something than before, and fewer after an error
+abbrev pub LowersTotal : {S A X : Type 0} → (S → Count) → Merger S A → Result X Error → Merger S A → Type 0
+LowersTotal left s r t = MatchResult r (λ _. merge_total left t ≤ merge_total left s) (λ _. merge_total left t < merge_total left s)
+
+-- fewer after an entry too
+abbrev pub LowersByOne : {S A X : Type 0} → (S → Count) → Merger S A → Result (Option X) Error → Merger S A → Type 0
+LowersByOne left s r t = MatchResult r
+    (λ o. MatchOption o (merge_total left t ≤ merge_total left s) (λ _. merge_total left t < merge_total left s))
+    (λ _. merge_total left t < merge_total left s)
 
 -- what a take leaves as it was
 pub record SameRoom {S A : Type 0} (s t : Merger S A) : Type 0 where
@@ -172,10 +175,9 @@ module _ {S : Type 0} (front back : S → Option R → S → Type 0) (can can_ba
   FitsIf true m = Unit {0}
   FitsIf false m = Fits m
 
-  -- it may be called, and holds at most two entries of each source
+  -- it may be called
   pub record MayMerge {A : Type 0} (m : Merger S A) : Type 0 where
     pub fits : FitsIf m.failed m
-    pub few : (k : ℕ) → held_of k m ≤ 2
 
 -- ---- calls
 
@@ -204,9 +206,9 @@ Follows errors (d ∷ told) (Some (Err e) ∷ rs) = Contains errors e × AllByRe
 pub record DealsUntil {S : Type 0} (stops : Error → Bool) (front back : S → Option R → S → Type 0) (s : S) (xs : List Entry) (errors : List Error) : Type 0 where
   pub answers : (ends : List Direction) (rs : List (Option R)) (t : S) → Runs front back s ends rs t → NoneStops (stopped stops) rs → Follows errors (deal (all_ok xs) ends) rs
 
--- wherever calls lead, at most two entries of each source are held
-pub record HoldsFew {S A : Type 0} (front back : Merger S A → Option R → Merger S A → Type 0) (m : Merger S A) : Type 0 where
-  pub at : (ends : List Direction) (rs : List (Option R)) (t : Merger S A) → Runs front back m ends rs t → (k : ℕ) → held_of k t ≤ 2
+-- wherever calls lead, at most this many entries of each source are held
+pub record HoldsAtMost {S A : Type 0} (most : ℕ) (front back : Merger S A → Option R → Merger S A → Type 0) (m : Merger S A) : Type 0 where
+  pub at : (ends : List Direction) (rs : List (Option R)) (t : Merger S A) → Runs front back m ends rs t → (k : ℕ) → held_of k t ≤ most
 
 -- nothing follows an error
 abbrev pub NothingAfterError : List (Option R) → Type 0

@@ -3,7 +3,7 @@ ghost use Rattle.sst_entries.specs.declared.error.Error.{Error};
 ghost use Rattle.std.specs.Prelude.{Bool, ◌≡◌, ℕ, ◌+◌, ◌<◌, false};
 ghost use Rattle.std.specs.Iterator.{IsFinite};
 ghost use Rattle.sst_entries.specs.Stream.{Deals, CanDeal, nowhere};
-ghost use Rattle.lsm_sorted.specs.Ends.{Left, Goes, ends_size};
+ghost use Rattle.lsm_sorted.specs.Ends.{Left, Goes, Asked, ends_size};
 ghost use Rattle.sst_entries.specs.Stream.{DealsFirst, DealsLast, Lowers};
 
 use sst_entries::IterItem;
@@ -30,6 +30,7 @@ impl<I: DoubleEndedIterator<Item = IterItem<A>>, A: Allocator> Ends<I> {
         requires { Goes I.next_gives I.next_back_gives I.can_next I.can_next_back I.remaining self.old }
         ensures goes { Goes I.next_gives I.next_back_gives I.can_next I.can_next_back I.remaining self.new }
         ensures deals { (stops : Error → Bool) → DealsFirst stops (Left stops I.next_gives I.next_back_gives) self.old result self.new }
+        ensures asked { Asked I.next_gives self.old result self.new }
         ensures lowers { Lowers result (ends_size I.remaining self.old) (ends_size I.remaining self.new) }
     {
         if self.done {
@@ -48,6 +49,7 @@ impl<I: DoubleEndedIterator<Item = IterItem<A>>, A: Allocator> Ends<I> {
         requires { Goes I.next_gives I.next_back_gives I.can_next I.can_next_back I.remaining self.old }
         ensures goes { Goes I.next_gives I.next_back_gives I.can_next I.can_next_back I.remaining self.new }
         ensures deals { (stops : Error → Bool) → DealsLast stops (Left stops I.next_gives I.next_back_gives) self.old result self.new }
+        ensures asked { Asked I.next_back_gives self.old result self.new }
         ensures lowers { Lowers result (ends_size I.remaining self.old) (ends_size I.remaining self.new) }
     {
         if self.done {
@@ -69,6 +71,7 @@ impl<I: Iterator<Item = IterItem<A>>, A: Allocator> Ends<I> {
         requires { Goes I.next_gives nowhere I.can_next I.can_next I.remaining self.old }
         ensures goes { Goes I.next_gives nowhere I.can_next I.can_next I.remaining self.new }
         ensures deals { (stops : Error → Bool) → DealsFirst stops (Left stops I.next_gives nowhere) self.old result self.new }
+        ensures asked { Asked I.next_gives self.old result self.new }
         ensures lowers { Lowers result (ends_size I.remaining self.old) (ends_size I.remaining self.new) }
     {
         if self.done {

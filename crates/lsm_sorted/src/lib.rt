@@ -15,7 +15,7 @@ mod tournament;
 
 pub use interval_heap::IntervalHeap;
 pub use lsm_ranges::{Indexed, KeyRange, Ranged, Run, optimize_runs, overlap_chain};
-pub use merge::Merger;
+pub use merge::{Merger, from_both_ends};
 pub use mvcc_stream::MvccStream;
 pub use newest::newest_of;
 pub use tournament::Tournament;

@@ -1,16 +1,17 @@
 //! Several sorted sources as one.
-ghost use Rattle.std.specs.Prelude.{◌≡◌, ℕ, ◌<◌, ◌≤◌, Bool, true, false, List, [], length, map, All, IfOk, IfErr, MatchResult, MatchOption};
-ghost use Rattle.std.specs.List.{AllZip, AllByRecursion};
+ghost use Rattle.std.specs.Prelude.{◌≡◌, ℕ, ◌+◌, ◌<◌, ◌≤◌, Bool, true, false, List, [], length, map, All, IfOk, IfErr, MatchResult, MatchOption};
 ghost use Rattle.std.specs.Iterator.{at_most, IsFinite};
 ghost use Rattle.sst_entries.specs.Entry.{Entry};
-ghost use Rattle.sst_entries.specs.Stream.{Deals, CanDeal, stopped, all_ok, front_of, back_of};
+ghost use Rattle.sst_entries.specs.Stream.{Deals, CanDeal, stopped, all_ok, nowhere};
 ghost use Rattle.sst_entries.specs.Strict.{IsStrict};
 ghost use Rattle.sst_entries.specs.declared.error.Error.{Error};
 ghost use Rattle.sst_entries.specs.declared.error.Error.TheVariants.{OutOfMemory};
 ghost use Rattle.lsm_sorted.specs.Ends.{R, fresh, Goes};
 ghost use Rattle.lsm_sorted.specs.Tournament.{held, room};
-ghost use Rattle.lsm_sorted.specs.Union.{Ascends, IsUnion, entries_of, all_errors, merged};
-ghost use Rattle.lsm_sorted.specs.Merge.{Failed, EndsAtError, Leaves, Takes, Fills, Steps, Adds, SameRoom, Fits, MayMerge, Merges, DealsUntil, HoldsFew, held_of, merge_total, merge_size, entry_of};
+ghost use Rattle.lsm_sorted.specs.Union.{IsUnion, merged};
+ghost use Rattle.lsm_sorted.specs.Merge.{EndsAtError, HoldsAtMost, Adds, SameRoom, Fits, MayMerge, LowersTotal, LowersByOne, merge_size, entry_of};
+ghost use Rattle.lsm_sorted.specs.Asks.{Asks, Fills, Steps, Calls, IsMergerOf};
+ghost use Rattle.lsm_sorted.specs.MergeLaws.{DealsMerged, DealsUntilError, CanMerge};
 
 use crate::ends::Ends;
 use crate::tournament::Tournament;
@@ -66,7 +67,7 @@ pub struct Merger<I, A: Allocator = Global> {
 }
 
 // The sources before any call.
-fn fused<I: DoubleEndedIterator<Item = IterItem<A>>, A: Allocator>(
+fn fused<I: Iterator<Item = IterItem<A>>, A: Allocator>(
     alloc: A,
     iterators: Vec<I, A>,
 ) -> Result<Vec<Ends<I>, A>, Error>
@@ -80,21 +81,29 @@ fn fused<I: DoubleEndedIterator<Item = IterItem<A>>, A: Allocator>(
     Ok(sources)
 }
 
-impl<I: DoubleEndedIterator<Item = IterItem<A>>, A: Allocator + Clone> Merger<I, A> {
+impl<I: Iterator<Item = IterItem<A>>, A: Allocator + Clone> Merger<I, A> {
     /// Merges sources that each deal their entries in order. Reserves two places for each source;
     /// no step takes memory. Refused [`Error::OutOfMemory`] alone.
+    ///
+    /// What holds where the back is asked too is said by [`from_both_ends`].
     pub fn new(alloc: A, iterators: Vec<I, A>) -> Result<Self, Error>
-        // What sorted sources have together is dealt in order, whatever the ends.
-        ensures deals { IfOk result (λ m. (stops : Error → Bool) (lists : List (List R)) → AllZip (Deals (stopped stops) I.next_gives I.next_back_gives) iterators.items lists → AllByRecursion (λ rs. Ascends (entries_of rs)) lists → all_errors lists ≡ [] → Deals (stopped stops) ⟦<Merger<I, A> as Iterator>⟧.next_gives ⟦<Merger<I, A> as DoubleEndedIterator>⟧.next_back_gives m (all_ok (merged lists))) }
+        ensures fresh { IfOk result (λ m. IsMergerOf iterators.items m) }
+        // What sorted sources have together is dealt in order from the front.
+        ensures deals { IfOk result (λ m. DealsMerged I.next_gives nowhere iterators.items
+            ⟦<Merger<I, A> as Iterator>⟧.next_gives nowhere m) }
         // With errors among it, up to the call in which a source answers one: that is its answer.
-        ensures until { IfOk result (λ m. (stops : Error → Bool) (lists : List (List R)) → AllZip (Deals (stopped stops) I.next_gives I.next_back_gives) iterators.items lists → AllByRecursion (λ rs. Ascends (entries_of rs)) lists → DealsUntil stops ⟦<Merger<I, A> as Iterator>⟧.next_gives ⟦<Merger<I, A> as DoubleEndedIterator>⟧.next_back_gives m (merged lists) (all_errors lists)) }
+        ensures until { IfOk result (λ m. DealsUntilError I.next_gives nowhere iterators.items
+            ⟦<Merger<I, A> as Iterator>⟧.next_gives nowhere m) }
         // Nothing follows an error, whatever the sources give.
-        ensures ends { IfOk result (λ m. EndsAtError ⟦<Merger<I, A> as Iterator>⟧.next_gives ⟦<Merger<I, A> as DoubleEndedIterator>⟧.next_back_gives m) }
+        ensures ends { IfOk result (λ m. EndsAtError ⟦<Merger<I, A> as Iterator>⟧.next_gives nowhere m) }
         // What is dealt is a union, and where no two entries share a key and number the only one.
         ensures union { IfOk result (λ _. (lists : List (List R)) → IsUnion lists (merged lists)) }
-        ensures only { IfOk result (λ _. (lists : List (List R)) (xs : List Entry) → IsUnion lists xs → IsStrict xs → xs ≡ merged lists) }
-        ensures can { IfOk result (λ m. All (CanDeal I.next_gives I.next_back_gives I.can_next I.can_next_back) iterators.items → All (λ s. IsFinite (I.remaining s)) iterators.items → CanDeal ⟦<Merger<I, A> as Iterator>⟧.next_gives ⟦<Merger<I, A> as DoubleEndedIterator>⟧.next_back_gives ⟦<Merger<I, A> as Iterator>⟧.can_next ⟦<Merger<I, A> as DoubleEndedIterator>⟧.can_next_back m) }
-        ensures few { IfOk result (λ m. All (CanDeal I.next_gives I.next_back_gives I.can_next I.can_next_back) iterators.items → All (λ s. IsFinite (I.remaining s)) iterators.items → HoldsFew ⟦<Merger<I, A> as Iterator>⟧.next_gives ⟦<Merger<I, A> as DoubleEndedIterator>⟧.next_back_gives m) }
+        ensures only { IfOk result (λ _. (lists : List (List R)) (xs : List Entry) →
+            IsUnion lists xs → IsStrict xs → xs ≡ merged lists) }
+        ensures can { IfOk result (λ m.
+            CanMerge I.next_gives nowhere I.can_next I.can_next I.remaining iterators.items
+            ⟦<Merger<I, A> as Iterator>⟧.next_gives nowhere ⟦<Merger<I, A> as Iterator>⟧.can_next ⟦<Merger<I, A> as Iterator>⟧.can_next m) }
+        ensures few { IfOk result (λ m. HoldsAtMost 1 ⟦<Merger<I, A> as Iterator>⟧.next_gives nowhere m) }
         ensures err { IfErr result (λ e. e ≡ OutOfMemory) }
     {
         let Some(places) = iterators.len().checked_mul(2) else {
@@ -112,20 +121,45 @@ impl<I: DoubleEndedIterator<Item = IterItem<A>>, A: Allocator + Clone> Merger<I,
     }
 }
 
-impl<I: DoubleEndedIterator<Item = IterItem<A>>, A: Allocator> Merger<I, A> {
+/// A law of mergers of sources with two ends, for every list of ends. The call does nothing.
+pub fn from_both_ends<I: DoubleEndedIterator<Item = IterItem<A>>, A: Allocator>(
+    merger: &Merger<I, A>,
+)
+    // What sorted sources have together is dealt in order, whatever the ends.
+    ensures deals { (its : List I) → IsMergerOf its merger.now →
+        DealsMerged I.next_gives I.next_back_gives its
+        ⟦<Merger<I, A> as Iterator>⟧.next_gives ⟦<Merger<I, A> as DoubleEndedIterator>⟧.next_back_gives merger.now }
+    // With errors among it, up to the call in which a source answers one: that is its answer.
+    ensures until { (its : List I) → IsMergerOf its merger.now →
+        DealsUntilError I.next_gives I.next_back_gives its
+        ⟦<Merger<I, A> as Iterator>⟧.next_gives ⟦<Merger<I, A> as DoubleEndedIterator>⟧.next_back_gives merger.now }
+    // Nothing follows an error, whatever the sources give.
+    ensures ends { EndsAtError ⟦<Merger<I, A> as Iterator>⟧.next_gives ⟦<Merger<I, A> as DoubleEndedIterator>⟧.next_back_gives merger.now }
+    ensures can { (its : List I) → IsMergerOf its merger.now →
+        CanMerge I.next_gives I.next_back_gives I.can_next I.can_next_back I.remaining its
+        ⟦<Merger<I, A> as Iterator>⟧.next_gives ⟦<Merger<I, A> as DoubleEndedIterator>⟧.next_back_gives
+        ⟦<Merger<I, A> as Iterator>⟧.can_next ⟦<Merger<I, A> as DoubleEndedIterator>⟧.can_next_back merger.now }
+    ensures few { (its : List I) → IsMergerOf its merger.now →
+        HoldsAtMost 2 ⟦<Merger<I, A> as Iterator>⟧.next_gives ⟦<Merger<I, A> as DoubleEndedIterator>⟧.next_back_gives merger.now }
+{
+    let _ = merger;
+}
+
+impl<I: Iterator<Item = IterItem<A>>, A: Allocator> Merger<I, A> {
     // Moves the first of what source `i` still deals into the heap.
+    #[inline(always)]
     fn take_front(&mut self, i: usize) -> Result<(), Error>
         requires place { i < length self.old.sources.items }
-        requires goes { All (Goes I.next_gives I.next_back_gives I.can_next I.can_next_back I.remaining) self.old.sources.items }
+        requires goes { All (Goes I.next_gives nowhere I.can_next I.can_next I.remaining) self.old.sources.items }
         requires space { length (held self.old.heap) < room self.old.heap }
-        ensures goes { All (Goes I.next_gives I.next_back_gives I.can_next I.can_next_back I.remaining) self.new.sources.items }
+        ensures goes { All (Goes I.next_gives nowhere I.can_next I.can_next I.remaining) self.new.sources.items }
         ensures same { SameRoom self.old self.new }
         ensures adds { Adds false i (held self.old.heap) (held self.new.heap) }
-        ensures lowers { MatchResult result (λ _. merge_total I.remaining self.new ≤ merge_total I.remaining self.old) (λ _. merge_total I.remaining self.new < merge_total I.remaining self.old) }
-        ensures takes { (stops : Error → Bool) → Takes stops I.next_gives I.next_back_gives false i self.old result self.new }
+        ensures lowers { LowersTotal I.remaining self.old result self.new }
+        ensures asks { Asks I.next_gives false i self.old result self.new }
     {
         let source = &mut self.sources[i];
-        match source.next() {
+        match source.next_in_front() {
             Some(Ok(item)) => {
                 self.heap.push(HeapItem::new(item, i, false));
                 Ok(())
@@ -135,37 +169,15 @@ impl<I: DoubleEndedIterator<Item = IterItem<A>>, A: Allocator> Merger<I, A> {
         }
     }
 
-    // Moves the last of what source `i` still deals into the heap.
-    fn take_back(&mut self, i: usize) -> Result<(), Error>
-        requires place { i < length self.old.sources.items }
-        requires goes { All (Goes I.next_gives I.next_back_gives I.can_next I.can_next_back I.remaining) self.old.sources.items }
-        requires space { length (held self.old.heap) < room self.old.heap }
-        ensures goes { All (Goes I.next_gives I.next_back_gives I.can_next I.can_next_back I.remaining) self.new.sources.items }
-        ensures same { SameRoom self.old self.new }
-        ensures adds { Adds true i (held self.old.heap) (held self.new.heap) }
-        ensures lowers { MatchResult result (λ _. merge_total I.remaining self.new ≤ merge_total I.remaining self.old) (λ _. merge_total I.remaining self.new < merge_total I.remaining self.old) }
-        ensures takes { (stops : Error → Bool) → Takes stops I.next_gives I.next_back_gives true i self.old result self.new }
-    {
-        let source = &mut self.sources[i];
-        match source.next_back() {
-            Some(Ok(item)) => {
-                self.heap.push(HeapItem::new(item, i, true));
-                Ok(())
-            }
-            Some(Err(error)) => Err(error),
-            None => Ok(()),
-        }
-    }
-
     // Once, moves the first of each source into the heap.
     fn fill_front(&mut self) -> Result<(), Error>
-        requires { Fits I.next_gives I.next_back_gives I.can_next I.can_next_back I.remaining self.old }
-        ensures fits { MatchResult result (λ _. Fits I.next_gives I.next_back_gives I.can_next I.can_next_back I.remaining self.new) (λ _. (k : ℕ) → held_of k self.new ≤ 2) }
+        requires { Fits I.next_gives nowhere I.can_next I.can_next I.remaining self.old }
+        ensures fits { IfOk result (λ _. Fits I.next_gives nowhere I.can_next I.can_next I.remaining self.new) }
         ensures ready { IfOk result (λ _. self.new.front_ready ≡ true) }
         ensures other { self.new.back_ready ≡ self.old.back_ready }
         ensures failed { self.new.failed ≡ self.old.failed }
-        ensures lowers { MatchResult result (λ _. merge_total I.remaining self.new ≤ merge_total I.remaining self.old) (λ _. merge_total I.remaining self.new < merge_total I.remaining self.old) }
-        ensures fills { (stops : Error → Bool) → Fills stops I.next_gives I.next_back_gives self.old result self.new }
+        ensures lowers { LowersTotal I.remaining self.old result self.new }
+        ensures fills { Fills I.next_gives false self.old result self.new }
     {
         if self.front_ready {
             return Ok(());
@@ -177,33 +189,14 @@ impl<I: DoubleEndedIterator<Item = IterItem<A>>, A: Allocator> Merger<I, A> {
         Ok(())
     }
 
-    // Once, moves the last of each source into the heap.
-    fn fill_back(&mut self) -> Result<(), Error>
-        requires { Fits I.next_gives I.next_back_gives I.can_next I.can_next_back I.remaining self.old }
-        ensures fits { MatchResult result (λ _. Fits I.next_gives I.next_back_gives I.can_next I.can_next_back I.remaining self.new) (λ _. (k : ℕ) → held_of k self.new ≤ 2) }
-        ensures ready { IfOk result (λ _. self.new.back_ready ≡ true) }
-        ensures other { self.new.front_ready ≡ self.old.front_ready }
-        ensures failed { self.new.failed ≡ self.old.failed }
-        ensures lowers { MatchResult result (λ _. merge_total I.remaining self.new ≤ merge_total I.remaining self.old) (λ _. merge_total I.remaining self.new < merge_total I.remaining self.old) }
-        ensures fills { (stops : Error → Bool) → Fills stops I.next_gives I.next_back_gives self.old result self.new }
-    {
-        if self.back_ready {
-            return Ok(());
-        }
-        for i in 0..self.sources.len() {
-            self.take_back(i)?;
-        }
-        self.back_ready = true;
-        Ok(())
-    }
-
     // Takes the least entry of all sources, and the next of its source into the heap.
+    #[inline(always)]
     fn step_front(&mut self) -> Result<Option<InternalValue<A>>, Error>
-        requires { Fits I.next_gives I.next_back_gives I.can_next I.can_next_back I.remaining self.old }
-        ensures fits { MatchResult result (λ _. Fits I.next_gives I.next_back_gives I.can_next I.can_next_back I.remaining self.new) (λ _. (k : ℕ) → held_of k self.new ≤ 2) }
+        requires { Fits I.next_gives nowhere I.can_next I.can_next I.remaining self.old }
+        ensures fits { IfOk result (λ _. Fits I.next_gives nowhere I.can_next I.can_next I.remaining self.new) }
         ensures failed { self.new.failed ≡ self.old.failed }
-        ensures lowers { MatchResult result (λ o. MatchOption o (merge_total I.remaining self.new ≤ merge_total I.remaining self.old) (λ _. merge_total I.remaining self.new < merge_total I.remaining self.old)) (λ _. merge_total I.remaining self.new < merge_total I.remaining self.old) }
-        ensures steps { (stops : Error → Bool) → Steps stops I.next_gives I.next_back_gives front_of self.old result self.new }
+        ensures lowers { LowersByOne I.remaining self.old result self.new }
+        ensures steps { Steps I.next_gives false self.old result self.new }
     {
         self.fill_front()?;
         let Some(least) = self.heap.pop_min() else {
@@ -211,22 +204,6 @@ impl<I: DoubleEndedIterator<Item = IterItem<A>>, A: Allocator> Merger<I, A> {
         };
         self.take_front(least.source)?;
         Ok(Some(least.into_item()))
-    }
-
-    // Takes the greatest entry of all sources, and the next of its source into the heap.
-    fn step_back(&mut self) -> Result<Option<InternalValue<A>>, Error>
-        requires { Fits I.next_gives I.next_back_gives I.can_next I.can_next_back I.remaining self.old }
-        ensures fits { MatchResult result (λ _. Fits I.next_gives I.next_back_gives I.can_next I.can_next_back I.remaining self.new) (λ _. (k : ℕ) → held_of k self.new ≤ 2) }
-        ensures failed { self.new.failed ≡ self.old.failed }
-        ensures lowers { MatchResult result (λ o. MatchOption o (merge_total I.remaining self.new ≤ merge_total I.remaining self.old) (λ _. merge_total I.remaining self.new < merge_total I.remaining self.old)) (λ _. merge_total I.remaining self.new < merge_total I.remaining self.old) }
-        ensures steps { (stops : Error → Bool) → Steps stops I.next_gives I.next_back_gives back_of self.old result self.new }
-    {
-        self.fill_back()?;
-        let Some(greatest) = self.heap.pop_max() else {
-            return Ok(None);
-        };
-        self.take_back(greatest.source)?;
-        Ok(Some(greatest.into_item()))
     }
 
     // An error ends the merge for good.
@@ -239,12 +216,74 @@ impl<I: DoubleEndedIterator<Item = IterItem<A>>, A: Allocator> Merger<I, A> {
     }
 }
 
-impl<I: DoubleEndedIterator<Item = IterItem<A>>, A: Allocator> Iterator for Merger<I, A> {
+impl<I: DoubleEndedIterator<Item = IterItem<A>>, A: Allocator> Merger<I, A> {
+    // Moves the last of what source `i` still deals into the heap.
+    #[inline(always)]
+    fn take_back(&mut self, i: usize) -> Result<(), Error>
+        requires place { i < length self.old.sources.items }
+        requires goes { All (Goes I.next_gives I.next_back_gives I.can_next I.can_next_back I.remaining) self.old.sources.items }
+        requires space { length (held self.old.heap) < room self.old.heap }
+        ensures goes { All (Goes I.next_gives I.next_back_gives I.can_next I.can_next_back I.remaining) self.new.sources.items }
+        ensures same { SameRoom self.old self.new }
+        ensures adds { Adds true i (held self.old.heap) (held self.new.heap) }
+        ensures lowers { LowersTotal I.remaining self.old result self.new }
+        ensures asks { Asks I.next_back_gives true i self.old result self.new }
+    {
+        let source = &mut self.sources[i];
+        match source.next_back() {
+            Some(Ok(item)) => {
+                self.heap.push(HeapItem::new(item, i, true));
+                Ok(())
+            }
+            Some(Err(error)) => Err(error),
+            None => Ok(()),
+        }
+    }
+
+    // Once, moves the last of each source into the heap.
+    fn fill_back(&mut self) -> Result<(), Error>
+        requires { Fits I.next_gives I.next_back_gives I.can_next I.can_next_back I.remaining self.old }
+        ensures fits { IfOk result (λ _. Fits I.next_gives I.next_back_gives I.can_next I.can_next_back I.remaining self.new) }
+        ensures ready { IfOk result (λ _. self.new.back_ready ≡ true) }
+        ensures other { self.new.front_ready ≡ self.old.front_ready }
+        ensures failed { self.new.failed ≡ self.old.failed }
+        ensures lowers { LowersTotal I.remaining self.old result self.new }
+        ensures fills { Fills I.next_back_gives true self.old result self.new }
+    {
+        if self.back_ready {
+            return Ok(());
+        }
+        for i in 0..self.sources.len() {
+            self.take_back(i)?;
+        }
+        self.back_ready = true;
+        Ok(())
+    }
+
+    // Takes the greatest entry of all sources, and the next of its source into the heap.
+    #[inline(always)]
+    fn step_back(&mut self) -> Result<Option<InternalValue<A>>, Error>
+        requires { Fits I.next_gives I.next_back_gives I.can_next I.can_next_back I.remaining self.old }
+        ensures fits { IfOk result (λ _. Fits I.next_gives I.next_back_gives I.can_next I.can_next_back I.remaining self.new) }
+        ensures failed { self.new.failed ≡ self.old.failed }
+        ensures lowers { LowersByOne I.remaining self.old result self.new }
+        ensures steps { Steps I.next_back_gives true self.old result self.new }
+    {
+        self.fill_back()?;
+        let Some(greatest) = self.heap.pop_max() else {
+            return Ok(None);
+        };
+        self.take_back(greatest.source)?;
+        Ok(Some(greatest.into_item()))
+    }
+}
+
+impl<I: Iterator<Item = IterItem<A>>, A: Allocator> Iterator for Merger<I, A> {
     type Item = IterItem<A>;
 
-    ghost can_next = { MayMerge I.next_gives I.next_back_gives I.can_next I.can_next_back I.remaining };
+    ghost can_next = { MayMerge I.next_gives nowhere I.can_next I.can_next I.remaining };
 
-    ghost next_gives = { Merges (MayMerge I.next_gives I.next_back_gives I.can_next I.can_next_back I.remaining) Failed (λ stops. Leaves stops I.next_gives I.next_back_gives) front_of };
+    ghost next_gives = { Calls I.next_gives false (MayMerge I.next_gives nowhere I.can_next I.can_next I.remaining) };
 
     ghost remaining = { λ m. at_most (merge_size I.remaining m) };
 
@@ -264,7 +303,7 @@ impl<I: DoubleEndedIterator<Item = IterItem<A>>, A: Allocator> DoubleEndedIterat
     for Merger<I, A> {
     ghost can_next_back = { MayMerge I.next_gives I.next_back_gives I.can_next I.can_next_back I.remaining };
 
-    ghost next_back_gives = { Merges (MayMerge I.next_gives I.next_back_gives I.can_next I.can_next_back I.remaining) Failed (λ stops. Leaves stops I.next_gives I.next_back_gives) back_of };
+    ghost next_back_gives = { Calls I.next_back_gives true (MayMerge I.next_gives I.next_back_gives I.can_next I.can_next_back I.remaining) };
 
     fn next_back(&mut self) -> Option<IterItem<A>> {
         if self.failed {

@@ -8,7 +8,7 @@ ghost use Rattle.sst_entries.specs.declared.error.Error.TheVariants.{OutOfMemory
 ghost use Rattle.lsm_sorted.specs.Ends.{R};
 ghost use Rattle.lsm_sorted.specs.Union.{Ascends, entries_of, all_errors, merged, newest};
 
-use crate::merge::Merger;
+use crate::merge::{Merger, from_both_ends};
 use crate::mvcc_stream::MvccStream;
 use sst_entries::{Error, IterItem};
 use std::alloc::Allocator;
@@ -25,5 +25,6 @@ pub fn newest_of<I: DoubleEndedIterator<Item = IterItem<A>>, A: Allocator + Clon
     ensures err { IfErr result (λ e. e ≡ OutOfMemory) }
 {
     let merger = Merger::new(alloc, iterators)?;
+    from_both_ends(&merger);
     Ok(MvccStream::new(merger))
 }

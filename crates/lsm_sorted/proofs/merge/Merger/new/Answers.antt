@@ -1,7 +1,11 @@
 use Rattle.std.proofs.Common.{◌+◌, ◌≤◌, refl, length, arith}
+use Rattle.std.specs.Prelude.{IfOk}
+use Rattle.sst_entries.specs.Stream.{nowhere}
 use Rattle.lsm_sorted.specs.Tournament.{room}
+use Rattle.lsm_sorted.specs.Asks.{IsMergerOf}
 use Rattle.lsm_sorted.proofs.UnionLemmas.{merged_union, only_union}
-use Rattle.lsm_sorted.proofs.DealsMerged.{new_leaves, new_may, deals_merged, deals_until, can_merge, ends_at_error, holds_few}
+use Rattle.lsm_sorted.proofs.DealsMerged.{new_may}
+use Rattle.lsm_sorted.proofs.CallsMerged.{front_merges, merger_deals, merger_until, ends_at, can_in_front, holds_one}
 use Rattle.lsm_sorted.proofs.merge.Merger.new.Goals as goal
 
 pub returns-clause-union : goal.returns-clause-union
@@ -10,21 +14,40 @@ returns-clause-union g c = merged_union
 pub returns-clause-only : goal.returns-clause-only
 returns-clause-only g c = only_union
 
+pub returns-clause-fresh : goal.returns-clause-fresh
+returns-clause-fresh g c = record {
+  sources = c.in_ok-sources.ensures.ok;
+  empty = c.in_ok-heap.ensures.empty;
+  space = omega (arith, c.in_ok-heap.ensures.room, c.in-Some.ensures, c.len.ensures);
+  no_front = refl;
+  no_back = refl;
+  fine = refl;
+}
+
 pub returns-clause-deals : goal.returns-clause-deals
-returns-clause-deals g c stops lists zip up none = deals_merged _ _ _ stops _ _ _ none (new_leaves g.I.Iterator.next_gives g.I.DoubleEndedIterator.next_back_gives _ c.args.iterators.items c.in_ok-sources.ensures.ok c.in_ok-heap.ensures.empty refl refl refl stops lists zip up)
+returns-clause-deals g c =
+    let front = g.I.Iterator.next_gives in
+    merger_deals front nowhere _ nowhere (front_merges front nowhere _) (λ s r t no. absurd no) _ _ (returns-clause-fresh g c)
 
 pub returns-clause-until : goal.returns-clause-until
-returns-clause-until g c stops lists zip up = deals_until _ _ _ stops _ _ _ (new_leaves g.I.Iterator.next_gives g.I.DoubleEndedIterator.next_back_gives _ c.args.iterators.items c.in_ok-sources.ensures.ok c.in_ok-heap.ensures.empty refl refl refl stops lists zip up)
-
-pub returns-clause-can : goal.returns-clause-can
-returns-clause-can g c can ends =
-    let space : length c.args.iterators.items + length c.args.iterators.items ≤ room c.in_ok-heap.heap = omega (arith, c.in_ok-heap.ensures.room, c.in-Some.ensures, c.len.ensures) in
-    can_merge _ _ _ _ (new_may g.I.Iterator.next_gives g.I.DoubleEndedIterator.next_back_gives _ c.args.iterators.items c.in_ok-sources.ensures.ok c.in_ok-heap.ensures.empty refl refl refl g.I.Iterator.can_next g.I.DoubleEndedIterator.can_next_back g.I.Iterator.remaining space can ends)
-
-pub returns-clause-few : goal.returns-clause-few
-returns-clause-few g c can ends =
-    let space : length c.args.iterators.items + length c.args.iterators.items ≤ room c.in_ok-heap.heap = omega (arith, c.in_ok-heap.ensures.room, c.in-Some.ensures, c.len.ensures) in
-    holds_few g.I.Iterator.next_gives g.I.DoubleEndedIterator.next_back_gives g.I.Iterator.can_next g.I.DoubleEndedIterator.can_next_back g.I.Iterator.remaining _ _ _ (new_may g.I.Iterator.next_gives g.I.DoubleEndedIterator.next_back_gives _ c.args.iterators.items c.in_ok-sources.ensures.ok c.in_ok-heap.ensures.empty refl refl refl g.I.Iterator.can_next g.I.DoubleEndedIterator.can_next_back g.I.Iterator.remaining space can ends)
+returns-clause-until g c =
+    let front = g.I.Iterator.next_gives in
+    merger_until front nowhere _ nowhere (front_merges front nowhere _) (λ s r t no. absurd no) _ _ (returns-clause-fresh g c)
 
 pub returns-clause-ends : goal.returns-clause-ends
-returns-clause-ends g c = ends_at_error _ _ _ _
+returns-clause-ends g c =
+    let front = g.I.Iterator.next_gives in
+    ends_at front nowhere _ nowhere (front_merges front nowhere _) (λ s r t no. absurd no) _
+
+pub returns-clause-can : goal.returns-clause-can
+returns-clause-can g c =
+    let front = g.I.Iterator.next_gives in
+    let can = g.I.Iterator.can_next in
+    let left = g.I.Iterator.remaining in
+    let of = returns-clause-fresh g c in
+    record {
+      asks = λ may ends. can_in_front front nowhere can can left _ (new_may front nowhere _ _ of.sources of.empty of.no_front of.no_back of.fine can can left of.space may ends);
+    }
+
+pub returns-clause-few : goal.returns-clause-few
+returns-clause-few g c = holds_one g.I.Iterator.next_gives _ _ _ (returns-clause-fresh g c)
