@@ -36,23 +36,23 @@ pub each_same : {S A : Type 0} (ask : S → Option R → S → Type 0) (end : Bo
 each_same ask end zero s t e = rw e (same_room s)
 each_same ask end (suc i) s t e = same_twice s e.0 t (each_same ask end i s e.0 e.1) e.2.same
 
-ready_same : {S A : Type 0} (end : Bool) (s t : Merger S A) → SameRoom s t → is_ready end t ≡ is_ready end s
+pub ready_same : {S A : Type 0} (end : Bool) (s t : Merger S A) → SameRoom s t → is_ready end t ≡ is_ready end s
 ready_same true s t same = same.back_ready
 ready_same false s t same = same.front_ready
 
-made_sources : {S A : Type 0} (end : Bool) (m : Merger S A) → (made_ready end m).sources ≡ m.sources
+pub made_sources : {S A : Type 0} (end : Bool) (m : Merger S A) → (made_ready end m).sources ≡ m.sources
 made_sources true m = refl
 made_sources false m = refl
 
-made_heap : {S A : Type 0} (end : Bool) (m : Merger S A) → (made_ready end m).heap ≡ m.heap
+pub made_heap : {S A : Type 0} (end : Bool) (m : Merger S A) → (made_ready end m).heap ≡ m.heap
 made_heap true m = refl
 made_heap false m = refl
 
-made_now : {S A : Type 0} (end : Bool) (m : Merger S A) → is_ready end (made_ready end m) ≡ true
+pub made_now : {S A : Type 0} (end : Bool) (m : Merger S A) → is_ready end (made_ready end m) ≡ true
 made_now true m = refl
 made_now false m = refl
 
-made_other : {S A : Type 0} (end : Bool) (m : Merger S A) → is_ready (not end) (made_ready end m) ≡ is_ready (not end) m
+pub made_other : {S A : Type 0} (end : Bool) (m : Merger S A) → is_ready (not end) (made_ready end m) ≡ is_ready (not end) m
 made_other true m = refl
 made_other false m = refl
 

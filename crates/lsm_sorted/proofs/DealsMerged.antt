@@ -18,73 +18,84 @@ use Rattle.lsm_sorted.specs.declared.merge.Merger.{Merger}
 use Rattle.lsm_sorted.specs.Ends.{R, Left, Goes, fresh}
 use Rattle.lsm_sorted.specs.Tournament.{held, room}
 use Rattle.lsm_sorted.specs.Union.{Ascends, entries_of, all_errors, merged}
-use Rattle.lsm_sorted.specs.Merge.{entry_of, count_of, is_ready, Ready, LeavesIf, Kept, whole, taken, HeapHolds, Leaves, MayMerge, MergeAnswer, Merges, NothingAfterError, EndsAtError, Follows, DealsUntil, held_of}
+use Rattle.lsm_sorted.specs.Merge.{entry_of, count_of, is_ready, Ready, LeavesIf, Kept, whole, taken, HeapHolds, Stands, Leaves, MayMerge, MergeAnswer, Merges, NothingAfterError, EndsAtError, Follows, DealsUntil, held_of}
 use Rattle.lsm_sorted.proofs.NewestLemmas.{map_reverse}
 use Rattle.lsm_sorted.proofs.PopLemmas.{length_map}
 use Rattle.lsm_sorted.proofs.RoomLemmas.{may_merge}
 
 -- ---- a new merger
 
-abbrev untouched : List R → Kept
+abbrev pub untouched : List R → Kept
 untouched rs = record { front = None; rest = rs; back = None }
 
-none_taken : (lists : List (List R)) (k : ℕ) (b : Bool) → taken (map untouched lists) k b ≡ None
+pub none_taken : (lists : List (List R)) (k : ℕ) (b : Bool) → taken (map untouched lists) k b ≡ None
 none_taken [] k true = refl
 none_taken [] k false = refl
 none_taken (rs ∷ lists) zero true = refl
 none_taken (rs ∷ lists) zero false = refl
 none_taken (rs ∷ lists) (suc k) b = none_taken lists k b
 
-all_whole : (lists : List (List R)) → map whole (map untouched lists) ≡ lists
+pub all_whole : (lists : List (List R)) → map whole (map untouched lists) ≡ lists
 all_whole [] = refl
 all_whole (rs ∷ lists) = ap (λ (qs : List R). qs ∷ map whole (map untouched lists)) (append-nil rs) ∙ ap (λ (ls : List (List R)). rs ∷ ls) (all_whole lists)
 
-all_sorted : (lists : List (List R)) → AllByRecursion (λ rs. Ascends (entries_of rs)) lists → AllByRecursion (λ k. Ascends (entries_of (whole k))) (map untouched lists)
+pub all_sorted : (lists : List (List R)) → AllByRecursion (λ rs. Ascends (entries_of rs)) lists → AllByRecursion (λ k. Ascends (entries_of (whole k))) (map untouched lists)
 all_sorted [] h = tt
 all_sorted (rs ∷ lists) h = (subst (λ (qs : List R). Ascends (entries_of qs)) (sym (append-nil rs)) h.0, all_sorted lists h.1)
 
-module _ {S A : Type 0} (front back : S → Option R → S → Type 0) (m : Merger S A) (its : List S) (sources : m.sources.items ≡ map fresh its) (empty : held m.heap ≡ []) (no_front : m.front_ready ≡ false) (no_back : m.back_ready ≡ false) (fine : m.failed ≡ false) where
+module _ {S A : Type 0} (front back : S → Option R → S → Type 0) (m : Merger S A) (its : List S) (sources : m.sources.items ≡ map fresh its) (empty : held m.heap ≡ []) (no_front : m.front_ready ≡ false) (no_back : m.back_ready ≡ false) where
   zip_fresh : (stops : Error → Bool) (ss : List S) (lists : List (List R)) → AllZip (Deals (stopped stops) front back) ss lists → AllZip (λ s k. Left stops front back s k.rest) (map fresh ss) (map untouched lists)
   zip_fresh stops [] [] h = tt
   zip_fresh stops [] (rs ∷ lists) h = absurd h
   zip_fresh stops (s ∷ ss) [] h = absurd h
   zip_fresh stops (s ∷ ss) (rs ∷ lists) h = (record { lists = h.0 }, zip_fresh stops ss lists h.1)
 
-  pub new_leaves : (stops : Error → Bool) (lists : List (List R)) → AllZip (Deals (stopped stops) front back) its lists → AllByRecursion (λ rs. Ascends (entries_of rs)) lists → Leaves stops front back m (merged lists) (all_errors lists)
-  new_leaves stops lists zip up = record {
-    parts = subst (λ (b : Bool). LeavesIf stops front back b m (merged lists) (all_errors lists)) (sym fine) (record {
-      kept = map untouched lists;
-      stands = record {
-        sources = subst (λ (ss : List (Ends S)). AllZip (λ s k. Left stops front back s k.rest) ss (map untouched lists)) (sym sources) (zip_fresh stops its lists zip);
-        sorted = all_sorted lists up;
-        heap = subst (λ (hs : List (HeapItem A)). HeapHolds hs (map untouched lists)) (sym empty) (record {
-          each = All-nil (λ h. taken (map untouched lists) h.source h.from_back ≡ Some (entry_of h));
-          once = λ k b. sym (ap count_of (none_taken lists k b));
-        });
-      };
-      ready = λ b. subst (λ (f : Bool). Ready f b (map untouched lists)) (sym (not_ready b)) (λ k. none_taken lists k b);
-      entries = ap merged (sym (all_whole lists));
-      faults = ap all_errors (sym (all_whole lists));
-    });
-  }
+  -- nothing is held yet
+  pub new_merging : (stops : Error → Bool) (lists : List (List R)) → AllZip (Deals (stopped stops) front back) its lists → AllByRecursion (λ rs. Ascends (entries_of rs)) lists
+      → Stands stops front back m (map untouched lists) × ((b : Bool) → Ready (is_ready b m) b (map untouched lists))
+  new_merging stops lists zip up = (
+    record {
+      sources = subst (λ (ss : List (Ends S)). AllZip (λ s k. Left stops front back s k.rest) ss (map untouched lists)) (sym sources) (zip_fresh stops its lists zip);
+      sorted = all_sorted lists up;
+      heap = subst (λ (hs : List (HeapItem A)). HeapHolds hs (map untouched lists)) (sym empty) (record {
+        each = All-nil (λ h. taken (map untouched lists) h.source h.from_back ≡ Some (entry_of h));
+        once = λ k b. sym (ap count_of (none_taken lists k b));
+      });
+    },
+    λ b. subst (λ (f : Bool). Ready f b (map untouched lists)) (sym (not_ready b)) (λ k. none_taken lists k b),
+  )
     where
       not_ready : (b : Bool) → is_ready b m ≡ false
       not_ready true = no_back
       not_ready false = no_front
 
-  module _ (can can_back : S → Type 0) (left : S → Count) where
-    all_fresh : (ss : List S) → AllByRecursion (CanDeal front back can can_back) ss → AllByRecursion (λ s. IsFinite (left s)) ss → AllByRecursion (Goes front back can can_back left) (map fresh ss)
-    all_fresh [] c f = tt
-    all_fresh (s ∷ ss) c f = (record { ready = (c.0, f.0) }, all_fresh ss c.1 f.1)
+  module _ (fine : m.failed ≡ false) where
+    pub new_leaves : (stops : Error → Bool) (lists : List (List R)) → AllZip (Deals (stopped stops) front back) its lists → AllByRecursion (λ rs. Ascends (entries_of rs)) lists → Leaves stops front back m (merged lists) (all_errors lists)
+    new_leaves stops lists zip up =
+        let new = new_merging stops lists zip up in
+        record {
+          parts = subst (λ (b : Bool). LeavesIf stops front back b m (merged lists) (all_errors lists)) (sym fine) (record {
+            kept = map untouched lists;
+            stands = new.0;
+            ready = new.1;
+            entries = ap merged (sym (all_whole lists));
+            faults = ap all_errors (sym (all_whole lists));
+          });
+        }
 
-    pub new_may : length its + length its ≤ room m.heap → All (CanDeal front back can can_back) its → All (λ s. IsFinite (left s)) its → MayMerge front back can can_back left m
-    new_may space c ends = may_merge front back can can_back left m fine (record {
-      sources = subst (All (Goes front back can can_back left)) (sym sources) (All-from_recursion (Goes front back can can_back left) (map fresh its) (all_fresh its (recursion_from_All (CanDeal front back can can_back) its c) (recursion_from_All (λ s. IsFinite (left s)) its ends)));
-      known = subst (All (λ h. h.source < length m.sources.items)) (sym empty) (All-nil (λ h. h.source < length m.sources.items));
-      space = let n : length m.sources.items ≡ length its = ap length sources ∙ length_map fresh its in omega arith;
-      few = let n : length (held m.heap) ≡ 0 = ap length empty in omega arith;
-      each = λ k. let n : held_of k m ≡ 0 = ap (count_by (λ h. h.source == k)) empty in omega arith;
-    })
+    module _ (can can_back : S → Type 0) (left : S → Count) where
+      all_fresh : (ss : List S) → AllByRecursion (CanDeal front back can can_back) ss → AllByRecursion (λ s. IsFinite (left s)) ss → AllByRecursion (Goes front back can can_back left) (map fresh ss)
+      all_fresh [] c f = tt
+      all_fresh (s ∷ ss) c f = (record { ready = (c.0, f.0) }, all_fresh ss c.1 f.1)
+
+      pub new_may : length its + length its ≤ room m.heap → All (CanDeal front back can can_back) its → All (λ s. IsFinite (left s)) its → MayMerge front back can can_back left m
+      new_may space c ends = may_merge front back can can_back left m fine (record {
+        sources = subst (All (Goes front back can can_back left)) (sym sources) (All-from_recursion (Goes front back can can_back left) (map fresh its) (all_fresh its (recursion_from_All (CanDeal front back can can_back) its c) (recursion_from_All (λ s. IsFinite (left s)) its ends)));
+        known = subst (All (λ h. h.source < length m.sources.items)) (sym empty) (All-nil (λ h. h.source < length m.sources.items));
+        space = let n : length m.sources.items ≡ length its = ap length sources ∙ length_map fresh its in omega arith;
+        few = let n : length (held m.heap) ≡ 0 = ap length empty in omega arith;
+        each = λ k. let n : held_of k m ≡ 0 = ap (count_by (λ h. h.source == k)) empty in omega arith;
+      })
 
 -- ---- whole runs
 
@@ -135,7 +146,7 @@ module _ {T : Type 0} (May Ended : T → Type 0) (Has : (Error → Bool) → T �
     one_nothing rs (Some (Err f)) t a more = absurd (omega (arith, a.0.1))
 
     -- where nothing is left, `None` is given
-    nothing_more : (ends : List Direction) (rs : List (Option R)) (s t : T) → Has stops s [] [] → Runs Forth Behind s ends rs t → NoneStops (stopped stops) rs → AllByRecursion (λ r. r ≡ None) rs
+    pub nothing_more : (ends : List Direction) (rs : List (Option R)) (s t : T) → Has stops s [] [] → Runs Forth Behind s ends rs t → NoneStops (stopped stops) rs → AllByRecursion (λ r. r ≡ None) rs
     nothing_more [] [] s t has runs fine = tt
     nothing_more [] (r ∷ rs) s t has runs fine = absurd runs
     nothing_more (e ∷ ends) [] s t has runs fine = absurd runs

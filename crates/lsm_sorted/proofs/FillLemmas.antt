@@ -63,22 +63,26 @@ module _ {S A : Type 0} (stops : Error → Bool) (front back : S → Option R �
   }
 
   -- once each source was asked
-  pub merging_filled : (end : Bool) (s m t : Merger S A) (xs : List Entry) (errors : List Error) (was : Merging stops front back s xs errors) (n : ℕ) → Filled stops front back end n was.kept m → n ≡ length m.sources.items
-      → t.sources ≡ m.sources → t.heap ≡ m.heap → is_ready end t ≡ true → is_ready (not end) t ≡ is_ready (not end) s → Merging stops front back t xs errors
-  merging_filled end s m t xs errors was n filled all sources heap now other =
+  pub ready_filled : (end : Bool) (s m t : Merger S A) (ks : List Kept) → ((b : Bool) → Ready (is_ready b s) b ks) → (n : ℕ) (filled : Filled stops front back end n ks m) → n ≡ length m.sources.items → is_ready end t ≡ true → is_ready (not end) t ≡ is_ready (not end) s
+      → (b : Bool) → Ready (is_ready b t) b filled.kept
+  ready_filled end s m t ks ready n filled all now other =
       let asked : (k : ℕ) → taken filled.kept k end ≡ None → (kept_at filled.kept k).rest ≡ [] = λ k none. elim (cases_lt k n) [
         | inl lt ↦ filled.ready k lt none
         | inr ge ↦ ap (λ (q : Kept). q.rest) (get_or_past filled.kept k _ (omega (arith, zip_length _ m.sources.items filled.kept filled.stands.sources)))
       ] in
-      record {
-        kept = filled.kept;
-        stands = stands_same m t filled.kept sources heap filled.stands;
-        ready = by_end (λ b. Ready (is_ready b t) b filled.kept) end
-            (subst (λ (f : Bool). Ready f end filled.kept) (sym now) asked)
-            (subst (λ (f : Bool). Ready f (not end) filled.kept) (sym other) (other_ready (not end) (is_ready (not end) s) was.kept filled.kept filled.other filled.shrinks (was.ready (not end))));
-        entries = was.entries ∙ ap merged (sym filled.wholes);
-        faults = was.faults ∙ ap all_errors (sym filled.wholes);
-      }
+      by_end (λ b. Ready (is_ready b t) b filled.kept) end
+      (subst (λ (f : Bool). Ready f end filled.kept) (sym now) asked)
+      (subst (λ (f : Bool). Ready f (not end) filled.kept) (sym other) (other_ready (not end) (is_ready (not end) s) ks filled.kept filled.other filled.shrinks (ready (not end))))
+
+  pub merging_filled : (end : Bool) (s m t : Merger S A) (xs : List Entry) (errors : List Error) (was : Merging stops front back s xs errors) (n : ℕ) → Filled stops front back end n was.kept m → n ≡ length m.sources.items
+      → t.sources ≡ m.sources → t.heap ≡ m.heap → is_ready end t ≡ true → is_ready (not end) t ≡ is_ready (not end) s → Merging stops front back t xs errors
+  merging_filled end s m t xs errors was n filled all sources heap now other = record {
+    kept = filled.kept;
+    stands = stands_same m t filled.kept sources heap filled.stands;
+    ready = ready_filled end s m t was.kept was.ready n filled all now other;
+    entries = was.entries ∙ ap merged (sym filled.wholes);
+    faults = was.faults ∙ ap all_errors (sym filled.wholes);
+  }
 
   -- a merger whose flags alone may differ
   pub merging_same : (s t : Merger S A) (xs : List Entry) (errors : List Error) → t.sources ≡ s.sources → t.heap ≡ s.heap → ((b : Bool) → is_ready b t ≡ is_ready b s) → Merging stops front back s xs errors → Merging stops front back t xs errors

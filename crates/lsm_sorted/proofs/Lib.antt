@@ -23,6 +23,7 @@ pub mod UnionLemmas
 pub mod DealsMerged
 pub mod AsksLemmas
 pub mod CallsMerged
+pub mod LateErrors
 pub mod OutsLemmas
 pub mod TurnLemmas
 pub mod CallLemmas

@@ -169,7 +169,7 @@ abbrev pub Sorted : Kept → Type 0
 Sorted s = Ascends (entries_of (whole s))
 
 module _ {A : Type 0} (hs mid : List (HeapItem A)) (h : HeapItem A) (ks : List Kept) (sorted : AllByRecursion Sorted ks) (heap : HeapHolds hs ks) (pops : IsPermutation hs (h ∷ mid)) where
-  abbrev its : Kept
+  abbrev pub its : Kept
   its = kept_at ks h.source
 
   -- the sources without it
@@ -203,10 +203,10 @@ module _ {A : Type 0} (hs mid : List (HeapItem A)) (h : HeapItem A) (ks : List K
   own_sorted : Sorted its
   own_sorted = all_at Sorted ks h.source _ within sorted
 
-  at : (j : ℕ) → slice_index_or (map whole ks) j [] ≡ whole (kept_at ks j)
+  pub at : (j : ℕ) → slice_index_or (map whole ks) j [] ≡ whole (kept_at ks j)
   at j = get_or-map whole ks j _
 
-  rewritten : map whole without ≡ slice_set (map whole ks) h.source (whole (cleared h.from_back its))
+  pub rewritten : map whole without ≡ slice_set (map whole ks) h.source (whole (cleared h.from_back its))
   rewritten = map-set whole ks h.source (cleared h.from_back its)
 
   -- what holds of each held entry of a source, and upward or downward, holds of each of its entries
@@ -237,7 +237,7 @@ module _ {A : Type 0} (hs mid : List (HeapItem A)) (h : HeapItem A) (ks : List K
             let under : AtMost y (entry_of h) = (all_back (AtMost y) (entries_of its.rest) (entry_of h ∷ []) (subst (AllByRecursion (AtMost y)) parts asc.0)).0 in
             absurd (not_both y (entry_of h) under above)
 
-    least_first : whole its ≡ Ok (entry_of h) ∷ whole (cleared h.from_back its)
+    pub least_first : whole its ≡ Ok (entry_of h) ∷ whole (cleared h.from_back its)
     least_first = first_whole its h.from_back (entry_of h) told least_alone
 
     pub least_merged : merged (map whole ks) ≡ entry_of h ∷ merged (map whole without)

@@ -1,6 +1,6 @@
 -- One step of a merger at either end: the least or the greatest is popped, and the next of its source is taken.
 use Rattle.std.proofs.Common.{◌≡◌, ◌⊎◌, inl, inr, refl, sym, ◌∙◌, ap, subst, ℕ, zero, suc, Bool, true, false, List, [], ◌∷◌, ◌++◌, reverse, map, slice_index_or, slice_set}
-use Rattle.std.specs.Prelude.{not, Option, Some, None, All, IsPermutation}
+use Rattle.std.specs.Prelude.{not, Option, Some, None, Ok, All, IsPermutation}
 use Rattle.std.specs.List.{AllZip, AllByRecursion}
 use Rattle.std.specs.Ordering.{is_gt}
 use Rattle.std.proofs.lemmas.Bool.{cases_eq}
@@ -16,7 +16,7 @@ use Rattle.lsm_sorted.specs.Union.{entries_of, all_entries, all_errors, in_order
 use Rattle.lsm_sorted.specs.Merge.{turn_cmp, entry_of, Kept, one, whole, taken_at, kept_at, taken, Ready, is_ready, HeapHolds, Stands, Merging, LeavesIf, Leaves, Took}
 use Rattle.lsm_sorted.proofs.HeldLemmas.{held_none}
 use Rattle.lsm_sorted.proofs.FillLemmas.{by_end, other_ready, other_end}
-use Rattle.lsm_sorted.proofs.PopLemmas.{cleared, Sorted, without, without_gone, without_elsewhere, without_rest, without_heap, least_merged, least_errors, least_sorted, least_spent, least_free, greatest_merged, greatest_errors, greatest_sorted, greatest_spent, greatest_free}
+use Rattle.lsm_sorted.proofs.PopLemmas.{cleared, Sorted, without, without_gone, without_elsewhere, without_rest, without_heap, least_first, least_merged, least_errors, least_sorted, least_spent, least_free, greatest_merged, greatest_errors, greatest_sorted, greatest_spent, greatest_free}
 
 same_or_not : (b c : Bool) → (b ≡ c) ⊎ (b ≡ c → ⊥)
 same_or_not true true = inl refl
@@ -117,18 +117,13 @@ module _ {S A : Type 0} (stops : Error → Bool) (front back : S → Option R �
     ]
 
     -- after the next of its source was taken
-    step_merging : (end : Bool) (t : Merger S A) → Ready true end was.kept → (h.from_back ≡ not end → (kept_at was.kept h.source).rest ≡ []) → Took stops front back end h.source others t → is_ready end t ≡ true → is_ready (not end) t ≡ is_ready (not end) s
-        → errors ≡ all_errors (map whole others) → Merging stops front back t (merged (map whole others)) errors
-    step_merging end t ready spent took now other faults = record {
-      kept = took.kept;
-      stands = took.stands;
-      ready = by_end (λ b. Ready (is_ready b t) b took.kept) end
-          (subst (λ (f : Bool). Ready f end took.kept) (sym now) asked)
-          (subst (λ (f : Bool). Ready f (not end) took.kept) (sym other)
-          (other_ready (not end) (is_ready (not end) s) others took.kept (λ k. took.elsewhere k (not end) (λ _ e. other_end end e)) took.shrinks (others_ready (is_ready (not end) s) (not end) (was.ready (not end)) spent)));
-      entries = ap merged (sym took.wholes);
-      faults = faults ∙ ap all_errors (sym took.wholes);
-    }
+    pub ready_turned : (end : Bool) (t : Merger S A) → Ready true end was.kept → (h.from_back ≡ not end → (kept_at was.kept h.source).rest ≡ []) → (took : Took stops front back end h.source others t) → is_ready end t ≡ true → is_ready (not end) t ≡ is_ready (not end) s
+        → (b : Bool) → Ready (is_ready b t) b took.kept
+    ready_turned end t ready spent took now other =
+        by_end (λ b. Ready (is_ready b t) b took.kept) end
+        (subst (λ (f : Bool). Ready f end took.kept) (sym now) asked)
+        (subst (λ (f : Bool). Ready f (not end) took.kept) (sym other)
+        (other_ready (not end) (is_ready (not end) s) others took.kept (λ k. took.elsewhere k (not end) (λ _ e. other_end end e)) took.shrinks (others_ready (is_ready (not end) s) (not end) (was.ready (not end)) spent)))
       where
         asked : (j : ℕ) → taken took.kept j end ≡ None → (kept_at took.kept j).rest ≡ []
         asked j none = elim (cases_eq j h.source) [
@@ -136,8 +131,18 @@ module _ {S A : Type 0} (stops : Error → Bool) (front back : S → Option R �
           | inr off ↦ took.shrinks j (rests j ∙ ready j (sym (elsewhere j end (λ same _. off same)) ∙ sym (took.elsewhere j end (λ same _. off same)) ∙ none))
         ]
 
+    step_merging : (end : Bool) (t : Merger S A) → Ready true end was.kept → (h.from_back ≡ not end → (kept_at was.kept h.source).rest ≡ []) → Took stops front back end h.source others t → is_ready end t ≡ true → is_ready (not end) t ≡ is_ready (not end) s
+        → errors ≡ all_errors (map whole others) → Merging stops front back t (merged (map whole others)) errors
+    step_merging end t ready spent took now other faults = record {
+      kept = took.kept;
+      stands = took.stands;
+      ready = ready_turned end t ready spent took now other;
+      entries = ap merged (sym took.wholes);
+      faults = faults ∙ ap all_errors (sym took.wholes);
+    }
+
     module _ (least : All (λ y. is_gt (turn_cmp h y) ≡ false) (held s.heap)) (now : s.front_ready ≡ true) where
-      front_ready : Ready true false was.kept
+      pub front_ready : Ready true false was.kept
       front_ready = subst (λ (f : Bool). Ready f false was.kept) now (was.ready false)
 
       pub front_stands : Stands stops front back m others
@@ -148,6 +153,12 @@ module _ {S A : Type 0} (stops : Error → Bool) (front back : S → Option R �
 
       pub front_errors : all_errors (map whole others) ≡ errors
       front_errors = sym (was.faults ∙ least_errors (held s.heap) (held m.heap) h was.kept was.stands.sorted was.stands.heap pops least front_ready)
+
+      pub front_first : whole (kept_at was.kept h.source) ≡ Ok (entry_of h) ∷ whole (cleared h.from_back (kept_at was.kept h.source))
+      front_first = least_first (held s.heap) (held m.heap) h was.kept was.stands.sorted was.stands.heap pops least front_ready
+
+      pub front_spent : h.from_back ≡ true → (kept_at was.kept h.source).rest ≡ []
+      front_spent = least_spent (held s.heap) (held m.heap) h was.kept was.stands.sorted was.stands.heap pops least front_ready
 
       pub front_gives : (t : Merger S A) → Took stops front back false h.source others t → t.front_ready ≡ true → t.back_ready ≡ s.back_ready → (Some (entry_of h) ≡ first xs) × Merging stops front back t (but_first xs) errors × (Some (entry_of h) ≡ None → errors ≡ [])
       front_gives t took ready other =

@@ -195,6 +195,10 @@ module _ {S A : Type 0} (stops : Error → Bool) (front back : S → Option R �
     pub front_err : (e : Error) → DealsFirst stops (Left stops front back) was (Some (Err e)) is → stops e ≡ false → Contains (all_errors (map whole ks)) e
     front_err e deals fine = among e (first_contained (kept_at ks i).rest (Err e) (deals (kept_at ks i).rest left fine).0)
 
+    -- an error is the first of what its source still deals
+    pub front_err_first : (e : Error) → DealsFirst stops (Left stops front back) was (Some (Err e)) is → stops e ≡ false → Some (Err e) ≡ first (kept_at ks i).rest
+    front_err_first e deals fine = (deals (kept_at ks i).rest left fine).0
+
     pub back_ok : (m : Merger S A) → m.sources.items ≡ slice_set s.sources.items i is → (x : Entry) (h : HeapItem A) → DealsLast stops (Left stops front back) was (Some (Ok x)) is → IsPermutation (h ∷ held s.heap) (held m.heap)
         → entry_of h ≡ x → h.source ≡ i → h.from_back ≡ true → taken ks i true ≡ None → Took stops front back true i ks m
     back_ok m written x h deals perm entry source end free =

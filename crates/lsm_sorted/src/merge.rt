@@ -11,7 +11,7 @@ ghost use Rattle.lsm_sorted.specs.Tournament.{held, room};
 ghost use Rattle.lsm_sorted.specs.Union.{IsUnion, merged};
 ghost use Rattle.lsm_sorted.specs.Merge.{EndsAtError, HoldsAtMost, Adds, SameRoom, Fits, MayMerge, LowersTotal, LowersByOne, merge_size, entry_of};
 ghost use Rattle.lsm_sorted.specs.Asks.{Asks, Fills, Steps, Calls, IsMergerOf};
-ghost use Rattle.lsm_sorted.specs.MergeLaws.{DealsMerged, DealsUntilError, CanMerge};
+ghost use Rattle.lsm_sorted.specs.MergeLaws.{DealsMerged, DealsUntilError, MeetsErrorsLate, CanMerge};
 
 use crate::ends::Ends;
 use crate::tournament::Tournament;
@@ -94,6 +94,9 @@ impl<I: Iterator<Item = IterItem<A>>, A: Allocator + Clone> Merger<I, A> {
         // With errors among it, up to the call in which a source answers one: that is its answer.
         ensures until { IfOk result (λ m. DealsUntilError I.next_gives nowhere iterators.items
             ⟦<Merger<I, A> as Iterator>⟧.next_gives nowhere m) }
+        // No error is met before the entries that stand before it, but for the last of them.
+        ensures late { IfOk result (λ m. MeetsErrorsLate I.next_gives nowhere iterators.items
+            ⟦<Merger<I, A> as Iterator>⟧.next_gives m) }
         // Nothing follows an error, whatever the sources give.
         ensures ends { IfOk result (λ m. EndsAtError ⟦<Merger<I, A> as Iterator>⟧.next_gives nowhere m) }
         // What is dealt is a union, and where no two entries share a key and number the only one.
@@ -133,6 +136,11 @@ pub fn from_both_ends<I: DoubleEndedIterator<Item = IterItem<A>>, A: Allocator>(
     ensures until { (its : List I) → IsMergerOf its merger.now →
         DealsUntilError I.next_gives I.next_back_gives its
         ⟦<Merger<I, A> as Iterator>⟧.next_gives ⟦<Merger<I, A> as DoubleEndedIterator>⟧.next_back_gives merger.now }
+    // Calls at the front alone meet no error before the entries that stand before it, but for the
+    // last of them.
+    ensures late { (its : List I) → IsMergerOf its merger.now →
+        MeetsErrorsLate I.next_gives I.next_back_gives its
+        ⟦<Merger<I, A> as Iterator>⟧.next_gives merger.now }
     // Nothing follows an error, whatever the sources give.
     ensures ends { EndsAtError ⟦<Merger<I, A> as Iterator>⟧.next_gives ⟦<Merger<I, A> as DoubleEndedIterator>⟧.next_back_gives merger.now }
     ensures can { (its : List I) → IsMergerOf its merger.now →

@@ -1,6 +1,6 @@
 //! Merging several sources from both ends, and what that takes of memory.
 use crate::words::{answers_so, result_of};
-use lsm_sorted::{Merger, newest_of};
+use lsm_sorted::{Merger, from_both_ends, newest_of};
 use refusing::{Refusing, each_refused};
 use sst_entries::{Error, IterItem};
 use std::alloc::{Allocator, Global};
@@ -62,6 +62,7 @@ fn merges<A: Allocator + Clone>(
     wanted: &str,
 ) -> Result<bool, Error> {
     let mut merger = Merger::new(alloc.clone()?, sources_of(alloc, sources)?)?;
+    from_both_ends(&merger);
     answers_so(alloc, &mut merger, ends, wanted)
 }
 
@@ -134,6 +135,7 @@ fn requests_at_first_alone<A: Allocator + Clone>(
     let sources = sources_of(memory, "aV1 cV1 / bV2 /")?;
     let before = heap.requests();
     let mut merger = Merger::new(memory.clone()?, sources)?;
+    from_both_ends(&merger);
     let made = heap.requests();
     let is_right = answers_so(&alloc, &mut merger, "FBFB", "aV1 cV1 bV2 -")?;
     Ok(is_right && before < made && made == heap.requests())

@@ -1,6 +1,6 @@
-use Rattle.lsm_sorted.specs.Merge.{MayMerge}
 use Rattle.lsm_sorted.proofs.DealsMerged.{new_may}
 use Rattle.lsm_sorted.proofs.CallsMerged.{front_merges, back_merges, merger_deals, merger_until, ends_at, can_both, holds_two}
+use Rattle.lsm_sorted.proofs.LateErrors.{merger_late}
 use Rattle.lsm_sorted.proofs.merge.from_both_ends.Goals as goal
 
 pub returns-clause-deals : goal.returns-clause-deals
@@ -34,3 +34,6 @@ returns-clause-can g c its of =
 
 pub returns-clause-few : goal.returns-clause-few
 returns-clause-few g c its of = holds_two g.I.Iterator.next_gives g.I.DoubleEndedIterator.next_back_gives _ _ its c.args.merger.now of
+
+pub returns-clause-late : goal.returns-clause-late
+returns-clause-late g c its of = merger_late g.I.Iterator.next_gives g.I.DoubleEndedIterator.next_back_gives _ its c.args.merger.now of

@@ -1,11 +1,10 @@
 use Rattle.std.proofs.Common.{◌+◌, ◌≤◌, refl, length, arith}
-use Rattle.std.specs.Prelude.{IfOk}
 use Rattle.sst_entries.specs.Stream.{nowhere}
 use Rattle.lsm_sorted.specs.Tournament.{room}
-use Rattle.lsm_sorted.specs.Asks.{IsMergerOf}
 use Rattle.lsm_sorted.proofs.UnionLemmas.{merged_union, only_union}
 use Rattle.lsm_sorted.proofs.DealsMerged.{new_may}
 use Rattle.lsm_sorted.proofs.CallsMerged.{front_merges, merger_deals, merger_until, ends_at, can_in_front, holds_one}
+use Rattle.lsm_sorted.proofs.LateErrors.{merger_late}
 use Rattle.lsm_sorted.proofs.merge.Merger.new.Goals as goal
 
 pub returns-clause-union : goal.returns-clause-union
@@ -51,3 +50,6 @@ returns-clause-can g c =
 
 pub returns-clause-few : goal.returns-clause-few
 returns-clause-few g c = holds_one g.I.Iterator.next_gives _ _ _ (returns-clause-fresh g c)
+
+pub returns-clause-late : goal.returns-clause-late
+returns-clause-late g c = merger_late g.I.Iterator.next_gives nowhere _ _ _ (returns-clause-fresh g c)
