@@ -54,9 +54,10 @@ impl<A: Allocator> HeapItem<A> {
     }
 }
 
-/// Gives the entries of several sorted sources in order, from both ends. Entries with the same key, number and kind come
-/// source by source. An error of a source is the answer of the call that met it; the entry that was taken in that call is
-/// given up, and nothing comes after it from either end.
+/// Gives the entries of several sorted sources in order, from the front, and from both ends where the sources have two. A
+/// call asks the sources at its own end alone. Entries with the same key, number and kind come source by source. An error of a
+/// source is the answer of the call that met it; the entry that was taken in that call is given up, and nothing comes after
+/// it from either end.
 #[derive(Drop)]
 pub struct Merger<I, A: Allocator = Global> {
     sources: Vec<Ends<I>, A>,
@@ -98,15 +99,18 @@ impl<I: Iterator<Item = IterItem<A>>, A: Allocator + Clone> Merger<I, A> {
         ensures late { IfOk result (λ m. MeetsErrorsLate I.next_gives nowhere iterators.items
             ⟦<Merger<I, A> as Iterator>⟧.next_gives m) }
         // Nothing follows an error, whatever the sources give.
-        ensures ends { IfOk result (λ m. EndsAtError ⟦<Merger<I, A> as Iterator>⟧.next_gives nowhere m) }
+        ensures ends { IfOk result (λ m. EndsAtError ⟦<Merger<I, A> as Iterator>⟧.next_gives nowhere
+            m) }
         // What is dealt is a union, and where no two entries share a key and number the only one.
         ensures union { IfOk result (λ _. (lists : List (List R)) → IsUnion lists (merged lists)) }
         ensures only { IfOk result (λ _. (lists : List (List R)) (xs : List Entry) →
             IsUnion lists xs → IsStrict xs → xs ≡ merged lists) }
         ensures can { IfOk result (λ m.
             CanMerge I.next_gives nowhere I.can_next I.can_next I.remaining iterators.items
-            ⟦<Merger<I, A> as Iterator>⟧.next_gives nowhere ⟦<Merger<I, A> as Iterator>⟧.can_next ⟦<Merger<I, A> as Iterator>⟧.can_next m) }
-        ensures few { IfOk result (λ m. HoldsAtMost 1 ⟦<Merger<I, A> as Iterator>⟧.next_gives nowhere m) }
+            ⟦<Merger<I, A> as Iterator>⟧.next_gives nowhere ⟦<Merger<I, A> as Iterator>⟧.can_next
+            ⟦<Merger<I, A> as Iterator>⟧.can_next m) }
+        ensures few { IfOk result (λ m. HoldsAtMost 1 ⟦<Merger<I, A> as Iterator>⟧.next_gives
+            nowhere m) }
         ensures err { IfErr result (λ e. e ≡ OutOfMemory) }
     {
         let Some(places) = iterators.len().checked_mul(2) else {
@@ -131,24 +135,30 @@ pub fn from_both_ends<I: DoubleEndedIterator<Item = IterItem<A>>, A: Allocator>(
     // What sorted sources have together is dealt in order, whatever the ends.
     ensures deals { (its : List I) → IsMergerOf its merger.now →
         DealsMerged I.next_gives I.next_back_gives its
-        ⟦<Merger<I, A> as Iterator>⟧.next_gives ⟦<Merger<I, A> as DoubleEndedIterator>⟧.next_back_gives merger.now }
+        ⟦<Merger<I, A> as Iterator>⟧.next_gives
+        ⟦<Merger<I, A> as DoubleEndedIterator>⟧.next_back_gives merger.now }
     // With errors among it, up to the call in which a source answers one: that is its answer.
     ensures until { (its : List I) → IsMergerOf its merger.now →
         DealsUntilError I.next_gives I.next_back_gives its
-        ⟦<Merger<I, A> as Iterator>⟧.next_gives ⟦<Merger<I, A> as DoubleEndedIterator>⟧.next_back_gives merger.now }
+        ⟦<Merger<I, A> as Iterator>⟧.next_gives
+        ⟦<Merger<I, A> as DoubleEndedIterator>⟧.next_back_gives merger.now }
     // Calls at the front alone meet no error before the entries that stand before it, but for the
     // last of them.
     ensures late { (its : List I) → IsMergerOf its merger.now →
         MeetsErrorsLate I.next_gives I.next_back_gives its
         ⟦<Merger<I, A> as Iterator>⟧.next_gives merger.now }
     // Nothing follows an error, whatever the sources give.
-    ensures ends { EndsAtError ⟦<Merger<I, A> as Iterator>⟧.next_gives ⟦<Merger<I, A> as DoubleEndedIterator>⟧.next_back_gives merger.now }
+    ensures ends { EndsAtError ⟦<Merger<I, A> as Iterator>⟧.next_gives
+        ⟦<Merger<I, A> as DoubleEndedIterator>⟧.next_back_gives merger.now }
     ensures can { (its : List I) → IsMergerOf its merger.now →
         CanMerge I.next_gives I.next_back_gives I.can_next I.can_next_back I.remaining its
-        ⟦<Merger<I, A> as Iterator>⟧.next_gives ⟦<Merger<I, A> as DoubleEndedIterator>⟧.next_back_gives
-        ⟦<Merger<I, A> as Iterator>⟧.can_next ⟦<Merger<I, A> as DoubleEndedIterator>⟧.can_next_back merger.now }
+        ⟦<Merger<I, A> as Iterator>⟧.next_gives
+        ⟦<Merger<I, A> as DoubleEndedIterator>⟧.next_back_gives
+        ⟦<Merger<I, A> as Iterator>⟧.can_next ⟦<Merger<I, A> as DoubleEndedIterator>⟧.can_next_back
+        merger.now }
     ensures few { (its : List I) → IsMergerOf its merger.now →
-        HoldsAtMost 2 ⟦<Merger<I, A> as Iterator>⟧.next_gives ⟦<Merger<I, A> as DoubleEndedIterator>⟧.next_back_gives merger.now }
+        HoldsAtMost 2 ⟦<Merger<I, A> as Iterator>⟧.next_gives
+        ⟦<Merger<I, A> as DoubleEndedIterator>⟧.next_back_gives merger.now }
 {
     let _ = merger;
 }
@@ -158,9 +168,11 @@ impl<I: Iterator<Item = IterItem<A>>, A: Allocator> Merger<I, A> {
     #[inline(always)]
     fn take_front(&mut self, i: usize) -> Result<(), Error>
         requires place { i < length self.old.sources.items }
-        requires goes { All (Goes I.next_gives nowhere I.can_next I.can_next I.remaining) self.old.sources.items }
+        requires goes { All (Goes I.next_gives nowhere I.can_next I.can_next I.remaining)
+            self.old.sources.items }
         requires space { length (held self.old.heap) < room self.old.heap }
-        ensures goes { All (Goes I.next_gives nowhere I.can_next I.can_next I.remaining) self.new.sources.items }
+        ensures goes { All (Goes I.next_gives nowhere I.can_next I.can_next I.remaining)
+            self.new.sources.items }
         ensures same { SameRoom self.old self.new }
         ensures adds { Adds false i (held self.old.heap) (held self.new.heap) }
         ensures lowers { LowersTotal I.remaining self.old result self.new }
@@ -180,7 +192,8 @@ impl<I: Iterator<Item = IterItem<A>>, A: Allocator> Merger<I, A> {
     // Once, moves the first of each source into the heap.
     fn fill_front(&mut self) -> Result<(), Error>
         requires { Fits I.next_gives nowhere I.can_next I.can_next I.remaining self.old }
-        ensures fits { IfOk result (λ _. Fits I.next_gives nowhere I.can_next I.can_next I.remaining self.new) }
+        ensures fits { IfOk result (λ _. Fits I.next_gives nowhere I.can_next I.can_next I.remaining
+            self.new) }
         ensures ready { IfOk result (λ _. self.new.front_ready ≡ true) }
         ensures other { self.new.back_ready ≡ self.old.back_ready }
         ensures failed { self.new.failed ≡ self.old.failed }
@@ -201,7 +214,8 @@ impl<I: Iterator<Item = IterItem<A>>, A: Allocator> Merger<I, A> {
     #[inline(always)]
     fn step_front(&mut self) -> Result<Option<InternalValue<A>>, Error>
         requires { Fits I.next_gives nowhere I.can_next I.can_next I.remaining self.old }
-        ensures fits { IfOk result (λ _. Fits I.next_gives nowhere I.can_next I.can_next I.remaining self.new) }
+        ensures fits { IfOk result (λ _. Fits I.next_gives nowhere I.can_next I.can_next I.remaining
+            self.new) }
         ensures failed { self.new.failed ≡ self.old.failed }
         ensures lowers { LowersByOne I.remaining self.old result self.new }
         ensures steps { Steps I.next_gives false self.old result self.new }
@@ -229,9 +243,11 @@ impl<I: DoubleEndedIterator<Item = IterItem<A>>, A: Allocator> Merger<I, A> {
     #[inline(always)]
     fn take_back(&mut self, i: usize) -> Result<(), Error>
         requires place { i < length self.old.sources.items }
-        requires goes { All (Goes I.next_gives I.next_back_gives I.can_next I.can_next_back I.remaining) self.old.sources.items }
+        requires goes { All (Goes I.next_gives I.next_back_gives I.can_next I.can_next_back
+            I.remaining) self.old.sources.items }
         requires space { length (held self.old.heap) < room self.old.heap }
-        ensures goes { All (Goes I.next_gives I.next_back_gives I.can_next I.can_next_back I.remaining) self.new.sources.items }
+        ensures goes { All (Goes I.next_gives I.next_back_gives I.can_next I.can_next_back
+            I.remaining) self.new.sources.items }
         ensures same { SameRoom self.old self.new }
         ensures adds { Adds true i (held self.old.heap) (held self.new.heap) }
         ensures lowers { LowersTotal I.remaining self.old result self.new }
@@ -250,8 +266,10 @@ impl<I: DoubleEndedIterator<Item = IterItem<A>>, A: Allocator> Merger<I, A> {
 
     // Once, moves the last of each source into the heap.
     fn fill_back(&mut self) -> Result<(), Error>
-        requires { Fits I.next_gives I.next_back_gives I.can_next I.can_next_back I.remaining self.old }
-        ensures fits { IfOk result (λ _. Fits I.next_gives I.next_back_gives I.can_next I.can_next_back I.remaining self.new) }
+        requires { Fits I.next_gives I.next_back_gives I.can_next I.can_next_back I.remaining
+            self.old }
+        ensures fits { IfOk result (λ _. Fits I.next_gives I.next_back_gives I.can_next
+            I.can_next_back I.remaining self.new) }
         ensures ready { IfOk result (λ _. self.new.back_ready ≡ true) }
         ensures other { self.new.front_ready ≡ self.old.front_ready }
         ensures failed { self.new.failed ≡ self.old.failed }
@@ -271,8 +289,10 @@ impl<I: DoubleEndedIterator<Item = IterItem<A>>, A: Allocator> Merger<I, A> {
     // Takes the greatest entry of all sources, and the next of its source into the heap.
     #[inline(always)]
     fn step_back(&mut self) -> Result<Option<InternalValue<A>>, Error>
-        requires { Fits I.next_gives I.next_back_gives I.can_next I.can_next_back I.remaining self.old }
-        ensures fits { IfOk result (λ _. Fits I.next_gives I.next_back_gives I.can_next I.can_next_back I.remaining self.new) }
+        requires { Fits I.next_gives I.next_back_gives I.can_next I.can_next_back I.remaining
+            self.old }
+        ensures fits { IfOk result (λ _. Fits I.next_gives I.next_back_gives I.can_next
+            I.can_next_back I.remaining self.new) }
         ensures failed { self.new.failed ≡ self.old.failed }
         ensures lowers { LowersByOne I.remaining self.old result self.new }
         ensures steps { Steps I.next_back_gives true self.old result self.new }
@@ -291,7 +311,8 @@ impl<I: Iterator<Item = IterItem<A>>, A: Allocator> Iterator for Merger<I, A> {
 
     ghost can_next = { MayMerge I.next_gives nowhere I.can_next I.can_next I.remaining };
 
-    ghost next_gives = { Calls I.next_gives false (MayMerge I.next_gives nowhere I.can_next I.can_next I.remaining) };
+    ghost next_gives = { Calls I.next_gives false (MayMerge I.next_gives nowhere I.can_next
+        I.can_next I.remaining) };
 
     ghost remaining = { λ m. at_most (merge_size I.remaining m) };
 
@@ -309,9 +330,11 @@ impl<I: Iterator<Item = IterItem<A>>, A: Allocator> Iterator for Merger<I, A> {
 
 impl<I: DoubleEndedIterator<Item = IterItem<A>>, A: Allocator> DoubleEndedIterator
     for Merger<I, A> {
-    ghost can_next_back = { MayMerge I.next_gives I.next_back_gives I.can_next I.can_next_back I.remaining };
+    ghost can_next_back = { MayMerge I.next_gives I.next_back_gives I.can_next I.can_next_back
+        I.remaining };
 
-    ghost next_back_gives = { Calls I.next_back_gives true (MayMerge I.next_gives I.next_back_gives I.can_next I.can_next_back I.remaining) };
+    ghost next_back_gives = { Calls I.next_back_gives true (MayMerge I.next_gives I.next_back_gives
+        I.can_next I.can_next_back I.remaining) };
 
     fn next_back(&mut self) -> Option<IterItem<A>> {
         if self.failed {

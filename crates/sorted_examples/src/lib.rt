@@ -9,6 +9,8 @@ mod heaps;
 #[cfg(test)]
 mod merging;
 #[cfg(test)]
+mod merging_front;
+#[cfg(test)]
 mod newest;
 #[cfg(test)]
 mod words;

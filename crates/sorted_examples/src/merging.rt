@@ -82,6 +82,11 @@ const MERGED: &[(&str, &str, &str)] = &[
     ("aV1 bV1 / cV1 !7 /", "BBF", "!7 - -"),
     ("aV3 bV1 ?1 / aV2 /", "FFFB", "aV3 aV2 ?1 -"),
     ("aV3 aV1 / aV2 bV9 / /", "BFBFFB", "bV9 aV3 aV1 aV2 - -"),
+    // Three sources, an error in the middle of one and at the far end of one.
+    ("aV1 dV1 / bV1 !7 fV1 / cV1 /", "FBBF", "aV1 !7 - -"),
+    ("aV1 dV1 / bV1 !7 fV1 / cV1 /", "BBF", "!7 - -"),
+    ("aV1 dV1 !7 / bV1 / cV1 eV1 /", "FFFFB", "aV1 bV1 cV1 !7 -"),
+    ("aV1 dV1 !7 / bV1 / cV1 eV1 /", "FBF", "aV1 !7 -"),
     // Entries that tie: the earlier source first, from either end.
     ("aV1x aV1y / aV1z /", "FFFF", "aV1x aV1y aV1z -"),
     ("aV1x aV1y / aV1z /", "BFBB", "aV1z aV1x aV1y -"),
