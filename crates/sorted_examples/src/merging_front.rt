@@ -54,7 +54,7 @@ fn first_answers<A: Allocator, I: Iterator<Item = IterItem<A>>>(
     requires { CanDeal I.next_gives nowhere I.can_next I.can_next stream.old }
 {
     let mut answers = Vec::new(alloc);
-    for _ in 0..count {
+    while answers.len() < count {
         let answer = stream.next();
         answers.push(answer)?;
     }
@@ -74,7 +74,10 @@ const MERGED: &[(&str, &str)] = &[
     ("aV1 dV1 / bV1 / cV1 /", "aV1 bV1 cV1 dV1 -"),
     // At the far end of a source an error comes when its last entry goes, and not before.
     ("aV1 dV1 !7 / bV1 / cV1 eV1 /", "aV1 bV1 cV1 !7 - -"),
-    ("aV1 bV1 / cV1 dV1 / eV1 fV1 !7 /", "aV1 bV1 cV1 dV1 eV1 !7 -"),
+    (
+        "aV1 bV1 / cV1 dV1 / eV1 fV1 !7 /",
+        "aV1 bV1 cV1 dV1 eV1 !7 -",
+    ),
     // In the middle of a source.
     ("aV1 dV1 / bV1 !7 fV1 / cV1 /", "aV1 !7 - -"),
     ("aV1 cV1 !7 dV1 / bV1 !8 / eV1 /", "aV1 !8 -"),
