@@ -94,6 +94,7 @@ impl<A: Allocator + Clone> BlockSource<A> {
             || body.len() < size
             || ((body.len() - size) as u64) < handle.offset().0
         {
+            // No room for a header, or past the body.
             return Err(Error::Truncated);
         }
         let start = handle.offset().0 as usize;
