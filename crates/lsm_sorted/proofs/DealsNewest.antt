@@ -18,23 +18,29 @@ module _ (stops : Error → Bool) {T : Type 0} (May : T → Type 0) (Has : (Erro
     pub stands : Has stops t (all_ok entries)
     pub newest : ys ≡ all_ok (newest entries)
 
-  pub deals_newest : (s : T) (xs : List Entry) → Ascends xs → Has stops s (all_ok xs) → Deals (stopped stops) (Answers May Has front_step) (Answers May Has back_step) s (all_ok (newest xs))
-  deals_newest s xs up h = deals_by (stopped stops) (Answers May Has front_step) (Answers May Has back_step) Sorted
+  -- calls that answer the steps, and what else they may do
+  pub deals_newest : (next next_back : T → Option R → T → Type 0)
+      → ((s : T) (r : Option R) (t : T) → next s r t → Answers May Has front_step s r t)
+      → ((s : T) (r : Option R) (t : T) → next_back s r t → Answers May Has back_step s r t)
+      → (s : T) (xs : List Entry) → Ascends xs → Has stops s (all_ok xs) → Deals (stopped stops) next next_back s (all_ok (newest xs))
+  deals_newest next next_back in_front behind s xs up h = deals_by (stopped stops) next next_back Sorted
       (λ s ys r t was step fine.
       let n = front_newest was.entries was.up in
-      let one = step.gives stops (all_ok was.entries) was.stands fine in (
+      let one = (in_front s r t step).gives stops (all_ok was.entries) was.stands fine in (
         one.0 ∙ n.answers ∙ sym (ap first was.newest),
         record { entries = n.left; up = n.up; stands = subst (Has stops t) n.leaves one.1; newest = ap but_first was.newest ∙ n.dealt },
       ))
       (λ s ys r t was step fine.
       let n = back_newest was.entries was.up in
-      let one = step.gives stops (all_ok was.entries) was.stands fine in (
+      let one = (behind s r t step).gives stops (all_ok was.entries) was.stands fine in (
         one.0 ∙ n.answers ∙ sym (ap last was.newest),
         record { entries = n.left; up = n.up; stands = subst (Has stops t) n.leaves one.1; newest = ap but_last was.newest ∙ n.dealt },
       ))
       s (all_ok (newest xs)) (record { entries = xs; up = keys_up xs up; stands = h; newest = refl })
 
-module _ {T : Type 0} (May : T → Type 0) (Has : (Error → Bool) → T → List R → Type 0) where
-  -- it can be dealt, since each call leaves a state that may be called
-  pub can_answer : (front back : List R → Option R × List R) (s : T) → May s → CanDeal (Answers May Has front) (Answers May Has back) May May s
-  can_answer front back s may = can_by (Answers May Has front) (Answers May Has back) May May May (λ s m. (m, m)) (λ s r t m step. step.may) (λ s r t m step. step.may) s may
+-- it can be dealt, since each call leaves a state that may be called
+pub can_after : {T : Type 0} (May : T → Type 0) (next next_back : T → Option R → T → Type 0)
+    → ((s : T) (r : Option R) (t : T) → next s r t → May t)
+    → ((s : T) (r : Option R) (t : T) → next_back s r t → May t)
+    → (s : T) → May s → CanDeal next next_back May May s
+can_after May next next_back in_front behind s may = can_by next next_back May May May (λ s m. (m, m)) (λ s r t m step. in_front s r t step) (λ s r t m step. behind s r t step) s may

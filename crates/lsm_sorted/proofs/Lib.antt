@@ -1,8 +1,11 @@
 pub mod EntryKeyLemmas
 pub mod EndsLemmas
+pub mod OutlookLemmas
 pub mod MvccLemmas
+pub mod MvccHears
 pub mod PeekedLemmas
 pub mod NewestLemmas
+pub mod UntilLemmas
 pub mod DealsNewest
 pub mod SideLemmas
 pub mod BracketLemmas
@@ -30,6 +33,7 @@ pub mod CallLemmas
 pub mod FilterLemmas
 pub mod SettleLemmas
 pub mod GoingLemmas
+pub mod CompactionHears
 pub mod WholeLemmas
 pub mod Hits
 pub mod Pairs

@@ -1,11 +1,16 @@
 -- An iterator that is taken from the front alone, with a place for one entry before it.
-use Rattle.std.specs.Prelude.{◌≡◌, ℕ, Bool, ◌+◌, List, ◌++◌, Option}
+use Rattle.std.specs.Prelude.{◌≡◌, ℕ, Bool, ◌+◌, List, [], ◌++◌, Option}
 use Rattle.std.specs.Iterator.{Count}
 use Rattle.sst_entries.specs.declared.error.Error.{Error}
 use Rattle.sst_entries.specs.Stream.{nowhere}
 use Rattle.lsm_sorted.specs.declared.ahead.Ahead.{Ahead}
 use Rattle.lsm_sorted.specs.Ends.{R, Left, ends_size}
+use Rattle.lsm_sorted.specs.Outlook.{Outlook}
 use Rattle.lsm_sorted.specs.Peeked.{held, held_count}
+
+-- the iterator, and what its place holds
+abbrev pub ahead_outlook : {S : Type 0} → Ahead S R → Outlook S
+ahead_outlook s = record { source = s.source; ahead = held s.front; behind = [] }
 
 -- the list that is still to come
 pub record HoldsAhead {S : Type 0} (stops : Error → Bool) (front : S → Option R → S → Type 0) (s : Ahead S R) (xs : List R) : Type 0 where

@@ -3,14 +3,20 @@ use Rattle.std.specs.Prelude.{◌≡◌, ℕ, Bool, false, List, [], ◌∷◌, 
 use Rattle.std.specs.Iterator.{Count}
 use Rattle.sst_entries.specs.Entry.{Entry}
 use Rattle.sst_entries.specs.declared.error.Error.{Error}
+use Rattle.sst_entries.specs.declared.stream.Direction.TheVariants.{Front}
 use Rattle.sst_entries.specs.Stream.{stopped, stopped_result, nowhere}
 use Rattle.lsm_sorted.specs.declared.ahead.Ahead.{Ahead}
 use Rattle.lsm_sorted.specs.declared.compaction.stream.CompactionStream.{CompactionStream}
 use Rattle.lsm_sorted.specs.Ends.{R, Goes}
 use Rattle.lsm_sorted.specs.Newest.{after_key}
-use Rattle.lsm_sorted.specs.Ahead.{HoldsAhead, ahead_size}
+use Rattle.lsm_sorted.specs.Outlook.{Outlook, Relates, nothing_stops, IsSame}
+use Rattle.lsm_sorted.specs.Ahead.{HoldsAhead, ahead_size, ahead_outlook}
 use Rattle.lsm_sorted.specs.Compaction.{Verdict, Rules, told_by, reports_by}
 use Rattle.lsm_sorted.specs.Compacting.{of_key, unless, settled, Asks, GetsAll, Calls}
+
+-- a call that goes through xs and leaves ys
+abbrev pub CallsIn : {F C : Type 0} → (F → Entry → Result Verdict Error → F → Type 0) → (C → Entry → C → Type 0) → Rules → F → C → Option R → F → C → List R → List R → Type 0
+CallsIn gives gets rules f c r g d xs ys = Calls gives gets rules f c xs r g d ys
 
 module _ {S F C : Type 0} where
   -- how the stream is set
@@ -20,6 +26,10 @@ module _ {S F C : Type 0} where
   -- what the stream reads from
   abbrev pub source_of : CompactionStream S F C R → Ahead S R
   source_of s = s.inner
+
+  -- what the stream reads from, with what it took and has still to give
+  abbrev pub compaction_outlook : CompactionStream S F C R → Outlook S
+  compaction_outlook s = ahead_outlook (source_of s)
 
   abbrev pub filter_of : CompactionStream S F C R → F
   filter_of s = s.filter
@@ -37,11 +47,13 @@ module _ {S F C : Type 0} where
   abbrev pub compaction_size : (S → Count) → CompactionStream S F C R → ℕ
   compaction_size left s = ahead_size left (source_of s)
 
-  -- one call: it may be called again, its rules stay, and where it goes through xs, the answer and what is left are those of a call on xs, up to an error that stops it
+  -- one call: it may be called again, its rules stay, and where it goes through xs, the answer and what is left are those of a call on xs, up to an error that stops it;
+  -- and whatever the source gives, they are those of a call on what it had and what the source gave
   pub record CompactsNext (front : S → Option R → S → Type 0) (can : S → Type 0) (left : S → Count) (gives : F → Entry → Result Verdict Error → F → Type 0) (gets : C → Entry → C → Type 0) (s : CompactionStream S F C R) (r : Option R) (t : CompactionStream S F C R) : Type 0 where
     pub may : MayCompact front can left t
     pub rules : rules_of t ≡ rules_of s
     pub calls : (stops : Error → Bool) (xs : List R) → Compacts stops front s xs → stopped stops r ≡ false → (ys : List R) × Compacts stops front t ys × Calls gives gets (rules_of s) (filter_of s) (callback_of s) xs r (filter_of t) (callback_of t) ys
+    pub hears : Relates front nowhere Front (CallsIn gives gets (rules_of s) (filter_of s) (callback_of s) r (filter_of t) (callback_of t)) (compaction_outlook s) (compaction_outlook t)
 
 -- the error of a refusal
 abbrev pub refusal : {X : Type 0} → Result X Error → Option Error
@@ -71,6 +83,14 @@ answer_of rules head (Err e) = Some (Err e)
 -- a head was settled, up to an error that stops it
 pub record Settles {T C : Type 0} (stops : Error → Bool) (Has : T → List R → Type 0) (gets : C → Entry → C → Type 0) (rules : Rules) (head : Entry) (s : T) (c : C) (result : Result Bool Error) (t : T) (d : C) : Type 0 where
   pub at : (xs : List R) → Has s xs → stopped_result stops result ≡ false → (answer_of rules head result ≡ (settled rules head xs).answer) × Has t (settled rules head xs).rest × GetsAll gets c (settled rules head xs).reports d
+
+-- the same of lists themselves
+module _ {C : Type 0} (gets : C → Entry → C → Type 0) where
+  abbrev pub DrainsIn : {X : Type 0} → List ℕ → C → Result X Error → C → List R → List R → Type 0
+  DrainsIn key c result d xs ys = DrainsKey nothing_stops IsSame gets key xs c result ys d
+
+  abbrev pub SettlesIn : Rules → Entry → C → Result Bool Error → C → List R → List R → Type 0
+  SettlesIn rules head c result d xs ys = Settles nothing_stops IsSame gets rules head xs c result ys d
 
 -- a head was filtered, and reported as told
 pub record Filters {F C : Type 0} (gives : F → Entry → Result Verdict Error → F → Type 0) (gets : C → Entry → C → Type 0) (head : Entry) (f : F) (c : C) (result : Result (Option Entry) Error) (g : F) (d : C) : Type 0 where

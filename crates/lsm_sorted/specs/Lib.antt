@@ -1,4 +1,5 @@
 pub mod Ends
+pub mod Outlook
 pub mod Peeked
 pub mod Union
 pub mod Newest
@@ -13,6 +14,7 @@ pub mod IntervalHeap
 pub mod Merge
 pub mod Asks
 pub mod MergeLaws
+pub mod NewestLaws
 pub mod Point
 pub mod Compaction
 pub mod Compacting

@@ -4,6 +4,7 @@ use Rattle.std.specs.Iterator.{Count}
 use Rattle.sst_entries.specs.declared.error.Error.{Error}
 use Rattle.lsm_sorted.specs.declared.peeked.Peeked.{Peeked}
 use Rattle.lsm_sorted.specs.Ends.{R, Left, ends_size}
+use Rattle.lsm_sorted.specs.Outlook.{Outlook}
 
 -- what a place holds
 abbrev pub held : Option R → List R
@@ -13,6 +14,10 @@ held (Some x) = x ∷ []
 abbrev pub held_count : Option R → ℕ
 held_count None = 0
 held_count (Some x) = 1
+
+-- the iterator, and what its places hold
+abbrev pub peeked_outlook : {S : Type 0} → Peeked S R → Outlook S
+peeked_outlook s = record { source = s.source; ahead = held s.front; behind = held s.back }
 
 -- the list that is still to come
 pub record Holds {S : Type 0} (stops : Error → Bool) (front back : S → Option R → S → Type 0) (s : Peeked S R) (xs : List R) : Type 0 where

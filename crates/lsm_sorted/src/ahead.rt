@@ -2,8 +2,10 @@
 ghost use Rattle.sst_entries.specs.declared.error.Error.{Error};
 ghost use Rattle.std.specs.Prelude.{Bool, ◌≡◌, ℕ, ◌+◌, ◌<◌, List, ◌∷◌, false};
 ghost use Rattle.lsm_sorted.specs.Ends.{R, Goes};
-ghost use Rattle.sst_entries.specs.Stream.{DealsFirst, Lowers, nowhere};
-ghost use Rattle.lsm_sorted.specs.Ahead.{HoldsAhead, ahead_size};
+ghost use Rattle.sst_entries.specs.declared.stream.Direction.TheVariants.{Front};
+ghost use Rattle.sst_entries.specs.Stream.{DealsFirst, Lowers, nowhere, front_of};
+ghost use Rattle.lsm_sorted.specs.Outlook.{Relates, IsStep};
+ghost use Rattle.lsm_sorted.specs.Ahead.{HoldsAhead, ahead_size, ahead_outlook};
 
 use crate::ends::Ends;
 use sst_entries::{InternalValue, IterItem};
@@ -32,6 +34,10 @@ impl<I: Iterator<Item = IterItem<A>>, A: Allocator> Ahead<I> {
         requires { Goes I.next_gives nowhere I.can_next I.can_next I.remaining self.old.source }
         ensures goes { Goes I.next_gives nowhere I.can_next I.can_next I.remaining self.new.source }
         ensures deals { (stops : Error → Bool) → DealsFirst stops (HoldsAhead stops I.next_gives) self.old result self.new }
+        ensures hears {
+            Relates I.next_gives nowhere Front (IsStep front_of result)
+            (ahead_outlook self.old) (ahead_outlook self.new)
+        }
         ensures lowers { Lowers result (ahead_size I.remaining self.old) (ahead_size I.remaining self.new) }
         ensures free { self.new.front ≡ None }
     {
@@ -46,6 +52,10 @@ impl<I: Iterator<Item = IterItem<A>>, A: Allocator> Ahead<I> {
         requires { self.old.front ≡ None }
         ensures source { self.new.source ≡ self.old.source }
         ensures lists { (stops : Error → Bool) (xs : List R) → HoldsAhead stops I.next_gives self.old xs → HoldsAhead stops I.next_gives self.new (Ok x ∷ xs) }
+        ensures puts {
+            Relates I.next_gives nowhere Front (λ xs ys. ys ≡ Ok x ∷ xs)
+            (ahead_outlook self.old) (ahead_outlook self.new)
+        }
         ensures size { ahead_size I.remaining self.new ≡ ahead_size I.remaining self.old + 1 }
     {
         self.front = Some(Ok(x));

@@ -2,13 +2,15 @@
 ghost use Rattle.sst_entries.specs.declared.error.Error.{Error};
 ghost use Rattle.std.specs.Prelude.{not, Bool, ◌≡◌, ℕ, ◌+◌, ◌<◌, List};
 ghost use Rattle.std.specs.Iterator.{at_most, IsFinite};
-ghost use Rattle.sst_entries.specs.Stream.{Deals, CanDeal, stopped, all_ok, Answers};
+ghost use Rattle.sst_entries.specs.Stream.{Deals, CanDeal, stopped, all_ok};
+ghost use Rattle.sst_entries.specs.declared.stream.Direction.TheVariants.{Front, Back};
 ghost use Rattle.lsm_sorted.specs.Ends.{R};
 ghost use Rattle.sst_entries.specs.Key.{same_key, key_lt};
 ghost use Rattle.lsm_sorted.specs.Newest.{front_step, back_step};
 ghost use Rattle.lsm_sorted.specs.Union.{Ascends, newest};
 ghost use Rattle.sst_entries.specs.Entry.{Entry};
-ghost use Rattle.lsm_sorted.specs.Mvcc.{StandsFor, MayStep, mvcc_size};
+ghost use Rattle.lsm_sorted.specs.Mvcc.{StandsFor, MayStep, StepsAt, mvcc_size, mvcc_outlook};
+ghost use Rattle.lsm_sorted.specs.Outlook.{before_any};
 
 use crate::peeked::Peeked;
 use sst_entries::{InternalValue, IterItem};
@@ -41,6 +43,7 @@ pub struct MvccStream<I: DoubleEndedIterator> {
 impl<I: DoubleEndedIterator<Item = IterItem<A>>, A: Allocator> MvccStream<I> {
     /// A stream over sorted entries. Nothing is taken from them yet.
     pub fn new(iter: I) -> Self
+        ensures starts { mvcc_outlook result ≡ before_any iter }
         ensures stands { (stops : Error → Bool) (xs : List R) → Deals (stopped stops) I.next_gives I.next_back_gives iter xs → StandsFor I.next_gives I.next_back_gives stops result xs }
         ensures may { CanDeal I.next_gives I.next_back_gives I.can_next I.can_next_back iter → IsFinite (I.remaining iter) → MayStep I.next_gives I.next_back_gives I.can_next I.can_next_back I.remaining result }
         ensures newest { (stops : Error → Bool) (xs : List Entry) → Ascends xs → Deals (stopped stops) I.next_gives I.next_back_gives iter (all_ok xs) → Deals (stopped stops) ⟦<MvccStream<I> as Iterator>⟧.next_gives ⟦<MvccStream<I> as DoubleEndedIterator>⟧.next_back_gives result (all_ok (newest xs)) }
@@ -57,7 +60,10 @@ impl<I: DoubleEndedIterator<Item = IterItem<A>>, A: Allocator> Iterator for Mvcc
 
     ghost can_next = { MayStep I.next_gives I.next_back_gives I.can_next I.can_next_back I.remaining };
 
-    ghost next_gives = { Answers (MayStep I.next_gives I.next_back_gives I.can_next I.can_next_back I.remaining) (StandsFor I.next_gives I.next_back_gives) front_step };
+    ghost next_gives = {
+        StepsAt I.next_gives I.next_back_gives I.can_next I.can_next_back I.remaining
+        Front front_step
+    };
 
     ghost remaining = { λ s. at_most (mvcc_size I.remaining s) };
 
@@ -86,7 +92,10 @@ impl<I: DoubleEndedIterator<Item = IterItem<A>>, A: Allocator> DoubleEndedIterat
     for MvccStream<I> {
     ghost can_next_back = { MayStep I.next_gives I.next_back_gives I.can_next I.can_next_back I.remaining };
 
-    ghost next_back_gives = { Answers (MayStep I.next_gives I.next_back_gives I.can_next I.can_next_back I.remaining) (StandsFor I.next_gives I.next_back_gives) back_step };
+    ghost next_back_gives = {
+        StepsAt I.next_gives I.next_back_gives I.can_next I.can_next_back I.remaining
+        Back back_step
+    };
 
     fn next_back(&mut self) -> Option<IterItem<A>> {
         let mut tail = match self.inner.next_back() {

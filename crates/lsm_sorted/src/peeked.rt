@@ -3,8 +3,10 @@ ghost use Rattle.sst_entries.specs.declared.error.Error.{Error};
 ghost use Rattle.std.specs.Prelude.{Bool, ◌≡◌, ℕ, ◌+◌, ◌<◌, List, ◌∷◌, ◌++◌, [], false};
 ghost use Rattle.std.specs.Iterator.{IsFinite};
 ghost use Rattle.lsm_sorted.specs.Ends.{R, Left, Goes, ends_size};
-ghost use Rattle.sst_entries.specs.Stream.{DealsFirst, DealsLast, Lowers};
-ghost use Rattle.lsm_sorted.specs.Peeked.{Holds, held, peeked_size};
+ghost use Rattle.sst_entries.specs.declared.stream.Direction.TheVariants.{Front, Back};
+ghost use Rattle.sst_entries.specs.Stream.{DealsFirst, DealsLast, Lowers, front_of, back_of};
+ghost use Rattle.lsm_sorted.specs.Outlook.{Relates, IsStep};
+ghost use Rattle.lsm_sorted.specs.Peeked.{Holds, held, peeked_size, peeked_outlook};
 
 use crate::ends::Ends;
 use sst_entries::{InternalValue, IterItem};
@@ -37,6 +39,10 @@ impl<I: DoubleEndedIterator<Item = IterItem<A>>, A: Allocator> Peeked<I> {
         requires { Goes I.next_gives I.next_back_gives I.can_next I.can_next_back I.remaining self.old.source }
         ensures goes { Goes I.next_gives I.next_back_gives I.can_next I.can_next_back I.remaining self.new.source }
         ensures deals { (stops : Error → Bool) → DealsFirst stops (Holds stops I.next_gives I.next_back_gives) self.old result self.new }
+        ensures hears {
+            Relates I.next_gives I.next_back_gives Front (IsStep front_of result)
+            (peeked_outlook self.old) (peeked_outlook self.new)
+        }
         ensures lowers { Lowers result (peeked_size I.remaining self.old) (peeked_size I.remaining self.new) }
         ensures free { self.new.front ≡ None }
     {
@@ -56,6 +62,10 @@ impl<I: DoubleEndedIterator<Item = IterItem<A>>, A: Allocator> Peeked<I> {
         requires { Goes I.next_gives I.next_back_gives I.can_next I.can_next_back I.remaining self.old.source }
         ensures goes { Goes I.next_gives I.next_back_gives I.can_next I.can_next_back I.remaining self.new.source }
         ensures deals { (stops : Error → Bool) → DealsLast stops (Holds stops I.next_gives I.next_back_gives) self.old result self.new }
+        ensures hears {
+            Relates I.next_gives I.next_back_gives Back (IsStep back_of result)
+            (peeked_outlook self.old) (peeked_outlook self.new)
+        }
         ensures lowers { Lowers result (peeked_size I.remaining self.old) (peeked_size I.remaining self.new) }
         ensures free { self.new.back ≡ None }
     {
@@ -76,6 +86,10 @@ impl<I: DoubleEndedIterator<Item = IterItem<A>>, A: Allocator> Peeked<I> {
         requires { self.old.front ≡ None }
         ensures source { self.new.source ≡ self.old.source }
         ensures lists { (stops : Error → Bool) (xs : List R) → Holds stops I.next_gives I.next_back_gives self.old xs → Holds stops I.next_gives I.next_back_gives self.new (Ok x ∷ xs) }
+        ensures puts {
+            Relates I.next_gives I.next_back_gives Front (λ xs ys. ys ≡ Ok x ∷ xs)
+            (peeked_outlook self.old) (peeked_outlook self.new)
+        }
         ensures size { peeked_size I.remaining self.new ≡ peeked_size I.remaining self.old + 1 }
     {
         self.front = Some(Ok(x));
@@ -86,6 +100,10 @@ impl<I: DoubleEndedIterator<Item = IterItem<A>>, A: Allocator> Peeked<I> {
         requires { self.old.back ≡ None }
         ensures source { self.new.source ≡ self.old.source }
         ensures lists { (stops : Error → Bool) (xs : List R) → Holds stops I.next_gives I.next_back_gives self.old xs → Holds stops I.next_gives I.next_back_gives self.new (xs ++ Ok x ∷ []) }
+        ensures puts {
+            Relates I.next_gives I.next_back_gives Back (λ xs ys. ys ≡ xs ++ Ok x ∷ [])
+            (peeked_outlook self.old) (peeked_outlook self.new)
+        }
         ensures size { peeked_size I.remaining self.new ≡ peeked_size I.remaining self.old + 1 }
     {
         self.back = Some(Ok(x));

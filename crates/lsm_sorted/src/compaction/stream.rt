@@ -5,8 +5,10 @@ ghost use Rattle.sst_entries.specs.Entry.{Entry};
 ghost use Rattle.sst_entries.specs.declared.error.Error.{Error};
 ghost use Rattle.lsm_sorted.specs.Compaction.{Verdict, keep};
 ghost use Rattle.lsm_sorted.specs.Verdicts.{said, verdict_of};
-ghost use Rattle.lsm_sorted.specs.CompactionState.{rules_of, source_of, filter_of, callback_of, Compacts, MayCompact, compaction_size, CompactsNext, Filters, DrainsKey, Settles};
+ghost use Rattle.lsm_sorted.specs.CompactionState.{rules_of, source_of, compaction_outlook, filter_of, callback_of, Compacts, MayCompact, compaction_size, CompactsNext, Filters, DrainsKey, DrainsIn, Settles, SettlesIn};
 ghost use Rattle.lsm_sorted.specs.Ahead.{HoldsAhead};
+ghost use Rattle.lsm_sorted.specs.Outlook.{Relates, before_any};
+ghost use Rattle.sst_entries.specs.declared.stream.Direction.TheVariants.{Front};
 ghost use Rattle.lsm_sorted.specs.Compaction.{goes, zeroed, outs, kept, as_they_are, unfiltered, told_by, reports_by};
 ghost use Rattle.lsm_sorted.specs.Compacting.{Compacted, GetsAll};
 ghost use Rattle.lsm_sorted.specs.ReadLaw.{ReadLaw, StaysStrict, PartLaw};
@@ -93,6 +95,7 @@ impl<I: Iterator<Item = IterItem<A>>, A: Allocator> CompactionStream<I, NoFilter
     /// A stream over entries, for readers that stand at the threshold or above. It keeps every
     /// tombstone and every number, asks no filter and calls no callback.
     pub fn new(iter: I, gc_seqno_threshold: SeqNo) -> Self
+        ensures starts { compaction_outlook result ≡ before_any iter }
         ensures compacts { (stops : Error → Bool) (xs : List R) → Deals (stopped stops) I.next_gives nowhere iter xs → Compacts stops I.next_gives result xs }
         ensures may { CanDeal I.next_gives nowhere I.can_next I.can_next iter → IsFinite (I.remaining iter) → MayCompact I.next_gives I.can_next I.remaining result }
         ensures rules { rules_of result ≡ record { watermark = gc_seqno_threshold; evict = false; zeroing = false } }
@@ -254,6 +257,11 @@ impl<
         ensures filter { filter_of self.new ≡ filter_of self.old }
         ensures size { compaction_size I.remaining self.new ≤ compaction_size I.remaining self.old }
         ensures drains { (stops : Error → Bool) → DrainsKey stops (HoldsAhead stops I.next_gives) C.gets head.now.user_key (source_of self.old) (callback_of self.old) result (source_of self.new) (callback_of self.new) }
+        ensures hears {
+            Relates I.next_gives nowhere Front
+            (DrainsIn C.gets head.now.user_key (callback_of self.old) result (callback_of self.new))
+            (compaction_outlook self.old) (compaction_outlook self.new)
+        }
     {
         loop {
             match self.inner.next() {
@@ -279,6 +287,11 @@ impl<
         ensures filter { filter_of self.new ≡ filter_of self.old }
         ensures size { compaction_size I.remaining self.new ≤ compaction_size I.remaining self.old }
         ensures settles { (stops : Error → Bool) → Settles stops (HoldsAhead stops I.next_gives) C.gets (rules_of self.old) head.now (source_of self.old) (callback_of self.old) result (source_of self.new) (callback_of self.new) }
+        ensures hears {
+            Relates I.next_gives nowhere Front
+            (SettlesIn C.gets (rules_of self.old) head.now (callback_of self.old) result (callback_of self.new))
+            (compaction_outlook self.old) (compaction_outlook self.new)
+        }
     {
         let next = match self.inner.next() {
             Some(Ok(next)) => next,
@@ -309,6 +322,12 @@ impl<
         ensures size { compaction_size I.remaining self.new ≤ compaction_size I.remaining self.old }
         ensures goes { IfOk result (λ b. b ≡ goes (rules_of self.old).evict head.now.kind (Some next.now)) }
         ensures drains { (stops : Error → Bool) → ((d : C) × C.gets (callback_of self.old) next.now d × DrainsKey stops (HoldsAhead stops I.next_gives) C.gets head.now.user_key (source_of self.old) d result (source_of self.new) (callback_of self.new)) }
+        ensures hears {
+            (d : C) × C.gets (callback_of self.old) next.now d ×
+            Relates I.next_gives nowhere Front
+            (DrainsIn C.gets head.now.user_key d result (callback_of self.new))
+            (compaction_outlook self.old) (compaction_outlook self.new)
+        }
     {
         self.dropped_callback.on_dropped(next);
         self.drain_key(head)?;

@@ -2,7 +2,11 @@ use Rattle.sst_entries.specs.declared.error.Error.{Error}
 use Rattle.std.proofs.Common.{Bool, ◌<◌}
 use Rattle.lsm_sorted.specs.Ends.{Goes}
 use Rattle.lsm_sorted.specs.Peeked.{Holds, peeked_size}
+use Rattle.sst_entries.specs.declared.stream.Direction.TheVariants.{Front}
+use Rattle.lsm_sorted.specs.Outlook.{Relates}
+use Rattle.lsm_sorted.specs.Mvcc.{mvcc_outlook}
 use Rattle.lsm_sorted.proofs.MvccLemmas.{Drained}
+use Rattle.lsm_sorted.proofs.MvccHears.{Drawn}
 use Rattle.lsm_sorted.proofs.mvcc_stream.MvccStreamIterator.next.Given as goal
 
 abbrev pub invariant-loop-other : goal.invariant-loop-other
@@ -13,6 +17,7 @@ invariant-loop-other g l =
     record {
       may : Goes front back g.I.Iterator.can_next g.I.DoubleEndedIterator.can_next_back left l.self.inner.source;
       drained : (stops : Error → Bool) → Drained stops (Holds stops front back) l.fn.self.inner l.head l.self.inner;
+      hears : Relates front back Front (Drawn l.head) (mvcc_outlook l.fn.self) (mvcc_outlook l.self);
       fewer : peeked_size left l.self.inner < peeked_size left l.fn.self.inner;
     }
 

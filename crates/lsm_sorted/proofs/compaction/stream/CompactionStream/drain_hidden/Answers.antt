@@ -4,6 +4,7 @@ use Rattle.std.specs.Prelude.{Some, Ok, Err}
 use Rattle.lsm_sorted.specs.Ahead.{HoldsAhead}
 use Rattle.lsm_sorted.specs.Compaction.{Rules, goes}
 use Rattle.lsm_sorted.proofs.SettleLemmas.{drains_as}
+use Rattle.lsm_sorted.proofs.CompactionHears.{hears_drained_as}
 use Rattle.lsm_sorted.proofs.compaction.stream.CompactionStream.drain_hidden.Goals as goal
 
 pub returns-clause-goes : goal.returns-clause-goes
@@ -18,3 +19,13 @@ returns-in_err-drain_key-clause-drains g c stops =
     let p = err_from_is_err_and c.from_residual.result c.from_residual.ensures.1 in
     let e = c.in_err-drain_key.field-0.0 in
     (c.on_dropped.new.self, c.on_dropped.ensures, rw (p.1, p.2) (drains_as stops (HoldsAhead stops g.I.Iterator.next_gives) g.C.DroppedKvCallback.gets _ _ _ _ _ (Err e) (Err e) refl refl (c.in_err-drain_key.ensures.drains stops)))
+
+pub returns-clause-hears : goal.returns-clause-hears
+returns-clause-hears g c =
+    (c.on_dropped.new.self, c.on_dropped.ensures, hears_drained_as g.I.Iterator.next_gives g.C.DroppedKvCallback.gets _ _ _ _ _ (Ok c.in_ok-drain_key.field-0) (Ok c.goes_before.result) refl refl c.in_ok-drain_key.ensures.hears)
+
+pub returns-in_err-drain_key-clause-hears : goal.returns-in_err-drain_key-clause-hears
+returns-in_err-drain_key-clause-hears g c =
+    let p = err_from_is_err_and c.from_residual.result c.from_residual.ensures.1 in
+    let e = c.in_err-drain_key.field-0.0 in
+    (c.on_dropped.new.self, c.on_dropped.ensures, rw (p.1, p.2) (hears_drained_as g.I.Iterator.next_gives g.C.DroppedKvCallback.gets _ _ _ _ _ (Err e) (Err e) refl refl c.in_err-drain_key.ensures.hears))

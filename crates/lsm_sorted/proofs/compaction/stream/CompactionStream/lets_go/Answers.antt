@@ -1,6 +1,7 @@
 use Rattle.std.proofs.Common.{◌≡◌, ◌∙◌, refl, sym, ℕ, ◌+◌, ◌<◌, ◌≤◌, arith}
 use Rattle.lsm_sorted.specs.Ahead.{HoldsAhead, ahead_size}
 use Rattle.lsm_sorted.proofs.SettleLemmas.{settles_end, settles_err, settles_other, settles_open, settles_closed}
+use Rattle.lsm_sorted.proofs.CompactionHears.{hears_settled_end, hears_settled_err, hears_settled_other, hears_settled_open, hears_settled_closed}
 use Rattle.lsm_sorted.proofs.compaction.stream.CompactionStream.lets_go.Goals as goal
 
 -- an entry was taken and put back
@@ -65,3 +66,22 @@ returns-clause-filter g c = c.drain_hidden.ensures.filter
 
 pub returns-clause-size : goal.returns-clause-size
 returns-clause-size g c = size_less (ahead_size g.I.Iterator.remaining c.args.self.now.inner) (ahead_size g.I.Iterator.remaining c.next.new.self) _ c.in-Some-Ok.ensures.lowers c.drain_hidden.ensures.size
+
+pub returns-in-Some-Err-clause-hears : goal.returns-in-Some-Err-clause-hears
+returns-in-Some-Err-clause-hears g c = hears_settled_err g.I.Iterator.next_gives g.C.DroppedKvCallback.gets _ c.args.head.now _ _ _ c.in-Some-Err.error (rw c.in-Some-Err.field-0-is at c.in-Some-Err.ensures.hears)
+
+pub returns-in-None-clause-hears : goal.returns-in-None-clause-hears
+returns-in-None-clause-hears g c = hears_settled_end g.I.Iterator.next_gives g.C.DroppedKvCallback.gets _ c.args.head.now _ _ _ _ c.in-None.ensures.hears c.goes_alone.ensures
+
+pub returns-then-not-has_key_of-clause-hears : goal.returns-then-not-has_key_of-clause-hears
+returns-then-not-has_key_of-clause-hears g c =
+    hears_settled_other g.I.Iterator.next_gives g.C.DroppedKvCallback.gets _ c.args.head.now _ c.next.new.self _ _ c.in-Some-Ok.next (rw c.in-Some-Ok.field-0-is at c.in-Some-Ok.ensures.hears) _ (sym c.has_key_of.ensures ∙ c.if-not-has_key_of.true) c.put_back.ensures.puts c.goes_alone-then-not-has_key_of.ensures
+
+pub returns-then-not-is_below_threshold-clause-hears : goal.returns-then-not-is_below_threshold-clause-hears
+returns-then-not-is_below_threshold-clause-hears g c =
+    hears_settled_open g.I.Iterator.next_gives g.C.DroppedKvCallback.gets _ c.args.head.now _ c.next.new.self _ _ c.in-Some-Ok.next (rw c.in-Some-Ok.field-0-is at c.in-Some-Ok.ensures.hears) (sym c.has_key_of.ensures ∙ c.if-not-has_key_of.false) (sym c.is_below_threshold.ensures ∙ c.if-not-is_below_threshold.true) c.put_back-then-not-is_below_threshold.ensures.puts
+
+pub returns-clause-hears : goal.returns-clause-hears
+returns-clause-hears g c =
+    let drains = c.drain_hidden.ensures.hears in
+    hears_settled_closed g.I.Iterator.next_gives g.C.DroppedKvCallback.gets _ c.args.head.now c.args.self.now.inner c.next.new.self _ c.args.self.now.dropped_callback c.in-Some-Ok.next (rw c.in-Some-Ok.field-0-is at c.in-Some-Ok.ensures.hears) drains.0 _ c.drain_hidden.result (sym c.has_key_of.ensures ∙ c.if-not-has_key_of.false) (sym c.is_below_threshold.ensures ∙ c.if-not-is_below_threshold.false) drains.1 drains.2 c.drain_hidden.ensures.goes

@@ -1,0 +1,33 @@
+-- What is promised of the newest versions of several sources.
+use Rattle.std.specs.Prelude.{◌≡◌, Bool, true, List, [], Option}
+use Rattle.sst_entries.specs.Stream.{Deals, stopped, all_ok}
+use Rattle.sst_entries.specs.declared.error.Error.{Error}
+use Rattle.lsm_sorted.specs.declared.mvcc_stream.MvccStream.{MvccStream}
+use Rattle.lsm_sorted.specs.Ends.{R}
+use Rattle.lsm_sorted.specs.Union.{all_errors, merged, newest}
+use Rattle.lsm_sorted.specs.Merge.{EndsAtError}
+use Rattle.lsm_sorted.specs.MergeLaws.{DealSorted, DealsUntilError}
+use Rattle.lsm_sorted.specs.Mvcc.{mvcc_outlook}
+use Rattle.lsm_sorted.specs.Outlook.{before_any}
+
+abbrev pub every_error : Error → Bool
+every_error e = true
+
+module _ {S : Type 0} (front back : S → Option R → S → Type 0) (its : List S) where
+  module _ {T : Type 0} (next next_back : T → Option R → T → Type 0) (t : T) where
+    -- of what sorted sources have together, the newest version of each key is dealt, where they have no errors
+    pub record DealsNewest : Type 0 where
+      pub deals : (stops : Error → Bool) (lists : List (List R)) → DealSorted front back stops its lists → all_errors lists ≡ []
+          → Deals (stopped stops) next next_back t (all_ok (newest (merged lists)))
+
+    -- with errors among it, as long as none of them is the answer
+    pub record DealsNewestUntilError : Type 0 where
+      pub deals : (stops : Error → Bool) (lists : List (List R)) → DealSorted front back stops its lists
+          → Deals (stopped every_error) next next_back t (all_ok (newest (merged lists)))
+
+  -- a stream of newest versions, before any call, over one of what the sources have together: that is dealt up to an error of a source, and nothing follows an error
+  pub record IsOverMerged {M : Type 0} (next next_back : M → Option R → M → Type 0) (s : MvccStream M R) : Type 0 where
+    pub source : M
+    pub starts : mvcc_outlook s ≡ before_any source
+    pub until : DealsUntilError front back its next next_back source
+    pub ends : EndsAtError next next_back source

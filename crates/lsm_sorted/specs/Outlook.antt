@@ -1,0 +1,80 @@
+-- A source with what was taken from it and is still to be given, and calls by what the source gave in them, whatever it gives.
+use Rattle.std.specs.Prelude.{◌≡◌, Bool, true, false, List, [], ◌∷◌, ◌++◌, reverse, Option, Some, None}
+use Rattle.sst_entries.specs.declared.stream.Direction.{Direction}
+use Rattle.sst_entries.specs.declared.stream.Direction.TheVariants.{Front, Back}
+use Rattle.sst_entries.specs.declared.error.Error.{Error}
+use Rattle.sst_entries.specs.Stream.{Runs}
+use Rattle.lsm_sorted.specs.declared.ends.Ends.{Ends}
+use Rattle.lsm_sorted.specs.Ends.{R, fresh}
+
+-- a source, and what stands before it and behind it
+pub record Outlook (S : Type 0) : Type 0 where
+  pub source : Ends S
+  pub ahead : List R
+  pub behind : List R
+
+-- a source before any call, and nothing taken from it
+abbrev pub before_any : {S : Type 0} → S → Outlook S
+before_any s = record { source = fresh s; ahead = []; behind = [] }
+
+-- what is to come, where the source still gives rest
+abbrev pub list_of : {S : Type 0} → Outlook S → List R → List R
+list_of o rest = o.ahead ++ (rest ++ o.behind)
+
+-- a source that has ended gives nothing more
+abbrev pub MayGive : Bool → List R → Type 0
+MayGive true rest = rest ≡ []
+MayGive false rest = Unit {0}
+
+-- the results among answers
+abbrev pub results_in : List (Option R) → List R
+results_in [] = []
+results_in (None ∷ rs) = results_in rs
+results_in (Some x ∷ rs) = x ∷ results_in rs
+
+-- results that came one after another from an end, and the rest, as they stand in the list
+abbrev pub with_rest : Direction → List R → List R → List R
+with_rest Front xs rest = xs ++ rest
+with_rest Back xs rest = rest ++ reverse xs
+
+-- this end, once for each answer
+abbrev pub each_at : Direction → List (Option R) → List Direction
+each_at end [] = []
+each_at end (r ∷ rs) = end ∷ each_at end rs
+
+-- whether a source has ended once it gave these answers
+abbrev pub is_over : Bool → List (Option R) → Bool
+is_over done [] = done
+is_over done (None ∷ rs) = is_over true rs
+is_over done (Some x ∷ rs) = is_over done rs
+
+-- a source that has ended is not asked
+abbrev pub StopsAtNone : Bool → List (Option R) → Type 0
+StopsAtNone true rs = rs ≡ []
+StopsAtNone false [] = Unit {0}
+StopsAtNone false (None ∷ rs) = StopsAtNone true rs
+StopsAtNone false (Some x ∷ rs) = StopsAtNone false rs
+
+module _ {S : Type 0} (front back : S → Option R → S → Type 0) (end : Direction) where
+  -- calls at this end of a source gave these answers. One that has ended was left alone
+  pub record Gave (s : Ends S) (answers : List (Option R)) (t : Ends S) : Type 0 where
+    pub runs : Runs front back s.iter (each_at end answers) answers t.iter
+    pub over : t.done ≡ is_over s.done answers
+    pub once : StopsAtNone s.done answers
+
+  -- calls at this end of the source led from s to t: P relates what was to come to what is still to come, whatever the source still gives
+  pub record Relates (P : List R → List R → Type 0) (s t : Outlook S) : Type 0 where
+    pub answers : List (Option R)
+    pub gave : Gave s.source answers t.source
+    pub holds : (rest : List R) → MayGive t.source.done rest → P (list_of s (with_rest end (results_in answers) rest)) (list_of t rest)
+
+-- the answer to a list and what is left of it are those of a step
+abbrev pub IsStep : (List R → Option R × List R) → Option R → List R → List R → Type 0
+IsStep stepped r xs ys = (r ≡ (stepped xs).0) × (ys ≡ (stepped xs).1)
+
+-- for what is said of lists themselves: no error stops them, and each stands for itself
+abbrev pub nothing_stops : Error → Bool
+nothing_stops e = false
+
+abbrev pub IsSame : List R → List R → Type 0
+IsSame xs ys = xs ≡ ys
