@@ -1,19 +1,17 @@
 -- What the asks of a merger's call mean for the lists that its sources deal.
-use Rattle.std.proofs.Common.{◌≡◌, ◌⊎◌, inl, inr, refl, sym, ◌∙◌, ap, subst, ℕ, zero, suc, ◌+◌, ◌<◌, Bool, true, false, List, [], ◌∷◌, map, length, arith, slice_index_or, slice_set}
-use Rattle.std.specs.Prelude.{not, Option, Some, None, Result, Ok, Err, Contains, IsPermutation, MatchResult}
-use Rattle.std.proofs.lemmas.List.{length-set}
+use Rattle.std.proofs.Common.{◌≡◌, inl, inr, refl, sym, ◌∙◌, ap, subst, ℕ, zero, suc, ◌+◌, Bool, true, false, List, [], map, length, arith}
+use Rattle.std.specs.Prelude.{not, Option, Some, None, Result, Ok, Err, Contains, MatchResult}
 use Rattle.sst_entries.specs.Entry.{Entry}
-use Rattle.sst_entries.specs.Stream.{first, but_first, last, but_last, front_of, back_of, stopped, DealsFirst, DealsLast}
+use Rattle.sst_entries.specs.Stream.{but_first, but_last, front_of, back_of, stopped, DealsFirst, DealsLast}
 use Rattle.sst_entries.specs.declared.error.Error.{Error}
 use Rattle.lsm_sorted.specs.declared.ends.Ends.{Ends}
-use Rattle.lsm_sorted.specs.declared.merge.HeapItem.{HeapItem}
 use Rattle.lsm_sorted.specs.declared.merge.Merger.{Merger}
 use Rattle.lsm_sorted.specs.Ends.{R, Left, Asked}
 use Rattle.lsm_sorted.specs.Tournament.{held}
 use Rattle.lsm_sorted.specs.Union.{all_errors}
-use Rattle.lsm_sorted.specs.Merge.{entry_of, Kept, whole, kept_at, taken, Ready, is_ready, Stands, Merging, Leaves, Took, Filled, SameRoom, Failed, MergeAnswer, Merges}
-use Rattle.lsm_sorted.specs.Asks.{Leads, Puts, error_told, made_ready, entry_told, answer_told, ended_at, SameSources, Asks, AsksEach, AsksAll, FailsAt, FillsIf, Fills, HoldsNone, Turns, TurnsIf, Steps, Answers, CallsIf, Calls}
-use Rattle.lsm_sorted.proofs.EndsLemmas.{none_first, asked_first, asked_last}
+use Rattle.lsm_sorted.specs.Merge.{entry_of, Kept, whole, taken, Ready, is_ready, Stands, Merging, Leaves, Took, Filled, SameRoom, MergeAnswer}
+use Rattle.lsm_sorted.specs.Asks.{Leads, Puts, error_told, made_ready, entry_told, answer_told, ended_at, Asks, AsksEach, FillsIf, Fills, HoldsNone, Turns, TurnsIf, Steps, Answers}
+use Rattle.lsm_sorted.proofs.EndsLemmas.{none_first}
 use Rattle.lsm_sorted.proofs.TakeLemmas.{none_last, front_ok, front_none, front_err, back_ok, back_none, back_err}
 use Rattle.lsm_sorted.proofs.FillLemmas.{filled_none, filled_more, merging_filled}
 use Rattle.lsm_sorted.proofs.StepLemmas.{none_left, others, front_stands, front_free, front_errors, front_gives, back_stands, back_free, back_errors, back_gives, leaves_merging, merging_leaves, leaves_nothing}

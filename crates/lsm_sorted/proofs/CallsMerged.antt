@@ -1,12 +1,11 @@
 -- Whole runs of calls of a merger, from what each call asks of the sources.
-use Rattle.std.proofs.Common.{◌≡◌, inl, inr, refl, sym, ◌∙◌, ap, subst, ℕ, zero, suc, ◌+◌, ◌<◌, ◌≤◌, Bool, true, false, cond, nat_lt, List, [], ◌∷◌, map, length, arith, slice_index_or, slice_set}
-use Rattle.std.specs.Prelude.{◌==◌, not, Option, Some, None, Result, Ok, Err, All, IsPermutation, count_by, is_none}
-use Rattle.std.specs.List.{AllZip, AllByRecursion}
-use Rattle.std.specs.Iterator.{Count, IsFinite}
+use Rattle.std.proofs.Common.{◌≡◌, inl, inr, refl, sym, ◌∙◌, ap, subst, ℕ, zero, suc, ◌+◌, ◌≤◌, Bool, true, false, nat_lt, List, [], ◌∷◌, length, arith, slice_index_or}
+use Rattle.std.specs.Prelude.{◌==◌, not, Option, Some, None, Result, Ok, Err, All, count_by, is_none}
+use Rattle.std.specs.Iterator.{Count}
 use Rattle.std.proofs.lemmas.Bool.Decides.{nat_tests}
 use Rattle.std.proofs.lemmas.List.Elements.{All-set}
 use Rattle.sst_entries.specs.Entry.{Entry}
-use Rattle.sst_entries.specs.Stream.{Deals, CanDeal, stopped, Runs, nowhere, front_of, back_of, all_ok}
+use Rattle.sst_entries.specs.Stream.{CanDeal, stopped, Runs, nowhere, front_of, back_of}
 use Rattle.sst_entries.specs.declared.error.Error.{Error}
 use Rattle.sst_entries.specs.declared.stream.Direction.{Direction}
 use Rattle.sst_entries.specs.declared.stream.Direction.TheVariants.{Front, Back}
@@ -16,15 +15,15 @@ use Rattle.lsm_sorted.specs.declared.merge.HeapItem.{HeapItem}
 use Rattle.lsm_sorted.specs.declared.merge.Merger.{Merger}
 use Rattle.lsm_sorted.specs.Ends.{R, Goes, GoesIf, AskedIf, Asked}
 use Rattle.lsm_sorted.specs.Tournament.{held}
-use Rattle.lsm_sorted.specs.Union.{Ascends, entries_of, all_errors, merged}
-use Rattle.lsm_sorted.specs.Merge.{held_of, is_ready, Leaves, LeavesIf, Failed, Fits, FitsIf, MayMerge, MergeAnswer, Merges, DealsUntil, EndsAtError, HoldsAtMost}
-use Rattle.lsm_sorted.specs.Asks.{Puts, made_ready, answer_told, ended_at, Asks, AsksEach, FillsIf, Fills, Turns, TurnsIf, Steps, Answers, CallsIf, Calls, IsMergerOf}
-use Rattle.lsm_sorted.specs.MergeLaws.{DealSorted, DealsMerged, DealsUntilError, CanMerge}
-use Rattle.lsm_sorted.proofs.EndsLemmas.{asked_first, asked_last, goes_in_front, goes_ready}
+use Rattle.lsm_sorted.specs.Union.{all_errors, merged}
+use Rattle.lsm_sorted.specs.Merge.{held_of, is_ready, Leaves, LeavesIf, Failed, FitsIf, MayMerge, MergeAnswer, Merges, EndsAtError, HoldsAtMost}
+use Rattle.lsm_sorted.specs.Asks.{Puts, made_ready, answer_told, ended_at, Asks, AsksEach, FillsIf, Fills, Turns, TurnsIf, Steps, CallsIf, Calls, IsMergerOf}
+use Rattle.lsm_sorted.specs.MergeLaws.{DealSorted, DealsMerged, DealsUntilError}
+use Rattle.lsm_sorted.proofs.EndsLemmas.{asked_first, asked_last, goes_in_front}
 use Rattle.lsm_sorted.proofs.HeldLemmas.{weight, weight_true, weight_false, count_cons}
 use Rattle.lsm_sorted.proofs.RoomLemmas.{one_if, of_source, count_perm}
 use Rattle.lsm_sorted.proofs.AsksLemmas.{DealsAt, end_of, answers_leave, steps_failed, fills_ready, fills_other, each_same}
-use Rattle.lsm_sorted.proofs.DealsMerged.{new_leaves, new_may, deals_merged, deals_until, ends_at_error}
+use Rattle.lsm_sorted.proofs.DealsMerged.{new_leaves, deals_merged, deals_until, ends_at_error}
 
 -- ---- runs of a relation within another
 

@@ -1,5 +1,5 @@
 -- A compaction, by what its source gave.
-use Rattle.std.proofs.Common.{◌≡◌, refl, sym, ◌∙◌, ap, subst, ℕ, Bool, true, false, not, nat_lt, List, [], ◌∷◌, ◌++◌}
+use Rattle.std.proofs.Common.{◌≡◌, refl, sym, ap, subst, ℕ, Bool, true, false, nat_lt, List, [], ◌∷◌, ◌++◌}
 use Rattle.std.specs.Prelude.{Option, Some, None, Result, Ok, Err, IfOk}
 use Rattle.sst_entries.specs.Entry.{Entry}
 use Rattle.sst_entries.specs.Key.{same_key}
@@ -13,8 +13,8 @@ use Rattle.lsm_sorted.specs.Peeked.{held}
 use Rattle.lsm_sorted.specs.Ahead.{ahead_outlook}
 use Rattle.lsm_sorted.specs.Outlook.{Relates, IsStep, nothing_stops, IsSame}
 use Rattle.lsm_sorted.specs.Compaction.{Verdict, Rules, goes, zeroed}
-use Rattle.lsm_sorted.specs.Compacting.{GetsAll, Calls}
-use Rattle.lsm_sorted.specs.CompactionState.{refusal, DrainsKey, Settles, Filters, DrainsIn, SettlesIn, CallsIn}
+use Rattle.lsm_sorted.specs.Compacting.{Calls}
+use Rattle.lsm_sorted.specs.CompactionState.{refusal, Filters, DrainsIn, SettlesIn, CallsIn}
 use Rattle.lsm_sorted.proofs.OutlookLemmas.{relates_as, relates_more, relates_still, relates_result, relates_end, never_stops, same_first}
 use Rattle.lsm_sorted.proofs.SettleLemmas.{Draining, draining_first, draining_more, drains_as, drained_stop, drained_err, drained_end, settles_end, settles_err, settles_other, settles_open, settles_closed}
 use Rattle.lsm_sorted.proofs.GoingLemmas.{Going, Called, going_first, going_dropped, called_filter_err, going_on, called_kept, called_err, called_source_err, called_none}
@@ -135,7 +135,7 @@ module _ {S : Type 0} (front : S → Option R → S → Type 0) where
           settled result K settles all =
               let Both : List R → List R → Type 0 = λ xs zs. (ys : List R) × GoesIn f c h b xs ys × IsStep front_of (Some (Ok x)) ys zs in
               let moved : Hears (SettlesIn gets rules y a result z) v t =
-                  subst (λ (o : Rules). Hears (SettlesIn gets o y a result z) v t) set (subst (λ (i : Ahead S R). Hears (SettlesIn gets p y a result z) i t) same settles) in
+              subst (λ (o : Rules). Hears (SettlesIn gets o y a result z) v t) set (subst (λ (i : Ahead S R). Hears (SettlesIn gets p y a result z) i t) same settles) in
               relates_more front nowhere Front Both (SettlesIn gets rules y a result z) K _ _ _
               (relates_more front nowhere Front (GoesIn f c h b) (IsStep front_of (Some (Ok x))) Both _ _ _ was d (λ xs ys zs g i. (ys, g, i)))
               moved (λ xs zs ws i j. all xs i.0 zs ws i.1 i.2 j)

@@ -1,21 +1,21 @@
 -- Calls of a merger at the front alone meet an error of a source only once all entries before it were given, but for the last.
 use Rattle.std.proofs.Common.{◌≡◌, inl, inr, refl, sym, ◌∙◌, ap, subst, ℕ, zero, suc, ◌+◌, ◌<◌, ◌≤◌, Bool, true, false, List, [], ◌∷◌, ◌++◌, map, length, reverse, arith, slice_index_or, slice_set}
-use Rattle.std.specs.Prelude.{not, Option, Some, None, Result, Ok, Err, Contains, MatchResult, MatchOption, count_by}
-use Rattle.std.specs.List.{AllZip, AllByRecursion}
+use Rattle.std.specs.Prelude.{Option, Some, None, Result, Ok, Err, MatchResult, MatchOption, count_by}
+use Rattle.std.specs.List.{AllByRecursion}
 use Rattle.std.proofs.lemmas.Bool.{cases_eq}
 use Rattle.std.proofs.lemmas.List.{append_assoc, reverse-append, reverse-reverse, get_or-set_same, get_or-set_other}
 use Rattle.std.proofs.Math.ListN.{get_or-map}
 use Rattle.sst_entries.specs.Entry.{Entry}
-use Rattle.sst_entries.specs.Stream.{first, but_first, but_last, front_of, back_of, all_ok, stopped, nowhere, Deals, Runs, NoneStops, DealsFirst}
+use Rattle.sst_entries.specs.Stream.{first, but_first, but_last, front_of, back_of, all_ok, stopped, nowhere, Runs, NoneStops, DealsFirst}
 use Rattle.sst_entries.specs.declared.error.Error.{Error}
 use Rattle.sst_entries.specs.declared.stream.Direction.{Direction}
 use Rattle.sst_entries.specs.declared.stream.Direction.TheVariants.{Front, Back}
 use Rattle.lsm_sorted.specs.declared.merge.Merger.{Merger}
 use Rattle.lsm_sorted.specs.Ends.{R, Left}
 use Rattle.lsm_sorted.specs.Tournament.{held}
-use Rattle.lsm_sorted.specs.Union.{Ascends, entries_of, all_errors, merged}
-use Rattle.lsm_sorted.specs.Merge.{entry_of, Kept, one, whole, kept_at, taken, Ready, is_ready, Stands, Merging, Leaves, LeavesIf, Failed, Took, MergeAnswer, Merges}
-use Rattle.lsm_sorted.specs.Asks.{Leads, error_told, entry_told, answer_told, ended_at, Asks, FillsIf, Fills, HoldsNone, Turns, TurnsIf, Steps, Answers, CallsIf, Calls, IsMergerOf}
+use Rattle.lsm_sorted.specs.Union.{all_errors, merged}
+use Rattle.lsm_sorted.specs.Merge.{entry_of, Kept, one, whole, kept_at, taken, Ready, is_ready, Stands, Merging, Leaves, Failed, MergeAnswer, Merges}
+use Rattle.lsm_sorted.specs.Asks.{error_told, entry_told, answer_told, ended_at, Asks, FillsIf, Fills, Turns, TurnsIf, Steps, CallsIf, Calls, IsMergerOf}
 use Rattle.lsm_sorted.specs.MergeLaws.{DealSorted, IsWithinBag, ComesLate, ErrorsComeLate, MeetsErrorsLate}
 use Rattle.lsm_sorted.proofs.EndsLemmas.{asked_first}
 use Rattle.lsm_sorted.proofs.HeldLemmas.{weight, count_cons}
@@ -24,7 +24,7 @@ use Rattle.lsm_sorted.proofs.TakeLemmas.{zip_length, front_err_first}
 use Rattle.lsm_sorted.proofs.FillLemmas.{stands_same, ready_filled}
 use Rattle.lsm_sorted.proofs.StepLemmas.{others, front_stands, front_free, front_first, front_spent, front_ready, ready_turned}
 use Rattle.lsm_sorted.proofs.AsksLemmas.{each_filled, each_same, asks_took, fills_ready, steps_failed, made_sources, made_heap, made_now, made_other, ready_same}
-use Rattle.lsm_sorted.proofs.DealsMerged.{untouched, none_taken, all_whole, new_merging, new_leaves, nothing_more}
+use Rattle.lsm_sorted.proofs.DealsMerged.{untouched, all_whole, new_merging, new_leaves, nothing_more}
 use Rattle.lsm_sorted.proofs.CallsMerged.{front_merges, runs_within}
 
 -- ---- lists

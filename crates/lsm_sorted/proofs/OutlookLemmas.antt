@@ -1,10 +1,9 @@
 -- Calls by what the source gave in them, one after another.
 use Rattle.std.proofs.Common.{◌≡◌, refl, sym, ◌∙◌, ap, subst, Bool, true, false, List, [], ◌∷◌, ◌++◌, reverse, append_assoc}
-use Rattle.std.specs.Prelude.{Option, Some, None, is_none, Ok, Err}
+use Rattle.std.specs.Prelude.{Option, Some, None, Ok, Err}
 use Rattle.std.proofs.lemmas.List.{append-nil, reverse-append}
 use Rattle.sst_entries.specs.declared.stream.Direction.{Direction}
 use Rattle.sst_entries.specs.declared.stream.Direction.TheVariants.{Front, Back}
-use Rattle.sst_entries.specs.declared.error.Error.{Error}
 use Rattle.sst_entries.specs.Stream.{Runs, Steps, first, but_first, last, but_last, front_of, back_of, stopped, DealsFirst, DealsLast}
 use Rattle.lsm_sorted.specs.declared.ends.Ends.{Ends}
 use Rattle.lsm_sorted.specs.Ends.{R, AskedIf, Asked}
@@ -62,7 +61,7 @@ module _ {S : Type 0} (front back : S → Option R → S → Type 0) (end : Dire
         let middle = with_rest end (results_in k.answers) rest in
         let before : MayGive u.source.done middle = may_give end u.source.done k.answers rest k.gave.once (subst (λ (b : Bool). MayGive b rest) k.gave.over may) in
         let whole : with_rest end (results_in (h.answers ++ k.answers)) rest ≡ with_rest end (results_in h.answers) middle =
-            ap (λ (xs : List R). with_rest end xs rest) (results_append h.answers k.answers) ∙ rest_append end (results_in h.answers) (results_in k.answers) rest in
+        ap (λ (xs : List R). with_rest end xs rest) (results_append h.answers k.answers) ∙ rest_append end (results_in h.answers) (results_in k.answers) rest in
         subst (λ (xs : List R). K (list_of s xs) (list_of v rest)) (sym whole) (both _ _ _ (h.holds middle before) (k.holds rest may));
   }
 

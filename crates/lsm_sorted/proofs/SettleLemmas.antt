@@ -8,7 +8,7 @@ use Rattle.sst_entries.specs.declared.error.Error.{Error}
 use Rattle.lsm_sorted.specs.Ends.{R}
 use Rattle.lsm_sorted.specs.Newest.{after_key}
 use Rattle.lsm_sorted.specs.Compaction.{Rules, goes, zeroed}
-use Rattle.lsm_sorted.specs.Compacting.{of_key, Turn, unless, close, settled, GetsAll}
+use Rattle.lsm_sorted.specs.Compacting.{of_key, Turn, head_answer, close, settled, GetsAll}
 use Rattle.lsm_sorted.specs.CompactionState.{refusal, error_first, past_error, DrainsKey, answer_of, Settles}
 use Rattle.lsm_sorted.proofs.EndsLemmas.{none_first}
 use Rattle.lsm_sorted.proofs.MvccLemmas.{from_first}
@@ -74,7 +74,7 @@ module _ {T C : Type 0} (stops : Error → Bool) (Has : T → List R → Type 0)
         (sym (ap (λ (ys : List R). error_first (after_key key ys)) none), subst (Has t) (ap but_first none ∙ sym (ap (λ (ys : List R). past_error (after_key key ys)) none)) one.1, ap (of_key key) none))
 
   module _ (rules : Rules) (head : Entry) where
-    close_well : (es : List Entry) (rs : List R) → None ≡ error_first rs → close rules head es rs ≡ record { answer = unless rules (goes rules.evict head.kind (first es)) head; rest = past_error rs; reports = es }
+    close_well : (es : List Entry) (rs : List R) → None ≡ error_first rs → close rules head es rs ≡ record { answer = head_answer rules (goes rules.evict head.kind (first es)) head; rest = past_error rs; reports = es }
     close_well es [] h = refl
     close_well es (Ok x ∷ rs) h = refl
     close_well es (Err e ∷ rs) h = absurd cc
@@ -94,8 +94,8 @@ module _ {T C : Type 0} (stops : Error → Bool) (Has : T → List R → Type 0)
     }
 
     -- nothing of the head's key follows
-    answer_alone : (gone : Bool) → gone ≡ goes rules.evict head.kind None → unless rules gone head ≡ unless rules (goes rules.evict head.kind None) head
-    answer_alone gone e = ap (λ (b : Bool). unless rules b head) e
+    answer_alone : (gone : Bool) → gone ≡ goes rules.evict head.kind None → head_answer rules gone head ≡ head_answer rules (goes rules.evict head.kind None) head
+    answer_alone gone e = ap (λ (b : Bool). head_answer rules b head) e
 
     pub settles_end : (s t : T) (c : C) (gone : Bool) → DealsFirst stops Has s None t → gone ≡ goes rules.evict head.kind None → Settles stops Has gets rules head s c (Ok gone) t c
     settles_end s t c gone d e = settles_as s t c c (Ok gone) (λ xs h fine.
@@ -146,9 +146,9 @@ module _ {T C : Type 0} (stops : Error → Bool) (Has : T → List R → Type 0)
           let one = deals xs h refl in
           let k = drains.at (but_first xs) one.1 refl in
           let rest = after_key head.user_key (but_first xs) in (
-            record { answer = unless rules (goes rules.evict head.kind (Some x)) head; rest = past_error rest; reports = x ∷ of_key head.user_key (but_first xs) },
+            record { answer = head_answer rules (goes rules.evict head.kind (Some x)) head; rest = past_error rest; reports = x ∷ of_key head.user_key (but_first xs) },
             closing xs one.0 ∙ close_well (x ∷ of_key head.user_key (but_first xs)) rest k.0,
-            ap (λ (g : Bool). unless rules g head) e,
+            ap (λ (g : Bool). head_answer rules g head) e,
             k.1,
             (b, got, k.2),
           ))

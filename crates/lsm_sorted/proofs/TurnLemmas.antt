@@ -9,7 +9,7 @@ use Rattle.sst_entries.specs.declared.error.Error.{Error}
 use Rattle.lsm_sorted.specs.Ends.{R}
 use Rattle.lsm_sorted.specs.Newest.{after_key}
 use Rattle.lsm_sorted.specs.Compaction.{Verdict, keep, replace, drop, Judged, JudgedItem, items, Rules, told_by, told, reports_by, goes, zeroed, given_by, gone, error_of, outs, reported, asked, as_is, unfiltered}
-use Rattle.lsm_sorted.specs.Compacting.{of_key, follows, Turn, unless, close, settled, turned}
+use Rattle.lsm_sorted.specs.Compacting.{of_key, follows, Turn, head_answer, close, settled, turned}
 use Rattle.lsm_ranges.proofs.KeyLemmas.{same_is}
 use Rattle.lsm_sorted.proofs.OutsLemmas.{listed, asked_head, judged, follows_in, error_in, behind_error, AllOf, dropped_outs, dropped_reported, dropped_asked, failed_outs, failed_reported, failed_asked, open_outs, open_reported, open_asked, close_outs, close_reported, close_asked}
 
@@ -106,11 +106,11 @@ module _ (P : Judged → Type 0) (plain : (x : Entry) → P (as_is x)) (rules : 
       last' : (nat_lt j.entry.seqno rules.watermark ≡ true) ⊎ (es ≡ [])
       last' = subst (λ (n : ℕ). (nat_lt n rules.watermark ≡ true) ⊎ (es ≡ [])) (sym number) last
 
-      answer_listed : (rest : List R) → given_by rules (gone rules (first es) None) (Ok (Some y)) ++ rest ≡ listed (unless rules (goes rules.evict y.kind (first es)) y) ++ rest
+      answer_listed : (rest : List R) → given_by rules (gone rules (first es) None) (Ok (Some y)) ++ rest ≡ listed (head_answer rules (goes rules.evict y.kind (first es)) y) ++ rest
       answer_listed rest = elim (goes rules.evict y.kind (first es)) as (λ b. cond b [] (Ok (zeroed rules y) ∷ []) ++ rest ≡ listed (cond b None (Some (Ok (zeroed rules y)))) ++ rest) [ true ↦ refl | false ↦ refl ]
 
       calm : (js : List JudgedItem) (rs D : List R) → follows_in y.user_key js ≡ false → error_in js ≡ None → behind_error js ≡ js → rs ≡ all_ok es ++ D → items js ≡ D
-          → Explained P rules j rs (record { answer = unless rules (goes rules.evict y.kind (first es)) y; rest = D; reports = es }) js
+          → Explained P rules j rs (record { answer = head_answer rules (goes rules.evict y.kind (first es)) y; rest = D; reports = es }) js
       calm js rs D over none same parts fits =
           record {
             js = Ok j ∷ (all_ok (unfiltered es) ++ js);

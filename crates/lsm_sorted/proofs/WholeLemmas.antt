@@ -5,9 +5,7 @@ use Rattle.std.specs.List.{AllByRecursion}
 use Rattle.std.specs.Iterator.{Count, Yields}
 use Rattle.sst_entries.specs.Entry.{Entry}
 use Rattle.sst_entries.specs.Kind.{is_tombstone_kind}
-use Rattle.sst_entries.specs.declared.stream.Direction.{Direction}
-use Rattle.sst_entries.specs.declared.stream.Direction.TheVariants.{Front, Back}
-use Rattle.sst_entries.specs.Stream.{Deals, CanDeal, Runs, nowhere, stopped, stopped_result, first, but_first, all_ok}
+use Rattle.sst_entries.specs.Stream.{Deals, CanDeal, nowhere, stopped, stopped_result, first, but_first, all_ok}
 use Rattle.sst_entries.specs.declared.error.Error.{Error}
 use Rattle.lsm_sorted.specs.declared.compaction.stream.CompactionStream.{CompactionStream}
 use Rattle.sst_entries.proofs.StreamLemmas.{deals_by, can_by, tail_eq}
@@ -194,17 +192,3 @@ all_as_they_are (e ∷ es) = ap (λ (js : List JudgedItem). Ok (as_is e) ∷ js)
 -- entries without errors, of which a filter keeps all, give what is kept
 pub outs_unfiltered : (rules : Rules) (es : List Entry) → outs rules (as_they_are (all_ok es)) ≡ all_ok (kept rules (unfiltered es))
 outs_unfiltered rules es = ap (outs rules) (all_as_they_are es) ∙ outs_kept rules (unfiltered es) (calm_unfiltered es)
-
--- a source that deals from both ends deals from the front alone
-runs_in_front : {S X : Type 0} (front back : S → Option X → S → Type 0) (ends : List Direction) (rs : List (Option X)) (s t : S) → Runs front nowhere s ends rs t → Runs front back s ends rs t
-runs_in_front front back [] [] s t runs = runs
-runs_in_front front back [] (r ∷ rs) s t runs = absurd runs
-runs_in_front front back (e ∷ ends) [] s t runs = absurd runs
-runs_in_front front back (Front ∷ ends) (r ∷ rs) s t runs = (runs.0, runs.1, runs_in_front front back ends rs runs.0 t runs.2)
-runs_in_front front back (Back ∷ ends) (r ∷ rs) s t runs = absurd runs.1
-
-pub deals_in_front : {S X : Type 0} (stops : Option X → Bool) (front back : S → Option X → S → Type 0) (s : S) (xs : List X) → Deals stops front back s xs → Deals stops front nowhere s xs
-deals_in_front stops front back s xs d = record { answers = λ ends rs t runs fine. d.answers ends rs t (runs_in_front front back ends rs s t runs) fine }
-
-pub can_in_front : {S X : Type 0} (front back : S → Option X → S → Type 0) (can can_back : S → Type 0) (s : S) → CanDeal front back can can_back s → CanDeal front nowhere can can s
-can_in_front front back can can_back s d = record { at = λ ends rs t runs. let both = d.at ends rs t (runs_in_front front back ends rs s t runs) in (both.0, both.0) }

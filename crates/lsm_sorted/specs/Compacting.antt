@@ -21,13 +21,14 @@ pub record Turn : Type 0 where
   pub rest : List R
   pub reports : List Entry
 
-abbrev pub unless : Rules → Bool → Entry → Option R
-unless rules skipped head = if skipped then None else Some (Ok (zeroed rules head))
+-- the answer of a head that stays; one that is skipped gives none
+abbrev pub head_answer : Rules → Bool → Entry → Option R
+head_answer rules skipped head = if skipped then None else Some (Ok (zeroed rules head))
 
 -- the stretch of the head's key is drained and reported: an error after it is answered, else the head, unless it goes
 abbrev pub close : Rules → Entry → List Entry → List R → Turn
-close rules head drained [] = record { answer = unless rules (goes rules.evict head.kind (first drained)) head; rest = []; reports = drained }
-close rules head drained (Ok x ∷ rs) = record { answer = unless rules (goes rules.evict head.kind (first drained)) head; rest = Ok x ∷ rs; reports = drained }
+close rules head drained [] = record { answer = head_answer rules (goes rules.evict head.kind (first drained)) head; rest = []; reports = drained }
+close rules head drained (Ok x ∷ rs) = record { answer = head_answer rules (goes rules.evict head.kind (first drained)) head; rest = Ok x ∷ rs; reports = drained }
 close rules head drained (Err e ∷ rs) = record { answer = Some (Err e); rest = rs; reports = drained }
 
 -- whether an entry of the key is in front

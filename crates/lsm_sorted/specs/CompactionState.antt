@@ -1,18 +1,19 @@
 -- What a compaction stream stands for, and its calls.
 use Rattle.std.specs.Prelude.{◌≡◌, ℕ, Bool, false, List, [], ◌∷◌, Option, Some, None, Result, Ok, Err}
-use Rattle.std.specs.Iterator.{Count}
+use Rattle.std.specs.List.{AllByRecursion}
+use Rattle.std.specs.Iterator.{Count, Yields}
 use Rattle.sst_entries.specs.Entry.{Entry}
 use Rattle.sst_entries.specs.declared.error.Error.{Error}
 use Rattle.sst_entries.specs.declared.stream.Direction.TheVariants.{Front}
-use Rattle.sst_entries.specs.Stream.{stopped, stopped_result, nowhere}
+use Rattle.sst_entries.specs.Stream.{Deals, stopped, stopped_result, nowhere, all_ok}
 use Rattle.lsm_sorted.specs.declared.ahead.Ahead.{Ahead}
 use Rattle.lsm_sorted.specs.declared.compaction.stream.CompactionStream.{CompactionStream}
 use Rattle.lsm_sorted.specs.Ends.{R, Goes}
 use Rattle.lsm_sorted.specs.Newest.{after_key}
 use Rattle.lsm_sorted.specs.Outlook.{Outlook, Relates, nothing_stops, IsSame}
 use Rattle.lsm_sorted.specs.Ahead.{HoldsAhead, ahead_size, ahead_outlook}
-use Rattle.lsm_sorted.specs.Compaction.{Verdict, Rules, told_by, reports_by}
-use Rattle.lsm_sorted.specs.Compacting.{of_key, unless, settled, Asks, GetsAll, Calls}
+use Rattle.lsm_sorted.specs.Compaction.{Verdict, Rules, told_by, reports_by, outs, as_they_are, kept, unfiltered}
+use Rattle.lsm_sorted.specs.Compacting.{of_key, head_answer, settled, Asks, GetsAll, Calls, Compacted}
 
 -- a call that goes through xs and leaves ys
 abbrev pub CallsIn : {F C : Type 0} → (F → Entry → Result Verdict Error → F → Type 0) → (C → Entry → C → Type 0) → Rules → F → C → Option R → F → C → List R → List R → Type 0
@@ -55,6 +56,20 @@ module _ {S F C : Type 0} where
     pub calls : (stops : Error → Bool) (xs : List R) → Compacts stops front s xs → stopped stops r ≡ false → (ys : List R) × Compacts stops front t ys × Calls gives gets (rules_of s) (filter_of s) (callback_of s) xs r (filter_of t) (callback_of t) ys
     pub hears : Relates front nowhere Front (CallsIn gives gets (rules_of s) (filter_of s) (callback_of s) r (filter_of t) (callback_of t)) (compaction_outlook s) (compaction_outlook t)
 
+module _ {S F C : Type 0} (front : S → Option R → S → Type 0) (next : CompactionStream S F C R → Option R → CompactionStream S F C R → Type 0) (s : CompactionStream S F C R) where
+  -- of any list that the stream goes through, calls up to the one that answers `None` give, ask and report what a compaction of the list does
+  abbrev pub CompactsWhole : (F → Entry → Result Verdict Error → F → Type 0) → (C → Entry → C → Type 0) → Type 0
+  CompactsWhole gives gets = (stops : Error → Bool) (xs gave : List R) (t u : CompactionStream S F C R) → Compacts stops front s xs → AllByRecursion (λ r. stopped_result stops r ≡ false) gave
+      → Yields next s gave t → next t None u → Compacted gives gets (rules_of s) (filter_of s) (callback_of s) xs gave (filter_of u) (callback_of u)
+
+  -- the stream deals what is given of any list that it goes through, where a filter keeps all
+  abbrev pub DealsOuts : Type 0
+  DealsOuts = (stops : Error → Bool) (xs : List R) → Compacts stops front s xs → Deals (stopped stops) next nowhere s (outs (rules_of s) (as_they_are xs))
+
+  -- and of entries without errors those that are kept
+  abbrev pub DealsKept : Type 0
+  DealsKept = (stops : Error → Bool) (xs : List Entry) → Compacts stops front s (all_ok xs) → Deals (stopped stops) next nowhere s (all_ok (kept (rules_of s) (unfiltered xs)))
+
 -- the error of a refusal
 abbrev pub refusal : {X : Type 0} → Result X Error → Option Error
 refusal (Ok x) = None
@@ -77,7 +92,7 @@ pub record DrainsKey {T C X : Type 0} (stops : Error → Bool) (Has : T → List
 
 -- what a turn answers at a head that goes or stays
 abbrev pub answer_of : Rules → Entry → Result Bool Error → Option R
-answer_of rules head (Ok gone) = unless rules gone head
+answer_of rules head (Ok gone) = head_answer rules gone head
 answer_of rules head (Err e) = Some (Err e)
 
 -- a head was settled, up to an error that stops it

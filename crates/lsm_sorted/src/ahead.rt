@@ -33,12 +33,12 @@ impl<I: Iterator<Item = IterItem<A>>, A: Allocator> Ahead<I> {
     pub(crate) fn next(&mut self) -> Option<IterItem<A>>
         requires { Goes I.next_gives nowhere I.can_next I.can_next I.remaining self.old.source }
         ensures goes { Goes I.next_gives nowhere I.can_next I.can_next I.remaining self.new.source }
-        ensures deals { (stops : Error → Bool) → DealsFirst stops (HoldsAhead stops I.next_gives) self.old result self.new }
-        ensures hears {
-            Relates I.next_gives nowhere Front (IsStep front_of result)
-            (ahead_outlook self.old) (ahead_outlook self.new)
-        }
-        ensures lowers { Lowers result (ahead_size I.remaining self.old) (ahead_size I.remaining self.new) }
+        ensures deals { (stops : Error → Bool) →
+            DealsFirst stops (HoldsAhead stops I.next_gives) self.old result self.new }
+        ensures hears { Relates I.next_gives nowhere Front (IsStep front_of result)
+            (ahead_outlook self.old) (ahead_outlook self.new) }
+        ensures lowers { Lowers result (ahead_size I.remaining self.old) (ahead_size I.remaining
+            self.new) }
         ensures free { self.new.front ≡ None }
     {
         if let Some(x) = self.front.take() {
@@ -51,11 +51,11 @@ impl<I: Iterator<Item = IterItem<A>>, A: Allocator> Ahead<I> {
     pub(crate) fn put_back(&mut self, x: InternalValue<A>)
         requires { self.old.front ≡ None }
         ensures source { self.new.source ≡ self.old.source }
-        ensures lists { (stops : Error → Bool) (xs : List R) → HoldsAhead stops I.next_gives self.old xs → HoldsAhead stops I.next_gives self.new (Ok x ∷ xs) }
-        ensures puts {
-            Relates I.next_gives nowhere Front (λ xs ys. ys ≡ Ok x ∷ xs)
-            (ahead_outlook self.old) (ahead_outlook self.new)
-        }
+        ensures lists { (stops : Error → Bool) (xs : List R) →
+            HoldsAhead stops I.next_gives self.old xs →
+            HoldsAhead stops I.next_gives self.new (Ok x ∷ xs) }
+        ensures puts { Relates I.next_gives nowhere Front (λ xs ys. ys ≡ Ok x ∷ xs)
+            (ahead_outlook self.old) (ahead_outlook self.new) }
         ensures size { ahead_size I.remaining self.new ≡ ahead_size I.remaining self.old + 1 }
     {
         self.front = Some(Ok(x));

@@ -44,10 +44,21 @@ impl<I: DoubleEndedIterator<Item = IterItem<A>>, A: Allocator> MvccStream<I> {
     /// A stream over sorted entries. Nothing is taken from them yet.
     pub fn new(iter: I) -> Self
         ensures starts { mvcc_outlook result ≡ before_any iter }
-        ensures stands { (stops : Error → Bool) (xs : List R) → Deals (stopped stops) I.next_gives I.next_back_gives iter xs → StandsFor I.next_gives I.next_back_gives stops result xs }
-        ensures may { CanDeal I.next_gives I.next_back_gives I.can_next I.can_next_back iter → IsFinite (I.remaining iter) → MayStep I.next_gives I.next_back_gives I.can_next I.can_next_back I.remaining result }
-        ensures newest { (stops : Error → Bool) (xs : List Entry) → Ascends xs → Deals (stopped stops) I.next_gives I.next_back_gives iter (all_ok xs) → Deals (stopped stops) ⟦<MvccStream<I> as Iterator>⟧.next_gives ⟦<MvccStream<I> as DoubleEndedIterator>⟧.next_back_gives result (all_ok (newest xs)) }
-        ensures can { CanDeal I.next_gives I.next_back_gives I.can_next I.can_next_back iter → IsFinite (I.remaining iter) → CanDeal ⟦<MvccStream<I> as Iterator>⟧.next_gives ⟦<MvccStream<I> as DoubleEndedIterator>⟧.next_back_gives ⟦<MvccStream<I> as Iterator>⟧.can_next ⟦<MvccStream<I> as DoubleEndedIterator>⟧.can_next_back result }
+        ensures stands { (stops : Error → Bool) (xs : List R) → Deals (stopped stops) I.next_gives
+            I.next_back_gives iter xs → StandsFor I.next_gives I.next_back_gives stops result xs }
+        ensures may { CanDeal I.next_gives I.next_back_gives I.can_next I.can_next_back iter →
+            IsFinite (I.remaining iter) →
+            MayStep I.next_gives I.next_back_gives I.can_next I.can_next_back I.remaining result }
+        ensures newest { (stops : Error → Bool) (xs : List Entry) → Ascends xs →
+            Deals (stopped stops) I.next_gives I.next_back_gives iter (all_ok xs) →
+            Deals (stopped stops) ⟦<MvccStream<I> as Iterator>⟧.next_gives
+            ⟦<MvccStream<I> as DoubleEndedIterator>⟧.next_back_gives result (all_ok (newest xs)) }
+        ensures can { CanDeal I.next_gives I.next_back_gives I.can_next I.can_next_back iter →
+            IsFinite (I.remaining iter) →
+            CanDeal ⟦<MvccStream<I> as Iterator>⟧.next_gives
+            ⟦<MvccStream<I> as DoubleEndedIterator>⟧.next_back_gives
+            ⟦<MvccStream<I> as Iterator>⟧.can_next
+            ⟦<MvccStream<I> as DoubleEndedIterator>⟧.can_next_back result }
     {
         MvccStream {
             inner: Peeked::new(iter),
@@ -58,12 +69,11 @@ impl<I: DoubleEndedIterator<Item = IterItem<A>>, A: Allocator> MvccStream<I> {
 impl<I: DoubleEndedIterator<Item = IterItem<A>>, A: Allocator> Iterator for MvccStream<I> {
     type Item = IterItem<A>;
 
-    ghost can_next = { MayStep I.next_gives I.next_back_gives I.can_next I.can_next_back I.remaining };
+    ghost can_next = { MayStep I.next_gives I.next_back_gives I.can_next I.can_next_back
+        I.remaining };
 
-    ghost next_gives = {
-        StepsAt I.next_gives I.next_back_gives I.can_next I.can_next_back I.remaining
-        Front front_step
-    };
+    ghost next_gives = { StepsAt I.next_gives I.next_back_gives I.can_next I.can_next_back
+        I.remaining Front front_step };
 
     ghost remaining = { λ s. at_most (mvcc_size I.remaining s) };
 
@@ -90,12 +100,11 @@ impl<I: DoubleEndedIterator<Item = IterItem<A>>, A: Allocator> Iterator for Mvcc
 
 impl<I: DoubleEndedIterator<Item = IterItem<A>>, A: Allocator> DoubleEndedIterator
     for MvccStream<I> {
-    ghost can_next_back = { MayStep I.next_gives I.next_back_gives I.can_next I.can_next_back I.remaining };
+    ghost can_next_back = { MayStep I.next_gives I.next_back_gives I.can_next I.can_next_back
+        I.remaining };
 
-    ghost next_back_gives = {
-        StepsAt I.next_gives I.next_back_gives I.can_next I.can_next_back I.remaining
-        Back back_step
-    };
+    ghost next_back_gives = { StepsAt I.next_gives I.next_back_gives I.can_next I.can_next_back
+        I.remaining Back back_step };
 
     fn next_back(&mut self) -> Option<IterItem<A>> {
         let mut tail = match self.inner.next_back() {

@@ -36,14 +36,16 @@ impl<I: DoubleEndedIterator<Item = IterItem<A>>, A: Allocator> Peeked<I> {
     }
 
     pub(crate) fn next(&mut self) -> Option<IterItem<A>>
-        requires { Goes I.next_gives I.next_back_gives I.can_next I.can_next_back I.remaining self.old.source }
-        ensures goes { Goes I.next_gives I.next_back_gives I.can_next I.can_next_back I.remaining self.new.source }
-        ensures deals { (stops : Error → Bool) → DealsFirst stops (Holds stops I.next_gives I.next_back_gives) self.old result self.new }
-        ensures hears {
-            Relates I.next_gives I.next_back_gives Front (IsStep front_of result)
-            (peeked_outlook self.old) (peeked_outlook self.new)
-        }
-        ensures lowers { Lowers result (peeked_size I.remaining self.old) (peeked_size I.remaining self.new) }
+        requires { Goes I.next_gives I.next_back_gives I.can_next I.can_next_back I.remaining
+            self.old.source }
+        ensures goes { Goes I.next_gives I.next_back_gives I.can_next I.can_next_back I.remaining
+            self.new.source }
+        ensures deals { (stops : Error → Bool) →
+            DealsFirst stops (Holds stops I.next_gives I.next_back_gives) self.old result self.new }
+        ensures hears { Relates I.next_gives I.next_back_gives Front (IsStep front_of result)
+            (peeked_outlook self.old) (peeked_outlook self.new) }
+        ensures lowers { Lowers result (peeked_size I.remaining self.old) (peeked_size I.remaining
+            self.new) }
         ensures free { self.new.front ≡ None }
     {
         if let Some(x) = self.front.take() {
@@ -59,14 +61,16 @@ impl<I: DoubleEndedIterator<Item = IterItem<A>>, A: Allocator> Peeked<I> {
     }
 
     pub(crate) fn next_back(&mut self) -> Option<IterItem<A>>
-        requires { Goes I.next_gives I.next_back_gives I.can_next I.can_next_back I.remaining self.old.source }
-        ensures goes { Goes I.next_gives I.next_back_gives I.can_next I.can_next_back I.remaining self.new.source }
-        ensures deals { (stops : Error → Bool) → DealsLast stops (Holds stops I.next_gives I.next_back_gives) self.old result self.new }
-        ensures hears {
-            Relates I.next_gives I.next_back_gives Back (IsStep back_of result)
-            (peeked_outlook self.old) (peeked_outlook self.new)
-        }
-        ensures lowers { Lowers result (peeked_size I.remaining self.old) (peeked_size I.remaining self.new) }
+        requires { Goes I.next_gives I.next_back_gives I.can_next I.can_next_back I.remaining
+            self.old.source }
+        ensures goes { Goes I.next_gives I.next_back_gives I.can_next I.can_next_back I.remaining
+            self.new.source }
+        ensures deals { (stops : Error → Bool) →
+            DealsLast stops (Holds stops I.next_gives I.next_back_gives) self.old result self.new }
+        ensures hears { Relates I.next_gives I.next_back_gives Back (IsStep back_of result)
+            (peeked_outlook self.old) (peeked_outlook self.new) }
+        ensures lowers { Lowers result (peeked_size I.remaining self.old) (peeked_size I.remaining
+            self.new) }
         ensures free { self.new.back ≡ None }
     {
         if let Some(x) = self.back.take() {
@@ -85,11 +89,11 @@ impl<I: DoubleEndedIterator<Item = IterItem<A>>, A: Allocator> Peeked<I> {
     pub(crate) fn put_front(&mut self, x: InternalValue<A>)
         requires { self.old.front ≡ None }
         ensures source { self.new.source ≡ self.old.source }
-        ensures lists { (stops : Error → Bool) (xs : List R) → Holds stops I.next_gives I.next_back_gives self.old xs → Holds stops I.next_gives I.next_back_gives self.new (Ok x ∷ xs) }
-        ensures puts {
-            Relates I.next_gives I.next_back_gives Front (λ xs ys. ys ≡ Ok x ∷ xs)
-            (peeked_outlook self.old) (peeked_outlook self.new)
-        }
+        ensures lists { (stops : Error → Bool) (xs : List R) →
+            Holds stops I.next_gives I.next_back_gives self.old xs →
+            Holds stops I.next_gives I.next_back_gives self.new (Ok x ∷ xs) }
+        ensures puts { Relates I.next_gives I.next_back_gives Front (λ xs ys. ys ≡ Ok x ∷ xs)
+            (peeked_outlook self.old) (peeked_outlook self.new) }
         ensures size { peeked_size I.remaining self.new ≡ peeked_size I.remaining self.old + 1 }
     {
         self.front = Some(Ok(x));
@@ -99,11 +103,11 @@ impl<I: DoubleEndedIterator<Item = IterItem<A>>, A: Allocator> Peeked<I> {
     pub(crate) fn put_back(&mut self, x: InternalValue<A>)
         requires { self.old.back ≡ None }
         ensures source { self.new.source ≡ self.old.source }
-        ensures lists { (stops : Error → Bool) (xs : List R) → Holds stops I.next_gives I.next_back_gives self.old xs → Holds stops I.next_gives I.next_back_gives self.new (xs ++ Ok x ∷ []) }
-        ensures puts {
-            Relates I.next_gives I.next_back_gives Back (λ xs ys. ys ≡ xs ++ Ok x ∷ [])
-            (peeked_outlook self.old) (peeked_outlook self.new)
-        }
+        ensures lists { (stops : Error → Bool) (xs : List R) →
+            Holds stops I.next_gives I.next_back_gives self.old xs →
+            Holds stops I.next_gives I.next_back_gives self.new (xs ++ Ok x ∷ []) }
+        ensures puts { Relates I.next_gives I.next_back_gives Back (λ xs ys. ys ≡ xs ++ Ok x ∷ [])
+            (peeked_outlook self.old) (peeked_outlook self.new) }
         ensures size { peeked_size I.remaining self.new ≡ peeked_size I.remaining self.old + 1 }
     {
         self.back = Some(Ok(x));

@@ -13,4 +13,6 @@ mod merging_front;
 #[cfg(test)]
 mod newest;
 #[cfg(test)]
+mod streams;
+#[cfg(test)]
 mod words;

@@ -1,22 +1,19 @@
 //! A stream of entries that leaves out what no reader needs.
 ghost use Rattle.std.specs.Prelude.{◌≡◌, ◌≤◌, nat_lt, Bool, false, List, Some, None, Result, Ok, IfOk};
-ghost use Rattle.std.specs.Iterator.{at_most, IsFinite, Yields};
+ghost use Rattle.std.specs.Iterator.{at_most, IsFinite};
 ghost use Rattle.sst_entries.specs.Entry.{Entry};
+ghost use Rattle.sst_entries.specs.Key.{same_key};
+ghost use Rattle.sst_entries.specs.Stream.{Deals, CanDeal, nowhere, stopped};
 ghost use Rattle.sst_entries.specs.declared.error.Error.{Error};
-ghost use Rattle.lsm_sorted.specs.Compaction.{Verdict, keep};
-ghost use Rattle.lsm_sorted.specs.Verdicts.{said, verdict_of};
-ghost use Rattle.lsm_sorted.specs.CompactionState.{rules_of, source_of, compaction_outlook, filter_of, callback_of, Compacts, MayCompact, compaction_size, CompactsNext, Filters, DrainsKey, DrainsIn, Settles, SettlesIn};
+ghost use Rattle.sst_entries.specs.declared.stream.Direction.TheVariants.{Front};
+ghost use Rattle.lsm_sorted.specs.Ends.{R};
 ghost use Rattle.lsm_sorted.specs.Ahead.{HoldsAhead};
 ghost use Rattle.lsm_sorted.specs.Outlook.{Relates, before_any};
-ghost use Rattle.sst_entries.specs.declared.stream.Direction.TheVariants.{Front};
-ghost use Rattle.lsm_sorted.specs.Compaction.{goes, zeroed, outs, kept, as_they_are, unfiltered, told_by, reports_by};
-ghost use Rattle.lsm_sorted.specs.Compacting.{Compacted, GetsAll};
+ghost use Rattle.lsm_sorted.specs.Verdicts.{said, verdict_of};
+ghost use Rattle.lsm_sorted.specs.Compaction.{Verdict, keep, goes, zeroed, told_by, reports_by};
+ghost use Rattle.lsm_sorted.specs.Compacting.{GetsAll};
+ghost use Rattle.lsm_sorted.specs.CompactionState.{rules_of, source_of, compaction_outlook, filter_of, callback_of, Compacts, MayCompact, compaction_size, CompactsNext, CompactsWhole, DealsOuts, DealsKept, Filters, DrainsKey, DrainsIn, Settles, SettlesIn};
 ghost use Rattle.lsm_sorted.specs.ReadLaw.{ReadLaw, StaysStrict, PartLaw};
-ghost use Rattle.lsm_sorted.specs.declared.compaction.stream.CompactionStream.{CompactionStream};
-ghost use Rattle.std.specs.List.{AllByRecursion};
-ghost use Rattle.lsm_sorted.specs.Ends.{R};
-ghost use Rattle.sst_entries.specs.Key.{same_key};
-ghost use Rattle.sst_entries.specs.Stream.{Deals, CanDeal, nowhere, stopped, stopped_result, all_ok};
 
 use crate::ahead::Ahead;
 use sst_entries::{Error, InternalValue, IterItem, SeqNo, UserValue, ValueType};
@@ -96,9 +93,17 @@ impl<I: Iterator<Item = IterItem<A>>, A: Allocator> CompactionStream<I, NoFilter
     /// tombstone and every number, asks no filter and calls no callback.
     pub fn new(iter: I, gc_seqno_threshold: SeqNo) -> Self
         ensures starts { compaction_outlook result ≡ before_any iter }
-        ensures compacts { (stops : Error → Bool) (xs : List R) → Deals (stopped stops) I.next_gives nowhere iter xs → Compacts stops I.next_gives result xs }
-        ensures may { CanDeal I.next_gives nowhere I.can_next I.can_next iter → IsFinite (I.remaining iter) → MayCompact I.next_gives I.can_next I.remaining result }
-        ensures rules { rules_of result ≡ record { watermark = gc_seqno_threshold; evict = false; zeroing = false } }
+        ensures compacts { (stops : Error → Bool) (xs : List R) →
+            Deals (stopped stops) I.next_gives nowhere iter xs →
+            Compacts stops I.next_gives result xs }
+        ensures may { CanDeal I.next_gives nowhere I.can_next I.can_next iter →
+            IsFinite (I.remaining iter) → MayCompact I.next_gives I.can_next I.remaining result }
+        ensures rules { rules_of result ≡ record {
+          watermark = gc_seqno_threshold;
+          evict = false;
+          zeroing =
+              false;
+        } }
     {
         CompactionStream {
             inner: Ahead::new(iter),
@@ -162,7 +167,12 @@ impl<I: Iterator<Item = IterItem<A>>, F, C, A: Allocator> CompactionStream<I, F,
     /// keeps every such tombstone. A tombstone may go only where nothing older lies elsewhere.
     pub fn evict_tombstones(mut self, b: bool) -> Self
         ensures source { source_of result ≡ source_of self }
-        ensures rules { rules_of result ≡ record { watermark = (rules_of self).watermark; evict = b; zeroing = (rules_of self).zeroing } }
+        ensures rules { rules_of result ≡ record {
+          watermark = (rules_of self).watermark;
+          evict = b;
+          zeroing =
+              (rules_of self).zeroing;
+        } }
         ensures filter { filter_of result ≡ filter_of self }
         ensures callback { callback_of result ≡ callback_of self }
     {
@@ -174,7 +184,12 @@ impl<I: Iterator<Item = IterItem<A>>, F, C, A: Allocator> CompactionStream<I, F,
     /// A small number takes less space where numbers are stored with a varying length.
     pub fn zero_seqnos(mut self, b: bool) -> Self
         ensures source { source_of result ≡ source_of self }
-        ensures rules { rules_of result ≡ record { watermark = (rules_of self).watermark; evict = (rules_of self).evict; zeroing = b } }
+        ensures rules { rules_of result ≡ record {
+          watermark = (rules_of self).watermark;
+          evict = (rules_of
+              self).evict;
+          zeroing = b;
+        } }
         ensures filter { filter_of result ≡ filter_of self }
         ensures callback { callback_of result ≡ callback_of self }
     {
@@ -213,7 +228,8 @@ fn apply_verdict<C: DroppedKvCallback<A>, A: Allocator>(
     verdict: StreamFilterVerdict<A>,
 ) -> Option<InternalValue<A>>
     ensures told { Ok result ≡ told_by head (Ok (verdict_of verdict)) }
-    ensures reports { GetsAll C.gets callback.old (reports_by head (Ok (verdict_of verdict))) callback.new }
+    ensures reports { GetsAll C.gets callback.old (reports_by head (Ok (verdict_of verdict)))
+        callback.new }
 {
     match verdict {
         StreamFilterVerdict::Keep => Some(head),
@@ -240,7 +256,8 @@ impl<
     fn filtered(&mut self, head: InternalValue<A>) -> Result<Option<InternalValue<A>>, Error>
         ensures source { source_of self.new ≡ source_of self.old }
         ensures rules { rules_of self.new ≡ rules_of self.old }
-        ensures filters { Filters F.gives C.gets head (filter_of self.old) (callback_of self.old) result (filter_of self.new) (callback_of self.new) }
+        ensures filters { Filters F.gives C.gets head (filter_of self.old) (callback_of self.old)
+            result (filter_of self.new) (callback_of self.new) }
     {
         if head.is_tombstone() {
             return Ok(Some(head));
@@ -256,12 +273,12 @@ impl<
         ensures rules { rules_of self.new ≡ rules_of self.old }
         ensures filter { filter_of self.new ≡ filter_of self.old }
         ensures size { compaction_size I.remaining self.new ≤ compaction_size I.remaining self.old }
-        ensures drains { (stops : Error → Bool) → DrainsKey stops (HoldsAhead stops I.next_gives) C.gets head.now.user_key (source_of self.old) (callback_of self.old) result (source_of self.new) (callback_of self.new) }
-        ensures hears {
-            Relates I.next_gives nowhere Front
+        ensures drains { (stops : Error → Bool) →
+            DrainsKey stops (HoldsAhead stops I.next_gives) C.gets head.now.user_key (source_of
+            self.old) (callback_of self.old) result (source_of self.new) (callback_of self.new) }
+        ensures hears { Relates I.next_gives nowhere Front
             (DrainsIn C.gets head.now.user_key (callback_of self.old) result (callback_of self.new))
-            (compaction_outlook self.old) (compaction_outlook self.new)
-        }
+            (compaction_outlook self.old) (compaction_outlook self.new) }
     {
         loop {
             match self.inner.next() {
@@ -286,12 +303,13 @@ impl<
         ensures rules { rules_of self.new ≡ rules_of self.old }
         ensures filter { filter_of self.new ≡ filter_of self.old }
         ensures size { compaction_size I.remaining self.new ≤ compaction_size I.remaining self.old }
-        ensures settles { (stops : Error → Bool) → Settles stops (HoldsAhead stops I.next_gives) C.gets (rules_of self.old) head.now (source_of self.old) (callback_of self.old) result (source_of self.new) (callback_of self.new) }
-        ensures hears {
-            Relates I.next_gives nowhere Front
-            (SettlesIn C.gets (rules_of self.old) head.now (callback_of self.old) result (callback_of self.new))
-            (compaction_outlook self.old) (compaction_outlook self.new)
-        }
+        ensures settles { (stops : Error → Bool) →
+            Settles stops (HoldsAhead stops I.next_gives) C.gets (rules_of self.old) head.now
+            (source_of self.old) (callback_of self.old) result (source_of self.new) (callback_of
+            self.new) }
+        ensures hears { Relates I.next_gives nowhere Front (SettlesIn C.gets (rules_of self.old)
+            head.now (callback_of self.old) result (callback_of self.new)) (compaction_outlook
+            self.old) (compaction_outlook self.new) }
     {
         let next = match self.inner.next() {
             Some(Ok(next)) => next,
@@ -320,14 +338,16 @@ impl<
         ensures rules { rules_of self.new ≡ rules_of self.old }
         ensures filter { filter_of self.new ≡ filter_of self.old }
         ensures size { compaction_size I.remaining self.new ≤ compaction_size I.remaining self.old }
-        ensures goes { IfOk result (λ b. b ≡ goes (rules_of self.old).evict head.now.kind (Some next.now)) }
-        ensures drains { (stops : Error → Bool) → ((d : C) × C.gets (callback_of self.old) next.now d × DrainsKey stops (HoldsAhead stops I.next_gives) C.gets head.now.user_key (source_of self.old) d result (source_of self.new) (callback_of self.new)) }
-        ensures hears {
-            (d : C) × C.gets (callback_of self.old) next.now d ×
+        ensures goes { IfOk result (λ b. b ≡ goes (rules_of self.old).evict head.now.kind (Some
+            next.now)) }
+        ensures drains { (stops : Error → Bool) →
+            ((d : C) × C.gets (callback_of self.old) next.now d × DrainsKey stops (HoldsAhead stops
+            I.next_gives) C.gets head.now.user_key (source_of self.old) d result (source_of
+            self.new) (callback_of self.new)) }
+        ensures hears { (d : C) × C.gets (callback_of self.old) next.now d ×
             Relates I.next_gives nowhere Front
             (DrainsIn C.gets head.now.user_key d result (callback_of self.new))
-            (compaction_outlook self.old) (compaction_outlook self.new)
-        }
+            (compaction_outlook self.old) (compaction_outlook self.new) }
     {
         self.dropped_callback.on_dropped(next);
         self.drain_key(head)?;
@@ -417,8 +437,12 @@ impl<
     /// are no tombstones, and the callback receives exactly what is reported. Every call leaves a
     /// stream that may be called again. The call does nothing: its contract says so.
     pub fn whole_run(&self)
-        ensures gives { (stops : Error → Bool) (xs gave : List R) (s t : CompactionStream I F C R) → Compacts stops I.next_gives self.now xs → AllByRecursion (λ r. stopped_result stops r ≡ false) gave → Yields ⟦<CompactionStream<I, F, C> as Iterator>⟧.next_gives self.now gave s → ⟦<CompactionStream<I, F, C> as Iterator>⟧.next_gives s None t → Compacted F.gives C.gets (rules_of self.now) (filter_of self.now) (callback_of self.now) xs gave (filter_of t) (callback_of t) }
-        ensures can { MayCompact I.next_gives I.can_next I.remaining self.now → CanDeal ⟦<CompactionStream<I, F, C> as Iterator>⟧.next_gives nowhere ⟦<CompactionStream<I, F, C> as Iterator>⟧.can_next ⟦<CompactionStream<I, F, C> as Iterator>⟧.can_next self.now }
+        ensures gives { CompactsWhole I.next_gives
+            ⟦<CompactionStream<I, F, C> as Iterator>⟧.next_gives self.now F.gives C.gets }
+        ensures can { MayCompact I.next_gives I.can_next I.remaining self.now →
+            CanDeal ⟦<CompactionStream<I, F, C> as Iterator>⟧.next_gives nowhere
+            ⟦<CompactionStream<I, F, C> as Iterator>⟧.can_next
+            ⟦<CompactionStream<I, F, C> as Iterator>⟧.can_next self.now }
     {}
 }
 
@@ -430,8 +454,10 @@ impl<
     /// What a stream without a filter deals: of any list of results what is given of it, and of
     /// entries without errors those that are kept. The call does nothing: its contract says so.
     pub fn unfiltered_run(&self)
-        ensures outs { (stops : Error → Bool) (xs : List R) → Compacts stops I.next_gives self.now xs → Deals (stopped stops) ⟦<CompactionStream<I, NoFilter, C> as Iterator>⟧.next_gives nowhere self.now (outs (rules_of self.now) (as_they_are xs)) }
-        ensures kept { (stops : Error → Bool) (xs : List Entry) → Compacts stops I.next_gives self.now (all_ok xs) → Deals (stopped stops) ⟦<CompactionStream<I, NoFilter, C> as Iterator>⟧.next_gives nowhere self.now (all_ok (kept (rules_of self.now) (unfiltered xs))) }
+        ensures outs { DealsOuts I.next_gives
+            ⟦<CompactionStream<I, NoFilter, C> as Iterator>⟧.next_gives self.now }
+        ensures kept { DealsKept I.next_gives
+            ⟦<CompactionStream<I, NoFilter, C> as Iterator>⟧.next_gives self.now }
     {}
 }
 

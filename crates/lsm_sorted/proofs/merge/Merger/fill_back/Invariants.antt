@@ -1,4 +1,4 @@
-use Rattle.std.proofs.Common.{◌+◌, ◌≤◌, true, false, cond, nat_lt, length}
+use Rattle.std.proofs.Common.{◌+◌, ◌≤◌, true, cond, nat_lt, length}
 use Rattle.lsm_sorted.specs.Merge.{SameRoom, Bounded, merge_total}
 use Rattle.lsm_sorted.specs.Asks.{AsksEach}
 use Rattle.lsm_sorted.proofs.merge.Merger.fill_back.Given as goal

@@ -1,4 +1,4 @@
-use Rattle.std.proofs.Common.{◌+◌, ◌≤◌, true, false, cond, nat_lt, length}
+use Rattle.std.proofs.Common.{◌+◌, ◌≤◌, false, cond, nat_lt, length}
 use Rattle.sst_entries.specs.Stream.{nowhere}
 use Rattle.lsm_sorted.specs.Merge.{SameRoom, Bounded, merge_total}
 use Rattle.lsm_sorted.specs.Asks.{AsksEach}

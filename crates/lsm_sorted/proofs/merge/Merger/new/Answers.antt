@@ -1,6 +1,5 @@
-use Rattle.std.proofs.Common.{◌+◌, ◌≤◌, refl, length, arith}
+use Rattle.std.proofs.Common.{refl, arith}
 use Rattle.sst_entries.specs.Stream.{nowhere}
-use Rattle.lsm_sorted.specs.Tournament.{room}
 use Rattle.lsm_sorted.proofs.UnionLemmas.{merged_union, only_union}
 use Rattle.lsm_sorted.proofs.DealsMerged.{new_may}
 use Rattle.lsm_sorted.proofs.CallsMerged.{front_merges, merger_deals, merger_until, ends_at, can_in_front, holds_one}

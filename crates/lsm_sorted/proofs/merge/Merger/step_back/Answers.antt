@@ -1,4 +1,4 @@
-use Rattle.std.proofs.Common.{refl, inl, inr, true, false, ◌∷◌, arith}
+use Rattle.std.proofs.Common.{refl, inl, inr, true, ◌∷◌, arith}
 use Rattle.std.specs.Prelude.{Ok, Err}
 use Rattle.std.proofs.lemmas.List.Sorted.{length_permutation}
 use Rattle.std.proofs.lemmas.Result.{err_from_is_err_and}

@@ -1,4 +1,4 @@
-use Rattle.std.proofs.Common.{true, false, Bool, ◌≡◌, ◌<◌, refl, sym, ◌∙◌, subst, arith}
+use Rattle.std.proofs.Common.{true, false, Bool, ◌<◌, refl, sym, ◌∙◌, subst, arith}
 use Rattle.std.specs.Prelude.{None, Some, Ok, Err}
 use Rattle.sst_entries.specs.Stream.{nowhere}
 use Rattle.lsm_sorted.specs.Merge.{merge_total}

@@ -1,10 +1,4 @@
-use Rattle.std.proofs.Common.{◌≡◌, sym, ◌∙◌, subst}
-use Rattle.std.specs.Prelude.{Option}
-use Rattle.sst_entries.specs.declared.stream.Direction.TheVariants.{Front}
-use Rattle.sst_entries.specs.Stream.{front_of}
-use Rattle.lsm_sorted.specs.Ends.{R}
-use Rattle.lsm_sorted.specs.Outlook.{Relates, IsStep}
-use Rattle.lsm_sorted.specs.Peeked.{peeked_outlook}
+use Rattle.std.proofs.Common.{sym, ◌∙◌}
 use Rattle.lsm_sorted.proofs.PeekedLemmas.{hears_source, hears_end}
 use Rattle.lsm_sorted.proofs.peeked.Peeked.next.Goals as goal
 

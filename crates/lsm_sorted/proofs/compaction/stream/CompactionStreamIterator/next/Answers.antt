@@ -57,7 +57,7 @@ returns-in-Ok-false-clause-steps g c =
       may = c.lets_go.ensures.may;
       rules = rules;
       hears = rw c.lets_go.ensures.filter (hears_kept g.I.Iterator.next_gives g.F.StreamFilter.gives g.C.DroppedKvCallback.gets (rules_of c.args.self.now) c.args.self.now.inner c.loop-head.self.inner c.next.new.self c.args.self.now.filter c.loop-head.self.filter c.args.self.now.dropped_callback c.loop-head.self.dropped_callback c.loop-head.invariant.hears c.filtered.new.self.filter c.filtered.new.self.dropped_callback c.in-Some-Ok.head (rw c.in-Some-Ok.field-0-is at c.in-Some-Ok.ensures.hears) c.in-Ok-Some.head (rw c.in-Ok-Some.field-0-is at c.in-Ok-Some.ensures.filters) (rules_of c.filtered.new.self) c.filtered.new.self.inner c.lets_go.new.self.inner c.lets_go.new.self.dropped_callback c.filtered.ensures.source (c.filtered.ensures.rules ∙ c.loop-head.invariant.rules) c.zeroed.result (c.zeroed.ensures ∙ ap (λ (o : Rules). zeroed o c.in-Ok-Some.head) rules) (rw c.in-Ok-false.field-0-test at c.in-Ok-false.ensures.hears));
-  calls = λ stops. called_along stops (HoldsAhead stops g.I.Iterator.next_gives) g.F.StreamFilter.gives g.C.DroppedKvCallback.gets (rules_of c.args.self.now) c.args.self.now.inner c.lets_go.new.self.inner c.args.self.now.filter c.filtered.new.self.filter c.lets_go.new.self.filter c.args.self.now.dropped_callback c.lets_go.new.self.dropped_callback (Some (Ok (zeroed (rules_of c.args.self.now) c.in-Ok-Some.head))) (Some (Ok c.zeroed.result))
+      calls = λ stops. called_along stops (HoldsAhead stops g.I.Iterator.next_gives) g.F.StreamFilter.gives g.C.DroppedKvCallback.gets (rules_of c.args.self.now) c.args.self.now.inner c.lets_go.new.self.inner c.args.self.now.filter c.filtered.new.self.filter c.lets_go.new.self.filter c.args.self.now.dropped_callback c.lets_go.new.self.dropped_callback (Some (Ok (zeroed (rules_of c.args.self.now) c.in-Ok-Some.head))) (Some (Ok c.zeroed.result))
           (sym (ap (λ (x : Entry). Some (Ok x)) (c.zeroed.ensures ∙ ap (λ (o : Rules). zeroed o c.in-Ok-Some.head) rules))) (sym c.lets_go.ensures.filter)
           (called_kept stops (HoldsAhead stops g.I.Iterator.next_gives) g.F.StreamFilter.gives g.C.DroppedKvCallback.gets (rules_of c.args.self.now) c.args.self.now.inner c.loop-head.self.inner c.next.new.self c.args.self.now.filter c.loop-head.self.filter c.filtered.new.self.filter c.args.self.now.dropped_callback c.loop-head.self.dropped_callback c.filtered.new.self.dropped_callback c.in-Some-Ok.head (c.loop-head.invariant.going stops) (rw c.in-Some-Ok.field-0-is at (c.in-Some-Ok.ensures.deals stops)) c.in-Ok-Some.head (rw c.in-Ok-Some.field-0-is at c.in-Ok-Some.ensures.filters) c.lets_go.new.self.inner c.lets_go.new.self.dropped_callback (settles_along stops (HoldsAhead stops g.I.Iterator.next_gives) g.F.StreamFilter.gives g.C.DroppedKvCallback.gets (rules_of c.args.self.now) (rules_of c.filtered.new.self) (rules_of c.args.self.now) c.in-Ok-Some.head c.filtered.new.self.inner c.next.new.self c.lets_go.new.self.inner c.filtered.new.self.dropped_callback c.lets_go.new.self.dropped_callback (Ok false) (c.filtered.ensures.rules ∙ c.loop-head.invariant.rules) c.filtered.ensures.source (rw c.in-Ok-false.field-0-test at (c.in-Ok-false.ensures.settles stops))));
     }
