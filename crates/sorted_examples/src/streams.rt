@@ -21,14 +21,12 @@ fn compaction_of<I: Iterator<Item = IterItem<A>>, A: Allocator + Clone>(
     iterators: Vec<I, A>,
     threshold: SeqNo,
 ) -> Result<CompactionStream<Merger<I, A>, NoFilter, NoCallback>, Error>
-    ensures {
-        IfOk result (λ s. (stops : Error → Bool) (lists : List (List R)) →
+    ensures { IfOk result (λ s. (stops : Error → Bool) (lists : List (List R)) →
         DealSorted I.next_gives nowhere stops iterators.items lists →
         all_errors lists ≡ [] →
         Deals (stopped stops)
         ⟦<CompactionStream<Merger<I, A>, NoFilter, NoCallback> as Iterator>⟧.next_gives nowhere s
-        (all_ok (kept (rules_of s) (unfiltered (merged lists)))))
-    }
+        (all_ok (kept (rules_of s) (unfiltered (merged lists))))) }
 {
     let merger = Merger::new(alloc, iterators)?;
     let stream = CompactionStream::new(merger, threshold);
