@@ -11,7 +11,9 @@ use Rattle.lsm_ranges.proofs.KeyLemmas.{KeyLe, same_itself, le_itself}
 use Rattle.sst_entries.proofs.OrderLemmas.{lt_trans}
 use Rattle.lsm_sorted.proofs.NewestLemmas.{KeysUp}
 use Rattle.lsm_sorted.proofs.OutsLemmas.{AllOf, follows_in}
-use Rattle.lsm_sorted.proofs.ReadLemmas.{split, left_alone, kept_open, kept_close, NoneOf, rest_none, all_rest, length_rest, apart}
+use Rattle.lsm_sorted.proofs.ReadLemmas.{split, left_alone, kept_open, kept_close, NoneOf, rest_none, all_rest, length_rest}
+use Rattle.sst_entries.proofs.Booleans.{apart, is_false}
+use Rattle.sst_entries.proofs.Lists.{all_append}
 
 -- an induction over what is kept: a head before others that stay, or the last head of its key
 module _ (rules : Rules) (Q : List Entry → Type 0)
@@ -42,10 +44,6 @@ module _ (rules : Rules) (Q : List Entry → Type 0)
   pub kept_by : (es : List Entry) → Q es
   kept_by es = within (length es) es (omega arith)
 
-all_append : (P : Entry → Type 0) (xs ys : List Entry) → AllByRecursion P xs → AllByRecursion P ys → AllByRecursion P (xs ++ ys)
-all_append P [] ys h k = k
-all_append P (x ∷ xs) ys h k = (h.0, all_append P xs ys h.1 k)
-
 -- what holds of all entries, zeroed or not, holds of all that are kept
 module _ (rules : Rules) (P : Entry → Type 0) (lowers : (e : Entry) → P e → P (zeroed rules e)) where
   alone_all : (x : Entry) (own : List Entry) → P x → AllByRecursion P (left_alone rules x own)
@@ -73,14 +71,9 @@ precedes_as x y e key number h = elim h [
   | inr newer ↦ inr (sym key ∙ newer.0, subst (λ (n : ℕ). e.seqno < n) number newer.1)
 ]
 
--- keys of a strict list go up
-falsely : (b : Bool) → (b ≡ true → ⊥) → b ≡ false
-falsely true h = absurd (h refl)
-falsely false h = refl
-
 key_le_of : (x y : Entry) → Precedes x y → KeyLe x.user_key y.user_key
 key_le_of x y h = elim h [
-  | inl lower ↦ falsely (key_lt y.user_key x.user_key) (λ above. apart (key_lt x.user_key x.user_key) (lt_trans x.user_key y.user_key x.user_key lower above) (le_itself x.user_key))
+  | inl lower ↦ is_false (key_lt y.user_key x.user_key) (λ above. apart (key_lt x.user_key x.user_key) (lt_trans x.user_key y.user_key x.user_key lower above) (le_itself x.user_key))
   | inr newer ↦ subst (λ (k : List ℕ). KeyLe x.user_key k) newer.0 (le_itself x.user_key)
 ]
 

@@ -12,15 +12,12 @@ use Rattle.lsm_ranges.proofs.KeyLemmas.{KeyLe, same_is, lt_other, le_other, le_s
 use Rattle.lsm_sorted.proofs.EntryKeyLemmas.{key_le}
 use Rattle.lsm_sorted.specs.Union.{AtMost, Ascends, newest}
 use Rattle.sst_entries.specs.Stream.{all_ok}
+use Rattle.sst_entries.proofs.Lists.{all_more, all_append}
 
 -- no key is below an earlier one
 abbrev pub KeysUp : List Entry → Type 0
 KeysUp [] = Unit {0}
 KeysUp (x ∷ xs) = AllByRecursion (λ y. KeyLe x.user_key y.user_key) xs × KeysUp xs
-
-all_more : (P Q : Entry → Type 0) → ((y : Entry) → P y → Q y) → (xs : List Entry) → AllByRecursion P xs → AllByRecursion Q xs
-all_more P Q f [] h = tt
-all_more P Q f (x ∷ xs) h = (f x h.0, all_more P Q f xs h.1)
 
 pub keys_up : (xs : List Entry) → Ascends xs → KeysUp xs
 keys_up [] h = tt
@@ -157,10 +154,6 @@ down_from_more x z (y ∷ ys) le over =
 down_more : (x : Entry) (zs : List Entry) → AllByRecursion (λ y. KeyLe x.user_key y.user_key) zs → down (zs ++ x ∷ []) ≡ filter (not_of x.user_key) (down zs) ++ x ∷ []
 down_more x [] h = refl
 down_more x (z ∷ zs) h = down_from_more x z zs h.0 h.1
-
-all_append : (P : Entry → Type 0) (xs ys : List Entry) → AllByRecursion P xs → AllByRecursion P ys → AllByRecursion P (xs ++ ys)
-all_append P [] ys h k = k
-all_append P (x ∷ xs) ys h k = (h.0, all_append P xs ys h.1 k)
 
 all_reverse : (P : Entry → Type 0) (xs : List Entry) → AllByRecursion P xs → AllByRecursion P (reverse xs)
 all_reverse P [] h = tt

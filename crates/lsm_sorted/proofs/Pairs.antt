@@ -11,22 +11,12 @@ use Rattle.std.specs.Cmp.Lexicographic.{slice_cmp, same_text, texts_ties}
 use Rattle.sst_entries.specs.Entry.{Entry}
 use Rattle.sst_entries.specs.Key.{key_lt}
 use Rattle.sst_entries.specs.Strict.{number_cmp, is_before, IsStrictAfter, IsStrict}
+use Rattle.sst_entries.proofs.OrderLemmas.{less_of, before_trans, tie_same}
 
 -- each entry comes before all later ones
 abbrev pub AllBefore : List Entry → Type 0
 AllBefore [] = Unit {0}
 AllBefore (x ∷ xs) = AllByRecursion (λ y. is_before x y ≡ true) xs × AllBefore xs
-
-number_total : IsTotalOrder number_cmp
-number_total = search (comparing, rules)
-
-less_of : (o : Ordering) → is_lt o ≡ true → o ≡ Less
-less_of Less h = refl
-less_of Equal h = absurd cc
-less_of Greater h = absurd cc
-
-before_trans : (a b c : Entry) → is_before a b ≡ true → is_before b c ≡ true → is_before a c ≡ true
-before_trans a b c p q = ap is_lt (number_total.trans a b c (less_of (number_cmp a b) p) (less_of (number_cmp b c) q))
 
 after_all : (x : Entry) (es : List Entry) → IsStrictAfter (Some x) es → AllByRecursion (λ y. is_before x y ≡ true) es
 unfolding IsStrictAfter
@@ -68,9 +58,6 @@ nat_less a b h = grind (arith, rules)
 
 nat_is_less : (a b : ℕ) → a < b → is_lt (nat_cmp a b) ≡ true
 nat_is_less a b h = grind (arith, rules)
-
-tie_same : (xs ys : List ℕ) → slice_cmp nat_cmp xs ys ≡ Equal → xs ≡ ys
-tie_same xs ys h = same_text xs ys (sym (texts_ties xs ys ∙ ap is_eq h))
 
 pub precedes_of : (x y : Entry) → is_before x y ≡ true → Precedes x y
 precedes_of x y h = elim (slice_cmp nat_cmp x.user_key y.user_key) as (λ o. slice_cmp nat_cmp x.user_key y.user_key ≡ o → is_lt (ordering_then o (nat_cmp y.seqno x.seqno)) ≡ true → Precedes x y) [

@@ -25,8 +25,10 @@ use Rattle.lsm_sorted.proofs.Pairs.{Precedes, Strict, as_pairs}
 use Rattle.lsm_ranges.proofs.KeyLemmas.{same_is, same_itself, le_itself}
 use Rattle.sst_entries.proofs.OrderLemmas.{gt_first}
 use Rattle.lsm_sorted.proofs.OutsLemmas.{AllOf}
-use Rattle.lsm_sorted.proofs.ReadLemmas.{and_both, and_not, apart, all_rest, none_before, none_of_other, not_under, same_within}
+use Rattle.lsm_sorted.proofs.ReadLemmas.{and_not, all_rest, none_before, none_of_other, not_under, same_within}
 use Rattle.lsm_sorted.proofs.KeptLemmas.{kept_by, all_kept, zeroed_below, strict_up, pairs_stay}
+use Rattle.sst_entries.proofs.Booleans.{apart, and_parts}
+use Rattle.sst_entries.proofs.Lists.{all_more}
 
 -- x is among xs
 abbrev IsIn : Entry → List Entry → Type 0
@@ -85,9 +87,9 @@ number_itself n = grind (arith, nat_tests)
 
 entry_is : (x y : Entry) → same_entry x y ≡ true → x ≡ y
 entry_is x y h =
-    let a = and_both (same_key x.user_key y.user_key) (nat_eq x.seqno y.seqno && (nat_eq (tag_of x.kind) (tag_of y.kind) && same_key x.value y.value)) h in
-    let b = and_both (nat_eq x.seqno y.seqno) (nat_eq (tag_of x.kind) (tag_of y.kind) && same_key x.value y.value) a.1 in
-    let c = and_both (nat_eq (tag_of x.kind) (tag_of y.kind)) (same_key x.value y.value) b.1 in
+    let a = and_parts (same_key x.user_key y.user_key) (nat_eq x.seqno y.seqno && (nat_eq (tag_of x.kind) (tag_of y.kind) && same_key x.value y.value)) h in
+    let b = and_parts (nat_eq x.seqno y.seqno) (nat_eq (tag_of x.kind) (tag_of y.kind) && same_key x.value y.value) a.1 in
+    let c = and_parts (nat_eq (tag_of x.kind) (tag_of y.kind)) (same_key x.value y.value) b.1 in
     let key : x.user_key ≡ y.user_key = same_is x.user_key y.user_key a.0 in
     let number : x.seqno ≡ y.seqno = number_is x.seqno y.seqno b.0 in
     let kind : x.kind ≡ y.kind = kind_is x.kind y.kind c.0 in
@@ -141,10 +143,6 @@ abbrev Down : List Entry → Type 0
 Down [] = Unit {0}
 Down (x ∷ xs) = AllByRecursion (NotAbove x) xs × Down xs
 
-map_all : (P Q : Entry → Type 0) → ((y : Entry) → P y → Q y) → (xs : List Entry) → AllByRecursion P xs → AllByRecursion Q xs
-map_all P Q f [] h = tt
-map_all P Q f (x ∷ xs) h = (f x h.0, map_all P Q f xs h.1)
-
 no_less : (a b : List ℕ) → key_lt a b ≡ true → a ≡ b → ⊥
 no_less a b h e = apart (key_lt b b) (subst (λ (k : List ℕ). key_lt k b ≡ true) e h) (le_itself b)
 
@@ -153,7 +151,7 @@ precedes_down x y h e = elim h [ inl lower ↦ absurd (no_less x.user_key y.user
 
 strict_down : (xs : List Entry) → Strict xs → Down xs
 strict_down [] h = tt
-strict_down (x ∷ xs) h = (map_all (Precedes x) (NotAbove x) (precedes_down x) xs h.0, strict_down xs h.1)
+strict_down (x ∷ xs) h = (all_more (Precedes x) (NotAbove x) (precedes_down x) xs h.0, strict_down xs h.1)
 
 not_gt_of : (a b : ℕ) (r : Ordering) → MatchOrdering r (a < b) (a ≡ b) (b < a) → is_gt r ≡ false → a ≤ b
 not_gt_of a b Less m h = omega arith
@@ -169,7 +167,7 @@ at_most_down x y h e =
 
 ascends_down : (xs : List Entry) → Ascends xs → Down xs
 ascends_down [] h = tt
-ascends_down (x ∷ xs) h = (map_all (AtMost x) (NotAbove x) (at_most_down x) xs h.0, ascends_down xs h.1)
+ascends_down (x ∷ xs) h = (all_more (AtMost x) (NotAbove x) (at_most_down x) xs h.0, ascends_down xs h.1)
 
 abbrev Unique : List Entry → Type 0
 Unique xs = (x y : Entry) → IsIn x xs → IsIn y xs → x.user_key ≡ y.user_key → x.seqno ≡ y.seqno → x ≡ y
@@ -213,7 +211,7 @@ is_lower a q h = grind (arith, nat_tests)
 
 module _ (key : List ℕ) (bound : ℕ) where
   hit_key : (x : Entry) → is_hit key bound x ≡ true → x.user_key ≡ key
-  hit_key x h = same_is x.user_key key (and_both (same_key x.user_key key) (nat_lt x.seqno bound) h).0
+  hit_key x h = same_is x.user_key key (and_parts (same_key x.user_key key) (nat_lt x.seqno bound) h).0
 
   point_in : (es : List Entry) (x : Entry) → first_hit es key bound ≡ Some x → IsIn x es × (is_hit key bound x ≡ true)
   point_in [] x h = absurd cc
@@ -344,16 +342,16 @@ module _ (key : List ℕ) (bound : ℕ) where
       ]
 
 newer_distinct : (xs ys : List Entry) → AllNewer xs ys → Distinct xs ys
-newer_distinct xs ys = map_all (λ x. AllByRecursion (λ y. x.user_key ≡ y.user_key → x.seqno < y.seqno) ys) (λ x. AllByRecursion (λ y. x.user_key ≡ y.user_key → x.seqno ≢ y.seqno) ys)
-    (λ x all. map_all (λ y. x.user_key ≡ y.user_key → x.seqno < y.seqno) (λ y. x.user_key ≡ y.user_key → x.seqno ≢ y.seqno) (λ y h e n. let k = h e in absurd (omega arith)) ys all) xs
+newer_distinct xs ys = all_more (λ x. AllByRecursion (λ y. x.user_key ≡ y.user_key → x.seqno < y.seqno) ys) (λ x. AllByRecursion (λ y. x.user_key ≡ y.user_key → x.seqno ≢ y.seqno) ys)
+    (λ x all. all_more (λ y. x.user_key ≡ y.user_key → x.seqno < y.seqno) (λ y. x.user_key ≡ y.user_key → x.seqno ≢ y.seqno) (λ y h e n. let k = h e in absurd (omega arith)) ys all) xs
 
 kept_newer : (rules : Rules) (xs ys : List Entry) → AllNewer xs ys → AllNewer (kept rules (unfiltered xs)) ys
 kept_newer rules xs ys = all_kept rules (λ x. AllByRecursion (λ y. x.user_key ≡ y.user_key → x.seqno < y.seqno) ys)
-    (λ x all. map_all (λ y. x.user_key ≡ y.user_key → x.seqno < y.seqno) (λ y. x.user_key ≡ y.user_key → (zeroed rules x).seqno < y.seqno) (λ y h e. let k = h e in let z = zeroed_below rules x in omega arith) ys all) xs
+    (λ x all. all_more (λ y. x.user_key ≡ y.user_key → x.seqno < y.seqno) (λ y. x.user_key ≡ y.user_key → (zeroed rules x).seqno < y.seqno) (λ y h e. let k = h e in let z = zeroed_below rules x in omega arith) ys all) xs
 
 kept_distinct : (rules : Rules) → rules.zeroing ≡ false → (xs ys : List Entry) → Distinct xs ys → Distinct (kept rules (unfiltered xs)) ys
 kept_distinct rules zeroing xs ys = all_kept rules (λ x. AllByRecursion (λ y. x.user_key ≡ y.user_key → x.seqno ≢ y.seqno) ys)
-    (λ x all. map_all (λ y. x.user_key ≡ y.user_key → x.seqno ≢ y.seqno) (λ y. x.user_key ≡ y.user_key → (zeroed rules x).seqno ≢ y.seqno)
+    (λ x all. all_more (λ y. x.user_key ≡ y.user_key → x.seqno ≢ y.seqno) (λ y. x.user_key ≡ y.user_key → (zeroed rules x).seqno ≢ y.seqno)
     (λ y h e n. h e (sym (ap (λ (b : Bool). cond (b && nat_lt x.seqno rules.watermark) 0 x.seqno) zeroing) ∙ n)) ys all) xs
 
 pub reads_alike_of_part : PartLaw

@@ -19,6 +19,7 @@ use Rattle.lsm_sorted.proofs.Hits.{first_hit, hit_shown}
 use Rattle.lsm_ranges.proofs.KeyLemmas.{KeyLe, same_is, same_itself, lt_other, le_other, lt_le}
 use Rattle.lsm_sorted.proofs.NewestLemmas.{KeysUp, keys_up}
 use Rattle.lsm_sorted.proofs.OutsLemmas.{AllOf, follows_in, open_outs, close_outs}
+use Rattle.sst_entries.proofs.Booleans.{apart, and_parts}
 
 -- the versions of a key in front, and what is after them
 pub record Split (key : List ℕ) (es : List Entry) : Type 0 where
@@ -115,11 +116,6 @@ zero_hit a b n bound h = elim (a && b) as (λ t. nat_lt (cond t 0 n) bound ≡ t
 pub high_same : (a b : Bool) (n : ℕ) → b ≡ false → cond (a && b) 0 n ≡ n
 high_same a b n h = elim a as (λ t. cond (t && b) 0 n ≡ n) [ true ↦ ap (λ (u : Bool). cond u 0 n) h | false ↦ refl ]
 
-pub and_both : (a b : Bool) → a && b ≡ true → (a ≡ true) × (b ≡ true)
-and_both true true h = (refl, refl)
-and_both true false h = absurd cc
-and_both false b h = absurd cc
-
 pub and_not : (a b : Bool) → a && b ≡ false → (a ≡ false) ⊎ ((a ≡ true) × (b ≡ false))
 and_not false b h = inl refl
 and_not true true h = absurd cc
@@ -130,10 +126,6 @@ not_under n low bound h k = grind (arith, nat_tests)
 
 not_below : (n bound : ℕ) → n < bound → nat_lt n bound ≡ false → ⊥
 not_below n bound h k = grind (arith, nat_tests)
-
-pub apart : (b : Bool) → b ≡ true → b ≡ false → ⊥
-apart true h k = absurd cc
-apart false h k = absurd cc
 
 module _ (rules : Rules) (key : List ℕ) (bound : ℕ) where
   abbrev pub Same : List Entry → Type 0
@@ -167,7 +159,7 @@ module _ (rules : Rules) (key : List ℕ) (bound : ℕ) where
     -- the head is what the reader hits
     closed_hit : is_hit key bound x ≡ true → Same (x ∷ (own ++ rest))
     closed_hit hit =
-        let two = and_both (same_key x.user_key key) (nat_lt x.seqno bound) hit in
+        let two = and_parts (same_key x.user_key key) (nat_lt x.seqno bound) hit in
         let still : is_hit key bound (zeroed rules x) ≡ true = ap (λ (b : Bool). b && nat_lt (zeroed rules x).seqno bound) two.0 ∙ zero_hit rules.zeroing (nat_lt x.seqno rules.watermark) x.seqno bound two.1 in
         let none : NoneOf key rest = subst (λ (k : List ℕ). NoneOf k rest) (same_is x.user_key key two.0) (rest_none x.user_key rest (up_rest own rest up.1) (all_rest (λ y. KeyLe x.user_key y.user_key) own rest up.0) over) in
         ap (λ (ys : List Entry). hit_shown ys key bound) out
