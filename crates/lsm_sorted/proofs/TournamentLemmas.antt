@@ -1,10 +1,10 @@
 -- What the winners of the brackets say of the items, and what a change of one slot leaves.
-use Rattle.std.proofs.Common.{◌≡◌, ℕ, suc, ◌+◌, ◌*◌, ◌^◌, ◌<◌, ◌≤◌, false, List, [], ◌∷◌, Option, Some, None, Ordering, length, get_or, set, replicate, refl, sym, ◌∙◌, ap, subst, inl, arith}
+use Rattle.std.proofs.Common.{◌≡◌, ℕ, zero, suc, ◌+◌, ◌*◌, ◌^◌, ◌<◌, ◌≤◌, false, List, [], ◌∷◌, ◌++◌, reverse, Option, Some, None, Ordering, length, get_or, set, replicate, refl, sym, ◌∙◌, ap, subst, inl, arith}
 use Rattle.std.specs.Ordering.{is_gt}
 use Rattle.std.specs.Option.{IfNone}
 use Rattle.std.specs.List.{All}
 use Rattle.std.specs.Cmp.{IsTotalOrder}
-use Rattle.std.proofs.lemmas.List.{length-set, length-replicate, get_or-replicate}
+use Rattle.std.proofs.lemmas.List.{length-set, length-replicate, get_or-replicate, reverse-append}
 use Rattle.std.proofs.lemmas.List.Elements.{All-nil, All-cons}
 use Rattle.std.proofs.Math.Pow.{pow_pos}
 use Rattle.lsm_sorted.specs.declared.side.Side.{Side}
@@ -12,9 +12,9 @@ use Rattle.lsm_sorted.specs.declared.side.Side.TheVariants as sides
 use Rattle.lsm_sorted.specs.declared.tournament.brackets.Bracket.{Bracket}
 use Rattle.lsm_sorted.specs.declared.tournament.brackets.Brackets.{Brackets}
 use Rattle.lsm_sorted.specs.Tournament.{Contest, room, steps, height, PlaysAtMost}
-use Rattle.lsm_sorted.specs.Slots.{items_of, slot_at}
+use Rattle.lsm_sorted.specs.Slots.{Places, items_of, slot_at}
 use Rattle.lsm_sorted.specs.Side.{toward}
-use Rattle.lsm_sorted.specs.Brackets.{is_beaten, DecidedButAbove, IsUnplayed, IsWon, IsWonButAbove, AreWon, AreWonButAbove}
+use Rattle.lsm_sorted.specs.Brackets.{is_beaten, DecidedButAbove, IsUnplayed, IsWon, IsWonButAbove, AreWon, AreWonButAbove, AreWonBut, AreWonBefore, AreWonIf}
 use Rattle.lsm_sorted.proofs.SideLemmas.{toward_total}
 use Rattle.lsm_sorted.proofs.BracketLemmas.{decided_but_above, unbeaten}
 
@@ -90,4 +90,55 @@ module _ {T Z : Type 0} (cmp : T → T → Ordering) (slots : List (Option T)) w
     greatest_side = greatest.side_is;
     least = won_unplayed n b.least sides.Least e least;
     greatest = won_unplayed n b.greatest sides.Greatest e greatest;
+  }
+
+-- ---- an open slot
+
+set_back : {A : Type 0} (xs : List A) (k : ℕ) (x d : A) → set (set xs k x) k (get_or xs k d) ≡ xs
+set_back [] k x d = refl
+set_back (y ∷ xs) zero x d = refl
+set_back (y ∷ xs) (suc k) x d = ap (λ (zs : List _). y ∷ zs) (set_back xs k x d)
+
+set_twice : {A : Type 0} (xs : List A) (k : ℕ) (x y : A) → set (set xs k x) k y ≡ set xs k y
+set_twice [] k x y = refl
+set_twice (z ∷ xs) zero x y = refl
+set_twice (z ∷ xs) (suc k) x y = ap (λ (zs : List _). z ∷ zs) (set_twice xs k x y)
+
+last_same : (xs ys : List ℕ) (x y : ℕ) → xs ++ x ∷ [] ≡ ys ++ y ∷ [] → x ≡ y
+last_same xs ys x y e =
+    let turned : x ∷ reverse xs ≡ y ∷ reverse ys = sym (reverse-append xs (x ∷ [])) ∙ ap reverse e ∙ reverse-append ys (y ∷ []) in
+    cc
+
+module _ {T Z : Type 0} (cmp : T → T → Ordering) where
+  -- which slot is open does not matter to what is won
+  pub won_open : (slots : List (Option T)) (b : Brackets Z) (o : Option ℕ) → AreWon cmp slots b → AreWon cmp slots (record b { emptied = o })
+  won_open slots b o w = record { least_side = w.least_side; greatest_side = w.greatest_side; least = w.least; greatest = w.greatest }
+
+  pub above_open : (slots : List (Option T)) (s : ℕ) (b : Brackets Z) (o : Option ℕ) → AreWonButAbove cmp slots s b → AreWonButAbove cmp slots s (record b { emptied = o })
+  above_open slots s b o w = record { least_side = w.least_side; greatest_side = w.greatest_side; least = w.least; greatest = w.greatest }
+
+  -- the matches above an open slot are to be played again
+  pub settles : (o : Option ℕ) (slots : Places T) (b : Brackets Z) → AreWonIf o cmp slots b → AreWonBut o cmp slots.places b
+  settles None slots b won = won
+  settles (Some s) slots b w = (
+    w.within,
+    subst (λ (ps : List (Option T)). AreWonButAbove cmp ps s b) (set_back slots.places s w.was None) (are_won_but_above cmp (set slots.places s w.was) b s (slot_at slots.places s) w.won),
+  )
+
+  -- an item takes the open slot
+  pub fills_open : (o : Option ℕ) (slots : Places T) (b : Brackets Z) (s : ℕ) (x : Option T) (free : List ℕ) → AreWonIf o cmp slots b → slots.free ≡ free ++ s ∷ [] → AreWonButAbove cmp (set slots.places s x) s b
+  fills_open None slots b s x free won top = are_won_but_above cmp slots.places b s x won
+  fills_open (Some k) slots b s x free w top =
+      let same : k ≡ s = last_same w.others free k s (sym w.last ∙ top) in
+      let here : AreWonButAbove cmp (set slots.places k x) k b = subst (λ (ps : List (Option T)). AreWonButAbove cmp ps k b) (set_twice slots.places k w.was x) (are_won_but_above cmp (set slots.places k w.was) b k x w.won) in
+      subst (λ (j : ℕ). AreWonButAbove cmp (set slots.places j x) j b) same here
+
+  -- a slot is open once it was emptied
+  pub opens : (places : List (Option T)) (after : Places T) (b : Brackets Z) (s : ℕ) (others : List ℕ) → s < length places → AreWon cmp places b → after.places ≡ set places s None → after.free ≡ others ++ s ∷ [] → AreWonBefore cmp after s (record b { emptied = Some s })
+  opens places after b s others within won emptied top = record {
+    was = slot_at places s;
+    within = rw (emptied, length-set) within;
+    won = won_open (set after.places s (slot_at places s)) b (Some s) (subst (λ (ps : List (Option T)). AreWon cmp ps b) (sym (ap (λ (ps : List (Option T)). set ps s (slot_at places s)) emptied ∙ set_back places s None None)) won);
+    others = others;
+    last = top;
   }

@@ -1,6 +1,6 @@
 -- Tournaments over slots: full binary trees whose leaves are the slots, in which each inner node names the winner of its two
 -- children. Node 1 is the root, and the children of node n are 2n and 2n + 1.
-use Rattle.std.specs.Prelude.{◌≡◌, ◌⊎◌, ℕ, zero, suc, ◌+◌, ◌*◌, ◌/◌, ◌^◌, ◌<◌, Bool, true, false, List, Option, Some, None, length, slice_index}
+use Rattle.std.specs.Prelude.{◌≡◌, ◌⊎◌, ℕ, zero, suc, ◌+◌, ◌*◌, ◌/◌, ◌^◌, ◌<◌, Bool, true, false, List, [], ◌∷◌, ◌++◌, Option, Some, None, length, slice_index, slice_set}
 use Rattle.std.specs.declared.cmp.Ordering.{Ordering}
 use Rattle.std.specs.Ordering.{is_gt}
 use Rattle.lsm_sorted.specs.declared.side.Side.{Side}
@@ -76,7 +76,24 @@ pub record AreWonButAbove {T Z : Type 0} (cmp : T → T → Ordering) (slots : L
   pub least : IsWonButAbove cmp slots (length slots + slot) b.least
   pub greatest : IsWonButAbove cmp slots (length slots + slot) b.greatest
 
--- there is a leaf for each slot and no more than needed, and both brackets are won
+-- the same, but for the nodes above this slot, if there is one
+abbrev pub AreWonBut : {T Z : Type 0} → Option ℕ → (T → T → Ordering) → List (Option T) → Brackets Z → Type 0
+AreWonBut None cmp slots b = AreWon cmp slots b
+AreWonBut (Some s) cmp slots b = (s < length slots) × AreWonButAbove cmp slots s b
+
+-- both brackets are won with what a slot held before; it is free now, and the next to be taken
+pub record AreWonBefore {T Z : Type 0} (cmp : T → T → Ordering) (slots : Places T) (s : ℕ) (b : Brackets Z) : Type 0 where
+  pub was : Option T
+  pub within : s < length slots.places
+  pub won : AreWon cmp (slice_set slots.places s was) b
+  pub others : List ℕ
+  pub last : slots.free ≡ others ++ s ∷ []
+
+abbrev pub AreWonIf : {T Z : Type 0} → Option ℕ → (T → T → Ordering) → Places T → Brackets Z → Type 0
+AreWonIf None cmp slots b = AreWon cmp slots.places b
+AreWonIf (Some s) cmp slots b = AreWonBefore cmp slots s b
+
+-- there is a leaf for each slot and no more than needed, and both brackets are won, but for an open slot
 pub record IsTournament {T Z : Type 0} (cmp : T → T → Ordering) (slots : Places T) (b : Brackets Z) : Type 0 where
   pub leaves : length slots.places ≡ 2 ^ height slots.room
-  pub won : AreWon cmp slots.places b
+  pub won : AreWonIf b.emptied cmp slots b

@@ -1,10 +1,11 @@
 -- Places for items.
 use Rattle.std.specs.Prelude.{◌≡◌, ◌≢◌, ℕ, ◌+◌, ◌<◌, List, [], ◌∷◌, Option, Some, None, length, slice_index, slice_index_or}
 
--- the places, and how many of them may be taken
+-- the places, how many of them may be taken, and the free ones, of which the last is taken first
 pub record Places (T : Type 0) : Type 0 where
   pub places : List (Option T)
   pub room : ℕ
+  pub free : List ℕ
 
 -- the items in the places that are taken
 abbrev pub items_of : {T : Type 0} → List (Option T) → List T

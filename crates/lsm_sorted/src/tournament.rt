@@ -16,8 +16,9 @@ use std::marker::Model;
 /// A priority queue that gives up its least and its greatest item.
 ///
 /// Each item has a slot, and two tournaments are played over the slots: one that the least item wins, and one that the
-/// greatest wins (trees of winners: Knuth, "The Art of Computer Programming", volume 3, "Sorting by Selection"). A push or a pop
-/// plays the matches above one slot again, which takes `h` comparisons for each tournament at most, where `2^h` is the
+/// greatest wins (trees of winners: Knuth, "The Art of Computer Programming", volume 3, "Sorting by Selection"). A pop leaves the
+/// matches above the slot that it empties to the next call: a push takes that slot, so a pop and a push play them once. A
+/// push or a pop plays the matches above one slot again, which takes `h` comparisons for each tournament at most, where `2^h` is the
 /// least power of two that is the capacity or more. Memory is taken by [`Tournament::with_capacity`] alone. Which of equal
 /// items comes first is open.
 #[derive(Drop)]
@@ -83,6 +84,7 @@ impl<T: Ord, A: Allocator> Tournament<T, A> {
         ensures steps { PlaysAtMost (2 * height (room self.old)) self.old self.new }
     {
         let slot = self.slots.insert(item);
+        self.brackets.emptied = None;
         self.brackets.replay(self.slots.as_slice(), slot);
     }
 
@@ -95,9 +97,10 @@ impl<T: Ord, A: Allocator> Tournament<T, A> {
         ensures room { room self.new ≡ room self.old }
         ensures steps { PlaysAtMost (2 * height (room self.old)) self.old self.new }
     {
+        self.brackets.settle(self.slots.as_slice());
         let slot = self.brackets.least.winner();
         let item = self.slots.remove(slot)?;
-        self.brackets.replay(self.slots.as_slice(), slot);
+        self.brackets.emptied = Some(slot);
         Some(item)
     }
 
@@ -110,9 +113,10 @@ impl<T: Ord, A: Allocator> Tournament<T, A> {
         ensures room { room self.new ≡ room self.old }
         ensures steps { PlaysAtMost (2 * height (room self.old)) self.old self.new }
     {
+        self.brackets.settle(self.slots.as_slice());
         let slot = self.brackets.greatest.winner();
         let item = self.slots.remove(slot)?;
-        self.brackets.replay(self.slots.as_slice(), slot);
+        self.brackets.emptied = Some(slot);
         Some(item)
     }
 }

@@ -4,7 +4,7 @@ ghost use Rattle.std.specs.Ordering.{is_gt};
 ghost use Rattle.lsm_sorted.specs.declared.side.Side.TheVariants.{Least, Greatest};
 ghost use Rattle.lsm_sorted.specs.Side.{toward};
 ghost use Rattle.lsm_sorted.specs.Slots.{slot_at};
-ghost use Rattle.lsm_sorted.specs.Brackets.{is_beaten, IsUnplayed, IsWon, IsWonButAbove, AreWon, AreWonButAbove};
+ghost use Rattle.lsm_sorted.specs.Brackets.{is_beaten, IsUnplayed, IsWon, IsWonButAbove, AreWon, AreWonButAbove, AreWonBut};
 
 use crate::side::Side;
 use std::alloc::{AllocError, Allocator};
@@ -21,6 +21,8 @@ pub struct Bracket<A: Allocator> {
 pub struct Brackets<A: Allocator> {
     pub(crate) least: Bracket<A>,
     pub(crate) greatest: Bracket<A>,
+    // The slot that the last pop emptied, above which the matches are still to be played.
+    pub(crate) emptied: Option<usize>,
     pub(crate) steps: u64,
 }
 
@@ -30,23 +32,43 @@ impl<A: Allocator + Clone> Brackets<A> {
         requires { 0 < leaves }
         ensures least { IfOk result (λ b. IsUnplayed leaves Least b.least) }
         ensures greatest { IfOk result (λ b. IsUnplayed leaves Greatest b.greatest) }
+        ensures emptied { IfOk result (λ b. b.emptied ≡ None) }
         ensures steps { IfOk result (λ b. b.steps ≡ 0) }
     {
         let least = Bracket::new(alloc.clone()?, Side::Least, leaves)?;
         Ok(Brackets {
             least,
             greatest: Bracket::new(alloc, Side::Greatest, leaves)?,
+            emptied: None,
             steps: 0,
         })
     }
 }
 
 impl<A: Allocator> Brackets<A> {
+    // Plays the matches that are still to be played.
+    pub(crate) fn settle<T: Ord>(&mut self, slots: &[Option<T>])
+        requires { AreWonBut self.old.emptied T.cmp slots.now self.old }
+        ensures won { AreWon T.cmp slots.now self.new }
+        ensures emptied { self.new.emptied ≡ None }
+        ensures rises { self.old.steps ≤ self.new.steps }
+        ensures bound { (h : ℕ) → length slots.now ≡ 2 ^ h → self.new.steps ≤ self.old.steps + 2 * h }
+    {
+        match self.emptied {
+            Some(slot) => {
+                self.emptied = None;
+                self.replay(slots, slot);
+            }
+            None => (),
+        }
+    }
+
     // Plays the matches above a slot again, after what it holds has changed.
     pub(crate) fn replay<T: Ord>(&mut self, slots: &[Option<T>], slot: usize)
         requires within { slot < length slots.now }
         requires won { AreWonButAbove T.cmp slots.now slot self.old }
         ensures won { AreWon T.cmp slots.now self.new }
+        ensures emptied { self.new.emptied ≡ self.old.emptied }
         ensures rises { self.old.steps ≤ self.new.steps }
         ensures bound { (h : ℕ) → length slots.now ≡ 2 ^ h → self.new.steps ≤ self.old.steps + 2 * h }
     {

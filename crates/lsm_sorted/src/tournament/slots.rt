@@ -1,5 +1,5 @@
 // Places for items, of which the free ones are listed.
-ghost use Rattle.std.specs.Prelude.{◌≡◌, ℕ, ◌+◌, ◌<◌, ◌≤◌, length, replicate, slice_index, slice_set, IfOk};
+ghost use Rattle.std.specs.Prelude.{◌≡◌, ℕ, ◌+◌, ◌<◌, ◌≤◌, [], ◌∷◌, ◌++◌, IfSome, length, replicate, slice_index, slice_set, IfOk};
 ghost use Rattle.std.specs.Vec.{vec_capacity};
 ghost use Rattle.lsm_sorted.specs.Slots.{items_of, slot_at};
 
@@ -18,7 +18,7 @@ impl<T, A: Allocator> Model for Slots<T, A> {
 
     ghost Value = { Places T };
 
-    ghost view = { λ s. record { places = s.places.items; room = vec_capacity s.free } };
+    ghost view = { λ s. record { places = s.places.items; room = vec_capacity s.free; free = s.free.items } };
 
     ghost invariant = { λ s. IsFreeList s.places.items s.free.items (vec_capacity s.free) };
 }
@@ -58,6 +58,7 @@ impl<T, A: Allocator> Slots<T, A> {
         ensures empty { slot_at self.old.places result ≡ None }
         ensures places { self.new.places ≡ slice_set self.old.places result (Some item) }
         ensures room { self.new.room ≡ self.old.room }
+        ensures last { self.old.free ≡ self.new.free ++ result ∷ [] }
     {
         let Some(slot) = self.free.pop() else {
             unreachable!()
@@ -74,6 +75,7 @@ impl<T, A: Allocator> Slots<T, A> {
         ensures value { result ≡ slot_at self.old.places slot }
         ensures places { self.new.places ≡ slice_set self.old.places slot None }
         ensures room { self.new.room ≡ self.old.room }
+        ensures last { IfSome result (λ _. self.new.free ≡ self.old.free ++ slot ∷ []) }
     {
         let item = self.places[slot].take()?;
         self.free.push_reserved(slot);

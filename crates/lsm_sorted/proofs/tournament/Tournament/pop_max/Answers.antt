@@ -4,22 +4,26 @@ use Rattle.std.proofs.lemmas.List.{length-set, set-get_or}
 use Rattle.lsm_sorted.specs.declared.side.Side.TheVariants.{Greatest}
 use Rattle.lsm_sorted.specs.Tournament.{Contest, height}
 use Rattle.lsm_sorted.specs.Slots.{items_of, slot_at}
-use Rattle.lsm_sorted.specs.Brackets.{is_beaten}
+use Rattle.lsm_sorted.specs.Brackets.{is_beaten, AreWon}
 use Rattle.lsm_sorted.proofs.SlotLemmas.{items_of-empty}
-use Rattle.lsm_sorted.proofs.TournamentLemmas.{IfNone-from, all_behind, none_left, winner_unbeaten, are_won_but_above, root_inside, plays_none, plays_at_most}
+use Rattle.lsm_sorted.proofs.TournamentLemmas.{IfNone-from, all_behind, none_left, winner_unbeaten, settles, won_open, opens, root_inside, plays_none, plays_at_most}
 use Rattle.lsm_sorted.proofs.tournament.Tournament.pop_max.Goals as goal
-use Rattle.lsm_sorted.proofs.tournament.Tournament.pop_max.Goals.{After-winner-slot, After-from_residual, After-replay}
+use Rattle.lsm_sorted.proofs.tournament.Tournament.pop_max.Goals.{After-winner-slot, After-from_residual, After-remove}
+
+-- both brackets are won
+won : (g : _) (c : After-winner-slot g) → AreWon g.T.Ord.cmp c.self.inside.slots.places c.settle.new.self
+won g c = rw c.as_slice.ensures at c.settle.ensures.won
 
 same_items : (g : _) (c : After-winner-slot g) → items_of c.self.inside.slots.places ≡ c.args.self.now.items
 same_items g c = ap (λ (t : Contest g.row.T.Denot). t.items) c.self.view_is
 
 -- no slot beats the one that wins
 wins : (g : _) (c : After-winner-slot g) (k : ℕ) → k < length c.self.inside.slots.places → is_beaten (flip_args g.T.Ord.cmp) (slot_at c.self.inside.slots.places c.winner-slot.result) (slot_at c.self.inside.slots.places k) ≡ false
-wins g c = winner_unbeaten g.T.Ord.cmp c.self.inside.slots.places g.met.T.Ord.total c.self.inside.brackets.greatest Greatest c.self.invariant.won.greatest_side c.self.invariant.won.greatest c.winner-slot.result c.winner-slot.ensures
+wins g c = winner_unbeaten g.T.Ord.cmp c.self.inside.slots.places g.met.T.Ord.total c.settle.new.self.greatest Greatest (won g c).greatest_side (won g c).greatest c.winner-slot.result c.winner-slot.ensures
 
 within : (g : _) (c : After-winner-slot g) → c.winner-slot.result < length c.self.inside.slots.places
 within g c =
-    rw c.winner-slot.ensures (c.self.invariant.won.greatest.nodes.within 1 (root_inside (length c.self.inside.slots.places) (length c.self.inside.brackets.greatest.nodes.items) (height c.self.inside.slots.room) c.self.invariant.leaves c.self.invariant.won.greatest.nodes.size))
+    rw c.winner-slot.ensures ((won g c).greatest.nodes.within 1 (root_inside (length c.self.inside.slots.places) (length c.settle.new.self.greatest.nodes.items) (height c.self.inside.slots.room) c.self.invariant.leaves (won g c).greatest.nodes.size))
 
 -- an empty slot was emptied
 same_places : (g : _) (c : After-from_residual g) → c.remove.new.self.places ≡ c.self.inside.slots.places
@@ -29,7 +33,7 @@ same_places g c =
     c.remove.ensures.places ∙ same
 
 -- there are as many slots as before
-same_leaves : (g : _) (c : After-replay g) → length c.remove.new.self.places ≡ 2 ^ height c.self.inside.slots.room
+same_leaves : (g : _) (c : After-remove g) → length c.remove.new.self.places ≡ 2 ^ height c.self.inside.slots.room
 same_leaves g c = rw (c.remove.ensures.places, length-set) c.self.invariant.leaves
 
 pub returns-in_err-item-clause-none : goal.returns-in_err-item-clause-none
@@ -44,10 +48,9 @@ returns-in_err-item-clause-unchanged g c =
     let none : items_of c.self.inside.slots.places ≡ [] = none_left (flip_args g.T.Ord.cmp) c.self.inside.slots.places (slot_at c.self.inside.slots.places c.winner-slot.result) c.in_err-item.ensures.value (wins g before) in
     IfNone-from _ _ (ap items_of (same_places g c) ∙ none)
 
-pub replay-requires-clause-won : goal.replay-requires-clause-won
-replay-requires-clause-won g c =
-    rw (c.as_slice.ensures, c.remove.ensures.places)
-    (are_won_but_above g.T.Ord.cmp c.self.inside.slots.places c.self.inside.brackets c.winner-slot.result None c.self.invariant.won)
+pub settle-requires : goal.settle-requires
+settle-requires g c =
+    rw c.as_slice.ensures (settles g.T.Ord.cmp c.self.inside.brackets.emptied c.self.inside.slots c.self.inside.brackets c.self.invariant.won)
 
 pub returns-clause-taken : goal.returns-clause-taken
 returns-clause-taken g c =
@@ -61,7 +64,9 @@ returns-clause-greatest g c =
     (all_behind (flip_args g.T.Ord.cmp) c.in_ok-item.item c.self.inside.slots.places (λ k low. rw c.in_ok-item.ensures.value (wins g before k low)))
 
 pub winner-slot-requires : goal.winner-slot-requires
-winner-slot-requires g c = root_inside (length c.self.inside.slots.places) (length c.self.inside.brackets.greatest.nodes.items) (height c.self.inside.slots.room) c.self.invariant.leaves c.self.invariant.won.greatest.nodes.size
+winner-slot-requires g c =
+    let w : AreWon g.T.Ord.cmp c.self.inside.slots.places c.settle.new.self = rw c.as_slice.ensures at c.settle.ensures.won in
+    root_inside (length c.self.inside.slots.places) (length c.settle.new.self.greatest.nodes.items) (height c.self.inside.slots.room) c.self.invariant.leaves w.greatest.nodes.size
 
 pub remove-requires : goal.remove-requires
 remove-requires g c = within g (goal.at.remove-requires g c).After-winner-slot
@@ -69,7 +74,7 @@ remove-requires g c = within g (goal.at.remove-requires g c).After-winner-slot
 pub invariant_of-self : goal.invariant_of-self
 invariant_of-self g c = record {
   leaves = rw (same_places g c, c.remove.ensures.room) c.self.invariant.leaves;
-  won = rw (same_places g c) c.self.invariant.won;
+  won = rw c.settle.ensures.emptied (won_open g.T.Ord.cmp _ c.settle.new.self None (rw (same_places g c) (won g (goal.at.invariant_of-self g c).After-winner-slot)));
 }
 
 pub returns-in_err-item-clause-taken : goal.returns-in_err-item-clause-taken
@@ -82,15 +87,12 @@ pub returns-in_err-item-clause-room : goal.returns-in_err-item-clause-room
 returns-in_err-item-clause-room g c = rw (← c.self.view_is) c.remove.ensures.room
 
 pub returns-in_err-item-clause-steps : goal.returns-in_err-item-clause-steps
-returns-in_err-item-clause-steps g c = plays_none _ _ _ (ap (λ (t : Contest g.row.T.Denot). t.steps) c.self.view_is)
-
-pub replay-requires-clause-within : goal.replay-requires-clause-within
-replay-requires-clause-within g c = rw (c.as_slice.ensures, c.remove.ensures.places, length-set) (within g (goal.at.replay-requires-clause-within g c).After-winner-slot)
+returns-in_err-item-clause-steps g c = rw (← c.self.view_is) (plays_at_most _ _ (length c.as_slice.result.now) (rw c.as_slice.ensures c.self.invariant.leaves) c.settle.ensures.rises c.settle.ensures.bound)
 
 pub invariant_of-self-2 : goal.invariant_of-self-2
 invariant_of-self-2 g c = record {
-  leaves = rw c.remove.ensures.room (same_leaves g c);
-  won = rw c.as_slice.ensures at c.replay.ensures.won;
+  leaves = rw c.remove.ensures.room (same_leaves g (goal.at.invariant_of-self-2 g c).After-remove);
+  won = opens g.T.Ord.cmp c.self.inside.slots.places c.remove.new.self c.settle.new.self c.winner-slot.result c.self.inside.slots.free (within g (goal.at.invariant_of-self-2 g c).After-winner-slot) (won g (goal.at.invariant_of-self-2 g c).After-winner-slot) c.remove.ensures.places c.in_ok-item.ensures.last;
 }
 
 pub returns-clause-none : goal.returns-clause-none
@@ -104,4 +106,4 @@ returns-clause-room g c = rw (← c.self.view_is) c.remove.ensures.room
 
 pub returns-clause-steps : goal.returns-clause-steps
 returns-clause-steps g c =
-    rw (← c.self.view_is) (plays_at_most _ _ (length c.as_slice.result.now) (rw c.as_slice.ensures (same_leaves g c)) c.replay.ensures.rises c.replay.ensures.bound)
+    rw (← c.self.view_is) (plays_at_most _ _ (length c.as_slice.result.now) (rw c.as_slice.ensures c.self.invariant.leaves) c.settle.ensures.rises c.settle.ensures.bound)

@@ -1,13 +1,13 @@
-use Rattle.std.proofs.Common.{ap}
+use Rattle.std.proofs.Common.{ap, None}
 use Rattle.lsm_sorted.specs.Tournament.{Contest}
 use Rattle.lsm_sorted.proofs.SlotLemmas.{items_of-fill}
-use Rattle.lsm_sorted.proofs.TournamentLemmas.{are_won_but_above}
+use Rattle.lsm_sorted.proofs.TournamentLemmas.{above_open, fills_open}
 use Rattle.lsm_sorted.proofs.tournament.Tournament.push.Goals as goal
 
 pub replay-requires-clause-won : goal.replay-requires-clause-won
 replay-requires-clause-won g c =
     rw (c.as_slice.ensures, c.insert-slot.ensures.places)
-    (are_won_but_above g.T.Ord.cmp c.self.inside.slots.places c.self.inside.brackets c.insert-slot.result _ c.self.invariant.won)
+    (above_open g.T.Ord.cmp _ c.insert-slot.result c.self.inside.brackets None (fills_open g.T.Ord.cmp c.self.inside.brackets.emptied c.self.inside.slots c.self.inside.brackets c.insert-slot.result _ _ c.self.invariant.won c.insert-slot.ensures.last))
 
 pub returns-clause-items : goal.returns-clause-items
 returns-clause-items g c =

@@ -3,7 +3,7 @@ use Rattle.std.proofs.lemmas.List.{length-replicate}
 use Rattle.lsm_sorted.specs.Tournament.{height}
 use Rattle.lsm_sorted.proofs.SlotLemmas.{items_of-replicate}
 use Rattle.lsm_sorted.proofs.HeightLemmas.{next_power_is}
-use Rattle.lsm_sorted.proofs.TournamentLemmas.{are_won_unplayed}
+use Rattle.lsm_sorted.proofs.TournamentLemmas.{won_open, are_won_unplayed}
 use Rattle.lsm_sorted.proofs.tournament.Tournament.with_capacity.Goals as goal
 
 pub returns-clause-empty : goal.returns-clause-empty
@@ -12,5 +12,5 @@ returns-clause-empty g c = rw c.in_ok-new.ensures.places (items_of-replicate {T 
 pub invariant_of-result : goal.invariant_of-result
 invariant_of-result g c = record {
   leaves = ap length c.in_ok-new.ensures.places ∙ length-replicate {A = Option g.row.T.Denot} c.in-Some.leaves None ∙ next_power_is c.args.capacity c.in-Some.leaves c.in-Some.ensures ∙ ap (λ n. 2 ^ height n) (sym c.in_ok-new.ensures.room);
-  won = are_won_unplayed g.T.Ord.cmp c.in_ok-new.field-0.places c.in-Some.leaves c.in_ok-brackets.brackets c.in_ok-new.ensures.places c.in_ok-brackets.ensures.least c.in_ok-brackets.ensures.greatest;
+  won = rw c.in_ok-brackets.ensures.emptied (won_open g.T.Ord.cmp c.in_ok-new.field-0.places c.in_ok-brackets.brackets None (are_won_unplayed g.T.Ord.cmp c.in_ok-new.field-0.places c.in-Some.leaves c.in_ok-brackets.brackets c.in_ok-new.ensures.places c.in_ok-brackets.ensures.least c.in_ok-brackets.ensures.greatest));
 }
