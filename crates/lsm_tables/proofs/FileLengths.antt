@@ -20,7 +20,7 @@ use Rattle.sst_blocks.proofs.Numbers.{wide4}
 use Rattle.lsm_writers.specs.Chunks.{joined}
 use Rattle.lsm_writers.specs.Facts.{count_after, one_if, lowest_seqno, highest_seqno}
 use Rattle.lsm_writers.specs.Index.{last_entry, handle_of, handles_from, handles, block_size, data_block, data_section}
-use Rattle.lsm_tables.specs.Fits.{EntryFits, BlockFits}
+use Rattle.lsm_writers.specs.Fits.{EntryFits, BlockFits}
 use Rattle.lsm_tables.proofs.ChunkReads.{AreSome, before_trans, later, length-block, strict_front, strict_after}
 
 -- ---- entries and their blocks

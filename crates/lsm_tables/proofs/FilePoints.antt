@@ -28,7 +28,7 @@ use Rattle.lsm_writers.specs.Index.{handles, data_block, data_section}
 use Rattle.lsm_writers.specs.MetaBlock.{meta_entries}
 use Rattle.lsm_writers.specs.Options.{Options, Label}
 use Rattle.lsm_tables.specs.Answer.{lifted, lift, read_told, answer_told}
-use Rattle.lsm_tables.specs.Fits.{EntryFits, BlockFits, Fits}
+use Rattle.lsm_writers.specs.Fits.{EntryFits, BlockFits, Fits}
 use Rattle.lsm_tables.specs.Parts.{Parts, recovered_told}
 use Rattle.lsm_tables.proofs.ChunkReads.{AreSome, ReadsChunk, ReadsBy, chunk_read, length-block, strict_front, strict_after}
 use Rattle.lsm_tables.proofs.FileLengths.{last_fits, last_some, all_front, all_behind, after_within, lowest_fits, highest_below, section_wide, chunk_reads, index_reads}
@@ -37,9 +37,11 @@ use Rattle.lsm_tables.specs.Load.{meta_told}
 use Rattle.lsm_tables.specs.Parts.{index_told}
 use Rattle.lsm_tables.specs.Regions.{regions_told}
 use Rattle.std.proofs.lemmas.List.Concat.{flat_map-append}
-use Rattle.lsm_tables.proofs.FileReads.{the_index, the_meta, the_version, the_regions, is_body, length-body, regions_read, index_read, meta_read, w}
+use Rattle.lsm_tables.proofs.FileReads.{the_index, the_meta, the_version, is_body, w}
+use Rattle.lsm_tables.proofs.FileParts.{some_chunks, facts_are, index_is}
+use Rattle.lsm_writers.specs.Table.{IsTable}
 use Rattle.lsm_tables.proofs.MetaBlocks.{meta_reads, meta_length}
-use Rattle.lsm_tables.proofs.MetaReads.{FactsFit, written_facts}
+use Rattle.lsm_tables.proofs.MetaReads.{written_facts}
 use Rattle.lsm_tables.proofs.Recovered.{Steps, steps}
 
 -- ---- numbers with the global number added
@@ -79,96 +81,21 @@ none_low (e ∷ es) key bound low =
     let here : bound ≤ e.seqno = omega (arith, low) in
     rw (high_missed key bound e here) (none_low es key bound (omega (arith, low)))
 
--- ---- what a list says fits
-
-first_short : (v : TableVersion) (es : List Entry) → AllByRecursion (EntryFits v) es → length (unwrap_or (first_key es) []) ≤ longest_key v
-first_short v [] fits = omega arith
-first_short v (e ∷ es) fits = (fits.0).key
-
-last_short : (v : TableVersion) (es : List Entry) → AllByRecursion (EntryFits v) es → length (unwrap_or (last_key es) []) ≤ longest_key v
-unfolding last_of
-last_short v [] fits = omega arith
-last_short v (e ∷ es) fits = rw (last_some e es) ((last_fits v e es fits).key)
-
-longest_below : (v : TableVersion) → longest_key v ≤ 1048576
-longest_below V3 = omega arith
-longest_below V4 = omega arith
-
-facts_fit : (v : TableVersion) (label : Label) (options : Options) (cs : List (List Entry)) → length (data_section v cs) < 2 ^ 63 → Fits v label options cs → FactsFit label options cs v counted_blocks
-facts_fit v label options cs short fits =
-    let es = joined cs in
-    let wide = section_wide v cs in
-    record {
-      id = fits.id;
-      created_at = fits.created_at;
-      interval = fits.interval;
-      items = omega arith;
-      tombstones = omega (arith, count_by-le-length is_tombstone es);
-      weak = omega (arith, count_by-le-length is_weak es);
-      reclaimable = omega (arith, after_within is_reclaimable None es);
-      lowest = lowest_fits es;
-      highest = highest_below v es fits.entries;
-      data_blocks = omega arith;
-      index_blocks = omega arith;
-      filter_blocks = omega arith;
-      file_size = omega arith;
-    }
-
 pub any_front : (last : Option Entry) (c : List Entry) → IsStrictAfter last c → IsStrict c
 unfolding IsStrictAfter
 any_front last [] h = tt
 any_front last (x ∷ xs) h = (refl, h.1)
 
--- ---- what a recovered table's parts are
-
-ok_same : {A : Type 0} (r : Result A Error) (a b : A) → r ≡ Ok a → r ≡ Ok b → a ≡ b
-ok_same (Ok x) a b p q = let pa : x ≡ a = cc in let qb : x ≡ b = cc in sym pa ∙ qb
-ok_same (Err e) a b p q = absurd cc
-
-meta_short : (v : TableVersion) (label : Label) (options : Options) (cs : List (List Entry)) → Fits v label options cs → length (payload v (meta_entries v label options cs counted_blocks)) + 24 < 2 ^ 32
-meta_short v label options cs fits =
-    omega (arith, meta_length v label options cs counted_blocks, first_short v (joined cs) fits.entries, last_short v (joined cs) fits.entries, longest_below v)
-
--- the facts and the handles of the written list
-record Told (v : TableVersion) (label : Label) (cs : List (List Entry)) (parts : Parts) : Type 0 where
-  pub facts : parts.facts ≡ written_facts v label cs counted_blocks
-  pub index : parts.index ≡ handles v cs
-
 module _ (v : TableVersion) (label : Label) (options : Options) (cs : List (List Entry)) (g : ℕ) (parts : Parts)
-    (short : length (finished (w v label options cs)) < 2 ^ 63) (some : AreSome cs) (strict : IsStrict (joined cs)) (fits : Fits v label options cs) (told : recovered_told (finished (w v label options cs)) g ≡ Ok parts) where
+    (short : length (finished (w v label options cs)) < 2 ^ 63) (some : AreSome cs) (strict : IsStrict (joined cs)) (fits : Fits v label cs) (told : recovered_told (finished (w v label options cs)) g ≡ Ok parts) where
   abbrev the_bytes : List ℕ
   the_bytes = finished (w v label options cs)
 
-  body_short : length (w v label options cs).bytes < 2 ^ 63
-  body_short = omega (arith, short, length-append (w v label options cs).bytes (trailer (w v label options cs)))
+  facts_here : parts.facts ≡ written_facts v label cs counted_blocks
+  facts_here = facts_are v label options cs short some strict fits g parts told
 
-  data_short : length (data_section v cs) < 2 ^ 63
-  data_short = omega (arith, body_short, length-body v label options cs)
-
-  the_steps : Steps the_bytes g parts
-  the_steps = steps the_bytes g parts told
-
-  regions_are : parts.regions ≡ the_regions v label options cs
-  regions_are =
-      let index = length-block v Index (handles_payload v (handles v cs)) in
-      let meta = length-block v Meta (payload v (meta_entries v label options cs counted_blocks)) in
-      ok_same (regions_told (map (section_in the_bytes) section_names)) parts.regions (the_regions v label options cs) (the_steps.regions)
-      (regions_read v label options cs (omega (arith, body_short)) (omega (arith, index, fits.index)) (omega (arith, meta, meta_short v label options cs fits)))
-
-  pub facts_are : parts.facts ≡ written_facts v label cs counted_blocks
-  facts_are =
-      let e = ap (λ (r : ParsedRegions). meta_told (body_of the_bytes) r.metadata) regions_are in
-      let key = longest_below v in
-      ok_same (meta_told (body_of the_bytes) parts.regions.metadata) parts.facts (written_facts v label cs counted_blocks) (the_steps.facts)
-      (e ∙ meta_read v label options cs (omega (arith, meta_short v label options cs fits))
-      (meta_reads v label options cs counted_blocks (omega (arith, first_short v (joined cs) fits.entries, key)) (omega (arith, last_short v (joined cs) fits.entries, key)))
-      (facts_fit v label options cs data_short fits))
-
-  pub index_is : parts.index ≡ handles v cs
-  index_is =
-      let e = ap (λ (r : ParsedRegions). index_told (body_of the_bytes) r) regions_are in
-      ok_same (index_told (body_of the_bytes) parts.regions) parts.index (handles v cs) (the_steps.index)
-      (e ∙ index_read v label options cs (omega (arith, fits.index)) (index_reads v cs (omega (arith, data_short)) some strict fits.entries fits.blocks fits.index))
+  index_here : parts.index ≡ handles v cs
+  index_here = index_is v label options cs short some strict fits g parts told
 
   -- the block of a chunk is loaded by its handle
   chunk_at : (before behind : List (List Entry)) (c : List Entry) → cs ≡ before ++ c ∷ behind → length (payload v c) < 2 ^ 32 → entries_in v (payload v c) ≡ Some c → load_told (body_of the_bytes) (length (data_section v before)) (24 + length (payload v c)) Data ≡ Ok (record { version = v; kind = Data; payload = payload v c })
@@ -221,20 +148,17 @@ module _ (v : TableVersion) (label : Label) (options : Options) (cs : List (List
   unfolding answer_told
   answers key bound =
       let seen : option_map (lifted g) (find (is_hit key (bound - g)) (joined cs)) ≡ point (lift (joined cs) g) key bound = sym (lifted_point key bound) in
-      rw (facts_are, index_is) (low_or_read key bound (leb (bound - g) (lowest_seqno (joined cs))) refl ∙ ap (λ (o : Option Entry). Ok o) seen)
+      rw (facts_here, index_here) (low_or_read key bound (leb (bound - g) (lowest_seqno (joined cs))) refl ∙ ap (λ (o : Option Entry). Ok o) seen)
 
--- each chunk of a cut list has an entry
-pub some_chunks : (size : ℕ) (spills : List ℕ) (at : ℕ) (cs : List (List Entry)) → AreChunksFrom size spills at cs → AreSome cs
-some_chunks size spills at [] h = tt
-some_chunks size spills at (c ∷ cs) h = ((h.0).some, some_chunks size spills (at + length c) cs h.2)
-
-pub file_answers : (v : TableVersion) (stored : List ℕ) (label : Label) (options : Options) (spills : List ℕ) (es : List Entry) (f : IsFile v stored label options spills es) (g : ℕ) (parts : Parts) → IsStrict es → Fits v label options f.blocks → length stored < 2 ^ 63 → recovered_told stored g ≡ Ok parts → (key : List ℕ) (bound : ℕ) → answer_told (body_of stored) g parts key bound ≡ Ok (point (lift es g) key bound)
-file_answers v stored label options spills es f g parts strict fits short told key bound =
+pub file_answers : (label : Label) (options : Options) (stored : List ℕ) (es : List Entry) (t : IsTable label options stored es) (g : ℕ) (parts : Parts) → length stored < 2 ^ 63 → recovered_told stored g ≡ Ok parts → (key : List ℕ) (bound : ℕ) → answer_told (body_of stored) g parts key bound ≡ Ok (point (lift es g) key bound)
+file_answers label options stored es t g parts short told key bound =
+    let v = t.version in
+    let f = t.file in
     let cs = f.blocks in
     let short_file : length (finished (w v label options cs)) < 2 ^ 63 = subst (λ (b : List ℕ). length b < 2 ^ 63) f.are short in
     let told_file : recovered_told (finished (w v label options cs)) g ≡ Ok parts = subst (λ (b : List ℕ). recovered_told b g ≡ Ok parts) f.are told in
-    let line : IsStrict (joined cs) = subst IsStrict (sym (f.chunks).whole) strict in
-    let some = some_chunks options.data_block_size spills 0 cs (f.chunks).each in
+    let line : IsStrict (joined cs) = subst IsStrict (sym (f.chunks).whole) t.strict in
+    let some = some_chunks options.data_block_size t.spills 0 cs (f.chunks).each in
     ap (λ (b : List ℕ). answer_told (body_of b) g parts key bound) f.are
-    ∙ answers v label options cs g parts short_file some line fits told_file key bound
+    ∙ answers v label options cs g parts short_file some line t.fits told_file key bound
     ∙ ap (λ (xs : List Entry). Ok (point (lift xs g) key bound)) (f.chunks).whole

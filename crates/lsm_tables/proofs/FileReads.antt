@@ -24,9 +24,10 @@ use Rattle.lsm_writers.specs.Options.{Options, Label}
 use Rattle.lsm_tables.specs.declared.regions.ParsedRegions.{ParsedRegions}
 use Rattle.lsm_tables.specs.Regions.{regions_told, section_named}
 use Rattle.lsm_tables.specs.Load.{meta_told}
+use Rattle.lsm_tables.specs.Meta.{facts_told}
+use Rattle.lsm_tables.specs.OfList.{regions_said}
 use Rattle.lsm_tables.specs.Parts.{index_told}
 use Rattle.lsm_tables.proofs.ChunkReads.{length-block}
-use Rattle.lsm_tables.proofs.MetaReads.{FactsFit, facts_read, written_facts}
 
 module _ (v : TableVersion) (label : Label) (options : Options) (cs : List (List Entry)) where
   abbrev pub the_index : List ℕ
@@ -51,7 +52,7 @@ module _ (v : TableVersion) (label : Label) (options : Options) (cs : List (List
   pub length-body : length w.bytes ≡ length the_data + (length the_index + (1 + length the_meta))
   length-body = omega (arith, ap length body_is, length-append the_data (the_index ++ (the_version ++ the_meta)), length-append the_index (the_version ++ the_meta), length-append the_version the_meta)
 
-  ascending : AreAscending (length w.bytes) w.started
+  pub ascending : AreAscending (length w.bytes) w.started
   ascending = (omega (arith, length-body), (omega (arith, length-body), (omega (arith, length-body), (omega (arith, length-body), tt))))
 
   -- where the index and the meta block lie
@@ -75,7 +76,7 @@ module _ (v : TableVersion) (label : Label) (options : Options) (cs : List (List
 
   -- the parts of the table
   abbrev pub the_regions : ParsedRegions
-  the_regions = record { tli = record { offset = length the_data; size = length the_index }; index = None; filter_tli = None; filter = None; metadata = record { offset = length the_data + length the_index + 1; size = length the_meta } }
+  the_regions = regions_said v label options cs
 
   regions_from : (toc : List (Option Section)) → section_named toc FilterTli ≡ None → section_named toc Tli ≡ Some tli_place → section_named toc IndexSection ≡ None → section_named toc FilterSection ≡ None → section_named toc MetaSection ≡ Some meta_place → length the_index < 2 ^ 32 → length the_meta < 2 ^ 32 → regions_told toc ≡ Ok the_regions
   unfolding regions_told
@@ -119,5 +120,5 @@ module _ (v : TableVersion) (label : Label) (options : Options) (cs : List (List
   pub index_read : length (handles_payload v (handles v cs)) < 2 ^ 32 → handles_in v (handles_payload v (handles v cs)) ≡ Some (handles v cs) → index_told (body_of (finished w)) the_regions ≡ Ok (handles v cs)
   index_read short reads = rw (index_at short reads, reads) refl
 
-  pub meta_read : length (payload v (meta_entries v label options cs counted_blocks)) < 2 ^ 32 → entries_in v (payload v (meta_entries v label options cs counted_blocks)) ≡ Some (meta_entries v label options cs counted_blocks) → FactsFit label options cs v counted_blocks → meta_told (body_of (finished w)) the_regions.metadata ≡ Ok (written_facts v label cs counted_blocks)
-  meta_read short reads fit = rw (meta_at short reads, reads) (facts_read v label options cs counted_blocks fit)
+  pub meta_items_read : length (payload v (meta_entries v label options cs counted_blocks)) < 2 ^ 32 → entries_in v (payload v (meta_entries v label options cs counted_blocks)) ≡ Some (meta_entries v label options cs counted_blocks) → meta_told (body_of (finished w)) the_regions.metadata ≡ facts_told (meta_entries v label options cs counted_blocks)
+  meta_items_read short reads = rw (meta_at short reads, reads) refl

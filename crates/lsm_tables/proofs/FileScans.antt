@@ -25,14 +25,16 @@ use Rattle.lsm_writers.specs.Facts.{highest_seqno}
 use Rattle.lsm_writers.specs.File.{IsFile}
 use Rattle.lsm_writers.specs.Index.{handles, data_block, data_section}
 use Rattle.lsm_writers.specs.Options.{Options, Label}
+use Rattle.lsm_writers.specs.Table.{IsTable}
 use Rattle.lsm_tables.specs.Answer.{lifted, lift}
-use Rattle.lsm_tables.specs.Fits.{EntryFits, BlockFits, Fits}
+use Rattle.lsm_writers.specs.Fits.{EntryFits, BlockFits, Fits}
 use Rattle.lsm_tables.specs.Meta.{Facts}
 use Rattle.lsm_tables.specs.Parts.{Parts, recovered_told}
-use Rattle.lsm_tables.specs.Scan.{lifted_told, behind, blocks_told, then_blocks, entries_told, up_to_error, entries_from, scan_told, fault_of, Scan, ScansNext}
+use Rattle.lsm_tables.specs.Scan.{lifted_told, behind, blocks_told, then_blocks, entries_told, up_to_error, entries_from, scan_told, fault_of, Scan, ScansList, ScansNext}
 use Rattle.lsm_tables.proofs.ChunkReads.{AreSome, length-block, strict_front, strict_after}
 use Rattle.lsm_tables.proofs.FileLengths.{all_front, all_behind, chunk_reads}
-use Rattle.lsm_tables.proofs.FilePoints.{any_front, some_chunks, facts_are}
+use Rattle.lsm_tables.proofs.FileParts.{some_chunks, facts_are}
+use Rattle.lsm_tables.proofs.FilePoints.{any_front}
 use Rattle.lsm_tables.proofs.FileReads.{the_index, the_meta, the_version, is_body, w}
 use Rattle.lsm_tables.proofs.Recovered.{steps}
 use Rattle.lsm_tables.proofs.Scans.{lifted_ok, memory_is}
@@ -127,10 +129,10 @@ some_scan v [] post body g some reads fits e = absurd (omega (arith, some))
 some_scan v (c ∷ cs) post body g some reads fits e = chunks_scan v c cs post body g reads fits e
 
 module _ (v : TableVersion) (label : Label) (options : Options) (cs : List (List Entry)) (g : ℕ) (parts : Parts)
-    (short : length (finished (w v label options cs)) < 2 ^ 63) (some : AreSome cs) (strict : IsStrict (joined cs)) (fits : Fits v label options cs) (told : recovered_told (finished (w v label options cs)) g ≡ Ok parts) where
+    (short : length (finished (w v label options cs)) < 2 ^ 63) (some : AreSome cs) (strict : IsStrict (joined cs)) (fits : Fits v label cs) (told : recovered_told (finished (w v label options cs)) g ≡ Ok parts) where
   written_scan : 0 < length (joined cs) → Scans (body_of (finished (w v label options cs))) parts.facts.data_block_count g (all_ok (lift (joined cs) g))
   written_scan any =
-      let are = facts_are v label options cs g parts short some strict fits told in
+      let are = facts_are v label options cs short some strict fits g parts told in
       let count : parts.facts.data_block_count ≡ length cs = ap (λ (f : Facts). f.data_block_count) are in
       let high : parts.facts.seqno_max ≡ highest_seqno (joined cs) = ap (λ (f : Facts). f.seqno_max) are in
       let fit : highest_seqno (joined cs) + g < 2 ^ 64 = subst (λ (n : ℕ). n + g < 2 ^ 64) high (steps (finished (w v label options cs)) g parts told).fits in
@@ -138,16 +140,18 @@ module _ (v : TableVersion) (label : Label) (options : Options) (cs : List (List
       subst (λ (n : ℕ). Scans (body_of (finished (w v label options cs))) n g (all_ok (lift (joined cs) g))) (sym count)
       (some_scan v cs others (body_of (finished (w v label options cs))) g any (all_read v None cs strict fits.entries fits.blocks) fit (is_body v label options cs))
 
-file_scans : (v : TableVersion) (stored : List ℕ) (label : Label) (options : Options) (spills : List ℕ) (es : List Entry) (f : IsFile v stored label options spills es) (g : ℕ) (parts : Parts) → IsStrict es → Fits v label options f.blocks → length stored < 2 ^ 63 → recovered_told stored g ≡ Ok parts → 0 < length es → Scans (body_of stored) parts.facts.data_block_count g (all_ok (lift es g))
-file_scans v stored label options spills es f g parts strict fits short told any =
+file_scans : (label : Label) (options : Options) (stored : List ℕ) (es : List Entry) (t : IsTable label options stored es) (g : ℕ) (parts : Parts) → length stored < 2 ^ 63 → recovered_told stored g ≡ Ok parts → 0 < length es → Scans (body_of stored) parts.facts.data_block_count g (all_ok (lift es g))
+file_scans label options stored es t g parts short told any =
+    let v = t.version in
+    let f = t.file in
     let cs = f.blocks in
     let short_file : length (finished (w v label options cs)) < 2 ^ 63 = subst (λ (b : List ℕ). length b < 2 ^ 63) f.are short in
     let told_file : recovered_told (finished (w v label options cs)) g ≡ Ok parts = subst (λ (b : List ℕ). recovered_told b g ≡ Ok parts) f.are told in
     let whole = (f.chunks).whole in
-    let line : IsStrict (joined cs) = subst IsStrict (sym whole) strict in
+    let line : IsStrict (joined cs) = subst IsStrict (sym whole) t.strict in
     let entries : 0 < length (joined cs) = subst (λ (xs : List Entry). 0 < length xs) (sym whole) any in
-    let some = some_chunks options.data_block_size spills 0 cs (f.chunks).each in
-    let written = written_scan v label options cs g parts short_file some line fits told_file entries in
+    let some = some_chunks options.data_block_size t.spills 0 cs (f.chunks).each in
+    let written = written_scan v label options cs g parts short_file some line t.fits told_file entries in
     let by_list = subst (λ (xs : List Entry). Scans (body_of (finished (w v label options cs))) parts.facts.data_block_count g (all_ok (lift xs g))) whole written in
     subst (λ (b : List ℕ). Scans (body_of b) parts.facts.data_block_count g (all_ok (lift es g))) (sym f.are) by_list
 
@@ -193,18 +197,15 @@ empty_refused v stored label options spills es f none =
 
 -- ---- what a scan of a table of a list answers
 
-abbrev Opens : Result Scan Error → List Entry → ℕ → Type 0
-Opens r es g = MatchResult r (λ s. (stops : Error → Bool) → stops OutOfMemory ≡ true → Deals (stopped stops) ScansNext nowhere s (all_ok (lift es g))) (λ e. 0 < length es → e ≡ OutOfMemory)
-
 opens : (r : Result Scan Error) (body : List ℕ) (count g : ℕ) (es : List Entry) (fault : Error) → (length es ≡ 0 → load_at_told body 0 Data ≡ Err fault) → (0 < length es → Scans body count g (all_ok (lift es g)))
-    → ((stops : Error → Bool) → stops OutOfMemory ≡ true → IfOk r (λ s. Deals (stopped stops) ScansNext nowhere s (scan_told body count g))) → Faults r (fault_of (load_at_told body 0 Data)) → Opens r es g
+    → ((stops : Error → Bool) → stops OutOfMemory ≡ true → IfOk r (λ s. Deals (stopped stops) ScansNext nowhere s (scan_told body count g))) → Faults r (fault_of (load_at_told body 0 Data)) → ScansList r es g
 opens (Ok s) body count g [] fault none some deals faults = absurd (let no : None ≡ Some fault = sym faults ∙ ap fault_of (none refl) in cc)
 opens (Err e) body count g [] fault none some deals faults = λ more. absurd (omega (arith, more))
 opens (Ok s) body count g (x ∷ xs) fault none some deals faults =
     λ stops memory. subst (λ (ys : List (Result Entry Error)). Deals (stopped stops) ScansNext nowhere s ys) (some (omega arith)).all (deals stops memory)
 opens (Err e) body count g (x ∷ xs) fault none some deals faults = λ more. memory_alone (load_at_told body 0 Data) (some more).first e (some more).loads faults
 
-pub file_opens : (v : TableVersion) (stored : List ℕ) (label : Label) (options : Options) (spills : List ℕ) (es : List Entry) (f : IsFile v stored label options spills es) (g : ℕ) (parts : Parts) → IsStrict es → Fits v label options f.blocks → length stored < 2 ^ 63 → recovered_told stored g ≡ Ok parts → (r : Result Scan Error)
-    → ((stops : Error → Bool) → stops OutOfMemory ≡ true → IfOk r (λ s. Deals (stopped stops) ScansNext nowhere s (scan_told (body_of stored) parts.facts.data_block_count g))) → Faults r (fault_of (load_at_told (body_of stored) 0 Data)) → Opens r es g
-file_opens v stored label options spills es f g parts strict fits short told r deals faults =
-    opens r (body_of stored) parts.facts.data_block_count g es (InvalidTag BlockTypeTag 1) (empty_refused v stored label options spills es f) (file_scans v stored label options spills es f g parts strict fits short told) deals faults
+pub file_opens : (label : Label) (options : Options) (stored : List ℕ) (es : List Entry) (t : IsTable label options stored es) (g : ℕ) (parts : Parts) → length stored < 2 ^ 63 → recovered_told stored g ≡ Ok parts → (r : Result Scan Error)
+    → ((stops : Error → Bool) → stops OutOfMemory ≡ true → IfOk r (λ s. Deals (stopped stops) ScansNext nowhere s (scan_told (body_of stored) parts.facts.data_block_count g))) → Faults r (fault_of (load_at_told (body_of stored) 0 Data)) → ScansList r es g
+file_opens label options stored es t g parts short told r deals faults =
+    opens r (body_of stored) parts.facts.data_block_count g es (InvalidTag BlockTypeTag 1) (empty_refused t.version stored label options t.spills es t.file) (file_scans label options stored es t g parts short told) deals faults

@@ -7,6 +7,8 @@ pub mod MetaReads
 pub mod FileLengths
 pub mod MetaBlocks
 pub mod FileReads
+pub mod FileParts
 pub mod FilePoints
+pub mod Ends
 pub mod Scans
 pub mod FileScans

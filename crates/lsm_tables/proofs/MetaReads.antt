@@ -1,8 +1,8 @@
 -- What a written meta block tells.
-use Rattle.std.proofs.Common.{◌≡◌, ℕ, ◌^◌, ◌<◌, cond, List, [], ◌∷◌, ◌++◌, length, refl, sym, ap, ◌∙◌, arith}
+use Rattle.std.proofs.Common.{◌≡◌, ℕ, ◌^◌, ◌<◌, cond, List, [], ◌∷◌, ◌++◌, length, refl, sym, ap, ◌∙◌, arith, inl, inr}
 use Rattle.std.specs.Prelude.{Ok, Err}
 use Rattle.std.proofs.lemmas.List.{append-nil}
-use Rattle.std.proofs.lemmas.Bool.{le-ltb}
+use Rattle.std.proofs.lemmas.Bool.{cases_Bool, eqb-true, le-ltb}
 use Rattle.sst_blocks.specs.declared.version.TableVersion.{TableVersion}
 use Rattle.sst_blocks.specs.declared.version.TableVersion.TheVariants.{V3, V4}
 use Rattle.sst_entries.specs.Entry.{Entry}
@@ -17,10 +17,10 @@ use Rattle.lsm_writers.specs.Options.{Options, Label}
 use Rattle.lsm_tables.specs.declared.item_name.ItemName.{ItemName}
 use Rattle.lsm_tables.specs.declared.item_name.ItemName.TheVariants.{TableId, ItemCount, TombstoneCount, BlockCountData, BlockCountIndex, BlockCountFilter, FileSize, WeakTombstoneCount, WeakTombstoneReclaimable, CreatedAt, KeyMin, KeyMax, SeqnoMin, SeqnoMax, TableVersion as VersionItem, FilterHashType, ChecksumType, RestartIntervalIndex, CompressionData, CompressionIndex}
 use Rattle.lsm_tables.specs.ItemName.{name_of}
-use Rattle.std.specs.Prelude.{nat_eq, ◌||◌}
+use Rattle.std.specs.Prelude.{nat_eq, ◌||◌, ◌==◌, false}
 use Rattle.std.specs.Cmp.Lexicographic.{pointwise}
 use Rattle.byteorder.specs.Numbers.{little_number-reads_back}
-use Rattle.sst_entries.specs.declared.error.Error.TheVariants.{UnsupportedTableVersion}
+use Rattle.sst_entries.specs.declared.error.Error.TheVariants.{UnsupportedTableVersion, UnsupportedIndexInterval}
 use Rattle.lsm_ranges.specs.KeyRange.{interval}
 use Rattle.lsm_tables.specs.Meta.{Facts, item_told, u64_told, version_told, kinds_told, byte_told, first_told, compressions_told, created_told, keys_told, seqnos_told, triple_told, facts_told}
 
@@ -157,6 +157,21 @@ module _ (v : TableVersion) (label : Label) (options : Options) (cs : List (List
   kinds_read : options.index_block_restart_interval ≡ 1 → kinds_told es ≡ Ok tt
   unfolding kinds_told byte_told first_told
   kinds_read one = rw (item-FilterHashType, item-ChecksumType, item-RestartIntervalIndex, one) refl
+
+  kinds_refused : (options.index_block_restart_interval == 1) ≡ false → kinds_told es ≡ Err UnsupportedIndexInterval
+  unfolding kinds_told byte_told first_told
+  kinds_refused other = rw (item-FilterHashType, item-ChecksumType, item-RestartIntervalIndex, other) refl
+
+  -- where the items are read, the interval is 1
+  pub interval_read : (f : Facts) → facts_told es ≡ Ok f → options.index_block_restart_interval ≡ 1
+  unfolding facts_told
+  interval_read f told = elim (cases_Bool (options.index_block_restart_interval == 1)) [
+    | inl one ↦ eqb-true _ _ one
+    | inr other ↦
+        let refused : facts_told es ≡ Err UnsupportedIndexInterval = rw (version_read, kinds_refused other) refl in
+        let no : Err UnsupportedIndexInterval ≡ Ok f = sym refused ∙ told in
+        absurd cc
+  ]
 
   compressions_read : compressions_told es ≡ Ok tt
   unfolding compressions_told first_told

@@ -17,7 +17,7 @@ use Rattle.sst_blocks.specs.Opened.{counted}
 use Rattle.sst_entries.specs.Stream.{Answers, Deals, CanDeal, first, but_first, front_of, nowhere, stopped}
 use Rattle.sst_entries.proofs.StreamLemmas.{head_eq, deals_by, can_by}
 use Rattle.lsm_tables.specs.Answer.{lifted}
-use Rattle.lsm_tables.specs.Scan.{lifted_told, then_blocks, behind, blocks_told, entries_told, up_to_error, entries_from, scan_told, fault_of, block_told, Scan, scan_left, ended, IsEnded, TakesEntry, ScanHas, loads, ScansNext, scan_size}
+use Rattle.lsm_tables.specs.Scan.{IsEnded, Scan, ScanHas, ScansNext, TakesEntry, behind, block_told, blocks_told, ended, entries_from, entries_told, fault_of, lifted_told, loads, loads_behind, loads_from, loads_of, scan_left, scan_size, scan_told, then_blocks, unless_left, up_to_error}
 use Rattle.lsm_tables.specs.Told.{◌>>=◌}
 
 abbrev R : Type 0
@@ -164,9 +164,10 @@ pub record Reached (s u : Scan) : Type 0 where
   pub count : ℕ
   pub counts : u.opened ≡ loads count s.opened
   pub falls : count + u.blocks ≡ s.blocks
+  pub needs : count + loads_of u ≡ loads_of s
 
 pub reached_first : (s : Scan) → Reached s s
-reached_first s = record { left = refl; ended = λ e. e; count = 0; counts = refl; falls = omega arith }
+reached_first s = record { left = refl; ended = λ e. e; count = 0; counts = refl; falls = omega arith; needs = omega arith }
 
 ended_too : (s u : Scan) (m : Type 0) → (IsEnded s → IsEnded u) → IsEnded s ⊎ m → IsEnded u ⊎ m
 ended_too s u m on (inl e) = inl (on e)
@@ -188,6 +189,14 @@ moved_is u s es next o same counts = ap (λ (p : Opened). record (moved u es nex
 next_is : (u : Scan) (n : ℕ) → u.entries ≡ [] → u.blocks ≡ suc n → scan_left u ≡ next_left u.body u.global_seqno n (block_told u.body u.position)
 next_is u n none some = ap (λ (es : List Entry). entries_from u.body u.global_seqno es u.position u.blocks) none ∙ ap (λ (k : ℕ). entries_from u.body u.global_seqno [] u.position k) some ∙ block_left u.body u.global_seqno u.position n
 
+needs_first : (u : Scan) (n : ℕ) → u.entries ≡ [] → u.blocks ≡ suc n → loads_of u ≡ suc (loads_behind (block_told u.body u.position) (λ next. loads_from u.body next n))
+unfolding loads_from
+needs_first u n none some = rw (none, some) refl
+
+needs_next : (u : Scan) (n : ℕ) (es : List Entry) (next : ℕ) → u.entries ≡ [] → u.blocks ≡ suc n → block_told u.body u.position ≡ Ok (es, next) → loads_of u ≡ suc (unless_left es (loads_from u.body next n))
+needs_next u n es next none some told =
+    needs_first u n none some ∙ ap (λ (r : Result (List Entry × ℕ) Error). suc (loads_behind r (λ next. loads_from u.body next n))) told
+
 pub reached_next : (s u : Scan) (es : List Entry) (next : ℕ) → Reached s u → u.entries ≡ [] → 0 < u.blocks → block_told u.body u.position ≡ Ok (es, next) → Reached s (moved u es next)
 reached_next s u es next reached none some told =
     let n = u.blocks - 1 in
@@ -198,6 +207,7 @@ reached_next s u es next reached none some told =
       count = suc reached.count;
       counts = ap (counted Data) reached.counts;
       falls = omega (arith, reached.falls, some);
+      needs = omega (arith, reached.needs, needs_next u n es next none k told);
     }
 
 -- ---- the answers
@@ -207,6 +217,12 @@ has_entry s e es some done = let no : [] ≡ e ∷ es = sym done.0 ∙ some in c
 
 has_block : (s : Scan) → 0 < s.blocks → IsEnded s → ⊥
 has_block s some done = omega (arith, some, done.1)
+
+-- where an entry is left, no more blocks are needed
+all_loaded : (s u : Scan) (e : Entry) (es : List Entry) (reached : Reached s u) → u.entries ≡ e ∷ es → reached.count ≡ loads_of s
+all_loaded s u e es reached some =
+    let none : loads_of u ≡ 0 = ap (λ (xs : List Entry). unless_left xs (loads_from u.body u.position u.blocks)) some in
+    omega (arith, reached.needs, none)
 
 entry_ok : (s u : Scan) (e : Entry) (es : List Entry) (x : Entry) → Reached s u → u.entries ≡ e ∷ es → lifted_told u.global_seqno e ≡ Ok x → ScansNext s (Some (Ok x)) (record u { entries = es })
 entry_ok s u e es x reached some told =
@@ -220,6 +236,9 @@ entry_ok s u e es x reached some told =
       count = reached.count;
       counts = reached.counts;
       within = omega (arith, reached.falls);
+      exact = λ _. all_loaded s u e es reached some;
+      most = omega (arith, all_loaded s u e es reached some);
+      some = λ more. omega (arith, more, all_loaded s u e es reached some);
       falls = reached.falls;
     }
 
@@ -234,6 +253,9 @@ entry_err s u e es fault reached some told =
       count = reached.count;
       counts = reached.counts;
       within = omega (arith, reached.falls);
+      exact = λ _. all_loaded s u e es reached some;
+      most = omega (arith, all_loaded s u e es reached some);
+      some = λ more. omega (arith, more, all_loaded s u e es reached some);
       falls = tt;
     }
 
@@ -253,6 +275,9 @@ fault_is : {X : Type 0} (r : Result X Error) (e : Error) → fault_of r ≡ Some
 fault_is (Ok x) e h = absurd cc
 fault_is (Err f) e h = let same : f ≡ e = cc in ap (λ (x : Error). Err x) same
 
+one_load : (u : Scan) (n : ℕ) {e : Error} → block_told u.body u.position ≡ Err e → loads_behind (block_told u.body u.position) (λ next. loads_from u.body next n) ≡ 0
+one_load u n told = ap (λ (r : Result (List Entry × ℕ) Error). loads_behind r (λ next. loads_from u.body next n)) told
+
 pub scans_fault : (s u t : Scan) (e : Error) → Reached s u → u.entries ≡ [] → 0 < u.blocks → (is_memory e ≡ false → fault_of (block_told u.body u.position) ≡ Some e) → t ≡ halted u → ScansNext s (Some (Err e)) t
 scans_fault s u t e reached none some told is =
     let n = u.blocks - 1 in
@@ -264,6 +289,9 @@ scans_fault s u t e reached none some told is =
       count = suc reached.count;
       counts = ap (counted Data) reached.counts;
       within = omega (arith, reached.falls, some);
+      exact = λ m. omega (arith, reached.needs, needs_first u n none k, one_load u n (fault_is (block_told u.body u.position) e (told m)));
+      most = omega (arith, reached.needs, needs_first u n none k);
+      some = λ _. omega arith;
       falls = tt;
     } in
     subst (ScansNext s (Some (Err e))) (sym is) step
@@ -280,6 +308,10 @@ not_some : (n : ℕ) → (0 < n → ⊥) → n ≡ 0
 not_some zero h = refl
 not_some (suc n) h = absurd (h (omega arith))
 
+no_loads : (u : Scan) → IsEnded u → loads_of u ≡ 0
+unfolding loads_from
+no_loads u done = rw (done.0, done.1) refl
+
 -- nothing is left
 pub scans_none : (s u : Scan) → AtEnd s u → (0 < u.blocks → ⊥) → ScansNext s None u
 scans_none s u end last =
@@ -290,6 +322,9 @@ scans_none s u end last =
       count = (end.reached).count;
       counts = (end.reached).counts;
       within = omega (arith, (end.reached).falls);
+      exact = λ _. omega (arith, (end.reached).needs, no_loads u done);
+      most = omega (arith, (end.reached).needs, no_loads u done);
+      some = λ more. omega (arith, more, (end.reached).needs, no_loads u done);
       falls = tt;
     }
 

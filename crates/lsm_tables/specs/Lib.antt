@@ -8,6 +8,6 @@ pub mod Seen
 pub mod Answer
 pub mod TableSeen
 pub mod Handled
-pub mod Fits
+pub mod OfList
 pub mod Scan
 pub mod Range

@@ -1,5 +1,5 @@
 -- A scan of a table: its blocks one behind another, and their entries.
-use Rattle.std.specs.Prelude.{◌≡◌, ℕ, zero, suc, ◌+◌, ◌-◌, ◌^◌, ◌≤◌, max, nat_lt, Bool, true, List, [], ◌∷◌, ◌++◌, length, map, Option, Some, None, MatchOption, Result, Ok, Err, IfErr, MatchResult, ◌⊎◌, if◌then◌else◌}
+use Rattle.std.specs.Prelude.{◌≡◌, ℕ, zero, suc, ◌+◌, ◌-◌, ◌^◌, ◌<◌, ◌≤◌, max, nat_lt, Bool, true, false, List, [], ◌∷◌, ◌++◌, length, map, Option, Some, None, MatchOption, Result, Ok, Err, IfErr, MatchResult, ◌⊎◌, if◌then◌else◌}
 use Rattle.std.specs.List.{flat_map}
 use Rattle.sst_blocks.specs.declared.block_type.BlockType.TheVariants.{Data}
 use Rattle.sst_entries.specs.declared.error.Error.{Error}
@@ -7,10 +7,10 @@ use Rattle.sst_entries.specs.declared.error.Error.TheVariants.{OutOfMemory, SeqN
 use Rattle.sst_blocks.specs.declared.opened.Opened.{Opened}
 use Rattle.sst_blocks.specs.Block.{Loaded, load_at_told, entries_of}
 use Rattle.sst_entries.specs.Entry.{Entry}
-use Rattle.sst_entries.specs.Error.{Gives}
+use Rattle.sst_entries.specs.Error.{Gives, is_memory}
 use Rattle.sst_blocks.specs.Opened.{counted}
-use Rattle.sst_entries.specs.Stream.{Answers, front_of}
-use Rattle.lsm_tables.specs.Answer.{lifted}
+use Rattle.sst_entries.specs.Stream.{Answers, Deals, all_ok, front_of, nowhere, stopped}
+use Rattle.lsm_tables.specs.Answer.{lifted, lift}
 use Rattle.lsm_tables.specs.Told.{◌>>=◌}
 
 -- an entry with the global number added, where the sum fits
@@ -96,15 +96,44 @@ abbrev pub loads : ℕ → Opened → Opened
 loads zero o = o
 loads (suc n) o = counted Data (loads n o)
 
--- one call: it gives the first of what is left; an error ends it for good; each load counts, and lowers the number of blocks by one
+-- none where an entry is left, else so many
+abbrev pub unless_left : List Entry → ℕ → ℕ
+unless_left [] n = n
+unless_left (e ∷ es) n = 0
+
+-- how many blocks are loaded behind one: none where it has an entry or cannot be loaded, else those behind it
+abbrev pub loads_behind : Result (List Entry × ℕ) Error → (ℕ → ℕ) → ℕ
+loads_behind (Ok block) more = unless_left block.0 (more block.1)
+loads_behind (Err e) more = 0
+
+-- of so many blocks from a position on, those up to the first that has an entry or cannot be loaded
+unfoldable pub loads_from : List ℕ → ℕ → ℕ → ℕ
+loads_from body position zero = 0
+loads_from body position (suc n) = suc (loads_behind (block_told body position) (λ next. loads_from body next n))
+
+-- how many blocks the next entry needs
+abbrev pub loads_of : Scan → ℕ
+loads_of s = unless_left s.entries (loads_from s.body s.position s.blocks)
+
+-- one call: it gives the first of what is left; an error ends it for good; each load counts, and lowers the number of blocks by one. As many blocks are loaded as the next entry needs; want of memory may stop
+-- at any of them
 pub record ScansNext (s : Scan) (r : Option (Result Entry Error)) (t : Scan) : Type 0 where
   pub answers : Answers (λ _. Unit {0}) ScanHas front_of s r t
   pub ends : MatchOption r (IsEnded t) (λ x. IfErr x (λ _. IsEnded t))
   pub count : ℕ
   pub counts : t.opened ≡ loads count s.opened
   pub within : count ≤ s.blocks
+  pub exact : stopped is_memory r ≡ false → count ≡ loads_of s
+  pub most : count ≤ loads_of s
+  pub some : 0 < loads_of s → 0 < count
   pub falls : MatchOption r (Unit {0}) (λ x. MatchResult x (λ _. count + t.blocks ≡ s.blocks) (λ _. Unit {0}))
 
 -- how many items come at most
 abbrev pub scan_size : Scan → ℕ
 scan_size s = length (scan_left s) + s.blocks
+
+-- a scan of a table of a list deals it, its numbers lifted; where the list has an entry, nothing but want of memory refuses
+abbrev pub ScansList : Result Scan Error → List Entry → ℕ → Type 0
+ScansList r es g = MatchResult r
+    (λ s. (stops : Error → Bool) → stops OutOfMemory ≡ true → Deals (stopped stops) ScansNext nowhere s (all_ok (lift es g)))
+    (λ e. 0 < length es → e ≡ OutOfMemory)

@@ -1,26 +1,24 @@
 //! Tables: opening a table's bytes, and reading from them.
-ghost use Rattle.std.specs.Prelude.{◌≡◌, ◌+◌, ◌<◌, ℕ, Bool, List, [], Option, Some, Result, Ok, Err, true, length, IfOk, IfErr, MatchResult};
+ghost use Rattle.std.specs.Prelude.{◌≡◌, ◌+◌, ◌<◌, ℕ, Bool, List, [], Option, Some, Result, Ok, Err, false, true, length, IfOk, IfErr, MatchResult};
 ghost use Rattle.sst_blocks.specs.Block.{Loaded, load_told, load_at_told};
 ghost use Rattle.sst_entries.specs.Entry.{Entry};
 ghost use Rattle.sst_entries.specs.Error.{Faults, Gives};
 ghost use Rattle.sst_blocks.specs.Fnv.{fnv1a};
 ghost use Rattle.sst_blocks.specs.Opened.{counted, none_opened};
 ghost use Rattle.sst_blocks.specs.Sections.{body_of};
-ghost use Rattle.sst_blocks.specs.declared.version.TableVersion.{TableVersion};
-ghost use Rattle.sst_entries.specs.Point.{point};
+ghost use Rattle.sst_entries.specs.Point.{point, within};
 ghost use Rattle.sst_entries.specs.Stream.{CanDeal, Deals, all_ok, nowhere, stopped};
-ghost use Rattle.sst_entries.specs.Strict.{IsStrict};
 ghost use Rattle.sst_blocks.specs.declared.block_type.BlockType.TheVariants.{Data, Index};
 ghost use Rattle.sst_entries.specs.declared.error.Error.{Error};
 ghost use Rattle.sst_entries.specs.declared.error.Error.TheVariants.{OutOfMemory};
 ghost use Rattle.lsm_ranges.specs.KeyRange.{bound_of, reaches};
-ghost use Rattle.lsm_writers.specs.File.{IsFile};
+ghost use Rattle.lsm_writers.specs.Table.{IsTable};
 ghost use Rattle.lsm_writers.specs.Options.{Options, Label};
 ghost use Rattle.lsm_tables.specs.Answer.{answer_told, handle_for, lift, Opens};
-ghost use Rattle.lsm_tables.specs.Fits.{Fits};
+ghost use Rattle.lsm_tables.specs.OfList.{ends_of, list_told, parts_said};
 ghost use Rattle.lsm_tables.specs.Handled.{IsRecovered, IsOpen};
 ghost use Rattle.lsm_tables.specs.Parts.{recovered_told, parts_told, fitting_told, index_told, number_told, size_of};
-ghost use Rattle.lsm_tables.specs.Scan.{Scan, fault_of, scan_told};
+ghost use Rattle.lsm_tables.specs.Scan.{Scan, ScansList, fault_of, scan_told};
 ghost use Rattle.lsm_tables.specs.Seen.{parts_of, facts_of};
 ghost use Rattle.lsm_tables.specs.TableSeen.{TableSeen};
 
@@ -182,6 +180,10 @@ impl<A: Allocator + Clone> Table<A> {
         pin_index: bool,
     ) -> Result<Table<A>, Error>
         ensures told { Gives (λ (t : TableSeen). t.parts) result (recovered_told bytes global_seqno) }
+        // A table of a list that readers read is opened where the highest number fits, and says of itself what the list says.
+        ensures list { (label : Label) (options : Options) (es : List Entry)
+            (t : IsTable label options bytes es) → options.index_block_restart_interval ≡ 1 →
+            Gives (λ (t : TableSeen). t.parts) result (list_told label options bytes es t global_seqno) }
         ensures bytes { IfOk result (λ t. t.bytes ≡ bytes) }
         ensures numbers { IfOk result (λ t. (t.global_seqno ≡ global_seqno) × (t.tree_id ≡ tree_id) × (t.checksum ≡ checksum.0)) }
     {
@@ -230,7 +232,9 @@ impl<A: Allocator + Clone> Table<A> {
         ensures told { Gives (λ (found : Option Entry). found) result (answer_told (body_of self.now.bytes) self.now.global_seqno self.now.parts key.now seqno) }
         ensures recovered { IsRecovered self.now }
         // On a table of a list it is the first match in the list, its numbers lifted.
-        ensures file { (v : TableVersion) (label : Label) (options : Options) (spills : List ℕ) (es : List Entry) (f : IsFile v self.now.bytes label options spills es) → IsStrict es → Fits v label options f.blocks → Gives (λ (found : Option Entry). found) result (Ok (point (lift es self.now.global_seqno) key.now seqno)) }
+        ensures list { (label : Label) (options : Options) (es : List Entry) →
+            IsTable label options self.now.bytes es →
+            Gives (λ (found : Option Entry). found) result (Ok (point (lift es self.now.global_seqno) key.now seqno)) }
     {
         self.get_counted(key, seqno, key_hash).0
     }
@@ -247,7 +251,8 @@ impl<A: Allocator + Clone> Table<A> {
         ensures opened { IfOk result (λ s. s.opened ≡ counted Data none_opened) }
         // On a table of a list it is the list, its numbers lifted; where the list has an entry, nothing but want of memory
         // refuses it.
-        ensures file { (v : TableVersion) (label : Label) (options : Options) (spills : List ℕ) (es : List Entry) (f : IsFile v self.now.bytes label options spills es) → IsStrict es → Fits v label options f.blocks → MatchResult result (λ s. (stops : Error → Bool) → stops OutOfMemory ≡ true → Deals (stopped stops) ⟦<Scanner<A> as Iterator>⟧.next_gives nowhere s (all_ok (lift es self.now.global_seqno))) (λ e. 0 < length es → e ≡ OutOfMemory) }
+        ensures list { (label : Label) (options : Options) (es : List Entry) →
+            IsTable label options self.now.bytes es → ScansList result es self.now.global_seqno }
         ensures open { IsOpen self.now }
     {
         let shared: &Shared<A> = &self.0;
@@ -262,6 +267,16 @@ impl<A: Allocator + Clone> Table<A> {
 }
 
 impl<A: Allocator> Table<A> {
+    /// A law, which does nothing: a table of a list says of itself what the list says, and its key range is the list's ends.
+    pub fn tells_its_list(&self)
+        ensures parts { (label : Label) (options : Options) (es : List Entry)
+            (t : IsTable label options self.now.bytes es) → self.now.parts ≡ parts_said label options self.now.bytes es t }
+        ensures range { (label : Label) (options : Options) (es : List Entry) →
+            IsTable label options self.now.bytes es → ⟦<Table<A> as Ranged>⟧.range self.now ≡ ends_of es }
+    {
+        let _shared: &Shared<A> = &self.0;
+    }
+
     /// The table's id.
     pub fn id(&self) -> TableId
         ensures { result ≡ self.now.parts.facts.id }
@@ -326,10 +341,13 @@ impl<A: Allocator> Table<A> {
         self.0.inner.regions.tli.size() as usize - Header::serialized_len()
     }
 
-    /// Whether the table's key range reaches past both bounds. Where it does not, no key of the table lies within them.
+    /// Whether the key range that the table says reaches past both bounds. On a table of a list, where it does not, no key of
+    /// the list lies within them.
     pub fn check_key_range_overlap(&self, bounds: &(Bound<&[u8]>, Bound<&[u8]>)) -> bool
-        ensures { result ≡ reaches (bound_of bounds.now.0) (bound_of bounds.now.1)
+        ensures value { result ≡ reaches (bound_of bounds.now.0) (bound_of bounds.now.1)
             self.now.parts.facts.key_range }
+        ensures list { result ≡ false → (label : Label) (options : Options) (es : List Entry) →
+            IsTable label options self.now.bytes es → within (bound_of bounds.now.0) (bound_of bounds.now.1) es ≡ [] }
     {
         self.0.inner.metadata.key_range.overlaps_with_bounds(bounds)
     }

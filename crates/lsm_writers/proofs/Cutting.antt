@@ -26,6 +26,7 @@ use Rattle.lsm_writers.specs.Chunks.{joined}
 use Rattle.lsm_writers.specs.declared.writer.meta.Metadata.{Metadata}
 use Rattle.lsm_writers.specs.Cut.{chunks_in, IsReadable, AreCut, with_cut, rest_of}
 use Rattle.lsm_writers.specs.Facts.{last_key}
+use Rattle.lsm_writers.specs.Fits.{BlockFits}
 use Rattle.lsm_writers.specs.Index.{data_block, data_section, handles, handles_from, handle_of, block_size, last_entry}
 use Rattle.lsm_writers.proofs.Listing.{all-append, all_of}
 use Rattle.lsm_writers.proofs.Orders.{last_of-append, last_of_cons, HasSome, handles_strict}
@@ -223,3 +224,8 @@ at_least_blocks cs w hs last failed old = omega (arith, ap length old.bytes, len
 
 pub exact_blocks : (cs : List (List Entry)) (w : Written) (hs : List Handle) (last : Option Entry) (failed : Bool) → AreCut cs w hs last failed → failed ≡ false → length w.bytes ≡ length (data_section V4 cs)
 exact_blocks cs w hs last failed old works = ap length (old.bytes ∙ ap (λ (x : List ℕ). data_section V4 cs ++ x) (old.whole works) ∙ append-nil (data_section V4 cs))
+
+-- the blocks that were cut fit
+pub blocks_fit : (cs : List (List Entry)) → AllByRecursion (IsReadable V4) cs → AllByRecursion (BlockFits V4) cs
+blocks_fit [] h = tt
+blocks_fit (c ∷ cs) h = (record { short = h.0.short }, blocks_fit cs h.1)

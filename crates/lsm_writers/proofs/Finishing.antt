@@ -1,12 +1,15 @@
 -- A finished table: its index, its meta block and its sections.
-use Rattle.std.proofs.Common.{◌≡◌, refl, sym, ◌∙◌, ap, subst, ℕ, ◌+◌, ◌*◌, ◌<◌, ◌≤◌, Bool, true, false, List, [], ◌∷◌, ◌++◌, length, take, arith, length-append}
-use Rattle.std.specs.Prelude.{None, unwrap_or}
-use Rattle.std.specs.List.{AllByRecursion}
-use Rattle.std.proofs.lemmas.Bool.{ltb-false, le-ltb}
+use Rattle.std.proofs.Common.{◌≡◌, refl, sym, ◌∙◌, ap, subst, ℕ, ◌+◌, ◌*◌, ◌<◌, ◌≤◌, Bool, true, false, List, [], ◌∷◌, ◌++◌, length, take, arith, length-append, ◌^◌, inl, inr}
+use Rattle.std.specs.Prelude.{None, unwrap_or, sum_by}
+use Rattle.std.specs.List.{AllByRecursion, flat_map}
+use Rattle.std.proofs.lemmas.Bool.{cases_lt, le-ltb}
 use Rattle.std.proofs.lemmas.List.{append-nil, nil_from_length}
 use Rattle.std.proofs.lemmas.List.Sums.{sum_by-cons}
 use Rattle.sst_blocks.specs.declared.version.TableVersion.TheVariants.{V4}
-use Rattle.sst_blocks.specs.Bounds.{index_block_bound_of}
+use Rattle.sst_blocks.specs.Bounds.{index_block_bound_of, handle_bound}
+use Rattle.sst_blocks.specs.Handle.{Handle}
+use Rattle.sst_blocks.specs.Handles.{handle_spelled, handles_payload}
+use Rattle.sst_blocks.proofs.HandleLaws.{length-handle_spelled}
 use Rattle.sst_blocks.specs.Encoding.{is_long_key, key_fault, entries_fault, large_fault}
 use Rattle.sst_entries.specs.Entry.{Entry}
 use Rattle.sst_blocks.specs.Fnv.{fnv1a}
@@ -19,7 +22,8 @@ use Rattle.lsm_writers.specs.Counts.{metadata_of, counted_facts}
 use Rattle.lsm_writers.specs.Cut.{rest_of}
 use Rattle.lsm_writers.specs.Facts.{Facts, first_key, last_key}
 use Rattle.lsm_writers.specs.File.{counted_blocks, file}
-use Rattle.lsm_writers.specs.Held.{IsShort, IsShortest, IsHeld}
+use Rattle.lsm_writers.specs.Fits.{EntryFits, BlockFits, LabelFits, Fits}
+use Rattle.lsm_writers.specs.Held.{IsShortest, IsHeld}
 use Rattle.lsm_writers.specs.Index.{handles, handles_from, last_entry, block_size}
 use Rattle.lsm_writers.specs.MetaBlock.{Blocks, meta_entry, meta_items, meta_entries}
 use Rattle.lsm_writers.specs.Options.{Options, Label}
@@ -28,7 +32,7 @@ use Rattle.lsm_writers.specs.Writing.{Writing, written, spilled, blocks_of, spil
 use Rattle.lsm_writers.proofs.Chunking.{are_chunks}
 use Rattle.lsm_writers.proofs.Listing.{all_of, all_back, all_front}
 use Rattle.lsm_writers.proofs.Orders.{last_of_cons}
-use Rattle.lsm_writers.proofs.Taking.{no_fault}
+use Rattle.lsm_writers.proofs.Taking.{no_fault, large_is}
 
 -- ---- the index
 
@@ -37,15 +41,15 @@ unfolding last_of
 last_all P e [] h = h.0
 last_all P e (f ∷ es) h = last_all P f es h.1
 
-short_keys_from : (size : ℕ) (at : ℕ) (cs : List (List Entry)) → AllByRecursion (IsShortest size) cs → AllByRecursion IsShort (joined cs) → key_fault (handles_from V4 at cs) ≡ None
+short_keys_from : (size : ℕ) (at : ℕ) (cs : List (List Entry)) → AllByRecursion (IsShortest size) cs → AllByRecursion (EntryFits V4) (joined cs) → key_fault (handles_from V4 at cs) ≡ None
 short_keys_from size at [] some h = refl
 short_keys_from size at ([] ∷ cs) some h = absurd (omega (arith, some.0.some))
 short_keys_from size at ((e ∷ es) ∷ cs) some h =
     let c = e ∷ es in
-    let key : is_long_key (last_entry c).user_key ≡ false = (last_all IsShort e es (all_front IsShort c (joined cs) h)).key in
-    rw key (short_keys_from size (at + block_size V4 c) cs some.1 (all_back IsShort c (joined cs) h))
+    let key : is_long_key (last_entry c).user_key ≡ false = le-ltb _ _ (last_all (EntryFits V4) e es (all_front (EntryFits V4) c (joined cs) h)).key in
+    rw key (short_keys_from size (at + block_size V4 c) cs some.1 (all_back (EntryFits V4) c (joined cs) h))
 
-pub short_keys : (size : ℕ) (cs : List (List Entry)) → AllByRecursion (IsShortest size) cs → AllByRecursion IsShort (joined cs) → key_fault (handles V4 cs) ≡ None
+pub short_keys : (size : ℕ) (cs : List (List Entry)) → AllByRecursion (IsShortest size) cs → AllByRecursion (EntryFits V4) (joined cs) → key_fault (handles V4 cs) ≡ None
 short_keys size cs some h = short_keys_from size 0 cs some h
 
 -- without entries there are no chunks
@@ -55,6 +59,24 @@ no_chunks size (c ∷ cs) some h = absurd (omega (arith, h, length-append c (joi
 
 pub no_index_fault : (cs : List (List Entry)) → cs ≡ [] → large_fault (index_block_bound_of (handles V4 cs)) ≡ None
 no_index_fault cs h = rw h refl
+
+-- the block of the handles is as long as its bound says
+handles_len : (hs : List Handle) → length (flat_map (handle_spelled V4) hs) ≡ sum_by handle_bound hs
+handles_len [] = refl
+handles_len (h ∷ hs) = omega (arith, handles_len hs, length-handle_spelled V4 h, length-append (handle_spelled V4 h) (flat_map (handle_spelled V4) hs), sum_by-cons handle_bound h hs)
+
+payload_len : (hs : List Handle) → length (handles_payload V4 hs) ≡ 4 + sum_by handle_bound hs
+unfolding handles_payload
+payload_len hs = omega (arith, handles_len hs, wide4.len (length hs), length-append (le4 (length hs)) (flat_map (handle_spelled V4) hs))
+
+not_large : (n : ℕ) → large_fault n ≡ None → n < 2 ^ 32
+not_large n h = elim (cases_lt n (2 ^ 32)) [
+  | inl lt ↦ lt
+  | inr le ↦ let no = sym (large_is n le) ∙ h in absurd cc
+]
+
+pub index_fits : (hs : List Handle) → large_fault (index_block_bound_of hs) ≡ None → 24 + length (handles_payload V4 hs) < 2 ^ 32
+index_fits hs h = omega (arith, not_large (index_block_bound_of hs) h, payload_len hs)
 
 -- ---- the meta block
 
@@ -68,22 +90,23 @@ items_strict label options counted f a b d = (refl, (refl, (refl, (refl, (refl, 
 record IsSmall (e : Entry) : Type 0 where
   key : length e.user_key ≤ 64
   value : length e.value ≤ 1048576
+  number : e.seqno ≡ 0
 
 small8 : (name : List ℕ) (n : ℕ) → length name ≤ 64 → IsSmall (meta_entry name (le8 n))
-small8 name n h = record { key = h; value = omega (arith, wide8.len n) }
+small8 name n h = record { key = h; value = omega (arith, wide8.len n); number = refl }
 
 small4 : (name : List ℕ) (n : ℕ) → length name ≤ 64 → IsSmall (meta_entry name (le4 n))
-small4 name n h = record { key = h; value = omega (arith, wide4.len n) }
+small4 name n h = record { key = h; value = omega (arith, wide4.len n); number = refl }
 
 len16 : (n : ℕ) → length (le16 n) ≡ 16
 unfolding le16
 len16 n = refl
 
 small16 : (name : List ℕ) (n : ℕ) → length name ≤ 64 → IsSmall (meta_entry name (le16 n))
-small16 name n h = record { key = h; value = omega (arith, len16 n) }
+small16 name n h = record { key = h; value = omega (arith, len16 n); number = refl }
 
-small_short : (e : Entry) → IsSmall e → IsShort e
-small_short e h = record { key = le-ltb _ _ (omega (arith, h.key)); value = omega (arith, h.value) }
+small_fits : (e : Entry) → IsSmall e → EntryFits V4 e
+small_fits e h = record { key = omega (arith, h.key); value = omega (arith, h.value); number = omega (arith, h.number) }
 
 small_sum : (es : List Entry) → AllByRecursion IsSmall es → size_of es ≤ 1048640 * length es
 small_sum [] h = omega arith
@@ -97,13 +120,13 @@ items_small label options counted f a b d top low = (
     (
       small8 _ _ (omega arith),
       (
-        record { key = omega arith; value = omega arith },
+        record { key = omega arith; value = omega arith; number = refl },
         (
-          record { key = omega arith; value = omega arith },
+          record { key = omega arith; value = omega arith; number = refl },
           (
-            record { key = omega arith; value = omega arith },
+            record { key = omega arith; value = omega arith; number = refl },
             (
-              record { key = omega arith; value = omega arith },
+              record { key = omega arith; value = omega arith; number = refl },
               (
                 small16 _ _ (omega arith),
                 (
@@ -111,27 +134,27 @@ items_small label options counted f a b d top low = (
                   (
                     small8 _ _ (omega arith),
                     (
-                      record { key = omega arith; value = omega arith },
+                      record { key = omega arith; value = omega arith; number = refl },
                       (
-                        record { key = omega arith; value = omega arith },
+                        record { key = omega arith; value = omega arith; number = refl },
                         (
-                          record { key = omega arith; value = omega arith },
+                          record { key = omega arith; value = omega arith; number = refl },
                           (
                             small8 _ _ (omega arith),
                             (
-                              record { key = omega arith; value = top },
+                              record { key = omega arith; value = top; number = refl },
                               (
-                                record { key = omega arith; value = low },
+                                record { key = omega arith; value = low; number = refl },
                                 (
                                   small8 _ _ (omega arith),
                                   (
-                                    record { key = omega arith; value = omega arith },
+                                    record { key = omega arith; value = omega arith; number = refl },
                                     (
-                                      record { key = omega arith; value = omega arith },
+                                      record { key = omega arith; value = omega arith; number = refl },
                                       (
-                                        record { key = omega arith; value = omega arith },
+                                        record { key = omega arith; value = omega arith; number = refl },
                                         (
-                                          record { key = omega arith; value = omega arith },
+                                          record { key = omega arith; value = omega arith; number = refl },
                                           (
                                             small8 _ _ (omega arith),
                                             (
@@ -139,7 +162,7 @@ items_small label options counted f a b d top low = (
                                               (
                                                 small8 _ _ (omega arith),
                                                 (
-                                                  record { key = omega arith; value = omega arith },
+                                                  record { key = omega arith; value = omega arith; number = refl },
                                                   (
                                                     small8 _ _ (omega arith),
                                                     (
@@ -184,19 +207,19 @@ items_fit label options counted f a b d top low =
     let es = meta_items V4 label options counted f a b d in
     let small = items_small label options counted f a b d top low in
     let n : length es ≡ 29 = refl in
-    no_fault es (all_of IsSmall IsShort es small_short small) (omega (arith, small_sum es small, n))
+    no_fault es (all_of IsSmall (EntryFits V4) es small_fits small) (omega (arith, small_sum es small, n))
 
-pub first_short : (es : List Entry) → AllByRecursion IsShort es → length (unwrap_or (first_key es) []) ≤ 1048576
+pub first_short : (es : List Entry) → AllByRecursion (EntryFits V4) es → length (unwrap_or (first_key es) []) ≤ 1048576
 first_short [] h = omega arith
-first_short (e ∷ es) h = ltb-false _ _ h.0.key
+first_short (e ∷ es) h = h.0.key
 
 last_nothing : last_of None [] ≡ None
 unfolding last_of
 last_nothing = refl
 
-pub last_short : (es : List Entry) → AllByRecursion IsShort es → length (unwrap_or (last_key es) []) ≤ 1048576
+pub last_short : (es : List Entry) → AllByRecursion (EntryFits V4) es → length (unwrap_or (last_key es) []) ≤ 1048576
 last_short [] h = rw last_nothing (omega arith)
-last_short (e ∷ es) h = rw (last_of_cons None e es) (ltb-false _ _ (last_all IsShort e es h).key)
+last_short (e ∷ es) h = rw (last_of_cons None e es) (last_all (EntryFits V4) e es h).key
 
 -- ---- a writer that has nothing pending
 
@@ -204,13 +227,13 @@ pub none_pending : {A : Type 0} (size : ℕ) (cs : List (List Entry)) (pending :
 none_pending size cs pending n m h e = subst (λ (p : List Entry). IsHeld size cs p n m) e h
 
 pub held_keys : {A : Type 0} (size : ℕ) (cs : List (List Entry)) (n : ℕ) (m : Metadata A) → IsHeld size cs [] n m → key_fault (handles V4 cs) ≡ None
-held_keys size cs n m h = short_keys size cs h.shortest (all_front IsShort (joined cs) [] h.short)
+held_keys size cs n m h = short_keys size cs h.shortest (all_front (EntryFits V4) (joined cs) [] h.fits)
 
 pub held_items_fit : {A : Type 0} (label : Label) (options : Options) (size : ℕ) (cs : List (List Entry)) (n : ℕ) (m : Metadata A) → IsHeld size cs [] n m
     → entries_fault (meta_items V4 label options counted_blocks (counted_facts m) m.data_block_count m.file_pos.0 m.uncompressed_size) ≡ None
 held_items_fit label options size cs n m h =
-    let top : length (unwrap_or m.last_key []) ≤ 1048576 = rw h.counted (last_short (joined cs) (all_front IsShort (joined cs) [] h.short)) in
-    let low : length (unwrap_or m.first_key []) ≤ 1048576 = rw h.counted (first_short (joined cs ++ []) h.short) in
+    let top : length (unwrap_or m.last_key []) ≤ 1048576 = rw h.counted (last_short (joined cs) (all_front (EntryFits V4) (joined cs) [] h.fits)) in
+    let low : length (unwrap_or m.first_key []) ≤ 1048576 = rw h.counted (first_short (joined cs ++ []) h.fits) in
     items_fit label options counted_blocks (counted_facts m) m.data_block_count m.file_pos.0 m.uncompressed_size top low
 
 -- ---- a writer whose pending entries were cut off
@@ -252,16 +275,19 @@ written_all w h = append-nil (joined (blocks_of w)) ∙ (all_written w h).whole
 pub written_strict : {A : Type 0} (w : Writing) (n : ℕ) (m : Metadata A) → IsHeld w.options.data_block_size (blocks_of w) [] n m → IsStrict (written w)
 written_strict w n m h = subst (λ (es : List Entry). IsStrict es) (written_all w h.shortest) h.strict
 
-pub written_short : {A : Type 0} (w : Writing) (n : ℕ) (m : Metadata A) → IsHeld w.options.data_block_size (blocks_of w) [] n m → AllByRecursion IsShort (written w)
-written_short w n m h = subst (λ (es : List Entry). AllByRecursion IsShort es) (written_all w h.shortest) h.short
+pub written_fits : {A : Type 0} (w : Writing) (n : ℕ) (m : Metadata A) → IsHeld w.options.data_block_size (blocks_of w) [] n m → AllByRecursion (EntryFits V4) (written w)
+written_fits w n m h = subst (λ (es : List Entry). AllByRecursion (EntryFits V4) es) (written_all w h.shortest) h.fits
 
 pub finished_is : {A : Type 0} (w : Writing) (n : ℕ) (m : Metadata A) (id checksum : ℕ) (bytes : List ℕ) → IsHeld w.options.data_block_size (blocks_of w) [] n m → (m.item_count ≡ 0 → ⊥)
-    → id ≡ w.label.table_id → checksum ≡ fnv1a bytes → bytes ≡ file V4 w.label w.options (blocks_of w) → IsFinished w id checksum bytes
-finished_is {A} w n m id checksum bytes h some i s b =
+    → id ≡ w.label.table_id → checksum ≡ fnv1a bytes → bytes ≡ file V4 w.label w.options (blocks_of w)
+    → LabelFits w.label → AllByRecursion (BlockFits V4) (blocks_of w) → large_fault (index_block_bound_of (handles V4 (blocks_of w))) ≡ None → IsFinished w id checksum bytes
+finished_is {A} w n m id checksum bytes h some i s b label blocks index =
     let chunks = all_written w h.shortest in
     record {
       some = λ e. some (ap (λ (x : Metadata A). x.item_count) h.counted ∙ ap length (chunks.whole ∙ e));
       id_is = i;
       checksum_is = s;
       file_is = record { blocks = blocks_of w; chunks = chunks; are = b };
+      strict = written_strict w n m h;
+      fits = record { entries = all_front (EntryFits V4) (joined (blocks_of w)) [] h.fits; blocks = blocks; index = index_fits (handles V4 (blocks_of w)) index; label_fits = label };
     }

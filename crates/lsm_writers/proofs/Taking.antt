@@ -1,8 +1,8 @@
 -- Entries that a writer takes, and what is pending.
-use Rattle.std.proofs.Common.{◌≡◌, refl, sym, ◌∙◌, ap, subst, ℕ, ◌+◌, ◌*◌, ◌<◌, ◌≤◌, ◌^◌, Bool, true, false, List, [], ◌∷◌, ◌++◌, length, take, append_assoc, arith, length-append, cond, inl, inr, IsTrue}
+use Rattle.std.proofs.Common.{◌≡◌, refl, sym, ◌∙◌, ap, subst, ℕ, ◌+◌, ◌*◌, ◌-◌, ◌<◌, ◌≤◌, ◌^◌, Bool, true, false, List, [], ◌∷◌, ◌++◌, length, take, append_assoc, arith, length-append, cond, inl, inr, IsTrue}
 use Rattle.std.specs.Prelude.{Option, Some, None, nat_le, min, max, sum_by, count_by, ◌&&◌}
 use Rattle.std.specs.List.{AllByRecursion}
-use Rattle.std.proofs.lemmas.Bool.{le-ltb, le-leb, lt-leb, leb-false, cases_lt}
+use Rattle.std.proofs.lemmas.Bool.{le-ltb, le-leb, lt-leb, leb-false, ltb-false, ltb-true, cases_lt}
 use Rattle.std.proofs.lemmas.List.{take-append-le, take_at, append-nil}
 use Rattle.std.proofs.lemmas.List.Sums.{sum_by-append, sum_by-cons, count_by-le-length}
 use Rattle.sst_entries.specs.declared.error.Error.{Error}
@@ -18,7 +18,9 @@ use Rattle.lsm_writers.specs.declared.writer.meta.Metadata.{Metadata}
 use Rattle.lsm_writers.specs.Counts.{no_counts, metadata_of, counted, or_first, HasRoom}
 use Rattle.lsm_writers.specs.Cut.{Cut, rest_of, with_cut}
 use Rattle.lsm_writers.specs.Facts.{count_after, lowest_seqno, highest_seqno, is_tombstone, is_weak, is_reclaimable, starts_key, one_if, first_key}
-use Rattle.lsm_writers.specs.Held.{IsShort, IsOpen, IsHeld, CanGoOn, IsShortest}
+use Rattle.lsm_writers.specs.Fits.{EntryFits, LabelFits}
+use Rattle.lsm_writers.specs.Options.{Label}
+use Rattle.lsm_writers.specs.Held.{IsOpen, IsHeld, CanGoOn, IsShortest}
 use Rattle.lsm_writers.specs.Writing.{item_fault, follows}
 use Rattle.lsm_writers.proofs.Cutting.{joined_more}
 use Rattle.lsm_writers.proofs.Listing.{all-append, all_back}
@@ -48,12 +50,12 @@ too_large es e h = large_is _ (omega (arith, bound_more es e))
 pub fits_still : (es : List Entry) (e : Entry) → 28 + 17 * (length es + 1) + (size_of es + entry_size e) < 2 ^ 32 → large_fault (data_block_bound_of (es ++ e ∷ [])) ≡ None
 fits_still es e h = small_is _ (omega (arith, bound_more es e))
 
-pub no_length_fault : (es : List Entry) → AllByRecursion IsShort es → length_fault es ≡ None
+pub no_length_fault : (es : List Entry) → AllByRecursion (EntryFits V4) es → length_fault es ≡ None
 no_length_fault [] h = refl
-no_length_fault (e ∷ es) h = rw (h.0.key, lt-leb _ _ h.0.value) (no_length_fault es h.1)
+no_length_fault (e ∷ es) h = rw (le-ltb _ _ h.0.key, lt-leb _ _ h.0.value) (no_length_fault es h.1)
 
 -- what is pending encodes
-pub no_fault : (es : List Entry) → AllByRecursion IsShort es → 28 + 17 * length es + size_of es < 2 ^ 32 → entries_fault es ≡ None
+pub no_fault : (es : List Entry) → AllByRecursion (EntryFits V4) es → 28 + 17 * length es + size_of es < 2 ^ 32 → entries_fault es ≡ None
 no_fault es h small = rw (no_length_fault es h) (small_is _ (omega (arith, bound_sum es)))
 
 pub item_large : (es : List Entry) (e : Entry) → length e.user_key ≤ 1048576 → length e.value < 2 ^ 32 → 2 ^ 32 ≤ 28 + 17 * (length es + 1) + (size_of es + entry_size e) → item_fault es e ≡ Some BlockTooLarge
@@ -64,12 +66,12 @@ item_fits es e k v h = rw (le-ltb _ _ k, lt-leb _ _ v) (fits_still es e h)
 
 -- ---- between the calls
 
-pub nothing_held : {A : Type 0} (size : ℕ) (cut : Cut) (pending : List Entry) (meta : Metadata A) → cut ≡ record { chunks = []; failed = false } → pending ≡ [] → meta ≡ no_counts → IsHeld size cut.chunks pending 0 meta × CanGoOn false size cut pending
+pub nothing_held : {A : Type 0} (size : ℕ) (cut : Cut) (pending : List Entry) (meta : Metadata A) (label : Label) → cut ≡ record { chunks = []; failed = false } → pending ≡ [] → meta ≡ no_counts → LabelFits label → IsHeld size cut.chunks pending 0 meta × CanGoOn false size cut pending × LabelFits label
 unfolding IsStrictAfter last_of count_after lowest_seqno highest_seqno
-nothing_held size cut pending meta c p m =
-    let held : IsHeld size [] [] 0 meta = record { strict = tt; short = tt; shortest = tt; front = λ n lt le. absurd (omega (arith, lt, le)); counted = m; sized = refl; small = omega arith } in
+nothing_held size cut pending meta label c p m fits =
+    let held : IsHeld size [] [] 0 meta = record { strict = tt; fits = tt; shortest = tt; front = λ n lt le. absurd (omega (arith, lt, le)); counted = m; sized = refl; small = omega arith } in
     let ready : CanGoOn false size (record { chunks = []; failed = false }) [] = record { works = λ _. refl; room = λ _. tt } in
-    rw (c, p) (held, ready)
+    rw (c, p) (held, ready, fits)
 
 -- ---- one entry more
 
@@ -86,9 +88,9 @@ fault_none : (b : Bool) (x : Error) (o : Option Error) → cond b (Some x) o ≡
 fault_none true x o h = absurd cc
 fault_none false x o h = (refl, h)
 
--- an entry without a fault is short, and the block has room for it
-pub short_of : (es : List Entry) (e : Entry) → item_fault es e ≡ None → IsShort e × (28 + 17 * (length es + 1) + (size_of es + entry_size e) < 2 ^ 32)
-short_of es e h =
+-- an entry without a fault fits, and the block has room for it
+pub short_of : (es : List Entry) (e : Entry) → e.seqno < 2 ^ 64 - 1 → item_fault es e ≡ None → EntryFits V4 e × (28 + 17 * (length es + 1) + (size_of es + entry_size e) < 2 ^ 32)
+short_of es e low h =
     let bound = data_block_bound_of (es ++ e ∷ []) in
     let o2 = large_fault bound in
     let o1 = cond (nat_le (2 ^ 32) (length e.value)) (Some ValueTooLong) o2 in
@@ -96,7 +98,7 @@ short_of es e h =
     let v = fault_none (nat_le (2 ^ 32) (length e.value)) ValueTooLong o2 k.1 in
     let b = fault_none (nat_le (2 ^ 32) bound) BlockTooLarge None v.1 in
     let small : bound < 2 ^ 32 = leb-false _ _ b.0 in
-    (record { key = k.0; value = leb-false _ _ v.0 }, omega (arith, small, bound_more es e))
+    (record { key = ltb-false _ _ k.0; value = leb-false _ _ v.0; number = low }, omega (arith, small, bound_more es e))
 
 snoc_assoc : (xs ys : List Entry) (e : Entry) → xs ++ (ys ++ e ∷ []) ≡ (xs ++ ys) ++ e ∷ []
 snoc_assoc xs ys e = sym (append_assoc xs ys (e ∷ []))
@@ -172,10 +174,11 @@ pub held_more : {A : Type 0} (size : ℕ) (cut : List (List Entry)) (pending : L
     → IsHeld size cut pending n m → IsOpen size pending → IsTrue (follows (joined cut ++ pending) e.user_key e.seqno) → item_fault pending e ≡ None
     → IsHeld size cut (pending ++ e ∷ []) (n + entry_size e) (counted (last_of None (joined cut ++ pending)) e m)
 held_more size cut pending n m e old o f ok =
-    let short = short_of pending e ok in
+    let low : e.seqno < 2 ^ 64 - 1 = ltb-true _ _ (and_parts _ _ f).0 in
+    let short = short_of pending e low ok in
     record {
       strict = rw (snoc_assoc (joined cut) pending e) (strict_gained (joined cut ++ pending) e old.strict f);
-      short = rw (snoc_assoc (joined cut) pending e) (all-append IsShort (joined cut ++ pending) (e ∷ []) old.short (short.0, tt));
+      fits = rw (snoc_assoc (joined cut) pending e) (all-append (EntryFits V4) (joined cut ++ pending) (e ∷ []) old.fits (short.0, tt));
       shortest = old.shortest;
       front = front_more size pending e o old.front;
       counted = counted_is cut pending e m old.counted;
@@ -194,7 +197,7 @@ held_cut {A} size cut [] n m old =
     let P : List (List Entry) → Type 0 = λ cs. IsHeld size cs [] 0 (with_cut cs m) in
     let made : P cut = record {
       strict = old.strict;
-      short = old.short;
+      fits = old.fits;
       shortest = old.shortest;
       front = old.front;
       counted = cut_counted m cut [] cut old.counted refl;
@@ -207,7 +210,7 @@ held_cut {A} size cut (e ∷ es) n m old =
     let whole : joined (cut ++ p ∷ []) ++ [] ≡ joined cut ++ p = append-nil (joined (cut ++ p ∷ [])) ∙ joined_more cut p in
     record {
       strict = rw whole old.strict;
-      short = rw whole old.short;
+      fits = rw whole old.fits;
       shortest = all-append (IsShortest size) cut (p ∷ []) old.shortest (record { some = omega arith; shortest = old.front }, tt);
       front = λ k pos lt. absurd (omega (arith, pos, lt));
       counted = cut_counted m cut p (cut ++ p ∷ []) old.counted whole;
@@ -231,4 +234,4 @@ taken_held {A} size cut pending n m e last items k o old room f ok l i s c =
 
 -- what is pending encodes, as it is held
 pub held_fits : {A : Type 0} (size : ℕ) (cut : List (List Entry)) (pending : List Entry) (n : ℕ) (m : Metadata A) → IsHeld size cut pending n m → entries_fault pending ≡ None
-held_fits size cut pending n m h = no_fault pending (all_back IsShort (joined cut) pending h.short) (omega (arith, h.sized, h.small))
+held_fits size cut pending n m h = no_fault pending (all_back (EntryFits V4) (joined cut) pending h.fits) (omega (arith, h.sized, h.small))

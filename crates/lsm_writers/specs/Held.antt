@@ -2,18 +2,13 @@
 use Rattle.std.specs.Prelude.{◌≡◌, ℕ, ◌+◌, ◌*◌, ◌<◌, ◌^◌, Bool, false, List, [], ◌∷◌, ◌++◌, length, take}
 use Rattle.std.specs.List.{AllByRecursion}
 use Rattle.sst_blocks.specs.declared.version.TableVersion.TheVariants.{V4}
-use Rattle.sst_blocks.specs.Encoding.{is_long_key}
 use Rattle.sst_entries.specs.Entry.{Entry}
 use Rattle.sst_entries.specs.Strict.{IsStrict}
 use Rattle.lsm_writers.specs.declared.writer.meta.Metadata.{Metadata}
 use Rattle.lsm_writers.specs.Chunks.{joined, size_of, is_full}
 use Rattle.lsm_writers.specs.Counts.{metadata_of}
 use Rattle.lsm_writers.specs.Cut.{Cut}
-
--- an entry that a writer takes
-pub record IsShort (e : Entry) : Type 0 where
-  pub key : is_long_key e.user_key ≡ false
-  pub value : length e.value < 2 ^ 32
+use Rattle.lsm_writers.specs.Fits.{EntryFits}
 
 -- no shorter front of a chunk is full
 pub record IsShortest (size : ℕ) (c : List Entry) : Type 0 where
@@ -30,10 +25,10 @@ pub record CanGoOn (failed : Bool) (size : ℕ) (cut : Cut) (pending : List Entr
   pub works : failed ≡ false → cut.failed ≡ false
   pub room : failed ≡ false → IsOpen size pending
 
--- the list is strict and of short entries, its chunks are cut where they may be, and it is counted
+-- the list is strict and of entries that fit, its chunks are cut where they may be, and it is counted
 pub record IsHeld {A : Type 0} (size : ℕ) (cut : List (List Entry)) (pending : List Entry) (chunk_size : ℕ) (meta : Metadata A) : Type 0 where
   pub strict : IsStrict (joined cut ++ pending)
-  pub short : AllByRecursion IsShort (joined cut ++ pending)
+  pub fits : AllByRecursion (EntryFits V4) (joined cut ++ pending)
   pub shortest : AllByRecursion (IsShortest size) cut
   pub front : (n : ℕ) → 0 < n → n < length pending → is_full size (take n pending) ≡ false
   pub counted : meta ≡ metadata_of V4 cut pending

@@ -3,8 +3,10 @@ pub mod Index
 pub mod Facts
 pub mod Options
 pub mod Layout
+pub mod Fits
 pub mod MetaBlock
 pub mod File
+pub mod Table
 pub mod Counts
 pub mod Cut
 pub mod Writing

@@ -7,12 +7,14 @@ use Rattle.sst_entries.specs.declared.error.Error.TheVariants.{KeyTooLong, Value
 use Rattle.sst_blocks.specs.Bounds.{data_block_bound_of, index_block_bound_of}
 use Rattle.sst_blocks.specs.Encoding.{is_long_key, large_fault}
 use Rattle.sst_entries.specs.Entry.{Entry, entry}
-use Rattle.sst_entries.specs.Strict.{may_follow, last_of}
+use Rattle.sst_entries.specs.Strict.{IsStrict, may_follow, last_of}
 use Rattle.lsm_writers.specs.Chunks.{joined, is_full}
 use Rattle.lsm_writers.specs.Cut.{rest_of}
 use Rattle.lsm_writers.specs.Index.{handles}
 use Rattle.sst_blocks.specs.Fnv.{fnv1a}
 use Rattle.lsm_writers.specs.File.{IsFile}
+use Rattle.lsm_writers.specs.Fits.{Fits}
+use Rattle.lsm_writers.specs.Table.{IsTable}
 use Rattle.lsm_writers.specs.Options.{Options, Label}
 
 -- the chunks whose blocks were cut, the entries of the next block, and whether the writer has refused
@@ -73,9 +75,16 @@ spills_of w = early_ends w.options.data_block_size 0 w.cut
 abbrev pub finish_fault : Writing → Option Error
 finish_fault w = if w.failed then Some WriterFailed else large_fault (index_block_bound_of (handles V4 (blocks_of w)))
 
--- a finished table: its id, its bytes, and the checksum of these
+-- a finished table: its id, its bytes, and the checksum of these. The bytes are a table of the list, in the version that is
+-- written
 pub record IsFinished (w : Writing) (id : ℕ) (checksum : ℕ) (bytes : List ℕ) : Type 0 where
   pub some : written w ≡ [] → ⊥
   pub id_is : id ≡ w.label.table_id
   pub checksum_is : checksum ≡ fnv1a bytes
   pub file_is : IsFile V4 bytes w.label w.options (spills_of w) (written w)
+  pub strict : IsStrict (written w)
+  pub fits : Fits V4 w.label file_is.blocks
+
+-- what finishing gives is a table of the list
+abbrev pub finished_table : (w : Writing) (id checksum : ℕ) (bytes : List ℕ) → IsFinished w id checksum bytes → IsTable w.label w.options bytes (written w)
+finished_table w id checksum bytes f = record { version = V4; spills = spills_of w; file = f.file_is; strict = f.strict; fits = f.fits }

@@ -7,13 +7,15 @@ use std::ops::Deref;
 pub struct Timestamp(u128);
 
 impl Model for Timestamp {
-    ghost use Rattle.std.specs.Prelude.{ℕ};
+    ghost use Rattle.std.specs.Prelude.{ℕ, ◌<◌, ◌^◌};
 
     ghost Value = { ℕ };
 
     ghost view = { λ t. t.0 };
 
     ghost inverse = { λ n. record { 0 = n } };
+
+    ghost invariant = { λ t. t.0 < 2 ^ 128 };
 }
 
 impl Deref for Timestamp {

@@ -3,16 +3,16 @@ ghost use Rattle.std.specs.Prelude.{◌≡◌, ◌↔◌, ◌<◌, ◌≤◌, �
 ghost use Rattle.std.specs.Option.{option_copied};
 ghost use Rattle.sst_entries.specs.declared.error.Error.TheVariants.{OutOfMemory};
 ghost use Rattle.sst_blocks.specs.declared.version.TableVersion.TheVariants.{V4};
-ghost use Rattle.sst_entries.specs.Error.{Faults};
+ghost use Rattle.sst_entries.specs.Error.{Faults, FaultsFirst};
 ghost use Rattle.sst_entries.specs.Strict.{IsStrict, last_of};
 ghost use Rattle.lsm_writers.specs.Chunks.{entry_size, size_of};
 ghost use Rattle.lsm_writers.specs.Options.{default_options};
 ghost use Rattle.lsm_writers.specs.Counts.{metadata_of, counted, HasRoom};
 ghost use Rattle.lsm_writers.specs.Writing.{written, IsFresh, follows, write_fault, item_fault, gained, spilled, finish_fault, IsFinished};
 ghost use Rattle.std.specs.List.{AllByRecursion};
-ghost use Rattle.lsm_writers.specs.Held.{IsShort};
 ghost use Rattle.lsm_writers.specs.Registered.{failed_fault};
 ghost use Rattle.lsm_writers.specs.File.{file};
+ghost use Rattle.lsm_writers.specs.Fits.{BlockFits, EntryFits, LabelFits};
 ghost use Rattle.lsm_writers.specs.Index.{handles};
 ghost use Rattle.sst_blocks.specs.Bounds.{index_block_bound_of};
 ghost use Rattle.sst_blocks.specs.Encoding.{large_fault};
@@ -32,6 +32,7 @@ use options::WriterOptions;
 use sst_blocks::{
     Checksum, CompressionType, Error, InternalKey, InternalValue, SeqNo, Slice, TableVersion,
 };
+use sst_entries::compare_versions;
 use std::alloc::{Allocator, Global};
 use std::marker::Model;
 
@@ -52,13 +53,14 @@ pub struct Writer<A: Allocator = Global> {
 
 impl<A: Allocator> Model for Writer<A> {
     ghost use Rattle.lsm_writers.specs.Writing.{Writing};
+    ghost use Rattle.lsm_writers.specs.Fits.{LabelFits};
     ghost use Rattle.lsm_writers.specs.Held.{IsHeld, CanGoOn};
 
     ghost Value = { Writing };
 
     ghost view = { λ w. record { label = w.label; options = w.options; cut = w.blocks.chunks; pending = w.chunk.items; failed = w.failed } };
 
-    ghost invariant = { λ w. IsHeld w.options.data_block_size w.blocks.chunks w.chunk.items w.chunk_size w.meta × CanGoOn w.failed w.options.data_block_size w.blocks w.chunk.items };
+    ghost invariant = { λ w. IsHeld w.options.data_block_size w.blocks.chunks w.chunk.items w.chunk_size w.meta × CanGoOn w.failed w.options.data_block_size w.blocks w.chunk.items × LabelFits w.label };
 }
 
 impl<A: Allocator + Clone> Writer<A> {
@@ -104,12 +106,13 @@ impl<A: Allocator + Clone> Writer<A> {
         key.seqno < SeqNo::MAX
             && match last_written(&self.chunk, self.blocks.last()) {
                 None => true,
-                Some(last) => last
-                    .key
-                    .user_key
-                    .cmp(&key.user_key)
-                    .then(key.seqno.cmp(&last.key.seqno))
-                    .is_lt(),
+                Some(last) => compare_versions(
+                    last.key.user_key.as_slice(),
+                    last.key.seqno,
+                    key.user_key.as_slice(),
+                    key.seqno,
+                )
+                .is_lt(),
             }
     }
 
@@ -136,6 +139,8 @@ impl<A: Allocator + Clone> Writer<A> {
         requires { IsTrue (follows (written self.old) item.user_key item.seqno) }
         ensures ok { OnOk result (self.new ≡ gained self.old item) }
         ensures refused { Faults result (write_fault self.old item) }
+        // What is wrong with the entry or the writer is found before any memory is taken.
+        ensures first { FaultsFirst result (write_fault self.old item) }
         ensures failed { OnErr result (self.new.failed ≡ true) }
     {
         if self.failed {
@@ -164,6 +169,7 @@ impl<A: Allocator + Clone> Writer<A> {
     pub fn spill_block(&mut self) -> Result<(), Error>
         ensures ok { OnOk result (self.new ≡ spilled self.old) }
         ensures refused { Faults result (failed_fault self.old.failed) }
+        ensures first { FaultsFirst result (failed_fault self.old.failed) }
         ensures failed { OnErr result (self.new.failed ≡ true) }
     {
         if self.failed {
@@ -185,9 +191,10 @@ impl<A: Allocator + Clone> Writer<A> {
     pub fn finish(mut self) -> Result<Option<FinishedTable<A>>, Error>
         ensures table { IfOk result (λ t. MatchOption t (written self ≡ []) (λ f. IsFinished self f.id f.checksum.0 f.bytes)) }
         ensures refused { Faults result (finish_fault self) }
-        // The list that was written is strict, and its entries are as long as a table holds.
+        ensures first { FaultsFirst result (failed_fault self.failed) }
+        // The list that was written is strict, and its entries fit the fields of a table.
         ensures strict { IfOk result (λ t. IsStrict (written self)) }
-        ensures short { IfOk result (λ t. AllByRecursion IsShort (written self)) }
+        ensures fits { IfOk result (λ t. AllByRecursion (EntryFits V4) (written self)) }
     {
         self.spill_block()?;
         if self.meta.item_count == 0 {
@@ -205,6 +212,8 @@ impl<A: Allocator + Clone> Writer<A> {
         ensures checksum { IfOk result (λ t. t.checksum.0 ≡ fnv1a t.bytes) }
         ensures bytes { IfOk result (λ t. t.bytes ≡ file V4 self.label self.options self.cut) }
         ensures refused { Faults result (large_fault (index_block_bound_of (handles V4 self.cut))) }
+        ensures label { LabelFits self.label }
+        ensures blocks { IfOk result (λ _. AllByRecursion (BlockFits V4) self.cut) }
     {
         let items = meta_items(
             self.chunk.allocator(),
@@ -334,6 +343,7 @@ fn take_item<A: Allocator + Clone>(
     ensures same_size { OnErr result (chunk_size.new ≡ chunk_size.old) }
     ensures uncounted { OnErr result (meta.new ≡ meta.old) }
     ensures refused { Faults result (item_fault chunk.old.items item) }
+    ensures first { FaultsFirst result (item_fault chunk.old.items item) }
 {
     check_item(chunk, *chunk_size, &item)?;
     chunk.reserve(1)?;

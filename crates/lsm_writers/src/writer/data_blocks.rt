@@ -12,6 +12,8 @@ ghost use Rattle.sst_blocks.specs.Sections.{finished};
 ghost use Rattle.sst_entries.specs.Strict.{IsStrict, last_of};
 ghost use Rattle.lsm_writers.specs.Chunks.{joined};
 ghost use Rattle.lsm_writers.specs.Cut.{Cut, CountsCut, IsReadable, with_cut, rest_of};
+ghost use Rattle.lsm_writers.specs.Fits.{BlockFits};
+ghost use Rattle.std.specs.List.{AllByRecursion};
 ghost use Rattle.lsm_writers.specs.File.{end_sections, index_sections, HasNoEnd};
 ghost use Rattle.lsm_writers.specs.Index.{handles, handle_of, data_block, data_section};
 ghost use Rattle.sst_blocks.specs.Payload.{payload};
@@ -128,6 +130,7 @@ impl<A: Allocator + Clone> DataBlocks<A> {
         ensures bytes { IfOk result (λ x. x.0 ≡ finished (appended (laid ((Data, data_section V4 self.chunks) ∷ index_sections V4 self.chunks)) (end_sections items.now))) }
         ensures checksum { IfOk result (λ x. x.1.0 ≡ fnv1a x.0) }
         ensures refused { Faults result (large_fault (index_block_bound_of (handles V4 self.chunks))) }
+        ensures blocks { IfOk result (λ _. AllByRecursion (BlockFits V4) self.chunks) }
     {
         let (file_writer, buffer) = self.finish_index()?;
         close(file_writer, buffer, items)
@@ -140,6 +143,7 @@ impl<A: Allocator + Clone> DataBlocks<A> {
         requires short { key_fault (handles V4 self.chunks) ≡ None }
         ensures ok { IfOk result (λ x. x.0 ≡ laid ((Data, data_section V4 self.chunks) ∷ index_sections V4 self.chunks)) }
         ensures refused { Faults result (large_fault (index_block_bound_of (handles V4 self.chunks))) }
+        ensures blocks { IfOk result (λ _. AllByRecursion (BlockFits V4) self.chunks) }
     {
         let DataBlocks {
             mut file_writer,

@@ -6,8 +6,8 @@ use Rattle.sst_entries.specs.Error.{Gives}
 use Rattle.lsm_tables.proofs.FilePoints.{file_answers}
 use Rattle.lsm_tables.proofs.table.Table.get.Goals as goal
 
-pub returns-clause-file : goal.returns-clause-file
-returns-clause-file g c v label options spills es f strict fits =
+pub returns-clause-list : goal.returns-clause-list
+returns-clause-list g c label options es is =
     let t = c.args.self.now in
-    let same = file_answers v t.bytes label options spills es f t.global_seqno t.parts strict fits (c.get_counted.ensures.open).short (c.get_counted.ensures.open).recovered c.args.key.now c.args.seqno in
+    let same = file_answers label options t.bytes es is t.global_seqno t.parts (c.get_counted.ensures.open).short (c.get_counted.ensures.open).recovered c.args.key.now c.args.seqno in
     subst (λ (told : Result (Option Entry) Error). Gives (λ (found : Option Entry). found) (c.get_counted.result).0 told) same c.get_counted.ensures.told

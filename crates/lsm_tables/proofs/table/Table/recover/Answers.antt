@@ -1,4 +1,5 @@
-use Rattle.std.proofs.Common.{ap, sym, ◌∙◌}
+use Rattle.std.proofs.Common.{◌≡◌, ap, subst, sym, ◌∙◌}
+use Rattle.sst_entries.specs.Error.{Gives}
 use Rattle.std.specs.Arc.{arc_value}
 use Rattle.std.specs.Prelude.{Result, Ok}
 use Rattle.sst_entries.specs.declared.error.Error.{Error}
@@ -8,6 +9,7 @@ use Rattle.lsm_tables.specs.Parts.{Parts}
 use Rattle.lsm_tables.specs.Seen.{parts_of}
 use Rattle.lsm_tables.specs.TableSeen.{TableSeen}
 use Rattle.lsm_tables.proofs.Recovered.{opening_told, opening_fails, is_open}
+use Rattle.lsm_tables.proofs.FileParts.{table_told}
 use Rattle.lsm_tables.proofs.Told.{passes_fault}
 use Rattle.lsm_tables.proofs.table.Table.recover.Goals as goal
 
@@ -38,3 +40,20 @@ pub returns-clause-told : goal.returns-clause-told
 returns-clause-told g c =
     opening_told c.args.bytes c.in_ok-source.source c.args.global_seqno _ c.in_ok-source.ensures.refused c.in_ok-source.ensures.ok c.in_ok-inner.ensures.told
     ∙ ap (λ (s : Shared g.row.A.Denot). read (parts_of s.inner)) (sym c.in_ok-new.ensures.ok)
+
+by_list : {X : Type 0} (view : X → Parts) (r : Result X Error) (told list : Result Parts Error) → Gives view r told → told ≡ list → Gives view r list
+by_list view r told list gives same = subst (λ (x : Result Parts Error). Gives view r x) same gives
+
+pub returns-in_err-source-clause-list : goal.returns-in_err-source-clause-list
+returns-in_err-source-clause-list g c label options es t one =
+    by_list (λ (x : TableSeen). x.parts) c.from_residual-in_err-source.result _ _ (returns-in_err-source-clause-told g c)
+    (table_told label options c.args.bytes es t c.in_err-source.ensures.short c.args.global_seqno one)
+
+pub returns-in_err-inner-clause-list : goal.returns-in_err-inner-clause-list
+returns-in_err-inner-clause-list g c label options es t one =
+    by_list (λ (x : TableSeen). x.parts) c.from_residual-in_err-inner.result _ _ (returns-in_err-inner-clause-told g c)
+    (table_told label options c.args.bytes es t c.in_ok-source.ensures.short c.args.global_seqno one)
+
+pub returns-clause-list : goal.returns-clause-list
+returns-clause-list g c label options es t one =
+    sym (table_told label options c.args.bytes es t c.in_ok-source.ensures.short c.args.global_seqno one) ∙ returns-clause-told g c

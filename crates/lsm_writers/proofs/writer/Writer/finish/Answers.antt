@@ -1,8 +1,14 @@
-use Rattle.std.proofs.Common.{◌∙◌, ap, sym}
+use Rattle.std.proofs.Common.{◌≡◌, ◌∙◌, ap, sym, subst}
+use Rattle.std.specs.Prelude.{None}
+use Rattle.std.specs.List.{AllByRecursion}
+use Rattle.sst_blocks.specs.Bounds.{index_block_bound_of}
+use Rattle.sst_blocks.specs.Encoding.{large_fault}
 use Rattle.sst_blocks.specs.declared.version.TableVersion.TheVariants.{V4}
 use Rattle.lsm_writers.specs.File.{file}
+use Rattle.lsm_writers.specs.Fits.{BlockFits, LabelFits}
+use Rattle.lsm_writers.specs.Index.{handles}
 use Rattle.lsm_writers.specs.Writing.{Writing}
-use Rattle.lsm_writers.proofs.Finishing.{spilled_is, written_none, works_still, no_finish_fault, index_fault_is, written_strict, written_short, finished_is}
+use Rattle.lsm_writers.proofs.Finishing.{spilled_is, written_none, works_still, no_finish_fault, index_fault_is, written_strict, written_fits, finished_is}
 use Rattle.lsm_writers.proofs.writer.Writer.finish.Goals as goal
 
 pub table-requires-clause-works : goal.table-requires-clause-works
@@ -26,11 +32,11 @@ returns-then-self-eq0-clause-strict g c =
     let held = spilled_is c.args.self _ i.chunk_size i.meta (c.self.view_is ∙ c.in_ok-spill_block.ensures.ok) c.self.invariant.0 in
     written_strict c.args.self i.chunk_size i.meta held
 
-pub returns-then-self-eq0-clause-short : goal.returns-then-self-eq0-clause-short
-returns-then-self-eq0-clause-short g c =
+pub returns-then-self-eq0-clause-fits : goal.returns-then-self-eq0-clause-fits
+returns-then-self-eq0-clause-fits g c =
     let i = c.self.inside in
     let held = spilled_is c.args.self _ i.chunk_size i.meta (c.self.view_is ∙ c.in_ok-spill_block.ensures.ok) c.self.invariant.0 in
-    written_short c.args.self i.chunk_size i.meta held
+    written_fits c.args.self i.chunk_size i.meta held
 
 pub returns-clause-table : goal.returns-clause-table
 returns-clause-table g c =
@@ -41,6 +47,9 @@ returns-clause-table g c =
     let id = t.ensures.id ∙ ap (λ (x : Writing). x.label.table_id) c.in_ok-spill_block.ensures.ok in
     let bytes = t.ensures.bytes ∙ ap (λ (x : Writing). file V4 x.label x.options x.cut) c.in_ok-spill_block.ensures.ok in
     finished_is w i.chunk_size i.meta t.field-0.id t.field-0.checksum.0 t.field-0.bytes held c.if-self-eq0.false id t.ensures.checksum bytes
+    (subst (λ (x : Writing). LabelFits x.label) c.in_ok-spill_block.ensures.ok t.ensures.label)
+    (subst (λ (x : Writing). AllByRecursion (BlockFits V4) x.cut) c.in_ok-spill_block.ensures.ok t.ensures.blocks)
+    (subst (λ (x : Writing). large_fault (index_block_bound_of (handles V4 x.cut)) ≡ None) c.in_ok-spill_block.ensures.ok t.ensures.refused)
 
 pub returns-clause-refused : goal.returns-clause-refused
 returns-clause-refused g c = sym (index_fault_is c.args.self _ c.in_ok-spill_block.ensures.ok c.in_ok-spill_block.ensures.refused) ∙ c.in_ok-table.ensures.refused
@@ -51,8 +60,8 @@ returns-clause-strict g c =
     let held = spilled_is c.args.self _ i.chunk_size i.meta (c.self.view_is ∙ c.in_ok-spill_block.ensures.ok) c.self.invariant.0 in
     written_strict c.args.self i.chunk_size i.meta held
 
-pub returns-clause-short : goal.returns-clause-short
-returns-clause-short g c =
+pub returns-clause-fits : goal.returns-clause-fits
+returns-clause-fits g c =
     let i = c.self.inside in
     let held = spilled_is c.args.self _ i.chunk_size i.meta (c.self.view_is ∙ c.in_ok-spill_block.ensures.ok) c.self.invariant.0 in
-    written_short c.args.self i.chunk_size i.meta held
+    written_fits c.args.self i.chunk_size i.meta held

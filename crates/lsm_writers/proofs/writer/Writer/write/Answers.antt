@@ -34,7 +34,7 @@ invariant_of-self-in_err-cut g c =
     let next = subst (λ (w : Writing). IsTrue (follows (written w) c.args.item.user_key c.args.item.seqno)) (sym c.self.view_is) c.requires in
     let held = taken_held i.options.data_block_size i.blocks.chunks i.chunk.items i.chunk_size i.meta c.args.item (option_copied c.last.result) _ _ _ c.self.invariant.0 (c.self.invariant.1.room c.if-self.false) next t.refused c.last.ensures.last t.taken t.sized t.counted in
     let after = c.in_err-cut.ensures in
-    rw (after.unchanged, after.left, after.uncounted) (held, record { works = λ h. absurd cc; room = λ h. absurd cc })
+    rw (after.unchanged, after.left, after.uncounted) (held, record { works = λ h. absurd cc; room = λ h. absurd cc }, c.self.invariant.2)
 
 pub invariant_of-self-2 : goal.invariant_of-self-2
 invariant_of-self-2 g c =
@@ -47,8 +47,8 @@ invariant_of-self-2 g c =
       | then-self-options+in_ok-cut w ↦
           let after = w.in_ok-cut.ensures in
           let done = held_cut size i.blocks.chunks _ _ _ held in
-          rw (w.self-inside-is, after.taken, after.counted, after.ok) (done, record { works = λ _. after.works; room = λ _. tt })
+          rw (w.self-inside-is, after.taken, after.counted, after.ok) (done, record { works = λ _. after.works; room = λ _. tt }, c.self.invariant.2)
       | else-self-options w ↦
           let below : c.take_item.new.chunk_size < size = omega (arith, w.if-self-options.false, ap (λ (o : Options). o.data_block_size) c.options.view_is) in
-          rw w.self-inside-is (held, record { works = λ _. c.self.invariant.1.works c.if-self.false; room = λ _. not_full size _ _ held.sized below })
+          rw w.self-inside-is (held, record { works = λ _. c.self.invariant.1.works c.if-self.false; room = λ _. not_full size _ _ held.sized below }, c.self.invariant.2)
     ]

@@ -1,5 +1,5 @@
--- What a list of chunks has to keep for its table to read back.
-use Rattle.std.specs.Prelude.{◌≡◌, ◌+◌, ◌-◌, ◌^◌, ◌<◌, ◌≤◌, List, length}
+-- What a list of chunks keeps in a table, so that each number and each length fits its field.
+use Rattle.std.specs.Prelude.{◌+◌, ◌-◌, ◌^◌, ◌<◌, ◌≤◌, List, length}
 use Rattle.std.specs.List.{AllByRecursion}
 use Rattle.sst_blocks.specs.declared.version.TableVersion.{TableVersion}
 use Rattle.sst_entries.specs.Entry.{Entry}
@@ -8,7 +8,7 @@ use Rattle.sst_blocks.specs.Payload.{payload}
 use Rattle.sst_blocks.specs.Version.{longest_key}
 use Rattle.lsm_writers.specs.Chunks.{joined}
 use Rattle.lsm_writers.specs.Index.{handles}
-use Rattle.lsm_writers.specs.Options.{Options, Label}
+use Rattle.lsm_writers.specs.Options.{Label}
 
 -- an entry that a writer of the version takes
 pub record EntryFits (v : TableVersion) (e : Entry) : Type 0 where
@@ -20,11 +20,14 @@ pub record EntryFits (v : TableVersion) (e : Entry) : Type 0 where
 pub record BlockFits (v : TableVersion) (c : List Entry) : Type 0 where
   pub short : 24 + length (payload v c) < 2 ^ 32
 
--- the entries, the blocks of the chunks and of their handles, and what the meta block says of them
-pub record Fits (v : TableVersion) (label : Label) (options : Options) (cs : List (List Entry)) : Type 0 where
+-- a label whose numbers fit their fields
+pub record LabelFits (label : Label) : Type 0 where
+  pub id : label.table_id < 2 ^ 64
+  pub created_at : label.created_at < 2 ^ 128
+
+-- the entries, the blocks of the chunks, the block of their handles, and the label
+pub record Fits (v : TableVersion) (label : Label) (cs : List (List Entry)) : Type 0 where
   pub entries : AllByRecursion (EntryFits v) (joined cs)
   pub blocks : AllByRecursion (BlockFits v) cs
   pub index : 24 + length (handles_payload v (handles v cs)) < 2 ^ 32
-  pub interval : options.index_block_restart_interval ≡ 1
-  pub id : label.table_id < 2 ^ 64
-  pub created_at : label.created_at < 2 ^ 128
+  pub label_fits : LabelFits label
