@@ -12,3 +12,4 @@ pub mod FilePoints
 pub mod Ends
 pub mod Scans
 pub mod FileScans
+pub mod Opening

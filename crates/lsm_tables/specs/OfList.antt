@@ -1,20 +1,28 @@
 -- What a table of a list is recovered to.
-use Rattle.std.specs.Prelude.{ℕ, ◌+◌, ◌-◌, ◌^◌, nat_lt, List, length, None, Result, Ok, Err, if◌then◌else◌}
+use Rattle.std.specs.Prelude.{◌≡◌, ℕ, Bool, true, ◌+◌, ◌-◌, ◌^◌, nat_lt, List, length, Option, Some, None, Result, Ok, Err, if◌then◌else◌}
 use Rattle.sst_blocks.specs.declared.version.TableVersion.{TableVersion}
 use Rattle.sst_blocks.specs.declared.block_type.BlockType.TheVariants.{Index, Meta}
 use Rattle.sst_blocks.specs.Block.{block_bytes}
 use Rattle.sst_entries.specs.declared.error.Error.{Error}
-use Rattle.sst_entries.specs.declared.error.Error.TheVariants.{GlobalSeqNoTooLarge}
+use Rattle.sst_entries.specs.declared.error.Error.TheVariants.{GlobalSeqNoTooLarge, OutOfMemory}
 use Rattle.sst_entries.specs.Entry.{Entry}
 use Rattle.sst_blocks.specs.Handles.{handles_payload}
+use Rattle.sst_blocks.specs.Fnv.{fnv1a}
 use Rattle.sst_blocks.specs.Payload.{payload}
+use Rattle.sst_entries.specs.Point.{point}
+use Rattle.sst_entries.specs.Stream.{Deals, all_ok, nowhere, stopped}
+use Rattle.std.specs.Option.{option_or}
 use Rattle.lsm_ranges.specs.KeyRange.{Interval, interval}
 use Rattle.lsm_writers.specs.Facts.{facts, highest_seqno}
 use Rattle.lsm_writers.specs.File.{counted_blocks}
 use Rattle.lsm_writers.specs.Index.{handles, data_section}
 use Rattle.lsm_writers.specs.MetaBlock.{meta_entries, version_number}
-use Rattle.lsm_writers.specs.Options.{Options, Label}
+use Rattle.lsm_writers.specs.Options.{Options, Label, default_options}
 use Rattle.lsm_writers.specs.Table.{IsTable}
+use Rattle.lsm_writers.specs.Writing.{list_fault}
+use Rattle.lsm_tables.specs.Answer.{lift}
+use Rattle.lsm_tables.specs.Scan.{Scan, ScansNext}
+use Rattle.lsm_tables.specs.TableSeen.{TableSeen}
 use Rattle.lsm_tables.specs.declared.regions.ParsedRegions.{ParsedRegions}
 use Rattle.lsm_tables.specs.Meta.{Facts}
 use Rattle.lsm_tables.specs.Parts.{Parts}
@@ -47,3 +55,23 @@ parts_said label options bytes es t =
 abbrev pub list_told : (label : Label) (options : Options) (bytes : List ℕ) (es : List Entry) → IsTable label options bytes es → ℕ → Result Parts Error
 list_told label options bytes es t g =
     if nat_lt (2 ^ 64 - 1) (highest_seqno es + g) then Err GlobalSeqNoTooLarge else Ok (parts_said label options bytes es t)
+
+-- the highest number passes u64 with the global number added
+abbrev pub number_fault : List Entry → ℕ → Option Error
+number_fault es g = if nat_lt (2 ^ 64 - 1) (highest_seqno es + g) then Some GlobalSeqNoTooLarge else None
+
+-- what writing a list as a table and opening it refuses
+abbrev pub opening_fault : Label → List Entry → ℕ → Option Error
+opening_fault label es g = option_or (list_fault label es) (number_fault es g)
+
+-- an opened table of a list
+pub record IsOpened (label : Label) (es : List Entry) (g : ℕ) (t : TableSeen) : Type 0 where
+  pub table : IsTable label default_options t.bytes es
+  pub number_is : t.global_seqno ≡ g
+  pub checksum_is : t.checksum ≡ fnv1a t.bytes
+
+-- what was read of a list: the first match of a key, and a scan of all, each number lifted
+pub record ReadsList (es : List Entry) (g : ℕ) (key : List ℕ) (bound : ℕ) (found : Option Entry) (s : Scan) : Type 0 where
+  pub point_is : found ≡ point (lift es g) key bound
+  pub scan_is : (stops : Error → Bool) → stops OutOfMemory ≡ true →
+      Deals (stopped stops) ScansNext nowhere s (all_ok (lift es g))

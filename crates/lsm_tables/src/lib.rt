@@ -10,6 +10,7 @@ mod point;
 mod regions;
 mod scanner;
 mod table;
+mod written;
 
 pub use block_index::FullBlockIndex;
 pub use inner::Inner;
@@ -18,3 +19,4 @@ pub use point::point_in;
 pub use regions::ParsedRegions;
 pub use scanner::Scanner;
 pub use table::{Table, TableInner};
+pub use written::{read_back, write_and_open};

@@ -5,3 +5,4 @@ pub mod Taking
 pub mod Chunking
 pub mod Laying
 pub mod Finishing
+pub mod ListWriting

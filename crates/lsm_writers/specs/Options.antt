@@ -23,3 +23,7 @@ pub record Label : Type 0 where
   pub table_id : ℕ
   pub initial_level : ℕ
   pub created_at : ℕ
+
+-- the label of its parts
+abbrev pub label_of : ℕ → ℕ → ℕ → Label
+label_of id level moment = record { table_id = id; initial_level = level; created_at = moment }

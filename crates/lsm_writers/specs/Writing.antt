@@ -1,5 +1,7 @@
 -- The state of a writer, and what its calls do to it.
-use Rattle.std.specs.Prelude.{◌≡◌, ℕ, ◌+◌, ◌-◌, ◌^◌, Bool, false, ◌&&◌, nat_lt, nat_le, List, [], ◌∷◌, ◌++◌, length, Option, Some, None, if◌then◌else◌}
+use Rattle.std.specs.Prelude.{◌≡◌, ℕ, ◌+◌, ◌-◌, ◌^◌, ◌<◌, Bool, false, ◌&&◌, nat_lt, nat_le, List, [], ◌∷◌, ◌++◌, length, Option, Some, None, if◌then◌else◌}
+use Rattle.std.specs.List.{AllByRecursion}
+use Rattle.std.specs.Option.{option_or}
 use Rattle.sst_blocks.specs.declared.version.TableVersion.TheVariants.{V4}
 use Rattle.sst_entries.specs.declared.value_type.ValueType.TheVariants.{Value}
 use Rattle.sst_entries.specs.declared.error.Error.{Error}
@@ -15,7 +17,7 @@ use Rattle.sst_blocks.specs.Fnv.{fnv1a}
 use Rattle.lsm_writers.specs.File.{IsFile}
 use Rattle.lsm_writers.specs.Fits.{Fits}
 use Rattle.lsm_writers.specs.Table.{IsTable}
-use Rattle.lsm_writers.specs.Options.{Options, Label}
+use Rattle.lsm_writers.specs.Options.{Options, Label, default_options}
 
 -- the chunks whose blocks were cut, the entries of the next block, and whether the writer has refused
 pub record Writing : Type 0 where
@@ -88,3 +90,27 @@ pub record IsFinished (w : Writing) (id : ℕ) (checksum : ℕ) (bytes : List �
 -- what finishing gives is a table of the list
 abbrev pub finished_table : (w : Writing) (id checksum : ℕ) (bytes : List ℕ) → IsFinished w id checksum bytes → IsTable w.label w.options bytes (written w)
 finished_table w id checksum bytes f = record { version = V4; spills = spills_of w; file = f.file_is; strict = f.strict; fits = f.fits }
+
+-- a list that a table can be written of: strict, and numbered below the largest number
+pub record IsWritable (es : List Entry) : Type 0 where
+  pub strict : IsStrict es
+  pub numbered : AllByRecursion (λ (e : Entry). e.seqno < 2 ^ 64 - 1) es
+
+-- a writer of a table that has no entry yet
+abbrev pub new_writing : Label → Writing
+new_writing label = record { label = label; options = default_options; cut = []; pending = []; failed = false }
+
+-- the first fault of writing some entries one by one and then finishing
+abbrev pub writing_fault : Writing → List Entry → Option Error
+writing_fault w [] = finish_fault w
+writing_fault w (e ∷ es) = option_or (write_fault w e) (writing_fault (gained w e) es)
+
+-- what writing a list as a table refuses
+abbrev pub list_fault : Label → List Entry → Option Error
+list_fault label es = writing_fault (new_writing label) es
+
+-- a finished table of a list: its id, its checksum and its bytes
+pub record IsTableOf (label : Label) (es : List Entry) (id : ℕ) (checksum : ℕ) (bytes : List ℕ) : Type 0 where
+  pub id_is : id ≡ label.table_id
+  pub checksum_is : checksum ≡ fnv1a bytes
+  pub table : IsTable label default_options bytes es

@@ -2,10 +2,12 @@
 #![tactic(auto)]
 
 mod id;
+mod list;
 mod timestamp;
 mod writer;
 
 pub use id::{GlobalTableId, TableId, TreeId};
+pub use list::write_list;
 pub use timestamp::Timestamp;
 pub use writer::index::{BlockIndexWriter, FullIndexWriter};
 pub use writer::meta::Metadata;

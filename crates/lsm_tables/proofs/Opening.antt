@@ -1,0 +1,69 @@
+-- A list that is written, opened and read.
+use Rattle.std.proofs.Common.{◌≡◌, refl, sym, subst, ◌∙◌, ℕ, ◌+◌, ◌-◌, ◌^◌, ◌<◌, Bool, true, false, cond, ltb, le-ltb, List, [], length, arith}
+use Rattle.std.specs.Prelude.{Option, Some, None, Result, Ok, Err, MatchResult}
+use Rattle.std.specs.Option.{option_or}
+use Rattle.std.specs.Result.{IsErrAnd}
+use Rattle.sst_entries.specs.declared.error.Error.{Error}
+use Rattle.sst_entries.specs.declared.error.Error.TheVariants.{GlobalSeqNoTooLarge, OutOfMemory}
+use Rattle.sst_entries.specs.Entry.{Entry}
+use Rattle.sst_entries.specs.Error.{Faults, Gives, is_memory}
+use Rattle.sst_blocks.specs.Fnv.{fnv1a}
+use Rattle.lsm_writers.specs.Facts.{highest_seqno}
+use Rattle.lsm_writers.specs.Options.{Options, Label, default_options}
+use Rattle.lsm_writers.specs.Table.{IsTable}
+use Rattle.lsm_writers.specs.Writing.{IsTableOf, list_fault}
+use Rattle.lsm_tables.specs.OfList.{IsOpened, list_told, number_fault, opening_fault, parts_said}
+use Rattle.lsm_tables.specs.Parts.{Parts}
+use Rattle.lsm_tables.specs.TableSeen.{TableSeen}
+
+fine_by : (large : Bool) (p q : Parts) → cond large (Err GlobalSeqNoTooLarge) (Ok p) ≡ Ok q → cond large (Some GlobalSeqNoTooLarge) None ≡ None
+fine_by true p q told = absurd cc
+fine_by false p q told = refl
+
+fault_by : (large : Bool) (p : Parts) (e : Error) → cond large (Err GlobalSeqNoTooLarge) (Ok p) ≡ Err e → cond large (Some GlobalSeqNoTooLarge) None ≡ Some e
+fault_by true p e told = cc
+fault_by false p e told = absurd cc
+
+or_fine : (a b : Option Error) → a ≡ None → b ≡ None → option_or a b ≡ None
+or_fine None b p q = q
+or_fine (Some e) b p q = p
+
+or_second : (a b : Option Error) (e : Error) → a ≡ None → b ≡ Some e → option_or a b ≡ Some e
+or_second None b e p q = q
+or_second (Some d) b e p q = absurd cc
+
+or_first : (a b : Option Error) (e : Error) → a ≡ Some e → option_or a b ≡ Some e
+or_first None b e p = absurd cc
+or_first (Some d) b e p = p
+
+-- the fault that is told, memory aside
+pub passes_on : {X : Type 0} (r : Result X Error) (e : Error) (told : Option Error) → IsErrAnd r (λ y. y ≡ e) → (is_memory e ≡ false → told ≡ Some e) → Faults r told
+passes_on (Ok x) e told is fault = absurd is
+passes_on (Err y) e told is fault = rw is fault
+
+module _ (label : Label) (es : List Entry) (g : ℕ) where
+  -- writing refused
+  pub unwritten : (e : Error) → list_fault label es ≡ Some e → opening_fault label es g ≡ Some e
+  unwritten e fault = or_first (list_fault label es) (number_fault es g) e fault
+
+  -- nothing was written
+  pub none_written : list_fault label es ≡ None → es ≡ [] → g < 2 ^ 64 → opening_fault label es g ≡ None
+  unfolding highest_seqno
+  none_written fine none small =
+      let low : ltb (2 ^ 64 - 1) (highest_seqno [] + g) ≡ false = le-ltb _ _ (omega (arith, small)) in
+      or_fine (list_fault label es) (number_fault es g) fine (rw (none, low) refl)
+
+  module _ (bytes : List ℕ) (t : IsTable label default_options bytes es) (written : list_fault label es ≡ None) where
+    pub opens : (parts : Parts) → list_told label default_options bytes es t g ≡ Ok parts → opening_fault label es g ≡ None
+    opens parts told = or_fine (list_fault label es) (number_fault es g) written (fine_by (ltb (2 ^ 64 - 1) (highest_seqno es + g)) (parts_said label default_options bytes es t) parts told)
+
+    pub unopened : (e : Error) → list_told label default_options bytes es t g ≡ Err e → opening_fault label es g ≡ Some e
+    unopened e told = or_second (list_fault label es) (number_fault es g) e written (fault_by (ltb (2 ^ 64 - 1) (highest_seqno es + g)) (parts_said label default_options bytes es t) e told)
+
+-- what was opened
+pub opened : (label : Label) (es : List Entry) (g id sum : ℕ) (bytes : List ℕ) (t : TableSeen) → IsTableOf label es id sum bytes → t.bytes ≡ bytes → t.global_seqno ≡ g → t.checksum ≡ sum → IsOpened label es g t
+opened label es g id sum bytes t f same number check = record {
+  table = subst (λ (b : List ℕ). IsTable label default_options b es) (sym same) f.table;
+  number_is = number;
+  checksum_is = check ∙ f.checksum_is ∙ subst (λ (b : List ℕ). fnv1a b ≡ fnv1a t.bytes) same refl;
+}

@@ -1,0 +1,61 @@
+//! A list that is written as a table, opened and read.
+ghost use Rattle.std.specs.Prelude.{◌≡◌, [], IfOk, MatchOption};
+ghost use Rattle.sst_entries.specs.Error.{Faults};
+ghost use Rattle.lsm_writers.specs.Options.{label_of};
+ghost use Rattle.lsm_writers.specs.Writing.{IsWritable};
+ghost use Rattle.lsm_tables.specs.OfList.{IsOpened, ReadsList, opening_fault};
+
+use crate::{Scanner, Table};
+use lsm_writers::{TableId, Timestamp, write_list};
+use sst_blocks::{Error, InternalValue, SeqNo};
+use std::alloc::Allocator;
+
+/// Writes a list as one table of the first level, as [`write_list`], and opens it; `None` where the list has no entry.
+///
+/// Refused with the first fault of writing, [`Error::GlobalSeqNoTooLarge`] where the highest number plus `global_seqno` passes
+/// `u64`, and [`Error::OutOfMemory`].
+pub fn write_and_open<A: Allocator + Clone>(
+    alloc: A,
+    id: TableId,
+    created_at: Timestamp,
+    items: Vec<InternalValue<A>, A>,
+    global_seqno: SeqNo,
+) -> Result<Option<Table<A>>, Error>
+    requires { IsWritable items.items }
+    ensures table { IfOk result (λ t. MatchOption t (items.items ≡ [])
+        (λ table. IsOpened (label_of id 0 created_at) items.items global_seqno table)) }
+    ensures refused { Faults result (opening_fault (label_of id 0 created_at) items.items global_seqno) }
+{
+    match write_list(alloc.clone()?, id, 0, created_at, items)? {
+        None => Ok(None),
+        Some(table) => {
+            let (bytes, checksum) = (table.bytes, table.checksum);
+            let opened = Table::recover(alloc, bytes, checksum, global_seqno, 0, true, true)?;
+            Ok(Some(opened))
+        }
+    }
+}
+
+/// What a point read and a scan of a list give once it was written and opened; `None` where the list has no entry. The
+/// contracts of writing, opening and reading alone say that it is the list. Refused as [`write_and_open`].
+pub fn read_back<A: Allocator + Clone>(
+    alloc: A,
+    items: Vec<InternalValue<A>, A>,
+    global_seqno: SeqNo,
+    key: &[u8],
+    seqno: SeqNo,
+) -> Result<Option<(Option<InternalValue<A>>, Scanner<A>)>, Error>
+    requires { IsWritable items.items }
+    ensures list { IfOk result (λ r. MatchOption r (items.items ≡ [])
+        (λ read. ReadsList items.items global_seqno key.now seqno read.0 read.1)) }
+    ensures refused { Faults result (opening_fault (label_of 1 0 0) items.items global_seqno) }
+{
+    match write_and_open(alloc, 1, Timestamp::from(0), items, global_seqno)? {
+        None => Ok(None),
+        Some(table) => {
+            let found = table.get(key, seqno, Table::<A>::key_hash(key))?;
+            let scanner = table.scan()?;
+            Ok(Some((found, scanner)))
+        }
+    }
+}

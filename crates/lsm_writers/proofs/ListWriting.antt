@@ -1,0 +1,67 @@
+-- A list that is written entry by entry.
+use Rattle.std.proofs.Common.{◌≡◌, refl, sym, ◌∙◌, ap, subst, ℕ, Bool, true, false, IsTrue, append_assoc, append-nil, List, [], ◌∷◌, ◌++◌, ◌<◌, ◌-◌, ◌^◌, lt-ltb}
+use Rattle.std.specs.Prelude.{Option, Some, None, Result, Ok, Err, IfOk, MatchOption}
+use Rattle.std.specs.List.{AllByRecursion}
+use Rattle.std.specs.Result.{IsErrAnd}
+use Rattle.sst_entries.specs.declared.value_type.ValueType.TheVariants.{Value}
+use Rattle.sst_entries.specs.Entry.{Entry, entry}
+use Rattle.sst_entries.specs.Error.{is_memory, Faults}
+use Rattle.sst_entries.specs.Strict.{last_of, IsStrictAfter}
+use Rattle.sst_entries.specs.declared.error.Error.{Error}
+use Rattle.sst_entries.proofs.Booleans.{and_both}
+use Rattle.sst_entries.proofs.Lists.{all_behind}
+use Rattle.lsm_writers.specs.declared.writer.FinishedTable.{FinishedTable}
+use Rattle.lsm_writers.specs.Options.{Options, Label, default_options}
+use Rattle.lsm_writers.specs.Table.{IsTable}
+use Rattle.lsm_writers.specs.Writing.{follows, gained, written, finished_table, IsFinished, IsTableOf, IsWritable, Writing}
+use Rattle.lsm_writers.specs.Chunks.{joined, is_full}
+use Rattle.lsm_writers.proofs.Cutting.{joined_more}
+use Rattle.lsm_writers.proofs.Orders.{strict_back, ends_follow}
+
+-- an entry of a list follows those before it
+pub listed_follows : (xs : List Entry) (e : Entry) (ys : List Entry) → IsWritable (xs ++ e ∷ ys) → IsTrue (follows xs e.user_key e.seqno)
+unfolding IsStrictAfter
+listed_follows xs e ys p =
+    let behind : IsStrictAfter (last_of None xs) (e ∷ ys) = strict_back None xs (e ∷ ys) p.strict in
+    let low : e.seqno < 2 ^ 64 - 1 = (all_behind (λ (e : Entry). e.seqno < 2 ^ 64 - 1) xs (e ∷ ys) p.numbered).0 in
+    and_both _ _ (lt-ltb _ _ low) (ends_follow (last_of None xs) (entry e.user_key [] e.seqno Value) e refl refl behind.0)
+
+-- the list of a writer that gained an entry
+gained_by : (w : Writing) (e : Entry) (full : Bool) → is_full w.options.data_block_size (w.pending ++ e ∷ []) ≡ full → written (gained w e) ≡ written w ++ e ∷ []
+gained_by w e true h =
+    rw h (append-nil (joined (w.cut ++ (w.pending ++ e ∷ []) ∷ [])) ∙ joined_more w.cut (w.pending ++ e ∷ []) ∙ sym (append_assoc (joined w.cut) w.pending (e ∷ [])))
+gained_by w e false h = rw h (sym (append_assoc (joined w.cut) w.pending (e ∷ [])))
+
+pub written_gained : (w : Writing) (e : Entry) → written (gained w e) ≡ written w ++ e ∷ []
+written_gained w e = gained_by w e _ refl
+
+-- what else a writer is stays as it was
+label_by : (w : Writing) (e : Entry) (full : Bool) → is_full w.options.data_block_size (w.pending ++ e ∷ []) ≡ full → ((gained w e).label ≡ w.label) × ((gained w e).options ≡ w.options)
+label_by w e true h = rw h (refl, refl)
+label_by w e false h = rw h (refl, refl)
+
+pub same_label : (w : Writing) (e : Entry) → ((gained w e).label ≡ w.label) × ((gained w e).options ≡ w.options)
+same_label w e = label_by w e _ refl
+
+-- what a writer of all entries finishes
+module _ (w : Writing) (es : List Entry) (label : Label) (all : written w ≡ es) (named : w.label ≡ label) (options : w.options ≡ default_options) where
+  finished : (id checksum : ℕ) (bytes : List ℕ) → IsFinished w id checksum bytes → IsTableOf label es id checksum bytes
+  finished id checksum bytes f = record {
+    id_is = f.id_is ∙ ap (λ (l : Label). l.table_id) named;
+    checksum_is = f.checksum_is;
+    table =
+        subst (λ (l : Label). IsTable l default_options bytes es) named
+        (subst (λ (o : Options). IsTable w.label o bytes es) options
+        (subst (λ (xs : List Entry). IsTable w.label w.options bytes xs) all (finished_table w id checksum bytes f)));
+  }
+
+pub table_by : {A : Type 0} (r : Result (Option (FinishedTable A)) Error) (w : Writing) (es : List Entry) (label : Label) → written w ≡ es → w.label ≡ label → w.options ≡ default_options
+    → IfOk r (λ t. MatchOption t (written w ≡ []) (λ f. IsFinished w f.id f.checksum.0 f.bytes)) → IfOk r (λ t. MatchOption t (es ≡ []) (λ f. IsTableOf label es f.id f.checksum.0 f.bytes))
+table_by (Err e) w es label all named options h = tt
+table_by (Ok None) w es label all named options h = sym all ∙ h
+table_by (Ok (Some f)) w es label all named options h = finished w es label all named options f.id f.checksum.0 f.bytes h
+
+-- the fault that is told, memory aside
+pub faults_refusal : {X : Type 0} (r : Result X Error) (e : Error) (told : Option Error) → IsErrAnd r (λ y. y ≡ e) → (is_memory e ≡ false → told ≡ Some e) → Faults r told
+faults_refusal (Ok x) e told is fault = absurd is
+faults_refusal (Err y) e told is fault = rw is fault
