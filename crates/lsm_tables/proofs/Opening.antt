@@ -1,6 +1,6 @@
 -- A list that is written, opened and read.
-use Rattle.std.proofs.Common.{◌≡◌, refl, sym, subst, ◌∙◌, ℕ, ◌+◌, ◌-◌, ◌^◌, ◌<◌, Bool, true, false, cond, ltb, le-ltb, List, [], length, arith}
-use Rattle.std.specs.Prelude.{Option, Some, None, Result, Ok, Err, MatchResult}
+use Rattle.std.proofs.Common.{◌≡◌, refl, sym, subst, ◌∙◌, ℕ, ◌+◌, ◌-◌, ◌^◌, ◌<◌, Bool, true, false, cond, ltb, le-ltb, List, [], ◌∷◌, length, arith}
+use Rattle.std.specs.Prelude.{Option, Some, None, Result, Ok, Err}
 use Rattle.std.specs.Option.{option_or}
 use Rattle.std.specs.Result.{IsErrAnd}
 use Rattle.sst_entries.specs.declared.error.Error.{Error}
@@ -8,12 +8,16 @@ use Rattle.sst_entries.specs.declared.error.Error.TheVariants.{GlobalSeqNoTooLar
 use Rattle.sst_entries.specs.Entry.{Entry}
 use Rattle.sst_entries.specs.Error.{Faults, Gives, is_memory}
 use Rattle.sst_blocks.specs.Fnv.{fnv1a}
+use Rattle.sst_entries.specs.Point.{point}
+use Rattle.sst_entries.specs.Stream.{Deals, all_ok, nowhere, stopped}
 use Rattle.lsm_writers.specs.Facts.{highest_seqno}
 use Rattle.lsm_writers.specs.Options.{Options, Label, default_options}
 use Rattle.lsm_writers.specs.Table.{IsTable}
 use Rattle.lsm_writers.specs.Writing.{IsTableOf, list_fault}
-use Rattle.lsm_tables.specs.OfList.{IsOpened, list_told, number_fault, opening_fault, parts_said}
+use Rattle.lsm_tables.specs.OfList.{IsOpened, ReadsList, list_told, number_fault, opening_fault, parts_said}
+use Rattle.lsm_tables.specs.Answer.{lift}
 use Rattle.lsm_tables.specs.Parts.{Parts}
+use Rattle.lsm_tables.specs.Scan.{Scan, ScansNext}
 use Rattle.lsm_tables.specs.TableSeen.{TableSeen}
 
 fine_by : (large : Bool) (p q : Parts) → cond large (Err GlobalSeqNoTooLarge) (Ok p) ≡ Ok q → cond large (Some GlobalSeqNoTooLarge) None ≡ None
@@ -63,7 +67,37 @@ module _ (label : Label) (es : List Entry) (g : ℕ) where
 -- what was opened
 pub opened : (label : Label) (es : List Entry) (g id sum : ℕ) (bytes : List ℕ) (t : TableSeen) → IsTableOf label es id sum bytes → t.bytes ≡ bytes → t.global_seqno ≡ g → t.checksum ≡ sum → IsOpened label es g t
 opened label es g id sum bytes t f same number check = record {
+  some = f.some;
   table = subst (λ (b : List ℕ). IsTable label default_options b es) (sym same) f.table;
   number_is = number;
   checksum_is = check ∙ f.checksum_is ∙ subst (λ (b : List ℕ). fnv1a b ≡ fnv1a t.bytes) same refl;
+}
+
+-- ---- reading it
+
+some_length : (es : List Entry) → (es ≡ [] → ⊥) → 0 < length es
+some_length [] some = absurd (some refl)
+some_length (e ∷ es) some = omega arith
+
+-- reading a list is refused for want of memory alone
+pub read_alone : {X : Type 0} (found : X) (e : Error) → (is_memory e ≡ false → Ok found ≡ Err e) → (told : Option Error) → is_memory e ≡ false → told ≡ Some e
+read_alone {X} found e fails told memory = absurd (let no : Ok found ≡ Err e = fails memory in cc)
+
+pub scan_alone : (es : List Entry) (e : Error) (told : Option Error) → (es ≡ [] → ⊥) → (0 < length es → e ≡ OutOfMemory) → is_memory e ≡ false → told ≡ Some e
+scan_alone es e told some alone memory =
+    let is : true ≡ false = sym (subst (λ (x : Error). is_memory x ≡ true) (sym (alone (some_length es some))) refl) ∙ memory in
+    absurd cc
+
+abbrev read : Option Entry → Result (Option Entry) Error
+read found = Ok found
+
+value_of : (a b : Option Entry) → read a ≡ read b → b ≡ a
+value_of a b h = cc
+
+-- the answers, by the number that the table adds
+pub reads : (es : List Entry) (g n : ℕ) (key : List ℕ) (bound : ℕ) (found : Option Entry) (s : Scan) → n ≡ g → read (point (lift es n) key bound) ≡ read found
+    → ((stops : Error → Bool) → stops OutOfMemory ≡ true → Deals (stopped stops) ScansNext nowhere s (all_ok (lift es n))) → ReadsList es g key bound found s
+reads es g n key bound found s number told deals = record {
+  point_is = subst (λ (k : ℕ). found ≡ point (lift es k) key bound) number (value_of (point (lift es n) key bound) found told);
+  scan_is = λ stops memory. subst (λ (k : ℕ). Deals (stopped stops) ScansNext nowhere s (all_ok (lift es k))) number (deals stops memory);
 }

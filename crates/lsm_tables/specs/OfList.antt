@@ -1,5 +1,5 @@
 -- What a table of a list is recovered to.
-use Rattle.std.specs.Prelude.{◌≡◌, ℕ, Bool, true, ◌+◌, ◌-◌, ◌^◌, nat_lt, List, length, Option, Some, None, Result, Ok, Err, if◌then◌else◌}
+use Rattle.std.specs.Prelude.{◌≡◌, ℕ, Bool, true, ◌+◌, ◌-◌, ◌^◌, nat_lt, List, [], length, Option, Some, None, Result, Ok, Err, if◌then◌else◌}
 use Rattle.sst_blocks.specs.declared.version.TableVersion.{TableVersion}
 use Rattle.sst_blocks.specs.declared.block_type.BlockType.TheVariants.{Index, Meta}
 use Rattle.sst_blocks.specs.Block.{block_bytes}
@@ -66,6 +66,7 @@ opening_fault label es g = option_or (list_fault label es) (number_fault es g)
 
 -- an opened table of a list
 pub record IsOpened (label : Label) (es : List Entry) (g : ℕ) (t : TableSeen) : Type 0 where
+  pub some : es ≡ [] → ⊥
   pub table : IsTable label default_options t.bytes es
   pub number_is : t.global_seqno ≡ g
   pub checksum_is : t.checksum ≡ fnv1a t.bytes

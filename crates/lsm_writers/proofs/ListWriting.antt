@@ -1,14 +1,14 @@
 -- A list that is written entry by entry.
-use Rattle.std.proofs.Common.{◌≡◌, refl, sym, ◌∙◌, ap, subst, ℕ, Bool, true, false, IsTrue, append_assoc, append-nil, List, [], ◌∷◌, ◌++◌, ◌<◌, ◌-◌, ◌^◌, lt-ltb}
-use Rattle.std.specs.Prelude.{Option, Some, None, Result, Ok, Err, IfOk, MatchOption}
-use Rattle.std.specs.List.{AllByRecursion}
+use Rattle.std.proofs.Common.{◌≡◌, refl, sym, ◌∙◌, ap, subst, ℕ, Bool, true, false, IsTrue, append_assoc, append-nil, List, [], ◌∷◌, ◌++◌, ◌<◌, ◌-◌, ◌^◌, lt-ltb, ltb-true}
+use Rattle.std.specs.Prelude.{Option, Some, None, Result, Ok, Err, IfOk, MatchOption, nat_lt}
+use Rattle.std.specs.List.{AllByRecursion, list_all}
 use Rattle.std.specs.Result.{IsErrAnd}
 use Rattle.sst_entries.specs.declared.value_type.ValueType.TheVariants.{Value}
 use Rattle.sst_entries.specs.Entry.{Entry, entry}
 use Rattle.sst_entries.specs.Error.{is_memory, Faults}
 use Rattle.sst_entries.specs.Strict.{last_of, IsStrictAfter}
 use Rattle.sst_entries.specs.declared.error.Error.{Error}
-use Rattle.sst_entries.proofs.Booleans.{and_both}
+use Rattle.sst_entries.proofs.Booleans.{and_both, and_parts}
 use Rattle.sst_entries.proofs.Lists.{all_behind}
 use Rattle.lsm_writers.specs.declared.writer.FinishedTable.{FinishedTable}
 use Rattle.lsm_writers.specs.Options.{Options, Label, default_options}
@@ -47,6 +47,7 @@ same_label w e = label_by w e _ refl
 module _ (w : Writing) (es : List Entry) (label : Label) (all : written w ≡ es) (named : w.label ≡ label) (options : w.options ≡ default_options) where
   finished : (id checksum : ℕ) (bytes : List ℕ) → IsFinished w id checksum bytes → IsTableOf label es id checksum bytes
   finished id checksum bytes f = record {
+    some = λ none. f.some (all ∙ none);
     id_is = f.id_is ∙ ap (λ (l : Label). l.table_id) named;
     checksum_is = f.checksum_is;
     table =
@@ -65,3 +66,14 @@ table_by (Ok (Some f)) w es label all named options h = finished w es label all 
 pub faults_refusal : {X : Type 0} (r : Result X Error) (e : Error) (told : Option Error) → IsErrAnd r (λ y. y ≡ e) → (is_memory e ≡ false → told ≡ Some e) → Faults r told
 faults_refusal (Ok x) e told is fault = absurd is
 faults_refusal (Err y) e told is fault = rw is fault
+
+-- a list whose numbers are all below the largest one, as a test
+pub numbered_from_test : (es : List Entry) → list_all (λ (e : Entry). nat_lt e.seqno (2 ^ 64 - 1)) es ≡ true → AllByRecursion (λ (e : Entry). e.seqno < 2 ^ 64 - 1) es
+numbered_from_test [] h = tt
+numbered_from_test (e ∷ es) h =
+    let p = and_parts (nat_lt e.seqno (2 ^ 64 - 1)) (list_all (λ (x : Entry). nat_lt x.seqno (2 ^ 64 - 1)) es) h in
+    (ltb-true _ _ p.0, numbered_from_test es p.1)
+
+pub test_from_numbered : (es : List Entry) → AllByRecursion (λ (e : Entry). e.seqno < 2 ^ 64 - 1) es → list_all (λ (e : Entry). nat_lt e.seqno (2 ^ 64 - 1)) es ≡ true
+test_from_numbered [] h = refl
+test_from_numbered (e ∷ es) h = and_both _ _ (lt-ltb _ _ h.0) (test_from_numbered es h.1)

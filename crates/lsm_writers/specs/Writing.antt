@@ -111,6 +111,7 @@ list_fault label es = writing_fault (new_writing label) es
 
 -- a finished table of a list: its id, its checksum and its bytes
 pub record IsTableOf (label : Label) (es : List Entry) (id : ℕ) (checksum : ℕ) (bytes : List ℕ) : Type 0 where
+  pub some : es ≡ [] → ⊥
   pub id_is : id ≡ label.table_id
   pub checksum_is : checksum ≡ fnv1a bytes
   pub table : IsTable label default_options bytes es

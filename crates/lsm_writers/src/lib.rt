@@ -7,7 +7,7 @@ mod timestamp;
 mod writer;
 
 pub use id::{GlobalTableId, TableId, TreeId};
-pub use list::write_list;
+pub use list::{is_writable, write_list};
 pub use timestamp::Timestamp;
 pub use writer::index::{BlockIndexWriter, FullIndexWriter};
 pub use writer::meta::Metadata;

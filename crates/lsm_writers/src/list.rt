@@ -1,12 +1,29 @@
 //! Writing a whole list as one table.
-ghost use Rattle.std.specs.Prelude.{◌≡◌, [], IfOk, MatchOption};
+ghost use Rattle.std.specs.Prelude.{◌≡◌, ◌↔◌, ◌-◌, ◌^◌, [], nat_lt, IfOk, IsTrue, MatchOption};
+ghost use Rattle.std.specs.List.{list_all};
+ghost use Rattle.sst_entries.specs.Entry.{Entry};
 ghost use Rattle.sst_entries.specs.Error.{Faults};
 ghost use Rattle.lsm_writers.specs.Options.{label_of};
 ghost use Rattle.lsm_writers.specs.Writing.{IsTableOf, IsWritable, list_fault};
 
 use crate::{FinishedTable, TableId, Timestamp, Writer};
-use sst_blocks::{Error, InternalValue};
+use sst_blocks::{Error, InternalValue, SeqNo};
+use sst_entries::are_strict;
 use std::alloc::Allocator;
+
+fn are_numbered<A: Allocator>(items: &[InternalValue<A>]) -> bool
+    ensures { result ≡ list_all (λ (e : Entry). nat_lt e.seqno (2 ^ 64 - 1)) items.now }
+{
+    items.iter().all(|item| item.key.seqno < SeqNo::MAX)
+}
+
+/// Whether a table can be written of some entries: each comes strictly before the next by key and number, and each number is
+/// below `u64::MAX`.
+pub fn is_writable<A: Allocator>(items: &[InternalValue<A>]) -> bool
+    ensures { IsTrue result ↔ IsWritable items.now }
+{
+    are_strict(items) && are_numbered(items)
+}
 
 /// Writes a list as one table, as a [`Writer`] does that is told nothing else; `None` where the list has no entry. The table
 /// stands at `initial_level` and is created at a moment that is handed in.

@@ -173,7 +173,7 @@ impl<A: Allocator + Clone> Writer<A> {
         ensures failed { OnErr result (self.new.failed ≡ true) }
     {
         if self.failed {
-            return Err(Error::WriterFailed);
+            return Err(Error::WriterFailed); // nothing is cut
         }
         self.failed = true;
         self.blocks

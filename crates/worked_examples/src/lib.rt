@@ -8,6 +8,8 @@ mod changed_meta;
 #[cfg(test)]
 mod layout;
 #[cfg(test)]
+mod lists;
+#[cfg(test)]
 mod point_reads;
 #[cfg(test)]
 mod scans;

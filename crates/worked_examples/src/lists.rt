@@ -1,0 +1,170 @@
+//! Lists that are written as one table, opened and read.
+use crate::tables::{Row, entry};
+use lsm_tables::{Scanner, read_back, write_and_open};
+use lsm_writers::{Timestamp, is_writable, write_list};
+use refusing::{Refusing, each_refused};
+use sst_blocks::{Error, InternalValue, SeqNo, ValueType};
+use std::alloc::{Allocator, Global};
+use std::ops::Bound;
+use std::test::Fail;
+
+const ROWS: [Row<'static>; 4] = [
+    (b"a", 9, ValueType::Value, b"x"),
+    (b"a", 7, ValueType::Tombstone, b""),
+    (b"a", 5, ValueType::Value, b"y"),
+    (b"b", 1, ValueType::Value, b"z"),
+];
+
+fn list_of<A: Allocator + Clone>(
+    alloc: A,
+    rows: &[Row<'_>],
+) -> Result<Vec<InternalValue<A>, A>, Error> {
+    let mut items = Vec::new(alloc.clone()?);
+    for row in rows {
+        items.push(entry(alloc.clone()?, row)?)?;
+    }
+    Ok(items)
+}
+
+// The numbers that a scan gives, four at most; 0 where nothing comes.
+fn numbers<A: Allocator + Clone>(mut scanner: Scanner<A>) -> Result<[SeqNo; 5], Error> {
+    let mut numbers = [0; 5];
+    for slot in numbers.iter_mut() {
+        if let Some(item) = scanner.next() {
+            *slot = item?.key.seqno;
+        }
+    }
+    Ok(numbers)
+}
+
+// The number of the entry that a read of a list finds, and the numbers of a scan; `Source(0)` where no table can be written.
+fn read_rows<A: Allocator + Clone>(
+    alloc: A,
+    rows: &[Row<'_>],
+    global_seqno: SeqNo,
+    key: &[u8],
+    seqno: SeqNo,
+) -> Result<Option<(Option<SeqNo>, [SeqNo; 5])>, Error> {
+    let items = list_of(alloc.clone()?, rows)?;
+    if !is_writable(&items) {
+        return Err(Error::Source(0));
+    }
+    match read_back(alloc, items, global_seqno, key, seqno)? {
+        None => Ok(None),
+        Some((found, scanner)) => {
+            Ok(Some((found.map(|item| item.key.seqno), numbers(scanner)?)))
+        }
+    }
+}
+
+#[test]
+fn a_list_is_read_back(rt: HostRuntime) -> Result<(), Fail> {
+    let alloc = rt.alloc();
+    let plain = Some((Some(7), [9, 7, 5, 1, 0]));
+    assert!(rt; read_rows(alloc, &ROWS, 0, b"a", 8)? == plain);
+    let lifted = Some((Some(17), [19, 17, 15, 11, 0]));
+    assert!(rt; read_rows(alloc, &ROWS, 10, b"a", 18)? == lifted);
+    let missed = Some((None, [9, 7, 5, 1, 0]));
+    assert!(rt; read_rows(alloc, &ROWS, 0, b"c", 8)? == missed);
+    assert!(rt; read_rows(alloc, &[], 3, b"a", 8)? == None);
+    Ok(())
+}
+
+#[test]
+fn a_list_that_is_not_strict_or_numbered_too_high_is_not_written(rt: HostRuntime) {
+    let alloc = rt.alloc();
+    let twice = [ROWS[3], ROWS[3]];
+    assert!(rt; read_rows(alloc, &twice, 0, b"b", 2) == Err(Error::Source(0)));
+    let largest: [Row<'static>; 1] = [(b"a", u64::MAX, ValueType::Value, b"")];
+    assert!(rt; read_rows(alloc, &largest, 0, b"a", 2) == Err(Error::Source(0)));
+}
+
+#[test]
+fn a_number_that_passes_the_largest_one_is_refused(rt: HostRuntime) -> Result<(), Fail> {
+    let alloc = rt.alloc();
+    let refused = Err(Error::GlobalSeqNoTooLarge);
+    assert!(rt; read_rows(alloc, &ROWS, u64::MAX - 8, b"a", 8) == refused);
+    let lifted = Some((
+        None,
+        [u64::MAX, u64::MAX - 2, u64::MAX - 4, u64::MAX - 8, 0],
+    ));
+    assert!(rt; read_rows(alloc, &ROWS, u64::MAX - 9, b"a", 1)? == lifted);
+    Ok(())
+}
+
+#[test]
+fn a_list_read_back_with_each_request_refused(rt: HostRuntime) -> Result<(), Fail> {
+    let whole = Some((Some(7), [9, 7, 5, 1, 0]));
+    let answers = each_refused(rt.alloc(), |heap: &Refusing, may_fail: bool| {
+        match read_rows(heap, &ROWS, 0, b"a", 8) {
+            Ok(read) => read == whole,
+            Err(Error::OutOfMemory) => may_fail,
+            Err(_) => false,
+        }
+    });
+    assert!(rt; answers.is_ok());
+    Ok(())
+}
+
+// What a table of the rows says: its id, its entries, its tombstones and its highest number.
+fn says(alloc: Global) -> Result<Option<[u64; 4]>, Error> {
+    let items = list_of(alloc, &ROWS)?;
+    if !is_writable(&items) {
+        return Err(Error::Source(0));
+    }
+    match write_and_open(alloc, 3, Timestamp::from(5), items, 10)? {
+        None => Ok(None),
+        Some(table) => {
+            table.tells_its_list();
+            Ok(Some([
+                table.id(),
+                table.metadata.item_count,
+                table.tombstone_count(),
+                table.get_highest_seqno(),
+            ]))
+        }
+    }
+}
+
+#[test]
+fn an_opened_table_says_what_the_list_says(rt: HostRuntime) -> Result<(), Fail> {
+    assert!(rt; says(rt.alloc())? == Some([3, 4, 1, 19]));
+    Ok(())
+}
+
+// Whether a table of the rows may have keys from `c` on, and from `b` on.
+fn overlaps(alloc: Global) -> Result<Option<(bool, bool)>, Error> {
+    let items = list_of(alloc, &ROWS)?;
+    if !is_writable(&items) {
+        return Err(Error::Source(0));
+    }
+    match write_and_open(alloc, 3, Timestamp::from(5), items, 0)? {
+        None => Ok(None),
+        Some(table) => Ok(Some((
+            table.check_key_range_overlap(&(Bound::Included(b"c"), Bound::Unbounded)),
+            table.check_key_range_overlap(&(Bound::Included(b"b"), Bound::Unbounded)),
+        ))),
+    }
+}
+
+#[test]
+fn a_table_past_its_last_key_has_no_entry(rt: HostRuntime) -> Result<(), Fail> {
+    assert!(rt; overlaps(rt.alloc())? == Some((false, true)));
+    Ok(())
+}
+
+// The id of a list's table.
+fn written_id(alloc: Global, rows: &[Row<'_>]) -> Result<Option<u64>, Error> {
+    let items = list_of(alloc, rows)?;
+    if !is_writable(&items) {
+        return Err(Error::Source(0));
+    }
+    Ok(write_list(alloc, 3, 0, Timestamp::from(5), items)?.map(|table| table.id))
+}
+
+#[test]
+fn a_list_without_entries_has_no_table(rt: HostRuntime) -> Result<(), Fail> {
+    assert!(rt; written_id(rt.alloc(), &ROWS)? == Some(3));
+    assert!(rt; written_id(rt.alloc(), &[])? == None);
+    Ok(())
+}
