@@ -8,6 +8,7 @@ use Rattle.sst_entries.specs.declared.error.Error.TheVariants.{GlobalSeqNoTooLar
 use Rattle.sst_entries.specs.Entry.{Entry}
 use Rattle.sst_entries.specs.Error.{Faults, Gives, is_memory}
 use Rattle.sst_blocks.specs.Fnv.{fnv1a}
+use Rattle.sst_blocks.specs.declared.version.TableVersion.TheVariants.{V4}
 use Rattle.sst_entries.specs.Point.{point}
 use Rattle.sst_entries.specs.Stream.{Deals, all_ok, nowhere, stopped}
 use Rattle.lsm_writers.specs.Facts.{highest_seqno}
@@ -66,12 +67,16 @@ module _ (label : Label) (es : List Entry) (g : ℕ) where
 
 -- what was opened
 pub opened : (label : Label) (es : List Entry) (g id sum : ℕ) (bytes : List ℕ) (t : TableSeen) → IsTableOf label es id sum bytes → t.bytes ≡ bytes → t.global_seqno ≡ g → t.checksum ≡ sum → IsOpened label es g t
-opened label es g id sum bytes t f same number check = record {
-  some = f.some;
-  table = subst (λ (b : List ℕ). IsTable label default_options b es) (sym same) f.table;
-  number_is = number;
-  checksum_is = check ∙ f.checksum_is ∙ subst (λ (b : List ℕ). fnv1a b ≡ fnv1a t.bytes) same refl;
-}
+opened label es g id sum bytes t f same number check =
+    let P : List ℕ → Type 0 = λ b. (x : IsTable label default_options b es) × (x.version ≡ V4) in
+    let table : P t.bytes = subst P (sym same) (f.table, f.version_is) in
+    record {
+      some = f.some;
+      table = table.0;
+      version_is = table.1;
+      number_is = number;
+      checksum_is = check ∙ f.checksum_is ∙ subst (λ (b : List ℕ). fnv1a b ≡ fnv1a t.bytes) same refl;
+    }
 
 -- ---- reading it
 

@@ -1,6 +1,7 @@
 -- What a table of a list is recovered to.
 use Rattle.std.specs.Prelude.{◌≡◌, ℕ, Bool, true, ◌+◌, ◌-◌, ◌^◌, nat_lt, List, [], length, Option, Some, None, Result, Ok, Err, if◌then◌else◌}
 use Rattle.sst_blocks.specs.declared.version.TableVersion.{TableVersion}
+use Rattle.sst_blocks.specs.declared.version.TableVersion.TheVariants.{V4}
 use Rattle.sst_blocks.specs.declared.block_type.BlockType.TheVariants.{Index, Meta}
 use Rattle.sst_blocks.specs.Block.{block_bytes}
 use Rattle.sst_entries.specs.declared.error.Error.{Error}
@@ -64,10 +65,11 @@ number_fault es g = if nat_lt (2 ^ 64 - 1) (highest_seqno es + g) then Some Glob
 abbrev pub opening_fault : Label → List Entry → ℕ → Option Error
 opening_fault label es g = option_or (list_fault label es) (number_fault es g)
 
--- an opened table of a list
+-- an opened table of a list, in the version that is written
 pub record IsOpened (label : Label) (es : List Entry) (g : ℕ) (t : TableSeen) : Type 0 where
   pub some : es ≡ [] → ⊥
   pub table : IsTable label default_options t.bytes es
+  pub version_is : table.version ≡ V4
   pub number_is : t.global_seqno ≡ g
   pub checksum_is : t.checksum ≡ fnv1a t.bytes
 

@@ -3,6 +3,7 @@ use Rattle.std.proofs.Common.{◌≡◌, refl, sym, ◌∙◌, ap, subst, ℕ, B
 use Rattle.std.specs.Prelude.{Option, Some, None, Result, Ok, Err, IfOk, MatchOption, nat_lt}
 use Rattle.std.specs.List.{AllByRecursion, list_all}
 use Rattle.std.specs.Result.{IsErrAnd}
+use Rattle.sst_blocks.specs.declared.version.TableVersion.TheVariants.{V4}
 use Rattle.sst_entries.specs.declared.value_type.ValueType.TheVariants.{Value}
 use Rattle.sst_entries.specs.Entry.{Entry, entry}
 use Rattle.sst_entries.specs.Error.{is_memory, Faults}
@@ -46,15 +47,18 @@ same_label w e = label_by w e _ refl
 -- what a writer of all entries finishes
 module _ (w : Writing) (es : List Entry) (label : Label) (all : written w ≡ es) (named : w.label ≡ label) (options : w.options ≡ default_options) where
   finished : (id checksum : ℕ) (bytes : List ℕ) → IsFinished w id checksum bytes → IsTableOf label es id checksum bytes
-  finished id checksum bytes f = record {
-    some = λ none. f.some (all ∙ none);
-    id_is = f.id_is ∙ ap (λ (l : Label). l.table_id) named;
-    checksum_is = f.checksum_is;
-    table =
-        subst (λ (l : Label). IsTable l default_options bytes es) named
-        (subst (λ (o : Options). IsTable w.label o bytes es) options
-        (subst (λ (xs : List Entry). IsTable w.label w.options bytes xs) all (finished_table w id checksum bytes f)));
-  }
+  finished id checksum bytes f =
+      let P : Label → Options → List Entry → Type 0 = λ l o xs. (t : IsTable l o bytes xs) × (t.version ≡ V4) in
+      let made : P w.label w.options (written w) = (finished_table w id checksum bytes f, refl) in
+      let table : P label default_options es =
+      subst (λ (l : Label). P l default_options es) named (subst (λ (o : Options). P w.label o es) options (subst (λ (xs : List Entry). P w.label w.options xs) all made)) in
+      record {
+        some = λ none. f.some (all ∙ none);
+        id_is = f.id_is ∙ ap (λ (l : Label). l.table_id) named;
+        checksum_is = f.checksum_is;
+        table = table.0;
+        version_is = table.1;
+      }
 
 pub table_by : {A : Type 0} (r : Result (Option (FinishedTable A)) Error) (w : Writing) (es : List Entry) (label : Label) → written w ≡ es → w.label ≡ label → w.options ≡ default_options
     → IfOk r (λ t. MatchOption t (written w ≡ []) (λ f. IsFinished w f.id f.checksum.0 f.bytes)) → IfOk r (λ t. MatchOption t (es ≡ []) (λ f. IsTableOf label es f.id f.checksum.0 f.bytes))

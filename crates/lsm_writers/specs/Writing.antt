@@ -115,3 +115,4 @@ pub record IsTableOf (label : Label) (es : List Entry) (id : ℕ) (checksum : �
   pub id_is : id ≡ label.table_id
   pub checksum_is : checksum ≡ fnv1a bytes
   pub table : IsTable label default_options bytes es
+  pub version_is : table.version ≡ V4

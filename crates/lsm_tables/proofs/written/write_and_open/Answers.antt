@@ -1,6 +1,6 @@
 use Rattle.std.proofs.Common.{refl, arith}
 use Rattle.lsm_writers.specs.Options.{default_options, label_of}
-use Rattle.lsm_tables.proofs.Opening.{none_written, opens, passes_on, unopened}
+use Rattle.lsm_tables.proofs.Opening.{none_written, opened, opens, passes_on, unopened}
 use Rattle.lsm_tables.proofs.written.write_and_open.Goals as goal
 
 pub returns-in_err-opened-in-Some-clause-refused : goal.returns-in_err-opened-in-Some-clause-refused
@@ -23,3 +23,10 @@ returns-in_ok-opened-in-Some-clause-refused g c =
     let es = c.args.items.items in
     let f = rw c.in-Some.is at c.in_ok-write_list.ensures.table in
     opens label es c.args.global_seqno c.in-Some.table.bytes f.table c.in_ok-write_list.ensures.refused c.in_ok-opened-in-Some.opened.parts (c.in_ok-opened-in-Some.ensures.list label default_options es f.table refl)
+
+pub returns-in_ok-opened-in-Some-clause-table : goal.returns-in_ok-opened-in-Some-clause-table
+returns-in_ok-opened-in-Some-clause-table g c =
+    let t = c.in-Some.table in
+    let f = rw c.in-Some.is at c.in_ok-write_list.ensures.table in
+    let o = c.in_ok-opened-in-Some.ensures in
+    opened (label_of c.args.id 0 c.args.created_at) c.args.items.items c.args.global_seqno t.id t.checksum.0 t.bytes c.in_ok-opened-in-Some.opened f o.bytes o.numbers.0 o.numbers.2
