@@ -4,3 +4,4 @@ pub mod RefusalLemmas
 pub mod RunLemmas
 pub mod ScriptLemmas
 pub mod TableLemmas
+pub mod OpenLemmas

@@ -5,12 +5,13 @@ use Rattle.std.proofs.lemmas.Grind.{flat_map-append}
 use Rattle.std.proofs.lemmas.List.{append-nil}
 use Rattle.sst_entries.specs.declared.value_type.ValueType.TheVariants.{Value}
 use Rattle.sst_entries.specs.Entry.{Entry, entry}
-use Rattle.sst_entries.specs.Strict.{last_of, IsStrictAfter}
+use Rattle.sst_entries.specs.Strict.{last_of, IsStrict, IsStrictAfter}
 use Rattle.sst_entries.specs.declared.error.Error.{Error}
 use Rattle.sst_blocks.specs.declared.version.TableVersion.TheVariants.{V4}
 use Rattle.lsm_writers.specs.declared.writer.FinishedTable.{FinishedTable}
 use Rattle.lsm_writers.specs.File.{IsFile}
-use Rattle.lsm_writers.specs.Options.{Options, Label, default_options}
+use Rattle.lsm_writers.specs.Fits.{Fits}
+use Rattle.lsm_writers.specs.Options.{Options, Label, default_options, label_of}
 use Rattle.lsm_writers.specs.Writing.{follows, gained, written, spills_of, IsFinished, Writing}
 use Rattle.lsm_writers.specs.Chunks.{joined, is_full}
 use Rattle.lsm_writers.proofs.Listing.{all-append, all_back}
@@ -68,15 +69,19 @@ same_label w e = label_by w e _ refl
 -- what a writer of all entries finishes
 module _ (w : Writing) (es : List Entry) (id : ℕ) (all : written w ≡ es) (label : w.label ≡ record { table_id = id; initial_level = 0; created_at = 0 }) (options : w.options ≡ default_options) where
   finished : (found checksum : ℕ) (bytes : List ℕ) → IsFinished w found checksum bytes → IsTableOf es id found checksum bytes
-  finished found checksum bytes f = record {
-    id_is = f.id_is ∙ ap (λ (l : Label). l.table_id) label;
-    checksum_is = f.checksum_is;
-    spills = spills_of w;
-    file =
-        subst (λ (l : Label). IsFile V4 bytes l default_options (spills_of w) es) label
-        (subst (λ (o : Options). IsFile V4 bytes w.label o (spills_of w) es) options
-        (subst (λ (xs : List Entry). IsFile V4 bytes w.label w.options (spills_of w) xs) all f.file_is));
-  }
+  finished found checksum bytes f =
+      let P : Label → Options → List Entry → Type 0 = λ l o xs. (t : IsFile V4 bytes l o (spills_of w) xs) × IsStrict xs × Fits V4 l t.blocks in
+      let made : P w.label w.options (written w) = (f.file_is, f.strict, f.fits) in
+      let table : P (label_of id 0 0) default_options es =
+      subst (λ (l : Label). P l default_options es) label (subst (λ (o : Options). P w.label o es) options (subst (λ (xs : List Entry). P w.label w.options xs) all made)) in
+      record {
+        id_is = f.id_is ∙ ap (λ (l : Label). l.table_id) label;
+        checksum_is = f.checksum_is;
+        spills = spills_of w;
+        file = table.0;
+        strict = table.1;
+        fits = table.2;
+      }
 
 pub table_by : {A : Type 0} (r : Result (Option (FinishedTable A)) Error) (w : Writing) (es : List Entry) (id : ℕ) → written w ≡ es → w.label ≡ record { table_id = id; initial_level = 0; created_at = 0 } → w.options ≡ default_options
     → IfOk r (λ t. MatchOption t (written w ≡ []) (λ f. IsFinished w f.id f.checksum.0 f.bytes)) → IfOk r (λ t. MatchOption t (es ≡ []) (λ f. IsTableOf es id f.id f.checksum.0 f.bytes))

@@ -5,10 +5,9 @@ use Rattle.sst_entries.specs.declared.error.Error.{Error}
 use Rattle.sst_entries.specs.declared.error.Error.TheVariants.{OutOfMemory, TableIdsSpent}
 use Rattle.sst_entries.specs.Entry.{Entry}
 use Rattle.sst_entries.specs.Error.{is_memory, Fails}
-use Rattle.lsm_tables.specs.Parts.{recovered_told}
 use Rattle.lsm_tables.specs.TableSeen.{TableSeen}
 use Rattle.sst.specs.declared.stop.Failure.TheVariants.{Refused}
-use Rattle.sst.specs.Pending.{IsTableOf, table_fault}
+use Rattle.sst.specs.Pending.{table_fault}
 use Rattle.sst.specs.Script.{repeated_told, IsUnwritten, RefusesTable}
 
 module _ (runs : List TableSeen) (es : List Entry) where
@@ -33,10 +32,8 @@ module _ (runs : List TableSeen) (es : List Entry) where
     -- the entries could not be written
     pub unwritten : (next : Option ℕ) (id : ℕ) (e : Error) → next ≡ Some id → (is_memory e ≡ false → table_fault id es ≡ Some e) → RefusesTable runs es next (Refused e)
     unwritten next id e drawn fault =
-        unwritten_by next e _ refl (λ memory. subst (λ (n : Option ℕ). IsUnwritten es n e) (sym drawn) (inl (fault memory)))
+        unwritten_by next e _ refl (λ memory. subst (λ (n : Option ℕ). IsUnwritten es n e) (sym drawn) (fault memory))
 
-    -- what was written of them could not be opened
-    pub unopened : (next : Option ℕ) (id : ℕ) (e : Error) (found checksum : ℕ) (bytes : List ℕ) → next ≡ Some id → IsTableOf es id found checksum bytes → Fails e (recovered_told bytes 0) → RefusesTable runs es next (Refused e)
-    unopened next id e found checksum bytes drawn table fails =
-        let named : IsTableOf es id id checksum bytes = subst (λ (n : ℕ). IsTableOf es id n checksum bytes) table.id_is table in
-        unwritten_by next e _ refl (λ memory. subst (λ (n : Option ℕ). IsUnwritten es n e) (sym drawn) (inr (checksum, bytes, named, fails memory)))
+  -- what was written of them could not be opened for want of memory
+  pub unopened : (next : Option ℕ) (e : Error) → e ≡ OutOfMemory → RefusesTable runs es next (Refused e)
+  unopened next e memory = subst (λ (x : Error). RefusesTable runs es next (Refused x)) (sym memory) (wants_memory next)

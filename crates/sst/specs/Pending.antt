@@ -8,7 +8,9 @@ use Rattle.sst_entries.specs.Entry.{Entry}
 use Rattle.sst_blocks.specs.Fnv.{fnv1a}
 use Rattle.sst_entries.specs.Strict.{IsStrict}
 use Rattle.lsm_writers.specs.File.{IsFile}
-use Rattle.lsm_writers.specs.Options.{default_options}
+use Rattle.lsm_writers.specs.Fits.{Fits}
+use Rattle.lsm_writers.specs.Options.{default_options, label_of}
+use Rattle.lsm_writers.specs.Table.{IsTable}
 use Rattle.lsm_writers.specs.Writing.{Writing, write_fault, finish_fault, gained}
 
 -- an entry is numbered below the largest number
@@ -20,16 +22,22 @@ pub record IsPending (es : List Entry) : Type 0 where
   pub strict : IsStrict es
   pub numbered : AllByRecursion IsNumbered es
 
--- a finished table of a list: its id, its checksum and its bytes
+-- a finished table of a list: its id, its checksum and its bytes, which fit what readers read
 pub record IsTableOf (es : List Entry) (id found checksum : ℕ) (bytes : List ℕ) : Type 0 where
   pub id_is : found ≡ id
   pub checksum_is : checksum ≡ fnv1a bytes
   pub spills : List ℕ
-  pub file : IsFile V4 bytes (record { table_id = id; initial_level = 0; created_at = 0 }) default_options spills es
+  pub file : IsFile V4 bytes (label_of id 0 0) default_options spills es
+  pub strict : IsStrict es
+  pub fits : Fits V4 (label_of id 0 0) file.blocks
+
+-- readers see a table of the list
+abbrev pub as_table : (es : List Entry) (id found checksum : ℕ) (bytes : List ℕ) → IsTableOf es id found checksum bytes → IsTable (label_of id 0 0) default_options bytes es
+as_table es id found checksum bytes t = record { version = V4; spills = t.spills; file = t.file; strict = t.strict; fits = t.fits }
 
 -- a writer of a table that has no entry yet
 abbrev pub new_writing : ℕ → Writing
-new_writing id = record { label = record { table_id = id; initial_level = 0; created_at = 0 }; options = default_options; cut = []; pending = []; failed = false }
+new_writing id = record { label = label_of id 0 0; options = default_options; cut = []; pending = []; failed = false }
 
 -- the first fault of writing some entries one by one and then finishing
 abbrev pub writing_fault : Writing → List Entry → Option Error

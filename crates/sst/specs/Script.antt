@@ -18,7 +18,7 @@ use Rattle.sst.specs.declared.print.Answer.{Answer}
 use Rattle.sst.specs.declared.print.Answer.TheVariants.{Silent, Tables, Found}
 use Rattle.sst.specs.declared.stop.Failure.{Failure}
 use Rattle.sst.specs.declared.stop.Failure.TheVariants.{BadLine, Refused}
-use Rattle.sst.specs.Pending.{IsTableOf, table_fault}
+use Rattle.sst.specs.Pending.{table_fault}
 use Rattle.sst.specs.Runs.{held_told, newest_told}
 
 -- what a script has built so far: the entries of the next table, the runs, the newest first, and the next id
@@ -57,12 +57,10 @@ Writes es old new old_id new_id count =
     ((es ≡ []) × (count ≡ 0) × (new ≡ old) × (new_id ≡ old_id))
     ⊎ ((count ≡ 1) × ((id : ℕ) × (old_id ≡ Some id) × (new_id ≡ next_id id) × AddsRun es id old new))
 
--- why a list is not written as a table: ids are used up, the list has a fault, or what is written of it cannot be opened
+-- why a list is not written as a table: ids are used up, or the list has a fault
 abbrev pub IsUnwritten : List Entry → Option ℕ → Error → Type 0
 IsUnwritten es None e = e ≡ TableIdsSpent
-IsUnwritten es (Some id) e =
-    (table_fault id es ≡ Some e)
-    ⊎ ((checksum : ℕ) × (bytes : List ℕ) × IsTableOf es id id checksum bytes × (recovered_told bytes 0 ≡ Err e))
+IsUnwritten es (Some id) e = table_fault id es ≡ Some e
 
 -- why pending entries become no run: a run holds one of them; a run's read is refused; or no run holds one, and writing them is
 -- refused. Memory may be refused throughout

@@ -3,6 +3,8 @@ use Rattle.std.specs.Prelude.{Some, Ok}
 use Rattle.sst_blocks.specs.Fnv.{fnv1a}
 use Rattle.sst_entries.specs.declared.error.Error.TheVariants.{OutOfMemory}
 use Rattle.sst.specs.declared.stop.Failure.TheVariants.{Refused}
+use Rattle.lsm_writers.specs.Options.{default_options, label_of}
+use Rattle.sst.specs.Pending.{as_table}
 use Rattle.sst.specs.Script.{next_id, RefusesTable}
 use Rattle.sst.proofs.RefusalLemmas.{passes}
 use Rattle.sst.proofs.TableLemmas.{wants_memory, unread, ids_spent, unwritten, unopened}
@@ -57,7 +59,8 @@ returns-in_err-run-clause-refused g c =
     let t = c.in-Some.table in
     let found = rw c.in-Some.is at c.in_ok-table.ensures.table in
     let table = rw c.replace-pending.ensures.value at found in
-    passes c.from_residual-in_err-run.result (Refused e) (RefusesTable s.runs.items s.pending s.next_id) c.from_residual-in_err-run.ensures.1 (unopened s.runs.items s.pending (c.in_ok-is_repeated.ensures ∙ ap (λ (b : Bool). Ok b) c.if-branch.false) s.next_id c.in_ok-id.id e t.id t.checksum.0 t.bytes c.in_ok-id.ensures.ok_part table c.in_err-run.ensures.told)
+    let opens = c.in_err-run.ensures.list (label_of c.in_ok-id.id 0 0) default_options s.pending (as_table s.pending c.in_ok-id.id t.id t.checksum.0 t.bytes table) refl in
+    passes c.from_residual-in_err-run.result (Refused e) (RefusesTable s.runs.items s.pending s.next_id) c.from_residual-in_err-run.ensures.1 (unopened s.runs.items s.pending s.next_id e opens)
 
 pub returns-in_err-insert-clause-refused : goal.returns-in_err-insert-clause-refused
 returns-in_err-insert-clause-refused g c =
