@@ -1,34 +1,32 @@
 -- The keys of a strict list lie between its ends.
 use Rattle.std.proofs.Common.{◌≡◌, refl, sym, ap, subst, ◌∙◌, ℕ, Bool, true, false, List, [], ◌∷◌, IsTrue}
-use Rattle.std.specs.Prelude.{Option, Some, None, ◌&&◌, unwrap_or}
+use Rattle.std.specs.Prelude.{Option, Some, None, ◌&&◌, not, unwrap_or}
 use Rattle.std.specs.List.{AllByRecursion}
 use Rattle.std.specs.Option.{option_map}
-use Rattle.std.specs.Cmp.Lexicographic.{slice_cmp}
-use Rattle.std.specs.Ordering.{nat_cmp, is_lt, is_le, ordering_then}
+use Rattle.std.specs.Cmp.Lexicographic.{slice_cmp, nat_list_cmp_total}
+use Rattle.std.specs.Ordering.{nat_cmp, is_lt, ordering_reverse, ordering_then}
 use Rattle.std.specs.declared.cmp.Ordering.{Ordering}
 use Rattle.std.specs.declared.cmp.Ordering.TheVariants.{Less, Equal, Greater}
 use Rattle.std.specs.declared.ops.Bound.{Bound}
-use Rattle.std.specs.declared.ops.Bound.TheVariants.{Included, Excluded, Unbounded}
 use Rattle.sst_entries.specs.Entry.{Entry}
 use Rattle.sst_entries.specs.Point.{is_from, is_to, within}
 use Rattle.sst_entries.specs.Strict.{is_before, IsStrictAfter, IsStrict, last_of}
 use Rattle.sst_entries.proofs.Booleans.{and_both, and_parts, is_false}
-use Rattle.sst_entries.proofs.Lists.{all_more}
 use Rattle.sst_entries.proofs.OrderLemmas.{before_trans}
-use Rattle.lsm_ranges.specs.KeyRange.{Interval, key_le, has_key, from_lower, up_to_upper}
-use Rattle.lsm_ranges.proofs.IntervalLemmas.{le_not, le_refl, le_trans}
+use Rattle.lsm_ranges.specs.KeyRange.{Interval, IsOutside, key_le, has_key}
+use Rattle.lsm_ranges.proofs.IntervalLemmas.{le_refl, le_trans}
 use Rattle.lsm_writers.specs.Facts.{facts}
 use Rattle.lsm_writers.specs.Index.{last_entry}
 use Rattle.lsm_tables.specs.OfList.{ends_of}
 use Rattle.lsm_tables.proofs.FileLengths.{last_some}
 
-le_of_then : (o p : Ordering) → is_lt (ordering_then o p) ≡ true → is_le o ≡ true
-le_of_then Less p h = refl
-le_of_then Equal p h = refl
-le_of_then Greater p h = absurd cc
+not_above : (o p : Ordering) → is_lt (ordering_then o p) ≡ true → not (is_lt (ordering_reverse o)) ≡ true
+not_above Less p h = refl
+not_above Equal p h = refl
+not_above Greater p h = absurd cc
 
 before_le : (a b : Entry) → is_before a b ≡ true → key_le a.user_key b.user_key ≡ true
-before_le a b h = le_of_then (slice_cmp nat_cmp a.user_key b.user_key) _ h
+before_le a b h = ap (λ (o : Ordering). not (is_lt o)) (nat_list_cmp_total.antisymm b.user_key a.user_key) ∙ not_above (slice_cmp nat_cmp a.user_key b.user_key) _ h
 
 -- what stands behind an entry stands behind what comes before that
 behind_too : (x y : Entry) (es : List Entry) → is_before x y ≡ true → IsStrictAfter (Some y) es → IsStrictAfter (Some x) es
@@ -72,22 +70,11 @@ keys_within (x ∷ xs) h =
     both x.user_key (facts (x ∷ xs)).max_key (x ∷ xs) (le_refl x.user_key, from_head x xs h.1)
     (subst (λ (k : List ℕ). AllByRecursion (ToKey k) (x ∷ xs)) (max_is x xs) (to_last x xs h.1))
 
--- a lower and an upper edge, said in two ways
-lower_same : (low : Bound (List ℕ)) (k : List ℕ) → from_lower low k ≡ is_from low k
-lower_same (Included low) k = le_not low k
-lower_same (Excluded low) k = refl
-lower_same Unbounded k = refl
-
-upper_same : (high : Bound (List ℕ)) (k : List ℕ) → up_to_upper high k ≡ is_to high k
-upper_same (Included high) k = le_not k high
-upper_same (Excluded high) k = refl
-upper_same Unbounded k = refl
-
 -- where no key of the interval lies within two edges, no entry does
-pub nothing_within : (es : List Entry) (low high : Bound (List ℕ)) (r : Interval) → AllByRecursion (InRange r) es → ((k : List ℕ) → IsTrue (has_key r k) → IsTrue (from_lower low k) → IsTrue (up_to_upper high k) → ⊥) → within low high es ≡ []
+pub nothing_within : (es : List Entry) (low high : Bound (List ℕ)) (r : Interval) → AllByRecursion (InRange r) es → IsOutside low high r → within low high es ≡ []
 nothing_within [] low high r h out = refl
 nothing_within (e ∷ es) low high r h out =
     let k = e.user_key in
     let no : (is_from low k && is_to high k) ≡ false =
-    is_false _ (λ yes. let p = and_parts (is_from low k) (is_to high k) yes in out k h.0 (lower_same low k ∙ p.0) (upper_same high k ∙ p.1)) in
+    is_false _ (λ yes. let p = and_parts (is_from low k) (is_to high k) yes in out k h.0 p.0 p.1) in
     rw no (nothing_within es low high r h.1 out)
