@@ -1,9 +1,8 @@
 -- A point read of a table: which block it rests on, and what it answers, for any bytes.
-use Rattle.std.specs.Prelude.{◌≡◌, ℕ, ◌+◌, ◌-◌, nat_le, List, map, find, Option, Some, None, Result, Ok, Err, ◌⊎◌, if◌then◌else◌}
+use Rattle.std.specs.Prelude.{◌≡◌, ℕ, ◌+◌, ◌-◌, nat_le, List, map, find, Option, Some, None, Result, Ok, Err, if◌then◌else◌}
 use Rattle.std.specs.Option.{option_map}
 use Rattle.sst_blocks.specs.declared.block_type.BlockType.TheVariants.{Data}
 use Rattle.sst_entries.specs.declared.error.Error.{Error}
-use Rattle.sst_entries.specs.declared.error.Error.TheVariants.{OutOfMemory}
 use Rattle.sst_blocks.specs.declared.opened.Opened.{Opened}
 use Rattle.sst_blocks.specs.Block.{load_told, entries_of}
 use Rattle.sst_entries.specs.Entry.{Entry}
@@ -42,7 +41,3 @@ answer_told body g parts key bound = read_told body g key bound (handle_for part
 abbrev pub opened_by : Option Handle → Opened → Opened
 opened_by None o = o
 opened_by (Some h) o = counted Data o
-
--- a point read loaded that one block, or wanted memory before it
-abbrev pub Opens : {X : Type 0} → Result X Error → Option Handle → Opened → Opened → Type 0
-Opens r h old new = (new ≡ opened_by h old) ⊎ ((r ≡ Err OutOfMemory) × (new ≡ old))

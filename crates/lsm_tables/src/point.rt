@@ -9,7 +9,7 @@ ghost use Rattle.sst_entries.specs.Error.{Gives};
 ghost use Rattle.sst_entries.specs.Point.{point};
 ghost use Rattle.std.specs.Option.{option_map};
 ghost use Rattle.sst_blocks.specs.Fnv.{fnv1a};
-ghost use Rattle.lsm_tables.specs.Answer.{answer_told, handle_for, read_at, lifted, Opens};
+ghost use Rattle.lsm_tables.specs.Answer.{answer_told, handle_for, opened_by, read_at, lifted};
 ghost use Rattle.lsm_tables.specs.Seen.{parts_of};
 
 use crate::Inner;
@@ -87,7 +87,10 @@ pub fn point_in<S: LoadBlocks>(
     requires { key_hash ≡ fnv1a key.now }
     ensures told { Gives (λ (found : Option Entry). found) result (answer_told (S.body source.old) inner.now.global_seqno (parts_of inner.now) key.now seqno) }
     ensures body { S.body source.new ≡ S.body source.old }
-    ensures opened { Opens result (handle_for (parts_of inner.now) inner.now.global_seqno key.now seqno) (S.opened source.old) (S.opened source.new) }
+    // One data block where there is a handle, also where the read is refused, and no other block.
+    ensures opened { S.opened source.new ≡
+        opened_by (handle_for (parts_of inner.now) inner.now.global_seqno key.now seqno)
+        (S.opened source.old) }
 {
     let _ = key_hash;
     match handle_of(inner, key, seqno) {

@@ -14,7 +14,7 @@ ghost use Rattle.sst_entries.specs.declared.error.Error.TheVariants.{OutOfMemory
 ghost use Rattle.lsm_ranges.specs.KeyRange.{bound_of, reaches};
 ghost use Rattle.lsm_writers.specs.Table.{IsTable};
 ghost use Rattle.lsm_writers.specs.Options.{Options, Label};
-ghost use Rattle.lsm_tables.specs.Answer.{answer_told, handle_for, lift, Opens};
+ghost use Rattle.lsm_tables.specs.Answer.{answer_told, handle_for, lift, opened_by};
 ghost use Rattle.lsm_tables.specs.OfList.{ends_of, list_told, parts_said};
 ghost use Rattle.lsm_tables.specs.Handled.{IsRecovered, IsOpen};
 ghost use Rattle.lsm_tables.specs.Parts.{recovered_told, parts_told, fitting_told, index_told, number_told, size_of};
@@ -210,7 +210,8 @@ impl<A: Allocator + Clone> Table<A> {
     ) -> (Result<Option<InternalValue<A>>, Error>, Opened)
         requires { key_hash ≡ fnv1a key.now }
         ensures told { Gives (λ (found : Option Entry). found) result.0 (answer_told (body_of self.now.bytes) self.now.global_seqno self.now.parts key.now seqno) }
-        ensures opened { Opens result.0 (handle_for self.now.parts self.now.global_seqno key.now seqno) none_opened result.1 }
+        ensures opened { result.1 ≡
+            opened_by (handle_for self.now.parts self.now.global_seqno key.now seqno) none_opened }
         ensures open { IsOpen self.now }
     {
         let shared: &Shared<A> = &self.0;
