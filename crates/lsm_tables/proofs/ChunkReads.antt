@@ -1,8 +1,6 @@
 -- A point read of chunks is decided by the first chunk whose last entry reaches the key.
 use Rattle.std.proofs.Common.{◌≡◌, ℕ, ◌+◌, ◌<◌, Bool, true, false, cond, List, [], ◌∷◌, ◌++◌, length, refl, sym, ap, subst, ◌∙◌, length-append, arith, rules}
 use Rattle.std.specs.Prelude.{Option, Some, None, find, ◌&&◌, ◌||◌, nat_lt}
-use Rattle.std.specs.Cmp.{IsTotalOrder}
-use Rattle.std.specs.Cmp.Rules.{comparing}
 use Rattle.std.specs.declared.cmp.Ordering.{Ordering}
 use Rattle.std.specs.declared.cmp.Ordering.TheVariants.{Less, Equal, Greater}
 use Rattle.std.specs.Ordering.{is_lt, is_eq, nat_cmp, ordering_reverse}
@@ -23,21 +21,12 @@ use Rattle.sst_blocks.specs.Number.{le4, le8}
 use Rattle.sst_blocks.specs.Payload.{payload}
 use Rattle.sst_blocks.specs.Version.{mark}
 use Rattle.sst_blocks.proofs.Numbers.{wide4, wide8}
-use Rattle.sst_entries.specs.Strict.{number_cmp, is_before, IsStrictAfter, last_of}
+use Rattle.sst_entries.proofs.Booleans.{apart, is_false, or_right}
+use Rattle.sst_entries.proofs.OrderLemmas.{before_trans, less_of}
+use Rattle.sst_entries.specs.Strict.{is_before, IsStrictAfter, last_of}
 use Rattle.sst_blocks.proofs.Reaching.{reaches_after, above_reaches}
 use Rattle.lsm_writers.specs.Chunks.{joined}
 use Rattle.lsm_writers.specs.Index.{last_entry, handle_of, handles_from, block_size, data_block, data_section}
-
-number_total : IsTotalOrder number_cmp
-number_total = search (comparing, rules)
-
-less_of : (o : Ordering) → is_lt o ≡ true → o ≡ Less
-less_of Less h = refl
-less_of Equal h = absurd cc
-less_of Greater h = absurd cc
-
-pub before_trans : (a b c : Entry) → is_before a b ≡ true → is_before b c ≡ true → is_before a c ≡ true
-before_trans a b c p q = ap is_lt (number_total.trans a b c (less_of (number_cmp a b) p) (less_of (number_cmp b c) q))
 
 -- the entry comes after a read of the key at the bound
 abbrev after : List ℕ → ℕ → Entry → Bool
@@ -53,31 +42,20 @@ after_is key bound e = reaches_after key bound (ending e)
 above_is : (key : List ℕ) (e : Entry) → key_lt key e.user_key ≡ after key 0 e
 above_is key e = above_reaches key (ending e) ∙ reaches_after key 0 (ending e)
 
-or_right : (a b : Bool) → b ≡ true → (a || b) ≡ true
-or_right true b h = refl
-or_right false b h = h
-
 or_left_only : (a b : Bool) → (a || b) ≡ true → b ≡ false → a ≡ true
 or_left_only true b h n = refl
 or_left_only false b h n = absurd (let e : true ≡ false = sym h ∙ n in cc)
-
-is_false : (b : Bool) → (b ≡ true → ⊥) → b ≡ false
-is_false true h = absurd (h refl)
-is_false false h = refl
-
-differ : (b : Bool) → b ≡ true → b ≡ false → ⊥
-differ b p q = let e : true ≡ false = sym p ∙ q in cc
 
 hit_after : (key : List ℕ) (bound : ℕ) (e : Entry) → is_hit key bound e ≡ true → after key bound e ≡ true
 hit_after key bound e h = sym (after_is key bound e) ∙ or_right (key_lt key e.user_key) (is_hit key bound e) h
 
 -- what does not come after the read is not hit
 not_hit : (key : List ℕ) (bound : ℕ) (e : Entry) → after key bound e ≡ false → is_hit key bound e ≡ false
-not_hit key bound e early = is_false (is_hit key bound e) (λ h. differ (after key bound e) (hit_after key bound e h) early)
+not_hit key bound e early = is_false (is_hit key bound e) (λ h. apart (after key bound e) (hit_after key bound e h) early)
 
 -- nothing before an entry that does not come after the read does
 not_before : (key : List ℕ) (bound : ℕ) (e l : Entry) → is_before e l ≡ true → after key bound l ≡ false → after key bound e ≡ false
-not_before key bound e l before early = is_false (after key bound e) (λ late. differ (after key bound l) (before_trans (entry key [] bound Value) e l late before) early)
+not_before key bound e l before early = is_false (after key bound e) (λ late. apart (after key bound l) (before_trans (entry key [] bound Value) e l late before) early)
 
 -- an entry above the key is not hit
 first_part : (a b : Bool) → (a && b) ≡ true → a ≡ true

@@ -14,6 +14,8 @@ use Rattle.sst_blocks.specs.Payload as written
 use Rattle.sst_blocks.specs.Reading.{entries_in}
 use Rattle.sst_entries.specs.Strict.{is_before, may_follow, IsStrictAfter, IsStrict, last_of}
 use Rattle.sst_blocks.specs.Version.{key_limit, longest_key}
+use Rattle.sst_entries.proofs.Lists.{all_front, all_behind}
+use Rattle.sst_entries.proofs.OrderLemmas.{before_trans}
 use Rattle.sst_blocks.proofs.Entries.{entries_read, length-spelled}
 use Rattle.sst_blocks.proofs.HandleLaws.{handles_read, length-handle_spelled}
 use Rattle.sst_blocks.proofs.Numbers.{wide4}
@@ -21,7 +23,7 @@ use Rattle.lsm_writers.specs.Chunks.{joined}
 use Rattle.lsm_writers.specs.Facts.{count_after, one_if, lowest_seqno, highest_seqno}
 use Rattle.lsm_writers.specs.Index.{last_entry, handle_of, handles_from, handles, block_size, data_block, data_section}
 use Rattle.lsm_writers.specs.Fits.{EntryFits, BlockFits}
-use Rattle.lsm_tables.proofs.ChunkReads.{AreSome, before_trans, later, length-block, strict_front, strict_after}
+use Rattle.lsm_tables.proofs.ChunkReads.{AreSome, later, length-block, strict_front, strict_after}
 
 -- ---- entries and their blocks
 
@@ -46,14 +48,6 @@ payload_wide v es = omega (arith, flat_wide v es, wide4.len (length es), length-
 -- a chunk reads back
 pub chunk_reads : (v : TableVersion) (c : List Entry) → AllByRecursion (EntryFits v) c → IsStrict c → BlockFits v c → entries_in v (payload v c) ≡ Some c
 chunk_reads v c fits strict short = entries_read v c (omega (arith, short.short, payload_wide v c), entries_fit v c fits) strict
-
-pub all_front : {X : Type 0} (P : X → Type 0) (xs ys : List X) → AllByRecursion P (xs ++ ys) → AllByRecursion P xs
-all_front P [] ys h = tt
-all_front P (x ∷ xs) ys h = (h.0, all_front P xs ys h.1)
-
-pub all_behind : {X : Type 0} (P : X → Type 0) (xs ys : List X) → AllByRecursion P (xs ++ ys) → AllByRecursion P ys
-all_behind P [] ys h = h
-all_behind P (x ∷ xs) ys h = all_behind P xs ys h.1
 
 -- ---- the data section
 

@@ -30,7 +30,7 @@ use Rattle.lsm_writers.specs.Options.{Options, Label}
 use Rattle.lsm_writers.specs.Fits.{EntryFits, BlockFits, Fits}
 use Rattle.lsm_tables.specs.Parts.{Parts, parts_told, recovered_told}
 use Rattle.lsm_tables.proofs.ChunkReads.{AreSome, length-block}
-use Rattle.lsm_tables.proofs.FileLengths.{last_fits, last_some, all_front, all_behind, after_within, lowest_fits, highest_below, section_wide, chunk_reads, index_reads}
+use Rattle.lsm_tables.proofs.FileLengths.{last_fits, last_some, after_within, lowest_fits, highest_below, section_wide, chunk_reads, index_reads}
 use Rattle.lsm_tables.specs.declared.regions.ParsedRegions.{ParsedRegions}
 use Rattle.lsm_tables.specs.Load.{meta_told}
 use Rattle.lsm_tables.specs.Parts.{index_told}

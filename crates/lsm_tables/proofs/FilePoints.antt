@@ -31,7 +31,8 @@ use Rattle.lsm_tables.specs.Answer.{lifted, lift, read_told, answer_told}
 use Rattle.lsm_writers.specs.Fits.{EntryFits, BlockFits, Fits}
 use Rattle.lsm_tables.specs.Parts.{Parts, recovered_told}
 use Rattle.lsm_tables.proofs.ChunkReads.{AreSome, ReadsChunk, ReadsBy, chunk_read, length-block, strict_front, strict_after}
-use Rattle.lsm_tables.proofs.FileLengths.{last_fits, last_some, all_front, all_behind, after_within, lowest_fits, highest_below, section_wide, chunk_reads, index_reads}
+use Rattle.lsm_tables.proofs.FileLengths.{chunk_reads}
+use Rattle.sst_entries.proofs.Lists.{all_front, all_behind}
 use Rattle.lsm_tables.specs.declared.regions.ParsedRegions.{ParsedRegions}
 use Rattle.lsm_tables.specs.Load.{meta_told}
 use Rattle.lsm_tables.specs.Parts.{index_told}

@@ -32,7 +32,8 @@ use Rattle.lsm_tables.specs.Meta.{Facts}
 use Rattle.lsm_tables.specs.Parts.{Parts, recovered_told}
 use Rattle.lsm_tables.specs.Scan.{lifted_told, behind, blocks_told, then_blocks, entries_told, up_to_error, entries_from, scan_told, fault_of, Scan, ScansList, ScansNext}
 use Rattle.lsm_tables.proofs.ChunkReads.{AreSome, length-block, strict_front, strict_after}
-use Rattle.lsm_tables.proofs.FileLengths.{all_front, all_behind, chunk_reads}
+use Rattle.lsm_tables.proofs.FileLengths.{chunk_reads}
+use Rattle.sst_entries.proofs.Lists.{all_front, all_behind}
 use Rattle.lsm_tables.proofs.FileParts.{some_chunks, facts_are}
 use Rattle.lsm_tables.proofs.FilePoints.{any_front}
 use Rattle.lsm_tables.proofs.FileReads.{the_index, the_meta, the_version, is_body, w}

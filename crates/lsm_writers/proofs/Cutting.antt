@@ -28,7 +28,7 @@ use Rattle.lsm_writers.specs.Cut.{chunks_in, IsReadable, AreCut, with_cut, rest_
 use Rattle.lsm_writers.specs.Facts.{last_key}
 use Rattle.lsm_writers.specs.Fits.{BlockFits}
 use Rattle.lsm_writers.specs.Index.{data_block, data_section, handles, handles_from, handle_of, block_size, last_entry}
-use Rattle.lsm_writers.proofs.Listing.{all-append, all_of}
+use Rattle.sst_entries.proofs.Lists.{all_append, all_more}
 use Rattle.lsm_writers.proofs.Orders.{last_of-append, last_of_cons, HasSome, handles_strict}
 
 -- what a header says of the length
@@ -109,7 +109,7 @@ cut_more cs w w' hs hs' before last failed failed' c old works strict ok ew eh e
       bytes = ap (λ (x : Written). x.bytes) ew ∙ ap (λ (x : List ℕ). x ++ data_block V4 c) was ∙ sym (section_more cs c) ∙ sym (append-nil (data_section V4 (cs ++ c ∷ [])));
       whole = λ _. refl;
       started = ap (λ (x : Written). x.started) ew ∙ old.started;
-      readable = all-append (IsReadable V4) cs (c ∷ []) old.readable (ok, tt);
+      readable = all_append (IsReadable V4) cs (c ∷ []) old.readable (ok, tt);
       index = eh ∙ ap (λ (x : List Handle). x ++ handle_of V4 (length w.bytes) c ∷ []) old.index ∙ ap (λ (x : List ℕ). handles V4 cs ++ handle_of V4 (length x) c ∷ []) was ∙ sym (handles_more cs c);
       strict = rw joined_more strict;
       last_is = el ∙ sym (last_is_some (last_of None (joined cs)) c ok.some) ∙ sym (last_of-append None (joined cs) c) ∙ ap (last_of None) (sym (joined_more cs c));
@@ -195,7 +195,7 @@ registered_strict cs w hs before failed c h old works strict ok e =
     let w' : Written = record w { bytes = w.bytes ++ block_bytes V4 DataKind (payload V4 c) } in
     let eh : hs ++ h ∷ [] ≡ hs ++ handle_of V4 (length w.bytes) c ∷ [] = ap (λ (x : Handle). hs ++ x ∷ []) e in
     let made : AreCut (cs ++ c ∷ []) w' (hs ++ h ∷ []) (Some (last_entry c)) false = cut_more cs w w' hs (hs ++ h ∷ []) before (Some (last_entry c)) failed false c old works strict ok refl eh refl in
-    let some = all_of (IsReadable V4) HasSome (cs ++ c ∷ []) (λ x r. r.some) made.readable in
+    let some = all_more (IsReadable V4) HasSome (λ x r. r.some) (cs ++ c ∷ []) made.readable in
     rw made.index (handles_strict V4 (cs ++ c ∷ []) some made.strict)
 
 pub rest_is : (es : List Entry) → 0 < length es → rest_of es ≡ es ∷ []

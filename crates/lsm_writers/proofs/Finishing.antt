@@ -30,7 +30,7 @@ use Rattle.lsm_writers.specs.Options.{Options, Label}
 use Rattle.lsm_writers.specs.Registered.{failed_fault}
 use Rattle.lsm_writers.specs.Writing.{Writing, written, spilled, blocks_of, spills_of, finish_fault, IsFinished}
 use Rattle.lsm_writers.proofs.Chunking.{are_chunks}
-use Rattle.lsm_writers.proofs.Listing.{all_of, all_back, all_front}
+use Rattle.sst_entries.proofs.Lists.{all_more, all_behind, all_front}
 use Rattle.lsm_writers.proofs.Orders.{last_of_cons}
 use Rattle.lsm_writers.proofs.Taking.{no_fault, large_is}
 
@@ -47,7 +47,7 @@ short_keys_from size at ([] ∷ cs) some h = absurd (omega (arith, some.0.some))
 short_keys_from size at ((e ∷ es) ∷ cs) some h =
     let c = e ∷ es in
     let key : is_long_key (last_entry c).user_key ≡ false = le-ltb _ _ (last_all (EntryFits V4) e es (all_front (EntryFits V4) c (joined cs) h)).key in
-    rw key (short_keys_from size (at + block_size V4 c) cs some.1 (all_back (EntryFits V4) c (joined cs) h))
+    rw key (short_keys_from size (at + block_size V4 c) cs some.1 (all_behind (EntryFits V4) c (joined cs) h))
 
 pub short_keys : (size : ℕ) (cs : List (List Entry)) → AllByRecursion (IsShortest size) cs → AllByRecursion (EntryFits V4) (joined cs) → key_fault (handles V4 cs) ≡ None
 short_keys size cs some h = short_keys_from size 0 cs some h
@@ -207,7 +207,7 @@ items_fit label options counted f a b d top low =
     let es = meta_items V4 label options counted f a b d in
     let small = items_small label options counted f a b d top low in
     let n : length es ≡ 29 = refl in
-    no_fault es (all_of IsSmall (EntryFits V4) es small_fits small) (omega (arith, small_sum es small, n))
+    no_fault es (all_more IsSmall (EntryFits V4) small_fits es small) (omega (arith, small_sum es small, n))
 
 pub first_short : (es : List Entry) → AllByRecursion (EntryFits V4) es → length (unwrap_or (first_key es) []) ≤ 1048576
 first_short [] h = omega arith
@@ -249,7 +249,7 @@ all_written : (w : Writing) → AllByRecursion (IsShortest w.options.data_block_
 all_written w h =
     let size = w.options.data_block_size in
     let rest = rest_of w.pending in
-    are_chunks size w.cut w.pending (all_front (IsShortest size) w.cut rest h) (rest_front size w.pending (all_back (IsShortest size) w.cut rest h))
+    are_chunks size w.cut w.pending (all_front (IsShortest size) w.cut rest h) (rest_front size w.pending (all_behind (IsShortest size) w.cut rest h))
 
 no_entries : {A : Type 0} (size : ℕ) (cs : List (List Entry)) (n : ℕ) (m : Metadata A) → IsHeld size cs [] n m → m.item_count ≡ 0 → length (joined cs) ≡ 0
 no_entries {A} size cs n m h none = sym (ap (λ (x : Metadata A). x.item_count) h.counted) ∙ none

@@ -1,32 +1,17 @@
 -- Strict lists of entries and of the handles of their chunks.
-use Rattle.std.proofs.Common.{◌≡◌, refl, sym, ◌∙◌, ap, subst, ℕ, suc, ◌+◌, ◌-◌, ◌<◌, true, List, [], ◌∷◌, ◌++◌, length, get_or, map, arith, rules}
+use Rattle.std.proofs.Common.{◌≡◌, refl, sym, ◌∙◌, ap, subst, ℕ, suc, ◌+◌, ◌-◌, ◌<◌, true, List, [], ◌∷◌, ◌++◌, length, get_or, map, arith}
 use Rattle.std.specs.Prelude.{Option, Some, None, unwrap_or, slice_get, nat_lt, ◌^◌}
 use Rattle.std.specs.List.{AllByRecursion}
 use Rattle.std.proofs.lemmas.Option.{get_or_from_slice_get}
-use Rattle.std.specs.declared.cmp.Ordering.{Ordering}
-use Rattle.std.specs.declared.cmp.Ordering.TheVariants.{Less, Equal, Greater}
-use Rattle.std.specs.Ordering.{is_lt}
-use Rattle.std.specs.Cmp.{IsTotalOrder}
-use Rattle.std.specs.Cmp.Rules.{comparing}
 use Rattle.sst_blocks.specs.declared.version.TableVersion.{TableVersion}
 use Rattle.sst_entries.specs.declared.value_type.ValueType.TheVariants.{Value}
 use Rattle.sst_entries.specs.Entry.{Entry, entry}
 use Rattle.sst_blocks.specs.Handles.{end_of, AreStrictHandles}
-use Rattle.sst_entries.specs.Strict.{number_cmp, is_before, may_follow, IsStrictAfter, IsStrict, last_of}
+use Rattle.sst_entries.proofs.OrderLemmas.{before_trans}
+use Rattle.sst_entries.specs.Strict.{is_before, may_follow, IsStrictAfter, IsStrict, last_of}
 use Rattle.lsm_writers.specs.Chunks.{joined}
 use Rattle.lsm_writers.specs.Writing.{follows}
 use Rattle.lsm_writers.specs.Index.{last_entry, block_size, handle_of, handles_from, handles}
-
-number_total : IsTotalOrder number_cmp
-number_total = search (comparing, rules)
-
-less_of : (o : Ordering) → is_lt o ≡ true → o ≡ Less
-less_of Less h = refl
-less_of Equal h = absurd cc
-less_of Greater h = absurd cc
-
-pub before_trans : (a b c : Entry) → is_before a b ≡ true → is_before b c ≡ true → is_before a c ≡ true
-before_trans a b c p q = ap is_lt (number_total.trans a b c (less_of (number_cmp a b) p) (less_of (number_cmp b c) q))
 
 -- the last of two lists one after another
 pub last_of-append : (before : Option Entry) (xs ys : List Entry) → last_of before (xs ++ ys) ≡ last_of (last_of before xs) ys
@@ -43,12 +28,6 @@ pub strict_back : (before : Option Entry) (xs ys : List Entry) → IsStrictAfter
 unfolding IsStrictAfter last_of
 strict_back before [] ys h = h
 strict_back before (x ∷ xs) ys h = strict_back (Some x) xs ys h.1
-
--- one more entry that may follow the last one
-pub strict_more : (before : Option Entry) (xs : List Entry) (e : Entry) → IsStrictAfter before xs → may_follow (last_of before xs) e ≡ true → IsStrictAfter before (xs ++ e ∷ [])
-unfolding IsStrictAfter last_of
-strict_more before [] e h f = (f, tt)
-strict_more before (x ∷ xs) e h f = (h.0, strict_more (Some x) xs e h.1 f)
 
 -- what may come before the first of a strict list may come before its last
 last_follows : (before : Option Entry) (x : Entry) (xs : List Entry) → may_follow before x ≡ true → IsStrictAfter (Some x) xs → may_follow before (last_entry (x ∷ xs)) ≡ true
@@ -90,11 +69,6 @@ handles_strict_from v at before ((x ∷ xs) ∷ cs) some h =
 
 pub handles_strict : (v : TableVersion) (cs : List (List Entry)) → AllByRecursion HasSome cs → IsStrict (joined cs) → AreStrictHandles (handles v cs)
 handles_strict v cs some h = handles_strict_from v 0 None cs some h
-
-pub strict_alone : (before : Option Entry) (es : List Entry) → IsStrictAfter before es → IsStrict es
-unfolding IsStrictAfter
-strict_alone before [] h = tt
-strict_alone before (e ∷ es) h = (refl, h.1)
 
 -- the last place of a list holds its last entry
 last_at : (before : Option Entry) (es : List Entry) (x : Entry) → Some x ≡ slice_get es (length es - 1) → (0 < length es) × (last_of before es ≡ Some x)

@@ -2,6 +2,7 @@
 use Rattle.std.proofs.Common.{◌≡◌, refl, sym, ◌∙◌, ap, subst, ℕ, ◌+◌, ◌*◌, ◌-◌, ◌<◌, ◌≤◌, ◌^◌, Bool, true, false, List, [], ◌∷◌, ◌++◌, length, take, append_assoc, arith, length-append, cond, inl, inr, IsTrue}
 use Rattle.std.specs.Prelude.{Option, Some, None, nat_le, min, max, sum_by, count_by, ◌&&◌}
 use Rattle.std.specs.List.{AllByRecursion}
+use Rattle.std.specs.Option.{option_or}
 use Rattle.std.proofs.lemmas.Bool.{le-ltb, le-leb, lt-leb, leb-false, ltb-false, ltb-true, cases_lt}
 use Rattle.std.proofs.lemmas.List.{take-append-le, take_at, append-nil}
 use Rattle.std.proofs.lemmas.List.Sums.{sum_by-append, sum_by-cons, count_by-le-length}
@@ -15,7 +16,7 @@ use Rattle.sst_entries.specs.Strict.{IsStrictAfter, IsStrict, last_of}
 use Rattle.sst_entries.specs.declared.value_type.ValueType.TheVariants.{Value}
 use Rattle.sst_blocks.specs.declared.version.TableVersion.TheVariants.{V4}
 use Rattle.lsm_writers.specs.declared.writer.meta.Metadata.{Metadata}
-use Rattle.lsm_writers.specs.Counts.{no_counts, metadata_of, counted, or_first, HasRoom}
+use Rattle.lsm_writers.specs.Counts.{no_counts, metadata_of, counted, HasRoom}
 use Rattle.lsm_writers.specs.Cut.{Cut, rest_of, with_cut}
 use Rattle.lsm_writers.specs.Facts.{count_after, lowest_seqno, highest_seqno, is_tombstone, is_weak, is_reclaimable, starts_key, one_if, first_key}
 use Rattle.lsm_writers.specs.Fits.{EntryFits, LabelFits}
@@ -23,8 +24,10 @@ use Rattle.lsm_writers.specs.Options.{Label}
 use Rattle.lsm_writers.specs.Held.{IsOpen, IsHeld, CanGoOn, IsShortest}
 use Rattle.lsm_writers.specs.Writing.{item_fault, follows}
 use Rattle.lsm_writers.proofs.Cutting.{joined_more}
-use Rattle.lsm_writers.proofs.Listing.{all-append, all_back}
-use Rattle.lsm_writers.proofs.Orders.{strict_more, ends_follow, last_of-append}
+use Rattle.sst_entries.proofs.Lists.{all_append, all_behind}
+use Rattle.sst_entries.proofs.Booleans.{and_parts}
+use Rattle.sst_entries.proofs.Strictness.{strict_push}
+use Rattle.lsm_writers.proofs.Orders.{ends_follow, last_of-append}
 
 -- the bound of a block, by the number of its entries and their size
 bound_sum : (es : List Entry) → sum_by entry_bound es ≡ 17 * length es + size_of es
@@ -75,14 +78,10 @@ nothing_held size cut pending meta label c p m fits =
 
 -- ---- one entry more
 
-and_parts : (a b : Bool) → IsTrue (a && b) → (a ≡ true) × (b ≡ true)
-and_parts true b h = (refl, h)
-and_parts false b h = absurd cc
-
 pub strict_gained : (es : List Entry) (e : Entry) → IsStrict es → IsTrue (follows es e.user_key e.seqno) → IsStrict (es ++ e ∷ [])
 strict_gained es e h f =
     let p = and_parts _ _ f in
-    strict_more None es e h (ends_follow (last_of None es) e (entry e.user_key [] e.seqno Value) refl refl p.1)
+    strict_push None es e h (ends_follow (last_of None es) e (entry e.user_key [] e.seqno Value) refl refl p.1)
 
 fault_none : (b : Bool) (x : Error) (o : Option Error) → cond b (Some x) o ≡ None → (b ≡ false) × (o ≡ None)
 fault_none true x o h = absurd cc
@@ -137,7 +136,7 @@ unfolding highest_seqno
 highest_more [] e = omega arith
 highest_more (x ∷ xs) e = omega (arith, highest_more xs e)
 
-first_more : (es : List Entry) (e : Entry) → first_key (es ++ e ∷ []) ≡ or_first (first_key es) (Some e.user_key)
+first_more : (es : List Entry) (e : Entry) → first_key (es ++ e ∷ []) ≡ option_or (first_key es) (Some e.user_key)
 first_more [] e = refl
 first_more (x ∷ xs) e = refl
 
@@ -178,7 +177,7 @@ held_more size cut pending n m e old o f ok =
     let short = short_of pending e low ok in
     record {
       strict = rw (snoc_assoc (joined cut) pending e) (strict_gained (joined cut ++ pending) e old.strict f);
-      fits = rw (snoc_assoc (joined cut) pending e) (all-append (EntryFits V4) (joined cut ++ pending) (e ∷ []) old.fits (short.0, tt));
+      fits = rw (snoc_assoc (joined cut) pending e) (all_append (EntryFits V4) (joined cut ++ pending) (e ∷ []) old.fits (short.0, tt));
       shortest = old.shortest;
       front = front_more size pending e o old.front;
       counted = counted_is cut pending e m old.counted;
@@ -211,7 +210,7 @@ held_cut {A} size cut (e ∷ es) n m old =
     record {
       strict = rw whole old.strict;
       fits = rw whole old.fits;
-      shortest = all-append (IsShortest size) cut (p ∷ []) old.shortest (record { some = omega arith; shortest = old.front }, tt);
+      shortest = all_append (IsShortest size) cut (p ∷ []) old.shortest (record { some = omega arith; shortest = old.front }, tt);
       front = λ k pos lt. absurd (omega (arith, pos, lt));
       counted = cut_counted m cut p (cut ++ p ∷ []) old.counted whole;
       sized = refl;
@@ -234,4 +233,4 @@ taken_held {A} size cut pending n m e last items k o old room f ok l i s c =
 
 -- what is pending encodes, as it is held
 pub held_fits : {A : Type 0} (size : ℕ) (cut : List (List Entry)) (pending : List Entry) (n : ℕ) (m : Metadata A) → IsHeld size cut pending n m → entries_fault pending ≡ None
-held_fits size cut pending n m h = no_fault pending (all_back (EntryFits V4) (joined cut) pending h.fits) (omega (arith, h.sized, h.small))
+held_fits size cut pending n m h = no_fault pending (all_behind (EntryFits V4) (joined cut) pending h.fits) (omega (arith, h.sized, h.small))

@@ -1,5 +1,6 @@
 -- What a writer counts while it writes.
 use Rattle.std.specs.Prelude.{◌+◌, ◌-◌, ◌<◌, ◌^◌, List, [], ◌++◌, length, min, max, count_by, sum_by, Option, Some, None, unwrap_or}
+use Rattle.std.specs.Option.{option_or}
 use Rattle.sst_blocks.specs.declared.version.TableVersion.{TableVersion}
 use Rattle.sst_entries.specs.Entry.{Entry}
 use Rattle.sst_blocks.specs.Payload.{payload}
@@ -44,11 +45,6 @@ metadata_of v cut pending =
       highest_seqno = highest_seqno es;
     }
 
--- the first of two that there is
-abbrev pub or_first : {X : Type 0} → Option X → Option X → Option X
-or_first None other = other
-or_first (Some x) other = Some x
-
 -- one more entry is counted, after the one before it
 abbrev pub counted : {A : Type 0} → Option Entry → Entry → Metadata A → Metadata A
 counted before e m = record m {
@@ -56,7 +52,7 @@ counted before e m = record m {
   weak_tombstone_count = m.weak_tombstone_count + one_if (is_weak e);
   weak_tombstone_reclaimable_count = m.weak_tombstone_reclaimable_count + one_if (is_reclaimable before e);
   key_count = m.key_count + one_if (starts_key before e);
-  first_key = or_first m.first_key (Some e.user_key);
+  first_key = option_or m.first_key (Some e.user_key);
   lowest_seqno = min m.lowest_seqno e.seqno;
   highest_seqno = max m.highest_seqno e.seqno;
 }

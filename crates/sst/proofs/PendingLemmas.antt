@@ -14,7 +14,7 @@ use Rattle.lsm_writers.specs.Fits.{Fits}
 use Rattle.lsm_writers.specs.Options.{Options, Label, default_options, label_of}
 use Rattle.lsm_writers.specs.Writing.{follows, gained, written, spills_of, IsFinished, Writing}
 use Rattle.lsm_writers.specs.Chunks.{joined, is_full}
-use Rattle.lsm_writers.proofs.Listing.{all-append, all_back}
+use Rattle.sst_entries.proofs.Lists.{all_append, all_behind}
 use Rattle.lsm_writers.proofs.Orders.{strict_back, ends_follow}
 use Rattle.lsm_writers.proofs.Taking.{strict_gained}
 use Rattle.sst.specs.Pending.{IsNumbered, IsPending, IsTableOf}
@@ -31,7 +31,7 @@ nothing_pending = record { strict = tt; numbered = tt }
 pub pending_more : (es : List Entry) (e : Entry) → IsPending es → IsTrue (follows es e.user_key e.seqno) → IsPending (es ++ e ∷ [])
 pending_more es e p f = record {
   strict = strict_gained es e p.strict f;
-  numbered = all-append IsNumbered es (e ∷ []) p.numbered (record { below = ltb-true _ _ (and_left _ _ f) }, tt);
+  numbered = all_append IsNumbered es (e ∷ []) p.numbered (record { below = ltb-true _ _ (and_left _ _ f) }, tt);
 }
 
 true_and : (a b : Bool) → a ≡ true → b ≡ true → IsTrue (a && b)
@@ -42,7 +42,7 @@ pub pending_follows : (xs : List Entry) (e : Entry) (ys : List Entry) → IsPend
 unfolding IsStrictAfter
 pending_follows xs e ys p =
     let behind : IsStrictAfter (last_of None xs) (e ∷ ys) = strict_back None xs (e ∷ ys) p.strict in
-    let numbered : IsNumbered e = (all_back IsNumbered xs (e ∷ ys) p.numbered).0 in
+    let numbered : IsNumbered e = (all_behind IsNumbered xs (e ∷ ys) p.numbered).0 in
     true_and _ _ (lt-ltb _ _ numbered.below) (ends_follow (last_of None xs) (entry e.user_key [] e.seqno Value) e refl refl behind.0)
 
 -- the list of a writer that gained an entry
