@@ -12,7 +12,7 @@ use Rattle.sst_blocks.specs.Reading.{entries_in}
 use Rattle.sst_entries.specs.Strict.{IsStrict, is_strict_after}
 use Rattle.sst_blocks.specs.Version.{key_width, key_limit}
 use Rattle.sst_blocks.proofs.Entries.{entries_read, length-spelled}
-use Rattle.sst_blocks.proofs.Items.{strict_from_test}
+use Rattle.sst_entries.proofs.Strictness.{strict_from_test}
 use Rattle.sst_blocks.proofs.Numbers.{wide4, wide8}
 use Rattle.lsm_writers.specs.Chunks.{joined}
 use Rattle.lsm_writers.specs.Facts.{facts}

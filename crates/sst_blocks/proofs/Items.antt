@@ -12,6 +12,7 @@ use Rattle.sst_blocks.specs.Number.{le4, num4}
 use Rattle.sst_blocks.specs.Starts.{starts_of, SpellsAt}
 use Rattle.sst_entries.specs.Strict.{may_follow, IsStrictAfter, is_strict_after, last_of}
 use Rattle.sst_blocks.proofs.Numbers.{IsBytes, IsBytes-drop, wide4}
+use Rattle.sst_entries.proofs.Strictness.{strict_from_test, test_from_strict, test_push, test_fails, last_push}
 
 -- how an item is spelled and read, and the entry whose place in the order it has
 pub record Format (X : Type 0) : Type 0 where
@@ -38,54 +39,6 @@ abbrev pub items_in : {X : Type 0} → Format X → List ℕ → Option (List X)
 items_in f bytes =
     if nat_lt (length bytes) 4 then None
     else option_and_then (λ xs. if in_order f xs then Some xs else None) (items_at f.read (num4 bytes) (drop 4 bytes))
-
--- ---- lists of entries in order
-
-and_left : (a b : Bool) → (a && b) ≡ true → a ≡ true
-and_left true b h = refl
-and_left false b h = h
-
-and_right : (a b : Bool) → (a && b) ≡ true → b ≡ true
-and_right true b h = h
-and_right false b h = absurd cc
-
-and_both : (a b : Bool) → a ≡ true → b ≡ true → (a && b) ≡ true
-and_both a b p q = rw (p, q) refl
-
-and_false : (a b : Bool) → b ≡ false → (a && b) ≡ false
-and_false true b h = h
-and_false false b h = refl
-
-pub strict_from_test : (last : Option Entry) (es : List Entry) → is_strict_after last es ≡ true → IsStrictAfter last es
-unfolding is_strict_after IsStrictAfter
-strict_from_test last [] h = tt
-strict_from_test last (e ∷ es) h = (and_left (may_follow last e) (is_strict_after (Some e) es) h, strict_from_test (Some e) es (and_right (may_follow last e) (is_strict_after (Some e) es) h))
-
-pub test_from_strict : (last : Option Entry) (es : List Entry) → IsStrictAfter last es → is_strict_after last es ≡ true
-unfolding is_strict_after IsStrictAfter
-test_from_strict last [] h = refl
-test_from_strict last (e ∷ es) h = and_both (may_follow last e) (is_strict_after (Some e) es) h.0 (test_from_strict (Some e) es h.1)
-
-test_push : (last : Option Entry) (es : List Entry) (e : Entry) → is_strict_after last es ≡ true → may_follow (last_of last es) e ≡ true → is_strict_after last (es ++ e ∷ []) ≡ true
-unfolding is_strict_after last_of
-test_push last [] e h f = and_both (may_follow last e) true f refl
-test_push last (x ∷ es) e h f = and_both (may_follow last x) (is_strict_after (Some x) (es ++ e ∷ [])) (and_left (may_follow last x) (is_strict_after (Some x) es) h) (test_push (Some x) es e (and_right (may_follow last x) (is_strict_after (Some x) es) h) f)
-
--- one entry more
-pub strict_push : (last : Option Entry) (es : List Entry) (e : Entry) → IsStrictAfter last es → may_follow (last_of last es) e ≡ true → IsStrictAfter last (es ++ e ∷ [])
-unfolding IsStrictAfter last_of
-strict_push last [] e h f = (f, tt)
-strict_push last (x ∷ es) e h f = (h.0, strict_push (Some x) es e h.1 f)
-
-test_fails : (last : Option Entry) (es : List Entry) (e : Entry) (more : List Entry) → may_follow (last_of last es) e ≡ false → is_strict_after last (es ++ e ∷ more) ≡ false
-unfolding is_strict_after last_of
-test_fails last [] e more h = rw h refl
-test_fails last (x ∷ es) e more h = and_false (may_follow last x) (is_strict_after (Some x) (es ++ e ∷ more)) (test_fails (Some x) es e more h)
-
-pub last_push : (last : Option Entry) (es : List Entry) (e : Entry) → last_of last (es ++ e ∷ []) ≡ Some e
-unfolding last_of
-last_push last [] e = refl
-last_push last (x ∷ es) e = last_push (Some x) es e
 
 -- ---- starts
 

@@ -19,43 +19,11 @@ use Rattle.sst_entries.specs.Point.{is_hit, point, bound_of}
 use Rattle.sst_entries.specs.Span.{front_length}
 use Rattle.sst_entries.specs.Strict.{number_cmp, is_before, IsStrictAfter, IsStrict}
 use Rattle.sst_blocks.proofs.Fronts.{front_passes, front_stops}
+use Rattle.sst_entries.proofs.Booleans.{apart, is_false, not_is, not_of, not_not, and_left, and_right}
+use Rattle.sst_entries.proofs.OrderLemmas.{less_of, lt_of_cond, tie_same, before_trans, strict_at}
 
 abbrev blank : Entry
 blank = entry [] [] 0 Value
-
-number_total : IsTotalOrder number_cmp
-number_total = search (comparing, rules)
-
-less_of : (o : Ordering) → is_lt o ≡ true → o ≡ Less
-less_of Less h = refl
-less_of Equal h = absurd cc
-less_of Greater h = absurd cc
-
-tie_same : (xs ys : List ℕ) → slice_cmp nat_cmp xs ys ≡ Equal → xs ≡ ys
-tie_same xs ys h = same_text xs ys (sym (texts_ties xs ys ∙ ap is_eq h))
-
-before_trans : (a b c : Entry) → is_before a b ≡ true → is_before b c ≡ true → is_before a c ≡ true
-before_trans a b c p q = ap is_lt (number_total.trans a b c (less_of (number_cmp a b) p) (less_of (number_cmp b c) q))
-
-head_before : (x : Entry) (es : List Entry) (j : ℕ) (d : Entry) → IsStrictAfter (Some x) es → j < length es → is_before x (get_or es j d) ≡ true
-unfolding IsStrictAfter
-head_before x [] j d h lt = absurd (omega (arith, lt))
-head_before x (y ∷ es) zero d h lt = h.0
-head_before x (y ∷ es) (suc j) d h lt = before_trans x y (get_or es j d) h.0 (head_before y es j d h.1 (omega (arith, lt)))
-
-pub strict_at : (last : Option Entry) (es : List Entry) (i j : ℕ) (d : Entry) → IsStrictAfter last es → i < j → j < length es → is_before (get_or es i d) (get_or es j d) ≡ true
-unfolding IsStrictAfter
-strict_at last [] i j d h lt le = absurd (omega (arith, le))
-strict_at last (x ∷ es) i zero d h lt le = absurd (omega (arith, lt))
-strict_at last (x ∷ es) zero (suc j) d h lt le = head_before x es j d h.1 (omega (arith, le))
-strict_at last (x ∷ es) (suc i) (suc j) d h lt le = strict_at (Some x) es i j d h.1 (omega (arith, lt)) (omega (arith, le))
-
-apart : (b : Bool) → b ≡ true → b ≡ false → ⊥
-apart b p q = let e : true ≡ false = sym p ∙ q in absurd cc
-
-is_false : (b : Bool) → (b ≡ true → ⊥) → b ≡ false
-is_false true h = absurd (h refl)
-is_false false h = refl
 
 not_true : (b r : Bool) → r ≡ not b → r ≡ true → false ≡ b
 not_true true r e h = let k : false ≡ true = sym e ∙ h in absurd cc
@@ -81,14 +49,6 @@ parted p es strict down i j d le lt passed =
       | inl below ↦ down (get_or es i d) (get_or es j d) (strict_at None es i j d strict below lt) passed
       | inr above ↦ let e : j ≡ i = omega arith in subst (λ (k : ℕ). p (get_or es k d) ≡ true) e passed
     ]
-
-not_is : (b : Bool) → not b ≡ true → b ≡ false
-not_is true h = absurd cc
-not_is false h = refl
-
-not_of : (b : Bool) → b ≡ false → not b ≡ true
-not_of true h = absurd cc
-not_of false h = refl
 
 -- what does not come after a bound has nothing before it that does
 pub past_parted : (es : List Entry) (key : List ℕ) (bound : ℕ) → IsStrict es → IsPartitionedBy (λ e. not (is_before (bound_of key bound) e)) es
@@ -142,23 +102,10 @@ up_to_parted es key strict =
 
 -- ---- a hit comes after its bound
 
-lt_of_cond : (b c : Bool) → is_lt (cond b Less (cond c Equal Greater)) ≡ b
-lt_of_cond true c = refl
-lt_of_cond false true = refl
-lt_of_cond false false = refl
-
 at_key : (key : List ℕ) (bound : ℕ) (e : Entry) → e.user_key ≡ key → is_before (bound_of key bound) e ≡ nat_lt e.seqno bound
 at_key key bound e same =
     let tie : slice_cmp nat_cmp key e.user_key ≡ Equal = ap (slice_cmp nat_cmp key) same ∙ tied_itself nat_list_cmp_total key in
     ap (λ (o : Ordering). is_lt (ordering_then o (nat_cmp e.seqno bound))) tie ∙ lt_of_cond (nat_lt e.seqno bound) (e.seqno == bound)
-
-and_left : (a b : Bool) → (a && b) ≡ true → a ≡ true
-and_left true b h = refl
-and_left false b h = h
-
-and_right : (a b : Bool) → (a && b) ≡ true → b ≡ true
-and_right true b h = h
-and_right false b h = absurd cc
 
 hit_key : (key : List ℕ) (bound : ℕ) (e : Entry) → is_hit key bound e ≡ true → e.user_key ≡ key
 hit_key key bound e h = same_text e.user_key key (sym (and_left (pointwise nat_eq e.user_key key) (nat_lt e.seqno bound) h))
@@ -177,10 +124,6 @@ hit_from key bound e same h =
 record IsFirst (es : List Entry) (key : List ℕ) (bound : ℕ) (n : ℕ) : Type 0 where
   pub before : (i : ℕ) → i < n → is_before (bound_of key bound) (get_or es i blank) ≡ false
   pub after : n < length es → is_before (bound_of key bound) (get_or es n blank) ≡ true
-
-not_not : (b : Bool) → not b ≡ false → b ≡ true
-not_not true h = refl
-not_not false h = absurd cc
 
 first_past : (es : List Entry) (key : List ℕ) (bound n : ℕ) → n ≡ front_length (λ e. not (is_before (bound_of key bound) e)) es → IsFirst es key bound n
 first_past es key bound n is =

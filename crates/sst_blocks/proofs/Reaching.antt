@@ -19,13 +19,10 @@ use Rattle.sst_entries.specs.Key.{same_key, key_lt}
 use Rattle.sst_entries.specs.Span.{Span, left_in, front_length}
 use Rattle.sst_entries.specs.Strict.{number_cmp, is_before, IsStrictAfter}
 use Rattle.sst_blocks.proofs.SpanLemmas.{front_length_is, left_empty}
+use Rattle.sst_entries.proofs.Booleans.{apart, is_false}
+use Rattle.sst_entries.proofs.OrderLemmas.{lt_of_cond, before_trans, strict_at}
 
 -- ---- to reach a key is to end after it
-
-lt_of_cond : (b c : Bool) → is_lt (cond b Less (cond c Equal Greater)) ≡ b
-lt_of_cond true c = refl
-lt_of_cond false true = refl
-lt_of_cond false false = refl
 
 by_order : (o : Ordering) (n bound : ℕ) → (is_lt o || (is_eq (ordering_reverse o) && nat_lt n bound)) ≡ is_lt (ordering_then o (nat_cmp n bound))
 by_order Less n bound = refl
@@ -53,30 +50,6 @@ above_reaches key h =
 
 -- ---- what comes before the first that reaches does not, and what comes after it does
 
-number_total : IsTotalOrder number_cmp
-number_total = search (comparing, rules)
-
-less_of : (o : Ordering) → is_lt o ≡ true → o ≡ Less
-less_of Less h = refl
-less_of Equal h = absurd cc
-less_of Greater h = absurd cc
-
-before_trans : (a b c : Entry) → is_before a b ≡ true → is_before b c ≡ true → is_before a c ≡ true
-before_trans a b c p q = ap is_lt (number_total.trans a b c (less_of (number_cmp a b) p) (less_of (number_cmp b c) q))
-
-head_before : (x : Entry) (es : List Entry) (j : ℕ) (d : Entry) → IsStrictAfter (Some x) es → j < length es → is_before x (get_or es j d) ≡ true
-unfolding IsStrictAfter
-head_before x [] j d h lt = absurd (omega (arith, lt))
-head_before x (y ∷ es) zero d h lt = h.0
-head_before x (y ∷ es) (suc j) d h lt = before_trans x y (get_or es j d) h.0 (head_before y es j d h.1 (omega (arith, lt)))
-
-strict_at : (last : Option Entry) (es : List Entry) (i j : ℕ) (d : Entry) → IsStrictAfter last es → i < j → j < length es → is_before (get_or es i d) (get_or es j d) ≡ true
-unfolding IsStrictAfter
-strict_at last [] i j d h lt le = absurd (omega (arith, le))
-strict_at last (x ∷ es) i zero d h lt le = absurd (omega (arith, lt))
-strict_at last (x ∷ es) zero (suc j) d h lt le = head_before x es j d h.1 (omega (arith, le))
-strict_at last (x ∷ es) (suc i) (suc j) d h lt le = strict_at (Some x) es i j d h.1 (omega (arith, lt)) (omega (arith, le))
-
 pub later_reaches : (hs : List Handle) (key : List ℕ) (bound i j : ℕ) (d : Handle) → AreStrictHandles hs → i < j → j < length hs → reaches key bound (get_or hs i d) ≡ true → reaches key bound (get_or hs j d) ≡ true
 later_reaches hs key bound i j d strict lt within hit =
     let es = map end_of hs in
@@ -87,13 +60,6 @@ later_reaches hs key bound i j d strict lt within hit =
     let gj : get_or es j (end_of d) ≡ end_of (get_or hs j d) = get_or-map end_of hs j d (end_of d) within in
     let step2 : is_before (end_of (get_or hs i d)) (end_of (get_or hs j d)) ≡ true = subst (λ (e : Entry). is_before (end_of (get_or hs i d)) e ≡ true) gj (subst (λ (e : Entry). is_before e (get_or es j (end_of d)) ≡ true) gi step) in
     reaches_after key bound (get_or hs j d) ∙ before_trans b (end_of (get_or hs i d)) (end_of (get_or hs j d)) (sym (reaches_after key bound (get_or hs i d)) ∙ hit) step2
-
-is_false : (b : Bool) → (b ≡ true → ⊥) → b ≡ false
-is_false true h = absurd (h refl)
-is_false false h = refl
-
-apart : (b : Bool) → b ≡ true → b ≡ false → ⊥
-apart b p q = let e : true ≡ false = sym p ∙ q in absurd cc
 
 -- below a handle that does not reach stands none that does
 pub below_place : (hs : List Handle) (key : List ℕ) (bound n : ℕ) (d : Handle) → AreStrictHandles hs → n < length hs → reaches key bound (get_or hs n d) ≡ false → (i : ℕ) → i < n + 1 → reaches key bound (get_or hs i d) ≡ false

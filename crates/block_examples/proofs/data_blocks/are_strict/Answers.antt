@@ -2,7 +2,7 @@ use Rattle.std.proofs.Common.{◌≡◌, ◌+◌, ◌++◌, ◌∷◌, [], take,
 use Rattle.std.proofs.lemmas.List.{take_more}
 use Rattle.sst_entries.specs.Entry.{Entry}
 use Rattle.sst_entries.specs.Strict.{IsStrictAfter, last_of, may_follow}
-use Rattle.sst_blocks.proofs.Items.{strict_push, last_push}
+use Rattle.sst_entries.proofs.Strictness.{strict_push, last_push}
 use Rattle.block_examples.proofs.data_blocks.are_strict.Goals as goal
 
 pub loop-item-init : goal.loop-item-init

@@ -5,7 +5,7 @@ use Rattle.sst_entries.specs.Entry.{Entry}
 use Rattle.sst_blocks.specs.Handle.{Handle}
 use Rattle.sst_blocks.specs.Handles.{end_of}
 use Rattle.sst_entries.specs.Strict.{may_follow, is_strict_after}
-use Rattle.sst_blocks.proofs.Items.{strict_from_test}
+use Rattle.sst_entries.proofs.Strictness.{strict_from_test}
 use Rattle.block_examples.proofs.index_blocks.are_strict.Goals as goal
 
 one_more : (whole : Bool) (last : Option Entry) (hs : List Handle) (i : ℕ) (h : Handle) → i < length hs → h ≡ get_or hs i h → may_follow last (end_of h) ≡ true
