@@ -2,15 +2,15 @@
 use Rattle.std.proofs.Common.{◌≡◌, ℕ, ◌-◌, ◌≤◌, Bool, true, false, cond, List, drop, sym, ap, ◌∙◌, arith, inl, inr, length-drop}
 use Rattle.std.proofs.lemmas.Bool.{cases_lt}
 use Rattle.std.proofs.lemmas.List.{length-take}
-use Rattle.std.specs.Prelude.{Option, Some, None, Result, Ok, Err}
+use Rattle.std.specs.Prelude.{Option, Some, None, Result, Ok, Err, not, ◌==◌, ◌||◌, slice_range, nat_lt, length, ◌+◌}
 use Rattle.sst_entries.specs.declared.error.Error.{Error}
 use Rattle.sst_blocks.specs.declared.block_type.BlockType.{BlockType}
 use Rattle.sst_blocks.specs.declared.block_type.BlockType.TheVariants.{Data, Meta, Index, Filter}
 use Rattle.sst_blocks.specs.declared.version.TableVersion.{TableVersion}
 use Rattle.sst_entries.specs.declared.error.Error.TheVariants.{ChecksumMismatch, InvalidHeader, Truncated}
 use Rattle.sst_blocks.specs.Fnv.{fnv1a}
-use Rattle.std.specs.Prelude.{not, ◌==◌, ◌||◌, slice_range, nat_lt, length, ◌+◌}
-use Rattle.sst_blocks.specs.Block.{Loaded, load_told, load_at_told, checked_payload, grammar_fault, unless, version_in, stored_checksum, header_fault, data_len, uncompressed_len}
+use Rattle.sst_blocks.specs.Block.{Loaded, load_told, load_at_told, checked_payload, grammar_fault, version_in, stored_checksum, header_fault, data_len, uncompressed_len}
+use Rattle.sst_entries.specs.Error.{unless}
 use Rattle.sst_blocks.specs.Starts.{HoldsEntries}
 use Rattle.sst_blocks.proofs.LoadLemmas.{load_truncated}
 

@@ -66,8 +66,8 @@ module _ (label : Label) (es : List Entry) (g : ℕ) where
     unopened e told = or_second (list_fault label es) (number_fault es g) e written (fault_by (ltb (2 ^ 64 - 1) (highest_seqno es + g)) (parts_said label default_options bytes es t) e told)
 
 -- what was opened
-pub opened : (label : Label) (es : List Entry) (g id sum : ℕ) (bytes : List ℕ) (t : TableSeen) → IsTableOf label es id sum bytes → t.bytes ≡ bytes → t.global_seqno ≡ g → t.checksum ≡ sum → IsOpened label es g t
-opened label es g id sum bytes t f same number check =
+pub opened : (label : Label) (es : List Entry) (g id sum : ℕ) (bytes : List ℕ) (t : TableSeen) → IsTableOf label es id sum bytes → t.bytes ≡ bytes → t.global_seqno ≡ g → t.tree_id ≡ 0 → t.checksum ≡ sum → IsOpened label es g t
+opened label es g id sum bytes t f same number tree check =
     let P : List ℕ → Type 0 = λ b. (x : IsTable label default_options b es) × (x.version ≡ V4) in
     let table : P t.bytes = subst P (sym same) (f.table, f.version_is) in
     record {
@@ -75,6 +75,7 @@ opened label es g id sum bytes t f same number check =
       table = table.0;
       version_is = table.1;
       number_is = number;
+      tree_is = tree;
       checksum_is = check ∙ f.checksum_is ∙ subst (λ (b : List ℕ). fnv1a b ≡ fnv1a t.bytes) same refl;
     }
 

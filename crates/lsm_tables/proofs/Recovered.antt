@@ -4,9 +4,9 @@ use Rattle.std.specs.Prelude.{length, map, Option, Some, None, Result, Ok, Err}
 use Rattle.std.proofs.lemmas.Bool.{ltb-false}
 use Rattle.sst_entries.specs.declared.error.Error.{Error}
 use Rattle.sst_entries.specs.declared.error.Error.TheVariants.{GlobalSeqNoTooLarge}
-use Rattle.sst_entries.specs.Error.{Fails, is_memory}
+use Rattle.sst_entries.specs.Error.{Fails, is_memory, unless}
 use Rattle.sst_blocks.specs.declared.block_type.BlockType.TheVariants.{Index}
-use Rattle.sst_blocks.specs.Block.{Loaded, load_told, handles_of, unless}
+use Rattle.sst_blocks.specs.Block.{Loaded, load_told, handles_of}
 use Rattle.sst_blocks.specs.Handle.{Handle}
 use Rattle.sst_blocks.specs.Sections.{body_of, section_in, section_names, trailer_fault}
 use Rattle.lsm_tables.specs.declared.regions.ParsedRegions.{ParsedRegions}

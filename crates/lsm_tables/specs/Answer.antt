@@ -4,7 +4,7 @@ use Rattle.std.specs.Option.{option_map}
 use Rattle.sst_blocks.specs.declared.block_type.BlockType.TheVariants.{Data}
 use Rattle.sst_entries.specs.declared.error.Error.{Error}
 use Rattle.sst_blocks.specs.declared.opened.Opened.{Opened}
-use Rattle.sst_blocks.specs.Block.{load_told, entries_of}
+use Rattle.sst_blocks.specs.Block.{load_told, place_fault, entries_of}
 use Rattle.sst_entries.specs.Entry.{Entry}
 use Rattle.sst_blocks.specs.Handle.{Handle}
 use Rattle.sst_blocks.specs.Handles.{reaches}
@@ -41,3 +41,8 @@ answer_told body g parts key bound = read_told body g key bound (handle_for part
 abbrev pub opened_by : Option Handle → Opened → Opened
 opened_by None o = o
 opened_by (Some h) o = counted Data o
+
+-- the fault of a point read that is found before its block's payload is tested, and so before memory is taken
+abbrev pub fault_at : List ℕ → Option Handle → Option Error
+fault_at body None = None
+fault_at body (Some h) = place_fault body h.offset h.size Data

@@ -3,7 +3,8 @@ use Rattle.std.specs.Prelude.{ℕ, ◌+◌, ◌-◌, ◌^◌, nat_lt, List, map,
 use Rattle.sst_blocks.specs.declared.block_type.BlockType.TheVariants.{Index}
 use Rattle.sst_entries.specs.declared.error.Error.{Error}
 use Rattle.sst_entries.specs.declared.error.Error.TheVariants.{GlobalSeqNoTooLarge}
-use Rattle.sst_blocks.specs.Block.{load_told, handles_of, unless}
+use Rattle.sst_blocks.specs.Block.{load_told, handles_of}
+use Rattle.sst_entries.specs.Error.{unless}
 use Rattle.sst_blocks.specs.Handle.{Handle}
 use Rattle.sst_blocks.specs.Place.{Place}
 use Rattle.sst_blocks.specs.Sections.{body_of, section_in, section_names, trailer_fault}

@@ -5,11 +5,12 @@ ghost use Rattle.sst_blocks.specs.Place.{place_of};
 ghost use Rattle.sst_blocks.specs.declared.block_type.BlockType.TheVariants.{Data};
 ghost use Rattle.sst_entries.specs.declared.error.Error.TheVariants.{OutOfMemory};
 ghost use Rattle.sst_entries.specs.Entry.{Entry};
-ghost use Rattle.sst_entries.specs.Error.{Gives};
+ghost use Rattle.sst_entries.specs.Error.{FaultsFirst, Gives};
+ghost use Rattle.sst_blocks.specs.Block.{place_fault};
 ghost use Rattle.sst_entries.specs.Point.{point};
 ghost use Rattle.std.specs.Option.{option_map};
 ghost use Rattle.sst_blocks.specs.Fnv.{fnv1a};
-ghost use Rattle.lsm_tables.specs.Answer.{answer_told, handle_for, opened_by, read_at, lifted};
+ghost use Rattle.lsm_tables.specs.Answer.{answer_told, fault_at, handle_for, opened_by, read_at, lifted};
 ghost use Rattle.lsm_tables.specs.Seen.{parts_of};
 
 use crate::Inner;
@@ -66,6 +67,8 @@ fn read_in<S: LoadBlocks>(
 ) -> Result<Option<InternalValue<S::Alloc>>, Error>
     ensures told { let told = read_at (S.body source.old) global_seqno key.now seqno handle in
         Gives (λ (found : Option Entry). found) result told }
+    ensures first { FaultsFirst result
+        (place_fault (S.body source.old) handle.offset handle.size Data) }
     ensures body { S.body source.new ≡ S.body source.old }
     ensures counted { S.opened source.new ≡ counted Data (S.opened source.old) }
 {
@@ -86,6 +89,9 @@ pub fn point_in<S: LoadBlocks>(
 ) -> Result<Option<InternalValue<S::Alloc>>, Error>
     requires { key_hash ≡ fnv1a key.now }
     ensures told { Gives (λ (found : Option Entry). found) result (answer_told (S.body source.old) inner.now.global_seqno (parts_of inner.now) key.now seqno) }
+    // What is found before the block's payload is tested is the refusal, whatever memory there is.
+    ensures first { FaultsFirst result (fault_at (S.body source.old)
+        (handle_for (parts_of inner.now) inner.now.global_seqno key.now seqno)) }
     ensures body { S.body source.new ≡ S.body source.old }
     // One data block where there is a handle, also where the read is refused, and no other block.
     ensures opened { S.opened source.new ≡

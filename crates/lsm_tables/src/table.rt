@@ -2,7 +2,7 @@
 ghost use Rattle.std.specs.Prelude.{◌≡◌, ◌+◌, ◌<◌, ℕ, Bool, List, [], Option, Some, Result, Ok, Err, false, true, length, IfOk, IfErr, MatchResult};
 ghost use Rattle.sst_blocks.specs.Block.{Loaded, load_told, load_at_told};
 ghost use Rattle.sst_entries.specs.Entry.{Entry};
-ghost use Rattle.sst_entries.specs.Error.{Faults, Gives};
+ghost use Rattle.sst_entries.specs.Error.{Faults, FaultsFirst, Gives};
 ghost use Rattle.sst_blocks.specs.Fnv.{fnv1a};
 ghost use Rattle.sst_blocks.specs.Opened.{counted, none_opened};
 ghost use Rattle.sst_blocks.specs.Sections.{body_of};
@@ -14,7 +14,7 @@ ghost use Rattle.sst_entries.specs.declared.error.Error.TheVariants.{OutOfMemory
 ghost use Rattle.lsm_ranges.specs.KeyRange.{bound_of, reaches};
 ghost use Rattle.lsm_writers.specs.Table.{IsTable};
 ghost use Rattle.lsm_writers.specs.Options.{Options, Label};
-ghost use Rattle.lsm_tables.specs.Answer.{answer_told, handle_for, lift, opened_by};
+ghost use Rattle.lsm_tables.specs.Answer.{answer_told, fault_at, handle_for, lift, opened_by};
 ghost use Rattle.lsm_tables.specs.OfList.{ends_of, list_told, parts_said};
 ghost use Rattle.lsm_tables.specs.Handled.{IsRecovered, IsOpen};
 ghost use Rattle.lsm_tables.specs.Parts.{recovered_told, parts_told, fitting_told, index_told, number_told, size_of};
@@ -210,6 +210,8 @@ impl<A: Allocator + Clone> Table<A> {
     ) -> (Result<Option<InternalValue<A>>, Error>, Opened)
         requires { key_hash ≡ fnv1a key.now }
         ensures told { Gives (λ (found : Option Entry). found) result.0 (answer_told (body_of self.now.bytes) self.now.global_seqno self.now.parts key.now seqno) }
+        ensures first { FaultsFirst result.0 (fault_at (body_of self.now.bytes)
+            (handle_for self.now.parts self.now.global_seqno key.now seqno)) }
         ensures opened { result.1 ≡
             opened_by (handle_for self.now.parts self.now.global_seqno key.now seqno) none_opened }
         ensures open { IsOpen self.now }
@@ -231,6 +233,8 @@ impl<A: Allocator + Clone> Table<A> {
     ) -> Result<Option<InternalValue<A>>, Error>
         requires { key_hash ≡ fnv1a key.now }
         ensures told { Gives (λ (found : Option Entry). found) result (answer_told (body_of self.now.bytes) self.now.global_seqno self.now.parts key.now seqno) }
+        ensures first { FaultsFirst result (fault_at (body_of self.now.bytes)
+            (handle_for self.now.parts self.now.global_seqno key.now seqno)) }
         ensures recovered { IsRecovered self.now }
         // On a table of a list it is the first match in the list, its numbers lifted.
         ensures list { (label : Label) (options : Options) (es : List Entry) →

@@ -6,7 +6,8 @@ use Rattle.std.proofs.lemmas.List.{drop_more, drop_all, length-append, take-take
 use Rattle.sst_entries.specs.declared.error.Error.{Error}
 use Rattle.sst_entries.specs.declared.error.Error.TheVariants.{KeyTooLong, ValueTooLong, BlockTooLarge}
 use Rattle.sst_blocks.specs.Bounds.{data_block_bound_of}
-use Rattle.sst_blocks.specs.Encoding.{length_fault, or_fault, large_fault, entries_fault}
+use Rattle.sst_blocks.specs.Encoding.{length_fault, large_fault, entries_fault}
+use Rattle.std.specs.Option.{option_or}
 use Rattle.sst_entries.specs.Entry.{Entry}
 
 lt-leb : (a b : ℕ) → a < b → leb b a ≡ false
@@ -47,17 +48,17 @@ pub no_fault_left : (es : List Entry) (i : ℕ) → length_fault es ≡ length_f
 no_fault_left es i fine le = sym (fine ∙ ap length_fault (drop_all i es le))
 
 pub length_fault_first : (es : List Entry) (e : Error) → Some e ≡ length_fault es → entries_fault es ≡ Some e
-length_fault_first es e first = ap (λ (o : Option Error). or_fault o (large_fault (data_block_bound_of es))) (sym first)
+length_fault_first es e first = ap (λ (o : Option Error). option_or o (large_fault (data_block_bound_of es))) (sym first)
 
 pub large_fault_next : (es : List Entry) → None ≡ length_fault es → 2 ^ 32 ≤ data_block_bound_of es → entries_fault es ≡ Some BlockTooLarge
 large_fault_next es none large =
     let k : leb (2 ^ 32) (data_block_bound_of es) ≡ true = le-leb _ _ large in
-    ap (λ (o : Option Error). or_fault o (large_fault (data_block_bound_of es))) (sym none) ∙ ap (λ (b : Bool). cond b (Some BlockTooLarge) None) k
+    ap (λ (o : Option Error). option_or o (large_fault (data_block_bound_of es))) (sym none) ∙ ap (λ (b : Bool). cond b (Some BlockTooLarge) None) k
 
 pub no_entries_fault : (es : List Entry) → None ≡ length_fault es → data_block_bound_of es < 2 ^ 32 → entries_fault es ≡ None
 no_entries_fault es none small =
     let k : leb (2 ^ 32) (data_block_bound_of es) ≡ false = lt-leb _ _ small in
-    ap (λ (o : Option Error). or_fault o (large_fault (data_block_bound_of es))) (sym none) ∙ ap (λ (b : Bool). cond b (Some BlockTooLarge) None) k
+    ap (λ (o : Option Error). option_or o (large_fault (data_block_bound_of es))) (sym none) ∙ ap (λ (b : Bool). cond b (Some BlockTooLarge) None) k
 
 -- without a fault no entry is too long
 pub record Short (e : Entry) : Type 0 where

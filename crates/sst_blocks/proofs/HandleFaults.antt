@@ -9,7 +9,8 @@ use Rattle.sst_entries.specs.declared.error.Error.{Error}
 use Rattle.sst_entries.specs.declared.error.Error.TheVariants.{KeyTooLong, BlockTooLarge}
 use Rattle.sst_blocks.specs.declared.version.TableVersion.TheVariants.{V4}
 use Rattle.sst_blocks.specs.Bounds.{handle_bound, index_block_bound_of}
-use Rattle.sst_blocks.specs.Encoding.{key_fault, or_fault, large_fault, handles_fault}
+use Rattle.sst_blocks.specs.Encoding.{key_fault, large_fault, handles_fault}
+use Rattle.std.specs.Option.{option_or}
 use Rattle.sst_blocks.specs.Handle.{Handle}
 use Rattle.sst_blocks.specs.Handles.{handle_spelled, handles_payload}
 use Rattle.sst_blocks.specs.Number.{le4}
@@ -53,17 +54,17 @@ le-leb : (a b : ℕ) → a ≤ b → leb a b ≡ true
 le-leb a b le = grind arith
 
 pub key_fault_first : (hs : List Handle) (e : Error) → Some e ≡ key_fault hs → handles_fault hs ≡ Some e
-key_fault_first hs e first = ap (λ (o : Option Error). or_fault o (large_fault (index_block_bound_of hs))) (sym first)
+key_fault_first hs e first = ap (λ (o : Option Error). option_or o (large_fault (index_block_bound_of hs))) (sym first)
 
 pub large_fault_next : (hs : List Handle) → None ≡ key_fault hs → 2 ^ 32 ≤ index_block_bound_of hs → handles_fault hs ≡ Some BlockTooLarge
 large_fault_next hs none large =
     let k : leb (2 ^ 32) (index_block_bound_of hs) ≡ true = le-leb _ _ large in
-    ap (λ (o : Option Error). or_fault o (large_fault (index_block_bound_of hs))) (sym none) ∙ ap (λ (b : Bool). cond b (Some BlockTooLarge) None) k
+    ap (λ (o : Option Error). option_or o (large_fault (index_block_bound_of hs))) (sym none) ∙ ap (λ (b : Bool). cond b (Some BlockTooLarge) None) k
 
 pub no_handles_fault : (hs : List Handle) → None ≡ key_fault hs → index_block_bound_of hs < 2 ^ 32 → handles_fault hs ≡ None
 no_handles_fault hs none small =
     let k : leb (2 ^ 32) (index_block_bound_of hs) ≡ false = lt-leb _ _ small in
-    ap (λ (o : Option Error). or_fault o (large_fault (index_block_bound_of hs))) (sym none) ∙ ap (λ (b : Bool). cond b (Some BlockTooLarge) None) k
+    ap (λ (o : Option Error). option_or o (large_fault (index_block_bound_of hs))) (sym none) ∙ ap (λ (b : Bool). cond b (Some BlockTooLarge) None) k
 
 -- ---- lengths
 

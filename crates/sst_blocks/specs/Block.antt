@@ -9,6 +9,7 @@ use Rattle.sst_entries.specs.declared.error.Error.{Error}
 use Rattle.sst_entries.specs.declared.error.Error.TheVariants.{Truncated, InvalidHeader, InvalidTag, ChecksumMismatch, InvalidBlock, UnsupportedCompression}
 use Rattle.sst_entries.specs.declared.error.TagName.TheVariants.{BlockType as BlockTypeTag}
 use Rattle.sst_entries.specs.Entry.{Entry}
+use Rattle.sst_entries.specs.Error.{unless}
 use Rattle.sst_blocks.specs.Fnv.{fnv1a}
 use Rattle.sst_blocks.specs.Handle.{Handle}
 use Rattle.sst_blocks.specs.Handles.{handles_in}
@@ -55,11 +56,6 @@ header_fault kind head =
     else (if not (slice_index head 4 == kind_tag kind) then Some (InvalidTag BlockTypeTag (slice_index head 4))
     else (if not (slice_index head 5 == 0) then Some UnsupportedCompression
     else None))
-
--- a fault, or else what comes after it
-abbrev pub unless : {A : Type 0} → Option Error → Result A Error → Result A Error
-unless None told = told
-unless (Some e) told = Err e
 
 -- the two lengths and the checksum of a header
 abbrev pub data_len : List ℕ → ℕ

@@ -1,5 +1,6 @@
 -- What encoding a block refuses: the first fault.
 use Rattle.std.specs.Prelude.{ℕ, Bool, ◌^◌, nat_lt, nat_le, List, [], ◌∷◌, length, Option, Some, None, if◌then◌else◌}
+use Rattle.std.specs.Option.{option_or}
 use Rattle.sst_blocks.specs.declared.version.TableVersion.TheVariants.{V4}
 use Rattle.sst_entries.specs.declared.error.Error.{Error}
 use Rattle.sst_entries.specs.declared.error.Error.TheVariants.{KeyTooLong, ValueTooLong, BlockTooLarge}
@@ -19,20 +20,15 @@ length_fault (e ∷ es) =
     else (if nat_le (2 ^ 32) (length e.value) then Some ValueTooLong
     else length_fault es)
 
--- a fault, or else the next one
-abbrev pub or_fault : Option Error → Option Error → Option Error
-or_fault None other = other
-or_fault (Some e) other = Some e
-
 abbrev pub large_fault : ℕ → Option Error
 large_fault bound = if nat_le (2 ^ 32) bound then Some BlockTooLarge else None
 
 abbrev pub entries_fault : List Entry → Option Error
-entries_fault es = or_fault (length_fault es) (large_fault (data_block_bound_of es))
+entries_fault es = option_or (length_fault es) (large_fault (data_block_bound_of es))
 
 abbrev pub key_fault : List Handle → Option Error
 key_fault [] = None
 key_fault (h ∷ hs) = if is_long_key h.end_key then Some KeyTooLong else key_fault hs
 
 abbrev pub handles_fault : List Handle → Option Error
-handles_fault hs = or_fault (key_fault hs) (large_fault (index_block_bound_of hs))
+handles_fault hs = option_or (key_fault hs) (large_fault (index_block_bound_of hs))

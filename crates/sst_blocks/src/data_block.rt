@@ -137,6 +137,7 @@ impl<A: Allocator> DataBlock<A> {
         // What is found before anything is written takes no memory.
         ensures first { FaultsFirst result (entries_fault items.now) }
         // What was written spells the entries, and its block's length is the bound.
+        ensures fit { OnOk result (AreFit V4 items.now) }
         ensures reads { OnOk result (entries_in V4 (payload V4 items.now) ≡ Some items.now) }
         ensures bound { OnOk result (24 + length (payload V4 items.now) ≡ data_block_bound_of items.now) }
         ensures short { OnOk result (24 + length (payload V4 items.now) < 2 ^ 32) }

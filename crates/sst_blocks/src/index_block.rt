@@ -6,7 +6,7 @@ ghost use Rattle.sst_blocks.specs.Block.{handles_of};
 ghost use Rattle.sst_blocks.specs.Bounds.{index_block_bound_of};
 ghost use Rattle.sst_blocks.specs.Encoding.{handles_fault};
 ghost use Rattle.sst_entries.specs.Error.{Faults, FaultsFirst};
-ghost use Rattle.sst_blocks.specs.Handles.{handles_payload, handles_in, reaches, is_above, AreStrictHandles};
+ghost use Rattle.sst_blocks.specs.Handles.{handles_payload, handles_in, reaches, is_above, AreStrictHandles, HandlesFit};
 ghost use Rattle.sst_blocks.specs.Place.{place_of};
 ghost use Rattle.sst_blocks.specs.SeenHandle.{seen_handle};
 ghost use Rattle.sst_entries.specs.Span.{front_length};
@@ -188,6 +188,7 @@ impl<A: Allocator> IndexBlock<A> {
         // What is found before anything is written takes no memory.
         ensures first { FaultsFirst result (handles_fault handles.now) }
         // What was written spells the handles, and its block's length is the bound.
+        ensures fit { OnOk result (HandlesFit V4 handles.now) }
         ensures reads { OnOk result (handles_in V4 (handles_payload V4 handles.now) ≡ Some handles.now) }
         ensures bound { OnOk result (24 + length (handles_payload V4 handles.now) ≡ index_block_bound_of handles.now) }
         ensures short { OnOk result (24 + length (handles_payload V4 handles.now) < 2 ^ 32) }

@@ -29,7 +29,8 @@ pub use section::{Section, SectionName, SectionWriter};
 pub use source::{BlockSource, Counted, LoadBlocks};
 pub use sst_entries::{
     Direction, Error, InternalKey, InternalValue, IterItem, SeqNo, Slice, TagName, UserKey,
-    UserValue, ValueType, answer_at, answers_at, source_of,
+    UserValue, ValueType, answer_at, answers_at, are_strict, compare_versions, from_the_front,
+    source_of,
 };
 pub use toc::Toc;
 pub use version::TableVersion;
