@@ -6,7 +6,7 @@ use Rattle.sst_entries.specs.declared.error.Error.{Error}
 use Rattle.sst_entries.specs.Stream.{Deals, NoneStops, stopped, all_ok}
 use Rattle.lsm_sorted.specs.Ends.{R}
 use Rattle.lsm_sorted.specs.Merge.{Follows, DealsUntil}
-use Rattle.lsm_sorted.specs.NewestLaws.{every_error}
+use Rattle.lsm_sorted.specs.MergeLaws.{every_error}
 
 fine_for : (stops : Error → Bool) (rs : List (Option R)) → NoneStops (stopped every_error) rs → NoneStops (stopped stops) rs
 fine_for stops [] h = tt

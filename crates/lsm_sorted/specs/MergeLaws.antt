@@ -1,5 +1,5 @@
 -- What is promised of runs of calls of a merger of sources.
-use Rattle.std.specs.Prelude.{◌≡◌, ℕ, ◌<◌, ◌≤◌, Bool, List, [], ◌∷◌, ◌++◌, length, All, count_by, slice_index_or, Option, Some, None, Ok, Err}
+use Rattle.std.specs.Prelude.{◌≡◌, ℕ, ◌<◌, ◌≤◌, Bool, true, List, [], ◌∷◌, ◌++◌, length, All, count_by, slice_index_or, Option, Some, None, Ok, Err}
 use Rattle.std.specs.List.{AllZip, AllByRecursion}
 use Rattle.std.specs.Iterator.{Count, IsFinite}
 use Rattle.sst_entries.specs.Stream.{Deals, CanDeal, stopped, all_ok, but_last, Runs, NoneStops, nowhere}
@@ -30,6 +30,10 @@ ErrorsComeLate lists given (None ∷ rs) = ErrorsComeLate lists given rs
 ErrorsComeLate lists given (Some (Ok x) ∷ rs) = ErrorsComeLate lists (x ∷ given) rs
 ErrorsComeLate lists given (Some (Err e) ∷ rs) = ComesLate lists given e
 
+-- whatever error is answered, a list is no longer followed
+abbrev pub every_error : Error → Bool
+every_error e = true
+
 module _ {S : Type 0} (front back : S → Option R → S → Type 0) where
   -- each source deals one of these lists, which are sorted
   pub record DealSorted (stops : Error → Bool) (its : List S) (lists : List (List R)) : Type 0 where
@@ -40,6 +44,11 @@ module _ {S : Type 0} (front back : S → Option R → S → Type 0) where
   pub record DealsMerged {T : Type 0} (its : List S) (next next_back : T → Option R → T → Type 0) (m : T) : Type 0 where
     pub deals : (stops : Error → Bool) (lists : List (List R)) → DealSorted stops its lists → all_errors lists ≡ []
         → Deals (stopped stops) next next_back m (all_ok (merged lists))
+
+  -- whatever errors are among it, as long as none of them is the answer
+  pub record DealsBeforeErrors {T : Type 0} (its : List S) (next next_back : T → Option R → T → Type 0) (m : T) : Type 0 where
+    pub deals : (stops : Error → Bool) (lists : List (List R)) → DealSorted stops its lists
+        → Deals (stopped every_error) next next_back m (all_ok (merged lists))
 
   -- with errors among it, up to one of them
   pub record DealsUntilError {T : Type 0} (its : List S) (next next_back : T → Option R → T → Type 0) (m : T) : Type 0 where

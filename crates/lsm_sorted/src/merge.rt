@@ -11,7 +11,7 @@ ghost use Rattle.lsm_sorted.specs.Tournament.{held, room};
 ghost use Rattle.lsm_sorted.specs.Union.{IsUnion, merged};
 ghost use Rattle.lsm_sorted.specs.Merge.{EndsAtError, HoldsAtMost, Adds, SameRoom, Fits, MayMerge, LowersTotal, LowersByOne, merge_size, entry_of};
 ghost use Rattle.lsm_sorted.specs.Asks.{Asks, Fills, Steps, Calls, IsMergerOf};
-ghost use Rattle.lsm_sorted.specs.MergeLaws.{DealsMerged, DealsUntilError, MeetsErrorsLate, CanMerge};
+ghost use Rattle.lsm_sorted.specs.MergeLaws.{DealsBeforeErrors, DealsMerged, DealsUntilError, MeetsErrorsLate, CanMerge};
 
 use crate::ends::Ends;
 use crate::tournament::Tournament;
@@ -92,6 +92,9 @@ impl<I: Iterator<Item = IterItem<A>>, A: Allocator + Clone> Merger<I, A> {
         // What sorted sources have together is dealt in order from the front.
         ensures deals { IfOk result (λ m. DealsMerged I.next_gives nowhere iterators.items
             ⟦<Merger<I, A> as Iterator>⟧.next_gives nowhere m) }
+        // Whatever errors are among it, the same as long as none of them is the answer.
+        ensures before { IfOk result (λ m. DealsBeforeErrors I.next_gives nowhere iterators.items
+            ⟦<Merger<I, A> as Iterator>⟧.next_gives nowhere m) }
         // With errors among it, up to the call in which a source answers one: that is its answer.
         ensures until { IfOk result (λ m. DealsUntilError I.next_gives nowhere iterators.items
             ⟦<Merger<I, A> as Iterator>⟧.next_gives nowhere m) }
@@ -135,6 +138,11 @@ pub fn from_both_ends<I: DoubleEndedIterator<Item = IterItem<A>>, A: Allocator>(
     // What sorted sources have together is dealt in order, whatever the ends.
     ensures deals { (its : List I) → IsMergerOf its merger.now →
         DealsMerged I.next_gives I.next_back_gives its
+        ⟦<Merger<I, A> as Iterator>⟧.next_gives
+        ⟦<Merger<I, A> as DoubleEndedIterator>⟧.next_back_gives merger.now }
+    // Whatever errors are among it, the same as long as none of them is the answer.
+    ensures before { (its : List I) → IsMergerOf its merger.now →
+        DealsBeforeErrors I.next_gives I.next_back_gives its
         ⟦<Merger<I, A> as Iterator>⟧.next_gives
         ⟦<Merger<I, A> as DoubleEndedIterator>⟧.next_back_gives merger.now }
     // With errors among it, up to the call in which a source answers one: that is its answer.

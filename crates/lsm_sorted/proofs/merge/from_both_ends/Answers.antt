@@ -1,6 +1,8 @@
 use Rattle.lsm_sorted.proofs.DealsMerged.{new_may}
 use Rattle.lsm_sorted.proofs.CallsMerged.{front_merges, back_merges, merger_deals, merger_until, ends_at, can_both, holds_two}
 use Rattle.lsm_sorted.proofs.LateErrors.{merger_late}
+use Rattle.lsm_sorted.specs.Union.{merged, all_errors}
+use Rattle.lsm_sorted.proofs.UntilLemmas.{deals_until_error}
 use Rattle.lsm_sorted.proofs.merge.from_both_ends.Goals as goal
 
 pub returns-clause-deals : goal.returns-clause-deals
@@ -37,3 +39,8 @@ returns-clause-few g c its of = holds_two g.I.Iterator.next_gives g.I.DoubleEnde
 
 pub returns-clause-late : goal.returns-clause-late
 returns-clause-late g c its of = merger_late g.I.Iterator.next_gives g.I.DoubleEndedIterator.next_back_gives _ its c.args.merger.now of
+
+pub returns-clause-before : goal.returns-clause-before
+returns-clause-before g c its of = record {
+  deals = λ stops lists sorted. deals_until_error stops _ _ _ (merged lists) (all_errors lists) ((returns-clause-until g c its of).deals stops lists sorted);
+}

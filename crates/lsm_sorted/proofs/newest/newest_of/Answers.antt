@@ -1,6 +1,5 @@
-use Rattle.lsm_sorted.specs.NewestLaws.{every_error}
-use Rattle.lsm_sorted.specs.Union.{merged, all_errors}
-use Rattle.lsm_sorted.proofs.UntilLemmas.{deals_until_error}
+use Rattle.lsm_sorted.specs.MergeLaws.{every_error}
+use Rattle.lsm_sorted.specs.Union.{merged}
 use Rattle.lsm_sorted.proofs.newest.newest_of.Goals as goal
 
 pub returns-clause-deals : goal.returns-clause-deals
@@ -14,13 +13,15 @@ pub returns-clause-until : goal.returns-clause-until
 returns-clause-until g c = record {
   deals = λ stops lists sorted.
       c.new-2.ensures.newest every_error (merged lists) (c.in_ok-merger.ensures.union lists).ascends
-      (deals_until_error stops _ _ _ (merged lists) (all_errors lists) ((c.from_both_ends.ensures.until _ c.in_ok-merger.ensures.fresh).deals stops lists sorted));
+      ((c.from_both_ends.ensures.before _ c.in_ok-merger.ensures.fresh).deals stops lists sorted);
 }
 
 pub returns-clause-over : goal.returns-clause-over
 returns-clause-over g c = record {
   source = c.in_ok-merger.merger;
   starts = c.new-2.ensures.starts;
+  of = c.in_ok-merger.ensures.fresh;
+  late = c.from_both_ends.ensures.late _ c.in_ok-merger.ensures.fresh;
   until = c.from_both_ends.ensures.until _ c.in_ok-merger.ensures.fresh;
   ends = c.from_both_ends.ensures.ends;
 }

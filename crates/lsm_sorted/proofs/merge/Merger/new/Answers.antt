@@ -4,6 +4,8 @@ use Rattle.lsm_sorted.proofs.UnionLemmas.{merged_union, only_union}
 use Rattle.lsm_sorted.proofs.DealsMerged.{new_may}
 use Rattle.lsm_sorted.proofs.CallsMerged.{front_merges, merger_deals, merger_until, ends_at, can_in_front, holds_one}
 use Rattle.lsm_sorted.proofs.LateErrors.{merger_late}
+use Rattle.lsm_sorted.specs.Union.{merged, all_errors}
+use Rattle.lsm_sorted.proofs.UntilLemmas.{deals_until_error}
 use Rattle.lsm_sorted.proofs.merge.Merger.new.Goals as goal
 
 pub returns-clause-union : goal.returns-clause-union
@@ -52,3 +54,8 @@ returns-clause-few g c = holds_one g.I.Iterator.next_gives _ _ _ (returns-clause
 
 pub returns-clause-late : goal.returns-clause-late
 returns-clause-late g c = merger_late g.I.Iterator.next_gives nowhere _ _ _ (returns-clause-fresh g c)
+
+pub returns-clause-before : goal.returns-clause-before
+returns-clause-before g c = record {
+  deals = λ stops lists sorted. deals_until_error stops _ _ _ (merged lists) (all_errors lists) ((returns-clause-until g c).deals stops lists sorted);
+}
