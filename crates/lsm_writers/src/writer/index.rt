@@ -9,7 +9,7 @@ use std::alloc::Allocator;
 /// Takes the handles of the data blocks, and writes an index of them.
 pub trait BlockIndexWriter<A: Allocator> {
     ghost use Rattle.std.specs.Prelude.{◌≡◌, ℕ, Bool, true, false, List, [], ◌∷◌, ◌++◌, length, take, Option, OnOk, OnErr, IfOk};
-    ghost use Rattle.sst_entries.specs.Error.{Faults};
+    ghost use Rattle.sst_entries.specs.Error.{Faults, FaultsFirst};
     ghost use Rattle.sst_blocks.specs.Handle.{Handle};
     ghost use Rattle.sst_blocks.specs.Handles.{AreStrictHandles};
     ghost use Rattle.sst_entries.specs.declared.error.Error.{Error};
@@ -39,7 +39,9 @@ pub trait BlockIndexWriter<A: Allocator> {
         ensures works { OnOk result (has_failed self.new ≡ false) }
         ensures unchanged { OnErr result (registered self.new ≡ registered self.old) }
         ensures failed { OnErr result (has_failed self.new ≡ true) }
-        ensures refused { Faults result (failed_fault (has_failed self.old)) };
+        ensures refused { Faults result (failed_fault (has_failed self.old)) }
+        // That it has failed takes no memory to find.
+        ensures first { FaultsFirst result (failed_fault (has_failed self.old)) };
 
     /// Writes the index, and answers of how many blocks it is. Refused [`Error::WriterFailed`] where it has refused before,
     /// where a block or a section is too large, and [`Error::OutOfMemory`]; the bytes that were written before stay.
@@ -48,7 +50,8 @@ pub trait BlockIndexWriter<A: Allocator> {
         ensures ok { OnOk result (writer.new ≡ appended writer.old (index_sections self (length writer.old.bytes))) }
         ensures count { IfOk result (λ n. n ≡ block_count self) }
         ensures before { take (length writer.old.bytes) writer.new.bytes ≡ writer.old.bytes }
-        ensures refused { Faults result (finish_fault self) };
+        ensures refused { Faults result (finish_fault self) }
+        ensures first { FaultsFirst result (failed_fault (has_failed self)) };
 
     /// Compresses the blocks of the index.
     fn use_compression(self, compression: CompressionType) -> Self

@@ -43,7 +43,7 @@ impl<A: Allocator> FullIndexWriter<A> {
 
 impl<A: Allocator + Clone> BlockIndexWriter<A> for FullIndexWriter<A> {
     ghost use Rattle.std.specs.Prelude.{◌≡◌, true, false, [], ◌∷◌, ◌++◌, length, take, OnOk, OnErr, IfOk};
-    ghost use Rattle.sst_entries.specs.Error.{Faults};
+    ghost use Rattle.sst_entries.specs.Error.{Faults, FaultsFirst};
     ghost use Rattle.sst_blocks.specs.Handles.{AreStrictHandles};
     ghost use Rattle.lsm_writers.specs.Registered.{HasNoIndex, appended, failed_fault, full_index, full_index_fault};
 
@@ -64,6 +64,7 @@ impl<A: Allocator + Clone> BlockIndexWriter<A> for FullIndexWriter<A> {
         ensures unchanged { OnErr result (self.new.handles ≡ self.old.handles) }
         ensures failed { OnErr result (self.new.failed ≡ true) }
         ensures refused { Faults result (failed_fault self.old.failed) }
+        ensures first { FaultsFirst result (failed_fault self.old.failed) }
     {
         if self.failed {
             return Err(Error::WriterFailed);
@@ -80,6 +81,7 @@ impl<A: Allocator + Clone> BlockIndexWriter<A> for FullIndexWriter<A> {
         ensures count { IfOk result (λ n. n ≡ 1) }
         ensures before { take (length writer.old.bytes) writer.new.bytes ≡ writer.old.bytes }
         ensures refused { Faults result (full_index_fault self) }
+        ensures first { FaultsFirst result (failed_fault self.failed) }
     {
         if self.failed {
             return Err(Error::WriterFailed);
