@@ -12,7 +12,7 @@ use Rattle.std.proofs.lemmas.Bool.{and_parts, and_from, cases_Bool, both_ways}
 use Rattle.sst_entries.specs.Key.{key_lt}
 use Rattle.lsm_ranges.specs.KeyRange.{Interval, key_le, is_well_formed, has_key, overlaps, ShareKey}
 use Rattle.sst_entries.specs.Point.{is_from, is_to}
-use Rattle.lsm_ranges.proofs.KeyLemmas.{le_itself, lt_le, le_lt}
+use Rattle.sst_entries.proofs.KeyLemmas.{le_itself, lt_le, le_lt}
 
 -- what a test by `>=` says
 pub ge_is : (o : Ordering) → is_ge o ≡ not (is_lt o)

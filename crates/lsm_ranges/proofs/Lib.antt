@@ -1,4 +1,3 @@
-pub mod KeyLemmas
 pub mod IntervalLemmas
 pub mod SpanLemmas
 pub mod RunLemmas

@@ -6,9 +6,9 @@ use Rattle.sst_entries.specs.Key.{same_key}
 use Rattle.sst_entries.specs.declared.error.Error.{Error}
 use Rattle.sst_entries.specs.declared.stream.Direction.TheVariants.{Front}
 use Rattle.sst_entries.specs.Stream.{nowhere, front_of, stopped_result}
-use Rattle.lsm_sorted.specs.declared.ends.Ends.{Ends}
+use Rattle.lsm_merge.specs.declared.ends.Ends.{Ends}
 use Rattle.lsm_sorted.specs.declared.ahead.Ahead.{Ahead}
-use Rattle.lsm_sorted.specs.Ends.{R, Asked}
+use Rattle.lsm_merge.specs.Ends.{R, Asked}
 use Rattle.lsm_sorted.specs.Peeked.{held}
 use Rattle.lsm_sorted.specs.Ahead.{ahead_outlook}
 use Rattle.lsm_sorted.specs.Outlook.{Relates, IsStep, nothing_stops, IsSame}

@@ -4,9 +4,9 @@ use Rattle.std.specs.Prelude.{Option}
 use Rattle.sst_entries.specs.Entry.{Entry}
 use Rattle.sst_entries.specs.declared.error.Error.{Error}
 use Rattle.sst_entries.specs.Stream.{Deals, CanDeal, stopped, first, but_first, last, but_last, all_ok, Answers}
-use Rattle.lsm_sorted.specs.Ends.{R}
+use Rattle.lsm_merge.specs.Ends.{R}
 use Rattle.lsm_sorted.specs.Newest.{front_step, back_step}
-use Rattle.lsm_sorted.specs.Union.{Ascends, newest}
+use Rattle.lsm_merge.specs.Union.{Ascends, newest}
 use Rattle.sst_entries.proofs.StreamLemmas.{deals_by, can_by}
 use Rattle.lsm_sorted.proofs.NewestLemmas.{KeysUp, keys_up, front_newest, back_newest}
 

@@ -6,9 +6,9 @@ use Rattle.std.specs.Ordering.{nat_cmp, is_lt, is_gt, ordering_then, ordering_re
 use Rattle.std.specs.Cmp.Lexicographic.{slice_cmp, nat_list_cmp_total}
 use Rattle.sst_entries.specs.Entry.{Entry}
 use Rattle.sst_entries.specs.Kind.{tag_of}
-use Rattle.lsm_ranges.proofs.KeyLemmas.{KeyLe}
+use Rattle.sst_entries.proofs.KeyLemmas.{KeyLe}
 use Rattle.sst_entries.proofs.OrderLemmas.{gt_first}
-use Rattle.lsm_sorted.specs.Union.{AtMost}
+use Rattle.lsm_merge.specs.Union.{AtMost}
 
 lt_reverse : (o : Ordering) → is_lt (ordering_reverse o) ≡ is_gt o
 lt_reverse Less = refl

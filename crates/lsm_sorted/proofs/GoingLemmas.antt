@@ -4,11 +4,11 @@ use Rattle.std.specs.Prelude.{Option, Some, None, Result, Ok, Err}
 use Rattle.sst_entries.specs.Entry.{Entry}
 use Rattle.sst_entries.specs.Stream.{but_first, stopped, DealsFirst}
 use Rattle.sst_entries.specs.declared.error.Error.{Error}
-use Rattle.lsm_sorted.specs.Ends.{R}
+use Rattle.lsm_merge.specs.Ends.{R}
 use Rattle.lsm_sorted.specs.Compaction.{Verdict, Rules, told_by, reports_by, zeroed}
 use Rattle.lsm_sorted.specs.Compacting.{Turn, settled, turned, GetsAll, Turns, Calls, ended, failed, answered, again}
 use Rattle.lsm_sorted.specs.CompactionState.{Filters, Settles}
-use Rattle.lsm_sorted.proofs.EndsLemmas.{none_first}
+use Rattle.lsm_merge.proofs.EndsLemmas.{none_first}
 use Rattle.lsm_sorted.proofs.MvccLemmas.{from_first}
 use Rattle.lsm_sorted.proofs.CallLemmas.{gets_append}
 

@@ -6,8 +6,8 @@ use Rattle.sst_entries.specs.Key.{same_key, key_lt}
 use Rattle.sst_entries.specs.Stream.{first, all_ok}
 use Rattle.lsm_sorted.specs.Compaction.{Rules, goes, zeroed, kept, unfiltered}
 use Rattle.lsm_sorted.specs.ReadLaw.{StaysStrict}
-use Rattle.lsm_sorted.proofs.Pairs.{Precedes, Strict, as_pairs, from_pairs}
-use Rattle.lsm_ranges.proofs.KeyLemmas.{KeyLe, same_itself, le_itself}
+use Rattle.lsm_merge.proofs.Pairs.{Precedes, Strict, as_pairs, from_pairs}
+use Rattle.sst_entries.proofs.KeyLemmas.{KeyLe, same_itself, le_itself}
 use Rattle.sst_entries.proofs.OrderLemmas.{lt_trans}
 use Rattle.lsm_sorted.proofs.NewestLemmas.{KeysUp}
 use Rattle.lsm_sorted.proofs.OutsLemmas.{AllOf, follows_in}

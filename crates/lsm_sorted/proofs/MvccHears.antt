@@ -6,7 +6,7 @@ use Rattle.sst_entries.specs.declared.error.Error.{Error}
 use Rattle.sst_entries.specs.declared.stream.Direction.TheVariants.{Front, Back}
 use Rattle.sst_entries.specs.Key.{same_key, key_lt}
 use Rattle.sst_entries.specs.Stream.{front_of, back_of}
-use Rattle.lsm_sorted.specs.Ends.{R}
+use Rattle.lsm_merge.specs.Ends.{R}
 use Rattle.lsm_sorted.specs.Newest.{front_step, back_step}
 use Rattle.lsm_sorted.specs.Outlook.{Outlook, Relates, IsStep, nothing_stops, IsSame}
 use Rattle.lsm_sorted.proofs.MvccLemmas.{Gives, Drained, drained_first, drained_more, drained_stop, drained_err, drained_end, front_err, front_none, Climbed, climbed_first, climbed_more, climbed_stop, climbed_err, climbed_end, back_err, back_none}

@@ -6,10 +6,10 @@ use Rattle.sst_entries.specs.Entry.{Entry}
 use Rattle.sst_entries.specs.declared.error.Error.{Error}
 use Rattle.sst_entries.specs.Stream.{first, but_first, last, but_last, stopped}
 use Rattle.sst_entries.specs.Key.{same_key, key_lt}
-use Rattle.lsm_sorted.specs.Ends.{R}
+use Rattle.lsm_merge.specs.Ends.{R}
 use Rattle.sst_entries.specs.Stream.{DealsFirst, DealsLast}
 use Rattle.lsm_sorted.specs.Newest.{after_key, settle, front_step, climb, back_of, back_step}
-use Rattle.lsm_sorted.proofs.EndsLemmas.{none_first}
+use Rattle.lsm_merge.proofs.EndsLemmas.{none_first}
 
 pub from_first : {A : Type 0} (xs : List A) (r : A) → Some r ≡ first xs → xs ≡ r ∷ but_first xs
 from_first [] r e = cc

@@ -5,14 +5,15 @@ use Rattle.std.specs.List.{AllByRecursion}
 use Rattle.std.proofs.lemmas.List.{reverse-reverse, reverse-append, append-nil}
 use Rattle.sst_entries.specs.Entry.{Entry}
 use Rattle.sst_entries.specs.Stream.{first, but_first, last, but_last}
-use Rattle.lsm_sorted.specs.Ends.{R}
+use Rattle.lsm_merge.specs.Ends.{R}
 use Rattle.lsm_sorted.specs.Newest.{after_key, settle, front_step, climb, back_of, back_step}
 use Rattle.sst_entries.specs.Key.{same_key, key_lt}
-use Rattle.lsm_ranges.proofs.KeyLemmas.{KeyLe, same_is, lt_other, le_other, le_same, lt_le, le_lt}
+use Rattle.sst_entries.proofs.KeyLemmas.{KeyLe, same_is, lt_other, le_other, le_same, lt_le, le_lt}
 use Rattle.lsm_sorted.proofs.EntryKeyLemmas.{key_le}
-use Rattle.lsm_sorted.specs.Union.{AtMost, Ascends, newest}
+use Rattle.lsm_merge.specs.Union.{AtMost, Ascends, newest}
 use Rattle.sst_entries.specs.Stream.{all_ok}
 use Rattle.sst_entries.proofs.Lists.{all_more, all_append}
+use Rattle.sst_entries.proofs.StreamLemmas.{map_append, map_reverse}
 
 -- no key is below an earlier one
 abbrev pub KeysUp : List Entry → Type 0
@@ -165,14 +166,6 @@ down_newest (x ∷ xs) h =
     reverse-append (x ∷ []) (filter (not_of x.user_key) (newest xs))
     ∙ ap (λ (zs : List Entry). zs ++ x ∷ []) (filter_reverse (not_of x.user_key) (newest xs) ∙ ap (filter (not_of x.user_key)) (down_newest xs h.1))
     ∙ sym (ap down (reverse-append (x ∷ []) xs) ∙ down_more x (reverse xs) (all_reverse (λ y. KeyLe x.user_key y.user_key) xs h.0))
-
-pub map_append : (xs ys : List Entry) → all_ok (xs ++ ys) ≡ all_ok xs ++ all_ok ys
-map_append [] ys = refl
-map_append (x ∷ xs) ys = ap (λ (zs : List R). Ok x ∷ zs) (map_append xs ys)
-
-pub map_reverse : (xs : List Entry) → reverse (all_ok xs) ≡ all_ok (reverse xs)
-map_reverse [] = refl
-map_reverse (x ∷ xs) = reverse-append (Ok x ∷ []) (all_ok xs) ∙ ap (λ (zs : List R). zs ++ Ok x ∷ []) (map_reverse xs) ∙ sym (ap all_ok (reverse-append (x ∷ []) xs) ∙ map_append (reverse xs) (x ∷ []))
 
 up_front : (xs ys : List Entry) → KeysUp (xs ++ ys) → KeysUp xs
 up_front [] ys h = tt

@@ -5,8 +5,8 @@ use Rattle.std.proofs.lemmas.List.{append-nil, reverse-append}
 use Rattle.sst_entries.specs.declared.stream.Direction.{Direction}
 use Rattle.sst_entries.specs.declared.stream.Direction.TheVariants.{Front, Back}
 use Rattle.sst_entries.specs.Stream.{Runs, Steps, first, but_first, last, but_last, front_of, back_of, stopped, DealsFirst, DealsLast}
-use Rattle.lsm_sorted.specs.declared.ends.Ends.{Ends}
-use Rattle.lsm_sorted.specs.Ends.{R, AskedIf, Asked}
+use Rattle.lsm_merge.specs.declared.ends.Ends.{Ends}
+use Rattle.lsm_merge.specs.Ends.{R, AskedIf, Asked}
 use Rattle.lsm_sorted.specs.Outlook.{Outlook, list_of, MayGive, results_in, with_rest, each_at, is_over, StopsAtNone, Gave, Relates, IsStep, nothing_stops, IsSame}
 
 results_append : (ps qs : List (Option R)) → results_in (ps ++ qs) ≡ results_in ps ++ results_in qs

@@ -7,10 +7,10 @@ use Rattle.sst_entries.specs.Kind.{is_tombstone_kind}
 use Rattle.sst_entries.specs.Key.{same_key}
 use Rattle.sst_entries.specs.Stream.{first, all_ok}
 use Rattle.sst_entries.specs.declared.error.Error.{Error}
-use Rattle.lsm_sorted.specs.Ends.{R}
+use Rattle.lsm_merge.specs.Ends.{R}
 use Rattle.lsm_sorted.specs.Compaction.{Verdict, drop, Judged, JudgedItem, Rules, told, is_left, reports_by, is_cut, heads, expired, zeroed, given_by, given, Versions, is_version_of, before, by_key, gone, error_of, entries, outs_of, reported_heads, reported_of, asked_of, joined, outs, reported, asked, as_is, unfiltered}
 use Rattle.std.proofs.lemmas.List.{append-nil}
-use Rattle.lsm_ranges.proofs.KeyLemmas.{same_itself}
+use Rattle.sst_entries.proofs.KeyLemmas.{same_itself}
 
 -- the answer as a list
 abbrev pub listed : {A : Type 0} → Option A → List A

@@ -4,14 +4,14 @@ use Rattle.std.proofs.lemmas.List.{append-nil, reverse-append, reverse-reverse}
 use Rattle.sst_entries.specs.declared.error.Error.{Error}
 use Rattle.sst_entries.specs.declared.stream.Direction.TheVariants.{Front, Back}
 use Rattle.sst_entries.specs.Stream.{first, but_first, last, but_last, front_of, back_of, DealsLast}
-use Rattle.lsm_sorted.specs.declared.ends.Ends.{Ends}
+use Rattle.lsm_merge.specs.declared.ends.Ends.{Ends}
 use Rattle.lsm_sorted.specs.declared.peeked.Peeked.{Peeked}
-use Rattle.lsm_sorted.specs.Ends.{R, Left, Asked}
+use Rattle.lsm_merge.specs.Ends.{R, Left, Asked}
 use Rattle.lsm_sorted.specs.Outlook.{Relates, IsStep}
 use Rattle.lsm_sorted.specs.Peeked.{Holds, held, peeked_outlook}
 use Rattle.lsm_sorted.proofs.MvccLemmas.{from_first}
 use Rattle.lsm_sorted.proofs.OutlookLemmas.{relates_still, relates_result, relates_end}
-use Rattle.lsm_sorted.proofs.TakeLemmas.{none_last}
+use Rattle.lsm_merge.proofs.TakeLemmas.{none_last}
 
 -- the last of a list, and the others
 last_of : {A : Type 0} (xs zs : List A) (x : A) → xs ≡ zs ++ x ∷ [] → Some x ≡ last xs

@@ -9,14 +9,14 @@ use Rattle.sst_entries.specs.Key.{same_key, key_lt}
 use Rattle.sst_entries.specs.Stream.{first, all_ok}
 use Rattle.sst_entries.specs.declared.value_type.ValueType.{ValueType}
 use Rattle.sst_entries.specs.declared.value_type.ValueType.TheVariants.{Value, Tombstone, WeakTombstone, Indirection}
-use Rattle.lsm_sorted.specs.Ends.{R}
-use Rattle.lsm_sorted.specs.Union.{entries_of}
+use Rattle.lsm_merge.specs.Ends.{R}
+use Rattle.lsm_merge.specs.Union.{entries_of}
 use Rattle.sst_entries.specs.Point.{is_hit, point}
 use Rattle.lsm_sorted.specs.Point.{shown}
 use Rattle.lsm_sorted.specs.Compaction.{JudgedItem, Rules, goes, zeroed, outs, kept, as_is, unfiltered}
 use Rattle.lsm_sorted.specs.ReadLaw.{IsServed, ReadLaw}
 use Rattle.lsm_sorted.proofs.Hits.{first_hit, hit_shown}
-use Rattle.lsm_ranges.proofs.KeyLemmas.{KeyLe, same_is, same_itself, lt_other, le_other, lt_le}
+use Rattle.sst_entries.proofs.KeyLemmas.{KeyLe, same_is, same_itself, lt_other, le_other, lt_le}
 use Rattle.lsm_sorted.proofs.NewestLemmas.{KeysUp, keys_up}
 use Rattle.lsm_sorted.proofs.OutsLemmas.{AllOf, follows_in, open_outs, close_outs}
 use Rattle.sst_entries.proofs.Booleans.{apart, and_parts}

@@ -5,12 +5,12 @@ use Rattle.sst_entries.specs.Entry.{Entry}
 use Rattle.sst_entries.specs.Key.{same_key}
 use Rattle.sst_entries.specs.Stream.{first, but_first, stopped_result, DealsFirst}
 use Rattle.sst_entries.specs.declared.error.Error.{Error}
-use Rattle.lsm_sorted.specs.Ends.{R}
+use Rattle.lsm_merge.specs.Ends.{R}
 use Rattle.lsm_sorted.specs.Newest.{after_key}
 use Rattle.lsm_sorted.specs.Compaction.{Rules, goes, zeroed}
 use Rattle.lsm_sorted.specs.Compacting.{of_key, Turn, head_answer, close, settled, GetsAll}
 use Rattle.lsm_sorted.specs.CompactionState.{refusal, error_first, past_error, DrainsKey, answer_of, Settles}
-use Rattle.lsm_sorted.proofs.EndsLemmas.{none_first}
+use Rattle.lsm_merge.proofs.EndsLemmas.{none_first}
 use Rattle.lsm_sorted.proofs.MvccLemmas.{from_first}
 
 module _ {T C : Type 0} (stops : Error → Bool) (Has : T → List R → Type 0) (gets : C → Entry → C → Type 0) where

@@ -6,11 +6,11 @@ use Rattle.sst_entries.specs.Entry.{Entry}
 use Rattle.sst_entries.specs.Key.{same_key}
 use Rattle.sst_entries.specs.Stream.{first, all_ok}
 use Rattle.sst_entries.specs.declared.error.Error.{Error}
-use Rattle.lsm_sorted.specs.Ends.{R}
+use Rattle.lsm_merge.specs.Ends.{R}
 use Rattle.lsm_sorted.specs.Newest.{after_key}
 use Rattle.lsm_sorted.specs.Compaction.{Verdict, keep, replace, drop, Judged, JudgedItem, items, Rules, told_by, told, reports_by, goes, zeroed, given_by, gone, error_of, outs, reported, asked, as_is, unfiltered}
 use Rattle.lsm_sorted.specs.Compacting.{of_key, follows, Turn, head_answer, close, settled, turned}
-use Rattle.lsm_ranges.proofs.KeyLemmas.{same_is}
+use Rattle.sst_entries.proofs.KeyLemmas.{same_is}
 use Rattle.lsm_sorted.proofs.OutsLemmas.{listed, asked_head, judged, follows_in, error_in, behind_error, AllOf, dropped_outs, dropped_reported, dropped_asked, failed_outs, failed_reported, failed_asked, open_outs, open_reported, open_asked, close_outs, close_reported, close_asked}
 
 -- P holds of each judged entry

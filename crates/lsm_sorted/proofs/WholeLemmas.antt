@@ -9,8 +9,8 @@ use Rattle.sst_entries.specs.Stream.{Deals, CanDeal, nowhere, stopped, stopped_r
 use Rattle.sst_entries.specs.declared.error.Error.{Error}
 use Rattle.lsm_sorted.specs.declared.compaction.stream.CompactionStream.{CompactionStream}
 use Rattle.sst_entries.proofs.StreamLemmas.{deals_by, can_by, tail_eq}
-use Rattle.lsm_sorted.specs.Union.{entries_of}
-use Rattle.lsm_sorted.specs.Ends.{R}
+use Rattle.lsm_merge.specs.Union.{entries_of}
+use Rattle.lsm_merge.specs.Ends.{R}
 use Rattle.lsm_sorted.specs.Compaction.{Verdict, keep, replace, drop, Judged, JudgedItem, items, Rules, told_by, told, is_cut, heads, expired, zeroed, given_by, given, Versions, is_version_of, before, by_key, gone, error_of, entries, outs_of, joined, outs, kept, as_is, as_they_are, unfiltered}
 use Rattle.lsm_sorted.specs.Compacting.{AsksIf, Asks, Turns, Calls, ended, failed, answered, again, Compacted}
 use Rattle.lsm_sorted.specs.CompactionState.{rules_of, filter_of, callback_of, Compacts, MayCompact, CompactsNext}

@@ -7,8 +7,8 @@ use Rattle.sst_entries.specs.Stream.{first, all_ok}
 use Rattle.sst_entries.specs.declared.error.Error.{Error}
 use Rattle.sst_entries.specs.declared.value_type.ValueType.{ValueType}
 use Rattle.sst_entries.specs.declared.value_type.ValueType.TheVariants.{Value, Tombstone, WeakTombstone, Indirection}
-use Rattle.lsm_sorted.specs.Ends.{R}
-use Rattle.lsm_sorted.specs.Union.{entries_of}
+use Rattle.lsm_merge.specs.Ends.{R}
+use Rattle.lsm_merge.specs.Union.{entries_of}
 
 -- what a filter says of an entry: it stays as it is, it gets this kind and value, or it goes
 pub data Verdict : Type 0 where

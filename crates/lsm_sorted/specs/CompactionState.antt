@@ -8,7 +8,7 @@ use Rattle.sst_entries.specs.declared.stream.Direction.TheVariants.{Front}
 use Rattle.sst_entries.specs.Stream.{Deals, stopped, stopped_result, nowhere, all_ok}
 use Rattle.lsm_sorted.specs.declared.ahead.Ahead.{Ahead}
 use Rattle.lsm_sorted.specs.declared.compaction.stream.CompactionStream.{CompactionStream}
-use Rattle.lsm_sorted.specs.Ends.{R, Goes}
+use Rattle.lsm_merge.specs.Ends.{R, Goes}
 use Rattle.lsm_sorted.specs.Newest.{after_key}
 use Rattle.lsm_sorted.specs.Outlook.{Outlook, Relates, nothing_stops, IsSame}
 use Rattle.lsm_sorted.specs.Ahead.{HoldsAhead, ahead_size, ahead_outlook}

@@ -5,7 +5,7 @@ use Rattle.lsm_sorted.specs.declared.mvcc_stream.MvccStream.{MvccStream}
 use Rattle.sst_entries.specs.declared.error.Error.{Error}
 use Rattle.sst_entries.specs.declared.stream.Direction.{Direction}
 use Rattle.sst_entries.specs.Stream.{Answers}
-use Rattle.lsm_sorted.specs.Ends.{R, Goes}
+use Rattle.lsm_merge.specs.Ends.{R, Goes}
 use Rattle.lsm_sorted.specs.Outlook.{Outlook, Relates, IsStep}
 use Rattle.lsm_sorted.specs.Peeked.{Holds, peeked_size, peeked_outlook}
 

@@ -1,7 +1,7 @@
 -- One step of a stream of newest versions, on what is left of a list of results.
 use Rattle.std.specs.Prelude.{ℕ, Bool, false, cond, List, [], ◌∷◌, reverse, Option, Some, None, Ok, Err}
 use Rattle.sst_entries.specs.Entry.{Entry}
-use Rattle.lsm_sorted.specs.Ends.{R}
+use Rattle.lsm_merge.specs.Ends.{R}
 use Rattle.sst_entries.specs.Key.{same_key, key_lt}
 
 -- an entry of this key

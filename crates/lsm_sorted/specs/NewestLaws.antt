@@ -2,13 +2,13 @@
 use Rattle.std.specs.Prelude.{◌≡◌, Bool, List, [], Option}
 use Rattle.sst_entries.specs.Stream.{Deals, stopped, all_ok}
 use Rattle.sst_entries.specs.declared.error.Error.{Error}
-use Rattle.lsm_sorted.specs.declared.merge.Merger.{Merger}
+use Rattle.lsm_merge.specs.declared.merge.Merger.{Merger}
 use Rattle.lsm_sorted.specs.declared.mvcc_stream.MvccStream.{MvccStream}
-use Rattle.lsm_sorted.specs.Ends.{R}
-use Rattle.lsm_sorted.specs.Union.{all_errors, merged, newest}
-use Rattle.lsm_sorted.specs.Asks.{IsMergerOf}
-use Rattle.lsm_sorted.specs.Merge.{EndsAtError}
-use Rattle.lsm_sorted.specs.MergeLaws.{DealSorted, DealsUntilError, MeetsErrorsLate, every_error}
+use Rattle.lsm_merge.specs.Ends.{R}
+use Rattle.lsm_merge.specs.Union.{all_errors, merged, newest}
+use Rattle.lsm_merge.specs.Asks.{IsMergerOf}
+use Rattle.lsm_merge.specs.Merge.{EndsAtError}
+use Rattle.lsm_merge.specs.MergeLaws.{DealSorted, DealsUntilError, MeetsErrorsLate, every_error}
 use Rattle.lsm_sorted.specs.Mvcc.{mvcc_outlook}
 use Rattle.lsm_sorted.specs.Outlook.{before_any}
 

@@ -4,8 +4,8 @@ use Rattle.sst_entries.specs.declared.stream.Direction.{Direction}
 use Rattle.sst_entries.specs.declared.stream.Direction.TheVariants.{Front, Back}
 use Rattle.sst_entries.specs.declared.error.Error.{Error}
 use Rattle.sst_entries.specs.Stream.{Runs}
-use Rattle.lsm_sorted.specs.declared.ends.Ends.{Ends}
-use Rattle.lsm_sorted.specs.Ends.{R, fresh}
+use Rattle.lsm_merge.specs.declared.ends.Ends.{Ends}
+use Rattle.lsm_merge.specs.Ends.{R, fresh}
 
 -- a source, and what stands before it and behind it
 pub record Outlook (S : Type 0) : Type 0 where

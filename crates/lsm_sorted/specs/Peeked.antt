@@ -3,7 +3,7 @@ use Rattle.std.specs.Prelude.{◌≡◌, ℕ, Bool, ◌+◌, List, [], ◌∷◌
 use Rattle.std.specs.Iterator.{Count}
 use Rattle.sst_entries.specs.declared.error.Error.{Error}
 use Rattle.lsm_sorted.specs.declared.peeked.Peeked.{Peeked}
-use Rattle.lsm_sorted.specs.Ends.{R, Left, ends_size}
+use Rattle.lsm_merge.specs.Ends.{R, Left, ends_size}
 use Rattle.lsm_sorted.specs.Outlook.{Outlook}
 
 -- what a place holds

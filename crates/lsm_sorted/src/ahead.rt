@@ -1,13 +1,13 @@
 //! An iterator that is taken from the front alone, with a place for one entry before it.
 ghost use Rattle.sst_entries.specs.declared.error.Error.{Error};
 ghost use Rattle.std.specs.Prelude.{Bool, ◌≡◌, ℕ, ◌+◌, ◌<◌, List, ◌∷◌, false};
-ghost use Rattle.lsm_sorted.specs.Ends.{R, Goes};
+ghost use Rattle.lsm_merge.specs.Ends.{R, Goes};
 ghost use Rattle.sst_entries.specs.declared.stream.Direction.TheVariants.{Front};
 ghost use Rattle.sst_entries.specs.Stream.{DealsFirst, Lowers, nowhere, front_of};
 ghost use Rattle.lsm_sorted.specs.Outlook.{Relates, IsStep};
 ghost use Rattle.lsm_sorted.specs.Ahead.{HoldsAhead, ahead_size, ahead_outlook};
 
-use crate::ends::Ends;
+use lsm_merge::Ends;
 use sst_entries::{InternalValue, IterItem};
 use std::alloc::Allocator;
 

@@ -4,10 +4,10 @@ ghost use Rattle.std.specs.Prelude.{not, Bool, ◌≡◌, ℕ, ◌+◌, ◌<◌,
 ghost use Rattle.std.specs.Iterator.{at_most, IsFinite};
 ghost use Rattle.sst_entries.specs.Stream.{Deals, CanDeal, stopped, all_ok};
 ghost use Rattle.sst_entries.specs.declared.stream.Direction.TheVariants.{Front, Back};
-ghost use Rattle.lsm_sorted.specs.Ends.{R};
+ghost use Rattle.lsm_merge.specs.Ends.{R};
 ghost use Rattle.sst_entries.specs.Key.{same_key, key_lt};
 ghost use Rattle.lsm_sorted.specs.Newest.{front_step, back_step};
-ghost use Rattle.lsm_sorted.specs.Union.{Ascends, newest};
+ghost use Rattle.lsm_merge.specs.Union.{Ascends, newest};
 ghost use Rattle.sst_entries.specs.Entry.{Entry};
 ghost use Rattle.lsm_sorted.specs.Mvcc.{StandsFor, MayStep, StepsAt, mvcc_size, mvcc_outlook};
 ghost use Rattle.lsm_sorted.specs.Outlook.{before_any};

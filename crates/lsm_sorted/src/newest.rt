@@ -5,8 +5,8 @@ ghost use Rattle.sst_entries.specs.Stream.{CanDeal};
 ghost use Rattle.sst_entries.specs.declared.error.Error.TheVariants.{OutOfMemory};
 ghost use Rattle.lsm_sorted.specs.NewestLaws.{DealsNewest, DealsNewestUntilError, IsOverMerged};
 
-use crate::merge::{Merger, from_both_ends};
 use crate::mvcc_stream::MvccStream;
+use lsm_merge::{Merger, from_both_ends};
 use sst_entries::{Error, IterItem};
 use std::alloc::Allocator;
 

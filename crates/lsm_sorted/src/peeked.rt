@@ -2,13 +2,13 @@
 ghost use Rattle.sst_entries.specs.declared.error.Error.{Error};
 ghost use Rattle.std.specs.Prelude.{Bool, ◌≡◌, ℕ, ◌+◌, ◌<◌, List, ◌∷◌, ◌++◌, [], false};
 ghost use Rattle.std.specs.Iterator.{IsFinite};
-ghost use Rattle.lsm_sorted.specs.Ends.{R, Left, Goes, ends_size};
+ghost use Rattle.lsm_merge.specs.Ends.{R, Left, Goes, ends_size};
 ghost use Rattle.sst_entries.specs.declared.stream.Direction.TheVariants.{Front, Back};
 ghost use Rattle.sst_entries.specs.Stream.{DealsFirst, DealsLast, Lowers, front_of, back_of};
 ghost use Rattle.lsm_sorted.specs.Outlook.{Relates, IsStep};
 ghost use Rattle.lsm_sorted.specs.Peeked.{Holds, held, peeked_size, peeked_outlook};
 
-use crate::ends::Ends;
+use lsm_merge::Ends;
 use sst_entries::{InternalValue, IterItem};
 use std::alloc::Allocator;
 

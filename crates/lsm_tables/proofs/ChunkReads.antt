@@ -5,22 +5,22 @@ use Rattle.std.specs.declared.cmp.Ordering.{Ordering}
 use Rattle.std.specs.declared.cmp.Ordering.TheVariants.{Less, Equal, Greater}
 use Rattle.std.specs.Ordering.{is_lt, is_eq, nat_cmp, ordering_reverse}
 use Rattle.std.specs.Cmp.Lexicographic.{slice_cmp, nat_list_cmp_total, texts_ties}
-use Rattle.sst_blocks.specs.declared.version.TableVersion.{TableVersion}
+use Rattle.sst_sections.specs.declared.version.TableVersion.{TableVersion}
 use Rattle.sst_entries.specs.declared.value_type.ValueType.TheVariants.{Value}
 use Rattle.sst_entries.specs.Entry.{Entry, entry}
 use Rattle.sst_blocks.specs.Handle.{Handle}
 use Rattle.sst_blocks.specs.Handles.{reaches}
 use Rattle.sst_entries.specs.Key.{same_key, key_lt}
 use Rattle.sst_entries.specs.Point.{is_hit}
-use Rattle.sst_blocks.specs.declared.version.TableVersion.TheVariants.{V3, V4}
+use Rattle.sst_sections.specs.declared.version.TableVersion.TheVariants.{V3, V4}
 use Rattle.sst_blocks.specs.declared.block_type.BlockType.{BlockType}
 use Rattle.sst_blocks.specs.declared.block_type.BlockType.TheVariants.{Data}
 use Rattle.sst_blocks.specs.Block.{block_bytes, kind_tag}
-use Rattle.sst_blocks.specs.Fnv.{fnv1a}
-use Rattle.sst_blocks.specs.Number.{le4, le8}
+use Rattle.sst_sections.specs.Fnv.{fnv1a}
+use Rattle.sst_sections.specs.Number.{le4, le8}
 use Rattle.sst_blocks.specs.Payload.{payload}
-use Rattle.sst_blocks.specs.Version.{mark}
-use Rattle.sst_blocks.proofs.Numbers.{wide4, wide8}
+use Rattle.sst_sections.specs.Version.{mark}
+use Rattle.sst_sections.proofs.Numbers.{wide4, wide8}
 use Rattle.sst_entries.proofs.Booleans.{apart, is_false, or_right}
 use Rattle.sst_entries.proofs.OrderLemmas.{before_trans, less_of}
 use Rattle.sst_entries.specs.Strict.{is_before, IsStrictAfter, last_of}

@@ -2,23 +2,23 @@
 use Rattle.std.proofs.Common.{◌≡◌, ℕ, ◌+◌, ◌^◌, ◌<◌, ◌≤◌, Bool, true, false, List, [], ◌∷◌, ◌++◌, length, map, refl, sym, ap, ◌∙◌, length-append, arith}
 use Rattle.std.specs.Prelude.{Option, Some, None, min, max}
 use Rattle.std.specs.List.{flat_map, AllByRecursion}
-use Rattle.sst_blocks.specs.declared.version.TableVersion.{TableVersion}
-use Rattle.sst_blocks.specs.declared.version.TableVersion.TheVariants.{V3, V4}
+use Rattle.sst_sections.specs.declared.version.TableVersion.{TableVersion}
+use Rattle.sst_sections.specs.declared.version.TableVersion.TheVariants.{V3, V4}
 use Rattle.sst_blocks.specs.declared.block_type.BlockType.TheVariants.{Data}
 use Rattle.sst_entries.specs.Entry.{Entry}
 use Rattle.sst_blocks.specs.Handle.{Handle}
 use Rattle.sst_blocks.specs.Handles.{handles_payload, handles_in, handle_spelled, HandleFits, AreStrictHandles, end_of}
-use Rattle.sst_blocks.specs.Number.{le4}
+use Rattle.sst_sections.specs.Number.{le4}
 use Rattle.sst_blocks.specs.Payload.{payload, spelled, AreFit}
 use Rattle.sst_blocks.specs.Payload as written
 use Rattle.sst_blocks.specs.Reading.{entries_in}
 use Rattle.sst_entries.specs.Strict.{is_before, may_follow, IsStrictAfter, IsStrict, last_of}
-use Rattle.sst_blocks.specs.Version.{key_limit, longest_key}
+use Rattle.sst_sections.specs.Version.{key_limit, longest_key}
 use Rattle.sst_entries.proofs.Lists.{all_front, all_behind}
 use Rattle.sst_entries.proofs.OrderLemmas.{before_trans}
 use Rattle.sst_blocks.proofs.Entries.{entries_read, length-spelled}
 use Rattle.sst_blocks.proofs.HandleLaws.{handles_read, length-handle_spelled}
-use Rattle.sst_blocks.proofs.Numbers.{wide4}
+use Rattle.sst_sections.proofs.Numbers.{wide4}
 use Rattle.lsm_writers.specs.Chunks.{joined}
 use Rattle.lsm_writers.specs.Facts.{count_after, one_if, lowest_seqno, highest_seqno}
 use Rattle.lsm_writers.specs.Index.{last_entry, handle_of, handles_from, handles, block_size, data_block, data_section}

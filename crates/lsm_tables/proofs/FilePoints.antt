@@ -5,8 +5,8 @@ use Rattle.std.specs.List.{AllByRecursion}
 use Rattle.std.specs.Option.{option_map}
 use Rattle.std.proofs.lemmas.Bool.{cases_lt, lt-ltb, le-ltb, leb-true}
 use Rattle.std.proofs.lemmas.List.Sums.{count_by-le-length}
-use Rattle.sst_blocks.specs.declared.version.TableVersion.{TableVersion}
-use Rattle.sst_blocks.specs.declared.version.TableVersion.TheVariants.{V3, V4}
+use Rattle.sst_sections.specs.declared.version.TableVersion.{TableVersion}
+use Rattle.sst_sections.specs.declared.version.TableVersion.TheVariants.{V3, V4}
 use Rattle.sst_blocks.specs.declared.block_type.BlockType.TheVariants.{Data, Index, Meta}
 use Rattle.sst_entries.specs.declared.error.Error.{Error}
 use Rattle.sst_blocks.specs.Block.{load_told}
@@ -17,9 +17,9 @@ use Rattle.sst_entries.specs.Key.{same_key}
 use Rattle.sst_blocks.specs.Payload.{payload}
 use Rattle.sst_entries.specs.Point.{is_hit, point}
 use Rattle.sst_blocks.specs.Reading.{entries_in}
-use Rattle.sst_blocks.specs.Sections.{finished, body_of, trailer, section_in, section_names}
+use Rattle.sst_sections.specs.Sections.{finished, body_of, trailer, section_in, section_names}
 use Rattle.sst_entries.specs.Strict.{IsStrict, IsStrictAfter, last_of}
-use Rattle.sst_blocks.specs.Version.{longest_key}
+use Rattle.sst_sections.specs.Version.{longest_key}
 use Rattle.sst_blocks.proofs.BlockLaws.{written_loads}
 use Rattle.lsm_writers.specs.Chunks.{joined, AreChunksFrom}
 use Rattle.lsm_writers.specs.Facts.{first_key, last_key, lowest_seqno, is_tombstone, is_weak, is_reclaimable}

@@ -3,19 +3,19 @@ use Rattle.std.proofs.Common.{◌≡◌, ℕ, ◌+◌, ◌^◌, ◌<◌, List, [
 use Rattle.std.specs.Prelude.{Option, Some, None, Ok, is_some}
 use Rattle.std.proofs.lemmas.List.{append-nil}
 use Rattle.std.proofs.lemmas.Bool.{lt-leb}
-use Rattle.sst_blocks.specs.declared.version.TableVersion.{TableVersion}
+use Rattle.sst_sections.specs.declared.version.TableVersion.{TableVersion}
 use Rattle.sst_blocks.specs.declared.block_type.BlockType.TheVariants.{Index, Meta}
-use Rattle.sst_blocks.specs.declared.section.SectionName.{SectionName}
-use Rattle.sst_blocks.specs.declared.section.SectionName.TheVariants.{Index as IndexSection, Tli, Filter as FilterSection, FilterTli, Meta as MetaSection}
-use Rattle.sst_blocks.specs.declared.section.Section.{Section}
+use Rattle.sst_sections.specs.declared.section.SectionName.{SectionName}
+use Rattle.sst_sections.specs.declared.section.SectionName.TheVariants.{Index as IndexSection, Tli, Filter as FilterSection, FilterTli, Meta as MetaSection}
+use Rattle.sst_sections.specs.declared.section.Section.{Section}
 use Rattle.sst_blocks.specs.Block.{Loaded, block_bytes, load_told}
 use Rattle.sst_entries.specs.Entry.{Entry}
 use Rattle.sst_blocks.specs.Handles.{handles_payload, handles_in}
 use Rattle.sst_blocks.specs.Payload.{payload}
 use Rattle.sst_blocks.specs.Reading.{entries_in}
-use Rattle.sst_blocks.specs.Sections.{Written, finished, body_of, section_in, section_of, section_names, AreAscending}
+use Rattle.sst_sections.specs.Sections.{Written, finished, body_of, section_in, section_of, section_names, AreAscending}
 use Rattle.sst_blocks.proofs.BlockLaws.{written_loads}
-use Rattle.sst_blocks.proofs.SectionLaws.{finished_body, finished_section}
+use Rattle.sst_sections.proofs.SectionLaws.{finished_body, finished_section}
 use Rattle.lsm_writers.specs.File.{sections_of, counted_blocks}
 use Rattle.lsm_writers.specs.Index.{handles, data_section}
 use Rattle.lsm_writers.specs.Layout.{laid}

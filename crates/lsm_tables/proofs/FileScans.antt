@@ -7,15 +7,15 @@ use Rattle.sst_blocks.specs.declared.block_type.BlockType.TheVariants.{Data, Ind
 use Rattle.sst_entries.specs.declared.error.Error.{Error}
 use Rattle.sst_entries.specs.declared.error.Error.TheVariants.{OutOfMemory, InvalidTag}
 use Rattle.sst_entries.specs.declared.error.TagName.TheVariants.{BlockType as BlockTypeTag}
-use Rattle.sst_blocks.specs.declared.version.TableVersion.TheVariants.{V3, V4}
-use Rattle.sst_blocks.specs.declared.version.TableVersion.{TableVersion}
+use Rattle.sst_sections.specs.declared.version.TableVersion.TheVariants.{V3, V4}
+use Rattle.sst_sections.specs.declared.version.TableVersion.{TableVersion}
 use Rattle.sst_blocks.specs.Block.{Loaded, block_bytes, header, header_fault, load_at_told, entries_of}
 use Rattle.sst_entries.specs.Entry.{Entry}
 use Rattle.sst_entries.specs.Error.{Faults, is_memory}
 use Rattle.sst_blocks.specs.Handles.{handles_payload}
 use Rattle.sst_blocks.specs.Payload.{payload}
 use Rattle.sst_blocks.specs.Reading.{entries_in}
-use Rattle.sst_blocks.specs.Sections.{body_of, finished}
+use Rattle.sst_sections.specs.Sections.{body_of, finished}
 use Rattle.sst_entries.specs.Stream.{all_ok, Deals, nowhere, stopped}
 use Rattle.sst_entries.specs.Strict.{IsStrict, IsStrictAfter, last_of}
 use Rattle.sst_blocks.proofs.BlockLaws.{written_loads_at}

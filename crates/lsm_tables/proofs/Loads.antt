@@ -6,9 +6,9 @@ use Rattle.std.specs.Prelude.{Option, Some, None, Result, Ok, Err, not, ◌==◌
 use Rattle.sst_entries.specs.declared.error.Error.{Error}
 use Rattle.sst_blocks.specs.declared.block_type.BlockType.{BlockType}
 use Rattle.sst_blocks.specs.declared.block_type.BlockType.TheVariants.{Data, Meta, Index, Filter}
-use Rattle.sst_blocks.specs.declared.version.TableVersion.{TableVersion}
+use Rattle.sst_sections.specs.declared.version.TableVersion.{TableVersion}
 use Rattle.sst_entries.specs.declared.error.Error.TheVariants.{ChecksumMismatch, InvalidHeader, Truncated}
-use Rattle.sst_blocks.specs.Fnv.{fnv1a}
+use Rattle.sst_sections.specs.Fnv.{fnv1a}
 use Rattle.sst_blocks.specs.Block.{Loaded, load_told, load_at_told, checked_payload, grammar_fault, version_in, stored_checksum, header_fault, data_len, uncompressed_len}
 use Rattle.sst_entries.specs.Error.{unless}
 use Rattle.sst_blocks.specs.Starts.{HoldsEntries}

@@ -2,18 +2,18 @@
 use Rattle.std.proofs.Common.{◌≡◌, ℕ, ◌+◌, ◌^◌, ◌<◌, ◌≤◌, true, List, [], ◌∷◌, length, refl, arith, length-append}
 use Rattle.std.specs.Prelude.{Some, None, sum_by}
 use Rattle.std.specs.List.{flat_map, AllByRecursion}
-use Rattle.sst_blocks.specs.declared.version.TableVersion.{TableVersion}
-use Rattle.sst_blocks.specs.declared.version.TableVersion.TheVariants.{V3, V4}
+use Rattle.sst_sections.specs.declared.version.TableVersion.{TableVersion}
+use Rattle.sst_sections.specs.declared.version.TableVersion.TheVariants.{V3, V4}
 use Rattle.sst_entries.specs.Entry.{Entry}
-use Rattle.sst_blocks.specs.Number.{le4, le16}
+use Rattle.sst_sections.specs.Number.{le4, le16}
 use Rattle.sst_blocks.specs.Payload.{payload, spelled, AreFit}
 use Rattle.sst_blocks.specs.Payload as written
 use Rattle.sst_blocks.specs.Reading.{entries_in}
 use Rattle.sst_entries.specs.Strict.{IsStrict, is_strict_after}
-use Rattle.sst_blocks.specs.Version.{key_width, key_limit}
+use Rattle.sst_sections.specs.Version.{key_width, key_limit}
 use Rattle.sst_blocks.proofs.Entries.{entries_read, length-spelled}
 use Rattle.sst_entries.proofs.Strictness.{strict_from_test}
-use Rattle.sst_blocks.proofs.Numbers.{wide4, wide8}
+use Rattle.sst_sections.proofs.Numbers.{wide4, wide8}
 use Rattle.lsm_writers.specs.Chunks.{joined}
 use Rattle.lsm_writers.specs.Facts.{facts}
 use Rattle.lsm_writers.specs.Index.{data_section}

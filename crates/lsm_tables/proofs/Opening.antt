@@ -7,8 +7,8 @@ use Rattle.sst_entries.specs.declared.error.Error.{Error}
 use Rattle.sst_entries.specs.declared.error.Error.TheVariants.{GlobalSeqNoTooLarge, OutOfMemory}
 use Rattle.sst_entries.specs.Entry.{Entry}
 use Rattle.sst_entries.specs.Error.{Faults, Gives, is_memory}
-use Rattle.sst_blocks.specs.Fnv.{fnv1a}
-use Rattle.sst_blocks.specs.declared.version.TableVersion.TheVariants.{V4}
+use Rattle.sst_sections.specs.Fnv.{fnv1a}
+use Rattle.sst_sections.specs.declared.version.TableVersion.TheVariants.{V4}
 use Rattle.sst_entries.specs.Point.{point}
 use Rattle.sst_entries.specs.Stream.{Deals, all_ok, nowhere, stopped}
 use Rattle.lsm_writers.specs.Facts.{highest_seqno}

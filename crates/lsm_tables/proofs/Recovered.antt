@@ -8,7 +8,7 @@ use Rattle.sst_entries.specs.Error.{Fails, is_memory, unless}
 use Rattle.sst_blocks.specs.declared.block_type.BlockType.TheVariants.{Index}
 use Rattle.sst_blocks.specs.Block.{Loaded, load_told, handles_of}
 use Rattle.sst_blocks.specs.Handle.{Handle}
-use Rattle.sst_blocks.specs.Sections.{body_of, section_in, section_names, trailer_fault}
+use Rattle.sst_sections.specs.Sections.{body_of, section_in, section_names, trailer_fault}
 use Rattle.lsm_tables.specs.declared.regions.ParsedRegions.{ParsedRegions}
 use Rattle.lsm_tables.specs.Meta.{Facts}
 use Rattle.lsm_tables.specs.Load.{meta_told}

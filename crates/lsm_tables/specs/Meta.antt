@@ -4,7 +4,7 @@ use Rattle.std.specs.Cmp.Lexicographic.{pointwise}
 use Rattle.sst_entries.specs.declared.error.Error.{Error}
 use Rattle.sst_entries.specs.declared.error.Error.TheVariants.{MetaKeyMissing, InvalidMetaValue, UnsupportedTableVersion, UnsupportedHashType, UnsupportedChecksumType, UnsupportedIndexInterval, UnsupportedCompression}
 use Rattle.sst_entries.specs.Entry.{Entry}
-use Rattle.sst_blocks.specs.Number.{num8, num16}
+use Rattle.sst_sections.specs.Number.{num8, num16}
 use Rattle.sst_entries.specs.Point.{point}
 use Rattle.lsm_ranges.specs.KeyRange.{Interval, interval}
 use Rattle.lsm_tables.specs.ItemName.{name_of}

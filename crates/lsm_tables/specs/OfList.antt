@@ -1,14 +1,14 @@
 -- What a table of a list is recovered to.
 use Rattle.std.specs.Prelude.{◌≡◌, ℕ, Bool, true, ◌+◌, ◌-◌, ◌^◌, nat_lt, List, [], length, Option, Some, None, Result, Ok, Err, if◌then◌else◌}
-use Rattle.sst_blocks.specs.declared.version.TableVersion.{TableVersion}
-use Rattle.sst_blocks.specs.declared.version.TableVersion.TheVariants.{V4}
+use Rattle.sst_sections.specs.declared.version.TableVersion.{TableVersion}
+use Rattle.sst_sections.specs.declared.version.TableVersion.TheVariants.{V4}
 use Rattle.sst_blocks.specs.declared.block_type.BlockType.TheVariants.{Index, Meta}
 use Rattle.sst_blocks.specs.Block.{block_bytes}
 use Rattle.sst_entries.specs.declared.error.Error.{Error}
 use Rattle.sst_entries.specs.declared.error.Error.TheVariants.{GlobalSeqNoTooLarge, OutOfMemory}
 use Rattle.sst_entries.specs.Entry.{Entry}
 use Rattle.sst_blocks.specs.Handles.{handles_payload}
-use Rattle.sst_blocks.specs.Fnv.{fnv1a}
+use Rattle.sst_sections.specs.Fnv.{fnv1a}
 use Rattle.sst_blocks.specs.Payload.{payload}
 use Rattle.sst_entries.specs.Point.{point}
 use Rattle.sst_entries.specs.Stream.{Deals, all_ok, nowhere, stopped}

@@ -7,7 +7,7 @@ use Rattle.sst_blocks.specs.Block.{load_told, handles_of}
 use Rattle.sst_entries.specs.Error.{unless}
 use Rattle.sst_blocks.specs.Handle.{Handle}
 use Rattle.sst_blocks.specs.Place.{Place}
-use Rattle.sst_blocks.specs.Sections.{body_of, section_in, section_names, trailer_fault}
+use Rattle.sst_sections.specs.Sections.{body_of, section_in, section_names, trailer_fault}
 use Rattle.lsm_tables.specs.declared.regions.ParsedRegions.{ParsedRegions}
 use Rattle.lsm_tables.specs.Meta.{Facts}
 use Rattle.lsm_tables.specs.Load.{meta_told}

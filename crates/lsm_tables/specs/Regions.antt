@@ -2,11 +2,11 @@
 use Rattle.std.specs.Prelude.{◌^◌, nat_le, List, Option, Some, None, Result, Ok, Err, slice_index_or, if◌then◌else◌}
 use Rattle.sst_entries.specs.declared.error.Error.{Error}
 use Rattle.sst_entries.specs.declared.error.Error.TheVariants.{SectionTooLarge, MissingSection}
-use Rattle.sst_blocks.specs.declared.section.Section.{Section}
-use Rattle.sst_blocks.specs.declared.section.SectionName.{SectionName}
-use Rattle.sst_blocks.specs.declared.section.SectionName.TheVariants.{Index, Tli, Filter, FilterTli, Meta}
+use Rattle.sst_sections.specs.declared.section.Section.{Section}
+use Rattle.sst_sections.specs.declared.section.SectionName.{SectionName}
+use Rattle.sst_sections.specs.declared.section.SectionName.TheVariants.{Index, Tli, Filter, FilterTli, Meta}
 use Rattle.sst_blocks.specs.Place.{Place}
-use Rattle.sst_blocks.specs.Sections.{place_of}
+use Rattle.sst_sections.specs.Sections.{place_of}
 use Rattle.lsm_tables.specs.Told.{◌>>=◌}
 use Rattle.lsm_tables.specs.declared.regions.ParsedRegions.{ParsedRegions}
 

@@ -1,7 +1,7 @@
 //! What a table says of itself in its meta block.
 ghost use Rattle.std.specs.Prelude.{◌≡◌, ◌-◌, ◌^◌, List, ℕ, Result, IfOk, IfErr, codes};
 ghost use Rattle.sst_entries.specs.Error.{Gives};
-ghost use Rattle.sst_blocks.specs.Sections.{body_of};
+ghost use Rattle.sst_sections.specs.Sections.{body_of};
 ghost use Rattle.lsm_tables.specs.Meta.{Facts, item_told, number8_told, number16_told, u64_told, byte_told, first_told, version_told, kinds_told, compressions_told, created_told, triple_told, keys_told, seqnos_told, facts_told};
 ghost use Rattle.lsm_ranges.specs.KeyRange.{Interval};
 ghost use Rattle.lsm_tables.specs.Load.{meta_told};

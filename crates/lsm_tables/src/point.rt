@@ -9,7 +9,7 @@ ghost use Rattle.sst_entries.specs.Error.{FaultsFirst, Gives};
 ghost use Rattle.sst_blocks.specs.Block.{place_fault};
 ghost use Rattle.sst_entries.specs.Point.{point};
 ghost use Rattle.std.specs.Option.{option_map};
-ghost use Rattle.sst_blocks.specs.Fnv.{fnv1a};
+ghost use Rattle.sst_sections.specs.Fnv.{fnv1a};
 ghost use Rattle.lsm_tables.specs.Answer.{answer_told, fault_at, handle_for, opened_by, read_at, lifted};
 ghost use Rattle.lsm_tables.specs.Seen.{parts_of};
 

@@ -5,7 +5,7 @@ ghost use Rattle.sst_blocks.specs.Block.{load_at_told};
 ghost use Rattle.sst_entries.specs.Entry.{Entry};
 ghost use Rattle.sst_entries.specs.Error.{Faults, Gives};
 ghost use Rattle.sst_blocks.specs.Opened.{counted, none_opened};
-ghost use Rattle.sst_blocks.specs.Sections.{body_of};
+ghost use Rattle.sst_sections.specs.Sections.{body_of};
 ghost use Rattle.sst_entries.specs.Stream.{CanDeal, Deals, nowhere, stopped};
 ghost use Rattle.sst_blocks.specs.declared.block_type.BlockType.TheVariants.{Data};
 ghost use Rattle.sst_entries.specs.declared.error.Error.{Error};
@@ -38,7 +38,7 @@ pub struct Scanner<A: Allocator = Global> {
 
 impl<A: Allocator> Model for Scanner<A> {
     ghost use Rattle.std.specs.Prelude.{drop};
-    ghost use Rattle.sst_blocks.specs.Sections.{body_of};
+    ghost use Rattle.sst_sections.specs.Sections.{body_of};
     ghost use Rattle.lsm_tables.specs.Scan.{Scan};
 
     ghost Value = { Scan };

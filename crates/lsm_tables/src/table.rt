@@ -3,9 +3,9 @@ ghost use Rattle.std.specs.Prelude.{◌≡◌, ◌+◌, ◌<◌, ℕ, Bool, List
 ghost use Rattle.sst_blocks.specs.Block.{Loaded, load_told, load_at_told};
 ghost use Rattle.sst_entries.specs.Entry.{Entry};
 ghost use Rattle.sst_entries.specs.Error.{Faults, FaultsFirst, Gives};
-ghost use Rattle.sst_blocks.specs.Fnv.{fnv1a};
+ghost use Rattle.sst_sections.specs.Fnv.{fnv1a};
 ghost use Rattle.sst_blocks.specs.Opened.{counted, none_opened};
-ghost use Rattle.sst_blocks.specs.Sections.{body_of};
+ghost use Rattle.sst_sections.specs.Sections.{body_of};
 ghost use Rattle.sst_entries.specs.Point.{point, within};
 ghost use Rattle.sst_entries.specs.Stream.{CanDeal, Deals, all_ok, nowhere, stopped};
 ghost use Rattle.sst_blocks.specs.declared.block_type.BlockType.TheVariants.{Data, Index};

@@ -5,17 +5,17 @@ use Rattle.std.specs.List.{AllByRecursion, flat_map}
 use Rattle.std.proofs.lemmas.Bool.{cases_lt, le-ltb}
 use Rattle.std.proofs.lemmas.List.{append-nil, nil_from_length}
 use Rattle.std.proofs.lemmas.List.Sums.{sum_by-cons}
-use Rattle.sst_blocks.specs.declared.version.TableVersion.TheVariants.{V4}
+use Rattle.sst_sections.specs.declared.version.TableVersion.TheVariants.{V4}
 use Rattle.sst_blocks.specs.Bounds.{index_block_bound_of, handle_bound}
 use Rattle.sst_blocks.specs.Handle.{Handle}
 use Rattle.sst_blocks.specs.Handles.{handle_spelled, handles_payload}
 use Rattle.sst_blocks.proofs.HandleLaws.{length-handle_spelled}
 use Rattle.sst_blocks.specs.Encoding.{is_long_key, key_fault, entries_fault, large_fault}
 use Rattle.sst_entries.specs.Entry.{Entry}
-use Rattle.sst_blocks.specs.Fnv.{fnv1a}
-use Rattle.sst_blocks.specs.Number.{le4, le8, le16}
+use Rattle.sst_sections.specs.Fnv.{fnv1a}
+use Rattle.sst_sections.specs.Number.{le4, le8, le16}
 use Rattle.sst_entries.specs.Strict.{IsStrictAfter, IsStrict, last_of}
-use Rattle.sst_blocks.proofs.Numbers.{wide4, wide8}
+use Rattle.sst_sections.proofs.Numbers.{wide4, wide8}
 use Rattle.lsm_writers.specs.declared.writer.meta.Metadata.{Metadata}
 use Rattle.lsm_writers.specs.Chunks.{joined, entry_size, size_of, is_full, AreChunks}
 use Rattle.lsm_writers.specs.Counts.{metadata_of, counted_facts}

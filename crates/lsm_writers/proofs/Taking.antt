@@ -14,7 +14,7 @@ use Rattle.sst_entries.specs.Entry.{Entry, entry}
 use Rattle.lsm_writers.specs.Chunks.{joined, entry_size, size_of, is_full}
 use Rattle.sst_entries.specs.Strict.{IsStrictAfter, IsStrict, last_of}
 use Rattle.sst_entries.specs.declared.value_type.ValueType.TheVariants.{Value}
-use Rattle.sst_blocks.specs.declared.version.TableVersion.TheVariants.{V4}
+use Rattle.sst_sections.specs.declared.version.TableVersion.TheVariants.{V4}
 use Rattle.lsm_writers.specs.declared.writer.meta.Metadata.{Metadata}
 use Rattle.lsm_writers.specs.Counts.{no_counts, metadata_of, counted, HasRoom}
 use Rattle.lsm_writers.specs.Cut.{Cut, rest_of, with_cut}

@@ -1,15 +1,15 @@
 -- The bytes of a table.
 use Rattle.std.specs.Prelude.{◌≡◌, ℕ, List, [], ◌∷◌, ◌++◌, All}
-use Rattle.sst_blocks.specs.declared.version.TableVersion.{TableVersion}
-use Rattle.sst_blocks.specs.declared.version.TableVersion.TheVariants.{V4}
-use Rattle.sst_blocks.specs.declared.section.SectionName.{SectionName}
+use Rattle.sst_sections.specs.declared.version.TableVersion.{TableVersion}
+use Rattle.sst_sections.specs.declared.version.TableVersion.TheVariants.{V4}
+use Rattle.sst_sections.specs.declared.section.SectionName.{SectionName}
 use Rattle.sst_blocks.specs.declared.block_type.BlockType.TheVariants.{Index, Meta}
-use Rattle.sst_blocks.specs.declared.section.SectionName.TheVariants.{Data, Tli, TableVersion as VersionSection, Meta as MetaSection}
+use Rattle.sst_sections.specs.declared.section.SectionName.TheVariants.{Data, Tli, TableVersion as VersionSection, Meta as MetaSection}
 use Rattle.sst_blocks.specs.Block.{block_bytes}
 use Rattle.sst_entries.specs.Entry.{Entry}
 use Rattle.sst_blocks.specs.Handles.{handles_payload}
 use Rattle.sst_blocks.specs.Payload.{payload}
-use Rattle.sst_blocks.specs.Sections.{finished, Written, place_of}
+use Rattle.sst_sections.specs.Sections.{finished, Written, place_of}
 use Rattle.lsm_writers.specs.Chunks.{AreChunks}
 use Rattle.lsm_writers.specs.Index.{handles, data_section}
 use Rattle.lsm_writers.specs.Layout.{Sections, laid}

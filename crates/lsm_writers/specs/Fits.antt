@@ -1,11 +1,11 @@
 -- What a list of chunks keeps in a table, so that each number and each length fits its field.
 use Rattle.std.specs.Prelude.{◌+◌, ◌-◌, ◌^◌, ◌<◌, ◌≤◌, List, length}
 use Rattle.std.specs.List.{AllByRecursion}
-use Rattle.sst_blocks.specs.declared.version.TableVersion.{TableVersion}
+use Rattle.sst_sections.specs.declared.version.TableVersion.{TableVersion}
 use Rattle.sst_entries.specs.Entry.{Entry}
 use Rattle.sst_blocks.specs.Handles.{handles_payload}
 use Rattle.sst_blocks.specs.Payload.{payload}
-use Rattle.sst_blocks.specs.Version.{longest_key}
+use Rattle.sst_sections.specs.Version.{longest_key}
 use Rattle.lsm_writers.specs.Chunks.{joined}
 use Rattle.lsm_writers.specs.Index.{handles}
 use Rattle.lsm_writers.specs.Options.{Label}

@@ -1,8 +1,8 @@
 -- Sections that lie one after another.
 use Rattle.std.specs.Prelude.{ℕ, ◌+◌, List, [], ◌∷◌, length}
 use Rattle.std.specs.List.{flat_map}
-use Rattle.sst_blocks.specs.declared.section.SectionName.{SectionName}
-use Rattle.sst_blocks.specs.Sections.{Written}
+use Rattle.sst_sections.specs.declared.section.SectionName.{SectionName}
+use Rattle.sst_sections.specs.Sections.{Written}
 
 abbrev pub Sections : Type 0
 Sections = List (SectionName × List ℕ)

@@ -1,10 +1,10 @@
 -- The entries of a table's meta block.
 use Rattle.std.specs.Prelude.{ℕ, List, [], ◌∷◌, ◌++◌, length, sum_by, codes}
-use Rattle.sst_blocks.specs.declared.version.TableVersion.{TableVersion}
-use Rattle.sst_blocks.specs.declared.version.TableVersion.TheVariants.{V3, V4}
+use Rattle.sst_sections.specs.declared.version.TableVersion.{TableVersion}
+use Rattle.sst_sections.specs.declared.version.TableVersion.TheVariants.{V3, V4}
 use Rattle.sst_entries.specs.declared.value_type.ValueType.TheVariants.{Value}
 use Rattle.sst_entries.specs.Entry.{Entry, entry}
-use Rattle.sst_blocks.specs.Number.{le4, le8, le16}
+use Rattle.sst_sections.specs.Number.{le4, le8, le16}
 use Rattle.sst_blocks.specs.Payload.{payload}
 use Rattle.lsm_writers.specs.Chunks.{joined}
 use Rattle.lsm_writers.specs.Facts.{Facts, facts}

@@ -1,17 +1,17 @@
 -- What an index writer holds, and what it writes.
 use Rattle.std.specs.Prelude.{◌≡◌, ℕ, Bool, List, [], ◌∷◌, ◌++◌, length, Option, Some, None, All, if◌then◌else◌}
 use Rattle.std.specs.List.{flat_map}
-use Rattle.sst_blocks.specs.declared.version.TableVersion.TheVariants.{V4}
+use Rattle.sst_sections.specs.declared.version.TableVersion.TheVariants.{V4}
 use Rattle.sst_blocks.specs.declared.block_type.BlockType.TheVariants.{Index}
-use Rattle.sst_blocks.specs.declared.section.SectionName.{SectionName}
-use Rattle.sst_blocks.specs.declared.section.SectionName.TheVariants.{Tli}
+use Rattle.sst_sections.specs.declared.section.SectionName.{SectionName}
+use Rattle.sst_sections.specs.declared.section.SectionName.TheVariants.{Tli}
 use Rattle.sst_entries.specs.declared.error.Error.{Error}
 use Rattle.sst_entries.specs.declared.error.Error.TheVariants.{WriterFailed}
 use Rattle.sst_blocks.specs.Block.{block_bytes}
 use Rattle.sst_blocks.specs.Encoding.{handles_fault}
 use Rattle.sst_blocks.specs.Handle.{Handle}
 use Rattle.sst_blocks.specs.Handles.{handles_payload}
-use Rattle.sst_blocks.specs.Sections.{Written, place_of}
+use Rattle.sst_sections.specs.Sections.{Written, place_of}
 use Rattle.lsm_writers.specs.Layout.{Sections, starts_from}
 
 -- the handles that were registered, and whether the writer has refused

@@ -1,6 +1,6 @@
 -- A table of a list.
 use Rattle.std.specs.Prelude.{ℕ, List}
-use Rattle.sst_blocks.specs.declared.version.TableVersion.{TableVersion}
+use Rattle.sst_sections.specs.declared.version.TableVersion.{TableVersion}
 use Rattle.sst_entries.specs.Entry.{Entry}
 use Rattle.sst_entries.specs.Strict.{IsStrict}
 use Rattle.lsm_writers.specs.File.{IsFile}

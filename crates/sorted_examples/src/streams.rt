@@ -2,9 +2,9 @@
 ghost use Rattle.std.specs.Prelude.{◌≡◌, Bool, List, [], IfOk};
 ghost use Rattle.sst_entries.specs.Stream.{Deals, nowhere, stopped, all_ok};
 ghost use Rattle.sst_entries.specs.declared.error.Error.{Error};
-ghost use Rattle.lsm_sorted.specs.Ends.{R};
-ghost use Rattle.lsm_sorted.specs.Union.{all_errors, merged};
-ghost use Rattle.lsm_sorted.specs.MergeLaws.{DealSorted};
+ghost use Rattle.lsm_merge.specs.Ends.{R};
+ghost use Rattle.lsm_merge.specs.Union.{all_errors, merged};
+ghost use Rattle.lsm_merge.specs.MergeLaws.{DealSorted};
 ghost use Rattle.lsm_sorted.specs.Compaction.{kept, unfiltered};
 ghost use Rattle.lsm_sorted.specs.CompactionState.{rules_of};
 

@@ -3,9 +3,9 @@ use Rattle.std.specs.Prelude.{◌≡◌, ℕ, ◌-◌, ◌^◌, ◌<◌, false, 
 use Rattle.std.specs.List.{AllByRecursion}
 use Rattle.std.specs.Option.{option_or}
 use Rattle.sst_entries.specs.declared.error.Error.{Error}
-use Rattle.sst_blocks.specs.declared.version.TableVersion.TheVariants.{V4}
+use Rattle.sst_sections.specs.declared.version.TableVersion.TheVariants.{V4}
 use Rattle.sst_entries.specs.Entry.{Entry}
-use Rattle.sst_blocks.specs.Fnv.{fnv1a}
+use Rattle.sst_sections.specs.Fnv.{fnv1a}
 use Rattle.sst_entries.specs.Strict.{IsStrict}
 use Rattle.lsm_writers.specs.File.{IsFile}
 use Rattle.lsm_writers.specs.Fits.{Fits}

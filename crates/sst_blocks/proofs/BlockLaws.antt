@@ -4,12 +4,12 @@ use Rattle.std.specs.Prelude.{None, Some, Ok, is_some, bit_xor}
 use Rattle.std.proofs.lemmas.List.{take_at, drop_at, append-nil}
 use Rattle.std.proofs.lemmas.Bool.{eq-eqb}
 use Rattle.std.proofs.Math.Nat.{mod-lt}
-use Rattle.sst_blocks.specs.declared.version.TableVersion.{TableVersion}
-use Rattle.sst_blocks.specs.declared.version.TableVersion.TheVariants.{V3, V4}
+use Rattle.sst_sections.specs.declared.version.TableVersion.{TableVersion}
+use Rattle.sst_sections.specs.declared.version.TableVersion.TheVariants.{V3, V4}
 use Rattle.sst_blocks.specs.declared.block_type.BlockType.{BlockType}
 use Rattle.sst_blocks.specs.declared.block_type.BlockType.TheVariants.{Data, Index, Filter, Meta}
-use Rattle.sst_blocks.specs.Fnv.{fnv1a, fnv_from, fnv_basis, fnv_prime, fnv_step}
-use Rattle.sst_blocks.specs.Number.{le4, le8, num4, num8}
+use Rattle.sst_sections.specs.Fnv.{fnv1a, fnv_from, fnv_basis, fnv_prime, fnv_step}
+use Rattle.sst_sections.specs.Number.{le4, le8, num4, num8}
 use Rattle.sst_blocks.specs.Block.{header, block_bytes, header_fault, data_len, uncompressed_len, stored_checksum, version_in, in_grammar, checked_payload, load_told, load_at_told, entries_of, handles_of, loaded, LoadsBack}
 use Rattle.sst_blocks.specs.Handle.{Handle}
 use Rattle.sst_blocks.specs.Handles.{handles_payload, AreStrictHandles, HandlesFit}
@@ -20,7 +20,7 @@ use Rattle.sst_entries.specs.Entry.{Entry}
 use Rattle.sst_entries.specs.Strict.{IsStrict}
 use Rattle.sst_blocks.proofs.Entries.{entries_read}
 use Rattle.sst_blocks.proofs.HandleLaws.{handles_read}
-use Rattle.sst_blocks.proofs.Numbers.{wide4, wide8}
+use Rattle.sst_sections.proofs.Numbers.{wide4, wide8}
 use Rattle.sst_blocks.proofs.LoadLemmas.{load_checked, load_at_checked}
 
 -- hashes are numbers of eight bytes

@@ -6,18 +6,18 @@ use Rattle.std.specs.Option.{option_map}
 use Rattle.std.proofs.lemmas.Bool.{eqb-true, ltb-false, le-ltb}
 use Rattle.std.proofs.lemmas.List.{take_at, drop_at, drop-drop, take-append-drop, length-append, length-take, length-drop, drop_more, map-id, take_rest}
 use Rattle.std.proofs.lemmas.Option.{option_and_then_some, some_pair_parts, slice_get-get_or, slice_get_within, get_or_from_slice_get}
-use Rattle.sst_blocks.specs.declared.version.TableVersion.{TableVersion}
+use Rattle.sst_sections.specs.declared.version.TableVersion.{TableVersion}
 use Rattle.sst_entries.specs.declared.value_type.ValueType.{ValueType}
 use Rattle.sst_entries.specs.declared.value_type.ValueType.TheVariants.{Value, Tombstone, WeakTombstone, Indirection}
 use Rattle.sst_entries.specs.Entry.{Entry, entry}
 use Rattle.sst_entries.specs.Kind.{tag_of, kind_of}
-use Rattle.sst_blocks.specs.Number.{le4, le8, num4, num8}
+use Rattle.sst_sections.specs.Number.{le4, le8, num4, num8}
 use Rattle.sst_blocks.specs.Payload.{entry_head, spelled, payload, Fits, AreFit}
 use Rattle.sst_blocks.specs.Reading.{parts_at, entry_at, entries_at, entries_in}
 use Rattle.sst_blocks.specs.Starts.{starts_of, EntriesAt}
 use Rattle.sst_entries.specs.Strict.{IsStrict, IsStrictAfter, is_strict_after}
-use Rattle.sst_blocks.specs.Version.{key_width, key_limit, key_len_bytes, key_len_at}
-use Rattle.sst_blocks.proofs.Numbers.{IsBytes, IsBytes-drop, wide4, wide8, key_wide}
+use Rattle.sst_sections.specs.Version.{key_width, key_limit, key_len_bytes, key_len_at}
+use Rattle.sst_sections.proofs.Numbers.{IsBytes, IsBytes-drop, wide4, wide8, key_wide}
 use Rattle.sst_blocks.proofs.Items.{Format, IsFormat, Advances, Here, items_at, items_in, in_order, guard_some, items_in_take, items_in_again, items_strict, item_holds, length-starts}
 
 -- ---- kinds and their tags

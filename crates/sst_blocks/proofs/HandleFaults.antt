@@ -7,15 +7,15 @@ use Rattle.std.proofs.lemmas.List.{drop_more, drop_all, take_all, length-append}
 use Rattle.std.proofs.lemmas.List.Sums.{sum_by-cons}
 use Rattle.sst_entries.specs.declared.error.Error.{Error}
 use Rattle.sst_entries.specs.declared.error.Error.TheVariants.{KeyTooLong, BlockTooLarge}
-use Rattle.sst_blocks.specs.declared.version.TableVersion.TheVariants.{V4}
+use Rattle.sst_sections.specs.declared.version.TableVersion.TheVariants.{V4}
 use Rattle.sst_blocks.specs.Bounds.{handle_bound, index_block_bound_of}
 use Rattle.sst_blocks.specs.Encoding.{key_fault, large_fault, handles_fault}
 use Rattle.std.specs.Option.{option_or}
 use Rattle.sst_blocks.specs.Handle.{Handle}
 use Rattle.sst_blocks.specs.Handles.{handle_spelled, handles_payload}
-use Rattle.sst_blocks.specs.Number.{le4}
+use Rattle.sst_sections.specs.Number.{le4}
 use Rattle.sst_blocks.proofs.HandleLaws.{length-handle_spelled}
-use Rattle.sst_blocks.proofs.Numbers.{wide4}
+use Rattle.sst_sections.proofs.Numbers.{wide4}
 
 -- ---- the first fault
 

@@ -6,14 +6,14 @@ use Rattle.std.specs.List.{flat_map, slice_range, slice_get}
 use Rattle.std.specs.Option.{option_map}
 use Rattle.std.proofs.lemmas.List.{take_at, drop_at, take-append-drop, length-append, length-take, length-drop, drop-drop}
 use Rattle.std.proofs.lemmas.Option.{some_pair_parts, slice_get-get_or, slice_get_within, get_or_from_slice_get}
-use Rattle.sst_blocks.specs.declared.version.TableVersion.{TableVersion}
+use Rattle.sst_sections.specs.declared.version.TableVersion.{TableVersion}
 use Rattle.sst_blocks.specs.Handle.{Handle}
 use Rattle.sst_blocks.specs.Handles.{handle_head, handle_spelled, handles_payload, handle_at, handles_at, handles_in, HandleFits, HandlesFit, AreStrictHandles, end_of}
-use Rattle.sst_blocks.specs.Number.{le4, le8, num4, num8}
+use Rattle.sst_sections.specs.Number.{le4, le8, num4, num8}
 use Rattle.sst_blocks.specs.Starts.{starts_of, HandlesAt}
-use Rattle.sst_blocks.specs.Version.{key_width, key_limit, key_len_bytes, key_len_at}
+use Rattle.sst_sections.specs.Version.{key_width, key_limit, key_len_bytes, key_len_at}
 use Rattle.sst_blocks.proofs.Items.{Format, IsFormat, items_at, items_in, in_order, items_in_take, items_in_again, guard_some, Here, Advances, length-starts, item_holds, items_strict}
-use Rattle.sst_blocks.proofs.Numbers.{IsBytes, IsBytes-drop, wide4, wide8, key_wide}
+use Rattle.sst_sections.proofs.Numbers.{IsBytes, IsBytes-drop, wide4, wide8, key_wide}
 
 -- the parts of a handle one after another, and then other bytes
 pub handle_parts : (v : TableVersion) (h : Handle) (rest : List ℕ) → handle_spelled v h ++ rest ≡ le8 h.seqno ++ (le8 h.offset ++ (le4 h.size ++ (key_len_bytes v (length h.end_key) ++ (h.end_key ++ rest))))

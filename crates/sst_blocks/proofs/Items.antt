@@ -8,10 +8,10 @@ use Rattle.std.proofs.lemmas.List.{drop_at, drop-drop, length-append, length-dro
 use Rattle.std.proofs.lemmas.List.Concat.{flat_map-append}
 use Rattle.std.proofs.lemmas.Option.{none-some, same_Some, cond_some, option_and_then_some}
 use Rattle.sst_entries.specs.Entry.{Entry}
-use Rattle.sst_blocks.specs.Number.{le4, num4}
+use Rattle.sst_sections.specs.Number.{le4, num4}
 use Rattle.sst_blocks.specs.Starts.{starts_of, SpellsAt}
 use Rattle.sst_entries.specs.Strict.{may_follow, IsStrictAfter, is_strict_after, last_of}
-use Rattle.sst_blocks.proofs.Numbers.{IsBytes, IsBytes-drop, wide4}
+use Rattle.sst_sections.proofs.Numbers.{IsBytes, IsBytes-drop, wide4}
 use Rattle.sst_entries.proofs.Strictness.{strict_from_test, test_from_strict, test_push, test_fails, last_push}
 
 -- how an item is spelled and read, and the entry whose place in the order it has

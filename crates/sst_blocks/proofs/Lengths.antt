@@ -3,13 +3,13 @@ use Rattle.std.proofs.Common.{◌≡◌, ◌+◌, ◌^◌, ◌<◌, ◌≤◌, L
 use Rattle.std.specs.List.{flat_map, sum_by}
 use Rattle.std.proofs.lemmas.List.{length-append}
 use Rattle.std.proofs.lemmas.List.Sums.{sum_by-cons}
-use Rattle.sst_blocks.specs.declared.version.TableVersion.TheVariants.{V4}
+use Rattle.sst_sections.specs.declared.version.TableVersion.TheVariants.{V4}
 use Rattle.sst_blocks.specs.Bounds.{entry_bound, data_block_bound_of}
 use Rattle.sst_entries.specs.Entry.{Entry}
-use Rattle.sst_blocks.specs.Number.{le4}
+use Rattle.sst_sections.specs.Number.{le4}
 use Rattle.sst_blocks.specs.Payload.{spelled, payload}
 use Rattle.sst_blocks.proofs.Entries.{length-spelled}
-use Rattle.sst_blocks.proofs.Numbers.{wide4}
+use Rattle.sst_sections.proofs.Numbers.{wide4}
 
 length-entries : (es : List Entry) → length (flat_map (spelled V4) es) ≡ sum_by entry_bound es
 length-entries [] = refl

@@ -1,14 +1,10 @@
-pub mod Numbers
-pub mod FnvLemmas
 pub mod Items
 pub mod Entries
 pub mod HandleLaws
 pub mod SpanLemmas
 pub mod Reaching
 pub mod LoadLemmas
-pub mod TrailerLemmas
 pub mod BlockLaws
-pub mod SectionLaws
 pub mod Faults
 pub mod Fronts
 pub mod HandleFaults

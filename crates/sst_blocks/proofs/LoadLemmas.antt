@@ -5,10 +5,10 @@ use Rattle.std.proofs.lemmas.List.{length-take}
 use Rattle.sst_blocks.specs.declared.block_type.BlockType.{BlockType}
 use Rattle.sst_entries.specs.declared.error.Error.{Error}
 use Rattle.sst_entries.specs.declared.error.Error.TheVariants.{Truncated, InvalidHeader, ChecksumMismatch}
-use Rattle.sst_blocks.specs.declared.version.TableVersion.{TableVersion}
+use Rattle.sst_sections.specs.declared.version.TableVersion.{TableVersion}
 use Rattle.sst_entries.specs.Error.{Gives, FaultsFirst, unless}
 use Rattle.std.specs.Option.{option_or}
-use Rattle.sst_blocks.specs.Fnv.{fnv1a}
+use Rattle.sst_sections.specs.Fnv.{fnv1a}
 use Rattle.sst_blocks.specs.Block.{Loaded, grammar_fault, header_fault, data_len, uncompressed_len, stored_checksum, version_in, checked_payload, load_told, load_at_told, place_fault, position_fault}
 
 -- no fault yet

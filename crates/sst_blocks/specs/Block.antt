@@ -1,8 +1,8 @@
 -- Blocks in a table's bytes: a header of 24 bytes, then the payload. Which block a load gives, or the first fault that it meets.
 use Rattle.std.specs.Prelude.{◌≡◌, ℕ, ◌+◌, ◌==◌, ◌&&◌, ◌||◌, not, nat_lt, nat_le, Bool, false, List, [], ◌∷◌, ◌++◌, length, take, drop, slice_index, slice_range, Option, Some, None, is_some, is_none, unwrap_or, Result, Ok, Err, if◌then◌else◌}
 use Rattle.std.specs.Option.{option_or}
-use Rattle.sst_blocks.specs.declared.version.TableVersion.{TableVersion}
-use Rattle.sst_blocks.specs.declared.version.TableVersion.TheVariants.{V4}
+use Rattle.sst_sections.specs.declared.version.TableVersion.{TableVersion}
+use Rattle.sst_sections.specs.declared.version.TableVersion.TheVariants.{V4}
 use Rattle.sst_blocks.specs.declared.block_type.BlockType.{BlockType}
 use Rattle.sst_blocks.specs.declared.block_type.BlockType.TheVariants.{Data, Index, Filter, Meta}
 use Rattle.sst_entries.specs.declared.error.Error.{Error}
@@ -10,12 +10,12 @@ use Rattle.sst_entries.specs.declared.error.Error.TheVariants.{Truncated, Invali
 use Rattle.sst_entries.specs.declared.error.TagName.TheVariants.{BlockType as BlockTypeTag}
 use Rattle.sst_entries.specs.Entry.{Entry}
 use Rattle.sst_entries.specs.Error.{unless}
-use Rattle.sst_blocks.specs.Fnv.{fnv1a}
+use Rattle.sst_sections.specs.Fnv.{fnv1a}
 use Rattle.sst_blocks.specs.Handle.{Handle}
 use Rattle.sst_blocks.specs.Handles.{handles_in}
-use Rattle.sst_blocks.specs.Number.{le4, le8, num4, num8}
+use Rattle.sst_sections.specs.Number.{le4, le8, num4, num8}
 use Rattle.sst_blocks.specs.Reading.{entries_in}
-use Rattle.sst_blocks.specs.Version.{mark, version_of}
+use Rattle.sst_sections.specs.Version.{mark, version_of}
 
 abbrev pub kind_tag : BlockType → ℕ
 kind_tag Data = 0

@@ -1,13 +1,13 @@
 -- What encoding a block refuses: the first fault.
 use Rattle.std.specs.Prelude.{ℕ, Bool, ◌^◌, nat_lt, nat_le, List, [], ◌∷◌, length, Option, Some, None, if◌then◌else◌}
 use Rattle.std.specs.Option.{option_or}
-use Rattle.sst_blocks.specs.declared.version.TableVersion.TheVariants.{V4}
+use Rattle.sst_sections.specs.declared.version.TableVersion.TheVariants.{V4}
 use Rattle.sst_entries.specs.declared.error.Error.{Error}
 use Rattle.sst_entries.specs.declared.error.Error.TheVariants.{KeyTooLong, ValueTooLong, BlockTooLarge}
 use Rattle.sst_blocks.specs.Bounds.{data_block_bound_of, index_block_bound_of}
 use Rattle.sst_entries.specs.Entry.{Entry}
 use Rattle.sst_blocks.specs.Handle.{Handle}
-use Rattle.sst_blocks.specs.Version.{longest_key}
+use Rattle.sst_sections.specs.Version.{longest_key}
 
 abbrev pub is_long_key : List ℕ → Bool
 is_long_key key = nat_lt (longest_key V4) (length key)

@@ -2,13 +2,13 @@
 use Rattle.std.specs.Prelude.{ℕ, zero, suc, ◌+◌, ◌<◌, ◌^◌, List, [], ◌∷◌, ◌++◌, length, take, drop, Bool, ◌&&◌, ◌||◌, nat_lt, Option, Some, None, option_and_then, if◌then◌else◌}
 use Rattle.std.specs.List.{flat_map, AllByRecursion}
 use Rattle.std.specs.Option.{option_map}
-use Rattle.sst_blocks.specs.declared.version.TableVersion.{TableVersion}
+use Rattle.sst_sections.specs.declared.version.TableVersion.{TableVersion}
 use Rattle.sst_entries.specs.declared.value_type.ValueType.TheVariants.{Value}
 use Rattle.sst_entries.specs.Entry.{Entry, entry}
 use Rattle.sst_blocks.specs.Handle.{Handle}
 use Rattle.sst_entries.specs.Key.{same_key, key_lt}
-use Rattle.sst_blocks.specs.Number.{le4, le8, num4, num8}
-use Rattle.sst_blocks.specs.Version.{key_width, key_len_bytes, key_len_at, key_limit}
+use Rattle.sst_sections.specs.Number.{le4, le8, num4, num8}
+use Rattle.sst_sections.specs.Version.{key_width, key_len_bytes, key_len_at, key_limit}
 use Rattle.sst_entries.specs.Strict.{IsStrict, is_strict_after}
 use Rattle.std.specs.Prelude.{map}
 

@@ -1,11 +1,11 @@
 -- The payload of a data or meta block: the one spelling of a list of entries.
 use Rattle.std.specs.Prelude.{ℕ, ◌<◌, ◌^◌, List, [], ◌∷◌, ◌++◌, length}
 use Rattle.std.specs.List.{flat_map, AllByRecursion}
-use Rattle.sst_blocks.specs.declared.version.TableVersion.{TableVersion}
+use Rattle.sst_sections.specs.declared.version.TableVersion.{TableVersion}
 use Rattle.sst_entries.specs.Entry.{Entry}
 use Rattle.sst_entries.specs.Kind.{tag_of}
-use Rattle.sst_blocks.specs.Number.{le4, le8}
-use Rattle.sst_blocks.specs.Version.{key_len_bytes, key_limit}
+use Rattle.sst_sections.specs.Number.{le4, le8}
+use Rattle.sst_sections.specs.Version.{key_len_bytes, key_limit}
 
 -- the tag, the number and both lengths
 abbrev pub entry_head : TableVersion → Entry → List ℕ

@@ -10,18 +10,19 @@ ghost use Rattle.sst_entries.specs.Error.{Faults, Gives};
 ghost use Rattle.sst_blocks.specs.Starts.{HoldsEntries, IsBlock};
 ghost use Rattle.sst_blocks.specs.declared.block_type.BlockType.{BlockType};
 ghost use Rattle.sst_blocks.specs.declared.block_type.BlockType.TheVariants.{Index};
-ghost use Rattle.sst_blocks.specs.declared.version.TableVersion.{TableVersion};
-ghost use Rattle.sst_blocks.specs.declared.version.TableVersion.TheVariants.{V4};
+ghost use Rattle.sst_sections.specs.declared.version.TableVersion.{TableVersion};
+ghost use Rattle.sst_sections.specs.declared.version.TableVersion.TheVariants.{V4};
 ghost use Rattle.sst_entries.specs.declared.error.Error.TheVariants.{OutOfMemory};
 
 mod header;
 
 use crate::data_block::entry_starts;
-use crate::fnv::Fnv1a;
 use crate::index_block::handle_starts;
-use crate::section::SectionWriter;
-use crate::{BlockHandle, BlockOffset, BlockType, CompressionType, Error, Slice, TableVersion};
+use crate::{
+    BlockHandle, BlockOffset, BlockType, CompressionType, Error, SectionWriter, Slice, TableVersion,
+};
 pub use header::Header;
+use sst_sections::fnv::Fnv1a;
 use std::alloc::{Allocator, Global};
 use std::marker::Model;
 

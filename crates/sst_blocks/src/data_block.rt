@@ -20,18 +20,18 @@ ghost use Rattle.sst_blocks.specs.Ending.{EndsAtError};
 ghost use Rattle.sst_blocks.specs.Seeking.{whole};
 ghost use Rattle.sst_entries.specs.declared.error.Error.{Error};
 ghost use Rattle.sst_entries.specs.declared.error.Error.TheVariants.{OutOfMemory, InvalidBlock};
-ghost use Rattle.sst_blocks.specs.declared.version.TableVersion.TheVariants.{V4};
+ghost use Rattle.sst_sections.specs.declared.version.TableVersion.TheVariants.{V4};
 
 mod encode;
 mod entry_ref;
 mod iter;
 
 use crate::block::{EMPTY_LEN, Header};
-use crate::number::u32_at;
 use crate::{Block, Error, InternalValue, SeqNo, Slice, TableVersion};
 use encode::{block_len, put_items, with_entry};
 use entry_ref::{EntryRef, head_len, read_entry};
 pub use iter::Iter;
+use sst_sections::number::u32_at;
 use std::alloc::{Allocator, Global};
 use std::marker::Model;
 

@@ -3,12 +3,12 @@ ghost use Rattle.std.specs.Prelude.{◌≡◌, ◌+◌, ◌<◌, ◌≤◌, ◌^
 ghost use Rattle.sst_blocks.specs.Block.{checked_payload, load_told, load_at_told, place_fault, position_fault, Loaded};
 ghost use Rattle.sst_entries.specs.Error.{Gives, Refuses, FaultsFirst};
 ghost use Rattle.sst_blocks.specs.Opened.{counted, none_opened};
-ghost use Rattle.sst_blocks.specs.Sections.{body_of, section_in, section_names, trailer_fault};
+ghost use Rattle.sst_sections.specs.Sections.{body_of, section_in, section_names, trailer_fault};
 ghost use Rattle.sst_blocks.specs.declared.opened.Opened.{Opened};
 
 use crate::block::Header;
-use crate::section::TRAILER_LEN;
 use crate::{Block, BlockHandle, BlockType, Error, Opened, Slice, Toc};
+use sst_sections::TRAILER_LEN;
 use std::alloc::{AllocError, Allocator, Global};
 use std::marker::Model;
 
@@ -25,7 +25,7 @@ pub struct BlockSource<A: Allocator = Global> {
 
 impl<A: Allocator> Model for BlockSource<A> {
     ghost use Rattle.std.specs.Prelude.{◌≡◌, List, ℕ, map, None};
-    ghost use Rattle.sst_blocks.specs.Sections.{section_in, section_names, trailer_fault};
+    ghost use Rattle.sst_sections.specs.Sections.{section_in, section_names, trailer_fault};
 
     ghost Value = { List ℕ };
 
@@ -230,7 +230,7 @@ impl<'a, A: Allocator + Clone> Counted<'a, A> {
 }
 
 impl<A: Allocator + Clone> LoadBlocks for Counted<'_, A> {
-    ghost use Rattle.sst_blocks.specs.Sections.{body_of};
+    ghost use Rattle.sst_sections.specs.Sections.{body_of};
 
     type Alloc = A;
 

@@ -4,4 +4,5 @@ pub mod FrontLemmas
 pub mod Booleans
 pub mod Lists
 pub mod OrderLemmas
+pub mod KeyLemmas
 pub mod Strictness

@@ -1,9 +1,12 @@
 -- What `Deals` and `CanDeal` give for one call, and how they are proved from an invariant.
-use Rattle.std.proofs.Common.{◌≡◌, refl, sym, subst, Bool, false, List, [], ◌∷◌, ◌++◌}
-use Rattle.std.specs.Prelude.{Option}
+use Rattle.std.proofs.Common.{◌≡◌, refl, sym, ◌∙◌, ap, subst, Bool, false, List, [], ◌∷◌, ◌++◌, reverse}
+use Rattle.std.proofs.lemmas.List.{reverse-append}
+use Rattle.std.specs.Prelude.{Option, Result, Ok}
 use Rattle.sst_entries.specs.declared.stream.Direction.{Direction}
 use Rattle.sst_entries.specs.declared.stream.Direction.TheVariants.{Front, Back}
-use Rattle.sst_entries.specs.Stream.{first, but_first, last, but_last, deal, NoneStops, Steps, Runs, Deals, CanDeal}
+use Rattle.sst_entries.specs.declared.error.Error.{Error}
+use Rattle.sst_entries.specs.Entry.{Entry}
+use Rattle.sst_entries.specs.Stream.{all_ok, first, but_first, last, but_last, deal, NoneStops, Steps, Runs, Deals, CanDeal}
 
 -- the head and the tail of an equation of lists
 pub head_eq : {A : Type 0} {x y : A} {xs ys : List A} → x ∷ xs ≡ y ∷ ys → x ≡ y
@@ -80,3 +83,12 @@ runs_more front back e r t u step [] [] s runs = (u, subst (λ s. Steps front ba
 runs_more front back e r t u step [] (q ∷ rs) s runs = absurd runs
 runs_more front back e r t u step (d ∷ ends) [] s runs = absurd runs
 runs_more front back e r t u step (d ∷ ends) (q ∷ rs) s runs = (runs.0, runs.1, runs_more front back e r t u step ends rs runs.0 runs.2)
+
+-- entries of a list that holds no error
+pub map_append : (xs ys : List Entry) → all_ok (xs ++ ys) ≡ all_ok xs ++ all_ok ys
+map_append [] ys = refl
+map_append (x ∷ xs) ys = ap (λ (zs : List (Result Entry Error)). Ok x ∷ zs) (map_append xs ys)
+
+pub map_reverse : (xs : List Entry) → reverse (all_ok xs) ≡ all_ok (reverse xs)
+map_reverse [] = refl
+map_reverse (x ∷ xs) = reverse-append (Ok x ∷ []) (all_ok xs) ∙ ap (λ (zs : List (Result Entry Error)). zs ++ Ok x ∷ []) (map_reverse xs) ∙ sym (ap all_ok (reverse-append (x ∷ []) xs) ∙ map_append (reverse xs) (x ∷ []))

@@ -23,7 +23,7 @@ struct Listing<'a, A: Allocator> {
 }
 
 impl<A: Allocator + Clone> LoadBlocks for Listing<'_, A> {
-    ghost use Rattle.sst_blocks.specs.Sections.{body_of};
+    ghost use Rattle.sst_sections.specs.Sections.{body_of};
 
     type Alloc = A;
 

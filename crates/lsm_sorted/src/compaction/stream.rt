@@ -6,7 +6,7 @@ ghost use Rattle.sst_entries.specs.Key.{same_key};
 ghost use Rattle.sst_entries.specs.Stream.{Deals, CanDeal, nowhere, stopped};
 ghost use Rattle.sst_entries.specs.declared.error.Error.{Error};
 ghost use Rattle.sst_entries.specs.declared.stream.Direction.TheVariants.{Front};
-ghost use Rattle.lsm_sorted.specs.Ends.{R};
+ghost use Rattle.lsm_merge.specs.Ends.{R};
 ghost use Rattle.lsm_sorted.specs.Ahead.{HoldsAhead};
 ghost use Rattle.lsm_sorted.specs.Outlook.{Relates, before_any};
 ghost use Rattle.lsm_sorted.specs.Verdicts.{said, verdict_of};

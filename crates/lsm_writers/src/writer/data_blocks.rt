@@ -2,13 +2,13 @@
 ghost use Rattle.std.specs.Prelude.{◌≡◌, ◌+◌, ◌*◌, ◌++◌, ◌^◌, ◌<◌, [], ◌∷◌, None, Some, false, length, IfOk, IfErr, OnOk, OnErr};
 ghost use Rattle.std.specs.Option.{option_copied};
 ghost use Rattle.sst_entries.specs.declared.error.Error.TheVariants.{OutOfMemory};
-ghost use Rattle.sst_blocks.specs.declared.section.SectionName.TheVariants.{Data};
-ghost use Rattle.sst_blocks.specs.declared.version.TableVersion.TheVariants.{V4};
+ghost use Rattle.sst_sections.specs.declared.section.SectionName.TheVariants.{Data};
+ghost use Rattle.sst_sections.specs.declared.version.TableVersion.TheVariants.{V4};
 ghost use Rattle.sst_blocks.specs.Bounds.{index_block_bound_of};
 ghost use Rattle.sst_blocks.specs.Encoding.{entries_fault, key_fault, large_fault};
 ghost use Rattle.sst_entries.specs.Error.{Faults};
-ghost use Rattle.sst_blocks.specs.Fnv.{fnv1a};
-ghost use Rattle.sst_blocks.specs.Sections.{finished};
+ghost use Rattle.sst_sections.specs.Fnv.{fnv1a};
+ghost use Rattle.sst_sections.specs.Sections.{finished};
 ghost use Rattle.sst_entries.specs.Strict.{IsStrict, last_of};
 ghost use Rattle.lsm_writers.specs.Chunks.{joined};
 ghost use Rattle.lsm_writers.specs.Cut.{Cut, CountsCut, IsReadable, with_cut, rest_of};
@@ -44,7 +44,7 @@ pub(crate) struct DataBlocks<A: Allocator = Global> {
 
 impl<A: Allocator> Model for DataBlocks<A> {
     ghost use Rattle.std.specs.Prelude.{◌*◌, ◌^◌, ◌<◌, length};
-    ghost use Rattle.sst_blocks.specs.declared.version.TableVersion.TheVariants.{V4};
+    ghost use Rattle.sst_sections.specs.declared.version.TableVersion.TheVariants.{V4};
     ghost use Rattle.lsm_writers.specs.Chunks.{joined};
     ghost use Rattle.lsm_writers.specs.Cut.{Cut, chunks_in, AreCut};
 

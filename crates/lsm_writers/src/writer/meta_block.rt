@@ -1,7 +1,7 @@
 //! The meta block of a table: what a reader is told of it.
 ghost use Rattle.std.specs.Prelude.{◌≡◌, [], ◌∷◌, ◌++◌, unwrap_or, map, IfOk, IfErr, OnOk};
 ghost use Rattle.sst_entries.specs.declared.error.Error.TheVariants.{OutOfMemory};
-ghost use Rattle.sst_blocks.specs.declared.version.TableVersion.TheVariants.{V4};
+ghost use Rattle.sst_sections.specs.declared.version.TableVersion.TheVariants.{V4};
 ghost use Rattle.lsm_writers.specs.Counts.{counted_facts};
 ghost use Rattle.lsm_writers.specs.File.{counted_blocks};
 ghost use Rattle.lsm_writers.specs.MetaBlock.{meta_entry, block_items, key_items, option_items, count_items, meta_items};

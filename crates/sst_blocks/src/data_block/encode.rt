@@ -5,11 +5,11 @@ ghost use Rattle.sst_blocks.specs.Encoding.{entries_fault, length_fault};
 ghost use Rattle.sst_entries.specs.Error.{Refuses};
 ghost use Rattle.sst_blocks.specs.Payload.{Fits, AreFit, spelled, payload};
 ghost use Rattle.sst_entries.specs.declared.error.Error.TheVariants.{OutOfMemory};
-ghost use Rattle.sst_blocks.specs.declared.version.TableVersion.TheVariants.{V4};
+ghost use Rattle.sst_sections.specs.declared.version.TableVersion.TheVariants.{V4};
 
 use crate::block::EMPTY_LEN;
-use crate::number::{put_u32, put_u64};
 use crate::{Error, InternalValue, TableVersion};
+use sst_sections::number::{put_u32, put_u64};
 use std::alloc::Allocator;
 
 /// What an entry takes beside its key and its value, as it is written: its tag, its number and both lengths.

@@ -6,11 +6,11 @@ ghost use Rattle.sst_entries.specs.Point.{bound_of};
 ghost use Rattle.sst_blocks.specs.Reading.{parts_at, entry_at};
 ghost use Rattle.sst_blocks.specs.Seen.{seen};
 ghost use Rattle.sst_entries.specs.Strict.{is_before, may_follow};
-ghost use Rattle.sst_blocks.specs.Version.{key_width};
+ghost use Rattle.sst_sections.specs.Version.{key_width};
 
-use crate::number::{key_len_at, key_width, u32_at, u64_at};
 use crate::{SeqNo, TableVersion, ValueType};
 use sst_entries::compare_versions;
+use sst_sections::number::{key_len_at, key_width, u32_at, u64_at};
 
 /// An entry whose key and value lie in borrowed bytes.
 #[derive(Clone, Copy)]

@@ -5,11 +5,11 @@ ghost use Rattle.sst_blocks.specs.Encoding.{handles_fault, key_fault};
 ghost use Rattle.sst_entries.specs.Error.{Refuses};
 ghost use Rattle.sst_blocks.specs.Handles.{HandleFits, HandlesFit, handle_spelled, handles_payload};
 ghost use Rattle.sst_entries.specs.declared.error.Error.TheVariants.{OutOfMemory};
-ghost use Rattle.sst_blocks.specs.declared.version.TableVersion.TheVariants.{V4};
+ghost use Rattle.sst_sections.specs.declared.version.TableVersion.TheVariants.{V4};
 
 use crate::block::EMPTY_LEN;
-use crate::number::{put_u32, put_u64};
 use crate::{Error, KeyedBlockHandle, TableVersion};
+use sst_sections::number::{put_u32, put_u64};
 use std::alloc::Allocator;
 
 /// What a handle takes beside its end key, as it is written: its number, its place and the key's length.

@@ -6,12 +6,12 @@ ghost use Rattle.sst_blocks.specs.Handles.{handle_at, handles_in, end_of, reache
 ghost use Rattle.sst_blocks.specs.SeenHandle.{seen_handle};
 ghost use Rattle.sst_blocks.specs.Starts.{HandlesAt};
 ghost use Rattle.sst_entries.specs.Strict.{may_follow};
-ghost use Rattle.sst_blocks.specs.Version.{key_width};
+ghost use Rattle.sst_sections.specs.Version.{key_width};
 ghost use Rattle.sst_entries.specs.declared.error.Error.TheVariants.{InvalidBlock};
 
-use crate::number::{key_len_at, key_width, u32_at, u64_at};
 use crate::{Error, SeqNo, TableVersion};
 use sst_entries::compare_versions;
+use sst_sections::number::{key_len_at, key_width, u32_at, u64_at};
 use std::alloc::Allocator;
 
 /// A handle whose end key lies in borrowed bytes.

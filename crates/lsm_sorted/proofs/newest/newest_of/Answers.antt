@@ -1,5 +1,5 @@
-use Rattle.lsm_sorted.specs.MergeLaws.{every_error}
-use Rattle.lsm_sorted.specs.Union.{merged}
+use Rattle.lsm_merge.specs.MergeLaws.{every_error}
+use Rattle.lsm_merge.specs.Union.{merged}
 use Rattle.lsm_sorted.proofs.newest.newest_of.Goals as goal
 
 pub returns-clause-deals : goal.returns-clause-deals

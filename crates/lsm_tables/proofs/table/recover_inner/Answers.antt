@@ -1,6 +1,6 @@
 use Rattle.std.proofs.Common.{refl, ap, sym, ◌∙◌}
 use Rattle.std.proofs.lemmas.Result.{IfOk-from_err}
-use Rattle.sst_blocks.specs.Sections.{body_of}
+use Rattle.sst_sections.specs.Sections.{body_of}
 use Rattle.lsm_tables.specs.Load.{meta_told}
 use Rattle.lsm_tables.specs.Meta.{Facts}
 use Rattle.lsm_tables.specs.Parts.{parts_told, number_told}

@@ -1,6 +1,6 @@
 use Rattle.std.proofs.Common.{◌≡◌}
-use Rattle.lsm_sorted.specs.Tournament as tournament
-use Rattle.lsm_sorted.specs.IntervalHeap as interval
+use Rattle.lsm_heaps.specs.Tournament as tournament
+use Rattle.lsm_heaps.specs.IntervalHeap as interval
 use Rattle.sorted_examples.proofs.heaps.agree_in_turns.Given as goal
 
 abbrev pub invariant-loop-turn : goal.invariant-loop-turn

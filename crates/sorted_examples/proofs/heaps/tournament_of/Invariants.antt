@@ -1,5 +1,5 @@
 use Rattle.std.proofs.Common.{◌≡◌, length}
-use Rattle.lsm_sorted.specs.Tournament as tournament
+use Rattle.lsm_heaps.specs.Tournament as tournament
 use Rattle.sorted_examples.proofs.heaps.tournament_of.Given as goal
 
 abbrev pub invariant-loop-item : goal.invariant-loop-item

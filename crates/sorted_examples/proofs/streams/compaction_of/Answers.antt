@@ -1,5 +1,5 @@
 use Rattle.sst_entries.specs.Stream.{all_ok}
-use Rattle.lsm_sorted.specs.Union.{merged}
+use Rattle.lsm_merge.specs.Union.{merged}
 use Rattle.sorted_examples.proofs.streams.compaction_of.Goals as goal
 
 pub returns : goal.returns

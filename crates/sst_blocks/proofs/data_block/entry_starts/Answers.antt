@@ -1,7 +1,7 @@
 use Rattle.std.proofs.Common.{◌≡◌, ◌≤◌, ◌<◌, length, refl, rules, arith, true, false, Some, None, ◌∙◌}
 use Rattle.std.specs.Option.{option_map}
 use Rattle.std.proofs.lemmas.List.{take_rest}
-use Rattle.sst_blocks.specs.Number.{num4}
+use Rattle.sst_sections.specs.Number.{num4}
 use Rattle.sst_blocks.specs.Payload.{Fits}
 use Rattle.sst_blocks.specs.Reading.{entry_at}
 use Rattle.sst_blocks.specs.Seen.{seen}

@@ -2,7 +2,7 @@ use Rattle.std.proofs.Common.{arith}
 use Rattle.lsm_sorted.specs.Peeked.{Holds}
 use Rattle.lsm_sorted.proofs.MvccLemmas.{drained_first, drained_more, drained_stop, drained_err, drained_end, front_err, front_none}
 use Rattle.lsm_sorted.proofs.MvccHears.{hears_head, hears_version, hears_other, hears_error, hears_last, hears_error_first, hears_none}
-use Rattle.lsm_ranges.proofs.KeyLemmas.{keys_apart, keys_same}
+use Rattle.sst_entries.proofs.KeyLemmas.{keys_apart, keys_same}
 use Rattle.lsm_sorted.proofs.mvcc_stream.MvccStreamIterator.next.Goals as goal
 
 pub returns-in-Some-Err-clause-steps : goal.returns-in-Some-Err-clause-steps

@@ -1,6 +1,6 @@
 use Rattle.sst_entries.specs.declared.error.Error.{Error}
 use Rattle.std.proofs.Common.{Bool, ◌<◌}
-use Rattle.lsm_sorted.specs.Ends.{Goes}
+use Rattle.lsm_merge.specs.Ends.{Goes}
 use Rattle.lsm_sorted.specs.Peeked.{Holds, peeked_size}
 use Rattle.sst_entries.specs.declared.stream.Direction.TheVariants.{Front}
 use Rattle.lsm_sorted.specs.Outlook.{Relates}

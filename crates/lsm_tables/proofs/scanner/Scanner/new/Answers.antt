@@ -1,5 +1,5 @@
 use Rattle.std.proofs.Common.{◌-◌, refl, ap, sym, ◌∙◌, inr}
-use Rattle.sst_blocks.specs.Sections.{body_of}
+use Rattle.sst_sections.specs.Sections.{body_of}
 use Rattle.lsm_tables.specs.Scan.{scan_told}
 use Rattle.lsm_tables.proofs.Scans.{first_left, same_left, scan_deals, scan_ends}
 use Rattle.lsm_tables.proofs.scanner.Scanner.new.Goals as goal

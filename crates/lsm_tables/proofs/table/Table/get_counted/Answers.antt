@@ -1,6 +1,6 @@
 use Rattle.std.proofs.Common.{◌≡◌, ◌∙◌, ap, subst, ℕ, List}
 use Rattle.sst_entries.specs.Error.{FaultsFirst}
-use Rattle.sst_blocks.specs.Sections.{body_of}
+use Rattle.sst_sections.specs.Sections.{body_of}
 use Rattle.lsm_tables.specs.Answer.{fault_at, handle_for}
 use Rattle.lsm_tables.specs.Handled.{table_of}
 use Rattle.lsm_tables.specs.TableSeen.{TableSeen}

@@ -1,6 +1,6 @@
 use Rattle.std.proofs.Common.{ap, subst, ◌∙◌, arith}
 use Rattle.sst_blocks.specs.declared.block_type.BlockType.TheVariants.{Index}
-use Rattle.sst_blocks.specs.Sections.{body_of}
+use Rattle.sst_sections.specs.Sections.{body_of}
 use Rattle.lsm_tables.specs.Handled.{IsOpen, table_of}
 use Rattle.lsm_tables.specs.TableSeen.{TableSeen}
 use Rattle.lsm_tables.proofs.Loads.{load_size}

@@ -3,7 +3,7 @@ use Rattle.std.specs.Prelude.{IfOk}
 use Rattle.sst_blocks.specs.declared.block_type.BlockType.TheVariants.{Data}
 use Rattle.sst_blocks.specs.Block.{load_at_told}
 use Rattle.sst_entries.specs.Error.{Faults}
-use Rattle.sst_blocks.specs.Sections.{body_of}
+use Rattle.sst_sections.specs.Sections.{body_of}
 use Rattle.sst_entries.specs.Stream.{Deals, nowhere, stopped}
 use Rattle.lsm_tables.specs.Handled.{IsOpen, table_of}
 use Rattle.lsm_tables.specs.Scan.{Scan, ScansNext, fault_of, scan_told}

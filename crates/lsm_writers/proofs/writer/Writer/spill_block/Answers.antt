@@ -1,5 +1,5 @@
 use Rattle.std.proofs.Common.{arith}
-use Rattle.sst_blocks.specs.declared.version.TableVersion.TheVariants.{V4}
+use Rattle.sst_sections.specs.declared.version.TableVersion.TheVariants.{V4}
 use Rattle.lsm_writers.specs.Fits.{EntryFits}
 use Rattle.lsm_writers.specs.Chunks.{joined}
 use Rattle.sst_entries.proofs.Lists.{all_behind}

@@ -1,8 +1,8 @@
 use Rattle.std.proofs.Common.{◌∙◌, ap, List, ◌∷◌}
-use Rattle.sst_blocks.specs.declared.section.SectionName.TheVariants.{Data}
-use Rattle.sst_blocks.specs.declared.version.TableVersion.TheVariants.{V4}
+use Rattle.sst_sections.specs.declared.section.SectionName.TheVariants.{Data}
+use Rattle.sst_sections.specs.declared.version.TableVersion.TheVariants.{V4}
 use Rattle.sst_entries.specs.Entry.{Entry}
-use Rattle.sst_blocks.specs.Sections.{finished}
+use Rattle.sst_sections.specs.Sections.{finished}
 use Rattle.lsm_writers.specs.Counts.{counted_facts}
 use Rattle.lsm_writers.specs.File.{file, counted_blocks, end_sections, closing_sections, index_sections}
 use Rattle.lsm_writers.specs.Index.{data_section}

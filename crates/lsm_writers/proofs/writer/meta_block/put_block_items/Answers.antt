@@ -1,4 +1,4 @@
-use Rattle.sst_blocks.specs.Number.{le4, le8, le16}
+use Rattle.sst_sections.specs.Number.{le4, le8, le16}
 use Rattle.lsm_writers.proofs.writer.meta_block.put_block_items.Goals as goal
 
 pub returns-clause-ok : goal.returns-clause-ok

@@ -1,4 +1,4 @@
-use Rattle.sst_blocks.specs.Number.{le8}
+use Rattle.sst_sections.specs.Number.{le8}
 use Rattle.lsm_writers.proofs.writer.meta_block.put_count_items.Goals as goal
 
 pub returns-clause-ok : goal.returns-clause-ok

@@ -1,5 +1,5 @@
 use Rattle.std.proofs.Common.{append_assoc}
-use Rattle.sst_blocks.specs.Number.{le8}
+use Rattle.sst_sections.specs.Number.{le8}
 use Rattle.lsm_writers.proofs.writer.meta_block.put_key_items.Goals as goal
 
 pub returns-clause-ok : goal.returns-clause-ok

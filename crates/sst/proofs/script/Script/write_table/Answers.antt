@@ -1,6 +1,6 @@
 use Rattle.std.proofs.Common.{◌≡◌, ◌∙◌, sym, ap, refl, inl, inr, Bool, ◌∷◌, rules}
 use Rattle.std.specs.Prelude.{Some, Ok}
-use Rattle.sst_blocks.specs.Fnv.{fnv1a}
+use Rattle.sst_sections.specs.Fnv.{fnv1a}
 use Rattle.sst_entries.specs.declared.error.Error.TheVariants.{OutOfMemory}
 use Rattle.sst.specs.declared.stop.Failure.TheVariants.{Refused}
 use Rattle.lsm_writers.specs.Options.{default_options, label_of}

@@ -3,9 +3,9 @@ use Rattle.std.proofs.lemmas.List.{take_all}
 use Rattle.std.proofs.lemmas.Result.{IfOk-from_err}
 use Rattle.std.specs.List.{flat_map}
 use Rattle.sst_entries.specs.Entry.{Entry}
-use Rattle.sst_blocks.specs.Number.{le4}
+use Rattle.sst_sections.specs.Number.{le4}
 use Rattle.sst_blocks.specs.Payload.{payload, spelled, Fits}
-use Rattle.sst_blocks.specs.declared.version.TableVersion.TheVariants.{V4}
+use Rattle.sst_sections.specs.declared.version.TableVersion.TheVariants.{V4}
 use Rattle.sst_blocks.proofs.Faults.{short_at, front_again}
 use Rattle.sst_blocks.proofs.Grown.{all_fit, first, front, none, none_yet, one_more, one_more_fits}
 use Rattle.sst_blocks.proofs.data_block.encode.put_items.Goals as goal

@@ -1,8 +1,8 @@
 use Rattle.std.proofs.Common.{◌≡◌, ◌++◌, length, take}
 use Rattle.std.specs.List.{flat_map, AllByRecursion}
-use Rattle.sst_blocks.specs.Number.{le4}
+use Rattle.sst_sections.specs.Number.{le4}
 use Rattle.sst_blocks.specs.Payload.{Fits, spelled}
-use Rattle.sst_blocks.specs.declared.version.TableVersion.TheVariants.{V4}
+use Rattle.sst_sections.specs.declared.version.TableVersion.TheVariants.{V4}
 use Rattle.sst_blocks.proofs.data_block.encode.put_items.Given as goal
 
 abbrev pub invariant-loop-item : goal.invariant-loop-item

@@ -1,7 +1,7 @@
 use Rattle.std.proofs.Common.{◌≡◌, ◌<◌, ◌+◌, ◌^◌, length, arith, Some}
 use Rattle.sst_blocks.specs.Bounds.{index_block_bound_of}
 use Rattle.sst_blocks.specs.Handles.{HandlesFit, handles_in, handles_payload}
-use Rattle.sst_blocks.specs.declared.version.TableVersion.TheVariants.{V4}
+use Rattle.sst_sections.specs.declared.version.TableVersion.TheVariants.{V4}
 use Rattle.sst_blocks.proofs.HandleFaults.{few_handles, payload_length, on_ok}
 use Rattle.sst_blocks.proofs.HandleLaws.{handles_read}
 use Rattle.sst_blocks.proofs.index_block.IndexBlock.encode_into.Goals as goal

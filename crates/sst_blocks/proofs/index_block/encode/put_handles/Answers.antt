@@ -1,8 +1,8 @@
 use Rattle.std.proofs.Common.{length, rules, sym}
 use Rattle.std.proofs.lemmas.Result.{IfOk-from_err}
 use Rattle.sst_blocks.specs.Handles.{HandleFits, handle_spelled}
-use Rattle.sst_blocks.specs.Number.{le4}
-use Rattle.sst_blocks.specs.declared.version.TableVersion.TheVariants.{V4}
+use Rattle.sst_sections.specs.Number.{le4}
+use Rattle.sst_sections.specs.declared.version.TableVersion.TheVariants.{V4}
 use Rattle.sst_blocks.proofs.Faults.{front_again}
 use Rattle.sst_blocks.proofs.Grown.{all_fit, first, front, none, none_yet, one_more, one_more_fits}
 use Rattle.sst_blocks.proofs.HandleFaults.{short_key_at, all_written}

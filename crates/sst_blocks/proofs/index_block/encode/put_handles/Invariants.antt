@@ -1,8 +1,8 @@
 use Rattle.std.proofs.Common.{◌≡◌, ◌++◌, length, take}
 use Rattle.std.specs.List.{flat_map, AllByRecursion}
 use Rattle.sst_blocks.specs.Handles.{HandleFits, handle_spelled}
-use Rattle.sst_blocks.specs.Number.{le4}
-use Rattle.sst_blocks.specs.declared.version.TableVersion.TheVariants.{V4}
+use Rattle.sst_sections.specs.Number.{le4}
+use Rattle.sst_sections.specs.declared.version.TableVersion.TheVariants.{V4}
 use Rattle.sst_blocks.proofs.index_block.encode.put_handles.Given as goal
 
 abbrev pub invariant-loop-handle : goal.invariant-loop-handle

@@ -6,7 +6,7 @@ use Rattle.sst_blocks.specs.SeenHandle.{seen_handle}
 use Rattle.sst_entries.specs.Strict.{may_follow}
 use Rattle.sst_blocks.proofs.HandleLaws.{handle_format, handles_format, handles_in_same}
 use Rattle.sst_blocks.proofs.Items.{walk_begins, walk_on, walk_short, walk_missing, walk_unordered, walk_over, walk_ends}
-use Rattle.sst_blocks.proofs.Numbers.{IsBytes}
+use Rattle.sst_sections.proofs.Numbers.{IsBytes}
 use Rattle.sst_blocks.proofs.index_block.read.handle_starts.Goals as goal
 
 pub returns-then-payload-lt4-clause-fault : goal.returns-then-payload-lt4-clause-fault

@@ -3,7 +3,7 @@ use Rattle.bytes.proofs.Ranges.{slice_range_front}
 use Rattle.std.proofs.lemmas.List.{length-take}
 use Rattle.sst_blocks.specs.Block.{Loaded, checked_payload}
 use Rattle.sst_entries.specs.Error.{Gives}
-use Rattle.sst_blocks.specs.Sections.{body_of}
+use Rattle.sst_sections.specs.Sections.{body_of}
 use Rattle.sst_blocks.proofs.source.BlockSource.block.Goals as goal
 
 pub returns : goal.returns

@@ -6,7 +6,7 @@ use Rattle.sst_entries.specs.declared.error.Error.{Error}
 use Rattle.sst_entries.specs.declared.error.Error.TheVariants.{Truncated, InvalidHeader}
 use Rattle.sst_blocks.specs.Block.{Loaded, load_told, place_fault, checked_payload}
 use Rattle.sst_entries.specs.Error.{Gives}
-use Rattle.sst_blocks.specs.Sections.{body_of}
+use Rattle.sst_sections.specs.Sections.{body_of}
 use Rattle.sst_blocks.proofs.LoadLemmas.{load_truncated, load_fault, load_lengths, load_checked, place_truncated, place_header, place_lengths, place_fine, none_told}
 use Rattle.sst_blocks.proofs.source.BlockSource.load.Goals as goal
 use Rattle.sst_blocks.proofs.source.BlockSource.load.Goals.{then-size-lt-HEADER_LEN-via-then-size-lt-HEADER_LEN, then-size-lt-HEADER_LEN-via-else-size-lt-HEADER_LEN+then-body-size, then-size-lt-HEADER_LEN-via-else-size-lt-HEADER_LEN+else-body-size+then-body-size-2, then-header-via-then-header, then-header-via-else-header+then-header-size}

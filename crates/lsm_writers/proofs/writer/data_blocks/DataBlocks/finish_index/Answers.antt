@@ -1,6 +1,6 @@
 use Rattle.std.proofs.Common.{subst}
 use Rattle.std.specs.List.{AllByRecursion}
-use Rattle.sst_blocks.specs.declared.version.TableVersion.TheVariants.{V4}
+use Rattle.sst_sections.specs.declared.version.TableVersion.TheVariants.{V4}
 use Rattle.lsm_writers.specs.Cut.{Cut}
 use Rattle.lsm_writers.specs.Fits.{BlockFits}
 use Rattle.lsm_writers.proofs.Cutting.{blocks_fit}

@@ -1,0 +1,8 @@
+pub mod SideLemmas
+pub mod BracketLemmas
+pub mod SlotLemmas
+pub mod HeightLemmas
+pub mod TournamentLemmas
+pub mod PlaceLemmas
+pub mod MoveLemmas
+pub mod IntervalHeapLemmas

@@ -1,0 +1,87 @@
+-- A list as a tree of intervals: node i has the places 2i and 2i + 1, for its low and its high end, and the children 2i + 1
+-- and 2i + 2. A last node with one place has it for both ends.
+use Rattle.std.specs.Prelude.{◌≡◌, ◌≢◌, ◌⊎◌, ℕ, ◌+◌, ◌-◌, ◌*◌, ◌/◌, ◌%◌, ◌<◌, ◌≤◌, false, List, length, slice_index_or}
+use Rattle.std.specs.declared.cmp.Ordering.{Ordering}
+use Rattle.std.specs.Ordering.{is_gt}
+use Rattle.lsm_heaps.specs.declared.side.Side.{Side}
+use Rattle.lsm_heaps.specs.declared.side.Side.TheVariants.{Least, Greatest}
+use Rattle.lsm_heaps.specs.Side.{toward}
+
+-- a is the low end of the node above the one whose low end is b
+pub record IsLowAbove (n a b : ℕ) : Type 0 where
+  pub above : a % 2 ≡ 0
+  pub low : b % 2 ≡ 0
+  pub from : 2 * a + 2 ≤ b
+  pub upto : b < 2 * a + 6
+  pub within : b < n
+
+-- a and b are the ends of one node
+pub record IsNode (n a b : ℕ) : Type 0 where
+  pub low : a % 2 ≡ 0
+  pub high : b ≡ a + 1
+  pub within : b < n
+
+-- b is the high end of the node above the one whose high end is a
+pub record IsHighAbove (n a b : ℕ) : Type 0 where
+  pub above : b % 2 ≡ 1
+  pub high : a % 2 ≡ 0 → a + 1 ≡ n
+  pub from : 2 * b ≤ a
+  pub upto : a < 2 * b + 4
+  pub within : a < n
+
+-- of n places, the item at a may not come after the one at b
+abbrev pub Precedes : ℕ → ℕ → ℕ → Type 0
+Precedes n a b = IsLowAbove n a b ⊎ (IsNode n a b ⊎ IsHighAbove n a b)
+
+-- the intervals of children lie in that of their parent
+abbrev pub IsIntervalHeap : {T : Type 0} → (T → T → Ordering) → List T → Type 0
+IsIntervalHeap {T} cmp xs = (d : T) (a b : ℕ) → Precedes (length xs) a b → is_gt (cmp (slice_index_or xs a d) (slice_index_or xs b d)) ≡ false
+
+-- the same, seen from one end
+abbrev pub PrecedesOn : Side → ℕ → ℕ → ℕ → Type 0
+PrecedesOn Least n a b = Precedes n a b
+PrecedesOn Greatest n a b = Precedes n b a
+
+-- the place is the end of its node at this side
+abbrev pub IsEnd : Side → ℕ → ℕ → Type 0
+IsEnd Least n k = k % 2 ≡ 0
+IsEnd Greatest n k = k % 2 ≡ 0 → k + 1 ≡ n
+
+-- the end at this side of the node above the one of place k
+abbrev pub above_of : Side → ℕ → ℕ
+above_of Least k = 2 * ((k - 2) / 4)
+above_of Greatest k = 2 * ((k - 2) / 4) + 1
+
+-- b is the other end of the node above the one of place k
+abbrev pub IsOtherAbove : Side → ℕ → ℕ → Type 0
+IsOtherAbove Least k b = (b % 2 ≡ 1) × (2 * b ≤ k) × (k < 2 * b + 4)
+IsOtherAbove Greatest k b = (b % 2 ≡ 0) × (2 * b + 2 ≤ k) × (k < 2 * b + 6)
+
+-- the item at a does not come after the one at b, seen from this end
+abbrev pub InOrder : {T : Type 0} → Side → (T → T → Ordering) → List T → ℕ → ℕ → Type 0
+InOrder {T} side cmp xs a b = (d : T) → is_gt (toward side cmp (slice_index_or xs a d) (slice_index_or xs b d)) ≡ false
+
+-- only the item at this place may come before the one above it
+pub record IsRisingAt {T : Type 0} (side : Side) (cmp : T → T → Ordering) (xs : List T) (at : ℕ) : Type 0 where
+  pub within : at < length xs
+  pub end : IsEnd side (length xs) at
+  pub others : (a b : ℕ) → PrecedesOn side (length xs) a b → b ≢ at → InOrder side cmp xs a b
+  pub around : (a b : ℕ) → PrecedesOn side (length xs) a at → PrecedesOn side (length xs) at b → InOrder side cmp xs a b
+
+-- only the item at this place may come after those below it
+pub record IsSinkingAt {T : Type 0} (side : Side) (cmp : T → T → Ordering) (xs : List T) (at : ℕ) : Type 0 where
+  pub within : at < length xs
+  pub end : IsEnd side (length xs) at
+  pub others : (a b : ℕ) → PrecedesOn side (length xs) a b → a ≢ at → InOrder side cmp xs a b
+  pub around : (a b : ℕ) → PrecedesOn side (length xs) a at → PrecedesOn side (length xs) at b → InOrder side cmp xs a b
+  pub below_other : (b : ℕ) → IsOtherAbove side at b → InOrder side cmp xs at b
+
+-- at this place it may be so, or nothing is at this place and all is in order
+pub record SinksFrom {T : Type 0} (side : Side) (cmp : T → T → Ordering) (xs : List T) (at : ℕ) : Type 0 where
+  pub inside : at < length xs → IsSinkingAt side cmp xs at
+  pub past : length xs ≤ at → IsIntervalHeap cmp xs
+
+-- c is the end at this side of a node right below the one of place k
+pub record IsChildEnd (side : Side) (n k c : ℕ) : Type 0 where
+  pub precedes : PrecedesOn side n k c
+  pub below : k / 2 < c / 2

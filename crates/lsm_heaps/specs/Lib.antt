@@ -1,0 +1,7 @@
+pub mod Bag
+pub mod Side
+pub mod Slots
+pub mod Brackets
+pub mod Tournament
+pub mod Intervals
+pub mod IntervalHeap

@@ -1,0 +1,100 @@
+//! A priority queue with two ends, as an interval heap.
+ghost use Rattle.std.specs.Prelude.{◌≡◌, ◌⊎◌, ℕ, ◌+◌, ◌*◌, ◌/◌, ◌%◌, ◌<◌, ◌≤◌, [], ◌∷◌, length, IfOk, IfErr, IfNone, IfSome, IsPermutation, MatchOption};
+ghost use Rattle.sst_entries.specs.declared.error.Error.TheVariants.{OutOfMemory};
+ghost use Rattle.lsm_heaps.specs.Bag.{IsLeast, IsGreatest};
+ghost use Rattle.lsm_heaps.specs.IntervalHeap.{held, room};
+
+mod intervals;
+
+use crate::side::Side;
+use intervals::{order_last, sink};
+use sst_entries::Error;
+use std::alloc::{Allocator, Global};
+use std::marker::Model;
+
+/// A priority queue that gives up its least and its greatest item.
+///
+/// It is an interval heap (van Leeuwen and Wood, "Interval Heaps", The Computer Journal 36, 1993): one vector, seen as a
+/// tree whose node i has the items at 2i and 2i + 1, the ends of an interval that all the intervals below it lie in. A push
+/// or a pop takes a number of comparisons that grows with the logarithm of the length. Memory is taken by
+/// [`IntervalHeap::with_capacity`] alone. Which of equal items comes first is open.
+#[derive(Drop)]
+pub struct IntervalHeap<T: Ord, A: Allocator = Global> {
+    items: Vec<T, A>,
+}
+
+impl<T: Ord, A: Allocator> Model for IntervalHeap<T, A> {
+    ghost use Rattle.std.specs.Vec.{vec_capacity};
+    ghost use Rattle.lsm_heaps.specs.IntervalHeap.{Heap};
+    ghost use Rattle.lsm_heaps.specs.Intervals.{IsIntervalHeap};
+
+    ghost Value = { Heap T };
+
+    ghost view = { λ h. record { items = h.items.items; room = vec_capacity h.items } };
+
+    ghost invariant = { λ h. IsIntervalHeap T.cmp h.items.items };
+}
+
+impl<T: Ord, A: Allocator> IntervalHeap<T, A> {
+    /// An empty heap with room for `capacity` items.
+    ///
+    /// `Error::OutOfMemory` where memory is refused, and no other error.
+    pub fn with_capacity(alloc: A, capacity: usize) -> Result<Self, Error>
+        ensures empty { IfOk result (λ h. held h ≡ []) }
+        ensures room { IfOk result (λ h. room h ≡ capacity) }
+        ensures err { IfErr result (λ e. e ≡ OutOfMemory) }
+    {
+        Ok(IntervalHeap {
+            items: Vec::with_capacity(alloc, capacity)?,
+        })
+    }
+
+    /// How many items there are.
+    pub fn len(&self) -> usize
+        ensures { result ≡ length (held self.now) }
+    {
+        self.items.len()
+    }
+
+    /// Takes in an item, for which there is room.
+    pub fn push(&mut self, item: T)
+        requires { length (held self.old) < room self.old }
+        ensures items { IsPermutation (item ∷ held self.old) (held self.new) }
+        ensures room { room self.new ≡ room self.old }
+    {
+        self.items.push_reserved(item);
+        order_last(&mut self.items);
+    }
+
+    /// Takes out an item that no other is less than, or `None` from an empty heap.
+    pub fn pop_min(&mut self) -> Option<T>
+        ensures none { IfNone result (held self.old ≡ []) }
+        ensures unchanged { IfNone result (held self.new ≡ []) }
+        ensures taken { IfSome result (λ x. IsPermutation (held self.old) (x ∷ held self.new)) }
+        ensures least { IfSome result (λ x. IsLeast T.cmp x (held self.old)) }
+        ensures room { room self.new ≡ room self.old }
+    {
+        if self.items.is_empty() {
+            return None;
+        }
+        let item = self.items.swap_remove(0);
+        sink(&mut self.items, Side::Least, 0);
+        Some(item)
+    }
+
+    /// Takes out an item that no other is greater than, or `None` from an empty heap.
+    pub fn pop_max(&mut self) -> Option<T>
+        ensures none { IfNone result (held self.old ≡ []) }
+        ensures unchanged { IfNone result (held self.new ≡ []) }
+        ensures taken { IfSome result (λ x. IsPermutation (held self.old) (x ∷ held self.new)) }
+        ensures greatest { IfSome result (λ x. IsGreatest T.cmp x (held self.old)) }
+        ensures room { room self.new ≡ room self.old }
+    {
+        let last = self.items.len().checked_sub(1)?;
+        // The greatest of one item is the least.
+        let place = last.min(1);
+        let item = self.items.swap_remove(place);
+        sink(&mut self.items, Side::Greatest, place);
+        Some(item)
+    }
+}

@@ -1,0 +1,130 @@
+// The order of an interval heap, restored after one item has changed.
+ghost use Rattle.std.specs.Prelude.{◌≡◌, ◌⊎◌, ℕ, ◌+◌, ◌-◌, ◌*◌, ◌/◌, ◌%◌, ◌<◌, ◌≤◌, length, take, IfNone, IfSome, IsPermutation};
+ghost use Rattle.lsm_heaps.specs.Intervals.{IsIntervalHeap, IsEnd, above_of, IsRisingAt, IsSinkingAt, IsChildEnd, InOrder, IsNode, PrecedesOn, SinksFrom};
+
+use crate::side::Side;
+
+// Moves the last item to where it belongs, among others in order.
+pub(crate) fn order_last<T: Ord>(items: &mut [T])
+    requires some { 0 < length items.old }
+    requires others { IsIntervalHeap T.cmp (take (length items.old - 1) items.old) }
+    ensures items { IsPermutation items.old items.new }
+    ensures heap { IsIntervalHeap T.cmp items.new }
+{
+    let last = items.len() - 1;
+    if last % 2 == 1 {
+        if Side::Least.is_before(&items[last], &items[last - 1]) {
+            items.swap(last - 1, last);
+            rise(items, Side::Least, last - 1);
+        } else {
+            rise(items, Side::Greatest, last);
+        }
+    } else if last > 0 {
+        if Side::Least.is_before(&items[last], &items[place_above(Side::Least, last)]) {
+            rise(items, Side::Least, last);
+        } else {
+            rise(items, Side::Greatest, last);
+        }
+    }
+}
+
+// The end at this side of the node above the one of a place.
+fn place_above(side: Side, place: usize) -> usize
+    requires { 2 ≤ place }
+    ensures { result ≡ above_of side place }
+{
+    let node = (place - 2) / 4;
+    match side {
+        Side::Least => 2 * node,
+        Side::Greatest => 2 * node + 1,
+    }
+}
+
+// Moves an item toward the root while it comes before the one above it.
+fn rise<T: Ord>(items: &mut [T], side: Side, mut place: usize)
+    requires { IsRisingAt side T.cmp items.old place }
+    ensures items { IsPermutation items.old items.new }
+    ensures heap { IsIntervalHeap T.cmp items.new }
+{
+    while place > 1 {
+        let above = place_above(side, place);
+        if !side.is_before(&items[place], &items[above]) {
+            return;
+        }
+        items.swap(above, place);
+        place = above;
+    }
+}
+
+// Moves an item away from the root while it comes after one below it.
+pub(crate) fn sink<T: Ord>(items: &mut [T], side: Side, mut place: usize)
+    requires { SinksFrom side T.cmp items.old place }
+    ensures items { IsPermutation items.old items.new }
+    ensures heap { IsIntervalHeap T.cmp items.new }
+{
+    if place >= items.len() {
+        return;
+    }
+    loop {
+        order_node(items, side, place);
+        let Some(child) = first_child(items, side, place) else {
+            return;
+        };
+        if !side.is_before(&items[child], &items[place]) {
+            return;
+        }
+        items.swap(place, child);
+        place = child;
+    }
+}
+
+// Puts the two ends of a node in order.
+fn order_node<T: Ord>(items: &mut [T], side: Side, place: usize)
+    requires { IsSinkingAt side T.cmp items.old place }
+    ensures items { IsPermutation items.old items.new }
+    ensures sinking { IsSinkingAt side T.cmp items.new place }
+    ensures ordered { (b : ℕ) → PrecedesOn side (length items.new) place b → b / 2 ≡ place / 2 → InOrder side T.cmp items.new place b }
+{
+    let other = if place % 2 == 0 { place + 1 } else { place - 1 };
+    if other < items.len() && side.is_before(&items[other], &items[place]) {
+        items.swap(place, other);
+    }
+}
+
+// Of the ends at this side of the nodes below, the first in order.
+fn first_child<T: Ord>(items: &[T], side: Side, place: usize) -> Option<usize>
+    requires within { place < length items.now }
+    requires end { IsEnd side (length items.now) place }
+    ensures none { IfNone result ((b : ℕ) → IsChildEnd side (length items.now) place b → ⊥) }
+    ensures some { IfSome result (λ c. IsChildEnd side (length items.now) place c) }
+    ensures first { IfSome result (λ c. (b : ℕ) → IsChildEnd side (length items.now) place b → InOrder side T.cmp items.now c b) }
+{
+    let child = place / 2 * 2 + 1;
+    let left = end_of(side, child, items.len())?;
+    let Some(right) = end_of(side, child + 1, items.len()) else {
+        return Some(left);
+    };
+    if side.is_before(&items[right], &items[left]) {
+        Some(right)
+    } else {
+        Some(left)
+    }
+}
+
+// The end at this side of a node among so many places.
+fn end_of(side: Side, node: usize, places: usize) -> Option<usize>
+    requires { 0 < places }
+    ensures none { IfNone result (places ≤ 2 * node) }
+    ensures node { IfSome result (λ k. k / 2 ≡ node) }
+    ensures within { IfSome result (λ k. k < places) }
+    ensures end { IfSome result (λ k. IsEnd side places k) }
+{
+    let last = places - 1;
+    if node > last / 2 {
+        return None;
+    }
+    Some(match side {
+        Side::Least => 2 * node,
+        Side::Greatest => last.min(2 * node + 1),
+    })
+}

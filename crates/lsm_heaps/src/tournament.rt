@@ -1,0 +1,122 @@
+//! A priority queue with two ends, as two tournaments over the same slots.
+ghost use Rattle.std.specs.Prelude.{◌≡◌, ◌*◌, ◌<◌, [], ◌∷◌, length, IfOk, IfErr, IfNone, IfSome, IsPermutation};
+ghost use Rattle.sst_entries.specs.declared.error.Error.TheVariants.{OutOfMemory};
+ghost use Rattle.lsm_heaps.specs.Bag.{IsLeast, IsGreatest};
+ghost use Rattle.lsm_heaps.specs.Tournament.{held, room, steps, height, PlaysAtMost};
+
+mod brackets;
+mod slots;
+
+use brackets::Brackets;
+use slots::Slots;
+use sst_entries::Error;
+use std::alloc::{Allocator, Global};
+use std::marker::Model;
+
+/// A priority queue that gives up its least and its greatest item.
+///
+/// Each item has a slot, and two tournaments are played over the slots: one that the least item wins, and one that the
+/// greatest wins (trees of winners: Knuth, "The Art of Computer Programming", volume 3, "Sorting by Selection"). A pop leaves the
+/// matches above the slot that it empties to the next call: a push takes that slot, so a pop and a push play them once. A
+/// push or a pop plays the matches above one slot again, which takes `h` comparisons for each tournament at most, where `2^h` is the
+/// least power of two that is the capacity or more. Memory is taken by [`Tournament::with_capacity`] alone. Which of equal
+/// items comes first is open.
+#[derive(Drop)]
+pub struct Tournament<T: Ord, A: Allocator = Global> {
+    slots: Slots<T, A>,
+    brackets: Brackets<A>,
+}
+
+impl<T: Ord, A: Allocator> Model for Tournament<T, A> {
+    ghost use Rattle.lsm_heaps.specs.Slots.{items_of};
+    ghost use Rattle.lsm_heaps.specs.Tournament.{Contest};
+    ghost use Rattle.lsm_heaps.specs.Brackets.{IsTournament};
+
+    ghost Value = { Contest T };
+
+    ghost view = { λ t. record { items = items_of t.slots.places; room = t.slots.room; steps = t.brackets.steps } };
+
+    ghost invariant = { λ t. IsTournament T.cmp t.slots t.brackets };
+}
+
+impl<T: Ord, A: Allocator + Clone> Tournament<T, A> {
+    /// An empty tournament with room for `capacity` items.
+    ///
+    /// `Error::OutOfMemory` where memory is refused, and no other error.
+    pub fn with_capacity(alloc: A, capacity: usize) -> Result<Self, Error>
+        ensures empty { IfOk result (λ h. held h ≡ []) }
+        ensures room { IfOk result (λ h. room h ≡ capacity) }
+        ensures steps { IfOk result (λ h. steps h ≡ 0) }
+        ensures err { IfErr result (λ e. e ≡ OutOfMemory) }
+    {
+        // More than 2^63 slots fit no memory.
+        let Some(leaves) = capacity.checked_next_power_of_two() else {
+            return Err(Error::OutOfMemory);
+        };
+        let brackets = Brackets::new(alloc.clone()?, leaves)?;
+        Ok(Tournament {
+            slots: Slots::new(alloc, capacity, leaves)?,
+            brackets,
+        })
+    }
+}
+
+impl<T: Ord, A: Allocator> Tournament<T, A> {
+    /// How many items there are.
+    pub fn len(&self) -> usize
+        ensures { result ≡ length (held self.now) }
+    {
+        self.slots.len()
+    }
+
+    /// How often two items were compared: from 0, and `u64::MAX` once it was that often.
+    pub fn steps(&self) -> u64
+        ensures { result ≡ steps self.now }
+    {
+        self.brackets.steps
+    }
+
+    /// Takes in an item, for which there is room.
+    pub fn push(&mut self, item: T)
+        requires { length (held self.old) < room self.old }
+        ensures items { IsPermutation (item ∷ held self.old) (held self.new) }
+        ensures room { room self.new ≡ room self.old }
+        ensures steps { PlaysAtMost (2 * height (room self.old)) self.old self.new }
+    {
+        let slot = self.slots.insert(item);
+        self.brackets.emptied = None;
+        self.brackets.replay(self.slots.as_slice(), slot);
+    }
+
+    /// Takes out an item that no other is less than, or `None` from an empty queue.
+    pub fn pop_min(&mut self) -> Option<T>
+        ensures none { IfNone result (held self.old ≡ []) }
+        ensures unchanged { IfNone result (held self.new ≡ []) }
+        ensures taken { IfSome result (λ x. IsPermutation (held self.old) (x ∷ held self.new)) }
+        ensures least { IfSome result (λ x. IsLeast T.cmp x (held self.old)) }
+        ensures room { room self.new ≡ room self.old }
+        ensures steps { PlaysAtMost (2 * height (room self.old)) self.old self.new }
+    {
+        self.brackets.settle(self.slots.as_slice());
+        let slot = self.brackets.least.winner();
+        let item = self.slots.remove(slot)?;
+        self.brackets.emptied = Some(slot);
+        Some(item)
+    }
+
+    /// Takes out an item that no other is greater than, or `None` from an empty queue.
+    pub fn pop_max(&mut self) -> Option<T>
+        ensures none { IfNone result (held self.old ≡ []) }
+        ensures unchanged { IfNone result (held self.new ≡ []) }
+        ensures taken { IfSome result (λ x. IsPermutation (held self.old) (x ∷ held self.new)) }
+        ensures greatest { IfSome result (λ x. IsGreatest T.cmp x (held self.old)) }
+        ensures room { room self.new ≡ room self.old }
+        ensures steps { PlaysAtMost (2 * height (room self.old)) self.old self.new }
+    {
+        self.brackets.settle(self.slots.as_slice());
+        let slot = self.brackets.greatest.winner();
+        let item = self.slots.remove(slot)?;
+        self.brackets.emptied = Some(slot);
+        Some(item)
+    }
+}

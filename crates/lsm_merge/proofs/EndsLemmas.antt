@@ -1,0 +1,118 @@
+-- One call of an `Ends` that isn't done.
+use Rattle.std.proofs.Common.{◌≡◌, refl, sym, ◌∙◌, ap, subst, Bool, true, false, List, [], ◌∷◌, reverse}
+use Rattle.std.specs.Prelude.{Option, Some, None, is_none}
+use Rattle.std.specs.Iterator.{Count, IsFinite}
+use Rattle.sst_entries.specs.declared.error.Error.{Error}
+use Rattle.lsm_merge.specs.declared.ends.Ends.{Ends}
+use Rattle.sst_entries.specs.Stream.{first, but_first, last, but_last, stopped, Deals, CanDeal, nowhere}
+use Rattle.lsm_merge.specs.Ends.{R, LeftIf, Left, GoesIf, Goes, AskedIf, Asked}
+use Rattle.sst_entries.specs.Stream.{DealsFirst, DealsLast}
+use Rattle.sst_entries.proofs.FrontLemmas.{can_in_front}
+use Rattle.sst_entries.proofs.StreamLemmas.{deals_front, deals_back, can_front, can_after_back, can_now, can_now_back}
+
+pub none_first : {A : Type 0} (xs : List A) → None ≡ first xs → xs ≡ []
+none_first [] e = refl
+none_first (x ∷ xs) e = cc
+
+module _ {S : Type 0} (stops : Error → Bool) (front back : S → Option R → S → Type 0) where
+  deals_of : (s : Ends S) (xs : List R) → s.done ≡ false → Left stops front back s xs → Deals (stopped stops) front back s.iter xs
+  deals_of s xs e h = subst (λ (b : Bool). LeftIf stops front back b s.iter xs) e h.lists
+
+  pub some_deals : (s : Ends S) (x : R) (t : S) → s.done ≡ false → front s.iter (Some x) t → DealsFirst stops (Left stops front back) s (Some x) (record { iter = t; done = s.done })
+  some_deals s x t e step xs h fine =
+      let d = deals_front (stopped stops) front back s.iter xs (Some x) t (deals_of s xs e h) step fine in
+      (d.0, record { lists = subst (λ (b : Bool). LeftIf stops front back b t (but_first xs)) (sym e) d.1 })
+
+  pub some_deals_back : (s : Ends S) (x : R) (t : S) → s.done ≡ false → back s.iter (Some x) t → DealsLast stops (Left stops front back) s (Some x) (record { iter = t; done = s.done })
+  some_deals_back s x t e step xs h fine =
+      let d = deals_back (stopped stops) front back s.iter xs (Some x) t (deals_of s xs e h) step fine in
+      (d.0, record { lists = subst (λ (b : Bool). LeftIf stops front back b t (but_last xs)) (sym e) d.1 })
+
+  pub none_deals : (s : Ends S) (t : S) → s.done ≡ false → front s.iter None t → DealsFirst stops (Left stops front back) s None (record { iter = t; done = true })
+  none_deals s t e step xs h fine =
+      let d = deals_front (stopped stops) front back s.iter xs None t (deals_of s xs e h) step fine in
+      (d.0, record { lists = ap but_first (none_first xs d.0) })
+
+  pub none_deals_back : (s : Ends S) (t : S) → s.done ≡ false → back s.iter None t → DealsLast stops (Left stops front back) s None (record { iter = t; done = true })
+  none_deals_back s t e step xs h fine =
+      let d = deals_back (stopped stops) front back s.iter xs None t (deals_of s xs e h) step fine in
+      (d.0, record { lists = ap (λ (ys : List R). reverse (but_first ys)) (none_first (reverse xs) d.0) })
+
+  -- where it is done, nothing is left
+  pub done_deals : (s : Ends S) → s.done ≡ true → DealsFirst stops (Left stops front back) s None s
+  done_deals s e xs h fine =
+      let empty : xs ≡ [] = subst (λ (b : Bool). LeftIf stops front back b s.iter xs) e h.lists in
+      (sym (ap first empty), record { lists = subst (λ (b : Bool). LeftIf stops front back b s.iter (but_first xs)) (sym e) (ap but_first empty) })
+
+  pub done_deals_back : (s : Ends S) → s.done ≡ true → DealsLast stops (Left stops front back) s None s
+  done_deals_back s e xs h fine =
+      let empty : xs ≡ [] = subst (λ (b : Bool). LeftIf stops front back b s.iter xs) e h.lists in
+      (sym (ap last empty), record { lists = subst (λ (b : Bool). LeftIf stops front back b s.iter (but_last xs)) (sym e) (ap but_last empty) })
+
+module _ {S : Type 0} (front back : S → Option R → S → Type 0) where
+  module _ (can can_back : S → Type 0) (left : S → Count) where
+    pub goes_ready : (s : Ends S) → s.done ≡ false → Goes front back can can_back left s → CanDeal front back can can_back s.iter × IsFinite (left s.iter)
+    goes_ready s e h = subst (λ (b : Bool). GoesIf front back can can_back left b s.iter) e h.ready
+
+    pub goes_can : (s : Ends S) → s.done ≡ false → Goes front back can can_back left s → can s.iter
+    goes_can s e h = can_now front back can can_back s.iter (goes_ready s e h).0
+
+    pub goes_can_back : (s : Ends S) → s.done ≡ false → Goes front back can can_back left s → can_back s.iter
+    goes_can_back s e h = can_now_back front back can can_back s.iter (goes_ready s e h).0
+
+    pub some_goes : (s : Ends S) (r : Option R) (t : S) → s.done ≡ false → Goes front back can can_back left s → front s.iter r t → IsFinite (left t) → Goes front back can can_back left (record { iter = t; done = s.done })
+    some_goes s r t e h step ends = record { ready = subst (λ (b : Bool). GoesIf front back can can_back left b t) (sym e) (can_front front back can can_back s.iter r t (goes_ready s e h).0 step, ends) }
+
+    pub some_goes_back : (s : Ends S) (r : Option R) (t : S) → s.done ≡ false → Goes front back can can_back left s → back s.iter r t → IsFinite (left t) → Goes front back can can_back left (record { iter = t; done = s.done })
+    some_goes_back s r t e h step ends = record { ready = subst (λ (b : Bool). GoesIf front back can can_back left b t) (sym e) (can_after_back front back can can_back s.iter r t (goes_ready s e h).0 step, ends) }
+
+-- ---- a call by what it asks
+
+module _ {S : Type 0} (stops : Error → Bool) (front back : S → Option R → S → Type 0) where
+  pub asked_first : (s : Ends S) (r : Option R) (t : Ends S) → Asked front s r t → DealsFirst stops (Left stops front back) s r t
+  asked_first s r t a = by_done s.done refl a.call
+    where
+      one : (r : Option R) → s.done ≡ false → front s.iter r t.iter → t.done ≡ is_none r → DealsFirst stops (Left stops front back) s r t
+      one None e step d = subst (λ (b : Bool). DealsFirst stops (Left stops front back) s None (record { iter = t.iter; done = b })) (sym d) (none_deals stops front back s t.iter e step)
+      one (Some x) e step d = subst (λ (b : Bool). DealsFirst stops (Left stops front back) s (Some x) (record { iter = t.iter; done = b })) (e ∙ sym d) (some_deals stops front back s x t.iter e step)
+
+      by_done : (b : Bool) → s.done ≡ b → AskedIf front b s r t → DealsFirst stops (Left stops front back) s r t
+      by_done true e c = rw (c.0, c.1) (done_deals stops front back s e)
+      by_done false e c = one r e c.0 c.1
+
+  pub asked_last : (s : Ends S) (r : Option R) (t : Ends S) → Asked back s r t → DealsLast stops (Left stops front back) s r t
+  asked_last s r t a = by_done s.done refl a.call
+    where
+      one : (r : Option R) → s.done ≡ false → back s.iter r t.iter → t.done ≡ is_none r → DealsLast stops (Left stops front back) s r t
+      one None e step d = subst (λ (b : Bool). DealsLast stops (Left stops front back) s None (record { iter = t.iter; done = b })) (sym d) (none_deals_back stops front back s t.iter e step)
+      one (Some x) e step d = subst (λ (b : Bool). DealsLast stops (Left stops front back) s (Some x) (record { iter = t.iter; done = b })) (e ∙ sym d) (some_deals_back stops front back s x t.iter e step)
+
+      by_done : (b : Bool) → s.done ≡ b → AskedIf back b s r t → DealsLast stops (Left stops front back) s r t
+      by_done true e c = rw (c.0, c.1) (done_deals_back stops front back s e)
+      by_done false e c = one r e c.0 c.1
+
+-- one that may be asked at both ends, asked at the front, may be asked at both ends again
+module _ {S : Type 0} (front back : S → Option R → S → Type 0) (can can_back : S → Type 0) (left : S → Count) where
+  pub goes_in_front : (s : Ends S) → Goes front back can can_back left s → Goes front nowhere can can left s
+  goes_in_front s g = record { ready = by_done s.done g.ready }
+    where
+      by_done : (b : Bool) → GoesIf front back can can_back left b s.iter → GoesIf front nowhere can can left b s.iter
+      by_done true h = tt
+      by_done false h = (can_in_front front back can can_back s.iter h.0, h.1)
+
+  pub goes_after_front : (s : Ends S) (r : Option R) (t : Ends S) → Goes front back can can_back left s → Asked front s r t → Goes front nowhere can can left t → Goes front back can can_back left t
+  goes_after_front s r t g a more = by_done s.done refl a.call
+    where
+      ended : t.done ≡ true → Goes front back can can_back left t
+      ended e = record { ready = subst (λ (b : Bool). GoesIf front back can can_back left b t.iter) (sym e) tt }
+
+      one : (r : Option R) → s.done ≡ false → front s.iter r t.iter → t.done ≡ is_none r → Goes front back can can_back left t
+      one None e step d = ended d
+      one (Some x) e step d = record {
+        ready = subst (λ (b : Bool). GoesIf front back can can_back left b t.iter) (sym d)
+            (can_front front back can can_back s.iter (Some x) t.iter (goes_ready front back can can_back left s e g).0 step, (goes_ready front nowhere can can left t d more).1);
+      }
+
+      by_done : (b : Bool) → s.done ≡ b → AskedIf front b s r t → Goes front back can can_back left t
+      by_done true e c = rw c.1 g
+      by_done false e c = one r e c.0 c.1

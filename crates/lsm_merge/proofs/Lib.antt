@@ -1,0 +1,15 @@
+pub mod EndsLemmas
+pub mod UntilLemmas
+pub mod MergedLemmas
+pub mod HeldLemmas
+pub mod TakeLemmas
+pub mod RoomLemmas
+pub mod FillLemmas
+pub mod PopLemmas
+pub mod StepLemmas
+pub mod UnionLemmas
+pub mod DealsMerged
+pub mod AsksLemmas
+pub mod CallsMerged
+pub mod LateErrors
+pub mod Pairs

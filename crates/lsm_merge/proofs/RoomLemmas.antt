@@ -1,0 +1,193 @@
+-- How many entries a merger holds.
+use Rattle.std.proofs.Common.{◌≡◌, ◌≢◌, inl, inr, refl, sym, ◌∙◌, ap, subst, ℕ, suc, ◌+◌, ◌<◌, ◌≤◌, Bool, true, false, cond, nat_lt, List, ◌∷◌, length, arith}
+use Rattle.std.specs.Prelude.{◌==◌, Option, All, IsPermutation, count_by}
+use Rattle.std.specs.Iterator.{Count}
+use Rattle.std.proofs.lemmas.Bool.{eqb-true}
+use Rattle.std.proofs.lemmas.Bool.Decides.{nat_tests}
+use Rattle.std.proofs.lemmas.List.Elements.{recursion_from_All, All-from_recursion}
+use Rattle.std.proofs.lemmas.List.Sorted.{All-permutation, sum_by-IsPermutation, length_permutation}
+use Rattle.lsm_merge.specs.declared.merge.HeapItem.{HeapItem}
+use Rattle.lsm_merge.specs.declared.merge.Merger.{Merger}
+use Rattle.lsm_merge.specs.Ends.{R, Goes}
+use Rattle.lsm_heaps.specs.Tournament.{held, room}
+use Rattle.lsm_merge.specs.Merge.{held_of, Adds, SameRoom, Bounded, Fits, FitsIf, MayMerge, merge_total, merge_size}
+use Rattle.lsm_merge.proofs.HeldLemmas.{weight, count_cons, count_yes, count_no}
+
+-- an item of source k
+abbrev pub of_source : {A : Type 0} → ℕ → HeapItem A → Bool
+of_source k h = h.source == k
+
+-- of one of n sources
+abbrev Known : {A : Type 0} → ℕ → HeapItem A → Type 0
+Known n h = h.source < n
+
+pub count_perm : {A : Type 0} (k : ℕ) (xs ys : List (HeapItem A)) → IsPermutation xs ys → count_by (of_source k) ys ≡ count_by (of_source k) xs
+count_perm k xs ys perm = sum_by-IsPermutation (λ h. cond (of_source k h) 1 0) xs ys perm
+
+not_same : {A : Type 0} (k : ℕ) (h : HeapItem A) → k ≢ h.source → of_source k h ≡ false
+not_same k h ne = elim (h.source == k) as (λ b. (h.source == k) ≡ b → b ≡ false) [ true ↦ λ e. absurd (ne (sym (eqb-true h.source k e))) | false ↦ λ e. refl ] refl
+
+-- 1 where it is so
+abbrev pub one_if : Bool → ℕ
+one_if b = cond b 1 0
+
+limit_more : (i k : ℕ) (other : Bool) → cond (nat_lt k i) 1 0 + cond other 1 0 ≤ cond (nat_lt k (i + 1)) 1 0 + cond other 1 0
+limit_more i k other = grind (arith, nat_tests)
+
+limit_here : (i : ℕ) (other : Bool) → cond (nat_lt i i) 1 0 + cond other 1 0 < cond (nat_lt i (i + 1)) 1 0 + cond other 1 0
+limit_here i other = grind (arith, nat_tests)
+
+pub limit_ready : (b other : Bool) → cond b 1 0 + cond other 1 0 ≤ 1 + cond other 1 0
+limit_ready true other = omega arith
+limit_ready false other = omega arith
+
+module _ {S A : Type 0} (front back : S → Option R → S → Type 0) (can can_back : S → Type 0) (left : S → Count) where
+  -- one more may be held, of source i
+  pub bounded_adds : (limit more : ℕ → ℕ) (most i : ℕ) (end : Bool) (s t : Merger S A) → Bounded front back can can_back left limit most s → Adds end i (held s.heap) (held t.heap)
+      → All (Goes front back can can_back left) t.sources.items → SameRoom s t → i < length s.sources.items → ((k : ℕ) → limit k ≤ more k) → limit i < more i → Bounded front back can can_back left more (most + 1) t
+  bounded_adds limit more most i end s t was adds goes same within wider room_i =
+      let n : length t.sources.items ≡ length s.sources.items = same.count in
+      let space : length t.sources.items + length t.sources.items ≤ room t.heap = omega (arith, was.space, same.count, same.room) in
+      let old_known : All (λ h. h.source < length t.sources.items) (held s.heap) = subst (λ (l : ℕ). All (λ (h : HeapItem A). h.source < l) (held s.heap)) (sym n) was.known in
+      elim adds [
+        | inl e ↦ record {
+          sources = goes;
+          known = subst (All (λ h. h.source < length t.sources.items)) e old_known;
+          space = space;
+          few = let l : length (held t.heap) ≡ length (held s.heap) = ap length (sym e) in omega (arith, was.few);
+          each = λ k. let c : held_of k t ≡ held_of k s = ap (count_by (of_source k)) (sym e) in omega (arith, was.each k, wider k);
+        }
+        | inr new ↦
+            let h : HeapItem A = new.0 in
+            let source : h.source ≡ i = new.1 in
+            record {
+              sources = goes;
+              known = All-permutation (Known (length t.sources.items)) (h ∷ held s.heap) (held t.heap) new.3 (All-from_recursion (λ h. h.source < length t.sources.items) (h ∷ held s.heap) (omega arith, recursion_from_All (Known (length t.sources.items)) (held s.heap) old_known));
+              space = space;
+              few = omega (arith, was.few, length_permutation (h ∷ held s.heap) (held t.heap) new.3);
+              each = λ k.
+                  let c : held_of k t ≡ count_by (of_source k) (h ∷ held s.heap) = count_perm k (h ∷ held s.heap) (held t.heap) new.3 in
+                  elim (h.source == k) as (λ b. (h.source == k) ≡ b → held_of k t ≤ more k) [
+                    | true ↦ λ e.
+                        let at : k ≡ i = sym (eqb-true h.source k e) ∙ source in
+                        let here : held_of k s ≤ limit i = subst (λ (j : ℕ). held_of k s ≤ limit j) at (was.each k) in
+                        let there : limit i < more k = subst (λ (j : ℕ). limit i < more j) (sym at) room_i in
+                        omega (arith, c, here, there, count_yes (of_source k) h (held s.heap) e)
+                    | false ↦ λ e. omega (arith, c, was.each k, wider k, count_no (of_source k) h (held s.heap) e)
+                  ] refl;
+            }
+      ]
+
+  -- one was taken out, and one of its source may have been added
+  pub bounded_turn : (limit : ℕ → ℕ) (most : ℕ) (end : Bool) (s t : Merger S A) (h : HeapItem A) (mid : List (HeapItem A)) → Bounded front back can can_back left limit most s → IsPermutation (held s.heap) (h ∷ mid) → Adds end h.source mid (held t.heap)
+      → All (Goes front back can can_back left) t.sources.items → SameRoom s t → Bounded front back can can_back left limit most t
+  bounded_turn limit most end s t h mid was pops adds goes same =
+      let n : length t.sources.items ≡ length s.sources.items = same.count in
+      let space : length t.sources.items + length t.sources.items ≤ room t.heap = omega (arith, was.space, same.count, same.room) in
+      let few : length mid < suc most = omega (arith, was.few, length_permutation (held s.heap) (h ∷ mid) pops) in
+      let fewer : suc (length mid) ≤ most = omega (arith, was.few, length_permutation (held s.heap) (h ∷ mid) pops) in
+      let known = recursion_from_All (Known (length t.sources.items)) (h ∷ mid) (All-permutation (Known (length t.sources.items)) (held s.heap) (h ∷ mid) pops (subst (λ (l : ℕ). All (λ (x : HeapItem A). x.source < l) (held s.heap)) (sym n) was.known)) in
+      let counts : (k : ℕ) → count_by (of_source k) (h ∷ mid) ≤ limit k = λ k. omega (arith, was.each k, count_perm k (held s.heap) (h ∷ mid) pops) in
+      elim adds [
+        | inl e ↦ record {
+          sources = goes;
+          known = subst (All (λ x. x.source < length t.sources.items)) e (All-from_recursion (λ x. x.source < length t.sources.items) mid known.1);
+          space = space;
+          few = let l : length (held t.heap) ≡ length mid = ap length (sym e) in omega arith;
+          each = λ k. let c : held_of k t ≡ count_by (of_source k) mid = ap (count_by (of_source k)) (sym e) in omega (arith, counts k, count_cons (of_source k) h mid);
+        }
+        | inr new ↦
+            let x : HeapItem A = new.0 in
+            let source : x.source ≡ h.source = new.1 in
+            record {
+              sources = goes;
+              known = All-permutation (Known (length t.sources.items)) (x ∷ mid) (held t.heap) new.3 (All-from_recursion (λ y. y.source < length t.sources.items) (x ∷ mid) (let low : h.source < length t.sources.items = known.0 in omega arith, known.1));
+              space = space;
+              few = omega (arith, length_permutation (x ∷ mid) (held t.heap) new.3);
+              each = λ k.
+                  let c : held_of k t ≡ count_by (of_source k) (x ∷ mid) = count_perm k (x ∷ mid) (held t.heap) new.3 in
+                  let same_weight : weight (of_source k x) ≡ weight (of_source k h) = ap (λ (j : ℕ). weight (j == k)) source in
+                  omega (arith, c, counts k, same_weight, count_cons (of_source k) x mid, count_cons (of_source k) h mid);
+            }
+      ]
+
+  -- a merger with the same sources and the same heap, within wider bounds
+  pub bounded_same : (limit more : ℕ → ℕ) (few most : ℕ) (s t : Merger S A) → Bounded front back can can_back left limit few s → t.sources ≡ s.sources → t.heap ≡ s.heap → ((k : ℕ) → limit k ≤ more k) → few ≤ most → Bounded front back can can_back left more most t
+  bounded_same limit more few most s t was sources heap wider fewer =
+      let n : length t.sources.items ≡ length s.sources.items = ap (λ v. length v.items) sources in
+      let r : room t.heap ≡ room s.heap = ap room heap in
+      let l : length (held t.heap) ≡ length (held s.heap) = ap (λ h. length (held h)) heap in
+      record {
+        sources = subst (λ v. All (Goes front back can can_back left) v.items) (sym sources) was.sources;
+        known = subst (λ (j : ℕ). All (Known {A = A} j) (held t.heap)) (sym n) (subst (λ h. All (Known (length s.sources.items)) (held h)) (sym heap) was.known);
+        space = omega (arith, was.space);
+        few = omega (arith, was.few);
+        each = λ k. let c : held_of k t ≡ held_of k s = ap (λ h. count_by (of_source k) (held h)) heap in omega (arith, was.each k, wider k);
+      }
+
+  abbrev Within : (ℕ → ℕ) → ℕ → Merger S A → Type 0
+  Within limit most m = Bounded front back can can_back left limit most m
+
+  -- before a fill of an end, from which nothing is held
+  pub fill_first : (ready other : Bool) (n : ℕ) (s : Merger S A) (limit : ℕ → ℕ) (few : ℕ) → Within limit few s → ready ≡ false → ((k : ℕ) → limit k ≤ cond ready 1 0 + cond other 1 0) → few ≤ cond ready n 0 + cond other n 0
+      → Within (λ k. cond (nat_lt k 0) 1 0 + cond other 1 0) (0 + cond other n 0) s
+  fill_first ready other n s limit few was e within fewer =
+      let none : one_if ready ≡ 0 = ap one_if e in
+      let no_more : cond ready n 0 ≡ 0 = ap (λ (b : Bool). cond b n 0) e in
+      bounded_same limit (λ k. cond (nat_lt k 0) 1 0 + cond other 1 0) few (0 + cond other n 0) s s was refl refl (λ k. omega (arith, within k, none)) (omega (arith, fewer, no_more))
+
+  -- after source i
+  pub fill_next : (other end : Bool) (i most : ℕ) (s t : Merger S A) → Within (λ k. cond (nat_lt k i) 1 0 + cond other 1 0) (i + most) s → Adds end i (held s.heap) (held t.heap) → All (Goes front back can can_back left) t.sources.items → SameRoom s t → i < length s.sources.items
+      → Within (λ k. cond (nat_lt k (i + 1)) 1 0 + cond other 1 0) ((i + 1) + most) t
+  fill_next other end i most s t was adds goes same within =
+      bounded_same (λ k. cond (nat_lt k (i + 1)) 1 0 + cond other 1 0) (λ k. cond (nat_lt k (i + 1)) 1 0 + cond other 1 0) ((i + most) + 1) ((i + 1) + most) t t
+      (bounded_adds (λ k. cond (nat_lt k i) 1 0 + cond other 1 0) (λ k. cond (nat_lt k (i + 1)) 1 0 + cond other 1 0) (i + most) i end s t was adds goes same within (λ k. limit_more i k other) (limit_here i other))
+      refl refl (λ k. omega arith) (omega arith)
+
+  -- after all sources
+  pub fill_last : (other : Bool) (i most : ℕ) (s t : Merger S A) (limit : ℕ → ℕ) (few : ℕ) → Within (λ k. cond (nat_lt k i) 1 0 + cond other 1 0) most s → t.sources ≡ s.sources → t.heap ≡ s.heap → ((k : ℕ) → 1 + cond other 1 0 ≤ limit k) → most ≤ few → Within limit few t
+  fill_last other i most s t limit few was sources heap wider fewer = bounded_same (λ k. cond (nat_lt k i) 1 0 + cond other 1 0) limit most few s t was sources heap (λ k. omega (arith, limit_ready (nat_lt k i) other, wider k)) fewer
+
+  -- the source of a popped item
+  pub popped_known : (s : Merger S A) (h : HeapItem A) (mid : List (HeapItem A)) (limit : ℕ → ℕ) (most : ℕ) → Within limit most s → IsPermutation (held s.heap) (h ∷ mid) → h.source < length s.sources.items
+  popped_known s h mid limit most was pops = (recursion_from_All (Known (length s.sources.items)) (h ∷ mid) (All-permutation (Known (length s.sources.items)) (held s.heap) (h ∷ mid) pops was.known)).0
+
+  -- there is room for the next of its source
+  pub popped_space : (s : Merger S A) (h : HeapItem A) (mid : List (HeapItem A)) (limit : ℕ → ℕ) → Within limit (cond s.front_ready (length s.sources.items) 0 + cond s.back_ready (length s.sources.items) 0) s → IsPermutation (held s.heap) (h ∷ mid) → length mid < room s.heap
+  popped_space s h mid limit was pops =
+      omega (arith, was.few, was.space, length_permutation (held s.heap) (h ∷ mid) pops, at_most_all s.front_ready (length s.sources.items), at_most_all s.back_ready (length s.sources.items))
+    where
+      at_most_all : (b : Bool) (n : ℕ) → cond b n 0 ≤ n
+      at_most_all true n = omega arith
+      at_most_all false n = omega arith
+
+  -- a pop, and the take after it
+  pub same_popped : (s m t : Merger S A) → m.sources ≡ s.sources → room m.heap ≡ room s.heap → m.front_ready ≡ s.front_ready → m.back_ready ≡ s.back_ready → m.failed ≡ s.failed → SameRoom m t → SameRoom s t
+  same_popped s m t sources space first second failed same = record {
+    count = same.count ∙ ap (λ v. length v.items) sources;
+    room = same.room ∙ space;
+    front_ready = same.front_ready ∙ first;
+    back_ready = same.back_ready ∙ second;
+    failed = same.failed ∙ failed;
+  }
+
+  pub fits_turn : (end : Bool) (s t : Merger S A) (h : HeapItem A) (mid : List (HeapItem A)) → Fits front back can can_back left s → IsPermutation (held s.heap) (h ∷ mid) → Adds end h.source mid (held t.heap)
+      → All (Goes front back can can_back left) t.sources.items → SameRoom s t → Fits front back can can_back left t
+  fits_turn end s t h mid was pops adds goes same =
+      let first : one_if t.front_ready ≡ one_if s.front_ready = ap one_if same.front_ready in
+      let second : one_if t.back_ready ≡ one_if s.back_ready = ap one_if same.back_ready in
+      let many_first : cond t.front_ready (length t.sources.items) 0 ≡ cond s.front_ready (length s.sources.items) 0 = ap (λ (b : Bool). cond b (length t.sources.items) 0) same.front_ready ∙ ap (λ (n : ℕ). cond s.front_ready n 0) same.count in
+      let many_second : cond t.back_ready (length t.sources.items) 0 ≡ cond s.back_ready (length s.sources.items) 0 = ap (λ (b : Bool). cond b (length t.sources.items) 0) same.back_ready ∙ ap (λ (n : ℕ). cond s.back_ready n 0) same.count in
+      bounded_same (λ k. cond s.front_ready 1 0 + cond s.back_ready 1 0) (λ k. cond t.front_ready 1 0 + cond t.back_ready 1 0)
+      (cond s.front_ready (length s.sources.items) 0 + cond s.back_ready (length s.sources.items) 0) (cond t.front_ready (length t.sources.items) 0 + cond t.back_ready (length t.sources.items) 0) t t
+      (bounded_turn (λ k. cond s.front_ready 1 0 + cond s.back_ready 1 0) (cond s.front_ready (length s.sources.items) 0 + cond s.back_ready (length s.sources.items) 0) end s t h mid was pops adds goes same)
+      refl refl (λ k. omega (arith, first, second)) (omega (arith, many_first, many_second))
+
+  -- while no source failed
+  pub may_merge : (m : Merger S A) → m.failed ≡ false → Fits front back can can_back left m → MayMerge front back can can_back left m
+  may_merge m fine fits = record {
+    fits = subst (λ (b : Bool). FitsIf front back can can_back left b m) (sym fine) fits;
+  }
+
+  pub size_of : (m : Merger S A) → m.failed ≡ false → merge_size left m ≡ merge_total left m
+  size_of m fine = ap (λ (b : Bool). cond b 0 (merge_total left m)) fine

@@ -1,0 +1,45 @@
+use Rattle.std.proofs.Common.{true, false, Bool, ◌<◌, refl, sym, ◌∙◌, subst, arith}
+use Rattle.std.specs.Prelude.{None, Some, Ok, Err}
+use Rattle.sst_entries.specs.Stream.{nowhere}
+use Rattle.lsm_merge.specs.Merge.{merge_total}
+use Rattle.lsm_merge.specs.Asks.{CallsIf}
+use Rattle.lsm_merge.proofs.RoomLemmas.{may_merge, size_of}
+use Rattle.lsm_merge.proofs.merge.MergerIterator.next.Goals as goal
+
+pub returns-in-Ok-Some-clause-steps : goal.returns-in-Ok-Some-clause-steps
+returns-in-Ok-Some-clause-steps g c = record {
+  may = may_merge g.I.Iterator.next_gives nowhere g.I.Iterator.can_next g.I.Iterator.can_next g.I.Iterator.remaining c.step_front.new.self (c.step_front.ensures.failed ∙ c.if-self.false) c.in-Ok-Some.ensures.fits;
+  call = subst (λ (b : Bool). CallsIf g.I.Iterator.next_gives false b c.args.self.now (Some (Ok c.in-Ok-Some.item)) c.step_front.new.self) (sym c.if-self.false)
+      (record { step = Ok (Some c.in-Ok-Some.item); led = c.step_front.new.self; steps = rw c.in-Ok-Some.field-0-is at c.in-Ok-Some.ensures.steps; answer = refl; state = refl });
+}
+
+pub returns-in-Ok-None-clause-steps : goal.returns-in-Ok-None-clause-steps
+returns-in-Ok-None-clause-steps g c = record {
+  may = may_merge g.I.Iterator.next_gives nowhere g.I.Iterator.can_next g.I.Iterator.can_next g.I.Iterator.remaining c.step_front.new.self (c.step_front.ensures.failed ∙ c.if-self.false) c.in-Ok-None.ensures.fits;
+  call = subst (λ (b : Bool). CallsIf g.I.Iterator.next_gives false b c.args.self.now (None) c.step_front.new.self) (sym c.if-self.false)
+      (record { step = Ok None; led = c.step_front.new.self; steps = rw c.in-Ok-None.field-0-is at c.in-Ok-None.ensures.steps; answer = refl; state = refl });
+}
+
+pub returns-in-Ok-Some-clause-goes : goal.returns-in-Ok-Some-clause-goes
+returns-in-Ok-Some-clause-goes g c =
+    let may = may_merge g.I.Iterator.next_gives nowhere g.I.Iterator.can_next g.I.Iterator.can_next g.I.Iterator.remaining c.step_front.new.self (c.step_front.ensures.failed ∙ c.if-self.false) c.in-Ok-Some.ensures.fits in
+    let less : merge_total g.I.Iterator.remaining c.step_front.new.self < merge_total g.I.Iterator.remaining c.args.self.now = rw c.in-Ok-Some.field-0-is at c.in-Ok-Some.ensures.lowers in
+    record {
+      on = λ _. (may, tt, omega (arith, less, size_of g.I.Iterator.next_gives nowhere g.I.Iterator.can_next g.I.Iterator.can_next g.I.Iterator.remaining c.step_front.new.self (c.step_front.ensures.failed ∙ c.if-self.false), size_of g.I.Iterator.next_gives nowhere g.I.Iterator.can_next g.I.Iterator.can_next g.I.Iterator.remaining c.args.self.now c.if-self.false));
+      keeps = may;
+      rests = λ _. tt;
+    }
+
+pub returns-in-Err-clause-steps : goal.returns-in-Err-clause-steps
+returns-in-Err-clause-steps g c = rw (c.fail.ensures.answer, c.fail.ensures.state) (record {
+  may = record { fits = tt };
+  call = subst (λ (b : Bool). CallsIf g.I.Iterator.next_gives false b c.args.self.now (Some (Err c.in-Err.error)) (record c.step_front.new.self { failed = true })) (sym c.if-self.false)
+      (record { step = Err c.in-Err.error; led = c.step_front.new.self; steps = c.in-Err.ensures.steps; answer = refl; state = refl });
+})
+
+pub returns-in-Err-clause-goes : goal.returns-in-Err-clause-goes
+returns-in-Err-clause-goes g c = rw (c.fail.ensures.answer, c.fail.ensures.state) (record {
+  on = λ _. (record { fits = tt }, tt, omega (arith, c.in-Err.ensures.lowers, size_of g.I.Iterator.next_gives nowhere g.I.Iterator.can_next g.I.Iterator.can_next g.I.Iterator.remaining c.args.self.now c.if-self.false));
+  keeps = record { fits = tt };
+  rests = λ _. tt;
+})

@@ -1,0 +1,153 @@
+-- One call of a merger, by what it asks of its sources.
+use Rattle.std.specs.Prelude.{◌≡◌, ◌⊎◌, ℕ, zero, suc, ◌+◌, ◌<◌, ◌≤◌, Bool, true, false, List, [], ◌∷◌, length, map, All, IsPermutation, slice_index_or, slice_set, Option, Some, None, Result, Ok, Err}
+use Rattle.std.specs.Ordering.{is_gt}
+use Rattle.sst_entries.specs.Entry.{Entry}
+use Rattle.sst_entries.specs.declared.error.Error.{Error}
+use Rattle.lsm_merge.specs.declared.ends.Ends.{Ends}
+use Rattle.lsm_merge.specs.declared.merge.HeapItem.{HeapItem}
+use Rattle.lsm_merge.specs.declared.merge.Merger.{Merger}
+use Rattle.lsm_merge.specs.Ends.{R, fresh, Asked}
+use Rattle.lsm_heaps.specs.Tournament.{held, room}
+use Rattle.lsm_merge.specs.Merge.{entry_of, turn_cmp, is_ready, SameRoom}
+
+-- the first of these items, seen from an end
+abbrev pub Leads : {A : Type 0} → Bool → HeapItem A → List (HeapItem A) → Type 0
+Leads false h hs = All (λ y. is_gt (turn_cmp h y) ≡ false) hs
+Leads true h hs = All (λ y. is_gt (turn_cmp y h) ≡ false) hs
+
+-- an entry that was taken from an end of source i is held, and nothing else is new
+abbrev pub Puts : {A : Type 0} → Bool → ℕ → Option R → List (HeapItem A) → List (HeapItem A) → Type 0
+Puts at_back i None old new = new ≡ old
+Puts at_back i (Some (Err e)) old new = new ≡ old
+Puts {A} at_back i (Some (Ok x)) old new = (h : HeapItem A) × (entry_of h ≡ x) × (h.source ≡ i) × (h.from_back ≡ at_back) × IsPermutation (h ∷ old) new
+
+-- an error, if a source gave one
+abbrev pub error_told : Option R → Result (Unit {0}) Error
+error_told None = Ok tt
+error_told (Some (Ok x)) = Ok tt
+error_told (Some (Err e)) = Err e
+
+-- an end is ready from now on
+abbrev pub made_ready : {S A : Type 0} → Bool → Merger S A → Merger S A
+made_ready false m = record m { front_ready = true }
+made_ready true m = record m { back_ready = true }
+
+-- an entry, unless a source gave an error
+abbrev pub entry_told : Entry → Result (Unit {0}) Error → Result (Option Entry) Error
+entry_told x (Ok u) = Ok (Some x)
+entry_told x (Err e) = Err e
+
+-- the answer of a call
+abbrev pub answer_told : Result (Option Entry) Error → Option R
+answer_told (Ok None) = None
+answer_told (Ok (Some x)) = Some (Ok x)
+answer_told (Err e) = Some (Err e)
+
+-- an error ends the merger
+abbrev pub ended_at : {S A : Type 0} → Result (Option Entry) Error → Merger S A → Merger S A
+ended_at (Ok o) m = m
+ended_at (Err e) m = record m { failed = true }
+
+-- the sources and all but what is held are as they were
+pub record SameSources {S A : Type 0} (m n : Merger S A) : Type 0 where
+  pub sources : n.sources ≡ m.sources
+  pub room : room n.heap ≡ room m.heap
+  pub front_ready : n.front_ready ≡ m.front_ready
+  pub back_ready : n.back_ready ≡ m.back_ready
+  pub failed : n.failed ≡ m.failed
+
+-- nothing is held
+pub record HoldsNone {S A : Type 0} (m : Merger S A) (r : Result (Option Entry) Error) (n : Merger S A) : Type 0 where
+  pub none : r ≡ Ok None
+  pub was : held m.heap ≡ []
+  pub is : held n.heap ≡ []
+  pub same : SameSources m n
+
+module _ {S : Type 0} (ask : S → Option R → S → Type 0) (at_back : Bool) where
+  -- source i was asked once at this end: its entry is held, its error told
+  pub record Asks {A : Type 0} (i : ℕ) (m : Merger S A) (r : Result (Unit {0}) Error) (n : Merger S A) : Type 0 where
+    pub within : i < length m.sources.items
+    pub was : Ends S
+    pub is : Ends S
+    pub answer : Option R
+    pub found : was ≡ slice_index_or m.sources.items i was
+    pub asked : Asked ask was answer is
+    pub written : n.sources.items ≡ slice_set m.sources.items i is
+    pub puts : Puts at_back i answer (held m.heap) (held n.heap)
+    pub told : r ≡ error_told answer
+    pub same : SameRoom m n
+
+  -- each source below i was asked once, in turn, and gave no error
+  abbrev pub AsksEach : {A : Type 0} → ℕ → Merger S A → Merger S A → Type 0
+  AsksEach zero m n = n ≡ m
+  AsksEach {A} (suc i) m n = (j : Merger S A) × AsksEach i m j × Asks i j (Ok tt) n
+
+  -- each source was asked once
+  pub record AsksAll {A : Type 0} (m n : Merger S A) : Type 0 where
+    pub last : Merger S A
+    pub each : AsksEach (length m.sources.items) m last
+    pub ready : n ≡ made_ready at_back last
+
+  -- a source gave an error, and none before it
+  pub record FailsAt {A : Type 0} (e : Error) (m n : Merger S A) : Type 0 where
+    pub place : ℕ
+    pub before : Merger S A
+    pub each : AsksEach place m before
+    pub fails : Asks place before (Err e) n
+
+  abbrev pub FillsIf : {A : Type 0} → Bool → Merger S A → Result (Unit {0}) Error → Merger S A → Type 0
+  FillsIf true m r n = (r ≡ Ok tt) × (n ≡ m)
+  FillsIf false m (Ok u) n = AsksAll m n
+  FillsIf false m (Err e) n = FailsAt e m n
+
+  -- at the first call at this end, and at no other, each source is asked
+  pub record Fills {A : Type 0} (m : Merger S A) (r : Result (Unit {0}) Error) (n : Merger S A) : Type 0 where
+    pub fill : FillsIf (is_ready at_back m) m r n
+
+  -- the first of what is held was taken out, and its source, no other, was asked for the next
+  pub record Turns {A : Type 0} (m : Merger S A) (r : Result (Option Entry) Error) (n : Merger S A) : Type 0 where
+    pub lead : HeapItem A
+    pub mid : Merger S A
+    pub leads : Leads at_back lead (held m.heap)
+    pub pops : IsPermutation (held m.heap) (lead ∷ held mid.heap)
+    pub same : SameSources m mid
+    pub answer : Result (Unit {0}) Error
+    pub asks : Asks lead.source mid answer n
+    pub told : r ≡ entry_told (entry_of lead) answer
+
+  abbrev pub TurnsIf : {A : Type 0} → Result (Unit {0}) Error → Merger S A → Result (Option Entry) Error → Merger S A → Type 0
+  TurnsIf (Ok u) m r n = HoldsNone m r n ⊎ Turns m r n
+  TurnsIf (Err e) m r n = (r ≡ Err e) × (n ≡ m)
+
+  -- once the end is ready, one turn
+  pub record Steps {A : Type 0} (m : Merger S A) (r : Result (Option Entry) Error) (n : Merger S A) : Type 0 where
+    pub fill : Result (Unit {0}) Error
+    pub filled : Merger S A
+    pub fills : Fills m fill filled
+    pub turns : TurnsIf fill filled r n
+
+  -- a step, where no source failed
+  pub record Answers {A : Type 0} (m : Merger S A) (r : Option R) (n : Merger S A) : Type 0 where
+    pub step : Result (Option Entry) Error
+    pub led : Merger S A
+    pub steps : Steps m step led
+    pub answer : r ≡ answer_told step
+    pub state : n ≡ ended_at step led
+
+  abbrev pub CallsIf : {A : Type 0} → Bool → Merger S A → Option R → Merger S A → Type 0
+  CallsIf true m r n = (r ≡ None) × (n ≡ m)
+  CallsIf false m r n = Answers m r n
+
+  -- one call at this end. It asks nothing of any source at the other end
+  pub record Calls {A : Type 0} (May : Merger S A → Type 0) (m : Merger S A) (r : Option R) (n : Merger S A) : Type 0 where
+    pub may : May n
+    pub call : CallsIf m.failed m r n
+
+-- a merger of these sources, before any call
+pub record IsMergerOf {S A : Type 0} (its : List S) (m : Merger S A) : Type 0 where
+  pub sources : m.sources.items ≡ map fresh its
+  pub empty : held m.heap ≡ []
+  pub space : length its + length its ≤ room m.heap
+  pub no_front : m.front_ready ≡ false
+  pub no_back : m.back_ready ≡ false
+  pub fine : m.failed ≡ false

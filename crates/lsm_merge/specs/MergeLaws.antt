@@ -1,0 +1,67 @@
+-- What is promised of runs of calls of a merger of sources.
+use Rattle.std.specs.Prelude.{◌≡◌, ℕ, ◌<◌, ◌≤◌, Bool, true, List, [], ◌∷◌, ◌++◌, length, All, count_by, slice_index_or, Option, Some, None, Ok, Err}
+use Rattle.std.specs.List.{AllZip, AllByRecursion}
+use Rattle.std.specs.Iterator.{Count, IsFinite}
+use Rattle.sst_entries.specs.Stream.{Deals, CanDeal, stopped, all_ok, but_last, Runs, NoneStops, nowhere}
+use Rattle.sst_entries.specs.Entry.{Entry}
+use Rattle.sst_entries.specs.declared.stream.Direction.{Direction}
+use Rattle.sst_entries.specs.declared.error.Error.{Error}
+use Rattle.lsm_merge.specs.Ends.{R}
+use Rattle.lsm_merge.specs.Union.{Ascends, entries_of, all_errors, merged}
+use Rattle.lsm_merge.specs.Merge.{DealsUntil}
+
+-- each entry is at most as often in xs as in ys
+pub record IsWithinBag {A : Type 0} (xs ys : List A) : Type 0 where
+  pub count : (p : A → Bool) → count_by p xs ≤ count_by p ys
+
+-- in the list of some source the error stands behind entries that were given, all but the last of them
+pub record ComesLate (lists : List (List R)) (given : List Entry) (e : Error) : Type 0 where
+  pub place : ℕ
+  pub within : place < length lists
+  pub before : List Entry
+  pub after : List R
+  pub stands : slice_index_or lists place [] ≡ all_ok before ++ Err e ∷ after
+  pub gave : IsWithinBag (but_last before) given
+
+-- so does each error among answers, of which these entries were given earlier
+abbrev pub ErrorsComeLate : List (List R) → List Entry → List (Option R) → Type 0
+ErrorsComeLate lists given [] = Unit {0}
+ErrorsComeLate lists given (None ∷ rs) = ErrorsComeLate lists given rs
+ErrorsComeLate lists given (Some (Ok x) ∷ rs) = ErrorsComeLate lists (x ∷ given) rs
+ErrorsComeLate lists given (Some (Err e) ∷ rs) = ComesLate lists given e
+
+-- whatever error is answered, a list is no longer followed
+abbrev pub every_error : Error → Bool
+every_error e = true
+
+module _ {S : Type 0} (front back : S → Option R → S → Type 0) where
+  -- each source deals one of these lists, which are sorted
+  pub record DealSorted (stops : Error → Bool) (its : List S) (lists : List (List R)) : Type 0 where
+    pub deal : AllZip (Deals (stopped stops) front back) its lists
+    pub ascend : AllByRecursion (λ rs. Ascends (entries_of rs)) lists
+
+  -- what sorted sources have together is dealt in order, where they have no errors
+  pub record DealsMerged {T : Type 0} (its : List S) (next next_back : T → Option R → T → Type 0) (m : T) : Type 0 where
+    pub deals : (stops : Error → Bool) (lists : List (List R)) → DealSorted stops its lists → all_errors lists ≡ []
+        → Deals (stopped stops) next next_back m (all_ok (merged lists))
+
+  -- whatever errors are among it, as long as none of them is the answer
+  pub record DealsBeforeErrors {T : Type 0} (its : List S) (next next_back : T → Option R → T → Type 0) (m : T) : Type 0 where
+    pub deals : (stops : Error → Bool) (lists : List (List R)) → DealSorted stops its lists
+        → Deals (stopped every_error) next next_back m (all_ok (merged lists))
+
+  -- with errors among it, up to one of them
+  pub record DealsUntilError {T : Type 0} (its : List S) (next next_back : T → Option R → T → Type 0) (m : T) : Type 0 where
+    pub deals : (stops : Error → Bool) (lists : List (List R)) → DealSorted stops its lists
+        → DealsUntil stops next next_back m (merged lists) (all_errors lists)
+
+  -- calls at the front alone meet an error only once all entries before it were given, but for the last
+  pub record MeetsErrorsLate {T : Type 0} (its : List S) (next : T → Option R → T → Type 0) (m : T) : Type 0 where
+    pub meets : (stops : Error → Bool) (lists : List (List R)) → DealSorted stops its lists
+        → (ends : List Direction) (rs : List (Option R)) (t : T) → Runs next nowhere m ends rs t
+        → NoneStops (stopped stops) rs → ErrorsComeLate lists [] rs
+
+  -- where the sources may be asked and end, so may the merger be asked
+  pub record CanMerge {T : Type 0} (can can_back : S → Type 0) (left : S → Count) (its : List S) (next next_back : T → Option R → T → Type 0) (can_next can_next_back : T → Type 0) (m : T) : Type 0 where
+    pub asks : All (CanDeal front back can can_back) its → All (λ s. IsFinite (left s)) its
+        → CanDeal next next_back can_next can_next_back m

@@ -1,0 +1,74 @@
+-- Sorted lists of entries, and lists with the same entries.
+use Rattle.std.specs.Prelude.{◌≡◌, ◌<◌, Bool, true, false, cond, not, List, [], ◌∷◌, ◌++◌, filter, count_by, Ok, Err}
+use Rattle.std.specs.declared.cmp.Ordering.{Ordering}
+use Rattle.std.specs.List.{AllByRecursion}
+use Rattle.std.specs.Ordering.{ordering_then, is_gt, nat_cmp}
+use Rattle.sst_entries.specs.Entry.{Entry}
+use Rattle.sst_entries.specs.Kind.{tag_of}
+use Rattle.sst_entries.specs.Key.{same_key}
+use Rattle.std.specs.Cmp.Lexicographic.{slice_cmp}
+use Rattle.sst_entries.specs.declared.error.Error.{Error}
+use Rattle.lsm_merge.specs.Ends.{R}
+
+-- key up, number down, kind
+abbrev pub item_cmp : Entry → Entry → Ordering
+item_cmp a b = ordering_then (slice_cmp nat_cmp a.user_key b.user_key) (ordering_then (nat_cmp b.seqno a.seqno) (nat_cmp (tag_of a.kind) (tag_of b.kind)))
+
+abbrev pub AtMost : Entry → Entry → Type 0
+AtMost x y = is_gt (item_cmp x y) ≡ false
+
+-- no entry is smaller than an earlier one
+abbrev pub Ascends : List Entry → Type 0
+Ascends [] = Unit {0}
+Ascends (x ∷ xs) = AllByRecursion (AtMost x) xs × Ascends xs
+
+-- each entry is as often in one as in the other: every test passes equally often
+pub record SameBag {A : Type 0} (xs ys : List A) : Type 0 where
+  pub count : (p : A → Bool) → count_by p xs ≡ count_by p ys
+
+-- x is among xs
+pub record IsAmong {A : Type 0} (x : A) (xs : List A) : Type 0 where
+  pub at : (p : A → Bool) → p x ≡ true → 0 < count_by p xs
+
+-- the entries of lists of results, and their errors
+abbrev pub entries_of : List R → List Entry
+entries_of [] = []
+entries_of (Ok x ∷ rs) = x ∷ entries_of rs
+entries_of (Err e ∷ rs) = entries_of rs
+
+abbrev pub errors_of : List R → List Error
+errors_of [] = []
+errors_of (Ok x ∷ rs) = errors_of rs
+errors_of (Err e ∷ rs) = e ∷ errors_of rs
+
+abbrev pub all_entries : List (List R) → List Entry
+all_entries [] = []
+all_entries (rs ∷ rss) = entries_of rs ++ all_entries rss
+
+abbrev pub all_errors : List (List R) → List Error
+all_errors [] = []
+all_errors (rs ∷ rss) = errors_of rs ++ all_errors rss
+
+-- a sorted list that has each entry as often as the lists have it together
+pub record IsUnion (lists : List (List R)) (xs : List Entry) : Type 0 where
+  pub ascends : Ascends xs
+  pub same : SameBag xs (all_entries lists)
+
+-- the entries with no earlier entry of their key
+abbrev pub newest : List Entry → List Entry
+newest [] = []
+newest (x ∷ xs) = x ∷ filter (λ y. not (same_key y.user_key x.user_key)) (newest xs)
+
+-- x put before the first of xs that it is not above
+abbrev pub inserted : Entry → List Entry → List Entry
+inserted x [] = x ∷ []
+inserted x (y ∷ ys) = cond (is_gt (item_cmp x y)) (y ∷ inserted x ys) (x ∷ y ∷ ys)
+
+-- the entries sorted; those that tie stay as they stand
+abbrev pub in_order : List Entry → List Entry
+in_order [] = []
+in_order (x ∷ xs) = inserted x (in_order xs)
+
+-- the entries of all lists sorted; those that tie, list by list
+abbrev pub merged : List (List R) → List Entry
+merged lists = in_order (all_entries lists)

@@ -1,0 +1,4 @@
+pub mod Numbers
+pub mod FnvLemmas
+pub mod TrailerLemmas
+pub mod SectionLaws

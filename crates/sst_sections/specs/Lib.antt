@@ -1,0 +1,4 @@
+pub mod Number
+pub mod Version
+pub mod Fnv
+pub mod Sections

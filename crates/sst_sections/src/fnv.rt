@@ -1,0 +1,75 @@
+//! FNV-1a in 64 bits: <http://www.isthe.com/chongo/tech/comp/fnv/>.
+//!
+//! Each byte waits for the one before it, so a hash costs the latency of a multiplication a byte. Two hashes in one loop cost
+//! no more than one: [`update_both`].
+ghost use Rattle.std.specs.Prelude.{◌≡◌};
+ghost use Rattle.sst_sections.specs.Fnv.{fnv_basis, fnv_from, fnv_step};
+
+const BASIS: u64 = 0xcbf2_9ce4_8422_2325;
+
+const PRIME: u64 = 0x0100_0000_01b3;
+
+/// A running hash.
+#[derive(Clone, Copy, Debug, PartialEq, Eq)]
+pub struct Fnv1a(u64);
+
+impl Fnv1a {
+    /// The hash of no bytes.
+    pub fn new() -> Fnv1a
+        ensures { result.0 ≡ fnv_basis }
+    {
+        Fnv1a(BASIS)
+    }
+
+    /// Hashes some more bytes.
+    pub fn update(&mut self, bytes: &[u8])
+        ensures { self.new.0 ≡ fnv_from self.old.0 bytes.now }
+    {
+        let mut hash = self.0;
+        for byte in bytes {
+            hash = step(hash, *byte);
+        }
+        self.0 = hash;
+    }
+
+    /// The hash of the bytes so far.
+    pub fn finish(self) -> u64
+        ensures { result ≡ self.0 }
+    {
+        self.0
+    }
+}
+
+/// As [`Fnv1a::update`] of each, in one loop as far as the shorter of the two reaches.
+pub fn update_both(first: &mut Fnv1a, first_bytes: &[u8], second: &mut Fnv1a, second_bytes: &[u8])
+    ensures first { first.new.0 ≡ fnv_from first.old.0 first_bytes.now }
+    ensures second { second.new.0 ≡ fnv_from second.old.0 second_bytes.now }
+{
+    let both = first_bytes.len().min(second_bytes.len());
+    let mut one = first.0;
+    let mut other = second.0;
+    for i in 0..both {
+        one = step(one, first_bytes[i]);
+        other = step(other, second_bytes[i]);
+    }
+    *first = Fnv1a(one);
+    *second = Fnv1a(other);
+    first.update(&first_bytes[both..]);
+    second.update(&second_bytes[both..]);
+}
+
+#[inline(always)]
+fn step(hash: u64, byte: u8) -> u64
+    ensures { result ≡ fnv_step hash byte }
+{
+    (hash ^ u64::from(byte)).wrapping_mul(PRIME)
+}
+
+/// The FNV-1a hash of some bytes: of a key, as filters store it.
+pub fn hash(bytes: &[u8]) -> u64
+    ensures { result ≡ fnv_from fnv_basis bytes.now }
+{
+    let mut hash = Fnv1a::new();
+    hash.update(bytes);
+    hash.finish()
+}

@@ -1,0 +1,20 @@
+//! The bytes of a table as sections, the numbers in them and their hash. What `sst_entries` exports is passed on.
+#![tactic(auto)]
+
+mod checksum;
+pub mod fnv;
+pub mod number;
+mod section;
+mod toc;
+mod version;
+
+pub use checksum::Checksum;
+pub use fnv::hash;
+pub use section::{Section, SectionName, SectionWriter, TRAILER_LEN};
+pub use sst_entries::{
+    Direction, Error, InternalKey, InternalValue, IterItem, SeqNo, Slice, TagName, UserKey,
+    UserValue, ValueType, answer_at, answers_at, are_strict, compare_versions, from_the_front,
+    source_of,
+};
+pub use toc::Toc;
+pub use version::TableVersion;
