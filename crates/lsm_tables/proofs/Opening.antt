@@ -11,15 +11,16 @@ use Rattle.sst_sections.specs.Fnv.{fnv1a}
 use Rattle.sst_sections.specs.declared.version.TableVersion.TheVariants.{V4}
 use Rattle.sst_entries.specs.Point.{point}
 use Rattle.sst_entries.specs.Stream.{Deals, all_ok, nowhere, stopped}
-use Rattle.lsm_writers.specs.Facts.{highest_seqno}
-use Rattle.lsm_writers.specs.Options.{Options, Label, default_options}
-use Rattle.lsm_writers.specs.Table.{IsTable}
+use Rattle.lsm_files.specs.Facts.{highest_seqno}
+use Rattle.lsm_files.specs.Options.{Options, Label, default_options}
+use Rattle.lsm_files.specs.Table.{IsTable}
 use Rattle.lsm_writers.specs.Writing.{IsTableOf, list_fault}
-use Rattle.lsm_tables.specs.OfList.{IsOpened, ReadsList, list_told, number_fault, opening_fault, parts_said}
-use Rattle.lsm_tables.specs.Answer.{lift}
-use Rattle.lsm_tables.specs.Parts.{Parts}
-use Rattle.lsm_tables.specs.Scan.{Scan, ScansNext}
-use Rattle.lsm_tables.specs.TableSeen.{TableSeen}
+use Rattle.lsm_readers.specs.OfList.{list_told, parts_said}
+use Rattle.lsm_tables.specs.Written.{IsOpened, ReadsList, number_fault, opening_fault}
+use Rattle.lsm_readers.specs.Answer.{lift}
+use Rattle.lsm_readers.specs.Parts.{Parts}
+use Rattle.lsm_readers.specs.Scan.{Scan, ScansNext}
+use Rattle.lsm_readers.specs.TableSeen.{TableSeen}
 
 fine_by : (large : Bool) (p q : Parts) → cond large (Err GlobalSeqNoTooLarge) (Ok p) ≡ Ok q → cond large (Some GlobalSeqNoTooLarge) None ≡ None
 fine_by true p q told = absurd cc

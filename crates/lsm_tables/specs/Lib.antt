@@ -1,13 +1,1 @@
-pub mod Told
-pub mod Regions
-pub mod ItemName
-pub mod Meta
-pub mod Load
-pub mod Parts
-pub mod Seen
-pub mod Answer
-pub mod TableSeen
-pub mod Handled
-pub mod OfList
-pub mod Scan
-pub mod Range
+pub mod Written

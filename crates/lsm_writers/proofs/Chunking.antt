@@ -6,7 +6,7 @@ use Rattle.std.proofs.lemmas.List.{take_all, append-nil}
 use Rattle.std.proofs.lemmas.List.Concat.{flat_map-append}
 use Rattle.std.proofs.lemmas.Bool.{eq-eqb, ne_eqb}
 use Rattle.sst_entries.specs.Entry.{Entry}
-use Rattle.lsm_writers.specs.Chunks.{joined, is_full, is_spilled, ends_after, IsChunk, Ends, AreChunksFrom, AreChunks}
+use Rattle.lsm_files.specs.Chunks.{joined, is_full, is_spilled, ends_after, IsChunk, Ends, AreChunksFrom, AreChunks}
 use Rattle.lsm_writers.specs.Cut.{rest_of}
 use Rattle.lsm_writers.specs.Held.{IsShortest}
 use Rattle.lsm_writers.specs.Writing.{early_ends}

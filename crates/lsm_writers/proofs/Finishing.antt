@@ -17,16 +17,16 @@ use Rattle.sst_sections.specs.Number.{le4, le8, le16}
 use Rattle.sst_entries.specs.Strict.{IsStrictAfter, IsStrict, last_of}
 use Rattle.sst_sections.proofs.Numbers.{wide4, wide8}
 use Rattle.lsm_writers.specs.declared.writer.meta.Metadata.{Metadata}
-use Rattle.lsm_writers.specs.Chunks.{joined, entry_size, size_of, is_full, AreChunks}
+use Rattle.lsm_files.specs.Chunks.{joined, entry_size, size_of, is_full, AreChunks}
 use Rattle.lsm_writers.specs.Counts.{metadata_of, counted_facts}
 use Rattle.lsm_writers.specs.Cut.{rest_of}
-use Rattle.lsm_writers.specs.Facts.{Facts, first_key, last_key}
-use Rattle.lsm_writers.specs.File.{counted_blocks, file}
-use Rattle.lsm_writers.specs.Fits.{EntryFits, BlockFits, LabelFits, Fits}
+use Rattle.lsm_files.specs.Facts.{Facts, first_key, last_key}
+use Rattle.lsm_files.specs.File.{counted_blocks, file}
+use Rattle.lsm_files.specs.Fits.{EntryFits, BlockFits, LabelFits, Fits}
 use Rattle.lsm_writers.specs.Held.{IsShortest, IsHeld}
-use Rattle.lsm_writers.specs.Index.{handles, handles_from, last_entry, block_size}
-use Rattle.lsm_writers.specs.MetaBlock.{Blocks, meta_entry, meta_items, meta_entries}
-use Rattle.lsm_writers.specs.Options.{Options, Label}
+use Rattle.lsm_files.specs.Index.{handles, handles_from, last_entry, block_size}
+use Rattle.lsm_files.specs.MetaBlock.{Blocks, meta_entry, meta_items, meta_entries}
+use Rattle.lsm_files.specs.Options.{Options, Label}
 use Rattle.lsm_writers.specs.Registered.{failed_fault}
 use Rattle.lsm_writers.specs.Writing.{Writing, written, spilled, blocks_of, spills_of, finish_fault, IsFinished}
 use Rattle.lsm_writers.proofs.Chunking.{are_chunks}

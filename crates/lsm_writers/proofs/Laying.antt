@@ -3,7 +3,7 @@ use Rattle.std.proofs.Common.{◌≡◌, refl, ◌∙◌, ap, ℕ, ◌+◌, List
 use Rattle.std.specs.List.{flat_map}
 use Rattle.std.proofs.lemmas.List.Concat.{flat_map-append}
 use Rattle.sst_sections.specs.declared.section.SectionName.{SectionName}
-use Rattle.lsm_writers.specs.Layout.{Sections, starts_from, laid}
+use Rattle.lsm_files.specs.Layout.{Sections, starts_from, laid}
 use Rattle.lsm_writers.specs.Registered.{appended}
 
 abbrev pub bytes_in : Sections → List ℕ

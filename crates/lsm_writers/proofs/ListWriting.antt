@@ -12,10 +12,10 @@ use Rattle.sst_entries.specs.declared.error.Error.{Error}
 use Rattle.sst_entries.proofs.Booleans.{and_both, and_parts}
 use Rattle.sst_entries.proofs.Lists.{all_behind}
 use Rattle.lsm_writers.specs.declared.writer.FinishedTable.{FinishedTable}
-use Rattle.lsm_writers.specs.Options.{Options, Label, default_options}
-use Rattle.lsm_writers.specs.Table.{IsTable}
+use Rattle.lsm_files.specs.Options.{Options, Label, default_options}
+use Rattle.lsm_files.specs.Table.{IsTable}
 use Rattle.lsm_writers.specs.Writing.{follows, gained, written, finished_table, IsFinished, IsTableOf, IsWritable, Writing}
-use Rattle.lsm_writers.specs.Chunks.{joined, is_full}
+use Rattle.lsm_files.specs.Chunks.{joined, is_full}
 use Rattle.lsm_writers.proofs.Cutting.{joined_more}
 use Rattle.lsm_writers.proofs.Orders.{strict_back, ends_follow}
 

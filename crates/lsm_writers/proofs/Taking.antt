@@ -11,16 +11,16 @@ use Rattle.sst_entries.specs.declared.error.Error.TheVariants.{KeyTooLong, Value
 use Rattle.sst_blocks.specs.Bounds.{data_block_bound_of, entry_bound}
 use Rattle.sst_blocks.specs.Encoding.{is_long_key, length_fault, entries_fault, large_fault}
 use Rattle.sst_entries.specs.Entry.{Entry, entry}
-use Rattle.lsm_writers.specs.Chunks.{joined, entry_size, size_of, is_full}
+use Rattle.lsm_files.specs.Chunks.{joined, entry_size, size_of, is_full}
 use Rattle.sst_entries.specs.Strict.{IsStrictAfter, IsStrict, last_of}
 use Rattle.sst_entries.specs.declared.value_type.ValueType.TheVariants.{Value}
 use Rattle.sst_sections.specs.declared.version.TableVersion.TheVariants.{V4}
 use Rattle.lsm_writers.specs.declared.writer.meta.Metadata.{Metadata}
 use Rattle.lsm_writers.specs.Counts.{no_counts, metadata_of, counted, HasRoom}
 use Rattle.lsm_writers.specs.Cut.{Cut, rest_of, with_cut}
-use Rattle.lsm_writers.specs.Facts.{count_after, lowest_seqno, highest_seqno, is_tombstone, is_weak, is_reclaimable, starts_key, one_if, first_key}
-use Rattle.lsm_writers.specs.Fits.{EntryFits, LabelFits}
-use Rattle.lsm_writers.specs.Options.{Label}
+use Rattle.lsm_files.specs.Facts.{count_after, lowest_seqno, highest_seqno, is_tombstone, is_weak, is_reclaimable, starts_key, one_if, first_key}
+use Rattle.lsm_files.specs.Fits.{EntryFits, LabelFits}
+use Rattle.lsm_files.specs.Options.{Label}
 use Rattle.lsm_writers.specs.Held.{IsOpen, IsHeld, CanGoOn, IsShortest}
 use Rattle.lsm_writers.specs.Writing.{item_fault, follows}
 use Rattle.lsm_writers.proofs.Cutting.{joined_more}

@@ -5,9 +5,9 @@ use Rattle.sst_sections.specs.declared.version.TableVersion.{TableVersion}
 use Rattle.sst_entries.specs.Entry.{Entry}
 use Rattle.sst_blocks.specs.Payload.{payload}
 use Rattle.lsm_writers.specs.declared.writer.meta.Metadata.{Metadata}
-use Rattle.lsm_writers.specs.Chunks.{joined}
-use Rattle.lsm_writers.specs.Facts.{Facts, is_tombstone, is_weak, starts_key, is_reclaimable, one_if, count_after, lowest_seqno, highest_seqno, first_key, last_key}
-use Rattle.lsm_writers.specs.Index.{data_section}
+use Rattle.lsm_files.specs.Chunks.{joined}
+use Rattle.lsm_files.specs.Facts.{Facts, is_tombstone, is_weak, starts_key, is_reclaimable, one_if, count_after, lowest_seqno, highest_seqno, first_key, last_key}
+use Rattle.lsm_files.specs.Index.{data_section}
 
 -- nothing was written
 abbrev pub no_counts : {A : Type 0} → Metadata A

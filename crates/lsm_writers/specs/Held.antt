@@ -5,10 +5,10 @@ use Rattle.sst_sections.specs.declared.version.TableVersion.TheVariants.{V4}
 use Rattle.sst_entries.specs.Entry.{Entry}
 use Rattle.sst_entries.specs.Strict.{IsStrict}
 use Rattle.lsm_writers.specs.declared.writer.meta.Metadata.{Metadata}
-use Rattle.lsm_writers.specs.Chunks.{joined, size_of, is_full}
+use Rattle.lsm_files.specs.Chunks.{joined, size_of, is_full}
 use Rattle.lsm_writers.specs.Counts.{metadata_of}
 use Rattle.lsm_writers.specs.Cut.{Cut}
-use Rattle.lsm_writers.specs.Fits.{EntryFits}
+use Rattle.lsm_files.specs.Fits.{EntryFits}
 
 -- no shorter front of a chunk is full
 pub record IsShortest (size : ℕ) (c : List Entry) : Type 0 where

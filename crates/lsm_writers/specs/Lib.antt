@@ -1,12 +1,3 @@
-pub mod Chunks
-pub mod Index
-pub mod Facts
-pub mod Options
-pub mod Layout
-pub mod Fits
-pub mod MetaBlock
-pub mod File
-pub mod Table
 pub mod Counts
 pub mod Cut
 pub mod Writing

@@ -12,7 +12,7 @@ use Rattle.sst_blocks.specs.Encoding.{handles_fault}
 use Rattle.sst_blocks.specs.Handle.{Handle}
 use Rattle.sst_blocks.specs.Handles.{handles_payload}
 use Rattle.sst_sections.specs.Sections.{Written, place_of}
-use Rattle.lsm_writers.specs.Layout.{Sections, starts_from}
+use Rattle.lsm_files.specs.Layout.{Sections, starts_from}
 
 -- the handles that were registered, and whether the writer has refused
 pub record Registered : Type 0 where

@@ -10,14 +10,14 @@ use Rattle.sst_blocks.specs.Bounds.{data_block_bound_of, index_block_bound_of}
 use Rattle.sst_blocks.specs.Encoding.{is_long_key, large_fault}
 use Rattle.sst_entries.specs.Entry.{Entry, entry}
 use Rattle.sst_entries.specs.Strict.{IsStrict, may_follow, last_of}
-use Rattle.lsm_writers.specs.Chunks.{joined, is_full}
+use Rattle.lsm_files.specs.Chunks.{joined, is_full}
 use Rattle.lsm_writers.specs.Cut.{rest_of}
-use Rattle.lsm_writers.specs.Index.{handles}
+use Rattle.lsm_files.specs.Index.{handles}
 use Rattle.sst_sections.specs.Fnv.{fnv1a}
-use Rattle.lsm_writers.specs.File.{IsFile}
-use Rattle.lsm_writers.specs.Fits.{Fits}
-use Rattle.lsm_writers.specs.Table.{IsTable}
-use Rattle.lsm_writers.specs.Options.{Options, Label, default_options}
+use Rattle.lsm_files.specs.File.{IsFile}
+use Rattle.lsm_files.specs.Fits.{Fits}
+use Rattle.lsm_files.specs.Table.{IsTable}
+use Rattle.lsm_files.specs.Options.{Options, Label, default_options}
 
 -- the chunks whose blocks were cut, the entries of the next block, and whether the writer has refused
 pub record Writing : Type 0 where

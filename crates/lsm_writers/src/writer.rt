@@ -5,15 +5,15 @@ ghost use Rattle.sst_entries.specs.declared.error.Error.TheVariants.{OutOfMemory
 ghost use Rattle.sst_sections.specs.declared.version.TableVersion.TheVariants.{V4};
 ghost use Rattle.sst_entries.specs.Error.{Faults, FaultsFirst};
 ghost use Rattle.sst_entries.specs.Strict.{IsStrict, last_of};
-ghost use Rattle.lsm_writers.specs.Chunks.{entry_size, size_of};
-ghost use Rattle.lsm_writers.specs.Options.{default_options};
+ghost use Rattle.lsm_files.specs.Chunks.{entry_size, size_of};
+ghost use Rattle.lsm_files.specs.Options.{default_options};
 ghost use Rattle.lsm_writers.specs.Counts.{metadata_of, counted, HasRoom};
 ghost use Rattle.lsm_writers.specs.Writing.{written, IsFresh, follows, write_fault, item_fault, gained, spilled, finish_fault, IsFinished};
 ghost use Rattle.std.specs.List.{AllByRecursion};
 ghost use Rattle.lsm_writers.specs.Registered.{failed_fault};
-ghost use Rattle.lsm_writers.specs.File.{file};
-ghost use Rattle.lsm_writers.specs.Fits.{BlockFits, EntryFits, LabelFits};
-ghost use Rattle.lsm_writers.specs.Index.{handles};
+ghost use Rattle.lsm_files.specs.File.{file};
+ghost use Rattle.lsm_files.specs.Fits.{BlockFits, EntryFits, LabelFits};
+ghost use Rattle.lsm_files.specs.Index.{handles};
 ghost use Rattle.sst_blocks.specs.Bounds.{index_block_bound_of};
 ghost use Rattle.sst_blocks.specs.Encoding.{large_fault};
 ghost use Rattle.sst_sections.specs.Fnv.{fnv1a};
@@ -53,7 +53,7 @@ pub struct Writer<A: Allocator = Global> {
 
 impl<A: Allocator> Model for Writer<A> {
     ghost use Rattle.lsm_writers.specs.Writing.{Writing};
-    ghost use Rattle.lsm_writers.specs.Fits.{LabelFits};
+    ghost use Rattle.lsm_files.specs.Fits.{LabelFits};
     ghost use Rattle.lsm_writers.specs.Held.{IsHeld, CanGoOn};
 
     ghost Value = { Writing };

@@ -7,15 +7,15 @@ use Rattle.sst_entries.specs.declared.error.Error.{Error}
 use Rattle.sst_entries.specs.declared.error.Error.TheVariants.{GlobalSeqNoTooLarge, OutOfMemory}
 use Rattle.sst_entries.specs.Entry.{Entry}
 use Rattle.sst_entries.specs.Error.{Gives, is_memory}
-use Rattle.lsm_writers.specs.Facts.{highest_seqno}
-use Rattle.lsm_writers.specs.Fits.{EntryFits}
-use Rattle.lsm_writers.specs.Options.{Options, Label}
-use Rattle.lsm_writers.specs.Table.{IsTable}
-use Rattle.lsm_tables.specs.OfList.{list_told, parts_said}
-use Rattle.lsm_tables.specs.Parts.{Parts}
-use Rattle.lsm_tables.specs.TableSeen.{TableSeen}
-use Rattle.lsm_tables.proofs.FileLengths.{highest_below}
-use Rattle.lsm_tables.proofs.Scans.{memory_is}
+use Rattle.lsm_files.specs.Facts.{highest_seqno}
+use Rattle.lsm_files.specs.Fits.{EntryFits}
+use Rattle.lsm_files.specs.Options.{Options, Label}
+use Rattle.lsm_files.specs.Table.{IsTable}
+use Rattle.lsm_readers.specs.OfList.{list_told, parts_said}
+use Rattle.lsm_readers.specs.Parts.{Parts}
+use Rattle.lsm_readers.specs.TableSeen.{TableSeen}
+use Rattle.lsm_readers.proofs.FileLengths.{highest_below}
+use Rattle.lsm_readers.proofs.Scans.{memory_is}
 
 -- without a global number every number fits
 low : (label : Label) (options : Options) (bytes : List ℕ) (es : List Entry) → IsTable label options bytes es → ltb (2 ^ 64 - 1) (highest_seqno es + 0) ≡ false

@@ -9,11 +9,11 @@ use Rattle.sst_entries.specs.Strict.{last_of, IsStrict, IsStrictAfter}
 use Rattle.sst_entries.specs.declared.error.Error.{Error}
 use Rattle.sst_sections.specs.declared.version.TableVersion.TheVariants.{V4}
 use Rattle.lsm_writers.specs.declared.writer.FinishedTable.{FinishedTable}
-use Rattle.lsm_writers.specs.File.{IsFile}
-use Rattle.lsm_writers.specs.Fits.{Fits}
-use Rattle.lsm_writers.specs.Options.{Options, Label, default_options, label_of}
+use Rattle.lsm_files.specs.File.{IsFile}
+use Rattle.lsm_files.specs.Fits.{Fits}
+use Rattle.lsm_files.specs.Options.{Options, Label, default_options, label_of}
 use Rattle.lsm_writers.specs.Writing.{follows, gained, written, spills_of, IsFinished, Writing}
-use Rattle.lsm_writers.specs.Chunks.{joined, is_full}
+use Rattle.lsm_files.specs.Chunks.{joined, is_full}
 use Rattle.sst_entries.proofs.Lists.{all_append, all_behind}
 use Rattle.lsm_writers.proofs.Orders.{strict_back, ends_follow}
 use Rattle.lsm_writers.proofs.Taking.{strict_gained}

@@ -5,7 +5,7 @@ use Rattle.sst_entries.specs.declared.error.Error.{Error}
 use Rattle.sst_entries.specs.declared.error.Error.TheVariants.{OutOfMemory, TableIdsSpent}
 use Rattle.sst_entries.specs.Entry.{Entry}
 use Rattle.sst_entries.specs.Error.{is_memory, Fails}
-use Rattle.lsm_tables.specs.TableSeen.{TableSeen}
+use Rattle.lsm_readers.specs.TableSeen.{TableSeen}
 use Rattle.sst.specs.declared.stop.Failure.TheVariants.{Refused}
 use Rattle.sst.specs.Pending.{table_fault}
 use Rattle.sst.specs.Script.{repeated_told, IsUnwritten, RefusesTable}

@@ -7,10 +7,10 @@ use Rattle.sst_sections.specs.declared.version.TableVersion.TheVariants.{V4}
 use Rattle.sst_entries.specs.Entry.{Entry}
 use Rattle.sst_sections.specs.Fnv.{fnv1a}
 use Rattle.sst_entries.specs.Strict.{IsStrict}
-use Rattle.lsm_writers.specs.File.{IsFile}
-use Rattle.lsm_writers.specs.Fits.{Fits}
-use Rattle.lsm_writers.specs.Options.{default_options, label_of}
-use Rattle.lsm_writers.specs.Table.{IsTable}
+use Rattle.lsm_files.specs.File.{IsFile}
+use Rattle.lsm_files.specs.Fits.{Fits}
+use Rattle.lsm_files.specs.Options.{default_options, label_of}
+use Rattle.lsm_files.specs.Table.{IsTable}
 use Rattle.lsm_writers.specs.Writing.{Writing, write_fault, finish_fault, gained}
 
 -- an entry is numbered below the largest number

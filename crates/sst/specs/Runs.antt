@@ -3,9 +3,9 @@ use Rattle.std.specs.Prelude.{ℕ, ◌+◌, ◌==◌, Bool, true, false, nat_lt,
 use Rattle.sst_entries.specs.declared.error.Error.{Error}
 use Rattle.sst_entries.specs.Entry.{Entry}
 use Rattle.sst_sections.specs.Sections.{body_of}
-use Rattle.lsm_tables.specs.Answer.{answer_told}
-use Rattle.lsm_tables.specs.TableSeen.{TableSeen}
-use Rattle.lsm_tables.specs.Told.{◌>>=◌}
+use Rattle.lsm_readers.specs.Answer.{answer_told}
+use Rattle.lsm_readers.specs.TableSeen.{TableSeen}
+use Rattle.lsm_readers.specs.Told.{◌>>=◌}
 
 -- what a point read of one run answers
 abbrev pub run_told : List ℕ → ℕ → TableSeen → Result (Option Entry) Error

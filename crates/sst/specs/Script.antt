@@ -6,12 +6,12 @@ use Rattle.sst_sections.specs.declared.version.TableVersion.TheVariants.{V4}
 use Rattle.sst_sections.specs.Fnv.{fnv1a}
 use Rattle.sst_entries.specs.Entry.{Entry, entry}
 use Rattle.sst_entries.specs.Error.{Fails}
-use Rattle.lsm_writers.specs.File.{IsFile}
-use Rattle.lsm_writers.specs.Options.{default_options}
+use Rattle.lsm_files.specs.File.{IsFile}
+use Rattle.lsm_files.specs.Options.{default_options}
 use Rattle.lsm_writers.specs.Writing.{follows}
-use Rattle.lsm_tables.specs.Parts.{recovered_told}
-use Rattle.lsm_tables.specs.TableSeen.{TableSeen}
-use Rattle.lsm_tables.specs.Told.{◌>>=◌}
+use Rattle.lsm_readers.specs.Parts.{recovered_told}
+use Rattle.lsm_readers.specs.TableSeen.{TableSeen}
+use Rattle.lsm_readers.specs.Told.{◌>>=◌}
 use Rattle.sst.specs.declared.command.Command.{Command}
 use Rattle.sst.specs.declared.command.Command.TheVariants.{Entry as Add, Table, Get}
 use Rattle.sst.specs.declared.print.Answer.{Answer}

@@ -3,10 +3,10 @@ ghost use Rattle.std.specs.Prelude.{◌≡◌, ◌-◌, ◌<◌, ◌^◌, Bool, 
 ghost use Rattle.sst_entries.specs.declared.error.Error.TheVariants.{OutOfMemory};
 ghost use Rattle.sst_entries.specs.Entry.{Entry};
 ghost use Rattle.sst_entries.specs.Error.{Gives};
-ghost use Rattle.lsm_writers.specs.Options.{Label, Options};
-ghost use Rattle.lsm_writers.specs.Table.{IsTable};
-ghost use Rattle.lsm_tables.specs.Parts.{recovered_told};
-ghost use Rattle.lsm_tables.specs.TableSeen.{TableSeen};
+ghost use Rattle.lsm_files.specs.Options.{Label, Options};
+ghost use Rattle.lsm_files.specs.Table.{IsTable};
+ghost use Rattle.lsm_readers.specs.Parts.{recovered_told};
+ghost use Rattle.lsm_readers.specs.TableSeen.{TableSeen};
 ghost use Rattle.sst.specs.Runs.{newer_of, newest_told, held_told};
 
 use lsm_tables::Table;

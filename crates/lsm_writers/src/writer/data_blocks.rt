@@ -10,14 +10,14 @@ ghost use Rattle.sst_entries.specs.Error.{Faults};
 ghost use Rattle.sst_sections.specs.Fnv.{fnv1a};
 ghost use Rattle.sst_sections.specs.Sections.{finished};
 ghost use Rattle.sst_entries.specs.Strict.{IsStrict, last_of};
-ghost use Rattle.lsm_writers.specs.Chunks.{joined};
+ghost use Rattle.lsm_files.specs.Chunks.{joined};
 ghost use Rattle.lsm_writers.specs.Cut.{Cut, CountsCut, IsReadable, with_cut, rest_of};
-ghost use Rattle.lsm_writers.specs.Fits.{BlockFits};
+ghost use Rattle.lsm_files.specs.Fits.{BlockFits};
 ghost use Rattle.std.specs.List.{AllByRecursion};
-ghost use Rattle.lsm_writers.specs.File.{end_sections, index_sections, HasNoEnd};
-ghost use Rattle.lsm_writers.specs.Index.{handles, handle_of, data_block, data_section};
+ghost use Rattle.lsm_files.specs.File.{end_sections, index_sections, HasNoEnd};
+ghost use Rattle.lsm_files.specs.Index.{handles, handle_of, data_block, data_section};
 ghost use Rattle.sst_blocks.specs.Payload.{payload};
-ghost use Rattle.lsm_writers.specs.Layout.{laid};
+ghost use Rattle.lsm_files.specs.Layout.{laid};
 ghost use Rattle.lsm_writers.specs.Registered.{appended};
 
 use crate::writer::index::{BlockIndexWriter, FullIndexWriter};
@@ -45,7 +45,7 @@ pub(crate) struct DataBlocks<A: Allocator = Global> {
 impl<A: Allocator> Model for DataBlocks<A> {
     ghost use Rattle.std.specs.Prelude.{◌*◌, ◌^◌, ◌<◌, length};
     ghost use Rattle.sst_sections.specs.declared.version.TableVersion.TheVariants.{V4};
-    ghost use Rattle.lsm_writers.specs.Chunks.{joined};
+    ghost use Rattle.lsm_files.specs.Chunks.{joined};
     ghost use Rattle.lsm_writers.specs.Cut.{Cut, chunks_in, AreCut};
 
     ghost Value = { Cut };

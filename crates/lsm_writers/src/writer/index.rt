@@ -13,7 +13,7 @@ pub trait BlockIndexWriter<A: Allocator> {
     ghost use Rattle.sst_blocks.specs.Handle.{Handle};
     ghost use Rattle.sst_blocks.specs.Handles.{AreStrictHandles};
     ghost use Rattle.sst_entries.specs.declared.error.Error.{Error};
-    ghost use Rattle.lsm_writers.specs.Layout.{Sections};
+    ghost use Rattle.lsm_files.specs.Layout.{Sections};
     ghost use Rattle.lsm_writers.specs.Registered.{HasNoIndex, appended, failed_fault};
 
     /// The handles that were registered.

@@ -3,8 +3,8 @@ ghost use Rattle.std.specs.Prelude.{◌≡◌, [], ◌∷◌, ◌++◌, unwrap_o
 ghost use Rattle.sst_entries.specs.declared.error.Error.TheVariants.{OutOfMemory};
 ghost use Rattle.sst_sections.specs.declared.version.TableVersion.TheVariants.{V4};
 ghost use Rattle.lsm_writers.specs.Counts.{counted_facts};
-ghost use Rattle.lsm_writers.specs.File.{counted_blocks};
-ghost use Rattle.lsm_writers.specs.MetaBlock.{meta_entry, block_items, key_items, option_items, count_items, meta_items};
+ghost use Rattle.lsm_files.specs.File.{counted_blocks};
+ghost use Rattle.lsm_files.specs.MetaBlock.{meta_entry, block_items, key_items, option_items, count_items, meta_items};
 
 use crate::writer::meta::Metadata;
 use crate::writer::options::WriterOptions;
@@ -22,7 +22,7 @@ pub(crate) struct TableLabel {
 }
 
 impl Model for TableLabel {
-    ghost use Rattle.lsm_writers.specs.Options.{Label};
+    ghost use Rattle.lsm_files.specs.Options.{Label};
 
     ghost Value = { Label };
 

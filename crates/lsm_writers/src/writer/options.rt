@@ -1,6 +1,6 @@
 //! What a table is written with.
 ghost use Rattle.std.specs.Prelude.{◌≡◌};
-ghost use Rattle.lsm_writers.specs.Options.{default_options};
+ghost use Rattle.lsm_files.specs.Options.{default_options};
 
 use std::marker::Model;
 
@@ -18,7 +18,7 @@ pub(crate) struct WriterOptions {
 }
 
 impl Model for WriterOptions {
-    ghost use Rattle.lsm_writers.specs.Options.{Options};
+    ghost use Rattle.lsm_files.specs.Options.{Options};
 
     ghost Value = { Options };
 

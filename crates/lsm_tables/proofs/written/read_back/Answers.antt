@@ -1,4 +1,4 @@
-use Rattle.lsm_writers.specs.Options.{default_options, label_of}
+use Rattle.lsm_files.specs.Options.{default_options, label_of}
 use Rattle.lsm_tables.proofs.Opening.{passes_on, read_alone, reads, scan_alone}
 use Rattle.lsm_tables.proofs.written.read_back.Goals as goal
 

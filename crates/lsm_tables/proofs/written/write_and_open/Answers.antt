@@ -1,5 +1,5 @@
 use Rattle.std.proofs.Common.{refl, arith}
-use Rattle.lsm_writers.specs.Options.{default_options, label_of}
+use Rattle.lsm_files.specs.Options.{default_options, label_of}
 use Rattle.lsm_tables.proofs.Opening.{none_written, opened, opens, passes_on, unopened}
 use Rattle.lsm_tables.proofs.written.write_and_open.Goals as goal
 

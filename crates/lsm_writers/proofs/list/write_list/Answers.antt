@@ -4,7 +4,7 @@ use Rattle.std.specs.Prelude.{Option, None}
 use Rattle.std.specs.Option.{option_or}
 use Rattle.sst_entries.specs.declared.error.Error.{Error}
 use Rattle.sst_entries.specs.Entry.{Entry}
-use Rattle.lsm_writers.specs.Options.{label_of}
+use Rattle.lsm_files.specs.Options.{label_of}
 use Rattle.lsm_writers.specs.Writing.{IsWritable, Writing, written, write_fault, writing_fault, follows, gained, list_fault}
 use Rattle.sst_entries.specs.Error.{is_memory, Faults}
 use Rattle.lsm_writers.proofs.ListWriting.{faults_refusal, listed_follows, written_gained, same_label, table_by}

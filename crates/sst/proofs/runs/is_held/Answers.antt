@@ -2,8 +2,8 @@ use Rattle.std.proofs.Common.{◌≡◌, ◌∙◌, ap, ℕ, ◌+◌, ◌<◌, B
 use Rattle.std.specs.Prelude.{Option, Result, Ok, if◌then◌else◌}
 use Rattle.sst_entries.specs.declared.error.Error.{Error}
 use Rattle.sst_entries.specs.Entry.{Entry}
-use Rattle.lsm_tables.specs.TableSeen.{TableSeen}
-use Rattle.lsm_tables.specs.Told.{◌>>=◌}
+use Rattle.lsm_readers.specs.TableSeen.{TableSeen}
+use Rattle.lsm_readers.specs.Told.{◌>>=◌}
 use Rattle.sst.specs.Runs.{run_told, has_number, one_has_number, held_told}
 use Rattle.sst.proofs.RunLemmas.{held_from, rest_of}
 use Rattle.sst.proofs.runs.is_held.Goals as goal

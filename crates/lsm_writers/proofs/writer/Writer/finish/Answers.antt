@@ -4,9 +4,9 @@ use Rattle.std.specs.List.{AllByRecursion}
 use Rattle.sst_blocks.specs.Bounds.{index_block_bound_of}
 use Rattle.sst_blocks.specs.Encoding.{large_fault}
 use Rattle.sst_sections.specs.declared.version.TableVersion.TheVariants.{V4}
-use Rattle.lsm_writers.specs.File.{file}
-use Rattle.lsm_writers.specs.Fits.{BlockFits, LabelFits}
-use Rattle.lsm_writers.specs.Index.{handles}
+use Rattle.lsm_files.specs.File.{file}
+use Rattle.lsm_files.specs.Fits.{BlockFits, LabelFits}
+use Rattle.lsm_files.specs.Index.{handles}
 use Rattle.lsm_writers.specs.Writing.{Writing}
 use Rattle.lsm_writers.proofs.Finishing.{spilled_is, written_none, works_still, no_finish_fault, index_fault_is, written_strict, written_fits, finished_is}
 use Rattle.lsm_writers.proofs.writer.Writer.finish.Goals as goal

@@ -1,7 +1,7 @@
 use Rattle.std.proofs.Common.{arith}
 use Rattle.sst_sections.specs.declared.version.TableVersion.TheVariants.{V4}
-use Rattle.lsm_writers.specs.Fits.{EntryFits}
-use Rattle.lsm_writers.specs.Chunks.{joined}
+use Rattle.lsm_files.specs.Fits.{EntryFits}
+use Rattle.lsm_files.specs.Chunks.{joined}
 use Rattle.sst_entries.proofs.Lists.{all_behind}
 use Rattle.lsm_writers.proofs.Taking.{no_fault}
 use Rattle.lsm_writers.proofs.writer.Writer.spill_block.Goals as goal

@@ -4,9 +4,9 @@ use Rattle.sst_sections.specs.declared.version.TableVersion.TheVariants.{V4}
 use Rattle.sst_entries.specs.Entry.{Entry}
 use Rattle.sst_sections.specs.Sections.{finished}
 use Rattle.lsm_writers.specs.Counts.{counted_facts}
-use Rattle.lsm_writers.specs.File.{file, counted_blocks, end_sections, closing_sections, index_sections}
-use Rattle.lsm_writers.specs.Index.{data_section}
-use Rattle.lsm_writers.specs.Layout.{Sections, laid}
+use Rattle.lsm_files.specs.File.{file, counted_blocks, end_sections, closing_sections, index_sections}
+use Rattle.lsm_files.specs.Index.{data_section}
+use Rattle.lsm_files.specs.Layout.{Sections, laid}
 use Rattle.lsm_writers.specs.Registered.{appended}
 use Rattle.lsm_writers.specs.Writing.{Writing}
 use Rattle.lsm_writers.proofs.Finishing.{same_items, items_strict, none_pending, held_keys, held_items_fit}

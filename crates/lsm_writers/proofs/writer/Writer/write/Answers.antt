@@ -1,6 +1,6 @@
 use Rattle.std.proofs.Common.{sym, ap, subst, ◌<◌, arith, IsTrue}
 use Rattle.std.specs.Option.{option_copied}
-use Rattle.lsm_writers.specs.Options.{Options}
+use Rattle.lsm_files.specs.Options.{Options}
 use Rattle.lsm_writers.specs.Writing.{Writing, written, follows}
 use Rattle.lsm_writers.proofs.Taking.{taken_held, held_fits, held_cut, has_room, not_full}
 use Rattle.lsm_writers.proofs.writer.Writer.write.Goals as goal

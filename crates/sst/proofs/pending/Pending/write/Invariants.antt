@@ -1,5 +1,5 @@
 use Rattle.std.proofs.Common.{◌≡◌, ◌++◌}
-use Rattle.lsm_writers.specs.Options.{default_options}
+use Rattle.lsm_files.specs.Options.{default_options}
 use Rattle.lsm_writers.specs.Writing.{written}
 use Rattle.sst.specs.Pending.{table_fault, writing_fault}
 use Rattle.sst.proofs.pending.Pending.write.Given as goal

@@ -4,8 +4,8 @@ use Rattle.std.proofs.lemmas.List.{drop_all}
 use Rattle.sst_entries.specs.declared.error.Error.{Error}
 use Rattle.sst_entries.specs.Entry.{Entry}
 use Rattle.sst_entries.specs.Error.{Fails}
-use Rattle.lsm_tables.specs.TableSeen.{TableSeen}
-use Rattle.lsm_tables.specs.Told.{◌>>=◌}
+use Rattle.lsm_readers.specs.TableSeen.{TableSeen}
+use Rattle.lsm_readers.specs.Told.{◌>>=◌}
 use Rattle.sst.specs.Runs.{held_told}
 use Rattle.sst.specs.Script.{repeated_told}
 use Rattle.sst.proofs.RefusalLemmas.{gives_refusal}

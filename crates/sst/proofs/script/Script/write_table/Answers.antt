@@ -3,7 +3,7 @@ use Rattle.std.specs.Prelude.{Some, Ok}
 use Rattle.sst_sections.specs.Fnv.{fnv1a}
 use Rattle.sst_entries.specs.declared.error.Error.TheVariants.{OutOfMemory}
 use Rattle.sst.specs.declared.stop.Failure.TheVariants.{Refused}
-use Rattle.lsm_writers.specs.Options.{default_options, label_of}
+use Rattle.lsm_files.specs.Options.{default_options, label_of}
 use Rattle.sst.specs.Pending.{as_table}
 use Rattle.sst.specs.Script.{next_id, RefusesTable}
 use Rattle.sst.proofs.RefusalLemmas.{passes}

@@ -1,7 +1,7 @@
 use Rattle.std.proofs.Common.{◌≡◌, subst}
 use Rattle.std.specs.Prelude.{IfOk}
 use Rattle.sst_sections.specs.Sections.{Written, finished}
-use Rattle.lsm_writers.specs.File.{end_sections}
+use Rattle.lsm_files.specs.File.{end_sections}
 use Rattle.lsm_writers.specs.Registered.{appended}
 use Rattle.lsm_writers.proofs.writer.data_blocks.DataBlocks.finish.Goals as goal
 

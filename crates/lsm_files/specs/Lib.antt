@@ -1,0 +1,10 @@
+pub mod Chunks
+pub mod Index
+pub mod Facts
+pub mod Options
+pub mod Layout
+pub mod Fits
+pub mod MetaBlock
+pub mod File
+pub mod Table
+pub mod ItemName

@@ -1,0 +1,16 @@
+-- A table of a list.
+use Rattle.std.specs.Prelude.{ℕ, List}
+use Rattle.sst_sections.specs.declared.version.TableVersion.{TableVersion}
+use Rattle.sst_entries.specs.Entry.{Entry}
+use Rattle.sst_entries.specs.Strict.{IsStrict}
+use Rattle.lsm_files.specs.File.{IsFile}
+use Rattle.lsm_files.specs.Fits.{Fits}
+use Rattle.lsm_files.specs.Options.{Options, Label}
+
+-- the bytes are a table of a list: the list is strict, and what the bytes hold fits
+pub record IsTable (label : Label) (options : Options) (bytes : List ℕ) (es : List Entry) : Type 0 where
+  pub version : TableVersion
+  pub spills : List ℕ
+  pub file : IsFile version bytes label options spills es
+  pub strict : IsStrict es
+  pub fits : Fits version label file.blocks

@@ -1,0 +1,208 @@
+-- What the bytes of a table of a list are recovered to.
+use Rattle.std.proofs.Common.{◌≡◌, ℕ, ◌+◌, ◌-◌, ◌^◌, ◌<◌, ◌≤◌, Bool, true, false, cond, ltb, leb, List, [], ◌∷◌, ◌++◌, length, map, refl, sym, ap, subst, ◌∙◌, append_assoc, length-append, arith, inl, inr}
+use Rattle.std.specs.Prelude.{Option, Some, None, Result, Ok, Err, unwrap_or}
+use Rattle.std.specs.List.{AllByRecursion}
+use Rattle.std.specs.Option.{option_map}
+use Rattle.std.proofs.lemmas.Bool.{cases_Bool, le-ltb}
+use Rattle.std.proofs.lemmas.List.Sums.{count_by-le-length}
+use Rattle.sst_sections.specs.declared.version.TableVersion.{TableVersion}
+use Rattle.sst_sections.specs.declared.version.TableVersion.TheVariants.{V3, V4}
+use Rattle.sst_blocks.specs.declared.block_type.BlockType.TheVariants.{Data, Index, Meta}
+use Rattle.sst_entries.specs.declared.error.Error.{Error}
+use Rattle.sst_blocks.specs.Block.{load_told}
+use Rattle.sst_entries.specs.Entry.{Entry}
+use Rattle.sst_blocks.specs.Handle.{Handle}
+use Rattle.sst_blocks.specs.Handles.{reaches, handles_payload}
+use Rattle.sst_entries.specs.Key.{same_key}
+use Rattle.sst_blocks.specs.Payload.{payload}
+use Rattle.sst_entries.specs.Point.{is_hit, point}
+use Rattle.sst_blocks.specs.Reading.{entries_in}
+use Rattle.sst_sections.specs.Sections.{finished, body_of, trailer, section_in, section_names}
+use Rattle.sst_entries.specs.Strict.{IsStrict, IsStrictAfter, last_of}
+use Rattle.sst_sections.specs.Version.{longest_key}
+use Rattle.sst_blocks.proofs.BlockLaws.{written_loads}
+use Rattle.lsm_files.specs.Chunks.{joined, AreChunksFrom}
+use Rattle.lsm_files.specs.Facts.{first_key, last_key, lowest_seqno, highest_seqno, is_tombstone, is_weak, is_reclaimable}
+use Rattle.lsm_files.specs.File.{counted_blocks, IsFile}
+use Rattle.lsm_files.specs.Index.{handles, data_block, data_section}
+use Rattle.lsm_files.specs.MetaBlock.{meta_entries}
+use Rattle.lsm_files.specs.Options.{Options, Label}
+use Rattle.lsm_files.specs.Fits.{EntryFits, BlockFits, Fits}
+use Rattle.lsm_readers.specs.Parts.{Parts, parts_told, recovered_told}
+use Rattle.lsm_readers.proofs.ChunkReads.{AreSome, length-block}
+use Rattle.lsm_readers.proofs.FileLengths.{last_fits, last_some, after_within, lowest_fits, highest_below, section_wide, chunk_reads, index_reads}
+use Rattle.lsm_readers.specs.declared.regions.ParsedRegions.{ParsedRegions}
+use Rattle.lsm_readers.specs.Load.{meta_told}
+use Rattle.lsm_readers.specs.Parts.{index_told}
+use Rattle.lsm_readers.specs.Regions.{regions_told}
+use Rattle.std.proofs.lemmas.List.Concat.{flat_map-append}
+use Rattle.lsm_readers.proofs.FileReads.{the_regions, ascending, length-body, regions_read, index_read, meta_items_read, w}
+use Rattle.lsm_readers.proofs.MetaBlocks.{meta_reads, meta_length}
+use Rattle.lsm_readers.proofs.MetaReads.{FactsFit, facts_read, interval_read, written_facts}
+use Rattle.lsm_readers.proofs.Recovered.{Steps, steps}
+use Rattle.sst_entries.specs.declared.error.Error.TheVariants.{GlobalSeqNoTooLarge}
+use Rattle.sst_sections.proofs.SectionLaws.{finished_fine}
+use Rattle.lsm_files.specs.Table.{IsTable}
+use Rattle.lsm_readers.specs.Meta.{Facts, facts_told}
+use Rattle.lsm_readers.specs.OfList.{facts_said, list_told, parts_said, regions_said}
+
+-- ---- what a list says fits
+
+first_short : (v : TableVersion) (es : List Entry) → AllByRecursion (EntryFits v) es → length (unwrap_or (first_key es) []) ≤ longest_key v
+first_short v [] fits = omega arith
+first_short v (e ∷ es) fits = (fits.0).key
+
+last_short : (v : TableVersion) (es : List Entry) → AllByRecursion (EntryFits v) es → length (unwrap_or (last_key es) []) ≤ longest_key v
+unfolding last_of
+last_short v [] fits = omega arith
+last_short v (e ∷ es) fits = rw (last_some e es) ((last_fits v e es fits).key)
+
+longest_below : (v : TableVersion) → longest_key v ≤ 1048576
+longest_below V3 = omega arith
+longest_below V4 = omega arith
+
+facts_fit : (v : TableVersion) (label : Label) (options : Options) (cs : List (List Entry)) → length (data_section v cs) < 2 ^ 63 → Fits v label cs → options.index_block_restart_interval ≡ 1 → FactsFit label options cs v counted_blocks
+facts_fit v label options cs short fits one =
+    let es = joined cs in
+    let wide = section_wide v cs in
+    record {
+      id = (fits.label_fits).id;
+      created_at = (fits.label_fits).created_at;
+      interval = one;
+      items = omega arith;
+      tombstones = omega (arith, count_by-le-length is_tombstone es);
+      weak = omega (arith, count_by-le-length is_weak es);
+      reclaimable = omega (arith, after_within is_reclaimable None es);
+      lowest = lowest_fits es;
+      highest = highest_below v es fits.entries;
+      data_blocks = omega arith;
+      index_blocks = omega arith;
+      filter_blocks = omega arith;
+      file_size = omega arith;
+    }
+
+-- ---- the parts
+
+pub ok_same : {A : Type 0} (r : Result A Error) (a b : A) → r ≡ Ok a → r ≡ Ok b → a ≡ b
+ok_same (Ok x) a b p q = let pa : x ≡ a = cc in let qb : x ≡ b = cc in sym pa ∙ qb
+ok_same (Err e) a b p q = absurd cc
+
+meta_short : (v : TableVersion) (label : Label) (options : Options) (cs : List (List Entry)) → Fits v label cs → length (payload v (meta_entries v label options cs counted_blocks)) + 24 < 2 ^ 32
+meta_short v label options cs fits =
+    omega (arith, meta_length v label options cs counted_blocks, first_short v (joined cs) fits.entries, last_short v (joined cs) fits.entries, longest_below v)
+
+abbrev written_parts : TableVersion → Label → Options → List (List Entry) → Parts
+written_parts v label options cs = record { facts = written_facts v label cs counted_blocks; regions = the_regions v label options cs; index = handles v cs }
+
+parts_eta : (p q : Parts) → p.facts ≡ q.facts → p.regions ≡ q.regions → p.index ≡ q.index → p ≡ q
+parts_eta p q f r i =
+    let made : Facts → ParsedRegions → List Handle → Parts = λ f r i. record { facts = f; regions = r; index = i } in
+    ap (λ (x : Facts). made x p.regions p.index) f ∙ ap (λ (x : ParsedRegions). made q.facts x p.index) r ∙ ap (λ (x : List Handle). made q.facts q.regions x) i
+
+module _ (v : TableVersion) (label : Label) (options : Options) (cs : List (List Entry))
+    (short : length (finished (w v label options cs)) < 2 ^ 63) (some : AreSome cs) (strict : IsStrict (joined cs)) (fits : Fits v label cs) where
+  abbrev the_bytes : List ℕ
+  the_bytes = finished (w v label options cs)
+
+  body_short : length (w v label options cs).bytes < 2 ^ 63
+  body_short = omega (arith, short, length-append (w v label options cs).bytes (trailer (w v label options cs)))
+
+  data_short : length (data_section v cs) < 2 ^ 63
+  data_short = omega (arith, body_short, length-body v label options cs)
+
+  regions_here : regions_told (map (section_in the_bytes) section_names) ≡ Ok (the_regions v label options cs)
+  regions_here =
+      let index = length-block v Index (handles_payload v (handles v cs)) in
+      let meta = length-block v Meta (payload v (meta_entries v label options cs counted_blocks)) in
+      regions_read v label options cs (omega (arith, body_short)) (omega (arith, index, fits.index)) (omega (arith, meta, meta_short v label options cs fits))
+
+  index_here : index_told (body_of the_bytes) (the_regions v label options cs) ≡ Ok (handles v cs)
+  index_here = index_read v label options cs (omega (arith, fits.index)) (index_reads v cs (omega (arith, data_short)) some strict fits.entries fits.blocks fits.index)
+
+  items_here : meta_told (body_of the_bytes) (the_regions v label options cs).metadata ≡ facts_told (meta_entries v label options cs counted_blocks)
+  items_here =
+      let key = longest_below v in
+      meta_items_read v label options cs (omega (arith, meta_short v label options cs fits))
+      (meta_reads v label options cs counted_blocks (omega (arith, first_short v (joined cs) fits.entries, key)) (omega (arith, last_short v (joined cs) fits.entries, key)))
+
+  facts_here : options.index_block_restart_interval ≡ 1 → meta_told (body_of the_bytes) (the_regions v label options cs).metadata ≡ Ok (written_facts v label cs counted_blocks)
+  facts_here one = items_here ∙ facts_read v label options cs counted_blocks (facts_fit v label options cs data_short fits one)
+
+  -- the table is recovered where the global number fits
+  pub written_recovers : (g : ℕ) → options.index_block_restart_interval ≡ 1 → recovered_told the_bytes g ≡ cond (ltb (2 ^ 64 - 1) (highest_seqno (joined cs) + g)) (Err GlobalSeqNoTooLarge) (Ok (written_parts v label options cs))
+  unfolding parts_told
+  written_recovers g one =
+      let fine = finished_fine (w v label options cs) (omega (arith, body_short)) (ascending v label options cs) in
+      elim (cases_Bool (ltb (2 ^ 64 - 1) (highest_seqno (joined cs) + g))) [
+        | inl large ↦ rw (fine, regions_here, facts_here one, large) refl
+        | inr small ↦ rw (fine, regions_here, facts_here one, small, index_here) refl
+      ]
+
+  module _ (g : ℕ) (parts : Parts) (told : recovered_told (finished (w v label options cs)) g ≡ Ok parts) where
+    the_steps : Steps the_bytes g parts
+    the_steps = steps the_bytes g parts told
+
+    pub regions_are : parts.regions ≡ the_regions v label options cs
+    regions_are = ok_same (regions_told (map (section_in the_bytes) section_names)) parts.regions (the_regions v label options cs) (the_steps.regions) regions_here
+
+    items_told : meta_told (body_of the_bytes) (the_regions v label options cs).metadata ≡ Ok parts.facts
+    items_told = ap (λ (r : ParsedRegions). meta_told (body_of the_bytes) r.metadata) (sym regions_are) ∙ the_steps.facts
+
+    interval_is : options.index_block_restart_interval ≡ 1
+    interval_is = interval_read v label options cs counted_blocks parts.facts (sym items_here ∙ items_told)
+
+    pub facts_are : parts.facts ≡ written_facts v label cs counted_blocks
+    facts_are = ok_same (meta_told (body_of the_bytes) (the_regions v label options cs).metadata) parts.facts (written_facts v label cs counted_blocks) items_told (facts_here interval_is)
+
+    pub index_is : parts.index ≡ handles v cs
+    index_is =
+        let e = ap (λ (r : ParsedRegions). index_told (body_of the_bytes) r) regions_are in
+        ok_same (index_told (body_of the_bytes) parts.regions) parts.index (handles v cs) (the_steps.index) (e ∙ index_here)
+
+    pub parts_are : parts ≡ written_parts v label options cs
+    parts_are = parts_eta parts (written_parts v label options cs) facts_are regions_are index_is
+
+-- each chunk of a cut list has an entry
+pub some_chunks : (size : ℕ) (spills : List ℕ) (at : ℕ) (cs : List (List Entry)) → AreChunksFrom size spills at cs → AreSome cs
+some_chunks size spills at [] h = tt
+some_chunks size spills at (c ∷ cs) h = ((h.0).some, some_chunks size spills (at + length c) cs h.2)
+
+-- ---- a table of a list
+
+abbrev parts_by : TableVersion → Label → Options → List (List Entry) → List Entry → Parts
+parts_by v label options cs es = record { facts = facts_said v label es (length cs) (length (data_section v cs)); regions = regions_said v label options cs; index = handles v cs }
+
+module _ (label : Label) (options : Options) (stored : List ℕ) (es : List Entry) (t : IsTable label options stored es) (short : length stored < 2 ^ 63) where
+  abbrev v : TableVersion
+  v = t.version
+
+  abbrev cs : List (List Entry)
+  cs = (t.file).blocks
+
+  short_file : length (finished (w v label options cs)) < 2 ^ 63
+  short_file = subst (λ (b : List ℕ). length b < 2 ^ 63) (t.file).are short
+
+  whole : joined cs ≡ es
+  whole = ((t.file).chunks).whole
+
+  line : IsStrict (joined cs)
+  line = subst IsStrict (sym whole) t.strict
+
+  all_some : AreSome cs
+  all_some = some_chunks options.data_block_size t.spills 0 cs ((t.file).chunks).each
+
+  by_list : parts_by v label options cs (joined cs) ≡ parts_said label options stored es t
+  by_list = ap (parts_by v label options cs) whole
+
+  -- what is recovered is what the list says
+  pub table_parts : (g : ℕ) (parts : Parts) → recovered_told stored g ≡ Ok parts → parts ≡ parts_said label options stored es t
+  table_parts g parts told =
+      let told_file : recovered_told (finished (w v label options cs)) g ≡ Ok parts = subst (λ (b : List ℕ). recovered_told b g ≡ Ok parts) (t.file).are told in
+      parts_are v label options cs short_file all_some line t.fits g parts told_file ∙ by_list
+
+  -- what opening it tells
+  pub table_told : (g : ℕ) → options.index_block_restart_interval ≡ 1 → recovered_told stored g ≡ list_told label options stored es t g
+  table_told g one =
+      ap (λ (b : List ℕ). recovered_told b g) (t.file).are
+      ∙ written_recovers v label options cs short_file all_some line t.fits g one
+      ∙ ap (λ (xs : List Entry). cond (ltb (2 ^ 64 - 1) (highest_seqno xs + g)) (Err GlobalSeqNoTooLarge) (Ok (parts_by v label options cs xs))) whole

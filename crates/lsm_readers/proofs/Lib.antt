@@ -1,0 +1,14 @@
+pub mod Told
+pub mod Loads
+pub mod Points
+pub mod Recovered
+pub mod ChunkReads
+pub mod MetaReads
+pub mod FileLengths
+pub mod MetaBlocks
+pub mod FileReads
+pub mod FileParts
+pub mod FilePoints
+pub mod Ends
+pub mod Scans
+pub mod FileScans

@@ -1,0 +1,389 @@
+-- What is left of a scan: one step of it, and what it deals.
+use Rattle.std.proofs.Common.{◌≡◌, ℕ, zero, suc, ◌+◌, ◌-◌, ◌^◌, ◌<◌, ◌≤◌, Bool, true, false, List, [], ◌∷◌, ◌++◌, length, drop, get_or, map, max, refl, sym, ap, subst, ◌∙◌, arith, inl, inr}
+use Rattle.std.specs.Prelude.{Option, Some, None, Result, Ok, Err, ◌⊎◌}
+use Rattle.std.specs.Iterator.{MakesProgress, at_most}
+use Rattle.std.specs.List.{flat_map, slice_get}
+use Rattle.std.proofs.lemmas.Bool.{le-ltb, lt-ltb}
+use Rattle.std.proofs.lemmas.List.{drop_more}
+use Rattle.std.proofs.lemmas.Option.{slice_get_within, get_or_from_slice_get}
+use Rattle.sst_blocks.specs.declared.block_type.BlockType.TheVariants.{Data}
+use Rattle.sst_entries.specs.declared.error.Error.{Error}
+use Rattle.sst_entries.specs.declared.error.Error.TheVariants.{OutOfMemory, SeqNoOverflow, Truncated, InvalidHeader, InvalidTag, ChecksumMismatch, InvalidBlock, KeyTooLong, ValueTooLong, BlockTooLarge, SectionTooLarge, InvalidTrailer, MissingSection, MetaKeyMissing, InvalidMetaValue, UnsupportedTableVersion, UnsupportedHashType, UnsupportedChecksumType, UnsupportedIndexInterval, UnsupportedCompression, GlobalSeqNoTooLarge, TableIdsSpent, WriterFailed, Source}
+use Rattle.sst_blocks.specs.Block.{Loaded, load_at_told, entries_of}
+use Rattle.sst_entries.specs.Entry.{Entry}
+use Rattle.sst_entries.specs.Error.{is_memory}
+use Rattle.sst_blocks.specs.declared.opened.Opened.{Opened}
+use Rattle.sst_blocks.specs.Opened.{counted}
+use Rattle.sst_entries.specs.Stream.{Answers, Deals, CanDeal, first, but_first, front_of, nowhere, stopped}
+use Rattle.sst_entries.proofs.StreamLemmas.{head_eq, deals_by, can_by}
+use Rattle.lsm_readers.specs.Answer.{lifted}
+use Rattle.lsm_readers.specs.Scan.{IsEnded, Scan, ScanHas, ScansNext, TakesEntry, behind, block_told, blocks_told, ended, entries_from, entries_told, fault_of, lifted_told, loads, loads_behind, loads_from, loads_of, scan_left, scan_size, scan_told, then_blocks, unless_left, up_to_error}
+use Rattle.lsm_readers.specs.Told.{◌>>=◌}
+
+abbrev R : Type 0
+R = Result Entry Error
+
+abbrev Answer : Scan → Option R → Scan → Type 0
+Answer = Answers (λ _. Unit {0}) ScanHas front_of
+
+-- ---- errors
+
+pub memory_is : (e : Error) → is_memory e ≡ true → e ≡ OutOfMemory
+memory_is OutOfMemory h = refl
+memory_is Truncated h = absurd cc
+memory_is InvalidHeader h = absurd cc
+memory_is (InvalidTag name byte) h = absurd cc
+memory_is ChecksumMismatch h = absurd cc
+memory_is InvalidBlock h = absurd cc
+memory_is KeyTooLong h = absurd cc
+memory_is ValueTooLong h = absurd cc
+memory_is BlockTooLarge h = absurd cc
+memory_is SectionTooLarge h = absurd cc
+memory_is InvalidTrailer h = absurd cc
+memory_is MissingSection h = absurd cc
+memory_is MetaKeyMissing h = absurd cc
+memory_is InvalidMetaValue h = absurd cc
+memory_is UnsupportedTableVersion h = absurd cc
+memory_is UnsupportedHashType h = absurd cc
+memory_is UnsupportedChecksumType h = absurd cc
+memory_is UnsupportedIndexInterval h = absurd cc
+memory_is UnsupportedCompression h = absurd cc
+memory_is GlobalSeqNoTooLarge h = absurd cc
+memory_is SeqNoOverflow h = absurd cc
+memory_is TableIdsSpent h = absurd cc
+memory_is WriterFailed h = absurd cc
+memory_is (Source n) h = absurd cc
+
+-- ---- an entry with the global number added
+
+pub lifted_ok : (g : ℕ) (e : Entry) → e.seqno + g < 2 ^ 64 → lifted_told g e ≡ Ok (lifted g e)
+lifted_ok g e fits = rw (le-ltb (2 ^ 64 - 1) (e.seqno + g) (omega (arith, fits))) refl
+
+pub lifted_past : (g : ℕ) (e : Entry) → 2 ^ 64 ≤ e.seqno + g → lifted_told g e ≡ Err SeqNoOverflow
+lifted_past g e past = rw (lt-ltb (2 ^ 64 - 1) (e.seqno + g) (omega (arith, past))) refl
+
+-- the entry with its sum in place of its number
+pub lifted_is : (g n : ℕ) (seen e : Entry) → seen ≡ e → n ≡ seen.seqno + g → n < 2 ^ 64 → lifted_told g e ≡ Ok (record seen { seqno = n })
+lifted_is g n seen e same sum fits =
+    subst (λ (x : Entry). lifted_told g x ≡ Ok (record seen { seqno = n })) same (lifted_ok g seen (omega (arith, sum, fits)) ∙ ap (λ (k : ℕ). Ok (record seen { seqno = k })) (sym sum))
+
+-- the entry of a place is the first of those from there on
+pub entry_is : (xs : List Entry) (i : ℕ) (x e : Entry) (es : List Entry) → slice_get xs i ≡ Some x → drop i xs ≡ e ∷ es → x ≡ e
+entry_is xs i x e es here some =
+    let within : i < length xs = slice_get_within xs i x here in
+    sym (get_or_from_slice_get xs i x x here) ∙ head_eq (sym (drop_more xs i x within) ∙ some)
+
+-- where there is one
+pub record Cut (xs : List Entry) (i : ℕ) : Type 0 where
+  pub entry : Entry
+  pub whole : drop i xs ≡ entry ∷ drop (i + 1) xs
+
+pub cut_at : (xs : List Entry) (i : ℕ) → i < length xs → Cut xs i
+cut_at [] i lt = absurd (omega (arith, lt))
+cut_at (x ∷ xs) i lt = record { entry = get_or (x ∷ xs) i x; whole = drop_more (x ∷ xs) i x lt }
+
+-- ---- what is left
+
+-- an ended scan gives nothing
+pub ended_left : (s : Scan) → IsEnded s → scan_left s ≡ []
+unfolding entries_from blocks_told
+ended_left s e = rw (e.0, e.1) refl
+
+-- the first entry, or its fault
+abbrev first_entry : R → List R → List R
+first_entry (Ok x) more = Ok x ∷ more
+first_entry (Err e) more = Err e ∷ []
+
+up_to_first : (r : R) (rs : List R) → up_to_error (r ∷ rs) ≡ first_entry r (up_to_error rs)
+up_to_first (Ok x) rs = refl
+up_to_first (Err e) rs = refl
+
+pub entry_left : (body : List ℕ) (g : ℕ) (e : Entry) (es : List Entry) (position count : ℕ) → entries_from body g (e ∷ es) position count ≡ first_entry (lifted_told g e) (entries_from body g es position count)
+unfolding entries_from
+entry_left body g e es position count = up_to_first (lifted_told g e) (map (lifted_told g) es ++ flat_map (entries_told g) (blocks_told body position count))
+
+-- what is left behind the present block, by what the next block is
+abbrev next_left : List ℕ → ℕ → ℕ → Result (List Entry × ℕ) Error → List R
+next_left body g n (Ok x) = entries_from body g x.0 x.1 n
+next_left body g n (Err e) = Err e ∷ []
+
+next_blocks : (body : List ℕ) (g n position : ℕ) (r : Result Loaded Error) → up_to_error (flat_map (entries_told g) (then_blocks r (λ b. blocks_told body (behind position b) n))) ≡ next_left body g n (r >>= λ b. Ok (entries_of b, behind position b))
+unfolding entries_from
+next_blocks body g n position (Ok b) = refl
+next_blocks body g n position (Err e) = refl
+
+pub block_left : (body : List ℕ) (g position n : ℕ) → entries_from body g [] position (suc n) ≡ next_left body g n (block_told body position)
+unfolding entries_from blocks_told
+block_left body g position n = next_blocks body g n position (load_at_told body position Data)
+
+-- ---- what a call gives
+
+still : (s t : Scan) (x : Entry) (stops : Error → Bool) → scan_left s ≡ Ok x ∷ scan_left t → IsEnded s ⊎ (stops OutOfMemory ≡ true) → IsEnded t ⊎ (stops OutOfMemory ≡ true)
+still s t x stops left (inl e) = absurd (let no : [] ≡ Ok x ∷ scan_left t = sym (ended_left s e) ∙ left in cc)
+still s t x stops left (inr m) = inr m
+
+-- the first entry
+gave_entry : (s t : Scan) (x : Entry) → scan_left s ≡ Ok x ∷ scan_left t → Answer s (Some (Ok x)) t
+gave_entry s t x left = record {
+  may = tt;
+  gives = λ stops xs has fine.
+      let whole : xs ≡ Ok x ∷ scan_left t = has.0 ∙ left in
+      (sym (ap first whole), (ap but_first whole, still s t x stops left has.1));
+}
+
+no_memory : (s : Scan) (e : Error) (stops : Error → Bool) → e ≡ OutOfMemory → (IsEnded s → ⊥) → stops e ≡ false → IsEnded s ⊎ (stops OutOfMemory ≡ true) → ⊥
+no_memory s e stops is going fine (inl done) = going done
+no_memory s e stops is going fine (inr m) = let wrong : true ≡ false = sym m ∙ sym (ap stops is) ∙ fine in absurd cc
+
+error_gives : (s t : Scan) (e : Error) (stops : Error → Bool) (xs : List R) → (is_memory e ≡ false → scan_left s ≡ Err e ∷ []) → (IsEnded s → ⊥) → IsEnded t → (b : Bool) → is_memory e ≡ b → ScanHas stops s xs → stops e ≡ false
+    → (Some (Err e) ≡ first xs) × ScanHas stops t (but_first xs)
+error_gives s t e stops xs left going done true m has fine = absurd (no_memory s e stops (memory_is e m) going fine has.1)
+error_gives s t e stops xs left going done false m has fine =
+    let whole : xs ≡ Err e ∷ [] = has.0 ∙ left m in
+    (sym (ap first whole), (ap but_first whole ∙ sym (ended_left t done), inl done))
+
+-- the error in front, or want of memory
+gave_error : (s t : Scan) (e : Error) → (is_memory e ≡ false → scan_left s ≡ Err e ∷ []) → (IsEnded s → ⊥) → IsEnded t → Answer s (Some (Err e)) t
+gave_error s t e left going done = record { may = tt; gives = λ stops xs has fine. error_gives s t e stops xs left going done (is_memory e) refl has fine }
+
+-- nothing
+gave_none : (s : Scan) → IsEnded s → Answer s None s
+gave_none s done = record {
+  may = tt;
+  gives = λ stops xs has fine.
+      let none : xs ≡ [] = has.0 ∙ ended_left s done in
+      (sym (ap first none), (ap but_first none ∙ sym (ended_left s done), inl done));
+}
+
+-- ---- the blocks that a call goes through
+
+-- from s the call has come to u, of which as much is left
+pub record Reached (s u : Scan) : Type 0 where
+  pub left : scan_left u ≡ scan_left s
+  pub ended : IsEnded s → IsEnded u
+  pub count : ℕ
+  pub counts : u.opened ≡ loads count s.opened
+  pub falls : count + u.blocks ≡ s.blocks
+  pub needs : count + loads_of u ≡ loads_of s
+
+pub reached_first : (s : Scan) → Reached s s
+reached_first s = record { left = refl; ended = λ e. e; count = 0; counts = refl; falls = omega arith; needs = omega arith }
+
+ended_too : (s u : Scan) (m : Type 0) → (IsEnded s → IsEnded u) → IsEnded s ⊎ m → IsEnded u ⊎ m
+ended_too s u m on (inl e) = inl (on e)
+ended_too s u m on (inr h) = inr h
+
+answers_from : (s u t : Scan) (r : Option R) → Reached s u → Answer u r t → Answer s r t
+answers_from s u t r reached answer = record {
+  may = tt;
+  gives = λ stops xs has fine. answer.gives stops xs (has.0 ∙ sym reached.left, ended_too s u (stops OutOfMemory ≡ true) reached.ended has.1) fine;
+}
+
+-- the next block was loaded
+abbrev pub moved : Scan → List Entry → ℕ → Scan
+moved u es next = record u { entries = es; position = next; blocks = u.blocks - 1; opened = counted Data u.opened }
+
+pub moved_is : (u s : Scan) (es : List Entry) (next : ℕ) (o : Opened) → u ≡ s → o ≡ counted Data u.opened → record (moved u es next) { opened = o } ≡ moved s es next
+moved_is u s es next o same counts = ap (λ (p : Opened). record (moved u es next) { opened = p }) counts ∙ ap (λ (v : Scan). moved v es next) same
+
+next_is : (u : Scan) (n : ℕ) → u.entries ≡ [] → u.blocks ≡ suc n → scan_left u ≡ next_left u.body u.global_seqno n (block_told u.body u.position)
+next_is u n none some = ap (λ (es : List Entry). entries_from u.body u.global_seqno es u.position u.blocks) none ∙ ap (λ (k : ℕ). entries_from u.body u.global_seqno [] u.position k) some ∙ block_left u.body u.global_seqno u.position n
+
+needs_first : (u : Scan) (n : ℕ) → u.entries ≡ [] → u.blocks ≡ suc n → loads_of u ≡ suc (loads_behind (block_told u.body u.position) (λ next. loads_from u.body next n))
+unfolding loads_from
+needs_first u n none some = rw (none, some) refl
+
+needs_next : (u : Scan) (n : ℕ) (es : List Entry) (next : ℕ) → u.entries ≡ [] → u.blocks ≡ suc n → block_told u.body u.position ≡ Ok (es, next) → loads_of u ≡ suc (unless_left es (loads_from u.body next n))
+needs_next u n es next none some told =
+    needs_first u n none some ∙ ap (λ (r : Result (List Entry × ℕ) Error). suc (loads_behind r (λ next. loads_from u.body next n))) told
+
+pub reached_next : (s u : Scan) (es : List Entry) (next : ℕ) → Reached s u → u.entries ≡ [] → 0 < u.blocks → block_told u.body u.position ≡ Ok (es, next) → Reached s (moved u es next)
+reached_next s u es next reached none some told =
+    let n = u.blocks - 1 in
+    let k : u.blocks ≡ suc n = omega (arith, some) in
+    record {
+      left = sym (next_is u n none k ∙ ap (next_left u.body u.global_seqno n) told) ∙ reached.left;
+      ended = λ e. absurd (omega (arith, some, (reached.ended e).1));
+      count = suc reached.count;
+      counts = ap (counted Data) reached.counts;
+      falls = omega (arith, reached.falls, some);
+      needs = omega (arith, reached.needs, needs_next u n es next none k told);
+    }
+
+-- ---- the answers
+
+has_entry : (s : Scan) (e : Entry) (es : List Entry) → s.entries ≡ e ∷ es → IsEnded s → ⊥
+has_entry s e es some done = let no : [] ≡ e ∷ es = sym done.0 ∙ some in cc
+
+has_block : (s : Scan) → 0 < s.blocks → IsEnded s → ⊥
+has_block s some done = omega (arith, some, done.1)
+
+-- where an entry is left, no more blocks are needed
+all_loaded : (s u : Scan) (e : Entry) (es : List Entry) (reached : Reached s u) → u.entries ≡ e ∷ es → reached.count ≡ loads_of s
+all_loaded s u e es reached some =
+    let none : loads_of u ≡ 0 = ap (λ (xs : List Entry). unless_left xs (loads_from u.body u.position u.blocks)) some in
+    omega (arith, reached.needs, none)
+
+entry_ok : (s u : Scan) (e : Entry) (es : List Entry) (x : Entry) → Reached s u → u.entries ≡ e ∷ es → lifted_told u.global_seqno e ≡ Ok x → ScansNext s (Some (Ok x)) (record u { entries = es })
+entry_ok s u e es x reached some told =
+    let left : scan_left u ≡ Ok x ∷ scan_left (record u { entries = es }) =
+    ap (λ (ys : List Entry). entries_from u.body u.global_seqno ys u.position u.blocks) some
+    ∙ entry_left u.body u.global_seqno e es u.position u.blocks
+    ∙ ap (λ (r : R). first_entry r (entries_from u.body u.global_seqno es u.position u.blocks)) told in
+    record {
+      answers = answers_from s u (record u { entries = es }) (Some (Ok x)) reached (gave_entry u (record u { entries = es }) x left);
+      ends = tt;
+      count = reached.count;
+      counts = reached.counts;
+      within = omega (arith, reached.falls);
+      exact = λ _. all_loaded s u e es reached some;
+      most = omega (arith, all_loaded s u e es reached some);
+      some = λ more. omega (arith, more, all_loaded s u e es reached some);
+      falls = reached.falls;
+    }
+
+entry_err : (s u : Scan) (e : Entry) (es : List Entry) (fault : Error) → Reached s u → u.entries ≡ e ∷ es → (is_memory fault ≡ false → lifted_told u.global_seqno e ≡ Err fault) → ScansNext s (Some (Err fault)) (ended u)
+entry_err s u e es fault reached some told =
+    let left = λ (m : is_memory fault ≡ false). ap (λ (ys : List Entry). entries_from u.body u.global_seqno ys u.position u.blocks) some
+    ∙ entry_left u.body u.global_seqno e es u.position u.blocks
+    ∙ ap (λ (r : R). first_entry r (entries_from u.body u.global_seqno es u.position u.blocks)) (told m) in
+    record {
+      answers = answers_from s u (ended u) (Some (Err fault)) reached (gave_error u (ended u) fault left (has_entry u e es some) (refl, refl));
+      ends = (refl, refl);
+      count = reached.count;
+      counts = reached.counts;
+      within = omega (arith, reached.falls);
+      exact = λ _. all_loaded s u e es reached some;
+      most = omega (arith, all_loaded s u e es reached some);
+      some = λ more. omega (arith, more, all_loaded s u e es reached some);
+      falls = tt;
+    }
+
+-- an entry was taken from the block that was reached
+pub scans_entry : (s u t : Scan) (r : R) → Reached s u → TakesEntry u r t → ScansNext s (Some r) t
+scans_entry s u t (Ok x) reached taken = subst (ScansNext s (Some (Ok x))) (sym taken.took) (entry_ok s u taken.entry taken.others x reached taken.some taken.told)
+scans_entry s u t (Err fault) reached taken = subst (ScansNext s (Some (Err fault))) (sym taken.took) (entry_err s u taken.entry taken.others fault reached taken.some taken.told)
+
+-- a block could not be loaded
+abbrev pub halted : Scan → Scan
+halted u = record (ended u) { opened = counted Data u.opened }
+
+pub halted_is : (u s : Scan) (o : Opened) → u ≡ s → o ≡ counted Data u.opened → record (ended u) { opened = o } ≡ halted s
+halted_is u s o same counts = ap (λ (p : Opened). record (ended u) { opened = p }) counts ∙ ap halted same
+
+fault_is : {X : Type 0} (r : Result X Error) (e : Error) → fault_of r ≡ Some e → r ≡ Err e
+fault_is (Ok x) e h = absurd cc
+fault_is (Err f) e h = let same : f ≡ e = cc in ap (λ (x : Error). Err x) same
+
+one_load : (u : Scan) (n : ℕ) {e : Error} → block_told u.body u.position ≡ Err e → loads_behind (block_told u.body u.position) (λ next. loads_from u.body next n) ≡ 0
+one_load u n told = ap (λ (r : Result (List Entry × ℕ) Error). loads_behind r (λ next. loads_from u.body next n)) told
+
+pub scans_fault : (s u t : Scan) (e : Error) → Reached s u → u.entries ≡ [] → 0 < u.blocks → (is_memory e ≡ false → fault_of (block_told u.body u.position) ≡ Some e) → t ≡ halted u → ScansNext s (Some (Err e)) t
+scans_fault s u t e reached none some told is =
+    let n = u.blocks - 1 in
+    let k : u.blocks ≡ suc n = omega (arith, some) in
+    let left = λ (m : is_memory e ≡ false). next_is u n none k ∙ ap (next_left u.body u.global_seqno n) (fault_is (block_told u.body u.position) e (told m)) in
+    let step : ScansNext s (Some (Err e)) (halted u) = record {
+      answers = answers_from s u (halted u) (Some (Err e)) reached (gave_error u (halted u) e left (has_block u some) (refl, refl));
+      ends = (refl, refl);
+      count = suc reached.count;
+      counts = ap (counted Data) reached.counts;
+      within = omega (arith, reached.falls, some);
+      exact = λ m. omega (arith, reached.needs, needs_first u n none k, one_load u n (fault_is (block_told u.body u.position) e (told m)));
+      most = omega (arith, reached.needs, needs_first u n none k);
+      some = λ _. omega arith;
+      falls = tt;
+    } in
+    subst (ScansNext s (Some (Err e))) (sym is) step
+
+-- no entry is left in the block that was reached
+pub record AtEnd (s t : Scan) : Type 0 where
+  pub reached : Reached s t
+  pub none : t.entries ≡ []
+
+pub at_end : (s u t : Scan) → Reached s u → (u.entries ≡ []) × (t ≡ u) → AtEnd s t
+at_end s u t reached none = subst (AtEnd s) (sym none.1) (record { reached = reached; none = none.0 })
+
+not_some : (n : ℕ) → (0 < n → ⊥) → n ≡ 0
+not_some zero h = refl
+not_some (suc n) h = absurd (h (omega arith))
+
+no_loads : (u : Scan) → IsEnded u → loads_of u ≡ 0
+unfolding loads_from
+no_loads u done = rw (done.0, done.1) refl
+
+-- nothing is left
+pub scans_none : (s u : Scan) → AtEnd s u → (0 < u.blocks → ⊥) → ScansNext s None u
+scans_none s u end last =
+    let done : IsEnded u = (end.none, not_some u.blocks last) in
+    record {
+      answers = answers_from s u u None end.reached (gave_none u done);
+      ends = done;
+      count = (end.reached).count;
+      counts = (end.reached).counts;
+      within = omega (arith, (end.reached).falls);
+      exact = λ _. omega (arith, (end.reached).needs, no_loads u done);
+      most = omega (arith, (end.reached).needs, no_loads u done);
+      some = λ more. omega (arith, more, (end.reached).needs, no_loads u done);
+      falls = tt;
+    }
+
+-- ---- how many items come at most
+
+some_left : (r : R) (rs : List R) → 0 < length (first_entry r rs)
+some_left (Ok x) rs = omega arith
+some_left (Err e) rs = omega arith
+
+none_left : (body : List ℕ) (g : ℕ) (es : List Entry) (position count : ℕ) → length (entries_from body g es position count) ≡ 0 → es ≡ []
+none_left body g [] position count none = refl
+none_left body g (e ∷ es) position count none =
+    absurd (omega (arith, none, ap length (entry_left body g e es position count), some_left (lifted_told g e) (entries_from body g es position count)))
+
+no_error : (s t : Scan) (e : Error) → ScansNext s (Some (Err e)) t → IsEnded s → ⊥
+no_error s t e step done =
+    let given = (step.answers).gives (λ _. false) [] (sym (ended_left s done), inl done) refl in
+    let wrong : Some (Err e) ≡ first {A = R} [] = given.0 in absurd cc
+
+first_length : (x : R) (xs : List R) → Some x ≡ first xs → length xs ≡ suc (length (but_first xs))
+first_length x [] h = absurd cc
+first_length x (y ∷ ys) h = refl
+
+pub scan_falls : (s t : Scan) (r : R) → ScansNext s (Some r) t → scan_size t < scan_size s
+scan_falls s t (Ok x) step =
+    let given = (step.answers).gives is_memory (scan_left s) (refl, inr refl) refl in
+    let one = first_length (Ok x) (scan_left s) given.0 in
+    let rest = ap length (given.1).0 in
+    omega (arith, one, rest, step.falls)
+scan_falls s t (Err e) step =
+    let none = ap length (ended_left t step.ends) in
+    elim (zero_or (scan_size s)) [
+      | inl small ↦ absurd (no_error s t e step (none_left s.body s.global_seqno s.entries s.position s.blocks (omega (arith, small)), omega (arith, small)))
+      | inr large ↦ omega (arith, large, none, (step.ends).1)
+    ]
+  where
+    zero_or : (n : ℕ) → (n ≡ 0) ⊎ (0 < n)
+    zero_or zero = inl refl
+    zero_or (suc n) = inr (omega arith)
+
+pub progress : (s t : Scan) (r : R) → ScansNext s (Some r) t → MakesProgress (λ _. Unit {0}) (λ u. at_most (scan_size u)) s (Some r) t
+progress s t r step = record { on = λ _. (tt, tt, scan_falls s t r step); keeps = tt; rests = λ _. tt }
+
+-- ---- what a scan deals
+
+pub scan_deals : (stops : Error → Bool) (s : Scan) (xs : List R) → ScanHas stops s xs → Deals (stopped stops) ScansNext nowhere s xs
+scan_deals stops s xs has = deals_by (stopped stops) ScansNext nowhere (ScanHas stops) (λ s xs r t has step fine. (step.answers).gives stops xs has fine) (λ s xs r t has step fine. absurd step) s xs has
+
+pub scan_can : (s : Scan) → CanDeal ScansNext nowhere (λ _. Unit {0}) (λ _. Unit {0}) s
+scan_can s = can_by ScansNext nowhere (λ _. Unit {0}) (λ _. Unit {0}) (λ _. Unit {0}) (λ s may. (tt, tt)) (λ s r t may step. tt) (λ s r t may step. absurd step) s tt
+
+pub scan_ends : (stops : Error → Bool) (s t : Scan) (e : Error) → ScansNext s (Some (Err e)) t → Deals (stopped stops) ScansNext nowhere t []
+scan_ends stops s t e step = scan_deals stops t [] (sym (ended_left t step.ends), inl step.ends)
+
+-- the first block was read
+pub first_left : (body : List ℕ) (g count : ℕ) (es : List Entry) (next : ℕ) → block_told body 0 ≡ Ok (es, next) → scan_told body count g ≡ entries_from body g es next (count - 1)
+first_left body g count es next told =
+    let k : max 1 count ≡ suc (count - 1) = omega arith in
+    ap (entries_from body g [] 0) k ∙ block_left body g 0 (count - 1) ∙ ap (next_left body g (count - 1)) told
+
+pub same_left : (b d : List ℕ) (g : ℕ) (es fs : List Entry) (next m n : ℕ) → b ≡ d → es ≡ fs → m ≡ n → entries_from b g es next m ≡ entries_from d g fs next n
+same_left b d g es fs next m n p q r = rw (p, q, r) refl

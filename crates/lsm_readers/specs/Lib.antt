@@ -1,0 +1,12 @@
+pub mod Told
+pub mod Regions
+pub mod Meta
+pub mod Load
+pub mod Parts
+pub mod Seen
+pub mod Answer
+pub mod TableSeen
+pub mod Handled
+pub mod OfList
+pub mod Scan
+pub mod Range

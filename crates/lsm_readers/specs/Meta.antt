@@ -1,0 +1,116 @@
+-- What a meta block tells of its table, item by item, or the first fault.
+use Rattle.std.specs.Prelude.{ℕ, ◌-◌, ◌^◌, ◌==◌, ◌||◌, nat_lt, nat_eq, List, [], ◌∷◌, length, slice_index, Option, Some, None, Result, Ok, Err, if◌then◌else◌}
+use Rattle.std.specs.Cmp.Lexicographic.{pointwise}
+use Rattle.sst_entries.specs.declared.error.Error.{Error}
+use Rattle.sst_entries.specs.declared.error.Error.TheVariants.{MetaKeyMissing, InvalidMetaValue, UnsupportedTableVersion, UnsupportedHashType, UnsupportedChecksumType, UnsupportedIndexInterval, UnsupportedCompression}
+use Rattle.sst_entries.specs.Entry.{Entry}
+use Rattle.sst_sections.specs.Number.{num8, num16}
+use Rattle.sst_entries.specs.Point.{point}
+use Rattle.lsm_ranges.specs.KeyRange.{Interval, interval}
+use Rattle.lsm_files.specs.ItemName.{name_of}
+use Rattle.lsm_files.specs.declared.item_name.ItemName.{ItemName}
+use Rattle.lsm_files.specs.declared.item_name.ItemName.TheVariants.{BlockCountData, BlockCountFilter, BlockCountIndex, ChecksumType, CompressionData, CompressionIndex, CreatedAt, FileSize, FilterHashType, ItemCount, KeyMax, KeyMin, RestartIntervalIndex, SeqnoMax, SeqnoMin, TableId, TableVersion, TombstoneCount, WeakTombstoneCount, WeakTombstoneReclaimable}
+use Rattle.lsm_readers.specs.Told.{◌>>=◌}
+
+-- what a table says of itself
+pub record Facts : Type 0 where
+  pub table_version : ℕ
+  pub id : ℕ
+  pub created_at : ℕ
+  pub data_block_count : ℕ
+  pub index_block_count : ℕ
+  pub key_range : Interval
+  pub seqno_min : ℕ
+  pub seqno_max : ℕ
+  pub file_size : ℕ
+  pub item_count : ℕ
+  pub tombstone_count : ℕ
+  pub weak_tombstone_count : ℕ
+  pub weak_tombstone_reclaimable : ℕ
+
+-- the value of the item of a name, where there is one
+abbrev pub value_told : Option Entry → Result (List ℕ) Error
+value_told None = Err MetaKeyMissing
+value_told (Some e) = Ok e.value
+
+-- the first item of a name, whatever its kind
+unfoldable pub item_told : List Entry → ItemName → Result (List ℕ) Error
+item_told es name = value_told (point es (name_of name) (2 ^ 64 - 1))
+
+-- a number of eight or sixteen bytes; bytes past it are passed over
+abbrev pub number8_told : List ℕ → Result ℕ Error
+number8_told value = if nat_lt (length value) 8 then Err InvalidMetaValue else Ok (num8 value)
+
+abbrev pub number16_told : List ℕ → Result ℕ Error
+number16_told value = if nat_lt (length value) 16 then Err InvalidMetaValue else Ok (num16 value)
+
+-- the item of a name as a number of eight bytes
+unfoldable pub u64_told : List Entry → ItemName → Result ℕ Error
+u64_told es name = item_told es name >>= number8_told
+
+-- an item that has to be one byte, else a fault
+unfoldable pub byte_told : List Entry → ItemName → ℕ → Error → Result (Unit {0}) Error
+byte_told es name byte fault = item_told es name >>= λ value. if pointwise nat_eq value (byte ∷ []) then Ok tt else Err fault
+
+-- an item whose first byte has to be this one, else a fault
+unfoldable pub first_told : List Entry → ItemName → ℕ → Error → Result (Unit {0}) Error
+first_told es name byte fault = item_told es name >>= λ value.
+    if nat_lt (length value) 1 then Err InvalidMetaValue
+    else (if slice_index value 0 == byte then Ok tt else Err fault)
+
+-- the version, one byte, 3 or 4
+unfoldable pub version_told : List Entry → Result ℕ Error
+version_told es = item_told es TableVersion >>= λ value.
+    if pointwise nat_eq value (3 ∷ []) || pointwise nat_eq value (4 ∷ []) then Ok (slice_index value 0) else Err UnsupportedTableVersion
+
+-- the hash, the checksum and the index have to be those that are known
+unfoldable pub kinds_told : List Entry → Result (Unit {0}) Error
+kinds_told es =
+    byte_told es FilterHashType 1 UnsupportedHashType >>= λ _.
+    byte_told es ChecksumType 1 UnsupportedChecksumType >>= λ _.
+    first_told es RestartIntervalIndex 1 UnsupportedIndexInterval
+
+-- no block is compressed
+unfoldable pub compressions_told : List Entry → Result (Unit {0}) Error
+compressions_told es =
+    first_told es CompressionData 0 UnsupportedCompression >>= λ _.
+    first_told es CompressionIndex 0 UnsupportedCompression
+
+unfoldable pub created_told : List Entry → Result ℕ Error
+created_told es = item_told es CreatedAt >>= number16_told
+
+-- three numbers, one after another
+unfoldable pub triple_told : List Entry → ItemName → ItemName → ItemName → Result (ℕ × ℕ × ℕ) Error
+triple_told es a b c =
+    u64_told es a >>= λ x.
+    u64_told es b >>= λ y.
+    u64_told es c >>= λ z.
+    Ok (x, y, z)
+
+-- the first and the last key
+unfoldable pub keys_told : List Entry → Result Interval Error
+keys_told es =
+    item_told es KeyMin >>= λ min.
+    item_told es KeyMax >>= λ max.
+    Ok (interval min max)
+
+-- the lowest and the highest number
+unfoldable pub seqnos_told : List Entry → Result (ℕ × ℕ) Error
+seqnos_told es =
+    u64_told es SeqnoMin >>= λ min.
+    u64_told es SeqnoMax >>= λ max.
+    Ok (min, max)
+
+-- all that is read, in this order
+unfoldable pub facts_told : List Entry → Result Facts Error
+facts_told es =
+    version_told es >>= λ table_version.
+    kinds_told es >>= λ _.
+    triple_told es TableId ItemCount TombstoneCount >>= λ table.
+    triple_told es BlockCountData BlockCountIndex BlockCountFilter >>= λ blocks.
+    triple_told es FileSize WeakTombstoneCount WeakTombstoneReclaimable >>= λ sizes.
+    created_told es >>= λ created_at.
+    keys_told es >>= λ key_range.
+    seqnos_told es >>= λ seqnos.
+    compressions_told es >>= λ _.
+    Ok (record { table_version = table_version; id = table.0; created_at = created_at; data_block_count = blocks.0; index_block_count = blocks.1; key_range = key_range; seqno_min = seqnos.0; seqno_max = seqnos.1; file_size = sizes.0; item_count = table.1; tombstone_count = table.2; weak_tombstone_count = sizes.1; weak_tombstone_reclaimable = sizes.2 })

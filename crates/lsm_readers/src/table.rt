@@ -1,0 +1,369 @@
+//! Tables: opening a table's bytes, and reading from them.
+ghost use Rattle.std.specs.Prelude.{◌≡◌, ◌+◌, ◌<◌, ℕ, Bool, List, [], Option, Some, Result, Ok, Err, false, true, length, IfOk, IfErr, MatchResult};
+ghost use Rattle.sst_blocks.specs.Block.{Loaded, load_told, load_at_told};
+ghost use Rattle.sst_entries.specs.Entry.{Entry};
+ghost use Rattle.sst_entries.specs.Error.{Faults, FaultsFirst, Gives};
+ghost use Rattle.sst_sections.specs.Fnv.{fnv1a};
+ghost use Rattle.sst_blocks.specs.Opened.{counted, none_opened};
+ghost use Rattle.sst_sections.specs.Sections.{body_of};
+ghost use Rattle.sst_entries.specs.Point.{point, within};
+ghost use Rattle.sst_entries.specs.Stream.{CanDeal, Deals, all_ok, nowhere, stopped};
+ghost use Rattle.sst_blocks.specs.declared.block_type.BlockType.TheVariants.{Data, Index};
+ghost use Rattle.sst_entries.specs.declared.error.Error.{Error};
+ghost use Rattle.sst_entries.specs.declared.error.Error.TheVariants.{OutOfMemory};
+ghost use Rattle.lsm_ranges.specs.KeyRange.{bound_of, reaches};
+ghost use Rattle.lsm_files.specs.Table.{IsTable};
+ghost use Rattle.lsm_files.specs.Options.{Options, Label};
+ghost use Rattle.lsm_readers.specs.Answer.{answer_told, fault_at, handle_for, lift, opened_by};
+ghost use Rattle.lsm_readers.specs.OfList.{ends_of, list_told, parts_said};
+ghost use Rattle.lsm_readers.specs.Handled.{IsRecovered, IsOpen};
+ghost use Rattle.lsm_readers.specs.Parts.{recovered_told, parts_told, fitting_told, index_told, number_told, size_of};
+ghost use Rattle.lsm_readers.specs.Scan.{Scan, ScansList, fault_of, scan_told};
+ghost use Rattle.lsm_readers.specs.Seen.{parts_of, facts_of};
+ghost use Rattle.lsm_readers.specs.TableSeen.{TableSeen};
+
+use crate::block_index::FullBlockIndex;
+use crate::handle::Shared;
+use crate::{Inner, ParsedMeta, ParsedRegions, Scanner, point_in};
+use lsm_files::{TableId, TreeId};
+use lsm_ranges::{KeyRange, Ranged};
+use sst_blocks::{
+    BlockHandle, BlockSource, BlockType, Checksum, Counted, Error, Header, IndexBlock,
+    InternalValue, Opened, SeqNo, Slice, hash,
+};
+use std::alloc::{AllocError, Allocator, Global};
+use std::fmt;
+use std::marker::Model;
+use std::ops::{Bound, Deref};
+use std::sync::Arc;
+
+/// What the handles of a table share, but for its bytes.
+pub type TableInner<A = Global> = Inner<A>;
+
+/// A table that was opened: a shared handle. A contract sees its bytes, what it was opened with and what it was
+/// recovered to.
+#[derive(Drop)]
+pub struct Table<A: Allocator = Global>(Arc<Shared<A>, A>);
+
+impl<A: Allocator> Model for Table<A> {
+    ghost use Rattle.std.specs.Arc.{arc_value};
+    ghost use Rattle.lsm_readers.specs.TableSeen.{TableSeen};
+    ghost use Rattle.lsm_readers.specs.Handled.{table_of, IsOpen};
+
+    ghost Value = { TableSeen };
+
+    ghost view = { λ t. table_of (arc_value t.0) };
+
+    ghost invariant = { λ t. IsOpen (table_of (arc_value t.0)) };
+}
+
+impl<A: Allocator> Clone for Table<A> {
+    ghost use Rattle.std.specs.Prelude.{◌≡◌};
+
+    ghost is_clone = { λ t copy. copy ≡ t };
+
+    fn clone(&self) -> Result<Table<A>, AllocError> {
+        Ok(Table(self.0.clone()?))
+    }
+}
+
+impl<A: Allocator> Deref for Table<A> {
+    ghost use Rattle.std.specs.Prelude.{◌≡◌};
+    ghost use Rattle.lsm_readers.specs.Seen.{parts_of};
+
+    type Target = Inner<A>;
+
+    ghost deref_gives = { λ t inner. (parts_of inner ≡ t.parts) × (inner.global_seqno ≡ t.global_seqno) × (inner.tree_id ≡ t.tree_id) × (inner.checksum.0 ≡ t.checksum) };
+
+    fn deref(&self) -> &Inner<A> {
+        &self.0.inner
+    }
+}
+
+impl<A: Allocator> Ranged for Table<A> {
+    ghost use Rattle.std.proofs.Common.{ap};
+    ghost use Rattle.std.specs.Prelude.{List, ℕ};
+    ghost use Rattle.lsm_readers.specs.Range.{range_told};
+
+    type Alloc = A;
+
+    // The table's bytes and its global number.
+    ghost Meaning = { List ℕ × ℕ };
+
+    ghost meaning = { λ t. (t.bytes, t.global_seqno) };
+
+    ghost range = { λ t. range_told (t.bytes, t.global_seqno) };
+
+    fn key_range(&self) -> &KeyRange<A> {
+        &self.0.inner.metadata.key_range
+    }
+
+    ghost steady = { λ x y same. ap range_told same };
+}
+
+impl<A: Allocator> fmt::Debug for Table<A> {
+    fn fmt<W: fmt::Write>(&self, f: &mut fmt::Formatter<W>) -> fmt::Result {
+        let id = self.id();
+        let key_range = &self.0.inner.metadata.key_range;
+        write!(f, "Table:{id}({key_range:?})")
+    }
+}
+
+fn load_index<A: Allocator + Clone>(
+    source: &BlockSource<A>,
+    regions: &ParsedRegions,
+) -> Result<FullBlockIndex<A>, Error>
+    ensures { Gives (λ (hs : _). hs) result (index_told (body_of source.now) regions.now) }
+{
+    let mut opened = Opened::none();
+    let block = source.load(&regions.tli, BlockType::Index, &mut opened)?;
+    Ok(FullBlockIndex::new(IndexBlock::new(block)))
+}
+
+fn test_number<A: Allocator>(metadata: &ParsedMeta<A>, global_seqno: SeqNo) -> Result<(), Error>
+    ensures { Gives (λ (_ : _). facts_of metadata.now) result (number_told (facts_of metadata.now) global_seqno) }
+{
+    match metadata.seqnos.1.checked_add(global_seqno) {
+        Some(_) => Ok(()),
+        None => Err(Error::GlobalSeqNoTooLarge),
+    }
+}
+
+/// What the meta block says. Refused as [`ParsedMeta::load_with_handle`], then where the global number does not fit.
+fn fitting_metadata<A: Allocator + Clone>(
+    source: &BlockSource<A>,
+    handle: &BlockHandle,
+    global_seqno: SeqNo,
+) -> Result<ParsedMeta<A>, Error>
+    ensures { Gives facts_of result (fitting_told (body_of source.now) handle.now global_seqno) }
+{
+    let metadata = ParsedMeta::load_with_handle(source, handle)?;
+    test_number(&metadata, global_seqno)?;
+    Ok(metadata)
+}
+
+fn recover_inner<A: Allocator + Clone>(
+    source: &BlockSource<A>,
+    checksum: Checksum,
+    global_seqno: SeqNo,
+    tree_id: TreeId,
+) -> Result<Inner<A>, Error>
+    ensures told { Gives parts_of result (parts_told source.now global_seqno) }
+    ensures numbers { IfOk result (λ inner. (inner.global_seqno ≡ global_seqno) × (inner.tree_id ≡ tree_id) × (inner.checksum ≡ checksum)) }
+{
+    let regions = ParsedRegions::parse_from_toc(source.toc())?;
+    let metadata = fitting_metadata(source, &regions.metadata, global_seqno)?;
+    let pinned_block_index = load_index(source, &regions)?;
+    Ok(Inner {
+        tree_id,
+        global_seqno,
+        checksum,
+        metadata,
+        regions,
+        pinned_block_index,
+    })
+}
+
+impl<A: Allocator + Clone> Table<A> {
+    /// Opens a table's bytes. Refused with the first fault, in this order: those of the trailer, the regions, the meta block
+    /// and its items, [`Error::GlobalSeqNoTooLarge`] where the highest stored number plus `global_seqno` passes `u64`, and
+    /// those of loading the index; and [`Error::OutOfMemory`]. The checksum is kept, and not compared.
+    ///
+    /// Every index is full for now and stays loaded, whatever the flags say, and no filter is read.
+    pub fn recover(
+        alloc: A,
+        bytes: Slice<A>,
+        checksum: Checksum,
+        global_seqno: SeqNo,
+        tree_id: TreeId,
+        pin_filter: bool,
+        pin_index: bool,
+    ) -> Result<Table<A>, Error>
+        ensures told { Gives (λ (t : TableSeen). t.parts) result (recovered_told bytes global_seqno) }
+        // A table of a list that readers read is opened where the highest number fits, and says of itself what the list says.
+        ensures list { (label : Label) (options : Options) (es : List Entry)
+            (t : IsTable label options bytes es) → options.index_block_restart_interval ≡ 1 →
+            Gives (λ (t : TableSeen). t.parts) result (list_told label options bytes es t global_seqno) }
+        ensures bytes { IfOk result (λ t. t.bytes ≡ bytes) }
+        ensures numbers { IfOk result (λ t. (t.global_seqno ≡ global_seqno) × (t.tree_id ≡ tree_id) × (t.checksum ≡ checksum.0)) }
+    {
+        let _ = pin_filter;
+        let _ = pin_index;
+        let source = BlockSource::new(alloc.clone()?, bytes)?;
+        let inner = recover_inner(&source, checksum, global_seqno, tree_id)?;
+        Ok(Table(Arc::new(alloc, Shared { inner, source })?))
+    }
+
+    /// The hash of a key, which a point read is given.
+    pub fn key_hash(key: &[u8]) -> u64
+        ensures { result ≡ fnv1a key.now }
+    {
+        hash(key)
+    }
+
+    /// The first entry of a key numbered below `seqno`, with how many blocks were loaded for it. Answers as [`Table::get`].
+    pub fn get_counted(
+        &self,
+        key: &[u8],
+        seqno: SeqNo,
+        key_hash: u64,
+    ) -> (Result<Option<InternalValue<A>>, Error>, Opened)
+        requires { key_hash ≡ fnv1a key.now }
+        ensures told { Gives (λ (found : Option Entry). found) result.0 (answer_told (body_of self.now.bytes) self.now.global_seqno self.now.parts key.now seqno) }
+        ensures first { FaultsFirst result.0 (fault_at (body_of self.now.bytes)
+            (handle_for self.now.parts self.now.global_seqno key.now seqno)) }
+        ensures opened { result.1 ≡
+            opened_by (handle_for self.now.parts self.now.global_seqno key.now seqno) none_opened }
+        ensures open { IsOpen self.now }
+    {
+        let shared: &Shared<A> = &self.0;
+        let mut source = Counted::new(&shared.source);
+        let found = point_in(&mut source, &shared.inner, key, seqno, key_hash);
+        (found, source.opened())
+    }
+
+    /// The first entry of a key numbered below `seqno`, its number with the global number added. `key_hash` is the key's
+    /// [`Table::key_hash`]. Refused with the first fault of loading the one data block that the read rests on, and
+    /// [`Error::OutOfMemory`]; nothing changes then.
+    pub fn get(
+        &self,
+        key: &[u8],
+        seqno: SeqNo,
+        key_hash: u64,
+    ) -> Result<Option<InternalValue<A>>, Error>
+        requires { key_hash ≡ fnv1a key.now }
+        ensures told { Gives (λ (found : Option Entry). found) result (answer_told (body_of self.now.bytes) self.now.global_seqno self.now.parts key.now seqno) }
+        ensures first { FaultsFirst result (fault_at (body_of self.now.bytes)
+            (handle_for self.now.parts self.now.global_seqno key.now seqno)) }
+        ensures recovered { IsRecovered self.now }
+        // On a table of a list it is the first match in the list, its numbers lifted.
+        ensures list { (label : Label) (options : Options) (es : List Entry) →
+            IsTable label options self.now.bytes es →
+            Gives (λ (found : Option Entry). found) result (Ok (point (lift es self.now.global_seqno) key.now seqno)) }
+    {
+        self.get_counted(key, seqno, key_hash).0
+    }
+
+    /// All entries in order, their numbers with the global number added. Each data block is read once, in file order.
+    /// Refused with the first fault of loading the first of them, and [`Error::OutOfMemory`].
+    pub fn scan(&self) -> Result<Scanner<A>, Error>
+        ensures refused { Faults result (fault_of (load_at_told (body_of self.now.bytes) 0 Data)) }
+        // Want of memory aside, it gives the entries of as many blocks as the table says that it has.
+        ensures deals { (stops : Error → Bool) → stops OutOfMemory ≡ true → IfOk result (λ s. Deals (stopped stops) ⟦<Scanner<A> as Iterator>⟧.next_gives nowhere s (scan_told (body_of self.now.bytes) self.now.parts.facts.data_block_count self.now.global_seqno)) }
+        ensures can { IfOk result (λ s. CanDeal ⟦<Scanner<A> as Iterator>⟧.next_gives nowhere ⟦<Scanner<A> as Iterator>⟧.can_next ⟦<Scanner<A> as Iterator>⟧.can_next s) }
+        // After an error nothing comes, whatever the error is.
+        ensures ends { (stops : Error → Bool) (s t : Scan) (e : Error) → ⟦<Scanner<A> as Iterator>⟧.next_gives s (Some (Err e)) t → Deals (stopped stops) ⟦<Scanner<A> as Iterator>⟧.next_gives nowhere t [] }
+        ensures opened { IfOk result (λ s. s.opened ≡ counted Data none_opened) }
+        // On a table of a list it is the list, its numbers lifted; where the list has an entry, nothing but want of memory
+        // refuses it.
+        ensures list { (label : Label) (options : Options) (es : List Entry) →
+            IsTable label options self.now.bytes es → ScansList result es self.now.global_seqno }
+        ensures open { IsOpen self.now }
+    {
+        let shared: &Shared<A> = &self.0;
+        let inner = &shared.inner;
+        Scanner::new(
+            &shared.source,
+            inner.metadata.data_block_count,
+            inner.metadata.data_block_compression,
+            inner.global_seqno,
+        )
+    }
+}
+
+impl<A: Allocator> Table<A> {
+    /// A law, which does nothing: a table of a list says of itself what the list says, and its key range is the list's ends.
+    pub fn tells_its_list(&self)
+        ensures parts { (label : Label) (options : Options) (es : List Entry)
+            (t : IsTable label options self.now.bytes es) → self.now.parts ≡ parts_said label options self.now.bytes es t }
+        ensures range { (label : Label) (options : Options) (es : List Entry) →
+            IsTable label options self.now.bytes es → ⟦<Table<A> as Ranged>⟧.range self.now ≡ ends_of es }
+    {
+        let _shared: &Shared<A> = &self.0;
+    }
+
+    /// The table's id.
+    pub fn id(&self) -> TableId
+        ensures { result ≡ self.now.parts.facts.id }
+    {
+        self.0.inner.metadata.id
+    }
+
+    /// The number that is added to every stored number.
+    pub fn global_seqno(&self) -> SeqNo
+        ensures { result ≡ self.now.global_seqno }
+    {
+        self.0.inner.global_seqno
+    }
+
+    /// The checksum that the table was opened with.
+    pub fn checksum(&self) -> Checksum
+        ensures { result.0 ≡ self.now.checksum }
+    {
+        self.0.inner.checksum
+    }
+
+    /// The highest number: the stored one plus the global number.
+    pub fn get_highest_seqno(&self) -> SeqNo
+        ensures { result ≡ self.now.parts.facts.seqno_max + self.now.global_seqno }
+    {
+        self.0.inner.metadata.seqnos.1 + self.0.inner.global_seqno
+    }
+
+    /// How many entries are tombstones of either kind.
+    pub fn tombstone_count(&self) -> u64
+        ensures { result ≡ self.now.parts.facts.tombstone_count }
+    {
+        self.0.inner.metadata.tombstone_count
+    }
+
+    /// How many entries are weak tombstones.
+    pub fn weak_tombstone_count(&self) -> u64
+        ensures { result ≡ self.now.parts.facts.weak_tombstone_count }
+    {
+        self.0.inner.metadata.weak_tombstone_count
+    }
+
+    /// How many values stand directly after a weak tombstone of their key.
+    pub fn weak_tombstone_reclaimable(&self) -> u64
+        ensures { result ≡ self.now.parts.facts.weak_tombstone_reclaimable }
+    {
+        self.0.inner.metadata.weak_tombstone_reclaimable
+    }
+
+    /// The payload length of the filter block that stays loaded, in bytes: 0, since no filter is read.
+    pub fn pinned_filter_size(&self) -> usize
+        ensures { result ≡ 0 }
+    {
+        0
+    }
+
+    /// The payload length of the index block that stays loaded, in bytes.
+    pub fn pinned_block_index_size(&self) -> usize
+        ensures size { result + 24 ≡ self.now.parts.regions.tli.size }
+        ensures payload { (b : Loaded) → load_told (body_of self.now.bytes) self.now.parts.regions.tli.offset self.now.parts.regions.tli.size Index ≡ Ok b → result ≡ length b.payload }
+    {
+        self.0.inner.regions.tli.size() as usize - Header::serialized_len()
+    }
+
+    /// Whether the key range that the table says reaches past both bounds. On a table of a list, where it does not, no key of
+    /// the list lies within them.
+    pub fn check_key_range_overlap(&self, bounds: &(Bound<&[u8]>, Bound<&[u8]>)) -> bool
+        ensures value { result ≡ reaches (bound_of bounds.now.0) (bound_of bounds.now.1)
+            self.now.parts.facts.key_range }
+        ensures list { result ≡ false → (label : Label) (options : Options) (es : List Entry) →
+            IsTable label options self.now.bytes es → within (bound_of bounds.now.0) (bound_of bounds.now.1) es ≡ [] }
+    {
+        self.0.inner.metadata.key_range.overlaps_with_bounds(bounds)
+    }
+
+    /// The length of the `filter` section in bytes, or 0 where there is none.
+    pub fn filter_size(&self) -> u32
+        ensures { result ≡ size_of self.now.parts.regions.filter }
+    {
+        match self.0.inner.regions.filter {
+            Some(handle) => handle.size(),
+            None => 0,
+        }
+    }
+}

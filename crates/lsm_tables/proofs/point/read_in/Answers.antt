@@ -1,5 +1,0 @@
-use Rattle.lsm_tables.proofs.Loads.{load_kind, data_holds}
-use Rattle.lsm_tables.proofs.point.read_in.Goals as goal
-
-pub new-requires : goal.new-requires
-new-requires g c = data_holds _ (load_kind _ _ _ _ _ c.in_ok-block.ensures.told)

@@ -1,0 +1,40 @@
+-- A list that is written, opened and read.
+use Rattle.std.specs.Prelude.{◌≡◌, ℕ, Bool, true, ◌+◌, ◌-◌, ◌^◌, nat_lt, List, [], Option, Some, None, if◌then◌else◌}
+use Rattle.sst_sections.specs.declared.version.TableVersion.TheVariants.{V4}
+use Rattle.sst_entries.specs.declared.error.Error.{Error}
+use Rattle.sst_entries.specs.declared.error.Error.TheVariants.{GlobalSeqNoTooLarge, OutOfMemory}
+use Rattle.sst_entries.specs.Entry.{Entry}
+use Rattle.sst_sections.specs.Fnv.{fnv1a}
+use Rattle.sst_entries.specs.Point.{point}
+use Rattle.sst_entries.specs.Stream.{Deals, all_ok, nowhere, stopped}
+use Rattle.std.specs.Option.{option_or}
+use Rattle.lsm_files.specs.Facts.{highest_seqno}
+use Rattle.lsm_files.specs.Options.{Label, default_options}
+use Rattle.lsm_files.specs.Table.{IsTable}
+use Rattle.lsm_writers.specs.Writing.{list_fault}
+use Rattle.lsm_readers.specs.Answer.{lift}
+use Rattle.lsm_readers.specs.Scan.{Scan, ScansNext}
+use Rattle.lsm_readers.specs.TableSeen.{TableSeen}
+
+-- the highest number passes u64 with the global number added
+abbrev pub number_fault : List Entry → ℕ → Option Error
+number_fault es g = if nat_lt (2 ^ 64 - 1) (highest_seqno es + g) then Some GlobalSeqNoTooLarge else None
+
+-- what writing a list as a table and opening it refuses
+abbrev pub opening_fault : Label → List Entry → ℕ → Option Error
+opening_fault label es g = option_or (list_fault label es) (number_fault es g)
+
+-- an opened table of a list, in the version that is written, of tree 0 and with the checksum of its bytes
+pub record IsOpened (label : Label) (es : List Entry) (g : ℕ) (t : TableSeen) : Type 0 where
+  pub some : es ≡ [] → ⊥
+  pub table : IsTable label default_options t.bytes es
+  pub version_is : table.version ≡ V4
+  pub number_is : t.global_seqno ≡ g
+  pub tree_is : t.tree_id ≡ 0
+  pub checksum_is : t.checksum ≡ fnv1a t.bytes
+
+-- what was read of a list: the first match of a key, and a scan of all, each number lifted
+pub record ReadsList (es : List Entry) (g : ℕ) (key : List ℕ) (bound : ℕ) (found : Option Entry) (s : Scan) : Type 0 where
+  pub point_is : found ≡ point (lift es g) key bound
+  pub scan_is : (stops : Error → Bool) → stops OutOfMemory ≡ true →
+      Deals (stopped stops) ScansNext nowhere s (all_ok (lift es g))
