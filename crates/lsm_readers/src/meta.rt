@@ -61,7 +61,7 @@ fn item<A: Allocator>(block: &DataBlock<A>, name: ItemName) -> Result<Slice<A>, 
     }
 }
 
-#[tactic(auto, unfolding(sst_blocks::specs::Number::num8))]
+#[tactic(auto, unfolding(sst_sections::specs::Number::num8))]
 fn number8(value: &[u8]) -> Result<u64, Error>
     ensures { result ≡ number8_told value.now }
 {
@@ -71,7 +71,7 @@ fn number8(value: &[u8]) -> Result<u64, Error>
     Ok(LittleEndian::read_u64(value))
 }
 
-#[tactic(auto, unfolding(sst_blocks::specs::Number::num16))]
+#[tactic(auto, unfolding(sst_sections::specs::Number::num16))]
 fn number16(value: &[u8]) -> Result<u128, Error>
     ensures { result ≡ number16_told value.now }
 {
