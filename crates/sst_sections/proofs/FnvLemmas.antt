@@ -27,3 +27,7 @@ fnv_from-split h n xs = sym (fnv_from-append h (take n xs) (drop n xs)) ∙ ap (
 pub fnv_from-grown : (h n : ℕ) (xs ys : List ℕ) → n ≤ length xs → fnv_from (fnv_from h (take n xs)) (drop n (xs ++ ys)) ≡ fnv_from h (xs ++ ys)
 fnv_from-grown h n xs ys le =
     ap (λ (front : List ℕ). fnv_from (fnv_from h front) (drop n (xs ++ ys))) (sym (take-append-le n xs ys le)) ∙ fnv_from-split h n (xs ++ ys)
+
+-- the hash of a front stays, where the list has grown since
+pub fnv_from-front : (h basis n : ℕ) (xs ys grown : List ℕ) → n ≤ length xs → grown ≡ xs ++ ys → h ≡ fnv_from basis (take n xs) → h ≡ fnv_from basis (take n grown)
+fnv_from-front h basis n xs ys grown le e hashed = hashed ∙ ap (fnv_from basis) (sym (take-append-le n xs ys le) ∙ ap (take n) (sym e))

@@ -10,7 +10,7 @@ use Rattle.sst_sections.specs.declared.section.SectionName.{SectionName}
 use Rattle.sst_sections.specs.declared.section.SectionName.TheVariants.{Data, Index, Tli, Filter, FilterTli, TableVersion, Meta}
 use Rattle.sst_sections.specs.declared.section.Section.{Section}
 use Rattle.sst_sections.specs.Number.{le8, num8}
-use Rattle.sst_sections.specs.Sections.{Written, section_names, place_of, trailer_mark, next_start, section_of, AreAscending, slot, trailer, finished, body_of, trailer_of, section_at, section_in, is_past, trailer_fault}
+use Rattle.sst_sections.specs.Sections.{Written, section_names, place_of, trailer_mark, next_start, section_of, AreAscending, slot, trailer, finished, body_of, trailer_of, section_at, section_in, is_past, trailer_fault, ReadsBack}
 use Rattle.sst_sections.proofs.Numbers.{wide8}
 use Rattle.sst_sections.proofs.TrailerLemmas.{trailer_fine}
 
@@ -114,19 +114,19 @@ module _ (f : SectionName → Option Section) where
 length_both : (xs ys : List ℕ) (n : ℕ) → length ys ≡ n → length (xs ++ ys) - n ≡ length xs
 length_both xs ys n e = omega (arith, length-append xs ys)
 
-trailer_len : (w : Written) → length (trailer w) ≡ 120
-trailer_len w =
+trailer_length : (w : Written) → length (trailer w) ≡ 120
+trailer_length w =
     let told : SectionName → Option Section = λ name. section_of (length w.bytes) w.started name in
     omega (arith, length-append (flat_map (λ name. slot (told name)) section_names) trailer_mark, slots_len told section_names)
 
 -- the body of a finished writer's bytes is what was written
 pub finished_body : (w : Written) → body_of (finished w) ≡ w.bytes
 finished_body w =
-    ap (λ (n : ℕ). take n (finished w)) (length_both w.bytes (trailer w) 120 (trailer_len w)) ∙ take_at w.bytes (trailer w) (length w.bytes) refl
+    ap (λ (n : ℕ). take n (finished w)) (length_both w.bytes (trailer w) 120 (trailer_length w)) ∙ take_at w.bytes (trailer w) (length w.bytes) refl
 
 finished_trailer : (w : Written) → trailer_of (finished w) ≡ trailer w
 finished_trailer w =
-    ap (λ (n : ℕ). drop n (finished w)) (length_both w.bytes (trailer w) 120 (trailer_len w)) ∙ drop_at w.bytes (trailer w) (length w.bytes) refl
+    ap (λ (n : ℕ). drop n (finished w)) (length_both w.bytes (trailer w) 120 (trailer_length w)) ∙ drop_at w.bytes (trailer w) (length w.bytes) refl
 
 name_at : (name : SectionName) → get_or section_names (place_of name) Data ≡ name
 name_at Data = refl
@@ -165,12 +165,34 @@ pub finished_fine : (w : Written) → length w.bytes < 2 ^ 64 → AreAscending (
 finished_fine w small asc =
     let told : SectionName → Option Section = λ name. section_of (length w.bytes) w.started name in
     let bytes = finished w in
-    let end = length_both w.bytes (trailer w) 120 (trailer_len w) in
+    let end = length_both w.bytes (trailer w) 120 (trailer_length w) in
     let slots : length (flat_map (λ name. slot (told name)) section_names) ≡ 112 = slots_len told section_names in
     let marked : drop 112 (trailer_of bytes) ≡ trailer_mark = ap (drop 112) (finished_trailer w) ∙ drop_at (flat_map (λ name. slot (told name)) section_names) trailer_mark 112 slots in
     let read : map (section_in bytes) section_names ≡ map told section_names = map_same (section_in bytes) told section_names (λ name. finished_section w name small asc) in
-    trailer_fine bytes (omega (arith, length-append w.bytes (trailer w), trailer_len w))
+    trailer_fine bytes (omega (arith, length-append w.bytes (trailer w), trailer_length w))
     (ap (λ (mark : List ℕ). not (pointwise nat_eq mark trailer_mark)) marked)
     (ap (λ (n : ℕ). list_any (is_past n) (map (section_in bytes) section_names)) end
     ∙ ap (λ (ss : List (Option Section)). list_any (is_past (length w.bytes)) ss) read
     ∙ none_past told (length w.bytes) section_names (λ name. section_of-within (length w.bytes) w.started name asc))
+
+-- ---- sections begin one behind the other
+
+-- more bytes behind them
+pub ascending_more : (end more : ℕ) (ss : List (SectionName × ℕ)) → end ≤ more → AreAscending end ss → AreAscending more ss
+ascending_more end more [] le asc = tt
+ascending_more end more (s ∷ []) le asc = (omega (arith, asc.0), tt)
+ascending_more end more (s ∷ t ∷ ss) le asc = (asc.0, ascending_more end more (t ∷ ss) le asc.1)
+
+-- one that begins at the end
+pub ascending_start : (end : ℕ) (ss : List (SectionName × ℕ)) (name : SectionName) → AreAscending end ss → AreAscending end (ss ++ (name, end) ∷ [])
+ascending_start end [] name asc = (omega arith, tt)
+ascending_start end (s ∷ []) name asc = (asc.0, (omega arith, tt))
+ascending_start end (s ∷ t ∷ ss) name asc = (asc.0, ascending_start end (t ∷ ss) name asc.1)
+
+-- so the bytes of a finished writer give back what was written
+pub finished_reads : (w : Written) → length w.bytes < 2 ^ 64 → AreAscending (length w.bytes) w.started → ReadsBack w (finished w)
+finished_reads w small asc = record {
+  fine = finished_fine w small asc;
+  body = finished_body w;
+  sections = λ name. finished_section w name small asc;
+}

@@ -10,7 +10,7 @@ mod version;
 
 pub use checksum::Checksum;
 pub use fnv::hash;
-pub use section::{Section, SectionName, SectionWriter, TRAILER_LEN};
+pub use section::{Section, SectionName, SectionWriter, TRAILER_LEN, finished_sections_read};
 pub use sst_entries::{
     Direction, Error, InternalKey, InternalValue, IterItem, SeqNo, Slice, TagName, UserKey,
     UserValue, ValueType, answer_at, answers_at, are_strict, compare_versions, from_the_front,

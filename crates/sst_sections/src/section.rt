@@ -3,7 +3,7 @@ ghost use Rattle.std.specs.Prelude.{◌≡◌, ◌++◌, ◌∷◌, [], ℕ, ◌
 ghost use Rattle.std.specs.List.{flat_map};
 ghost use Rattle.sst_sections.specs.Fnv.{fnv1a};
 ghost use Rattle.sst_sections.specs.Number.{le8};
-ghost use Rattle.sst_sections.specs.Sections.{Written, finished, place_of, section_names, section_of, slot, trailer_mark};
+ghost use Rattle.sst_sections.specs.Sections.{AreAscending, ReadsBack, Written, finished, place_of, section_names, section_of, slot, trailer_mark};
 ghost use Rattle.sst_entries.specs.declared.error.Error.TheVariants.{OutOfMemory};
 
 use crate::fnv::{Fnv1a, update_both};
@@ -78,15 +78,16 @@ pub struct SectionWriter<A: Allocator = Global> {
 }
 
 impl<A: Allocator> Model for SectionWriter<A> {
-    ghost use Rattle.std.specs.Prelude.{◌≡◌, ◌≤◌, take, vec_len};
+    ghost use Rattle.std.specs.Prelude.{◌≡◌, ◌≤◌, length, take, vec_len};
     ghost use Rattle.sst_sections.specs.Fnv.{fnv1a};
-    ghost use Rattle.sst_sections.specs.Sections.{Written};
+    ghost use Rattle.sst_sections.specs.Sections.{AreAscending, Written};
 
     ghost Value = { Written };
 
     ghost view = { λ w. record { bytes = w.bytes.items; started = w.started.items } };
 
-    ghost invariant = { λ w. (w.hashed ≤ vec_len w.bytes) × (w.hash.0 ≡ fnv1a (take w.hashed w.bytes.items)) };
+    ghost invariant = { λ w. (w.hashed ≤ vec_len w.bytes) × (w.hash.0 ≡ fnv1a (take w.hashed w.bytes.items))
+        × AreAscending (length w.bytes.items) w.started.items };
 }
 
 impl<A: Allocator + Clone> SectionWriter<A> {
@@ -105,9 +106,11 @@ impl<A: Allocator + Clone> SectionWriter<A> {
     }
 
     /// Begins a section at the position reached. Refused [`Error::OutOfMemory`]; nothing changes then.
+    #[tactic(auto, using(crate::proofs::SectionLaws::ascending_start))]
     pub fn start(&mut self, name: SectionName) -> Result<(), Error>
         requires { All (λ s. place_of s.0 ≡ place_of name → ⊥) self.old.started }
-        ensures ok { OnOk result (self.new ≡ record self.old { started = self.old.started ++ (name, length self.old.bytes) ∷ [] }) }
+        ensures ok { let started = self.old.started ++ (name, length self.old.bytes) ∷ [] in
+            OnOk result (self.new ≡ record self.old { started = started }) }
         ensures unchanged { OnErr result (self.new ≡ self.old) }
         ensures err { IfErr result (λ e. e ≡ OutOfMemory) }
     {
@@ -137,6 +140,7 @@ impl<A: Allocator + Clone> SectionWriter<A> {
     pub fn finish(self) -> Result<(Slice<A>, Checksum), Error>
         ensures bytes { IfOk result (λ x. x.0 ≡ finished self) }
         ensures checksum { IfOk result (λ x. x.1.0 ≡ fnv1a (finished self)) }
+        ensures reads { IfOk result (λ x. ReadsBack self x.0) }
         ensures err { IfErr result (λ e. e ≡ OutOfMemory) }
     {
         let mut bytes = self.bytes;
@@ -151,7 +155,8 @@ impl<A: Allocator + Clone> SectionWriter<A> {
     /// Writes two runs of bytes at the end, one after the other. Refused [`Error::OutOfMemory`]; nothing changes then.
     pub fn append_both(&mut self, front: &[u8], back: &[u8]) -> Result<(), Error>
         requires { length front.now + length back.now < 2 ^ 64 }
-        ensures ok { OnOk result (self.new ≡ record self.old { bytes = self.old.bytes ++ front.now ++ back.now }) }
+        ensures ok { let bytes = self.old.bytes ++ front.now ++ back.now in
+            OnOk result (self.new ≡ record self.old { bytes = bytes }) }
         ensures unchanged { OnErr result (self.new ≡ self.old) }
         ensures err { IfErr result (λ e. e ≡ OutOfMemory) }
     {
@@ -177,6 +182,13 @@ impl<A: Allocator + Clone> SectionWriter<A> {
         checksum.finish()
     }
 }
+
+/// A law of tables' bytes: the sections that a writer began, each behind the one before it, are read back
+/// from what it finished. The call does nothing.
+pub fn finished_sections_read()
+    ensures { (w : Written) → AreAscending (length w.bytes) w.started → length w.bytes < 2 ^ 64 →
+        ReadsBack w (finished w) }
+{}
 
 /// Where a section lies among those that were started, of which the last reaches up to `end`.
 fn section_of(end: u64, started: &[(SectionName, u64)], name: SectionName) -> Option<Section>
@@ -220,7 +232,8 @@ fn put_trailer<A: Allocator>(
     end: u64,
     started: &[(SectionName, u64)],
 ) -> Result<(), Error>
-    ensures ok { OnOk result (bytes.new.items ≡ bytes.old.items ++ (flat_map (λ name. slot (section_of end started.now name)) section_names ++ trailer_mark)) }
+    ensures ok { let slots = flat_map (λ name. slot (section_of end started.now name)) section_names in
+        OnOk result (bytes.new.items ≡ bytes.old.items ++ (slots ++ trailer_mark)) }
     ensures err { IfErr result (λ e. e ≡ OutOfMemory) }
 {
     for name in NAMES {

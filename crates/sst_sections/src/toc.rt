@@ -1,15 +1,16 @@
 //! What a trailer says of the sections.
-ghost use Rattle.std.specs.Prelude.{◌≡◌, ◌*◌, ◌≤◌, ◌<◌, ◌^◌, None, Some, drop, length, map, slice_index_or, IfOk, MatchResult};
+ghost use Rattle.std.specs.Prelude.{◌≡◌, ◌*◌, ◌≤◌, ◌<◌, ◌^◌, None, Some, drop, length, map, slice_index_or, IfOk};
 ghost use Rattle.std.specs.List.{list_any};
-ghost use Rattle.sst_sections.specs.Sections.{is_past, place_of, section_at, section_in, section_names, trailer_fault};
+ghost use Rattle.sst_entries.specs.Error.{Refuses};
+ghost use Rattle.sst_sections.specs.Sections.{is_past, place_of, section_at, section_in, section_names, slots_len, trailer_fault};
 
 use crate::number::u64_at;
 use crate::section::{TRAILER_LEN, TRAILER_MARK};
 use crate::{Error, Section, SectionName};
 use std::marker::Model;
 
-/// Where the mark stands in a trailer.
-const MARK_AT: usize = TRAILER_LEN - TRAILER_MARK.len();
+/// The length of the seven slots of a trailer in bytes: the mark stands behind them.
+const SLOTS_LEN: usize = TRAILER_LEN - TRAILER_MARK.len();
 
 /// Where each section of a table lies. A contract sees the list of the sections in the trailer's order.
 #[derive(Clone, Copy, Debug)]
@@ -41,14 +42,14 @@ impl Toc {
     pub fn of(bytes: &[u8]) -> Result<Toc, Error>
         requires { length bytes.now < 2 ^ 63 }
         ensures toc { IfOk result (λ toc. toc ≡ map (section_in bytes.now) section_names) }
-        ensures fault { MatchResult result (λ _. trailer_fault bytes.now ≡ None) (λ e. trailer_fault bytes.now ≡ Some e) }
+        ensures fault { Refuses result (trailer_fault bytes.now) }
     {
         if bytes.len() < TRAILER_LEN {
             return Err(Error::InvalidTrailer);
         }
         let end = bytes.len() - TRAILER_LEN;
         let (_, trailer) = bytes.split_at(end);
-        if &trailer[MARK_AT..] != TRAILER_MARK.as_slice() {
+        if &trailer[SLOTS_LEN..] != TRAILER_MARK.as_slice() {
             return Err(Error::InvalidTrailer);
         }
         let toc = Toc::read(trailer);
@@ -60,7 +61,7 @@ impl Toc {
 
     /// Reads the seven slots of a trailer.
     fn read(trailer: &[u8]) -> Toc
-        requires { 112 ≤ length trailer.now }
+        requires { slots_len ≤ length trailer.now }
         ensures { result ≡ map (λ name. section_at (drop (16 * place_of name) trailer.now)) section_names }
     {
         Toc {

@@ -10,4 +10,4 @@ invariant_of-self g c =
     let rest = take_rest xs c.self.inside.hashed in
     let whole = fnv_from-split fnv_basis c.self.inside.hashed xs in
     let all = take_all c.len-self-inside.result xs (omega arith) in
-    (omega arith, cc (c.update_both.ensures.first, c.self.invariant.1, c.deref.ensures.value))
+    (omega arith, cc (c.update_both.ensures.first, c.self.invariant.1, c.deref.ensures.value), c.self.invariant.2)

@@ -3,6 +3,7 @@ use Rattle.std.proofs.lemmas.List.{take_rest}
 use Rattle.sst_sections.specs.Fnv.{fnv_basis}
 use Rattle.sst_sections.specs.Sections.{Written, finished, trailer}
 use Rattle.sst_sections.proofs.FnvLemmas.{fnv_from-grown}
+use Rattle.sst_sections.proofs.SectionLaws.{finished_reads}
 use Rattle.sst_sections.proofs.section.SectionWriter.finish.Goals as goal
 
 pub returns-clause-checksum : goal.returns-clause-checksum
@@ -16,3 +17,9 @@ returns-clause-checksum g c =
     let hashed = c.self.invariant.1 in
     let last : c.from.result ≡ c.update.new.self.0 = search rules in
     cc (c.update.ensures, c.deref-2.ensures.value)
+
+pub returns-clause-reads : goal.returns-clause-reads
+returns-clause-reads g c =
+    let w : Written = record { bytes = c.self.inside.bytes.items; started = c.self.inside.started.items } in
+    let reads = finished_reads w (omega arith) c.self.invariant.2 in
+    search rules
