@@ -6,16 +6,16 @@ use Rattle.std.proofs.lemmas.Bool.{cases_Bool}
 use Rattle.std.proofs.lemmas.List.{take_more, take_all, length-take-le}
 use Rattle.std.proofs.lemmas.List.Sorted.{IsPermutation-trans, IsPermutation-append_left, IsPermutation-refl}
 use Rattle.lsm_ranges.specs.KeyRange.{Interval}
-use Rattle.lsm_ranges.specs.Packing.{tables_of, put, put_all, AreFormed, AreInOrder, AreNotEmpty}
-use Rattle.lsm_ranges.specs.Links.{Mem, Tagged, tag, tags_in, tags}
-use Rattle.lsm_ranges.specs.LinkedRuns.{tag_of, ArePackedLinks}
+use Rattle.lsm_ranges.specs.Packing.{tables_of, put, put_all, AreTablesWellFormed, AreInOrder, AreNotEmpty}
+use Rattle.lsm_ranges.specs.Links.{IsElement, TableWithPlace, table_with_place, run_with_places, runs_with_places}
+use Rattle.lsm_ranges.specs.LinkedRuns.{table_of_link, ArePackedLinks}
 use Rattle.lsm_ranges.specs.declared.optimize.Link.{Link}
 use Rattle.lsm_ranges.proofs.PackLemmas.{put_all_packed, put_all-append, formed_parts, in_order_of}
 use Rattle.lsm_ranges.proofs.PackSize.{formed-map}
 
 module _ {X : Type 0} where
   -- an element of a list is at some place, and the other way round
-  pub mem_contains : (xs : List X) (x : X) → Mem x xs → Contains xs x
+  pub mem_contains : (xs : List X) (x : X) → IsElement x xs → Contains xs x
   mem_contains [] x h = absurd h
   mem_contains (y ∷ ys) x h =
       elim h [
@@ -23,10 +23,10 @@ module _ {X : Type 0} where
         | inr m ↦ let k = mem_contains ys x m in (suc k.0, omega (arith, k.1), k.2)
       ]
 
-  pub contains_mem : (xs : List X) (x : X) → Contains xs x → Mem x xs
+  pub contains_mem : (xs : List X) (x : X) → Contains xs x → IsElement x xs
   contains_mem xs x (k, lt, at) = go xs k lt at
     where
-      go : (ys : List X) (k : ℕ) → k < length ys → get_or ys k x ≡ x → Mem x ys
+      go : (ys : List X) (k : ℕ) → k < length ys → get_or ys k x ≡ x → IsElement x ys
       go [] k lt at = absurd (omega arith)
       go (y ∷ ys) zero lt at = inl (sym at)
       go (y ∷ ys) (suc k) lt at = inr (go ys k (omega arith) at)
@@ -52,7 +52,7 @@ module _ {X : Type 0} where
   pub first_passes : (p : X → Bool) (xs ys : List X) → ys ≡ filter p xs → None ≡ slice_get ys 0 → list_any p xs ≡ true → ⊥
   first_passes p xs ys is none some = none_first p xs (none ∙ ap (λ l. slice_get l 0) is) some
 
-  some_first : (p : X → Bool) (xs : List X) (x : X) → Some x ≡ slice_get (filter p xs) 0 → Mem x xs × (p x ≡ true)
+  some_first : (p : X → Bool) (xs : List X) (x : X) → Some x ≡ slice_get (filter p xs) 0 → IsElement x xs × (p x ≡ true)
   some_first p [] x h = absurd cc
   some_first p (z ∷ zs) x h =
       elim (cases_Bool (p z)) [
@@ -68,77 +68,77 @@ module _ {X : Type 0} where
   first_found p xs ys x is at = let k = some_first p xs x (at ∙ ap (λ l. slice_get l 0) is) in (mem_contains xs x k.0, k.1)
 
 module _ {T : Type 0} where
-  tags_in-push : (i k : ℕ) (ts : List T) (t : T) → tags_in i k (ts ++ t ∷ []) ≡ tags_in i k ts ++ tag t i (k + length ts) ∷ []
-  tags_in-push i k [] t = let e : k ≡ k + 0 = omega arith in ap (λ n. tag t i n ∷ []) e
-  tags_in-push i k (x ∷ xs) t =
+  run_with_places-push : (i k : ℕ) (ts : List T) (t : T) → run_with_places i k (ts ++ t ∷ []) ≡ run_with_places i k ts ++ table_with_place t i (k + length ts) ∷ []
+  run_with_places-push i k [] t = let e : k ≡ k + 0 = omega arith in ap (λ n. table_with_place t i n ∷ []) e
+  run_with_places-push i k (x ∷ xs) t =
       let e : suc k + length xs ≡ k + suc (length xs) = omega arith in
-      ap (λ l. tag x i k ∷ l) (tags_in-push i (suc k) xs t ∙ ap (λ n. tags_in i (suc k) xs ++ tag t i n ∷ []) e)
+      ap (λ l. table_with_place x i k ∷ l) (run_with_places-push i (suc k) xs t ∙ ap (λ n. run_with_places i (suc k) xs ++ table_with_place t i n ∷ []) e)
 
-  tags_in-more : (i j : ℕ) (ts : List T) (t : T) → j < length ts → t ≡ get_or ts j t → tags_in i 0 (take (j + 1) ts) ≡ tags_in i 0 (take j ts) ++ tag t i j ∷ []
-  tags_in-more i j ts t lt at =
+  run_with_places-more : (i j : ℕ) (ts : List T) (t : T) → j < length ts → t ≡ get_or ts j t → run_with_places i 0 (take (j + 1) ts) ≡ run_with_places i 0 (take j ts) ++ table_with_place t i j ∷ []
+  run_with_places-more i j ts t lt at =
       let long : 0 + length (take j ts) ≡ j = zero-add (length (take j ts)) ∙ length-take-le j ts (omega arith) in
-      ap (tags_in i 0) (take_more ts j t lt ∙ ap (λ v. take j ts ++ v ∷ []) (sym at))
-      ∙ tags_in-push i 0 (take j ts) t
-      ∙ ap (λ n. tags_in i 0 (take j ts) ++ tag t i n ∷ []) long
+      ap (run_with_places i 0) (take_more ts j t lt ∙ ap (λ v. take j ts ++ v ∷ []) (sym at))
+      ∙ run_with_places-push i 0 (take j ts) t
+      ∙ ap (λ n. run_with_places i 0 (take j ts) ++ table_with_place t i n ∷ []) long
 
-  tags-push : (k : ℕ) (runs : List (List T)) (run : List T) → tags k (runs ++ run ∷ []) ≡ tags k runs ++ tags_in (k + length runs) 0 run
-  tags-push k [] run = let e : k ≡ k + 0 = omega arith in append-nil (tags_in k 0 run) ∙ ap (λ n. tags_in n 0 run) e
-  tags-push k (r ∷ rs) run =
+  runs_with_places-push : (k : ℕ) (runs : List (List T)) (run : List T) → runs_with_places k (runs ++ run ∷ []) ≡ runs_with_places k runs ++ run_with_places (k + length runs) 0 run
+  runs_with_places-push k [] run = let e : k ≡ k + 0 = omega arith in append-nil (run_with_places k 0 run) ∙ ap (λ n. run_with_places n 0 run) e
+  runs_with_places-push k (r ∷ rs) run =
       let e : suc k + length rs ≡ k + suc (length rs) = omega arith in
-      ap (λ l. tags_in k 0 r ++ l) (tags-push (suc k) rs run ∙ ap (λ n. tags (suc k) rs ++ tags_in n 0 run) e)
-      ∙ sym (append_assoc (tags_in k 0 r) (tags (suc k) rs) (tags_in (k + suc (length rs)) 0 run))
+      ap (λ l. run_with_places k 0 r ++ l) (runs_with_places-push (suc k) rs run ∙ ap (λ n. runs_with_places (suc k) rs ++ run_with_places n 0 run) e)
+      ∙ sym (append_assoc (run_with_places k 0 r) (runs_with_places (suc k) rs) (run_with_places (k + suc (length rs)) 0 run))
 
-  tags-more : (i : ℕ) (runs : List (List T)) (run : List T) → i < length runs → run ≡ get_or runs i run → tags 0 (take (i + 1) runs) ≡ tags 0 (take i runs) ++ tags_in i 0 run
-  tags-more i runs run lt at =
+  runs_with_places-more : (i : ℕ) (runs : List (List T)) (run : List T) → i < length runs → run ≡ get_or runs i run → runs_with_places 0 (take (i + 1) runs) ≡ runs_with_places 0 (take i runs) ++ run_with_places i 0 run
+  runs_with_places-more i runs run lt at =
       let long : 0 + length (take i runs) ≡ i = zero-add (length (take i runs)) ∙ length-take-le i runs (omega arith) in
-      ap (tags 0) (take_more runs i run lt ∙ ap (λ v. take i runs ++ v ∷ []) (sym at))
-      ∙ tags-push 0 (take i runs) run
-      ∙ ap (λ n. tags 0 (take i runs) ++ tags_in n 0 run) long
+      ap (runs_with_places 0) (take_more runs i run lt ∙ ap (λ v. take i runs ++ v ∷ []) (sym at))
+      ∙ runs_with_places-push 0 (take i runs) run
+      ∙ ap (λ n. runs_with_places 0 (take i runs) ++ run_with_places n 0 run) long
 
 module _ {T : Type 0} (range : T → Interval) where
   -- nothing is packed yet
   pub links_none : (packed : List (List (Link T))) → packed ≡ [] → ArePackedLinks range [] packed
-  links_none packed is = subst (ArePackedLinks range []) (sym is) (record { links = []; tags_are = refl; same = IsPermutation-refl []; put = λ formed. refl; some = tt })
+  links_none packed is = subst (ArePackedLinks range []) (sym is) (record { links = []; tables_are = refl; same = IsPermutation-refl []; put = λ formed. refl; some = tt })
 
   map-push : {Y Z : Type 0} (h : Y → Z) (ys : List Y) (y : Y) → map h (ys ++ y ∷ []) ≡ map h ys ++ h y ∷ []
   map-push h [] y = refl
   map-push h (x ∷ xs) y = ap (λ l. h x ∷ l) (map-push h xs y)
 
   -- one more link is packed
-  pub links_push : (ts : List (Tagged T)) (now next : List (List (Link T))) (link : Link T) → ArePackedLinks range ts now → (AreInOrder (λ l. range l.table.now) now → next ≡ put (λ l. range l.table.now) link now) → IsPermutation (tables_of now ++ link ∷ []) (tables_of next) → (AreNotEmpty now → AreNotEmpty next) → ArePackedLinks range (ts ++ tag_of link ∷ []) next
+  pub links_push : (ts : List (TableWithPlace T)) (now next : List (List (Link T))) (link : Link T) → ArePackedLinks range ts now → (AreInOrder (λ l. range l.table.now) now → next ≡ put (λ l. range l.table.now) link now) → IsPermutation (tables_of now ++ link ∷ []) (tables_of next) → (AreNotEmpty now → AreNotEmpty next) → ArePackedLinks range (ts ++ table_of_link link ∷ []) next
   links_push ts now next link h put_one same some =
       let f : Link T → Interval = λ l. range l.table.now in
       record {
         links = h.links ++ link ∷ [];
-        tags_are = map-push (λ l. tag_of l) h.links link ∙ ap (λ l. l ++ tag_of link ∷ []) h.tags_are;
+        tables_are = map-push (λ l. table_of_link l) h.links link ∙ ap (λ l. l ++ table_of_link link ∷ []) h.tables_are;
         same = IsPermutation-trans (h.links ++ link ∷ []) (tables_of now ++ link ∷ []) (tables_of next) (IsPermutation-append_left (link ∷ []) h.links (tables_of now) h.same) same;
         put = λ formed.
-            let k = formed_parts (λ (x : Tagged T). range x.table) ts (tag_of link) formed in
+            let k = formed_parts (λ (x : TableWithPlace T). range x.table) ts (table_of_link link) formed in
             let is = h.put k.0 in
-            let formed_links : AreFormed f h.links = formed-map (λ (x : Tagged T). range x.table) (λ (l : Link T). tag_of l) h.links (subst (AreFormed (λ (x : Tagged T). range x.table)) (sym h.tags_are) k.0) in
+            let formed_links : AreTablesWellFormed f h.links = formed-map (λ (x : TableWithPlace T). range x.table) (λ (l : Link T). table_of_link l) h.links (subst (AreTablesWellFormed (λ (x : TableWithPlace T). range x.table)) (sym h.tables_are) k.0) in
             let ordered : AreInOrder f now = subst (AreInOrder f) (sym is) (in_order_of f (put_all f h.links []) (put_all_packed f h.links [] formed_links tt)) in
             put_one ordered ∙ ap (λ rs. put f link rs) is ∙ sym (put_all-append f h.links (link ∷ []) []);
         some = some h.some;
       }
 
-  pub links_more : (ts : List (Tagged T)) (i j : ℕ) (tables : List T) (now next : List (List (Link T))) (link : Link T) → IsPermutation (tables_of now ++ link ∷ []) (tables_of next) → (AreInOrder (λ l. range l.table.now) now → next ≡ put (λ l. range l.table.now) link now) → (AreNotEmpty now → AreNotEmpty next) → j < length tables → link.table.now ≡ get_or tables j link.table.now → link.run ≡ i → link.index ≡ j → ArePackedLinks range (ts ++ tags_in i 0 (take j tables)) now → ArePackedLinks range (ts ++ tags_in i 0 (take (j + 1) tables)) next
+  pub links_more : (ts : List (TableWithPlace T)) (i j : ℕ) (tables : List T) (now next : List (List (Link T))) (link : Link T) → IsPermutation (tables_of now ++ link ∷ []) (tables_of next) → (AreInOrder (λ l. range l.table.now) now → next ≡ put (λ l. range l.table.now) link now) → (AreNotEmpty now → AreNotEmpty next) → j < length tables → link.table.now ≡ get_or tables j link.table.now → link.run ≡ i → link.index ≡ j → ArePackedLinks range (ts ++ run_with_places i 0 (take j tables)) now → ArePackedLinks range (ts ++ run_with_places i 0 (take (j + 1) tables)) next
   links_more ts i j tables now next link same put_one some lt at run_is index_is h =
-      subst (λ (xs : List (Tagged T)). ArePackedLinks range xs next)
-      (append_assoc ts (tags_in i 0 (take j tables)) (tag_of link ∷ [])
-      ∙ ap (λ n. ts ++ (tags_in i 0 (take j tables) ++ tag link.table.now n link.index ∷ [])) run_is
-      ∙ ap (λ n. ts ++ (tags_in i 0 (take j tables) ++ tag link.table.now i n ∷ [])) index_is
-      ∙ ap (λ l. ts ++ l) (sym (tags_in-more i j tables link.table.now lt at)))
-      (links_push (ts ++ tags_in i 0 (take j tables)) now next link h put_one same some)
+      subst (λ (xs : List (TableWithPlace T)). ArePackedLinks range xs next)
+      (append_assoc ts (run_with_places i 0 (take j tables)) (table_of_link link ∷ [])
+      ∙ ap (λ n. ts ++ (run_with_places i 0 (take j tables) ++ table_with_place link.table.now n link.index ∷ [])) run_is
+      ∙ ap (λ n. ts ++ (run_with_places i 0 (take j tables) ++ table_with_place link.table.now i n ∷ [])) index_is
+      ∙ ap (λ l. ts ++ l) (sym (run_with_places-more i j tables link.table.now lt at)))
+      (links_push (ts ++ run_with_places i 0 (take j tables)) now next link h put_one same some)
 
-  pub links_at_start : (ts : List (Tagged T)) (i : ℕ) (tables : List T) (packed : List (List (Link T))) → ArePackedLinks range ts packed → ArePackedLinks range (ts ++ tags_in i 0 (take 0 tables)) packed
-  links_at_start ts i tables packed h = subst (λ (xs : List (Tagged T)). ArePackedLinks range xs packed) (sym (append-nil ts)) h
+  pub links_at_start : (ts : List (TableWithPlace T)) (i : ℕ) (tables : List T) (packed : List (List (Link T))) → ArePackedLinks range ts packed → ArePackedLinks range (ts ++ run_with_places i 0 (take 0 tables)) packed
+  links_at_start ts i tables packed h = subst (λ (xs : List (TableWithPlace T)). ArePackedLinks range xs packed) (sym (append-nil ts)) h
 
-  pub links_at_end : (ts : List (Tagged T)) (i j : ℕ) (tables : List T) (packed : List (List (Link T))) → length tables ≤ j → ArePackedLinks range (ts ++ tags_in i 0 (take j tables)) packed → ArePackedLinks range (ts ++ tags_in i 0 tables) packed
-  links_at_end ts i j tables packed le h = subst (λ (l : List T). ArePackedLinks range (ts ++ tags_in i 0 l) packed) (take_all j tables le) h
+  pub links_at_end : (ts : List (TableWithPlace T)) (i j : ℕ) (tables : List T) (packed : List (List (Link T))) → length tables ≤ j → ArePackedLinks range (ts ++ run_with_places i 0 (take j tables)) packed → ArePackedLinks range (ts ++ run_with_places i 0 tables) packed
+  links_at_end ts i j tables packed le h = subst (λ (l : List T). ArePackedLinks range (ts ++ run_with_places i 0 l) packed) (take_all j tables le) h
 
-  pub links_run : (i : ℕ) (runs : List (List T)) (run view : List T) (next : List (List (Link T))) → i < length runs → run ≡ get_or runs i run → view ≡ run → ArePackedLinks range (tags 0 (take i runs) ++ tags_in i 0 view) next → ArePackedLinks range (tags 0 (take (i + 1) runs)) next
+  pub links_run : (i : ℕ) (runs : List (List T)) (run view : List T) (next : List (List (Link T))) → i < length runs → run ≡ get_or runs i run → view ≡ run → ArePackedLinks range (runs_with_places 0 (take i runs) ++ run_with_places i 0 view) next → ArePackedLinks range (runs_with_places 0 (take (i + 1) runs)) next
   links_run i runs run view next lt at same h =
-      subst (λ (xs : List (Tagged T)). ArePackedLinks range xs next) (ap (λ l. tags 0 (take i runs) ++ tags_in i 0 l) same ∙ sym (tags-more i runs run lt at)) h
+      subst (λ (xs : List (TableWithPlace T)). ArePackedLinks range xs next) (ap (λ l. runs_with_places 0 (take i runs) ++ run_with_places i 0 l) same ∙ sym (runs_with_places-more i runs run lt at)) h
 
-  pub links_of_all : (i : ℕ) (runs : List (List T)) (packed : List (List (Link T))) → length runs ≤ i → ArePackedLinks range (tags 0 (take i runs)) packed → ArePackedLinks range (tags 0 runs) packed
-  links_of_all i runs packed le h = subst (λ (rs : List (List T)). ArePackedLinks range (tags 0 rs) packed) (take_all i runs le) h
+  pub links_of_all : (i : ℕ) (runs : List (List T)) (packed : List (List (Link T))) → length runs ≤ i → ArePackedLinks range (runs_with_places 0 (take i runs)) packed → ArePackedLinks range (runs_with_places 0 runs) packed
+  links_of_all i runs packed le h = subst (λ (rs : List (List T)). ArePackedLinks range (runs_with_places 0 rs) packed) (take_all i runs le) h

@@ -12,21 +12,21 @@ use Rattle.std.proofs.lemmas.Bool.{and_parts, and_from, and_cases, or_cases, or_
 use Rattle.sst_entries.specs.Key.{key_lt}
 use Rattle.lsm_ranges.specs.KeyRange.{Interval, key_le, is_well_formed, has_key, overlaps}
 use Rattle.lsm_ranges.specs.Run.{are_in_order, how_many}
-use Rattle.lsm_ranges.specs.Packing.{tables_of, holders, touches, with_table, put, put_all, count_to_last, AreInOrder, ArePacked, AreFormed, AreWellFormed, AreNotEmpty}
-use Rattle.lsm_ranges.specs.Links.{Mem}
+use Rattle.lsm_ranges.specs.Packing.{tables_of, holders, touches, with_table, put, put_all, count_to_last, AreInOrder, ArePacked, AreTablesWellFormed, AreWellFormed, AreNotEmpty}
+use Rattle.lsm_ranges.specs.Links.{IsElement}
 use Rattle.lsm_ranges.proofs.IntervalLemmas.{above, le_trans, lt_to_le, lt_then_le, shared_overlap}
 use Rattle.lsm_ranges.proofs.RunLemmas.{falls-starts_within, parts, in_order_from, further, none_count}
 
 module _ {X : Type 0} where
-  pub mem-append_left : (xs ys : List X) (x : X) → Mem x xs → Mem x (xs ++ ys)
+  pub mem-append_left : (xs ys : List X) (x : X) → IsElement x xs → IsElement x (xs ++ ys)
   mem-append_left [] ys x h = absurd h
   mem-append_left (z ∷ zs) ys x h = elim h [ inl e ↦ inl e | inr m ↦ inr (mem-append_left zs ys x m) ]
 
-  pub mem-append_right : (xs ys : List X) (x : X) → Mem x ys → Mem x (xs ++ ys)
+  pub mem-append_right : (xs ys : List X) (x : X) → IsElement x ys → IsElement x (xs ++ ys)
   mem-append_right [] ys x h = h
   mem-append_right (z ∷ zs) ys x h = inr (mem-append_right zs ys x h)
 
-  pub mem-append_cases : (xs ys : List X) (x : X) → Mem x (xs ++ ys) → Mem x xs ⊎ Mem x ys
+  pub mem-append_cases : (xs ys : List X) (x : X) → IsElement x (xs ++ ys) → IsElement x xs ⊎ IsElement x ys
   mem-append_cases [] ys x h = inr h
   mem-append_cases (z ∷ zs) ys x h =
       elim h [
@@ -34,13 +34,13 @@ module _ {X : Type 0} where
         | inr m ↦ elim (mem-append_cases zs ys x m) [ inl a ↦ inl (inr a) | inr b ↦ inr b ]
       ]
 
-  pub any_fails : (p : X → Bool) (xs : List X) → list_any p xs ≡ false → (x : X) → Mem x xs → p x ≡ false
+  pub any_fails : (p : X → Bool) (xs : List X) → list_any p xs ≡ false → (x : X) → IsElement x xs → p x ≡ false
   any_fails p [] h x m = absurd m
   any_fails p (y ∷ ys) h x m =
       let k = or_parts (p y) (list_any p ys) h in
       elim m [ inl e ↦ ap p e ∙ k.0 | inr n ↦ any_fails p ys k.1 x n ]
 
-  pub any_found : (p : X → Bool) (xs : List X) → list_any p xs ≡ true → (x : X) × Mem x xs × (p x ≡ true)
+  pub any_found : (p : X → Bool) (xs : List X) → list_any p xs ≡ true → (x : X) × IsElement x xs × (p x ≡ true)
   any_found p [] h = absurd cc
   any_found p (y ∷ ys) h =
       elim (or_cases (p y) (list_any p ys) h) [
@@ -48,7 +48,7 @@ module _ {X : Type 0} where
         | inr k ↦ let f = any_found p ys k in (f.0, inr f.1, f.2)
       ]
 
-  pub any_from : (p : X → Bool) (xs : List X) (x : X) → Mem x xs → p x ≡ true → list_any p xs ≡ true
+  pub any_from : (p : X → Bool) (xs : List X) (x : X) → IsElement x xs → p x ≡ true → list_any p xs ≡ true
   any_from p [] x m h = absurd m
   any_from p (y ∷ ys) x m h =
       elim m [
@@ -56,15 +56,15 @@ module _ {X : Type 0} where
         | inr n ↦ or_right (p y) (list_any p ys) (any_from p ys x n h)
       ]
 
-  pub all_of : (P : X → Type 0) (xs : List X) → AllByRecursion P xs → (x : X) → Mem x xs → P x
+  pub all_of : (P : X → Type 0) (xs : List X) → AllByRecursion P xs → (x : X) → IsElement x xs → P x
   all_of P [] h x m = absurd m
   all_of P (y ∷ ys) h x m = elim m [ inl e ↦ subst P (sym e) h.0 | inr n ↦ all_of P ys h.1 x n ]
 
-  pub all_by : (P : X → Type 0) (xs : List X) → ((x : X) → Mem x xs → P x) → AllByRecursion P xs
+  pub all_by : (P : X → Type 0) (xs : List X) → ((x : X) → IsElement x xs → P x) → AllByRecursion P xs
   all_by P [] h = tt
   all_by P (y ∷ ys) h = (h y (inl refl), all_by P ys (λ x m. h x (inr m)))
 
-  filter_none : (p : X → Bool) (xs : List X) → ((x : X) → Mem x xs → p x ≡ false) → filter p xs ≡ []
+  filter_none : (p : X → Bool) (xs : List X) → ((x : X) → IsElement x xs → p x ≡ false) → filter p xs ≡ []
   filter_none p [] h = refl
   filter_none p (y ∷ ys) h = let e : p y ≡ false = h y (inl refl) in rw e (filter_none p ys (λ x m. h x (inr m)))
 
@@ -110,14 +110,14 @@ overlaps_comm a b = flip (key_le b.min a.max) (key_le a.min b.max)
 
 module _ {T : Type 0} (range : T → Interval) where
   -- of two that have a key, each touches the other
-  no_holder : (t : T) (ts : List T) (k : List ℕ) → has_key (range t) k ≡ true → ((x : T) → Mem x ts → overlaps (range x) (range t) ≡ false) → (x : T) → Mem x ts → has_key (range x) k ≡ false
+  no_holder : (t : T) (ts : List T) (k : List ℕ) → has_key (range t) k ≡ true → ((x : T) → IsElement x ts → overlaps (range x) (range t) ≡ false) → (x : T) → IsElement x ts → has_key (range x) k ≡ false
   no_holder t ts k has apart x m =
       elim (cases_Bool (has_key (range x) k)) [
         | inl e ↦ absurd (both_ways (overlaps (range x) (range t)) (apart x m) (shared_overlap (range x) (range t) (k, e, has)))
         | inr e ↦ e
       ]
 
-  pub untouched : (r : Interval) (runs : List (List T)) → list_any (touches range r) runs ≡ false → (x : T) → Mem x (tables_of runs) → overlaps (range x) r ≡ false
+  pub untouched : (r : Interval) (runs : List (List T)) → list_any (touches range r) runs ≡ false → (x : T) → IsElement x (tables_of runs) → overlaps (range x) r ≡ false
   untouched r [] h x m = absurd m
   untouched r (run ∷ runs) h x m =
       let k = or_parts (touches range r run) (list_any (touches range r) runs) h in
@@ -210,7 +210,7 @@ module _ {T : Type 0} (range : T → Interval) where
         | inr e ↦ rw e (and_from (p (range t)) (p (range x) && list_all p (map range xs)) h all)
       ]
 
-  ins_in_order : (t : T) (xs : List T) → are_in_order (map range xs) ≡ true → is_well_formed (range t) ≡ true → ((x : T) → Mem x xs → overlaps (range x) (range t) ≡ false) → are_in_order (map range (ins t xs)) ≡ true
+  ins_in_order : (t : T) (xs : List T) → are_in_order (map range xs) ≡ true → is_well_formed (range t) ≡ true → ((x : T) → IsElement x xs → overlaps (range x) (range t) ≡ false) → are_in_order (map range (ins t xs)) ≡ true
   ins_in_order t [] h wt apart = in_order_from (range t) [] (record { formed = wt; before = refl; rest = refl })
   ins_in_order t (x ∷ xs) h wt apart =
       let k = parts (range x) (map range xs) h in
@@ -236,7 +236,7 @@ module _ {T : Type 0} (range : T → Interval) where
             }))
       ]
 
-  pub with_table_in_order : (t : T) (run : List T) → are_in_order (map range run) ≡ true → is_well_formed (range t) ≡ true → ((x : T) → Mem x run → overlaps (range x) (range t) ≡ false) → are_in_order (map range (with_table range t run)) ≡ true
+  pub with_table_in_order : (t : T) (run : List T) → are_in_order (map range run) ≡ true → is_well_formed (range t) ≡ true → ((x : T) → IsElement x run → overlaps (range x) (range t) ≡ false) → are_in_order (map range (with_table range t run)) ≡ true
   with_table_in_order t run h wt apart = subst (λ (l : List T). are_in_order (map range l) ≡ true) (sym (with_table_is t run h)) (ins_in_order t run h wt apart)
 
   some_more : (xs : List T) (n : ℕ) (t : T) → insert xs n t ≢ []
@@ -257,7 +257,7 @@ module _ {T : Type 0} (range : T → Interval) where
             ((with_table_in_order t run h.0.0 wt (any_fails (λ x. overlaps (range x) (range t)) run parted.0), some_more run (how_many (λ r. key_le r.min (range t).min) (map range run)) t), h.1)
       ]
 
-  pub put_all_packed : (ts : List T) (runs : List (List T)) → AreFormed range ts → ArePacked range runs → ArePacked range (put_all range ts runs)
+  pub put_all_packed : (ts : List T) (runs : List (List T)) → AreTablesWellFormed range ts → ArePacked range runs → ArePacked range (put_all range ts runs)
   put_all_packed [] runs wf h = h
   put_all_packed (t ∷ ts) runs wf h = put_all_packed ts (put range t runs) wf.1 (put_packed t runs wf.0 h)
 
@@ -383,12 +383,12 @@ module _ {T : Type 0} (range : T → Interval) where
   in_order_of [] h = tt
   in_order_of (run ∷ runs) h = (h.0.0, in_order_of runs h.1)
 
-  pub formed_parts : (ts : List T) (t : T) → AreFormed range (ts ++ t ∷ []) → AreFormed range ts × (is_well_formed (range t) ≡ true)
+  pub formed_parts : (ts : List T) (t : T) → AreTablesWellFormed range (ts ++ t ∷ []) → AreTablesWellFormed range ts × (is_well_formed (range t) ≡ true)
   formed_parts [] t h = (tt, h.0)
   formed_parts (x ∷ xs) t h = let k = formed_parts xs t h.1 in ((h.0, k.0), k.1)
 
   -- one more table of those that are put in one after the other
-  pub put_more : (ts : List T) (t : T) (start now next : List (List T)) → (AreFormed range ts → ArePacked range start → now ≡ put_all range ts start) → (AreInOrder range now → next ≡ put range t now) → AreFormed range (ts ++ t ∷ []) → ArePacked range start → next ≡ put_all range (ts ++ t ∷ []) start
+  pub put_more : (ts : List T) (t : T) (start now next : List (List T)) → (AreTablesWellFormed range ts → ArePacked range start → now ≡ put_all range ts start) → (AreInOrder range now → next ≡ put range t now) → AreTablesWellFormed range (ts ++ t ∷ []) → ArePacked range start → next ≡ put_all range (ts ++ t ∷ []) start
   put_more ts t start now next before put_one formed packed =
       let k = formed_parts ts t formed in
       let is = before k.0 packed in
@@ -398,14 +398,14 @@ module _ {T : Type 0} (range : T → Interval) where
   pub tables_of-push : (runs : List (List T)) (run : List T) → tables_of (runs ++ run ∷ []) ≡ tables_of runs ++ run
   tables_of-push runs run = flat_map-append (λ (ts : List T). ts) runs (run ∷ []) ∙ ap (λ l. tables_of runs ++ l) (append-nil run)
 
-  formed_both : (ts us : List T) → AreFormed range (ts ++ us) → AreFormed range ts × AreFormed range us
+  formed_both : (ts us : List T) → AreTablesWellFormed range (ts ++ us) → AreTablesWellFormed range ts × AreTablesWellFormed range us
   formed_both [] us h = (tt, h)
   formed_both (x ∷ xs) us h = let k = formed_both xs us h.1 in ((h.0, k.0), k.1)
 
   -- one more run whose tables are put in
-  pub put_run : (runs : List (List T)) (run : List T) (now next : List (List T)) → (AreWellFormed range runs → now ≡ put_all range (tables_of runs) []) → (AreFormed range run → ArePacked range now → next ≡ put_all range run now) → AreWellFormed range (runs ++ run ∷ []) → next ≡ put_all range (tables_of (runs ++ run ∷ [])) []
+  pub put_run : (runs : List (List T)) (run : List T) (now next : List (List T)) → (AreWellFormed range runs → now ≡ put_all range (tables_of runs) []) → (AreTablesWellFormed range run → ArePacked range now → next ≡ put_all range run now) → AreWellFormed range (runs ++ run ∷ []) → next ≡ put_all range (tables_of (runs ++ run ∷ [])) []
   put_run runs run now next before put_tables formed =
-      let k = formed_both (tables_of runs) run (subst (AreFormed range) (tables_of-push runs run) formed) in
+      let k = formed_both (tables_of runs) run (subst (AreTablesWellFormed range) (tables_of-push runs run) formed) in
       let is = before k.0 in
       let packed : ArePacked range now = subst (ArePacked range) (sym is) (put_all_packed range (tables_of runs) [] k.0 tt) in
       put_tables k.1 packed ∙ ap (λ rs. put_all range run rs) is

@@ -6,11 +6,11 @@ use Rattle.std.proofs.lemmas.Bool.{and_parts, and_from, cases_Bool, both_ways, e
 use Rattle.sst_entries.specs.Key.{key_lt}
 use Rattle.lsm_ranges.specs.KeyRange.{Interval, key_le, overlaps, are_disjoint}
 use Rattle.lsm_ranges.specs.Run.{are_in_order, how_many}
-use Rattle.lsm_ranges.specs.Packing.{tables_of, table_at, touches, with_table, put, put_all, ArePacked, AreFormed, AreDisjointRuns, IsLeastSize}
+use Rattle.lsm_ranges.specs.Packing.{tables_of, table_at, touches, with_table, put, put_all, ArePacked, AreTablesWellFormed, AreDisjointRuns, IsLeastSize}
 use Rattle.lsm_ranges.proofs.IntervalLemmas.{le_from}
 use Rattle.lsm_ranges.proofs.RunLemmas.{parts}
 use Rattle.lsm_ranges.proofs.PackLemmas.{mem-append_left, mem-append_right, mem-append_cases, any_fails, any_found, any_from, overlaps_comm, put_all_packed, put_here, put_behind}
-use Rattle.lsm_ranges.specs.Links.{Mem, Tagged, tag, tags_in, tags, AreApart, AreSteps, IsStepTo}
+use Rattle.lsm_ranges.specs.Links.{IsElement, TableWithPlace, table_with_place, run_with_places, runs_with_places, KeepRunOrder, EachCarriesNext, CarriesNext}
 use Rattle.lsm_ranges.proofs.PackNumbers.{Rises, Stacked, stacked}
 
 -- how many numbers are at most m
@@ -76,12 +76,12 @@ upto-some (n ∷ ns) b (suc k) within at =
     ]
 
 module _ {X : Type 0} (f : X → Interval) (at : X → ℕ) where
-  head_of : (l : List X) → l ≢ [] → (x : X) × Mem x l
+  head_of : (l : List X) → l ≢ [] → (x : X) × IsElement x l
   head_of [] h = absurd (h refl)
   head_of (x ∷ xs) h = (x, inl refl)
 
   -- each level has an element whose number is above as many numbers as there are levels before it
-  climb : (N : X → ℕ) (ns : List ℕ) (l : List X) (ls : List (List X)) (k : ℕ) → ((x y : X) → Mem x (l ++ tables_of ls) → Mem y (l ++ tables_of ls) → overlaps (f x) (f y) ≡ true → at x < at y → N x < N y) → ((x : X) → Mem x (l ++ tables_of ls) → Contains ns (N x)) → ((x : X) → Mem x l → k ≤ upto ns (N x)) → l ≢ [] → ArePacked f ls → IsStepTo f at l ls → AreSteps f at ls → k + length ls ≤ length ns
+  climb : (N : X → ℕ) (ns : List ℕ) (l : List X) (ls : List (List X)) (k : ℕ) → ((x y : X) → IsElement x (l ++ tables_of ls) → IsElement y (l ++ tables_of ls) → overlaps (f x) (f y) ≡ true → at x < at y → N x < N y) → ((x : X) → IsElement x (l ++ tables_of ls) → Contains ns (N x)) → ((x : X) → IsElement x l → k ≤ upto ns (N x)) → l ≢ [] → ArePacked f ls → CarriesNext f at l ls → EachCarriesNext f at ls → k + length ls ≤ length ns
   climb N ns l [] k grows among counted some packed steps rest =
       let x = head_of l some in
       omega (arith, counted x.0 x.1, upto-length ns (N x.0))
@@ -101,7 +101,7 @@ module _ {X : Type 0} (f : X → Interval) (at : X → ℕ) where
       omega (arith, next)
 
   -- no list of fewer numbers than levels holds the numbers of all elements
-  pub at_least : (N : X → ℕ) (ns : List ℕ) (ls : List (List X)) → ((x y : X) → Mem x (tables_of ls) → Mem y (tables_of ls) → overlaps (f x) (f y) ≡ true → at x < at y → N x < N y) → ((x : X) → Mem x (tables_of ls) → Contains ns (N x)) → ArePacked f ls → AreSteps f at ls → length ls ≤ length ns
+  pub at_least : (N : X → ℕ) (ns : List ℕ) (ls : List (List X)) → ((x y : X) → IsElement x (tables_of ls) → IsElement y (tables_of ls) → overlaps (f x) (f y) ≡ true → at x < at y → N x < N y) → ((x : X) → IsElement x (tables_of ls) → Contains ns (N x)) → ArePacked f ls → EachCarriesNext f at ls → length ls ≤ length ns
   at_least N ns [] grows among packed steps = omega arith
   at_least N ns (l ∷ ls) grows among packed steps =
       let up : 1 + length ls ≤ length ns =
@@ -119,7 +119,7 @@ any-append p (x ∷ xs) ys = ap (λ b. p x || b) (any-append p xs ys) ∙ assoc 
     assoc false b c = refl
 
 module _ {X : Type 0} (f : X → Interval) (at : X → ℕ) where
-  all_later : (p : Interval → Bool) (xs : List X) → list_all p (map f xs) ≡ true → (y : X) → Mem y xs → p (f y) ≡ true
+  all_later : (p : Interval → Bool) (xs : List X) → list_all p (map f xs) ≡ true → (y : X) → IsElement y xs → p (f y) ≡ true
   all_later p [] h y m = absurd m
   all_later p (x ∷ xs) h y m =
       let k = and_parts (p (f x)) (list_all p (map f xs)) h in
@@ -129,7 +129,7 @@ module _ {X : Type 0} (f : X → Interval) (at : X → ℕ) where
   clash x y lt o = both_ways (key_lt (f x).max (f y).min) (le_from (f y).min (f x).max (and_parts (key_le (f y).min (f x).max) (key_le (f x).min (f y).max) o).0) lt
 
   -- in a run that is in order, only a table itself overlaps it
-  same_in_order : (l : List X) → are_in_order (map f l) ≡ true → (x y : X) → Mem x l → Mem y l → overlaps (f x) (f y) ≡ true → x ≡ y
+  same_in_order : (l : List X) → are_in_order (map f l) ≡ true → (x y : X) → IsElement x l → IsElement y l → overlaps (f x) (f y) ≡ true → x ≡ y
   same_in_order [] h x y m n o = absurd m
   same_in_order (z ∷ zs) h x y m n o =
       let k = parts (f z) (map f zs) h in
@@ -164,7 +164,7 @@ module _ {X : Type 0} (f : X → Interval) (at : X → ℕ) where
       ]
 
   -- of elements that overlap, the one from the later run is in a later level
-  level_rises : (p q : X → Bool) (ls : List (List X)) → ((x y : X) → Mem x (tables_of ls) → Mem y (tables_of ls) → p x ≡ true → q y ≡ true → (overlaps (f x) (f y) ≡ true) × (at x < at y)) → AreApart f at ls → ArePacked f ls → list_any p (tables_of ls) ≡ true → list_any q (tables_of ls) ≡ true → level_of p ls < level_of q ls
+  level_rises : (p q : X → Bool) (ls : List (List X)) → ((x y : X) → IsElement x (tables_of ls) → IsElement y (tables_of ls) → p x ≡ true → q y ≡ true → (overlaps (f x) (f y) ≡ true) × (at x < at y)) → KeepRunOrder f at ls → ArePacked f ls → list_any p (tables_of ls) ≡ true → list_any q (tables_of ls) ≡ true → level_of p ls < level_of q ls
   unfolding level_of
   level_rises p q [] pairs apart packed hp hq = absurd cc
   level_rises p q (l ∷ ls) pairs apart packed hp hq =
@@ -200,8 +200,8 @@ map-append h [] ys = refl
 map-append h (x ∷ xs) ys = ap (λ l. h x ∷ l) (map-append h xs ys)
 
 module _ {T : Type 0} where
-  -- a tag in a run tells a table of it
-  in_run : (i j : ℕ) (ts : List T) (x : Tagged T) → Mem x (tags_in i j ts) → (x.run ≡ i) × ((m : ℕ) × (x.place ≡ j + m) × (slice_get ts m ≡ Some x.table))
+  -- a table with its places, of those of a run, is a table of it
+  in_run : (i j : ℕ) (ts : List T) (x : TableWithPlace T) → IsElement x (run_with_places i j ts) → (x.run ≡ i) × ((m : ℕ) × (x.place ≡ j + m) × (slice_get ts m ≡ Some x.table))
   in_run i j [] x h = absurd h
   in_run i j (t ∷ ts) x h =
       elim h [
@@ -209,10 +209,10 @@ module _ {T : Type 0} where
         | inr m ↦ let k = in_run i (suc j) ts x m in (k.0, (suc k.1.0, k.1.1 ∙ omega arith, k.1.2))
       ]
 
-  in_runs : (i : ℕ) (runs : List (List T)) (x : Tagged T) → Mem x (tags i runs) → (n : ℕ) × (x.run ≡ i + n) × (table_at runs n x.place ≡ Some x.table)
+  in_runs : (i : ℕ) (runs : List (List T)) (x : TableWithPlace T) → IsElement x (runs_with_places i runs) → (n : ℕ) × (x.run ≡ i + n) × (table_at runs n x.place ≡ Some x.table)
   in_runs i [] x h = absurd h
   in_runs i (run ∷ runs) x h =
-      elim (mem-append_cases (tags_in i 0 run) (tags (suc i) runs) x h) [
+      elim (mem-append_cases (run_with_places i 0 run) (runs_with_places (suc i) runs) x h) [
         | inl a ↦
             let k = in_run i 0 run x a in
             let place : x.place ≡ k.1.0 = k.1.1 ∙ omega arith in
@@ -220,56 +220,56 @@ module _ {T : Type 0} where
         | inr b ↦ let k = in_runs (suc i) runs x b in (suc k.0, k.1 ∙ omega arith, k.2)
       ]
 
-  pub tag_at : (runs : List (List T)) (x : Tagged T) → Mem x (tags 0 runs) → table_at runs x.run x.place ≡ Some x.table
-  tag_at runs x h =
+  pub is_at_place : (runs : List (List T)) (x : TableWithPlace T) → IsElement x (runs_with_places 0 runs) → table_at runs x.run x.place ≡ Some x.table
+  is_at_place runs x h =
       let k = in_runs 0 runs x h in
       let run : x.run ≡ k.0 = k.1 ∙ omega arith in
       ap (λ n. table_at runs n x.place) run ∙ k.2
 
-  -- each table has its tag
-  tag_in_run : (i j m : ℕ) (ts : List T) (t : T) → slice_get ts m ≡ Some t → Mem (tag t i (j + m)) (tags_in i j ts)
-  tag_in_run i j m [] t h = absurd cc
-  tag_in_run i j zero (x ∷ xs) t h = let e : x ≡ t = cc in let n : j + 0 ≡ j = omega arith in inl (ap (λ v. tag v i (j + 0)) (sym e) ∙ ap (λ v. tag x i v) n)
-  tag_in_run i j (suc m) (x ∷ xs) t h = let n : suc j + m ≡ j + suc m = omega arith in inr (subst (λ (v : ℕ). Mem (tag t i v) (tags_in i (suc j) xs)) n (tag_in_run i (suc j) m xs t h))
+  -- each table is there with its places
+  has_in_run : (i j m : ℕ) (ts : List T) (t : T) → slice_get ts m ≡ Some t → IsElement (table_with_place t i (j + m)) (run_with_places i j ts)
+  has_in_run i j m [] t h = absurd cc
+  has_in_run i j zero (x ∷ xs) t h = let e : x ≡ t = cc in let n : j + 0 ≡ j = omega arith in inl (ap (λ v. table_with_place v i (j + 0)) (sym e) ∙ ap (λ v. table_with_place x i v) n)
+  has_in_run i j (suc m) (x ∷ xs) t h = let n : suc j + m ≡ j + suc m = omega arith in inr (subst (λ (v : ℕ). IsElement (table_with_place t i v) (run_with_places i (suc j) xs)) n (has_in_run i (suc j) m xs t h))
 
-  tag_in_runs : (i n m : ℕ) (runs : List (List T)) (t : T) → table_at runs n m ≡ Some t → Mem (tag t (i + n) m) (tags i runs)
-  tag_in_runs i n m [] t h = absurd cc
-  tag_in_runs i zero m (run ∷ runs) t h =
+  has_in_runs : (i n m : ℕ) (runs : List (List T)) (t : T) → table_at runs n m ≡ Some t → IsElement (table_with_place t (i + n) m) (runs_with_places i runs)
+  has_in_runs i n m [] t h = absurd cc
+  has_in_runs i zero m (run ∷ runs) t h =
       let a : i ≡ i + 0 = omega arith in
       let b : 0 + m ≡ m = omega arith in
-      mem-append_left (tags_in i 0 run) (tags (suc i) runs) (tag t (i + 0) m)
-      (subst (λ (v : ℕ). Mem (tag t v m) (tags_in i 0 run)) a (subst (λ (v : ℕ). Mem (tag t i v) (tags_in i 0 run)) b (tag_in_run i 0 m run t h)))
-  tag_in_runs i (suc n) m (run ∷ runs) t h =
+      mem-append_left (run_with_places i 0 run) (runs_with_places (suc i) runs) (table_with_place t (i + 0) m)
+      (subst (λ (v : ℕ). IsElement (table_with_place t v m) (run_with_places i 0 run)) a (subst (λ (v : ℕ). IsElement (table_with_place t i v) (run_with_places i 0 run)) b (has_in_run i 0 m run t h)))
+  has_in_runs i (suc n) m (run ∷ runs) t h =
       let a : suc i + n ≡ i + suc n = omega arith in
-      mem-append_right (tags_in i 0 run) (tags (suc i) runs) (tag t (i + suc n) m)
-      (subst (λ (v : ℕ). Mem (tag t v m) (tags (suc i) runs)) a (tag_in_runs (suc i) n m runs t h))
+      mem-append_right (run_with_places i 0 run) (runs_with_places (suc i) runs) (table_with_place t (i + suc n) m)
+      (subst (λ (v : ℕ). IsElement (table_with_place t v m) (runs_with_places (suc i) runs)) a (has_in_runs (suc i) n m runs t h))
 
-  pub has_tag : (runs : List (List T)) (i j : ℕ) (t : T) → table_at runs i j ≡ Some t → Mem (tag t i j) (tags 0 runs)
-  has_tag runs i j t h = let a : 0 + i ≡ i = omega arith in subst (λ (v : ℕ). Mem (tag t v j) (tags 0 runs)) a (tag_in_runs 0 i j runs t h)
+  pub has_table : (runs : List (List T)) (i j : ℕ) (t : T) → table_at runs i j ≡ Some t → IsElement (table_with_place t i j) (runs_with_places 0 runs)
+  has_table runs i j t h = let a : 0 + i ≡ i = omega arith in subst (λ (v : ℕ). IsElement (table_with_place t v j) (runs_with_places 0 runs)) a (has_in_runs 0 i j runs t h)
 
-  tables_in : (i j : ℕ) (ts : List T) → map (λ x. x.table) (tags_in i j ts) ≡ ts
+  tables_in : (i j : ℕ) (ts : List T) → map (λ x. x.table) (run_with_places i j ts) ≡ ts
   tables_in i j [] = refl
   tables_in i j (t ∷ ts) = ap (λ l. t ∷ l) (tables_in i (suc j) ts)
 
-  pub tables_tagged : (i : ℕ) (runs : List (List T)) → map (λ x. x.table) (tags i runs) ≡ tables_of runs
-  tables_tagged i [] = refl
-  tables_tagged i (run ∷ runs) =
-      map-append (λ (x : Tagged T). x.table) (tags_in i 0 run) (tags (suc i) runs)
-      ∙ ap (λ l. l ++ map (λ x. x.table) (tags (suc i) runs)) (tables_in i 0 run)
-      ∙ ap (λ l. run ++ l) (tables_tagged (suc i) runs)
+  pub tables_with_places : (i : ℕ) (runs : List (List T)) → map (λ x. x.table) (runs_with_places i runs) ≡ tables_of runs
+  tables_with_places i [] = refl
+  tables_with_places i (run ∷ runs) =
+      map-append (λ (x : TableWithPlace T). x.table) (run_with_places i 0 run) (runs_with_places (suc i) runs)
+      ∙ ap (λ l. l ++ map (λ x. x.table) (runs_with_places (suc i) runs)) (tables_in i 0 run)
+      ∙ ap (λ l. run ++ l) (tables_with_places (suc i) runs)
 
 module _ {T : Type 0} (range : T → Interval) where
-  abbrev range_of : Tagged T → Interval
+  abbrev range_of : TableWithPlace T → Interval
   range_of x = range x.table
 
-  abbrev run_of : Tagged T → ℕ
+  abbrev run_of : TableWithPlace T → ℕ
   run_of x = x.run
 
-  mem_range : (i j : ℕ) (ts : List T) (x : Tagged T) → Mem x (tags_in i j ts) → Mem (range x.table) (map range ts)
+  mem_range : (i j : ℕ) (ts : List T) (x : TableWithPlace T) → IsElement x (run_with_places i j ts) → IsElement (range x.table) (map range ts)
   mem_range i j [] x h = absurd h
   mem_range i j (t ∷ ts) x h = elim h [ inl e ↦ inl (ap (λ v. range v.table) e) | inr m ↦ inr (mem_range i (suc j) ts x m) ]
 
-  rises_in : (i j : ℕ) (ts : List T) → are_disjoint (map range ts) ≡ true → Rises range_of run_of (tags_in i j ts)
+  rises_in : (i j : ℕ) (ts : List T) → are_disjoint (map range ts) ≡ true → Rises range_of run_of (run_with_places i j ts)
   rises_in i j [] h = tt
   rises_in i j (t ∷ ts) h =
       let k = and_parts (not (list_any (overlaps (range t)) (map range ts))) (are_disjoint (map range ts)) h in (
@@ -277,20 +277,20 @@ module _ {T : Type 0} (range : T → Interval) where
         rises_in i (suc j) ts k.1,
       )
 
-  rises-append : (xs ys : List (Tagged T)) → Rises range_of run_of xs → Rises range_of run_of ys → ((x y : Tagged T) → Mem x xs → Mem y ys → x.run < y.run) → Rises range_of run_of (xs ++ ys)
+  rises-append : (xs ys : List (TableWithPlace T)) → Rises range_of run_of xs → Rises range_of run_of ys → ((x y : TableWithPlace T) → IsElement x xs → IsElement y ys → x.run < y.run) → Rises range_of run_of (xs ++ ys)
   rises-append [] ys rx ry later = ry
   rises-append (x ∷ xs) ys rx ry later = (
     (λ y m o. elim (mem-append_cases xs ys y m) [ inl a ↦ rx.0 y a o | inr b ↦ later x y (inl refl) b ]),
     rises-append xs ys rx.1 ry (λ u v m n. later u v (inr m) n),
   )
 
-  pub rises_all : (i : ℕ) (runs : List (List T)) → AllByRecursion (λ run. are_disjoint (map range run) ≡ true) runs → Rises range_of run_of (tags i runs)
+  pub rises_all : (i : ℕ) (runs : List (List T)) → AllByRecursion (λ run. are_disjoint (map range run) ≡ true) runs → Rises range_of run_of (runs_with_places i runs)
   rises_all i [] h = tt
   rises_all i (run ∷ runs) h =
-      rises-append (tags_in i 0 run) (tags (suc i) runs) (rises_in i 0 run h.0) (rises_all (suc i) runs h.1)
+      rises-append (run_with_places i 0 run) (runs_with_places (suc i) runs) (rises_in i 0 run h.0) (rises_all (suc i) runs h.1)
       (λ x y m n. let a = in_run i 0 run x m in let b = in_runs (suc i) runs y n in omega (arith, a.0, b.1))
 
-  pub formed-map : {X : Type 0} (g : X → T) (xs : List X) → AreFormed range (map g xs) → AreFormed (λ x. range (g x)) xs
+  pub formed-map : {X : Type 0} (g : X → T) (xs : List X) → AreTablesWellFormed range (map g xs) → AreTablesWellFormed (λ x. range (g x)) xs
   formed-map g [] h = tt
   formed-map g (x ∷ xs) h = (h.0, formed-map g xs h.1)
 
@@ -351,53 +351,53 @@ length-map h [] = refl
 length-map h (x ∷ xs) = ap suc (length-map h xs)
 
 module _ {T : Type 0} (range : T → Interval) (runs : List (List T)) (h : AreDisjointRuns range runs) where
-  levels : List (List (Tagged T))
-  levels = put_all (range_of range) (tags 0 runs) []
+  levels : List (List (TableWithPlace T))
+  levels = put_all (range_of range) (runs_with_places 0 runs) []
 
-  levels_stacked : Stacked (range_of range) (run_of range) (tags 0 runs) levels
+  levels_stacked : Stacked (range_of range) (run_of range) (runs_with_places 0 runs) levels
   unfolding levels
-  levels_stacked = stacked (range_of range) (run_of range) (tags 0 runs) (rises_all range 0 runs h.apart)
+  levels_stacked = stacked (range_of range) (run_of range) (runs_with_places 0 runs) (rises_all range 0 runs h.apart)
 
   levels_packed : ArePacked (range_of range) levels
   unfolding levels
   levels_packed =
-      put_all_packed (range_of range) (tags 0 runs) []
-      (formed-map range (λ (x : Tagged T). x.table) (tags 0 runs) (subst (AreFormed range) (sym (tables_tagged 0 runs)) h.formed)) tt
+      put_all_packed (range_of range) (runs_with_places 0 runs) []
+      (formed-map range (λ (x : TableWithPlace T). x.table) (runs_with_places 0 runs) (subst (AreTablesWellFormed range) (sym (tables_with_places 0 runs)) h.formed)) tt
 
   size_is : length levels ≡ length (put_all range (tables_of runs) [])
   unfolding levels
   size_is =
-      sym (length-map (map (λ (x : Tagged T). x.table)) (put_all (range_of range) (tags 0 runs) []))
-      ∙ ap length (put_all-map (λ (x : Tagged T). x.table) range (tags 0 runs) [] ∙ ap (λ ts. put_all range ts []) (tables_tagged 0 runs))
+      sym (length-map (map (λ (x : TableWithPlace T). x.table)) (put_all (range_of range) (runs_with_places 0 runs) []))
+      ∙ ap length (put_all-map (λ (x : TableWithPlace T). x.table) range (runs_with_places 0 runs) [] ∙ ap (λ ts. put_all range ts []) (tables_with_places 0 runs))
 
-  is_at : ℕ → ℕ → Tagged T → Bool
+  is_at : ℕ → ℕ → TableWithPlace T → Bool
   is_at i j x = (x.run == i) && (x.place == j)
 
-  is_at_itself : (t : T) (i j : ℕ) → is_at i j (tag t i j) ≡ true
+  is_at_itself : (t : T) (i j : ℕ) → is_at i j (table_with_place t i j) ≡ true
   unfolding is_at
   is_at_itself t i j = and_from (i == i) (j == j) (eq-eqb i i refl) (eq-eqb j j refl)
 
-  -- the table of a tag at a place
-  table_is : (x : Tagged T) (i j : ℕ) (t : T) → Mem x (tags 0 runs) → is_at i j x ≡ true → table_at runs i j ≡ Some t → (x.table ≡ t) × (x.run ≡ i)
+  -- the table at a place
+  table_is : (x : TableWithPlace T) (i j : ℕ) (t : T) → IsElement x (runs_with_places 0 runs) → is_at i j x ≡ true → table_at runs i j ≡ Some t → (x.table ≡ t) × (x.run ≡ i)
   unfolding is_at
   table_is x i j t m e a =
       let k = and_parts (x.run == i) (x.place == j) e in
       let run : x.run ≡ i = eqb-true x.run i k.0 in
       let place : x.place ≡ j = eqb-true x.place j k.1 in
-      let found = tag_at runs x m in
+      let found = is_at_place runs x m in
       let there : Some x.table ≡ Some t = sym found ∙ ap (λ v. table_at runs v x.place) run ∙ ap (λ v. table_at runs i v) place ∙ a in
       (cc, run)
 
   found_at : (i j : ℕ) (t : T) → table_at runs i j ≡ Some t → list_any (is_at i j) (tables_of levels) ≡ true
-  found_at i j t a = any_from (is_at i j) (tables_of levels) (tag t i j) (levels_stacked.has (tag t i j) (has_tag runs i j t a)) (is_at_itself t i j)
+  found_at i j t a = any_from (is_at i j) (tables_of levels) (table_with_place t i j) (levels_stacked.has (table_with_place t i j) (has_table runs i j t a)) (is_at_itself t i j)
 
   least_levels : IsLeastSize range runs (length levels)
   least_levels = record {
     at_least = λ number ns placement holds.
         at_least (range_of range) (run_of range) (λ x. number x.run x.place) ns levels
-        (λ x y p q o lt. placement.keeps x.run x.place y.run y.place x.table y.table lt (tag_at runs x (levels_stacked.from x p)) (tag_at runs y (levels_stacked.from y q)) o)
-        (λ x p. holds x.run x.place x.table (tag_at runs x (levels_stacked.from x p)))
-        levels_packed levels_stacked.steps;
+        (λ x y p q o lt. placement.keeps x.run x.place y.run y.place x.table y.table lt (is_at_place runs x (levels_stacked.from x p)) (is_at_place runs y (levels_stacked.from y q)) o)
+        (λ x p. holds x.run x.place x.table (is_at_place runs x (levels_stacked.from x p)))
+        levels_packed levels_stacked.carries;
     reached = (
       (λ i j. level_of (range_of range) (run_of range) (is_at i j) levels),
       record {
@@ -407,7 +407,7 @@ module _ {T : Type 0} (range : T → Interval) (runs : List (List T)) (h : AreDi
             let k = table_is x i j t (levels_stacked.from x m) px a in
             let l = table_is y i' j' t' (levels_stacked.from y n) qy b in
             (ap (λ v. overlaps (range v) (range y.table)) k.0 ∙ ap (λ v. overlaps (range t) (range v)) l.0 ∙ o, omega (arith, k.1, l.1, lt)))
-            levels_stacked.apart levels_packed (found_at i j t a) (found_at i' j' t' b);
+            levels_stacked.keeps_order levels_packed (found_at i j t a) (found_at i' j' t' b);
       },
       (λ i j t a. level_below (range_of range) (run_of range) (is_at i j) levels (found_at i j t a)),
     );

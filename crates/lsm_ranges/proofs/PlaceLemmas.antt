@@ -9,7 +9,7 @@ use Rattle.std.proofs.lemmas.List.Sorted.{IsPermutation-refl, IsPermutation-tran
 use Rattle.std.proofs.lemmas.Option.{get_or_from_slice_get}
 use Rattle.lsm_ranges.specs.KeyRange.{Interval, key_le, overlaps}
 use Rattle.lsm_ranges.specs.Run.{how_many}
-use Rattle.lsm_ranges.specs.Packing.{count_to_last, least_above, number_behind, numbering_after, numbers_of, put, put_all, tables_numbered, touches, with_table, ArePlaced, Numbered}
+use Rattle.lsm_ranges.specs.Packing.{count_to_last, least_above, number_behind, numbering_after, numbers_of, put, put_all, tables_of_number, touches, with_table, ArePlaced, NumberedTable}
 
 max_suc : (a b : ℕ) → max (suc a) (suc b) ≡ suc (max a b)
 max_suc a b = simp unary_clauses
@@ -97,7 +97,7 @@ module _ {T : Type 0} (range : T → Interval) where
 
   -- ---- the rule's number is the count's
 
-  found : (r : Interval) (xs : List (Numbered T)) (n : ℕ) → touches range r (tables_numbered xs n) ≡ true → n < least_above (numbers_of (filter (λ x. overlaps (range x.table) r) xs))
+  found : (r : Interval) (xs : List (NumberedTable T)) (n : ℕ) → touches range r (tables_of_number xs n) ≡ true → n < least_above (numbers_of (filter (λ x. overlaps (range x.table) r) xs))
   found r [] n h = absurd cc
   found r (x ∷ xs) n h =
       let o = overlaps (range x.table) r in
@@ -107,12 +107,12 @@ module _ {T : Type 0} (range : T → Interval) where
             elim (cases_Bool (overlaps (range x.table) r)) [
               | inl k ↦ rw k (let top = le-max_left (suc x.number) (least_above (numbers_of (filter (λ y. overlaps (range y.table) r) xs))) in omega (arith, top, at))
               | inr k ↦
-                  let more : touches range r (x.table ∷ tables_numbered xs n) ≡ true = rw e at h in
-                  let rest : touches range r (tables_numbered xs n) ≡ true = rw k at more in
+                  let more : touches range r (x.table ∷ tables_of_number xs n) ≡ true = rw e at h in
+                  let rest : touches range r (tables_of_number xs n) ≡ true = rw k at more in
                   rw k (found r xs n rest)
             ]
         | inr e ↦
-            let rest : touches range r (tables_numbered xs n) ≡ true = rw e at h in
+            let rest : touches range r (tables_of_number xs n) ≡ true = rw e at h in
             let below = found r xs n rest in
             elim (cases_Bool (overlaps (range x.table) r)) [
               | inl k ↦ rw k (let top = le-max_right (suc x.number) (least_above (numbers_of (filter (λ y. overlaps (range y.table) r) xs))) in omega (arith, top, below))
@@ -120,7 +120,7 @@ module _ {T : Type 0} (range : T → Interval) where
             ]
       ]
 
-  bounded : (r : Interval) (xs : List (Numbered T)) (k : ℕ) → ((n : ℕ) → touches range r (tables_numbered xs n) ≡ true → n < k) → least_above (numbers_of (filter (λ x. overlaps (range x.table) r) xs)) ≤ k
+  bounded : (r : Interval) (xs : List (NumberedTable T)) (k : ℕ) → ((n : ℕ) → touches range r (tables_of_number xs n) ≡ true → n < k) → least_above (numbers_of (filter (λ x. overlaps (range x.table) r) xs)) ≤ k
   bounded r [] k h = omega arith
   bounded r (x ∷ xs) k h =
       let rest = bounded r xs k (λ n q. h n (more n q)) in
@@ -129,35 +129,35 @@ module _ {T : Type 0} (range : T → Interval) where
         | inr e ↦ rw e rest
       ]
     where
-      more : (n : ℕ) → touches range r (tables_numbered xs n) ≡ true → touches range r (tables_numbered (x ∷ xs) n) ≡ true
+      more : (n : ℕ) → touches range r (tables_of_number xs n) ≡ true → touches range r (tables_of_number (x ∷ xs) n) ≡ true
       more n q =
           elim (cases_Bool (x.number == n)) [
-            | inl e ↦ rw e (or_right (overlaps (range x.table) r) (touches range r (tables_numbered xs n)) q)
+            | inl e ↦ rw e (or_right (overlaps (range x.table) r) (touches range r (tables_of_number xs n)) q)
             | inr e ↦ rw e q
           ]
 
-      self : overlaps (range x.table) r ≡ true → touches range r (tables_numbered (x ∷ xs) x.number) ≡ true
-      self e = let same = eq-eqb x.number x.number refl in rw same (or_left (overlaps (range x.table) r) (touches range r (tables_numbered xs x.number)) e)
+      self : overlaps (range x.table) r ≡ true → touches range r (tables_of_number (x ∷ xs) x.number) ≡ true
+      self e = let same = eq-eqb x.number x.number refl in rw same (or_left (overlaps (range x.table) r) (touches range r (tables_of_number xs x.number)) e)
 
   -- runs of numbered tables, by every number
-  record Stand (xs : List (Numbered T)) (runs : List (List T)) : Type 0 where
+  record Stand (xs : List (NumberedTable T)) (runs : List (List T)) : Type 0 where
     count : length runs ≡ least_above (numbers_of xs)
-    members : (n : ℕ) → IsPermutation (tables_numbered xs n) (get_or runs n [])
+    members : (n : ℕ) → IsPermutation (tables_of_number xs n) (get_or runs n [])
 
-  number_is : (t : T) (xs : List (Numbered T)) (runs : List (List T)) → Stand xs runs → count_to_last (touches range (range t)) runs ≡ number_behind range xs t
+  number_is : (t : T) (xs : List (NumberedTable T)) (runs : List (List T)) → Stand xs runs → count_to_last (touches range (range t)) runs ≡ number_behind range xs t
   number_is t xs runs h =
       let p = touches range (range t) in
-      let low : number_behind range xs t ≤ count_to_last p runs = bounded (range t) xs (count_to_last p runs) (λ n q. passing_below p refl runs n (sym (list_any-IsPermutation (λ x. overlaps (range x) (range t)) (tables_numbered xs n) (get_or runs n []) (h.members n)) ∙ q)) in
+      let low : number_behind range xs t ≤ count_to_last p runs = bounded (range t) xs (count_to_last p runs) (λ n q. passing_below p refl runs n (sym (list_any-IsPermutation (λ x. overlaps (range x) (range t)) (tables_of_number xs n) (get_or runs n []) (h.members n)) ∙ q)) in
       let high : count_to_last p runs ≤ number_behind range xs t = up (count_to_last p runs) refl in
       omega (arith, low, high)
     where
       up : (k : ℕ) → count_to_last (touches range (range t)) runs ≡ k → k ≤ number_behind range xs t
       up zero is = omega arith
       up (suc k) is =
-          let below = found (range t) xs k (list_any-IsPermutation (λ x. overlaps (range x) (range t)) (tables_numbered xs k) (get_or runs k []) (h.members k) ∙ top_passes (touches range (range t)) runs k is) in
+          let below = found (range t) xs k (list_any-IsPermutation (λ x. overlaps (range x) (range t)) (tables_of_number xs k) (get_or runs k []) (h.members k) ∙ top_passes (touches range (range t)) runs k is) in
           omega (arith, below)
 
-  stand_more : (t : T) (xs : List (Numbered T)) (runs : List (List T)) → Stand xs runs → Stand (record { table = t; number = number_behind range xs t } ∷ xs) (put range t runs)
+  stand_more : (t : T) (xs : List (NumberedTable T)) (runs : List (List T)) → Stand xs runs → Stand (record { table = t; number = number_behind range xs t } ∷ xs) (put range t runs)
   stand_more t xs runs h =
       let k = count_to_last (touches range (range t)) runs in
       let is : k ≡ number_behind range xs t = number_is t xs runs h in
@@ -168,8 +168,8 @@ module _ {T : Type 0} (range : T → Interval) where
               let at : k ≡ n = is ∙ eqb-true (number_behind range xs t) n e in
               let run_is : get_or (put range t runs) n [] ≡ with_table range t (get_or runs n []) = subst (λ (m : ℕ). get_or (put range t runs) m [] ≡ with_table range t (get_or runs m [])) at (put_at t runs) in
               rw (e, run_is)
-              (IsPermutation-trans (t ∷ tables_numbered xs n) (t ∷ get_or runs n []) (with_table range t (get_or runs n []))
-              (IsPermutation-cons t (tables_numbered xs n) (get_or runs n []) (h.members n))
+              (IsPermutation-trans (t ∷ tables_of_number xs n) (t ∷ get_or runs n []) (with_table range t (get_or runs n []))
+              (IsPermutation-cons t (tables_of_number xs n) (get_or runs n []) (h.members n))
               (IsPermutation-insert (get_or runs n []) (how_many (λ r. key_le r.min (range t).min) (map range (get_or runs n []))) t))
           | inr e ↦
               let run_is : get_or (put range t runs) n [] ≡ get_or runs n [] = put_beside t runs n (λ same. both_ways (number_behind range xs t == n) e (eq-eqb (number_behind range xs t) n (sym is ∙ same))) in
@@ -177,7 +177,7 @@ module _ {T : Type 0} (range : T → Interval) where
         ];
       }
 
-  stand_all : (ts : List T) (xs : List (Numbered T)) (runs : List (List T)) → Stand xs runs → Stand (numbering_after range xs ts) (put_all range ts runs)
+  stand_all : (ts : List T) (xs : List (NumberedTable T)) (runs : List (List T)) → Stand xs runs → Stand (numbering_after range xs ts) (put_all range ts runs)
   stand_all [] xs runs h = h
   stand_all (t ∷ ts) xs runs h = stand_all ts (record { table = t; number = number_behind range xs t } ∷ xs) (put range t runs) (stand_more t xs runs h)
 
@@ -187,5 +187,5 @@ module _ {T : Type 0} (range : T → Interval) where
       let stand = stand_all ts [] [] (record { count = refl; members = λ n. IsPermutation-refl [] }) in
       record {
         count = stand.count;
-        members = λ n run at. subst (λ (l : List T). IsPermutation (tables_numbered (numbering_after range [] ts) n) l) (get_or_from_slice_get (put_all range ts []) n run [] at) (stand.members n);
+        members = λ n run at. subst (λ (l : List T). IsPermutation (tables_of_number (numbering_after range [] ts) n) l) (get_or_from_slice_get (put_all range ts []) n run [] at) (stand.members n);
       }

@@ -13,7 +13,7 @@ use Rattle.std.proofs.lemmas.Bool.{and_parts, and_from, and_right, ne_eqb, cases
 use Rattle.sst_entries.specs.Key.{key_lt}
 use Rattle.lsm_ranges.specs.KeyRange.{Interval, interval, key_le, is_well_formed, has_key, has_range, overlaps}
 use Rattle.sst_entries.specs.Point.{is_from}
-use Rattle.lsm_ranges.specs.Run.{are_in_order, ends_before, starts_within, how_many, places, overlap_indexes, first_to_last, last_max}
+use Rattle.lsm_ranges.specs.Run.{are_in_order, ends_before, starts_within, how_many, first_and_last, overlap_indexes, first_to_last, last_max}
 use Rattle.sst_entries.proofs.OrderLemmas.{lt_trans}
 use Rattle.lsm_ranges.proofs.IntervalLemmas.{le_trans, le_not, lt_to_le, lt_then_le, le_then_lt, lower_up, upper_down}
 
@@ -190,11 +190,11 @@ module _ {T : Type 0} (f : T → Interval) where
   map-drop (suc n) [] = refl
   map-drop (suc n) (x ∷ xs) = map-drop n xs
 
-  pub indexes : (lower upper : Bound (List ℕ)) (xs rest : List T) (n m : ℕ) → n ≡ how_many (ends_before lower) (map f xs) → rest ≡ drop n xs → m ≡ how_many (starts_within upper) (map f rest) → overlap_indexes lower upper (map f xs) ≡ places n m
+  pub indexes : (lower upper : Bound (List ℕ)) (xs rest : List T) (n m : ℕ) → n ≡ how_many (ends_before lower) (map f xs) → rest ≡ drop n xs → m ≡ how_many (starts_within upper) (map f rest) → overlap_indexes lower upper (map f xs) ≡ first_and_last n m
   indexes lower upper xs rest n m n_is rest_is m_is =
-      ap (λ k. places k (how_many (starts_within upper) (drop k (map f xs)))) (sym n_is)
-      ∙ ap (λ rs. places n (how_many (starts_within upper) rs)) (sym (map-drop n xs) ∙ ap (λ ys. map f ys) (sym rest_is))
-      ∙ ap (λ k. places n k) (sym m_is)
+      ap (λ k. first_and_last k (how_many (starts_within upper) (drop k (map f xs)))) (sym n_is)
+      ∙ ap (λ rs. first_and_last n (how_many (starts_within upper) rs)) (sym (map-drop n xs) ∙ ap (λ ys. map f ys) (sym rest_is))
+      ∙ ap (λ k. first_and_last n k) (sym m_is)
 
   -- the first that passes is the first of those that pass
   find_first : (q : T → Bool) (xs : List T) → find q xs ≡ first (filter q xs)
@@ -322,17 +322,17 @@ module _ {T : Type 0} (f : T → Interval) where
   pub contained : (kr : Interval) (whole tables rest part : List T) (low high : List ℕ) (n m : ℕ) → tables ≡ whole → low ≡ kr.min → high ≡ kr.max → (are_in_order (map f tables) ≡ true → n ≡ how_many (λ r. key_lt r.min low) (map f tables)) → rest ≡ drop n tables → (are_in_order (map f rest) ≡ true → m ≡ how_many (λ r. key_le r.max high) (map f rest)) → part ≡ take m rest → are_in_order (map f whole) ≡ true → part ≡ filter (λ t. has_range kr (f t)) whole
   contained = found_between (λ k r. key_lt r.min k) (λ k r. key_le r.max k) (λ kr r. has_range kr r) falls-starts_before falls-ends_within (λ kr r. ap (λ b. b && key_le r.max kr.max) (le_not kr.min r.min))
 
-  pub indexes_found : (lower upper : Bound (List ℕ)) (whole tables rest : List T) (n m : ℕ) → tables ≡ whole → (are_in_order (map f tables) ≡ true → n ≡ how_many (ends_before lower) (map f tables)) → rest ≡ drop n tables → (are_in_order (map f rest) ≡ true → m ≡ how_many (starts_within upper) (map f rest)) → are_in_order (map f whole) ≡ true → overlap_indexes lower upper (map f whole) ≡ places n m
+  pub indexes_found : (lower upper : Bound (List ℕ)) (whole tables rest : List T) (n m : ℕ) → tables ≡ whole → (are_in_order (map f tables) ≡ true → n ≡ how_many (ends_before lower) (map f tables)) → rest ≡ drop n tables → (are_in_order (map f rest) ≡ true → m ≡ how_many (starts_within upper) (map f rest)) → are_in_order (map f whole) ≡ true → overlap_indexes lower upper (map f whole) ≡ first_and_last n m
   indexes_found lower upper whole tables rest n m same n_is rest_is m_is whole_ordered =
       let ordered : are_in_order (map f tables) ≡ true = subst (λ (ys : List T). are_in_order (map f ys) ≡ true) (sym same) whole_ordered in
       ap (λ ys. overlap_indexes lower upper (map f ys)) (sym same)
       ∙ indexes f lower upper tables rest n m (n_is ordered) rest_is (m_is (rest_in_order f tables rest n rest_is ordered))
 
-pub places-none : (n m : ℕ) → m ≡ 0 → places n m ≡ None
-places-none n m h = rw h refl
+pub first_and_last-none : (n m : ℕ) → m ≡ 0 → first_and_last n m ≡ None
+first_and_last-none n m h = rw h refl
 
-pub places-some : (n m : ℕ) → (m ≡ 0 → ⊥) → places n m ≡ Some (n, n + m - 1)
-places-some n m h = let e : (m == 0) ≡ false = ne_eqb m 0 h in rw e refl
+pub first_and_last-some : (n m : ℕ) → (m ≡ 0 → ⊥) → first_and_last n m ≡ Some (n, n + m - 1)
+first_and_last-some n m h = let e : (m == 0) ≡ false = ne_eqb m 0 h in rw e refl
 
 module _ {T : Type 0} (f : T → Interval) where
   step : (last : Option (List ℕ)) (xs : List T) (i : ℕ) (x : T) (r : Interval) (b : Bool) → i < length xs → x ≡ get_or xs i x → r ≡ f x → b ≡ (is_well_formed r && option_map_or (λ k. key_lt k r.min) last true) → ascends_after last (map f (drop i xs)) ≡ (b && ascends_after (Some r.max) (map f (drop (i + 1) xs)))

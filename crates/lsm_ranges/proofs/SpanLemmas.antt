@@ -8,7 +8,7 @@ use Rattle.std.proofs.lemmas.Bool.{cases_Bool, cond-true, cond-false}
 use Rattle.std.proofs.lemmas.List.{at_drop_more}
 use Rattle.std.proofs.lemmas.List.Elements.{All-push, Contains-push, Contains-append_left}
 use Rattle.sst_entries.specs.Key.{key_lt}
-use Rattle.lsm_ranges.specs.KeyRange.{Interval, interval, key_le, Spans, IsAggregate, overlaps, are_disjoint, intervals}
+use Rattle.lsm_ranges.specs.KeyRange.{Interval, interval, key_le, IsHull, IsAggregate, overlaps, are_disjoint, intervals}
 use Rattle.lsm_ranges.proofs.IntervalLemmas.{le_refl, le_trans, le_to, lt_to_le}
 
 -- the lesser and the greater of two keys, the first where they are the same
@@ -43,8 +43,8 @@ high_of xs y high has high' is =
       | inr e ↦ subst P (sym (is ∙ cond-false (key_lt high y.max) y.max high e)) (le_refl high, le_to y.max high e, subst (λ (ks : List (List ℕ)). Contains ks high) (sym (map-push (λ (x : Interval). x.max) xs y)) (Contains-append_left (map (λ x. x.max) xs) (y.max ∷ []) high has))
     ]
 
-spans_push : (xs : List Interval) (low high : List ℕ) (y : Interval) → Spans xs (interval low high) → Spans (xs ++ y ∷ []) (interval (lesser low y.min) (greater high y.max))
-spans_push xs low high y h =
+hull_push : (xs : List Interval) (low high : List ℕ) (y : Interval) → IsHull xs (interval low high) → IsHull (xs ++ y ∷ []) (interval (lesser low y.min) (greater high y.max))
+hull_push xs low high y h =
     let l = low_of xs y low h.has_min (lesser low y.min) refl in
     let u = high_of xs y high h.has_max (greater high y.max) refl in
     record {
@@ -54,14 +54,14 @@ spans_push xs low high y h =
       has_max = u.2;
     }
 
-spans_all : (xs ys : List Interval) (low high : List ℕ) → Spans xs (interval low high) → Spans (xs ++ ys) (span_from low high ys)
-spans_all xs [] low high h = subst (λ (l : List Interval). Spans l (interval low high)) (sym (append-nil xs)) h
-spans_all xs (y ∷ ys) low high h =
-    subst (λ (l : List Interval). Spans l (span_from (lesser low y.min) (greater high y.max) ys)) (append_assoc xs (y ∷ []) ys)
-    (spans_all (xs ++ y ∷ []) ys (lesser low y.min) (greater high y.max) (spans_push xs low high y h))
+hull_all : (xs ys : List Interval) (low high : List ℕ) → IsHull xs (interval low high) → IsHull (xs ++ ys) (span_from low high ys)
+hull_all xs [] low high h = subst (λ (l : List Interval). IsHull l (interval low high)) (sym (append-nil xs)) h
+hull_all xs (y ∷ ys) low high h =
+    subst (λ (l : List Interval). IsHull l (span_from (lesser low y.min) (greater high y.max) ys)) (append_assoc xs (y ∷ []) ys)
+    (hull_all (xs ++ y ∷ []) ys (lesser low y.min) (greater high y.max) (hull_push xs low high y h))
 
-spans_one : (x : Interval) → Spans (x ∷ []) (interval x.min x.max)
-spans_one x =
+hull_one : (x : Interval) → IsHull (x ∷ []) (interval x.min x.max)
+hull_one x =
     record {
       below = All-push (λ (y : Interval). key_le x.min y.min ≡ true) [] x (λ k d lt. absurd (omega arith)) (le_refl x.min);
       above = All-push (λ (y : Interval). key_le y.max x.max ≡ true) [] x (λ k d lt. absurd (omega arith)) (le_refl x.max);
@@ -71,7 +71,7 @@ spans_one x =
 
 -- from the ends of the first
 pub aggregate_of : (x : Interval) (xs : List Interval) (r : Interval) → r ≡ span_from x.min x.max xs → IsAggregate (x ∷ xs) r
-aggregate_of x xs r is = subst (λ (q : Interval). Spans (x ∷ xs) q) (sym is) (spans_all (x ∷ []) xs x.min x.max (spans_one x))
+aggregate_of x xs r is = subst (λ (q : Interval). IsHull (x ∷ xs) q) (sym is) (hull_all (x ∷ []) xs x.min x.max (hull_one x))
 
 any-map : {X Y : Type 0} (p : Y → Bool) (f : X → Y) (xs : List X) → list_any p (map f xs) ≡ list_any (λ x. p (f x)) xs
 any-map p f [] = refl

@@ -5,7 +5,7 @@ use Rattle.std.proofs.lemmas.List.{reverse-append}
 use Rattle.lsm_ranges.specs.KeyRange.{Interval, overlaps}
 use Rattle.lsm_ranges.specs.Run.{are_in_order}
 use Rattle.lsm_ranges.specs.Packing.{tables_of, table_at, touches, AreInOrder, AreNotEmpty, IsChain}
-use Rattle.lsm_ranges.specs.Links.{Mem, AreApart, AreSteps, IsStepTo, IsStack}
+use Rattle.lsm_ranges.specs.Links.{IsElement, KeepRunOrder, EachCarriesNext, CarriesNext, IsStack}
 use Rattle.lsm_ranges.specs.LinkedRuns.{AreAtPlaces, IsBelow}
 use Rattle.lsm_ranges.specs.declared.optimize.Link.{Link}
 use Rattle.lsm_ranges.proofs.PackLemmas.{mem-append_left, mem-append_right, any_from, all_of}
@@ -17,9 +17,9 @@ module _ {X : Type 0} where
   slice_at (y ∷ ys) zero x lt at = ap (λ v. Some v) (sym at)
   slice_at (y ∷ ys) (suc k) x lt at = slice_at ys k x (omega arith) at
 
-  mem_at : (ls : List (List X)) (n : ℕ) (l : List X) (x : X) → slice_get ls n ≡ Some l → Mem x l → Mem x (tables_of ls)
+  mem_at : (ls : List (List X)) (n : ℕ) (l : List X) (x : X) → slice_get ls n ≡ Some l → IsElement x l → IsElement x (tables_of ls)
   mem_at [] n l x h m = absurd cc
-  mem_at (k ∷ ks) zero l x h m = let e : l ≡ k = cc in mem-append_left k (tables_of ks) x (subst (λ (v : List X). Mem x v) e m)
+  mem_at (k ∷ ks) zero l x h m = let e : l ≡ k = cc in mem-append_left k (tables_of ks) x (subst (λ (v : List X). IsElement x v) e m)
   mem_at (k ∷ ks) (suc n) l x h m = mem-append_right k (tables_of ks) x (mem_at ks n l x h m)
 
   some_at : (ls : List (List X)) (n : ℕ) (l : List X) → slice_get ls n ≡ Some l → AreNotEmpty ls → l ≢ []
@@ -33,19 +33,19 @@ module _ {X : Type 0} (f : X → Interval) (at : X → ℕ) where
   order_of (k ∷ ks) zero l h o = let e : k ≡ l = cc in subst (λ (v : List X). are_in_order (map f v) ≡ true) e o.0
   order_of (k ∷ ks) (suc n) l h o = order_of ks n l h o.1
 
-  apart_at : (ls : List (List X)) (n : ℕ) (l m : List X) → slice_get ls n ≡ Some l → slice_get ls (suc n) ≡ Some m → AreApart f at ls → (x y : X) → Mem x l → Mem y m → overlaps (f x) (f y) ≡ true → at x < at y
+  apart_at : (ls : List (List X)) (n : ℕ) (l m : List X) → slice_get ls n ≡ Some l → slice_get ls (suc n) ≡ Some m → KeepRunOrder f at ls → (x y : X) → IsElement x l → IsElement y m → overlaps (f x) (f y) ≡ true → at x < at y
   apart_at [] n l m a b h x y p q o = absurd cc
-  apart_at (k ∷ ks) zero l m a b h x y p q o = let e : l ≡ k = cc in h.0 x y (subst (λ (v : List X). Mem x v) e p) (mem_at ks 0 m y b q) o
+  apart_at (k ∷ ks) zero l m a b h x y p q o = let e : l ≡ k = cc in h.0 x y (subst (λ (v : List X). IsElement x v) e p) (mem_at ks 0 m y b q) o
   apart_at (k ∷ ks) (suc n) l m a b h x y p q o = apart_at ks n l m a b h.1 x y p q o
 
-  steps_here : (l : List X) (ls : List (List X)) (m : List X) → slice_get ls 0 ≡ Some m → IsStepTo f at l ls → (y : X) → Mem y m → touches f (f y) l ≡ true
+  steps_here : (l : List X) (ls : List (List X)) (m : List X) → slice_get ls 0 ≡ Some m → CarriesNext f at l ls → (y : X) → IsElement y m → touches f (f y) l ≡ true
   steps_here l [] m b h y q = absurd cc
   steps_here l (k ∷ ks) m b h y q =
       let e : m ≡ k = cc in
-      let s = h y (subst (λ (v : List X). Mem y v) e q) in
+      let s = h y (subst (λ (v : List X). IsElement y v) e q) in
       any_from (λ t. overlaps (f t) (f y)) l s.0 s.1 s.2
 
-  steps_at : (ls : List (List X)) (n : ℕ) (l m : List X) → slice_get ls n ≡ Some l → slice_get ls (suc n) ≡ Some m → AreSteps f at ls → (y : X) → Mem y m → touches f (f y) l ≡ true
+  steps_at : (ls : List (List X)) (n : ℕ) (l m : List X) → slice_get ls n ≡ Some l → slice_get ls (suc n) ≡ Some m → EachCarriesNext f at ls → (y : X) → IsElement y m → touches f (f y) l ≡ true
   steps_at [] n l m a b h y q = absurd cc
   steps_at (k ∷ ks) zero l m a b h y q = let e : k ≡ l = cc in subst (λ (v : List X). touches f (f y) v ≡ true) e (steps_here k ks m b h.0 y q)
   steps_at (k ∷ ks) (suc n) l m a b h y q = steps_at ks n l m a b h.1 y q
@@ -60,10 +60,10 @@ module _ {T : Type 0} (range : T → Interval) where
   -- what holds on the walk, with `level` runs left
   pub record Walk (packed : List (List (Link T))) (above : Option (Link T)) (chain : List (ℕ × ℕ)) (level : ℕ) : Type 0 where
     pub linked : (runs : List (List T)) → AreAtPlaces runs (tables_of packed) → IsChain range runs (reverse chain)
-    pub top : (a : Link T) → above ≡ Some a → Mem a (tables_of packed) × ((rest : List (ℕ × ℕ)) × (reverse chain ≡ (a.run, a.index) ∷ rest))
+    pub top : (a : Link T) → above ≡ Some a → IsElement a (tables_of packed) × ((rest : List (ℕ × ℕ)) × (reverse chain ≡ (a.run, a.index) ∷ rest))
     pub none : above ≡ None → (chain ≡ []) × (level ≡ length packed)
     pub counted : IsStack range_of run_of packed → length chain + level ≡ length packed
-    pub last_run : (a : Link T) → above ≡ Some a → (run : List (Link T)) × (slice_get packed level ≡ Some run) × Mem a run
+    pub last_run : (a : Link T) → above ≡ Some a → (run : List (Link T)) × (slice_get packed level ≡ Some run) × IsElement a run
 
   pub walk_start : (packed : List (List (Link T))) (chain : List (ℕ × ℕ)) → chain ≡ [] → Walk packed None chain (length packed)
   walk_start packed chain is = record {
@@ -75,7 +75,7 @@ module _ {T : Type 0} (range : T → Interval) where
   }
 
   -- one more place, in front of the chain so far
-  chain_more : (runs : List (List T)) (packed : List (List (Link T))) (above : Option (Link T)) (chain : List (ℕ × ℕ)) (level : ℕ) (link : Link T) → Walk packed above chain level → AreAtPlaces runs (tables_of packed) → Mem link (tables_of packed) → MatchOption above (Unit {0}) (λ a. IsBelow range link a) → IsChain range runs ((link.run, link.index) ∷ reverse chain)
+  chain_more : (runs : List (List T)) (packed : List (List (Link T))) (above : Option (Link T)) (chain : List (ℕ × ℕ)) (level : ℕ) (link : Link T) → Walk packed above chain level → AreAtPlaces runs (tables_of packed) → IsElement link (tables_of packed) → MatchOption above (Unit {0}) (λ a. IsBelow range link a) → IsChain range runs ((link.run, link.index) ∷ reverse chain)
   chain_more runs packed None chain level link w places m below =
       subst (λ (ps : List (ℕ × ℕ)). IsChain range runs ((link.run, link.index) ∷ reverse ps)) (sym (w.none refl).0)
       (link.table.now, all_of (λ (l : Link T). table_at runs l.run l.index ≡ Some l.table.now) (tables_of packed) places link m)
@@ -103,10 +103,10 @@ module _ {T : Type 0} (range : T → Interval) where
       record {
         linked = λ runs places. subst (λ (ps : List (ℕ × ℕ)). IsChain range runs ps) (sym turned) (chain_more runs packed above chain level link w places among below);
         top = λ a e. let g : link ≡ a = cc in
-            (subst (λ (v : Link T). Mem v (tables_of packed)) g among, (reverse chain, turned ∙ ap (λ (v : Link T). (v.run, v.index) ∷ reverse chain) g));
+            (subst (λ (v : Link T). IsElement v (tables_of packed)) g among, (reverse chain, turned ∙ ap (λ (v : Link T). (v.run, v.index) ∷ reverse chain) g));
         none = λ e. absurd cc;
         counted = λ s. let k = w.counted s in let long = ap length is ∙ length-append chain ((link.run, link.index) ∷ []) in omega (arith, k, long);
-        last_run = λ a e. let g : link ≡ a = cc in (run, here, subst (λ (v : Link T). Mem v run) g member);
+        last_run = λ a e. let g : link ≡ a = cc in (run, here, subst (λ (v : Link T). IsElement v run) g member);
       }
 
   -- at a run below, there is a table to go on to
@@ -122,8 +122,8 @@ module _ {T : Type 0} (range : T → Interval) where
           let l = w.last_run a e in
           let there : slice_get packed (suc (level - 1)) ≡ Some l.0 = ap (λ n. slice_get packed n) place ∙ l.1 in
           next a e (order_of range_of run_of packed (level - 1) run here stack.order)
-          (λ x c o. apart_at range_of run_of packed (level - 1) run l.0 here there stack.apart x a (contains_mem run x c) l.2 o)
-          (steps_at range_of run_of packed (level - 1) run l.0 here there stack.steps a l.2)
+          (λ x c o. apart_at range_of run_of packed (level - 1) run l.0 here there stack.keeps_order x a (contains_mem run x c) l.2 o)
+          (steps_at range_of run_of packed (level - 1) run l.0 here there stack.carries a l.2)
 
   -- no place yet means no step yet
   not_started : (packed : List (List (Link T))) (above : Option (Link T)) (chain : List (ℕ × ℕ)) (level : ℕ) → Walk packed above chain level → chain ≡ [] → above ≡ None

@@ -49,22 +49,24 @@ intervals rs = map (λ r. r.now) rs
 abbrev pub ShareKey : Interval → Interval → Type 0
 ShareKey a b = (k : List ℕ) × IsTrue (has_key a k) × IsTrue (has_key b k)
 
--- whether an interval reaches past both bounds: it does not end before the lower one, nor start past the upper one
-abbrev pub reaches : Bound (List ℕ) → Bound (List ℕ) → Interval → Bool
-reaches low high r = is_from low r.max && is_to high r.min
+-- whether an interval reaches past both bounds: it does not end before the lower one, nor start
+-- past the upper one
+abbrev pub overlaps_bounds : Bound (List ℕ) → Bound (List ℕ) → Interval → Bool
+overlaps_bounds low high r = is_from low r.max && is_to high r.min
 
 -- no key of an interval lies within two bounds
 abbrev pub IsOutside : Bound (List ℕ) → Bound (List ℕ) → Interval → Type 0
-IsOutside low high r = (k : List ℕ) → IsTrue (has_key r k) → IsTrue (is_from low k) → IsTrue (is_to high k) → ⊥
+IsOutside low high r =
+    (k : List ℕ) → IsTrue (has_key r k) → IsTrue (is_from low k) → IsTrue (is_to high k) → ⊥
 
 -- a bound of bytes, by the bytes that it points to
-abbrev pub bound_of : Bound (Bor (List ℕ)) → Bound (List ℕ)
-bound_of (Included k) = Included k.now
-bound_of (Excluded k) = Excluded k.now
-bound_of Unbounded = Unbounded
+abbrev pub key_bound : Bound (Bor (List ℕ)) → Bound (List ℕ)
+key_bound (Included k) = Included k.now
+key_bound (Excluded k) = Excluded k.now
+key_bound Unbounded = Unbounded
 
 -- an interval has the least minimum and the greatest maximum of some intervals
-pub record Spans (ranges : List Interval) (r : Interval) : Type 0 where
+pub record IsHull (ranges : List Interval) (r : Interval) : Type 0 where
   pub below : All (λ x. IsTrue (key_le r.min x.min)) ranges
   pub above : All (λ x. IsTrue (key_le x.max r.max)) ranges
   pub has_min : Contains (map (λ x. x.min) ranges) r.min
@@ -73,4 +75,4 @@ pub record Spans (ranges : List Interval) (r : Interval) : Type 0 where
 -- the span of some intervals, from the empty key to the empty key where there are none
 abbrev pub IsAggregate : List Interval → Interval → Type 0
 IsAggregate [] r = r ≡ interval [] []
-IsAggregate (x ∷ xs) r = Spans (x ∷ xs) r
+IsAggregate (x ∷ xs) r = IsHull (x ∷ xs) r

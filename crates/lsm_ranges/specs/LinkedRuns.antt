@@ -2,25 +2,28 @@
 use Rattle.std.specs.Prelude.{◌≡◌, ◌<◌, true, List, [], map, Contains, IsPermutation, Some}
 use Rattle.std.specs.List.{AllByRecursion}
 use Rattle.lsm_ranges.specs.KeyRange.{Interval, overlaps}
-use Rattle.lsm_ranges.specs.Packing.{tables_of, table_at, put_all, AreFormed, AreNotEmpty}
-use Rattle.lsm_ranges.specs.Links.{Tagged, tag}
+use Rattle.lsm_ranges.specs.Packing.{tables_of, table_at, put_all, AreTablesWellFormed, AreNotEmpty}
+use Rattle.lsm_ranges.specs.Links.{TableWithPlace, table_with_place}
 use Rattle.lsm_ranges.specs.declared.optimize.Link.{Link}
 
 module _ {T : Type 0} where
   -- the table of a link, with its place
-  abbrev pub tag_of : Link T → Tagged T
-  tag_of link = tag link.table.now link.run link.index
+  abbrev pub table_of_link : Link T → TableWithPlace T
+  table_of_link link = table_with_place link.table.now link.run link.index
 
   -- each link's table stands at its place
   abbrev pub AreAtPlaces : List (List T) → List (Link T) → Type 0
-  AreAtPlaces runs links = AllByRecursion (λ link. table_at runs link.run link.index ≡ Some link.table.now) links
+  AreAtPlaces runs links =
+      AllByRecursion (λ link. table_at runs link.run link.index ≡ Some link.table.now) links
 
   -- runs of links to some tables, packed one table after the other
-  pub record ArePackedLinks (range : T → Interval) (ts : List (Tagged T)) (packed : List (List (Link T))) : Type 0 where
+  pub record ArePackedLinks (range : T → Interval) (ts : List (TableWithPlace T))
+      (packed : List (List (Link T))) : Type 0 where
     pub links : List (Link T)
-    pub tags_are : map tag_of links ≡ ts
+    pub tables_are : map table_of_link links ≡ ts
     pub same : IsPermutation links (tables_of packed)
-    pub put : AreFormed (λ x. range x.table) ts → packed ≡ put_all (λ link. range link.table.now) links []
+    pub put : AreTablesWellFormed (λ x. range x.table) ts →
+        packed ≡ put_all (λ link. range link.table.now) links []
     pub some : AreNotEmpty packed
 
   -- the range of a link's table
@@ -29,8 +32,11 @@ module _ {T : Type 0} where
 
   -- those of some links that overlap a link are from earlier runs
   abbrev pub AreEarlier : (T → Interval) → List (Link T) → Link T → Type 0
-  AreEarlier range links above = (x : Link T) → Contains links x → overlaps (link_range range x) (link_range range above) ≡ true → x.run < above.run
+  AreEarlier range links above =
+      (x : Link T) → Contains links x →
+      overlaps (link_range range x) (link_range range above) ≡ true → x.run < above.run
 
   -- a link is from an earlier run than another, and overlaps it
   abbrev pub IsBelow : (T → Interval) → Link T → Link T → Type 0
-  IsBelow range link above = (link.run < above.run) × (overlaps (range link.table.now) (range above.table.now) ≡ true)
+  IsBelow range link above =
+      (link.run < above.run) × (overlaps (range link.table.now) (range above.table.now) ≡ true)

@@ -28,12 +28,12 @@ module _ {T : Type 0} (range : T → Interval) where
   holders runs k = filter (λ t. has_key (range t) k) (tables_of runs)
 
   -- each table's range is well-formed
-  abbrev pub AreFormed : List T → Type 0
-  AreFormed tables = AllByRecursion (λ t. is_well_formed (range t) ≡ true) tables
+  abbrev pub AreTablesWellFormed : List T → Type 0
+  AreTablesWellFormed tables = AllByRecursion (λ t. is_well_formed (range t) ≡ true) tables
 
-  -- each table's range is well-formed
+  -- the ranges of all tables of some runs are well-formed
   abbrev pub AreWellFormed : List (List T) → Type 0
-  AreWellFormed runs = AreFormed (tables_of runs)
+  AreWellFormed runs = AreTablesWellFormed (tables_of runs)
 
   -- for each key, the tables whose range has it come in the same order
   abbrev pub SameHolders : List (List T) → List (List T) → Type 0
@@ -49,14 +49,21 @@ module _ {T : Type 0} (range : T → Interval) where
     pub apart : AllByRecursion (λ run. are_disjoint (map range run) ≡ true) runs
     pub formed : AreWellFormed runs
 
-  -- a number for each table, by run and place: of two overlapping tables the one in the earlier run has the smaller number
+  -- a number for each table, by run and place: of two overlapping tables the one in the earlier
+  -- run has the smaller number
   pub record IsPlacement (runs : List (List T)) (number : ℕ → ℕ → ℕ) : Type 0 where
-    pub keeps : (i j i' j' : ℕ) (t t' : T) → i < i' → table_at runs i j ≡ Some t → table_at runs i' j' ≡ Some t' → overlaps (range t) (range t') ≡ true → number i j < number i' j'
+    pub keeps : (i j i' j' : ℕ) (t t' : T) → i < i' →
+        table_at runs i j ≡ Some t → table_at runs i' j' ≡ Some t' →
+        overlaps (range t) (range t') ≡ true → number i j < number i' j'
 
-  -- n is the least count of numbers of a placement: no list of fewer holds all numbers of one, and one has all its numbers below n
+  -- n is the least count of numbers of a placement: no list of fewer holds all numbers of one,
+  -- and one has all its numbers below n
   pub record IsLeastSize (runs : List (List T)) (n : ℕ) : Type 0 where
-    pub at_least : (number : ℕ → ℕ → ℕ) (numbers : List ℕ) → IsPlacement runs number → ((i j : ℕ) (t : T) → table_at runs i j ≡ Some t → Contains numbers (number i j)) → n ≤ length numbers
-    pub reached : (number : ℕ → ℕ → ℕ) × IsPlacement runs number × ((i j : ℕ) (t : T) → table_at runs i j ≡ Some t → number i j < n)
+    pub at_least : (number : ℕ → ℕ → ℕ) (numbers : List ℕ) → IsPlacement runs number →
+        ((i j : ℕ) (t : T) → table_at runs i j ≡ Some t → Contains numbers (number i j)) →
+        n ≤ length numbers
+    pub reached : (number : ℕ → ℕ → ℕ) × IsPlacement runs number ×
+        ((i j : ℕ) (t : T) → table_at runs i j ≡ Some t → number i j < n)
 
   -- there are tables at two places, the second in a later run, and they overlap
   pub record AreLinked (runs : List (List T)) (p q : ℕ × ℕ) : Type 0 where
@@ -84,7 +91,10 @@ module _ {T : Type 0} (range : T → Interval) where
   -- runs with a table more: in the first run from which on none overlaps it, or in a new run
   abbrev pub put : T → List (List T) → List (List T)
   put t [] = (t ∷ []) ∷ []
-  put t (run ∷ runs) = if touches (range t) run || list_any (touches (range t)) runs then run ∷ put t runs else with_table t run ∷ runs
+  put t (run ∷ runs) =
+      if touches (range t) run || list_any (touches (range t)) runs
+      then run ∷ put t runs
+      else with_table t run ∷ runs
 
   -- runs with more tables, one after the other
   abbrev pub put_all : List T → List (List T) → List (List T)
@@ -112,37 +122,42 @@ least_above [] = 0
 least_above (n ∷ ns) = max (suc n) (least_above ns)
 
 -- a table with the number of its new run
-pub record Numbered (T : Type 0) : Type 0 where
+pub record NumberedTable (T : Type 0) : Type 0 where
   pub table : T
   pub number : ℕ
 
 -- the numbers of tables
-abbrev pub numbers_of : {T : Type 0} → List (Numbered T) → List ℕ
+abbrev pub numbers_of : {T : Type 0} → List (NumberedTable T) → List ℕ
 numbers_of xs = map (λ x. x.number) xs
 
 -- the tables of a number
-abbrev pub tables_numbered : {T : Type 0} → List (Numbered T) → ℕ → List T
-tables_numbered xs n = map (λ x. x.table) (filter (λ x. x.number == n) xs)
+abbrev pub tables_of_number : {T : Type 0} → List (NumberedTable T) → ℕ → List T
+tables_of_number xs n = map (λ x. x.table) (filter (λ x. x.number == n) xs)
 
 module _ {T : Type 0} (range : T → Interval) where
-  -- a table's number: one more than the greatest among the earlier tables that overlap it, 0 where none does
-  abbrev pub number_behind : List (Numbered T) → T → ℕ
-  number_behind earlier t = least_above (numbers_of (filter (λ x. overlaps (range x.table) (range t)) earlier))
+  -- a table's number: one more than the greatest among the earlier tables that overlap it, 0 where
+  -- none does
+  abbrev pub number_behind : List (NumberedTable T) → T → ℕ
+  number_behind earlier t =
+      least_above (numbers_of (filter (λ x. overlaps (range x.table) (range t)) earlier))
 
   -- tables with their numbers, the latest first, in front of the earlier ones
-  abbrev pub numbering_after : List (Numbered T) → List T → List (Numbered T)
+  abbrev pub numbering_after : List (NumberedTable T) → List T → List (NumberedTable T)
   numbering_after earlier [] = earlier
-  numbering_after earlier (t ∷ ts) = numbering_after (record { table = t; number = number_behind earlier t } ∷ earlier) ts
+  numbering_after earlier (t ∷ ts) =
+      numbering_after (record { table = t; number = number_behind earlier t } ∷ earlier) ts
 
   -- tables with their numbers, the latest first
-  abbrev pub numbering : List T → List (Numbered T)
+  abbrev pub numbering : List T → List (NumberedTable T)
   numbering ts = numbering_after [] ts
 
   -- new runs: each has the tables of its number, and each number has its run
-  pub record AreGrouped (xs : List (Numbered T)) (packed : List (List T)) : Type 0 where
+  pub record AreGrouped (xs : List (NumberedTable T)) (packed : List (List T)) : Type 0 where
     pub count : length packed ≡ least_above (numbers_of xs)
-    pub members : (n : ℕ) (run : List T) → slice_get packed n ≡ Some run → IsPermutation (tables_numbered xs n) run
+    pub members : (n : ℕ) (run : List T) → slice_get packed n ≡ Some run →
+        IsPermutation (tables_of_number xs n) run
 
-  -- new runs of tables that go, one after the other, behind the last new run that overlaps them, or into the first
+  -- new runs of tables that go, one after the other, behind the last new run that overlaps them, or
+  -- into the first
   abbrev pub ArePlaced : List T → List (List T) → Type 0
   ArePlaced ts packed = AreGrouped (numbering ts) packed

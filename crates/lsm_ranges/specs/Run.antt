@@ -26,7 +26,8 @@ IsStableByMin range old new = IsStableByKey range min_cmp old new
 -- each interval is well-formed and ends before each later one starts
 abbrev pub are_in_order : List Interval → Bool
 are_in_order [] = true
-are_in_order (r ∷ rs) = is_well_formed r && list_all (λ later. key_lt r.max later.min) rs && are_in_order rs
+are_in_order (r ∷ rs) =
+    is_well_formed r && list_all (λ later. key_lt r.max later.min) rs && are_in_order rs
 
 -- the tables' intervals are in order
 abbrev pub IsInOrder : {T : Type 0} → (T → Interval) → List T → Type 0
@@ -67,21 +68,24 @@ abbrev pub how_many : (Interval → Bool) → List Interval → ℕ
 how_many p rs = length (filter p rs)
 
 -- `count` places from `low` on, by the first and the last of them
-abbrev pub places : ℕ → ℕ → Option (ℕ × ℕ)
-places low count = if count == 0 then None else Some (low, low + count - 1)
+abbrev pub first_and_last : ℕ → ℕ → Option (ℕ × ℕ)
+first_and_last low count = if count == 0 then None else Some (low, low + count - 1)
 
--- the first place whose interval reaches the lower bound, and the last one from there on whose interval starts within the upper bound
+-- the first place whose interval does not end before the lower bound, and the last one from there
+-- on whose interval starts within the upper bound
 abbrev pub overlap_indexes : Bound (List ℕ) → Bound (List ℕ) → List Interval → Option (ℕ × ℕ)
 overlap_indexes lower upper rs =
-    let low = how_many (ends_before lower) rs in places low (how_many (starts_within upper) (drop low rs))
+    let low = how_many (ends_before lower) rs in
+    first_and_last low (how_many (starts_within upper) (drop low rs))
 
 -- a first and a last place of a list, in this order
-abbrev pub AreWithin : {T : Type 0} → List T → ℕ × ℕ → Type 0
-AreWithin tables span = (span.0 ≤ span.1) × (span.1 < length tables)
+abbrev pub ArePlacesOf : {T : Type 0} → List T → ℕ × ℕ → Type 0
+ArePlacesOf tables ends = (ends.0 ≤ ends.1) × (ends.1 < length tables)
 
 -- the tables at neighbouring places of a list
 abbrev pub IsPartOf : {T : Type 0} → List T → List T → Type 0
-IsPartOf tables part = (low count : ℕ) × (low + count ≤ length tables) × (part ≡ take count (drop low tables))
+IsPartOf tables part =
+    (low count : ℕ) × (low + count ≤ length tables) × (part ≡ take count (drop low tables))
 
 -- the greatest key of the last interval
 abbrev pub last_max : Interval → List Interval → List ℕ

@@ -1,10 +1,10 @@
 //! Closed intervals of keys.
-ghost use Rattle.std.specs.Prelude.{◌≡◌, ◌↔◌, if◌then◌else◌, false, IsTrue, IfOk, IfErr, []};
+ghost use Rattle.std.specs.Prelude.{◌≡◌, ◌↔◌, if◌then◌else◌, false, IsTrue, IfOk, IfErr, Ok, []};
 ghost use Rattle.std.specs.List.{list_any};
 ghost use Rattle.sst_entries.specs.Key.{key_lt};
 ghost use Rattle.sst_entries.specs.Point.{is_from, is_to};
 ghost use Rattle.sst_entries.specs.declared.error.Error.TheVariants.{OutOfMemory};
-ghost use Rattle.lsm_ranges.specs.KeyRange.{bound_of, are_disjoint, has_key, has_range, interval, intervals, key_le, overlaps, reaches, is_well_formed, IsAggregate, IsOutside, ShareKey};
+ghost use Rattle.lsm_ranges.specs.KeyRange.{key_bound, are_disjoint, has_key, has_range, interval, intervals, key_le, overlaps, overlaps_bounds, is_well_formed, IsAggregate, IsOutside, ShareKey};
 
 use sst_entries::{Error, Slice, UserKey};
 use std::alloc::{AllocError, Allocator, Global};
@@ -90,10 +90,11 @@ impl<A: Allocator> KeyRange<A> {
     }
 
     /// The range from the least minimum to the greatest maximum of some ranges, and
-    /// [`KeyRange::empty`] of none. Refused [`Error::OutOfMemory`] where a count of sharers is
-    /// refused.
+    /// [`KeyRange::empty`] of none, which is never refused. Refused [`Error::OutOfMemory`] where a
+    /// count of sharers is refused.
     pub fn aggregate(ranges: &[&KeyRange<A>]) -> Result<KeyRange<A>, Error>
         ensures ok { IfOk result (λ range. IsAggregate (intervals ranges.now) range) }
+        ensures none { ranges.now ≡ [] → result ≡ Ok (interval [] []) }
         ensures err { IfErr result (λ e. e ≡ OutOfMemory) }
     {
         let Some((first, others)) = ranges.split_first() else {
@@ -137,9 +138,10 @@ impl<A: Allocator> KeyRange<A> {
     /// and its least key is not past the upper one. Where it does not, no key of the range lies
     /// within the bounds. Bounds that are reversed can both be met.
     pub fn overlaps_with_bounds(&self, bounds: &(Bound<&[u8]>, Bound<&[u8]>)) -> bool
-        ensures value { result ≡ reaches (bound_of bounds.now.0) (bound_of bounds.now.1) self.now }
+        ensures value { result ≡
+            overlaps_bounds (key_bound bounds.now.0) (key_bound bounds.now.1) self.now }
         ensures outside { result ≡ false →
-            IsOutside (bound_of bounds.now.0) (bound_of bounds.now.1) self.now }
+            IsOutside (key_bound bounds.now.0) (key_bound bounds.now.1) self.now }
     {
         let (lower, upper) = bounds;
         is_from_lower(lower, self.1.as_slice()) && is_up_to_upper(upper, self.0.as_slice())
@@ -175,7 +177,7 @@ fn greater<'a, A: Allocator>(a: &'a UserKey<A>, b: &'a UserKey<A>) -> &'a UserKe
 }
 
 pub(crate) fn is_from_lower(lower: &Bound<&[u8]>, key: &[u8]) -> bool
-    ensures { result ≡ is_from (bound_of lower.now) key.now }
+    ensures { result ≡ is_from (key_bound lower.now) key.now }
 {
     match lower {
         Bound::Included(low) => is_at_most(low, key),
@@ -185,7 +187,7 @@ pub(crate) fn is_from_lower(lower: &Bound<&[u8]>, key: &[u8]) -> bool
 }
 
 pub(crate) fn is_up_to_upper(upper: &Bound<&[u8]>, key: &[u8]) -> bool
-    ensures { result ≡ is_to (bound_of upper.now) key.now }
+    ensures { result ≡ is_to (key_bound upper.now) key.now }
 {
     match upper {
         Bound::Included(high) => is_at_most(key, high),

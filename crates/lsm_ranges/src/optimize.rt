@@ -2,10 +2,10 @@
 ghost use Rattle.std.specs.Prelude.{◌≡◌, ◌≢◌, ◌<◌, ◌≤◌, ◌∷◌, ◌++◌, ⊤, true, List, [], length, reverse, Contains, IsSome, IfOk, IfErr, IfSome, MatchOption, OnOk, None, Ok, Some};
 ghost use Rattle.std.specs.Option.{option_copied};
 ghost use Rattle.sst_entries.specs.declared.error.Error.TheVariants.{OutOfMemory};
-ghost use Rattle.lsm_ranges.specs.Links.{tags, tags_in, IsStack, Tagged};
+ghost use Rattle.lsm_ranges.specs.Links.{runs_with_places, run_with_places, IsStack, TableWithPlace};
 ghost use Rattle.lsm_ranges.specs.LinkedRuns.{link_range, AreAtPlaces, AreEarlier, ArePackedLinks, IsBelow};
 ghost use Rattle.lsm_ranges.specs.declared.optimize.Link.{Link};
-ghost use Rattle.lsm_ranges.specs.Packing.{count_to_last, put, put_all, tables_of, touches, AddsTables, AreDisjointRuns, AreFormed, AreInOrder, AreNotEmpty, ArePacked, ArePlaced, AreWellFormed, IsChain, IsLeastSize, SameHolders, SameTables};
+ghost use Rattle.lsm_ranges.specs.Packing.{count_to_last, put, put_all, tables_of, touches, AddsTables, AreDisjointRuns, AreTablesWellFormed, AreInOrder, AreNotEmpty, ArePacked, ArePlaced, AreWellFormed, IsChain, IsLeastSize, SameHolders, SameTables};
 ghost use Rattle.lsm_ranges.specs.Run.{IsInOrder};
 
 use crate::{KeyRange, Ranged, Run};
@@ -66,7 +66,8 @@ fn place_all<T: Ranged + Drop, A: Allocator + Clone>(
     packed: &mut Vec<Run<T, A>, A>,
     tables: Vec<T, A>,
 ) -> Result<(), Error>
-    ensures ok { OnOk result (AreFormed T.range tables.items → ArePacked T.range packed.old.items →
+    ensures ok { OnOk result (AreTablesWellFormed T.range tables.items →
+        ArePacked T.range packed.old.items →
         packed.new.items ≡ put_all T.range tables.items packed.old.items) }
     ensures permutation { OnOk result (AddsTables packed.old.items tables.items packed.new.items) }
     ensures err { IfErr result (λ e. e ≡ OutOfMemory) }
@@ -129,7 +130,8 @@ fn pack_links<'a, T: Ranged, A: Allocator + Clone, B: Allocator>(
     runs: &'a [Run<T, B>],
 ) -> Result<(), Error>
     requires { packed.old.items ≡ [] }
-    ensures ok { OnOk result (ArePackedLinks T.range (tags 0 runs.now) packed.new.items) }
+    ensures ok { OnOk result
+        (ArePackedLinks T.range (runs_with_places 0 runs.now) packed.new.items) }
     ensures err { IfErr result (λ e. e ≡ OutOfMemory) }
 {
     for (run, tables) in runs.iter().enumerate() {
@@ -144,8 +146,9 @@ fn place_links<'a, T: Ranged, A: Allocator + Clone>(
     run: usize,
     tables: &'a [T],
 ) -> Result<(), Error>
-    ensures ok { OnOk result ((ts : List (Tagged T)) → ArePackedLinks T.range ts packed.old.items →
-        ArePackedLinks T.range (ts ++ tags_in run 0 tables.now) packed.new.items) }
+    ensures ok { OnOk result ((ts : List (TableWithPlace T)) →
+        ArePackedLinks T.range ts packed.old.items →
+        ArePackedLinks T.range (ts ++ run_with_places run 0 tables.now) packed.new.items) }
     ensures err { IfErr result (λ e. e ≡ OutOfMemory) }
 {
     for (index, table) in tables.iter().enumerate() {

@@ -6,9 +6,9 @@ ghost use Rattle.std.specs.Fn.{CalledAt};
 ghost use Rattle.std.specs.List.Retain.{IsFiltered};
 ghost use Rattle.std.specs.Option.{option_copied};
 ghost use Rattle.sst_entries.specs.declared.error.Error.TheVariants.{OutOfMemory};
-ghost use Rattle.lsm_ranges.specs.KeyRange.{bound_of, Interval};
+ghost use Rattle.lsm_ranges.specs.KeyRange.{key_bound, Interval};
 ghost use Rattle.lsm_ranges.specs.Packing.{with_table};
-ghost use Rattle.lsm_ranges.specs.Run.{ends_before, ends_within, first_to_last, how_many, are_in_order, may_come_next, overlap_indexes, starts_before, starts_within, tables_across, tables_inside, table_of_key, AreWithin, IsInOrder, IsPartOf, IsSortedByMin, IsStableByMin};
+ghost use Rattle.lsm_ranges.specs.Run.{ends_before, ends_within, first_to_last, how_many, are_in_order, may_come_next, overlap_indexes, starts_before, starts_within, tables_across, tables_inside, table_of_key, ArePlacesOf, IsInOrder, IsPartOf, IsSortedByMin, IsStableByMin};
 
 use crate::KeyRange;
 use crate::key_range::{is_at_most, is_from_lower, is_up_to_upper};
@@ -19,7 +19,7 @@ use std::ops::{Bound, Deref};
 
 /// What has a range of keys, as a table has.
 pub trait Ranged {
-    /// Where the keys of the range lie.
+    /// What the memory of the range's keys comes from.
     type Alloc: Allocator;
 
     // What a value stands for, as a table stands for its bytes and its global number.
@@ -164,9 +164,9 @@ impl<T: Ranged, A: Allocator> Run<T, A> {
         upper: Bound<&[u8]>,
     ) -> Option<(usize, usize)>
         ensures found { IsInOrder T.range self.now →
-            result ≡ overlap_indexes (bound_of lower.entry) (bound_of upper.entry)
+            result ≡ overlap_indexes (key_bound lower.entry) (key_bound upper.entry)
             (map T.range self.now) }
-        ensures within { IfSome result (λ span. AreWithin self.now span) }
+        ensures within { IfSome result (λ ends. ArePlacesOf self.now ends) }
     {
         let tables = self.0.as_slice();
         let first = count_ends_before(tables, lower);
@@ -365,7 +365,7 @@ fn sort_by_min<T: Ranged, A: Allocator>(tables: &mut Vec<T, A>) -> Result<(), Al
 
 fn count_ends_before<T: Ranged>(tables: &[T], lower: Bound<&[u8]>) -> usize
     ensures exact { IsInOrder T.range tables.now →
-        result ≡ how_many (ends_before (bound_of lower.entry)) (map T.range tables.now) }
+        result ≡ how_many (ends_before (key_bound lower.entry)) (map T.range tables.now) }
     ensures within { result ≤ length tables.now }
 {
     tables.partition_point(|table| !is_from_lower(&lower, table.key_range().max().as_slice()))
@@ -373,7 +373,7 @@ fn count_ends_before<T: Ranged>(tables: &[T], lower: Bound<&[u8]>) -> usize
 
 fn count_starts_within<T: Ranged>(tables: &[T], upper: Bound<&[u8]>) -> usize
     ensures exact { IsInOrder T.range tables.now →
-        result ≡ how_many (starts_within (bound_of upper.entry)) (map T.range tables.now) }
+        result ≡ how_many (starts_within (key_bound upper.entry)) (map T.range tables.now) }
     ensures within { result ≤ length tables.now }
 {
     tables.partition_point(|table| is_up_to_upper(&upper, table.key_range().min().as_slice()))

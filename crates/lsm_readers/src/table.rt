@@ -11,7 +11,7 @@ ghost use Rattle.sst_entries.specs.Stream.{CanDeal, Deals, all_ok, nowhere, stop
 ghost use Rattle.sst_blocks.specs.declared.block_type.BlockType.TheVariants.{Data, Index};
 ghost use Rattle.sst_entries.specs.declared.error.Error.{Error};
 ghost use Rattle.sst_entries.specs.declared.error.Error.TheVariants.{OutOfMemory};
-ghost use Rattle.lsm_ranges.specs.KeyRange.{bound_of, reaches};
+ghost use Rattle.lsm_ranges.specs.KeyRange.{key_bound, overlaps_bounds};
 ghost use Rattle.lsm_files.specs.Table.{IsTable};
 ghost use Rattle.lsm_files.specs.Options.{Options, Label};
 ghost use Rattle.lsm_readers.specs.Answer.{answer_told, fault_at, handle_for, lift, opened_by};
@@ -349,10 +349,10 @@ impl<A: Allocator> Table<A> {
     /// Whether the key range that the table says reaches past both bounds. On a table of a list, where it does not, no key of
     /// the list lies within them.
     pub fn check_key_range_overlap(&self, bounds: &(Bound<&[u8]>, Bound<&[u8]>)) -> bool
-        ensures value { result ≡ reaches (bound_of bounds.now.0) (bound_of bounds.now.1)
+        ensures value { result ≡ overlaps_bounds (key_bound bounds.now.0) (key_bound bounds.now.1)
             self.now.parts.facts.key_range }
         ensures list { result ≡ false → (label : Label) (options : Options) (es : List Entry) →
-            IsTable label options self.now.bytes es → within (bound_of bounds.now.0) (bound_of bounds.now.1) es ≡ [] }
+            IsTable label options self.now.bytes es → within (key_bound bounds.now.0) (key_bound bounds.now.1) es ≡ [] }
     {
         self.0.inner.metadata.key_range.overlaps_with_bounds(bounds)
     }

@@ -1,6 +1,6 @@
 -- One more run is packed.
 use Rattle.std.proofs.Common.{arith, take}
-use Rattle.lsm_ranges.specs.Links.{tags}
+use Rattle.lsm_ranges.specs.Links.{runs_with_places}
 use Rattle.lsm_ranges.proofs.LinkLemmas.{links_none, links_run, links_of_all}
 use Rattle.lsm_ranges.proofs.optimize.pack_links.Goals as goal
 
@@ -10,7 +10,7 @@ loop-run-init g c = links_none g.T.Ranged.range c.args.packed.now.items c.requir
 pub loop-run-preserved : goal.loop-run-preserved
 loop-run-preserved g c =
     links_run g.T.Ranged.range c.loop-run.run c.args.runs.now c.index-runs-run.result c.as_slice.result.now c.place_links.new.packed.items
-    c.loop-run-test.true c.index-runs-run.is c.as_slice.ensures (c.in_ok-place_links.ensures.ok (tags 0 (take c.loop-run.run c.args.runs.now)) c.loop-run.invariant)
+    c.loop-run-test.true c.index-runs-run.is c.as_slice.ensures (c.in_ok-place_links.ensures.ok (runs_with_places 0 (take c.loop-run.run c.args.runs.now)) c.loop-run.invariant)
 
 pub returns-clause-ok : goal.returns-clause-ok
 returns-clause-ok g c = links_of_all g.T.Ranged.range c.loop-run.run c.args.runs.now c.loop-run.packed.items (omega arith) c.loop-run.invariant

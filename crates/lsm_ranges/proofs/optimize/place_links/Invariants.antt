@@ -1,9 +1,9 @@
 -- The tables so far are packed with their places.
 use Rattle.std.proofs.Common.{List, ◌++◌, take}
-use Rattle.lsm_ranges.specs.Links.{Tagged, tags_in}
+use Rattle.lsm_ranges.specs.Links.{TableWithPlace, run_with_places}
 use Rattle.lsm_ranges.specs.LinkedRuns.{ArePackedLinks}
 use Rattle.lsm_ranges.proofs.optimize.place_links.Given as goal
 
 abbrev pub invariant-loop-index : goal.invariant-loop-index
 invariant-loop-index g l =
-    (ts : List (Tagged g.row.T.Denot)) → ArePackedLinks g.T.Ranged.range ts l.initial.packed.items → ArePackedLinks g.T.Ranged.range (ts ++ tags_in l.run 0 (take l.index l.tables)) l.packed.items
+    (ts : List (TableWithPlace g.row.T.Denot)) → ArePackedLinks g.T.Ranged.range ts l.initial.packed.items → ArePackedLinks g.T.Ranged.range (ts ++ run_with_places l.run 0 (take l.index l.tables)) l.packed.items

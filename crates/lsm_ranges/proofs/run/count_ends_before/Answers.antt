@@ -1,7 +1,7 @@
 -- The tables that end before the bound stand in front.
 use Rattle.std.proofs.Common.{◌∙◌, sym, rules}
 use Rattle.std.proofs.lemmas.List.Sorted.{IsPartitionPoint-from_clause}
-use Rattle.lsm_ranges.specs.KeyRange.{bound_of}
+use Rattle.lsm_ranges.specs.KeyRange.{key_bound}
 use Rattle.lsm_ranges.specs.Run.{ends_before}
 use Rattle.lsm_ranges.proofs.RunLemmas.{partitioned, point_count, how_many-map, falls-ends_before}
 use Rattle.lsm_ranges.proofs.run.count_ends_before.Goals as goal
@@ -9,6 +9,6 @@ use Rattle.lsm_ranges.proofs.run.count_ends_before.Goals as goal
 pub returns-clause-exact : goal.returns-clause-exact
 returns-clause-exact g c ordered =
     let range = g.T.Ranged.range in
-    let passes = ends_before (bound_of c.args.lower) in
-    let point = IsPartitionPoint-from_clause (λ t. passes (range t)) _ _ c.partition_point.ensures.partitioned (partitioned range passes (falls-ends_before (bound_of c.args.lower)) c.args.tables.now ordered) (λ a r q k. search rules) in
+    let passes = ends_before (key_bound c.args.lower) in
+    let point = IsPartitionPoint-from_clause (λ t. passes (range t)) _ _ c.partition_point.ensures.partitioned (partitioned range passes (falls-ends_before (key_bound c.args.lower)) c.args.tables.now ordered) (λ a r q k. search rules) in
     sym (how_many-map range passes c.args.tables.now ∙ point_count _ c.args.tables.now c.partition_point.result c.partition_point.ensures.bound point)

@@ -1,11 +1,11 @@
 -- A key of the range within both bounds is at most the greatest and at least the least.
 use Rattle.std.proofs.Common.{rules}
-use Rattle.lsm_ranges.specs.KeyRange.{bound_of}
+use Rattle.lsm_ranges.specs.KeyRange.{key_bound}
 use Rattle.lsm_ranges.proofs.IntervalLemmas.{none_within}
 use Rattle.lsm_ranges.proofs.key_range.KeyRange.overlaps_with_bounds.Goals as goal
 
 pub returns-then-is_from_lower-clause-outside : goal.returns-then-is_from_lower-clause-outside
-returns-then-is_from_lower-clause-outside g c = none_within c.args.self.now (bound_of c.args.bounds.now.0) (bound_of c.args.bounds.now.1) c.is_up_to_upper.result (search rules)
+returns-then-is_from_lower-clause-outside g c = none_within c.args.self.now (key_bound c.args.bounds.now.0) (key_bound c.args.bounds.now.1) c.is_up_to_upper.result (search rules)
 
 pub returns-else-is_from_lower-clause-outside : goal.returns-else-is_from_lower-clause-outside
-returns-else-is_from_lower-clause-outside g c = none_within c.args.self.now (bound_of c.args.bounds.now.0) (bound_of c.args.bounds.now.1) c.is_from_lower.result (search rules)
+returns-else-is_from_lower-clause-outside g c = none_within c.args.self.now (key_bound c.args.bounds.now.0) (key_bound c.args.bounds.now.1) c.is_from_lower.result (search rules)

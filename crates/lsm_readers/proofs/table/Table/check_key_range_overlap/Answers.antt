@@ -2,7 +2,7 @@ use Rattle.std.proofs.Common.{◌≡◌, ap, subst, sym, ◌∙◌}
 use Rattle.std.specs.List.{AllByRecursion}
 use Rattle.std.specs.Prelude.{IsTrue}
 use Rattle.sst_entries.specs.Entry.{Entry}
-use Rattle.lsm_ranges.specs.KeyRange.{Interval, bound_of, has_key}
+use Rattle.lsm_ranges.specs.KeyRange.{Interval, key_bound, has_key}
 use Rattle.lsm_readers.specs.Handled.{IsOpen, table_of}
 use Rattle.lsm_readers.specs.OfList.{ends_of}
 use Rattle.lsm_readers.specs.Parts.{Parts}
@@ -19,4 +19,4 @@ returns-clause-list g c none label options es t =
     let shown : range ≡ seen.parts.facts.key_range = ap (λ (u : TableSeen). u.parts.facts.key_range) (ap table_of c.deref.ensures ∙ c.self.view_is) in
     let ends : range ≡ ends_of es = shown ∙ ap (λ (p : Parts). p.facts.key_range) (table_parts label options seen.bytes es t held.short seen.global_seqno seen.parts held.recovered) in
     let keys = subst (λ (r : Interval). AllByRecursion (λ (e : Entry). IsTrue (has_key r e.user_key)) es) (sym ends) (keys_within es t.strict) in
-    nothing_within es (bound_of c.args.bounds.now.0) (bound_of c.args.bounds.now.1) range keys (c.overlaps_with_bounds.ensures.outside none)
+    nothing_within es (key_bound c.args.bounds.now.0) (key_bound c.args.bounds.now.1) range keys (c.overlaps_with_bounds.ensures.outside none)
