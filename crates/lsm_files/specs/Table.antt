@@ -7,8 +7,11 @@ use Rattle.lsm_files.specs.File.{IsFile}
 use Rattle.lsm_files.specs.Fits.{Fits}
 use Rattle.lsm_files.specs.Options.{Options, Label}
 
--- the bytes are a table of a list: the list is strict, and what the bytes hold fits
-pub record IsTable (label : Label) (options : Options) (bytes : List ℕ) (es : List Entry) : Type 0 where
+-- the bytes are a table of a list: written under a label, with options and in a version; the list is strict, and what the
+-- bytes hold fits
+pub record IsTable (bytes : List ℕ) (es : List Entry) : Type 0 where
+  pub label : Label
+  pub options : Options
   pub version : TableVersion
   pub spills : List ℕ
   pub file : IsFile version bytes label options spills es

@@ -172,9 +172,15 @@ some_chunks size spills at (c ∷ cs) h = ((h.0).some, some_chunks size spills (
 abbrev parts_by : TableVersion → Label → Options → List (List Entry) → List Entry → Parts
 parts_by v label options cs es = record { facts = facts_said v label es (length cs) (length (data_section v cs)); regions = regions_said v label options cs; index = handles v cs }
 
-module _ (label : Label) (options : Options) (stored : List ℕ) (es : List Entry) (t : IsTable label options stored es) (short : length stored < 2 ^ 63) where
+module _ (stored : List ℕ) (es : List Entry) (t : IsTable stored es) (short : length stored < 2 ^ 63) where
   abbrev v : TableVersion
   v = t.version
+
+  abbrev label : Label
+  label = t.label
+
+  abbrev options : Options
+  options = t.options
 
   abbrev cs : List (List Entry)
   cs = (t.file).blocks
@@ -191,17 +197,17 @@ module _ (label : Label) (options : Options) (stored : List ℕ) (es : List Entr
   all_some : AreSome cs
   all_some = some_chunks options.data_block_size t.spills 0 cs ((t.file).chunks).each
 
-  by_list : parts_by v label options cs (joined cs) ≡ parts_said label options stored es t
+  by_list : parts_by v label options cs (joined cs) ≡ parts_said t
   by_list = ap (parts_by v label options cs) whole
 
   -- what is recovered is what the list says
-  pub table_parts : (g : ℕ) (parts : Parts) → recovered_told stored g ≡ Ok parts → parts ≡ parts_said label options stored es t
+  pub table_parts : (g : ℕ) (parts : Parts) → recovered_told stored g ≡ Ok parts → parts ≡ parts_said t
   table_parts g parts told =
       let told_file : recovered_told (finished (w v label options cs)) g ≡ Ok parts = subst (λ (b : List ℕ). recovered_told b g ≡ Ok parts) (t.file).are told in
       parts_are v label options cs short_file all_some line t.fits g parts told_file ∙ by_list
 
   -- what opening it tells
-  pub table_told : (g : ℕ) → options.index_block_restart_interval ≡ 1 → recovered_told stored g ≡ list_told label options stored es t g
+  pub table_told : (g : ℕ) → options.index_block_restart_interval ≡ 1 → recovered_told stored g ≡ list_told t g
   table_told g one =
       ap (λ (b : List ℕ). recovered_told b g) (t.file).are
       ∙ written_recovers v label options cs short_file all_some line t.fits g one

@@ -151,9 +151,11 @@ module _ (v : TableVersion) (label : Label) (options : Options) (cs : List (List
       let seen : option_map (lifted g) (find (is_hit key (bound - g)) (joined cs)) ≡ point (lift (joined cs) g) key bound = sym (lifted_point key bound) in
       rw (facts_here, index_here) (low_or_read key bound (leb (bound - g) (lowest_seqno (joined cs))) refl ∙ ap (λ (o : Option Entry). Ok o) seen)
 
-pub file_answers : (label : Label) (options : Options) (stored : List ℕ) (es : List Entry) (t : IsTable label options stored es) (g : ℕ) (parts : Parts) → length stored < 2 ^ 63 → recovered_told stored g ≡ Ok parts → (key : List ℕ) (bound : ℕ) → answer_told (body_of stored) g parts key bound ≡ Ok (point (lift es g) key bound)
-file_answers label options stored es t g parts short told key bound =
+pub file_answers : (stored : List ℕ) (es : List Entry) (t : IsTable stored es) (g : ℕ) (parts : Parts) → length stored < 2 ^ 63 → recovered_told stored g ≡ Ok parts → (key : List ℕ) (bound : ℕ) → answer_told (body_of stored) g parts key bound ≡ Ok (point (lift es g) key bound)
+file_answers stored es t g parts short told key bound =
     let v = t.version in
+    let label = t.label in
+    let options = t.options in
     let f = t.file in
     let cs = f.blocks in
     let short_file : length (finished (w v label options cs)) < 2 ^ 63 = subst (λ (b : List ℕ). length b < 2 ^ 63) f.are short in

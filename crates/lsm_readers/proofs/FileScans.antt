@@ -141,9 +141,11 @@ module _ (v : TableVersion) (label : Label) (options : Options) (cs : List (List
       subst (λ (n : ℕ). Scans (body_of (finished (w v label options cs))) n g (all_ok (lift (joined cs) g))) (sym count)
       (some_scan v cs others (body_of (finished (w v label options cs))) g any (all_read v None cs strict fits.entries fits.blocks) fit (is_body v label options cs))
 
-file_scans : (label : Label) (options : Options) (stored : List ℕ) (es : List Entry) (t : IsTable label options stored es) (g : ℕ) (parts : Parts) → length stored < 2 ^ 63 → recovered_told stored g ≡ Ok parts → 0 < length es → Scans (body_of stored) parts.facts.data_block_count g (all_ok (lift es g))
-file_scans label options stored es t g parts short told any =
+file_scans : (stored : List ℕ) (es : List Entry) (t : IsTable stored es) (g : ℕ) (parts : Parts) → length stored < 2 ^ 63 → recovered_told stored g ≡ Ok parts → 0 < length es → Scans (body_of stored) parts.facts.data_block_count g (all_ok (lift es g))
+file_scans stored es t g parts short told any =
     let v = t.version in
+    let label = t.label in
+    let options = t.options in
     let f = t.file in
     let cs = f.blocks in
     let short_file : length (finished (w v label options cs)) < 2 ^ 63 = subst (λ (b : List ℕ). length b < 2 ^ 63) f.are short in
@@ -206,7 +208,7 @@ opens (Ok s) body count g (x ∷ xs) fault none some deals faults =
     λ stops memory. subst (λ (ys : List (Result Entry Error)). Deals (stopped stops) ScansNext nowhere s ys) (some (omega arith)).all (deals stops memory)
 opens (Err e) body count g (x ∷ xs) fault none some deals faults = λ more. memory_alone (load_at_told body 0 Data) (some more).first e (some more).loads faults
 
-pub file_opens : (label : Label) (options : Options) (stored : List ℕ) (es : List Entry) (t : IsTable label options stored es) (g : ℕ) (parts : Parts) → length stored < 2 ^ 63 → recovered_told stored g ≡ Ok parts → (r : Result Scan Error)
+pub file_opens : (stored : List ℕ) (es : List Entry) (t : IsTable stored es) (g : ℕ) (parts : Parts) → length stored < 2 ^ 63 → recovered_told stored g ≡ Ok parts → (r : Result Scan Error)
     → ((stops : Error → Bool) → stops OutOfMemory ≡ true → IfOk r (λ s. Deals (stopped stops) ScansNext nowhere s (scan_told (body_of stored) parts.facts.data_block_count g))) → Faults r (fault_of (load_at_told (body_of stored) 0 Data)) → ScansList r es g
-file_opens label options stored es t g parts short told r deals faults =
-    opens r (body_of stored) parts.facts.data_block_count g es (InvalidTag BlockTypeTag 1) (empty_refused t.version stored label options t.spills es t.file) (file_scans label options stored es t g parts short told) deals faults
+file_opens stored es t g parts short told r deals faults =
+    opens r (body_of stored) parts.facts.data_block_count g es (InvalidTag BlockTypeTag 1) (empty_refused t.version stored t.label t.options t.spills es t.file) (file_scans stored es t g parts short told) deals faults

@@ -37,13 +37,13 @@ regions_said v label options cs =
     let meta = length (block_bytes v Meta (payload v (meta_entries v label options cs counted_blocks))) in
     record { tli = record { offset = blocks; size = index }; index = None; filter_tli = None; filter = None; metadata = record { offset = blocks + index + 1; size = meta } }
 
-abbrev pub parts_said : (label : Label) (options : Options) (bytes : List ℕ) (es : List Entry) → IsTable label options bytes es → Parts
-parts_said label options bytes es t =
+abbrev pub parts_said : {bytes : List ℕ} {es : List Entry} → IsTable bytes es → Parts
+parts_said {bytes} {es} t =
     let v = t.version in
     let cs = (t.file).blocks in
-    record { facts = facts_said v label es (length cs) (length (data_section v cs)); regions = regions_said v label options cs; index = handles v cs }
+    record { facts = facts_said v t.label es (length cs) (length (data_section v cs)); regions = regions_said v t.label t.options cs; index = handles v cs }
 
 -- what opening the table of a list tells: its parts, where its highest number with the global number added fits
-abbrev pub list_told : (label : Label) (options : Options) (bytes : List ℕ) (es : List Entry) → IsTable label options bytes es → ℕ → Result Parts Error
-list_told label options bytes es t g =
-    if nat_lt (2 ^ 64 - 1) (highest_seqno es + g) then Err GlobalSeqNoTooLarge else Ok (parts_said label options bytes es t)
+abbrev pub list_told : {bytes : List ℕ} {es : List Entry} → IsTable bytes es → ℕ → Result Parts Error
+list_told {bytes} {es} t g =
+    if nat_lt (2 ^ 64 - 1) (highest_seqno es + g) then Err GlobalSeqNoTooLarge else Ok (parts_said t)

@@ -13,7 +13,6 @@ ghost use Rattle.sst_entries.specs.declared.error.Error.{Error};
 ghost use Rattle.sst_entries.specs.declared.error.Error.TheVariants.{OutOfMemory};
 ghost use Rattle.lsm_ranges.specs.KeyRange.{key_bound, overlaps_bounds};
 ghost use Rattle.lsm_files.specs.Table.{IsTable};
-ghost use Rattle.lsm_files.specs.Options.{Options, Label};
 ghost use Rattle.lsm_readers.specs.Answer.{answer_told, fault_at, handle_for, lift, opened_by};
 ghost use Rattle.lsm_readers.specs.OfList.{ends_of, list_told, parts_said};
 ghost use Rattle.lsm_readers.specs.Handled.{IsRecovered, IsOpen};
@@ -181,9 +180,8 @@ impl<A: Allocator + Clone> Table<A> {
     ) -> Result<Table<A>, Error>
         ensures told { Gives (λ (t : TableSeen). t.parts) result (recovered_told bytes global_seqno) }
         // A table of a list that readers read is opened where the highest number fits, and says of itself what the list says.
-        ensures list { (label : Label) (options : Options) (es : List Entry)
-            (t : IsTable label options bytes es) → options.index_block_restart_interval ≡ 1 →
-            Gives (λ (t : TableSeen). t.parts) result (list_told label options bytes es t global_seqno) }
+        ensures list { (es : List Entry) (t : IsTable bytes es) → t.options.index_block_restart_interval ≡ 1 →
+            Gives (λ (t : TableSeen). t.parts) result (list_told t global_seqno) }
         ensures bytes { IfOk result (λ t. t.bytes ≡ bytes) }
         ensures numbers { IfOk result (λ t. (t.global_seqno ≡ global_seqno) × (t.tree_id ≡ tree_id) × (t.checksum ≡ checksum.0)) }
     {
@@ -237,8 +235,7 @@ impl<A: Allocator + Clone> Table<A> {
             (handle_for self.now.parts self.now.global_seqno key.now seqno)) }
         ensures recovered { IsRecovered self.now }
         // On a table of a list it is the first match in the list, its numbers lifted.
-        ensures list { (label : Label) (options : Options) (es : List Entry) →
-            IsTable label options self.now.bytes es →
+        ensures list { (es : List Entry) → IsTable self.now.bytes es →
             Gives (λ (found : Option Entry). found) result (Ok (point (lift es self.now.global_seqno) key.now seqno)) }
     {
         self.get_counted(key, seqno, key_hash).0
@@ -256,8 +253,7 @@ impl<A: Allocator + Clone> Table<A> {
         ensures opened { IfOk result (λ s. s.opened ≡ counted Data none_opened) }
         // On a table of a list it is the list, its numbers lifted; where the list has an entry, nothing but want of memory
         // refuses it.
-        ensures list { (label : Label) (options : Options) (es : List Entry) →
-            IsTable label options self.now.bytes es → ScansList result es self.now.global_seqno }
+        ensures list { (es : List Entry) → IsTable self.now.bytes es → ScansList result es self.now.global_seqno }
         ensures open { IsOpen self.now }
     {
         let shared: &Shared<A> = &self.0;
@@ -274,10 +270,8 @@ impl<A: Allocator + Clone> Table<A> {
 impl<A: Allocator> Table<A> {
     /// A law, which does nothing: a table of a list says of itself what the list says, and its key range is the list's ends.
     pub fn tells_its_list(&self)
-        ensures parts { (label : Label) (options : Options) (es : List Entry)
-            (t : IsTable label options self.now.bytes es) → self.now.parts ≡ parts_said label options self.now.bytes es t }
-        ensures range { (label : Label) (options : Options) (es : List Entry) →
-            IsTable label options self.now.bytes es → ⟦<Table<A> as Ranged>⟧.range self.now ≡ ends_of es }
+        ensures parts { (es : List Entry) (t : IsTable self.now.bytes es) → self.now.parts ≡ parts_said t }
+        ensures range { (es : List Entry) → IsTable self.now.bytes es → ⟦<Table<A> as Ranged>⟧.range self.now ≡ ends_of es }
     {
         let _shared: &Shared<A> = &self.0;
     }
@@ -351,8 +345,8 @@ impl<A: Allocator> Table<A> {
     pub fn check_key_range_overlap(&self, bounds: &(Bound<&[u8]>, Bound<&[u8]>)) -> bool
         ensures value { result ≡ overlaps_bounds (key_bound bounds.now.0) (key_bound bounds.now.1)
             self.now.parts.facts.key_range }
-        ensures list { result ≡ false → (label : Label) (options : Options) (es : List Entry) →
-            IsTable label options self.now.bytes es → within (key_bound bounds.now.0) (key_bound bounds.now.1) es ≡ [] }
+        ensures list { result ≡ false → (es : List Entry) → IsTable self.now.bytes es →
+            within (key_bound bounds.now.0) (key_bound bounds.now.1) es ≡ [] }
     {
         self.0.inner.metadata.key_range.overlaps_with_bounds(bounds)
     }

@@ -12,7 +12,7 @@ use Rattle.sst_sections.specs.declared.version.TableVersion.TheVariants.{V4}
 use Rattle.sst_entries.specs.Point.{point}
 use Rattle.sst_entries.specs.Stream.{Deals, all_ok, nowhere, stopped}
 use Rattle.lsm_files.specs.Facts.{highest_seqno}
-use Rattle.lsm_files.specs.Options.{Options, Label, default_options}
+use Rattle.lsm_files.specs.Options.{Label, default_options}
 use Rattle.lsm_files.specs.Table.{IsTable}
 use Rattle.lsm_writers.specs.Writing.{IsTableOf, list_fault}
 use Rattle.lsm_readers.specs.OfList.{list_told, parts_said}
@@ -59,22 +59,24 @@ module _ (label : Label) (es : List Entry) (g : ℕ) where
       let low : ltb (2 ^ 64 - 1) (highest_seqno [] + g) ≡ false = le-ltb _ _ (omega (arith, small)) in
       or_fine (list_fault label es) (number_fault es g) fine (rw (none, low) refl)
 
-  module _ (bytes : List ℕ) (t : IsTable label default_options bytes es) (written : list_fault label es ≡ None) where
-    pub opens : (parts : Parts) → list_told label default_options bytes es t g ≡ Ok parts → opening_fault label es g ≡ None
-    opens parts told = or_fine (list_fault label es) (number_fault es g) written (fine_by (ltb (2 ^ 64 - 1) (highest_seqno es + g)) (parts_said label default_options bytes es t) parts told)
+  module _ (bytes : List ℕ) (t : IsTable bytes es) (written : list_fault label es ≡ None) where
+    pub opens : (parts : Parts) → list_told t g ≡ Ok parts → opening_fault label es g ≡ None
+    opens parts told = or_fine (list_fault label es) (number_fault es g) written (fine_by (ltb (2 ^ 64 - 1) (highest_seqno es + g)) (parts_said t) parts told)
 
-    pub unopened : (e : Error) → list_told label default_options bytes es t g ≡ Err e → opening_fault label es g ≡ Some e
-    unopened e told = or_second (list_fault label es) (number_fault es g) e written (fault_by (ltb (2 ^ 64 - 1) (highest_seqno es + g)) (parts_said label default_options bytes es t) e told)
+    pub unopened : (e : Error) → list_told t g ≡ Err e → opening_fault label es g ≡ Some e
+    unopened e told = or_second (list_fault label es) (number_fault es g) e written (fault_by (ltb (2 ^ 64 - 1) (highest_seqno es + g)) (parts_said t) e told)
 
 -- what was opened
 pub opened : (label : Label) (es : List Entry) (g id sum : ℕ) (bytes : List ℕ) (t : TableSeen) → IsTableOf label es id sum bytes → t.bytes ≡ bytes → t.global_seqno ≡ g → t.tree_id ≡ 0 → t.checksum ≡ sum → IsOpened label es g t
 opened label es g id sum bytes t f same number tree check =
-    let P : List ℕ → Type 0 = λ b. (x : IsTable label default_options b es) × (x.version ≡ V4) in
-    let table : P t.bytes = subst P (sym same) (f.table, f.version_is) in
+    let P : List ℕ → Type 0 = λ b. (x : IsTable b es) × (x.label ≡ label) × (x.options ≡ default_options) × (x.version ≡ V4) in
+    let table : P t.bytes = subst P (sym same) (f.table, f.label_is, f.options_are, f.version_is) in
     record {
       some = f.some;
       table = table.0;
-      version_is = table.1;
+      label_is = table.1;
+      options_are = table.2;
+      version_is = table.3;
       number_is = number;
       tree_is = tree;
       checksum_is = check ∙ f.checksum_is ∙ subst (λ (b : List ℕ). fnv1a b ≡ fnv1a t.bytes) same refl;

@@ -27,7 +27,9 @@ opening_fault label es g = option_or (list_fault label es) (number_fault es g)
 -- an opened table of a list, in the version that is written, of tree 0 and with the checksum of its bytes
 pub record IsOpened (label : Label) (es : List Entry) (g : ℕ) (t : TableSeen) : Type 0 where
   pub some : es ≡ [] → ⊥
-  pub table : IsTable label default_options t.bytes es
+  pub table : IsTable t.bytes es
+  pub label_is : table.label ≡ label
+  pub options_are : table.options ≡ default_options
   pub version_is : table.version ≡ V4
   pub number_is : t.global_seqno ≡ g
   pub tree_is : t.tree_id ≡ 0

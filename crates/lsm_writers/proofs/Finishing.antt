@@ -287,7 +287,17 @@ finished_is {A} w n m id checksum bytes h some i s b label blocks index =
       some = λ e. some (ap (λ (x : Metadata A). x.item_count) h.counted ∙ ap length (chunks.whole ∙ e));
       id_is = i;
       checksum_is = s;
-      file_is = record { blocks = blocks_of w; chunks = chunks; are = b };
-      strict = written_strict w n m h;
-      fits = record { entries = all_front (EntryFits V4) (joined (blocks_of w)) [] h.fits; blocks = blocks; index = index_fits (handles V4 (blocks_of w)) index; label_fits = label };
+      table = record {
+        label = w.label;
+        options = w.options;
+        version = V4;
+        spills = spills_of w;
+        file = record { blocks = blocks_of w; chunks = chunks; are = b };
+        strict = written_strict w n m h;
+        fits = record { entries = all_front (EntryFits V4) (joined (blocks_of w)) [] h.fits; blocks = blocks; index = index_fits (handles V4 (blocks_of w)) index; label_fits = label };
+      };
+      label_is = refl;
+      options_are = refl;
+      version_is = refl;
+      spills_are = refl;
     }

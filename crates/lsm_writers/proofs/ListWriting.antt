@@ -14,7 +14,7 @@ use Rattle.sst_entries.proofs.Lists.{all_behind}
 use Rattle.lsm_writers.specs.declared.writer.FinishedTable.{FinishedTable}
 use Rattle.lsm_files.specs.Options.{Options, Label, default_options}
 use Rattle.lsm_files.specs.Table.{IsTable}
-use Rattle.lsm_writers.specs.Writing.{follows, gained, written, finished_table, IsFinished, IsTableOf, IsWritable, Writing}
+use Rattle.lsm_writers.specs.Writing.{follows, gained, written, IsFinished, IsTableOf, IsWritable, Writing}
 use Rattle.lsm_files.specs.Chunks.{joined, is_full}
 use Rattle.lsm_writers.proofs.Cutting.{joined_more}
 use Rattle.lsm_writers.proofs.Orders.{strict_back, ends_follow}
@@ -48,16 +48,16 @@ same_label w e = label_by w e _ refl
 module _ (w : Writing) (es : List Entry) (label : Label) (all : written w ≡ es) (named : w.label ≡ label) (options : w.options ≡ default_options) where
   finished : (id checksum : ℕ) (bytes : List ℕ) → IsFinished w id checksum bytes → IsTableOf label es id checksum bytes
   finished id checksum bytes f =
-      let P : Label → Options → List Entry → Type 0 = λ l o xs. (t : IsTable l o bytes xs) × (t.version ≡ V4) in
-      let made : P w.label w.options (written w) = (finished_table w id checksum bytes f, refl) in
-      let table : P label default_options es =
-      subst (λ (l : Label). P l default_options es) named (subst (λ (o : Options). P w.label o es) options (subst (λ (xs : List Entry). P w.label w.options xs) all made)) in
+      let P : List Entry → Type 0 = λ xs. (t : IsTable bytes xs) × (t.label ≡ label) × (t.options ≡ default_options) × (t.version ≡ V4) in
+      let table : P es = subst P all (f.table, f.label_is ∙ named, f.options_are ∙ options, f.version_is) in
       record {
         some = λ none. f.some (all ∙ none);
         id_is = f.id_is ∙ ap (λ (l : Label). l.table_id) named;
         checksum_is = f.checksum_is;
         table = table.0;
-        version_is = table.1;
+        label_is = table.1;
+        options_are = table.2;
+        version_is = table.3;
       }
 
 pub table_by : {A : Type 0} (r : Result (Option (FinishedTable A)) Error) (w : Writing) (es : List Entry) (label : Label) → written w ≡ es → w.label ≡ label → w.options ≡ default_options

@@ -14,8 +14,6 @@ use Rattle.lsm_files.specs.Chunks.{joined, is_full}
 use Rattle.lsm_writers.specs.Cut.{rest_of}
 use Rattle.lsm_files.specs.Index.{handles}
 use Rattle.sst_sections.specs.Fnv.{fnv1a}
-use Rattle.lsm_files.specs.File.{IsFile}
-use Rattle.lsm_files.specs.Fits.{Fits}
 use Rattle.lsm_files.specs.Table.{IsTable}
 use Rattle.lsm_files.specs.Options.{Options, Label, default_options}
 
@@ -83,13 +81,11 @@ pub record IsFinished (w : Writing) (id : ℕ) (checksum : ℕ) (bytes : List �
   pub some : written w ≡ [] → ⊥
   pub id_is : id ≡ w.label.table_id
   pub checksum_is : checksum ≡ fnv1a bytes
-  pub file_is : IsFile V4 bytes w.label w.options (spills_of w) (written w)
-  pub strict : IsStrict (written w)
-  pub fits : Fits V4 w.label file_is.blocks
-
--- what finishing gives is a table of the list
-abbrev pub finished_table : (w : Writing) (id checksum : ℕ) (bytes : List ℕ) → IsFinished w id checksum bytes → IsTable w.label w.options bytes (written w)
-finished_table w id checksum bytes f = record { version = V4; spills = spills_of w; file = f.file_is; strict = f.strict; fits = f.fits }
+  pub table : IsTable bytes (written w)
+  pub label_is : table.label ≡ w.label
+  pub options_are : table.options ≡ w.options
+  pub version_is : table.version ≡ V4
+  pub spills_are : table.spills ≡ spills_of w
 
 -- a list that a table can be written of: strict, and numbered below the largest number
 pub record IsWritable (es : List Entry) : Type 0 where
@@ -114,5 +110,7 @@ pub record IsTableOf (label : Label) (es : List Entry) (id : ℕ) (checksum : �
   pub some : es ≡ [] → ⊥
   pub id_is : id ≡ label.table_id
   pub checksum_is : checksum ≡ fnv1a bytes
-  pub table : IsTable label default_options bytes es
+  pub table : IsTable bytes es
+  pub label_is : table.label ≡ label
+  pub options_are : table.options ≡ default_options
   pub version_is : table.version ≡ V4

@@ -9,7 +9,6 @@ use Rattle.sst_entries.specs.Entry.{Entry}
 use Rattle.sst_entries.specs.Error.{Gives, is_memory}
 use Rattle.lsm_files.specs.Facts.{highest_seqno}
 use Rattle.lsm_files.specs.Fits.{EntryFits}
-use Rattle.lsm_files.specs.Options.{Options, Label}
 use Rattle.lsm_files.specs.Table.{IsTable}
 use Rattle.lsm_readers.specs.OfList.{list_told, parts_said}
 use Rattle.lsm_readers.specs.Parts.{Parts}
@@ -18,8 +17,8 @@ use Rattle.lsm_readers.proofs.FileLengths.{highest_below}
 use Rattle.lsm_readers.proofs.Scans.{memory_is}
 
 -- without a global number every number fits
-low : (label : Label) (options : Options) (bytes : List ℕ) (es : List Entry) → IsTable label options bytes es → ltb (2 ^ 64 - 1) (highest_seqno es + 0) ≡ false
-low label options bytes es t =
+low : (bytes : List ℕ) (es : List Entry) → IsTable bytes es → ltb (2 ^ 64 - 1) (highest_seqno es + 0) ≡ false
+low bytes es t =
     let entries : AllByRecursion (EntryFits t.version) es = subst (AllByRecursion (EntryFits t.version)) ((t.file).chunks).whole (t.fits).entries in
     le-ltb _ _ (omega (arith, highest_below t.version es entries))
 
@@ -31,5 +30,5 @@ opens_by (Err e) false parts small gives = elim (cases_Bool (is_memory e)) [
   | inr other ↦ let no : Ok parts ≡ Err e = gives other in absurd cc
 ]
 
-pub opens : (label : Label) (options : Options) (bytes : List ℕ) (es : List Entry) (t : IsTable label options bytes es) (r : Result TableSeen Error) → Gives (λ (u : TableSeen). u.parts) r (list_told label options bytes es t 0) → IfErr r (λ e. e ≡ OutOfMemory)
-opens label options bytes es t r gives = opens_by r (ltb (2 ^ 64 - 1) (highest_seqno es + 0)) (parts_said label options bytes es t) (low label options bytes es t) gives
+pub opens : (bytes : List ℕ) (es : List Entry) (t : IsTable bytes es) (r : Result TableSeen Error) → Gives (λ (u : TableSeen). u.parts) r (list_told t 0) → IfErr r (λ e. e ≡ OutOfMemory)
+opens bytes es t r gives = opens_by r (ltb (2 ^ 64 - 1) (highest_seqno es + 0)) (parts_said t) (low bytes es t) gives

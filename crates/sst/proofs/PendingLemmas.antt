@@ -9,10 +9,9 @@ use Rattle.sst_entries.specs.Strict.{last_of, IsStrict, IsStrictAfter}
 use Rattle.sst_entries.specs.declared.error.Error.{Error}
 use Rattle.sst_sections.specs.declared.version.TableVersion.TheVariants.{V4}
 use Rattle.lsm_writers.specs.declared.writer.FinishedTable.{FinishedTable}
-use Rattle.lsm_files.specs.File.{IsFile}
-use Rattle.lsm_files.specs.Fits.{Fits}
 use Rattle.lsm_files.specs.Options.{Options, Label, default_options, label_of}
-use Rattle.lsm_writers.specs.Writing.{follows, gained, written, spills_of, IsFinished, Writing}
+use Rattle.lsm_files.specs.Table.{IsTable}
+use Rattle.lsm_writers.specs.Writing.{follows, gained, written, IsFinished, Writing}
 use Rattle.lsm_files.specs.Chunks.{joined, is_full}
 use Rattle.sst_entries.proofs.Lists.{all_append, all_behind}
 use Rattle.lsm_writers.proofs.Orders.{strict_back, ends_follow}
@@ -70,17 +69,15 @@ same_label w e = label_by w e _ refl
 module _ (w : Writing) (es : List Entry) (id : ℕ) (all : written w ≡ es) (label : w.label ≡ record { table_id = id; initial_level = 0; created_at = 0 }) (options : w.options ≡ default_options) where
   finished : (found checksum : ℕ) (bytes : List ℕ) → IsFinished w found checksum bytes → IsTableOf es id found checksum bytes
   finished found checksum bytes f =
-      let P : Label → Options → List Entry → Type 0 = λ l o xs. (t : IsFile V4 bytes l o (spills_of w) xs) × IsStrict xs × Fits V4 l t.blocks in
-      let made : P w.label w.options (written w) = (f.file_is, f.strict, f.fits) in
-      let table : P (label_of id 0 0) default_options es =
-      subst (λ (l : Label). P l default_options es) label (subst (λ (o : Options). P w.label o es) options (subst (λ (xs : List Entry). P w.label w.options xs) all made)) in
+      let P : List Entry → Type 0 = λ xs. (t : IsTable bytes xs) × (t.label ≡ label_of id 0 0) × (t.options ≡ default_options) × (t.version ≡ V4) in
+      let table : P es = subst P all (f.table, f.label_is ∙ label, f.options_are ∙ options, f.version_is) in
       record {
         id_is = f.id_is ∙ ap (λ (l : Label). l.table_id) label;
         checksum_is = f.checksum_is;
-        spills = spills_of w;
-        file = table.0;
-        strict = table.1;
-        fits = table.2;
+        table = table.0;
+        label_is = table.1;
+        options_are = table.2;
+        version_is = table.3;
       }
 
 pub table_by : {A : Type 0} (r : Result (Option (FinishedTable A)) Error) (w : Writing) (es : List Entry) (id : ℕ) → written w ≡ es → w.label ≡ record { table_id = id; initial_level = 0; created_at = 0 } → w.options ≡ default_options

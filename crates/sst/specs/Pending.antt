@@ -7,8 +7,6 @@ use Rattle.sst_sections.specs.declared.version.TableVersion.TheVariants.{V4}
 use Rattle.sst_entries.specs.Entry.{Entry}
 use Rattle.sst_sections.specs.Fnv.{fnv1a}
 use Rattle.sst_entries.specs.Strict.{IsStrict}
-use Rattle.lsm_files.specs.File.{IsFile}
-use Rattle.lsm_files.specs.Fits.{Fits}
 use Rattle.lsm_files.specs.Options.{default_options, label_of}
 use Rattle.lsm_files.specs.Table.{IsTable}
 use Rattle.lsm_writers.specs.Writing.{Writing, write_fault, finish_fault, gained}
@@ -26,14 +24,10 @@ pub record IsPending (es : List Entry) : Type 0 where
 pub record IsTableOf (es : List Entry) (id found checksum : ℕ) (bytes : List ℕ) : Type 0 where
   pub id_is : found ≡ id
   pub checksum_is : checksum ≡ fnv1a bytes
-  pub spills : List ℕ
-  pub file : IsFile V4 bytes (label_of id 0 0) default_options spills es
-  pub strict : IsStrict es
-  pub fits : Fits V4 (label_of id 0 0) file.blocks
-
--- readers see a table of the list
-abbrev pub as_table : (es : List Entry) (id found checksum : ℕ) (bytes : List ℕ) → IsTableOf es id found checksum bytes → IsTable (label_of id 0 0) default_options bytes es
-as_table es id found checksum bytes t = record { version = V4; spills = t.spills; file = t.file; strict = t.strict; fits = t.fits }
+  pub table : IsTable bytes es
+  pub label_is : table.label ≡ label_of id 0 0
+  pub options_are : table.options ≡ default_options
+  pub version_is : table.version ≡ V4
 
 -- a writer of a table that has no entry yet
 abbrev pub new_writing : ℕ → Writing

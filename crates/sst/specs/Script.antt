@@ -6,8 +6,8 @@ use Rattle.sst_sections.specs.declared.version.TableVersion.TheVariants.{V4}
 use Rattle.sst_sections.specs.Fnv.{fnv1a}
 use Rattle.sst_entries.specs.Entry.{Entry, entry}
 use Rattle.sst_entries.specs.Error.{Fails}
-use Rattle.lsm_files.specs.File.{IsFile}
-use Rattle.lsm_files.specs.Options.{default_options}
+use Rattle.lsm_files.specs.Options.{default_options, label_of}
+use Rattle.lsm_files.specs.Table.{IsTable}
 use Rattle.lsm_writers.specs.Writing.{follows}
 use Rattle.lsm_readers.specs.Parts.{recovered_told}
 use Rattle.lsm_readers.specs.TableSeen.{TableSeen}
@@ -48,8 +48,10 @@ pub record AddsRun (es : List Entry) (id : ℕ) (old new : List TableSeen) : Typ
   pub unlifted : run.global_seqno ≡ 0
   pub tree : run.tree_id ≡ 0
   pub checksum : run.checksum ≡ fnv1a run.bytes
-  pub spills : List ℕ
-  pub file : IsFile V4 run.bytes (record { table_id = id; initial_level = 0; created_at = 0 }) default_options spills es
+  pub table : IsTable run.bytes es
+  pub label_is : table.label ≡ label_of id 0 0
+  pub options_are : table.options ≡ default_options
+  pub version_is : table.version ≡ V4
 
 -- a list was written as one table, whose id was used up; or there was nothing to write
 abbrev pub Writes : List Entry → List TableSeen → List TableSeen → Option ℕ → Option ℕ → ℕ → Type 0

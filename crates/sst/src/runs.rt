@@ -3,7 +3,6 @@ ghost use Rattle.std.specs.Prelude.{◌≡◌, ◌-◌, ◌<◌, ◌^◌, Bool, 
 ghost use Rattle.sst_entries.specs.declared.error.Error.TheVariants.{OutOfMemory};
 ghost use Rattle.sst_entries.specs.Entry.{Entry};
 ghost use Rattle.sst_entries.specs.Error.{Gives};
-ghost use Rattle.lsm_files.specs.Options.{Label, Options};
 ghost use Rattle.lsm_files.specs.Table.{IsTable};
 ghost use Rattle.lsm_readers.specs.Parts.{recovered_told};
 ghost use Rattle.lsm_readers.specs.TableSeen.{TableSeen};
@@ -21,8 +20,8 @@ pub(crate) fn open<A: Allocator + Clone>(
 ) -> Result<Table<A>, Error>
     ensures told { Gives (λ (t : TableSeen). t.parts) result (recovered_told table.bytes 0) }
     // A table of a list is opened: nothing but want of memory refuses it.
-    ensures list { (label : Label) (options : Options) (es : List Entry) → IsTable label options table.bytes es →
-        options.index_block_restart_interval ≡ 1 → IfErr result (λ e. e ≡ OutOfMemory) }
+    ensures list { (es : List Entry) (t : IsTable table.bytes es) → t.options.index_block_restart_interval ≡ 1 →
+        IfErr result (λ e. e ≡ OutOfMemory) }
     ensures bytes { IfOk result (λ t. t.bytes ≡ table.bytes) }
     ensures unlifted { IfOk result (λ t. t.global_seqno ≡ 0) }
     ensures tree { IfOk result (λ t. t.tree_id ≡ 0) }

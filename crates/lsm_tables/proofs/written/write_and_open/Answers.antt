@@ -1,5 +1,5 @@
-use Rattle.std.proofs.Common.{refl, arith}
-use Rattle.lsm_files.specs.Options.{default_options, label_of}
+use Rattle.std.proofs.Common.{ap, arith}
+use Rattle.lsm_files.specs.Options.{Options, label_of}
 use Rattle.lsm_tables.proofs.Opening.{none_written, opened, opens, passes_on, unopened}
 use Rattle.lsm_tables.proofs.written.write_and_open.Goals as goal
 
@@ -10,7 +10,7 @@ returns-in_err-opened-in-Some-clause-refused g c =
     let f = rw c.in-Some.is at c.in_ok-write_list.ensures.table in
     let e = c.in_err-opened-in-Some.field-0.0 in
     passes_on c.from_residual-in_err-opened-in-Some.result e _ c.from_residual-in_err-opened-in-Some.ensures.1
-    (λ memory. unopened label es c.args.global_seqno c.in-Some.table.bytes f.table c.in_ok-write_list.ensures.refused e (c.in_err-opened-in-Some.ensures.list label default_options es f.table refl memory))
+    (λ memory. unopened label es c.args.global_seqno c.in-Some.table.bytes f.table c.in_ok-write_list.ensures.refused e (c.in_err-opened-in-Some.ensures.list es f.table (ap (λ (o : Options). o.index_block_restart_interval) f.options_are) memory))
 
 pub returns-in-None-clause-refused : goal.returns-in-None-clause-refused
 returns-in-None-clause-refused g c =
@@ -22,7 +22,7 @@ returns-in_ok-opened-in-Some-clause-refused g c =
     let label = label_of c.args.id 0 c.args.created_at in
     let es = c.args.items.items in
     let f = rw c.in-Some.is at c.in_ok-write_list.ensures.table in
-    opens label es c.args.global_seqno c.in-Some.table.bytes f.table c.in_ok-write_list.ensures.refused c.in_ok-opened-in-Some.opened.parts (c.in_ok-opened-in-Some.ensures.list label default_options es f.table refl)
+    opens label es c.args.global_seqno c.in-Some.table.bytes f.table c.in_ok-write_list.ensures.refused c.in_ok-opened-in-Some.opened.parts (c.in_ok-opened-in-Some.ensures.list es f.table (ap (λ (o : Options). o.index_block_restart_interval) f.options_are))
 
 pub returns-in_ok-opened-in-Some-clause-table : goal.returns-in_ok-opened-in-Some-clause-table
 returns-in_ok-opened-in-Some-clause-table g c =

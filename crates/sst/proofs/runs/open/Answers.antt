@@ -2,4 +2,4 @@ use Rattle.sst.proofs.OpenLemmas.{opens}
 use Rattle.sst.proofs.runs.open.Goals as goal
 
 pub returns-clause-list : goal.returns-clause-list
-returns-clause-list g c label options es t one = opens label options c.args.table.bytes es t c.recover.result (c.recover.ensures.list label options es t one)
+returns-clause-list g c es t one = opens c.args.table.bytes es t c.recover.result (c.recover.ensures.list es t one)

@@ -12,11 +12,11 @@ use Rattle.lsm_readers.proofs.FileParts.{table_parts}
 use Rattle.lsm_readers.proofs.table.Table.check_key_range_overlap.Goals as goal
 
 pub returns-clause-list : goal.returns-clause-list
-returns-clause-list g c none label options es t =
+returns-clause-list g c none es t =
     let seen = c.args.self.now in
     let held = subst IsOpen c.self.view_is c.self.invariant in
     let range : Interval = (c.deref.result.now.inner.metadata).key_range in
     let shown : range ≡ seen.parts.facts.key_range = ap (λ (u : TableSeen). u.parts.facts.key_range) (ap table_of c.deref.ensures ∙ c.self.view_is) in
-    let ends : range ≡ ends_of es = shown ∙ ap (λ (p : Parts). p.facts.key_range) (table_parts label options seen.bytes es t held.short seen.global_seqno seen.parts held.recovered) in
+    let ends : range ≡ ends_of es = shown ∙ ap (λ (p : Parts). p.facts.key_range) (table_parts seen.bytes es t held.short seen.global_seqno seen.parts held.recovered) in
     let keys = subst (λ (r : Interval). AllByRecursion (λ (e : Entry). IsTrue (has_key r e.user_key)) es) (sym ends) (keys_within es t.strict) in
     nothing_within es (key_bound c.args.bounds.now.0) (key_bound c.args.bounds.now.1) range keys (c.overlaps_with_bounds.ensures.outside none)

@@ -45,15 +45,15 @@ by_list : {X : Type 0} (view : X → Parts) (r : Result X Error) (told list : Re
 by_list view r told list gives same = subst (λ (x : Result Parts Error). Gives view r x) same gives
 
 pub returns-in_err-source-clause-list : goal.returns-in_err-source-clause-list
-returns-in_err-source-clause-list g c label options es t one =
+returns-in_err-source-clause-list g c es t one =
     by_list (λ (x : TableSeen). x.parts) c.from_residual-in_err-source.result _ _ (returns-in_err-source-clause-told g c)
-    (table_told label options c.args.bytes es t c.in_err-source.ensures.short c.args.global_seqno one)
+    (table_told c.args.bytes es t c.in_err-source.ensures.short c.args.global_seqno one)
 
 pub returns-in_err-inner-clause-list : goal.returns-in_err-inner-clause-list
-returns-in_err-inner-clause-list g c label options es t one =
+returns-in_err-inner-clause-list g c es t one =
     by_list (λ (x : TableSeen). x.parts) c.from_residual-in_err-inner.result _ _ (returns-in_err-inner-clause-told g c)
-    (table_told label options c.args.bytes es t c.in_ok-source.ensures.short c.args.global_seqno one)
+    (table_told c.args.bytes es t c.in_ok-source.ensures.short c.args.global_seqno one)
 
 pub returns-clause-list : goal.returns-clause-list
-returns-clause-list g c label options es t one =
-    sym (table_told label options c.args.bytes es t c.in_ok-source.ensures.short c.args.global_seqno one) ∙ returns-clause-told g c
+returns-clause-list g c es t one =
+    sym (table_told c.args.bytes es t c.in_ok-source.ensures.short c.args.global_seqno one) ∙ returns-clause-told g c

@@ -17,10 +17,10 @@ returns-clause-deals g c stops memory =
     subst (λ (u : TableSeen). IfOk c.new.result (λ (s : Scan). Deals (stopped stops) ScansNext nowhere s (scan_told (body_of u.bytes) u.parts.facts.data_block_count u.global_seqno))) seen (c.new.ensures.deals stops memory)
 
 pub returns-clause-list : goal.returns-clause-list
-returns-clause-list g c label options es is =
+returns-clause-list g c es is =
     let t = c.args.self.now in
     let seen = ap table_of c.deref-shared.ensures ∙ c.self.view_is in
     let held = subst IsOpen c.self.view_is c.self.invariant in
-    file_opens label options t.bytes es is t.global_seqno t.parts held.short held.recovered c.new.result
+    file_opens t.bytes es is t.global_seqno t.parts held.short held.recovered c.new.result
     (λ stops memory. subst (λ (u : TableSeen). IfOk c.new.result (λ (s : Scan). Deals (stopped stops) ScansNext nowhere s (scan_told (body_of u.bytes) u.parts.facts.data_block_count u.global_seqno))) seen (c.new.ensures.deals stops memory))
     (subst (λ (u : TableSeen). Faults c.new.result (fault_of (load_at_told (body_of u.bytes) 0 Data))) seen c.new.ensures.refused)

@@ -1,10 +1,11 @@
-use Rattle.std.proofs.Common.{◌≡◌, ◌∙◌, sym, ap, refl, inl, inr, Bool, ◌∷◌, rules}
+use Rattle.std.proofs.Common.{◌≡◌, ◌∙◌, sym, subst, ap, refl, inl, inr, ℕ, Bool, List, ◌∷◌, rules}
 use Rattle.std.specs.Prelude.{Some, Ok}
 use Rattle.sst_sections.specs.Fnv.{fnv1a}
+use Rattle.sst_sections.specs.declared.version.TableVersion.TheVariants.{V4}
 use Rattle.sst_entries.specs.declared.error.Error.TheVariants.{OutOfMemory}
 use Rattle.sst.specs.declared.stop.Failure.TheVariants.{Refused}
-use Rattle.lsm_files.specs.Options.{default_options, label_of}
-use Rattle.sst.specs.Pending.{as_table}
+use Rattle.lsm_files.specs.Options.{Options, default_options, label_of}
+use Rattle.lsm_files.specs.Table.{IsTable}
 use Rattle.sst.specs.Script.{next_id, RefusesTable}
 use Rattle.sst.proofs.RefusalLemmas.{passes}
 use Rattle.sst.proofs.TableLemmas.{wants_memory, unread, ids_spent, unwritten, unopened}
@@ -59,7 +60,7 @@ returns-in_err-run-clause-refused g c =
     let t = c.in-Some.table in
     let found = rw c.in-Some.is at c.in_ok-table.ensures.table in
     let table = rw c.replace-pending.ensures.value at found in
-    let opens = c.in_err-run.ensures.list (label_of c.in_ok-id.id 0 0) default_options s.pending (as_table s.pending c.in_ok-id.id t.id t.checksum.0 t.bytes table) refl in
+    let opens = c.in_err-run.ensures.list s.pending table.table (ap (λ (o : Options). o.index_block_restart_interval) table.options_are) in
     passes c.from_residual-in_err-run.result (Refused e) (RefusesTable s.runs.items s.pending s.next_id) c.from_residual-in_err-run.ensures.1 (unopened s.runs.items s.pending s.next_id e opens)
 
 pub returns-in_err-insert-clause-refused : goal.returns-in_err-insert-clause-refused
@@ -80,6 +81,8 @@ returns-clause-written g c =
     let drawn : c.args.self.now.next_id ≡ Some id = c.in_ok-id.ensures.ok_part in
     let next : c.checked_add-self.result ≡ next_id id = search rules in
     let same : run.bytes ≡ c.in-Some.table.bytes = c.in_ok-run.ensures.bytes in
+    let P : List ℕ → Type 0 = λ b. (x : IsTable b c.args.self.now.pending) × (x.label ≡ label_of id 0 0) × (x.options ≡ default_options) × (x.version ≡ V4) in
+    let file : P run.bytes = subst P (sym same) (table.table, table.label_is, table.options_are, table.version_is) in
     inr (
       refl,
       (
@@ -93,8 +96,10 @@ returns-clause-written g c =
           unlifted = c.in_ok-run.ensures.unlifted;
           tree = c.in_ok-run.ensures.tree;
           checksum = c.in_ok-run.ensures.checksum ∙ table.checksum_is ∙ ap fnv1a (sym same);
-          spills = table.spills;
-          file = rw same table.file;
+          table = file.0;
+          label_is = file.1;
+          options_are = file.2;
+          version_is = file.3;
         },
       ),
     )
