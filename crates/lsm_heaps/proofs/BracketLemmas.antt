@@ -1,14 +1,14 @@
 -- Which of two places wins, and what a bracket keeps while one slot is changed.
-use Rattle.std.proofs.Common.{◌≡◌, ◌≢◌, ◌⊎◌, ℕ, zero, suc, ◌+◌, ◌-◌, ◌*◌, ◌/◌, ◌^◌, ◌<◌, ◌≤◌, true, false, List, Option, Some, None, Ordering, length, get_or, set, refl, sym, ◌∙◌, ap, inl, inr, ⊎_elim, arith}
-use Rattle.std.proofs.lemmas.List.{length-set, get_or-set_same, get_or-set_other}
+use Rattle.std.proofs.Common.{◌≡◌, ◌≢◌, ◌⊎◌, ℕ, zero, suc, ◌+◌, ◌-◌, ◌*◌, ◌/◌, ◌^◌, ◌<◌, ◌≤◌, true, false, List, Option, Some, None, Ordering, length, get_or, set, refl, sym, ◌∙◌, ap, subst, inl, inr, ⊎_elim, arith}
+use Rattle.std.proofs.lemmas.List.{length-set, get_or-set_same, get_or-set_other, set-set, set-get_or}
 use Rattle.std.proofs.lemmas.Bool.{cases_eq, cases_lt}
 use Rattle.std.proofs.lemmas.Grind.{pow_more}
 use Rattle.std.specs.Ordering.{is_gt}
 use Rattle.std.specs.Cmp.{IsTotalOrder}
 use Rattle.std.proofs.lemmas.Cmp.{upto, tied_itself}
 use Rattle.lsm_heaps.specs.Slots.{slot_at}
-use Rattle.lsm_heaps.proofs.SideLemmas.{not_both}
-use Rattle.lsm_heaps.specs.Brackets.{is_beaten, IsDecided, IsBracket, AllDecided, IsAboveBy, IsAbove, DecidedButAbove}
+use Rattle.lsm_heaps.proofs.OrderLemmas.{not_both}
+use Rattle.lsm_heaps.specs.Brackets.{is_beaten, IsUnbeaten, IsDecided, IsBracket, AllDecided}
 
 module _ {T : Type 0} (cmp : T → T → Ordering) (o : IsTotalOrder cmp) where
   -- no place is beaten by itself
@@ -32,6 +32,24 @@ pub record LeavesRounds (n steps most : ℕ) : Type 0 where
   pub rounds : ℕ
   pub near : n < 2 * 2 ^ rounds
   pub left : steps + rounds ≤ most
+
+-- m is one of the first k nodes above n
+abbrev pub IsAboveBy : ℕ → ℕ → ℕ → Type 0
+IsAboveBy zero n m = ⊥
+IsAboveBy (suc k) n m = (n / 2 ≡ m) ⊎ IsAboveBy k (n / 2) m
+
+-- m is above n, on the way to the root
+pub record IsAbove (n m : ℕ) : Type 0 where
+  pub rounds : ℕ
+  pub by : IsAboveBy rounds n m
+
+-- m is n or above it
+abbrev pub IsOnPath : ℕ → ℕ → Type 0
+IsOnPath n m = (m ≡ n) ⊎ IsAbove n m
+
+-- each node is decided, but for those above this one
+abbrev pub DecidedButAbove : {T : Type 0} → (T → T → Ordering) → List (Option T) → List ℕ → ℕ → Type 0
+DecidedButAbove cmp slots nodes node = (n : ℕ) → 0 < n → n < length slots → IsAbove node n ⊎ IsDecided cmp slots nodes n
 
 -- a write above the leaves
 pub IsBracket-set : (leaves : ℕ) (nodes : List ℕ) (n w : ℕ) → n < leaves → w < leaves → IsBracket leaves nodes → IsBracket leaves (set nodes n w)
@@ -72,6 +90,41 @@ none_above_by zero n m low inside a = a
 none_above_by (suc k) n m low inside (inl e) = omega arith
 none_above_by (suc k) n m low inside (inr a) = none_above_by k (n / 2) m (omega arith) inside a
 
+-- what is above a node is at most its half
+above_low_by : (k n m : ℕ) → IsAboveBy k n m → m ≤ n / 2
+above_low_by zero n m a = absurd a
+above_low_by (suc k) n m (inl e) = omega arith
+above_low_by (suc k) n m (inr a) = let low = above_low_by k (n / 2) m a in omega arith
+
+above_low : (n m : ℕ) → IsAbove n m → m ≤ n / 2
+above_low n m a = above_low_by a.rounds n m a.by
+
+-- of two nodes above one, one is above the other
+in_line_by : (j k n a b : ℕ) → IsAboveBy j n a → IsAboveBy k n b → (a ≡ b) ⊎ ((b ≤ a / 2) ⊎ (a ≤ b / 2))
+in_line_by zero k n a b p q = absurd p
+in_line_by (suc j) zero n a b p q = absurd q
+in_line_by (suc j) (suc k) n a b (inl e) (inl f) = inl (sym e ∙ f)
+in_line_by (suc j) (suc k) n a b (inl e) (inr q) = let low = above_low_by k (n / 2) b q in inr (inl (omega arith))
+in_line_by (suc j) (suc k) n a b (inr p) (inl f) = let low = above_low_by j (n / 2) a p in inr (inr (omega arith))
+in_line_by (suc j) (suc k) n a b (inr p) (inr q) = in_line_by j k (n / 2) a b p q
+
+in_line : (n a b : ℕ) → IsOnPath n a → IsOnPath n b → (a ≡ b) ⊎ ((b ≤ a / 2) ⊎ (a ≤ b / 2))
+in_line n a b (inl e) (inl f) = inl (e ∙ sym f)
+in_line n a b (inl e) (inr q) = let low = above_low n b q in inr (inl (omega arith))
+in_line n a b (inr p) (inl f) = let low = above_low n a p in inr (inr (omega arith))
+in_line n a b (inr p) (inr q) = in_line_by p.rounds q.rounds n a b p.by q.by
+
+-- two children of one node are not both above one
+one_child : (n a b : ℕ) → IsOnPath n a → IsOnPath n b → a / 2 ≡ b / 2 → 0 < a / 2 → a ≡ b
+one_child n a b p q same some = ⊎_elim (λ (e : a ≡ b). e)
+    (λ (h : (b ≤ a / 2) ⊎ (a ≤ b / 2)). ⊎_elim (λ (low : b ≤ a / 2). absurd (omega arith)) (λ (low : a ≤ b / 2). absurd (omega arith)) h)
+    (in_line n a b p q)
+
+-- the parent of a node on a path is on it
+pub path_parent : (n a m : ℕ) → a / 2 ≡ m → IsOnPath n a → IsOnPath n m
+path_parent n a m e (inl same) = inr (above_parent n m (rw (← same) e))
+path_parent n a m e (inr up) = inr (above_child n m a e up)
+
 module _ {T : Type 0} (cmp : T → T → Ordering) where
   -- above the root is nothing
   pub all_decided : (slots : List (Option T)) (nodes : List ℕ) (n : ℕ) → n ≤ 1 → DecidedButAbove cmp slots nodes n → AllDecided cmp slots nodes
@@ -103,6 +156,12 @@ module _ {T : Type 0} (cmp : T → T → Ordering) where
           first = rw (here, left) d.first;
           second = rw (here, right) d.second;
         }
+
+    -- one more match is played, and those below are
+    pub played_more : (m : ℕ) → n ≤ m → (n < m → IsDecided cmp slots nodes m) → IsDecided cmp slots (set nodes n w) m
+    played_more m low d = ⊎_elim (λ (same : m ≡ n). rw same decided_now)
+        (λ (a : m ≢ n). decided_still m a (λ (e : 2 * m ≡ n). omega arith) (λ (e : 2 * m + 1 ≡ n). omega arith) (d (omega arith)))
+        (cases_eq m n)
 
     -- one more match is played, of the children of n
     pub decided_more : (below : ℕ) → n ≡ below / 2 → DecidedButAbove cmp slots nodes below → DecidedButAbove cmp slots (set nodes n w) n
@@ -178,6 +237,38 @@ module _ {T : Type 0} (cmp : T → T → Ordering) (slots : List (Option T)) (no
       of_child : (c n : ℕ) → c / 2 ≡ n → (c ≡ length slots + s) ⊎ IsAbove (length slots + s) c → IsAbove (length slots + s) n
       of_child c n e h = ⊎_elim (λ (same : c ≡ length slots + s). above_parent (length slots + s) n (rw (← same) e)) (λ (up : IsAbove (length slots + s) c). above_child (length slots + s) n c e up) h
 
+  -- a child of a node above a leaf whose slot it does not name does not name it
+  module _ (s n : ℕ) (on : IsOnPath (length slots + s) n) (other : get_or nodes n 0 ≢ s) (some : 0 < n / 2) (low : n < 2 * length slots) where
+    unnamed_child : (c : ℕ) → c / 2 ≡ n / 2 → get_or nodes c 0 ≢ s
+    unnamed_child c same named =
+        let on_c : IsOnPath (length slots + s) c = names_below s (2 * length slots) c (omega arith) (omega arith) (omega arith) named in
+        let e : n ≡ c = one_child (length slots + s) n c on on_c (sym same) some in
+        other (ap (λ k. get_or nodes k 0) e ∙ named)
+
+    unnamed_parent : get_or nodes (n / 2) 0 ≢ s
+    unnamed_parent named =
+        let dec = d (n / 2) some (omega arith) in
+        ⊎_elim (λ (e : get_or nodes (n / 2) 0 ≡ get_or nodes (2 * (n / 2)) 0). unnamed_child (2 * (n / 2)) (omega arith) (sym e ∙ named))
+        (λ (e : get_or nodes (n / 2) 0 ≡ get_or nodes (2 * (n / 2) + 1) 0). unnamed_child (2 * (n / 2) + 1) (omega arith) (sym e ∙ named))
+        dec.from
+
+    -- what the slot holds does not matter to its parent
+    decided_parent : (o : Option T) → IsDecided cmp (set slots s o) nodes (n / 2)
+    decided_parent o =
+        let dec = d (n / 2) some (omega arith) in
+        let at_here = get_or-set_other slots s (get_or nodes (n / 2) 0) o None unnamed_parent in
+        let at_left = get_or-set_other slots s (get_or nodes (2 * (n / 2)) 0) o None (unnamed_child (2 * (n / 2)) (omega arith)) in
+        let at_right = get_or-set_other slots s (get_or nodes (2 * (n / 2) + 1) 0) o None (unnamed_child (2 * (n / 2) + 1) (omega arith)) in
+        record { from = dec.from; first = rw (at_here, at_left) dec.first; second = rw (at_here, at_right) dec.second }
+
+  -- nor to any node above
+  pub decided_up : (k s n m : ℕ) (o : Option T) → IsOnPath (length slots + s) n → get_or nodes n 0 ≢ s → n < 2 * length slots → 0 < m → IsAboveBy k n m → IsDecided cmp (set slots s o) nodes m
+  decided_up zero s n m o on other low some a = absurd a
+  decided_up (suc k) s n m o on other low some (inl e) = rw (← e) (decided_parent s n on other (omega arith) low o)
+  decided_up (suc k) s n m o on other low some (inr a) =
+      let half = above_low_by k (n / 2) m a in
+      decided_up k s (n / 2) m o (path_parent (length slots + s) n (n / 2) refl on) (unnamed_parent s n on other (omega arith) low) (omega arith) some a
+
   module _ (o : IsTotalOrder cmp) where
     -- the root's slot is beaten by no node's
     root_unbeaten : (f n : ℕ) → n ≤ f → 0 < n → n < 2 * length slots → is_beaten cmp (slot_at slots (get_or nodes 1 0)) (slot_at slots (get_or nodes n 0)) ≡ false
@@ -199,3 +290,48 @@ module _ {T : Type 0} (cmp : T → T → Ordering) (slots : List (Option T)) (no
     unbeaten k low =
         let r = root_unbeaten (length slots + k) (length slots + k) (omega arith) (omega arith) (omega arith) in
         rw (b.leaf k low) at r
+
+module _ {T : Type 0} (cmp : T → T → Ordering) (slots : List (Option T)) (nodes : List ℕ) (s : ℕ) (was : Option T) (low : s < length slots)
+    (b : IsBracket (length (set slots s was)) nodes) (d : AllDecided cmp (set slots s was) nodes) where
+  changed_back : set (set slots s was) s (slot_at slots s) ≡ slots
+  changed_back = set-set slots s was (slot_at slots s) ∙ set-get_or slots s None
+
+  -- as many leaves as before the slot changed
+  pub bracket_before : IsBracket (length slots) nodes
+  bracket_before = rw (length-set slots s was) at b
+
+  -- what was won before one slot changed
+  pub decided_before : DecidedButAbove cmp slots nodes (length slots + s)
+  decided_before =
+      let open_ = decided_but_above cmp (set slots s was) nodes b d s (slot_at slots s) in
+      subst (λ (n : ℕ). DecidedButAbove cmp slots nodes (n + s)) (length-set slots s was)
+      (subst (λ (ps : List (Option T)). DecidedButAbove cmp ps nodes (length (set slots s was) + s)) changed_back open_)
+
+  -- once a match is won by another slot as before, the rest is as it was
+  module _ (now : List ℕ) (node n w : ℕ) (on : IsOnPath (length slots + s) n) (half : n ≡ node / 2) (more : 1 < node) (size : node < 2 * length slots)
+      (untouched : (k : ℕ) → k < node → get_or now k 0 ≡ get_or nodes k 0) (is : w ≡ get_or now n 0) (other : w ≢ s)
+      (but : DecidedButAbove cmp slots (set now n w) n) where
+    same_name : get_or nodes n 0 ≢ s
+    same_name e = other (is ∙ untouched n (omega arith) ∙ e)
+
+    same_nodes : set now n w ≡ now
+    same_nodes = ap (λ k. set now n k) is ∙ set-get_or now n 0
+
+    of_above : (m : ℕ) → 0 < m → IsAbove n m → IsDecided cmp slots now m
+    of_above m some up =
+        let high = above_low n m up in
+        let on' : IsOnPath (length (set slots s was) + s) n = rw (length-set slots s was) on in
+        let low' : n < 2 * length (set slots s was) = omega (arith, length-set slots s was) in
+        let dec = decided_up cmp (set slots s was) nodes b d up.rounds s n m (slot_at slots s) on' same_name low' some up.by in
+        let dec' = subst (λ (ps : List (Option T)). IsDecided cmp ps nodes m) changed_back dec in
+        let here = untouched m (omega arith) in
+        let left = untouched (2 * m) (omega arith) in
+        let right = untouched (2 * m + 1) (omega arith) in
+        record {
+          from = rw (here, left, right) dec'.from;
+          first = rw (here, left) dec'.first;
+          second = rw (here, right) dec'.second;
+        }
+
+    pub all_stays : AllDecided cmp slots now
+    all_stays m some low' = ⊎_elim (λ (up : IsAbove n m). of_above m some up) (λ (dec : IsDecided cmp slots (set now n w) m). rw same_nodes at dec) (but m some low')

@@ -7,24 +7,24 @@ use Rattle.std.proofs.lemmas.Cmp.{upto, tied_itself}
 use Rattle.std.proofs.lemmas.Bool.{cases_eq, cases_lt}
 use Rattle.std.proofs.lemmas.List.{length-take-le, get_or-take, drop_all, take_all, append-nil}
 use Rattle.std.proofs.lemmas.List.Edits.{Swapped, swapped_from_swap, length-swap}
-use Rattle.lsm_heaps.specs.declared.side.Side.{Side}
-use Rattle.lsm_heaps.specs.declared.side.Side.TheVariants.{Least, Greatest}
-use Rattle.lsm_heaps.specs.Side.{toward}
+use Rattle.sst_entries.specs.declared.stream.Direction.{Direction}
+use Rattle.sst_entries.specs.declared.stream.Direction.TheVariants.{Front, Back}
+use Rattle.lsm_heaps.specs.Order.{toward}
 use Rattle.lsm_heaps.specs.Intervals.{Precedes, IsIntervalHeap, PrecedesOn, IsEnd, above_of, IsOtherAbove, InOrder, IsRisingAt, IsSinkingAt, SinksFrom, IsChildEnd}
-use Rattle.lsm_heaps.proofs.SideLemmas.{toward_total, not_both}
+use Rattle.lsm_heaps.proofs.OrderLemmas.{toward_total, not_both}
 use Rattle.lsm_heaps.proofs.PlaceLemmas.{on_apart, on_one_way, on_within, none_above_root, one_above, above_precedes, above_is_end, above_below, IsOther, other_precedes, other_is, one_other, after_other, other_above_after, no_other_above_root, after_end, child_is_end, child_within, one_end, child_nodes, full_above_child, no_other_above_full, precedes_shorter, after_single, above_single, before_pair, after_low_pair, after_pair, none_among_one, precedes_longer}
 use Rattle.lsm_heaps.proofs.MoveLemmas.{ordered_now, rest_rest, v_rest, u_rest, rest_v, rise_others, rise_around, sink_others, sink_around, node_others, node_around}
 
 -- from one side to both
-pub heap_from : {T : Type 0} (side : Side) (cmp : T → T → Ordering) (xs : List T) → ((a b : ℕ) → PrecedesOn side (length xs) a b → InOrder side cmp xs a b) → IsIntervalHeap cmp xs
-heap_from Least cmp xs h = λ d a b p. h a b p d
-heap_from Greatest cmp xs h = λ d a b p. h b a p d
+pub heap_from : {T : Type 0} (side : Direction) (cmp : T → T → Ordering) (xs : List T) → ((a b : ℕ) → PrecedesOn side (length xs) a b → InOrder side cmp xs a b) → IsIntervalHeap cmp xs
+heap_from Front cmp xs h = λ d a b p. h a b p d
+heap_from Back cmp xs h = λ d a b p. h b a p d
 
-pub heap_to : {T : Type 0} (side : Side) (cmp : T → T → Ordering) (xs : List T) → IsIntervalHeap cmp xs → (a b : ℕ) → PrecedesOn side (length xs) a b → InOrder side cmp xs a b
-heap_to Least cmp xs h = λ a b p d. h d a b p
-heap_to Greatest cmp xs h = λ a b p d. h d b a p
+pub heap_to : {T : Type 0} (side : Direction) (cmp : T → T → Ordering) (xs : List T) → IsIntervalHeap cmp xs → (a b : ℕ) → PrecedesOn side (length xs) a b → InOrder side cmp xs a b
+heap_to Front cmp xs h = λ a b p d. h d a b p
+heap_to Back cmp xs h = λ a b p d. h d b a p
 
-module _ {T : Type 0} (side : Side) (cmp : T → T → Ordering) (o : IsTotalOrder cmp) (xs : List T) where
+module _ {T : Type 0} (side : Direction) (cmp : T → T → Ordering) (o : IsTotalOrder cmp) (xs : List T) where
   -- the item at b comes strictly before the one at a
   abbrev pub Strict : ℕ → ℕ → Type 0
   Strict a b = (d : T) → is_gt (toward side cmp (get_or xs a d) (get_or xs b d)) ≡ true
@@ -180,7 +180,7 @@ after_pair_first : (last first a : ℕ) → last % 2 ≡ 1 → first ≡ last - 
 after_pair_first last first a odd is e p =
     let q : Precedes (last + 1) last first = from_at (last + 1) a last first e p in
     let r : Precedes last (last - 1) first = after_pair last first odd q in
-    on_apart Least last (last - 1) first r (sym is)
+    on_apart Front last (last - 1) first r (sym is)
 
 -- one item after an interval heap
 module _ {T : Type 0} (cmp : T → T → Ordering) (o : IsTotalOrder cmp) (xs : List T) (last : ℕ) (size : length xs ≡ last + 1) (heap : IsIntervalHeap cmp (take last xs)) where
@@ -205,9 +205,9 @@ module _ {T : Type 0} (cmp : T → T → Ordering) (o : IsTotalOrder cmp) (xs : 
     after_is b p = rw is_low (after_single last b even p)
 
     before_is : (a : ℕ) → Precedes (last + 1) a last → a ≡ low
-    before_is a p = one_above Least (last + 1) a last even p ∙ sym is_low
+    before_is a p = one_above Front (last + 1) a last even p ∙ sym is_low
 
-    pub rising_low_single : ((d : T) → is_gt (cmp (get_or xs low d) (get_or xs last d)) ≡ true) → IsRisingAt Least cmp xs last
+    pub rising_low_single : ((d : T) → is_gt (cmp (get_or xs low d) (get_or xs last d)) ≡ true) → IsRisingAt Front cmp xs last
     rising_low_single strict =
         let within : last < length xs = omega arith in
         record {
@@ -215,7 +215,7 @@ module _ {T : Type 0} (cmp : T → T → Ordering) (o : IsTotalOrder cmp) (xs : 
           end = even;
           others = λ a b p ne d.
               let q : Precedes (last + 1) a b = rw (← size) p in
-              let inside = on_within Least (last + 1) a b q in
+              let inside = on_within Front (last + 1) a b q in
               let low_b : b < last = below_last b inside.1 ne in
               ⊎_elim
               (λ (e : a ≡ last).
@@ -229,14 +229,14 @@ module _ {T : Type 0} (cmp : T → T → Ordering) (o : IsTotalOrder cmp) (xs : 
               rw (at_a, at_b) (above_order d);
         }
 
-    pub rising_high_single : ((d : T) → is_gt (cmp (get_or xs low d) (get_or xs last d)) ≡ false) → IsRisingAt Greatest cmp xs last
+    pub rising_high_single : ((d : T) → is_gt (cmp (get_or xs low d) (get_or xs last d)) ≡ false) → IsRisingAt Back cmp xs last
     rising_high_single upto_last =
         record {
           within = omega arith;
           end = λ e. sym size;
           others = λ a b p ne d.
               let q : Precedes (last + 1) b a = rw (← size) p in
-              let inside = on_within Least (last + 1) b a q in
+              let inside = on_within Front (last + 1) b a q in
               let low_b : b < last = below_last b inside.0 ne in
               ⊎_elim
               (λ (e : a ≡ last). let there : b ≡ low = before_is b (to_at (last + 1) b a last e q) in rw (e, there) (upto_last d))
@@ -253,17 +253,17 @@ module _ {T : Type 0} (cmp : T → T → Ordering) (o : IsTotalOrder cmp) (xs : 
     single_order : (b : ℕ) → Precedes (last + 1) last b → (d : T) → is_gt (cmp (get_or xs first d) (get_or xs b d)) ≡ false
     single_order b p d =
         let q : Precedes last first b = rw is_first (after_pair last b odd p) in
-        let inside = on_within Least last first b q in
+        let inside = on_within Front last first b q in
         old_order first b q inside.0 inside.1 d
 
-    pub rising_high_pair : ((d : T) → is_gt (cmp (get_or xs first d) (get_or xs last d)) ≡ false) → IsRisingAt Greatest cmp xs last
+    pub rising_high_pair : ((d : T) → is_gt (cmp (get_or xs first d) (get_or xs last d)) ≡ false) → IsRisingAt Back cmp xs last
     rising_high_pair upto_last =
         record {
           within = omega arith;
           end = λ e. sym size;
           others = λ a b p ne d.
               let q : Precedes (last + 1) b a = rw (← size) p in
-              let inside = on_within Least (last + 1) b a q in
+              let inside = on_within Front (last + 1) b a q in
               let low_b : b < last = below_last b inside.0 ne in
               ⊎_elim
               (λ (e : a ≡ last). let there = before_pair last b odd (to_at (last + 1) b a last e q) in let same : b ≡ first = omega arith in rw (e, same) (upto_last d))
@@ -275,7 +275,7 @@ module _ {T : Type 0} (cmp : T → T → Ordering) (o : IsTotalOrder cmp) (xs : 
               rw same (single_order a (rw (← size) p) d);
         }
 
-    pub rising_low_pair : (ys : List T) → ys ≡ swap xs first last → ((d : T) → is_gt (cmp (get_or xs first d) (get_or xs last d)) ≡ true) → IsRisingAt Least cmp ys first
+    pub rising_low_pair : (ys : List T) → ys ≡ swap xs first last → ((d : T) → is_gt (cmp (get_or xs first d) (get_or xs last d)) ≡ true) → IsRisingAt Front cmp ys first
     rising_low_pair ys is strict =
         let low_first : first < length xs = omega arith in
         let low_last : last < length xs = omega arith in
@@ -286,7 +286,7 @@ module _ {T : Type 0} (cmp : T → T → Ordering) (o : IsTotalOrder cmp) (xs : 
           end = omega arith;
           others = λ a b p ne d.
               let q : Precedes (last + 1) a b = rw (← size_y) p in
-              let inside = on_within Least (last + 1) a b q in
+              let inside = on_within Front (last + 1) a b q in
               ⊎_elim
               (λ (e : b ≡ last).
               let there = before_pair last a odd (to_at (last + 1) a b last e q) in
@@ -305,8 +305,8 @@ module _ {T : Type 0} (cmp : T → T → Ordering) (o : IsTotalOrder cmp) (xs : 
               let pa : Precedes (last + 1) a first = rw (← size_y) p in
               let qb : Precedes (last + 1) first b = rw (← size_y) q in
               let at_b : b ≡ last = after_low_pair last b odd (from_at (last + 1) first (last - 1) b is_first qb) in
-              let inside = on_within Least (last + 1) a first pa in
-              let a_first = on_apart Least (last + 1) a first pa in
+              let inside = on_within Front (last + 1) a first pa in
+              let a_first = on_apart Front (last + 1) a first pa in
               let a_last : a ≢ last = λ e. let there = after_pair_first last first a odd is_first e pa in absurd there in
               rw at_b (rest_v cmp o (λ k. get_or xs k d) (λ k. get_or ys k d) first last (s d) (strict d) a a_first a_last
               (old a first pa (below_last a inside.0 a_last) (omega arith) d));
@@ -320,33 +320,33 @@ as_written new before n same e =
     ap (λ l. take n l) whole ∙ take_all n new (omega arith)
 
 -- the root's place at this side, of so many
-abbrev pub IsRoot : Side → ℕ → ℕ → Type 0
-IsRoot Least n k = k ≡ 0
-IsRoot Greatest n k = k ≡ min (n - 1) 1
+abbrev pub IsRoot : Direction → ℕ → ℕ → Type 0
+IsRoot Front n k = k ≡ 0
+IsRoot Back n k = k ≡ min (n - 1) 1
 
-root_is_low : (side : Side) (n k : ℕ) → IsRoot side n k → k ≤ 1
-root_is_low Least n k e = omega arith
-root_is_low Greatest n k e = omega arith
+root_is_low : (side : Direction) (n k : ℕ) → IsRoot side n k → k ≤ 1
+root_is_low Front n k e = omega arith
+root_is_low Back n k e = omega arith
 
-root_is_end : (side : Side) (m k : ℕ) → IsRoot side (m + 1) k → k < m → IsEnd side m k
-root_is_end Least m k e low = omega arith
-root_is_end Greatest m k e low = λ even. absurd (omega arith)
+root_is_end : (side : Direction) (m k : ℕ) → IsRoot side (m + 1) k → k < m → IsEnd side m k
+root_is_end Front m k e low = omega arith
+root_is_end Back m k e low = λ even. absurd (omega arith)
 
-root_past : (side : Side) (m k : ℕ) → IsRoot side (m + 1) k → m ≤ k → m ≤ 1
-root_past Least m k e past = omega arith
-root_past Greatest m k e past = omega arith
+root_past : (side : Direction) (m k : ℕ) → IsRoot side (m + 1) k → m ≤ k → m ≤ 1
+root_past Front m k e past = omega arith
+root_past Back m k e past = omega arith
 
-end_is_root : (side : Side) (n k root : ℕ) → IsRoot side n root → IsEnd side n k → k < n → k ≤ 1 → k ≡ root
-end_is_root Least n k root e h low one = omega arith
-end_is_root Greatest n k root e h low one = ⊎_elim (λ (z : k ≡ 0). let last = h (ap (λ (j : ℕ). j % 2) z) in omega arith) (λ (nz : k ≢ 0). omega arith) (cases_eq k 0)
+end_is_root : (side : Direction) (n k root : ℕ) → IsRoot side n root → IsEnd side n k → k < n → k ≤ 1 → k ≡ root
+end_is_root Front n k root e h low one = omega arith
+end_is_root Back n k root e h low one = ⊎_elim (λ (z : k ≡ 0). let last = h (ap (λ (j : ℕ). j % 2) z) in omega arith) (λ (nz : k ≢ 0). omega arith) (cases_eq k 0)
 
 -- each place is an end, or right after the end of its node
-end_or_after : (side : Side) (n k : ℕ) → k < n → IsEnd side n k ⊎ ((j : ℕ) × (j < n) × IsEnd side n j × PrecedesOn side n j k)
-end_or_after Least n k low = ⊎_elim
+end_or_after : (side : Direction) (n k : ℕ) → k < n → IsEnd side n k ⊎ ((j : ℕ) × (j < n) × IsEnd side n j × PrecedesOn side n j k)
+end_or_after Front n k low = ⊎_elim
     (λ (even : k % 2 ≡ 0). inl even)
     (λ (odd : k % 2 ≢ 0). inr (k - 1, omega arith, omega arith, inr (inl (record { low = omega arith; high = omega arith; within = low }))))
     (cases_eq (k % 2) 0)
-end_or_after Greatest n k low = ⊎_elim
+end_or_after Back n k low = ⊎_elim
     (λ (even : k % 2 ≡ 0). ⊎_elim
     (λ (last : k + 1 ≡ n). inl (λ e. last))
     (λ (full : k + 1 ≢ n). inr (k + 1, omega arith, (λ e. absurd (omega arith)), inr (inl (record { low = even; high = refl; within = omega arith }))))
@@ -354,7 +354,7 @@ end_or_after Greatest n k low = ⊎_elim
     (λ (odd : k % 2 ≢ 0). inl (λ e. absurd (odd e)))
     (cases_eq (k % 2) 0)
 
-module _ {T : Type 0} (side : Side) (cmp : T → T → Ordering) (o : IsTotalOrder cmp) (xs : List T) (heap : IsIntervalHeap cmp xs) (root : ℕ) where
+module _ {T : Type 0} (side : Direction) (cmp : T → T → Ordering) (o : IsTotalOrder cmp) (xs : List T) (heap : IsIntervalHeap cmp xs) (root : ℕ) where
   ends_after_root : IsRoot side (length xs) root → (f k : ℕ) → k ≤ f → k < length xs → IsEnd side (length xs) k → InOrder side cmp xs root k
   ends_after_root is zero k enough low ends = rw (end_is_root side (length xs) k root is ends low (omega arith)) (in_order_itself side cmp o xs root)
   ends_after_root is (suc f) k enough low ends = ⊎_elim
@@ -381,9 +381,9 @@ module _ {T : Type 0} (side : Side) (cmp : T → T → Ordering) (o : IsTotalOrd
         (λ (q : Precedes (length ys + 1) a (length ys) × Precedes (length ys + 1) (length ys) b). upto o _ _ _ (heap d a (length ys) (rw (← size) q.0)) (heap d (length ys) b (rw (← size) q.1)))
         (precedes_longer (length ys) a b p)
 
-    longer_on : (side' : Side) (a b : ℕ) → PrecedesOn side' (length ys) a b → InOrder side' cmp xs a b
-    longer_on Least a b p d = longer a b p d
-    longer_on Greatest a b p d = longer b a p d
+    longer_on : (side' : Direction) (a b : ℕ) → PrecedesOn side' (length ys) a b → InOrder side' cmp xs a b
+    longer_on Front a b p d = longer a b p d
+    longer_on Back a b p d = longer b a p d
 
     pub sinks_from_root : IsRoot side (length xs) root → SinksFrom side cmp ys root
     sinks_from_root is =

@@ -1,4 +1,4 @@
-pub mod SideLemmas
+pub mod OrderLemmas
 pub mod BracketLemmas
 pub mod SlotLemmas
 pub mod HeightLemmas

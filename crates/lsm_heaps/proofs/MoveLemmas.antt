@@ -5,7 +5,7 @@ use Rattle.std.specs.Cmp.{IsTotalOrder}
 use Rattle.std.proofs.lemmas.Cmp.{upto}
 use Rattle.std.proofs.lemmas.Bool.{cases_eq}
 use Rattle.std.proofs.lemmas.List.Edits.{Swapped}
-use Rattle.lsm_heaps.proofs.SideLemmas.{not_both}
+use Rattle.lsm_heaps.proofs.OrderLemmas.{not_both}
 
 -- what f holds at a does not come after what it holds at b
 abbrev pub Upto : {T : Type 0} → (T → T → Ordering) → (ℕ → T) → ℕ → ℕ → Type 0

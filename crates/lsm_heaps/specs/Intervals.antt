@@ -3,9 +3,9 @@
 use Rattle.std.specs.Prelude.{◌≡◌, ◌≢◌, ◌⊎◌, ℕ, ◌+◌, ◌-◌, ◌*◌, ◌/◌, ◌%◌, ◌<◌, ◌≤◌, false, List, length, slice_index_or}
 use Rattle.std.specs.declared.cmp.Ordering.{Ordering}
 use Rattle.std.specs.Ordering.{is_gt}
-use Rattle.lsm_heaps.specs.declared.side.Side.{Side}
-use Rattle.lsm_heaps.specs.declared.side.Side.TheVariants.{Least, Greatest}
-use Rattle.lsm_heaps.specs.Side.{toward}
+use Rattle.sst_entries.specs.declared.stream.Direction.{Direction}
+use Rattle.sst_entries.specs.declared.stream.Direction.TheVariants.{Front, Back}
+use Rattle.lsm_heaps.specs.Order.{toward}
 
 -- a is the low end of the node above the one whose low end is b
 pub record IsLowAbove (n a b : ℕ) : Type 0 where
@@ -38,38 +38,38 @@ abbrev pub IsIntervalHeap : {T : Type 0} → (T → T → Ordering) → List T �
 IsIntervalHeap {T} cmp xs = (d : T) (a b : ℕ) → Precedes (length xs) a b → is_gt (cmp (slice_index_or xs a d) (slice_index_or xs b d)) ≡ false
 
 -- the same, seen from one end
-abbrev pub PrecedesOn : Side → ℕ → ℕ → ℕ → Type 0
-PrecedesOn Least n a b = Precedes n a b
-PrecedesOn Greatest n a b = Precedes n b a
+abbrev pub PrecedesOn : Direction → ℕ → ℕ → ℕ → Type 0
+PrecedesOn Front n a b = Precedes n a b
+PrecedesOn Back n a b = Precedes n b a
 
 -- the place is the end of its node at this side
-abbrev pub IsEnd : Side → ℕ → ℕ → Type 0
-IsEnd Least n k = k % 2 ≡ 0
-IsEnd Greatest n k = k % 2 ≡ 0 → k + 1 ≡ n
+abbrev pub IsEnd : Direction → ℕ → ℕ → Type 0
+IsEnd Front n k = k % 2 ≡ 0
+IsEnd Back n k = k % 2 ≡ 0 → k + 1 ≡ n
 
 -- the end at this side of the node above the one of place k
-abbrev pub above_of : Side → ℕ → ℕ
-above_of Least k = 2 * ((k - 2) / 4)
-above_of Greatest k = 2 * ((k - 2) / 4) + 1
+abbrev pub above_of : Direction → ℕ → ℕ
+above_of Front k = 2 * ((k - 2) / 4)
+above_of Back k = 2 * ((k - 2) / 4) + 1
 
 -- b is the other end of the node above the one of place k
-abbrev pub IsOtherAbove : Side → ℕ → ℕ → Type 0
-IsOtherAbove Least k b = (b % 2 ≡ 1) × (2 * b ≤ k) × (k < 2 * b + 4)
-IsOtherAbove Greatest k b = (b % 2 ≡ 0) × (2 * b + 2 ≤ k) × (k < 2 * b + 6)
+abbrev pub IsOtherAbove : Direction → ℕ → ℕ → Type 0
+IsOtherAbove Front k b = (b % 2 ≡ 1) × (2 * b ≤ k) × (k < 2 * b + 4)
+IsOtherAbove Back k b = (b % 2 ≡ 0) × (2 * b + 2 ≤ k) × (k < 2 * b + 6)
 
 -- the item at a does not come after the one at b, seen from this end
-abbrev pub InOrder : {T : Type 0} → Side → (T → T → Ordering) → List T → ℕ → ℕ → Type 0
+abbrev pub InOrder : {T : Type 0} → Direction → (T → T → Ordering) → List T → ℕ → ℕ → Type 0
 InOrder {T} side cmp xs a b = (d : T) → is_gt (toward side cmp (slice_index_or xs a d) (slice_index_or xs b d)) ≡ false
 
 -- only the item at this place may come before the one above it
-pub record IsRisingAt {T : Type 0} (side : Side) (cmp : T → T → Ordering) (xs : List T) (at : ℕ) : Type 0 where
+pub record IsRisingAt {T : Type 0} (side : Direction) (cmp : T → T → Ordering) (xs : List T) (at : ℕ) : Type 0 where
   pub within : at < length xs
   pub end : IsEnd side (length xs) at
   pub others : (a b : ℕ) → PrecedesOn side (length xs) a b → b ≢ at → InOrder side cmp xs a b
   pub around : (a b : ℕ) → PrecedesOn side (length xs) a at → PrecedesOn side (length xs) at b → InOrder side cmp xs a b
 
 -- only the item at this place may come after those below it
-pub record IsSinkingAt {T : Type 0} (side : Side) (cmp : T → T → Ordering) (xs : List T) (at : ℕ) : Type 0 where
+pub record IsSinkingAt {T : Type 0} (side : Direction) (cmp : T → T → Ordering) (xs : List T) (at : ℕ) : Type 0 where
   pub within : at < length xs
   pub end : IsEnd side (length xs) at
   pub others : (a b : ℕ) → PrecedesOn side (length xs) a b → a ≢ at → InOrder side cmp xs a b
@@ -77,11 +77,11 @@ pub record IsSinkingAt {T : Type 0} (side : Side) (cmp : T → T → Ordering) (
   pub below_other : (b : ℕ) → IsOtherAbove side at b → InOrder side cmp xs at b
 
 -- at this place it may be so, or nothing is at this place and all is in order
-pub record SinksFrom {T : Type 0} (side : Side) (cmp : T → T → Ordering) (xs : List T) (at : ℕ) : Type 0 where
+pub record SinksFrom {T : Type 0} (side : Direction) (cmp : T → T → Ordering) (xs : List T) (at : ℕ) : Type 0 where
   pub inside : at < length xs → IsSinkingAt side cmp xs at
   pub past : length xs ≤ at → IsIntervalHeap cmp xs
 
 -- c is the end at this side of a node right below the one of place k
-pub record IsChildEnd (side : Side) (n k c : ℕ) : Type 0 where
+pub record IsChildEnd (side : Direction) (n k c : ℕ) : Type 0 where
   pub precedes : PrecedesOn side n k c
   pub below : k / 2 < c / 2

@@ -1,5 +1,5 @@
 pub mod Bag
-pub mod Side
+pub mod Order
 pub mod Slots
 pub mod Brackets
 pub mod Tournament

@@ -1,11 +1,15 @@
 -- A tournament as a priority queue with two ends.
-use Rattle.std.specs.Prelude.{ℕ, zero, suc, ◌+◌, ◌^◌, ◌≤◌, nat_lt, if◌then◌else◌, List}
+use Rattle.std.specs.Prelude.{◌≡◌, ℕ, zero, suc, ◌+◌, ◌-◌, ◌^◌, ◌≤◌, Bool, true, nat_lt, if◌then◌else◌, List}
+use Rattle.sst_entries.specs.declared.stream.Direction.{Direction}
+use Rattle.sst_entries.specs.declared.stream.Direction.TheVariants.{Front, Back}
 
--- the items, how many there is room for, and how often two items were compared
+-- the items, how many there is room for, how often two items were compared, and at which ends matches are played
 pub record Contest (T : Type 0) : Type 0 where
   pub items : List T
   pub room : ℕ
   pub steps : ℕ
+  pub plays_front : Bool
+  pub plays_back : Bool
 
 -- the items, in no order that callers may rest on
 abbrev pub held : {T : Type 0} → Contest T → List T
@@ -32,3 +36,30 @@ powers_below n (suc k) = if nat_lt (2 ^ k) n then powers_below n k + 1 else powe
 -- how many powers of two are below n: the least h for which n is at most 2 ^ h
 abbrev pub height : ℕ → ℕ
 height n = powers_below n n
+
+-- h for each end at which matches are played
+abbrev pub for_each_end : Bool → Bool → ℕ → ℕ
+for_each_end front back h = (if front then h else 0) + (if back then h else 0)
+
+-- as many matches are played again where one item has changed
+abbrev pub replayed : {T : Type 0} → Contest T → ℕ
+replayed t = for_each_end t.plays_front t.plays_back (height (room t))
+
+-- whether matches are played at this end
+abbrev pub plays_at : {T : Type 0} → Direction → Contest T → Bool
+plays_at Front t = t.plays_front
+plays_at Back t = t.plays_back
+
+-- as many matches are played where this end is asked first
+abbrev pub first_round : {T : Type 0} → Direction → Contest T → ℕ
+first_round end t = if plays_at end t then 0 else 2 ^ height (room t) - 1
+
+-- the same ends play
+pub record SameEnds {T : Type 0} (old new : Contest T) : Type 0 where
+  pub front : new.plays_front ≡ old.plays_front
+  pub back : new.plays_back ≡ old.plays_back
+
+-- this end plays from now on, and the other one where it did
+abbrev pub PlaysFrom : {T : Type 0} → Direction → Contest T → Contest T → Type 0
+PlaysFrom Front old new = (new.plays_front ≡ true) × (new.plays_back ≡ old.plays_back)
+PlaysFrom Back old new = (new.plays_front ≡ old.plays_front) × (new.plays_back ≡ true)

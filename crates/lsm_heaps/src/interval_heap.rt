@@ -6,9 +6,8 @@ ghost use Rattle.lsm_heaps.specs.IntervalHeap.{held, room};
 
 mod intervals;
 
-use crate::side::Side;
 use intervals::{order_last, sink};
-use sst_entries::Error;
+use sst_entries::{Direction, Error};
 use std::alloc::{Allocator, Global};
 use std::marker::Model;
 
@@ -78,7 +77,7 @@ impl<T: Ord, A: Allocator> IntervalHeap<T, A> {
             return None;
         }
         let item = self.items.swap_remove(0);
-        sink(&mut self.items, Side::Least, 0);
+        sink(&mut self.items, Direction::Front, 0);
         Some(item)
     }
 
@@ -94,7 +93,7 @@ impl<T: Ord, A: Allocator> IntervalHeap<T, A> {
         // The greatest of one item is the least.
         let place = last.min(1);
         let item = self.items.swap_remove(place);
-        sink(&mut self.items, Side::Greatest, place);
+        sink(&mut self.items, Direction::Back, place);
         Some(item)
     }
 }

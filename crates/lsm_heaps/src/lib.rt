@@ -2,8 +2,10 @@
 #![tactic(auto)]
 
 mod interval_heap;
-mod side;
+mod lazy_tournament;
+mod order;
 mod tournament;
 
 pub use interval_heap::IntervalHeap;
+pub use lazy_tournament::LazyTournament;
 pub use tournament::Tournament;

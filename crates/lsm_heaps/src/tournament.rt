@@ -4,11 +4,7 @@ ghost use Rattle.sst_entries.specs.declared.error.Error.TheVariants.{OutOfMemory
 ghost use Rattle.lsm_heaps.specs.Bag.{IsLeast, IsGreatest};
 ghost use Rattle.lsm_heaps.specs.Tournament.{held, room, steps, height, PlaysAtMost};
 
-mod brackets;
-mod slots;
-
-use brackets::Brackets;
-use slots::Slots;
+use crate::lazy_tournament::LazyTournament;
 use sst_entries::Error;
 use std::alloc::{Allocator, Global};
 use std::marker::Model;
@@ -23,20 +19,19 @@ use std::marker::Model;
 /// items comes first is open.
 #[derive(Drop)]
 pub struct Tournament<T: Ord, A: Allocator = Global> {
-    slots: Slots<T, A>,
-    brackets: Brackets<A>,
+    // Both of its ends play from the start.
+    queue: LazyTournament<T, A>,
 }
 
 impl<T: Ord, A: Allocator> Model for Tournament<T, A> {
-    ghost use Rattle.lsm_heaps.specs.Slots.{items_of};
+    ghost use Rattle.std.specs.Prelude.{◌≡◌, true};
     ghost use Rattle.lsm_heaps.specs.Tournament.{Contest};
-    ghost use Rattle.lsm_heaps.specs.Brackets.{IsTournament};
 
     ghost Value = { Contest T };
 
-    ghost view = { λ t. record { items = items_of t.slots.places; room = t.slots.room; steps = t.brackets.steps } };
+    ghost view = { λ t. t.queue };
 
-    ghost invariant = { λ t. IsTournament T.cmp t.slots t.brackets };
+    ghost invariant = { λ t. (t.queue.plays_front ≡ true) × (t.queue.plays_back ≡ true) };
 }
 
 impl<T: Ord, A: Allocator + Clone> Tournament<T, A> {
@@ -49,14 +44,8 @@ impl<T: Ord, A: Allocator + Clone> Tournament<T, A> {
         ensures steps { IfOk result (λ h. steps h ≡ 0) }
         ensures err { IfErr result (λ e. e ≡ OutOfMemory) }
     {
-        // More than 2^63 slots fit no memory.
-        let Some(leaves) = capacity.checked_next_power_of_two() else {
-            return Err(Error::OutOfMemory);
-        };
-        let brackets = Brackets::new(alloc.clone()?, leaves)?;
         Ok(Tournament {
-            slots: Slots::new(alloc, capacity, leaves)?,
-            brackets,
+            queue: LazyTournament::new(alloc, capacity, true)?,
         })
     }
 }
@@ -66,14 +55,14 @@ impl<T: Ord, A: Allocator> Tournament<T, A> {
     pub fn len(&self) -> usize
         ensures { result ≡ length (held self.now) }
     {
-        self.slots.len()
+        self.queue.len()
     }
 
     /// How often two items were compared: from 0, and `u64::MAX` once it was that often.
     pub fn steps(&self) -> u64
         ensures { result ≡ steps self.now }
     {
-        self.brackets.steps
+        self.queue.steps()
     }
 
     /// Takes in an item, for which there is room.
@@ -83,9 +72,7 @@ impl<T: Ord, A: Allocator> Tournament<T, A> {
         ensures room { room self.new ≡ room self.old }
         ensures steps { PlaysAtMost (2 * height (room self.old)) self.old self.new }
     {
-        let slot = self.slots.insert(item);
-        self.brackets.emptied = None;
-        self.brackets.replay(self.slots.as_slice(), slot);
+        self.queue.push(item);
     }
 
     /// Takes out an item that no other is less than, or `None` from an empty queue.
@@ -97,11 +84,7 @@ impl<T: Ord, A: Allocator> Tournament<T, A> {
         ensures room { room self.new ≡ room self.old }
         ensures steps { PlaysAtMost (2 * height (room self.old)) self.old self.new }
     {
-        self.brackets.settle(self.slots.as_slice());
-        let slot = self.brackets.least.winner();
-        let item = self.slots.remove(slot)?;
-        self.brackets.emptied = Some(slot);
-        Some(item)
+        self.queue.pop_min()
     }
 
     /// Takes out an item that no other is greater than, or `None` from an empty queue.
@@ -113,10 +96,6 @@ impl<T: Ord, A: Allocator> Tournament<T, A> {
         ensures room { room self.new ≡ room self.old }
         ensures steps { PlaysAtMost (2 * height (room self.old)) self.old self.new }
     {
-        self.brackets.settle(self.slots.as_slice());
-        let slot = self.brackets.greatest.winner();
-        let item = self.slots.remove(slot)?;
-        self.brackets.emptied = Some(slot);
-        Some(item)
+        self.queue.pop_max()
     }
 }

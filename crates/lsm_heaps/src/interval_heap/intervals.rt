@@ -2,7 +2,8 @@
 ghost use Rattle.std.specs.Prelude.{◌≡◌, ◌⊎◌, ℕ, ◌+◌, ◌-◌, ◌*◌, ◌/◌, ◌%◌, ◌<◌, ◌≤◌, length, take, IfNone, IfSome, IsPermutation};
 ghost use Rattle.lsm_heaps.specs.Intervals.{IsIntervalHeap, IsEnd, above_of, IsRisingAt, IsSinkingAt, IsChildEnd, InOrder, IsNode, PrecedesOn, SinksFrom};
 
-use crate::side::Side;
+use crate::order::is_before;
+use sst_entries::Direction;
 
 // Moves the last item to where it belongs, among others in order.
 pub(crate) fn order_last<T: Ord>(items: &mut [T])
@@ -13,42 +14,46 @@ pub(crate) fn order_last<T: Ord>(items: &mut [T])
 {
     let last = items.len() - 1;
     if last % 2 == 1 {
-        if Side::Least.is_before(&items[last], &items[last - 1]) {
+        if is_before(Direction::Front, &items[last], &items[last - 1]) {
             items.swap(last - 1, last);
-            rise(items, Side::Least, last - 1);
+            rise(items, Direction::Front, last - 1);
         } else {
-            rise(items, Side::Greatest, last);
+            rise(items, Direction::Back, last);
         }
     } else if last > 0 {
-        if Side::Least.is_before(&items[last], &items[place_above(Side::Least, last)]) {
-            rise(items, Side::Least, last);
+        if is_before(
+            Direction::Front,
+            &items[last],
+            &items[place_above(Direction::Front, last)],
+        ) {
+            rise(items, Direction::Front, last);
         } else {
-            rise(items, Side::Greatest, last);
+            rise(items, Direction::Back, last);
         }
     }
 }
 
 // The end at this side of the node above the one of a place.
-fn place_above(side: Side, place: usize) -> usize
+fn place_above(side: Direction, place: usize) -> usize
     requires { 2 ≤ place }
     ensures { result ≡ above_of side place }
 {
     let node = (place - 2) / 4;
     match side {
-        Side::Least => 2 * node,
-        Side::Greatest => 2 * node + 1,
+        Direction::Front => 2 * node,
+        Direction::Back => 2 * node + 1,
     }
 }
 
 // Moves an item toward the root while it comes before the one above it.
-fn rise<T: Ord>(items: &mut [T], side: Side, mut place: usize)
+fn rise<T: Ord>(items: &mut [T], side: Direction, mut place: usize)
     requires { IsRisingAt side T.cmp items.old place }
     ensures items { IsPermutation items.old items.new }
     ensures heap { IsIntervalHeap T.cmp items.new }
 {
     while place > 1 {
         let above = place_above(side, place);
-        if !side.is_before(&items[place], &items[above]) {
+        if !is_before(side, &items[place], &items[above]) {
             return;
         }
         items.swap(above, place);
@@ -57,7 +62,7 @@ fn rise<T: Ord>(items: &mut [T], side: Side, mut place: usize)
 }
 
 // Moves an item away from the root while it comes after one below it.
-pub(crate) fn sink<T: Ord>(items: &mut [T], side: Side, mut place: usize)
+pub(crate) fn sink<T: Ord>(items: &mut [T], side: Direction, mut place: usize)
     requires { SinksFrom side T.cmp items.old place }
     ensures items { IsPermutation items.old items.new }
     ensures heap { IsIntervalHeap T.cmp items.new }
@@ -70,7 +75,7 @@ pub(crate) fn sink<T: Ord>(items: &mut [T], side: Side, mut place: usize)
         let Some(child) = first_child(items, side, place) else {
             return;
         };
-        if !side.is_before(&items[child], &items[place]) {
+        if !is_before(side, &items[child], &items[place]) {
             return;
         }
         items.swap(place, child);
@@ -79,20 +84,20 @@ pub(crate) fn sink<T: Ord>(items: &mut [T], side: Side, mut place: usize)
 }
 
 // Puts the two ends of a node in order.
-fn order_node<T: Ord>(items: &mut [T], side: Side, place: usize)
+fn order_node<T: Ord>(items: &mut [T], side: Direction, place: usize)
     requires { IsSinkingAt side T.cmp items.old place }
     ensures items { IsPermutation items.old items.new }
     ensures sinking { IsSinkingAt side T.cmp items.new place }
     ensures ordered { (b : ℕ) → PrecedesOn side (length items.new) place b → b / 2 ≡ place / 2 → InOrder side T.cmp items.new place b }
 {
     let other = if place % 2 == 0 { place + 1 } else { place - 1 };
-    if other < items.len() && side.is_before(&items[other], &items[place]) {
+    if other < items.len() && is_before(side, &items[other], &items[place]) {
         items.swap(place, other);
     }
 }
 
 // Of the ends at this side of the nodes below, the first in order.
-fn first_child<T: Ord>(items: &[T], side: Side, place: usize) -> Option<usize>
+fn first_child<T: Ord>(items: &[T], side: Direction, place: usize) -> Option<usize>
     requires within { place < length items.now }
     requires end { IsEnd side (length items.now) place }
     ensures none { IfNone result ((b : ℕ) → IsChildEnd side (length items.now) place b → ⊥) }
@@ -104,7 +109,7 @@ fn first_child<T: Ord>(items: &[T], side: Side, place: usize) -> Option<usize>
     let Some(right) = end_of(side, child + 1, items.len()) else {
         return Some(left);
     };
-    if side.is_before(&items[right], &items[left]) {
+    if is_before(side, &items[right], &items[left]) {
         Some(right)
     } else {
         Some(left)
@@ -112,7 +117,7 @@ fn first_child<T: Ord>(items: &[T], side: Side, place: usize) -> Option<usize>
 }
 
 // The end at this side of a node among so many places.
-fn end_of(side: Side, node: usize, places: usize) -> Option<usize>
+fn end_of(side: Direction, node: usize, places: usize) -> Option<usize>
     requires { 0 < places }
     ensures none { IfNone result (places ≤ 2 * node) }
     ensures node { IfSome result (λ k. k / 2 ≡ node) }
@@ -124,7 +129,7 @@ fn end_of(side: Side, node: usize, places: usize) -> Option<usize>
         return None;
     }
     Some(match side {
-        Side::Least => 2 * node,
-        Side::Greatest => last.min(2 * node + 1),
+        Direction::Front => 2 * node,
+        Direction::Back => last.min(2 * node + 1),
     })
 }

@@ -2,14 +2,14 @@ use Rattle.std.proofs.Common.{◌≡◌, ◌-◌, min, ◌<◌, ◌≤◌, lengt
 use Rattle.std.specs.List.Sorted.{IsPermutation}
 use Rattle.std.proofs.lemmas.List.{get_or_read}
 use Rattle.std.proofs.lemmas.List.Sorted.{IsPermutation-cons, IsPermutation-trans, IsPermutation-swap_remove, length_permutation}
-use Rattle.lsm_heaps.specs.declared.side.Side.TheVariants.{Greatest}
+use Rattle.sst_entries.specs.declared.stream.Direction.TheVariants.{Back}
 use Rattle.lsm_heaps.specs.IntervalHeap.{Heap}
 use Rattle.lsm_heaps.proofs.IntervalHeapLemmas.{IsRoot, as_written, root_first, sinks_from_root}
 use Rattle.lsm_heaps.proofs.interval_heap.IntervalHeap.pop_max.Goals as goal
 use Rattle.lsm_heaps.proofs.interval_heap.IntervalHeap.pop_max.Goals.{After-swap_remove-item}
 
 -- the place that is emptied is the root's
-from_root : (g : _) (c : After-swap_remove-item g) → IsRoot Greatest (length c.self.inside.items.items) c.min-place.result × (c.min-place.result < length c.self.inside.items.items)
+from_root : (g : _) (c : After-swap_remove-item g) → IsRoot Back (length c.self.inside.items.items) c.min-place.result × (c.min-place.result < length c.self.inside.items.items)
 from_root g c =
     let same : c.in_ok-last.last ≡ length c.self.inside.items.items - 1 = omega (arith, c.in_ok-last.ensures.1, c.len.ensures, c.self.inside.items.ok.0) in
     let some : 1 ≤ length c.self.inside.items.items = omega (arith, c.in_ok-last.ensures.0, c.len.ensures, c.self.inside.items.ok.0) in
@@ -19,7 +19,7 @@ pub sink-requires : goal.sink-requires
 sink-requires g c =
     let root = from_root g (goal.at.sink-requires g c).After-swap_remove-item in
     rw c.deref_mut.ensures.value
-    (sinks_from_root Greatest g.T.Ord.cmp g.met.T.Ord.total c.self.inside.items.items c.self.invariant c.min-place.result c.swap_remove-item.new.self.items
+    (sinks_from_root Back g.T.Ord.cmp g.met.T.Ord.total c.self.inside.items.items c.self.invariant c.min-place.result c.swap_remove-item.new.self.items
     (omega (arith, c.swap_remove-item.ensures.len, c.self.inside.items.ok.0, c.swap_remove-item.new.self.ok.0))
     (λ k d ne low. c.swap_remove-item.ensures.by_index.1 k d ne (rw c.self.inside.items.ok.0 low))
     root.0)
@@ -40,4 +40,4 @@ returns-clause-greatest g c =
     let before = ap (λ (h : Heap g.row.T.Denot). h.items) c.self.view_is in
     let items = c.self.inside.items.items in
     let at_root = get_or_read items c.min-place.result c.swap_remove-item.result root.1 c.swap_remove-item.ensures.value in
-    rw (← before) (λ k d low. rw (at_root d) (root_first Greatest g.T.Ord.cmp g.met.T.Ord.total items c.self.invariant c.min-place.result root.0 k low d))
+    rw (← before) (λ k d low. rw (at_root d) (root_first Back g.T.Ord.cmp g.met.T.Ord.total items c.self.invariant c.min-place.result root.0 k low d))

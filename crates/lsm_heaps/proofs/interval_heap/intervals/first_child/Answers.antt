@@ -1,7 +1,7 @@
 use Rattle.std.proofs.Common.{ℕ, sym}
 use Rattle.std.proofs.lemmas.List.{get_or_read}
-use Rattle.lsm_heaps.specs.Side.{toward}
-use Rattle.lsm_heaps.proofs.SideLemmas.{toward_total, not_both}
+use Rattle.lsm_heaps.specs.Order.{toward}
+use Rattle.lsm_heaps.proofs.OrderLemmas.{toward_total, not_both}
 use Rattle.lsm_heaps.proofs.IntervalHeapLemmas.{in_order_itself, first_alone, first_of_two}
 use Rattle.lsm_heaps.proofs.interval_heap.intervals.first_child.Goals as goal
 
