@@ -1,4 +1,5 @@
-//! Key ranges, runs and their packing on worked examples, over tables that have an id and a range alone.
+//! Key ranges, runs and their packing on worked examples, over tables that have an id and a range
+//! alone.
 ghost use Rattle.std.specs.Prelude.{◌≡◌};
 
 use lsm_ranges::{Indexed, KeyRange, Ranged, Run, optimize_runs, overlap_chain};
@@ -198,7 +199,8 @@ fn taken_together(
     ))
 }
 
-// Whether some ranges, taken together, are disjoint or not as wanted, and reach from one key to another.
+// Whether some ranges, taken together, are disjoint or not as wanted, and reach from one key to
+// another.
 fn reach_together(
     alloc: Global,
     ends: &[(&str, &str)],
@@ -351,7 +353,8 @@ fn found_in_four(
     )
 }
 
-// The ends of a range, and the ids of the tables of four that overlap with it, and of those inside it.
+// The ends of a range, and the ids of the tables of four that overlap with it, and of those inside
+// it.
 const OVERLAPS: &[((&str, &str), &[u64], &[u64])] = &[
     (("a", "a"), &[0], &[]),
     (("a", "d"), &[0], &[0]),
@@ -452,8 +455,8 @@ fn a_table_of_a_run_has_its_range(rt: HostRuntime) -> Result<(), Fail> {
     Ok(())
 }
 
-// Whether some runs are packed into runs of these ids, and a chain has these runs. Of several tables that could be a
-// chain's only one, any may be.
+// Whether some runs are packed into runs of these ids, and a chain has these runs. Of several
+// tables that could be a chain's only one, any may be.
 fn packs(
     alloc: Global,
     runs: &[&[(u64, &str, &str)]],
@@ -512,7 +515,8 @@ fn packed_runs(rt: HostRuntime) -> Result<(), Fail> {
     Ok(())
 }
 
-// Whether packing gives runs of these ids, and the chain has as many places, or memory was refused where it may be.
+// Whether packing gives runs of these ids, and the chain has as many places, or memory was refused
+// where it may be.
 fn packs_to<A: Allocator + Clone>(
     alloc: &A,
     runs: &[&[(u64, &str, &str)]],
