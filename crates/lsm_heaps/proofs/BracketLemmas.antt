@@ -8,7 +8,7 @@ use Rattle.std.specs.Cmp.{IsTotalOrder}
 use Rattle.std.proofs.lemmas.Cmp.{upto, tied_itself}
 use Rattle.lsm_heaps.specs.Slots.{slot_at}
 use Rattle.lsm_heaps.proofs.OrderLemmas.{not_both}
-use Rattle.lsm_heaps.specs.Brackets.{is_beaten, IsUnbeaten, IsDecided, IsBracket, AllDecided}
+use Rattle.lsm_heaps.specs.Brackets.{is_beaten, IsDecided, IsBracket, AllDecided}
 
 module _ {T : Type 0} (cmp : T → T → Ordering) (o : IsTotalOrder cmp) where
   -- no place is beaten by itself

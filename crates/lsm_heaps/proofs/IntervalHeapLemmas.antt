@@ -1,5 +1,5 @@
 -- What an exchange of two items leaves of the order of an interval heap.
-use Rattle.std.proofs.Common.{◌≡◌, ◌≢◌, ◌⊎◌, ℕ, zero, suc, ◌+◌, ◌-◌, ◌*◌, ◌/◌, ◌%◌, ◌<◌, ◌≤◌, true, false, Ordering, List, length, ◌++◌, get_or, take, drop, min, inl, inr, ⊎_elim, sym, ◌∙◌, ap, refl, arith}
+use Rattle.std.proofs.Common.{◌≡◌, ◌≢◌, ◌⊎◌, ℕ, zero, suc, ◌+◌, ◌-◌, ◌*◌, ◌/◌, ◌%◌, ◌<◌, ◌≤◌, true, false, Ordering, List, length, ◌++◌, get_or, take, drop, inl, inr, ⊎_elim, sym, ◌∙◌, ap, refl, arith}
 use Rattle.std.specs.Ordering.{is_gt}
 use Rattle.std.specs.List.{swap}
 use Rattle.std.specs.Cmp.{IsTotalOrder}
@@ -10,7 +10,7 @@ use Rattle.std.proofs.lemmas.List.Edits.{Swapped, swapped_from_swap, length-swap
 use Rattle.sst_entries.specs.declared.stream.Direction.{Direction}
 use Rattle.sst_entries.specs.declared.stream.Direction.TheVariants.{Front, Back}
 use Rattle.lsm_heaps.specs.Order.{toward}
-use Rattle.lsm_heaps.specs.Intervals.{Precedes, IsIntervalHeap, PrecedesOn, IsEnd, above_of, IsOtherAbove, InOrder, IsRisingAt, IsSinkingAt, SinksFrom, IsChildEnd}
+use Rattle.lsm_heaps.specs.Intervals.{Precedes, IsIntervalHeap, PrecedesOn, IsEnd, above_of, IsOtherAbove, InOrder, IsRisingAt, IsSinkingAt, SinksFrom, IsChildEnd, IsRoot}
 use Rattle.lsm_heaps.proofs.OrderLemmas.{toward_total, not_both}
 use Rattle.lsm_heaps.proofs.PlaceLemmas.{on_apart, on_one_way, on_within, none_above_root, one_above, above_precedes, above_is_end, above_below, IsOther, other_precedes, other_is, one_other, after_other, other_above_after, no_other_above_root, after_end, child_is_end, child_within, one_end, child_nodes, full_above_child, no_other_above_full, precedes_shorter, after_single, above_single, before_pair, after_low_pair, after_pair, none_among_one, precedes_longer}
 use Rattle.lsm_heaps.proofs.MoveLemmas.{ordered_now, rest_rest, v_rest, u_rest, rest_v, rise_others, rise_around, sink_others, sink_around, node_others, node_around}
@@ -318,11 +318,6 @@ as_written new before n same e =
     let past = drop_all (length new) before (omega arith) in
     let whole : new ++ drop (length new) before ≡ new = ap (λ l. new ++ l) past ∙ append-nil new in
     ap (λ l. take n l) whole ∙ take_all n new (omega arith)
-
--- the root's place at this side, of so many
-abbrev pub IsRoot : Direction → ℕ → ℕ → Type 0
-IsRoot Front n k = k ≡ 0
-IsRoot Back n k = k ≡ min (n - 1) 1
 
 root_is_low : (side : Direction) (n k : ℕ) → IsRoot side n k → k ≤ 1
 root_is_low Front n k e = omega arith

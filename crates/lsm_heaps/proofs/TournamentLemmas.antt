@@ -1,5 +1,5 @@
 -- What the winners of the brackets say of the items, and what a change of one slot leaves.
-use Rattle.std.proofs.Common.{◌≡◌, ℕ, zero, suc, ◌+◌, ◌*◌, ◌-◌, ◌^◌, ◌<◌, ◌≤◌, Bool, true, false, List, [], ◌∷◌, ◌++◌, reverse, Option, Some, None, Ordering, length, get_or, set, replicate, if◌then◌else◌, refl, sym, ◌∙◌, ap, subst, inl, arith}
+use Rattle.std.proofs.Common.{◌≡◌, ℕ, suc, ◌+◌, ◌*◌, ◌<◌, false, List, [], ◌∷◌, ◌++◌, reverse, Option, Some, None, Ordering, length, get_or, set, replicate, refl, sym, ◌∙◌, ap, subst, inl, arith}
 use Rattle.std.specs.Ordering.{is_gt}
 use Rattle.std.specs.Option.{IfNone}
 use Rattle.std.specs.List.{All}
@@ -7,10 +7,8 @@ use Rattle.std.proofs.lemmas.List.{length-set, length-replicate, get_or-replicat
 use Rattle.std.proofs.lemmas.List.Elements.{All-nil, All-cons}
 use Rattle.lsm_heaps.specs.declared.lazy_tournament.brackets.Bracket.{Bracket}
 use Rattle.lsm_heaps.specs.declared.lazy_tournament.brackets.Brackets.{Brackets}
-use Rattle.lsm_heaps.specs.Tournament.{Contest, room, steps, height, PlaysAtMost}
 use Rattle.lsm_heaps.specs.Slots.{Places, items_of, slot_at}
-use Rattle.lsm_heaps.specs.Order.{toward}
-use Rattle.lsm_heaps.specs.Brackets.{is_beaten, IsUnplayed, IsWon, WasWon, IsWonBut, IsKept, AreKept, IsNext, IsNextIf}
+use Rattle.lsm_heaps.specs.Brackets.{is_beaten, IsUnplayed, IsWon, WasWon, IsWonBut, IsKept, AreKept, IsNextIf}
 
 pub IfNone-from : {X : Type 0} (r : Option X) (P : Type 0) → P → IfNone r P
 IfNone-from None P p = p

@@ -1,6 +1,6 @@
 -- A list as a tree of intervals: node i has the places 2i and 2i + 1, for its low and its high end, and the children 2i + 1
 -- and 2i + 2. A last node with one place has it for both ends.
-use Rattle.std.specs.Prelude.{◌≡◌, ◌≢◌, ◌⊎◌, ℕ, ◌+◌, ◌-◌, ◌*◌, ◌/◌, ◌%◌, ◌<◌, ◌≤◌, false, List, length, slice_index_or}
+use Rattle.std.specs.Prelude.{◌≡◌, ◌≢◌, ◌⊎◌, ℕ, ◌+◌, ◌-◌, ◌*◌, ◌/◌, ◌%◌, ◌<◌, ◌≤◌, false, List, length, min, slice_index_or}
 use Rattle.std.specs.declared.cmp.Ordering.{Ordering}
 use Rattle.std.specs.Ordering.{is_gt}
 use Rattle.sst_entries.specs.declared.stream.Direction.{Direction}
@@ -46,6 +46,11 @@ PrecedesOn Back n a b = Precedes n b a
 abbrev pub IsEnd : Direction → ℕ → ℕ → Type 0
 IsEnd Front n k = k % 2 ≡ 0
 IsEnd Back n k = k % 2 ≡ 0 → k + 1 ≡ n
+
+-- the end at this side of the root, among n places: the greatest of one item is the least
+abbrev pub IsRoot : Direction → ℕ → ℕ → Type 0
+IsRoot Front n k = k ≡ 0
+IsRoot Back n k = k ≡ min (n - 1) 1
 
 -- the end at this side of the node above the one of place k
 abbrev pub above_of : Direction → ℕ → ℕ

@@ -2,11 +2,12 @@
 ghost use Rattle.std.specs.Prelude.{◌≡◌, ◌⊎◌, ℕ, ◌+◌, ◌*◌, ◌/◌, ◌%◌, ◌<◌, ◌≤◌, [], ◌∷◌, length, IfOk, IfErr, IfNone, IfSome, IsPermutation, MatchOption};
 ghost use Rattle.sst_entries.specs.declared.error.Error.TheVariants.{OutOfMemory};
 ghost use Rattle.lsm_heaps.specs.Bag.{IsLeast, IsGreatest};
+ghost use Rattle.lsm_heaps.specs.Order.{toward};
 ghost use Rattle.lsm_heaps.specs.IntervalHeap.{held, room};
 
 mod intervals;
 
-use intervals::{order_last, sink};
+use intervals::{order_last, root_end, sink};
 use sst_entries::{Direction, Error};
 use std::alloc::{Allocator, Global};
 use std::marker::Model;
@@ -73,12 +74,7 @@ impl<T: Ord, A: Allocator> IntervalHeap<T, A> {
         ensures least { IfSome result (λ x. IsLeast T.cmp x (held self.old)) }
         ensures room { room self.new ≡ room self.old }
     {
-        if self.items.is_empty() {
-            return None;
-        }
-        let item = self.items.swap_remove(0);
-        sink(&mut self.items, Direction::Front, 0);
-        Some(item)
+        self.pop(Direction::Front)
     }
 
     /// Takes out an item that no other is greater than, or `None` from an empty heap.
@@ -89,11 +85,23 @@ impl<T: Ord, A: Allocator> IntervalHeap<T, A> {
         ensures greatest { IfSome result (λ x. IsGreatest T.cmp x (held self.old)) }
         ensures room { room self.new ≡ room self.old }
     {
-        let last = self.items.len().checked_sub(1)?;
-        // The greatest of one item is the least.
-        let place = last.min(1);
+        self.pop(Direction::Back)
+    }
+
+    // Takes out the first item as seen from an end.
+    fn pop(&mut self, end: Direction) -> Option<T>
+        ensures none { IfNone result (held self.old ≡ []) }
+        ensures unchanged { IfNone result (held self.new ≡ []) }
+        ensures taken { IfSome result (λ x. IsPermutation (held self.old) (x ∷ held self.new)) }
+        ensures first { IfSome result (λ x. IsLeast (toward end T.cmp) x (held self.old)) }
+        ensures room { room self.new ≡ room self.old }
+    {
+        if self.items.is_empty() {
+            return None;
+        }
+        let place = root_end(end, self.items.len());
         let item = self.items.swap_remove(place);
-        sink(&mut self.items, Direction::Back, place);
+        sink(&mut self.items, end, place);
         Some(item)
     }
 }

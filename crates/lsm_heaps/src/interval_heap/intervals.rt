@@ -1,9 +1,22 @@
 // The order of an interval heap, restored after one item has changed.
 ghost use Rattle.std.specs.Prelude.{◌≡◌, ◌⊎◌, ℕ, ◌+◌, ◌-◌, ◌*◌, ◌/◌, ◌%◌, ◌<◌, ◌≤◌, length, take, IfNone, IfSome, IsPermutation};
-ghost use Rattle.lsm_heaps.specs.Intervals.{IsIntervalHeap, IsEnd, above_of, IsRisingAt, IsSinkingAt, IsChildEnd, InOrder, IsNode, PrecedesOn, SinksFrom};
+ghost use Rattle.lsm_heaps.specs.Intervals.{IsIntervalHeap, IsRoot, IsEnd, above_of, IsRisingAt, IsSinkingAt, IsChildEnd, InOrder, IsNode, PrecedesOn, SinksFrom};
 
 use crate::order::is_before;
 use sst_entries::Direction;
+
+// The end at this side of the root, among so many places.
+pub(crate) fn root_end(side: Direction, places: usize) -> usize
+    requires { 0 < places }
+    ensures root { IsRoot side places result }
+    ensures within { result < places }
+{
+    match side {
+        Direction::Front => 0,
+        // The greatest of one item is the least.
+        Direction::Back => (places - 1).min(1),
+    }
+}
 
 // Moves the last item to where it belongs, among others in order.
 pub(crate) fn order_last<T: Ord>(items: &mut [T])
