@@ -1,14 +1,11 @@
 //! Data blocks: what is written of entries, and what reads and seeks find.
-ghost use Rattle.std.specs.Prelude.{◌≡◌, true};
-ghost use Rattle.std.specs.Option.{option_map};
-ghost use Rattle.sst_entries.specs.Strict.{IsStrict, may_follow};
 
 use crate::payloads::data_block;
 use refusing::{Refusing, each_refused};
 use sst_blocks::Direction::{Back, Front};
 use sst_blocks::{
     DataBlock, DataBlockIter, Direction, Error, InternalValue, IterItem, SeqNo, Slice,
-    TableVersion, ValueType, answer_at, data_block_bound,
+    TableVersion, ValueType, answer_at, are_strict, data_block_bound,
 };
 use std::alloc::{Allocator, Global};
 use std::test::Fail;
@@ -23,32 +20,6 @@ fn entry<A: Allocator + Copy>(
     let key = Slice::from(alloc, key)?;
     let value = Slice::from(alloc, value)?;
     Ok(InternalValue::from_components(key, value, seqno, kind))
-}
-
-fn may_follow<A: Allocator>(last: Option<&InternalValue<A>>, item: &InternalValue<A>) -> bool
-    ensures { result ≡ may_follow (option_map (λ e. e.now) last.entry) item.now }
-{
-    match last {
-        None => true,
-        Some(last) => {
-            let keys = last.key.user_key.cmp(&item.key.user_key);
-            keys.then(item.key.seqno.cmp(&last.key.seqno)).is_lt()
-        }
-    }
-}
-
-// Whether the entries may stand in one block.
-fn are_strict<A: Allocator>(items: &[InternalValue<A>]) -> bool
-    ensures { result ≡ true → IsStrict items.now }
-{
-    let mut last: Option<&InternalValue<A>> = None;
-    for item in items {
-        if !may_follow(last, item) {
-            return false;
-        }
-        last = Some(item);
-    }
-    true
 }
 
 // What is written of some entries, behind some bytes.
@@ -573,7 +544,21 @@ fn each_request_refused_is_answered_so(rt: HostRuntime) -> Result<(), Fail> {
         Err(Error::OutOfMemory) => may_fail,
         Err(_) => false,
     });
-    assert_eq!(rt; answers, Ok(24));
+    assert_eq!(rt; answers, Ok(25));
+    Ok(())
+}
+
+// These numbers of a clone of the block of five, which outlives it.
+fn read_a_clone<A: Allocator + Copy>(alloc: A) -> Result<(SeqNo, SeqNo, SeqNo), Error> {
+    let block = block_of_five(alloc)?;
+    let copy = block.clone()?;
+    drop(block);
+    read(&copy)
+}
+
+#[test]
+fn a_clone_reads_as_its_block(rt: HostRuntime) -> Result<(), Fail> {
+    assert_eq!(rt; read_a_clone(rt.alloc())?, (9, 3, 0));
     Ok(())
 }
 

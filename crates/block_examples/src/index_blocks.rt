@@ -1,14 +1,10 @@
 //! Index blocks: what is written of handles, and what reads and seeks find.
-ghost use Rattle.std.specs.Prelude.{◌≡◌, true};
-ghost use Rattle.sst_blocks.specs.Handles.{AreStrictHandles, end_of};
-ghost use Rattle.sst_entries.specs.Strict.{may_follow};
-ghost use Rattle.std.specs.Option.{option_map};
 
 use crate::payloads::index_block;
 use refusing::{Refusing, each_refused};
 use sst_blocks::{
     BlockHandle, BlockOffset, Error, IndexBlock, KeyedBlockHandle, SeqNo, Slice, TableVersion,
-    index_block_bound,
+    are_strict_handles, index_block_bound,
 };
 use std::alloc::{Allocator, Global};
 use std::test::Fail;
@@ -22,36 +18,6 @@ fn handle<A: Allocator + Copy>(
 ) -> Result<KeyedBlockHandle<A>, Error> {
     let inner = BlockHandle::new(BlockOffset(offset), size);
     Ok(KeyedBlockHandle::new(Slice::from(alloc, end_key)?, seqno, inner))
-}
-
-fn may_follow<A: Allocator>(
-    last: Option<&KeyedBlockHandle<A>>,
-    handle: &KeyedBlockHandle<A>,
-) -> bool
-    ensures { result ≡ may_follow (option_map (λ h. end_of h.now) last.entry) (end_of handle.now) }
-{
-    match last {
-        None => true,
-        Some(last) => last
-            .end_key()
-            .cmp(handle.end_key())
-            .then(handle.seqno().cmp(&last.seqno()))
-            .is_lt(),
-    }
-}
-
-// Whether the handles may stand in one block.
-fn are_strict<A: Allocator>(handles: &[KeyedBlockHandle<A>]) -> bool
-    ensures { result ≡ true → AreStrictHandles handles.now }
-{
-    let mut last: Option<&KeyedBlockHandle<A>> = None;
-    for handle in handles {
-        if !may_follow(last, handle) {
-            return false;
-        }
-        last = Some(handle);
-    }
-    true
 }
 
 // b@5, b@3, d@9 and f@1, and the positions of their blocks.
@@ -111,7 +77,7 @@ fn written_behind<A: Allocator + Copy>(
     front: &[u8],
     handles: &[KeyedBlockHandle<A>],
 ) -> Result<Vec<u8, A>, Error> {
-    if !are_strict(handles) {
+    if !are_strict_handles(handles) {
         return Err(Error::InvalidBlock);
     }
     let mut written = Vec::from_slice(alloc, front)?;
@@ -361,7 +327,7 @@ fn refusal<A: Allocator + Copy>(
 ) -> Result<Option<Error>, Error> {
     let mut buf = Vec::new(alloc);
     buf.push(7)?;
-    if !are_strict(handles) {
+    if !are_strict_handles(handles) {
         return Ok(None);
     }
     let refused = IndexBlock::encode_into(&mut buf, handles).err();
@@ -455,7 +421,23 @@ fn each_request_refused_is_answered_so(rt: HostRuntime) -> Result<(), Fail> {
         Err(Error::OutOfMemory) => may_fail,
         Err(_) => false,
     });
-    assert_eq!(rt; answers, Ok(18));
+    assert_eq!(rt; answers, Ok(19));
+    Ok(())
+}
+
+// Whether a clone of the block of four, which outlives it, finds what the block does, and takes no memory.
+fn a_clone_finds(heap: &Refusing) -> Result<bool, Error> {
+    let block = block_of_four(heap)?;
+    let requests = heap.requests();
+    let copy = block.clone()?;
+    drop(block);
+    Ok(heap.requests() == requests && copy.len() == 4 && found_at(&copy, b"c", 1) == 20)
+}
+
+#[test]
+fn a_clone_reads_as_its_block_and_takes_no_memory(rt: HostRuntime) -> Result<(), Fail> {
+    let heap = Refusing::new(rt.alloc(), 0);
+    assert!(rt; a_clone_finds(&heap)?);
     Ok(())
 }
 

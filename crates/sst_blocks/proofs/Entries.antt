@@ -290,10 +290,10 @@ block_strict v bytes starts es block view =
     subst (IsStrictAfter None) (map-id es) (items_strict (entry_format v) (entries_advance v) bytes es (sym (entries_in_same v bytes) ∙ b.0))
 
 -- at a start stands the entry of its place
-pub block_holds : (v : TableVersion) (bytes starts : List ℕ) (es : List Entry) (i at : ℕ) (e : Entry) → EntriesAt v bytes starts → unwrap_or (entries_in v bytes) [] ≡ es → slice_get es i ≡ Some e → at ≡ get_or starts i at → Stands v bytes at e
+pub block_holds : (v : TableVersion) (bytes starts : List ℕ) (es : List Entry) (i at : ℕ) (e : Entry) → EntriesAt v bytes starts → unwrap_or (entries_in v bytes) [] ≡ es → slice_get es i ≡ Some e → slice_get starts i ≡ Some at → Stands v bytes at e
 block_holds v bytes starts es i at e block view some is_at =
     let b = block_spells v bytes starts es block view in
-    let h = item_holds (entry_format v) (entries_advance v) bytes starts es i at e (sym (entries_in_same v bytes) ∙ b.0) b.1 (slice_get_within es i e some) is_at in
+    let h = item_holds (entry_format v) (entries_advance v) bytes starts es i at e (sym (entries_in_same v bytes) ∙ b.0) b.1 (slice_get_within es i e some) (sym (get_or_from_slice_get starts i at at is_at)) in
     stands v bytes at e (subst (Here (entry_format v) bytes at) (get_or_from_slice_get es i e e some) h)
 
 pub some_at : (es : List Entry) (i : ℕ) → i < length es → (e : Entry) × (slice_get es i ≡ Some e)

@@ -202,10 +202,10 @@ pub block_strict : (v : TableVersion) (bytes starts : List ℕ) (hs : List Handl
 block_strict v bytes starts hs block view = handles_strict v bytes hs (block_spells v bytes starts hs block view).0
 
 -- at a start stands the handle of its place
-pub block_holds : (v : TableVersion) (bytes starts : List ℕ) (hs : List Handle) (i at : ℕ) (h : Handle) → HandlesAt v bytes starts → unwrap_or (handles_in v bytes) [] ≡ hs → slice_get hs i ≡ Some h → at ≡ get_or starts i at → Stands v bytes at h
+pub block_holds : (v : TableVersion) (bytes starts : List ℕ) (hs : List Handle) (i at : ℕ) (h : Handle) → HandlesAt v bytes starts → unwrap_or (handles_in v bytes) [] ≡ hs → slice_get hs i ≡ Some h → slice_get starts i ≡ Some at → Stands v bytes at h
 block_holds v bytes starts hs i at h block view some is_at =
     let b = block_spells v bytes starts hs block view in
-    let here = item_holds (handle_format v) (handles_advance v) bytes starts hs i at h (sym (handles_in_same v bytes) ∙ b.0) b.1 (slice_get_within hs i h some) is_at in
+    let here = item_holds (handle_format v) (handles_advance v) bytes starts hs i at h (sym (handles_in_same v bytes) ∙ b.0) b.1 (slice_get_within hs i h some) (sym (get_or_from_slice_get starts i at at is_at)) in
     stands v bytes at h (subst (Here (handle_format v) bytes at) (get_or_from_slice_get hs i h h some) here)
 
 pub some_at : (hs : List Handle) (i : ℕ) → i < length hs → (h : Handle) × (slice_get hs i ≡ Some h)

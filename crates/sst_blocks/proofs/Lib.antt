@@ -13,3 +13,4 @@ pub mod Lengths
 pub mod Within
 pub mod Grown
 pub mod Narrowing
+pub mod StrictHandles

@@ -1,6 +1,7 @@
 -- What a load tells, one fault after another.
 use Rattle.std.proofs.Common.{◌≡◌, ℕ, ◌+◌, ◌-◌, ◌<◌, ◌≤◌, ◌==◌, ◌||◌, not, nat_lt, Bool, true, false, if◌then◌else◌, List, length, drop, slice_range, refl, sym, ap, ◌∙◌, arith}
 use Rattle.std.specs.Prelude.{Option, Some, None, Result, Ok, Err, IfOk}
+use Rattle.std.proofs.lemmas.Bool.{eq-eqb}
 use Rattle.std.proofs.lemmas.List.{length-take}
 use Rattle.sst_blocks.specs.declared.block_type.BlockType.{BlockType}
 use Rattle.sst_entries.specs.declared.error.Error.{Error}
@@ -9,7 +10,7 @@ use Rattle.sst_sections.specs.declared.version.TableVersion.{TableVersion}
 use Rattle.sst_entries.specs.Error.{Gives, FaultsFirst, unless}
 use Rattle.std.specs.Option.{option_or}
 use Rattle.sst_sections.specs.Fnv.{fnv1a}
-use Rattle.sst_blocks.specs.Block.{Loaded, grammar_fault, header_fault, data_len, uncompressed_len, stored_checksum, version_in, checked_payload, load_told, load_at_told, place_fault, position_fault}
+use Rattle.sst_blocks.specs.Block.{Loaded, grammar_fault, checksum_fault, loaded, header_fault, data_len, uncompressed_len, stored_checksum, version_in, checked_payload, load_told, load_at_told, place_fault, position_fault}
 
 -- no fault yet
 after : {A : Type 0} (wrong : Bool) (e : Error) (fault : Option Error) (told : Result A Error) → wrong ≡ false → fault ≡ None → (if wrong then Err e else unless fault told) ≡ told
@@ -104,7 +105,7 @@ loaded_within v checksum kind payload n end (Err e) told lt = tt
 pub range_short : (xs : List ℕ) (from len : ℕ) → length (slice_range xs from (from + len)) ≤ len
 range_short xs from len = omega (arith, length-take (from + len - from) (drop from xs))
 
--- ---- faults that are found before the payload is looked at
+-- ---- faults that are found before memory is taken
 
 pub none_told : {X : Type 0} (r : Result X Error) (fault : Option Error) → fault ≡ None → FaultsFirst r fault
 none_told r fault none f is = let wrong : Some f ≡ None = sym is ∙ none in absurd cc
@@ -124,23 +125,23 @@ module _ (body : List ℕ) (offset size : ℕ) (kind : BlockType) where
   unfolding place_fault
   place_header e long within fault = here _ _ _ _ _ (fits body offset size kind long within) fault
 
-  two_lengths : (d u : ℕ) → (d ≡ u → 24 + d ≡ size → ⊥) → (if not (d == u) || not (24 + d == size) then Some InvalidHeader else None) ≡ Some InvalidHeader
-  two_lengths d u differ = grind arith
+  two_lengths : (d u : ℕ) (next : Option Error) → (d ≡ u → 24 + d ≡ size → ⊥) → (if not (d == u) || not (24 + d == size) then Some InvalidHeader else next) ≡ Some InvalidHeader
+  two_lengths d u next differ = grind arith
 
-  one_length : (d u : ℕ) → d ≡ u → 24 + d ≡ size → (if not (d == u) || not (24 + d == size) then Some InvalidHeader else None) ≡ None
-  one_length d u same whole = grind arith
+  one_length : (d u : ℕ) (next : Option Error) → d ≡ u → 24 + d ≡ size → (if not (d == u) || not (24 + d == size) then Some InvalidHeader else next) ≡ next
+  one_length d u next same whole = grind arith
 
   pub place_lengths : 24 ≤ size → offset + size ≤ length body → header_fault kind (slice_range body offset (offset + 24)) ≡ None
       → (data_len (slice_range body offset (offset + 24)) ≡ uncompressed_len (slice_range body offset (offset + 24)) → 24 + data_len (slice_range body offset (offset + 24)) ≡ size → ⊥)
       → place_fault body offset size kind ≡ Some InvalidHeader
   unfolding place_fault
-  place_lengths long within fault differ = behind _ _ _ _ (fits body offset size kind long within) fault ∙ two_lengths _ _ differ
+  place_lengths long within fault differ = behind _ _ _ _ (fits body offset size kind long within) fault ∙ two_lengths _ _ _ differ
 
-  pub place_fine : 24 ≤ size → offset + size ≤ length body → header_fault kind (slice_range body offset (offset + 24)) ≡ None
+  pub place_checked : 24 ≤ size → offset + size ≤ length body → header_fault kind (slice_range body offset (offset + 24)) ≡ None
       → data_len (slice_range body offset (offset + 24)) ≡ uncompressed_len (slice_range body offset (offset + 24)) → 24 + data_len (slice_range body offset (offset + 24)) ≡ size
-      → place_fault body offset size kind ≡ None
+      → place_fault body offset size kind ≡ checksum_fault (stored_checksum (slice_range body offset (offset + 24))) (slice_range body (offset + 24) (offset + size))
   unfolding place_fault
-  place_fine long within fault same whole = behind _ _ _ _ (fits body offset size kind long within) fault ∙ one_length _ _ same whole
+  place_checked long within fault same whole = behind _ _ _ _ (fits body offset size kind long within) fault ∙ one_length _ _ _ same whole
 
 module _ (body : List ℕ) (position : ℕ) (kind : BlockType) where
   pub position_truncated : (position + 24 ≤ length body → ⊥) → position_fault body position kind ≡ Some Truncated
@@ -151,29 +152,48 @@ module _ (body : List ℕ) (position : ℕ) (kind : BlockType) where
   unfolding position_fault
   position_header e within fault = here _ _ _ _ _ (header_fits body position kind within) fault
 
-  differ_at : (d u end past : ℕ) → (d ≡ u → ⊥) → (if not (d == u) then Some InvalidHeader else (if nat_lt end past then Some Truncated else None)) ≡ Some InvalidHeader
-  differ_at d u end past differ = grind arith
+  differ_at : (d u end past : ℕ) (next : Option Error) → (d ≡ u → ⊥) → (if not (d == u) then Some InvalidHeader else (if nat_lt end past then Some Truncated else next)) ≡ Some InvalidHeader
+  differ_at d u end past next differ = grind arith
 
-  pass_at : (d u end past : ℕ) → d ≡ u → end < past → (if not (d == u) then Some InvalidHeader else (if nat_lt end past then Some Truncated else None)) ≡ Some Truncated
-  pass_at d u end past same lt = grind arith
+  pass_at : (d u end past : ℕ) (next : Option Error) → d ≡ u → end < past → (if not (d == u) then Some InvalidHeader else (if nat_lt end past then Some Truncated else next)) ≡ Some Truncated
+  pass_at d u end past next same lt = grind arith
 
-  fine_at : (d u end past : ℕ) → d ≡ u → past ≤ end → (if not (d == u) then Some InvalidHeader else (if nat_lt end past then Some Truncated else None)) ≡ None
-  fine_at d u end past same le = grind arith
+  fine_at : (d u end past : ℕ) (next : Option Error) → d ≡ u → past ≤ end → (if not (d == u) then Some InvalidHeader else (if nat_lt end past then Some Truncated else next)) ≡ next
+  fine_at d u end past next same le = grind arith
 
   pub position_lengths : position + 24 ≤ length body → header_fault kind (slice_range body position (position + 24)) ≡ None
       → (data_len (slice_range body position (position + 24)) ≡ uncompressed_len (slice_range body position (position + 24)) → ⊥)
       → position_fault body position kind ≡ Some InvalidHeader
   unfolding position_fault
-  position_lengths within fault differ = behind _ _ _ _ (header_fits body position kind within) fault ∙ differ_at _ _ _ _ differ
+  position_lengths within fault differ =
+      let to = position + 24 + data_len (slice_range body position (position + 24)) in
+      let next = checksum_fault (stored_checksum (slice_range body position (position + 24))) (slice_range body (position + 24) to) in
+      behind _ _ _ _ (header_fits body position kind within) fault ∙ differ_at _ _ (length body) to next differ
 
   pub position_passes : position + 24 ≤ length body → header_fault kind (slice_range body position (position + 24)) ≡ None
       → data_len (slice_range body position (position + 24)) ≡ uncompressed_len (slice_range body position (position + 24)) → length body < position + 24 + data_len (slice_range body position (position + 24))
       → position_fault body position kind ≡ Some Truncated
   unfolding position_fault
-  position_passes within fault same past = behind _ _ _ _ (header_fits body position kind within) fault ∙ pass_at _ _ _ _ same past
+  position_passes within fault same past = behind _ _ _ _ (header_fits body position kind within) fault ∙ pass_at _ _ _ _ _ same past
 
-  pub position_fine : position + 24 ≤ length body → header_fault kind (slice_range body position (position + 24)) ≡ None
+  pub position_checked : position + 24 ≤ length body → header_fault kind (slice_range body position (position + 24)) ≡ None
       → data_len (slice_range body position (position + 24)) ≡ uncompressed_len (slice_range body position (position + 24)) → position + 24 + data_len (slice_range body position (position + 24)) ≤ length body
-      → position_fault body position kind ≡ None
+      → position_fault body position kind ≡ checksum_fault (stored_checksum (slice_range body position (position + 24))) (slice_range body (position + 24) (position + 24 + data_len (slice_range body position (position + 24))))
   unfolding position_fault
-  position_fine within fault same whole = behind _ _ _ _ (header_fits body position kind within) fault ∙ fine_at _ _ _ _ same whole
+  position_checked within fault same whole = behind _ _ _ _ (header_fits body position kind within) fault ∙ fine_at _ _ _ _ _ same whole
+
+-- ---- a payload and its checksum
+
+pub checksum_wrong : (v : TableVersion) (checksum : ℕ) (kind : BlockType) (payload : List ℕ) → (fnv1a payload ≡ checksum → ⊥) → checked_payload v checksum kind payload ≡ Err ChecksumMismatch
+unfolding checked_payload
+checksum_wrong v checksum kind payload differ = grind arith
+
+pub checksum_told : (checksum : ℕ) (payload : List ℕ) → (fnv1a payload ≡ checksum → ⊥) → checksum_fault checksum payload ≡ Some ChecksumMismatch
+checksum_told checksum payload differ = grind arith
+
+pub checksum_right : (v : TableVersion) (checksum : ℕ) (kind : BlockType) (payload : List ℕ) → fnv1a payload ≡ checksum → checked_payload v checksum kind payload ≡ unless (grammar_fault v kind payload) (Ok (loaded v kind payload))
+unfolding checked_payload
+checksum_right v checksum kind payload same = let e = eq-eqb (fnv1a payload) checksum same in rw e refl
+
+pub checksum_fine : (checksum : ℕ) (payload : List ℕ) → fnv1a payload ≡ checksum → checksum_fault checksum payload ≡ None
+checksum_fine checksum payload same = grind arith

@@ -1,12 +1,10 @@
 -- A point read of a strict list is decided at one place.
-use Rattle.std.proofs.Common.{◌≡◌, ℕ, zero, suc, ◌<◌, ◌≤◌, Bool, true, false, cond, List, [], ◌∷◌, length, get_or, Option, Some, None, refl, sym, ap, subst, ◌∙◌, arith, inl, inr, ◌⊎◌, rules}
+use Rattle.std.proofs.Common.{◌≡◌, ℕ, zero, suc, ◌<◌, ◌≤◌, Bool, true, false, List, [], ◌∷◌, length, get_or, Some, None, refl, sym, ap, subst, ◌∙◌, arith, inl, inr, ◌⊎◌}
 use Rattle.std.specs.Prelude.{find, not, nat_eq, nat_lt, ◌&&◌, ◌==◌}
 use Rattle.std.specs.declared.cmp.Ordering.{Ordering}
 use Rattle.std.specs.declared.cmp.Ordering.TheVariants.{Less, Equal, Greater}
-use Rattle.std.specs.Ordering.{nat_cmp, is_lt, is_eq, ordering_then, ordering_reverse}
-use Rattle.std.specs.Cmp.{IsTotalOrder}
-use Rattle.std.specs.Cmp.Rules.{comparing}
-use Rattle.std.specs.Cmp.Lexicographic.{slice_cmp, pointwise, nat_list_cmp_total, nat_list_eq_equiv, same_text, other_text, texts_ties}
+use Rattle.std.specs.Ordering.{nat_cmp, is_lt, ordering_then, ordering_reverse}
+use Rattle.std.specs.Cmp.Lexicographic.{slice_cmp, pointwise, nat_list_cmp_total, nat_list_eq_equiv, same_text, other_text}
 use Rattle.std.proofs.lemmas.Bool.{cases_lt}
 use Rattle.std.proofs.lemmas.Cmp.{tied_itself}
 use Rattle.std.proofs.lemmas.Option.{slice_get_within, get_or_from_slice_get}
@@ -17,7 +15,7 @@ use Rattle.sst_entries.specs.Entry.{Entry, entry}
 use Rattle.sst_entries.specs.Key.{key_lt}
 use Rattle.sst_entries.specs.Point.{is_hit, point, bound_of}
 use Rattle.sst_entries.specs.Span.{front_length}
-use Rattle.sst_entries.specs.Strict.{number_cmp, is_before, IsStrictAfter, IsStrict}
+use Rattle.sst_entries.specs.Strict.{is_before, IsStrict}
 use Rattle.sst_blocks.proofs.Fronts.{front_passes, front_stops}
 use Rattle.sst_entries.proofs.Booleans.{apart, is_false, not_is, not_of, not_not, and_left, and_right}
 use Rattle.sst_entries.proofs.OrderLemmas.{less_of, lt_of_cond, tie_same, before_trans, strict_at}

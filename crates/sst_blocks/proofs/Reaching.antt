@@ -1,12 +1,10 @@
 -- Where the handles that reach a key begin, and the windows that seeks leave.
-use Rattle.std.proofs.Common.{◌≡◌, refl, sym, ◌∙◌, ap, subst, ℕ, zero, suc, ◌+◌, ◌-◌, ◌<◌, ◌≤◌, Bool, true, false, cond, List, [], ◌∷◌, length, take, drop, get_or, map, arith, inl, inr, rules}
-use Rattle.std.specs.Prelude.{Option, Some, None, min, max, not, nat_lt, ◌&&◌, ◌||◌, ◌==◌}
+use Rattle.std.proofs.Common.{◌≡◌, refl, sym, ◌∙◌, ap, subst, ℕ, zero, suc, ◌+◌, ◌-◌, ◌<◌, ◌≤◌, Bool, true, false, cond, List, [], ◌∷◌, length, take, drop, get_or, map, arith, inl, inr}
+use Rattle.std.specs.Prelude.{Some, None, min, max, not, nat_lt, ◌&&◌, ◌||◌, ◌==◌}
 use Rattle.std.specs.List.{slice_get}
 use Rattle.std.specs.declared.cmp.Ordering.{Ordering}
 use Rattle.std.specs.declared.cmp.Ordering.TheVariants.{Less, Equal, Greater}
 use Rattle.std.specs.Ordering.{nat_cmp, is_lt, is_eq, ordering_then, ordering_reverse}
-use Rattle.std.specs.Cmp.{IsTotalOrder}
-use Rattle.std.specs.Cmp.Rules.{comparing}
 use Rattle.std.specs.Cmp.Lexicographic.{slice_cmp, nat_list_cmp_total, texts_ties}
 use Rattle.std.proofs.lemmas.Bool.{cases_lt, le-ltb, ltb-false, ltb-true}
 use Rattle.std.proofs.lemmas.List.{drop-take, drop_all, length-take, length-drop, take_all, length-map, get_or-map}
@@ -17,7 +15,7 @@ use Rattle.sst_blocks.specs.Handle.{Handle}
 use Rattle.sst_blocks.specs.Handles.{reaches, is_above, end_of, AreStrictHandles, from_first, up_to_first, window}
 use Rattle.sst_entries.specs.Key.{same_key, key_lt}
 use Rattle.sst_entries.specs.Span.{Span, left_in, front_length}
-use Rattle.sst_entries.specs.Strict.{number_cmp, is_before, IsStrictAfter}
+use Rattle.sst_entries.specs.Strict.{is_before}
 use Rattle.sst_blocks.proofs.SpanLemmas.{front_length_is, left_empty}
 use Rattle.sst_entries.proofs.Booleans.{apart, is_false}
 use Rattle.sst_entries.proofs.OrderLemmas.{lt_of_cond, before_trans, strict_at}

@@ -1,9 +1,10 @@
 -- Spans: one step at either end, and what a span deals.
-use Rattle.std.proofs.Common.{◌≡◌, refl, sym, ◌∙◌, ap, ℕ, zero, suc, ◌+◌, ◌-◌, ◌<◌, ◌≤◌, Bool, true, false, List, [], ◌∷◌, ◌++◌, length, take, drop, get_or, reverse, arith}
-use Rattle.std.specs.Prelude.{Option, Some, None, Result, Ok, Err, find, not, cond}
+use Rattle.std.proofs.Common.{◌≡◌, refl, sym, ◌∙◌, ap, ℕ, zero, suc, ◌+◌, ◌-◌, ◌<◌, ◌≤◌, Bool, true, false, List, [], ◌∷◌, ◌++◌, length, take, drop, get_or, reverse, arith, inl, inr}
+use Rattle.std.specs.Prelude.{Option, Some, None, Result, Ok, Err, find, not, cond, IsTrue, ◌↔◌, nat_lt}
 use Rattle.std.specs.List.{slice_get, AllByRecursion}
 use Rattle.std.proofs.lemmas.List.{reverse-append, reverse-reverse, map-append, take_more, drop_more, get_or-drop, length-drop, length-take}
 use Rattle.std.proofs.lemmas.Option.{slice_get_within, get_or_from_slice_get}
+use Rattle.std.proofs.lemmas.Bool.{cases_lt, ltb-true, lt-ltb}
 use Rattle.sst_entries.specs.declared.error.Error.{Error}
 use Rattle.sst_entries.specs.declared.error.Error.TheVariants.{OutOfMemory}
 use Rattle.sst_entries.specs.declared.stream.Direction.{Direction}
@@ -60,6 +61,18 @@ no_error stops e memory err fine = let wrong : true ≡ false = sym memory ∙ s
 module _ {X : Type 0} where
   pub left_empty : (s : Span X) → s.to ≤ s.from → left_in s ≡ []
   left_empty s le = let e : s.to - s.from ≡ 0 = omega (arith, le) in ap (λ (n : ℕ). take n (drop s.from s.list)) e
+
+  -- something is left exactly where the places have not met
+  pub left_any : (s : Span X) → s.to ≤ length s.list → IsTrue (nat_lt s.from s.to) ↔ (left_in s ≡ [] → ⊥)
+  left_any s le =
+      let len : length (left_in s) ≡ s.to - s.from = omega (arith, le, length-take (s.to - s.from) (drop s.from s.list), length-drop s.from s.list) in
+      (λ yes. λ none. let zero : length (left_in s) ≡ 0 = ap length none in omega (arith, len, zero, ltb-true s.from s.to yes), λ some. decide some)
+    where
+      decide : (left_in s ≡ [] → ⊥) → IsTrue (nat_lt s.from s.to)
+      decide some = elim (cases_lt s.from s.to) [
+        | inl lt ↦ lt-ltb s.from s.to lt
+        | inr ge ↦ absurd (some (left_empty s ge))
+      ]
 
   pub left_front : (s : Span X) (x : X) → s.from < s.to → slice_get s.list s.from ≡ Some x → left_in s ≡ x ∷ left_in (record s { from = s.from + 1 })
   left_front s x lt here =

@@ -74,6 +74,10 @@ version_in head = unwrap_or (version_of (take 4 head)) V4
 abbrev pub grammar_fault : TableVersion → BlockType → List ℕ → Option Error
 grammar_fault v kind payload = if not (in_grammar v kind payload) then Some InvalidBlock else None
 
+-- the checksum that a payload's header says is another
+abbrev pub checksum_fault : ℕ → List ℕ → Option Error
+checksum_fault checksum payload = if not (fnv1a payload == checksum) then Some ChecksumMismatch else None
+
 -- the payload is tested last, by what its header says: its checksum, then its grammar
 unfoldable pub checked_payload : TableVersion → ℕ → BlockType → List ℕ → Result Loaded Error
 checked_payload v checksum kind payload =
@@ -99,13 +103,14 @@ load_at_told body position kind =
     else (if nat_lt (length body) (position + 24 + data_len head) then Err Truncated
     else checked_payload (version_in head) (stored_checksum head) kind (slice_range body (position + 24) (position + 24 + data_len head))))
 
--- what a load finds wrong before it looks at the payload: too few bytes, the header, its lengths; the first fault
+-- what a load finds wrong before it takes memory: too few bytes, the header, its lengths, the checksum; the first fault
 unfoldable pub place_fault : List ℕ → ℕ → ℕ → BlockType → Option Error
 place_fault body offset size kind =
     let head = slice_range body offset (offset + 24) in
     if nat_lt size 24 || nat_lt (length body) (offset + size) then Some Truncated
     else option_or (header_fault kind head)
-    (if not (data_len head == uncompressed_len head) || not (24 + data_len head == size) then Some InvalidHeader else None)
+    (if not (data_len head == uncompressed_len head) || not (24 + data_len head == size) then Some InvalidHeader
+    else checksum_fault (stored_checksum head) (slice_range body (offset + 24) (offset + size)))
 
 -- the same with the size that the header says
 unfoldable pub position_fault : List ℕ → ℕ → BlockType → Option Error
@@ -114,7 +119,8 @@ position_fault body position kind =
     if nat_lt (length body) (position + 24) then Some Truncated
     else option_or (header_fault kind head)
     (if not (data_len head == uncompressed_len head) then Some InvalidHeader
-    else (if nat_lt (length body) (position + 24 + data_len head) then Some Truncated else None))
+    else (if nat_lt (length body) (position + 24 + data_len head) then Some Truncated
+    else checksum_fault (stored_checksum head) (slice_range body (position + 24) (position + 24 + data_len head))))
 
 -- a block without its header
 abbrev pub loaded : TableVersion → BlockType → List ℕ → Loaded

@@ -1,12 +1,12 @@
 //! Blocks: a checked payload of one kind.
-ghost use Rattle.std.specs.Prelude.{◌≡◌, ◌+◌, ◌++◌, ◌<◌, ◌^◌, List, length, IfOk, IfErr, OnOk, OnErr};
-ghost use Rattle.sst_blocks.specs.Block.{block_bytes, checked_payload, entries_of, grammar_fault, handles_of, is_filter, loaded, Loaded, LoadsBack};
+ghost use Rattle.std.specs.Prelude.{◌≡◌, ◌+◌, ◌++◌, ◌<◌, ◌^◌, List, Ok, length, IfOk, IfErr, OnOk, OnErr};
+ghost use Rattle.sst_blocks.specs.Block.{block_bytes, entries_of, grammar_fault, handles_of, is_filter, loaded, Loaded, LoadsBack};
 ghost use Rattle.sst_blocks.specs.Handle.{Handle};
 ghost use Rattle.sst_blocks.specs.Handles.{handles_payload, AreStrictHandles, HandlesFit};
 ghost use Rattle.sst_blocks.specs.Payload.{payload, AreFit};
 ghost use Rattle.sst_entries.specs.Entry.{Entry};
 ghost use Rattle.sst_entries.specs.Strict.{IsStrict};
-ghost use Rattle.sst_entries.specs.Error.{Faults, Gives};
+ghost use Rattle.sst_entries.specs.Error.{Faults, Gives, unless};
 ghost use Rattle.sst_blocks.specs.Starts.{HoldsEntries, IsBlock};
 ghost use Rattle.sst_blocks.specs.declared.block_type.BlockType.{BlockType};
 ghost use Rattle.sst_blocks.specs.declared.block_type.BlockType.TheVariants.{Index};
@@ -18,25 +18,26 @@ mod header;
 
 use crate::data_block::entry_starts;
 use crate::index_block::handle_starts;
+use crate::starts::Starts;
 use crate::{
     BlockHandle, BlockOffset, BlockType, CompressionType, Error, SectionWriter, Slice, TableVersion,
 };
 pub use header::Header;
-use sst_sections::fnv::Fnv1a;
-use std::alloc::{Allocator, Global};
+use std::alloc::{AllocError, Allocator, Global};
 use std::marker::Model;
 
 /// The length of a block that holds nothing: its header and a count.
 pub(crate) const EMPTY_LEN: u64 = 28;
 
-/// A block that was loaded: its payload is in the grammar of its kind. It shares the table's bytes.
+/// A block that was loaded: its payload is in the grammar of its kind. It shares the table's bytes, and its clones share
+/// all that it holds.
 #[derive(Drop)]
 pub struct Block<A: Allocator = Global> {
     pub(crate) version: TableVersion,
     pub(crate) kind: BlockType,
     pub(crate) payload: Slice<A>,
-    // where the entries or handles begin, found by the one pass that tests the grammar
-    pub(crate) starts: Vec<u32, A>,
+    // Where the entries or handles begin, found by the one pass that tests the grammar.
+    pub(crate) starts: Starts<A>,
 }
 
 impl<A: Allocator> Model for Block<A> {
@@ -47,7 +48,23 @@ impl<A: Allocator> Model for Block<A> {
 
     ghost view = { λ b. record { version = b.version; kind = b.kind; payload = b.payload } };
 
-    ghost invariant = { λ b. IsBlock b.version b.kind b.payload b.starts.items };
+    ghost invariant = { λ b. IsBlock b.version b.kind b.payload b.starts };
+}
+
+impl<A: Allocator> Clone for Block<A> {
+    ghost use Rattle.std.specs.Prelude.{◌≡◌};
+
+    ghost is_clone = { λ b copy. copy ≡ b };
+
+    /// The same block, which shares all that this one holds. Refused where a count of sharers is refused.
+    fn clone(&self) -> Result<Block<A>, AllocError> {
+        Ok(Block {
+            version: self.version,
+            kind: self.kind,
+            payload: self.payload.clone()?,
+            starts: self.starts.clone()?,
+        })
+    }
 }
 
 impl<A: Allocator> Block<A> {
@@ -64,30 +81,27 @@ impl<A: Allocator> Block<A> {
     {
         self.payload.len()
     }
+}
 
-    /// The block of a payload, by the version and the checksum that its header says. Refused [`Error::ChecksumMismatch`], then
-    /// [`Error::InvalidBlock`], and [`Error::OutOfMemory`].
-    #[tactic(auto, unfolding(crate::specs::Block::checked_payload))]
+impl<A: Allocator + Clone> Block<A> {
+    /// The block of a payload whose checksum is right. Refused [`Error::InvalidBlock`] where the payload is not in the
+    /// grammar of its kind, and [`Error::OutOfMemory`].
     pub(crate) fn open(
         alloc: A,
-        header: Header,
+        version: TableVersion,
         kind: BlockType,
         payload: Slice<A>,
     ) -> Result<Block<A>, Error>
         requires { length payload < 2 ^ 32 }
-        ensures { Gives (λ (b : Loaded). b) result (checked_payload header.version header.checksum kind payload) }
+        ensures { Gives (λ (b : Loaded). b) result
+            (unless (grammar_fault version kind payload) (Ok (loaded version kind payload))) }
     {
-        let mut checksum = Fnv1a::new();
-        checksum.update(payload.as_slice());
-        if checksum.finish() != header.checksum {
-            return Err(Error::ChecksumMismatch);
-        }
-        let starts = item_starts(alloc, header.version, kind, payload.as_slice())?;
+        let starts = item_starts(alloc, version, kind, payload.as_slice())?;
         Ok(Block {
-            version: header.version,
+            version,
             kind,
             payload,
-            starts,
+            starts: Starts::new(starts)?,
         })
     }
 }

@@ -27,20 +27,22 @@ mod entry_ref;
 mod iter;
 
 use crate::block::{EMPTY_LEN, Header};
+use crate::starts::Starts;
 use crate::{Block, Error, InternalValue, SeqNo, Slice, TableVersion};
 use encode::{block_len, put_items, with_entry};
 use entry_ref::{EntryRef, head_len, read_entry};
 pub use iter::Iter;
 use sst_sections::number::u32_at;
-use std::alloc::{Allocator, Global};
+use std::alloc::{AllocError, Allocator, Global};
 use std::marker::Model;
 
-/// A block of entries in strict order. It shares the table's bytes.
+/// A block of entries in strict order. It shares the table's bytes, and its clones share
+/// all that it holds.
 #[derive(Drop)]
 pub struct DataBlock<A: Allocator = Global> {
     version: TableVersion,
     payload: Slice<A>,
-    starts: Vec<u32, A>,
+    starts: Starts<A>,
 }
 
 impl<A: Allocator> Model for DataBlock<A> {
@@ -53,7 +55,22 @@ impl<A: Allocator> Model for DataBlock<A> {
 
     ghost view = { λ b. unwrap_or (entries_in b.version b.payload) [] };
 
-    ghost invariant = { λ b. EntriesAt b.version b.payload b.starts.items };
+    ghost invariant = { λ b. EntriesAt b.version b.payload b.starts };
+}
+
+impl<A: Allocator> Clone for DataBlock<A> {
+    ghost use Rattle.std.specs.Prelude.{◌≡◌};
+
+    ghost is_clone = { λ b copy. copy ≡ b };
+
+    /// The same block, which shares all that this one holds. Refused where a count of sharers is refused.
+    fn clone(&self) -> Result<DataBlock<A>, AllocError> {
+        Ok(DataBlock {
+            version: self.version,
+            payload: self.payload.clone()?,
+            starts: self.starts.clone()?,
+        })
+    }
 }
 
 /// Where the entries of a payload begin. Refused [`Error::InvalidBlock`] where the payload does not spell a strict list of
@@ -167,7 +184,7 @@ impl<A: Allocator> DataBlock<A> {
     pub fn is_empty(&self) -> bool
         ensures { IsTrue result ↔ (self.now ≡ []) }
     {
-        self.starts.is_empty()
+        self.len() == 0
     }
 
     #[inline(always)]
@@ -175,7 +192,7 @@ impl<A: Allocator> DataBlock<A> {
         requires { index < length self.now }
         ensures { slice_get self.now index ≡ Some (seen result) }
     {
-        let start = self.starts[index] as usize;
+        let start = self.starts.at(index);
         let bytes = self.payload.as_slice();
         match read_entry(self.version, &bytes[start..]) {
             Some((entry, _)) => entry,
@@ -190,7 +207,8 @@ impl<A: Allocator> DataBlock<A> {
         ensures found { IfOk result (λ e. e ≡ seen entry.now) }
         ensures err { IfErr result (λ e. e ≡ OutOfMemory) }
     {
-        let key_at = self.starts[index] as usize + head_len(self.version);
+        let start = self.starts.at(index);
+        let key_at = start + head_len(self.version);
         let value_at = key_at + entry.key.len();
         let end = value_at + entry.value.len();
         let key = self.payload.slice(key_at, value_at)?;

@@ -1,7 +1,10 @@
 //! Where a block lies.
-ghost use Rattle.std.specs.Prelude.{◌≡◌, ◌+◌, ◌<◌, ◌^◌, IfOk, IfErr};
+ghost use Rattle.std.specs.Prelude.{◌≡◌, ◌+◌, ◌<◌, ◌^◌, ◌↔◌, IsTrue, None, map};
+ghost use Rattle.std.specs.Option.{option_map};
+ghost use Rattle.sst_blocks.specs.Handles.{AreStrictHandles, end_of};
+ghost use Rattle.sst_entries.specs.Strict.{is_strict_after, may_follow};
 
-use crate::{SeqNo, UserKey};
+use crate::{SeqNo, UserKey, compare_versions};
 use std::alloc::{AllocError, Allocator, Global};
 use std::marker::Model;
 
@@ -123,6 +126,23 @@ impl<A: Allocator> KeyedBlockHandle<A> {
         self.inner.size()
     }
 
+    /// Whether the handle may stand behind another in an index block, or at the front where there is none: by end key upward,
+    /// then by number downward.
+    pub fn may_follow(&self, last: Option<&KeyedBlockHandle<A>>) -> bool
+        ensures { result ≡ may_follow (option_map (λ h. end_of h.now) last.entry) (end_of self.now) }
+    {
+        match last {
+            None => true,
+            Some(last) => compare_versions(
+                last.end_key.as_slice(),
+                last.seqno,
+                self.end_key.as_slice(),
+                self.seqno,
+            )
+            .is_lt(),
+        }
+    }
+
     /// Moves the handle towards the end by `delta` bytes.
     pub fn shift(&mut self, delta: BlockOffset)
         requires { self.old.offset + delta.0 < 2 ^ 64 }
@@ -139,4 +159,19 @@ impl<A: Allocator> KeyedBlockHandle<A> {
     {
         self.inner
     }
+}
+
+/// Whether each handle may stand behind the one before it: what an index block asks of its handles.
+pub fn are_strict_handles<A: Allocator>(handles: &[KeyedBlockHandle<A>]) -> bool
+    ensures test { result ≡ is_strict_after None (map end_of handles.now) }
+    ensures means { IsTrue result ↔ AreStrictHandles handles.now }
+{
+    let mut last: Option<&KeyedBlockHandle<A>> = None;
+    for handle in handles {
+        if !handle.may_follow(last) {
+            return false;
+        }
+        last = Some(handle);
+    }
+    true
 }

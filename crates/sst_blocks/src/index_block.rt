@@ -23,20 +23,22 @@ mod iter;
 mod read;
 
 use crate::block::{EMPTY_LEN, Header};
+use crate::starts::Starts;
 use crate::{Block, BlockHandle, BlockOffset, Error, KeyedBlockHandle, SeqNo, Slice, TableVersion};
 use encode::{block_len, put_handles, with_handle};
 pub use iter::Iter;
 pub(crate) use read::handle_starts;
 use read::{HandleRef, head_len, read_handle};
-use std::alloc::{Allocator, Global};
+use std::alloc::{AllocError, Allocator, Global};
 use std::marker::Model;
 
-/// A block of handles in strict order of their end keys and numbers. It shares the table's bytes.
+/// A block of handles in strict order of their end keys and numbers. It shares the table's bytes, and its clones share
+/// all that it holds.
 #[derive(Drop)]
 pub struct IndexBlock<A: Allocator = Global> {
     version: TableVersion,
     payload: Slice<A>,
-    starts: Vec<u32, A>,
+    starts: Starts<A>,
 }
 
 impl<A: Allocator> Model for IndexBlock<A> {
@@ -49,7 +51,22 @@ impl<A: Allocator> Model for IndexBlock<A> {
 
     ghost view = { λ b. unwrap_or (handles_in b.version b.payload) [] };
 
-    ghost invariant = { λ b. HandlesAt b.version b.payload b.starts.items };
+    ghost invariant = { λ b. HandlesAt b.version b.payload b.starts };
+}
+
+impl<A: Allocator> Clone for IndexBlock<A> {
+    ghost use Rattle.std.specs.Prelude.{◌≡◌};
+
+    ghost is_clone = { λ b copy. copy ≡ b };
+
+    /// The same block, which shares all that this one holds. Refused where a count of sharers is refused.
+    fn clone(&self) -> Result<IndexBlock<A>, AllocError> {
+        Ok(IndexBlock {
+            version: self.version,
+            payload: self.payload.clone()?,
+            starts: self.starts.clone()?,
+        })
+    }
 }
 
 /// An upper bound on the length of the block of these handles, with its header, in bytes. It stays at `u64::MAX` where
@@ -97,7 +114,7 @@ impl<A: Allocator> IndexBlock<A> {
         requires { index < length self.now }
         ensures { slice_get self.now index ≡ Some (seen_handle result) }
     {
-        let start = self.starts[index] as usize;
+        let start = self.starts.at(index);
         let bytes = self.payload.as_slice();
         match read_handle(self.version, &bytes[start..]) {
             Some((handle, _)) => handle,
@@ -112,8 +129,9 @@ impl<A: Allocator> IndexBlock<A> {
         ensures err { IfErr result (λ e. e ≡ OutOfMemory) }
     {
         let handle = self.handle_ref(index);
-        let start = self.starts[index] as usize + head_len(self.version);
-        let end_key = self.payload.slice(start, start + handle.end_key.len())?;
+        let start = self.starts.at(index);
+        let key_at = start + head_len(self.version);
+        let end_key = self.payload.slice(key_at, key_at + handle.end_key.len())?;
         let inner = BlockHandle::new(BlockOffset(handle.offset), handle.size);
         Ok(KeyedBlockHandle::new(end_key, handle.seqno, inner))
     }

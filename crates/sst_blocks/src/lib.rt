@@ -9,12 +9,13 @@ mod handle;
 mod index_block;
 mod opened;
 mod source;
+mod starts;
 
 pub use block::{Block, Header, written_blocks_load};
 pub use block_type::BlockType;
 pub use compression::CompressionType;
 pub use data_block::{DataBlock, Iter as DataBlockIter, data_block_bound};
-pub use handle::{BlockHandle, BlockOffset, KeyedBlockHandle};
+pub use handle::{BlockHandle, BlockOffset, KeyedBlockHandle, are_strict_handles};
 pub use index_block::{IndexBlock, Iter as IndexBlockIter, index_block_bound};
 pub use opened::Opened;
 pub use source::{BlockSource, Counted, LoadBlocks};

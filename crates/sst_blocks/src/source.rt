@@ -1,13 +1,13 @@
 //! The only way to the blocks of a table's bytes.
 ghost use Rattle.std.specs.Prelude.{◌≡◌, ◌+◌, ◌<◌, ◌≤◌, ◌^◌, List, ℕ, length, map, slice_range, IfOk, None};
-ghost use Rattle.sst_blocks.specs.Block.{checked_payload, load_told, load_at_told, place_fault, position_fault, Loaded};
+ghost use Rattle.sst_blocks.specs.Block.{checked_payload, checksum_fault, load_told, load_at_told, place_fault, position_fault, Loaded};
 ghost use Rattle.sst_entries.specs.Error.{Gives, Refuses, FaultsFirst};
 ghost use Rattle.sst_blocks.specs.Opened.{counted, none_opened};
 ghost use Rattle.sst_sections.specs.Sections.{body_of, section_in, section_names, trailer_fault};
 ghost use Rattle.sst_blocks.specs.declared.opened.Opened.{Opened};
 
 use crate::block::Header;
-use crate::{Block, BlockHandle, BlockType, Error, Opened, Slice, Toc};
+use crate::{Block, BlockHandle, BlockType, Error, Opened, Slice, Toc, hash};
 use sst_sections::TRAILER_LEN;
 use std::alloc::{AllocError, Allocator, Global};
 use std::marker::Model;
@@ -72,8 +72,8 @@ impl<A: Allocator + Clone> BlockSource<A> {
     /// The block of a kind that a handle names. Refused with the first fault, in this order: [`Error::Truncated`] where the
     /// handle's size is below a header's or passes the body, [`Error::InvalidHeader`] for the mark or the zero bytes,
     /// [`Error::InvalidTag`], [`Error::UnsupportedCompression`], [`Error::InvalidHeader`] for lengths that do not agree,
-    /// [`Error::ChecksumMismatch`], [`Error::InvalidBlock`]; and [`Error::OutOfMemory`], which stands in the place of none
-    /// of the faults before the checksum. Each call counts, also where it refuses.
+    /// [`Error::ChecksumMismatch`], [`Error::InvalidBlock`]; and [`Error::OutOfMemory`], which stands in the place of
+    /// [`Error::InvalidBlock`] alone. Each call counts, also where it refuses.
     pub fn load(
         &self,
         handle: &BlockHandle,
@@ -82,7 +82,7 @@ impl<A: Allocator + Clone> BlockSource<A> {
     ) -> Result<Block<A>, Error>
         ensures told { let body = body_of self.now in
             Gives (λ (b : Loaded). b) result (load_told body handle.now.offset handle.now.size kind) }
-        // What is found before the payload is looked at takes no memory.
+        // What is found up to the checksum takes no memory.
         ensures first { let body = body_of self.now in
             FaultsFirst result (place_fault body handle.now.offset handle.now.size kind) }
         ensures counted { opened.new ≡ counted kind opened.old }
@@ -102,6 +102,7 @@ impl<A: Allocator + Clone> BlockSource<A> {
         if header.data_len != header.uncompressed_len
             || HEADER_LEN + header.data_len as usize != size
         {
+            // Two lengths, or another than the handle's.
             return Err(Error::InvalidHeader);
         }
         self.block(header, kind, start + HEADER_LEN, start + size)
@@ -124,16 +125,19 @@ impl<A: Allocator + Clone> BlockSource<A> {
         opened.count(kind);
         let body = self.body();
         if body.len() < HEADER_LEN || ((body.len() - HEADER_LEN) as u64) < position {
+            // No header ends within the body.
             return Err(Error::Truncated);
         }
         let header_start = position as usize;
         let start = header_start + HEADER_LEN;
         let header = Header::decode(&body[header_start..start], kind)?;
         if header.data_len != header.uncompressed_len {
+            // Two lengths of one payload.
             return Err(Error::InvalidHeader);
         }
         let len = header.data_len as usize;
         if body.len() - start < len {
+            // The payload passes the body.
             return Err(Error::Truncated);
         }
         self.block(header, kind, start, start + len)
@@ -158,10 +162,17 @@ impl<A: Allocator + Clone> BlockSource<A> {
         requires ordered { start ≤ end }
         requires within { end ≤ length (body_of self.now) }
         requires short { end < start + 2 ^ 32 }
-        ensures { Gives (λ (b : Loaded). b) result (checked_payload header.version header.checksum kind (slice_range (body_of self.now) start end)) }
+        ensures told { let payload = slice_range (body_of self.now) start end in
+            Gives (λ (b : Loaded). b) result
+            (checked_payload header.version header.checksum kind payload) }
+        ensures first { let payload = slice_range (body_of self.now) start end in
+            FaultsFirst result (checksum_fault header.checksum payload) }
     {
+        if hash(&self.body()[start..end]) != header.checksum {
+            return Err(Error::ChecksumMismatch);
+        }
         let payload = self.bytes.slice(start, end)?;
-        Block::open(self.alloc.clone()?, header, kind, payload)
+        Block::open(self.alloc.clone()?, header.version, kind, payload)
     }
 }
 

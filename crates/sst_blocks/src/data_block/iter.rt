@@ -1,5 +1,5 @@
 //! The entries of a data block, from both ends.
-ghost use Rattle.std.specs.Prelude.{◌≡◌, ◌-◌, nat_lt};
+ghost use Rattle.std.specs.Prelude.{◌≡◌, ◌-◌, ◌↔◌, [], IsTrue};
 ghost use Rattle.std.specs.Iterator.{at_most};
 ghost use Rattle.std.specs.declared.ops.Bound.TheVariants.{Included, Excluded, Unbounded};
 ghost use Rattle.sst_entries.specs.Point.{lower_place, upper_place, within};
@@ -48,7 +48,7 @@ impl<'a, A: Allocator> Iter<'a, A> {
     pub fn seek(&mut self, key: &[u8]) -> bool
         ensures narrowed { let place = lower_place (Included key.now) self.old.list in
             self.new ≡ span_from place self.old }
-        ensures left { result ≡ nat_lt self.new.from self.new.to }
+        ensures left { IsTrue result ↔ (left_in self.new ≡ [] → ⊥) }
         ensures kept { left_in self.new ≡ within (Included key.now) Unbounded (left_in self.old) }
         ensures both { KeepsUpper (Included key.now) self.old self.new }
         ensures deals { DealsLeft ⟦<Iter<'a, A> as Iterator>⟧.next_gives
@@ -62,7 +62,7 @@ impl<'a, A: Allocator> Iter<'a, A> {
     pub fn seek_exclusive(&mut self, key: &[u8]) -> bool
         ensures narrowed { let place = lower_place (Excluded key.now) self.old.list in
             self.new ≡ span_from place self.old }
-        ensures left { result ≡ nat_lt self.new.from self.new.to }
+        ensures left { IsTrue result ↔ (left_in self.new ≡ [] → ⊥) }
         ensures kept { left_in self.new ≡ within (Excluded key.now) Unbounded (left_in self.old) }
         ensures both { KeepsUpper (Excluded key.now) self.old self.new }
         ensures deals { DealsLeft ⟦<Iter<'a, A> as Iterator>⟧.next_gives
@@ -76,7 +76,7 @@ impl<'a, A: Allocator> Iter<'a, A> {
     pub fn seek_upper(&mut self, key: &[u8]) -> bool
         ensures narrowed { let place = upper_place (Included key.now) self.old.list in
             self.new ≡ span_to place self.old }
-        ensures left { result ≡ nat_lt self.new.from self.new.to }
+        ensures left { IsTrue result ↔ (left_in self.new ≡ [] → ⊥) }
         ensures kept { left_in self.new ≡ within Unbounded (Included key.now) (left_in self.old) }
         ensures both { KeepsLower (Included key.now) self.old self.new }
         ensures deals { DealsLeft ⟦<Iter<'a, A> as Iterator>⟧.next_gives
@@ -90,7 +90,7 @@ impl<'a, A: Allocator> Iter<'a, A> {
     pub fn seek_upper_exclusive(&mut self, key: &[u8]) -> bool
         ensures narrowed { let place = upper_place (Excluded key.now) self.old.list in
             self.new ≡ span_to place self.old }
-        ensures left { result ≡ nat_lt self.new.from self.new.to }
+        ensures left { IsTrue result ↔ (left_in self.new ≡ [] → ⊥) }
         ensures kept { left_in self.new ≡ within Unbounded (Excluded key.now) (left_in self.old) }
         ensures both { KeepsLower (Excluded key.now) self.old self.new }
         ensures deals { DealsLeft ⟦<Iter<'a, A> as Iterator>⟧.next_gives

@@ -1,5 +1,5 @@
 //! The handles of an index block, from both ends.
-ghost use Rattle.std.specs.Prelude.{◌≡◌, ◌+◌, ◌-◌, nat_lt, Some, None};
+ghost use Rattle.std.specs.Prelude.{◌≡◌, ◌+◌, ◌-◌, ◌↔◌, [], IsTrue, Some, None};
 ghost use Rattle.std.specs.Iterator.{at_most};
 ghost use Rattle.sst_blocks.specs.Handles.{window};
 ghost use Rattle.sst_entries.specs.Span.{SpanGives, left_in};
@@ -48,7 +48,7 @@ impl<'a, A: Allocator> Iter<'a, A> {
     pub fn seek(&mut self, key: &[u8], seqno: SeqNo) -> bool
         ensures narrowed { let place = reaching_place (key.now, seqno) self.old.list in
             self.new ≡ span_from place self.old }
-        ensures left { result ≡ nat_lt self.new.from self.new.to }
+        ensures left { IsTrue result ↔ (left_in self.new ≡ [] → ⊥) }
         ensures kept { left_in self.new ≡ window (left_in self.old) (Some (key.now, seqno)) None }
         ensures both { KeepsUpperEdge (key.now, seqno) self.old self.new }
         ensures deals { DealsLeft ⟦<Iter<'a, A> as Iterator>⟧.next_gives
@@ -62,7 +62,7 @@ impl<'a, A: Allocator> Iter<'a, A> {
     /// number is not looked at: versions of the key may go on in the block of a handle that ends with the key.
     pub fn seek_upper(&mut self, key: &[u8], _seqno: SeqNo) -> bool
         ensures narrowed { self.new ≡ span_to (1 + above_place key.now self.old.list) self.old }
-        ensures left { result ≡ nat_lt self.new.from self.new.to }
+        ensures left { IsTrue result ↔ (left_in self.new ≡ [] → ⊥) }
         // Of what was left, the part that stands in the list's window up to the key.
         ensures kept { let upper = window self.old.list None (Some key.now) in
             left_in self.new ≡ left_in (record self.old { list = upper }) }

@@ -1,13 +1,13 @@
 use Rattle.std.proofs.Common.{◌≡◌, ◌+◌, slice_range, sym, subst, ◌∙◌, arith}
 use Rattle.std.specs.Prelude.{Result}
 use Rattle.std.proofs.lemmas.Result.{err_from_is_err_and}
-use Rattle.std.specs.Prelude.{Some, None}
+use Rattle.std.specs.Prelude.{Option, Some}
 use Rattle.sst_entries.specs.declared.error.Error.{Error}
 use Rattle.sst_entries.specs.declared.error.Error.TheVariants.{Truncated, InvalidHeader}
-use Rattle.sst_blocks.specs.Block.{Loaded, load_told, place_fault, checked_payload}
-use Rattle.sst_entries.specs.Error.{Gives}
+use Rattle.sst_blocks.specs.Block.{Loaded, load_told, place_fault, checked_payload, checksum_fault}
+use Rattle.sst_entries.specs.Error.{FaultsFirst, Gives}
 use Rattle.sst_sections.specs.Sections.{body_of}
-use Rattle.sst_blocks.proofs.LoadLemmas.{load_truncated, load_fault, load_lengths, load_checked, place_truncated, place_header, place_lengths, place_fine, none_told}
+use Rattle.sst_blocks.proofs.LoadLemmas.{load_truncated, load_fault, load_lengths, load_checked, place_truncated, place_header, place_lengths, place_checked}
 use Rattle.sst_blocks.proofs.source.BlockSource.load.Goals as goal
 use Rattle.sst_blocks.proofs.source.BlockSource.load.Goals.{then-size-lt-HEADER_LEN-via-then-size-lt-HEADER_LEN, then-size-lt-HEADER_LEN-via-else-size-lt-HEADER_LEN+then-body-size, then-size-lt-HEADER_LEN-via-else-size-lt-HEADER_LEN+else-body-size+then-body-size-2, then-header-via-then-header, then-header-via-else-header+then-header-size}
 
@@ -38,7 +38,7 @@ pub returns-clause-told : goal.returns-clause-told
 returns-clause-told g c =
     let told = load_checked c.body-body.result.now c.offset-start.result.0 c.size-size.result c.args.kind (omega arith) (omega arith) c.in_ok-header.ensures.fault (omega (arith, c.in_ok-header.ensures.data_len, c.in_ok-header.ensures.uncompressed_len)) (omega (arith, c.in_ok-header.ensures.data_len, c.in_ok-header.ensures.uncompressed_len)) in
     let whole : load_told (body_of c.args.self.now) c.args.handle.now.offset c.args.handle.now.size c.args.kind ≡ checked_payload c.in_ok-header.header.version c.in_ok-header.header.checksum c.args.kind (slice_range (body_of c.args.self.now) (c.offset-start.result.0 + 24) (c.offset-start.result.0 + c.size-size.result)) = cc (c.body-body.ensures.body, c.offset-start.ensures, c.size-size.ensures, c.in_ok-header.ensures.version, c.in_ok-header.ensures.checksum) in
-    subst (λ (told : Result Loaded Error). Gives {X = Loaded} {Y = Loaded} (λ b. b) c.block.result told) (sym whole) c.block.ensures
+    subst (λ (told : Result Loaded Error). Gives {X = Loaded} {Y = Loaded} (λ b. b) c.block.result told) (sym whole) c.block.ensures.told
 
 -- what is found before the payload
 
@@ -70,6 +70,6 @@ returns-then-header-clause-first g c =
 
 pub returns-clause-first : goal.returns-clause-first
 returns-clause-first g c =
-    let told = place_fine c.body-body.result.now c.offset-start.result.0 c.size-size.result c.args.kind (omega arith) (omega arith) c.in_ok-header.ensures.fault (omega (arith, c.in_ok-header.ensures.data_len, c.in_ok-header.ensures.uncompressed_len)) (omega (arith, c.in_ok-header.ensures.data_len, c.in_ok-header.ensures.uncompressed_len)) in
-    let none : place_fault (body_of c.args.self.now) c.args.handle.now.offset c.args.handle.now.size c.args.kind ≡ None = cc (c.body-body.ensures.body, c.offset-start.ensures, c.size-size.ensures) in
-    none_told c.block.result (place_fault (body_of c.args.self.now) c.args.handle.now.offset c.args.handle.now.size c.args.kind) none
+    let told = place_checked c.body-body.result.now c.offset-start.result.0 c.size-size.result c.args.kind (omega arith) (omega arith) c.in_ok-header.ensures.fault (omega (arith, c.in_ok-header.ensures.data_len, c.in_ok-header.ensures.uncompressed_len)) (omega (arith, c.in_ok-header.ensures.data_len, c.in_ok-header.ensures.uncompressed_len)) in
+    let whole : place_fault (body_of c.args.self.now) c.args.handle.now.offset c.args.handle.now.size c.args.kind ≡ checksum_fault c.in_ok-header.header.checksum (slice_range (body_of c.args.self.now) (c.offset-start.result.0 + 24) (c.offset-start.result.0 + c.size-size.result)) = cc (c.body-body.ensures.body, c.offset-start.ensures, c.size-size.ensures, c.in_ok-header.ensures.checksum) in
+    subst (λ (fault : Option Error). FaultsFirst c.block.result fault) (sym whole) c.block.ensures.first

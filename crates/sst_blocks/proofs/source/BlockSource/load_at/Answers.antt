@@ -1,13 +1,13 @@
 use Rattle.std.proofs.Common.{◌≡◌, ◌+◌, ◌^◌, slice_range, sym, subst, ◌∙◌, arith}
 use Rattle.std.specs.Prelude.{Result}
 use Rattle.std.proofs.lemmas.Result.{err_from_is_err_and}
-use Rattle.std.specs.Prelude.{Some, None}
+use Rattle.std.specs.Prelude.{Option, Some}
 use Rattle.sst_entries.specs.declared.error.Error.{Error}
 use Rattle.sst_entries.specs.declared.error.Error.TheVariants.{Truncated, InvalidHeader}
-use Rattle.sst_blocks.specs.Block.{Loaded, load_at_told, position_fault, checked_payload}
-use Rattle.sst_entries.specs.Error.{Gives}
+use Rattle.sst_blocks.specs.Block.{Loaded, load_at_told, position_fault, checked_payload, checksum_fault}
+use Rattle.sst_entries.specs.Error.{FaultsFirst, Gives}
 use Rattle.sst_sections.specs.Sections.{body_of}
-use Rattle.sst_blocks.proofs.LoadLemmas.{load_at_truncated, load_at_fault, load_at_lengths, load_at_passes, load_at_checked, loaded_within, range_short, position_truncated, position_header, position_lengths, position_passes, position_fine, none_told}
+use Rattle.sst_blocks.proofs.LoadLemmas.{load_at_truncated, load_at_fault, load_at_lengths, load_at_passes, load_at_checked, loaded_within, range_short, position_truncated, position_header, position_lengths, position_passes, position_checked}
 use Rattle.sst_blocks.proofs.source.BlockSource.load_at.Goals as goal
 use Rattle.sst_blocks.proofs.source.BlockSource.load_at.Goals.{then-body-lt-HEADER_LEN-via-then-body-lt-HEADER_LEN, then-body-lt-HEADER_LEN-via-else-body-lt-HEADER_LEN+then-body-position}
 
@@ -39,14 +39,14 @@ pub returns-clause-told : goal.returns-clause-told
 returns-clause-told g c =
     let told = load_at_checked c.body-body.result.now c.args.position c.args.kind (omega arith) c.in_ok-header.ensures.fault (omega (arith, c.in_ok-header.ensures.data_len, c.in_ok-header.ensures.uncompressed_len)) (omega (arith, c.in_ok-header.ensures.data_len)) in
     let whole : load_at_told (body_of c.args.self.now) c.args.position c.args.kind ≡ checked_payload c.in_ok-header.header.version c.in_ok-header.header.checksum c.args.kind (slice_range (body_of c.args.self.now) (c.args.position + 24) (c.args.position + 24 + c.in_ok-header.header.data_len)) = cc (c.body-body.ensures.body, c.in_ok-header.ensures.version, c.in_ok-header.ensures.checksum, c.in_ok-header.ensures.data_len) in
-    subst (λ (told : Result Loaded Error). Gives {X = Loaded} {Y = Loaded} (λ b. b) c.block.result told) (sym whole) c.block.ensures
+    subst (λ (told : Result Loaded Error). Gives {X = Loaded} {Y = Loaded} (λ b. b) c.block.result told) (sym whole) c.block.ensures.told
 
 pub returns-clause-within : goal.returns-clause-within
 returns-clause-within g c =
     let from = c.args.position + 24 in
     let to = from + c.in_ok-header.header.data_len in
     let size = range_short (body_of c.args.self.now) from c.in_ok-header.header.data_len in
-    loaded_within c.in_ok-header.header.version c.in_ok-header.header.checksum c.args.kind (slice_range (body_of c.args.self.now) from to) from (2 ^ 63) c.block.result c.block.ensures (omega (arith, size, c.body-body.ensures.bound))
+    loaded_within c.in_ok-header.header.version c.in_ok-header.header.checksum c.args.kind (slice_range (body_of c.args.self.now) from to) from (2 ^ 63) c.block.result c.block.ensures.told (omega (arith, size, c.body-body.ensures.bound))
 
 -- what is found before the payload
 
@@ -80,6 +80,6 @@ returns-then-body-start-clause-first g c =
 
 pub returns-clause-first : goal.returns-clause-first
 returns-clause-first g c =
-    let told = position_fine c.body-body.result.now c.args.position c.args.kind (omega arith) c.in_ok-header.ensures.fault (omega (arith, c.in_ok-header.ensures.data_len, c.in_ok-header.ensures.uncompressed_len)) (omega (arith, c.in_ok-header.ensures.data_len)) in
-    let none : position_fault (body_of c.args.self.now) c.args.position c.args.kind ≡ None = cc c.body-body.ensures.body in
-    none_told c.block.result (position_fault (body_of c.args.self.now) c.args.position c.args.kind) none
+    let told = position_checked c.body-body.result.now c.args.position c.args.kind (omega arith) c.in_ok-header.ensures.fault (omega (arith, c.in_ok-header.ensures.data_len, c.in_ok-header.ensures.uncompressed_len)) (omega (arith, c.in_ok-header.ensures.data_len)) in
+    let whole : position_fault (body_of c.args.self.now) c.args.position c.args.kind ≡ checksum_fault c.in_ok-header.header.checksum (slice_range (body_of c.args.self.now) (c.args.position + 24) (c.args.position + 24 + c.in_ok-header.header.data_len)) = cc (c.body-body.ensures.body, c.in_ok-header.ensures.checksum, c.in_ok-header.ensures.data_len) in
+    subst (λ (fault : Option Error). FaultsFirst c.block.result fault) (sym whole) c.block.ensures.first

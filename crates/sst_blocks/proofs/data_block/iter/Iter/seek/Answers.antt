@@ -4,7 +4,7 @@ use Rattle.sst_entries.specs.Entry.{Entry}
 use Rattle.sst_entries.specs.Point.{lower_place}
 use Rattle.sst_entries.specs.Span.{Span}
 use Rattle.sst_blocks.proofs.Narrowing.{sought_lower, keeps_upper}
-use Rattle.sst_blocks.proofs.SpanLemmas.{span_left}
+use Rattle.sst_blocks.proofs.SpanLemmas.{span_left, left_any}
 use Rattle.sst_blocks.proofs.data_block.iter.Iter.seek.Goals as goal
 
 pub returns-clause-kept : goal.returns-clause-kept
@@ -21,3 +21,6 @@ returns-clause-both g c =
 
 pub returns-clause-deals : goal.returns-clause-deals
 returns-clause-deals g c = span_left (record { list = c.self.inside.block.now; from = c.max-self-inside.result; to = c.self.inside.to })
+
+pub returns-clause-left : goal.returns-clause-left
+returns-clause-left g c = left_any (record { list = c.self.inside.block.now; from = c.max-self-inside.result; to = c.self.inside.to }) c.self.invariant

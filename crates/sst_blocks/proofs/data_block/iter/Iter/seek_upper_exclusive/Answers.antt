@@ -1,10 +1,10 @@
-use Rattle.std.proofs.Common.{◌≡◌, ◌∙◌, ap, min}
+use Rattle.std.proofs.Common.{arith, ◌≡◌, ◌∙◌, ap, min}
 use Rattle.std.specs.declared.ops.Bound.TheVariants.{Excluded}
 use Rattle.sst_entries.specs.Entry.{Entry}
 use Rattle.sst_entries.specs.Point.{upper_place}
 use Rattle.sst_entries.specs.Span.{Span}
 use Rattle.sst_blocks.proofs.Narrowing.{sought_upper, keeps_lower}
-use Rattle.sst_blocks.proofs.SpanLemmas.{span_left}
+use Rattle.sst_blocks.proofs.SpanLemmas.{span_left, left_any}
 use Rattle.sst_blocks.proofs.data_block.iter.Iter.seek_upper_exclusive.Goals as goal
 
 pub returns-clause-kept : goal.returns-clause-kept
@@ -21,3 +21,6 @@ returns-clause-both g c =
 
 pub returns-clause-deals : goal.returns-clause-deals
 returns-clause-deals g c = span_left (record { list = c.self.inside.block.now; from = c.self.inside.from; to = c.min-self-inside.result })
+
+pub returns-clause-left : goal.returns-clause-left
+returns-clause-left g c = left_any (record { list = c.self.inside.block.now; from = c.self.inside.from; to = c.min-self-inside.result }) (omega (arith, c.self.invariant, c.min-self-inside.ensures))

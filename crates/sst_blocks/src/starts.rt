@@ -1,0 +1,68 @@
+//! Where the entries or the handles of a payload begin.
+ghost use Rattle.std.specs.Prelude.{◌≡◌, ◌<◌, ◌^◌, Some, length, IfOk, IfErr};
+ghost use Rattle.std.specs.List.{slice_get};
+ghost use Rattle.sst_entries.specs.declared.error.Error.TheVariants.{OutOfMemory};
+
+use crate::Error;
+use std::alloc::{AllocError, Allocator, Global};
+use std::marker::Model;
+use std::sync::ArcSlice;
+
+/// The places in a payload where its entries or handles begin, which all clones of a block share. A contract sees the list.
+#[derive(Drop)]
+pub(crate) struct Starts<A: Allocator = Global> {
+    places: ArcSlice<u32, A>,
+}
+
+impl<A: Allocator> Model for Starts<A> {
+    ghost use Rattle.std.specs.Arc.{arc_slice_items};
+    ghost use Rattle.std.specs.Prelude.{ℕ, List};
+
+    ghost Value = { List ℕ };
+
+    ghost view = { λ s. arc_slice_items s.places };
+}
+
+impl<A: Allocator> Clone for Starts<A> {
+    ghost use Rattle.std.specs.Prelude.{◌≡◌};
+
+    ghost is_clone = { λ s copy. copy ≡ s };
+
+    fn clone(&self) -> Result<Starts<A>, AllocError> {
+        Ok(Starts {
+            places: self.places.clone()?,
+        })
+    }
+}
+
+impl<A: Allocator + Clone> Starts<A> {
+    /// These places, which are not copied. Refused [`Error::OutOfMemory`] alone.
+    pub(crate) fn new(places: Vec<u32, A>) -> Result<Starts<A>, Error>
+        ensures ok { IfOk result (λ s. s ≡ places.items) }
+        ensures err { IfErr result (λ e. e ≡ OutOfMemory) }
+    {
+        Ok(Starts {
+            places: ArcSlice::from_vec(places)?,
+        })
+    }
+}
+
+impl<A: Allocator> Starts<A> {
+    /// How many there are.
+    #[inline(always)]
+    pub(crate) fn len(&self) -> usize
+        ensures { result ≡ length self.now }
+    {
+        self.places.as_slice().len()
+    }
+
+    /// The place of an entry or a handle.
+    #[inline(always)]
+    pub(crate) fn at(&self, index: usize) -> usize
+        requires { index < length self.now }
+        ensures found { slice_get self.now index ≡ Some result }
+        ensures short { result < 2 ^ 32 }
+    {
+        self.places.as_slice()[index] as usize
+    }
+}
