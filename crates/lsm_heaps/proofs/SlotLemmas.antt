@@ -85,3 +85,7 @@ IsFreeList-empty places free room s x low is f =
           (λ (e : j ≡ length free). let w : get_or (free ++ s ∷ []) j 0 ≡ s = rw e at_end in other i before (sym (same i before) ∙ q ∙ w))
           (split j k);
     }
+
+-- what is below a number that another equals is below that
+pub below_both : (a b n count : ℕ) → a ≡ n → b ≡ count → n < count → a < b
+below_both a b n count e f low = omega arith

@@ -1,5 +1,5 @@
--- A list as a tree of intervals: node i has the places 2i and 2i + 1, for its low and its high end, and the children 2i + 1
--- and 2i + 2. A last node with one place has it for both ends.
+-- A list as a tree of intervals: node i has the places 2i and 2i + 1, for its low and its high end,
+-- and the children 2i + 1 and 2i + 2. A last node with one place has it for both ends.
 use Rattle.std.specs.Prelude.{◌≡◌, ◌≢◌, ◌⊎◌, ℕ, ◌+◌, ◌-◌, ◌*◌, ◌/◌, ◌%◌, ◌<◌, ◌≤◌, false, List, length, min, slice_index_or}
 use Rattle.std.specs.declared.cmp.Ordering.{Ordering}
 use Rattle.std.specs.Ordering.{is_gt}
@@ -35,7 +35,8 @@ Precedes n a b = IsLowAbove n a b ⊎ (IsNode n a b ⊎ IsHighAbove n a b)
 
 -- the intervals of children lie in that of their parent
 abbrev pub IsIntervalHeap : {T : Type 0} → (T → T → Ordering) → List T → Type 0
-IsIntervalHeap {T} cmp xs = (d : T) (a b : ℕ) → Precedes (length xs) a b → is_gt (cmp (slice_index_or xs a d) (slice_index_or xs b d)) ≡ false
+IsIntervalHeap {T} cmp xs = (d : T) (a b : ℕ) → Precedes (length xs) a b
+    → is_gt (cmp (slice_index_or xs a d) (slice_index_or xs b d)) ≡ false
 
 -- the same, seen from one end
 abbrev pub PrecedesOn : Direction → ℕ → ℕ → ℕ → Type 0
@@ -64,25 +65,31 @@ IsOtherAbove Back k b = (b % 2 ≡ 0) × (2 * b + 2 ≤ k) × (k < 2 * b + 6)
 
 -- the item at a does not come after the one at b, seen from this end
 abbrev pub InOrder : {T : Type 0} → Direction → (T → T → Ordering) → List T → ℕ → ℕ → Type 0
-InOrder {T} side cmp xs a b = (d : T) → is_gt (toward side cmp (slice_index_or xs a d) (slice_index_or xs b d)) ≡ false
+InOrder {T} side cmp xs a b =
+    (d : T) → is_gt (toward side cmp (slice_index_or xs a d) (slice_index_or xs b d)) ≡ false
 
 -- only the item at this place may come before the one above it
-pub record IsRisingAt {T : Type 0} (side : Direction) (cmp : T → T → Ordering) (xs : List T) (at : ℕ) : Type 0 where
+pub record IsRisingAt {T : Type 0} (side : Direction) (cmp : T → T → Ordering) (xs : List T)
+    (at : ℕ) : Type 0 where
   pub within : at < length xs
   pub end : IsEnd side (length xs) at
   pub others : (a b : ℕ) → PrecedesOn side (length xs) a b → b ≢ at → InOrder side cmp xs a b
-  pub around : (a b : ℕ) → PrecedesOn side (length xs) a at → PrecedesOn side (length xs) at b → InOrder side cmp xs a b
+  pub around : (a b : ℕ) → PrecedesOn side (length xs) a at → PrecedesOn side (length xs) at b
+      → InOrder side cmp xs a b
 
 -- only the item at this place may come after those below it
-pub record IsSinkingAt {T : Type 0} (side : Direction) (cmp : T → T → Ordering) (xs : List T) (at : ℕ) : Type 0 where
+pub record IsSinkingAt {T : Type 0} (side : Direction) (cmp : T → T → Ordering) (xs : List T)
+    (at : ℕ) : Type 0 where
   pub within : at < length xs
   pub end : IsEnd side (length xs) at
   pub others : (a b : ℕ) → PrecedesOn side (length xs) a b → a ≢ at → InOrder side cmp xs a b
-  pub around : (a b : ℕ) → PrecedesOn side (length xs) a at → PrecedesOn side (length xs) at b → InOrder side cmp xs a b
+  pub around : (a b : ℕ) → PrecedesOn side (length xs) a at → PrecedesOn side (length xs) at b
+      → InOrder side cmp xs a b
   pub below_other : (b : ℕ) → IsOtherAbove side at b → InOrder side cmp xs at b
 
 -- at this place it may be so, or nothing is at this place and all is in order
-pub record SinksFrom {T : Type 0} (side : Direction) (cmp : T → T → Ordering) (xs : List T) (at : ℕ) : Type 0 where
+pub record SinksFrom {T : Type 0} (side : Direction) (cmp : T → T → Ordering) (xs : List T)
+    (at : ℕ) : Type 0 where
   pub inside : at < length xs → IsSinkingAt side cmp xs at
   pub past : length xs ≤ at → IsIntervalHeap cmp xs
 

@@ -17,8 +17,10 @@ items_of (Some x ∷ places) = x ∷ items_of places
 abbrev pub slot_at : {T : Type 0} → List (Option T) → ℕ → Option T
 slot_at places k = slice_index_or places k None
 
--- with the items that are held, as many slots are listed as there is room for; they are empty, and none is listed twice
-pub record IsFreeList {T : Type 0} (places : List (Option T)) (free : List ℕ) (room : ℕ) : Type 0 where
+-- beside the items, as many slots are listed as there is room for; they are empty, and none is
+-- listed twice
+pub record IsFreeList {T : Type 0} (places : List (Option T)) (free : List ℕ)
+    (room : ℕ) : Type 0 where
   pub count : length (items_of places) + length free ≡ room
   pub within : (i : ℕ) → i < length free → slice_index free i < length places
   pub empty : (i : ℕ) → i < length free → slot_at places (slice_index free i) ≡ None

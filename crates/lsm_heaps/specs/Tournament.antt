@@ -3,7 +3,8 @@ use Rattle.std.specs.Prelude.{◌≡◌, ℕ, zero, suc, ◌+◌, ◌-◌, ◌^�
 use Rattle.sst_entries.specs.declared.stream.Direction.{Direction}
 use Rattle.sst_entries.specs.declared.stream.Direction.TheVariants.{Front, Back}
 
--- the items, how many there is room for, how often two items were compared, and at which ends matches are played
+-- the items, in no order that callers may rest on, how many there is room for, how often two items
+-- were compared (or `u64::MAX` where it was more often), and at which ends matches are played
 pub record Contest (T : Type 0) : Type 0 where
   pub items : List T
   pub room : ℕ
@@ -19,14 +20,10 @@ held t = t.items
 abbrev pub room : {T : Type 0} → Contest T → ℕ
 room t = t.room
 
--- how often two items were compared, or `u64::MAX` where it was more often
-abbrev pub steps : {T : Type 0} → Contest T → ℕ
-steps t = t.steps
-
 -- from the old one to the new one at most n comparisons were made
 pub record PlaysAtMost {T : Type 0} (n : ℕ) (old new : Contest T) : Type 0 where
-  pub rises : steps old ≤ steps new
-  pub bound : steps new ≤ steps old + n
+  pub rises : old.steps ≤ new.steps
+  pub bound : new.steps ≤ old.steps + n
 
 -- how many of the first k powers of two, from 1 on, are below n
 abbrev pub powers_below : ℕ → ℕ → ℕ
@@ -37,22 +34,22 @@ powers_below n (suc k) = if nat_lt (2 ^ k) n then powers_below n k + 1 else powe
 abbrev pub height : ℕ → ℕ
 height n = powers_below n n
 
--- h for each end at which matches are played
-abbrev pub for_each_end : Bool → Bool → ℕ → ℕ
-for_each_end front back h = (if front then h else 0) + (if back then h else 0)
+-- h for each end that plays
+abbrev pub total_height : Bool → Bool → ℕ → ℕ
+total_height front back h = (if front then h else 0) + (if back then h else 0)
 
--- as many matches are played again where one item has changed
-abbrev pub replayed : {T : Type 0} → Contest T → ℕ
-replayed t = for_each_end t.plays_front t.plays_back (height (room t))
+-- how many matches are played again, at most, where one item has changed
+abbrev pub rematches : {T : Type 0} → Contest T → ℕ
+rematches t = total_height t.plays_front t.plays_back (height t.room)
 
 -- whether matches are played at this end
 abbrev pub plays_at : {T : Type 0} → Direction → Contest T → Bool
 plays_at Front t = t.plays_front
 plays_at Back t = t.plays_back
 
--- as many matches are played where this end is asked first
+-- how many matches a first pop at this end plays, at most: those of all nodes above the leaves
 abbrev pub first_round : {T : Type 0} → Direction → Contest T → ℕ
-first_round end t = if plays_at end t then 0 else 2 ^ height (room t) - 1
+first_round end t = if plays_at end t then 0 else 2 ^ height t.room - 1
 
 -- the same ends play
 pub record SameEnds {T : Type 0} (old new : Contest T) : Type 0 where

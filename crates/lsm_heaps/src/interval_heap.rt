@@ -3,7 +3,6 @@ ghost use Rattle.std.specs.Prelude.{◌≡◌, ◌⊎◌, ℕ, ◌+◌, ◌*◌,
 ghost use Rattle.sst_entries.specs.declared.error.Error.TheVariants.{OutOfMemory};
 ghost use Rattle.lsm_heaps.specs.Bag.{IsLeast, IsGreatest};
 ghost use Rattle.lsm_heaps.specs.Order.{toward};
-ghost use Rattle.lsm_heaps.specs.IntervalHeap.{held, room};
 
 mod intervals;
 
@@ -14,10 +13,11 @@ use std::marker::Model;
 
 /// A priority queue that gives up its least and its greatest item.
 ///
-/// It is an interval heap (van Leeuwen and Wood, "Interval Heaps", The Computer Journal 36, 1993): one vector, seen as a
-/// tree whose node i has the items at 2i and 2i + 1, the ends of an interval that all the intervals below it lie in. A push
-/// or a pop takes a number of comparisons that grows with the logarithm of the length. Memory is taken by
-/// [`IntervalHeap::with_capacity`] alone. Which of equal items comes first is open.
+/// It is an interval heap (van Leeuwen and Wood, "Interval Heaps", The Computer Journal 36, 1993):
+/// one vector, seen as a tree whose node i has the items at 2i and 2i + 1, the ends of an interval
+/// that all the intervals below it lie in. A push or a pop takes a number of comparisons that grows
+/// with the logarithm of the length. Memory is taken by [`IntervalHeap::with_capacity`] alone. Which
+/// of equal items comes first is open.
 #[derive(Drop)]
 pub struct IntervalHeap<T: Ord, A: Allocator = Global> {
     items: Vec<T, A>,
@@ -40,8 +40,8 @@ impl<T: Ord, A: Allocator> IntervalHeap<T, A> {
     ///
     /// `Error::OutOfMemory` where memory is refused, and no other error.
     pub fn with_capacity(alloc: A, capacity: usize) -> Result<Self, Error>
-        ensures empty { IfOk result (λ h. held h ≡ []) }
-        ensures room { IfOk result (λ h. room h ≡ capacity) }
+        ensures empty { IfOk result (λ h. h.items ≡ []) }
+        ensures room { IfOk result (λ h. h.room ≡ capacity) }
         ensures err { IfErr result (λ e. e ≡ OutOfMemory) }
     {
         Ok(IntervalHeap {
@@ -51,16 +51,16 @@ impl<T: Ord, A: Allocator> IntervalHeap<T, A> {
 
     /// How many items there are.
     pub fn len(&self) -> usize
-        ensures { result ≡ length (held self.now) }
+        ensures { result ≡ length self.now.items }
     {
         self.items.len()
     }
 
     /// Takes in an item, for which there is room.
     pub fn push(&mut self, item: T)
-        requires { length (held self.old) < room self.old }
-        ensures items { IsPermutation (item ∷ held self.old) (held self.new) }
-        ensures room { room self.new ≡ room self.old }
+        requires { length self.old.items < self.old.room }
+        ensures items { IsPermutation (item ∷ self.old.items) self.new.items }
+        ensures room { self.new.room ≡ self.old.room }
     {
         self.items.push_reserved(item);
         order_last(&mut self.items);
@@ -68,33 +68,33 @@ impl<T: Ord, A: Allocator> IntervalHeap<T, A> {
 
     /// Takes out an item that no other is less than, or `None` from an empty heap.
     pub fn pop_min(&mut self) -> Option<T>
-        ensures none { IfNone result (held self.old ≡ []) }
-        ensures unchanged { IfNone result (held self.new ≡ []) }
-        ensures taken { IfSome result (λ x. IsPermutation (held self.old) (x ∷ held self.new)) }
-        ensures least { IfSome result (λ x. IsLeast T.cmp x (held self.old)) }
-        ensures room { room self.new ≡ room self.old }
+        ensures none { IfNone result (self.old.items ≡ []) }
+        ensures unchanged { IfNone result (self.new.items ≡ []) }
+        ensures taken { IfSome result (λ x. IsPermutation self.old.items (x ∷ self.new.items)) }
+        ensures least { IfSome result (λ x. IsLeast T.cmp x self.old.items) }
+        ensures room { self.new.room ≡ self.old.room }
     {
         self.pop(Direction::Front)
     }
 
     /// Takes out an item that no other is greater than, or `None` from an empty heap.
     pub fn pop_max(&mut self) -> Option<T>
-        ensures none { IfNone result (held self.old ≡ []) }
-        ensures unchanged { IfNone result (held self.new ≡ []) }
-        ensures taken { IfSome result (λ x. IsPermutation (held self.old) (x ∷ held self.new)) }
-        ensures greatest { IfSome result (λ x. IsGreatest T.cmp x (held self.old)) }
-        ensures room { room self.new ≡ room self.old }
+        ensures none { IfNone result (self.old.items ≡ []) }
+        ensures unchanged { IfNone result (self.new.items ≡ []) }
+        ensures taken { IfSome result (λ x. IsPermutation self.old.items (x ∷ self.new.items)) }
+        ensures greatest { IfSome result (λ x. IsGreatest T.cmp x self.old.items) }
+        ensures room { self.new.room ≡ self.old.room }
     {
         self.pop(Direction::Back)
     }
 
     // Takes out the first item as seen from an end.
     fn pop(&mut self, end: Direction) -> Option<T>
-        ensures none { IfNone result (held self.old ≡ []) }
-        ensures unchanged { IfNone result (held self.new ≡ []) }
-        ensures taken { IfSome result (λ x. IsPermutation (held self.old) (x ∷ held self.new)) }
-        ensures first { IfSome result (λ x. IsLeast (toward end T.cmp) x (held self.old)) }
-        ensures room { room self.new ≡ room self.old }
+        ensures none { IfNone result (self.old.items ≡ []) }
+        ensures unchanged { IfNone result (self.new.items ≡ []) }
+        ensures taken { IfSome result (λ x. IsPermutation self.old.items (x ∷ self.new.items)) }
+        ensures first { IfSome result (λ x. IsLeast (toward end T.cmp) x self.old.items) }
+        ensures room { self.new.room ≡ self.old.room }
     {
         if self.items.is_empty() {
             return None;

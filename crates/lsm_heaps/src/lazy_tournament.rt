@@ -5,7 +5,7 @@ ghost use Rattle.sst_entries.specs.declared.error.Error.TheVariants.{OutOfMemory
 ghost use Rattle.sst_entries.specs.declared.stream.Direction.TheVariants.{Front, Back};
 ghost use Rattle.lsm_heaps.specs.Bag.{IsLeast, IsGreatest};
 ghost use Rattle.lsm_heaps.specs.Order.{toward};
-ghost use Rattle.lsm_heaps.specs.Tournament.{replayed, first_round, PlaysAtMost, SameEnds, PlaysFrom};
+ghost use Rattle.lsm_heaps.specs.Tournament.{rematches, first_round, PlaysAtMost, SameEnds, PlaysFrom};
 
 mod brackets;
 mod slots;
@@ -16,14 +16,15 @@ use sst_entries::{Direction, Error};
 use std::alloc::{Allocator, Global};
 use std::marker::Model;
 
-/// A [`Tournament`](crate::Tournament) in which the matches of an end are played from the first pop at
-/// that end on.
+/// A [`Tournament`](crate::Tournament) in which the matches of an end are played from the first pop
+/// at that end on.
 ///
-/// That first pop plays them all, fewer comparisons than there are slots (`2^h`, the least power of two
-/// that is the capacity or more). From then on each push and pop, at either end, takes `h` comparisons
-/// for that end at most. So where only [`LazyTournament::pop_min`] is called, no match is ever played
-/// for the greatest item, and a push before the first pop compares nothing. Memory is taken by
-/// [`LazyTournament::with_capacity`] alone. Which of equal items comes first is open.
+/// That first pop plays them all, one comparison fewer than there are slots at most (`2^h`, the least
+/// power of two that is the capacity or more). From then on each push and pop, at either end, takes
+/// `h` comparisons for that end at most. So where only [`LazyTournament::pop_min`] is called, no
+/// match is ever played for the greatest item, and a push before the first pop compares nothing.
+/// Memory is taken by [`LazyTournament::with_capacity`] alone. Which of equal items comes first is
+/// open.
 #[derive(Drop)]
 pub struct LazyTournament<T: Ord, A: Allocator = Global> {
     slots: Slots<T, A>,
@@ -104,7 +105,7 @@ impl<T: Ord, A: Allocator> LazyTournament<T, A> {
         requires { length self.old.items < self.old.room }
         ensures items { IsPermutation (item ∷ self.old.items) self.new.items }
         ensures room { self.new.room ≡ self.old.room }
-        ensures steps { PlaysAtMost (replayed self.old) self.old self.new }
+        ensures steps { PlaysAtMost (rematches self.old) self.old self.new }
         ensures ends { SameEnds self.old self.new }
     {
         let slot = self.slots.insert(item);
@@ -119,7 +120,7 @@ impl<T: Ord, A: Allocator> LazyTournament<T, A> {
         ensures taken { IfSome result (λ x. IsPermutation self.old.items (x ∷ self.new.items)) }
         ensures least { IfSome result (λ x. IsLeast T.cmp x self.old.items) }
         ensures room { self.new.room ≡ self.old.room }
-        ensures steps { PlaysAtMost (replayed self.old + first_round Front self.old) self.old
+        ensures steps { PlaysAtMost (rematches self.old + first_round Front self.old) self.old
             self.new }
         ensures front { self.new.plays_front ≡ true }
         ensures back { self.new.plays_back ≡ self.old.plays_back }
@@ -134,7 +135,7 @@ impl<T: Ord, A: Allocator> LazyTournament<T, A> {
         ensures taken { IfSome result (λ x. IsPermutation self.old.items (x ∷ self.new.items)) }
         ensures greatest { IfSome result (λ x. IsGreatest T.cmp x self.old.items) }
         ensures room { self.new.room ≡ self.old.room }
-        ensures steps { PlaysAtMost (replayed self.old + first_round Back self.old) self.old
+        ensures steps { PlaysAtMost (rematches self.old + first_round Back self.old) self.old
             self.new }
         ensures front { self.new.plays_front ≡ self.old.plays_front }
         ensures back { self.new.plays_back ≡ true }
@@ -150,7 +151,7 @@ impl<T: Ord, A: Allocator> LazyTournament<T, A> {
         ensures taken { IfSome result (λ x. IsPermutation self.old.items (x ∷ self.new.items)) }
         ensures first { IfSome result (λ x. IsLeast (toward end T.cmp) x self.old.items) }
         ensures room { self.new.room ≡ self.old.room }
-        ensures steps { PlaysAtMost (replayed self.old + first_round end self.old) self.old
+        ensures steps { PlaysAtMost (rematches self.old + first_round end self.old) self.old
             self.new }
         ensures plays { PlaysFrom end self.old self.new }
     {

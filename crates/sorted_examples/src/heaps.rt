@@ -1,8 +1,7 @@
-//! Both priority queues against a count of each number, and what they take of memory.
+//! The priority queues against a count of each number, and what they take of memory.
 ghost use Rattle.std.specs.Prelude.{◌≡◌};
-ghost use Rattle.lsm_sorted.specs.IntervalHeap as interval;
-ghost use Rattle.lsm_sorted.specs.Tournament as tournament;
 
+use lsm_heaps::LazyTournament;
 use lsm_sorted::{IntervalHeap, Tournament};
 use refusing::{Refusing, each_refused};
 use sst_entries::Error;
@@ -82,8 +81,8 @@ fn pop_alike(
     counts: &mut Counts,
     least: bool,
 ) -> bool
-    ensures queue { tournament.room queue.new ≡ tournament.room queue.old }
-    ensures heap { interval.room heap.new ≡ interval.room heap.old }
+    ensures queue { queue.new.room ≡ queue.old.room }
+    ensures heap { heap.new.room ≡ heap.old.room }
 {
     if least {
         let want = counts.take_least();
@@ -104,7 +103,8 @@ fn give_up_nothing(queue: &mut Tournament<u8>, heap: &mut IntervalHeap<u8>) -> b
         && heap.pop_max().is_none()
 }
 
-// Whether both queues give the least and the greatest number in turn as the pattern has it, and then none.
+// Whether both queues give the least and the greatest number in turn as the pattern has it, and then
+// none.
 fn agree(alloc: Global, items: &[u8], mut pattern: u32) -> Result<bool, Error> {
     let mut tournament = tournament_of(alloc, items)?;
     let mut heap = interval_heap_of(alloc, items)?;
@@ -141,7 +141,8 @@ fn each_list_of_six_in_each_pattern_of_pops(rt: HostRuntime) -> Result<(), Fail>
     Ok(())
 }
 
-// Whether both queues, with room for four, agree while they are pushed to and popped, as the digits of the code have it.
+// Whether both queues, with room for four, agree while they are pushed to and popped, as the digits
+// of the code have it.
 fn agree_in_turns(alloc: Global, mut code: u32, turns: u8) -> Result<bool, Error> {
     let mut tournament = Tournament::with_capacity(alloc, 4)?;
     let mut heap = IntervalHeap::with_capacity(alloc, 4)?;
@@ -174,10 +175,46 @@ fn pushes_and_pops_in_turns(rt: HostRuntime) -> Result<(), Fail> {
     Ok(())
 }
 
+// Whether a lazy tournament with room for four gives up what is counted, while it is pushed to and
+// popped as the digits of the code have it.
+fn is_counted_in_turns(alloc: Global, mut code: u32, turns: u8) -> Result<bool, Error> {
+    let mut queue = LazyTournament::with_capacity(alloc, 4)?;
+    let mut counts = Counts { of: [0; 3] };
+    for turn in 0..turns {
+        match code % 3 {
+            0 if queue.len() < 4 => {
+                queue.push(turn % 3);
+                counts.put(turn % 3);
+            }
+            1 => {
+                if queue.pop_min() != counts.take_least() {
+                    return Ok(false);
+                }
+            }
+            _ => {
+                if queue.pop_max() != counts.take_greatest() {
+                    return Ok(false);
+                }
+            }
+        }
+        code /= 3;
+    }
+    Ok(true)
+}
+
+#[test]
+fn lazy_pushes_and_pops_in_turns(rt: HostRuntime) -> Result<(), Fail> {
+    for code in 0..6561 {
+        let counted = is_counted_in_turns(rt.alloc(), code, 8)?;
+        assert!(rt; counted, "{code}");
+    }
+    Ok(())
+}
+
 // Pushes to one with room for four, and says how many steps were made.
 fn push_to_four(queue: &mut Tournament<char>, item: char) -> u64
-    requires { tournament.room queue.old ≡ 4 }
-    ensures { tournament.room queue.new ≡ 4 }
+    requires { queue.old.room ≡ 4 }
+    ensures { queue.new.room ≡ 4 }
 {
     if queue.len() < 4 {
         queue.push(item);
@@ -185,9 +222,10 @@ fn push_to_four(queue: &mut Tournament<char>, item: char) -> u64
     queue.steps()
 }
 
-// Pushes four letters to one with room for four, and answers the steps after each, and how many items there are.
+// Pushes four letters to one with room for four, and answers the steps after each, and how many items
+// there are.
 fn push_four(queue: &mut Tournament<char>) -> ([u64; 4], usize)
-    requires { tournament.room queue.old ≡ 4 }
+    requires { queue.old.room ≡ 4 }
 {
     let steps = [
         push_to_four(queue, 'd'),
@@ -220,6 +258,45 @@ fn one_pushed_and_popped(alloc: Global) -> Result<(u64, Option<char>, u64, usize
     Ok((queue.steps(), queue.pop_max(), queue.steps(), queue.len()))
 }
 
+// Pushes to a lazy one with room for four, and says how many steps were made.
+fn push_to_lazy(queue: &mut LazyTournament<char>, item: char) -> u64
+    requires { queue.old.room ≡ 4 }
+    ensures { queue.new.room ≡ 4 }
+{
+    if queue.len() < 4 {
+        queue.push(item);
+    }
+    queue.steps()
+}
+
+// What a lazy one gives up of four letters, at the front twice, at the back and at the front, and the
+// steps after the pushes and after each pop.
+fn lazily_popped(alloc: Global) -> Result<(u64, [(Option<char>, u64); 4]), Error> {
+    let mut queue = LazyTournament::with_capacity(alloc, 4)?;
+    push_to_lazy(&mut queue, 'd');
+    push_to_lazy(&mut queue, 'b');
+    push_to_lazy(&mut queue, 'c');
+    let pushed = push_to_lazy(&mut queue, 'a');
+    let popped = [
+        (queue.pop_min(), queue.steps()),
+        (queue.pop_min(), queue.steps()),
+        (queue.pop_max(), queue.steps()),
+        (queue.pop_min(), queue.steps()),
+    ];
+    Ok((pushed, popped))
+}
+
+#[test]
+fn an_end_that_is_not_asked_plays_no_match(rt: HostRuntime) -> Result<(), Fail> {
+    let (pushed, popped) = lazily_popped(rt.alloc())?;
+    assert_eq!(rt; pushed, 0);
+    // Three matches at the first pop, and one after 'a' has gone. Then one more for the least, after
+    // 'b' has gone, and one for the greatest: the others have no opponent. None at the last.
+    let want = [(Some('a'), 3), (Some('b'), 4), (Some('d'), 6), (Some('c'), 6)];
+    assert_eq!(rt; popped, want);
+    Ok(())
+}
+
 #[test]
 fn steps_are_the_matches_played(rt: HostRuntime) -> Result<(), Fail> {
     assert_eq!(rt; one_pushed_and_popped(rt.alloc())?, (0, Some('a'), 0, 0));
@@ -233,7 +310,7 @@ fn steps_are_the_matches_played(rt: HostRuntime) -> Result<(), Fail> {
 
 // Pushes and pops in a tournament with room for two, over and over.
 fn reuse_tournament<A: Allocator>(queue: &mut Tournament<u8, A>) -> bool
-    requires { tournament.room queue.old ≡ 2 }
+    requires { queue.old.room ≡ 2 }
 {
     for number in 0..5 {
         if queue.len() < 2 {
@@ -251,7 +328,7 @@ fn reuse_tournament<A: Allocator>(queue: &mut Tournament<u8, A>) -> bool
 
 // The same with an interval heap.
 fn reuse_interval_heap<A: Allocator>(queue: &mut IntervalHeap<u8, A>) -> bool
-    requires { interval.room queue.old ≡ 2 }
+    requires { queue.old.room ≡ 2 }
 {
     for number in 0..5 {
         if queue.len() < 2 {

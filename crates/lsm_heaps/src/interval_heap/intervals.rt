@@ -101,7 +101,8 @@ fn order_node<T: Ord>(items: &mut [T], side: Direction, place: usize)
     requires { IsSinkingAt side T.cmp items.old place }
     ensures items { IsPermutation items.old items.new }
     ensures sinking { IsSinkingAt side T.cmp items.new place }
-    ensures ordered { (b : ℕ) → PrecedesOn side (length items.new) place b → b / 2 ≡ place / 2 → InOrder side T.cmp items.new place b }
+    ensures ordered { (b : ℕ) → PrecedesOn side (length items.new) place b →
+        b / 2 ≡ place / 2 → InOrder side T.cmp items.new place b }
 {
     let other = if place % 2 == 0 { place + 1 } else { place - 1 };
     if other < items.len() && is_before(side, &items[other], &items[place]) {
@@ -115,7 +116,8 @@ fn first_child<T: Ord>(items: &[T], side: Direction, place: usize) -> Option<usi
     requires end { IsEnd side (length items.now) place }
     ensures none { IfNone result ((b : ℕ) → IsChildEnd side (length items.now) place b → ⊥) }
     ensures some { IfSome result (λ c. IsChildEnd side (length items.now) place c) }
-    ensures first { IfSome result (λ c. (b : ℕ) → IsChildEnd side (length items.now) place b → InOrder side T.cmp items.now c b) }
+    ensures first { IfSome result (λ c. (b : ℕ) → IsChildEnd side (length items.now) place b →
+        InOrder side T.cmp items.now c b) }
 {
     let child = place / 2 * 2 + 1;
     let left = end_of(side, child, items.len())?;

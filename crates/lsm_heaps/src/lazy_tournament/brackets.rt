@@ -4,16 +4,16 @@ ghost use Rattle.std.specs.Ordering.{is_gt};
 ghost use Rattle.sst_entries.specs.declared.stream.Direction.TheVariants.{Front, Back};
 ghost use Rattle.lsm_heaps.specs.Order.{toward};
 ghost use Rattle.lsm_heaps.specs.Slots.{slot_at};
-ghost use Rattle.lsm_heaps.specs.Tournament.{for_each_end};
+ghost use Rattle.lsm_heaps.specs.Tournament.{total_height};
 ghost use Rattle.lsm_heaps.specs.Brackets.{is_beaten, IsUnbeaten, IsBracket, IsUnplayed, IsWon, WasWon, IsKept, AreKept, PlaysEnd, is_played_at};
 
 use crate::order::is_before;
 use sst_entries::Direction;
 use std::alloc::{AllocError, Allocator};
 
-// A full binary tree whose leaves are the slots, in which each inner node names the winner of its two
-// children. Node 1 is the root, and the children of node n are 2n and 2n + 1. Before the matches are
-// first played, it is open which slots the inner nodes name.
+// A full binary tree whose leaves are the slots, in which each inner node names the winner of its
+// two children. Node 1 is the root, and the children of node n are 2n and 2n + 1. Before the matches
+// are first played, it is open which slots the inner nodes name.
 #[derive(Drop)]
 pub struct Bracket<A: Allocator> {
     pub(crate) end: Direction,
@@ -65,7 +65,7 @@ impl<A: Allocator> Brackets<A> {
         ensures plays { PlaysEnd end self.old self.new }
         ensures rises { self.old.steps ≤ self.new.steps }
         ensures bound { (h : ℕ) → length slots.now ≡ 2 ^ h → self.new.steps ≤ self.old.steps
-            + for_each_end self.old.front.is_played self.old.back.is_played h
+            + total_height self.old.front.is_played self.old.back.is_played h
             + (if is_played_at end self.old then 0 else length slots.now - 1) }
     {
         self.settle(slots);
@@ -84,7 +84,7 @@ impl<A: Allocator> Brackets<A> {
         ensures back { self.new.back.is_played ≡ self.old.back.is_played }
         ensures rises { self.old.steps ≤ self.new.steps }
         ensures bound { (h : ℕ) → length slots.now ≡ 2 ^ h → self.new.steps ≤ self.old.steps
-            + for_each_end self.old.front.is_played self.old.back.is_played h }
+            + total_height self.old.front.is_played self.old.back.is_played h }
     {
         match self.emptied {
             Some(slot) => {
@@ -104,7 +104,7 @@ impl<A: Allocator> Brackets<A> {
         ensures back { self.new.back.is_played ≡ self.old.back.is_played }
         ensures rises { self.old.steps ≤ self.new.steps }
         ensures bound { (h : ℕ) → length slots.now ≡ 2 ^ h → self.new.steps ≤ self.old.steps
-            + for_each_end self.old.front.is_played self.old.back.is_played h }
+            + total_height self.old.front.is_played self.old.back.is_played h }
     {
         self.front.follow(slots, slot, &mut self.steps);
         self.back.follow(slots, slot, &mut self.steps);
@@ -202,8 +202,8 @@ impl<A: Allocator> Bracket<A> {
         }
     }
 
-    // Plays the matches above a slot again, up to one whose winner is another slot than this one and
-    // stays: the matches above that are as they were.
+    // Plays the matches above a slot again, up to one whose winner stays and is another slot: the
+    // matches above that are as they were.
     fn replay<T: Ord>(&mut self, slots: &[Option<T>], slot: usize, steps: &mut u64)
         requires { WasWon T.cmp slots.now slot self.old }
         ensures won { IsWon T.cmp slots.now self.new }

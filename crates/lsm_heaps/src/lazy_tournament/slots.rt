@@ -18,7 +18,11 @@ impl<T, A: Allocator> Model for Slots<T, A> {
 
     ghost Value = { Places T };
 
-    ghost view = { λ s. record { places = s.places.items; room = vec_capacity s.free; free = s.free.items } };
+    ghost view = { λ s. record {
+      places = s.places.items;
+      room = vec_capacity s.free;
+      free = s.free.items;
+    } };
 
     ghost invariant = { λ s. IsFreeList s.places.items s.free.items (vec_capacity s.free) };
 }

@@ -2,10 +2,8 @@ use Rattle.std.proofs.Common.{◌≡◌, ◌≤◌, ◌<◌, ℕ, ◌∙◌, ap,
 use Rattle.std.specs.Vec.{vec_len, vec_capacity}
 use Rattle.std.specs.declared.vec.Vec.{Vec}
 use Rattle.std.proofs.lemmas.List.{length-replicate, replicate_more}
+use Rattle.lsm_heaps.proofs.SlotLemmas.{below_both}
 use Rattle.lsm_heaps.proofs.lazy_tournament.slots.empty_places.Goals as goal
-
-below_both : (a b n count : ℕ) → a ≡ n → b ≡ count → n < count → a < b
-below_both a b n count e f low = omega arith
 
 has_room : {T Z : Type 0} (v : Vec (Option T) Z) (n count : ℕ) → v.items ≡ replicate n None → vec_capacity v ≡ count → n < count → vec_len v < vec_capacity v
 has_room v n count empty room low =

@@ -3,10 +3,8 @@ use Rattle.std.specs.Vec.{vec_len, vec_capacity}
 use Rattle.std.specs.declared.vec.Vec.{Vec}
 use Rattle.std.proofs.lemmas.Bool.{cases_eq}
 use Rattle.std.proofs.lemmas.List.{length-append, get_or_append_left, get_or_push}
+use Rattle.lsm_heaps.proofs.SlotLemmas.{below_both}
 use Rattle.lsm_heaps.proofs.lazy_tournament.slots.first_slots.Goals as goal
-
-below_both : (a b n count : ℕ) → a ≡ n → b ≡ count → n < count → a < b
-below_both a b n count e f low = omega arith
 
 has_room : {Z : Type 0} (v : Vec ℕ Z) (slot count : ℕ) → length v.items + slot ≡ count → vec_capacity v ≡ count → 0 < slot → vec_len v < vec_capacity v
 has_room v slot count e room low = let long : length v.items < count = omega arith in below_both (vec_len v) (vec_capacity v) (length v.items) count v.ok.0 room long
