@@ -292,7 +292,12 @@ fn an_end_that_is_not_asked_plays_no_match(rt: HostRuntime) -> Result<(), Fail> 
     assert_eq!(rt; pushed, 0);
     // Three matches at the first pop, and one after 'a' has gone. Then one more for the least, after
     // 'b' has gone, and one for the greatest: the others have no opponent. None at the last.
-    let want = [(Some('a'), 3), (Some('b'), 4), (Some('d'), 6), (Some('c'), 6)];
+    let want = [
+        (Some('a'), 3),
+        (Some('b'), 4),
+        (Some('d'), 6),
+        (Some('c'), 6),
+    ];
     assert_eq!(rt; popped, want);
     Ok(())
 }
