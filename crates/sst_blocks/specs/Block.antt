@@ -44,7 +44,9 @@ in_grammar v Filter payload = is_filter payload
 
 -- the mark, the kind, no compression, two zero bytes, the payload's length twice and its checksum
 abbrev pub header : TableVersion → BlockType → List ℕ → List ℕ
-header v kind payload = mark v ++ (kind_tag kind ∷ 0 ∷ 0 ∷ 0 ∷ []) ++ le4 (length payload) ++ le4 (length payload) ++ le8 (fnv1a payload)
+header v kind payload =
+    mark v ++ (kind_tag kind ∷ 0 ∷ 0 ∷ 0 ∷ [])
+    ++ le4 (length payload) ++ le4 (length payload) ++ le8 (fnv1a payload)
 
 abbrev pub block_bytes : TableVersion → BlockType → List ℕ → List ℕ
 block_bytes v kind payload = header v kind payload ++ payload
@@ -52,8 +54,10 @@ block_bytes v kind payload = header v kind payload ++ payload
 -- what is wrong with a header's mark, zero bytes, kind or compression: the first fault
 abbrev pub header_fault : BlockType → List ℕ → Option Error
 header_fault kind head =
-    if is_none (version_of (take 4 head)) || not (slice_index head 6 == 0 && slice_index head 7 == 0) then Some InvalidHeader
-    else (if not (slice_index head 4 == kind_tag kind) then Some (InvalidTag BlockTypeTag (slice_index head 4))
+    if is_none (version_of (take 4 head)) || not (slice_index head 6 == 0 && slice_index head 7 == 0)
+    then Some InvalidHeader
+    else (if not (slice_index head 4 == kind_tag kind)
+    then Some (InvalidTag BlockTypeTag (slice_index head 4))
     else (if not (slice_index head 5 == 0) then Some UnsupportedCompression
     else None))
 
@@ -76,13 +80,15 @@ grammar_fault v kind payload = if not (in_grammar v kind payload) then Some Inva
 
 -- the checksum that a payload's header says is another
 abbrev pub checksum_fault : ℕ → List ℕ → Option Error
-checksum_fault checksum payload = if not (fnv1a payload == checksum) then Some ChecksumMismatch else None
+checksum_fault checksum payload =
+    if not (fnv1a payload == checksum) then Some ChecksumMismatch else None
 
 -- the payload is tested last, by what its header says: its checksum, then its grammar
 unfoldable pub checked_payload : TableVersion → ℕ → BlockType → List ℕ → Result Loaded Error
 checked_payload v checksum kind payload =
     if not (fnv1a payload == checksum) then Err ChecksumMismatch
-    else unless (grammar_fault v kind payload) (Ok (record { version = v; kind = kind; payload = payload }))
+    else unless (grammar_fault v kind payload)
+    (Ok (record { version = v; kind = kind; payload = payload }))
 
 -- the block of a kind at a place in the bytes before the trailer, or the first fault
 unfoldable pub load_told : List ℕ → ℕ → ℕ → BlockType → Result Loaded Error
@@ -90,8 +96,10 @@ load_told body offset size kind =
     let head = slice_range body offset (offset + 24) in
     if nat_lt size 24 || nat_lt (length body) (offset + size) then Err Truncated
     else unless (header_fault kind head)
-    (if not (data_len head == uncompressed_len head) || not (24 + data_len head == size) then Err InvalidHeader
-    else checked_payload (version_in head) (stored_checksum head) kind (slice_range body (offset + 24) (offset + size)))
+    (if not (data_len head == uncompressed_len head) || not (24 + data_len head == size)
+    then Err InvalidHeader
+    else checked_payload (version_in head) (stored_checksum head) kind
+    (slice_range body (offset + 24) (offset + size)))
 
 -- the same with the size that the header says
 unfoldable pub load_at_told : List ℕ → ℕ → BlockType → Result Loaded Error
@@ -101,7 +109,8 @@ load_at_told body position kind =
     else unless (header_fault kind head)
     (if not (data_len head == uncompressed_len head) then Err InvalidHeader
     else (if nat_lt (length body) (position + 24 + data_len head) then Err Truncated
-    else checked_payload (version_in head) (stored_checksum head) kind (slice_range body (position + 24) (position + 24 + data_len head))))
+    else checked_payload (version_in head) (stored_checksum head) kind
+    (slice_range body (position + 24) (position + 24 + data_len head))))
 
 -- what a load finds wrong before it takes memory: too few bytes, the header, its lengths, the checksum; the first fault
 unfoldable pub place_fault : List ℕ → ℕ → ℕ → BlockType → Option Error
@@ -109,7 +118,8 @@ place_fault body offset size kind =
     let head = slice_range body offset (offset + 24) in
     if nat_lt size 24 || nat_lt (length body) (offset + size) then Some Truncated
     else option_or (header_fault kind head)
-    (if not (data_len head == uncompressed_len head) || not (24 + data_len head == size) then Some InvalidHeader
+    (if not (data_len head == uncompressed_len head) || not (24 + data_len head == size)
+    then Some InvalidHeader
     else checksum_fault (stored_checksum head) (slice_range body (offset + 24) (offset + size)))
 
 -- the same with the size that the header says
@@ -120,7 +130,8 @@ position_fault body position kind =
     else option_or (header_fault kind head)
     (if not (data_len head == uncompressed_len head) then Some InvalidHeader
     else (if nat_lt (length body) (position + 24 + data_len head) then Some Truncated
-    else checksum_fault (stored_checksum head) (slice_range body (position + 24) (position + 24 + data_len head))))
+    else checksum_fault (stored_checksum head)
+    (slice_range body (position + 24) (position + 24 + data_len head))))
 
 -- a block without its header
 abbrev pub loaded : TableVersion → BlockType → List ℕ → Loaded

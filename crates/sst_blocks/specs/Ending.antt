@@ -13,5 +13,7 @@ EndAtError (Some (Ok x) ∷ rs) = EndAtError rs
 EndAtError (Some (Err e) ∷ rs) = AllByRecursion (λ r. r ≡ None) rs
 
 -- at whatever ends it is asked, a stream that answered an error answers `None` from then on
-pub record EndsAtError {S X : Type 0} (front back : S → Option (Result X Error) → S → Type 0) (s : S) : Type 0 where
-  pub answers : (ends : List Direction) (rs : List (Option (Result X Error))) (t : S) → Runs front back s ends rs t → EndAtError rs
+pub record EndsAtError {S X : Type 0} (front back : S → Option (Result X Error) → S → Type 0) (s : S)
+    : Type 0 where
+  pub answers : (ends : List Direction) (rs : List (Option (Result X Error))) (t : S)
+      → Runs front back s ends rs t → EndAtError rs

@@ -49,19 +49,30 @@ handle_at v bytes =
     let rest = drop (20 + key_width v) bytes in
     if nat_lt (length bytes) (20 + key_width v) then None
     else (if nat_lt (length rest) k then None
-    else Some (record { end_key = take k rest; seqno = num8 bytes; offset = num8 (drop 8 bytes); size = num4 (drop 16 bytes) }, drop k rest))
+    else Some (
+      record {
+        end_key = take k rest;
+        seqno = num8 bytes;
+        offset = num8 (drop 8 bytes);
+        size = num4 (drop 16 bytes);
+      },
+      drop k rest,
+    ))
 
 -- n handles that use the bytes up
 unfoldable pub handles_at : TableVersion → ℕ → List ℕ → Option (List Handle)
 handles_at v zero [] = Some []
 handles_at v zero (b ∷ bytes) = None
-handles_at v (suc n) bytes = option_and_then (λ (x : Handle × List ℕ). option_map (λ hs. x.0 ∷ hs) (handles_at v n x.1)) (handle_at v bytes)
+handles_at v (suc n) bytes =
+    option_and_then (λ (x : Handle × List ℕ). option_map (λ hs. x.0 ∷ hs) (handles_at v n x.1))
+    (handle_at v bytes)
 
 -- the strict list of handles that a payload spells, where it spells one
 unfoldable pub handles_in : TableVersion → List ℕ → Option (List Handle)
 handles_in v bytes =
     if nat_lt (length bytes) 4 then None
-    else option_and_then (λ hs. if is_strict_after None (map end_of hs) then Some hs else None) (handles_at v (num4 bytes) (drop 4 bytes))
+    else option_and_then (λ hs. if is_strict_after None (map end_of hs) then Some hs else None)
+    (handles_at v (num4 bytes) (drop 4 bytes))
 
 -- the handle's block may hold the key numbered below a bound, or what comes after it
 abbrev pub reaches : List ℕ → ℕ → Handle → Bool

@@ -12,6 +12,7 @@ pub mod SeenHandle
 pub mod Seen
 pub mod Ending
 pub mod Seeking
+pub mod Words
 pub use Rattle.sst_sections.specs.Number
 pub use Rattle.sst_sections.specs.Version
 pub use Rattle.sst_sections.specs.Fnv

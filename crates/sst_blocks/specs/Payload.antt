@@ -9,7 +9,9 @@ use Rattle.sst_sections.specs.Version.{key_len_bytes, key_limit}
 
 -- the tag, the number and both lengths
 abbrev pub entry_head : TableVersion → Entry → List ℕ
-entry_head v e = (tag_of e.kind ∷ []) ++ le8 e.seqno ++ key_len_bytes v (length e.user_key) ++ le4 (length e.value)
+entry_head v e =
+    (tag_of e.kind ∷ []) ++ le8 e.seqno
+    ++ key_len_bytes v (length e.user_key) ++ le4 (length e.value)
 
 -- one entry: its head, its key, its value
 unfoldable pub spelled : TableVersion → Entry → List ℕ

@@ -22,16 +22,20 @@ parts_at v t n bytes =
 unfoldable pub entry_at : TableVersion → List ℕ → Option (Entry × List ℕ)
 entry_at v bytes =
     if nat_lt (length bytes) (13 + key_width v) then None
-    else option_and_then (λ t. parts_at v t (num8 (drop 1 bytes)) (drop 8 (drop 1 bytes))) (kind_of (slice_index bytes 0))
+    else option_and_then (λ t. parts_at v t (num8 (drop 1 bytes)) (drop 8 (drop 1 bytes)))
+    (kind_of (slice_index bytes 0))
 
 -- n entries that use the bytes up
 unfoldable pub entries_at : TableVersion → ℕ → List ℕ → Option (List Entry)
 entries_at v zero [] = Some []
 entries_at v zero (b ∷ bytes) = None
-entries_at v (suc n) bytes = option_and_then (λ (x : Entry × List ℕ). option_map (λ es. x.0 ∷ es) (entries_at v n x.1)) (entry_at v bytes)
+entries_at v (suc n) bytes =
+    option_and_then (λ (x : Entry × List ℕ). option_map (λ es. x.0 ∷ es) (entries_at v n x.1))
+    (entry_at v bytes)
 
 -- the strict list of entries that a payload spells, where it spells one
 unfoldable pub entries_in : TableVersion → List ℕ → Option (List Entry)
 entries_in v bytes =
     if nat_lt (length bytes) 4 then None
-    else option_and_then (λ es. if is_strict_after None es then Some es else None) (entries_at v (num4 bytes) (drop 4 bytes))
+    else option_and_then (λ es. if is_strict_after None es then Some es else None)
+    (entries_at v (num4 bytes) (drop 4 bytes))

@@ -23,16 +23,22 @@ abbrev pub span_to : {X : Type 0} → ℕ → Span X → Span X
 span_to n s = record s { to = min s.to n }
 
 -- a span deals what is left of it, where want of memory stops its reader, and ends for good there
-pub record DealsLeft {X : Type 0} (front back : Span X → Option (Result X Error) → Span X → Type 0) (s : Span X) : Type 0 where
-  pub deals : (stops : Error → Bool) → stops OutOfMemory ≡ true → Deals (stopped stops) front back s (all_ok (left_in s))
+pub record DealsLeft {X : Type 0} (front back : Span X → Option (Result X Error) → Span X → Type 0)
+    (s : Span X) : Type 0 where
+  pub deals : (stops : Error → Bool) → stops OutOfMemory ≡ true
+      → Deals (stopped stops) front back s (all_ok (left_in s))
   pub ends : EndsAtError front back s
 
 -- of the entries within an upper edge, those within both edges are left; and the same of a lower edge
 abbrev pub KeepsUpper : Bound (List ℕ) → Span Entry → Span Entry → Type 0
-KeepsUpper low old new = (high : Bound (List ℕ)) (es : List Entry) → left_in old ≡ within Unbounded high es → left_in new ≡ within low high es
+KeepsUpper low old new =
+    (high : Bound (List ℕ)) (es : List Entry)
+    → left_in old ≡ within Unbounded high es → left_in new ≡ within low high es
 
 abbrev pub KeepsLower : Bound (List ℕ) → Span Entry → Span Entry → Type 0
-KeepsLower high old new = (low : Bound (List ℕ)) (es : List Entry) → left_in old ≡ within low Unbounded es → left_in new ≡ within low high es
+KeepsLower high old new =
+    (low : Bound (List ℕ)) (es : List Entry)
+    → left_in old ≡ within low Unbounded es → left_in new ≡ within low high es
 
 -- how many handles stand before the first that reaches an edge, and before the first that ends above a key
 abbrev pub reaching_place : List ℕ × ℕ → List Handle → ℕ
@@ -43,7 +49,11 @@ above_place key hs = front_length (λ h. not (is_above key h)) hs
 
 -- of a window up to an edge, the window between both edges is left; and of one from an edge on
 abbrev pub KeepsUpperEdge : List ℕ × ℕ → Span Handle → Span Handle → Type 0
-KeepsUpperEdge edge old new = (key : Option (List ℕ)) (hs : List Handle) → left_in old ≡ window hs None key → left_in new ≡ window hs (Some edge) key
+KeepsUpperEdge edge old new =
+    (key : Option (List ℕ)) (hs : List Handle)
+    → left_in old ≡ window hs None key → left_in new ≡ window hs (Some edge) key
 
 abbrev pub KeepsLowerEdge : List ℕ → Span Handle → Span Handle → Type 0
-KeepsLowerEdge key old new = (edge : Option (List ℕ × ℕ)) → left_in old ≡ window old.list edge None → left_in new ≡ window old.list edge (Some key)
+KeepsLowerEdge key old new =
+    (edge : Option (List ℕ × ℕ))
+    → left_in old ≡ window old.list edge None → left_in new ≡ window old.list edge (Some key)

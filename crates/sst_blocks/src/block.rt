@@ -146,8 +146,10 @@ impl<A: Allocator + Clone> Block<A> {
         compression: CompressionType,
     ) -> Result<BlockHandle, Error>
         requires { length payload.now + 24 < 2 ^ 32 }
-        ensures ok { OnOk result (writer.new ≡ record writer.old { bytes = writer.old.bytes ++ block_bytes V4 kind payload.now }) }
-        ensures handle { IfOk result (λ h. h ≡ record { offset = length writer.old.bytes; size = 24 + length payload.now }) }
+        ensures ok { let bytes = writer.old.bytes ++ block_bytes V4 kind payload.now in
+            OnOk result (writer.new ≡ record writer.old { bytes = bytes }) }
+        ensures handle { let size = 24 + length payload.now in
+            IfOk result (λ h. h ≡ record { offset = length writer.old.bytes; size = size }) }
         ensures unchanged { OnErr result (writer.new ≡ writer.old) }
         ensures err { IfErr result (λ e. e ≡ OutOfMemory) }
     {
@@ -173,7 +175,7 @@ pub fn written_blocks_load()
     ensures entries { (v : TableVersion) (kind : BlockType) (es : List Entry) → HoldsEntries kind →
         IsStrict es → AreFit v es → length (payload v es) < 2 ^ 32 →
         LoadsBack v kind (payload v es) × (entries_of (loaded v kind (payload v es)) ≡ es) }
-    ensures handles { (v : TableVersion) (hs : List Handle) → AreStrictHandles hs → HandlesFit v hs →
-        length (handles_payload v hs) < 2 ^ 32 → LoadsBack v Index (handles_payload v hs)
+    ensures handles { (v : TableVersion) (hs : List Handle) →
+        AreStrictHandles hs → HandlesFit v hs → length (handles_payload v hs) < 2 ^ 32 → LoadsBack v Index (handles_payload v hs)
         × (handles_of (loaded v Index (handles_payload v hs)) ≡ hs) }
 {}

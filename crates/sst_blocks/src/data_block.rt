@@ -2,22 +2,11 @@
 ghost use Rattle.std.specs.Prelude.{◌≡◌, ◌+◌, ◌++◌, ◌<◌, ◌≤◌, ◌^◌, ◌↔◌, List, [], Some, None, Bool, true, false, not, length, IsTrue, IfOk, IfErr, OnOk, OnErr};
 ghost use Rattle.std.specs.List.{slice_get};
 ghost use Rattle.std.specs.List.Sorted.{IsPartitionedBy};
-ghost use Rattle.sst_blocks.specs.Block.{entries_of};
-ghost use Rattle.sst_blocks.specs.Bounds.{data_block_bound_of};
-ghost use Rattle.sst_blocks.specs.Encoding.{entries_fault};
-ghost use Rattle.sst_entries.specs.Entry.{Entry};
-ghost use Rattle.sst_entries.specs.Error.{Faults, FaultsFirst, is_memory};
-ghost use Rattle.sst_entries.specs.Key.{key_lt};
-ghost use Rattle.sst_blocks.specs.Payload.{payload, AreFit};
-ghost use Rattle.sst_entries.specs.Point.{point};
-ghost use Rattle.sst_blocks.specs.Reading.{entries_in};
-ghost use Rattle.sst_blocks.specs.Seen.{seen};
-ghost use Rattle.sst_entries.specs.Span.{front_length};
-ghost use Rattle.sst_blocks.specs.Starts.{EntriesAt, HoldsEntries};
-ghost use Rattle.sst_entries.specs.Strict.{IsStrict};
-ghost use Rattle.sst_entries.specs.Stream.{Deals, CanDeal, all_ok, stopped};
-ghost use Rattle.sst_blocks.specs.Ending.{EndsAtError};
-ghost use Rattle.sst_blocks.specs.Seeking.{whole};
+ghost use Rattle.sst_blocks.specs.Words.{AreFit, CanDeal, Deals, EndsAtError, EntriesAt, Entry};
+ghost use Rattle.sst_blocks.specs.Words.{Faults, FaultsFirst, HoldsEntries, IsStrict, all_ok};
+ghost use Rattle.sst_blocks.specs.Words.{data_block_bound_of, entries_fault, entries_in};
+ghost use Rattle.sst_blocks.specs.Words.{entries_of, front_length, is_memory, key_lt, payload};
+ghost use Rattle.sst_blocks.specs.Words.{point, seen, stopped, whole};
 ghost use Rattle.sst_entries.specs.declared.error.Error.{Error};
 ghost use Rattle.sst_entries.specs.declared.error.Error.TheVariants.{OutOfMemory, InvalidBlock};
 ghost use Rattle.sst_sections.specs.declared.version.TableVersion.TheVariants.{V4};
@@ -82,7 +71,8 @@ pub(crate) fn entry_starts<A: Allocator>(
 ) -> Result<Vec<u32, A>, Error>
     requires { length payload.now < 2 ^ 32 }
     ensures found { IfOk result (λ starts. EntriesAt version payload.now starts.items) }
-    ensures fault { IfErr result (λ e. is_memory e ≡ false → (e ≡ InvalidBlock) × (entries_in version payload.now ≡ None)) }
+    ensures fault { IfErr result (λ e. is_memory e ≡ false →
+        (e ≡ InvalidBlock) × (entries_in version payload.now ≡ None)) }
 {
     if payload.len() < 4 {
         return Err(Error::InvalidBlock);
@@ -231,7 +221,9 @@ impl<A: Allocator> DataBlock<A> {
         requires { P.IsAlwaysCallable passes }
         ensures within { result ≤ length self.now }
         ensures strict { IsStrict self.now }
-        ensures value { (p : Entry → Bool) → ((x : _) (r : _) → P.post passes x r → r ≡ p (seen x.now)) → IsPartitionedBy p self.now → result ≡ front_length p self.now }
+        ensures value { (p : Entry → Bool) →
+            ((x : _) (r : _) → P.post passes x r → r ≡ p (seen x.now)) →
+            IsPartitionedBy p self.now → result ≡ front_length p self.now }
     {
         let mut low = 0;
         let mut high = self.len();

@@ -89,7 +89,8 @@ impl<A: Allocator> Clone for KeyedBlockHandle<A> {
 impl<A: Allocator> KeyedBlockHandle<A> {
     /// A handle of its parts.
     pub fn new(end_key: UserKey<A>, seqno: SeqNo, handle: BlockHandle) -> KeyedBlockHandle<A>
-        ensures { result ≡ record { end_key = end_key; seqno = seqno; offset = handle.offset; size = handle.size } }
+        ensures { result ≡
+            record { end_key = end_key; seqno = seqno; offset = handle.offset; size = handle.size } }
     {
         KeyedBlockHandle {
             end_key,
@@ -129,7 +130,8 @@ impl<A: Allocator> KeyedBlockHandle<A> {
     /// Whether the handle may stand behind another in an index block, or at the front where there is none: by end key upward,
     /// then by number downward.
     pub fn may_follow(&self, last: Option<&KeyedBlockHandle<A>>) -> bool
-        ensures { result ≡ may_follow (option_map (λ h. end_of h.now) last.entry) (end_of self.now) }
+        ensures { let before = option_map (λ h. end_of h.now) last.entry in
+            result ≡ may_follow before (end_of self.now) }
     {
         match last {
             None => true,

@@ -2,17 +2,11 @@
 ghost use Rattle.std.specs.Prelude.{◌≡◌, ◌+◌, ◌++◌, ◌<◌, ◌^◌, ◌≤◌, ◌↔◌, [], Bool, Some, None, true, not, length, find, IsTrue, IfOk, IfErr, OnOk, OnErr};
 ghost use Rattle.std.specs.List.{slice_get};
 ghost use Rattle.std.specs.Option.{option_map};
-ghost use Rattle.sst_blocks.specs.Block.{handles_of};
-ghost use Rattle.sst_blocks.specs.Bounds.{index_block_bound_of};
-ghost use Rattle.sst_blocks.specs.Encoding.{handles_fault};
-ghost use Rattle.sst_entries.specs.Error.{Faults, FaultsFirst};
-ghost use Rattle.sst_blocks.specs.Handles.{handles_payload, handles_in, reaches, is_above, AreStrictHandles, HandlesFit};
-ghost use Rattle.sst_blocks.specs.Place.{place_of};
-ghost use Rattle.sst_blocks.specs.SeenHandle.{seen_handle};
-ghost use Rattle.sst_entries.specs.Span.{front_length};
-ghost use Rattle.sst_entries.specs.Stream.{Deals, CanDeal, all_ok, stopped};
-ghost use Rattle.sst_blocks.specs.Ending.{EndsAtError};
-ghost use Rattle.sst_blocks.specs.Seeking.{whole};
+ghost use Rattle.sst_blocks.specs.Words.{AreStrictHandles, CanDeal, Deals, EndsAtError, Faults};
+ghost use Rattle.sst_blocks.specs.Words.{FaultsFirst, HandlesFit, all_ok, front_length};
+ghost use Rattle.sst_blocks.specs.Words.{handles_fault, handles_in, handles_of, handles_payload};
+ghost use Rattle.sst_blocks.specs.Words.{index_block_bound_of, is_above, place_of, reaches};
+ghost use Rattle.sst_blocks.specs.Words.{seen_handle, stopped, whole};
 ghost use Rattle.sst_entries.specs.declared.error.Error.{Error};
 ghost use Rattle.sst_blocks.specs.declared.block_type.BlockType.TheVariants.{Index};
 ghost use Rattle.sst_entries.specs.declared.error.Error.TheVariants.{OutOfMemory};
@@ -110,6 +104,7 @@ impl<A: Allocator> IndexBlock<A> {
     }
 
     // The handle at a place, without a count of its sharers.
+    #[inline(always)]
     fn handle_ref(&self, index: usize) -> HandleRef<'_>
         requires { index < length self.now }
         ensures { slice_get self.now index ≡ Some (seen_handle result) }
@@ -208,7 +203,8 @@ impl<A: Allocator> IndexBlock<A> {
         // What was written spells the handles, and its block's length is the bound.
         ensures fit { OnOk result (HandlesFit V4 handles.now) }
         ensures reads { OnOk result (handles_in V4 (handles_payload V4 handles.now) ≡ Some handles.now) }
-        ensures bound { OnOk result (24 + length (handles_payload V4 handles.now) ≡ index_block_bound_of handles.now) }
+        ensures bound { let len = 24 + length (handles_payload V4 handles.now) in
+            OnOk result (len ≡ index_block_bound_of handles.now) }
         ensures short { OnOk result (24 + length (handles_payload V4 handles.now) < 2 ^ 32) }
     {
         let len = block_len(handles)?;

@@ -81,7 +81,8 @@ impl<A: Allocator + Clone> BlockSource<A> {
         opened: &mut Opened,
     ) -> Result<Block<A>, Error>
         ensures told { let body = body_of self.now in
-            Gives (λ (b : Loaded). b) result (load_told body handle.now.offset handle.now.size kind) }
+            Gives (λ (b : Loaded). b) result
+            (load_told body handle.now.offset handle.now.size kind) }
         // What is found up to the checksum takes no memory.
         ensures first { let body = body_of self.now in
             FaultsFirst result (place_fault body handle.now.offset handle.now.size kind) }
@@ -197,7 +198,8 @@ pub trait LoadBlocks {
     /// the source stands for.
     fn load(&mut self, handle: &BlockHandle, kind: BlockType) -> Result<Block<Self::Alloc>, Error>
         ensures told { let bytes = body self.old in
-            Gives (λ (b : Loaded). b) result (load_told bytes handle.now.offset handle.now.size kind) }
+            Gives (λ (b : Loaded). b) result
+            (load_told bytes handle.now.offset handle.now.size kind) }
         ensures first { let bytes = body self.old in
             FaultsFirst result (place_fault bytes handle.now.offset handle.now.size kind) }
         ensures body { body self.new ≡ body self.old }

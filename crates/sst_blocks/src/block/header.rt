@@ -34,7 +34,8 @@ impl Header {
     /// The header of a block of a kind.
     #[tactic(auto, unfolding(sst_sections::specs::Number::le4, sst_sections::specs::Number::le8))]
     pub(crate) fn encode(self, kind: BlockType) -> [u8; 24]
-        ensures { result ≡ mark self.version ++ (kind_tag kind ∷ 0 ∷ 0 ∷ 0 ∷ []) ++ le4 self.data_len ++ le4 self.uncompressed_len ++ le8 self.checksum }
+        ensures { result ≡ mark self.version ++ (kind_tag kind ∷ 0 ∷ 0 ∷ 0 ∷ [])
+            ++ le4 self.data_len ++ le4 self.uncompressed_len ++ le8 self.checksum }
     {
         let mut bytes = [0; 24];
         bytes[..4].copy_from_slice(&self.version.mark());
@@ -49,7 +50,8 @@ impl Header {
     /// or the zero bytes, [`Error::InvalidTag`], [`Error::UnsupportedCompression`].
     pub(crate) fn decode(bytes: &[u8], kind: BlockType) -> Result<Header, Error>
         requires { length bytes.now ≡ 24 }
-        ensures fault { MatchResult result (λ _. header_fault kind bytes.now ≡ None) (λ e. header_fault kind bytes.now ≡ Some e) }
+        ensures fault { MatchResult result (λ _. header_fault kind bytes.now ≡ None)
+            (λ e. header_fault kind bytes.now ≡ Some e) }
         ensures version { IfOk result (λ h. h.version ≡ version_in bytes.now) }
         ensures data_len { IfOk result (λ h. h.data_len ≡ data_len bytes.now) }
         ensures uncompressed_len { IfOk result (λ h. h.uncompressed_len ≡ uncompressed_len bytes.now) }

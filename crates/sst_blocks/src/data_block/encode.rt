@@ -5,6 +5,7 @@ ghost use Rattle.sst_blocks.specs.Encoding.{entries_fault, length_fault};
 ghost use Rattle.sst_entries.specs.Error.{Refuses};
 ghost use Rattle.sst_blocks.specs.Payload.{Fits, AreFit, spelled, payload};
 ghost use Rattle.sst_entries.specs.declared.error.Error.TheVariants.{OutOfMemory};
+ghost use Rattle.sst_sections.specs.Version.{longest_key};
 ghost use Rattle.sst_sections.specs.declared.version.TableVersion.TheVariants.{V4};
 
 use crate::block::EMPTY_LEN;
@@ -50,7 +51,7 @@ pub(crate) fn block_len<A: Allocator>(items: &[InternalValue<A>]) -> Result<u64,
 
 #[tactic(auto, unfolding(crate::specs::Payload::spelled))]
 fn put_entry<A: Allocator>(buf: &mut Vec<u8, A>, item: &InternalValue<A>) -> Result<(), Error>
-    requires key { length item.now.user_key ≤ 1048576 }
+    requires key { length item.now.user_key ≤ longest_key V4 }
     requires value { length item.now.value < 2 ^ 32 }
     ensures ok { OnOk result (buf.new.items ≡ buf.old.items ++ spelled V4 item.now) }
     ensures fits { OnOk result (Fits V4 item.now) }

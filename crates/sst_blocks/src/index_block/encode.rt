@@ -5,6 +5,7 @@ ghost use Rattle.sst_blocks.specs.Encoding.{handles_fault, key_fault};
 ghost use Rattle.sst_entries.specs.Error.{Refuses};
 ghost use Rattle.sst_blocks.specs.Handles.{HandleFits, HandlesFit, handle_spelled, handles_payload};
 ghost use Rattle.sst_entries.specs.declared.error.Error.TheVariants.{OutOfMemory};
+ghost use Rattle.sst_sections.specs.Version.{longest_key};
 ghost use Rattle.sst_sections.specs.declared.version.TableVersion.TheVariants.{V4};
 
 use crate::block::EMPTY_LEN;
@@ -46,7 +47,7 @@ pub(crate) fn block_len<A: Allocator>(handles: &[KeyedBlockHandle<A>]) -> Result
 
 #[tactic(auto, unfolding(crate::specs::Handles::handle_spelled))]
 fn put_handle<A: Allocator>(buf: &mut Vec<u8, A>, handle: &KeyedBlockHandle<A>) -> Result<(), Error>
-    requires { length handle.now.end_key ≤ 1048576 }
+    requires { length handle.now.end_key ≤ longest_key V4 }
     ensures ok { OnOk result (buf.new.items ≡ buf.old.items ++ handle_spelled V4 handle.now) }
     ensures fits { OnOk result (HandleFits V4 handle.now) }
     ensures front { take (vec_len buf.old) buf.new.items ≡ buf.old.items }

@@ -62,7 +62,8 @@ impl HandleRef<'_> {
     /// Whether the handle may stand after another, or at the front.
     #[inline]
     pub(crate) fn may_follow(&self, last: &Option<HandleRef<'_>>) -> bool
-        ensures { result ≡ may_follow (option_map (λ h. end_of (seen_handle h)) last.now) (end_of (seen_handle self.now)) }
+        ensures { let before = option_map (λ h. end_of (seen_handle h)) last.now in
+            result ≡ may_follow before (end_of (seen_handle self.now)) }
     {
         match last {
             None => true,
@@ -90,7 +91,8 @@ pub(crate) fn handle_starts<A: Allocator>(
 ) -> Result<Vec<u32, A>, Error>
     requires { length payload.now < 2 ^ 32 }
     ensures found { IfOk result (λ starts. HandlesAt version payload.now starts.items) }
-    ensures fault { IfErr result (λ e. is_memory e ≡ false → (e ≡ InvalidBlock) × (handles_in version payload.now ≡ None)) }
+    ensures fault { IfErr result (λ e. is_memory e ≡ false →
+        (e ≡ InvalidBlock) × (handles_in version payload.now ≡ None)) }
 {
     if payload.len() < 4 {
         return Err(Error::InvalidBlock);
