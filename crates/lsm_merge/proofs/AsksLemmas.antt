@@ -1,16 +1,20 @@
 -- What the asks of a merger's call mean for the lists that its sources deal.
 use Rattle.std.proofs.Common.{◌≡◌, inl, inr, refl, sym, ◌∙◌, ap, subst, ℕ, zero, suc, ◌+◌, Bool, true, false, List, [], map, length, arith}
-use Rattle.std.specs.Prelude.{not, Option, Some, None, Result, Ok, Err, Contains, MatchResult}
+use Rattle.std.specs.Prelude.{Option, Some, None, Result, Ok, Err, Contains, MatchResult}
 use Rattle.sst_entries.specs.Entry.{Entry}
+use Rattle.sst_entries.specs.declared.stream.Direction.{Direction}
+use Rattle.sst_entries.specs.declared.stream.Direction.TheVariants.{Front, Back}
 use Rattle.sst_entries.specs.Stream.{but_first, but_last, front_of, back_of, stopped, DealsFirst, DealsLast}
 use Rattle.sst_entries.specs.declared.error.Error.{Error}
 use Rattle.lsm_merge.specs.declared.ends.Ends.{Ends}
 use Rattle.lsm_merge.specs.declared.merge.Merger.{Merger}
-use Rattle.lsm_merge.specs.Ends.{R, Left, Asked}
+use Rattle.lsm_merge.specs.Ends.{R, Left, Asked, DealsAt}
 use Rattle.lsm_heaps.specs.Tournament.{held}
 use Rattle.lsm_merge.specs.Union.{all_errors}
-use Rattle.lsm_merge.specs.Merge.{entry_of, Kept, whole, taken, Ready, is_ready, Stands, Merging, Leaves, Took, Filled, SameRoom, MergeAnswer}
-use Rattle.lsm_merge.specs.Asks.{Leads, Puts, error_told, made_ready, entry_told, answer_told, ended_at, Asks, AsksEach, FillsIf, Fills, HoldsNone, Turns, TurnsIf, Steps, Answers}
+use Rattle.lsm_merge.specs.Merge.{entry_of, is_ready, SameRoom}
+use Rattle.lsm_merge.proofs.Kept.{Kept, whole, taken, Ready, Stands, Merging, Leaves, Took, Filled, MergeAnswer, opposite}
+use Rattle.lsm_merge.specs.Asks.{Leads, Puts, error_told, entry_told, answer_told, ended_at, AsksSource, AsksEach, FillsIf, Fills, HoldsNone, TakesLead, TakesLeadIf, TakesStep, AnswersCall}
+use Rattle.lsm_merge.proofs.ReadyLemmas.{same_room, same_twice, ready_same, made_sources, made_heap, made_now, made_other, made_failed}
 use Rattle.lsm_merge.proofs.EndsLemmas.{none_first}
 use Rattle.lsm_merge.proofs.TakeLemmas.{none_last, front_ok, front_none, front_err, back_ok, back_none, back_err}
 use Rattle.lsm_merge.proofs.FillLemmas.{filled_none, filled_more, merging_filled}
@@ -18,61 +22,25 @@ use Rattle.lsm_merge.proofs.StepLemmas.{none_left, others, front_stands, front_f
 
 -- ---- what stays
 
-pub same_room : {S A : Type 0} (m : Merger S A) → SameRoom m m
-same_room m = record { count = refl; room = refl; front_ready = refl; back_ready = refl; failed = refl }
-
-pub same_twice : {S A : Type 0} (s m t : Merger S A) → SameRoom s m → SameRoom m t → SameRoom s t
-same_twice s m t one two = record {
-  count = two.count ∙ one.count;
-  room = two.room ∙ one.room;
-  front_ready = two.front_ready ∙ one.front_ready;
-  back_ready = two.back_ready ∙ one.back_ready;
-  failed = two.failed ∙ one.failed;
-}
-
-pub each_same : {S A : Type 0} (ask : S → Option R → S → Type 0) (end : Bool) (i : ℕ) (s t : Merger S A) → AsksEach ask end i s t → SameRoom s t
+pub each_same : {S A : Type 0} (ask : S → Option R → S → Type 0) (end : Direction) (i : ℕ) (s t : Merger S A) → AsksEach ask end i s t → SameRoom s t
 each_same ask end zero s t e = rw e (same_room s)
 each_same ask end (suc i) s t e = same_twice s e.0 t (each_same ask end i s e.0 e.1) e.2.same
 
-pub ready_same : {S A : Type 0} (end : Bool) (s t : Merger S A) → SameRoom s t → is_ready end t ≡ is_ready end s
-ready_same true s t same = same.back_ready
-ready_same false s t same = same.front_ready
-
-pub made_sources : {S A : Type 0} (end : Bool) (m : Merger S A) → (made_ready end m).sources ≡ m.sources
-made_sources true m = refl
-made_sources false m = refl
-
-pub made_heap : {S A : Type 0} (end : Bool) (m : Merger S A) → (made_ready end m).heap ≡ m.heap
-made_heap true m = refl
-made_heap false m = refl
-
-pub made_now : {S A : Type 0} (end : Bool) (m : Merger S A) → is_ready end (made_ready end m) ≡ true
-made_now true m = refl
-made_now false m = refl
-
-pub made_other : {S A : Type 0} (end : Bool) (m : Merger S A) → is_ready (not end) (made_ready end m) ≡ is_ready (not end) m
-made_other true m = refl
-made_other false m = refl
-
-pub fills_ready : {S A : Type 0} (ask : S → Option R → S → Type 0) (end : Bool) (u : Unit {0}) (s t : Merger S A) → Fills ask end s (Ok u) t → is_ready end t ≡ true
+pub fills_ready : {S A : Type 0} (ask : S → Option R → S → Type 0) (end : Direction) (u : Unit {0}) (s t : Merger S A) → Fills ask end s (Ok u) t → is_ready end t ≡ true
 fills_ready ask end u s t f = go (is_ready end s) refl f.fill
   where
     go : (b : Bool) → is_ready end s ≡ b → FillsIf ask end b s (Ok u) t → is_ready end t ≡ true
     go true e k = ap (is_ready end) k.1 ∙ e
     go false e k = ap (is_ready end) k.ready ∙ made_now end k.last
 
-pub fills_other : {S A : Type 0} (ask : S → Option R → S → Type 0) (end : Bool) (u : Unit {0}) (s t : Merger S A) → Fills ask end s (Ok u) t → is_ready (not end) t ≡ is_ready (not end) s
+pub fills_other : {S A : Type 0} (ask : S → Option R → S → Type 0) (end : Direction) (u : Unit {0}) (s t : Merger S A) → Fills ask end s (Ok u) t → is_ready (opposite end) t ≡ is_ready (opposite end) s
 fills_other ask end u s t f = go (is_ready end s) refl f.fill
   where
-    go : (b : Bool) → is_ready end s ≡ b → FillsIf ask end b s (Ok u) t → is_ready (not end) t ≡ is_ready (not end) s
-    go true e k = ap (is_ready (not end)) k.1
-    go false e k = ap (is_ready (not end)) k.ready ∙ made_other end k.last ∙ ready_same (not end) s k.last (each_same ask end (length s.sources.items) s k.last k.each)
+    go : (b : Bool) → is_ready end s ≡ b → FillsIf ask end b s (Ok u) t → is_ready (opposite end) t ≡ is_ready (opposite end) s
+    go true e k = ap (is_ready (opposite end)) k.1
+    go false e k = ap (is_ready (opposite end)) k.ready ∙ made_other end k.last ∙ ready_same (opposite end) s k.last (each_same ask end (length s.sources.items) s k.last k.each)
 
-made_failed : {S A : Type 0} (end : Bool) (m : Merger S A) → (made_ready end m).failed ≡ m.failed
-made_failed true m = refl
-made_failed false m = refl
-
-fills_failed : {S A : Type 0} (ask : S → Option R → S → Type 0) (end : Bool) (r : Result (Unit {0}) Error) (s t : Merger S A) → Fills ask end s r t → t.failed ≡ s.failed
+fills_failed : {S A : Type 0} (ask : S → Option R → S → Type 0) (end : Direction) (r : Result (Unit {0}) Error) (s t : Merger S A) → Fills ask end s r t → t.failed ≡ s.failed
 fills_failed {S = S} {A = A} ask end r s t f = go (is_ready end s) r f.fill
   where
     go : (b : Bool) (q : Result (Unit {0}) Error) → FillsIf ask end b s q t → t.failed ≡ s.failed
@@ -80,53 +48,48 @@ fills_failed {S = S} {A = A} ask end r s t f = go (is_ready end s) r f.fill
     go false (Ok u) k = ap (λ (m : Merger S A). m.failed) k.ready ∙ made_failed end k.last ∙ (each_same ask end (length s.sources.items) s k.last k.each).failed
     go false (Err e) k = k.fails.same.failed ∙ (each_same ask end k.place s k.before k.each).failed
 
-pub steps_failed : {S A : Type 0} (ask : S → Option R → S → Type 0) (end : Bool) (r : Result (Option Entry) Error) (s t : Merger S A) → Steps ask end s r t → t.failed ≡ s.failed
+pub steps_failed : {S A : Type 0} (ask : S → Option R → S → Type 0) (end : Direction) (r : Result (Option Entry) Error) (s t : Merger S A) → TakesStep ask end s r t → t.failed ≡ s.failed
 steps_failed {S = S} {A = A} ask end r s t k = go k.fill k.turns ∙ fills_failed ask end k.fill s k.filled k.fills
   where
-    go : (q : Result (Unit {0}) Error) → TurnsIf ask end q k.filled r t → t.failed ≡ k.filled.failed
-    go (Ok u) turns = elim turns [ inl none ↦ none.same.failed | inr turn ↦ turn.asks.same.failed ∙ turn.same.failed ]
+    go : (q : Result (Unit {0}) Error) → TakesLeadIf ask end q k.filled r t → t.failed ≡ k.filled.failed
+    go (Ok u) turns = elim turns [ inl none ↦ none.1.same.failed | inr turn ↦ turn.asks.same.failed ∙ turn.pops.same.failed ]
     go (Err e) turns = ap (λ (m : Merger S A). m.failed) turns.1
 
 -- ---- what is dealt
 
-abbrev pub end_of : Bool → List Entry → Option Entry × List Entry
-end_of false = front_of
-end_of true = back_of
+abbrev pub end_of : Direction → List Entry → Option Entry × List Entry
+end_of Front = front_of
+end_of Back = back_of
 
-over_at : (b : Bool) (xs : List Entry) → None ≡ (end_of b xs).0 → (xs ≡ []) × ((end_of b xs).1 ≡ [])
-over_at false xs e = let none = none_first xs e in (none, ap but_first none)
-over_at true xs e = let none = none_last xs e in (none, ap but_last none)
-
-module _ {S : Type 0} (stops : Error → Bool) (front back : S → Option R → S → Type 0) where
-  abbrev pub DealsAt : Bool → Ends S → Option R → Ends S → Type 0
-  DealsAt false = DealsFirst stops (Left stops front back)
-  DealsAt true = DealsLast stops (Left stops front back)
+over_at : (b : Direction) (xs : List Entry) → None ≡ (end_of b xs).0 → (xs ≡ []) × ((end_of b xs).1 ≡ [])
+over_at Front xs e = let none = none_first xs e in (none, ap but_first none)
+over_at Back xs e = let none = none_last xs e in (none, ap but_last none)
 
 module _ {S A : Type 0} (stops : Error → Bool) (front back : S → Option R → S → Type 0) where
-  module _ (ask : S → Option R → S → Type 0) (end : Bool) (means : (s : Ends S) (r : Option R) (t : Ends S) → Asked ask s r t → DealsAt stops front back end s r t) where
+  module _ (ask : S → Option R → S → Type 0) (end : Direction) (means : (s : Ends S) (r : Option R) (t : Ends S) → Asked ask s r t → DealsAt end stops (Left stops front back) s r t) where
     abbrev TookOr : ℕ → List Kept → Result (Unit {0}) Error → Merger S A → Type 0
     TookOr i ks r t = MatchResult r (λ _. Took stops front back end i ks t) (λ e. stops e ≡ false → Contains (all_errors (map whole ks)) e)
 
     -- an ask takes the entry of the end, or tells an error that is to come
-    pub asks_took : (i : ℕ) (s t : Merger S A) (r : Result (Unit {0}) Error) → Asks ask end i s r t → (ks : List Kept) → Stands stops front back s ks → taken ks i end ≡ None → TookOr i ks r t
+    pub asks_took : (i : ℕ) (s t : Merger S A) (r : Result (Unit {0}) Error) → AsksSource ask end i s r t → (ks : List Kept) → Stands stops front back s ks → taken ks i end ≡ None → TookOr i ks r t
     asks_took i s t r a ks stands free = subst (λ (q : Result (Unit {0}) Error). TookOr i ks q t) (sym a.told) (by_end end (means a.was a.answer a.is a.asked) a.puts free)
       where
-        at_front : (o : Option R) → DealsFirst stops (Left stops front back) a.was o a.is → Puts false i o (held s.heap) (held t.heap) → taken ks i false ≡ None
-            → MatchResult (error_told o) (λ _. Took stops front back false i ks t) (λ e. stops e ≡ false → Contains (all_errors (map whole ks)) e)
+        at_front : (o : Option R) → DealsFirst stops (Left stops front back) a.was o a.is → Puts Front i o (held s.heap) (held t.heap) → taken ks i Front ≡ None
+            → MatchResult (error_told o) (λ _. Took stops front back Front i ks t) (λ e. stops e ≡ false → Contains (all_errors (map whole ks)) e)
         at_front None d p none = front_none stops front back s i a.within a.was a.is a.found ks stands t a.written d p
         at_front (Some (Ok x)) d p none = front_ok stops front back s i a.within a.was a.is a.found ks stands t a.written x p.0 d p.4 p.1 p.2 p.3 none
         at_front (Some (Err e)) d p none = front_err stops front back s i a.within a.was a.is a.found ks stands e d
 
-        at_back : (o : Option R) → DealsLast stops (Left stops front back) a.was o a.is → Puts true i o (held s.heap) (held t.heap) → taken ks i true ≡ None
-            → MatchResult (error_told o) (λ _. Took stops front back true i ks t) (λ e. stops e ≡ false → Contains (all_errors (map whole ks)) e)
+        at_back : (o : Option R) → DealsLast stops (Left stops front back) a.was o a.is → Puts Back i o (held s.heap) (held t.heap) → taken ks i Back ≡ None
+            → MatchResult (error_told o) (λ _. Took stops front back Back i ks t) (λ e. stops e ≡ false → Contains (all_errors (map whole ks)) e)
         at_back None d p none = back_none stops front back s i a.within a.was a.is a.found ks stands t a.written d p
         at_back (Some (Ok x)) d p none = back_ok stops front back s i a.within a.was a.is a.found ks stands t a.written x p.0 d p.4 p.1 p.2 p.3 none
         at_back (Some (Err e)) d p none = back_err stops front back s i a.within a.was a.is a.found ks stands e d
 
-        by_end : (b : Bool) → DealsAt stops front back b a.was a.answer a.is → Puts b i a.answer (held s.heap) (held t.heap) → taken ks i b ≡ None
+        by_end : (b : Direction) → DealsAt b stops (Left stops front back) a.was a.answer a.is → Puts b i a.answer (held s.heap) (held t.heap) → taken ks i b ≡ None
             → MatchResult (error_told a.answer) (λ _. Took stops front back b i ks t) (λ e. stops e ≡ false → Contains (all_errors (map whole ks)) e)
-        by_end false d p none = at_front a.answer d p none
-        by_end true d p none = at_back a.answer d p none
+        by_end Front d p none = at_front a.answer d p none
+        by_end Back d p none = at_back a.answer d p none
 
     pub each_filled : (i : ℕ) (ks : List Kept) (s t : Merger S A) → AsksEach ask end i s t → Stands stops front back s ks → Ready false end ks → Filled stops front back end i ks t
     each_filled zero ks s t e stands none = rw e (filled_none stops front back end ks s stands none)
@@ -150,7 +113,7 @@ module _ {S A : Type 0} (stops : Error → Bool) (front back : S → Option R �
             let filled = each_filled (length s.sources.items) was.kept s k.last k.each was.stands none in
             merging_filled stops front back end s k.last t xs errors was (length s.sources.items) filled (sym same.count)
             (ap (λ (m : Merger S A). m.sources) k.ready ∙ made_sources end k.last) (ap (λ (m : Merger S A). m.heap) k.ready ∙ made_heap end k.last)
-            (ap (is_ready end) k.ready ∙ made_now end k.last) (ap (is_ready (not end)) k.ready ∙ made_other end k.last ∙ ready_same (not end) s k.last same)
+            (ap (is_ready end) k.ready ∙ made_now end k.last) (ap (is_ready (opposite end)) k.ready ∙ made_other end k.last ∙ ready_same (opposite end) s k.last same)
         go false e (Err x) k =
             let none : Ready false end was.kept = subst (λ (f : Bool). Ready f end was.kept) e (was.ready end) in
             let filled = each_filled k.place was.kept s k.before k.each was.stands none in
@@ -159,59 +122,59 @@ module _ {S A : Type 0} (stops : Error → Bool) (front back : S → Option R �
     abbrev StepOr : List Entry → List Error → Result (Option Entry) Error → Merger S A → Type 0
     StepOr xs errors r t = MatchResult r (λ o. (o ≡ (end_of end xs).0) × Merging stops front back t (end_of end xs).1 errors × (o ≡ None → errors ≡ [])) (λ e. stops e ≡ false → Contains errors e)
 
-    none_steps : (s t : Merger S A) (r : Result (Option Entry) Error) (xs : List Entry) (errors : List Error) → is_ready end s ≡ true → HoldsNone s r t → Merging stops front back s xs errors → StepOr xs errors r t
+    none_steps : (s t : Merger S A) (r : Result (Option Entry) Error) (xs : List Entry) (errors : List Error) → is_ready end s ≡ true → (r ≡ Ok None) × HoldsNone s t → Merging stops front back s xs errors → StepOr xs errors r t
     none_steps s t r xs errors now h was =
-        let none = none_left stops front back s t xs errors was end now h.was h.is h.same.sources h.same.front_ready h.same.back_ready in
-        rw (h.none, none.0) (by_end end, subst (λ (p : Option Entry × List Entry). Merging stops front back t p.1 errors) (sym (nothing end)) none.2, λ _. none.1)
+        let none = none_left stops front back s t xs errors was end now h.1.was h.1.is h.1.same.sources h.1.same.front_ready h.1.same.back_ready in
+        rw (h.0, none.0) (by_end end, subst (λ (p : Option Entry × List Entry). Merging stops front back t p.1 errors) (sym (nothing end)) none.2, λ _. none.1)
       where
-        by_end : (b : Bool) → None ≡ (end_of b []).0
-        by_end true = refl
-        by_end false = refl
+        by_end : (b : Direction) → None ≡ (end_of b []).0
+        by_end Front = refl
+        by_end Back = refl
 
-        nothing : (b : Bool) → end_of b [] ≡ (None, [])
-        nothing true = refl
-        nothing false = refl
+        nothing : (b : Direction) → end_of b [] ≡ (None, [])
+        nothing Front = refl
+        nothing Back = refl
 
-    module _ (s t : Merger S A) (r : Result (Option Entry) Error) (xs : List Entry) (errors : List Error) (k : Turns ask end s r t) (was : Merging stops front back s xs errors) where
+    module _ (s t : Merger S A) (r : Result (Option Entry) Error) (xs : List Entry) (errors : List Error) (k : TakesLead ask end s r t) (was : Merging stops front back s xs errors) where
       abbrev left : List Kept
-      left = others stops front back s k.mid xs errors was k.lead k.pops k.same.sources
+      left = others stops front back s k.mid xs errors was k.lead k.pops.left k.pops.same.sources
 
-      front_turn : end ≡ false → Leads false k.lead (held s.heap) → s.front_ready ≡ true → (answer : Result (Unit {0}) Error) → TookOr k.lead.source left answer t → SameRoom k.mid t
+      front_turn : end ≡ Front → Leads Front k.lead (held s.heap) → s.front_ready ≡ true → (answer : Result (Unit {0}) Error) → TookOr k.lead.source left answer t → SameRoom k.mid t
           → MatchResult (entry_told (entry_of k.lead) answer) (λ o. (o ≡ (front_of xs).0) × Merging stops front back t (front_of xs).1 errors × (o ≡ None → errors ≡ [])) (λ e. stops e ≡ false → Contains errors e)
       front_turn is leads now (Ok u) took same =
-          front_gives stops front back s k.mid xs errors was k.lead k.pops k.same.sources leads now t (subst (λ (b : Bool). Took stops front back b k.lead.source left t) is took) (same.front_ready ∙ k.same.front_ready ∙ now) (same.back_ready ∙ k.same.back_ready)
-      front_turn is leads now (Err e) took same = λ fine. subst (λ (es : List Error). Contains es e) (front_errors stops front back s k.mid xs errors was k.lead k.pops k.same.sources leads now) (took fine)
+          front_gives stops front back s k.mid xs errors was k.lead k.pops.left k.pops.same.sources leads now t (subst (λ (b : Direction). Took stops front back b k.lead.source left t) is took) (same.front_ready ∙ k.pops.same.front_ready ∙ now) (same.back_ready ∙ k.pops.same.back_ready)
+      front_turn is leads now (Err e) took same = λ fine. subst (λ (es : List Error). Contains es e) (front_errors stops front back s k.mid xs errors was k.lead k.pops.left k.pops.same.sources leads now) (took fine)
 
-      back_turn : end ≡ true → Leads true k.lead (held s.heap) → s.back_ready ≡ true → (answer : Result (Unit {0}) Error) → TookOr k.lead.source left answer t → SameRoom k.mid t
+      back_turn : end ≡ Back → Leads Back k.lead (held s.heap) → s.back_ready ≡ true → (answer : Result (Unit {0}) Error) → TookOr k.lead.source left answer t → SameRoom k.mid t
           → MatchResult (entry_told (entry_of k.lead) answer) (λ o. (o ≡ (back_of xs).0) × Merging stops front back t (back_of xs).1 errors × (o ≡ None → errors ≡ [])) (λ e. stops e ≡ false → Contains errors e)
       back_turn is leads now (Ok u) took same =
-          back_gives stops front back s k.mid xs errors was k.lead k.pops k.same.sources leads now t (subst (λ (b : Bool). Took stops front back b k.lead.source left t) is took) (same.back_ready ∙ k.same.back_ready ∙ now) (same.front_ready ∙ k.same.front_ready)
-      back_turn is leads now (Err e) took same = λ fine. subst (λ (es : List Error). Contains es e) (back_errors stops front back s k.mid xs errors was k.lead k.pops k.same.sources leads now) (took fine)
+          back_gives stops front back s k.mid xs errors was k.lead k.pops.left k.pops.same.sources leads now t (subst (λ (b : Direction). Took stops front back b k.lead.source left t) is took) (same.back_ready ∙ k.pops.same.back_ready ∙ now) (same.front_ready ∙ k.pops.same.front_ready)
+      back_turn is leads now (Err e) took same = λ fine. subst (λ (es : List Error). Contains es e) (back_errors stops front back s k.mid xs errors was k.lead k.pops.left k.pops.same.sources leads now) (took fine)
 
       turn_steps : is_ready end s ≡ true → StepOr xs errors r t
       turn_steps now = subst (λ (q : Result (Option Entry) Error). StepOr xs errors q t) (sym k.told) (go end refl)
         where
-          go : (b : Bool) → end ≡ b → StepOr xs errors (entry_told (entry_of k.lead) k.answer) t
-          go false e =
-              let leads : Leads false k.lead (held s.heap) = subst (λ (b : Bool). Leads b k.lead (held s.heap)) e k.leads in
-              let ready : s.front_ready ≡ true = subst (λ (b : Bool). is_ready b s ≡ true) e now in
-              let stand = front_stands stops front back s k.mid xs errors was k.lead k.pops k.same.sources leads ready in
-              let free : taken left k.lead.source end ≡ None = subst (λ (b : Bool). taken left k.lead.source b ≡ None) (sym e) (front_free stops front back s k.mid xs errors was k.lead k.pops k.same.sources leads ready) in
-              subst (λ (b : Bool). MatchResult (entry_told (entry_of k.lead) k.answer) (λ o. (o ≡ (end_of b xs).0) × Merging stops front back t (end_of b xs).1 errors × (o ≡ None → errors ≡ [])) (λ e. stops e ≡ false → Contains errors e)) (sym e)
+          go : (b : Direction) → end ≡ b → StepOr xs errors (entry_told (entry_of k.lead) k.answer) t
+          go Front e =
+              let leads : Leads Front k.lead (held s.heap) = subst (λ (b : Direction). Leads b k.lead (held s.heap)) e k.pops.leads in
+              let ready : s.front_ready ≡ true = subst (λ (b : Direction). is_ready b s ≡ true) e now in
+              let stand = front_stands stops front back s k.mid xs errors was k.lead k.pops.left k.pops.same.sources leads ready in
+              let free : taken left k.lead.source end ≡ None = subst (λ (b : Direction). taken left k.lead.source b ≡ None) (sym e) (front_free stops front back s k.mid xs errors was k.lead k.pops.left k.pops.same.sources leads ready) in
+              subst (λ (b : Direction). MatchResult (entry_told (entry_of k.lead) k.answer) (λ o. (o ≡ (end_of b xs).0) × Merging stops front back t (end_of b xs).1 errors × (o ≡ None → errors ≡ [])) (λ e. stops e ≡ false → Contains errors e)) (sym e)
               (front_turn e leads ready k.answer (asks_took k.lead.source k.mid t k.answer k.asks left stand free) k.asks.same)
-          go true e =
-              let leads : Leads true k.lead (held s.heap) = subst (λ (b : Bool). Leads b k.lead (held s.heap)) e k.leads in
-              let ready : s.back_ready ≡ true = subst (λ (b : Bool). is_ready b s ≡ true) e now in
-              let stand = back_stands stops front back s k.mid xs errors was k.lead k.pops k.same.sources leads ready in
-              let free : taken left k.lead.source end ≡ None = subst (λ (b : Bool). taken left k.lead.source b ≡ None) (sym e) (back_free stops front back s k.mid xs errors was k.lead k.pops k.same.sources leads ready) in
-              subst (λ (b : Bool). MatchResult (entry_told (entry_of k.lead) k.answer) (λ o. (o ≡ (end_of b xs).0) × Merging stops front back t (end_of b xs).1 errors × (o ≡ None → errors ≡ [])) (λ e. stops e ≡ false → Contains errors e)) (sym e)
+          go Back e =
+              let leads : Leads Back k.lead (held s.heap) = subst (λ (b : Direction). Leads b k.lead (held s.heap)) e k.pops.leads in
+              let ready : s.back_ready ≡ true = subst (λ (b : Direction). is_ready b s ≡ true) e now in
+              let stand = back_stands stops front back s k.mid xs errors was k.lead k.pops.left k.pops.same.sources leads ready in
+              let free : taken left k.lead.source end ≡ None = subst (λ (b : Direction). taken left k.lead.source b ≡ None) (sym e) (back_free stops front back s k.mid xs errors was k.lead k.pops.left k.pops.same.sources leads ready) in
+              subst (λ (b : Direction). MatchResult (entry_told (entry_of k.lead) k.answer) (λ o. (o ≡ (end_of b xs).0) × Merging stops front back t (end_of b xs).1 errors × (o ≡ None → errors ≡ [])) (λ e. stops e ≡ false → Contains errors e)) (sym e)
               (back_turn e leads ready k.answer (asks_took k.lead.source k.mid t k.answer k.asks left stand free) k.asks.same)
 
     -- a step gives the entry of the end and leaves the others
-    pub steps_merging : (s t : Merger S A) (r : Result (Option Entry) Error) (xs : List Entry) (errors : List Error) → Steps ask end s r t → Merging stops front back s xs errors → StepOr xs errors r t
+    pub steps_merging : (s t : Merger S A) (r : Result (Option Entry) Error) (xs : List Entry) (errors : List Error) → TakesStep ask end s r t → Merging stops front back s xs errors → StepOr xs errors r t
     steps_merging s t r xs errors k was = go k.fill k.fills k.turns
       where
-        go : (q : Result (Unit {0}) Error) → Fills ask end s q k.filled → TurnsIf ask end q k.filled r t → StepOr xs errors r t
+        go : (q : Result (Unit {0}) Error) → Fills ask end s q k.filled → TakesLeadIf ask end q k.filled r t → StepOr xs errors r t
         go (Ok u) f turns =
             let now = fills_ready ask end u s k.filled f in
             let merging = fills_merging s k.filled (Ok u) xs errors f was in
@@ -222,7 +185,7 @@ module _ {S A : Type 0} (stops : Error → Bool) (front back : S → Option R �
         go (Err e) f turns = rw turns.0 (fills_merging s k.filled (Err e) xs errors f was)
 
     -- one call
-    pub answers_leave : (s t : Merger S A) (r : Option R) (xs : List Entry) (errors : List Error) → s.failed ≡ false → Answers ask end s r t → Leaves stops front back s xs errors → stopped stops r ≡ false → MergeAnswer (Leaves stops front back) (end_of end xs) errors r t
+    pub answers_leave : (s t : Merger S A) (r : Option R) (xs : List Entry) (errors : List Error) → s.failed ≡ false → AnswersCall ask end s r t → Leaves stops front back s xs errors → stopped stops r ≡ false → MergeAnswer (Leaves stops front back) (end_of end xs) errors r t
     answers_leave s t r xs errors fine k leaves ok =
         let step = steps_merging s k.led k.step xs errors k.steps (leaves_merging stops front back s fine xs errors leaves) in
         rw (k.answer, k.state) (go k.step step (rw (← k.answer) ok))

@@ -1,5 +1,5 @@
 -- A merger of fresh sources deals what they have together.
-use Rattle.std.proofs.Common.{◌≡◌, refl, sym, ◌∙◌, ap, subst, ℕ, zero, suc, ◌+◌, ◌<◌, ◌≤◌, Bool, true, false, List, [], ◌∷◌, map, length, reverse, arith}
+use Rattle.std.proofs.Common.{◌≡◌, refl, sym, ◌∙◌, ap, subst, ℕ, zero, suc, ◌+◌, ◌<◌, ◌≤◌, Bool, false, List, [], ◌∷◌, map, length, reverse, arith}
 use Rattle.std.specs.Prelude.{◌==◌, Option, Some, None, Ok, Err, All, count_by}
 use Rattle.std.specs.Option.{option_map}
 use Rattle.std.specs.List.{AllZip, AllByRecursion}
@@ -18,7 +18,8 @@ use Rattle.lsm_merge.specs.declared.merge.Merger.{Merger}
 use Rattle.lsm_merge.specs.Ends.{R, Left, Goes, fresh}
 use Rattle.lsm_heaps.specs.Tournament.{held, room}
 use Rattle.lsm_merge.specs.Union.{Ascends, entries_of, all_errors, merged}
-use Rattle.lsm_merge.specs.Merge.{entry_of, count_of, is_ready, Ready, LeavesIf, Kept, whole, taken, HeapHolds, Stands, Leaves, MayMerge, MergeAnswer, Merges, NothingAfterError, EndsAtError, Follows, DealsUntil, held_of}
+use Rattle.lsm_merge.specs.Merge.{entry_of, is_ready, MayMerge, NothingAfterError, EndsAtError, Follows, DealsUntil, held_of}
+use Rattle.lsm_merge.proofs.Kept.{count_of, Ready, LeavesIf, Kept, whole, taken, HeapHolds, Stands, Leaves, MergeAnswer, Merges}
 use Rattle.lsm_merge.proofs.PopLemmas.{length_map}
 use Rattle.lsm_merge.proofs.RoomLemmas.{may_merge}
 
@@ -27,11 +28,11 @@ use Rattle.lsm_merge.proofs.RoomLemmas.{may_merge}
 abbrev pub untouched : List R → Kept
 untouched rs = record { front = None; rest = rs; back = None }
 
-pub none_taken : (lists : List (List R)) (k : ℕ) (b : Bool) → taken (map untouched lists) k b ≡ None
-none_taken [] k true = refl
-none_taken [] k false = refl
-none_taken (rs ∷ lists) zero true = refl
-none_taken (rs ∷ lists) zero false = refl
+pub none_taken : (lists : List (List R)) (k : ℕ) (b : Direction) → taken (map untouched lists) k b ≡ None
+none_taken [] k Back = refl
+none_taken [] k Front = refl
+none_taken (rs ∷ lists) zero Back = refl
+none_taken (rs ∷ lists) zero Front = refl
 none_taken (rs ∷ lists) (suc k) b = none_taken lists k b
 
 pub all_whole : (lists : List (List R)) → map whole (map untouched lists) ≡ lists
@@ -51,22 +52,22 @@ module _ {S A : Type 0} (front back : S → Option R → S → Type 0) (m : Merg
 
   -- nothing is held yet
   pub new_merging : (stops : Error → Bool) (lists : List (List R)) → AllZip (Deals (stopped stops) front back) its lists → AllByRecursion (λ rs. Ascends (entries_of rs)) lists
-      → Stands stops front back m (map untouched lists) × ((b : Bool) → Ready (is_ready b m) b (map untouched lists))
+      → Stands stops front back m (map untouched lists) × ((b : Direction) → Ready (is_ready b m) b (map untouched lists))
   new_merging stops lists zip up = (
     record {
       sources = subst (λ (ss : List (Ends S)). AllZip (λ s k. Left stops front back s k.rest) ss (map untouched lists)) (sym sources) (zip_fresh stops its lists zip);
       sorted = all_sorted lists up;
       heap = subst (λ (hs : List (HeapItem A)). HeapHolds hs (map untouched lists)) (sym empty) (record {
-        each = All-nil (λ h. taken (map untouched lists) h.source h.from_back ≡ Some (entry_of h));
+        each = All-nil (λ h. taken (map untouched lists) h.source h.end ≡ Some (entry_of h));
         once = λ k b. sym (ap count_of (none_taken lists k b));
       });
     },
     λ b. subst (λ (f : Bool). Ready f b (map untouched lists)) (sym (not_ready b)) (λ k. none_taken lists k b),
   )
     where
-      not_ready : (b : Bool) → is_ready b m ≡ false
-      not_ready true = no_back
-      not_ready false = no_front
+      not_ready : (b : Direction) → is_ready b m ≡ false
+      not_ready Back = no_back
+      not_ready Front = no_front
 
   module _ (fine : m.failed ≡ false) where
     pub new_leaves : (stops : Error → Bool) (lists : List (List R)) → AllZip (Deals (stopped stops) front back) its lists → AllByRecursion (λ rs. Ascends (entries_of rs)) lists → Leaves stops front back m (merged lists) (all_errors lists)

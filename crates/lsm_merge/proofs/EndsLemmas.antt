@@ -1,12 +1,14 @@
 -- One call of an `Ends` that isn't done.
 use Rattle.std.proofs.Common.{◌≡◌, refl, sym, ◌∙◌, ap, subst, Bool, true, false, List, [], ◌∷◌, reverse}
 use Rattle.std.specs.Prelude.{Option, Some, None, is_none}
-use Rattle.std.specs.Iterator.{Count, IsFinite}
+use Rattle.std.specs.Iterator.{Count, IsFinite, MakesProgress}
 use Rattle.sst_entries.specs.declared.error.Error.{Error}
 use Rattle.lsm_merge.specs.declared.ends.Ends.{Ends}
 use Rattle.sst_entries.specs.Stream.{first, but_first, last, but_last, stopped, Deals, CanDeal, nowhere}
-use Rattle.lsm_merge.specs.Ends.{R, LeftIf, Left, GoesIf, Goes, AskedIf, Asked}
-use Rattle.sst_entries.specs.Stream.{DealsFirst, DealsLast}
+use Rattle.sst_entries.specs.declared.stream.Direction.{Direction}
+use Rattle.sst_entries.specs.declared.stream.Direction.TheVariants.{Front, Back}
+use Rattle.lsm_merge.specs.Ends.{R, LeftIf, Left, GoesIf, Goes, AskedIf, Asked, DealsAt}
+use Rattle.sst_entries.specs.Stream.{DealsFirst, DealsLast, Steps}
 use Rattle.sst_entries.proofs.FrontLemmas.{can_in_front}
 use Rattle.sst_entries.proofs.StreamLemmas.{deals_front, deals_back, can_front, can_after_back, can_now, can_now_back}
 
@@ -68,6 +70,16 @@ module _ {S : Type 0} (front back : S → Option R → S → Type 0) where
 
 -- ---- a call by what it asks
 
+module _ {S : Type 0} (ask : S → Option R → S → Type 0) (s : Ends S) where
+  pub asked_some : (x : R) (t : S) → s.done ≡ false → ask s.iter (Some x) t → Asked ask s (Some x) (record { iter = t; done = s.done })
+  asked_some x t e step = record { call = subst (λ (b : Bool). AskedIf ask b s (Some x) (record { iter = t; done = s.done })) (sym e) (step, e) }
+
+  pub asked_none : (t : S) → s.done ≡ false → ask s.iter None t → Asked ask s None (record { iter = t; done = true })
+  asked_none t e step = record { call = subst (λ (b : Bool). AskedIf ask b s None (record { iter = t; done = true })) (sym e) (step, refl) }
+
+  pub asked_done : s.done ≡ true → Asked ask s None s
+  asked_done e = record { call = subst (λ (b : Bool). AskedIf ask b s None s) (sym e) (refl, refl) }
+
 module _ {S : Type 0} (stops : Error → Bool) (front back : S → Option R → S → Type 0) where
   pub asked_first : (s : Ends S) (r : Option R) (t : Ends S) → Asked front s r t → DealsFirst stops (Left stops front back) s r t
   asked_first s r t a = by_done s.done refl a.call
@@ -90,6 +102,22 @@ module _ {S : Type 0} (stops : Error → Bool) (front back : S → Option R → 
       by_done : (b : Bool) → s.done ≡ b → AskedIf back b s r t → DealsLast stops (Left stops front back) s r t
       by_done true e c = rw (c.0, c.1) (done_deals_back stops front back s e)
       by_done false e c = one r e c.0 c.1
+
+  pub asked_deals : (end : Direction) (s : Ends S) (r : Option R) (t : Ends S) → Asked (Steps front back end) s r t → DealsAt end stops (Left stops front back) s r t
+  asked_deals Front = asked_first
+  asked_deals Back = asked_last
+
+-- a call at the front or the back of an iterator that may be asked at both makes progress, and it may be asked at both again
+module _ {S X : Type 0} (front back : S → Option X → S → Type 0) (can can_back : S → Type 0) (left : S → Count) where
+  progress : (may : S → Type 0) (s : S) (r : Option X) (t : S) → CanDeal front back can can_back t → MakesProgress may left s r t → MakesProgress (CanDeal front back can can_back) left s r t
+  progress may s None t can p = record { on = λ ends. tt; keeps = tt; rests = p.rests }
+  progress may s (Some x) t can p = record { on = λ ends. let q = p.on ends in (can, q.1, q.2); keeps = can; rests = p.rests }
+
+  pub progress_front : (s : S) (r : Option X) (t : S) → CanDeal front back can can_back s → front s r t → MakesProgress can left s r t → MakesProgress (CanDeal front back can can_back) left s r t
+  progress_front s r t c step p = progress can s r t (can_front front back can can_back s r t c step) p
+
+  pub progress_back : (s : S) (r : Option X) (t : S) → CanDeal front back can can_back s → back s r t → MakesProgress can_back left s r t → MakesProgress (CanDeal front back can can_back) left s r t
+  progress_back s r t c step p = progress can_back s r t (can_after_back front back can can_back s r t c step) p
 
 -- one that may be asked at both ends, asked at the front, may be asked at both ends again
 module _ {S : Type 0} (front back : S → Option R → S → Type 0) (can can_back : S → Type 0) (left : S → Count) where

@@ -1,30 +1,33 @@
 -- One from an end of each source is taken into the heap.
 use Rattle.std.proofs.Common.{◌≡◌, inl, inr, refl, sym, ◌∙◌, ap, subst, ℕ, ◌+◌, Bool, true, false, List, [], length, arith}
-use Rattle.std.specs.Prelude.{not, Option, None}
+use Rattle.std.specs.Prelude.{Option, None}
 use Rattle.std.specs.List.{AllZip}
 use Rattle.std.proofs.lemmas.Bool.{cases_eq, cases_lt}
 use Rattle.std.proofs.lemmas.List.{get_or_past}
 use Rattle.sst_entries.specs.Entry.{Entry}
+use Rattle.sst_entries.specs.declared.stream.Direction.{Direction}
+use Rattle.sst_entries.specs.declared.stream.Direction.TheVariants.{Front, Back}
 use Rattle.sst_entries.specs.declared.error.Error.{Error}
 use Rattle.lsm_merge.specs.declared.merge.Merger.{Merger}
 use Rattle.lsm_merge.specs.Ends.{R, Left}
 use Rattle.lsm_heaps.specs.Tournament.{held}
 use Rattle.lsm_merge.specs.Union.{all_errors, merged}
-use Rattle.lsm_merge.specs.Merge.{Kept, kept_at, taken, Ready, is_ready, HeapHolds, Stands, Merging, Took, Filled}
+use Rattle.lsm_merge.specs.Merge.{is_ready}
+use Rattle.lsm_merge.proofs.Kept.{Kept, kept_at, taken, Ready, HeapHolds, Stands, Merging, Took, Filled, opposite}
 use Rattle.lsm_merge.proofs.TakeLemmas.{zip_length}
 
 -- an end or the other
-pub by_end : (P : Bool → Type 0) (end : Bool) → P end → P (not end) → (b : Bool) → P b
-by_end P true p q true = p
-by_end P true p q false = q
-by_end P false p q true = q
-by_end P false p q false = p
+pub by_end : (P : Direction → Type 0) (end : Direction) → P end → P (opposite end) → (b : Direction) → P b
+by_end P Front p q Front = p
+by_end P Front p q Back = q
+by_end P Back p q Front = q
+by_end P Back p q Back = p
 
-pub other_end : (end : Bool) → not end ≡ end → ⊥
-other_end true e = let no : false ≡ true = e in absurd cc
-other_end false e = let no : true ≡ false = e in absurd cc
+pub other_end : (end : Direction) → opposite end ≡ end → ⊥
+other_end Front e = let no : Back ≡ Front = e in absurd cc
+other_end Back e = let no : Front ≡ Back = e in absurd cc
 
-pub other_ready : (end f : Bool) (ks kept : List Kept) → ((k : ℕ) → taken kept k end ≡ taken ks k end) → ((k : ℕ) → (kept_at ks k).rest ≡ [] → (kept_at kept k).rest ≡ []) → Ready f end ks → Ready f end kept
+pub other_ready : (end : Direction) (f : Bool) (ks kept : List Kept) → ((k : ℕ) → taken kept k end ≡ taken ks k end) → ((k : ℕ) → (kept_at ks k).rest ≡ [] → (kept_at kept k).rest ≡ []) → Ready f end ks → Ready f end kept
 other_ready end true ks kept same shrinks ready = λ k none. shrinks k (ready k (sym (same k) ∙ none))
 other_ready end false ks kept same shrinks ready = λ k. same k ∙ ready k
 
@@ -37,7 +40,7 @@ module _ {S A : Type 0} (stops : Error → Bool) (front back : S → Option R �
     heap = subst (λ h. HeapHolds (held h) ks) (sym heap) stands.heap;
   }
 
-  pub filled_none : (end : Bool) (ks : List Kept) (m : Merger S A) → Stands stops front back m ks → Ready false end ks → Filled stops front back end 0 ks m
+  pub filled_none : (end : Direction) (ks : List Kept) (m : Merger S A) → Stands stops front back m ks → Ready false end ks → Filled stops front back end 0 ks m
   filled_none end ks m stands none = record {
     kept = ks;
     stands = stands;
@@ -48,7 +51,7 @@ module _ {S A : Type 0} (stops : Error → Bool) (front back : S → Option R �
     shrinks = λ k e. e;
   }
 
-  pub filled_more : (end : Bool) (i : ℕ) (ks : List Kept) (s t : Merger S A) (was : Filled stops front back end i ks s) → Took stops front back end i was.kept t → Filled stops front back end (i + 1) ks t
+  pub filled_more : (end : Direction) (i : ℕ) (ks : List Kept) (s t : Merger S A) (was : Filled stops front back end i ks s) → Took stops front back end i was.kept t → Filled stops front back end (i + 1) ks t
   filled_more end i ks s t was took = record {
     kept = took.kept;
     stands = took.stands;
@@ -58,13 +61,13 @@ module _ {S A : Type 0} (stops : Error → Bool) (front back : S → Option R �
       | inr off ↦ took.shrinks k (was.ready k (omega arith) (sym (took.elsewhere k end (λ e f. off e)) ∙ none))
     ];
     free = λ k le. took.elsewhere k end (λ e f. absurd (omega arith)) ∙ was.free k (omega arith);
-    other = λ k. took.elsewhere k (not end) (λ e f. other_end end f) ∙ was.other k;
+    other = λ k. took.elsewhere k (opposite end) (λ e f. other_end end f) ∙ was.other k;
     shrinks = λ k none. took.shrinks k (was.shrinks k none);
   }
 
   -- once each source was asked
-  pub ready_filled : (end : Bool) (s m t : Merger S A) (ks : List Kept) → ((b : Bool) → Ready (is_ready b s) b ks) → (n : ℕ) (filled : Filled stops front back end n ks m) → n ≡ length m.sources.items → is_ready end t ≡ true → is_ready (not end) t ≡ is_ready (not end) s
-      → (b : Bool) → Ready (is_ready b t) b filled.kept
+  pub ready_filled : (end : Direction) (s m t : Merger S A) (ks : List Kept) → ((b : Direction) → Ready (is_ready b s) b ks) → (n : ℕ) (filled : Filled stops front back end n ks m) → n ≡ length m.sources.items → is_ready end t ≡ true → is_ready (opposite end) t ≡ is_ready (opposite end) s
+      → (b : Direction) → Ready (is_ready b t) b filled.kept
   ready_filled end s m t ks ready n filled all now other =
       let asked : (k : ℕ) → taken filled.kept k end ≡ None → (kept_at filled.kept k).rest ≡ [] = λ k none. elim (cases_lt k n) [
         | inl lt ↦ filled.ready k lt none
@@ -72,10 +75,10 @@ module _ {S A : Type 0} (stops : Error → Bool) (front back : S → Option R �
       ] in
       by_end (λ b. Ready (is_ready b t) b filled.kept) end
       (subst (λ (f : Bool). Ready f end filled.kept) (sym now) asked)
-      (subst (λ (f : Bool). Ready f (not end) filled.kept) (sym other) (other_ready (not end) (is_ready (not end) s) ks filled.kept filled.other filled.shrinks (ready (not end))))
+      (subst (λ (f : Bool). Ready f (opposite end) filled.kept) (sym other) (other_ready (opposite end) (is_ready (opposite end) s) ks filled.kept filled.other filled.shrinks (ready (opposite end))))
 
-  pub merging_filled : (end : Bool) (s m t : Merger S A) (xs : List Entry) (errors : List Error) (was : Merging stops front back s xs errors) (n : ℕ) → Filled stops front back end n was.kept m → n ≡ length m.sources.items
-      → t.sources ≡ m.sources → t.heap ≡ m.heap → is_ready end t ≡ true → is_ready (not end) t ≡ is_ready (not end) s → Merging stops front back t xs errors
+  pub merging_filled : (end : Direction) (s m t : Merger S A) (xs : List Entry) (errors : List Error) (was : Merging stops front back s xs errors) (n : ℕ) → Filled stops front back end n was.kept m → n ≡ length m.sources.items
+      → t.sources ≡ m.sources → t.heap ≡ m.heap → is_ready end t ≡ true → is_ready (opposite end) t ≡ is_ready (opposite end) s → Merging stops front back t xs errors
   merging_filled end s m t xs errors was n filled all sources heap now other = record {
     kept = filled.kept;
     stands = stands_same m t filled.kept sources heap filled.stands;
@@ -85,7 +88,7 @@ module _ {S A : Type 0} (stops : Error → Bool) (front back : S → Option R �
   }
 
   -- a merger whose flags alone may differ
-  pub merging_same : (s t : Merger S A) (xs : List Entry) (errors : List Error) → t.sources ≡ s.sources → t.heap ≡ s.heap → ((b : Bool) → is_ready b t ≡ is_ready b s) → Merging stops front back s xs errors → Merging stops front back t xs errors
+  pub merging_same : (s t : Merger S A) (xs : List Entry) (errors : List Error) → t.sources ≡ s.sources → t.heap ≡ s.heap → ((b : Direction) → is_ready b t ≡ is_ready b s) → Merging stops front back s xs errors → Merging stops front back t xs errors
   merging_same s t xs errors sources heap flags was = record {
     kept = was.kept;
     stands = stands_same s t was.kept sources heap was.stands;

@@ -10,12 +10,14 @@ use Rattle.sst_entries.specs.Stream.{first, but_first, but_last, front_of, back_
 use Rattle.sst_entries.specs.declared.error.Error.{Error}
 use Rattle.sst_entries.specs.declared.stream.Direction.{Direction}
 use Rattle.sst_entries.specs.declared.stream.Direction.TheVariants.{Front, Back}
+use Rattle.sst_entries.proofs.StreamLemmas.{map_append}
 use Rattle.lsm_merge.specs.declared.merge.Merger.{Merger}
 use Rattle.lsm_merge.specs.Ends.{R, Left}
 use Rattle.lsm_heaps.specs.Tournament.{held}
 use Rattle.lsm_merge.specs.Union.{all_errors, merged}
-use Rattle.lsm_merge.specs.Merge.{entry_of, Kept, one, whole, kept_at, taken, Ready, is_ready, Stands, Merging, Leaves, Failed, MergeAnswer, Merges}
-use Rattle.lsm_merge.specs.Asks.{error_told, entry_told, answer_told, ended_at, Asks, FillsIf, Fills, Turns, TurnsIf, Steps, CallsIf, Calls, IsMergerOf}
+use Rattle.lsm_merge.specs.Merge.{entry_of, is_ready}
+use Rattle.lsm_merge.proofs.Kept.{Kept, one, whole, kept_at, taken, Ready, Stands, Merging, Leaves, Failed, MergeAnswer, Merges}
+use Rattle.lsm_merge.specs.Asks.{error_told, entry_told, answer_told, ended_at, AsksSource, FillsIf, Fills, TakesLead, TakesLeadIf, TakesStep, CallsIf, Calls, IsMergerOf}
 use Rattle.lsm_merge.specs.MergeLaws.{DealSorted, IsWithinBag, ComesLate, ErrorsComeLate, MeetsErrorsLate}
 use Rattle.lsm_merge.proofs.EndsLemmas.{asked_first}
 use Rattle.lsm_merge.proofs.HeldLemmas.{weight, count_cons}
@@ -23,15 +25,12 @@ use Rattle.lsm_merge.proofs.PopLemmas.{length_map, cleared, rewritten}
 use Rattle.lsm_merge.proofs.TakeLemmas.{zip_length, front_err_first}
 use Rattle.lsm_merge.proofs.FillLemmas.{stands_same, ready_filled}
 use Rattle.lsm_merge.proofs.StepLemmas.{others, front_stands, front_free, front_first, front_spent, front_ready, ready_turned}
-use Rattle.lsm_merge.proofs.AsksLemmas.{each_filled, each_same, asks_took, fills_ready, steps_failed, made_sources, made_heap, made_now, made_other, ready_same}
+use Rattle.lsm_merge.proofs.AsksLemmas.{each_filled, each_same, asks_took, fills_ready, steps_failed}
+use Rattle.lsm_merge.proofs.ReadyLemmas.{ready_same, made_sources, made_heap, made_now, made_other}
 use Rattle.lsm_merge.proofs.DealsMerged.{untouched, all_whole, new_merging, new_leaves, nothing_more}
 use Rattle.lsm_merge.proofs.CallsMerged.{front_merges, runs_within}
 
 -- ---- lists
-
-ok_append : (xs ys : List Entry) → all_ok (xs ++ ys) ≡ all_ok xs ++ all_ok ys
-ok_append [] ys = refl
-ok_append (x ∷ xs) ys = ap (λ (rs : List R). Ok x ∷ rs) (ok_append xs ys)
 
 count_push : (p : Entry → Bool) (xs : List Entry) (x : Entry) → count_by p (xs ++ x ∷ []) ≡ count_by p xs + weight (p x)
 count_push p [] x = let one = count_cons p x [] in omega (arith, one)
@@ -71,7 +70,7 @@ gone_one lists left given i x rs g lt head =
     let was = g.at i lt in
     let now : slice_index_or (slice_set left i rs) i [] ≡ rs = get_or-set_same left i rs [] (omega (arith, lt, g.count)) in (
       was.gone,
-      was.parts ∙ ap (λ (qs : List R). all_ok was.gone ++ qs) head ∙ sym (append_assoc (all_ok was.gone) (Ok x ∷ []) rs) ∙ ap (λ (qs : List R). qs ++ rs) (sym (ok_append was.gone (x ∷ [])))
+      was.parts ∙ ap (λ (qs : List R). all_ok was.gone ++ qs) head ∙ sym (append_assoc (all_ok was.gone) (Ok x ∷ []) rs) ∙ ap (λ (qs : List R). qs ++ rs) (sym (map_append was.gone (x ∷ [])))
           ∙ ap (λ (qs : List R). all_ok (was.gone ++ x ∷ []) ++ qs) (sym now),
       was.bag,
     )
@@ -125,11 +124,11 @@ module _ {S A : Type 0} (stops : Error → Bool) (front back : S → Option R �
   record Along (given : List Entry) (m : Merger S A) : Type 0 where
     pub kept : List Kept
     pub stands : Stands stops front back m kept
-    pub ready : (at_back : Bool) → Ready (is_ready at_back m) at_back kept
+    pub ready : (end : Direction) → Ready (is_ready end m) end kept
     pub gone : Gone lists (map whole kept) given
 
   -- an ask that told an error found it first in its source
-  asks_err : (i : ℕ) (s t : Merger S A) (e : Error) → Asks front false i s (Err e) t → (ks : List Kept) → Stands stops front back s ks → stops e ≡ false → Some (Err e) ≡ first (kept_at ks i).rest
+  asks_err : (i : ℕ) (s t : Merger S A) (e : Error) → AsksSource front Front i s (Err e) t → (ks : List Kept) → Stands stops front back s ks → stops e ≡ false → Some (Err e) ≡ first (kept_at ks i).rest
   asks_err i s t e a ks stands fine = go a.answer a.told (asked_first stops front back a.was a.answer a.is a.asked)
     where
       go : (o : Option R) → Err e ≡ error_told o → DealsFirst stops (Left stops front back) a.was o a.is → Some (Err e) ≡ first (kept_at ks i).rest
@@ -139,26 +138,26 @@ module _ {S A : Type 0} (stops : Error → Bool) (front back : S → Option R �
           let same : f ≡ e = cc in
           front_err_first stops front back s i a.within a.was a.is a.found ks stands e (subst (λ (g : Error). DealsFirst stops (Left stops front back) a.was (Some (Err g)) a.is) same d) fine
 
-  fill_along : (given : List Entry) (s t : Merger S A) (r : Result (Unit {0}) Error) → Fills front false s r t → Along given s → MatchResult r (λ _. Along given t) (Late stops lists given)
+  fill_along : (given : List Entry) (s t : Merger S A) (r : Result (Unit {0}) Error) → Fills front Front s r t → Along given s → MatchResult r (λ _. Along given t) (Late stops lists given)
   fill_along given s t r f was = go s.front_ready refl r f.fill
     where
-      go : (b : Bool) → s.front_ready ≡ b → (q : Result (Unit {0}) Error) → FillsIf front false b s q t → MatchResult q (λ _. Along given t) (Late stops lists given)
+      go : (b : Bool) → s.front_ready ≡ b → (q : Result (Unit {0}) Error) → FillsIf front Front b s q t → MatchResult q (λ _. Along given t) (Late stops lists given)
       go true e q k = rw (k.0, k.1) was
       go false e (Ok u) k =
-          let none : Ready false false was.kept = subst (λ (f : Bool). Ready f false was.kept) e (was.ready false) in
-          let same = each_same front false (length s.sources.items) s k.last k.each in
-          let filled = each_filled stops front back front false (asked_first stops front back) (length s.sources.items) was.kept s k.last k.each was.stands none in
+          let none : Ready false Front was.kept = subst (λ (f : Bool). Ready f Front was.kept) e (was.ready Front) in
+          let same = each_same front Front (length s.sources.items) s k.last k.each in
+          let filled = each_filled stops front back front Front (asked_first stops front back) (length s.sources.items) was.kept s k.last k.each was.stands none in
           record {
             kept = filled.kept;
-            stands = stands_same stops front back k.last t filled.kept (ap (λ (m : Merger S A). m.sources) k.ready ∙ made_sources false k.last) (ap (λ (m : Merger S A). m.heap) k.ready ∙ made_heap false k.last) filled.stands;
-            ready = ready_filled stops front back false s k.last t was.kept was.ready (length s.sources.items) filled (sym same.count)
-                (ap (is_ready false) k.ready ∙ made_now false k.last) (ap (is_ready true) k.ready ∙ made_other false k.last ∙ ready_same true s k.last same);
+            stands = stands_same stops front back k.last t filled.kept (ap (λ (m : Merger S A). m.sources) k.ready ∙ made_sources Front k.last) (ap (λ (m : Merger S A). m.heap) k.ready ∙ made_heap Front k.last) filled.stands;
+            ready = ready_filled stops front back Front s k.last t was.kept was.ready (length s.sources.items) filled (sym same.count)
+                (ap (is_ready Front) k.ready ∙ made_now Front k.last) (ap (is_ready Back) k.ready ∙ made_other Front k.last ∙ ready_same Back s k.last same);
             gone = subst (λ (ls : List (List R)). Gone lists ls given) (sym filled.wholes) was.gone;
           }
       go false e (Err x) k =
-          let none : Ready false false was.kept = subst (λ (f : Bool). Ready f false was.kept) e (was.ready false) in
-          let filled = each_filled stops front back front false (asked_first stops front back) k.place was.kept s k.before k.each was.stands none in
-          let same = each_same front false k.place s k.before k.each in
+          let none : Ready false Front was.kept = subst (λ (f : Bool). Ready f Front was.kept) e (was.ready Front) in
+          let filled = each_filled stops front back front Front (asked_first stops front back) k.place was.kept s k.before k.each was.stands none in
+          let same = each_same front Front k.place s k.before k.each in
           λ fine.
           let head = err_whole (kept_at filled.kept k.place) x (filled.free k.place (omega arith)) (asks_err k.place k.before t x k.fails filled.kept filled.stands fine) in
           let left : Gone lists (map whole filled.kept) given = subst (λ (ls : List (List R)). Gone lists ls given) (sym filled.wholes) was.gone in
@@ -173,7 +172,7 @@ module _ {S A : Type 0} (stops : Error → Bool) (front back : S → Option R �
             gave = record { count = λ p. let few : count_by p g.gone ≤ count_by p given = g.bag.count p in omega (arith, few, count_but_last p g.gone) };
           }
 
-  module _ (given : List Entry) (s t : Merger S A) (r : Result (Option Entry) Error) (k : Turns front false s r t) (was : Along given s) (now : s.front_ready ≡ true) where
+  module _ (given : List Entry) (s t : Merger S A) (r : Result (Option Entry) Error) (k : TakesLead front Front s r t) (was : Along given s) (now : s.front_ready ≡ true) where
     abbrev merging : Merging stops front back s (merged (map whole was.kept)) (all_errors (map whole was.kept))
     merging = record { kept = was.kept; stands = was.stands; ready = was.ready; entries = refl; faults = refl }
 
@@ -184,39 +183,39 @@ module _ {S A : Type 0} (stops : Error → Bool) (front back : S → Option R �
     faults = all_errors (map whole was.kept)
 
     abbrev after : List Kept
-    after = others stops front back s k.mid entries faults merging k.lead k.pops k.same.sources
+    after = others stops front back s k.mid entries faults merging k.lead k.pops.left k.pops.same.sources
 
     abbrev rest : List R
-    rest = whole (cleared k.lead.from_back (kept_at was.kept k.lead.source))
+    rest = whole (cleared k.lead.end (kept_at was.kept k.lead.source))
 
     wholes : map whole after ≡ slice_set (map whole was.kept) k.lead.source rest
-    wholes = rewritten (held s.heap) (held k.mid.heap) k.lead was.kept was.stands.sorted was.stands.heap k.pops
+    wholes = rewritten (held s.heap) (held k.mid.heap) k.lead was.kept was.stands.sorted was.stands.heap k.pops.left
 
     head : slice_index_or (map whole was.kept) k.lead.source [] ≡ Ok (entry_of k.lead) ∷ rest
-    head = get_or-map whole was.kept k.lead.source _ ∙ front_first stops front back s k.mid entries faults merging k.lead k.pops k.same.sources k.leads now
+    head = get_or-map whole was.kept k.lead.source _ ∙ front_first stops front back s k.mid entries faults merging k.lead k.pops.left k.pops.same.sources k.pops.leads now
 
     within : k.lead.source < length lists
     within =
-        let sources : length k.mid.sources.items ≡ length s.sources.items = ap (λ v. length v.items) k.same.sources in
+        let sources : length k.mid.sources.items ≡ length s.sources.items = ap (λ v. length v.items) k.pops.same.sources in
         omega (arith, was.gone.count, length_map whole was.kept, zip_length _ s.sources.items was.kept was.stands.sources, k.asks.within, sources)
 
     stand : Stands stops front back k.mid after
-    stand = front_stands stops front back s k.mid entries faults merging k.lead k.pops k.same.sources k.leads now
+    stand = front_stands stops front back s k.mid entries faults merging k.lead k.pops.left k.pops.same.sources k.pops.leads now
 
-    free : taken after k.lead.source false ≡ None
-    free = front_free stops front back s k.mid entries faults merging k.lead k.pops k.same.sources k.leads now
+    free : taken after k.lead.source Front ≡ None
+    free = front_free stops front back s k.mid entries faults merging k.lead k.pops.left k.pops.same.sources k.pops.leads now
 
     turn_along : MatchResult r (λ o. MatchOption o (Unit {0}) (λ x. Along (x ∷ given) t)) (Late stops lists given)
     turn_along = subst (λ (q : Result (Option Entry) Error). MatchResult q (λ o. MatchOption o (Unit {0}) (λ x. Along (x ∷ given) t)) (Late stops lists given)) (sym k.told) (go k.answer k.asks)
       where
-        go : (q : Result (Unit {0}) Error) → Asks front false k.lead.source k.mid q t → MatchResult (entry_told (entry_of k.lead) q) (λ o. MatchOption o (Unit {0}) (λ x. Along (x ∷ given) t)) (Late stops lists given)
+        go : (q : Result (Unit {0}) Error) → AsksSource front Front k.lead.source k.mid q t → MatchResult (entry_told (entry_of k.lead) q) (λ o. MatchOption o (Unit {0}) (λ x. Along (x ∷ given) t)) (Late stops lists given)
         go (Ok u) a =
-            let took = asks_took stops front back front false (asked_first stops front back) k.lead.source k.mid t (Ok u) a after stand free in
+            let took = asks_took stops front back front Front (asked_first stops front back) k.lead.source k.mid t (Ok u) a after stand free in
             record {
               kept = took.kept;
               stands = took.stands;
-              ready = ready_turned stops front back s k.mid entries faults merging k.lead k.pops k.same.sources false t (front_ready stops front back s k.mid entries faults merging k.lead k.pops k.same.sources k.leads now)
-                  (front_spent stops front back s k.mid entries faults merging k.lead k.pops k.same.sources k.leads now) took (a.same.front_ready ∙ k.same.front_ready ∙ now) (a.same.back_ready ∙ k.same.back_ready);
+              ready = ready_turned stops front back s k.mid entries faults merging k.lead k.pops.left k.pops.same.sources Front t (front_ready stops front back s k.mid entries faults merging k.lead k.pops.left k.pops.same.sources k.pops.leads now)
+                  (front_spent stops front back s k.mid entries faults merging k.lead k.pops.left k.pops.same.sources k.pops.leads now) took (a.same.front_ready ∙ k.pops.same.front_ready ∙ now) (a.same.back_ready ∙ k.pops.same.back_ready);
               gone = subst (λ (ls : List (List R)). Gone lists ls (entry_of k.lead ∷ given)) (sym (took.wholes ∙ wholes)) (gone_more lists (map whole was.kept) given k.lead.source (entry_of k.lead) rest was.gone within head);
             }
         go (Err e) a = λ fine.
@@ -231,13 +230,13 @@ module _ {S A : Type 0} (stops : Error → Bool) (front back : S → Option R �
               gave = subst (λ (ys : List Entry). IsWithinBag ys given) (sym (but_last_push o.0 (entry_of k.lead))) o.2;
             }
 
-  step_along : (given : List Entry) (s t : Merger S A) (r : Result (Option Entry) Error) → Steps front false s r t → Along given s → MatchResult r (λ o. MatchOption o (Unit {0}) (λ x. Along (x ∷ given) t)) (Late stops lists given)
+  step_along : (given : List Entry) (s t : Merger S A) (r : Result (Option Entry) Error) → TakesStep front Front s r t → Along given s → MatchResult r (λ o. MatchOption o (Unit {0}) (λ x. Along (x ∷ given) t)) (Late stops lists given)
   step_along given s t r k was = go k.fill k.fills k.turns
     where
-      go : (q : Result (Unit {0}) Error) → Fills front false s q k.filled → TurnsIf front false q k.filled r t → MatchResult r (λ o. MatchOption o (Unit {0}) (λ x. Along (x ∷ given) t)) (Late stops lists given)
+      go : (q : Result (Unit {0}) Error) → Fills front Front s q k.filled → TakesLeadIf front Front q k.filled r t → MatchResult r (λ o. MatchOption o (Unit {0}) (λ x. Along (x ∷ given) t)) (Late stops lists given)
       go (Ok u) f turns = elim turns [
-        | inl none ↦ rw none.none tt
-        | inr turn ↦ turn_along given k.filled t r turn (fill_along given s k.filled (Ok u) f was) (fills_ready front false u s k.filled f)
+        | inl none ↦ rw none.0 tt
+        | inr turn ↦ turn_along given k.filled t r turn (fill_along given s k.filled (Ok u) f was) (fills_ready front Front u s k.filled f)
       ]
       go (Err e) f turns = rw turns.0 (fill_along given s k.filled (Err e) f was)
 
@@ -249,29 +248,29 @@ module _ {S A : Type 0} (stops : Error → Bool) (front back : S → Option R �
     Has u = Leaves u front back
 
     -- after `None`
-    over : (ends : List Direction) (rs : List (Option R)) (s t : Merger S A) → Leaves stops front back s [] [] → Runs (Calls front false May) nowhere s ends rs t → NoneStops (stopped stops) rs → AllByRecursion (λ r. r ≡ None) rs
+    over : (ends : List Direction) (rs : List (Option R)) (s t : Merger S A) → Leaves stops front back s [] [] → Runs (Calls front Front May) nowhere s ends rs t → NoneStops (stopped stops) rs → AllByRecursion (λ r. r ≡ None) rs
     over ends rs s t has runs fine =
         nothing_more Any Failed Has stops ends rs s t has
-        (runs_within (Calls front false May) nowhere (Merges Any Failed Has front_of) (Merges Any Failed Has back_of) (front_merges front back May) (λ s r t no. absurd no) ends rs s t runs) fine
+        (runs_within (Calls front Front May) nowhere (Merges Any Failed Has front_of) (Merges Any Failed Has back_of) (front_merges front back May) (λ s r t no. absurd no) ends rs s t runs) fine
 
     late : (given : List Entry) (ends : List Direction) (rs : List (Option R)) (s t : Merger S A) (xs : List Entry) (errors : List Error) → s.failed ≡ false → Along given s → Leaves stops front back s xs errors
-        → Runs (Calls front false May) nowhere s ends rs t → NoneStops (stopped stops) rs → ErrorsComeLate lists given rs
+        → Runs (Calls front Front May) nowhere s ends rs t → NoneStops (stopped stops) rs → ErrorsComeLate lists given rs
     late given [] [] s t xs errors on was has runs fine = tt
     late given [] (r ∷ rs) s t xs errors on was has runs fine = absurd runs
     late given (e ∷ ends) [] s t xs errors on was has runs fine = absurd runs
     late given (Back ∷ ends) (r ∷ rs) s t xs errors on was has runs fine = absurd runs.1
     late given (Front ∷ ends) (r ∷ rs) s t xs errors on was has runs fine =
         let j = runs.0 in
-        let call = subst (λ (b : Bool). CallsIf front false b s r j) on runs.1.call in
+        let call = subst (λ (b : Bool). CallsIf front Front b s r j) on runs.1.call in
         go r call.step call.answer call.steps call.state (λ x more leaves on. late (x ∷ given) ends rs j t (but_first xs) errors on more leaves runs.2 fine.1) fine.0 ((front_merges front back May s r j runs.1).gives stops xs errors has fine.0)
       where
-        go : (r : Option R) (q : Result (Option Entry) Error) {led : Merger S A} → r ≡ answer_told q → Steps front false s q led → runs.0 ≡ ended_at q led
+        go : (r : Option R) (q : Result (Option Entry) Error) {led : Merger S A} → r ≡ answer_told q → TakesStep front Front s q led → runs.0 ≡ ended_at q led
             → ((x : Entry) → Along (x ∷ given) runs.0 → Leaves stops front back runs.0 (but_first xs) errors → runs.0.failed ≡ false → ErrorsComeLate lists (x ∷ given) rs) → stopped stops r ≡ false → MergeAnswer (Leaves stops front back) (front_of xs) errors r runs.0 → ErrorsComeLate lists given (r ∷ rs)
         go None q is steps led more ok a = none_late lists given rs (over ends rs runs.0 t a.2 runs.2 fine.1)
         go (Some (Ok x)) (Ok (Some y)) {led = l} is steps led more ok a =
             let same : y ≡ x = cc in
             let next : Along (x ∷ given) l = subst (λ (z : Entry). Along (z ∷ given) l) same (step_along given s l (Ok (Some y)) steps was) in
-            more x (subst (Along (x ∷ given)) (sym led) next) a.1 (ap (λ (m : Merger S A). m.failed) led ∙ steps_failed front false (Ok (Some y)) s l steps ∙ on)
+            more x (subst (Along (x ∷ given)) (sym led) next) a.1 (ap (λ (m : Merger S A). m.failed) led ∙ steps_failed front Front (Ok (Some y)) s l steps ∙ on)
         go (Some (Ok x)) (Ok None) is steps led more ok a = absurd cc
         go (Some (Ok x)) (Err f) is steps led more ok a = absurd cc
         go (Some (Err e)) (Ok None) is steps led more ok a = absurd cc
@@ -291,7 +290,7 @@ module _ {S A : Type 0} (front back : S → Option R → S → Type 0) (May : Me
         gone = subst (λ (ls : List (List R)). Gone lists ls []) (sym (all_whole lists)) (gone_none lists);
       }
 
-  pub merger_late : MeetsErrorsLate front back its (Calls front false May) m
+  pub merger_late : MeetsErrorsLate front back its (Calls front Front May) m
   merger_late = record {
     meets = λ stops lists sorted ends rs t runs fine.
         late stops front back lists May [] ends rs m t (merged lists) (all_errors lists) of.fine (starts_along stops lists sorted)

@@ -1,3 +1,5 @@
+pub mod Kept
+pub mod ReadyLemmas
 pub mod EndsLemmas
 pub mod UntilLemmas
 pub mod MergedLemmas

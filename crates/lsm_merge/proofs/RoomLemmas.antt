@@ -1,16 +1,21 @@
 -- How many entries a merger holds.
 use Rattle.std.proofs.Common.{◌≡◌, ◌≢◌, inl, inr, refl, sym, ◌∙◌, ap, subst, ℕ, suc, ◌+◌, ◌<◌, ◌≤◌, Bool, true, false, cond, nat_lt, List, ◌∷◌, length, arith}
-use Rattle.std.specs.Prelude.{◌==◌, Option, All, IsPermutation, count_by}
+use Rattle.std.specs.Prelude.{◌==◌, Option, All, IsPermutation, count_by, sum_by}
 use Rattle.std.specs.Iterator.{Count}
 use Rattle.std.proofs.lemmas.Bool.{eqb-true}
 use Rattle.std.proofs.lemmas.Bool.Decides.{nat_tests}
 use Rattle.std.proofs.lemmas.List.Elements.{recursion_from_All, All-from_recursion}
 use Rattle.std.proofs.lemmas.List.Sorted.{All-permutation, sum_by-IsPermutation, length_permutation}
+use Rattle.sst_entries.specs.declared.stream.Direction.{Direction}
+use Rattle.sst_entries.specs.declared.stream.Direction.TheVariants.{Front, Back}
 use Rattle.lsm_merge.specs.declared.merge.HeapItem.{HeapItem}
 use Rattle.lsm_merge.specs.declared.merge.Merger.{Merger}
-use Rattle.lsm_merge.specs.Ends.{R, Goes}
+use Rattle.lsm_merge.specs.Ends.{R, Goes, ends_size}
 use Rattle.lsm_heaps.specs.Tournament.{held, room}
-use Rattle.lsm_merge.specs.Merge.{held_of, Adds, SameRoom, Bounded, Fits, FitsIf, MayMerge, merge_total, merge_size}
+use Rattle.lsm_merge.specs.Merge.{held_of, is_ready, Adds, SameRoom, Bounded, HasPlaces, HasPlacesIf, MayMerge, merge_total, merge_size}
+use Rattle.lsm_merge.proofs.Kept.{opposite}
+use Rattle.lsm_merge.specs.Asks.{Pops, made_ready}
+use Rattle.lsm_merge.proofs.ReadyLemmas.{ready_same, made_sources, made_heap, made_now, made_other}
 use Rattle.lsm_merge.proofs.HeldLemmas.{weight, count_cons, count_yes, count_no}
 
 -- an item of source k
@@ -43,7 +48,7 @@ limit_ready false other = omega arith
 
 module _ {S A : Type 0} (front back : S → Option R → S → Type 0) (can can_back : S → Type 0) (left : S → Count) where
   -- one more may be held, of source i
-  pub bounded_adds : (limit more : ℕ → ℕ) (most i : ℕ) (end : Bool) (s t : Merger S A) → Bounded front back can can_back left limit most s → Adds end i (held s.heap) (held t.heap)
+  pub bounded_adds : (limit more : ℕ → ℕ) (most i : ℕ) (end : Direction) (s t : Merger S A) → Bounded front back can can_back left limit most s → Adds end i (held s.heap) (held t.heap)
       → All (Goes front back can can_back left) t.sources.items → SameRoom s t → i < length s.sources.items → ((k : ℕ) → limit k ≤ more k) → limit i < more i → Bounded front back can can_back left more (most + 1) t
   bounded_adds limit more most i end s t was adds goes same within wider room_i =
       let n : length t.sources.items ≡ length s.sources.items = same.count in
@@ -79,7 +84,7 @@ module _ {S A : Type 0} (front back : S → Option R → S → Type 0) (can can_
       ]
 
   -- one was taken out, and one of its source may have been added
-  pub bounded_turn : (limit : ℕ → ℕ) (most : ℕ) (end : Bool) (s t : Merger S A) (h : HeapItem A) (mid : List (HeapItem A)) → Bounded front back can can_back left limit most s → IsPermutation (held s.heap) (h ∷ mid) → Adds end h.source mid (held t.heap)
+  pub bounded_turn : (limit : ℕ → ℕ) (most : ℕ) (end : Direction) (s t : Merger S A) (h : HeapItem A) (mid : List (HeapItem A)) → Bounded front back can can_back left limit most s → IsPermutation (held s.heap) (h ∷ mid) → Adds end h.source mid (held t.heap)
       → All (Goes front back can can_back left) t.sources.items → SameRoom s t → Bounded front back can can_back left limit most t
   bounded_turn limit most end s t h mid was pops adds goes same =
       let n : length t.sources.items ≡ length s.sources.items = same.count in
@@ -128,51 +133,92 @@ module _ {S A : Type 0} (front back : S → Option R → S → Type 0) (can can_
   abbrev Within : (ℕ → ℕ) → ℕ → Merger S A → Type 0
   Within limit most m = Bounded front back can can_back left limit most m
 
-  -- before a fill of an end, from which nothing is held
-  pub fill_first : (ready other : Bool) (n : ℕ) (s : Merger S A) (limit : ℕ → ℕ) (few : ℕ) → Within limit few s → ready ≡ false → ((k : ℕ) → limit k ≤ cond ready 1 0 + cond other 1 0) → few ≤ cond ready n 0 + cond other n 0
-      → Within (λ k. cond (nat_lt k 0) 1 0 + cond other 1 0) (0 + cond other n 0) s
-  fill_first ready other n s limit few was e within fewer =
-      let none : one_if ready ≡ 0 = ap one_if e in
-      let no_more : cond ready n 0 ≡ 0 = ap (λ (b : Bool). cond b n 0) e in
-      bounded_same limit (λ k. cond (nat_lt k 0) 1 0 + cond other 1 0) few (0 + cond other n 0) s s was refl refl (λ k. omega (arith, within k, none)) (omega (arith, fewer, no_more))
+  -- what HasPlaces says, seen from an end
+  abbrev pub limit_at : Direction → Merger S A → ℕ → ℕ
+  limit_at end m k = one_if (is_ready end m) + one_if (is_ready (opposite end) m)
 
-  -- after source i
-  pub fill_next : (other end : Bool) (i most : ℕ) (s t : Merger S A) → Within (λ k. cond (nat_lt k i) 1 0 + cond other 1 0) (i + most) s → Adds end i (held s.heap) (held t.heap) → All (Goes front back can can_back left) t.sources.items → SameRoom s t → i < length s.sources.items
-      → Within (λ k. cond (nat_lt k (i + 1)) 1 0 + cond other 1 0) ((i + 1) + most) t
-  fill_next other end i most s t was adds goes same within =
-      bounded_same (λ k. cond (nat_lt k (i + 1)) 1 0 + cond other 1 0) (λ k. cond (nat_lt k (i + 1)) 1 0 + cond other 1 0) ((i + most) + 1) ((i + 1) + most) t t
-      (bounded_adds (λ k. cond (nat_lt k i) 1 0 + cond other 1 0) (λ k. cond (nat_lt k (i + 1)) 1 0 + cond other 1 0) (i + most) i end s t was adds goes same within (λ k. limit_more i k other) (limit_here i other))
+  abbrev pub most_at : Direction → Merger S A → ℕ
+  most_at end m = cond (is_ready end m) (length m.sources.items) 0 + cond (is_ready (opposite end) m) (length m.sources.items) 0
+
+  places_at : (end : Direction) (m : Merger S A) → HasPlaces front back can can_back left m → Within (limit_at end m) (most_at end m) m
+  places_at Front m h = h
+  places_at Back m h = bounded_same (limit_at Front m) (limit_at Back m) (most_at Front m) (most_at Back m) m m h refl refl (λ k. omega arith) (omega arith)
+
+  at_places : (end : Direction) (m : Merger S A) → Within (limit_at end m) (most_at end m) m → HasPlaces front back can can_back left m
+  at_places Front m h = h
+  at_places Back m h = bounded_same (limit_at Back m) (limit_at Front m) (most_at Back m) (most_at Front m) m m h refl refl (λ k. omega arith) (omega arith)
+
+  -- after the first i sources were asked at an end
+  abbrev pub FilledTo : Direction → Merger S A → ℕ → Merger S A → Type 0
+  FilledTo end s i m = Within (λ k. one_if (nat_lt k i) + one_if (is_ready (opposite end) s)) (i + cond (is_ready (opposite end) s) (length s.sources.items) 0) m
+
+  pub fill_first : (end : Direction) (s : Merger S A) → HasPlaces front back can can_back left s → is_ready end s ≡ false → FilledTo end s 0 s
+  fill_first end s was e =
+      let none : one_if (is_ready end s) ≡ 0 = ap one_if e in
+      let no_more : cond (is_ready end s) (length s.sources.items) 0 ≡ 0 = ap (λ (b : Bool). cond b (length s.sources.items) 0) e in
+      bounded_same (limit_at end s) (λ k. one_if (nat_lt k 0) + one_if (is_ready (opposite end) s)) (most_at end s) (0 + cond (is_ready (opposite end) s) (length s.sources.items) 0) s s (places_at end s was) refl refl
+      (λ k. omega (arith, none)) (omega (arith, no_more))
+
+  pub fill_next : (end : Direction) (i : ℕ) (s m t : Merger S A) → FilledTo end s i m → Adds end i (held m.heap) (held t.heap) → All (Goes front back can can_back left) t.sources.items → SameRoom m t → i < length m.sources.items → FilledTo end s (i + 1) t
+  fill_next end i s m t was adds goes same within =
+      let other : Bool = is_ready (opposite end) s in
+      let most : ℕ = cond other (length s.sources.items) 0 in
+      bounded_same (λ k. one_if (nat_lt k (i + 1)) + one_if other) (λ k. one_if (nat_lt k (i + 1)) + one_if other) ((i + most) + 1) ((i + 1) + most) t t
+      (bounded_adds (λ k. one_if (nat_lt k i) + one_if other) (λ k. one_if (nat_lt k (i + 1)) + one_if other) (i + most) i end m t was adds goes same within (λ k. limit_more i k other) (limit_here i other))
       refl refl (λ k. omega arith) (omega arith)
 
-  -- after all sources
-  pub fill_last : (other : Bool) (i most : ℕ) (s t : Merger S A) (limit : ℕ → ℕ) (few : ℕ) → Within (λ k. cond (nat_lt k i) 1 0 + cond other 1 0) most s → t.sources ≡ s.sources → t.heap ≡ s.heap → ((k : ℕ) → 1 + cond other 1 0 ≤ limit k) → most ≤ few → Within limit few t
-  fill_last other i most s t limit few was sources heap wider fewer = bounded_same (λ k. cond (nat_lt k i) 1 0 + cond other 1 0) limit most few s t was sources heap (λ k. omega (arith, limit_ready (nat_lt k i) other, wider k)) fewer
+  pub fill_last : (end : Direction) (i : ℕ) (s m : Merger S A) → FilledTo end s i m → i ≤ length s.sources.items → SameRoom s m → HasPlaces front back can can_back left (made_ready end m)
+  fill_last end i s m was all same =
+      let t : Merger S A = made_ready end m in
+      let other : Bool = is_ready (opposite end) s in
+      let count : length t.sources.items ≡ length s.sources.items = ap (λ v. length v.items) (made_sources end m) ∙ same.count in
+      let still : is_ready (opposite end) t ≡ other = made_other end m ∙ ready_same (opposite end) s m same in
+      let here : one_if (is_ready end t) ≡ 1 = ap one_if (made_now end m) in
+      let there : one_if (is_ready (opposite end) t) ≡ one_if other = ap one_if still in
+      let all_here : cond (is_ready end t) (length t.sources.items) 0 ≡ length s.sources.items = ap (λ (b : Bool). cond b (length t.sources.items) 0) (made_now end m) ∙ count in
+      let all_there : cond (is_ready (opposite end) t) (length t.sources.items) 0 ≡ cond other (length s.sources.items) 0 = ap (λ (b : Bool). cond b (length t.sources.items) 0) still ∙ ap (λ (n : ℕ). cond other n 0) count in
+      at_places end t (bounded_same (λ k. one_if (nat_lt k i) + one_if other) (limit_at end t) (i + cond other (length s.sources.items) 0) (most_at end t) m t was (made_sources end m) (made_heap end m)
+      (λ k. omega (arith, limit_ready (nat_lt k i) other, here, there)) (omega (arith, all, all_here, all_there)))
 
-  -- the source of a popped item
-  pub popped_known : (s : Merger S A) (h : HeapItem A) (mid : List (HeapItem A)) (limit : ℕ → ℕ) (most : ℕ) → Within limit most s → IsPermutation (held s.heap) (h ∷ mid) → h.source < length s.sources.items
-  popped_known s h mid limit most was pops = (recursion_from_All (Known (length s.sources.items)) (h ∷ mid) (All-permutation (Known (length s.sources.items)) (held s.heap) (h ∷ mid) pops was.known)).0
+  module _ (end : Direction) (s m : Merger S A) (h : HeapItem A) (was : HasPlaces front back can can_back left s) (pops : Pops end s h m) where
+    same_count : length m.sources.items ≡ length s.sources.items
+    same_count = ap (λ v. length v.items) pops.same.sources
 
-  -- there is room for the next of its source
-  pub popped_space : (s : Merger S A) (h : HeapItem A) (mid : List (HeapItem A)) (limit : ℕ → ℕ) → Within limit (cond s.front_ready (length s.sources.items) 0 + cond s.back_ready (length s.sources.items) 0) s → IsPermutation (held s.heap) (h ∷ mid) → length mid < room s.heap
-  popped_space s h mid limit was pops =
-      omega (arith, was.few, was.space, length_permutation (held s.heap) (h ∷ mid) pops, at_most_all s.front_ready (length s.sources.items), at_most_all s.back_ready (length s.sources.items))
-    where
-      at_most_all : (b : Bool) (n : ℕ) → cond b n 0 ≤ n
-      at_most_all true n = omega arith
-      at_most_all false n = omega arith
+    -- the source of a popped item
+    pub popped_known : h.source < length m.sources.items
+    popped_known =
+        let known : h.source < length s.sources.items = (recursion_from_All (Known (length s.sources.items)) (h ∷ held m.heap) (All-permutation (Known (length s.sources.items)) (held s.heap) (h ∷ held m.heap) pops.left was.known)).0 in
+        omega (arith, known, same_count)
+
+    pub popped_goes : All (Goes front back can can_back left) m.sources.items
+    popped_goes = subst (λ v. All (Goes front back can can_back left) v.items) (sym pops.same.sources) was.sources
+
+    -- there is room for the next of its source
+    pub popped_space : length (held m.heap) < room m.heap
+    popped_space =
+        omega (arith, was.few, was.space, pops.same.room, length_permutation (held s.heap) (h ∷ held m.heap) pops.left, at_most_all s.front_ready (length s.sources.items), at_most_all s.back_ready (length s.sources.items))
+      where
+        at_most_all : (b : Bool) (n : ℕ) → cond b n 0 ≤ n
+        at_most_all true n = omega arith
+        at_most_all false n = omega arith
+
+    pub popped_total : suc (merge_total left m) ≡ merge_total left s
+    popped_total =
+        let sizes : sum_by (ends_size left) m.sources.items ≡ sum_by (ends_size left) s.sources.items = ap (λ v. sum_by (ends_size left) v.items) pops.same.sources in
+        omega (arith, sizes, length_permutation (held s.heap) (h ∷ held m.heap) pops.left)
 
   -- a pop, and the take after it
-  pub same_popped : (s m t : Merger S A) → m.sources ≡ s.sources → room m.heap ≡ room s.heap → m.front_ready ≡ s.front_ready → m.back_ready ≡ s.back_ready → m.failed ≡ s.failed → SameRoom m t → SameRoom s t
-  same_popped s m t sources space first second failed same = record {
-    count = same.count ∙ ap (λ v. length v.items) sources;
-    room = same.room ∙ space;
-    front_ready = same.front_ready ∙ first;
-    back_ready = same.back_ready ∙ second;
-    failed = same.failed ∙ failed;
+  pub same_popped : (end : Direction) (s m t : Merger S A) (h : HeapItem A) → Pops end s h m → SameRoom m t → SameRoom s t
+  same_popped end s m t h pops same = record {
+    count = same.count ∙ ap (λ v. length v.items) pops.same.sources;
+    room = same.room ∙ pops.same.room;
+    front_ready = same.front_ready ∙ pops.same.front_ready;
+    back_ready = same.back_ready ∙ pops.same.back_ready;
+    failed = same.failed ∙ pops.same.failed;
   }
 
-  pub fits_turn : (end : Bool) (s t : Merger S A) (h : HeapItem A) (mid : List (HeapItem A)) → Fits front back can can_back left s → IsPermutation (held s.heap) (h ∷ mid) → Adds end h.source mid (held t.heap)
-      → All (Goes front back can can_back left) t.sources.items → SameRoom s t → Fits front back can can_back left t
+  pub fits_turn : (end : Direction) (s t : Merger S A) (h : HeapItem A) (mid : List (HeapItem A)) → HasPlaces front back can can_back left s → IsPermutation (held s.heap) (h ∷ mid) → Adds end h.source mid (held t.heap)
+      → All (Goes front back can can_back left) t.sources.items → SameRoom s t → HasPlaces front back can can_back left t
   fits_turn end s t h mid was pops adds goes same =
       let first : one_if t.front_ready ≡ one_if s.front_ready = ap one_if same.front_ready in
       let second : one_if t.back_ready ≡ one_if s.back_ready = ap one_if same.back_ready in
@@ -184,9 +230,9 @@ module _ {S A : Type 0} (front back : S → Option R → S → Type 0) (can can_
       refl refl (λ k. omega (arith, first, second)) (omega (arith, many_first, many_second))
 
   -- while no source failed
-  pub may_merge : (m : Merger S A) → m.failed ≡ false → Fits front back can can_back left m → MayMerge front back can can_back left m
+  pub may_merge : (m : Merger S A) → m.failed ≡ false → HasPlaces front back can can_back left m → MayMerge front back can can_back left m
   may_merge m fine fits = record {
-    fits = subst (λ (b : Bool). FitsIf front back can can_back left b m) (sym fine) fits;
+    fits = subst (λ (b : Bool). HasPlacesIf front back can can_back left b m) (sym fine) fits;
   }
 
   pub size_of : (m : Merger S A) → m.failed ≡ false → merge_size left m ≡ merge_total left m

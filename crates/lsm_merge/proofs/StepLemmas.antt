@@ -1,11 +1,13 @@
 -- One step of a merger at either end: the least or the greatest is popped, and the next of its source is taken.
 use Rattle.std.proofs.Common.{◌≡◌, ◌⊎◌, inl, inr, refl, sym, ◌∙◌, ap, subst, ℕ, zero, suc, Bool, true, false, List, [], ◌∷◌, ◌++◌, reverse, map, slice_index_or, slice_set}
-use Rattle.std.specs.Prelude.{not, Option, Some, None, Ok, All, IsPermutation}
+use Rattle.std.specs.Prelude.{Option, Some, None, Ok, All, IsPermutation}
 use Rattle.std.specs.List.{AllZip, AllByRecursion}
 use Rattle.std.specs.Ordering.{is_gt}
 use Rattle.std.proofs.lemmas.Bool.{cases_eq}
 use Rattle.std.proofs.lemmas.List.{reverse-append, reverse-reverse}
 use Rattle.sst_entries.specs.Entry.{Entry}
+use Rattle.sst_entries.specs.declared.stream.Direction.{Direction}
+use Rattle.sst_entries.specs.declared.stream.Direction.TheVariants.{Front, Back}
 use Rattle.sst_entries.specs.Stream.{first, but_first, last, but_last}
 use Rattle.sst_entries.specs.declared.error.Error.{Error}
 use Rattle.lsm_merge.specs.declared.merge.HeapItem.{HeapItem}
@@ -13,16 +15,17 @@ use Rattle.lsm_merge.specs.declared.merge.Merger.{Merger}
 use Rattle.lsm_merge.specs.Ends.{R, Left}
 use Rattle.lsm_heaps.specs.Tournament.{held}
 use Rattle.lsm_merge.specs.Union.{entries_of, all_entries, all_errors, in_order, merged}
-use Rattle.lsm_merge.specs.Merge.{turn_cmp, entry_of, Kept, one, whole, taken_at, kept_at, taken, Ready, is_ready, HeapHolds, Stands, Merging, LeavesIf, Leaves, Took}
+use Rattle.lsm_merge.specs.Merge.{turn_cmp, entry_of, is_ready}
+use Rattle.lsm_merge.proofs.Kept.{Kept, one, whole, taken_at, kept_at, taken, Ready, HeapHolds, Stands, Merging, LeavesIf, Leaves, Took, opposite}
 use Rattle.lsm_merge.proofs.HeldLemmas.{held_none}
 use Rattle.lsm_merge.proofs.FillLemmas.{by_end, other_ready, other_end}
 use Rattle.lsm_merge.proofs.PopLemmas.{cleared, Sorted, without, without_gone, without_elsewhere, without_rest, without_heap, least_first, least_merged, least_errors, least_sorted, least_spent, least_free, greatest_merged, greatest_errors, greatest_sorted, greatest_spent, greatest_free}
 
-same_or_not : (b c : Bool) → (b ≡ c) ⊎ (b ≡ c → ⊥)
-same_or_not true true = inl refl
-same_or_not true false = inr (λ e. cc)
-same_or_not false true = inr (λ e. cc)
-same_or_not false false = inl refl
+same_or_not : (b c : Direction) → (b ≡ c) ⊎ (b ≡ c → ⊥)
+same_or_not Front Front = inl refl
+same_or_not Front Back = inr (λ e. cc)
+same_or_not Back Front = inr (λ e. cc)
+same_or_not Back Back = inl refl
 
 zip_right : {X Y : Type 0} (P : X → Y → Type 0) (xs : List X) (ys : List Y) (i : ℕ) (y d : Y) → AllZip P xs ys → ((x : X) → P x (slice_index_or ys i d) → P x y) → AllZip P xs (slice_set ys i y)
 zip_right P [] [] i y d z f = z
@@ -37,7 +40,7 @@ last_push {X} xs ys x e =
     (sym (ap first turned), ap (λ (zs : List X). reverse (but_first zs)) turned ∙ reverse-reverse ys)
 
 -- sources of which nothing is left
-none_whole : (s : Kept) → taken_at true s ≡ None → taken_at false s ≡ None → s.rest ≡ [] → whole s ≡ []
+none_whole : (s : Kept) → taken_at Back s ≡ None → taken_at Front s ≡ None → s.rest ≡ [] → whole s ≡ []
 none_whole s b f r = ap (λ (o : Option Entry). one o ++ (s.rest ++ one s.back)) f ∙ ap (λ (rs : List R). rs ++ one s.back) r ∙ ap one b
 
 none_merged : (ks : List Kept) → ((j : ℕ) → whole (kept_at ks j) ≡ []) → (all_entries (map whole ks) ≡ []) × (all_errors (map whole ks) ≡ [])
@@ -48,11 +51,11 @@ none_merged (k ∷ ks) h =
 
 module _ {S A : Type 0} (stops : Error → Bool) (front back : S → Option R → S → Type 0) (s m : Merger S A) (xs : List Entry) (errors : List Error) (was : Merging stops front back s xs errors) where
   -- where the heap is empty, nothing is left
-  pub none_left : (end : Bool) → is_ready end s ≡ true → held s.heap ≡ [] → held m.heap ≡ [] → m.sources ≡ s.sources → m.front_ready ≡ s.front_ready → m.back_ready ≡ s.back_ready → (xs ≡ []) × (errors ≡ []) × Merging stops front back m [] errors
+  pub none_left : (end : Direction) → is_ready end s ≡ true → held s.heap ≡ [] → held m.heap ≡ [] → m.sources ≡ s.sources → m.front_ready ≡ s.front_ready → m.back_ready ≡ s.back_ready → (xs ≡ []) × (errors ≡ []) × Merging stops front back m [] errors
   none_left end now empty still sources first_flag second_flag =
       let ready : Ready true end was.kept = subst (λ (f : Bool). Ready f end was.kept) now (was.ready end) in
-      let free : (j : ℕ) (b : Bool) → taken was.kept j b ≡ None = λ j b. held_none (held s.heap) was.kept j b was.stands.heap empty in
-      let none = none_merged was.kept (λ j. none_whole (kept_at was.kept j) (free j true) (free j false) (ready j (free j end))) in
+      let free : (j : ℕ) (b : Direction) → taken was.kept j b ≡ None = λ j b. held_none (held s.heap) was.kept j b was.stands.heap empty in
+      let none = none_merged was.kept (λ j. none_whole (kept_at was.kept j) (free j Back) (free j Front) (ready j (free j end))) in
       let no_entries : merged (map whole was.kept) ≡ [] = ap in_order none.0 in (
         was.entries ∙ no_entries,
         was.faults ∙ none.1,
@@ -69,9 +72,9 @@ module _ {S A : Type 0} (stops : Error → Bool) (front back : S → Option R �
         },
       )
     where
-      flags : (b : Bool) → is_ready b m ≡ is_ready b s
-      flags true = second_flag
-      flags false = first_flag
+      flags : (b : Direction) → is_ready b m ≡ is_ready b s
+      flags Back = second_flag
+      flags Front = first_flag
 
   module _ (h : HeapItem A) (pops : IsPermutation (held s.heap) (h ∷ held m.heap)) (sources : m.sources ≡ s.sources) where
     abbrev pub others : List Kept
@@ -80,50 +83,50 @@ module _ {S A : Type 0} (stops : Error → Bool) (front back : S → Option R �
     others_stand : AllByRecursion Sorted others → Stands stops front back m others
     others_stand sorted = record {
       sources = subst (λ v. AllZip (λ s k. Left stops front back s k.rest) v.items others) (sym sources)
-          (zip_right (λ s k. Left stops front back s k.rest) s.sources.items was.kept h.source (cleared h.from_back (kept_at was.kept h.source)) _ was.stands.sources
-          (λ u l. subst (Left stops front back u) (sym (cleared_same h.from_back (kept_at was.kept h.source))) l));
+          (zip_right (λ s k. Left stops front back s k.rest) s.sources.items was.kept h.source (cleared h.end (kept_at was.kept h.source)) _ was.stands.sources
+          (λ u l. subst (Left stops front back u) (sym (cleared_same h.end (kept_at was.kept h.source))) l));
       sorted = sorted;
       heap = without_heap (held s.heap) (held m.heap) h was.kept was.stands.sorted was.stands.heap pops;
     }
       where
-        cleared_same : (b : Bool) (k : Kept) → (cleared b k).rest ≡ k.rest
-        cleared_same true k = refl
-        cleared_same false k = refl
+        cleared_same : (b : Direction) (k : Kept) → (cleared b k).rest ≡ k.rest
+        cleared_same Front k = refl
+        cleared_same Back k = refl
 
-    gone : taken others h.source h.from_back ≡ None
+    gone : taken others h.source h.end ≡ None
     gone = without_gone (held s.heap) (held m.heap) h was.kept was.stands.sorted was.stands.heap pops
 
-    elsewhere : (j : ℕ) (c : Bool) → (j ≡ h.source → c ≡ h.from_back → ⊥) → taken others j c ≡ taken was.kept j c
+    elsewhere : (j : ℕ) (c : Direction) → (j ≡ h.source → c ≡ h.end → ⊥) → taken others j c ≡ taken was.kept j c
     elsewhere = without_elsewhere (held s.heap) (held m.heap) h was.kept was.stands.sorted was.stands.heap pops
 
     rests : (j : ℕ) → (kept_at others j).rest ≡ (kept_at was.kept j).rest
     rests = without_rest (held s.heap) (held m.heap) h was.kept was.stands.sorted was.stands.heap pops
 
     -- the end that was not asked
-    others_ready : (f c : Bool) → Ready f c was.kept → (h.from_back ≡ c → (kept_at was.kept h.source).rest ≡ []) → Ready f c others
+    others_ready : (f : Bool) (c : Direction) → Ready f c was.kept → (h.end ≡ c → (kept_at was.kept h.source).rest ≡ []) → Ready f c others
     others_ready true c ready spent = λ j none. rests j ∙ elim (cases_eq j h.source) [
-      | inl e ↦ elim (same_or_not c h.from_back) [
+      | inl e ↦ elim (same_or_not c h.end) [
         | inl same ↦ subst (λ (i : ℕ). (kept_at was.kept i).rest ≡ []) (sym e) (spent (sym same))
         | inr off ↦ ready j (sym (elsewhere j c (λ _ same. off same)) ∙ none)
       ]
       | inr off ↦ ready j (sym (elsewhere j c (λ same _. off same)) ∙ none)
     ]
     others_ready false c ready spent = λ j. elim (cases_eq j h.source) [
-      | inl e ↦ elim (same_or_not c h.from_back) [
-        | inl same ↦ subst (λ (i : ℕ). taken others i c ≡ None) (sym e) (subst (λ (b : Bool). taken others h.source b ≡ None) (sym same) gone)
+      | inl e ↦ elim (same_or_not c h.end) [
+        | inl same ↦ subst (λ (i : ℕ). taken others i c ≡ None) (sym e) (subst (λ (b : Direction). taken others h.source b ≡ None) (sym same) gone)
         | inr off ↦ elsewhere j c (λ _ same. off same) ∙ ready j
       ]
       | inr off ↦ elsewhere j c (λ same _. off same) ∙ ready j
     ]
 
     -- after the next of its source was taken
-    pub ready_turned : (end : Bool) (t : Merger S A) → Ready true end was.kept → (h.from_back ≡ not end → (kept_at was.kept h.source).rest ≡ []) → (took : Took stops front back end h.source others t) → is_ready end t ≡ true → is_ready (not end) t ≡ is_ready (not end) s
-        → (b : Bool) → Ready (is_ready b t) b took.kept
+    pub ready_turned : (end : Direction) (t : Merger S A) → Ready true end was.kept → (h.end ≡ opposite end → (kept_at was.kept h.source).rest ≡ []) → (took : Took stops front back end h.source others t) → is_ready end t ≡ true → is_ready (opposite end) t ≡ is_ready (opposite end) s
+        → (b : Direction) → Ready (is_ready b t) b took.kept
     ready_turned end t ready spent took now other =
         by_end (λ b. Ready (is_ready b t) b took.kept) end
         (subst (λ (f : Bool). Ready f end took.kept) (sym now) asked)
-        (subst (λ (f : Bool). Ready f (not end) took.kept) (sym other)
-        (other_ready (not end) (is_ready (not end) s) others took.kept (λ k. took.elsewhere k (not end) (λ _ e. other_end end e)) took.shrinks (others_ready (is_ready (not end) s) (not end) (was.ready (not end)) spent)))
+        (subst (λ (f : Bool). Ready f (opposite end) took.kept) (sym other)
+        (other_ready (opposite end) (is_ready (opposite end) s) others took.kept (λ k. took.elsewhere k (opposite end) (λ _ e. other_end end e)) took.shrinks (others_ready (is_ready (opposite end) s) (opposite end) (was.ready (opposite end)) spent)))
       where
         asked : (j : ℕ) → taken took.kept j end ≡ None → (kept_at took.kept j).rest ≡ []
         asked j none = elim (cases_eq j h.source) [
@@ -131,7 +134,7 @@ module _ {S A : Type 0} (stops : Error → Bool) (front back : S → Option R �
           | inr off ↦ took.shrinks j (rests j ∙ ready j (sym (elsewhere j end (λ same _. off same)) ∙ sym (took.elsewhere j end (λ same _. off same)) ∙ none))
         ]
 
-    step_merging : (end : Bool) (t : Merger S A) → Ready true end was.kept → (h.from_back ≡ not end → (kept_at was.kept h.source).rest ≡ []) → Took stops front back end h.source others t → is_ready end t ≡ true → is_ready (not end) t ≡ is_ready (not end) s
+    step_merging : (end : Direction) (t : Merger S A) → Ready true end was.kept → (h.end ≡ opposite end → (kept_at was.kept h.source).rest ≡ []) → Took stops front back end h.source others t → is_ready end t ≡ true → is_ready (opposite end) t ≡ is_ready (opposite end) s
         → errors ≡ all_errors (map whole others) → Merging stops front back t (merged (map whole others)) errors
     step_merging end t ready spent took now other faults = record {
       kept = took.kept;
@@ -142,48 +145,48 @@ module _ {S A : Type 0} (stops : Error → Bool) (front back : S → Option R �
     }
 
     module _ (least : All (λ y. is_gt (turn_cmp h y) ≡ false) (held s.heap)) (now : s.front_ready ≡ true) where
-      pub front_ready : Ready true false was.kept
-      front_ready = subst (λ (f : Bool). Ready f false was.kept) now (was.ready false)
+      pub front_ready : Ready true Front was.kept
+      front_ready = subst (λ (f : Bool). Ready f Front was.kept) now (was.ready Front)
 
       pub front_stands : Stands stops front back m others
       front_stands = others_stand (least_sorted (held s.heap) (held m.heap) h was.kept was.stands.sorted was.stands.heap pops least front_ready)
 
-      pub front_free : taken others h.source false ≡ None
+      pub front_free : taken others h.source Front ≡ None
       front_free = least_free (held s.heap) (held m.heap) h was.kept was.stands.sorted was.stands.heap pops least front_ready
 
       pub front_errors : all_errors (map whole others) ≡ errors
       front_errors = sym (was.faults ∙ least_errors (held s.heap) (held m.heap) h was.kept was.stands.sorted was.stands.heap pops least front_ready)
 
-      pub front_first : whole (kept_at was.kept h.source) ≡ Ok (entry_of h) ∷ whole (cleared h.from_back (kept_at was.kept h.source))
+      pub front_first : whole (kept_at was.kept h.source) ≡ Ok (entry_of h) ∷ whole (cleared h.end (kept_at was.kept h.source))
       front_first = least_first (held s.heap) (held m.heap) h was.kept was.stands.sorted was.stands.heap pops least front_ready
 
-      pub front_spent : h.from_back ≡ true → (kept_at was.kept h.source).rest ≡ []
+      pub front_spent : h.end ≡ Back → (kept_at was.kept h.source).rest ≡ []
       front_spent = least_spent (held s.heap) (held m.heap) h was.kept was.stands.sorted was.stands.heap pops least front_ready
 
-      pub front_gives : (t : Merger S A) → Took stops front back false h.source others t → t.front_ready ≡ true → t.back_ready ≡ s.back_ready → (Some (entry_of h) ≡ first xs) × Merging stops front back t (but_first xs) errors × (Some (entry_of h) ≡ None → errors ≡ [])
+      pub front_gives : (t : Merger S A) → Took stops front back Front h.source others t → t.front_ready ≡ true → t.back_ready ≡ s.back_ready → (Some (entry_of h) ≡ first xs) × Merging stops front back t (but_first xs) errors × (Some (entry_of h) ≡ None → errors ≡ [])
       front_gives t took ready other =
           let parts : xs ≡ entry_of h ∷ merged (map whole others) = was.entries ∙ least_merged (held s.heap) (held m.heap) h was.kept was.stands.sorted was.stands.heap pops least front_ready in
-          let left = step_merging false t front_ready (least_spent (held s.heap) (held m.heap) h was.kept was.stands.sorted was.stands.heap pops least front_ready) took ready other (sym front_errors) in
+          let left = step_merging Front t front_ready (least_spent (held s.heap) (held m.heap) h was.kept was.stands.sorted was.stands.heap pops least front_ready) took ready other (sym front_errors) in
           (sym (ap first parts), subst (λ (ys : List Entry). Merging stops front back t ys errors) (sym (ap but_first parts)) left, λ no. absurd cc)
 
     module _ (greatest : All (λ y. is_gt (turn_cmp y h) ≡ false) (held s.heap)) (now : s.back_ready ≡ true) where
-      back_ready : Ready true true was.kept
-      back_ready = subst (λ (f : Bool). Ready f true was.kept) now (was.ready true)
+      back_ready : Ready true Back was.kept
+      back_ready = subst (λ (f : Bool). Ready f Back was.kept) now (was.ready Back)
 
       pub back_stands : Stands stops front back m others
       back_stands = others_stand (greatest_sorted (held s.heap) (held m.heap) h was.kept was.stands.sorted was.stands.heap pops greatest back_ready)
 
-      pub back_free : taken others h.source true ≡ None
+      pub back_free : taken others h.source Back ≡ None
       back_free = greatest_free (held s.heap) (held m.heap) h was.kept was.stands.sorted was.stands.heap pops greatest back_ready
 
       pub back_errors : all_errors (map whole others) ≡ errors
       back_errors = sym (was.faults ∙ greatest_errors (held s.heap) (held m.heap) h was.kept was.stands.sorted was.stands.heap pops greatest back_ready)
 
-      pub back_gives : (t : Merger S A) → Took stops front back true h.source others t → t.back_ready ≡ true → t.front_ready ≡ s.front_ready → (Some (entry_of h) ≡ last xs) × Merging stops front back t (but_last xs) errors × (Some (entry_of h) ≡ None → errors ≡ [])
+      pub back_gives : (t : Merger S A) → Took stops front back Back h.source others t → t.back_ready ≡ true → t.front_ready ≡ s.front_ready → (Some (entry_of h) ≡ last xs) × Merging stops front back t (but_last xs) errors × (Some (entry_of h) ≡ None → errors ≡ [])
       back_gives t took ready other =
           let parts : xs ≡ merged (map whole others) ++ entry_of h ∷ [] = was.entries ∙ greatest_merged (held s.heap) (held m.heap) h was.kept was.stands.sorted was.stands.heap pops greatest back_ready in
           let ends = last_push xs (merged (map whole others)) (entry_of h) parts in
-          let left = step_merging true t back_ready (greatest_spent (held s.heap) (held m.heap) h was.kept was.stands.sorted was.stands.heap pops greatest back_ready) took ready other (sym back_errors) in
+          let left = step_merging Back t back_ready (greatest_spent (held s.heap) (held m.heap) h was.kept was.stands.sorted was.stands.heap pops greatest back_ready) took ready other (sym back_errors) in
           (ends.0, subst (λ (ys : List Entry). Merging stops front back t ys errors) (sym ends.1) left, λ no. absurd cc)
 
 module _ {S A : Type 0} (stops : Error → Bool) (front back : S → Option R → S → Type 0) (m : Merger S A) (fine : m.failed ≡ false) where

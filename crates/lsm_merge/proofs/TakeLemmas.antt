@@ -1,6 +1,6 @@
 -- One taken from an end of a source of a merger.
-use Rattle.std.proofs.Common.{◌≡◌, inl, inr, refl, sym, ◌∙◌, ap, subst, ℕ, zero, suc, ◌+◌, ◌<◌, ◌≤◌, Bool, true, false, List, [], ◌∷◌, ◌++◌, reverse, map, length, arith, slice_index_or, slice_set}
-use Rattle.std.specs.Prelude.{not, Option, Some, None, Ok, Err, Contains, IsPermutation, sum_by}
+use Rattle.std.proofs.Common.{◌≡◌, inl, inr, refl, sym, ◌∙◌, ap, subst, ℕ, zero, suc, ◌+◌, ◌<◌, ◌≤◌, Bool, false, List, [], ◌∷◌, ◌++◌, reverse, map, length, arith, slice_index_or, slice_set}
+use Rattle.std.specs.Prelude.{Option, Some, None, Ok, Err, Contains, IsPermutation, sum_by}
 use Rattle.std.specs.List.{AllZip, AllByRecursion}
 use Rattle.std.proofs.lemmas.Bool.{cases_eq}
 use Rattle.std.proofs.lemmas.List.{get_or-set_same, set-get_or, reverse-reverse, reverse-append, append-nil}
@@ -10,6 +10,8 @@ use Rattle.std.proofs.lemmas.List.Elements.{Contains-append_left, Contains-appen
 use Rattle.std.proofs.lemmas.List.Sorted.{Contains-permutation, IsPermutation-reverse, IsPermutation-sym, length_permutation}
 use Rattle.std.proofs.lemmas.List.Sums.{sum_by-set}
 use Rattle.sst_entries.specs.Entry.{Entry}
+use Rattle.sst_entries.specs.declared.stream.Direction.{Direction}
+use Rattle.sst_entries.specs.declared.stream.Direction.TheVariants.{Front, Back}
 use Rattle.sst_entries.specs.Stream.{first, but_first, last, but_last, DealsFirst, DealsLast}
 use Rattle.sst_entries.specs.declared.error.Error.{Error}
 use Rattle.lsm_merge.specs.declared.ends.Ends.{Ends}
@@ -18,7 +20,8 @@ use Rattle.lsm_merge.specs.declared.merge.Merger.{Merger}
 use Rattle.lsm_merge.specs.Ends.{R, Left}
 use Rattle.lsm_heaps.specs.Tournament.{held}
 use Rattle.lsm_merge.specs.Union.{Ascends, entries_of, errors_of, all_errors}
-use Rattle.lsm_merge.specs.Merge.{entry_of, Kept, one, whole, taken_at, kept_at, taken, HeapHolds, Stands, Took}
+use Rattle.lsm_merge.specs.Merge.{entry_of}
+use Rattle.lsm_merge.proofs.Kept.{Kept, one, whole, taken_at, kept_at, taken, HeapHolds, Stands, Took, opposite}
 use Rattle.lsm_merge.proofs.EndsLemmas.{none_first}
 use Rattle.lsm_merge.proofs.HeldLemmas.{Elsewhere, held_push, taken_set_same, kept_set_other}
 
@@ -102,11 +105,11 @@ whole_at_back f None rs x free is = ap (λ (qs : List R). one f ++ qs) (sym (las
 pub none_last : {A : Type 0} (xs : List A) → None ≡ last xs → xs ≡ []
 none_last xs e = sym (reverse-reverse xs) ∙ ap reverse (none_first (reverse xs) e)
 
-either_end : (b c : Bool) → (c ≡ b → ⊥) → c ≡ not b
-either_end true true ne = absurd (ne refl)
-either_end true false ne = refl
-either_end false true ne = refl
-either_end false false ne = absurd (ne refl)
+either_end : (b c : Direction) → (c ≡ b → ⊥) → c ≡ opposite b
+either_end Front Front ne = absurd (ne refl)
+either_end Front Back ne = refl
+either_end Back Front ne = refl
+either_end Back Back ne = absurd (ne refl)
 
 -- ---- the take
 
@@ -125,13 +128,13 @@ module _ {S A : Type 0} (stops : Error → Bool) (front back : S → Option R �
     within = let n = zip_length Side s.sources.items ks stands.sources in omega (arith, n)
 
     -- an entry moves into the heap
-    moves : (m : Merger S A) → m.sources.items ≡ slice_set s.sources.items i is → (b : Bool) (x : Entry) (h : HeapItem A) (after : Kept) → IsPermutation (h ∷ held s.heap) (held m.heap) → entry_of h ≡ x → h.source ≡ i → h.from_back ≡ b → taken ks i b ≡ None
-        → Left stops front back is after.rest → whole after ≡ whole (kept_at ks i) → taken_at b after ≡ Some x → taken_at (not b) after ≡ taken ks i (not b)
+    moves : (m : Merger S A) → m.sources.items ≡ slice_set s.sources.items i is → (b : Direction) (x : Entry) (h : HeapItem A) (after : Kept) → IsPermutation (h ∷ held s.heap) (held m.heap) → entry_of h ≡ x → h.source ≡ i → h.end ≡ b → taken ks i b ≡ None
+        → Left stops front back is after.rest → whole after ≡ whole (kept_at ks i) → taken_at b after ≡ Some x → taken_at (opposite b) after ≡ taken ks i (opposite b)
         → ((kept_at ks i).rest ≡ [] → after.rest ≡ []) → Took stops front back b i ks m
     moves m written b x h after perm entry source end free leaves same there other less =
         let new : List Kept = slice_set ks i after in
         let elsewhere : Elsewhere i b ks new = λ k c ne. elim (cases_eq k i) [
-          | inl e ↦ subst (λ (j : ℕ). taken new j c ≡ taken ks j c) (sym e) (taken_set_same ks i after c within ∙ subst (λ (d : Bool). taken_at d after ≡ taken ks i d) (sym (either_end b c (ne e))) other)
+          | inl e ↦ subst (λ (j : ℕ). taken new j c ≡ taken ks j c) (sym e) (taken_set_same ks i after c within ∙ subst (λ (d : Direction). taken_at d after ≡ taken ks i d) (sym (either_end b c (ne e))) other)
           | inr off ↦ ap (taken_at c) (kept_set_other ks i k after off)
         ] in
         let put : taken new i b ≡ Some (entry_of h) = taken_set_same ks i after b within ∙ there ∙ ap (λ (y : Entry). Some y) (sym entry) in
@@ -141,8 +144,8 @@ module _ {S A : Type 0} (stops : Error → Bool) (front back : S → Option R �
             sources = subst (λ (us : List (Ends S)). AllZip Side us new) (sym written) (zip_set Side s.sources.items ks i is after stands.sources leaves);
             sorted = all_set Sorted ks i after stands.sorted (subst (λ (rs : List R). Ascends (entries_of rs)) (sym same) (all_at Sorted ks i _ within stands.sorted));
             heap = held_push (held s.heap) (held m.heap) h ks new stands.heap perm
-                (subst (λ (k : ℕ). taken ks k h.from_back ≡ None) (sym source) (subst (λ (c : Bool). taken ks i c ≡ None) (sym end) free))
-                (subst (λ (k : ℕ). taken new k h.from_back ≡ Some (entry_of h)) (sym source) (subst (λ (c : Bool). taken new i c ≡ Some (entry_of h)) (sym end) put))
+                (subst (λ (k : ℕ). taken ks k h.end ≡ None) (sym source) (subst (λ (c : Direction). taken ks i c ≡ None) (sym end) free))
+                (subst (λ (k : ℕ). taken new k h.end ≡ Some (entry_of h)) (sym source) (subst (λ (c : Direction). taken new i c ≡ Some (entry_of h)) (sym end) put))
                 (λ k c ne. elsewhere k c (λ e f. ne (e ∙ sym source) (f ∙ sym end)));
           };
           wholes = map-set_same whole ks i after _ same;
@@ -155,7 +158,7 @@ module _ {S A : Type 0} (stops : Error → Bool) (front back : S → Option R �
         }
 
     -- nothing was left to take
-    stays : (m : Merger S A) → m.sources.items ≡ slice_set s.sources.items i is → (b : Bool) → held m.heap ≡ held s.heap → (kept_at ks i).rest ≡ [] → Left stops front back is (kept_at ks i).rest → Took stops front back b i ks m
+    stays : (m : Merger S A) → m.sources.items ≡ slice_set s.sources.items i is → (b : Direction) → held m.heap ≡ held s.heap → (kept_at ks i).rest ≡ [] → Left stops front back is (kept_at ks i).rest → Took stops front back b i ks m
     stays m written b heap none leaves = record {
       kept = ks;
       stands = record {
@@ -180,17 +183,17 @@ module _ {S A : Type 0} (stops : Error → Bool) (front back : S → Option R �
         length_map (q ∷ qs) = let more = length_map qs in omega (arith, more)
 
     pub front_ok : (m : Merger S A) → m.sources.items ≡ slice_set s.sources.items i is → (x : Entry) (h : HeapItem A) → DealsFirst stops (Left stops front back) was (Some (Ok x)) is → IsPermutation (h ∷ held s.heap) (held m.heap)
-        → entry_of h ≡ x → h.source ≡ i → h.from_back ≡ false → taken ks i false ≡ None → Took stops front back false i ks m
+        → entry_of h ≡ x → h.source ≡ i → h.end ≡ Front → taken ks i Front ≡ None → Took stops front back Front i ks m
     front_ok m written x h deals perm entry source end free =
         let one = deals (kept_at ks i).rest left refl in
-        moves m written false x h (record { front = Some x; rest = but_first (kept_at ks i).rest; back = (kept_at ks i).back }) perm entry source end free one.1
+        moves m written Front x h (record { front = Some x; rest = but_first (kept_at ks i).rest; back = (kept_at ks i).back }) perm entry source end free one.1
         (whole_at_front (kept_at ks i).front (kept_at ks i).back (kept_at ks i).rest x free one.0) refl refl (λ none. ap but_first none)
 
-    pub front_none : (m : Merger S A) → m.sources.items ≡ slice_set s.sources.items i is → DealsFirst stops (Left stops front back) was None is → held m.heap ≡ held s.heap → Took stops front back false i ks m
+    pub front_none : (m : Merger S A) → m.sources.items ≡ slice_set s.sources.items i is → DealsFirst stops (Left stops front back) was None is → held m.heap ≡ held s.heap → Took stops front back Front i ks m
     front_none m written deals heap =
         let one = deals (kept_at ks i).rest left refl in
         let none = none_first (kept_at ks i).rest one.0 in
-        stays m written false heap none (subst (Left stops front back is) (ap but_first none ∙ sym none) one.1)
+        stays m written Front heap none (subst (Left stops front back is) (ap but_first none ∙ sym none) one.1)
 
     pub front_err : (e : Error) → DealsFirst stops (Left stops front back) was (Some (Err e)) is → stops e ≡ false → Contains (all_errors (map whole ks)) e
     front_err e deals fine = among e (first_contained (kept_at ks i).rest (Err e) (deals (kept_at ks i).rest left fine).0)
@@ -200,17 +203,17 @@ module _ {S A : Type 0} (stops : Error → Bool) (front back : S → Option R �
     front_err_first e deals fine = (deals (kept_at ks i).rest left fine).0
 
     pub back_ok : (m : Merger S A) → m.sources.items ≡ slice_set s.sources.items i is → (x : Entry) (h : HeapItem A) → DealsLast stops (Left stops front back) was (Some (Ok x)) is → IsPermutation (h ∷ held s.heap) (held m.heap)
-        → entry_of h ≡ x → h.source ≡ i → h.from_back ≡ true → taken ks i true ≡ None → Took stops front back true i ks m
+        → entry_of h ≡ x → h.source ≡ i → h.end ≡ Back → taken ks i Back ≡ None → Took stops front back Back i ks m
     back_ok m written x h deals perm entry source end free =
         let one = deals (kept_at ks i).rest left refl in
-        moves m written true x h (record { front = (kept_at ks i).front; rest = but_last (kept_at ks i).rest; back = Some x }) perm entry source end free one.1
+        moves m written Back x h (record { front = (kept_at ks i).front; rest = but_last (kept_at ks i).rest; back = Some x }) perm entry source end free one.1
         (whole_at_back (kept_at ks i).front (kept_at ks i).back (kept_at ks i).rest x free one.0) refl refl (λ none. ap (λ (rs : List R). reverse (but_first (reverse rs))) none)
 
-    pub back_none : (m : Merger S A) → m.sources.items ≡ slice_set s.sources.items i is → DealsLast stops (Left stops front back) was None is → held m.heap ≡ held s.heap → Took stops front back true i ks m
+    pub back_none : (m : Merger S A) → m.sources.items ≡ slice_set s.sources.items i is → DealsLast stops (Left stops front back) was None is → held m.heap ≡ held s.heap → Took stops front back Back i ks m
     back_none m written deals heap =
         let one = deals (kept_at ks i).rest left refl in
         let none = none_last (kept_at ks i).rest one.0 in
-        stays m written true heap none (subst (Left stops front back is) (ap (λ (rs : List R). reverse (but_first (reverse rs))) none ∙ sym none) one.1)
+        stays m written Back heap none (subst (Left stops front back is) (ap (λ (rs : List R). reverse (but_first (reverse rs))) none ∙ sym none) one.1)
 
     pub back_err : (e : Error) → DealsLast stops (Left stops front back) was (Some (Err e)) is → stops e ≡ false → Contains (all_errors (map whole ks)) e
     back_err e deals fine = among e (last_contained (kept_at ks i).rest (Err e) (deals (kept_at ks i).rest left fine).0)

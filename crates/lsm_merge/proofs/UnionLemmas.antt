@@ -15,16 +15,15 @@ use Rattle.sst_entries.specs.declared.value_type.ValueType.TheVariants.{Value, T
 use Rattle.lsm_merge.specs.Ends.{R}
 use Rattle.lsm_merge.specs.Union.{item_cmp, AtMost, Ascends, SameBag, all_entries, IsUnion, inserted, in_order, merged}
 use Rattle.sst_entries.specs.Strict.{number_cmp, IsStrict}
+use Rattle.sst_entries.proofs.Booleans.{and_parts, and_both}
+use Rattle.sst_entries.proofs.Lists.{all_more}
+use Rattle.sst_entries.proofs.OrderLemmas.{less_of}
 use Rattle.sst_entries.proofs.KeyLemmas.{same_is, same_itself}
 use Rattle.lsm_merge.proofs.Pairs.{AllBefore, pairs_of}
 use Rattle.lsm_merge.proofs.MergedLemmas.{item_total, Above, at_most_chain, above_at_most, all_inserted}
 use Rattle.lsm_merge.proofs.HeldLemmas.{weight, weight_false, count_cons, count_yes, count_no, none_counted}
 
 -- ---- sorted
-
-all_more : (P Q : Entry → Type 0) → ((y : Entry) → P y → Q y) → (xs : List Entry) → AllByRecursion P xs → AllByRecursion Q xs
-all_more P Q f [] h = tt
-all_more P Q f (x ∷ xs) h = (f x h.0, all_more P Q f xs h.1)
 
 ascends_inserted : (x : Entry) (xs : List Entry) → Ascends xs → Ascends (inserted x xs)
 ascends_inserted x [] h = (tt, tt)
@@ -78,35 +77,22 @@ same_kind Indirection Indirection e = refl
 abbrev is_entry : Entry → Entry → Bool
 is_entry a b = same_key a.user_key b.user_key && ((a.seqno == b.seqno) && ((tag_of a.kind == tag_of b.kind) && same_key a.value b.value))
 
-both : (a b : Bool) → (a && b) ≡ true → (a ≡ true) × (b ≡ true)
-both true b h = (refl, h)
-both false b h = absurd cc
-
-join : (a b : Bool) → a ≡ true → b ≡ true → (a && b) ≡ true
-join true b h k = k
-join false b h k = absurd cc
-
 entry_itself : (a : Entry) → is_entry a a ≡ true
 entry_itself a =
-    join (same_key a.user_key a.user_key) _ (same_itself a.user_key)
-    (join (a.seqno == a.seqno) _ (eq-eqb a.seqno a.seqno refl) (join (tag_of a.kind == tag_of a.kind) _ (eq-eqb (tag_of a.kind) (tag_of a.kind) refl) (same_itself a.value)))
+    and_both (same_key a.user_key a.user_key) _ (same_itself a.user_key)
+    (and_both (a.seqno == a.seqno) _ (eq-eqb a.seqno a.seqno refl) (and_both (tag_of a.kind == tag_of a.kind) _ (eq-eqb (tag_of a.kind) (tag_of a.kind) refl) (same_itself a.value)))
 
 entry_is : (a b : Entry) → is_entry a b ≡ true → a ≡ b
 entry_is a b h =
-    let key = both (same_key a.user_key b.user_key) _ h in
-    let number = both (a.seqno == b.seqno) _ key.1 in
-    let rest = both (tag_of a.kind == tag_of b.kind) _ number.1 in
+    let key = and_parts (same_key a.user_key b.user_key) _ h in
+    let number = and_parts (a.seqno == b.seqno) _ key.1 in
+    let rest = and_parts (tag_of a.kind == tag_of b.kind) _ number.1 in
     ap (λ (k : List ℕ). record a { user_key = k }) (same_is a.user_key b.user_key key.0)
     ∙ ap (λ (n : ℕ). record b { seqno = n; kind = a.kind; value = a.value }) (eqb-true a.seqno b.seqno number.0)
     ∙ ap (λ (k : ValueType). record b { kind = k; value = a.value }) (same_kind a.kind b.kind (eqb-true (tag_of a.kind) (tag_of b.kind) rest.0))
     ∙ ap (λ (v : List ℕ). record b { value = v }) (same_is a.value b.value rest.1)
 
 -- ---- the only one
-
-lt_less : (o : Ordering) → is_lt o ≡ true → o ≡ Less
-lt_less Less h = refl
-lt_less Equal h = absurd cc
-lt_less Greater h = absurd cc
 
 then_less : (a b c : Ordering) → ordering_then a b ≡ Less → ordering_then a (ordering_then b c) ≡ Less
 then_less Less b c h = refl
@@ -115,7 +101,7 @@ then_less Greater b c h = absurd cc
 
 version_less : (x y : Entry) → is_lt (number_cmp x y) ≡ true → Above y x
 version_less x y h =
-    let less : item_cmp x y ≡ Less = then_less (slice_cmp nat_cmp x.user_key y.user_key) (nat_cmp y.seqno x.seqno) (nat_cmp (tag_of x.kind) (tag_of y.kind)) (lt_less (number_cmp x y) h) in
+    let less : item_cmp x y ≡ Less = then_less (slice_cmp nat_cmp x.user_key y.user_key) (nat_cmp y.seqno x.seqno) (nat_cmp (tag_of x.kind) (tag_of y.kind)) (less_of (number_cmp x y) h) in
     ap is_gt (item_total.antisymm y x ∙ ap ordering_reverse less)
 
 at_most_itself : (x : Entry) → AtMost x x
@@ -165,9 +151,9 @@ strict_only (x ∷ xs) (y ∷ ys) strict up same =
 
     found : is_lt (number_cmp x y) ≡ false → is_entry y x ≡ true
     found first =
-        let here : after x y y ≡ true = join (is_entry y y) _ (entry_itself y) (ap not first) in
+        let here : after x y y ≡ true = and_both (is_entry y y) _ (entry_itself y) (ap not first) in
         let none : count_by (after x y) xs ≡ 0 = none_pass (after x y) xs (all_more (λ z. is_lt (number_cmp x z) ≡ true) (λ z. after x y z ≡ false) (λ z lt. no_after x y z lt) xs strict.0) in
-        (both (is_entry y x) _ (some_weight (after x y x) (omega (arith, none, same.count (after x y), count_cons (after x y) x xs, count_yes (after x y) y ys here)))).0
+        (and_parts (is_entry y x) _ (some_weight (after x y x) (omega (arith, none, same.count (after x y), count_cons (after x y) x xs, count_yes (after x y) y ys here)))).0
 
     tail : y ≡ x → SameBag xs ys
     tail e = record { count = λ p. let c = same.count p in let w : weight (p y) ≡ weight (p x) = ap (λ (z : Entry). weight (p z)) e in omega (arith, c, w, count_cons p x xs, count_cons p y ys) }

@@ -3,6 +3,8 @@ use Rattle.std.specs.Prelude.{◌≡◌, ◌⊎◌, ℕ, zero, suc, ◌+◌, ◌
 use Rattle.std.specs.Ordering.{is_gt}
 use Rattle.sst_entries.specs.Entry.{Entry}
 use Rattle.sst_entries.specs.declared.error.Error.{Error}
+use Rattle.sst_entries.specs.declared.stream.Direction.{Direction}
+use Rattle.sst_entries.specs.declared.stream.Direction.TheVariants.{Front, Back}
 use Rattle.lsm_merge.specs.declared.ends.Ends.{Ends}
 use Rattle.lsm_merge.specs.declared.merge.HeapItem.{HeapItem}
 use Rattle.lsm_merge.specs.declared.merge.Merger.{Merger}
@@ -11,15 +13,17 @@ use Rattle.lsm_heaps.specs.Tournament.{held, room}
 use Rattle.lsm_merge.specs.Merge.{entry_of, turn_cmp, is_ready, SameRoom}
 
 -- the first of these items, seen from an end
-abbrev pub Leads : {A : Type 0} → Bool → HeapItem A → List (HeapItem A) → Type 0
-Leads false h hs = All (λ y. is_gt (turn_cmp h y) ≡ false) hs
-Leads true h hs = All (λ y. is_gt (turn_cmp y h) ≡ false) hs
+abbrev pub Leads : {A : Type 0} → Direction → HeapItem A → List (HeapItem A) → Type 0
+Leads Front h hs = All (λ y. is_gt (turn_cmp h y) ≡ false) hs
+Leads Back h hs = All (λ y. is_gt (turn_cmp y h) ≡ false) hs
 
 -- an entry that was taken from an end of source i is held, and nothing else is new
-abbrev pub Puts : {A : Type 0} → Bool → ℕ → Option R → List (HeapItem A) → List (HeapItem A) → Type 0
-Puts at_back i None old new = new ≡ old
-Puts at_back i (Some (Err e)) old new = new ≡ old
-Puts {A} at_back i (Some (Ok x)) old new = (h : HeapItem A) × (entry_of h ≡ x) × (h.source ≡ i) × (h.from_back ≡ at_back) × IsPermutation (h ∷ old) new
+abbrev pub Puts : {A : Type 0} → Direction → ℕ → Option R → List (HeapItem A) → List (HeapItem A)
+    → Type 0
+Puts end i None old new = new ≡ old
+Puts end i (Some (Err e)) old new = new ≡ old
+Puts {A} end i (Some (Ok x)) old new =
+    (h : HeapItem A) × (entry_of h ≡ x) × (h.source ≡ i) × (h.end ≡ end) × IsPermutation (h ∷ old) new
 
 -- an error, if a source gave one
 abbrev pub error_told : Option R → Result (Unit {0}) Error
@@ -28,9 +32,9 @@ error_told (Some (Ok x)) = Ok tt
 error_told (Some (Err e)) = Err e
 
 -- an end is ready from now on
-abbrev pub made_ready : {S A : Type 0} → Bool → Merger S A → Merger S A
-made_ready false m = record m { front_ready = true }
-made_ready true m = record m { back_ready = true }
+abbrev pub made_ready : {S A : Type 0} → Direction → Merger S A → Merger S A
+made_ready Front m = record m { front_ready = true }
+made_ready Back m = record m { back_ready = true }
 
 -- an entry, unless a source gave an error
 abbrev pub entry_told : Entry → Result (Unit {0}) Error → Result (Option Entry) Error
@@ -57,15 +61,20 @@ pub record SameSources {S A : Type 0} (m n : Merger S A) : Type 0 where
   pub failed : n.failed ≡ m.failed
 
 -- nothing is held
-pub record HoldsNone {S A : Type 0} (m : Merger S A) (r : Result (Option Entry) Error) (n : Merger S A) : Type 0 where
-  pub none : r ≡ Ok None
+pub record HoldsNone {S A : Type 0} (m n : Merger S A) : Type 0 where
   pub was : held m.heap ≡ []
   pub is : held n.heap ≡ []
   pub same : SameSources m n
 
-module _ {S : Type 0} (ask : S → Option R → S → Type 0) (at_back : Bool) where
+-- the first of what is held, seen from an end, was taken out
+pub record Pops {S A : Type 0} (end : Direction) (m : Merger S A) (h : HeapItem A) (n : Merger S A) : Type 0 where
+  pub leads : Leads end h (held m.heap)
+  pub left : IsPermutation (held m.heap) (h ∷ held n.heap)
+  pub same : SameSources m n
+
+module _ {S : Type 0} (ask : S → Option R → S → Type 0) (end : Direction) where
   -- source i was asked once at this end: its entry is held, its error told
-  pub record Asks {A : Type 0} (i : ℕ) (m : Merger S A) (r : Result (Unit {0}) Error) (n : Merger S A) : Type 0 where
+  pub record AsksSource {A : Type 0} (i : ℕ) (m : Merger S A) (r : Result (Unit {0}) Error) (n : Merger S A) : Type 0 where
     pub within : i < length m.sources.items
     pub was : Ends S
     pub is : Ends S
@@ -73,27 +82,27 @@ module _ {S : Type 0} (ask : S → Option R → S → Type 0) (at_back : Bool) w
     pub found : was ≡ slice_index_or m.sources.items i was
     pub asked : Asked ask was answer is
     pub written : n.sources.items ≡ slice_set m.sources.items i is
-    pub puts : Puts at_back i answer (held m.heap) (held n.heap)
+    pub puts : Puts end i answer (held m.heap) (held n.heap)
     pub told : r ≡ error_told answer
     pub same : SameRoom m n
 
   -- each source below i was asked once, in turn, and gave no error
   abbrev pub AsksEach : {A : Type 0} → ℕ → Merger S A → Merger S A → Type 0
   AsksEach zero m n = n ≡ m
-  AsksEach {A} (suc i) m n = (j : Merger S A) × AsksEach i m j × Asks i j (Ok tt) n
+  AsksEach {A} (suc i) m n = (j : Merger S A) × AsksEach i m j × AsksSource i j (Ok tt) n
 
   -- each source was asked once
   pub record AsksAll {A : Type 0} (m n : Merger S A) : Type 0 where
     pub last : Merger S A
     pub each : AsksEach (length m.sources.items) m last
-    pub ready : n ≡ made_ready at_back last
+    pub ready : n ≡ made_ready end last
 
   -- a source gave an error, and none before it
   pub record FailsAt {A : Type 0} (e : Error) (m n : Merger S A) : Type 0 where
     pub place : ℕ
     pub before : Merger S A
     pub each : AsksEach place m before
-    pub fails : Asks place before (Err e) n
+    pub fails : AsksSource place before (Err e) n
 
   abbrev pub FillsIf : {A : Type 0} → Bool → Merger S A → Result (Unit {0}) Error → Merger S A → Type 0
   FillsIf true m r n = (r ≡ Ok tt) × (n ≡ m)
@@ -102,41 +111,40 @@ module _ {S : Type 0} (ask : S → Option R → S → Type 0) (at_back : Bool) w
 
   -- at the first call at this end, and at no other, each source is asked
   pub record Fills {A : Type 0} (m : Merger S A) (r : Result (Unit {0}) Error) (n : Merger S A) : Type 0 where
-    pub fill : FillsIf (is_ready at_back m) m r n
+    pub fill : FillsIf (is_ready end m) m r n
 
   -- the first of what is held was taken out, and its source, no other, was asked for the next
-  pub record Turns {A : Type 0} (m : Merger S A) (r : Result (Option Entry) Error) (n : Merger S A) : Type 0 where
+  pub record TakesLead {A : Type 0} (m : Merger S A) (r : Result (Option Entry) Error) (n : Merger S A) : Type 0 where
     pub lead : HeapItem A
     pub mid : Merger S A
-    pub leads : Leads at_back lead (held m.heap)
-    pub pops : IsPermutation (held m.heap) (lead ∷ held mid.heap)
-    pub same : SameSources m mid
+    pub pops : Pops end m lead mid
     pub answer : Result (Unit {0}) Error
-    pub asks : Asks lead.source mid answer n
+    pub asks : AsksSource lead.source mid answer n
     pub told : r ≡ entry_told (entry_of lead) answer
 
-  abbrev pub TurnsIf : {A : Type 0} → Result (Unit {0}) Error → Merger S A → Result (Option Entry) Error → Merger S A → Type 0
-  TurnsIf (Ok u) m r n = HoldsNone m r n ⊎ Turns m r n
-  TurnsIf (Err e) m r n = (r ≡ Err e) × (n ≡ m)
+  abbrev pub TakesLeadIf : {A : Type 0} → Result (Unit {0}) Error → Merger S A → Result (Option Entry) Error
+      → Merger S A → Type 0
+  TakesLeadIf (Ok u) m r n = ((r ≡ Ok None) × HoldsNone m n) ⊎ TakesLead m r n
+  TakesLeadIf (Err e) m r n = (r ≡ Err e) × (n ≡ m)
 
   -- once the end is ready, one turn
-  pub record Steps {A : Type 0} (m : Merger S A) (r : Result (Option Entry) Error) (n : Merger S A) : Type 0 where
+  pub record TakesStep {A : Type 0} (m : Merger S A) (r : Result (Option Entry) Error) (n : Merger S A) : Type 0 where
     pub fill : Result (Unit {0}) Error
     pub filled : Merger S A
     pub fills : Fills m fill filled
-    pub turns : TurnsIf fill filled r n
+    pub turns : TakesLeadIf fill filled r n
 
   -- a step, where no source failed
-  pub record Answers {A : Type 0} (m : Merger S A) (r : Option R) (n : Merger S A) : Type 0 where
+  pub record AnswersCall {A : Type 0} (m : Merger S A) (r : Option R) (n : Merger S A) : Type 0 where
     pub step : Result (Option Entry) Error
     pub led : Merger S A
-    pub steps : Steps m step led
+    pub steps : TakesStep m step led
     pub answer : r ≡ answer_told step
     pub state : n ≡ ended_at step led
 
   abbrev pub CallsIf : {A : Type 0} → Bool → Merger S A → Option R → Merger S A → Type 0
   CallsIf true m r n = (r ≡ None) × (n ≡ m)
-  CallsIf false m r n = Answers m r n
+  CallsIf false m r n = AnswersCall m r n
 
   -- one call at this end. It asks nothing of any source at the other end
   pub record Calls {A : Type 0} (May : Merger S A → Type 0) (m : Merger S A) (r : Option R) (n : Merger S A) : Type 0 where

@@ -4,7 +4,9 @@ use Rattle.std.specs.Iterator.{Count, IsFinite, size}
 use Rattle.sst_entries.specs.Entry.{Entry}
 use Rattle.sst_entries.specs.declared.error.Error.{Error}
 use Rattle.lsm_merge.specs.declared.ends.Ends.{Ends}
-use Rattle.sst_entries.specs.Stream.{Deals, CanDeal, stopped}
+use Rattle.sst_entries.specs.declared.stream.Direction.{Direction}
+use Rattle.sst_entries.specs.declared.stream.Direction.TheVariants.{Front, Back}
+use Rattle.sst_entries.specs.Stream.{Deals, CanDeal, stopped, DealsFirst, DealsLast}
 
 abbrev pub R : Type 0
 R = Result Entry Error
@@ -17,6 +19,11 @@ module _ {S : Type 0} (stops : Error → Bool) (front back : S → Option R → 
   -- what it still deals
   pub record Left (s : Ends S) (xs : List R) : Type 0 where
     pub lists : LeftIf s.done s.iter xs
+
+-- a call gave what stood at its end
+abbrev pub DealsAt : Direction → (Error → Bool) → {T : Type 0} → (T → List R → Type 0) → T → Option R → T → Type 0
+DealsAt Front stops Has = DealsFirst stops Has
+DealsAt Back stops Has = DealsLast stops Has
 
 module _ {S : Type 0} (front back : S → Option R → S → Type 0) where
   abbrev pub GoesIf : (S → Type 0) → (S → Type 0) → (S → Count) → Bool → S → Type 0

@@ -1,21 +1,20 @@
 //! Several sorted sources as one.
-ghost use Rattle.std.specs.Prelude.{◌≡◌, ℕ, ◌+◌, ◌<◌, ◌≤◌, Bool, true, false, List, [], length, map, All, IfOk, IfErr, MatchResult, MatchOption};
-ghost use Rattle.std.specs.Iterator.{at_most, IsFinite};
+ghost use Rattle.std.specs.Prelude.{◌≡◌, ℕ, ◌+◌, ◌<◌, ◌≤◌, true, false, List, [], length, map, All, IfOk, IfErr, IfSome, IfNone};
+ghost use Rattle.std.specs.Iterator.{at_most, MakesProgress};
 ghost use Rattle.sst_entries.specs.Entry.{Entry};
-ghost use Rattle.sst_entries.specs.Stream.{Deals, CanDeal, stopped, all_ok, nowhere};
+ghost use Rattle.sst_entries.specs.Stream.{Steps, nowhere};
 ghost use Rattle.sst_entries.specs.Strict.{IsStrict};
-ghost use Rattle.sst_entries.specs.declared.error.Error.{Error};
+ghost use Rattle.sst_entries.specs.declared.stream.Direction.TheVariants.{Front, Back};
 ghost use Rattle.sst_entries.specs.declared.error.Error.TheVariants.{OutOfMemory};
 ghost use Rattle.lsm_merge.specs.Ends.{R, fresh, Goes};
-ghost use Rattle.lsm_heaps.specs.Tournament.{held, room};
 ghost use Rattle.lsm_merge.specs.Union.{IsUnion, merged};
-ghost use Rattle.lsm_merge.specs.Merge.{EndsAtError, HoldsAtMost, Adds, SameRoom, Fits, MayMerge, LowersTotal, LowersByOne, merge_size, entry_of};
-ghost use Rattle.lsm_merge.specs.Asks.{Asks, Fills, Steps, Calls, IsMergerOf};
+ghost use Rattle.lsm_merge.specs.Merge.{EndsAtError, HoldsAtMost, Adds, SameRoom, HasPlaces, MayMerge, LowersTotal, LowersByOne, merge_size, entry_of, is_ready};
+ghost use Rattle.lsm_merge.specs.Asks.{AsksSource, Fills, TakesStep, Calls, IsMergerOf, HoldsNone, Pops, made_ready};
 ghost use Rattle.lsm_merge.specs.MergeLaws.{DealsBeforeErrors, DealsMerged, DealsUntilError, MeetsErrorsLate, CanMerge};
 
-use crate::ends::Ends;
-use lsm_heaps::Tournament;
-use sst_entries::{Error, InternalKey, InternalValue, IterItem, UserValue};
+use crate::ends::{AtBack, AtFront, End, Ends};
+use lsm_heaps::LazyTournament;
+use sst_entries::{Direction, Error, InternalKey, InternalValue, IterItem, UserValue};
 use std::alloc::{Allocator, Global};
 
 // An entry on its way through the heap. Where keys tie, entries of earlier sources come first,
@@ -25,21 +24,21 @@ use std::alloc::{Allocator, Global};
 struct HeapItem<A: Allocator> {
     key: InternalKey<A>,
     source: usize,
-    from_back: bool,
+    end: Direction,
     #[derive_where(skip(EqHashOrd))]
     value: UserValue<A>,
 }
 
 impl<A: Allocator> HeapItem<A> {
-    fn new(item: InternalValue<A>, source: usize, from_back: bool) -> Self
+    fn new(item: InternalValue<A>, source: usize, end: Direction) -> Self
         ensures entry { entry_of result ≡ item }
         ensures source { result.source ≡ source }
-        ensures from_back { result.from_back ≡ from_back }
+        ensures end { result.end ≡ end }
     {
         HeapItem {
             key: item.key,
             source,
-            from_back,
+            end,
             value: item.value,
         }
     }
@@ -61,7 +60,7 @@ impl<A: Allocator> HeapItem<A> {
 #[derive(Drop)]
 pub struct Merger<I, A: Allocator = Global> {
     sources: Vec<Ends<I>, A>,
-    heap: Tournament<HeapItem<A>, A>,
+    heap: LazyTournament<HeapItem<A>, A>,
     front_ready: bool,
     back_ready: bool,
     failed: bool,
@@ -119,7 +118,7 @@ impl<I: Iterator<Item = IterItem<A>>, A: Allocator + Clone> Merger<I, A> {
         let Some(places) = iterators.len().checked_mul(2) else {
             return Err(Error::OutOfMemory);
         };
-        let heap = Tournament::with_capacity(alloc.clone()?, places)?;
+        let heap = LazyTournament::with_capacity(alloc.clone()?, places)?;
         let sources = fused(alloc, iterators)?;
         Ok(Merger {
             sources,
@@ -171,69 +170,36 @@ pub fn from_both_ends<I: DoubleEndedIterator<Item = IterItem<A>>, A: Allocator>(
     let _ = merger;
 }
 
-impl<I: Iterator<Item = IterItem<A>>, A: Allocator> Merger<I, A> {
-    // Moves the first of what source `i` still deals into the heap.
-    #[inline(always)]
-    fn take_front(&mut self, i: usize) -> Result<(), Error>
-        requires place { i < length self.old.sources.items }
-        requires goes { All (Goes I.next_gives nowhere I.can_next I.can_next I.remaining)
-            self.old.sources.items }
-        requires space { length (held self.old.heap) < room self.old.heap }
-        ensures goes { All (Goes I.next_gives nowhere I.can_next I.can_next I.remaining)
-            self.new.sources.items }
-        ensures same { SameRoom self.old self.new }
-        ensures adds { Adds false i (held self.old.heap) (held self.new.heap) }
-        ensures lowers { LowersTotal I.remaining self.old result self.new }
-        ensures asks { Asks I.next_gives false i self.old result self.new }
+impl<I, A: Allocator> Merger<I, A> {
+    // Whether the sources were asked at this end.
+    fn is_ready(&self, end: Direction) -> bool
+        ensures { result ≡ is_ready end self.now }
     {
-        let source = &mut self.sources[i];
-        match source.next_in_front() {
-            Some(Ok(item)) => {
-                self.heap.push(HeapItem::new(item, i, false));
-                Ok(())
-            }
-            Some(Err(error)) => Err(error),
-            None => Ok(()),
+        match end {
+            Direction::Front => self.front_ready,
+            Direction::Back => self.back_ready,
         }
     }
 
-    // Once, moves the first of each source into the heap.
-    fn fill_front(&mut self) -> Result<(), Error>
-        requires { Fits I.next_gives nowhere I.can_next I.can_next I.remaining self.old }
-        ensures fits { IfOk result (λ _. Fits I.next_gives nowhere I.can_next I.can_next I.remaining
-            self.new) }
-        ensures ready { IfOk result (λ _. self.new.front_ready ≡ true) }
-        ensures other { self.new.back_ready ≡ self.old.back_ready }
-        ensures failed { self.new.failed ≡ self.old.failed }
-        ensures lowers { LowersTotal I.remaining self.old result self.new }
-        ensures fills { Fills I.next_gives false self.old result self.new }
+    fn make_ready(&mut self, end: Direction)
+        ensures { self.new ≡ made_ready end self.old }
     {
-        if self.front_ready {
-            return Ok(());
+        match end {
+            Direction::Front => self.front_ready = true,
+            Direction::Back => self.back_ready = true,
         }
-        for i in 0..self.sources.len() {
-            self.take_front(i)?;
-        }
-        self.front_ready = true;
-        Ok(())
     }
 
-    // Takes the least entry of all sources, and the next of its source into the heap.
+    // Takes out the first of what is held, seen from an end.
     #[inline(always)]
-    fn step_front(&mut self) -> Result<Option<InternalValue<A>>, Error>
-        requires { Fits I.next_gives nowhere I.can_next I.can_next I.remaining self.old }
-        ensures fits { IfOk result (λ _. Fits I.next_gives nowhere I.can_next I.can_next I.remaining
-            self.new) }
-        ensures failed { self.new.failed ≡ self.old.failed }
-        ensures lowers { LowersByOne I.remaining self.old result self.new }
-        ensures steps { Steps I.next_gives false self.old result self.new }
+    fn pop(&mut self, end: Direction) -> Option<HeapItem<A>>
+        ensures none { IfNone result (HoldsNone self.old self.new) }
+        ensures some { IfSome result (λ h. Pops end self.old h self.new) }
     {
-        self.fill_front()?;
-        let Some(least) = self.heap.pop_min() else {
-            return Ok(None);
-        };
-        self.take_front(least.source)?;
-        Ok(Some(least.into_item()))
+        match end {
+            Direction::Front => self.heap.pop_min(),
+            Direction::Back => self.heap.pop_max(),
+        }
     }
 
     // An error ends the merge for good.
@@ -246,25 +212,26 @@ impl<I: Iterator<Item = IterItem<A>>, A: Allocator> Merger<I, A> {
     }
 }
 
-impl<I: DoubleEndedIterator<Item = IterItem<A>>, A: Allocator> Merger<I, A> {
-    // Moves the last of what source `i` still deals into the heap.
+impl<I: Iterator<Item = IterItem<A>>, A: Allocator> Merger<I, A> {
+    // Moves what stands at an end of source `i` into the heap.
     #[inline(always)]
-    fn take_back(&mut self, i: usize) -> Result<(), Error>
+    fn take<E: End<I>>(&mut self, i: usize) -> Result<(), Error>
         requires place { i < length self.old.sources.items }
-        requires goes { All (Goes I.next_gives I.next_back_gives I.can_next I.can_next_back
-            I.remaining) self.old.sources.items }
-        requires space { length (held self.old.heap) < room self.old.heap }
-        ensures goes { All (Goes I.next_gives I.next_back_gives I.can_next I.can_next_back
-            I.remaining) self.new.sources.items }
+        requires goes { All (Goes I.next_gives E.back_gives I.can_next E.can_back I.remaining)
+            self.old.sources.items }
+        requires space { length self.old.heap.items < self.old.heap.room }
+        ensures goes { All (Goes I.next_gives E.back_gives I.can_next E.can_back I.remaining)
+            self.new.sources.items }
         ensures same { SameRoom self.old self.new }
-        ensures adds { Adds true i (held self.old.heap) (held self.new.heap) }
+        ensures adds { Adds E.end i self.old.heap.items self.new.heap.items }
         ensures lowers { LowersTotal I.remaining self.old result self.new }
-        ensures asks { Asks I.next_back_gives true i self.old result self.new }
+        ensures asks { AsksSource (Steps I.next_gives E.back_gives E.end) E.end i self.old result
+            self.new }
     {
         let source = &mut self.sources[i];
-        match source.next_back() {
+        match source.ask::<E>() {
             Some(Ok(item)) => {
-                self.heap.push(HeapItem::new(item, i, true));
+                self.heap.push(HeapItem::new(item, i, E::end()));
                 Ok(())
             }
             Some(Err(error)) => Err(error),
@@ -272,45 +239,64 @@ impl<I: DoubleEndedIterator<Item = IterItem<A>>, A: Allocator> Merger<I, A> {
         }
     }
 
-    // Once, moves the last of each source into the heap.
-    fn fill_back(&mut self) -> Result<(), Error>
-        requires { Fits I.next_gives I.next_back_gives I.can_next I.can_next_back I.remaining
-            self.old }
-        ensures fits { IfOk result (λ _. Fits I.next_gives I.next_back_gives I.can_next
-            I.can_next_back I.remaining self.new) }
-        ensures ready { IfOk result (λ _. self.new.back_ready ≡ true) }
-        ensures other { self.new.front_ready ≡ self.old.front_ready }
+    // Once for each end, moves what stands there in each source into the heap.
+    fn fill<E: End<I>>(&mut self) -> Result<(), Error>
+        requires { HasPlaces I.next_gives E.back_gives I.can_next E.can_back I.remaining self.old }
+        ensures places { IfOk result (λ _.
+            HasPlaces I.next_gives E.back_gives I.can_next E.can_back I.remaining self.new) }
         ensures failed { self.new.failed ≡ self.old.failed }
         ensures lowers { LowersTotal I.remaining self.old result self.new }
-        ensures fills { Fills I.next_back_gives true self.old result self.new }
+        ensures fills { Fills (Steps I.next_gives E.back_gives E.end) E.end self.old result
+            self.new }
     {
-        if self.back_ready {
+        if self.is_ready(E::end()) {
             return Ok(());
         }
         for i in 0..self.sources.len() {
-            self.take_back(i)?;
+            self.take::<E>(i)?;
         }
-        self.back_ready = true;
+        self.make_ready(E::end());
         Ok(())
     }
 
-    // Takes the greatest entry of all sources, and the next of its source into the heap.
+    // Takes the entry of an end of all sources, and the next of its source into the heap.
     #[inline(always)]
-    fn step_back(&mut self) -> Result<Option<InternalValue<A>>, Error>
-        requires { Fits I.next_gives I.next_back_gives I.can_next I.can_next_back I.remaining
-            self.old }
-        ensures fits { IfOk result (λ _. Fits I.next_gives I.next_back_gives I.can_next
-            I.can_next_back I.remaining self.new) }
+    fn step<E: End<I>>(&mut self) -> Result<Option<InternalValue<A>>, Error>
+        requires { HasPlaces I.next_gives E.back_gives I.can_next E.can_back I.remaining self.old }
+        ensures places { IfOk result (λ _.
+            HasPlaces I.next_gives E.back_gives I.can_next E.can_back I.remaining self.new) }
         ensures failed { self.new.failed ≡ self.old.failed }
         ensures lowers { LowersByOne I.remaining self.old result self.new }
-        ensures steps { Steps I.next_back_gives true self.old result self.new }
+        ensures steps { TakesStep (Steps I.next_gives E.back_gives E.end) E.end self.old result
+            self.new }
     {
-        self.fill_back()?;
-        let Some(greatest) = self.heap.pop_max() else {
+        self.fill::<E>()?;
+        let Some(lead) = self.pop(E::end()) else {
             return Ok(None);
         };
-        self.take_back(greatest.source)?;
-        Ok(Some(greatest.into_item()))
+        self.take::<E>(lead.source)?;
+        Ok(Some(lead.into_item()))
+    }
+
+    // The answer at an end.
+    #[inline(always)]
+    fn call<E: End<I>>(&mut self) -> Option<IterItem<A>>
+        requires { MayMerge I.next_gives E.back_gives I.can_next E.can_back I.remaining self.old }
+        ensures calls { Calls (Steps I.next_gives E.back_gives E.end) E.end
+            (MayMerge I.next_gives E.back_gives I.can_next E.can_back I.remaining) self.old result
+            self.new }
+        ensures goes { MakesProgress
+            (MayMerge I.next_gives E.back_gives I.can_next E.can_back I.remaining)
+            (λ m. at_most (merge_size I.remaining m)) self.old result self.new }
+    {
+        if self.failed {
+            return None;
+        }
+        match self.step::<E>() {
+            Ok(Some(item)) => Some(Ok(item)),
+            Ok(None) => None,
+            Err(error) => self.fail(error),
+        }
     }
 }
 
@@ -319,20 +305,13 @@ impl<I: Iterator<Item = IterItem<A>>, A: Allocator> Iterator for Merger<I, A> {
 
     ghost can_next = { MayMerge I.next_gives nowhere I.can_next I.can_next I.remaining };
 
-    ghost next_gives = { Calls I.next_gives false (MayMerge I.next_gives nowhere I.can_next
+    ghost next_gives = { Calls I.next_gives Front (MayMerge I.next_gives nowhere I.can_next
         I.can_next I.remaining) };
 
     ghost remaining = { λ m. at_most (merge_size I.remaining m) };
 
     fn next(&mut self) -> Option<IterItem<A>> {
-        if self.failed {
-            return None;
-        }
-        match self.step_front() {
-            Ok(Some(item)) => Some(Ok(item)),
-            Ok(None) => None,
-            Err(error) => self.fail(error),
-        }
+        self.call::<AtFront>()
     }
 }
 
@@ -341,17 +320,10 @@ impl<I: DoubleEndedIterator<Item = IterItem<A>>, A: Allocator> DoubleEndedIterat
     ghost can_next_back = { MayMerge I.next_gives I.next_back_gives I.can_next I.can_next_back
         I.remaining };
 
-    ghost next_back_gives = { Calls I.next_back_gives true (MayMerge I.next_gives I.next_back_gives
+    ghost next_back_gives = { Calls I.next_back_gives Back (MayMerge I.next_gives I.next_back_gives
         I.can_next I.can_next_back I.remaining) };
 
     fn next_back(&mut self) -> Option<IterItem<A>> {
-        if self.failed {
-            return None;
-        }
-        match self.step_back() {
-            Ok(Some(item)) => Some(Ok(item)),
-            Ok(None) => None,
-            Err(error) => self.fail(error),
-        }
+        self.call::<AtBack>()
     }
 }

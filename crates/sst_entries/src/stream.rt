@@ -6,8 +6,8 @@ ghost use Rattle.sst_entries.specs.declared.error.Error.{Error};
 use crate::{Error, InternalValue};
 use std::alloc::{AllocError, Allocator, Global};
 
-/// An end of a list.
-#[derive(Clone, Copy, Debug, PartialEq, Eq)]
+/// An end of a list. The front comes before the back.
+#[derive(Clone, Copy, Debug, PartialEq, Eq, PartialOrd, Ord)]
 pub enum Direction {
     /// The front, which `next` takes from.
     Front,
