@@ -6,7 +6,7 @@ pub use Rattle.sst_entries.specs.Point.{bound_of, lower_place, point, upper_plac
 pub use Rattle.sst_entries.specs.Span.{SpanGives, front_length, left_in}
 pub use Rattle.sst_entries.specs.Stream.{CanDeal, Deals, all_ok, back_of, front_of, stopped}
 pub use Rattle.sst_entries.specs.Strict.{IsStrict, is_before, is_strict_after, may_follow}
-pub use Rattle.sst_blocks.specs.Block.{entries_of, handles_of}
+pub use Rattle.sst_blocks.specs.Block.{Loaded, LoadsBack, block_bytes, entries_of, grammar_fault, handles_of, is_filter, loaded}
 pub use Rattle.sst_blocks.specs.Bounds.{data_block_bound_of, index_block_bound_of}
 pub use Rattle.sst_blocks.specs.Encoding.{entries_fault, handles_fault}
 pub use Rattle.sst_blocks.specs.Ending.{EndsAtError}
@@ -18,4 +18,4 @@ pub use Rattle.sst_blocks.specs.Reading.{entries_in}
 pub use Rattle.sst_blocks.specs.Seeking.{whole}
 pub use Rattle.sst_blocks.specs.Seen.{seen}
 pub use Rattle.sst_blocks.specs.SeenHandle.{seen_handle}
-pub use Rattle.sst_blocks.specs.Starts.{EntriesAt, HoldsEntries}
+pub use Rattle.sst_blocks.specs.Starts.{EntriesAt, HoldsEntries, IsBlock}

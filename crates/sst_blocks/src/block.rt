@@ -1,13 +1,10 @@
 //! Blocks: a checked payload of one kind.
 ghost use Rattle.std.specs.Prelude.{◌≡◌, ◌+◌, ◌++◌, ◌<◌, ◌^◌, List, Ok, length, IfOk, IfErr, OnOk, OnErr};
-ghost use Rattle.sst_blocks.specs.Block.{block_bytes, entries_of, grammar_fault, handles_of, is_filter, loaded, Loaded, LoadsBack};
-ghost use Rattle.sst_blocks.specs.Handle.{Handle};
-ghost use Rattle.sst_blocks.specs.Handles.{handles_payload, AreStrictHandles, HandlesFit};
-ghost use Rattle.sst_blocks.specs.Payload.{payload, AreFit};
-ghost use Rattle.sst_entries.specs.Entry.{Entry};
-ghost use Rattle.sst_entries.specs.Strict.{IsStrict};
-ghost use Rattle.sst_entries.specs.Error.{Faults, Gives, unless};
-ghost use Rattle.sst_blocks.specs.Starts.{HoldsEntries, IsBlock};
+ghost use Rattle.sst_blocks.specs.Words.{AreFit, AreStrictHandles, Entry, Faults, Gives, Handle};
+ghost use Rattle.sst_blocks.specs.Words.{HandlesFit, HoldsEntries, IsBlock, IsStrict, Loaded};
+ghost use Rattle.sst_blocks.specs.Words.{LoadsBack, block_bytes, entries_of, grammar_fault};
+ghost use Rattle.sst_blocks.specs.Words.{handles_of, handles_payload, is_filter, loaded, payload};
+ghost use Rattle.sst_blocks.specs.Words.{unless};
 ghost use Rattle.sst_blocks.specs.declared.block_type.BlockType.{BlockType};
 ghost use Rattle.sst_blocks.specs.declared.block_type.BlockType.TheVariants.{Index};
 ghost use Rattle.sst_sections.specs.declared.version.TableVersion.{TableVersion};

@@ -67,9 +67,18 @@ impl<A: Allocator> Model for KeyedBlockHandle<A> {
 
     ghost Value = { Handle };
 
-    ghost view = { λ h. record { end_key = h.end_key; seqno = h.seqno; offset = h.inner.offset; size = h.inner.size } };
+    ghost view = { λ h. record {
+      end_key = h.end_key;
+      seqno = h.seqno;
+      offset = h.inner.offset;
+      size = h.inner.size;
+    } };
 
-    ghost inverse = { λ h. record { end_key = h.end_key; seqno = h.seqno; inner = record { offset = h.offset; size = h.size } } };
+    ghost inverse = { λ h. record {
+      end_key = h.end_key;
+      seqno = h.seqno;
+      inner = record { offset = h.offset; size = h.size };
+    } };
 }
 
 impl<A: Allocator> Clone for KeyedBlockHandle<A> {

@@ -48,7 +48,8 @@ next_start end (s ∷ ss) = s.1
 abbrev pub section_of : ℕ → List (SectionName × ℕ) → SectionName → Option Section
 section_of end [] name = None
 section_of end (s ∷ ss) name =
-    if place_of s.0 == place_of name then Some (record { position = s.1; len = next_start end ss - s.1 })
+    if place_of s.0 == place_of name
+    then Some (record { position = s.1; len = next_start end ss - s.1 })
     else section_of end ss name
 
 -- each section begins where the one before it does, or further on, and none of them past the end
@@ -63,7 +64,8 @@ slot (Some s) = le8 s.position ++ le8 s.len
 
 -- seven slots, then the mark
 abbrev pub trailer : Written → List ℕ
-trailer w = flat_map (λ name. slot (section_of (length w.bytes) w.started name)) section_names ++ trailer_mark
+trailer w =
+    flat_map (λ name. slot (section_of (length w.bytes) w.started name)) section_names ++ trailer_mark
 
 -- a table's bytes: the body, then the trailer
 abbrev pub finished : Written → List ℕ
@@ -105,4 +107,5 @@ trailer_fault bytes = if is_bad_trailer bytes then Some InvalidTrailer else None
 pub record ReadsBack (w : Written) (bytes : List ℕ) : Type 0 where
   pub fine : trailer_fault bytes ≡ None
   pub body : body_of bytes ≡ w.bytes
-  pub sections : (name : SectionName) → section_in bytes name ≡ section_of (length w.bytes) w.started name
+  pub sections : (name : SectionName)
+      → section_in bytes name ≡ section_of (length w.bytes) w.started name

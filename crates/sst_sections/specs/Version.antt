@@ -12,7 +12,9 @@ mark V4 = 0x4c ∷ 0x42 ∷ 0x4b ∷ 0x32 ∷ []
 
 -- the version whose mark the bytes are, where there is one
 abbrev pub version_of : List ℕ → Option TableVersion
-version_of bytes = if pointwise nat_eq bytes (mark V3) then Some V3 else (if pointwise nat_eq bytes (mark V4) then Some V4 else None)
+version_of bytes =
+    if pointwise nat_eq bytes (mark V3) then Some V3
+    else (if pointwise nat_eq bytes (mark V4) then Some V4 else None)
 
 -- how many bytes a key length takes
 abbrev pub key_width : TableVersion → ℕ

@@ -62,7 +62,8 @@ impl Toc {
     /// Reads the seven slots of a trailer.
     fn read(trailer: &[u8]) -> Toc
         requires { slots_len ≤ length trailer.now }
-        ensures { result ≡ map (λ name. section_at (drop (16 * place_of name) trailer.now)) section_names }
+        ensures { result ≡
+            map (λ name. section_at (drop (16 * place_of name) trailer.now)) section_names }
     {
         Toc {
             sections: [
