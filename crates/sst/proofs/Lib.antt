@@ -1,7 +1,7 @@
 pub mod CommandLemmas
+pub mod EntryLemmas
 pub mod PendingLemmas
 pub mod RefusalLemmas
 pub mod RunLemmas
 pub mod ScriptLemmas
-pub mod TableLemmas
-pub mod OpenLemmas
+pub mod StoreLemmas

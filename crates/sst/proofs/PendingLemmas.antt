@@ -1,87 +1,61 @@
 -- Lists that a table can be written of.
-use Rattle.std.proofs.Common.{◌≡◌, refl, sym, ◌∙◌, ap, subst, ℕ, Bool, true, false, IsTrue, append_assoc, List, [], ◌∷◌, ◌++◌, ltb-true, lt-ltb}
-use Rattle.std.specs.Prelude.{Option, Some, None, Result, Ok, Err, IfOk, MatchOption, ◌&&◌}
-use Rattle.std.proofs.lemmas.Grind.{flat_map-append}
-use Rattle.std.proofs.lemmas.List.{append-nil}
+use Rattle.std.proofs.Common.{◌≡◌, refl, sym, ◌∙◌, subst, ℕ, ◌+◌, ◌-◌, ◌^◌, ◌<◌, Bool, true, false, IsTrue, List, [], ◌∷◌, ◌++◌, arith, ltb, ltb-true, lt-ltb, le-ltb, max}
+use Rattle.std.specs.Prelude.{Option, Some, None, ◌&&◌, nat_lt}
+use Rattle.std.specs.List.{AllByRecursion}
+use Rattle.std.specs.Option.{option_or}
+use Rattle.sst_entries.specs.declared.error.Error.{Error}
 use Rattle.sst_entries.specs.declared.value_type.ValueType.TheVariants.{Value}
 use Rattle.sst_entries.specs.Entry.{Entry, entry}
-use Rattle.sst_entries.specs.Strict.{last_of, IsStrict, IsStrictAfter}
-use Rattle.sst_entries.specs.declared.error.Error.{Error}
-use Rattle.sst_sections.specs.declared.version.TableVersion.TheVariants.{V4}
-use Rattle.lsm_writers.specs.declared.writer.FinishedTable.{FinishedTable}
-use Rattle.lsm_files.specs.Options.{Options, Label, default_options, label_of}
-use Rattle.lsm_files.specs.Table.{IsTable}
-use Rattle.lsm_writers.specs.Writing.{follows, gained, written, IsFinished, Writing}
-use Rattle.lsm_files.specs.Chunks.{joined, is_full}
-use Rattle.sst_entries.proofs.Lists.{all_append, all_behind}
-use Rattle.lsm_writers.proofs.Orders.{strict_back, ends_follow}
-use Rattle.lsm_writers.proofs.Taking.{strict_gained}
-use Rattle.sst.specs.Pending.{IsNumbered, IsPending, IsTableOf}
+use Rattle.sst_entries.specs.Error.{is_memory, Faults}
+use Rattle.sst_entries.specs.Strict.{last_of, may_follow, IsStrictAfter}
+use Rattle.lsm_files.specs.Facts.{highest_seqno}
+use Rattle.lsm_files.specs.Options.{Label}
+use Rattle.lsm_writers.specs.Writing.{follows, list_fault, IsWritable}
+use Rattle.lsm_tables.specs.Written.{number_fault, opening_fault}
+use Rattle.sst_entries.proofs.Booleans.{and_parts}
+use Rattle.sst_entries.proofs.Lists.{all_append}
+use Rattle.sst_entries.proofs.Strictness.{strict_push}
 
-and_left : (a b : Bool) → IsTrue (a && b) → a ≡ true
-and_left true b h = refl
-and_left false b h = absurd cc
-
-pub nothing_pending : IsPending []
+pub nothing_pending : IsWritable []
 unfolding IsStrictAfter
 nothing_pending = record { strict = tt; numbered = tt }
 
+-- by key and number an entry may follow where another of that key and number may
+same_place : (last : Option Entry) (e : Entry) → may_follow last (entry e.user_key [] e.seqno Value) ≡ may_follow last e
+same_place None e = refl
+same_place (Some last) e = refl
+
+true_is : (b : Bool) → IsTrue b → b ≡ true
+true_is true h = refl
+true_is false h = absurd cc
+
 -- one more entry that follows
-pub pending_more : (es : List Entry) (e : Entry) → IsPending es → IsTrue (follows es e.user_key e.seqno) → IsPending (es ++ e ∷ [])
-pending_more es e p f = record {
-  strict = strict_gained es e p.strict f;
-  numbered = all_append IsNumbered es (e ∷ []) p.numbered (record { below = ltb-true _ _ (and_left _ _ f) }, tt);
-}
+pub pending_more : (es : List Entry) (e : Entry) → IsWritable es → IsTrue (follows es e.user_key e.seqno) → IsWritable (es ++ e ∷ [])
+pending_more es e p f =
+    let both = and_parts (nat_lt e.seqno (2 ^ 64 - 1)) (may_follow (last_of None es) (entry e.user_key [] e.seqno Value)) (true_is _ f) in
+    record {
+      strict = strict_push None es e p.strict (sym (same_place (last_of None es) e) ∙ both.1);
+      numbered = all_append (λ (x : Entry). x.seqno < 2 ^ 64 - 1) es (e ∷ []) p.numbered (ltb-true _ _ both.0, tt);
+    }
 
-true_and : (a b : Bool) → a ≡ true → b ≡ true → IsTrue (a && b)
-true_and a b p q = rw (p, q) refl
+-- the highest number fits
+highest_below : (es : List Entry) → AllByRecursion (λ (e : Entry). e.seqno < 2 ^ 64 - 1) es → highest_seqno es < 2 ^ 64 - 1
+unfolding highest_seqno
+highest_below [] h = omega arith
+highest_below (e ∷ es) h = omega (arith, h.0, highest_below es h.1)
 
--- an entry of a list follows those before it
-pub pending_follows : (xs : List Entry) (e : Entry) (ys : List Entry) → IsPending (xs ++ e ∷ ys) → IsTrue (follows xs e.user_key e.seqno)
-unfolding IsStrictAfter
-pending_follows xs e ys p =
-    let behind : IsStrictAfter (last_of None xs) (e ∷ ys) = strict_back None xs (e ∷ ys) p.strict in
-    let numbered : IsNumbered e = (all_behind IsNumbered xs (e ∷ ys) p.numbered).0 in
-    true_and _ _ (lt-ltb _ _ numbered.below) (ends_follow (last_of None xs) (entry e.user_key [] e.seqno Value) e refl refl behind.0)
+number_fits : (es : List Entry) → IsWritable es → number_fault es 0 ≡ None
+number_fits es p =
+    let low : ltb (2 ^ 64 - 1) (highest_seqno es + 0) ≡ false = le-ltb _ _ (omega (arith, highest_below es p.numbered)) in
+    rw low refl
 
--- the list of a writer that gained an entry
-joined_more : (cut : List (List Entry)) (pending : List Entry) (e : Entry) → joined (cut ++ (pending ++ e ∷ []) ∷ []) ++ [] ≡ (joined cut ++ pending) ++ e ∷ []
-joined_more cut pending e =
-    let chunk = pending ++ e ∷ [] in
-    append-nil (joined (cut ++ chunk ∷ [])) ∙ flat_map-append (λ (c : List Entry). c) cut (chunk ∷ []) ∙ ap (λ (x : List Entry). joined cut ++ x) (append-nil chunk) ∙ sym (append_assoc (joined cut) pending (e ∷ []))
+or_none : (a : Option Error) → option_or a None ≡ a
+or_none None = refl
+or_none (Some e) = refl
 
-gained_by : (w : Writing) (e : Entry) (full : Bool) → is_full w.options.data_block_size (w.pending ++ e ∷ []) ≡ full → written (gained w e) ≡ written w ++ e ∷ []
-gained_by w e true h = rw h (joined_more w.cut w.pending e)
-gained_by w e false h = rw h (sym (append_assoc (joined w.cut) w.pending (e ∷ [])))
+-- with no global number, what opening refuses is what writing refuses
+pub opening_is : (label : Label) (es : List Entry) → IsWritable es → opening_fault label es 0 ≡ list_fault label es
+opening_is label es p = rw (number_fits es p) (or_none (list_fault label es))
 
-pub written_gained : (w : Writing) (e : Entry) → written (gained w e) ≡ written w ++ e ∷ []
-written_gained w e = gained_by w e _ refl
-
--- what else a writer is stays as it was
-label_by : (w : Writing) (e : Entry) (full : Bool) → is_full w.options.data_block_size (w.pending ++ e ∷ []) ≡ full → ((gained w e).label ≡ w.label) × ((gained w e).options ≡ w.options)
-label_by w e true h = rw h (refl, refl)
-label_by w e false h = rw h (refl, refl)
-
-pub same_label : (w : Writing) (e : Entry) → ((gained w e).label ≡ w.label) × ((gained w e).options ≡ w.options)
-same_label w e = label_by w e _ refl
-
--- what a writer of all entries finishes
-module _ (w : Writing) (es : List Entry) (id : ℕ) (all : written w ≡ es) (label : w.label ≡ record { table_id = id; initial_level = 0; created_at = 0 }) (options : w.options ≡ default_options) where
-  finished : (found checksum : ℕ) (bytes : List ℕ) → IsFinished w found checksum bytes → IsTableOf es id found checksum bytes
-  finished found checksum bytes f =
-      let P : List Entry → Type 0 = λ xs. (t : IsTable bytes xs) × (t.label ≡ label_of id 0 0) × (t.options ≡ default_options) × (t.version ≡ V4) in
-      let table : P es = subst P all (f.table, f.label_is ∙ label, f.options_are ∙ options, f.version_is) in
-      record {
-        id_is = f.id_is ∙ ap (λ (l : Label). l.table_id) label;
-        checksum_is = f.checksum_is;
-        table = table.0;
-        label_is = table.1;
-        options_are = table.2;
-        version_is = table.3;
-      }
-
-pub table_by : {A : Type 0} (r : Result (Option (FinishedTable A)) Error) (w : Writing) (es : List Entry) (id : ℕ) → written w ≡ es → w.label ≡ record { table_id = id; initial_level = 0; created_at = 0 } → w.options ≡ default_options
-    → IfOk r (λ t. MatchOption t (written w ≡ []) (λ f. IsFinished w f.id f.checksum.0 f.bytes)) → IfOk r (λ t. MatchOption t (es ≡ []) (λ f. IsTableOf es id f.id f.checksum.0 f.bytes))
-table_by (Err e) w es id all label options h = tt
-table_by (Ok None) w es id all label options h = sym all ∙ h
-table_by (Ok (Some f)) w es id all label options h = finished w es id all label options f.id f.checksum.0 f.bytes h
+pub written_faults : {X : Type 0} (r : _) (label : Label) (es : List Entry) → IsWritable es → Faults {X = X} r (opening_fault label es 0) → Faults r (list_fault label es)
+written_faults {X} r label es p h = subst (λ (o : Option Error). Faults {X = X} r o) (opening_is label es p) h

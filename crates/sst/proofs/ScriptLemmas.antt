@@ -14,15 +14,15 @@ use Rattle.sst.specs.declared.stop.Failure.TheVariants.{BadLine, Refused}
 use Rattle.sst.specs.Answer.{answer_line, refusal_line}
 use Rattle.sst_entries.specs.Error.{number_of}
 use Rattle.sst.specs.Command.{words_of, AskFor}
-use Rattle.sst.specs.Script.{Built, built, Executes}
+use Rattle.sst.specs.Script.{Store, store, Executes}
 use Rattle.sst.specs.Lines.{lines_of, LosesLine, HasLines}
-use Rattle.sst.specs.Answering.{printed, PrintEnds, Answers, AnswersAll, Prints, LineEnds, ScriptEnds}
+use Rattle.sst.specs.Answering.{outcome_text, PrintEnds, Answers, AnswersAll, Prints, LineEnds, ScriptEnds}
 
 -- one more line
-pub answered_more : (A : Type 0) (front : List (List ℕ)) (line : List ℕ) (old between new : Built) (text more : List ℕ)
+pub answered_more : (A : Type 0) (front : List (List ℕ)) (line : List ℕ) (old between new : Store) (text more : List ℕ)
     → AnswersAll A front old text between → Answers A line between more new → AnswersAll A (front ++ line ∷ []) old (text ++ more) new
 answered_more A [] line old between new text more all last =
-    (new, more, [], subst (λ (b : Built). Answers A line b more new) all.1 last, (refl, refl), ap (λ (t : List ℕ). t ++ more) all.0 ∙ sym (append-nil more))
+    (new, more, [], subst (λ (b : Store). Answers A line b more new) all.1 last, (refl, refl), ap (λ (t : List ℕ). t ++ more) all.0 ∙ sym (append-nil more))
 answered_more A (first ∷ rest) line old between new text more all last =
     (all.0, all.1, all.2 ++ more, all.3, answered_more A rest line all.0 between new all.2 more all.4 last, ap (λ (t : List ℕ). t ++ more) all.5 ∙ append_assoc all.1 all.2 more)
 
@@ -116,12 +116,12 @@ leaves_more (Some bytes) front (Some rest) new line h loses =
     ∙ sym (append_assoc front (line ∷ []) (lines_of (drop_through 10 rest))))
 
 -- so many lines were answered, and what they print was written
-pub record IsAt (A : Type 0) (input left before after : Option (List ℕ)) (count : ℕ) (now : Built) : Type 0 where
+pub record IsAt (A : Type 0) (input left before after : Option (List ℕ)) (count : ℕ) (now : Store) : Type 0 where
   pub front : List (List ℕ)
   pub text : List ℕ
   pub leaves : Leaves input front left
   pub counted : length front ≡ count
-  pub answers : AnswersAll A front (built [] [] (Some 1)) text now
+  pub answers : AnswersAll A front (store [] [] (Some 1)) text now
   pub written : Appends before after text
 
 leaves_all : (input : Option (List ℕ)) → Leaves input [] input
@@ -129,7 +129,7 @@ leaves_all None = tt
 leaves_all (Some bytes) = refl
 
 -- before the first line
-pub at_start : (A : Type 0) (input before : Option (List ℕ)) → IsAt A input input before before 0 (built [] [] (Some 1))
+pub at_start : (A : Type 0) (input before : Option (List ℕ)) → IsAt A input input before before 0 (store [] [] (Some 1))
 at_start A input before = record {
   front = [];
   text = [];
@@ -140,25 +140,25 @@ at_start A input before = record {
 }
 
 -- after one more line
-pub at_more : {X : Type 0} {A : Type 0} {input left new before between after : Option (List ℕ)} {count : ℕ} {now next : Built} (line : List ℕ) (x : X)
+pub at_more : {X : Type 0} {A : Type 0} {input left new before between after : Option (List ℕ)} {count : ℕ} {now next : Store} (line : List ℕ) (x : X)
     → IsAt A input left before between count now → LosesLine left new line → LineEnds A (count + 1) line now next between after (Ok x) → IsAt A input new before after (count + 1) next
 at_more {X} {A} {input} {left} {new} {before} {between} {after} {count} {now} {next} line x here loses ended = record {
   front = here.front ++ line ∷ [];
   text = here.text ++ ended.0;
   leaves = leaves_more input here.front left new line here.leaves loses;
   counted = omega (arith, here.counted, length-append here.front (line ∷ []));
-  answers = answered_more A here.front line (built [] [] (Some 1)) now next here.text ended.0 here.answers ended.1;
+  answers = answered_more A here.front line (store [] [] (Some 1)) now next here.text ended.0 here.answers ended.1;
   written = Appends-trans before between after here.text ended.0 here.written ended.2;
 }
 
 -- no line is left
-pub at_end : {X : Type 0} {A : Type 0} {input left before after : Option (List ℕ)} {count : ℕ} {now : Built} (x : X)
+pub at_end : {X : Type 0} {A : Type 0} {input left before after : Option (List ℕ)} {count : ℕ} {now : Store} (x : X)
     → IsAt A input left before after count now → IsAtEnd left → ScriptEnds A input before after (Ok x)
 at_end {X} {A} {input} {left} {before} {after} {count} {now} x here none =
     (here.front, here.text, now, record { lines = leaves_none input here.front left here.leaves none; answers = here.answers }, here.written)
 
 -- the input fails
-pub at_failure : {X A : Type 0} {input left before after : Option (List ℕ)} {count : ℕ} {now : Built} (r : Result X Stop)
+pub at_failure : {X A : Type 0} {input left before after : Option (List ℕ)} {count : ℕ} {now : Store} (r : Result X Stop)
     → r ≡ Err Input → IsAt A input left before after count now → ScriptEnds A input before after r
 at_failure {X} {A} {input} {left} {before} {after} {count} {now} r e here =
     let failed : ScriptEnds {X = X} A input before after (Err Input) =
@@ -166,7 +166,7 @@ at_failure {X} {A} {input} {left} {before} {after} {count} {now} r e here =
     subst (λ (r : Result X Stop). ScriptEnds A input before after r) (sym e) failed
 
 -- a line ends the script
-stop_at : (X Y : Type 0) {A : Type 0} {input left before between : Option (List ℕ)} {count : ℕ} {now : Built} (new after : Option (List ℕ)) (next : Built) (line : List ℕ) (stop : Stop)
+stop_at : (X Y : Type 0) {A : Type 0} {input left before between : Option (List ℕ)} {count : ℕ} {now : Store} (new after : Option (List ℕ)) (next : Store) (line : List ℕ) (stop : Stop)
     → IsAt A input left before between count now → LosesLine left new line → LineEnds {X = X} A (count + 1) line now next between after (Err stop) → ScriptEnds {X = Y} A input before after (Err stop)
 stop_at X Y {A} {input} {left} {before} {between} {count} {now} new after next line (Line n) here loses ended = (
   here.front,
@@ -191,18 +191,18 @@ stop_at X Y {A} {input} {left} {before} {between} {count} {now} new after next l
   (ended.0, next, ended.1),
 )
 
-pub at_stop : {X Y A : Type 0} {input left before between : Option (List ℕ)} {count : ℕ} {now : Built} (r : Result Y Stop) (new after : Option (List ℕ)) (next : Built) (line : List ℕ) (stop : Stop) (q : Result X Stop)
+pub at_stop : {X Y A : Type 0} {input left before between : Option (List ℕ)} {count : ℕ} {now : Store} (r : Result Y Stop) (new after : Option (List ℕ)) (next : Store) (line : List ℕ) (stop : Stop) (q : Result X Stop)
     → r ≡ Err stop → q ≡ Err stop → IsAt A input left before between count now → LosesLine left new line → LineEnds A (count + 1) line now next between after q → ScriptEnds A input before after r
 at_stop {X} {Y} {A} {input} {left} {before} {between} {count} {now} r new after next line stop q e f here loses ended =
     let line_ended : LineEnds {X = X} A (count + 1) line now next between after (Err stop) = subst (λ (q : Result X Stop). LineEnds A (count + 1) line now next between after q) f ended in
     subst (λ (r : Result Y Stop). ScriptEnds A input before after r) (sym e) (stop_at X Y new after next line stop here loses line_ended)
 
 -- a line that is empty
-pub ends_empty : {X : Type 0} (A : Type 0) (number : ℕ) (line : List ℕ) (old : Built) (before : Option (List ℕ)) (x : X) → length line ≡ 0 → LineEnds A number line old old before before (Ok x)
+pub ends_empty : {X : Type 0} (A : Type 0) (number : ℕ) (line : List ℕ) (old : Store) (before : Option (List ℕ)) (x : X) → length line ≡ 0 → LineEnds A number line old old before before (Ok x)
 ends_empty A number [] old before x h = ([], (refl, refl), Appends-nil before)
 ends_empty A number (b ∷ bs) old before x h = absurd (omega arith)
 
-answers_some : (A : Type 0) (line : List ℕ) (old new : Built) (text : List ℕ) → 0 < length line → Prints A line old text new → Answers A line old text new
+answers_some : (A : Type 0) (line : List ℕ) (old new : Store) (text : List ℕ) → 0 < length line → Prints A line old text new → Answers A line old text new
 answers_some A [] old new text h p = absurd (omega arith)
 answers_some A (b ∷ bs) old new text h p = p
 
@@ -213,8 +213,8 @@ kept_behind (Some x) (Some y) None bs p q = absurd q
 kept_behind (Some x) (Some y) (Some z) bs p q = q ∙ p
 
 -- a line whose command was executed, and whose outcome was printed
-pub ends_printed : {X A : Type 0} (number : ℕ) (line : List ℕ) (command : Command) (old new : Built) (r : Result (Answer A) Failure) (before after : Option (List ℕ)) (result : Result X Stop)
-    → 0 < length line → AskFor (words_of line) command → Executes command old r new → PrintEnds number (printed r) before after result → LineEnds A number line old new before after result
+pub ends_printed : {X A : Type 0} (number : ℕ) (line : List ℕ) (command : Command) (old new : Store) (r : Result (Answer A) Failure) (before after : Option (List ℕ)) (result : Result X Stop)
+    → 0 < length line → AskFor (words_of line) command → Executes command old r new → PrintEnds number (outcome_text r) before after result → LineEnds A number line old new before after result
 ends_printed {X} {A} number line command old new (Ok answer) before after (Ok x) some asked does ends =
     (answer_line answer, answers_some A line old new (answer_line answer) some (Ok answer, (command, asked, does), refl), ends)
 ends_printed {X} {A} number line command old new (Err (Refused error)) before after (Ok x) some asked does ends =

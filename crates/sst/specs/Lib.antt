@@ -2,7 +2,6 @@ pub mod Answer
 pub mod Answering
 pub mod Command
 pub mod Lines
-pub mod Pending
 pub mod Runs
 pub mod Script
 pub mod Stop

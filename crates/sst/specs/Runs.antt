@@ -1,15 +1,30 @@
--- What several runs answer together.
-use Rattle.std.specs.Prelude.{ℕ, ◌+◌, ◌==◌, Bool, true, false, nat_lt, List, [], ◌∷◌, map, Option, Some, None, Result, Ok, if◌then◌else◌}
-use Rattle.sst_entries.specs.declared.error.Error.{Error}
+-- What several runs hold and answer together.
+use Rattle.std.specs.Prelude.{◌≡◌, ℕ, ◌==◌, Bool, false, ◌&&◌, nat_lt, List, [], ◌∷◌, map, Option, Some, None, if◌then◌else◌}
+use Rattle.std.specs.List.{list_any}
 use Rattle.sst_entries.specs.Entry.{Entry}
-use Rattle.sst_sections.specs.Sections.{body_of}
-use Rattle.lsm_readers.specs.Answer.{answer_told}
+use Rattle.sst_entries.specs.Key.{same_key}
+use Rattle.sst_entries.specs.Point.{point}
+use Rattle.lsm_files.specs.Options.{label_of}
 use Rattle.lsm_readers.specs.TableSeen.{TableSeen}
-use Rattle.lsm_readers.specs.Told.{◌>>=◌}
+use Rattle.lsm_tables.specs.Written.{IsOpened}
 
--- what a point read of one run answers
-abbrev pub run_told : List ℕ → ℕ → TableSeen → Result (Option Entry) Error
-run_told key bound t = answer_told (body_of t.bytes) t.global_seqno t.parts key bound
+-- a run: a list, and the table that was written of it under an id and opened, of level 0, moment 0 and global number 0
+pub record Run : Type 0 where
+  pub id : ℕ
+  pub list : List Entry
+  pub table : TableSeen
+  pub opened : IsOpened (label_of id 0 0) list 0 table
+
+abbrev pub tables_of : List Run → List TableSeen
+tables_of runs = map (λ r. r.table) runs
+
+-- whatever runs some tables are of
+abbrev pub ForRuns : List TableSeen → (List Run → Type 0) → Type 0
+ForRuns tables P = (runs : List Run) → tables_of runs ≡ tables → P runs
+
+-- some tables are those of runs
+abbrev pub HasRuns : List TableSeen → (List Run → Type 0) → Type 0
+HasRuns tables P = (runs : List Run) × (tables_of runs ≡ tables) × P runs
 
 -- of two entries that may be there, the one with the greater number, or the first
 abbrev pub newer_of : Option Entry → Option Entry → Option Entry
@@ -17,25 +32,28 @@ newer_of None y = y
 newer_of (Some x) None = Some x
 newer_of (Some x) (Some y) = if nat_lt x.seqno y.seqno then Some y else Some x
 
--- the newest of several answers, or the first refusal
-abbrev pub newest_of : List (Result (Option Entry) Error) → Result (Option Entry) Error
-newest_of [] = Ok None
-newest_of (r ∷ rs) = r >>= λ x. newest_of rs >>= λ y. Ok (newer_of x y)
+-- of several entries that may be there, the one with the greatest number
+abbrev pub newest_of : List (Option Entry) → Option Entry
+newest_of [] = None
+newest_of (x ∷ xs) = newer_of x (newest_of xs)
 
--- what a point read of all runs answers
-abbrev pub newest_told : List TableSeen → List ℕ → ℕ → Result (Option Entry) Error
-newest_told runs key bound = newest_of (map (run_told key bound) runs)
+-- the newest of the first matches in the lists of some runs
+abbrev pub newest_point : List Run → List ℕ → ℕ → Option Entry
+newest_point runs key bound = newest_of (map (λ r. point r.list key bound) runs)
 
 -- whether an entry that may be there has a number
 abbrev pub has_number : ℕ → Option Entry → Bool
 has_number n None = false
-has_number n (Some x) = x.seqno == n
+has_number n (Some e) = e.seqno == n
 
--- whether one of several answers has a number; a refusal before that is the first
-abbrev pub one_has_number : ℕ → List (Result (Option Entry) Error) → Result Bool Error
-one_has_number n [] = Ok false
-one_has_number n (r ∷ rs) = r >>= λ x. if has_number n x then Ok true else one_has_number n rs
+-- whether a list has an entry of a key and number
+abbrev pub has_entry : List Entry → List ℕ → ℕ → Bool
+has_entry es key n = list_any (λ e. same_key e.user_key key && (e.seqno == n)) es
 
--- whether a run holds an entry of a key and number: it is then the first that is numbered below the next number
-abbrev pub held_told : List TableSeen → List ℕ → ℕ → Result Bool Error
-held_told runs key n = one_has_number n (map (run_told key (n + 1)) runs)
+-- whether a list has the key and number of one of some entries
+abbrev pub shares_entry : List Entry → List Entry → Bool
+shares_entry list es = list_any (λ e. has_entry list e.user_key e.seqno) es
+
+-- whether the list of one of some runs does
+abbrev pub repeats : List Run → List Entry → Bool
+repeats runs es = list_any (λ r. shares_entry r.list es) runs

@@ -1,19 +1,19 @@
 //! The entries that wait for the next table.
-ghost use Rattle.std.specs.Prelude.{◌≡◌, [], ◌∷◌, ◌++◌, IsTrue, IfOk, IfErr, OnOk, OnErr, MatchOption, if◌then◌else◌};
-ghost use Rattle.sst_entries.specs.declared.error.Error.TheVariants.{OutOfMemory};
+ghost use Rattle.std.specs.Prelude.{◌≡◌, [], ◌∷◌, ◌++◌, IsTrue, IfOk, IfErr, OnOk, OnErr, MatchOption};
 ghost use Rattle.sst_entries.specs.Entry.{entry};
 ghost use Rattle.sst_entries.specs.Error.{Faults};
-ghost use Rattle.lsm_writers.specs.Writing.{follows};
-ghost use Rattle.sst.specs.declared.stop.Failure.TheVariants.{BadLine, Refused};
-ghost use Rattle.sst.specs.Pending.{IsPending, IsTableOf, table_fault};
+ghost use Rattle.lsm_files.specs.Options.{label_of};
+ghost use Rattle.lsm_writers.specs.Writing.{follows, list_fault, IsWritable};
+ghost use Rattle.lsm_tables.specs.Written.{IsOpened};
+ghost use Rattle.sst.specs.Script.{entry_failure};
 
 use crate::stop::Failure;
-use lsm_writers::{FinishedTable, TableId, Timestamp, Writer};
+use lsm_tables::{Table, TableId, Timestamp, write_and_open};
 use sst_blocks::{Error, InternalValue, SeqNo, Slice, ValueType};
 use std::alloc::Allocator;
 use std::marker::Model;
 
-/// Entries in strict order, each numbered below the largest number. A contract sees the list.
+/// Entries that a table can be written of. A contract sees the list.
 #[derive(Drop)]
 pub(crate) struct Pending<A: Allocator> {
     items: Vec<InternalValue<A>, A>,
@@ -22,13 +22,13 @@ pub(crate) struct Pending<A: Allocator> {
 impl<A: Allocator> Model for Pending<A> {
     ghost use Rattle.std.specs.Prelude.{List};
     ghost use Rattle.sst_entries.specs.Entry.{Entry};
-    ghost use Rattle.sst.specs.Pending.{IsPending};
+    ghost use Rattle.lsm_writers.specs.Writing.{IsWritable};
 
     ghost Value = { List Entry };
 
     ghost view = { λ p. p.items.items };
 
-    ghost invariant = { λ p. IsPending p.items.items };
+    ghost invariant = { λ p. IsWritable p.items.items };
 }
 
 impl<A: Allocator + Clone> Pending<A> {
@@ -44,7 +44,7 @@ impl<A: Allocator + Clone> Pending<A> {
     /// The entries.
     pub(crate) fn items(&self) -> &[InternalValue<A>]
         ensures items { result.now ≡ self.now }
-        ensures pending { IsPending result.now }
+        ensures writable { IsWritable result.now }
     {
         &self.items
     }
@@ -77,7 +77,7 @@ impl<A: Allocator + Clone> Pending<A> {
     ) -> Result<(), Failure>
         ensures ok { OnOk result (self.new ≡ self.old ++ entry key.now value.now seqno kind ∷ []) }
         ensures order { OnOk result (IsTrue (follows self.old key.now seqno)) }
-        ensures refused { IfErr result (λ e. e ≡ (if follows self.old key.now seqno then Refused OutOfMemory else BadLine)) }
+        ensures refused { IfErr result (λ e. e ≡ entry_failure self.old key.now seqno) }
         ensures err { OnErr result (self.new ≡ self.old) }
     {
         if !self.can_follow(key, seqno) {
@@ -98,16 +98,13 @@ impl<A: Allocator + Clone> Pending<A> {
         self.items.clear();
     }
 
-    /// Writes the entries as one table; `None` where there are none. Refused with the first fault of an entry or of finishing
-    /// the table, and [`Error::OutOfMemory`].
-    pub(crate) fn write(self, alloc: A, id: TableId) -> Result<Option<FinishedTable<A>>, Error>
-        ensures table { IfOk result (λ t. MatchOption t (self ≡ []) (λ f. IsTableOf self id f.id f.checksum.0 f.bytes)) }
-        ensures refused { Faults result (table_fault id self) }
+    /// Writes the entries as one table, and opens it; `None` where there are none. Refused with the first fault of an entry
+    /// or of finishing the table, and [`Error::OutOfMemory`].
+    pub(crate) fn write(self, alloc: A, id: TableId) -> Result<Option<Table<A>>, Error>
+        ensures table { IfOk result (λ t. MatchOption t (self ≡ [])
+            (λ table. IsOpened (label_of id 0 0) self 0 table)) }
+        ensures refused { Faults result (list_fault (label_of id 0 0) self) }
     {
-        let mut writer = Writer::new(alloc, id, 0, Timestamp::from(0))?;
-        for item in self.items {
-            writer.write(item)?;
-        }
-        writer.finish()
+        write_and_open(alloc, id, Timestamp::from(0), self.items, 0)
     }
 }

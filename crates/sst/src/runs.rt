@@ -1,49 +1,45 @@
 //! The tables that a script has written.
-ghost use Rattle.std.specs.Prelude.{◌≡◌, ◌-◌, ◌<◌, ◌^◌, Bool, List, Option, IfErr, IfOk};
-ghost use Rattle.sst_entries.specs.declared.error.Error.TheVariants.{OutOfMemory};
+ghost use Rattle.std.specs.Prelude.{◌≡◌, ◌-◌, ◌<◌, ◌^◌, Bool, Option, Ok};
 ghost use Rattle.sst_entries.specs.Entry.{Entry};
 ghost use Rattle.sst_entries.specs.Error.{Gives};
-ghost use Rattle.lsm_files.specs.Table.{IsTable};
-ghost use Rattle.lsm_readers.specs.Parts.{recovered_told};
-ghost use Rattle.lsm_readers.specs.TableSeen.{TableSeen};
-ghost use Rattle.sst.specs.Runs.{newer_of, newest_told, held_told};
+ghost use Rattle.sst_entries.specs.Point.{point};
+ghost use Rattle.lsm_writers.specs.Writing.{IsWritable};
+ghost use Rattle.sst.specs.Runs.{has_entry, newer_of, newest_point, repeats, shares_entry, ForRuns, Run};
 
 use lsm_tables::Table;
-use lsm_writers::FinishedTable;
 use sst_blocks::{Error, InternalValue, SeqNo};
 use std::alloc::Allocator;
+use std::ops::Bound;
 
-/// Opens a table that was written. Refused with the first fault of its bytes, and [`Error::OutOfMemory`].
-pub(crate) fn open<A: Allocator + Clone>(
-    alloc: A,
-    table: FinishedTable<A>,
-) -> Result<Table<A>, Error>
-    ensures told { Gives (λ (t : TableSeen). t.parts) result (recovered_told table.bytes 0) }
-    // A table of a list is opened: nothing but want of memory refuses it.
-    ensures list { (es : List Entry) (t : IsTable table.bytes es) → t.options.index_block_restart_interval ≡ 1 →
-        IfErr result (λ e. e ≡ OutOfMemory) }
-    ensures bytes { IfOk result (λ t. t.bytes ≡ table.bytes) }
-    ensures unlifted { IfOk result (λ t. t.global_seqno ≡ 0) }
-    ensures tree { IfOk result (λ t. t.tree_id ≡ 0) }
-    ensures checksum { IfOk result (λ t. t.checksum ≡ table.checksum.0) }
-{
-    Table::recover(alloc, table.bytes, table.checksum, 0, 0, true, true)
-}
-
-/// The newest of the runs' entries of a key numbered below a bound. Refused with the refusal of the first run that has one.
+/// The newest of the runs' entries of a key numbered below a bound. Refused for want of memory alone.
 pub(crate) fn newest_answer<A: Allocator + Clone>(
     runs: &[Table<A>],
     key: &[u8],
     bound: SeqNo,
 ) -> Result<Option<InternalValue<A>>, Error>
-    ensures { Gives (λ (found : Option Entry). found) result (newest_told runs.now key.now bound) }
+    ensures { ForRuns runs.now (λ rs.
+        Gives (λ (found : Option Entry). found) result (Ok (newest_point rs key.now bound))) }
 {
-    let key_hash = Table::<A>::key_hash(key);
     let mut newest = None;
     for run in runs {
-        newest = newer(newest, run.get(key, bound, key_hash)?);
+        newest = newer(newest, first_match(run, key, bound)?);
     }
     Ok(newest)
+}
+
+// The first match in a run. A run whose key range lacks the key is passed over.
+fn first_match<A: Allocator + Clone>(
+    run: &Table<A>,
+    key: &[u8],
+    bound: SeqNo,
+) -> Result<Option<InternalValue<A>>, Error>
+    ensures { (r : Run) → r.table ≡ run.now →
+        Gives (λ (found : Option Entry). found) result (Ok (point r.list key.now bound)) }
+{
+    if !run.check_key_range_overlap(&(Bound::Included(key), Bound::Included(key))) {
+        return Ok(None);
+    }
+    run.get(key, bound, Table::<A>::key_hash(key))
 }
 
 // Of two entries the one with the greater number, or the first.
@@ -66,21 +62,50 @@ fn newer<A: Allocator>(
     }
 }
 
-/// Whether one of the runs holds an entry of this key and number. Refused as [`newest_answer`].
-pub(crate) fn is_held<A: Allocator + Clone>(
+/// Whether one of the runs has the key and number of one of some entries. Refused for want of memory alone.
+pub(crate) fn is_repeated<A: Allocator + Clone>(
     runs: &[Table<A>],
-    key: &[u8],
-    seqno: SeqNo,
+    items: &[InternalValue<A>],
 ) -> Result<bool, Error>
-    requires { seqno < 2 ^ 64 - 1 }
-    ensures { Gives (λ (held : Bool). held) result (held_told runs.now key.now seqno) }
+    requires { IsWritable items.now }
+    ensures { ForRuns runs.now (λ rs.
+        Gives (λ (held : Bool). held) result (Ok (repeats rs items.now))) }
 {
-    let key_hash = Table::<A>::key_hash(key);
     for run in runs {
-        let found = run.get(key, seqno + 1, key_hash)?;
-        if found.is_some_and(|item| item.key.seqno == seqno) {
+        if shares_entry(run, items)? {
             return Ok(true);
         }
     }
     Ok(false)
+}
+
+// Whether a run has the key and number of one of some entries.
+fn shares_entry<A: Allocator + Clone>(
+    run: &Table<A>,
+    items: &[InternalValue<A>],
+) -> Result<bool, Error>
+    requires { IsWritable items.now }
+    ensures { (r : Run) → r.table ≡ run.now →
+        Gives (λ (held : Bool). held) result (Ok (shares_entry r.list items.now)) }
+{
+    for item in items {
+        if has_entry(run, item.key.user_key.as_slice(), item.key.seqno)? {
+            return Ok(true);
+        }
+    }
+    Ok(false)
+}
+
+// Whether a run has an entry of this key and number: it is then the first that is numbered below the next number.
+fn has_entry<A: Allocator + Clone>(
+    run: &Table<A>,
+    key: &[u8],
+    seqno: SeqNo,
+) -> Result<bool, Error>
+    requires { seqno < 2 ^ 64 - 1 }
+    ensures { (r : Run) → r.table ≡ run.now →
+        Gives (λ (held : Bool). held) result (Ok (has_entry r.list key.now seqno)) }
+{
+    let found = first_match(run, key, seqno + 1)?;
+    Ok(found.is_some_and(|item| item.key.seqno == seqno))
 }

@@ -1,22 +1,21 @@
 //! Running a script.
-ghost use Rattle.std.specs.Prelude.{◌≡◌, ◌⊎◌, [], ◌∷◌, ◌++◌, ⊤, Bool, false, true, Some, Result, Ok, IfOk, IfErr, OnOk, OnErr};
+ghost use Rattle.std.specs.Prelude.{◌≡◌, ◌⊎◌, [], ◌∷◌, ◌++◌, ⊤, Some, Result, IfOk, IfErr, OnOk};
 ghost use Rattle.std.specs.Io.BufRead.{strip_last};
 ghost use Rattle.std.specs.Io.KnownBytes.{Appends};
-ghost use Rattle.sst_entries.specs.Error.{Gives};
 ghost use Rattle.sst.specs.declared.stop.Stop.TheVariants.{Line, Output};
 ghost use Rattle.sst.specs.declared.stop.Stop.{Stop};
-ghost use Rattle.sst.specs.Answering.{LineEnds, PrintEnds, ScriptEnds, printed, status_of};
+ghost use Rattle.sst.specs.Answering.{LineEnds, PrintEnds, ScriptEnds, outcome_text, status_of};
 ghost use Rattle.sst.specs.Lines.{ReadsLine};
+ghost use Rattle.sst.specs.Runs.{ForRuns, HasRuns};
 ghost use Rattle.sst.specs.Stop.{stop_text};
-ghost use Rattle.sst.specs.Script.{built, repeated_told, RefusesTable, Writes, Executes};
+ghost use Rattle.sst.specs.Script.{store, Executes, WritesTable};
 
 use crate::command::{Command, parse_command};
 use crate::pending::Pending;
 use crate::print::{Answer, print_answer, print_refusal};
-use crate::runs::{is_held, newest_answer, open};
+use crate::runs::{is_repeated, newest_answer};
 use crate::stop::{Failure, Stop};
-use lsm_tables::Table;
-use lsm_writers::TableId;
+use lsm_tables::{Table, TableId};
 use sst_blocks::Error;
 use std::alloc::{AllocError, Allocator};
 use std::io::{BufRead, BufReader, Read, Write};
@@ -100,7 +99,7 @@ fn print_outcome<W: Write, A: Allocator>(
     number: u64,
     outcome: &Result<Answer<A>, Failure>,
 ) -> Result<(), Stop>
-    ensures { PrintEnds number (printed outcome.now) (W.contents output.old) (W.contents output.new) result }
+    ensures { PrintEnds number (outcome_text outcome.now) (W.contents output.old) (W.contents output.new) result }
 {
     let printed = match outcome {
         Ok(answer) => print_answer(output, answer),
@@ -124,7 +123,8 @@ struct Script<A: Allocator> {
 
 impl<A: Allocator + Clone> Script<A> {
     fn new(alloc: A) -> Result<Script<A>, AllocError>
-        ensures { IfOk result (λ script. built script.pending script.runs.items script.next_id ≡ built [] [] (Some 1)) }
+        ensures { IfOk result (λ script.
+            (script.pending ≡ []) × (script.runs.items ≡ []) × (script.next_id ≡ Some 1)) }
     {
         Ok(Script {
             pending: Pending::new(alloc.clone()?),
@@ -142,7 +142,12 @@ impl<A: Allocator + Clone> Script<A> {
         output: &mut W,
     ) -> Result<(), Stop>
         ensures stops { IfErr result (λ stop. (stop ≡ Line number) ⊎ (stop ≡ Output)) }
-        ensures ended { LineEnds A number line.now (built self.old.pending self.old.runs.items self.old.next_id) (built self.new.pending self.new.runs.items self.new.next_id) (W.contents output.old) (W.contents output.new) result }
+        ensures ended {
+            ForRuns self.old.runs.items (λ before. HasRuns self.new.runs.items (λ after.
+            LineEnds A number line.now
+            (store self.old.pending before self.old.next_id)
+            (store self.new.pending after self.new.next_id)
+            (W.contents output.old) (W.contents output.new) result)) }
     {
         if line.is_empty() {
             return Ok(());
@@ -152,7 +157,11 @@ impl<A: Allocator + Clone> Script<A> {
     }
 
     fn execute(&mut self, command: Command<'_>) -> Result<Answer<A>, Failure>
-        ensures { Executes command.entry (built self.old.pending self.old.runs.items self.old.next_id) result (built self.new.pending self.new.runs.items self.new.next_id) }
+        ensures {
+            ForRuns self.old.runs.items (λ before. HasRuns self.new.runs.items (λ after.
+            Executes command.entry
+            (store self.old.pending before self.old.next_id) result
+            (store self.new.pending after self.new.next_id))) }
     {
         match command {
             Command::Entry {
@@ -177,37 +186,24 @@ impl<A: Allocator + Clone> Script<A> {
     }
 
     // Writes the pending entries as a run of one table, and answers how many tables there are. Where it is refused, the runs
-    // and the next id stay.
+    // and the next id stay. What is left of the pending entries is for the caller to clear.
     fn write_table(&mut self) -> Result<u64, Failure>
-        ensures written { IfOk result (λ count. Writes self.old.pending self.old.runs.items self.new.runs.items self.old.next_id self.new.next_id count) }
-        ensures new { OnOk result (repeated_told self.old.runs.items self.old.pending ≡ Ok false) }
-        ensures refused { IfErr result (λ e. RefusesTable self.old.runs.items self.old.pending self.old.next_id e) }
-        ensures runs { OnErr result (self.new.runs.items ≡ self.old.runs.items) }
-        ensures id { OnErr result (self.new.next_id ≡ self.old.next_id) }
+        ensures {
+            ForRuns self.old.runs.items (λ before. HasRuns self.new.runs.items (λ after.
+            WritesTable
+            (store self.old.pending before self.old.next_id) result
+            (store [] after self.new.next_id))) }
     {
-        if self.is_repeated()? {
+        if is_repeated(&self.runs, self.pending.items())? {
             return Err(Failure::BadLine);
         }
         let id = self.next_id.ok_or(Error::TableIdsSpent)?;
         let pending = mem::replace(&mut self.pending, Pending::new(self.alloc.clone()?));
-        let Some(table) = pending.write(self.alloc.clone()?, id)? else {
+        let Some(run) = pending.write(self.alloc.clone()?, id)? else {
             return Ok(0);
         };
-        let run = open(self.alloc.clone()?, table)?;
         self.runs.insert(0, run)?;
         self.next_id = id.checked_add(1);
         Ok(1)
-    }
-
-    // Whether a run already holds a pending entry's key and number.
-    fn is_repeated(&self) -> Result<bool, Error>
-        ensures { Gives (λ (held : Bool). held) result (repeated_told self.now.runs.items self.now.pending) }
-    {
-        for item in self.pending.items() {
-            if is_held(&self.runs, item.key.user_key.as_slice(), item.key.seqno)? {
-                return Ok(true);
-            }
-        }
-        Ok(false)
     }
 }

@@ -1,4 +1,4 @@
-use Rattle.std.proofs.Common.{refl, rules}
+use Rattle.std.proofs.Common.{◌≡◌, refl, rules, sym, []}
 use Rattle.std.specs.Prelude.{Err}
 use Rattle.std.specs.Io.Buffered.{reader_remaining}
 use Rattle.sst.specs.declared.stop.Stop.TheVariants.{Input}
@@ -19,22 +19,31 @@ returns-in_err-clone-2 g c = at_failure c.from_residual-in_err-clone-2.result (p
 pub returns-in_err-input : goal.returns-in_err-input
 returns-in_err-input g c = at_failure c.from_residual-in_err-input.result (search rules) (at_start g.row.A.Denot _ _)
 
+pub loop-before-init : goal.loop-before-init
+loop-before-init g c =
+    let new = c.in_ok-script.ensures in
+    let left : reader_remaining g.R.Read.remaining c.in_ok-input.input ≡ g.R.Read.remaining c.args.input = search rules in
+    ([], sym new.1, rw (new.0, new.2, left) (at_start g.row.A.Denot _ _))
+
 pub returns-in_err-map_err : goal.returns-in_err-map_err
-returns-in_err-map_err g c = at_failure c.from_residual-in_err-map_err.result (search rules) c.loop-before.invariant
+returns-in_err-map_err g c = at_failure c.from_residual-in_err-map_err.result (search rules) c.loop-before.invariant.2
 
 pub returns-in_err-answer_line : goal.returns-in_err-answer_line
 returns-in_err-answer_line g c =
+    let here = c.loop-before.invariant in
     let line = c.deref.result.now in
     let stop = c.in_err-answer_line.field-0.0 in
     let left = reader_remaining g.R.Read.remaining c.read_line.new.input in
     let loses : LosesLine (reader_remaining g.R.Read.remaining c.loop-before.input) left line = search rules in
-    at_stop c.from_residual-in_err-answer_line.result left _ _ line stop c.answer_line.result (passed c.from_residual-in_err-answer_line.result stop c.from_residual-in_err-answer_line.ensures.1) c.in_err-answer_line.was c.loop-before.invariant loses c.answer_line.ensures.ended
+    at_stop c.from_residual-in_err-answer_line.result left _ _ line stop c.answer_line.result (passed c.from_residual-in_err-answer_line.result stop c.from_residual-in_err-answer_line.ensures.1) c.in_err-answer_line.was here.2 loses (c.answer_line.ensures.ended here.0 here.1).2
 
 pub loop-before-preserved : goal.loop-before-preserved
 loop-before-preserved g c =
+    let here = c.loop-before.invariant in
     let line = c.deref.result.now in
     let loses : LosesLine (reader_remaining g.R.Read.remaining c.loop-before.input) (reader_remaining g.R.Read.remaining c.read_line.new.input) line = search rules in
-    at_more line c.in_ok-answer_line.field-0 c.loop-before.invariant loses c.in_ok-answer_line.ensures.ended
+    let done = c.in_ok-answer_line.ensures.ended here.0 here.1 in
+    (done.0, done.1, at_more line c.in_ok-answer_line.field-0 here.2 loses done.2)
 
 pub returns : goal.returns
-returns g c = at_failure {X = Unit {0}} (Err Input) refl c.loop-before.invariant
+returns g c = at_failure {X = Unit {0}} (Err Input) refl c.loop-before.invariant.2

@@ -1,69 +1,14 @@
-use Rattle.std.proofs.Common.{◌≡◌, ◌∙◌, sym, ap, subst, IsTrue, List, [], ◌∷◌, ◌++◌, append_assoc, append-nil}
-use Rattle.std.proofs.lemmas.List.{nil_from_length}
-use Rattle.std.specs.Prelude.{Option, None}
-use Rattle.std.specs.Option.{option_or}
-use Rattle.sst_entries.specs.declared.error.Error.{Error}
+use Rattle.std.proofs.Common.{◌≡◌, ℕ, List, rules, subst}
 use Rattle.sst_entries.specs.Entry.{Entry}
-use Rattle.lsm_writers.specs.Writing.{Writing, written, write_fault, follows, gained}
-use Rattle.sst_entries.specs.Error.{is_memory, Faults}
-use Rattle.sst.specs.Pending.{IsPending, writing_fault, table_fault}
-use Rattle.sst.proofs.PendingLemmas.{pending_follows, written_gained, same_label, table_by}
-use Rattle.sst.proofs.RefusalLemmas.{faults_refusal}
+use Rattle.sst_entries.specs.Error.{Faults}
+use Rattle.lsm_files.specs.Options.{label_of}
+use Rattle.lsm_writers.specs.Writing.{list_fault}
+use Rattle.sst.proofs.PendingLemmas.{written_faults}
 use Rattle.sst.proofs.pending.Pending.write.Goals as goal
-
-pub write-requires : goal.write-requires
-write-requires g c =
-    let before = c.loop-item.yielded in
-    let e = c.in-Some.item in
-    let rest = c.next.new.self.rest.items in
-    let first : c.loop-item.item-iterator.rest.items ≡ e ∷ rest = c.in-Some.ensures.steps.0 in
-    let whole : IsPending (before ++ e ∷ rest) = subst IsPending (c.self.view_is ∙ c.loop-item.invariant.whole ∙ ap (λ (x : List Entry). before ++ x) first) c.self.invariant in
-    subst (λ (x : List Entry). IsTrue (follows x e.user_key e.seqno)) (sym c.loop-item.invariant.listed) (pending_follows before e rest whole)
-
-pub loop-item-preserved : goal.loop-item-preserved
-loop-item-preserved g c =
-    let before = c.loop-item.yielded in
-    let e = c.in-Some.item in
-    let rest = c.next.new.self.rest.items in
-    let w = c.loop-item.writer in
-    let first : c.loop-item.item-iterator.rest.items ≡ e ∷ rest = c.in-Some.ensures.steps.0 in
-    let more : c.write.new.self ≡ gained w e = c.in_ok-write.ensures.ok in
-    let same = same_label w e in
-    let none : write_fault w e ≡ None = c.in_ok-write.ensures.refused in
-    record {
-      label = ap (λ (x : Writing). x.label) more ∙ same.0 ∙ c.loop-item.invariant.label;
-      options = ap (λ (x : Writing). x.options) more ∙ same.1 ∙ c.loop-item.invariant.options;
-      listed = ap written more ∙ written_gained w e ∙ ap (λ (x : List Entry). x ++ e ∷ []) c.loop-item.invariant.listed;
-      fault = c.loop-item.invariant.fault ∙ ap (writing_fault w) first ∙ ap (λ (x : Option Error). option_or x (writing_fault (gained w e) rest)) none ∙ ap (λ (x : Writing). writing_fault x rest) (sym more);
-      whole = c.loop-item.invariant.whole ∙ ap (λ (x : List Entry). before ++ x) first ∙ sym (append_assoc before (e ∷ []) rest);
-    }
-
-pub returns-in_err-writer-clause-refused : goal.returns-in_err-writer-clause-refused
-returns-in_err-writer-clause-refused g c =
-    let e = c.in_err-writer.field-0.0 in
-    let memory = ap is_memory c.in_err-writer.ensures.err in
-    faults_refusal c.from_residual.result e (table_fault c.args.id c.args.self) c.from_residual.ensures.1 (λ other. absurd (cc (memory, other)))
-
-pub returns-in_err-write-clause-refused : goal.returns-in_err-write-clause-refused
-returns-in_err-write-clause-refused g c =
-    let e = c.in_err-write.field-0.0 in
-    let item = c.in-Some.item in
-    let w = c.loop-item.writer in
-    let rest = c.next.new.self.rest.items in
-    let first : c.loop-item.item-iterator.rest.items ≡ item ∷ rest = c.in-Some.ensures.steps.0 in
-    faults_refusal c.from_residual-in_err-write.result e (table_fault c.args.id c.args.self) c.from_residual-in_err-write.ensures.1
-    (λ memory. c.loop-item.invariant.fault ∙ ap (writing_fault w) first ∙ ap (λ (x : Option Error). option_or x (writing_fault (gained w item) rest)) (c.in_err-write.ensures.refused memory))
 
 pub returns-clause-refused : goal.returns-clause-refused
 returns-clause-refused g c =
-    let w = c.loop-item.writer in
-    let none : c.loop-item.item-iterator.rest.items ≡ [] = nil_from_length c.loop-item.item-iterator.rest.items (sym c.loop-item.item-iterator.rest.ok.0 ∙ c.in-None.ensures.steps.0) in
-    subst (λ (x : Option Error). Faults c.finish.result x) (sym (c.loop-item.invariant.fault ∙ ap (writing_fault w) none)) c.finish.ensures.refused
-
-pub returns-clause-table : goal.returns-clause-table
-returns-clause-table g c =
-    let w = c.loop-item.writer in
-    let before = c.loop-item.yielded in
-    let none : c.loop-item.item-iterator.rest.items ≡ [] = nil_from_length c.loop-item.item-iterator.rest.items (sym c.loop-item.item-iterator.rest.ok.0 ∙ c.in-None.ensures.steps.0) in
-    let all : c.args.self ≡ before = c.loop-item.invariant.whole ∙ ap (λ (x : List Entry). before ++ x) none ∙ append-nil before in
-    table_by c.finish.result w c.args.self c.args.id (c.loop-item.invariant.listed ∙ sym all) c.loop-item.invariant.label c.loop-item.invariant.options c.finish.ensures.table
+    let moment : c.from.result ≡ 0 = search rules in
+    let written = written_faults c.write_and_open.result (label_of c.args.id 0 c.from.result) c.self.inside.items.items c.self.invariant c.write_and_open.ensures.refused in
+    subst (λ (es : List Entry). Faults c.write_and_open.result (list_fault (label_of c.args.id 0 0) es)) c.self.view_is
+    (subst (λ (n : ℕ). Faults c.write_and_open.result (list_fault (label_of c.args.id 0 n) c.self.inside.items.items)) moment written)
