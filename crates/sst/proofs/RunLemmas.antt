@@ -7,7 +7,6 @@ use Rattle.sst_entries.specs.declared.error.Error.{Error}
 use Rattle.sst_entries.specs.Entry.{Entry}
 use Rattle.sst_entries.specs.Error.{is_memory, Fails, Gives}
 use Rattle.sst_entries.specs.Point.{point, within}
-use Rattle.lsm_files.specs.Options.{default_options, label_of, Label, Options}
 use Rattle.lsm_files.specs.Table.{IsTable}
 use Rattle.lsm_readers.specs.Answer.{lift}
 use Rattle.lsm_readers.specs.TableSeen.{TableSeen}
@@ -37,20 +36,20 @@ run_at (r ∷ rs) (suc i) t h is =
 module _ (r : Run) (t : TableSeen) (key : List ℕ) (bound : ℕ) (same : r.table ≡ t) where
   -- a read of a run's table answers the first match in its list
   pub read_gives : (result : Result (Option Entry) Error)
-      → ((label : Label) (options : Options) (es : List Entry) → IsTable label options t.bytes es → Gives (λ (found : Option Entry). found) result (Ok (point (lift es t.global_seqno) key bound)))
+      → ((es : List Entry) → IsTable t.bytes es → Gives (λ (found : Option Entry). found) result (Ok (point (lift es t.global_seqno) key bound)))
       → Gives (λ (found : Option Entry). found) result (Ok (point r.list key bound))
   read_gives result reads =
       let Read : List Entry → Type 0 = λ es. Gives (λ (found : Option Entry). found) result (Ok (point es key bound)) in
-      let table : IsTable (label_of r.id 0 0) default_options t.bytes r.list = subst (λ (u : TableSeen). IsTable (label_of r.id 0 0) default_options u.bytes r.list) same r.opened.table in
+      let table : IsTable t.bytes r.list = subst (λ (u : TableSeen). IsTable u.bytes r.list) same r.opened.table in
       let number : t.global_seqno ≡ 0 = subst (λ (u : TableSeen). u.global_seqno ≡ 0) same r.opened.number_is in
-      subst Read (lift_zero r.list) (subst (λ (n : ℕ). Read (lift r.list n)) number (reads (label_of r.id 0 0) default_options r.list table))
+      subst Read (lift_zero r.list) (subst (λ (n : ℕ). Read (lift r.list n)) number (reads r.list table))
 
   -- where the table has no key there, nothing is read
-  pub outside_gives : ((label : Label) (options : Options) (es : List Entry) → IsTable label options t.bytes es → within (Included key) (Included key) es ≡ [])
+  pub outside_gives : ((es : List Entry) → IsTable t.bytes es → within (Included key) (Included key) es ≡ [])
       → Gives (λ (found : Option Entry). found) (Ok None) (Ok (point r.list key bound))
   outside_gives nothing =
-      let table : IsTable (label_of r.id 0 0) default_options t.bytes r.list = subst (λ (u : TableSeen). IsTable (label_of r.id 0 0) default_options u.bytes r.list) same r.opened.table in
-      ap (λ (o : Option Entry). Ok o) (no_point r.list key bound (nothing (label_of r.id 0 0) default_options r.list table))
+      let table : IsTable t.bytes r.list = subst (λ (u : TableSeen). IsTable u.bytes r.list) same r.opened.table in
+      ap (λ (o : Option Entry). Ok o) (no_point r.list key bound (nothing r.list table))
 
 -- the first match of a key numbered below the next number tells whether the list has the number
 pub number_gives : (r : Run) (key : List ℕ) (n : ℕ) (found : Option Entry) (b : Bool) → Gives (λ (x : Option Entry). x) (Ok found) (Ok (point r.list key (n + 1))) → b ≡ has_number n found → Gives (λ (x : Bool). x) (Ok b) (Ok (has_entry r.list key n))

@@ -64,15 +64,23 @@ pub wrote : (rs : List Run) (ts new : List TableSeen) (es : List Entry) (next fo
     → repeats rs es ≡ false → next ≡ Some id → following ≡ id_after id → list_fault (label_of id 0 0) es ≡ None → IsOpened (label_of id 0 0) es 0 t
     → HasRuns new (λ after. Writes (store es rs next) 1 (store [] after following))
 wrote rs ts new es next following id t same new_is fresh drawn then written opened =
-    let run : Run = record { id = id; list = es; table = t; opened = opened } in
-    (run ∷ rs, ap (λ (us : List TableSeen). t ∷ us) same ∙ sym new_is, (fine rs es next id fresh drawn written,
-    inr (refl, (run, refl, drawn, ap (λ (n : Option ℕ). store [] (run ∷ rs) n) then))))
+    let run : Run = record { id = id; list = es; table = t; opened = opened } in (
+      run ∷ rs,
+      ap (λ (us : List TableSeen). t ∷ us) same ∙ sym new_is,
+      (
+        fine rs es next id fresh drawn written,
+        inr (refl, (run, refl, drawn, ap (λ (n : Option ℕ). store [] (run ∷ rs) n) then)),
+      ),
+    )
 
 -- a command that writes a table
 pub executed : (A : Type 0) (command : Command) (rs : List Run) (es left : List Entry) (next following : Option ℕ) (count : ℕ) (new : List TableSeen) → command ≡ Table → left ≡ []
     → HasRuns new (λ after. Writes (store es rs next) count (store [] after following))
     → HasRuns new (λ after. Executes {A = A} command (store es rs next) (Ok (Tables count)) (store left after following))
 executed A command rs es left next following count new is none done =
-    let table : Executes {A = A} Table (store es rs next) (Ok (Tables count)) (store [] done.0 following) = (count, refl, done.2) in
-    (done.0, done.1, subst (λ (c : Command). Executes {A = A} c (store es rs next) (Ok (Tables count)) (store left done.0 following)) (sym is)
-    (subst (λ (xs : List Entry). Executes {A = A} Table (store es rs next) (Ok (Tables count)) (store xs done.0 following)) (sym none) table))
+    let table : Executes {A = A} Table (store es rs next) (Ok (Tables count)) (store [] done.0 following) = (count, refl, done.2) in (
+      done.0,
+      done.1,
+      subst (λ (c : Command). Executes {A = A} c (store es rs next) (Ok (Tables count)) (store left done.0 following)) (sym is)
+          (subst (λ (xs : List Entry). Executes {A = A} Table (store es rs next) (Ok (Tables count)) (store xs done.0 following)) (sym none) table),
+    )

@@ -97,11 +97,7 @@ fn shares_entry<A: Allocator + Clone>(
 }
 
 // Whether a run has an entry of this key and number: it is then the first that is numbered below the next number.
-fn has_entry<A: Allocator + Clone>(
-    run: &Table<A>,
-    key: &[u8],
-    seqno: SeqNo,
-) -> Result<bool, Error>
+fn has_entry<A: Allocator + Clone>(run: &Table<A>, key: &[u8], seqno: SeqNo) -> Result<bool, Error>
     requires { seqno < 2 ^ 64 - 1 }
     ensures { (r : Run) → r.table ≡ run.now →
         Gives (λ (held : Bool). held) result (Ok (has_entry r.list key.now seqno)) }

@@ -142,8 +142,7 @@ impl<A: Allocator + Clone> Script<A> {
         output: &mut W,
     ) -> Result<(), Stop>
         ensures stops { IfErr result (λ stop. (stop ≡ Line number) ⊎ (stop ≡ Output)) }
-        ensures ended {
-            ForRuns self.old.runs.items (λ before. HasRuns self.new.runs.items (λ after.
+        ensures ended { ForRuns self.old.runs.items (λ before. HasRuns self.new.runs.items (λ after.
             LineEnds A number line.now
             (store self.old.pending before self.old.next_id)
             (store self.new.pending after self.new.next_id)
@@ -157,8 +156,7 @@ impl<A: Allocator + Clone> Script<A> {
     }
 
     fn execute(&mut self, command: Command<'_>) -> Result<Answer<A>, Failure>
-        ensures {
-            ForRuns self.old.runs.items (λ before. HasRuns self.new.runs.items (λ after.
+        ensures { ForRuns self.old.runs.items (λ before. HasRuns self.new.runs.items (λ after.
             Executes command.entry
             (store self.old.pending before self.old.next_id) result
             (store self.new.pending after self.new.next_id))) }
@@ -188,8 +186,7 @@ impl<A: Allocator + Clone> Script<A> {
     // Writes the pending entries as a run of one table, and answers how many tables there are. Where it is refused, the runs
     // and the next id stay. What is left of the pending entries is for the caller to clear.
     fn write_table(&mut self) -> Result<u64, Failure>
-        ensures {
-            ForRuns self.old.runs.items (λ before. HasRuns self.new.runs.items (λ after.
+        ensures { ForRuns self.old.runs.items (λ before. HasRuns self.new.runs.items (λ after.
             WritesTable
             (store self.old.pending before self.old.next_id) result
             (store [] after self.new.next_id))) }
