@@ -1,5 +1,6 @@
 -- What an index writer holds, and what it writes.
-use Rattle.std.specs.Prelude.{◌≡◌, ℕ, Bool, List, [], ◌∷◌, ◌++◌, length, Option, Some, None, All, if◌then◌else◌}
+use Rattle.std.proofs.Common.{ap}
+use Rattle.std.specs.Prelude.{◌≡◌, ℕ, Bool, true, List, [], ◌∷◌, ◌++◌, length, Option, Some, None, All, if◌then◌else◌}
 use Rattle.std.specs.List.{flat_map}
 use Rattle.sst_sections.specs.declared.version.TableVersion.TheVariants.{V4}
 use Rattle.sst_blocks.specs.declared.block_type.BlockType.TheVariants.{Index}
@@ -37,3 +38,7 @@ full_index hs = (Tli, block_bytes V4 Index (handles_payload V4 hs)) ∷ []
 
 abbrev pub full_index_fault : Registered → Option Error
 full_index_fault r = if r.failed then Some WriterFailed else handles_fault r.handles
+
+-- a writer that has refused refuses again
+pub fails_again : (r : Registered) → r.failed ≡ true → full_index_fault r ≡ Some WriterFailed
+fails_again r h = ap (λ (b : Bool). if b then Some WriterFailed else handles_fault r.handles) h

@@ -8,11 +8,12 @@ use std::alloc::Allocator;
 
 /// Takes the handles of the data blocks, and writes an index of them.
 pub trait BlockIndexWriter<A: Allocator> {
-    ghost use Rattle.std.specs.Prelude.{◌≡◌, ℕ, Bool, true, false, List, [], ◌∷◌, ◌++◌, length, take, Option, OnOk, OnErr, IfOk};
+    ghost use Rattle.std.specs.Prelude.{◌≡◌, ℕ, Bool, true, false, List, [], ◌∷◌, ◌++◌, length, take, Option, Some, OnOk, OnErr, IfOk};
     ghost use Rattle.sst_entries.specs.Error.{Faults, FaultsFirst};
     ghost use Rattle.sst_blocks.specs.Handle.{Handle};
     ghost use Rattle.sst_blocks.specs.Handles.{AreStrictHandles};
     ghost use Rattle.sst_entries.specs.declared.error.Error.{Error};
+    ghost use Rattle.sst_entries.specs.declared.error.Error.TheVariants.{WriterFailed};
     ghost use Rattle.lsm_files.specs.Layout.{Sections};
     ghost use Rattle.lsm_writers.specs.Registered.{HasNoIndex, appended, failed_fault};
 
@@ -53,13 +54,19 @@ pub trait BlockIndexWriter<A: Allocator> {
         ensures refused { Faults result (finish_fault self) }
         ensures first { FaultsFirst result (failed_fault (has_failed self)) };
 
-    /// Compresses the blocks of the index.
+    /// Compresses the blocks of the index. What it holds and what it writes stay.
     fn use_compression(self, compression: CompressionType) -> Self
         ensures registered { registered result ≡ registered self }
-        ensures failed { has_failed result ≡ has_failed self };
+        ensures failed { has_failed result ≡ has_failed self }
+        ensures sections { (at : ℕ) → index_sections result at ≡ index_sections self at }
+        ensures count { block_count result ≡ block_count self }
+        ensures fault { finish_fault result ≡ finish_fault self };
 
     /// The size in bytes at which a partition is cut, where the index has partitions.
     fn use_partition_size(self, size: u32) -> Self
         ensures registered { registered result ≡ registered self }
         ensures failed { has_failed result ≡ has_failed self };
+
+    /// One that has failed is not finished.
+    ghost failed_refuses: { (w : Self) → has_failed w ≡ true → finish_fault w ≡ Some WriterFailed };
 }

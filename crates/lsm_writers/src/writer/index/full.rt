@@ -45,7 +45,7 @@ impl<A: Allocator + Clone> BlockIndexWriter<A> for FullIndexWriter<A> {
     ghost use Rattle.std.specs.Prelude.{◌≡◌, true, false, [], ◌∷◌, ◌++◌, length, take, OnOk, OnErr, IfOk};
     ghost use Rattle.sst_entries.specs.Error.{Faults, FaultsFirst};
     ghost use Rattle.sst_blocks.specs.Handles.{AreStrictHandles};
-    ghost use Rattle.lsm_writers.specs.Registered.{HasNoIndex, appended, failed_fault, full_index, full_index_fault};
+    ghost use Rattle.lsm_writers.specs.Registered.{HasNoIndex, appended, failed_fault, full_index, full_index_fault, fails_again};
 
     ghost registered = { λ w. w.handles };
 
@@ -57,6 +57,8 @@ impl<A: Allocator + Clone> BlockIndexWriter<A> for FullIndexWriter<A> {
 
     ghost finish_fault = { full_index_fault };
 
+    ghost failed_refuses = { fails_again };
+
     fn register_data_block(&mut self, handle: &KeyedBlockHandle<A>) -> Result<(), Error>
         requires { AreStrictHandles (self.old.handles ++ handle.now ∷ []) }
         ensures ok { OnOk result (self.new.handles ≡ self.old.handles ++ handle.now ∷ []) }
@@ -67,7 +69,7 @@ impl<A: Allocator + Clone> BlockIndexWriter<A> for FullIndexWriter<A> {
         ensures first { FaultsFirst result (failed_fault self.old.failed) }
     {
         if self.failed {
-            return Err(Error::WriterFailed);
+            return Err(Error::WriterFailed); // nothing is registered
         }
         self.failed = true;
         self.block_handles.push(handle.clone()?)?;
@@ -84,7 +86,7 @@ impl<A: Allocator + Clone> BlockIndexWriter<A> for FullIndexWriter<A> {
         ensures first { FaultsFirst result (failed_fault self.failed) }
     {
         if self.failed {
-            return Err(Error::WriterFailed);
+            return Err(Error::WriterFailed); // nothing is written
         }
         let mut payload = Vec::new(self.block_handles.allocator().clone()?);
         IndexBlock::encode_into(&mut payload, &self.block_handles)?;
@@ -94,16 +96,14 @@ impl<A: Allocator + Clone> BlockIndexWriter<A> for FullIndexWriter<A> {
     }
 
     fn use_compression(mut self, compression: CompressionType) -> FullIndexWriter<A>
-        ensures registered { result.handles ≡ self.handles }
-        ensures failed { result.failed ≡ self.failed }
+        ensures { result ≡ self }
     {
         self.compression = compression;
         self
     }
 
     fn use_partition_size(self, _size: u32) -> FullIndexWriter<A>
-        ensures registered { result.handles ≡ self.handles }
-        ensures failed { result.failed ≡ self.failed }
+        ensures { result ≡ self }
     {
         self
     }
