@@ -1,10 +1,14 @@
 pub mod EntryKeyLemmas
 pub mod OutlookLemmas
+pub mod HearsLemmas
 pub mod MvccLemmas
 pub mod MvccHears
 pub mod PeekedLemmas
 pub mod NewestLemmas
-pub mod DealsNewest
+pub mod HeardLemmas
+pub mod MvccRuns
+pub mod GapLemmas
+pub mod NewestPast
 pub mod OutsLemmas
 pub mod TurnLemmas
 pub mod CallLemmas
@@ -13,6 +17,7 @@ pub mod SettleLemmas
 pub mod GoingLemmas
 pub mod CompactionHears
 pub mod WholeLemmas
+pub mod CompactionRuns
 pub mod Hits
 pub mod ReadLemmas
 pub mod KeptLemmas

@@ -6,7 +6,7 @@ use Rattle.std.proofs.lemmas.List.{reverse-reverse, reverse-append, append-nil}
 use Rattle.sst_entries.specs.Entry.{Entry}
 use Rattle.sst_entries.specs.Stream.{first, but_first, last, but_last}
 use Rattle.lsm_merge.specs.Ends.{R}
-use Rattle.lsm_sorted.specs.Newest.{after_key, settle, front_step, climb, back_of, back_step}
+use Rattle.lsm_sorted.specs.Newest.{after_key, settle, front_step, climb, step_in_reverse, back_step}
 use Rattle.sst_entries.specs.Key.{same_key, key_lt}
 use Rattle.sst_entries.proofs.KeyLemmas.{KeyLe, same_is, lt_other, le_other, le_same, lt_le, le_lt}
 use Rattle.lsm_sorted.proofs.EntryKeyLemmas.{key_le}
@@ -186,7 +186,7 @@ descend_end x (y ∷ ys) =
 
 back_at : (xs : List Entry) (zs : List Entry) → reverse xs ≡ zs → KeysUp xs → NewestStep (back_step (all_ok xs)) (last (all_ok (newest xs))) (but_last (all_ok (newest xs)))
 back_at xs [] e up =
-    let empty : back_of (reverse (all_ok xs)) ≡ (None, []) = ap back_of (map_reverse xs ∙ ap all_ok e) in
+    let empty : step_in_reverse (reverse (all_ok xs)) ≡ (None, []) = ap step_in_reverse (map_reverse xs ∙ ap all_ok e) in
     let dealt : reverse (all_ok (newest xs)) ≡ [] = map_reverse (newest xs) ∙ ap all_ok (down_newest xs up ∙ ap down e) in
     record {
       left = [];
@@ -198,8 +198,8 @@ back_at xs [] e up =
 back_at xs (z ∷ zs) e up =
     let top : Entry = (descend z zs).0 in
     let rest : List Entry = (descend z zs).1 in
-    let stepped : back_of (reverse (all_ok xs)) ≡ (Some (Ok top), all_ok rest) =
-    ap back_of (map_reverse xs ∙ ap all_ok e) ∙ ap (λ (p : Entry × List R). settle p.0 p.1) (climb_ok z zs) ∙ settle_ok top rest in
+    let stepped : step_in_reverse (reverse (all_ok xs)) ≡ (Some (Ok top), all_ok rest) =
+    ap step_in_reverse (map_reverse xs ∙ ap all_ok e) ∙ ap (λ (p : Entry × List R). settle p.0 p.1) (climb_ok z zs) ∙ settle_ok top rest in
     let dealt : reverse (all_ok (newest xs)) ≡ Ok top ∷ all_ok (down rest) =
     map_reverse (newest xs) ∙ ap all_ok (down_newest xs up ∙ ap down e ∙ down_step z zs) in
     let parts = descend_end z zs in

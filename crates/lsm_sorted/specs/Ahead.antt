@@ -6,17 +6,17 @@ use Rattle.sst_entries.specs.Stream.{nowhere}
 use Rattle.lsm_sorted.specs.declared.ahead.Ahead.{Ahead}
 use Rattle.lsm_merge.specs.Ends.{R, Left, ends_size}
 use Rattle.lsm_sorted.specs.Outlook.{Outlook}
-use Rattle.lsm_sorted.specs.Peeked.{held, held_count}
+use Rattle.lsm_sorted.specs.Peeked.{content, content_count}
 
 -- the iterator, and what its place holds
 abbrev pub ahead_outlook : {S : Type 0} → Ahead S R → Outlook S
-ahead_outlook s = record { source = s.source; ahead = held s.front; behind = [] }
+ahead_outlook s = record { source = s.source; ahead = content s.front; behind = [] }
 
 -- the list that is still to come
 pub record HoldsAhead {S : Type 0} (stops : Error → Bool) (front : S → Option R → S → Type 0) (s : Ahead S R) (xs : List R) : Type 0 where
   pub rest : List R
   pub source : Left stops front nowhere s.source rest
-  pub parts : xs ≡ held s.front ++ rest
+  pub parts : xs ≡ content s.front ++ rest
 
 abbrev pub ahead_size : {S : Type 0} → (S → Count) → Ahead S R → ℕ
-ahead_size left s = ends_size left s.source + held_count s.front
+ahead_size left s = ends_size left s.source + content_count s.front

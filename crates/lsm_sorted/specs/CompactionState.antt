@@ -10,7 +10,8 @@ use Rattle.lsm_sorted.specs.declared.ahead.Ahead.{Ahead}
 use Rattle.lsm_sorted.specs.declared.compaction.stream.CompactionStream.{CompactionStream}
 use Rattle.lsm_merge.specs.Ends.{R, Goes}
 use Rattle.lsm_sorted.specs.Newest.{after_key}
-use Rattle.lsm_sorted.specs.Outlook.{Outlook, Relates, nothing_stops, IsSame}
+use Rattle.lsm_sorted.specs.Outlook.{Outlook, before_any, nothing_stops, IsSame}
+use Rattle.lsm_sorted.specs.Hears.{Hears, Heard}
 use Rattle.lsm_sorted.specs.Ahead.{HoldsAhead, ahead_size, ahead_outlook}
 use Rattle.lsm_sorted.specs.Compaction.{Verdict, Rules, told_by, reports_by, outs, as_they_are, kept, unfiltered}
 use Rattle.lsm_sorted.specs.Compacting.{of_key, head_answer, settled, Asks, GetsAll, Calls, Compacted}
@@ -54,13 +55,25 @@ module _ {S F C : Type 0} where
     pub may : MayCompact front can left t
     pub rules : rules_of t ≡ rules_of s
     pub calls : (stops : Error → Bool) (xs : List R) → Compacts stops front s xs → stopped stops r ≡ false → (ys : List R) × Compacts stops front t ys × Calls gives gets (rules_of s) (filter_of s) (callback_of s) xs r (filter_of t) (callback_of t) ys
-    pub hears : Relates front nowhere Front (CallsIn gives gets (rules_of s) (filter_of s) (callback_of s) r (filter_of t) (callback_of t)) (compaction_outlook s) (compaction_outlook t)
+    pub hears : Hears front Front r (CallsIn gives gets (rules_of s) (filter_of s) (callback_of s) r (filter_of t) (callback_of t)) (compaction_outlook s) (compaction_outlook t)
 
 module _ {S F C : Type 0} (front : S → Option R → S → Type 0) (next : CompactionStream S F C R → Option R → CompactionStream S F C R → Type 0) (s : CompactionStream S F C R) where
   -- of any list that the stream goes through, calls up to the one that answers `None` give, ask and report what a compaction of the list does
   abbrev pub CompactsWhole : (F → Entry → Result Verdict Error → F → Type 0) → (C → Entry → C → Type 0) → Type 0
   CompactsWhole gives gets = (stops : Error → Bool) (xs gave : List R) (t u : CompactionStream S F C R) → Compacts stops front s xs → AllByRecursion (λ r. stopped_result stops r ≡ false) gave
       → Yields next s gave t → next t None u → Compacted gives gets (rules_of s) (filter_of s) (callback_of s) xs gave (filter_of u) (callback_of u)
+
+  -- whatever the source gives, refusals too: calls up to the one that answers `None` give, ask and report what a compaction of it does
+  abbrev pub CompactsHeard : (F → Entry → Result Verdict Error → F → Type 0) → (C → Entry → C → Type 0) → Type 0
+  CompactsHeard gives gets = (source : S) (gave : List R) (t u : CompactionStream S F C R) → compaction_outlook s ≡ before_any source
+      → Yields next s gave t → next t None u
+      → Heard front nowhere source (λ xs. Compacted gives gets (rules_of s) (filter_of s) (callback_of s) xs gave (filter_of u) (callback_of u))
+
+  -- and where a filter keeps all, they give what is given of it
+  abbrev pub GivesOuts : Type 0
+  GivesOuts = (source : S) (gave : List R) (t u : CompactionStream S F C R) → compaction_outlook s ≡ before_any source
+      → Yields next s gave t → next t None u
+      → Heard front nowhere source (λ xs. gave ≡ outs (rules_of s) (as_they_are xs))
 
   -- the stream deals what is given of any list that it goes through, where a filter keeps all
   abbrev pub DealsOuts : Type 0
@@ -74,6 +87,11 @@ module _ {S F C : Type 0} (front : S → Option R → S → Type 0) (next : Comp
 abbrev pub refusal : {X : Type 0} → Result X Error → Option Error
 refusal (Ok x) = None
 refusal (Err e) = Some e
+
+-- the answer that it is
+abbrev pub failure : {X : Type 0} → Result X Error → Option R
+failure (Ok x) = None
+failure (Err e) = Some (Err e)
 
 -- the error in front, and what is left once it was answered
 abbrev pub error_first : List R → Option Error

@@ -1,7 +1,9 @@
 pub mod Outlook
+pub mod Hears
 pub mod Peeked
 pub mod Newest
 pub mod Mvcc
+pub mod Gap
 pub mod NewestLaws
 pub mod Point
 pub mod Compaction

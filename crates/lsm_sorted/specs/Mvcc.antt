@@ -1,30 +1,56 @@
--- What a stream of newest versions stands for, and its calls.
-use Rattle.std.specs.Prelude.{ℕ, Bool, List, Option}
+-- A stream of newest versions: its calls, and runs of them.
+use Rattle.std.specs.Prelude.{◌≡◌, ℕ, Bool, List, Option}
 use Rattle.std.specs.Iterator.{Count}
-use Rattle.lsm_sorted.specs.declared.mvcc_stream.MvccStream.{MvccStream}
 use Rattle.sst_entries.specs.declared.error.Error.{Error}
 use Rattle.sst_entries.specs.declared.stream.Direction.{Direction}
-use Rattle.sst_entries.specs.Stream.{Answers}
+use Rattle.sst_entries.specs.Entry.{Entry}
+use Rattle.sst_entries.specs.Stream.{Runs, NoneStops, Deals, CanDeal, stopped, all_ok}
+use Rattle.std.specs.Iterator.{IsFinite}
 use Rattle.lsm_merge.specs.Ends.{R, Goes}
-use Rattle.lsm_sorted.specs.Outlook.{Outlook, Relates, IsStep}
-use Rattle.lsm_sorted.specs.Peeked.{Holds, peeked_size, peeked_outlook}
+use Rattle.lsm_merge.specs.Union.{Ascends, newest}
+use Rattle.lsm_sorted.specs.declared.mvcc_stream.MvccStream.{MvccStream}
+use Rattle.lsm_sorted.specs.Newest.{newest_answers}
+use Rattle.lsm_sorted.specs.Outlook.{Outlook, IsStep}
+use Rattle.lsm_sorted.specs.Hears.{Hears, Heard}
+use Rattle.lsm_sorted.specs.Peeked.{peeked_size, peeked_outlook}
 
 -- what the stream reads from, with what it took and has still to give
 abbrev pub mvcc_outlook : {S : Type 0} → MvccStream S R → Outlook S
 mvcc_outlook s = peeked_outlook s.inner
 
-module _ {S : Type 0} (front back : S → Option R → S → Type 0) where
-  -- the list of results that the stream still goes through
-  abbrev pub StandsFor : (Error → Bool) → MvccStream S R → List R → Type 0
-  StandsFor stops s xs = Holds stops front back s.inner xs
-
-  abbrev pub MayStep : (S → Type 0) → (S → Type 0) → (S → Count) → MvccStream S R → Type 0
-  MayStep can can_back left s = Goes front back can can_back left s.inner.source
-
-  -- one call at an end: it may be called again; where it stands for a list, it answers the step on it; and whatever the source gives, it answers the step on what it had and what the source gave
-  pub record StepsAt (can can_back : S → Type 0) (left : S → Count) (end : Direction) (stepped : List R → Option R × List R) (s : MvccStream S R) (r : Option R) (t : MvccStream S R) : Type 0 where
-    pub answers : Answers (MayStep can can_back left) StandsFor stepped s r t
-    pub hears : Relates front back end (IsStep stepped r) (mvcc_outlook s) (mvcc_outlook t)
+-- what it reads from, alone
+abbrev pub read_from : {S : Type 0} → MvccStream S R → S
+read_from s = s.inner.source.iter
 
 abbrev pub mvcc_size : {S : Type 0} → (S → Count) → MvccStream S R → ℕ
 mvcc_size left s = peeked_size left s.inner
+
+-- what it reads from may be asked
+abbrev pub MayStep : {S : Type 0} → (S → Option R → S → Type 0) → (S → Option R → S → Type 0) → (S → Type 0) → (S → Type 0) → (S → Count) → MvccStream S R → Type 0
+MayStep front back can can_back left s = Goes front back can can_back left s.inner.source
+
+-- one call: it may be called again, and whatever the source gives, it answers the step on what it had and what the source gave
+pub record StepsAt {S : Type 0} (May : MvccStream S R → Type 0) (ask : S → Option R → S → Type 0) (end : Direction) (stepped : List R → Option R × List R) (s : MvccStream S R) (r : Option R) (t : MvccStream S R) : Type 0 where
+  pub may : May t
+  pub hears : Hears ask end r (IsStep stepped r) (mvcc_outlook s) (mvcc_outlook t)
+
+module _ {S T : Type 0} (front back : S → Option R → S → Type 0) (source : S) (next next_back : T → Option R → T → Type 0) (t : T) where
+  -- whatever the source gives, the answers at a list of ends are those of the steps on what it gave
+  pub record AnswersSteps : Type 0 where
+    pub heard : (ends : List Direction) (rs : List (Option R)) (u : T) → Runs next next_back t ends rs u
+        → Heard front back source (λ xs. rs ≡ newest_answers xs ends)
+
+  -- of a list that the source deals, the answers are those of the steps on it, up to an error that stops the source
+  pub record DealsSteps : Type 0 where
+    pub answers : (stops : Error → Bool) (xs : List R) → Deals (stopped stops) front back source xs
+        → (ends : List Direction) (rs : List (Option R)) (u : T) → Runs next next_back t ends rs u
+        → NoneStops (stopped stops) rs → rs ≡ newest_answers xs ends
+
+  -- of sorted entries that the source deals, the newest version of each key is dealt
+  pub record DealsNewestOf : Type 0 where
+    pub deals : (stops : Error → Bool) (xs : List Entry) → Ascends xs → Deals (stopped stops) front back source (all_ok xs)
+        → Deals (stopped stops) next next_back t (all_ok (newest xs))
+
+  -- where the source may be asked and ends, so may the stream be asked
+  pub record CanStep (can can_back : S → Type 0) (left : S → Count) (can_next can_next_back : T → Type 0) : Type 0 where
+    pub asks : CanDeal front back can can_back source → IsFinite (left source) → CanDeal next next_back can_next can_next_back t

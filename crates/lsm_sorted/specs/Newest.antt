@@ -1,6 +1,8 @@
 -- One step of a stream of newest versions, on what is left of a list of results.
 use Rattle.std.specs.Prelude.{ℕ, Bool, false, cond, List, [], ◌∷◌, reverse, Option, Some, None, Ok, Err}
 use Rattle.sst_entries.specs.Entry.{Entry}
+use Rattle.sst_entries.specs.declared.stream.Direction.{Direction}
+use Rattle.sst_entries.specs.declared.stream.Direction.TheVariants.{Front, Back}
 use Rattle.lsm_merge.specs.Ends.{R}
 use Rattle.sst_entries.specs.Key.{same_key, key_lt}
 
@@ -31,11 +33,17 @@ climb x [] = (x, [])
 climb x (Ok y ∷ rs) = cond (key_lt y.user_key x.user_key) (x, Ok y ∷ rs) (climb y rs)
 climb x (Err e ∷ rs) = (x, Err e ∷ rs)
 
--- the step at the front of the list in reverse
-abbrev pub back_of : List R → Option R × List R
-back_of [] = (None, [])
-back_of (Ok x ∷ rs) = settle (climb x rs).0 (climb x rs).1
-back_of (Err e ∷ rs) = (Some (Err e), rs)
+-- the step at the back of a list that is given in reverse
+abbrev pub step_in_reverse : List R → Option R × List R
+step_in_reverse [] = (None, [])
+step_in_reverse (Ok x ∷ rs) = settle (climb x rs).0 (climb x rs).1
+step_in_reverse (Err e ∷ rs) = (Some (Err e), rs)
 
 abbrev pub back_step : List R → Option R × List R
-back_step xs = ((back_of (reverse xs)).0, reverse (back_of (reverse xs)).1)
+back_step xs = ((step_in_reverse (reverse xs)).0, reverse (step_in_reverse (reverse xs)).1)
+
+-- the answers of the steps at these ends, one after another
+abbrev pub newest_answers : List R → List Direction → List (Option R)
+newest_answers xs [] = []
+newest_answers xs (Front ∷ ends) = (front_step xs).0 ∷ newest_answers (front_step xs).1 ends
+newest_answers xs (Back ∷ ends) = (back_step xs).0 ∷ newest_answers (back_step xs).1 ends

@@ -1,7 +1,9 @@
 -- What is promised of the newest versions of several sources.
-use Rattle.std.specs.Prelude.{◌≡◌, Bool, List, [], Option}
-use Rattle.sst_entries.specs.Stream.{Deals, stopped, all_ok}
+use Rattle.std.specs.Prelude.{◌≡◌, Bool, List, [], All, Option}
+use Rattle.std.specs.Iterator.{Count, IsFinite}
+use Rattle.sst_entries.specs.Stream.{Runs, Deals, CanDeal, stopped, all_ok}
 use Rattle.sst_entries.specs.declared.error.Error.{Error}
+use Rattle.sst_entries.specs.declared.stream.Direction.{Direction}
 use Rattle.lsm_merge.specs.declared.merge.Merger.{Merger}
 use Rattle.lsm_sorted.specs.declared.mvcc_stream.MvccStream.{MvccStream}
 use Rattle.lsm_merge.specs.Ends.{R}
@@ -9,8 +11,20 @@ use Rattle.lsm_merge.specs.Union.{all_errors, merged, newest}
 use Rattle.lsm_merge.specs.Asks.{IsMergerOf}
 use Rattle.lsm_merge.specs.Merge.{EndsAtError}
 use Rattle.lsm_merge.specs.MergeLaws.{DealSorted, DealsUntilError, MeetsErrorsLate, every_error}
+use Rattle.lsm_sorted.specs.Gap.{IsUpToGap}
 use Rattle.lsm_sorted.specs.Mvcc.{mvcc_outlook}
+use Rattle.lsm_sorted.specs.Newest.{newest_answers}
 use Rattle.lsm_sorted.specs.Outlook.{before_any}
+
+-- a stream of newest versions, before any call, over a merger of just these sources
+pub record IsNewestOf {S A : Type 0} (its : List S) (s : MvccStream (Merger S A) R) : Type 0 where
+  pub source : Merger S A
+  pub starts : mvcc_outlook s ≡ before_any source
+  pub of : IsMergerOf its source
+
+-- where the sources may be asked and end, so may the stream be asked
+pub record CanAskNewest {S T : Type 0} (front back : S → Option R → S → Type 0) (can can_back : S → Type 0) (left : S → Count) (its : List S) (next next_back : T → Option R → T → Type 0) (can_next can_next_back : T → Type 0) (t : T) : Type 0 where
+  pub asks : All (CanDeal front back can can_back) its → All (λ s. IsFinite (left s)) its → CanDeal next next_back can_next can_next_back t
 
 module _ {S : Type 0} (front back : S → Option R → S → Type 0) (its : List S) where
   module _ {T : Type 0} (next next_back : T → Option R → T → Type 0) (t : T) where
@@ -24,12 +38,17 @@ module _ {S : Type 0} (front back : S → Option R → S → Type 0) (its : List
       pub deals : (stops : Error → Bool) (lists : List (List R)) → DealSorted front back stops its lists
           → Deals (stopped every_error) next next_back t (all_ok (newest (merged lists)))
 
-  -- a stream of newest versions, before any call, over a merger of just these sources: what they have together is dealt up to an
-  -- error of a source, from the front no error comes before the entries before it, and nothing follows an error
+    -- whatever errors are met, and after them: for every list of ends the answers are those of the steps on all entries, or on
+    -- what is left of them where the first error that was met takes the place of a stretch
+    pub record AnswersNewest : Type 0 where
+      pub answers : (stops : Error → Bool) (lists : List (List R)) → DealSorted front back stops its lists
+          → (ends : List Direction) (rs : List (Option R)) (u : T) → Runs next next_back t ends rs u
+          → (xs : List R) × IsUpToGap stops (merged lists) (all_errors lists) xs × (rs ≡ newest_answers xs ends)
+
+  -- its merger deals what the sources have together up to an error of one of them, from the front no error comes before the
+  -- entries before it, and nothing follows an error
   pub record IsOverMerged {A : Type 0} (next next_back : Merger S A → Option R → Merger S A → Type 0) (s : MvccStream (Merger S A) R) : Type 0 where
-    pub source : Merger S A
-    pub starts : mvcc_outlook s ≡ before_any source
-    pub of : IsMergerOf its source
-    pub until : DealsUntilError front back its next next_back source
-    pub late : MeetsErrorsLate front back its next source
-    pub ends : EndsAtError next next_back source
+    pub of : IsNewestOf its s
+    pub until : DealsUntilError front back its next next_back of.source
+    pub late : MeetsErrorsLate front back its next of.source
+    pub ends : EndsAtError next next_back of.source

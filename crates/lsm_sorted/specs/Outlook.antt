@@ -3,7 +3,6 @@ use Rattle.std.specs.Prelude.{◌≡◌, Bool, true, false, List, [], ◌∷◌,
 use Rattle.sst_entries.specs.declared.stream.Direction.{Direction}
 use Rattle.sst_entries.specs.declared.stream.Direction.TheVariants.{Front, Back}
 use Rattle.sst_entries.specs.declared.error.Error.{Error}
-use Rattle.sst_entries.specs.Stream.{Runs}
 use Rattle.lsm_merge.specs.declared.ends.Ends.{Ends}
 use Rattle.lsm_merge.specs.Ends.{R, fresh}
 
@@ -37,11 +36,6 @@ abbrev pub with_rest : Direction → List R → List R → List R
 with_rest Front xs rest = xs ++ rest
 with_rest Back xs rest = rest ++ reverse xs
 
--- this end, once for each answer
-abbrev pub each_at : Direction → List (Option R) → List Direction
-each_at end [] = []
-each_at end (r ∷ rs) = end ∷ each_at end rs
-
 -- whether a source has ended once it gave these answers
 abbrev pub is_over : Bool → List (Option R) → Bool
 is_over done [] = done
@@ -54,19 +48,6 @@ StopsAtNone true rs = rs ≡ []
 StopsAtNone false [] = Unit {0}
 StopsAtNone false (None ∷ rs) = StopsAtNone true rs
 StopsAtNone false (Some x ∷ rs) = StopsAtNone false rs
-
-module _ {S : Type 0} (front back : S → Option R → S → Type 0) (end : Direction) where
-  -- calls at this end of a source gave these answers. One that has ended was left alone
-  pub record Gave (s : Ends S) (answers : List (Option R)) (t : Ends S) : Type 0 where
-    pub runs : Runs front back s.iter (each_at end answers) answers t.iter
-    pub over : t.done ≡ is_over s.done answers
-    pub once : StopsAtNone s.done answers
-
-  -- calls at this end of the source led from s to t: P relates what was to come to what is still to come, whatever the source still gives
-  pub record Relates (P : List R → List R → Type 0) (s t : Outlook S) : Type 0 where
-    pub answers : List (Option R)
-    pub gave : Gave s.source answers t.source
-    pub holds : (rest : List R) → MayGive t.source.done rest → P (list_of s (with_rest end (results_in answers) rest)) (list_of t rest)
 
 -- the answer to a list and what is left of it are those of a step
 abbrev pub IsStep : (List R → Option R × List R) → Option R → List R → List R → Type 0

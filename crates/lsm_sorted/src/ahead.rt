@@ -4,7 +4,8 @@ ghost use Rattle.std.specs.Prelude.{Bool, ◌≡◌, ℕ, ◌+◌, ◌<◌, List
 ghost use Rattle.lsm_merge.specs.Ends.{R, Goes};
 ghost use Rattle.sst_entries.specs.declared.stream.Direction.TheVariants.{Front};
 ghost use Rattle.sst_entries.specs.Stream.{DealsFirst, Lowers, nowhere, front_of};
-ghost use Rattle.lsm_sorted.specs.Outlook.{Relates, IsStep};
+ghost use Rattle.lsm_sorted.specs.Outlook.{IsStep};
+ghost use Rattle.lsm_sorted.specs.Hears.{Hears};
 ghost use Rattle.lsm_sorted.specs.Ahead.{HoldsAhead, ahead_size, ahead_outlook};
 
 use lsm_merge::Ends;
@@ -35,7 +36,7 @@ impl<I: Iterator<Item = IterItem<A>>, A: Allocator> Ahead<I> {
         ensures goes { Goes I.next_gives nowhere I.can_next I.can_next I.remaining self.new.source }
         ensures deals { (stops : Error → Bool) →
             DealsFirst stops (HoldsAhead stops I.next_gives) self.old result self.new }
-        ensures hears { Relates I.next_gives nowhere Front (IsStep front_of result)
+        ensures hears { Hears I.next_gives Front result (IsStep front_of result)
             (ahead_outlook self.old) (ahead_outlook self.new) }
         ensures lowers { Lowers result (ahead_size I.remaining self.old) (ahead_size I.remaining
             self.new) }
@@ -54,7 +55,7 @@ impl<I: Iterator<Item = IterItem<A>>, A: Allocator> Ahead<I> {
         ensures lists { (stops : Error → Bool) (xs : List R) →
             HoldsAhead stops I.next_gives self.old xs →
             HoldsAhead stops I.next_gives self.new (Ok x ∷ xs) }
-        ensures puts { Relates I.next_gives nowhere Front (λ xs ys. ys ≡ Ok x ∷ xs)
+        ensures puts { Hears I.next_gives Front None (λ xs ys. ys ≡ Ok x ∷ xs)
             (ahead_outlook self.old) (ahead_outlook self.new) }
         ensures size { ahead_size I.remaining self.new ≡ ahead_size I.remaining self.old + 1 }
     {

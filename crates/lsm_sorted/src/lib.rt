@@ -4,11 +4,13 @@
 
 mod ahead;
 pub mod compaction;
+mod gap;
 mod mvcc_stream;
 mod newest;
 mod peeked;
 
+pub use gap::up_to_gap;
 pub use lsm_merge::{IntervalHeap, Merger, Tournament, from_both_ends};
 pub use lsm_ranges::{Indexed, KeyRange, Ranged, Run, optimize_runs, overlap_chain};
 pub use mvcc_stream::MvccStream;
-pub use newest::newest_of;
+pub use newest::{newest_from_both_ends, newest_of};

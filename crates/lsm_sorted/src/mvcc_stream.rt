@@ -1,15 +1,11 @@
 //! A stream of the newest version of each key.
-ghost use Rattle.sst_entries.specs.declared.error.Error.{Error};
-ghost use Rattle.std.specs.Prelude.{not, Bool, ◌≡◌, ℕ, ◌+◌, ◌<◌, List};
+ghost use Rattle.std.specs.Prelude.{not, ◌≡◌, ℕ, ◌+◌, ◌<◌};
 ghost use Rattle.std.specs.Iterator.{at_most, IsFinite};
-ghost use Rattle.sst_entries.specs.Stream.{Deals, CanDeal, stopped, all_ok};
+ghost use Rattle.sst_entries.specs.Stream.{CanDeal, nowhere};
 ghost use Rattle.sst_entries.specs.declared.stream.Direction.TheVariants.{Front, Back};
-ghost use Rattle.lsm_merge.specs.Ends.{R};
 ghost use Rattle.sst_entries.specs.Key.{same_key, key_lt};
 ghost use Rattle.lsm_sorted.specs.Newest.{front_step, back_step};
-ghost use Rattle.lsm_merge.specs.Union.{Ascends, newest};
-ghost use Rattle.sst_entries.specs.Entry.{Entry};
-ghost use Rattle.lsm_sorted.specs.Mvcc.{StandsFor, MayStep, StepsAt, mvcc_size, mvcc_outlook};
+ghost use Rattle.lsm_sorted.specs.Mvcc.{MayStep, StepsAt, AnswersSteps, DealsSteps, DealsNewestOf, CanStep, mvcc_size, mvcc_outlook, read_from};
 ghost use Rattle.lsm_sorted.specs.Outlook.{before_any};
 
 use crate::peeked::Peeked;
@@ -29,36 +25,40 @@ fn has_lower_key<A: Allocator>(x: &InternalValue<A>, y: &InternalValue<A>) -> bo
     x.key.user_key < y.key.user_key
 }
 
-/// Gives the newest version of each key, from either end.
+/// Gives the newest version of each key, from the front, and from both ends where what it reads from has two.
 ///
 /// The entries come by key upward, and the versions of a key from the newest down. Tombstones are
 /// given like values. An error is passed on in the place where it stands, and the version that it
 /// interrupts is given up: at the front the one before it, at the back the stretch of its key after
-/// it. A step looks at each version of its key once, and holds two entries at most.
+/// it. A step looks at each version of its key once. Between steps at most one entry is held at each
+/// end, and in a step one more.
 #[derive(Drop)]
-pub struct MvccStream<I: DoubleEndedIterator> {
+pub struct MvccStream<I: Iterator> {
     inner: Peeked<I>,
 }
 
-impl<I: DoubleEndedIterator<Item = IterItem<A>>, A: Allocator> MvccStream<I> {
+impl<I: Iterator<Item = IterItem<A>>, A: Allocator> MvccStream<I> {
     /// A stream over sorted entries. Nothing is taken from them yet.
+    ///
+    /// What holds where the back is asked too is said by [`MvccStream::from_both_ends`].
     pub fn new(iter: I) -> Self
         ensures starts { mvcc_outlook result ≡ before_any iter }
-        ensures stands { (stops : Error → Bool) (xs : List R) → Deals (stopped stops) I.next_gives
-            I.next_back_gives iter xs → StandsFor I.next_gives I.next_back_gives stops result xs }
-        ensures may { CanDeal I.next_gives I.next_back_gives I.can_next I.can_next_back iter →
+        ensures may { CanDeal I.next_gives nowhere I.can_next I.can_next iter →
             IsFinite (I.remaining iter) →
-            MayStep I.next_gives I.next_back_gives I.can_next I.can_next_back I.remaining result }
-        ensures newest { (stops : Error → Bool) (xs : List Entry) → Ascends xs →
-            Deals (stopped stops) I.next_gives I.next_back_gives iter (all_ok xs) →
-            Deals (stopped stops) ⟦<MvccStream<I> as Iterator>⟧.next_gives
-            ⟦<MvccStream<I> as DoubleEndedIterator>⟧.next_back_gives result (all_ok (newest xs)) }
-        ensures can { CanDeal I.next_gives I.next_back_gives I.can_next I.can_next_back iter →
-            IsFinite (I.remaining iter) →
-            CanDeal ⟦<MvccStream<I> as Iterator>⟧.next_gives
-            ⟦<MvccStream<I> as DoubleEndedIterator>⟧.next_back_gives
-            ⟦<MvccStream<I> as Iterator>⟧.can_next
-            ⟦<MvccStream<I> as DoubleEndedIterator>⟧.can_next_back result }
+            MayStep I.next_gives nowhere I.can_next I.can_next I.remaining result }
+        // Whatever is read, refusals too: the answers are those of the steps on it.
+        ensures heard { AnswersSteps I.next_gives nowhere iter
+            ⟦<MvccStream<I> as Iterator>⟧.next_gives nowhere result }
+        // Of any list, the same up to an error that stops what is read.
+        ensures steps { DealsSteps I.next_gives nowhere iter
+            ⟦<MvccStream<I> as Iterator>⟧.next_gives nowhere result }
+        // Of sorted entries, the newest version of each key.
+        ensures newest { DealsNewestOf I.next_gives nowhere iter
+            ⟦<MvccStream<I> as Iterator>⟧.next_gives nowhere result }
+        ensures can { CanStep I.next_gives nowhere iter
+            ⟦<MvccStream<I> as Iterator>⟧.next_gives nowhere result
+            I.can_next I.can_next I.remaining
+            ⟦<MvccStream<I> as Iterator>⟧.can_next ⟦<MvccStream<I> as Iterator>⟧.can_next }
     {
         MvccStream {
             inner: Peeked::new(iter),
@@ -66,14 +66,47 @@ impl<I: DoubleEndedIterator<Item = IterItem<A>>, A: Allocator> MvccStream<I> {
     }
 }
 
-impl<I: DoubleEndedIterator<Item = IterItem<A>>, A: Allocator> Iterator for MvccStream<I> {
+impl<I: Iterator<Item = IterItem<A>>, A: Allocator> MvccStream<I> {
+    // What the stream reads from, whatever it took and has still to give.
+    pub(crate) fn source(&self) -> &I
+        ensures { result.now ≡ read_from self.now }
+    {
+        &self.inner.source.iter
+    }
+}
+
+impl<I: DoubleEndedIterator<Item = IterItem<A>>, A: Allocator> MvccStream<I> {
+    /// A law of streams over what has two ends, for every list of ends. The call does nothing.
+    pub fn from_both_ends(&self)
+        ensures heard { (iter : I) → mvcc_outlook self.now ≡ before_any iter →
+            AnswersSteps I.next_gives I.next_back_gives iter
+            ⟦<MvccStream<I> as Iterator>⟧.next_gives
+            ⟦<MvccStream<I> as DoubleEndedIterator>⟧.next_back_gives self.now }
+        ensures steps { (iter : I) → mvcc_outlook self.now ≡ before_any iter →
+            DealsSteps I.next_gives I.next_back_gives iter
+            ⟦<MvccStream<I> as Iterator>⟧.next_gives
+            ⟦<MvccStream<I> as DoubleEndedIterator>⟧.next_back_gives self.now }
+        ensures newest { (iter : I) → mvcc_outlook self.now ≡ before_any iter →
+            DealsNewestOf I.next_gives I.next_back_gives iter
+            ⟦<MvccStream<I> as Iterator>⟧.next_gives
+            ⟦<MvccStream<I> as DoubleEndedIterator>⟧.next_back_gives self.now }
+        ensures can { (iter : I) → mvcc_outlook self.now ≡ before_any iter →
+            CanStep I.next_gives I.next_back_gives iter
+            ⟦<MvccStream<I> as Iterator>⟧.next_gives
+            ⟦<MvccStream<I> as DoubleEndedIterator>⟧.next_back_gives self.now
+            I.can_next I.can_next_back I.remaining
+            ⟦<MvccStream<I> as Iterator>⟧.can_next
+            ⟦<MvccStream<I> as DoubleEndedIterator>⟧.can_next_back }
+    {}
+}
+
+impl<I: Iterator<Item = IterItem<A>>, A: Allocator> Iterator for MvccStream<I> {
     type Item = IterItem<A>;
 
-    ghost can_next = { MayStep I.next_gives I.next_back_gives I.can_next I.can_next_back
-        I.remaining };
+    ghost can_next = { MayStep I.next_gives nowhere I.can_next I.can_next I.remaining };
 
-    ghost next_gives = { StepsAt I.next_gives I.next_back_gives I.can_next I.can_next_back
-        I.remaining Front front_step };
+    ghost next_gives = { StepsAt (MayStep I.next_gives nowhere I.can_next I.can_next I.remaining)
+        I.next_gives Front front_step };
 
     ghost remaining = { λ s. at_most (mvcc_size I.remaining s) };
 
@@ -103,8 +136,8 @@ impl<I: DoubleEndedIterator<Item = IterItem<A>>, A: Allocator> DoubleEndedIterat
     ghost can_next_back = { MayStep I.next_gives I.next_back_gives I.can_next I.can_next_back
         I.remaining };
 
-    ghost next_back_gives = { StepsAt I.next_gives I.next_back_gives I.can_next I.can_next_back
-        I.remaining Back back_step };
+    ghost next_back_gives = { StepsAt (MayStep I.next_gives I.next_back_gives I.can_next
+        I.can_next_back I.remaining) I.next_back_gives Back back_step };
 
     fn next_back(&mut self) -> Option<IterItem<A>> {
         let mut tail = match self.inner.next_back() {

@@ -1,9 +1,9 @@
 //! The newest version of each key of several sources.
-ghost use Rattle.std.specs.Prelude.{◌≡◌, IfOk, IfErr, All};
+ghost use Rattle.std.specs.Prelude.{◌≡◌, IfOk, IfErr, All, List};
 ghost use Rattle.std.specs.Iterator.{IsFinite};
-ghost use Rattle.sst_entries.specs.Stream.{CanDeal};
+ghost use Rattle.sst_entries.specs.Stream.{CanDeal, nowhere};
 ghost use Rattle.sst_entries.specs.declared.error.Error.TheVariants.{OutOfMemory};
-ghost use Rattle.lsm_sorted.specs.NewestLaws.{DealsNewest, DealsNewestUntilError, IsOverMerged};
+ghost use Rattle.lsm_sorted.specs.NewestLaws.{DealsNewest, DealsNewestUntilError, AnswersNewest, IsNewestOf, IsOverMerged, CanAskNewest};
 
 use crate::mvcc_stream::MvccStream;
 use lsm_merge::{Merger, from_both_ends};
@@ -12,31 +12,62 @@ use std::alloc::Allocator;
 
 /// The newest version of each key of several sources that each deal their entries in order.
 /// Reserves two places for each source; no step takes memory. Refused [`Error::OutOfMemory`] alone.
-pub fn newest_of<I: DoubleEndedIterator<Item = IterItem<A>>, A: Allocator + Clone>(
+///
+/// What holds where the back is asked too is said by [`newest_from_both_ends`].
+pub fn newest_of<I: Iterator<Item = IterItem<A>>, A: Allocator + Clone>(
     alloc: A,
     iterators: Vec<I, A>,
 ) -> Result<MvccStream<Merger<I, A>>, Error>
+    ensures starts { IfOk result (IsNewestOf iterators.items) }
     // Sorted sources without errors: of what they have together, the newest version of each key.
-    ensures deals { IfOk result (DealsNewest I.next_gives I.next_back_gives iterators.items
-        ⟦<MvccStream<Merger<I, A>> as Iterator>⟧.next_gives
-        ⟦<MvccStream<Merger<I, A>> as DoubleEndedIterator>⟧.next_back_gives) }
+    ensures deals { IfOk result (DealsNewest I.next_gives nowhere iterators.items
+        ⟦<MvccStream<Merger<I, A>> as Iterator>⟧.next_gives nowhere) }
     // With errors among it, the same up to the call whose answer is an error.
-    ensures until { IfOk result (DealsNewestUntilError I.next_gives I.next_back_gives
-        iterators.items ⟦<MvccStream<Merger<I, A>> as Iterator>⟧.next_gives
-        ⟦<MvccStream<Merger<I, A>> as DoubleEndedIterator>⟧.next_back_gives) }
-    // What is dealt from then on: the stream's steps over a merger, which ends at an error.
-    ensures over { IfOk result (IsOverMerged I.next_gives I.next_back_gives iterators.items
-        ⟦<Merger<I, A> as Iterator>⟧.next_gives
-        ⟦<Merger<I, A> as DoubleEndedIterator>⟧.next_back_gives) }
-    ensures can { IfOk result (λ m. All (CanDeal I.next_gives I.next_back_gives I.can_next
-        I.can_next_back) iterators.items → All (λ s. IsFinite (I.remaining s)) iterators.items →
-        CanDeal ⟦<MvccStream<Merger<I, A>> as Iterator>⟧.next_gives
-        ⟦<MvccStream<Merger<I, A>> as DoubleEndedIterator>⟧.next_back_gives
+    ensures until { IfOk result (DealsNewestUntilError I.next_gives nowhere iterators.items
+        ⟦<MvccStream<Merger<I, A>> as Iterator>⟧.next_gives nowhere) }
+    // An error that is met stands in its place, and what is dealt goes on by the stream's steps.
+    ensures past { IfOk result (AnswersNewest I.next_gives nowhere iterators.items
+        ⟦<MvccStream<Merger<I, A>> as Iterator>⟧.next_gives nowhere) }
+    ensures over { IfOk result (IsOverMerged I.next_gives nowhere iterators.items
+        ⟦<Merger<I, A> as Iterator>⟧.next_gives nowhere) }
+    ensures can { IfOk result (CanAskNewest I.next_gives nowhere I.can_next I.can_next I.remaining
+        iterators.items ⟦<MvccStream<Merger<I, A>> as Iterator>⟧.next_gives nowhere
         ⟦<MvccStream<Merger<I, A>> as Iterator>⟧.can_next
-        ⟦<MvccStream<Merger<I, A>> as DoubleEndedIterator>⟧.can_next_back m) }
+        ⟦<MvccStream<Merger<I, A>> as Iterator>⟧.can_next) }
     ensures err { IfErr result (λ e. e ≡ OutOfMemory) }
 {
     let merger = Merger::new(alloc, iterators)?;
-    from_both_ends(&merger);
     Ok(MvccStream::new(merger))
+}
+
+/// A law of the newest versions of sources with two ends, for every list of ends. The call does
+/// nothing.
+pub fn newest_from_both_ends<I: DoubleEndedIterator<Item = IterItem<A>>, A: Allocator>(
+    stream: &MvccStream<Merger<I, A>>,
+)
+    ensures deals { (its : List I) → IsNewestOf its stream.now →
+        DealsNewest I.next_gives I.next_back_gives its
+        ⟦<MvccStream<Merger<I, A>> as Iterator>⟧.next_gives
+        ⟦<MvccStream<Merger<I, A>> as DoubleEndedIterator>⟧.next_back_gives stream.now }
+    ensures until { (its : List I) → IsNewestOf its stream.now →
+        DealsNewestUntilError I.next_gives I.next_back_gives its
+        ⟦<MvccStream<Merger<I, A>> as Iterator>⟧.next_gives
+        ⟦<MvccStream<Merger<I, A>> as DoubleEndedIterator>⟧.next_back_gives stream.now }
+    // An error that is met stands in its place, and what is dealt goes on by the stream's steps.
+    ensures past { (its : List I) → IsNewestOf its stream.now →
+        AnswersNewest I.next_gives I.next_back_gives its
+        ⟦<MvccStream<Merger<I, A>> as Iterator>⟧.next_gives
+        ⟦<MvccStream<Merger<I, A>> as DoubleEndedIterator>⟧.next_back_gives stream.now }
+    ensures over { (its : List I) → IsNewestOf its stream.now →
+        IsOverMerged I.next_gives I.next_back_gives its ⟦<Merger<I, A> as Iterator>⟧.next_gives
+        ⟦<Merger<I, A> as DoubleEndedIterator>⟧.next_back_gives stream.now }
+    ensures can { (its : List I) → IsNewestOf its stream.now →
+        CanAskNewest I.next_gives I.next_back_gives I.can_next I.can_next_back I.remaining its
+        ⟦<MvccStream<Merger<I, A>> as Iterator>⟧.next_gives
+        ⟦<MvccStream<Merger<I, A>> as DoubleEndedIterator>⟧.next_back_gives
+        ⟦<MvccStream<Merger<I, A>> as Iterator>⟧.can_next
+        ⟦<MvccStream<Merger<I, A>> as DoubleEndedIterator>⟧.can_next_back stream.now }
+{
+    from_both_ends(stream.source());
+    stream.from_both_ends();
 }

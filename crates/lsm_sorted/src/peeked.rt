@@ -1,12 +1,12 @@
 //! An iterator with a place for one entry before it and one behind it.
-ghost use Rattle.sst_entries.specs.declared.error.Error.{Error};
-ghost use Rattle.std.specs.Prelude.{Bool, ◌≡◌, ℕ, ◌+◌, ◌<◌, List, ◌∷◌, ◌++◌, [], false};
+ghost use Rattle.std.specs.Prelude.{◌≡◌, ℕ, ◌+◌, ◌<◌, ◌∷◌, ◌++◌, [], false};
 ghost use Rattle.std.specs.Iterator.{IsFinite};
-ghost use Rattle.lsm_merge.specs.Ends.{R, Left, Goes, ends_size};
+ghost use Rattle.lsm_merge.specs.Ends.{R, Goes, ends_size};
 ghost use Rattle.sst_entries.specs.declared.stream.Direction.TheVariants.{Front, Back};
-ghost use Rattle.sst_entries.specs.Stream.{DealsFirst, DealsLast, Lowers, front_of, back_of};
-ghost use Rattle.lsm_sorted.specs.Outlook.{Relates, IsStep};
-ghost use Rattle.lsm_sorted.specs.Peeked.{Holds, held, peeked_size, peeked_outlook};
+ghost use Rattle.sst_entries.specs.Stream.{Lowers, nowhere, front_of, back_of};
+ghost use Rattle.lsm_sorted.specs.Outlook.{IsStep};
+ghost use Rattle.lsm_sorted.specs.Hears.{Hears};
+ghost use Rattle.lsm_sorted.specs.Peeked.{peeked_size, peeked_outlook};
 
 use lsm_merge::Ends;
 use sst_entries::{InternalValue, IterItem};
@@ -15,13 +15,13 @@ use std::alloc::Allocator;
 /// An iterator to which an entry may be given back at either end. What is given back at one end is
 /// still found from the other, once nothing is left between.
 #[derive(Drop)]
-pub struct Peeked<I: DoubleEndedIterator> {
+pub struct Peeked<I: Iterator> {
     pub(crate) source: Ends<I>,
     pub(crate) front: Option<I::Item>,
     pub(crate) back: Option<I::Item>,
 }
 
-impl<I: DoubleEndedIterator<Item = IterItem<A>>, A: Allocator> Peeked<I> {
+impl<I: Iterator<Item = IterItem<A>>, A: Allocator> Peeked<I> {
     pub(crate) fn new(iter: I) -> Self
         ensures iter { result.source.iter ≡ iter }
         ensures fresh { result.source.done ≡ false }
@@ -36,13 +36,9 @@ impl<I: DoubleEndedIterator<Item = IterItem<A>>, A: Allocator> Peeked<I> {
     }
 
     pub(crate) fn next(&mut self) -> Option<IterItem<A>>
-        requires { Goes I.next_gives I.next_back_gives I.can_next I.can_next_back I.remaining
-            self.old.source }
-        ensures goes { Goes I.next_gives I.next_back_gives I.can_next I.can_next_back I.remaining
-            self.new.source }
-        ensures deals { (stops : Error → Bool) →
-            DealsFirst stops (Holds stops I.next_gives I.next_back_gives) self.old result self.new }
-        ensures hears { Relates I.next_gives I.next_back_gives Front (IsStep front_of result)
+        requires { Goes I.next_gives nowhere I.can_next I.can_next I.remaining self.old.source }
+        ensures goes { Goes I.next_gives nowhere I.can_next I.can_next I.remaining self.new.source }
+        ensures hears { Hears I.next_gives Front result (IsStep front_of result)
             (peeked_outlook self.old) (peeked_outlook self.new) }
         ensures lowers { Lowers result (peeked_size I.remaining self.old) (peeked_size I.remaining
             self.new) }
@@ -51,7 +47,7 @@ impl<I: DoubleEndedIterator<Item = IterItem<A>>, A: Allocator> Peeked<I> {
         if let Some(x) = self.front.take() {
             return Some(x);
         }
-        match self.source.next() {
+        match self.source.next_in_front() {
             Some(x) => Some(x),
             None => match self.back.take() {
                 Some(x) => Some(x),
@@ -60,14 +56,25 @@ impl<I: DoubleEndedIterator<Item = IterItem<A>>, A: Allocator> Peeked<I> {
         }
     }
 
+    // Puts an entry before what is left.
+    pub(crate) fn put_front(&mut self, x: InternalValue<A>)
+        requires { self.old.front ≡ None }
+        ensures source { self.new.source ≡ self.old.source }
+        ensures puts { Hears I.next_gives Front None (λ xs ys. ys ≡ Ok x ∷ xs)
+            (peeked_outlook self.old) (peeked_outlook self.new) }
+        ensures size { peeked_size I.remaining self.new ≡ peeked_size I.remaining self.old + 1 }
+    {
+        self.front = Some(Ok(x));
+    }
+}
+
+impl<I: DoubleEndedIterator<Item = IterItem<A>>, A: Allocator> Peeked<I> {
     pub(crate) fn next_back(&mut self) -> Option<IterItem<A>>
         requires { Goes I.next_gives I.next_back_gives I.can_next I.can_next_back I.remaining
             self.old.source }
         ensures goes { Goes I.next_gives I.next_back_gives I.can_next I.can_next_back I.remaining
             self.new.source }
-        ensures deals { (stops : Error → Bool) →
-            DealsLast stops (Holds stops I.next_gives I.next_back_gives) self.old result self.new }
-        ensures hears { Relates I.next_gives I.next_back_gives Back (IsStep back_of result)
+        ensures hears { Hears I.next_back_gives Back result (IsStep back_of result)
             (peeked_outlook self.old) (peeked_outlook self.new) }
         ensures lowers { Lowers result (peeked_size I.remaining self.old) (peeked_size I.remaining
             self.new) }
@@ -85,28 +92,11 @@ impl<I: DoubleEndedIterator<Item = IterItem<A>>, A: Allocator> Peeked<I> {
         }
     }
 
-    // Puts an entry before what is left.
-    pub(crate) fn put_front(&mut self, x: InternalValue<A>)
-        requires { self.old.front ≡ None }
-        ensures source { self.new.source ≡ self.old.source }
-        ensures lists { (stops : Error → Bool) (xs : List R) →
-            Holds stops I.next_gives I.next_back_gives self.old xs →
-            Holds stops I.next_gives I.next_back_gives self.new (Ok x ∷ xs) }
-        ensures puts { Relates I.next_gives I.next_back_gives Front (λ xs ys. ys ≡ Ok x ∷ xs)
-            (peeked_outlook self.old) (peeked_outlook self.new) }
-        ensures size { peeked_size I.remaining self.new ≡ peeked_size I.remaining self.old + 1 }
-    {
-        self.front = Some(Ok(x));
-    }
-
     // Puts an entry behind what is left.
     pub(crate) fn put_back(&mut self, x: InternalValue<A>)
         requires { self.old.back ≡ None }
         ensures source { self.new.source ≡ self.old.source }
-        ensures lists { (stops : Error → Bool) (xs : List R) →
-            Holds stops I.next_gives I.next_back_gives self.old xs →
-            Holds stops I.next_gives I.next_back_gives self.new (xs ++ Ok x ∷ []) }
-        ensures puts { Relates I.next_gives I.next_back_gives Back (λ xs ys. ys ≡ xs ++ Ok x ∷ [])
+        ensures puts { Hears I.next_back_gives Back None (λ xs ys. ys ≡ xs ++ Ok x ∷ [])
             (peeked_outlook self.old) (peeked_outlook self.new) }
         ensures size { peeked_size I.remaining self.new ≡ peeked_size I.remaining self.old + 1 }
     {

@@ -1,6 +1,6 @@
 //! Merging several sources from both ends, and what that takes of memory.
 use crate::words::{answers_so, result_of};
-use lsm_sorted::{Merger, from_both_ends, newest_of};
+use lsm_sorted::{Merger, from_both_ends};
 use refusing::{Refusing, each_refused};
 use sst_entries::{Error, IterItem};
 use std::alloc::{Allocator, Global};
@@ -8,8 +8,8 @@ use std::test::Fail;
 
 // A source that only passes on what another gives.
 #[derive(Drop)]
-struct Passed<I> {
-    source: I,
+pub struct Passed<I> {
+    pub source: I,
 }
 
 impl<I: Iterator + Drop> Iterator for Passed<I> {
@@ -36,10 +36,10 @@ impl<I: DoubleEndedIterator + Drop> DoubleEndedIterator for Passed<I> {
     }
 }
 
-type Source<A> = Passed<std::vec::IntoIter<IterItem<A>, A>>;
+pub type Source<A> = Passed<std::vec::IntoIter<IterItem<A>, A>>;
 
 // The sources that a text spells, each up to a `/`.
-fn sources_of<A: Allocator + Clone>(alloc: &A, text: &str) -> Result<Vec<Source<A>, A>, Error> {
+pub fn sources_of<A: Allocator + Clone>(alloc: &A, text: &str) -> Result<Vec<Source<A>, A>, Error> {
     let mut sources = Vec::new(alloc.clone()?);
     let mut items = Vec::new(alloc.clone()?);
     for word in text.split_whitespace() {
@@ -64,12 +64,6 @@ fn merges<A: Allocator + Clone>(
     let mut merger = Merger::new(alloc.clone()?, sources_of(alloc, sources)?)?;
     from_both_ends(&merger);
     answers_so(alloc, &mut merger, ends, wanted)
-}
-
-// Whether the newest versions of the sources are these at the ends.
-fn are_newest(alloc: Global, sources: &str, ends: &str, wanted: &str) -> Result<bool, Error> {
-    let mut stream = newest_of(alloc, sources_of(&alloc, sources)?)?;
-    answers_so(&alloc, &mut stream, ends, wanted)
 }
 
 // Sources, ends and answers.
@@ -99,22 +93,6 @@ fn gives_the_entries_of_all_sources_in_order_up_to_an_error(rt: HostRuntime) -> 
             merges(&rt.alloc(), sources, ends, wanted)?,
             "{sources} at {ends}"
         );
-    }
-    Ok(())
-}
-
-// Ends and answers.
-const NEWEST: &[(&str, &str)] = &[
-    ("FFFFF", "aV7 bV2 cV4 dV1 -"),
-    ("BBBBB", "dV1 cV4 bV2 aV7 -"),
-    ("FBFBF", "aV7 dV1 bV2 cV4 -"),
-];
-
-#[test]
-fn gives_the_newest_version_of_each_key_of_all_sources(rt: HostRuntime) -> Result<(), Fail> {
-    for &(ends, wanted) in NEWEST {
-        let sources = "aV3 bV1 cV4 / aV7 bV2 / dV1 /";
-        assert!(rt; are_newest(rt.alloc(), sources, ends, wanted)?, "{ends}");
     }
     Ok(())
 }

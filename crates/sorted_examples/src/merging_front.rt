@@ -9,8 +9,8 @@ use std::test::Fail;
 
 // A source that is taken from the front alone.
 #[derive(Drop)]
-struct Forward<I> {
-    source: I,
+pub struct Forward<I> {
+    pub source: I,
 }
 
 impl<I: Iterator + Drop> Iterator for Forward<I> {
@@ -27,10 +27,10 @@ impl<I: Iterator + Drop> Iterator for Forward<I> {
     }
 }
 
-type Source = Forward<std::vec::IntoIter<IterItem>>;
+pub type Source = Forward<std::vec::IntoIter<IterItem>>;
 
 // The sources that a text spells, each up to a `/`.
-fn sources_of(alloc: Global, text: &str) -> Result<Vec<Source>, Error> {
+pub fn sources_of(alloc: Global, text: &str) -> Result<Vec<Source>, Error> {
     let mut sources = Vec::new(alloc);
     let mut items = Vec::new(alloc);
     for word in text.split_whitespace() {
@@ -46,7 +46,7 @@ fn sources_of(alloc: Global, text: &str) -> Result<Vec<Source>, Error> {
 }
 
 // The first answers of a stream, as many as these.
-fn first_answers<A: Allocator, I: Iterator<Item = IterItem<A>>>(
+pub fn first_answers<A: Allocator, I: Iterator<Item = IterItem<A>>>(
     alloc: Global,
     stream: &mut I,
     count: usize,

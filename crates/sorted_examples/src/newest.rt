@@ -1,6 +1,8 @@
-//! The newest versions of some results, from both ends.
-use crate::words::{answers_so, results_of};
-use lsm_sorted::MvccStream;
+//! The newest versions of some results and of several sources, from both ends and from the front alone.
+use crate::merging;
+use crate::merging_front::{first_answers, sources_of};
+use crate::words::{answers_so, results_of, text_of};
+use lsm_sorted::{MvccStream, newest_from_both_ends, newest_of};
 use sst_entries::Error;
 use std::alloc::Global;
 use std::test::Fail;
@@ -8,6 +10,7 @@ use std::test::Fail;
 // Whether a stream over some results answers so at the ends.
 fn answers(alloc: Global, results: &str, ends: &str, wanted: &str) -> Result<bool, Error> {
     let mut stream = MvccStream::new(results_of(&alloc, results)?.into_iter());
+    stream.from_both_ends();
     answers_so(&alloc, &mut stream, ends, wanted)
 }
 
@@ -83,6 +86,79 @@ fn gives_the_newest_version_of_each_key_from_either_end(rt: HostRuntime) -> Resu
             answers(rt.alloc(), results, ends, wanted)?,
             "{results} at {ends}"
         );
+    }
+    Ok(())
+}
+
+// Whether the newest versions of the sources are these at the ends.
+fn are_newest(alloc: Global, sources: &str, ends: &str, wanted: &str) -> Result<bool, Error> {
+    let mut stream = newest_of(alloc, merging::sources_of(&alloc, sources)?)?;
+    newest_from_both_ends(&stream);
+    answers_so(&alloc, &mut stream, ends, wanted)
+}
+
+// Sources, ends and answers.
+const OF_SOURCES: &[(&str, &str, &str)] = &[
+    (
+        "aV3 bV1 cV4 / aV7 bV2 / dV1 /",
+        "FFFFF",
+        "aV7 bV2 cV4 dV1 -",
+    ),
+    (
+        "aV3 bV1 cV4 / aV7 bV2 / dV1 /",
+        "BBBBB",
+        "dV1 cV4 bV2 aV7 -",
+    ),
+    (
+        "aV3 bV1 cV4 / aV7 bV2 / dV1 /",
+        "FBFBF",
+        "aV7 dV1 bV2 cV4 -",
+    ),
+    // An error in the middle of a source takes the place of all that is not dealt.
+    ("aV2 cV3 !7 dV1 / bV1 /", "FFFF", "aV2 !7 - -"),
+    ("aV2 bV3 !7 dV1 / aV1 bV2 cV1 /", "FFF", "!7 - -"),
+    ("aV2 bV3 !7 dV1 / aV1 bV2 cV1 /", "BBB", "!7 - -"),
+    // What an end has in hand stands before the error or behind it, and is still given.
+    ("aV2 cV3 !7 dV1 / bV1 eV2 /", "FBFB", "aV2 !7 bV1 -"),
+    ("aV1 / bV1 !7 bV0 cV1 dV1 /", "BFFF", "dV1 !7 cV1 -"),
+    ("aV1 / bV1 !7 bV0 cV1 dV1 /", "BBBB", "dV1 !7 - -"),
+    // At the far end of a source.
+    ("aV1 cV1 !7 / bV1 dV1 /", "FFFF", "aV1 !7 - -"),
+    ("aV1 cV1 !7 / bV1 dV1 /", "BFF", "!7 - -"),
+    ("!7 aV1 bV1 / cV1 dV1 /", "BBBB", "dV1 cV1 !7 -"),
+    ("aV3 aV1 ?1 / aV2 bV1 /", "FFF", "?1 - -"),
+];
+
+#[test]
+fn gives_the_newest_version_of_each_key_of_all_sources(rt: HostRuntime) -> Result<(), Fail> {
+    for &(sources, ends, wanted) in OF_SOURCES {
+        assert!(rt;
+            are_newest(rt.alloc(), sources, ends, wanted)?,
+            "{sources} at {ends}"
+        );
+    }
+    Ok(())
+}
+
+// Whether the newest versions of sources without a back are these first.
+fn are_first(alloc: Global, sources: &str, wanted: &str) -> Result<bool, Error> {
+    let mut stream = newest_of(alloc, sources_of(alloc, sources)?)?;
+    let answers = first_answers(alloc, &mut stream, wanted.split_whitespace().count())?;
+    Ok(text_of(alloc, &answers)?.as_str() == wanted)
+}
+
+// Sources and answers.
+const FROM_THE_FRONT: &[(&str, &str)] = &[
+    ("", "- -"),
+    ("aV3 bV1 cV4 / aV7 bV2 / dV1 /", "aV7 bV2 cV4 dV1 -"),
+    ("aV2 cV3 !7 dV1 / bV1 /", "aV2 !7 - -"),
+    ("aV1 bV1 / cV1 dV1 !7 /", "aV1 bV1 !7 -"),
+];
+
+#[test]
+fn takes_sources_without_a_back(rt: HostRuntime) -> Result<(), Fail> {
+    for &(sources, wanted) in FROM_THE_FRONT {
+        assert!(rt; are_first(rt.alloc(), sources, wanted)?, "{sources}");
     }
     Ok(())
 }

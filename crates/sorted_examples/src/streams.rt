@@ -7,11 +7,13 @@ ghost use Rattle.lsm_merge.specs.Union.{all_errors, merged};
 ghost use Rattle.lsm_merge.specs.MergeLaws.{DealSorted};
 ghost use Rattle.lsm_sorted.specs.Compaction.{kept, unfiltered};
 ghost use Rattle.lsm_sorted.specs.CompactionState.{rules_of};
+ghost use Rattle.lsm_sorted.specs.Gap.{GivesUpToGap};
 
-use crate::words::{results_of, text_of};
-use lsm_sorted::Merger;
+use crate::merging_front::sources_of;
+use crate::words::text_of;
 use lsm_sorted::compaction::stream::{CompactionStream, NoCallback, NoFilter};
-use sst_entries::{Error, IterItem, SeqNo, source_of};
+use lsm_sorted::{Merger, up_to_gap};
+use sst_entries::{Error, IterItem, SeqNo};
 use std::alloc::{Allocator, Global};
 use std::test::Fail;
 
@@ -21,35 +23,51 @@ fn compaction_of<I: Iterator<Item = IterItem<A>>, A: Allocator + Clone>(
     iterators: Vec<I, A>,
     threshold: SeqNo,
 ) -> Result<CompactionStream<Merger<I, A>, NoFilter, NoCallback>, Error>
-    ensures { IfOk result (λ s. (stops : Error → Bool) (lists : List (List R)) →
+    ensures kept { IfOk result (λ s. (stops : Error → Bool) (lists : List (List R)) →
         DealSorted I.next_gives nowhere stops iterators.items lists →
         all_errors lists ≡ [] →
         Deals (stopped stops)
         ⟦<CompactionStream<Merger<I, A>, NoFilter, NoCallback> as Iterator>⟧.next_gives nowhere s
         (all_ok (kept (rules_of s) (unfiltered (merged lists))))) }
+    // With errors among it: of the entries up to the first error that is met, and this error.
+    ensures past { IfOk result (λ s.
+        GivesUpToGap I.next_gives nowhere iterators.items (rules_of s)
+        ⟦<CompactionStream<Merger<I, A>, NoFilter, NoCallback> as Iterator>⟧.next_gives s) }
 {
     let merger = Merger::new(alloc, iterators)?;
+    up_to_gap(&merger);
     let stream = CompactionStream::new(merger, threshold);
     stream.unfiltered_run();
     Ok(stream)
 }
 
-// Three sources as one, compacted for readers at 5.
-#[test]
-fn compacts_three_sources(rt: HostRuntime) -> Result<(), Fail> {
-    let alloc = rt.alloc();
-    let mut sources = Vec::new(alloc);
-    for words in ["aV9 bV4", "aV4 bV3", "aV2 bT1"] {
-        sources.push(source_of(results_of(&alloc, words)?))?;
-    }
+// What readers at 5 need of the sources that a text spells, each up to a `/`.
+fn compacted(alloc: Global, sources: &str) -> Result<String, Error> {
+    let mut stream = compaction_of(alloc, sources_of(alloc, sources)?, 5)?;
     let mut answers = Vec::new(alloc);
-    let merger = Merger::new(alloc, sources)?;
-    let mut stream = CompactionStream::new(merger, 5);
     while let Some(item) = stream.next() {
         answers.push(Some(item))?;
     }
-    assert_eq!(rt; text_of(alloc, &answers)?.as_str(), "aV9 aV4 bV4");
-    let composed = compaction_of(alloc, Vec::<std::vec::IntoIter<IterItem>>::new(alloc), 5);
-    assert!(rt; composed.is_ok());
+    Ok(text_of(alloc, &answers)?)
+}
+
+// Sources without a back, and what is left of them.
+const COMPACTED: &[(&str, &str)] = &[
+    ("", ""),
+    ("aV9 bV4 / aV4 bV3 / aV2 bT1 /", "aV9 aV4 bV4"),
+    // An error in the middle of a source, and at its far end, ends the compaction.
+    ("aV9 cV4 !7 dV1 / aV4 bV3 / aV2 bT1 /", "aV9 aV4 !7"),
+    ("aV9 bV4 / aV4 cV3 dV1 !7 / aV2 bT1 /", "aV9 aV4 bV4 !7"),
+    ("aV9 bV4 / aV4 cV3 dV1 ?1 / aV2 bT1 /", "aV9 aV4 bV4 ?1"),
+];
+
+#[test]
+fn compacts_several_sources_up_to_an_error(rt: HostRuntime) -> Result<(), Fail> {
+    for &(sources, wanted) in COMPACTED {
+        assert!(rt;
+            compacted(rt.alloc(), sources)?.as_str() == wanted,
+            "{sources}"
+        );
+    }
     Ok(())
 }

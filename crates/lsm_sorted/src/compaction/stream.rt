@@ -8,11 +8,12 @@ ghost use Rattle.sst_entries.specs.declared.error.Error.{Error};
 ghost use Rattle.sst_entries.specs.declared.stream.Direction.TheVariants.{Front};
 ghost use Rattle.lsm_merge.specs.Ends.{R};
 ghost use Rattle.lsm_sorted.specs.Ahead.{HoldsAhead};
-ghost use Rattle.lsm_sorted.specs.Outlook.{Relates, before_any};
+ghost use Rattle.lsm_sorted.specs.Outlook.{before_any};
+ghost use Rattle.lsm_sorted.specs.Hears.{Hears};
 ghost use Rattle.lsm_sorted.specs.Verdicts.{said, verdict_of};
 ghost use Rattle.lsm_sorted.specs.Compaction.{Verdict, keep, goes, zeroed, told_by, reports_by};
 ghost use Rattle.lsm_sorted.specs.Compacting.{GetsAll};
-ghost use Rattle.lsm_sorted.specs.CompactionState.{rules_of, source_of, compaction_outlook, filter_of, callback_of, Compacts, MayCompact, compaction_size, CompactsNext, CompactsWhole, DealsOuts, DealsKept, Filters, DrainsKey, DrainsIn, Settles, SettlesIn};
+ghost use Rattle.lsm_sorted.specs.CompactionState.{rules_of, source_of, compaction_outlook, filter_of, callback_of, Compacts, MayCompact, compaction_size, failure, CompactsNext, CompactsWhole, CompactsHeard, GivesOuts, DealsOuts, DealsKept, Filters, DrainsKey, DrainsIn, Settles, SettlesIn};
 ghost use Rattle.lsm_sorted.specs.ReadLaw.{ReadLaw, StaysStrict, PartLaw};
 
 use crate::ahead::Ahead;
@@ -276,7 +277,7 @@ impl<
         ensures drains { (stops : Error → Bool) →
             DrainsKey stops (HoldsAhead stops I.next_gives) C.gets head.now.user_key (source_of
             self.old) (callback_of self.old) result (source_of self.new) (callback_of self.new) }
-        ensures hears { Relates I.next_gives nowhere Front
+        ensures hears { Hears I.next_gives Front (failure result)
             (DrainsIn C.gets head.now.user_key (callback_of self.old) result (callback_of self.new))
             (compaction_outlook self.old) (compaction_outlook self.new) }
     {
@@ -307,7 +308,7 @@ impl<
             Settles stops (HoldsAhead stops I.next_gives) C.gets (rules_of self.old) head.now
             (source_of self.old) (callback_of self.old) result (source_of self.new) (callback_of
             self.new) }
-        ensures hears { Relates I.next_gives nowhere Front (SettlesIn C.gets (rules_of self.old)
+        ensures hears { Hears I.next_gives Front (failure result) (SettlesIn C.gets (rules_of self.old)
             head.now (callback_of self.old) result (callback_of self.new)) (compaction_outlook
             self.old) (compaction_outlook self.new) }
     {
@@ -345,7 +346,7 @@ impl<
             I.next_gives) C.gets head.now.user_key (source_of self.old) d result (source_of
             self.new) (callback_of self.new)) }
         ensures hears { (d : C) × C.gets (callback_of self.old) next.now d ×
-            Relates I.next_gives nowhere Front
+            Hears I.next_gives Front (failure result)
             (DrainsIn C.gets head.now.user_key d result (callback_of self.new))
             (compaction_outlook self.old) (compaction_outlook self.new) }
     {
@@ -439,6 +440,9 @@ impl<
     pub fn whole_run(&self)
         ensures gives { CompactsWhole I.next_gives
             ⟦<CompactionStream<I, F, C> as Iterator>⟧.next_gives self.now F.gives C.gets }
+        // The same of a stream before any call, whatever its source gives, refusals too.
+        ensures heard { CompactsHeard I.next_gives
+            ⟦<CompactionStream<I, F, C> as Iterator>⟧.next_gives self.now F.gives C.gets }
         ensures can { MayCompact I.next_gives I.can_next I.remaining self.now →
             CanDeal ⟦<CompactionStream<I, F, C> as Iterator>⟧.next_gives nowhere
             ⟦<CompactionStream<I, F, C> as Iterator>⟧.can_next
@@ -457,6 +461,9 @@ impl<
         ensures outs { DealsOuts I.next_gives
             ⟦<CompactionStream<I, NoFilter, C> as Iterator>⟧.next_gives self.now }
         ensures kept { DealsKept I.next_gives
+            ⟦<CompactionStream<I, NoFilter, C> as Iterator>⟧.next_gives self.now }
+        // Before any call, whatever its source gives, refusals too.
+        ensures heard { GivesOuts I.next_gives
             ⟦<CompactionStream<I, NoFilter, C> as Iterator>⟧.next_gives self.now }
     {}
 }

@@ -1,30 +1,40 @@
+use Rattle.sst_entries.specs.Stream.{nowhere}
 use Rattle.lsm_merge.specs.MergeLaws.{every_error}
 use Rattle.lsm_merge.specs.Union.{merged}
+use Rattle.lsm_sorted.proofs.GapLemmas.{merges_up_to_gap}
+use Rattle.lsm_sorted.proofs.NewestPast.{answers_newest}
 use Rattle.lsm_sorted.proofs.newest.newest_of.Goals as goal
+
+pub returns-clause-starts : goal.returns-clause-starts
+returns-clause-starts g c = record { source = c.in_ok-merger.merger; starts = c.new-2.ensures.starts; of = c.in_ok-merger.ensures.fresh }
 
 pub returns-clause-deals : goal.returns-clause-deals
 returns-clause-deals g c = record {
   deals = λ stops lists sorted none.
-      c.new-2.ensures.newest stops (merged lists) (c.in_ok-merger.ensures.union lists).ascends
-      ((c.from_both_ends.ensures.deals _ c.in_ok-merger.ensures.fresh).deals stops lists sorted none);
+      c.new-2.ensures.newest.deals stops (merged lists) (c.in_ok-merger.ensures.union lists).ascends
+      (c.in_ok-merger.ensures.deals.deals stops lists sorted none);
 }
 
 pub returns-clause-until : goal.returns-clause-until
 returns-clause-until g c = record {
   deals = λ stops lists sorted.
-      c.new-2.ensures.newest every_error (merged lists) (c.in_ok-merger.ensures.union lists).ascends
-      ((c.from_both_ends.ensures.before _ c.in_ok-merger.ensures.fresh).deals stops lists sorted);
+      c.new-2.ensures.newest.deals every_error (merged lists) (c.in_ok-merger.ensures.union lists).ascends
+      (c.in_ok-merger.ensures.before.deals stops lists sorted);
 }
+
+pub returns-clause-past : goal.returns-clause-past
+returns-clause-past g c =
+    answers_newest g.I.Iterator.next_gives nowhere c.args.iterators.items _ _ c.in_ok-merger.merger _ nowhere _
+    (merges_up_to_gap g.I.Iterator.next_gives nowhere c.args.iterators.items _ nowhere c.in_ok-merger.merger c.in_ok-merger.ensures.before c.in_ok-merger.ensures.until c.in_ok-merger.ensures.ends)
+    c.new-2.ensures.heard
 
 pub returns-clause-over : goal.returns-clause-over
 returns-clause-over g c = record {
-  source = c.in_ok-merger.merger;
-  starts = c.new-2.ensures.starts;
-  of = c.in_ok-merger.ensures.fresh;
-  late = c.from_both_ends.ensures.late _ c.in_ok-merger.ensures.fresh;
-  until = c.from_both_ends.ensures.until _ c.in_ok-merger.ensures.fresh;
-  ends = c.from_both_ends.ensures.ends;
+  of = record { source = c.in_ok-merger.merger; starts = c.new-2.ensures.starts; of = c.in_ok-merger.ensures.fresh };
+  until = c.in_ok-merger.ensures.until;
+  late = c.in_ok-merger.ensures.late;
+  ends = c.in_ok-merger.ensures.ends;
 }
 
 pub returns-clause-can : goal.returns-clause-can
-returns-clause-can g c can ends = c.new-2.ensures.can ((c.from_both_ends.ensures.can _ c.in_ok-merger.ensures.fresh).asks can ends) tt
+returns-clause-can g c = record { asks = λ can ends. c.new-2.ensures.can.asks (c.in_ok-merger.ensures.can.asks can ends) tt }

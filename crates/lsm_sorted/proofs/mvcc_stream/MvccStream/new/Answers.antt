@@ -1,22 +1,23 @@
-use Rattle.std.proofs.Common.{arith}
-use Rattle.std.proofs.lemmas.Grind.{common_steps}
-use Rattle.sst_entries.specs.Stream.{all_ok}
-use Rattle.lsm_sorted.proofs.DealsNewest.{deals_newest, can_after}
+use Rattle.sst_entries.specs.Stream.{nowhere}
+use Rattle.lsm_sorted.proofs.MvccRuns.{answers_steps, deals_steps, deals_newest_of, starts_at, can_step_in_front}
 use Rattle.lsm_sorted.proofs.mvcc_stream.MvccStream.new.Goals as goal
 
-pub returns-clause-stands : goal.returns-clause-stands
-returns-clause-stands g c stops xs d = record {
-  rest = xs;
-  source = record { lists = rw (c.new.ensures.fresh, c.new.ensures.iter) d };
-  parts = rw (c.new.ensures.front, c.new.ensures.back) (grind (arith, common_steps));
-}
+pub returns-clause-heard : goal.returns-clause-heard
+returns-clause-heard g c =
+    let starts = starts_at c.new.result c.args.iter c.new.ensures.iter c.new.ensures.fresh c.new.ensures.front c.new.ensures.back in
+    answers_steps g.I.Iterator.next_gives nowhere _ nowhere (λ s r t step. step.hears) (λ s r t step. absurd step) c.args.iter _ starts
+
+pub returns-clause-steps : goal.returns-clause-steps
+returns-clause-steps g c =
+    let starts = starts_at c.new.result c.args.iter c.new.ensures.iter c.new.ensures.fresh c.new.ensures.front c.new.ensures.back in
+    deals_steps g.I.Iterator.next_gives nowhere _ nowhere (λ s r t step. step.hears) (λ s r t step. absurd step) c.args.iter _ starts
 
 pub returns-clause-newest : goal.returns-clause-newest
-returns-clause-newest g c stops xs up d = deals_newest stops _ _ _ _ (λ s r t step. step.answers) (λ s r t step. step.answers) _ xs up (record {
-  rest = all_ok xs;
-  source = record { lists = rw (c.new.ensures.fresh, c.new.ensures.iter) d };
-  parts = rw (c.new.ensures.front, c.new.ensures.back) (grind (arith, common_steps));
-})
+returns-clause-newest g c =
+    let starts = starts_at c.new.result c.args.iter c.new.ensures.iter c.new.ensures.fresh c.new.ensures.front c.new.ensures.back in
+    deals_newest_of g.I.Iterator.next_gives nowhere _ nowhere (λ s r t step. step.hears) (λ s r t step. absurd step) c.args.iter _ starts
 
 pub returns-clause-can : goal.returns-clause-can
-returns-clause-can g c can ends = can_after _ _ _ (λ s r t step. step.answers.may) (λ s r t step. step.answers.may) _ (record { ready = rw (c.new.ensures.fresh, c.new.ensures.iter) (can, ends) })
+returns-clause-can g c =
+    let starts = starts_at c.new.result c.args.iter c.new.ensures.iter c.new.ensures.fresh c.new.ensures.front c.new.ensures.back in
+    can_step_in_front g.I.Iterator.next_gives g.I.Iterator.can_next g.I.Iterator.remaining c.args.iter _ starts

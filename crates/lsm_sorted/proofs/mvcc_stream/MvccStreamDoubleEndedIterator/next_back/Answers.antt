@@ -1,68 +1,49 @@
 use Rattle.std.proofs.Common.{arith, sym, ◌∙◌}
-use Rattle.lsm_sorted.specs.Peeked.{Holds}
-use Rattle.lsm_sorted.proofs.MvccLemmas.{climbed_first, climbed_more, climbed_stop, climbed_err, climbed_end, back_err, back_none}
 use Rattle.lsm_sorted.proofs.MvccHears.{hears_tail, hears_newer, hears_lower, hears_error_before, hears_first, hears_error_last, hears_none_back}
 use Rattle.lsm_sorted.proofs.mvcc_stream.MvccStreamDoubleEndedIterator.next_back.Goals as goal
 
 pub returns-in-Some-Err-clause-steps : goal.returns-in-Some-Err-clause-steps
 returns-in-Some-Err-clause-steps g c = record {
-  answers = record {
-    may = c.in-Some-Err.ensures.goes;
-    gives = λ stops. back_err stops (Holds stops g.I.Iterator.next_gives g.I.DoubleEndedIterator.next_back_gives) c.args.self.now.inner c.next_back.new.self c.in-Some-Err.error (rw c.in-Some-Err.field-0-is at (c.in-Some-Err.ensures.deals stops));
-  };
-  hears = hears_error_last g.I.Iterator.next_gives g.I.DoubleEndedIterator.next_back_gives _ _ c.in-Some-Err.error (rw c.in-Some-Err.field-0-is at c.in-Some-Err.ensures.hears);
+  may = c.in-Some-Err.ensures.goes;
+  hears = hears_error_last g.I.DoubleEndedIterator.next_back_gives _ _ c.in-Some-Err.error (rw c.in-Some-Err.field-0-is at c.in-Some-Err.ensures.hears);
 }
 
 pub returns-in-None-clause-steps : goal.returns-in-None-clause-steps
 returns-in-None-clause-steps g c = record {
-  answers = record {
-    may = c.in-None.ensures.goes;
-    gives = λ stops. back_none stops (Holds stops g.I.Iterator.next_gives g.I.DoubleEndedIterator.next_back_gives) c.args.self.now.inner c.next_back.new.self (c.in-None.ensures.deals stops);
-  };
-  hears = hears_none_back g.I.Iterator.next_gives g.I.DoubleEndedIterator.next_back_gives _ _ c.in-None.ensures.hears;
+  may = c.in-None.ensures.goes;
+  hears = hears_none_back g.I.DoubleEndedIterator.next_back_gives _ _ c.in-None.ensures.hears;
 }
 
 pub loop-before-init : goal.loop-before-init
 loop-before-init g c = record {
   may = c.in-Some-Ok.ensures.goes;
-  climbed = λ stops. climbed_first stops (Holds stops g.I.Iterator.next_gives g.I.DoubleEndedIterator.next_back_gives) c.args.self.now.inner c.next_back.new.self c.in-Some-Ok.tail (rw c.in-Some-Ok.field-0-is at (c.in-Some-Ok.ensures.deals stops));
-  hears = hears_tail g.I.Iterator.next_gives g.I.DoubleEndedIterator.next_back_gives _ _ c.in-Some-Ok.tail (rw c.in-Some-Ok.field-0-is at c.in-Some-Ok.ensures.hears);
+  hears = hears_tail g.I.DoubleEndedIterator.next_back_gives _ _ c.in-Some-Ok.tail (rw c.in-Some-Ok.field-0-is at c.in-Some-Ok.ensures.hears);
   fewer = c.in-Some-Ok.ensures.lowers;
 }
 
 pub returns-then-has_lower_key-clause-steps : goal.returns-then-has_lower_key-clause-steps
 returns-then-has_lower_key-clause-steps g c = record {
-  answers = record {
-    may = rw c.put_back.ensures.source c.in-Some-Ok-next_back.ensures.goes;
-    gives = λ stops. climbed_stop stops (Holds stops g.I.Iterator.next_gives g.I.DoubleEndedIterator.next_back_gives) c.args.self.now.inner c.loop-before.self.inner c.next_back-in-loop-before.new.self c.put_back.new.self c.loop-before.tail c.in-Some-Ok-next_back.before (c.loop-before.invariant.climbed stops) (rw c.in-Some-Ok-next_back.field-0-is at (c.in-Some-Ok-next_back.ensures.deals stops)) (sym c.has_lower_key.ensures ∙ c.if-has_lower_key.true) (c.put_back.ensures.lists stops);
-  };
-  hears = hears_lower g.I.Iterator.next_gives g.I.DoubleEndedIterator.next_back_gives _ _ _ _ c.loop-before.tail c.in-Some-Ok-next_back.before c.loop-before.invariant.hears (rw c.in-Some-Ok-next_back.field-0-is at c.in-Some-Ok-next_back.ensures.hears) (sym c.has_lower_key.ensures ∙ c.if-has_lower_key.true) c.put_back.ensures.puts;
+  may = rw c.put_back.ensures.source c.in-Some-Ok-next_back.ensures.goes;
+  hears = hears_lower g.I.DoubleEndedIterator.next_back_gives _ _ _ c.loop-before.tail c.loop-before.invariant.hears _ c.in-Some-Ok-next_back.before (rw c.in-Some-Ok-next_back.field-0-is at c.in-Some-Ok-next_back.ensures.hears) (sym c.has_lower_key.ensures ∙ c.if-has_lower_key.true) c.put_back.ensures.puts;
 }
 
 pub loop-before-preserved : goal.loop-before-preserved
 loop-before-preserved g c = record {
   may = c.in-Some-Ok-next_back.ensures.goes;
-  climbed = λ stops. climbed_more stops (Holds stops g.I.Iterator.next_gives g.I.DoubleEndedIterator.next_back_gives) c.args.self.now.inner c.loop-before.self.inner c.next_back-in-loop-before.new.self c.loop-before.tail c.in-Some-Ok-next_back.before (c.loop-before.invariant.climbed stops) (rw c.in-Some-Ok-next_back.field-0-is at (c.in-Some-Ok-next_back.ensures.deals stops)) (sym c.has_lower_key.ensures ∙ c.if-has_lower_key.false);
-  hears = hears_newer g.I.Iterator.next_gives g.I.DoubleEndedIterator.next_back_gives _ _ _ c.loop-before.tail c.in-Some-Ok-next_back.before c.loop-before.invariant.hears (rw c.in-Some-Ok-next_back.field-0-is at c.in-Some-Ok-next_back.ensures.hears) (sym c.has_lower_key.ensures ∙ c.if-has_lower_key.false);
+  hears = hears_newer g.I.DoubleEndedIterator.next_back_gives _ _ _ c.loop-before.tail c.loop-before.invariant.hears c.in-Some-Ok-next_back.before (rw c.in-Some-Ok-next_back.field-0-is at c.in-Some-Ok-next_back.ensures.hears) (sym c.has_lower_key.ensures ∙ c.if-has_lower_key.false);
   fewer = omega (arith, c.in-Some-Ok-next_back.ensures.lowers, c.loop-before.invariant.fewer);
 }
 
 pub returns-in-Some-Err-next_back-clause-steps : goal.returns-in-Some-Err-next_back-clause-steps
 returns-in-Some-Err-next_back-clause-steps g c = record {
-  answers = record {
-    may = c.in-Some-Err-next_back.ensures.goes;
-    gives = λ stops. climbed_err stops (Holds stops g.I.Iterator.next_gives g.I.DoubleEndedIterator.next_back_gives) c.args.self.now.inner c.loop-before.self.inner c.next_back-in-loop-before.new.self c.loop-before.tail c.in-Some-Err-next_back.error (c.loop-before.invariant.climbed stops) (rw c.in-Some-Err-next_back.field-0-is at (c.in-Some-Err-next_back.ensures.deals stops));
-  };
-  hears = hears_error_before g.I.Iterator.next_gives g.I.DoubleEndedIterator.next_back_gives _ _ _ c.loop-before.tail c.in-Some-Err-next_back.error c.loop-before.invariant.hears (rw c.in-Some-Err-next_back.field-0-is at c.in-Some-Err-next_back.ensures.hears);
+  may = c.in-Some-Err-next_back.ensures.goes;
+  hears = hears_error_before g.I.DoubleEndedIterator.next_back_gives _ _ _ c.loop-before.tail c.loop-before.invariant.hears c.in-Some-Err-next_back.error (rw c.in-Some-Err-next_back.field-0-is at c.in-Some-Err-next_back.ensures.hears);
 }
 
 pub returns-in-None-next_back-clause-steps : goal.returns-in-None-next_back-clause-steps
 returns-in-None-next_back-clause-steps g c = record {
-  answers = record {
-    may = c.in-None-next_back.ensures.goes;
-    gives = λ stops. climbed_end stops (Holds stops g.I.Iterator.next_gives g.I.DoubleEndedIterator.next_back_gives) c.args.self.now.inner c.loop-before.self.inner c.next_back-in-loop-before.new.self c.loop-before.tail (c.loop-before.invariant.climbed stops) (c.in-None-next_back.ensures.deals stops);
-  };
-  hears = hears_first g.I.Iterator.next_gives g.I.DoubleEndedIterator.next_back_gives _ _ _ c.loop-before.tail c.loop-before.invariant.hears c.in-None-next_back.ensures.hears;
+  may = c.in-None-next_back.ensures.goes;
+  hears = hears_first g.I.DoubleEndedIterator.next_back_gives _ _ _ c.loop-before.tail c.loop-before.invariant.hears c.in-None-next_back.ensures.hears;
 }
 
 pub returns-in-Some-Err-clause-goes : goal.returns-in-Some-Err-clause-goes

@@ -1,12 +1,11 @@
-use Rattle.sst_entries.specs.declared.error.Error.{Error}
-use Rattle.std.proofs.Common.{Bool, ◌<◌}
+use Rattle.std.proofs.Common.{◌<◌}
+use Rattle.std.specs.Prelude.{None}
 use Rattle.lsm_merge.specs.Ends.{Goes}
-use Rattle.lsm_sorted.specs.Peeked.{Holds, peeked_size}
+use Rattle.lsm_sorted.specs.Peeked.{peeked_size}
 use Rattle.sst_entries.specs.declared.stream.Direction.TheVariants.{Back}
-use Rattle.lsm_sorted.specs.Outlook.{Relates}
+use Rattle.lsm_sorted.specs.Hears.{Hears}
 use Rattle.lsm_sorted.specs.Mvcc.{mvcc_outlook}
-use Rattle.lsm_sorted.proofs.MvccLemmas.{Climbed}
-use Rattle.lsm_sorted.proofs.MvccHears.{Scaled}
+use Rattle.lsm_sorted.proofs.MvccLemmas.{Scaled}
 use Rattle.lsm_sorted.proofs.mvcc_stream.MvccStreamDoubleEndedIterator.next_back.Given as goal
 
 abbrev pub invariant-loop-before : goal.invariant-loop-before
@@ -16,8 +15,7 @@ invariant-loop-before g l =
     let left = g.I.Iterator.remaining in
     record {
       may : Goes front back g.I.Iterator.can_next g.I.DoubleEndedIterator.can_next_back left l.self.inner.source;
-      climbed : (stops : Error → Bool) → Climbed stops (Holds stops front back) l.fn.self.inner l.tail l.self.inner;
-      hears : Relates front back Back (Scaled l.tail) (mvcc_outlook l.fn.self) (mvcc_outlook l.self);
+      hears : Hears back Back None (Scaled l.tail) (mvcc_outlook l.fn.self) (mvcc_outlook l.self);
       fewer : peeked_size left l.self.inner < peeked_size left l.fn.self.inner;
     }
 

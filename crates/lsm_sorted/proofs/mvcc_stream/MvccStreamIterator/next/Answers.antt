@@ -1,77 +1,57 @@
 use Rattle.std.proofs.Common.{arith}
-use Rattle.lsm_sorted.specs.Peeked.{Holds}
-use Rattle.lsm_sorted.proofs.MvccLemmas.{drained_first, drained_more, drained_stop, drained_err, drained_end, front_err, front_none}
 use Rattle.lsm_sorted.proofs.MvccHears.{hears_head, hears_version, hears_other, hears_error, hears_last, hears_error_first, hears_none}
 use Rattle.sst_entries.proofs.KeyLemmas.{keys_apart, keys_same}
 use Rattle.lsm_sorted.proofs.mvcc_stream.MvccStreamIterator.next.Goals as goal
 
 pub returns-in-Some-Err-clause-steps : goal.returns-in-Some-Err-clause-steps
 returns-in-Some-Err-clause-steps g c = record {
-  answers = record {
-    may = c.in-Some-Err.ensures.goes;
-    gives = λ stops. front_err stops (Holds stops g.I.Iterator.next_gives g.I.DoubleEndedIterator.next_back_gives) c.args.self.now.inner c.next.new.self c.in-Some-Err.error (rw c.in-Some-Err.field-0-is at (c.in-Some-Err.ensures.deals stops));
-  };
-  hears = hears_error_first g.I.Iterator.next_gives g.I.DoubleEndedIterator.next_back_gives _ _ c.in-Some-Err.error (rw c.in-Some-Err.field-0-is at c.in-Some-Err.ensures.hears);
+  may = c.in-Some-Err.ensures.goes;
+  hears = hears_error_first g.I.Iterator.next_gives _ _ c.in-Some-Err.error (rw c.in-Some-Err.field-0-is at c.in-Some-Err.ensures.hears);
 }
 
 pub returns-in-None-clause-steps : goal.returns-in-None-clause-steps
 returns-in-None-clause-steps g c = record {
-  answers = record {
-    may = c.in-None.ensures.goes;
-    gives = λ stops. front_none stops (Holds stops g.I.Iterator.next_gives g.I.DoubleEndedIterator.next_back_gives) c.args.self.now.inner c.next.new.self (c.in-None.ensures.deals stops);
-  };
-  hears = hears_none g.I.Iterator.next_gives g.I.DoubleEndedIterator.next_back_gives _ _ c.in-None.ensures.hears;
+  may = c.in-None.ensures.goes;
+  hears = hears_none g.I.Iterator.next_gives _ _ c.in-None.ensures.hears;
 }
 
 pub loop-other-init : goal.loop-other-init
 loop-other-init g c = record {
   may = c.in-Some-Ok.ensures.goes;
-  drained = λ stops. drained_first stops (Holds stops g.I.Iterator.next_gives g.I.DoubleEndedIterator.next_back_gives) c.args.self.now.inner c.next.new.self c.in-Some-Ok.head (rw c.in-Some-Ok.field-0-is at (c.in-Some-Ok.ensures.deals stops));
-  hears = hears_head g.I.Iterator.next_gives g.I.DoubleEndedIterator.next_back_gives _ _ c.in-Some-Ok.head (rw c.in-Some-Ok.field-0-is at c.in-Some-Ok.ensures.hears);
+  hears = hears_head g.I.Iterator.next_gives _ _ c.in-Some-Ok.head (rw c.in-Some-Ok.field-0-is at c.in-Some-Ok.ensures.hears);
   fewer = c.in-Some-Ok.ensures.lowers;
 }
 
 pub returns-then-has_other_key-clause-steps : goal.returns-then-has_other_key-clause-steps
 returns-then-has_other_key-clause-steps g c = record {
-  answers = record {
-    may = rw c.put_front.ensures.source c.in-Some-Ok-next.ensures.goes;
-    gives = λ stops. drained_stop stops (Holds stops g.I.Iterator.next_gives g.I.DoubleEndedIterator.next_back_gives) c.args.self.now.inner c.loop-other.self.inner c.next-in-loop-other.new.self c.put_front.new.self c.loop-other.head c.in-Some-Ok-next.other (c.loop-other.invariant.drained stops) (rw c.in-Some-Ok-next.field-0-is at (c.in-Some-Ok-next.ensures.deals stops)) (keys_apart c.in-Some-Ok-next.other.user_key c.loop-other.head.user_key _ c.has_other_key.ensures c.if-has_other_key.true) (c.put_front.ensures.lists stops);
-  };
-  hears = hears_other g.I.Iterator.next_gives g.I.DoubleEndedIterator.next_back_gives _ _ _ _ c.loop-other.head c.in-Some-Ok-next.other c.loop-other.invariant.hears (rw c.in-Some-Ok-next.field-0-is at c.in-Some-Ok-next.ensures.hears) (keys_apart c.in-Some-Ok-next.other.user_key c.loop-other.head.user_key _ c.has_other_key.ensures c.if-has_other_key.true) c.put_front.ensures.puts;
+  may = rw c.put_front.ensures.source c.in-Some-Ok-next.ensures.goes;
+  hears = hears_other g.I.Iterator.next_gives _ _ _ c.loop-other.head c.loop-other.invariant.hears _ c.in-Some-Ok-next.other (rw c.in-Some-Ok-next.field-0-is at c.in-Some-Ok-next.ensures.hears) (keys_apart c.in-Some-Ok-next.other.user_key c.loop-other.head.user_key _ c.has_other_key.ensures c.if-has_other_key.true) c.put_front.ensures.puts;
 }
 
 pub loop-other-preserved : goal.loop-other-preserved
 loop-other-preserved g c = record {
   may = c.in-Some-Ok-next.ensures.goes;
-  drained = λ stops. drained_more stops (Holds stops g.I.Iterator.next_gives g.I.DoubleEndedIterator.next_back_gives) c.args.self.now.inner c.loop-other.self.inner c.next-in-loop-other.new.self c.loop-other.head c.in-Some-Ok-next.other (c.loop-other.invariant.drained stops) (rw c.in-Some-Ok-next.field-0-is at (c.in-Some-Ok-next.ensures.deals stops)) (keys_same c.in-Some-Ok-next.other.user_key c.loop-other.head.user_key _ c.has_other_key.ensures c.if-has_other_key.false);
-  hears = hears_version g.I.Iterator.next_gives g.I.DoubleEndedIterator.next_back_gives _ _ _ c.loop-other.head c.in-Some-Ok-next.other c.loop-other.invariant.hears (rw c.in-Some-Ok-next.field-0-is at c.in-Some-Ok-next.ensures.hears) (keys_same c.in-Some-Ok-next.other.user_key c.loop-other.head.user_key _ c.has_other_key.ensures c.if-has_other_key.false);
+  hears = hears_version g.I.Iterator.next_gives _ _ _ c.loop-other.head c.loop-other.invariant.hears c.in-Some-Ok-next.other (rw c.in-Some-Ok-next.field-0-is at c.in-Some-Ok-next.ensures.hears) (keys_same c.in-Some-Ok-next.other.user_key c.loop-other.head.user_key _ c.has_other_key.ensures c.if-has_other_key.false);
   fewer = omega (arith, c.in-Some-Ok-next.ensures.lowers, c.loop-other.invariant.fewer);
 }
 
 pub loop-other-preserved-else-has_other_key : goal.loop-other-preserved-else-has_other_key
 loop-other-preserved-else-has_other_key g c = record {
   may = c.in-Some-Ok-next.ensures.goes;
-  drained = λ stops. drained_more stops (Holds stops g.I.Iterator.next_gives g.I.DoubleEndedIterator.next_back_gives) c.args.self.now.inner c.loop-other.self.inner c.next-in-loop-other.new.self c.loop-other.head c.in-Some-Ok-next.other (c.loop-other.invariant.drained stops) (rw c.in-Some-Ok-next.field-0-is at (c.in-Some-Ok-next.ensures.deals stops)) (keys_same c.in-Some-Ok-next.other.user_key c.loop-other.head.user_key _ c.has_other_key.ensures c.if-has_other_key.false);
-  hears = hears_version g.I.Iterator.next_gives g.I.DoubleEndedIterator.next_back_gives _ _ _ c.loop-other.head c.in-Some-Ok-next.other c.loop-other.invariant.hears (rw c.in-Some-Ok-next.field-0-is at c.in-Some-Ok-next.ensures.hears) (keys_same c.in-Some-Ok-next.other.user_key c.loop-other.head.user_key _ c.has_other_key.ensures c.if-has_other_key.false);
+  hears = hears_version g.I.Iterator.next_gives _ _ _ c.loop-other.head c.loop-other.invariant.hears c.in-Some-Ok-next.other (rw c.in-Some-Ok-next.field-0-is at c.in-Some-Ok-next.ensures.hears) (keys_same c.in-Some-Ok-next.other.user_key c.loop-other.head.user_key _ c.has_other_key.ensures c.if-has_other_key.false);
   fewer = omega (arith, c.in-Some-Ok-next.ensures.lowers, c.loop-other.invariant.fewer);
 }
 
 pub returns-in-Some-Err-next-clause-steps : goal.returns-in-Some-Err-next-clause-steps
 returns-in-Some-Err-next-clause-steps g c = record {
-  answers = record {
-    may = c.in-Some-Err-next.ensures.goes;
-    gives = λ stops. drained_err stops (Holds stops g.I.Iterator.next_gives g.I.DoubleEndedIterator.next_back_gives) c.args.self.now.inner c.loop-other.self.inner c.next-in-loop-other.new.self c.loop-other.head c.in-Some-Err-next.error (c.loop-other.invariant.drained stops) (rw c.in-Some-Err-next.field-0-is at (c.in-Some-Err-next.ensures.deals stops));
-  };
-  hears = hears_error g.I.Iterator.next_gives g.I.DoubleEndedIterator.next_back_gives _ _ _ c.loop-other.head c.in-Some-Err-next.error c.loop-other.invariant.hears (rw c.in-Some-Err-next.field-0-is at c.in-Some-Err-next.ensures.hears);
+  may = c.in-Some-Err-next.ensures.goes;
+  hears = hears_error g.I.Iterator.next_gives _ _ _ c.loop-other.head c.loop-other.invariant.hears c.in-Some-Err-next.error (rw c.in-Some-Err-next.field-0-is at c.in-Some-Err-next.ensures.hears);
 }
 
 pub returns-in-None-next-clause-steps : goal.returns-in-None-next-clause-steps
 returns-in-None-next-clause-steps g c = record {
-  answers = record {
-    may = c.in-None-next.ensures.goes;
-    gives = λ stops. drained_end stops (Holds stops g.I.Iterator.next_gives g.I.DoubleEndedIterator.next_back_gives) c.args.self.now.inner c.loop-other.self.inner c.next-in-loop-other.new.self c.loop-other.head (c.loop-other.invariant.drained stops) (c.in-None-next.ensures.deals stops);
-  };
-  hears = hears_last g.I.Iterator.next_gives g.I.DoubleEndedIterator.next_back_gives _ _ _ c.loop-other.head c.loop-other.invariant.hears c.in-None-next.ensures.hears;
+  may = c.in-None-next.ensures.goes;
+  hears = hears_last g.I.Iterator.next_gives _ _ _ c.loop-other.head c.loop-other.invariant.hears c.in-None-next.ensures.hears;
 }
 
 pub returns-in-Some-Err-clause-goes : goal.returns-in-Some-Err-clause-goes

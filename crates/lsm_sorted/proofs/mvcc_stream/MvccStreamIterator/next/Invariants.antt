@@ -1,23 +1,21 @@
-use Rattle.sst_entries.specs.declared.error.Error.{Error}
-use Rattle.std.proofs.Common.{Bool, ◌<◌}
+use Rattle.std.proofs.Common.{◌<◌}
+use Rattle.std.specs.Prelude.{None}
 use Rattle.lsm_merge.specs.Ends.{Goes}
-use Rattle.lsm_sorted.specs.Peeked.{Holds, peeked_size}
+use Rattle.lsm_sorted.specs.Peeked.{peeked_size}
+use Rattle.sst_entries.specs.Stream.{nowhere}
 use Rattle.sst_entries.specs.declared.stream.Direction.TheVariants.{Front}
-use Rattle.lsm_sorted.specs.Outlook.{Relates}
+use Rattle.lsm_sorted.specs.Hears.{Hears}
 use Rattle.lsm_sorted.specs.Mvcc.{mvcc_outlook}
-use Rattle.lsm_sorted.proofs.MvccLemmas.{Drained}
-use Rattle.lsm_sorted.proofs.MvccHears.{Drawn}
+use Rattle.lsm_sorted.proofs.MvccLemmas.{Drawn}
 use Rattle.lsm_sorted.proofs.mvcc_stream.MvccStreamIterator.next.Given as goal
 
 abbrev pub invariant-loop-other : goal.invariant-loop-other
 invariant-loop-other g l =
     let front = g.I.Iterator.next_gives in
-    let back = g.I.DoubleEndedIterator.next_back_gives in
     let left = g.I.Iterator.remaining in
     record {
-      may : Goes front back g.I.Iterator.can_next g.I.DoubleEndedIterator.can_next_back left l.self.inner.source;
-      drained : (stops : Error → Bool) → Drained stops (Holds stops front back) l.fn.self.inner l.head l.self.inner;
-      hears : Relates front back Front (Drawn l.head) (mvcc_outlook l.fn.self) (mvcc_outlook l.self);
+      may : Goes front nowhere g.I.Iterator.can_next g.I.Iterator.can_next left l.self.inner.source;
+      hears : Hears front Front None (Drawn l.head) (mvcc_outlook l.fn.self) (mvcc_outlook l.self);
       fewer : peeked_size left l.self.inner < peeked_size left l.fn.self.inner;
     }
 

@@ -1,0 +1,53 @@
+use Rattle.lsm_merge.specs.MergeLaws.{every_error}
+use Rattle.lsm_merge.specs.Union.{merged}
+use Rattle.lsm_merge.proofs.UnionLemmas.{merged_union}
+use Rattle.lsm_sorted.proofs.GapLemmas.{merges_up_to_gap}
+use Rattle.lsm_sorted.proofs.NewestPast.{answers_newest, merger_read, starts_read}
+use Rattle.lsm_sorted.proofs.newest.newest_from_both_ends.Goals as goal
+
+pub returns-clause-deals : goal.returns-clause-deals
+returns-clause-deals g c its h =
+    let m = c.source.result.now in
+    let of = merger_read its c.args.stream.now m c.source.ensures h in
+    let starts = starts_read its c.args.stream.now m c.source.ensures h in
+    record {
+      deals = λ stops lists sorted none.
+          (c.from_both_ends-2.ensures.newest m starts).deals stops (merged lists) (merged_union lists).ascends ((c.from_both_ends.ensures.deals its of).deals stops lists sorted none);
+    }
+
+pub returns-clause-until : goal.returns-clause-until
+returns-clause-until g c its h =
+    let m = c.source.result.now in
+    let of = merger_read its c.args.stream.now m c.source.ensures h in
+    let starts = starts_read its c.args.stream.now m c.source.ensures h in
+    record {
+      deals = λ stops lists sorted.
+          (c.from_both_ends-2.ensures.newest m starts).deals every_error (merged lists) (merged_union lists).ascends ((c.from_both_ends.ensures.before its of).deals stops lists sorted);
+    }
+
+pub returns-clause-past : goal.returns-clause-past
+returns-clause-past g c its h =
+    let m = c.source.result.now in
+    let of = merger_read its c.args.stream.now m c.source.ensures h in
+    let starts = starts_read its c.args.stream.now m c.source.ensures h in
+    answers_newest g.I.Iterator.next_gives g.I.DoubleEndedIterator.next_back_gives its _ _ m _ _ c.args.stream.now
+    (merges_up_to_gap g.I.Iterator.next_gives g.I.DoubleEndedIterator.next_back_gives its _ _ m (c.from_both_ends.ensures.before its of) (c.from_both_ends.ensures.until its of) c.from_both_ends.ensures.ends)
+    (c.from_both_ends-2.ensures.heard m starts)
+
+pub returns-clause-over : goal.returns-clause-over
+returns-clause-over g c its h =
+    let m = c.source.result.now in
+    let of = merger_read its c.args.stream.now m c.source.ensures h in
+    record {
+      of = record { source = m; starts = starts_read its c.args.stream.now m c.source.ensures h; of = of };
+      until = c.from_both_ends.ensures.until its of;
+      late = c.from_both_ends.ensures.late its of;
+      ends = c.from_both_ends.ensures.ends;
+    }
+
+pub returns-clause-can : goal.returns-clause-can
+returns-clause-can g c its h =
+    let m = c.source.result.now in
+    let of = merger_read its c.args.stream.now m c.source.ensures h in
+    let starts = starts_read its c.args.stream.now m c.source.ensures h in
+    record { asks = λ can ends. (c.from_both_ends-2.ensures.can m starts).asks ((c.from_both_ends.ensures.can its of).asks can ends) tt }

@@ -1,0 +1,37 @@
+-- Calls by what their source gave in them, whatever it gives, and the errors among it.
+use Rattle.std.specs.Prelude.{◌≡◌, Bool, true, false, List, [], ◌∷◌, Option}
+use Rattle.sst_entries.specs.declared.stream.Direction.{Direction}
+use Rattle.sst_entries.specs.declared.error.Error.{Error}
+use Rattle.sst_entries.specs.Stream.{Runs, NoneStops, stopped, deal}
+use Rattle.lsm_merge.specs.declared.ends.Ends.{Ends}
+use Rattle.lsm_merge.specs.Ends.{R}
+use Rattle.lsm_sorted.specs.Outlook.{Outlook, list_of, MayGive, results_in, with_rest, is_over, StopsAtNone}
+
+module _ {S : Type 0} (ask : S → Option R → S → Type 0) where
+  -- calls of an iterator gave these answers one after another
+  abbrev pub GaveEach : S → List (Option R) → S → Type 0
+  GaveEach s [] t = s ≡ t
+  GaveEach s (r ∷ rs) t = (j : S) × ask s r j × GaveEach j rs t
+
+  -- the same of a source that is left alone once it has ended
+  pub record Gave (s : Ends S) (answers : List (Option R)) (t : Ends S) : Type 0 where
+    pub each : GaveEach s.iter answers t.iter
+    pub over : t.done ≡ is_over s.done answers
+    pub once : StopsAtNone s.done answers
+
+  -- a call that asked its source at this end, answered r and led from s to t: P relates what was to come to what is still to
+  -- come, whatever the source still gives, and no error that the source gave is kept from the caller
+  pub record Hears (end : Direction) (r : Option R) (P : List R → List R → Type 0) (s t : Outlook S) : Type 0 where
+    pub answers : List (Option R)
+    pub gave : Gave s.source answers t.source
+    pub told : (stops : Error → Bool) → stopped stops r ≡ false → NoneStops (stopped stops) answers
+    pub holds : (rest : List R) → MayGive t.source.done rest → P (list_of s (with_rest end (results_in answers) rest)) (list_of t rest)
+
+-- a source was asked, and not again once it gave `None`: P holds of every list that deals what it answered
+pub record Heard {S : Type 0} (front back : S → Option R → S → Type 0) (source : S) (P : List R → Type 0) : Type 0 where
+  pub ends : List Direction
+  pub answers : List (Option R)
+  pub led : S
+  pub runs : Runs front back source ends answers led
+  pub once : StopsAtNone false answers
+  pub holds : (xs : List R) → answers ≡ deal xs ends → P xs
