@@ -9,7 +9,7 @@ ghost use Rattle.lsm_sorted.specs.Compaction.{kept, unfiltered};
 ghost use Rattle.lsm_sorted.specs.CompactionState.{rules_of};
 ghost use Rattle.lsm_sorted.specs.Gap.{GivesUpToGap};
 
-use crate::merging_front::sources_of;
+use crate::merging_front::{Source, sources_of};
 use crate::words::text_of;
 use lsm_sorted::compaction::stream::{CompactionStream, NoCallback, NoFilter};
 use lsm_sorted::{Merger, up_to_gap};
@@ -43,7 +43,8 @@ fn compaction_of<I: Iterator<Item = IterItem<A>>, A: Allocator + Clone>(
 
 // What readers at 5 need of the sources that a text spells, each up to a `/`.
 fn compacted(alloc: Global, sources: &str) -> Result<String, Error> {
-    let mut stream = compaction_of(alloc, sources_of(alloc, sources)?, 5)?;
+    let merger = Merger::new(alloc, sources_of(alloc, sources)?)?;
+    let mut stream = CompactionStream::new(merger, 5);
     let mut answers = Vec::new(alloc);
     while let Some(item) = stream.next() {
         answers.push(Some(item))?;
@@ -69,5 +70,7 @@ fn compacts_several_sources_up_to_an_error(rt: HostRuntime) -> Result<(), Fail> 
             "{sources}"
         );
     }
+    let composed = compaction_of(rt.alloc(), Vec::<Source>::new(rt.alloc()), 5);
+    assert!(rt; composed.is_ok());
     Ok(())
 }
