@@ -11,6 +11,8 @@ mod merging;
 #[cfg(test)]
 mod merging_front;
 #[cfg(test)]
+mod merging_laws;
+#[cfg(test)]
 mod newest;
 #[cfg(test)]
 mod streams;
