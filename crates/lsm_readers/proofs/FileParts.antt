@@ -28,11 +28,11 @@ use Rattle.lsm_files.specs.Index.{handles, data_block, data_section}
 use Rattle.lsm_files.specs.MetaBlock.{meta_entries}
 use Rattle.lsm_files.specs.Options.{Options, Label}
 use Rattle.lsm_files.specs.Fits.{EntryFits, BlockFits, Fits}
-use Rattle.lsm_readers.specs.Parts.{Parts, parts_told, recovered_told}
+use Rattle.lsm_readers.specs.Parts.{Parts, PinnedIndex, full, parts_told, places_told, recovered_told}
 use Rattle.lsm_readers.proofs.ChunkReads.{AreSome, length-block}
 use Rattle.lsm_readers.proofs.FileLengths.{last_fits, last_some, after_within, lowest_fits, highest_below, section_wide, chunk_reads, index_reads}
 use Rattle.lsm_readers.specs.declared.regions.ParsedRegions.{ParsedRegions}
-use Rattle.lsm_readers.specs.Load.{meta_told}
+use Rattle.lsm_readers.specs.Meta.{meta_told}
 use Rattle.lsm_readers.specs.Parts.{index_told}
 use Rattle.lsm_readers.specs.Regions.{regions_told}
 use Rattle.std.proofs.lemmas.List.Concat.{flat_map-append}
@@ -92,12 +92,12 @@ meta_short v label options cs fits =
     omega (arith, meta_length v label options cs counted_blocks, first_short v (joined cs) fits.entries, last_short v (joined cs) fits.entries, longest_below v)
 
 abbrev written_parts : TableVersion → Label → Options → List (List Entry) → Parts
-written_parts v label options cs = record { facts = written_facts v label cs counted_blocks; regions = the_regions v label options cs; index = handles v cs }
+written_parts v label options cs = record { facts = written_facts v label cs counted_blocks; regions = the_regions v label options cs; index = full (handles v cs) }
 
 parts_eta : (p q : Parts) → p.facts ≡ q.facts → p.regions ≡ q.regions → p.index ≡ q.index → p ≡ q
 parts_eta p q f r i =
-    let made : Facts → ParsedRegions → List Handle → Parts = λ f r i. record { facts = f; regions = r; index = i } in
-    ap (λ (x : Facts). made x p.regions p.index) f ∙ ap (λ (x : ParsedRegions). made q.facts x p.index) r ∙ ap (λ (x : List Handle). made q.facts q.regions x) i
+    let made : Facts → ParsedRegions → PinnedIndex → Parts = λ f r i. record { facts = f; regions = r; index = i } in
+    ap (λ (x : Facts). made x p.regions p.index) f ∙ ap (λ (x : ParsedRegions). made q.facts x p.index) r ∙ ap (λ (x : PinnedIndex). made q.facts q.regions x) i
 
 module _ (v : TableVersion) (label : Label) (options : Options) (cs : List (List Entry))
     (short : length (finished (w v label options cs)) < 2 ^ 63) (some : AreSome cs) (strict : IsStrict (joined cs)) (fits : Fits v label cs) where
@@ -110,13 +110,13 @@ module _ (v : TableVersion) (label : Label) (options : Options) (cs : List (List
   data_short : length (data_section v cs) < 2 ^ 63
   data_short = omega (arith, body_short, length-body v label options cs)
 
-  regions_here : regions_told (map (section_in the_bytes) section_names) ≡ Ok (the_regions v label options cs)
+  regions_here : places_told the_bytes ≡ Ok (the_regions v label options cs)
   regions_here =
       let index = length-block v Index (handles_payload v (handles v cs)) in
       let meta = length-block v Meta (payload v (meta_entries v label options cs counted_blocks)) in
       regions_read v label options cs (omega (arith, body_short)) (omega (arith, index, fits.index)) (omega (arith, meta, meta_short v label options cs fits))
 
-  index_here : index_told (body_of the_bytes) (the_regions v label options cs) ≡ Ok (handles v cs)
+  index_here : index_told (body_of the_bytes) (the_regions v label options cs) ≡ Ok (full (handles v cs))
   index_here = index_read v label options cs (omega (arith, fits.index)) (index_reads v cs (omega (arith, data_short)) some strict fits.entries fits.blocks fits.index)
 
   items_here : meta_told (body_of the_bytes) (the_regions v label options cs).metadata ≡ facts_told (meta_entries v label options cs counted_blocks)
@@ -143,7 +143,7 @@ module _ (v : TableVersion) (label : Label) (options : Options) (cs : List (List
     the_steps = steps the_bytes g parts told
 
     pub regions_are : parts.regions ≡ the_regions v label options cs
-    regions_are = ok_same (regions_told (map (section_in the_bytes) section_names)) parts.regions (the_regions v label options cs) (the_steps.regions) regions_here
+    regions_are = ok_same (places_told the_bytes) parts.regions (the_regions v label options cs) (the_steps.regions) regions_here
 
     items_told : meta_told (body_of the_bytes) (the_regions v label options cs).metadata ≡ Ok parts.facts
     items_told = ap (λ (r : ParsedRegions). meta_told (body_of the_bytes) r.metadata) (sym regions_are) ∙ the_steps.facts
@@ -154,10 +154,10 @@ module _ (v : TableVersion) (label : Label) (options : Options) (cs : List (List
     pub facts_are : parts.facts ≡ written_facts v label cs counted_blocks
     facts_are = ok_same (meta_told (body_of the_bytes) (the_regions v label options cs).metadata) parts.facts (written_facts v label cs counted_blocks) items_told (facts_here interval_is)
 
-    pub index_is : parts.index ≡ handles v cs
+    pub index_is : parts.index ≡ full (handles v cs)
     index_is =
         let e = ap (λ (r : ParsedRegions). index_told (body_of the_bytes) r) regions_are in
-        ok_same (index_told (body_of the_bytes) parts.regions) parts.index (handles v cs) (the_steps.index) (e ∙ index_here)
+        ok_same (index_told (body_of the_bytes) parts.regions) parts.index (full (handles v cs)) (the_steps.index) (e ∙ index_here)
 
     pub parts_are : parts ≡ written_parts v label options cs
     parts_are = parts_eta parts (written_parts v label options cs) facts_are regions_are index_is
@@ -170,7 +170,7 @@ some_chunks size spills at (c ∷ cs) h = ((h.0).some, some_chunks size spills (
 -- ---- a table of a list
 
 abbrev parts_by : TableVersion → Label → Options → List (List Entry) → List Entry → Parts
-parts_by v label options cs es = record { facts = facts_said v label es (length cs) (length (data_section v cs)); regions = regions_said v label options cs; index = handles v cs }
+parts_by v label options cs es = record { facts = facts_said v label es (length cs) (length (data_section v cs)); regions = regions_said v label options cs; index = full (handles v cs) }
 
 module _ (stored : List ℕ) (es : List Entry) (t : IsTable stored es) (short : length stored < 2 ^ 63) where
   abbrev v : TableVersion

@@ -3,7 +3,7 @@ use Rattle.std.proofs.Common.{◌≡◌, ℕ, ◌+◌, ◌-◌, ◌^◌, ◌<◌
 use Rattle.std.specs.Prelude.{Option, Some, None, Result, Ok, Err, find, unwrap_or, is_some, ◌&&◌}
 use Rattle.std.specs.List.{AllByRecursion}
 use Rattle.std.specs.Option.{option_map}
-use Rattle.std.proofs.lemmas.Bool.{cases_lt, lt-ltb, le-ltb, leb-true}
+use Rattle.std.proofs.lemmas.Bool.{cases_lt, lt-ltb, le-ltb, ltb-false}
 use Rattle.std.proofs.lemmas.List.Sums.{count_by-le-length}
 use Rattle.sst_sections.specs.declared.version.TableVersion.{TableVersion}
 use Rattle.sst_sections.specs.declared.version.TableVersion.TheVariants.{V3, V4}
@@ -27,14 +27,15 @@ use Rattle.lsm_files.specs.File.{counted_blocks, IsFile}
 use Rattle.lsm_files.specs.Index.{handles, data_block, data_section}
 use Rattle.lsm_files.specs.MetaBlock.{meta_entries}
 use Rattle.lsm_files.specs.Options.{Options, Label}
-use Rattle.lsm_readers.specs.Answer.{lifted, lift, read_told, answer_told}
+use Rattle.lsm_readers.specs.Answer.{lifted, lift, match_in, handle_for, answer}
+use Rattle.lsm_readers.specs.Read.{◌>>=◌}
 use Rattle.lsm_files.specs.Fits.{EntryFits, BlockFits, Fits}
-use Rattle.lsm_readers.specs.Parts.{Parts, recovered_told}
+use Rattle.lsm_readers.specs.Parts.{Parts, full, recovered_told}
 use Rattle.lsm_readers.proofs.ChunkReads.{AreSome, ReadsChunk, ReadsBy, chunk_read, length-block, strict_front, strict_after}
 use Rattle.lsm_readers.proofs.FileLengths.{chunk_reads}
 use Rattle.sst_entries.proofs.Lists.{all_front, all_behind}
 use Rattle.lsm_readers.specs.declared.regions.ParsedRegions.{ParsedRegions}
-use Rattle.lsm_readers.specs.Load.{meta_told}
+use Rattle.lsm_readers.specs.Meta.{meta_told}
 use Rattle.lsm_readers.specs.Parts.{index_told}
 use Rattle.lsm_readers.specs.Regions.{regions_told}
 use Rattle.std.proofs.lemmas.List.Concat.{flat_map-append}
@@ -95,7 +96,7 @@ module _ (v : TableVersion) (label : Label) (options : Options) (cs : List (List
   facts_here : parts.facts ≡ written_facts v label cs counted_blocks
   facts_here = facts_are v label options cs short some strict fits g parts told
 
-  index_here : parts.index ≡ handles v cs
+  index_here : parts.index ≡ full (handles v cs)
   index_here = index_is v label options cs short some strict fits g parts told
 
   -- the block of a chunk is loaded by its handle
@@ -120,7 +121,7 @@ module _ (v : TableVersion) (label : Label) (options : Options) (cs : List (List
   block_fits (b ∷ before) behind c h = block_fits before behind c h.1
 
   -- the read of a chunk by its handle
-  chunk_told : (key : List ℕ) (bound : ℕ) (h : Handle) → ReadsChunk v 0 cs key (bound - g) h → read_told (body_of the_bytes) g key bound (Some h) ≡ Ok (option_map (lifted g) (find (is_hit key (bound - g)) (joined cs)))
+  chunk_told : (key : List ℕ) (bound : ℕ) (h : Handle) → ReadsChunk v 0 cs key (bound - g) h → (match_in (body_of the_bytes) g key (bound - g) (Some h)).told ≡ Ok (option_map (lifted g) (find (is_hit key (bound - g)) (joined cs)))
   unfolding point
   chunk_told key bound h r =
       let c = r.chunk in
@@ -132,26 +133,28 @@ module _ (v : TableVersion) (label : Label) (options : Options) (cs : List (List
       let from : 0 + length (data_section v r.before) ≡ length (data_section v r.before) = omega arith in
       rw (r.handle, from, loaded, reads, r.answer) refl
 
-  by_chunks : (key : List ℕ) (bound : ℕ) (o : Option Handle) → ReadsBy v 0 cs key (bound - g) o → read_told (body_of the_bytes) g key bound o ≡ Ok (option_map (lifted g) (find (is_hit key (bound - g)) (joined cs)))
+  by_chunks : (key : List ℕ) (bound : ℕ) (o : Option Handle) → ReadsBy v 0 cs key (bound - g) o → (match_in (body_of the_bytes) g key (bound - g) o).told ≡ Ok (option_map (lifted g) (find (is_hit key (bound - g)) (joined cs)))
   by_chunks key bound None none = rw none refl
   by_chunks key bound (Some h) r = chunk_told key bound h r
 
-  low_or_read : (key : List ℕ) (bound : ℕ) (low : Bool) → leb (bound - g) (lowest_seqno (joined cs)) ≡ low → read_told (body_of the_bytes) g key bound (cond low None (find (reaches key (bound - g)) (handles v cs))) ≡ Ok (option_map (lifted g) (find (is_hit key (bound - g)) (joined cs)))
-  low_or_read key bound true e = rw (none_low (joined cs) key (bound - g) (leb-true _ _ e)) refl
-  low_or_read key bound false e = by_chunks key bound (find (reaches key (bound - g)) (handles v cs)) (chunk_read v 0 None cs key (bound - g) some strict)
+  low_or_read : (key : List ℕ) (bound : ℕ) (high : Bool) → ltb (lowest_seqno (joined cs)) (bound - g) ≡ high
+      → ((handle_for (body_of the_bytes) (full (handles v cs)) key (bound - g) high).told >>= λ o. (match_in (body_of the_bytes) g key (bound - g) o).told)
+      ≡ Ok (option_map (lifted g) (find (is_hit key (bound - g)) (joined cs)))
+  low_or_read key bound false e = rw (none_low (joined cs) key (bound - g) (ltb-false _ _ e)) refl
+  low_or_read key bound true e = by_chunks key bound (find (reaches key (bound - g)) (handles v cs)) (chunk_read v 0 None cs key (bound - g) some strict)
 
   lifted_point : (key : List ℕ) (bound : ℕ) → point (lift (joined cs) g) key bound ≡ option_map (lifted g) (find (is_hit key (bound - g)) (joined cs))
   unfolding point
   lifted_point key bound = point_lifted (joined cs) g key bound
 
   -- a point read answers the first match, its number with the global number added
-  pub answers : (key : List ℕ) (bound : ℕ) → answer_told (body_of the_bytes) g parts key bound ≡ Ok (point (lift (joined cs) g) key bound)
-  unfolding answer_told
+  pub answers : (key : List ℕ) (bound : ℕ) → (answer (body_of the_bytes) g parts key bound).told ≡ Ok (point (lift (joined cs) g) key bound)
+  unfolding answer
   answers key bound =
       let seen : option_map (lifted g) (find (is_hit key (bound - g)) (joined cs)) ≡ point (lift (joined cs) g) key bound = sym (lifted_point key bound) in
-      rw (facts_here, index_here) (low_or_read key bound (leb (bound - g) (lowest_seqno (joined cs))) refl ∙ ap (λ (o : Option Entry). Ok o) seen)
+      rw (facts_here, index_here) (low_or_read key bound (ltb (lowest_seqno (joined cs)) (bound - g)) refl ∙ ap (λ (o : Option Entry). Ok o) seen)
 
-pub file_answers : (stored : List ℕ) (es : List Entry) (t : IsTable stored es) (g : ℕ) (parts : Parts) → length stored < 2 ^ 63 → recovered_told stored g ≡ Ok parts → (key : List ℕ) (bound : ℕ) → answer_told (body_of stored) g parts key bound ≡ Ok (point (lift es g) key bound)
+pub file_answers : (stored : List ℕ) (es : List Entry) (t : IsTable stored es) (g : ℕ) (parts : Parts) → length stored < 2 ^ 63 → recovered_told stored g ≡ Ok parts → (key : List ℕ) (bound : ℕ) → (answer (body_of stored) g parts key bound).told ≡ Ok (point (lift es g) key bound)
 file_answers stored es t g parts short told key bound =
     let v = t.version in
     let label = t.label in
@@ -162,6 +165,6 @@ file_answers stored es t g parts short told key bound =
     let told_file : recovered_told (finished (w v label options cs)) g ≡ Ok parts = subst (λ (b : List ℕ). recovered_told b g ≡ Ok parts) f.are told in
     let line : IsStrict (joined cs) = subst IsStrict (sym (f.chunks).whole) t.strict in
     let some = some_chunks options.data_block_size t.spills 0 cs (f.chunks).each in
-    ap (λ (b : List ℕ). answer_told (body_of b) g parts key bound) f.are
+    ap (λ (b : List ℕ). (answer (body_of b) g parts key bound).told) f.are
     ∙ answers v label options cs g parts short_file some line t.fits told_file key bound
     ∙ ap (λ (xs : List Entry). Ok (point (lift xs g) key bound)) (f.chunks).whole

@@ -23,10 +23,10 @@ use Rattle.lsm_files.specs.MetaBlock.{meta_entries, version_number}
 use Rattle.lsm_files.specs.Options.{Options, Label}
 use Rattle.lsm_readers.specs.declared.regions.ParsedRegions.{ParsedRegions}
 use Rattle.lsm_readers.specs.Regions.{regions_told, section_named}
-use Rattle.lsm_readers.specs.Load.{meta_told}
+use Rattle.lsm_readers.specs.Meta.{meta_told}
 use Rattle.lsm_readers.specs.Meta.{facts_told}
 use Rattle.lsm_readers.specs.OfList.{regions_said}
-use Rattle.lsm_readers.specs.Parts.{index_told}
+use Rattle.lsm_readers.specs.Parts.{full, index_told}
 use Rattle.lsm_readers.proofs.ChunkReads.{length-block}
 
 module _ (v : TableVersion) (label : Label) (options : Options) (cs : List (List Entry)) where
@@ -117,7 +117,7 @@ module _ (v : TableVersion) (label : Label) (options : Options) (cs : List (List
       ap (λ (n : ℕ). load_told (body_of (finished w)) (length the_data + length the_index + 1) n Meta) size
       ∙ written_loads v Meta pre m [] (body_of (finished w)) (length the_data + length the_index + 1) short (ap is_some reads) at whole
 
-  pub index_read : length (handles_payload v (handles v cs)) < 2 ^ 32 → handles_in v (handles_payload v (handles v cs)) ≡ Some (handles v cs) → index_told (body_of (finished w)) the_regions ≡ Ok (handles v cs)
+  pub index_read : length (handles_payload v (handles v cs)) < 2 ^ 32 → handles_in v (handles_payload v (handles v cs)) ≡ Some (handles v cs) → index_told (body_of (finished w)) the_regions ≡ Ok (full (handles v cs))
   index_read short reads = rw (index_at short reads, reads) refl
 
   pub meta_items_read : length (payload v (meta_entries v label options cs counted_blocks)) < 2 ^ 32 → entries_in v (payload v (meta_entries v label options cs counted_blocks)) ≡ Some (meta_entries v label options cs counted_blocks) → meta_told (body_of (finished w)) the_regions.metadata ≡ facts_told (meta_entries v label options cs counted_blocks)

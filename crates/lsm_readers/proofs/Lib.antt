@@ -1,4 +1,4 @@
-pub mod Told
+pub mod Steps
 pub mod Loads
 pub mod Points
 pub mod Recovered

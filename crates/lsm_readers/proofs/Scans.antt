@@ -18,7 +18,7 @@ use Rattle.sst_entries.specs.Stream.{Answers, Deals, CanDeal, first, but_first, 
 use Rattle.sst_entries.proofs.StreamLemmas.{head_eq, deals_by, can_by}
 use Rattle.lsm_readers.specs.Answer.{lifted}
 use Rattle.lsm_readers.specs.Scan.{IsEnded, Scan, ScanHas, ScansNext, TakesEntry, behind, block_told, blocks_told, ended, entries_from, entries_told, fault_of, lifted_told, loads, loads_behind, loads_from, loads_of, scan_left, scan_size, scan_told, then_blocks, unless_left, up_to_error}
-use Rattle.lsm_readers.specs.Told.{◌>>=◌}
+use Rattle.lsm_readers.specs.Read.{◌>>=◌}
 
 abbrev R : Type 0
 R = Result Entry Error

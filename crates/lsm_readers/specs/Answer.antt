@@ -1,18 +1,17 @@
--- A point read of a table: which block it rests on, and what it answers, for any bytes.
-use Rattle.std.specs.Prelude.{◌≡◌, ℕ, ◌+◌, ◌-◌, nat_le, List, map, find, Option, Some, None, Result, Ok, Err, if◌then◌else◌}
+-- A point read of a table, over any bytes: the key is admitted, its data block is found, and the block is read.
+use Rattle.std.specs.Prelude.{ℕ, ◌+◌, ◌-◌, nat_lt, Bool, true, false, List, map, find, Option, Some, None}
 use Rattle.std.specs.Option.{option_map}
 use Rattle.sst_blocks.specs.declared.block_type.BlockType.TheVariants.{Data}
-use Rattle.sst_entries.specs.declared.error.Error.{Error}
-use Rattle.sst_blocks.specs.declared.opened.Opened.{Opened}
-use Rattle.sst_blocks.specs.Block.{load_told, place_fault, entries_of}
+use Rattle.sst_blocks.specs.Block.{entries_of}
 use Rattle.sst_entries.specs.Entry.{Entry}
 use Rattle.sst_blocks.specs.Handle.{Handle}
 use Rattle.sst_blocks.specs.Handles.{reaches}
-use Rattle.sst_blocks.specs.Opened.{counted}
 use Rattle.sst_blocks.specs.Place.{Place, place_of}
 use Rattle.sst_entries.specs.Point.{point}
-use Rattle.lsm_readers.specs.Parts.{Parts}
-use Rattle.lsm_readers.specs.Told.{◌>>=◌}
+use Rattle.lsm_readers.specs.Parts.{Parts, PinnedIndex, full}
+use Rattle.lsm_readers.specs.Table.{OpenTable}
+use Rattle.sst_sections.specs.Sections.{body_of}
+use Rattle.lsm_readers.specs.Read.{Read, known, block_read, read_map, read_then}
 
 -- an entry, and a list, with the global number added to its stored number
 abbrev pub lifted : ℕ → Entry → Entry
@@ -21,28 +20,35 @@ lifted g e = record e { seqno = e.seqno + g }
 abbrev pub lift : List Entry → ℕ → List Entry
 lift es g = map (lifted g) es
 
--- the handle of the one data block that a point read rests on: the first that reaches the key at the bound, less the global number; none where no stored number is below
-abbrev pub handle_for : Parts → ℕ → List ℕ → ℕ → Option Handle
-handle_for parts g key bound = if nat_le (bound - g) parts.facts.seqno_min then None else find (reaches key (bound - g)) parts.index
+-- whether a key may have an entry below a bound: a stored number is below it, and there is no filter that could say no
+abbrev pub admission : List ℕ → Parts → List ℕ → ℕ → Read Bool
+admission body parts key bound = known (nat_lt parts.facts.seqno_min bound)
 
--- what the block at a place answers, and what the block of a handle does
-abbrev pub read_at : List ℕ → ℕ → List ℕ → ℕ → Place → Result (Option Entry) Error
-read_at body g key bound place = load_told body place.offset place.size Data >>= λ block. Ok (option_map (lifted g) (point (entries_of block) key (bound - g)))
+-- the handle of the first data block that reaches a key at a bound, by what of the index stays loaded
+abbrev pub pinned_handle : PinnedIndex → List ℕ → ℕ → Option Handle
+pinned_handle (full handles) key bound = find (reaches key bound) handles
 
-abbrev pub read_told : List ℕ → ℕ → List ℕ → ℕ → Option Handle → Result (Option Entry) Error
-read_told body g key bound None = Ok None
-read_told body g key bound (Some h) = read_at body g key bound (place_of h)
+-- the same as a read, of a key that is admitted
+abbrev pub handle_for : List ℕ → PinnedIndex → List ℕ → ℕ → Bool → Read (Option Handle)
+handle_for body index key bound false = known None
+handle_for body index key bound true = known (pinned_handle index key bound)
 
--- what a point read answers over the bytes before the trailer
-unfoldable pub answer_told : List ℕ → ℕ → Parts → List ℕ → ℕ → Result (Option Entry) Error
-answer_told body g parts key bound = read_told body g key bound (handle_for parts g key bound)
+-- the first match in the block at a place, its number lifted
+abbrev pub match_at : List ℕ → ℕ → List ℕ → ℕ → Place → Read (Option Entry)
+match_at body g key bound place =
+    read_map (λ block. option_map (lifted g) (point (entries_of block) key bound)) (block_read body place Data)
 
--- one data block where there is a handle, and nothing else
-abbrev pub opened_by : Option Handle → Opened → Opened
-opened_by None o = o
-opened_by (Some h) o = counted Data o
+-- the same of a handle, where there is one
+abbrev pub match_in : List ℕ → ℕ → List ℕ → ℕ → Option Handle → Read (Option Entry)
+match_in body g key bound None = known None
+match_in body g key bound (Some h) = match_at body g key bound (place_of h)
 
--- the fault of a point read that is found before its block's payload is tested, and so before memory is taken
-abbrev pub fault_at : List ℕ → Option Handle → Option Error
-fault_at body None = None
-fault_at body (Some h) = place_fault body h.offset h.size Data
+-- a point read over the bytes before the trailer; stored numbers are compared with the bound less the global number
+unfoldable pub answer : List ℕ → ℕ → Parts → List ℕ → ℕ → Read (Option Entry)
+answer body g parts key bound =
+    let low = bound - g in
+    read_then (read_then (admission body parts key low) (handle_for body parts.index key low)) (match_in body g key low)
+
+-- a point read of an opened table
+abbrev pub table_answer : OpenTable → List ℕ → ℕ → Read (Option Entry)
+table_answer t key bound = answer (body_of t.bytes) t.global_seqno t.parts key bound

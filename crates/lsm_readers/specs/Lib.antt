@@ -1,12 +1,8 @@
-pub mod Told
+pub mod Read
 pub mod Regions
 pub mod Meta
-pub mod Load
 pub mod Parts
-pub mod Seen
+pub mod Table
 pub mod Answer
-pub mod TableSeen
-pub mod Handled
 pub mod OfList
 pub mod Scan
-pub mod Range

@@ -1,6 +1,9 @@
 -- What a meta block tells of its table, item by item, or the first fault.
 use Rattle.std.specs.Prelude.{ℕ, ◌-◌, ◌^◌, ◌==◌, ◌||◌, nat_lt, nat_eq, List, [], ◌∷◌, length, slice_index, Option, Some, None, Result, Ok, Err, if◌then◌else◌}
 use Rattle.std.specs.Cmp.Lexicographic.{pointwise}
+use Rattle.sst_blocks.specs.declared.block_type.BlockType.TheVariants.{Meta}
+use Rattle.sst_blocks.specs.Block.{load_told, entries_of}
+use Rattle.sst_blocks.specs.Place.{Place}
 use Rattle.sst_entries.specs.declared.error.Error.{Error}
 use Rattle.sst_entries.specs.declared.error.Error.TheVariants.{MetaKeyMissing, InvalidMetaValue, UnsupportedTableVersion, UnsupportedHashType, UnsupportedChecksumType, UnsupportedIndexInterval, UnsupportedCompression}
 use Rattle.sst_entries.specs.Entry.{Entry}
@@ -10,7 +13,7 @@ use Rattle.lsm_ranges.specs.KeyRange.{Interval, interval}
 use Rattle.lsm_files.specs.ItemName.{name_of}
 use Rattle.lsm_files.specs.declared.item_name.ItemName.{ItemName}
 use Rattle.lsm_files.specs.declared.item_name.ItemName.TheVariants.{BlockCountData, BlockCountFilter, BlockCountIndex, ChecksumType, CompressionData, CompressionIndex, CreatedAt, FileSize, FilterHashType, ItemCount, KeyMax, KeyMin, RestartIntervalIndex, SeqnoMax, SeqnoMin, TableId, TableVersion, TombstoneCount, WeakTombstoneCount, WeakTombstoneReclaimable}
-use Rattle.lsm_readers.specs.Told.{◌>>=◌}
+use Rattle.lsm_readers.specs.Read.{◌>>=◌}
 
 -- what a table says of itself
 pub record Facts : Type 0 where
@@ -50,7 +53,8 @@ u64_told es name = item_told es name >>= number8_told
 
 -- an item that has to be one byte, else a fault
 unfoldable pub byte_told : List Entry → ItemName → ℕ → Error → Result (Unit {0}) Error
-byte_told es name byte fault = item_told es name >>= λ value. if pointwise nat_eq value (byte ∷ []) then Ok tt else Err fault
+byte_told es name byte fault = item_told es name >>= λ value.
+    if pointwise nat_eq value (byte ∷ []) then Ok tt else Err fault
 
 -- an item whose first byte has to be this one, else a fault
 unfoldable pub first_told : List Entry → ItemName → ℕ → Error → Result (Unit {0}) Error
@@ -61,7 +65,8 @@ first_told es name byte fault = item_told es name >>= λ value.
 -- the version, one byte, 3 or 4
 unfoldable pub version_told : List Entry → Result ℕ Error
 version_told es = item_told es TableVersion >>= λ value.
-    if pointwise nat_eq value (3 ∷ []) || pointwise nat_eq value (4 ∷ []) then Ok (slice_index value 0) else Err UnsupportedTableVersion
+    if pointwise nat_eq value (3 ∷ []) || pointwise nat_eq value (4 ∷ []) then Ok (slice_index value 0)
+    else Err UnsupportedTableVersion
 
 -- the hash, the checksum and the index have to be those that are known
 unfoldable pub kinds_told : List Entry → Result (Unit {0}) Error
@@ -113,4 +118,23 @@ facts_told es =
     keys_told es >>= λ key_range.
     seqnos_told es >>= λ seqnos.
     compressions_told es >>= λ _.
-    Ok (record { table_version = table_version; id = table.0; created_at = created_at; data_block_count = blocks.0; index_block_count = blocks.1; key_range = key_range; seqno_min = seqnos.0; seqno_max = seqnos.1; file_size = sizes.0; item_count = table.1; tombstone_count = table.2; weak_tombstone_count = sizes.1; weak_tombstone_reclaimable = sizes.2 })
+    Ok (record {
+      table_version = table_version;
+      id = table.0;
+      created_at = created_at;
+      data_block_count = blocks.0;
+      index_block_count = blocks.1;
+      key_range = key_range;
+      seqno_min = seqnos.0;
+      seqno_max = seqnos.1;
+      file_size = sizes.0;
+      item_count = table.1;
+      tombstone_count = table.2;
+      weak_tombstone_count = sizes.1;
+      weak_tombstone_reclaimable = sizes.2;
+    })
+
+-- what the meta block at a place tells: it is loaded, then its items are read
+abbrev pub meta_told : List ℕ → Place → Result Facts Error
+meta_told body place =
+    load_told body place.offset place.size Meta >>= λ block. facts_told (entries_of block)

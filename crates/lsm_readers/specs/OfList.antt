@@ -17,7 +17,7 @@ use Rattle.lsm_files.specs.Options.{Options, Label}
 use Rattle.lsm_files.specs.Table.{IsTable}
 use Rattle.lsm_readers.specs.declared.regions.ParsedRegions.{ParsedRegions}
 use Rattle.lsm_readers.specs.Meta.{Facts}
-use Rattle.lsm_readers.specs.Parts.{Parts}
+use Rattle.lsm_readers.specs.Parts.{Parts, full}
 
 -- the first and the last key of a list
 abbrev pub ends_of : List Entry → Interval
@@ -41,7 +41,7 @@ abbrev pub parts_said : {bytes : List ℕ} {es : List Entry} → IsTable bytes e
 parts_said {bytes} {es} t =
     let v = t.version in
     let cs = (t.file).blocks in
-    record { facts = facts_said v t.label es (length cs) (length (data_section v cs)); regions = regions_said v t.label t.options cs; index = handles v cs }
+    record { facts = facts_said v t.label es (length cs) (length (data_section v cs)); regions = regions_said v t.label t.options cs; index = full (handles v cs) }
 
 -- what opening the table of a list tells: its parts, where its highest number with the global number added fits
 abbrev pub list_told : {bytes : List ℕ} {es : List Entry} → IsTable bytes es → ℕ → Result Parts Error

@@ -7,7 +7,7 @@ use Rattle.sst_sections.specs.declared.section.SectionName.{SectionName}
 use Rattle.sst_sections.specs.declared.section.SectionName.TheVariants.{Index, Tli, Filter, FilterTli, Meta}
 use Rattle.sst_blocks.specs.Place.{Place}
 use Rattle.sst_sections.specs.Sections.{place_of}
-use Rattle.lsm_readers.specs.Told.{◌>>=◌}
+use Rattle.lsm_readers.specs.Read.{◌>>=◌}
 use Rattle.lsm_readers.specs.declared.regions.ParsedRegions.{ParsedRegions}
 
 -- a section as a place, whose size is below 2^32

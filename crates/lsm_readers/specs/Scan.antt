@@ -11,7 +11,7 @@ use Rattle.sst_entries.specs.Error.{Gives, is_memory}
 use Rattle.sst_blocks.specs.Opened.{counted}
 use Rattle.sst_entries.specs.Stream.{Answers, Deals, all_ok, front_of, nowhere, stopped}
 use Rattle.lsm_readers.specs.Answer.{lifted, lift}
-use Rattle.lsm_readers.specs.Told.{◌>>=◌}
+use Rattle.lsm_readers.specs.Read.{◌>>=◌}
 
 -- an entry with the global number added, where the sum fits
 abbrev pub lifted_told : ℕ → Entry → Result Entry Error

@@ -18,6 +18,13 @@ pub struct Inner<A: Allocator = Global> {
     pub metadata: ParsedMeta<A>,
     /// Where the table's parts lie.
     pub regions: ParsedRegions,
-    /// The index, which stays loaded.
-    pub pinned_block_index: FullBlockIndex<A>,
+    /// What of the index stays loaded.
+    pub pinned_block_index: PinnedBlockIndex<A>,
+}
+
+/// What of a table's index stays loaded.
+#[derive(Drop)]
+pub enum PinnedBlockIndex<A: Allocator = Global> {
+    /// The one block of a full index.
+    Full(FullBlockIndex<A>),
 }

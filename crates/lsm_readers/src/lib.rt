@@ -2,7 +2,6 @@
 #![tactic(auto)]
 
 mod block_index;
-mod handle;
 mod inner;
 mod meta;
 mod point;
@@ -11,7 +10,7 @@ mod scanner;
 mod table;
 
 pub use block_index::FullBlockIndex;
-pub use inner::Inner;
+pub use inner::{Inner, PinnedBlockIndex};
 pub use lsm_files::{GlobalTableId, TableId, Timestamp, TreeId};
 pub use meta::ParsedMeta;
 pub use point::point_in;

@@ -1,11 +1,12 @@
 //! What a table says of itself in its meta block.
 ghost use Rattle.std.specs.Prelude.{◌≡◌, ◌-◌, ◌^◌, List, ℕ, Result, IfOk, IfErr, codes};
-ghost use Rattle.sst_entries.specs.Error.{Gives};
+ghost use Rattle.sst_entries.specs.Error.{FaultsFirst, Gives};
+ghost use Rattle.sst_blocks.specs.Block.{place_fault};
+ghost use Rattle.sst_blocks.specs.declared.block_type.BlockType.TheVariants.{Meta};
 ghost use Rattle.sst_sections.specs.Sections.{body_of};
-ghost use Rattle.lsm_readers.specs.Meta.{Facts, item_told, number8_told, number16_told, u64_told, byte_told, first_told, version_told, kinds_told, compressions_told, created_told, triple_told, keys_told, seqnos_told, facts_told};
+ghost use Rattle.lsm_readers.specs.Meta.{Facts, item_told, number8_told, number16_told, u64_told, byte_told, first_told, version_told, kinds_told, compressions_told, created_told, triple_told, keys_told, seqnos_told, facts_told, meta_told};
 ghost use Rattle.lsm_ranges.specs.KeyRange.{Interval};
-ghost use Rattle.lsm_readers.specs.Load.{meta_told};
-ghost use Rattle.lsm_readers.specs.Seen.{facts_of};
+ghost use Rattle.lsm_readers.specs.Table.{facts_of};
 
 use byteorder::{ByteOrder, LittleEndian};
 use lsm_files::{ItemName, TableId, Timestamp};
@@ -274,7 +275,9 @@ impl<A: Allocator + Clone> ParsedMeta<A> {
         source: &BlockSource<A>,
         handle: &BlockHandle,
     ) -> Result<ParsedMeta<A>, Error>
-        ensures { Gives facts_of result (meta_told (body_of source.now) handle.now) }
+        ensures told { Gives facts_of result (meta_told (body_of source.now) handle.now) }
+        ensures early { let body = body_of source.now in
+            FaultsFirst result (place_fault body handle.now.offset handle.now.size Meta) }
     {
         let mut opened = Opened::none();
         let block = source.load(handle, BlockType::Meta, &mut opened)?;

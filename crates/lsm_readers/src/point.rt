@@ -1,19 +1,19 @@
 //! Point reads, over whatever blocks can be loaded from.
-ghost use Rattle.std.specs.Prelude.{◌≡◌, ◌+◌, ◌-◌, ◌<◌, ◌^◌, Option, Some, IfOk, IfErr};
-ghost use Rattle.sst_blocks.specs.Opened.{counted};
-ghost use Rattle.sst_blocks.specs.Place.{place_of};
-ghost use Rattle.sst_blocks.specs.declared.block_type.BlockType.TheVariants.{Data};
+ghost use Rattle.std.specs.Prelude.{◌≡◌, ◌+◌, ◌<◌, ◌^◌, Option, IfOk, IfErr};
+ghost use Rattle.std.specs.Option.{option_map};
 ghost use Rattle.sst_entries.specs.declared.error.Error.TheVariants.{OutOfMemory};
 ghost use Rattle.sst_entries.specs.Entry.{Entry};
 ghost use Rattle.sst_entries.specs.Error.{FaultsFirst, Gives};
-ghost use Rattle.sst_blocks.specs.Block.{place_fault};
 ghost use Rattle.sst_entries.specs.Point.{point};
-ghost use Rattle.std.specs.Option.{option_map};
 ghost use Rattle.sst_sections.specs.Fnv.{fnv1a};
-ghost use Rattle.lsm_readers.specs.Answer.{answer_told, fault_at, handle_for, opened_by, read_at, lifted};
-ghost use Rattle.lsm_readers.specs.Seen.{parts_of};
+ghost use Rattle.sst_blocks.specs.declared.block_type.BlockType.TheVariants.{Data};
+ghost use Rattle.sst_blocks.specs.Opened.{counted};
+ghost use Rattle.sst_blocks.specs.Place.{place_of};
+ghost use Rattle.lsm_readers.specs.Answer.{answer, lifted, match_at, pinned_handle};
+ghost use Rattle.lsm_readers.specs.Read.{Opens};
+ghost use Rattle.lsm_readers.specs.Table.{parts_of, pinned_of};
 
-use crate::Inner;
+use crate::{Inner, PinnedBlockIndex};
 use sst_blocks::{BlockHandle, BlockType, DataBlock, Error, InternalValue, LoadBlocks, SeqNo};
 use std::alloc::Allocator;
 
@@ -27,19 +27,21 @@ fn lift<A: Allocator>(item: InternalValue<A>, global_seqno: SeqNo) -> InternalVa
     item
 }
 
-// Where the one data block lies that a point read rests on.
-fn handle_of<A: Allocator>(inner: &Inner<A>, key: &[u8], seqno: SeqNo) -> Option<BlockHandle>
-    ensures { let handle = handle_for (parts_of inner.now) inner.now.global_seqno key.now seqno in
+// Where the one data block lies that a read of a key below a stored number rests on.
+fn find_handle<A: Allocator>(
+    index: &PinnedBlockIndex<A>,
+    key: &[u8],
+    seqno: SeqNo,
+) -> Option<BlockHandle>
+    ensures { let handle = pinned_handle (pinned_of index.now) key.now seqno in
         result ≡ option_map place_of handle }
 {
-    let seqno = seqno.saturating_sub(inner.global_seqno);
-    if inner.metadata.seqnos.0 >= seqno {
-        return None;
+    match index {
+        PinnedBlockIndex::Full(index) => index.inner().find(key, seqno),
     }
-    inner.pinned_block_index.inner().find(key, seqno)
 }
 
-/// The first entry of a key in a block whose lifted number is below `seqno`, with that number. Refused
+/// The first entry of a key in a block whose stored number is below `seqno`, with its lifted number, which is to fit. Refused
 /// [`Error::OutOfMemory`] alone.
 fn lifted_read<A: Allocator>(
     block: &DataBlock<A>,
@@ -47,17 +49,18 @@ fn lifted_read<A: Allocator>(
     key: &[u8],
     seqno: SeqNo,
 ) -> Result<Option<InternalValue<A>>, Error>
-    ensures found { IfOk result (λ found. found ≡ option_map (lifted global_seqno) (point block.now key.now (seqno - global_seqno))) }
+    requires { seqno + global_seqno < 2 ^ 64 }
+    ensures found { let found = point block.now key.now seqno in
+        IfOk result (λ x. x ≡ option_map (lifted global_seqno) found) }
     ensures err { IfErr result (λ e. e ≡ OutOfMemory) }
 {
-    let bound = seqno.saturating_sub(global_seqno);
-    match block.point_read(key, bound)? {
+    match block.point_read(key, seqno)? {
         Some(item) => Ok(Some(lift(item, global_seqno))),
         None => Ok(None),
     }
 }
 
-// What that block answers.
+// What the block of a handle answers.
 fn read_in<S: LoadBlocks>(
     source: &mut S,
     handle: BlockHandle,
@@ -65,10 +68,11 @@ fn read_in<S: LoadBlocks>(
     key: &[u8],
     seqno: SeqNo,
 ) -> Result<Option<InternalValue<S::Alloc>>, Error>
-    ensures told { let told = read_at (S.body source.old) global_seqno key.now seqno handle in
-        Gives (λ (found : Option Entry). found) result told }
-    ensures first { FaultsFirst result
-        (place_fault (S.body source.old) handle.offset handle.size Data) }
+    requires { seqno + global_seqno < 2 ^ 64 }
+    ensures told { let read = match_at (S.body source.old) global_seqno key.now seqno handle in
+        Gives (λ (found : Option Entry). found) result read.told }
+    ensures early { let read = match_at (S.body source.old) global_seqno key.now seqno handle in
+        FaultsFirst result read.early }
     ensures body { S.body source.new ≡ S.body source.old }
     ensures counted { S.opened source.new ≡ counted Data (S.opened source.old) }
 {
@@ -79,7 +83,6 @@ fn read_in<S: LoadBlocks>(
 /// The first entry of a key numbered below `seqno`, its number with the global number added. One data block is loaded at
 /// most, and it is the source's only way to one: the first whose end reaches the key at that number. Refused with the first
 /// fault of loading it, and [`Error::OutOfMemory`].
-#[tactic(auto, unfolding(crate::specs::Answer::answer_told))]
 pub fn point_in<S: LoadBlocks>(
     source: &mut S,
     inner: &Inner<S::Alloc>,
@@ -88,19 +91,26 @@ pub fn point_in<S: LoadBlocks>(
     key_hash: u64,
 ) -> Result<Option<InternalValue<S::Alloc>>, Error>
     requires { key_hash ≡ fnv1a key.now }
-    ensures told { Gives (λ (found : Option Entry). found) result (answer_told (S.body source.old) inner.now.global_seqno (parts_of inner.now) key.now seqno) }
-    // What is found before the block's payload is tested is the refusal, whatever memory there is.
-    ensures first { FaultsFirst result (fault_at (S.body source.old)
-        (handle_for (parts_of inner.now) inner.now.global_seqno key.now seqno)) }
+    ensures told { let parts = parts_of inner.now in
+        let read = answer (S.body source.old) inner.now.global_seqno parts key.now seqno in
+        Gives (λ (found : Option Entry). found) result read.told }
+    // What is found before memory is taken is the refusal, whatever memory there is.
+    ensures early { let parts = parts_of inner.now in
+        let read = answer (S.body source.old) inner.now.global_seqno parts key.now seqno in
+        FaultsFirst result read.early }
     ensures body { S.body source.new ≡ S.body source.old }
-    // One data block where there is a handle, also where the read is refused, and no other block.
-    ensures opened { S.opened source.new ≡
-        opened_by (handle_for (parts_of inner.now) inner.now.global_seqno key.now seqno)
-        (S.opened source.old) }
+    // It makes the loads of the read, and no others.
+    ensures opened { let parts = parts_of inner.now in
+        let read = answer (S.body source.old) inner.now.global_seqno parts key.now seqno in
+        Opens result read.loads (S.opened source.old) (S.opened source.new) }
 {
     let _ = key_hash;
-    match handle_of(inner, key, seqno) {
-        Some(handle) => read_in(source, handle, inner.global_seqno, key, seqno),
+    let low = seqno.saturating_sub(inner.global_seqno);
+    if low <= inner.metadata.seqnos.0 {
+        return Ok(None);
+    }
+    match find_handle(&inner.pinned_block_index, key, low) {
+        Some(handle) => read_in(source, handle, inner.global_seqno, key, low),
         None => Ok(None),
     }
 }

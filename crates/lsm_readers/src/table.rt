@@ -1,6 +1,6 @@
 //! Tables: opening a table's bytes, and reading from them.
-ghost use Rattle.std.specs.Prelude.{◌≡◌, ◌+◌, ◌<◌, ℕ, Bool, List, [], Option, Some, Result, Ok, Err, false, true, length, IfOk, IfErr, MatchResult};
-ghost use Rattle.sst_blocks.specs.Block.{Loaded, load_told, load_at_told};
+ghost use Rattle.std.specs.Prelude.{◌≡◌, ◌+◌, ℕ, Bool, List, [], Option, Some, Result, Ok, Err, false, true, length, IfOk, IfErr, MatchResult};
+ghost use Rattle.sst_blocks.specs.Block.{Loaded, load_told, load_at_told, place_fault};
 ghost use Rattle.sst_entries.specs.Entry.{Entry};
 ghost use Rattle.sst_entries.specs.Error.{Faults, FaultsFirst, Gives};
 ghost use Rattle.sst_sections.specs.Fnv.{fnv1a};
@@ -8,22 +8,20 @@ ghost use Rattle.sst_blocks.specs.Opened.{counted, none_opened};
 ghost use Rattle.sst_sections.specs.Sections.{body_of};
 ghost use Rattle.sst_entries.specs.Point.{point, within};
 ghost use Rattle.sst_entries.specs.Stream.{CanDeal, Deals, all_ok, nowhere, stopped};
-ghost use Rattle.sst_blocks.specs.declared.block_type.BlockType.TheVariants.{Data, Index};
+ghost use Rattle.sst_blocks.specs.declared.block_type.BlockType.TheVariants.{Data, Index, Meta};
 ghost use Rattle.sst_entries.specs.declared.error.Error.{Error};
-ghost use Rattle.sst_entries.specs.declared.error.Error.TheVariants.{OutOfMemory};
+ghost use Rattle.sst_entries.specs.declared.error.Error.TheVariants.{GlobalSeqNoTooLarge, OutOfMemory};
 ghost use Rattle.lsm_ranges.specs.KeyRange.{key_bound, overlaps_bounds};
 ghost use Rattle.lsm_files.specs.Table.{IsTable};
-ghost use Rattle.lsm_readers.specs.Answer.{answer_told, fault_at, handle_for, lift, opened_by};
+ghost use Rattle.lsm_readers.specs.Answer.{lift, table_answer};
 ghost use Rattle.lsm_readers.specs.OfList.{ends_of, list_told, parts_said};
-ghost use Rattle.lsm_readers.specs.Handled.{IsRecovered, IsOpen};
-ghost use Rattle.lsm_readers.specs.Parts.{recovered_told, parts_told, fitting_told, index_told, number_told, size_of};
+ghost use Rattle.lsm_readers.specs.Parts.{early_fault, early_in, fitting_told, index_told, number_told, parts_told, places_told, recovered_told, size_of};
+ghost use Rattle.lsm_readers.specs.Read.{Opens};
 ghost use Rattle.lsm_readers.specs.Scan.{Scan, ScansList, fault_of, scan_told};
-ghost use Rattle.lsm_readers.specs.Seen.{parts_of, facts_of};
-ghost use Rattle.lsm_readers.specs.TableSeen.{TableSeen};
+ghost use Rattle.lsm_readers.specs.Table.{IsOpen, IsRecovered, OpenTable, facts_of, parts_of, pinned_of};
 
 use crate::block_index::FullBlockIndex;
-use crate::handle::Shared;
-use crate::{Inner, ParsedMeta, ParsedRegions, Scanner, point_in};
+use crate::{Inner, ParsedMeta, ParsedRegions, PinnedBlockIndex, Scanner, point_in};
 use lsm_files::{TableId, TreeId};
 use lsm_ranges::{KeyRange, Ranged};
 use sst_blocks::{
@@ -42,47 +40,53 @@ pub type TableInner<A = Global> = Inner<A>;
 /// A table that was opened: a shared handle. A contract sees its bytes, what it was opened with and what it was
 /// recovered to.
 #[derive(Drop)]
-pub struct Table<A: Allocator = Global>(Arc<Shared<A>, A>);
+pub struct Table<A: Allocator = Global> {
+    source: BlockSource<A>,
+    inner: Arc<Inner<A>, A>,
+}
 
 impl<A: Allocator> Model for Table<A> {
     ghost use Rattle.std.specs.Arc.{arc_value};
-    ghost use Rattle.lsm_readers.specs.TableSeen.{TableSeen};
-    ghost use Rattle.lsm_readers.specs.Handled.{table_of, IsOpen};
+    ghost use Rattle.lsm_readers.specs.Table.{OpenTable, IsOpen, table_of};
 
-    ghost Value = { TableSeen };
+    ghost Value = { OpenTable };
 
-    ghost view = { λ t. table_of (arc_value t.0) };
+    ghost view = { λ t. table_of t.source (arc_value t.inner) };
 
-    ghost invariant = { λ t. IsOpen (table_of (arc_value t.0)) };
+    ghost invariant = { λ t. IsOpen (table_of t.source (arc_value t.inner)) };
 }
 
-impl<A: Allocator> Clone for Table<A> {
+impl<A: Allocator + Clone> Clone for Table<A> {
     ghost use Rattle.std.specs.Prelude.{◌≡◌};
 
     ghost is_clone = { λ t copy. copy ≡ t };
 
     fn clone(&self) -> Result<Table<A>, AllocError> {
-        Ok(Table(self.0.clone()?))
+        Ok(Table {
+            source: self.source.clone()?,
+            inner: self.inner.clone()?,
+        })
     }
 }
 
 impl<A: Allocator> Deref for Table<A> {
     ghost use Rattle.std.specs.Prelude.{◌≡◌};
-    ghost use Rattle.lsm_readers.specs.Seen.{parts_of};
+    ghost use Rattle.lsm_readers.specs.Table.{table_of};
 
     type Target = Inner<A>;
 
-    ghost deref_gives = { λ t inner. (parts_of inner ≡ t.parts) × (inner.global_seqno ≡ t.global_seqno) × (inner.tree_id ≡ t.tree_id) × (inner.checksum.0 ≡ t.checksum) };
+    // The table is its bytes and this.
+    ghost deref_gives = { λ t inner. table_of t.bytes inner ≡ t };
 
     fn deref(&self) -> &Inner<A> {
-        &self.0.inner
+        &self.inner
     }
 }
 
 impl<A: Allocator> Ranged for Table<A> {
     ghost use Rattle.std.proofs.Common.{ap};
     ghost use Rattle.std.specs.Prelude.{List, ℕ};
-    ghost use Rattle.lsm_readers.specs.Range.{range_told};
+    ghost use Rattle.lsm_readers.specs.Parts.{range_told};
 
     type Alloc = A;
 
@@ -91,36 +95,40 @@ impl<A: Allocator> Ranged for Table<A> {
 
     ghost meaning = { λ t. (t.bytes, t.global_seqno) };
 
-    ghost range = { λ t. range_told (t.bytes, t.global_seqno) };
+    ghost range = { λ t. range_told t.bytes };
 
     fn key_range(&self) -> &KeyRange<A> {
-        &self.0.inner.metadata.key_range
+        &self.inner.metadata.key_range
     }
 
-    ghost steady = { λ x y same. ap range_told same };
+    ghost steady = { λ x y same. ap (λ (m : List ℕ × ℕ). range_told m.0) same };
 }
 
 impl<A: Allocator> fmt::Debug for Table<A> {
     fn fmt<W: fmt::Write>(&self, f: &mut fmt::Formatter<W>) -> fmt::Result {
         let id = self.id();
-        let key_range = &self.0.inner.metadata.key_range;
+        let key_range = &self.inner.metadata.key_range;
         write!(f, "Table:{id}({key_range:?})")
     }
 }
 
+/// What of the index stays loaded: the whole of it, since each is full for now. Refused as [`BlockSource::load`].
 fn load_index<A: Allocator + Clone>(
     source: &BlockSource<A>,
     regions: &ParsedRegions,
-) -> Result<FullBlockIndex<A>, Error>
-    ensures { Gives (λ (hs : _). hs) result (index_told (body_of source.now) regions.now) }
+) -> Result<PinnedBlockIndex<A>, Error>
+    ensures { Gives pinned_of result (index_told (body_of source.now) regions.now) }
 {
     let mut opened = Opened::none();
     let block = source.load(&regions.tli, BlockType::Index, &mut opened)?;
-    Ok(FullBlockIndex::new(IndexBlock::new(block)))
+    Ok(PinnedBlockIndex::Full(FullBlockIndex::new(IndexBlock::new(block))))
 }
 
+/// Refused [`Error::GlobalSeqNoTooLarge`] alone, where the highest number and the global number pass `u64`.
 fn test_number<A: Allocator>(metadata: &ParsedMeta<A>, global_seqno: SeqNo) -> Result<(), Error>
-    ensures { Gives (λ (_ : _). facts_of metadata.now) result (number_told (facts_of metadata.now) global_seqno) }
+    ensures told { let facts = facts_of metadata.now in
+        Gives (λ (_ : _). facts) result (number_told facts global_seqno) }
+    ensures alone { IfErr result (λ e. e ≡ GlobalSeqNoTooLarge) }
 {
     match metadata.seqnos.1.checked_add(global_seqno) {
         Some(_) => Ok(()),
@@ -134,7 +142,9 @@ fn fitting_metadata<A: Allocator + Clone>(
     handle: &BlockHandle,
     global_seqno: SeqNo,
 ) -> Result<ParsedMeta<A>, Error>
-    ensures { Gives facts_of result (fitting_told (body_of source.now) handle.now global_seqno) }
+    ensures told { Gives facts_of result (fitting_told (body_of source.now) handle.now global_seqno) }
+    ensures early { let body = body_of source.now in
+        FaultsFirst result (place_fault body handle.now.offset handle.now.size Meta) }
 {
     let metadata = ParsedMeta::load_with_handle(source, handle)?;
     test_number(&metadata, global_seqno)?;
@@ -148,7 +158,10 @@ fn recover_inner<A: Allocator + Clone>(
     tree_id: TreeId,
 ) -> Result<Inner<A>, Error>
     ensures told { Gives parts_of result (parts_told source.now global_seqno) }
-    ensures numbers { IfOk result (λ inner. (inner.global_seqno ≡ global_seqno) × (inner.tree_id ≡ tree_id) × (inner.checksum ≡ checksum)) }
+    ensures early { FaultsFirst result (early_in (body_of source.now) (places_told source.now)) }
+    ensures number { IfOk result (λ inner. inner.global_seqno ≡ global_seqno) }
+    ensures tree { IfOk result (λ inner. inner.tree_id ≡ tree_id) }
+    ensures checksum { IfOk result (λ inner. inner.checksum ≡ checksum) }
 {
     let regions = ParsedRegions::parse_from_toc(source.toc())?;
     let metadata = fitting_metadata(source, &regions.metadata, global_seqno)?;
@@ -178,18 +191,28 @@ impl<A: Allocator + Clone> Table<A> {
         pin_filter: bool,
         pin_index: bool,
     ) -> Result<Table<A>, Error>
-        ensures told { Gives (λ (t : TableSeen). t.parts) result (recovered_told bytes global_seqno) }
+        ensures told { Gives (λ (t : OpenTable). t.parts) result (recovered_told bytes global_seqno) }
+        // What is found before memory is taken is the refusal, whatever memory there is.
+        ensures early { FaultsFirst result (early_fault bytes) }
         // A table of a list that readers read is opened where the highest number fits, and says of itself what the list says.
         ensures list { (es : List Entry) (t : IsTable bytes es) → t.options.index_block_restart_interval ≡ 1 →
-            Gives (λ (t : TableSeen). t.parts) result (list_told t global_seqno) }
+            Gives (λ (t : OpenTable). t.parts) result (list_told t global_seqno) }
         ensures bytes { IfOk result (λ t. t.bytes ≡ bytes) }
-        ensures numbers { IfOk result (λ t. (t.global_seqno ≡ global_seqno) × (t.tree_id ≡ tree_id) × (t.checksum ≡ checksum.0)) }
+        ensures number { IfOk result (λ t. t.global_seqno ≡ global_seqno) }
+        ensures tree { IfOk result (λ t. t.tree_id ≡ tree_id) }
+        ensures checksum { IfOk result (λ t. t.checksum ≡ checksum.0) }
     {
         let _ = pin_filter;
         let _ = pin_index;
-        let source = BlockSource::new(alloc.clone()?, bytes)?;
+        // Faults of the bytes come before a refusal of the allocator.
+        let kept: Result<A, AllocError> = alloc.clone();
+        let source = BlockSource::new(alloc, bytes)?;
         let inner = recover_inner(&source, checksum, global_seqno, tree_id)?;
-        Ok(Table(Arc::new(alloc, Shared { inner, source })?))
+        let shared = Arc::new(kept?, inner)?;
+        Ok(Table {
+            source,
+            inner: shared,
+        })
     }
 
     /// The hash of a key, which a point read is given.
@@ -207,16 +230,21 @@ impl<A: Allocator + Clone> Table<A> {
         key_hash: u64,
     ) -> (Result<Option<InternalValue<A>>, Error>, Opened)
         requires { key_hash ≡ fnv1a key.now }
-        ensures told { Gives (λ (found : Option Entry). found) result.0 (answer_told (body_of self.now.bytes) self.now.global_seqno self.now.parts key.now seqno) }
-        ensures first { FaultsFirst result.0 (fault_at (body_of self.now.bytes)
-            (handle_for self.now.parts self.now.global_seqno key.now seqno)) }
-        ensures opened { result.1 ≡
-            opened_by (handle_for self.now.parts self.now.global_seqno key.now seqno) none_opened }
+        ensures told { Gives (λ (found : Option Entry). found) result.0
+            (table_answer self.now key.now seqno).told }
+        // What is found before memory is taken is the refusal, whatever memory there is.
+        ensures early { FaultsFirst result.0 (table_answer self.now key.now seqno).early }
+        ensures opened { let loads = (table_answer self.now key.now seqno).loads in
+            Opens result.0 loads none_opened result.1 }
         ensures open { IsOpen self.now }
+        // On a table of a list it is the first match in the list, its numbers lifted.
+        ensures list { (es : List Entry) → IsTable self.now.bytes es →
+            let found = point (lift es self.now.global_seqno) key.now seqno in
+            Gives (λ (x : Option Entry). x) result.0 (Ok found) }
     {
-        let shared: &Shared<A> = &self.0;
-        let mut source = Counted::new(&shared.source);
-        let found = point_in(&mut source, &shared.inner, key, seqno, key_hash);
+        let inner: &Inner<A> = &self.inner;
+        let mut source = Counted::new(&self.source);
+        let found = point_in(&mut source, inner, key, seqno, key_hash);
         (found, source.opened())
     }
 
@@ -230,13 +258,14 @@ impl<A: Allocator + Clone> Table<A> {
         key_hash: u64,
     ) -> Result<Option<InternalValue<A>>, Error>
         requires { key_hash ≡ fnv1a key.now }
-        ensures told { Gives (λ (found : Option Entry). found) result (answer_told (body_of self.now.bytes) self.now.global_seqno self.now.parts key.now seqno) }
-        ensures first { FaultsFirst result (fault_at (body_of self.now.bytes)
-            (handle_for self.now.parts self.now.global_seqno key.now seqno)) }
+        ensures told { Gives (λ (found : Option Entry). found) result
+            (table_answer self.now key.now seqno).told }
+        ensures early { FaultsFirst result (table_answer self.now key.now seqno).early }
         ensures recovered { IsRecovered self.now }
         // On a table of a list it is the first match in the list, its numbers lifted.
         ensures list { (es : List Entry) → IsTable self.now.bytes es →
-            Gives (λ (found : Option Entry). found) result (Ok (point (lift es self.now.global_seqno) key.now seqno)) }
+            let found = point (lift es self.now.global_seqno) key.now seqno in
+            Gives (λ (x : Option Entry). x) result (Ok found) }
     {
         self.get_counted(key, seqno, key_hash).0
     }
@@ -256,10 +285,9 @@ impl<A: Allocator + Clone> Table<A> {
         ensures list { (es : List Entry) → IsTable self.now.bytes es → ScansList result es self.now.global_seqno }
         ensures open { IsOpen self.now }
     {
-        let shared: &Shared<A> = &self.0;
-        let inner = &shared.inner;
+        let inner: &Inner<A> = &self.inner;
         Scanner::new(
-            &shared.source,
+            &self.source,
             inner.metadata.data_block_count,
             inner.metadata.data_block_compression,
             inner.global_seqno,
@@ -273,56 +301,56 @@ impl<A: Allocator> Table<A> {
         ensures parts { (es : List Entry) (t : IsTable self.now.bytes es) → self.now.parts ≡ parts_said t }
         ensures range { (es : List Entry) → IsTable self.now.bytes es → ⟦<Table<A> as Ranged>⟧.range self.now ≡ ends_of es }
     {
-        let _shared: &Shared<A> = &self.0;
+        let _source: &BlockSource<A> = &self.source;
     }
 
     /// The table's id.
     pub fn id(&self) -> TableId
         ensures { result ≡ self.now.parts.facts.id }
     {
-        self.0.inner.metadata.id
+        self.inner.metadata.id
     }
 
     /// The number that is added to every stored number.
     pub fn global_seqno(&self) -> SeqNo
         ensures { result ≡ self.now.global_seqno }
     {
-        self.0.inner.global_seqno
+        self.inner.global_seqno
     }
 
     /// The checksum that the table was opened with.
     pub fn checksum(&self) -> Checksum
         ensures { result.0 ≡ self.now.checksum }
     {
-        self.0.inner.checksum
+        self.inner.checksum
     }
 
     /// The highest number: the stored one plus the global number.
     pub fn get_highest_seqno(&self) -> SeqNo
         ensures { result ≡ self.now.parts.facts.seqno_max + self.now.global_seqno }
     {
-        self.0.inner.metadata.seqnos.1 + self.0.inner.global_seqno
+        self.inner.metadata.seqnos.1 + self.inner.global_seqno
     }
 
     /// How many entries are tombstones of either kind.
     pub fn tombstone_count(&self) -> u64
         ensures { result ≡ self.now.parts.facts.tombstone_count }
     {
-        self.0.inner.metadata.tombstone_count
+        self.inner.metadata.tombstone_count
     }
 
     /// How many entries are weak tombstones.
     pub fn weak_tombstone_count(&self) -> u64
         ensures { result ≡ self.now.parts.facts.weak_tombstone_count }
     {
-        self.0.inner.metadata.weak_tombstone_count
+        self.inner.metadata.weak_tombstone_count
     }
 
     /// How many values stand directly after a weak tombstone of their key.
     pub fn weak_tombstone_reclaimable(&self) -> u64
         ensures { result ≡ self.now.parts.facts.weak_tombstone_reclaimable }
     {
-        self.0.inner.metadata.weak_tombstone_reclaimable
+        self.inner.metadata.weak_tombstone_reclaimable
     }
 
     /// The payload length of the filter block that stays loaded, in bytes: 0, since no filter is read.
@@ -337,7 +365,7 @@ impl<A: Allocator> Table<A> {
         ensures size { result + 24 ≡ self.now.parts.regions.tli.size }
         ensures payload { (b : Loaded) → load_told (body_of self.now.bytes) self.now.parts.regions.tli.offset self.now.parts.regions.tli.size Index ≡ Ok b → result ≡ length b.payload }
     {
-        self.0.inner.regions.tli.size() as usize - Header::serialized_len()
+        self.inner.regions.tli.size() as usize - Header::serialized_len()
     }
 
     /// Whether the key range that the table says reaches past both bounds. On a table of a list, where it does not, no key of
@@ -348,14 +376,14 @@ impl<A: Allocator> Table<A> {
         ensures list { result ≡ false → (es : List Entry) → IsTable self.now.bytes es →
             within (key_bound bounds.now.0) (key_bound bounds.now.1) es ≡ [] }
     {
-        self.0.inner.metadata.key_range.overlaps_with_bounds(bounds)
+        self.inner.metadata.key_range.overlaps_with_bounds(bounds)
     }
 
     /// The length of the `filter` section in bytes, or 0 where there is none.
     pub fn filter_size(&self) -> u32
         ensures { result ≡ size_of self.now.parts.regions.filter }
     {
-        match self.0.inner.regions.filter {
+        match self.inner.regions.filter {
             Some(handle) => handle.size(),
             None => 0,
         }

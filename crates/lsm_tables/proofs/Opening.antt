@@ -20,7 +20,7 @@ use Rattle.lsm_tables.specs.Written.{IsOpened, ReadsList, number_fault, opening_
 use Rattle.lsm_readers.specs.Answer.{lift}
 use Rattle.lsm_readers.specs.Parts.{Parts}
 use Rattle.lsm_readers.specs.Scan.{Scan, ScansNext}
-use Rattle.lsm_readers.specs.TableSeen.{TableSeen}
+use Rattle.lsm_readers.specs.Table.{OpenTable}
 
 fine_by : (large : Bool) (p q : Parts) → cond large (Err GlobalSeqNoTooLarge) (Ok p) ≡ Ok q → cond large (Some GlobalSeqNoTooLarge) None ≡ None
 fine_by true p q told = absurd cc
@@ -67,7 +67,7 @@ module _ (label : Label) (es : List Entry) (g : ℕ) where
     unopened e told = or_second (list_fault label es) (number_fault es g) e written (fault_by (ltb (2 ^ 64 - 1) (highest_seqno es + g)) (parts_said t) e told)
 
 -- what was opened
-pub opened : (label : Label) (es : List Entry) (g id sum : ℕ) (bytes : List ℕ) (t : TableSeen) → IsTableOf label es id sum bytes → t.bytes ≡ bytes → t.global_seqno ≡ g → t.tree_id ≡ 0 → t.checksum ≡ sum → IsOpened label es g t
+pub opened : (label : Label) (es : List Entry) (g id sum : ℕ) (bytes : List ℕ) (t : OpenTable) → IsTableOf label es id sum bytes → t.bytes ≡ bytes → t.global_seqno ≡ g → t.tree_id ≡ 0 → t.checksum ≡ sum → IsOpened label es g t
 opened label es g id sum bytes t f same number tree check =
     let P : List ℕ → Type 0 = λ b. (x : IsTable b es) × (x.label ≡ label) × (x.options ≡ default_options) × (x.version ≡ V4) in
     let table : P t.bytes = subst P (sym same) (f.table, f.label_is, f.options_are, f.version_is) in

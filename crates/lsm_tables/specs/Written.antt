@@ -14,7 +14,7 @@ use Rattle.lsm_files.specs.Table.{IsTable}
 use Rattle.lsm_writers.specs.Writing.{list_fault}
 use Rattle.lsm_readers.specs.Answer.{lift}
 use Rattle.lsm_readers.specs.Scan.{Scan, ScansNext}
-use Rattle.lsm_readers.specs.TableSeen.{TableSeen}
+use Rattle.lsm_readers.specs.Table.{OpenTable}
 
 -- the highest number passes u64 with the global number added
 abbrev pub number_fault : List Entry → ℕ → Option Error
@@ -25,7 +25,7 @@ abbrev pub opening_fault : Label → List Entry → ℕ → Option Error
 opening_fault label es g = option_or (list_fault label es) (number_fault es g)
 
 -- an opened table of a list, in the version that is written, of tree 0 and with the checksum of its bytes
-pub record IsOpened (label : Label) (es : List Entry) (g : ℕ) (t : TableSeen) : Type 0 where
+pub record IsOpened (label : Label) (es : List Entry) (g : ℕ) (t : OpenTable) : Type 0 where
   pub some : es ≡ [] → ⊥
   pub table : IsTable t.bytes es
   pub label_is : table.label ≡ label

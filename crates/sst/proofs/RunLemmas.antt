@@ -9,7 +9,7 @@ use Rattle.sst_entries.specs.Error.{is_memory, Fails, Gives}
 use Rattle.sst_entries.specs.Point.{point, within}
 use Rattle.lsm_files.specs.Table.{IsTable}
 use Rattle.lsm_readers.specs.Answer.{lift}
-use Rattle.lsm_readers.specs.TableSeen.{TableSeen}
+use Rattle.lsm_readers.specs.Table.{OpenTable}
 use Rattle.sst.specs.Runs.{has_entry, has_number, newer_of, newest_point, repeats, shares_entry, tables_of, Run}
 use Rattle.sst.proofs.EntryLemmas.{has_entry_found, lift_zero, no_point}
 
@@ -18,12 +18,12 @@ pub rest_of : {X : Type 0} (xs : List X) (i : ℕ) (x : X) → i < length xs →
 rest_of {X} xs i x h is = rw add-one (drop-cons xs i x h ∙ ap (λ (y : X). y ∷ drop (suc i) xs) (sym is))
 
 -- the run of the table at a place
-pub record RunAt (rs : List Run) (i : ℕ) (t : TableSeen) : Type 0 where
+pub record RunAt (rs : List Run) (i : ℕ) (t : OpenTable) : Type 0 where
   pub run : Run
   pub table_is : run.table ≡ t
   pub rest_is : drop i rs ≡ run ∷ drop (i + 1) rs
 
-pub run_at : (rs : List Run) (i : ℕ) (t : TableSeen) → i < length (tables_of rs) → t ≡ get_or (tables_of rs) i t → RunAt rs i t
+pub run_at : (rs : List Run) (i : ℕ) (t : OpenTable) → i < length (tables_of rs) → t ≡ get_or (tables_of rs) i t → RunAt rs i t
 run_at [] i t h is = absurd (omega (arith, h))
 run_at (r ∷ rs) zero t h is = record { run = r; table_is = sym is; rest_is = refl }
 run_at (r ∷ rs) (suc i) t h is =
@@ -33,22 +33,22 @@ run_at (r ∷ rs) (suc i) t h is =
 
 -- ---- one run
 
-module _ (r : Run) (t : TableSeen) (key : List ℕ) (bound : ℕ) (same : r.table ≡ t) where
+module _ (r : Run) (t : OpenTable) (key : List ℕ) (bound : ℕ) (same : r.table ≡ t) where
   -- a read of a run's table answers the first match in its list
   pub read_gives : (result : Result (Option Entry) Error)
       → ((es : List Entry) → IsTable t.bytes es → Gives (λ (found : Option Entry). found) result (Ok (point (lift es t.global_seqno) key bound)))
       → Gives (λ (found : Option Entry). found) result (Ok (point r.list key bound))
   read_gives result reads =
       let Read : List Entry → Type 0 = λ es. Gives (λ (found : Option Entry). found) result (Ok (point es key bound)) in
-      let table : IsTable t.bytes r.list = subst (λ (u : TableSeen). IsTable u.bytes r.list) same r.opened.table in
-      let number : t.global_seqno ≡ 0 = subst (λ (u : TableSeen). u.global_seqno ≡ 0) same r.opened.number_is in
+      let table : IsTable t.bytes r.list = subst (λ (u : OpenTable). IsTable u.bytes r.list) same r.opened.table in
+      let number : t.global_seqno ≡ 0 = subst (λ (u : OpenTable). u.global_seqno ≡ 0) same r.opened.number_is in
       subst Read (lift_zero r.list) (subst (λ (n : ℕ). Read (lift r.list n)) number (reads r.list table))
 
   -- where the table has no key there, nothing is read
   pub outside_gives : ((es : List Entry) → IsTable t.bytes es → within (Included key) (Included key) es ≡ [])
       → Gives (λ (found : Option Entry). found) (Ok None) (Ok (point r.list key bound))
   outside_gives nothing =
-      let table : IsTable t.bytes r.list = subst (λ (u : TableSeen). IsTable u.bytes r.list) same r.opened.table in
+      let table : IsTable t.bytes r.list = subst (λ (u : OpenTable). IsTable u.bytes r.list) same r.opened.table in
       ap (λ (o : Option Entry). Ok o) (no_point r.list key bound (nothing r.list table))
 
 -- the first match of a key numbered below the next number tells whether the list has the number
@@ -103,9 +103,9 @@ newer_last : (x : Option Entry) → newer_of x None ≡ x
 newer_last None = refl
 newer_last (Some x) = refl
 
-module _ (rs : List Run) (ts : List TableSeen) (i : ℕ) (t : TableSeen) (same : tables_of rs ≡ ts) (h : i < length ts) (is : t ≡ get_or ts i t) where
+module _ (rs : List Run) (ts : List OpenTable) (i : ℕ) (t : OpenTable) (same : tables_of rs ≡ ts) (h : i < length ts) (is : t ≡ get_or ts i t) where
   at : RunAt rs i t
-  at = run_at rs i t (subst (λ (us : List TableSeen). i < length us) (sym same) h) (subst (λ (us : List TableSeen). t ≡ get_or us i t) (sym same) is)
+  at = run_at rs i t (subst (λ (us : List OpenTable). i < length us) (sym same) h) (subst (λ (us : List OpenTable). t ≡ get_or us i t) (sym same) is)
 
   -- the run at the place answered
   pub past_answer : (key : List ℕ) (bound : ℕ) (newest found : Option Entry) → newest_point rs key bound ≡ newer_of newest (newest_point (drop i rs) key bound)
@@ -137,8 +137,8 @@ same_length [] = refl
 same_length (r ∷ rs) = ap suc (same_length rs)
 
 -- no run is left
-pub all_past : (rs : List Run) (ts : List TableSeen) (i : ℕ) → tables_of rs ≡ ts → length ts ≤ i → drop i rs ≡ []
+pub all_past : (rs : List Run) (ts : List OpenTable) (i : ℕ) → tables_of rs ≡ ts → length ts ≤ i → drop i rs ≡ []
 all_past rs ts i same h = drop_all i rs (omega (arith, h, ap length same, same_length rs))
 
-pub none_left : (rs : List Run) (ts : List TableSeen) (i : ℕ) (key : List ℕ) (bound : ℕ) (newest : Option Entry) → newest_point rs key bound ≡ newer_of newest (newest_point (drop i rs) key bound) → tables_of rs ≡ ts → length ts ≤ i → newest_point rs key bound ≡ newest
+pub none_left : (rs : List Run) (ts : List OpenTable) (i : ℕ) (key : List ℕ) (bound : ℕ) (newest : Option Entry) → newest_point rs key bound ≡ newer_of newest (newest_point (drop i rs) key bound) → tables_of rs ≡ ts → length ts ≤ i → newest_point rs key bound ≡ newest
 none_left rs ts i key bound newest so_far same h = so_far ∙ ap (λ (xs : List Run). newer_of newest (newest_point xs key bound)) (all_past rs ts i same h) ∙ newer_last newest

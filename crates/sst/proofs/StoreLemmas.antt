@@ -8,7 +8,7 @@ use Rattle.sst_entries.specs.Entry.{Entry}
 use Rattle.sst_entries.specs.Error.{is_memory, Fails, Gives}
 use Rattle.lsm_files.specs.Options.{label_of}
 use Rattle.lsm_readers.proofs.Scans.{memory_is}
-use Rattle.lsm_readers.specs.TableSeen.{TableSeen}
+use Rattle.lsm_readers.specs.Table.{OpenTable}
 use Rattle.lsm_tables.specs.Written.{IsOpened}
 use Rattle.lsm_writers.specs.Writing.{list_fault}
 use Rattle.sst.specs.declared.command.Command.{Command}
@@ -60,13 +60,13 @@ answered_no rs es given b told fresh same =
     subst (λ (xs : List Entry). repeats rs xs ≡ false) same (is ∙ fresh)
 
 -- a table was written
-pub wrote : (rs : List Run) (ts new : List TableSeen) (es : List Entry) (next following : Option ℕ) (id : ℕ) (t : TableSeen) → tables_of rs ≡ ts → new ≡ t ∷ ts
+pub wrote : (rs : List Run) (ts new : List OpenTable) (es : List Entry) (next following : Option ℕ) (id : ℕ) (t : OpenTable) → tables_of rs ≡ ts → new ≡ t ∷ ts
     → repeats rs es ≡ false → next ≡ Some id → following ≡ id_after id → list_fault (label_of id 0 0) es ≡ None → IsOpened (label_of id 0 0) es 0 t
     → HasRuns new (λ after. Writes (store es rs next) 1 (store [] after following))
 wrote rs ts new es next following id t same new_is fresh drawn then written opened =
     let run : Run = record { id = id; list = es; table = t; opened = opened } in (
       run ∷ rs,
-      ap (λ (us : List TableSeen). t ∷ us) same ∙ sym new_is,
+      ap (λ (us : List OpenTable). t ∷ us) same ∙ sym new_is,
       (
         fine rs es next id fresh drawn written,
         inr (refl, (run, refl, drawn, ap (λ (n : Option ℕ). store [] (run ∷ rs) n) then)),
@@ -74,7 +74,7 @@ wrote rs ts new es next following id t same new_is fresh drawn then written open
     )
 
 -- a command that writes a table
-pub executed : (A : Type 0) (command : Command) (rs : List Run) (es left : List Entry) (next following : Option ℕ) (count : ℕ) (new : List TableSeen) → command ≡ Table → left ≡ []
+pub executed : (A : Type 0) (command : Command) (rs : List Run) (es left : List Entry) (next following : Option ℕ) (count : ℕ) (new : List OpenTable) → command ≡ Table → left ≡ []
     → HasRuns new (λ after. Writes (store es rs next) count (store [] after following))
     → HasRuns new (λ after. Executes {A = A} command (store es rs next) (Ok (Tables count)) (store left after following))
 executed A command rs es left next following count new is none done =

@@ -5,25 +5,25 @@ use Rattle.sst_entries.specs.Entry.{Entry}
 use Rattle.sst_entries.specs.Key.{same_key}
 use Rattle.sst_entries.specs.Point.{point}
 use Rattle.lsm_files.specs.Options.{label_of}
-use Rattle.lsm_readers.specs.TableSeen.{TableSeen}
+use Rattle.lsm_readers.specs.Table.{OpenTable}
 use Rattle.lsm_tables.specs.Written.{IsOpened}
 
 -- a run: a list, and the table that was written of it under an id and opened, of level 0, moment 0 and global number 0
 pub record Run : Type 0 where
   pub id : ℕ
   pub list : List Entry
-  pub table : TableSeen
+  pub table : OpenTable
   pub opened : IsOpened (label_of id 0 0) list 0 table
 
-abbrev pub tables_of : List Run → List TableSeen
+abbrev pub tables_of : List Run → List OpenTable
 tables_of runs = map (λ r. r.table) runs
 
 -- whatever runs some tables are of
-abbrev pub ForRuns : List TableSeen → (List Run → Type 0) → Type 0
+abbrev pub ForRuns : List OpenTable → (List Run → Type 0) → Type 0
 ForRuns tables P = (runs : List Run) → tables_of runs ≡ tables → P runs
 
 -- some tables are those of runs
-abbrev pub HasRuns : List TableSeen → (List Run → Type 0) → Type 0
+abbrev pub HasRuns : List OpenTable → (List Run → Type 0) → Type 0
 HasRuns tables P = (runs : List Run) × (tables_of runs ≡ tables) × P runs
 
 -- of two entries that may be there, the one with the greater number, or the first

@@ -1,8 +1,8 @@
 use Rattle.std.proofs.Common.{ℕ, refl, ap, sym, ◌∙◌}
 use Rattle.std.specs.Prelude.{Ok}
 use Rattle.lsm_readers.specs.Meta.{facts_told}
-use Rattle.lsm_readers.specs.Seen.{facts_of}
-use Rattle.lsm_readers.proofs.Told.{goes_on, fails_here, fails_later, passes_fault}
+use Rattle.lsm_readers.specs.Table.{facts_of}
+use Rattle.lsm_readers.proofs.Steps.{goes_on, fails_here, fails_later, passes_fault}
 use Rattle.lsm_readers.proofs.meta.read_facts.Goals as goal
 
 pub returns-in_err-table_version : goal.returns-in_err-table_version

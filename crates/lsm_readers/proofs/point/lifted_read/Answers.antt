@@ -6,6 +6,6 @@ use Rattle.lsm_readers.proofs.point.lifted_read.Goals as goal
 
 pub lift-requires : goal.lift-requires
 lift-requires g c =
-    let found : point c.args.block.now c.args.key.now c.saturating_sub-bound.result ≡ Some c.in-Some.item = search rules in
-    let below : c.in-Some.item.seqno < c.saturating_sub-bound.result = point_below _ _ _ _ found in
+    let found : point c.args.block.now c.args.key.now c.args.seqno ≡ Some c.in-Some.item = search rules in
+    let below : c.in-Some.item.seqno < c.args.seqno = point_below _ _ _ _ found in
     omega arith

@@ -4,7 +4,7 @@ use Rattle.sst_entries.specs.declared.error.Error.{Error}
 use Rattle.sst_blocks.specs.Block.{Loaded, entries_of}
 use Rattle.sst_entries.specs.Entry.{Entry}
 use Rattle.lsm_readers.specs.Scan.{behind}
-use Rattle.lsm_readers.specs.Told.{◌>>=◌}
+use Rattle.lsm_readers.specs.Read.{◌>>=◌}
 use Rattle.lsm_readers.proofs.Loads.{load_at_kind, data_holds}
 use Rattle.lsm_readers.proofs.scanner.block_at.Goals as goal
 

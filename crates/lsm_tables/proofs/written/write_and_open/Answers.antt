@@ -29,4 +29,4 @@ returns-in_ok-opened-in-Some-clause-table g c =
     let t = c.in-Some.table in
     let f = rw c.in-Some.is at c.in_ok-write_list.ensures.table in
     let o = c.in_ok-opened-in-Some.ensures in
-    opened (label_of c.args.id 0 c.args.created_at) c.args.items.items c.args.global_seqno t.id t.checksum.0 t.bytes c.in_ok-opened-in-Some.opened f o.bytes o.numbers.0 o.numbers.1 o.numbers.2
+    opened (label_of c.args.id 0 c.args.created_at) c.args.items.items c.args.global_seqno t.id t.checksum.0 t.bytes c.in_ok-opened-in-Some.opened f o.bytes o.number o.tree o.checksum

@@ -1,11 +1,24 @@
-use Rattle.std.proofs.Common.{◌≡◌, refl, rules, sym, []}
-use Rattle.std.specs.Prelude.{Err}
+use Rattle.std.proofs.Common.{◌≡◌, ◌∙◌, refl, rules, sym, subst, [], ℕ, Bool, true, List}
+use Rattle.std.specs.Prelude.{Option, Result, Ok, Err, IfOk, MatchResult}
+use Rattle.sst.specs.declared.stop.Stop.{Stop}
 use Rattle.std.specs.Io.Buffered.{reader_remaining}
 use Rattle.sst.specs.declared.stop.Stop.TheVariants.{Input}
-use Rattle.sst.specs.Lines.{LosesLine}
+use Rattle.sst.specs.Lines.{LosesLine, ReadsLine}
 use Rattle.sst.proofs.RefusalLemmas.{passed}
 use Rattle.sst.proofs.ScriptLemmas.{at_start, at_more, at_failure, at_stop}
 use Rattle.sst.proofs.script.answer_script.Goals as goal
+
+abbrev read : (D : Type 0) → Bool → Result Bool D
+read D more = Ok more
+
+-- a line was read where the call said so, once its error was exchanged for another
+line_read : (D : Type 0) {E : Type 0} (r : Result Bool E) (more : Bool) (old new : Option (List ℕ)) (found line : List ℕ) → IfOk r (ReadsLine old new found)
+    → MatchResult r (λ x. read D more ≡ read D x) (λ e. ⊥) → more ≡ true → line ≡ found → LosesLine old new line
+line_read D (Ok x) more old new found line reads same holds is =
+    let back : more ≡ x = (let kept : read D more ≡ read D x = same in cc) in
+    let loses : LosesLine old new found = subst (λ (y : Bool). ReadsLine old new found y) (sym back ∙ holds) reads in
+    subst (λ (l : List ℕ). LosesLine old new l) (sym is) loses
+line_read D (Err e) more old new found line reads same holds is = absurd same
 
 pub returns-in_err-clone : goal.returns-in_err-clone
 returns-in_err-clone g c = at_failure c.from_residual.result (passed c.from_residual.result Input c.from_residual.ensures.1) (at_start g.row.A.Denot _ _)
@@ -41,7 +54,8 @@ pub loop-before-preserved : goal.loop-before-preserved
 loop-before-preserved g c =
     let here = c.loop-before.invariant in
     let line = c.deref.result.now in
-    let loses : LosesLine (reader_remaining g.R.Read.remaining c.loop-before.input) (reader_remaining g.R.Read.remaining c.read_line.new.input) line = search rules in
+    let loses : LosesLine (reader_remaining g.R.Read.remaining c.loop-before.input) (reader_remaining g.R.Read.remaining c.read_line.new.input) line =
+    line_read Stop c.read_line.result c.in_ok-map_err.field-0 _ _ c.read_line.new.line.items line c.read_line.ensures c.in_ok-map_err.ensures.cases c.if-not-branch.false c.deref.ensures.value in
     let done = c.in_ok-answer_line.ensures.ended here.0 here.1 in
     (done.0, done.1, at_more line c.in_ok-answer_line.field-0 here.2 loses done.2)
 

@@ -1,15 +1,40 @@
-use Rattle.std.proofs.Common.{◌≡◌, ◌∙◌, ap, subst, ℕ, List}
-use Rattle.sst_entries.specs.Error.{FaultsFirst}
-use Rattle.sst_sections.specs.Sections.{body_of}
-use Rattle.lsm_readers.specs.Answer.{fault_at, handle_for}
-use Rattle.lsm_readers.specs.Handled.{table_of}
-use Rattle.lsm_readers.specs.TableSeen.{TableSeen}
+use Rattle.std.proofs.Common.{◌≡◌, ◌∙◌, ap, subst, sym, ℕ, List, Option}
+use Rattle.std.specs.Prelude.{Result}
+use Rattle.sst_entries.specs.declared.error.Error.{Error}
+use Rattle.sst_entries.specs.Entry.{Entry}
+use Rattle.sst_entries.specs.Error.{FaultsFirst, Gives}
+use Rattle.sst_blocks.specs.declared.opened.Opened.{Opened}
+use Rattle.lsm_readers.specs.Answer.{table_answer}
+use Rattle.lsm_readers.specs.Read.{Opens, Read}
+use Rattle.lsm_readers.specs.Table.{IsOpen, table_of}
+use Rattle.lsm_readers.proofs.FilePoints.{file_answers}
+use Rattle.lsm_readers.proofs.Points.{table_read}
 use Rattle.lsm_readers.proofs.table.Table.get_counted.Goals as goal
 
-pub returns-clause-first : goal.returns-clause-first
-returns-clause-first g c =
-    let shared = table_of c.deref-shared.result.now in
-    let seen : shared ≡ c.args.self.now = ap table_of c.deref-shared.ensures ∙ c.self.view_is in
-    let handle = λ (t : TableSeen). handle_for t.parts t.global_seqno c.args.key.now c.args.seqno in
-    let first = subst (λ (b : List ℕ). FaultsFirst c.point_in-found.result (fault_at (body_of b) (handle shared))) c.new-source.ensures.source c.point_in-found.ensures.first in
-    subst (λ (t : TableSeen). FaultsFirst c.point_in-found.result (fault_at (body_of t.bytes) (handle t))) seen first
+pub returns-clause-told : goal.returns-clause-told
+returns-clause-told g c =
+    let same = ap (table_of c.self.inside.source) c.deref-inner.ensures ∙ c.self.view_is in
+    let is = table_read c.new-source.result.0 c.self.inside.source c.deref-inner.result.now c.args.self.now c.args.key.now c.args.seqno c.new-source.ensures.source same in
+    subst (λ (r : Read (Option Entry)). Gives (λ (x : Option Entry). x) c.point_in-found.result r.told) is c.point_in-found.ensures.told
+
+pub returns-clause-early : goal.returns-clause-early
+returns-clause-early g c =
+    let same = ap (table_of c.self.inside.source) c.deref-inner.ensures ∙ c.self.view_is in
+    let is = table_read c.new-source.result.0 c.self.inside.source c.deref-inner.result.now c.args.self.now c.args.key.now c.args.seqno c.new-source.ensures.source same in
+    subst (λ (r : Read (Option Entry)). FaultsFirst c.point_in-found.result r.early) is c.point_in-found.ensures.early
+
+pub returns-clause-opened : goal.returns-clause-opened
+returns-clause-opened g c =
+    let same = ap (table_of c.self.inside.source) c.deref-inner.ensures ∙ c.self.view_is in
+    let is = table_read c.new-source.result.0 c.self.inside.source c.deref-inner.result.now c.args.self.now c.args.key.now c.args.seqno c.new-source.ensures.source same in
+    let loads = (table_answer c.args.self.now c.args.key.now c.args.seqno).loads in
+    let made = subst (λ (r : Read (Option Entry)). Opens c.point_in-found.result r.loads c.new-source.result.1 c.point_in-found.new.source.1) is c.point_in-found.ensures.opened in
+    let told = subst (λ (o : Opened). Opens c.point_in-found.result loads c.new-source.result.1 o) (sym c.opened.ensures) made in
+    subst (λ (o : Opened). Opens c.point_in-found.result loads o c.opened.result) c.new-source.ensures.none told
+
+pub returns-clause-list : goal.returns-clause-list
+returns-clause-list g c es is =
+    let t = c.args.self.now in
+    let held = subst IsOpen c.self.view_is c.self.invariant in
+    let same = file_answers t.bytes es is t.global_seqno t.parts held.short held.recovered c.args.key.now c.args.seqno in
+    subst (λ (told : Result (Option Entry) Error). Gives (λ (x : Option Entry). x) c.point_in-found.result told) same (returns-clause-told g c)

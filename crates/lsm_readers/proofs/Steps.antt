@@ -5,7 +5,7 @@ use Rattle.std.specs.Prelude.{Result, Ok, Err}
 use Rattle.std.specs.Result.{IsErrAnd}
 use Rattle.sst_entries.specs.declared.error.Error.{Error}
 use Rattle.sst_entries.specs.Error.{Fails, Gives}
-use Rattle.lsm_readers.specs.Told.{◌>>=◌}
+use Rattle.lsm_readers.specs.Read.{◌>>=◌}
 
 -- a step that told a value
 pub goes_on : {A B : Type 0} (r : Result A Error) (f : A → Result B Error) (x : A) (told : Result B Error) → r ≡ Ok x → f x ≡ told → (r >>= f) ≡ told

@@ -1,0 +1,62 @@
+-- An opened table without its memory.
+use Rattle.std.specs.Prelude.{◌≡◌, ℕ, ◌<◌, ◌^◌, List, length, Ok}
+use Rattle.lsm_readers.specs.declared.inner.Inner.{Inner}
+use Rattle.lsm_readers.specs.declared.inner.PinnedBlockIndex.{PinnedBlockIndex}
+use Rattle.lsm_readers.specs.declared.inner.PinnedBlockIndex.TheVariants.{Full}
+use Rattle.lsm_readers.specs.declared.meta.ParsedMeta.{ParsedMeta}
+use Rattle.lsm_readers.specs.Meta.{Facts}
+use Rattle.lsm_readers.specs.Parts.{Parts, PinnedIndex, full, recovered_told}
+
+-- what a table says of itself
+abbrev pub facts_of : {A : Type 0} → ParsedMeta A → Facts
+facts_of m = record {
+  table_version = m.table_version;
+  id = m.id;
+  created_at = m.created_at;
+  data_block_count = m.data_block_count;
+  index_block_count = m.index_block_count;
+  key_range = m.key_range;
+  seqno_min = m.seqnos.0;
+  seqno_max = m.seqnos.1;
+  file_size = m.file_size;
+  item_count = m.item_count;
+  tombstone_count = m.tombstone_count;
+  weak_tombstone_count = m.weak_tombstone_count;
+  weak_tombstone_reclaimable = m.weak_tombstone_reclaimable;
+}
+
+abbrev pub pinned_of : {A : Type 0} → PinnedBlockIndex A → PinnedIndex
+pinned_of (Full index) = full index
+
+abbrev pub parts_of : {A : Type 0} → Inner A → Parts
+parts_of inner = record {
+  facts = facts_of inner.metadata;
+  regions = inner.regions;
+  index = pinned_of inner.pinned_block_index;
+}
+
+-- its bytes, what it was opened with, and what it was recovered to
+pub record OpenTable : Type 0 where
+  pub bytes : List ℕ
+  pub global_seqno : ℕ
+  pub tree_id : ℕ
+  pub checksum : ℕ
+  pub parts : Parts
+
+abbrev pub table_of : {A : Type 0} → List ℕ → Inner A → OpenTable
+table_of bytes inner = record {
+  bytes = bytes;
+  global_seqno = inner.global_seqno;
+  tree_id = inner.tree_id;
+  checksum = inner.checksum.0;
+  parts = parts_of inner;
+}
+
+-- the table was recovered from its bytes
+abbrev pub IsRecovered : OpenTable → Type 0
+IsRecovered t = recovered_told t.bytes t.global_seqno ≡ Ok t.parts
+
+-- and its bytes are in memory
+pub record IsOpen (t : OpenTable) : Type 0 where
+  pub recovered : IsRecovered t
+  pub short : length t.bytes < 2 ^ 63
