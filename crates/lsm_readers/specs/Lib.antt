@@ -6,3 +6,4 @@ pub mod Table
 pub mod Answer
 pub mod OfList
 pub mod Scan
+pub mod Words

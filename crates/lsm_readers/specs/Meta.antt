@@ -65,7 +65,8 @@ first_told es name byte fault = item_told es name >>= λ value.
 -- the version, one byte, 3 or 4
 unfoldable pub version_told : List Entry → Result ℕ Error
 version_told es = item_told es TableVersion >>= λ value.
-    if pointwise nat_eq value (3 ∷ []) || pointwise nat_eq value (4 ∷ []) then Ok (slice_index value 0)
+    if pointwise nat_eq value (3 ∷ []) || pointwise nat_eq value (4 ∷ [])
+    then Ok (slice_index value 0)
     else Err UnsupportedTableVersion
 
 -- the hash, the checksum and the index have to be those that are known

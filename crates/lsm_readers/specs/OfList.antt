@@ -27,23 +27,50 @@ ends_of es = interval (facts es).min_key (facts es).max_key
 abbrev pub facts_said : TableVersion → Label → List Entry → ℕ → ℕ → Facts
 facts_said v label es blocks size =
     let f = facts es in
-    record { table_version = version_number v; id = label.table_id; created_at = label.created_at; data_block_count = blocks; index_block_count = counted_blocks.index; key_range = ends_of es; seqno_min = f.lowest; seqno_max = f.highest; file_size = size; item_count = f.item_count; tombstone_count = f.tombstone_count; weak_tombstone_count = f.weak_tombstone_count; weak_tombstone_reclaimable = f.weak_tombstone_reclaimable }
+    record {
+      table_version = version_number v;
+      id = label.table_id;
+      created_at = label.created_at;
+      data_block_count = blocks;
+      index_block_count = counted_blocks.index;
+      key_range = ends_of es;
+      seqno_min = f.lowest;
+      seqno_max = f.highest;
+      file_size = size;
+      item_count = f.item_count;
+      tombstone_count = f.tombstone_count;
+      weak_tombstone_count = f.weak_tombstone_count;
+      weak_tombstone_reclaimable = f.weak_tombstone_reclaimable;
+    }
 
 -- the index behind the data blocks, and the meta block behind the byte of the version
 abbrev pub regions_said : TableVersion → Label → Options → List (List Entry) → ParsedRegions
 regions_said v label options cs =
     let blocks = length (data_section v cs) in
     let index = length (block_bytes v Index (handles_payload v (handles v cs))) in
-    let meta = length (block_bytes v Meta (payload v (meta_entries v label options cs counted_blocks))) in
-    record { tli = record { offset = blocks; size = index }; index = None; filter_tli = None; filter = None; metadata = record { offset = blocks + index + 1; size = meta } }
+    let meta =
+    length (block_bytes v Meta (payload v (meta_entries v label options cs counted_blocks))) in
+    record {
+      tli = record { offset = blocks; size = index };
+      index = None;
+      filter_tli = None;
+      filter = None;
+      metadata = record { offset = blocks + index + 1; size = meta };
+    }
 
 abbrev pub parts_said : {bytes : List ℕ} {es : List Entry} → IsTable bytes es → Parts
 parts_said {bytes} {es} t =
     let v = t.version in
     let cs = (t.file).blocks in
-    record { facts = facts_said v t.label es (length cs) (length (data_section v cs)); regions = regions_said v t.label t.options cs; index = full (handles v cs) }
+    record {
+      facts = facts_said v t.label es (length cs) (length (data_section v cs));
+      regions = regions_said v t.label t.options cs;
+      index = full (handles v cs);
+    }
 
--- what opening the table of a list tells: its parts, where its highest number with the global number added fits
-abbrev pub list_told : {bytes : List ℕ} {es : List Entry} → IsTable bytes es → ℕ → Result Parts Error
+-- what opening the table of a list tells: its parts, where its highest number fits once it is lifted
+abbrev pub list_told : {bytes : List ℕ} {es : List Entry} → IsTable bytes es → ℕ
+    → Result Parts Error
 list_told {bytes} {es} t g =
-    if nat_lt (2 ^ 64 - 1) (highest_seqno es + g) then Err GlobalSeqNoTooLarge else Ok (parts_said t)
+    if nat_lt (2 ^ 64 - 1) (highest_seqno es + g) then Err GlobalSeqNoTooLarge
+    else Ok (parts_said t)

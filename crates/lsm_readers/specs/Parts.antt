@@ -1,4 +1,4 @@
--- What a table is recovered to: what it says of itself, where its parts lie, and what of its index stays loaded.
+-- What a table is recovered to: what it says of itself, where its parts lie, and its pinned index.
 use Rattle.std.specs.Prelude.{ℕ, ◌+◌, ◌-◌, ◌^◌, nat_lt, List, [], map, Option, Some, None, Result, Ok, Err, if◌then◌else◌}
 use Rattle.std.specs.Option.{option_or}
 use Rattle.sst_blocks.specs.declared.block_type.BlockType.TheVariants.{Index, Meta}
@@ -27,11 +27,13 @@ pub record Parts : Type 0 where
 -- the full index
 abbrev pub index_told : List ℕ → ParsedRegions → Result PinnedIndex Error
 index_told body regions =
-    load_told body regions.tli.offset regions.tli.size Index >>= λ block. Ok (full (handles_of block))
+    load_told body regions.tli.offset regions.tli.size Index >>= λ block.
+    Ok (full (handles_of block))
 
 -- the highest number passes u64
 abbrev pub number_told : Facts → ℕ → Result Facts Error
-number_told facts g = if nat_lt (2 ^ 64 - 1) (facts.seqno_max + g) then Err GlobalSeqNoTooLarge else Ok facts
+number_told facts g =
+    if nat_lt (2 ^ 64 - 1) (facts.seqno_max + g) then Err GlobalSeqNoTooLarge else Ok facts
 
 -- what the meta block says, where the global number fits
 abbrev pub fitting_told : List ℕ → Place → ℕ → Result Facts Error
@@ -54,7 +56,8 @@ parts_told bytes g =
 abbrev pub recovered_told : List ℕ → ℕ → Result Parts Error
 recovered_told bytes g = unless (trailer_fault bytes) (parts_told bytes g)
 
--- the fault of opening that is found before memory is taken: of the trailer, of the regions, or of where the meta block lies
+-- the fault of opening that is found before memory is taken: of the trailer, the regions, or the meta
+-- block up to its checksum
 abbrev pub early_in : List ℕ → Result ParsedRegions Error → Option Error
 early_in body (Ok regions) = place_fault body regions.metadata.offset regions.metadata.size Meta
 early_in body (Err e) = Some e
@@ -62,13 +65,14 @@ early_in body (Err e) = Some e
 abbrev pub early_fault : List ℕ → Option Error
 early_fault bytes = option_or (trailer_fault bytes) (early_in (body_of bytes) (places_told bytes))
 
--- the key range that a table's bytes tell: that of the meta block, which what stays loaded cannot change
+-- the key range that a table's bytes tell: that of the meta block, whatever stays loaded
 abbrev pub range_in : Result Facts Error → Interval
 range_in (Ok facts) = facts.key_range
 range_in (Err e) = interval [] []
 
 abbrev pub range_told : List ℕ → Interval
-range_told bytes = range_in (places_told bytes >>= λ regions. meta_told (body_of bytes) regions.metadata)
+range_told bytes =
+    range_in (places_told bytes >>= λ regions. meta_told (body_of bytes) regions.metadata)
 
 -- the size of a part, or 0 where it is absent
 abbrev pub size_of : Option Place → ℕ

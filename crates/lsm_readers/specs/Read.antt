@@ -15,7 +15,8 @@ abbrev pub ◌>>=◌ : {A B : Type 0} → Result A Error → (A → Result B Err
 (Ok x) >>= f = f x
 (Err e) >>= f = Err e
 
--- a read: a value or the first fault, the kinds of the blocks that it loads, and the fault that is found before memory is taken
+-- a read: a value or the first fault, the kinds of the blocks that it loads in order, and the fault
+-- that is found before memory is taken
 pub record Read (X : Type 0) : Type 0 where
   pub told : Result X Error
   pub loads : List BlockType
@@ -68,8 +69,10 @@ abbrev pub wants_memory : {X : Type 0} → Result X Error → Bool
 wants_memory (Ok x) = false
 wants_memory (Err e) = is_memory e
 
--- a call made the loads of a read: all of them, or where it wanted memory those up to some load, the first in any case
-pub record Opens {X : Type 0} (r : Result X Error) (loads : List BlockType) (old new : Opened) : Type 0 where
+-- a call made the loads of a read: all of them, or where it wanted memory those up to some load, the
+-- first in any case
+pub record Opens {X : Type 0} (r : Result X Error) (loads : List BlockType) (old new : Opened)
+    : Type 0 where
   pub made : ℕ
   pub counts : new ≡ opened_by (take made loads) old
   pub whole : wants_memory r ≡ false → made ≡ length loads

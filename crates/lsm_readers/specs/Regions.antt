@@ -12,7 +12,9 @@ use Rattle.lsm_readers.specs.declared.regions.ParsedRegions.{ParsedRegions}
 
 -- a section as a place, whose size is below 2^32
 abbrev pub region_told : Section → Result Place Error
-region_told s = if nat_le (2 ^ 32) s.len then Err SectionTooLarge else Ok (record { offset = s.position; size = s.len })
+region_told s =
+    if nat_le (2 ^ 32) s.len then Err SectionTooLarge
+    else Ok (record { offset = s.position; size = s.len })
 
 -- a section that may be absent
 abbrev pub optional_told : Option Section → Result (Option Place) Error
@@ -35,4 +37,10 @@ regions_told toc =
     optional_told (section_named toc Index) >>= λ index.
     optional_told (section_named toc Filter) >>= λ filter.
     needed_told (section_named toc Meta) >>= λ metadata.
-    Ok (record { tli = tli; index = index; filter_tli = filter_tli; filter = filter; metadata = metadata })
+    Ok (record {
+      tli = tli;
+      index = index;
+      filter_tli = filter_tli;
+      filter = filter;
+      metadata = metadata;
+    })

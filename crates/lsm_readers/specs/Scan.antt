@@ -18,7 +18,8 @@ abbrev pub lifted_told : ℕ → Entry → Result Entry Error
 lifted_told g e = if nat_lt (2 ^ 64 - 1) (e.seqno + g) then Err SeqNoOverflow else Ok (lifted g e)
 
 -- a result, and what comes behind a value
-abbrev pub then_blocks : Result Loaded Error → (Loaded → List (Result Loaded Error)) → List (Result Loaded Error)
+abbrev pub then_blocks : Result Loaded Error → (Loaded → List (Result Loaded Error))
+    → List (Result Loaded Error)
 then_blocks (Ok b) more = Ok b ∷ more b
 then_blocks (Err e) more = Err e ∷ []
 
@@ -26,10 +27,12 @@ then_blocks (Err e) more = Err e ∷ []
 abbrev pub behind : ℕ → Loaded → ℕ
 behind position b = position + 24 + length b.payload
 
--- the data blocks that lie one behind another from a position on: so many of them, or up to the first that cannot be loaded
+-- the data blocks that lie one behind another from a position on: so many of them, or up to the first
+-- that cannot be loaded
 unfoldable pub blocks_told : List ℕ → ℕ → ℕ → List (Result Loaded Error)
 blocks_told body position zero = []
-blocks_told body position (suc n) = then_blocks (load_at_told body position Data) (λ b. blocks_told body (behind position b) n)
+blocks_told body position (suc n) =
+    then_blocks (load_at_told body position Data) (λ b. blocks_told body (behind position b) n)
 
 -- the entries of a block, or the fault in their place
 abbrev pub entries_told : ℕ → Result Loaded Error → List (Result Entry Error)
@@ -44,7 +47,9 @@ up_to_error (Err e ∷ rs) = Err e ∷ []
 
 -- the entries of so many blocks from a position on, behind those that are left of the block before
 unfoldable pub entries_from : List ℕ → ℕ → List Entry → ℕ → ℕ → List (Result Entry Error)
-entries_from body g es position count = up_to_error (map (lifted_told g) es ++ flat_map (entries_told g) (blocks_told body position count))
+entries_from body g es position count =
+    up_to_error
+    (map (lifted_told g) es ++ flat_map (entries_told g) (blocks_told body position count))
 
 -- what a scan of so many blocks gives; the first block is always read
 abbrev pub scan_told : List ℕ → ℕ → ℕ → List (Result Entry Error)
@@ -57,9 +62,11 @@ fault_of (Err e) = Some e
 
 -- the entries of the data block at a position, and where the next block begins
 abbrev pub block_told : List ℕ → ℕ → Result (List Entry × ℕ) Error
-block_told body position = load_at_told body position Data >>= λ b. Ok (entries_of b, behind position b)
+block_told body position =
+    load_at_told body position Data >>= λ b. Ok (entries_of b, behind position b)
 
--- a scan: the bytes before the trailer, the entries that are left of the present block, where the next block begins, how many blocks are still to be read, the global number, and what was loaded
+-- a scan: the bytes before the trailer, the entries that are left of the present block, where the next
+-- block begins, how many blocks are still to be read, the global number, and what was loaded
 pub record Scan : Type 0 where
   pub body : List ℕ
   pub entries : List Entry
@@ -101,7 +108,7 @@ abbrev pub unless_left : List Entry → ℕ → ℕ
 unless_left [] n = n
 unless_left (e ∷ es) n = 0
 
--- how many blocks are loaded behind one: none where it has an entry or cannot be loaded, else those behind it
+-- how many blocks are loaded behind one: none where it has an entry or cannot be loaded, else more
 abbrev pub loads_behind : Result (List Entry × ℕ) Error → (ℕ → ℕ) → ℕ
 loads_behind (Ok block) more = unless_left block.0 (more block.1)
 loads_behind (Err e) more = 0
@@ -109,14 +116,16 @@ loads_behind (Err e) more = 0
 -- of so many blocks from a position on, those up to the first that has an entry or cannot be loaded
 unfoldable pub loads_from : List ℕ → ℕ → ℕ → ℕ
 loads_from body position zero = 0
-loads_from body position (suc n) = suc (loads_behind (block_told body position) (λ next. loads_from body next n))
+loads_from body position (suc n) =
+    suc (loads_behind (block_told body position) (λ next. loads_from body next n))
 
 -- how many blocks the next entry needs
 abbrev pub loads_of : Scan → ℕ
 loads_of s = unless_left s.entries (loads_from s.body s.position s.blocks)
 
--- one call: it gives the first of what is left; an error ends it for good; each load counts, and lowers the number of blocks by one. As many blocks are loaded as the next entry needs; want of memory may stop
--- at any of them
+-- one call: it gives the first of what is left; an error ends it for good; each load counts, and lowers
+-- the number of blocks by one. As many blocks are loaded as the next entry needs; want of memory may
+-- stop at any of them
 pub record ScansNext (s : Scan) (r : Option (Result Entry Error)) (t : Scan) : Type 0 where
   pub answers : Answers (λ _. Unit {0}) ScanHas front_of s r t
   pub ends : MatchOption r (IsEnded t) (λ x. IfErr x (λ _. IsEnded t))
@@ -126,14 +135,17 @@ pub record ScansNext (s : Scan) (r : Option (Result Entry Error)) (t : Scan) : T
   pub exact : stopped is_memory r ≡ false → count ≡ loads_of s
   pub most : count ≤ loads_of s
   pub some : 0 < loads_of s → 0 < count
-  pub falls : MatchOption r (Unit {0}) (λ x. MatchResult x (λ _. count + t.blocks ≡ s.blocks) (λ _. Unit {0}))
+  pub falls : MatchOption r (Unit {0})
+      (λ x. MatchResult x (λ _. count + t.blocks ≡ s.blocks) (λ _. Unit {0}))
 
 -- how many items come at most
 abbrev pub scan_size : Scan → ℕ
 scan_size s = length (scan_left s) + s.blocks
 
--- a scan of a table of a list deals it, its numbers lifted; where the list has an entry, nothing but want of memory refuses
+-- a scan of a table of a list deals it, its numbers lifted; where the list has an entry, nothing but
+-- want of memory refuses
 abbrev pub ScansList : Result Scan Error → List Entry → ℕ → Type 0
 ScansList r es g = MatchResult r
-    (λ s. (stops : Error → Bool) → stops OutOfMemory ≡ true → Deals (stopped stops) ScansNext nowhere s (all_ok (lift es g)))
+    (λ s. (stops : Error → Bool) → stops OutOfMemory ≡ true →
+    Deals (stopped stops) ScansNext nowhere s (all_ok (lift es g)))
     (λ e. 0 < length es → e ≡ OutOfMemory)

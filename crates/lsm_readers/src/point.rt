@@ -2,16 +2,9 @@
 ghost use Rattle.std.specs.Prelude.{◌≡◌, ◌+◌, ◌<◌, ◌^◌, Option, IfOk, IfErr};
 ghost use Rattle.std.specs.Option.{option_map};
 ghost use Rattle.sst_entries.specs.declared.error.Error.TheVariants.{OutOfMemory};
-ghost use Rattle.sst_entries.specs.Entry.{Entry};
-ghost use Rattle.sst_entries.specs.Error.{FaultsFirst, Gives};
-ghost use Rattle.sst_entries.specs.Point.{point};
-ghost use Rattle.sst_sections.specs.Fnv.{fnv1a};
+ghost use Rattle.lsm_readers.specs.Words.{Entry, FaultsFirst, Gives, Opens, answer, counted, fnv1a, lifted, match_at, parts_of, pinned_handle};
+ghost use Rattle.lsm_readers.specs.Words.{pinned_of, place_of, point};
 ghost use Rattle.sst_blocks.specs.declared.block_type.BlockType.TheVariants.{Data};
-ghost use Rattle.sst_blocks.specs.Opened.{counted};
-ghost use Rattle.sst_blocks.specs.Place.{place_of};
-ghost use Rattle.lsm_readers.specs.Answer.{answer, lifted, match_at, pinned_handle};
-ghost use Rattle.lsm_readers.specs.Read.{Opens};
-ghost use Rattle.lsm_readers.specs.Table.{parts_of, pinned_of};
 
 use crate::{Inner, PinnedBlockIndex};
 use sst_blocks::{BlockHandle, BlockType, DataBlock, Error, InternalValue, LoadBlocks, SeqNo};

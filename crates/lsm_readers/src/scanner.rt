@@ -1,16 +1,11 @@
 //! Reading a whole table, block after block.
 ghost use Rattle.std.specs.Prelude.{◌≡◌, ◌∷◌, ◌<◌, ◌-◌, ◌↔◌, ℕ, [], Bool, List, Some, Ok, Err, true, length, IsTrue, IfNone, IfOk, IfErr, IfSome};
 ghost use Rattle.std.specs.Iterator.{at_most};
-ghost use Rattle.sst_blocks.specs.Block.{load_at_told};
-ghost use Rattle.sst_entries.specs.Entry.{Entry};
-ghost use Rattle.sst_entries.specs.Error.{Faults, Gives};
-ghost use Rattle.sst_blocks.specs.Opened.{counted, none_opened};
-ghost use Rattle.sst_sections.specs.Sections.{body_of};
-ghost use Rattle.sst_entries.specs.Stream.{CanDeal, Deals, nowhere, stopped};
+ghost use Rattle.lsm_readers.specs.Words.{CanDeal, Deals, Entry, Faults, Gives, Scan, ScansNext, TakesEntry, block_told, body_of, counted};
+ghost use Rattle.lsm_readers.specs.Words.{ended, fault_of, lifted_told, load_at_told, none_opened, nowhere, scan_size, scan_told, stopped};
 ghost use Rattle.sst_blocks.specs.declared.block_type.BlockType.TheVariants.{Data};
 ghost use Rattle.sst_entries.specs.declared.error.Error.{Error};
 ghost use Rattle.sst_entries.specs.declared.error.Error.TheVariants.{OutOfMemory};
-ghost use Rattle.lsm_readers.specs.Scan.{Scan, ScansNext, TakesEntry, block_told, ended, fault_of, lifted_told, scan_size, scan_told};
 
 use sst_blocks::{
     BlockSource, BlockType, CompressionType, DataBlock, Error, Header, IterItem, Opened, SeqNo,
@@ -43,7 +38,14 @@ impl<A: Allocator> Model for Scanner<A> {
 
     ghost Value = { Scan };
 
-    ghost view = { λ s. record { body = body_of s.source; entries = drop s.index s.block; position = s.position; blocks = s.blocks_left; global_seqno = s.global_seqno; opened = s.opened } };
+    ghost view = { λ s. record {
+      body = body_of s.source;
+      entries = drop s.index s.block;
+      position = s.position;
+      blocks = s.blocks_left;
+      global_seqno = s.global_seqno;
+      opened = s.opened;
+    } };
 }
 
 /// The data block at a position, and where the next block begins. Refused as [`BlockSource::load_at`].
@@ -52,7 +54,8 @@ fn block_at<A: Allocator + Clone>(
     position: u64,
     opened: &mut Opened,
 ) -> Result<(DataBlock<A>, u64), Error>
-    ensures told { Gives (λ (x : List Entry × ℕ). x) result (block_told (body_of source.now) position) }
+    ensures told { let block = block_told (body_of source.now) position in
+        Gives (λ (x : List Entry × ℕ). x) result block }
     ensures counted { opened.new ≡ counted Data opened.old }
 {
     let block = source.load_at(position, BlockType::Data, opened)?;
@@ -72,10 +75,17 @@ impl<A: Allocator + Clone> Scanner<A> {
         ensures refused { Faults result (fault_of (load_at_told (body_of source.now) 0 Data)) }
         ensures opened { IfOk result (λ s. s.opened ≡ counted Data none_opened) }
         // Want of memory aside, it gives the entries of the blocks.
-        ensures deals { (stops : Error → Bool) → stops OutOfMemory ≡ true → IfOk result (λ s. Deals (stopped stops) ⟦<Scanner<A> as Iterator>⟧.next_gives nowhere s (scan_told (body_of source.now) block_count global_seqno)) }
-        ensures can { IfOk result (λ s. CanDeal ⟦<Scanner<A> as Iterator>⟧.next_gives nowhere ⟦<Scanner<A> as Iterator>⟧.can_next ⟦<Scanner<A> as Iterator>⟧.can_next s) }
+        ensures deals { (stops : Error → Bool) → stops OutOfMemory ≡ true →
+            let gives = ⟦<Scanner<A> as Iterator>⟧.next_gives in
+            let left = scan_told (body_of source.now) block_count global_seqno in
+            IfOk result (λ s. Deals (stopped stops) gives nowhere s left) }
+        ensures can { let gives = ⟦<Scanner<A> as Iterator>⟧.next_gives in
+            let may = ⟦<Scanner<A> as Iterator>⟧.can_next in
+            IfOk result (λ s. CanDeal gives nowhere may may s) }
         // After an error nothing comes, whatever the error is.
-        ensures ends { (stops : Error → Bool) (s t : Scan) (e : Error) → ⟦<Scanner<A> as Iterator>⟧.next_gives s (Some (Err e)) t → Deals (stopped stops) ⟦<Scanner<A> as Iterator>⟧.next_gives nowhere t [] }
+        ensures ends { (stops : Error → Bool) (s t : Scan) (e : Error) →
+            ⟦<Scanner<A> as Iterator>⟧.next_gives s (Some (Err e)) t →
+            Deals (stopped stops) ⟦<Scanner<A> as Iterator>⟧.next_gives nowhere t [] }
     {
         match compression {
             CompressionType::None => {}
@@ -118,7 +128,8 @@ impl<A: Allocator + Clone> Scanner<A> {
     /// The next entry of the present block, its number lifted.
     fn entry(&self) -> IterItem<A>
         requires { 0 < length self.now.entries }
-        ensures { (e : Entry) (es : List Entry) → self.now.entries ≡ e ∷ es → Gives (λ (x : Entry). x) result (lifted_told self.now.global_seqno e) }
+        ensures { (e : Entry) (es : List Entry) → self.now.entries ≡ e ∷ es →
+            Gives (λ (x : Entry). x) result (lifted_told self.now.global_seqno e) }
     {
         let mut item = self.block.entry(self.index)?;
         match item.key.seqno.checked_add(self.global_seqno) {
@@ -153,8 +164,16 @@ impl<A: Allocator + Clone> Scanner<A> {
     /// Goes on to the next block. An error ends the scan.
     fn next_block(&mut self) -> Result<(), Error>
         requires { 0 < self.old.blocks }
-        ensures ok { IfOk result (λ _. (es : List Entry) × (next : ℕ) × (block_told self.old.body self.old.position ≡ Ok (es, next)) × (self.new ≡ record self.old { entries = es; position = next; blocks = self.old.blocks - 1; opened = counted Data self.old.opened })) }
-        ensures err { IfErr result (λ e. self.new ≡ record (ended self.old) { opened = counted Data self.old.opened }) }
+        ensures ok { IfOk result (λ _. (es : List Entry) × (next : ℕ) ×
+            (block_told self.old.body self.old.position ≡ Ok (es, next)) ×
+            (self.new ≡ record self.old {
+              entries = es;
+              position = next;
+              blocks = self.old.blocks - 1;
+              opened = counted Data self.old.opened;
+            })) }
+        ensures err { IfErr result (λ e.
+            self.new ≡ record (ended self.old) { opened = counted Data self.old.opened }) }
         ensures refused { Faults result (fault_of (block_told self.old.body self.old.position)) }
     {
         match block_at(&self.source, self.position, &mut self.opened) {

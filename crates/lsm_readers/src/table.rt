@@ -1,24 +1,14 @@
 //! Tables: opening a table's bytes, and reading from them.
 ghost use Rattle.std.specs.Prelude.{◌≡◌, ◌+◌, ℕ, Bool, List, [], Option, Some, Result, Ok, Err, false, true, length, IfOk, IfErr, MatchResult};
-ghost use Rattle.sst_blocks.specs.Block.{Loaded, load_told, load_at_told, place_fault};
-ghost use Rattle.sst_entries.specs.Entry.{Entry};
-ghost use Rattle.sst_entries.specs.Error.{Faults, FaultsFirst, Gives};
-ghost use Rattle.sst_sections.specs.Fnv.{fnv1a};
-ghost use Rattle.sst_blocks.specs.Opened.{counted, none_opened};
-ghost use Rattle.sst_sections.specs.Sections.{body_of};
-ghost use Rattle.sst_entries.specs.Point.{point, within};
-ghost use Rattle.sst_entries.specs.Stream.{CanDeal, Deals, all_ok, nowhere, stopped};
+ghost use Rattle.lsm_readers.specs.Words.{Deals, CanDeal, Entry, Faults, FaultsFirst, Gives, IsOpen, IsRecovered, IsTable};
+ghost use Rattle.lsm_readers.specs.Words.{Loaded, OpenTable, Opens, Scan, ScansList, body_of, counted, early_fault, early_in, ends_of};
+ghost use Rattle.lsm_readers.specs.Words.{facts_of, fault_of, fitting_told, fnv1a, index_told, key_bound, lift, list_told, load_at_told};
+ghost use Rattle.lsm_readers.specs.Words.{load_told, none_opened, nowhere, number_told, overlaps_bounds, parts_of, parts_said, parts_told};
+ghost use Rattle.lsm_readers.specs.Words.{pinned_of, place_fault, places_told, point, recovered_told, scan_told, size_of, stopped};
+ghost use Rattle.lsm_readers.specs.Words.{table_answer, within};
 ghost use Rattle.sst_blocks.specs.declared.block_type.BlockType.TheVariants.{Data, Index, Meta};
 ghost use Rattle.sst_entries.specs.declared.error.Error.{Error};
 ghost use Rattle.sst_entries.specs.declared.error.Error.TheVariants.{GlobalSeqNoTooLarge, OutOfMemory};
-ghost use Rattle.lsm_ranges.specs.KeyRange.{key_bound, overlaps_bounds};
-ghost use Rattle.lsm_files.specs.Table.{IsTable};
-ghost use Rattle.lsm_readers.specs.Answer.{lift, table_answer};
-ghost use Rattle.lsm_readers.specs.OfList.{ends_of, list_told, parts_said};
-ghost use Rattle.lsm_readers.specs.Parts.{early_fault, early_in, fitting_told, index_told, number_told, parts_told, places_told, recovered_told, size_of};
-ghost use Rattle.lsm_readers.specs.Read.{Opens};
-ghost use Rattle.lsm_readers.specs.Scan.{Scan, ScansList, fault_of, scan_told};
-ghost use Rattle.lsm_readers.specs.Table.{IsOpen, IsRecovered, OpenTable, facts_of, parts_of, pinned_of};
 
 use crate::block_index::FullBlockIndex;
 use crate::{Inner, ParsedMeta, ParsedRegions, PinnedBlockIndex, Scanner, point_in};
@@ -142,7 +132,8 @@ fn fitting_metadata<A: Allocator + Clone>(
     handle: &BlockHandle,
     global_seqno: SeqNo,
 ) -> Result<ParsedMeta<A>, Error>
-    ensures told { Gives facts_of result (fitting_told (body_of source.now) handle.now global_seqno) }
+    ensures told { let facts = fitting_told (body_of source.now) handle.now global_seqno in
+        Gives facts_of result facts }
     ensures early { let body = body_of source.now in
         FaultsFirst result (place_fault body handle.now.offset handle.now.size Meta) }
 {
@@ -191,11 +182,13 @@ impl<A: Allocator + Clone> Table<A> {
         pin_filter: bool,
         pin_index: bool,
     ) -> Result<Table<A>, Error>
-        ensures told { Gives (λ (t : OpenTable). t.parts) result (recovered_told bytes global_seqno) }
+        ensures told { Gives (λ (t : OpenTable). t.parts) result
+            (recovered_told bytes global_seqno) }
         // What is found before memory is taken is the refusal, whatever memory there is.
         ensures early { FaultsFirst result (early_fault bytes) }
         // A table of a list that readers read is opened where the highest number fits, and says of itself what the list says.
-        ensures list { (es : List Entry) (t : IsTable bytes es) → t.options.index_block_restart_interval ≡ 1 →
+        ensures list { (es : List Entry) (t : IsTable bytes es) →
+            t.options.index_block_restart_interval ≡ 1 →
             Gives (λ (t : OpenTable). t.parts) result (list_told t global_seqno) }
         ensures bytes { IfOk result (λ t. t.bytes ≡ bytes) }
         ensures number { IfOk result (λ t. t.global_seqno ≡ global_seqno) }
@@ -275,14 +268,23 @@ impl<A: Allocator + Clone> Table<A> {
     pub fn scan(&self) -> Result<Scanner<A>, Error>
         ensures refused { Faults result (fault_of (load_at_told (body_of self.now.bytes) 0 Data)) }
         // Want of memory aside, it gives the entries of as many blocks as the table says that it has.
-        ensures deals { (stops : Error → Bool) → stops OutOfMemory ≡ true → IfOk result (λ s. Deals (stopped stops) ⟦<Scanner<A> as Iterator>⟧.next_gives nowhere s (scan_told (body_of self.now.bytes) self.now.parts.facts.data_block_count self.now.global_seqno)) }
-        ensures can { IfOk result (λ s. CanDeal ⟦<Scanner<A> as Iterator>⟧.next_gives nowhere ⟦<Scanner<A> as Iterator>⟧.can_next ⟦<Scanner<A> as Iterator>⟧.can_next s) }
+        ensures deals { (stops : Error → Bool) → stops OutOfMemory ≡ true →
+            let gives = ⟦<Scanner<A> as Iterator>⟧.next_gives in
+            let count = self.now.parts.facts.data_block_count in
+            let left = scan_told (body_of self.now.bytes) count self.now.global_seqno in
+            IfOk result (λ s. Deals (stopped stops) gives nowhere s left) }
+        ensures can { let gives = ⟦<Scanner<A> as Iterator>⟧.next_gives in
+            let may = ⟦<Scanner<A> as Iterator>⟧.can_next in
+            IfOk result (λ s. CanDeal gives nowhere may may s) }
         // After an error nothing comes, whatever the error is.
-        ensures ends { (stops : Error → Bool) (s t : Scan) (e : Error) → ⟦<Scanner<A> as Iterator>⟧.next_gives s (Some (Err e)) t → Deals (stopped stops) ⟦<Scanner<A> as Iterator>⟧.next_gives nowhere t [] }
+        ensures ends { (stops : Error → Bool) (s t : Scan) (e : Error) →
+            ⟦<Scanner<A> as Iterator>⟧.next_gives s (Some (Err e)) t →
+            Deals (stopped stops) ⟦<Scanner<A> as Iterator>⟧.next_gives nowhere t [] }
         ensures opened { IfOk result (λ s. s.opened ≡ counted Data none_opened) }
         // On a table of a list it is the list, its numbers lifted; where the list has an entry, nothing but want of memory
         // refuses it.
-        ensures list { (es : List Entry) → IsTable self.now.bytes es → ScansList result es self.now.global_seqno }
+        ensures list { (es : List Entry) → IsTable self.now.bytes es →
+            ScansList result es self.now.global_seqno }
         ensures open { IsOpen self.now }
     {
         let inner: &Inner<A> = &self.inner;
@@ -298,8 +300,10 @@ impl<A: Allocator + Clone> Table<A> {
 impl<A: Allocator> Table<A> {
     /// A law, which does nothing: a table of a list says of itself what the list says, and its key range is the list's ends.
     pub fn tells_its_list(&self)
-        ensures parts { (es : List Entry) (t : IsTable self.now.bytes es) → self.now.parts ≡ parts_said t }
-        ensures range { (es : List Entry) → IsTable self.now.bytes es → ⟦<Table<A> as Ranged>⟧.range self.now ≡ ends_of es }
+        ensures parts { (es : List Entry) (t : IsTable self.now.bytes es) →
+            self.now.parts ≡ parts_said t }
+        ensures range { (es : List Entry) → IsTable self.now.bytes es →
+            ⟦<Table<A> as Ranged>⟧.range self.now ≡ ends_of es }
     {
         let _source: &BlockSource<A> = &self.source;
     }
@@ -363,7 +367,9 @@ impl<A: Allocator> Table<A> {
     /// The payload length of the index block that stays loaded, in bytes.
     pub fn pinned_block_index_size(&self) -> usize
         ensures size { result + 24 ≡ self.now.parts.regions.tli.size }
-        ensures payload { (b : Loaded) → load_told (body_of self.now.bytes) self.now.parts.regions.tli.offset self.now.parts.regions.tli.size Index ≡ Ok b → result ≡ length b.payload }
+        ensures payload { (b : Loaded) → let tli = self.now.parts.regions.tli in
+            load_told (body_of self.now.bytes) tli.offset tli.size Index ≡ Ok b →
+            result ≡ length b.payload }
     {
         self.inner.regions.tli.size() as usize - Header::serialized_len()
     }
