@@ -1,0 +1,60 @@
+-- Bloom filters: which bits a hash has, and what the filter of some hashes is.
+use Rattle.std.specs.Prelude.{◌≡◌, ℕ, zero, suc, ◌+◌, ◌*◌, ◌/◌, ◌%◌, ◌^◌, ◌<◌, ◌≤◌, ◌==◌, ◌||◌, Bool}
+use Rattle.std.specs.Prelude.{List, [], ◌∷◌, ◌++◌, length, slice_index_or, bit_or}
+use Rattle.std.specs.Int.{bit_at}
+use Rattle.std.specs.List.{list_any, list_all}
+
+-- how far apart a hash's probes lie: its upper half, with the lowest bit set
+abbrev pub stride : ℕ → ℕ
+stride h = bit_or (h / 2 ^ 32) 1
+
+-- the bit that probe i of a hash looks at, among m bits
+abbrev pub probe : ℕ → ℕ → ℕ → ℕ
+probe m h i = ((h + i * stride h) % 2 ^ 64) % m
+
+-- the bits of the first k probes
+unfoldable pub probes : ℕ → ℕ → ℕ → List ℕ
+probes m h zero = []
+probes m h (suc i) = probes m h i ++ probe m h i ∷ []
+
+-- bit p of some bytes, the lowest bit of a byte first
+abbrev pub is_set : List ℕ → ℕ → Bool
+is_set bytes p = bit_at (slice_index_or bytes (p / 8) 0) (p % 8) == 1
+
+-- a number is in a list
+abbrev pub is_in : ℕ → List ℕ → Bool
+is_in p ps = list_any (λ q. q == p) ps
+
+-- a filter: how many probes a hash has, and the bytes of its bits
+pub record Filter : Type 0 where
+  pub probe_count : ℕ
+  pub bits : List ℕ
+
+-- the bits of a hash in a filter
+abbrev pub probes_of : Filter → ℕ → List ℕ
+probes_of f h = probes (8 * length f.bits) h f.probe_count
+
+-- all bits of a hash are set
+abbrev pub admits : Filter → ℕ → Bool
+admits f h = list_all (is_set f.bits) (probes_of f h)
+
+-- just the bits of these hashes are set
+pub record IsFilterOf (f : Filter) (hashes : List ℕ) : Type 0 where
+  pub bits : (p : ℕ) → p < 8 * length f.bits →
+      is_set f.bits p ≡ list_any (λ h. is_in p (probes_of f h)) hashes
+
+-- besides what was set, just the bits of one hash more are
+pub record Gains (f : Filter) (h : ℕ) (g : Filter) : Type 0 where
+  pub probe_count_is : g.probe_count ≡ f.probe_count
+  pub same_length : length g.bits ≡ length f.bits
+  pub bits : (p : ℕ) → p < 8 * length f.bits →
+      is_set g.bits p ≡ (is_set f.bits p || is_in p (probes_of f h))
+
+-- a payload: the number of probes, then the bits
+abbrev pub payload_of : Filter → List ℕ
+payload_of f = f.probe_count ∷ f.bits
+
+-- the filter of a payload
+abbrev pub filter_in : List ℕ → Filter
+filter_in [] = record { probe_count = 0; bits = [] }
+filter_in (k ∷ bits) = record { probe_count = k; bits = bits }

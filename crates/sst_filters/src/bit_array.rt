@@ -1,0 +1,89 @@
+//! Bits in bytes, and the probes of a hash.
+ghost use Rattle.std.specs.Prelude.{◌≡◌, ◌*◌, ◌^◌, ◌==◌, ◌||◌, ◌<◌, length, true, List, ℕ};
+ghost use Rattle.std.specs.List.{list_all};
+ghost use Rattle.sst_filters.specs.Filter.{admits, filter_in, IsFilterOf, is_in, is_set, probes, stride};
+
+// How far apart a hash's probes lie.
+#[inline(always)]
+fn stride(hash: u64) -> u64
+    ensures { result ≡ stride hash }
+{
+    (hash >> 32) | 1
+}
+
+#[inline(always)]
+fn has_bit(bits: &[u8], place: u64) -> bool
+    requires { place < 8 * length bits.now }
+    ensures { result ≡ is_set bits.now place }
+{
+    (bits[(place / 8) as usize] >> (place % 8)) & 1 == 1
+}
+
+#[inline(always)]
+fn set_bit(bits: &mut [u8], place: u64)
+    requires { place < 8 * length bits.old }
+    ensures length { length bits.new ≡ length bits.old }
+    ensures bits { (p : ℕ) → p < 8 * length bits.old →
+        is_set bits.new p ≡ (is_set bits.old p || (place == p)) }
+{
+    bits[(place / 8) as usize] |= 1 << (place % 8);
+}
+
+/// Sets the bits of a hash.
+pub(crate) fn set_probes(bits: &mut [u8], count: u8, hash: u64)
+    requires some { 0 < length bits.old }
+    requires short { length bits.old < 2 ^ 60 }
+    ensures length { length bits.new ≡ length bits.old }
+    ensures bits { (p : ℕ) → p < 8 * length bits.old →
+        is_set bits.new p ≡ (is_set bits.old p || is_in p (probes (8 * length bits.old) hash count)) }
+{
+    let len = bits.len() as u64 * 8;
+    let stride = stride(hash);
+    let mut probe = hash;
+    for _ in 0..count {
+        set_bit(bits, probe % len);
+        probe = probe.wrapping_add(stride);
+    }
+}
+
+/// Whether all bits of a hash are set.
+fn has_probes(bits: &[u8], count: u8, hash: u64) -> bool
+    requires some { 0 < length bits.now }
+    requires short { length bits.now < 2 ^ 60 }
+    ensures { result ≡ list_all (is_set bits.now) (probes (8 * length bits.now) hash count) }
+{
+    let len = bits.len() as u64 * 8;
+    let stride = stride(hash);
+    let mut probe = hash;
+    for _ in 0..count {
+        if !has_bit(bits, probe % len) {
+            return false;
+        }
+        probe = probe.wrapping_add(stride);
+    }
+    true
+}
+
+#[inline(always)]
+fn admits(payload: &[u8], hash: u64) -> bool
+    requires some { 1 < length payload.now }
+    requires short { length payload.now < 2 ^ 60 }
+    ensures { result ≡ admits (filter_in payload.now) hash }
+{
+    has_probes(&payload[1..], payload[0], hash)
+}
+
+/// Whether the filter of a payload admits a hash: all bits of the hash are set. It takes no memory.
+///
+/// The payload is one byte that says how many probes a hash has, then the bits.
+#[inline]
+pub fn contains_hash(payload: &[u8], hash: u64) -> bool
+    requires some { 1 < length payload.now }
+    requires short { length payload.now < 2 ^ 60 }
+    ensures admits { result ≡ admits (filter_in payload.now) hash }
+    // A hash that was set is admitted.
+    ensures yes { (hashes : List ℕ) → IsFilterOf (filter_in payload.now) hashes →
+        is_in hash hashes ≡ true → result ≡ true }
+{
+    admits(payload, hash)
+}

@@ -1,0 +1,68 @@
+//! Building a filter.
+ghost use Rattle.std.specs.Prelude.{◌≡◌, ◌<◌, ◌^◌, ◌++◌, ◌∷◌, [], length, List, ℕ};
+ghost use Rattle.sst_filters.specs.Filter.{Gains, IsFilterOf, filter_in, payload_of};
+ghost use Rattle.sst_sections.specs.Fnv.{fnv1a};
+
+use crate::bit_array::set_probes;
+use sst_sections::hash;
+use std::alloc::{Allocator, Global};
+use std::marker::Model;
+
+/// A Bloom filter that is being built (Bloom, "Space/time trade-offs in hash coding with allowable errors", Communications
+/// of the ACM 13, 1970). A contract sees how many probes a hash has, and the bytes of the bits.
+#[derive(Drop)]
+pub struct Builder<A: Allocator = Global> {
+    // The number of probes, then the bits.
+    payload: Vec<u8, A>,
+}
+
+impl<A: Allocator> Model for Builder<A> {
+    ghost use Rattle.std.specs.Prelude.{◌<◌, ◌^◌, length};
+    ghost use Rattle.sst_filters.specs.Filter.{Filter, filter_in};
+
+    ghost Value = { Filter };
+
+    ghost view = { λ b. filter_in b.payload.items };
+
+    ghost invariant = { λ b. (8 < length b.payload.items) × (length b.payload.items < 2 ^ 32) };
+}
+
+impl<A: Allocator> Builder<A> {
+    // The filter of a payload.
+    pub(crate) fn of(payload: Vec<u8, A>) -> Builder<A>
+        requires { (8 < length payload.items) × (length payload.items < 2 ^ 32) }
+        ensures { result ≡ filter_in payload.items }
+    {
+        Builder { payload }
+    }
+
+    /// The hash of a key, which a filter is built and asked by.
+    pub fn get_hash(key: &[u8]) -> u64
+        ensures { result ≡ fnv1a key.now }
+    {
+        hash(key)
+    }
+
+    /// Sets the bits of a hash.
+    pub fn set_with_hash(&mut self, hash: u64)
+        ensures gains { Gains self.old hash self.new }
+        ensures hashes { (hashes : List ℕ) → IsFilterOf self.old hashes →
+            IsFilterOf self.new (hashes ++ hash ∷ []) }
+    {
+        self.gain(hash);
+    }
+
+    fn gain(&mut self, hash: u64)
+        ensures { Gains self.old hash self.new }
+    {
+        let count = self.payload[0];
+        set_probes(&mut self.payload[1..], count, hash);
+    }
+
+    /// The payload of the filter's block: the number of probes in one byte, then the bits.
+    pub fn build(self) -> Vec<u8, A>
+        ensures { result.items ≡ payload_of self }
+    {
+        self.payload
+    }
+}

@@ -1,0 +1,10 @@
+//! Bloom filters: which keys a table may have.
+#![tactic(auto)]
+
+mod bit_array;
+mod builder;
+mod policy;
+
+pub use bit_array::contains_hash;
+pub use builder::Builder;
+pub use policy::{BloomConstructionPolicy, filter_bound};
