@@ -75,7 +75,7 @@ fn admits(payload: &[u8], hash: u64) -> bool
 
 /// Whether the filter of a payload admits a hash: all bits of the hash are set. It takes no memory.
 ///
-/// The payload is one byte that says how many probes a hash has, then the bits.
+/// The payload is one byte that says how many probes a hash has, then the bits: two bytes or more, and fewer than 2^60.
 #[inline]
 pub fn contains_hash(payload: &[u8], hash: u64) -> bool
     requires some { 1 < length payload.now }
