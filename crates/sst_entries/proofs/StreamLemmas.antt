@@ -1,7 +1,7 @@
 -- What `Deals` and `CanDeal` give for one call, and how they are proved from an invariant.
 use Rattle.std.proofs.Common.{◌≡◌, refl, sym, ◌∙◌, ap, subst, Bool, false, List, [], ◌∷◌, ◌++◌, reverse}
 use Rattle.std.proofs.lemmas.List.{reverse-append}
-use Rattle.std.specs.Prelude.{Option, Result, Ok}
+use Rattle.std.specs.Prelude.{Option, Result, Ok, Err, OnErr}
 use Rattle.sst_entries.specs.declared.stream.Direction.{Direction}
 use Rattle.sst_entries.specs.declared.stream.Direction.TheVariants.{Front, Back}
 use Rattle.sst_entries.specs.declared.error.Error.{Error}
@@ -76,6 +76,11 @@ module _ {S A : Type 0} (front back : S → Option A → S → Type 0) (can can_
       along (e ∷ ends) [] s t may runs = absurd runs
       along (Front ∷ ends) (r ∷ rs) s t may runs = along ends rs runs.0 t (at_front s r runs.0 may runs.1) runs.2
       along (Back ∷ ends) (r ∷ rs) s t may runs = along ends rs runs.0 t (at_back s r runs.0 may runs.1) runs.2
+
+-- what holds in any case holds on a refusal
+pub on_err : {X E P : Type 0} (r : Result X E) → P → OnErr r P
+on_err (Ok x) p = tt
+on_err (Err e) p = p
 
 -- one call more
 pub runs_more : {S A : Type 0} (front back : S → Option A → S → Type 0) (e : Direction) (r : Option A) (t u : S) → Steps front back e t r u → (ends : List Direction) (rs : List (Option A)) (s : S) → Runs front back s ends rs t → Runs front back s (ends ++ e ∷ []) (rs ++ r ∷ []) u

@@ -1,5 +1,5 @@
 -- A source stands for the list that it still deals, from the front by `next` and from the back by `next_back`.
-use Rattle.std.specs.Prelude.{◌≡◌, ℕ, ◌<◌, Bool, false, List, [], ◌∷◌, map, reverse, Option, Some, None, MatchOption, Result, Ok, Err}
+use Rattle.std.specs.Prelude.{◌≡◌, ℕ, ◌<◌, Bool, false, List, [], ◌∷◌, map, reverse, take, Option, Some, None, MatchOption, Result, Ok, Err}
 use Rattle.sst_entries.specs.declared.stream.Direction.{Direction}
 use Rattle.sst_entries.specs.declared.stream.Direction.TheVariants.{Front, Back}
 use Rattle.sst_entries.specs.declared.error.Error.{Error}
@@ -60,6 +60,13 @@ module _ {S A : Type 0} (front back : S → Option A → S → Type 0) where
   Runs s [] (r ∷ rs) t = ⊥
   Runs s (e ∷ ends) [] t = ⊥
   Runs s (e ∷ ends) (r ∷ rs) t = (j : S) × Steps e s r j × Runs j ends rs t
+
+-- calls at some of these ends, from the first on, led from s to t
+pub record LedBy {S A : Type 0} (front back : S → Option A → S → Type 0) (s : S)
+    (ends : List Direction) (t : S) : Type 0 where
+  pub asked : ℕ
+  pub answers : List (Option A)
+  pub ran : Runs front back s (take asked ends) answers t
 
 -- for every list of ends, the answers are those of `deal`, up to one that stops the source
 pub record Deals {S A : Type 0} (stops : Option A → Bool) (front back : S → Option A → S → Type 0) (s : S) (xs : List A) : Type 0 where

@@ -1,6 +1,6 @@
 //! Streams of results that are taken from both ends.
-ghost use Rattle.std.specs.Prelude.{Bool, IfOk};
-ghost use Rattle.sst_entries.specs.Stream.{AnswersOf, CanDeal, Deals, DealsInFront, Runs, Steps, nowhere, stopped};
+ghost use Rattle.std.specs.Prelude.{Bool, IfOk, OnErr};
+ghost use Rattle.sst_entries.specs.Stream.{AnswersOf, CanDeal, Deals, DealsInFront, LedBy, Runs, Steps, nowhere, stopped};
 ghost use Rattle.sst_entries.specs.declared.error.Error.{Error};
 
 use crate::{Error, InternalValue};
@@ -34,7 +34,7 @@ pub fn answer_at<I: DoubleEndedIterator<Item = Result<X, Error>>, X>(
 }
 
 /// The answers of a source at a list of ends. Refused where memory runs out; the source is then
-/// where the calls so far have led.
+/// where the calls so far have led. It may be asked again in any case.
 pub fn answers_at<I: DoubleEndedIterator<Item = Result<X, Error>>, X: Drop, A: Allocator>(
     alloc: A,
     source: &mut I,
@@ -46,6 +46,9 @@ pub fn answers_at<I: DoubleEndedIterator<Item = Result<X, Error>>, X: Drop, A: A
     // Up to an error that stops the source, they are the answers that its list deals.
     ensures dealt { IfOk result (λ answers.
         AnswersOf I.next_gives I.next_back_gives source.old ends.now answers.items) }
+    ensures refused { OnErr result (
+        LedBy I.next_gives I.next_back_gives source.old ends.now source.new) }
+    ensures can { CanDeal I.next_gives I.next_back_gives I.can_next I.can_next_back source.new }
 {
     let mut answers = Vec::new(alloc);
     for end in ends {
