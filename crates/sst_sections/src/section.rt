@@ -1,5 +1,5 @@
 //! The sections of a table's bytes, and the trailer that says where they lie.
-ghost use Rattle.std.specs.Prelude.{◌≡◌, ◌++◌, ◌∷◌, [], ℕ, ◌+◌, ◌<◌, ◌^◌, length, IfOk, IfErr, OnOk, OnErr, All};
+ghost use Rattle.std.specs.Prelude.{◌≡◌, ◌++◌, ◌∷◌, [], ℕ, ◌<◌, ◌^◌, length, IfOk, IfErr, OnOk, OnErr, All};
 ghost use Rattle.std.specs.List.{flat_map};
 ghost use Rattle.sst_sections.specs.Fnv.{fnv1a};
 ghost use Rattle.sst_sections.specs.Number.{le8};
@@ -154,7 +154,6 @@ impl<A: Allocator + Clone> SectionWriter<A> {
 
     /// Writes two runs of bytes at the end, one after the other. Refused [`Error::OutOfMemory`]; nothing changes then.
     pub fn append_both(&mut self, front: &[u8], back: &[u8]) -> Result<(), Error>
-        requires { length front.now + length back.now < 2 ^ 64 }
         ensures ok { let bytes = self.old.bytes ++ front.now ++ back.now in
             OnOk result (self.new ≡ record self.old { bytes = bytes }) }
         ensures unchanged { OnErr result (self.new ≡ self.old) }

@@ -1,5 +1,5 @@
 //! What a trailer says of the sections.
-ghost use Rattle.std.specs.Prelude.{◌≡◌, ◌*◌, ◌≤◌, ◌<◌, ◌^◌, None, Some, drop, length, map, slice_index_or, IfOk};
+ghost use Rattle.std.specs.Prelude.{◌≡◌, ◌*◌, ◌≤◌, None, Some, drop, length, map, slice_index_or, IfOk};
 ghost use Rattle.std.specs.List.{list_any};
 ghost use Rattle.sst_entries.specs.Error.{Refuses};
 ghost use Rattle.sst_sections.specs.Sections.{is_past, place_of, section_at, section_in, section_names, slots_len, trailer_fault};
@@ -40,7 +40,6 @@ impl Toc {
     /// Reads the trailer of a table's bytes. Refused [`Error::InvalidTrailer`] where there are fewer bytes than a trailer has,
     /// the mark differs or a section passes the end of the body.
     pub fn of(bytes: &[u8]) -> Result<Toc, Error>
-        requires { length bytes.now < 2 ^ 63 }
         ensures toc { IfOk result (λ toc. toc ≡ map (section_in bytes.now) section_names) }
         ensures fault { Refuses result (trailer_fault bytes.now) }
     {
