@@ -1,5 +1,5 @@
 //! Several sorted sources as one.
-ghost use Rattle.std.specs.Prelude.{◌≡◌, ℕ, ◌+◌, ◌<◌, ◌≤◌, true, false, List, [], length, map, All, IfOk, IfErr, IfSome, IfNone};
+ghost use Rattle.std.specs.Prelude.{◌≡◌, ℕ, ◌+◌, ◌*◌, ◌<◌, ◌≤◌, true, false, List, [], length, map, All, IfOk, IfErr, IfSome, IfNone};
 ghost use Rattle.std.specs.Iterator.{at_most, MakesProgress};
 ghost use Rattle.sst_entries.specs.Entry.{Entry};
 ghost use Rattle.sst_entries.specs.Stream.{Steps, nowhere};
@@ -88,6 +88,7 @@ impl<I: Iterator<Item = IterItem<A>>, A: Allocator + Clone> Merger<I, A> {
     /// What holds where the back is asked too is said by [`from_both_ends`].
     pub fn new(alloc: A, iterators: Vec<I, A>) -> Result<Self, Error>
         ensures fresh { IfOk result (λ m. IsMergerOf iterators.items m) }
+        ensures places { IfOk result (λ m. m.heap.room ≡ 2 * length iterators.items) }
         // What sorted sources have together is dealt in order from the front.
         ensures deals { IfOk result (λ m. DealsMerged I.next_gives nowhere iterators.items
             ⟦<Merger<I, A> as Iterator>⟧.next_gives nowhere m) }
