@@ -1,46 +1,62 @@
 -- The bytes of a table.
-use Rattle.std.specs.Prelude.{◌≡◌, ℕ, List, [], ◌∷◌, ◌++◌, All}
+use Rattle.std.specs.Prelude.{◌≡◌, ℕ, List, [], ◌∷◌, ◌++◌, length, All}
 use Rattle.sst_sections.specs.declared.version.TableVersion.{TableVersion}
-use Rattle.sst_sections.specs.declared.version.TableVersion.TheVariants.{V4}
 use Rattle.sst_sections.specs.declared.section.SectionName.{SectionName}
-use Rattle.sst_blocks.specs.declared.block_type.BlockType.TheVariants.{Index, Meta}
-use Rattle.sst_sections.specs.declared.section.SectionName.TheVariants.{Data, Tli, TableVersion as VersionSection, Meta as MetaSection}
+use Rattle.sst_blocks.specs.declared.block_type.BlockType.TheVariants.{Meta}
+use Rattle.sst_sections.specs.declared.section.SectionName.TheVariants.{Data, TableVersion as VersionSection, Meta as MetaSection}
 use Rattle.sst_blocks.specs.Block.{block_bytes}
 use Rattle.sst_entries.specs.Entry.{Entry}
-use Rattle.sst_blocks.specs.Handles.{handles_payload}
 use Rattle.sst_blocks.specs.Payload.{payload}
 use Rattle.sst_sections.specs.Sections.{finished, Written, place_of}
-use Rattle.lsm_files.specs.Chunks.{AreChunks}
+use Rattle.lsm_files.specs.Chunks.{joined, AreChunks}
 use Rattle.lsm_files.specs.Index.{handles, data_section}
-use Rattle.lsm_files.specs.Layout.{Sections, laid}
+use Rattle.lsm_files.specs.Kinds.{index_sections, index_count, filter_sections, filter_count}
+use Rattle.lsm_files.specs.Layout.{Sections, bytes_in, laid}
 use Rattle.lsm_files.specs.MetaBlock.{Blocks, meta_entries, version_number}
-use Rattle.lsm_files.specs.Options.{Options, Label}
+use Rattle.lsm_files.specs.declared.options.Options.{Options}
+use Rattle.lsm_files.specs.declared.label.Label.{Label}
 
--- a full index: one block of all handles
-abbrev pub index_sections : TableVersion → List (List Entry) → Sections
-index_sections v cs = (Tli, block_bytes v Index (handles_payload v (handles v cs))) ∷ []
+-- how many blocks the index and the filter of a list of chunks count
+abbrev pub counted_blocks : TableVersion → Options → List (List Entry) → Blocks
+counted_blocks v options cs = record {
+  index = index_count options (handles v cs);
+  filter = filter_count options (joined cs);
+}
 
--- one block for a full index, and one for a full filter, even where it has no keys
-abbrev pub counted_blocks : Blocks
-counted_blocks = record { index = 1; filter = 1 }
+-- the number of the version that is written
+abbrev pub version_section : TableVersion → Sections
+version_section v = (VersionSection, version_number v ∷ []) ∷ []
 
--- the number of the version that is written, and the block of the meta items
-abbrev pub end_sections_of : TableVersion → List Entry → Sections
-end_sections_of v items = (VersionSection, version_number v ∷ []) ∷ (MetaSection, block_bytes v Meta (payload v items)) ∷ []
+-- the block of the meta items
+abbrev pub meta_section : TableVersion → List Entry → Sections
+meta_section v items = (MetaSection, block_bytes v Meta (payload v items)) ∷ []
 
-abbrev pub end_sections : List Entry → Sections
-end_sections items = end_sections_of V4 items
+-- these sections were not started
+abbrev pub HasNoVersion : Written → Type 0
+HasNoVersion w = All (λ (s : SectionName × ℕ). place_of s.0 ≡ 5 → ⊥) w.started
 
--- these two sections were not started
-abbrev pub HasNoEnd : Written → Type 0
-HasNoEnd w = All (λ (s : SectionName × ℕ). (place_of s.0 ≡ 5 → ⊥) × (place_of s.0 ≡ 6 → ⊥)) w.started
+abbrev pub HasNoMeta : Written → Type 0
+HasNoMeta w = All (λ (s : SectionName × ℕ). place_of s.0 ≡ 6 → ⊥) w.started
 
 abbrev pub closing_sections : TableVersion → Label → Options → List (List Entry) → Sections
-closing_sections v label options cs = end_sections_of v (meta_entries v label options cs counted_blocks)
+closing_sections v label options cs =
+    version_section v ++ meta_section v (meta_entries v label options cs (counted_blocks v options cs))
 
--- the data blocks, the index, the version and the meta block, in this order
+-- the data blocks, then the index of its kind, then the filter of its kind
+abbrev pub index_part : TableVersion → Options → List (List Entry) → Sections
+index_part v options cs = index_sections v options (length (data_section v cs)) (handles v cs)
+
+abbrev pub front_sections : TableVersion → Options → List (List Entry) → Sections
+front_sections v options cs = (Data, data_section v cs) ∷ index_part v options cs
+
+abbrev pub filter_part : TableVersion → Options → List (List Entry) → Sections
+filter_part v options cs =
+    filter_sections v options (length (bytes_in (front_sections v options cs))) (joined cs)
+
+-- the data blocks, the index, the filter, the version and the meta block, in this order
 abbrev pub sections_of : TableVersion → Label → Options → List (List Entry) → Sections
-sections_of v label options cs = (Data, data_section v cs) ∷ (index_sections v cs ++ closing_sections v label options cs)
+sections_of v label options cs =
+    front_sections v options cs ++ filter_part v options cs ++ closing_sections v label options cs
 
 -- a table's bytes: the sections and their trailer
 abbrev pub file : TableVersion → Label → Options → List (List Entry) → List ℕ

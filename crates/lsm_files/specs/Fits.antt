@@ -3,12 +3,13 @@ use Rattle.std.specs.Prelude.{◌+◌, ◌-◌, ◌^◌, ◌<◌, ◌≤◌, Lis
 use Rattle.std.specs.List.{AllByRecursion}
 use Rattle.sst_sections.specs.declared.version.TableVersion.{TableVersion}
 use Rattle.sst_entries.specs.Entry.{Entry}
-use Rattle.sst_blocks.specs.Handles.{handles_payload}
 use Rattle.sst_blocks.specs.Payload.{payload}
 use Rattle.sst_sections.specs.Version.{longest_key}
 use Rattle.lsm_files.specs.Chunks.{joined}
 use Rattle.lsm_files.specs.Index.{handles}
-use Rattle.lsm_files.specs.Options.{Label}
+use Rattle.lsm_files.specs.Kinds.{IndexFits}
+use Rattle.lsm_files.specs.declared.options.Options.{Options}
+use Rattle.lsm_files.specs.declared.label.Label.{Label}
 
 -- an entry that a writer of the version takes
 pub record EntryFits (v : TableVersion) (e : Entry) : Type 0 where
@@ -25,9 +26,9 @@ pub record LabelFits (label : Label) : Type 0 where
   pub id : label.table_id < 2 ^ 64
   pub created_at : label.created_at < 2 ^ 128
 
--- the entries, the blocks of the chunks, the block of their handles, and the label
-pub record Fits (v : TableVersion) (label : Label) (cs : List (List Entry)) : Type 0 where
+-- the entries, the blocks of the chunks, those of their index, and the label
+pub record Fits (v : TableVersion) (label : Label) (options : Options) (cs : List (List Entry)) : Type 0 where
   pub entries : AllByRecursion (EntryFits v) (joined cs)
   pub blocks : AllByRecursion (BlockFits v) cs
-  pub index : 24 + length (handles_payload v (handles v cs)) < 2 ^ 32
+  pub index : IndexFits v options (handles v cs)
   pub label_fits : LabelFits label

@@ -3,6 +3,7 @@ pub mod Index
 pub mod Facts
 pub mod Options
 pub mod Layout
+pub mod Kinds
 pub mod Fits
 pub mod MetaBlock
 pub mod File

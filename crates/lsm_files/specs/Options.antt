@@ -1,14 +1,12 @@
 -- What a table is written with, and what it is called.
 use Rattle.std.specs.Prelude.{ℕ}
+use Rattle.lsm_files.specs.declared.options.BloomConstructionPolicy.TheVariants.{Inactive}
+use Rattle.lsm_files.specs.declared.options.FilterKind.TheVariants.{Full as FullFilter}
+use Rattle.lsm_files.specs.declared.options.IndexKind.TheVariants.{Full as FullIndex}
+use Rattle.lsm_files.specs.declared.label.Label.{Label}
+use Rattle.lsm_files.specs.declared.options.Options.{Options}
 
 -- the sizes in bytes, the hash ratio in thousandths
-pub record Options : Type 0 where
-  pub data_block_restart_interval : ℕ
-  pub index_block_restart_interval : ℕ
-  pub data_block_hash_ratio : ℕ
-  pub data_block_size : ℕ
-  pub meta_partition_size : ℕ
-
 abbrev pub default_options : Options
 default_options = record {
   data_block_restart_interval = 16;
@@ -16,13 +14,10 @@ default_options = record {
   data_block_hash_ratio = 0;
   data_block_size = 4096;
   meta_partition_size = 4096;
+  index_kind = FullIndex;
+  filter_kind = FullFilter;
+  bloom_policy = Inactive;
 }
-
--- a table's id, its level and the moment of its creation, which are handed in
-pub record Label : Type 0 where
-  pub table_id : ℕ
-  pub initial_level : ℕ
-  pub created_at : ℕ
 
 -- the label of its parts
 abbrev pub label_of : ℕ → ℕ → ℕ → Label

@@ -1,10 +1,15 @@
-//! What a table is: its id, the items of its meta block, and the bytes of a list. Writers and readers stand on it.
+//! What a table is: its id, its label and options, the items of its meta block, and the bytes of a list. Writers and readers
+//! stand on it.
 #![tactic(auto)]
 
 mod id;
 mod item_name;
+mod label;
+mod options;
 mod timestamp;
 
 pub use id::{GlobalTableId, TableId, TreeId};
 pub use item_name::ItemName;
+pub use label::Label;
+pub use options::{BloomConstructionPolicy, FilterKind, IndexKind, Options};
 pub use timestamp::Timestamp;

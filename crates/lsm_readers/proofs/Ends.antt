@@ -1,6 +1,6 @@
 -- The keys of a strict list lie between its ends.
-use Rattle.std.proofs.Common.{◌≡◌, refl, sym, ap, subst, ◌∙◌, ℕ, Bool, true, false, List, [], ◌∷◌, IsTrue}
-use Rattle.std.specs.Prelude.{Option, Some, None, ◌&&◌, not, unwrap_or}
+use Rattle.std.proofs.Common.{◌≡◌, refl, sym, ap, subst, ◌∙◌, ℕ, true, false, List, [], ◌∷◌, IsTrue}
+use Rattle.std.specs.Prelude.{Option, Some, ◌&&◌, not, unwrap_or}
 use Rattle.std.specs.List.{AllByRecursion}
 use Rattle.std.specs.Option.{option_map}
 use Rattle.std.specs.Cmp.Lexicographic.{slice_cmp, nat_list_cmp_total}

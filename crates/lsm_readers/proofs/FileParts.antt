@@ -1,42 +1,35 @@
 -- What the bytes of a table of a list are recovered to.
-use Rattle.std.proofs.Common.{◌≡◌, ℕ, ◌+◌, ◌-◌, ◌^◌, ◌<◌, ◌≤◌, Bool, true, false, cond, ltb, leb, List, [], ◌∷◌, ◌++◌, length, map, refl, sym, ap, subst, ◌∙◌, append_assoc, length-append, arith, inl, inr}
-use Rattle.std.specs.Prelude.{Option, Some, None, Result, Ok, Err, unwrap_or}
+use Rattle.std.proofs.Common.{◌≡◌, ℕ, ◌+◌, ◌-◌, ◌^◌, ◌<◌, ◌≤◌, cond, ltb, List, [], ◌∷◌, length, refl, sym, ap, subst, ◌∙◌, length-append, arith, inl, inr}
+use Rattle.std.specs.Prelude.{None, Result, Ok, Err, unwrap_or}
 use Rattle.std.specs.List.{AllByRecursion}
-use Rattle.std.specs.Option.{option_map}
-use Rattle.std.proofs.lemmas.Bool.{cases_Bool, le-ltb}
+use Rattle.std.proofs.lemmas.Bool.{cases_Bool}
 use Rattle.std.proofs.lemmas.List.Sums.{count_by-le-length}
 use Rattle.sst_sections.specs.declared.version.TableVersion.{TableVersion}
 use Rattle.sst_sections.specs.declared.version.TableVersion.TheVariants.{V3, V4}
-use Rattle.sst_blocks.specs.declared.block_type.BlockType.TheVariants.{Data, Index, Meta}
+use Rattle.sst_blocks.specs.declared.block_type.BlockType.TheVariants.{Index, Meta}
 use Rattle.sst_entries.specs.declared.error.Error.{Error}
-use Rattle.sst_blocks.specs.Block.{load_told}
 use Rattle.sst_entries.specs.Entry.{Entry}
-use Rattle.sst_blocks.specs.Handle.{Handle}
-use Rattle.sst_blocks.specs.Handles.{reaches, handles_payload}
-use Rattle.sst_entries.specs.Key.{same_key}
+use Rattle.sst_blocks.specs.Handles.{handles_payload}
 use Rattle.sst_blocks.specs.Payload.{payload}
-use Rattle.sst_entries.specs.Point.{is_hit, point}
-use Rattle.sst_blocks.specs.Reading.{entries_in}
-use Rattle.sst_sections.specs.Sections.{finished, body_of, trailer, section_in, section_names}
-use Rattle.sst_entries.specs.Strict.{IsStrict, IsStrictAfter, last_of}
+use Rattle.sst_sections.specs.Sections.{finished, body_of, trailer}
+use Rattle.sst_entries.specs.Strict.{IsStrict, last_of}
 use Rattle.sst_sections.specs.Version.{longest_key}
-use Rattle.sst_blocks.proofs.BlockLaws.{written_loads}
 use Rattle.lsm_files.specs.Chunks.{joined, AreChunksFrom}
-use Rattle.lsm_files.specs.Facts.{first_key, last_key, lowest_seqno, highest_seqno, is_tombstone, is_weak, is_reclaimable}
-use Rattle.lsm_files.specs.File.{counted_blocks, IsFile}
-use Rattle.lsm_files.specs.Index.{handles, data_block, data_section}
+use Rattle.lsm_files.specs.Facts.{first_key, last_key, highest_seqno, is_tombstone, is_weak, is_reclaimable}
+use Rattle.lsm_files.proofs.KindLemmas.{index_counts, index_short, filter_counts}
+use Rattle.lsm_files.specs.File.{counted_blocks}
+use Rattle.lsm_files.specs.Index.{handles, data_section}
 use Rattle.lsm_files.specs.MetaBlock.{meta_entries}
-use Rattle.lsm_files.specs.Options.{Options, Label}
-use Rattle.lsm_files.specs.Fits.{EntryFits, BlockFits, Fits}
+use Rattle.lsm_files.specs.declared.options.Options.{Options}
+use Rattle.lsm_files.specs.declared.label.Label.{Label}
+use Rattle.lsm_files.specs.Fits.{EntryFits, Fits}
 use Rattle.lsm_readers.specs.Parts.{Parts, PinnedIndex, full, parts_told, places_told, recovered_told}
 use Rattle.lsm_readers.proofs.ChunkReads.{AreSome, length-block}
-use Rattle.lsm_readers.proofs.FileLengths.{last_fits, last_some, after_within, lowest_fits, highest_below, section_wide, chunk_reads, index_reads}
+use Rattle.lsm_readers.proofs.FileLengths.{last_fits, last_some, after_within, lowest_fits, highest_below, section_wide, index_reads}
 use Rattle.lsm_readers.specs.declared.regions.ParsedRegions.{ParsedRegions}
 use Rattle.lsm_readers.specs.Meta.{meta_told}
 use Rattle.lsm_readers.specs.Parts.{index_told}
-use Rattle.lsm_readers.specs.Regions.{regions_told}
-use Rattle.std.proofs.lemmas.List.Concat.{flat_map-append}
-use Rattle.lsm_readers.proofs.FileReads.{the_regions, ascending, length-body, regions_read, index_read, meta_items_read, w}
+use Rattle.lsm_readers.proofs.FileReads.{the_regions, ascending, length-body, file_is, regions_read, index_read, meta_items_read, w}
 use Rattle.lsm_readers.proofs.MetaBlocks.{meta_reads, meta_length}
 use Rattle.lsm_readers.proofs.MetaReads.{FactsFit, facts_read, interval_read, written_facts}
 use Rattle.lsm_readers.proofs.Recovered.{Steps, steps}
@@ -61,7 +54,7 @@ longest_below : (v : TableVersion) → longest_key v ≤ 1048576
 longest_below V3 = omega arith
 longest_below V4 = omega arith
 
-facts_fit : (v : TableVersion) (label : Label) (options : Options) (cs : List (List Entry)) → length (data_section v cs) < 2 ^ 63 → Fits v label cs → options.index_block_restart_interval ≡ 1 → FactsFit label options cs v counted_blocks
+facts_fit : (v : TableVersion) (label : Label) (options : Options) (cs : List (List Entry)) → length (data_section v cs) < 2 ^ 63 → Fits v label options cs → options.index_block_restart_interval ≡ 1 → FactsFit label options cs v (counted_blocks v options cs)
 facts_fit v label options cs short fits one =
     let es = joined cs in
     let wide = section_wide v cs in
@@ -76,8 +69,8 @@ facts_fit v label options cs short fits one =
       lowest = lowest_fits es;
       highest = highest_below v es fits.entries;
       data_blocks = omega arith;
-      index_blocks = omega arith;
-      filter_blocks = omega arith;
+      index_blocks = omega (arith, index_counts options (handles v cs));
+      filter_blocks = omega (arith, filter_counts options (joined cs));
       file_size = omega arith;
     }
 
@@ -87,12 +80,12 @@ pub ok_same : {A : Type 0} (r : Result A Error) (a b : A) → r ≡ Ok a → r �
 ok_same (Ok x) a b p q = let pa : x ≡ a = cc in let qb : x ≡ b = cc in sym pa ∙ qb
 ok_same (Err e) a b p q = absurd cc
 
-meta_short : (v : TableVersion) (label : Label) (options : Options) (cs : List (List Entry)) → Fits v label cs → length (payload v (meta_entries v label options cs counted_blocks)) + 24 < 2 ^ 32
+meta_short : (v : TableVersion) (label : Label) (options : Options) (cs : List (List Entry)) → Fits v label options cs → length (payload v (meta_entries v label options cs (counted_blocks v options cs))) + 24 < 2 ^ 32
 meta_short v label options cs fits =
-    omega (arith, meta_length v label options cs counted_blocks, first_short v (joined cs) fits.entries, last_short v (joined cs) fits.entries, longest_below v)
+    omega (arith, meta_length v label options cs (counted_blocks v options cs), first_short v (joined cs) fits.entries, last_short v (joined cs) fits.entries, longest_below v)
 
 abbrev written_parts : TableVersion → Label → Options → List (List Entry) → Parts
-written_parts v label options cs = record { facts = written_facts v label cs counted_blocks; regions = the_regions v label options cs; index = full (handles v cs) }
+written_parts v label options cs = record { facts = written_facts v label cs (counted_blocks v options cs); regions = the_regions v label options cs; index = full (handles v cs) }
 
 parts_eta : (p q : Parts) → p.facts ≡ q.facts → p.regions ≡ q.regions → p.index ≡ q.index → p ≡ q
 parts_eta p q f r i =
@@ -100,7 +93,7 @@ parts_eta p q f r i =
     ap (λ (x : Facts). made x p.regions p.index) f ∙ ap (λ (x : ParsedRegions). made q.facts x p.index) r ∙ ap (λ (x : PinnedIndex). made q.facts q.regions x) i
 
 module _ (v : TableVersion) (label : Label) (options : Options) (cs : List (List Entry))
-    (short : length (finished (w v label options cs)) < 2 ^ 63) (some : AreSome cs) (strict : IsStrict (joined cs)) (fits : Fits v label cs) where
+    (short : length (finished (w v label options cs)) < 2 ^ 63) (some : AreSome cs) (strict : IsStrict (joined cs)) (fits : Fits v label options cs) where
   abbrev the_bytes : List ℕ
   the_bytes = finished (w v label options cs)
 
@@ -113,20 +106,22 @@ module _ (v : TableVersion) (label : Label) (options : Options) (cs : List (List
   regions_here : places_told the_bytes ≡ Ok (the_regions v label options cs)
   regions_here =
       let index = length-block v Index (handles_payload v (handles v cs)) in
-      let meta = length-block v Meta (payload v (meta_entries v label options cs counted_blocks)) in
-      regions_read v label options cs (omega (arith, body_short)) (omega (arith, index, fits.index)) (omega (arith, meta, meta_short v label options cs fits))
+      let meta = length-block v Meta (payload v (meta_entries v label options cs (counted_blocks v options cs))) in
+      regions_read v label options cs (omega (arith, body_short)) (omega (arith, index, index_short v options (handles v cs) fits.index)) (omega (arith, meta, meta_short v label options cs fits))
 
   index_here : index_told (body_of the_bytes) (the_regions v label options cs) ≡ Ok (full (handles v cs))
-  index_here = index_read v label options cs (omega (arith, fits.index)) (index_reads v cs (omega (arith, data_short)) some strict fits.entries fits.blocks fits.index)
+  index_here =
+      let short_index = index_short v options (handles v cs) fits.index in
+      index_read v label options cs (omega (arith, short_index)) (index_reads v cs (omega (arith, data_short)) some strict fits.entries fits.blocks short_index)
 
-  items_here : meta_told (body_of the_bytes) (the_regions v label options cs).metadata ≡ facts_told (meta_entries v label options cs counted_blocks)
+  items_here : meta_told (body_of the_bytes) (the_regions v label options cs).metadata ≡ facts_told (meta_entries v label options cs (counted_blocks v options cs))
   items_here =
       let key = longest_below v in
       meta_items_read v label options cs (omega (arith, meta_short v label options cs fits))
-      (meta_reads v label options cs counted_blocks (omega (arith, first_short v (joined cs) fits.entries, key)) (omega (arith, last_short v (joined cs) fits.entries, key)))
+      (meta_reads v label options cs (counted_blocks v options cs) (omega (arith, first_short v (joined cs) fits.entries, key)) (omega (arith, last_short v (joined cs) fits.entries, key)))
 
-  facts_here : options.index_block_restart_interval ≡ 1 → meta_told (body_of the_bytes) (the_regions v label options cs).metadata ≡ Ok (written_facts v label cs counted_blocks)
-  facts_here one = items_here ∙ facts_read v label options cs counted_blocks (facts_fit v label options cs data_short fits one)
+  facts_here : options.index_block_restart_interval ≡ 1 → meta_told (body_of the_bytes) (the_regions v label options cs).metadata ≡ Ok (written_facts v label cs (counted_blocks v options cs))
+  facts_here one = items_here ∙ facts_read v label options cs (counted_blocks v options cs) (facts_fit v label options cs data_short fits one)
 
   -- the table is recovered where the global number fits
   pub written_recovers : (g : ℕ) → options.index_block_restart_interval ≡ 1 → recovered_told the_bytes g ≡ cond (ltb (2 ^ 64 - 1) (highest_seqno (joined cs) + g)) (Err GlobalSeqNoTooLarge) (Ok (written_parts v label options cs))
@@ -149,10 +144,10 @@ module _ (v : TableVersion) (label : Label) (options : Options) (cs : List (List
     items_told = ap (λ (r : ParsedRegions). meta_told (body_of the_bytes) r.metadata) (sym regions_are) ∙ the_steps.facts
 
     interval_is : options.index_block_restart_interval ≡ 1
-    interval_is = interval_read v label options cs counted_blocks parts.facts (sym items_here ∙ items_told)
+    interval_is = interval_read v label options cs (counted_blocks v options cs) parts.facts (sym items_here ∙ items_told)
 
-    pub facts_are : parts.facts ≡ written_facts v label cs counted_blocks
-    facts_are = ok_same (meta_told (body_of the_bytes) (the_regions v label options cs).metadata) parts.facts (written_facts v label cs counted_blocks) items_told (facts_here interval_is)
+    pub facts_are : parts.facts ≡ written_facts v label cs (counted_blocks v options cs)
+    facts_are = ok_same (meta_told (body_of the_bytes) (the_regions v label options cs).metadata) parts.facts (written_facts v label cs (counted_blocks v options cs)) items_told (facts_here interval_is)
 
     pub index_is : parts.index ≡ full (handles v cs)
     index_is =
@@ -170,7 +165,7 @@ some_chunks size spills at (c ∷ cs) h = ((h.0).some, some_chunks size spills (
 -- ---- a table of a list
 
 abbrev parts_by : TableVersion → Label → Options → List (List Entry) → List Entry → Parts
-parts_by v label options cs es = record { facts = facts_said v label es (length cs) (length (data_section v cs)); regions = regions_said v label options cs; index = full (handles v cs) }
+parts_by v label options cs es = record { facts = facts_said v label es (length cs) (counted_blocks v options cs).index (length (data_section v cs)); regions = regions_said v label options cs; index = full (handles v cs) }
 
 module _ (stored : List ℕ) (es : List Entry) (t : IsTable stored es) (short : length stored < 2 ^ 63) where
   abbrev v : TableVersion
@@ -185,8 +180,11 @@ module _ (stored : List ℕ) (es : List Entry) (t : IsTable stored es) (short : 
   abbrev cs : List (List Entry)
   cs = (t.file).blocks
 
+  bytes_are : stored ≡ finished (w v label options cs)
+  bytes_are = (t.file).are ∙ file_is v label options cs
+
   short_file : length (finished (w v label options cs)) < 2 ^ 63
-  short_file = subst (λ (b : List ℕ). length b < 2 ^ 63) (t.file).are short
+  short_file = subst (λ (b : List ℕ). length b < 2 ^ 63) bytes_are short
 
   whole : joined cs ≡ es
   whole = ((t.file).chunks).whole
@@ -203,12 +201,12 @@ module _ (stored : List ℕ) (es : List Entry) (t : IsTable stored es) (short : 
   -- what is recovered is what the list says
   pub table_parts : (g : ℕ) (parts : Parts) → recovered_told stored g ≡ Ok parts → parts ≡ parts_said t
   table_parts g parts told =
-      let told_file : recovered_told (finished (w v label options cs)) g ≡ Ok parts = subst (λ (b : List ℕ). recovered_told b g ≡ Ok parts) (t.file).are told in
+      let told_file : recovered_told (finished (w v label options cs)) g ≡ Ok parts = subst (λ (b : List ℕ). recovered_told b g ≡ Ok parts) bytes_are told in
       parts_are v label options cs short_file all_some line t.fits g parts told_file ∙ by_list
 
   -- what opening it tells
   pub table_told : (g : ℕ) → options.index_block_restart_interval ≡ 1 → recovered_told stored g ≡ list_told t g
   table_told g one =
-      ap (λ (b : List ℕ). recovered_told b g) (t.file).are
+      ap (λ (b : List ℕ). recovered_told b g) bytes_are
       ∙ written_recovers v label options cs short_file all_some line t.fits g one
       ∙ ap (λ (xs : List Entry). cond (ltb (2 ^ 64 - 1) (highest_seqno xs + g)) (Err GlobalSeqNoTooLarge) (Ok (parts_by v label options cs xs))) whole

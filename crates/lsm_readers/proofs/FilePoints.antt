@@ -1,50 +1,40 @@
 -- A point read of a written table is the first match in the list.
-use Rattle.std.proofs.Common.{◌≡◌, ℕ, ◌+◌, ◌-◌, ◌^◌, ◌<◌, ◌≤◌, Bool, true, false, cond, ltb, leb, List, [], ◌∷◌, ◌++◌, length, map, refl, sym, ap, subst, ◌∙◌, append_assoc, length-append, arith, inl, inr}
-use Rattle.std.specs.Prelude.{Option, Some, None, Result, Ok, Err, find, unwrap_or, is_some, ◌&&◌}
+use Rattle.std.proofs.Common.{◌≡◌, ℕ, ◌+◌, ◌-◌, ◌^◌, ◌<◌, ◌≤◌, Bool, true, false, cond, ltb, List, [], ◌∷◌, ◌++◌, length, refl, sym, ap, subst, ◌∙◌, append_assoc, arith, inl, inr}
+use Rattle.std.specs.Prelude.{Option, Some, None, Ok, find, is_some, ◌&&◌}
 use Rattle.std.specs.List.{AllByRecursion}
 use Rattle.std.specs.Option.{option_map}
 use Rattle.std.proofs.lemmas.Bool.{cases_lt, lt-ltb, le-ltb, ltb-false}
-use Rattle.std.proofs.lemmas.List.Sums.{count_by-le-length}
 use Rattle.sst_sections.specs.declared.version.TableVersion.{TableVersion}
-use Rattle.sst_sections.specs.declared.version.TableVersion.TheVariants.{V3, V4}
-use Rattle.sst_blocks.specs.declared.block_type.BlockType.TheVariants.{Data, Index, Meta}
-use Rattle.sst_entries.specs.declared.error.Error.{Error}
+use Rattle.sst_blocks.specs.declared.block_type.BlockType.TheVariants.{Data}
 use Rattle.sst_blocks.specs.Block.{load_told}
 use Rattle.sst_entries.specs.Entry.{Entry}
 use Rattle.sst_blocks.specs.Handle.{Handle}
-use Rattle.sst_blocks.specs.Handles.{reaches, handles_payload}
+use Rattle.sst_blocks.specs.Handles.{reaches}
 use Rattle.sst_entries.specs.Key.{same_key}
 use Rattle.sst_blocks.specs.Payload.{payload}
 use Rattle.sst_entries.specs.Point.{is_hit, point}
 use Rattle.sst_blocks.specs.Reading.{entries_in}
-use Rattle.sst_sections.specs.Sections.{finished, body_of, trailer, section_in, section_names}
+use Rattle.sst_sections.specs.Sections.{finished, body_of}
 use Rattle.sst_entries.specs.Strict.{IsStrict, IsStrictAfter, last_of}
-use Rattle.sst_sections.specs.Version.{longest_key}
 use Rattle.sst_blocks.proofs.BlockLaws.{written_loads}
-use Rattle.lsm_files.specs.Chunks.{joined, AreChunksFrom}
-use Rattle.lsm_files.specs.Facts.{first_key, last_key, lowest_seqno, is_tombstone, is_weak, is_reclaimable}
-use Rattle.lsm_files.specs.File.{counted_blocks, IsFile}
+use Rattle.lsm_files.specs.Chunks.{joined}
+use Rattle.lsm_files.specs.Facts.{lowest_seqno}
+use Rattle.lsm_files.specs.File.{counted_blocks}
 use Rattle.lsm_files.specs.Index.{handles, data_block, data_section}
-use Rattle.lsm_files.specs.MetaBlock.{meta_entries}
-use Rattle.lsm_files.specs.Options.{Options, Label}
+use Rattle.lsm_files.specs.declared.options.Options.{Options}
+use Rattle.lsm_files.specs.declared.label.Label.{Label}
 use Rattle.lsm_readers.specs.Answer.{lifted, lift, match_in, handle_for, answer}
 use Rattle.lsm_readers.specs.Read.{◌>>=◌}
 use Rattle.lsm_files.specs.Fits.{EntryFits, BlockFits, Fits}
 use Rattle.lsm_readers.specs.Parts.{Parts, full, recovered_told}
-use Rattle.lsm_readers.proofs.ChunkReads.{AreSome, ReadsChunk, ReadsBy, chunk_read, length-block, strict_front, strict_after}
+use Rattle.lsm_readers.proofs.ChunkReads.{AreSome, ReadsChunk, ReadsBy, chunk_read, strict_front, strict_after}
 use Rattle.lsm_readers.proofs.FileLengths.{chunk_reads}
 use Rattle.sst_entries.proofs.Lists.{all_front, all_behind}
-use Rattle.lsm_readers.specs.declared.regions.ParsedRegions.{ParsedRegions}
-use Rattle.lsm_readers.specs.Meta.{meta_told}
-use Rattle.lsm_readers.specs.Parts.{index_told}
-use Rattle.lsm_readers.specs.Regions.{regions_told}
 use Rattle.std.proofs.lemmas.List.Concat.{flat_map-append}
-use Rattle.lsm_readers.proofs.FileReads.{the_index, the_meta, the_version, is_body, w}
+use Rattle.lsm_readers.proofs.FileReads.{the_index, the_meta, the_version, file_is, is_body, w}
 use Rattle.lsm_readers.proofs.FileParts.{some_chunks, facts_are, index_is}
 use Rattle.lsm_files.specs.Table.{IsTable}
-use Rattle.lsm_readers.proofs.MetaBlocks.{meta_reads, meta_length}
 use Rattle.lsm_readers.proofs.MetaReads.{written_facts}
-use Rattle.lsm_readers.proofs.Recovered.{Steps, steps}
 
 -- ---- numbers with the global number added
 
@@ -89,11 +79,11 @@ any_front last [] h = tt
 any_front last (x ∷ xs) h = (refl, h.1)
 
 module _ (v : TableVersion) (label : Label) (options : Options) (cs : List (List Entry)) (g : ℕ) (parts : Parts)
-    (short : length (finished (w v label options cs)) < 2 ^ 63) (some : AreSome cs) (strict : IsStrict (joined cs)) (fits : Fits v label cs) (told : recovered_told (finished (w v label options cs)) g ≡ Ok parts) where
+    (short : length (finished (w v label options cs)) < 2 ^ 63) (some : AreSome cs) (strict : IsStrict (joined cs)) (fits : Fits v label options cs) (told : recovered_told (finished (w v label options cs)) g ≡ Ok parts) where
   abbrev the_bytes : List ℕ
   the_bytes = finished (w v label options cs)
 
-  facts_here : parts.facts ≡ written_facts v label cs counted_blocks
+  facts_here : parts.facts ≡ written_facts v label cs (counted_blocks v options cs)
   facts_here = facts_are v label options cs short some strict fits g parts told
 
   index_here : parts.index ≡ full (handles v cs)
@@ -161,10 +151,11 @@ file_answers stored es t g parts short told key bound =
     let options = t.options in
     let f = t.file in
     let cs = f.blocks in
-    let short_file : length (finished (w v label options cs)) < 2 ^ 63 = subst (λ (b : List ℕ). length b < 2 ^ 63) f.are short in
-    let told_file : recovered_told (finished (w v label options cs)) g ≡ Ok parts = subst (λ (b : List ℕ). recovered_told b g ≡ Ok parts) f.are told in
+    let bytes_are : stored ≡ finished (w v label options cs) = f.are ∙ file_is v label options cs in
+    let short_file : length (finished (w v label options cs)) < 2 ^ 63 = subst (λ (b : List ℕ). length b < 2 ^ 63) bytes_are short in
+    let told_file : recovered_told (finished (w v label options cs)) g ≡ Ok parts = subst (λ (b : List ℕ). recovered_told b g ≡ Ok parts) bytes_are told in
     let line : IsStrict (joined cs) = subst IsStrict (sym (f.chunks).whole) t.strict in
     let some = some_chunks options.data_block_size t.spills 0 cs (f.chunks).each in
-    ap (λ (b : List ℕ). (answer (body_of b) g parts key bound).told) f.are
+    ap (λ (b : List ℕ). (answer (body_of b) g parts key bound).told) bytes_are
     ∙ answers v label options cs g parts short_file some line t.fits told_file key bound
     ∙ ap (λ (xs : List Entry). Ok (point (lift xs g) key bound)) (f.chunks).whole

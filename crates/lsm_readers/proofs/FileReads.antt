@@ -6,7 +6,7 @@ use Rattle.std.proofs.lemmas.Bool.{lt-leb}
 use Rattle.sst_sections.specs.declared.version.TableVersion.{TableVersion}
 use Rattle.sst_blocks.specs.declared.block_type.BlockType.TheVariants.{Index, Meta}
 use Rattle.sst_sections.specs.declared.section.SectionName.{SectionName}
-use Rattle.sst_sections.specs.declared.section.SectionName.TheVariants.{Index as IndexSection, Tli, Filter as FilterSection, FilterTli, Meta as MetaSection}
+use Rattle.sst_sections.specs.declared.section.SectionName.TheVariants.{Data, Index as IndexSection, Tli, Filter as FilterSection, FilterTli, Meta as MetaSection}
 use Rattle.sst_sections.specs.declared.section.Section.{Section}
 use Rattle.sst_blocks.specs.Block.{Loaded, block_bytes, load_told}
 use Rattle.sst_entries.specs.Entry.{Entry}
@@ -16,11 +16,14 @@ use Rattle.sst_blocks.specs.Reading.{entries_in}
 use Rattle.sst_sections.specs.Sections.{Written, finished, body_of, section_in, section_of, section_names, AreAscending}
 use Rattle.sst_blocks.proofs.BlockLaws.{written_loads}
 use Rattle.sst_sections.proofs.SectionLaws.{finished_body, finished_section}
-use Rattle.lsm_files.specs.File.{sections_of, counted_blocks}
+use Rattle.lsm_files.proofs.KindLemmas.{sections_are}
+use Rattle.lsm_files.specs.File.{closing_sections, counted_blocks, file}
 use Rattle.lsm_files.specs.Index.{handles, data_section}
-use Rattle.lsm_files.specs.Layout.{laid}
+use Rattle.lsm_files.specs.Kinds.{full_index}
+use Rattle.lsm_files.specs.Layout.{Sections, laid}
 use Rattle.lsm_files.specs.MetaBlock.{meta_entries, version_number}
-use Rattle.lsm_files.specs.Options.{Options, Label}
+use Rattle.lsm_files.specs.declared.options.Options.{Options}
+use Rattle.lsm_files.specs.declared.label.Label.{Label}
 use Rattle.lsm_readers.specs.declared.regions.ParsedRegions.{ParsedRegions}
 use Rattle.lsm_readers.specs.Regions.{regions_told, section_named}
 use Rattle.lsm_readers.specs.Meta.{meta_told}
@@ -34,7 +37,7 @@ module _ (v : TableVersion) (label : Label) (options : Options) (cs : List (List
   the_index = block_bytes v Index (handles_payload v (handles v cs))
 
   abbrev pub the_meta : List ℕ
-  the_meta = block_bytes v Meta (payload v (meta_entries v label options cs counted_blocks))
+  the_meta = block_bytes v Meta (payload v (meta_entries v label options cs (counted_blocks v options cs)))
 
   abbrev pub the_data : List ℕ
   the_data = data_section v cs
@@ -42,8 +45,15 @@ module _ (v : TableVersion) (label : Label) (options : Options) (cs : List (List
   abbrev pub the_version : List ℕ
   the_version = version_number v ∷ []
 
+  -- the index is full, and there is no filter
+  abbrev pub the_sections : Sections
+  the_sections = (Data, the_data) ∷ (full_index v (handles v cs) ++ closing_sections v label options cs)
+
   abbrev pub w : Written
-  w = laid (sections_of v label options cs)
+  w = laid the_sections
+
+  pub file_is : file v label options cs ≡ finished w
+  file_is = ap (λ (ss : Sections). finished (laid ss)) (sections_are v label options cs)
 
   -- the sections, one behind another
   body_is : w.bytes ≡ the_data ++ (the_index ++ (the_version ++ the_meta))
@@ -99,7 +109,7 @@ module _ (v : TableVersion) (label : Label) (options : Options) (cs : List (List
   index_loaded = record { version = v; kind = Index; payload = handles_payload v (handles v cs) }
 
   abbrev pub meta_loaded : Loaded
-  meta_loaded = record { version = v; kind = Meta; payload = payload v (meta_entries v label options cs counted_blocks) }
+  meta_loaded = record { version = v; kind = Meta; payload = payload v (meta_entries v label options cs (counted_blocks v options cs)) }
 
   index_at : length (handles_payload v (handles v cs)) < 2 ^ 32 → handles_in v (handles_payload v (handles v cs)) ≡ Some (handles v cs) → load_told (body_of (finished w)) (length the_data) (length the_index) Index ≡ Ok index_loaded
   index_at short reads =
@@ -107,9 +117,9 @@ module _ (v : TableVersion) (label : Label) (options : Options) (cs : List (List
       ap (λ (n : ℕ). load_told (body_of (finished w)) (length the_data) n Index) size
       ∙ written_loads v Index the_data (handles_payload v (handles v cs)) (the_version ++ the_meta) (body_of (finished w)) (length the_data) short (ap is_some reads) refl (is_body ∙ sym (append_assoc the_data the_index (the_version ++ the_meta)))
 
-  meta_at : length (payload v (meta_entries v label options cs counted_blocks)) < 2 ^ 32 → entries_in v (payload v (meta_entries v label options cs counted_blocks)) ≡ Some (meta_entries v label options cs counted_blocks) → load_told (body_of (finished w)) (length the_data + length the_index + 1) (length the_meta) Meta ≡ Ok meta_loaded
+  meta_at : length (payload v (meta_entries v label options cs (counted_blocks v options cs))) < 2 ^ 32 → entries_in v (payload v (meta_entries v label options cs (counted_blocks v options cs))) ≡ Some (meta_entries v label options cs (counted_blocks v options cs)) → load_told (body_of (finished w)) (length the_data + length the_index + 1) (length the_meta) Meta ≡ Ok meta_loaded
   meta_at short reads =
-      let m = payload v (meta_entries v label options cs counted_blocks) in
+      let m = payload v (meta_entries v label options cs (counted_blocks v options cs)) in
       let size = length-block v Meta m in
       let pre = the_data ++ (the_index ++ the_version) in
       let at : length the_data + length the_index + 1 ≡ length pre = omega (arith, length-append the_data (the_index ++ the_version), length-append the_index the_version) in
@@ -120,5 +130,5 @@ module _ (v : TableVersion) (label : Label) (options : Options) (cs : List (List
   pub index_read : length (handles_payload v (handles v cs)) < 2 ^ 32 → handles_in v (handles_payload v (handles v cs)) ≡ Some (handles v cs) → index_told (body_of (finished w)) the_regions ≡ Ok (full (handles v cs))
   index_read short reads = rw (index_at short reads, reads) refl
 
-  pub meta_items_read : length (payload v (meta_entries v label options cs counted_blocks)) < 2 ^ 32 → entries_in v (payload v (meta_entries v label options cs counted_blocks)) ≡ Some (meta_entries v label options cs counted_blocks) → meta_told (body_of (finished w)) the_regions.metadata ≡ facts_told (meta_entries v label options cs counted_blocks)
+  pub meta_items_read : length (payload v (meta_entries v label options cs (counted_blocks v options cs))) < 2 ^ 32 → entries_in v (payload v (meta_entries v label options cs (counted_blocks v options cs))) ≡ Some (meta_entries v label options cs (counted_blocks v options cs)) → meta_told (body_of (finished w)) the_regions.metadata ≡ facts_told (meta_entries v label options cs (counted_blocks v options cs))
   meta_items_read short reads = rw (meta_at short reads, reads) refl

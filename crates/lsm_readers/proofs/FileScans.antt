@@ -1,6 +1,6 @@
 -- A scan of a written table gives its list.
 use Rattle.std.proofs.Common.{◌≡◌, ℕ, ◌+◌, ◌^◌, ◌<◌, ◌≤◌, List, [], ◌∷◌, ◌++◌, length, map, max, slice_range, take, refl, sym, ap, subst, ◌∙◌, append_assoc, length-append, arith}
-use Rattle.std.specs.Prelude.{Option, Some, None, Result, Ok, Err, IfOk, MatchResult, is_some, unwrap_or, false, Bool, true}
+use Rattle.std.specs.Prelude.{Option, Some, None, Result, Ok, Err, IfOk, is_some, unwrap_or, false, Bool, true}
 use Rattle.std.specs.List.{AllByRecursion, flat_map}
 use Rattle.std.proofs.lemmas.List.{map-append, take_at}
 use Rattle.sst_blocks.specs.declared.block_type.BlockType.TheVariants.{Data, Index}
@@ -24,7 +24,8 @@ use Rattle.lsm_files.specs.Chunks.{joined}
 use Rattle.lsm_files.specs.Facts.{highest_seqno}
 use Rattle.lsm_files.specs.File.{IsFile}
 use Rattle.lsm_files.specs.Index.{handles, data_block, data_section}
-use Rattle.lsm_files.specs.Options.{Options, Label}
+use Rattle.lsm_files.specs.declared.options.Options.{Options}
+use Rattle.lsm_files.specs.declared.label.Label.{Label}
 use Rattle.lsm_files.specs.Table.{IsTable}
 use Rattle.lsm_readers.specs.Answer.{lifted, lift}
 use Rattle.lsm_files.specs.Fits.{EntryFits, BlockFits, Fits}
@@ -36,7 +37,7 @@ use Rattle.lsm_readers.proofs.FileLengths.{chunk_reads}
 use Rattle.sst_entries.proofs.Lists.{all_front, all_behind}
 use Rattle.lsm_readers.proofs.FileParts.{some_chunks, facts_are}
 use Rattle.lsm_readers.proofs.FilePoints.{any_front}
-use Rattle.lsm_readers.proofs.FileReads.{the_index, the_meta, the_version, is_body, w}
+use Rattle.lsm_readers.proofs.FileReads.{the_index, the_meta, the_version, file_is, is_body, w}
 use Rattle.lsm_readers.proofs.Recovered.{steps}
 use Rattle.lsm_readers.proofs.Scans.{lifted_ok, memory_is}
 
@@ -130,7 +131,7 @@ some_scan v [] post body g some reads fits e = absurd (omega (arith, some))
 some_scan v (c ∷ cs) post body g some reads fits e = chunks_scan v c cs post body g reads fits e
 
 module _ (v : TableVersion) (label : Label) (options : Options) (cs : List (List Entry)) (g : ℕ) (parts : Parts)
-    (short : length (finished (w v label options cs)) < 2 ^ 63) (some : AreSome cs) (strict : IsStrict (joined cs)) (fits : Fits v label cs) (told : recovered_told (finished (w v label options cs)) g ≡ Ok parts) where
+    (short : length (finished (w v label options cs)) < 2 ^ 63) (some : AreSome cs) (strict : IsStrict (joined cs)) (fits : Fits v label options cs) (told : recovered_told (finished (w v label options cs)) g ≡ Ok parts) where
   written_scan : 0 < length (joined cs) → Scans (body_of (finished (w v label options cs))) parts.facts.data_block_count g (all_ok (lift (joined cs) g))
   written_scan any =
       let are = facts_are v label options cs short some strict fits g parts told in
@@ -148,15 +149,16 @@ file_scans stored es t g parts short told any =
     let options = t.options in
     let f = t.file in
     let cs = f.blocks in
-    let short_file : length (finished (w v label options cs)) < 2 ^ 63 = subst (λ (b : List ℕ). length b < 2 ^ 63) f.are short in
-    let told_file : recovered_told (finished (w v label options cs)) g ≡ Ok parts = subst (λ (b : List ℕ). recovered_told b g ≡ Ok parts) f.are told in
+    let bytes_are : stored ≡ finished (w v label options cs) = f.are ∙ file_is v label options cs in
+    let short_file : length (finished (w v label options cs)) < 2 ^ 63 = subst (λ (b : List ℕ). length b < 2 ^ 63) bytes_are short in
+    let told_file : recovered_told (finished (w v label options cs)) g ≡ Ok parts = subst (λ (b : List ℕ). recovered_told b g ≡ Ok parts) bytes_are told in
     let whole = (f.chunks).whole in
     let line : IsStrict (joined cs) = subst IsStrict (sym whole) t.strict in
     let entries : 0 < length (joined cs) = subst (λ (xs : List Entry). 0 < length xs) (sym whole) any in
     let some = some_chunks options.data_block_size t.spills 0 cs (f.chunks).each in
     let written = written_scan v label options cs g parts short_file some line t.fits told_file entries in
     let by_list = subst (λ (xs : List Entry). Scans (body_of (finished (w v label options cs))) parts.facts.data_block_count g (all_ok (lift xs g))) whole written in
-    subst (λ (b : List ℕ). Scans (body_of b) parts.facts.data_block_count g (all_ok (lift es g))) (sym f.are) by_list
+    subst (λ (b : List ℕ). Scans (body_of b) parts.facts.data_block_count g (all_ok (lift es g))) (sym bytes_are) by_list
 
 -- ---- a scan that has a first block is refused for want of memory alone
 
@@ -195,7 +197,7 @@ empty_refused v stored label options spills es f none =
     let cs = f.blocks in
     let empty = no_chunks cs (some_chunks options.data_block_size spills 0 cs (f.chunks).each) (ap length (f.chunks).whole ∙ none) in
     let rest = the_version v label options cs ++ the_meta v label options cs in
-    let whole = ap body_of f.are ∙ is_body v label options cs ∙ ap (λ (ds : List (List Entry)). data_section v ds ++ (the_index v label options cs ++ rest)) empty in
+    let whole = ap body_of (f.are ∙ file_is v label options cs) ∙ is_body v label options cs ∙ ap (λ (ds : List (List Entry)). data_section v ds ++ (the_index v label options cs ++ rest)) empty in
     index_refused v (handles_payload v (handles v cs)) rest (body_of stored) whole
 
 -- ---- what a scan of a table of a list answers

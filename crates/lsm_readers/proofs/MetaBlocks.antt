@@ -17,8 +17,10 @@ use Rattle.sst_sections.proofs.Numbers.{wide4, wide8}
 use Rattle.lsm_files.specs.Chunks.{joined}
 use Rattle.lsm_files.specs.Facts.{facts}
 use Rattle.lsm_files.specs.Index.{data_section}
+use Rattle.lsm_files.specs.ItemName.{name_of}
 use Rattle.lsm_files.specs.MetaBlock.{Blocks, meta_entries}
-use Rattle.lsm_files.specs.Options.{Options, Label}
+use Rattle.lsm_files.specs.declared.options.Options.{Options}
+use Rattle.lsm_files.specs.declared.label.Label.{Label}
 
 wide16-len : (n : ℕ) → length (le16 n) ≡ 16
 unfolding le16
@@ -57,7 +59,7 @@ module _ (v : TableVersion) (label : Label) (options : Options) (cs : List (List
   es = meta_entries v label options cs blocks
 
   meta_test : is_strict_after None es ≡ true
-  unfolding is_strict_after
+  unfolding is_strict_after name_of
   meta_test = refl
 
   pub meta_strict : IsStrict es
@@ -65,6 +67,7 @@ module _ (v : TableVersion) (label : Label) (options : Options) (cs : List (List
 
   -- what the two keys leave is fixed
   meta_taken : all_taken v es ≤ 1900 + length (facts (joined cs)).min_key + length (facts (joined cs)).max_key
+  unfolding name_of
   meta_taken =
       let f = facts (joined cs) in
       omega (
@@ -91,6 +94,7 @@ module _ (v : TableVersion) (label : Label) (options : Options) (cs : List (List
   meta_length = omega (arith, meta_taken, length-payload v es)
 
   meta_fits : length (facts (joined cs)).min_key < 2 ^ 32 → length (facts (joined cs)).max_key < 2 ^ 32 → AllByRecursion (written.Fits v) es
+  unfolding name_of
   meta_fits min max =
       let f = facts (joined cs) in (
         small v _ refl (omega arith) (omega (arith, wide8.len ((length cs)))),

@@ -13,7 +13,8 @@ use Rattle.lsm_files.specs.Chunks.{joined}
 use Rattle.lsm_files.specs.Facts.{facts}
 use Rattle.lsm_files.specs.Index.{data_section}
 use Rattle.lsm_files.specs.MetaBlock.{Blocks, meta_entries, version_number}
-use Rattle.lsm_files.specs.Options.{Options, Label}
+use Rattle.lsm_files.specs.declared.options.Options.{Options}
+use Rattle.lsm_files.specs.declared.label.Label.{Label}
 use Rattle.lsm_files.specs.declared.item_name.ItemName.{ItemName}
 use Rattle.lsm_files.specs.declared.item_name.ItemName.TheVariants.{TableId, ItemCount, TombstoneCount, BlockCountData, BlockCountIndex, BlockCountFilter, FileSize, WeakTombstoneCount, WeakTombstoneReclaimable, CreatedAt, KeyMin, KeyMax, SeqnoMin, SeqnoMax, TableVersion as VersionItem, FilterHashType, ChecksumType, RestartIntervalIndex, CompressionData, CompressionIndex}
 use Rattle.lsm_files.specs.ItemName.{name_of}

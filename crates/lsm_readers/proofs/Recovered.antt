@@ -1,6 +1,6 @@
 -- What a recovered table's parts keep.
 use Rattle.std.proofs.Common.{◌≡◌, ℕ, ◌+◌, ◌-◌, ◌^◌, ◌<◌, ◌≤◌, Bool, true, false, cond, ltb, List, refl, sym, ap, subst, ◌∙◌, arith}
-use Rattle.std.specs.Prelude.{length, map, Option, Some, None, Result, Ok, Err}
+use Rattle.std.specs.Prelude.{length, Option, Some, None, Result, Ok, Err}
 use Rattle.std.proofs.lemmas.Bool.{ltb-false}
 use Rattle.sst_entries.specs.declared.error.Error.{Error}
 use Rattle.sst_entries.specs.declared.error.Error.TheVariants.{GlobalSeqNoTooLarge}
@@ -9,12 +9,10 @@ use Rattle.std.specs.Result.{IsErrAnd}
 use Rattle.sst_entries.specs.Error.{Fails, FaultsFirst, is_memory, unless}
 use Rattle.sst_blocks.specs.declared.block_type.BlockType.TheVariants.{Index, Meta}
 use Rattle.sst_blocks.specs.Block.{Loaded, load_told, place_fault, handles_of}
-use Rattle.sst_blocks.specs.Handle.{Handle}
-use Rattle.sst_sections.specs.Sections.{body_of, section_in, section_names, trailer_fault}
+use Rattle.sst_sections.specs.Sections.{body_of, trailer_fault}
 use Rattle.lsm_readers.specs.declared.regions.ParsedRegions.{ParsedRegions}
 use Rattle.lsm_readers.specs.Meta.{Facts}
 use Rattle.lsm_readers.specs.Meta.{meta_told}
-use Rattle.lsm_readers.specs.Regions.{regions_told}
 use Rattle.lsm_readers.specs.Parts.{Parts, PinnedIndex, early_fault, early_in, full, index_told, number_told, parts_told, places_told, range_in, range_told, recovered_told}
 use Rattle.lsm_readers.specs.Table.{IsRecovered, IsOpen}
 use Rattle.lsm_readers.specs.Table.{OpenTable}

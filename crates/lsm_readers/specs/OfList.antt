@@ -13,7 +13,8 @@ use Rattle.lsm_files.specs.Facts.{facts, highest_seqno}
 use Rattle.lsm_files.specs.File.{counted_blocks}
 use Rattle.lsm_files.specs.Index.{handles, data_section}
 use Rattle.lsm_files.specs.MetaBlock.{meta_entries, version_number}
-use Rattle.lsm_files.specs.Options.{Options, Label}
+use Rattle.lsm_files.specs.declared.options.Options.{Options}
+use Rattle.lsm_files.specs.declared.label.Label.{Label}
 use Rattle.lsm_files.specs.Table.{IsTable}
 use Rattle.lsm_readers.specs.declared.regions.ParsedRegions.{ParsedRegions}
 use Rattle.lsm_readers.specs.Meta.{Facts}
@@ -23,16 +24,17 @@ use Rattle.lsm_readers.specs.Parts.{Parts, full}
 abbrev pub ends_of : List Entry → Interval
 ends_of es = interval (facts es).min_key (facts es).max_key
 
--- what the table of a list says of itself, which has so many data blocks, of so many bytes
-abbrev pub facts_said : TableVersion → Label → List Entry → ℕ → ℕ → Facts
-facts_said v label es blocks size =
+-- what the table of a list says of itself, which has so many data blocks and index blocks, the
+-- data blocks of so many bytes
+abbrev pub facts_said : TableVersion → Label → List Entry → ℕ → ℕ → ℕ → Facts
+facts_said v label es blocks index_blocks size =
     let f = facts es in
     record {
       table_version = version_number v;
       id = label.table_id;
       created_at = label.created_at;
       data_block_count = blocks;
-      index_block_count = counted_blocks.index;
+      index_block_count = index_blocks;
       key_range = ends_of es;
       seqno_min = f.lowest;
       seqno_max = f.highest;
@@ -48,8 +50,8 @@ abbrev pub regions_said : TableVersion → Label → Options → List (List Entr
 regions_said v label options cs =
     let blocks = length (data_section v cs) in
     let index = length (block_bytes v Index (handles_payload v (handles v cs))) in
-    let meta =
-    length (block_bytes v Meta (payload v (meta_entries v label options cs counted_blocks))) in
+    let items = meta_entries v label options cs (counted_blocks v options cs) in
+    let meta = length (block_bytes v Meta (payload v items)) in
     record {
       tli = record { offset = blocks; size = index };
       index = None;
@@ -62,8 +64,9 @@ abbrev pub parts_said : {bytes : List ℕ} {es : List Entry} → IsTable bytes e
 parts_said {bytes} {es} t =
     let v = t.version in
     let cs = (t.file).blocks in
+    let index_blocks = (counted_blocks v t.options cs).index in
     record {
-      facts = facts_said v t.label es (length cs) (length (data_section v cs));
+      facts = facts_said v t.label es (length cs) index_blocks (length (data_section v cs));
       regions = regions_said v t.label t.options cs;
       index = full (handles v cs);
     }

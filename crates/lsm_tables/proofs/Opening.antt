@@ -6,13 +6,14 @@ use Rattle.std.specs.Result.{IsErrAnd}
 use Rattle.sst_entries.specs.declared.error.Error.{Error}
 use Rattle.sst_entries.specs.declared.error.Error.TheVariants.{GlobalSeqNoTooLarge, OutOfMemory}
 use Rattle.sst_entries.specs.Entry.{Entry}
-use Rattle.sst_entries.specs.Error.{Faults, Gives, is_memory}
+use Rattle.sst_entries.specs.Error.{Faults, is_memory}
 use Rattle.sst_sections.specs.Fnv.{fnv1a}
 use Rattle.sst_sections.specs.declared.version.TableVersion.TheVariants.{V4}
 use Rattle.sst_entries.specs.Point.{point}
 use Rattle.sst_entries.specs.Stream.{Deals, all_ok, nowhere, stopped}
 use Rattle.lsm_files.specs.Facts.{highest_seqno}
-use Rattle.lsm_files.specs.Options.{Label, default_options}
+use Rattle.lsm_files.specs.declared.label.Label.{Label}
+use Rattle.lsm_files.specs.Options.{default_options}
 use Rattle.lsm_files.specs.Table.{IsTable}
 use Rattle.lsm_writers.specs.Writing.{IsTableOf, list_fault}
 use Rattle.lsm_readers.specs.OfList.{list_told, parts_said}

@@ -9,7 +9,8 @@ use Rattle.sst_entries.specs.Point.{point}
 use Rattle.sst_entries.specs.Stream.{Deals, all_ok, nowhere, stopped}
 use Rattle.std.specs.Option.{option_or}
 use Rattle.lsm_files.specs.Facts.{highest_seqno}
-use Rattle.lsm_files.specs.Options.{Label, default_options}
+use Rattle.lsm_files.specs.declared.label.Label.{Label}
+use Rattle.lsm_files.specs.Options.{default_options}
 use Rattle.lsm_files.specs.Table.{IsTable}
 use Rattle.lsm_writers.specs.Writing.{list_fault}
 use Rattle.lsm_readers.specs.Answer.{lift}

@@ -11,23 +11,32 @@ use Rattle.sst_blocks.specs.Handle.{Handle}
 use Rattle.sst_blocks.specs.Handles.{handle_spelled, handles_payload}
 use Rattle.sst_blocks.proofs.HandleLaws.{length-handle_spelled}
 use Rattle.sst_blocks.specs.Encoding.{is_long_key, key_fault, entries_fault, large_fault}
-use Rattle.sst_entries.specs.Entry.{Entry}
+use Rattle.sst_entries.specs.declared.value_type.ValueType.TheVariants.{Value}
+use Rattle.sst_entries.specs.Entry.{Entry, entry}
 use Rattle.sst_sections.specs.Fnv.{fnv1a}
 use Rattle.sst_sections.specs.Number.{le4, le8, le16}
 use Rattle.sst_entries.specs.Strict.{IsStrictAfter, IsStrict, last_of}
 use Rattle.sst_sections.proofs.Numbers.{wide4, wide8}
 use Rattle.lsm_writers.specs.declared.writer.meta.Metadata.{Metadata}
 use Rattle.lsm_files.specs.Chunks.{joined, entry_size, size_of, is_full, AreChunks}
-use Rattle.lsm_writers.specs.Counts.{metadata_of, counted_facts}
+use Rattle.lsm_writers.specs.Counts.{metadata_of, counted_facts, counted_items, HasShortKeys}
 use Rattle.lsm_writers.specs.Cut.{rest_of}
 use Rattle.lsm_files.specs.Facts.{Facts, first_key, last_key}
-use Rattle.lsm_files.specs.File.{counted_blocks, file}
+use Rattle.lsm_files.proofs.KindLemmas.{sections_are, index_counts, index_fits as kind_fits}
+use Rattle.lsm_files.specs.File.{counted_blocks, file, version_section, meta_section}
+use Rattle.lsm_files.specs.Layout.{Sections, laid, appended}
+use Rattle.sst_sections.specs.Sections.{Written, finished}
+use Rattle.sst_sections.specs.declared.section.SectionName.TheVariants.{Data}
+use Rattle.lsm_writers.proofs.Laying.{laid_more}
+use Rattle.lsm_files.specs.ItemName.{name_of}
+use Rattle.lsm_files.specs.Kinds.{full_index, filter_count}
 use Rattle.lsm_files.specs.Fits.{EntryFits, BlockFits, LabelFits, Fits}
 use Rattle.lsm_writers.specs.Held.{IsShortest, IsHeld}
-use Rattle.lsm_files.specs.Index.{handles, handles_from, last_entry, block_size}
-use Rattle.lsm_files.specs.MetaBlock.{Blocks, meta_entry, meta_items, meta_entries}
-use Rattle.lsm_files.specs.Options.{Options, Label}
-use Rattle.lsm_writers.specs.Registered.{failed_fault}
+use Rattle.lsm_files.specs.Index.{data_section, handles, handles_from, last_entry, block_size}
+use Rattle.lsm_files.specs.MetaBlock.{Blocks, meta_items, meta_entries}
+use Rattle.lsm_files.specs.declared.options.Options.{Options}
+use Rattle.lsm_files.specs.declared.label.Label.{Label}
+use Rattle.lsm_writers.specs.Registered.{Registered, failed_fault, full_index_fault}
 use Rattle.lsm_writers.specs.Writing.{Writing, written, spilled, blocks_of, spills_of, finish_fault, IsFinished}
 use Rattle.lsm_writers.proofs.Chunking.{are_chunks}
 use Rattle.sst_entries.proofs.Lists.{all_more, all_behind, all_front}
@@ -80,11 +89,15 @@ index_fits hs h = omega (arith, not_large (index_block_bound_of hs) h, payload_l
 
 -- ---- the meta block
 
-pub same_items : {A : Type 0} (label : Label) (options : Options) (m : Metadata A) (cs : List (List Entry)) → m ≡ metadata_of V4 cs [] → meta_items V4 label options counted_blocks (counted_facts m) m.data_block_count m.file_pos.0 m.uncompressed_size ≡ meta_entries V4 label options cs counted_blocks
-same_items label options m cs h = rw (h, append-nil (joined cs)) refl
+same_items : {A : Type 0} (label : Label) (options : Options) (m : Metadata A) (cs : List (List Entry)) (i f : ℕ) → i ≡ 1 → f ≡ filter_count options (joined cs) → m ≡ metadata_of V4 cs []
+    → counted_items label options (record { index = i; filter = f }) m ≡ meta_entries V4 label options cs (counted_blocks V4 options cs)
+unfolding counted_items
+same_items label options m cs i f one filter h =
+    let index = one ∙ sym (index_counts options (handles V4 cs)) in
+    rw (h, append-nil (joined cs), index, filter) refl
 
-pub items_strict : (label : Label) (options : Options) (counted : Blocks) (f : Facts) (a b d : ℕ) → IsStrict (meta_items V4 label options counted f a b d)
-unfolding IsStrictAfter
+items_strict : (label : Label) (options : Options) (counted : Blocks) (f : Facts) (a b d : ℕ) → IsStrict (meta_items V4 label options counted f a b d)
+unfolding IsStrictAfter name_of
 items_strict label options counted f a b d = (refl, (refl, (refl, (refl, (refl, (refl, (refl, (refl, (refl, (refl, (refl, (refl, (refl, (refl, (refl, (refl, (refl, (refl, (refl, (refl, (refl, (refl, (refl, (refl, (refl, (refl, (refl, (refl, (refl, tt)))))))))))))))))))))))))))))
 
 record IsSmall (e : Entry) : Type 0 where
@@ -92,17 +105,17 @@ record IsSmall (e : Entry) : Type 0 where
   value : length e.value ≤ 1048576
   number : e.seqno ≡ 0
 
-small8 : (name : List ℕ) (n : ℕ) → length name ≤ 64 → IsSmall (meta_entry name (le8 n))
+small8 : (name : List ℕ) (n : ℕ) → length name ≤ 64 → IsSmall (entry name (le8 n) 0 Value)
 small8 name n h = record { key = h; value = omega (arith, wide8.len n); number = refl }
 
-small4 : (name : List ℕ) (n : ℕ) → length name ≤ 64 → IsSmall (meta_entry name (le4 n))
+small4 : (name : List ℕ) (n : ℕ) → length name ≤ 64 → IsSmall (entry name (le4 n) 0 Value)
 small4 name n h = record { key = h; value = omega (arith, wide4.len n); number = refl }
 
 len16 : (n : ℕ) → length (le16 n) ≡ 16
 unfolding le16
 len16 n = refl
 
-small16 : (name : List ℕ) (n : ℕ) → length name ≤ 64 → IsSmall (meta_entry name (le16 n))
+small16 : (name : List ℕ) (n : ℕ) → length name ≤ 64 → IsSmall (entry name (le16 n) 0 Value)
 small16 name n h = record { key = h; value = omega (arith, len16 n); number = refl }
 
 small_fits : (e : Entry) → IsSmall e → EntryFits V4 e
@@ -113,6 +126,7 @@ small_sum [] h = omega arith
 small_sum (e ∷ es) h = omega (arith, small_sum es h.1, h.0.key, h.0.value, sum_by-cons entry_size e es)
 
 items_small : (label : Label) (options : Options) (counted : Blocks) (f : Facts) (a b d : ℕ) → length f.max_key ≤ 1048576 → length f.min_key ≤ 1048576 → AllByRecursion IsSmall (meta_items V4 label options counted f a b d)
+unfolding name_of
 items_small label options counted f a b d top low = (
   small8 _ _ (omega arith),
   (
@@ -202,7 +216,7 @@ items_small label options counted f a b d top low = (
   ),
 )
 
-pub items_fit : (label : Label) (options : Options) (counted : Blocks) (f : Facts) (a b d : ℕ) → length f.max_key ≤ 1048576 → length f.min_key ≤ 1048576 → entries_fault (meta_items V4 label options counted f a b d) ≡ None
+items_fit : (label : Label) (options : Options) (counted : Blocks) (f : Facts) (a b d : ℕ) → length f.max_key ≤ 1048576 → length f.min_key ≤ 1048576 → entries_fault (meta_items V4 label options counted f a b d) ≡ None
 items_fit label options counted f a b d top low =
     let es = meta_items V4 label options counted f a b d in
     let small = items_small label options counted f a b d top low in
@@ -221,6 +235,37 @@ pub last_short : (es : List Entry) → AllByRecursion (EntryFits V4) es → leng
 last_short [] h = rw last_nothing (omega arith)
 last_short (e ∷ es) h = rw (last_of_cons None e es) (last_all (EntryFits V4) e es h).key
 
+pub counted_strict : {A : Type 0} (label : Label) (options : Options) (counts : Blocks) (m : Metadata A) → IsStrict (counted_items label options counts m)
+unfolding counted_items
+counted_strict label options counts m = items_strict label options counts (counted_facts m) m.data_block_count m.file_pos.0 m.uncompressed_size
+
+pub counted_fit : {A : Type 0} (label : Label) (options : Options) (counts : Blocks) (m : Metadata A) → HasShortKeys m → entries_fault (counted_items label options counts m) ≡ None
+unfolding counted_items
+counted_fit label options counts m h = items_fit label options counts (counted_facts m) m.data_block_count m.file_pos.0 m.uncompressed_size h.last h.first
+
+-- the phases of finishing leave the sections of a table
+pub phases : {A : Type 0} (label : Label) (options : Options) (cs : List (List Entry)) (m : Metadata A) (i f : ℕ) (index : Registered) (first indexed versioned whole : Written)
+    → first ≡ laid ((Data, data_section V4 cs) ∷ []) → index ≡ record { handles = handles V4 cs; failed = false } → indexed ≡ appended first (full_index V4 index.handles) → versioned ≡ appended indexed (version_section V4)
+    → whole ≡ appended versioned (meta_section V4 (counted_items label options (record { index = i; filter = f }) m))
+    → i ≡ 1 → f ≡ filter_count options (joined cs) → m ≡ metadata_of V4 cs [] → finished whole ≡ file V4 label options cs
+phases label options cs m i f index first indexed versioned whole d r x v w one filter h =
+    let full = full_index V4 (handles V4 cs) in
+    let items = counted_items label options (record { index = i; filter = f }) m in
+    let front : Sections = (Data, data_section V4 cs) ∷ [] in
+    let with_index : Sections = front ++ full in
+    let with_version : Sections = with_index ++ version_section V4 in
+    let x' : indexed ≡ appended first full = x ∙ ap (λ (reg : Registered). appended first (full_index V4 reg.handles)) r in
+    let laid_index : indexed ≡ laid with_index = x' ∙ ap (λ (y : Written). appended y full) d ∙ laid_more front full in
+    let laid_version : versioned ≡ laid with_version = v ∙ ap (λ (y : Written). appended y (version_section V4)) laid_index ∙ laid_more with_index (version_section V4) in
+    let laid_meta : whole ≡ laid (with_version ++ meta_section V4 items) = w ∙ ap (λ (y : Written). appended y (meta_section V4 items)) laid_version ∙ laid_more with_version (meta_section V4 items) in
+    ap finished laid_meta
+    ∙ ap (λ (xs : List Entry). finished (laid (with_version ++ meta_section V4 xs))) (same_items label options m cs i f one filter h)
+    ∙ ap (λ (ss : Sections). finished (laid ss)) (sym (sections_are V4 label options cs))
+
+-- a full index that has not failed refuses what is too large alone
+pub index_refuses : (cs : List (List Entry)) (index : Registered) → index ≡ record { handles = handles V4 cs; failed = false } → key_fault (handles V4 cs) ≡ None → full_index_fault index ≡ large_fault (index_block_bound_of (handles V4 cs))
+index_refuses cs index is short = rw (is, short) refl
+
 -- ---- a writer that has nothing pending
 
 pub none_pending : {A : Type 0} (size : ℕ) (cs : List (List Entry)) (pending : List Entry) (n : ℕ) (m : Metadata A) → IsHeld size cs pending n m → pending ≡ [] → IsHeld size cs [] n m
@@ -229,12 +274,11 @@ none_pending size cs pending n m h e = subst (λ (p : List Entry). IsHeld size c
 pub held_keys : {A : Type 0} (size : ℕ) (cs : List (List Entry)) (n : ℕ) (m : Metadata A) → IsHeld size cs [] n m → key_fault (handles V4 cs) ≡ None
 held_keys size cs n m h = short_keys size cs h.shortest (all_front (EntryFits V4) (joined cs) [] h.fits)
 
-pub held_items_fit : {A : Type 0} (label : Label) (options : Options) (size : ℕ) (cs : List (List Entry)) (n : ℕ) (m : Metadata A) → IsHeld size cs [] n m
-    → entries_fault (meta_items V4 label options counted_blocks (counted_facts m) m.data_block_count m.file_pos.0 m.uncompressed_size) ≡ None
-held_items_fit label options size cs n m h =
-    let top : length (unwrap_or m.last_key []) ≤ 1048576 = rw h.counted (last_short (joined cs) (all_front (EntryFits V4) (joined cs) [] h.fits)) in
-    let low : length (unwrap_or m.first_key []) ≤ 1048576 = rw h.counted (first_short (joined cs ++ []) h.fits) in
-    items_fit label options counted_blocks (counted_facts m) m.data_block_count m.file_pos.0 m.uncompressed_size top low
+pub held_short : {A : Type 0} (size : ℕ) (cs : List (List Entry)) (n : ℕ) (m : Metadata A) → IsHeld size cs [] n m → HasShortKeys m
+held_short size cs n m h = record {
+  first = rw h.counted (first_short (joined cs ++ []) h.fits);
+  last = rw h.counted (last_short (joined cs) (all_front (EntryFits V4) (joined cs) [] h.fits));
+}
 
 -- ---- a writer whose pending entries were cut off
 
@@ -294,7 +338,7 @@ finished_is {A} w n m id checksum bytes h some i s b label blocks index =
         spills = spills_of w;
         file = record { blocks = blocks_of w; chunks = chunks; are = b };
         strict = written_strict w n m h;
-        fits = record { entries = all_front (EntryFits V4) (joined (blocks_of w)) [] h.fits; blocks = blocks; index = index_fits (handles V4 (blocks_of w)) index; label_fits = label };
+        fits = record { entries = all_front (EntryFits V4) (joined (blocks_of w)) [] h.fits; blocks = blocks; index = kind_fits V4 w.options (handles V4 (blocks_of w)) (index_fits (handles V4 (blocks_of w)) index); label_fits = label };
       };
       label_is = refl;
       options_are = refl;

@@ -1,5 +1,5 @@
 -- A list that is written entry by entry.
-use Rattle.std.proofs.Common.{◌≡◌, refl, sym, ◌∙◌, ap, subst, ℕ, Bool, true, false, IsTrue, append_assoc, append-nil, List, [], ◌∷◌, ◌++◌, ◌<◌, ◌-◌, ◌^◌, lt-ltb, ltb-true}
+use Rattle.std.proofs.Common.{◌≡◌, refl, sym, ◌∙◌, ap, subst, ℕ, ◌+◌, Bool, true, false, cond, length, IsTrue, append_assoc, append-nil, List, [], ◌∷◌, ◌++◌, ◌<◌, ◌-◌, ◌^◌, lt-ltb, ltb-true}
 use Rattle.std.specs.Prelude.{Option, Some, None, Result, Ok, Err, IfOk, MatchOption, nat_lt}
 use Rattle.std.specs.List.{AllByRecursion, list_all}
 use Rattle.std.specs.Result.{IsErrAnd}
@@ -12,9 +12,11 @@ use Rattle.sst_entries.specs.declared.error.Error.{Error}
 use Rattle.sst_entries.proofs.Booleans.{and_both, and_parts}
 use Rattle.sst_entries.proofs.Lists.{all_behind}
 use Rattle.lsm_writers.specs.declared.writer.FinishedTable.{FinishedTable}
-use Rattle.lsm_files.specs.Options.{Options, Label, default_options}
+use Rattle.lsm_files.specs.declared.options.Options.{Options}
+use Rattle.lsm_files.specs.declared.label.Label.{Label}
+use Rattle.lsm_files.specs.Options.{default_options}
 use Rattle.lsm_files.specs.Table.{IsTable}
-use Rattle.lsm_writers.specs.Writing.{follows, gained, written, IsFinished, IsTableOf, IsWritable, Writing}
+use Rattle.lsm_writers.specs.Writing.{early_ends, follows, gained, spills_of, written, IsFinished, IsTableOf, IsWritable, Writing}
 use Rattle.lsm_files.specs.Chunks.{joined, is_full}
 use Rattle.lsm_writers.proofs.Cutting.{joined_more}
 use Rattle.lsm_writers.proofs.Orders.{strict_back, ends_follow}
@@ -44,12 +46,30 @@ label_by w e false h = rw h (refl, refl)
 pub same_label : (w : Writing) (e : Entry) → ((gained w e).label ≡ w.label) × ((gained w e).options ≡ w.options)
 same_label w e = label_by w e _ refl
 
+-- a full chunk more ends no chunk early
+early_more : (size at : ℕ) (cs : List (List Entry)) (c : List Entry) → is_full size c ≡ true → early_ends size at (cs ++ c ∷ []) ≡ early_ends size at cs
+unfolding early_ends
+early_more size at [] c h = rw h refl
+early_more size at (d ∷ ds) c h =
+    ap (λ (ends : List ℕ). cond (is_full size d) ends ((at + length d) ∷ ends)) (early_more size (at + length d) ds c h)
+
+spilled_by : (w : Writing) (e : Entry) (full : Bool) → is_full w.options.data_block_size (w.pending ++ e ∷ []) ≡ full → spills_of (gained w e) ≡ spills_of w
+spilled_by w e true h = rw h (early_more w.options.data_block_size 0 w.cut (w.pending ++ e ∷ []) h)
+spilled_by w e false h = rw h refl
+
+pub same_spills : (w : Writing) (e : Entry) → spills_of (gained w e) ≡ spills_of w
+same_spills w e = spilled_by w e _ refl
+
+pub no_spills : (w : Writing) → w.cut ≡ [] → spills_of w ≡ []
+unfolding early_ends
+no_spills w h = rw h refl
+
 -- what a writer of all entries finishes
-module _ (w : Writing) (es : List Entry) (label : Label) (all : written w ≡ es) (named : w.label ≡ label) (options : w.options ≡ default_options) where
+module _ (w : Writing) (es : List Entry) (label : Label) (all : written w ≡ es) (named : w.label ≡ label) (options : w.options ≡ default_options) (unspilled : spills_of w ≡ []) where
   finished : (id checksum : ℕ) (bytes : List ℕ) → IsFinished w id checksum bytes → IsTableOf label es id checksum bytes
   finished id checksum bytes f =
-      let P : List Entry → Type 0 = λ xs. (t : IsTable bytes xs) × (t.label ≡ label) × (t.options ≡ default_options) × (t.version ≡ V4) in
-      let table : P es = subst P all (f.table, f.label_is ∙ named, f.options_are ∙ options, f.version_is) in
+      let P : List Entry → Type 0 = λ xs. (t : IsTable bytes xs) × (t.label ≡ label) × (t.options ≡ default_options) × (t.version ≡ V4) × (t.spills ≡ []) in
+      let table : P es = subst P all (f.table, f.label_is ∙ named, f.options_are ∙ options, f.version_is, f.spills_are ∙ unspilled) in
       record {
         some = λ none. f.some (all ∙ none);
         id_is = f.id_is ∙ ap (λ (l : Label). l.table_id) named;
@@ -58,13 +78,14 @@ module _ (w : Writing) (es : List Entry) (label : Label) (all : written w ≡ es
         label_is = table.1;
         options_are = table.2;
         version_is = table.3;
+        spills_are = table.4;
       }
 
-pub table_by : {A : Type 0} (r : Result (Option (FinishedTable A)) Error) (w : Writing) (es : List Entry) (label : Label) → written w ≡ es → w.label ≡ label → w.options ≡ default_options
+pub table_by : {A : Type 0} (r : Result (Option (FinishedTable A)) Error) (w : Writing) (es : List Entry) (label : Label) → written w ≡ es → w.label ≡ label → w.options ≡ default_options → spills_of w ≡ []
     → IfOk r (λ t. MatchOption t (written w ≡ []) (λ f. IsFinished w f.id f.checksum.0 f.bytes)) → IfOk r (λ t. MatchOption t (es ≡ []) (λ f. IsTableOf label es f.id f.checksum.0 f.bytes))
-table_by (Err e) w es label all named options h = tt
-table_by (Ok None) w es label all named options h = sym all ∙ h
-table_by (Ok (Some f)) w es label all named options h = finished w es label all named options f.id f.checksum.0 f.bytes h
+table_by (Err e) w es label all named options unspilled h = tt
+table_by (Ok None) w es label all named options unspilled h = sym all ∙ h
+table_by (Ok (Some f)) w es label all named options unspilled h = finished w es label all named options unspilled f.id f.checksum.0 f.bytes h
 
 -- the fault that is told, memory aside
 pub faults_refusal : {X : Type 0} (r : Result X Error) (e : Error) (told : Option Error) → IsErrAnd r (λ y. y ≡ e) → (is_memory e ≡ false → told ≡ Some e) → Faults r told

@@ -16,11 +16,12 @@ use Rattle.sst_entries.specs.Strict.{IsStrictAfter, IsStrict, last_of}
 use Rattle.sst_entries.specs.declared.value_type.ValueType.TheVariants.{Value}
 use Rattle.sst_sections.specs.declared.version.TableVersion.TheVariants.{V4}
 use Rattle.lsm_writers.specs.declared.writer.meta.Metadata.{Metadata}
-use Rattle.lsm_writers.specs.Counts.{no_counts, metadata_of, counted, HasRoom}
+use Rattle.lsm_writers.specs.declared.writer.meta.Tally.{Tally}
+use Rattle.lsm_writers.specs.Counts.{no_counts, metadata_of, brought, tally_of, added, counted, HasRoom}
 use Rattle.lsm_writers.specs.Cut.{Cut, rest_of, with_cut}
 use Rattle.lsm_files.specs.Facts.{count_after, lowest_seqno, highest_seqno, is_tombstone, is_weak, is_reclaimable, starts_key, one_if, first_key}
 use Rattle.lsm_files.specs.Fits.{EntryFits, LabelFits}
-use Rattle.lsm_files.specs.Options.{Label}
+use Rattle.lsm_files.specs.declared.label.Label.{Label}
 use Rattle.lsm_writers.specs.Held.{IsOpen, IsHeld, CanGoOn, IsShortest}
 use Rattle.lsm_writers.specs.Writing.{item_fault, follows}
 use Rattle.lsm_writers.proofs.Cutting.{joined_more}
@@ -140,10 +141,14 @@ first_more : (es : List Entry) (e : Entry) → first_key (es ++ e ∷ []) ≡ op
 first_more [] e = refl
 first_more (x ∷ xs) e = refl
 
+brought_is : (first : Option (List ℕ)) (key : List ℕ) → option_or first (brought first key) ≡ option_or first (Some key)
+brought_is None key = refl
+brought_is (Some x) key = refl
+
 pub counted_is : {A : Type 0} (cut : List (List Entry)) (pending : List Entry) (e : Entry) (m : Metadata A) → m ≡ metadata_of V4 cut pending → counted (last_of None (joined cut ++ pending)) e m ≡ metadata_of V4 cut (pending ++ e ∷ [])
 counted_is cut pending e m h =
     let es = joined cut ++ pending in
-    rw (h, snoc_assoc (joined cut) pending e, count_more is_tombstone es e, count_more is_weak es e, after_more is_reclaimable None es e, after_more starts_key None es e, lowest_more es e, highest_more es e, first_more es e) refl
+    rw (h, brought_is (first_key es) e.user_key, snoc_assoc (joined cut) pending e, count_more is_tombstone es e, count_more is_weak es e, after_more is_reclaimable None es e, after_more starts_key None es e, lowest_more es e, highest_more es e, first_more es e) refl
 
 -- ---- room for one more
 
@@ -166,6 +171,9 @@ has_room {A} cut pending m h few small =
       reclaimable = omega (arith, ap (λ (x : Metadata A). x.weak_tombstone_reclaimable_count) h, after-le is_reclaimable None es, n, few, small);
       keys = omega (arith, ap (λ (x : Metadata A). x.key_count) h, after-le starts_key None es, n, few, small);
     }
+
+pub room_still : {A : Type 0} (cs : List (List Entry)) (m : Metadata A) → HasRoom m → HasRoom (with_cut cs m)
+room_still cs m r = record { tombstones = r.tombstones; weak = r.weak; reclaimable = r.reclaimable; keys = r.keys }
 
 -- ---- a writer's parts after a call
 
@@ -231,6 +239,26 @@ taken_held {A} size cut pending n m e last items k o old room f ok l i s c =
     let meta : o ≡ counted (last_of None (joined cut ++ pending)) e m = c ∙ ap (λ (x : Option Entry). counted x e m) before in
     rw (i, s, meta) (held_more size cut pending n m e old room f ok)
 
+-- and once it was counted
+pub taken_counted : {A : Type 0} (size : ℕ) (cut : List (List Entry)) (pending : List Entry) (n : ℕ) (m : Metadata A) (e : Entry) (last : Option Entry) (items : List Entry) (k : ℕ) (t : Tally A) (o : Metadata A)
+    → IsHeld size cut pending n m → IsOpen size pending → IsTrue (follows (joined cut ++ pending) e.user_key e.seqno) → item_fault pending e ≡ None → last ≡ last_of None (joined cut)
+    → items ≡ pending ++ e ∷ [] → k ≡ n + entry_size e → t ≡ tally_of (last_of last pending) e m.first_key → o ≡ added t m
+    → IsHeld size cut items k o
+taken_counted {A} size cut pending n m e last items k t o old room f ok l i s c a =
+    taken_held size cut pending n m e last items k o old room f ok l i s (a ∙ ap (λ (x : Tally A). added x m) c)
+
+-- and once its block was cut before it was counted
+pub cut_held : {A : Type 0} (size : ℕ) (cut : List (List Entry)) (items : List Entry) (k : ℕ) (m : Metadata A) (t : Tally A) (new : List (List Entry)) (o p : Metadata A)
+    → IsHeld size cut items k (added t m) → new ≡ cut ++ rest_of items → o ≡ with_cut new m → p ≡ added t o
+    → IsHeld size new [] 0 p
+cut_held {A} size cut items k m t new o p held n c a =
+    let whole : IsHeld size new [] 0 (with_cut new (added t m)) = subst (λ (cs : List (List Entry)). IsHeld size cs [] 0 (with_cut cs (added t m))) (sym n) (held_cut size cut items k (added t m) held) in
+    subst (λ (x : Metadata A). IsHeld size new [] 0 x) (sym (a ∙ ap (λ (x : Metadata A). added t x) c)) whole
+
 -- what is pending encodes, as it is held
 pub held_fits : {A : Type 0} (size : ℕ) (cut : List (List Entry)) (pending : List Entry) (n : ℕ) (m : Metadata A) → IsHeld size cut pending n m → entries_fault pending ≡ None
 held_fits size cut pending n m h = no_fault pending (all_behind (EntryFits V4) (joined cut) pending h.fits) (omega (arith, h.sized, h.small))
+
+-- an entry that is given up again
+pub given_up : (pending items : List Entry) (e : Entry) (n : ℕ) → items ≡ pending ++ e ∷ [] → n ≡ length pending → take n items ≡ pending
+given_up pending items e n i k = ap (take n) i ∙ take_at pending (e ∷ []) n (sym k)

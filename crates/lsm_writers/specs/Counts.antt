@@ -1,13 +1,19 @@
 -- What a writer counts while it writes.
-use Rattle.std.specs.Prelude.{◌+◌, ◌-◌, ◌<◌, ◌^◌, List, [], ◌++◌, length, min, max, count_by, sum_by, Option, Some, None, unwrap_or}
+use Rattle.std.specs.Prelude.{ℕ, ◌+◌, ◌-◌, ◌<◌, ◌≤◌, ◌^◌, List, [], ◌++◌, length, min, max, count_by, sum_by, Option, Some, None, unwrap_or}
 use Rattle.std.specs.Option.{option_or}
 use Rattle.sst_sections.specs.declared.version.TableVersion.{TableVersion}
+use Rattle.sst_sections.specs.declared.version.TableVersion.TheVariants.{V4}
+use Rattle.sst_sections.specs.Version.{longest_key}
 use Rattle.sst_entries.specs.Entry.{Entry}
 use Rattle.sst_blocks.specs.Payload.{payload}
 use Rattle.lsm_writers.specs.declared.writer.meta.Metadata.{Metadata}
+use Rattle.lsm_writers.specs.declared.writer.meta.Tally.{Tally}
 use Rattle.lsm_files.specs.Chunks.{joined}
 use Rattle.lsm_files.specs.Facts.{Facts, is_tombstone, is_weak, starts_key, is_reclaimable, one_if, count_after, lowest_seqno, highest_seqno, first_key, last_key}
 use Rattle.lsm_files.specs.Index.{data_section}
+use Rattle.lsm_files.specs.MetaBlock.{Blocks, meta_items}
+use Rattle.lsm_files.specs.declared.options.Options.{Options}
+use Rattle.lsm_files.specs.declared.label.Label.{Label}
 
 -- nothing was written
 abbrev pub no_counts : {A : Type 0} → Metadata A
@@ -45,17 +51,37 @@ metadata_of v cut pending =
       highest_seqno = highest_seqno es;
     }
 
+-- the first key that an entry brings: its own, where there is none yet
+abbrev pub brought : Option (List ℕ) → List ℕ → Option (List ℕ)
+brought None key = Some key
+brought (Some first) key = None
+
+-- what an entry adds to the counts, after the one before it
+abbrev pub tally_of : {A : Type 0} → Option Entry → Entry → Option (List ℕ) → Tally A
+tally_of before e first = record {
+  starts_key = starts_key before e;
+  is_tombstone = is_tombstone e;
+  is_weak = is_weak e;
+  is_reclaimable = is_reclaimable before e;
+  seqno = e.seqno;
+  first_key = brought first e.user_key;
+}
+
+-- one more entry is counted
+abbrev pub added : {A : Type 0} → Tally A → Metadata A → Metadata A
+added t m = record m {
+  tombstone_count = m.tombstone_count + one_if t.is_tombstone;
+  weak_tombstone_count = m.weak_tombstone_count + one_if t.is_weak;
+  weak_tombstone_reclaimable_count = m.weak_tombstone_reclaimable_count + one_if t.is_reclaimable;
+  key_count = m.key_count + one_if t.starts_key;
+  first_key = option_or m.first_key t.first_key;
+  lowest_seqno = min m.lowest_seqno t.seqno;
+  highest_seqno = max m.highest_seqno t.seqno;
+}
+
 -- one more entry is counted, after the one before it
 abbrev pub counted : {A : Type 0} → Option Entry → Entry → Metadata A → Metadata A
-counted before e m = record m {
-  tombstone_count = m.tombstone_count + one_if (is_tombstone e);
-  weak_tombstone_count = m.weak_tombstone_count + one_if (is_weak e);
-  weak_tombstone_reclaimable_count = m.weak_tombstone_reclaimable_count + one_if (is_reclaimable before e);
-  key_count = m.key_count + one_if (starts_key before e);
-  first_key = option_or m.first_key (Some e.user_key);
-  lowest_seqno = min m.lowest_seqno e.seqno;
-  highest_seqno = max m.highest_seqno e.seqno;
-}
+counted before e m = added (tally_of before e m.first_key) m
 
 -- no count is at its largest value
 pub record HasRoom {A : Type 0} (m : Metadata A) : Type 0 where
@@ -77,3 +103,13 @@ counted_facts m = record {
   lowest = m.lowest_seqno;
   highest = m.highest_seqno;
 }
+
+-- the items of the meta block of what was counted
+unfoldable pub counted_items : {A : Type 0} → Label → Options → Blocks → Metadata A → List Entry
+counted_items label options counts m =
+    meta_items V4 label options counts (counted_facts m) m.data_block_count m.file_pos.0 m.uncompressed_size
+
+-- the first and the last key are no longer than a table takes
+pub record HasShortKeys {A : Type 0} (m : Metadata A) : Type 0 where
+  pub first : length (unwrap_or m.first_key []) ≤ longest_key V4
+  pub last : length (unwrap_or m.last_key []) ≤ longest_key V4

@@ -1,19 +1,12 @@
 -- What an index writer holds, and what it writes.
 use Rattle.std.proofs.Common.{ap}
-use Rattle.std.specs.Prelude.{◌≡◌, ℕ, Bool, true, List, [], ◌∷◌, ◌++◌, length, Option, Some, None, All, if◌then◌else◌}
-use Rattle.std.specs.List.{flat_map}
-use Rattle.sst_sections.specs.declared.version.TableVersion.TheVariants.{V4}
-use Rattle.sst_blocks.specs.declared.block_type.BlockType.TheVariants.{Index}
+use Rattle.std.specs.Prelude.{◌≡◌, ℕ, Bool, true, List, Option, Some, None, All, if◌then◌else◌}
 use Rattle.sst_sections.specs.declared.section.SectionName.{SectionName}
-use Rattle.sst_sections.specs.declared.section.SectionName.TheVariants.{Tli}
 use Rattle.sst_entries.specs.declared.error.Error.{Error}
 use Rattle.sst_entries.specs.declared.error.Error.TheVariants.{WriterFailed}
-use Rattle.sst_blocks.specs.Block.{block_bytes}
 use Rattle.sst_blocks.specs.Encoding.{handles_fault}
 use Rattle.sst_blocks.specs.Handle.{Handle}
-use Rattle.sst_blocks.specs.Handles.{handles_payload}
 use Rattle.sst_sections.specs.Sections.{Written, place_of}
-use Rattle.lsm_files.specs.Layout.{Sections, starts_from}
 
 -- the handles that were registered, and whether the writer has refused
 pub record Registered : Type 0 where
@@ -28,17 +21,10 @@ failed_fault failed = if failed then Some WriterFailed else None
 abbrev pub HasNoIndex : Written → Type 0
 HasNoIndex w = All (λ (s : SectionName × ℕ). (place_of s.0 ≡ 1 → ⊥) × (place_of s.0 ≡ 2 → ⊥)) w.started
 
--- the sections behind what was written before
-abbrev pub appended : Written → Sections → Written
-appended w ss = record { bytes = w.bytes ++ flat_map (λ (s : SectionName × List ℕ). s.1) ss; started = w.started ++ starts_from (length w.bytes) ss }
-
--- a full index is one block of all handles
-abbrev pub full_index : List Handle → Sections
-full_index hs = (Tli, block_bytes V4 Index (handles_payload V4 hs)) ∷ []
-
+-- what a full index refuses
 abbrev pub full_index_fault : Registered → Option Error
 full_index_fault r = if r.failed then Some WriterFailed else handles_fault r.handles
 
--- a writer that has refused refuses again
+-- and a writer that has refused refuses again
 pub fails_again : (r : Registered) → r.failed ≡ true → full_index_fault r ≡ Some WriterFailed
 fails_again r h = ap (λ (b : Bool). if b then Some WriterFailed else handles_fault r.handles) h

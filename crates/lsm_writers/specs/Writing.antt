@@ -15,7 +15,9 @@ use Rattle.lsm_writers.specs.Cut.{rest_of}
 use Rattle.lsm_files.specs.Index.{handles}
 use Rattle.sst_sections.specs.Fnv.{fnv1a}
 use Rattle.lsm_files.specs.Table.{IsTable}
-use Rattle.lsm_files.specs.Options.{Options, Label, default_options}
+use Rattle.lsm_files.specs.declared.options.Options.{Options}
+use Rattle.lsm_files.specs.declared.label.Label.{Label}
+use Rattle.lsm_files.specs.Options.{default_options}
 
 -- the chunks whose blocks were cut, the entries of the next block, and whether the writer has refused
 pub record Writing : Type 0 where
@@ -105,7 +107,7 @@ writing_fault w (e ∷ es) = option_or (write_fault w e) (writing_fault (gained 
 abbrev pub list_fault : Label → List Entry → Option Error
 list_fault label es = writing_fault (new_writing label) es
 
--- a finished table of a list: its id, its checksum and its bytes
+-- a finished table of a list, of which no block was spilled before it was full: its id, its checksum and its bytes
 pub record IsTableOf (label : Label) (es : List Entry) (id : ℕ) (checksum : ℕ) (bytes : List ℕ) : Type 0 where
   pub some : es ≡ [] → ⊥
   pub id_is : id ≡ label.table_id
@@ -114,3 +116,4 @@ pub record IsTableOf (label : Label) (es : List Entry) (id : ℕ) (checksum : �
   pub label_is : table.label ≡ label
   pub options_are : table.options ≡ default_options
   pub version_is : table.version ≡ V4
+  pub spills_are : table.spills ≡ []

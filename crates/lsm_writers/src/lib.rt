@@ -5,7 +5,7 @@ mod list;
 mod writer;
 
 pub use list::{is_writable, write_list};
-pub use lsm_files::{GlobalTableId, TableId, Timestamp, TreeId};
+pub use lsm_files::{GlobalTableId, Label, Options, TableId, Timestamp, TreeId};
 pub use writer::index::{BlockIndexWriter, FullIndexWriter};
 pub use writer::meta::Metadata;
 pub use writer::{FinishedTable, Writer};

@@ -1,5 +1,5 @@
 //! Writing a table.
-ghost use Rattle.std.specs.Prelude.{◌≡◌, ◌↔◌, ◌<◌, ◌≤◌, ◌+◌, ◌*◌, ◌^◌, [], ◌∷◌, ◌++◌, None, Some, false, true, length, IsTrue, IfOk, IfErr, OnOk, OnErr, MatchResult, MatchOption};
+ghost use Rattle.std.specs.Prelude.{◌≡◌, ◌↔◌, ◌<◌, ◌≤◌, ◌+◌, ◌*◌, ◌^◌, List, [], ◌∷◌, ◌++◌, None, Some, false, true, length, IsTrue, IfOk, IfErr, OnOk, OnErr, MatchResult, MatchOption};
 ghost use Rattle.std.specs.Option.{option_copied};
 ghost use Rattle.sst_entries.specs.declared.error.Error.TheVariants.{OutOfMemory};
 ghost use Rattle.sst_sections.specs.declared.version.TableVersion.TheVariants.{V4};
@@ -7,11 +7,14 @@ ghost use Rattle.sst_entries.specs.Error.{Faults, FaultsFirst};
 ghost use Rattle.sst_entries.specs.Strict.{IsStrict, last_of};
 ghost use Rattle.lsm_files.specs.Chunks.{entry_size, size_of};
 ghost use Rattle.lsm_files.specs.Options.{default_options};
-ghost use Rattle.lsm_writers.specs.Counts.{metadata_of, counted, HasRoom};
+ghost use Rattle.lsm_writers.specs.Counts.{metadata_of, tally_of};
 ghost use Rattle.lsm_writers.specs.Writing.{written, IsFresh, follows, write_fault, item_fault, gained, spilled, finish_fault, IsFinished};
 ghost use Rattle.std.specs.List.{AllByRecursion};
 ghost use Rattle.lsm_writers.specs.Registered.{failed_fault};
-ghost use Rattle.lsm_files.specs.File.{file};
+ghost use Rattle.lsm_files.specs.File.{file, version_section, HasNoVersion};
+ghost use Rattle.lsm_files.specs.Kinds.{filter_count};
+ghost use Rattle.lsm_files.specs.Layout.{appended};
+ghost use Rattle.sst_entries.specs.Entry.{Entry};
 ghost use Rattle.lsm_files.specs.Fits.{BlockFits, EntryFits, LabelFits};
 ghost use Rattle.lsm_files.specs.Index.{handles};
 ghost use Rattle.sst_blocks.specs.Bounds.{index_block_bound_of};
@@ -22,15 +25,16 @@ mod data_blocks;
 pub mod index;
 pub mod meta;
 mod meta_block;
-mod options;
 
 use crate::{TableId, Timestamp};
 use data_blocks::DataBlocks;
-use meta::Metadata;
-use meta_block::{TableLabel, meta_items};
-use options::WriterOptions;
+use index::BlockIndexWriter;
+use lsm_files::{BloomConstructionPolicy, FilterKind, Label, Options};
+use meta::{Metadata, Tally};
+use meta_block::{BlockCounts, write_meta};
 use sst_blocks::{
-    Checksum, CompressionType, Error, InternalKey, InternalValue, SeqNo, Slice, TableVersion,
+    Checksum, CompressionType, Error, InternalKey, InternalValue, SectionName, SectionWriter,
+    SeqNo, Slice, TableVersion,
 };
 use sst_entries::compare_versions;
 use std::alloc::{Allocator, Global};
@@ -40,8 +44,8 @@ use std::marker::Model;
 /// chunks whose blocks were cut, and the entries that are pending.
 #[derive(Drop)]
 pub struct Writer<A: Allocator = Global> {
-    label: TableLabel,
-    options: WriterOptions,
+    label: Label,
+    options: Options,
     blocks: DataBlocks<A>,
     // the entries of the next block, and how many bytes their keys and values have
     chunk: Vec<InternalValue<A>, A>,
@@ -77,12 +81,12 @@ impl<A: Allocator + Clone> Writer<A> {
     {
         let chunk = Vec::new(alloc.clone()?);
         Ok(Writer {
-            label: TableLabel {
+            label: Label {
                 table_id: id,
                 initial_level,
                 created_at,
             },
-            options: WriterOptions::new(),
+            options: Options::default(),
             blocks: DataBlocks::new(alloc)?,
             chunk,
             chunk_size: 0,
@@ -141,24 +145,30 @@ impl<A: Allocator + Clone> Writer<A> {
         ensures refused { Faults result (write_fault self.old item) }
         // What is wrong with the entry or the writer is found before any memory is taken.
         ensures first { FaultsFirst result (write_fault self.old item) }
-        ensures failed { OnErr result (self.new.failed ≡ true) }
+        // A refused entry is given up, and the list and its counts stay.
+        ensures failed { OnErr result (self.new ≡ record self.old { failed = true }) }
     {
         if self.failed {
             return Err(Error::WriterFailed);
         }
         self.failed = true;
-        let options = self.options;
-        take_item(
+        let (options, pending, size) = (self.options, self.chunk.len(), self.chunk_size);
+        let tally = take_item(
             &mut self.chunk,
             &mut self.chunk_size,
-            &mut self.meta,
+            &self.meta,
             self.blocks.last(),
             item,
         )?;
         if self.chunk_size >= options.data_block_size as usize {
-            self.blocks.cut(&mut self.chunk, &mut self.meta, &options)?;
+            if let Err(error) = self.blocks.cut(&mut self.chunk, &mut self.meta, &options) {
+                self.chunk.truncate(pending); // the entry is given up
+                self.chunk_size = size;
+                return Err(error);
+            }
             self.chunk_size = 0;
         }
+        self.meta.count(tally);
         self.failed = false;
         Ok(())
     }
@@ -170,7 +180,7 @@ impl<A: Allocator + Clone> Writer<A> {
         ensures ok { OnOk result (self.new ≡ spilled self.old) }
         ensures refused { Faults result (failed_fault self.old.failed) }
         ensures first { FaultsFirst result (failed_fault self.old.failed) }
-        ensures failed { OnErr result (self.new.failed ≡ true) }
+        ensures failed { OnErr result (self.new ≡ record self.old { failed = true }) }
     {
         if self.failed {
             return Err(Error::WriterFailed); // nothing is cut
@@ -203,8 +213,8 @@ impl<A: Allocator + Clone> Writer<A> {
         Ok(Some(self.table()?))
     }
 
-    /// The table of the blocks that were cut: behind them stand their index, the version, the meta block and the trailer.
-    /// Refused [`Error::BlockTooLarge`] where the bound of the index reaches 2^32, and [`Error::OutOfMemory`].
+    /// The table of the blocks that were cut: behind them stand their index, the filter, the version, the meta block and the
+    /// trailer. Refused [`Error::BlockTooLarge`] where the bound of the index reaches 2^32, and [`Error::OutOfMemory`].
     fn table(self) -> Result<FinishedTable<A>, Error>
         requires works { self.failed ≡ false }
         requires cut { self.pending ≡ [] }
@@ -215,14 +225,30 @@ impl<A: Allocator + Clone> Writer<A> {
         ensures label { LabelFits self.label }
         ensures blocks { IfOk result (λ _. AllByRecursion (BlockFits V4) self.cut) }
     {
-        let items = meta_items(
-            self.chunk.allocator(),
-            &self.label,
-            &self.options,
-            &self.meta,
+        let Writer {
+            label,
+            options,
+            blocks,
+            meta,
+            ..
+        } = self;
+        let (mut file_writer, index_writer, mut buffer) = blocks.into_parts();
+        let index_blocks = index_writer.finish(&mut file_writer)?;
+        let filter_blocks = finish_filter(&options);
+        write_version(&mut file_writer)?;
+        let counts = BlockCounts {
+            index: index_blocks,
+            filter: filter_blocks,
+        };
+        write_meta(
+            &mut file_writer,
+            &mut buffer,
+            &label,
+            &options,
+            counts,
+            &meta,
         )?;
-        let Writer { label, blocks, .. } = self;
-        let (bytes, checksum) = blocks.finish(&items)?;
+        let (bytes, checksum) = file_writer.finish()?;
         Ok(FinishedTable {
             id: label.table_id,
             checksum,
@@ -311,6 +337,25 @@ pub struct FinishedTable<A: Allocator = Global> {
     pub bytes: Slice<A>,
 }
 
+/// Writes the filter, which an inactive policy has none of, and answers how many blocks it counts.
+fn finish_filter(options: &Options) -> usize
+    ensures { (es : List Entry) → result ≡ filter_count options.now es }
+{
+    match (options.filter_kind, options.bloom_policy) {
+        (FilterKind::Full, BloomConstructionPolicy::Inactive) => 1,
+    }
+}
+
+/// Writes the number of the version. Refused [`Error::OutOfMemory`] alone; nothing is written then.
+fn write_version<A: Allocator + Clone>(file_writer: &mut SectionWriter<A>) -> Result<(), Error>
+    requires { HasNoVersion file_writer.old }
+    ensures ok { OnOk result (file_writer.new ≡ appended file_writer.old (version_section V4)) }
+    ensures err { IfErr result (λ e. e ≡ OutOfMemory) }
+{
+    file_writer.start(SectionName::TableVersion)?;
+    file_writer.append(&[4])
+}
+
 /// The entry written last: the last pending one, or the last of the blocks that were cut.
 fn last_written<'a, A: Allocator>(
     chunk: &'a [InternalValue<A>],
@@ -324,33 +369,31 @@ fn last_written<'a, A: Allocator>(
     }
 }
 
-/// Puts an entry behind the pending ones, and counts it; `cut` is the last entry of the blocks that were cut. Whatever is
-/// refused, nothing changes.
+/// Puts an entry behind the pending ones, and answers what it adds to the counts; `cut` is the last entry of the blocks that
+/// were cut. Whatever is refused, nothing changes.
 fn take_item<A: Allocator + Clone>(
     chunk: &mut Vec<InternalValue<A>, A>,
     chunk_size: &mut usize,
-    meta: &mut Metadata<A>,
+    meta: &Metadata<A>,
     cut: Option<&InternalValue<A>>,
     item: InternalValue<A>,
-) -> Result<(), Error>
+) -> Result<Tally<A>, Error>
     requires sized { chunk_size.old ≡ size_of chunk.old.items }
     requires small { 28 + 17 * length chunk.old.items + chunk_size.old < 2 ^ 32 }
-    requires room { HasRoom meta.old }
     ensures taken { OnOk result (chunk.new.items ≡ chunk.old.items ++ item ∷ []) }
     ensures sized { OnOk result (chunk_size.new ≡ chunk_size.old + entry_size item) }
-    ensures counted { OnOk result (meta.new ≡ counted (last_of (option_copied cut.entry) chunk.old.items) item meta.old) }
+    ensures tally { IfOk result (λ t. t ≡ tally_of (last_of (option_copied cut.entry) chunk.old.items) item meta.now.first_key) }
     ensures left { OnErr result (chunk.new.items ≡ chunk.old.items) }
     ensures same_size { OnErr result (chunk_size.new ≡ chunk_size.old) }
-    ensures uncounted { OnErr result (meta.new ≡ meta.old) }
     ensures refused { Faults result (item_fault chunk.old.items item) }
     ensures first { FaultsFirst result (item_fault chunk.old.items item) }
 {
     check_item(chunk, *chunk_size, &item)?;
     chunk.reserve(1)?;
-    meta.count(last_written(chunk, cut), &item)?;
+    let tally = meta.tally(last_written(chunk, cut), &item)?;
     *chunk_size += item.key.user_key.len() + item.value.len();
     chunk.push(item)?;
-    Ok(())
+    Ok(tally)
 }
 
 /// Refused where an entry is too long, or would make the block of the pending ones too large.

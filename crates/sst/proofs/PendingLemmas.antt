@@ -9,7 +9,7 @@ use Rattle.sst_entries.specs.Entry.{Entry, entry}
 use Rattle.sst_entries.specs.Error.{Faults}
 use Rattle.sst_entries.specs.Strict.{last_of, may_follow, IsStrictAfter}
 use Rattle.lsm_files.specs.Facts.{highest_seqno}
-use Rattle.lsm_files.specs.Options.{Label}
+use Rattle.lsm_files.specs.declared.label.Label.{Label}
 use Rattle.lsm_writers.specs.Writing.{follows, list_fault, IsWritable}
 use Rattle.lsm_tables.specs.Written.{number_fault, opening_fault}
 use Rattle.sst_entries.proofs.Booleans.{and_parts}

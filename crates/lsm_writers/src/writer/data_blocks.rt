@@ -4,28 +4,22 @@ ghost use Rattle.std.specs.Option.{option_copied};
 ghost use Rattle.sst_entries.specs.declared.error.Error.TheVariants.{OutOfMemory};
 ghost use Rattle.sst_sections.specs.declared.section.SectionName.TheVariants.{Data};
 ghost use Rattle.sst_sections.specs.declared.version.TableVersion.TheVariants.{V4};
-ghost use Rattle.sst_blocks.specs.Bounds.{index_block_bound_of};
-ghost use Rattle.sst_blocks.specs.Encoding.{entries_fault, key_fault, large_fault};
-ghost use Rattle.sst_entries.specs.Error.{Faults};
-ghost use Rattle.sst_sections.specs.Fnv.{fnv1a};
-ghost use Rattle.sst_sections.specs.Sections.{finished};
+ghost use Rattle.sst_blocks.specs.Encoding.{entries_fault};
 ghost use Rattle.sst_entries.specs.Strict.{IsStrict, last_of};
 ghost use Rattle.lsm_files.specs.Chunks.{joined};
 ghost use Rattle.lsm_writers.specs.Cut.{Cut, CountsCut, IsReadable, with_cut, rest_of};
 ghost use Rattle.lsm_files.specs.Fits.{BlockFits};
 ghost use Rattle.std.specs.List.{AllByRecursion};
-ghost use Rattle.lsm_files.specs.File.{end_sections, index_sections, HasNoEnd};
 ghost use Rattle.lsm_files.specs.Index.{handles, handle_of, data_block, data_section};
 ghost use Rattle.sst_blocks.specs.Payload.{payload};
 ghost use Rattle.lsm_files.specs.Layout.{laid};
-ghost use Rattle.lsm_writers.specs.Registered.{appended};
 
 use crate::writer::index::{BlockIndexWriter, FullIndexWriter};
 use crate::writer::meta::Metadata;
-use crate::writer::options::WriterOptions;
+use lsm_files::Options;
 use sst_blocks::{
-    Block, BlockHandle, BlockOffset, BlockType, Checksum, CompressionType, DataBlock, Error,
-    InternalValue, KeyedBlockHandle, SectionName, SectionWriter, Slice,
+    Block, BlockHandle, BlockOffset, BlockType, CompressionType, DataBlock, Error, InternalValue,
+    KeyedBlockHandle, SectionName, SectionWriter,
 };
 use std::alloc::{Allocator, Global};
 use std::marker::Model;
@@ -86,7 +80,7 @@ impl<A: Allocator + Clone> DataBlocks<A> {
         &mut self,
         chunk: &mut Vec<InternalValue<A>, A>,
         meta: &mut Metadata<A>,
-        options: &WriterOptions,
+        options: &Options,
     ) -> Result<(), Error>
         requires works { self.old.failed ≡ false }
         requires strict { IsStrict (joined self.old.chunks ++ chunk.old.items) }
@@ -120,39 +114,20 @@ impl<A: Allocator + Clone> DataBlocks<A> {
         Ok(())
     }
 
-    /// Writes the index behind the blocks, then the version and a meta block of these items, and the trailer. Refused
-    /// [`Error::BlockTooLarge`] where the bound of the index reaches 2^32, and [`Error::OutOfMemory`].
-    pub(crate) fn finish(self, items: &[InternalValue<A>]) -> Result<(Slice<A>, Checksum), Error>
-        requires works { self.failed ≡ false }
-        requires short { key_fault (handles V4 self.chunks) ≡ None }
-        requires strict { IsStrict items.now }
-        requires fit { entries_fault items.now ≡ None }
-        ensures bytes { IfOk result (λ x. x.0 ≡ finished (appended (laid ((Data, data_section V4 self.chunks) ∷ index_sections V4 self.chunks)) (end_sections items.now))) }
-        ensures checksum { IfOk result (λ x. x.1.0 ≡ fnv1a x.0) }
-        ensures refused { Faults result (large_fault (index_block_bound_of (handles V4 self.chunks))) }
-        ensures blocks { IfOk result (λ _. AllByRecursion (BlockFits V4) self.chunks) }
-    {
-        let (file_writer, buffer) = self.finish_index()?;
-        close(file_writer, buffer, items)
-    }
-
-    /// Writes the index behind the blocks, and answers the sections so far, with memory for what is left to encode. Refused
-    /// [`Error::BlockTooLarge`] where the bound of the index reaches 2^32, and [`Error::OutOfMemory`].
-    fn finish_index(self) -> Result<(SectionWriter<A>, Vec<u8, A>), Error>
-        requires works { self.failed ≡ false }
-        requires short { key_fault (handles V4 self.chunks) ≡ None }
-        ensures ok { IfOk result (λ x. x.0 ≡ laid ((Data, data_section V4 self.chunks) ∷ index_sections V4 self.chunks)) }
-        ensures refused { Faults result (large_fault (index_block_bound_of (handles V4 self.chunks))) }
-        ensures blocks { IfOk result (λ _. AllByRecursion (BlockFits V4) self.chunks) }
+    /// The data section, the index that has the handles of all its blocks, and memory for what is left to encode.
+    pub(crate) fn into_parts(self) -> (SectionWriter<A>, FullIndexWriter<A>, Vec<u8, A>)
+        requires { self.failed ≡ false }
+        ensures data { result.0 ≡ laid ((Data, data_section V4 self.chunks) ∷ []) }
+        ensures index { result.1 ≡ record { handles = handles V4 self.chunks; failed = false } }
+        ensures blocks { AllByRecursion (BlockFits V4) self.chunks }
     {
         let DataBlocks {
-            mut file_writer,
+            file_writer,
             index_writer,
             block_buffer,
             last: _,
         } = self;
-        index_writer.finish(&mut file_writer)?;
-        Ok((file_writer, block_buffer))
+        (file_writer, index_writer, block_buffer)
     }
 }
 
@@ -163,7 +138,7 @@ fn write_chunk<A: Allocator + Clone>(
     buffer: &mut Vec<u8, A>,
     items: &[InternalValue<A>],
     last: &InternalValue<A>,
-    options: &WriterOptions,
+    options: &Options,
 ) -> Result<KeyedBlockHandle<A>, Error>
     requires last { last_of None items.now ≡ Some last.now }
     requires strict { IsStrict items.now }
@@ -185,31 +160,4 @@ fn write_chunk<A: Allocator + Clone>(
     )?;
     let place = Block::write_into(file_writer, buffer, BlockType::Data, CompressionType::None)?;
     Ok(KeyedBlockHandle::new(end_key, last.key.seqno, place))
-}
-
-/// Writes the version and the meta block behind the other sections, and the trailer.
-fn close<A: Allocator + Clone>(
-    mut file_writer: SectionWriter<A>,
-    mut buffer: Vec<u8, A>,
-    items: &[InternalValue<A>],
-) -> Result<(Slice<A>, Checksum), Error>
-    requires fresh { HasNoEnd file_writer }
-    requires strict { IsStrict items.now }
-    requires fit { entries_fault items.now ≡ None }
-    ensures bytes { IfOk result (λ x. x.0 ≡ finished (appended file_writer (end_sections items.now))) }
-    ensures checksum { IfOk result (λ x. x.1.0 ≡ fnv1a x.0) }
-    ensures err { IfErr result (λ e. e ≡ OutOfMemory) }
-{
-    file_writer.start(SectionName::TableVersion)?;
-    file_writer.append(&[4])?;
-    file_writer.start(SectionName::Meta)?;
-    buffer.clear();
-    DataBlock::encode_into(&mut buffer, items, 1, 0)?;
-    Block::write_into(
-        &mut file_writer,
-        &buffer,
-        BlockType::Meta,
-        CompressionType::None,
-    )?;
-    file_writer.finish()
 }

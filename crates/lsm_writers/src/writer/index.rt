@@ -14,8 +14,8 @@ pub trait BlockIndexWriter<A: Allocator> {
     ghost use Rattle.sst_blocks.specs.Handles.{AreStrictHandles};
     ghost use Rattle.sst_entries.specs.declared.error.Error.{Error};
     ghost use Rattle.sst_entries.specs.declared.error.Error.TheVariants.{WriterFailed};
-    ghost use Rattle.lsm_files.specs.Layout.{Sections};
-    ghost use Rattle.lsm_writers.specs.Registered.{HasNoIndex, appended, failed_fault};
+    ghost use Rattle.lsm_files.specs.Layout.{Sections, appended};
+    ghost use Rattle.lsm_writers.specs.Registered.{HasNoIndex, failed_fault};
 
     /// The handles that were registered.
     ghost registered: { Self → List Handle };
@@ -54,7 +54,7 @@ pub trait BlockIndexWriter<A: Allocator> {
         ensures refused { Faults result (finish_fault self) }
         ensures first { FaultsFirst result (failed_fault (has_failed self)) };
 
-    /// Compresses the blocks of the index. What it holds and what it writes stay.
+    /// Compresses the blocks of the index. What it holds and writes stays.
     fn use_compression(self, compression: CompressionType) -> Self
         ensures registered { registered result ≡ registered self }
         ensures failed { has_failed result ≡ has_failed self }
@@ -67,6 +67,6 @@ pub trait BlockIndexWriter<A: Allocator> {
         ensures registered { registered result ≡ registered self }
         ensures failed { has_failed result ≡ has_failed self };
 
-    /// One that has failed is not finished.
+    /// A writer that has failed finishes with nothing but that refusal.
     ghost failed_refuses: { (w : Self) → has_failed w ≡ true → finish_fault w ≡ Some WriterFailed };
 }

@@ -1,5 +1,5 @@
 //! What a writer knows of the table so far.
-ghost use Rattle.std.specs.Prelude.{◌≡◌, ◌+◌, ◌<◌, ◌^◌, Some, OnOk, OnErr, IfErr};
+ghost use Rattle.std.specs.Prelude.{◌≡◌, ◌+◌, ◌<◌, ◌^◌, Some, IfErr};
 ghost use Rattle.std.specs.Option.{option_copied};
 ghost use Rattle.sst_entries.specs.declared.error.Error.TheVariants.{OutOfMemory};
 ghost use Rattle.lsm_files.specs.Facts.{is_weak, is_value_kind, starts_key, is_reclaimable};
@@ -99,33 +99,70 @@ fn is_value(kind: ValueType) -> bool
     matches!(kind, ValueType::Value)
 }
 
+/// What an entry adds to the counts.
+#[derive(Drop)]
+pub(crate) struct Tally<A: Allocator = Global> {
+    /// Whether it is the first of its key.
+    pub(crate) starts_key: bool,
+    is_tombstone: bool,
+    is_weak: bool,
+    is_reclaimable: bool,
+    seqno: SeqNo,
+    // the key of an entry that is the first of all
+    first_key: Option<UserKey<A>>,
+}
+
 impl<A: Allocator> Metadata<A> {
-    ghost use Rattle.std.specs.Prelude.{◌≡◌, ◌+◌, ◌<◌, ◌^◌, Some, OnOk, OnErr, IfErr};
+    ghost use Rattle.std.specs.Prelude.{◌≡◌, ◌+◌, ◌<◌, ◌^◌, Some, IfOk, IfErr};
     ghost use Rattle.std.specs.Option.{option_copied};
     ghost use Rattle.sst_entries.specs.declared.error.Error.TheVariants.{OutOfMemory};
-    ghost use Rattle.lsm_writers.specs.Counts.{counted, HasRoom};
+    ghost use Rattle.lsm_writers.specs.Counts.{added, tally_of, HasRoom};
 
-    /// Counts one more entry, after the one before it. Refused [`Error::OutOfMemory`]; nothing changes then.
-    pub(crate) fn count(
-        &mut self,
+    /// What an entry adds to the counts, after the one before it. Refused [`Error::OutOfMemory`] alone.
+    pub(crate) fn tally(
+        &self,
         before: Option<&InternalValue<A>>,
         item: &InternalValue<A>,
-    ) -> Result<(), Error>
-        requires { HasRoom self.old }
-        ensures ok { OnOk result (self.new ≡ counted (option_copied before.entry) item.now self.old) }
-        ensures unchanged { OnErr result (self.new ≡ self.old) }
+    ) -> Result<Tally<A>, Error>
+        ensures ok { IfOk result (λ t. t ≡ tally_of (option_copied before.entry) item.now self.now.first_key) }
         ensures err { IfErr result (λ e. e ≡ OutOfMemory) }
     {
+        let first_key = match &self.first_key {
+            None => Some(item.key.user_key.clone()?),
+            Some(_) => None,
+        };
+        Ok(Tally {
+            starts_key: starts_key(before, item),
+            is_tombstone: item.is_tombstone(),
+            is_weak: is_weak(item.key.value_type),
+            is_reclaimable: is_reclaimable(before, item),
+            seqno: item.key.seqno,
+            first_key,
+        })
+    }
+
+    /// Counts one more entry.
+    pub(crate) fn count(&mut self, tally: Tally<A>)
+        requires { HasRoom self.old }
+        ensures { self.new ≡ added tally self.old }
+    {
+        let Tally {
+            starts_key,
+            is_tombstone,
+            is_weak,
+            is_reclaimable,
+            seqno,
+            first_key,
+        } = tally;
         if self.first_key.is_none() {
-            self.first_key = Some(item.key.user_key.clone()?);
+            self.first_key = first_key;
         }
-        self.tombstone_count += usize::from(item.is_tombstone());
-        self.weak_tombstone_count += usize::from(is_weak(item.key.value_type));
-        self.weak_tombstone_reclaimable_count += usize::from(is_reclaimable(before, item));
-        self.key_count += usize::from(starts_key(before, item));
-        self.lowest_seqno = self.lowest_seqno.min(item.key.seqno);
-        self.highest_seqno = self.highest_seqno.max(item.key.seqno);
-        Ok(())
+        self.tombstone_count += usize::from(is_tombstone);
+        self.weak_tombstone_count += usize::from(is_weak);
+        self.weak_tombstone_reclaimable_count += usize::from(is_reclaimable);
+        self.key_count += usize::from(starts_key);
+        self.lowest_seqno = self.lowest_seqno.min(seqno);
+        self.highest_seqno = self.highest_seqno.max(seqno);
     }
 
     /// Counts a block that was cut: its entries, the bytes of its payload, where it ends and its last key.

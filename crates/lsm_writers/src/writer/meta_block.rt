@@ -1,48 +1,82 @@
 //! The meta block of a table: what a reader is told of it.
-ghost use Rattle.std.specs.Prelude.{◌≡◌, [], ◌∷◌, ◌++◌, unwrap_or, map, IfOk, IfErr, OnOk};
+ghost use Rattle.std.specs.Prelude.{◌≡◌, [], ◌∷◌, ◌++◌, None, unwrap_or, map, IfOk, IfErr, OnOk};
 ghost use Rattle.sst_entries.specs.declared.error.Error.TheVariants.{OutOfMemory};
 ghost use Rattle.sst_sections.specs.declared.version.TableVersion.TheVariants.{V4};
-ghost use Rattle.lsm_writers.specs.Counts.{counted_facts};
-ghost use Rattle.lsm_files.specs.File.{counted_blocks};
-ghost use Rattle.lsm_files.specs.MetaBlock.{meta_entry, block_items, key_items, option_items, count_items, meta_items};
+ghost use Rattle.lsm_writers.specs.Counts.{counted_facts, counted_items, HasShortKeys};
+ghost use Rattle.lsm_files.specs.File.{meta_section, HasNoMeta};
+ghost use Rattle.lsm_files.specs.Layout.{appended};
+ghost use Rattle.sst_blocks.specs.Encoding.{entries_fault};
+ghost use Rattle.sst_entries.specs.Strict.{IsStrict};
+ghost use Rattle.lsm_files.specs.MetaBlock.{meta_entry, block_items, key_items, option_items, count_items};
 
 use crate::writer::meta::Metadata;
-use crate::writer::options::WriterOptions;
-use crate::{TableId, Timestamp};
-use sst_blocks::{Error, InternalValue, Slice, UserKey, ValueType};
+use lsm_files::{ItemName, Label, Options};
+use sst_blocks::{
+    Block, BlockType, CompressionType, DataBlock, Error, InternalValue, SectionName, SectionWriter,
+    Slice, UserKey, ValueType,
+};
 use std::alloc::Allocator;
-use std::marker::Model;
 
-/// What a table is called.
+/// How many blocks the index and the filter of a table count.
 #[derive(Clone, Copy)]
-pub(crate) struct TableLabel {
-    pub(crate) table_id: TableId,
-    pub(crate) initial_level: u8,
-    pub(crate) created_at: Timestamp,
+pub(crate) struct BlockCounts {
+    pub(crate) index: usize,
+    pub(crate) filter: usize,
 }
 
-impl Model for TableLabel {
-    ghost use Rattle.lsm_files.specs.Options.{Label};
+/// Writes the meta block of what was counted. Refused [`Error::OutOfMemory`] alone.
+pub(crate) fn write_meta<A: Allocator + Clone>(
+    file_writer: &mut SectionWriter<A>,
+    buffer: &mut Vec<u8, A>,
+    label: &Label,
+    options: &Options,
+    counts: BlockCounts,
+    meta: &Metadata<A>,
+) -> Result<(), Error>
+    requires fresh { HasNoMeta file_writer.old }
+    requires short { HasShortKeys meta.now }
+    ensures ok { OnOk result (file_writer.new ≡ appended file_writer.old
+        (meta_section V4 (counted_items label.now options.now (record { index = counts.index; filter = counts.filter }) meta.now))) }
+    ensures err { IfErr result (λ e. e ≡ OutOfMemory) }
+{
+    let items = meta_items(buffer.allocator(), label, options, counts, meta)?;
+    write_items(file_writer, buffer, &items)
+}
 
-    ghost Value = { Label };
-
-    ghost view = { λ l. record { table_id = l.table_id; initial_level = l.initial_level; created_at = l.created_at } };
-
-    ghost inverse = { λ l. record { table_id = l.table_id; initial_level = l.initial_level; created_at = l.created_at } };
+/// Writes a block of these items. Refused [`Error::OutOfMemory`] alone.
+fn write_items<A: Allocator + Clone>(
+    file_writer: &mut SectionWriter<A>,
+    buffer: &mut Vec<u8, A>,
+    items: &[InternalValue<A>],
+) -> Result<(), Error>
+    requires fresh { HasNoMeta file_writer.old }
+    requires strict { IsStrict items.now }
+    requires fit { entries_fault items.now ≡ None }
+    ensures ok { OnOk result (file_writer.new ≡ appended file_writer.old (meta_section V4 items.now)) }
+    ensures err { IfErr result (λ e. e ≡ OutOfMemory) }
+{
+    file_writer.start(SectionName::Meta)?;
+    buffer.clear();
+    DataBlock::encode_into(buffer, items, 1, 0)?;
+    Block::write_into(file_writer, buffer, BlockType::Meta, CompressionType::None)?;
+    Ok(())
 }
 
 /// The items of the meta block, in the byte order of their names. Refused [`Error::OutOfMemory`] alone.
-pub(crate) fn meta_items<A: Allocator + Clone>(
+#[tactic(auto, unfolding(crate::specs::Counts::counted_items))]
+fn meta_items<A: Allocator + Clone>(
     alloc: &A,
-    label: &TableLabel,
-    options: &WriterOptions,
+    label: &Label,
+    options: &Options,
+    counts: BlockCounts,
     meta: &Metadata<A>,
 ) -> Result<Vec<InternalValue<A>, A>, Error>
-    ensures ok { IfOk result (λ items. items.items ≡ meta_items V4 label.now options.now counted_blocks (counted_facts meta.now) meta.now.data_block_count meta.now.file_pos.0 meta.now.uncompressed_size) }
+    ensures ok { IfOk result
+        (λ items. items.items ≡ counted_items label.now options.now (record { index = counts.index; filter = counts.filter }) meta.now) }
     ensures err { IfErr result (λ e. e ≡ OutOfMemory) }
 {
     let mut items = Vec::new(alloc.clone()?);
-    put_block_items(&mut items, label, options, meta)?;
+    put_block_items(&mut items, label, options, counts, meta)?;
     put_key_items(&mut items, label, meta)?;
     put_option_items(&mut items, label, options, meta)?;
     put_count_items(&mut items, meta)?;
@@ -52,32 +86,39 @@ pub(crate) fn meta_items<A: Allocator + Clone>(
 /// The counts of blocks, the formats and the moment of the creation.
 fn put_block_items<A: Allocator + Clone>(
     items: &mut Vec<InternalValue<A>, A>,
-    label: &TableLabel,
-    options: &WriterOptions,
+    label: &Label,
+    options: &Options,
+    counts: BlockCounts,
     meta: &Metadata<A>,
 ) -> Result<(), Error>
-    ensures ok { OnOk result (items.new.items ≡ items.old.items ++ block_items label.now options.now counted_blocks meta.now.data_block_count meta.now.file_pos.0) }
+    ensures ok { OnOk result (items.new.items ≡ items.old.items ++ block_items label.now options.now (record { index = counts.index; filter = counts.filter }) meta.now.data_block_count meta.now.file_pos.0) }
     ensures err { IfErr result (λ e. e ≡ OutOfMemory) }
 {
     put_all(
         items,
         &[
             (
-                b"block_count#data",
+                ItemName::BlockCountData,
                 &(meta.data_block_count as u64).to_le_bytes(),
             ),
-            (b"block_count#filter", &1_u64.to_le_bytes()),
-            (b"block_count#index", &1_u64.to_le_bytes()),
-            (b"checksum_type", &[1]),
-            (b"compression#data", &[0]),
-            (b"compression#index", &[0]),
-            (b"crate_version", b"3.1.10"),
-            (b"created_at", &label.created_at.to_le_bytes()),
             (
-                b"data_block_hash_ratio",
+                ItemName::BlockCountFilter,
+                &(counts.filter as u64).to_le_bytes(),
+            ),
+            (
+                ItemName::BlockCountIndex,
+                &(counts.index as u64).to_le_bytes(),
+            ),
+            (ItemName::ChecksumType, &[1]),
+            (ItemName::CompressionData, &[0]),
+            (ItemName::CompressionIndex, &[0]),
+            (ItemName::CrateVersion, b"3.1.10"),
+            (ItemName::CreatedAt, &label.created_at.to_le_bytes()),
+            (
+                ItemName::DataBlockHashRatio,
                 &options.data_block_hash_ratio.to_le_bytes(),
             ),
-            (b"file_size", &meta.file_pos.0.to_le_bytes()),
+            (ItemName::FileSize, &meta.file_pos.0.to_le_bytes()),
         ],
     )
 }
@@ -85,7 +126,7 @@ fn put_block_items<A: Allocator + Clone>(
 /// The hash, the level, the number of items and the keys.
 fn put_key_items<A: Allocator + Clone>(
     items: &mut Vec<InternalValue<A>, A>,
-    label: &TableLabel,
+    label: &Label,
     meta: &Metadata<A>,
 ) -> Result<(), Error>
     ensures ok { OnOk result (items.new.items ≡ items.old.items ++ key_items label.now (counted_facts meta.now)) }
@@ -94,22 +135,26 @@ fn put_key_items<A: Allocator + Clone>(
     put_all(
         items,
         &[
-            (b"filter_hash_type", &[1]),
-            (b"index_keys_have_seqno", &[1]),
-            (b"initial_level", &[label.initial_level]),
-            (b"item_count", &(meta.item_count as u64).to_le_bytes()),
+            (ItemName::FilterHashType, &[1]),
+            (ItemName::IndexKeysHaveSeqno, &[1]),
+            (ItemName::InitialLevel, &[label.initial_level]),
+            (ItemName::ItemCount, &(meta.item_count as u64).to_le_bytes()),
         ],
     )?;
-    put(items, b"key#max", bytes_of(&meta.last_key))?;
-    put(items, b"key#min", bytes_of(&meta.first_key))?;
-    put(items, b"key_count", &(meta.key_count as u64).to_le_bytes())
+    put(items, ItemName::KeyMax, bytes_of(&meta.last_key))?;
+    put(items, ItemName::KeyMin, bytes_of(&meta.first_key))?;
+    put(
+        items,
+        ItemName::KeyCount,
+        &(meta.key_count as u64).to_le_bytes(),
+    )
 }
 
 /// The options and the numbers.
 fn put_option_items<A: Allocator + Clone>(
     items: &mut Vec<InternalValue<A>, A>,
-    label: &TableLabel,
-    options: &WriterOptions,
+    label: &Label,
+    options: &Options,
     meta: &Metadata<A>,
 ) -> Result<(), Error>
     ensures ok { OnOk result (items.new.items ≡ items.old.items ++ option_items V4 label.now options.now (counted_facts meta.now)) }
@@ -118,20 +163,20 @@ fn put_option_items<A: Allocator + Clone>(
     put_all(
         items,
         &[
-            (b"prefix_truncation#data", &[0]),
-            (b"prefix_truncation#index", &[0]),
+            (ItemName::PrefixTruncationData, &[0]),
+            (ItemName::PrefixTruncationIndex, &[0]),
             (
-                b"restart_interval#data",
+                ItemName::RestartIntervalData,
                 &[options.data_block_restart_interval],
             ),
             (
-                b"restart_interval#index",
+                ItemName::RestartIntervalIndex,
                 &[options.index_block_restart_interval],
             ),
-            (b"seqno#max", &meta.highest_seqno.to_le_bytes()),
-            (b"seqno#min", &meta.lowest_seqno.to_le_bytes()),
-            (b"table_id", &label.table_id.to_le_bytes()),
-            (b"table_version", &[4]),
+            (ItemName::SeqnoMax, &meta.highest_seqno.to_le_bytes()),
+            (ItemName::SeqnoMin, &meta.lowest_seqno.to_le_bytes()),
+            (ItemName::TableId, &label.table_id.to_le_bytes()),
+            (ItemName::TableVersion, &[4]),
         ],
     )
 }
@@ -148,16 +193,19 @@ fn put_count_items<A: Allocator + Clone>(
         items,
         &[
             (
-                b"tombstone_count",
+                ItemName::TombstoneCount,
                 &(meta.tombstone_count as u64).to_le_bytes(),
             ),
-            (b"user_data_size", &meta.uncompressed_size.to_le_bytes()),
             (
-                b"weak_tombstone_count",
+                ItemName::UserDataSize,
+                &meta.uncompressed_size.to_le_bytes(),
+            ),
+            (
+                ItemName::WeakTombstoneCount,
                 &(meta.weak_tombstone_count as u64).to_le_bytes(),
             ),
             (
-                b"weak_tombstone_reclaimable",
+                ItemName::WeakTombstoneReclaimable,
                 &(meta.weak_tombstone_reclaimable_count as u64).to_le_bytes(),
             ),
         ],
@@ -167,13 +215,13 @@ fn put_count_items<A: Allocator + Clone>(
 /// An item more for each name and value.
 fn put_all<A: Allocator + Clone>(
     items: &mut Vec<InternalValue<A>, A>,
-    named: &[(&[u8], &[u8])],
+    named: &[(ItemName, &[u8])],
 ) -> Result<(), Error>
-    ensures ok { OnOk result (items.new.items ≡ items.old.items ++ map (λ x. meta_entry x.0.now x.1.now) named.now) }
+    ensures ok { OnOk result (items.new.items ≡ items.old.items ++ map (λ x. meta_entry x.0 x.1.now) named.now) }
     ensures err { IfErr result (λ e. e ≡ OutOfMemory) }
 {
     for (name, value) in named {
-        put(items, name, value)?;
+        put(items, *name, value)?;
     }
     Ok(())
 }
@@ -191,13 +239,13 @@ fn bytes_of<A: Allocator>(key: &Option<UserKey<A>>) -> &[u8]
 /// One item more. Refused [`Error::OutOfMemory`] alone.
 fn put<A: Allocator + Clone>(
     items: &mut Vec<InternalValue<A>, A>,
-    name: &[u8],
+    name: ItemName,
     value: &[u8],
 ) -> Result<(), Error>
-    ensures ok { OnOk result (items.new.items ≡ items.old.items ++ meta_entry name.now value.now ∷ []) }
+    ensures ok { OnOk result (items.new.items ≡ items.old.items ++ meta_entry name value.now ∷ []) }
     ensures err { IfErr result (λ e. e ≡ OutOfMemory) }
 {
-    let name = Slice::from(items.allocator().clone()?, name)?;
+    let name = Slice::from(items.allocator().clone()?, name.key())?;
     let value = Slice::from(items.allocator().clone()?, value)?;
     items.push(InternalValue::from_components(name, value, 0, ValueType::Value))?;
     Ok(())

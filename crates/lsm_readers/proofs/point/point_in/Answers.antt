@@ -1,7 +1,7 @@
-use Rattle.std.proofs.Common.{◌≡◌, sym, subst, refl, ◌<◌, ◌∙◌, arith, List, ℕ, Option}
+use Rattle.std.proofs.Common.{sym, subst, refl, ◌<◌, ◌∙◌, arith, Option}
 use Rattle.sst_entries.specs.Entry.{Entry}
 use Rattle.sst_entries.specs.Error.{FaultsFirst, Gives}
-use Rattle.lsm_readers.specs.Read.{Opens, Read}
+use Rattle.lsm_readers.specs.Read.{Read}
 use Rattle.lsm_readers.specs.Table.{parts_of}
 use Rattle.lsm_readers.proofs.Points.{answer_low, answer_none, answer_at, no_loads, one_load}
 use Rattle.lsm_readers.proofs.point.point_in.Goals as goal

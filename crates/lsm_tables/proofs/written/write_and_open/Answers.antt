@@ -1,5 +1,6 @@
 use Rattle.std.proofs.Common.{ap, arith}
-use Rattle.lsm_files.specs.Options.{Options, label_of}
+use Rattle.lsm_files.specs.declared.options.Options.{Options}
+use Rattle.lsm_files.specs.Options.{label_of}
 use Rattle.lsm_tables.proofs.Opening.{none_written, opened, opens, passes_on, unopened}
 use Rattle.lsm_tables.proofs.written.write_and_open.Goals as goal
 

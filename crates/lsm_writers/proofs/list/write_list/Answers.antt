@@ -5,10 +5,24 @@ use Rattle.std.specs.Option.{option_or}
 use Rattle.sst_entries.specs.declared.error.Error.{Error}
 use Rattle.sst_entries.specs.Entry.{Entry}
 use Rattle.lsm_files.specs.Options.{label_of}
-use Rattle.lsm_writers.specs.Writing.{IsWritable, Writing, written, write_fault, writing_fault, follows, gained, list_fault}
+use Rattle.lsm_writers.specs.Writing.{IsWritable, Writing, new_writing, spills_of, written, write_fault, writing_fault, follows, gained, list_fault}
 use Rattle.sst_entries.specs.Error.{is_memory, Faults}
-use Rattle.lsm_writers.proofs.ListWriting.{faults_refusal, listed_follows, written_gained, same_label, table_by}
+use Rattle.lsm_writers.proofs.ListWriting.{faults_refusal, listed_follows, no_spills, written_gained, same_label, same_spills, table_by}
 use Rattle.lsm_writers.proofs.list.write_list.Goals as goal
+
+pub loop-item-init : goal.loop-item-init
+loop-item-init g c =
+    let w = c.in_ok-writer.writer in
+    let new : w ≡ new_writing (label_of c.args.id c.args.initial_level c.args.created_at) = c.in_ok-writer.ensures.ok in
+    let rest = c.into_iter-item-iterator.ensures.into_iter_gives.0 in
+    record {
+      label = ap (λ (x : Writing). x.label) new;
+      options = ap (λ (x : Writing). x.options) new;
+      spills = no_spills w (ap (λ (x : Writing). x.cut) new);
+      listed = ap written new;
+      fault = ap (λ (x : Writing). writing_fault x c.args.items.items) (sym new) ∙ ap (writing_fault w) (sym rest);
+      whole = sym rest;
+    }
 
 pub write-requires : goal.write-requires
 write-requires g c =
@@ -32,6 +46,7 @@ loop-item-preserved g c =
     record {
       label = ap (λ (x : Writing). x.label) more ∙ same.0 ∙ c.loop-item.invariant.label;
       options = ap (λ (x : Writing). x.options) more ∙ same.1 ∙ c.loop-item.invariant.options;
+      spills = ap spills_of more ∙ same_spills w e ∙ c.loop-item.invariant.spills;
       listed = ap written more ∙ written_gained w e ∙ ap (λ (x : List Entry). x ++ e ∷ []) c.loop-item.invariant.listed;
       fault = c.loop-item.invariant.fault ∙ ap (writing_fault w) first ∙ ap (λ (x : Option Error). option_or x (writing_fault (gained w e) rest)) none ∙ ap (λ (x : Writing). writing_fault x rest) (sym more);
       whole = c.loop-item.invariant.whole ∙ ap (λ (x : List Entry). before ++ x) first ∙ sym (append_assoc before (e ∷ []) rest);
@@ -65,4 +80,4 @@ returns-clause-table g c =
     let before = c.loop-item.yielded in
     let none : c.loop-item.item-iterator.rest.items ≡ [] = nil_from_length c.loop-item.item-iterator.rest.items (sym c.loop-item.item-iterator.rest.ok.0 ∙ c.in-None.ensures.steps.0) in
     let all : c.args.items.items ≡ before = c.loop-item.invariant.whole ∙ ap (λ (x : List Entry). before ++ x) none ∙ append-nil before in
-    table_by c.finish.result w c.args.items.items (label_of c.args.id c.args.initial_level c.args.created_at) (c.loop-item.invariant.listed ∙ sym all) c.loop-item.invariant.label c.loop-item.invariant.options c.finish.ensures.table
+    table_by c.finish.result w c.args.items.items (label_of c.args.id c.args.initial_level c.args.created_at) (c.loop-item.invariant.listed ∙ sym all) c.loop-item.invariant.label c.loop-item.invariant.options c.loop-item.invariant.spills c.finish.ensures.table

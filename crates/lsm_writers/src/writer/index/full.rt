@@ -45,13 +45,16 @@ impl<A: Allocator + Clone> BlockIndexWriter<A> for FullIndexWriter<A> {
     ghost use Rattle.std.specs.Prelude.{◌≡◌, true, false, [], ◌∷◌, ◌++◌, length, take, OnOk, OnErr, IfOk};
     ghost use Rattle.sst_entries.specs.Error.{Faults, FaultsFirst};
     ghost use Rattle.sst_blocks.specs.Handles.{AreStrictHandles};
-    ghost use Rattle.lsm_writers.specs.Registered.{HasNoIndex, appended, failed_fault, full_index, full_index_fault, fails_again};
+    ghost use Rattle.lsm_writers.specs.Registered.{HasNoIndex, failed_fault, full_index_fault, fails_again};
+    ghost use Rattle.lsm_files.specs.Kinds.{full_index};
+    ghost use Rattle.lsm_files.specs.Layout.{appended};
+    ghost use Rattle.sst_sections.specs.declared.version.TableVersion.TheVariants.{V4};
 
     ghost registered = { λ w. w.handles };
 
     ghost has_failed = { λ w. w.failed };
 
-    ghost index_sections = { λ w _. full_index w.handles };
+    ghost index_sections = { λ w _. full_index V4 w.handles };
 
     ghost block_count = { λ _. 1 };
 
@@ -79,7 +82,7 @@ impl<A: Allocator + Clone> BlockIndexWriter<A> for FullIndexWriter<A> {
 
     fn finish(self, writer: &mut SectionWriter<A>) -> Result<usize, Error>
         requires { HasNoIndex writer.old }
-        ensures ok { OnOk result (writer.new ≡ appended writer.old (full_index self.handles)) }
+        ensures ok { OnOk result (writer.new ≡ appended writer.old (full_index V4 self.handles)) }
         ensures count { IfOk result (λ n. n ≡ 1) }
         ensures before { take (length writer.old.bytes) writer.new.bytes ≡ writer.old.bytes }
         ensures refused { Faults result (full_index_fault self) }

@@ -1,4 +1,4 @@
-use Rattle.std.proofs.Common.{◌≡◌, ◌∙◌, ap, subst, sym, ℕ, List, Option}
+use Rattle.std.proofs.Common.{◌∙◌, ap, subst, sym, Option}
 use Rattle.std.specs.Prelude.{Result}
 use Rattle.sst_entries.specs.declared.error.Error.{Error}
 use Rattle.sst_entries.specs.Entry.{Entry}

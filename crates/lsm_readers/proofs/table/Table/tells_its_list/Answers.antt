@@ -1,7 +1,4 @@
 use Rattle.std.proofs.Common.{ap, subst, ◌∙◌}
-use Rattle.std.specs.Prelude.{Result}
-use Rattle.sst_entries.specs.declared.error.Error.{Error}
-use Rattle.lsm_ranges.specs.KeyRange.{Interval}
 use Rattle.lsm_readers.specs.Table.{IsOpen}
 use Rattle.lsm_readers.specs.Parts.{Parts}
 use Rattle.lsm_readers.proofs.FileParts.{table_parts}

@@ -1,47 +1,35 @@
-use Rattle.std.proofs.Common.{◌∙◌, ap, List, ◌∷◌}
-use Rattle.sst_sections.specs.declared.section.SectionName.TheVariants.{Data}
+use Rattle.std.proofs.Common.{◌≡◌, ◌∙◌, sym, ap}
 use Rattle.sst_sections.specs.declared.version.TableVersion.TheVariants.{V4}
-use Rattle.sst_entries.specs.Entry.{Entry}
-use Rattle.sst_sections.specs.Sections.{finished}
-use Rattle.lsm_writers.specs.Counts.{counted_facts}
-use Rattle.lsm_files.specs.File.{file, counted_blocks, end_sections, closing_sections, index_sections}
-use Rattle.lsm_files.specs.Index.{data_section}
-use Rattle.lsm_files.specs.Layout.{Sections, laid}
-use Rattle.lsm_writers.specs.Registered.{appended}
+use Rattle.sst_blocks.specs.Bounds.{index_block_bound_of}
+use Rattle.sst_blocks.specs.Encoding.{large_fault}
+use Rattle.lsm_files.specs.Chunks.{joined}
+use Rattle.lsm_files.specs.File.{file}
+use Rattle.lsm_files.specs.Index.{handles}
 use Rattle.lsm_writers.specs.Writing.{Writing}
-use Rattle.lsm_writers.proofs.Finishing.{same_items, items_strict, none_pending, held_keys, held_items_fit}
-use Rattle.lsm_writers.proofs.Laying.{laid_more}
+use Rattle.lsm_writers.proofs.Finishing.{none_pending, held_keys, held_short, index_refuses, phases}
+use Rattle.lsm_writers.proofs.ListWriting.{faults_refusal}
 use Rattle.lsm_writers.proofs.writer.Writer.table.Goals as goal
 
-pub finish-requires-clause-short : goal.finish-requires-clause-short
-finish-requires-clause-short g c =
+pub returns-in_err-index_blocks-clause-refused : goal.returns-in_err-index_blocks-clause-refused
+returns-in_err-index_blocks-clause-refused g c =
     let i = c.self.inside in
     let size = i.options.data_block_size in
     let held = none_pending size i.blocks.chunks i.chunk.items i.chunk_size i.meta c.self.invariant.0 (ap (λ (w : Writing). w.pending) c.self.view_is ∙ c.requires.cut) in
-    held_keys size i.blocks.chunks i.chunk_size i.meta held
+    let keys = held_keys size i.blocks.chunks i.chunk_size i.meta held in
+    let told = index_refuses i.blocks.chunks _ c.into_parts-file_writer.ensures.index keys ∙ ap (λ (w : Writing). large_fault (index_block_bound_of (handles V4 w.cut))) c.self.view_is in
+    faults_refusal c.from_residual.result c.in_err-index_blocks.field-0.0 (large_fault (index_block_bound_of (handles V4 c.args.self.cut))) c.from_residual.ensures.1 (λ memory. sym told ∙ c.in_err-index_blocks.ensures.refused memory)
 
-pub finish-requires-clause-strict : goal.finish-requires-clause-strict
-finish-requires-clause-strict g c =
-    let i = c.self.inside in
-    let items = c.deref.ensures.value ∙ c.in_ok-items.ensures.ok in
-    rw items (items_strict i.label i.options counted_blocks (counted_facts i.meta) i.meta.data_block_count i.meta.file_pos.0 i.meta.uncompressed_size)
-
-pub finish-requires-clause-fit : goal.finish-requires-clause-fit
-finish-requires-clause-fit g c =
+pub write_meta-requires-clause-short : goal.write_meta-requires-clause-short
+write_meta-requires-clause-short g c =
     let i = c.self.inside in
     let size = i.options.data_block_size in
-    let items = c.deref.ensures.value ∙ c.in_ok-items.ensures.ok in
     let held = none_pending size i.blocks.chunks i.chunk.items i.chunk_size i.meta c.self.invariant.0 (ap (λ (w : Writing). w.pending) c.self.view_is ∙ c.requires.cut) in
-    rw items (held_items_fit i.label i.options size i.blocks.chunks i.chunk_size i.meta held)
+    held_short size i.blocks.chunks i.chunk_size i.meta held
 
 pub returns-clause-bytes : goal.returns-clause-bytes
 returns-clause-bytes g c =
     let i = c.self.inside in
-    let cs = i.blocks.chunks in
-    let held = none_pending i.options.data_block_size cs i.chunk.items i.chunk_size i.meta c.self.invariant.0 (ap (λ (w : Writing). w.pending) c.self.view_is ∙ c.requires.cut) in
-    let items = c.deref.ensures.value ∙ c.in_ok-items.ensures.ok ∙ same_items i.label i.options i.meta cs held.counted in
-    let front : Sections = (Data, data_section V4 cs) ∷ index_sections V4 cs in
-    c.in_ok-bytes.ensures.bytes
-    ∙ ap (λ (es : List Entry). finished (appended (laid front) (end_sections es))) items
-    ∙ ap finished (laid_more front (closing_sections V4 i.label i.options cs))
-    ∙ ap (λ (w : Writing). file V4 w.label w.options w.cut) c.self.view_is
+    let size = i.options.data_block_size in
+    let held = none_pending size i.blocks.chunks i.chunk.items i.chunk_size i.meta c.self.invariant.0 (ap (λ (w : Writing). w.pending) c.self.view_is ∙ c.requires.cut) in
+    let whole = phases i.label i.options i.blocks.chunks i.meta c.in_ok-index_blocks.index_blocks c.finish_filter-filter_blocks.result _ _ _ _ _ c.into_parts-file_writer.ensures.data c.into_parts-file_writer.ensures.index c.in_ok-index_blocks.ensures.ok c.in_ok-write_version.ensures.ok c.in_ok-write_meta.ensures.ok c.in_ok-index_blocks.ensures.count (c.finish_filter-filter_blocks.ensures (joined i.blocks.chunks)) held.counted in
+    c.in_ok-bytes.ensures.bytes ∙ whole ∙ ap (λ (w : Writing). file V4 w.label w.options w.cut) c.self.view_is

@@ -1,0 +1,66 @@
+//! What a table is written with.
+ghost use Rattle.std.specs.Prelude.{◌≡◌};
+ghost use Rattle.lsm_files.specs.Options.{default_options};
+
+/// What stands for the index of a table.
+#[derive(Clone, Copy, Debug, PartialEq, Eq)]
+pub enum IndexKind {
+    /// One block with the handles of all data blocks.
+    Full,
+}
+
+/// What stands for the filter of a table.
+#[derive(Clone, Copy, Debug, PartialEq, Eq)]
+pub enum FilterKind {
+    /// One block for the keys of all data blocks.
+    Full,
+}
+
+/// How large filters are.
+#[derive(Clone, Copy, Debug, PartialEq, Eq)]
+pub enum BloomConstructionPolicy {
+    /// No filter is written.
+    Inactive,
+}
+
+/// What a table is written with.
+#[derive(Clone, Copy, Debug, PartialEq, Eq)]
+pub struct Options {
+    /// After how many entries at most a data block has a place where reading can restart.
+    pub data_block_restart_interval: u8,
+    /// The same for the blocks of the index.
+    pub index_block_restart_interval: u8,
+    /// How many buckets a data block's hash index has for each entry, in thousandths; 0 for none.
+    pub data_block_hash_ratio: u32,
+    /// How many bytes of keys and values a data block has when it is cut.
+    pub data_block_size: u32,
+    /// How many bytes a partition of the index or of the filter has when it is cut.
+    pub meta_partition_size: u32,
+    /// The kind of the index.
+    pub index_kind: IndexKind,
+    /// The kind of the filter.
+    pub filter_kind: FilterKind,
+    /// How large the filter is.
+    pub bloom_policy: BloomConstructionPolicy,
+}
+
+impl Default for Options {
+    ghost use Rattle.std.specs.Prelude.{◌≡◌};
+    ghost use Rattle.lsm_files.specs.Options.{default_options};
+
+    /// What is written with where nothing else is asked for.
+    fn default() -> Options
+        ensures { result ≡ default_options }
+    {
+        Options {
+            data_block_restart_interval: 16,
+            index_block_restart_interval: 1,
+            data_block_hash_ratio: 0,
+            data_block_size: 4_096,
+            meta_partition_size: 4_096,
+            index_kind: IndexKind::Full,
+            filter_kind: FilterKind::Full,
+            bloom_policy: BloomConstructionPolicy::Inactive,
+        }
+    }
+}
