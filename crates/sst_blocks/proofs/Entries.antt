@@ -13,7 +13,7 @@ use Rattle.sst_entries.specs.Entry.{Entry, entry}
 use Rattle.sst_entries.specs.Kind.{tag_of, kind_of}
 use Rattle.sst_sections.specs.Number.{le4, le8, num4, num8}
 use Rattle.sst_blocks.specs.Payload.{entry_head, spelled, payload, Fits, AreFit}
-use Rattle.sst_blocks.specs.Reading.{parts_at, entry_at, entries_at, entries_in}
+use Rattle.sst_blocks.specs.Reading.{parts_at, entry_at, entries_at, entries_in, key_and_number}
 use Rattle.sst_blocks.specs.Starts.{starts_of, EntriesAt}
 use Rattle.sst_entries.specs.Strict.{IsStrict, IsStrictAfter, is_strict_after}
 use Rattle.sst_sections.specs.Version.{key_width, key_limit, key_len_bytes, key_len_at}
@@ -203,7 +203,9 @@ unfolding spelled
 length-spelled v e = omega (arith, length-head v e, length-append (entry_head v e ++ e.user_key) e.value, length-append (entry_head v e) e.user_key)
 
 -- the key and the value are parts of the bytes that an entry is read from, and nothing but the entry is read
-record Lies (v : TableVersion) (bytes : List ℕ) (e : Entry) (rest : List ℕ) : Type 0 where
+pub record Lies (v : TableVersion) (bytes : List ℕ) (e : Entry) (rest : List ℕ) : Type 0 where
+  pub number : num8 (drop 1 bytes) ≡ e.seqno
+  pub key_len : key_len_at v (drop 9 bytes) ≡ length e.user_key
   pub key : take (length e.user_key) (drop (13 + key_width v) bytes) ≡ e.user_key
   pub value : take (length e.value) (drop (13 + key_width v + length e.user_key) bytes) ≡ e.value
   pub rest_is : rest ≡ drop (13 + key_width v + length e.user_key + length e.value) bytes
@@ -233,6 +235,8 @@ entry_lies v bytes e rest h =
     let lv : length V ≡ m = omega (arith, length-take m (drop k r), length-drop k r) in
     let at : r ≡ drop (13 + w) bytes = drop-drop 4 w b ∙ drop-drop (w + 4) 8 b1 ∙ drop-drop (8 + (w + 4)) 1 bytes ∙ ap (λ (n : ℕ). drop n bytes) (omega arith) in
     let lies : Lies v bytes (entry K V (num8 b1) t) R = record {
+      number = refl;
+      key_len = ap (key_len_at v) (sym (drop-drop 8 1 bytes)) ∙ sym lk;
       key = ap (λ (n : ℕ). take n (drop (13 + w) bytes)) lk ∙ ap (take k) (sym at);
       value =
           let tail : drop (13 + w + length K) bytes ≡ drop k r = ap (λ (n : ℕ). drop (13 + w + n) bytes) lk ∙ sym (drop-drop k (13 + w) bytes) ∙ ap (drop k) (sym at) in
@@ -248,6 +252,35 @@ pub entries_advance : (v : TableVersion) → Advances (entry_format v)
 entries_advance v bytes e rest h =
     let l = entry_lies v bytes e rest h in
     (l.rest_is ∙ ap (λ (n : ℕ). drop n bytes) (sym (length-spelled v e)), omega (arith, l.within, length-spelled v e))
+
+-- ---- the entry at the front of some bytes
+
+pub record AtFront (v : TableVersion) (bytes : List ℕ) : Type 0 where
+  pub item : Entry
+  pub rest : List ℕ
+  pub found : entry_at v bytes ≡ Some (item, rest)
+  pub lies : Lies v bytes item rest
+
+front_there : (v : TableVersion) (bytes : List ℕ) (o : Option (Entry × List ℕ)) → entry_at v bytes ≡ o → (o ≡ None → ⊥) → AtFront v bytes
+front_there v bytes None told some = absurd (some refl)
+front_there v bytes (Some (e, rest)) told some = record { item = e; rest = rest; found = told; lies = entry_lies v bytes e rest told }
+
+pub front_of_bytes : (v : TableVersion) (bytes : List ℕ) → (entry_at v bytes ≡ None → ⊥) → AtFront v bytes
+front_of_bytes v bytes some = front_there v bytes (entry_at v bytes) refl some
+
+-- its key length and its number, each read from the bytes behind a place
+pub front_key_len : (v : TableVersion) (bytes : List ℕ) (f : AtFront v bytes) (k : ℕ) → k ≡ key_len_at v (take (length bytes - 9) (drop 9 bytes)) → k ≡ length f.item.user_key
+front_key_len v bytes f k is = is ∙ ap (key_len_at v) (take_rest bytes 9) ∙ f.lies.key_len
+
+pub front_number : (v : TableVersion) (bytes : List ℕ) (f : AtFront v bytes) (n : ℕ) → n ≡ num8 (take (length bytes - 1) (drop 1 bytes)) → n ≡ f.item.seqno
+front_number v bytes f n is = is ∙ ap num8 (take_rest bytes 1) ∙ f.lies.number
+
+-- its key stands behind its head
+pub front_key : (v : TableVersion) (bytes : List ℕ) (f : AtFront v bytes) (h k n : ℕ) → h ≡ 13 + key_width v → k ≡ length f.item.user_key → n ≡ f.item.seqno → option_map (λ (x : Entry × List ℕ). key_and_number x.0) (entry_at v bytes) ≡ Some (take (h + k - h) (drop h bytes), n)
+front_key v bytes f h k n head len number =
+    let size : h + k - h ≡ length f.item.user_key = omega (arith, len) in
+    let key : take (h + k - h) (drop h bytes) ≡ f.item.user_key = ap (λ (m : ℕ). take m (drop h bytes)) size ∙ ap (λ (m : ℕ). take (length f.item.user_key) (drop m bytes)) head ∙ f.lies.key in
+    ap (option_map (λ (x : Entry × List ℕ). key_and_number x.0)) f.found ∙ rw (key, number) refl
 
 -- ---- an entry of a block
 

@@ -1,9 +1,28 @@
 -- The front of a list that passes a test, found by binary search.
-use Rattle.std.proofs.Common.{◌≡◌, ℕ, zero, suc, ◌+◌, ◌<◌, ◌≤◌, Bool, true, false, cond, List, [], ◌∷◌, length, get_or, Some, refl, sym, ap, ◌∙◌, arith}
+use Rattle.std.proofs.Common.{◌≡◌, ℕ, zero, suc, ◌+◌, ◌<◌, ◌≤◌, Bool, true, false, cond, List, [], ◌∷◌, length, get_or, Option, Some, None, refl, sym, ap, ◌∙◌, arith}
 use Rattle.std.specs.List.{slice_get}
+use Rattle.std.specs.Option.{option_map}
 use Rattle.std.specs.List.Sorted.{IsPartitionedBy}
-use Rattle.std.proofs.lemmas.Option.{slice_get_within, get_or_from_slice_get}
+use Rattle.std.proofs.lemmas.Option.{none-some, same_Some, slice_get_within, get_or_from_slice_get}
 use Rattle.sst_entries.specs.Span.{front_length}
+
+-- of the item of a place what a search compares was read
+pub record Probed {X : Type 0} (compared : X → List ℕ × ℕ) (xs : List X) (i : ℕ) (key : List ℕ) (n : ℕ) : Type 0 where
+  pub item : X
+  pub here : slice_get xs i ≡ Some item
+  pub read : compared item ≡ (key, n)
+
+module _ {X : Type 0} (compared : X → List ℕ × ℕ) (xs : List X) (i : ℕ) (key : List ℕ) (n : ℕ) where
+  probed_of : (o : Option X) → slice_get xs i ≡ o → option_map compared o ≡ Some (key, n) → Probed compared xs i key n
+  probed_of None there told = absurd (none-some _ told)
+  probed_of (Some x) there told = record { item = x; here = there; read = same_Some (compared x) (key, n) told }
+
+  pub probed : option_map compared (slice_get xs i) ≡ Some (key, n) → Probed compared xs i key n
+  probed told = probed_of (slice_get xs i) refl told
+
+  -- a test of what was read is one of the item
+  pub probed_test : (p : List ℕ → ℕ → Bool) (r b : Bool) (x : Probed compared xs i key n) → r ≡ p key n → r ≡ b → p (compared x.item).0 (compared x.item).1 ≡ b
+  probed_test p r b x computed is = ap (λ (y : List ℕ × ℕ). p y.0 y.1) x.read ∙ sym computed ∙ is
 
 module _ {X : Type 0} (p : X → Bool) where
   pub passes_below : (xs : List X) (n : ℕ) (x : X) → IsPartitionedBy p xs → slice_get xs n ≡ Some x → p x ≡ true → (i : ℕ) (y : X) → i < n + 1 → slice_get xs i ≡ Some y → p y ≡ true

@@ -4,12 +4,13 @@ use Rattle.std.proofs.lemmas.Bool.{ltb-false, le-ltb}
 use Rattle.std.specs.Prelude.{option_and_then, unwrap_or, if◌then◌else◌}
 use Rattle.std.specs.List.{flat_map, slice_range, slice_get}
 use Rattle.std.specs.Option.{option_map}
-use Rattle.std.proofs.lemmas.List.{take_at, drop_at, take-append-drop, length-append, length-take, length-drop, drop-drop}
+use Rattle.std.proofs.lemmas.List.{take_at, drop_at, take-append-drop, length-append, length-take, length-drop, drop-drop, take_rest}
 use Rattle.std.proofs.lemmas.Option.{some_pair_parts, slice_get-get_or, slice_get_within, get_or_from_slice_get}
 use Rattle.sst_sections.specs.declared.version.TableVersion.{TableVersion}
 use Rattle.sst_blocks.specs.Handle.{Handle}
 use Rattle.sst_blocks.specs.Handles.{handle_head, handle_spelled, handles_payload, handle_at, handles_at, handles_in, HandleFits, HandlesFit, AreStrictHandles, end_of}
 use Rattle.sst_sections.specs.Number.{le4, le8, num4, num8}
+use Rattle.sst_blocks.specs.Reading.{key_and_number}
 use Rattle.sst_blocks.specs.Starts.{starts_of, HandlesAt}
 use Rattle.sst_sections.specs.Version.{key_width, key_limit, key_len_bytes, key_len_at}
 use Rattle.sst_blocks.proofs.Items.{Format, IsFormat, items_at, items_in, in_order, items_in_take, items_in_again, guard_some, Here, Advances, length-starts, item_holds, items_strict}
@@ -132,7 +133,9 @@ handles_read v hs fit strict =
 -- ---- where a handle lies
 
 -- the end key is a part of the bytes that a handle is read from, and nothing but the handle is read
-record Lies (v : TableVersion) (bytes : List ℕ) (h : Handle) (rest : List ℕ) : Type 0 where
+pub record Lies (v : TableVersion) (bytes : List ℕ) (h : Handle) (rest : List ℕ) : Type 0 where
+  pub number : num8 bytes ≡ h.seqno
+  pub key_len : key_len_at v (drop 20 bytes) ≡ length h.end_key
   pub key : take (length h.end_key) (drop (20 + key_width v) bytes) ≡ h.end_key
   pub rest_is : rest ≡ drop (20 + key_width v + length h.end_key) bytes
   pub within : 20 + key_width v + length h.end_key ≤ length bytes
@@ -153,6 +156,8 @@ handle_lies v bytes h rest told =
     let room : k ≤ length r = ltb-false _ _ g2.0 in
     let len : length K ≡ k = omega (arith, length-take k r) in
     let lies : Lies v bytes made R = record {
+      number = refl;
+      key_len = sym len;
       key = ap (λ (n : ℕ). take n r) len;
       rest_is = drop-drop k w bytes ∙ ap (λ (n : ℕ). drop (w + n) bytes) (sym len);
       within = omega (arith, len, length-drop w bytes);
@@ -163,6 +168,33 @@ pub handles_advance : (v : TableVersion) → Advances (handle_format v)
 handles_advance v bytes h rest told =
     let l = handle_lies v bytes h rest told in
     (l.rest_is ∙ ap (λ (n : ℕ). drop n bytes) (sym (length-handle_spelled v h)), omega (arith, l.within, length-handle_spelled v h))
+
+-- ---- the handle at the front of some bytes
+
+pub record AtFront (v : TableVersion) (bytes : List ℕ) : Type 0 where
+  pub item : Handle
+  pub rest : List ℕ
+  pub found : handle_at v bytes ≡ Some (item, rest)
+  pub lies : Lies v bytes item rest
+
+front_there : (v : TableVersion) (bytes : List ℕ) (o : Option (Handle × List ℕ)) → handle_at v bytes ≡ o → (o ≡ None → ⊥) → AtFront v bytes
+front_there v bytes None told some = absurd (some refl)
+front_there v bytes (Some (h, rest)) told some = record { item = h; rest = rest; found = told; lies = handle_lies v bytes h rest told }
+
+pub front_of_bytes : (v : TableVersion) (bytes : List ℕ) → (handle_at v bytes ≡ None → ⊥) → AtFront v bytes
+front_of_bytes v bytes some = front_there v bytes (handle_at v bytes) refl some
+
+-- its key length, read from the bytes behind a place
+pub front_key_len : (v : TableVersion) (bytes : List ℕ) (f : AtFront v bytes) (k : ℕ) → k ≡ key_len_at v (take (length bytes - 20) (drop 20 bytes)) → k ≡ length f.item.end_key
+front_key_len v bytes f k is = is ∙ ap (key_len_at v) (take_rest bytes 20) ∙ f.lies.key_len
+
+-- its end key stands behind its head
+pub front_key : (v : TableVersion) (bytes : List ℕ) (f : AtFront v bytes) (h k n : ℕ) → h ≡ 20 + key_width v → k ≡ length f.item.end_key → n ≡ num8 bytes → option_map (λ (x : Handle × List ℕ). key_and_number (end_of x.0)) (handle_at v bytes) ≡ Some (take (h + k - h) (drop h bytes), n)
+front_key v bytes f h k n head len number =
+    let size : h + k - h ≡ length f.item.end_key = omega (arith, len) in
+    let key : take (h + k - h) (drop h bytes) ≡ f.item.end_key = ap (λ (m : ℕ). take m (drop h bytes)) size ∙ ap (λ (m : ℕ). take (length f.item.end_key) (drop m bytes)) head ∙ f.lies.key in
+    let told : n ≡ f.item.seqno = number ∙ f.lies.number in
+    ap (option_map (λ (x : Handle × List ℕ). key_and_number (end_of x.0))) f.found ∙ rw (key, told) refl
 
 -- ---- a handle of a block
 

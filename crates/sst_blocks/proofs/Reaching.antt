@@ -2,6 +2,7 @@
 use Rattle.std.proofs.Common.{◌≡◌, refl, sym, ◌∙◌, ap, subst, ℕ, zero, suc, ◌+◌, ◌-◌, ◌<◌, ◌≤◌, Bool, true, false, cond, List, [], ◌∷◌, length, take, drop, get_or, map, arith, inl, inr}
 use Rattle.std.specs.Prelude.{Some, None, min, max, not, nat_lt, ◌&&◌, ◌||◌, ◌==◌}
 use Rattle.std.specs.List.{slice_get}
+use Rattle.std.specs.Option.{option_map}
 use Rattle.std.specs.declared.cmp.Ordering.{Ordering}
 use Rattle.std.specs.declared.cmp.Ordering.TheVariants.{Less, Equal, Greater}
 use Rattle.std.specs.Ordering.{nat_cmp, is_lt, is_eq, ordering_then, ordering_reverse}
@@ -13,9 +14,12 @@ use Rattle.sst_entries.specs.declared.value_type.ValueType.TheVariants.{Value}
 use Rattle.sst_entries.specs.Entry.{Entry, entry}
 use Rattle.sst_blocks.specs.Handle.{Handle}
 use Rattle.sst_blocks.specs.Handles.{reaches, is_above, end_of, AreStrictHandles, from_first, up_to_first, window}
+use Rattle.sst_blocks.specs.Reading.{key_and_number}
 use Rattle.sst_entries.specs.Key.{same_key, key_lt}
+use Rattle.sst_entries.specs.Point.{bound_of}
 use Rattle.sst_entries.specs.Span.{Span, left_in, front_length}
 use Rattle.sst_entries.specs.Strict.{is_before}
+use Rattle.sst_blocks.proofs.Fronts.{probed, probed_test}
 use Rattle.sst_blocks.proofs.SpanLemmas.{front_length_is, left_empty}
 use Rattle.sst_entries.proofs.Booleans.{apart, is_false}
 use Rattle.sst_entries.proofs.OrderLemmas.{lt_of_cond, before_trans, strict_at}
@@ -67,8 +71,13 @@ below_place hs key bound n d strict within early i le =
       | inr above ↦ let e : n ≡ i = omega arith in subst (λ (k : ℕ). reaches key bound (get_or hs k d) ≡ false) e early
     ]
 
-pub early_at : (hs : List Handle) (key : List ℕ) (bound i : ℕ) (h d : Handle) (r : Bool) → slice_get hs i ≡ Some h → r ≡ reaches key bound h → r ≡ false → reaches key bound (get_or hs i d) ≡ false
-early_at hs key bound i h d r here told early = ap (reaches key bound) (get_or_from_slice_get hs i h d here) ∙ sym told ∙ early
+-- a test of the end key and the number that were read of a handle says whether it reaches
+pub read_reaches : (hs : List Handle) (key : List ℕ) (bound i : ℕ) (k : List ℕ) (n : ℕ) (r b : Bool) → option_map (λ h. key_and_number (end_of h)) (slice_get hs i) ≡ Some (k, n) → r ≡ is_before (bound_of key bound) (bound_of k n) → r ≡ b → (d : Handle) → reaches key bound (get_or hs i d) ≡ b
+read_reaches hs key bound i k n r b told computed is d =
+    let read = λ (h : Handle). key_and_number (end_of h) in
+    let x = probed read hs i k n told in
+    let tested = probed_test read hs i k n (λ (l : List ℕ) (m : ℕ). is_before (bound_of key bound) (bound_of l m)) r b x computed is in
+    ap (reaches key bound) (get_or_from_slice_get hs i x.item d x.here) ∙ reaches_after key bound x.item ∙ tested
 
 pub first_place : (hs : List Handle) (key : List ℕ) (bound n : ℕ) (d : Handle) → n ≤ length hs → ((i : ℕ) → i < n → reaches key bound (get_or hs i d) ≡ false) → (n < length hs → reaches key bound (get_or hs n d) ≡ true) → n ≡ front_length (λ h. not (reaches key bound h)) hs
 first_place hs key bound n d le before after = front_length_is (λ (h : Handle). not (reaches key bound h)) hs n d le (λ i lt. ap not (before i lt)) (λ lt. ap not (after lt))

@@ -25,6 +25,10 @@ entry_at v bytes =
     else option_and_then (λ t. parts_at v t (num8 (drop 1 bytes)) (drop 8 (drop 1 bytes)))
     (kind_of (slice_index bytes 0))
 
+-- what a search reads of an entry: its key and its number
+abbrev pub key_and_number : Entry → List ℕ × ℕ
+key_and_number e = (e.user_key, e.seqno)
+
 -- n entries that use the bytes up
 unfoldable pub entries_at : TableVersion → ℕ → List ℕ → Option (List Entry)
 entries_at v zero [] = Some []

@@ -11,10 +11,10 @@ pub use Rattle.sst_blocks.specs.Bounds.{data_block_bound_of, index_block_bound_o
 pub use Rattle.sst_blocks.specs.Encoding.{entries_fault, handles_fault}
 pub use Rattle.sst_blocks.specs.Ending.{EndsAtError}
 pub use Rattle.sst_blocks.specs.Handle.{Handle}
-pub use Rattle.sst_blocks.specs.Handles.{AreStrictHandles, HandlesFit, handles_in, handles_payload, is_above, reaches}
+pub use Rattle.sst_blocks.specs.Handles.{AreStrictHandles, HandlesFit, end_of, handles_in, handles_payload, is_above, reaches}
 pub use Rattle.sst_blocks.specs.Payload.{AreFit, payload}
 pub use Rattle.sst_blocks.specs.Place.{place_of}
-pub use Rattle.sst_blocks.specs.Reading.{entries_in}
+pub use Rattle.sst_blocks.specs.Reading.{entries_in, key_and_number}
 pub use Rattle.sst_blocks.specs.Seeking.{whole}
 pub use Rattle.sst_blocks.specs.Seen.{seen}
 pub use Rattle.sst_blocks.specs.SeenHandle.{seen_handle}

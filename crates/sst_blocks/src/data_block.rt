@@ -1,11 +1,13 @@
 //! Data blocks: strict lists of entries.
-ghost use Rattle.std.specs.Prelude.{◌≡◌, ◌+◌, ◌++◌, ◌<◌, ◌≤◌, ◌^◌, ◌↔◌, List, [], Some, None, Bool, true, false, not, length, IsTrue, IfOk, IfErr, OnOk, OnErr};
+ghost use Rattle.std.specs.Prelude.{◌≡◌, ℕ, ◌+◌, ◌++◌, ◌<◌, ◌≤◌, ◌^◌, ◌↔◌, List, [], Some, None, Bool, true, false, not, length, IsTrue, IfOk, IfErr, OnOk, OnErr};
 ghost use Rattle.std.specs.List.{slice_get};
 ghost use Rattle.std.specs.List.Sorted.{IsPartitionedBy};
+ghost use Rattle.std.specs.Option.{option_map};
 ghost use Rattle.sst_blocks.specs.Words.{AreFit, CanDeal, Deals, EndsAtError, EntriesAt, Entry};
 ghost use Rattle.sst_blocks.specs.Words.{Faults, FaultsFirst, HoldsEntries, IsStrict, all_ok};
 ghost use Rattle.sst_blocks.specs.Words.{data_block_bound_of, entries_fault, entries_in};
-ghost use Rattle.sst_blocks.specs.Words.{entries_of, front_length, is_memory, key_lt, payload};
+ghost use Rattle.sst_blocks.specs.Words.{entries_of, front_length, is_memory, key_and_number};
+ghost use Rattle.sst_blocks.specs.Words.{key_lt, payload};
 ghost use Rattle.sst_blocks.specs.Words.{point, seen, stopped, whole};
 ghost use Rattle.sst_entries.specs.declared.error.Error.{Error};
 ghost use Rattle.sst_entries.specs.declared.error.Error.TheVariants.{OutOfMemory, InvalidBlock};
@@ -19,8 +21,9 @@ use crate::block::{EMPTY_LEN, Header};
 use crate::starts::Starts;
 use crate::{Block, Error, InternalValue, SeqNo, Slice, TableVersion};
 use encode::{block_len, put_items, with_entry};
-use entry_ref::{EntryRef, head_len, read_entry};
+use entry_ref::{EntryRef, head_len, read_entry, read_key};
 pub use iter::Iter;
+use sst_entries::compare_versions;
 use sst_sections::number::u32_at;
 use std::alloc::{AllocError, Allocator, Global};
 use std::marker::Model;
@@ -190,6 +193,17 @@ impl<A: Allocator> DataBlock<A> {
         }
     }
 
+    // The key and the number of the entry of a place, which are all that a search reads of it.
+    #[inline(always)]
+    fn key_at(&self, index: usize) -> (&[u8], SeqNo)
+        requires { index < length self.now }
+        ensures { option_map key_and_number (slice_get self.now index)
+            ≡ Some (result.0.now, result.1) }
+    {
+        let start = self.starts.at(index);
+        read_key(self.version, &self.payload.as_slice()[start..])
+    }
+
     // The entry that was read at a place. Its key and value share the block's memory.
     #[inline(always)]
     fn share(&self, index: usize, entry: &EntryRef<'_>) -> Result<InternalValue<A>, Error>
@@ -216,20 +230,23 @@ impl<A: Allocator> DataBlock<A> {
         self.share(index, &self.entry_ref(index))
     }
 
-    /// How many entries at the front pass a test, by binary search: no entry passes after one that does not.
-    fn front_len<P: Fn(&EntryRef<'_>) -> bool>(&self, passes: P) -> usize
+    /// How many entries at the front pass a test of their keys and numbers, by binary search: no entry passes after one
+    /// that does not.
+    fn front_len<P: Fn(&[u8], SeqNo) -> bool>(&self, passes: P) -> usize
         requires { P.IsAlwaysCallable passes }
         ensures within { result ≤ length self.now }
         ensures strict { IsStrict self.now }
-        ensures value { (p : Entry → Bool) →
-            ((x : _) (r : _) → P.post passes x r → r ≡ p (seen x.now)) →
-            IsPartitionedBy p self.now → result ≡ front_length p self.now }
+        ensures value { (p : List ℕ → ℕ → Bool) →
+            ((key : _) (n : _) (r : _) → P.post passes key n r → r ≡ p key.now n) →
+            let q = λ (e : Entry). p e.user_key e.seqno in
+            IsPartitionedBy q self.now → result ≡ front_length q self.now }
     {
         let mut low = 0;
         let mut high = self.len();
         while low < high {
             let middle = low + (high - low) / 2;
-            if passes(&self.entry_ref(middle)) {
+            let (user_key, seqno) = self.key_at(middle);
+            if passes(user_key, seqno) {
                 low = middle + 1;
             } else {
                 high = middle;
@@ -244,7 +261,7 @@ impl<A: Allocator> DataBlock<A> {
         ensures within { result ≤ length self.now }
         ensures strict { IsStrict self.now }
     {
-        self.front_len(|entry| entry.is_below(key))
+        self.front_len(|user_key, _| user_key.cmp(key).is_lt())
     }
 
     /// How many entries do not stand above a key: the place of the first entry of a greater key.
@@ -253,7 +270,7 @@ impl<A: Allocator> DataBlock<A> {
         ensures within { result ≤ length self.now }
         ensures strict { IsStrict self.now }
     {
-        self.front_len(|entry| !entry.is_above(key))
+        self.front_len(|user_key, _| !key.cmp(user_key).is_lt())
     }
 
     /// The entries, from both ends.
@@ -278,7 +295,9 @@ impl<A: Allocator> DataBlock<A> {
         ensures found { IfOk result (λ found. found ≡ point self.now key.now seqno) }
         ensures err { IfErr result (λ e. e ≡ OutOfMemory) }
     {
-        let index = self.front_len(move |entry| entry.is_up_to(key, seqno));
+        let index = self.front_len(move |user_key, number| {
+            !compare_versions(key, seqno, user_key, number).is_lt()
+        });
         if index == self.len() {
             return Ok(None);
         }

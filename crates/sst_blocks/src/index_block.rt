@@ -3,10 +3,10 @@ ghost use Rattle.std.specs.Prelude.{◌≡◌, ◌+◌, ◌++◌, ◌<◌, ◌^�
 ghost use Rattle.std.specs.List.{slice_get};
 ghost use Rattle.std.specs.Option.{option_map};
 ghost use Rattle.sst_blocks.specs.Words.{AreStrictHandles, CanDeal, Deals, EndsAtError, Faults};
-ghost use Rattle.sst_blocks.specs.Words.{FaultsFirst, HandlesFit, all_ok, front_length};
+ghost use Rattle.sst_blocks.specs.Words.{FaultsFirst, HandlesFit, all_ok, end_of, front_length};
 ghost use Rattle.sst_blocks.specs.Words.{handles_fault, handles_in, handles_of, handles_payload};
-ghost use Rattle.sst_blocks.specs.Words.{index_block_bound_of, is_above, place_of, reaches};
-ghost use Rattle.sst_blocks.specs.Words.{seen_handle, stopped, whole};
+ghost use Rattle.sst_blocks.specs.Words.{index_block_bound_of, is_above, key_and_number, place_of};
+ghost use Rattle.sst_blocks.specs.Words.{reaches, seen_handle, stopped, whole};
 ghost use Rattle.sst_entries.specs.declared.error.Error.{Error};
 ghost use Rattle.sst_blocks.specs.declared.block_type.BlockType.TheVariants.{Index};
 ghost use Rattle.sst_entries.specs.declared.error.Error.TheVariants.{OutOfMemory};
@@ -22,7 +22,8 @@ use crate::{Block, BlockHandle, BlockOffset, Error, KeyedBlockHandle, SeqNo, Sli
 use encode::{block_len, put_handles, with_handle};
 pub use iter::Iter;
 pub(crate) use read::handle_starts;
-use read::{HandleRef, head_len, read_handle};
+use read::{HandleRef, head_len, read_end_key, read_handle};
+use sst_entries::compare_versions;
 use std::alloc::{AllocError, Allocator, Global};
 use std::marker::Model;
 
@@ -117,6 +118,17 @@ impl<A: Allocator> IndexBlock<A> {
         }
     }
 
+    // The end key and the number of the handle of a place, which are all that a search reads of it.
+    #[inline(always)]
+    fn end_key_at(&self, index: usize) -> (&[u8], SeqNo)
+        requires { index < length self.now }
+        ensures { option_map (λ h. key_and_number (end_of h)) (slice_get self.now index)
+            ≡ Some (result.0.now, result.1) }
+    {
+        let start = self.starts.at(index);
+        read_end_key(self.version, &self.payload.as_slice()[start..])
+    }
+
     /// The handle at a place, whose end key shares the block's bytes. Refused [`Error::OutOfMemory`] alone.
     pub fn handle(&self, index: usize) -> Result<KeyedBlockHandle<A>, Error>
         requires { index < length self.now }
@@ -142,7 +154,8 @@ impl<A: Allocator> IndexBlock<A> {
         let mut high = self.len();
         while low < high {
             let middle = low + (high - low) / 2;
-            if self.handle_ref(middle).reaches(key, seqno) {
+            let (end_key, number) = self.end_key_at(middle);
+            if compare_versions(key, seqno, end_key, number).is_lt() {
                 high = middle;
             } else {
                 low = middle + 1;

@@ -1,11 +1,9 @@
 //! Reading one entry of a payload.
-ghost use Rattle.std.specs.Prelude.{◌≡◌, ◌+◌, ◌≤◌, length, not};
+ghost use Rattle.std.specs.Prelude.{◌≡◌, ◌+◌, ◌≤◌, length, Some, None};
 ghost use Rattle.std.specs.Option.{option_map};
-ghost use Rattle.sst_entries.specs.Key.{key_lt};
-ghost use Rattle.sst_entries.specs.Point.{bound_of};
-ghost use Rattle.sst_blocks.specs.Reading.{parts_at, entry_at};
+ghost use Rattle.sst_blocks.specs.Reading.{parts_at, entry_at, key_and_number};
 ghost use Rattle.sst_blocks.specs.Seen.{seen};
-ghost use Rattle.sst_entries.specs.Strict.{is_before, may_follow};
+ghost use Rattle.sst_entries.specs.Strict.{may_follow};
 ghost use Rattle.sst_sections.specs.Version.{key_width};
 
 use crate::{SeqNo, TableVersion, ValueType};
@@ -74,6 +72,19 @@ pub(crate) fn read_entry(version: TableVersion, bytes: &[u8]) -> Option<(EntryRe
     read_parts(version, kind, u64_at(rest), &rest[8..])
 }
 
+/// The key and the number of the entry at the front of some bytes. Its value is not looked at.
+#[inline(always)]
+pub(crate) fn read_key(version: TableVersion, bytes: &[u8]) -> (&[u8], SeqNo)
+    requires { entry_at version bytes.now ≡ None → ⊥ }
+    ensures { option_map (λ x. key_and_number x.0) (entry_at version bytes.now)
+        ≡ Some (result.0.now, result.1) }
+{
+    let head = head_len(version);
+    // The tag and the number stand before the key's length.
+    let key_len = key_len_at(version, &bytes[9..]);
+    (&bytes[head..head + key_len], u64_at(&bytes[1..]))
+}
+
 impl EntryRef<'_> {
     /// Whether the entry may stand after another, or at the front.
     #[inline]
@@ -84,29 +95,5 @@ impl EntryRef<'_> {
             None => true,
             Some(last) => { compare_versions(last.key, last.seqno, self.key, self.seqno).is_lt() }
         }
-    }
-
-    /// Whether the entry's key is less than another.
-    #[inline]
-    pub(crate) fn is_below(&self, key: &[u8]) -> bool
-        ensures { result ≡ key_lt (seen self.now).user_key key.now }
-    {
-        self.key.cmp(key).is_lt()
-    }
-
-    /// Whether the entry's key is greater than another.
-    #[inline]
-    pub(crate) fn is_above(&self, key: &[u8]) -> bool
-        ensures { result ≡ key_lt key.now (seen self.now).user_key }
-    {
-        key.cmp(self.key).is_lt()
-    }
-
-    /// Whether the entry does not come after a key and a number in the order of a block.
-    #[inline]
-    pub(crate) fn is_up_to(&self, key: &[u8], seqno: SeqNo) -> bool
-        ensures { result ≡ not (is_before (bound_of key.now seqno) (seen self.now)) }
-    {
-        !compare_versions(key, seqno, self.key, self.seqno).is_lt()
     }
 }

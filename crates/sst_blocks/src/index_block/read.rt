@@ -1,8 +1,9 @@
 //! Reading the handles of a payload.
-ghost use Rattle.std.specs.Prelude.{◌≡◌, ◌+◌, ◌<◌, ◌^◌, None, false, length, IfOk, IfErr};
+ghost use Rattle.std.specs.Prelude.{◌≡◌, ◌+◌, ◌<◌, ◌^◌, Some, None, false, length, IfOk, IfErr};
 ghost use Rattle.std.specs.Option.{option_map};
 ghost use Rattle.sst_entries.specs.Error.{is_memory};
-ghost use Rattle.sst_blocks.specs.Handles.{handle_at, handles_in, end_of, reaches};
+ghost use Rattle.sst_blocks.specs.Handles.{handle_at, handles_in, end_of};
+ghost use Rattle.sst_blocks.specs.Reading.{key_and_number};
 ghost use Rattle.sst_blocks.specs.SeenHandle.{seen_handle};
 ghost use Rattle.sst_blocks.specs.Starts.{HandlesAt};
 ghost use Rattle.sst_entries.specs.Strict.{may_follow};
@@ -58,6 +59,19 @@ pub(crate) fn read_handle(version: TableVersion, bytes: &[u8]) -> Option<(Handle
     ))
 }
 
+/// The end key and the number of the handle at the front of some bytes.
+#[inline(always)]
+pub(crate) fn read_end_key(version: TableVersion, bytes: &[u8]) -> (&[u8], SeqNo)
+    requires { handle_at version bytes.now ≡ None → ⊥ }
+    ensures { option_map (λ x. key_and_number (end_of x.0)) (handle_at version bytes.now)
+        ≡ Some (result.0.now, result.1) }
+{
+    let head = head_len(version);
+    // The number, the position and the size stand before the key's length.
+    let key_len = key_len_at(version, &bytes[20..]);
+    (&bytes[head..head + key_len], u64_at(bytes))
+}
+
 impl HandleRef<'_> {
     /// Whether the handle may stand after another, or at the front.
     #[inline]
@@ -71,14 +85,6 @@ impl HandleRef<'_> {
                 compare_versions(last.end_key, last.seqno, self.end_key, self.seqno).is_lt()
             }
         }
-    }
-
-    /// Whether the handle's block may hold the key numbered below `seqno`, or what comes after it.
-    #[inline]
-    pub(crate) fn reaches(&self, key: &[u8], seqno: SeqNo) -> bool
-        ensures { result ≡ reaches key.now seqno (seen_handle self.now) }
-    {
-        compare_versions(key, seqno, self.end_key, self.seqno).is_lt()
     }
 }
 

@@ -1,4 +1,4 @@
-use Rattle.std.proofs.Common.{◌≡◌, not, rules}
+use Rattle.std.proofs.Common.{◌≡◌, not, List, ℕ, rules}
 use Rattle.sst_entries.specs.Entry.{Entry}
 use Rattle.sst_entries.specs.Point.{bound_of}
 use Rattle.sst_blocks.specs.Seen.{seen}
@@ -12,7 +12,7 @@ returns-then-index-len-clause-found g c =
     let es = c.args.self.now in
     let key = c.args.key.now in
     let n = c.front_len-index.result in
-    let place : n ≡ front_length (λ (e : Entry). not (is_before (bound_of key c.args.seqno) e)) es = c.front_len-index.ensures.value (λ (e : Entry). not (is_before (bound_of key c.args.seqno) e)) (λ x r h. search rules) (past_parted es key c.args.seqno c.front_len-index.ensures.strict) in
+    let place : n ≡ front_length (λ (e : Entry). not (is_before (bound_of key c.args.seqno) e)) es = c.front_len-index.ensures.value (λ (k : List ℕ) (m : ℕ). not (is_before (bound_of key c.args.seqno) (bound_of k m))) (λ k m r h. search rules) (past_parted es key c.args.seqno c.front_len-index.ensures.strict) in
     read_past es key c.args.seqno n place (search rules)
 
 pub returns-then-ne-clause-found : goal.returns-then-ne-clause-found
@@ -20,7 +20,7 @@ returns-then-ne-clause-found g c =
     let es = c.args.self.now in
     let key = c.args.key.now in
     let n = c.front_len-index.result in
-    let place : n ≡ front_length (λ (e : Entry). not (is_before (bound_of key c.args.seqno) e)) es = c.front_len-index.ensures.value (λ (e : Entry). not (is_before (bound_of key c.args.seqno) e)) (λ x r h. search rules) (past_parted es key c.args.seqno c.front_len-index.ensures.strict) in
+    let place : n ≡ front_length (λ (e : Entry). not (is_before (bound_of key c.args.seqno) e)) es = c.front_len-index.ensures.value (λ (k : List ℕ) (m : ℕ). not (is_before (bound_of key c.args.seqno) (bound_of k m))) (λ k m r h. search rules) (past_parted es key c.args.seqno c.front_len-index.ensures.strict) in
     read_other es key c.args.seqno n (seen c.entry_ref-entry.result) c.front_len-index.ensures.strict place c.entry_ref-entry.ensures (keys_apart c.entry_ref-entry.result.key.now key c.ne.result c.ne.ensures c.if-ne.true)
 
 pub returns-clause-found : goal.returns-clause-found
@@ -28,6 +28,6 @@ returns-clause-found g c =
     let es = c.args.self.now in
     let key = c.args.key.now in
     let n = c.front_len-index.result in
-    let place : n ≡ front_length (λ (e : Entry). not (is_before (bound_of key c.args.seqno) e)) es = c.front_len-index.ensures.value (λ (e : Entry). not (is_before (bound_of key c.args.seqno) e)) (λ x r h. search rules) (past_parted es key c.args.seqno c.front_len-index.ensures.strict) in
+    let place : n ≡ front_length (λ (e : Entry). not (is_before (bound_of key c.args.seqno) e)) es = c.front_len-index.ensures.value (λ (k : List ℕ) (m : ℕ). not (is_before (bound_of key c.args.seqno) (bound_of k m))) (λ k m r h. search rules) (past_parted es key c.args.seqno c.front_len-index.ensures.strict) in
     let same = keys_same c.entry_ref-entry.result.key.now key c.ne.result c.ne.ensures c.if-ne.false in
     cc (c.in_ok-share.ensures.found, read_hit es key c.args.seqno n (seen c.entry_ref-entry.result) place c.entry_ref-entry.ensures same)

@@ -1,8 +1,16 @@
-use Rattle.std.proofs.Common.{◌≡◌, ◌+◌, ◌-◌, ◌/◌, ◌<◌, length, arith}
+use Rattle.std.proofs.Common.{◌≡◌, ◌+◌, ◌-◌, ◌/◌, ◌<◌, length, ap, ◌∙◌, arith}
+use Rattle.std.specs.Ordering.{is_lt}
 use Rattle.sst_blocks.specs.Handle.{Handle}
-use Rattle.sst_blocks.specs.SeenHandle.{seen_handle}
-use Rattle.sst_blocks.proofs.Reaching.{below_place, early_at, first_place}
+use Rattle.sst_blocks.proofs.Reaching.{below_place, read_reaches, first_place}
 use Rattle.sst_blocks.proofs.index_block.IndexBlock.first_reaching.Goals as goal
+
+pub loop-low-preserved-then-is_lt : goal.loop-low-preserved-then-is_lt
+loop-low-preserved-then-is_lt g c = record {
+  ordered = omega arith;
+  within = omega (arith, c.loop-low.invariant.within);
+  before = c.loop-low.invariant.before;
+  after = λ d lt. read_reaches c.args.self.now c.args.key.now c.args.seqno _ _ _ _ _ c.end_key_at-number.ensures (c.is_lt.ensures ∙ ap is_lt c.compare_versions.ensures) c.if-is_lt.true d;
+}
 
 pub loop-low-preserved : goal.loop-low-preserved
 loop-low-preserved g c =
@@ -12,7 +20,7 @@ loop-low-preserved g c =
     record {
       ordered = omega arith;
       within = c.loop-low.invariant.within;
-      before = λ i d le. below_place hs c.args.key.now c.args.seqno middle d c.len-high.ensures.strict lt (early_at hs c.args.key.now c.args.seqno middle (seen_handle c.handle_ref.result) d c.reaches.result c.handle_ref.ensures c.reaches.ensures c.if-reaches.false) i le;
+      before = λ i d le. below_place hs c.args.key.now c.args.seqno middle d c.len-high.ensures.strict lt (read_reaches hs c.args.key.now c.args.seqno middle _ _ _ _ c.end_key_at-number.ensures (c.is_lt.ensures ∙ ap is_lt c.compare_versions.ensures) c.if-is_lt.false d) i le;
       after = c.loop-low.invariant.after;
     }
 
