@@ -70,14 +70,15 @@ module _ (label : Label) (es : List Entry) (g : ℕ) where
 -- what was opened
 pub opened : (label : Label) (es : List Entry) (g id sum : ℕ) (bytes : List ℕ) (t : OpenTable) → IsTableOf label es id sum bytes → t.bytes ≡ bytes → t.global_seqno ≡ g → t.tree_id ≡ 0 → t.checksum ≡ sum → IsOpened label es g t
 opened label es g id sum bytes t f same number tree check =
-    let P : List ℕ → Type 0 = λ b. (x : IsTable b es) × (x.label ≡ label) × (x.options ≡ default_options) × (x.version ≡ V4) in
-    let table : P t.bytes = subst P (sym same) (f.table, f.label_is, f.options_are, f.version_is) in
+    let P : List ℕ → Type 0 = λ b. (x : IsTable b es) × (x.label ≡ label) × (x.options ≡ default_options) × (x.version ≡ V4) × (x.spills ≡ []) in
+    let table : P t.bytes = subst P (sym same) (f.table, f.label_is, f.options_are, f.version_is, f.spills_are) in
     record {
       some = f.some;
       table = table.0;
       label_is = table.1;
       options_are = table.2;
       version_is = table.3;
+      spills_are = table.4;
       number_is = number;
       tree_is = tree;
       checksum_is = check ∙ f.checksum_is ∙ subst (λ (b : List ℕ). fnv1a b ≡ fnv1a t.bytes) same refl;

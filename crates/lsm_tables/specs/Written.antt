@@ -25,13 +25,15 @@ number_fault es g = if nat_lt (2 ^ 64 - 1) (highest_seqno es + g) then Some Glob
 abbrev pub opening_fault : Label → List Entry → ℕ → Option Error
 opening_fault label es g = option_or (list_fault label es) (number_fault es g)
 
--- an opened table of a list, in the version that is written, of tree 0 and with the checksum of its bytes
+-- an opened table of a list, in the version that is written, of tree 0 and with the checksum of its bytes; no block was
+-- spilled before it was full
 pub record IsOpened (label : Label) (es : List Entry) (g : ℕ) (t : OpenTable) : Type 0 where
   pub some : es ≡ [] → ⊥
   pub table : IsTable t.bytes es
   pub label_is : table.label ≡ label
   pub options_are : table.options ≡ default_options
   pub version_is : table.version ≡ V4
+  pub spills_are : table.spills ≡ []
   pub number_is : t.global_seqno ≡ g
   pub tree_is : t.tree_id ≡ 0
   pub checksum_is : t.checksum ≡ fnv1a t.bytes
