@@ -1,5 +1,5 @@
 //! Data blocks: strict lists of entries.
-ghost use Rattle.std.specs.Prelude.{◌≡◌, ℕ, ◌+◌, ◌++◌, ◌<◌, ◌≤◌, ◌^◌, ◌↔◌, List, [], Some, None, Bool, true, false, not, length, IsTrue, IfOk, IfErr, OnOk, OnErr};
+ghost use Rattle.std.specs.Prelude.{◌≡◌, ℕ, ◌+◌, ◌++◌, ◌<◌, ◌≤◌, ◌≢◌, ◌^◌, ◌↔◌, List, [], Some, None, Bool, true, false, not, length, IsTrue, IfOk, IfErr, OnOk, OnErr};
 ghost use Rattle.std.specs.List.{slice_get};
 ghost use Rattle.std.specs.List.Sorted.{IsPartitionedBy};
 ghost use Rattle.std.specs.Option.{option_map};
@@ -294,6 +294,8 @@ impl<A: Allocator> DataBlock<A> {
     pub fn point_read(&self, key: &[u8], seqno: SeqNo) -> Result<Option<InternalValue<A>>, Error>
         ensures found { IfOk result (λ found. found ≡ point self.now key.now seqno) }
         ensures err { IfErr result (λ e. e ≡ OutOfMemory) }
+        // Where there is no such entry, no memory is taken.
+        ensures some { OnErr result (point self.now key.now seqno ≢ None) }
     {
         let index = self.front_len(move |user_key, number| {
             !compare_versions(key, seqno, user_key, number).is_lt()
