@@ -6,8 +6,9 @@ use Rattle.std.proofs.lemmas.List.{take_all, append-nil}
 use Rattle.std.proofs.lemmas.List.Concat.{flat_map-append}
 use Rattle.std.proofs.lemmas.Bool.{eq-eqb, ne_eqb}
 use Rattle.sst_entries.specs.Entry.{Entry}
+use Rattle.sst_entries.proofs.Booleans.{or_right}
 use Rattle.lsm_files.specs.Chunks.{joined, is_full, is_spilled, ends_after, IsChunk, Ends, AreChunksFrom, AreChunks}
-use Rattle.lsm_writers.specs.Cut.{rest_of}
+use Rattle.lsm_writers.specs.Cut.{rest_chunk}
 use Rattle.lsm_writers.specs.Held.{IsShortest}
 use Rattle.lsm_writers.specs.Writing.{early_ends}
 
@@ -30,10 +31,6 @@ none_before size at (c ∷ cs) p h le =
 or_true : (a b : Bool) → a ≡ true → (a || b) ≡ true
 or_true true b h = refl
 or_true false b h = absurd cc
-
-or_right : (a b : Bool) → b ≡ true → (a || b) ≡ true
-or_right true b h = refl
-or_right false b h = h
 
 both_false : (a b : Bool) → a ≡ false → b ≡ false → (a || b) ≡ false
 both_false true b h k = absurd cc
@@ -69,20 +66,20 @@ chunks_from size S at (c ∷ cs) last h same end =
     let same' = λ (p : ℕ) (lt : at' < p). same p (omega (arith, lt)) ∙ skip (is_full size c) E at' p (ne_eqb _ _ (λ e. omega (arith, e, lt))) in
     (chunk, ends_of size S at c (cs ++ last) ended', chunks_from size S at' cs last h.1 same' (λ n le f. end n (omega (arith, le)) f))
 
-last_chunk : (size : ℕ) (S : List ℕ) (at : ℕ) (pending : List Entry) → ((n : ℕ) → 0 < n → n < length pending → is_full size (take n pending) ≡ false) → ((p : ℕ) → at < p → is_spilled S p ≡ false) → AreChunksFrom size S at (rest_of pending)
+last_chunk : (size : ℕ) (S : List ℕ) (at : ℕ) (pending : List Entry) → ((n : ℕ) → 0 < n → n < length pending → is_full size (take n pending) ≡ false) → ((p : ℕ) → at < p → is_spilled S p ≡ false) → AreChunksFrom size S at (rest_chunk pending)
 last_chunk size S at [] f none = tt
 last_chunk size S at (e ∷ es) f none =
     (record { some = omega arith; shortest = λ n pos lt. both_false _ _ (f n pos lt) (none (at + n) (omega (arith, pos))) }, tt, tt)
 
-pub joined_rest : (es : List Entry) → joined (rest_of es) ≡ es
+pub joined_rest : (es : List Entry) → joined (rest_chunk es) ≡ es
 joined_rest [] = refl
 joined_rest (e ∷ es) = append-nil (e ∷ es)
 
 pub are_chunks : (size : ℕ) (cut : List (List Entry)) (pending : List Entry) → AllByRecursion (IsShortest size) cut → ((n : ℕ) → 0 < n → n < length pending → is_full size (take n pending) ≡ false)
-    → AreChunks size (early_ends size 0 cut) (joined cut ++ pending) (cut ++ rest_of pending)
+    → AreChunks size (early_ends size 0 cut) (joined cut ++ pending) (cut ++ rest_chunk pending)
 are_chunks size cut pending h f =
-    let rest : joined (rest_of pending) ≡ pending = joined_rest pending in
+    let rest : joined (rest_chunk pending) ≡ pending = joined_rest pending in
     record {
-      whole = flat_map-append (λ (x : List Entry). x) cut (rest_of pending) ∙ ap (λ (x : List Entry). joined cut ++ x) rest;
-      each = chunks_from size (early_ends size 0 cut) 0 cut (rest_of pending) h (λ p lt. refl) (λ at le none. last_chunk size (early_ends size 0 cut) at pending f none);
+      whole = flat_map-append (λ (x : List Entry). x) cut (rest_chunk pending) ∙ ap (λ (x : List Entry). joined cut ++ x) rest;
+      each = chunks_from size (early_ends size 0 cut) 0 cut (rest_chunk pending) h (λ p lt. refl) (λ at le none. last_chunk size (early_ends size 0 cut) at pending f none);
     }

@@ -24,7 +24,7 @@ use Rattle.sst_entries.specs.Strict.{IsStrictAfter, IsStrict, last_of}
 use Rattle.sst_sections.proofs.Numbers.{wide4, wide8}
 use Rattle.lsm_files.specs.Chunks.{joined}
 use Rattle.lsm_writers.specs.declared.writer.meta.Metadata.{Metadata}
-use Rattle.lsm_writers.specs.Cut.{chunks_in, IsReadable, AreCut, with_cut, rest_of}
+use Rattle.lsm_writers.specs.Cut.{chunks_in, IsReadable, AreCut, with_cut, rest_chunk}
 use Rattle.lsm_files.specs.Facts.{last_key}
 use Rattle.lsm_files.specs.Fits.{BlockFits}
 use Rattle.lsm_files.specs.Index.{data_block, data_section, handles, handles_from, handle_of, block_size, last_entry}
@@ -198,7 +198,7 @@ registered_strict cs w hs before failed c h old works strict ok e =
     let some = all_more (IsReadable V4) HasSome (λ x r. r.some) (cs ++ c ∷ []) made.readable in
     rw made.index (handles_strict V4 (cs ++ c ∷ []) some made.strict)
 
-pub rest_is : (es : List Entry) → 0 < length es → rest_of es ≡ es ∷ []
+pub rest_is : (es : List Entry) → 0 < length es → rest_chunk es ≡ es ∷ []
 rest_is [] h = absurd (omega (arith, h))
 rest_is (e ∷ es) h = refl
 

@@ -20,7 +20,7 @@ use Rattle.sst_sections.proofs.Numbers.{wide4, wide8}
 use Rattle.lsm_writers.specs.declared.writer.meta.Metadata.{Metadata}
 use Rattle.lsm_files.specs.Chunks.{joined, entry_size, size_of, is_full, AreChunks}
 use Rattle.lsm_writers.specs.Counts.{metadata_of, counted_facts, counted_items, HasShortKeys}
-use Rattle.lsm_writers.specs.Cut.{rest_of}
+use Rattle.lsm_writers.specs.Cut.{rest_chunk}
 use Rattle.lsm_files.specs.Facts.{Facts, first_key, last_key}
 use Rattle.lsm_files.proofs.KindLemmas.{sections_are, index_counts, index_fits as kind_fits}
 use Rattle.lsm_files.specs.File.{counted_blocks, file, version_section, meta_section}
@@ -285,14 +285,14 @@ held_short size cs n m h = record {
 pub spilled_is : {A : Type 0} (w v : Writing) (n : ℕ) (m : Metadata A) → v ≡ spilled w → IsHeld v.options.data_block_size v.cut v.pending n m → IsHeld w.options.data_block_size (blocks_of w) [] n m
 spilled_is w v n m e h = subst (λ (x : Writing). IsHeld x.options.data_block_size x.cut x.pending n m) e h
 
-rest_front : (size : ℕ) (pending : List Entry) → AllByRecursion (IsShortest size) (rest_of pending) → (n : ℕ) → 0 < n → n < length pending → is_full size (take n pending) ≡ false
+rest_front : (size : ℕ) (pending : List Entry) → AllByRecursion (IsShortest size) (rest_chunk pending) → (n : ℕ) → 0 < n → n < length pending → is_full size (take n pending) ≡ false
 rest_front size [] h n pos lt = absurd (omega (arith, pos, lt))
 rest_front size (e ∷ es) h n pos lt = h.0.shortest n pos lt
 
 all_written : (w : Writing) → AllByRecursion (IsShortest w.options.data_block_size) (blocks_of w) → AreChunks w.options.data_block_size (spills_of w) (written w) (blocks_of w)
 all_written w h =
     let size = w.options.data_block_size in
-    let rest = rest_of w.pending in
+    let rest = rest_chunk w.pending in
     are_chunks size w.cut w.pending (all_front (IsShortest size) w.cut rest h) (rest_front size w.pending (all_behind (IsShortest size) w.cut rest h))
 
 no_entries : {A : Type 0} (size : ℕ) (cs : List (List Entry)) (n : ℕ) (m : Metadata A) → IsHeld size cs [] n m → m.item_count ≡ 0 → length (joined cs) ≡ 0

@@ -16,13 +16,13 @@ use Rattle.lsm_files.specs.declared.options.Options.{Options}
 use Rattle.lsm_files.specs.declared.label.Label.{Label}
 use Rattle.lsm_files.specs.Options.{default_options}
 use Rattle.lsm_files.specs.Table.{IsTable}
-use Rattle.lsm_writers.specs.Writing.{early_ends, follows, gained, spills_of, written, IsFinished, IsTableOf, IsWritable, Writing}
+use Rattle.lsm_writers.specs.Writing.{early_ends, may_be_written, gained, spills_of, written, IsFinished, IsTableOf, IsWritable, Writing}
 use Rattle.lsm_files.specs.Chunks.{joined, is_full}
 use Rattle.lsm_writers.proofs.Cutting.{joined_more}
 use Rattle.lsm_writers.proofs.Orders.{strict_back, ends_follow}
 
 -- an entry of a list follows those before it
-pub listed_follows : (xs : List Entry) (e : Entry) (ys : List Entry) → IsWritable (xs ++ e ∷ ys) → IsTrue (follows xs e.user_key e.seqno)
+pub listed_follows : (xs : List Entry) (e : Entry) (ys : List Entry) → IsWritable (xs ++ e ∷ ys) → IsTrue (may_be_written xs e.user_key e.seqno)
 unfolding IsStrictAfter
 listed_follows xs e ys p =
     let behind : IsStrictAfter (last_of None xs) (e ∷ ys) = strict_back None xs (e ∷ ys) p.strict in

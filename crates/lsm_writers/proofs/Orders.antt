@@ -10,7 +10,7 @@ use Rattle.sst_blocks.specs.Handles.{end_of, AreStrictHandles}
 use Rattle.sst_entries.proofs.OrderLemmas.{before_trans}
 use Rattle.sst_entries.specs.Strict.{is_before, may_follow, IsStrictAfter, IsStrict, last_of}
 use Rattle.lsm_files.specs.Chunks.{joined}
-use Rattle.lsm_writers.specs.Writing.{follows}
+use Rattle.lsm_writers.specs.Writing.{may_be_written}
 use Rattle.lsm_files.specs.Index.{last_entry, block_size, handle_of, handles_from, handles}
 
 -- the last of two lists one after another
@@ -113,10 +113,10 @@ unfolding last_of
 last_is_before before es h = rw (no_place es h) refl
 
 -- what may follow is told by the key and the number
-pub follows_last : (es : List Entry) (key : List ℕ) (n : ℕ) (last : Entry) → last_of None es ≡ Some last → nat_lt n (2 ^ 64 - 1) ≡ true → is_before last (entry key [] n Value) ≡ follows es key n
+pub follows_last : (es : List Entry) (key : List ℕ) (n : ℕ) (last : Entry) → last_of None es ≡ Some last → nat_lt n (2 ^ 64 - 1) ≡ true → is_before last (entry key [] n Value) ≡ may_be_written es key n
 follows_last es key n last h lt = rw (h, lt) refl
 
-pub follows_nothing : (es : List Entry) (key : List ℕ) (n : ℕ) → last_of None es ≡ None → nat_lt n (2 ^ 64 - 1) ≡ true → true ≡ follows es key n
+pub follows_nothing : (es : List Entry) (key : List ℕ) (n : ℕ) → last_of None es ≡ None → nat_lt n (2 ^ 64 - 1) ≡ true → true ≡ may_be_written es key n
 follows_nothing es key n h lt = rw (h, lt) refl
 
 pub last_written_is : (r o : Option Entry) (cut : List (List Entry)) (pending d : List Entry) → r ≡ last_of o d → o ≡ last_of None (joined cut) → d ≡ pending → last_of None (joined cut ++ pending) ≡ r

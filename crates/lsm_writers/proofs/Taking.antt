@@ -17,13 +17,13 @@ use Rattle.sst_entries.specs.declared.value_type.ValueType.TheVariants.{Value}
 use Rattle.sst_sections.specs.declared.version.TableVersion.TheVariants.{V4}
 use Rattle.lsm_writers.specs.declared.writer.meta.Metadata.{Metadata}
 use Rattle.lsm_writers.specs.declared.writer.meta.Tally.{Tally}
-use Rattle.lsm_writers.specs.Counts.{no_counts, metadata_of, brought, tally_of, added, counted, HasRoom}
-use Rattle.lsm_writers.specs.Cut.{Cut, rest_of, with_cut}
+use Rattle.lsm_writers.specs.Counts.{no_counts, metadata_of, brought, tally_of, added, with_entry, HasRoom}
+use Rattle.lsm_writers.specs.Cut.{Cut, rest_chunk, with_cut}
 use Rattle.lsm_files.specs.Facts.{count_after, lowest_seqno, highest_seqno, is_tombstone, is_weak, is_reclaimable, starts_key, one_if, first_key}
 use Rattle.lsm_files.specs.Fits.{EntryFits, LabelFits}
 use Rattle.lsm_files.specs.declared.label.Label.{Label}
-use Rattle.lsm_writers.specs.Held.{IsOpen, IsHeld, CanGoOn, IsShortest}
-use Rattle.lsm_writers.specs.Writing.{item_fault, follows}
+use Rattle.lsm_writers.specs.Held.{IsUnfilled, IsHeld, CanGoOn, IsShortest}
+use Rattle.lsm_writers.specs.Writing.{item_fault, may_be_written}
 use Rattle.lsm_writers.proofs.Cutting.{joined_more}
 use Rattle.sst_entries.proofs.Lists.{all_append, all_behind}
 use Rattle.sst_entries.proofs.Booleans.{and_parts}
@@ -79,7 +79,7 @@ nothing_held size cut pending meta label c p m fits =
 
 -- ---- one entry more
 
-pub strict_gained : (es : List Entry) (e : Entry) → IsStrict es → IsTrue (follows es e.user_key e.seqno) → IsStrict (es ++ e ∷ [])
+pub strict_gained : (es : List Entry) (e : Entry) → IsStrict es → IsTrue (may_be_written es e.user_key e.seqno) → IsStrict (es ++ e ∷ [])
 strict_gained es e h f =
     let p = and_parts _ _ f in
     strict_push None es e h (ends_follow (last_of None es) e (entry e.user_key [] e.seqno Value) refl refl p.1)
@@ -104,7 +104,7 @@ snoc_assoc : (xs ys : List Entry) (e : Entry) → xs ++ (ys ++ e ∷ []) ≡ (xs
 snoc_assoc xs ys e = sym (append_assoc xs ys (e ∷ []))
 
 -- what is pending may not be full before one more
-front_more : (size : ℕ) (pending : List Entry) (e : Entry) → IsOpen size pending → ((n : ℕ) → 0 < n → n < length pending → is_full size (take n pending) ≡ false) → (n : ℕ) → 0 < n → n < length (pending ++ e ∷ []) → is_full size (take n (pending ++ e ∷ [])) ≡ false
+front_more : (size : ℕ) (pending : List Entry) (e : Entry) → IsUnfilled size pending → ((n : ℕ) → 0 < n → n < length pending → is_full size (take n pending) ≡ false) → (n : ℕ) → 0 < n → n < length (pending ++ e ∷ []) → is_full size (take n (pending ++ e ∷ [])) ≡ false
 front_more size [] e o f n pos lt = absurd (omega (arith, pos, lt))
 front_more size (x ∷ xs) e o f n pos lt =
     let p = x ∷ xs in
@@ -145,7 +145,7 @@ brought_is : (first : Option (List ℕ)) (key : List ℕ) → option_or first (b
 brought_is None key = refl
 brought_is (Some x) key = refl
 
-pub counted_is : {A : Type 0} (cut : List (List Entry)) (pending : List Entry) (e : Entry) (m : Metadata A) → m ≡ metadata_of V4 cut pending → counted (last_of None (joined cut ++ pending)) e m ≡ metadata_of V4 cut (pending ++ e ∷ [])
+pub counted_is : {A : Type 0} (cut : List (List Entry)) (pending : List Entry) (e : Entry) (m : Metadata A) → m ≡ metadata_of V4 cut pending → with_entry (last_of None (joined cut ++ pending)) e m ≡ metadata_of V4 cut (pending ++ e ∷ [])
 counted_is cut pending e m h =
     let es = joined cut ++ pending in
     rw (h, brought_is (first_key es) e.user_key, snoc_assoc (joined cut) pending e, count_more is_tombstone es e, count_more is_weak es e, after_more is_reclaimable None es e, after_more starts_key None es e, lowest_more es e, highest_more es e, first_more es e) refl
@@ -178,8 +178,8 @@ room_still cs m r = record { tombstones = r.tombstones; weak = r.weak; reclaimab
 -- ---- a writer's parts after a call
 
 pub held_more : {A : Type 0} (size : ℕ) (cut : List (List Entry)) (pending : List Entry) (n : ℕ) (m : Metadata A) (e : Entry)
-    → IsHeld size cut pending n m → IsOpen size pending → IsTrue (follows (joined cut ++ pending) e.user_key e.seqno) → item_fault pending e ≡ None
-    → IsHeld size cut (pending ++ e ∷ []) (n + entry_size e) (counted (last_of None (joined cut ++ pending)) e m)
+    → IsHeld size cut pending n m → IsUnfilled size pending → IsTrue (may_be_written (joined cut ++ pending) e.user_key e.seqno) → item_fault pending e ≡ None
+    → IsHeld size cut (pending ++ e ∷ []) (n + entry_size e) (with_entry (last_of None (joined cut ++ pending)) e m)
 held_more size cut pending n m e old o f ok =
     let low : e.seqno < 2 ^ 64 - 1 = ltb-true _ _ (and_parts _ _ f).0 in
     let short = short_of pending e low ok in
@@ -198,7 +198,7 @@ cut_counted m cut pending cs h e = rw (h, e) refl
 
 pub held_cut : {A : Type 0} (size : ℕ) (cut : List (List Entry)) (pending : List Entry) (n : ℕ) (m : Metadata A)
     → IsHeld size cut pending n m
-    → IsHeld size (cut ++ rest_of pending) [] 0 (with_cut (cut ++ rest_of pending) m)
+    → IsHeld size (cut ++ rest_chunk pending) [] 0 (with_cut (cut ++ rest_chunk pending) m)
 held_cut {A} size cut [] n m old =
     let same : cut ++ [] ≡ cut = append-nil cut in
     let P : List (List Entry) → Type 0 = λ cs. IsHeld size cs [] 0 (with_cut cs m) in
@@ -225,23 +225,23 @@ held_cut {A} size cut (e ∷ es) n m old =
       small = omega arith;
     }
 
-pub not_full : (size n : ℕ) (pending : List Entry) → n ≡ size_of pending → n < size → IsOpen size pending
+pub not_full : (size n : ℕ) (pending : List Entry) → n ≡ size_of pending → n < size → IsUnfilled size pending
 not_full size n [] e lt = tt
 not_full size n (x ∷ xs) e lt = lt-leb _ _ (omega (arith, e, lt))
 
 -- a writer's parts once an entry was taken
 pub taken_held : {A : Type 0} (size : ℕ) (cut : List (List Entry)) (pending : List Entry) (n : ℕ) (m : Metadata A) (e : Entry) (last : Option Entry) (items : List Entry) (k : ℕ) (o : Metadata A)
-    → IsHeld size cut pending n m → IsOpen size pending → IsTrue (follows (joined cut ++ pending) e.user_key e.seqno) → item_fault pending e ≡ None → last ≡ last_of None (joined cut)
-    → items ≡ pending ++ e ∷ [] → k ≡ n + entry_size e → o ≡ counted (last_of last pending) e m
+    → IsHeld size cut pending n m → IsUnfilled size pending → IsTrue (may_be_written (joined cut ++ pending) e.user_key e.seqno) → item_fault pending e ≡ None → last ≡ last_of None (joined cut)
+    → items ≡ pending ++ e ∷ [] → k ≡ n + entry_size e → o ≡ with_entry (last_of last pending) e m
     → IsHeld size cut items k o
 taken_held {A} size cut pending n m e last items k o old room f ok l i s c =
     let before : last_of last pending ≡ last_of None (joined cut ++ pending) = ap (λ (x : Option Entry). last_of x pending) l ∙ sym (last_of-append None (joined cut) pending) in
-    let meta : o ≡ counted (last_of None (joined cut ++ pending)) e m = c ∙ ap (λ (x : Option Entry). counted x e m) before in
+    let meta : o ≡ with_entry (last_of None (joined cut ++ pending)) e m = c ∙ ap (λ (x : Option Entry). with_entry x e m) before in
     rw (i, s, meta) (held_more size cut pending n m e old room f ok)
 
 -- and once it was counted
 pub taken_counted : {A : Type 0} (size : ℕ) (cut : List (List Entry)) (pending : List Entry) (n : ℕ) (m : Metadata A) (e : Entry) (last : Option Entry) (items : List Entry) (k : ℕ) (t : Tally A) (o : Metadata A)
-    → IsHeld size cut pending n m → IsOpen size pending → IsTrue (follows (joined cut ++ pending) e.user_key e.seqno) → item_fault pending e ≡ None → last ≡ last_of None (joined cut)
+    → IsHeld size cut pending n m → IsUnfilled size pending → IsTrue (may_be_written (joined cut ++ pending) e.user_key e.seqno) → item_fault pending e ≡ None → last ≡ last_of None (joined cut)
     → items ≡ pending ++ e ∷ [] → k ≡ n + entry_size e → t ≡ tally_of (last_of last pending) e m.first_key → o ≡ added t m
     → IsHeld size cut items k o
 taken_counted {A} size cut pending n m e last items k t o old room f ok l i s c a =
@@ -249,7 +249,7 @@ taken_counted {A} size cut pending n m e last items k t o old room f ok l i s c 
 
 -- and once its block was cut before it was counted
 pub cut_held : {A : Type 0} (size : ℕ) (cut : List (List Entry)) (items : List Entry) (k : ℕ) (m : Metadata A) (t : Tally A) (new : List (List Entry)) (o p : Metadata A)
-    → IsHeld size cut items k (added t m) → new ≡ cut ++ rest_of items → o ≡ with_cut new m → p ≡ added t o
+    → IsHeld size cut items k (added t m) → new ≡ cut ++ rest_chunk items → o ≡ with_cut new m → p ≡ added t o
     → IsHeld size new [] 0 p
 cut_held {A} size cut items k m t new o p held n c a =
     let whole : IsHeld size new [] 0 (with_cut new (added t m)) = subst (λ (cs : List (List Entry)). IsHeld size cs [] 0 (with_cut cs (added t m))) (sym n) (held_cut size cut items k (added t m) held) in

@@ -32,7 +32,7 @@ no_counts = record {
   highest_seqno = 0;
 }
 
--- the blocks, their items, bytes and last key are those that were cut; the rest counts the whole list
+-- blocks, items, bytes and the last key are those that were cut; the rest counts the whole list
 abbrev pub metadata_of : {A : Type 0} → TableVersion → List (List Entry) → List Entry → Metadata A
 metadata_of v cut pending =
     let es = joined cut ++ pending in
@@ -80,8 +80,8 @@ added t m = record m {
 }
 
 -- one more entry is counted, after the one before it
-abbrev pub counted : {A : Type 0} → Option Entry → Entry → Metadata A → Metadata A
-counted before e m = added (tally_of before e m.first_key) m
+abbrev pub with_entry : {A : Type 0} → Option Entry → Entry → Metadata A → Metadata A
+with_entry before e m = added (tally_of before e m.first_key) m
 
 -- no count is at its largest value
 pub record HasRoom {A : Type 0} (m : Metadata A) : Type 0 where
@@ -107,7 +107,8 @@ counted_facts m = record {
 -- the items of the meta block of what was counted
 unfoldable pub counted_items : {A : Type 0} → Label → Options → Blocks → Metadata A → List Entry
 counted_items label options counts m =
-    meta_items V4 label options counts (counted_facts m) m.data_block_count m.file_pos.0 m.uncompressed_size
+    meta_items V4 label options counts (counted_facts m)
+    m.data_block_count m.file_pos.0 m.uncompressed_size
 
 -- the first and the last key are no longer than a table takes
 pub record HasShortKeys {A : Type 0} (m : Metadata A) : Type 0 where

@@ -24,7 +24,9 @@ pub record Cut : Type 0 where
 -- the entries of n blocks at the front of some bytes, a list for each block
 unfoldable pub chunks_in : TableVersion → ℕ → List ℕ → List (List Entry)
 chunks_in v zero bytes = []
-chunks_in v (suc n) bytes = unwrap_or (entries_in v (take (data_len bytes) (drop 24 bytes))) [] ∷ chunks_in v n (drop (24 + data_len bytes) bytes)
+chunks_in v (suc n) bytes =
+    unwrap_or (entries_in v (take (data_len bytes) (drop 24 bytes))) []
+    ∷ chunks_in v n (drop (24 + data_len bytes) bytes)
 
 -- a chunk whose block reads back
 pub record IsReadable (v : TableVersion) (c : List Entry) : Type 0 where
@@ -33,8 +35,10 @@ pub record IsReadable (v : TableVersion) (c : List Entry) : Type 0 where
   pub short : 24 + length (payload v c) < 2 ^ 32
   pub wide : 17 * length c ≤ length (payload v c)
 
--- the bytes begin with the blocks of the chunks, and have nothing else unless a block could not be registered; the index has the handles of all blocks
-pub record AreCut (chunks : List (List Entry)) (w : Written) (hs : List Handle) (last : Option Entry) (failed : Bool) : Type 0 where
+-- the bytes begin with the blocks of the chunks, and have nothing else unless a block could not
+-- be registered; the index has the handles of all blocks
+pub record AreCut (chunks : List (List Entry)) (w : Written) (hs : List Handle)
+    (last : Option Entry) (failed : Bool) : Type 0 where
   pub rest : List ℕ
   pub bytes : w.bytes ≡ data_section V4 chunks ++ rest
   pub whole : failed ≡ false → rest ≡ []
@@ -45,9 +49,9 @@ pub record AreCut (chunks : List (List Entry)) (w : Written) (hs : List Handle) 
   pub last_is : last ≡ last_of None (joined chunks)
 
 -- what is left as a chunk, where there is something
-abbrev pub rest_of : List Entry → List (List Entry)
-rest_of [] = []
-rest_of (e ∷ es) = (e ∷ es) ∷ []
+abbrev pub rest_chunk : List Entry → List (List Entry)
+rest_chunk [] = []
+rest_chunk (e ∷ es) = (e ∷ es) ∷ []
 
 -- the counts of the blocks that were cut
 abbrev pub with_cut : {A : Type 0} → List (List Entry) → Metadata A → Metadata A

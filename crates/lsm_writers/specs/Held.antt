@@ -16,17 +16,18 @@ pub record IsShortest (size : ℕ) (c : List Entry) : Type 0 where
   pub shortest : (n : ℕ) → 0 < n → n < length c → is_full size (take n c) ≡ false
 
 -- what is pending is not full, unless it is nothing
-abbrev pub IsOpen : ℕ → List Entry → Type 0
-IsOpen size [] = Unit {0}
-IsOpen size (e ∷ es) = is_full size (e ∷ es) ≡ false
+abbrev pub IsUnfilled : ℕ → List Entry → Type 0
+IsUnfilled size [] = Unit {0}
+IsUnfilled size (e ∷ es) = is_full size (e ∷ es) ≡ false
 
 -- a writer that has not refused can go on
 pub record CanGoOn (failed : Bool) (size : ℕ) (cut : Cut) (pending : List Entry) : Type 0 where
   pub works : failed ≡ false → cut.failed ≡ false
-  pub room : failed ≡ false → IsOpen size pending
+  pub room : failed ≡ false → IsUnfilled size pending
 
--- the list is strict and of entries that fit, its chunks are cut where they may be, and it is counted
-pub record IsHeld {A : Type 0} (size : ℕ) (cut : List (List Entry)) (pending : List Entry) (chunk_size : ℕ) (meta : Metadata A) : Type 0 where
+-- the list is strict and of entries that fit, its chunks are cut where they may be, it is counted
+pub record IsHeld {A : Type 0} (size : ℕ) (cut : List (List Entry)) (pending : List Entry)
+    (chunk_size : ℕ) (meta : Metadata A) : Type 0 where
   pub strict : IsStrict (joined cut ++ pending)
   pub fits : AllByRecursion (EntryFits V4) (joined cut ++ pending)
   pub shortest : AllByRecursion (IsShortest size) cut

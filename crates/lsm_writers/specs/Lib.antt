@@ -3,3 +3,4 @@ pub mod Cut
 pub mod Writing
 pub mod Registered
 pub mod Held
+pub mod Words

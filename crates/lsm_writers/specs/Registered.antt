@@ -19,7 +19,8 @@ failed_fault failed = if failed then Some WriterFailed else None
 
 -- no section of the index was started
 abbrev pub HasNoIndex : Written → Type 0
-HasNoIndex w = All (λ (s : SectionName × ℕ). (place_of s.0 ≡ 1 → ⊥) × (place_of s.0 ≡ 2 → ⊥)) w.started
+HasNoIndex w =
+    All (λ (s : SectionName × ℕ). (place_of s.0 ≡ 1 → ⊥) × (place_of s.0 ≡ 2 → ⊥)) w.started
 
 -- what a full index refuses
 abbrev pub full_index_fault : Registered → Option Error

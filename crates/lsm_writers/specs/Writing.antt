@@ -11,7 +11,7 @@ use Rattle.sst_blocks.specs.Encoding.{is_long_key, large_fault}
 use Rattle.sst_entries.specs.Entry.{Entry, entry}
 use Rattle.sst_entries.specs.Strict.{IsStrict, may_follow, last_of}
 use Rattle.lsm_files.specs.Chunks.{joined, is_full}
-use Rattle.lsm_writers.specs.Cut.{rest_of}
+use Rattle.lsm_writers.specs.Cut.{rest_chunk}
 use Rattle.lsm_files.specs.Index.{handles}
 use Rattle.sst_sections.specs.Fnv.{fnv1a}
 use Rattle.lsm_files.specs.Table.{IsTable}
@@ -19,7 +19,7 @@ use Rattle.lsm_files.specs.declared.options.Options.{Options}
 use Rattle.lsm_files.specs.declared.label.Label.{Label}
 use Rattle.lsm_files.specs.Options.{default_options}
 
--- the chunks whose blocks were cut, the entries of the next block, and whether the writer has refused
+-- the chunks whose blocks were cut, the entries of the next block, whether the writer has refused
 pub record Writing : Type 0 where
   pub label : Label
   pub options : Options
@@ -35,9 +35,11 @@ written w = joined w.cut ++ w.pending
 abbrev pub IsFresh : Writing → Type 0
 IsFresh w = (w.cut ≡ []) × (w.pending ≡ []) × (w.failed ≡ false)
 
--- a key and number may come next: the number is below the largest one, and they come strictly after the last entry
-abbrev pub follows : List Entry → List ℕ → ℕ → Bool
-follows es key seqno = nat_lt seqno (2 ^ 64 - 1) && may_follow (last_of None es) (entry key [] seqno Value)
+-- a key and number may come next: the number is below the largest one, and they come strictly
+-- after the last entry
+abbrev pub may_be_written : List Entry → List ℕ → ℕ → Bool
+may_be_written es key seqno =
+    nat_lt seqno (2 ^ 64 - 1) && may_follow (last_of None es) (entry key [] seqno Value)
 
 -- what is wrong with an entry after the pending ones: the first fault
 abbrev pub item_fault : List Entry → Entry → Option Error
@@ -54,11 +56,13 @@ write_fault w e = if w.failed then Some WriterFailed else item_fault w.pending e
 abbrev pub gained : Writing → Entry → Writing
 gained w e =
     let chunk = w.pending ++ e ∷ [] in
-    if is_full w.options.data_block_size chunk then record w { cut = w.cut ++ chunk ∷ []; pending = [] } else record w { pending = chunk }
+    if is_full w.options.data_block_size chunk
+    then record w { cut = w.cut ++ chunk ∷ []; pending = [] }
+    else record w { pending = chunk }
 
 -- all chunks, with what is pending as the last one
 abbrev pub blocks_of : Writing → List (List Entry)
-blocks_of w = w.cut ++ rest_of w.pending
+blocks_of w = w.cut ++ rest_chunk w.pending
 
 -- the pending entries are cut off as a block
 abbrev pub spilled : Writing → Writing
@@ -67,7 +71,9 @@ spilled w = record w { cut = blocks_of w; pending = [] }
 -- where chunks end that are not full, the first of them at a place
 unfoldable pub early_ends : ℕ → ℕ → List (List Entry) → List ℕ
 early_ends size at [] = []
-early_ends size at (c ∷ cs) = if is_full size c then early_ends size (at + length c) cs else (at + length c) ∷ early_ends size (at + length c) cs
+early_ends size at (c ∷ cs) =
+    if is_full size c then early_ends size (at + length c) cs
+    else (at + length c) ∷ early_ends size (at + length c) cs
 
 -- the places where a block was spilled before it was full
 abbrev pub spills_of : Writing → List ℕ
@@ -75,10 +81,12 @@ spills_of w = early_ends w.options.data_block_size 0 w.cut
 
 -- what finishing refuses: the block of the index is too large
 abbrev pub finish_fault : Writing → Option Error
-finish_fault w = if w.failed then Some WriterFailed else large_fault (index_block_bound_of (handles V4 (blocks_of w)))
+finish_fault w =
+    if w.failed then Some WriterFailed
+    else large_fault (index_block_bound_of (handles V4 (blocks_of w)))
 
--- a finished table: its id, its bytes, and the checksum of these. The bytes are a table of the list, in the version that is
--- written
+-- a finished table: its id, its bytes, and the checksum of these. The bytes are a table of the
+-- list, in the version that is written
 pub record IsFinished (w : Writing) (id : ℕ) (checksum : ℕ) (bytes : List ℕ) : Type 0 where
   pub some : written w ≡ [] → ⊥
   pub id_is : id ≡ w.label.table_id
@@ -96,7 +104,8 @@ pub record IsWritable (es : List Entry) : Type 0 where
 
 -- a writer of a table that has no entry yet
 abbrev pub new_writing : Label → Writing
-new_writing label = record { label = label; options = default_options; cut = []; pending = []; failed = false }
+new_writing label =
+    record { label = label; options = default_options; cut = []; pending = []; failed = false }
 
 -- the first fault of writing some entries one by one and then finishing
 abbrev pub writing_fault : Writing → List Entry → Option Error
@@ -107,8 +116,10 @@ writing_fault w (e ∷ es) = option_or (write_fault w e) (writing_fault (gained 
 abbrev pub list_fault : Label → List Entry → Option Error
 list_fault label es = writing_fault (new_writing label) es
 
--- a finished table of a list, of which no block was spilled before it was full: its id, its checksum and its bytes
-pub record IsTableOf (label : Label) (es : List Entry) (id : ℕ) (checksum : ℕ) (bytes : List ℕ) : Type 0 where
+-- a finished table of a list, of which no block was spilled before it was full: its id, its
+-- checksum and its bytes
+pub record IsTableOf (label : Label) (es : List Entry) (id : ℕ) (checksum : ℕ)
+    (bytes : List ℕ) : Type 0 where
   pub some : es ≡ [] → ⊥
   pub id_is : id ≡ label.table_id
   pub checksum_is : checksum ≡ fnv1a bytes

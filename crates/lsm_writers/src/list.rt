@@ -39,7 +39,8 @@ pub fn write_list<A: Allocator + Clone>(
     requires { IsWritable items.items }
     ensures table { IfOk result (λ t. MatchOption t (items.items ≡ [])
         (λ f. IsTableOf (label_of id initial_level created_at) items.items f.id f.checksum.0 f.bytes)) }
-    ensures refused { Faults result (list_fault (label_of id initial_level created_at) items.items) }
+    ensures refused { Faults result
+        (list_fault (label_of id initial_level created_at) items.items) }
 {
     let mut writer = Writer::new(alloc, id, initial_level, created_at)?;
     for item in items {

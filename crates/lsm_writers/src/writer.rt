@@ -1,25 +1,15 @@
 //! Writing a table.
 ghost use Rattle.std.specs.Prelude.{◌≡◌, ◌↔◌, ◌<◌, ◌≤◌, ◌+◌, ◌*◌, ◌^◌, List, [], ◌∷◌, ◌++◌, None, Some, false, true, length, IsTrue, IfOk, IfErr, OnOk, OnErr, MatchResult, MatchOption};
+ghost use Rattle.lsm_writers.specs.Words.{BlockFits, Entry, EntryFits, Faults, FaultsFirst, HasNoVersion, IsFinished};
+ghost use Rattle.lsm_writers.specs.Words.{IsFresh, IsStrict, LabelFits, appended, entry_size, failed_fault, file};
+ghost use Rattle.lsm_writers.specs.Words.{filter_count, finish_fault, fnv1a, gained, handles, index_block_bound_of};
+ghost use Rattle.lsm_writers.specs.Words.{item_fault, label_of, large_fault, last_of, may_be_written, metadata_of};
+ghost use Rattle.lsm_writers.specs.Words.{new_writing, size_of, spilled, tally_of, version_section, write_fault};
+ghost use Rattle.lsm_writers.specs.Words.{written};
 ghost use Rattle.std.specs.Option.{option_copied};
 ghost use Rattle.sst_entries.specs.declared.error.Error.TheVariants.{OutOfMemory};
 ghost use Rattle.sst_sections.specs.declared.version.TableVersion.TheVariants.{V4};
-ghost use Rattle.sst_entries.specs.Error.{Faults, FaultsFirst};
-ghost use Rattle.sst_entries.specs.Strict.{IsStrict, last_of};
-ghost use Rattle.lsm_files.specs.Chunks.{entry_size, size_of};
-ghost use Rattle.lsm_files.specs.Options.{default_options};
-ghost use Rattle.lsm_writers.specs.Counts.{metadata_of, tally_of};
-ghost use Rattle.lsm_writers.specs.Writing.{written, IsFresh, follows, write_fault, item_fault, gained, spilled, finish_fault, IsFinished};
 ghost use Rattle.std.specs.List.{AllByRecursion};
-ghost use Rattle.lsm_writers.specs.Registered.{failed_fault};
-ghost use Rattle.lsm_files.specs.File.{file, version_section, HasNoVersion};
-ghost use Rattle.lsm_files.specs.Kinds.{filter_count};
-ghost use Rattle.lsm_files.specs.Layout.{appended};
-ghost use Rattle.sst_entries.specs.Entry.{Entry};
-ghost use Rattle.lsm_files.specs.Fits.{BlockFits, EntryFits, LabelFits};
-ghost use Rattle.lsm_files.specs.Index.{handles};
-ghost use Rattle.sst_blocks.specs.Bounds.{index_block_bound_of};
-ghost use Rattle.sst_blocks.specs.Encoding.{large_fault};
-ghost use Rattle.sst_sections.specs.Fnv.{fnv1a};
 
 mod data_blocks;
 pub mod index;
@@ -76,7 +66,7 @@ impl<A: Allocator + Clone> Writer<A> {
         initial_level: u8,
         created_at: Timestamp,
     ) -> Result<Writer<A>, Error>
-        ensures ok { IfOk result (λ w. w ≡ record { label = record { table_id = id; initial_level = initial_level; created_at = created_at }; options = default_options; cut = []; pending = []; failed = false }) }
+        ensures ok { IfOk result (λ w. w ≡ new_writing (label_of id initial_level created_at)) }
         ensures err { IfErr result (λ e. e ≡ OutOfMemory) }
     {
         let chunk = Vec::new(alloc.clone()?);
@@ -105,7 +95,7 @@ impl<A: Allocator + Clone> Writer<A> {
     /// Whether an entry of this key may be written next: its number is below `u64::MAX`, and it comes strictly after the last
     /// one by key and number.
     pub fn can_follow(&self, key: &InternalKey<A>) -> bool
-        ensures { result ≡ follows (written self.now) key.now.user_key key.now.seqno }
+        ensures { result ≡ may_be_written (written self.now) key.now.user_key key.now.seqno }
     {
         key.seqno < SeqNo::MAX
             && match last_written(&self.chunk, self.blocks.last()) {
@@ -140,7 +130,7 @@ impl<A: Allocator + Clone> Writer<A> {
     /// [`Error::ValueTooLong`], then [`Error::BlockTooLarge`] where the bound of the block that is being filled reaches 2^32;
     /// and [`Error::OutOfMemory`]. Whatever is refused, each later call is refused [`Error::WriterFailed`].
     pub fn write(&mut self, item: InternalValue<A>) -> Result<(), Error>
-        requires { IsTrue (follows (written self.old) item.user_key item.seqno) }
+        requires { IsTrue (may_be_written (written self.old) item.user_key item.seqno) }
         ensures ok { OnOk result (self.new ≡ gained self.old item) }
         ensures refused { Faults result (write_fault self.old item) }
         // What is wrong with the entry or the writer is found before any memory is taken.
@@ -199,7 +189,8 @@ impl<A: Allocator + Clone> Writer<A> {
     /// Refused [`Error::WriterFailed`] where a call was refused before, [`Error::BlockTooLarge`] where the bound of the index
     /// reaches 2^32, and [`Error::OutOfMemory`].
     pub fn finish(mut self) -> Result<Option<FinishedTable<A>>, Error>
-        ensures table { IfOk result (λ t. MatchOption t (written self ≡ []) (λ f. IsFinished self f.id f.checksum.0 f.bytes)) }
+        ensures table { IfOk result (λ t. MatchOption t (written self ≡ [])
+            (λ f. IsFinished self f.id f.checksum.0 f.bytes)) }
         ensures refused { Faults result (finish_fault self) }
         ensures first { FaultsFirst result (failed_fault self.failed) }
         // The list that was written is strict, and its entries fit the fields of a table.
@@ -260,7 +251,11 @@ impl<A: Allocator + Clone> Writer<A> {
     pub fn use_data_block_restart_interval(mut self, interval: u8) -> Writer<A>
         requires fresh { IsFresh self }
         requires some { 0 < interval }
-        ensures { result ≡ record self { options = record self.options { data_block_restart_interval = interval } } }
+        ensures { result ≡ record self {
+          options = record self.options {
+            data_block_restart_interval = interval;
+          };
+        } }
     {
         self.options.data_block_restart_interval = interval;
         self
@@ -269,7 +264,11 @@ impl<A: Allocator + Clone> Writer<A> {
     /// The same for the blocks of the index. Only tables written with 1 can be opened.
     pub fn use_index_block_restart_interval(mut self, interval: u8) -> Writer<A>
         requires { IsFresh self }
-        ensures { result ≡ record self { options = record self.options { index_block_restart_interval = interval } } }
+        ensures { result ≡ record self {
+          options = record self.options {
+            index_block_restart_interval = interval;
+          };
+        } }
     {
         self.options.index_block_restart_interval = interval;
         self
@@ -278,7 +277,11 @@ impl<A: Allocator + Clone> Writer<A> {
     /// How many buckets a data block's hash index has for each entry, in thousandths; 0 for none.
     pub fn use_data_block_hash_ratio(mut self, ratio: u32) -> Writer<A>
         requires { IsFresh self }
-        ensures { result ≡ record self { options = record self.options { data_block_hash_ratio = ratio } } }
+        ensures { result ≡ record self {
+          options = record self.options {
+            data_block_hash_ratio = ratio;
+          };
+        } }
     {
         self.options.data_block_hash_ratio = ratio;
         self
@@ -288,7 +291,11 @@ impl<A: Allocator + Clone> Writer<A> {
     pub fn use_data_block_size(mut self, size: u32) -> Writer<A>
         requires fresh { IsFresh self }
         requires small { size ≤ 4194304 }
-        ensures { result ≡ record self { options = record self.options { data_block_size = size } } }
+        ensures { result ≡ record self {
+          options = record self.options {
+            data_block_size = size;
+          };
+        } }
     {
         self.options.data_block_size = size;
         self
@@ -298,7 +305,11 @@ impl<A: Allocator + Clone> Writer<A> {
     pub fn use_meta_partition_size(mut self, size: u32) -> Writer<A>
         requires fresh { IsFresh self }
         requires small { size ≤ 4194304 }
-        ensures { result ≡ record self { options = record self.options { meta_partition_size = size } } }
+        ensures { result ≡ record self {
+          options = record self.options {
+            meta_partition_size = size;
+          };
+        } }
     {
         self.options.meta_partition_size = size;
         self
@@ -382,7 +393,8 @@ fn take_item<A: Allocator + Clone>(
     requires small { 28 + 17 * length chunk.old.items + chunk_size.old < 2 ^ 32 }
     ensures taken { OnOk result (chunk.new.items ≡ chunk.old.items ++ item ∷ []) }
     ensures sized { OnOk result (chunk_size.new ≡ chunk_size.old + entry_size item) }
-    ensures tally { IfOk result (λ t. t ≡ tally_of (last_of (option_copied cut.entry) chunk.old.items) item meta.now.first_key) }
+    ensures tally { IfOk result (λ t. t ≡
+        tally_of (last_of (option_copied cut.entry) chunk.old.items) item meta.now.first_key) }
     ensures left { OnErr result (chunk.new.items ≡ chunk.old.items) }
     ensures same_size { OnErr result (chunk_size.new ≡ chunk_size.old) }
     ensures refused { Faults result (item_fault chunk.old.items item) }
@@ -404,7 +416,8 @@ fn check_item<A: Allocator>(
 ) -> Result<(), Error>
     requires sized { chunk_size ≡ size_of chunk.now }
     requires small { 28 + 17 * length chunk.now + chunk_size < 2 ^ 32 }
-    ensures { MatchResult result (λ _. item_fault chunk.now item.now ≡ None) (λ e. item_fault chunk.now item.now ≡ Some e) }
+    ensures { MatchResult result (λ _. item_fault chunk.now item.now ≡ None)
+        (λ e. item_fault chunk.now item.now ≡ Some e) }
 {
     if item.key.user_key.len() > TableVersion::WRITTEN.longest_key() {
         return Err(Error::KeyTooLong);

@@ -10,7 +10,7 @@ use Rattle.sst_entries.specs.Error.{Faults}
 use Rattle.sst_entries.specs.Strict.{last_of, may_follow, IsStrictAfter}
 use Rattle.lsm_files.specs.Facts.{highest_seqno}
 use Rattle.lsm_files.specs.declared.label.Label.{Label}
-use Rattle.lsm_writers.specs.Writing.{follows, list_fault, IsWritable}
+use Rattle.lsm_writers.specs.Writing.{may_be_written, list_fault, IsWritable}
 use Rattle.lsm_tables.specs.Written.{number_fault, opening_fault}
 use Rattle.sst_entries.proofs.Booleans.{and_parts}
 use Rattle.sst_entries.proofs.Lists.{all_append}
@@ -30,7 +30,7 @@ true_is true h = refl
 true_is false h = absurd cc
 
 -- one more entry that follows
-pub pending_more : (es : List Entry) (e : Entry) → IsWritable es → IsTrue (follows es e.user_key e.seqno) → IsWritable (es ++ e ∷ [])
+pub pending_more : (es : List Entry) (e : Entry) → IsWritable es → IsTrue (may_be_written es e.user_key e.seqno) → IsWritable (es ++ e ∷ [])
 pending_more es e p f =
     let both = and_parts (nat_lt e.seqno (2 ^ 64 - 1)) (may_follow (last_of None es) (entry e.user_key [] e.seqno Value)) (true_is _ f) in
     record {

@@ -10,7 +10,7 @@ use Rattle.sst_entries.specs.Point.{point, within}
 use Rattle.lsm_files.specs.Table.{IsTable}
 use Rattle.lsm_readers.specs.Answer.{lift}
 use Rattle.lsm_readers.specs.Table.{OpenTable}
-use Rattle.sst.specs.Runs.{has_entry, has_number, newer_of, newest_point, repeats, shares_entry, tables_of, Run}
+use Rattle.sst.specs.Runs.{has_entry, has_number, newer_of, newest_point, repeats, shares_entry, run_tables, Run}
 use Rattle.sst.proofs.EntryLemmas.{has_entry_found, lift_zero, no_point}
 
 -- a list from a place on is what stands there, and the list behind it
@@ -23,7 +23,7 @@ pub record RunAt (rs : List Run) (i : ℕ) (t : OpenTable) : Type 0 where
   pub table_is : run.table ≡ t
   pub rest_is : drop i rs ≡ run ∷ drop (i + 1) rs
 
-pub run_at : (rs : List Run) (i : ℕ) (t : OpenTable) → i < length (tables_of rs) → t ≡ get_or (tables_of rs) i t → RunAt rs i t
+pub run_at : (rs : List Run) (i : ℕ) (t : OpenTable) → i < length (run_tables rs) → t ≡ get_or (run_tables rs) i t → RunAt rs i t
 run_at [] i t h is = absurd (omega (arith, h))
 run_at (r ∷ rs) zero t h is = record { run = r; table_is = sym is; rest_is = refl }
 run_at (r ∷ rs) (suc i) t h is =
@@ -103,7 +103,7 @@ newer_last : (x : Option Entry) → newer_of x None ≡ x
 newer_last None = refl
 newer_last (Some x) = refl
 
-module _ (rs : List Run) (ts : List OpenTable) (i : ℕ) (t : OpenTable) (same : tables_of rs ≡ ts) (h : i < length ts) (is : t ≡ get_or ts i t) where
+module _ (rs : List Run) (ts : List OpenTable) (i : ℕ) (t : OpenTable) (same : run_tables rs ≡ ts) (h : i < length ts) (is : t ≡ get_or ts i t) where
   at : RunAt rs i t
   at = run_at rs i t (subst (λ (us : List OpenTable). i < length us) (sym same) h) (subst (λ (us : List OpenTable). t ≡ get_or us i t) (sym same) is)
 
@@ -132,13 +132,13 @@ module _ (rs : List Run) (ts : List OpenTable) (i : ℕ) (t : OpenTable) (same :
       ∙ ap (λ (xs : List Run). repeats xs es) at.rest_is
       ∙ ap (λ (x : Bool). x || repeats (drop (i + 1) rs) es) here
 
-same_length : (rs : List Run) → length (tables_of rs) ≡ length rs
+same_length : (rs : List Run) → length (run_tables rs) ≡ length rs
 same_length [] = refl
 same_length (r ∷ rs) = ap suc (same_length rs)
 
 -- no run is left
-pub all_past : (rs : List Run) (ts : List OpenTable) (i : ℕ) → tables_of rs ≡ ts → length ts ≤ i → drop i rs ≡ []
+pub all_past : (rs : List Run) (ts : List OpenTable) (i : ℕ) → run_tables rs ≡ ts → length ts ≤ i → drop i rs ≡ []
 all_past rs ts i same h = drop_all i rs (omega (arith, h, ap length same, same_length rs))
 
-pub none_left : (rs : List Run) (ts : List OpenTable) (i : ℕ) (key : List ℕ) (bound : ℕ) (newest : Option Entry) → newest_point rs key bound ≡ newer_of newest (newest_point (drop i rs) key bound) → tables_of rs ≡ ts → length ts ≤ i → newest_point rs key bound ≡ newest
+pub none_left : (rs : List Run) (ts : List OpenTable) (i : ℕ) (key : List ℕ) (bound : ℕ) (newest : Option Entry) → newest_point rs key bound ≡ newer_of newest (newest_point (drop i rs) key bound) → run_tables rs ≡ ts → length ts ≤ i → newest_point rs key bound ≡ newest
 none_left rs ts i key bound newest so_far same h = so_far ∙ ap (λ (xs : List Run). newer_of newest (newest_point xs key bound)) (all_past rs ts i same h) ∙ newer_last newest

@@ -16,13 +16,13 @@ use Rattle.sst_entries.specs.Error.{number_of}
 use Rattle.sst.specs.Command.{words_of, AskFor}
 use Rattle.sst.specs.Script.{Store, store, Executes}
 use Rattle.sst.specs.Lines.{lines_of, LosesLine, HasLines}
-use Rattle.sst.specs.Answering.{outcome_text, PrintEnds, Answers, AnswersAll, Prints, LineEnds, ScriptEnds}
+use Rattle.sst.specs.Answering.{outcome_text, PrintEnds, AnswersLine, AnswersAll, Prints, LineEnds, ScriptEnds}
 
 -- one more line
 pub answered_more : (A : Type 0) (front : List (List ℕ)) (line : List ℕ) (old between new : Store) (text more : List ℕ)
-    → AnswersAll A front old text between → Answers A line between more new → AnswersAll A (front ++ line ∷ []) old (text ++ more) new
+    → AnswersAll A front old text between → AnswersLine A line between more new → AnswersAll A (front ++ line ∷ []) old (text ++ more) new
 answered_more A [] line old between new text more all last =
-    (new, more, [], subst (λ (b : Store). Answers A line b more new) all.1 last, (refl, refl), ap (λ (t : List ℕ). t ++ more) all.0 ∙ sym (append-nil more))
+    (new, more, [], subst (λ (b : Store). AnswersLine A line b more new) all.1 last, (refl, refl), ap (λ (t : List ℕ). t ++ more) all.0 ∙ sym (append-nil more))
 answered_more A (first ∷ rest) line old between new text more all last =
     (all.0, all.1, all.2 ++ more, all.3, answered_more A rest line all.0 between new all.2 more all.4 last, ap (λ (t : List ℕ). t ++ more) all.5 ∙ append_assoc all.1 all.2 more)
 
@@ -202,7 +202,7 @@ pub ends_empty : {X : Type 0} (A : Type 0) (number : ℕ) (line : List ℕ) (old
 ends_empty A number [] old before x h = ([], (refl, refl), Appends-nil before)
 ends_empty A number (b ∷ bs) old before x h = absurd (omega arith)
 
-answers_some : (A : Type 0) (line : List ℕ) (old new : Store) (text : List ℕ) → 0 < length line → Prints A line old text new → Answers A line old text new
+answers_some : (A : Type 0) (line : List ℕ) (old new : Store) (text : List ℕ) → 0 < length line → Prints A line old text new → AnswersLine A line old text new
 answers_some A [] old new text h p = absurd (omega arith)
 answers_some A (b ∷ bs) old new text h p = p
 

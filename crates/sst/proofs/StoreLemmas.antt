@@ -16,7 +16,7 @@ use Rattle.sst.specs.declared.command.Command.TheVariants.{Table}
 use Rattle.sst.specs.declared.print.Answer.TheVariants.{Tables}
 use Rattle.sst.specs.declared.stop.Failure.{Failure}
 use Rattle.sst.specs.declared.stop.Failure.TheVariants.{BadLine, Refused}
-use Rattle.sst.specs.Runs.{repeats, tables_of, HasRuns, Run}
+use Rattle.sst.specs.Runs.{repeats, run_tables, HasRuns, Run}
 use Rattle.sst.specs.Script.{id_after, store, table_fault, Executes, GivesUp, Writes, WritesTable}
 use Rattle.sst.proofs.RunLemmas.{memory_of}
 
@@ -60,7 +60,7 @@ answered_no rs es given b told fresh same =
     subst (λ (xs : List Entry). repeats rs xs ≡ false) same (is ∙ fresh)
 
 -- a table was written
-pub wrote : (rs : List Run) (ts new : List OpenTable) (es : List Entry) (next following : Option ℕ) (id : ℕ) (t : OpenTable) → tables_of rs ≡ ts → new ≡ t ∷ ts
+pub wrote : (rs : List Run) (ts new : List OpenTable) (es : List Entry) (next following : Option ℕ) (id : ℕ) (t : OpenTable) → run_tables rs ≡ ts → new ≡ t ∷ ts
     → repeats rs es ≡ false → next ≡ Some id → following ≡ id_after id → list_fault (label_of id 0 0) es ≡ None → IsOpened (label_of id 0 0) es 0 t
     → HasRuns new (λ after. Writes (store es rs next) 1 (store [] after following))
 wrote rs ts new es next following id t same new_is fresh drawn then written opened =

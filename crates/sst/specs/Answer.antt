@@ -5,11 +5,11 @@ use Rattle.std.specs.List.{join_with_byte}
 use Rattle.sst_entries.specs.Entry.{Entry}
 use Rattle.sst.specs.declared.print.Answer.{Answer}
 use Rattle.sst.specs.declared.print.Answer.TheVariants.{Silent, Tables, Found}
-use Rattle.sst.specs.Text.{letter_of, shown}
+use Rattle.sst.specs.Text.{letter_of, printed}
 
 -- an entry's line: its key, number, kind and value
 abbrev pub entry_line : Entry → List ℕ
-entry_line e = join_with_byte 32 (shown e.user_key ∷ decimal e.seqno ∷ (letter_of e.kind ∷ []) ∷ shown e.value ∷ []) ++ 10 ∷ []
+entry_line e = join_with_byte 32 (printed e.user_key ∷ decimal e.seqno ∷ (letter_of e.kind ∷ []) ∷ printed e.value ∷ []) ++ 10 ∷ []
 
 -- the line of an answer, if it has one
 abbrev pub answer_line : {A : Type 0} → Answer A → List ℕ

@@ -37,13 +37,13 @@ abbrev pub IsAtFault : (A : Type 0) → List ℕ → Store → Type 0
 IsAtFault A line old = ((command : Command) → ¬ AskFor (words_of line) command) ⊎ ((new : Store) × Does A line old (Err BadLine) new)
 
 -- a line is answered by a text: an empty line by none, and changes nothing
-abbrev pub Answers : (A : Type 0) → List ℕ → Store → List ℕ → Store → Type 0
-Answers A [] old text new = (text ≡ []) × (new ≡ old)
-Answers A (b ∷ bs) old text new = Prints A (b ∷ bs) old text new
+abbrev pub AnswersLine : (A : Type 0) → List ℕ → Store → List ℕ → Store → Type 0
+AnswersLine A [] old text new = (text ≡ []) × (new ≡ old)
+AnswersLine A (b ∷ bs) old text new = Prints A (b ∷ bs) old text new
 
 -- a line with a number was answered, or ended the script
 abbrev pub LineEnds : {X : Type 0} → (A : Type 0) → ℕ → List ℕ → Store → Store → Option (List ℕ) → Option (List ℕ) → Result X Stop → Type 0
-LineEnds A number line old new before after (Ok x) = (text : List ℕ) × Answers A line old text new × Appends before after text
+LineEnds A number line old new before after (Ok x) = (text : List ℕ) × AnswersLine A line old text new × Appends before after text
 LineEnds A number line old new before after (Err (Line n)) = (n ≡ number) × (0 < length line) × IsAtFault A line old × (after ≡ before)
 LineEnds A number line old new before after (Err Input) = ⊥
 LineEnds A number line old new before after (Err Output) = (text : List ℕ) × Prints A line old text new
@@ -53,7 +53,7 @@ abbrev pub AnswersAll : (A : Type 0) → List (List ℕ) → Store → List ℕ 
 AnswersAll A [] old text new = (text ≡ []) × (new ≡ old)
 AnswersAll A (line ∷ lines) old text new =
     (between : Store) × (first : List ℕ) × (rest : List ℕ)
-    × Answers A line old first between × AnswersAll A lines between rest new × (text ≡ first ++ rest)
+    × AnswersLine A line old first between × AnswersAll A lines between rest new × (text ≡ first ++ rest)
 
 -- the first lines of an input were answered by a text, from the start on; others follow
 pub record HasAnswered (A : Type 0) (input : Option (List ℕ)) (front rest : List (List ℕ)) (text : List ℕ) (now : Store) : Type 0 where

@@ -15,16 +15,16 @@ pub record Run : Type 0 where
   pub table : OpenTable
   pub opened : IsOpened (label_of id 0 0) list 0 table
 
-abbrev pub tables_of : List Run → List OpenTable
-tables_of runs = map (λ r. r.table) runs
+abbrev pub run_tables : List Run → List OpenTable
+run_tables runs = map (λ r. r.table) runs
 
 -- whatever runs some tables are of
 abbrev pub ForRuns : List OpenTable → (List Run → Type 0) → Type 0
-ForRuns tables P = (runs : List Run) → tables_of runs ≡ tables → P runs
+ForRuns tables P = (runs : List Run) → run_tables runs ≡ tables → P runs
 
 -- some tables are those of runs
 abbrev pub HasRuns : List OpenTable → (List Run → Type 0) → Type 0
-HasRuns tables P = (runs : List Run) × (tables_of runs ≡ tables) × P runs
+HasRuns tables P = (runs : List Run) × (run_tables runs ≡ tables) × P runs
 
 -- of two entries that may be there, the one with the greater number, or the first
 abbrev pub newer_of : Option Entry → Option Entry → Option Entry

@@ -5,7 +5,7 @@ use Rattle.sst_entries.specs.declared.error.Error.{Error}
 use Rattle.sst_entries.specs.declared.error.Error.TheVariants.{OutOfMemory, TableIdsSpent}
 use Rattle.sst_entries.specs.Entry.{Entry, entry}
 use Rattle.lsm_files.specs.Options.{label_of}
-use Rattle.lsm_writers.specs.Writing.{follows, list_fault}
+use Rattle.lsm_writers.specs.Writing.{may_be_written, list_fault}
 use Rattle.sst.specs.declared.command.Command.{Command}
 use Rattle.sst.specs.declared.command.Command.TheVariants.{Entry as Add, Table, Get}
 use Rattle.sst.specs.declared.print.Answer.{Answer}
@@ -28,15 +28,15 @@ abbrev pub id_after : ℕ → Option ℕ
 id_after id = if nat_lt (id + 1) (2 ^ 64) then Some (id + 1) else None
 
 -- what writing a list as the next table refuses: that no id is left, or the list's first fault
-abbrev pub writing_fault : Option ℕ → List Entry → Option Error
-writing_fault None es = Some TableIdsSpent
-writing_fault (Some id) es = list_fault (label_of id 0 0) es
+abbrev pub run_fault : Option ℕ → List Entry → Option Error
+run_fault None es = Some TableIdsSpent
+run_fault (Some id) es = list_fault (label_of id 0 0) es
 
 -- why pending entries become no run: a run holds one of them; or, where none does, writing them is refused
 abbrev pub table_fault : Store → Option Failure
 table_fault s =
     if repeats s.runs s.pending then Some BadLine
-    else option_map Refused (writing_fault s.next_id s.pending)
+    else option_map Refused (run_fault s.next_id s.pending)
 
 -- the pending entries became a run before the others, whose id was used up; or there were none
 abbrev pub AddsRun : Store → ℕ → Store → Type 0
@@ -61,12 +61,12 @@ WritesTable old r new = MatchResult r (λ count. Writes old count new) (λ e. Gi
 
 -- why an entry is not added: it may not follow the pending ones, or memory is refused
 abbrev pub entry_failure : List Entry → List ℕ → ℕ → Failure
-entry_failure es key seqno = if follows es key seqno then Refused OutOfMemory else BadLine
+entry_failure es key seqno = if may_be_written es key seqno then Refused OutOfMemory else BadLine
 
 -- a command's answer, and what it leaves
 abbrev pub Executes : {A : Type 0} → Command → Store → Result (Answer A) Failure → Store → Type 0
 Executes (Add key seqno kind value) old r new = MatchResult r
-    (λ a. (a ≡ Silent) × IsTrue (follows old.pending key.now seqno)
+    (λ a. (a ≡ Silent) × IsTrue (may_be_written old.pending key.now seqno)
     × (new ≡ record old { pending = old.pending ++ entry key.now value.now seqno kind ∷ [] }))
     (λ e. (e ≡ entry_failure old.pending key.now seqno) × (new ≡ old))
 Executes Table old r new = MatchResult r

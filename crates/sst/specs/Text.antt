@@ -12,9 +12,9 @@ letter_of WeakTombstone = 87
 letter_of Indirection = 73
 
 -- bytes as they are printed: - for none
-abbrev pub shown : List ℕ → List ℕ
-shown [] = 45 ∷ []
-shown (b ∷ bs) = b ∷ bs
+abbrev pub printed : List ℕ → List ℕ
+printed [] = 45 ∷ []
+printed (b ∷ bs) = b ∷ bs
 
 -- decimal digits of a number that fits 64 bits, the first no zero but in the number 0
 pub record IsNumber (word : List ℕ) : Type 0 where

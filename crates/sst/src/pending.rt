@@ -3,7 +3,7 @@ ghost use Rattle.std.specs.Prelude.{◌≡◌, [], ◌∷◌, ◌++◌, IsTrue, 
 ghost use Rattle.sst_entries.specs.Entry.{entry};
 ghost use Rattle.sst_entries.specs.Error.{Faults};
 ghost use Rattle.lsm_files.specs.Options.{label_of};
-ghost use Rattle.lsm_writers.specs.Writing.{follows, list_fault, IsWritable};
+ghost use Rattle.lsm_writers.specs.Writing.{may_be_written, list_fault, IsWritable};
 ghost use Rattle.lsm_tables.specs.Written.{IsOpened};
 ghost use Rattle.sst.specs.Script.{entry_failure};
 
@@ -51,7 +51,7 @@ impl<A: Allocator + Clone> Pending<A> {
 
     /// Whether an entry of this key and number may come next.
     fn can_follow(&self, key: &[u8], seqno: SeqNo) -> bool
-        ensures { result ≡ follows self.now key.now seqno }
+        ensures { result ≡ may_be_written self.now key.now seqno }
     {
         seqno < SeqNo::MAX
             && match self.items.last() {
@@ -76,7 +76,7 @@ impl<A: Allocator + Clone> Pending<A> {
         value: &[u8],
     ) -> Result<(), Failure>
         ensures ok { OnOk result (self.new ≡ self.old ++ entry key.now value.now seqno kind ∷ []) }
-        ensures order { OnOk result (IsTrue (follows self.old key.now seqno)) }
+        ensures order { OnOk result (IsTrue (may_be_written self.old key.now seqno)) }
         ensures refused { IfErr result (λ e. e ≡ entry_failure self.old key.now seqno) }
         ensures err { OnErr result (self.new ≡ self.old) }
     {

@@ -2,7 +2,7 @@
 ghost use Rattle.std.specs.Prelude.{◌≡◌, OnOk};
 ghost use Rattle.std.specs.Io.KnownBytes.{Appends};
 ghost use Rattle.sst.specs.Answer.{answer_line, entry_line, refusal_line};
-ghost use Rattle.sst.specs.Text.{letter_of, shown};
+ghost use Rattle.sst.specs.Text.{letter_of, printed};
 
 use sst_blocks::{InternalValue, ValueType};
 use std::alloc::Allocator;
@@ -43,16 +43,16 @@ fn print_entry<W: Write, A: Allocator>(output: &mut W, item: &InternalValue<A>) 
     ensures { OnOk result (Appends (W.contents output.old) (W.contents output.new) (entry_line item.now)) }
 {
     let seqno = item.key.seqno;
-    output.write_all(shown(item.key.user_key.as_slice()))?;
+    output.write_all(printed(item.key.user_key.as_slice()))?;
     write!(output, " {seqno} ")?;
     output.write_all(&[letter_of(item.key.value_type), b' '])?;
-    output.write_all(shown(item.value.as_slice()))?;
+    output.write_all(printed(item.value.as_slice()))?;
     output.write_all(b"\n")
 }
 
 // Bytes as they are printed: `-` for none.
-fn shown(bytes: &[u8]) -> &[u8]
-    ensures { result.now ≡ shown bytes.now }
+fn printed(bytes: &[u8]) -> &[u8]
+    ensures { result.now ≡ printed bytes.now }
 {
     if bytes.is_empty() { b"-" } else { bytes }
 }

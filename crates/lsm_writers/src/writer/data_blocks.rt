@@ -1,18 +1,13 @@
 //! The data blocks of a table, with the index that they are registered with.
 ghost use Rattle.std.specs.Prelude.{◌≡◌, ◌+◌, ◌*◌, ◌++◌, ◌^◌, ◌<◌, [], ◌∷◌, None, Some, false, length, IfOk, IfErr, OnOk, OnErr};
+ghost use Rattle.lsm_writers.specs.Words.{BlockFits, CountsCut, Cut, IsReadable, IsStrict, data_block, data_section};
+ghost use Rattle.lsm_writers.specs.Words.{entries_fault, handle_of, handles, joined, laid, last_of, payload};
+ghost use Rattle.lsm_writers.specs.Words.{rest_chunk, with_cut};
 ghost use Rattle.std.specs.Option.{option_copied};
 ghost use Rattle.sst_entries.specs.declared.error.Error.TheVariants.{OutOfMemory};
 ghost use Rattle.sst_sections.specs.declared.section.SectionName.TheVariants.{Data};
 ghost use Rattle.sst_sections.specs.declared.version.TableVersion.TheVariants.{V4};
-ghost use Rattle.sst_blocks.specs.Encoding.{entries_fault};
-ghost use Rattle.sst_entries.specs.Strict.{IsStrict, last_of};
-ghost use Rattle.lsm_files.specs.Chunks.{joined};
-ghost use Rattle.lsm_writers.specs.Cut.{Cut, CountsCut, IsReadable, with_cut, rest_of};
-ghost use Rattle.lsm_files.specs.Fits.{BlockFits};
 ghost use Rattle.std.specs.List.{AllByRecursion};
-ghost use Rattle.lsm_files.specs.Index.{handles, handle_of, data_block, data_section};
-ghost use Rattle.sst_blocks.specs.Payload.{payload};
-ghost use Rattle.lsm_files.specs.Layout.{laid};
 
 use crate::writer::index::{BlockIndexWriter, FullIndexWriter};
 use crate::writer::meta::Metadata;
@@ -86,7 +81,7 @@ impl<A: Allocator + Clone> DataBlocks<A> {
         requires strict { IsStrict (joined self.old.chunks ++ chunk.old.items) }
         requires fit { entries_fault chunk.old.items ≡ None }
         requires counts { CountsCut self.old.chunks meta.old }
-        ensures ok { OnOk result (self.new.chunks ≡ self.old.chunks ++ rest_of chunk.old.items) }
+        ensures ok { OnOk result (self.new.chunks ≡ self.old.chunks ++ rest_chunk chunk.old.items) }
         ensures works { OnOk result (self.new.failed ≡ false) }
         ensures taken { OnOk result (chunk.new.items ≡ []) }
         ensures counted { OnOk result (meta.new ≡ with_cut self.new.chunks meta.old) }
@@ -143,7 +138,9 @@ fn write_chunk<A: Allocator + Clone>(
     requires last { last_of None items.now ≡ Some last.now }
     requires strict { IsStrict items.now }
     requires fit { entries_fault items.now ≡ None }
-    ensures ok { OnOk result (file_writer.new ≡ record file_writer.old { bytes = file_writer.old.bytes ++ data_block V4 items.now }) }
+    ensures ok { OnOk result (file_writer.new ≡ record file_writer.old {
+      bytes = file_writer.old.bytes ++ data_block V4 items.now;
+    }) }
     ensures encoded { OnOk result (buffer.new.items ≡ payload V4 items.now) }
     ensures handle { IfOk result (λ h. h ≡ handle_of V4 (length file_writer.old.bytes) items.now) }
     ensures readable { OnOk result (IsReadable V4 items.now) }

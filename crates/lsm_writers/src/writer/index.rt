@@ -48,7 +48,8 @@ pub trait BlockIndexWriter<A: Allocator> {
     /// where a block or a section is too large, and [`Error::OutOfMemory`]; the bytes that were written before stay.
     fn finish(self, writer: &mut SectionWriter<A>) -> Result<usize, Error>
         requires { HasNoIndex writer.old }
-        ensures ok { OnOk result (writer.new ≡ appended writer.old (index_sections self (length writer.old.bytes))) }
+        ensures ok { OnOk result (writer.new ≡
+            appended writer.old (index_sections self (length writer.old.bytes))) }
         ensures count { IfOk result (λ n. n ≡ block_count self) }
         ensures before { take (length writer.old.bytes) writer.new.bytes ≡ writer.old.bytes }
         ensures refused { Faults result (finish_fault self) }

@@ -124,7 +124,8 @@ impl<A: Allocator> Metadata<A> {
         before: Option<&InternalValue<A>>,
         item: &InternalValue<A>,
     ) -> Result<Tally<A>, Error>
-        ensures ok { IfOk result (λ t. t ≡ tally_of (option_copied before.entry) item.now self.now.first_key) }
+        ensures ok { IfOk result (λ t. t ≡
+            tally_of (option_copied before.entry) item.now self.now.first_key) }
         ensures err { IfErr result (λ e. e ≡ OutOfMemory) }
     {
         let first_key = match &self.first_key {
@@ -173,8 +174,15 @@ impl<A: Allocator> Metadata<A> {
         end: BlockOffset,
         last_key: UserKey<A>,
     )
-        requires { (self.old.data_block_count + 1 < 2 ^ 64) × (self.old.item_count + items < 2 ^ 64) × (self.old.uncompressed_size + size < 2 ^ 64) }
-        ensures { self.new ≡ record self.old { data_block_count = self.old.data_block_count + 1; item_count = self.old.item_count + items; file_pos = end; uncompressed_size = self.old.uncompressed_size + size; last_key = Some last_key } }
+        requires { (self.old.data_block_count + 1 < 2 ^ 64) × (self.old.item_count + items < 2 ^ 64)
+            × (self.old.uncompressed_size + size < 2 ^ 64) }
+        ensures { self.new ≡ record self.old {
+          data_block_count = self.old.data_block_count + 1;
+          item_count = self.old.item_count + items;
+          file_pos = end;
+          uncompressed_size = self.old.uncompressed_size + size;
+          last_key = Some last_key;
+        } }
     {
         self.data_block_count += 1;
         self.item_count += items;

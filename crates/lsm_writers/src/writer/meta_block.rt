@@ -36,7 +36,8 @@ pub(crate) fn write_meta<A: Allocator + Clone>(
     requires fresh { HasNoMeta file_writer.old }
     requires short { HasShortKeys meta.now }
     ensures ok { OnOk result (file_writer.new ≡ appended file_writer.old
-        (meta_section V4 (counted_items label.now options.now (record { index = counts.index; filter = counts.filter }) meta.now))) }
+        (meta_section V4 (counted_items label.now options.now
+        (record { index = counts.index; filter = counts.filter }) meta.now))) }
     ensures err { IfErr result (λ e. e ≡ OutOfMemory) }
 {
     let items = meta_items(buffer.allocator(), label, options, counts, meta)?;
@@ -52,7 +53,8 @@ fn write_items<A: Allocator + Clone>(
     requires fresh { HasNoMeta file_writer.old }
     requires strict { IsStrict items.now }
     requires fit { entries_fault items.now ≡ None }
-    ensures ok { OnOk result (file_writer.new ≡ appended file_writer.old (meta_section V4 items.now)) }
+    ensures ok { OnOk result (file_writer.new ≡
+        appended file_writer.old (meta_section V4 items.now)) }
     ensures err { IfErr result (λ e. e ≡ OutOfMemory) }
 {
     file_writer.start(SectionName::Meta)?;
@@ -72,7 +74,8 @@ fn meta_items<A: Allocator + Clone>(
     meta: &Metadata<A>,
 ) -> Result<Vec<InternalValue<A>, A>, Error>
     ensures ok { IfOk result
-        (λ items. items.items ≡ counted_items label.now options.now (record { index = counts.index; filter = counts.filter }) meta.now) }
+        (λ items. items.items ≡ counted_items label.now options.now
+        (record { index = counts.index; filter = counts.filter }) meta.now) }
     ensures err { IfErr result (λ e. e ≡ OutOfMemory) }
 {
     let mut items = Vec::new(alloc.clone()?);
@@ -91,7 +94,9 @@ fn put_block_items<A: Allocator + Clone>(
     counts: BlockCounts,
     meta: &Metadata<A>,
 ) -> Result<(), Error>
-    ensures ok { OnOk result (items.new.items ≡ items.old.items ++ block_items label.now options.now (record { index = counts.index; filter = counts.filter }) meta.now.data_block_count meta.now.file_pos.0) }
+    ensures ok { OnOk result (items.new.items ≡ items.old.items ++
+        block_items label.now options.now (record { index = counts.index; filter = counts.filter })
+        meta.now.data_block_count meta.now.file_pos.0) }
     ensures err { IfErr result (λ e. e ≡ OutOfMemory) }
 {
     put_all(
@@ -129,7 +134,8 @@ fn put_key_items<A: Allocator + Clone>(
     label: &Label,
     meta: &Metadata<A>,
 ) -> Result<(), Error>
-    ensures ok { OnOk result (items.new.items ≡ items.old.items ++ key_items label.now (counted_facts meta.now)) }
+    ensures ok { OnOk result (items.new.items ≡ items.old.items ++
+        key_items label.now (counted_facts meta.now)) }
     ensures err { IfErr result (λ e. e ≡ OutOfMemory) }
 {
     put_all(
@@ -157,7 +163,8 @@ fn put_option_items<A: Allocator + Clone>(
     options: &Options,
     meta: &Metadata<A>,
 ) -> Result<(), Error>
-    ensures ok { OnOk result (items.new.items ≡ items.old.items ++ option_items V4 label.now options.now (counted_facts meta.now)) }
+    ensures ok { OnOk result (items.new.items ≡ items.old.items ++
+        option_items V4 label.now options.now (counted_facts meta.now)) }
     ensures err { IfErr result (λ e. e ≡ OutOfMemory) }
 {
     put_all(
@@ -186,7 +193,8 @@ fn put_count_items<A: Allocator + Clone>(
     items: &mut Vec<InternalValue<A>, A>,
     meta: &Metadata<A>,
 ) -> Result<(), Error>
-    ensures ok { OnOk result (items.new.items ≡ items.old.items ++ count_items (counted_facts meta.now) meta.now.uncompressed_size) }
+    ensures ok { OnOk result (items.new.items ≡ items.old.items ++
+        count_items (counted_facts meta.now) meta.now.uncompressed_size) }
     ensures err { IfErr result (λ e. e ≡ OutOfMemory) }
 {
     put_all(
@@ -217,7 +225,8 @@ fn put_all<A: Allocator + Clone>(
     items: &mut Vec<InternalValue<A>, A>,
     named: &[(ItemName, &[u8])],
 ) -> Result<(), Error>
-    ensures ok { OnOk result (items.new.items ≡ items.old.items ++ map (λ x. meta_entry x.0 x.1.now) named.now) }
+    ensures ok { OnOk result (items.new.items ≡ items.old.items ++
+        map (λ x. meta_entry x.0 x.1.now) named.now) }
     ensures err { IfErr result (λ e. e ≡ OutOfMemory) }
 {
     for (name, value) in named {

@@ -5,7 +5,7 @@ use Rattle.std.specs.Option.{option_or}
 use Rattle.sst_entries.specs.declared.error.Error.{Error}
 use Rattle.sst_entries.specs.Entry.{Entry}
 use Rattle.lsm_files.specs.Options.{label_of}
-use Rattle.lsm_writers.specs.Writing.{IsWritable, Writing, new_writing, spills_of, written, write_fault, writing_fault, follows, gained, list_fault}
+use Rattle.lsm_writers.specs.Writing.{IsWritable, Writing, new_writing, spills_of, written, write_fault, writing_fault, may_be_written, gained, list_fault}
 use Rattle.sst_entries.specs.Error.{is_memory, Faults}
 use Rattle.lsm_writers.proofs.ListWriting.{faults_refusal, listed_follows, no_spills, written_gained, same_label, same_spills, table_by}
 use Rattle.lsm_writers.proofs.list.write_list.Goals as goal
@@ -31,7 +31,7 @@ write-requires g c =
     let rest = c.next.new.self.rest.items in
     let first : c.loop-item.item-iterator.rest.items ≡ e ∷ rest = c.in-Some.ensures.steps.0 in
     let whole : IsWritable (before ++ e ∷ rest) = subst IsWritable (c.loop-item.invariant.whole ∙ ap (λ (x : List Entry). before ++ x) first) c.requires in
-    subst (λ (x : List Entry). IsTrue (follows x e.user_key e.seqno)) (sym c.loop-item.invariant.listed) (listed_follows before e rest whole)
+    subst (λ (x : List Entry). IsTrue (may_be_written x e.user_key e.seqno)) (sym c.loop-item.invariant.listed) (listed_follows before e rest whole)
 
 pub loop-item-preserved : goal.loop-item-preserved
 loop-item-preserved g c =

@@ -1,6 +1,6 @@
 use Rattle.std.proofs.Common.{◌≡◌, ◌∙◌, refl, sym, ap, subst, ◌<◌, arith, rules, IsTrue}
 use Rattle.std.specs.Option.{option_copied}
-use Rattle.lsm_writers.specs.Writing.{Writing, written, follows}
+use Rattle.lsm_writers.specs.Writing.{Writing, written, may_be_written}
 use Rattle.lsm_writers.specs.Counts.{added}
 use Rattle.lsm_writers.proofs.Taking.{taken_counted, held_fits, cut_held, has_room, room_still, not_full, given_up}
 use Rattle.lsm_writers.proofs.writer.Writer.write.Goals as goal
@@ -10,7 +10,7 @@ pub cut-requires-clause-strict : goal.cut-requires-clause-strict
 cut-requires-clause-strict g c =
     let i = c.self.inside in
     let t = c.in_ok-tally.ensures in
-    let next = subst (λ (w : Writing). IsTrue (follows (written w) c.args.item.user_key c.args.item.seqno)) (sym c.self.view_is) c.requires in
+    let next = subst (λ (w : Writing). IsTrue (may_be_written (written w) c.args.item.user_key c.args.item.seqno)) (sym c.self.view_is) c.requires in
     let held = taken_counted i.options.data_block_size i.blocks.chunks i.chunk.items i.chunk_size i.meta c.args.item (option_copied c.last.result) _ _ c.in_ok-tally.tally (added c.in_ok-tally.tally i.meta) c.self.invariant.0 (c.self.invariant.1.room c.if-self.false) next t.refused c.last.ensures.last t.taken t.sized t.tally refl in
     held.strict
 
@@ -18,7 +18,7 @@ pub cut-requires-clause-fit : goal.cut-requires-clause-fit
 cut-requires-clause-fit g c =
     let i = c.self.inside in
     let t = c.in_ok-tally.ensures in
-    let next = subst (λ (w : Writing). IsTrue (follows (written w) c.args.item.user_key c.args.item.seqno)) (sym c.self.view_is) c.requires in
+    let next = subst (λ (w : Writing). IsTrue (may_be_written (written w) c.args.item.user_key c.args.item.seqno)) (sym c.self.view_is) c.requires in
     let held = taken_counted i.options.data_block_size i.blocks.chunks i.chunk.items i.chunk_size i.meta c.args.item (option_copied c.last.result) _ _ c.in_ok-tally.tally (added c.in_ok-tally.tally i.meta) c.self.invariant.0 (c.self.invariant.1.room c.if-self.false) next t.refused c.last.ensures.last t.taken t.sized t.tally refl in
     held_fits _ _ _ _ _ held
 
@@ -44,7 +44,7 @@ invariant_of-self-2 g c =
     let i = c.self.inside in
     let size = i.options.data_block_size in
     let t = c.in_ok-tally.ensures in
-    let next = subst (λ (w : Writing). IsTrue (follows (written w) c.args.item.user_key c.args.item.seqno)) (sym c.self.view_is) c.requires in
+    let next = subst (λ (w : Writing). IsTrue (may_be_written (written w) c.args.item.user_key c.args.item.seqno)) (sym c.self.view_is) c.requires in
     let held = taken_counted size i.blocks.chunks i.chunk.items i.chunk_size i.meta c.args.item (option_copied c.last.result) _ _ c.in_ok-tally.tally (added c.in_ok-tally.tally i.meta) c.self.invariant.0 (c.self.invariant.1.room c.if-self.false) next t.refused c.last.ensures.last t.taken t.sized t.tally refl in
     elim c.if-self-options.branch [
       | then-self-options+in_default w ↦

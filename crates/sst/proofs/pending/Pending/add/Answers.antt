@@ -4,7 +4,7 @@ use Rattle.sst_entries.specs.declared.error.Error.{Error}
 use Rattle.sst_entries.specs.declared.error.Error.TheVariants.{OutOfMemory}
 use Rattle.sst_entries.specs.declared.value_type.ValueType.{ValueType}
 use Rattle.sst_entries.specs.Entry.{Entry, entry}
-use Rattle.lsm_writers.specs.Writing.{follows}
+use Rattle.lsm_writers.specs.Writing.{may_be_written}
 use Rattle.sst.specs.declared.stop.Failure.{Failure}
 use Rattle.sst.specs.declared.stop.Failure.TheVariants.{BadLine, Refused}
 use Rattle.sst.proofs.PendingLemmas.{pending_more}
@@ -20,13 +20,13 @@ memory_only follow e p q = rw (p, q)
 
 -- why an entry is not added
 abbrev Refuses : List Entry → List ℕ → ℕ → Failure → Type 0
-Refuses es key n failure = failure ≡ (if follows es key n then Refused OutOfMemory else BadLine)
+Refuses es key n failure = failure ≡ (if may_be_written es key n then Refused OutOfMemory else BadLine)
 
 pub invariant_of-self-2 : goal.invariant_of-self-2
 invariant_of-self-2 g c =
     let e = c.from_components.result in
     let added : c.push.new.self.items ≡ c.self.inside.items.items ++ e ∷ [] = c.in_ok-push.ensures.items in
-    let may : IsTrue (follows c.args.self.now c.args.key.now c.args.seqno) = sym c.can_follow.ensures ∙ c.if-not-can_follow.false in
+    let may : IsTrue (may_be_written c.args.self.now c.args.key.now c.args.seqno) = sym c.can_follow.ensures ∙ c.if-not-can_follow.false in
     let key : e.user_key ≡ c.args.key.now = ap (λ (x : Entry). x.user_key) c.from_components.ensures ∙ c.in_ok-key.ensures.ok in
     let seqno : e.seqno ≡ c.args.seqno = ap (λ (x : Entry). x.seqno) c.from_components.ensures in
     rw added (pending_more c.self.inside.items.items e c.self.invariant (rw (key, seqno, c.self.view_is) may))
@@ -34,29 +34,29 @@ invariant_of-self-2 g c =
 pub returns-in_err-clone-clause-refused : goal.returns-in_err-clone-clause-refused
 returns-in_err-clone-clause-refused g c =
     let es = c.args.self.now in
-    passes c.from_residual.result (Refused OutOfMemory) (Refuses es c.args.key.now c.args.seqno) c.from_residual.ensures.1 (memory_only (follows es c.args.key.now c.args.seqno) OutOfMemory (sym c.can_follow.ensures ∙ c.if-not-can_follow.false) refl)
+    passes c.from_residual.result (Refused OutOfMemory) (Refuses es c.args.key.now c.args.seqno) c.from_residual.ensures.1 (memory_only (may_be_written es c.args.key.now c.args.seqno) OutOfMemory (sym c.can_follow.ensures ∙ c.if-not-can_follow.false) refl)
 
 pub returns-in_err-key-clause-refused : goal.returns-in_err-key-clause-refused
 returns-in_err-key-clause-refused g c =
     let es = c.args.self.now in
     let e = c.in_err-key.field-0.0 in
-    passes c.from_residual-in_err-key.result (Refused e) (Refuses es c.args.key.now c.args.seqno) c.from_residual-in_err-key.ensures.1 (memory_only (follows es c.args.key.now c.args.seqno) e (sym c.can_follow.ensures ∙ c.if-not-can_follow.false) c.in_err-key.ensures.err)
+    passes c.from_residual-in_err-key.result (Refused e) (Refuses es c.args.key.now c.args.seqno) c.from_residual-in_err-key.ensures.1 (memory_only (may_be_written es c.args.key.now c.args.seqno) e (sym c.can_follow.ensures ∙ c.if-not-can_follow.false) c.in_err-key.ensures.err)
 
 pub returns-in_err-clone-2-clause-refused : goal.returns-in_err-clone-2-clause-refused
 returns-in_err-clone-2-clause-refused g c =
     let es = c.args.self.now in
-    passes c.from_residual-in_err-clone-2.result (Refused OutOfMemory) (Refuses es c.args.key.now c.args.seqno) c.from_residual-in_err-clone-2.ensures.1 (memory_only (follows es c.args.key.now c.args.seqno) OutOfMemory (sym c.can_follow.ensures ∙ c.if-not-can_follow.false) refl)
+    passes c.from_residual-in_err-clone-2.result (Refused OutOfMemory) (Refuses es c.args.key.now c.args.seqno) c.from_residual-in_err-clone-2.ensures.1 (memory_only (may_be_written es c.args.key.now c.args.seqno) OutOfMemory (sym c.can_follow.ensures ∙ c.if-not-can_follow.false) refl)
 
 pub returns-in_err-value-clause-refused : goal.returns-in_err-value-clause-refused
 returns-in_err-value-clause-refused g c =
     let es = c.args.self.now in
     let e = c.in_err-value.field-0.0 in
-    passes c.from_residual-in_err-value.result (Refused e) (Refuses es c.args.key.now c.args.seqno) c.from_residual-in_err-value.ensures.1 (memory_only (follows es c.args.key.now c.args.seqno) e (sym c.can_follow.ensures ∙ c.if-not-can_follow.false) c.in_err-value.ensures.err)
+    passes c.from_residual-in_err-value.result (Refused e) (Refuses es c.args.key.now c.args.seqno) c.from_residual-in_err-value.ensures.1 (memory_only (may_be_written es c.args.key.now c.args.seqno) e (sym c.can_follow.ensures ∙ c.if-not-can_follow.false) c.in_err-value.ensures.err)
 
 pub returns-in_err-push-clause-refused : goal.returns-in_err-push-clause-refused
 returns-in_err-push-clause-refused g c =
     let es = c.args.self.now in
-    passes c.from_residual-in_err-push.result (Refused OutOfMemory) (Refuses es c.args.key.now c.args.seqno) c.from_residual-in_err-push.ensures.1 (memory_only (follows es c.args.key.now c.args.seqno) OutOfMemory (sym c.can_follow.ensures ∙ c.if-not-can_follow.false) refl)
+    passes c.from_residual-in_err-push.result (Refused OutOfMemory) (Refuses es c.args.key.now c.args.seqno) c.from_residual-in_err-push.ensures.1 (memory_only (may_be_written es c.args.key.now c.args.seqno) OutOfMemory (sym c.can_follow.ensures ∙ c.if-not-can_follow.false) refl)
 
 pub returns-clause-ok : goal.returns-clause-ok
 returns-clause-ok g c =
