@@ -7,8 +7,8 @@ use Rattle.sst_entries.specs.Entry.{Entry}
 abbrev pub entry_size : Entry → ℕ
 entry_size e = length e.user_key + length e.value
 
-abbrev pub size_of : List Entry → ℕ
-size_of es = sum_by entry_size es
+abbrev pub entries_size : List Entry → ℕ
+entries_size es = sum_by entry_size es
 
 -- the chunks, one after another
 abbrev pub joined : List (List Entry) → List Entry
@@ -16,7 +16,7 @@ joined cs = flat_map (λ c. c) cs
 
 -- the keys and values reach the size of a block
 abbrev pub is_full : ℕ → List Entry → Bool
-is_full size es = nat_le size (size_of es)
+is_full size es = nat_le size (entries_size es)
 
 -- a block was spilled when this many entries had been written
 abbrev pub is_spilled : List ℕ → ℕ → Bool

@@ -55,7 +55,7 @@ abbrev pub last_key : List Entry → Option (List ℕ)
 last_key es = option_map (λ (e : Entry). e.user_key) (last_of None es)
 
 -- the counts, the ends and the numbers of a list
-pub record Facts : Type 0 where
+pub record ListFacts : Type 0 where
   pub item_count : ℕ
   pub tombstone_count : ℕ
   pub weak_tombstone_count : ℕ
@@ -66,7 +66,7 @@ pub record Facts : Type 0 where
   pub lowest : ℕ
   pub highest : ℕ
 
-abbrev pub facts : List Entry → Facts
+abbrev pub facts : List Entry → ListFacts
 facts es = record {
   item_count = length es;
   tombstone_count = count_by is_tombstone es;

@@ -7,7 +7,7 @@ use Rattle.sst_entries.specs.Entry.{Entry, entry}
 use Rattle.sst_sections.specs.Number.{le4, le8, le16}
 use Rattle.sst_blocks.specs.Payload.{payload}
 use Rattle.lsm_files.specs.Chunks.{joined}
-use Rattle.lsm_files.specs.Facts.{Facts, facts}
+use Rattle.lsm_files.specs.Facts.{ListFacts, facts}
 use Rattle.lsm_files.specs.Index.{data_section}
 use Rattle.lsm_files.specs.declared.item_name.ItemName.{ItemName}
 use Rattle.lsm_files.specs.declared.item_name.ItemName.TheVariants.{BlockCountData, BlockCountFilter, BlockCountIndex, ChecksumType, CompressionData, CompressionIndex, CrateVersion, CreatedAt, DataBlockHashRatio, FileSize, FilterHashType, IndexKeysHaveSeqno, InitialLevel, ItemCount, KeyMax, KeyMin, KeyCount, PrefixTruncationData, PrefixTruncationIndex, RestartIntervalData, RestartIntervalIndex, SeqnoMax, SeqnoMin, TableId, TableVersion as VersionItem, TombstoneCount, UserDataSize, WeakTombstoneCount, WeakTombstoneReclaimable}
@@ -45,7 +45,7 @@ block_items label options counted data_blocks file_size =
     ∷ []
 
 -- then the hash, the level, the number of items and the keys
-abbrev pub key_items : Label → Facts → List Entry
+abbrev pub key_items : Label → ListFacts → List Entry
 key_items label f =
     meta_entry FilterHashType (1 ∷ [])
     ∷ meta_entry IndexKeysHaveSeqno (1 ∷ [])
@@ -57,7 +57,7 @@ key_items label f =
     ∷ []
 
 -- then the options and the numbers
-abbrev pub option_items : TableVersion → Label → Options → Facts → List Entry
+abbrev pub option_items : TableVersion → Label → Options → ListFacts → List Entry
 option_items v label options f =
     meta_entry PrefixTruncationData (0 ∷ [])
     ∷ meta_entry PrefixTruncationIndex (0 ∷ [])
@@ -70,7 +70,7 @@ option_items v label options f =
     ∷ []
 
 -- then the other counts
-abbrev pub count_items : Facts → ℕ → List Entry
+abbrev pub count_items : ListFacts → ℕ → List Entry
 count_items f user_data_size =
     meta_entry TombstoneCount (le8 f.tombstone_count)
     ∷ meta_entry UserDataSize (le8 user_data_size)
@@ -79,7 +79,7 @@ count_items f user_data_size =
     ∷ []
 
 -- all 29 items, by the facts, the number of data blocks, the length of their section and of their payloads
-abbrev pub meta_items : TableVersion → Label → Options → Blocks → Facts → ℕ → ℕ → ℕ → List Entry
+abbrev pub meta_items : TableVersion → Label → Options → Blocks → ListFacts → ℕ → ℕ → ℕ → List Entry
 meta_items v label options counted f data_blocks file_size user_data_size =
     block_items label options counted data_blocks file_size ++ key_items label f ++ option_items v label options f ++ count_items f user_data_size
 

@@ -17,7 +17,7 @@ use Rattle.sst_blocks.specs.Opened.{counted}
 use Rattle.sst_entries.specs.Stream.{Answers, Deals, CanDeal, first, but_first, front_of, nowhere, stopped}
 use Rattle.sst_entries.proofs.StreamLemmas.{head_eq, deals_by, can_by}
 use Rattle.lsm_readers.specs.Answer.{lifted}
-use Rattle.lsm_readers.specs.Scan.{IsEnded, Scan, ScanHas, ScansNext, TakesEntry, behind, block_told, blocks_told, ended, entries_from, entries_told, fault_of, lifted_told, loads, loads_behind, loads_from, loads_of, scan_left, scan_size, scan_told, then_blocks, unless_left, up_to_error}
+use Rattle.lsm_readers.specs.Scan.{IsEnded, Scan, ScanHas, ScansNext, TakesEntry, behind, block_told, blocks_told, ended, entries_from, entries_told, fault_of, lifted_told, loads, scan_loads_behind, loads_from, loads_of, scan_left, scan_size, scan_told, then_blocks, unless_left, up_to_error}
 use Rattle.lsm_readers.specs.Read.{◌>>=◌}
 
 abbrev R : Type 0
@@ -189,13 +189,13 @@ moved_is u s es next o same counts = ap (λ (p : Opened). record (moved u es nex
 next_is : (u : Scan) (n : ℕ) → u.entries ≡ [] → u.blocks ≡ suc n → scan_left u ≡ next_left u.body u.global_seqno n (block_told u.body u.position)
 next_is u n none some = ap (λ (es : List Entry). entries_from u.body u.global_seqno es u.position u.blocks) none ∙ ap (λ (k : ℕ). entries_from u.body u.global_seqno [] u.position k) some ∙ block_left u.body u.global_seqno u.position n
 
-needs_first : (u : Scan) (n : ℕ) → u.entries ≡ [] → u.blocks ≡ suc n → loads_of u ≡ suc (loads_behind (block_told u.body u.position) (λ next. loads_from u.body next n))
+needs_first : (u : Scan) (n : ℕ) → u.entries ≡ [] → u.blocks ≡ suc n → loads_of u ≡ suc (scan_loads_behind (block_told u.body u.position) (λ next. loads_from u.body next n))
 unfolding loads_from
 needs_first u n none some = rw (none, some) refl
 
 needs_next : (u : Scan) (n : ℕ) (es : List Entry) (next : ℕ) → u.entries ≡ [] → u.blocks ≡ suc n → block_told u.body u.position ≡ Ok (es, next) → loads_of u ≡ suc (unless_left es (loads_from u.body next n))
 needs_next u n es next none some told =
-    needs_first u n none some ∙ ap (λ (r : Result (List Entry × ℕ) Error). suc (loads_behind r (λ next. loads_from u.body next n))) told
+    needs_first u n none some ∙ ap (λ (r : Result (List Entry × ℕ) Error). suc (scan_loads_behind r (λ next. loads_from u.body next n))) told
 
 pub reached_next : (s u : Scan) (es : List Entry) (next : ℕ) → Reached s u → u.entries ≡ [] → 0 < u.blocks → block_told u.body u.position ≡ Ok (es, next) → Reached s (moved u es next)
 reached_next s u es next reached none some told =
@@ -275,8 +275,8 @@ fault_is : {X : Type 0} (r : Result X Error) (e : Error) → fault_of r ≡ Some
 fault_is (Ok x) e h = absurd cc
 fault_is (Err f) e h = let same : f ≡ e = cc in ap (λ (x : Error). Err x) same
 
-one_load : (u : Scan) (n : ℕ) {e : Error} → block_told u.body u.position ≡ Err e → loads_behind (block_told u.body u.position) (λ next. loads_from u.body next n) ≡ 0
-one_load u n told = ap (λ (r : Result (List Entry × ℕ) Error). loads_behind r (λ next. loads_from u.body next n)) told
+one_load : (u : Scan) (n : ℕ) {e : Error} → block_told u.body u.position ≡ Err e → scan_loads_behind (block_told u.body u.position) (λ next. loads_from u.body next n) ≡ 0
+one_load u n told = ap (λ (r : Result (List Entry × ℕ) Error). scan_loads_behind r (λ next. loads_from u.body next n)) told
 
 pub scans_fault : (s u t : Scan) (e : Error) → Reached s u → u.entries ≡ [] → 0 < u.blocks → (is_memory e ≡ false → fault_of (block_told u.body u.position) ≡ Some e) → t ≡ halted u → ScansNext s (Some (Err e)) t
 scans_fault s u t e reached none some told is =

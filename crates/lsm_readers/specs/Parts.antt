@@ -75,6 +75,6 @@ range_told bytes =
     range_in (places_told bytes >>= λ regions. meta_told (body_of bytes) regions.metadata)
 
 -- the size of a part, or 0 where it is absent
-abbrev pub size_of : Option Place → ℕ
-size_of None = 0
-size_of (Some p) = p.size
+abbrev pub place_size : Option Place → ℕ
+place_size None = 0
+place_size (Some p) = p.size

@@ -109,15 +109,15 @@ unless_left [] n = n
 unless_left (e ∷ es) n = 0
 
 -- how many blocks are loaded behind one: none where it has an entry or cannot be loaded, else more
-abbrev pub loads_behind : Result (List Entry × ℕ) Error → (ℕ → ℕ) → ℕ
-loads_behind (Ok block) more = unless_left block.0 (more block.1)
-loads_behind (Err e) more = 0
+abbrev pub scan_loads_behind : Result (List Entry × ℕ) Error → (ℕ → ℕ) → ℕ
+scan_loads_behind (Ok block) more = unless_left block.0 (more block.1)
+scan_loads_behind (Err e) more = 0
 
 -- of so many blocks from a position on, those up to the first that has an entry or cannot be loaded
 unfoldable pub loads_from : List ℕ → ℕ → ℕ → ℕ
 loads_from body position zero = 0
 loads_from body position (suc n) =
-    suc (loads_behind (block_told body position) (λ next. loads_from body next n))
+    suc (scan_loads_behind (block_told body position) (λ next. loads_from body next n))
 
 -- how many blocks the next entry needs
 abbrev pub loads_of : Scan → ℕ

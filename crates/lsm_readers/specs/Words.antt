@@ -13,7 +13,7 @@ pub use Rattle.lsm_files.specs.Table.{IsTable}
 pub use Rattle.lsm_readers.specs.Answer.{answer, lift, lifted, match_at, pinned_handle, table_answer}
 pub use Rattle.lsm_readers.specs.OfList.{ends_of, list_told, parts_said}
 pub use Rattle.lsm_readers.specs.Parts.{early_fault, early_in, fitting_told, index_told, number_told}
-pub use Rattle.lsm_readers.specs.Parts.{parts_told, places_told, recovered_told, size_of}
+pub use Rattle.lsm_readers.specs.Parts.{parts_told, places_told, recovered_told, place_size}
 pub use Rattle.lsm_readers.specs.Read.{Opens}
 pub use Rattle.lsm_readers.specs.Scan.{Scan, ScansList, ScansNext, TakesEntry, block_told, ended}
 pub use Rattle.lsm_readers.specs.Scan.{fault_of, lifted_told, scan_size, scan_told}

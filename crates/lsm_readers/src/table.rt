@@ -4,7 +4,7 @@ ghost use Rattle.lsm_readers.specs.Words.{Deals, CanDeal, Entry, Faults, FaultsF
 ghost use Rattle.lsm_readers.specs.Words.{Loaded, OpenTable, Opens, Scan, ScansList, body_of, counted, early_fault, early_in, ends_of};
 ghost use Rattle.lsm_readers.specs.Words.{facts_of, fault_of, fitting_told, fnv1a, index_told, key_bound, lift, list_told, load_at_told};
 ghost use Rattle.lsm_readers.specs.Words.{load_told, none_opened, nowhere, number_told, overlaps_bounds, parts_of, parts_said, parts_told};
-ghost use Rattle.lsm_readers.specs.Words.{pinned_of, place_fault, places_told, point, recovered_told, scan_told, size_of, stopped};
+ghost use Rattle.lsm_readers.specs.Words.{pinned_of, place_fault, places_told, point, recovered_told, scan_told, place_size, stopped};
 ghost use Rattle.lsm_readers.specs.Words.{table_answer, within};
 ghost use Rattle.sst_blocks.specs.declared.block_type.BlockType.TheVariants.{Data, Index, Meta};
 ghost use Rattle.sst_entries.specs.declared.error.Error.{Error};
@@ -387,7 +387,7 @@ impl<A: Allocator> Table<A> {
 
     /// The length of the `filter` section in bytes, or 0 where there is none.
     pub fn filter_size(&self) -> u32
-        ensures { result ≡ size_of self.now.parts.regions.filter }
+        ensures { result ≡ place_size self.now.parts.regions.filter }
     {
         match self.inner.regions.filter {
             Some(handle) => handle.size(),

@@ -18,10 +18,10 @@ use Rattle.sst_sections.specs.Number.{le4, le8, le16}
 use Rattle.sst_entries.specs.Strict.{IsStrictAfter, IsStrict, last_of}
 use Rattle.sst_sections.proofs.Numbers.{wide4, wide8}
 use Rattle.lsm_writers.specs.declared.writer.meta.Metadata.{Metadata}
-use Rattle.lsm_files.specs.Chunks.{joined, entry_size, size_of, is_full, AreChunks}
+use Rattle.lsm_files.specs.Chunks.{joined, entry_size, entries_size, is_full, AreChunks}
 use Rattle.lsm_writers.specs.Counts.{metadata_of, counted_facts, counted_items, HasShortKeys}
 use Rattle.lsm_writers.specs.Cut.{rest_chunk}
-use Rattle.lsm_files.specs.Facts.{Facts, first_key, last_key}
+use Rattle.lsm_files.specs.Facts.{ListFacts, first_key, last_key}
 use Rattle.lsm_files.proofs.KindLemmas.{sections_are, index_counts, index_fits as kind_fits}
 use Rattle.lsm_files.specs.File.{counted_blocks, file, version_section, meta_section}
 use Rattle.lsm_files.specs.Layout.{Sections, laid, appended}
@@ -96,7 +96,7 @@ same_items label options m cs i f one filter h =
     let index = one ∙ sym (index_counts options (handles V4 cs)) in
     rw (h, append-nil (joined cs), index, filter) refl
 
-items_strict : (label : Label) (options : Options) (counted : Blocks) (f : Facts) (a b d : ℕ) → IsStrict (meta_items V4 label options counted f a b d)
+items_strict : (label : Label) (options : Options) (counted : Blocks) (f : ListFacts) (a b d : ℕ) → IsStrict (meta_items V4 label options counted f a b d)
 unfolding IsStrictAfter name_of
 items_strict label options counted f a b d = (refl, (refl, (refl, (refl, (refl, (refl, (refl, (refl, (refl, (refl, (refl, (refl, (refl, (refl, (refl, (refl, (refl, (refl, (refl, (refl, (refl, (refl, (refl, (refl, (refl, (refl, (refl, (refl, (refl, tt)))))))))))))))))))))))))))))
 
@@ -121,11 +121,11 @@ small16 name n h = record { key = h; value = omega (arith, len16 n); number = re
 small_fits : (e : Entry) → IsSmall e → EntryFits V4 e
 small_fits e h = record { key = omega (arith, h.key); value = omega (arith, h.value); number = omega (arith, h.number) }
 
-small_sum : (es : List Entry) → AllByRecursion IsSmall es → size_of es ≤ 1048640 * length es
+small_sum : (es : List Entry) → AllByRecursion IsSmall es → entries_size es ≤ 1048640 * length es
 small_sum [] h = omega arith
 small_sum (e ∷ es) h = omega (arith, small_sum es h.1, h.0.key, h.0.value, sum_by-cons entry_size e es)
 
-items_small : (label : Label) (options : Options) (counted : Blocks) (f : Facts) (a b d : ℕ) → length f.max_key ≤ 1048576 → length f.min_key ≤ 1048576 → AllByRecursion IsSmall (meta_items V4 label options counted f a b d)
+items_small : (label : Label) (options : Options) (counted : Blocks) (f : ListFacts) (a b d : ℕ) → length f.max_key ≤ 1048576 → length f.min_key ≤ 1048576 → AllByRecursion IsSmall (meta_items V4 label options counted f a b d)
 unfolding name_of
 items_small label options counted f a b d top low = (
   small8 _ _ (omega arith),
@@ -216,7 +216,7 @@ items_small label options counted f a b d top low = (
   ),
 )
 
-items_fit : (label : Label) (options : Options) (counted : Blocks) (f : Facts) (a b d : ℕ) → length f.max_key ≤ 1048576 → length f.min_key ≤ 1048576 → entries_fault (meta_items V4 label options counted f a b d) ≡ None
+items_fit : (label : Label) (options : Options) (counted : Blocks) (f : ListFacts) (a b d : ℕ) → length f.max_key ≤ 1048576 → length f.min_key ≤ 1048576 → entries_fault (meta_items V4 label options counted f a b d) ≡ None
 items_fit label options counted f a b d top low =
     let es = meta_items V4 label options counted f a b d in
     let small = items_small label options counted f a b d top low in

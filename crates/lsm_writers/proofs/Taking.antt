@@ -11,7 +11,7 @@ use Rattle.sst_entries.specs.declared.error.Error.TheVariants.{KeyTooLong, Value
 use Rattle.sst_blocks.specs.Bounds.{data_block_bound_of, entry_bound}
 use Rattle.sst_blocks.specs.Encoding.{is_long_key, length_fault, entries_fault, large_fault}
 use Rattle.sst_entries.specs.Entry.{Entry, entry}
-use Rattle.lsm_files.specs.Chunks.{joined, entry_size, size_of, is_full}
+use Rattle.lsm_files.specs.Chunks.{joined, entry_size, entries_size, is_full}
 use Rattle.sst_entries.specs.Strict.{IsStrictAfter, IsStrict, last_of}
 use Rattle.sst_entries.specs.declared.value_type.ValueType.TheVariants.{Value}
 use Rattle.sst_sections.specs.declared.version.TableVersion.TheVariants.{V4}
@@ -31,15 +31,15 @@ use Rattle.sst_entries.proofs.Strictness.{strict_push}
 use Rattle.lsm_writers.proofs.Orders.{ends_follow, last_of-append}
 
 -- the bound of a block, by the number of its entries and their size
-bound_sum : (es : List Entry) → sum_by entry_bound es ≡ 17 * length es + size_of es
+bound_sum : (es : List Entry) → sum_by entry_bound es ≡ 17 * length es + entries_size es
 bound_sum [] = refl
 bound_sum (e ∷ es) = omega (arith, bound_sum es, sum_by-cons entry_bound e es, sum_by-cons entry_size e es)
 
-pub size_more : (es : List Entry) (e : Entry) → size_of (es ++ e ∷ []) ≡ size_of es + entry_size e
-size_more es e = sum_by-append entry_size es (e ∷ []) ∙ ap (λ (n : ℕ). size_of es + n) (omega (arith, sum_by-cons entry_size e []))
+pub size_more : (es : List Entry) (e : Entry) → entries_size (es ++ e ∷ []) ≡ entries_size es + entry_size e
+size_more es e = sum_by-append entry_size es (e ∷ []) ∙ ap (λ (n : ℕ). entries_size es + n) (omega (arith, sum_by-cons entry_size e []))
 
 -- the block of one entry more
-pub bound_more : (es : List Entry) (e : Entry) → sum_by entry_bound (es ++ e ∷ []) ≡ 17 * (length es + 1) + (size_of es + entry_size e)
+pub bound_more : (es : List Entry) (e : Entry) → sum_by entry_bound (es ++ e ∷ []) ≡ 17 * (length es + 1) + (entries_size es + entry_size e)
 bound_more es e = bound_sum (es ++ e ∷ []) ∙ omega (arith, size_more es e, length-append es (e ∷ []))
 
 pub large_is : (n : ℕ) → 2 ^ 32 ≤ n → large_fault n ≡ Some BlockTooLarge
@@ -48,10 +48,10 @@ large_is n h = rw (le-leb _ _ h) refl
 pub small_is : (n : ℕ) → n < 2 ^ 32 → large_fault n ≡ None
 small_is n h = rw (lt-leb _ _ h) refl
 
-pub too_large : (es : List Entry) (e : Entry) → 2 ^ 32 ≤ 28 + 17 * (length es + 1) + (size_of es + entry_size e) → large_fault (data_block_bound_of (es ++ e ∷ [])) ≡ Some BlockTooLarge
+pub too_large : (es : List Entry) (e : Entry) → 2 ^ 32 ≤ 28 + 17 * (length es + 1) + (entries_size es + entry_size e) → large_fault (data_block_bound_of (es ++ e ∷ [])) ≡ Some BlockTooLarge
 too_large es e h = large_is _ (omega (arith, bound_more es e))
 
-pub fits_still : (es : List Entry) (e : Entry) → 28 + 17 * (length es + 1) + (size_of es + entry_size e) < 2 ^ 32 → large_fault (data_block_bound_of (es ++ e ∷ [])) ≡ None
+pub fits_still : (es : List Entry) (e : Entry) → 28 + 17 * (length es + 1) + (entries_size es + entry_size e) < 2 ^ 32 → large_fault (data_block_bound_of (es ++ e ∷ [])) ≡ None
 fits_still es e h = small_is _ (omega (arith, bound_more es e))
 
 pub no_length_fault : (es : List Entry) → AllByRecursion (EntryFits V4) es → length_fault es ≡ None
@@ -59,13 +59,13 @@ no_length_fault [] h = refl
 no_length_fault (e ∷ es) h = rw (le-ltb _ _ h.0.key, lt-leb _ _ h.0.value) (no_length_fault es h.1)
 
 -- what is pending encodes
-pub no_fault : (es : List Entry) → AllByRecursion (EntryFits V4) es → 28 + 17 * length es + size_of es < 2 ^ 32 → entries_fault es ≡ None
+pub no_fault : (es : List Entry) → AllByRecursion (EntryFits V4) es → 28 + 17 * length es + entries_size es < 2 ^ 32 → entries_fault es ≡ None
 no_fault es h small = rw (no_length_fault es h) (small_is _ (omega (arith, bound_sum es)))
 
-pub item_large : (es : List Entry) (e : Entry) → length e.user_key ≤ 1048576 → length e.value < 2 ^ 32 → 2 ^ 32 ≤ 28 + 17 * (length es + 1) + (size_of es + entry_size e) → item_fault es e ≡ Some BlockTooLarge
+pub item_large : (es : List Entry) (e : Entry) → length e.user_key ≤ 1048576 → length e.value < 2 ^ 32 → 2 ^ 32 ≤ 28 + 17 * (length es + 1) + (entries_size es + entry_size e) → item_fault es e ≡ Some BlockTooLarge
 item_large es e k v h = rw (le-ltb _ _ k, lt-leb _ _ v) (too_large es e h)
 
-pub item_fits : (es : List Entry) (e : Entry) → length e.user_key ≤ 1048576 → length e.value < 2 ^ 32 → 28 + 17 * (length es + 1) + (size_of es + entry_size e) < 2 ^ 32 → item_fault es e ≡ None
+pub item_fits : (es : List Entry) (e : Entry) → length e.user_key ≤ 1048576 → length e.value < 2 ^ 32 → 28 + 17 * (length es + 1) + (entries_size es + entry_size e) < 2 ^ 32 → item_fault es e ≡ None
 item_fits es e k v h = rw (le-ltb _ _ k, lt-leb _ _ v) (fits_still es e h)
 
 -- ---- between the calls
@@ -89,7 +89,7 @@ fault_none true x o h = absurd cc
 fault_none false x o h = (refl, h)
 
 -- an entry without a fault fits, and the block has room for it
-pub short_of : (es : List Entry) (e : Entry) → e.seqno < 2 ^ 64 - 1 → item_fault es e ≡ None → EntryFits V4 e × (28 + 17 * (length es + 1) + (size_of es + entry_size e) < 2 ^ 32)
+pub short_of : (es : List Entry) (e : Entry) → e.seqno < 2 ^ 64 - 1 → item_fault es e ≡ None → EntryFits V4 e × (28 + 17 * (length es + 1) + (entries_size es + entry_size e) < 2 ^ 32)
 short_of es e low h =
     let bound = data_block_bound_of (es ++ e ∷ []) in
     let o2 = large_fault bound in
@@ -225,7 +225,7 @@ held_cut {A} size cut (e ∷ es) n m old =
       small = omega arith;
     }
 
-pub not_full : (size n : ℕ) (pending : List Entry) → n ≡ size_of pending → n < size → IsUnfilled size pending
+pub not_full : (size n : ℕ) (pending : List Entry) → n ≡ entries_size pending → n < size → IsUnfilled size pending
 not_full size n [] e lt = tt
 not_full size n (x ∷ xs) e lt = lt-leb _ _ (omega (arith, e, lt))
 

@@ -9,7 +9,7 @@ use Rattle.sst_blocks.specs.Payload.{payload}
 use Rattle.lsm_writers.specs.declared.writer.meta.Metadata.{Metadata}
 use Rattle.lsm_writers.specs.declared.writer.meta.Tally.{Tally}
 use Rattle.lsm_files.specs.Chunks.{joined}
-use Rattle.lsm_files.specs.Facts.{Facts, is_tombstone, is_weak, starts_key, is_reclaimable, one_if, count_after, lowest_seqno, highest_seqno, first_key, last_key}
+use Rattle.lsm_files.specs.Facts.{ListFacts, is_tombstone, is_weak, starts_key, is_reclaimable, one_if, count_after, lowest_seqno, highest_seqno, first_key, last_key}
 use Rattle.lsm_files.specs.Index.{data_section}
 use Rattle.lsm_files.specs.MetaBlock.{Blocks, meta_items}
 use Rattle.lsm_files.specs.declared.options.Options.{Options}
@@ -91,7 +91,7 @@ pub record HasRoom {A : Type 0} (m : Metadata A) : Type 0 where
   pub keys : m.key_count + 1 < 2 ^ 64
 
 -- what a meta block says of the list that was counted
-abbrev pub counted_facts : {A : Type 0} → Metadata A → Facts
+abbrev pub counted_facts : {A : Type 0} → Metadata A → ListFacts
 counted_facts m = record {
   item_count = m.item_count;
   tombstone_count = m.tombstone_count;

@@ -5,7 +5,7 @@ use Rattle.sst_sections.specs.declared.version.TableVersion.TheVariants.{V4}
 use Rattle.sst_entries.specs.Entry.{Entry}
 use Rattle.sst_entries.specs.Strict.{IsStrict}
 use Rattle.lsm_writers.specs.declared.writer.meta.Metadata.{Metadata}
-use Rattle.lsm_files.specs.Chunks.{joined, size_of, is_full}
+use Rattle.lsm_files.specs.Chunks.{joined, entries_size, is_full}
 use Rattle.lsm_writers.specs.Counts.{metadata_of}
 use Rattle.lsm_writers.specs.Cut.{Cut}
 use Rattle.lsm_files.specs.Fits.{EntryFits}
@@ -33,5 +33,5 @@ pub record IsHeld {A : Type 0} (size : ℕ) (cut : List (List Entry)) (pending :
   pub shortest : AllByRecursion (IsShortest size) cut
   pub front : (n : ℕ) → 0 < n → n < length pending → is_full size (take n pending) ≡ false
   pub counted : meta ≡ metadata_of V4 cut pending
-  pub sized : chunk_size ≡ size_of pending
+  pub sized : chunk_size ≡ entries_size pending
   pub small : 28 + 17 * length pending + chunk_size < 2 ^ 32

@@ -6,7 +6,7 @@ pub use Rattle.sst_sections.specs.Fnv.{fnv1a}
 pub use Rattle.sst_blocks.specs.Bounds.{index_block_bound_of}
 pub use Rattle.sst_blocks.specs.Encoding.{entries_fault, large_fault}
 pub use Rattle.sst_blocks.specs.Payload.{payload}
-pub use Rattle.lsm_files.specs.Chunks.{entry_size, joined, size_of}
+pub use Rattle.lsm_files.specs.Chunks.{entry_size, joined, entries_size}
 pub use Rattle.lsm_files.specs.File.{HasNoVersion, file, version_section}
 pub use Rattle.lsm_files.specs.Fits.{BlockFits, EntryFits, LabelFits}
 pub use Rattle.lsm_files.specs.Index.{data_block, data_section, handle_of, handles}

@@ -4,7 +4,7 @@ ghost use Rattle.lsm_writers.specs.Words.{BlockFits, Entry, EntryFits, Faults, F
 ghost use Rattle.lsm_writers.specs.Words.{IsFresh, IsStrict, LabelFits, appended, entry_size, failed_fault, file};
 ghost use Rattle.lsm_writers.specs.Words.{filter_count, finish_fault, fnv1a, gained, handles, index_block_bound_of};
 ghost use Rattle.lsm_writers.specs.Words.{item_fault, label_of, large_fault, last_of, may_be_written, metadata_of};
-ghost use Rattle.lsm_writers.specs.Words.{new_writing, size_of, spilled, tally_of, version_section, write_fault};
+ghost use Rattle.lsm_writers.specs.Words.{new_writing, entries_size, spilled, tally_of, version_section, write_fault};
 ghost use Rattle.lsm_writers.specs.Words.{written};
 ghost use Rattle.std.specs.Option.{option_copied};
 ghost use Rattle.sst_entries.specs.declared.error.Error.TheVariants.{OutOfMemory};
@@ -119,7 +119,7 @@ impl<A: Allocator + Clone> Writer<A> {
 
     /// How many bytes the keys and values have that wait for the next block.
     pub fn chunk_size(&self) -> usize
-        ensures { result ≡ size_of self.now.pending }
+        ensures { result ≡ entries_size self.now.pending }
     {
         self.chunk_size
     }
@@ -389,7 +389,7 @@ fn take_item<A: Allocator + Clone>(
     cut: Option<&InternalValue<A>>,
     item: InternalValue<A>,
 ) -> Result<Tally<A>, Error>
-    requires sized { chunk_size.old ≡ size_of chunk.old.items }
+    requires sized { chunk_size.old ≡ entries_size chunk.old.items }
     requires small { 28 + 17 * length chunk.old.items + chunk_size.old < 2 ^ 32 }
     ensures taken { OnOk result (chunk.new.items ≡ chunk.old.items ++ item ∷ []) }
     ensures sized { OnOk result (chunk_size.new ≡ chunk_size.old + entry_size item) }
@@ -414,7 +414,7 @@ fn check_item<A: Allocator>(
     chunk_size: usize,
     item: &InternalValue<A>,
 ) -> Result<(), Error>
-    requires sized { chunk_size ≡ size_of chunk.now }
+    requires sized { chunk_size ≡ entries_size chunk.now }
     requires small { 28 + 17 * length chunk.now + chunk_size < 2 ^ 32 }
     ensures { MatchResult result (λ _. item_fault chunk.now item.now ≡ None)
         (λ e. item_fault chunk.now item.now ≡ Some e) }
