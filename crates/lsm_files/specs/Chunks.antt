@@ -38,9 +38,12 @@ Ends size spills at c (d ∷ ds) = ends_after size spills at c (length c) ≡ tr
 
 abbrev pub AreChunksFrom : ℕ → List ℕ → ℕ → List (List Entry) → Type 0
 AreChunksFrom size spills at [] = Unit {0}
-AreChunksFrom size spills at (c ∷ cs) = IsChunk size spills at c × Ends size spills at c cs × AreChunksFrom size spills (at + length c) cs
+AreChunksFrom size spills at (c ∷ cs) =
+    IsChunk size spills at c × Ends size spills at c cs
+    × AreChunksFrom size spills (at + length c) cs
 
 -- the list cut into chunks: each is the shortest front of the rest that is full or was spilled
-pub record AreChunks (size : ℕ) (spills : List ℕ) (es : List Entry) (cs : List (List Entry)) : Type 0 where
+pub record AreChunks (size : ℕ) (spills : List ℕ) (es : List Entry)
+    (cs : List (List Entry)) : Type 0 where
   pub whole : joined cs ≡ es
   pub each : AreChunksFrom size spills 0 cs

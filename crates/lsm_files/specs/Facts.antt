@@ -29,7 +29,8 @@ starts_key (Some before) e = not (same_key before.user_key e.user_key)
 -- a value directly after a weak tombstone of its key
 abbrev pub is_reclaimable : Option Entry → Entry → Bool
 is_reclaimable None e = false
-is_reclaimable (Some before) e = is_value_kind e.kind && (is_weak before && same_key before.user_key e.user_key)
+is_reclaimable (Some before) e =
+    is_value_kind e.kind && (is_weak before && same_key before.user_key e.user_key)
 
 abbrev pub one_if : Bool → ℕ
 one_if b = if b then 1 else 0

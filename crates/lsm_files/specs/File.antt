@@ -40,7 +40,8 @@ HasNoMeta w = All (λ (s : SectionName × ℕ). place_of s.0 ≡ 6 → ⊥) w.st
 
 abbrev pub closing_sections : TableVersion → Label → Options → List (List Entry) → Sections
 closing_sections v label options cs =
-    version_section v ++ meta_section v (meta_entries v label options cs (counted_blocks v options cs))
+    version_section v
+    ++ meta_section v (meta_entries v label options cs (counted_blocks v options cs))
 
 -- the data blocks, then the index of its kind, then the filter of its kind
 abbrev pub index_part : TableVersion → Options → List (List Entry) → Sections
@@ -63,7 +64,8 @@ abbrev pub file : TableVersion → Label → Options → List (List Entry) → L
 file v label options cs = finished (laid (sections_of v label options cs))
 
 -- the bytes are a table of a list, whose data blocks hold its chunks
-pub record IsFile (v : TableVersion) (bytes : List ℕ) (label : Label) (options : Options) (spills : List ℕ) (es : List Entry) : Type 0 where
+pub record IsFile (v : TableVersion) (bytes : List ℕ) (label : Label) (options : Options)
+    (spills : List ℕ) (es : List Entry) : Type 0 where
   pub blocks : List (List Entry)
   pub chunks : AreChunks options.data_block_size spills es blocks
   pub are : bytes ≡ file v label options blocks

@@ -27,7 +27,8 @@ pub record LabelFits (label : Label) : Type 0 where
   pub created_at : label.created_at < 2 ^ 128
 
 -- the entries, the blocks of the chunks, those of their index, and the label
-pub record Fits (v : TableVersion) (label : Label) (options : Options) (cs : List (List Entry)) : Type 0 where
+pub record Fits (v : TableVersion) (label : Label) (options : Options)
+    (cs : List (List Entry)) : Type 0 where
   pub entries : AllByRecursion (EntryFits v) (joined cs)
   pub blocks : AllByRecursion (BlockFits v) cs
   pub index : IndexFits v options (handles v cs)

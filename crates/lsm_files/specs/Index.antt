@@ -18,9 +18,15 @@ last_entry es = unwrap_or (last_of None es) (entry [] [] 0 Value)
 abbrev pub block_size : TableVersion → List Entry → ℕ
 block_size v c = 24 + length (payload v c)
 
--- the block of a chunk that begins at a position: the key and the number of its last entry, where it begins, and its size
+-- the block of a chunk that begins at a position: the key and the number of its last entry, where
+-- it begins, and its size
 abbrev pub handle_of : TableVersion → ℕ → List Entry → Handle
-handle_of v offset c = record { end_key = (last_entry c).user_key; seqno = (last_entry c).seqno; offset = offset; size = block_size v c }
+handle_of v offset c = record {
+  end_key = (last_entry c).user_key;
+  seqno = (last_entry c).seqno;
+  offset = offset;
+  size = block_size v c;
+}
 
 -- the blocks lie one after another, without gaps
 abbrev pub handles_from : TableVersion → ℕ → List (List Entry) → List Handle

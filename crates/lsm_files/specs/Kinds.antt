@@ -41,8 +41,10 @@ IndexFitsOf FullIndex size v hs = 24 + length (handles_payload v hs) < 2 ^ 32
 abbrev pub IndexFits : TableVersion → Options → List Handle → Type 0
 IndexFits v options hs = IndexFitsOf options.index_kind options.meta_partition_size v hs
 
--- the filter of a kind and a policy, with partitions of a size, from a position on: none without an active policy
-abbrev pub filter_of : FilterKind → BloomConstructionPolicy → ℕ → TableVersion → ℕ → List Entry → Sections
+-- the filter of a kind and a policy, with partitions of a size, from a position on: none without
+-- an active policy
+abbrev pub filter_of : FilterKind → BloomConstructionPolicy → ℕ → TableVersion → ℕ → List Entry
+    → Sections
 filter_of FullFilter Inactive size v at es = []
 
 abbrev pub filter_sections : TableVersion → Options → ℕ → List Entry → Sections

@@ -78,12 +78,17 @@ count_items f user_data_size =
     ∷ meta_entry WeakTombstoneReclaimable (le8 f.weak_tombstone_reclaimable)
     ∷ []
 
--- all 29 items, by the facts, the number of data blocks, the length of their section and of their payloads
+-- all 29 items, by the facts, the number of data blocks, the length of their section and of their
+-- payloads
 abbrev pub meta_items : TableVersion → Label → Options → Blocks → ListFacts → ℕ → ℕ → ℕ → List Entry
 meta_items v label options counted f data_blocks file_size user_data_size =
-    block_items label options counted data_blocks file_size ++ key_items label f ++ option_items v label options f ++ count_items f user_data_size
+    block_items label options counted data_blocks file_size
+    ++ key_items label f
+    ++ option_items v label options f
+    ++ count_items f user_data_size
 
 -- the items of a table of these chunks
 abbrev pub meta_entries : TableVersion → Label → Options → List (List Entry) → Blocks → List Entry
 meta_entries v label options cs counted =
-    meta_items v label options counted (facts (joined cs)) (length cs) (length (data_section v cs)) (sum_by (λ c. length (payload v c)) cs)
+    meta_items v label options counted (facts (joined cs)) (length cs) (length (data_section v cs))
+    (sum_by (λ c. length (payload v c)) cs)

@@ -19,14 +19,15 @@ use Rattle.lsm_readers.specs.Table.{OpenTable}
 
 -- the highest number passes u64 with the global number added
 abbrev pub number_fault : List Entry → ℕ → Option Error
-number_fault es g = if nat_lt (2 ^ 64 - 1) (highest_seqno es + g) then Some GlobalSeqNoTooLarge else None
+number_fault es g =
+    if nat_lt (2 ^ 64 - 1) (highest_seqno es + g) then Some GlobalSeqNoTooLarge else None
 
 -- what writing a list as a table and opening it refuses
 abbrev pub opening_fault : Label → List Entry → ℕ → Option Error
 opening_fault label es g = option_or (list_fault label es) (number_fault es g)
 
--- an opened table of a list, in the version that is written, of tree 0 and with the checksum of its bytes; no block was
--- spilled before it was full
+-- an opened table of a list, in the version that is written, of tree 0 and with the checksum of its
+-- bytes
 pub record IsOpened (label : Label) (es : List Entry) (g : ℕ) (t : OpenTable) : Type 0 where
   pub some : es ≡ [] → ⊥
   pub table : IsTable t.bytes es
@@ -39,7 +40,8 @@ pub record IsOpened (label : Label) (es : List Entry) (g : ℕ) (t : OpenTable) 
   pub checksum_is : t.checksum ≡ fnv1a t.bytes
 
 -- what was read of a list: the first match of a key, and a scan of all, each number lifted
-pub record ReadsList (es : List Entry) (g : ℕ) (key : List ℕ) (bound : ℕ) (found : Option Entry) (s : Scan) : Type 0 where
+pub record ReadsList (es : List Entry) (g : ℕ) (key : List ℕ) (bound : ℕ)
+    (found : Option Entry) (s : Scan) : Type 0 where
   pub point_is : found ≡ point (lift es g) key bound
   pub scan_is : (stops : Error → Bool) → stops OutOfMemory ≡ true →
       Deals (stopped stops) ScansNext nowhere s (all_ok (lift es g))

@@ -24,7 +24,8 @@ pub fn write_and_open<A: Allocator + Clone>(
     requires { IsWritable items.items }
     ensures table { IfOk result (λ t. MatchOption t (items.items ≡ [])
         (λ table. IsOpened (label_of id 0 created_at) items.items global_seqno table)) }
-    ensures refused { Faults result (opening_fault (label_of id 0 created_at) items.items global_seqno) }
+    ensures refused { Faults result
+        (opening_fault (label_of id 0 created_at) items.items global_seqno) }
 {
     match write_list(alloc.clone()?, id, 0, created_at, items)? {
         None => Ok(None),

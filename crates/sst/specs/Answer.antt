@@ -9,7 +9,10 @@ use Rattle.sst.specs.Text.{letter_of, printed}
 
 -- an entry's line: its key, number, kind and value
 abbrev pub entry_line : Entry → List ℕ
-entry_line e = join_with_byte 32 (printed e.user_key ∷ decimal e.seqno ∷ (letter_of e.kind ∷ []) ∷ printed e.value ∷ []) ++ 10 ∷ []
+entry_line e =
+    join_with_byte 32
+    (printed e.user_key ∷ decimal e.seqno ∷ (letter_of e.kind ∷ []) ∷ printed e.value ∷ [])
+    ++ 10 ∷ []
 
 -- the line of an answer, if it has one
 abbrev pub answer_line : {A : Type 0} → Answer A → List ℕ

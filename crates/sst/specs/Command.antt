@@ -34,11 +34,13 @@ pub record Counts (word : List ℕ) (n : ℕ) : Type 0 where
   pub value_is : n ≡ digits_value 10 word
 
 -- the words of a line that adds an entry
-pub record AddsEntry (words : List (List ℕ)) (key : List ℕ) (seqno : ℕ) (kind : ValueType) (value : List ℕ) : Type 0 where
+pub record AddsEntry (words : List (List ℕ)) (key : List ℕ) (seqno : ℕ) (kind : ValueType)
+    (value : List ℕ) : Type 0 where
   pub key_word : List ℕ
   pub number_word : List ℕ
   pub value_word : List ℕ
-  pub words_are : words ≡ codes "entry" ∷ key_word ∷ number_word ∷ (letter_of kind ∷ []) ∷ value_word ∷ []
+  pub words_are : words ≡
+      codes "entry" ∷ key_word ∷ number_word ∷ (letter_of kind ∷ []) ∷ value_word ∷ []
   pub key_is : StandsFor key_word key
   pub seqno_is : Counts number_word seqno
   pub value_is : StandsFor value_word value

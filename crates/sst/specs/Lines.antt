@@ -11,7 +11,8 @@ lines_of (b ∷ bs) = if b == 10 then [] ∷ lines_of bs else onto_first b (line
 
 -- known bytes begin with a line, and lose it and its end
 abbrev pub LosesLine : Option (List ℕ) → Option (List ℕ) → List ℕ → Type 0
-LosesLine old new line = IfSome old (λ bytes. (0 < length bytes) × (line ≡ first_piece 10 bytes) × (new ≡ Some (drop_through 10 bytes)))
+LosesLine old new line = IfSome old (λ bytes.
+    (0 < length bytes) × (line ≡ first_piece 10 bytes) × (new ≡ Some (drop_through 10 bytes)))
 
 -- a line was read of known bytes, or there was none left
 abbrev pub ReadsLine : Option (List ℕ) → Option (List ℕ) → List ℕ → Bool → Type 0

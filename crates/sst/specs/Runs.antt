@@ -8,7 +8,8 @@ use Rattle.lsm_files.specs.Options.{label_of}
 use Rattle.lsm_readers.specs.Table.{OpenTable}
 use Rattle.lsm_tables.specs.Written.{IsOpened}
 
--- a run: a list, and the table that was written of it under an id and opened, of level 0, moment 0 and global number 0
+-- a run: a list, and the table that was written of it under an id and opened, of level 0, moment 0
+-- and global number 0
 pub record Run : Type 0 where
   pub id : ℕ
   pub list : List Entry

@@ -14,7 +14,7 @@ use Rattle.sst.specs.declared.stop.Failure.{Failure}
 use Rattle.sst.specs.declared.stop.Failure.TheVariants.{BadLine, Refused}
 use Rattle.sst.specs.Runs.{Run, newest_point, repeats}
 
--- what a script has stored: the entries of the next table, the runs, the newest first, and the next id
+-- what a script has stored: the entries of the next table, the runs, newest first, and the next id
 pub record Store : Type 0 where
   pub pending : List Entry
   pub runs : List Run
@@ -32,7 +32,8 @@ abbrev pub run_fault : Option ℕ → List Entry → Option Error
 run_fault None es = Some TableIdsSpent
 run_fault (Some id) es = list_fault (label_of id 0 0) es
 
--- why pending entries become no run: a run holds one of them; or, where none does, writing them is refused
+-- why pending entries become no run: a run holds one of them; or, where none does, writing them is
+-- refused
 abbrev pub table_fault : Store → Option Failure
 table_fault s =
     if repeats s.runs s.pending then Some BadLine

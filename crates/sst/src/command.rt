@@ -48,7 +48,8 @@ pub(crate) fn parse_command(line: &[u8]) -> Option<Command<'_>>
 // What follows `entry `: a key, a number, a kind and a value.
 fn parse_entry(words: &[u8]) -> Option<Command<'_>>
     ensures form { IfSome result (λ command. AskFor (codes "entry" ∷ words_of words.now) command) }
-    ensures none { IfNone result ((key : List ℕ) (seqno : ℕ) (kind : ValueType) (value : List ℕ) → ¬ AddsEntry (codes "entry" ∷ words_of words.now) key seqno kind value) }
+    ensures none { IfNone result ((key : List ℕ) (seqno : ℕ) (kind : ValueType) (value : List ℕ) →
+        ¬ AddsEntry (codes "entry" ∷ words_of words.now) key seqno kind value) }
 {
     let (key, rest) = split_word(words);
     let (seqno, rest) = split_word(rest?);
@@ -64,7 +65,8 @@ fn parse_entry(words: &[u8]) -> Option<Command<'_>>
 // What follows `get `: a key and a bound.
 fn parse_get(words: &[u8]) -> Option<Command<'_>>
     ensures form { IfSome result (λ command. AskFor (codes "get" ∷ words_of words.now) command) }
-    ensures none { IfNone result ((key : List ℕ) (bound : ℕ) → ¬ ReadsKey (codes "get" ∷ words_of words.now) key bound) }
+    ensures none { IfNone result ((key : List ℕ) (bound : ℕ) →
+        ¬ ReadsKey (codes "get" ∷ words_of words.now) key bound) }
 {
     let (key, bound) = split_word(words);
     Some(Command::Get {

@@ -21,7 +21,8 @@ pub(crate) enum Answer<A: Allocator> {
 
 /// Prints an answer.
 pub(crate) fn print_answer<W: Write, A: Allocator>(output: &mut W, answer: &Answer<A>) -> Result<()>
-    ensures { OnOk result (Appends (W.contents output.old) (W.contents output.new) (answer_line answer.now)) }
+    ensures { OnOk result (Appends (W.contents output.old) (W.contents output.new)
+        (answer_line answer.now)) }
 {
     match answer {
         Answer::Silent => Ok(()),
@@ -33,14 +34,16 @@ pub(crate) fn print_answer<W: Write, A: Allocator>(output: &mut W, answer: &Answ
 
 /// Prints the number of a refusal.
 pub(crate) fn print_refusal<W: Write>(output: &mut W, number: u8) -> Result<()>
-    ensures { OnOk result (Appends (W.contents output.old) (W.contents output.new) (refusal_line number)) }
+    ensures { OnOk result (Appends (W.contents output.old) (W.contents output.new)
+        (refusal_line number)) }
 {
     writeln!(output, "refused {number}")
 }
 
 // A key, a number, a kind and a value.
 fn print_entry<W: Write, A: Allocator>(output: &mut W, item: &InternalValue<A>) -> Result<()>
-    ensures { OnOk result (Appends (W.contents output.old) (W.contents output.new) (entry_line item.now)) }
+    ensures { OnOk result (Appends (W.contents output.old) (W.contents output.new)
+        (entry_line item.now)) }
 {
     let seqno = item.key.seqno;
     output.write_all(printed(item.key.user_key.as_slice()))?;

@@ -35,7 +35,8 @@ pub fn run_script<A: Allocator + Clone, R: Read + Drop, W: Write, E: Write>(
     errors: &mut E,
 ) -> u8
     ensures status { (result ≡ 0) ⊎ (result ≡ 2) }
-    ensures ended { (ended : Result ⊤ Stop) × (result ≡ status_of ended) × ScriptEnds A (R.remaining input) (W.contents output.old) (W.contents output.new) ended }
+    ensures ended { (ended : Result ⊤ Stop) × (result ≡ status_of ended)
+        × ScriptEnds A (R.remaining input) (W.contents output.old) (W.contents output.new) ended }
     ensures silent { result ≡ 0 → errors.new ≡ errors.old }
 {
     match answer_script(alloc, input, output) {
@@ -49,7 +50,8 @@ pub fn run_script<A: Allocator + Clone, R: Read + Drop, W: Write, E: Write>(
 
 // Says on `errors` why the script ended.
 fn report<E: Write>(errors: &mut E, stop: Stop) -> io::Result<()>
-    ensures { OnOk result (Appends (E.contents errors.old) (E.contents errors.new) (stop_text stop ++ 10 ∷ [])) }
+    ensures { OnOk result (Appends (E.contents errors.old) (E.contents errors.new)
+        (stop_text stop ++ 10 ∷ [])) }
 {
     writeln!(errors, "{stop}")
 }
@@ -60,7 +62,8 @@ fn answer_script<A: Allocator + Clone, R: Read + Drop, W: Write>(
     input: R,
     output: &mut W,
 ) -> Result<(), Stop>
-    ensures { ScriptEnds A (R.remaining input) (W.contents output.old) (W.contents output.new) result }
+    ensures { ScriptEnds A (R.remaining input)
+        (W.contents output.old) (W.contents output.new) result }
 {
     let mut script = Script::new(alloc.clone()?)?;
     let mut line = Vec::new(alloc.clone()?);
@@ -76,7 +79,8 @@ fn answer_script<A: Allocator + Clone, R: Read + Drop, W: Write>(
 
 // Reads the next line, without its end; `false` where there is none.
 fn read_line<R: BufRead, A: Allocator>(input: &mut R, line: &mut Vec<u8, A>) -> io::Result<bool>
-    ensures { IfOk result (ReadsLine (R.remaining input.old) (R.remaining input.new) line.new.items) }
+    ensures { IfOk result (ReadsLine
+        (R.remaining input.old) (R.remaining input.new) line.new.items) }
 {
     line.clear();
     let length = input.read_until(b'\n', line)?;
@@ -99,7 +103,8 @@ fn print_outcome<W: Write, A: Allocator>(
     number: u64,
     outcome: &Result<Answer<A>, Failure>,
 ) -> Result<(), Stop>
-    ensures { PrintEnds number (outcome_text outcome.now) (W.contents output.old) (W.contents output.new) result }
+    ensures { PrintEnds number (outcome_text outcome.now)
+        (W.contents output.old) (W.contents output.new) result }
 {
     let printed = match outcome {
         Ok(answer) => print_answer(output, answer),
