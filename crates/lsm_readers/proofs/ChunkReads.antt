@@ -57,10 +57,6 @@ not_before : (key : List ℕ) (bound : ℕ) (e l : Entry) → is_before e l ≡ 
 not_before key bound e l before early = is_false (after key bound e) (λ late. apart (after key bound l) (before_trans (entry key [] bound Value) e l late before) early)
 
 -- an entry above the key is not hit
-first_part : (a b : Bool) → (a && b) ≡ true → a ≡ true
-first_part true b h = refl
-first_part false b h = absurd cc
-
 above_apart : (key : List ℕ) (bound : ℕ) (e : Entry) → key_lt key e.user_key ≡ true → is_hit key bound e ≡ false
 above_apart key bound e above =
     let tie : same_key e.user_key key ≡ is_eq (ordering_reverse (slice_cmp nat_cmp key e.user_key)) = texts_ties e.user_key key ∙ ap is_eq (nat_list_cmp_total.antisymm e.user_key key) in

@@ -18,6 +18,7 @@ use Rattle.std.proofs.lemmas.Bool.{lt-ltb, le-ltb, ltb-true}
 use Rattle.sst_entries.specs.Entry.{Entry}
 use Rattle.sst_entries.specs.Key.{same_key}
 use Rattle.sst_entries.specs.Point.{is_hit, point}
+use Rattle.sst_entries.proofs.Booleans.{and_right}
 
 passes_by : {X : Type 0} (p : X → Bool) (x y : X) (o : Option X) (b : Bool) → p x ≡ b → (o ≡ Some y → p y ≡ true) → cond b (Some x) o ≡ Some y → p y ≡ true
 passes_by p x y o true e rest h = let same : x ≡ y = cc in subst (λ z. p z ≡ true) same e
@@ -27,13 +28,9 @@ pub find_passes : {X : Type 0} (p : X → Bool) (xs : List X) (y : X) → find p
 find_passes p [] y h = absurd cc
 find_passes p (x ∷ xs) y h = passes_by p x y (find p xs) (p x) refl (find_passes p xs y) h
 
-second : (a b : Bool) → (a && b) ≡ true → b ≡ true
-second true b h = h
-second false b h = absurd cc
-
 pub point_below : (es : List Entry) (key : List ℕ) (bound : ℕ) (e : Entry) → point es key bound ≡ Some e → e.seqno < bound
 unfolding point
-point_below es key bound e h = ltb-true _ _ (second (same_key e.user_key key) (ltb e.seqno bound) (find_passes (is_hit key bound) es e h))
+point_below es key bound e h = ltb-true _ _ (and_right (same_key e.user_key key) (ltb e.seqno bound) (find_passes (is_hit key bound) es e h))
 
 -- a handle that was found, by its place
 pub handle_of : (o : Option Handle) (p : Place) → Some p ≡ option_map place_of o → (h : Handle) × (o ≡ Some h) × (p ≡ place_of h)

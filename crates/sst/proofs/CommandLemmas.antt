@@ -13,6 +13,7 @@ use Rattle.std.proofs.lemmas.Str.Parse.{digit_from_value}
 use Rattle.sst.specs.declared.command.Command.{Command}
 use Rattle.sst.specs.declared.command.Command.TheVariants.{Entry, Table, Get}
 use Rattle.sst.specs.Command.{words_of, AskFor}
+use Rattle.sst_entries.proofs.Booleans.{and_parts}
 
 abbrev pub is_space : ℕ → Bool
 is_space b = b == 32
@@ -47,15 +48,11 @@ visible_step : (x : ℕ) (b c : Bool) → is_ascii_graphic x ≡ b → is_space 
 visible_step x b true p q h = absurd (grind (arith, nat_tests))
 visible_step x b false p q h = refl
 
-and_both : (a b : Bool) → (a && b) ≡ true → (a ≡ true) × (b ≡ true)
-and_both true b h = (refl, h)
-and_both false b h = absurd cc
-
 -- a word of visible bytes is one word
 pub visible_word : (word : List ℕ) → list_all is_ascii_graphic word ≡ true → words_of word ≡ word ∷ []
 visible_word [] h = refl
 visible_word (x ∷ xs) h =
-    let both = and_both (is_ascii_graphic x) (list_all is_ascii_graphic xs) h in
+    let both = and_parts (is_ascii_graphic x) (list_all is_ascii_graphic xs) h in
     rw (visible_step x _ _ refl refl both.0) (ap (onto_first x) (visible_word xs both.1))
 
 no_digit : (x : ℕ) (b : Bool) → is_space x ≡ b → IsInRange 48 57 x → b ≡ false
