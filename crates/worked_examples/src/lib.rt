@@ -18,6 +18,8 @@ mod stored;
 #[cfg(test)]
 mod stored_reads;
 #[cfg(test)]
+mod surface;
+#[cfg(test)]
 mod tables;
 #[cfg(test)]
 mod writers;

@@ -3,7 +3,8 @@ use crate::tables::{Row, fill, new_writer, open, read};
 use lsm_tables::{Table, point_in};
 use refusing::each_refused;
 use sst_blocks::{
-    Block, BlockHandle, BlockSource, BlockType, Counted, Error, LoadBlocks, SeqNo, Slice, ValueType,
+    Block, BlockHandle, BlockSource, BlockType, Counted, Error, LoadBlocks, Opened, SeqNo, Slice,
+    ValueType,
 };
 use std::alloc::{Allocator, Global};
 use std::test::Fail;
@@ -156,5 +157,49 @@ fn clone_answers(alloc: Global) -> Result<bool, Error> {
 #[test]
 fn a_clone_outlives_its_original(rt: HostRuntime) -> Result<(), Fail> {
     assert!(rt; clone_answers(rt.alloc())?);
+    Ok(())
+}
+
+// What a read of a@8 opens.
+fn opened_by_a_read(alloc: Global) -> Result<Opened, Error> {
+    let table = open(alloc, written_rows(alloc)?, 0)?;
+    let hash = Table::<Global>::key_hash(b"a");
+    Ok(table.get_counted(b"a", 8, hash).1)
+}
+
+#[test]
+fn a_read_opens_nothing_but_data(rt: HostRuntime) -> Result<(), Fail> {
+    let expected = Opened {
+        data_loads: 1,
+        index_loads: 0,
+        filter_loads: 0,
+        meta_loads: 0,
+    };
+    assert_eq!(rt; opened_by_a_read(rt.alloc())?, expected);
+    Ok(())
+}
+
+// The highest number of a table of a@3 with a global number, and what reads of `a` below 14, 13 and 10 find.
+fn lifted_reads(
+    alloc: Global,
+    global_seqno: SeqNo,
+) -> Result<(SeqNo, [Option<SeqNo>; 3]), Error> {
+    let rows: [Row<'static>; 1] = [(b"a", 3, ValueType::Value, b"")];
+    let bytes = fill(new_writer(alloc)?, alloc, &rows)?.bytes;
+    let table = open(alloc, bytes, global_seqno)?;
+    let reads = [
+        read(&table, b"a", 14).0?,
+        read(&table, b"a", 13).0?,
+        read(&table, b"a", 10).0?,
+    ];
+    Ok((table.get_highest_seqno(), reads))
+}
+
+#[test]
+fn the_global_number_is_added(rt: HostRuntime) -> Result<(), Fail> {
+    assert!(rt; lifted_reads(rt.alloc(), 10)? == (13, [Some(13), None, None]));
+    assert!(rt; lifted_reads(rt.alloc(), u64::MAX - 3).is_ok());
+    let refused = lifted_reads(rt.alloc(), u64::MAX - 2);
+    assert!(rt; refused == Err(Error::GlobalSeqNoTooLarge));
     Ok(())
 }
