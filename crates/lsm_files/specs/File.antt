@@ -7,7 +7,7 @@ use Rattle.sst_sections.specs.declared.section.SectionName.TheVariants.{Data, Ta
 use Rattle.sst_blocks.specs.Block.{block_bytes}
 use Rattle.sst_entries.specs.Entry.{Entry}
 use Rattle.sst_blocks.specs.Payload.{payload}
-use Rattle.sst_sections.specs.Sections.{finished, Written, place_of}
+use Rattle.sst_sections.specs.Sections.{finished, Written, slot_index}
 use Rattle.lsm_files.specs.Chunks.{joined, AreChunks}
 use Rattle.lsm_files.specs.Index.{handles, data_section}
 use Rattle.lsm_files.specs.Kinds.{index_sections, index_count, filter_sections, filter_count}
@@ -33,10 +33,10 @@ meta_section v items = (MetaSection, block_bytes v Meta (payload v items)) ∷ [
 
 -- these sections were not started
 abbrev pub HasNoVersion : Written → Type 0
-HasNoVersion w = All (λ (s : SectionName × ℕ). place_of s.0 ≡ 5 → ⊥) w.started
+HasNoVersion w = All (λ (s : SectionName × ℕ). slot_index s.0 ≡ 5 → ⊥) w.started
 
 abbrev pub HasNoMeta : Written → Type 0
-HasNoMeta w = All (λ (s : SectionName × ℕ). place_of s.0 ≡ 6 → ⊥) w.started
+HasNoMeta w = All (λ (s : SectionName × ℕ). slot_index s.0 ≡ 6 → ⊥) w.started
 
 abbrev pub closing_sections : TableVersion → Label → Options → List (List Entry) → Sections
 closing_sections v label options cs =

@@ -1,4 +1,5 @@
 -- What a list of chunks keeps in a table, so that each number and each length fits its field.
+use Rattle.sst_blocks.specs.Block.{header_len}
 use Rattle.std.specs.Prelude.{◌+◌, ◌-◌, ◌^◌, ◌<◌, ◌≤◌, List, length}
 use Rattle.std.specs.List.{AllByRecursion}
 use Rattle.sst_sections.specs.declared.version.TableVersion.{TableVersion}
@@ -19,7 +20,7 @@ pub record EntryFits (v : TableVersion) (e : Entry) : Type 0 where
 
 -- a chunk whose block is shorter than 2^32
 pub record BlockFits (v : TableVersion) (c : List Entry) : Type 0 where
-  pub short : 24 + length (payload v c) < 2 ^ 32
+  pub short : header_len + length (payload v c) < 2 ^ 32
 
 -- a label whose numbers fit their fields
 pub record LabelFits (label : Label) : Type 0 where

@@ -4,7 +4,7 @@ use Rattle.std.specs.List.{flat_map}
 use Rattle.sst_sections.specs.declared.version.TableVersion.{TableVersion}
 use Rattle.sst_blocks.specs.declared.block_type.BlockType.TheVariants.{Data}
 use Rattle.sst_entries.specs.declared.value_type.ValueType.TheVariants.{Value}
-use Rattle.sst_blocks.specs.Block.{block_bytes}
+use Rattle.sst_blocks.specs.Block.{block_bytes, header_len}
 use Rattle.sst_entries.specs.Entry.{Entry, entry}
 use Rattle.sst_blocks.specs.Handle.{Handle}
 use Rattle.sst_blocks.specs.Payload.{payload}
@@ -16,7 +16,7 @@ last_entry es = unwrap_or (last_of None es) (entry [] [] 0 Value)
 
 -- the size of a chunk's block, with its header
 abbrev pub block_size : TableVersion → List Entry → ℕ
-block_size v c = 24 + length (payload v c)
+block_size v c = header_len + length (payload v c)
 
 -- the block of a chunk that begins at a position: the key and the number of its last entry, where
 -- it begins, and its size

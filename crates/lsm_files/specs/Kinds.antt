@@ -3,7 +3,7 @@ use Rattle.std.specs.Prelude.{ℕ, ◌+◌, ◌<◌, ◌^◌, List, [], ◌∷�
 use Rattle.sst_sections.specs.declared.version.TableVersion.{TableVersion}
 use Rattle.sst_sections.specs.declared.section.SectionName.TheVariants.{Tli}
 use Rattle.sst_blocks.specs.declared.block_type.BlockType.TheVariants.{Index}
-use Rattle.sst_blocks.specs.Block.{block_bytes}
+use Rattle.sst_blocks.specs.Block.{block_bytes, header_len}
 use Rattle.sst_blocks.specs.Handle.{Handle}
 use Rattle.sst_blocks.specs.Handles.{handles_payload}
 use Rattle.sst_entries.specs.Entry.{Entry}
@@ -36,7 +36,7 @@ index_count options hs = index_count_of options.index_kind options.meta_partitio
 
 -- its blocks are shorter than 2^32
 abbrev pub IndexFitsOf : IndexKind → ℕ → TableVersion → List Handle → Type 0
-IndexFitsOf FullIndex size v hs = 24 + length (handles_payload v hs) < 2 ^ 32
+IndexFitsOf FullIndex size v hs = header_len + length (handles_payload v hs) < 2 ^ 32
 
 abbrev pub IndexFits : TableVersion → Options → List Handle → Type 0
 IndexFits v options hs = IndexFitsOf options.index_kind options.meta_partition_size v hs

@@ -12,14 +12,6 @@ pub record Contest (T : Type 0) : Type 0 where
   pub plays_front : Bool
   pub plays_back : Bool
 
--- the items, in no order that callers may rest on
-abbrev pub held : {T : Type 0} → Contest T → List T
-held t = t.items
-
--- how many items there is room for
-abbrev pub room : {T : Type 0} → Contest T → ℕ
-room t = t.room
-
 -- from the old one to the new one at most n comparisons were made
 pub record PlaysAtMost {T : Type 0} (n : ℕ) (old new : Contest T) : Type 0 where
   pub rises : old.steps ≤ new.steps

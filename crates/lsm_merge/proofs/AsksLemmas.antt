@@ -4,12 +4,11 @@ use Rattle.std.specs.Prelude.{Option, Some, None, Result, Ok, Err, Contains, Mat
 use Rattle.sst_entries.specs.Entry.{Entry}
 use Rattle.sst_entries.specs.declared.stream.Direction.{Direction}
 use Rattle.sst_entries.specs.declared.stream.Direction.TheVariants.{Front, Back}
-use Rattle.sst_entries.specs.Stream.{but_first, but_last, front_of, back_of, stopped, DealsFirst, DealsLast}
+use Rattle.sst_entries.specs.Stream.{but_first, but_last, front_of, back_of, answer_stops, DealsFirst, DealsLast}
 use Rattle.sst_entries.specs.declared.error.Error.{Error}
 use Rattle.lsm_merge.specs.declared.ends.Ends.{Ends}
 use Rattle.lsm_merge.specs.declared.merge.Merger.{Merger}
 use Rattle.lsm_merge.specs.Ends.{R, Left, Asked, DealsAt}
-use Rattle.lsm_heaps.specs.Tournament.{held}
 use Rattle.lsm_merge.specs.Union.{all_errors}
 use Rattle.lsm_merge.specs.Merge.{entry_of, is_ready, SameRoom}
 use Rattle.lsm_merge.proofs.Kept.{Kept, whole, taken, Ready, Stands, Merging, Leaves, Took, Filled, MergeAnswer, opposite}
@@ -74,19 +73,19 @@ module _ {S A : Type 0} (stops : Error → Bool) (front back : S → Option R �
     pub asks_took : (i : ℕ) (s t : Merger S A) (r : Result (Unit {0}) Error) → AsksSource ask end i s r t → (ks : List Kept) → Stands stops front back s ks → taken ks i end ≡ None → TookOr i ks r t
     asks_took i s t r a ks stands free = subst (λ (q : Result (Unit {0}) Error). TookOr i ks q t) (sym a.told) (by_end end (means a.was a.answer a.is a.asked) a.puts free)
       where
-        at_front : (o : Option R) → DealsFirst stops (Left stops front back) a.was o a.is → Puts Front i o (held s.heap) (held t.heap) → taken ks i Front ≡ None
+        at_front : (o : Option R) → DealsFirst stops (Left stops front back) a.was o a.is → Puts Front i o s.heap.items t.heap.items → taken ks i Front ≡ None
             → MatchResult (error_told o) (λ _. Took stops front back Front i ks t) (λ e. stops e ≡ false → Contains (all_errors (map whole ks)) e)
         at_front None d p none = front_none stops front back s i a.within a.was a.is a.found ks stands t a.written d p
         at_front (Some (Ok x)) d p none = front_ok stops front back s i a.within a.was a.is a.found ks stands t a.written x p.0 d p.4 p.1 p.2 p.3 none
         at_front (Some (Err e)) d p none = front_err stops front back s i a.within a.was a.is a.found ks stands e d
 
-        at_back : (o : Option R) → DealsLast stops (Left stops front back) a.was o a.is → Puts Back i o (held s.heap) (held t.heap) → taken ks i Back ≡ None
+        at_back : (o : Option R) → DealsLast stops (Left stops front back) a.was o a.is → Puts Back i o s.heap.items t.heap.items → taken ks i Back ≡ None
             → MatchResult (error_told o) (λ _. Took stops front back Back i ks t) (λ e. stops e ≡ false → Contains (all_errors (map whole ks)) e)
         at_back None d p none = back_none stops front back s i a.within a.was a.is a.found ks stands t a.written d p
         at_back (Some (Ok x)) d p none = back_ok stops front back s i a.within a.was a.is a.found ks stands t a.written x p.0 d p.4 p.1 p.2 p.3 none
         at_back (Some (Err e)) d p none = back_err stops front back s i a.within a.was a.is a.found ks stands e d
 
-        by_end : (b : Direction) → DealsAt b stops (Left stops front back) a.was a.answer a.is → Puts b i a.answer (held s.heap) (held t.heap) → taken ks i b ≡ None
+        by_end : (b : Direction) → DealsAt b stops (Left stops front back) a.was a.answer a.is → Puts b i a.answer s.heap.items t.heap.items → taken ks i b ≡ None
             → MatchResult (error_told a.answer) (λ _. Took stops front back b i ks t) (λ e. stops e ≡ false → Contains (all_errors (map whole ks)) e)
         by_end Front d p none = at_front a.answer d p none
         by_end Back d p none = at_back a.answer d p none
@@ -139,13 +138,13 @@ module _ {S A : Type 0} (stops : Error → Bool) (front back : S → Option R �
       abbrev left : List Kept
       left = others stops front back s k.mid xs errors was k.lead k.pops.left k.pops.same.sources
 
-      front_turn : end ≡ Front → Leads Front k.lead (held s.heap) → s.front_ready ≡ true → (answer : Result (Unit {0}) Error) → TookOr k.lead.source left answer t → SameRoom k.mid t
+      front_turn : end ≡ Front → Leads Front k.lead s.heap.items → s.front_ready ≡ true → (answer : Result (Unit {0}) Error) → TookOr k.lead.source left answer t → SameRoom k.mid t
           → MatchResult (entry_told (entry_of k.lead) answer) (λ o. (o ≡ (front_of xs).0) × Merging stops front back t (front_of xs).1 errors × (o ≡ None → errors ≡ [])) (λ e. stops e ≡ false → Contains errors e)
       front_turn is leads now (Ok u) took same =
           front_gives stops front back s k.mid xs errors was k.lead k.pops.left k.pops.same.sources leads now t (subst (λ (b : Direction). Took stops front back b k.lead.source left t) is took) (same.front_ready ∙ k.pops.same.front_ready ∙ now) (same.back_ready ∙ k.pops.same.back_ready)
       front_turn is leads now (Err e) took same = λ fine. subst (λ (es : List Error). Contains es e) (front_errors stops front back s k.mid xs errors was k.lead k.pops.left k.pops.same.sources leads now) (took fine)
 
-      back_turn : end ≡ Back → Leads Back k.lead (held s.heap) → s.back_ready ≡ true → (answer : Result (Unit {0}) Error) → TookOr k.lead.source left answer t → SameRoom k.mid t
+      back_turn : end ≡ Back → Leads Back k.lead s.heap.items → s.back_ready ≡ true → (answer : Result (Unit {0}) Error) → TookOr k.lead.source left answer t → SameRoom k.mid t
           → MatchResult (entry_told (entry_of k.lead) answer) (λ o. (o ≡ (back_of xs).0) × Merging stops front back t (back_of xs).1 errors × (o ≡ None → errors ≡ [])) (λ e. stops e ≡ false → Contains errors e)
       back_turn is leads now (Ok u) took same =
           back_gives stops front back s k.mid xs errors was k.lead k.pops.left k.pops.same.sources leads now t (subst (λ (b : Direction). Took stops front back b k.lead.source left t) is took) (same.back_ready ∙ k.pops.same.back_ready ∙ now) (same.front_ready ∙ k.pops.same.front_ready)
@@ -156,14 +155,14 @@ module _ {S A : Type 0} (stops : Error → Bool) (front back : S → Option R �
         where
           go : (b : Direction) → end ≡ b → StepOr xs errors (entry_told (entry_of k.lead) k.answer) t
           go Front e =
-              let leads : Leads Front k.lead (held s.heap) = subst (λ (b : Direction). Leads b k.lead (held s.heap)) e k.pops.leads in
+              let leads : Leads Front k.lead s.heap.items = subst (λ (b : Direction). Leads b k.lead s.heap.items) e k.pops.leads in
               let ready : s.front_ready ≡ true = subst (λ (b : Direction). is_ready b s ≡ true) e now in
               let stand = front_stands stops front back s k.mid xs errors was k.lead k.pops.left k.pops.same.sources leads ready in
               let free : taken left k.lead.source end ≡ None = subst (λ (b : Direction). taken left k.lead.source b ≡ None) (sym e) (front_free stops front back s k.mid xs errors was k.lead k.pops.left k.pops.same.sources leads ready) in
               subst (λ (b : Direction). MatchResult (entry_told (entry_of k.lead) k.answer) (λ o. (o ≡ (end_of b xs).0) × Merging stops front back t (end_of b xs).1 errors × (o ≡ None → errors ≡ [])) (λ e. stops e ≡ false → Contains errors e)) (sym e)
               (front_turn e leads ready k.answer (asks_took k.lead.source k.mid t k.answer k.asks left stand free) k.asks.same)
           go Back e =
-              let leads : Leads Back k.lead (held s.heap) = subst (λ (b : Direction). Leads b k.lead (held s.heap)) e k.pops.leads in
+              let leads : Leads Back k.lead s.heap.items = subst (λ (b : Direction). Leads b k.lead s.heap.items) e k.pops.leads in
               let ready : s.back_ready ≡ true = subst (λ (b : Direction). is_ready b s ≡ true) e now in
               let stand = back_stands stops front back s k.mid xs errors was k.lead k.pops.left k.pops.same.sources leads ready in
               let free : taken left k.lead.source end ≡ None = subst (λ (b : Direction). taken left k.lead.source b ≡ None) (sym e) (back_free stops front back s k.mid xs errors was k.lead k.pops.left k.pops.same.sources leads ready) in
@@ -185,7 +184,7 @@ module _ {S A : Type 0} (stops : Error → Bool) (front back : S → Option R �
         go (Err e) f turns = rw turns.0 (fills_merging s k.filled (Err e) xs errors f was)
 
     -- one call
-    pub answers_leave : (s t : Merger S A) (r : Option R) (xs : List Entry) (errors : List Error) → s.failed ≡ false → AnswersCall ask end s r t → Leaves stops front back s xs errors → stopped stops r ≡ false → MergeAnswer (Leaves stops front back) (end_of end xs) errors r t
+    pub answers_leave : (s t : Merger S A) (r : Option R) (xs : List Entry) (errors : List Error) → s.failed ≡ false → AnswersCall ask end s r t → Leaves stops front back s xs errors → answer_stops stops r ≡ false → MergeAnswer (Leaves stops front back) (end_of end xs) errors r t
     answers_leave s t r xs errors fine k leaves ok =
         let step = steps_merging s k.led k.step xs errors k.steps (leaves_merging stops front back s fine xs errors leaves) in
         rw (k.answer, k.state) (go k.step step (rw (← k.answer) ok))
@@ -193,7 +192,7 @@ module _ {S A : Type 0} (stops : Error → Bool) (front back : S → Option R �
         fine' : k.led.failed ≡ false
         fine' = steps_failed ask end k.step s k.led k.steps ∙ fine
 
-        go : (q : Result (Option Entry) Error) → StepOr xs errors q k.led → stopped stops (answer_told q) ≡ false → MergeAnswer (Leaves stops front back) (end_of end xs) errors (answer_told q) (ended_at q k.led)
+        go : (q : Result (Option Entry) Error) → StepOr xs errors q k.led → answer_stops stops (answer_told q) ≡ false → MergeAnswer (Leaves stops front back) (end_of end xs) errors (answer_told q) (ended_at q k.led)
         go (Ok None) step ok =
             let over = over_at end xs step.0 in
             (sym step.0, step.2 refl, leaves_nothing stops front back k.led fine' xs (end_of end xs).1 errors over.0 (over.1 ∙ sym over.0) (step.2 refl) step.1)

@@ -5,7 +5,7 @@ use Rattle.std.specs.Iterator.{Count}
 use Rattle.std.proofs.lemmas.Bool.Decides.{nat_tests}
 use Rattle.std.proofs.lemmas.List.Elements.{All-set}
 use Rattle.sst_entries.specs.Entry.{Entry}
-use Rattle.sst_entries.specs.Stream.{CanDeal, stopped, Runs, nowhere, front_of, back_of}
+use Rattle.sst_entries.specs.Stream.{CanDeal, answer_stops, Runs, nowhere, front_of, back_of, EndsAtError}
 use Rattle.sst_entries.specs.declared.error.Error.{Error}
 use Rattle.sst_entries.specs.declared.stream.Direction.{Direction}
 use Rattle.sst_entries.specs.declared.stream.Direction.TheVariants.{Front, Back}
@@ -14,9 +14,8 @@ use Rattle.lsm_merge.specs.declared.ends.Ends.{Ends}
 use Rattle.lsm_merge.specs.declared.merge.HeapItem.{HeapItem}
 use Rattle.lsm_merge.specs.declared.merge.Merger.{Merger}
 use Rattle.lsm_merge.specs.Ends.{R, Left, Goes, GoesIf, AskedIf, Asked, DealsAt}
-use Rattle.lsm_heaps.specs.Tournament.{held}
-use Rattle.lsm_merge.specs.Union.{all_errors, merged}
-use Rattle.lsm_merge.specs.Merge.{held_of, is_ready, HasPlacesIf, MayMerge, EndsAtError, HoldsAtMost}
+use Rattle.lsm_merge.specs.Union.{all_errors, union_of}
+use Rattle.lsm_merge.specs.Merge.{held_of, is_ready, HasPlacesIf, MayMerge, HoldsAtMost}
 use Rattle.lsm_merge.proofs.Kept.{Leaves, LeavesIf, Failed, MergeAnswer, Merges, opposite}
 use Rattle.lsm_merge.specs.Asks.{Puts, made_ready, answer_told, ended_at, AsksSource, AsksEach, FillsIf, Fills, TakesLead, TakesLeadIf, TakesStep, CallsIf, Calls, IsMergerOf}
 use Rattle.lsm_merge.specs.MergeLaws.{DealSorted, DealsMerged, DealsUntilError}
@@ -53,7 +52,7 @@ module _ {S A : Type 0} (front back : S → Option R → S → Type 0) where
     ended_end Front = refl
     ended_end Back = refl
 
-    gives : (stops : Error → Bool) (xs : List Entry) (errors : List Error) → Has stops s xs errors → stopped stops r ≡ false → MergeAnswer (Has stops) (end_of end xs) errors r t
+    gives : (stops : Error → Bool) (xs : List Entry) (errors : List Error) → Has stops s xs errors → answer_stops stops r ≡ false → MergeAnswer (Has stops) (end_of end xs) errors r t
     gives stops xs errors has ok = go s.failed refl
       where
         go : (b : Bool) → s.failed ≡ b → MergeAnswer (Has stops) (end_of end xs) errors r t
@@ -95,20 +94,20 @@ module _ {S A : Type 0} (front back : S → Option R → S → Type 0) where
     ends_at m = record { answers = λ ends rs t runs. (ends_at_error Any Failed Has m).answers ends rs t (within ends rs m t runs) }
 
     module _ (its : List S) (m : Merger S A) (of : IsMergerOf its m) where
-      starts : (stops : Error → Bool) (lists : List (List R)) → DealSorted front back stops its lists → Leaves stops front back m (merged lists) (all_errors lists)
+      starts : (stops : Error → Bool) (lists : List (List R)) → DealSorted front back stops its lists → Leaves stops front back m (union_of lists) (all_errors lists)
       starts stops lists sorted = new_leaves front back m its of.sources of.empty of.no_front of.no_back of.fine stops lists sorted.deal sorted.ascend
 
       pub merger_deals : DealsMerged front back its next next_back m
       merger_deals = record {
         deals = λ stops lists sorted none.
-            let d = deals_merged Any Failed Has stops m (merged lists) (all_errors lists) none (starts stops lists sorted) in
+            let d = deals_merged Any Failed Has stops m (union_of lists) (all_errors lists) none (starts stops lists sorted) in
             record { answers = λ ends rs t runs fine. d.answers ends rs t (within ends rs m t runs) fine };
       }
 
       pub merger_until : DealsUntilError front back its next next_back m
       merger_until = record {
         deals = λ stops lists sorted.
-            let d = deals_until Any Failed Has stops m (merged lists) (all_errors lists) (starts stops lists sorted) in
+            let d = deals_until Any Failed Has stops m (union_of lists) (all_errors lists) (starts stops lists sorted) in
             record { answers = λ ends rs t runs fine. d.answers ends rs t (within ends rs m t runs) fine };
       }
 
@@ -260,10 +259,10 @@ module _ {S A : Type 0} (ask : S → Option R → S → Type 0) (end : Direction
   each_count : (i : ℕ) (s t : Merger S A) → AsksEach ask end i s t → held_of k t ≤ held_of k s + one_if (nat_lt k i)
   each_count zero s t e = let same : held_of k t ≡ held_of k s = ap (held_of k) e in omega (arith, same)
   each_count (suc i) s t e =
-      omega (arith, each_count i s e.0 e.1, puts_count k end i e.2.answer (held e.0.heap) (held t.heap) e.2.puts, before_next k i, weight_is (i == k))
+      omega (arith, each_count i s e.0 e.1, puts_count k end i e.2.answer e.0.heap.items t.heap.items e.2.puts, before_next k i, weight_is (i == k))
 
   counts_same : (s t : Merger S A) → t.heap ≡ s.heap → held_of k t ≡ held_of k s
-  counts_same s t e = ap (λ h. count_by (of_source k) (held h)) e
+  counts_same s t e = ap (λ h. count_by (of_source k) h.items) e
 
   made_heap : (e : Direction) (m : Merger S A) → (made_ready e m).heap ≡ m.heap
   made_heap Front m = refl
@@ -278,12 +277,12 @@ module _ {S A : Type 0} (ask : S → Option R → S → Type 0) (end : Direction
       go false (Ok u) c =
           let same : held_of k t ≡ held_of k c.last = counts_same c.last t (ap (λ (m : Merger S A). m.heap) c.ready ∙ made_heap end c.last) in
           omega (arith, same, each_count (length s.sources.items) s c.last c.each, lt_one k (length s.sources.items))
-      go false (Err e) c = omega (arith, each_count c.place s c.before c.each, puts_count k end c.place c.fails.answer (held c.before.heap) (held t.heap) c.fails.puts, at_most_one k c.place, weight_is (c.place == k))
+      go false (Err e) c = omega (arith, each_count c.place s c.before c.each, puts_count k end c.place c.fails.answer c.before.heap.items t.heap.items c.fails.puts, at_most_one k c.place, weight_is (c.place == k))
 
   -- a turn takes one and puts at most one of the same source in its place
   turn_count : (s t : Merger S A) (r : Result (Option Entry) Error) → TakesLead ask end s r t → held_of k t ≤ held_of k s
   turn_count s t r c =
-      omega (arith, puts_count k end c.lead.source c.asks.answer (held c.mid.heap) (held t.heap) c.asks.puts, count_cons (of_source k) c.lead (held c.mid.heap), count_perm k (held s.heap) (c.lead ∷ held c.mid.heap) c.pops.left)
+      omega (arith, puts_count k end c.lead.source c.asks.answer c.mid.heap.items t.heap.items c.asks.puts, count_cons (of_source k) c.lead c.mid.heap.items, count_perm k s.heap.items (c.lead ∷ c.mid.heap.items) c.pops.left)
 
   none_count : (hs : List (HeapItem A)) → hs ≡ [] → count_by (of_source k) hs ≡ 0
   none_count hs e = ap (count_by (of_source k)) e
@@ -296,7 +295,7 @@ module _ {S A : Type 0} (ask : S → Option R → S → Type 0) (end : Direction
 
       go : (q : Result (Unit {0}) Error) → TakesLeadIf ask end q c.filled r t → held_of k t + one_if (is_ready end s) ≤ held_of k s + 1
       go (Ok u) turns = elim turns [
-        | inl none ↦ omega (arith, filled, none_count (held t.heap) none.1.is)
+        | inl none ↦ omega (arith, filled, none_count t.heap.items none.1.is)
         | inr turn ↦ omega (arith, filled, turn_count c.filled t r turn)
       ]
       go (Err e) turns = let same : held_of k t ≡ held_of k c.filled = ap (held_of k) turns.1 in omega (arith, same, filled)

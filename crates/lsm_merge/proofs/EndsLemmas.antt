@@ -4,11 +4,10 @@ use Rattle.std.specs.Prelude.{Option, Some, None, is_none}
 use Rattle.std.specs.Iterator.{Count, IsFinite, MakesProgress}
 use Rattle.sst_entries.specs.declared.error.Error.{Error}
 use Rattle.lsm_merge.specs.declared.ends.Ends.{Ends}
-use Rattle.sst_entries.specs.Stream.{first, but_first, last, but_last, stopped, Deals, CanDeal, nowhere}
+use Rattle.sst_entries.specs.Stream.{first, but_first, last, but_last, answer_stops, Deals, CanDeal, nowhere, DealsFirst, DealsLast, Steps}
 use Rattle.sst_entries.specs.declared.stream.Direction.{Direction}
 use Rattle.sst_entries.specs.declared.stream.Direction.TheVariants.{Front, Back}
 use Rattle.lsm_merge.specs.Ends.{R, LeftIf, Left, GoesIf, Goes, AskedIf, Asked, DealsAt}
-use Rattle.sst_entries.specs.Stream.{DealsFirst, DealsLast, Steps}
 use Rattle.sst_entries.proofs.FrontLemmas.{can_in_front}
 use Rattle.sst_entries.proofs.StreamLemmas.{deals_front, deals_back, can_front, can_after_back, can_now, can_now_back}
 
@@ -17,27 +16,27 @@ none_first [] e = refl
 none_first (x ∷ xs) e = cc
 
 module _ {S : Type 0} (stops : Error → Bool) (front back : S → Option R → S → Type 0) where
-  deals_of : (s : Ends S) (xs : List R) → s.done ≡ false → Left stops front back s xs → Deals (stopped stops) front back s.iter xs
+  deals_of : (s : Ends S) (xs : List R) → s.done ≡ false → Left stops front back s xs → Deals (answer_stops stops) front back s.iter xs
   deals_of s xs e h = subst (λ (b : Bool). LeftIf stops front back b s.iter xs) e h.lists
 
   pub some_deals : (s : Ends S) (x : R) (t : S) → s.done ≡ false → front s.iter (Some x) t → DealsFirst stops (Left stops front back) s (Some x) (record { iter = t; done = s.done })
   some_deals s x t e step xs h fine =
-      let d = deals_front (stopped stops) front back s.iter xs (Some x) t (deals_of s xs e h) step fine in
+      let d = deals_front (answer_stops stops) front back s.iter xs (Some x) t (deals_of s xs e h) step fine in
       (d.0, record { lists = subst (λ (b : Bool). LeftIf stops front back b t (but_first xs)) (sym e) d.1 })
 
   pub some_deals_back : (s : Ends S) (x : R) (t : S) → s.done ≡ false → back s.iter (Some x) t → DealsLast stops (Left stops front back) s (Some x) (record { iter = t; done = s.done })
   some_deals_back s x t e step xs h fine =
-      let d = deals_back (stopped stops) front back s.iter xs (Some x) t (deals_of s xs e h) step fine in
+      let d = deals_back (answer_stops stops) front back s.iter xs (Some x) t (deals_of s xs e h) step fine in
       (d.0, record { lists = subst (λ (b : Bool). LeftIf stops front back b t (but_last xs)) (sym e) d.1 })
 
   pub none_deals : (s : Ends S) (t : S) → s.done ≡ false → front s.iter None t → DealsFirst stops (Left stops front back) s None (record { iter = t; done = true })
   none_deals s t e step xs h fine =
-      let d = deals_front (stopped stops) front back s.iter xs None t (deals_of s xs e h) step fine in
+      let d = deals_front (answer_stops stops) front back s.iter xs None t (deals_of s xs e h) step fine in
       (d.0, record { lists = ap but_first (none_first xs d.0) })
 
   pub none_deals_back : (s : Ends S) (t : S) → s.done ≡ false → back s.iter None t → DealsLast stops (Left stops front back) s None (record { iter = t; done = true })
   none_deals_back s t e step xs h fine =
-      let d = deals_back (stopped stops) front back s.iter xs None t (deals_of s xs e h) step fine in
+      let d = deals_back (answer_stops stops) front back s.iter xs None t (deals_of s xs e h) step fine in
       (d.0, record { lists = ap (λ (ys : List R). reverse (but_first ys)) (none_first (reverse xs) d.0) })
 
   -- where it is done, nothing is left

@@ -10,8 +10,7 @@ use Rattle.sst_entries.specs.declared.stream.Direction.TheVariants.{Front, Back}
 use Rattle.sst_entries.specs.declared.error.Error.{Error}
 use Rattle.lsm_merge.specs.declared.merge.Merger.{Merger}
 use Rattle.lsm_merge.specs.Ends.{R, Left}
-use Rattle.lsm_heaps.specs.Tournament.{held}
-use Rattle.lsm_merge.specs.Union.{all_errors, merged}
+use Rattle.lsm_merge.specs.Union.{all_errors, union_of}
 use Rattle.lsm_merge.specs.Merge.{is_ready}
 use Rattle.lsm_merge.proofs.Kept.{Kept, kept_at, taken, Ready, HeapHolds, Stands, Merging, Took, Filled, opposite}
 use Rattle.lsm_merge.proofs.TakeLemmas.{zip_length}
@@ -37,7 +36,7 @@ module _ {S A : Type 0} (stops : Error → Bool) (front back : S → Option R �
   stands_same s t ks sources heap stands = record {
     sources = subst (λ v. AllZip (λ s k. Left stops front back s k.rest) v.items ks) (sym sources) stands.sources;
     sorted = stands.sorted;
-    heap = subst (λ h. HeapHolds (held h) ks) (sym heap) stands.heap;
+    heap = subst (λ h. HeapHolds h.items ks) (sym heap) stands.heap;
   }
 
   pub filled_none : (end : Direction) (ks : List Kept) (m : Merger S A) → Stands stops front back m ks → Ready false end ks → Filled stops front back end 0 ks m
@@ -83,7 +82,7 @@ module _ {S A : Type 0} (stops : Error → Bool) (front back : S → Option R �
     kept = filled.kept;
     stands = stands_same m t filled.kept sources heap filled.stands;
     ready = ready_filled end s m t was.kept was.ready n filled all now other;
-    entries = was.entries ∙ ap merged (sym filled.wholes);
+    entries = was.entries ∙ ap union_of (sym filled.wholes);
     faults = was.faults ∙ ap all_errors (sym filled.wholes);
   }
 

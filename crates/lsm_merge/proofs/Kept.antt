@@ -2,15 +2,14 @@
 use Rattle.std.specs.Prelude.{◌≡◌, ℕ, ◌<◌, ◌≤◌, ◌==◌, ◌&&◌, Bool, true, false, List, [], ◌∷◌, ◌++◌, map, All, Contains, count_by, slice_index_or, Option, Some, None, Ok, Err}
 use Rattle.std.specs.List.{AllZip, AllByRecursion}
 use Rattle.sst_entries.specs.Entry.{Entry}
-use Rattle.sst_entries.specs.Stream.{stopped}
+use Rattle.sst_entries.specs.Stream.{answer_stops}
 use Rattle.sst_entries.specs.declared.stream.Direction.{Direction}
 use Rattle.sst_entries.specs.declared.stream.Direction.TheVariants.{Front, Back}
 use Rattle.sst_entries.specs.declared.error.Error.{Error}
 use Rattle.lsm_merge.specs.declared.merge.HeapItem.{HeapItem}
 use Rattle.lsm_merge.specs.declared.merge.Merger.{Merger}
 use Rattle.lsm_merge.specs.Ends.{R, Left}
-use Rattle.lsm_heaps.specs.Tournament.{held}
-use Rattle.lsm_merge.specs.Union.{Ascends, entries_of, all_errors, merged}
+use Rattle.lsm_merge.specs.Union.{Ascends, entries_among, all_errors, union_of}
 use Rattle.lsm_merge.specs.Merge.{entry_of, is_ready}
 
 abbrev pub opposite : Direction → Direction
@@ -75,15 +74,15 @@ module _ {S : Type 0} (stops : Error → Bool) (front back : S → Option R → 
   -- the sources and the heap of a merger
   pub record Stands {A : Type 0} (m : Merger S A) (ks : List Kept) : Type 0 where
     pub sources : AllZip (λ s k. Left stops front back s k.rest) m.sources.items ks
-    pub sorted : AllByRecursion (λ k. Ascends (entries_of (whole k))) ks
-    pub heap : HeapHolds (held m.heap) ks
+    pub sorted : AllByRecursion (λ k. Ascends (entries_among (whole k))) ks
+    pub heap : HeapHolds m.heap.items ks
 
   -- the entries that it still deals in this order, and the errors among them
   pub record Merging {A : Type 0} (m : Merger S A) (xs : List Entry) (errors : List Error) : Type 0 where
     pub kept : List Kept
     pub stands : Stands m kept
     pub ready : (end : Direction) → Ready (is_ready end m) end kept
-    pub entries : xs ≡ merged (map whole kept)
+    pub entries : xs ≡ union_of (map whole kept)
     pub faults : errors ≡ all_errors (map whole kept)
 
   abbrev pub LeavesIf : {A : Type 0} → Bool → Merger S A → List Entry → List Error → Type 0
@@ -122,6 +121,6 @@ MergeAnswer Has step errors (Some (Err e)) t = Contains errors e × Has t [] []
 -- one call of a merger. An error ends it: from then on it gives `None`
 pub record Merges {T : Type 0} (May Ended : T → Type 0) (Has : (Error → Bool) → T → List Entry → List Error → Type 0) (end : List Entry → Option Entry × List Entry) (s : T) (r : Option R) (t : T) : Type 0 where
   pub may : May t
-  pub gives : (stops : Error → Bool) (xs : List Entry) (errors : List Error) → Has stops s xs errors → stopped stops r ≡ false → MergeAnswer (Has stops) (end xs) errors r t
+  pub gives : (stops : Error → Bool) (xs : List Entry) (errors : List Error) → Has stops s xs errors → answer_stops stops r ≡ false → MergeAnswer (Has stops) (end xs) errors r t
   pub ends : (e : Error) → r ≡ Some (Err e) → Ended t
   pub ended : Ended s → (r ≡ None) × Ended t

@@ -6,15 +6,14 @@ use Rattle.std.proofs.lemmas.Bool.{cases_eq}
 use Rattle.std.proofs.lemmas.List.{append_assoc, reverse-append, reverse-reverse, get_or-set_same, get_or-set_other}
 use Rattle.std.proofs.Math.ListN.{get_or-map}
 use Rattle.sst_entries.specs.Entry.{Entry}
-use Rattle.sst_entries.specs.Stream.{first, but_first, but_last, front_of, back_of, all_ok, stopped, nowhere, Runs, NoneStops, DealsFirst}
+use Rattle.sst_entries.specs.Stream.{first, but_first, but_last, front_of, back_of, ok_results, answer_stops, nowhere, Runs, NoneStops, DealsFirst}
 use Rattle.sst_entries.specs.declared.error.Error.{Error}
 use Rattle.sst_entries.specs.declared.stream.Direction.{Direction}
 use Rattle.sst_entries.specs.declared.stream.Direction.TheVariants.{Front, Back}
 use Rattle.sst_entries.proofs.StreamLemmas.{map_append}
 use Rattle.lsm_merge.specs.declared.merge.Merger.{Merger}
 use Rattle.lsm_merge.specs.Ends.{R, Left}
-use Rattle.lsm_heaps.specs.Tournament.{held}
-use Rattle.lsm_merge.specs.Union.{all_errors, merged}
+use Rattle.lsm_merge.specs.Union.{all_errors, union_of}
 use Rattle.lsm_merge.specs.Merge.{entry_of, is_ready}
 use Rattle.lsm_merge.proofs.Kept.{Kept, one, whole, kept_at, taken, Ready, Stands, Merging, Leaves, Failed, MergeAnswer, Merges}
 use Rattle.lsm_merge.specs.Asks.{error_told, entry_told, answer_told, ended_at, AsksSource, FillsIf, Fills, TakesLead, TakesLeadIf, TakesStep, CallsIf, Calls, IsMergerOf}
@@ -53,7 +52,7 @@ count_but_last p xs = go (reverse xs) refl
 -- of list k these entries are gone, each of which was given
 record GoneAt (lists left : List (List R)) (given : List Entry) (k : ℕ) : Type 0 where
   pub gone : List Entry
-  pub parts : slice_index_or lists k [] ≡ all_ok gone ++ slice_index_or left k []
+  pub parts : slice_index_or lists k [] ≡ ok_results gone ++ slice_index_or left k []
   pub bag : IsWithinBag gone given
 
 record Gone (lists left : List (List R)) (given : List Entry) : Type 0 where
@@ -65,13 +64,13 @@ gone_none lists = record { count = refl; at = λ k lt. record { gone = []; parts
 
 -- the first of list i is given
 gone_one : (lists left : List (List R)) (given : List Entry) (i : ℕ) (x : Entry) (rs : List R) → Gone lists left given → i < length lists → slice_index_or left i [] ≡ Ok x ∷ rs
-    → (ys : List Entry) × (slice_index_or lists i [] ≡ all_ok (ys ++ x ∷ []) ++ slice_index_or (slice_set left i rs) i []) × IsWithinBag ys given
+    → (ys : List Entry) × (slice_index_or lists i [] ≡ ok_results (ys ++ x ∷ []) ++ slice_index_or (slice_set left i rs) i []) × IsWithinBag ys given
 gone_one lists left given i x rs g lt head =
     let was = g.at i lt in
     let now : slice_index_or (slice_set left i rs) i [] ≡ rs = get_or-set_same left i rs [] (omega (arith, lt, g.count)) in (
       was.gone,
-      was.parts ∙ ap (λ (qs : List R). all_ok was.gone ++ qs) head ∙ sym (append_assoc (all_ok was.gone) (Ok x ∷ []) rs) ∙ ap (λ (qs : List R). qs ++ rs) (sym (map_append was.gone (x ∷ [])))
-          ∙ ap (λ (qs : List R). all_ok (was.gone ++ x ∷ []) ++ qs) (sym now),
+      was.parts ∙ ap (λ (qs : List R). ok_results was.gone ++ qs) head ∙ sym (append_assoc (ok_results was.gone) (Ok x ∷ []) rs) ∙ ap (λ (qs : List R). qs ++ rs) (sym (map_append was.gone (x ∷ [])))
+          ∙ ap (λ (qs : List R). ok_results (was.gone ++ x ∷ []) ++ qs) (sym now),
       was.bag,
     )
 
@@ -94,7 +93,7 @@ gone_more lists left given i x rs g lt head = record {
     | inr off ↦
         let was = g.at k within in record {
           gone = was.gone;
-          parts = was.parts ∙ ap (λ (qs : List R). all_ok was.gone ++ qs) (sym (get_or-set_other left i k rs [] off));
+          parts = was.parts ∙ ap (λ (qs : List R). ok_results was.gone ++ qs) (sym (get_or-set_other left i k rs [] off));
           bag = record { count = λ p. let few : count_by p was.gone ≤ count_by p given = was.bag.count p in omega (arith, few, count_cons p x given) };
         }
   ];
@@ -168,16 +167,16 @@ module _ {S A : Type 0} (stops : Error → Bool) (front back : S → Option R �
             within = within;
             before = g.gone;
             after = head.0;
-            stands = g.parts ∙ ap (λ (rs : List R). all_ok g.gone ++ rs) (get_or-map whole filled.kept k.place _ ∙ head.1);
+            stands = g.parts ∙ ap (λ (rs : List R). ok_results g.gone ++ rs) (get_or-map whole filled.kept k.place _ ∙ head.1);
             gave = record { count = λ p. let few : count_by p g.gone ≤ count_by p given = g.bag.count p in omega (arith, few, count_but_last p g.gone) };
           }
 
   module _ (given : List Entry) (s t : Merger S A) (r : Result (Option Entry) Error) (k : TakesLead front Front s r t) (was : Along given s) (now : s.front_ready ≡ true) where
-    abbrev merging : Merging stops front back s (merged (map whole was.kept)) (all_errors (map whole was.kept))
+    abbrev merging : Merging stops front back s (union_of (map whole was.kept)) (all_errors (map whole was.kept))
     merging = record { kept = was.kept; stands = was.stands; ready = was.ready; entries = refl; faults = refl }
 
     abbrev entries : List Entry
-    entries = merged (map whole was.kept)
+    entries = union_of (map whole was.kept)
 
     abbrev faults : List Error
     faults = all_errors (map whole was.kept)
@@ -189,7 +188,7 @@ module _ {S A : Type 0} (stops : Error → Bool) (front back : S → Option R �
     rest = whole (cleared k.lead.end (kept_at was.kept k.lead.source))
 
     wholes : map whole after ≡ slice_set (map whole was.kept) k.lead.source rest
-    wholes = rewritten (held s.heap) (held k.mid.heap) k.lead was.kept was.stands.sorted was.stands.heap k.pops.left
+    wholes = rewritten s.heap.items k.mid.heap.items k.lead was.kept was.stands.sorted was.stands.heap k.pops.left
 
     head : slice_index_or (map whole was.kept) k.lead.source [] ≡ Ok (entry_of k.lead) ∷ rest
     head = get_or-map whole was.kept k.lead.source _ ∙ front_first stops front back s k.mid entries faults merging k.lead k.pops.left k.pops.same.sources k.pops.leads now
@@ -226,7 +225,7 @@ module _ {S A : Type 0} (stops : Error → Bool) (front back : S → Option R �
               within = within;
               before = o.0 ++ entry_of k.lead ∷ [];
               after = told.0;
-              stands = o.1 ∙ ap (λ (rs : List R). all_ok (o.0 ++ entry_of k.lead ∷ []) ++ rs) (ap (λ (ls : List (List R)). slice_index_or ls k.lead.source []) (sym wholes) ∙ get_or-map whole after k.lead.source _ ∙ told.1);
+              stands = o.1 ∙ ap (λ (rs : List R). ok_results (o.0 ++ entry_of k.lead ∷ []) ++ rs) (ap (λ (ls : List (List R)). slice_index_or ls k.lead.source []) (sym wholes) ∙ get_or-map whole after k.lead.source _ ∙ told.1);
               gave = subst (λ (ys : List Entry). IsWithinBag ys given) (sym (but_last_push o.0 (entry_of k.lead))) o.2;
             }
 
@@ -248,13 +247,13 @@ module _ {S A : Type 0} (stops : Error → Bool) (front back : S → Option R �
     Has u = Leaves u front back
 
     -- after `None`
-    over : (ends : List Direction) (rs : List (Option R)) (s t : Merger S A) → Leaves stops front back s [] [] → Runs (Calls front Front May) nowhere s ends rs t → NoneStops (stopped stops) rs → AllByRecursion (λ r. r ≡ None) rs
+    over : (ends : List Direction) (rs : List (Option R)) (s t : Merger S A) → Leaves stops front back s [] [] → Runs (Calls front Front May) nowhere s ends rs t → NoneStops (answer_stops stops) rs → AllByRecursion (λ r. r ≡ None) rs
     over ends rs s t has runs fine =
         nothing_more Any Failed Has stops ends rs s t has
         (runs_within (Calls front Front May) nowhere (Merges Any Failed Has front_of) (Merges Any Failed Has back_of) (front_merges front back May) (λ s r t no. absurd no) ends rs s t runs) fine
 
     late : (given : List Entry) (ends : List Direction) (rs : List (Option R)) (s t : Merger S A) (xs : List Entry) (errors : List Error) → s.failed ≡ false → Along given s → Leaves stops front back s xs errors
-        → Runs (Calls front Front May) nowhere s ends rs t → NoneStops (stopped stops) rs → ErrorsComeLate lists given rs
+        → Runs (Calls front Front May) nowhere s ends rs t → NoneStops (answer_stops stops) rs → ErrorsComeLate lists given rs
     late given [] [] s t xs errors on was has runs fine = tt
     late given [] (r ∷ rs) s t xs errors on was has runs fine = absurd runs
     late given (e ∷ ends) [] s t xs errors on was has runs fine = absurd runs
@@ -265,7 +264,7 @@ module _ {S A : Type 0} (stops : Error → Bool) (front back : S → Option R �
         go r call.step call.answer call.steps call.state (λ x more leaves on. late (x ∷ given) ends rs j t (but_first xs) errors on more leaves runs.2 fine.1) fine.0 ((front_merges front back May s r j runs.1).gives stops xs errors has fine.0)
       where
         go : (r : Option R) (q : Result (Option Entry) Error) {led : Merger S A} → r ≡ answer_told q → TakesStep front Front s q led → runs.0 ≡ ended_at q led
-            → ((x : Entry) → Along (x ∷ given) runs.0 → Leaves stops front back runs.0 (but_first xs) errors → runs.0.failed ≡ false → ErrorsComeLate lists (x ∷ given) rs) → stopped stops r ≡ false → MergeAnswer (Leaves stops front back) (front_of xs) errors r runs.0 → ErrorsComeLate lists given (r ∷ rs)
+            → ((x : Entry) → Along (x ∷ given) runs.0 → Leaves stops front back runs.0 (but_first xs) errors → runs.0.failed ≡ false → ErrorsComeLate lists (x ∷ given) rs) → answer_stops stops r ≡ false → MergeAnswer (Leaves stops front back) (front_of xs) errors r runs.0 → ErrorsComeLate lists given (r ∷ rs)
         go None q is steps led more ok a = none_late lists given rs (over ends rs runs.0 t a.2 runs.2 fine.1)
         go (Some (Ok x)) (Ok (Some y)) {led = l} is steps led more ok a =
             let same : y ≡ x = cc in
@@ -293,6 +292,6 @@ module _ {S A : Type 0} (front back : S → Option R → S → Type 0) (May : Me
   pub merger_late : MeetsErrorsLate front back its (Calls front Front May) m
   merger_late = record {
     meets = λ stops lists sorted ends rs t runs fine.
-        late stops front back lists May [] ends rs m t (merged lists) (all_errors lists) of.fine (starts_along stops lists sorted)
+        late stops front back lists May [] ends rs m t (union_of lists) (all_errors lists) of.fine (starts_along stops lists sorted)
         (new_leaves front back m its of.sources of.empty of.no_front of.no_back of.fine stops lists sorted.deal sorted.ascend) runs fine;
   }

@@ -18,7 +18,7 @@ use Rattle.sst_entries.proofs.Lists.{all_more, all_append, all_front, all_behind
 use Rattle.sst_entries.proofs.OrderLemmas.{gt_first}
 use Rattle.lsm_merge.specs.declared.merge.HeapItem.{HeapItem}
 use Rattle.lsm_merge.specs.Ends.{R}
-use Rattle.lsm_merge.specs.Union.{item_cmp, AtMost, Ascends, entries_of, errors_of, all_errors, merged}
+use Rattle.lsm_merge.specs.Union.{item_cmp, AtMost, Ascends, entries_among, errors_among, all_errors, union_of}
 use Rattle.lsm_merge.specs.Merge.{end_number, turn_cmp, entry_of}
 use Rattle.lsm_merge.proofs.Kept.{Kept, one, whole, taken_at, kept_at, taken, HeapHolds, Ready}
 use Rattle.lsm_merge.proofs.MergedLemmas.{item_total, Above, at_most_chain, merged_least, merged_greatest}
@@ -64,12 +64,12 @@ turn_end x y h same at_back at_front =
 
 -- ---- what bounds a source
 
-entries_append : (xs ys : List R) → entries_of (xs ++ ys) ≡ entries_of xs ++ entries_of ys
+entries_append : (xs ys : List R) → entries_among (xs ++ ys) ≡ entries_among xs ++ entries_among ys
 entries_append [] ys = refl
 entries_append (Ok x ∷ xs) ys = ap (λ (zs : List Entry). x ∷ zs) (entries_append xs ys)
 entries_append (Err e ∷ xs) ys = entries_append xs ys
 
-errors_append : (xs ys : List R) → errors_of (xs ++ ys) ≡ errors_of xs ++ errors_of ys
+errors_append : (xs ys : List R) → errors_among (xs ++ ys) ≡ errors_among xs ++ errors_among ys
 errors_append [] ys = refl
 errors_append (Ok x ∷ xs) ys = errors_append xs ys
 errors_append (Err e ∷ xs) ys = ap (λ (zs : List Error). e ∷ zs) (errors_append xs ys)
@@ -83,25 +83,25 @@ ascends_last [] u h = tt
 ascends_last (x ∷ xs) u h = ((all_behind (AtMost x) xs (u ∷ []) h.0).0, ascends_last xs u h.1)
 
 -- what holds of the entries that are held, and upward, holds of all of a source whose front is ready
-up_from : (P : Entry → Type 0) → ((y z : Entry) → AtMost y z → P y → P z) → (s : Kept) → Ascends (entries_of (whole s)) → (s.front ≡ None → s.rest ≡ []) → ((b : Direction) (y : Entry) → taken_at b s ≡ Some y → P y) → AllByRecursion P (entries_of (whole s))
+up_from : (P : Entry → Type 0) → ((y z : Entry) → AtMost y z → P y → P z) → (s : Kept) → Ascends (entries_among (whole s)) → (s.front ≡ None → s.rest ≡ []) → ((b : Direction) (y : Entry) → taken_at b s ≡ Some y → P y) → AllByRecursion P (entries_among (whole s))
 up_from P up s = go s.front s.rest s.back
   where
-    go : (f : Option Entry) (rs : List R) (b : Option Entry) → Ascends (entries_of (one f ++ (rs ++ one b))) → (f ≡ None → rs ≡ []) → ((c : Direction) (y : Entry) → taken_at c (record { front = f; rest = rs; back = b }) ≡ Some y → P y) → AllByRecursion P (entries_of (one f ++ (rs ++ one b)))
-    go (Some x) rs b asc ready held = (held Front x refl, all_more (AtMost x) P (λ y le. up x y le (held Front x refl)) (entries_of (rs ++ one b)) asc.0)
-    go None rs None asc ready held = subst (λ (qs : List R). AllByRecursion P (entries_of (qs ++ []))) (sym (ready refl)) tt
-    go None rs (Some x) asc ready held = subst (λ (qs : List R). AllByRecursion P (entries_of (qs ++ Ok x ∷ []))) (sym (ready refl)) (held Back x refl, tt)
+    go : (f : Option Entry) (rs : List R) (b : Option Entry) → Ascends (entries_among (one f ++ (rs ++ one b))) → (f ≡ None → rs ≡ []) → ((c : Direction) (y : Entry) → taken_at c (record { front = f; rest = rs; back = b }) ≡ Some y → P y) → AllByRecursion P (entries_among (one f ++ (rs ++ one b)))
+    go (Some x) rs b asc ready held = (held Front x refl, all_more (AtMost x) P (λ y le. up x y le (held Front x refl)) (entries_among (rs ++ one b)) asc.0)
+    go None rs None asc ready held = subst (λ (qs : List R). AllByRecursion P (entries_among (qs ++ []))) (sym (ready refl)) tt
+    go None rs (Some x) asc ready held = subst (λ (qs : List R). AllByRecursion P (entries_among (qs ++ Ok x ∷ []))) (sym (ready refl)) (held Back x refl, tt)
 
-down_from : (P : Entry → Type 0) → ((y z : Entry) → AtMost y z → P z → P y) → (s : Kept) → Ascends (entries_of (whole s)) → (s.back ≡ None → s.rest ≡ []) → ((b : Direction) (y : Entry) → taken_at b s ≡ Some y → P y) → AllByRecursion P (entries_of (whole s))
+down_from : (P : Entry → Type 0) → ((y z : Entry) → AtMost y z → P z → P y) → (s : Kept) → Ascends (entries_among (whole s)) → (s.back ≡ None → s.rest ≡ []) → ((b : Direction) (y : Entry) → taken_at b s ≡ Some y → P y) → AllByRecursion P (entries_among (whole s))
 down_from P down s = go s.front s.rest s.back
   where
-    go : (f : Option Entry) (rs : List R) (b : Option Entry) → Ascends (entries_of (one f ++ (rs ++ one b))) → (b ≡ None → rs ≡ []) → ((c : Direction) (y : Entry) → taken_at c (record { front = f; rest = rs; back = b }) ≡ Some y → P y) → AllByRecursion P (entries_of (one f ++ (rs ++ one b)))
+    go : (f : Option Entry) (rs : List R) (b : Option Entry) → Ascends (entries_among (one f ++ (rs ++ one b))) → (b ≡ None → rs ≡ []) → ((c : Direction) (y : Entry) → taken_at c (record { front = f; rest = rs; back = b }) ≡ Some y → P y) → AllByRecursion P (entries_among (one f ++ (rs ++ one b)))
     go f rs (Some x) asc ready held =
-        let parts : entries_of (one f ++ (rs ++ Ok x ∷ [])) ≡ entries_of (one f ++ rs) ++ x ∷ [] = ap entries_of (sym (append_assoc (one f) rs (Ok x ∷ []))) ∙ entries_append (one f ++ rs) (Ok x ∷ []) in
+        let parts : entries_among (one f ++ (rs ++ Ok x ∷ [])) ≡ entries_among (one f ++ rs) ++ x ∷ [] = ap entries_among (sym (append_assoc (one f) rs (Ok x ∷ []))) ∙ entries_append (one f ++ rs) (Ok x ∷ []) in
         let top : P x = held Back x refl in
-        subst (AllByRecursion P) (sym parts) (all_append P (entries_of (one f ++ rs)) (x ∷ [])
-        (all_more (λ y. AtMost y x) P (λ y le. down y x le top) (entries_of (one f ++ rs)) (ascends_last (entries_of (one f ++ rs)) x (subst Ascends parts asc))) (top, tt))
-    go None rs None asc ready held = subst (λ (qs : List R). AllByRecursion P (entries_of (qs ++ []))) (sym (ready refl)) tt
-    go (Some x) rs None asc ready held = subst (λ (qs : List R). AllByRecursion P (entries_of (Ok x ∷ (qs ++ [])))) (sym (ready refl)) (held Front x refl, tt)
+        subst (AllByRecursion P) (sym parts) (all_append P (entries_among (one f ++ rs)) (x ∷ [])
+        (all_more (λ y. AtMost y x) P (λ y le. down y x le top) (entries_among (one f ++ rs)) (ascends_last (entries_among (one f ++ rs)) x (subst Ascends parts asc))) (top, tt))
+    go None rs None asc ready held = subst (λ (qs : List R). AllByRecursion P (entries_among (qs ++ []))) (sym (ready refl)) tt
+    go (Some x) rs None asc ready held = subst (λ (qs : List R). AllByRecursion P (entries_among (Ok x ∷ (qs ++ [])))) (sym (ready refl)) (held Front x refl, tt)
 
 -- ---- a source without one of the entries that were held
 
@@ -139,10 +139,10 @@ last_whole s Front x e alone =
     let before : s.rest ++ one s.back ≡ [] = ap (λ (f : Option Entry). s.rest ++ one f) none.0 ∙ ap (λ (rs : List R). rs ++ []) none.1 in
     ap (λ (f : Option Entry). one f ++ (s.rest ++ one s.back)) e ∙ ap (λ (rs : List R). Ok x ∷ rs) before ∙ ap (λ (rs : List R). rs ++ Ok x ∷ []) (sym before)
 
-errors_set : (lists : List (List R)) (k : ℕ) (rs : List R) → k < length lists → errors_of (slice_index_or lists k []) ≡ errors_of rs → all_errors lists ≡ all_errors (slice_set lists k rs)
+errors_set : (lists : List (List R)) (k : ℕ) (rs : List R) → k < length lists → errors_among (slice_index_or lists k []) ≡ errors_among rs → all_errors lists ≡ all_errors (slice_set lists k rs)
 errors_set [] k rs lt e = absurd (omega arith)
 errors_set (l ∷ lists) zero rs lt e = ap (λ (es : List Error). es ++ all_errors lists) e
-errors_set (l ∷ lists) (suc k) rs lt e = ap (λ (es : List Error). errors_of l ++ es) (errors_set lists k rs (omega arith) e)
+errors_set (l ∷ lists) (suc k) rs lt e = ap (λ (es : List Error). errors_among l ++ es) (errors_set lists k rs (omega arith) e)
 
 pub length_map : {A B : Type 0} (f : A → B) (xs : List A) → length (map f xs) ≡ length xs
 length_map f [] = refl
@@ -151,7 +151,7 @@ length_map f (x ∷ xs) = let more = length_map f xs in omega (arith, more)
 -- ---- an item is taken out
 
 abbrev pub Sorted : Kept → Type 0
-Sorted s = Ascends (entries_of (whole s))
+Sorted s = Ascends (entries_among (whole s))
 
 module _ {A : Type 0} (hs mid : List (HeapItem A)) (h : HeapItem A) (ks : List Kept) (sorted : AllByRecursion Sorted ks) (heap : HeapHolds hs ks) (pops : IsPermutation hs (h ∷ mid)) where
   abbrev pub its : Kept
@@ -195,8 +195,8 @@ module _ {A : Type 0} (hs mid : List (HeapItem A)) (h : HeapItem A) (ks : List K
   rewritten = map-set whole ks h.source (cleared h.end its)
 
   -- what holds of each held entry of a source, and upward or downward, holds of each of its entries
-  all_of : (P : Entry → Type 0) (j : ℕ) → AllByRecursion P (entries_of (whole (kept_at ks j))) → AllByRecursion P (entries_of (slice_index_or (map whole ks) j []))
-  all_of P j = subst (λ (rs : List R). AllByRecursion P (entries_of rs)) (sym (at j))
+  all_of : (P : Entry → Type 0) (j : ℕ) → AllByRecursion P (entries_among (whole (kept_at ks j))) → AllByRecursion P (entries_among (slice_index_or (map whole ks) j []))
+  all_of P j = subst (λ (rs : List R). AllByRecursion P (entries_among rs)) (sym (at j))
 
   module _ (least : All (λ y. is_gt (turn_cmp h y) ≡ false) hs) (ready : Ready true Front ks) where
     over : (j : ℕ) (b : Direction) (y : Entry) → taken ks j b ≡ Some y → (g : HeapItem A) × (g.source ≡ j) × (g.end ≡ b) × (entry_of g ≡ y) × (is_gt (turn_cmp h g) ≡ false)
@@ -216,22 +216,22 @@ module _ {A : Type 0} (hs mid : List (HeapItem A)) (h : HeapItem A) (ks : List K
         front_none (Some y) e =
             let g = over h.source Front y e in
             let above : Above y (entry_of h) = subst (λ (z : Entry). Above z (entry_of h)) g.3 (turn_end h g.0 g.4 g.1 back g.2) in
-            let asc : Ascends (y ∷ entries_of (its.rest ++ one its.back)) = subst (λ (f : Option Entry). Ascends (entries_of (one f ++ (its.rest ++ one its.back)))) e own_sorted in
+            let asc : Ascends (y ∷ entries_among (its.rest ++ one its.back)) = subst (λ (f : Option Entry). Ascends (entries_among (one f ++ (its.rest ++ one its.back)))) e own_sorted in
             let last : its.back ≡ Some (entry_of h) = subst (λ (b : Direction). taken ks h.source b ≡ Some (entry_of h)) back told in
-            let parts : entries_of (its.rest ++ one its.back) ≡ entries_of its.rest ++ entry_of h ∷ [] = ap (λ (b : Option Entry). entries_of (its.rest ++ one b)) last ∙ entries_append its.rest (Ok (entry_of h) ∷ []) in
-            let under : AtMost y (entry_of h) = (all_behind (AtMost y) (entries_of its.rest) (entry_of h ∷ []) (subst (AllByRecursion (AtMost y)) parts asc.0)).0 in
+            let parts : entries_among (its.rest ++ one its.back) ≡ entries_among its.rest ++ entry_of h ∷ [] = ap (λ (b : Option Entry). entries_among (its.rest ++ one b)) last ∙ entries_append its.rest (Ok (entry_of h) ∷ []) in
+            let under : AtMost y (entry_of h) = (all_behind (AtMost y) (entries_among its.rest) (entry_of h ∷ []) (subst (AllByRecursion (AtMost y)) parts asc.0)).0 in
             absurd (not_both y (entry_of h) under above)
 
     pub least_first : whole its ≡ Ok (entry_of h) ∷ whole (cleared h.end its)
     least_first = first_whole its h.end (entry_of h) told least_alone
 
-    pub least_merged : merged (map whole ks) ≡ entry_of h ∷ merged (map whole without)
+    pub least_merged : union_of (map whole ks) ≡ entry_of h ∷ union_of (map whole without)
     least_merged =
-        merged_least (map whole ks) h.source (entry_of h) (whole (cleared h.end its)) (omega (arith, within, length_map whole ks)) (ap entries_of (at h.source ∙ least_first))
+        merged_least (map whole ks) h.source (entry_of h) (whole (cleared h.end its)) (omega (arith, within, length_map whole ks)) (ap entries_among (at h.source ∙ least_first))
         (λ j lt. all_of (λ y. Above y (entry_of h)) j (up_from (λ y. Above y (entry_of h)) (λ y z le up. above_chain y z le up) (kept_at ks j) (all_at Sorted ks j _ (omega (arith, within)) sorted) (ready j) (λ b y e. before j b y lt e)))
         (λ j gt lt. all_of (AtMost (entry_of h)) j (up_from (AtMost (entry_of h)) (λ y z le up. at_most_chain (entry_of h) y z up le) (kept_at ks j) (all_at Sorted ks j _ (omega (arith, lt, length_map whole ks)) sorted) (ready j) (λ b y e. over_at_most j b y e)))
-        ((subst (λ (rs : List R). Ascends (entries_of rs)) least_first own_sorted).0)
-        ∙ ap (λ (ls : List (List R)). entry_of h ∷ merged ls) (sym rewritten)
+        ((subst (λ (rs : List R). Ascends (entries_among rs)) least_first own_sorted).0)
+        ∙ ap (λ (ls : List (List R)). entry_of h ∷ union_of ls) (sym rewritten)
       where
         before : (j : ℕ) (b : Direction) (y : Entry) → j < h.source → taken ks j b ≡ Some y → Above y (entry_of h)
         before j b y lt e = let g = over j b y e in subst (λ (z : Entry). Above z (entry_of h)) g.3 (turn_source h g.0 g.4 (subst (λ (i : ℕ). i < h.source) (sym g.1) lt))
@@ -245,10 +245,10 @@ module _ {A : Type 0} (hs mid : List (HeapItem A)) (h : HeapItem A) (ks : List K
 
     pub least_errors : all_errors (map whole ks) ≡ all_errors (map whole without)
     least_errors =
-        errors_set (map whole ks) h.source (whole (cleared h.end its)) (omega (arith, within, length_map whole ks)) (ap errors_of (at h.source ∙ least_first)) ∙ ap all_errors (sym rewritten)
+        errors_set (map whole ks) h.source (whole (cleared h.end its)) (omega (arith, within, length_map whole ks)) (ap errors_among (at h.source ∙ least_first)) ∙ ap all_errors (sym rewritten)
 
     pub least_sorted : AllByRecursion Sorted without
-    least_sorted = all_set Sorted ks h.source (cleared h.end its) sorted ((subst (λ (rs : List R). Ascends (entries_of rs)) least_first own_sorted).1)
+    least_sorted = all_set Sorted ks h.source (cleared h.end its) sorted ((subst (λ (rs : List R). Ascends (entries_among rs)) least_first own_sorted).1)
 
     pub least_spent : h.end ≡ Back → (kept_at ks h.source).rest ≡ []
     least_spent e = (least_alone e).1
@@ -279,24 +279,24 @@ module _ {A : Type 0} (hs mid : List (HeapItem A)) (h : HeapItem A) (ks : List K
             let g = under h.source Back y e in
             let above : Above (entry_of h) y = subst (Above (entry_of h)) g.3 (turn_end g.0 h g.4 (sym g.1) g.2 front) in
             let first : its.front ≡ Some (entry_of h) = subst (λ (b : Direction). taken ks h.source b ≡ Some (entry_of h)) front told in
-            let asc : Ascends (entry_of h ∷ entries_of (its.rest ++ one its.back)) = subst (λ (f : Option Entry). Ascends (entries_of (one f ++ (its.rest ++ one its.back)))) first own_sorted in
-            let parts : entries_of (its.rest ++ one its.back) ≡ entries_of its.rest ++ y ∷ [] = ap (λ (b : Option Entry). entries_of (its.rest ++ one b)) e ∙ entries_append its.rest (Ok y ∷ []) in
-            let over : AtMost (entry_of h) y = (all_behind (AtMost (entry_of h)) (entries_of its.rest) (y ∷ []) (subst (AllByRecursion (AtMost (entry_of h))) parts asc.0)).0 in
+            let asc : Ascends (entry_of h ∷ entries_among (its.rest ++ one its.back)) = subst (λ (f : Option Entry). Ascends (entries_among (one f ++ (its.rest ++ one its.back)))) first own_sorted in
+            let parts : entries_among (its.rest ++ one its.back) ≡ entries_among its.rest ++ y ∷ [] = ap (λ (b : Option Entry). entries_among (its.rest ++ one b)) e ∙ entries_append its.rest (Ok y ∷ []) in
+            let over : AtMost (entry_of h) y = (all_behind (AtMost (entry_of h)) (entries_among its.rest) (y ∷ []) (subst (AllByRecursion (AtMost (entry_of h))) parts asc.0)).0 in
             absurd (not_both (entry_of h) y over above)
 
     greatest_last : whole its ≡ whole (cleared h.end its) ++ Ok (entry_of h) ∷ []
     greatest_last = last_whole its h.end (entry_of h) told greatest_alone
 
-    last_parts : entries_of (whole its) ≡ entries_of (whole (cleared h.end its)) ++ entry_of h ∷ []
-    last_parts = ap entries_of greatest_last ∙ entries_append (whole (cleared h.end its)) (Ok (entry_of h) ∷ [])
+    last_parts : entries_among (whole its) ≡ entries_among (whole (cleared h.end its)) ++ entry_of h ∷ []
+    last_parts = ap entries_among greatest_last ∙ entries_append (whole (cleared h.end its)) (Ok (entry_of h) ∷ [])
 
-    pub greatest_merged : merged (map whole ks) ≡ merged (map whole without) ++ entry_of h ∷ []
+    pub greatest_merged : union_of (map whole ks) ≡ union_of (map whole without) ++ entry_of h ∷ []
     greatest_merged =
-        merged_greatest (map whole ks) h.source (entry_of h) (whole (cleared h.end its)) (omega (arith, within, length_map whole ks)) (ap entries_of (at h.source) ∙ last_parts)
+        merged_greatest (map whole ks) h.source (entry_of h) (whole (cleared h.end its)) (omega (arith, within, length_map whole ks)) (ap entries_among (at h.source) ∙ last_parts)
         (λ j lt. all_of (λ y. AtMost y (entry_of h)) j (down_from (λ y. AtMost y (entry_of h)) (λ y z le up. at_most_chain y z (entry_of h) le up) (kept_at ks j) (all_at Sorted ks j _ (omega (arith, within)) sorted) (ready j) (λ b y e. under_at_most j b y e)))
         (λ j gt lt. all_of (Above (entry_of h)) j (down_from (Above (entry_of h)) (λ y z le up. above_chain y z le up) (kept_at ks j) (all_at Sorted ks j _ (omega (arith, lt, length_map whole ks)) sorted) (ready j) (λ b y e. after j b y gt e)))
-        (ascends_last (entries_of (whole (cleared h.end its))) (entry_of h) (subst Ascends last_parts own_sorted))
-        ∙ ap (λ (ls : List (List R)). merged ls ++ entry_of h ∷ []) (sym rewritten)
+        (ascends_last (entries_among (whole (cleared h.end its))) (entry_of h) (subst Ascends last_parts own_sorted))
+        ∙ ap (λ (ls : List (List R)). union_of ls ++ entry_of h ∷ []) (sym rewritten)
       where
         after : (j : ℕ) (b : Direction) (y : Entry) → h.source < j → taken ks j b ≡ Some y → Above (entry_of h) y
         after j b y gt e = let g = under j b y e in subst (Above (entry_of h)) g.3 (turn_source g.0 h g.4 (subst (λ (i : ℕ). h.source < i) (sym g.1) gt))
@@ -311,11 +311,11 @@ module _ {A : Type 0} (hs mid : List (HeapItem A)) (h : HeapItem A) (ks : List K
     pub greatest_errors : all_errors (map whole ks) ≡ all_errors (map whole without)
     greatest_errors =
         errors_set (map whole ks) h.source (whole (cleared h.end its)) (omega (arith, within, length_map whole ks))
-        (ap errors_of (at h.source ∙ greatest_last) ∙ errors_append (whole (cleared h.end its)) (Ok (entry_of h) ∷ []) ∙ append-nil (errors_of (whole (cleared h.end its))))
+        (ap errors_among (at h.source ∙ greatest_last) ∙ errors_append (whole (cleared h.end its)) (Ok (entry_of h) ∷ []) ∙ append-nil (errors_among (whole (cleared h.end its))))
         ∙ ap all_errors (sym rewritten)
 
     pub greatest_sorted : AllByRecursion Sorted without
-    greatest_sorted = all_set Sorted ks h.source (cleared h.end its) sorted (ascends_front (entries_of (whole (cleared h.end its))) (entry_of h ∷ []) (subst Ascends last_parts own_sorted))
+    greatest_sorted = all_set Sorted ks h.source (cleared h.end its) sorted (ascends_front (entries_among (whole (cleared h.end its))) (entry_of h ∷ []) (subst Ascends last_parts own_sorted))
 
     pub greatest_spent : h.end ≡ Front → (kept_at ks h.source).rest ≡ []
     greatest_spent e = (greatest_alone e).1

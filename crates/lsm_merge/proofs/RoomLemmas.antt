@@ -10,8 +10,8 @@ use Rattle.sst_entries.specs.declared.stream.Direction.{Direction}
 use Rattle.sst_entries.specs.declared.stream.Direction.TheVariants.{Front, Back}
 use Rattle.lsm_merge.specs.declared.merge.HeapItem.{HeapItem}
 use Rattle.lsm_merge.specs.declared.merge.Merger.{Merger}
+use Rattle.lsm_heaps.specs.Tournament.{Contest}
 use Rattle.lsm_merge.specs.Ends.{R, Goes, ends_size}
-use Rattle.lsm_heaps.specs.Tournament.{held, room}
 use Rattle.lsm_merge.specs.Merge.{held_of, is_ready, Adds, SameRoom, Bounded, HasPlaces, HasPlacesIf, MayMerge, merge_total, merge_size}
 use Rattle.lsm_merge.proofs.Kept.{opposite}
 use Rattle.lsm_merge.specs.Asks.{Pops, made_ready}
@@ -48,18 +48,18 @@ limit_ready false other = omega arith
 
 module _ {S A : Type 0} (front back : S → Option R → S → Type 0) (can can_back : S → Type 0) (left : S → Count) where
   -- one more may be held, of source i
-  pub bounded_adds : (limit more : ℕ → ℕ) (most i : ℕ) (end : Direction) (s t : Merger S A) → Bounded front back can can_back left limit most s → Adds end i (held s.heap) (held t.heap)
+  pub bounded_adds : (limit more : ℕ → ℕ) (most i : ℕ) (end : Direction) (s t : Merger S A) → Bounded front back can can_back left limit most s → Adds end i s.heap.items t.heap.items
       → All (Goes front back can can_back left) t.sources.items → SameRoom s t → i < length s.sources.items → ((k : ℕ) → limit k ≤ more k) → limit i < more i → Bounded front back can can_back left more (most + 1) t
   bounded_adds limit more most i end s t was adds goes same within wider room_i =
       let n : length t.sources.items ≡ length s.sources.items = same.count in
-      let space : length t.sources.items + length t.sources.items ≤ room t.heap = omega (arith, was.space, same.count, same.room) in
-      let old_known : All (λ h. h.source < length t.sources.items) (held s.heap) = subst (λ (l : ℕ). All (λ (h : HeapItem A). h.source < l) (held s.heap)) (sym n) was.known in
+      let space : length t.sources.items + length t.sources.items ≤ t.heap.room = omega (arith, was.space, same.count, same.room) in
+      let old_known : All (λ h. h.source < length t.sources.items) s.heap.items = subst (λ (l : ℕ). All (λ (h : HeapItem A). h.source < l) s.heap.items) (sym n) was.known in
       elim adds [
         | inl e ↦ record {
           sources = goes;
           known = subst (All (λ h. h.source < length t.sources.items)) e old_known;
           space = space;
-          few = let l : length (held t.heap) ≡ length (held s.heap) = ap length (sym e) in omega (arith, was.few);
+          few = let l : length t.heap.items ≡ length s.heap.items = ap length (sym e) in omega (arith, was.few);
           each = λ k. let c : held_of k t ≡ held_of k s = ap (count_by (of_source k)) (sym e) in omega (arith, was.each k, wider k);
         }
         | inr new ↦
@@ -67,38 +67,38 @@ module _ {S A : Type 0} (front back : S → Option R → S → Type 0) (can can_
             let source : h.source ≡ i = new.1 in
             record {
               sources = goes;
-              known = All-permutation (Known (length t.sources.items)) (h ∷ held s.heap) (held t.heap) new.3 (All-from_recursion (λ h. h.source < length t.sources.items) (h ∷ held s.heap) (omega arith, recursion_from_All (Known (length t.sources.items)) (held s.heap) old_known));
+              known = All-permutation (Known (length t.sources.items)) (h ∷ s.heap.items) t.heap.items new.3 (All-from_recursion (λ h. h.source < length t.sources.items) (h ∷ s.heap.items) (omega arith, recursion_from_All (Known (length t.sources.items)) s.heap.items old_known));
               space = space;
-              few = omega (arith, was.few, length_permutation (h ∷ held s.heap) (held t.heap) new.3);
+              few = omega (arith, was.few, length_permutation (h ∷ s.heap.items) t.heap.items new.3);
               each = λ k.
-                  let c : held_of k t ≡ count_by (of_source k) (h ∷ held s.heap) = count_perm k (h ∷ held s.heap) (held t.heap) new.3 in
+                  let c : held_of k t ≡ count_by (of_source k) (h ∷ s.heap.items) = count_perm k (h ∷ s.heap.items) t.heap.items new.3 in
                   elim (h.source == k) as (λ b. (h.source == k) ≡ b → held_of k t ≤ more k) [
                     | true ↦ λ e.
                         let at : k ≡ i = sym (eqb-true h.source k e) ∙ source in
                         let here : held_of k s ≤ limit i = subst (λ (j : ℕ). held_of k s ≤ limit j) at (was.each k) in
                         let there : limit i < more k = subst (λ (j : ℕ). limit i < more j) (sym at) room_i in
-                        omega (arith, c, here, there, count_yes (of_source k) h (held s.heap) e)
-                    | false ↦ λ e. omega (arith, c, was.each k, wider k, count_no (of_source k) h (held s.heap) e)
+                        omega (arith, c, here, there, count_yes (of_source k) h s.heap.items e)
+                    | false ↦ λ e. omega (arith, c, was.each k, wider k, count_no (of_source k) h s.heap.items e)
                   ] refl;
             }
       ]
 
   -- one was taken out, and one of its source may have been added
-  pub bounded_turn : (limit : ℕ → ℕ) (most : ℕ) (end : Direction) (s t : Merger S A) (h : HeapItem A) (mid : List (HeapItem A)) → Bounded front back can can_back left limit most s → IsPermutation (held s.heap) (h ∷ mid) → Adds end h.source mid (held t.heap)
+  pub bounded_turn : (limit : ℕ → ℕ) (most : ℕ) (end : Direction) (s t : Merger S A) (h : HeapItem A) (mid : List (HeapItem A)) → Bounded front back can can_back left limit most s → IsPermutation s.heap.items (h ∷ mid) → Adds end h.source mid t.heap.items
       → All (Goes front back can can_back left) t.sources.items → SameRoom s t → Bounded front back can can_back left limit most t
   bounded_turn limit most end s t h mid was pops adds goes same =
       let n : length t.sources.items ≡ length s.sources.items = same.count in
-      let space : length t.sources.items + length t.sources.items ≤ room t.heap = omega (arith, was.space, same.count, same.room) in
-      let few : length mid < suc most = omega (arith, was.few, length_permutation (held s.heap) (h ∷ mid) pops) in
-      let fewer : suc (length mid) ≤ most = omega (arith, was.few, length_permutation (held s.heap) (h ∷ mid) pops) in
-      let known = recursion_from_All (Known (length t.sources.items)) (h ∷ mid) (All-permutation (Known (length t.sources.items)) (held s.heap) (h ∷ mid) pops (subst (λ (l : ℕ). All (λ (x : HeapItem A). x.source < l) (held s.heap)) (sym n) was.known)) in
-      let counts : (k : ℕ) → count_by (of_source k) (h ∷ mid) ≤ limit k = λ k. omega (arith, was.each k, count_perm k (held s.heap) (h ∷ mid) pops) in
+      let space : length t.sources.items + length t.sources.items ≤ t.heap.room = omega (arith, was.space, same.count, same.room) in
+      let few : length mid < suc most = omega (arith, was.few, length_permutation s.heap.items (h ∷ mid) pops) in
+      let fewer : suc (length mid) ≤ most = omega (arith, was.few, length_permutation s.heap.items (h ∷ mid) pops) in
+      let known = recursion_from_All (Known (length t.sources.items)) (h ∷ mid) (All-permutation (Known (length t.sources.items)) s.heap.items (h ∷ mid) pops (subst (λ (l : ℕ). All (λ (x : HeapItem A). x.source < l) s.heap.items) (sym n) was.known)) in
+      let counts : (k : ℕ) → count_by (of_source k) (h ∷ mid) ≤ limit k = λ k. omega (arith, was.each k, count_perm k s.heap.items (h ∷ mid) pops) in
       elim adds [
         | inl e ↦ record {
           sources = goes;
           known = subst (All (λ x. x.source < length t.sources.items)) e (All-from_recursion (λ x. x.source < length t.sources.items) mid known.1);
           space = space;
-          few = let l : length (held t.heap) ≡ length mid = ap length (sym e) in omega arith;
+          few = let l : length t.heap.items ≡ length mid = ap length (sym e) in omega arith;
           each = λ k. let c : held_of k t ≡ count_by (of_source k) mid = ap (count_by (of_source k)) (sym e) in omega (arith, counts k, count_cons (of_source k) h mid);
         }
         | inr new ↦
@@ -106,11 +106,11 @@ module _ {S A : Type 0} (front back : S → Option R → S → Type 0) (can can_
             let source : x.source ≡ h.source = new.1 in
             record {
               sources = goes;
-              known = All-permutation (Known (length t.sources.items)) (x ∷ mid) (held t.heap) new.3 (All-from_recursion (λ y. y.source < length t.sources.items) (x ∷ mid) (let low : h.source < length t.sources.items = known.0 in omega arith, known.1));
+              known = All-permutation (Known (length t.sources.items)) (x ∷ mid) t.heap.items new.3 (All-from_recursion (λ y. y.source < length t.sources.items) (x ∷ mid) (let low : h.source < length t.sources.items = known.0 in omega arith, known.1));
               space = space;
-              few = omega (arith, length_permutation (x ∷ mid) (held t.heap) new.3);
+              few = omega (arith, length_permutation (x ∷ mid) t.heap.items new.3);
               each = λ k.
-                  let c : held_of k t ≡ count_by (of_source k) (x ∷ mid) = count_perm k (x ∷ mid) (held t.heap) new.3 in
+                  let c : held_of k t ≡ count_by (of_source k) (x ∷ mid) = count_perm k (x ∷ mid) t.heap.items new.3 in
                   let same_weight : weight (of_source k x) ≡ weight (of_source k h) = ap (λ (j : ℕ). weight (j == k)) source in
                   omega (arith, c, counts k, same_weight, count_cons (of_source k) x mid, count_cons (of_source k) h mid);
             }
@@ -120,14 +120,14 @@ module _ {S A : Type 0} (front back : S → Option R → S → Type 0) (can can_
   pub bounded_same : (limit more : ℕ → ℕ) (few most : ℕ) (s t : Merger S A) → Bounded front back can can_back left limit few s → t.sources ≡ s.sources → t.heap ≡ s.heap → ((k : ℕ) → limit k ≤ more k) → few ≤ most → Bounded front back can can_back left more most t
   bounded_same limit more few most s t was sources heap wider fewer =
       let n : length t.sources.items ≡ length s.sources.items = ap (λ v. length v.items) sources in
-      let r : room t.heap ≡ room s.heap = ap room heap in
-      let l : length (held t.heap) ≡ length (held s.heap) = ap (λ h. length (held h)) heap in
+      let r : t.heap.room ≡ s.heap.room = ap (λ (h : Contest (HeapItem A)). h.room) heap in
+      let l : length t.heap.items ≡ length s.heap.items = ap (λ h. length h.items) heap in
       record {
         sources = subst (λ v. All (Goes front back can can_back left) v.items) (sym sources) was.sources;
-        known = subst (λ (j : ℕ). All (Known {A = A} j) (held t.heap)) (sym n) (subst (λ h. All (Known (length s.sources.items)) (held h)) (sym heap) was.known);
+        known = subst (λ (j : ℕ). All (Known {A = A} j) t.heap.items) (sym n) (subst (λ h. All (Known (length s.sources.items)) h.items) (sym heap) was.known);
         space = omega (arith, was.space);
         few = omega (arith, was.few);
-        each = λ k. let c : held_of k t ≡ held_of k s = ap (λ h. count_by (of_source k) (held h)) heap in omega (arith, was.each k, wider k);
+        each = λ k. let c : held_of k t ≡ held_of k s = ap (λ h. count_by (of_source k) h.items) heap in omega (arith, was.each k, wider k);
       }
 
   abbrev Within : (ℕ → ℕ) → ℕ → Merger S A → Type 0
@@ -159,7 +159,7 @@ module _ {S A : Type 0} (front back : S → Option R → S → Type 0) (can can_
       bounded_same (limit_at end s) (λ k. one_if (nat_lt k 0) + one_if (is_ready (opposite end) s)) (most_at end s) (0 + cond (is_ready (opposite end) s) (length s.sources.items) 0) s s (places_at end s was) refl refl
       (λ k. omega (arith, none)) (omega (arith, no_more))
 
-  pub fill_next : (end : Direction) (i : ℕ) (s m t : Merger S A) → FilledTo end s i m → Adds end i (held m.heap) (held t.heap) → All (Goes front back can can_back left) t.sources.items → SameRoom m t → i < length m.sources.items → FilledTo end s (i + 1) t
+  pub fill_next : (end : Direction) (i : ℕ) (s m t : Merger S A) → FilledTo end s i m → Adds end i m.heap.items t.heap.items → All (Goes front back can can_back left) t.sources.items → SameRoom m t → i < length m.sources.items → FilledTo end s (i + 1) t
   fill_next end i s m t was adds goes same within =
       let other : Bool = is_ready (opposite end) s in
       let most : ℕ = cond other (length s.sources.items) 0 in
@@ -187,16 +187,16 @@ module _ {S A : Type 0} (front back : S → Option R → S → Type 0) (can can_
     -- the source of a popped item
     pub popped_known : h.source < length m.sources.items
     popped_known =
-        let known : h.source < length s.sources.items = (recursion_from_All (Known (length s.sources.items)) (h ∷ held m.heap) (All-permutation (Known (length s.sources.items)) (held s.heap) (h ∷ held m.heap) pops.left was.known)).0 in
+        let known : h.source < length s.sources.items = (recursion_from_All (Known (length s.sources.items)) (h ∷ m.heap.items) (All-permutation (Known (length s.sources.items)) s.heap.items (h ∷ m.heap.items) pops.left was.known)).0 in
         omega (arith, known, same_count)
 
     pub popped_goes : All (Goes front back can can_back left) m.sources.items
     popped_goes = subst (λ v. All (Goes front back can can_back left) v.items) (sym pops.same.sources) was.sources
 
     -- there is room for the next of its source
-    pub popped_space : length (held m.heap) < room m.heap
+    pub popped_space : length m.heap.items < m.heap.room
     popped_space =
-        omega (arith, was.few, was.space, pops.same.room, length_permutation (held s.heap) (h ∷ held m.heap) pops.left, at_most_all s.front_ready (length s.sources.items), at_most_all s.back_ready (length s.sources.items))
+        omega (arith, was.few, was.space, pops.same.room, length_permutation s.heap.items (h ∷ m.heap.items) pops.left, at_most_all s.front_ready (length s.sources.items), at_most_all s.back_ready (length s.sources.items))
       where
         at_most_all : (b : Bool) (n : ℕ) → cond b n 0 ≤ n
         at_most_all true n = omega arith
@@ -205,7 +205,7 @@ module _ {S A : Type 0} (front back : S → Option R → S → Type 0) (can can_
     pub popped_total : suc (merge_total left m) ≡ merge_total left s
     popped_total =
         let sizes : sum_by (ends_size left) m.sources.items ≡ sum_by (ends_size left) s.sources.items = ap (λ v. sum_by (ends_size left) v.items) pops.same.sources in
-        omega (arith, sizes, length_permutation (held s.heap) (h ∷ held m.heap) pops.left)
+        omega (arith, sizes, length_permutation s.heap.items (h ∷ m.heap.items) pops.left)
 
   -- a pop, and the take after it
   pub same_popped : (end : Direction) (s m t : Merger S A) (h : HeapItem A) → Pops end s h m → SameRoom m t → SameRoom s t
@@ -217,7 +217,7 @@ module _ {S A : Type 0} (front back : S → Option R → S → Type 0) (can can_
     failed = same.failed ∙ pops.same.failed;
   }
 
-  pub fits_turn : (end : Direction) (s t : Merger S A) (h : HeapItem A) (mid : List (HeapItem A)) → HasPlaces front back can can_back left s → IsPermutation (held s.heap) (h ∷ mid) → Adds end h.source mid (held t.heap)
+  pub fits_turn : (end : Direction) (s t : Merger S A) (h : HeapItem A) (mid : List (HeapItem A)) → HasPlaces front back can can_back left s → IsPermutation s.heap.items (h ∷ mid) → Adds end h.source mid t.heap.items
       → All (Goes front back can can_back left) t.sources.items → SameRoom s t → HasPlaces front back can can_back left t
   fits_turn end s t h mid was pops adds goes same =
       let first : one_if t.front_ready ≡ one_if s.front_ready = ap one_if same.front_ready in

@@ -13,8 +13,7 @@ use Rattle.sst_entries.specs.declared.error.Error.{Error}
 use Rattle.lsm_merge.specs.declared.merge.HeapItem.{HeapItem}
 use Rattle.lsm_merge.specs.declared.merge.Merger.{Merger}
 use Rattle.lsm_merge.specs.Ends.{R, Left}
-use Rattle.lsm_heaps.specs.Tournament.{held}
-use Rattle.lsm_merge.specs.Union.{entries_of, all_entries, all_errors, in_order, merged}
+use Rattle.lsm_merge.specs.Union.{entries_among, all_entries, all_errors, sort_entries, union_of}
 use Rattle.lsm_merge.specs.Merge.{turn_cmp, entry_of, is_ready}
 use Rattle.lsm_merge.proofs.Kept.{Kept, one, whole, taken_at, kept_at, taken, Ready, HeapHolds, Stands, Merging, LeavesIf, Leaves, Took, opposite}
 use Rattle.lsm_merge.proofs.HeldLemmas.{held_none}
@@ -47,16 +46,16 @@ none_merged : (ks : List Kept) → ((j : ℕ) → whole (kept_at ks j) ≡ []) �
 none_merged [] h = (refl, refl)
 none_merged (k ∷ ks) h =
     let more = none_merged ks (λ j. h (suc j)) in
-    (ap (λ (rs : List R). entries_of rs ++ all_entries (map whole ks)) (h zero) ∙ more.0, ap (λ (rs : List R). all_errors (rs ∷ map whole ks)) (h zero) ∙ more.1)
+    (ap (λ (rs : List R). entries_among rs ++ all_entries (map whole ks)) (h zero) ∙ more.0, ap (λ (rs : List R). all_errors (rs ∷ map whole ks)) (h zero) ∙ more.1)
 
 module _ {S A : Type 0} (stops : Error → Bool) (front back : S → Option R → S → Type 0) (s m : Merger S A) (xs : List Entry) (errors : List Error) (was : Merging stops front back s xs errors) where
   -- where the heap is empty, nothing is left
-  pub none_left : (end : Direction) → is_ready end s ≡ true → held s.heap ≡ [] → held m.heap ≡ [] → m.sources ≡ s.sources → m.front_ready ≡ s.front_ready → m.back_ready ≡ s.back_ready → (xs ≡ []) × (errors ≡ []) × Merging stops front back m [] errors
+  pub none_left : (end : Direction) → is_ready end s ≡ true → s.heap.items ≡ [] → m.heap.items ≡ [] → m.sources ≡ s.sources → m.front_ready ≡ s.front_ready → m.back_ready ≡ s.back_ready → (xs ≡ []) × (errors ≡ []) × Merging stops front back m [] errors
   none_left end now empty still sources first_flag second_flag =
       let ready : Ready true end was.kept = subst (λ (f : Bool). Ready f end was.kept) now (was.ready end) in
-      let free : (j : ℕ) (b : Direction) → taken was.kept j b ≡ None = λ j b. held_none (held s.heap) was.kept j b was.stands.heap empty in
+      let free : (j : ℕ) (b : Direction) → taken was.kept j b ≡ None = λ j b. held_none s.heap.items was.kept j b was.stands.heap empty in
       let none = none_merged was.kept (λ j. none_whole (kept_at was.kept j) (free j Back) (free j Front) (ready j (free j end))) in
-      let no_entries : merged (map whole was.kept) ≡ [] = ap in_order none.0 in (
+      let no_entries : union_of (map whole was.kept) ≡ [] = ap sort_entries none.0 in (
         was.entries ∙ no_entries,
         was.faults ∙ none.1,
         record {
@@ -76,9 +75,9 @@ module _ {S A : Type 0} (stops : Error → Bool) (front back : S → Option R �
       flags Back = second_flag
       flags Front = first_flag
 
-  module _ (h : HeapItem A) (pops : IsPermutation (held s.heap) (h ∷ held m.heap)) (sources : m.sources ≡ s.sources) where
+  module _ (h : HeapItem A) (pops : IsPermutation s.heap.items (h ∷ m.heap.items)) (sources : m.sources ≡ s.sources) where
     abbrev pub others : List Kept
-    others = without (held s.heap) (held m.heap) h was.kept was.stands.sorted was.stands.heap pops
+    others = without s.heap.items m.heap.items h was.kept was.stands.sorted was.stands.heap pops
 
     others_stand : AllByRecursion Sorted others → Stands stops front back m others
     others_stand sorted = record {
@@ -86,7 +85,7 @@ module _ {S A : Type 0} (stops : Error → Bool) (front back : S → Option R �
           (zip_right (λ s k. Left stops front back s k.rest) s.sources.items was.kept h.source (cleared h.end (kept_at was.kept h.source)) _ was.stands.sources
           (λ u l. subst (Left stops front back u) (sym (cleared_same h.end (kept_at was.kept h.source))) l));
       sorted = sorted;
-      heap = without_heap (held s.heap) (held m.heap) h was.kept was.stands.sorted was.stands.heap pops;
+      heap = without_heap s.heap.items m.heap.items h was.kept was.stands.sorted was.stands.heap pops;
     }
       where
         cleared_same : (b : Direction) (k : Kept) → (cleared b k).rest ≡ k.rest
@@ -94,13 +93,13 @@ module _ {S A : Type 0} (stops : Error → Bool) (front back : S → Option R �
         cleared_same Back k = refl
 
     gone : taken others h.source h.end ≡ None
-    gone = without_gone (held s.heap) (held m.heap) h was.kept was.stands.sorted was.stands.heap pops
+    gone = without_gone s.heap.items m.heap.items h was.kept was.stands.sorted was.stands.heap pops
 
     elsewhere : (j : ℕ) (c : Direction) → (j ≡ h.source → c ≡ h.end → ⊥) → taken others j c ≡ taken was.kept j c
-    elsewhere = without_elsewhere (held s.heap) (held m.heap) h was.kept was.stands.sorted was.stands.heap pops
+    elsewhere = without_elsewhere s.heap.items m.heap.items h was.kept was.stands.sorted was.stands.heap pops
 
     rests : (j : ℕ) → (kept_at others j).rest ≡ (kept_at was.kept j).rest
-    rests = without_rest (held s.heap) (held m.heap) h was.kept was.stands.sorted was.stands.heap pops
+    rests = without_rest s.heap.items m.heap.items h was.kept was.stands.sorted was.stands.heap pops
 
     -- the end that was not asked
     others_ready : (f : Bool) (c : Direction) → Ready f c was.kept → (h.end ≡ c → (kept_at was.kept h.source).rest ≡ []) → Ready f c others
@@ -135,58 +134,58 @@ module _ {S A : Type 0} (stops : Error → Bool) (front back : S → Option R �
         ]
 
     step_merging : (end : Direction) (t : Merger S A) → Ready true end was.kept → (h.end ≡ opposite end → (kept_at was.kept h.source).rest ≡ []) → Took stops front back end h.source others t → is_ready end t ≡ true → is_ready (opposite end) t ≡ is_ready (opposite end) s
-        → errors ≡ all_errors (map whole others) → Merging stops front back t (merged (map whole others)) errors
+        → errors ≡ all_errors (map whole others) → Merging stops front back t (union_of (map whole others)) errors
     step_merging end t ready spent took now other faults = record {
       kept = took.kept;
       stands = took.stands;
       ready = ready_turned end t ready spent took now other;
-      entries = ap merged (sym took.wholes);
+      entries = ap union_of (sym took.wholes);
       faults = faults ∙ ap all_errors (sym took.wholes);
     }
 
-    module _ (least : All (λ y. is_gt (turn_cmp h y) ≡ false) (held s.heap)) (now : s.front_ready ≡ true) where
+    module _ (least : All (λ y. is_gt (turn_cmp h y) ≡ false) s.heap.items) (now : s.front_ready ≡ true) where
       pub front_ready : Ready true Front was.kept
       front_ready = subst (λ (f : Bool). Ready f Front was.kept) now (was.ready Front)
 
       pub front_stands : Stands stops front back m others
-      front_stands = others_stand (least_sorted (held s.heap) (held m.heap) h was.kept was.stands.sorted was.stands.heap pops least front_ready)
+      front_stands = others_stand (least_sorted s.heap.items m.heap.items h was.kept was.stands.sorted was.stands.heap pops least front_ready)
 
       pub front_free : taken others h.source Front ≡ None
-      front_free = least_free (held s.heap) (held m.heap) h was.kept was.stands.sorted was.stands.heap pops least front_ready
+      front_free = least_free s.heap.items m.heap.items h was.kept was.stands.sorted was.stands.heap pops least front_ready
 
       pub front_errors : all_errors (map whole others) ≡ errors
-      front_errors = sym (was.faults ∙ least_errors (held s.heap) (held m.heap) h was.kept was.stands.sorted was.stands.heap pops least front_ready)
+      front_errors = sym (was.faults ∙ least_errors s.heap.items m.heap.items h was.kept was.stands.sorted was.stands.heap pops least front_ready)
 
       pub front_first : whole (kept_at was.kept h.source) ≡ Ok (entry_of h) ∷ whole (cleared h.end (kept_at was.kept h.source))
-      front_first = least_first (held s.heap) (held m.heap) h was.kept was.stands.sorted was.stands.heap pops least front_ready
+      front_first = least_first s.heap.items m.heap.items h was.kept was.stands.sorted was.stands.heap pops least front_ready
 
       pub front_spent : h.end ≡ Back → (kept_at was.kept h.source).rest ≡ []
-      front_spent = least_spent (held s.heap) (held m.heap) h was.kept was.stands.sorted was.stands.heap pops least front_ready
+      front_spent = least_spent s.heap.items m.heap.items h was.kept was.stands.sorted was.stands.heap pops least front_ready
 
       pub front_gives : (t : Merger S A) → Took stops front back Front h.source others t → t.front_ready ≡ true → t.back_ready ≡ s.back_ready → (Some (entry_of h) ≡ first xs) × Merging stops front back t (but_first xs) errors × (Some (entry_of h) ≡ None → errors ≡ [])
       front_gives t took ready other =
-          let parts : xs ≡ entry_of h ∷ merged (map whole others) = was.entries ∙ least_merged (held s.heap) (held m.heap) h was.kept was.stands.sorted was.stands.heap pops least front_ready in
-          let left = step_merging Front t front_ready (least_spent (held s.heap) (held m.heap) h was.kept was.stands.sorted was.stands.heap pops least front_ready) took ready other (sym front_errors) in
+          let parts : xs ≡ entry_of h ∷ union_of (map whole others) = was.entries ∙ least_merged s.heap.items m.heap.items h was.kept was.stands.sorted was.stands.heap pops least front_ready in
+          let left = step_merging Front t front_ready (least_spent s.heap.items m.heap.items h was.kept was.stands.sorted was.stands.heap pops least front_ready) took ready other (sym front_errors) in
           (sym (ap first parts), subst (λ (ys : List Entry). Merging stops front back t ys errors) (sym (ap but_first parts)) left, λ no. absurd cc)
 
-    module _ (greatest : All (λ y. is_gt (turn_cmp y h) ≡ false) (held s.heap)) (now : s.back_ready ≡ true) where
+    module _ (greatest : All (λ y. is_gt (turn_cmp y h) ≡ false) s.heap.items) (now : s.back_ready ≡ true) where
       back_ready : Ready true Back was.kept
       back_ready = subst (λ (f : Bool). Ready f Back was.kept) now (was.ready Back)
 
       pub back_stands : Stands stops front back m others
-      back_stands = others_stand (greatest_sorted (held s.heap) (held m.heap) h was.kept was.stands.sorted was.stands.heap pops greatest back_ready)
+      back_stands = others_stand (greatest_sorted s.heap.items m.heap.items h was.kept was.stands.sorted was.stands.heap pops greatest back_ready)
 
       pub back_free : taken others h.source Back ≡ None
-      back_free = greatest_free (held s.heap) (held m.heap) h was.kept was.stands.sorted was.stands.heap pops greatest back_ready
+      back_free = greatest_free s.heap.items m.heap.items h was.kept was.stands.sorted was.stands.heap pops greatest back_ready
 
       pub back_errors : all_errors (map whole others) ≡ errors
-      back_errors = sym (was.faults ∙ greatest_errors (held s.heap) (held m.heap) h was.kept was.stands.sorted was.stands.heap pops greatest back_ready)
+      back_errors = sym (was.faults ∙ greatest_errors s.heap.items m.heap.items h was.kept was.stands.sorted was.stands.heap pops greatest back_ready)
 
       pub back_gives : (t : Merger S A) → Took stops front back Back h.source others t → t.back_ready ≡ true → t.front_ready ≡ s.front_ready → (Some (entry_of h) ≡ last xs) × Merging stops front back t (but_last xs) errors × (Some (entry_of h) ≡ None → errors ≡ [])
       back_gives t took ready other =
-          let parts : xs ≡ merged (map whole others) ++ entry_of h ∷ [] = was.entries ∙ greatest_merged (held s.heap) (held m.heap) h was.kept was.stands.sorted was.stands.heap pops greatest back_ready in
-          let ends = last_push xs (merged (map whole others)) (entry_of h) parts in
-          let left = step_merging Back t back_ready (greatest_spent (held s.heap) (held m.heap) h was.kept was.stands.sorted was.stands.heap pops greatest back_ready) took ready other (sym back_errors) in
+          let parts : xs ≡ union_of (map whole others) ++ entry_of h ∷ [] = was.entries ∙ greatest_merged s.heap.items m.heap.items h was.kept was.stands.sorted was.stands.heap pops greatest back_ready in
+          let ends = last_push xs (union_of (map whole others)) (entry_of h) parts in
+          let left = step_merging Back t back_ready (greatest_spent s.heap.items m.heap.items h was.kept was.stands.sorted was.stands.heap pops greatest back_ready) took ready other (sym back_errors) in
           (ends.0, subst (λ (ys : List Entry). Merging stops front back t ys errors) (sym ends.1) left, λ no. absurd cc)
 
 module _ {S A : Type 0} (stops : Error → Bool) (front back : S → Option R → S → Type 0) (m : Merger S A) (fine : m.failed ≡ false) where

@@ -18,8 +18,7 @@ use Rattle.lsm_merge.specs.declared.ends.Ends.{Ends}
 use Rattle.lsm_merge.specs.declared.merge.HeapItem.{HeapItem}
 use Rattle.lsm_merge.specs.declared.merge.Merger.{Merger}
 use Rattle.lsm_merge.specs.Ends.{R, Left}
-use Rattle.lsm_heaps.specs.Tournament.{held}
-use Rattle.lsm_merge.specs.Union.{Ascends, entries_of, errors_of, all_errors}
+use Rattle.lsm_merge.specs.Union.{Ascends, entries_among, errors_among, all_errors}
 use Rattle.lsm_merge.specs.Merge.{entry_of}
 use Rattle.lsm_merge.proofs.Kept.{Kept, one, whole, taken_at, kept_at, taken, HeapHolds, Stands, Took, opposite}
 use Rattle.lsm_merge.proofs.EndsLemmas.{none_first}
@@ -58,10 +57,10 @@ all_set P (x ∷ xs) (suc i) y all p = (all.0, all_set P xs i y all.1 p)
 
 -- ---- errors among what is to come
 
-error_of : (rs : List R) (e : Error) → Contains rs (Err e) → Contains (errors_of rs) e
+error_of : (rs : List R) (e : Error) → Contains rs (Err e) → Contains (errors_among rs) e
 error_of rs e c = go rs c.0 c.1 c.2
   where
-    go : (rs : List R) (k : ℕ) → k < length rs → slice_index_or rs k (Err e) ≡ Err e → Contains (errors_of rs) e
+    go : (rs : List R) (k : ℕ) → k < length rs → slice_index_or rs k (Err e) ≡ Err e → Contains (errors_among rs) e
     go [] k lt is = absurd (omega arith)
     go (Ok x ∷ rs) zero lt is = absurd cc
     go (Err f ∷ rs) zero lt is = (zero, omega arith, cc)
@@ -70,8 +69,8 @@ error_of rs e c = go rs c.0 c.1 c.2
 
 error_among : (lists : List (List R)) (i : ℕ) (e : Error) → i < length lists → Contains (slice_index_or lists i []) (Err e) → Contains (all_errors lists) e
 error_among [] i e lt c = absurd (omega arith)
-error_among (rs ∷ lists) zero e lt c = Contains-append_left (errors_of rs) (all_errors lists) e (error_of rs e c)
-error_among (rs ∷ lists) (suc i) e lt c = Contains-append_right (errors_of rs) (all_errors lists) e (error_among lists i e (omega arith) c)
+error_among (rs ∷ lists) zero e lt c = Contains-append_left (errors_among rs) (all_errors lists) e (error_of rs e c)
+error_among (rs ∷ lists) (suc i) e lt c = Contains-append_right (errors_among rs) (all_errors lists) e (error_among lists i e (omega arith) c)
 
 first_contained : (rs : List R) (r : R) → Some r ≡ first rs → Contains rs r
 first_contained [] r is = absurd cc
@@ -118,7 +117,7 @@ module _ {S A : Type 0} (stops : Error → Bool) (front back : S → Option R �
   Side t k = Left stops front back t k.rest
 
   abbrev Sorted : Kept → Type 0
-  Sorted k = Ascends (entries_of (whole k))
+  Sorted k = Ascends (entries_among (whole k))
 
   module _ (ks : List Kept) (stands : Stands stops front back s ks) where
     left : Left stops front back was (kept_at ks i).rest
@@ -128,7 +127,7 @@ module _ {S A : Type 0} (stops : Error → Bool) (front back : S → Option R �
     within = let n = zip_length Side s.sources.items ks stands.sources in omega (arith, n)
 
     -- an entry moves into the heap
-    moves : (m : Merger S A) → m.sources.items ≡ slice_set s.sources.items i is → (b : Direction) (x : Entry) (h : HeapItem A) (after : Kept) → IsPermutation (h ∷ held s.heap) (held m.heap) → entry_of h ≡ x → h.source ≡ i → h.end ≡ b → taken ks i b ≡ None
+    moves : (m : Merger S A) → m.sources.items ≡ slice_set s.sources.items i is → (b : Direction) (x : Entry) (h : HeapItem A) (after : Kept) → IsPermutation (h ∷ s.heap.items) m.heap.items → entry_of h ≡ x → h.source ≡ i → h.end ≡ b → taken ks i b ≡ None
         → Left stops front back is after.rest → whole after ≡ whole (kept_at ks i) → taken_at b after ≡ Some x → taken_at (opposite b) after ≡ taken ks i (opposite b)
         → ((kept_at ks i).rest ≡ [] → after.rest ≡ []) → Took stops front back b i ks m
     moves m written b x h after perm entry source end free leaves same there other less =
@@ -142,8 +141,8 @@ module _ {S A : Type 0} (stops : Error → Bool) (front back : S → Option R �
           kept = new;
           stands = record {
             sources = subst (λ (us : List (Ends S)). AllZip Side us new) (sym written) (zip_set Side s.sources.items ks i is after stands.sources leaves);
-            sorted = all_set Sorted ks i after stands.sorted (subst (λ (rs : List R). Ascends (entries_of rs)) (sym same) (all_at Sorted ks i _ within stands.sorted));
-            heap = held_push (held s.heap) (held m.heap) h ks new stands.heap perm
+            sorted = all_set Sorted ks i after stands.sorted (subst (λ (rs : List R). Ascends (entries_among rs)) (sym same) (all_at Sorted ks i _ within stands.sorted));
+            heap = held_push s.heap.items m.heap.items h ks new stands.heap perm
                 (subst (λ (k : ℕ). taken ks k h.end ≡ None) (sym source) (subst (λ (c : Direction). taken ks i c ≡ None) (sym end) free))
                 (subst (λ (k : ℕ). taken new k h.end ≡ Some (entry_of h)) (sym source) (subst (λ (c : Direction). taken new i c ≡ Some (entry_of h)) (sym end) put))
                 (λ k c ne. elsewhere k c (λ e f. ne (e ∙ sym source) (f ∙ sym end)));
@@ -158,7 +157,7 @@ module _ {S A : Type 0} (stops : Error → Bool) (front back : S → Option R �
         }
 
     -- nothing was left to take
-    stays : (m : Merger S A) → m.sources.items ≡ slice_set s.sources.items i is → (b : Direction) → held m.heap ≡ held s.heap → (kept_at ks i).rest ≡ [] → Left stops front back is (kept_at ks i).rest → Took stops front back b i ks m
+    stays : (m : Merger S A) → m.sources.items ≡ slice_set s.sources.items i is → (b : Direction) → m.heap.items ≡ s.heap.items → (kept_at ks i).rest ≡ [] → Left stops front back is (kept_at ks i).rest → Took stops front back b i ks m
     stays m written b heap none leaves = record {
       kept = ks;
       stands = record {
@@ -182,14 +181,14 @@ module _ {S A : Type 0} (stops : Error → Bool) (front back : S → Option R �
         length_map [] = refl
         length_map (q ∷ qs) = let more = length_map qs in omega (arith, more)
 
-    pub front_ok : (m : Merger S A) → m.sources.items ≡ slice_set s.sources.items i is → (x : Entry) (h : HeapItem A) → DealsFirst stops (Left stops front back) was (Some (Ok x)) is → IsPermutation (h ∷ held s.heap) (held m.heap)
+    pub front_ok : (m : Merger S A) → m.sources.items ≡ slice_set s.sources.items i is → (x : Entry) (h : HeapItem A) → DealsFirst stops (Left stops front back) was (Some (Ok x)) is → IsPermutation (h ∷ s.heap.items) m.heap.items
         → entry_of h ≡ x → h.source ≡ i → h.end ≡ Front → taken ks i Front ≡ None → Took stops front back Front i ks m
     front_ok m written x h deals perm entry source end free =
         let one = deals (kept_at ks i).rest left refl in
         moves m written Front x h (record { front = Some x; rest = but_first (kept_at ks i).rest; back = (kept_at ks i).back }) perm entry source end free one.1
         (whole_at_front (kept_at ks i).front (kept_at ks i).back (kept_at ks i).rest x free one.0) refl refl (λ none. ap but_first none)
 
-    pub front_none : (m : Merger S A) → m.sources.items ≡ slice_set s.sources.items i is → DealsFirst stops (Left stops front back) was None is → held m.heap ≡ held s.heap → Took stops front back Front i ks m
+    pub front_none : (m : Merger S A) → m.sources.items ≡ slice_set s.sources.items i is → DealsFirst stops (Left stops front back) was None is → m.heap.items ≡ s.heap.items → Took stops front back Front i ks m
     front_none m written deals heap =
         let one = deals (kept_at ks i).rest left refl in
         let none = none_first (kept_at ks i).rest one.0 in
@@ -202,14 +201,14 @@ module _ {S A : Type 0} (stops : Error → Bool) (front back : S → Option R �
     pub front_err_first : (e : Error) → DealsFirst stops (Left stops front back) was (Some (Err e)) is → stops e ≡ false → Some (Err e) ≡ first (kept_at ks i).rest
     front_err_first e deals fine = (deals (kept_at ks i).rest left fine).0
 
-    pub back_ok : (m : Merger S A) → m.sources.items ≡ slice_set s.sources.items i is → (x : Entry) (h : HeapItem A) → DealsLast stops (Left stops front back) was (Some (Ok x)) is → IsPermutation (h ∷ held s.heap) (held m.heap)
+    pub back_ok : (m : Merger S A) → m.sources.items ≡ slice_set s.sources.items i is → (x : Entry) (h : HeapItem A) → DealsLast stops (Left stops front back) was (Some (Ok x)) is → IsPermutation (h ∷ s.heap.items) m.heap.items
         → entry_of h ≡ x → h.source ≡ i → h.end ≡ Back → taken ks i Back ≡ None → Took stops front back Back i ks m
     back_ok m written x h deals perm entry source end free =
         let one = deals (kept_at ks i).rest left refl in
         moves m written Back x h (record { front = (kept_at ks i).front; rest = but_last (kept_at ks i).rest; back = Some x }) perm entry source end free one.1
         (whole_at_back (kept_at ks i).front (kept_at ks i).back (kept_at ks i).rest x free one.0) refl refl (λ none. ap (λ (rs : List R). reverse (but_first (reverse rs))) none)
 
-    pub back_none : (m : Merger S A) → m.sources.items ≡ slice_set s.sources.items i is → DealsLast stops (Left stops front back) was None is → held m.heap ≡ held s.heap → Took stops front back Back i ks m
+    pub back_none : (m : Merger S A) → m.sources.items ≡ slice_set s.sources.items i is → DealsLast stops (Left stops front back) was None is → m.heap.items ≡ s.heap.items → Took stops front back Back i ks m
     back_none m written deals heap =
         let one = deals (kept_at ks i).rest left refl in
         let none = none_last (kept_at ks i).rest one.0 in

@@ -13,8 +13,8 @@ use Rattle.sst_entries.specs.Kind.{tag_of}
 use Rattle.sst_entries.specs.declared.value_type.ValueType.{ValueType}
 use Rattle.sst_entries.specs.declared.value_type.ValueType.TheVariants.{Value, Tombstone, WeakTombstone, Indirection}
 use Rattle.lsm_merge.specs.Ends.{R}
-use Rattle.lsm_merge.specs.Union.{item_cmp, AtMost, Ascends, SameBag, all_entries, IsUnion, inserted, in_order, merged}
-use Rattle.sst_entries.specs.Strict.{number_cmp, IsStrict}
+use Rattle.lsm_merge.specs.Union.{item_cmp, AtMost, Ascends, SameBag, all_entries, IsUnion, insert_sorted, sort_entries, union_of}
+use Rattle.sst_entries.specs.Strict.{version_cmp, IsStrict}
 use Rattle.sst_entries.proofs.Booleans.{and_parts, and_both}
 use Rattle.sst_entries.proofs.Lists.{all_more}
 use Rattle.sst_entries.proofs.OrderLemmas.{less_of}
@@ -25,33 +25,33 @@ use Rattle.lsm_merge.proofs.HeldLemmas.{weight, weight_false, count_cons, count_
 
 -- ---- sorted
 
-ascends_inserted : (x : Entry) (xs : List Entry) → Ascends xs → Ascends (inserted x xs)
+ascends_inserted : (x : Entry) (xs : List Entry) → Ascends xs → Ascends (insert_sorted x xs)
 ascends_inserted x [] h = (tt, tt)
 ascends_inserted x (y ∷ ys) h =
-    elim (is_gt (item_cmp x y)) as (λ b. is_gt (item_cmp x y) ≡ b → Ascends (cond b (y ∷ inserted x ys) (x ∷ y ∷ ys))) [
+    elim (is_gt (item_cmp x y)) as (λ b. is_gt (item_cmp x y) ≡ b → Ascends (cond b (y ∷ insert_sorted x ys) (x ∷ y ∷ ys))) [
       | true ↦ λ e. (all_inserted (AtMost y) x ys (above_at_most x y e) h.0, ascends_inserted x ys h.1)
       | false ↦ λ e. ((e, all_more (AtMost y) (AtMost x) (λ z le. at_most_chain x y z e le) ys h.0), h)
     ] refl
 
-ascends_in_order : (xs : List Entry) → Ascends (in_order xs)
+ascends_in_order : (xs : List Entry) → Ascends (sort_entries xs)
 ascends_in_order [] = tt
-ascends_in_order (x ∷ xs) = ascends_inserted x (in_order xs) (ascends_in_order xs)
+ascends_in_order (x ∷ xs) = ascends_inserted x (sort_entries xs) (ascends_in_order xs)
 
 -- ---- the same entries
 
-count_inserted : (p : Entry → Bool) (x : Entry) (xs : List Entry) → count_by p (inserted x xs) ≡ weight (p x) + count_by p xs
+count_inserted : (p : Entry → Bool) (x : Entry) (xs : List Entry) → count_by p (insert_sorted x xs) ≡ weight (p x) + count_by p xs
 count_inserted p x [] = count_cons p x []
 count_inserted p x (y ∷ ys) =
-    elim (is_gt (item_cmp x y)) as (λ b. count_by p (cond b (y ∷ inserted x ys) (x ∷ y ∷ ys)) ≡ weight (p x) + count_by p (y ∷ ys)) [
-      | true ↦ let more = count_inserted p x ys in omega (arith, more, count_cons p y (inserted x ys), count_cons p y ys)
+    elim (is_gt (item_cmp x y)) as (λ b. count_by p (cond b (y ∷ insert_sorted x ys) (x ∷ y ∷ ys)) ≡ weight (p x) + count_by p (y ∷ ys)) [
+      | true ↦ let more = count_inserted p x ys in omega (arith, more, count_cons p y (insert_sorted x ys), count_cons p y ys)
       | false ↦ count_cons p x (y ∷ ys)
     ]
 
-count_in_order : (p : Entry → Bool) (xs : List Entry) → count_by p (in_order xs) ≡ count_by p xs
+count_in_order : (p : Entry → Bool) (xs : List Entry) → count_by p (sort_entries xs) ≡ count_by p xs
 count_in_order p [] = refl
-count_in_order p (x ∷ xs) = let more = count_in_order p xs in omega (arith, more, count_inserted p x (in_order xs), count_cons p x xs)
+count_in_order p (x ∷ xs) = let more = count_in_order p xs in omega (arith, more, count_inserted p x (sort_entries xs), count_cons p x xs)
 
-pub merged_union : (lists : List (List R)) → IsUnion lists (merged lists)
+pub merged_union : (lists : List (List R)) → IsUnion lists (union_of lists)
 merged_union lists = record { ascends = ascends_in_order (all_entries lists); same = record { count = λ p. count_in_order p (all_entries lists) } }
 
 -- ---- one entry alone
@@ -99,9 +99,9 @@ then_less Less b c h = refl
 then_less Equal b c h = ap (λ (o : Ordering). ordering_then o c) h
 then_less Greater b c h = absurd cc
 
-version_less : (x y : Entry) → is_lt (number_cmp x y) ≡ true → Above y x
+version_less : (x y : Entry) → is_lt (version_cmp x y) ≡ true → Above y x
 version_less x y h =
-    let less : item_cmp x y ≡ Less = then_less (slice_cmp nat_cmp x.user_key y.user_key) (nat_cmp y.seqno x.seqno) (nat_cmp (tag_of x.kind) (tag_of y.kind)) (less_of (number_cmp x y) h) in
+    let less : item_cmp x y ≡ Less = then_less (slice_cmp nat_cmp x.user_key y.user_key) (nat_cmp y.seqno x.seqno) (nat_cmp (tag_of x.kind) (tag_of y.kind)) (less_of (version_cmp x y) h) in
     ap is_gt (item_total.antisymm y x ∙ ap ordering_reverse less)
 
 at_most_itself : (x : Entry) → AtMost x x
@@ -122,9 +122,9 @@ some_weight false h = let none = weight_false in absurd (omega (arith, none, h))
 
 -- y, and not after x by key and number
 abbrev after : Entry → Entry → Entry → Bool
-after x y z = is_entry y z && not (is_lt (number_cmp x z))
+after x y z = is_entry y z && not (is_lt (version_cmp x z))
 
-no_after : (x y z : Entry) → is_lt (number_cmp x z) ≡ true → after x y z ≡ false
+no_after : (x y z : Entry) → is_lt (version_cmp x z) ≡ true → after x y z ≡ false
 no_after x y z h = ap (λ (b : Bool). is_entry y z && not b) h ∙ and_false (is_entry y z)
   where
     and_false : (b : Bool) → (b && false) ≡ false
@@ -138,25 +138,25 @@ strict_only (x ∷ xs) [] strict up same = let e = same.count (λ z. true) in ab
 strict_only (x ∷ xs) (y ∷ ys) strict up same =
     let over : AllByRecursion (λ z. is_gt (item_cmp y z) ≡ false) (x ∷ xs) =
     none_counted (λ z. is_gt (item_cmp y z)) (x ∷ xs) (same.count (λ z. is_gt (item_cmp y z)) ∙ none_pass (λ z. is_gt (item_cmp y z)) (y ∷ ys) (at_most_itself y, up.0)) in
-    let first : is_lt (number_cmp x y) ≡ false = not_before over.0 in
+    let first : is_lt (version_cmp x y) ≡ false = not_before over.0 in
     let e : y ≡ x = entry_is y x (found first) in
     sym (ap (λ (z : Entry). z ∷ ys) e ∙ ap (λ (zs : List Entry). x ∷ zs) (sym (strict_only xs ys strict.1 up.1 (tail e))))
   where
-    not_before : AtMost y x → is_lt (number_cmp x y) ≡ false
-    not_before le = either (is_lt (number_cmp x y)) refl
+    not_before : AtMost y x → is_lt (version_cmp x y) ≡ false
+    not_before le = either (is_lt (version_cmp x y)) refl
       where
-        either : (b : Bool) → is_lt (number_cmp x y) ≡ b → is_lt (number_cmp x y) ≡ false
+        either : (b : Bool) → is_lt (version_cmp x y) ≡ b → is_lt (version_cmp x y) ≡ false
         either true h = let no : true ≡ false = sym (version_less x y h) ∙ le in absurd cc
         either false h = h
 
-    found : is_lt (number_cmp x y) ≡ false → is_entry y x ≡ true
+    found : is_lt (version_cmp x y) ≡ false → is_entry y x ≡ true
     found first =
         let here : after x y y ≡ true = and_both (is_entry y y) _ (entry_itself y) (ap not first) in
-        let none : count_by (after x y) xs ≡ 0 = none_pass (after x y) xs (all_more (λ z. is_lt (number_cmp x z) ≡ true) (λ z. after x y z ≡ false) (λ z lt. no_after x y z lt) xs strict.0) in
+        let none : count_by (after x y) xs ≡ 0 = none_pass (after x y) xs (all_more (λ z. is_lt (version_cmp x z) ≡ true) (λ z. after x y z ≡ false) (λ z lt. no_after x y z lt) xs strict.0) in
         (and_parts (is_entry y x) _ (some_weight (after x y x) (omega (arith, none, same.count (after x y), count_cons (after x y) x xs, count_yes (after x y) y ys here)))).0
 
     tail : y ≡ x → SameBag xs ys
     tail e = record { count = λ p. let c = same.count p in let w : weight (p y) ≡ weight (p x) = ap (λ (z : Entry). weight (p z)) e in omega (arith, c, w, count_cons p x xs, count_cons p y ys) }
 
-pub only_union : (lists : List (List R)) (xs : List Entry) → IsUnion lists xs → IsStrict xs → xs ≡ merged lists
-only_union lists xs union strict = strict_only xs (merged lists) (pairs_of xs strict) (ascends_in_order (all_entries lists)) (record { count = λ p. union.same.count p ∙ sym (count_in_order p (all_entries lists)) })
+pub only_union : (lists : List (List R)) (xs : List Entry) → IsUnion lists xs → IsStrict xs → xs ≡ union_of lists
+only_union lists xs union strict = strict_only xs (union_of lists) (pairs_of xs strict) (ascends_in_order (all_entries lists)) (record { count = λ p. union.same.count p ∙ sym (count_in_order p (all_entries lists)) })

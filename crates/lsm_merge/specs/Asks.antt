@@ -8,8 +8,7 @@ use Rattle.sst_entries.specs.declared.stream.Direction.TheVariants.{Front, Back}
 use Rattle.lsm_merge.specs.declared.ends.Ends.{Ends}
 use Rattle.lsm_merge.specs.declared.merge.HeapItem.{HeapItem}
 use Rattle.lsm_merge.specs.declared.merge.Merger.{Merger}
-use Rattle.lsm_merge.specs.Ends.{R, fresh, Asked}
-use Rattle.lsm_heaps.specs.Tournament.{held, room}
+use Rattle.lsm_merge.specs.Ends.{R, new_ends, Asked}
 use Rattle.lsm_merge.specs.Merge.{entry_of, turn_cmp, is_ready, SameRoom}
 
 -- the first of these items, seen from an end
@@ -55,21 +54,21 @@ ended_at (Err e) m = record m { failed = true }
 -- the sources and all but what is held are as they were
 pub record SameSources {S A : Type 0} (m n : Merger S A) : Type 0 where
   pub sources : n.sources ≡ m.sources
-  pub room : room n.heap ≡ room m.heap
+  pub room : n.heap.room ≡ m.heap.room
   pub front_ready : n.front_ready ≡ m.front_ready
   pub back_ready : n.back_ready ≡ m.back_ready
   pub failed : n.failed ≡ m.failed
 
 -- nothing is held
 pub record HoldsNone {S A : Type 0} (m n : Merger S A) : Type 0 where
-  pub was : held m.heap ≡ []
-  pub is : held n.heap ≡ []
+  pub was : m.heap.items ≡ []
+  pub is : n.heap.items ≡ []
   pub same : SameSources m n
 
 -- the first of what is held, seen from an end, was taken out
 pub record Pops {S A : Type 0} (end : Direction) (m : Merger S A) (h : HeapItem A) (n : Merger S A) : Type 0 where
-  pub leads : Leads end h (held m.heap)
-  pub left : IsPermutation (held m.heap) (h ∷ held n.heap)
+  pub leads : Leads end h m.heap.items
+  pub left : IsPermutation m.heap.items (h ∷ n.heap.items)
   pub same : SameSources m n
 
 module _ {S : Type 0} (ask : S → Option R → S → Type 0) (end : Direction) where
@@ -82,7 +81,7 @@ module _ {S : Type 0} (ask : S → Option R → S → Type 0) (end : Direction) 
     pub found : was ≡ slice_index_or m.sources.items i was
     pub asked : Asked ask was answer is
     pub written : n.sources.items ≡ slice_set m.sources.items i is
-    pub puts : Puts end i answer (held m.heap) (held n.heap)
+    pub puts : Puts end i answer m.heap.items n.heap.items
     pub told : r ≡ error_told answer
     pub same : SameRoom m n
 
@@ -153,9 +152,9 @@ module _ {S : Type 0} (ask : S → Option R → S → Type 0) (end : Direction) 
 
 -- a merger of these sources, before any call
 pub record IsMergerOf {S A : Type 0} (its : List S) (m : Merger S A) : Type 0 where
-  pub sources : m.sources.items ≡ map fresh its
-  pub empty : held m.heap ≡ []
-  pub space : length its + length its ≤ room m.heap
+  pub sources : m.sources.items ≡ map new_ends its
+  pub empty : m.heap.items ≡ []
+  pub space : length its + length its ≤ m.heap.room
   pub no_front : m.front_ready ≡ false
   pub no_back : m.back_ready ≡ false
   pub fine : m.failed ≡ false

@@ -6,7 +6,7 @@ use Rattle.sst_entries.specs.declared.error.Error.{Error}
 use Rattle.lsm_merge.specs.declared.ends.Ends.{Ends}
 use Rattle.sst_entries.specs.declared.stream.Direction.{Direction}
 use Rattle.sst_entries.specs.declared.stream.Direction.TheVariants.{Front, Back}
-use Rattle.sst_entries.specs.Stream.{Deals, CanDeal, stopped, DealsFirst, DealsLast}
+use Rattle.sst_entries.specs.Stream.{Deals, CanDeal, answer_stops, DealsFirst, DealsLast}
 
 abbrev pub R : Type 0
 R = Result Entry Error
@@ -14,7 +14,7 @@ R = Result Entry Error
 module _ {S : Type 0} (stops : Error → Bool) (front back : S → Option R → S → Type 0) where
   abbrev pub LeftIf : Bool → S → List R → Type 0
   LeftIf true s xs = xs ≡ []
-  LeftIf false s xs = Deals (stopped stops) front back s xs
+  LeftIf false s xs = Deals (answer_stops stops) front back s xs
 
   -- what it still deals
   pub record Left (s : Ends S) (xs : List R) : Type 0 where
@@ -39,8 +39,8 @@ abbrev pub ends_size : {S : Type 0} → (S → Count) → Ends S → ℕ
 ends_size left s = cond s.done 0 (size (left s.iter))
 
 -- before any call
-abbrev pub fresh : {S : Type 0} → S → Ends S
-fresh s = record { iter = s; done = false }
+abbrev pub new_ends : {S : Type 0} → S → Ends S
+new_ends s = record { iter = s; done = false }
 
 abbrev pub AskedIf : {S : Type 0} → (S → Option R → S → Type 0) → Bool → Ends S → Option R → Ends S → Type 0
 AskedIf ask true s r t = (r ≡ None) × (t ≡ s)

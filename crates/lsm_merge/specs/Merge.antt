@@ -6,14 +6,13 @@ use Rattle.std.specs.Ordering.{nat_cmp, ordering_then}
 use Rattle.std.specs.declared.cmp.Ordering.{Ordering}
 use Rattle.sst_entries.specs.Key.{key_cmp}
 use Rattle.sst_entries.specs.Entry.{Entry, entry}
-use Rattle.sst_entries.specs.Stream.{stopped, all_ok, deal, NoneStops, Runs}
+use Rattle.sst_entries.specs.Stream.{answer_stops, ok_results, deal, NoneStops, Runs}
 use Rattle.sst_entries.specs.declared.stream.Direction.{Direction}
 use Rattle.sst_entries.specs.declared.stream.Direction.TheVariants.{Front, Back}
 use Rattle.sst_entries.specs.declared.error.Error.{Error}
 use Rattle.lsm_merge.specs.declared.merge.HeapItem.{HeapItem}
 use Rattle.lsm_merge.specs.declared.merge.Merger.{Merger}
 use Rattle.lsm_merge.specs.Ends.{R, Goes, ends_size}
-use Rattle.lsm_heaps.specs.Tournament.{held, room}
 
 -- the entry of a heap item
 abbrev pub entry_of : {A : Type 0} → HeapItem A → Entry
@@ -31,7 +30,7 @@ turn_cmp x y = ordering_then (key_cmp x.key y.key)
 
 -- how many entries of source k a merger holds
 abbrev pub held_of : {S A : Type 0} → ℕ → Merger S A → ℕ
-held_of k m = count_by (λ h. h.source == k) (held m.heap)
+held_of k m = count_by (λ h. h.source == k) m.heap.items
 
 -- whether the sources were asked at this end
 abbrev pub is_ready : {S A : Type 0} → Direction → Merger S A → Bool
@@ -47,7 +46,7 @@ Adds {A} end i old new =
 
 -- how many calls may still give something
 abbrev pub merge_total : {S A : Type 0} → (S → Count) → Merger S A → ℕ
-merge_total left m = sum_by (ends_size left) m.sources.items + length (held m.heap)
+merge_total left m = sum_by (ends_size left) m.sources.items + length m.heap.items
 
 abbrev pub merge_size : {S A : Type 0} → (S → Count) → Merger S A → ℕ
 merge_size left m = cond m.failed 0 (merge_total left m)
@@ -70,7 +69,7 @@ LowersByOne left s r t = MatchResult r
 -- what a take leaves as it was
 pub record SameRoom {S A : Type 0} (s t : Merger S A) : Type 0 where
   pub count : length t.sources.items ≡ length s.sources.items
-  pub room : room t.heap ≡ room s.heap
+  pub room : t.heap.room ≡ s.heap.room
   pub front_ready : t.front_ready ≡ s.front_ready
   pub back_ready : t.back_ready ≡ s.back_ready
   pub failed : t.failed ≡ s.failed
@@ -79,9 +78,9 @@ module _ {S : Type 0} (front back : S → Option R → S → Type 0) (can can_ba
   -- the sources may be called, at most this many entries are held, and of source k at most limit k
   pub record Bounded {A : Type 0} (limit : ℕ → ℕ) (most : ℕ) (m : Merger S A) : Type 0 where
     pub sources : All (Goes front back can can_back left) m.sources.items
-    pub known : All (λ h. h.source < length m.sources.items) (held m.heap)
-    pub space : length m.sources.items + length m.sources.items ≤ room m.heap
-    pub few : length (held m.heap) ≤ most
+    pub known : All (λ h. h.source < length m.sources.items) m.heap.items
+    pub space : length m.sources.items + length m.sources.items ≤ m.heap.room
+    pub few : length m.heap.items ≤ most
     pub each : (k : ℕ) → held_of k m ≤ limit k
 
   -- one entry a source for each end that is ready
@@ -113,21 +112,9 @@ Follows errors (d ∷ told) (Some (Err e) ∷ rs) = Contains errors e × AllByRe
 -- for every list of ends, the answers are those of dealing xs, up to one of the errors
 pub record DealsUntil {S : Type 0} (stops : Error → Bool) (front back : S → Option R → S → Type 0) (s : S) (xs : List Entry) (errors : List Error) : Type 0 where
   pub answers : (ends : List Direction) (rs : List (Option R)) (t : S) → Runs front back s ends rs t
-      → NoneStops (stopped stops) rs → Follows errors (deal (all_ok xs) ends) rs
+      → NoneStops (answer_stops stops) rs → Follows errors (deal (ok_results xs) ends) rs
 
 -- wherever calls lead, at most this many entries of each source are held
 pub record HoldsAtMost {S A : Type 0} (most : ℕ) (front back : Merger S A → Option R → Merger S A → Type 0) (m : Merger S A) : Type 0 where
   pub at : (ends : List Direction) (rs : List (Option R)) (t : Merger S A)
       → Runs front back m ends rs t → (k : ℕ) → held_of k t ≤ most
-
--- nothing follows an error
-abbrev pub NothingAfterError : List (Option R) → Type 0
-NothingAfterError [] = Unit {0}
-NothingAfterError (None ∷ rs) = NothingAfterError rs
-NothingAfterError (Some (Ok x) ∷ rs) = NothingAfterError rs
-NothingAfterError (Some (Err e) ∷ rs) = AllByRecursion (λ r. r ≡ None) rs
-
--- for every list of ends, whatever the sources give, nothing follows an error
-pub record EndsAtError {S : Type 0} (front back : S → Option R → S → Type 0) (s : S) : Type 0 where
-  pub answers : (ends : List Direction) (rs : List (Option R)) (t : S) → Runs front back s ends rs t
-      → NothingAfterError rs

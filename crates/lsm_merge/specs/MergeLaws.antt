@@ -2,12 +2,12 @@
 use Rattle.std.specs.Prelude.{◌≡◌, ℕ, ◌<◌, ◌≤◌, Bool, true, List, [], ◌∷◌, ◌++◌, length, All, count_by, slice_index_or, Option, Some, None, Ok, Err}
 use Rattle.std.specs.List.{AllZip, AllByRecursion}
 use Rattle.std.specs.Iterator.{Count, IsFinite}
-use Rattle.sst_entries.specs.Stream.{Deals, CanDeal, stopped, all_ok, but_last, Runs, NoneStops, nowhere}
+use Rattle.sst_entries.specs.Stream.{Deals, CanDeal, answer_stops, ok_results, but_last, Runs, NoneStops, nowhere}
 use Rattle.sst_entries.specs.Entry.{Entry}
 use Rattle.sst_entries.specs.declared.stream.Direction.{Direction}
 use Rattle.sst_entries.specs.declared.error.Error.{Error}
 use Rattle.lsm_merge.specs.Ends.{R}
-use Rattle.lsm_merge.specs.Union.{Ascends, entries_of, all_errors, merged}
+use Rattle.lsm_merge.specs.Union.{Ascends, entries_among, all_errors, union_of}
 use Rattle.lsm_merge.specs.Merge.{DealsUntil}
 
 -- each entry is at most as often in xs as in ys
@@ -20,7 +20,7 @@ pub record ComesLate (lists : List (List R)) (given : List Entry) (e : Error) : 
   pub within : place < length lists
   pub before : List Entry
   pub after : List R
-  pub stands : slice_index_or lists place [] ≡ all_ok before ++ Err e ∷ after
+  pub stands : slice_index_or lists place [] ≡ ok_results before ++ Err e ∷ after
   pub gave : IsWithinBag (but_last before) given
 
 -- so does each error among answers, of which these entries were given earlier
@@ -37,29 +37,29 @@ every_error e = true
 module _ {S : Type 0} (front back : S → Option R → S → Type 0) where
   -- each source deals one of these lists, which are sorted
   pub record DealSorted (stops : Error → Bool) (its : List S) (lists : List (List R)) : Type 0 where
-    pub deal : AllZip (Deals (stopped stops) front back) its lists
-    pub ascend : AllByRecursion (λ rs. Ascends (entries_of rs)) lists
+    pub deal : AllZip (Deals (answer_stops stops) front back) its lists
+    pub ascend : AllByRecursion (λ rs. Ascends (entries_among rs)) lists
 
   -- what sorted sources have together is dealt in order, where they have no errors
   pub record DealsMerged {T : Type 0} (its : List S) (next next_back : T → Option R → T → Type 0) (m : T) : Type 0 where
     pub deals : (stops : Error → Bool) (lists : List (List R)) → DealSorted stops its lists → all_errors lists ≡ []
-        → Deals (stopped stops) next next_back m (all_ok (merged lists))
+        → Deals (answer_stops stops) next next_back m (ok_results (union_of lists))
 
   -- whatever errors are among it, as long as none of them is the answer
   pub record DealsBeforeErrors {T : Type 0} (its : List S) (next next_back : T → Option R → T → Type 0) (m : T) : Type 0 where
     pub deals : (stops : Error → Bool) (lists : List (List R)) → DealSorted stops its lists
-        → Deals (stopped every_error) next next_back m (all_ok (merged lists))
+        → Deals (answer_stops every_error) next next_back m (ok_results (union_of lists))
 
   -- with errors among it, up to one of them
   pub record DealsUntilError {T : Type 0} (its : List S) (next next_back : T → Option R → T → Type 0) (m : T) : Type 0 where
     pub deals : (stops : Error → Bool) (lists : List (List R)) → DealSorted stops its lists
-        → DealsUntil stops next next_back m (merged lists) (all_errors lists)
+        → DealsUntil stops next next_back m (union_of lists) (all_errors lists)
 
   -- calls at the front alone meet an error only once all entries before it were given, but for the last
   pub record MeetsErrorsLate {T : Type 0} (its : List S) (next : T → Option R → T → Type 0) (m : T) : Type 0 where
     pub meets : (stops : Error → Bool) (lists : List (List R)) → DealSorted stops its lists
         → (ends : List Direction) (rs : List (Option R)) (t : T) → Runs next nowhere m ends rs t
-        → NoneStops (stopped stops) rs → ErrorsComeLate lists [] rs
+        → NoneStops (answer_stops stops) rs → ErrorsComeLate lists [] rs
 
   -- where the sources may be asked and end, so may the merger be asked
   pub record CanMerge {T : Type 0} (can can_back : S → Type 0) (left : S → Count) (its : List S) (next next_back : T → Option R → T → Type 0) (can_next can_next_back : T → Type 0) (m : T) : Type 0 where

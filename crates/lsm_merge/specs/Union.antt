@@ -31,23 +31,23 @@ pub record IsAmong {A : Type 0} (x : A) (xs : List A) : Type 0 where
   pub at : (p : A → Bool) → p x ≡ true → 0 < count_by p xs
 
 -- the entries of lists of results, and their errors
-abbrev pub entries_of : List R → List Entry
-entries_of [] = []
-entries_of (Ok x ∷ rs) = x ∷ entries_of rs
-entries_of (Err e ∷ rs) = entries_of rs
+abbrev pub entries_among : List R → List Entry
+entries_among [] = []
+entries_among (Ok x ∷ rs) = x ∷ entries_among rs
+entries_among (Err e ∷ rs) = entries_among rs
 
-abbrev pub errors_of : List R → List Error
-errors_of [] = []
-errors_of (Ok x ∷ rs) = errors_of rs
-errors_of (Err e ∷ rs) = e ∷ errors_of rs
+abbrev pub errors_among : List R → List Error
+errors_among [] = []
+errors_among (Ok x ∷ rs) = errors_among rs
+errors_among (Err e ∷ rs) = e ∷ errors_among rs
 
 abbrev pub all_entries : List (List R) → List Entry
 all_entries [] = []
-all_entries (rs ∷ rss) = entries_of rs ++ all_entries rss
+all_entries (rs ∷ rss) = entries_among rs ++ all_entries rss
 
 abbrev pub all_errors : List (List R) → List Error
 all_errors [] = []
-all_errors (rs ∷ rss) = errors_of rs ++ all_errors rss
+all_errors (rs ∷ rss) = errors_among rs ++ all_errors rss
 
 -- a sorted list that has each entry as often as the lists have it together
 pub record IsUnion (lists : List (List R)) (xs : List Entry) : Type 0 where
@@ -60,15 +60,15 @@ newest [] = []
 newest (x ∷ xs) = x ∷ filter (λ y. not (same_key y.user_key x.user_key)) (newest xs)
 
 -- x put before the first of xs that it is not above
-abbrev pub inserted : Entry → List Entry → List Entry
-inserted x [] = x ∷ []
-inserted x (y ∷ ys) = cond (is_gt (item_cmp x y)) (y ∷ inserted x ys) (x ∷ y ∷ ys)
+abbrev pub insert_sorted : Entry → List Entry → List Entry
+insert_sorted x [] = x ∷ []
+insert_sorted x (y ∷ ys) = cond (is_gt (item_cmp x y)) (y ∷ insert_sorted x ys) (x ∷ y ∷ ys)
 
 -- the entries sorted; those that tie stay as they stand
-abbrev pub in_order : List Entry → List Entry
-in_order [] = []
-in_order (x ∷ xs) = inserted x (in_order xs)
+abbrev pub sort_entries : List Entry → List Entry
+sort_entries [] = []
+sort_entries (x ∷ xs) = insert_sorted x (sort_entries xs)
 
 -- the entries of all lists sorted; those that tie, list by list
-abbrev pub merged : List (List R) → List Entry
-merged lists = in_order (all_entries lists)
+abbrev pub union_of : List (List R) → List Entry
+union_of lists = sort_entries (all_entries lists)

@@ -2,13 +2,13 @@
 ghost use Rattle.std.specs.Prelude.{◌≡◌, ℕ, ◌+◌, ◌*◌, ◌<◌, ◌≤◌, true, false, List, [], length, map, All, IfOk, IfErr, IfSome, IfNone};
 ghost use Rattle.std.specs.Iterator.{at_most, MakesProgress};
 ghost use Rattle.sst_entries.specs.Entry.{Entry};
-ghost use Rattle.sst_entries.specs.Stream.{Steps, nowhere};
+ghost use Rattle.sst_entries.specs.Stream.{Steps, nowhere, EndsAtError};
 ghost use Rattle.sst_entries.specs.Strict.{IsStrict};
 ghost use Rattle.sst_entries.specs.declared.stream.Direction.TheVariants.{Front, Back};
 ghost use Rattle.sst_entries.specs.declared.error.Error.TheVariants.{OutOfMemory};
-ghost use Rattle.lsm_merge.specs.Ends.{R, fresh, Goes};
-ghost use Rattle.lsm_merge.specs.Union.{IsUnion, merged};
-ghost use Rattle.lsm_merge.specs.Merge.{EndsAtError, HoldsAtMost, Adds, SameRoom, HasPlaces, MayMerge, LowersTotal, LowersByOne, merge_size, entry_of, is_ready};
+ghost use Rattle.lsm_merge.specs.Ends.{R, new_ends, Goes};
+ghost use Rattle.lsm_merge.specs.Union.{IsUnion, union_of};
+ghost use Rattle.lsm_merge.specs.Merge.{HoldsAtMost, Adds, SameRoom, HasPlaces, MayMerge, LowersTotal, LowersByOne, merge_size, entry_of, is_ready};
 ghost use Rattle.lsm_merge.specs.Asks.{AsksSource, Fills, TakesStep, Calls, IsMergerOf, HoldsNone, Pops, made_ready};
 ghost use Rattle.lsm_merge.specs.MergeLaws.{DealsBeforeErrors, DealsMerged, DealsUntilError, MeetsErrorsLate, CanMerge};
 
@@ -71,7 +71,7 @@ fn fused<I: Iterator<Item = IterItem<A>>, A: Allocator>(
     alloc: A,
     iterators: Vec<I, A>,
 ) -> Result<Vec<Ends<I>, A>, Error>
-    ensures ok { IfOk result (λ v. v.items ≡ map fresh iterators.items) }
+    ensures ok { IfOk result (λ v. v.items ≡ map new_ends iterators.items) }
     ensures err { IfErr result (λ e. e ≡ OutOfMemory) }
 {
     let sources = iterators
@@ -105,9 +105,10 @@ impl<I: Iterator<Item = IterItem<A>>, A: Allocator + Clone> Merger<I, A> {
         ensures ends { IfOk result (λ m. EndsAtError ⟦<Merger<I, A> as Iterator>⟧.next_gives nowhere
             m) }
         // What is dealt is a union, and where no two entries share a key and number the only one.
-        ensures union { IfOk result (λ _. (lists : List (List R)) → IsUnion lists (merged lists)) }
+        ensures union { IfOk result (λ _. (lists : List (List R)) →
+            IsUnion lists (union_of lists)) }
         ensures only { IfOk result (λ _. (lists : List (List R)) (xs : List Entry) →
-            IsUnion lists xs → IsStrict xs → xs ≡ merged lists) }
+            IsUnion lists xs → IsStrict xs → xs ≡ union_of lists) }
         ensures can { IfOk result (λ m.
             CanMerge I.next_gives nowhere I.can_next I.can_next I.remaining iterators.items
             ⟦<Merger<I, A> as Iterator>⟧.next_gives nowhere ⟦<Merger<I, A> as Iterator>⟧.can_next

@@ -7,9 +7,9 @@ use Rattle.sst_sections.specs.declared.version.TableVersion.TheVariants.{V3, V4}
 use Rattle.sst_blocks.specs.declared.block_type.BlockType.TheVariants.{Data}
 use Rattle.sst_entries.specs.Entry.{Entry}
 use Rattle.sst_blocks.specs.Handle.{Handle}
-use Rattle.sst_blocks.specs.Handles.{handles_payload, handles_in, handle_spelled, HandleFits, AreStrictHandles, end_of}
+use Rattle.sst_blocks.specs.Handles.{handles_payload, handles_in, handle_spelled, IsSpellableHandle, AreStrictHandles, end_of}
 use Rattle.sst_sections.specs.Number.{le4}
-use Rattle.sst_blocks.specs.Payload.{payload, spelled, AreFit}
+use Rattle.sst_blocks.specs.Payload.{payload, spelled, AreSpellable}
 use Rattle.sst_blocks.specs.Payload as written
 use Rattle.sst_blocks.specs.Reading.{entries_in}
 use Rattle.sst_entries.specs.Strict.{is_before, may_follow, IsStrictAfter, IsStrict, last_of}
@@ -91,14 +91,14 @@ last_fits v e [] fits = fits.0
 last_fits v e (x ∷ xs) fits = last_fits v x xs fits.1
 
 -- the handles' blocks lie below a bound
-handle_fits : (v : TableVersion) (offset : ℕ) (cs : List (List Entry)) → offset + length (data_section v cs) < 2 ^ 64 → AreSome cs → AllByRecursion (EntryFits v) (joined cs) → AllByRecursion (BlockFits v) cs → AllByRecursion (HandleFits v) (handles_from v offset cs)
+handle_fits : (v : TableVersion) (offset : ℕ) (cs : List (List Entry)) → offset + length (data_section v cs) < 2 ^ 64 → AreSome cs → AllByRecursion (EntryFits v) (joined cs) → AllByRecursion (BlockFits v) cs → AllByRecursion (IsSpellableHandle v) (handles_from v offset cs)
 handle_fits v offset [] short some fits blocks = tt
 handle_fits v offset ([] ∷ cs) short some fits blocks = absurd (omega (arith, some.0))
 handle_fits v offset ((x ∷ xs) ∷ cs) short some fits blocks =
     let last = last_fits v x xs (all_front (EntryFits v) (x ∷ xs) (joined cs) fits) in
     let size = length-block v Data (payload v (x ∷ xs)) in
     let whole = length-append (data_block v (x ∷ xs)) (data_section v cs) in
-    let one : HandleFits v (handle_of v offset (x ∷ xs)) = record { number = omega (arith, last.number); offset = omega (arith, short, whole); size = (blocks.0).short; key_len = omega (arith, last.key, longest_short v) } in
+    let one : IsSpellableHandle v (handle_of v offset (x ∷ xs)) = record { number = omega (arith, last.number); offset = omega (arith, short, whole); size = (blocks.0).short; key_len = omega (arith, last.key, longest_short v) } in
     (one, handle_fits v (offset + block_size v (x ∷ xs)) cs (omega (arith, short, whole, size)) some.1 (all_behind (EntryFits v) (x ∷ xs) (joined cs) fits) blocks.1)
 
 handles_wide : (v : TableVersion) (hs : List Handle) → length hs ≤ length (flat_map (handle_spelled v) hs)

@@ -16,7 +16,7 @@ use Rattle.sst_blocks.specs.Handles.{handles_payload}
 use Rattle.sst_blocks.specs.Payload.{payload}
 use Rattle.sst_blocks.specs.Reading.{entries_in}
 use Rattle.sst_sections.specs.Sections.{body_of, finished}
-use Rattle.sst_entries.specs.Stream.{all_ok, Deals, nowhere, stopped}
+use Rattle.sst_entries.specs.Stream.{ok_results, Deals, nowhere, answer_stops}
 use Rattle.sst_entries.specs.Strict.{IsStrict, IsStrictAfter, last_of}
 use Rattle.sst_blocks.proofs.BlockLaws.{written_loads_at}
 use Rattle.sst_blocks.proofs.LoadLemmas.{load_at_fault}
@@ -43,7 +43,7 @@ use Rattle.lsm_readers.proofs.Scans.{lifted_ok, memory_is}
 
 -- ---- entries
 
-cut_nowhere : {X : Type 0} (xs : List X) → up_to_error (all_ok xs) ≡ all_ok xs
+cut_nowhere : {X : Type 0} (xs : List X) → up_to_error (ok_results xs) ≡ ok_results xs
 cut_nowhere [] = refl
 cut_nowhere {X = X} (x ∷ xs) = ap (λ (rs : List (Result X Error)). Ok x ∷ rs) (cut_nowhere xs)
 
@@ -51,13 +51,13 @@ two : (x y : Result Entry Error) (xs ys : List (Result Entry Error)) → x ≡ y
 two x y xs ys e f = rw (e, f) refl
 
 -- where the highest number fits, every one does
-all_lifted : (g : ℕ) (es : List Entry) → highest_seqno es + g < 2 ^ 64 → map (lifted_told g) es ≡ all_ok (lift es g)
+all_lifted : (g : ℕ) (es : List Entry) → highest_seqno es + g < 2 ^ 64 → map (lifted_told g) es ≡ ok_results (lift es g)
 unfolding highest_seqno
 all_lifted g [] fits = refl
 all_lifted g (e ∷ es) fits =
     let here : e.seqno + g < 2 ^ 64 = omega (arith, fits) in
     let more : highest_seqno es + g < 2 ^ 64 = omega (arith, fits) in
-    two (lifted_told g e) (Ok (lifted g e)) (map (lifted_told g) es) (all_ok (lift es g)) (lifted_ok g e here) (all_lifted g es more)
+    two (lifted_told g e) (Ok (lifted g e)) (map (lifted_told g) es) (ok_results (lift es g)) (lifted_ok g e here) (all_lifted g es more)
 
 -- ---- blocks
 
@@ -111,7 +111,7 @@ record Scans (body : List ℕ) (count g : ℕ) (xs : List (Result Entry Error)) 
   first : Loaded
   loads : load_at_told body 0 Data ≡ Ok first
 
-chunks_scan : (v : TableVersion) (c : List Entry) (cs : List (List Entry)) (post body : List ℕ) (g : ℕ) → AllByRecursion (Reads v) (c ∷ cs) → highest_seqno (joined (c ∷ cs)) + g < 2 ^ 64 → body ≡ data_section v (c ∷ cs) ++ post → Scans body (length (c ∷ cs)) g (all_ok (lift (joined (c ∷ cs)) g))
+chunks_scan : (v : TableVersion) (c : List Entry) (cs : List (List Entry)) (post body : List ℕ) (g : ℕ) → AllByRecursion (Reads v) (c ∷ cs) → highest_seqno (joined (c ∷ cs)) + g < 2 ^ 64 → body ≡ data_section v (c ∷ cs) ++ post → Scans body (length (c ∷ cs)) g (ok_results (lift (joined (c ∷ cs)) g))
 unfolding entries_from
 chunks_scan v c cs post body g reads fits e =
     let count : max 1 (length (c ∷ cs)) ≡ length (c ∷ cs) = omega arith in
@@ -126,23 +126,23 @@ chunks_scan v c cs post body g reads fits e =
       loads = chunk_loads v c [] (data_section v cs ++ post) body 0 reads.0 at first;
     }
 
-some_scan : (v : TableVersion) (cs : List (List Entry)) (post body : List ℕ) (g : ℕ) → 0 < length (joined cs) → AllByRecursion (Reads v) cs → highest_seqno (joined cs) + g < 2 ^ 64 → body ≡ data_section v cs ++ post → Scans body (length cs) g (all_ok (lift (joined cs) g))
+some_scan : (v : TableVersion) (cs : List (List Entry)) (post body : List ℕ) (g : ℕ) → 0 < length (joined cs) → AllByRecursion (Reads v) cs → highest_seqno (joined cs) + g < 2 ^ 64 → body ≡ data_section v cs ++ post → Scans body (length cs) g (ok_results (lift (joined cs) g))
 some_scan v [] post body g some reads fits e = absurd (omega (arith, some))
 some_scan v (c ∷ cs) post body g some reads fits e = chunks_scan v c cs post body g reads fits e
 
 module _ (v : TableVersion) (label : Label) (options : Options) (cs : List (List Entry)) (g : ℕ) (parts : Parts)
     (short : length (finished (w v label options cs)) < 2 ^ 63) (some : AreSome cs) (strict : IsStrict (joined cs)) (fits : Fits v label options cs) (told : recovered_told (finished (w v label options cs)) g ≡ Ok parts) where
-  written_scan : 0 < length (joined cs) → Scans (body_of (finished (w v label options cs))) parts.facts.data_block_count g (all_ok (lift (joined cs) g))
+  written_scan : 0 < length (joined cs) → Scans (body_of (finished (w v label options cs))) parts.facts.data_block_count g (ok_results (lift (joined cs) g))
   written_scan any =
       let are = facts_are v label options cs short some strict fits g parts told in
       let count : parts.facts.data_block_count ≡ length cs = ap (λ (f : Facts). f.data_block_count) are in
       let high : parts.facts.seqno_max ≡ highest_seqno (joined cs) = ap (λ (f : Facts). f.seqno_max) are in
       let fit : highest_seqno (joined cs) + g < 2 ^ 64 = subst (λ (n : ℕ). n + g < 2 ^ 64) high (steps (finished (w v label options cs)) g parts told).fits in
       let others = the_index v label options cs ++ (the_version v label options cs ++ the_meta v label options cs) in
-      subst (λ (n : ℕ). Scans (body_of (finished (w v label options cs))) n g (all_ok (lift (joined cs) g))) (sym count)
+      subst (λ (n : ℕ). Scans (body_of (finished (w v label options cs))) n g (ok_results (lift (joined cs) g))) (sym count)
       (some_scan v cs others (body_of (finished (w v label options cs))) g any (all_read v None cs strict fits.entries fits.blocks) fit (is_body v label options cs))
 
-file_scans : (stored : List ℕ) (es : List Entry) (t : IsTable stored es) (g : ℕ) (parts : Parts) → length stored < 2 ^ 63 → recovered_told stored g ≡ Ok parts → 0 < length es → Scans (body_of stored) parts.facts.data_block_count g (all_ok (lift es g))
+file_scans : (stored : List ℕ) (es : List Entry) (t : IsTable stored es) (g : ℕ) (parts : Parts) → length stored < 2 ^ 63 → recovered_told stored g ≡ Ok parts → 0 < length es → Scans (body_of stored) parts.facts.data_block_count g (ok_results (lift es g))
 file_scans stored es t g parts short told any =
     let v = t.version in
     let label = t.label in
@@ -157,8 +157,8 @@ file_scans stored es t g parts short told any =
     let entries : 0 < length (joined cs) = subst (λ (xs : List Entry). 0 < length xs) (sym whole) any in
     let some = some_chunks options.data_block_size t.spills 0 cs (f.chunks).each in
     let written = written_scan v label options cs g parts short_file some line t.fits told_file entries in
-    let by_list = subst (λ (xs : List Entry). Scans (body_of (finished (w v label options cs))) parts.facts.data_block_count g (all_ok (lift xs g))) whole written in
-    subst (λ (b : List ℕ). Scans (body_of b) parts.facts.data_block_count g (all_ok (lift es g))) (sym bytes_are) by_list
+    let by_list = subst (λ (xs : List Entry). Scans (body_of (finished (w v label options cs))) parts.facts.data_block_count g (ok_results (lift xs g))) whole written in
+    subst (λ (b : List ℕ). Scans (body_of b) parts.facts.data_block_count g (ok_results (lift es g))) (sym bytes_are) by_list
 
 -- ---- a scan that has a first block is refused for want of memory alone
 
@@ -202,15 +202,15 @@ empty_refused v stored label options spills es f none =
 
 -- ---- what a scan of a table of a list answers
 
-opens : (r : Result Scan Error) (body : List ℕ) (count g : ℕ) (es : List Entry) (fault : Error) → (length es ≡ 0 → load_at_told body 0 Data ≡ Err fault) → (0 < length es → Scans body count g (all_ok (lift es g)))
-    → ((stops : Error → Bool) → stops OutOfMemory ≡ true → IfOk r (λ s. Deals (stopped stops) ScansNext nowhere s (scan_told body count g))) → Faults r (fault_of (load_at_told body 0 Data)) → ScansList r es g
+opens : (r : Result Scan Error) (body : List ℕ) (count g : ℕ) (es : List Entry) (fault : Error) → (length es ≡ 0 → load_at_told body 0 Data ≡ Err fault) → (0 < length es → Scans body count g (ok_results (lift es g)))
+    → ((stops : Error → Bool) → stops OutOfMemory ≡ true → IfOk r (λ s. Deals (answer_stops stops) ScansNext nowhere s (scan_told body count g))) → Faults r (fault_of (load_at_told body 0 Data)) → ScansList r es g
 opens (Ok s) body count g [] fault none some deals faults = absurd (let no : None ≡ Some fault = sym faults ∙ ap fault_of (none refl) in cc)
 opens (Err e) body count g [] fault none some deals faults = λ more. absurd (omega (arith, more))
 opens (Ok s) body count g (x ∷ xs) fault none some deals faults =
-    λ stops memory. subst (λ (ys : List (Result Entry Error)). Deals (stopped stops) ScansNext nowhere s ys) (some (omega arith)).all (deals stops memory)
+    λ stops memory. subst (λ (ys : List (Result Entry Error)). Deals (answer_stops stops) ScansNext nowhere s ys) (some (omega arith)).all (deals stops memory)
 opens (Err e) body count g (x ∷ xs) fault none some deals faults = λ more. memory_alone (load_at_told body 0 Data) (some more).first e (some more).loads faults
 
 pub file_opens : (stored : List ℕ) (es : List Entry) (t : IsTable stored es) (g : ℕ) (parts : Parts) → length stored < 2 ^ 63 → recovered_told stored g ≡ Ok parts → (r : Result Scan Error)
-    → ((stops : Error → Bool) → stops OutOfMemory ≡ true → IfOk r (λ s. Deals (stopped stops) ScansNext nowhere s (scan_told (body_of stored) parts.facts.data_block_count g))) → Faults r (fault_of (load_at_told (body_of stored) 0 Data)) → ScansList r es g
+    → ((stops : Error → Bool) → stops OutOfMemory ≡ true → IfOk r (λ s. Deals (answer_stops stops) ScansNext nowhere s (scan_told (body_of stored) parts.facts.data_block_count g))) → Faults r (fault_of (load_at_told (body_of stored) 0 Data)) → ScansList r es g
 file_opens stored es t g parts short told r deals faults =
     opens r (body_of stored) parts.facts.data_block_count g es (InvalidTag BlockTypeTag 1) (empty_refused t.version stored t.label t.options t.spills es t.file) (file_scans stored es t g parts short told) deals faults

@@ -6,7 +6,7 @@ use Rattle.sst_sections.specs.declared.version.TableVersion.{TableVersion}
 use Rattle.sst_sections.specs.declared.version.TableVersion.TheVariants.{V3, V4}
 use Rattle.sst_entries.specs.Entry.{Entry}
 use Rattle.sst_sections.specs.Number.{le4, le16}
-use Rattle.sst_blocks.specs.Payload.{payload, spelled, AreFit}
+use Rattle.sst_blocks.specs.Payload.{payload, spelled, AreSpellable}
 use Rattle.sst_blocks.specs.Payload as written
 use Rattle.sst_blocks.specs.Reading.{entries_in}
 use Rattle.sst_entries.specs.Strict.{IsStrict, is_strict_after}

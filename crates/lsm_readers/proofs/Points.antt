@@ -6,7 +6,7 @@ use Rattle.sst_entries.specs.declared.error.Error.{Error}
 use Rattle.sst_blocks.specs.declared.block_type.BlockType.{BlockType}
 use Rattle.sst_blocks.specs.declared.opened.Opened.{Opened}
 use Rattle.sst_blocks.specs.Handle.{Handle}
-use Rattle.sst_blocks.specs.Opened.{counted}
+use Rattle.sst_blocks.specs.Opened.{with_load}
 use Rattle.sst_blocks.specs.Place.{Place, place_of}
 use Rattle.sst_sections.specs.Sections.{body_of}
 use Rattle.lsm_readers.specs.declared.inner.Inner.{Inner}
@@ -65,7 +65,7 @@ module _ (body : List ℕ) (g : ℕ) (parts : Parts) (key : List ℕ) (bound : �
 pub no_loads : {X : Type 0} (r : Result X Error) (o : Opened) → Opens r [] o o
 no_loads r o = record { made = 0; counts = refl; whole = λ _. refl; some = λ h. absurd (omega (arith, h)) }
 
-pub one_load : {X : Type 0} (r : Result X Error) (k : BlockType) (o : Opened) → Opens r (k ∷ []) o (counted k o)
+pub one_load : {X : Type 0} (r : Result X Error) (k : BlockType) (o : Opened) → Opens r (k ∷ []) o (with_load k o)
 one_load r k o = record { made = 1; counts = refl; whole = λ _. refl; some = λ _. omega arith }
 
 -- ---- a point read by its stored bound

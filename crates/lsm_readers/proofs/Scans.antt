@@ -13,8 +13,8 @@ use Rattle.sst_blocks.specs.Block.{Loaded, load_at_told, entries_of}
 use Rattle.sst_entries.specs.Entry.{Entry}
 use Rattle.sst_entries.specs.Error.{is_memory}
 use Rattle.sst_blocks.specs.declared.opened.Opened.{Opened}
-use Rattle.sst_blocks.specs.Opened.{counted}
-use Rattle.sst_entries.specs.Stream.{Answers, Deals, CanDeal, first, but_first, front_of, nowhere, stopped}
+use Rattle.sst_blocks.specs.Opened.{with_load}
+use Rattle.sst_entries.specs.Stream.{Answers, Deals, CanDeal, first, but_first, front_of, nowhere, answer_stops}
 use Rattle.sst_entries.proofs.StreamLemmas.{head_eq, deals_by, can_by}
 use Rattle.lsm_readers.specs.Answer.{lifted}
 use Rattle.lsm_readers.specs.Scan.{IsEnded, Scan, ScanHas, ScansNext, TakesEntry, behind, block_told, blocks_told, ended, entries_from, entries_told, fault_of, lifted_told, loads, scan_loads_behind, loads_from, loads_of, scan_left, scan_size, scan_told, then_blocks, unless_left, up_to_error}
@@ -181,9 +181,9 @@ answers_from s u t r reached answer = record {
 
 -- the next block was loaded
 abbrev pub moved : Scan → List Entry → ℕ → Scan
-moved u es next = record u { entries = es; position = next; blocks = u.blocks - 1; opened = counted Data u.opened }
+moved u es next = record u { entries = es; position = next; blocks = u.blocks - 1; opened = with_load Data u.opened }
 
-pub moved_is : (u s : Scan) (es : List Entry) (next : ℕ) (o : Opened) → u ≡ s → o ≡ counted Data u.opened → record (moved u es next) { opened = o } ≡ moved s es next
+pub moved_is : (u s : Scan) (es : List Entry) (next : ℕ) (o : Opened) → u ≡ s → o ≡ with_load Data u.opened → record (moved u es next) { opened = o } ≡ moved s es next
 moved_is u s es next o same counts = ap (λ (p : Opened). record (moved u es next) { opened = p }) counts ∙ ap (λ (v : Scan). moved v es next) same
 
 next_is : (u : Scan) (n : ℕ) → u.entries ≡ [] → u.blocks ≡ suc n → scan_left u ≡ next_left u.body u.global_seqno n (block_told u.body u.position)
@@ -205,7 +205,7 @@ reached_next s u es next reached none some told =
       left = sym (next_is u n none k ∙ ap (next_left u.body u.global_seqno n) told) ∙ reached.left;
       ended = λ e. absurd (omega (arith, some, (reached.ended e).1));
       count = suc reached.count;
-      counts = ap (counted Data) reached.counts;
+      counts = ap (with_load Data) reached.counts;
       falls = omega (arith, reached.falls, some);
       needs = omega (arith, reached.needs, needs_next u n es next none k told);
     }
@@ -266,9 +266,9 @@ scans_entry s u t (Err fault) reached taken = subst (ScansNext s (Some (Err faul
 
 -- a block could not be loaded
 abbrev pub halted : Scan → Scan
-halted u = record (ended u) { opened = counted Data u.opened }
+halted u = record (ended u) { opened = with_load Data u.opened }
 
-pub halted_is : (u s : Scan) (o : Opened) → u ≡ s → o ≡ counted Data u.opened → record (ended u) { opened = o } ≡ halted s
+pub halted_is : (u s : Scan) (o : Opened) → u ≡ s → o ≡ with_load Data u.opened → record (ended u) { opened = o } ≡ halted s
 halted_is u s o same counts = ap (λ (p : Opened). record (ended u) { opened = p }) counts ∙ ap halted same
 
 fault_is : {X : Type 0} (r : Result X Error) (e : Error) → fault_of r ≡ Some e → r ≡ Err e
@@ -287,7 +287,7 @@ scans_fault s u t e reached none some told is =
       answers = answers_from s u (halted u) (Some (Err e)) reached (gave_error u (halted u) e left (has_block u some) (refl, refl));
       ends = (refl, refl);
       count = suc reached.count;
-      counts = ap (counted Data) reached.counts;
+      counts = ap (with_load Data) reached.counts;
       within = omega (arith, reached.falls, some);
       exact = λ m. omega (arith, reached.needs, needs_first u n none k, one_load u n (fault_is (block_told u.body u.position) e (told m)));
       most = omega (arith, reached.needs, needs_first u n none k);
@@ -370,13 +370,13 @@ progress s t r step = record { on = λ _. (tt, tt, scan_falls s t r step); keeps
 
 -- ---- what a scan deals
 
-pub scan_deals : (stops : Error → Bool) (s : Scan) (xs : List R) → ScanHas stops s xs → Deals (stopped stops) ScansNext nowhere s xs
-scan_deals stops s xs has = deals_by (stopped stops) ScansNext nowhere (ScanHas stops) (λ s xs r t has step fine. (step.answers).gives stops xs has fine) (λ s xs r t has step fine. absurd step) s xs has
+pub scan_deals : (stops : Error → Bool) (s : Scan) (xs : List R) → ScanHas stops s xs → Deals (answer_stops stops) ScansNext nowhere s xs
+scan_deals stops s xs has = deals_by (answer_stops stops) ScansNext nowhere (ScanHas stops) (λ s xs r t has step fine. (step.answers).gives stops xs has fine) (λ s xs r t has step fine. absurd step) s xs has
 
 pub scan_can : (s : Scan) → CanDeal ScansNext nowhere (λ _. Unit {0}) (λ _. Unit {0}) s
 scan_can s = can_by ScansNext nowhere (λ _. Unit {0}) (λ _. Unit {0}) (λ _. Unit {0}) (λ s may. (tt, tt)) (λ s r t may step. tt) (λ s r t may step. absurd step) s tt
 
-pub scan_ends : (stops : Error → Bool) (s t : Scan) (e : Error) → ScansNext s (Some (Err e)) t → Deals (stopped stops) ScansNext nowhere t []
+pub scan_ends : (stops : Error → Bool) (s t : Scan) (e : Error) → ScansNext s (Some (Err e)) t → Deals (answer_stops stops) ScansNext nowhere t []
 scan_ends stops s t e step = scan_deals stops t [] (sym (ended_left t step.ends), inl step.ends)
 
 -- the first block was read

@@ -6,7 +6,7 @@ use Rattle.sst_entries.specs.Error.{is_memory}
 use Rattle.sst_blocks.specs.declared.block_type.BlockType.{BlockType}
 use Rattle.sst_blocks.specs.declared.opened.Opened.{Opened}
 use Rattle.sst_blocks.specs.Block.{Loaded, load_told, place_fault}
-use Rattle.sst_blocks.specs.Opened.{counted}
+use Rattle.sst_blocks.specs.Opened.{with_load}
 use Rattle.sst_blocks.specs.Place.{Place}
 
 infixl 10 ◌>>=◌
@@ -62,7 +62,7 @@ read_then r next = record {
 -- the counts after loads of some kinds
 abbrev pub opened_by : List BlockType → Opened → Opened
 opened_by [] o = o
-opened_by (k ∷ ks) o = opened_by ks (counted k o)
+opened_by (k ∷ ks) o = opened_by ks (with_load k o)
 
 -- a call wanted memory
 abbrev pub wants_memory : {X : Type 0} → Result X Error → Bool

@@ -6,7 +6,7 @@ use Rattle.sst_sections.specs.declared.section.Section.{Section}
 use Rattle.sst_sections.specs.declared.section.SectionName.{SectionName}
 use Rattle.sst_sections.specs.declared.section.SectionName.TheVariants.{Index, Tli, Filter, FilterTli, Meta}
 use Rattle.sst_blocks.specs.Place.{Place}
-use Rattle.sst_sections.specs.Sections.{place_of}
+use Rattle.sst_sections.specs.Sections.{slot_index}
 use Rattle.lsm_readers.specs.Read.{◌>>=◌}
 use Rattle.lsm_readers.specs.declared.regions.ParsedRegions.{ParsedRegions}
 
@@ -27,7 +27,7 @@ needed_told None = Err MissingSection
 needed_told (Some s) = region_told s
 
 abbrev pub section_named : List (Option Section) → SectionName → Option Section
-section_named toc name = slice_index_or toc (place_of name) None
+section_named toc name = slice_index_or toc (slot_index name) None
 
 -- the parts, in the order in which their faults are told
 unfoldable pub regions_told : List (Option Section) → Result ParsedRegions Error

@@ -5,11 +5,11 @@ use Rattle.sst_blocks.specs.declared.block_type.BlockType.TheVariants.{Data}
 use Rattle.sst_entries.specs.declared.error.Error.{Error}
 use Rattle.sst_entries.specs.declared.error.Error.TheVariants.{OutOfMemory, SeqNoOverflow}
 use Rattle.sst_blocks.specs.declared.opened.Opened.{Opened}
-use Rattle.sst_blocks.specs.Block.{Loaded, load_at_told, entries_of}
+use Rattle.sst_blocks.specs.Block.{Loaded, load_at_told, entries_of, header_len}
 use Rattle.sst_entries.specs.Entry.{Entry}
 use Rattle.sst_entries.specs.Error.{Gives, is_memory}
-use Rattle.sst_blocks.specs.Opened.{counted}
-use Rattle.sst_entries.specs.Stream.{Answers, Deals, all_ok, front_of, nowhere, stopped}
+use Rattle.sst_blocks.specs.Opened.{with_load}
+use Rattle.sst_entries.specs.Stream.{Answers, Deals, ok_results, front_of, nowhere, answer_stops}
 use Rattle.lsm_readers.specs.Answer.{lifted, lift}
 use Rattle.lsm_readers.specs.Read.{◌>>=◌}
 
@@ -25,7 +25,7 @@ then_blocks (Err e) more = Err e ∷ []
 
 -- where the block behind this one begins
 abbrev pub behind : ℕ → Loaded → ℕ
-behind position b = position + 24 + length b.payload
+behind position b = position + header_len + length b.payload
 
 -- the data blocks that lie one behind another from a position on: so many of them, or up to the first
 -- that cannot be loaded
@@ -101,7 +101,7 @@ pub record TakesEntry (s : Scan) (r : Result Entry Error) (t : Scan) : Type 0 wh
 -- so many loads of data blocks were counted
 abbrev pub loads : ℕ → Opened → Opened
 loads zero o = o
-loads (suc n) o = counted Data (loads n o)
+loads (suc n) o = with_load Data (loads n o)
 
 -- none where an entry is left, else so many
 abbrev pub unless_left : List Entry → ℕ → ℕ
@@ -132,7 +132,7 @@ pub record ScansNext (s : Scan) (r : Option (Result Entry Error)) (t : Scan) : T
   pub count : ℕ
   pub counts : t.opened ≡ loads count s.opened
   pub within : count ≤ s.blocks
-  pub exact : stopped is_memory r ≡ false → count ≡ loads_of s
+  pub exact : answer_stops is_memory r ≡ false → count ≡ loads_of s
   pub most : count ≤ loads_of s
   pub some : 0 < loads_of s → 0 < count
   pub falls : MatchOption r (Unit {0})
@@ -147,5 +147,5 @@ scan_size s = length (scan_left s) + s.blocks
 abbrev pub ScansList : Result Scan Error → List Entry → ℕ → Type 0
 ScansList r es g = MatchResult r
     (λ s. (stops : Error → Bool) → stops OutOfMemory ≡ true →
-    Deals (stopped stops) ScansNext nowhere s (all_ok (lift es g)))
+    Deals (answer_stops stops) ScansNext nowhere s (ok_results (lift es g)))
     (λ e. 0 < length es → e ≡ OutOfMemory)

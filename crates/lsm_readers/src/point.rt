@@ -2,7 +2,7 @@
 ghost use Rattle.std.specs.Prelude.{◌≡◌, ◌+◌, ◌<◌, ◌^◌, Option, IfOk, IfErr};
 ghost use Rattle.std.specs.Option.{option_map};
 ghost use Rattle.sst_entries.specs.declared.error.Error.TheVariants.{OutOfMemory};
-ghost use Rattle.lsm_readers.specs.Words.{Entry, FaultsFirst, Gives, Opens, answer, counted, fnv1a, lifted, match_at, parts_of, pinned_handle};
+ghost use Rattle.lsm_readers.specs.Words.{Entry, FaultsFirst, Gives, Opens, answer, with_load, fnv1a, lifted, match_at, parts_of, pinned_handle};
 ghost use Rattle.lsm_readers.specs.Words.{pinned_of, place_of, point};
 ghost use Rattle.sst_blocks.specs.declared.block_type.BlockType.TheVariants.{Data};
 
@@ -67,7 +67,7 @@ fn read_in<S: LoadBlocks>(
     ensures early { let read = match_at (S.body source.old) global_seqno key.now seqno handle in
         FaultsFirst result read.early }
     ensures body { S.body source.new ≡ S.body source.old }
-    ensures counted { S.opened source.new ≡ counted Data (S.opened source.old) }
+    ensures counted { S.opened source.new ≡ with_load Data (S.opened source.old) }
 {
     let block = source.load(&handle, BlockType::Data)?;
     lifted_read(&DataBlock::new(block), global_seqno, key, seqno)

@@ -1,8 +1,8 @@
 //! Reading a whole table, block after block.
 ghost use Rattle.std.specs.Prelude.{◌≡◌, ◌∷◌, ◌<◌, ◌-◌, ◌↔◌, ℕ, [], Bool, List, Some, Ok, Err, true, length, IsTrue, IfNone, IfOk, IfErr, IfSome};
 ghost use Rattle.std.specs.Iterator.{at_most};
-ghost use Rattle.lsm_readers.specs.Words.{CanDeal, Deals, Entry, Faults, Gives, Scan, ScansNext, TakesEntry, block_told, body_of, counted};
-ghost use Rattle.lsm_readers.specs.Words.{ended, fault_of, lifted_told, load_at_told, none_opened, nowhere, scan_size, scan_told, stopped};
+ghost use Rattle.lsm_readers.specs.Words.{CanDeal, Deals, Entry, Faults, Gives, Scan, ScansNext, TakesEntry, block_told, body_of, with_load};
+ghost use Rattle.lsm_readers.specs.Words.{ended, fault_of, lifted_told, load_at_told, none_opened, nowhere, scan_size, scan_told, answer_stops};
 ghost use Rattle.sst_blocks.specs.declared.block_type.BlockType.TheVariants.{Data};
 ghost use Rattle.sst_entries.specs.declared.error.Error.{Error};
 ghost use Rattle.sst_entries.specs.declared.error.Error.TheVariants.{OutOfMemory};
@@ -56,7 +56,7 @@ fn block_at<A: Allocator + Clone>(
 ) -> Result<(DataBlock<A>, u64), Error>
     ensures told { let block = block_told (body_of source.now) position in
         Gives (λ (x : List Entry × ℕ). x) result block }
-    ensures counted { opened.new ≡ counted Data opened.old }
+    ensures counted { opened.new ≡ with_load Data opened.old }
 {
     let block = source.load_at(position, BlockType::Data, opened)?;
     let next = position + Header::serialized_len() as u64 + block.size() as u64;
@@ -73,19 +73,19 @@ impl<A: Allocator + Clone> Scanner<A> {
         global_seqno: SeqNo,
     ) -> Result<Scanner<A>, Error>
         ensures refused { Faults result (fault_of (load_at_told (body_of source.now) 0 Data)) }
-        ensures opened { IfOk result (λ s. s.opened ≡ counted Data none_opened) }
+        ensures opened { IfOk result (λ s. s.opened ≡ with_load Data none_opened) }
         // Want of memory aside, it gives the entries of the blocks.
         ensures deals { (stops : Error → Bool) → stops OutOfMemory ≡ true →
             let gives = ⟦<Scanner<A> as Iterator>⟧.next_gives in
             let left = scan_told (body_of source.now) block_count global_seqno in
-            IfOk result (λ s. Deals (stopped stops) gives nowhere s left) }
+            IfOk result (λ s. Deals (answer_stops stops) gives nowhere s left) }
         ensures can { let gives = ⟦<Scanner<A> as Iterator>⟧.next_gives in
             let may = ⟦<Scanner<A> as Iterator>⟧.can_next in
             IfOk result (λ s. CanDeal gives nowhere may may s) }
         // After an error nothing comes, whatever the error is.
         ensures ends { (stops : Error → Bool) (s t : Scan) (e : Error) →
             ⟦<Scanner<A> as Iterator>⟧.next_gives s (Some (Err e)) t →
-            Deals (stopped stops) ⟦<Scanner<A> as Iterator>⟧.next_gives nowhere t [] }
+            Deals (answer_stops stops) ⟦<Scanner<A> as Iterator>⟧.next_gives nowhere t [] }
     {
         match compression {
             CompressionType::None => {}
@@ -170,10 +170,10 @@ impl<A: Allocator + Clone> Scanner<A> {
               entries = es;
               position = next;
               blocks = self.old.blocks - 1;
-              opened = counted Data self.old.opened;
+              opened = with_load Data self.old.opened;
             })) }
         ensures err { IfErr result (λ e.
-            self.new ≡ record (ended self.old) { opened = counted Data self.old.opened }) }
+            self.new ≡ record (ended self.old) { opened = with_load Data self.old.opened }) }
         ensures refused { Faults result (fault_of (block_told self.old.body self.old.position)) }
     {
         match block_at(&self.source, self.position, &mut self.opened) {

@@ -1,10 +1,10 @@
 //! Tables: opening a table's bytes, and reading from them.
 ghost use Rattle.std.specs.Prelude.{◌≡◌, ◌+◌, ℕ, Bool, List, [], Option, Some, Result, Ok, Err, false, true, length, IfOk, IfErr, MatchResult};
 ghost use Rattle.lsm_readers.specs.Words.{Deals, CanDeal, Entry, Faults, FaultsFirst, Gives, IsOpen, IsRecovered, IsTable};
-ghost use Rattle.lsm_readers.specs.Words.{Loaded, OpenTable, Opens, Scan, ScansList, body_of, counted, early_fault, early_in, ends_of};
+ghost use Rattle.lsm_readers.specs.Words.{Loaded, OpenTable, Opens, Scan, ScansList, body_of, with_load, early_fault, early_in, ends_of};
 ghost use Rattle.lsm_readers.specs.Words.{facts_of, fault_of, fitting_told, fnv1a, index_told, key_bound, lift, list_told, load_at_told};
 ghost use Rattle.lsm_readers.specs.Words.{load_told, none_opened, nowhere, number_told, overlaps_bounds, parts_of, parts_said, parts_told};
-ghost use Rattle.lsm_readers.specs.Words.{pinned_of, place_fault, places_told, point, recovered_told, scan_told, place_size, stopped};
+ghost use Rattle.lsm_readers.specs.Words.{pinned_of, place_fault, places_told, point, recovered_told, scan_told, place_size, answer_stops};
 ghost use Rattle.lsm_readers.specs.Words.{table_answer, within};
 ghost use Rattle.sst_blocks.specs.declared.block_type.BlockType.TheVariants.{Data, Index, Meta};
 ghost use Rattle.sst_entries.specs.declared.error.Error.{Error};
@@ -272,15 +272,15 @@ impl<A: Allocator + Clone> Table<A> {
             let gives = ⟦<Scanner<A> as Iterator>⟧.next_gives in
             let count = self.now.parts.facts.data_block_count in
             let left = scan_told (body_of self.now.bytes) count self.now.global_seqno in
-            IfOk result (λ s. Deals (stopped stops) gives nowhere s left) }
+            IfOk result (λ s. Deals (answer_stops stops) gives nowhere s left) }
         ensures can { let gives = ⟦<Scanner<A> as Iterator>⟧.next_gives in
             let may = ⟦<Scanner<A> as Iterator>⟧.can_next in
             IfOk result (λ s. CanDeal gives nowhere may may s) }
         // After an error nothing comes, whatever the error is.
         ensures ends { (stops : Error → Bool) (s t : Scan) (e : Error) →
             ⟦<Scanner<A> as Iterator>⟧.next_gives s (Some (Err e)) t →
-            Deals (stopped stops) ⟦<Scanner<A> as Iterator>⟧.next_gives nowhere t [] }
-        ensures opened { IfOk result (λ s. s.opened ≡ counted Data none_opened) }
+            Deals (answer_stops stops) ⟦<Scanner<A> as Iterator>⟧.next_gives nowhere t [] }
+        ensures opened { IfOk result (λ s. s.opened ≡ with_load Data none_opened) }
         // On a table of a list it is the list, its numbers lifted; where the list has an entry, nothing but want of memory
         // refuses it.
         ensures list { (es : List Entry) → IsTable self.now.bytes es →

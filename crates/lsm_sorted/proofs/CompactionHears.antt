@@ -5,7 +5,7 @@ use Rattle.sst_entries.specs.Entry.{Entry}
 use Rattle.sst_entries.specs.Key.{same_key}
 use Rattle.sst_entries.specs.declared.error.Error.{Error}
 use Rattle.sst_entries.specs.declared.stream.Direction.TheVariants.{Front}
-use Rattle.sst_entries.specs.Stream.{front_of, stopped, stopped_result}
+use Rattle.sst_entries.specs.Stream.{front_of, answer_stops, result_stops}
 use Rattle.lsm_merge.specs.declared.ends.Ends.{Ends}
 use Rattle.lsm_sorted.specs.declared.ahead.Ahead.{Ahead}
 use Rattle.lsm_merge.specs.Ends.{R, Asked}
@@ -22,7 +22,7 @@ use Rattle.lsm_sorted.proofs.SettleLemmas.{Draining, draining_first, draining_mo
 use Rattle.lsm_sorted.proofs.GoingLemmas.{Going, Called, going_first, going_dropped, called_filter_err, going_on, called_kept, called_err, called_source_err, called_none}
 
 -- an answer stops a source only where its error does
-fails_alike : {X Y : Type 0} (r : Result X Error) (q : Result Y Error) → stopped_result nothing_stops q ≡ stopped_result nothing_stops r → refusal q ≡ refusal r → (stops : Error → Bool) → stopped stops (failure q) ≡ false → stopped stops (failure r) ≡ false
+fails_alike : {X Y : Type 0} (r : Result X Error) (q : Result Y Error) → result_stops nothing_stops q ≡ result_stops nothing_stops r → refusal q ≡ refusal r → (stops : Error → Bool) → answer_stops stops (failure q) ≡ false → answer_stops stops (failure r) ≡ false
 fails_alike (Ok x) q same e stops fine = refl
 fails_alike (Err e) (Ok y) same h stops fine = absurd cc
 fails_alike (Err e) (Err d) same h stops fine = let one : d ≡ e = cc h in subst (λ (a : Error). stops a ≡ false) one fine
@@ -52,7 +52,7 @@ module _ {S : Type 0} (front : S → Option R → S → Type 0) where
 
   -- ---- one stretch of calls without an error, and another
 
-  then : (r q w : Option R) (P Q K : List R → List R → Type 0) (s u v : Ahead S R) → ((stops : Error → Bool) → stopped stops r ≡ false) → ((stops : Error → Bool) → stopped stops w ≡ false → stopped stops q ≡ false)
+  then : (r q w : Option R) (P Q K : List R → List R → Type 0) (s u v : Ahead S R) → ((stops : Error → Bool) → answer_stops stops r ≡ false) → ((stops : Error → Bool) → answer_stops stops w ≡ false → answer_stops stops q ≡ false)
       → Hearing r P s u → Hearing q Q u v → ((xs ys zs : List R) → P xs ys → Q ys zs → K xs zs) → Hearing w K s v
   then r q w P Q K s u v easy same h k both = hears_then front Front r q w P Q K (ahead_outlook s) (ahead_outlook u) (ahead_outlook v) easy same h k both
 
@@ -87,7 +87,7 @@ module _ {S : Type 0} (front : S → Option R → S → Type 0) where
       hears_stop_end {X} s u t c b y was h = then None None None (DrawsIn c b) (IsStep front_of None) (DrainsIn gets {X = X} key c (Ok y) b) s u t (λ stops. refl) (λ stops fine. refl) was h
           (λ xs ys zs d k. drained_end nothing_stops IsSame gets key xs ys zs c b y d (same_first None ys zs k))
 
-      pub hears_drained_as : {X Y : Type 0} (s t : Ahead S R) (c d : C) (r : Result X Error) (q : Result Y Error) → refusal q ≡ refusal r → stopped_result nothing_stops q ≡ stopped_result nothing_stops r → Hearing (failure r) (DrainsIn gets key c r d) s t → Hearing (failure q) (DrainsIn gets key c q d) s t
+      pub hears_drained_as : {X Y : Type 0} (s t : Ahead S R) (c d : C) (r : Result X Error) (q : Result Y Error) → refusal q ≡ refusal r → result_stops nothing_stops q ≡ result_stops nothing_stops r → Hearing (failure r) (DrainsIn gets key c r d) s t → Hearing (failure q) (DrainsIn gets key c q d) s t
       hears_drained_as s t c d r q e fine h = hears_as front Front (failure r) (failure q) (DrainsIn gets key c r d) (DrainsIn gets key c q d) _ _ (fails_alike r q fine e) h (λ xs ys k. drains_as nothing_stops IsSame gets key xs ys c d r q e fine k)
 
     module _ (rules : Rules) (head : Entry) where
@@ -148,7 +148,7 @@ module _ {S : Type 0} (front : S → Option R → S → Type 0) where
 
         module _ (y : Entry) (filters : Filters gives gets x h b (Ok (Some y)) k a) (p : Rules) (w t : Ahead S R) (z : C) (same : w ≡ v) (set : p ≡ rules) where
           -- up to the head that was taken, then what settles it
-          settled : (result : Result Bool Error) (q : Option R) (K : List R → List R → Type 0) → ((stops : Error → Bool) → stopped stops q ≡ false → stopped stops (failure result) ≡ false) → Hearing (failure result) (SettlesIn gets p y a result z) w t
+          settled : (result : Result Bool Error) (q : Option R) (K : List R → List R → Type 0) → ((stops : Error → Bool) → answer_stops stops q ≡ false → answer_stops stops (failure result) ≡ false) → Hearing (failure result) (SettlesIn gets p y a result z) w t
               → ((xs ys zs ws : List R) → GoesIn f c h b xs ys → IsStep front_of (Some (Ok x)) ys zs → SettlesIn gets rules y a result z zs ws → K xs ws) → Hearing q K s t
           settled result q K alike settles all =
               let Both : List R → List R → Type 0 = λ xs zs. (ys : List R) × GoesIn f c h b xs ys × IsStep front_of (Some (Ok x)) ys zs in

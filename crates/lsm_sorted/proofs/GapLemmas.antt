@@ -7,11 +7,11 @@ use Rattle.sst_entries.specs.Entry.{Entry}
 use Rattle.sst_entries.specs.declared.error.Error.{Error}
 use Rattle.sst_entries.specs.declared.stream.Direction.{Direction}
 use Rattle.sst_entries.specs.declared.stream.Direction.TheVariants.{Front, Back}
-use Rattle.sst_entries.specs.Stream.{Runs, Deals, stopped, all_ok, deal, first, but_first, last, but_last}
+use Rattle.sst_entries.specs.Stream.{Runs, Deals, answer_stops, ok_results, deal, first, but_first, last, but_last, EndsAtError}
 use Rattle.sst_entries.proofs.StreamLemmas.{deals_front, deals_back, map_append, map_reverse}
 use Rattle.lsm_merge.specs.Ends.{R}
-use Rattle.lsm_merge.specs.Union.{all_errors, merged}
-use Rattle.lsm_merge.specs.Merge.{Follows, DealsUntil, EndsAtError}
+use Rattle.lsm_merge.specs.Union.{all_errors, union_of}
+use Rattle.lsm_merge.specs.Merge.{Follows, DealsUntil}
 use Rattle.lsm_merge.specs.MergeLaws.{DealsBeforeErrors, DealsUntilError, every_error}
 use Rattle.lsm_merge.proofs.EndsLemmas.{none_first}
 use Rattle.lsm_sorted.specs.Outlook.{StopsAtNone}
@@ -19,11 +19,11 @@ use Rattle.lsm_sorted.specs.Gap.{HasGap, IsUpToGap, DealsUpToGap, MergesUpToGap}
 use Rattle.lsm_sorted.proofs.PeekedLemmas.{last_of, others_of}
 
 -- the first entry of several, and the last
-ok_first : (es : List Entry) (x : Entry) → Some (Ok x) ≡ first (all_ok es) → (ys : List Entry) × (es ≡ x ∷ ys)
+ok_first : (es : List Entry) (x : Entry) → Some (Ok x) ≡ first (ok_results es) → (ys : List Entry) × (es ≡ x ∷ ys)
 ok_first [] x e = absurd cc
 ok_first (y ∷ ys) x e = (ys, cc e)
 
-ok_last : (es : List Entry) (x : Entry) → Some (Ok x) ≡ last (all_ok es) → (ys : List Entry) × (es ≡ ys ++ x ∷ [])
+ok_last : (es : List Entry) (x : Entry) → Some (Ok x) ≡ last (ok_results es) → (ys : List Entry) × (es ≡ ys ++ x ∷ [])
 ok_last es x e =
     let w = ok_first (reverse es) x (e ∙ ap first (map_reverse es)) in
     (reverse w.0, sym (reverse-reverse es) ∙ ap reverse w.1 ∙ reverse-append (x ∷ []) w.0)
@@ -54,7 +54,7 @@ module _ (stops : Error → Bool) (errors : List Error) where
           gap = g.gap;
           behind = g.behind ++ x ∷ [];
           parts = ap (λ (ys : List Entry). ys ++ x ∷ []) g.parts ∙ append_assoc g.before (g.gap ++ g.behind) (x ∷ []) ∙ ap (λ (ys : List Entry). g.before ++ ys) (append_assoc g.gap g.behind (x ∷ []));
-          is = ap (λ (ys : List R). ys ++ Ok x ∷ []) g.is ∙ append_assoc (all_ok g.before) (Err h.0 ∷ all_ok g.behind) (Ok x ∷ []) ∙ ap (λ (ys : List R). all_ok g.before ++ Err h.0 ∷ ys) (sym (map_append g.behind (x ∷ [])));
+          is = ap (λ (ys : List R). ys ++ Ok x ∷ []) g.is ∙ append_assoc (ok_results g.before) (Err h.0 ∷ ok_results g.behind) (Ok x ∷ []) ∙ ap (λ (ys : List R). ok_results g.before ++ Err h.0 ∷ ys) (sym (map_append g.behind (x ∷ [])));
         },
         h.2,
       )
@@ -66,7 +66,7 @@ module _ (stops : Error → Bool) (errors : List Error) where
   module _ {T : Type 0} (next next_back : T → Option R → T → Type 0) where
     -- a source that has met no error yet
     pub record Unfailed (t : T) (es : List Entry) : Type 0 where
-      pub deals : Deals (stopped every_error) next next_back t (all_ok es)
+      pub deals : Deals (answer_stops every_error) next next_back t (ok_results es)
       pub until : DealsUntil stops next next_back t es errors
       pub ends : EndsAtError next next_back t
 
@@ -104,19 +104,19 @@ module _ (stops : Error → Bool) (errors : List Error) where
         told Back runs h = (g.until.answers (Back ∷ []) (Some (Err e) ∷ []) v runs (h, tt)).0
 
     pub told_up_to_gap : (ds : List Direction) (rs : List (Option R)) (t u : T) (es : List Entry) → Unfailed t es → Runs next next_back t ds rs u → StopsAtNone false rs → Told es ds rs
-    told_up_to_gap [] [] t u es g runs once = (all_ok es, inl refl, refl)
+    told_up_to_gap [] [] t u es g runs once = (ok_results es, inl refl, refl)
     told_up_to_gap [] (r ∷ rs) t u es g runs once = absurd runs
     told_up_to_gap (d ∷ ds) [] t u es g runs once = absurd runs
     told_up_to_gap (Front ∷ ds) (None ∷ rs) t u es g runs once =
-        let one = (deals_front (stopped every_error) next next_back t (all_ok es) None runs.0 g.deals runs.1 refl).0 in
+        let one = (deals_front (answer_stops every_error) next next_back t (ok_results es) None runs.0 g.deals runs.1 refl).0 in
         let none : ds ≡ [] = no_ends ds rs runs.0 u runs.2 once in
-        let more : rs ≡ deal (but_first (all_ok es)) ds = once ∙ ap (deal (but_first (all_ok es))) (sym none) in
-        (all_ok es, inl refl, cc (one, more))
+        let more : rs ≡ deal (but_first (ok_results es)) ds = once ∙ ap (deal (but_first (ok_results es))) (sym none) in
+        (ok_results es, inl refl, cc (one, more))
     told_up_to_gap (Back ∷ ds) (None ∷ rs) t u es g runs once =
-        let one = (deals_back (stopped every_error) next next_back t (all_ok es) None runs.0 g.deals runs.1 refl).0 in
+        let one = (deals_back (answer_stops every_error) next next_back t (ok_results es) None runs.0 g.deals runs.1 refl).0 in
         let none : ds ≡ [] = no_ends ds rs runs.0 u runs.2 once in
-        let more : rs ≡ deal (but_last (all_ok es)) ds = once ∙ ap (deal (but_last (all_ok es))) (sym none) in
-        (all_ok es, inl refl, cc (one, more))
+        let more : rs ≡ deal (but_last (ok_results es)) ds = once ∙ ap (deal (but_last (ok_results es))) (sym none) in
+        (ok_results es, inl refl, cc (one, more))
     told_up_to_gap (Front ∷ ds) (Some (Err e) ∷ rs) t u es g runs once =
         let more = none_left ds rs runs.0 u runs.2 (g.ends.answers (Front ∷ ds) (Some (Err e) ∷ rs) u runs) in
         (Err e ∷ [], all_gap e es (whose e Front t runs.0 es g (runs.0, runs.1, refl)), ap (λ (qs : List (Option R)). Some (Err e) ∷ qs) more)
@@ -124,10 +124,10 @@ module _ (stops : Error → Bool) (errors : List Error) where
         let more = none_left ds rs runs.0 u runs.2 (g.ends.answers (Back ∷ ds) (Some (Err e) ∷ rs) u runs) in
         (Err e ∷ [], all_gap e es (whose e Back t runs.0 es g (runs.0, runs.1, refl)), ap (λ (qs : List (Option R)). Some (Err e) ∷ qs) more)
     told_up_to_gap (Front ∷ ds) (Some (Ok x) ∷ rs) t u es g runs once =
-        let one = deals_front (stopped every_error) next next_back t (all_ok es) (Some (Ok x)) runs.0 g.deals runs.1 refl in
+        let one = deals_front (answer_stops every_error) next next_back t (ok_results es) (Some (Ok x)) runs.0 g.deals runs.1 refl in
         let w = ok_first es x one.0 in
         let h : Unfailed t (x ∷ w.0) = subst (Unfailed t) w.1 g in
-        let left : Deals (stopped every_error) next next_back runs.0 (all_ok w.0) = (deals_front (stopped every_error) next next_back t (all_ok (x ∷ w.0)) (Some (Ok x)) runs.0 h.deals runs.1 refl).1 in
+        let left : Deals (answer_stops every_error) next next_back runs.0 (ok_results w.0) = (deals_front (answer_stops every_error) next next_back t (ok_results (x ∷ w.0)) (Some (Ok x)) runs.0 h.deals runs.1 refl).1 in
         let still : Unfailed runs.0 w.0 = record {
           deals = left;
           until = record { answers = λ es qs v more fine. (h.until.answers (Front ∷ es) (Some (Ok x) ∷ qs) v (runs.0, runs.1, more) (refl, fine)).1 };
@@ -135,12 +135,12 @@ module _ (stops : Error → Bool) (errors : List Error) where
         } in
         subst (λ (ys : List Entry). Told ys (Front ∷ ds) (Some (Ok x) ∷ rs)) (sym w.1) (at_front x w.0 ds rs (told_up_to_gap ds rs runs.0 u w.0 still runs.2 once))
     told_up_to_gap (Back ∷ ds) (Some (Ok x) ∷ rs) t u es g runs once =
-        let one = deals_back (stopped every_error) next next_back t (all_ok es) (Some (Ok x)) runs.0 g.deals runs.1 refl in
+        let one = deals_back (answer_stops every_error) next next_back t (ok_results es) (Some (Ok x)) runs.0 g.deals runs.1 refl in
         let w = ok_last es x one.0 in
         let h : Unfailed t (w.0 ++ x ∷ []) = subst (Unfailed t) w.1 g in
-        let others : but_last (all_ok (w.0 ++ x ∷ [])) ≡ all_ok w.0 = others_of (all_ok (w.0 ++ x ∷ [])) (all_ok w.0) (Ok x) (map_append w.0 (x ∷ [])) in
-        let left : Deals (stopped every_error) next next_back runs.0 (all_ok w.0) =
-        subst (Deals (stopped every_error) next next_back runs.0) others (deals_back (stopped every_error) next next_back t (all_ok (w.0 ++ x ∷ [])) (Some (Ok x)) runs.0 h.deals runs.1 refl).1 in
+        let others : but_last (ok_results (w.0 ++ x ∷ [])) ≡ ok_results w.0 = others_of (ok_results (w.0 ++ x ∷ [])) (ok_results w.0) (Ok x) (map_append w.0 (x ∷ [])) in
+        let left : Deals (answer_stops every_error) next next_back runs.0 (ok_results w.0) =
+        subst (Deals (answer_stops every_error) next next_back runs.0) others (deals_back (answer_stops every_error) next next_back t (ok_results (w.0 ++ x ∷ [])) (Some (Ok x)) runs.0 h.deals runs.1 refl).1 in
         let still : Unfailed runs.0 w.0 = record {
           deals = left;
           until = record { answers = λ es qs v more fine. subst (λ (ys : List R). Follows errors (deal ys es) qs) others (h.until.answers (Back ∷ es) (Some (Ok x) ∷ qs) v (runs.0, runs.1, more) (refl, fine)).1 };
@@ -153,7 +153,7 @@ pub merges_up_to_gap : {S T : Type 0} (front back : S → Option R → S → Typ
     → DealsBeforeErrors front back its next next_back t → DealsUntilError front back its next next_back t → EndsAtError next next_back t → MergesUpToGap front back its next next_back t
 merges_up_to_gap front back its next next_back t before until ends = record {
   deals = λ stops lists sorted. record {
-    answers = λ ds rs u runs once. told_up_to_gap stops (all_errors lists) next next_back ds rs t u (merged lists)
+    answers = λ ds rs u runs once. told_up_to_gap stops (all_errors lists) next next_back ds rs t u (union_of lists)
         (record { deals = before.deals stops lists sorted; until = until.deals stops lists sorted; ends = ends }) runs once;
   };
 }

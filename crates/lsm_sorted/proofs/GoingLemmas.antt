@@ -2,7 +2,7 @@
 use Rattle.std.proofs.Common.{◌≡◌, refl, sym, ◌∙◌, ap, subst, Bool, true, false, List, [], ◌∷◌}
 use Rattle.std.specs.Prelude.{Option, Some, None, Result, Ok, Err}
 use Rattle.sst_entries.specs.Entry.{Entry}
-use Rattle.sst_entries.specs.Stream.{but_first, stopped, DealsFirst}
+use Rattle.sst_entries.specs.Stream.{but_first, answer_stops, DealsFirst}
 use Rattle.sst_entries.specs.declared.error.Error.{Error}
 use Rattle.lsm_merge.specs.Ends.{R}
 use Rattle.lsm_sorted.specs.Compaction.{Verdict, Rules, told_by, reports_by, zeroed}
@@ -19,7 +19,7 @@ module _ {T F C : Type 0} (stops : Error → Bool) (Has : T → List R → Type 
 
   -- what a call owes
   abbrev pub Called : T → F → C → Option R → T → F → C → Type 0
-  Called s f c r t g d = (xs : List R) → Has s xs → stopped stops r ≡ false → (ys : List R) × Has t ys × Calls gives gets rules f c xs r g d ys
+  Called s f c r t g d = (xs : List R) → Has s xs → answer_stops stops r ≡ false → (ys : List R) × Has t ys × Calls gives gets rules f c xs r g d ys
 
   -- the same with equal parts
   pub settles_along : (q p : Rules) (y : Entry) (s t u : T) (c d : C) (result : Result Bool Error) → q ≡ p → s ≡ t → Settles stops Has gets q y s c result u d → Settles stops Has gets p y t c result u d
@@ -61,7 +61,7 @@ module _ {T F C : Type 0} (stops : Error → Bool) (Has : T → List R → Type 
     }
 
     -- a turn that answers
-    ends : (r : R) (t : T) (d : C) → ((rs : List R) → Has v rs → stopped stops (Some r) ≡ false → (turn : Turn) × (turned rules result rs ≡ turn) × (Some r ≡ turn.answer) × Has t turn.rest × GetsAll gets a turn.reports d) → Called s f c (Some r) t k d
+    ends : (r : R) (t : T) (d : C) → ((rs : List R) → Has v rs → answer_stops stops (Some r) ≡ false → (turn : Turn) × (turned rules result rs ≡ turn) × (Some r ≡ turn.answer) × Has t turn.rest × GetsAll gets a turn.reports d) → Called s f c (Some r) t k d
     ends r t d settles xs has fine =
         let w = was.at xs has in
         let one = deals w.0 w.1 refl in

@@ -6,7 +6,7 @@ use Rattle.std.proofs.lemmas.List.{append-nil, reverse-append, reverse-reverse}
 use Rattle.sst_entries.specs.declared.error.Error.{Error}
 use Rattle.sst_entries.specs.declared.stream.Direction.{Direction}
 use Rattle.sst_entries.specs.declared.stream.Direction.TheVariants.{Front, Back}
-use Rattle.sst_entries.specs.Stream.{Runs, Steps, NoneStops, Deals, CanDeal, stopped, deal, first, but_first, last, but_last, nowhere}
+use Rattle.sst_entries.specs.Stream.{Runs, Steps, NoneStops, Deals, CanDeal, answer_stops, deal, first, but_first, last, but_last, nowhere}
 use Rattle.sst_entries.proofs.StreamLemmas.{head_eq, tail_eq}
 use Rattle.lsm_merge.specs.declared.ends.Ends.{Ends}
 use Rattle.lsm_merge.specs.Ends.{R, Goes, GoesIf}
@@ -122,7 +122,7 @@ module _ {S : Type 0} (front back : S → Option R → S → Type 0) where
     pub led : S
     pub runs : Runs front back o.source.iter ends answers led
     pub once : StopsAtNone o.source.done answers
-    pub told : (stops : Error → Bool) → NoneStops (stopped stops) rs → NoneStops (stopped stops) answers
+    pub told : (stops : Error → Bool) → NoneStops (answer_stops stops) rs → NoneStops (answer_stops stops) answers
     pub holds : (ys : List R) → MayGive o.source.done ys → answers ≡ deal ys ends → P (list_of o ys)
 
   pub heard_none : (o : Outlook S) (P : List R → Type 0) → ((xs : List R) → P xs) → HeardFrom o [] P
@@ -145,7 +145,7 @@ module _ {S : Type 0} (front back : S → Option R → S → Type 0) where
     led = k.led;
     runs = runs_append front back (each_at end h.answers) k.ends h.answers k.answers o.source.iter u.source.iter k.led (gave_runs front back end h.answers o.source.iter u.source.iter h.gave.each) k.runs;
     once = stops_append o.source.done h.answers k.answers h.gave.once (subst (λ (b : Bool). StopsAtNone b k.answers) h.gave.over k.once);
-    told = λ stops fine. none_stop_append (stopped stops) h.answers k.answers (h.told stops fine.0) (k.told stops fine.1);
+    told = λ stops fine. none_stop_append (answer_stops stops) h.answers k.answers (h.told stops fine.0) (k.told stops fine.1);
     holds = λ ys may e.
         let p = parts_at k.ends k.answers end h.answers ys e in
         let still : MayGive u.source.done p.left = subst (λ (b : Bool). MayGive b p.left) (sym h.gave.over) (p.over o.source.done h.gave.once may) in
@@ -163,7 +163,7 @@ module _ {S : Type 0} (front back : S → Option R → S → Type 0) where
         record { ends = h.ends; answers = h.answers; led = h.led; runs = h.runs; once = h.once; holds = λ xs e. subst P (append-nil xs) (h.holds xs tt e) }
 
     -- where the source deals a list, P holds of it
-    pub heard_dealt : (stops : Error → Bool) (xs : List R) → HeardFrom o rs P → Deals (stopped stops) front back source xs → NoneStops (stopped stops) rs → P xs
+    pub heard_dealt : (stops : Error → Bool) (xs : List R) → HeardFrom o rs P → Deals (answer_stops stops) front back source xs → NoneStops (answer_stops stops) rs → P xs
     heard_dealt stops xs g d fine =
         let h = from_start g in
         subst P (append-nil xs) (h.holds xs tt (d.answers h.ends h.answers h.led h.runs (h.told stops fine)))

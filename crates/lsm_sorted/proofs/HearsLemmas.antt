@@ -5,7 +5,7 @@ use Rattle.std.proofs.lemmas.List.{append-nil, reverse-append}
 use Rattle.sst_entries.specs.declared.error.Error.{Error}
 use Rattle.sst_entries.specs.declared.stream.Direction.{Direction}
 use Rattle.sst_entries.specs.declared.stream.Direction.TheVariants.{Front, Back}
-use Rattle.sst_entries.specs.Stream.{NoneStops, stopped}
+use Rattle.sst_entries.specs.Stream.{NoneStops, answer_stops}
 use Rattle.lsm_merge.specs.declared.ends.Ends.{Ends}
 use Rattle.lsm_merge.specs.Ends.{R, AskedIf, Asked}
 use Rattle.lsm_sorted.specs.Outlook.{Outlook, list_of, MayGive, results_in, with_rest, is_over, StopsAtNone}
@@ -52,7 +52,7 @@ may_give end true (r ∷ qs) rest h k = absurd cc
 
 -- an answer that no error stops
 abbrev pub Fine : Option R → Type 0
-Fine r = (stops : Error → Bool) → stopped stops r ≡ false
+Fine r = (stops : Error → Bool) → answer_stops stops r ≡ false
 
 module _ {S : Type 0} (ask : S → Option R → S → Type 0) where
   each_append : (ps qs : List (Option R)) (s u v : S) → GaveEach ask s ps u → GaveEach ask u qs v → GaveEach ask s (ps ++ qs) v
@@ -72,7 +72,7 @@ module _ {S : Type 0} (ask : S → Option R → S → Type 0) where
     hears_more r q P Q K s u v easy h k both = record {
       answers = h.answers ++ k.answers;
       gave = gave_append s.source u.source v.source h.answers k.answers h.gave k.gave;
-      told = λ stops fine. none_stop_append (stopped stops) h.answers k.answers (h.told stops (easy stops)) (k.told stops fine);
+      told = λ stops fine. none_stop_append (answer_stops stops) h.answers k.answers (h.told stops (easy stops)) (k.told stops fine);
       holds = λ rest may.
           let middle = with_rest end (results_in k.answers) rest in
           let before : MayGive u.source.done middle = may_give end u.source.done k.answers rest k.gave.once (subst (λ (b : Bool). MayGive b rest) k.gave.over may) in
@@ -82,11 +82,11 @@ module _ {S : Type 0} (ask : S → Option R → S → Type 0) where
     }
 
     -- what is heard in this way is heard in that
-    pub hears_as : (r q : Option R) (P K : List R → List R → Type 0) (s t : Outlook S) → ((stops : Error → Bool) → stopped stops q ≡ false → stopped stops r ≡ false) → Hears ask end r P s t → ((xs ys : List R) → P xs ys → K xs ys) → Hears ask end q K s t
+    pub hears_as : (r q : Option R) (P K : List R → List R → Type 0) (s t : Outlook S) → ((stops : Error → Bool) → answer_stops stops q ≡ false → answer_stops stops r ≡ false) → Hears ask end r P s t → ((xs ys : List R) → P xs ys → K xs ys) → Hears ask end q K s t
     hears_as r q P K s t easy h weaker = record { answers = h.answers; gave = h.gave; told = λ stops fine. h.told stops (easy stops fine); holds = λ rest may. weaker _ _ (h.holds rest may) }
 
     -- both, where the first stretch met no error
-    pub hears_then : (r q w : Option R) (P Q K : List R → List R → Type 0) (s u v : Outlook S) → Fine r → ((stops : Error → Bool) → stopped stops w ≡ false → stopped stops q ≡ false) → Hears ask end r P s u → Hears ask end q Q u v → ((xs ys zs : List R) → P xs ys → Q ys zs → K xs zs) → Hears ask end w K s v
+    pub hears_then : (r q w : Option R) (P Q K : List R → List R → Type 0) (s u v : Outlook S) → Fine r → ((stops : Error → Bool) → answer_stops stops w ≡ false → answer_stops stops q ≡ false) → Hears ask end r P s u → Hears ask end q Q u v → ((xs ys zs : List R) → P xs ys → Q ys zs → K xs zs) → Hears ask end w K s v
     hears_then r q w P Q K s u v easy same h k both = hears_as q w K K s v same (hears_more r q P Q K s u v easy h k both) (λ xs ys h. h)
 
     -- no call of the source

@@ -3,7 +3,7 @@ use Rattle.std.proofs.Common.{◌≡◌, refl, sym, ◌∙◌, ap, subst, ℕ, �
 use Rattle.std.specs.List.{AllByRecursion}
 use Rattle.sst_entries.specs.Entry.{Entry}
 use Rattle.sst_entries.specs.Key.{same_key, key_lt}
-use Rattle.sst_entries.specs.Stream.{first, all_ok}
+use Rattle.sst_entries.specs.Stream.{first, ok_results}
 use Rattle.lsm_sorted.specs.Compaction.{Rules, goes, zeroed, kept, unfiltered}
 use Rattle.lsm_sorted.specs.ReadLaw.{StaysStrict}
 use Rattle.lsm_merge.proofs.Pairs.{Precedes, Strict, as_pairs, from_pairs}
@@ -19,7 +19,7 @@ use Rattle.sst_entries.proofs.Lists.{all_append}
 module _ (rules : Rules) (Q : List Entry → Type 0)
     (at_end : Q [])
     (at_open : (x : Entry) (es : List Entry) → nat_lt x.seqno rules.watermark ≡ false → kept rules (unfiltered (x ∷ es)) ≡ zeroed rules x ∷ kept rules (unfiltered es) → Q es → Q (x ∷ es))
-    (at_close : (x : Entry) (own rest : List Entry) → AllOf x.user_key own → follows_in x.user_key (all_ok (unfiltered rest)) ≡ false → (nat_lt x.seqno rules.watermark ≡ true) ⊎ (own ≡ []) → kept rules (unfiltered (x ∷ (own ++ rest))) ≡ left_alone rules x own ++ kept rules (unfiltered rest) → Q rest → Q (x ∷ (own ++ rest))) where
+    (at_close : (x : Entry) (own rest : List Entry) → AllOf x.user_key own → follows_in x.user_key (ok_results (unfiltered rest)) ≡ false → (nat_lt x.seqno rules.watermark ≡ true) ⊎ (own ≡ []) → kept rules (unfiltered (x ∷ (own ++ rest))) ≡ left_alone rules x own ++ kept rules (unfiltered rest) → Q rest → Q (x ∷ (own ++ rest))) where
   within : (n : ℕ) (es : List Entry) → length es ≤ n → Q es
   within n [] few = at_end
   within zero (x ∷ es) few = absurd (omega arith)

@@ -6,9 +6,9 @@ use Rattle.sst_entries.specs.Entry.{Entry}
 use Rattle.sst_entries.specs.declared.error.Error.{Error}
 use Rattle.sst_entries.specs.declared.stream.Direction.{Direction}
 use Rattle.sst_entries.specs.declared.stream.Direction.TheVariants.{Front, Back}
-use Rattle.sst_entries.specs.Stream.{Runs, NoneStops, Deals, CanDeal, stopped, all_ok, deal, first, but_first, last, but_last, nowhere}
+use Rattle.sst_entries.specs.Stream.{Runs, NoneStops, Deals, CanDeal, answer_stops, ok_results, deal, first, but_first, last, but_last, nowhere}
 use Rattle.sst_entries.proofs.StreamLemmas.{can_by}
-use Rattle.lsm_merge.specs.Ends.{R, Goes, fresh}
+use Rattle.lsm_merge.specs.Ends.{R, Goes, new_ends}
 use Rattle.lsm_merge.specs.declared.ends.Ends.{Ends}
 use Rattle.lsm_merge.specs.Union.{Ascends, newest}
 use Rattle.lsm_merge.proofs.EndsLemmas.{goes_in_front}
@@ -23,18 +23,18 @@ use Rattle.lsm_sorted.proofs.HeardLemmas.{HeardFrom, heard_none, heard_call, hea
 use Rattle.lsm_sorted.proofs.NewestLemmas.{KeysUp, keys_up, front_newest, back_newest}
 
 -- the steps over sorted entries deal the newest of them
-newest_dealt : (ends : List Direction) (es : List Entry) → KeysUp es → newest_answers (all_ok es) ends ≡ deal (all_ok (newest es)) ends
+newest_dealt : (ends : List Direction) (es : List Entry) → KeysUp es → newest_answers (ok_results es) ends ≡ deal (ok_results (newest es)) ends
 newest_dealt [] es up = refl
 newest_dealt (Front ∷ ends) es up =
     let n = front_newest es up in
-    let head : (front_step (all_ok es)).0 ≡ first (all_ok (newest es)) = n.answers in
-    let tail : newest_answers (front_step (all_ok es)).1 ends ≡ deal (but_first (all_ok (newest es))) ends =
+    let head : (front_step (ok_results es)).0 ≡ first (ok_results (newest es)) = n.answers in
+    let tail : newest_answers (front_step (ok_results es)).1 ends ≡ deal (but_first (ok_results (newest es))) ends =
     ap (λ (xs : List R). newest_answers xs ends) n.leaves ∙ newest_dealt ends n.left n.up ∙ ap (λ (xs : List R). deal xs ends) (sym n.dealt) in
     cc (head, tail)
 newest_dealt (Back ∷ ends) es up =
     let n = back_newest es up in
-    let head : (back_step (all_ok es)).0 ≡ last (all_ok (newest es)) = n.answers in
-    let tail : newest_answers (back_step (all_ok es)).1 ends ≡ deal (but_last (all_ok (newest es))) ends =
+    let head : (back_step (ok_results es)).0 ≡ last (ok_results (newest es)) = n.answers in
+    let tail : newest_answers (back_step (ok_results es)).1 ends ≡ deal (but_last (ok_results (newest es))) ends =
     ap (λ (xs : List R). newest_answers xs ends) n.leaves ∙ newest_dealt ends n.left n.up ∙ ap (λ (xs : List R). deal xs ends) (sym n.dealt) in
     cc (head, tail)
 
@@ -67,7 +67,7 @@ module _ {S : Type 0} (front back : S → Option R → S → Type 0) (next next_
 
     pub deals_newest_of : DealsNewestOf front back source next next_back t
     deals_newest_of = record {
-      deals = λ stops xs up d. record { answers = λ ends rs u runs fine. deals_steps.answers stops (all_ok xs) d ends rs u runs fine ∙ newest_dealt ends xs (keys_up xs up) };
+      deals = λ stops xs up d. record { answers = λ ends rs u runs fine. deals_steps.answers stops (ok_results xs) d ends rs u runs fine ∙ newest_dealt ends xs (keys_up xs up) };
     }
 
 module _ {S : Type 0} (front back : S → Option R → S → Type 0) (can can_back : S → Type 0) (left : S → Count) (source : S) (t : MvccStream S R) (starts : mvcc_outlook t ≡ before_any source) where

@@ -4,14 +4,13 @@ use Rattle.std.specs.Prelude.{Option, Some, None, Ok, not, filter}
 use Rattle.std.specs.List.{AllByRecursion}
 use Rattle.std.proofs.lemmas.List.{reverse-reverse, reverse-append, append-nil}
 use Rattle.sst_entries.specs.Entry.{Entry}
-use Rattle.sst_entries.specs.Stream.{first, but_first, last, but_last}
+use Rattle.sst_entries.specs.Stream.{first, but_first, last, but_last, ok_results}
 use Rattle.lsm_merge.specs.Ends.{R}
 use Rattle.lsm_sorted.specs.Newest.{after_key, settle, front_step, climb, step_in_reverse, back_step}
 use Rattle.sst_entries.specs.Key.{same_key, key_lt}
 use Rattle.sst_entries.proofs.KeyLemmas.{KeyLe, same_is, lt_other, le_other, le_same, lt_le, le_lt}
 use Rattle.lsm_sorted.proofs.EntryKeyLemmas.{key_le}
 use Rattle.lsm_merge.specs.Union.{AtMost, Ascends, newest}
-use Rattle.sst_entries.specs.Stream.{all_ok}
 use Rattle.sst_entries.proofs.Lists.{all_more, all_append}
 use Rattle.sst_entries.proofs.StreamLemmas.{map_append, map_reverse}
 
@@ -32,11 +31,11 @@ abbrev skip : List ℕ → List Entry → List Entry
 skip k [] = []
 skip k (x ∷ xs) = cond (same_key x.user_key k) (skip k xs) (x ∷ xs)
 
-after_ok : (k : List ℕ) (xs : List Entry) → after_key k (all_ok xs) ≡ all_ok (skip k xs)
+after_ok : (k : List ℕ) (xs : List Entry) → after_key k (ok_results xs) ≡ ok_results (skip k xs)
 after_ok k [] = refl
-after_ok k (x ∷ xs) = elim (same_key x.user_key k) as (λ b. cond b (after_key k (all_ok xs)) (Ok x ∷ all_ok xs) ≡ all_ok (cond b (skip k xs) (x ∷ xs))) [ true ↦ after_ok k xs | false ↦ refl ]
+after_ok k (x ∷ xs) = elim (same_key x.user_key k) as (λ b. cond b (after_key k (ok_results xs)) (Ok x ∷ ok_results xs) ≡ ok_results (cond b (skip k xs) (x ∷ xs))) [ true ↦ after_ok k xs | false ↦ refl ]
 
-settle_ok : (x : Entry) (ys : List Entry) → settle x (all_ok ys) ≡ (Some (Ok x), all_ok ys)
+settle_ok : (x : Entry) (ys : List Entry) → settle x (ok_results ys) ≡ (Some (Ok x), ok_results ys)
 settle_ok x [] = refl
 settle_ok x (y ∷ ys) = refl
 
@@ -86,19 +85,19 @@ pub record NewestStep (stepped : Option R × List R) (answer : Option R) (others
   pub left : List Entry
   pub up : KeysUp left
   pub answers : stepped.0 ≡ answer
-  pub leaves : stepped.1 ≡ all_ok left
-  pub dealt : others ≡ all_ok (newest left)
+  pub leaves : stepped.1 ≡ ok_results left
+  pub dealt : others ≡ ok_results (newest left)
 
-pub front_newest : (xs : List Entry) → KeysUp xs → NewestStep (front_step (all_ok xs)) (first (all_ok (newest xs))) (but_first (all_ok (newest xs)))
+pub front_newest : (xs : List Entry) → KeysUp xs → NewestStep (front_step (ok_results xs)) (first (ok_results (newest xs))) (but_first (ok_results (newest xs)))
 front_newest [] up = record { left = []; up = tt; answers = refl; leaves = refl; dealt = refl }
 front_newest (x ∷ xs) up =
-    let step : front_step (all_ok (x ∷ xs)) ≡ (Some (Ok x), all_ok (skip x.user_key xs)) = ap (settle x) (after_ok x.user_key xs) ∙ settle_ok x (skip x.user_key xs) in
+    let step : front_step (ok_results (x ∷ xs)) ≡ (Some (Ok x), ok_results (skip x.user_key xs)) = ap (settle x) (after_ok x.user_key xs) ∙ settle_ok x (skip x.user_key xs) in
     record {
       left = skip x.user_key xs;
       up = skip_up x.user_key xs up.1;
       answers = ap (λ (p : Option R × List R). p.0) step;
       leaves = ap (λ (p : Option R × List R). p.1) step;
-      dealt = ap all_ok (newest_skip x.user_key xs up.1 up.0);
+      dealt = ap ok_results (newest_skip x.user_key xs up.1 up.0);
     }
 
 -- ---- the back
@@ -107,9 +106,9 @@ abbrev descend : Entry → List Entry → Entry × List Entry
 descend x [] = (x, [])
 descend x (y ∷ ys) = cond (key_lt y.user_key x.user_key) (x, y ∷ ys) (descend y ys)
 
-climb_ok : (x : Entry) (zs : List Entry) → climb x (all_ok zs) ≡ ((descend x zs).0, all_ok (descend x zs).1)
+climb_ok : (x : Entry) (zs : List Entry) → climb x (ok_results zs) ≡ ((descend x zs).0, ok_results (descend x zs).1)
 climb_ok x [] = refl
-climb_ok x (y ∷ ys) = elim (key_lt y.user_key x.user_key) as (λ b. cond b (x, Ok y ∷ all_ok ys) (climb y (all_ok ys)) ≡ ((cond b (x, y ∷ ys) (descend y ys)).0, all_ok (cond b (x, y ∷ ys) (descend y ys)).1)) [ true ↦ refl | false ↦ climb_ok y ys ]
+climb_ok x (y ∷ ys) = elim (key_lt y.user_key x.user_key) as (λ b. cond b (x, Ok y ∷ ok_results ys) (climb y (ok_results ys)) ≡ ((cond b (x, y ∷ ys) (descend y ys)).0, ok_results (cond b (x, y ∷ ys) (descend y ys)).1)) [ true ↦ refl | false ↦ climb_ok y ys ]
 
 -- the newest versions, last first, of entries that are given last first
 abbrev down_from : Entry → List Entry → List Entry
@@ -184,10 +183,10 @@ descend_end x (y ∷ ys) =
       | false ↦ let more = descend_end y ys in (x ∷ more.0, ap (λ (zs : List Entry). x ∷ zs) more.1)
     ]
 
-back_at : (xs : List Entry) (zs : List Entry) → reverse xs ≡ zs → KeysUp xs → NewestStep (back_step (all_ok xs)) (last (all_ok (newest xs))) (but_last (all_ok (newest xs)))
+back_at : (xs : List Entry) (zs : List Entry) → reverse xs ≡ zs → KeysUp xs → NewestStep (back_step (ok_results xs)) (last (ok_results (newest xs))) (but_last (ok_results (newest xs)))
 back_at xs [] e up =
-    let empty : step_in_reverse (reverse (all_ok xs)) ≡ (None, []) = ap step_in_reverse (map_reverse xs ∙ ap all_ok e) in
-    let dealt : reverse (all_ok (newest xs)) ≡ [] = map_reverse (newest xs) ∙ ap all_ok (down_newest xs up ∙ ap down e) in
+    let empty : step_in_reverse (reverse (ok_results xs)) ≡ (None, []) = ap step_in_reverse (map_reverse xs ∙ ap ok_results e) in
+    let dealt : reverse (ok_results (newest xs)) ≡ [] = map_reverse (newest xs) ∙ ap ok_results (down_newest xs up ∙ ap down e) in
     record {
       left = [];
       up = tt;
@@ -198,10 +197,10 @@ back_at xs [] e up =
 back_at xs (z ∷ zs) e up =
     let top : Entry = (descend z zs).0 in
     let rest : List Entry = (descend z zs).1 in
-    let stepped : step_in_reverse (reverse (all_ok xs)) ≡ (Some (Ok top), all_ok rest) =
-    ap step_in_reverse (map_reverse xs ∙ ap all_ok e) ∙ ap (λ (p : Entry × List R). settle p.0 p.1) (climb_ok z zs) ∙ settle_ok top rest in
-    let dealt : reverse (all_ok (newest xs)) ≡ Ok top ∷ all_ok (down rest) =
-    map_reverse (newest xs) ∙ ap all_ok (down_newest xs up ∙ ap down e ∙ down_step z zs) in
+    let stepped : step_in_reverse (reverse (ok_results xs)) ≡ (Some (Ok top), ok_results rest) =
+    ap step_in_reverse (map_reverse xs ∙ ap ok_results e) ∙ ap (λ (p : Entry × List R). settle p.0 p.1) (climb_ok z zs) ∙ settle_ok top rest in
+    let dealt : reverse (ok_results (newest xs)) ≡ Ok top ∷ ok_results (down rest) =
+    map_reverse (newest xs) ∙ ap ok_results (down_newest xs up ∙ ap down e ∙ down_step z zs) in
     let parts = descend_end z zs in
     let whole : xs ≡ reverse rest ++ reverse parts.0 =
     sym (reverse-reverse xs) ∙ ap reverse (e ∙ parts.1) ∙ reverse-append parts.0 rest in
@@ -212,8 +211,8 @@ back_at xs (z ∷ zs) e up =
       up = up';
       answers = ap (λ (p : Option R × List R). p.0) stepped ∙ sym (ap first dealt);
       leaves = ap (λ (p : Option R × List R). reverse p.1) stepped ∙ map_reverse rest;
-      dealt = ap (λ (ys : List R). reverse (but_first ys)) dealt ∙ map_reverse (down rest) ∙ ap all_ok (ap reverse same ∙ reverse-reverse (newest (reverse rest)));
+      dealt = ap (λ (ys : List R). reverse (but_first ys)) dealt ∙ map_reverse (down rest) ∙ ap ok_results (ap reverse same ∙ reverse-reverse (newest (reverse rest)));
     }
 
-pub back_newest : (xs : List Entry) → KeysUp xs → NewestStep (back_step (all_ok xs)) (last (all_ok (newest xs))) (but_last (all_ok (newest xs)))
+pub back_newest : (xs : List Entry) → KeysUp xs → NewestStep (back_step (ok_results xs)) (last (ok_results (newest xs))) (but_last (ok_results (newest xs)))
 back_newest xs up = back_at xs (reverse xs) refl up

@@ -1,11 +1,11 @@
 -- What is said of sources, said of lists.
 use Rattle.std.proofs.Common.{◌≡◌, refl, ◌∙◌, ap, false, List}
 use Rattle.std.specs.Prelude.{Option, Some, None, Ok, Err}
-use Rattle.sst_entries.specs.Stream.{first, but_first, front_of, stopped, DealsFirst}
+use Rattle.sst_entries.specs.Stream.{first, but_first, front_of, answer_stops, DealsFirst}
 use Rattle.lsm_merge.specs.Ends.{R}
 use Rattle.lsm_sorted.specs.Outlook.{IsStep, nothing_stops, IsSame}
 
-pub never_stops : (r : Option R) → stopped nothing_stops r ≡ false
+pub never_stops : (r : Option R) → answer_stops nothing_stops r ≡ false
 never_stops None = refl
 never_stops (Some (Ok x)) = refl
 never_stops (Some (Err e)) = refl

@@ -5,10 +5,10 @@ use Rattle.std.specs.List.{AllByRecursion}
 use Rattle.sst_entries.specs.Entry.{Entry}
 use Rattle.sst_entries.specs.Kind.{is_tombstone_kind}
 use Rattle.sst_entries.specs.Key.{same_key}
-use Rattle.sst_entries.specs.Stream.{first, all_ok}
+use Rattle.sst_entries.specs.Stream.{first, ok_results}
 use Rattle.sst_entries.specs.declared.error.Error.{Error}
 use Rattle.lsm_merge.specs.Ends.{R}
-use Rattle.lsm_sorted.specs.Compaction.{Verdict, drop, Judged, JudgedItem, Rules, told, is_left, reports_by, is_cut, heads, expired, zeroed, given_by, given, Versions, is_version_of, before, by_key, gone, error_of, entries, outs_of, reported_heads, reported_of, asked_of, joined, outs, reported, asked, as_is, unfiltered}
+use Rattle.lsm_sorted.specs.Compaction.{Verdict, drop, Judged, JudgedItem, Rules, told, is_left, reports_by, is_cut, heads, expired, zeroed, given_by, given, Versions, is_version_of, before, by_key, gone, error_of, entries, outs_of, reported_heads, reported_of, asked_of, concat_by, outs, reported, asked, as_is, unfiltered}
 use Rattle.std.proofs.lemmas.List.{append-nil}
 use Rattle.sst_entries.proofs.KeyLemmas.{same_itself}
 
@@ -38,12 +38,12 @@ with_first j v = record { versions = j ∷ v.versions; error = v.error }
 -- joined lists, where a version stands before others or alone
 module _ {A : Type 0} (f : Versions → List A) (j : Judged) where
   before_joined : (front : List A) → f (alone j) ≡ front → ((v : Versions) → is_version_of v.versions j ≡ true → f (with_first j v) ≡ front ++ f v)
-      → (vs : List Versions) → joined f (before j vs) ≡ front ++ joined f vs
+      → (vs : List Versions) → concat_by f (before j vs) ≡ front ++ concat_by f vs
   before_joined front one more [] = ap (λ (ys : List A). ys ++ []) one
   before_joined front one more (v ∷ vs) =
-      elim (is_version_of v.versions j) as (λ b. is_version_of v.versions j ≡ b → joined f (cond b (with_first j v ∷ vs) (alone j ∷ v ∷ vs)) ≡ front ++ (f v ++ joined f vs)) [
-        | true ↦ λ e. ap (λ (ys : List A). ys ++ joined f vs) (more v e) ∙ append_assoc front (f v) (joined f vs)
-        | false ↦ λ e. ap (λ (ys : List A). ys ++ (f v ++ joined f vs)) one
+      elim (is_version_of v.versions j) as (λ b. is_version_of v.versions j ≡ b → concat_by f (cond b (with_first j v ∷ vs) (alone j ∷ v ∷ vs)) ≡ front ++ (f v ++ concat_by f vs)) [
+        | true ↦ λ e. ap (λ (ys : List A). ys ++ concat_by f vs) (more v e) ∙ append_assoc front (f v) (concat_by f vs)
+        | false ↦ λ e. ap (λ (ys : List A). ys ++ (f v ++ concat_by f vs)) one
       ] refl
 
 -- a version that the filter drops
@@ -118,12 +118,12 @@ module _ (rules : Rules) (j : Judged) (y : Entry) (left : told j ≡ Ok (Some y)
 
     -- what any joined list says of the two, from what it says of the first versions
     first_joined : {A : Type 0} (f : Versions → List A) (front : List A) → ((V : List Judged) (e : Option Error) → f (record { versions = j ∷ k ∷ V; error = e }) ≡ front ++ f (record { versions = k ∷ V; error = e }))
-        → joined f (by_key (Ok j ∷ Ok k ∷ js)) ≡ front ++ joined f (by_key (Ok k ∷ js))
+        → concat_by f (by_key (Ok j ∷ Ok k ∷ js)) ≡ front ++ concat_by f (by_key (Ok k ∷ js))
     first_joined {A} f front one =
         let b = starts in
         let v : Versions = record { versions = k ∷ b.more; error = b.error } in
-        subst (λ (vs : List Versions). joined f (before j vs) ≡ front ++ joined f vs) (sym b.is)
-        (ap (λ (t : Bool). joined f (cond t (with_first j v ∷ b.others) (alone j ∷ v ∷ b.others))) same ∙ ap (λ (ys : List A). ys ++ joined f b.others) (one b.more b.error) ∙ append_assoc front (f v) (joined f b.others))
+        subst (λ (vs : List Versions). concat_by f (before j vs) ≡ front ++ concat_by f vs) (sym b.is)
+        (ap (λ (t : Bool). concat_by f (cond t (with_first j v ∷ b.others) (alone j ∷ v ∷ b.others))) same ∙ ap (λ (ys : List A). ys ++ concat_by f b.others) (one b.more b.error) ∙ append_assoc front (f v) (concat_by f b.others))
 
     pub open_outs : outs rules (Ok j ∷ Ok k ∷ js) ≡ Ok (zeroed rules y) ∷ outs rules (Ok k ∷ js)
     open_outs = first_joined (outs_of rules) (Ok (zeroed rules y) ∷ [])
@@ -172,10 +172,10 @@ module _ (key : List ℕ) (js : List JudgedItem) (over : follows_in key js ≡ f
       let other : same_key k.entry.user_key j.entry.user_key ≡ false = subst (λ (q : List ℕ). same_key k.entry.user_key q ≡ false) (sym its) h in
       subst (λ (vs : List Versions). before j vs ≡ alone j ∷ vs) (sym b.is) (ap (λ (t : Bool). cond t (with_first j v ∷ b.others) (alone j ∷ v ∷ b.others)) other)
 
-  pub closes : (j : Judged) (es : List Entry) → j.entry.user_key ≡ key → AllOf key es → by_key (Ok j ∷ (all_ok (unfiltered es) ++ js)) ≡ closed j es
+  pub closes : (j : Judged) (es : List Entry) → j.entry.user_key ≡ key → AllOf key es → by_key (Ok j ∷ (ok_results (unfiltered es) ++ js)) ≡ closed j es
   closes j [] its all = closes_at j its js over
   closes j (e ∷ es) its all =
-      let more : by_key (Ok (as_is e) ∷ (all_ok (unfiltered es) ++ js)) ≡ closed (as_is e) es = closes (as_is e) es all.0 all.1 in
+      let more : by_key (Ok (as_is e) ∷ (ok_results (unfiltered es) ++ js)) ≡ closed (as_is e) es = closes (as_is e) es all.0 all.1 in
       let same : same_key e.user_key j.entry.user_key ≡ true = subst (λ (q : List ℕ). same_key e.user_key q ≡ true) (all.0 ∙ sym its) (same_itself e.user_key) in
       let v : Versions = record { versions = as_is e ∷ unfiltered es; error = error_in js } in
       ap (before j) more ∙ ap (λ (t : Bool). cond t (with_first j v ∷ by_key (behind_error js)) (alone j ∷ closed (as_is e) es)) same
@@ -198,25 +198,25 @@ module _ (key : List ℕ) (js : List JudgedItem) (over : follows_in key js ≡ f
           ∙ sym (ap (λ (zs : List Entry). f true (unfiltered zs)) none)
     ]
 
-    pub close_outs : outs rules (Ok j ∷ (all_ok (unfiltered es) ++ js)) ≡ given_by rules (gone rules (first es) (error_in js)) (Ok (Some y)) ++ (error_of (error_in js) ++ outs rules (behind_error js))
+    pub close_outs : outs rules (Ok j ∷ (ok_results (unfiltered es) ++ js)) ≡ given_by rules (gone rules (first es) (error_in js)) (Ok (Some y)) ++ (error_of (error_in js) ++ outs rules (behind_error js))
     close_outs =
-        let rest = joined (outs_of rules) (by_key (behind_error js)) in
-        ap (joined (outs_of rules)) (closes j es its all)
+        let rest = concat_by (outs_of rules) (by_key (behind_error js)) in
+        ap (concat_by (outs_of rules)) (closes j es its all)
         ∙ ap (λ (ys : List R). ys ++ rest) (by_cut (λ b V. outs_if rules j y left b V (error_in js)) refl)
         ∙ ap (λ (zs : List Entry). (given_by rules (gone rules (first zs) (error_in js)) (told j) ++ error_of (error_in js)) ++ rest) (entries_as_is es)
         ∙ ap (λ (o : Result (Option Entry) Error). (given_by rules (gone rules (first es) (error_in js)) o ++ error_of (error_in js)) ++ rest) left
         ∙ append_assoc (given_by rules (gone rules (first es) (error_in js)) (Ok (Some y))) (error_of (error_in js)) rest
 
-    pub close_reported : reported rules (Ok j ∷ (all_ok (unfiltered es) ++ js)) ≡ (reports_by j.entry j.verdict ++ es) ++ reported rules (behind_error js)
+    pub close_reported : reported rules (Ok j ∷ (ok_results (unfiltered es) ++ js)) ≡ (reports_by j.entry j.verdict ++ es) ++ reported rules (behind_error js)
     close_reported =
-        let rest = joined (reported_of rules) (by_key (behind_error js)) in
-        ap (joined (reported_of rules)) (closes j es its all)
+        let rest = concat_by (reported_of rules) (by_key (behind_error js)) in
+        ap (concat_by (reported_of rules)) (closes j es its all)
         ∙ ap (λ (ys : List Entry). ys ++ rest) (by_cut (λ b V. reported_if rules j y left b V) refl)
         ∙ ap (λ (zs : List Entry). ((reports_by j.entry j.verdict ++ []) ++ zs) ++ rest) (entries_as_is es)
         ∙ ap (λ (ys : List Entry). (ys ++ es) ++ rest) (append-nil (reports_by j.entry j.verdict))
 
-    pub close_asked : asked rules (Ok j ∷ (all_ok (unfiltered es) ++ js)) ≡ asked_head j ++ asked rules (behind_error js)
+    pub close_asked : asked rules (Ok j ∷ (ok_results (unfiltered es) ++ js)) ≡ asked_head j ++ asked rules (behind_error js)
     close_asked =
-        let rest = joined (asked_of rules) (by_key (behind_error js)) in
-        ap (joined (asked_of rules)) (closes j es its all)
+        let rest = concat_by (asked_of rules) (by_key (behind_error js)) in
+        ap (concat_by (asked_of rules)) (closes j es its all)
         ∙ ap (λ (ys : List Judged). ys ++ rest) (by_cut (λ b V. asked_if rules j y left b V) refl)

@@ -6,11 +6,11 @@ use Rattle.std.proofs.lemmas.Bool.Decides.{nat_tests}
 use Rattle.sst_entries.specs.Entry.{Entry}
 use Rattle.sst_entries.specs.Kind.{is_tombstone_kind}
 use Rattle.sst_entries.specs.Key.{same_key, key_lt}
-use Rattle.sst_entries.specs.Stream.{first, all_ok}
+use Rattle.sst_entries.specs.Stream.{first, ok_results}
 use Rattle.sst_entries.specs.declared.value_type.ValueType.{ValueType}
 use Rattle.sst_entries.specs.declared.value_type.ValueType.TheVariants.{Value, Tombstone, WeakTombstone, Indirection}
 use Rattle.lsm_merge.specs.Ends.{R}
-use Rattle.lsm_merge.specs.Union.{entries_of}
+use Rattle.lsm_merge.specs.Union.{entries_among}
 use Rattle.sst_entries.specs.Point.{is_hit, point}
 use Rattle.lsm_sorted.specs.Point.{shown}
 use Rattle.lsm_sorted.specs.Compaction.{JudgedItem, Rules, goes, zeroed, outs, kept, as_is, unfiltered}
@@ -27,7 +27,7 @@ pub record Split (key : List ℕ) (es : List Entry) : Type 0 where
   pub rest : List Entry
   pub is : es ≡ own ++ rest
   pub all : AllOf key own
-  pub over : follows_in key (all_ok (unfiltered rest)) ≡ false
+  pub over : follows_in key (ok_results (unfiltered rest)) ≡ false
 
 pub split : (key : List ℕ) (es : List Entry) → Split key es
 split key [] = record { own = []; rest = []; is = refl; all = tt; over = refl }
@@ -38,7 +38,7 @@ split key (e ∷ es) =
       | false ↦ λ h. record { own = []; rest = e ∷ es; is = refl; all = tt; over = h }
     ] refl
 
-unfiltered_append : (xs ys : List Entry) → all_ok (unfiltered (xs ++ ys)) ≡ all_ok (unfiltered xs) ++ all_ok (unfiltered ys)
+unfiltered_append : (xs ys : List Entry) → ok_results (unfiltered (xs ++ ys)) ≡ ok_results (unfiltered xs) ++ ok_results (unfiltered ys)
 unfiltered_append [] ys = refl
 unfiltered_append (x ∷ xs) ys = ap (λ (js : List JudgedItem). Ok (as_is x) ∷ js) (unfiltered_append xs ys)
 
@@ -48,22 +48,22 @@ module _ (rules : Rules) (x : Entry) where
   open_kept y es = kept rules (unfiltered (x ∷ y ∷ es)) ≡ zeroed rules x ∷ kept rules (unfiltered (y ∷ es))
 
   pub kept_open : (y : Entry) (es : List Entry) → same_key y.user_key x.user_key ≡ true → nat_lt x.seqno rules.watermark ≡ false → open_kept y es
-  kept_open y es same high = ap entries_of (open_outs rules (as_is x) x refl (as_is y) same high (all_ok (unfiltered es)))
+  kept_open y es same high = ap entries_among (open_outs rules (as_is x) x refl (as_is y) same high (ok_results (unfiltered es)))
 
   abbrev pub left_alone : List Entry → List Entry
   left_alone own = cond (goes rules.evict x.kind (first own)) [] (zeroed rules x ∷ [])
 
-  listed_alone : (own : List Entry) (rs : List R) → entries_of (cond (goes rules.evict x.kind (first own)) [] (Ok (zeroed rules x) ∷ []) ++ rs) ≡ left_alone own ++ entries_of rs
-  listed_alone own rs = elim (goes rules.evict x.kind (first own)) as (λ b. entries_of (cond b [] (Ok (zeroed rules x) ∷ []) ++ rs) ≡ cond b [] (zeroed rules x ∷ []) ++ entries_of rs) [ true ↦ refl | false ↦ refl ]
+  listed_alone : (own : List Entry) (rs : List R) → entries_among (cond (goes rules.evict x.kind (first own)) [] (Ok (zeroed rules x) ∷ []) ++ rs) ≡ left_alone own ++ entries_among rs
+  listed_alone own rs = elim (goes rules.evict x.kind (first own)) as (λ b. entries_among (cond b [] (Ok (zeroed rules x) ∷ []) ++ rs) ≡ cond b [] (zeroed rules x ∷ []) ++ entries_among rs) [ true ↦ refl | false ↦ refl ]
 
-  pub kept_close : (own rest : List Entry) → AllOf x.user_key own → follows_in x.user_key (all_ok (unfiltered rest)) ≡ false → (nat_lt x.seqno rules.watermark ≡ true) ⊎ (own ≡ []) → kept rules (unfiltered (x ∷ (own ++ rest))) ≡ left_alone own ++ kept rules (unfiltered rest)
+  pub kept_close : (own rest : List Entry) → AllOf x.user_key own → follows_in x.user_key (ok_results (unfiltered rest)) ≡ false → (nat_lt x.seqno rules.watermark ≡ true) ⊎ (own ≡ []) → kept rules (unfiltered (x ∷ (own ++ rest))) ≡ left_alone own ++ kept rules (unfiltered rest)
   kept_close own [] all over last =
-      ap (λ (js : List JudgedItem). entries_of (outs rules (Ok (as_is x) ∷ js))) (unfiltered_append own [])
-      ∙ ap entries_of (close_outs x.user_key [] over rules (as_is x) x refl own refl all last) ∙ listed_alone own []
+      ap (λ (js : List JudgedItem). entries_among (outs rules (Ok (as_is x) ∷ js))) (unfiltered_append own [])
+      ∙ ap entries_among (close_outs x.user_key [] over rules (as_is x) x refl own refl all last) ∙ listed_alone own []
   kept_close own (e ∷ es) all over last =
-      let js = all_ok (unfiltered (e ∷ es)) in
-      ap (λ (ks : List JudgedItem). entries_of (outs rules (Ok (as_is x) ∷ ks))) (unfiltered_append own (e ∷ es))
-      ∙ ap entries_of (close_outs x.user_key js over rules (as_is x) x refl own refl all last) ∙ listed_alone own (outs rules js)
+      let js = ok_results (unfiltered (e ∷ es)) in
+      ap (λ (ks : List JudgedItem). entries_among (outs rules (Ok (as_is x) ∷ ks))) (unfiltered_append own (e ∷ es))
+      ∙ ap entries_among (close_outs x.user_key js over rules (as_is x) x refl own refl all last) ∙ listed_alone own (outs rules js)
 
 -- a head that goes is a tombstone
 pub goes_dead : (evict : Bool) (kind : ValueType) (next : Option Entry) → goes evict kind next ≡ true → is_tombstone_kind kind ≡ true
@@ -93,7 +93,7 @@ above_none : (key least : List ℕ) (es : List Entry) → key_lt key least ≡ t
 above_none key least [] h all = tt
 above_none key least (e ∷ es) h all = (lt_other key e.user_key (lt_le key least e.user_key h all.0), above_none key least es h all.1)
 
-pub rest_none : (key : List ℕ) (es : List Entry) → KeysUp es → AllByRecursion (λ y. KeyLe key y.user_key) es → follows_in key (all_ok (unfiltered es)) ≡ false → NoneOf key es
+pub rest_none : (key : List ℕ) (es : List Entry) → KeysUp es → AllByRecursion (λ y. KeyLe key y.user_key) es → follows_in key (ok_results (unfiltered es)) ≡ false → NoneOf key es
 rest_none key [] up all over = tt
 rest_none key (e ∷ es) up all over = (over, above_none key e.user_key es (le_other key e.user_key all.0 over) up.0)
 
@@ -152,7 +152,7 @@ module _ (rules : Rules) (key : List ℕ) (bound : ℕ) where
         | false ↦ λ e. seen_miss (zeroed rules x) (kept rules (unfiltered es)) (hit ∙ e) ∙ same ∙ sym (seen_miss x es e)
       ] refl
 
-  module _ (x : Entry) (own rest : List Entry) (up : KeysUp (x ∷ (own ++ rest))) (all : AllOf x.user_key own) (over : follows_in x.user_key (all_ok (unfiltered rest)) ≡ false) (last : (nat_lt x.seqno rules.watermark ≡ true) ⊎ (own ≡ [])) (same : Same rest) where
+  module _ (x : Entry) (own rest : List Entry) (up : KeysUp (x ∷ (own ++ rest))) (all : AllOf x.user_key own) (over : follows_in x.user_key (ok_results (unfiltered rest)) ≡ false) (last : (nat_lt x.seqno rules.watermark ≡ true) ⊎ (own ≡ [])) (same : Same rest) where
     out : kept rules (unfiltered (x ∷ (own ++ rest))) ≡ left_alone rules x own ++ kept rules (unfiltered rest)
     out = kept_close rules x own rest all over last
 

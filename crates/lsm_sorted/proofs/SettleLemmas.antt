@@ -3,7 +3,7 @@ use Rattle.std.proofs.Common.{◌≡◌, refl, sym, ◌∙◌, ap, subst, ℕ, B
 use Rattle.std.specs.Prelude.{Some, None, Result, Ok, Err, IfOk}
 use Rattle.sst_entries.specs.Entry.{Entry}
 use Rattle.sst_entries.specs.Key.{same_key}
-use Rattle.sst_entries.specs.Stream.{first, but_first, stopped_result, DealsFirst}
+use Rattle.sst_entries.specs.Stream.{first, but_first, result_stops, DealsFirst}
 use Rattle.sst_entries.specs.declared.error.Error.{Error}
 use Rattle.lsm_merge.specs.Ends.{R}
 use Rattle.lsm_sorted.specs.Newest.{after_key}
@@ -34,14 +34,14 @@ module _ {T C : Type 0} (stops : Error → Bool) (Has : T → List R → Type 0)
     }
 
     -- what else is answered does not matter
-    pub drains_as : {X Y : Type 0} (s t : T) (c d : C) (r : Result X Error) (q : Result Y Error) → refusal q ≡ refusal r → stopped_result stops q ≡ stopped_result stops r → DrainsKey stops Has gets key s c r t d → DrainsKey stops Has gets key s c q t d
+    pub drains_as : {X Y : Type 0} (s t : T) (c d : C) (r : Result X Error) (q : Result Y Error) → refusal q ≡ refusal r → result_stops stops q ≡ result_stops stops r → DrainsKey stops Has gets key s c r t d → DrainsKey stops Has gets key s c q t d
     drains_as s t c d r q e fine drains = record {
       at = λ xs h goes_on. let k = drains.at xs h (sym fine ∙ goes_on) in (e ∙ k.0, k.1, k.2);
     }
 
     -- what is left to drain, where it is known
     drained_at : {X : Type 0} (s u t : T) (c b : C) (result : Result X Error) → Draining s c u b
-        → ((zs : List R) → Has u zs → stopped_result stops result ≡ false → (refusal result ≡ error_first (after_key key zs)) × Has t (past_error (after_key key zs)) × (of_key key zs ≡ []))
+        → ((zs : List R) → Has u zs → result_stops stops result ≡ false → (refusal result ≡ error_first (after_key key zs)) × Has t (past_error (after_key key zs)) × (of_key key zs ≡ []))
         → DrainsKey stops Has gets key s c result t b
     drained_at s u t c b result was ends = record {
       at = λ xs h fine.
@@ -85,7 +85,7 @@ module _ {T C : Type 0} (stops : Error → Bool) (Has : T → List R → Type 0)
     close_ill es (Err f ∷ rs) e h = let same : f ≡ e = cc in ap (λ (g : Error). record { answer = Some (Err g); rest = rs; reports = es }) same
 
     -- a turn, where what is in front is known
-    settles_as : (s t : T) (c d : C) (result : Result Bool Error) → ((xs : List R) → Has s xs → stopped_result stops result ≡ false → (turn : Turn) × (settled rules head xs ≡ turn) × (answer_of rules head result ≡ turn.answer) × Has t turn.rest × GetsAll gets c turn.reports d)
+    settles_as : (s t : T) (c d : C) (result : Result Bool Error) → ((xs : List R) → Has s xs → result_stops stops result ≡ false → (turn : Turn) × (settled rules head xs ≡ turn) × (answer_of rules head result ≡ turn.answer) × Has t turn.rest × GetsAll gets c turn.reports d)
         → Settles stops Has gets rules head s c result t d
     settles_as s t c d result f = record {
       at = λ xs h fine.

@@ -4,12 +4,12 @@ use Rattle.std.specs.Prelude.{Option, Some, None, Result, Ok, Err}
 use Rattle.std.proofs.lemmas.List.{append-nil}
 use Rattle.sst_entries.specs.Entry.{Entry}
 use Rattle.sst_entries.specs.Key.{same_key}
-use Rattle.sst_entries.specs.Stream.{first, all_ok}
+use Rattle.sst_entries.specs.Stream.{first, ok_results}
 use Rattle.sst_entries.specs.declared.error.Error.{Error}
 use Rattle.lsm_merge.specs.Ends.{R}
 use Rattle.lsm_sorted.specs.Newest.{after_key}
 use Rattle.lsm_sorted.specs.Compaction.{Verdict, keep, replace, drop, Judged, JudgedItem, items, Rules, told_by, told, reports_by, goes, zeroed, given_by, gone, error_of, outs, reported, asked, as_is, unfiltered}
-use Rattle.lsm_sorted.specs.Compacting.{of_key, follows, Turn, head_answer, close, settled, turned}
+use Rattle.lsm_sorted.specs.Compacting.{of_key, key_follows, Turn, head_answer, close, settled, turned}
 use Rattle.sst_entries.proofs.KeyLemmas.{same_is}
 use Rattle.lsm_sorted.proofs.OutsLemmas.{listed, asked_head, judged, follows_in, error_in, behind_error, AllOf, dropped_outs, dropped_reported, dropped_asked, failed_outs, failed_reported, failed_asked, open_outs, open_reported, open_asked, close_outs, close_reported, close_asked}
 
@@ -28,20 +28,20 @@ pub record Explained (P : Judged → Type 0) (rules : Rules) (j : Judged) (rs : 
   pub asks : asked rules js ≡ asked_head j ++ asked rules js'
   pub each : P j → EachJudged P js' → EachJudged P js
 
-follows_items : (key : List ℕ) (js : List JudgedItem) → follows key (items js) ≡ follows_in key js
+follows_items : (key : List ℕ) (js : List JudgedItem) → key_follows key (items js) ≡ follows_in key js
 follows_items key [] = refl
 follows_items key (Ok k ∷ js) = refl
 follows_items key (Err e ∷ js) = refl
 
-items_append : (es : List Entry) (js : List JudgedItem) → items (all_ok (unfiltered es) ++ js) ≡ all_ok es ++ items js
+items_append : (es : List Entry) (js : List JudgedItem) → items (ok_results (unfiltered es) ++ js) ≡ ok_results es ++ items js
 items_append [] js = refl
 items_append (e ∷ es) js = ap (λ (rs : List R). Ok e ∷ rs) (items_append es js)
 
 -- a stretch of a key and what is after it
-pub stretch : (key : List ℕ) (rs : List R) → rs ≡ all_ok (of_key key rs) ++ after_key key rs
+pub stretch : (key : List ℕ) (rs : List R) → rs ≡ ok_results (of_key key rs) ++ after_key key rs
 stretch key [] = refl
 stretch key (Err e ∷ rs) = refl
-stretch key (Ok x ∷ rs) = elim (same_key x.user_key key) as (λ b. Ok x ∷ rs ≡ all_ok (cond b (x ∷ of_key key rs) []) ++ cond b (after_key key rs) (Ok x ∷ rs)) [
+stretch key (Ok x ∷ rs) = elim (same_key x.user_key key) as (λ b. Ok x ∷ rs ≡ ok_results (cond b (x ∷ of_key key rs) []) ++ cond b (after_key key rs) (Ok x ∷ rs)) [
   | true ↦ ap (λ (ys : List R). Ok x ∷ ys) (stretch key rs)
   | false ↦ refl
 ]
@@ -54,15 +54,15 @@ stretch_all key (Ok x ∷ rs) = elim (same_key x.user_key key) as (λ b. same_ke
   | false ↦ λ e. tt
 ] refl
 
-pub stretch_ends : (key : List ℕ) (rs : List R) → follows key (after_key key rs) ≡ false
+pub stretch_ends : (key : List ℕ) (rs : List R) → key_follows key (after_key key rs) ≡ false
 stretch_ends key [] = refl
 stretch_ends key (Err e ∷ rs) = refl
-stretch_ends key (Ok x ∷ rs) = elim (same_key x.user_key key) as (λ b. same_key x.user_key key ≡ b → follows key (cond b (after_key key rs) (Ok x ∷ rs)) ≡ false) [
+stretch_ends key (Ok x ∷ rs) = elim (same_key x.user_key key) as (λ b. same_key x.user_key key ≡ b → key_follows key (cond b (after_key key rs) (Ok x ∷ rs)) ≡ false) [
   | true ↦ λ e. stretch_ends key rs
   | false ↦ λ e. e
 ] refl
 
-pub no_stretch : (key : List ℕ) (rs : List R) → follows key rs ≡ false → of_key key rs ≡ []
+pub no_stretch : (key : List ℕ) (rs : List R) → key_follows key rs ≡ false → of_key key rs ≡ []
 no_stretch key [] h = refl
 no_stretch key (Err e ∷ rs) h = refl
 no_stretch key (Ok x ∷ rs) h = ap (λ (b : Bool). cond b (x ∷ of_key key rs) []) h
@@ -80,7 +80,7 @@ and_false true false e = absurd cc
 and_false false b e = inr refl
 
 module _ (P : Judged → Type 0) (plain : (x : Entry) → P (as_is x)) (rules : Rules) where
-  each_unfiltered : (es : List Entry) (js : List JudgedItem) → EachJudged P js → EachJudged P (all_ok (unfiltered es) ++ js)
+  each_unfiltered : (es : List Entry) (js : List JudgedItem) → EachJudged P js → EachJudged P (ok_results (unfiltered es) ++ js)
   each_unfiltered [] js h = h
   each_unfiltered (e ∷ es) js h = (plain e, each_unfiltered es js h)
 
@@ -109,12 +109,12 @@ module _ (P : Judged → Type 0) (plain : (x : Entry) → P (as_is x)) (rules : 
       answer_listed : (rest : List R) → given_by rules (gone rules (first es) None) (Ok (Some y)) ++ rest ≡ listed (head_answer rules (goes rules.evict y.kind (first es)) y) ++ rest
       answer_listed rest = elim (goes rules.evict y.kind (first es)) as (λ b. cond b [] (Ok (zeroed rules y) ∷ []) ++ rest ≡ listed (cond b None (Some (Ok (zeroed rules y)))) ++ rest) [ true ↦ refl | false ↦ refl ]
 
-      calm : (js : List JudgedItem) (rs D : List R) → follows_in y.user_key js ≡ false → error_in js ≡ None → behind_error js ≡ js → rs ≡ all_ok es ++ D → items js ≡ D
+      calm : (js : List JudgedItem) (rs D : List R) → follows_in y.user_key js ≡ false → error_in js ≡ None → behind_error js ≡ js → rs ≡ ok_results es ++ D → items js ≡ D
           → Explained P rules j rs (record { answer = head_answer rules (goes rules.evict y.kind (first es)) y; rest = D; reports = es }) js
       calm js rs D over none same parts fits =
           record {
-            js = Ok j ∷ (all_ok (unfiltered es) ++ js);
-            over = ap (λ (ys : List R). Ok j.entry ∷ ys) (items_append es js ∙ ap (λ (ys : List R). all_ok es ++ ys) fits ∙ sym parts);
+            js = Ok j ∷ (ok_results (unfiltered es) ++ js);
+            over = ap (λ (ys : List R). Ok j.entry ∷ ys) (items_append es js ∙ ap (λ (ys : List R). ok_results es ++ ys) fits ∙ sym parts);
             gives = close_outs y.user_key js over rules j y left es its all last'
                 ∙ ap (λ (o : Option Error). given_by rules (gone rules (first es) o) (Ok (Some y)) ++ (error_of o ++ outs rules (behind_error js))) none
                 ∙ ap (λ (ks : List JudgedItem). given_by rules (gone rules (first es) None) (Ok (Some y)) ++ outs rules ks) same
@@ -124,26 +124,26 @@ module _ (P : Judged → Type 0) (plain : (x : Entry) → P (as_is x)) (rules : 
             each = λ p h. (p, each_unfiltered es js h);
           }
 
-      failing : (js : List JudgedItem) (rs D : List R) (e : Error) → rs ≡ all_ok es ++ Err e ∷ D → items js ≡ D
+      failing : (js : List JudgedItem) (rs D : List R) (e : Error) → rs ≡ ok_results es ++ Err e ∷ D → items js ≡ D
           → Explained P rules j rs (record { answer = Some (Err e); rest = D; reports = es }) js
       failing js rs D e parts fits =
           record {
-            js = Ok j ∷ (all_ok (unfiltered es) ++ Err e ∷ js);
-            over = ap (λ (ys : List R). Ok j.entry ∷ ys) (items_append es (Err e ∷ js) ∙ ap (λ (ys : List R). all_ok es ++ Err e ∷ ys) fits ∙ sym parts);
+            js = Ok j ∷ (ok_results (unfiltered es) ++ Err e ∷ js);
+            over = ap (λ (ys : List R). Ok j.entry ∷ ys) (items_append es (Err e ∷ js) ∙ ap (λ (ys : List R). ok_results es ++ Err e ∷ ys) fits ∙ sym parts);
             gives = close_outs y.user_key (Err e ∷ js) refl rules j y left es its all last';
             reports = close_reported y.user_key (Err e ∷ js) refl rules j y left es its all last';
             asks = close_asked y.user_key (Err e ∷ js) refl rules j y left es its all last';
             each = λ p h. (p, each_unfiltered es (Err e ∷ js) h);
           }
 
-      close_explained : (rs D : List R) (js : List JudgedItem) → follows y.user_key D ≡ false → rs ≡ all_ok es ++ D → items js ≡ (close rules y es D).rest → Explained P rules j rs (close rules y es D) js
+      close_explained : (rs D : List R) (js : List JudgedItem) → key_follows y.user_key D ≡ false → rs ≡ ok_results es ++ D → items js ≡ (close rules y es D).rest → Explained P rules j rs (close rules y es D) js
       close_explained rs [] [] over parts fits = calm [] rs [] refl refl refl parts fits
       close_explained rs [] (Ok k ∷ js) over parts fits = absurd cc
       close_explained rs [] (Err e ∷ js) over parts fits = absurd cc
       close_explained rs (Err e ∷ D) js over parts fits = failing js rs D e parts fits
       close_explained rs (Ok x ∷ D) [] over parts fits = absurd cc
       close_explained rs (Ok x ∷ D) (Err e ∷ js) over parts fits = absurd cc
-      close_explained rs (Ok x ∷ D) (Ok k ∷ js) over parts fits = calm (Ok k ∷ js) rs (Ok x ∷ D) (sym (follows_items y.user_key (Ok k ∷ js)) ∙ ap (follows y.user_key) fits ∙ over) refl refl parts fits
+      close_explained rs (Ok x ∷ D) (Ok k ∷ js) over parts fits = calm (Ok k ∷ js) rs (Ok x ∷ D) (sym (follows_items y.user_key (Ok k ∷ js)) ∙ ap (key_follows y.user_key) fits ∙ over) refl refl parts fits
 
     settled_explained : (rs : List R) (js : List JudgedItem) → items js ≡ (settled rules y rs).rest → Explained P rules j rs (settled rules y rs) js
     settled_explained rs js =
@@ -151,10 +151,10 @@ module _ (P : Judged → Type 0) (plain : (x : Entry) → P (as_is x)) (rules : 
         let key = y.user_key in
         let at_once : Turn = record { answer = Some (Ok (zeroed rules y)); rest = rs; reports = [] } in
         let closing : Turn = close rules y (of_key key rs) (after_key key rs) in
-        elim (follows key rs && not low) as (λ b. (follows key rs && not low) ≡ b → items js ≡ (cond b at_once closing).rest → Explained P rules j rs (cond b at_once closing) js) [
-          | true ↦ λ e fits. let two = and_true (follows key rs) low e in open_explained rs js (sym (follows_items key js) ∙ ap (follows key) fits ∙ two.0) two.1 fits
+        elim (key_follows key rs && not low) as (λ b. (key_follows key rs && not low) ≡ b → items js ≡ (cond b at_once closing).rest → Explained P rules j rs (cond b at_once closing) js) [
+          | true ↦ λ e fits. let two = and_true (key_follows key rs) low e in open_explained rs js (sym (follows_items key js) ∙ ap (key_follows key) fits ∙ two.0) two.1 fits
           | false ↦ λ e fits.
-              let last : (low ≡ true) ⊎ (of_key key rs ≡ []) = elim (and_false (follows key rs) low e) [ inl is_low ↦ inl is_low | inr none ↦ inr (no_stretch key rs none) ] in
+              let last : (low ≡ true) ⊎ (of_key key rs ≡ []) = elim (and_false (key_follows key rs) low e) [ inl is_low ↦ inl is_low | inr none ↦ inr (no_stretch key rs none) ] in
               close_explained (of_key key rs) (stretch_all key rs) last rs (after_key key rs) js (stretch_ends key rs) (stretch key rs) fits
         ] refl
 

@@ -5,13 +5,13 @@ use Rattle.std.specs.List.{AllByRecursion}
 use Rattle.std.specs.Iterator.{Count, Yields}
 use Rattle.sst_entries.specs.Entry.{Entry}
 use Rattle.sst_entries.specs.Kind.{is_tombstone_kind}
-use Rattle.sst_entries.specs.Stream.{Deals, CanDeal, nowhere, stopped, stopped_result, first, but_first, all_ok}
+use Rattle.sst_entries.specs.Stream.{Deals, CanDeal, nowhere, answer_stops, result_stops, first, but_first, ok_results}
 use Rattle.sst_entries.specs.declared.error.Error.{Error}
 use Rattle.lsm_sorted.specs.declared.compaction.stream.CompactionStream.{CompactionStream}
 use Rattle.sst_entries.proofs.StreamLemmas.{deals_by, can_by, tail_eq}
-use Rattle.lsm_merge.specs.Union.{entries_of}
+use Rattle.lsm_merge.specs.Union.{entries_among}
 use Rattle.lsm_merge.specs.Ends.{R}
-use Rattle.lsm_sorted.specs.Compaction.{Verdict, keep, replace, drop, Judged, JudgedItem, items, Rules, told_by, told, is_cut, heads, expired, zeroed, given_by, given, Versions, is_version_of, before, by_key, gone, error_of, entries, outs_of, joined, outs, kept, as_is, as_they_are, unfiltered}
+use Rattle.lsm_sorted.specs.Compaction.{Verdict, keep, replace, drop, Judged, JudgedItem, items, Rules, told_by, told, is_cut, heads, expired, zeroed, given_by, given, Versions, is_version_of, before, by_key, gone, error_of, entries, outs_of, concat_by, outs, kept, as_is, as_they_are, unfiltered}
 use Rattle.lsm_sorted.specs.Compacting.{AsksIf, Asks, Turns, Calls, ended, failed, answered, again, Compacted}
 use Rattle.lsm_sorted.specs.CompactionState.{rules_of, filter_of, callback_of, Compacts, MayCompact, CompactsNext}
 use Rattle.lsm_sorted.proofs.OutsLemmas.{listed, judged}
@@ -28,7 +28,7 @@ module _ {F C : Type 0} (gives : F → Entry → Result Verdict Error → F → 
 
 module _ {S F C : Type 0} (front : S → Option R → S → Type 0) (can : S → Type 0) (left : S → Count) (gives : F → Entry → Result Verdict Error → F → Type 0) (gets : C → Entry → C → Type 0) (stops : Error → Bool) where
   -- all calls up to the one that answers none
-  pub whole : (gave : List R) (s t u : CompactionStream S F C R) (xs : List R) → Compacts stops front s xs → AllByRecursion (λ r. stopped_result stops r ≡ false) gave
+  pub whole : (gave : List R) (s t u : CompactionStream S F C R) (xs : List R) → Compacts stops front s xs → AllByRecursion (λ r. result_stops stops r ≡ false) gave
       → Yields (CompactsNext front can left gives gets) s gave t → CompactsNext front can left gives gets t None u
       → Compacted gives gets (rules_of s) (filter_of s) (callback_of s) xs gave (filter_of u) (callback_of u)
   whole [] s t u xs has fine runs last =
@@ -95,7 +95,7 @@ module _ {S F C : Type 0} (front : S → Option R → S → Type 0) (can : S →
     pub set : rules_of s ≡ rules
     pub is : gives ≡ outs rules (as_they_are list)
 
-  still_first : (rules : Rules) (s : CompactionStream S F C R) (gives : List R) (r : Option R) (t : CompactionStream S F C R) → Still rules s gives → CompactsNext front can left KeepsAll gets s r t → stopped stops r ≡ false → (r ≡ first gives) × Still rules t (but_first gives)
+  still_first : (rules : Rules) (s : CompactionStream S F C R) (gives : List R) (r : Option R) (t : CompactionStream S F C R) → Still rules s gives → CompactsNext front can left KeepsAll gets s r t → answer_stops stops r ≡ false → (r ≡ first gives) × Still rules t (but_first gives)
   still_first rules s gives r t was step fine =
       let call = step.calls stops was.list was.has fine in
       let same : outs (rules_of s) (as_they_are was.list) ≡ listed r ++ outs (rules_of s) (as_they_are call.0) = call_keeps gets (rules_of s) (filter_of s) (filter_of t) (callback_of s) (callback_of t) was.list call.0 r call.2 in
@@ -107,8 +107,8 @@ module _ {S F C : Type 0} (front : S → Option R → S → Type 0) (can : S →
       )
 
   -- a compaction that keeps all but what no reader needs deals what is given
-  pub deals_outs : (s : CompactionStream S F C R) (xs : List R) → Compacts stops front s xs → Deals (stopped stops) (CompactsNext front can left KeepsAll gets) nowhere s (outs (rules_of s) (as_they_are xs))
-  deals_outs s xs has = deals_by (stopped stops) (CompactsNext front can left KeepsAll gets) nowhere (Still (rules_of s))
+  pub deals_outs : (s : CompactionStream S F C R) (xs : List R) → Compacts stops front s xs → Deals (answer_stops stops) (CompactsNext front can left KeepsAll gets) nowhere s (outs (rules_of s) (as_they_are xs))
+  deals_outs s xs has = deals_by (answer_stops stops) (CompactsNext front can left KeepsAll gets) nowhere (Still (rules_of s))
       (λ u ys r t was step fine. still_first (rules_of s) u ys r t was step fine)
       (λ u ys r t was step fine. absurd step)
       s (outs (rules_of s) (as_they_are xs)) (record { list = xs; has = has; set = refl; is = refl })
@@ -119,7 +119,7 @@ module _ {S F C : Type 0} (front : S → Option R → S → Type 0) (can : S →
   can_compact s may = can_by (CompactsNext front can left gives gets) nowhere (MayCompact front can left) (MayCompact front can left) (MayCompact front can left) (λ u m. (m, m)) (λ u r t m step. step.may) (λ u r t m step. absurd step) s may
 
 -- where no filter answers an error, a list without errors gives none
-not_ok : (e : Error) (rs : List R) (es : List Entry) → Err e ∷ rs ≡ all_ok es → ⊥
+not_ok : (e : Error) (rs : List R) (es : List Entry) → Err e ∷ rs ≡ ok_results es → ⊥
 not_ok e rs [] h = absurd cc
 not_ok e rs (x ∷ es) h = absurd cc
 
@@ -139,9 +139,9 @@ calm_before j (v ∷ vs) h all =
       | false ↦ (record { calm = refl; all = (h, tt) }, all)
     ]
 
-calm_by_key : (js : List Judged) → AllByRecursion IsCalm js → AllByRecursion CalmVersions (by_key (all_ok js))
+calm_by_key : (js : List Judged) → AllByRecursion IsCalm js → AllByRecursion CalmVersions (by_key (ok_results js))
 calm_by_key [] h = tt
-calm_by_key (j ∷ js) h = calm_before j (by_key (all_ok js)) h.0 (calm_by_key js h.1)
+calm_by_key (j ∷ js) h = calm_before j (by_key (ok_results js)) h.0 (calm_by_key js h.1)
 
 calm_heads : (watermark : ℕ) (js : List Judged) → AllByRecursion IsCalm js → AllByRecursion IsCalm (heads watermark js)
 calm_heads watermark [] h = tt
@@ -149,12 +149,12 @@ calm_heads watermark (j ∷ js) h = (h.0, elim (is_cut watermark j) as (λ b. Al
 
 -- results without errors
 abbrev Errorless : List R → Type 0
-Errorless rs = rs ≡ all_ok (entries_of rs)
+Errorless rs = rs ≡ ok_results (entries_among rs)
 
 errorless_append : (rs qs : List R) → Errorless rs → Errorless qs → Errorless (rs ++ qs)
 errorless_append [] qs h k = k
-errorless_append (Ok x ∷ rs) qs h k = let t : rs ≡ all_ok (entries_of rs) = tail_eq h in ap (λ (ys : List R). Ok x ∷ ys) (errorless_append rs qs t k)
-errorless_append (Err e ∷ rs) qs h k = absurd (not_ok e rs (entries_of rs) h)
+errorless_append (Ok x ∷ rs) qs h k = let t : rs ≡ ok_results (entries_among rs) = tail_eq h in ap (λ (ys : List R). Ok x ∷ ys) (errorless_append rs qs t k)
+errorless_append (Err e ∷ rs) qs h k = absurd (not_ok e rs (entries_among rs) h)
 
 errorless_given_by : (rules : Rules) (gone : Entry → Bool) (x : Entry) (v : Result Verdict Error) → is_ok v ≡ true → Errorless (given_by rules gone (told_by x v))
 errorless_given_by rules gone x (Ok keep) h = elim (gone x) as (λ b. Errorless (cond b [] (Ok (zeroed rules x) ∷ []))) [ true ↦ refl | false ↦ refl ]
@@ -169,26 +169,26 @@ errorless_given rules gone [] h = refl
 errorless_given rules gone (j ∷ []) h = errorless_given_by rules gone j.entry j.verdict h.0
 errorless_given rules gone (j ∷ k ∷ ks) h = errorless_append (given_by rules (λ x. false) (told j)) (given rules gone (k ∷ ks)) (errorless_given_by rules (λ x. false) j.entry j.verdict h.0) (errorless_given rules gone (k ∷ ks) h.1)
 
-errorless_joined : (rules : Rules) (vs : List Versions) → AllByRecursion CalmVersions vs → Errorless (joined (outs_of rules) vs)
+errorless_joined : (rules : Rules) (vs : List Versions) → AllByRecursion CalmVersions vs → Errorless (concat_by (outs_of rules) vs)
 errorless_joined rules [] h = refl
 errorless_joined rules (v ∷ vs) h =
     let w = h.0 in
     let hs = given rules (gone rules (first (entries (expired rules.watermark v.versions))) v.error) (heads rules.watermark v.versions) in
-    errorless_append (outs_of rules v) (joined (outs_of rules) vs)
+    errorless_append (outs_of rules v) (concat_by (outs_of rules) vs)
     (errorless_append hs (error_of v.error) (errorless_given rules (gone rules (first (entries (expired rules.watermark v.versions))) v.error) (heads rules.watermark v.versions) (calm_heads rules.watermark v.versions w.all)) (subst (λ (o : Option Error). Errorless (error_of o)) (sym w.calm) refl))
     (errorless_joined rules vs h.1)
 
-pub outs_kept : (rules : Rules) (js : List Judged) → AllByRecursion IsCalm js → outs rules (all_ok js) ≡ all_ok (kept rules js)
-outs_kept rules js h = errorless_joined rules (by_key (all_ok js)) (calm_by_key js h)
+pub outs_kept : (rules : Rules) (js : List Judged) → AllByRecursion IsCalm js → outs rules (ok_results js) ≡ ok_results (kept rules js)
+outs_kept rules js h = errorless_joined rules (by_key (ok_results js)) (calm_by_key js h)
 
 calm_unfiltered : (es : List Entry) → AllByRecursion IsCalm (unfiltered es)
 calm_unfiltered [] = tt
 calm_unfiltered (e ∷ es) = (refl, calm_unfiltered es)
 
-all_as_they_are : (es : List Entry) → as_they_are (all_ok es) ≡ all_ok (unfiltered es)
+all_as_they_are : (es : List Entry) → as_they_are (ok_results es) ≡ ok_results (unfiltered es)
 all_as_they_are [] = refl
 all_as_they_are (e ∷ es) = ap (λ (js : List JudgedItem). Ok (as_is e) ∷ js) (all_as_they_are es)
 
 -- entries without errors, of which a filter keeps all, give what is kept
-pub outs_unfiltered : (rules : Rules) (es : List Entry) → outs rules (as_they_are (all_ok es)) ≡ all_ok (kept rules (unfiltered es))
+pub outs_unfiltered : (rules : Rules) (es : List Entry) → outs rules (as_they_are (ok_results es)) ≡ ok_results (kept rules (unfiltered es))
 outs_unfiltered rules es = ap (outs rules) (all_as_they_are es) ∙ outs_kept rules (unfiltered es) (calm_unfiltered es)

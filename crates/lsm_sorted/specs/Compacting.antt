@@ -32,15 +32,15 @@ close rules head drained (Ok x ∷ rs) = record { answer = head_answer rules (go
 close rules head drained (Err e ∷ rs) = record { answer = Some (Err e); rest = rs; reports = drained }
 
 -- whether an entry of the key is in front
-abbrev pub follows : List ℕ → List R → Bool
-follows key [] = false
-follows key (Ok x ∷ rs) = same_key x.user_key key
-follows key (Err e ∷ rs) = false
+abbrev pub key_follows : List ℕ → List R → Bool
+key_follows key [] = false
+key_follows key (Ok x ∷ rs) = same_key x.user_key key
+key_follows key (Err e ∷ rs) = false
 
 -- a head that the filter left: it is answered where an older version follows that a reader may still want
 abbrev pub settled : Rules → Entry → List R → Turn
 settled rules head rs =
-    if follows head.user_key rs && not (nat_lt head.seqno rules.watermark)
+    if key_follows head.user_key rs && not (nat_lt head.seqno rules.watermark)
     then record { answer = Some (Ok (zeroed rules head)); rest = rs; reports = [] }
     else close rules head (of_key head.user_key rs) (after_key head.user_key rs)
 

@@ -3,12 +3,12 @@ use Rattle.std.specs.Prelude.{ℕ, Bool, true, false, not, ◌&&◌, if◌then�
 use Rattle.sst_entries.specs.Entry.{Entry}
 use Rattle.sst_entries.specs.Kind.{is_tombstone_kind}
 use Rattle.sst_entries.specs.Key.{same_key}
-use Rattle.sst_entries.specs.Stream.{first, all_ok}
+use Rattle.sst_entries.specs.Stream.{first, ok_results}
 use Rattle.sst_entries.specs.declared.error.Error.{Error}
 use Rattle.sst_entries.specs.declared.value_type.ValueType.{ValueType}
 use Rattle.sst_entries.specs.declared.value_type.ValueType.TheVariants.{Value, Tombstone, WeakTombstone, Indirection}
 use Rattle.lsm_merge.specs.Ends.{R}
-use Rattle.lsm_merge.specs.Union.{entries_of}
+use Rattle.lsm_merge.specs.Union.{entries_among}
 
 -- what a filter says of an entry: it stays as it is, it gets this kind and value, or it goes
 pub data Verdict : Type 0 where
@@ -153,23 +153,23 @@ abbrev pub asked_of : Rules → Versions → List Judged
 asked_of rules v = filter (λ j. not (is_tombstone_kind j.entry.kind)) (heads rules.watermark v.versions)
 
 -- joined over the keys in order
-abbrev pub joined : {A : Type 0} → (Versions → List A) → List Versions → List A
-joined f [] = []
-joined f (v ∷ vs) = f v ++ joined f vs
+abbrev pub concat_by : {A : Type 0} → (Versions → List A) → List Versions → List A
+concat_by f [] = []
+concat_by f (v ∷ vs) = f v ++ concat_by f vs
 
 -- all that a compaction gives, reports and asks
 abbrev pub outs : Rules → List JudgedItem → List R
-outs rules js = joined (outs_of rules) (by_key js)
+outs rules js = concat_by (outs_of rules) (by_key js)
 
 abbrev pub reported : Rules → List JudgedItem → List Entry
-reported rules js = joined (reported_of rules) (by_key js)
+reported rules js = concat_by (reported_of rules) (by_key js)
 
 abbrev pub asked : Rules → List JudgedItem → List Judged
-asked rules js = joined (asked_of rules) (by_key js)
+asked rules js = concat_by (asked_of rules) (by_key js)
 
 -- the entries that a compaction keeps of a list without errors
 abbrev pub kept : Rules → List Judged → List Entry
-kept rules js = entries_of (outs rules (all_ok js))
+kept rules js = entries_among (outs rules (ok_results js))
 
 -- a list of which a filter keeps all
 abbrev pub as_is : Entry → Judged

@@ -5,7 +5,7 @@ use Rattle.std.specs.Iterator.{Count, Yields}
 use Rattle.sst_entries.specs.Entry.{Entry}
 use Rattle.sst_entries.specs.declared.error.Error.{Error}
 use Rattle.sst_entries.specs.declared.stream.Direction.TheVariants.{Front}
-use Rattle.sst_entries.specs.Stream.{Deals, stopped, stopped_result, nowhere, all_ok}
+use Rattle.sst_entries.specs.Stream.{Deals, answer_stops, result_stops, nowhere, ok_results}
 use Rattle.lsm_sorted.specs.declared.ahead.Ahead.{Ahead}
 use Rattle.lsm_sorted.specs.declared.compaction.stream.CompactionStream.{CompactionStream}
 use Rattle.lsm_merge.specs.Ends.{R, Goes}
@@ -54,13 +54,13 @@ module _ {S F C : Type 0} where
   pub record CompactsNext (front : S → Option R → S → Type 0) (can : S → Type 0) (left : S → Count) (gives : F → Entry → Result Verdict Error → F → Type 0) (gets : C → Entry → C → Type 0) (s : CompactionStream S F C R) (r : Option R) (t : CompactionStream S F C R) : Type 0 where
     pub may : MayCompact front can left t
     pub rules : rules_of t ≡ rules_of s
-    pub calls : (stops : Error → Bool) (xs : List R) → Compacts stops front s xs → stopped stops r ≡ false → (ys : List R) × Compacts stops front t ys × Calls gives gets (rules_of s) (filter_of s) (callback_of s) xs r (filter_of t) (callback_of t) ys
+    pub calls : (stops : Error → Bool) (xs : List R) → Compacts stops front s xs → answer_stops stops r ≡ false → (ys : List R) × Compacts stops front t ys × Calls gives gets (rules_of s) (filter_of s) (callback_of s) xs r (filter_of t) (callback_of t) ys
     pub hears : Hears front Front r (CallsIn gives gets (rules_of s) (filter_of s) (callback_of s) r (filter_of t) (callback_of t)) (compaction_outlook s) (compaction_outlook t)
 
 module _ {S F C : Type 0} (front : S → Option R → S → Type 0) (next : CompactionStream S F C R → Option R → CompactionStream S F C R → Type 0) (s : CompactionStream S F C R) where
   -- of any list that the stream goes through, calls up to the one that answers `None` give, ask and report what a compaction of the list does
   abbrev pub CompactsWhole : (F → Entry → Result Verdict Error → F → Type 0) → (C → Entry → C → Type 0) → Type 0
-  CompactsWhole gives gets = (stops : Error → Bool) (xs gave : List R) (t u : CompactionStream S F C R) → Compacts stops front s xs → AllByRecursion (λ r. stopped_result stops r ≡ false) gave
+  CompactsWhole gives gets = (stops : Error → Bool) (xs gave : List R) (t u : CompactionStream S F C R) → Compacts stops front s xs → AllByRecursion (λ r. result_stops stops r ≡ false) gave
       → Yields next s gave t → next t None u → Compacted gives gets (rules_of s) (filter_of s) (callback_of s) xs gave (filter_of u) (callback_of u)
 
   -- whatever the source gives, refusals too: calls up to the one that answers `None` give, ask and report what a compaction of it does
@@ -77,11 +77,11 @@ module _ {S F C : Type 0} (front : S → Option R → S → Type 0) (next : Comp
 
   -- the stream deals what is given of any list that it goes through, where a filter keeps all
   abbrev pub DealsOuts : Type 0
-  DealsOuts = (stops : Error → Bool) (xs : List R) → Compacts stops front s xs → Deals (stopped stops) next nowhere s (outs (rules_of s) (as_they_are xs))
+  DealsOuts = (stops : Error → Bool) (xs : List R) → Compacts stops front s xs → Deals (answer_stops stops) next nowhere s (outs (rules_of s) (as_they_are xs))
 
   -- and of entries without errors those that are kept
   abbrev pub DealsKept : Type 0
-  DealsKept = (stops : Error → Bool) (xs : List Entry) → Compacts stops front s (all_ok xs) → Deals (stopped stops) next nowhere s (all_ok (kept (rules_of s) (unfiltered xs)))
+  DealsKept = (stops : Error → Bool) (xs : List Entry) → Compacts stops front s (ok_results xs) → Deals (answer_stops stops) next nowhere s (ok_results (kept (rules_of s) (unfiltered xs)))
 
 -- the error of a refusal
 abbrev pub refusal : {X : Type 0} → Result X Error → Option Error
@@ -106,7 +106,7 @@ past_error (Err e ∷ rs) = rs
 
 -- the entries of a key in front were taken and reported, up to an error that stops it
 pub record DrainsKey {T C X : Type 0} (stops : Error → Bool) (Has : T → List R → Type 0) (gets : C → Entry → C → Type 0) (key : List ℕ) (s : T) (c : C) (result : Result X Error) (t : T) (d : C) : Type 0 where
-  pub at : (xs : List R) → Has s xs → stopped_result stops result ≡ false → (refusal result ≡ error_first (after_key key xs)) × Has t (past_error (after_key key xs)) × GetsAll gets c (of_key key xs) d
+  pub at : (xs : List R) → Has s xs → result_stops stops result ≡ false → (refusal result ≡ error_first (after_key key xs)) × Has t (past_error (after_key key xs)) × GetsAll gets c (of_key key xs) d
 
 -- what a turn answers at a head that goes or stays
 abbrev pub answer_of : Rules → Entry → Result Bool Error → Option R
@@ -115,7 +115,7 @@ answer_of rules head (Err e) = Some (Err e)
 
 -- a head was settled, up to an error that stops it
 pub record Settles {T C : Type 0} (stops : Error → Bool) (Has : T → List R → Type 0) (gets : C → Entry → C → Type 0) (rules : Rules) (head : Entry) (s : T) (c : C) (result : Result Bool Error) (t : T) (d : C) : Type 0 where
-  pub at : (xs : List R) → Has s xs → stopped_result stops result ≡ false → (answer_of rules head result ≡ (settled rules head xs).answer) × Has t (settled rules head xs).rest × GetsAll gets c (settled rules head xs).reports d
+  pub at : (xs : List R) → Has s xs → result_stops stops result ≡ false → (answer_of rules head result ≡ (settled rules head xs).answer) × Has t (settled rules head xs).rest × GetsAll gets c (settled rules head xs).reports d
 
 -- the same of lists themselves
 module _ {C : Type 0} (gets : C → Entry → C → Type 0) where

@@ -2,7 +2,7 @@
 use Rattle.std.specs.Prelude.{◌≡◌, Bool, true, false, List, [], ◌∷◌, Option}
 use Rattle.sst_entries.specs.declared.stream.Direction.{Direction}
 use Rattle.sst_entries.specs.declared.error.Error.{Error}
-use Rattle.sst_entries.specs.Stream.{Runs, NoneStops, stopped, deal}
+use Rattle.sst_entries.specs.Stream.{Runs, NoneStops, answer_stops, deal}
 use Rattle.lsm_merge.specs.declared.ends.Ends.{Ends}
 use Rattle.lsm_merge.specs.Ends.{R}
 use Rattle.lsm_sorted.specs.Outlook.{Outlook, list_of, MayGive, results_in, with_rest, is_over, StopsAtNone}
@@ -24,7 +24,7 @@ module _ {S : Type 0} (ask : S → Option R → S → Type 0) where
   pub record Hears (end : Direction) (r : Option R) (P : List R → List R → Type 0) (s t : Outlook S) : Type 0 where
     pub answers : List (Option R)
     pub gave : Gave s.source answers t.source
-    pub told : (stops : Error → Bool) → stopped stops r ≡ false → NoneStops (stopped stops) answers
+    pub told : (stops : Error → Bool) → answer_stops stops r ≡ false → NoneStops (answer_stops stops) answers
     pub holds : (rest : List R) → MayGive t.source.done rest → P (list_of s (with_rest end (results_in answers) rest)) (list_of t rest)
 
 -- a source was asked, and not again once it gave `None`: P holds of every list that deals what it answered

@@ -12,6 +12,7 @@ pub mod Verdicts
 pub mod Ahead
 pub mod CompactionState
 pub mod ReadLaw
+pub mod Words
 pub use Rattle.lsm_ranges.specs.KeyRange
 pub use Rattle.lsm_ranges.specs.Run
 pub use Rattle.lsm_ranges.specs.Packing

@@ -4,7 +4,7 @@ use Rattle.std.specs.Iterator.{Count}
 use Rattle.sst_entries.specs.declared.error.Error.{Error}
 use Rattle.sst_entries.specs.declared.stream.Direction.{Direction}
 use Rattle.sst_entries.specs.Entry.{Entry}
-use Rattle.sst_entries.specs.Stream.{Runs, NoneStops, Deals, CanDeal, stopped, all_ok}
+use Rattle.sst_entries.specs.Stream.{Runs, NoneStops, Deals, CanDeal, answer_stops, ok_results}
 use Rattle.std.specs.Iterator.{IsFinite}
 use Rattle.lsm_merge.specs.Ends.{R, Goes}
 use Rattle.lsm_merge.specs.Union.{Ascends, newest}
@@ -42,14 +42,14 @@ module _ {S T : Type 0} (front back : S → Option R → S → Type 0) (source :
 
   -- of a list that the source deals, the answers are those of the steps on it, up to an error that stops the source
   pub record DealsSteps : Type 0 where
-    pub answers : (stops : Error → Bool) (xs : List R) → Deals (stopped stops) front back source xs
+    pub answers : (stops : Error → Bool) (xs : List R) → Deals (answer_stops stops) front back source xs
         → (ends : List Direction) (rs : List (Option R)) (u : T) → Runs next next_back t ends rs u
-        → NoneStops (stopped stops) rs → rs ≡ newest_answers xs ends
+        → NoneStops (answer_stops stops) rs → rs ≡ newest_answers xs ends
 
   -- of sorted entries that the source deals, the newest version of each key is dealt
   pub record DealsNewestOf : Type 0 where
-    pub deals : (stops : Error → Bool) (xs : List Entry) → Ascends xs → Deals (stopped stops) front back source (all_ok xs)
-        → Deals (stopped stops) next next_back t (all_ok (newest xs))
+    pub deals : (stops : Error → Bool) (xs : List Entry) → Ascends xs → Deals (answer_stops stops) front back source (ok_results xs)
+        → Deals (answer_stops stops) next next_back t (ok_results (newest xs))
 
   -- where the source may be asked and ends, so may the stream be asked
   pub record CanStep (can can_back : S → Type 0) (left : S → Count) (can_next can_next_back : T → Type 0) : Type 0 where

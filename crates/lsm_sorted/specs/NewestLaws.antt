@@ -1,15 +1,14 @@
 -- What is promised of the newest versions of several sources.
 use Rattle.std.specs.Prelude.{◌≡◌, Bool, List, [], All, Option}
 use Rattle.std.specs.Iterator.{Count, IsFinite}
-use Rattle.sst_entries.specs.Stream.{Runs, Deals, CanDeal, stopped, all_ok}
+use Rattle.sst_entries.specs.Stream.{Runs, Deals, CanDeal, answer_stops, ok_results, EndsAtError}
 use Rattle.sst_entries.specs.declared.error.Error.{Error}
 use Rattle.sst_entries.specs.declared.stream.Direction.{Direction}
 use Rattle.lsm_merge.specs.declared.merge.Merger.{Merger}
 use Rattle.lsm_sorted.specs.declared.mvcc_stream.MvccStream.{MvccStream}
 use Rattle.lsm_merge.specs.Ends.{R}
-use Rattle.lsm_merge.specs.Union.{all_errors, merged, newest}
+use Rattle.lsm_merge.specs.Union.{all_errors, union_of, newest}
 use Rattle.lsm_merge.specs.Asks.{IsMergerOf}
-use Rattle.lsm_merge.specs.Merge.{EndsAtError}
 use Rattle.lsm_merge.specs.MergeLaws.{DealSorted, DealsUntilError, MeetsErrorsLate, every_error}
 use Rattle.lsm_sorted.specs.Gap.{IsUpToGap}
 use Rattle.lsm_sorted.specs.Mvcc.{mvcc_outlook}
@@ -31,19 +30,19 @@ module _ {S : Type 0} (front back : S → Option R → S → Type 0) (its : List
     -- of what sorted sources have together, the newest version of each key is dealt, where they have no errors
     pub record DealsNewest : Type 0 where
       pub deals : (stops : Error → Bool) (lists : List (List R)) → DealSorted front back stops its lists → all_errors lists ≡ []
-          → Deals (stopped stops) next next_back t (all_ok (newest (merged lists)))
+          → Deals (answer_stops stops) next next_back t (ok_results (newest (union_of lists)))
 
     -- with errors among it, as long as none of them is the answer
     pub record DealsNewestUntilError : Type 0 where
       pub deals : (stops : Error → Bool) (lists : List (List R)) → DealSorted front back stops its lists
-          → Deals (stopped every_error) next next_back t (all_ok (newest (merged lists)))
+          → Deals (answer_stops every_error) next next_back t (ok_results (newest (union_of lists)))
 
     -- whatever errors are met, and after them: for every list of ends the answers are those of the steps on all entries, or on
     -- what is left of them where the first error that was met takes the place of a stretch
     pub record AnswersNewest : Type 0 where
       pub answers : (stops : Error → Bool) (lists : List (List R)) → DealSorted front back stops its lists
           → (ends : List Direction) (rs : List (Option R)) (u : T) → Runs next next_back t ends rs u
-          → (xs : List R) × IsUpToGap stops (merged lists) (all_errors lists) xs × (rs ≡ newest_answers xs ends)
+          → (xs : List R) × IsUpToGap stops (union_of lists) (all_errors lists) xs × (rs ≡ newest_answers xs ends)
 
   -- its merger deals what the sources have together up to an error of one of them, from the front no error comes before the
   -- entries before it, and nothing follows an error

@@ -4,7 +4,7 @@ use Rattle.sst_entries.specs.declared.stream.Direction.{Direction}
 use Rattle.sst_entries.specs.declared.stream.Direction.TheVariants.{Front, Back}
 use Rattle.sst_entries.specs.declared.error.Error.{Error}
 use Rattle.lsm_merge.specs.declared.ends.Ends.{Ends}
-use Rattle.lsm_merge.specs.Ends.{R, fresh}
+use Rattle.lsm_merge.specs.Ends.{R, new_ends}
 
 -- a source, and what stands before it and behind it
 pub record Outlook (S : Type 0) : Type 0 where
@@ -14,7 +14,7 @@ pub record Outlook (S : Type 0) : Type 0 where
 
 -- a source before any call, and nothing taken from it
 abbrev pub before_any : {S : Type 0} → S → Outlook S
-before_any s = record { source = fresh s; ahead = []; behind = [] }
+before_any s = record { source = new_ends s; ahead = []; behind = [] }
 
 -- what is to come, where the source still gives rest
 abbrev pub list_of : {S : Type 0} → Outlook S → List R → List R

@@ -1,7 +1,6 @@
 //! What mergers deal whose sources have errors.
 ghost use Rattle.std.specs.Prelude.{List};
-ghost use Rattle.sst_entries.specs.Stream.{nowhere};
-ghost use Rattle.lsm_merge.specs.Merge.{EndsAtError};
+ghost use Rattle.sst_entries.specs.Stream.{nowhere, EndsAtError};
 ghost use Rattle.lsm_merge.specs.MergeLaws.{DealsBeforeErrors, DealsUntilError};
 ghost use Rattle.lsm_sorted.specs.Gap.{MergesUpToGap};
 

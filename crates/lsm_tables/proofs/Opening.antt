@@ -10,7 +10,7 @@ use Rattle.sst_entries.specs.Error.{Faults, is_memory}
 use Rattle.sst_sections.specs.Fnv.{fnv1a}
 use Rattle.sst_sections.specs.declared.version.TableVersion.TheVariants.{V4}
 use Rattle.sst_entries.specs.Point.{point}
-use Rattle.sst_entries.specs.Stream.{Deals, all_ok, nowhere, stopped}
+use Rattle.sst_entries.specs.Stream.{Deals, ok_results, nowhere, answer_stops}
 use Rattle.lsm_files.specs.Facts.{highest_seqno}
 use Rattle.lsm_files.specs.declared.label.Label.{Label}
 use Rattle.lsm_files.specs.Options.{default_options}
@@ -107,8 +107,8 @@ value_of a b h = cc
 
 -- the answers, by the number that the table adds
 pub reads : (es : List Entry) (g n : ℕ) (key : List ℕ) (bound : ℕ) (found : Option Entry) (s : Scan) → n ≡ g → read (point (lift es n) key bound) ≡ read found
-    → ((stops : Error → Bool) → stops OutOfMemory ≡ true → Deals (stopped stops) ScansNext nowhere s (all_ok (lift es n))) → ReadsList es g key bound found s
+    → ((stops : Error → Bool) → stops OutOfMemory ≡ true → Deals (answer_stops stops) ScansNext nowhere s (ok_results (lift es n))) → ReadsList es g key bound found s
 reads es g n key bound found s number told deals = record {
   point_is = subst (λ (k : ℕ). found ≡ point (lift es k) key bound) number (value_of (point (lift es n) key bound) found told);
-  scan_is = λ stops memory. subst (λ (k : ℕ). Deals (stopped stops) ScansNext nowhere s (all_ok (lift es k))) number (deals stops memory);
+  scan_is = λ stops memory. subst (λ (k : ℕ). Deals (answer_stops stops) ScansNext nowhere s (ok_results (lift es k))) number (deals stops memory);
 }

@@ -6,7 +6,7 @@ use Rattle.sst_entries.specs.declared.error.Error.TheVariants.{GlobalSeqNoTooLar
 use Rattle.sst_entries.specs.Entry.{Entry}
 use Rattle.sst_sections.specs.Fnv.{fnv1a}
 use Rattle.sst_entries.specs.Point.{point}
-use Rattle.sst_entries.specs.Stream.{Deals, all_ok, nowhere, stopped}
+use Rattle.sst_entries.specs.Stream.{Deals, ok_results, nowhere, answer_stops}
 use Rattle.std.specs.Option.{option_or}
 use Rattle.lsm_files.specs.Facts.{highest_seqno}
 use Rattle.lsm_files.specs.declared.label.Label.{Label}
@@ -44,4 +44,4 @@ pub record ReadsList (es : List Entry) (g : ℕ) (key : List ℕ) (bound : ℕ)
     (found : Option Entry) (s : Scan) : Type 0 where
   pub point_is : found ≡ point (lift es g) key bound
   pub scan_is : (stops : Error → Bool) → stops OutOfMemory ≡ true →
-      Deals (stopped stops) ScansNext nowhere s (all_ok (lift es g))
+      Deals (answer_stops stops) ScansNext nowhere s (ok_results (lift es g))

@@ -4,7 +4,7 @@ use Rattle.std.specs.List.{AllByRecursion}
 use Rattle.sst_sections.specs.declared.version.TableVersion.{TableVersion}
 use Rattle.sst_sections.specs.declared.version.TableVersion.TheVariants.{V4}
 use Rattle.sst_sections.specs.declared.section.SectionName.TheVariants.{Data}
-use Rattle.sst_blocks.specs.Block.{data_len}
+use Rattle.sst_blocks.specs.Block.{data_len, header_len}
 use Rattle.sst_entries.specs.Entry.{Entry}
 use Rattle.sst_blocks.specs.Handle.{Handle}
 use Rattle.sst_blocks.specs.Payload.{payload}
@@ -25,14 +25,14 @@ pub record Cut : Type 0 where
 unfoldable pub chunks_in : TableVersion → ℕ → List ℕ → List (List Entry)
 chunks_in v zero bytes = []
 chunks_in v (suc n) bytes =
-    unwrap_or (entries_in v (take (data_len bytes) (drop 24 bytes))) []
-    ∷ chunks_in v n (drop (24 + data_len bytes) bytes)
+    unwrap_or (entries_in v (take (data_len bytes) (drop header_len bytes))) []
+    ∷ chunks_in v n (drop (header_len + data_len bytes) bytes)
 
 -- a chunk whose block reads back
 pub record IsReadable (v : TableVersion) (c : List Entry) : Type 0 where
   pub some : 0 < length c
   pub reads : entries_in v (payload v c) ≡ Some c
-  pub short : 24 + length (payload v c) < 2 ^ 32
+  pub short : header_len + length (payload v c) < 2 ^ 32
   pub wide : 17 * length c ≤ length (payload v c)
 
 -- the bytes begin with the blocks of the chunks, and have nothing else unless a block could not

@@ -6,7 +6,7 @@ use Rattle.sst_entries.specs.declared.error.Error.{Error}
 use Rattle.sst_entries.specs.declared.error.Error.TheVariants.{WriterFailed}
 use Rattle.sst_blocks.specs.Encoding.{handles_fault}
 use Rattle.sst_blocks.specs.Handle.{Handle}
-use Rattle.sst_sections.specs.Sections.{Written, place_of}
+use Rattle.sst_sections.specs.Sections.{Written, slot_index}
 
 -- the handles that were registered, and whether the writer has refused
 pub record Registered : Type 0 where
@@ -20,7 +20,7 @@ failed_fault failed = if failed then Some WriterFailed else None
 -- no section of the index was started
 abbrev pub HasNoIndex : Written → Type 0
 HasNoIndex w =
-    All (λ (s : SectionName × ℕ). (place_of s.0 ≡ 1 → ⊥) × (place_of s.0 ≡ 2 → ⊥)) w.started
+    All (λ (s : SectionName × ℕ). (slot_index s.0 ≡ 1 → ⊥) × (slot_index s.0 ≡ 2 → ⊥)) w.started
 
 -- what a full index refuses
 abbrev pub full_index_fault : Registered → Option Error

@@ -1,9 +1,9 @@
 //! Compaction of what several sources have together, each of them taken from the front alone.
 ghost use Rattle.std.specs.Prelude.{◌≡◌, Bool, List, [], IfOk};
-ghost use Rattle.sst_entries.specs.Stream.{Deals, nowhere, stopped, all_ok};
+ghost use Rattle.sst_entries.specs.Stream.{Deals, nowhere, answer_stops, ok_results};
 ghost use Rattle.sst_entries.specs.declared.error.Error.{Error};
 ghost use Rattle.lsm_merge.specs.Ends.{R};
-ghost use Rattle.lsm_merge.specs.Union.{all_errors, merged};
+ghost use Rattle.lsm_merge.specs.Union.{all_errors, union_of};
 ghost use Rattle.lsm_merge.specs.MergeLaws.{DealSorted};
 ghost use Rattle.lsm_sorted.specs.Compaction.{kept, unfiltered};
 ghost use Rattle.lsm_sorted.specs.CompactionState.{rules_of};
@@ -26,9 +26,9 @@ fn compaction_of<I: Iterator<Item = IterItem<A>>, A: Allocator + Clone>(
     ensures kept { IfOk result (λ s. (stops : Error → Bool) (lists : List (List R)) →
         DealSorted I.next_gives nowhere stops iterators.items lists →
         all_errors lists ≡ [] →
-        Deals (stopped stops)
+        Deals (answer_stops stops)
         ⟦<CompactionStream<Merger<I, A>, NoFilter, NoCallback> as Iterator>⟧.next_gives nowhere s
-        (all_ok (kept (rules_of s) (unfiltered (merged lists))))) }
+        (ok_results (kept (rules_of s) (unfiltered (union_of lists))))) }
     // With errors among it: of the entries up to the first error that is met, and this error.
     ensures past { IfOk result (λ s.
         GivesUpToGap I.next_gives nowhere iterators.items (rules_of s)

@@ -12,8 +12,8 @@ use Rattle.sst_sections.specs.Fnv.{fnv1a, fnv_from, fnv_basis, fnv_prime, fnv_st
 use Rattle.sst_sections.specs.Number.{le4, le8, num4, num8}
 use Rattle.sst_blocks.specs.Block.{header, block_bytes, header_fault, data_len, uncompressed_len, stored_checksum, version_in, in_grammar, checked_payload, load_told, load_at_told, entries_of, handles_of, loaded, LoadsBack}
 use Rattle.sst_blocks.specs.Handle.{Handle}
-use Rattle.sst_blocks.specs.Handles.{handles_payload, AreStrictHandles, HandlesFit}
-use Rattle.sst_blocks.specs.Payload.{payload, AreFit}
+use Rattle.sst_blocks.specs.Handles.{handles_payload, AreStrictHandles, AreSpellableHandles}
+use Rattle.sst_blocks.specs.Payload.{payload, AreSpellable}
 use Rattle.sst_blocks.specs.Reading.{entries_in}
 use Rattle.sst_blocks.specs.Starts.{HoldsEntries}
 use Rattle.sst_entries.specs.Entry.{Entry}
@@ -144,13 +144,13 @@ entries_ok v Index bytes es holds told = absurd holds
 entries_ok v Filter bytes es holds told = absurd holds
 
 -- a block of a list that was written loads, and holds the list
-pub entries_load : (v : TableVersion) (kind : BlockType) (es : List Entry) → HoldsEntries kind → IsStrict es → AreFit v es → length (payload v es) < 2 ^ 32
+pub entries_load : (v : TableVersion) (kind : BlockType) (es : List Entry) → HoldsEntries kind → IsStrict es → AreSpellable v es → length (payload v es) < 2 ^ 32
     → LoadsBack v kind (payload v es) × (entries_of (loaded v kind (payload v es)) ≡ es)
 entries_load v kind es holds strict fit lt =
     let told = entries_read v es fit strict in
     (loads_back v kind (payload v es) lt (entries_ok v kind (payload v es) es holds told), rw told refl)
 
-pub handles_load : (v : TableVersion) (hs : List Handle) → AreStrictHandles hs → HandlesFit v hs → length (handles_payload v hs) < 2 ^ 32
+pub handles_load : (v : TableVersion) (hs : List Handle) → AreStrictHandles hs → AreSpellableHandles v hs → length (handles_payload v hs) < 2 ^ 32
     → LoadsBack v Index (handles_payload v hs) × (handles_of (loaded v Index (handles_payload v hs)) ≡ hs)
 handles_load v hs strict fit lt =
     let told = handles_read v hs fit strict in

@@ -12,13 +12,13 @@ use Rattle.sst_entries.specs.declared.value_type.ValueType.TheVariants.{Value, T
 use Rattle.sst_entries.specs.Entry.{Entry, entry}
 use Rattle.sst_entries.specs.Kind.{tag_of, kind_of}
 use Rattle.sst_sections.specs.Number.{le4, le8, num4, num8}
-use Rattle.sst_blocks.specs.Payload.{entry_head, spelled, payload, Fits, AreFit}
+use Rattle.sst_blocks.specs.Payload.{entry_head, spelled, payload, IsSpellable, AreSpellable}
 use Rattle.sst_blocks.specs.Reading.{parts_at, entry_at, entries_at, entries_in, key_and_number}
 use Rattle.sst_blocks.specs.Starts.{starts_of, EntriesAt}
 use Rattle.sst_entries.specs.Strict.{IsStrict, IsStrictAfter, is_strict_after}
 use Rattle.sst_sections.specs.Version.{key_width, key_limit, key_len_bytes, key_len_at}
 use Rattle.sst_sections.proofs.Numbers.{IsBytes, IsBytes-drop, wide4, wide8, key_wide}
-use Rattle.sst_blocks.proofs.Items.{Format, IsFormat, Advances, Here, items_at, items_in, in_order, guard_some, items_in_take, items_in_again, items_strict, item_holds, length-starts}
+use Rattle.sst_blocks.proofs.Items.{Format, IsFormat, Advances, Here, items_at, items_in, in_order, guard_some, items_in_take, items_in_again, items_strict, item_holds, length-starts, and_then_same}
 
 -- ---- kinds and their tags
 
@@ -104,7 +104,7 @@ parts_take v t n bytes e rest fits long h =
     let made : Took v bytes t n (entry K V n t) R = record { parts = whole; kind = refl; number = refl; key_len = below_k; value_len = below_v } in
     subst (λ (x : Entry). Took v bytes t n x rest) p.0 (subst (λ (x : List ℕ). Took v bytes t n (entry K V n t) x) p.1 made)
 
-parts_again : (v : TableVersion) (e : Entry) (rest : List ℕ) → Fits v e → parts_at v e.kind e.seqno (tail_of v e ++ rest) ≡ Some (e, rest)
+parts_again : (v : TableVersion) (e : Entry) (rest : List ℕ) → IsSpellable v e → parts_at v e.kind e.seqno (tail_of v e ++ rest) ≡ Some (e, rest)
 unfolding parts_at
 parts_again v e rest fits =
     let w = key_width v in
@@ -118,7 +118,7 @@ parts_again v e rest fits =
     ap (parts_at v e.kind e.seqno) flat
     ∙ rw ((key_wide v).again k (le4 m ++ X) fits.key_len, drop_at (key_len_bytes v k) (le4 m ++ X) w ((key_wide v).len k), wide4.again m X fits.value_len, drop_at (le4 m) X 4 (wide4.len m), room, take_at K (V ++ rest) k refl, drop_at K (V ++ rest) k refl, take_at V rest m refl, drop_at V rest m refl) refl
 
-pub entry_takes : (v : TableVersion) (bytes : List ℕ) (e : Entry) (rest : List ℕ) → IsBytes bytes → entry_at v bytes ≡ Some (e, rest) → (bytes ≡ spelled v e ++ rest) × Fits v e
+pub entry_takes : (v : TableVersion) (bytes : List ℕ) (e : Entry) (rest : List ℕ) → IsBytes bytes → entry_at v bytes ≡ Some (e, rest) → (bytes ≡ spelled v e ++ rest) × IsSpellable v e
 unfolding entry_at
 entry_takes v bytes e rest fits h =
     let b = drop 1 bytes in
@@ -136,7 +136,7 @@ entry_takes v bytes e rest fits h =
     let number : e.seqno < 2 ^ 64 = rw m.number (wide8.below b fb) in
     (flat ∙ sym (flattened v e rest), record { number = number; key_len = m.key_len; value_len = m.value_len }))
 
-pub entry_again : (v : TableVersion) (e : Entry) (rest : List ℕ) → Fits v e → entry_at v (spelled v e ++ rest) ≡ Some (e, rest)
+pub entry_again : (v : TableVersion) (e : Entry) (rest : List ℕ) → IsSpellable v e → entry_at v (spelled v e ++ rest) ≡ Some (e, rest)
 unfolding entry_at
 entry_again v e rest fits =
     let n = e.seqno in
@@ -152,12 +152,8 @@ entry_again v e rest fits =
 abbrev pub entry_format : TableVersion → Format Entry
 entry_format v = record { spell = spelled v; read = entry_at v; key = λ e. e }
 
-pub entries_format : (v : TableVersion) → IsFormat (entry_format v) (Fits v)
+pub entries_format : (v : TableVersion) → IsFormat (entry_format v) (IsSpellable v)
 entries_format v = record { takes = entry_takes v; again = entry_again v }
-
-and_then_same : {A B : Type 0} (f g : A → Option B) → ((x : A) → f x ≡ g x) → (o : Option A) → option_and_then f o ≡ option_and_then g o
-and_then_same f g same None = refl
-and_then_same f g same (Some x) = same x
 
 entries_at_same : (v : TableVersion) (n : ℕ) (bytes : List ℕ) → entries_at v n bytes ≡ items_at (entry_at v) n bytes
 unfolding entries_at
@@ -179,18 +175,18 @@ entries_in_same v bytes =
     ap (cond (ltb (length bytes) 4) None) read
 
 -- what a payload spells is its list
-pub entries_spelled : (v : TableVersion) (bytes : List ℕ) (es : List Entry) → IsBytes bytes → entries_in v bytes ≡ Some es → (bytes ≡ payload v es) × AreFit v es × IsStrict es
+pub entries_spelled : (v : TableVersion) (bytes : List ℕ) (es : List Entry) → IsBytes bytes → entries_in v bytes ≡ Some es → (bytes ≡ payload v es) × AreSpellable v es × IsStrict es
 unfolding payload
 entries_spelled v bytes es fits h =
-    let t = items_in_take (entry_format v) (Fits v) (entries_format v) bytes es fits (sym (entries_in_same v bytes) ∙ h) in
+    let t = items_in_take (entry_format v) (IsSpellable v) (entries_format v) bytes es fits (sym (entries_in_same v bytes) ∙ h) in
     (t.0, (t.1, t.2), subst (IsStrictAfter None) (map-id es) t.3)
 
 -- a strict list is what its payload spells
-pub entries_read : (v : TableVersion) (es : List Entry) → AreFit v es → IsStrict es → entries_in v (payload v es) ≡ Some es
+pub entries_read : (v : TableVersion) (es : List Entry) → AreSpellable v es → IsStrict es → entries_in v (payload v es) ≡ Some es
 unfolding payload
 entries_read v es fit strict =
     entries_in_same v (le4 (length es) ++ flat_map (spelled v) es)
-    ∙ items_in_again (entry_format v) (Fits v) (entries_format v) es fit.0 fit.1 (subst (IsStrictAfter None) (sym (map-id es)) strict)
+    ∙ items_in_again (entry_format v) (IsSpellable v) (entries_format v) es fit.0 fit.1 (subst (IsStrictAfter None) (sym (map-id es)) strict)
 
 -- ---- the parts of an entry
 

@@ -8,12 +8,12 @@ use Rattle.std.proofs.lemmas.List.{take_at, drop_at, take-append-drop, length-ap
 use Rattle.std.proofs.lemmas.Option.{some_pair_parts, slice_get-get_or, slice_get_within, get_or_from_slice_get}
 use Rattle.sst_sections.specs.declared.version.TableVersion.{TableVersion}
 use Rattle.sst_blocks.specs.Handle.{Handle}
-use Rattle.sst_blocks.specs.Handles.{handle_head, handle_spelled, handles_payload, handle_at, handles_at, handles_in, HandleFits, HandlesFit, AreStrictHandles, end_of}
+use Rattle.sst_blocks.specs.Handles.{handle_head, handle_spelled, handles_payload, handle_at, handles_at, handles_in, IsSpellableHandle, AreSpellableHandles, AreStrictHandles, end_of}
 use Rattle.sst_sections.specs.Number.{le4, le8, num4, num8}
 use Rattle.sst_blocks.specs.Reading.{key_and_number}
 use Rattle.sst_blocks.specs.Starts.{starts_of, HandlesAt}
 use Rattle.sst_sections.specs.Version.{key_width, key_limit, key_len_bytes, key_len_at}
-use Rattle.sst_blocks.proofs.Items.{Format, IsFormat, items_at, items_in, in_order, items_in_take, items_in_again, guard_some, Here, Advances, length-starts, item_holds, items_strict}
+use Rattle.sst_blocks.proofs.Items.{Format, IsFormat, items_at, items_in, in_order, items_in_take, items_in_again, guard_some, Here, Advances, length-starts, item_holds, items_strict, and_then_same}
 use Rattle.sst_sections.proofs.Numbers.{IsBytes, IsBytes-drop, wide4, wide8, key_wide}
 
 -- the parts of a handle one after another, and then other bytes
@@ -32,7 +32,7 @@ length-handle_spelled v h = omega (arith, length-append (handle_head v h) h.end_
 joined : (v : TableVersion) (s o z k : ℕ) (K R : List ℕ) → length K ≡ k → le8 s ++ (le8 o ++ (le4 z ++ (key_len_bytes v k ++ (K ++ R)))) ≡ handle_spelled v (record { end_key = K; seqno = s; offset = o; size = z }) ++ R
 joined v s o z k K R len = rw (← len) (sym (handle_parts v (record { end_key = K; seqno = s; offset = o; size = z }) R))
 
-pub handle_takes : (v : TableVersion) (bytes : List ℕ) (h : Handle) (rest : List ℕ) → IsBytes bytes → handle_at v bytes ≡ Some (h, rest) → (bytes ≡ handle_spelled v h ++ rest) × HandleFits v h
+pub handle_takes : (v : TableVersion) (bytes : List ℕ) (h : Handle) (rest : List ℕ) → IsBytes bytes → handle_at v bytes ≡ Some (h, rest) → (bytes ≡ handle_spelled v h ++ rest) × IsSpellableHandle v h
 unfolding handle_at
 handle_takes v bytes h rest fits told =
     let w = key_width v in
@@ -62,14 +62,14 @@ handle_takes v bytes h rest fits told =
     e0 ∙ ap (λ (x : List ℕ). le8 (num8 bytes) ++ x) (e1 ∙ ap (λ (x : List ℕ). le8 (num8 b8) ++ x) (e2 ∙ ap (λ (x : List ℕ). le4 (num4 b16) ++ x) (e3 ∙ ap (λ (x : List ℕ). key_len_bytes v k ++ x) e4))) in
     let whole : bytes ≡ handle_spelled v made ++ R = flat ∙ joined v (num8 bytes) (num8 b8) (num4 b16) k K R lk in
     let below_k : length K < key_limit v = rw lk ((key_wide v).below b20 f20) in
-    let fit : HandleFits v made = record { number = wide8.below bytes fits; offset = wide8.below b8 f8; size = wide4.below b16 f16; key_len = below_k } in
-    (whole ∙ ap (λ (x : Handle). handle_spelled v x ++ R) p.0 ∙ ap (λ (x : List ℕ). handle_spelled v h ++ x) p.1, subst (HandleFits v) p.0 fit)
+    let fit : IsSpellableHandle v made = record { number = wide8.below bytes fits; offset = wide8.below b8 f8; size = wide4.below b16 f16; key_len = below_k } in
+    (whole ∙ ap (λ (x : Handle). handle_spelled v x ++ R) p.0 ∙ ap (λ (x : List ℕ). handle_spelled v h ++ x) p.1, subst (IsSpellableHandle v) p.0 fit)
 
 -- the bytes after a part of w bytes
 after : (w n : ℕ) (part rest bytes : List ℕ) → drop n bytes ≡ part ++ rest → length part ≡ w → drop (n + w) bytes ≡ rest
 after w n part rest bytes e len = sym (drop-drop w n bytes) ∙ ap (drop w) e ∙ drop_at part rest w len
 
-pub handle_again : (v : TableVersion) (h : Handle) (rest : List ℕ) → HandleFits v h → handle_at v (handle_spelled v h ++ rest) ≡ Some (h, rest)
+pub handle_again : (v : TableVersion) (h : Handle) (rest : List ℕ) → IsSpellableHandle v h → handle_at v (handle_spelled v h ++ rest) ≡ Some (h, rest)
 unfolding handle_at
 handle_again v h rest fits =
     let w = key_width v in
@@ -95,12 +95,8 @@ handle_again v h rest fits =
 abbrev pub handle_format : TableVersion → Format Handle
 handle_format v = record { spell = handle_spelled v; read = handle_at v; key = end_of }
 
-pub handles_format : (v : TableVersion) → IsFormat (handle_format v) (HandleFits v)
+pub handles_format : (v : TableVersion) → IsFormat (handle_format v) (IsSpellableHandle v)
 handles_format v = record { takes = handle_takes v; again = handle_again v }
-
-and_then_same : {A B : Type 0} (f g : A → Option B) → ((x : A) → f x ≡ g x) → (o : Option A) → option_and_then f o ≡ option_and_then g o
-and_then_same f g same None = refl
-and_then_same f g same (Some x) = same x
 
 handles_at_same : (v : TableVersion) (n : ℕ) (bytes : List ℕ) → handles_at v n bytes ≡ items_at (handle_at v) n bytes
 unfolding handles_at
@@ -117,18 +113,18 @@ handles_in_same v bytes =
     ap (cond (ltb (length bytes) 4) None) (ap (option_and_then ordered) (handles_at_same v (num4 bytes) (drop 4 bytes)))
 
 -- what a payload spells is its list
-pub handles_spelled : (v : TableVersion) (bytes : List ℕ) (hs : List Handle) → IsBytes bytes → handles_in v bytes ≡ Some hs → (bytes ≡ handles_payload v hs) × HandlesFit v hs × AreStrictHandles hs
+pub handles_spelled : (v : TableVersion) (bytes : List ℕ) (hs : List Handle) → IsBytes bytes → handles_in v bytes ≡ Some hs → (bytes ≡ handles_payload v hs) × AreSpellableHandles v hs × AreStrictHandles hs
 unfolding handles_payload
 handles_spelled v bytes hs fits h =
-    let t = items_in_take (handle_format v) (HandleFits v) (handles_format v) bytes hs fits (sym (handles_in_same v bytes) ∙ h) in
+    let t = items_in_take (handle_format v) (IsSpellableHandle v) (handles_format v) bytes hs fits (sym (handles_in_same v bytes) ∙ h) in
     (t.0, (t.1, t.2), t.3)
 
 -- a strict list is what its payload spells
-pub handles_read : (v : TableVersion) (hs : List Handle) → HandlesFit v hs → AreStrictHandles hs → handles_in v (handles_payload v hs) ≡ Some hs
+pub handles_read : (v : TableVersion) (hs : List Handle) → AreSpellableHandles v hs → AreStrictHandles hs → handles_in v (handles_payload v hs) ≡ Some hs
 unfolding handles_payload
 handles_read v hs fit strict =
     handles_in_same v (le4 (length hs) ++ flat_map (handle_spelled v) hs)
-    ∙ items_in_again (handle_format v) (HandleFits v) (handles_format v) hs fit.0 fit.1 strict
+    ∙ items_in_again (handle_format v) (IsSpellableHandle v) (handles_format v) hs fit.0 fit.1 strict
 
 -- ---- where a handle lies
 

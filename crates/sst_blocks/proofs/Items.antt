@@ -305,3 +305,8 @@ module _ {X : Type 0} (f : Format X) (advances : Advances f) where
   -- what a payload spells is strict
   pub items_strict : (bytes : List ℕ) (xs : List X) → items_in f bytes ≡ Some xs → IsStrictAfter None (map f.key xs)
   items_strict bytes xs are = strict_from_test None (map f.key xs) (items_read bytes xs are).2
+
+-- functions that answer the same make chains that do
+pub and_then_same : {A B : Type 0} (f g : A → Option B) → ((x : A) → f x ≡ g x) → (o : Option A) → option_and_then f o ≡ option_and_then g o
+and_then_same f g same None = refl
+and_then_same f g same (Some x) = same x

@@ -8,7 +8,7 @@ use Rattle.std.proofs.lemmas.Bool.{cases_lt}
 use Rattle.std.proofs.lemmas.List.{drop-drop, drop-take, drop_all, take-take, take_all, length-take, length-drop, get_or-take, get_or-drop}
 use Rattle.sst_entries.specs.Entry.{Entry}
 use Rattle.sst_entries.specs.Point.{is_from, is_to, within, lower_place, upper_place}
-use Rattle.sst_entries.specs.Span.{Span, left_in, front_length}
+use Rattle.sst_entries.specs.Span.{Span, rest_in, front_length}
 use Rattle.sst_entries.specs.Strict.{IsStrict, IsStrictAfter}
 use Rattle.sst_entries.proofs.Booleans.{apart, is_false, not_of, not_is}
 use Rattle.sst_entries.proofs.Strictness.{strict_alone}
@@ -36,12 +36,12 @@ module _ {X : Type 0} (p : X → Bool) where
   front_length-drop (x ∷ xs) (suc m) parted =
       drop_step (p x) (front_length p xs) m (front_length p (drop m xs)) (front_length-drop xs m (parted_tail p x xs parted)) (λ fails. none_pass xs (fail_behind p x xs parted fails))
 
-  pub front_length-left : (s : Span X) → IsPartitionedBy p s.list → front_length p (left_in s) ≡ min (s.to - s.from) (front_length p s.list - s.from)
+  pub front_length-left : (s : Span X) → IsPartitionedBy p s.list → front_length p (rest_in s) ≡ min (s.to - s.from) (front_length p s.list - s.from)
   front_length-left s parted =
       front_length-take p (s.to - s.from) (drop s.from s.list) ∙ ap (min (s.to - s.from)) (front_length-drop s.list s.from parted)
 
 module _ {X : Type 0} where
-  pub narrow_from : (s : Span X) (f : ℕ) → left_in (span_from f s) ≡ drop (min (s.to - s.from) (f - s.from)) (left_in s)
+  pub narrow_from : (s : Span X) (f : ℕ) → rest_in (span_from f s) ≡ drop (min (s.to - s.from) (f - s.from)) (rest_in s)
   narrow_from s f =
       let n = s.to - s.from in
       let k = f - s.from in
@@ -52,7 +52,7 @@ module _ {X : Type 0} where
       ∙ ap (λ (m : ℕ). take (n - k) (drop m s.list)) place
       ∙ ap (λ (m : ℕ). take m (drop (max s.from f) s.list)) rest)
 
-  pub narrow_to : (s : Span X) (f : ℕ) → left_in (span_to f s) ≡ take (min (s.to - s.from) (f - s.from)) (left_in s)
+  pub narrow_to : (s : Span X) (f : ℕ) → rest_in (span_to f s) ≡ take (min (s.to - s.from) (f - s.from)) (rest_in s)
   narrow_to s f =
       let n = s.to - s.from in
       let m = min n (f - s.from) in
@@ -73,13 +73,13 @@ strict_drop last zero es strict = strict_alone last es strict
 strict_drop last (suc n) [] strict = tt
 strict_drop last (suc n) (e ∷ es) strict = strict_drop (Some e) n es strict.1
 
-strict_left : (s : Span Entry) → IsStrict s.list → IsStrict (left_in s)
+strict_left : (s : Span Entry) → IsStrict s.list → IsStrict (rest_in s)
 strict_left s strict = strict_take None (s.to - s.from) (drop s.from s.list) (strict_drop None s.from s.list strict)
 
 -- a lower edge that is sought leaves what is within it
-pub lower_left : (low : Bound (List ℕ)) (s : Span Entry) → IsStrict s.list → left_in (span_from (lower_place low s.list) s) ≡ within low Unbounded (left_in s)
+pub lower_left : (low : Bound (List ℕ)) (s : Span Entry) → IsStrict s.list → rest_in (span_from (lower_place low s.list) s) ≡ within low Unbounded (rest_in s)
 lower_left low s strict =
-    let ys = left_in s in
+    let ys = rest_in s in
     let place : lower_place low ys ≡ min (s.to - s.from) (lower_place low s.list - s.from) =
     lower_is low ys ∙ front_length-left (before low) s (lower_parted low s.list strict) ∙ ap (λ (n : ℕ). min (s.to - s.from) (n - s.from)) (sym (lower_is low s.list)) in
     narrow_from s (lower_place low s.list)
@@ -88,9 +88,9 @@ lower_left low s strict =
     ∙ range_within low Unbounded ys (strict_left s strict)
 
 -- an upper edge that is sought leaves what is within it
-pub upper_left : (high : Bound (List ℕ)) (s : Span Entry) → IsStrict s.list → left_in (span_to (upper_place high s.list) s) ≡ within Unbounded high (left_in s)
+pub upper_left : (high : Bound (List ℕ)) (s : Span Entry) → IsStrict s.list → rest_in (span_to (upper_place high s.list) s) ≡ within Unbounded high (rest_in s)
 upper_left high s strict =
-    let ys = left_in s in
+    let ys = rest_in s in
     let P = λ (e : Entry). is_to high e.user_key in
     let place : upper_place high ys ≡ min (s.to - s.from) (upper_place high s.list - s.from) =
     upper_is high ys ∙ front_length-left P s (upper_parted high s.list strict) ∙ ap (λ (n : ℕ). min (s.to - s.from) (n - s.from)) (sym (upper_is high s.list)) in
@@ -99,11 +99,11 @@ upper_left high s strict =
     ∙ ap (λ (n : ℕ). take n ys) (sym place ∙ sym whole)
     ∙ range_within Unbounded high ys (strict_left s strict)
 
-pub sought_lower : (low : Bound (List ℕ)) (s : Span Entry) (n : ℕ) → IsStrict s.list → n ≡ max s.from (lower_place low s.list) → left_in (record s { from = n }) ≡ within low Unbounded (left_in s)
-sought_lower low s n strict place = ap (λ (k : ℕ). left_in (record s { from = k })) place ∙ lower_left low s strict
+pub sought_lower : (low : Bound (List ℕ)) (s : Span Entry) (n : ℕ) → IsStrict s.list → n ≡ max s.from (lower_place low s.list) → rest_in (record s { from = n }) ≡ within low Unbounded (rest_in s)
+sought_lower low s n strict place = ap (λ (k : ℕ). rest_in (record s { from = k })) place ∙ lower_left low s strict
 
-pub sought_upper : (high : Bound (List ℕ)) (s : Span Entry) (n : ℕ) → IsStrict s.list → n ≡ min s.to (upper_place high s.list) → left_in (record s { to = n }) ≡ within Unbounded high (left_in s)
-sought_upper high s n strict place = ap (λ (k : ℕ). left_in (record s { to = k })) place ∙ upper_left high s strict
+pub sought_upper : (high : Bound (List ℕ)) (s : Span Entry) (n : ℕ) → IsStrict s.list → n ≡ min s.to (upper_place high s.list) → rest_in (record s { to = n }) ≡ within Unbounded high (rest_in s)
+sought_upper high s n strict place = ap (λ (k : ℕ). rest_in (record s { to = k })) place ∙ upper_left high s strict
 
 -- ---- both edges
 
@@ -146,10 +146,10 @@ upper_of_lower low high es =
     let H = λ (e : Entry). is_to high e.user_key in
     filter-filter (λ (e : Entry). L e && true) H es ∙ filter_same (λ (e : Entry). (L e && true) && H e) (λ (e : Entry). L e && H e) (λ e. and_first (L e) (H e)) es
 
-pub keeps_upper : (low : Bound (List ℕ)) (s t : Span Entry) → left_in t ≡ within low Unbounded (left_in s) → KeepsUpper low s t
+pub keeps_upper : (low : Bound (List ℕ)) (s t : Span Entry) → rest_in t ≡ within low Unbounded (rest_in s) → KeepsUpper low s t
 keeps_upper low s t kept high es was = kept ∙ ap (within low Unbounded) was ∙ lower_of_upper low high es
 
-pub keeps_lower : (high : Bound (List ℕ)) (s t : Span Entry) → left_in t ≡ within Unbounded high (left_in s) → KeepsLower high s t
+pub keeps_lower : (high : Bound (List ℕ)) (s t : Span Entry) → rest_in t ≡ within Unbounded high (rest_in s) → KeepsLower high s t
 keeps_lower high s t kept low es was = kept ∙ ap (within Unbounded high) was ∙ upper_of_lower low high es
 
 -- ---- handles
@@ -162,17 +162,17 @@ reach_parted hs key bound strict i j d le lt early =
     ]
 
 -- a lower edge that is sought leaves the window from it on
-pub reaching_left : (key : List ℕ) (bound : ℕ) (s : Span Handle) → AreStrictHandles s.list → left_in (span_from (reaching_place (key, bound) s.list) s) ≡ window (left_in s) (Some (key, bound)) None
+pub reaching_left : (key : List ℕ) (bound : ℕ) (s : Span Handle) → AreStrictHandles s.list → rest_in (span_from (reaching_place (key, bound) s.list) s) ≡ window (rest_in s) (Some (key, bound)) None
 reaching_left key bound s strict =
     let Q = λ (h : Handle). not (reaches key bound h) in
     narrow_from s (front_length Q s.list)
-    ∙ ap (λ (n : ℕ). drop n (left_in s)) (sym (front_length-left Q s (reach_parted s.list key bound strict)))
-    ∙ sym (from_first_drop (reaches key bound) (left_in s))
+    ∙ ap (λ (n : ℕ). drop n (rest_in s)) (sym (front_length-left Q s (reach_parted s.list key bound strict)))
+    ∙ sym (from_first_drop (reaches key bound) (rest_in s))
 
-pub sought_edge : (key : List ℕ) (bound : ℕ) (s : Span Handle) (n : ℕ) → AreStrictHandles s.list → n ≡ max s.from (reaching_place (key, bound) s.list) → left_in (record s { from = n }) ≡ window (left_in s) (Some (key, bound)) None
-sought_edge key bound s n strict place = ap (λ (k : ℕ). left_in (record s { from = k })) place ∙ reaching_left key bound s strict
+pub sought_edge : (key : List ℕ) (bound : ℕ) (s : Span Handle) (n : ℕ) → AreStrictHandles s.list → n ≡ max s.from (reaching_place (key, bound) s.list) → rest_in (record s { from = n }) ≡ window (rest_in s) (Some (key, bound)) None
+sought_edge key bound s n strict place = ap (λ (k : ℕ). rest_in (record s { from = k })) place ∙ reaching_left key bound s strict
 
-pub keeps_upper_edge : (edge : List ℕ × ℕ) (s t : Span Handle) → left_in t ≡ window (left_in s) (Some edge) None → KeepsUpperEdge edge s t
+pub keeps_upper_edge : (edge : List ℕ × ℕ) (s t : Span Handle) → rest_in t ≡ window (rest_in s) (Some edge) None → KeepsUpperEdge edge s t
 keeps_upper_edge edge s t kept key hs was = kept ∙ ap (from_first (reaches edge.0 edge.1)) was
 
 module _ {X : Type 0} where
@@ -199,7 +199,7 @@ module _ {X : Type 0} where
       ]
 
 -- an upper edge that is sought leaves what of it stands in the list's window up to the edge
-pub above_left : (key : List ℕ) (s : Span Handle) → left_in (span_to (1 + above_place key s.list) s) ≡ left_in (record s { list = window s.list None (Some key) })
+pub above_left : (key : List ℕ) (s : Span Handle) → rest_in (span_to (1 + above_place key s.list) s) ≡ rest_in (record s { list = window s.list None (Some key) })
 above_left key s =
     let n = 1 + above_place key s.list in
     let count : min s.to n - s.from ≡ min (s.to - s.from) (n - s.from) = omega arith in
@@ -213,7 +213,7 @@ take_none zero = refl
 take_none (suc n) = refl
 
 -- where the places of a span are known to reach from a place to the end, an upper place cuts the rest
-suffix_to : (s : Span Handle) (f n : ℕ) → left_in s ≡ drop f s.list → (f < length s.list → s.from ≡ f) → left_in (span_to n s) ≡ take (n - f) (drop f s.list)
+suffix_to : (s : Span Handle) (f n : ℕ) → rest_in s ≡ drop f s.list → (f < length s.list → s.from ≡ f) → rest_in (span_to n s) ≡ take (n - f) (drop f s.list)
 suffix_to s f n was at =
     let ys = drop f s.list in
     let m = min (s.to - s.from) (n - s.from) in
@@ -230,7 +230,7 @@ suffix_to s f n was at =
     ]
 
 -- a span that holds what stands behind a front begins there
-starts_behind : (q : Handle → Bool) (s : Span Handle) (d : Handle) → left_in s ≡ drop (front_length q s.list) s.list → front_length q s.list < length s.list → s.from ≡ front_length q s.list
+starts_behind : (q : Handle → Bool) (s : Span Handle) (d : Handle) → rest_in s ≡ drop (front_length q s.list) s.list → front_length q s.list < length s.list → s.from ≡ front_length q s.list
 starts_behind q s d was within =
     let f = front_length q s.list in
     let lens : min (s.to - s.from) (length s.list - s.from) ≡ length s.list - f =
@@ -249,8 +249,8 @@ starts_behind q s d was within =
       | inr late ↦ omega (arith, late, lens, within)
     ]
 
-pub sought_above : (key : List ℕ) (s : Span Handle) (n : ℕ) → n ≡ min s.to (1 + above_place key s.list) → left_in (record s { to = n }) ≡ left_in (record s { list = window s.list None (Some key) })
-sought_above key s n place = ap (λ (k : ℕ). left_in (record s { to = k })) place ∙ above_left key s
+pub sought_above : (key : List ℕ) (s : Span Handle) (n : ℕ) → n ≡ min s.to (1 + above_place key s.list) → rest_in (record s { to = n }) ≡ rest_in (record s { list = window s.list None (Some key) })
+sought_above key s n place = ap (λ (k : ℕ). rest_in (record s { to = k })) place ∙ above_left key s
 
 both_edges : (key : List ℕ) (s : Span Handle) → KeepsLowerEdge key s (span_to (1 + above_place key s.list) s)
 both_edges key s None was =
@@ -264,7 +264,7 @@ both_edges key s (Some edge) was =
     let f = front_length Q hs in
     let n = 1 + above_place key hs in
     let d : Handle = record { end_key = key; seqno = 0; offset = 0; size = 0 } in
-    let behind : left_in s ≡ drop f hs = was ∙ from_first_drop (reaches edge.0 edge.1) hs in
+    let behind : rest_in s ≡ drop f hs = was ∙ from_first_drop (reaches edge.0 edge.1) hs in
     suffix_to s f n behind (starts_behind Q s d behind)
     ∙ sym (cut n f hs)
     ∙ ap (λ (m : ℕ). drop m (take n hs)) (sym (front_length-take Q n hs))
@@ -272,4 +272,4 @@ both_edges key s (Some edge) was =
     ∙ ap (from_first (reaches edge.0 edge.1)) (sym (up_to_first_take (is_above key) hs))
 
 pub keeps_lower_edge : (key : List ℕ) (s : Span Handle) (n : ℕ) → n ≡ min s.to (1 + above_place key s.list) → KeepsLowerEdge key s (record s { to = n })
-keeps_lower_edge key s n place edge was = ap (λ (k : ℕ). left_in (record s { to = k })) place ∙ both_edges key s edge was
+keeps_lower_edge key s n place edge was = ap (λ (k : ℕ). rest_in (record s { to = k })) place ∙ both_edges key s edge was

@@ -13,7 +13,7 @@ use Rattle.std.specs.List.Sorted.{IsPartitionedBy}
 use Rattle.sst_entries.specs.declared.value_type.ValueType.TheVariants.{Value}
 use Rattle.sst_entries.specs.Entry.{Entry, entry}
 use Rattle.sst_entries.specs.Key.{key_lt}
-use Rattle.sst_entries.specs.Point.{is_hit, point, bound_of}
+use Rattle.sst_entries.specs.Point.{is_hit, point, read_place}
 use Rattle.sst_entries.specs.Span.{front_length}
 use Rattle.sst_entries.specs.Strict.{is_before, IsStrict}
 use Rattle.sst_blocks.proofs.Fronts.{front_passes, front_stops}
@@ -49,9 +49,9 @@ parted p es strict down i j d le lt passed =
     ]
 
 -- what does not come after a bound has nothing before it that does
-pub past_parted : (es : List Entry) (key : List ℕ) (bound : ℕ) → IsStrict es → IsPartitionedBy (λ e. not (is_before (bound_of key bound) e)) es
+pub past_parted : (es : List Entry) (key : List ℕ) (bound : ℕ) → IsStrict es → IsPartitionedBy (λ e. not (is_before (read_place key bound) e)) es
 past_parted es key bound strict =
-    let b = bound_of key bound in
+    let b = read_place key bound in
     parted (λ (e : Entry). not (is_before b e)) es strict (λ x y before early.
     not_of (is_before b x) (is_false (is_before b x) (λ late. apart (is_before b y) (before_trans b x y late before) (not_is (is_before b y) early))))
 
@@ -100,7 +100,7 @@ up_to_parted es key strict =
 
 -- ---- a hit comes after its bound
 
-at_key : (key : List ℕ) (bound : ℕ) (e : Entry) → e.user_key ≡ key → is_before (bound_of key bound) e ≡ nat_lt e.seqno bound
+at_key : (key : List ℕ) (bound : ℕ) (e : Entry) → e.user_key ≡ key → is_before (read_place key bound) e ≡ nat_lt e.seqno bound
 at_key key bound e same =
     let tie : slice_cmp nat_cmp key e.user_key ≡ Equal = ap (slice_cmp nat_cmp key) same ∙ tied_itself nat_list_cmp_total key in
     ap (λ (o : Ordering). is_lt (ordering_then o (nat_cmp e.seqno bound))) tie ∙ lt_of_cond (nat_lt e.seqno bound) (e.seqno == bound)
@@ -108,10 +108,10 @@ at_key key bound e same =
 hit_key : (key : List ℕ) (bound : ℕ) (e : Entry) → is_hit key bound e ≡ true → e.user_key ≡ key
 hit_key key bound e h = same_text e.user_key key (sym (and_left (pointwise nat_eq e.user_key key) (nat_lt e.seqno bound) h))
 
-hit_before : (key : List ℕ) (bound : ℕ) (e : Entry) → is_hit key bound e ≡ true → is_before (bound_of key bound) e ≡ true
+hit_before : (key : List ℕ) (bound : ℕ) (e : Entry) → is_hit key bound e ≡ true → is_before (read_place key bound) e ≡ true
 hit_before key bound e h = at_key key bound e (hit_key key bound e h) ∙ and_right (pointwise nat_eq e.user_key key) (nat_lt e.seqno bound) h
 
-hit_from : (key : List ℕ) (bound : ℕ) (e : Entry) → e.user_key ≡ key → is_before (bound_of key bound) e ≡ true → is_hit key bound e ≡ true
+hit_from : (key : List ℕ) (bound : ℕ) (e : Entry) → e.user_key ≡ key → is_before (read_place key bound) e ≡ true → is_hit key bound e ≡ true
 hit_from key bound e same h =
     let same_too : pointwise nat_eq e.user_key key ≡ true = ap (λ (k : List ℕ). pointwise nat_eq k key) same ∙ nat_list_eq_equiv.refl key in
     ap (λ (b : Bool). b && nat_lt e.seqno bound) same_too ∙ sym (at_key key bound e same) ∙ h
@@ -120,17 +120,17 @@ hit_from key bound e same h =
 
 -- the entries from a place on are those that come after the bound
 record IsFirst (es : List Entry) (key : List ℕ) (bound : ℕ) (n : ℕ) : Type 0 where
-  pub before : (i : ℕ) → i < n → is_before (bound_of key bound) (get_or es i blank) ≡ false
-  pub after : n < length es → is_before (bound_of key bound) (get_or es n blank) ≡ true
+  pub before : (i : ℕ) → i < n → is_before (read_place key bound) (get_or es i blank) ≡ false
+  pub after : n < length es → is_before (read_place key bound) (get_or es n blank) ≡ true
 
-first_past : (es : List Entry) (key : List ℕ) (bound n : ℕ) → n ≡ front_length (λ e. not (is_before (bound_of key bound) e)) es → IsFirst es key bound n
+first_past : (es : List Entry) (key : List ℕ) (bound n : ℕ) → n ≡ front_length (λ e. not (is_before (read_place key bound) e)) es → IsFirst es key bound n
 first_past es key bound n is =
-    let p = λ (e : Entry). not (is_before (bound_of key bound) e) in
+    let p = λ (e : Entry). not (is_before (read_place key bound) e) in
     record {
-      before = λ i lt. not_is (is_before (bound_of key bound) (get_or es i blank)) (front_passes p es i blank (omega (arith, is, lt)));
+      before = λ i lt. not_is (is_before (read_place key bound) (get_or es i blank)) (front_passes p es i blank (omega (arith, is, lt)));
       after = λ lt.
           let stop : p (get_or es n blank) ≡ false = rw is (front_stops p es blank (omega (arith, is, lt))) in
-          not_not (is_before (bound_of key bound) (get_or es n blank)) stop;
+          not_not (is_before (read_place key bound) (get_or es n blank)) stop;
     }
 
 find_none : (p : Entry → Bool) (es : List Entry) → ((i : ℕ) → i < length es → p (get_or es i blank) ≡ false) → find p es ≡ None
@@ -147,7 +147,7 @@ find_first p (e ∷ es) (suc n) lt h hit =
     rw here (find_first p es n (omega (arith, lt)) (λ i less. h (suc i) (omega (arith, less))) hit)
 
 missed : (es : List Entry) (key : List ℕ) (bound n : ℕ) → IsFirst es key bound n → (i : ℕ) → i < n → is_hit key bound (get_or es i blank) ≡ false
-missed es key bound n first i lt = is_false (is_hit key bound (get_or es i blank)) (λ hit. apart (is_before (bound_of key bound) (get_or es i blank)) (hit_before key bound (get_or es i blank) hit) (first.before i lt))
+missed es key bound n first i lt = is_false (is_hit key bound (get_or es i blank)) (λ hit. apart (is_before (read_place key bound) (get_or es i blank)) (hit_before key bound (get_or es i blank) hit) (first.before i lt))
 
 none_past : (es : List Entry) (key : List ℕ) (bound n : ℕ) → IsFirst es key bound n → n ≡ length es → None ≡ point es key bound
 unfolding point
@@ -188,15 +188,15 @@ none_other es key bound n strict first lt other =
 
 -- ---- a point read, from the number of entries that do not come after its bound
 
-pub read_past : (es : List Entry) (key : List ℕ) (bound n : ℕ) → n ≡ front_length (λ e. not (is_before (bound_of key bound) e)) es → n ≡ length es → None ≡ point es key bound
+pub read_past : (es : List Entry) (key : List ℕ) (bound n : ℕ) → n ≡ front_length (λ e. not (is_before (read_place key bound) e)) es → n ≡ length es → None ≡ point es key bound
 read_past es key bound n is end = none_past es key bound n (first_past es key bound n is) end
 
-pub read_hit : (es : List Entry) (key : List ℕ) (bound n : ℕ) (e : Entry) → n ≡ front_length (λ e. not (is_before (bound_of key bound) e)) es → slice_get es n ≡ Some e → e.user_key ≡ key → Some e ≡ point es key bound
+pub read_hit : (es : List Entry) (key : List ℕ) (bound n : ℕ) (e : Entry) → n ≡ front_length (λ e. not (is_before (read_place key bound) e)) es → slice_get es n ≡ Some e → e.user_key ≡ key → Some e ≡ point es key bound
 read_hit es key bound n e is here same =
     let at : get_or es n blank ≡ e = get_or_from_slice_get es n e blank here in
     ap (λ x. Some x) (sym at) ∙ hit_first es key bound n (first_past es key bound n is) (slice_get_within es n e here) (ap (λ (x : Entry). x.user_key) at ∙ same)
 
-pub read_other : (es : List Entry) (key : List ℕ) (bound n : ℕ) (e : Entry) → IsStrict es → n ≡ front_length (λ e. not (is_before (bound_of key bound) e)) es → slice_get es n ≡ Some e → (e.user_key ≡ key → ⊥) → None ≡ point es key bound
+pub read_other : (es : List Entry) (key : List ℕ) (bound n : ℕ) (e : Entry) → IsStrict es → n ≡ front_length (λ e. not (is_before (read_place key bound) e)) es → slice_get es n ≡ Some e → (e.user_key ≡ key → ⊥) → None ≡ point es key bound
 read_other es key bound n e strict is here other =
     let at : get_or es n blank ≡ e = get_or_from_slice_get es n e blank here in
     none_other es key bound n strict (first_past es key bound n is) (slice_get_within es n e here) (λ same. other (ap (λ (x : Entry). x.user_key) (sym at) ∙ same))

@@ -16,8 +16,8 @@ use Rattle.sst_blocks.specs.Handle.{Handle}
 use Rattle.sst_blocks.specs.Handles.{reaches, is_above, end_of, AreStrictHandles, from_first, up_to_first, window}
 use Rattle.sst_blocks.specs.Reading.{key_and_number}
 use Rattle.sst_entries.specs.Key.{same_key, key_lt}
-use Rattle.sst_entries.specs.Point.{bound_of}
-use Rattle.sst_entries.specs.Span.{Span, left_in, front_length}
+use Rattle.sst_entries.specs.Point.{read_place}
+use Rattle.sst_entries.specs.Span.{Span, rest_in, front_length}
 use Rattle.sst_entries.specs.Strict.{is_before}
 use Rattle.sst_blocks.proofs.Fronts.{probed, probed_test}
 use Rattle.sst_blocks.proofs.SpanLemmas.{front_length_is, left_empty}
@@ -72,11 +72,11 @@ below_place hs key bound n d strict within early i le =
     ]
 
 -- a test of the end key and the number that were read of a handle says whether it reaches
-pub read_reaches : (hs : List Handle) (key : List ℕ) (bound i : ℕ) (k : List ℕ) (n : ℕ) (r b : Bool) → option_map (λ h. key_and_number (end_of h)) (slice_get hs i) ≡ Some (k, n) → r ≡ is_before (bound_of key bound) (bound_of k n) → r ≡ b → (d : Handle) → reaches key bound (get_or hs i d) ≡ b
+pub read_reaches : (hs : List Handle) (key : List ℕ) (bound i : ℕ) (k : List ℕ) (n : ℕ) (r b : Bool) → option_map (λ h. key_and_number (end_of h)) (slice_get hs i) ≡ Some (k, n) → r ≡ is_before (read_place key bound) (read_place k n) → r ≡ b → (d : Handle) → reaches key bound (get_or hs i d) ≡ b
 read_reaches hs key bound i k n r b told computed is d =
     let read = λ (h : Handle). key_and_number (end_of h) in
     let x = probed read hs i k n told in
-    let tested = probed_test read hs i k n (λ (l : List ℕ) (m : ℕ). is_before (bound_of key bound) (bound_of l m)) r b x computed is in
+    let tested = probed_test read hs i k n (λ (l : List ℕ) (m : ℕ). is_before (read_place key bound) (read_place l m)) r b x computed is in
     ap (reaches key bound) (get_or_from_slice_get hs i x.item d x.here) ∙ reaches_after key bound x.item ∙ tested
 
 pub first_place : (hs : List Handle) (key : List ℕ) (bound n : ℕ) (d : Handle) → n ≤ length hs → ((i : ℕ) → i < n → reaches key bound (get_or hs i d) ≡ false) → (n < length hs → reaches key bound (get_or hs n d) ≡ true) → n ≡ front_length (λ h. not (reaches key bound h)) hs
@@ -154,16 +154,16 @@ to_seek key s = record s { to = min s.to (1 + front_length (λ h. not (is_above 
 abbrev pub whole : List Handle → Span Handle
 whole hs = record { list = hs; from = 0; to = length hs }
 
-pub left_whole : (hs : List Handle) → left_in (whole hs) ≡ window hs None None
+pub left_whole : (hs : List Handle) → rest_in (whole hs) ≡ window hs None None
 left_whole hs = take_all (length hs - 0) hs (omega arith)
 
-pub left_from : (hs : List Handle) (key : List ℕ) (bound : ℕ) → left_in (from_seek key bound (whole hs)) ≡ window hs (Some (key, bound)) None
+pub left_from : (hs : List Handle) (key : List ℕ) (bound : ℕ) → rest_in (from_seek key bound (whole hs)) ≡ window hs (Some (key, bound)) None
 left_from hs key bound =
     let f = front_length (λ (h : Handle). not (reaches key bound h)) hs in
     let e : max 0 f ≡ f = omega arith in
     ap (λ (m : ℕ). take (length hs - m) (drop m hs)) e ∙ take_all (length hs - f) (drop f hs) (omega (arith, length-drop f hs)) ∙ sym (from_first_drop (reaches key bound) hs)
 
-pub left_to : (hs : List Handle) (key : List ℕ) → left_in (to_seek key (whole hs)) ≡ window hs None (Some key)
+pub left_to : (hs : List Handle) (key : List ℕ) → rest_in (to_seek key (whole hs)) ≡ window hs None (Some key)
 left_to hs key =
     let n = 1 + front_length (λ (h : Handle). not (is_above key h)) hs in
     within_list n 0 hs ∙ ap (λ (m : ℕ). take m hs) (sub_zero n) ∙ sym (up_to_first_take (is_above key) hs)
@@ -171,7 +171,7 @@ left_to hs key =
     sub_zero : (n : ℕ) → n - 0 ≡ n
     sub_zero n = omega arith
 
-pub left_both : (hs : List Handle) (key : List ℕ) (bound : ℕ) (end : List ℕ) → left_in (to_seek end (from_seek key bound (whole hs))) ≡ window hs (Some (key, bound)) (Some end)
+pub left_both : (hs : List Handle) (key : List ℕ) (bound : ℕ) (end : List ℕ) → rest_in (to_seek end (from_seek key bound (whole hs))) ≡ window hs (Some (key, bound)) (Some end)
 left_both hs key bound end =
     let R = λ (h : Handle). not (reaches key bound h) in
     let f = front_length R hs in
@@ -187,8 +187,8 @@ left_both hs key bound end =
 -- ---- what a seek's answer says
 
 module _ {X : Type 0} where
-  pub nothing_left : (s : Span X) → nat_lt s.from s.to ≡ false → left_in s ≡ []
+  pub nothing_left : (s : Span X) → nat_lt s.from s.to ≡ false → rest_in s ≡ []
   nothing_left s none = left_empty s (ltb-false s.from s.to none)
 
-  pub something_left : (s : Span X) → s.to ≤ length s.list → nat_lt s.from s.to ≡ true → 0 < length (left_in s)
+  pub something_left : (s : Span X) → s.to ≤ length s.list → nat_lt s.from s.to ≡ true → 0 < length (rest_in s)
   something_left s within some = omega (arith, ltb-true s.from s.to some, length-take (s.to - s.from) (drop s.from s.list), length-drop s.from s.list)

@@ -9,12 +9,12 @@ use Rattle.std.proofs.lemmas.List.{take_all}
 use Rattle.sst_entries.specs.Entry.{Entry}
 use Rattle.sst_entries.specs.Key.{key_lt}
 use Rattle.sst_entries.specs.Point.{is_from, is_to, within, lower_place, upper_place}
-use Rattle.sst_entries.specs.Span.{left_in, front_length}
+use Rattle.sst_entries.specs.Span.{rest_in, front_length}
 use Rattle.sst_entries.specs.Strict.{IsStrict}
 use Rattle.sst_blocks.proofs.Points.{below_parted, up_to_parted}
 use Rattle.sst_blocks.proofs.SpanLemmas.{front_length-le}
 
-pub left_whole : {X : Type 0} (xs : List X) → left_in (record { list = xs; from = 0; to = length xs }) ≡ xs
+pub left_whole : {X : Type 0} (xs : List X) → rest_in (record { list = xs; from = 0; to = length xs }) ≡ xs
 left_whole xs = take_all (length xs - 0) xs (omega arith)
 
 -- ---- tests that cut a list in two
@@ -166,7 +166,7 @@ upper_within (Excluded high) es = front_length-le (λ (e : Entry). key_lt e.user
 upper_within Unbounded es = omega arith
 
 -- what is left of a whole list once both edges were sought
-pub sought_within : (low high : Bound (List ℕ)) (es : List Entry) → IsStrict es → left_in (record { list = es; from = max 0 (lower_place low es); to = min (length es) (upper_place high es) }) ≡ within low high es
+pub sought_within : (low high : Bound (List ℕ)) (es : List Entry) → IsStrict es → rest_in (record { list = es; from = max 0 (lower_place low es); to = min (length es) (upper_place high es) }) ≡ within low high es
 sought_within low high es strict =
     let from : max 0 (lower_place low es) ≡ lower_place low es = omega arith in
     let to : min (length es) (upper_place high es) ≡ upper_place high es = omega (arith, upper_within high es) in

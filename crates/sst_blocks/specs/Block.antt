@@ -42,6 +42,10 @@ in_grammar v Meta payload = is_some (entries_in v payload)
 in_grammar v Index payload = is_some (handles_in v payload)
 in_grammar v Filter payload = is_filter payload
 
+-- the length of a header in bytes
+abbrev pub header_len : ℕ
+header_len = 24
+
 -- the mark, the kind, no compression, two zero bytes, the payload's length twice and its checksum
 abbrev pub header : TableVersion → BlockType → List ℕ → List ℕ
 header v kind payload =
@@ -93,45 +97,45 @@ checked_payload v checksum kind payload =
 -- the block of a kind at a place in the bytes before the trailer, or the first fault
 unfoldable pub load_told : List ℕ → ℕ → ℕ → BlockType → Result Loaded Error
 load_told body offset size kind =
-    let head = slice_range body offset (offset + 24) in
-    if nat_lt size 24 || nat_lt (length body) (offset + size) then Err Truncated
+    let head = slice_range body offset (offset + header_len) in
+    if nat_lt size header_len || nat_lt (length body) (offset + size) then Err Truncated
     else unless (header_fault kind head)
-    (if not (data_len head == uncompressed_len head) || not (24 + data_len head == size)
+    (if not (data_len head == uncompressed_len head) || not (header_len + data_len head == size)
     then Err InvalidHeader
     else checked_payload (version_in head) (stored_checksum head) kind
-    (slice_range body (offset + 24) (offset + size)))
+    (slice_range body (offset + header_len) (offset + size)))
 
 -- the same with the size that the header says
 unfoldable pub load_at_told : List ℕ → ℕ → BlockType → Result Loaded Error
 load_at_told body position kind =
-    let head = slice_range body position (position + 24) in
-    if nat_lt (length body) (position + 24) then Err Truncated
+    let head = slice_range body position (position + header_len) in
+    if nat_lt (length body) (position + header_len) then Err Truncated
     else unless (header_fault kind head)
     (if not (data_len head == uncompressed_len head) then Err InvalidHeader
-    else (if nat_lt (length body) (position + 24 + data_len head) then Err Truncated
+    else (if nat_lt (length body) (position + header_len + data_len head) then Err Truncated
     else checked_payload (version_in head) (stored_checksum head) kind
-    (slice_range body (position + 24) (position + 24 + data_len head))))
+    (slice_range body (position + header_len) (position + header_len + data_len head))))
 
 -- what a load finds wrong before it takes memory: too few bytes, the header, its lengths, the checksum; the first fault
 unfoldable pub place_fault : List ℕ → ℕ → ℕ → BlockType → Option Error
 place_fault body offset size kind =
-    let head = slice_range body offset (offset + 24) in
-    if nat_lt size 24 || nat_lt (length body) (offset + size) then Some Truncated
+    let head = slice_range body offset (offset + header_len) in
+    if nat_lt size header_len || nat_lt (length body) (offset + size) then Some Truncated
     else option_or (header_fault kind head)
-    (if not (data_len head == uncompressed_len head) || not (24 + data_len head == size)
+    (if not (data_len head == uncompressed_len head) || not (header_len + data_len head == size)
     then Some InvalidHeader
-    else checksum_fault (stored_checksum head) (slice_range body (offset + 24) (offset + size)))
+    else checksum_fault (stored_checksum head) (slice_range body (offset + header_len) (offset + size)))
 
 -- the same with the size that the header says
 unfoldable pub position_fault : List ℕ → ℕ → BlockType → Option Error
 position_fault body position kind =
-    let head = slice_range body position (position + 24) in
-    if nat_lt (length body) (position + 24) then Some Truncated
+    let head = slice_range body position (position + header_len) in
+    if nat_lt (length body) (position + header_len) then Some Truncated
     else option_or (header_fault kind head)
     (if not (data_len head == uncompressed_len head) then Some InvalidHeader
-    else (if nat_lt (length body) (position + 24 + data_len head) then Some Truncated
+    else (if nat_lt (length body) (position + header_len + data_len head) then Some Truncated
     else checksum_fault (stored_checksum head)
-    (slice_range body (position + 24) (position + 24 + data_len head))))
+    (slice_range body (position + header_len) (position + header_len + data_len head))))
 
 -- a block without its header
 abbrev pub loaded : TableVersion → BlockType → List ℕ → Loaded
@@ -141,7 +145,7 @@ loaded v kind payload = record { version = v; kind = kind; payload = payload }
 abbrev pub LoadsBack : TableVersion → BlockType → List ℕ → Type 0
 LoadsBack v kind payload =
     (front behind : List ℕ) → let body = front ++ block_bytes v kind payload ++ behind in
-    (load_told body (length front) (24 + length payload) kind ≡ Ok (loaded v kind payload))
+    (load_told body (length front) (header_len + length payload) kind ≡ Ok (loaded v kind payload))
     × (load_at_told body (length front) kind ≡ Ok (loaded v kind payload))
 
 -- the entries, and the handles, of a loaded block

@@ -33,14 +33,14 @@ unfoldable pub handles_payload : TableVersion → List Handle → List ℕ
 handles_payload v hs = le4 (length hs) ++ flat_map (handle_spelled v) hs
 
 -- what has a spelling
-pub record HandleFits (v : TableVersion) (h : Handle) : Type 0 where
+pub record IsSpellableHandle (v : TableVersion) (h : Handle) : Type 0 where
   pub number : h.seqno < 2 ^ 64
   pub offset : h.offset < 2 ^ 64
   pub size : h.size < 2 ^ 32
   pub key_len : length h.end_key < key_limit v
 
-abbrev pub HandlesFit : TableVersion → List Handle → Type 0
-HandlesFit v hs = (length hs < 2 ^ 32) × AllByRecursion (HandleFits v) hs
+abbrev pub AreSpellableHandles : TableVersion → List Handle → Type 0
+AreSpellableHandles v hs = (length hs < 2 ^ 32) × AllByRecursion (IsSpellableHandle v) hs
 
 -- the handle at the front of some bytes, and the bytes after it
 unfoldable pub handle_at : TableVersion → List ℕ → Option (Handle × List ℕ)

@@ -10,7 +10,6 @@ pub mod Encoding
 pub mod Opened
 pub mod SeenHandle
 pub mod Seen
-pub mod Ending
 pub mod Seeking
 pub mod Words
 pub use Rattle.sst_sections.specs.Number

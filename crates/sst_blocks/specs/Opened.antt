@@ -9,11 +9,11 @@ abbrev pub one_more : ℕ → ℕ
 one_more n = min (n + 1) (2 ^ 64 - 1)
 
 -- one more load of a kind
-abbrev pub counted : BlockType → Opened → Opened
-counted Data o = record o { data_loads = one_more o.data_loads }
-counted Index o = record o { index_loads = one_more o.index_loads }
-counted Filter o = record o { filter_loads = one_more o.filter_loads }
-counted Meta o = record o { meta_loads = one_more o.meta_loads }
+abbrev pub with_load : BlockType → Opened → Opened
+with_load Data o = record o { data_loads = one_more o.data_loads }
+with_load Index o = record o { index_loads = one_more o.index_loads }
+with_load Filter o = record o { filter_loads = one_more o.filter_loads }
+with_load Meta o = record o { meta_loads = one_more o.meta_loads }
 
 abbrev pub none_opened : Opened
 none_opened = record { data_loads = 0; index_loads = 0; filter_loads = 0; meta_loads = 0 }

@@ -22,10 +22,10 @@ unfoldable pub payload : TableVersion → List Entry → List ℕ
 payload v es = le4 (length es) ++ flat_map (spelled v) es
 
 -- what has a spelling
-pub record Fits (v : TableVersion) (e : Entry) : Type 0 where
+pub record IsSpellable (v : TableVersion) (e : Entry) : Type 0 where
   pub number : e.seqno < 2 ^ 64
   pub key_len : length e.user_key < key_limit v
   pub value_len : length e.value < 2 ^ 32
 
-abbrev pub AreFit : TableVersion → List Entry → Type 0
-AreFit v es = (length es < 2 ^ 32) × AllByRecursion (Fits v) es
+abbrev pub AreSpellable : TableVersion → List Entry → Type 0
+AreSpellable v es = (length es < 2 ^ 32) × AllByRecursion (IsSpellable v) es

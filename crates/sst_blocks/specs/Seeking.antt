@@ -2,19 +2,18 @@
 use Rattle.std.specs.Prelude.{◌≡◌, ℕ, Bool, true, List, length, min, max, not, Option, Some, None, Result}
 use Rattle.std.specs.declared.ops.Bound.{Bound}
 use Rattle.std.specs.declared.ops.Bound.TheVariants.{Unbounded}
-use Rattle.sst_blocks.specs.Ending.{EndsAtError}
+use Rattle.sst_entries.specs.Stream.{EndsAtError, Deals, ok_results, answer_stops}
 use Rattle.sst_blocks.specs.Handle.{Handle}
 use Rattle.sst_blocks.specs.Handles.{reaches, is_above, window}
 use Rattle.sst_entries.specs.declared.error.Error.{Error}
 use Rattle.sst_entries.specs.declared.error.Error.TheVariants.{OutOfMemory}
 use Rattle.sst_entries.specs.Entry.{Entry}
 use Rattle.sst_entries.specs.Point.{within}
-use Rattle.sst_entries.specs.Span.{Span, left_in, front_length}
-use Rattle.sst_entries.specs.Stream.{Deals, all_ok, stopped}
+use Rattle.sst_entries.specs.Span.{Span, rest_in, front_length}
 
 -- all of a list; without what stands before a place; without what stands from a place on
-abbrev pub whole : {X : Type 0} → List X → Span X
-whole xs = record { list = xs; from = 0; to = length xs }
+abbrev pub whole_span : {X : Type 0} → List X → Span X
+whole_span xs = record { list = xs; from = 0; to = length xs }
 
 abbrev pub span_from : {X : Type 0} → ℕ → Span X → Span X
 span_from n s = record s { from = max s.from n }
@@ -26,19 +25,19 @@ span_to n s = record s { to = min s.to n }
 pub record DealsLeft {X : Type 0} (front back : Span X → Option (Result X Error) → Span X → Type 0)
     (s : Span X) : Type 0 where
   pub deals : (stops : Error → Bool) → stops OutOfMemory ≡ true
-      → Deals (stopped stops) front back s (all_ok (left_in s))
+      → Deals (answer_stops stops) front back s (ok_results (rest_in s))
   pub ends : EndsAtError front back s
 
 -- of the entries within an upper edge, those within both edges are left; and the same of a lower edge
 abbrev pub KeepsUpper : Bound (List ℕ) → Span Entry → Span Entry → Type 0
 KeepsUpper low old new =
     (high : Bound (List ℕ)) (es : List Entry)
-    → left_in old ≡ within Unbounded high es → left_in new ≡ within low high es
+    → rest_in old ≡ within Unbounded high es → rest_in new ≡ within low high es
 
 abbrev pub KeepsLower : Bound (List ℕ) → Span Entry → Span Entry → Type 0
 KeepsLower high old new =
     (low : Bound (List ℕ)) (es : List Entry)
-    → left_in old ≡ within low Unbounded es → left_in new ≡ within low high es
+    → rest_in old ≡ within low Unbounded es → rest_in new ≡ within low high es
 
 -- how many handles stand before the first that reaches an edge, and before the first that ends above a key
 abbrev pub reaching_place : List ℕ × ℕ → List Handle → ℕ
@@ -51,9 +50,9 @@ above_place key hs = front_length (λ h. not (is_above key h)) hs
 abbrev pub KeepsUpperEdge : List ℕ × ℕ → Span Handle → Span Handle → Type 0
 KeepsUpperEdge edge old new =
     (key : Option (List ℕ)) (hs : List Handle)
-    → left_in old ≡ window hs None key → left_in new ≡ window hs (Some edge) key
+    → rest_in old ≡ window hs None key → rest_in new ≡ window hs (Some edge) key
 
 abbrev pub KeepsLowerEdge : List ℕ → Span Handle → Span Handle → Type 0
 KeepsLowerEdge key old new =
     (edge : Option (List ℕ × ℕ))
-    → left_in old ≡ window old.list edge None → left_in new ≡ window old.list edge (Some key)
+    → rest_in old ≡ window old.list edge None → rest_in new ≡ window old.list edge (Some key)

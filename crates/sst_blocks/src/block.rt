@@ -1,10 +1,10 @@
 //! Blocks: a checked payload of one kind.
 ghost use Rattle.std.specs.Prelude.{◌≡◌, ◌+◌, ◌++◌, ◌<◌, ◌^◌, List, Ok, length, IfOk, IfErr, OnOk, OnErr};
-ghost use Rattle.sst_blocks.specs.Words.{AreFit, AreStrictHandles, Entry, Faults, Gives, Handle};
-ghost use Rattle.sst_blocks.specs.Words.{HandlesFit, HoldsEntries, IsBlock, IsStrict, Loaded};
-ghost use Rattle.sst_blocks.specs.Words.{LoadsBack, block_bytes, entries_of, grammar_fault};
-ghost use Rattle.sst_blocks.specs.Words.{handles_of, handles_payload, is_filter, loaded, payload};
-ghost use Rattle.sst_blocks.specs.Words.{unless};
+ghost use Rattle.sst_blocks.specs.Words.{AreSpellable, AreSpellableHandles, AreStrictHandles};
+ghost use Rattle.sst_blocks.specs.Words.{Entry, Faults, Gives, Handle, HoldsEntries, IsBlock};
+ghost use Rattle.sst_blocks.specs.Words.{IsStrict, Loaded, LoadsBack, block_bytes, entries_of};
+ghost use Rattle.sst_blocks.specs.Words.{grammar_fault, handles_of, handles_payload, header_len};
+ghost use Rattle.sst_blocks.specs.Words.{is_filter, loaded, payload, unless};
 ghost use Rattle.sst_blocks.specs.declared.block_type.BlockType.{BlockType};
 ghost use Rattle.sst_blocks.specs.declared.block_type.BlockType.TheVariants.{Index};
 ghost use Rattle.sst_sections.specs.declared.version.TableVersion.{TableVersion};
@@ -142,10 +142,10 @@ impl<A: Allocator + Clone> Block<A> {
         kind: BlockType,
         compression: CompressionType,
     ) -> Result<BlockHandle, Error>
-        requires { length payload.now + 24 < 2 ^ 32 }
+        requires { length payload.now + header_len < 2 ^ 32 }
         ensures ok { let bytes = writer.old.bytes ++ block_bytes V4 kind payload.now in
             OnOk result (writer.new ≡ record writer.old { bytes = bytes }) }
-        ensures handle { let size = 24 + length payload.now in
+        ensures handle { let size = header_len + length payload.now in
             IfOk result (λ h. h ≡ record { offset = length writer.old.bytes; size = size }) }
         ensures unchanged { OnErr result (writer.new ≡ writer.old) }
         ensures err { IfErr result (λ e. e ≡ OutOfMemory) }
@@ -170,9 +170,9 @@ impl<A: Allocator + Clone> Block<A> {
 /// spell loads, by its handle and at its position, and holds the list. The call does nothing.
 pub fn written_blocks_load()
     ensures entries { (v : TableVersion) (kind : BlockType) (es : List Entry) → HoldsEntries kind →
-        IsStrict es → AreFit v es → length (payload v es) < 2 ^ 32 →
+        IsStrict es → AreSpellable v es → length (payload v es) < 2 ^ 32 →
         LoadsBack v kind (payload v es) × (entries_of (loaded v kind (payload v es)) ≡ es) }
     ensures handles { (v : TableVersion) (hs : List Handle) →
-        AreStrictHandles hs → HandlesFit v hs → length (handles_payload v hs) < 2 ^ 32 → LoadsBack v Index (handles_payload v hs)
+        AreStrictHandles hs → AreSpellableHandles v hs → length (handles_payload v hs) < 2 ^ 32 → LoadsBack v Index (handles_payload v hs)
         × (handles_of (loaded v Index (handles_payload v hs)) ≡ hs) }
 {}

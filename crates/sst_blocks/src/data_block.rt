@@ -3,12 +3,12 @@ ghost use Rattle.std.specs.Prelude.{◌≡◌, ℕ, ◌+◌, ◌++◌, ◌<◌, 
 ghost use Rattle.std.specs.List.{slice_get};
 ghost use Rattle.std.specs.List.Sorted.{IsPartitionedBy};
 ghost use Rattle.std.specs.Option.{option_map};
-ghost use Rattle.sst_blocks.specs.Words.{AreFit, CanDeal, Deals, EndsAtError, EntriesAt, Entry};
-ghost use Rattle.sst_blocks.specs.Words.{Faults, FaultsFirst, HoldsEntries, IsStrict, all_ok};
-ghost use Rattle.sst_blocks.specs.Words.{data_block_bound_of, entries_fault, entries_in};
-ghost use Rattle.sst_blocks.specs.Words.{entries_of, front_length, is_memory, key_and_number};
-ghost use Rattle.sst_blocks.specs.Words.{key_lt, payload};
-ghost use Rattle.sst_blocks.specs.Words.{point, seen, stopped, whole};
+ghost use Rattle.sst_blocks.specs.Words.{AreSpellable, CanDeal, Deals, EndsAtError, EntriesAt};
+ghost use Rattle.sst_blocks.specs.Words.{Entry, Faults, FaultsFirst, HoldsEntries, IsStrict};
+ghost use Rattle.sst_blocks.specs.Words.{answer_stops, data_block_bound_of, entries_fault};
+ghost use Rattle.sst_blocks.specs.Words.{entries_in, entries_of, entry_of_ref, front_length};
+ghost use Rattle.sst_blocks.specs.Words.{header_len, is_memory, key_and_number, key_lt, ok_results};
+ghost use Rattle.sst_blocks.specs.Words.{payload, point, whole_span};
 ghost use Rattle.sst_entries.specs.declared.error.Error.{Error};
 ghost use Rattle.sst_entries.specs.declared.error.Error.TheVariants.{OutOfMemory, InvalidBlock};
 ghost use Rattle.sst_sections.specs.declared.version.TableVersion.TheVariants.{V4};
@@ -147,10 +147,11 @@ impl<A: Allocator> DataBlock<A> {
         // What is found before anything is written takes no memory.
         ensures first { FaultsFirst result (entries_fault items.now) }
         // What was written spells the entries, and its block's length is the bound.
-        ensures fit { OnOk result (AreFit V4 items.now) }
+        ensures fit { OnOk result (AreSpellable V4 items.now) }
         ensures reads { OnOk result (entries_in V4 (payload V4 items.now) ≡ Some items.now) }
-        ensures bound { OnOk result (24 + length (payload V4 items.now) ≡ data_block_bound_of items.now) }
-        ensures short { OnOk result (24 + length (payload V4 items.now) < 2 ^ 32) }
+        ensures bound { let len = header_len + length (payload V4 items.now) in
+            OnOk result (len ≡ data_block_bound_of items.now) }
+        ensures short { OnOk result (header_len + length (payload V4 items.now) < 2 ^ 32) }
     {
         let _ = restart_interval;
         let _ = hash_ratio;
@@ -183,7 +184,7 @@ impl<A: Allocator> DataBlock<A> {
     #[inline(always)]
     fn entry_ref(&self, index: usize) -> EntryRef<'_>
         requires { index < length self.now }
-        ensures { slice_get self.now index ≡ Some (seen result) }
+        ensures { slice_get self.now index ≡ Some (entry_of_ref result) }
     {
         let start = self.starts.at(index);
         let bytes = self.payload.as_slice();
@@ -207,8 +208,8 @@ impl<A: Allocator> DataBlock<A> {
     // The entry that was read at a place. Its key and value share the block's memory.
     #[inline(always)]
     fn share(&self, index: usize, entry: &EntryRef<'_>) -> Result<InternalValue<A>, Error>
-        requires { slice_get self.now index ≡ Some (seen entry.now) }
-        ensures found { IfOk result (λ e. e ≡ seen entry.now) }
+        requires { slice_get self.now index ≡ Some (entry_of_ref entry.now) }
+        ensures found { IfOk result (λ e. e ≡ entry_of_ref entry.now) }
         ensures err { IfErr result (λ e. e ≡ OutOfMemory) }
     {
         let start = self.starts.at(index);
@@ -275,10 +276,10 @@ impl<A: Allocator> DataBlock<A> {
 
     /// The entries, from both ends.
     pub fn iter<'a>(&'a self) -> Iter<'a, A>
-        ensures span { result ≡ whole self.now }
+        ensures span { result ≡ whole_span self.now }
         ensures deals { (stops : Error → Bool) → stops OutOfMemory ≡ true →
-            Deals (stopped stops) ⟦<Iter<'a, A> as Iterator>⟧.next_gives
-            ⟦<Iter<'a, A> as DoubleEndedIterator>⟧.next_back_gives result (all_ok self.now) }
+            Deals (answer_stops stops) ⟦<Iter<'a, A> as Iterator>⟧.next_gives
+            ⟦<Iter<'a, A> as DoubleEndedIterator>⟧.next_back_gives result (ok_results self.now) }
         ensures can { CanDeal ⟦<Iter<'a, A> as Iterator>⟧.next_gives
             ⟦<Iter<'a, A> as DoubleEndedIterator>⟧.next_back_gives
             ⟦<Iter<'a, A> as Iterator>⟧.can_next

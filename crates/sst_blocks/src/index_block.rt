@@ -3,10 +3,10 @@ ghost use Rattle.std.specs.Prelude.{◌≡◌, ◌+◌, ◌++◌, ◌<◌, ◌^�
 ghost use Rattle.std.specs.List.{slice_get};
 ghost use Rattle.std.specs.Option.{option_map};
 ghost use Rattle.sst_blocks.specs.Words.{AreStrictHandles, CanDeal, Deals, EndsAtError, Faults};
-ghost use Rattle.sst_blocks.specs.Words.{FaultsFirst, HandlesFit, all_ok, end_of, front_length};
-ghost use Rattle.sst_blocks.specs.Words.{handles_fault, handles_in, handles_of, handles_payload};
+ghost use Rattle.sst_blocks.specs.Words.{FaultsFirst, AreSpellableHandles, ok_results, end_of, front_length};
+ghost use Rattle.sst_blocks.specs.Words.{handles_fault, handles_in, handles_of, handles_payload, header_len};
 ghost use Rattle.sst_blocks.specs.Words.{index_block_bound_of, is_above, key_and_number, place_of};
-ghost use Rattle.sst_blocks.specs.Words.{reaches, seen_handle, stopped, whole};
+ghost use Rattle.sst_blocks.specs.Words.{reaches, handle_of_ref, answer_stops, whole_span};
 ghost use Rattle.sst_entries.specs.declared.error.Error.{Error};
 ghost use Rattle.sst_blocks.specs.declared.block_type.BlockType.TheVariants.{Index};
 ghost use Rattle.sst_entries.specs.declared.error.Error.TheVariants.{OutOfMemory};
@@ -108,7 +108,7 @@ impl<A: Allocator> IndexBlock<A> {
     #[inline(always)]
     fn handle_ref(&self, index: usize) -> HandleRef<'_>
         requires { index < length self.now }
-        ensures { slice_get self.now index ≡ Some (seen_handle result) }
+        ensures { slice_get self.now index ≡ Some (handle_of_ref result) }
     {
         let start = self.starts.at(index);
         let bytes = self.payload.as_slice();
@@ -188,10 +188,10 @@ impl<A: Allocator> IndexBlock<A> {
 
     /// The handles, from both ends.
     pub fn iter<'a>(&'a self) -> Iter<'a, A>
-        ensures span { result ≡ whole self.now }
+        ensures span { result ≡ whole_span self.now }
         ensures deals { (stops : Error → Bool) → stops OutOfMemory ≡ true →
-            Deals (stopped stops) ⟦<Iter<'a, A> as Iterator>⟧.next_gives
-            ⟦<Iter<'a, A> as DoubleEndedIterator>⟧.next_back_gives result (all_ok self.now) }
+            Deals (answer_stops stops) ⟦<Iter<'a, A> as Iterator>⟧.next_gives
+            ⟦<Iter<'a, A> as DoubleEndedIterator>⟧.next_back_gives result (ok_results self.now) }
         ensures can { CanDeal ⟦<Iter<'a, A> as Iterator>⟧.next_gives
             ⟦<Iter<'a, A> as DoubleEndedIterator>⟧.next_back_gives
             ⟦<Iter<'a, A> as Iterator>⟧.can_next
@@ -214,11 +214,13 @@ impl<A: Allocator> IndexBlock<A> {
         // What is found before anything is written takes no memory.
         ensures first { FaultsFirst result (handles_fault handles.now) }
         // What was written spells the handles, and its block's length is the bound.
-        ensures fit { OnOk result (HandlesFit V4 handles.now) }
-        ensures reads { OnOk result (handles_in V4 (handles_payload V4 handles.now) ≡ Some handles.now) }
-        ensures bound { let len = 24 + length (handles_payload V4 handles.now) in
+        ensures fit { OnOk result (AreSpellableHandles V4 handles.now) }
+        ensures reads { OnOk result (handles_in V4 (handles_payload V4 handles.now) ≡
+            Some handles.now) }
+        ensures bound { let len = header_len + length (handles_payload V4 handles.now) in
             OnOk result (len ≡ index_block_bound_of handles.now) }
-        ensures short { OnOk result (24 + length (handles_payload V4 handles.now) < 2 ^ 32) }
+        ensures short { OnOk result (header_len + length (handles_payload V4 handles.now) < 2 ^
+            32) }
     {
         let len = block_len(handles)?;
         let start = buf.len();

@@ -17,7 +17,7 @@ pub struct Opened {
 }
 
 impl Opened {
-    ghost use Rattle.sst_blocks.specs.Opened.{counted, none_opened};
+    ghost use Rattle.sst_blocks.specs.Opened.{with_load, none_opened};
 
     /// No loads.
     pub fn none() -> Opened
@@ -33,7 +33,7 @@ impl Opened {
 
     /// Counts one load of a kind.
     pub fn count(&mut self, kind: BlockType)
-        ensures { self.new ≡ counted kind self.old }
+        ensures { self.new ≡ with_load kind self.old }
     {
         match kind {
             BlockType::Data => self.data_loads = self.data_loads.saturating_add(1),

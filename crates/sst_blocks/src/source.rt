@@ -1,8 +1,9 @@
 //! The only way to the blocks of a table's bytes.
 ghost use Rattle.std.specs.Prelude.{◌≡◌, ◌+◌, ◌<◌, ◌≤◌, ◌^◌, List, ℕ, length, map, slice_range, IfOk, None};
+ghost use Rattle.sst_blocks.specs.Block.{header_len};
 ghost use Rattle.sst_blocks.specs.Block.{checked_payload, checksum_fault, load_told, load_at_told, place_fault, position_fault, Loaded};
 ghost use Rattle.sst_entries.specs.Error.{Gives, Refuses, FaultsFirst};
-ghost use Rattle.sst_blocks.specs.Opened.{counted, none_opened};
+ghost use Rattle.sst_blocks.specs.Opened.{with_load, none_opened};
 ghost use Rattle.sst_sections.specs.Sections.{body_of, section_in, section_names, trailer_fault};
 ghost use Rattle.sst_blocks.specs.declared.opened.Opened.{Opened};
 
@@ -86,7 +87,7 @@ impl<A: Allocator + Clone> BlockSource<A> {
         // What is found up to the checksum takes no memory.
         ensures first { let body = body_of self.now in
             FaultsFirst result (place_fault body handle.now.offset handle.now.size kind) }
-        ensures counted { opened.new ≡ counted kind opened.old }
+        ensures counted { opened.new ≡ with_load kind opened.old }
     {
         opened.count(kind);
         let body = self.body();
@@ -117,11 +118,12 @@ impl<A: Allocator + Clone> BlockSource<A> {
         kind: BlockType,
         opened: &mut Opened,
     ) -> Result<Block<A>, Error>
-        ensures told { Gives (λ (b : Loaded). b) result (load_at_told (body_of self.now) position kind) }
+        ensures told { let told = load_at_told (body_of self.now) position kind in
+            Gives (λ (b : Loaded). b) result told }
         ensures first { FaultsFirst result (position_fault (body_of self.now) position kind) }
         // A block ends within memory.
-        ensures within { IfOk result (λ b. position + 24 + length b.payload < 2 ^ 63) }
-        ensures counted { opened.new ≡ counted kind opened.old }
+        ensures within { IfOk result (λ b. position + header_len + length b.payload < 2 ^ 63) }
+        ensures counted { opened.new ≡ with_load kind opened.old }
     {
         opened.count(kind);
         let body = self.body();
@@ -182,7 +184,7 @@ pub trait LoadBlocks {
     ghost use Rattle.std.specs.Prelude.{◌≡◌, List, ℕ};
     ghost use Rattle.sst_blocks.specs.Block.{load_told, place_fault, Loaded};
     ghost use Rattle.sst_entries.specs.Error.{Gives, FaultsFirst};
-    ghost use Rattle.sst_blocks.specs.Opened.{counted};
+    ghost use Rattle.sst_blocks.specs.Opened.{with_load};
     ghost use Rattle.sst_blocks.specs.declared.opened.Opened.{Opened};
 
     /// The allocator of the blocks.
@@ -203,7 +205,7 @@ pub trait LoadBlocks {
         ensures first { let bytes = body self.old in
             FaultsFirst result (place_fault bytes handle.now.offset handle.now.size kind) }
         ensures body { body self.new ≡ body self.old }
-        ensures counted { opened self.new ≡ counted kind (opened self.old) };
+        ensures counted { opened self.new ≡ with_load kind (opened self.old) };
 }
 
 /// A [`BlockSource`] that counts its loads.

@@ -9,9 +9,9 @@ use Rattle.std.specs.Cmp.Rules.{comparing}
 use Rattle.std.specs.Cmp.Lexicographic.{slice_cmp, nat_list_cmp_total, same_text, texts_ties}
 use Rattle.sst_entries.specs.Entry.{Entry}
 use Rattle.sst_entries.specs.Key.{key_lt}
-use Rattle.sst_entries.specs.Strict.{number_cmp, is_before, IsStrictAfter}
+use Rattle.sst_entries.specs.Strict.{version_cmp, is_before, IsStrictAfter}
 
-pub number_total : IsTotalOrder number_cmp
+pub number_total : IsTotalOrder version_cmp
 number_total = search (comparing, rules)
 
 pub less_of : (o : Ordering) → is_lt o ≡ true → o ≡ Less
@@ -41,7 +41,7 @@ lt_trans a b c p q = ap is_lt (nat_list_cmp_total.trans a b c (less_of (slice_cm
 -- ---- entries
 
 pub before_trans : (a b c : Entry) → is_before a b ≡ true → is_before b c ≡ true → is_before a c ≡ true
-before_trans a b c p q = ap is_lt (number_total.trans a b c (less_of (number_cmp a b) p) (less_of (number_cmp b c) q))
+before_trans a b c p q = ap is_lt (number_total.trans a b c (less_of (version_cmp a b) p) (less_of (version_cmp b c) q))
 
 -- what may stand before a strict list comes before each of it
 pub head_before : (x : Entry) (es : List Entry) (j : ℕ) (d : Entry) → IsStrictAfter (Some x) es → j < length es → is_before x (get_or es j d) ≡ true

@@ -6,7 +6,7 @@ use Rattle.sst_entries.specs.declared.stream.Direction.{Direction}
 use Rattle.sst_entries.specs.declared.stream.Direction.TheVariants.{Front, Back}
 use Rattle.sst_entries.specs.declared.error.Error.{Error}
 use Rattle.sst_entries.specs.Entry.{Entry}
-use Rattle.sst_entries.specs.Stream.{all_ok, first, but_first, last, but_last, deal, NoneStops, Steps, Runs, Deals, CanDeal}
+use Rattle.sst_entries.specs.Stream.{ok_results, first, but_first, last, but_last, deal, NoneStops, Steps, Runs, Deals, CanDeal}
 
 -- the head and the tail of an equation of lists
 pub head_eq : {A : Type 0} {x y : A} {xs ys : List A} → x ∷ xs ≡ y ∷ ys → x ≡ y
@@ -90,10 +90,10 @@ runs_more front back e r t u step (d ∷ ends) [] s runs = absurd runs
 runs_more front back e r t u step (d ∷ ends) (q ∷ rs) s runs = (runs.0, runs.1, runs_more front back e r t u step ends rs runs.0 runs.2)
 
 -- entries of a list that holds no error
-pub map_append : (xs ys : List Entry) → all_ok (xs ++ ys) ≡ all_ok xs ++ all_ok ys
+pub map_append : (xs ys : List Entry) → ok_results (xs ++ ys) ≡ ok_results xs ++ ok_results ys
 map_append [] ys = refl
 map_append (x ∷ xs) ys = ap (λ (zs : List (Result Entry Error)). Ok x ∷ zs) (map_append xs ys)
 
-pub map_reverse : (xs : List Entry) → reverse (all_ok xs) ≡ all_ok (reverse xs)
+pub map_reverse : (xs : List Entry) → reverse (ok_results xs) ≡ ok_results (reverse xs)
 map_reverse [] = refl
-map_reverse (x ∷ xs) = reverse-append (Ok x ∷ []) (all_ok xs) ∙ ap (λ (zs : List (Result Entry Error)). zs ++ Ok x ∷ []) (map_reverse xs) ∙ sym (ap all_ok (reverse-append (x ∷ []) xs) ∙ map_append (reverse xs) (x ∷ []))
+map_reverse (x ∷ xs) = reverse-append (Ok x ∷ []) (ok_results xs) ∙ ap (λ (zs : List (Result Entry Error)). zs ++ Ok x ∷ []) (map_reverse xs) ∙ sym (ap ok_results (reverse-append (x ∷ []) xs) ∙ map_append (reverse xs) (x ∷ []))

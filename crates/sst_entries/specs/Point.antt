@@ -16,8 +16,8 @@ unfoldable pub point : List Entry → List ℕ → ℕ → Option Entry
 point es key bound = find (is_hit key bound) es
 
 -- the place in the order at which a read of a key at a bound stands
-abbrev pub bound_of : List ℕ → ℕ → Entry
-bound_of key bound = entry key [] bound Value
+abbrev pub read_place : List ℕ → ℕ → Entry
+read_place key bound = entry key [] bound Value
 
 -- the key stands within a lower edge, and within an upper one
 abbrev pub is_from : Bound (List ℕ) → List ℕ → Bool

@@ -1,5 +1,6 @@
 -- A source stands for the list that it still deals, from the front by `next` and from the back by `next_back`.
 use Rattle.std.specs.Prelude.{◌≡◌, ℕ, ◌<◌, Bool, false, List, [], ◌∷◌, map, reverse, take, Option, Some, None, MatchOption, Result, Ok, Err}
+use Rattle.std.specs.List.{AllByRecursion}
 use Rattle.sst_entries.specs.declared.stream.Direction.{Direction}
 use Rattle.sst_entries.specs.declared.stream.Direction.TheVariants.{Front, Back}
 use Rattle.sst_entries.specs.declared.error.Error.{Error}
@@ -36,17 +37,17 @@ abbrev pub never : {A : Type 0} → Option A → Bool
 never r = false
 
 -- the errors at which a source of results is no longer followed
-abbrev pub stopped_result : {X : Type 0} → (Error → Bool) → Result X Error → Bool
-stopped_result stops (Ok x) = false
-stopped_result stops (Err e) = stops e
+abbrev pub result_stops : {X : Type 0} → (Error → Bool) → Result X Error → Bool
+result_stops stops (Ok x) = false
+result_stops stops (Err e) = stops e
 
-abbrev pub stopped : {X : Type 0} → (Error → Bool) → Option (Result X Error) → Bool
-stopped stops None = false
-stopped stops (Some r) = stopped_result stops r
+abbrev pub answer_stops : {X : Type 0} → (Error → Bool) → Option (Result X Error) → Bool
+answer_stops stops None = false
+answer_stops stops (Some r) = result_stops stops r
 
 -- results without errors
-abbrev pub all_ok : {X : Type 0} → List X → List (Result X Error)
-all_ok xs = map (λ x. Ok x) xs
+abbrev pub ok_results : {X : Type 0} → List X → List (Result X Error)
+ok_results xs = map (λ x. Ok x) xs
 
 module _ {S A : Type 0} (front back : S → Option A → S → Type 0) where
   -- one call, at an end
@@ -82,11 +83,11 @@ nowhere s r t = ⊥
 
 -- a call gave the first of what was left
 abbrev pub DealsFirst : (Error → Bool) → {T X : Type 0} → (T → List (Result X Error) → Type 0) → T → Option (Result X Error) → T → Type 0
-DealsFirst stops {X = X} Has s r t = (xs : List (Result X Error)) → Has s xs → stopped stops r ≡ false → (r ≡ first xs) × Has t (but_first xs)
+DealsFirst stops {X = X} Has s r t = (xs : List (Result X Error)) → Has s xs → answer_stops stops r ≡ false → (r ≡ first xs) × Has t (but_first xs)
 
 -- a call gave the last of what was left
 abbrev pub DealsLast : (Error → Bool) → {T X : Type 0} → (T → List (Result X Error) → Type 0) → T → Option (Result X Error) → T → Type 0
-DealsLast stops {X = X} Has s r t = (xs : List (Result X Error)) → Has s xs → stopped stops r ≡ false → (r ≡ last xs) × Has t (but_last xs)
+DealsLast stops {X = X} Has s r t = (xs : List (Result X Error)) → Has s xs → answer_stops stops r ≡ false → (r ≡ last xs) × Has t (but_last xs)
 
 -- an item lowers the number of those that may come, and none comes after `None`
 abbrev pub Lowers : {A : Type 0} → Option A → ℕ → ℕ → Type 0
@@ -102,14 +103,27 @@ back_of xs = (last xs, but_last xs)
 -- one call of a stream: it may be called again, and where s stands for xs, the answer is that of a step on xs and t stands for what the step leaves, up to an error that stops it
 pub record Answers {T X : Type 0} (May : T → Type 0) (Has : (Error → Bool) → T → List (Result X Error) → Type 0) (stepped : List (Result X Error) → Option (Result X Error) × List (Result X Error)) (s : T) (r : Option (Result X Error)) (t : T) : Type 0 where
   pub may : May t
-  pub gives : (stops : Error → Bool) (xs : List (Result X Error)) → Has stops s xs → stopped stops r ≡ false → (r ≡ (stepped xs).0) × Has stops t (stepped xs).1
+  pub gives : (stops : Error → Bool) (xs : List (Result X Error)) → Has stops s xs → answer_stops stops r ≡ false → (r ≡ (stepped xs).0) × Has stops t (stepped xs).1
 
 -- answers to calls at these ends are those that the source's list deals, up to an error that stops it
 abbrev pub AnswersOf : {S X : Type 0} (front back : S → Option (Result X Error) → S → Type 0) → S → List Direction → List (Option (Result X Error)) → Type 0
 AnswersOf {X = X} front back s ends rs =
-    (stops : Error → Bool) (xs : List (Result X Error)) → Deals (stopped stops) front back s xs → NoneStops (stopped stops) rs → rs ≡ deal xs ends
+    (stops : Error → Bool) (xs : List (Result X Error)) → Deals (answer_stops stops) front back s xs → NoneStops (answer_stops stops) rs → rs ≡ deal xs ends
 
 -- what the source deals from both ends, it deals from the front
 abbrev pub DealsInFront : {S X : Type 0} (front back : S → Option (Result X Error) → S → Type 0) → S → Type 0
 DealsInFront {X = X} front back s =
-    (stops : Error → Bool) (xs : List (Result X Error)) → Deals (stopped stops) front back s xs → Deals (stopped stops) front nowhere s xs
+    (stops : Error → Bool) (xs : List (Result X Error)) → Deals (answer_stops stops) front back s xs → Deals (answer_stops stops) front nowhere s xs
+
+-- behind the first error stands `None` alone
+abbrev pub EndAtError : {X : Type 0} → List (Option (Result X Error)) → Type 0
+EndAtError [] = Unit {0}
+EndAtError (None ∷ rs) = EndAtError rs
+EndAtError (Some (Ok x) ∷ rs) = EndAtError rs
+EndAtError (Some (Err e) ∷ rs) = AllByRecursion (λ r. r ≡ None) rs
+
+-- at whatever ends it is asked, a stream that answered an error answers `None` from then on
+pub record EndsAtError {S X : Type 0} (front back : S → Option (Result X Error) → S → Type 0)
+    (s : S) : Type 0 where
+  pub answers : (ends : List Direction) (rs : List (Option (Result X Error))) (t : S)
+      → Runs front back s ends rs t → EndAtError rs

@@ -6,11 +6,11 @@ use Rattle.std.specs.Ordering.{nat_cmp, on, flip_args, then_cmp, is_lt}
 use Rattle.sst_entries.specs.Entry.{Entry}
 
 -- by key and number alone
-abbrev pub number_cmp : Entry → Entry → Ordering
-number_cmp = then_cmp (on (λ (e : Entry). e.user_key) (slice_cmp nat_cmp)) (flip_args (on (λ (e : Entry). e.seqno) nat_cmp))
+abbrev pub version_cmp : Entry → Entry → Ordering
+version_cmp = then_cmp (on (λ (e : Entry). e.user_key) (slice_cmp nat_cmp)) (flip_args (on (λ (e : Entry). e.seqno) nat_cmp))
 
 abbrev pub is_before : Entry → Entry → Bool
-is_before a b = is_lt (number_cmp a b)
+is_before a b = is_lt (version_cmp a b)
 
 -- an entry may follow what may be the entry before it
 abbrev pub may_follow : Option Entry → Entry → Bool

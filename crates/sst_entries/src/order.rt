@@ -1,7 +1,7 @@
 //! The order of entries by key and number alone.
 ghost use Rattle.std.specs.Prelude.{◌≡◌, IsTrue, ◌↔◌, None};
-ghost use Rattle.sst_entries.specs.Point.{bound_of};
-ghost use Rattle.sst_entries.specs.Strict.{IsStrict, is_strict_after, number_cmp};
+ghost use Rattle.sst_entries.specs.Point.{read_place};
+ghost use Rattle.sst_entries.specs.Strict.{IsStrict, is_strict_after, version_cmp};
 
 use crate::{InternalValue, SeqNo};
 use std::alloc::Allocator;
@@ -10,7 +10,8 @@ use std::cmp::Ordering;
 /// Compares two versions of keys: by key upward, then by number downward. Kind and value are not looked at.
 #[inline]
 pub fn compare_versions(key: &[u8], seqno: SeqNo, other_key: &[u8], other_seqno: SeqNo) -> Ordering
-    ensures { result ≡ number_cmp (bound_of key.now seqno) (bound_of other_key.now other_seqno) }
+    ensures { result ≡ version_cmp (read_place key.now seqno)
+        (read_place other_key.now other_seqno) }
 {
     key.cmp(other_key).then(other_seqno.cmp(&seqno))
 }

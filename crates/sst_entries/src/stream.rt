@@ -1,6 +1,6 @@
 //! Streams of results that are taken from both ends.
 ghost use Rattle.std.specs.Prelude.{Bool, IfOk, OnErr};
-ghost use Rattle.sst_entries.specs.Stream.{AnswersOf, CanDeal, Deals, DealsInFront, LedBy, Runs, Steps, nowhere, stopped};
+ghost use Rattle.sst_entries.specs.Stream.{AnswersOf, CanDeal, Deals, DealsInFront, LedBy, Runs, Steps, nowhere, answer_stops};
 ghost use Rattle.sst_entries.specs.declared.error.Error.{Error};
 
 use crate::{Error, InternalValue};
@@ -62,7 +62,7 @@ pub fn answers_at<I: DoubleEndedIterator<Item = Result<X, Error>>, X: Drop, A: A
 pub fn source_of<X: Drop, A: Allocator>(
     items: Vec<Result<X, Error>, A>,
 ) -> std::vec::IntoIter<Result<X, Error>, A>
-    ensures { (stops : Error → Bool) → Deals (stopped stops)
+    ensures { (stops : Error → Bool) → Deals (answer_stops stops)
         ⟦<std::vec::IntoIter<Result<X, Error>, A> as Iterator>⟧.next_gives
         ⟦<std::vec::IntoIter<Result<X, Error>, A> as DoubleEndedIterator>⟧.next_back_gives
         result items.items }

@@ -10,7 +10,7 @@ use Rattle.sst_sections.specs.declared.section.SectionName.{SectionName}
 use Rattle.sst_sections.specs.declared.section.SectionName.TheVariants.{Data, Index, Tli, Filter, FilterTli, TableVersion, Meta}
 use Rattle.sst_sections.specs.declared.section.Section.{Section}
 use Rattle.sst_sections.specs.Number.{le8, num8}
-use Rattle.sst_sections.specs.Sections.{Written, section_names, place_of, trailer_mark, next_start, section_of, AreAscending, slot, trailer, finished, body_of, trailer_of, section_at, section_in, is_past, trailer_fault, ReadsBack}
+use Rattle.sst_sections.specs.Sections.{Written, section_names, slot_index, trailer_mark, next_start, section_of, AreAscending, slot, trailer, finished, body_of, trailer_of, section_at, section_in, is_past, trailer_fault, ReadsBack}
 use Rattle.sst_sections.proofs.Numbers.{wide8}
 use Rattle.sst_sections.proofs.TrailerLemmas.{trailer_fine}
 
@@ -28,7 +28,7 @@ section_of-within end [] name asc = tt
 section_of-within end (s ∷ ss) name asc =
     let next = next_within end ss asc.1 in
     let here : s.1 + (next_start end ss - s.1) ≤ end = omega (arith, asc.0) in
-    elim (place_of s.0 == place_of name) as (λ (b : Bool). Within end (if b then Some (record { position = s.1; len = next_start end ss - s.1 }) else section_of end ss name)) [
+    elim (slot_index s.0 == slot_index name) as (λ (b : Bool). Within end (if b then Some (record { position = s.1; len = next_start end ss - s.1 }) else section_of end ss name)) [
       | true ↦ here
       | false ↦ section_of-within end ss name asc.1
     ]
@@ -128,7 +128,7 @@ finished_trailer : (w : Written) → trailer_of (finished w) ≡ trailer w
 finished_trailer w =
     ap (λ (n : ℕ). drop n (finished w)) (length_both w.bytes (trailer w) 120 (trailer_length w)) ∙ drop_at w.bytes (trailer w) (length w.bytes) refl
 
-name_at : (name : SectionName) → get_or section_names (place_of name) Data ≡ name
+name_at : (name : SectionName) → get_or section_names (slot_index name) Data ≡ name
 name_at Data = refl
 name_at Index = refl
 name_at Tli = refl
@@ -137,7 +137,7 @@ name_at FilterTli = refl
 name_at TableVersion = refl
 name_at Meta = refl
 
-place_lt : (name : SectionName) → place_of name < length section_names
+place_lt : (name : SectionName) → slot_index name < length section_names
 place_lt Data = omega arith
 place_lt Index = omega arith
 place_lt Tli = omega arith
@@ -151,8 +151,8 @@ pub finished_section : (w : Written) (name : SectionName) → length w.bytes < 2
 unfolding section_in
 finished_section w name small asc =
     let told : SectionName → Option Section = λ name. section_of (length w.bytes) w.started name in
-    let place = slots_from told section_names trailer_mark (place_of name) Data (place_lt name) in
-    ap (λ (cells : List ℕ). section_at (drop (16 * place_of name) cells)) (finished_trailer w)
+    let place = slots_from told section_names trailer_mark (slot_index name) Data (place_lt name) in
+    ap (λ (cells : List ℕ). section_at (drop (16 * slot_index name) cells)) (finished_trailer w)
     ∙ ap (λ (cells : List ℕ). section_at cells) (place.1 ∙ ap (λ (n : SectionName). slot (told n) ++ place.0) (name_at name))
     ∙ slot_reads (length w.bytes) (told name) place.0 small (section_of-within (length w.bytes) w.started name asc)
 

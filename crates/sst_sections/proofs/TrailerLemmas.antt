@@ -5,12 +5,12 @@ use Rattle.std.specs.List.{list_any}
 use Rattle.std.specs.Cmp.Lexicographic.{pointwise}
 use Rattle.std.proofs.lemmas.List.{length-take}
 use Rattle.sst_entries.specs.declared.error.Error.TheVariants.{InvalidTrailer}
-use Rattle.sst_sections.specs.Sections.{section_names, place_of, trailer_mark, trailer_of, body_of, section_at, section_in, is_past, trailer_fault}
+use Rattle.sst_sections.specs.Sections.{section_names, slot_index, trailer_mark, trailer_of, body_of, section_at, section_in, is_past, trailer_fault}
 
 -- the seven slots of a trailer
-pub sections_read : (bytes cells : List ℕ) → cells ≡ trailer_of bytes → map (λ name. section_at (drop (16 * place_of name) cells)) section_names ≡ map (section_in bytes) section_names
+pub sections_read : (bytes cells : List ℕ) → cells ≡ trailer_of bytes → map (λ name. section_at (drop (16 * slot_index name) cells)) section_names ≡ map (section_in bytes) section_names
 unfolding section_in
-sections_read bytes cells e = ap (λ (cells : List ℕ). map (λ name. section_at (drop (16 * place_of name) cells)) section_names) e
+sections_read bytes cells e = ap (λ (cells : List ℕ). map (λ name. section_at (drop (16 * slot_index name) cells)) section_names) e
 
 body_length : (bytes : List ℕ) → length (body_of bytes) ≡ length bytes - 120
 body_length bytes = omega (arith, length-take (length bytes - 120) bytes)

@@ -14,14 +14,14 @@ abbrev pub section_names : List SectionName
 section_names = Data ∷ Index ∷ Tli ∷ Filter ∷ FilterTli ∷ TableVersion ∷ Meta ∷ []
 
 -- a section's place in that order
-abbrev pub place_of : SectionName → ℕ
-place_of Data = 0
-place_of Index = 1
-place_of Tli = 2
-place_of Filter = 3
-place_of FilterTli = 4
-place_of TableVersion = 5
-place_of Meta = 6
+abbrev pub slot_index : SectionName → ℕ
+slot_index Data = 0
+slot_index Index = 1
+slot_index Tli = 2
+slot_index Filter = 3
+slot_index FilterTli = 4
+slot_index TableVersion = 5
+slot_index Meta = 6
 
 -- the length of a trailer in bytes, and of the seven slots of sixteen at its front
 abbrev pub trailer_len : ℕ
@@ -48,7 +48,7 @@ next_start end (s ∷ ss) = s.1
 abbrev pub section_of : ℕ → List (SectionName × ℕ) → SectionName → Option Section
 section_of end [] name = None
 section_of end (s ∷ ss) name =
-    if place_of s.0 == place_of name
+    if slot_index s.0 == slot_index name
     then Some (record { position = s.1; len = next_start end ss - s.1 })
     else section_of end ss name
 
@@ -86,7 +86,7 @@ section_at cells =
 
 -- what a table's bytes say of a section
 unfoldable pub section_in : List ℕ → SectionName → Option Section
-section_in bytes name = section_at (drop (16 * place_of name) (trailer_of bytes))
+section_in bytes name = section_at (drop (16 * slot_index name) (trailer_of bytes))
 
 -- a section that passes the end of the body
 abbrev pub is_past : ℕ → Option Section → Bool

@@ -3,7 +3,7 @@ ghost use Rattle.std.specs.Prelude.{◌≡◌, ◌++◌, ◌∷◌, [], ℕ, ◌
 ghost use Rattle.std.specs.List.{flat_map};
 ghost use Rattle.sst_sections.specs.Fnv.{fnv1a};
 ghost use Rattle.sst_sections.specs.Number.{le8};
-ghost use Rattle.sst_sections.specs.Sections.{AreAscending, ReadsBack, Written, finished, place_of, section_names, section_of, slot, trailer_mark};
+ghost use Rattle.sst_sections.specs.Sections.{AreAscending, ReadsBack, Written, finished, slot_index, section_names, section_of, slot, trailer_mark};
 ghost use Rattle.sst_entries.specs.declared.error.Error.TheVariants.{OutOfMemory};
 
 use crate::fnv::{Fnv1a, update_both};
@@ -34,7 +34,7 @@ pub enum SectionName {
 impl SectionName {
     /// The section's place in the trailer.
     pub fn place(self) -> usize
-        ensures { result ≡ place_of self }
+        ensures { result ≡ slot_index self }
     {
         self as usize
     }
@@ -108,7 +108,7 @@ impl<A: Allocator + Clone> SectionWriter<A> {
     /// Begins a section at the position reached. Refused [`Error::OutOfMemory`]; nothing changes then.
     #[tactic(auto, using(crate::proofs::SectionLaws::ascending_start))]
     pub fn start(&mut self, name: SectionName) -> Result<(), Error>
-        requires { All (λ s. place_of s.0 ≡ place_of name → ⊥) self.old.started }
+        requires { All (λ s. slot_index s.0 ≡ slot_index name → ⊥) self.old.started }
         ensures ok { let started = self.old.started ++ (name, length self.old.bytes) ∷ [] in
             OnOk result (self.new ≡ record self.old { started = started }) }
         ensures unchanged { OnErr result (self.new ≡ self.old) }
@@ -121,7 +121,8 @@ impl<A: Allocator + Clone> SectionWriter<A> {
 
     /// Writes bytes at the end. Refused [`Error::OutOfMemory`]; nothing changes then.
     pub fn append(&mut self, bytes: &[u8]) -> Result<(), Error>
-        ensures ok { OnOk result (self.new ≡ record self.old { bytes = self.old.bytes ++ bytes.now }) }
+        ensures ok { let longer = self.old.bytes ++ bytes.now in
+            OnOk result (self.new ≡ record self.old { bytes = longer }) }
         ensures unchanged { OnErr result (self.new ≡ self.old) }
         ensures err { IfErr result (λ e. e ≡ OutOfMemory) }
     {
@@ -231,7 +232,8 @@ fn put_trailer<A: Allocator>(
     end: u64,
     started: &[(SectionName, u64)],
 ) -> Result<(), Error>
-    ensures ok { let slots = flat_map (λ name. slot (section_of end started.now name)) section_names in
+    ensures ok { let at = section_of end started.now in
+        let slots = flat_map (λ name. slot (at name)) section_names in
         OnOk result (bytes.new.items ≡ bytes.old.items ++ (slots ++ trailer_mark)) }
     ensures err { IfErr result (λ e. e ≡ OutOfMemory) }
 {

@@ -2,7 +2,7 @@
 ghost use Rattle.std.specs.Prelude.{◌≡◌, ◌*◌, ◌≤◌, None, Some, drop, length, map, slice_index_or, IfOk};
 ghost use Rattle.std.specs.List.{list_any};
 ghost use Rattle.sst_entries.specs.Error.{Refuses};
-ghost use Rattle.sst_sections.specs.Sections.{is_past, place_of, section_at, section_in, section_names, slots_len, trailer_fault};
+ghost use Rattle.sst_sections.specs.Sections.{is_past, slot_index, section_at, section_in, section_names, slots_len, trailer_fault};
 
 use crate::number::u64_at;
 use crate::section::{TRAILER_LEN, TRAILER_MARK};
@@ -32,7 +32,7 @@ impl Model for Toc {
 impl Toc {
     /// Where a section lies, or `None` where the table has none of that name.
     pub fn section(&self, name: SectionName) -> Option<Section>
-        ensures { result ≡ slice_index_or self.now (place_of name) None }
+        ensures { result ≡ slice_index_or self.now (slot_index name) None }
     {
         self.sections[name.place()]
     }
@@ -62,7 +62,7 @@ impl Toc {
     fn read(trailer: &[u8]) -> Toc
         requires { slots_len ≤ length trailer.now }
         ensures { result ≡
-            map (λ name. section_at (drop (16 * place_of name) trailer.now)) section_names }
+            map (λ name. section_at (drop (16 * slot_index name) trailer.now)) section_names }
     {
         Toc {
             sections: [

@@ -180,10 +180,7 @@ fn a_read_opens_nothing_but_data(rt: HostRuntime) -> Result<(), Fail> {
 }
 
 // The highest number of a table of a@3 with a global number, and what reads of `a` below 14, 13 and 10 find.
-fn lifted_reads(
-    alloc: Global,
-    global_seqno: SeqNo,
-) -> Result<(SeqNo, [Option<SeqNo>; 3]), Error> {
+fn lifted_reads(alloc: Global, global_seqno: SeqNo) -> Result<(SeqNo, [Option<SeqNo>; 3]), Error> {
     let rows: [Row<'static>; 1] = [(b"a", 3, ValueType::Value, b"")];
     let bytes = fill(new_writer(alloc)?, alloc, &rows)?.bytes;
     let table = open(alloc, bytes, global_seqno)?;

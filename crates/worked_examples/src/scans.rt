@@ -82,7 +82,10 @@ fn a_scan_of_blocks_goes_on_up_to_what_is_none(rt: HostRuntime) -> Result<(), Fa
     assert_eq!(rt; two_of_blocks(heap, &[], 0, 0)?, one);
     // What lies behind the data block is no data block.
     let index_tag = Error::InvalidTag(sst_entries::TagName::BlockType, 1);
-    assert_eq!(rt; two_of_blocks(heap, &[], 9, 0)?, [Some(Ok(1)), Some(Err(index_tag))]);
+    assert_eq!(rt;
+        two_of_blocks(heap, &[], 9, 0)?,
+        [Some(Ok(1)), Some(Err(index_tag))]
+    );
     Ok(())
 }
 

@@ -1,20 +1,16 @@
 //! A stream of entries that leaves out what no reader needs.
 ghost use Rattle.std.specs.Prelude.{◌≡◌, ◌≤◌, nat_lt, Bool, false, List, Some, None, Result, Ok, IfOk};
 ghost use Rattle.std.specs.Iterator.{at_most, IsFinite};
-ghost use Rattle.sst_entries.specs.Entry.{Entry};
-ghost use Rattle.sst_entries.specs.Key.{same_key};
-ghost use Rattle.sst_entries.specs.Stream.{Deals, CanDeal, nowhere, stopped};
+ghost use Rattle.lsm_sorted.specs.Words.{CanDeal, Compacts, CompactsHeard, CompactsNext};
+ghost use Rattle.lsm_sorted.specs.Words.{CompactsWhole, Deals, DealsKept, DealsOuts, DrainsIn};
+ghost use Rattle.lsm_sorted.specs.Words.{DrainsKey, Entry, Filters, GetsAll, GivesOuts, Hears};
+ghost use Rattle.lsm_sorted.specs.Words.{HoldsAhead, MayCompact, PartLaw, R, ReadLaw, Settles};
+ghost use Rattle.lsm_sorted.specs.Words.{SettlesIn, StaysStrict, Verdict, answer_stops, before_any};
+ghost use Rattle.lsm_sorted.specs.Words.{callback_of, compaction_outlook, compaction_size, failure};
+ghost use Rattle.lsm_sorted.specs.Words.{filter_of, goes, keep, nowhere, reports_by, rules_of};
+ghost use Rattle.lsm_sorted.specs.Words.{said, same_key, source_of, told_by, verdict_of, zeroed};
 ghost use Rattle.sst_entries.specs.declared.error.Error.{Error};
 ghost use Rattle.sst_entries.specs.declared.stream.Direction.TheVariants.{Front};
-ghost use Rattle.lsm_merge.specs.Ends.{R};
-ghost use Rattle.lsm_sorted.specs.Ahead.{HoldsAhead};
-ghost use Rattle.lsm_sorted.specs.Outlook.{before_any};
-ghost use Rattle.lsm_sorted.specs.Hears.{Hears};
-ghost use Rattle.lsm_sorted.specs.Verdicts.{said, verdict_of};
-ghost use Rattle.lsm_sorted.specs.Compaction.{Verdict, keep, goes, zeroed, told_by, reports_by};
-ghost use Rattle.lsm_sorted.specs.Compacting.{GetsAll};
-ghost use Rattle.lsm_sorted.specs.CompactionState.{rules_of, source_of, compaction_outlook, filter_of, callback_of, Compacts, MayCompact, compaction_size, failure, CompactsNext, CompactsWhole, CompactsHeard, GivesOuts, DealsOuts, DealsKept, Filters, DrainsKey, DrainsIn, Settles, SettlesIn};
-ghost use Rattle.lsm_sorted.specs.ReadLaw.{ReadLaw, StaysStrict, PartLaw};
 
 use crate::ahead::Ahead;
 use sst_entries::{Error, InternalValue, IterItem, SeqNo, UserValue, ValueType};
@@ -95,7 +91,7 @@ impl<I: Iterator<Item = IterItem<A>>, A: Allocator> CompactionStream<I, NoFilter
     pub fn new(iter: I, gc_seqno_threshold: SeqNo) -> Self
         ensures starts { compaction_outlook result ≡ before_any iter }
         ensures compacts { (stops : Error → Bool) (xs : List R) →
-            Deals (stopped stops) I.next_gives nowhere iter xs →
+            Deals (answer_stops stops) I.next_gives nowhere iter xs →
             Compacts stops I.next_gives result xs }
         ensures may { CanDeal I.next_gives nowhere I.can_next I.can_next iter →
             IsFinite (I.remaining iter) → MayCompact I.next_gives I.can_next I.remaining result }
@@ -308,9 +304,10 @@ impl<
             Settles stops (HoldsAhead stops I.next_gives) C.gets (rules_of self.old) head.now
             (source_of self.old) (callback_of self.old) result (source_of self.new) (callback_of
             self.new) }
-        ensures hears { Hears I.next_gives Front (failure result) (SettlesIn C.gets (rules_of self.old)
-            head.now (callback_of self.old) result (callback_of self.new)) (compaction_outlook
-            self.old) (compaction_outlook self.new) }
+        ensures hears { Hears I.next_gives Front (failure result)
+            (SettlesIn C.gets (rules_of self.old) head.now (callback_of self.old) result
+            (callback_of self.new))
+            (compaction_outlook self.old) (compaction_outlook self.new) }
     {
         let next = match self.inner.next() {
             Some(Ok(next)) => next,

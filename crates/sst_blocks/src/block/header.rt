@@ -1,5 +1,6 @@
 //! Block headers.
 ghost use Rattle.std.specs.Prelude.{◌≡◌, ◌∷◌, ◌++◌, [], length, None, Some, IfOk, MatchResult};
+ghost use Rattle.sst_blocks.specs.Block.{header_len};
 ghost use Rattle.sst_blocks.specs.Block.{kind_tag, header_fault, version_in, data_len, uncompressed_len, stored_checksum};
 ghost use Rattle.sst_sections.specs.Number.{le4, le8};
 ghost use Rattle.sst_sections.specs.Version.{mark};
@@ -26,7 +27,7 @@ impl Header {
 
     /// The length of a header in bytes.
     pub fn serialized_len() -> usize
-        ensures { result ≡ 24 }
+        ensures { result ≡ header_len }
     {
         Self::LEN as usize
     }
@@ -49,12 +50,13 @@ impl Header {
     /// Reads the header of a block of a kind. Refused with the first fault, in this order: [`Error::InvalidHeader`] for the mark
     /// or the zero bytes, [`Error::InvalidTag`], [`Error::UnsupportedCompression`].
     pub(crate) fn decode(bytes: &[u8], kind: BlockType) -> Result<Header, Error>
-        requires { length bytes.now ≡ 24 }
+        requires { length bytes.now ≡ header_len }
         ensures fault { MatchResult result (λ _. header_fault kind bytes.now ≡ None)
             (λ e. header_fault kind bytes.now ≡ Some e) }
         ensures version { IfOk result (λ h. h.version ≡ version_in bytes.now) }
         ensures data_len { IfOk result (λ h. h.data_len ≡ data_len bytes.now) }
-        ensures uncompressed_len { IfOk result (λ h. h.uncompressed_len ≡ uncompressed_len bytes.now) }
+        ensures uncompressed_len { let len = uncompressed_len bytes.now in
+            IfOk result (λ h. h.uncompressed_len ≡ len) }
         ensures checksum { IfOk result (λ h. h.checksum ≡ stored_checksum bytes.now) }
     {
         let Some(version) = TableVersion::from_mark(&bytes[..4]) else {

@@ -3,7 +3,7 @@ ghost use Rattle.std.specs.Prelude.{◌≡◌, ◌+◌, ◌<◌, ◌≤◌, ◌^
 ghost use Rattle.sst_blocks.specs.Bounds.{capped, data_block_bound_of, entry_bound};
 ghost use Rattle.sst_blocks.specs.Encoding.{entries_fault, length_fault};
 ghost use Rattle.sst_entries.specs.Error.{Refuses};
-ghost use Rattle.sst_blocks.specs.Payload.{Fits, AreFit, spelled, payload};
+ghost use Rattle.sst_blocks.specs.Payload.{IsSpellable, AreSpellable, spelled, payload};
 ghost use Rattle.sst_entries.specs.declared.error.Error.TheVariants.{OutOfMemory};
 ghost use Rattle.sst_sections.specs.Version.{longest_key};
 ghost use Rattle.sst_sections.specs.declared.version.TableVersion.TheVariants.{V4};
@@ -54,7 +54,7 @@ fn put_entry<A: Allocator>(buf: &mut Vec<u8, A>, item: &InternalValue<A>) -> Res
     requires key { length item.now.user_key ≤ longest_key V4 }
     requires value { length item.now.value < 2 ^ 32 }
     ensures ok { OnOk result (buf.new.items ≡ buf.old.items ++ spelled V4 item.now) }
-    ensures fits { OnOk result (Fits V4 item.now) }
+    ensures fits { OnOk result (IsSpellable V4 item.now) }
     ensures front { take (vec_len buf.old) buf.new.items ≡ buf.old.items }
     ensures err { IfErr result (λ e. e ≡ OutOfMemory) }
 {
@@ -77,7 +77,7 @@ pub(crate) fn put_items<A: Allocator>(
     requires short { length_fault items.now ≡ None }
     requires few { length items.now < 2 ^ 32 }
     ensures ok { OnOk result (buf.new.items ≡ buf.old.items ++ payload V4 items.now) }
-    ensures fit { OnOk result (AreFit V4 items.now) }
+    ensures fit { OnOk result (AreSpellable V4 items.now) }
     ensures front { take (vec_len buf.old) buf.new.items ≡ buf.old.items }
     ensures err { IfErr result (λ e. e ≡ OutOfMemory) }
 {

@@ -2,7 +2,7 @@
 ghost use Rattle.std.specs.Prelude.{◌≡◌, ◌+◌, ◌≤◌, length, Some, None};
 ghost use Rattle.std.specs.Option.{option_map};
 ghost use Rattle.sst_blocks.specs.Reading.{parts_at, entry_at, key_and_number};
-ghost use Rattle.sst_blocks.specs.Seen.{seen};
+ghost use Rattle.sst_blocks.specs.Seen.{entry_of_ref};
 ghost use Rattle.sst_entries.specs.Strict.{may_follow};
 ghost use Rattle.sst_sections.specs.Version.{key_width};
 
@@ -36,7 +36,8 @@ fn read_parts(
     bytes: &[u8],
 ) -> Option<(EntryRef<'_>, &[u8])>
     requires { key_width version + 4 ≤ length bytes.now }
-    ensures { option_map (λ x. (seen x.0, x.1.now)) result ≡ parts_at version kind seqno bytes.now }
+    ensures { option_map (λ x. (entry_of_ref x.0, x.1.now)) result ≡
+        parts_at version kind seqno bytes.now }
 {
     let key_len = key_len_at(version, bytes);
     let bytes = &bytes[key_width(version)..];
@@ -62,7 +63,7 @@ fn read_parts(
 #[inline]
 #[tactic(auto, unfolding(crate::specs::Reading::entry_at))]
 pub(crate) fn read_entry(version: TableVersion, bytes: &[u8]) -> Option<(EntryRef<'_>, &[u8])>
-    ensures { option_map (λ x. (seen x.0, x.1.now)) result ≡ entry_at version bytes.now }
+    ensures { option_map (λ x. (entry_of_ref x.0, x.1.now)) result ≡ entry_at version bytes.now }
 {
     if bytes.len() < head_len(version) {
         return None;
@@ -89,7 +90,7 @@ impl EntryRef<'_> {
     /// Whether the entry may stand after another, or at the front.
     #[inline]
     pub(crate) fn may_follow(&self, last: &Option<EntryRef<'_>>) -> bool
-        ensures { result ≡ may_follow (option_map seen last.now) (seen self.now) }
+        ensures { result ≡ may_follow (option_map entry_of_ref last.now) (entry_of_ref self.now) }
     {
         match last {
             None => true,

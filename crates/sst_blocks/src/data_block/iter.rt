@@ -3,9 +3,9 @@ ghost use Rattle.std.specs.Prelude.{◌≡◌, ◌-◌, ◌↔◌, [], IsTrue};
 ghost use Rattle.std.specs.Iterator.{at_most};
 ghost use Rattle.std.specs.declared.ops.Bound.TheVariants.{Included, Excluded, Unbounded};
 ghost use Rattle.sst_entries.specs.Point.{lower_place, upper_place, within};
-ghost use Rattle.sst_entries.specs.Span.{SpanGives, left_in};
+ghost use Rattle.sst_entries.specs.Span.{SpanGives, rest_in};
 ghost use Rattle.sst_entries.specs.Stream.{front_of, back_of};
-ghost use Rattle.sst_blocks.specs.Seeking.{whole, span_from, span_to, DealsLeft, KeepsLower, KeepsUpper};
+ghost use Rattle.sst_blocks.specs.Seeking.{whole_span, span_from, span_to, DealsLeft, KeepsLower, KeepsUpper};
 
 use super::DataBlock;
 use crate::IterItem;
@@ -35,7 +35,7 @@ impl<'a, A: Allocator> Model for Iter<'a, A> {
 
 impl<'a, A: Allocator> Iter<'a, A> {
     pub(super) fn new(block: &'a DataBlock<A>) -> Iter<'a, A>
-        ensures { result ≡ whole block.now }
+        ensures { result ≡ whole_span block.now }
     {
         Iter {
             block,
@@ -48,8 +48,8 @@ impl<'a, A: Allocator> Iter<'a, A> {
     pub fn seek(&mut self, key: &[u8]) -> bool
         ensures narrowed { let place = lower_place (Included key.now) self.old.list in
             self.new ≡ span_from place self.old }
-        ensures left { IsTrue result ↔ (left_in self.new ≡ [] → ⊥) }
-        ensures kept { left_in self.new ≡ within (Included key.now) Unbounded (left_in self.old) }
+        ensures left { IsTrue result ↔ (rest_in self.new ≡ [] → ⊥) }
+        ensures kept { rest_in self.new ≡ within (Included key.now) Unbounded (rest_in self.old) }
         ensures both { KeepsUpper (Included key.now) self.old self.new }
         ensures deals { DealsLeft ⟦<Iter<'a, A> as Iterator>⟧.next_gives
             ⟦<Iter<'a, A> as DoubleEndedIterator>⟧.next_back_gives self.new }
@@ -62,8 +62,8 @@ impl<'a, A: Allocator> Iter<'a, A> {
     pub fn seek_exclusive(&mut self, key: &[u8]) -> bool
         ensures narrowed { let place = lower_place (Excluded key.now) self.old.list in
             self.new ≡ span_from place self.old }
-        ensures left { IsTrue result ↔ (left_in self.new ≡ [] → ⊥) }
-        ensures kept { left_in self.new ≡ within (Excluded key.now) Unbounded (left_in self.old) }
+        ensures left { IsTrue result ↔ (rest_in self.new ≡ [] → ⊥) }
+        ensures kept { rest_in self.new ≡ within (Excluded key.now) Unbounded (rest_in self.old) }
         ensures both { KeepsUpper (Excluded key.now) self.old self.new }
         ensures deals { DealsLeft ⟦<Iter<'a, A> as Iterator>⟧.next_gives
             ⟦<Iter<'a, A> as DoubleEndedIterator>⟧.next_back_gives self.new }
@@ -76,8 +76,8 @@ impl<'a, A: Allocator> Iter<'a, A> {
     pub fn seek_upper(&mut self, key: &[u8]) -> bool
         ensures narrowed { let place = upper_place (Included key.now) self.old.list in
             self.new ≡ span_to place self.old }
-        ensures left { IsTrue result ↔ (left_in self.new ≡ [] → ⊥) }
-        ensures kept { left_in self.new ≡ within Unbounded (Included key.now) (left_in self.old) }
+        ensures left { IsTrue result ↔ (rest_in self.new ≡ [] → ⊥) }
+        ensures kept { rest_in self.new ≡ within Unbounded (Included key.now) (rest_in self.old) }
         ensures both { KeepsLower (Included key.now) self.old self.new }
         ensures deals { DealsLeft ⟦<Iter<'a, A> as Iterator>⟧.next_gives
             ⟦<Iter<'a, A> as DoubleEndedIterator>⟧.next_back_gives self.new }
@@ -90,8 +90,8 @@ impl<'a, A: Allocator> Iter<'a, A> {
     pub fn seek_upper_exclusive(&mut self, key: &[u8]) -> bool
         ensures narrowed { let place = upper_place (Excluded key.now) self.old.list in
             self.new ≡ span_to place self.old }
-        ensures left { IsTrue result ↔ (left_in self.new ≡ [] → ⊥) }
-        ensures kept { left_in self.new ≡ within Unbounded (Excluded key.now) (left_in self.old) }
+        ensures left { IsTrue result ↔ (rest_in self.new ≡ [] → ⊥) }
+        ensures kept { rest_in self.new ≡ within Unbounded (Excluded key.now) (rest_in self.old) }
         ensures both { KeepsLower (Excluded key.now) self.old self.new }
         ensures deals { DealsLeft ⟦<Iter<'a, A> as Iterator>⟧.next_gives
             ⟦<Iter<'a, A> as DoubleEndedIterator>⟧.next_back_gives self.new }

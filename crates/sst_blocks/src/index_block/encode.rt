@@ -3,7 +3,7 @@ ghost use Rattle.std.specs.Prelude.{◌≡◌, ◌+◌, ◌<◌, ◌≤◌, ◌^
 ghost use Rattle.sst_blocks.specs.Bounds.{capped, handle_bound, index_block_bound_of};
 ghost use Rattle.sst_blocks.specs.Encoding.{handles_fault, key_fault};
 ghost use Rattle.sst_entries.specs.Error.{Refuses};
-ghost use Rattle.sst_blocks.specs.Handles.{HandleFits, HandlesFit, handle_spelled, handles_payload};
+ghost use Rattle.sst_blocks.specs.Handles.{IsSpellableHandle, AreSpellableHandles, handle_spelled, handles_payload};
 ghost use Rattle.sst_entries.specs.declared.error.Error.TheVariants.{OutOfMemory};
 ghost use Rattle.sst_sections.specs.Version.{longest_key};
 ghost use Rattle.sst_sections.specs.declared.version.TableVersion.TheVariants.{V4};
@@ -49,7 +49,7 @@ pub(crate) fn block_len<A: Allocator>(handles: &[KeyedBlockHandle<A>]) -> Result
 fn put_handle<A: Allocator>(buf: &mut Vec<u8, A>, handle: &KeyedBlockHandle<A>) -> Result<(), Error>
     requires { length handle.now.end_key ≤ longest_key V4 }
     ensures ok { OnOk result (buf.new.items ≡ buf.old.items ++ handle_spelled V4 handle.now) }
-    ensures fits { OnOk result (HandleFits V4 handle.now) }
+    ensures fits { OnOk result (IsSpellableHandle V4 handle.now) }
     ensures front { take (vec_len buf.old) buf.new.items ≡ buf.old.items }
     ensures err { IfErr result (λ e. e ≡ OutOfMemory) }
 {
@@ -70,7 +70,7 @@ pub(crate) fn put_handles<A: Allocator>(
     requires short { key_fault handles.now ≡ None }
     requires few { length handles.now < 2 ^ 32 }
     ensures ok { OnOk result (buf.new.items ≡ buf.old.items ++ handles_payload V4 handles.now) }
-    ensures fit { OnOk result (HandlesFit V4 handles.now) }
+    ensures fit { OnOk result (AreSpellableHandles V4 handles.now) }
     ensures front { take (vec_len buf.old) buf.new.items ≡ buf.old.items }
     ensures err { IfErr result (λ e. e ≡ OutOfMemory) }
 {

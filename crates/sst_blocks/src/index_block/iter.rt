@@ -2,9 +2,9 @@
 ghost use Rattle.std.specs.Prelude.{◌≡◌, ◌+◌, ◌-◌, ◌↔◌, [], IsTrue, Some, None};
 ghost use Rattle.std.specs.Iterator.{at_most};
 ghost use Rattle.sst_blocks.specs.Handles.{window};
-ghost use Rattle.sst_entries.specs.Span.{SpanGives, left_in};
+ghost use Rattle.sst_entries.specs.Span.{SpanGives, rest_in};
 ghost use Rattle.sst_entries.specs.Stream.{front_of, back_of};
-ghost use Rattle.sst_blocks.specs.Seeking.{whole, span_from, span_to, reaching_place, above_place, DealsLeft, KeepsLowerEdge, KeepsUpperEdge};
+ghost use Rattle.sst_blocks.specs.Seeking.{whole_span, span_from, span_to, reaching_place, above_place, DealsLeft, KeepsLowerEdge, KeepsUpperEdge};
 
 use super::IndexBlock;
 use crate::{Error, KeyedBlockHandle, SeqNo};
@@ -34,7 +34,7 @@ impl<'a, A: Allocator> Model for Iter<'a, A> {
 
 impl<'a, A: Allocator> Iter<'a, A> {
     pub(super) fn new(block: &'a IndexBlock<A>) -> Iter<'a, A>
-        ensures { result ≡ whole block.now }
+        ensures { result ≡ whole_span block.now }
     {
         Iter {
             block,
@@ -48,8 +48,8 @@ impl<'a, A: Allocator> Iter<'a, A> {
     pub fn seek(&mut self, key: &[u8], seqno: SeqNo) -> bool
         ensures narrowed { let place = reaching_place (key.now, seqno) self.old.list in
             self.new ≡ span_from place self.old }
-        ensures left { IsTrue result ↔ (left_in self.new ≡ [] → ⊥) }
-        ensures kept { left_in self.new ≡ window (left_in self.old) (Some (key.now, seqno)) None }
+        ensures left { IsTrue result ↔ (rest_in self.new ≡ [] → ⊥) }
+        ensures kept { rest_in self.new ≡ window (rest_in self.old) (Some (key.now, seqno)) None }
         ensures both { KeepsUpperEdge (key.now, seqno) self.old self.new }
         ensures deals { DealsLeft ⟦<Iter<'a, A> as Iterator>⟧.next_gives
             ⟦<Iter<'a, A> as DoubleEndedIterator>⟧.next_back_gives self.new }
@@ -62,10 +62,10 @@ impl<'a, A: Allocator> Iter<'a, A> {
     /// number is not looked at: versions of the key may go on in the block of a handle that ends with the key.
     pub fn seek_upper(&mut self, key: &[u8], _seqno: SeqNo) -> bool
         ensures narrowed { self.new ≡ span_to (1 + above_place key.now self.old.list) self.old }
-        ensures left { IsTrue result ↔ (left_in self.new ≡ [] → ⊥) }
+        ensures left { IsTrue result ↔ (rest_in self.new ≡ [] → ⊥) }
         // Of what was left, the part that stands in the list's window up to the key.
         ensures kept { let upper = window self.old.list None (Some key.now) in
-            left_in self.new ≡ left_in (record self.old { list = upper }) }
+            rest_in self.new ≡ rest_in (record self.old { list = upper }) }
         ensures both { KeepsLowerEdge key.now self.old self.new }
         ensures deals { DealsLeft ⟦<Iter<'a, A> as Iterator>⟧.next_gives
             ⟦<Iter<'a, A> as DoubleEndedIterator>⟧.next_back_gives self.new }

@@ -4,7 +4,7 @@ ghost use Rattle.std.specs.Option.{option_map};
 ghost use Rattle.sst_entries.specs.Error.{is_memory};
 ghost use Rattle.sst_blocks.specs.Handles.{handle_at, handles_in, end_of};
 ghost use Rattle.sst_blocks.specs.Reading.{key_and_number};
-ghost use Rattle.sst_blocks.specs.SeenHandle.{seen_handle};
+ghost use Rattle.sst_blocks.specs.SeenHandle.{handle_of_ref};
 ghost use Rattle.sst_blocks.specs.Starts.{HandlesAt};
 ghost use Rattle.sst_entries.specs.Strict.{may_follow};
 ghost use Rattle.sst_sections.specs.Version.{key_width};
@@ -36,7 +36,7 @@ pub(crate) fn head_len(version: TableVersion) -> usize
 #[inline]
 #[tactic(auto, unfolding(crate::specs::Handles::handle_at))]
 pub(crate) fn read_handle(version: TableVersion, bytes: &[u8]) -> Option<(HandleRef<'_>, &[u8])>
-    ensures { option_map (λ x. (seen_handle x.0, x.1.now)) result ≡ handle_at version bytes.now }
+    ensures { option_map (λ x. (handle_of_ref x.0, x.1.now)) result ≡ handle_at version bytes.now }
 {
     let head = head_len(version);
     if bytes.len() < head {
@@ -76,8 +76,8 @@ impl HandleRef<'_> {
     /// Whether the handle may stand after another, or at the front.
     #[inline]
     pub(crate) fn may_follow(&self, last: &Option<HandleRef<'_>>) -> bool
-        ensures { let before = option_map (λ h. end_of (seen_handle h)) last.now in
-            result ≡ may_follow before (end_of (seen_handle self.now)) }
+        ensures { let before = option_map (λ h. end_of (handle_of_ref h)) last.now in
+            result ≡ may_follow before (end_of (handle_of_ref self.now)) }
     {
         match last {
             None => true,

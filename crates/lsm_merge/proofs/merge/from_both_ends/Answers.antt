@@ -1,7 +1,7 @@
 use Rattle.lsm_merge.proofs.DealsMerged.{new_may}
 use Rattle.lsm_merge.proofs.CallsMerged.{front_merges, back_merges, merger_deals, merger_until, ends_at, can_both, holds_two}
 use Rattle.lsm_merge.proofs.LateErrors.{merger_late}
-use Rattle.lsm_merge.specs.Union.{merged, all_errors}
+use Rattle.lsm_merge.specs.Union.{union_of, all_errors}
 use Rattle.lsm_merge.proofs.UntilLemmas.{deals_until_error}
 use Rattle.lsm_merge.proofs.merge.from_both_ends.Goals as goal
 
@@ -42,5 +42,5 @@ returns-clause-late g c its of = merger_late g.I.Iterator.next_gives g.I.DoubleE
 
 pub returns-clause-before : goal.returns-clause-before
 returns-clause-before g c its of = record {
-  deals = λ stops lists sorted. deals_until_error stops _ _ _ (merged lists) (all_errors lists) ((returns-clause-until g c its of).deals stops lists sorted);
+  deals = λ stops lists sorted. deals_until_error stops _ _ _ (union_of lists) (all_errors lists) ((returns-clause-until g c its of).deals stops lists sorted);
 }

@@ -1,5 +1,5 @@
 use Rattle.lsm_merge.specs.MergeLaws.{every_error}
-use Rattle.lsm_merge.specs.Union.{merged}
+use Rattle.lsm_merge.specs.Union.{union_of}
 use Rattle.lsm_merge.proofs.UnionLemmas.{merged_union}
 use Rattle.lsm_sorted.proofs.GapLemmas.{merges_up_to_gap}
 use Rattle.lsm_sorted.proofs.NewestPast.{answers_newest, merger_read, starts_read}
@@ -12,7 +12,7 @@ returns-clause-deals g c its h =
     let starts = starts_read its c.args.stream.now m c.source.ensures h in
     record {
       deals = λ stops lists sorted none.
-          (c.from_both_ends-2.ensures.newest m starts).deals stops (merged lists) (merged_union lists).ascends ((c.from_both_ends.ensures.deals its of).deals stops lists sorted none);
+          (c.from_both_ends-2.ensures.newest m starts).deals stops (union_of lists) (merged_union lists).ascends ((c.from_both_ends.ensures.deals its of).deals stops lists sorted none);
     }
 
 pub returns-clause-until : goal.returns-clause-until
@@ -22,7 +22,7 @@ returns-clause-until g c its h =
     let starts = starts_read its c.args.stream.now m c.source.ensures h in
     record {
       deals = λ stops lists sorted.
-          (c.from_both_ends-2.ensures.newest m starts).deals every_error (merged lists) (merged_union lists).ascends ((c.from_both_ends.ensures.before its of).deals stops lists sorted);
+          (c.from_both_ends-2.ensures.newest m starts).deals every_error (union_of lists) (merged_union lists).ascends ((c.from_both_ends.ensures.before its of).deals stops lists sorted);
     }
 
 pub returns-clause-past : goal.returns-clause-past

@@ -1,6 +1,6 @@
 use Rattle.sst_entries.specs.Stream.{nowhere}
 use Rattle.lsm_merge.specs.MergeLaws.{every_error}
-use Rattle.lsm_merge.specs.Union.{merged}
+use Rattle.lsm_merge.specs.Union.{union_of}
 use Rattle.lsm_sorted.proofs.GapLemmas.{merges_up_to_gap}
 use Rattle.lsm_sorted.proofs.NewestPast.{answers_newest}
 use Rattle.lsm_sorted.proofs.newest.newest_of.Goals as goal
@@ -11,14 +11,14 @@ returns-clause-starts g c = record { source = c.in_ok-merger.merger; starts = c.
 pub returns-clause-deals : goal.returns-clause-deals
 returns-clause-deals g c = record {
   deals = λ stops lists sorted none.
-      c.new-2.ensures.newest.deals stops (merged lists) (c.in_ok-merger.ensures.union lists).ascends
+      c.new-2.ensures.newest.deals stops (union_of lists) (c.in_ok-merger.ensures.union lists).ascends
       (c.in_ok-merger.ensures.deals.deals stops lists sorted none);
 }
 
 pub returns-clause-until : goal.returns-clause-until
 returns-clause-until g c = record {
   deals = λ stops lists sorted.
-      c.new-2.ensures.newest.deals every_error (merged lists) (c.in_ok-merger.ensures.union lists).ascends
+      c.new-2.ensures.newest.deals every_error (union_of lists) (c.in_ok-merger.ensures.union lists).ascends
       (c.in_ok-merger.ensures.before.deals stops lists sorted);
 }
 

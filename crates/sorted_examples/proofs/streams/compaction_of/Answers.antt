@@ -1,11 +1,11 @@
-use Rattle.sst_entries.specs.Stream.{all_ok}
-use Rattle.lsm_merge.specs.Union.{merged}
+use Rattle.sst_entries.specs.Stream.{ok_results}
+use Rattle.lsm_merge.specs.Union.{union_of}
 use Rattle.sorted_examples.proofs.streams.compaction_of.Goals as goal
 
 pub returns-clause-kept : goal.returns-clause-kept
 returns-clause-kept g c stops lists sorted none =
-    c.unfiltered_run.ensures.kept stops (merged lists)
-    (c.new-stream.ensures.compacts stops (all_ok (merged lists)) (c.in_ok-merger.ensures.deals.deals stops lists sorted none))
+    c.unfiltered_run.ensures.kept stops (union_of lists)
+    (c.new-stream.ensures.compacts stops (ok_results (union_of lists)) (c.in_ok-merger.ensures.deals.deals stops lists sorted none))
 
 pub returns-clause-past : goal.returns-clause-past
 returns-clause-past g c = record {

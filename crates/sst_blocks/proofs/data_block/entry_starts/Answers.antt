@@ -2,9 +2,9 @@ use Rattle.std.proofs.Common.{◌≡◌, ◌≤◌, ◌<◌, length, refl, rules
 use Rattle.std.specs.Option.{option_map}
 use Rattle.std.proofs.lemmas.List.{take_rest}
 use Rattle.sst_sections.specs.Number.{num4}
-use Rattle.sst_blocks.specs.Payload.{Fits}
+use Rattle.sst_blocks.specs.Payload.{IsSpellable}
 use Rattle.sst_blocks.specs.Reading.{entry_at}
-use Rattle.sst_blocks.specs.Seen.{seen}
+use Rattle.sst_blocks.specs.Seen.{entry_of_ref}
 use Rattle.sst_entries.specs.Strict.{may_follow}
 use Rattle.sst_blocks.proofs.Entries.{entry_format, entries_format, entries_in_same}
 use Rattle.sst_blocks.proofs.Items.{walk_begins, walk_on, walk_ends, walk_short, walk_missing, walk_unordered, walk_over}
@@ -30,16 +30,16 @@ returns-in_default-clause-fault g c _ =
 
 pub returns-then-not-may_follow-clause-fault : goal.returns-then-not-may_follow-clause-fault
 returns-then-not-may_follow-clause-fault g c _ =
-    let some : entry_at c.args.version c.loop.rest.now ≡ Some (seen c.in-Some.entry, c.in-Some.after.now) = search rules in
-    let early : may_follow (option_map seen c.loop.last) (seen c.in-Some.entry) ≡ false = search rules in
+    let some : entry_at c.args.version c.loop.rest.now ≡ Some (entry_of_ref c.in-Some.entry, c.in-Some.after.now) = search rules in
+    let early : may_follow (option_map entry_of_ref c.loop.last) (entry_of_ref c.in-Some.entry) ≡ false = search rules in
     let lt : c.loop.counter < num4 c.args.payload.now = omega (arith, c.loop-test.true, c.u32_at-count.ensures) in
     (refl, entries_in_same c.args.version c.args.payload.now ∙ walk_unordered (entry_format c.args.version) _ _ _ _ _ _ _ c.loop.invariant lt some early)
 
 pub loop-preserved : goal.loop-preserved
 loop-preserved g c =
-    let some : entry_at c.args.version c.loop.rest.now ≡ Some (seen c.in-Some.entry, c.in-Some.after.now) = search rules in
-    let follows : may_follow (option_map seen c.loop.last) (seen c.in-Some.entry) ≡ true = search rules in
-    rw c.in_ok-push.ensures.items (walk_on (entry_format c.args.version) (Fits c.args.version) (entries_format c.args.version) _ _ _ _ _ _ _ c.loop.invariant some follows)
+    let some : entry_at c.args.version c.loop.rest.now ≡ Some (entry_of_ref c.in-Some.entry, c.in-Some.after.now) = search rules in
+    let follows : may_follow (option_map entry_of_ref c.loop.last) (entry_of_ref c.in-Some.entry) ≡ true = search rules in
+    rw c.in_ok-push.ensures.items (walk_on (entry_format c.args.version) (IsSpellable c.args.version) (entries_format c.args.version) _ _ _ _ _ _ _ c.loop.invariant some follows)
 
 pub returns-then-not-is_empty-clause-fault : goal.returns-then-not-is_empty-clause-fault
 returns-then-not-is_empty-clause-fault g c _ =

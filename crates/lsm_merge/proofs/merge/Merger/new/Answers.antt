@@ -4,7 +4,7 @@ use Rattle.lsm_merge.proofs.UnionLemmas.{merged_union, only_union}
 use Rattle.lsm_merge.proofs.DealsMerged.{new_may}
 use Rattle.lsm_merge.proofs.CallsMerged.{front_merges, merger_deals, merger_until, ends_at, can_in_front, holds_one}
 use Rattle.lsm_merge.proofs.LateErrors.{merger_late}
-use Rattle.lsm_merge.specs.Union.{merged, all_errors}
+use Rattle.lsm_merge.specs.Union.{union_of, all_errors}
 use Rattle.lsm_merge.proofs.UntilLemmas.{deals_until_error}
 use Rattle.lsm_merge.proofs.merge.Merger.new.Goals as goal
 
@@ -57,5 +57,5 @@ returns-clause-late g c = merger_late g.I.Iterator.next_gives nowhere _ _ _ (ret
 
 pub returns-clause-before : goal.returns-clause-before
 returns-clause-before g c = record {
-  deals = λ stops lists sorted. deals_until_error stops _ _ _ (merged lists) (all_errors lists) ((returns-clause-until g c).deals stops lists sorted);
+  deals = λ stops lists sorted. deals_until_error stops _ _ _ (union_of lists) (all_errors lists) ((returns-clause-until g c).deals stops lists sorted);
 }

@@ -2,7 +2,6 @@ use Rattle.std.proofs.Common.{refl, inl, inr, ◌∙◌, subst, arith}
 use Rattle.std.specs.Prelude.{Ok, Err}
 use Rattle.std.proofs.lemmas.Result.{err_from_is_err_and}
 use Rattle.sst_entries.specs.declared.stream.Direction.{Direction}
-use Rattle.lsm_heaps.specs.Tournament.{held}
 use Rattle.lsm_merge.specs.Asks.{Pops}
 use Rattle.lsm_merge.proofs.RoomLemmas.{popped_known, popped_space, popped_goes, popped_total, same_popped, fits_turn}
 use Rattle.lsm_merge.proofs.merge.Merger.step.Goals as goal
@@ -24,7 +23,7 @@ returns-clause-failed g c = (same_popped g.I.Iterator.next_gives g.E.End.back_gi
 
 pub returns-clause-places : goal.returns-clause-places
 returns-clause-places g c =
-    fits_turn g.I.Iterator.next_gives g.E.End.back_gives g.I.Iterator.can_next g.E.End.can_back g.I.Iterator.remaining g.E.End.end c.fill.new.self c.take.new.self c.in-Some.lead (held c.pop.new.self.heap) c.in_ok-fill.ensures.places c.in-Some.ensures.some.left
+    fits_turn g.I.Iterator.next_gives g.E.End.back_gives g.I.Iterator.can_next g.E.End.can_back g.I.Iterator.remaining g.E.End.end c.fill.new.self c.take.new.self c.in-Some.lead c.pop.new.self.heap.items c.in_ok-fill.ensures.places c.in-Some.ensures.some.left
     c.take.ensures.adds c.take.ensures.goes (same_popped g.I.Iterator.next_gives g.E.End.back_gives g.I.Iterator.can_next g.E.End.can_back g.I.Iterator.remaining c.end.result c.fill.new.self c.pop.new.self c.take.new.self c.in-Some.lead c.in-Some.ensures.some c.take.ensures.same)
 
 pub returns-in_err-take-clause-lowers : goal.returns-in_err-take-clause-lowers

@@ -4,7 +4,7 @@ use Rattle.sst_blocks.specs.declared.block_type.BlockType.TheVariants.{Data}
 use Rattle.sst_blocks.specs.Block.{load_at_told}
 use Rattle.sst_entries.specs.Error.{Faults}
 use Rattle.sst_sections.specs.Sections.{body_of}
-use Rattle.sst_entries.specs.Stream.{Deals, nowhere, stopped}
+use Rattle.sst_entries.specs.Stream.{Deals, nowhere, answer_stops}
 use Rattle.lsm_readers.specs.Table.{IsOpen, table_of}
 use Rattle.lsm_readers.specs.Scan.{Scan, ScansNext, fault_of, scan_told}
 use Rattle.lsm_readers.specs.Table.{OpenTable}
@@ -14,7 +14,7 @@ use Rattle.lsm_readers.proofs.table.Table.scan.Goals as goal
 pub returns-clause-deals : goal.returns-clause-deals
 returns-clause-deals g c stops memory =
     let seen = ap (table_of c.self.inside.source) c.deref-inner.ensures ∙ c.self.view_is in
-    subst (λ (u : OpenTable). IfOk c.new.result (λ (s : Scan). Deals (stopped stops) ScansNext nowhere s (scan_told (body_of u.bytes) u.parts.facts.data_block_count u.global_seqno))) seen (c.new.ensures.deals stops memory)
+    subst (λ (u : OpenTable). IfOk c.new.result (λ (s : Scan). Deals (answer_stops stops) ScansNext nowhere s (scan_told (body_of u.bytes) u.parts.facts.data_block_count u.global_seqno))) seen (c.new.ensures.deals stops memory)
 
 pub returns-clause-list : goal.returns-clause-list
 returns-clause-list g c es is =
@@ -22,5 +22,5 @@ returns-clause-list g c es is =
     let seen = ap (table_of c.self.inside.source) c.deref-inner.ensures ∙ c.self.view_is in
     let held = subst IsOpen c.self.view_is c.self.invariant in
     file_opens t.bytes es is t.global_seqno t.parts held.short held.recovered c.new.result
-    (λ stops memory. subst (λ (u : OpenTable). IfOk c.new.result (λ (s : Scan). Deals (stopped stops) ScansNext nowhere s (scan_told (body_of u.bytes) u.parts.facts.data_block_count u.global_seqno))) seen (c.new.ensures.deals stops memory))
+    (λ stops memory. subst (λ (u : OpenTable). IfOk c.new.result (λ (s : Scan). Deals (answer_stops stops) ScansNext nowhere s (scan_told (body_of u.bytes) u.parts.facts.data_block_count u.global_seqno))) seen (c.new.ensures.deals stops memory))
     (subst (λ (u : OpenTable). Faults c.new.result (fault_of (load_at_told (body_of u.bytes) 0 Data))) seen c.new.ensures.refused)

@@ -4,7 +4,7 @@ use Rattle.std.proofs.lemmas.Result.{IfOk-from_err}
 use Rattle.std.specs.List.{flat_map}
 use Rattle.sst_entries.specs.Entry.{Entry}
 use Rattle.sst_sections.specs.Number.{le4}
-use Rattle.sst_blocks.specs.Payload.{payload, spelled, Fits}
+use Rattle.sst_blocks.specs.Payload.{payload, spelled, IsSpellable}
 use Rattle.sst_sections.specs.declared.version.TableVersion.TheVariants.{V4}
 use Rattle.sst_blocks.proofs.Faults.{short_at, front_again}
 use Rattle.sst_blocks.proofs.Grown.{all_fit, first, front, none, none_yet, one_more, one_more_fits}
@@ -37,7 +37,7 @@ loop-item-preserved g c =
     record {
       written = one_more (spelled V4) c.args.buf.now.items (le4 (length items)) c.loop-item.buf.items c.put_entry.new.buf.items items i c.item-item.result lt c.item-item.is
           c.loop-item.invariant.written c.in_ok-put_entry.ensures.ok;
-      fit = one_more_fits (Fits V4) items i c.item-item.result lt c.item-item.is c.loop-item.invariant.fit c.in_ok-put_entry.ensures.fits;
+      fit = one_more_fits (IsSpellable V4) items i c.item-item.result lt c.item-item.is c.loop-item.invariant.fit c.in_ok-put_entry.ensures.fits;
     }
 
 pub returns-in_err-put_u32 : goal.returns-in_err-put_u32
@@ -59,7 +59,7 @@ pub returns : goal.returns
 returns g c =
     record {
       ok = all_written c.loop-item.buf.items c.args.buf.now.items c.args.items.now c.loop-item.item-index c.loop-item-test.false c.loop-item.invariant.written;
-      fit = (c.requires.few, all_fit (Fits V4) c.args.items.now c.loop-item.item-index c.loop-item-test.false c.loop-item.invariant.fit);
+      fit = (c.requires.few, all_fit (IsSpellable V4) c.args.items.now c.loop-item.item-index c.loop-item-test.false c.loop-item.invariant.fit);
       front = front c.args.buf.now.ok.0 (first _ c.loop-item.invariant.written);
       err = tt;
     }

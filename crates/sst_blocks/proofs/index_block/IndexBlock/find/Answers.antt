@@ -5,7 +5,7 @@ use Rattle.std.specs.Option.{option_map}
 use Rattle.std.proofs.lemmas.Option.{slice_get_past}
 use Rattle.sst_blocks.specs.Handles.{reaches}
 use Rattle.sst_blocks.specs.Place.{Place, place_of}
-use Rattle.sst_blocks.specs.SeenHandle.{seen_handle}
+use Rattle.sst_blocks.specs.SeenHandle.{handle_of_ref}
 use Rattle.sst_blocks.proofs.SpanLemmas.{find_at_front}
 use Rattle.sst_blocks.proofs.index_block.IndexBlock.find.Goals as goal
 
@@ -22,7 +22,7 @@ returns-then-index-len g c =
 pub returns : goal.returns
 returns g c =
     let hs = c.args.self.now in
-    let h = seen_handle c.handle_ref-handle.result in
+    let h = handle_of_ref c.handle_ref-handle.result in
     let some : find (reaches c.args.key.now c.args.seqno) hs ≡ Some h = find_at_front (reaches c.args.key.now c.args.seqno) hs ∙ ap (slice_get hs) (sym c.first_reaching-index.ensures.place) ∙ c.handle_ref-handle.ensures in
     let place : c.new.result ≡ place_of h = same_place c.new.result (place_of h) c.new.ensures.offset c.new.ensures.size in
     ap (λ (p : Place). Some p) place ∙ sym (ap (option_map place_of) some)

@@ -1,6 +1,6 @@
 use Rattle.std.proofs.Common.{length, rules, sym}
 use Rattle.std.proofs.lemmas.Result.{IfOk-from_err}
-use Rattle.sst_blocks.specs.Handles.{HandleFits, handle_spelled}
+use Rattle.sst_blocks.specs.Handles.{IsSpellableHandle, handle_spelled}
 use Rattle.sst_sections.specs.Number.{le4}
 use Rattle.sst_sections.specs.declared.version.TableVersion.TheVariants.{V4}
 use Rattle.sst_blocks.proofs.Faults.{front_again}
@@ -25,7 +25,7 @@ loop-handle-preserved g c =
     record {
       written = one_more (handle_spelled V4) c.args.buf.now.items (le4 (length handles)) c.loop-handle.buf.items c.put_handle.new.buf.items handles i c.handle-item.result lt c.handle-item.is
           c.loop-handle.invariant.written c.in_ok-put_handle.ensures.ok;
-      fit = one_more_fits (HandleFits V4) handles i c.handle-item.result lt c.handle-item.is c.loop-handle.invariant.fit c.in_ok-put_handle.ensures.fits;
+      fit = one_more_fits (IsSpellableHandle V4) handles i c.handle-item.result lt c.handle-item.is c.loop-handle.invariant.fit c.in_ok-put_handle.ensures.fits;
     }
 
 pub returns-in_err-put_u32 : goal.returns-in_err-put_u32
@@ -47,7 +47,7 @@ pub returns : goal.returns
 returns g c =
     record {
       ok = all_written c.loop-handle.buf.items c.args.buf.now.items c.args.handles.now c.loop-handle.handle-index c.loop-handle-test.false c.loop-handle.invariant.written;
-      fit = (c.requires.few, all_fit (HandleFits V4) c.args.handles.now c.loop-handle.handle-index c.loop-handle-test.false c.loop-handle.invariant.fit);
+      fit = (c.requires.few, all_fit (IsSpellableHandle V4) c.args.handles.now c.loop-handle.handle-index c.loop-handle-test.false c.loop-handle.invariant.fit);
       front = front c.args.buf.now.ok.0 (first _ c.loop-handle.invariant.written);
       err = tt;
     }

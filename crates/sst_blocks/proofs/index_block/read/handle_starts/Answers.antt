@@ -2,7 +2,7 @@ use Rattle.std.proofs.Common.{◌≡◌, ◌≤◌, ◌<◌, length, refl, rules
 use Rattle.std.specs.Option.{option_map}
 use Rattle.std.proofs.lemmas.List.{take_rest}
 use Rattle.sst_blocks.specs.Handles.{handle_at, end_of}
-use Rattle.sst_blocks.specs.SeenHandle.{seen_handle}
+use Rattle.sst_blocks.specs.SeenHandle.{handle_of_ref}
 use Rattle.sst_entries.specs.Strict.{may_follow}
 use Rattle.sst_blocks.proofs.HandleLaws.{handle_format, handles_format, handles_in_same}
 use Rattle.sst_blocks.proofs.Items.{walk_begins, walk_on, walk_short, walk_missing, walk_unordered, walk_over, walk_ends}
@@ -25,14 +25,14 @@ returns-in_default-clause-fault g c memory =
 
 pub returns-then-not-may_follow-clause-fault : goal.returns-then-not-may_follow-clause-fault
 returns-then-not-may_follow-clause-fault g c memory =
-    let some : handle_at c.args.version c.loop.rest.now ≡ Some (seen_handle c.in-Some.handle, c.in-Some.after.now) = search rules in
-    let early : may_follow (option_map (λ h. end_of (seen_handle h)) c.loop.last) (end_of (seen_handle c.in-Some.handle)) ≡ false = search rules in
+    let some : handle_at c.args.version c.loop.rest.now ≡ Some (handle_of_ref c.in-Some.handle, c.in-Some.after.now) = search rules in
+    let early : may_follow (option_map (λ h. end_of (handle_of_ref h)) c.loop.last) (end_of (handle_of_ref c.in-Some.handle)) ≡ false = search rules in
     (refl, handles_in_same _ _ ∙ walk_unordered (handle_format c.args.version) _ _ _ _ _ _ _ c.loop.invariant (omega arith) some early)
 
 pub loop-preserved : goal.loop-preserved
 loop-preserved g c =
-    let some : handle_at c.args.version c.loop.rest.now ≡ Some (seen_handle c.in-Some.handle, c.in-Some.after.now) = search rules in
-    let follows : may_follow (option_map (λ h. end_of (seen_handle h)) c.loop.last) (end_of (seen_handle c.in-Some.handle)) ≡ true = search rules in
+    let some : handle_at c.args.version c.loop.rest.now ≡ Some (handle_of_ref c.in-Some.handle, c.in-Some.after.now) = search rules in
+    let follows : may_follow (option_map (λ h. end_of (handle_of_ref h)) c.loop.last) (end_of (handle_of_ref c.in-Some.handle)) ≡ true = search rules in
     rw c.in_ok-push.ensures.items (walk_on (handle_format c.args.version) _ (handles_format c.args.version) _ _ _ _ _ _ _ c.loop.invariant some follows)
 
 pub returns-then-not-is_empty-clause-fault : goal.returns-then-not-is_empty-clause-fault
