@@ -31,10 +31,10 @@ longest_short : (v : TableVersion) → longest_key v < key_limit v
 longest_short V3 = omega arith
 longest_short V4 = omega arith
 
-entries_fit : (v : TableVersion) (es : List Entry) → AllByRecursion (EntryFits v) es → AllByRecursion (written.Fits v) es
+entries_fit : (v : TableVersion) (es : List Entry) → AllByRecursion (EntryFits v) es → AllByRecursion (written.IsSpellable v) es
 entries_fit v [] fits = tt
 entries_fit v (e ∷ es) fits =
-    let one : written.Fits v e = record { number = omega (arith, (fits.0).number); key_len = omega (arith, (fits.0).key, longest_short v); value_len = (fits.0).value } in
+    let one : written.IsSpellable v e = record { number = omega (arith, (fits.0).number); key_len = omega (arith, (fits.0).key, longest_short v); value_len = (fits.0).value } in
     (one, entries_fit v es fits.1)
 
 flat_wide : (v : TableVersion) (es : List Entry) → length es ≤ length (flat_map (spelled v) es)

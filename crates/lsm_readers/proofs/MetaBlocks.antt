@@ -35,7 +35,7 @@ key_wide_enough V3 = omega arith
 key_wide_enough V4 = omega arith
 
 -- an item has a short name and number 0
-small : (v : TableVersion) (e : Entry) → e.seqno ≡ 0 → length e.user_key ≤ 30 → length e.value < 2 ^ 32 → written.Fits v e
+small : (v : TableVersion) (e : Entry) → e.seqno ≡ 0 → length e.user_key ≤ 30 → length e.value < 2 ^ 32 → written.IsSpellable v e
 small v e zero short value = record { number = omega arith; key_len = omega (arith, key_wide_enough v); value_len = value }
 
 -- how many bytes an entry takes
@@ -93,7 +93,7 @@ module _ (v : TableVersion) (label : Label) (options : Options) (cs : List (List
   pub meta_length : length (payload v es) ≤ 2000 + length (facts (joined cs)).min_key + length (facts (joined cs)).max_key
   meta_length = omega (arith, meta_taken, length-payload v es)
 
-  meta_fits : length (facts (joined cs)).min_key < 2 ^ 32 → length (facts (joined cs)).max_key < 2 ^ 32 → AllByRecursion (written.Fits v) es
+  meta_fits : length (facts (joined cs)).min_key < 2 ^ 32 → length (facts (joined cs)).max_key < 2 ^ 32 → AllByRecursion (written.IsSpellable v) es
   unfolding name_of
   meta_fits min max =
       let f = facts (joined cs) in (

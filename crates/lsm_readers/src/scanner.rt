@@ -1,8 +1,8 @@
 //! Reading a whole table, block after block.
 ghost use Rattle.std.specs.Prelude.{◌≡◌, ◌∷◌, ◌<◌, ◌-◌, ◌↔◌, ℕ, [], Bool, List, Some, Ok, Err, true, length, IsTrue, IfNone, IfOk, IfErr, IfSome};
 ghost use Rattle.std.specs.Iterator.{at_most};
-ghost use Rattle.lsm_readers.specs.Words.{CanDeal, Deals, Entry, Faults, Gives, Scan, ScansNext, TakesEntry, block_told, body_of, with_load};
-ghost use Rattle.lsm_readers.specs.Words.{ended, fault_of, lifted_told, load_at_told, none_opened, nowhere, scan_size, scan_told, answer_stops};
+ghost use Rattle.lsm_readers.specs.Words.{CanDeal, Deals, Entry, Faults, FaultsFirst, Gives, Scan, ScansNext, TakesEntry, block_told, body_of, with_load};
+ghost use Rattle.lsm_readers.specs.Words.{ended, fault_of, lifted_told, load_at_told, none_opened, nowhere, position_fault, scan_size, scan_told, answer_stops};
 ghost use Rattle.sst_blocks.specs.declared.block_type.BlockType.TheVariants.{Data};
 ghost use Rattle.sst_entries.specs.declared.error.Error.{Error};
 ghost use Rattle.sst_entries.specs.declared.error.Error.TheVariants.{OutOfMemory};
@@ -56,6 +56,7 @@ fn block_at<A: Allocator + Clone>(
 ) -> Result<(DataBlock<A>, u64), Error>
     ensures told { let block = block_told (body_of source.now) position in
         Gives (λ (x : List Entry × ℕ). x) result block }
+    ensures early { FaultsFirst result (position_fault (body_of source.now) position Data) }
     ensures counted { opened.new ≡ with_load Data opened.old }
 {
     let block = source.load_at(position, BlockType::Data, opened)?;
@@ -73,6 +74,8 @@ impl<A: Allocator + Clone> Scanner<A> {
         global_seqno: SeqNo,
     ) -> Result<Scanner<A>, Error>
         ensures refused { Faults result (fault_of (load_at_told (body_of source.now) 0 Data)) }
+        // What the block's header says, and its checksum, comes before any want of memory.
+        ensures early { FaultsFirst result (position_fault (body_of source.now) 0 Data) }
         ensures opened { IfOk result (λ s. s.opened ≡ with_load Data none_opened) }
         // Want of memory aside, it gives the entries of the blocks.
         ensures deals { (stops : Error → Bool) → stops OutOfMemory ≡ true →

@@ -4,7 +4,7 @@ ghost use Rattle.lsm_readers.specs.Words.{Deals, CanDeal, Entry, Faults, FaultsF
 ghost use Rattle.lsm_readers.specs.Words.{Loaded, OpenTable, Opens, Scan, ScansList, body_of, with_load, early_fault, early_in, ends_of};
 ghost use Rattle.lsm_readers.specs.Words.{facts_of, fault_of, fitting_told, fnv1a, index_told, key_bound, lift, list_told, load_at_told};
 ghost use Rattle.lsm_readers.specs.Words.{load_told, none_opened, nowhere, number_told, overlaps_bounds, parts_of, parts_said, parts_told};
-ghost use Rattle.lsm_readers.specs.Words.{pinned_of, place_fault, places_told, point, recovered_told, scan_told, place_size, answer_stops};
+ghost use Rattle.lsm_readers.specs.Words.{pinned_of, place_fault, places_told, position_fault, point, recovered_told, scan_told, place_size, answer_stops};
 ghost use Rattle.lsm_readers.specs.Words.{table_answer, within};
 ghost use Rattle.sst_blocks.specs.declared.block_type.BlockType.TheVariants.{Data, Index, Meta};
 ghost use Rattle.sst_entries.specs.declared.error.Error.{Error};
@@ -267,6 +267,8 @@ impl<A: Allocator + Clone> Table<A> {
     /// Refused with the first fault of loading the first of them, and [`Error::OutOfMemory`].
     pub fn scan(&self) -> Result<Scanner<A>, Error>
         ensures refused { Faults result (fault_of (load_at_told (body_of self.now.bytes) 0 Data)) }
+        // What the block's header says, and its checksum, comes before any want of memory.
+        ensures early { FaultsFirst result (position_fault (body_of self.now.bytes) 0 Data) }
         // Want of memory aside, it gives the entries of as many blocks as the table says that it has.
         ensures deals { (stops : Error → Bool) → stops OutOfMemory ≡ true →
             let gives = ⟦<Scanner<A> as Iterator>⟧.next_gives in

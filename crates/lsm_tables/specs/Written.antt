@@ -27,7 +27,7 @@ abbrev pub opening_fault : Label → List Entry → ℕ → Option Error
 opening_fault label es g = option_or (list_fault label es) (number_fault es g)
 
 -- an opened table of a list, in the version that is written, of tree 0 and with the checksum of its
--- bytes
+-- bytes; no block was spilled before it was full
 pub record IsOpened (label : Label) (es : List Entry) (g : ℕ) (t : OpenTable) : Type 0 where
   pub some : es ≡ [] → ⊥
   pub table : IsTable t.bytes es

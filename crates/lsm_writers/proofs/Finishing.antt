@@ -301,6 +301,13 @@ no_entries {A} size cs n m h none = sym (ap (λ (x : Metadata A). x.item_count) 
 pub written_none : {A : Type 0} (w : Writing) (n : ℕ) (m : Metadata A) → IsHeld w.options.data_block_size (blocks_of w) [] n m → m.item_count ≡ 0 → written w ≡ []
 written_none w n m h none = sym (all_written w h.shortest).whole ∙ nil_from_length (joined (blocks_of w)) (no_entries _ _ n m h none)
 
+pub written_some : {A : Type 0} (w : Writing) (n : ℕ) (m : Metadata A) → IsHeld w.options.data_block_size (blocks_of w) [] n m → (m.item_count ≡ 0 → ⊥) → written w ≡ [] → ⊥
+written_some {A} w n m h some e = some (ap (λ (x : Metadata A). x.item_count) h.counted ∙ ap length ((all_written w h.shortest).whole ∙ e))
+
+pub nothing_behind : (xs ys : List Entry) → xs ++ ys ≡ [] → ys ≡ []
+nothing_behind [] ys e = e
+nothing_behind (x ∷ xs) ys e = absurd cc
+
 pub works_still : (failed : Bool) → failed_fault failed ≡ None → failed ≡ false
 works_still true h = absurd cc
 works_still false h = refl
@@ -328,7 +335,7 @@ pub finished_is : {A : Type 0} (w : Writing) (n : ℕ) (m : Metadata A) (id chec
 finished_is {A} w n m id checksum bytes h some i s b label blocks index =
     let chunks = all_written w h.shortest in
     record {
-      some = λ e. some (ap (λ (x : Metadata A). x.item_count) h.counted ∙ ap length (chunks.whole ∙ e));
+      some = written_some w n m h some;
       id_is = i;
       checksum_is = s;
       table = record {

@@ -88,6 +88,8 @@ impl<A: Allocator + Clone> DataBlocks<A> {
         ensures unchanged { OnErr result (self.new.chunks ≡ self.old.chunks) }
         ensures left { OnErr result (chunk.new.items ≡ chunk.old.items) }
         ensures uncounted { OnErr result (meta.new ≡ meta.old) }
+        // Nothing is refused where nothing is to be cut.
+        ensures some { OnErr result (chunk.old.items ≡ [] → ⊥) }
         ensures err { IfErr result (λ e. e ≡ OutOfMemory) }
     {
         let Some(last) = chunk.last() else {

@@ -1,4 +1,4 @@
-use Rattle.std.proofs.Common.{◌≡◌, ◌∙◌, ap, sym, subst}
+use Rattle.std.proofs.Common.{◌≡◌, ◌∙◌, ap, sym, subst, true, []}
 use Rattle.std.specs.Prelude.{None}
 use Rattle.std.specs.List.{AllByRecursion}
 use Rattle.sst_blocks.specs.Bounds.{index_block_bound_of}
@@ -7,8 +7,10 @@ use Rattle.sst_sections.specs.declared.version.TableVersion.TheVariants.{V4}
 use Rattle.lsm_files.specs.File.{file}
 use Rattle.lsm_files.specs.Fits.{BlockFits, LabelFits}
 use Rattle.lsm_files.specs.Index.{handles}
-use Rattle.lsm_writers.specs.Writing.{Writing}
-use Rattle.lsm_writers.proofs.Finishing.{spilled_is, written_none, works_still, no_finish_fault, index_fault_is, written_strict, written_fits, finished_is}
+use Rattle.sst_entries.proofs.StreamLemmas.{on_err}
+use Rattle.lsm_files.specs.Chunks.{joined}
+use Rattle.lsm_writers.specs.Writing.{Writing, written}
+use Rattle.lsm_writers.proofs.Finishing.{spilled_is, nothing_behind, written_none, written_some, works_still, no_finish_fault, index_fault_is, written_strict, written_fits, finished_is}
 use Rattle.lsm_writers.proofs.writer.Writer.finish.Goals as goal
 
 pub table-requires-clause-works : goal.table-requires-clause-works
@@ -65,3 +67,17 @@ returns-clause-fits g c =
     let i = c.self.inside in
     let held = spilled_is c.args.self _ i.chunk_size i.meta (c.self.view_is ∙ c.in_ok-spill_block.ensures.ok) c.self.invariant.0 in
     written_fits c.args.self i.chunk_size i.meta held
+
+pub returns-in_err-spill_block-clause-idle : goal.returns-in_err-spill_block-clause-idle
+returns-in_err-spill_block-clause-idle g c =
+    let w = c.args.self in
+    let idle : written w ≡ [] → w.failed ≡ true = λ e. c.in_err-spill_block.ensures.idle (nothing_behind (joined w.cut) w.pending e) in
+    on_err c.from_residual.result idle
+
+pub returns-in_err-table-clause-idle : goal.returns-in_err-table-clause-idle
+returns-in_err-table-clause-idle g c =
+    let w = c.args.self in
+    let i = c.self.inside in
+    let held = spilled_is w _ i.chunk_size i.meta (c.self.view_is ∙ c.in_ok-spill_block.ensures.ok) c.self.invariant.0 in
+    let idle : written w ≡ [] → w.failed ≡ true = λ e. absurd (written_some w i.chunk_size i.meta held c.if-self-eq0.false e) in
+    on_err c.from_residual-in_err-table.result idle
