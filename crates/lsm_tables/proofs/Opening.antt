@@ -43,11 +43,6 @@ or_first : (a b : Option Error) (e : Error) → a ≡ Some e → option_or a b �
 or_first None b e p = absurd cc
 or_first (Some d) b e p = p
 
--- the fault that is told, memory aside
-pub passes_on : {X : Type 0} (r : Result X Error) (e : Error) (told : Option Error) → IsErrAnd r (λ y. y ≡ e) → (is_memory e ≡ false → told ≡ Some e) → Faults r told
-passes_on (Ok x) e told is fault = absurd is
-passes_on (Err y) e told is fault = rw is fault
-
 module _ (label : Label) (es : List Entry) (g : ℕ) where
   -- writing refused
   pub unwritten : (e : Error) → list_fault label es ≡ Some e → opening_fault label es g ≡ Some e

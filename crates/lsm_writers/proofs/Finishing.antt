@@ -9,7 +9,7 @@ use Rattle.sst_sections.specs.declared.version.TableVersion.TheVariants.{V4}
 use Rattle.sst_blocks.specs.Bounds.{index_block_bound_of, handle_bound}
 use Rattle.sst_blocks.specs.Handle.{Handle}
 use Rattle.sst_blocks.specs.Handles.{handle_spelled, handles_payload}
-use Rattle.sst_blocks.proofs.HandleLaws.{length-handle_spelled}
+use Rattle.sst_blocks.proofs.HandleFaults.{spelled_sum}
 use Rattle.sst_blocks.specs.Encoding.{is_long_key, key_fault, entries_fault, large_fault}
 use Rattle.sst_entries.specs.declared.value_type.ValueType.TheVariants.{Value}
 use Rattle.sst_entries.specs.Entry.{Entry, entry}
@@ -70,13 +70,9 @@ pub no_index_fault : (cs : List (List Entry)) → cs ≡ [] → large_fault (ind
 no_index_fault cs h = rw h refl
 
 -- the block of the handles is as long as its bound says
-handles_len : (hs : List Handle) → length (flat_map (handle_spelled V4) hs) ≡ sum_by handle_bound hs
-handles_len [] = refl
-handles_len (h ∷ hs) = omega (arith, handles_len hs, length-handle_spelled V4 h, length-append (handle_spelled V4 h) (flat_map (handle_spelled V4) hs), sum_by-cons handle_bound h hs)
-
 payload_len : (hs : List Handle) → length (handles_payload V4 hs) ≡ 4 + sum_by handle_bound hs
 unfolding handles_payload
-payload_len hs = omega (arith, handles_len hs, wide4.len (length hs), length-append (le4 (length hs)) (flat_map (handle_spelled V4) hs))
+payload_len hs = omega (arith, spelled_sum hs, wide4.len (length hs), length-append (le4 (length hs)) (flat_map (handle_spelled V4) hs))
 
 not_large : (n : ℕ) → large_fault n ≡ None → n < 2 ^ 32
 not_large n h = elim (cases_lt n (2 ^ 32)) [

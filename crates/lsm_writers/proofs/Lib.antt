@@ -1,4 +1,3 @@
-pub mod Listing
 pub mod Orders
 pub mod Cutting
 pub mod Taking

@@ -87,11 +87,6 @@ table_by (Err e) w es label all named options unspilled h = tt
 table_by (Ok None) w es label all named options unspilled h = sym all ∙ h
 table_by (Ok (Some f)) w es label all named options unspilled h = finished w es label all named options unspilled f.id f.checksum.0 f.bytes h
 
--- the fault that is told, memory aside
-pub faults_refusal : {X : Type 0} (r : Result X Error) (e : Error) (told : Option Error) → IsErrAnd r (λ y. y ≡ e) → (is_memory e ≡ false → told ≡ Some e) → Faults r told
-faults_refusal (Ok x) e told is fault = absurd is
-faults_refusal (Err y) e told is fault = rw is fault
-
 -- a list whose numbers are all below the largest one, as a test
 pub numbered_from_test : (es : List Entry) → list_all (λ (e : Entry). nat_lt e.seqno (2 ^ 64 - 1)) es ≡ true → AllByRecursion (λ (e : Entry). e.seqno < 2 ^ 64 - 1) es
 numbered_from_test [] h = tt

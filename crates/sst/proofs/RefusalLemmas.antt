@@ -19,8 +19,3 @@ passed {T} {E} (Err y) e is = ap (λ (f : E). Err f) is
 pub gives_refusal : {X Y : Type 0} (view : X → Y) (r : Result X Error) (e : Error) (told : Result Y Error) → IsErrAnd r (λ y. y ≡ e) → Fails e told → Gives view r told
 gives_refusal view (Ok x) e told is fails = absurd is
 gives_refusal view (Err y) e told is fails = rw is fails
-
--- the fault that is told, memory aside
-pub faults_refusal : {X : Type 0} (r : Result X Error) (e : Error) (told : Option Error) → IsErrAnd r (λ y. y ≡ e) → (is_memory e ≡ false → told ≡ Some e) → Faults r told
-faults_refusal (Ok x) e told is fault = absurd is
-faults_refusal (Err y) e told is fault = rw is fault

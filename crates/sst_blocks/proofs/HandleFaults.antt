@@ -68,7 +68,8 @@ no_handles_fault hs none small =
 
 -- ---- lengths
 
-spelled_sum : (hs : List Handle) → length (flat_map (handle_spelled V4) hs) ≡ sum_by handle_bound hs
+-- the handles take just what the bound counts
+pub spelled_sum : (hs : List Handle) → length (flat_map (handle_spelled V4) hs) ≡ sum_by handle_bound hs
 spelled_sum [] = refl
 spelled_sum (h ∷ hs) =
     omega (arith, length-append (handle_spelled V4 h) (flat_map (handle_spelled V4) hs), length-handle_spelled V4 h, spelled_sum hs, sum_by-cons handle_bound h hs)

@@ -6,3 +6,4 @@ pub mod Lists
 pub mod OrderLemmas
 pub mod KeyLemmas
 pub mod Strictness
+pub mod Refusals

@@ -1,7 +1,8 @@
+use Rattle.sst_entries.proofs.Refusals.{faults_refusal}
 use Rattle.std.proofs.Common.{ap, arith}
 use Rattle.lsm_files.specs.declared.options.Options.{Options}
 use Rattle.lsm_files.specs.Options.{label_of}
-use Rattle.lsm_tables.proofs.Opening.{none_written, opened, opens, passes_on, unopened}
+use Rattle.lsm_tables.proofs.Opening.{none_written, opened, opens, unopened}
 use Rattle.lsm_tables.proofs.written.write_and_open.Goals as goal
 
 pub returns-in_err-opened-in-Some-clause-refused : goal.returns-in_err-opened-in-Some-clause-refused
@@ -10,7 +11,7 @@ returns-in_err-opened-in-Some-clause-refused g c =
     let es = c.args.items.items in
     let f = rw c.in-Some.is at c.in_ok-write_list.ensures.table in
     let e = c.in_err-opened-in-Some.field-0.0 in
-    passes_on c.from_residual-in_err-opened-in-Some.result e _ c.from_residual-in_err-opened-in-Some.ensures.1
+    faults_refusal c.from_residual-in_err-opened-in-Some.result e _ c.from_residual-in_err-opened-in-Some.ensures.1
     (λ memory. unopened label es c.args.global_seqno c.in-Some.table.bytes f.table c.in_ok-write_list.ensures.refused e (c.in_err-opened-in-Some.ensures.list es f.table (ap (λ (o : Options). o.index_block_restart_interval) f.options_are) memory))
 
 pub returns-in-None-clause-refused : goal.returns-in-None-clause-refused

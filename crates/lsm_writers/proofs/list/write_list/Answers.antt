@@ -1,3 +1,4 @@
+use Rattle.sst_entries.proofs.Refusals.{faults_refusal}
 use Rattle.std.proofs.Common.{◌≡◌, ◌∙◌, sym, ap, subst, IsTrue, List, [], ◌∷◌, ◌++◌, append_assoc, append-nil}
 use Rattle.std.proofs.lemmas.List.{nil_from_length}
 use Rattle.std.specs.Prelude.{Option, None}
@@ -7,7 +8,7 @@ use Rattle.sst_entries.specs.Entry.{Entry}
 use Rattle.lsm_files.specs.Options.{label_of}
 use Rattle.lsm_writers.specs.Writing.{IsWritable, Writing, new_writing, spills_of, written, write_fault, writing_fault, may_be_written, gained, list_fault}
 use Rattle.sst_entries.specs.Error.{is_memory, Faults}
-use Rattle.lsm_writers.proofs.ListWriting.{faults_refusal, listed_follows, no_spills, written_gained, same_label, same_spills, table_by}
+use Rattle.lsm_writers.proofs.ListWriting.{listed_follows, no_spills, written_gained, same_label, same_spills, table_by}
 use Rattle.lsm_writers.proofs.list.write_list.Goals as goal
 
 pub loop-item-init : goal.loop-item-init

@@ -7,7 +7,7 @@ use Rattle.lsm_files.specs.File.{file}
 use Rattle.lsm_files.specs.Index.{handles}
 use Rattle.lsm_writers.specs.Writing.{Writing}
 use Rattle.lsm_writers.proofs.Finishing.{none_pending, held_keys, held_short, index_refuses, phases}
-use Rattle.lsm_writers.proofs.ListWriting.{faults_refusal}
+use Rattle.sst_entries.proofs.Refusals.{faults_refusal}
 use Rattle.lsm_writers.proofs.writer.Writer.table.Goals as goal
 
 pub returns-in_err-index_blocks-clause-refused : goal.returns-in_err-index_blocks-clause-refused

@@ -9,7 +9,7 @@ use Rattle.lsm_files.specs.Chunks.{joined}
 use Rattle.lsm_writers.specs.Cut.{chunks_in, IsReadable, Cut, with_cut}
 use Rattle.lsm_files.specs.Index.{last_entry, data_block, handle_of}
 use Rattle.lsm_writers.proofs.Cutting.{cut_more, cut_lost, held_again, held_by_bytes, counted_more, registered_strict, rest_is, room_for, at_least_blocks, exact_blocks, sizes}
-use Rattle.lsm_writers.proofs.Listing.{on_err}
+use Rattle.sst_entries.proofs.StreamLemmas.{on_err}
 use Rattle.sst_entries.proofs.Strictness.{strict_alone}
 use Rattle.lsm_writers.proofs.Orders.{strict_back, last_is, last_place, last_popped}
 use Rattle.lsm_writers.proofs.writer.data_blocks.DataBlocks.cut.Goals as goal
