@@ -1,4 +1,4 @@
-//! Merging of several sorted sources, from both ends. What `lsm_heaps` exports is passed on.
+//! Merging of several sorted sources, from both ends. Of `lsm_heaps` it passes on `IntervalHeap` and `Tournament`.
 #![tactic(auto)]
 
 mod ends;

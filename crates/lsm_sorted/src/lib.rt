@@ -1,5 +1,6 @@
 //! Merging, newest versions and compaction, and with `lsm_ranges` key ranges and runs of tables: everything that works on
-//! sorted entries, whatever table they come from. What `lsm_merge` and `lsm_ranges` export is passed on.
+//! sorted entries, whatever table they come from. Of `lsm_merge` it passes on all
+//! but `Ends`, and what `lsm_ranges` exports.
 #![tactic(auto)]
 
 mod ahead;

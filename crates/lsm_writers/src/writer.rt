@@ -171,7 +171,7 @@ impl<A: Allocator + Clone> Writer<A> {
         ensures refused { Faults result (failed_fault self.old.failed) }
         ensures first { FaultsFirst result (failed_fault self.old.failed) }
         ensures failed { OnErr result (self.new ≡ record self.old { failed = true }) }
-        // Where nothing is pending no memory is taken.
+        // Where nothing is pending, only a writer that has failed refuses.
         ensures idle { OnErr result (self.old.pending ≡ [] → self.old.failed ≡ true) }
     {
         if self.failed {
@@ -195,7 +195,7 @@ impl<A: Allocator + Clone> Writer<A> {
             (λ f. IsFinished self f.id f.checksum.0 f.bytes)) }
         ensures refused { Faults result (finish_fault self) }
         ensures first { FaultsFirst result (failed_fault self.failed) }
-        // Where nothing was written no memory is taken.
+        // Where nothing was written, only a writer that has failed refuses.
         ensures idle { OnErr result (written self ≡ [] → self.failed ≡ true) }
         // The list that was written is strict, and its entries fit the fields of a table.
         ensures strict { IfOk result (λ t. IsStrict (written self)) }

@@ -173,6 +173,7 @@ pub fn written_blocks_load()
         IsStrict es → AreSpellable v es → length (payload v es) < 2 ^ 32 →
         LoadsBack v kind (payload v es) × (entries_of (loaded v kind (payload v es)) ≡ es) }
     ensures handles { (v : TableVersion) (hs : List Handle) →
-        AreStrictHandles hs → AreSpellableHandles v hs → length (handles_payload v hs) < 2 ^ 32 → LoadsBack v Index (handles_payload v hs)
+        AreStrictHandles hs → AreSpellableHandles v hs →
+        length (handles_payload v hs) < 2 ^ 32 → LoadsBack v Index (handles_payload v hs)
         × (handles_of (loaded v Index (handles_payload v hs)) ≡ hs) }
 {}

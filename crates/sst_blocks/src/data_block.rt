@@ -295,7 +295,7 @@ impl<A: Allocator> DataBlock<A> {
     pub fn point_read(&self, key: &[u8], seqno: SeqNo) -> Result<Option<InternalValue<A>>, Error>
         ensures found { IfOk result (λ found. found ≡ point self.now key.now seqno) }
         ensures err { IfErr result (λ e. e ≡ OutOfMemory) }
-        // Where there is no such entry, no memory is taken.
+        // Where there is no such entry, nothing is refused.
         ensures some { OnErr result (point self.now key.now seqno ≢ None) }
     {
         let index = self.front_len(move |user_key, number| {

@@ -219,8 +219,8 @@ impl<A: Allocator> IndexBlock<A> {
             Some handles.now) }
         ensures bound { let len = header_len + length (handles_payload V4 handles.now) in
             OnOk result (len ≡ index_block_bound_of handles.now) }
-        ensures short { OnOk result (header_len + length (handles_payload V4 handles.now) < 2 ^
-            32) }
+        ensures short { OnOk result (
+            header_len + length (handles_payload V4 handles.now) < 2 ^ 32) }
     {
         let len = block_len(handles)?;
         let start = buf.len();

@@ -15,7 +15,7 @@ use std::marker::Model;
 pub struct InternalValue<A: Allocator = Global> {
     /// The key, with its number and kind.
     pub key: InternalKey<A>,
-    /// The value, empty for a tombstone.
+    /// The value. That of a tombstone is empty by custom, which no call asks for.
     pub value: UserValue<A>,
 }
 

@@ -55,7 +55,7 @@ pub trait BlockIndexWriter<A: Allocator> {
         ensures refused { Faults result (finish_fault self) }
         ensures first { FaultsFirst result (failed_fault (has_failed self)) };
 
-    /// Compresses the blocks of the index. What it holds and writes stays.
+    /// Compresses the blocks of the index. What it holds and what it writes stay.
     fn use_compression(self, compression: CompressionType) -> Self
         ensures registered { registered result ≡ registered self }
         ensures failed { has_failed result ≡ has_failed self }
