@@ -10,8 +10,9 @@ use Rattle.sst_blocks.specs.declared.block_type.BlockType.{BlockType}
 use Rattle.sst_blocks.specs.declared.block_type.BlockType.TheVariants.{Data, Index, Filter, Meta}
 use Rattle.sst_sections.specs.Fnv.{fnv1a, fnv_from, fnv_basis, fnv_prime, fnv_step}
 use Rattle.sst_sections.specs.Number.{le4, le8, num4, num8}
-use Rattle.sst_blocks.specs.Block.{header, block_bytes, header_fault, data_len, uncompressed_len, stored_checksum, version_in, in_grammar, checked_payload, load_told, load_at_told, entries_of, handles_of, loaded, LoadsBack}
+use Rattle.sst_blocks.specs.Block.{header, block_bytes, header_fault, data_len, uncompressed_len, stored_checksum, version_in, in_grammar, checked_payload, load_told, load_at_told, entries_of, handles_of, loaded, LoadsBack, is_filter}
 use Rattle.sst_blocks.specs.Handle.{Handle}
+use Rattle.sst_filters.specs.Filter.{BloomFilter, filter_in, payload_of}
 use Rattle.sst_blocks.specs.Handles.{handles_payload, AreStrictHandles, AreSpellableHandles}
 use Rattle.sst_blocks.specs.Payload.{payload, AreSpellable}
 use Rattle.sst_blocks.specs.Reading.{entries_in}
@@ -155,3 +156,7 @@ pub handles_load : (v : TableVersion) (hs : List Handle) → AreStrictHandles hs
 handles_load v hs strict fit lt =
     let told = handles_read v hs fit strict in
     (loads_back v Index (handles_payload v hs) lt (ap is_some told), rw told refl)
+
+pub filter_load : (v : TableVersion) (f : BloomFilter) → is_filter (payload_of f) ≡ true → length (payload_of f) < 2 ^ 32
+    → LoadsBack v Filter (payload_of f) × (filter_in (payload_of f) ≡ f)
+filter_load v f ok lt = (loads_back v Filter (payload_of f) lt ok, refl)

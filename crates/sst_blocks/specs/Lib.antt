@@ -16,3 +16,5 @@ pub use Rattle.sst_sections.specs.Number
 pub use Rattle.sst_sections.specs.Version
 pub use Rattle.sst_sections.specs.Fnv
 pub use Rattle.sst_sections.specs.Sections
+pub use Rattle.sst_filters.specs.Filter
+pub use Rattle.sst_filters.specs.Policy

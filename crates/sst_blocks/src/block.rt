@@ -1,12 +1,12 @@
 //! Blocks: a checked payload of one kind.
-ghost use Rattle.std.specs.Prelude.{◌≡◌, ◌+◌, ◌++◌, ◌<◌, ◌^◌, List, Ok, length, IfOk, IfErr, OnOk, OnErr};
+ghost use Rattle.std.specs.Prelude.{◌≡◌, ◌+◌, ◌++◌, ◌<◌, ◌^◌, List, Ok, true, length, IfOk, IfErr, OnOk, OnErr};
 ghost use Rattle.sst_blocks.specs.Words.{AreSpellable, AreSpellableHandles, AreStrictHandles};
 ghost use Rattle.sst_blocks.specs.Words.{Entry, Faults, Gives, Handle, HoldsEntries, IsBlock};
 ghost use Rattle.sst_blocks.specs.Words.{IsStrict, Loaded, LoadsBack, block_bytes, entries_of};
 ghost use Rattle.sst_blocks.specs.Words.{grammar_fault, handles_of, handles_payload, header_len};
-ghost use Rattle.sst_blocks.specs.Words.{is_filter, loaded, payload, unless};
+ghost use Rattle.sst_blocks.specs.Words.{BloomFilter, filter_in, is_filter, loaded, payload, payload_of, unless};
 ghost use Rattle.sst_blocks.specs.declared.block_type.BlockType.{BlockType};
-ghost use Rattle.sst_blocks.specs.declared.block_type.BlockType.TheVariants.{Index};
+ghost use Rattle.sst_blocks.specs.declared.block_type.BlockType.TheVariants.{Filter, Index};
 ghost use Rattle.sst_sections.specs.declared.version.TableVersion.{TableVersion};
 ghost use Rattle.sst_sections.specs.declared.version.TableVersion.TheVariants.{V4};
 ghost use Rattle.sst_entries.specs.declared.error.Error.TheVariants.{OutOfMemory};
@@ -167,7 +167,7 @@ impl<A: Allocator + Clone> Block<A> {
 }
 
 /// A law of blocks that were written: whatever stands before and behind it, the block of a strict list that its version can
-/// spell loads, by its handle and at its position, and holds the list. The call does nothing.
+/// spell loads, by its handle and at its position, and holds the list; so does that of a filter. The call does nothing.
 pub fn written_blocks_load()
     ensures entries { (v : TableVersion) (kind : BlockType) (es : List Entry) → HoldsEntries kind →
         IsStrict es → AreSpellable v es → length (payload v es) < 2 ^ 32 →
@@ -176,4 +176,7 @@ pub fn written_blocks_load()
         AreStrictHandles hs → AreSpellableHandles v hs →
         length (handles_payload v hs) < 2 ^ 32 → LoadsBack v Index (handles_payload v hs)
         × (handles_of (loaded v Index (handles_payload v hs)) ≡ hs) }
+    ensures filters { (v : TableVersion) (f : BloomFilter) →
+        is_filter (payload_of f) ≡ true → length (payload_of f) < 2 ^ 32 →
+        LoadsBack v Filter (payload_of f) × (filter_in (payload_of f) ≡ f) }
 {}

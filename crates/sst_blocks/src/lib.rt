@@ -1,10 +1,11 @@
-//! The blocks of sorted tables. What `sst_sections` exports is passed on.
+//! The blocks of sorted tables. What `sst_sections` and `sst_filters` export is passed on.
 #![tactic(auto)]
 
 mod block;
 mod block_type;
 mod compression;
 mod data_block;
+mod filter_block;
 mod handle;
 mod index_block;
 mod opened;
@@ -15,10 +16,12 @@ pub use block::{Block, Header, written_blocks_load};
 pub use block_type::BlockType;
 pub use compression::CompressionType;
 pub use data_block::{DataBlock, Iter as DataBlockIter, data_block_bound};
+pub use filter_block::FilterBlock;
 pub use handle::{BlockHandle, BlockOffset, KeyedBlockHandle, are_strict_handles};
 pub use index_block::{IndexBlock, Iter as IndexBlockIter, index_block_bound};
 pub use opened::Opened;
 pub use source::{BlockSource, Counted, LoadBlocks};
+pub use sst_filters::{BloomConstructionPolicy, Builder, contains_hash, filter_bound};
 pub use sst_sections::{
     Checksum, Direction, Error, InternalKey, InternalValue, IterItem, Section, SectionName,
     SectionWriter, SeqNo, Slice, TableVersion, TagName, Toc, UserKey, UserValue, ValueType,

@@ -9,7 +9,7 @@ use Rattle.std.proofs.lemmas.List.Folds.{list_any-append, list_all-append}
 use Rattle.std.proofs.lemmas.Nat.Bits.{bit_at_set_same, bit_at_set_other, bit_at-zero}
 use Rattle.sst_entries.proofs.Booleans.{apart}
 use Rattle.std.proofs.Math.Numerals.{add-one}
-use Rattle.sst_filters.specs.Filter.{admits, Filter, filter_in, Gains, IsFilterOf, is_in, is_set, probe, probes, probes_of, stride}
+use Rattle.sst_filters.specs.Filter.{admits, BloomFilter, filter_in, Gains, IsFilterOf, is_in, is_set, probe, probes, probes_of, stride}
 
 -- ---- one bit
 
@@ -202,13 +202,13 @@ set_by probe_list h p (x ∷ hashes) here at = ⊎_elim
     or_right false b e = e
 
 -- so a filter admits each of its hashes
-pub admits_its_hashes : (f : Filter) (hashes : List ℕ) (h : ℕ) → 0 < length f.bits → IsFilterOf f hashes → is_in h hashes ≡ true → admits f h ≡ true
+pub admits_its_hashes : (f : BloomFilter) (hashes : List ℕ) (h : ℕ) → 0 < length f.bits → IsFilterOf f hashes → is_in h hashes ≡ true → admits f h ≡ true
 admits_its_hashes f hashes h some of here =
     all_probes f.bits (8 * length f.bits) h (omega (arith, some)) f.probe_count
     (λ p lt at. of.bits p lt ∙ set_by (probes_of f) h p hashes here at)
 
 -- a filter of some hashes is one of these and the hash that it gains
-pub gains_hash : (f g : Filter) (h : ℕ) (hashes : List ℕ) → Gains f h g → IsFilterOf f hashes → IsFilterOf g (hashes ++ h ∷ [])
+pub gains_hash : (f g : BloomFilter) (h : ℕ) (hashes : List ℕ) → Gains f h g → IsFilterOf f hashes → IsFilterOf g (hashes ++ h ∷ [])
 gains_hash f g h hashes gains of = record {
   bits = λ p lt.
       let below : p < 8 * length f.bits = rw (← gains.same_length) lt in

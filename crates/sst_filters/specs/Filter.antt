@@ -26,35 +26,35 @@ abbrev pub is_in : ℕ → List ℕ → Bool
 is_in p ps = list_any (λ q. q == p) ps
 
 -- a filter: how many probes a hash has, and the bytes of its bits
-pub record Filter : Type 0 where
+pub record BloomFilter : Type 0 where
   pub probe_count : ℕ
   pub bits : List ℕ
 
 -- the bits of a hash in a filter
-abbrev pub probes_of : Filter → ℕ → List ℕ
+abbrev pub probes_of : BloomFilter → ℕ → List ℕ
 probes_of f h = probes (8 * length f.bits) h f.probe_count
 
 -- all bits of a hash are set
-abbrev pub admits : Filter → ℕ → Bool
+abbrev pub admits : BloomFilter → ℕ → Bool
 admits f h = list_all (is_set f.bits) (probes_of f h)
 
 -- just the bits of these hashes are set
-pub record IsFilterOf (f : Filter) (hashes : List ℕ) : Type 0 where
+pub record IsFilterOf (f : BloomFilter) (hashes : List ℕ) : Type 0 where
   pub bits : (p : ℕ) → p < 8 * length f.bits →
       is_set f.bits p ≡ list_any (λ h. is_in p (probes_of f h)) hashes
 
 -- besides what was set, just the bits of one hash more are
-pub record Gains (f : Filter) (h : ℕ) (g : Filter) : Type 0 where
+pub record Gains (f : BloomFilter) (h : ℕ) (g : BloomFilter) : Type 0 where
   pub probe_count_is : g.probe_count ≡ f.probe_count
   pub same_length : length g.bits ≡ length f.bits
   pub bits : (p : ℕ) → p < 8 * length f.bits →
       is_set g.bits p ≡ (is_set f.bits p || is_in p (probes_of f h))
 
 -- a payload: the number of probes, then the bits
-abbrev pub payload_of : Filter → List ℕ
+abbrev pub payload_of : BloomFilter → List ℕ
 payload_of f = f.probe_count ∷ f.bits
 
 -- the filter of a payload
-abbrev pub filter_in : List ℕ → Filter
+abbrev pub filter_in : List ℕ → BloomFilter
 filter_in [] = record { probe_count = 0; bits = [] }
 filter_in (k ∷ bits) = record { probe_count = k; bits = bits }

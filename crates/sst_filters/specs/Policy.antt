@@ -2,7 +2,7 @@
 use Rattle.std.specs.Prelude.{ℕ, ◌+◌, ◌-◌, ◌*◌, ◌/◌, ◌^◌, nat_le, nat_lt, List, [], ◌∷◌, Option, Some, None, min, max, replicate, if◌then◌else◌}
 use Rattle.sst_entries.specs.declared.error.Error.{Error}
 use Rattle.sst_entries.specs.declared.error.Error.TheVariants.{BlockTooLarge}
-use Rattle.sst_filters.specs.Filter.{Filter}
+use Rattle.sst_filters.specs.Filter.{BloomFilter}
 use Rattle.sst_filters.specs.declared.policy.BloomConstructionPolicy.{BloomConstructionPolicy}
 use Rattle.sst_filters.specs.declared.policy.BloomConstructionPolicy.TheVariants.{BitsPerKey}
 
@@ -27,5 +27,5 @@ abbrev pub fault_for : ℕ → ℕ → Option Error
 fault_for tenths n = if nat_le (2 ^ 32) (bound_for tenths n) then Some BlockTooLarge else None
 
 -- a filter for n keys in which no bit is set
-abbrev pub empty_filter : ℕ → ℕ → Filter
+abbrev pub empty_filter : ℕ → ℕ → BloomFilter
 empty_filter tenths n = record { probe_count = probe_count tenths; bits = replicate (size_for tenths n) 0 }

@@ -18,9 +18,9 @@ pub struct Builder<A: Allocator = Global> {
 
 impl<A: Allocator> Model for Builder<A> {
     ghost use Rattle.std.specs.Prelude.{◌<◌, ◌^◌, length};
-    ghost use Rattle.sst_filters.specs.Filter.{Filter, filter_in};
+    ghost use Rattle.sst_filters.specs.Filter.{BloomFilter, filter_in};
 
-    ghost Value = { Filter };
+    ghost Value = { BloomFilter };
 
     ghost view = { λ b. filter_in b.payload.items };
 
