@@ -4,6 +4,8 @@
 #[cfg(test)]
 mod data_blocks;
 #[cfg(test)]
+mod filter_blocks;
+#[cfg(test)]
 mod filters;
 #[cfg(test)]
 mod hashes;

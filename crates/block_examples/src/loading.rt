@@ -2,8 +2,8 @@
 use crate::stored_table;
 use refusing::each_refused;
 use sst_blocks::{
-    Block, BlockHandle, BlockOffset, BlockSource, BlockType, CompressionType, Counted, Error,
-    LoadBlocks, Opened, SectionName, SectionWriter, Slice, TagName, written_blocks_load,
+    Block, BlockHandle, BlockOffset, BlockSource, BlockType, Counted, Error, LoadBlocks, Opened,
+    Slice, TagName, written_blocks_load,
 };
 use std::alloc::{Allocator, Global};
 use std::test::Fail;
@@ -221,56 +221,6 @@ fn each_request_of_a_load_refused(rt: HostRuntime) -> Result<(), Fail> {
         Err(_) => false,
     });
     assert!(rt; refused.is_ok_and(|requests| requests > 3));
-    Ok(())
-}
-
-// A table of a filter block alone, and where the block lies.
-fn filter_table(
-    alloc: Global,
-    payload: &[u8; 2],
-    is_short: bool,
-) -> Result<(BlockHandle, Slice), Error> {
-    let payload = if is_short {
-        &payload[..1]
-    } else {
-        &payload[..2]
-    };
-    let mut writer = SectionWriter::new(alloc)?;
-    writer.start(SectionName::Filter)?;
-    let lies = Block::write_into(
-        &mut writer,
-        payload,
-        BlockType::Filter,
-        CompressionType::None,
-    )?;
-    let (bytes, _checksum) = writer.finish()?;
-    Ok((lies, bytes))
-}
-
-// Writes a filter block and loads it again.
-fn write_and_load(
-    alloc: Global,
-    payload: &[u8; 2],
-    is_short: bool,
-) -> Result<(BlockType, usize), Error> {
-    let (lies, bytes) = filter_table(alloc, payload, is_short)?;
-    let source = BlockSource::new(alloc, bytes)?;
-    told(source.load(&lies, BlockType::Filter, &mut Opened::none()))
-}
-
-#[test]
-fn filters_written_and_loaded(rt: HostRuntime) -> Result<(), Fail> {
-    let filters = [
-        ([1, 0], false, Ok((BlockType::Filter, 2))),
-        ([30, 255], false, Ok((BlockType::Filter, 2))),
-        ([0, 255], false, Err(Error::InvalidBlock)),
-        ([31, 255], false, Err(Error::InvalidBlock)),
-        ([1, 0], true, Err(Error::InvalidBlock)),
-    ];
-    for (payload, is_short, expected) in filters {
-        let answer = write_and_load(rt.alloc(), &payload, is_short);
-        assert!(rt; answer == expected);
-    }
     Ok(())
 }
 
