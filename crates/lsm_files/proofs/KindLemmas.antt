@@ -1,64 +1,90 @@
--- What the kinds that are written come to.
-use Rattle.std.proofs.Common.{◌≡◌, refl, ap, ℕ, ◌+◌, ◌<◌, ◌^◌, List, [], ◌∷◌, ◌++◌, length}
+-- What the kinds come to: their parts as they are cut, and tables with a full index and no filters.
+use Rattle.std.proofs.Common.{◌≡◌, refl, ◌∙◌, ap, sym, subst, ℕ, List, [], ◌∷◌, ◌++◌, length, nat_lt, if◌then◌else◌}
 use Rattle.sst_sections.specs.declared.version.TableVersion.{TableVersion}
 use Rattle.sst_sections.specs.declared.section.SectionName.TheVariants.{Data}
 use Rattle.sst_blocks.specs.Handle.{Handle}
-use Rattle.sst_blocks.specs.Handles.{handles_payload}
 use Rattle.sst_entries.specs.Entry.{Entry}
-use Rattle.lsm_files.specs.declared.options.BloomConstructionPolicy.{BloomConstructionPolicy}
-use Rattle.lsm_files.specs.declared.options.BloomConstructionPolicy.TheVariants.{Inactive}
+use Rattle.sst_filters.specs.declared.policy.BloomConstructionPolicy.{BloomConstructionPolicy}
+use Rattle.sst_filters.specs.Filter.{BloomFilter}
+use Rattle.sst_filters.specs.Policy.{tenths_of}
 use Rattle.lsm_files.specs.declared.options.FilterKind.{FilterKind}
-use Rattle.lsm_files.specs.declared.options.FilterKind.TheVariants.{Full as FullFilter}
+use Rattle.lsm_files.specs.declared.options.FilterKind.TheVariants.{Full as FullFilter, Partitioned as PartitionedFilter}
 use Rattle.lsm_files.specs.declared.options.IndexKind.{IndexKind}
-use Rattle.lsm_files.specs.declared.options.IndexKind.TheVariants.{Full as FullIndex}
-use Rattle.lsm_files.specs.File.{counted_blocks, sections_of, closing_sections, file}
+use Rattle.lsm_files.specs.declared.options.IndexKind.TheVariants.{Full as FullIndex, Partitioned as PartitionedIndex}
+use Rattle.lsm_files.proofs.PartLaws.{are_parts_of}
+use Rattle.lsm_files.specs.Chunks.{AreChunks}
+use Rattle.lsm_files.specs.Content.{Content}
+use Rattle.lsm_files.specs.File.{counted_blocks, sections_of, closing_sections, index_part, filter_part, IsContent}
+use Rattle.lsm_files.specs.Filters.{filtered_keys, keys_of, AreFiltersFor, is_full_filter}
 use Rattle.lsm_files.specs.Index.{handles, data_section}
-use Rattle.lsm_files.specs.Kinds.{full_index, index_of, index_sections, index_count_of, index_count, IndexFitsOf, IndexFits, filter_of, filter_sections, filter_count_of, filter_count}
-use Rattle.lsm_files.specs.Layout.{Sections, laid}
+use Rattle.lsm_files.specs.Kinds.{AreIndexParts, index_parts, full_index, index_sections, AreFilterParts, filter_parts, filter_sections, filter_count}
+use Rattle.lsm_files.specs.Layout.{Sections}
 use Rattle.lsm_files.specs.MetaBlock.{Blocks}
-use Rattle.lsm_files.specs.declared.options.Options.{Options}
+use Rattle.lsm_files.specs.Partitions.{is_full_index}
+use Rattle.lsm_files.specs.Parts.{rest_part}
+use Rattle.lsm_files.specs.Plain.{IsPlain, plain_content}
 use Rattle.lsm_files.specs.declared.label.Label.{Label}
-use Rattle.sst_sections.specs.Sections.{finished}
+use Rattle.lsm_files.specs.declared.options.Options.{Options}
 
-index_by : (k : IndexKind) (size : ℕ) (v : TableVersion) (at : ℕ) (hs : List Handle) → index_of k size v at hs ≡ full_index v hs
-index_by FullIndex size v at hs = refl
+-- parts as they are cut are those of the kind
+pub index_parts_are : (k : IndexKind) (hs : List Handle) → AreIndexParts k hs (index_parts k hs)
+index_parts_are FullIndex hs = refl
+index_parts_are (PartitionedIndex size) hs = are_parts_of (is_full_index size) hs
 
--- an index is full
-pub index_is : (v : TableVersion) (options : Options) (at : ℕ) (hs : List Handle) → index_sections v options at hs ≡ full_index v hs
-index_is v options at hs = index_by options.index_kind options.meta_partition_size v at hs
+pub filter_parts_are : (k : FilterKind) (policy : BloomConstructionPolicy) (keys : List (List ℕ)) → AreFilterParts k policy keys (filter_parts k policy keys)
+filter_parts_are FullFilter policy keys = refl
+filter_parts_are (PartitionedFilter size) policy keys = are_parts_of (is_full_filter policy size) keys
 
-count_by : (k : IndexKind) (size : ℕ) (hs : List Handle) → index_count_of k size hs ≡ 1
-count_by FullIndex size hs = refl
+no_keys : (policy : BloomConstructionPolicy) (es : List Entry) → tenths_of policy ≡ 0 → filtered_keys policy es ≡ []
+no_keys policy es h = ap (λ (t : ℕ). if nat_lt 0 t then keys_of es else []) h
 
-pub index_counts : (options : Options) (hs : List Handle) → index_count options hs ≡ 1
-index_counts options hs = count_by options.index_kind options.meta_partition_size hs
+full_parts : (k : IndexKind) (hs : List Handle) (parts : List (List Handle)) → k ≡ FullIndex → AreIndexParts k hs parts → parts ≡ hs ∷ []
+full_parts k hs parts h a = subst (λ x. AreIndexParts x hs parts) h a
 
-fits_by : (k : IndexKind) (size : ℕ) (v : TableVersion) (hs : List Handle) → 24 + length (handles_payload v hs) < 2 ^ 32 → IndexFitsOf k size v hs
-fits_by FullIndex size v hs h = h
+parts_of_none : (k : FilterKind) (policy : BloomConstructionPolicy) (keys : List (List ℕ)) (parts : List (List (List ℕ))) → k ≡ FullFilter → keys ≡ [] → AreFilterParts k policy keys parts → parts ≡ []
+parts_of_none k policy keys parts h none a =
+    let all : parts ≡ rest_part keys = subst (λ x. AreFilterParts x policy keys parts) h a in
+    all ∙ ap (λ (ks : List (List ℕ)). rest_part ks) none
 
-pub index_fits : (v : TableVersion) (options : Options) (hs : List Handle) → 24 + length (handles_payload v hs) < 2 ^ 32 → IndexFits v options hs
-index_fits v options hs h = fits_by options.index_kind options.meta_partition_size v hs h
+none_for : (policy : BloomConstructionPolicy) (fs : List BloomFilter) → AreFiltersFor policy [] fs → fs ≡ []
+none_for policy [] a = refl
+none_for policy (f ∷ fs) a = absurd a
 
-short_by : (k : IndexKind) (size : ℕ) (v : TableVersion) (hs : List Handle) → IndexFitsOf k size v hs → 24 + length (handles_payload v hs) < 2 ^ 32
-short_by FullIndex size v hs h = h
+filters_of_none : (policy : BloomConstructionPolicy) (parts : List (List (List ℕ))) (fs : List BloomFilter) → parts ≡ [] → AreFiltersFor policy parts fs → fs ≡ []
+filters_of_none policy parts fs h a = none_for policy fs (subst (λ ps. AreFiltersFor policy ps fs) h a)
 
-pub index_short : (v : TableVersion) (options : Options) (hs : List Handle) → IndexFits v options hs → 24 + length (handles_payload v hs) < 2 ^ 32
-index_short v options hs h = short_by options.index_kind options.meta_partition_size v hs h
+-- what a table with a full index and without filters holds
+pub content_is_plain : (v : TableVersion) (options : Options) (spills : List ℕ) (es : List Entry) (c : Content) → IsPlain options → IsContent v options spills es c → c ≡ plain_content v c.blocks
+content_is_plain v options spills es c p h =
+    let index : c.index ≡ handles v c.blocks ∷ [] = full_parts options.index_kind (handles v c.blocks) c.index p.index h.index in
+    let keys : c.keys ≡ [] = parts_of_none options.filter_kind options.bloom_policy (filtered_keys options.bloom_policy es) c.keys p.filter (no_keys options.bloom_policy es p.policy) h.keys in
+    let filters : c.filters ≡ [] = filters_of_none options.bloom_policy c.keys c.filters keys h.filters in
+    rw (index, keys, filters) refl
 
-filter_by : (k : FilterKind) (p : BloomConstructionPolicy) (size : ℕ) (v : TableVersion) (at : ℕ) (es : List Entry) → filter_of k p size v at es ≡ []
-filter_by FullFilter Inactive size v at es = refl
+keys_are_none : (k : FilterKind) (policy : BloomConstructionPolicy) (keys : List (List ℕ)) → k ≡ FullFilter → keys ≡ [] → AreFilterParts k policy keys []
+keys_are_none k policy keys h none = subst (λ x. AreFilterParts x policy keys []) (sym h) (sym (ap (λ (ks : List (List ℕ)). rest_part ks) none))
 
--- no filter is written
-pub filter_is : (v : TableVersion) (options : Options) (at : ℕ) (es : List Entry) → filter_sections v options at es ≡ []
-filter_is v options at es = filter_by options.filter_kind options.bloom_policy options.meta_partition_size v at es
+pub plain_is_content : (v : TableVersion) (options : Options) (spills : List ℕ) (es : List Entry) (cs : List (List Entry)) → IsPlain options → AreChunks options.data_block_size spills es cs → IsContent v options spills es (plain_content v cs)
+plain_is_content v options spills es cs p h = record {
+  chunks = h;
+  index = subst (λ x. AreIndexParts x (handles v cs) (handles v cs ∷ [])) (sym p.index) refl;
+  keys = keys_are_none options.filter_kind options.bloom_policy (filtered_keys options.bloom_policy es) p.filter (no_keys options.bloom_policy es p.policy);
+  filters = tt;
+}
 
-filter_count_by : (k : FilterKind) (p : BloomConstructionPolicy) (size : ℕ) (es : List Entry) → filter_count_of k p size es ≡ 1
-filter_count_by FullFilter Inactive size es = refl
+-- its parts
+pub index_part_is : (v : TableVersion) (options : Options) (cs : List (List Entry)) → IsPlain options → index_part v options (plain_content v cs) ≡ full_index v (handles v cs)
+index_part_is v options cs p = ap (λ k. index_sections k v (length (data_section v cs)) (handles v cs) (handles v cs ∷ [])) p.index
 
-pub filter_counts : (options : Options) (es : List Entry) → filter_count options es ≡ 1
-filter_counts options es = filter_count_by options.filter_kind options.bloom_policy options.meta_partition_size es
+none_by : (k : FilterKind) (v : TableVersion) (at : ℕ) → k ≡ FullFilter → filter_sections k v at [] [] ≡ []
+none_by k v at h = ap (λ x. filter_sections x v at [] []) h
 
--- the sections of a table whose index is full and that has no filter
-pub sections_are : (v : TableVersion) (label : Label) (options : Options) (cs : List (List Entry)) → sections_of v label options cs ≡ (Data, data_section v cs) ∷ (full_index v (handles v cs) ++ closing_sections v label options cs)
-sections_are v label options cs =
-    rw (filter_is, index_is) refl
+pub filter_part_is : (v : TableVersion) (options : Options) (cs : List (List Entry)) → IsPlain options → filter_part v options (plain_content v cs) ≡ []
+filter_part_is v options cs p = none_by options.filter_kind v _ p.filter
+
+pub counted_is : (v : TableVersion) (options : Options) (cs : List (List Entry)) → IsPlain options → counted_blocks options (plain_content v cs) ≡ record { index = 1; filter = 1 }
+counted_is v options cs p = rw (p.filter) refl
+
+pub sections_are : (v : TableVersion) (label : Label) (options : Options) (cs : List (List Entry)) → IsPlain options → sections_of v label options (plain_content v cs) ≡ (Data, data_section v cs) ∷ (full_index v (handles v cs) ++ closing_sections v label options (plain_content v cs))
+sections_are v label options cs p =
+    rw (filter_part_is v options cs p, index_part_is v options cs p) refl

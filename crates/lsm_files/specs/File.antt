@@ -8,19 +8,21 @@ use Rattle.sst_blocks.specs.Block.{block_bytes}
 use Rattle.sst_entries.specs.Entry.{Entry}
 use Rattle.sst_blocks.specs.Payload.{payload}
 use Rattle.sst_sections.specs.Sections.{finished, Written, slot_index}
-use Rattle.lsm_files.specs.Chunks.{joined, AreChunks}
+use Rattle.lsm_files.specs.Chunks.{AreChunks}
 use Rattle.lsm_files.specs.Index.{handles, data_section}
-use Rattle.lsm_files.specs.Kinds.{index_sections, index_count, filter_sections, filter_count}
+use Rattle.lsm_files.specs.Content.{Content}
+use Rattle.lsm_files.specs.Filters.{filtered_keys, AreFiltersFor}
+use Rattle.lsm_files.specs.Kinds.{AreIndexParts, index_sections, AreFilterParts, filter_sections, filter_count}
 use Rattle.lsm_files.specs.Layout.{Sections, bytes_in, laid}
 use Rattle.lsm_files.specs.MetaBlock.{Blocks, meta_entries, version_number}
 use Rattle.lsm_files.specs.declared.options.Options.{Options}
 use Rattle.lsm_files.specs.declared.label.Label.{Label}
 
--- how many blocks the index and the filter of a list of chunks count
-abbrev pub counted_blocks : TableVersion → Options → List (List Entry) → Blocks
-counted_blocks v options cs = record {
-  index = index_count options (handles v cs);
-  filter = filter_count options (joined cs);
+-- how many blocks the index and the filter count
+abbrev pub counted_blocks : Options → Content → Blocks
+counted_blocks options c = record {
+  index = length c.index;
+  filter = filter_count options.filter_kind c.filters;
 }
 
 -- the number of the version that is written
@@ -32,40 +34,61 @@ abbrev pub meta_section : TableVersion → List Entry → Sections
 meta_section v items = (MetaSection, block_bytes v Meta (payload v items)) ∷ []
 
 -- these sections were not started
+abbrev pub HasNoIndex : Written → Type 0
+HasNoIndex w =
+    All (λ (s : SectionName × ℕ). (slot_index s.0 ≡ 1 → ⊥) × (slot_index s.0 ≡ 2 → ⊥)) w.started
+
+abbrev pub HasNoFilter : Written → Type 0
+HasNoFilter w =
+    All (λ (s : SectionName × ℕ). (slot_index s.0 ≡ 3 → ⊥) × (slot_index s.0 ≡ 4 → ⊥)) w.started
+
 abbrev pub HasNoVersion : Written → Type 0
 HasNoVersion w = All (λ (s : SectionName × ℕ). slot_index s.0 ≡ 5 → ⊥) w.started
 
 abbrev pub HasNoMeta : Written → Type 0
 HasNoMeta w = All (λ (s : SectionName × ℕ). slot_index s.0 ≡ 6 → ⊥) w.started
 
-abbrev pub closing_sections : TableVersion → Label → Options → List (List Entry) → Sections
-closing_sections v label options cs =
+abbrev pub closing_sections : TableVersion → Label → Options → Content → Sections
+closing_sections v label options c =
     version_section v
-    ++ meta_section v (meta_entries v label options cs (counted_blocks v options cs))
+    ++ meta_section v (meta_entries v label options c.blocks (counted_blocks options c))
 
 -- the data blocks, then the index of its kind, then the filter of its kind
-abbrev pub index_part : TableVersion → Options → List (List Entry) → Sections
-index_part v options cs = index_sections v options (length (data_section v cs)) (handles v cs)
+abbrev pub index_part : TableVersion → Options → Content → Sections
+index_part v options c =
+    let at = length (data_section v c.blocks) in
+    index_sections options.index_kind v at (handles v c.blocks) c.index
 
-abbrev pub front_sections : TableVersion → Options → List (List Entry) → Sections
-front_sections v options cs = (Data, data_section v cs) ∷ index_part v options cs
+abbrev pub front_sections : TableVersion → Options → Content → Sections
+front_sections v options c = (Data, data_section v c.blocks) ∷ index_part v options c
 
-abbrev pub filter_part : TableVersion → Options → List (List Entry) → Sections
-filter_part v options cs =
-    filter_sections v options (length (bytes_in (front_sections v options cs))) (joined cs)
+abbrev pub filter_part : TableVersion → Options → Content → Sections
+filter_part v options c =
+    let at = length (bytes_in (front_sections v options c)) in
+    filter_sections options.filter_kind v at c.keys c.filters
 
 -- the data blocks, the index, the filter, the version and the meta block, in this order
-abbrev pub sections_of : TableVersion → Label → Options → List (List Entry) → Sections
-sections_of v label options cs =
-    front_sections v options cs ++ filter_part v options cs ++ closing_sections v label options cs
+abbrev pub sections_of : TableVersion → Label → Options → Content → Sections
+sections_of v label options c =
+    front_sections v options c ++ filter_part v options c ++ closing_sections v label options c
 
 -- a table's bytes: the sections and their trailer
-abbrev pub file : TableVersion → Label → Options → List (List Entry) → List ℕ
-file v label options cs = finished (laid (sections_of v label options cs))
+abbrev pub file : TableVersion → Label → Options → Content → List ℕ
+file v label options c = finished (laid (sections_of v label options c))
 
--- the bytes are a table of a list, whose data blocks hold its chunks
+-- what a table of a list holds: its entries, cut into the chunks of the data blocks, the parts of
+-- these blocks' handles, the parts of the keys that filters have, and a filter for each part
+pub record IsContent (v : TableVersion) (options : Options) (spills : List ℕ) (es : List Entry)
+    (c : Content) : Type 0 where
+  pub chunks : AreChunks options.data_block_size spills es c.blocks
+  pub index : AreIndexParts options.index_kind (handles v c.blocks) c.index
+  pub keys : AreFilterParts options.filter_kind options.bloom_policy
+      (filtered_keys options.bloom_policy es) c.keys
+  pub filters : AreFiltersFor options.bloom_policy c.keys c.filters
+
+-- the bytes are a table of a list
 pub record IsFile (v : TableVersion) (bytes : List ℕ) (label : Label) (options : Options)
     (spills : List ℕ) (es : List Entry) : Type 0 where
-  pub blocks : List (List Entry)
-  pub chunks : AreChunks options.data_block_size spills es blocks
-  pub are : bytes ≡ file v label options blocks
+  pub content : Content
+  pub is : IsContent v options spills es content
+  pub are : bytes ≡ file v label options content

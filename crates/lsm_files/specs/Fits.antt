@@ -1,14 +1,15 @@
--- What a list of chunks keeps in a table, so that each number and each length fits its field.
+-- What a table of a list keeps, so that each number and each length fits its field.
 use Rattle.sst_blocks.specs.Block.{header_len}
-use Rattle.std.specs.Prelude.{◌+◌, ◌-◌, ◌^◌, ◌<◌, ◌≤◌, List, length}
+use Rattle.std.specs.Prelude.{ℕ, ◌+◌, ◌-◌, ◌^◌, ◌<◌, ◌≤◌, List, length}
 use Rattle.std.specs.List.{AllByRecursion}
 use Rattle.sst_sections.specs.declared.version.TableVersion.{TableVersion}
 use Rattle.sst_entries.specs.Entry.{Entry}
 use Rattle.sst_blocks.specs.Payload.{payload}
 use Rattle.sst_sections.specs.Version.{longest_key}
 use Rattle.lsm_files.specs.Chunks.{joined}
-use Rattle.lsm_files.specs.Index.{handles}
-use Rattle.lsm_files.specs.Kinds.{IndexFits}
+use Rattle.sst_sections.specs.declared.section.SectionName.{SectionName}
+use Rattle.lsm_files.specs.Content.{Content}
+use Rattle.lsm_files.specs.File.{index_part, filter_part}
 use Rattle.lsm_files.specs.declared.options.Options.{Options}
 use Rattle.lsm_files.specs.declared.label.Label.{Label}
 
@@ -27,10 +28,15 @@ pub record LabelFits (label : Label) : Type 0 where
   pub id : label.table_id < 2 ^ 64
   pub created_at : label.created_at < 2 ^ 128
 
--- the entries, the blocks of the chunks, those of their index, and the label
-pub record Fits (v : TableVersion) (label : Label) (options : Options)
-    (cs : List (List Entry)) : Type 0 where
-  pub entries : AllByRecursion (EntryFits v) (joined cs)
-  pub blocks : AllByRecursion (BlockFits v) cs
-  pub index : IndexFits v options (handles v cs)
+-- a section shorter than 2^32
+pub record SectionFits (s : SectionName × List ℕ) : Type 0 where
+  pub short : length s.1 < 2 ^ 32
+
+-- the entries, the data blocks, the sections of the index and of the filter, and the label
+pub record Fits (v : TableVersion) (label : Label) (options : Options) (c : Content)
+    : Type 0 where
+  pub entries : AllByRecursion (EntryFits v) (joined c.blocks)
+  pub blocks : AllByRecursion (BlockFits v) c.blocks
+  pub index : AllByRecursion SectionFits (index_part v options c)
+  pub filter : AllByRecursion SectionFits (filter_part v options c)
   pub label_fits : LabelFits label

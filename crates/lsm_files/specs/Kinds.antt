@@ -1,60 +1,59 @@
 -- The index and the filter of a table, by their kinds.
-use Rattle.std.specs.Prelude.{ℕ, ◌+◌, ◌<◌, ◌^◌, List, [], ◌∷◌, length}
+use Rattle.std.specs.Prelude.{◌≡◌, ℕ, List, [], ◌∷◌, length}
 use Rattle.sst_sections.specs.declared.version.TableVersion.{TableVersion}
 use Rattle.sst_sections.specs.declared.section.SectionName.TheVariants.{Tli}
-use Rattle.sst_blocks.specs.declared.block_type.BlockType.TheVariants.{Index}
-use Rattle.sst_blocks.specs.Block.{block_bytes, header_len}
 use Rattle.sst_blocks.specs.Handle.{Handle}
-use Rattle.sst_blocks.specs.Handles.{handles_payload}
-use Rattle.sst_entries.specs.Entry.{Entry}
-use Rattle.lsm_files.specs.declared.options.BloomConstructionPolicy.{BloomConstructionPolicy}
-use Rattle.lsm_files.specs.declared.options.BloomConstructionPolicy.TheVariants.{Inactive}
+use Rattle.sst_filters.specs.declared.policy.BloomConstructionPolicy.{BloomConstructionPolicy}
+use Rattle.sst_filters.specs.Filter.{BloomFilter}
 use Rattle.lsm_files.specs.declared.options.FilterKind.{FilterKind}
-use Rattle.lsm_files.specs.declared.options.FilterKind.TheVariants.{Full as FullFilter}
+use Rattle.lsm_files.specs.declared.options.FilterKind.TheVariants.{Full as FullFilter, Partitioned as PartitionedFilter}
 use Rattle.lsm_files.specs.declared.options.IndexKind.{IndexKind}
-use Rattle.lsm_files.specs.declared.options.IndexKind.TheVariants.{Full as FullIndex}
+use Rattle.lsm_files.specs.declared.options.IndexKind.TheVariants.{Full as FullIndex, Partitioned as PartitionedIndex}
+use Rattle.lsm_files.specs.Filters.{full_filter, partitioned_filter, is_full_filter}
 use Rattle.lsm_files.specs.Layout.{Sections}
-use Rattle.lsm_files.specs.declared.options.Options.{Options}
+use Rattle.lsm_files.specs.Partitions.{handles_block, is_full_index, partitioned_index}
+use Rattle.lsm_files.specs.Parts.{ArePartsOf, parts_by, rest_part}
+
+-- the handles of each block of an index, below a top level where it has one
+abbrev pub AreIndexParts : IndexKind → List Handle → List (List Handle) → Type 0
+AreIndexParts FullIndex hs parts = parts ≡ hs ∷ []
+AreIndexParts (PartitionedIndex size) hs parts = ArePartsOf (is_full_index size) hs parts
+
+-- the same, as they are cut one after another
+abbrev pub index_parts : IndexKind → List Handle → List (List Handle)
+index_parts FullIndex hs = hs ∷ []
+index_parts (PartitionedIndex size) hs = parts_by (is_full_index size) hs
 
 -- a full index: one block of all handles
 abbrev pub full_index : TableVersion → List Handle → Sections
-full_index v hs = (Tli, block_bytes v Index (handles_payload v hs)) ∷ []
+full_index v hs = (Tli, handles_block v hs) ∷ []
 
--- the index of a kind, with partitions of a size, from a position on
-abbrev pub index_of : IndexKind → ℕ → TableVersion → ℕ → List Handle → Sections
-index_of FullIndex size v at hs = full_index v hs
-
-abbrev pub index_sections : TableVersion → Options → ℕ → List Handle → Sections
-index_sections v options at hs = index_of options.index_kind options.meta_partition_size v at hs
-
--- how many blocks it counts
-abbrev pub index_count_of : IndexKind → ℕ → List Handle → ℕ
-index_count_of FullIndex size hs = 1
-
-abbrev pub index_count : Options → List Handle → ℕ
-index_count options hs = index_count_of options.index_kind options.meta_partition_size hs
-
--- its blocks are shorter than 2^32
-abbrev pub IndexFitsOf : IndexKind → ℕ → TableVersion → List Handle → Type 0
-IndexFitsOf FullIndex size v hs = header_len + length (handles_payload v hs) < 2 ^ 32
-
-abbrev pub IndexFits : TableVersion → Options → List Handle → Type 0
-IndexFits v options hs = IndexFitsOf options.index_kind options.meta_partition_size v hs
-
--- the filter of a kind and a policy, with partitions of a size, from a position on: none without
--- an active policy
-abbrev pub filter_of : FilterKind → BloomConstructionPolicy → ℕ → TableVersion → ℕ → List Entry
+-- the sections of an index of these handles, in these parts, the first section at a position
+abbrev pub index_sections : IndexKind → TableVersion → ℕ → List Handle → List (List Handle)
     → Sections
-filter_of FullFilter Inactive size v at es = []
+index_sections FullIndex v at hs parts = full_index v hs
+index_sections (PartitionedIndex size) v at hs parts = partitioned_index v at parts
 
-abbrev pub filter_sections : TableVersion → Options → ℕ → List Entry → Sections
-filter_sections v options at es =
-    filter_of options.filter_kind options.bloom_policy options.meta_partition_size v at es
+-- the keys of each filter: all in one, where there are keys, or in parts
+abbrev pub AreFilterParts : FilterKind → BloomConstructionPolicy → List (List ℕ)
+    → List (List (List ℕ)) → Type 0
+AreFilterParts FullFilter policy keys parts = parts ≡ rest_part keys
+AreFilterParts (PartitionedFilter size) policy keys parts =
+    ArePartsOf (is_full_filter policy size) keys parts
 
--- how many blocks it counts: one for a full filter, also where none is written
-abbrev pub filter_count_of : FilterKind → BloomConstructionPolicy → ℕ → List Entry → ℕ
-filter_count_of FullFilter Inactive size es = 1
+-- the same, as they are cut one after another
+abbrev pub filter_parts : FilterKind → BloomConstructionPolicy → List (List ℕ)
+    → List (List (List ℕ))
+filter_parts FullFilter policy keys = rest_part keys
+filter_parts (PartitionedFilter size) policy keys = parts_by (is_full_filter policy size) keys
 
-abbrev pub filter_count : Options → List Entry → ℕ
-filter_count options es =
-    filter_count_of options.filter_kind options.bloom_policy options.meta_partition_size es
+-- the sections of the filters of some parts of keys, the first section at a position
+abbrev pub filter_sections : FilterKind → TableVersion → ℕ → List (List (List ℕ))
+    → List BloomFilter → Sections
+filter_sections FullFilter v at parts fs = full_filter v fs
+filter_sections (PartitionedFilter size) v at parts fs = partitioned_filter v at parts fs
+
+-- how many blocks of filters are counted: one for a full filter, also where none is written
+abbrev pub filter_count : FilterKind → List BloomFilter → ℕ
+filter_count FullFilter fs = 1
+filter_count (PartitionedFilter size) fs = length fs

@@ -5,11 +5,12 @@ use Rattle.sst_entries.specs.Entry.{Entry}
 use Rattle.sst_entries.specs.Strict.{IsStrict}
 use Rattle.lsm_files.specs.File.{IsFile}
 use Rattle.lsm_files.specs.Fits.{Fits}
+use Rattle.lsm_files.specs.Plain.{IsPlain}
 use Rattle.lsm_files.specs.declared.options.Options.{Options}
 use Rattle.lsm_files.specs.declared.label.Label.{Label}
 
 -- the bytes are a table of a list: written under a label, with options and in a version; the list
--- is strict, and what the bytes hold fits
+-- is strict, and what the bytes hold fits; for now with a full index and without filters
 pub record IsTable (bytes : List ℕ) (es : List Entry) : Type 0 where
   pub label : Label
   pub options : Options
@@ -17,4 +18,5 @@ pub record IsTable (bytes : List ℕ) (es : List Entry) : Type 0 where
   pub spills : List ℕ
   pub file : IsFile version bytes label options spills es
   pub strict : IsStrict es
-  pub fits : Fits version label options file.blocks
+  pub fits : Fits version label options file.content
+  pub plain : IsPlain options

@@ -11,5 +11,6 @@ mod timestamp;
 pub use id::{GlobalTableId, TableId, TreeId};
 pub use item_name::ItemName;
 pub use label::Label;
-pub use options::{BloomConstructionPolicy, FilterKind, IndexKind, Options};
+pub use options::{FilterKind, IndexKind, Options};
+pub use sst_filters::BloomConstructionPolicy;
 pub use timestamp::Timestamp;

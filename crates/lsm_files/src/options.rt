@@ -2,11 +2,15 @@
 ghost use Rattle.std.specs.Prelude.{◌≡◌};
 ghost use Rattle.lsm_files.specs.Options.{default_options};
 
+use sst_filters::BloomConstructionPolicy;
+
 /// What stands for the index of a table.
 #[derive(Clone, Copy, Debug, PartialEq, Eq)]
 pub enum IndexKind {
     /// One block with the handles of all data blocks.
     Full,
+    /// Partitions, each cut when it has so many bytes, and a top level with their handles.
+    Partitioned(u32),
 }
 
 /// What stands for the filter of a table.
@@ -14,13 +18,8 @@ pub enum IndexKind {
 pub enum FilterKind {
     /// One block for the keys of all data blocks.
     Full,
-}
-
-/// How large filters are.
-#[derive(Clone, Copy, Debug, PartialEq, Eq)]
-pub enum BloomConstructionPolicy {
-    /// No filter is written.
-    Inactive,
+    /// Partitions, each cut when it has so many bytes, and a top level with their handles.
+    Partitioned(u32),
 }
 
 /// What a table is written with.
@@ -34,13 +33,11 @@ pub struct Options {
     pub data_block_hash_ratio: u32,
     /// How many bytes of keys and values a data block has when it is cut.
     pub data_block_size: u32,
-    /// How many bytes a partition of the index or of the filter has when it is cut.
-    pub meta_partition_size: u32,
     /// The kind of the index.
     pub index_kind: IndexKind,
     /// The kind of the filter.
     pub filter_kind: FilterKind,
-    /// How large the filter is.
+    /// How many bits the filter has for a key: 0 for no filter.
     pub bloom_policy: BloomConstructionPolicy,
 }
 
@@ -57,10 +54,9 @@ impl Default for Options {
             index_block_restart_interval: 1,
             data_block_hash_ratio: 0,
             data_block_size: 4_096,
-            meta_partition_size: 4_096,
             index_kind: IndexKind::Full,
             filter_kind: FilterKind::Full,
-            bloom_policy: BloomConstructionPolicy::Inactive,
+            bloom_policy: BloomConstructionPolicy::BitsPerKey(0),
         }
     }
 }
