@@ -14,15 +14,15 @@ use Rattle.sst_blocks.specs.Payload.{payload}
 use Rattle.sst_sections.specs.Sections.{finished, body_of, trailer}
 use Rattle.sst_entries.specs.Strict.{IsStrict, last_of}
 use Rattle.sst_sections.specs.Version.{longest_key}
-use Rattle.lsm_files.specs.Chunks.{joined, AreChunksFrom}
+use Rattle.lsm_files.specs.Chunks.{joined, AreChunks, AreChunksFrom}
 use Rattle.lsm_files.specs.Facts.{first_key, last_key, highest_seqno, is_tombstone, is_weak, is_reclaimable}
-use Rattle.lsm_files.proofs.KindLemmas.{index_counts, index_short, filter_counts}
-use Rattle.lsm_files.specs.File.{counted_blocks}
+use Rattle.lsm_files.specs.Content.{Content}
+use Rattle.lsm_files.specs.Plain.{plain_content}
 use Rattle.lsm_files.specs.Index.{handles, data_section}
 use Rattle.lsm_files.specs.MetaBlock.{meta_entries}
 use Rattle.lsm_files.specs.declared.options.Options.{Options}
 use Rattle.lsm_files.specs.declared.label.Label.{Label}
-use Rattle.lsm_files.specs.Fits.{EntryFits, Fits}
+use Rattle.lsm_files.specs.Fits.{EntryFits}
 use Rattle.lsm_readers.specs.Parts.{Parts, PinnedIndex, full, parts_told, places_told, recovered_told}
 use Rattle.lsm_readers.proofs.ChunkReads.{AreSome, length-block}
 use Rattle.lsm_readers.proofs.FileLengths.{last_fits, last_some, after_within, lowest_fits, highest_below, section_wide, index_reads}
@@ -30,6 +30,7 @@ use Rattle.lsm_readers.specs.declared.regions.ParsedRegions.{ParsedRegions}
 use Rattle.lsm_readers.specs.Meta.{meta_told}
 use Rattle.lsm_readers.specs.Parts.{index_told}
 use Rattle.lsm_readers.proofs.FileReads.{the_regions, ascending, length-body, file_is, regions_read, index_read, meta_items_read, w}
+use Rattle.lsm_readers.proofs.Plains.{counted, filter_counts, PlainFits, plain_file, chunks_of, fits_plain, content_is}
 use Rattle.lsm_readers.proofs.MetaBlocks.{meta_reads, meta_length}
 use Rattle.lsm_readers.proofs.MetaReads.{FactsFit, facts_read, interval_read, written_facts}
 use Rattle.lsm_readers.proofs.Recovered.{Steps, steps}
@@ -54,7 +55,7 @@ longest_below : (v : TableVersion) → longest_key v ≤ 1048576
 longest_below V3 = omega arith
 longest_below V4 = omega arith
 
-facts_fit : (v : TableVersion) (label : Label) (options : Options) (cs : List (List Entry)) → length (data_section v cs) < 2 ^ 63 → Fits v label options cs → options.index_block_restart_interval ≡ 1 → FactsFit label options cs v (counted_blocks v options cs)
+facts_fit : (v : TableVersion) (label : Label) (options : Options) (cs : List (List Entry)) → length (data_section v cs) < 2 ^ 63 → PlainFits v label cs → options.index_block_restart_interval ≡ 1 → FactsFit label options cs v (counted v options cs)
 facts_fit v label options cs short fits one =
     let es = joined cs in
     let wide = section_wide v cs in
@@ -69,8 +70,8 @@ facts_fit v label options cs short fits one =
       lowest = lowest_fits es;
       highest = highest_below v es fits.entries;
       data_blocks = omega arith;
-      index_blocks = omega (arith, index_counts options (handles v cs));
-      filter_blocks = omega (arith, filter_counts options (joined cs));
+      index_blocks = omega arith;
+      filter_blocks = omega (arith, filter_counts options.filter_kind);
       file_size = omega arith;
     }
 
@@ -80,12 +81,12 @@ pub ok_same : {A : Type 0} (r : Result A Error) (a b : A) → r ≡ Ok a → r �
 ok_same (Ok x) a b p q = let pa : x ≡ a = cc in let qb : x ≡ b = cc in sym pa ∙ qb
 ok_same (Err e) a b p q = absurd cc
 
-meta_short : (v : TableVersion) (label : Label) (options : Options) (cs : List (List Entry)) → Fits v label options cs → length (payload v (meta_entries v label options cs (counted_blocks v options cs))) + 24 < 2 ^ 32
+meta_short : (v : TableVersion) (label : Label) (options : Options) (cs : List (List Entry)) → PlainFits v label cs → length (payload v (meta_entries v label options cs (counted v options cs))) + 24 < 2 ^ 32
 meta_short v label options cs fits =
-    omega (arith, meta_length v label options cs (counted_blocks v options cs), first_short v (joined cs) fits.entries, last_short v (joined cs) fits.entries, longest_below v)
+    omega (arith, meta_length v label options cs (counted v options cs), first_short v (joined cs) fits.entries, last_short v (joined cs) fits.entries, longest_below v)
 
 abbrev written_parts : TableVersion → Label → Options → List (List Entry) → Parts
-written_parts v label options cs = record { facts = written_facts v label cs (counted_blocks v options cs); regions = the_regions v label options cs; index = full (handles v cs) }
+written_parts v label options cs = record { facts = written_facts v label cs (counted v options cs); regions = the_regions v label options cs; index = full (handles v cs) }
 
 parts_eta : (p q : Parts) → p.facts ≡ q.facts → p.regions ≡ q.regions → p.index ≡ q.index → p ≡ q
 parts_eta p q f r i =
@@ -93,7 +94,7 @@ parts_eta p q f r i =
     ap (λ (x : Facts). made x p.regions p.index) f ∙ ap (λ (x : ParsedRegions). made q.facts x p.index) r ∙ ap (λ (x : PinnedIndex). made q.facts q.regions x) i
 
 module _ (v : TableVersion) (label : Label) (options : Options) (cs : List (List Entry))
-    (short : length (finished (w v label options cs)) < 2 ^ 63) (some : AreSome cs) (strict : IsStrict (joined cs)) (fits : Fits v label options cs) where
+    (short : length (finished (w v label options cs)) < 2 ^ 63) (some : AreSome cs) (strict : IsStrict (joined cs)) (fits : PlainFits v label cs) where
   abbrev the_bytes : List ℕ
   the_bytes = finished (w v label options cs)
 
@@ -106,22 +107,22 @@ module _ (v : TableVersion) (label : Label) (options : Options) (cs : List (List
   regions_here : places_told the_bytes ≡ Ok (the_regions v label options cs)
   regions_here =
       let index = length-block v Index (handles_payload v (handles v cs)) in
-      let meta = length-block v Meta (payload v (meta_entries v label options cs (counted_blocks v options cs))) in
-      regions_read v label options cs (omega (arith, body_short)) (omega (arith, index, index_short v options (handles v cs) fits.index)) (omega (arith, meta, meta_short v label options cs fits))
+      let meta = length-block v Meta (payload v (meta_entries v label options cs (counted v options cs))) in
+      regions_read v label options cs (omega (arith, body_short)) (omega (arith, index, fits.index)) (omega (arith, meta, meta_short v label options cs fits))
 
   index_here : index_told (body_of the_bytes) (the_regions v label options cs) ≡ Ok (full (handles v cs))
   index_here =
-      let short_index = index_short v options (handles v cs) fits.index in
+      let short_index = fits.index in
       index_read v label options cs (omega (arith, short_index)) (index_reads v cs (omega (arith, data_short)) some strict fits.entries fits.blocks short_index)
 
-  items_here : meta_told (body_of the_bytes) (the_regions v label options cs).metadata ≡ facts_told (meta_entries v label options cs (counted_blocks v options cs))
+  items_here : meta_told (body_of the_bytes) (the_regions v label options cs).metadata ≡ facts_told (meta_entries v label options cs (counted v options cs))
   items_here =
       let key = longest_below v in
       meta_items_read v label options cs (omega (arith, meta_short v label options cs fits))
-      (meta_reads v label options cs (counted_blocks v options cs) (omega (arith, first_short v (joined cs) fits.entries, key)) (omega (arith, last_short v (joined cs) fits.entries, key)))
+      (meta_reads v label options cs (counted v options cs) (omega (arith, first_short v (joined cs) fits.entries, key)) (omega (arith, last_short v (joined cs) fits.entries, key)))
 
-  facts_here : options.index_block_restart_interval ≡ 1 → meta_told (body_of the_bytes) (the_regions v label options cs).metadata ≡ Ok (written_facts v label cs (counted_blocks v options cs))
-  facts_here one = items_here ∙ facts_read v label options cs (counted_blocks v options cs) (facts_fit v label options cs data_short fits one)
+  facts_here : options.index_block_restart_interval ≡ 1 → meta_told (body_of the_bytes) (the_regions v label options cs).metadata ≡ Ok (written_facts v label cs (counted v options cs))
+  facts_here one = items_here ∙ facts_read v label options cs (counted v options cs) (facts_fit v label options cs data_short fits one)
 
   -- the table is recovered where the global number fits
   pub written_recovers : (g : ℕ) → options.index_block_restart_interval ≡ 1 → recovered_told the_bytes g ≡ cond (ltb (2 ^ 64 - 1) (highest_seqno (joined cs) + g)) (Err GlobalSeqNoTooLarge) (Ok (written_parts v label options cs))
@@ -144,10 +145,10 @@ module _ (v : TableVersion) (label : Label) (options : Options) (cs : List (List
     items_told = ap (λ (r : ParsedRegions). meta_told (body_of the_bytes) r.metadata) (sym regions_are) ∙ the_steps.facts
 
     interval_is : options.index_block_restart_interval ≡ 1
-    interval_is = interval_read v label options cs (counted_blocks v options cs) parts.facts (sym items_here ∙ items_told)
+    interval_is = interval_read v label options cs (counted v options cs) parts.facts (sym items_here ∙ items_told)
 
-    pub facts_are : parts.facts ≡ written_facts v label cs (counted_blocks v options cs)
-    facts_are = ok_same (meta_told (body_of the_bytes) (the_regions v label options cs).metadata) parts.facts (written_facts v label cs (counted_blocks v options cs)) items_told (facts_here interval_is)
+    pub facts_are : parts.facts ≡ written_facts v label cs (counted v options cs)
+    facts_are = ok_same (meta_told (body_of the_bytes) (the_regions v label options cs).metadata) parts.facts (written_facts v label cs (counted v options cs)) items_told (facts_here interval_is)
 
     pub index_is : parts.index ≡ full (handles v cs)
     index_is =
@@ -164,8 +165,8 @@ some_chunks size spills at (c ∷ cs) h = ((h.0).some, some_chunks size spills (
 
 -- ---- a table of a list
 
-abbrev parts_by : TableVersion → Label → Options → List (List Entry) → List Entry → Parts
-parts_by v label options cs es = record { facts = facts_said v label es (length cs) (counted_blocks v options cs).index (length (data_section v cs)); regions = regions_said v label options cs; index = full (handles v cs) }
+abbrev parts_by : TableVersion → Label → Options → Content → List Entry → Parts
+parts_by v label options c es = record { facts = facts_said v label es (length c.blocks) (length c.index) (length (data_section v c.blocks)); regions = regions_said v label options c; index = full (handles v c.blocks) }
 
 module _ (stored : List ℕ) (es : List Entry) (t : IsTable stored es) (short : length stored < 2 ^ 63) where
   abbrev v : TableVersion
@@ -178,35 +179,45 @@ module _ (stored : List ℕ) (es : List Entry) (t : IsTable stored es) (short : 
   options = t.options
 
   abbrev cs : List (List Entry)
-  cs = (t.file).blocks
+  cs = ((t.file).content).blocks
 
   bytes_are : stored ≡ finished (w v label options cs)
-  bytes_are = (t.file).are ∙ file_is v label options cs
+  bytes_are = plain_file v stored label options t.spills es t.file t.plain ∙ file_is v label options cs t.plain
 
   short_file : length (finished (w v label options cs)) < 2 ^ 63
   short_file = subst (λ (b : List ℕ). length b < 2 ^ 63) bytes_are short
 
+  chunks : AreChunks options.data_block_size t.spills es cs
+  chunks = chunks_of v stored label options t.spills es t.file t.plain
+
   whole : joined cs ≡ es
-  whole = ((t.file).chunks).whole
+  whole = chunks.whole
 
   line : IsStrict (joined cs)
   line = subst IsStrict (sym whole) t.strict
 
   all_some : AreSome cs
-  all_some = some_chunks options.data_block_size t.spills 0 cs ((t.file).chunks).each
+  all_some = some_chunks options.data_block_size t.spills 0 cs chunks.each
 
-  by_list : parts_by v label options cs (joined cs) ≡ parts_said t
-  by_list = ap (parts_by v label options cs) whole
+  all_fit : PlainFits v label cs
+  all_fit = fits_plain v stored label options t.spills es t.file t.plain t.fits
+
+  content : (t.file).content ≡ plain_content v cs
+  content = content_is v stored label options t.spills es t.file t.plain
+
+  by_list : (xs : List Entry) → xs ≡ es → parts_by v label options (plain_content v cs) xs ≡ parts_said t
+  by_list xs e = ap (parts_by v label options (plain_content v cs)) e ∙ ap (λ (c : Content). parts_by v label options c es) (sym content)
 
   -- what is recovered is what the list says
   pub table_parts : (g : ℕ) (parts : Parts) → recovered_told stored g ≡ Ok parts → parts ≡ parts_said t
   table_parts g parts told =
       let told_file : recovered_told (finished (w v label options cs)) g ≡ Ok parts = subst (λ (b : List ℕ). recovered_told b g ≡ Ok parts) bytes_are told in
-      parts_are v label options cs short_file all_some line t.fits g parts told_file ∙ by_list
+      parts_are v label options cs short_file all_some line all_fit g parts told_file ∙ by_list (joined cs) whole
 
   -- what opening it tells
   pub table_told : (g : ℕ) → options.index_block_restart_interval ≡ 1 → recovered_told stored g ≡ list_told t g
   table_told g one =
       ap (λ (b : List ℕ). recovered_told b g) bytes_are
-      ∙ written_recovers v label options cs short_file all_some line t.fits g one
-      ∙ ap (λ (xs : List Entry). cond (ltb (2 ^ 64 - 1) (highest_seqno xs + g)) (Err GlobalSeqNoTooLarge) (Ok (parts_by v label options cs xs))) whole
+      ∙ written_recovers v label options cs short_file all_some line all_fit g one
+      ∙ ap (λ (xs : List Entry). cond (ltb (2 ^ 64 - 1) (highest_seqno xs + g)) (Err GlobalSeqNoTooLarge) (Ok (parts_by v label options (plain_content v cs) xs))) whole
+      ∙ ap (λ (p : Parts). cond (ltb (2 ^ 64 - 1) (highest_seqno es + g)) (Err GlobalSeqNoTooLarge) (Ok p)) (by_list es refl)

@@ -19,18 +19,18 @@ use Rattle.sst_entries.specs.Strict.{IsStrict, IsStrictAfter, last_of}
 use Rattle.sst_blocks.proofs.BlockLaws.{written_loads}
 use Rattle.lsm_files.specs.Chunks.{joined}
 use Rattle.lsm_files.specs.Facts.{lowest_seqno}
-use Rattle.lsm_files.specs.File.{counted_blocks}
 use Rattle.lsm_files.specs.Index.{handles, data_block, data_section}
 use Rattle.lsm_files.specs.declared.options.Options.{Options}
 use Rattle.lsm_files.specs.declared.label.Label.{Label}
 use Rattle.lsm_readers.specs.Answer.{lifted, lift, match_in, handle_for, answer}
 use Rattle.lsm_readers.specs.Read.{◌>>=◌}
-use Rattle.lsm_files.specs.Fits.{EntryFits, BlockFits, Fits}
+use Rattle.lsm_files.specs.Fits.{EntryFits, BlockFits}
 use Rattle.lsm_readers.specs.Parts.{Parts, full, recovered_told}
 use Rattle.lsm_readers.proofs.ChunkReads.{AreSome, ReadsChunk, ReadsBy, chunk_read, strict_front, strict_after}
 use Rattle.lsm_readers.proofs.FileLengths.{chunk_reads}
 use Rattle.sst_entries.proofs.Lists.{all_front, all_behind}
 use Rattle.std.proofs.lemmas.List.Concat.{flat_map-append}
+use Rattle.lsm_readers.proofs.Plains.{counted, PlainFits, plain_file, chunks_of, fits_plain}
 use Rattle.lsm_readers.proofs.FileReads.{the_index, the_meta, the_version, file_is, is_body, w}
 use Rattle.lsm_readers.proofs.FileParts.{some_chunks, facts_are, index_is}
 use Rattle.lsm_files.specs.Table.{IsTable}
@@ -79,11 +79,11 @@ any_front last [] h = tt
 any_front last (x ∷ xs) h = (refl, h.1)
 
 module _ (v : TableVersion) (label : Label) (options : Options) (cs : List (List Entry)) (g : ℕ) (parts : Parts)
-    (short : length (finished (w v label options cs)) < 2 ^ 63) (some : AreSome cs) (strict : IsStrict (joined cs)) (fits : Fits v label options cs) (told : recovered_told (finished (w v label options cs)) g ≡ Ok parts) where
+    (short : length (finished (w v label options cs)) < 2 ^ 63) (some : AreSome cs) (strict : IsStrict (joined cs)) (fits : PlainFits v label cs) (told : recovered_told (finished (w v label options cs)) g ≡ Ok parts) where
   abbrev the_bytes : List ℕ
   the_bytes = finished (w v label options cs)
 
-  facts_here : parts.facts ≡ written_facts v label cs (counted_blocks v options cs)
+  facts_here : parts.facts ≡ written_facts v label cs (counted v options cs)
   facts_here = facts_are v label options cs short some strict fits g parts told
 
   index_here : parts.index ≡ full (handles v cs)
@@ -150,12 +150,13 @@ file_answers stored es t g parts short told key bound =
     let label = t.label in
     let options = t.options in
     let f = t.file in
-    let cs = f.blocks in
-    let bytes_are : stored ≡ finished (w v label options cs) = f.are ∙ file_is v label options cs in
+    let cs = (f.content).blocks in
+    let chunks = chunks_of v stored label options t.spills es f t.plain in
+    let bytes_are : stored ≡ finished (w v label options cs) = plain_file v stored label options t.spills es f t.plain ∙ file_is v label options cs t.plain in
     let short_file : length (finished (w v label options cs)) < 2 ^ 63 = subst (λ (b : List ℕ). length b < 2 ^ 63) bytes_are short in
     let told_file : recovered_told (finished (w v label options cs)) g ≡ Ok parts = subst (λ (b : List ℕ). recovered_told b g ≡ Ok parts) bytes_are told in
-    let line : IsStrict (joined cs) = subst IsStrict (sym (f.chunks).whole) t.strict in
-    let some = some_chunks options.data_block_size t.spills 0 cs (f.chunks).each in
+    let line : IsStrict (joined cs) = subst IsStrict (sym chunks.whole) t.strict in
+    let some = some_chunks options.data_block_size t.spills 0 cs chunks.each in
     ap (λ (b : List ℕ). (answer (body_of b) g parts key bound).told) bytes_are
-    ∙ answers v label options cs g parts short_file some line t.fits told_file key bound
-    ∙ ap (λ (xs : List Entry). Ok (point (lift xs g) key bound)) (f.chunks).whole
+    ∙ answers v label options cs g parts short_file some line (fits_plain v stored label options t.spills es f t.plain t.fits) told_file key bound
+    ∙ ap (λ (xs : List Entry). Ok (point (lift xs g) key bound)) chunks.whole

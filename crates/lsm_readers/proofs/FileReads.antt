@@ -17,10 +17,11 @@ use Rattle.sst_sections.specs.Sections.{Written, finished, body_of, section_in, 
 use Rattle.sst_blocks.proofs.BlockLaws.{written_loads}
 use Rattle.sst_sections.proofs.SectionLaws.{finished_body, finished_section}
 use Rattle.lsm_files.proofs.KindLemmas.{sections_are}
-use Rattle.lsm_files.specs.File.{closing_sections, counted_blocks, file}
+use Rattle.lsm_files.specs.File.{closing_sections, file}
 use Rattle.lsm_files.specs.Index.{handles, data_section}
 use Rattle.lsm_files.specs.Kinds.{full_index}
 use Rattle.lsm_files.specs.Layout.{Sections, laid}
+use Rattle.lsm_files.specs.Plain.{IsPlain, plain_content}
 use Rattle.lsm_files.specs.MetaBlock.{meta_entries, version_number}
 use Rattle.lsm_files.specs.declared.options.Options.{Options}
 use Rattle.lsm_files.specs.declared.label.Label.{Label}
@@ -31,13 +32,14 @@ use Rattle.lsm_readers.specs.Meta.{facts_told}
 use Rattle.lsm_readers.specs.OfList.{regions_said}
 use Rattle.lsm_readers.specs.Parts.{full, index_told}
 use Rattle.lsm_readers.proofs.ChunkReads.{length-block}
+use Rattle.lsm_readers.proofs.Plains.{counted}
 
 module _ (v : TableVersion) (label : Label) (options : Options) (cs : List (List Entry)) where
   abbrev pub the_index : List ℕ
   the_index = block_bytes v Index (handles_payload v (handles v cs))
 
   abbrev pub the_meta : List ℕ
-  the_meta = block_bytes v Meta (payload v (meta_entries v label options cs (counted_blocks v options cs)))
+  the_meta = block_bytes v Meta (payload v (meta_entries v label options cs (counted v options cs)))
 
   abbrev pub the_data : List ℕ
   the_data = data_section v cs
@@ -47,13 +49,13 @@ module _ (v : TableVersion) (label : Label) (options : Options) (cs : List (List
 
   -- the index is full, and there is no filter
   abbrev pub the_sections : Sections
-  the_sections = (Data, the_data) ∷ (full_index v (handles v cs) ++ closing_sections v label options cs)
+  the_sections = (Data, the_data) ∷ (full_index v (handles v cs) ++ closing_sections v label options (plain_content v cs))
 
   abbrev pub w : Written
   w = laid the_sections
 
-  pub file_is : file v label options cs ≡ finished w
-  file_is = ap (λ (ss : Sections). finished (laid ss)) (sections_are v label options cs)
+  pub file_is : IsPlain options → file v label options (plain_content v cs) ≡ finished w
+  file_is plain = ap (λ (ss : Sections). finished (laid ss)) (sections_are v label options cs plain)
 
   -- the sections, one behind another
   body_is : w.bytes ≡ the_data ++ (the_index ++ (the_version ++ the_meta))
@@ -86,7 +88,7 @@ module _ (v : TableVersion) (label : Label) (options : Options) (cs : List (List
 
   -- the parts of the table
   abbrev pub the_regions : ParsedRegions
-  the_regions = regions_said v label options cs
+  the_regions = regions_said v label options (plain_content v cs)
 
   regions_from : (toc : List (Option Section)) → section_named toc FilterTli ≡ None → section_named toc Tli ≡ Some tli_place → section_named toc IndexSection ≡ None → section_named toc FilterSection ≡ None → section_named toc MetaSection ≡ Some meta_place → length the_index < 2 ^ 32 → length the_meta < 2 ^ 32 → regions_told toc ≡ Ok the_regions
   unfolding regions_told
@@ -109,7 +111,7 @@ module _ (v : TableVersion) (label : Label) (options : Options) (cs : List (List
   index_loaded = record { version = v; kind = Index; payload = handles_payload v (handles v cs) }
 
   abbrev pub meta_loaded : Loaded
-  meta_loaded = record { version = v; kind = Meta; payload = payload v (meta_entries v label options cs (counted_blocks v options cs)) }
+  meta_loaded = record { version = v; kind = Meta; payload = payload v (meta_entries v label options cs (counted v options cs)) }
 
   index_at : length (handles_payload v (handles v cs)) < 2 ^ 32 → handles_in v (handles_payload v (handles v cs)) ≡ Some (handles v cs) → load_told (body_of (finished w)) (length the_data) (length the_index) Index ≡ Ok index_loaded
   index_at short reads =
@@ -117,9 +119,9 @@ module _ (v : TableVersion) (label : Label) (options : Options) (cs : List (List
       ap (λ (n : ℕ). load_told (body_of (finished w)) (length the_data) n Index) size
       ∙ written_loads v Index the_data (handles_payload v (handles v cs)) (the_version ++ the_meta) (body_of (finished w)) (length the_data) short (ap is_some reads) refl (is_body ∙ sym (append_assoc the_data the_index (the_version ++ the_meta)))
 
-  meta_at : length (payload v (meta_entries v label options cs (counted_blocks v options cs))) < 2 ^ 32 → entries_in v (payload v (meta_entries v label options cs (counted_blocks v options cs))) ≡ Some (meta_entries v label options cs (counted_blocks v options cs)) → load_told (body_of (finished w)) (length the_data + length the_index + 1) (length the_meta) Meta ≡ Ok meta_loaded
+  meta_at : length (payload v (meta_entries v label options cs (counted v options cs))) < 2 ^ 32 → entries_in v (payload v (meta_entries v label options cs (counted v options cs))) ≡ Some (meta_entries v label options cs (counted v options cs)) → load_told (body_of (finished w)) (length the_data + length the_index + 1) (length the_meta) Meta ≡ Ok meta_loaded
   meta_at short reads =
-      let m = payload v (meta_entries v label options cs (counted_blocks v options cs)) in
+      let m = payload v (meta_entries v label options cs (counted v options cs)) in
       let size = length-block v Meta m in
       let pre = the_data ++ (the_index ++ the_version) in
       let at : length the_data + length the_index + 1 ≡ length pre = omega (arith, length-append the_data (the_index ++ the_version), length-append the_index the_version) in
@@ -130,5 +132,5 @@ module _ (v : TableVersion) (label : Label) (options : Options) (cs : List (List
   pub index_read : length (handles_payload v (handles v cs)) < 2 ^ 32 → handles_in v (handles_payload v (handles v cs)) ≡ Some (handles v cs) → index_told (body_of (finished w)) the_regions ≡ Ok (full (handles v cs))
   index_read short reads = rw (index_at short reads, reads) refl
 
-  pub meta_items_read : length (payload v (meta_entries v label options cs (counted_blocks v options cs))) < 2 ^ 32 → entries_in v (payload v (meta_entries v label options cs (counted_blocks v options cs))) ≡ Some (meta_entries v label options cs (counted_blocks v options cs)) → meta_told (body_of (finished w)) the_regions.metadata ≡ facts_told (meta_entries v label options cs (counted_blocks v options cs))
+  pub meta_items_read : length (payload v (meta_entries v label options cs (counted v options cs))) < 2 ^ 32 → entries_in v (payload v (meta_entries v label options cs (counted v options cs))) ≡ Some (meta_entries v label options cs (counted v options cs)) → meta_told (body_of (finished w)) the_regions.metadata ≡ facts_told (meta_entries v label options cs (counted v options cs))
   meta_items_read short reads = rw (meta_at short reads, reads) refl

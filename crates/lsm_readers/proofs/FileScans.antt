@@ -26,9 +26,10 @@ use Rattle.lsm_files.specs.File.{IsFile}
 use Rattle.lsm_files.specs.Index.{handles, data_block, data_section}
 use Rattle.lsm_files.specs.declared.options.Options.{Options}
 use Rattle.lsm_files.specs.declared.label.Label.{Label}
+use Rattle.lsm_files.specs.Plain.{IsPlain}
 use Rattle.lsm_files.specs.Table.{IsTable}
 use Rattle.lsm_readers.specs.Answer.{lifted, lift}
-use Rattle.lsm_files.specs.Fits.{EntryFits, BlockFits, Fits}
+use Rattle.lsm_files.specs.Fits.{EntryFits, BlockFits}
 use Rattle.lsm_readers.specs.Meta.{Facts}
 use Rattle.lsm_readers.specs.Parts.{Parts, recovered_told}
 use Rattle.lsm_readers.specs.Scan.{lifted_told, behind, blocks_told, then_blocks, entries_told, up_to_error, entries_from, scan_told, fault_of, Scan, ScansList, ScansNext}
@@ -37,6 +38,7 @@ use Rattle.lsm_readers.proofs.FileLengths.{chunk_reads}
 use Rattle.sst_entries.proofs.Lists.{all_front, all_behind}
 use Rattle.lsm_readers.proofs.FileParts.{some_chunks, facts_are}
 use Rattle.lsm_readers.proofs.FilePoints.{any_front}
+use Rattle.lsm_readers.proofs.Plains.{PlainFits, plain_file, chunks_of, fits_plain}
 use Rattle.lsm_readers.proofs.FileReads.{the_index, the_meta, the_version, file_is, is_body, w}
 use Rattle.lsm_readers.proofs.Recovered.{steps}
 use Rattle.lsm_readers.proofs.Scans.{lifted_ok, memory_is}
@@ -131,7 +133,7 @@ some_scan v [] post body g some reads fits e = absurd (omega (arith, some))
 some_scan v (c ∷ cs) post body g some reads fits e = chunks_scan v c cs post body g reads fits e
 
 module _ (v : TableVersion) (label : Label) (options : Options) (cs : List (List Entry)) (g : ℕ) (parts : Parts)
-    (short : length (finished (w v label options cs)) < 2 ^ 63) (some : AreSome cs) (strict : IsStrict (joined cs)) (fits : Fits v label options cs) (told : recovered_told (finished (w v label options cs)) g ≡ Ok parts) where
+    (short : length (finished (w v label options cs)) < 2 ^ 63) (some : AreSome cs) (strict : IsStrict (joined cs)) (fits : PlainFits v label cs) (told : recovered_told (finished (w v label options cs)) g ≡ Ok parts) where
   written_scan : 0 < length (joined cs) → Scans (body_of (finished (w v label options cs))) parts.facts.data_block_count g (ok_results (lift (joined cs) g))
   written_scan any =
       let are = facts_are v label options cs short some strict fits g parts told in
@@ -148,15 +150,16 @@ file_scans stored es t g parts short told any =
     let label = t.label in
     let options = t.options in
     let f = t.file in
-    let cs = f.blocks in
-    let bytes_are : stored ≡ finished (w v label options cs) = f.are ∙ file_is v label options cs in
+    let cs = (f.content).blocks in
+    let chunks = chunks_of v stored label options t.spills es f t.plain in
+    let bytes_are : stored ≡ finished (w v label options cs) = plain_file v stored label options t.spills es f t.plain ∙ file_is v label options cs t.plain in
     let short_file : length (finished (w v label options cs)) < 2 ^ 63 = subst (λ (b : List ℕ). length b < 2 ^ 63) bytes_are short in
     let told_file : recovered_told (finished (w v label options cs)) g ≡ Ok parts = subst (λ (b : List ℕ). recovered_told b g ≡ Ok parts) bytes_are told in
-    let whole = (f.chunks).whole in
+    let whole = chunks.whole in
     let line : IsStrict (joined cs) = subst IsStrict (sym whole) t.strict in
     let entries : 0 < length (joined cs) = subst (λ (xs : List Entry). 0 < length xs) (sym whole) any in
-    let some = some_chunks options.data_block_size t.spills 0 cs (f.chunks).each in
-    let written = written_scan v label options cs g parts short_file some line t.fits told_file entries in
+    let some = some_chunks options.data_block_size t.spills 0 cs chunks.each in
+    let written = written_scan v label options cs g parts short_file some line (fits_plain v stored label options t.spills es f t.plain t.fits) told_file entries in
     let by_list = subst (λ (xs : List Entry). Scans (body_of (finished (w v label options cs))) parts.facts.data_block_count g (ok_results (lift xs g))) whole written in
     subst (λ (b : List ℕ). Scans (body_of b) parts.facts.data_block_count g (ok_results (lift es g))) (sym bytes_are) by_list
 
@@ -192,12 +195,13 @@ no_chunks [] some none = refl
 no_chunks (c ∷ cs) some none = absurd (omega (arith, some.0, none, length-append c (joined cs)))
 
 -- its first block is the index
-empty_refused : (v : TableVersion) (stored : List ℕ) (label : Label) (options : Options) (spills : List ℕ) (es : List Entry) (f : IsFile v stored label options spills es) → length es ≡ 0 → load_at_told (body_of stored) 0 Data ≡ Err (InvalidTag BlockTypeTag 1)
-empty_refused v stored label options spills es f none =
-    let cs = f.blocks in
-    let empty = no_chunks cs (some_chunks options.data_block_size spills 0 cs (f.chunks).each) (ap length (f.chunks).whole ∙ none) in
+empty_refused : (v : TableVersion) (stored : List ℕ) (label : Label) (options : Options) (spills : List ℕ) (es : List Entry) (f : IsFile v stored label options spills es) → IsPlain options → length es ≡ 0 → load_at_told (body_of stored) 0 Data ≡ Err (InvalidTag BlockTypeTag 1)
+empty_refused v stored label options spills es f plain none =
+    let cs = (f.content).blocks in
+    let chunks = chunks_of v stored label options spills es f plain in
+    let empty = no_chunks cs (some_chunks options.data_block_size spills 0 cs chunks.each) (ap length chunks.whole ∙ none) in
     let rest = the_version v label options cs ++ the_meta v label options cs in
-    let whole = ap body_of (f.are ∙ file_is v label options cs) ∙ is_body v label options cs ∙ ap (λ (ds : List (List Entry)). data_section v ds ++ (the_index v label options cs ++ rest)) empty in
+    let whole = ap body_of (plain_file v stored label options spills es f plain ∙ file_is v label options cs plain) ∙ is_body v label options cs ∙ ap (λ (ds : List (List Entry)). data_section v ds ++ (the_index v label options cs ++ rest)) empty in
     index_refused v (handles_payload v (handles v cs)) rest (body_of stored) whole
 
 -- ---- what a scan of a table of a list answers
@@ -213,4 +217,4 @@ opens (Err e) body count g (x ∷ xs) fault none some deals faults = λ more. me
 pub file_opens : (stored : List ℕ) (es : List Entry) (t : IsTable stored es) (g : ℕ) (parts : Parts) → length stored < 2 ^ 63 → recovered_told stored g ≡ Ok parts → (r : Result Scan Error)
     → ((stops : Error → Bool) → stops OutOfMemory ≡ true → IfOk r (λ s. Deals (answer_stops stops) ScansNext nowhere s (scan_told (body_of stored) parts.facts.data_block_count g))) → Faults r (fault_of (load_at_told (body_of stored) 0 Data)) → ScansList r es g
 file_opens stored es t g parts short told r deals faults =
-    opens r (body_of stored) parts.facts.data_block_count g es (InvalidTag BlockTypeTag 1) (empty_refused t.version stored t.label t.options t.spills es t.file) (file_scans stored es t g parts short told) deals faults
+    opens r (body_of stored) parts.facts.data_block_count g es (InvalidTag BlockTypeTag 1) (empty_refused t.version stored t.label t.options t.spills es t.file t.plain) (file_scans stored es t g parts short told) deals faults

@@ -3,6 +3,7 @@ pub mod Loads
 pub mod Points
 pub mod Recovered
 pub mod ChunkReads
+pub mod Plains
 pub mod MetaReads
 pub mod FileLengths
 pub mod MetaBlocks

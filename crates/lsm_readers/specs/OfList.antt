@@ -9,6 +9,7 @@ use Rattle.sst_entries.specs.Entry.{Entry}
 use Rattle.sst_blocks.specs.Handles.{handles_payload}
 use Rattle.sst_blocks.specs.Payload.{payload}
 use Rattle.lsm_ranges.specs.KeyRange.{Interval, interval}
+use Rattle.lsm_files.specs.Content.{Content}
 use Rattle.lsm_files.specs.Facts.{facts, highest_seqno}
 use Rattle.lsm_files.specs.File.{counted_blocks}
 use Rattle.lsm_files.specs.Index.{handles, data_section}
@@ -46,11 +47,11 @@ facts_said v label es blocks index_blocks size =
     }
 
 -- the index behind the data blocks, and the meta block behind the byte of the version
-abbrev pub regions_said : TableVersion → Label → Options → List (List Entry) → ParsedRegions
-regions_said v label options cs =
-    let blocks = length (data_section v cs) in
-    let index = length (block_bytes v Index (handles_payload v (handles v cs))) in
-    let items = meta_entries v label options cs (counted_blocks v options cs) in
+abbrev pub regions_said : TableVersion → Label → Options → Content → ParsedRegions
+regions_said v label options c =
+    let blocks = length (data_section v c.blocks) in
+    let index = length (block_bytes v Index (handles_payload v (handles v c.blocks))) in
+    let items = meta_entries v label options c.blocks (counted_blocks options c) in
     let meta = length (block_bytes v Meta (payload v items)) in
     record {
       tli = record { offset = blocks; size = index };
@@ -63,11 +64,11 @@ regions_said v label options cs =
 abbrev pub parts_said : {bytes : List ℕ} {es : List Entry} → IsTable bytes es → Parts
 parts_said {bytes} {es} t =
     let v = t.version in
-    let cs = (t.file).blocks in
-    let index_blocks = (counted_blocks v t.options cs).index in
+    let c = (t.file).content in
+    let cs = c.blocks in
     record {
-      facts = facts_said v t.label es (length cs) index_blocks (length (data_section v cs));
-      regions = regions_said v t.label t.options cs;
+      facts = facts_said v t.label es (length cs) (length c.index) (length (data_section v cs));
+      regions = regions_said v t.label t.options c;
       index = full (handles v cs);
     }
 
