@@ -1,2 +1,3 @@
+pub mod BlockLengths
 pub mod KindLemmas
 pub mod PartLaws
