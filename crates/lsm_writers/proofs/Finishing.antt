@@ -22,7 +22,11 @@ use Rattle.lsm_files.specs.Chunks.{joined, entry_size, entries_size, is_full, Ar
 use Rattle.lsm_writers.specs.Counts.{metadata_of, counted_facts, counted_items, HasShortKeys}
 use Rattle.lsm_writers.specs.Cut.{rest_chunk}
 use Rattle.lsm_files.specs.Facts.{ListFacts, first_key, last_key}
-use Rattle.lsm_files.proofs.KindLemmas.{sections_are, index_counts, index_fits as kind_fits}
+use Rattle.lsm_files.proofs.BlockLengths.{length-block}
+use Rattle.lsm_files.proofs.KindLemmas.{sections_are, plain_is_content, index_part_is, filter_part_is}
+use Rattle.lsm_files.specs.Partitions.{handles_block}
+use Rattle.lsm_files.specs.Plain.{IsPlain, plain_content}
+use Rattle.sst_blocks.specs.declared.block_type.BlockType.TheVariants.{Index}
 use Rattle.lsm_files.specs.File.{counted_blocks, file, version_section, meta_section}
 use Rattle.lsm_files.specs.Layout.{Sections, laid, appended}
 use Rattle.sst_sections.specs.Sections.{Written, finished}
@@ -30,13 +34,14 @@ use Rattle.sst_sections.specs.declared.section.SectionName.TheVariants.{Data}
 use Rattle.lsm_writers.proofs.Laying.{laid_more}
 use Rattle.lsm_files.specs.ItemName.{name_of}
 use Rattle.lsm_files.specs.Kinds.{full_index, filter_count}
-use Rattle.lsm_files.specs.Fits.{EntryFits, BlockFits, LabelFits, Fits}
+use Rattle.lsm_files.specs.Fits.{EntryFits, BlockFits, LabelFits, SectionFits, Fits}
 use Rattle.lsm_writers.specs.Held.{IsShortest, IsHeld}
 use Rattle.lsm_files.specs.Index.{data_section, handles, handles_from, last_entry, block_size}
 use Rattle.lsm_files.specs.MetaBlock.{Blocks, meta_items, meta_entries}
 use Rattle.lsm_files.specs.declared.options.Options.{Options}
 use Rattle.lsm_files.specs.declared.label.Label.{Label}
-use Rattle.lsm_writers.specs.Registered.{Registered, failed_fault, full_index_fault}
+use Rattle.lsm_files.specs.Failed.{failed_fault}
+use Rattle.lsm_writers.specs.Registered.{Registered, full_index_fault}
 use Rattle.lsm_writers.specs.Writing.{Writing, written, spilled, blocks_of, spills_of, finish_fault, IsFinished}
 use Rattle.lsm_writers.proofs.Chunking.{are_chunks}
 use Rattle.sst_entries.proofs.Lists.{all_more, all_behind, all_front}
@@ -83,14 +88,15 @@ not_large n h = elim (cases_lt n (2 ^ 32)) [
 pub index_fits : (hs : List Handle) → large_fault (index_block_bound_of hs) ≡ None → 24 + length (handles_payload V4 hs) < 2 ^ 32
 index_fits hs h = omega (arith, not_large (index_block_bound_of hs) h, payload_len hs)
 
+full_short : (hs : List Handle) → large_fault (index_block_bound_of hs) ≡ None → length (handles_block V4 hs) < 2 ^ 32
+full_short hs h = omega (arith, length-block V4 Index (handles_payload V4 hs), index_fits hs h)
+
 -- ---- the meta block
 
-same_items : {A : Type 0} (label : Label) (options : Options) (m : Metadata A) (cs : List (List Entry)) (i f : ℕ) → i ≡ 1 → f ≡ filter_count options (joined cs) → m ≡ metadata_of V4 cs []
-    → counted_items label options (record { index = i; filter = f }) m ≡ meta_entries V4 label options cs (counted_blocks V4 options cs)
+same_items : {A : Type 0} (label : Label) (options : Options) (m : Metadata A) (cs : List (List Entry)) (i f : ℕ) → i ≡ 1 → f ≡ filter_count options.filter_kind [] → m ≡ metadata_of V4 cs []
+    → counted_items label options (record { index = i; filter = f }) m ≡ meta_entries V4 label options cs (counted_blocks options (plain_content V4 cs))
 unfolding counted_items
-same_items label options m cs i f one filter h =
-    let index = one ∙ sym (index_counts options (handles V4 cs)) in
-    rw (h, append-nil (joined cs), index, filter) refl
+same_items label options m cs i f one filter h = rw (h, append-nil (joined cs), one, filter) refl
 
 items_strict : (label : Label) (options : Options) (counted : Blocks) (f : ListFacts) (a b d : ℕ) → IsStrict (meta_items V4 label options counted f a b d)
 unfolding IsStrictAfter name_of
@@ -240,11 +246,11 @@ unfolding counted_items
 counted_fit label options counts m h = items_fit label options counts (counted_facts m) m.data_block_count m.file_pos.0 m.uncompressed_size h.last h.first
 
 -- the phases of finishing leave the sections of a table
-pub phases : {A : Type 0} (label : Label) (options : Options) (cs : List (List Entry)) (m : Metadata A) (i f : ℕ) (index : Registered) (first indexed versioned whole : Written)
+pub phases : {A : Type 0} (label : Label) (options : Options) (plain : IsPlain options) (cs : List (List Entry)) (m : Metadata A) (i f : ℕ) (index : Registered) (first indexed versioned whole : Written)
     → first ≡ laid ((Data, data_section V4 cs) ∷ []) → index ≡ record { handles = handles V4 cs; failed = false } → indexed ≡ appended first (full_index V4 index.handles) → versioned ≡ appended indexed (version_section V4)
     → whole ≡ appended versioned (meta_section V4 (counted_items label options (record { index = i; filter = f }) m))
-    → i ≡ 1 → f ≡ filter_count options (joined cs) → m ≡ metadata_of V4 cs [] → finished whole ≡ file V4 label options cs
-phases label options cs m i f index first indexed versioned whole d r x v w one filter h =
+    → i ≡ 1 → f ≡ filter_count options.filter_kind [] → m ≡ metadata_of V4 cs [] → finished whole ≡ file V4 label options (plain_content V4 cs)
+phases label options plain cs m i f index first indexed versioned whole d r x v w one filter h =
     let full = full_index V4 (handles V4 cs) in
     let items = counted_items label options (record { index = i; filter = f }) m in
     let front : Sections = (Data, data_section V4 cs) ∷ [] in
@@ -256,7 +262,7 @@ phases label options cs m i f index first indexed versioned whole d r x v w one 
     let laid_meta : whole ≡ laid (with_version ++ meta_section V4 items) = w ∙ ap (λ (y : Written). appended y (meta_section V4 items)) laid_version ∙ laid_more with_version (meta_section V4 items) in
     ap finished laid_meta
     ∙ ap (λ (xs : List Entry). finished (laid (with_version ++ meta_section V4 xs))) (same_items label options m cs i f one filter h)
-    ∙ ap (λ (ss : Sections). finished (laid ss)) (sym (sections_are V4 label options cs))
+    ∙ ap (λ (ss : Sections). finished (laid ss)) (sym (sections_are V4 label options cs plain))
 
 -- a full index that has not failed refuses what is too large alone
 pub index_refuses : (cs : List (List Entry)) (index : Registered) → index ≡ record { handles = handles V4 cs; failed = false } → key_fault (handles V4 cs) ≡ None → full_index_fault index ≡ large_fault (index_block_bound_of (handles V4 cs))
@@ -325,10 +331,23 @@ written_strict w n m h = subst (λ (es : List Entry). IsStrict es) (written_all 
 pub written_fits : {A : Type 0} (w : Writing) (n : ℕ) (m : Metadata A) → IsHeld w.options.data_block_size (blocks_of w) [] n m → AllByRecursion (EntryFits V4) (written w)
 written_fits w n m h = subst (λ (es : List Entry). AllByRecursion (EntryFits V4) es) (written_all w h.shortest) h.fits
 
+-- a table with a full index and without filters fits where its blocks do
+plain_fits : (label : Label) (options : Options) (cs : List (List Entry)) → IsPlain options → AllByRecursion (EntryFits V4) (joined cs) → AllByRecursion (BlockFits V4) cs → large_fault (index_block_bound_of (handles V4 cs)) ≡ None → LabelFits label
+    → Fits V4 label options (plain_content V4 cs)
+plain_fits label options cs plain entries blocks index l =
+    let short : AllByRecursion SectionFits (full_index V4 (handles V4 cs)) = (record { short = full_short (handles V4 cs) index }, tt) in
+    record {
+      entries = entries;
+      blocks = blocks;
+      index = subst (AllByRecursion SectionFits) (sym (index_part_is V4 options cs plain)) short;
+      filter = subst (AllByRecursion SectionFits) (sym (filter_part_is V4 options cs plain)) tt;
+      label_fits = l;
+    }
+
 pub finished_is : {A : Type 0} (w : Writing) (n : ℕ) (m : Metadata A) (id checksum : ℕ) (bytes : List ℕ) → IsHeld w.options.data_block_size (blocks_of w) [] n m → (m.item_count ≡ 0 → ⊥)
-    → id ≡ w.label.table_id → checksum ≡ fnv1a bytes → bytes ≡ file V4 w.label w.options (blocks_of w)
+    → id ≡ w.label.table_id → checksum ≡ fnv1a bytes → bytes ≡ file V4 w.label w.options (plain_content V4 (blocks_of w)) → IsPlain w.options
     → LabelFits w.label → AllByRecursion (BlockFits V4) (blocks_of w) → large_fault (index_block_bound_of (handles V4 (blocks_of w))) ≡ None → IsFinished w id checksum bytes
-finished_is {A} w n m id checksum bytes h some i s b label blocks index =
+finished_is {A} w n m id checksum bytes h some i s b plain label blocks index =
     let chunks = all_written w h.shortest in
     record {
       some = written_some w n m h some;
@@ -339,9 +358,10 @@ finished_is {A} w n m id checksum bytes h some i s b label blocks index =
         options = w.options;
         version = V4;
         spills = spills_of w;
-        file = record { blocks = blocks_of w; chunks = chunks; are = b };
+        file = record { content = plain_content V4 (blocks_of w); is = plain_is_content V4 w.options (spills_of w) (written w) (blocks_of w) plain chunks; are = b };
         strict = written_strict w n m h;
-        fits = record { entries = all_front (EntryFits V4) (joined (blocks_of w)) [] h.fits; blocks = blocks; index = kind_fits V4 w.options (handles V4 (blocks_of w)) (index_fits (handles V4 (blocks_of w)) index); label_fits = label };
+        fits = plain_fits w.label w.options (blocks_of w) plain (all_front (EntryFits V4) (joined (blocks_of w)) [] h.fits) blocks index label;
+        plain = plain;
       };
       label_is = refl;
       options_are = refl;

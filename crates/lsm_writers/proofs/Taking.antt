@@ -22,6 +22,9 @@ use Rattle.lsm_writers.specs.Cut.{Cut, rest_chunk, with_cut}
 use Rattle.lsm_files.specs.Facts.{count_after, lowest_seqno, highest_seqno, is_tombstone, is_weak, is_reclaimable, starts_key, one_if, first_key}
 use Rattle.lsm_files.specs.Fits.{EntryFits, LabelFits}
 use Rattle.lsm_files.specs.declared.label.Label.{Label}
+use Rattle.lsm_files.specs.declared.options.Options.{Options}
+use Rattle.lsm_files.specs.Options.{default_options}
+use Rattle.lsm_files.specs.Plain.{IsPlain}
 use Rattle.lsm_writers.specs.Held.{IsUnfilled, IsHeld, CanGoOn, IsShortest}
 use Rattle.lsm_writers.specs.Writing.{item_fault, may_be_written}
 use Rattle.lsm_writers.proofs.Cutting.{joined_more}
@@ -70,12 +73,12 @@ item_fits es e k v h = rw (le-ltb _ _ k, lt-leb _ _ v) (fits_still es e h)
 
 -- ---- between the calls
 
-pub nothing_held : {A : Type 0} (size : ℕ) (cut : Cut) (pending : List Entry) (meta : Metadata A) (label : Label) → cut ≡ record { chunks = []; failed = false } → pending ≡ [] → meta ≡ no_counts → LabelFits label → IsHeld size cut.chunks pending 0 meta × CanGoOn false size cut pending × LabelFits label
+pub nothing_held : {A : Type 0} (size : ℕ) (cut : Cut) (pending : List Entry) (meta : Metadata A) (label : Label) (options : Options) → cut ≡ record { chunks = []; failed = false } → pending ≡ [] → meta ≡ no_counts → LabelFits label → options ≡ default_options → IsHeld size cut.chunks pending 0 meta × CanGoOn false size cut pending × LabelFits label × IsPlain options
 unfolding IsStrictAfter last_of count_after lowest_seqno highest_seqno
-nothing_held size cut pending meta label c p m fits =
+nothing_held size cut pending meta label options c p m fits o =
     let held : IsHeld size [] [] 0 meta = record { strict = tt; fits = tt; shortest = tt; front = λ n lt le. absurd (omega (arith, lt, le)); counted = m; sized = refl; small = omega arith } in
     let ready : CanGoOn false size (record { chunks = []; failed = false }) [] = record { works = λ _. refl; room = λ _. tt } in
-    rw (c, p) (held, ready, fits)
+    rw (c, p, o) (held, ready, fits, record { index = refl; filter = refl; policy = refl })
 
 -- ---- one entry more
 

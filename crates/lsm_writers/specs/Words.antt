@@ -7,14 +7,15 @@ pub use Rattle.sst_blocks.specs.Bounds.{index_block_bound_of}
 pub use Rattle.sst_blocks.specs.Encoding.{entries_fault, large_fault}
 pub use Rattle.sst_blocks.specs.Payload.{payload}
 pub use Rattle.lsm_files.specs.Chunks.{entry_size, joined, entries_size}
+pub use Rattle.lsm_files.specs.Failed.{failed_fault}
 pub use Rattle.lsm_files.specs.File.{HasNoVersion, file, version_section}
 pub use Rattle.lsm_files.specs.Fits.{BlockFits, EntryFits, LabelFits}
 pub use Rattle.lsm_files.specs.Index.{data_block, data_section, handle_of, handles}
 pub use Rattle.lsm_files.specs.Kinds.{filter_count}
 pub use Rattle.lsm_files.specs.Layout.{appended, laid}
 pub use Rattle.lsm_files.specs.Options.{label_of}
+pub use Rattle.lsm_files.specs.Plain.{IsPlain, plain_content}
 pub use Rattle.lsm_writers.specs.Counts.{metadata_of, tally_of}
 pub use Rattle.lsm_writers.specs.Cut.{CountsCut, Cut, IsReadable, rest_chunk, with_cut}
-pub use Rattle.lsm_writers.specs.Registered.{failed_fault}
 pub use Rattle.lsm_writers.specs.Writing.{IsFinished, IsFresh, finish_fault, gained, item_fault}
 pub use Rattle.lsm_writers.specs.Writing.{may_be_written, new_writing, spilled, write_fault, written}

@@ -1,10 +1,10 @@
 //! Writing a table.
 ghost use Rattle.std.specs.Prelude.{◌≡◌, ◌↔◌, ◌<◌, ◌≤◌, ◌+◌, ◌*◌, ◌^◌, List, [], ◌∷◌, ◌++◌, None, Some, false, true, length, IsTrue, IfOk, IfErr, OnOk, OnErr, MatchResult, MatchOption};
 ghost use Rattle.lsm_writers.specs.Words.{BlockFits, Entry, EntryFits, Faults, FaultsFirst, HasNoVersion, IsFinished};
-ghost use Rattle.lsm_writers.specs.Words.{IsFresh, IsStrict, LabelFits, appended, entry_size, failed_fault, file};
+ghost use Rattle.lsm_writers.specs.Words.{IsFresh, IsStrict, IsPlain, LabelFits, appended, entry_size, failed_fault, file};
 ghost use Rattle.lsm_writers.specs.Words.{filter_count, finish_fault, fnv1a, gained, handles, index_block_bound_of};
 ghost use Rattle.lsm_writers.specs.Words.{item_fault, label_of, large_fault, last_of, may_be_written, metadata_of};
-ghost use Rattle.lsm_writers.specs.Words.{new_writing, entries_size, spilled, tally_of, version_section, write_fault};
+ghost use Rattle.lsm_writers.specs.Words.{new_writing, entries_size, plain_content, spilled, tally_of, version_section, write_fault};
 ghost use Rattle.lsm_writers.specs.Words.{written};
 ghost use Rattle.std.specs.Option.{option_copied};
 ghost use Rattle.sst_entries.specs.declared.error.Error.TheVariants.{OutOfMemory};
@@ -19,7 +19,7 @@ mod meta_block;
 use crate::{TableId, Timestamp};
 use data_blocks::DataBlocks;
 use index::BlockIndexWriter;
-use lsm_files::{BloomConstructionPolicy, FilterKind, Label, Options};
+use lsm_files::{FilterKind, Label, Options};
 use meta::{Metadata, Tally};
 use meta_block::{BlockCounts, write_meta};
 use sst_blocks::{
@@ -48,13 +48,14 @@ pub struct Writer<A: Allocator = Global> {
 impl<A: Allocator> Model for Writer<A> {
     ghost use Rattle.lsm_writers.specs.Writing.{Writing};
     ghost use Rattle.lsm_files.specs.Fits.{LabelFits};
+    ghost use Rattle.lsm_files.specs.Plain.{IsPlain};
     ghost use Rattle.lsm_writers.specs.Held.{IsHeld, CanGoOn};
 
     ghost Value = { Writing };
 
     ghost view = { λ w. record { label = w.label; options = w.options; cut = w.blocks.chunks; pending = w.chunk.items; failed = w.failed } };
 
-    ghost invariant = { λ w. IsHeld w.options.data_block_size w.blocks.chunks w.chunk.items w.chunk_size w.meta × CanGoOn w.failed w.options.data_block_size w.blocks w.chunk.items × LabelFits w.label };
+    ghost invariant = { λ w. IsHeld w.options.data_block_size w.blocks.chunks w.chunk.items w.chunk_size w.meta × CanGoOn w.failed w.options.data_block_size w.blocks w.chunk.items × LabelFits w.label × IsPlain w.options };
 }
 
 impl<A: Allocator + Clone> Writer<A> {
@@ -215,9 +216,11 @@ impl<A: Allocator + Clone> Writer<A> {
         requires cut { self.pending ≡ [] }
         ensures id { IfOk result (λ t. t.id ≡ self.label.table_id) }
         ensures checksum { IfOk result (λ t. t.checksum.0 ≡ fnv1a t.bytes) }
-        ensures bytes { IfOk result (λ t. t.bytes ≡ file V4 self.label self.options self.cut) }
+        ensures bytes { IfOk result (λ t. t.bytes ≡
+            file V4 self.label self.options (plain_content V4 self.cut)) }
         ensures refused { Faults result (large_fault (index_block_bound_of (handles V4 self.cut))) }
         ensures label { LabelFits self.label }
+        ensures plain { IsPlain self.options }
         ensures blocks { IfOk result (λ _. AllByRecursion (BlockFits V4) self.cut) }
     {
         let Writer {
@@ -305,17 +308,12 @@ impl<A: Allocator + Clone> Writer<A> {
         self
     }
 
-    /// How many bytes a partition of the index or of the filter has when it is cut.
-    pub fn use_meta_partition_size(mut self, size: u32) -> Writer<A>
+    /// How many bytes a partition of the index or of the filter has when it is cut: nothing changes where these have none.
+    pub fn use_meta_partition_size(self, _size: u32) -> Writer<A>
         requires fresh { IsFresh self }
-        requires small { size ≤ 4194304 }
-        ensures { result ≡ record self {
-          options = record self.options {
-            meta_partition_size = size;
-          };
-        } }
+        requires small { _size ≤ 4194304 }
+        ensures { result ≡ self }
     {
-        self.options.meta_partition_size = size;
         self
     }
 
@@ -354,10 +352,11 @@ pub struct FinishedTable<A: Allocator = Global> {
 
 /// Writes the filter, which an inactive policy has none of, and answers how many blocks it counts.
 fn finish_filter(options: &Options) -> usize
-    ensures { (es : List Entry) → result ≡ filter_count options.now es }
+    ensures { result ≡ filter_count options.now.filter_kind [] }
 {
-    match (options.filter_kind, options.bloom_policy) {
-        (FilterKind::Full, BloomConstructionPolicy::Inactive) => 1,
+    match options.filter_kind {
+        FilterKind::Full => 1,
+        FilterKind::Partitioned(_) => 0,
     }
 }
 

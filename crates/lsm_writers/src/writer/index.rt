@@ -15,7 +15,8 @@ pub trait BlockIndexWriter<A: Allocator> {
     ghost use Rattle.sst_entries.specs.declared.error.Error.{Error};
     ghost use Rattle.sst_entries.specs.declared.error.Error.TheVariants.{WriterFailed};
     ghost use Rattle.lsm_files.specs.Layout.{Sections, appended};
-    ghost use Rattle.lsm_writers.specs.Registered.{HasNoIndex, failed_fault};
+    ghost use Rattle.lsm_files.specs.Failed.{failed_fault};
+    ghost use Rattle.lsm_files.specs.File.{HasNoIndex};
 
     /// The handles that were registered.
     ghost registered: { Self → List Handle };

@@ -45,7 +45,9 @@ impl<A: Allocator + Clone> BlockIndexWriter<A> for FullIndexWriter<A> {
     ghost use Rattle.std.specs.Prelude.{◌≡◌, true, false, [], ◌∷◌, ◌++◌, length, take, OnOk, OnErr, IfOk};
     ghost use Rattle.sst_entries.specs.Error.{Faults, FaultsFirst};
     ghost use Rattle.sst_blocks.specs.Handles.{AreStrictHandles};
-    ghost use Rattle.lsm_writers.specs.Registered.{HasNoIndex, failed_fault, full_index_fault, fails_again};
+    ghost use Rattle.lsm_files.specs.Failed.{failed_fault};
+    ghost use Rattle.lsm_files.specs.File.{HasNoIndex};
+    ghost use Rattle.lsm_writers.specs.Registered.{full_index_fault, fails_again};
     ghost use Rattle.lsm_files.specs.Kinds.{full_index};
     ghost use Rattle.lsm_files.specs.Layout.{appended};
     ghost use Rattle.sst_sections.specs.declared.version.TableVersion.TheVariants.{V4};

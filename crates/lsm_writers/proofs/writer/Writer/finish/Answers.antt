@@ -7,6 +7,7 @@ use Rattle.sst_sections.specs.declared.version.TableVersion.TheVariants.{V4}
 use Rattle.lsm_files.specs.File.{file}
 use Rattle.lsm_files.specs.Fits.{BlockFits, LabelFits}
 use Rattle.lsm_files.specs.Index.{handles}
+use Rattle.lsm_files.specs.Plain.{IsPlain, plain_content}
 use Rattle.sst_entries.proofs.StreamLemmas.{on_err}
 use Rattle.lsm_files.specs.Chunks.{joined}
 use Rattle.lsm_writers.specs.Writing.{Writing, written}
@@ -47,8 +48,9 @@ returns-clause-table g c =
     let t = c.in_ok-table in
     let held = spilled_is w _ i.chunk_size i.meta (c.self.view_is ∙ c.in_ok-spill_block.ensures.ok) c.self.invariant.0 in
     let id = t.ensures.id ∙ ap (λ (x : Writing). x.label.table_id) c.in_ok-spill_block.ensures.ok in
-    let bytes = t.ensures.bytes ∙ ap (λ (x : Writing). file V4 x.label x.options x.cut) c.in_ok-spill_block.ensures.ok in
+    let bytes = t.ensures.bytes ∙ ap (λ (x : Writing). file V4 x.label x.options (plain_content V4 x.cut)) c.in_ok-spill_block.ensures.ok in
     finished_is w i.chunk_size i.meta t.field-0.id t.field-0.checksum.0 t.field-0.bytes held c.if-self-eq0.false id t.ensures.checksum bytes
+    (subst (λ (x : Writing). IsPlain x.options) c.in_ok-spill_block.ensures.ok t.ensures.plain)
     (subst (λ (x : Writing). LabelFits x.label) c.in_ok-spill_block.ensures.ok t.ensures.label)
     (subst (λ (x : Writing). AllByRecursion (BlockFits V4) x.cut) c.in_ok-spill_block.ensures.ok t.ensures.blocks)
     (subst (λ (x : Writing). large_fault (index_block_bound_of (handles V4 x.cut)) ≡ None) c.in_ok-spill_block.ensures.ok t.ensures.refused)

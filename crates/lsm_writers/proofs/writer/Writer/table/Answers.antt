@@ -2,9 +2,9 @@ use Rattle.std.proofs.Common.{◌≡◌, ◌∙◌, sym, ap}
 use Rattle.sst_sections.specs.declared.version.TableVersion.TheVariants.{V4}
 use Rattle.sst_blocks.specs.Bounds.{index_block_bound_of}
 use Rattle.sst_blocks.specs.Encoding.{large_fault}
-use Rattle.lsm_files.specs.Chunks.{joined}
 use Rattle.lsm_files.specs.File.{file}
 use Rattle.lsm_files.specs.Index.{handles}
+use Rattle.lsm_files.specs.Plain.{plain_content}
 use Rattle.lsm_writers.specs.Writing.{Writing}
 use Rattle.lsm_writers.proofs.Finishing.{none_pending, held_keys, held_short, index_refuses, phases}
 use Rattle.sst_entries.proofs.Refusals.{faults_refusal}
@@ -31,5 +31,5 @@ returns-clause-bytes g c =
     let i = c.self.inside in
     let size = i.options.data_block_size in
     let held = none_pending size i.blocks.chunks i.chunk.items i.chunk_size i.meta c.self.invariant.0 (ap (λ (w : Writing). w.pending) c.self.view_is ∙ c.requires.cut) in
-    let whole = phases i.label i.options i.blocks.chunks i.meta c.in_ok-index_blocks.index_blocks c.finish_filter-filter_blocks.result _ _ _ _ _ c.into_parts-file_writer.ensures.data c.into_parts-file_writer.ensures.index c.in_ok-index_blocks.ensures.ok c.in_ok-write_version.ensures.ok c.in_ok-write_meta.ensures.ok c.in_ok-index_blocks.ensures.count (c.finish_filter-filter_blocks.ensures (joined i.blocks.chunks)) held.counted in
-    c.in_ok-bytes.ensures.bytes ∙ whole ∙ ap (λ (w : Writing). file V4 w.label w.options w.cut) c.self.view_is
+    let whole = phases i.label i.options c.self.invariant.3 i.blocks.chunks i.meta c.in_ok-index_blocks.index_blocks c.finish_filter-filter_blocks.result _ _ _ _ _ c.into_parts-file_writer.ensures.data c.into_parts-file_writer.ensures.index c.in_ok-index_blocks.ensures.ok c.in_ok-write_version.ensures.ok c.in_ok-write_meta.ensures.ok c.in_ok-index_blocks.ensures.count c.finish_filter-filter_blocks.ensures held.counted in
+    c.in_ok-bytes.ensures.bytes ∙ whole ∙ ap (λ (w : Writing). file V4 w.label w.options (plain_content V4 w.cut)) c.self.view_is

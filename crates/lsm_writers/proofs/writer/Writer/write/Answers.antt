@@ -27,7 +27,7 @@ invariant_of-self-in-Err g c =
     let after = c.in-Err.ensures in
     let items = after.left ∙ c.in_ok-tally.ensures.taken in
     let back = c.truncate.ensures.items ∙ given_up c.self.inside.chunk.items _ c.args.item c.len-pending.result items (search rules) in
-    rw (after.unchanged, back, after.uncounted) (c.self.invariant.0, record { works = λ h. absurd cc; room = λ h. absurd cc }, c.self.invariant.2)
+    rw (after.unchanged, back, after.uncounted) (c.self.invariant.0, record { works = λ h. absurd cc; room = λ h. absurd cc }, c.self.invariant.2, c.self.invariant.3)
 
 pub count-requires : goal.count-requires
 count-requires g c =
@@ -51,9 +51,9 @@ invariant_of-self-2 g c =
           let after = w.in_default.ensures in
           let counted = rw w.self-inside-is at c.count.ensures in
           let done = cut_held size i.blocks.chunks c.take_item.new.chunk.items c.take_item.new.chunk_size i.meta c.in_ok-tally.tally w.cut.new.self.chunks w.cut.new.meta c.count.new.self held after.ok after.counted counted in
-          rw (w.self-inside-is, after.taken) (done, record { works = λ _. after.works; room = λ _. tt }, c.self.invariant.2)
+          rw (w.self-inside-is, after.taken) (done, record { works = λ _. after.works; room = λ _. tt }, c.self.invariant.2, c.self.invariant.3)
       | else-self-options w ↦
           let below : c.take_item.new.chunk_size < size = omega (arith, w.if-self-options.false) in
           let counted = rw w.self-inside-is at c.count.ensures in
-          rw (w.self-inside-is, counted) (held, record { works = λ _. c.self.invariant.1.works c.if-self.false; room = λ _. not_full size _ _ held.sized below }, c.self.invariant.2)
+          rw (w.self-inside-is, counted) (held, record { works = λ _. c.self.invariant.1.works c.if-self.false; room = λ _. not_full size _ _ held.sized below }, c.self.invariant.2, c.self.invariant.3)
     ]
