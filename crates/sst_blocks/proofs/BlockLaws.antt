@@ -1,8 +1,9 @@
 -- A block that was written loads.
 use Rattle.std.proofs.Common.{◌≡◌, ℕ, ◌+◌, ◌*◌, ◌-◌, ◌^◌, ◌<◌, ◌≤◌, true, List, [], ◌∷◌, ◌++◌, length, drop, slice_range, refl, sym, ap, ◌∙◌, arith, append_assoc, length-append}
-use Rattle.std.specs.Prelude.{None, Some, Ok, is_some, bit_xor}
+use Rattle.std.specs.Prelude.{None, Some, Ok, is_some, bit_xor, nat_le}
 use Rattle.std.proofs.lemmas.List.{take_at, drop_at, append-nil}
 use Rattle.std.proofs.lemmas.Bool.{eq-eqb}
+use Rattle.std.proofs.lemmas.Bool.Decides.{nat_tests}
 use Rattle.std.proofs.Math.Nat.{mod-lt}
 use Rattle.sst_sections.specs.declared.version.TableVersion.{TableVersion}
 use Rattle.sst_sections.specs.declared.version.TableVersion.TheVariants.{V3, V4}
@@ -12,7 +13,7 @@ use Rattle.sst_sections.specs.Fnv.{fnv1a, fnv_from, fnv_basis, fnv_prime, fnv_st
 use Rattle.sst_sections.specs.Number.{le4, le8, num4, num8}
 use Rattle.sst_blocks.specs.Block.{header, block_bytes, header_fault, data_len, uncompressed_len, stored_checksum, version_in, in_grammar, checked_payload, load_told, load_at_told, entries_of, handles_of, loaded, LoadsBack, is_filter}
 use Rattle.sst_blocks.specs.Handle.{Handle}
-use Rattle.sst_filters.specs.Filter.{BloomFilter, filter_in, payload_of}
+use Rattle.sst_filters.specs.Filter.{BloomFilter, filter_in, IsBuilt, payload_of}
 use Rattle.sst_blocks.specs.Handles.{handles_payload, AreStrictHandles, AreSpellableHandles}
 use Rattle.sst_blocks.specs.Payload.{payload, AreSpellable}
 use Rattle.sst_blocks.specs.Reading.{entries_in}
@@ -160,3 +161,14 @@ handles_load v hs strict fit lt =
 pub filter_load : (v : TableVersion) (f : BloomFilter) → is_filter (payload_of f) ≡ true → length (payload_of f) < 2 ^ 32
     → LoadsBack v Filter (payload_of f) × (filter_in (payload_of f) ≡ f)
 filter_load v f ok lt = (loads_back v Filter (payload_of f) lt ok, refl)
+
+-- a built filter is in the grammar
+is_built : (k : ℕ) (bits : List ℕ) → 1 ≤ k → k ≤ 30 → 8 ≤ length bits → is_filter (k ∷ bits) ≡ true
+is_built k [] some few wide = absurd (omega (arith, wide))
+is_built k (b ∷ bits) some few wide = rw (yes 1 k some, yes k 30 few) refl
+  where
+    yes : (m n : ℕ) → m ≤ n → nat_le m n ≡ true
+    yes m n le = grind (arith, nat_tests, le)
+
+pub built_load : (v : TableVersion) (f : BloomFilter) → IsBuilt f → LoadsBack v Filter (payload_of f) × (filter_in (payload_of f) ≡ f)
+built_load v f built = filter_load v f (is_built f.probe_count f.bits built.some built.few built.wide) (omega (arith, built.short))

@@ -18,4 +18,4 @@ pub use Rattle.sst_blocks.specs.Seeking.{whole_span}
 pub use Rattle.sst_blocks.specs.Seen.{entry_of_ref}
 pub use Rattle.sst_blocks.specs.SeenHandle.{handle_of_ref}
 pub use Rattle.sst_blocks.specs.Starts.{EntriesAt, HoldsEntries, IsBlock}
-pub use Rattle.sst_filters.specs.Filter.{BloomFilter, IsFilterOf, admits, filter_in, is_in, payload_of}
+pub use Rattle.sst_filters.specs.Filter.{BloomFilter, IsBuilt, IsFilterOf, admits, filter_in, is_in, payload_of}

@@ -4,7 +4,8 @@ ghost use Rattle.sst_blocks.specs.Words.{AreSpellable, AreSpellableHandles, AreS
 ghost use Rattle.sst_blocks.specs.Words.{Entry, Faults, Gives, Handle, HoldsEntries, IsBlock};
 ghost use Rattle.sst_blocks.specs.Words.{IsStrict, Loaded, LoadsBack, block_bytes, entries_of};
 ghost use Rattle.sst_blocks.specs.Words.{grammar_fault, handles_of, handles_payload, header_len};
-ghost use Rattle.sst_blocks.specs.Words.{BloomFilter, filter_in, is_filter, loaded, payload, payload_of, unless};
+ghost use Rattle.sst_blocks.specs.Words.{BloomFilter, IsBuilt, filter_in, is_filter, loaded, payload};
+ghost use Rattle.sst_blocks.specs.Words.{payload_of, unless};
 ghost use Rattle.sst_blocks.specs.declared.block_type.BlockType.{BlockType};
 ghost use Rattle.sst_blocks.specs.declared.block_type.BlockType.TheVariants.{Filter, Index};
 ghost use Rattle.sst_sections.specs.declared.version.TableVersion.{TableVersion};
@@ -178,5 +179,8 @@ pub fn written_blocks_load()
         × (handles_of (loaded v Index (handles_payload v hs)) ≡ hs) }
     ensures filters { (v : TableVersion) (f : BloomFilter) →
         is_filter (payload_of f) ≡ true → length (payload_of f) < 2 ^ 32 →
+        LoadsBack v Filter (payload_of f) × (filter_in (payload_of f) ≡ f) }
+    // What a builder gives is the payload of such a filter.
+    ensures built { (v : TableVersion) (f : BloomFilter) → IsBuilt f →
         LoadsBack v Filter (payload_of f) × (filter_in (payload_of f) ≡ f) }
 {}

@@ -1,6 +1,6 @@
 //! Building a filter.
-ghost use Rattle.std.specs.Prelude.{◌≡◌, ◌<◌, ◌^◌, ◌++◌, ◌∷◌, [], length, List, ℕ};
-ghost use Rattle.sst_filters.specs.Filter.{Gains, IsFilterOf, filter_in, payload_of};
+ghost use Rattle.std.specs.Prelude.{◌≡◌, ◌<◌, ◌++◌, ◌∷◌, [], length, List, ℕ};
+ghost use Rattle.sst_filters.specs.Filter.{Gains, IsBuilt, IsFilterOf, filter_in, payload_of};
 ghost use Rattle.sst_sections.specs.Fnv.{fnv1a};
 
 use crate::bit_array::set_probes;
@@ -17,20 +17,21 @@ pub struct Builder<A: Allocator = Global> {
 }
 
 impl<A: Allocator> Model for Builder<A> {
-    ghost use Rattle.std.specs.Prelude.{◌<◌, ◌^◌, length};
-    ghost use Rattle.sst_filters.specs.Filter.{BloomFilter, filter_in};
+    ghost use Rattle.std.specs.Prelude.{◌<◌, length};
+    ghost use Rattle.sst_filters.specs.Filter.{BloomFilter, IsBuilt, filter_in};
 
     ghost Value = { BloomFilter };
 
     ghost view = { λ b. filter_in b.payload.items };
 
-    ghost invariant = { λ b. (8 < length b.payload.items) × (length b.payload.items < 2 ^ 32) };
+    ghost invariant = { λ b. (0 < length b.payload.items) × IsBuilt (filter_in b.payload.items) };
 }
 
 impl<A: Allocator> Builder<A> {
     // The filter of a payload.
     pub(crate) fn of(payload: Vec<u8, A>) -> Builder<A>
-        requires { (8 < length payload.items) × (length payload.items < 2 ^ 32) }
+        requires some { 0 < length payload.items }
+        requires built { IsBuilt (filter_in payload.items) }
         ensures { result ≡ filter_in payload.items }
     {
         Builder { payload }
@@ -61,7 +62,9 @@ impl<A: Allocator> Builder<A> {
 
     /// The payload of the filter's block: the number of probes in one byte, then the bits.
     pub fn build(self) -> Vec<u8, A>
-        ensures { result.items ≡ payload_of self }
+        ensures payload { result.items ≡ payload_of self }
+        // The block of this payload is in its grammar, and shorter than 2^32.
+        ensures built { IsBuilt self }
     {
         self.payload
     }

@@ -1,4 +1,4 @@
-use Rattle.sst_blocks.proofs.BlockLaws.{entries_load, filter_load, handles_load}
+use Rattle.sst_blocks.proofs.BlockLaws.{built_load, entries_load, filter_load, handles_load}
 use Rattle.sst_blocks.proofs.block.written_blocks_load.Goals as goal
 
 pub returns-clause-entries : goal.returns-clause-entries
@@ -9,3 +9,6 @@ returns-clause-handles c v hs strict fit lt = handles_load v hs strict fit lt
 
 pub returns-clause-filters : goal.returns-clause-filters
 returns-clause-filters c v f ok lt = filter_load v f ok lt
+
+pub returns-clause-built : goal.returns-clause-built
+returns-clause-built c v f built = built_load v f built
