@@ -12,6 +12,5 @@ pub mod Content
 pub mod MetaBlock
 pub mod File
 pub mod Fits
-pub mod Plain
 pub mod Table
 pub mod ItemName

@@ -15,7 +15,7 @@ default_options = record {
   data_block_size = 4096;
   index_kind = FullIndex;
   filter_kind = FullFilter;
-  bloom_policy = BitsPerKey 0;
+  bloom_policy = BitsPerKey 100;
 }
 
 -- the label of its parts

@@ -5,12 +5,11 @@ use Rattle.sst_entries.specs.Entry.{Entry}
 use Rattle.sst_entries.specs.Strict.{IsStrict}
 use Rattle.lsm_files.specs.File.{IsFile}
 use Rattle.lsm_files.specs.Fits.{Fits}
-use Rattle.lsm_files.specs.Plain.{IsPlain}
 use Rattle.lsm_files.specs.declared.options.Options.{Options}
 use Rattle.lsm_files.specs.declared.label.Label.{Label}
 
--- the bytes are a table of a list: written under a label, with options and in a version; the list
--- is strict, and what the bytes hold fits; for now with a full index and without filters
+-- the bytes are a table of a list: written under a label, with options and in a version, whatever its
+-- kinds of index and of filter; the list is strict, and what the bytes hold fits
 pub record IsTable (bytes : List ℕ) (es : List Entry) : Type 0 where
   pub label : Label
   pub options : Options
@@ -19,4 +18,3 @@ pub record IsTable (bytes : List ℕ) (es : List Entry) : Type 0 where
   pub file : IsFile version bytes label options spills es
   pub strict : IsStrict es
   pub fits : Fits version label options file.content
-  pub plain : IsPlain options

@@ -56,7 +56,7 @@ impl Default for Options {
             data_block_size: 4_096,
             index_kind: IndexKind::Full,
             filter_kind: FilterKind::Full,
-            bloom_policy: BloomConstructionPolicy::BitsPerKey(0),
+            bloom_policy: BloomConstructionPolicy::BitsPerKey(100),
         }
     }
 }

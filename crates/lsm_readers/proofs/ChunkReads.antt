@@ -11,19 +11,13 @@ use Rattle.sst_blocks.specs.Handle.{Handle}
 use Rattle.sst_blocks.specs.Handles.{reaches}
 use Rattle.sst_entries.specs.Key.{same_key, key_lt}
 use Rattle.sst_entries.specs.Point.{is_hit}
-use Rattle.sst_sections.specs.declared.version.TableVersion.TheVariants.{V3, V4}
-use Rattle.sst_blocks.specs.declared.block_type.BlockType.{BlockType}
 use Rattle.sst_blocks.specs.declared.block_type.BlockType.TheVariants.{Data}
-use Rattle.sst_blocks.specs.Block.{block_bytes, kind_tag}
-use Rattle.sst_sections.specs.Fnv.{fnv1a}
-use Rattle.sst_sections.specs.Number.{le4, le8}
 use Rattle.sst_blocks.specs.Payload.{payload}
-use Rattle.sst_sections.specs.Version.{mark}
-use Rattle.sst_sections.proofs.Numbers.{wide4, wide8}
 use Rattle.sst_entries.proofs.Booleans.{apart, is_false, or_right}
 use Rattle.sst_entries.proofs.OrderLemmas.{before_trans, less_of}
 use Rattle.sst_entries.specs.Strict.{is_before, IsStrictAfter, last_of}
 use Rattle.sst_blocks.proofs.Reaching.{reaches_after, above_reaches}
+use Rattle.lsm_files.proofs.BlockLengths.{length-block}
 use Rattle.lsm_files.specs.Chunks.{joined}
 use Rattle.lsm_files.specs.Index.{last_entry, handle_of, handles_from, block_size, data_block, data_section}
 
@@ -53,7 +47,7 @@ not_hit : (key : List ℕ) (bound : ℕ) (e : Entry) → after key bound e ≡ f
 not_hit key bound e early = is_false (is_hit key bound e) (λ h. apart (after key bound e) (hit_after key bound e h) early)
 
 -- nothing before an entry that does not come after the read does
-not_before : (key : List ℕ) (bound : ℕ) (e l : Entry) → is_before e l ≡ true → after key bound l ≡ false → after key bound e ≡ false
+pub not_before : (key : List ℕ) (bound : ℕ) (e l : Entry) → is_before e l ≡ true → after key bound l ≡ false → after key bound e ≡ false
 not_before key bound e l before early = is_false (after key bound e) (λ late. apart (after key bound l) (before_trans (entry key [] bound Value) e l late before) early)
 
 -- an entry above the key is not hit
@@ -149,27 +143,6 @@ behind_passed v offset c cs key bound (Some h) passes reads =
       handle = reads.handle ∙ ap (λ (n : ℕ). handle_of v n reads.chunk) place;
       answer = passes ∙ reads.answer;
     }
-
-length-mark : (v : TableVersion) → length (mark v) ≡ 4
-length-mark V3 = refl
-length-mark V4 = refl
-
--- a block is its header and its payload
-pub length-block : (v : TableVersion) (kind : BlockType) (bytes : List ℕ) → length (block_bytes v kind bytes) ≡ 24 + length bytes
-length-block v kind bytes =
-    let n = length bytes in
-    let fixed = kind_tag kind ∷ 0 ∷ 0 ∷ 0 ∷ [] in
-    omega (
-      arith,
-      length-mark v,
-      wide4.len n,
-      wide8.len (fnv1a bytes),
-      length-append (mark v) fixed,
-      length-append (mark v ++ fixed) (le4 n),
-      length-append ((mark v ++ fixed) ++ le4 n) (le4 n),
-      length-append (((mark v ++ fixed) ++ le4 n) ++ le4 n) (le8 (fnv1a bytes)),
-      length-append ((((mark v ++ fixed) ++ le4 n) ++ le4 n) ++ le8 (fnv1a bytes)) bytes,
-    )
 
 decided : (v : TableVersion) (offset : ℕ) (last : Option Entry) (x : Entry) (xs : List Entry) (cs : List (List Entry)) (key : List ℕ) (bound : ℕ) (o : Option Handle) (b : Bool) → IsStrictAfter last ((x ∷ xs) ++ joined cs)
     → reaches key bound (handle_of v offset (x ∷ xs)) ≡ b → ReadsBy v (offset + block_size v (x ∷ xs)) cs key bound o → ReadsBy v offset ((x ∷ xs) ∷ cs) key bound (cond b (Some (handle_of v offset (x ∷ xs))) o)

@@ -23,11 +23,12 @@ use Rattle.lsm_files.specs.Chunks.{joined}
 use Rattle.lsm_files.specs.Facts.{count_after, one_if, lowest_seqno, highest_seqno}
 use Rattle.lsm_files.specs.Index.{last_entry, handle_of, handles_from, handles, block_size, data_block, data_section}
 use Rattle.lsm_files.specs.Fits.{EntryFits, BlockFits}
-use Rattle.lsm_readers.proofs.ChunkReads.{AreSome, later, length-block, strict_front, strict_after}
+use Rattle.lsm_readers.proofs.ChunkReads.{AreSome, later, strict_front, strict_after}
+use Rattle.lsm_files.proofs.BlockLengths.{length-block}
 
 -- ---- entries and their blocks
 
-longest_short : (v : TableVersion) → longest_key v < key_limit v
+pub longest_short : (v : TableVersion) → longest_key v < key_limit v
 longest_short V3 = omega arith
 longest_short V4 = omega arith
 
@@ -91,7 +92,7 @@ last_fits v e [] fits = fits.0
 last_fits v e (x ∷ xs) fits = last_fits v x xs fits.1
 
 -- the handles' blocks lie below a bound
-handle_fits : (v : TableVersion) (offset : ℕ) (cs : List (List Entry)) → offset + length (data_section v cs) < 2 ^ 64 → AreSome cs → AllByRecursion (EntryFits v) (joined cs) → AllByRecursion (BlockFits v) cs → AllByRecursion (IsSpellableHandle v) (handles_from v offset cs)
+pub handle_fits : (v : TableVersion) (offset : ℕ) (cs : List (List Entry)) → offset + length (data_section v cs) < 2 ^ 64 → AreSome cs → AllByRecursion (EntryFits v) (joined cs) → AllByRecursion (BlockFits v) cs → AllByRecursion (IsSpellableHandle v) (handles_from v offset cs)
 handle_fits v offset [] short some fits blocks = tt
 handle_fits v offset ([] ∷ cs) short some fits blocks = absurd (omega (arith, some.0))
 handle_fits v offset ((x ∷ xs) ∷ cs) short some fits blocks =
@@ -120,7 +121,7 @@ followed : (p : Option Entry) (x l : Entry) → may_follow p x ≡ true → is_b
 followed None x l h before = refl
 followed (Some e) x l h before = before_trans e x l h before
 
-follow_last : (p : Option Entry) (x : Entry) (xs : List Entry) → IsStrictAfter p (x ∷ xs) → may_follow p (last_entry (x ∷ xs)) ≡ true
+pub follow_last : (p : Option Entry) (x : Entry) (xs : List Entry) → IsStrictAfter p (x ∷ xs) → may_follow p (last_entry (x ∷ xs)) ≡ true
 unfolding IsStrictAfter last_of
 follow_last p x [] strict = strict.0
 follow_last p x (y ∷ ys) strict = followed p x (last_entry (y ∷ ys)) strict.0 (later x y ys strict.1)

@@ -1,223 +1,199 @@
 -- What the bytes of a table of a list are recovered to.
-use Rattle.std.proofs.Common.{◌≡◌, ℕ, ◌+◌, ◌-◌, ◌^◌, ◌<◌, ◌≤◌, cond, ltb, List, [], ◌∷◌, length, refl, sym, ap, subst, ◌∙◌, length-append, arith, inl, inr}
-use Rattle.std.specs.Prelude.{None, Result, Ok, Err, unwrap_or}
+use Rattle.std.proofs.Common.{◌≡◌, ℕ, ◌+◌, ◌-◌, ◌^◌, ◌<◌, Bool, cond, ltb, List, ◌++◌, length, refl, sym, ap, subst, ◌∙◌, append_assoc, length-append, arith, inl, inr}
+use Rattle.std.specs.Prelude.{Option, None, Result, Ok, Err, map, unwrap_or}
 use Rattle.std.specs.List.{AllByRecursion}
 use Rattle.std.proofs.lemmas.Bool.{cases_Bool}
-use Rattle.std.proofs.lemmas.List.Sums.{count_by-le-length}
+use Rattle.sst_sections.specs.declared.section.SectionName.TheVariants.{Filter as FilterSection, FilterTli}
 use Rattle.sst_sections.specs.declared.version.TableVersion.{TableVersion}
-use Rattle.sst_sections.specs.declared.version.TableVersion.TheVariants.{V3, V4}
-use Rattle.sst_blocks.specs.declared.block_type.BlockType.TheVariants.{Index, Meta}
-use Rattle.sst_entries.specs.declared.error.Error.{Error}
-use Rattle.sst_entries.specs.Entry.{Entry}
-use Rattle.sst_blocks.specs.Handles.{handles_payload}
-use Rattle.sst_blocks.specs.Payload.{payload}
-use Rattle.sst_sections.specs.Sections.{finished, body_of, trailer}
-use Rattle.sst_entries.specs.Strict.{IsStrict, last_of}
-use Rattle.sst_sections.specs.Version.{longest_key}
-use Rattle.lsm_files.specs.Chunks.{joined, AreChunks, AreChunksFrom}
-use Rattle.lsm_files.specs.Facts.{first_key, last_key, highest_seqno, is_tombstone, is_weak, is_reclaimable}
-use Rattle.lsm_files.specs.Content.{Content}
-use Rattle.lsm_files.specs.Plain.{plain_content}
-use Rattle.lsm_files.specs.Index.{handles, data_section}
-use Rattle.lsm_files.specs.MetaBlock.{meta_entries}
-use Rattle.lsm_files.specs.declared.options.Options.{Options}
-use Rattle.lsm_files.specs.declared.label.Label.{Label}
-use Rattle.lsm_files.specs.Fits.{EntryFits}
-use Rattle.lsm_readers.specs.Parts.{Parts, PinnedIndex, full, parts_told, places_told, recovered_told}
-use Rattle.lsm_readers.proofs.ChunkReads.{AreSome, length-block}
-use Rattle.lsm_readers.proofs.FileLengths.{last_fits, last_some, after_within, lowest_fits, highest_below, section_wide, index_reads}
-use Rattle.lsm_readers.specs.declared.regions.ParsedRegions.{ParsedRegions}
-use Rattle.lsm_readers.specs.Meta.{meta_told}
-use Rattle.lsm_readers.specs.Parts.{index_told}
-use Rattle.lsm_readers.proofs.FileReads.{the_regions, ascending, length-body, file_is, regions_read, index_read, meta_items_read, w}
-use Rattle.lsm_readers.proofs.Plains.{counted, filter_counts, PlainFits, plain_file, chunks_of, fits_plain, content_is}
-use Rattle.lsm_readers.proofs.MetaBlocks.{meta_reads, meta_length}
-use Rattle.lsm_readers.proofs.MetaReads.{FactsFit, facts_read, interval_read, written_facts}
-use Rattle.lsm_readers.proofs.Recovered.{Steps, steps}
-use Rattle.sst_entries.specs.declared.error.Error.TheVariants.{GlobalSeqNoTooLarge}
+use Rattle.sst_sections.specs.Sections.{body_of, finished}
 use Rattle.sst_sections.proofs.SectionLaws.{finished_fine}
+use Rattle.sst_entries.specs.declared.error.Error.{Error}
+use Rattle.sst_entries.specs.declared.error.Error.TheVariants.{GlobalSeqNoTooLarge}
+use Rattle.sst_entries.specs.Entry.{Entry}
+use Rattle.sst_entries.specs.Strict.{IsStrict}
+use Rattle.sst_blocks.specs.Place.{Place}
+use Rattle.lsm_files.specs.Chunks.{joined}
+use Rattle.lsm_files.specs.Content.{Content}
+use Rattle.lsm_files.specs.Facts.{highest_seqno}
+use Rattle.lsm_files.specs.File.{IsContent, counted_blocks, front_sections}
+use Rattle.lsm_files.specs.Filters.{keys_of}
+use Rattle.lsm_files.specs.Fits.{Fits}
+use Rattle.lsm_files.specs.Index.{data_section, handles}
+use Rattle.lsm_files.specs.Layout.{bytes_in}
 use Rattle.lsm_files.specs.Table.{IsTable}
-use Rattle.lsm_readers.specs.Meta.{Facts, facts_told}
-use Rattle.lsm_readers.specs.OfList.{facts_said, list_told, parts_said, regions_said}
-
--- ---- what a list says fits
-
-first_short : (v : TableVersion) (es : List Entry) → AllByRecursion (EntryFits v) es → length (unwrap_or (first_key es) []) ≤ longest_key v
-first_short v [] fits = omega arith
-first_short v (e ∷ es) fits = (fits.0).key
-
-last_short : (v : TableVersion) (es : List Entry) → AllByRecursion (EntryFits v) es → length (unwrap_or (last_key es) []) ≤ longest_key v
-unfolding last_of
-last_short v [] fits = omega arith
-last_short v (e ∷ es) fits = rw (last_some e es) ((last_fits v e es fits).key)
-
-longest_below : (v : TableVersion) → longest_key v ≤ 1048576
-longest_below V3 = omega arith
-longest_below V4 = omega arith
-
-facts_fit : (v : TableVersion) (label : Label) (options : Options) (cs : List (List Entry)) → length (data_section v cs) < 2 ^ 63 → PlainFits v label cs → options.index_block_restart_interval ≡ 1 → FactsFit label options cs v (counted v options cs)
-facts_fit v label options cs short fits one =
-    let es = joined cs in
-    let wide = section_wide v cs in
-    record {
-      id = (fits.label_fits).id;
-      created_at = (fits.label_fits).created_at;
-      interval = one;
-      items = omega arith;
-      tombstones = omega (arith, count_by-le-length is_tombstone es);
-      weak = omega (arith, count_by-le-length is_weak es);
-      reclaimable = omega (arith, after_within is_reclaimable None es);
-      lowest = lowest_fits es;
-      highest = highest_below v es fits.entries;
-      data_blocks = omega arith;
-      index_blocks = omega arith;
-      filter_blocks = omega (arith, filter_counts options.filter_kind);
-      file_size = omega arith;
-    }
-
--- ---- the parts
+use Rattle.lsm_files.specs.declared.label.Label.{Label}
+use Rattle.lsm_files.specs.declared.options.Options.{Options}
+use Rattle.lsm_readers.specs.declared.regions.ParsedRegions.{ParsedRegions}
+use Rattle.lsm_readers.specs.Meta.{Facts, facts_told, meta_told}
+use Rattle.lsm_readers.specs.OfList.{facts_said, filter_said, filter_tops_said, index_said, list_told, no_place, parts_said, pinned_said, place_from, regions_said}
+use Rattle.lsm_readers.specs.Parts.{Parts, Pinned, filter_told, index_told, parts_told, pinned_filter, pinned_told, places_told, recovered_told, tops_told}
+use Rattle.lsm_readers.proofs.FileContent.{body_short, entries_fit, facts_fit, filter_within, first_short, handles_fit, handles_line, index_within, last_short, longest_below, meta_block_short, meta_short, whole}
+use Rattle.lsm_readers.proofs.FileFilters.{KeyFits, keys_fit, keys_strict}
+use Rattle.lsm_readers.proofs.FilePinned.{filter_here, index_here, tops_here}
+use Rattle.lsm_readers.proofs.FileSections.{ascending, body_is, data_len, filter_at, filter_top_at, index_at, meta_items_read, regions_read, the_end, the_filter, the_index, the_items, top_at, top_place, written}
+use Rattle.lsm_readers.proofs.FilterPartReads.{key_end}
+use Rattle.lsm_readers.proofs.MetaBlocks.{meta_reads}
+use Rattle.lsm_readers.proofs.MetaReads.{facts_read, interval_read, written_facts}
+use Rattle.lsm_readers.proofs.Recovered.{Steps, steps}
 
 pub ok_same : {A : Type 0} (r : Result A Error) (a b : A) → r ≡ Ok a → r ≡ Ok b → a ≡ b
 ok_same (Ok x) a b p q = let pa : x ≡ a = cc in let qb : x ≡ b = cc in sym pa ∙ qb
 ok_same (Err e) a b p q = absurd cc
 
-meta_short : (v : TableVersion) (label : Label) (options : Options) (cs : List (List Entry)) → PlainFits v label cs → length (payload v (meta_entries v label options cs (counted v options cs))) + 24 < 2 ^ 32
-meta_short v label options cs fits =
-    omega (arith, meta_length v label options cs (counted v options cs), first_short v (joined cs) fits.entries, last_short v (joined cs) fits.entries, longest_below v)
+abbrev pub written_parts : TableVersion → Label → Options → Content → Bool → Bool → Parts
+written_parts v label options c pin_filter pin_index = record { facts = written_facts v label c.blocks (counted_blocks options c); regions = regions_said v label options c; pinned = pinned_said v options c pin_filter pin_index }
 
-abbrev written_parts : TableVersion → Label → Options → List (List Entry) → Parts
-written_parts v label options cs = record { facts = written_facts v label cs (counted v options cs); regions = the_regions v label options cs; index = full (handles v cs) }
-
-parts_eta : (p q : Parts) → p.facts ≡ q.facts → p.regions ≡ q.regions → p.index ≡ q.index → p ≡ q
+parts_eta : (p q : Parts) → p.facts ≡ q.facts → p.regions ≡ q.regions → p.pinned ≡ q.pinned → p ≡ q
 parts_eta p q f r i =
-    let made : Facts → ParsedRegions → PinnedIndex → Parts = λ f r i. record { facts = f; regions = r; index = i } in
-    ap (λ (x : Facts). made x p.regions p.index) f ∙ ap (λ (x : ParsedRegions). made q.facts x p.index) r ∙ ap (λ (x : PinnedIndex). made q.facts q.regions x) i
+    let made : Facts → ParsedRegions → Pinned → Parts = λ f r i. record { facts = f; regions = r; pinned = i } in
+    ap (λ (x : Facts). made x p.regions p.pinned) f ∙ ap (λ (x : ParsedRegions). made q.facts x p.pinned) r ∙ ap (λ (x : Pinned). made q.facts q.regions x) i
 
-module _ (v : TableVersion) (label : Label) (options : Options) (cs : List (List Entry))
-    (short : length (finished (w v label options cs)) < 2 ^ 63) (some : AreSome cs) (strict : IsStrict (joined cs)) (fits : PlainFits v label cs) where
-  abbrev the_bytes : List ℕ
-  the_bytes = finished (w v label options cs)
+module _ (v : TableVersion) (label : Label) (options : Options) (spills : List ℕ) (es : List Entry) (c : Content) (is : IsContent v options spills es c) (fits : Fits v label options c) (strict : IsStrict es)
+    (short : length (finished (written v label options c)) < 2 ^ 63) where
+  abbrev pub the_bytes : List ℕ
+  the_bytes = finished (written v label options c)
 
-  body_short : length (w v label options cs).bytes < 2 ^ 63
-  body_short = omega (arith, short, length-append (w v label options cs).bytes (trailer (w v label options cs)))
+  abbrev pub the_body : List ℕ
+  the_body = body_of the_bytes
 
-  data_short : length (data_section v cs) < 2 ^ 63
-  data_short = omega (arith, body_short, length-body v label options cs)
+  abbrev regions : ParsedRegions
+  regions = regions_said v label options c
 
-  regions_here : places_told the_bytes ≡ Ok (the_regions v label options cs)
-  regions_here =
-      let index = length-block v Index (handles_payload v (handles v cs)) in
-      let meta = length-block v Meta (payload v (meta_entries v label options cs (counted v options cs))) in
-      regions_read v label options cs (omega (arith, body_short)) (omega (arith, index, fits.index)) (omega (arith, meta, meta_short v label options cs fits))
+  -- ---- what stands before the index and before the filter, and behind them
 
-  index_here : index_told (body_of the_bytes) (the_regions v label options cs) ≡ Ok (full (handles v cs))
-  index_here =
-      let short_index = fits.index in
-      index_read v label options cs (omega (arith, short_index)) (index_reads v cs (omega (arith, data_short)) some strict fits.entries fits.blocks short_index)
+  abbrev pub before_filter : List ℕ
+  before_filter = data_section v c.blocks ++ bytes_in (the_index v label options c)
 
-  items_here : meta_told (body_of the_bytes) (the_regions v label options cs).metadata ≡ facts_told (meta_entries v label options cs (counted v options cs))
+  abbrev pub behind_filter : List ℕ
+  behind_filter = bytes_in (the_end v label options c)
+
+  abbrev pub behind_index : List ℕ
+  behind_index = bytes_in (the_filter v label options c) ++ behind_filter
+
+  pub filter_lies : the_body ≡ before_filter ++ (bytes_in (the_filter v label options c) ++ behind_filter)
+  filter_lies = body_is v label options c ∙ sym (append_assoc (data_section v c.blocks) (bytes_in (the_index v label options c)) behind_index)
+
+  -- the filter begins behind the front sections
+  abbrev pub filter_start : ℕ
+  filter_start = length (bytes_in (front_sections v options c))
+
+  filter_from : data_len v label options c + length (bytes_in (the_index v label options c)) ≡ filter_start
+  filter_from = sym (length-append (data_section v c.blocks) (bytes_in (the_index v label options c)))
+
+  pub filter_place : regions.filter ≡ place_from filter_start (the_filter v label options c) FilterSection
+  filter_place = filter_at v label options c ∙ ap (λ (n : ℕ). place_from n (the_filter v label options c) FilterSection) filter_from
+
+  pub filter_top_place : regions.filter_tli ≡ place_from filter_start (the_filter v label options c) FilterTli
+  filter_top_place = filter_top_at v label options c ∙ ap (λ (n : ℕ). place_from n (the_filter v label options c) FilterTli) filter_from
+
+  pub tli_place : regions.tli ≡ top_place options.index_kind v (length (data_section v c.blocks)) (handles v c.blocks) c.index
+  tli_place = ap (λ (o : Option Place). unwrap_or o no_place) (top_at v label options c)
+
+  pub keys_line : IsStrict (map key_end (keys_of es))
+  keys_line = keys_strict es strict
+
+  pub keys_short : AllByRecursion (KeyFits v) (keys_of es)
+  keys_short = keys_fit v None es (entries_fit v label options spills es c is fits strict short)
+
+  -- ---- what is told
+
+  regions_here : places_told the_bytes ≡ Ok regions
+  regions_here = regions_read v label options c (let small = body_short v label options spills es c is fits strict short in omega (arith, small)) fits.index fits.filter (meta_block_short v label options spills es c is fits strict short)
+
+  items_here : meta_told the_body regions.metadata ≡ facts_told (the_items v label options c)
   items_here =
       let key = longest_below v in
-      meta_items_read v label options cs (omega (arith, meta_short v label options cs fits))
-      (meta_reads v label options cs (counted v options cs) (omega (arith, first_short v (joined cs) fits.entries, key)) (omega (arith, last_short v (joined cs) fits.entries, key)))
+      let small = meta_short v label options spills es c is fits strict short in
+      let first = first_short v (joined c.blocks) fits.entries in
+      let last = last_short v (joined c.blocks) fits.entries in
+      meta_items_read v label options c (omega (arith, small)) (meta_reads v label options c.blocks (counted_blocks options c) (omega (arith, first, key)) (omega (arith, last, key)))
 
-  facts_here : options.index_block_restart_interval ≡ 1 → meta_told (body_of the_bytes) (the_regions v label options cs).metadata ≡ Ok (written_facts v label cs (counted v options cs))
-  facts_here one = items_here ∙ facts_read v label options cs (counted v options cs) (facts_fit v label options cs data_short fits one)
+  facts_here : options.index_block_restart_interval ≡ 1 → meta_told the_body regions.metadata ≡ Ok (written_facts v label c.blocks (counted_blocks options c))
+  facts_here one = items_here ∙ facts_read v label options c.blocks (counted_blocks options c) (facts_fit v label options spills es c is fits strict short one)
+
+  index_told_here : (pin : Bool) → index_told the_body regions pin ≡ Ok (index_said options.index_kind v (length (data_section v c.blocks)) (handles v c.blocks) c.index pin)
+  index_told_here pin =
+      index_here v (length (data_section v c.blocks)) (handles v c.blocks) c.index (handles_line v label options spills es c is fits strict short) (handles_fit v label options spills es c is fits strict short)
+      (data_section v c.blocks) behind_index the_body refl options.index_kind regions pin is.index fits.index (index_within v label options spills es c is fits strict short) (body_is v label options c) (index_at v label options c) tli_place
+
+  tops_told_here : tops_told the_body regions.filter_tli ≡ Ok (filter_tops_said options.filter_kind filter_start c.keys c.filters)
+  tops_told_here =
+      let room = filter_within v label options spills es c is fits strict short in
+      tops_here v options.bloom_policy es filter_start before_filter behind_filter the_body refl keys_line keys_short options.filter_kind c.keys c.filters regions is.keys is.filters fits.filter (omega (arith, room, filter_from)) filter_lies filter_top_place
+
+  filter_told_here : (pin : Bool) → filter_told the_body (pinned_filter regions pin) ≡ Ok (filter_said options.filter_kind c.filters pin)
+  filter_told_here pin =
+      filter_here v options.bloom_policy es filter_start before_filter behind_filter the_body refl keys_line keys_short options.filter_kind c.keys c.filters regions pin is.keys is.filters fits.filter filter_lies filter_top_place filter_place
+
+  pinned_here : (pin_filter pin_index : Bool) → pinned_told the_body regions pin_filter pin_index ≡ Ok (pinned_said v options c pin_filter pin_index)
+  unfolding pinned_told
+  pinned_here pin_filter pin_index = rw (index_told_here pin_index, tops_told_here, filter_told_here pin_filter) refl
 
   -- the table is recovered where the global number fits
-  pub written_recovers : (g : ℕ) → options.index_block_restart_interval ≡ 1 → recovered_told the_bytes g ≡ cond (ltb (2 ^ 64 - 1) (highest_seqno (joined cs) + g)) (Err GlobalSeqNoTooLarge) (Ok (written_parts v label options cs))
+  pub written_recovers : (g : ℕ) (pin_filter pin_index : Bool) → options.index_block_restart_interval ≡ 1 → recovered_told the_bytes g pin_filter pin_index ≡ cond (ltb (2 ^ 64 - 1) (highest_seqno (joined c.blocks) + g)) (Err GlobalSeqNoTooLarge) (Ok (written_parts v label options c pin_filter pin_index))
   unfolding parts_told
-  written_recovers g one =
-      let fine = finished_fine (w v label options cs) (omega (arith, body_short)) (ascending v label options cs) in
-      elim (cases_Bool (ltb (2 ^ 64 - 1) (highest_seqno (joined cs) + g))) [
+  written_recovers g pin_filter pin_index one =
+      let small = body_short v label options spills es c is fits strict short in
+      let fine = finished_fine (written v label options c) (omega (arith, small)) (ascending v label options c) in
+      elim (cases_Bool (ltb (2 ^ 64 - 1) (highest_seqno (joined c.blocks) + g))) [
         | inl large ↦ rw (fine, regions_here, facts_here one, large) refl
-        | inr small ↦ rw (fine, regions_here, facts_here one, small, index_here) refl
+        | inr below ↦ rw (fine, regions_here, facts_here one, below, pinned_here pin_filter pin_index) refl
       ]
 
-  module _ (g : ℕ) (parts : Parts) (told : recovered_told (finished (w v label options cs)) g ≡ Ok parts) where
-    the_steps : Steps the_bytes g parts
-    the_steps = steps the_bytes g parts told
+  module _ (g : ℕ) (pin_filter pin_index : Bool) (parts : Parts) (told : recovered_told (finished (written v label options c)) g pin_filter pin_index ≡ Ok parts) where
+    the_steps : Steps the_bytes g pin_filter pin_index parts
+    the_steps = steps the_bytes g pin_filter pin_index parts told
 
-    pub regions_are : parts.regions ≡ the_regions v label options cs
-    regions_are = ok_same (places_told the_bytes) parts.regions (the_regions v label options cs) (the_steps.regions) regions_here
+    regions_are : parts.regions ≡ regions
+    regions_are = ok_same (places_told the_bytes) parts.regions regions (the_steps.regions) regions_here
 
-    items_told : meta_told (body_of the_bytes) (the_regions v label options cs).metadata ≡ Ok parts.facts
-    items_told = ap (λ (r : ParsedRegions). meta_told (body_of the_bytes) r.metadata) (sym regions_are) ∙ the_steps.facts
+    items_told : meta_told the_body regions.metadata ≡ Ok parts.facts
+    items_told = ap (λ (r : ParsedRegions). meta_told the_body r.metadata) (sym regions_are) ∙ the_steps.facts
 
     interval_is : options.index_block_restart_interval ≡ 1
-    interval_is = interval_read v label options cs (counted v options cs) parts.facts (sym items_here ∙ items_told)
+    interval_is = interval_read v label options c.blocks (counted_blocks options c) parts.facts (sym items_here ∙ items_told)
 
-    pub facts_are : parts.facts ≡ written_facts v label cs (counted v options cs)
-    facts_are = ok_same (meta_told (body_of the_bytes) (the_regions v label options cs).metadata) parts.facts (written_facts v label cs (counted v options cs)) items_told (facts_here interval_is)
+    pub facts_are : parts.facts ≡ written_facts v label c.blocks (counted_blocks options c)
+    facts_are = ok_same (meta_told the_body regions.metadata) parts.facts (written_facts v label c.blocks (counted_blocks options c)) items_told (facts_here interval_is)
 
-    pub index_is : parts.index ≡ full (handles v cs)
-    index_is =
-        let e = ap (λ (r : ParsedRegions). index_told (body_of the_bytes) r) regions_are in
-        ok_same (index_told (body_of the_bytes) parts.regions) parts.index (full (handles v cs)) (the_steps.index) (e ∙ index_here)
+    pinned_is : parts.pinned ≡ pinned_said v options c pin_filter pin_index
+    pinned_is =
+        let e = ap (λ (r : ParsedRegions). pinned_told the_body r pin_filter pin_index) regions_are in
+        ok_same (pinned_told the_body parts.regions pin_filter pin_index) parts.pinned (pinned_said v options c pin_filter pin_index) (the_steps.pinned) (e ∙ pinned_here pin_filter pin_index)
 
-    pub parts_are : parts ≡ written_parts v label options cs
-    parts_are = parts_eta parts (written_parts v label options cs) facts_are regions_are index_is
-
--- each chunk of a cut list has an entry
-pub some_chunks : (size : ℕ) (spills : List ℕ) (at : ℕ) (cs : List (List Entry)) → AreChunksFrom size spills at cs → AreSome cs
-some_chunks size spills at [] h = tt
-some_chunks size spills at (c ∷ cs) h = ((h.0).some, some_chunks size spills (at + length c) cs h.2)
+    pub parts_are : parts ≡ written_parts v label options c pin_filter pin_index
+    parts_are = parts_eta parts (written_parts v label options c pin_filter pin_index) facts_are regions_are pinned_is
 
 -- ---- a table of a list
 
-abbrev parts_by : TableVersion → Label → Options → Content → List Entry → Parts
-parts_by v label options c es = record { facts = facts_said v label es (length c.blocks) (length c.index) (length (data_section v c.blocks)); regions = regions_said v label options c; index = full (handles v c.blocks) }
+abbrev parts_by : TableVersion → Label → Options → Content → Bool → Bool → List Entry → Parts
+parts_by v label options c pin_filter pin_index es =
+    record { facts = facts_said v label es (length c.blocks) (length c.index) (length (data_section v c.blocks)); regions = regions_said v label options c; pinned = pinned_said v options c pin_filter pin_index }
 
 module _ (stored : List ℕ) (es : List Entry) (t : IsTable stored es) (short : length stored < 2 ^ 63) where
-  abbrev v : TableVersion
-  v = t.version
+  abbrev c : Content
+  c = (t.file).content
 
-  abbrev label : Label
-  label = t.label
+  pub short_file : length (finished (written t.version t.label t.options c)) < 2 ^ 63
+  short_file = subst (λ (b : List ℕ). length b < 2 ^ 63) t.file.are short
 
-  abbrev options : Options
-  options = t.options
+  list_whole : joined c.blocks ≡ es
+  list_whole = whole t.version t.label t.options t.spills es c t.file.is t.fits t.strict short_file
 
-  abbrev cs : List (List Entry)
-  cs = ((t.file).content).blocks
+  by_list : (pin_filter pin_index : Bool) → written_parts t.version t.label t.options c pin_filter pin_index ≡ parts_said t pin_filter pin_index
+  by_list pin_filter pin_index = ap (parts_by t.version t.label t.options c pin_filter pin_index) list_whole
 
-  bytes_are : stored ≡ finished (w v label options cs)
-  bytes_are = plain_file v stored label options t.spills es t.file t.plain ∙ file_is v label options cs t.plain
-
-  short_file : length (finished (w v label options cs)) < 2 ^ 63
-  short_file = subst (λ (b : List ℕ). length b < 2 ^ 63) bytes_are short
-
-  chunks : AreChunks options.data_block_size t.spills es cs
-  chunks = chunks_of v stored label options t.spills es t.file t.plain
-
-  whole : joined cs ≡ es
-  whole = chunks.whole
-
-  line : IsStrict (joined cs)
-  line = subst IsStrict (sym whole) t.strict
-
-  all_some : AreSome cs
-  all_some = some_chunks options.data_block_size t.spills 0 cs chunks.each
-
-  all_fit : PlainFits v label cs
-  all_fit = fits_plain v stored label options t.spills es t.file t.plain t.fits
-
-  content : (t.file).content ≡ plain_content v cs
-  content = content_is v stored label options t.spills es t.file t.plain
-
-  by_list : (xs : List Entry) → xs ≡ es → parts_by v label options (plain_content v cs) xs ≡ parts_said t
-  by_list xs e = ap (parts_by v label options (plain_content v cs)) e ∙ ap (λ (c : Content). parts_by v label options c es) (sym content)
+  pub told_file : (g : ℕ) (pin_filter pin_index : Bool) (parts : Parts) → recovered_told stored g pin_filter pin_index ≡ Ok parts → recovered_told (finished (written t.version t.label t.options c)) g pin_filter pin_index ≡ Ok parts
+  told_file g pin_filter pin_index parts told = subst (λ (b : List ℕ). recovered_told b g pin_filter pin_index ≡ Ok parts) t.file.are told
 
   -- what is recovered is what the list says
-  pub table_parts : (g : ℕ) (parts : Parts) → recovered_told stored g ≡ Ok parts → parts ≡ parts_said t
-  table_parts g parts told =
-      let told_file : recovered_told (finished (w v label options cs)) g ≡ Ok parts = subst (λ (b : List ℕ). recovered_told b g ≡ Ok parts) bytes_are told in
-      parts_are v label options cs short_file all_some line all_fit g parts told_file ∙ by_list (joined cs) whole
+  pub table_parts : (g : ℕ) (pin_filter pin_index : Bool) (parts : Parts) → recovered_told stored g pin_filter pin_index ≡ Ok parts → parts ≡ parts_said t pin_filter pin_index
+  table_parts g pin_filter pin_index parts told =
+      parts_are t.version t.label t.options t.spills es c t.file.is t.fits t.strict short_file g pin_filter pin_index parts (told_file g pin_filter pin_index parts told) ∙ by_list pin_filter pin_index
 
   -- what opening it tells
-  pub table_told : (g : ℕ) → options.index_block_restart_interval ≡ 1 → recovered_told stored g ≡ list_told t g
-  table_told g one =
-      ap (λ (b : List ℕ). recovered_told b g) bytes_are
-      ∙ written_recovers v label options cs short_file all_some line all_fit g one
-      ∙ ap (λ (xs : List Entry). cond (ltb (2 ^ 64 - 1) (highest_seqno xs + g)) (Err GlobalSeqNoTooLarge) (Ok (parts_by v label options (plain_content v cs) xs))) whole
-      ∙ ap (λ (p : Parts). cond (ltb (2 ^ 64 - 1) (highest_seqno es + g)) (Err GlobalSeqNoTooLarge) (Ok p)) (by_list es refl)
+  pub table_told : (g : ℕ) (pin_filter pin_index : Bool) → t.options.index_block_restart_interval ≡ 1 → recovered_told stored g pin_filter pin_index ≡ list_told t g pin_filter pin_index
+  table_told g pin_filter pin_index one =
+      ap (λ (b : List ℕ). recovered_told b g pin_filter pin_index) t.file.are
+      ∙ written_recovers t.version t.label t.options t.spills es c t.file.is t.fits t.strict short_file g pin_filter pin_index one
+      ∙ ap (λ (xs : List Entry). cond (ltb (2 ^ 64 - 1) (highest_seqno xs + g)) (Err GlobalSeqNoTooLarge) (Ok (parts_by t.version t.label t.options c pin_filter pin_index xs))) list_whole

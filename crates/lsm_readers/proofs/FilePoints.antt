@@ -1,40 +1,50 @@
 -- A point read of a written table is the first match in the list.
 use Rattle.std.proofs.Common.{◌≡◌, ℕ, ◌+◌, ◌-◌, ◌^◌, ◌<◌, ◌≤◌, Bool, true, false, cond, ltb, List, [], ◌∷◌, ◌++◌, length, refl, sym, ap, subst, ◌∙◌, append_assoc, arith, inl, inr}
-use Rattle.std.specs.Prelude.{Option, Some, None, Ok, find, is_some, ◌&&◌}
+use Rattle.std.specs.Prelude.{Option, Some, None, Result, Ok, find, is_some, ◌&&◌}
 use Rattle.std.specs.List.{AllByRecursion}
 use Rattle.std.specs.Option.{option_map}
 use Rattle.std.proofs.lemmas.Bool.{cases_lt, lt-ltb, le-ltb, ltb-false}
+use Rattle.std.proofs.lemmas.List.Concat.{flat_map-append}
 use Rattle.sst_sections.specs.declared.version.TableVersion.{TableVersion}
+use Rattle.sst_sections.specs.Fnv.{fnv1a}
+use Rattle.sst_sections.specs.Sections.{body_of, finished}
+use Rattle.sst_entries.specs.declared.error.Error.{Error}
+use Rattle.sst_entries.specs.Entry.{Entry}
+use Rattle.sst_entries.specs.Key.{same_key}
+use Rattle.sst_entries.specs.Point.{is_hit, point}
+use Rattle.sst_entries.specs.Strict.{IsStrict, IsStrictAfter, last_of}
+use Rattle.sst_entries.proofs.Lists.{all_behind, all_front}
 use Rattle.sst_blocks.specs.declared.block_type.BlockType.TheVariants.{Data}
 use Rattle.sst_blocks.specs.Block.{load_told}
-use Rattle.sst_entries.specs.Entry.{Entry}
 use Rattle.sst_blocks.specs.Handle.{Handle}
 use Rattle.sst_blocks.specs.Handles.{reaches}
-use Rattle.sst_entries.specs.Key.{same_key}
 use Rattle.sst_blocks.specs.Payload.{payload}
-use Rattle.sst_entries.specs.Point.{is_hit, point}
+use Rattle.sst_blocks.specs.Place.{Place, place_of}
 use Rattle.sst_blocks.specs.Reading.{entries_in}
-use Rattle.sst_sections.specs.Sections.{finished, body_of}
-use Rattle.sst_entries.specs.Strict.{IsStrict, IsStrictAfter, last_of}
 use Rattle.sst_blocks.proofs.BlockLaws.{written_loads}
 use Rattle.lsm_files.specs.Chunks.{joined}
+use Rattle.lsm_files.specs.Content.{Content}
 use Rattle.lsm_files.specs.Facts.{lowest_seqno}
-use Rattle.lsm_files.specs.Index.{handles, data_block, data_section}
-use Rattle.lsm_files.specs.declared.options.Options.{Options}
-use Rattle.lsm_files.specs.declared.label.Label.{Label}
-use Rattle.lsm_readers.specs.Answer.{lifted, lift, match_in, handle_for, answer}
-use Rattle.lsm_readers.specs.Read.{◌>>=◌}
-use Rattle.lsm_files.specs.Fits.{EntryFits, BlockFits}
-use Rattle.lsm_readers.specs.Parts.{Parts, full, recovered_told}
-use Rattle.lsm_readers.proofs.ChunkReads.{AreSome, ReadsChunk, ReadsBy, chunk_read, strict_front, strict_after}
-use Rattle.lsm_readers.proofs.FileLengths.{chunk_reads}
-use Rattle.sst_entries.proofs.Lists.{all_front, all_behind}
-use Rattle.std.proofs.lemmas.List.Concat.{flat_map-append}
-use Rattle.lsm_readers.proofs.Plains.{counted, PlainFits, plain_file, chunks_of, fits_plain}
-use Rattle.lsm_readers.proofs.FileReads.{the_index, the_meta, the_version, file_is, is_body, w}
-use Rattle.lsm_readers.proofs.FileParts.{some_chunks, facts_are, index_is}
+use Rattle.lsm_files.specs.File.{IsContent}
+use Rattle.lsm_files.specs.Filters.{keys_of}
+use Rattle.lsm_files.specs.Fits.{BlockFits, EntryFits, Fits}
+use Rattle.lsm_files.specs.Index.{data_block, data_section, handles}
+use Rattle.lsm_files.specs.Layout.{bytes_in}
 use Rattle.lsm_files.specs.Table.{IsTable}
-use Rattle.lsm_readers.proofs.MetaReads.{written_facts}
+use Rattle.lsm_files.specs.declared.label.Label.{Label}
+use Rattle.lsm_files.specs.declared.options.Options.{Options}
+use Rattle.lsm_readers.specs.Answer.{answer, filter_admits, handle_for, lift, lifted, match_at, match_in, place_in}
+use Rattle.lsm_readers.specs.OfList.{pinned_said, regions_said}
+use Rattle.lsm_readers.specs.Parts.{Parts, recovered_told}
+use Rattle.lsm_readers.specs.Read.{◌>>=◌, known, read_then}
+use Rattle.lsm_readers.proofs.ChunkReads.{ReadsBy, ReadsChunk, chunk_read, strict_after, strict_front}
+use Rattle.lsm_readers.proofs.FileContent.{all_some, handles_fit, handles_line, line, whole}
+use Rattle.lsm_readers.proofs.FileFilters.{Asked}
+use Rattle.lsm_readers.proofs.FileLengths.{chunk_reads}
+use Rattle.lsm_readers.proofs.FileParts.{before_filter, behind_filter, behind_index, filter_lies, filter_place, filter_start, keys_line, keys_short, parts_are, short_file, the_body, tli_place, told_file, written_parts}
+use Rattle.lsm_readers.proofs.FilePinned.{filter_answers, index_finds}
+use Rattle.lsm_readers.proofs.FileSections.{body_is, the_index, written}
+use Rattle.lsm_readers.proofs.FilterReads.{no_entry}
 
 -- ---- numbers with the global number added
 
@@ -78,85 +88,110 @@ unfolding IsStrictAfter
 any_front last [] h = tt
 any_front last (x ∷ xs) h = (refl, h.1)
 
-module _ (v : TableVersion) (label : Label) (options : Options) (cs : List (List Entry)) (g : ℕ) (parts : Parts)
-    (short : length (finished (w v label options cs)) < 2 ^ 63) (some : AreSome cs) (strict : IsStrict (joined cs)) (fits : PlainFits v label cs) (told : recovered_told (finished (w v label options cs)) g ≡ Ok parts) where
-  abbrev the_bytes : List ℕ
-  the_bytes = finished (w v label options cs)
+-- ---- a read that asks the filter, then the index, then a data block
 
-  facts_here : parts.facts ≡ written_facts v label cs (counted v options cs)
-  facts_here = facts_are v label options cs short some strict fits g parts told
+module _ (v : TableVersion) (label : Label) (options : Options) (spills : List ℕ) (es : List Entry) (c : Content) (is : IsContent v options spills es c) (fits : Fits v label options c) (strict : IsStrict es)
+    (short : length (finished (written v label options c)) < 2 ^ 63) where
+  abbrev cs : List (List Entry)
+  cs = c.blocks
 
-  index_here : parts.index ≡ full (handles v cs)
-  index_here = index_is v label options cs short some strict fits g parts told
+  abbrev body : List ℕ
+  body = the_body v label options spills es c is fits strict short
+
+  cs_line : IsStrict (joined cs)
+  cs_line = line v label options spills es c is fits strict short
 
   -- the block of a chunk is loaded by its handle
-  chunk_at : (before behind : List (List Entry)) (c : List Entry) → cs ≡ before ++ c ∷ behind → length (payload v c) < 2 ^ 32 → entries_in v (payload v c) ≡ Some c → load_told (body_of the_bytes) (length (data_section v before)) (24 + length (payload v c)) Data ≡ Ok (record { version = v; kind = Data; payload = payload v c })
-  chunk_at before behind c parts_are small reads =
-      let others = the_index v label options cs ++ (the_version v label options cs ++ the_meta v label options cs) in
-      let cut : data_section v cs ≡ data_section v before ++ (data_block v c ++ data_section v behind) = ap (data_section v) parts_are ∙ flat_map-append (data_block v) before (c ∷ behind) in
-      let whole : body_of the_bytes ≡ data_section v before ++ data_block v c ++ (data_section v behind ++ others) = is_body v label options cs ∙ ap (λ (xs : List ℕ). xs ++ others) cut ∙ simp append_assoc in
-      written_loads v Data (data_section v before) (payload v c) (data_section v behind ++ others) (body_of the_bytes) (length (data_section v before)) small (ap is_some reads) refl whole
+  chunk_at : (before behind : List (List Entry)) (d : List Entry) → cs ≡ before ++ d ∷ behind → length (payload v d) < 2 ^ 32 → entries_in v (payload v d) ≡ Some d → load_told body (length (data_section v before)) (24 + length (payload v d)) Data ≡ Ok (record { version = v; kind = Data; payload = payload v d })
+  chunk_at before behind d parts_are small reads =
+      let others = bytes_in (the_index v label options c) ++ behind_index v label options spills es c is fits strict short in
+      let cut : data_section v cs ≡ data_section v before ++ (data_block v d ++ data_section v behind) = ap (data_section v) parts_are ∙ flat_map-append (data_block v) before (d ∷ behind) in
+      let all : body ≡ data_section v before ++ data_block v d ++ (data_section v behind ++ others) = body_is v label options c ∙ ap (λ (xs : List ℕ). xs ++ others) cut ∙ simp append_assoc in
+      written_loads v Data (data_section v before) (payload v d) (data_section v behind ++ others) body (length (data_section v before)) small (ap is_some reads) refl all
 
   -- a chunk of a strict list is strict
-  chunk_strict : (last : Option Entry) (before behind : List (List Entry)) (c : List Entry) → IsStrictAfter last (joined (before ++ c ∷ behind)) → IsStrict c
-  chunk_strict last [] behind c h = any_front last c (strict_front last c (joined behind) h)
-  chunk_strict last (b ∷ before) behind c h = chunk_strict (last_of last b) before behind c (strict_after last b (joined (before ++ c ∷ behind)) h)
+  chunk_strict : (last : Option Entry) (before behind : List (List Entry)) (d : List Entry) → IsStrictAfter last (joined (before ++ d ∷ behind)) → IsStrict d
+  chunk_strict last [] behind d h = any_front last d (strict_front last d (joined behind) h)
+  chunk_strict last (b ∷ before) behind d h = chunk_strict (last_of last b) before behind d (strict_after last b (joined (before ++ d ∷ behind)) h)
 
-  chunk_fits : (before behind : List (List Entry)) (c : List Entry) → AllByRecursion (EntryFits v) (joined (before ++ c ∷ behind)) → AllByRecursion (EntryFits v) c
-  chunk_fits [] behind c h = all_front (EntryFits v) c (joined behind) h
-  chunk_fits (b ∷ before) behind c h = chunk_fits before behind c (all_behind (EntryFits v) b (joined (before ++ c ∷ behind)) h)
+  chunk_fits : (before behind : List (List Entry)) (d : List Entry) → AllByRecursion (EntryFits v) (joined (before ++ d ∷ behind)) → AllByRecursion (EntryFits v) d
+  chunk_fits [] behind d h = all_front (EntryFits v) d (joined behind) h
+  chunk_fits (b ∷ before) behind d h = chunk_fits before behind d (all_behind (EntryFits v) b (joined (before ++ d ∷ behind)) h)
 
-  block_fits : (before behind : List (List Entry)) (c : List Entry) → AllByRecursion (BlockFits v) (before ++ c ∷ behind) → BlockFits v c
-  block_fits [] behind c h = h.0
-  block_fits (b ∷ before) behind c h = block_fits before behind c h.1
+  block_fits : (before behind : List (List Entry)) (d : List Entry) → AllByRecursion (BlockFits v) (before ++ d ∷ behind) → BlockFits v d
+  block_fits [] behind d h = h.0
+  block_fits (b ∷ before) behind d h = block_fits before behind d h.1
 
-  -- the read of a chunk by its handle
-  chunk_told : (key : List ℕ) (bound : ℕ) (h : Handle) → ReadsChunk v 0 cs key (bound - g) h → (match_in (body_of the_bytes) g key (bound - g) (Some h)).told ≡ Ok (option_map (lifted g) (find (is_hit key (bound - g)) (joined cs)))
+  module _ (g : ℕ) (key : List ℕ) (low : ℕ) where
+    abbrev found : Result (Option Entry) Error
+    found = Ok (option_map (lifted g) (find (is_hit key low) (joined cs)))
+
+    -- the read of a chunk by its handle
+    chunk_told : (h : Handle) → ReadsChunk v 0 cs key low h → (match_at body g key low (place_of h)).told ≡ found
+    unfolding point
+    chunk_told h r =
+        let d = r.chunk in
+        let fit = chunk_fits r.before r.behind d (subst (λ (x : List (List Entry)). AllByRecursion (EntryFits v) (joined x)) r.parts fits.entries) in
+        let block = block_fits r.before r.behind d (subst (λ (x : List (List Entry)). AllByRecursion (BlockFits v) x) r.parts fits.blocks) in
+        let one = chunk_strict None r.before r.behind d (subst (λ (x : List (List Entry)). IsStrict (joined x)) r.parts cs_line) in
+        let reads = chunk_reads v d fit one block in
+        let loaded = chunk_at r.before r.behind d r.parts (omega (arith, block.short)) reads in
+        let from : 0 + length (data_section v r.before) ≡ length (data_section v r.before) = omega arith in
+        rw (r.handle, from, loaded, reads, r.answer) refl
+
+    by_chunks : (o : Option Handle) → ReadsBy v 0 cs key low o → (match_in body g key low (option_map place_of o)).told ≡ found
+    by_chunks None none = rw none refl
+    by_chunks (Some h) r = chunk_told h r
+
+    -- no entry of the list has the key
+    none_found : find (is_hit key low) (joined cs) ≡ None → (match_in body g key low None).told ≡ found
+    none_found none = rw none refl
+
+    module _ (pin_filter pin_index : Bool) where
+      abbrev parts : Parts
+      parts = written_parts v label options c pin_filter pin_index
+
+      abbrev rest : Result (Option Place) Error → Result (Option Entry) Error
+      rest told = told >>= λ place. (match_in body g key low place).told
+
+      found_here : (handle_for body parts key low true).told ≡ Ok (place_in (handles v cs) key low)
+      found_here =
+          index_finds v (length (data_section v cs)) (handles v cs) c.index (handles_line v label options spills es c is fits strict short) (handles_fit v label options spills es c is fits strict short)
+          (data_section v cs) (behind_index v label options spills es c is fits strict short) body refl options.index_kind (regions_said v label options c).tli pin_index is.index fits.index (body_is v label options c)
+          (tli_place v label options spills es c is fits strict short) key low
+
+      asked : Asked (filter_admits body (pinned_said v options c pin_filter pin_index).filter_tops (pinned_said v options c pin_filter pin_index).filter (regions_said v label options c).filter key (fnv1a key)).told (keys_of es) key
+      asked =
+          filter_answers v options.bloom_policy es (filter_start v label options spills es c is fits strict short) (before_filter v label options spills es c is fits strict short) (behind_filter v label options spills es c is fits strict short) body refl
+          (keys_line v label options spills es c is fits strict short) (keys_short v label options spills es c is fits strict short) options.filter_kind c.keys c.filters (regions_said v label options c).filter pin_filter is.keys is.filters fits.filter
+          (filter_lies v label options spills es c is fits strict short) (filter_place v label options spills es c is fits strict short) key
+
+      -- behind a yes the index is asked, and behind a no there is nothing
+      behind_answer : (answer : Bool) → asked.answer ≡ answer → rest (handle_for body parts key low answer).told ≡ found
+      behind_answer true admitted = ap rest found_here ∙ by_chunks (find (reaches key low) (handles v cs)) (chunk_read v 0 None cs key low (all_some v label options spills es c is fits strict short) cs_line)
+      behind_answer false denied = none_found (ap (λ (xs : List Entry). find (is_hit key low) xs) (whole v label options spills es c is fits strict short) ∙ no_entry es key low (asked.no denied))
+
+      low_or_read : (high : Bool) → ltb (lowest_seqno (joined cs)) low ≡ high
+          → (read_then (read_then (cond high (filter_admits body parts.pinned.filter_tops parts.pinned.filter parts.regions.filter key (fnv1a key)) (known false)) (handle_for body parts key low)) (match_in body g key low)).told ≡ found
+      low_or_read false e = none_found (none_low (joined cs) key low (ltb-false _ _ e))
+      low_or_read true e =
+          ap (λ (r : Result Bool Error). rest (r >>= λ b. (handle_for body parts key low b).told)) asked.told_is ∙ behind_answer asked.answer refl
+
+  lifted_point : (g : ℕ) (key : List ℕ) (bound : ℕ) → point (lift (joined cs) g) key bound ≡ option_map (lifted g) (find (is_hit key (bound - g)) (joined cs))
   unfolding point
-  chunk_told key bound h r =
-      let c = r.chunk in
-      let fit = chunk_fits r.before r.behind c (subst (λ (x : List (List Entry)). AllByRecursion (EntryFits v) (joined x)) r.parts fits.entries) in
-      let block = block_fits r.before r.behind c (subst (λ (x : List (List Entry)). AllByRecursion (BlockFits v) x) r.parts fits.blocks) in
-      let line = chunk_strict None r.before r.behind c (subst (λ (x : List (List Entry)). IsStrict (joined x)) r.parts strict) in
-      let reads = chunk_reads v c fit line block in
-      let loaded = chunk_at r.before r.behind c r.parts (omega (arith, block.short)) reads in
-      let from : 0 + length (data_section v r.before) ≡ length (data_section v r.before) = omega arith in
-      rw (r.handle, from, loaded, reads, r.answer) refl
-
-  by_chunks : (key : List ℕ) (bound : ℕ) (o : Option Handle) → ReadsBy v 0 cs key (bound - g) o → (match_in (body_of the_bytes) g key (bound - g) o).told ≡ Ok (option_map (lifted g) (find (is_hit key (bound - g)) (joined cs)))
-  by_chunks key bound None none = rw none refl
-  by_chunks key bound (Some h) r = chunk_told key bound h r
-
-  low_or_read : (key : List ℕ) (bound : ℕ) (high : Bool) → ltb (lowest_seqno (joined cs)) (bound - g) ≡ high
-      → ((handle_for (body_of the_bytes) (full (handles v cs)) key (bound - g) high).told >>= λ o. (match_in (body_of the_bytes) g key (bound - g) o).told)
-      ≡ Ok (option_map (lifted g) (find (is_hit key (bound - g)) (joined cs)))
-  low_or_read key bound false e = rw (none_low (joined cs) key (bound - g) (ltb-false _ _ e)) refl
-  low_or_read key bound true e = by_chunks key bound (find (reaches key (bound - g)) (handles v cs)) (chunk_read v 0 None cs key (bound - g) some strict)
-
-  lifted_point : (key : List ℕ) (bound : ℕ) → point (lift (joined cs) g) key bound ≡ option_map (lifted g) (find (is_hit key (bound - g)) (joined cs))
-  unfolding point
-  lifted_point key bound = point_lifted (joined cs) g key bound
+  lifted_point g key bound = point_lifted (joined cs) g key bound
 
   -- a point read answers the first match, its number with the global number added
-  pub answers : (key : List ℕ) (bound : ℕ) → (answer (body_of the_bytes) g parts key bound).told ≡ Ok (point (lift (joined cs) g) key bound)
+  pub answers : (g : ℕ) (pin_filter pin_index : Bool) (parts : Parts) → recovered_told (finished (written v label options c)) g pin_filter pin_index ≡ Ok parts → (key : List ℕ) (bound : ℕ) → (answer body g parts key bound).told ≡ Ok (point (lift es g) key bound)
   unfolding answer
-  answers key bound =
-      let seen : option_map (lifted g) (find (is_hit key (bound - g)) (joined cs)) ≡ point (lift (joined cs) g) key bound = sym (lifted_point key bound) in
-      rw (facts_here, index_here) (low_or_read key bound (ltb (lowest_seqno (joined cs)) (bound - g)) refl ∙ ap (λ (o : Option Entry). Ok o) seen)
+  answers g pin_filter pin_index parts told key bound =
+      let seen : option_map (lifted g) (find (is_hit key (bound - g)) (joined cs)) ≡ point (lift (joined cs) g) key bound = sym (lifted_point g key bound) in
+      ap (λ (p : Parts). (answer body g p key bound).told) (parts_are v label options spills es c is fits strict short g pin_filter pin_index parts told)
+      ∙ low_or_read g key (bound - g) pin_filter pin_index (ltb (lowest_seqno (joined cs)) (bound - g)) refl
+      ∙ ap (λ (o : Option Entry). Ok o) seen
+      ∙ ap (λ (xs : List Entry). Ok (point (lift xs g) key bound)) (whole v label options spills es c is fits strict short)
 
-pub file_answers : (stored : List ℕ) (es : List Entry) (t : IsTable stored es) (g : ℕ) (parts : Parts) → length stored < 2 ^ 63 → recovered_told stored g ≡ Ok parts → (key : List ℕ) (bound : ℕ) → (answer (body_of stored) g parts key bound).told ≡ Ok (point (lift es g) key bound)
-file_answers stored es t g parts short told key bound =
-    let v = t.version in
-    let label = t.label in
-    let options = t.options in
-    let f = t.file in
-    let cs = (f.content).blocks in
-    let chunks = chunks_of v stored label options t.spills es f t.plain in
-    let bytes_are : stored ≡ finished (w v label options cs) = plain_file v stored label options t.spills es f t.plain ∙ file_is v label options cs t.plain in
-    let short_file : length (finished (w v label options cs)) < 2 ^ 63 = subst (λ (b : List ℕ). length b < 2 ^ 63) bytes_are short in
-    let told_file : recovered_told (finished (w v label options cs)) g ≡ Ok parts = subst (λ (b : List ℕ). recovered_told b g ≡ Ok parts) bytes_are told in
-    let line : IsStrict (joined cs) = subst IsStrict (sym chunks.whole) t.strict in
-    let some = some_chunks options.data_block_size t.spills 0 cs chunks.each in
-    ap (λ (b : List ℕ). (answer (body_of b) g parts key bound).told) bytes_are
-    ∙ answers v label options cs g parts short_file some line (fits_plain v stored label options t.spills es f t.plain t.fits) told_file key bound
-    ∙ ap (λ (xs : List Entry). Ok (point (lift xs g) key bound)) chunks.whole
+pub file_answers : (stored : List ℕ) (es : List Entry) (t : IsTable stored es) (g : ℕ) (pin_filter pin_index : Bool) (parts : Parts) → length stored < 2 ^ 63 → recovered_told stored g pin_filter pin_index ≡ Ok parts → (key : List ℕ) (bound : ℕ) → (answer (body_of stored) g parts key bound).told ≡ Ok (point (lift es g) key bound)
+file_answers stored es t g pin_filter pin_index parts short told key bound =
+    ap (λ (b : List ℕ). (answer (body_of b) g parts key bound).told) t.file.are
+    ∙ answers t.version t.label t.options t.spills es (t.file).content t.file.is t.fits t.strict (short_file stored es t short) g pin_filter pin_index parts (told_file stored es t short g pin_filter pin_index parts told) key bound

@@ -22,24 +22,32 @@ use Rattle.sst_blocks.proofs.BlockLaws.{written_loads_at}
 use Rattle.sst_blocks.proofs.LoadLemmas.{load_at_fault}
 use Rattle.lsm_files.specs.Chunks.{joined}
 use Rattle.lsm_files.specs.Facts.{highest_seqno}
-use Rattle.lsm_files.specs.File.{IsFile}
+use Rattle.lsm_files.specs.File.{IsContent}
 use Rattle.lsm_files.specs.Index.{handles, data_block, data_section}
+use Rattle.lsm_files.specs.Content.{Content}
+use Rattle.lsm_files.specs.Kinds.{AreIndexParts, index_sections}
+use Rattle.lsm_files.specs.Layout.{bytes_in}
+use Rattle.lsm_files.specs.Partitions.{handles_block, is_full_index}
+use Rattle.lsm_files.specs.declared.options.IndexKind.{IndexKind}
+use Rattle.lsm_files.specs.declared.options.IndexKind.TheVariants.{Full as FullIndex, Partitioned as PartitionedIndex}
+use Rattle.sst_blocks.specs.Handle.{Handle}
 use Rattle.lsm_files.specs.declared.options.Options.{Options}
 use Rattle.lsm_files.specs.declared.label.Label.{Label}
-use Rattle.lsm_files.specs.Plain.{IsPlain}
 use Rattle.lsm_files.specs.Table.{IsTable}
 use Rattle.lsm_readers.specs.Answer.{lifted, lift}
-use Rattle.lsm_files.specs.Fits.{EntryFits, BlockFits}
+use Rattle.lsm_files.specs.Fits.{EntryFits, BlockFits, Fits}
 use Rattle.lsm_readers.specs.Meta.{Facts}
 use Rattle.lsm_readers.specs.Parts.{Parts, recovered_told}
 use Rattle.lsm_readers.specs.Scan.{lifted_told, behind, blocks_told, then_blocks, entries_told, up_to_error, entries_from, scan_told, fault_of, Scan, ScansList, ScansNext}
-use Rattle.lsm_readers.proofs.ChunkReads.{AreSome, length-block, strict_front, strict_after}
+use Rattle.lsm_readers.proofs.ChunkReads.{AreSome, strict_front, strict_after}
+use Rattle.lsm_files.proofs.BlockLengths.{length-block}
 use Rattle.lsm_readers.proofs.FileLengths.{chunk_reads}
 use Rattle.sst_entries.proofs.Lists.{all_front, all_behind}
-use Rattle.lsm_readers.proofs.FileParts.{some_chunks, facts_are}
+use Rattle.lsm_readers.proofs.FileContent.{line, some_chunks, whole}
+use Rattle.lsm_readers.proofs.FileParts.{behind_index, facts_are, short_file, told_file}
 use Rattle.lsm_readers.proofs.FilePoints.{any_front}
-use Rattle.lsm_readers.proofs.Plains.{PlainFits, plain_file, chunks_of, fits_plain}
-use Rattle.lsm_readers.proofs.FileReads.{the_index, the_meta, the_version, file_is, is_body, w}
+use Rattle.lsm_readers.proofs.FileSections.{body_is, the_end, the_filter, the_index, written}
+use Rattle.lsm_readers.proofs.PartEnds.{no_parts, some_parts}
 use Rattle.lsm_readers.proofs.Recovered.{steps}
 use Rattle.lsm_readers.proofs.Scans.{lifted_ok, memory_is}
 
@@ -132,36 +140,28 @@ some_scan : (v : TableVersion) (cs : List (List Entry)) (post body : List ℕ) (
 some_scan v [] post body g some reads fits e = absurd (omega (arith, some))
 some_scan v (c ∷ cs) post body g some reads fits e = chunks_scan v c cs post body g reads fits e
 
-module _ (v : TableVersion) (label : Label) (options : Options) (cs : List (List Entry)) (g : ℕ) (parts : Parts)
-    (short : length (finished (w v label options cs)) < 2 ^ 63) (some : AreSome cs) (strict : IsStrict (joined cs)) (fits : PlainFits v label cs) (told : recovered_told (finished (w v label options cs)) g ≡ Ok parts) where
-  written_scan : 0 < length (joined cs) → Scans (body_of (finished (w v label options cs))) parts.facts.data_block_count g (ok_results (lift (joined cs) g))
-  written_scan any =
-      let are = facts_are v label options cs short some strict fits g parts told in
+module _ (v : TableVersion) (label : Label) (options : Options) (spills : List ℕ) (es : List Entry) (c : Content) (is : IsContent v options spills es c) (fits : Fits v label options c) (strict : IsStrict es)
+    (short : length (finished (written v label options c)) < 2 ^ 63) where
+  written_scan : (g : ℕ) (pin_filter pin_index : Bool) (parts : Parts) → recovered_told (finished (written v label options c)) g pin_filter pin_index ≡ Ok parts → 0 < length es → Scans (body_of (finished (written v label options c))) parts.facts.data_block_count g (ok_results (lift es g))
+  written_scan g pin_filter pin_index parts told any =
+      let cs = c.blocks in
+      let bytes = finished (written v label options c) in
+      let are = facts_are v label options spills es c is fits strict short g pin_filter pin_index parts told in
       let count : parts.facts.data_block_count ≡ length cs = ap (λ (f : Facts). f.data_block_count) are in
       let high : parts.facts.seqno_max ≡ highest_seqno (joined cs) = ap (λ (f : Facts). f.seqno_max) are in
-      let fit : highest_seqno (joined cs) + g < 2 ^ 64 = subst (λ (n : ℕ). n + g < 2 ^ 64) high (steps (finished (w v label options cs)) g parts told).fits in
-      let others = the_index v label options cs ++ (the_version v label options cs ++ the_meta v label options cs) in
-      subst (λ (n : ℕ). Scans (body_of (finished (w v label options cs))) n g (ok_results (lift (joined cs) g))) (sym count)
-      (some_scan v cs others (body_of (finished (w v label options cs))) g any (all_read v None cs strict fits.entries fits.blocks) fit (is_body v label options cs))
+      let fit : highest_seqno (joined cs) + g < 2 ^ 64 = subst (λ (n : ℕ). n + g < 2 ^ 64) high (steps bytes g pin_filter pin_index parts told).fits in
+      let others = bytes_in (the_index v label options c) ++ behind_index v label options spills es c is fits strict short in
+      let all = whole v label options spills es c is fits strict short in
+      let some : 0 < length (joined cs) = subst (λ (xs : List Entry). 0 < length xs) (sym all) any in
+      let reads = all_read v None cs (line v label options spills es c is fits strict short) fits.entries fits.blocks in
+      subst (λ (n : ℕ). Scans (body_of bytes) n g (ok_results (lift es g))) (sym count)
+      (subst (λ (xs : List Entry). Scans (body_of bytes) (length cs) g (ok_results (lift xs g))) all (some_scan v cs others (body_of bytes) g some reads fit (body_is v label options c)))
 
-file_scans : (stored : List ℕ) (es : List Entry) (t : IsTable stored es) (g : ℕ) (parts : Parts) → length stored < 2 ^ 63 → recovered_told stored g ≡ Ok parts → 0 < length es → Scans (body_of stored) parts.facts.data_block_count g (ok_results (lift es g))
-file_scans stored es t g parts short told any =
-    let v = t.version in
-    let label = t.label in
-    let options = t.options in
-    let f = t.file in
-    let cs = (f.content).blocks in
-    let chunks = chunks_of v stored label options t.spills es f t.plain in
-    let bytes_are : stored ≡ finished (w v label options cs) = plain_file v stored label options t.spills es f t.plain ∙ file_is v label options cs t.plain in
-    let short_file : length (finished (w v label options cs)) < 2 ^ 63 = subst (λ (b : List ℕ). length b < 2 ^ 63) bytes_are short in
-    let told_file : recovered_told (finished (w v label options cs)) g ≡ Ok parts = subst (λ (b : List ℕ). recovered_told b g ≡ Ok parts) bytes_are told in
-    let whole = chunks.whole in
-    let line : IsStrict (joined cs) = subst IsStrict (sym whole) t.strict in
-    let entries : 0 < length (joined cs) = subst (λ (xs : List Entry). 0 < length xs) (sym whole) any in
-    let some = some_chunks options.data_block_size t.spills 0 cs chunks.each in
-    let written = written_scan v label options cs g parts short_file some line (fits_plain v stored label options t.spills es f t.plain t.fits) told_file entries in
-    let by_list = subst (λ (xs : List Entry). Scans (body_of (finished (w v label options cs))) parts.facts.data_block_count g (ok_results (lift xs g))) whole written in
-    subst (λ (b : List ℕ). Scans (body_of b) parts.facts.data_block_count g (ok_results (lift es g))) (sym bytes_are) by_list
+file_scans : (stored : List ℕ) (es : List Entry) (t : IsTable stored es) (g : ℕ) (pin_filter pin_index : Bool) (parts : Parts) → length stored < 2 ^ 63 → recovered_told stored g pin_filter pin_index ≡ Ok parts → 0 < length es → Scans (body_of stored) parts.facts.data_block_count g (ok_results (lift es g))
+file_scans stored es t g pin_filter pin_index parts short told any =
+    let c = (t.file).content in
+    subst (λ (b : List ℕ). Scans (body_of b) parts.facts.data_block_count g (ok_results (lift es g))) (sym t.file.are)
+    (written_scan t.version t.label t.options t.spills es c t.file.is t.fits t.strict (short_file stored es t short) g pin_filter pin_index parts (told_file stored es t short g pin_filter pin_index parts told) any)
 
 -- ---- a scan that has a first block is refused for want of memory alone
 
@@ -194,15 +194,24 @@ no_chunks : (cs : List (List Entry)) → AreSome cs → length (joined cs) ≡ 0
 no_chunks [] some none = refl
 no_chunks (c ∷ cs) some none = absurd (omega (arith, some.0, none, length-append c (joined cs)))
 
--- its first block is the index
-empty_refused : (v : TableVersion) (stored : List ℕ) (label : Label) (options : Options) (spills : List ℕ) (es : List Entry) (f : IsFile v stored label options spills es) → IsPlain options → length es ≡ 0 → load_at_told (body_of stored) 0 Data ≡ Err (InvalidTag BlockTypeTag 1)
-empty_refused v stored label options spills es f plain none =
-    let cs = (f.content).blocks in
-    let chunks = chunks_of v stored label options spills es f plain in
-    let empty = no_chunks cs (some_chunks options.data_block_size spills 0 cs chunks.each) (ap length chunks.whole ∙ none) in
-    let rest = the_version v label options cs ++ the_meta v label options cs in
-    let whole = ap body_of (plain_file v stored label options spills es f plain ∙ file_is v label options cs plain) ∙ is_body v label options cs ∙ ap (λ (ds : List (List Entry)). data_section v ds ++ (the_index v label options cs ++ rest)) empty in
-    index_refused v (handles_payload v (handles v cs)) rest (body_of stored) whole
+-- an index of no handles is one block
+index_alone : (k : IndexKind) (v : TableVersion) (at : ℕ) (parts : List (List Handle)) → AreIndexParts k [] parts → bytes_in (index_sections k v at [] parts) ≡ handles_block v [] ++ []
+index_alone FullIndex v at parts are = refl
+index_alone (PartitionedIndex size) v at parts are = ap (λ (ps : List (List Handle)). bytes_in (index_sections (PartitionedIndex size) v at [] ps)) (no_parts parts (some_parts (is_full_index size) parts are.each) are.whole)
+
+-- so the first block of a table without entries is the index
+empty_refused : (v : TableVersion) (label : Label) (options : Options) (spills : List ℕ) (es : List Entry) (c : Content) → IsContent v options spills es c → length es ≡ 0 → load_at_told (body_of (finished (written v label options c))) 0 Data ≡ Err (InvalidTag BlockTypeTag 1)
+empty_refused v label options spills es c is none =
+    let body = body_of (finished (written v label options c)) in
+    let empty : c.blocks ≡ [] = no_chunks c.blocks (some_chunks options.data_block_size spills 0 c.blocks (is.chunks).each) (ap length (is.chunks).whole ∙ none) in
+    let parts : AreIndexParts options.index_kind [] c.index = subst (λ (cs : List (List Entry)). AreIndexParts options.index_kind (handles v cs) c.index) empty is.index in
+    let behind = (λ (cs : List (List Entry)). data_section v cs ++ (bytes_in (index_sections options.index_kind v (length (data_section v cs)) (handles v cs) c.index) ++ rest v label options c)) in
+    let front : body ≡ behind [] = body_is v label options c ∙ ap behind empty in
+    let whole : body ≡ (handles_block v [] ++ []) ++ rest v label options c = front ∙ ap (λ (bs : List ℕ). bs ++ rest v label options c) (index_alone options.index_kind v 0 c.index parts) in
+    index_refused v (handles_payload v []) ([] ++ rest v label options c) body (whole ∙ append_assoc (handles_block v []) [] (rest v label options c))
+  where
+    rest : TableVersion → Label → Options → Content → List ℕ
+    rest v label options c = bytes_in (the_filter v label options c) ++ bytes_in (the_end v label options c)
 
 -- ---- what a scan of a table of a list answers
 
@@ -214,7 +223,10 @@ opens (Ok s) body count g (x ∷ xs) fault none some deals faults =
     λ stops memory. subst (λ (ys : List (Result Entry Error)). Deals (answer_stops stops) ScansNext nowhere s ys) (some (omega arith)).all (deals stops memory)
 opens (Err e) body count g (x ∷ xs) fault none some deals faults = λ more. memory_alone (load_at_told body 0 Data) (some more).first e (some more).loads faults
 
-pub file_opens : (stored : List ℕ) (es : List Entry) (t : IsTable stored es) (g : ℕ) (parts : Parts) → length stored < 2 ^ 63 → recovered_told stored g ≡ Ok parts → (r : Result Scan Error)
+pub file_opens : (stored : List ℕ) (es : List Entry) (t : IsTable stored es) (g : ℕ) (pin_filter pin_index : Bool) (parts : Parts) → length stored < 2 ^ 63 → recovered_told stored g pin_filter pin_index ≡ Ok parts → (r : Result Scan Error)
     → ((stops : Error → Bool) → stops OutOfMemory ≡ true → IfOk r (λ s. Deals (answer_stops stops) ScansNext nowhere s (scan_told (body_of stored) parts.facts.data_block_count g))) → Faults r (fault_of (load_at_told (body_of stored) 0 Data)) → ScansList r es g
-file_opens stored es t g parts short told r deals faults =
-    opens r (body_of stored) parts.facts.data_block_count g es (InvalidTag BlockTypeTag 1) (empty_refused t.version stored t.label t.options t.spills es t.file t.plain) (file_scans stored es t g parts short told) deals faults
+file_opens stored es t g pin_filter pin_index parts short told r deals faults =
+    let bytes = t.file.are in
+    opens r (body_of stored) parts.facts.data_block_count g es (InvalidTag BlockTypeTag 1)
+    (λ none. ap (λ (b : List ℕ). load_at_told (body_of b) 0 Data) bytes ∙ empty_refused t.version t.label t.options t.spills es (t.file).content t.file.is none)
+    (file_scans stored es t g pin_filter pin_index parts short told) deals faults

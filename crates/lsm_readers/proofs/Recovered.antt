@@ -1,6 +1,6 @@
 -- What a recovered table's parts keep.
 use Rattle.std.proofs.Common.{◌≡◌, ℕ, ◌+◌, ◌-◌, ◌^◌, ◌<◌, ◌≤◌, Bool, true, false, cond, ltb, List, refl, sym, ap, subst, ◌∙◌, arith}
-use Rattle.std.specs.Prelude.{length, Option, Some, None, Result, Ok, Err}
+use Rattle.std.specs.Prelude.{◌≢◌, length, Option, Some, None, is_some, Result, Ok, Err}
 use Rattle.std.proofs.lemmas.Bool.{ltb-false}
 use Rattle.sst_entries.specs.declared.error.Error.{Error}
 use Rattle.sst_entries.specs.declared.error.Error.TheVariants.{GlobalSeqNoTooLarge}
@@ -9,11 +9,14 @@ use Rattle.std.specs.Result.{IsErrAnd}
 use Rattle.sst_entries.specs.Error.{Fails, FaultsFirst, is_memory, unless}
 use Rattle.sst_blocks.specs.declared.block_type.BlockType.TheVariants.{Index, Meta}
 use Rattle.sst_blocks.specs.Block.{Loaded, load_told, place_fault, handles_of}
+use Rattle.sst_blocks.specs.Handle.{Handle}
+use Rattle.sst_blocks.specs.Place.{Place}
+use Rattle.sst_filters.specs.Filter.{BloomFilter}
 use Rattle.sst_sections.specs.Sections.{body_of, trailer_fault}
 use Rattle.lsm_readers.specs.declared.regions.ParsedRegions.{ParsedRegions}
 use Rattle.lsm_readers.specs.Meta.{Facts}
 use Rattle.lsm_readers.specs.Meta.{meta_told}
-use Rattle.lsm_readers.specs.Parts.{Parts, PinnedIndex, early_fault, early_in, full, index_told, number_told, parts_told, places_told, range_in, range_told, recovered_told}
+use Rattle.lsm_readers.specs.Parts.{Parts, Pinned, PinnedIndex, early_fault, early_in, filter_told, full, handles_told, index_told, number_told, parts_told, pinned_filter, pinned_told, places_told, range_in, range_told, recovered_told, tops_told, two_level, volatile}
 use Rattle.lsm_readers.specs.Table.{IsRecovered, IsOpen}
 use Rattle.lsm_readers.specs.Table.{OpenTable}
 use Rattle.lsm_readers.specs.Read.{◌>>=◌}
@@ -32,64 +35,115 @@ number_fits false f k g e h =
     let max : f.seqno_max ≡ k.seqno_max = ap (λ (x : Facts). x.seqno_max) same in
     omega arith
 
-abbrev made : ParsedRegions → Facts → PinnedIndex → Parts
-made regions facts index = record { facts = facts; regions = regions; index = index }
+abbrev made : ParsedRegions → Facts → Pinned → Parts
+made regions facts pinned = record { facts = facts; regions = regions; pinned = pinned }
 
 -- the steps of opening a table, each of which told what the parts hold
-pub record Steps (bytes : List ℕ) (g : ℕ) (parts : Parts) : Type 0 where
-  pub trailer : parts_told bytes g ≡ Ok parts
+pub record Steps (bytes : List ℕ) (g : ℕ) (pin_filter pin_index : Bool) (parts : Parts) : Type 0 where
+  pub trailer : parts_told bytes g pin_filter pin_index ≡ Ok parts
   pub regions : places_told bytes ≡ Ok parts.regions
   pub facts : meta_told (body_of bytes) parts.regions.metadata ≡ Ok parts.facts
   pub fits : parts.facts.seqno_max + g < 2 ^ 64
-  pub index : index_told (body_of bytes) parts.regions ≡ Ok parts.index
+  pub pinned : pinned_told (body_of bytes) parts.regions pin_filter pin_index ≡ Ok parts.pinned
 
 same_facts : (large : Bool) (f k : Facts) → cond large (Err GlobalSeqNoTooLarge) (Ok f) ≡ Ok k → f ≡ k
 same_facts true f k h = absurd cc
 same_facts false f k h = cc
 
-pub steps : (bytes : List ℕ) (g : ℕ) (parts : Parts) → recovered_told bytes g ≡ Ok parts → Steps bytes g parts
+pub steps : (bytes : List ℕ) (g : ℕ) (pin_filter pin_index : Bool) (parts : Parts) → recovered_told bytes g pin_filter pin_index ≡ Ok parts → Steps bytes g pin_filter pin_index parts
 unfolding parts_told
-steps bytes g parts h =
-    let told = unless_ok (trailer_fault bytes) (parts_told bytes g) parts h in
+steps bytes g pin_filter pin_index parts h =
+    let told = unless_ok (trailer_fault bytes) (parts_told bytes g pin_filter pin_index) parts h in
     let body = body_of bytes in
-    let r = bind_ok (places_told bytes) (λ regions. meta_told body regions.metadata >>= λ facts. number_told facts g >>= λ facts. index_told body regions >>= λ index. Ok (made regions facts index)) parts told in
-    let m = bind_ok (meta_told body (r.0).metadata) (λ facts. number_told facts g >>= λ facts. index_told body r.0 >>= λ index. Ok (made r.0 facts index)) parts r.2 in
-    let n = bind_ok (number_told m.0 g) (λ facts. index_told body r.0 >>= λ index. Ok (made r.0 facts index)) parts m.2 in
-    let i = bind_ok (index_told body r.0) (λ index. Ok (made r.0 n.0 index)) parts n.2 in
+    let pinned_in : ParsedRegions → Result Pinned Error = λ regions. pinned_told body regions pin_filter pin_index in
+    let r = bind_ok (places_told bytes) (λ regions. meta_told body regions.metadata >>= λ facts. number_told facts g >>= λ facts. pinned_in regions >>= λ pinned. Ok (made regions facts pinned)) parts told in
+    let m = bind_ok (meta_told body (r.0).metadata) (λ facts. number_told facts g >>= λ facts. pinned_in r.0 >>= λ pinned. Ok (made r.0 facts pinned)) parts r.2 in
+    let n = bind_ok (number_told m.0 g) (λ facts. pinned_in r.0 >>= λ pinned. Ok (made r.0 facts pinned)) parts m.2 in
+    let i = bind_ok (pinned_in r.0) (λ pinned. Ok (made r.0 n.0 pinned)) parts n.2 in
     let same : made r.0 n.0 i.0 ≡ parts = cc in
     let fits : (n.0).seqno_max + g < 2 ^ 64 = number_fits (ltb (2 ^ 64 - 1) ((m.0).seqno_max + g)) m.0 n.0 g refl n.1 in
     let kept : m.0 ≡ n.0 = same_facts (ltb (2 ^ 64 - 1) ((m.0).seqno_max + g)) m.0 n.0 n.1 in
-    let all : Steps bytes g (made r.0 n.0 i.0) = record { trailer = told ∙ ap (λ (p : Parts). Ok p) (sym same); regions = r.1; facts = m.1 ∙ ap (λ (f : Facts). Ok f) kept; fits = fits; index = i.1 } in
-    subst (Steps bytes g) same all
+    let all : Steps bytes g pin_filter pin_index (made r.0 n.0 i.0) = record { trailer = told ∙ ap (λ (p : Parts). Ok p) (sym same); regions = r.1; facts = m.1 ∙ ap (λ (f : Facts). Ok f) kept; fits = fits; pinned = i.1 } in
+    subst (Steps bytes g pin_filter pin_index) same all
+
+pub recovered_steps : (t : OpenTable) (is : IsRecovered t) → Steps t.bytes t.global_seqno is.pin_filter is.pin_index t.parts
+recovered_steps t is = steps t.bytes t.global_seqno is.pin_filter is.pin_index t.parts is.told
 
 pub highest_fits : (t : OpenTable) → IsRecovered t → t.parts.facts.seqno_max + t.global_seqno < 2 ^ 64
-highest_fits t h = (steps t.bytes t.global_seqno t.parts h).fits
+highest_fits t h = (recovered_steps t h).fits
 
--- the index block is loaded
-pub index_opens : (t : OpenTable) → IsRecovered t → (b : Loaded) × (load_told (body_of t.bytes) t.parts.regions.tli.offset t.parts.regions.tli.size Index ≡ Ok b)
-index_opens t h =
-    let tli = t.parts.regions.tli in
-    let i = bind_ok (load_told (body_of t.bytes) tli.offset tli.size Index) (λ block. Ok (full (handles_of block))) t.parts.index (steps t.bytes t.global_seqno t.parts h).index in
-    (i.0, i.1)
+-- ---- the blocks that stay loaded
+
+-- the steps of loading them, each of which told what they are
+pub record PinnedSteps (body : List ℕ) (regions : ParsedRegions) (pin_filter pin_index : Bool) (pinned : Pinned) : Type 0 where
+  pub index : index_told body regions pin_index ≡ Ok pinned.index
+  pub filter_tops : tops_told body regions.filter_tli ≡ Ok pinned.filter_tops
+  pub filter : filter_told body (pinned_filter regions pin_filter) ≡ Ok pinned.filter
+
+abbrev pins : PinnedIndex → Option (List Handle) → Option BloomFilter → Pinned
+pins index tops filter = record { index = index; filter_tops = tops; filter = filter }
+
+pub pinned_steps : (body : List ℕ) (regions : ParsedRegions) (pin_filter pin_index : Bool) (pinned : Pinned) → pinned_told body regions pin_filter pin_index ≡ Ok pinned → PinnedSteps body regions pin_filter pin_index pinned
+unfolding pinned_told
+pinned_steps body regions pin_filter pin_index pinned h =
+    let place = pinned_filter regions pin_filter in
+    let i = bind_ok (index_told body regions pin_index) (λ index. tops_told body regions.filter_tli >>= λ tops. filter_told body place >>= λ filter. Ok (pins index tops filter)) pinned h in
+    let t = bind_ok (tops_told body regions.filter_tli) (λ tops. filter_told body place >>= λ filter. Ok (pins i.0 tops filter)) pinned i.2 in
+    let f = bind_ok (filter_told body place) (λ filter. Ok (pins i.0 t.0 filter)) pinned t.2 in
+    let same : pins i.0 t.0 f.0 ≡ pinned = cc in
+    subst (PinnedSteps body regions pin_filter pin_index) same (record { index = i.1; filter_tops = t.1; filter = f.1 })
+
+loads_handles : (body : List ℕ) (place : Place) (index : PinnedIndex) (kept : List Handle → PinnedIndex) → (handles_told body place >>= λ hs. Ok (kept hs)) ≡ Ok index
+    → (b : Loaded) × (load_told body place.offset place.size Index ≡ Ok b)
+loads_handles body place index kept h =
+    let hs = bind_ok (handles_told body place) (λ hs. Ok (kept hs)) index h in
+    let b = bind_ok (load_told body place.offset place.size Index) (λ block. Ok (handles_of block)) hs.0 hs.1 in
+    (b.0, b.1)
+
+abbrev index_result : PinnedIndex → Result PinnedIndex Error
+index_result index = Ok index
+
+volatile_is : (index : PinnedIndex) → index_result volatile ≡ Ok index → index ≡ volatile
+volatile_is index h = cc
+
+index_loads : (body : List ℕ) (tli : Place) (parts pin : Bool) (index : PinnedIndex)
+    → cond parts (handles_told body tli >>= λ tops. Ok (two_level tops)) (cond pin (handles_told body tli >>= λ handles. Ok (full handles)) (Ok volatile)) ≡ Ok index
+    → index ≢ volatile → (b : Loaded) × (load_told body tli.offset tli.size Index ≡ Ok b)
+index_loads body tli true pin index h some = loads_handles body tli index two_level h
+index_loads body tli false true index h some = loads_handles body tli index full h
+index_loads body tli false false index h some = absurd (some (volatile_is index h))
+
+-- the index block that stays loaded was loaded
+pub index_opens : (t : OpenTable) → IsRecovered t → t.parts.pinned.index ≢ volatile → (b : Loaded) × (load_told (body_of t.bytes) t.parts.regions.tli.offset t.parts.regions.tli.size Index ≡ Ok b)
+index_opens t h some =
+    let body = body_of t.bytes in
+    let regions = t.parts.regions in
+    let kept = pinned_steps body regions h.pin_filter h.pin_index t.parts.pinned (recovered_steps t h).pinned in
+    index_loads body regions.tli (is_some regions.index) h.pin_index t.parts.pinned.index kept.index some
 
 -- opening what has no fault in its trailer tells what its parts tell
-pub opening_told : (bytes source : List ℕ) (g : ℕ) (told : Result Parts Error) → trailer_fault bytes ≡ None → source ≡ bytes → parts_told source g ≡ told → recovered_told bytes g ≡ told
-opening_told bytes source g told none same parts = ap (λ (o : Option Error). unless o (parts_told bytes g)) none ∙ ap (λ (b : List ℕ). parts_told b g) (sym same) ∙ parts
+pub opening_told : (bytes source : List ℕ) (g : ℕ) (pin_filter pin_index : Bool) (told : Result Parts Error) → trailer_fault bytes ≡ None → source ≡ bytes → parts_told source g pin_filter pin_index ≡ told → recovered_told bytes g pin_filter pin_index ≡ told
+opening_told bytes source g pin_filter pin_index told none same parts =
+    ap (λ (o : Option Error). unless o (parts_told bytes g pin_filter pin_index)) none ∙ ap (λ (b : List ℕ). parts_told b g pin_filter pin_index) (sym same) ∙ parts
 
-pub opening_fails : (bytes : List ℕ) (g : ℕ) (e : Error) → (is_memory e ≡ false → trailer_fault bytes ≡ Some e) → Fails e (recovered_told bytes g)
-opening_fails bytes g e fault memory = ap (λ (o : Option Error). unless o (parts_told bytes g)) (fault memory)
+pub opening_fails : (bytes : List ℕ) (g : ℕ) (pin_filter pin_index : Bool) (e : Error) → (is_memory e ≡ false → trailer_fault bytes ≡ Some e) → Fails e (recovered_told bytes g pin_filter pin_index)
+opening_fails bytes g pin_filter pin_index e fault memory = ap (λ (o : Option Error). unless o (parts_told bytes g pin_filter pin_index)) (fault memory)
 
 -- a table of such bytes
-pub is_open : (t : OpenTable) (bytes : List ℕ) (g : ℕ) → t.bytes ≡ bytes → t.global_seqno ≡ g → length bytes < 2 ^ 63 → recovered_told bytes g ≡ Ok t.parts → IsOpen t
-is_open t bytes g same number short told = record {
-  recovered = ap (λ (b : List ℕ). recovered_told b t.global_seqno) same ∙ ap (recovered_told bytes) number ∙ told;
+pub is_open : (t : OpenTable) (bytes : List ℕ) (g : ℕ) (pin_filter pin_index : Bool) → t.bytes ≡ bytes → t.global_seqno ≡ g → length bytes < 2 ^ 63 → recovered_told bytes g pin_filter pin_index ≡ Ok t.parts → IsOpen t
+is_open t bytes g pin_filter pin_index same number short told = record {
+  recovered = record {
+    pin_filter = pin_filter;
+    pin_index = pin_index;
+    told = ap (λ (b : List ℕ). recovered_told b t.global_seqno pin_filter pin_index) same ∙ ap (λ (n : ℕ). recovered_told bytes n pin_filter pin_index) number ∙ told;
+  };
   short = subst (λ (b : List ℕ). length b < 2 ^ 63) (sym same) short;
 }
 
 -- the range that the bytes tell is the one that was recovered
 pub range_is : (t : OpenTable) → IsRecovered t → range_told t.bytes ≡ t.parts.facts.key_range
 range_is t h =
-    let s = steps t.bytes t.global_seqno t.parts h in
+    let s = recovered_steps t h in
     ap (λ (r : Result ParsedRegions Error). range_in (r >>= λ regions. meta_told (body_of t.bytes) regions.metadata)) s.regions
     ∙ ap range_in s.facts
 

@@ -1,15 +1,18 @@
 -- A point read of a table, over any bytes: a key is admitted, its data block is found, and is read.
-use Rattle.std.specs.Prelude.{ℕ, ◌+◌, ◌-◌, nat_lt, Bool, true, false, List, map, find, Option, Some, None}
+use Rattle.std.specs.Prelude.{◌≡◌, ℕ, ◌+◌, ◌-◌, ◌^◌, ◌≤◌, nat_lt, Bool, true, false, List, map, find, Option, Some, None, if◌then◌else◌}
 use Rattle.std.specs.Option.{option_map}
-use Rattle.sst_blocks.specs.declared.block_type.BlockType.TheVariants.{Data}
-use Rattle.sst_blocks.specs.Block.{entries_of}
+use Rattle.sst_blocks.specs.declared.block_type.BlockType.TheVariants.{Data, Index, Filter}
+use Rattle.sst_blocks.specs.declared.opened.Opened.{Opened}
+use Rattle.sst_blocks.specs.Block.{entries_of, handles_of}
 use Rattle.sst_entries.specs.Entry.{Entry}
 use Rattle.sst_blocks.specs.Handle.{Handle}
 use Rattle.sst_blocks.specs.Handles.{reaches}
 use Rattle.sst_blocks.specs.Place.{Place, place_of}
 use Rattle.sst_entries.specs.Point.{point}
-use Rattle.lsm_readers.specs.Parts.{Parts, PinnedIndex, full}
+use Rattle.sst_filters.specs.Filter.{BloomFilter, admits, filter_in}
+use Rattle.lsm_readers.specs.Parts.{Parts, PinnedIndex, full, volatile, two_level}
 use Rattle.lsm_readers.specs.Table.{OpenTable}
+use Rattle.sst_sections.specs.Fnv.{fnv1a}
 use Rattle.sst_sections.specs.Sections.{body_of}
 use Rattle.lsm_readers.specs.Read.{Read, known, block_read, read_map, read_then}
 
@@ -20,18 +23,66 @@ lifted g e = record e { seqno = e.seqno + g }
 abbrev pub lift : List Entry → ℕ → List Entry
 lift es g = map (lifted g) es
 
--- whether a key may have an entry below a bound: a stored number is below it, and no filter is asked
+-- whether the filter block at a place may have a hash
+abbrev pub block_admits : List ℕ → ℕ → Place → Read Bool
+block_admits body hash place =
+    read_map (λ block. admits (filter_in block.payload) hash) (block_read body place Filter)
+
+-- the same of a filter's partition: where there is none, no
+abbrev pub part_admits : List ℕ → ℕ → Option Place → Read Bool
+part_admits body hash None = known false
+part_admits body hash (Some place) = block_admits body hash place
+
+-- where the first handle leads that reaches a key at a bound
+abbrev pub place_in : List Handle → List ℕ → ℕ → Option Place
+place_in handles key bound = option_map place_of (find (reaches key bound) handles)
+
+-- whether a table's filter may have a key of a hash: with a top level its partition is asked, which the key
+-- at the highest bound leads to; else its one block, which stays loaded or is loaded by each read; without
+-- a filter, yes
+abbrev pub filter_admits : List ℕ → Option (List Handle) → Option BloomFilter → Option Place → List ℕ
+    → ℕ → Read Bool
+filter_admits body (Some tops) filter place key hash =
+    part_admits body hash (place_in tops key (2 ^ 64 - 1))
+filter_admits body None (Some filter) place key hash = known (admits filter hash)
+filter_admits body None None (Some place) key hash = block_admits body hash place
+filter_admits body None None None key hash = known true
+
+-- whether a key may have an entry below a bound: a stored number is below it, and the filter may have it
 abbrev pub admission : List ℕ → Parts → List ℕ → ℕ → Read Bool
-admission body parts key bound = known (nat_lt parts.facts.seqno_min bound)
+admission body parts key bound =
+    let pinned = parts.pinned in
+    if nat_lt parts.facts.seqno_min bound
+    then filter_admits body pinned.filter_tops pinned.filter parts.regions.filter key (fnv1a key)
+    else known false
 
--- the handle of the first data block that reaches a key at a bound, by the pinned index
-abbrev pub pinned_handle : PinnedIndex → List ℕ → ℕ → Option Handle
-pinned_handle (full handles) key bound = find (reaches key bound) handles
+-- where the handle leads that the index block at a place has for a key at a bound
+abbrev pub handle_at : List ℕ → List ℕ → ℕ → Place → Read (Option Place)
+handle_at body key bound place =
+    read_map (λ block. place_in (handles_of block) key bound) (block_read body place Index)
 
--- the same as a read, of a key that is admitted
-abbrev pub handle_for : List ℕ → PinnedIndex → List ℕ → ℕ → Bool → Read (Option Handle)
-handle_for body index key bound false = known None
-handle_for body index key bound true = known (pinned_handle index key bound)
+-- the same of an index's partition: where there is none, nowhere
+abbrev pub handle_in_part : List ℕ → List ℕ → ℕ → Option Place → Read (Option Place)
+handle_in_part body key bound None = known None
+handle_in_part body key bound (Some place) = handle_at body key bound place
+
+-- where the first data block lies that reaches a key at a bound: by the handles that stay loaded, by the
+-- one block of the index, or by the one partition that the top level leads to
+abbrev pub handle_by : List ℕ → PinnedIndex → Place → List ℕ → ℕ → Read (Option Place)
+handle_by body (full handles) tli key bound = known (place_in handles key bound)
+handle_by body volatile tli key bound = handle_at body key bound tli
+handle_by body (two_level tops) tli key bound =
+    handle_in_part body key bound (place_in tops key bound)
+
+-- the same of a key that is admitted
+abbrev pub handle_for : List ℕ → Parts → List ℕ → ℕ → Bool → Read (Option Place)
+handle_for body parts key bound false = known None
+handle_for body parts key bound true = handle_by body parts.pinned.index parts.regions.tli key bound
+
+-- where the one data block lies that a read of a key below a stored number rests on
+abbrev pub admitted_handle : List ℕ → Parts → List ℕ → ℕ → Read (Option Place)
+admitted_handle body parts key bound =
+    read_then (admission body parts key bound) (handle_for body parts key bound)
 
 -- the first match in the block at a place, its number lifted
 abbrev pub match_at : List ℕ → ℕ → List ℕ → ℕ → Place → Read (Option Entry)
@@ -39,18 +90,39 @@ match_at body g key bound place =
     read_map (λ block. option_map (lifted g) (point (entries_of block) key bound))
     (block_read body place Data)
 
--- the same of a handle, where there is one
-abbrev pub match_in : List ℕ → ℕ → List ℕ → ℕ → Option Handle → Read (Option Entry)
+-- the same of a place, where there is one
+abbrev pub match_in : List ℕ → ℕ → List ℕ → ℕ → Option Place → Read (Option Entry)
 match_in body g key bound None = known None
-match_in body g key bound (Some h) = match_at body g key bound (place_of h)
+match_in body g key bound (Some place) = match_at body g key bound place
 
 -- a point read over the bytes before the trailer, whose numbers are below the bound once they are lifted
 unfoldable pub answer : List ℕ → ℕ → Parts → List ℕ → ℕ → Read (Option Entry)
 answer body g parts key bound =
     let low = bound - g in
-    read_then (read_then (admission body parts key low) (handle_for body parts.index key low))
-    (match_in body g key low)
+    read_then (admitted_handle body parts key low) (match_in body g key low)
 
 -- a point read of an opened table
 abbrev pub table_answer : OpenTable → List ℕ → ℕ → Read (Option Entry)
 table_answer t key bound = answer (body_of t.bytes) t.global_seqno t.parts key bound
+
+-- how many index blocks a point read loads at most: none where the whole index stays loaded
+abbrev pub most_index_loads : PinnedIndex → ℕ
+most_index_loads (full handles) = 0
+most_index_loads volatile = 1
+most_index_loads (two_level tops) = 1
+
+-- how many filter blocks: none where a full filter stays loaded, or there is no filter
+abbrev pub most_filter_loads : Option (List Handle) → Option BloomFilter → Option Place → ℕ
+most_filter_loads (Some tops) filter place = 1
+most_filter_loads None (Some filter) place = 0
+most_filter_loads None None (Some place) = 1
+most_filter_loads None None None = 0
+
+-- the counts before and after a point read: at most one data block, one index block and one filter block
+-- were loaded, and none that stays loaded
+pub record LoadsFew (parts : Parts) (old new : Opened) : Type 0 where
+  pub data_few : new.data_loads ≤ old.data_loads + 1
+  pub index_few : new.index_loads ≤ old.index_loads + most_index_loads parts.pinned.index
+  pub filter_few : new.filter_loads ≤ old.filter_loads +
+      most_filter_loads parts.pinned.filter_tops parts.pinned.filter parts.regions.filter
+  pub no_meta : new.meta_loads ≡ old.meta_loads

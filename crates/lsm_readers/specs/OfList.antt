@@ -1,25 +1,35 @@
 -- What a table of a list is recovered to.
-use Rattle.std.specs.Prelude.{ℕ, ◌+◌, ◌-◌, ◌^◌, nat_lt, List, length, None, Result, Ok, Err, if◌then◌else◌}
+use Rattle.std.specs.Prelude.{◌≡◌, ℕ, ◌+◌, ◌-◌, ◌^◌, ◌==◌, nat_lt, Bool, List, [], ◌∷◌, ◌++◌, length, Option, Some, None, unwrap_or, Result, Ok, Err, if◌then◌else◌}
+use Rattle.sst_sections.specs.declared.section.SectionName.{SectionName}
+use Rattle.sst_sections.specs.declared.section.SectionName.TheVariants.{Index, Tli, Filter, FilterTli, Meta}
 use Rattle.sst_sections.specs.declared.version.TableVersion.{TableVersion}
-use Rattle.sst_blocks.specs.declared.block_type.BlockType.TheVariants.{Index, Meta}
-use Rattle.sst_blocks.specs.Block.{block_bytes}
+use Rattle.sst_sections.specs.Sections.{slot_index}
 use Rattle.sst_entries.specs.declared.error.Error.{Error}
 use Rattle.sst_entries.specs.declared.error.Error.TheVariants.{GlobalSeqNoTooLarge}
 use Rattle.sst_entries.specs.Entry.{Entry}
-use Rattle.sst_blocks.specs.Handles.{handles_payload}
-use Rattle.sst_blocks.specs.Payload.{payload}
+use Rattle.sst_entries.specs.Stream.{first}
+use Rattle.sst_blocks.specs.Handle.{Handle}
+use Rattle.sst_blocks.specs.Place.{Place}
+use Rattle.sst_filters.specs.Filter.{BloomFilter}
 use Rattle.lsm_ranges.specs.KeyRange.{Interval, interval}
 use Rattle.lsm_files.specs.Content.{Content}
 use Rattle.lsm_files.specs.Facts.{facts, highest_seqno}
-use Rattle.lsm_files.specs.File.{counted_blocks}
+use Rattle.lsm_files.specs.File.{closing_sections, filter_part, front_sections, index_part}
+use Rattle.lsm_files.specs.Filters.{filter_partitions}
 use Rattle.lsm_files.specs.Index.{handles, data_section}
-use Rattle.lsm_files.specs.MetaBlock.{meta_entries, version_number}
+use Rattle.lsm_files.specs.Layout.{Sections, bytes_in}
+use Rattle.lsm_files.specs.MetaBlock.{version_number}
+use Rattle.lsm_files.specs.Partitions.{index_tops, tops_from}
+use Rattle.lsm_files.specs.declared.options.FilterKind.{FilterKind}
+use Rattle.lsm_files.specs.declared.options.FilterKind.TheVariants.{Full as FullFilter, Partitioned as PartitionedFilter}
+use Rattle.lsm_files.specs.declared.options.IndexKind.{IndexKind}
+use Rattle.lsm_files.specs.declared.options.IndexKind.TheVariants.{Full as FullIndex, Partitioned as PartitionedIndex}
 use Rattle.lsm_files.specs.declared.options.Options.{Options}
 use Rattle.lsm_files.specs.declared.label.Label.{Label}
 use Rattle.lsm_files.specs.Table.{IsTable}
 use Rattle.lsm_readers.specs.declared.regions.ParsedRegions.{ParsedRegions}
 use Rattle.lsm_readers.specs.Meta.{Facts}
-use Rattle.lsm_readers.specs.Parts.{Parts, full}
+use Rattle.lsm_readers.specs.Parts.{Parts, Pinned, PinnedIndex, full, two_level, volatile}
 
 -- the first and the last key of a list
 abbrev pub ends_of : List Entry → Interval
@@ -46,35 +56,85 @@ facts_said v label es blocks index_blocks size =
       weak_tombstone_reclaimable = f.weak_tombstone_reclaimable;
     }
 
--- the index behind the data blocks, and the meta block behind the byte of the version
+-- where the section of a name lies among some, the first of them at a position
+abbrev pub place_from : ℕ → Sections → SectionName → Option Place
+place_from at [] name = None
+place_from at (s ∷ ss) name =
+    if slot_index s.0 == slot_index name then Some (record { offset = at; size = length s.1 })
+    else place_from (at + length s.1) ss name
+
+abbrev pub no_place : Place
+no_place = record { offset = 0; size = 0 }
+
+-- the parts, where they are among some sections
+abbrev pub regions_laid : ℕ → Sections → ParsedRegions
+regions_laid at ss = record {
+  tli = unwrap_or (place_from at ss Tli) no_place;
+  index = place_from at ss Index;
+  filter_tli = place_from at ss FilterTli;
+  filter = place_from at ss Filter;
+  metadata = unwrap_or (place_from at ss Meta) no_place;
+}
+
+-- the index, the filter, the version and the meta block lie behind the data blocks
 abbrev pub regions_said : TableVersion → Label → Options → Content → ParsedRegions
 regions_said v label options c =
-    let blocks = length (data_section v c.blocks) in
-    let index = length (block_bytes v Index (handles_payload v (handles v c.blocks))) in
-    let items = meta_entries v label options c.blocks (counted_blocks options c) in
-    let meta = length (block_bytes v Meta (payload v items)) in
+    let behind = index_part v options c
+    ++ filter_part v options c
+    ++ closing_sections v label options c in
+    regions_laid (length (data_section v c.blocks)) behind
+
+-- what stays loaded of an index whose blocks begin at a position: a full one where it is to, of one with
+-- partitions the top level
+abbrev pub index_said : IndexKind → TableVersion → ℕ → List Handle → List (List Handle) → Bool
+    → PinnedIndex
+index_said FullIndex v at hs parts pin = if pin then full hs else volatile
+index_said (PartitionedIndex size) v at hs parts pin = two_level (index_tops v at parts)
+
+-- the top level of a filter whose blocks begin at a position: that of one with partitions
+abbrev pub filter_tops_said : FilterKind → ℕ → List (List (List ℕ)) → List BloomFilter
+    → Option (List Handle)
+filter_tops_said FullFilter at keys fs = None
+filter_tops_said (PartitionedFilter size) at keys [] = None
+filter_tops_said (PartitionedFilter size) at keys (f ∷ fs) =
+    Some (tops_from at (filter_partitions keys (f ∷ fs)))
+
+-- the filter that stays loaded: a full one, where it is to
+abbrev pub filter_said : FilterKind → List BloomFilter → Bool → Option BloomFilter
+filter_said FullFilter fs pin = if pin then first fs else None
+filter_said (PartitionedFilter size) fs pin = None
+
+abbrev pub pinned_said : TableVersion → Options → Content → Bool → Bool → Pinned
+pinned_said v options c pin_filter pin_index =
+    let at = length (data_section v c.blocks) in
+    let behind = length (bytes_in (front_sections v options c)) in
     record {
-      tli = record { offset = blocks; size = index };
-      index = None;
-      filter_tli = None;
-      filter = None;
-      metadata = record { offset = blocks + index + 1; size = meta };
+      index = index_said options.index_kind v at (handles v c.blocks) c.index pin_index;
+      filter_tops = filter_tops_said options.filter_kind behind c.keys c.filters;
+      filter = filter_said options.filter_kind c.filters pin_filter;
     }
 
-abbrev pub parts_said : {bytes : List ℕ} {es : List Entry} → IsTable bytes es → Parts
-parts_said {bytes} {es} t =
+abbrev pub parts_said : {bytes : List ℕ} {es : List Entry} → IsTable bytes es → Bool → Bool → Parts
+parts_said {bytes} {es} t pin_filter pin_index =
     let v = t.version in
     let c = (t.file).content in
     let cs = c.blocks in
     record {
       facts = facts_said v t.label es (length cs) (length c.index) (length (data_section v cs));
       regions = regions_said v t.label t.options c;
-      index = full (handles v cs);
+      pinned = pinned_said v t.options c pin_filter pin_index;
     }
 
+-- some parts are those of the table of a list, whichever blocks were to stay loaded
+pub record SaysList {bytes : List ℕ} {es : List Entry} (t : IsTable bytes es) (parts : Parts)
+    : Type 0 where
+  pub pin_filter : Bool
+  pub pin_index : Bool
+  pub is : parts ≡ parts_said t pin_filter pin_index
+
 -- what opening the table of a list tells: its parts, where its highest number fits once it is lifted
-abbrev pub list_told : {bytes : List ℕ} {es : List Entry} → IsTable bytes es → ℕ
+abbrev pub list_told : {bytes : List ℕ} {es : List Entry} → IsTable bytes es → ℕ → Bool → Bool
     → Result Parts Error
-list_told {bytes} {es} t g =
+list_told {bytes} {es} t g pin_filter pin_index =
     if nat_lt (2 ^ 64 - 1) (highest_seqno es + g) then Err GlobalSeqNoTooLarge
-    else Ok (parts_said t)
+    else Ok (parts_said t pin_filter pin_index)

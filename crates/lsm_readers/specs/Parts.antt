@@ -1,13 +1,14 @@
--- What a table is recovered to: what it says of itself, where its parts lie, and its pinned index.
-use Rattle.std.specs.Prelude.{ℕ, ◌+◌, ◌-◌, ◌^◌, nat_lt, List, [], map, Option, Some, None, Result, Ok, Err, if◌then◌else◌}
+-- What a table is recovered to: what it says of itself, where its parts lie, and which blocks stay loaded.
+use Rattle.std.specs.Prelude.{ℕ, ◌+◌, ◌-◌, ◌^◌, ◌&&◌, nat_lt, Bool, List, [], length, map, Option, Some, None, is_none, is_some, Result, Ok, Err, if◌then◌else◌}
 use Rattle.std.specs.Option.{option_or}
-use Rattle.sst_blocks.specs.declared.block_type.BlockType.TheVariants.{Index, Meta}
+use Rattle.sst_blocks.specs.declared.block_type.BlockType.TheVariants.{Index, Filter, Meta}
 use Rattle.sst_entries.specs.declared.error.Error.{Error}
 use Rattle.sst_entries.specs.declared.error.Error.TheVariants.{GlobalSeqNoTooLarge}
-use Rattle.sst_blocks.specs.Block.{load_told, place_fault, handles_of}
+use Rattle.sst_blocks.specs.Block.{load_told, place_fault, handles_of, header_len}
 use Rattle.sst_entries.specs.Error.{unless}
 use Rattle.sst_blocks.specs.Handle.{Handle}
 use Rattle.sst_blocks.specs.Place.{Place}
+use Rattle.sst_filters.specs.Filter.{BloomFilter, filter_in, payload_of}
 use Rattle.sst_sections.specs.Sections.{body_of, section_in, section_names, trailer_fault}
 use Rattle.lsm_ranges.specs.KeyRange.{Interval, interval}
 use Rattle.lsm_readers.specs.declared.regions.ParsedRegions.{ParsedRegions}
@@ -15,20 +16,61 @@ use Rattle.lsm_readers.specs.Meta.{Facts, meta_told}
 use Rattle.lsm_readers.specs.Regions.{regions_told}
 use Rattle.lsm_readers.specs.Read.{◌>>=◌}
 
--- what of an index stays loaded: the handles of a full one
+-- what of an index stays loaded: the handles of a full one, nothing of one that each read loads, or the
+-- handles of the top level of one with partitions
 pub data PinnedIndex : Type 0 where
   full : List Handle → PinnedIndex
+  volatile : PinnedIndex
+  two_level : List Handle → PinnedIndex
+
+-- which blocks stay loaded: those of the index, the top level of a filter with partitions, and the one
+-- block of a full filter
+pub record Pinned : Type 0 where
+  pub index : PinnedIndex
+  pub filter_tops : Option (List Handle)
+  pub filter : Option BloomFilter
 
 pub record Parts : Type 0 where
   pub facts : Facts
   pub regions : ParsedRegions
-  pub index : PinnedIndex
+  pub pinned : Pinned
 
--- the full index
-abbrev pub index_told : List ℕ → ParsedRegions → Result PinnedIndex Error
-index_told body regions =
-    load_told body regions.tli.offset regions.tli.size Index >>= λ block.
-    Ok (full (handles_of block))
+-- the handles of the index block at a place
+abbrev pub handles_told : List ℕ → Place → Result (List Handle) Error
+handles_told body place =
+    load_told body place.offset place.size Index >>= λ block. Ok (handles_of block)
+
+-- the index: its top level where it has partitions, else the whole where it is to stay loaded
+abbrev pub index_told : List ℕ → ParsedRegions → Bool → Result PinnedIndex Error
+index_told body regions pin =
+    if is_some regions.index
+    then (handles_told body regions.tli >>= λ tops. Ok (two_level tops))
+    else (if pin then (handles_told body regions.tli >>= λ handles. Ok (full handles))
+    else Ok volatile)
+
+-- the top level of a filter, where it has one
+abbrev pub tops_told : List ℕ → Option Place → Result (Option (List Handle)) Error
+tops_told body None = Ok None
+tops_told body (Some place) = handles_told body place >>= λ tops. Ok (Some tops)
+
+-- the filter of the block at a place, where there is one
+abbrev pub filter_told : List ℕ → Option Place → Result (Option BloomFilter) Error
+filter_told body None = Ok None
+filter_told body (Some place) =
+    load_told body place.offset place.size Filter >>= λ block. Ok (Some (filter_in block.payload))
+
+-- where the filter's block lies that stays loaded: that of a full filter, where it is to stay
+abbrev pub pinned_filter : ParsedRegions → Bool → Option Place
+pinned_filter regions pin =
+    if pin && is_none regions.filter_tli then regions.filter else None
+
+-- the blocks that stay loaded, in the order in which their faults are told
+unfoldable pub pinned_told : List ℕ → ParsedRegions → Bool → Bool → Result Pinned Error
+pinned_told body regions pin_filter pin_index =
+    index_told body regions pin_index >>= λ index.
+    tops_told body regions.filter_tli >>= λ filter_tops.
+    filter_told body (pinned_filter regions pin_filter) >>= λ filter.
+    Ok (record { index = index; filter_tops = filter_tops; filter = filter })
 
 -- the highest number passes u64
 abbrev pub number_told : Facts → ℕ → Result Facts Error
@@ -43,18 +85,19 @@ fitting_told body place g = meta_told body place >>= λ facts. number_told facts
 abbrev pub places_told : List ℕ → Result ParsedRegions Error
 places_told bytes = regions_told (map (section_in bytes) section_names)
 
--- the regions, the meta block, the global number and the index, in this order
-unfoldable pub parts_told : List ℕ → ℕ → Result Parts Error
-parts_told bytes g =
+-- the regions, the meta block, the global number and what stays loaded, in this order
+unfoldable pub parts_told : List ℕ → ℕ → Bool → Bool → Result Parts Error
+parts_told bytes g pin_filter pin_index =
     places_told bytes >>= λ regions.
     meta_told (body_of bytes) regions.metadata >>= λ facts.
     number_told facts g >>= λ facts.
-    index_told (body_of bytes) regions >>= λ index.
-    Ok (record { facts = facts; regions = regions; index = index })
+    pinned_told (body_of bytes) regions pin_filter pin_index >>= λ pinned.
+    Ok (record { facts = facts; regions = regions; pinned = pinned })
 
 -- what opening some bytes tells: the trailer first
-abbrev pub recovered_told : List ℕ → ℕ → Result Parts Error
-recovered_told bytes g = unless (trailer_fault bytes) (parts_told bytes g)
+abbrev pub recovered_told : List ℕ → ℕ → Bool → Bool → Result Parts Error
+recovered_told bytes g pin_filter pin_index =
+    unless (trailer_fault bytes) (parts_told bytes g pin_filter pin_index)
 
 -- the fault of opening that is found before memory is taken: of the trailer, the regions, or the meta
 -- block up to its checksum
@@ -78,3 +121,14 @@ range_told bytes =
 abbrev pub place_size : Option Place → ℕ
 place_size None = 0
 place_size (Some p) = p.size
+
+-- the payload length of the filter that stays loaded, or 0 where none does
+abbrev pub filter_len : Option BloomFilter → ℕ
+filter_len None = 0
+filter_len (Some filter) = length (payload_of filter)
+
+-- that of the index block that stays loaded, by its place, or 0 where none does
+abbrev pub index_len : PinnedIndex → Place → ℕ
+index_len (full handles) tli = tli.size - header_len
+index_len volatile tli = 0
+index_len (two_level tops) tli = tli.size - header_len

@@ -1,8 +1,8 @@
 -- Reading some bytes: what it gives, and which blocks are loaded for it.
-use Rattle.std.specs.Prelude.{◌≡◌, ℕ, ◌<◌, Bool, false, List, [], ◌∷◌, ◌++◌, length, take, Option, None, Result, Ok, Err}
+use Rattle.std.specs.Prelude.{◌≡◌, ℕ, ◌<◌, ◌≤◌, Bool, false, List, [], ◌∷◌, ◌++◌, length, take, Option, None, Result, Ok, Err, IsOk}
 use Rattle.std.specs.Option.{option_or}
 use Rattle.sst_entries.specs.declared.error.Error.{Error}
-use Rattle.sst_entries.specs.Error.{is_memory}
+use Rattle.sst_entries.specs.Error.{FaultsFirst, Gives, is_memory}
 use Rattle.sst_blocks.specs.declared.block_type.BlockType.{BlockType}
 use Rattle.sst_blocks.specs.declared.opened.Opened.{Opened}
 use Rattle.sst_blocks.specs.Block.{Loaded, load_told, place_fault}
@@ -75,5 +75,14 @@ pub record Opens {X : Type 0} (r : Result X Error) (loads : List BlockType) (old
     : Type 0 where
   pub made : ℕ
   pub counts : new ≡ opened_by (take made loads) old
+  pub within : made ≤ length loads
   pub whole : wants_memory r ≡ false → made ≡ length loads
   pub some : 0 < length loads → 0 < made
+
+-- a call did a read: it answered what the read tells, memory aside, told an early fault first, and made
+-- its loads; without any it refuses nothing
+pub record DoesRead {X : Type 0} (r : Result X Error) (read : Read X) (old new : Opened) : Type 0 where
+  pub told : Gives (λ (x : X). x) r read.told
+  pub early : FaultsFirst r read.early
+  pub opens : Opens r read.loads old new
+  pub calm : read.loads ≡ [] → IsOk r

@@ -1,11 +1,12 @@
 -- An opened table without its memory.
-use Rattle.std.specs.Prelude.{◌≡◌, ℕ, ◌<◌, ◌^◌, List, length, Ok}
+use Rattle.std.specs.Prelude.{◌≡◌, ℕ, ◌<◌, ◌^◌, Bool, List, length, Ok}
 use Rattle.lsm_readers.specs.declared.inner.Inner.{Inner}
 use Rattle.lsm_readers.specs.declared.inner.PinnedBlockIndex.{PinnedBlockIndex}
-use Rattle.lsm_readers.specs.declared.inner.PinnedBlockIndex.TheVariants.{Full}
+use Rattle.lsm_readers.specs.declared.inner.PinnedBlockIndex.TheVariants.{Full, VolatileFull, TwoLevel}
+use Rattle.lsm_readers.specs.declared.inner.PinnedBlocks.{PinnedBlocks}
 use Rattle.lsm_readers.specs.declared.meta.ParsedMeta.{ParsedMeta}
 use Rattle.lsm_readers.specs.Meta.{Facts}
-use Rattle.lsm_readers.specs.Parts.{Parts, PinnedIndex, full, recovered_told}
+use Rattle.lsm_readers.specs.Parts.{Parts, Pinned, PinnedIndex, full, volatile, two_level, recovered_told}
 
 -- what a table says of itself
 abbrev pub facts_of : {A : Type 0} → ParsedMeta A → Facts
@@ -25,14 +26,28 @@ facts_of m = record {
   weak_tombstone_reclaimable = m.weak_tombstone_reclaimable;
 }
 
-abbrev pub pinned_of : {A : Type 0} → PinnedBlockIndex A → PinnedIndex
-pinned_of (Full index) = full index
+abbrev pub index_of : {A : Type 0} → PinnedBlockIndex A → PinnedIndex
+index_of (Full index) = full index
+index_of VolatileFull = volatile
+index_of (TwoLevel tops) = two_level tops
+
+-- which blocks stay loaded
+abbrev pub pinned_of : {A : Type 0} → PinnedBlocks A → Pinned
+pinned_of blocks = record {
+  index = index_of blocks.index;
+  filter_tops = blocks.filter_index;
+  filter = blocks.filter_block;
+}
 
 abbrev pub parts_of : {A : Type 0} → Inner A → Parts
 parts_of inner = record {
   facts = facts_of inner.metadata;
   regions = inner.regions;
-  index = pinned_of inner.pinned_block_index;
+  pinned = record {
+    index = index_of inner.pinned_block_index;
+    filter_tops = inner.pinned_filter_index;
+    filter = inner.pinned_filter_block;
+  };
 }
 
 -- its bytes, what it was opened with, and what it was recovered to
@@ -52,9 +67,11 @@ table_of bytes inner = record {
   parts = parts_of inner;
 }
 
--- the table was recovered from its bytes
-abbrev pub IsRecovered : OpenTable → Type 0
-IsRecovered t = recovered_told t.bytes t.global_seqno ≡ Ok t.parts
+-- the table was recovered from its bytes, whichever blocks were to stay loaded
+pub record IsRecovered (t : OpenTable) : Type 0 where
+  pub pin_filter : Bool
+  pub pin_index : Bool
+  pub told : recovered_told t.bytes t.global_seqno pin_filter pin_index ≡ Ok t.parts
 
 -- and its bytes are in memory
 pub record IsOpen (t : OpenTable) : Type 0 where

@@ -6,15 +6,22 @@ pub use Rattle.sst_entries.specs.Stream.{CanDeal, Deals, nowhere, answer_stops}
 pub use Rattle.sst_sections.specs.Fnv.{fnv1a}
 pub use Rattle.sst_sections.specs.Sections.{body_of}
 pub use Rattle.sst_blocks.specs.Block.{Loaded, load_at_told, load_told, place_fault, position_fault}
+pub use Rattle.sst_blocks.specs.Handle.{Handle}
 pub use Rattle.sst_blocks.specs.Opened.{with_load, none_opened}
 pub use Rattle.sst_blocks.specs.Place.{place_of}
+pub use Rattle.sst_filters.specs.Filter.{BloomFilter}
 pub use Rattle.lsm_ranges.specs.KeyRange.{key_bound, overlaps_bounds}
 pub use Rattle.lsm_files.specs.Table.{IsTable}
-pub use Rattle.lsm_readers.specs.Answer.{answer, lift, lifted, match_at, pinned_handle, table_answer}
-pub use Rattle.lsm_readers.specs.OfList.{ends_of, list_told, parts_said}
-pub use Rattle.lsm_readers.specs.Parts.{early_fault, early_in, fitting_told, index_told, number_told}
-pub use Rattle.lsm_readers.specs.Parts.{parts_told, places_told, recovered_told, place_size}
-pub use Rattle.lsm_readers.specs.Read.{Opens}
+pub use Rattle.lsm_block_indexes.specs.Kinds.{index_of as index_read}
+pub use Rattle.lsm_readers.specs.BlockIndexes.{table_index}
+pub use Rattle.lsm_readers.specs.Answer.{LoadsFew, admission, admitted_handle, answer, block_admits, filter_admits}
+pub use Rattle.lsm_readers.specs.Answer.{handle_at, handle_by, lift, lifted, match_at, table_answer}
+pub use Rattle.lsm_readers.specs.OfList.{SaysList, ends_of, list_told}
+pub use Rattle.lsm_readers.specs.Parts.{early_fault, early_in, filter_told, fitting_told, handles_told}
+pub use Rattle.lsm_readers.specs.Parts.{filter_len, index_len, index_told, number_told, parts_told}
+pub use Rattle.lsm_readers.specs.Parts.{pinned_told, place_size, places_told, recovered_told}
+pub use Rattle.lsm_readers.specs.Parts.{tops_told, volatile}
+pub use Rattle.lsm_readers.specs.Read.{DoesRead, Opens}
 pub use Rattle.lsm_readers.specs.Scan.{Scan, ScansList, ScansNext, TakesEntry, block_told, ended}
 pub use Rattle.lsm_readers.specs.Scan.{fault_of, lifted_told, scan_size, scan_told}
-pub use Rattle.lsm_readers.specs.Table.{IsOpen, IsRecovered, OpenTable, facts_of, parts_of, pinned_of}
+pub use Rattle.lsm_readers.specs.Table.{IsOpen, IsRecovered, OpenTable, facts_of, index_of, parts_of, pinned_of}

@@ -1,8 +1,8 @@
 //! What the handles of a table share, but for its bytes.
-use crate::block_index::FullBlockIndex;
 use crate::{ParsedMeta, ParsedRegions};
+use lsm_block_indexes::FullBlockIndex;
 use lsm_files::TreeId;
-use sst_blocks::{Checksum, SeqNo};
+use sst_blocks::{Checksum, FilterBlock, IndexBlock, SeqNo};
 use std::alloc::{Allocator, Global};
 
 /// What a table was recovered to. There is no way from here to the table's bytes.
@@ -20,6 +20,10 @@ pub struct Inner<A: Allocator = Global> {
     pub regions: ParsedRegions,
     /// What of the index stays loaded.
     pub pinned_block_index: PinnedBlockIndex<A>,
+    /// The top level of a filter with partitions.
+    pub pinned_filter_index: Option<IndexBlock<A>>,
+    /// The one block of a full filter, where it was to stay loaded.
+    pub pinned_filter_block: Option<FilterBlock<A>>,
 }
 
 /// What of a table's index stays loaded.
@@ -27,4 +31,16 @@ pub struct Inner<A: Allocator = Global> {
 pub enum PinnedBlockIndex<A: Allocator = Global> {
     /// The one block of a full index.
     Full(FullBlockIndex<A>),
+    /// Nothing: each read loads the one block of a full index.
+    VolatileFull,
+    /// The top level of an index with partitions, whose handles lead to them.
+    TwoLevel(IndexBlock<A>),
+}
+
+/// The blocks that stay loaded while a table is open.
+#[derive(Drop)]
+pub(crate) struct PinnedBlocks<A: Allocator = Global> {
+    pub(crate) index: PinnedBlockIndex<A>,
+    pub(crate) filter_index: Option<IndexBlock<A>>,
+    pub(crate) filter_block: Option<FilterBlock<A>>,
 }

@@ -1,7 +1,6 @@
 //! One sorted table: opening its bytes, point reads and scans.
 #![tactic(auto)]
 
-mod block_index;
 mod inner;
 mod meta;
 mod point;
@@ -9,8 +8,11 @@ mod regions;
 mod scanner;
 mod table;
 
-pub use block_index::FullBlockIndex;
 pub use inner::{Inner, PinnedBlockIndex};
+pub use lsm_block_indexes::{
+    BlockIndex, BlockIndexImpl, BlockIndexIter, BlockIndexIterImpl, FullBlockIndex,
+    OwnedIndexBlockIter, TwoLevelBlockIndex, VolatileBlockIndex,
+};
 pub use lsm_files::{GlobalTableId, TableId, Timestamp, TreeId};
 pub use meta::ParsedMeta;
 pub use point::point_in;

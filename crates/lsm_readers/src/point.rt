@@ -2,12 +2,15 @@
 ghost use Rattle.std.specs.Prelude.{◌≡◌, ◌+◌, ◌<◌, ◌^◌, Option, IfOk, IfErr};
 ghost use Rattle.std.specs.Option.{option_map};
 ghost use Rattle.sst_entries.specs.declared.error.Error.TheVariants.{OutOfMemory};
-ghost use Rattle.lsm_readers.specs.Words.{Entry, FaultsFirst, Gives, Opens, answer, with_load, fnv1a, lifted, match_at, parts_of, pinned_handle};
-ghost use Rattle.lsm_readers.specs.Words.{pinned_of, place_of, point};
-ghost use Rattle.sst_blocks.specs.declared.block_type.BlockType.TheVariants.{Data};
+ghost use Rattle.lsm_readers.specs.Words.{DoesRead, Entry, FaultsFirst, Gives, LoadsFew, Opens, admission};
+ghost use Rattle.lsm_readers.specs.Words.{admitted_handle, answer, block_admits, filter_admits};
+ghost use Rattle.lsm_readers.specs.Words.{fnv1a, handle_at, handle_by, lifted, match_at, parts_of, point};
 
 use crate::{Inner, PinnedBlockIndex};
-use sst_blocks::{BlockHandle, BlockType, DataBlock, Error, InternalValue, LoadBlocks, SeqNo};
+use sst_blocks::{
+    BlockHandle, BlockType, DataBlock, Error, FilterBlock, IndexBlock, InternalValue, LoadBlocks,
+    SeqNo,
+};
 use std::alloc::Allocator;
 
 // The entry with the global number added, which the caller has tested to fit.
@@ -20,17 +23,125 @@ fn lift<A: Allocator>(item: InternalValue<A>, global_seqno: SeqNo) -> InternalVa
     item
 }
 
-// Where the one data block lies that a read of a key below a stored number rests on.
-fn find_handle<A: Allocator>(
-    index: &PinnedBlockIndex<A>,
+// Whether the filter block at a place may have a hash.
+fn block_admits<S: LoadBlocks>(
+    source: &mut S,
+    handle: &BlockHandle,
+    key_hash: u64,
+) -> Result<bool, Error>
+    ensures read { let read = block_admits (S.body source.old) key_hash handle.now in
+        DoesRead result read (S.opened source.old) (S.opened source.new) }
+    ensures body { S.body source.new ≡ S.body source.old }
+{
+    let block = source.load(handle, BlockType::Filter)?;
+    Ok(FilterBlock::new(block).maybe_contains_hash(key_hash))
+}
+
+// Whether the filter may have a key of a hash.
+fn filter_admits<S: LoadBlocks>(
+    source: &mut S,
+    inner: &Inner<S::Alloc>,
+    key: &[u8],
+    key_hash: u64,
+) -> Result<bool, Error>
+    ensures read { let parts = parts_of inner.now in
+        let read = filter_admits (S.body source.old) parts.pinned.filter_tops
+        parts.pinned.filter parts.regions.filter key.now key_hash in
+        DoesRead result read (S.opened source.old) (S.opened source.new) }
+    ensures body { S.body source.new ≡ S.body source.old }
+{
+    if let Some(tops) = &inner.pinned_filter_index {
+        // The partition that was given the key, whatever the read's bound is.
+        return match tops.find(key, SeqNo::MAX) {
+            Some(handle) => block_admits(source, &handle, key_hash),
+            None => Ok(false),
+        };
+    }
+    match &inner.pinned_filter_block {
+        Some(filter) => Ok(filter.maybe_contains_hash(key_hash)),
+        None => match &inner.regions.filter {
+            Some(handle) => block_admits(source, handle, key_hash),
+            None => Ok(true),
+        },
+    }
+}
+
+// Whether a key may have an entry below a stored number.
+fn admission<S: LoadBlocks>(
+    source: &mut S,
+    inner: &Inner<S::Alloc>,
     key: &[u8],
     seqno: SeqNo,
-) -> Option<BlockHandle>
-    ensures { let handle = pinned_handle (pinned_of index.now) key.now seqno in
-        result ≡ option_map place_of handle }
+    key_hash: u64,
+) -> Result<bool, Error>
+    requires { key_hash ≡ fnv1a key.now }
+    ensures read { let parts = parts_of inner.now in
+        let read = admission (S.body source.old) parts key.now seqno in
+        DoesRead result read (S.opened source.old) (S.opened source.new) }
+    ensures body { S.body source.new ≡ S.body source.old }
 {
-    match index {
-        PinnedBlockIndex::Full(index) => index.inner().find(key, seqno),
+    if seqno <= inner.metadata.seqnos.0 {
+        return Ok(false);
+    }
+    filter_admits(source, inner, key, key_hash)
+}
+
+// Where the handle leads that the index block at a place has for a key below a stored number.
+fn handle_at<S: LoadBlocks>(
+    source: &mut S,
+    handle: &BlockHandle,
+    key: &[u8],
+    seqno: SeqNo,
+) -> Result<Option<BlockHandle>, Error>
+    ensures read { let read = handle_at (S.body source.old) key.now seqno handle.now in
+        DoesRead result read (S.opened source.old) (S.opened source.new) }
+    ensures body { S.body source.new ≡ S.body source.old }
+{
+    let block = source.load(handle, BlockType::Index)?;
+    Ok(IndexBlock::new(block).find(key, seqno))
+}
+
+// Where the first data block lies that reaches a key below a stored number.
+fn handle_for<S: LoadBlocks>(
+    source: &mut S,
+    inner: &Inner<S::Alloc>,
+    key: &[u8],
+    seqno: SeqNo,
+) -> Result<Option<BlockHandle>, Error>
+    ensures read { let parts = parts_of inner.now in
+        let read = handle_by (S.body source.old) parts.pinned.index parts.regions.tli key.now
+        seqno in
+        DoesRead result read (S.opened source.old) (S.opened source.new) }
+    ensures body { S.body source.new ≡ S.body source.old }
+{
+    match &inner.pinned_block_index {
+        PinnedBlockIndex::Full(index) => Ok(index.inner().find(key, seqno)),
+        PinnedBlockIndex::VolatileFull => handle_at(source, &inner.regions.tli, key, seqno),
+        PinnedBlockIndex::TwoLevel(tops) => match tops.find(key, seqno) {
+            Some(handle) => handle_at(source, &handle, key, seqno),
+            None => Ok(None),
+        },
+    }
+}
+
+// Where the one data block lies that a read of a key below a stored number rests on.
+fn admitted_handle<S: LoadBlocks>(
+    source: &mut S,
+    inner: &Inner<S::Alloc>,
+    key: &[u8],
+    seqno: SeqNo,
+    key_hash: u64,
+) -> Result<Option<BlockHandle>, Error>
+    requires { key_hash ≡ fnv1a key.now }
+    ensures read { let parts = parts_of inner.now in
+        let read = admitted_handle (S.body source.old) parts key.now seqno in
+        DoesRead result read (S.opened source.old) (S.opened source.new) }
+    ensures body { S.body source.new ≡ S.body source.old }
+{
+    if admission(source, inner, key, seqno, key_hash)? {
+        handle_for(source, inner, key, seqno)
+    } else {
+        Ok(None)
     }
 }
 
@@ -62,20 +173,17 @@ fn read_in<S: LoadBlocks>(
     seqno: SeqNo,
 ) -> Result<Option<InternalValue<S::Alloc>>, Error>
     requires { seqno + global_seqno < 2 ^ 64 }
-    ensures told { let read = match_at (S.body source.old) global_seqno key.now seqno handle in
-        Gives (λ (found : Option Entry). found) result read.told }
-    ensures early { let read = match_at (S.body source.old) global_seqno key.now seqno handle in
-        FaultsFirst result read.early }
+    ensures read { let read = match_at (S.body source.old) global_seqno key.now seqno handle in
+        DoesRead result read (S.opened source.old) (S.opened source.new) }
     ensures body { S.body source.new ≡ S.body source.old }
-    ensures counted { S.opened source.new ≡ with_load Data (S.opened source.old) }
 {
     let block = source.load(&handle, BlockType::Data)?;
     lifted_read(&DataBlock::new(block), global_seqno, key, seqno)
 }
 
-/// The first entry of a key numbered below `seqno`, its number with the global number added. One data block is loaded at
-/// most, and it is the source's only way to one: the first whose end reaches the key at that number. Refused with the first
-/// fault of loading it, and [`Error::OutOfMemory`].
+/// The first entry of a key numbered below `seqno`, its number with the global number added. The source is its only way to
+/// a block that is not pinned: at most one filter block is loaded, one index block, and one data block, the first whose end
+/// reaches the key at that number. Refused with the first fault of loading them, and [`Error::OutOfMemory`].
 pub fn point_in<S: LoadBlocks>(
     source: &mut S,
     inner: &Inner<S::Alloc>,
@@ -96,13 +204,11 @@ pub fn point_in<S: LoadBlocks>(
     ensures opened { let parts = parts_of inner.now in
         let read = answer (S.body source.old) inner.now.global_seqno parts key.now seqno in
         Opens result read.loads (S.opened source.old) (S.opened source.new) }
+    // These are few, also where memory is wanted.
+    ensures few { LoadsFew (parts_of inner.now) (S.opened source.old) (S.opened source.new) }
 {
-    let _ = key_hash;
     let low = seqno.saturating_sub(inner.global_seqno);
-    if low <= inner.metadata.seqnos.0 {
-        return Ok(None);
-    }
-    match find_handle(&inner.pinned_block_index, key, low) {
+    match admitted_handle(source, inner, key, low, key_hash)? {
         Some(handle) => read_in(source, handle, inner.global_seqno, key, low),
         None => Ok(None),
     }

@@ -1,21 +1,22 @@
 //! Tables: opening a table's bytes, and reading from them.
-ghost use Rattle.std.specs.Prelude.{◌≡◌, ◌+◌, ℕ, Bool, List, [], Option, Some, Result, Ok, Err, false, true, length, IfOk, IfErr, MatchResult};
-ghost use Rattle.lsm_readers.specs.Words.{Deals, CanDeal, Entry, Faults, FaultsFirst, Gives, IsOpen, IsRecovered, IsTable};
-ghost use Rattle.lsm_readers.specs.Words.{Loaded, OpenTable, Opens, Scan, ScansList, body_of, with_load, early_fault, early_in, ends_of};
-ghost use Rattle.lsm_readers.specs.Words.{facts_of, fault_of, fitting_told, fnv1a, index_told, key_bound, lift, list_told, load_at_told};
-ghost use Rattle.lsm_readers.specs.Words.{load_told, none_opened, nowhere, number_told, overlaps_bounds, parts_of, parts_said, parts_told};
-ghost use Rattle.lsm_readers.specs.Words.{pinned_of, place_fault, places_told, position_fault, point, recovered_told, scan_told, place_size, answer_stops};
-ghost use Rattle.lsm_readers.specs.Words.{table_answer, within};
+ghost use Rattle.std.specs.Prelude.{◌≡◌, ◌≢◌, ◌+◌, ℕ, Bool, List, [], Option, Some, Result, Ok, Err, false, true, length, IfOk, IfErr, MatchResult};
+ghost use Rattle.lsm_readers.specs.Words.{BloomFilter, CanDeal, Deals, Entry, Faults, FaultsFirst, Gives, Handle, IsOpen, IsRecovered, IsTable};
+ghost use Rattle.lsm_readers.specs.Words.{Loaded, LoadsFew, OpenTable, Opens, SaysList, Scan, ScansList, answer_stops, body_of, early_fault, early_in, ends_of};
+ghost use Rattle.lsm_readers.specs.Words.{facts_of, fault_of, filter_len, filter_told, fitting_told, fnv1a, handles_told, index_len, index_of, index_told, key_bound, lift};
+ghost use Rattle.lsm_readers.specs.Words.{list_told, load_at_told, load_told, none_opened, nowhere, number_told, overlaps_bounds, parts_of, parts_told};
+ghost use Rattle.lsm_readers.specs.Words.{index_read, pinned_of, pinned_told, place_fault, place_size, places_told, point, table_index};
+ghost use Rattle.lsm_readers.specs.Words.{position_fault, recovered_told, scan_told, table_answer, tops_told, volatile, with_load, within};
 ghost use Rattle.sst_blocks.specs.declared.block_type.BlockType.TheVariants.{Data, Index, Meta};
 ghost use Rattle.sst_entries.specs.declared.error.Error.{Error};
 ghost use Rattle.sst_entries.specs.declared.error.Error.TheVariants.{GlobalSeqNoTooLarge, OutOfMemory};
 
-use crate::block_index::FullBlockIndex;
+use crate::inner::PinnedBlocks;
 use crate::{Inner, ParsedMeta, ParsedRegions, PinnedBlockIndex, Scanner, point_in};
+use lsm_block_indexes::{BlockIndexImpl, FullBlockIndex, TwoLevelBlockIndex, VolatileBlockIndex};
 use lsm_files::{TableId, TreeId};
 use lsm_ranges::{KeyRange, Ranged};
 use sst_blocks::{
-    BlockHandle, BlockSource, BlockType, Checksum, Counted, Error, Header, IndexBlock,
+    BlockHandle, BlockSource, BlockType, Checksum, Counted, Error, FilterBlock, Header, IndexBlock,
     InternalValue, Opened, SeqNo, Slice, hash,
 };
 use std::alloc::{AllocError, Allocator, Global};
@@ -102,16 +103,93 @@ impl<A: Allocator> fmt::Debug for Table<A> {
     }
 }
 
-/// What of the index stays loaded: the whole of it, since each is full for now. Refused as [`BlockSource::load`].
+/// The handles of the index block at a place. Refused as [`BlockSource::load`].
+fn load_handles<A: Allocator + Clone>(
+    source: &BlockSource<A>,
+    handle: &BlockHandle,
+) -> Result<IndexBlock<A>, Error>
+    ensures { Gives (λ (handles : List Handle). handles) result
+        (handles_told (body_of source.now) handle.now) }
+{
+    let mut opened = Opened::none();
+    let block = source.load(handle, BlockType::Index, &mut opened)?;
+    Ok(IndexBlock::new(block))
+}
+
+/// What of the index stays loaded: the top level where it has partitions, else the whole where `pin_index` says so. Refused
+/// as [`BlockSource::load`].
 fn load_index<A: Allocator + Clone>(
     source: &BlockSource<A>,
     regions: &ParsedRegions,
+    pin_index: bool,
 ) -> Result<PinnedBlockIndex<A>, Error>
-    ensures { Gives pinned_of result (index_told (body_of source.now) regions.now) }
+    ensures { Gives index_of result (index_told (body_of source.now) regions.now pin_index) }
 {
+    if regions.index.is_some() {
+        return Ok(PinnedBlockIndex::TwoLevel(load_handles(source, &regions.tli)?));
+    }
+    if !pin_index {
+        return Ok(PinnedBlockIndex::VolatileFull);
+    }
+    let handles = load_handles(source, &regions.tli)?;
+    Ok(PinnedBlockIndex::Full(FullBlockIndex::new(handles)))
+}
+
+/// The top level of a filter, where it has one. Refused as [`BlockSource::load`].
+fn load_filter_index<A: Allocator + Clone>(
+    source: &BlockSource<A>,
+    handle: Option<BlockHandle>,
+) -> Result<Option<IndexBlock<A>>, Error>
+    ensures { Gives (λ (tops : Option (List Handle)). tops) result
+        (tops_told (body_of source.now) handle) }
+{
+    match handle {
+        None => Ok(None),
+        Some(handle) => Ok(Some(load_handles(source, &handle)?)),
+    }
+}
+
+/// The filter of the block at a place, where there is one. Refused as [`BlockSource::load`].
+fn load_filter<A: Allocator + Clone>(
+    source: &BlockSource<A>,
+    handle: Option<BlockHandle>,
+) -> Result<Option<FilterBlock<A>>, Error>
+    ensures { Gives (λ (filter : Option BloomFilter). filter) result
+        (filter_told (body_of source.now) handle) }
+{
+    let Some(handle) = handle else {
+        return Ok(None);
+    };
     let mut opened = Opened::none();
-    let block = source.load(&regions.tli, BlockType::Index, &mut opened)?;
-    Ok(PinnedBlockIndex::Full(FullBlockIndex::new(IndexBlock::new(block))))
+    let block = source.load(&handle, BlockType::Filter, &mut opened)?;
+    Ok(Some(FilterBlock::new(block)))
+}
+
+/// The blocks that stay loaded. Refused with the first fault of the index, of the filter's top level, and of the one block
+/// of a full filter that is to stay.
+#[tactic(auto, unfolding(crate::specs::Parts::pinned_told))]
+fn load_pinned<A: Allocator + Clone>(
+    source: &BlockSource<A>,
+    regions: &ParsedRegions,
+    pin_filter: bool,
+    pin_index: bool,
+) -> Result<PinnedBlocks<A>, Error>
+    ensures { Gives pinned_of result
+        (pinned_told (body_of source.now) regions.now pin_filter pin_index) }
+{
+    let index = load_index(source, regions, pin_index)?;
+    let filter_index = load_filter_index(source, regions.filter_tli)?;
+    let pinned = if pin_filter && regions.filter_tli.is_none() {
+        regions.filter
+    } else {
+        None
+    };
+    let filter_block = load_filter(source, pinned)?;
+    Ok(PinnedBlocks {
+        index,
+        filter_index,
+        filter_block,
+    })
 }
 
 /// Refused [`Error::GlobalSeqNoTooLarge`] alone, where the highest number and the global number pass `u64`.
@@ -147,8 +225,11 @@ fn recover_inner<A: Allocator + Clone>(
     checksum: Checksum,
     global_seqno: SeqNo,
     tree_id: TreeId,
+    pin_filter: bool,
+    pin_index: bool,
 ) -> Result<Inner<A>, Error>
-    ensures told { Gives parts_of result (parts_told source.now global_seqno) }
+    ensures told { Gives parts_of result
+        (parts_told source.now global_seqno pin_filter pin_index) }
     ensures early { FaultsFirst result (early_in (body_of source.now) (places_told source.now)) }
     ensures number { IfOk result (λ inner. inner.global_seqno ≡ global_seqno) }
     ensures tree { IfOk result (λ inner. inner.tree_id ≡ tree_id) }
@@ -156,23 +237,27 @@ fn recover_inner<A: Allocator + Clone>(
 {
     let regions = ParsedRegions::parse_from_toc(source.toc())?;
     let metadata = fitting_metadata(source, &regions.metadata, global_seqno)?;
-    let pinned_block_index = load_index(source, &regions)?;
+    let pinned = load_pinned(source, &regions, pin_filter, pin_index)?;
     Ok(Inner {
         tree_id,
         global_seqno,
         checksum,
         metadata,
         regions,
-        pinned_block_index,
+        pinned_block_index: pinned.index,
+        pinned_filter_index: pinned.filter_index,
+        pinned_filter_block: pinned.filter_block,
     })
 }
 
 impl<A: Allocator + Clone> Table<A> {
     /// Opens a table's bytes. Refused with the first fault, in this order: those of the trailer, the regions, the meta block
     /// and its items, [`Error::GlobalSeqNoTooLarge`] where the highest stored number plus `global_seqno` passes `u64`, and
-    /// those of loading the index; and [`Error::OutOfMemory`]. The checksum is kept, and not compared.
+    /// those of loading what stays loaded: the index, the filter's top level, then the filter; and [`Error::OutOfMemory`].
+    /// The checksum is kept, and not compared.
     ///
-    /// Every index is full for now and stays loaded, whatever the flags say, and no filter is read.
+    /// A top level stays loaded whatever the flags say, the one block of a full filter where `pin_filter` is set, and that of
+    /// a full index where `pin_index` is. What does not stay loaded is loaded by each read.
     pub fn recover(
         alloc: A,
         bytes: Slice<A>,
@@ -183,24 +268,30 @@ impl<A: Allocator + Clone> Table<A> {
         pin_index: bool,
     ) -> Result<Table<A>, Error>
         ensures told { Gives (λ (t : OpenTable). t.parts) result
-            (recovered_told bytes global_seqno) }
+            (recovered_told bytes global_seqno pin_filter pin_index) }
         // What is found before memory is taken is the refusal, whatever memory there is.
         ensures early { FaultsFirst result (early_fault bytes) }
         // A table of a list that readers read is opened where the highest number fits, and says of itself what the list says.
         ensures list { (es : List Entry) (t : IsTable bytes es) →
             t.options.index_block_restart_interval ≡ 1 →
-            Gives (λ (t : OpenTable). t.parts) result (list_told t global_seqno) }
+            Gives (λ (t : OpenTable). t.parts) result
+            (list_told t global_seqno pin_filter pin_index) }
         ensures bytes { IfOk result (λ t. t.bytes ≡ bytes) }
         ensures number { IfOk result (λ t. t.global_seqno ≡ global_seqno) }
         ensures tree { IfOk result (λ t. t.tree_id ≡ tree_id) }
         ensures checksum { IfOk result (λ t. t.checksum ≡ checksum.0) }
     {
-        let _ = pin_filter;
-        let _ = pin_index;
         // Faults of the bytes come before a refusal of the allocator.
         let kept: Result<A, AllocError> = alloc.clone();
         let source = BlockSource::new(alloc, bytes)?;
-        let inner = recover_inner(&source, checksum, global_seqno, tree_id)?;
+        let inner = recover_inner(
+            &source,
+            checksum,
+            global_seqno,
+            tree_id,
+            pin_filter,
+            pin_index,
+        )?;
         let shared = Arc::new(kept?, inner)?;
         Ok(Table {
             source,
@@ -229,6 +320,7 @@ impl<A: Allocator + Clone> Table<A> {
         ensures early { FaultsFirst result.0 (table_answer self.now key.now seqno).early }
         ensures opened { let loads = (table_answer self.now key.now seqno).loads in
             Opens result.0 loads none_opened result.1 }
+        ensures few { LoadsFew self.now.parts none_opened result.1 }
         ensures open { IsOpen self.now }
         // On a table of a list it is the first match in the list, its numbers lifted.
         ensures list { (es : List Entry) → IsTable self.now.bytes es →
@@ -242,8 +334,8 @@ impl<A: Allocator + Clone> Table<A> {
     }
 
     /// The first entry of a key numbered below `seqno`, its number with the global number added. `key_hash` is the key's
-    /// [`Table::key_hash`]. Refused with the first fault of loading the one data block that the read rests on, and
-    /// [`Error::OutOfMemory`]; nothing changes then.
+    /// [`Table::key_hash`]. Refused with the first fault of loading the blocks that the read rests on, at most one of the filter,
+    /// one of the index and one of data, and [`Error::OutOfMemory`]; nothing changes then.
     pub fn get(
         &self,
         key: &[u8],
@@ -299,11 +391,39 @@ impl<A: Allocator + Clone> Table<A> {
     }
 }
 
+impl<A: Allocator + Clone> Table<A> {
+    /// The index that [`Table::recover`] chose, over the table's bytes: the whole index that stays loaded, the one block that
+    /// each iterator loads, or partitions below the top level. Nothing is loaded. Refused [`Error::OutOfMemory`] alone.
+    pub fn block_index(&self) -> Result<BlockIndexImpl<A>, Error>
+        ensures index { IfOk result (λ index. index_read index ≡ table_index self.now) }
+        ensures err { IfErr result (λ e. e ≡ OutOfMemory) }
+    {
+        let inner: &Inner<A> = &self.inner;
+        let alloc = self.source.allocator();
+        match &inner.pinned_block_index {
+            PinnedBlockIndex::Full(index) => {
+                let handles = index.inner().clone()?;
+                Ok(BlockIndexImpl::Full(FullBlockIndex::new(handles)))
+            }
+            PinnedBlockIndex::VolatileFull => {
+                let (alloc, source) = (alloc.clone()?, self.source.clone()?);
+                let index = VolatileBlockIndex::new(alloc, source, inner.regions.tli);
+                Ok(BlockIndexImpl::VolatileFull(index))
+            }
+            PinnedBlockIndex::TwoLevel(tops) => {
+                let (alloc, source) = (alloc.clone()?, self.source.clone()?);
+                let index = TwoLevelBlockIndex::new(alloc, source, tops.clone()?);
+                Ok(BlockIndexImpl::TwoLevel(index))
+            }
+        }
+    }
+}
+
 impl<A: Allocator> Table<A> {
     /// A law, which does nothing: a table of a list says of itself what the list says, and its key range is the list's ends.
     pub fn tells_its_list(&self)
         ensures parts { (es : List Entry) (t : IsTable self.now.bytes es) →
-            self.now.parts ≡ parts_said t }
+            SaysList t self.now.parts }
         ensures range { (es : List Entry) → IsTable self.now.bytes es →
             ⟦<Table<A> as Ranged>⟧.range self.now ≡ ends_of es }
     {
@@ -359,21 +479,30 @@ impl<A: Allocator> Table<A> {
         self.inner.metadata.weak_tombstone_reclaimable
     }
 
-    /// The payload length of the filter block that stays loaded, in bytes: 0, since no filter is read.
+    /// The payload length of the filter block that stays loaded, in bytes, or 0 where none does. The top level of a filter with
+    /// partitions does not count.
     pub fn pinned_filter_size(&self) -> usize
-        ensures { result ≡ 0 }
+        ensures { result ≡ filter_len self.now.parts.pinned.filter }
     {
-        0
+        match &self.inner.pinned_filter_block {
+            Some(filter) => filter.size(),
+            None => 0,
+        }
     }
 
-    /// The payload length of the index block that stays loaded, in bytes.
+    /// The payload length of the index block that stays loaded, the whole or the top level, in bytes, or 0 where none does.
     pub fn pinned_block_index_size(&self) -> usize
-        ensures size { result + 24 ≡ self.now.parts.regions.tli.size }
-        ensures payload { (b : Loaded) → let tli = self.now.parts.regions.tli in
-            load_told (body_of self.now.bytes) tli.offset tli.size Index ≡ Ok b →
-            result ≡ length b.payload }
+        ensures size { let parts = self.now.parts in
+            result ≡ index_len parts.pinned.index parts.regions.tli }
+        ensures payload { (b : Loaded) → let parts = self.now.parts in
+            load_told (body_of self.now.bytes) parts.regions.tli.offset parts.regions.tli.size Index
+            ≡ Ok b → parts.pinned.index ≢ volatile → result ≡ length b.payload }
     {
-        self.inner.regions.tli.size() as usize - Header::serialized_len()
+        let inner: &Inner<A> = &self.inner;
+        match &inner.pinned_block_index {
+            PinnedBlockIndex::VolatileFull => 0,
+            _ => inner.regions.tli.size() as usize - Header::serialized_len(),
+        }
     }
 
     /// Whether the key range that the table says reaches past both bounds. On a table of a list, where it does not, no key of

@@ -56,11 +56,11 @@ module _ (label : Label) (es : List Entry) (g : ℕ) where
       or_fine (list_fault label es) (number_fault es g) fine (rw (none, low) refl)
 
   module _ (bytes : List ℕ) (t : IsTable bytes es) (written : list_fault label es ≡ None) where
-    pub opens : (parts : Parts) → list_told t g ≡ Ok parts → opening_fault label es g ≡ None
-    opens parts told = or_fine (list_fault label es) (number_fault es g) written (fine_by (ltb (2 ^ 64 - 1) (highest_seqno es + g)) (parts_said t) parts told)
+    pub opens : (parts : Parts) → list_told t g true true ≡ Ok parts → opening_fault label es g ≡ None
+    opens parts told = or_fine (list_fault label es) (number_fault es g) written (fine_by (ltb (2 ^ 64 - 1) (highest_seqno es + g)) (parts_said t true true) parts told)
 
-    pub unopened : (e : Error) → list_told t g ≡ Err e → opening_fault label es g ≡ Some e
-    unopened e told = or_second (list_fault label es) (number_fault es g) e written (fault_by (ltb (2 ^ 64 - 1) (highest_seqno es + g)) (parts_said t) e told)
+    pub unopened : (e : Error) → list_told t g true true ≡ Err e → opening_fault label es g ≡ Some e
+    unopened e told = or_second (list_fault label es) (number_fault es g) e written (fault_by (ltb (2 ^ 64 - 1) (highest_seqno es + g)) (parts_said t true true) e told)
 
 -- what was opened
 pub opened : (label : Label) (es : List Entry) (g id sum : ℕ) (bytes : List ℕ) (t : OpenTable) → IsTableOf label es id sum bytes → t.bytes ≡ bytes → t.global_seqno ≡ g → t.tree_id ≡ 0 → t.checksum ≡ sum → IsOpened label es g t

@@ -1,16 +1,11 @@
 -- A finished table: its index, its meta block and its sections.
-use Rattle.std.proofs.Common.{◌≡◌, refl, sym, ◌∙◌, ap, subst, ℕ, ◌+◌, ◌*◌, ◌<◌, ◌≤◌, Bool, true, false, List, [], ◌∷◌, ◌++◌, length, take, arith, length-append, ◌^◌, inl, inr}
-use Rattle.std.specs.Prelude.{None, unwrap_or, sum_by}
-use Rattle.std.specs.List.{AllByRecursion, flat_map}
-use Rattle.std.proofs.lemmas.Bool.{cases_lt, le-ltb}
+use Rattle.std.proofs.Common.{◌≡◌, refl, sym, ◌∙◌, ap, subst, ℕ, ◌*◌, ◌<◌, ◌≤◌, Bool, true, false, List, [], ◌∷◌, ◌++◌, length, take, append_assoc, arith, length-append}
+use Rattle.std.specs.Prelude.{Option, None, unwrap_or}
+use Rattle.std.specs.List.{AllByRecursion}
 use Rattle.std.proofs.lemmas.List.{append-nil, nil_from_length}
 use Rattle.std.proofs.lemmas.List.Sums.{sum_by-cons}
 use Rattle.sst_sections.specs.declared.version.TableVersion.TheVariants.{V4}
-use Rattle.sst_blocks.specs.Bounds.{index_block_bound_of, handle_bound}
-use Rattle.sst_blocks.specs.Handle.{Handle}
-use Rattle.sst_blocks.specs.Handles.{handle_spelled, handles_payload}
-use Rattle.sst_blocks.proofs.HandleFaults.{spelled_sum}
-use Rattle.sst_blocks.specs.Encoding.{is_long_key, key_fault, entries_fault, large_fault}
+use Rattle.sst_blocks.specs.Encoding.{entries_fault}
 use Rattle.sst_entries.specs.declared.value_type.ValueType.TheVariants.{Value}
 use Rattle.sst_entries.specs.Entry.{Entry, entry}
 use Rattle.sst_sections.specs.Fnv.{fnv1a}
@@ -22,31 +17,40 @@ use Rattle.lsm_files.specs.Chunks.{joined, entry_size, entries_size, is_full, Ar
 use Rattle.lsm_writers.specs.Counts.{metadata_of, counted_facts, counted_items, HasShortKeys}
 use Rattle.lsm_writers.specs.Cut.{rest_chunk}
 use Rattle.lsm_files.specs.Facts.{ListFacts, first_key, last_key}
-use Rattle.lsm_files.proofs.BlockLengths.{length-block}
-use Rattle.lsm_files.proofs.KindLemmas.{sections_are, plain_is_content, index_part_is, filter_part_is}
-use Rattle.lsm_files.specs.Partitions.{handles_block}
-use Rattle.lsm_files.specs.Plain.{IsPlain, plain_content}
-use Rattle.sst_blocks.specs.declared.block_type.BlockType.TheVariants.{Index}
-use Rattle.lsm_files.specs.File.{counted_blocks, file, version_section, meta_section}
-use Rattle.lsm_files.specs.Layout.{Sections, laid, appended}
+use Rattle.lsm_files.proofs.KindLemmas.{index_parts_are, filter_parts_are}
+use Rattle.lsm_files.specs.Content.{Content}
+use Rattle.lsm_files.specs.File.{IsContent, counted_blocks, file, filter_part, front_sections, index_part, meta_section, version_section}
+use Rattle.lsm_files.specs.Filters.{AreFiltersFor, filtered_keys}
+use Rattle.lsm_files.specs.Kinds.{AreFilterParts, filter_count, filter_sections, index_parts, index_sections}
+use Rattle.lsm_files.specs.Layout.{Sections, bytes_in, laid, appended}
+use Rattle.lsm_files.specs.Parts.{parts_after}
+use Rattle.lsm_files.specs.declared.options.FilterKind.{FilterKind}
+use Rattle.lsm_filter_writers.specs.declared.either.FilterWriterImpl.{FilterWriterImpl}
+use Rattle.lsm_writers.specs.Filtering.{IsFiltered, MayHaveKeys}
+use Rattle.lsm_files.specs.declared.options.IndexKind.{IndexKind}
+use Rattle.lsm_files.specs.declared.options.IndexKind.TheVariants.{Full as FullIndex, Partitioned as PartitionedIndex}
+use Rattle.lsm_index_writers.specs.Refusing.{index_fault, parts_fault}
+use Rattle.lsm_filter_writers.specs.Writing.{WritesFilter}
+use Rattle.sst_filters.specs.Filter.{BloomFilter}
+use Rattle.sst_filters.specs.declared.policy.BloomConstructionPolicy.{BloomConstructionPolicy}
 use Rattle.sst_sections.specs.Sections.{Written, finished}
 use Rattle.sst_sections.specs.declared.section.SectionName.TheVariants.{Data}
 use Rattle.lsm_writers.proofs.Laying.{laid_more}
 use Rattle.lsm_files.specs.ItemName.{name_of}
-use Rattle.lsm_files.specs.Kinds.{full_index, filter_count}
-use Rattle.lsm_files.specs.Fits.{EntryFits, BlockFits, LabelFits, SectionFits, Fits}
+use Rattle.lsm_files.specs.Fits.{BlockFits, EntryFits, LabelFits, SectionFits}
 use Rattle.lsm_writers.specs.Held.{IsShortest, IsHeld}
-use Rattle.lsm_files.specs.Index.{data_section, handles, handles_from, last_entry, block_size}
+use Rattle.sst_blocks.specs.Handle.{Handle}
+use Rattle.lsm_files.specs.Index.{data_section, handles, last_entry}
 use Rattle.lsm_files.specs.MetaBlock.{Blocks, meta_items, meta_entries}
 use Rattle.lsm_files.specs.declared.options.Options.{Options}
 use Rattle.lsm_files.specs.declared.label.Label.{Label}
 use Rattle.lsm_files.specs.Failed.{failed_fault}
-use Rattle.lsm_writers.specs.Registered.{Registered, full_index_fault}
-use Rattle.lsm_writers.specs.Writing.{Writing, written, spilled, blocks_of, spills_of, finish_fault, IsFinished}
+use Rattle.lsm_writers.specs.Writing.{Writing, written, spilled, blocks_of, content_of, keys_of_parts, spills_of, sections_fault, finish_fault, IsFinished, WritesTable}
 use Rattle.lsm_writers.proofs.Chunking.{are_chunks}
 use Rattle.sst_entries.proofs.Lists.{all_more, all_behind, all_front}
 use Rattle.lsm_writers.proofs.Orders.{last_of_cons}
-use Rattle.lsm_writers.proofs.Taking.{no_fault, large_is}
+use Rattle.lsm_writers.proofs.Filtered.{no_keys, no_filter_fault}
+use Rattle.lsm_writers.proofs.Taking.{no_fault}
 
 -- ---- the index
 
@@ -55,48 +59,27 @@ unfolding last_of
 last_all P e [] h = h.0
 last_all P e (f ∷ es) h = last_all P f es h.1
 
-short_keys_from : (size : ℕ) (at : ℕ) (cs : List (List Entry)) → AllByRecursion (IsShortest size) cs → AllByRecursion (EntryFits V4) (joined cs) → key_fault (handles_from V4 at cs) ≡ None
-short_keys_from size at [] some h = refl
-short_keys_from size at ([] ∷ cs) some h = absurd (omega (arith, some.0.some))
-short_keys_from size at ((e ∷ es) ∷ cs) some h =
-    let c = e ∷ es in
-    let key : is_long_key (last_entry c).user_key ≡ false = le-ltb _ _ (last_all (EntryFits V4) e es (all_front (EntryFits V4) c (joined cs) h)).key in
-    rw key (short_keys_from size (at + block_size V4 c) cs some.1 (all_behind (EntryFits V4) c (joined cs) h))
-
-pub short_keys : (size : ℕ) (cs : List (List Entry)) → AllByRecursion (IsShortest size) cs → AllByRecursion (EntryFits V4) (joined cs) → key_fault (handles V4 cs) ≡ None
-short_keys size cs some h = short_keys_from size 0 cs some h
-
 -- without entries there are no chunks
 pub no_chunks : (size : ℕ) (cs : List (List Entry)) → AllByRecursion (IsShortest size) cs → length (joined cs) ≡ 0 → cs ≡ []
 no_chunks size [] some h = refl
 no_chunks size (c ∷ cs) some h = absurd (omega (arith, h, length-append c (joined cs), some.0.some))
 
-pub no_index_fault : (cs : List (List Entry)) → cs ≡ [] → large_fault (index_block_bound_of (handles V4 cs)) ≡ None
-no_index_fault cs h = rw h refl
+no_kind_fault : (k : IndexKind) → index_fault k false [] ≡ None
+unfolding parts_after parts_fault
+no_kind_fault FullIndex = refl
+no_kind_fault (PartitionedIndex size) = refl
 
--- the block of the handles is as long as its bound says
-payload_len : (hs : List Handle) → length (handles_payload V4 hs) ≡ 4 + sum_by handle_bound hs
-unfolding handles_payload
-payload_len hs = omega (arith, spelled_sum hs, wide4.len (length hs), length-append (le4 (length hs)) (flat_map (handle_spelled V4) hs))
-
-not_large : (n : ℕ) → large_fault n ≡ None → n < 2 ^ 32
-not_large n h = elim (cases_lt n (2 ^ 32)) [
-  | inl lt ↦ lt
-  | inr le ↦ let no = sym (large_is n le) ∙ h in absurd cc
-]
-
-pub index_fits : (hs : List Handle) → large_fault (index_block_bound_of hs) ≡ None → 24 + length (handles_payload V4 hs) < 2 ^ 32
-index_fits hs h = omega (arith, not_large (index_block_bound_of hs) h, payload_len hs)
-
-full_short : (hs : List Handle) → large_fault (index_block_bound_of hs) ≡ None → length (handles_block V4 hs) < 2 ^ 32
-full_short hs h = omega (arith, length-block V4 Index (handles_payload V4 hs), index_fits hs h)
+-- nothing is refused where there are no blocks
+pub nothing_refused : (w : Writing) → w.cut ≡ [] → sections_fault w ≡ None
+nothing_refused w h =
+    rw (h, no_kind_fault w.options.index_kind, no_keys w.options.bloom_policy, no_filter_fault w.options.filter_kind w.options.bloom_policy) refl
 
 -- ---- the meta block
 
-same_items : {A : Type 0} (label : Label) (options : Options) (m : Metadata A) (cs : List (List Entry)) (i f : ℕ) → i ≡ 1 → f ≡ filter_count options.filter_kind [] → m ≡ metadata_of V4 cs []
-    → counted_items label options (record { index = i; filter = f }) m ≡ meta_entries V4 label options cs (counted_blocks options (plain_content V4 cs))
+same_items : {A : Type 0} (label : Label) (options : Options) (m : Metadata A) (cs : List (List Entry)) (fs : List BloomFilter) (i f : ℕ) → i ≡ length (index_parts options.index_kind (handles V4 cs)) → f ≡ filter_count options.filter_kind fs → m ≡ metadata_of V4 cs []
+    → counted_items label options (record { index = i; filter = f }) m ≡ meta_entries V4 label options cs (counted_blocks options (content_of options cs fs))
 unfolding counted_items
-same_items label options m cs i f one filter h = rw (h, append-nil (joined cs), one, filter) refl
+same_items label options m cs fs i f index filter h = rw (h, append-nil (joined cs), index, filter) refl
 
 items_strict : (label : Label) (options : Options) (counted : Blocks) (f : ListFacts) (a b d : ℕ) → IsStrict (meta_items V4 label options counted f a b d)
 unfolding IsStrictAfter name_of
@@ -246,35 +229,82 @@ unfolding counted_items
 counted_fit label options counts m h = items_fit label options counts (counted_facts m) m.data_block_count m.file_pos.0 m.uncompressed_size h.last h.first
 
 -- the phases of finishing leave the sections of a table
-pub phases : {A : Type 0} (label : Label) (options : Options) (plain : IsPlain options) (cs : List (List Entry)) (m : Metadata A) (i f : ℕ) (index : Registered) (first indexed versioned whole : Written)
-    → first ≡ laid ((Data, data_section V4 cs) ∷ []) → index ≡ record { handles = handles V4 cs; failed = false } → indexed ≡ appended first (full_index V4 index.handles) → versioned ≡ appended indexed (version_section V4)
-    → whole ≡ appended versioned (meta_section V4 (counted_items label options (record { index = i; filter = f }) m))
-    → i ≡ 1 → f ≡ filter_count options.filter_kind [] → m ≡ metadata_of V4 cs [] → finished whole ≡ file V4 label options (plain_content V4 cs)
-phases label options plain cs m i f index first indexed versioned whole d r x v w one filter h =
-    let full = full_index V4 (handles V4 cs) in
-    let items = counted_items label options (record { index = i; filter = f }) m in
-    let front : Sections = (Data, data_section V4 cs) ∷ [] in
-    let with_index : Sections = front ++ full in
-    let with_version : Sections = with_index ++ version_section V4 in
-    let x' : indexed ≡ appended first full = x ∙ ap (λ (reg : Registered). appended first (full_index V4 reg.handles)) r in
-    let laid_index : indexed ≡ laid with_index = x' ∙ ap (λ (y : Written). appended y full) d ∙ laid_more front full in
-    let laid_version : versioned ≡ laid with_version = v ∙ ap (λ (y : Written). appended y (version_section V4)) laid_index ∙ laid_more with_index (version_section V4) in
-    let laid_meta : whole ≡ laid (with_version ++ meta_section V4 items) = w ∙ ap (λ (y : Written). appended y (meta_section V4 items)) laid_version ∙ laid_more with_version (meta_section V4 items) in
-    ap finished laid_meta
-    ∙ ap (λ (xs : List Entry). finished (laid (with_version ++ meta_section V4 xs))) (same_items label options m cs i f one filter h)
-    ∙ ap (λ (ss : Sections). finished (laid ss)) (sym (sections_are V4 label options cs plain))
+module _ {A : Type 0} (label : Label) (options : Options) (cs : List (List Entry)) (fs : List BloomFilter) (m : Metadata A) (i f : ℕ) (first indexed filtered versioned whole : Written) where
+  abbrev content : Content
+  content = content_of options cs fs
 
--- a full index that has not failed refuses what is too large alone
-pub index_refuses : (cs : List (List Entry)) (index : Registered) → index ≡ record { handles = handles V4 cs; failed = false } → key_fault (handles V4 cs) ≡ None → full_index_fault index ≡ large_fault (index_block_bound_of (handles V4 cs))
-index_refuses cs index is short = rw (is, short) refl
+  abbrev data_part : Sections
+  data_part = (Data, data_section V4 cs) ∷ []
+
+  abbrev items : List Entry
+  items = counted_items label options (record { index = i; filter = f }) m
+
+  pub laid_index : first ≡ laid data_part → indexed ≡ appended first (index_sections options.index_kind V4 (length first.bytes) (handles V4 cs) (index_parts options.index_kind (handles V4 cs)))
+      → indexed ≡ laid (front_sections V4 options content)
+  laid_index d x =
+      let n : length first.bytes ≡ length (data_section V4 cs) = ap (λ (y : Written). length y.bytes) d ∙ ap length (append-nil (data_section V4 cs)) in
+      x ∙ ap (λ (at : ℕ). appended first (index_sections options.index_kind V4 at (handles V4 cs) (index_parts options.index_kind (handles V4 cs)))) n
+      ∙ ap (λ (y : Written). appended y (index_part V4 options content)) d
+      ∙ laid_more data_part (index_part V4 options content)
+
+  pub laid_filter : indexed ≡ laid (front_sections V4 options content) → filtered ≡ appended indexed (filter_sections options.filter_kind V4 (length indexed.bytes) content.keys fs)
+      → filtered ≡ laid (front_sections V4 options content ++ filter_part V4 options content)
+  laid_filter l z =
+      let front = front_sections V4 options content in
+      let n : length indexed.bytes ≡ length (bytes_in front) = ap (λ (y : Written). length y.bytes) l in
+      z ∙ ap (λ (at : ℕ). appended indexed (filter_sections options.filter_kind V4 at content.keys fs)) n
+      ∙ ap (λ (y : Written). appended y (filter_part V4 options content)) l
+      ∙ laid_more front (filter_part V4 options content)
+
+  pub phases : filtered ≡ laid (front_sections V4 options content ++ filter_part V4 options content) → versioned ≡ appended filtered (version_section V4)
+      → whole ≡ appended versioned (meta_section V4 items) → i ≡ length (index_parts options.index_kind (handles V4 cs)) → f ≡ filter_count options.filter_kind fs → m ≡ metadata_of V4 cs []
+      → finished whole ≡ file V4 label options content
+  phases l v w index filter h =
+      let front = front_sections V4 options content in
+      let part = filter_part V4 options content in
+      let meta = meta_section V4 items in
+      let with_filter : Sections = front ++ part in
+      let with_version : Sections = with_filter ++ version_section V4 in
+      let laid_version : versioned ≡ laid with_version = v ∙ ap (λ (y : Written). appended y (version_section V4)) l ∙ laid_more with_filter (version_section V4) in
+      let laid_meta : whole ≡ laid (with_version ++ meta) = w ∙ ap (λ (y : Written). appended y meta) laid_version ∙ laid_more with_version meta in
+      let order : with_version ++ meta ≡ with_filter ++ (version_section V4 ++ meta) = append_assoc with_filter (version_section V4) meta in
+      ap finished laid_meta
+      ∙ ap (λ (ss : Sections). finished (laid ss)) order
+      ∙ ap (λ (xs : List Entry). finished (laid (with_filter ++ (version_section V4 ++ meta_section V4 xs)))) (same_items label options m cs fs i f index filter h)
+
+-- the phases, from what their calls ensure
+pub writes_table : {A : Type 0} (w : Writing) (m : Metadata A) (i f : ℕ) (first indexed filtered versioned whole : Written) (kind : IndexKind) (hs : List Handle) (bytes : List ℕ)
+    → kind ≡ w.options.index_kind → first ≡ laid ((Data, data_section V4 w.cut) ∷ []) → hs ≡ handles V4 w.cut
+    → indexed ≡ appended first (index_sections kind V4 (length first.bytes) hs (index_parts kind hs))
+    → AllByRecursion SectionFits (index_sections kind V4 (length first.bytes) hs (index_parts kind hs))
+    → i ≡ length (index_parts kind hs)
+    → WritesFilter w.options.filter_kind w.options.bloom_policy (filtered_keys w.options.bloom_policy (joined w.cut)) indexed filtered f
+    → versioned ≡ appended filtered (version_section V4)
+    → whole ≡ appended versioned (meta_section V4 (counted_items w.label w.options (record { index = i; filter = f }) m))
+    → m ≡ metadata_of V4 w.cut [] → AllByRecursion (BlockFits V4) w.cut → bytes ≡ finished whole → WritesTable w bytes
+writes_table w m i f first indexed filtered versioned whole kind hs bytes k d h x xf count t v e held blocks done =
+    let fs = t.filters in
+    let c = content_of w.options w.cut fs in
+    let at : length first.bytes ≡ length (data_section V4 w.cut) = ap (λ (y : Written). length y.bytes) d ∙ ap length (append-nil (data_section V4 w.cut)) in
+    let indexed_is : indexed ≡ appended first (index_sections w.options.index_kind V4 (length first.bytes) (handles V4 w.cut) (index_parts w.options.index_kind (handles V4 w.cut))) = rw (sym k, sym h) x in
+    let laid_i = laid_index w.label w.options w.cut fs m i f first indexed filtered versioned whole d indexed_is in
+    let front : length indexed.bytes ≡ length (bytes_in (front_sections V4 w.options c)) = ap (λ (y : Written). length y.bytes) laid_i in
+    let laid_f = laid_filter w.label w.options w.cut fs m i f first indexed filtered versioned whole laid_i t.written in
+    let counted : i ≡ length (index_parts w.options.index_kind (handles V4 w.cut)) = rw (sym k, sym h) count in
+    let file_is = phases w.label w.options w.cut fs m i f first indexed filtered versioned whole laid_f v e counted t.counted held in
+    record {
+      filters = fs;
+      are_filters = t.are;
+      are = done ∙ file_is;
+      blocks = blocks;
+      index = rw (sym k, sym h) (subst (λ (n : ℕ). AllByRecursion SectionFits (index_sections kind V4 n hs (index_parts kind hs))) at xf);
+      filter = subst (λ (n : ℕ). AllByRecursion SectionFits (filter_sections w.options.filter_kind V4 n c.keys fs)) front t.fit;
+    }
 
 -- ---- a writer that has nothing pending
 
 pub none_pending : {A : Type 0} (size : ℕ) (cs : List (List Entry)) (pending : List Entry) (n : ℕ) (m : Metadata A) → IsHeld size cs pending n m → pending ≡ [] → IsHeld size cs [] n m
 none_pending size cs pending n m h e = subst (λ (p : List Entry). IsHeld size cs p n m) e h
-
-pub held_keys : {A : Type 0} (size : ℕ) (cs : List (List Entry)) (n : ℕ) (m : Metadata A) → IsHeld size cs [] n m → key_fault (handles V4 cs) ≡ None
-held_keys size cs n m h = short_keys size cs h.shortest (all_front (EntryFits V4) (joined cs) [] h.fits)
 
 pub held_short : {A : Type 0} (size : ℕ) (cs : List (List Entry)) (n : ℕ) (m : Metadata A) → IsHeld size cs [] n m → HasShortKeys m
 held_short size cs n m h = record {
@@ -317,10 +347,10 @@ works_still false h = refl
 pub no_finish_fault : {A : Type 0} (w : Writing) (n : ℕ) (m : Metadata A) → IsHeld w.options.data_block_size (blocks_of w) [] n m → failed_fault w.failed ≡ None → m.item_count ≡ 0 → finish_fault w ≡ None
 no_finish_fault w n m h f none =
     let cs = blocks_of w in
-    rw (works_still w.failed f) (no_index_fault cs (no_chunks w.options.data_block_size cs h.shortest (no_entries _ cs n m h none)))
+    rw (works_still w.failed f) (nothing_refused (spilled w) (no_chunks w.options.data_block_size cs h.shortest (no_entries _ cs n m h none)))
 
-pub index_fault_is : (w v : Writing) → v ≡ spilled w → failed_fault w.failed ≡ None → large_fault (index_block_bound_of (handles V4 v.cut)) ≡ finish_fault w
-index_fault_is w v e f = rw (works_still w.failed f) (ap (λ (x : Writing). large_fault (index_block_bound_of (handles V4 x.cut))) e)
+pub sections_fault_is : (w v : Writing) → v ≡ spilled w → failed_fault w.failed ≡ None → sections_fault v ≡ finish_fault w
+sections_fault_is w v e f = rw (works_still w.failed f) (ap sections_fault e)
 
 written_all : (w : Writing) → AllByRecursion (IsShortest w.options.data_block_size) (blocks_of w) → joined (blocks_of w) ++ [] ≡ written w
 written_all w h = append-nil (joined (blocks_of w)) ∙ (all_written w h).whole
@@ -331,40 +361,41 @@ written_strict w n m h = subst (λ (es : List Entry). IsStrict es) (written_all 
 pub written_fits : {A : Type 0} (w : Writing) (n : ℕ) (m : Metadata A) → IsHeld w.options.data_block_size (blocks_of w) [] n m → AllByRecursion (EntryFits V4) (written w)
 written_fits w n m h = subst (λ (es : List Entry). AllByRecursion (EntryFits V4) es) (written_all w h.shortest) h.fits
 
--- a table with a full index and without filters fits where its blocks do
-plain_fits : (label : Label) (options : Options) (cs : List (List Entry)) → IsPlain options → AllByRecursion (EntryFits V4) (joined cs) → AllByRecursion (BlockFits V4) cs → large_fault (index_block_bound_of (handles V4 cs)) ≡ None → LabelFits label
-    → Fits V4 label options (plain_content V4 cs)
-plain_fits label options cs plain entries blocks index l =
-    let short : AllByRecursion SectionFits (full_index V4 (handles V4 cs)) = (record { short = full_short (handles V4 cs) index }, tt) in
-    record {
-      entries = entries;
-      blocks = blocks;
-      index = subst (AllByRecursion SectionFits) (sym (index_part_is V4 options cs plain)) short;
-      filter = subst (AllByRecursion SectionFits) (sym (filter_part_is V4 options cs plain)) tt;
-      label_fits = l;
-    }
+-- what the table of a list of chunks holds is what a table of the list holds
+content_is : (options : Options) (spills : List ℕ) (es : List Entry) (cs : List (List Entry)) (fs : List BloomFilter) → AreChunks options.data_block_size spills es cs → AreFiltersFor options.bloom_policy (keys_of_parts options cs) fs
+    → IsContent V4 options spills es (content_of options cs fs)
+content_is options spills es cs fs h are = record {
+  chunks = h;
+  index = index_parts_are options.index_kind (handles V4 cs);
+  keys =
+      subst (λ (xs : List Entry). AreFilterParts options.filter_kind options.bloom_policy (filtered_keys options.bloom_policy xs) (keys_of_parts options cs)) h.whole
+      (filter_parts_are options.filter_kind options.bloom_policy (filtered_keys options.bloom_policy (joined cs)));
+  filters = are;
+}
 
 pub finished_is : {A : Type 0} (w : Writing) (n : ℕ) (m : Metadata A) (id checksum : ℕ) (bytes : List ℕ) → IsHeld w.options.data_block_size (blocks_of w) [] n m → (m.item_count ≡ 0 → ⊥)
-    → id ≡ w.label.table_id → checksum ≡ fnv1a bytes → bytes ≡ file V4 w.label w.options (plain_content V4 (blocks_of w)) → IsPlain w.options
-    → LabelFits w.label → AllByRecursion (BlockFits V4) (blocks_of w) → large_fault (index_block_bound_of (handles V4 (blocks_of w))) ≡ None → IsFinished w id checksum bytes
-finished_is {A} w n m id checksum bytes h some i s b plain label blocks index =
-    let chunks = all_written w h.shortest in
-    record {
-      some = written_some w n m h some;
-      id_is = i;
-      checksum_is = s;
-      table = record {
-        label = w.label;
-        options = w.options;
-        version = V4;
-        spills = spills_of w;
-        file = record { content = plain_content V4 (blocks_of w); is = plain_is_content V4 w.options (spills_of w) (written w) (blocks_of w) plain chunks; are = b };
-        strict = written_strict w n m h;
-        fits = plain_fits w.label w.options (blocks_of w) plain (all_front (EntryFits V4) (joined (blocks_of w)) [] h.fits) blocks index label;
-        plain = plain;
-      };
-      label_is = refl;
-      options_are = refl;
-      version_is = refl;
-      spills_are = refl;
-    }
+    → id ≡ w.label.table_id → checksum ≡ fnv1a bytes → WritesTable (spilled w) bytes → LabelFits w.label → IsFinished w id checksum bytes
+finished_is {A} w n m id checksum bytes h some i s t label = record {
+  some = written_some w n m h some;
+  id_is = i;
+  checksum_is = s;
+  file_is = record {
+    content = content_of w.options (blocks_of w) t.filters;
+    is = content_is w.options (spills_of w) (written w) (blocks_of w) t.filters (all_written w h.shortest) t.are_filters;
+    are = t.are;
+  };
+  strict = written_strict w n m h;
+  fits = record {
+    entries = all_front (EntryFits V4) (joined (blocks_of w)) [] h.fits;
+    blocks = t.blocks;
+    index = t.index;
+    filter = t.filter;
+    label_fits = label;
+  };
+}
+
+-- the keys of the filter of what was cut, where nothing is pending
+pub keys_of_cut : {A : Type 0} (failed : Bool) (kind : FilterKind) (policy : BloomConstructionPolicy) (w : Option (FilterWriterImpl A)) (cs : List (List Entry)) (pending : List Entry) → IsFiltered failed kind policy w (joined cs ++ pending) → failed ≡ false → pending ≡ []
+    → MayHaveKeys kind policy w (filtered_keys policy (joined cs))
+keys_of_cut failed kind policy w cs pending h works none =
+    subst (λ (es : List Entry). MayHaveKeys kind policy w (filtered_keys policy es)) (ap (λ (p : List Entry). joined cs ++ p) none ∙ append-nil (joined cs)) (h.has works)

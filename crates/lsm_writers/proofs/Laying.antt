@@ -1,6 +1,5 @@
 -- Sections laid one after another.
 use Rattle.std.proofs.Common.{◌≡◌, refl, ◌∙◌, ap, ℕ, ◌+◌, List, [], ◌∷◌, ◌++◌, length, length-append, arith}
-use Rattle.std.specs.List.{flat_map}
 use Rattle.std.proofs.lemmas.List.Concat.{flat_map-append}
 use Rattle.sst_sections.specs.declared.section.SectionName.{SectionName}
 use Rattle.lsm_files.specs.Layout.{Sections, starts_from, bytes_in, laid, appended}

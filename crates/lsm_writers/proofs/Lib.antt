@@ -1,7 +1,11 @@
 pub mod Orders
+pub mod Refused
 pub mod Cutting
 pub mod Taking
 pub mod Chunking
 pub mod Laying
+pub mod Keys
+pub mod Filtered
+pub mod Starting
 pub mod Finishing
 pub mod ListWriting

@@ -2,17 +2,14 @@
 use Rattle.std.proofs.Common.{◌≡◌, refl, sym, ◌∙◌, ap, subst, ℕ, ◌+◌, Bool, true, false, cond, length, IsTrue, append_assoc, append-nil, List, [], ◌∷◌, ◌++◌, ◌<◌, ◌-◌, ◌^◌, lt-ltb, ltb-true}
 use Rattle.std.specs.Prelude.{Option, Some, None, Result, Ok, Err, IfOk, MatchOption, nat_lt}
 use Rattle.std.specs.List.{AllByRecursion, list_all}
-use Rattle.std.specs.Result.{IsErrAnd}
 use Rattle.sst_sections.specs.declared.version.TableVersion.TheVariants.{V4}
 use Rattle.sst_entries.specs.declared.value_type.ValueType.TheVariants.{Value}
 use Rattle.sst_entries.specs.Entry.{Entry, entry}
-use Rattle.sst_entries.specs.Error.{is_memory, Faults}
 use Rattle.sst_entries.specs.Strict.{last_of, IsStrictAfter}
 use Rattle.sst_entries.specs.declared.error.Error.{Error}
 use Rattle.sst_entries.proofs.Booleans.{and_both, and_parts}
 use Rattle.sst_entries.proofs.Lists.{all_behind}
 use Rattle.lsm_writers.specs.declared.writer.FinishedTable.{FinishedTable}
-use Rattle.lsm_files.specs.declared.options.Options.{Options}
 use Rattle.lsm_files.specs.declared.label.Label.{Label}
 use Rattle.lsm_files.specs.Options.{default_options}
 use Rattle.lsm_files.specs.Table.{IsTable}
@@ -69,7 +66,8 @@ module _ (w : Writing) (es : List Entry) (label : Label) (all : written w ≡ es
   finished : (id checksum : ℕ) (bytes : List ℕ) → IsFinished w id checksum bytes → IsTableOf label es id checksum bytes
   finished id checksum bytes f =
       let P : List Entry → Type 0 = λ xs. (t : IsTable bytes xs) × (t.label ≡ label) × (t.options ≡ default_options) × (t.version ≡ V4) × (t.spills ≡ []) in
-      let table : P es = subst P all (f.table, f.label_is ∙ named, f.options_are ∙ options, f.version_is, f.spills_are ∙ unspilled) in
+      let made : IsTable bytes (written w) = record { label = w.label; options = w.options; version = V4; spills = spills_of w; file = f.file_is; strict = f.strict; fits = f.fits } in
+      let table : P es = subst P all (made, named, options, refl, unspilled) in
       record {
         some = λ none. f.some (all ∙ none);
         id_is = f.id_is ∙ ap (λ (l : Label). l.table_id) named;

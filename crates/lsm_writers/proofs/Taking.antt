@@ -1,6 +1,6 @@
 -- Entries that a writer takes, and what is pending.
 use Rattle.std.proofs.Common.{◌≡◌, refl, sym, ◌∙◌, ap, subst, ℕ, ◌+◌, ◌*◌, ◌-◌, ◌<◌, ◌≤◌, ◌^◌, Bool, true, false, List, [], ◌∷◌, ◌++◌, length, take, append_assoc, arith, length-append, cond, inl, inr, IsTrue}
-use Rattle.std.specs.Prelude.{Option, Some, None, nat_le, min, max, sum_by, count_by, ◌&&◌}
+use Rattle.std.specs.Prelude.{Option, Some, None, nat_le, min, max, sum_by, count_by}
 use Rattle.std.specs.List.{AllByRecursion}
 use Rattle.std.specs.Option.{option_or}
 use Rattle.std.proofs.lemmas.Bool.{le-ltb, le-leb, lt-leb, leb-false, ltb-false, ltb-true, cases_lt}
@@ -20,11 +20,12 @@ use Rattle.lsm_writers.specs.declared.writer.meta.Tally.{Tally}
 use Rattle.lsm_writers.specs.Counts.{no_counts, metadata_of, brought, tally_of, added, with_entry, HasRoom}
 use Rattle.lsm_writers.specs.Cut.{Cut, rest_chunk, with_cut}
 use Rattle.lsm_files.specs.Facts.{count_after, lowest_seqno, highest_seqno, is_tombstone, is_weak, is_reclaimable, starts_key, one_if, first_key}
+use Rattle.lsm_files.specs.Filters.{keys_after}
 use Rattle.lsm_files.specs.Fits.{EntryFits, LabelFits}
 use Rattle.lsm_files.specs.declared.label.Label.{Label}
 use Rattle.lsm_files.specs.declared.options.Options.{Options}
 use Rattle.lsm_files.specs.Options.{default_options}
-use Rattle.lsm_files.specs.Plain.{IsPlain}
+use Rattle.lsm_writers.specs.Filtering.{IsFiltered}
 use Rattle.lsm_writers.specs.Held.{IsUnfilled, IsHeld, CanGoOn, IsShortest}
 use Rattle.lsm_writers.specs.Writing.{item_fault, may_be_written}
 use Rattle.lsm_writers.proofs.Cutting.{joined_more}
@@ -73,12 +74,12 @@ item_fits es e k v h = rw (le-ltb _ _ k, lt-leb _ _ v) (fits_still es e h)
 
 -- ---- between the calls
 
-pub nothing_held : {A : Type 0} (size : ℕ) (cut : Cut) (pending : List Entry) (meta : Metadata A) (label : Label) (options : Options) → cut ≡ record { chunks = []; failed = false } → pending ≡ [] → meta ≡ no_counts → LabelFits label → options ≡ default_options → IsHeld size cut.chunks pending 0 meta × CanGoOn false size cut pending × LabelFits label × IsPlain options
-unfolding IsStrictAfter last_of count_after lowest_seqno highest_seqno
+pub nothing_held : {A : Type 0} (size : ℕ) (cut : Cut) (pending : List Entry) (meta : Metadata A) (label : Label) (options : Options) → cut ≡ record { chunks = []; failed = false } → pending ≡ [] → meta ≡ no_counts → LabelFits label → options ≡ default_options → IsHeld size cut.chunks pending 0 meta × CanGoOn false size cut pending × LabelFits label × IsFiltered {A = A} false options.filter_kind options.bloom_policy None (joined cut.chunks ++ pending)
+unfolding IsStrictAfter last_of count_after keys_after lowest_seqno highest_seqno
 nothing_held size cut pending meta label options c p m fits o =
     let held : IsHeld size [] [] 0 meta = record { strict = tt; fits = tt; shortest = tt; front = λ n lt le. absurd (omega (arith, lt, le)); counted = m; sized = refl; small = omega arith } in
     let ready : CanGoOn false size (record { chunks = []; failed = false }) [] = record { works = λ _. refl; room = λ _. tt } in
-    rw (c, p, o) (held, ready, fits, record { index = refl; filter = refl; policy = refl })
+    rw (c, p, o) (held, ready, fits, record { small = omega arith; has = λ _. refl })
 
 -- ---- one entry more
 

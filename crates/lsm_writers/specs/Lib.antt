@@ -1,6 +1,6 @@
 pub mod Counts
 pub mod Cut
 pub mod Writing
-pub mod Registered
+pub mod Filtering
 pub mod Held
 pub mod Words

@@ -6,7 +6,7 @@ use Rattle.sst_sections.specs.declared.version.TableVersion.TheVariants.{V4}
 use Rattle.sst_entries.specs.declared.value_type.ValueType.TheVariants.{Value}
 use Rattle.sst_entries.specs.declared.error.Error.{Error}
 use Rattle.sst_entries.specs.declared.error.Error.TheVariants.{KeyTooLong, ValueTooLong, WriterFailed}
-use Rattle.sst_blocks.specs.Bounds.{data_block_bound_of, index_block_bound_of}
+use Rattle.sst_blocks.specs.Bounds.{data_block_bound_of}
 use Rattle.sst_blocks.specs.Encoding.{is_long_key, large_fault}
 use Rattle.sst_entries.specs.Entry.{Entry, entry}
 use Rattle.sst_entries.specs.Strict.{IsStrict, may_follow, last_of}
@@ -14,7 +14,15 @@ use Rattle.lsm_files.specs.Chunks.{joined, is_full}
 use Rattle.lsm_writers.specs.Cut.{rest_chunk}
 use Rattle.lsm_files.specs.Index.{handles}
 use Rattle.sst_sections.specs.Fnv.{fnv1a}
+use Rattle.sst_filters.specs.Filter.{BloomFilter}
+use Rattle.lsm_files.specs.Content.{Content}
+use Rattle.lsm_files.specs.File.{IsFile, file, index_part, filter_part}
+use Rattle.lsm_files.specs.Filters.{AreFiltersFor, filtered_keys}
+use Rattle.lsm_files.specs.Fits.{BlockFits, Fits, SectionFits}
+use Rattle.lsm_files.specs.Kinds.{filter_parts, index_parts}
 use Rattle.lsm_files.specs.Table.{IsTable}
+use Rattle.lsm_filter_writers.specs.Refusing.{filter_fault}
+use Rattle.lsm_index_writers.specs.Refusing.{index_fault}
 use Rattle.lsm_files.specs.declared.options.Options.{Options}
 use Rattle.lsm_files.specs.declared.label.Label.{Label}
 use Rattle.lsm_files.specs.Options.{default_options}
@@ -79,23 +87,52 @@ early_ends size at (c ∷ cs) =
 abbrev pub spills_of : Writing → List ℕ
 spills_of w = early_ends w.options.data_block_size 0 w.cut
 
--- what finishing refuses: the block of the index is too large
+-- the keys of the filter of a list of chunks, in parts
+abbrev pub keys_of_parts : Options → List (List Entry) → List (List (List ℕ))
+keys_of_parts options cs =
+    filter_parts options.filter_kind options.bloom_policy
+    (filtered_keys options.bloom_policy (joined cs))
+
+-- what the table of a list of chunks holds, with these filters
+abbrev pub content_of : Options → List (List Entry) → List BloomFilter → Content
+content_of options cs fs = record {
+  blocks = cs;
+  index = index_parts options.index_kind (handles V4 cs);
+  keys = keys_of_parts options cs;
+  filters = fs;
+}
+
+-- the bytes are the table of the blocks that were cut, and these and the sections fit
+pub record WritesTable (w : Writing) (bytes : List ℕ) : Type 0 where
+  pub filters : List BloomFilter
+  pub are_filters : AreFiltersFor w.options.bloom_policy (keys_of_parts w.options w.cut) filters
+  pub are : bytes ≡ file V4 w.label w.options (content_of w.options w.cut filters)
+  pub blocks : AllByRecursion (BlockFits V4) w.cut
+  pub index : AllByRecursion SectionFits
+      (index_part V4 w.options (content_of w.options w.cut filters))
+  pub filter : AllByRecursion SectionFits
+      (filter_part V4 w.options (content_of w.options w.cut filters))
+
+-- what writing the index and then the filter of the blocks that were cut refuses
+abbrev pub sections_fault : Writing → Option Error
+sections_fault w =
+    option_or (index_fault w.options.index_kind false (handles V4 w.cut))
+    (filter_fault w.options.filter_kind w.options.bloom_policy
+    (filtered_keys w.options.bloom_policy (joined w.cut)))
+
+-- what finishing refuses
 abbrev pub finish_fault : Writing → Option Error
-finish_fault w =
-    if w.failed then Some WriterFailed
-    else large_fault (index_block_bound_of (handles V4 (blocks_of w)))
+finish_fault w = if w.failed then Some WriterFailed else sections_fault (spilled w)
 
 -- a finished table: its id, its bytes, and the checksum of these. The bytes are a table of the
--- list, in the version that is written
+-- list, in the version that is written; the list is strict, and what the bytes hold fits
 pub record IsFinished (w : Writing) (id : ℕ) (checksum : ℕ) (bytes : List ℕ) : Type 0 where
   pub some : written w ≡ [] → ⊥
   pub id_is : id ≡ w.label.table_id
   pub checksum_is : checksum ≡ fnv1a bytes
-  pub table : IsTable bytes (written w)
-  pub label_is : table.label ≡ w.label
-  pub options_are : table.options ≡ w.options
-  pub version_is : table.version ≡ V4
-  pub spills_are : table.spills ≡ spills_of w
+  pub file_is : IsFile V4 bytes w.label w.options (spills_of w) (written w)
+  pub strict : IsStrict (written w)
+  pub fits : Fits V4 w.label w.options file_is.content
 
 -- a list that a table can be written of: strict, and numbered below the largest number
 pub record IsWritable (es : List Entry) : Type 0 where

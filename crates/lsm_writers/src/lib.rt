@@ -5,7 +5,15 @@ mod list;
 mod writer;
 
 pub use list::{is_writable, write_list};
-pub use lsm_files::{GlobalTableId, Label, Options, TableId, Timestamp, TreeId};
-pub use writer::index::{BlockIndexWriter, FullIndexWriter};
+pub use lsm_files::{
+    BloomConstructionPolicy, FilterKind, GlobalTableId, IndexKind, Label, Options, TableId,
+    Timestamp, TreeId,
+};
+pub use lsm_filter_writers::{
+    FilterWriter, FilterWriterImpl, FullFilterWriter, PartitionedFilterWriter,
+};
+pub use lsm_index_writers::{
+    BlockIndexWriter, FullIndexWriter, IndexWriterImpl, PartitionedIndexWriter,
+};
 pub use writer::meta::Metadata;
 pub use writer::{FinishedTable, Writer};

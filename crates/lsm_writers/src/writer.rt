@@ -1,25 +1,29 @@
 //! Writing a table.
 ghost use Rattle.std.specs.Prelude.{◌≡◌, ◌↔◌, ◌<◌, ◌≤◌, ◌+◌, ◌*◌, ◌^◌, List, [], ◌∷◌, ◌++◌, None, Some, false, true, length, IsTrue, IfOk, IfErr, OnOk, OnErr, MatchResult, MatchOption};
-ghost use Rattle.lsm_writers.specs.Words.{BlockFits, Entry, EntryFits, Faults, FaultsFirst, HasNoVersion, IsFinished};
-ghost use Rattle.lsm_writers.specs.Words.{IsFresh, IsStrict, IsPlain, LabelFits, appended, entry_size, failed_fault, file};
-ghost use Rattle.lsm_writers.specs.Words.{filter_count, finish_fault, fnv1a, gained, handles, index_block_bound_of};
-ghost use Rattle.lsm_writers.specs.Words.{item_fault, label_of, large_fault, last_of, may_be_written, metadata_of};
-ghost use Rattle.lsm_writers.specs.Words.{new_writing, entries_size, plain_content, spilled, tally_of, version_section, write_fault};
-ghost use Rattle.lsm_writers.specs.Words.{written};
+ghost use Rattle.lsm_writers.specs.Words.{EntryFits, Faults, FaultsFirst, HasNoVersion, IsFinished, IsFresh};
+ghost use Rattle.lsm_writers.specs.Words.{IsStrict, LabelFits, WritesTable, appended, entries_size, entry_size};
+ghost use Rattle.lsm_writers.specs.Words.{failed_fault, filter_with_size, finish_fault, fnv1a, gained};
+ghost use Rattle.lsm_writers.specs.Words.{index_with_size, item_fault, label_of, last_of, may_be_written};
+ghost use Rattle.lsm_writers.specs.Words.{metadata_of, new_writing, sections_fault, spilled, version_section};
+ghost use Rattle.lsm_writers.specs.Words.{write_fault, written};
 ghost use Rattle.std.specs.Option.{option_copied};
 ghost use Rattle.sst_entries.specs.declared.error.Error.TheVariants.{OutOfMemory};
 ghost use Rattle.sst_sections.specs.declared.version.TableVersion.TheVariants.{V4};
+ghost use Rattle.lsm_files.specs.declared.options.FilterKind.TheVariants.{Partitioned as PartitionedFilter};
+ghost use Rattle.lsm_files.specs.declared.options.IndexKind.TheVariants.{Partitioned as PartitionedIndex};
 ghost use Rattle.std.specs.List.{AllByRecursion};
 
 mod data_blocks;
-pub mod index;
+mod filter;
 pub mod meta;
 mod meta_block;
 
 use crate::{TableId, Timestamp};
 use data_blocks::DataBlocks;
-use index::BlockIndexWriter;
-use lsm_files::{FilterKind, Label, Options};
+use filter::{finish_filter, register_key};
+use lsm_files::{BloomConstructionPolicy, FilterKind, IndexKind, Label, Options};
+use lsm_filter_writers::FilterWriterImpl;
+use lsm_index_writers::BlockIndexWriter;
 use meta::{Metadata, Tally};
 use meta_block::{BlockCounts, write_meta};
 use sst_blocks::{
@@ -41,6 +45,8 @@ pub struct Writer<A: Allocator = Global> {
     chunk: Vec<InternalValue<A>, A>,
     chunk_size: usize,
     meta: Metadata<A>,
+    // has the first key of each run of versions, from the first one on
+    filter_writer: Option<FilterWriterImpl<A>>,
     // it stands while a call works, so that whatever the call refuses stays refused
     failed: bool,
 }
@@ -48,14 +54,16 @@ pub struct Writer<A: Allocator = Global> {
 impl<A: Allocator> Model for Writer<A> {
     ghost use Rattle.lsm_writers.specs.Writing.{Writing};
     ghost use Rattle.lsm_files.specs.Fits.{LabelFits};
-    ghost use Rattle.lsm_files.specs.Plain.{IsPlain};
+    ghost use Rattle.std.specs.Prelude.{◌++◌};
+    ghost use Rattle.lsm_files.specs.Chunks.{joined};
+    ghost use Rattle.lsm_writers.specs.Filtering.{IsFiltered};
     ghost use Rattle.lsm_writers.specs.Held.{IsHeld, CanGoOn};
 
     ghost Value = { Writing };
 
     ghost view = { λ w. record { label = w.label; options = w.options; cut = w.blocks.chunks; pending = w.chunk.items; failed = w.failed } };
 
-    ghost invariant = { λ w. IsHeld w.options.data_block_size w.blocks.chunks w.chunk.items w.chunk_size w.meta × CanGoOn w.failed w.options.data_block_size w.blocks w.chunk.items × LabelFits w.label × IsPlain w.options };
+    ghost invariant = { λ w. IsHeld w.options.data_block_size w.blocks.chunks w.chunk.items w.chunk_size w.meta × CanGoOn w.failed w.options.data_block_size w.blocks w.chunk.items × LabelFits w.label × IsFiltered w.failed w.options.filter_kind w.options.bloom_policy w.filter_writer (joined w.blocks.chunks ++ w.chunk.items) };
 }
 
 impl<A: Allocator + Clone> Writer<A> {
@@ -82,6 +90,7 @@ impl<A: Allocator + Clone> Writer<A> {
             chunk,
             chunk_size: 0,
             meta: Metadata::default(),
+            filter_writer: None,
             failed: false,
         })
     }
@@ -144,13 +153,18 @@ impl<A: Allocator + Clone> Writer<A> {
         }
         self.failed = true;
         let (options, pending, size) = (self.options, self.chunk.len(), self.chunk_size);
-        let tally = take_item(
-            &mut self.chunk,
-            &mut self.chunk_size,
-            &self.meta,
-            self.blocks.last(),
-            item,
+        check_item(&self.chunk, size, &item)?;
+        let tally = self
+            .meta
+            .tally(last_written(&self.chunk, self.blocks.last()), &item)?;
+        register_key(
+            &mut self.filter_writer,
+            self.chunk.allocator(),
+            &options,
+            tally.starts_key,
+            &item.key.user_key,
         )?;
+        take_item(&mut self.chunk, &mut self.chunk_size, item)?;
         if self.chunk_size >= options.data_block_size as usize {
             if let Err(error) = self.blocks.cut(&mut self.chunk, &mut self.meta, &options) {
                 self.chunk.truncate(pending); // the entry is given up
@@ -186,11 +200,12 @@ impl<A: Allocator + Clone> Writer<A> {
         Ok(())
     }
 
-    /// Cuts the rest off as a block, writes the index, the version and the meta block, and answers the table: `None` where
+    /// Cuts the rest off as a block, writes the index, the filter, the version and the meta block, and answers the table: `None` where
     /// nothing was written.
     ///
-    /// Refused [`Error::WriterFailed`] where a call was refused before, [`Error::BlockTooLarge`] where the bound of the index
-    /// reaches 2^32, and [`Error::OutOfMemory`].
+    /// Refused [`Error::WriterFailed`] where a call was refused before; [`Error::BlockTooLarge`] and
+    /// [`Error::SectionTooLarge`] where the bound of a block or a section of the index, and then of the filter, reaches 2^32;
+    /// and [`Error::OutOfMemory`].
     pub fn finish(mut self) -> Result<Option<FinishedTable<A>>, Error>
         ensures table { IfOk result (λ t. MatchOption t (written self ≡ [])
             (λ f. IsFinished self f.id f.checksum.0 f.bytes)) }
@@ -210,29 +225,28 @@ impl<A: Allocator + Clone> Writer<A> {
     }
 
     /// The table of the blocks that were cut: behind them stand their index, the filter, the version, the meta block and the
-    /// trailer. Refused [`Error::BlockTooLarge`] where the bound of the index reaches 2^32, and [`Error::OutOfMemory`].
+    /// trailer. Refused as [`Writer::finish`] is.
     fn table(self) -> Result<FinishedTable<A>, Error>
         requires works { self.failed ≡ false }
         requires cut { self.pending ≡ [] }
         ensures id { IfOk result (λ t. t.id ≡ self.label.table_id) }
         ensures checksum { IfOk result (λ t. t.checksum.0 ≡ fnv1a t.bytes) }
-        ensures bytes { IfOk result (λ t. t.bytes ≡
-            file V4 self.label self.options (plain_content V4 self.cut)) }
-        ensures refused { Faults result (large_fault (index_block_bound_of (handles V4 self.cut))) }
+        ensures table { IfOk result (λ t. WritesTable self t.bytes) }
+        ensures refused { Faults result (sections_fault self) }
         ensures label { LabelFits self.label }
-        ensures plain { IsPlain self.options }
-        ensures blocks { IfOk result (λ _. AllByRecursion (BlockFits V4) self.cut) }
     {
         let Writer {
             label,
             options,
             blocks,
             meta,
+            filter_writer,
             ..
         } = self;
         let (mut file_writer, index_writer, mut buffer) = blocks.into_parts();
+        let index_writer = index_writer.into_kind(options.index_kind);
         let index_blocks = index_writer.finish(&mut file_writer)?;
-        let filter_blocks = finish_filter(&options);
+        let filter_blocks = finish_filter(filter_writer, &options, &mut file_writer)?;
         write_version(&mut file_writer)?;
         let counts = BlockCounts {
             index: index_blocks,
@@ -308,12 +322,56 @@ impl<A: Allocator + Clone> Writer<A> {
         self
     }
 
-    /// How many bytes a partition of the index or of the filter has when it is cut: nothing changes where these have none.
-    pub fn use_meta_partition_size(self, _size: u32) -> Writer<A>
-        requires fresh { IsFresh self }
-        requires small { _size ≤ 4194304 }
-        ensures { result ≡ self }
+    /// Writes a filter of partitions, each cut when it has 4,096 bytes: a size that was set before is forgotten.
+    pub fn use_partitioned_filter(mut self) -> Writer<A>
+        requires { IsFresh self }
+        ensures { result ≡ record self {
+          options = record self.options { filter_kind = PartitionedFilter 4096 };
+        } }
     {
+        self.options.filter_kind = FilterKind::Partitioned(4_096);
+        self
+    }
+
+    /// Writes an index of partitions, each cut when it has 4,096 bytes: a size that was set before is forgotten.
+    pub fn use_partitioned_index(mut self) -> Writer<A>
+        requires { IsFresh self }
+        ensures { result ≡ record self {
+          options = record self.options { index_kind = PartitionedIndex 4096 };
+        } }
+    {
+        self.options.index_kind = IndexKind::Partitioned(4_096);
+        self
+    }
+
+    /// How many bytes a partition of the index or of the filter has when it is cut. Nothing changes where they have none.
+    pub fn use_meta_partition_size(mut self, size: u32) -> Writer<A>
+        requires fresh { IsFresh self }
+        requires small { size ≤ 4194304 }
+        ensures { result ≡ record self {
+          options = record self.options {
+            index_kind = index_with_size size self.options.index_kind;
+            filter_kind = filter_with_size size self.options.filter_kind;
+          };
+        } }
+    {
+        if let IndexKind::Partitioned(_) = self.options.index_kind {
+            self.options.index_kind = IndexKind::Partitioned(size);
+        }
+        if let FilterKind::Partitioned(_) = self.options.filter_kind {
+            self.options.filter_kind = FilterKind::Partitioned(size);
+        }
+        self
+    }
+
+    /// How many bits the filter has for a key; where these are 0, no filter is written.
+    pub fn use_bloom_policy(mut self, policy: BloomConstructionPolicy) -> Writer<A>
+        requires { IsFresh self }
+        ensures { result ≡ record self {
+          options = record self.options { bloom_policy = policy };
+        } }
+    {
+        self.options.bloom_policy = policy;
         self
     }
 
@@ -350,16 +408,6 @@ pub struct FinishedTable<A: Allocator = Global> {
     pub bytes: Slice<A>,
 }
 
-/// Writes the filter, which an inactive policy has none of, and answers how many blocks it counts.
-fn finish_filter(options: &Options) -> usize
-    ensures { result ≡ filter_count options.now.filter_kind [] }
-{
-    match options.filter_kind {
-        FilterKind::Full => 1,
-        FilterKind::Partitioned(_) => 0,
-    }
-}
-
 /// Writes the number of the version. Refused [`Error::OutOfMemory`] alone; nothing is written then.
 fn write_version<A: Allocator + Clone>(file_writer: &mut SectionWriter<A>) -> Result<(), Error>
     requires { HasNoVersion file_writer.old }
@@ -383,32 +431,23 @@ fn last_written<'a, A: Allocator>(
     }
 }
 
-/// Puts an entry behind the pending ones, and answers what it adds to the counts; `cut` is the last entry of the blocks that
-/// were cut. Whatever is refused, nothing changes.
-fn take_item<A: Allocator + Clone>(
+/// Puts an entry behind the pending ones. Refused [`Error::OutOfMemory`] alone; nothing changes then.
+fn take_item<A: Allocator>(
     chunk: &mut Vec<InternalValue<A>, A>,
     chunk_size: &mut usize,
-    meta: &Metadata<A>,
-    cut: Option<&InternalValue<A>>,
     item: InternalValue<A>,
-) -> Result<Tally<A>, Error>
-    requires sized { chunk_size.old ≡ entries_size chunk.old.items }
-    requires small { 28 + 17 * length chunk.old.items + chunk_size.old < 2 ^ 32 }
+) -> Result<(), Error>
+    requires fits { entry_size item + chunk_size.old < 2 ^ 64 }
     ensures taken { OnOk result (chunk.new.items ≡ chunk.old.items ++ item ∷ []) }
     ensures sized { OnOk result (chunk_size.new ≡ chunk_size.old + entry_size item) }
-    ensures tally { IfOk result (λ t. t ≡
-        tally_of (last_of (option_copied cut.entry) chunk.old.items) item meta.now.first_key) }
     ensures left { OnErr result (chunk.new.items ≡ chunk.old.items) }
     ensures same_size { OnErr result (chunk_size.new ≡ chunk_size.old) }
-    ensures refused { Faults result (item_fault chunk.old.items item) }
-    ensures first { FaultsFirst result (item_fault chunk.old.items item) }
+    ensures err { IfErr result (λ e. e ≡ OutOfMemory) }
 {
-    check_item(chunk, *chunk_size, &item)?;
-    chunk.reserve(1)?;
-    let tally = meta.tally(last_written(chunk, cut), &item)?;
-    *chunk_size += item.key.user_key.len() + item.value.len();
+    let size = item.key.user_key.len() + item.value.len();
     chunk.push(item)?;
-    Ok(tally)
+    *chunk_size += size;
+    Ok(())
 }
 
 /// Refused where an entry is too long, or would make the block of the pending ones too large.

@@ -70,6 +70,11 @@ impl<A: Allocator + Clone> BlockSource<A> {
         &self.toc
     }
 
+    /// The allocator that the memory of blocks comes from.
+    pub fn allocator(&self) -> &A {
+        &self.alloc
+    }
+
     /// The block of a kind that a handle names. Refused with the first fault, in this order: [`Error::Truncated`] where the
     /// handle's size is below a header's or passes the body, [`Error::InvalidHeader`] for the mark or the zero bytes,
     /// [`Error::InvalidTag`], [`Error::UnsupportedCompression`], [`Error::InvalidHeader`] for lengths that do not agree,

@@ -3,7 +3,7 @@ ghost use Rattle.std.specs.Prelude.{IfOk};
 ghost use Rattle.lsm_writers.specs.Writing.{IsFresh};
 
 use lsm_tables::Table;
-use lsm_writers::{FinishedTable, Timestamp, Writer};
+use lsm_writers::{BloomConstructionPolicy, FinishedTable, Timestamp, Writer};
 use sst_blocks::{
     Block, BlockHandle, BlockSource, BlockType, Checksum, DataBlock, Error, IndexBlock,
     InternalValue, Opened, SeqNo, Slice, ValueType,
@@ -13,11 +13,12 @@ use std::alloc::Allocator;
 /// A key, a number, a kind and a value.
 pub(crate) type Row<'a> = (&'a [u8], SeqNo, ValueType, &'a [u8]);
 
-/// A writer of the table 1 at level 0 and moment 0.
+/// A writer of the table 1 at level 0 and moment 0, without a filter.
 pub(crate) fn new_writer<A: Allocator + Clone>(alloc: A) -> Result<Writer<A>, Error>
     ensures { IfOk result (λ w. IsFresh w) }
 {
-    Writer::new(alloc, 1, 0, Timestamp::from(0))
+    let writer = Writer::new(alloc, 1, 0, Timestamp::from(0))?;
+    Ok(writer.use_bloom_policy(BloomConstructionPolicy::BitsPerKey(0)))
 }
 
 /// The entry of a row.

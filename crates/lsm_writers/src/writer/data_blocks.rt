@@ -9,9 +9,9 @@ ghost use Rattle.sst_sections.specs.declared.section.SectionName.TheVariants.{Da
 ghost use Rattle.sst_sections.specs.declared.version.TableVersion.TheVariants.{V4};
 ghost use Rattle.std.specs.List.{AllByRecursion};
 
-use crate::writer::index::{BlockIndexWriter, FullIndexWriter};
 use crate::writer::meta::Metadata;
 use lsm_files::Options;
+use lsm_index_writers::{BlockIndexWriter, FullIndexWriter};
 use sst_blocks::{
     Block, BlockHandle, BlockOffset, BlockType, CompressionType, DataBlock, Error, InternalValue,
     KeyedBlockHandle, SectionName, SectionWriter,
@@ -115,7 +115,8 @@ impl<A: Allocator + Clone> DataBlocks<A> {
     pub(crate) fn into_parts(self) -> (SectionWriter<A>, FullIndexWriter<A>, Vec<u8, A>)
         requires { self.failed ≡ false }
         ensures data { result.0 ≡ laid ((Data, data_section V4 self.chunks) ∷ []) }
-        ensures index { result.1 ≡ record { handles = handles V4 self.chunks; failed = false } }
+        ensures index { result.1.handles ≡ handles V4 self.chunks }
+        ensures works { result.1.failed ≡ false }
         ensures blocks { AllByRecursion (BlockFits V4) self.chunks }
     {
         let DataBlocks {

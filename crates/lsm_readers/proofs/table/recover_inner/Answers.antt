@@ -40,26 +40,26 @@ returns-in_err-metadata-clause-tree g c = IfOk-from_err _ _ c.from_residual-in_e
 pub returns-in_err-metadata-clause-checksum : goal.returns-in_err-metadata-clause-checksum
 returns-in_err-metadata-clause-checksum g c = IfOk-from_err _ _ c.from_residual-in_err-metadata.ensures.0
 
-pub returns-in_err-pinned_block_index-clause-told : goal.returns-in_err-pinned_block_index-clause-told
+pub returns-in_err-pinned-clause-told : goal.returns-in_err-pinned-clause-told
 unfolding parts_told
-returns-in_err-pinned_block_index-clause-told g c =
-    passes_fault (parts_of {A = g.row.A.Denot}) c.from_residual-in_err-pinned_block_index.result _ c.in_err-pinned_block_index.field-0.0 c.from_residual-in_err-pinned_block_index.ensures.1
-    (fails_later _ _ _ _ (ap regions_told (sym c.toc.ensures.toc) ∙ sym c.in_ok-regions.ensures) (both_later (meta_told (body_of c.args.source.now) (c.in_ok-regions.regions).metadata) (λ (facts : Facts). number_told facts c.args.global_seqno) _ _ _ c.in_ok-metadata.ensures.told (fails_here _ _ _ c.in_err-pinned_block_index.ensures)))
+returns-in_err-pinned-clause-told g c =
+    passes_fault (parts_of {A = g.row.A.Denot}) c.from_residual-in_err-pinned.result _ c.in_err-pinned.field-0.0 c.from_residual-in_err-pinned.ensures.1
+    (fails_later _ _ _ _ (ap regions_told (sym c.toc.ensures.toc) ∙ sym c.in_ok-regions.ensures) (both_later (meta_told (body_of c.args.source.now) (c.in_ok-regions.regions).metadata) (λ (facts : Facts). number_told facts c.args.global_seqno) _ _ _ c.in_ok-metadata.ensures.told (fails_here _ _ _ c.in_err-pinned.ensures)))
 
-pub returns-in_err-pinned_block_index-clause-number : goal.returns-in_err-pinned_block_index-clause-number
-returns-in_err-pinned_block_index-clause-number g c = IfOk-from_err _ _ c.from_residual-in_err-pinned_block_index.ensures.0
+pub returns-in_err-pinned-clause-number : goal.returns-in_err-pinned-clause-number
+returns-in_err-pinned-clause-number g c = IfOk-from_err _ _ c.from_residual-in_err-pinned.ensures.0
 
-pub returns-in_err-pinned_block_index-clause-tree : goal.returns-in_err-pinned_block_index-clause-tree
-returns-in_err-pinned_block_index-clause-tree g c = IfOk-from_err _ _ c.from_residual-in_err-pinned_block_index.ensures.0
+pub returns-in_err-pinned-clause-tree : goal.returns-in_err-pinned-clause-tree
+returns-in_err-pinned-clause-tree g c = IfOk-from_err _ _ c.from_residual-in_err-pinned.ensures.0
 
-pub returns-in_err-pinned_block_index-clause-checksum : goal.returns-in_err-pinned_block_index-clause-checksum
-returns-in_err-pinned_block_index-clause-checksum g c = IfOk-from_err _ _ c.from_residual-in_err-pinned_block_index.ensures.0
+pub returns-in_err-pinned-clause-checksum : goal.returns-in_err-pinned-clause-checksum
+returns-in_err-pinned-clause-checksum g c = IfOk-from_err _ _ c.from_residual-in_err-pinned.ensures.0
 
 pub returns-clause-told : goal.returns-clause-told
 unfolding parts_told
 returns-clause-told g c =
     goes_on _ _ _ _ (ap regions_told (sym c.toc.ensures.toc) ∙ sym c.in_ok-regions.ensures)
-    (both_on (meta_told (body_of c.args.source.now) (c.in_ok-regions.regions).metadata) (λ (facts : Facts). number_told facts c.args.global_seqno) _ _ _ c.in_ok-metadata.ensures.told (goes_on _ _ _ _ c.in_ok-pinned_block_index.ensures refl))
+    (both_on (meta_told (body_of c.args.source.now) (c.in_ok-regions.regions).metadata) (λ (facts : Facts). number_told facts c.args.global_seqno) _ _ _ c.in_ok-metadata.ensures.told (goes_on _ _ _ _ c.in_ok-pinned.ensures refl))
 
 pub returns-in_err-regions-clause-early : goal.returns-in_err-regions-clause-early
 returns-in_err-regions-clause-early g c =
@@ -71,10 +71,10 @@ returns-in_err-metadata-clause-early g c =
     places_fine c.from_residual-in_err-metadata.result (body_of c.args.source.now) (places_told c.args.source.now) c.in_ok-regions.regions (ap regions_told (sym c.toc.ensures.toc) ∙ sym c.in_ok-regions.ensures)
     (first_from c.from_residual-in_err-metadata.result c.in_err-metadata.field-0.0 _ c.from_residual-in_err-metadata.ensures.1 c.in_err-metadata.ensures.early)
 
-pub returns-in_err-pinned_block_index-clause-early : goal.returns-in_err-pinned_block_index-clause-early
-returns-in_err-pinned_block_index-clause-early g c =
-    places_fine c.from_residual-in_err-pinned_block_index.result (body_of c.args.source.now) (places_told c.args.source.now) c.in_ok-regions.regions (ap regions_told (sym c.toc.ensures.toc) ∙ sym c.in_ok-regions.ensures)
-    (first_none c.from_residual-in_err-pinned_block_index.result _ c.in_ok-metadata.ensures.early)
+pub returns-in_err-pinned-clause-early : goal.returns-in_err-pinned-clause-early
+returns-in_err-pinned-clause-early g c =
+    places_fine c.from_residual-in_err-pinned.result (body_of c.args.source.now) (places_told c.args.source.now) c.in_ok-regions.regions (ap regions_told (sym c.toc.ensures.toc) ∙ sym c.in_ok-regions.ensures)
+    (first_none c.from_residual-in_err-pinned.result _ c.in_ok-metadata.ensures.early)
 
 pub returns-clause-early : goal.returns-clause-early
 returns-clause-early g c =

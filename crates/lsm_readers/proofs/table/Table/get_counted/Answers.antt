@@ -7,6 +7,8 @@ use Rattle.sst_blocks.specs.declared.opened.Opened.{Opened}
 use Rattle.lsm_readers.specs.Answer.{table_answer}
 use Rattle.lsm_readers.specs.Read.{Opens, Read}
 use Rattle.lsm_readers.specs.Table.{IsOpen, table_of}
+use Rattle.sst_sections.specs.Sections.{body_of}
+use Rattle.lsm_readers.proofs.FewLoads.{answer_few}
 use Rattle.lsm_readers.proofs.FilePoints.{file_answers}
 use Rattle.lsm_readers.proofs.Points.{table_read}
 use Rattle.lsm_readers.proofs.table.Table.get_counted.Goals as goal
@@ -32,9 +34,14 @@ returns-clause-opened g c =
     let told = subst (λ (o : Opened). Opens c.point_in-found.result loads c.new-source.result.1 o) (sym c.opened.ensures) made in
     subst (λ (o : Opened). Opens c.point_in-found.result loads o c.opened.result) c.new-source.ensures.none told
 
+pub returns-clause-few : goal.returns-clause-few
+returns-clause-few g c =
+    let t = c.args.self.now in
+    answer_few _ (body_of t.bytes) t.global_seqno t.parts c.args.key.now c.args.seqno _ _ (returns-clause-opened g c)
+
 pub returns-clause-list : goal.returns-clause-list
 returns-clause-list g c es is =
     let t = c.args.self.now in
     let held = subst IsOpen c.self.view_is c.self.invariant in
-    let same = file_answers t.bytes es is t.global_seqno t.parts held.short held.recovered c.args.key.now c.args.seqno in
+    let same = file_answers t.bytes es is t.global_seqno held.recovered.pin_filter held.recovered.pin_index t.parts held.short held.recovered.told c.args.key.now c.args.seqno in
     subst (λ (told : Result (Option Entry) Error). Gives (λ (x : Option Entry). x) c.point_in-found.result told) same (returns-clause-told g c)

@@ -17,7 +17,7 @@ read parts = Ok parts
 pub returns-in_err-source-clause-told : goal.returns-in_err-source-clause-told
 returns-in_err-source-clause-told g c =
     passes_fault (λ (t : OpenTable). t.parts) c.from_residual.result _ c.in_err-source.field-0.0 c.from_residual.ensures.1
-    (opening_fails c.args.bytes c.args.global_seqno _ (λ _. c.in_err-source.ensures.refused))
+    (opening_fails c.args.bytes c.args.global_seqno c.args.pin_filter c.args.pin_index _ (λ _. c.in_err-source.ensures.refused))
 
 pub returns-in_err-source-clause-early : goal.returns-in_err-source-clause-early
 returns-in_err-source-clause-early g c = trailer_first c.from_residual.result c.args.bytes c.in_err-source.field-0.0 c.from_residual.ensures.1 c.in_err-source.ensures.refused
@@ -25,7 +25,7 @@ returns-in_err-source-clause-early g c = trailer_first c.from_residual.result c.
 pub returns-in_err-inner-clause-told : goal.returns-in_err-inner-clause-told
 returns-in_err-inner-clause-told g c =
     passes_fault (λ (t : OpenTable). t.parts) c.from_residual-in_err-inner.result _ c.in_err-inner.field-0.0 c.from_residual-in_err-inner.ensures.1
-    (λ memory. opening_told c.args.bytes c.in_ok-source.source c.args.global_seqno _ c.in_ok-source.ensures.refused c.in_ok-source.ensures.ok (c.in_err-inner.ensures.told memory))
+    (λ memory. opening_told c.args.bytes c.in_ok-source.source c.args.global_seqno c.args.pin_filter c.args.pin_index _ c.in_ok-source.ensures.refused c.in_ok-source.ensures.ok (c.in_err-inner.ensures.told memory))
 
 pub returns-in_err-inner-clause-early : goal.returns-in_err-inner-clause-early
 returns-in_err-inner-clause-early g c =
@@ -49,15 +49,15 @@ returns-in_err-shared-clause-early g c =
 pub invariant_of-result : goal.invariant_of-result
 invariant_of-result g c =
     let held = c.in_ok-shared.ensures.ok in
-    is_open (table_of c.in_ok-source.source (arc_value c.in_ok-shared.shared)) c.args.bytes c.args.global_seqno c.in_ok-source.ensures.ok
+    is_open (table_of c.in_ok-source.source (arc_value c.in_ok-shared.shared)) c.args.bytes c.args.global_seqno c.args.pin_filter c.args.pin_index c.in_ok-source.ensures.ok
     (ap (λ (i : Inner g.row.A.Denot). i.global_seqno) held ∙ c.in_ok-inner.ensures.number)
     c.in_ok-source.ensures.short
-    (opening_told c.args.bytes c.in_ok-source.source c.args.global_seqno _ c.in_ok-source.ensures.refused c.in_ok-source.ensures.ok c.in_ok-inner.ensures.told
+    (opening_told c.args.bytes c.in_ok-source.source c.args.global_seqno c.args.pin_filter c.args.pin_index _ c.in_ok-source.ensures.refused c.in_ok-source.ensures.ok c.in_ok-inner.ensures.told
     ∙ ap (λ (i : Inner g.row.A.Denot). read (parts_of i)) (sym held))
 
 pub returns-clause-told : goal.returns-clause-told
 returns-clause-told g c =
-    opening_told c.args.bytes c.in_ok-source.source c.args.global_seqno _ c.in_ok-source.ensures.refused c.in_ok-source.ensures.ok c.in_ok-inner.ensures.told
+    opening_told c.args.bytes c.in_ok-source.source c.args.global_seqno c.args.pin_filter c.args.pin_index _ c.in_ok-source.ensures.refused c.in_ok-source.ensures.ok c.in_ok-inner.ensures.told
     ∙ ap (λ (i : Inner g.row.A.Denot). read (parts_of i)) (sym c.in_ok-shared.ensures.ok)
 
 by_list : {X : Type 0} (view : X → Parts) (r : Result X Error) (told list : Result Parts Error) → Gives view r told → told ≡ list → Gives view r list
@@ -66,13 +66,13 @@ by_list view r told list gives same = subst (λ (x : Result Parts Error). Gives 
 pub returns-in_err-source-clause-list : goal.returns-in_err-source-clause-list
 returns-in_err-source-clause-list g c es t one =
     by_list (λ (x : OpenTable). x.parts) c.from_residual.result _ _ (returns-in_err-source-clause-told g c)
-    (table_told c.args.bytes es t c.in_err-source.ensures.short c.args.global_seqno one)
+    (table_told c.args.bytes es t c.in_err-source.ensures.short c.args.global_seqno c.args.pin_filter c.args.pin_index one)
 
 pub returns-in_err-inner-clause-list : goal.returns-in_err-inner-clause-list
 returns-in_err-inner-clause-list g c es t one =
     by_list (λ (x : OpenTable). x.parts) c.from_residual-in_err-inner.result _ _ (returns-in_err-inner-clause-told g c)
-    (table_told c.args.bytes es t c.in_ok-source.ensures.short c.args.global_seqno one)
+    (table_told c.args.bytes es t c.in_ok-source.ensures.short c.args.global_seqno c.args.pin_filter c.args.pin_index one)
 
 pub returns-clause-list : goal.returns-clause-list
 returns-clause-list g c es t one =
-    sym (table_told c.args.bytes es t c.in_ok-source.ensures.short c.args.global_seqno one) ∙ returns-clause-told g c
+    sym (table_told c.args.bytes es t c.in_ok-source.ensures.short c.args.global_seqno c.args.pin_filter c.args.pin_index one) ∙ returns-clause-told g c

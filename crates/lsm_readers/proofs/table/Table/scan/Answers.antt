@@ -21,6 +21,6 @@ returns-clause-list g c es is =
     let t = c.args.self.now in
     let seen = ap (table_of c.self.inside.source) c.deref-inner.ensures ∙ c.self.view_is in
     let held = subst IsOpen c.self.view_is c.self.invariant in
-    file_opens t.bytes es is t.global_seqno t.parts held.short held.recovered c.new.result
+    file_opens t.bytes es is t.global_seqno held.recovered.pin_filter held.recovered.pin_index t.parts held.short held.recovered.told c.new.result
     (λ stops memory. subst (λ (u : OpenTable). IfOk c.new.result (λ (s : Scan). Deals (answer_stops stops) ScansNext nowhere s (scan_told (body_of u.bytes) u.parts.facts.data_block_count u.global_seqno))) seen (c.new.ensures.deals stops memory))
     (subst (λ (u : OpenTable). Faults c.new.result (fault_of (load_at_told (body_of u.bytes) 0 Data))) seen c.new.ensures.refused)

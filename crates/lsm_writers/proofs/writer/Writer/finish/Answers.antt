@@ -1,17 +1,9 @@
 use Rattle.std.proofs.Common.{◌≡◌, ◌∙◌, ap, sym, subst, true, []}
-use Rattle.std.specs.Prelude.{None}
-use Rattle.std.specs.List.{AllByRecursion}
-use Rattle.sst_blocks.specs.Bounds.{index_block_bound_of}
-use Rattle.sst_blocks.specs.Encoding.{large_fault}
-use Rattle.sst_sections.specs.declared.version.TableVersion.TheVariants.{V4}
-use Rattle.lsm_files.specs.File.{file}
-use Rattle.lsm_files.specs.Fits.{BlockFits, LabelFits}
-use Rattle.lsm_files.specs.Index.{handles}
-use Rattle.lsm_files.specs.Plain.{IsPlain, plain_content}
+use Rattle.lsm_files.specs.Fits.{LabelFits}
 use Rattle.sst_entries.proofs.StreamLemmas.{on_err}
 use Rattle.lsm_files.specs.Chunks.{joined}
-use Rattle.lsm_writers.specs.Writing.{Writing, written}
-use Rattle.lsm_writers.proofs.Finishing.{spilled_is, nothing_behind, written_none, written_some, works_still, no_finish_fault, index_fault_is, written_strict, written_fits, finished_is}
+use Rattle.lsm_writers.specs.Writing.{Writing, WritesTable, written}
+use Rattle.lsm_writers.proofs.Finishing.{spilled_is, nothing_behind, written_none, written_some, works_still, no_finish_fault, sections_fault_is, written_strict, written_fits, finished_is}
 use Rattle.lsm_writers.proofs.writer.Writer.finish.Goals as goal
 
 pub table-requires-clause-works : goal.table-requires-clause-works
@@ -46,17 +38,15 @@ returns-clause-table g c =
     let i = c.self.inside in
     let w = c.args.self in
     let t = c.in_ok-table in
-    let held = spilled_is w _ i.chunk_size i.meta (c.self.view_is ∙ c.in_ok-spill_block.ensures.ok) c.self.invariant.0 in
-    let id = t.ensures.id ∙ ap (λ (x : Writing). x.label.table_id) c.in_ok-spill_block.ensures.ok in
-    let bytes = t.ensures.bytes ∙ ap (λ (x : Writing). file V4 x.label x.options (plain_content V4 x.cut)) c.in_ok-spill_block.ensures.ok in
-    finished_is w i.chunk_size i.meta t.field-0.id t.field-0.checksum.0 t.field-0.bytes held c.if-self-eq0.false id t.ensures.checksum bytes
-    (subst (λ (x : Writing). IsPlain x.options) c.in_ok-spill_block.ensures.ok t.ensures.plain)
-    (subst (λ (x : Writing). LabelFits x.label) c.in_ok-spill_block.ensures.ok t.ensures.label)
-    (subst (λ (x : Writing). AllByRecursion (BlockFits V4) x.cut) c.in_ok-spill_block.ensures.ok t.ensures.blocks)
-    (subst (λ (x : Writing). large_fault (index_block_bound_of (handles V4 x.cut)) ≡ None) c.in_ok-spill_block.ensures.ok t.ensures.refused)
+    let spilled_to = c.in_ok-spill_block.ensures.ok in
+    let held = spilled_is w _ i.chunk_size i.meta (c.self.view_is ∙ spilled_to) c.self.invariant.0 in
+    let id = t.ensures.id ∙ ap (λ (x : Writing). x.label.table_id) spilled_to in
+    finished_is w i.chunk_size i.meta t.field-0.id t.field-0.checksum.0 t.field-0.bytes held c.if-self-eq0.false id t.ensures.checksum
+    (subst (λ (x : Writing). WritesTable x t.field-0.bytes) spilled_to t.ensures.table)
+    (subst (λ (x : Writing). LabelFits x.label) spilled_to t.ensures.label)
 
 pub returns-clause-refused : goal.returns-clause-refused
-returns-clause-refused g c = sym (index_fault_is c.args.self _ c.in_ok-spill_block.ensures.ok c.in_ok-spill_block.ensures.refused) ∙ c.in_ok-table.ensures.refused
+returns-clause-refused g c = sym (sections_fault_is c.args.self _ c.in_ok-spill_block.ensures.ok c.in_ok-spill_block.ensures.refused) ∙ c.in_ok-table.ensures.refused
 
 pub returns-clause-strict : goal.returns-clause-strict
 returns-clause-strict g c =

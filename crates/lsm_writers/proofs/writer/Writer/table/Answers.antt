@@ -1,23 +1,9 @@
-use Rattle.std.proofs.Common.{◌≡◌, ◌∙◌, sym, ap}
-use Rattle.sst_sections.specs.declared.version.TableVersion.TheVariants.{V4}
-use Rattle.sst_blocks.specs.Bounds.{index_block_bound_of}
-use Rattle.sst_blocks.specs.Encoding.{large_fault}
-use Rattle.lsm_files.specs.File.{file}
-use Rattle.lsm_files.specs.Index.{handles}
-use Rattle.lsm_files.specs.Plain.{plain_content}
-use Rattle.lsm_writers.specs.Writing.{Writing}
-use Rattle.lsm_writers.proofs.Finishing.{none_pending, held_keys, held_short, index_refuses, phases}
-use Rattle.sst_entries.proofs.Refusals.{faults_refusal}
+use Rattle.std.proofs.Common.{◌∙◌, ap, subst}
+use Rattle.lsm_index_writers.specs.Registered.{Registered}
+use Rattle.lsm_writers.specs.Writing.{Writing, WritesTable}
+use Rattle.lsm_writers.proofs.Finishing.{held_short, keys_of_cut, none_pending, writes_table}
+use Rattle.lsm_writers.proofs.Starting.{no_meta_yet}
 use Rattle.lsm_writers.proofs.writer.Writer.table.Goals as goal
-
-pub returns-in_err-index_blocks-clause-refused : goal.returns-in_err-index_blocks-clause-refused
-returns-in_err-index_blocks-clause-refused g c =
-    let i = c.self.inside in
-    let size = i.options.data_block_size in
-    let held = none_pending size i.blocks.chunks i.chunk.items i.chunk_size i.meta c.self.invariant.0 (ap (λ (w : Writing). w.pending) c.self.view_is ∙ c.requires.cut) in
-    let keys = held_keys size i.blocks.chunks i.chunk_size i.meta held in
-    let told = index_refuses i.blocks.chunks _ c.into_parts-file_writer.ensures.index keys ∙ ap (λ (w : Writing). large_fault (index_block_bound_of (handles V4 w.cut))) c.self.view_is in
-    faults_refusal c.from_residual.result c.in_err-index_blocks.field-0.0 (large_fault (index_block_bound_of (handles V4 c.args.self.cut))) c.from_residual.ensures.1 (λ memory. sym told ∙ c.in_err-index_blocks.ensures.refused memory)
 
 pub write_meta-requires-clause-short : goal.write_meta-requires-clause-short
 write_meta-requires-clause-short g c =
@@ -26,10 +12,23 @@ write_meta-requires-clause-short g c =
     let held = none_pending size i.blocks.chunks i.chunk.items i.chunk_size i.meta c.self.invariant.0 (ap (λ (w : Writing). w.pending) c.self.view_is ∙ c.requires.cut) in
     held_short size i.blocks.chunks i.chunk_size i.meta held
 
-pub returns-clause-bytes : goal.returns-clause-bytes
-returns-clause-bytes g c =
+pub write_meta-requires-clause-fresh : goal.write_meta-requires-clause-fresh
+write_meta-requires-clause-fresh g c =
     let i = c.self.inside in
-    let size = i.options.data_block_size in
-    let held = none_pending size i.blocks.chunks i.chunk.items i.chunk_size i.meta c.self.invariant.0 (ap (λ (w : Writing). w.pending) c.self.view_is ∙ c.requires.cut) in
-    let whole = phases i.label i.options c.self.invariant.3 i.blocks.chunks i.meta c.in_ok-index_blocks.index_blocks c.finish_filter-filter_blocks.result _ _ _ _ _ c.into_parts-file_writer.ensures.data c.into_parts-file_writer.ensures.index c.in_ok-index_blocks.ensures.ok c.in_ok-write_version.ensures.ok c.in_ok-write_meta.ensures.ok c.in_ok-index_blocks.ensures.count c.finish_filter-filter_blocks.ensures held.counted in
-    c.in_ok-bytes.ensures.bytes ∙ whole ∙ ap (λ (w : Writing). file V4 w.label w.options (plain_content V4 w.cut)) c.self.view_is
+    let none = ap (λ (w : Writing). w.pending) c.self.view_is ∙ c.requires.cut in
+    let works = ap (λ (w : Writing). w.failed) c.self.view_is ∙ c.requires.works in
+    let has = keys_of_cut i.failed _ _ _ i.blocks.chunks i.chunk.items c.self.invariant.3 works none in
+    no_meta_yet _ _ _ _ _ _ _ _ _ _ _ _ c.in_ok-filter_blocks.filter_blocks c.into_parts-file_writer.ensures.data c.in_ok-index_blocks.ensures.ok (c.in_ok-filter_blocks.ensures.ok _ has) c.in_ok-write_version.ensures.ok
+
+pub returns-clause-table : goal.returns-clause-table
+returns-clause-table g c =
+    let i = c.self.inside in
+    let none = ap (λ (w : Writing). w.pending) c.self.view_is ∙ c.requires.cut in
+    let works = ap (λ (w : Writing). w.failed) c.self.view_is ∙ c.requires.works in
+    let held = none_pending i.options.data_block_size i.blocks.chunks i.chunk.items i.chunk_size i.meta c.self.invariant.0 none in
+    let has = keys_of_cut i.failed _ _ _ i.blocks.chunks i.chunk.items c.self.invariant.3 works none in
+    let kind = ap (λ (r : Registered). r.kind) c.into_kind-index_writer.ensures in
+    let handles = ap (λ (r : Registered). r.handles) c.into_kind-index_writer.ensures ∙ c.into_parts-file_writer.ensures.index in
+    let index = c.in_ok-index_blocks.ensures in
+    subst (λ (w : Writing). WritesTable w c.in_ok-bytes.bytes) c.self.view_is
+    (writes_table _ i.meta c.in_ok-index_blocks.index_blocks c.in_ok-filter_blocks.filter_blocks _ _ _ _ _ _ _ _ kind c.into_parts-file_writer.ensures.data handles index.ok index.fits index.count (c.in_ok-filter_blocks.ensures.ok _ has) c.in_ok-write_version.ensures.ok c.in_ok-write_meta.ensures.ok held.counted c.into_parts-file_writer.ensures.blocks c.in_ok-bytes.ensures.bytes)

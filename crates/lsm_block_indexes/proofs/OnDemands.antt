@@ -1,0 +1,67 @@
+-- One call of an iterator on demand.
+use Rattle.std.proofs.Common.{◌≡◌, false, List, [], ◌∷◌, refl, sym, ap, ◌∙◌, arith}
+use Rattle.std.specs.Prelude.{Option, Some, None, Err}
+use Rattle.sst_entries.specs.declared.error.Error.{Error}
+use Rattle.sst_entries.specs.Error.{is_memory}
+use Rattle.sst_entries.specs.Stream.{ok_results}
+use Rattle.sst_blocks.specs.declared.opened.Opened.{Opened}
+use Rattle.sst_blocks.specs.Handle.{Handle}
+use Rattle.lsm_block_indexes.specs.Index.{block_between}
+use Rattle.lsm_block_indexes.specs.Left.{OnDemand, OnDemandGives, on_demand_left, demanded, demands, loaded}
+use Rattle.lsm_block_indexes.specs.Seen.{PartGives}
+use Rattle.lsm_block_indexes.proofs.AtEnds.{R, End, Carries, at_part, part_ends}
+
+-- no block was loaded before
+pub none_of : {X : Type 0} (o : Option X) → ((x : X) → o ≡ Some x → ⊥) → o ≡ None
+none_of None not = refl
+none_of (Some x) not = absurd (not x refl)
+
+-- of a block that was loaded before
+pub demand_item : (of : End) (end : List Handle → Option Handle × List Handle) → Carries end of → (s : OnDemand) (hs ts : List Handle) (r : Option R)
+    → s.part ≡ Some hs → PartGives end hs r ts → OnDemandGives of s r (record s { part = Some ts })
+demand_item of end carries s hs ts r is gives =
+    let t : OnDemand = record s { part = Some ts } in
+    let fits : demands s.part ≡ 0 = ap demands is in
+    record {
+      gives = record {
+        answer = at_part of end carries (on_demand_left s) (on_demand_left t) hs ts r (ap (demanded s) is) refl refl gives;
+        ends = part_ends end (on_demand_left t) hs ts r refl refl gives;
+        index = refl;
+        loads = record { count = 0; counts = refl; within = omega (arith, fits) };
+      };
+      once = sym fits;
+      kept = refl;
+    }
+
+-- of the block that this call loads
+pub demand_first : (of : End) (end : List Handle → Option Handle × List Handle) → Carries end of → (s : OnDemand) (hs ts : List Handle) (r : Option R) (o : Opened)
+    → s.part ≡ None → o ≡ loaded 1 s.opened → ok_results hs ≡ block_between s.body s.lower s.upper s.place → PartGives end hs r ts → OnDemandGives of s r (record s { part = Some ts; opened = o })
+demand_first of end carries s hs ts r o none counted told gives =
+    let t : OnDemand = record s { part = Some ts; opened = o } in
+    let one : demands s.part ≡ 1 = ap demands none in
+    record {
+      gives = record {
+        answer = at_part of end carries (on_demand_left s) (on_demand_left t) hs ts r (ap (demanded s) none ∙ sym told) refl refl gives;
+        ends = part_ends end (on_demand_left t) hs ts r refl refl gives;
+        index = refl;
+        loads = record { count = 1; counts = counted; within = omega (arith, one) };
+      };
+      once = sym one;
+      kept = refl;
+    }
+
+-- and where it cannot be loaded
+pub demand_fault : (of : End) → ((e : Error) → (of (Err e ∷ [])).0 ≡ Some (Err e)) → (s : OnDemand) (e : Error) (hs : List Handle) (o : Opened)
+    → s.part ≡ None → hs ≡ [] → o ≡ loaded 1 s.opened → (is_memory e ≡ false → Err e ∷ [] ≡ block_between s.body s.lower s.upper s.place) → OnDemandGives of s (Some (Err e)) (record s { part = Some hs; opened = o })
+demand_fault of alone s e hs o none gone counted told =
+    let one : demands s.part ≡ 1 = ap demands none in
+    record {
+      gives = record {
+        answer = (λ fine. ap (λ (rs : List R). (of rs).0) (ap (demanded s) none ∙ sym (told fine)) ∙ alone e, λ over. omega (arith, over.loads, one));
+        ends = record { results = ap ok_results gone; loads = refl };
+        index = refl;
+        loads = record { count = 1; counts = counted; within = omega (arith, one) };
+      };
+      once = sym one;
+      kept = refl;
+    }

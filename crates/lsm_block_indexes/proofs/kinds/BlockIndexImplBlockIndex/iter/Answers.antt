@@ -1,0 +1,18 @@
+use Rattle.std.proofs.Common.{refl}
+use Rattle.std.specs.Prelude.{None}
+use Rattle.lsm_block_indexes.proofs.KindLaws.{demand_reader, full_reader, levels_new, levels_reader}
+use Rattle.lsm_block_indexes.proofs.kinds.BlockIndexImplBlockIndex.iter.Goals as goal
+
+pub returns-in_ok-iter-in-Full-clause-all : goal.returns-in_ok-iter-in-Full-clause-all
+returns-in_ok-iter-in-Full-clause-all g c =
+    rw c.in-Full.is (full_reader c.in_ok-iter-in-Full.field-0 c.in-Full.index c.in_ok-iter-in-Full.ensures.whole)
+
+pub returns-in_ok-iter-in-VolatileFull-clause-all : goal.returns-in_ok-iter-in-VolatileFull-clause-all
+returns-in_ok-iter-in-VolatileFull-clause-all g c =
+    rw c.in-VolatileFull.is (demand_reader c.in_ok-iter-in-VolatileFull.field-0 c.in-VolatileFull.index.0 c.in-VolatileFull.index.1 None c.in_ok-iter-in-VolatileFull.ensures.unsought)
+
+pub returns-in_ok-iter-in-TwoLevel-clause-all : goal.returns-in_ok-iter-in-TwoLevel-clause-all
+returns-in_ok-iter-in-TwoLevel-clause-all g c =
+    let s = c.in_ok-iter-in-TwoLevel.field-0 in
+    let unsought = c.in_ok-iter-in-TwoLevel.ensures.unsought in
+    rw c.in-TwoLevel.is (levels_reader s s c.in-TwoLevel.index.0 c.in-TwoLevel.index.1 None unsought (levels_new s c.in-TwoLevel.index.0 c.in-TwoLevel.index.1 unsought) refl refl)

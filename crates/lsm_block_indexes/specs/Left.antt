@@ -1,0 +1,220 @@
+-- What an index iterator still deals, and one call of it.
+use Rattle.std.specs.Prelude.{◌≡◌, ℕ, zero, suc, ◌+◌, ◌≤◌, false, List, [], ◌∷◌, ◌++◌, length, Option, Some, None, Result, Ok, Err, MatchOption, MatchResult, map, reverse}
+use Rattle.sst_blocks.specs.declared.block_type.BlockType.TheVariants.{Index as IndexBlock}
+use Rattle.sst_entries.specs.declared.error.Error.{Error}
+use Rattle.sst_blocks.specs.declared.opened.Opened.{Opened}
+use Rattle.sst_entries.specs.Error.{is_memory}
+use Rattle.sst_entries.specs.Span.{Span, rest_in}
+use Rattle.sst_entries.specs.Stream.{ok_results}
+use Rattle.sst_blocks.specs.Handle.{Handle}
+use Rattle.sst_blocks.specs.Handles.{window}
+use Rattle.sst_blocks.specs.Opened.{with_load, none_opened}
+use Rattle.sst_blocks.specs.Place.{Place, place_of}
+use Rattle.lsm_block_indexes.specs.Index.{Index, full, on_demand, two_level, block_between, parts_between}
+
+-- the results still to be dealt, how many blocks may still be loaded for them, the index that they are of, and what was loaded
+pub record Left : Type 0 where
+  pub results : List (Result Handle Error)
+  pub loads : ℕ
+  pub index : Index
+  pub opened : Opened
+
+-- nothing more comes, and nothing is loaded
+pub record IsEnded (l : Left) : Type 0 where
+  pub results : l.results ≡ []
+  pub loads : l.loads ≡ 0
+
+-- a bound on the answers that are left
+abbrev pub left_size : Left → ℕ
+left_size l = length l.results + l.loads
+
+-- what is left is what the index has between two edges
+pub record IsBetween (l : Left) (low : Option (List ℕ × ℕ)) (high : Option (List ℕ)) : Type 0 where
+  pub results : l.results ≡ l.index.told low high
+  pub loads : l.loads ≡ l.index.loads low high
+
+-- the counts after so many loads of index blocks
+abbrev pub loaded : ℕ → Opened → Opened
+loaded zero o = o
+loaded (suc n) o = with_load IndexBlock (loaded n o)
+
+-- an answer at an end: the result that stands there, and the others are left; nothing, where nothing is left; want of memory
+-- stands in the place of any answer, except once all is over
+abbrev pub AtEnd : (List (Result Handle Error) → Option (Result Handle Error) × List (Result Handle Error)) → Left → Option (Result Handle Error) → Left → Type 0
+AtEnd end s None t = (s.results ≡ []) × IsEnded t
+AtEnd end s (Some (Ok h)) t = end s.results ≡ (Some (Ok h), t.results)
+AtEnd end s (Some (Err e)) t = (is_memory e ≡ false → (end s.results).0 ≡ Some (Err e)) × (IsEnded s → ⊥)
+
+-- the blocks that a call loads are counted, and are among those that may be loaded
+pub record CountsLoads (s t : Left) : Type 0 where
+  pub count : ℕ
+  pub counts : t.opened ≡ loaded count s.opened
+  pub within : count + t.loads ≤ s.loads
+
+-- one call at an end; an error ends the iterator
+pub record LeftGives (end : List (Result Handle Error) → Option (Result Handle Error) × List (Result Handle Error)) (s : Left) (r : Option (Result Handle Error)) (t : Left) : Type 0 where
+  pub answer : AtEnd end s r t
+  pub ends : MatchOption r (Unit {0}) (λ x. MatchResult x (λ _. Unit {0}) (λ _. IsEnded t))
+  pub index : t.index ≡ s.index
+  pub loads : CountsLoads s t
+
+-- ---- of a block that stays loaded
+
+abbrev pub span_left : Span Handle → Left
+span_left s = record {
+  results = ok_results (rest_in s);
+  loads = 0;
+  index = full s.list;
+  opened = none_opened;
+}
+
+-- both edges were sought, and no step was made
+abbrev pub IsSpanSought : Span Handle → Option (List ℕ × ℕ) → Option (List ℕ) → Type 0
+IsSpanSought s lower upper = rest_in s ≡ window s.list lower upper
+
+-- ---- of a block that is loaded on demand
+
+-- the bytes before the trailer, the block's place, the edges, what is left of the block once it is loaded, and what was loaded
+pub record OnDemand : Type 0 where
+  pub body : List ℕ
+  pub place : Place
+  pub lower : Option (List ℕ × ℕ)
+  pub upper : Option (List ℕ)
+  pub part : Option (List Handle)
+  pub opened : Opened
+
+-- before a first step
+abbrev pub new_on_demand : List ℕ → Place → OnDemand
+new_on_demand body place = record {
+  body = body;
+  place = place;
+  lower = None;
+  upper = None;
+  part = None;
+  opened = none_opened;
+}
+
+-- the results that are left, and how many blocks are yet to be loaded
+abbrev pub demanded : OnDemand → Option (List Handle) → List (Result Handle Error)
+demanded s None = block_between s.body s.lower s.upper s.place
+demanded s (Some hs) = ok_results hs
+
+abbrev pub demands : Option (List Handle) → ℕ
+demands None = 1
+demands (Some hs) = 0
+
+abbrev pub on_demand_left : OnDemand → Left
+on_demand_left s = record {
+  results = demanded s s.part;
+  loads = demands s.part;
+  index = on_demand s.body s.place;
+  opened = s.opened;
+}
+
+pub record IsDemandSought (s : OnDemand) (low : Option (List ℕ × ℕ)) (high : Option (List ℕ)) : Type 0 where
+  pub part : s.part ≡ None
+  pub lower : s.lower ≡ low
+  pub upper : s.upper ≡ high
+
+-- one call of it: the first one loads the block, once
+pub record OnDemandGives (end : List (Result Handle Error) → Option (Result Handle Error) × List (Result Handle Error)) (s : OnDemand) (r : Option (Result Handle Error)) (t : OnDemand) : Type 0 where
+  pub gives : LeftGives end (on_demand_left s) r (on_demand_left t)
+  pub once : gives.loads.count ≡ demands s.part
+  pub kept : demands t.part ≡ 0
+
+-- ---- of two levels
+
+-- the bytes before the trailer, the handles of the top level, those of the partitions that are not loaded, the edges, what is
+-- left of the partitions that are loaded at the front and at the back, and what was loaded
+pub record TwoLevel : Type 0 where
+  pub body : List ℕ
+  pub whole : List Handle
+  pub tops : List Handle
+  pub lower : Option (List ℕ × ℕ)
+  pub upper : Option (List ℕ)
+  pub front : List Handle
+  pub back : List Handle
+  pub opened : Opened
+
+abbrev pub new_two_level : List ℕ → List Handle → TwoLevel
+new_two_level body whole = record {
+  body = body;
+  whole = whole;
+  tops = whole;
+  lower = None;
+  upper = None;
+  front = [];
+  back = [];
+  opened = none_opened;
+}
+
+abbrev pub two_level_left : TwoLevel → Left
+two_level_left s = record {
+  results = ok_results s.front ++ (parts_between s.body s.lower s.upper s.tops ++ ok_results s.back);
+  loads = length s.tops;
+  index = two_level s.body s.whole;
+  opened = s.opened;
+}
+
+pub record IsTwoLevelSought (s : TwoLevel) (low : Option (List ℕ × ℕ)) (high : Option (List ℕ)) : Type 0 where
+  pub tops : s.tops ≡ window s.whole low high
+  pub lower : s.lower ≡ low
+  pub upper : s.upper ≡ high
+  pub front : s.front ≡ []
+  pub back : s.back ≡ []
+
+-- how many of these partitions, the next one first, an end loads for its answer: those up to the first that has an item
+abbrev pub none_behind : {X : Type 0} → List X → ℕ → ℕ
+none_behind [] n = n
+none_behind (x ∷ xs) n = 0
+
+abbrev pub needs : List (List (Result Handle Error)) → ℕ
+needs [] = 0
+needs (p ∷ ps) = suc (none_behind p (needs ps))
+
+-- the same at the front and at the back: none where a handle of a partition that was loaded stands there
+abbrev pub part_of : TwoLevel → Handle → List (Result Handle Error)
+part_of s top = block_between s.body s.lower s.upper (place_of top)
+
+abbrev pub front_needs : TwoLevel → ℕ
+front_needs s = none_behind s.front (needs (map (part_of s) s.tops))
+
+abbrev pub back_needs : TwoLevel → ℕ
+back_needs s = none_behind s.back (needs (reverse (map (part_of s) s.tops)))
+
+-- one call of it: no more partitions are loaded than it needs
+pub record TwoLevelGives (end : List (Result Handle Error) → Option (Result Handle Error) × List (Result Handle Error)) (needed : TwoLevel → ℕ) (s : TwoLevel) (r : Option (Result Handle Error)) (t : TwoLevel) : Type 0 where
+  pub gives : LeftGives end (two_level_left s) r (two_level_left t)
+  pub most : gives.loads.count ≤ needed s
+
+-- the same before an error ends it
+pub record TwoLevelSteps (end : List (Result Handle Error) → Option (Result Handle Error) × List (Result Handle Error)) (needed : TwoLevel → ℕ) (s : TwoLevel) (r : Option (Result Handle Error)) (t : TwoLevel) : Type 0 where
+  pub answer : AtEnd end (two_level_left s) r (two_level_left t)
+  pub loads : CountsLoads (two_level_left s) (two_level_left t)
+  pub body : t.body ≡ s.body
+  pub whole : t.whole ≡ s.whole
+  pub most : loads.count ≤ needed s
+
+-- the next partition at the front was loaded; and at the back
+pub record EntersFront (s t : TwoLevel) : Type 0 where
+  pub top : Handle
+  pub tops : s.tops ≡ top ∷ t.tops
+  pub told : ok_results t.front ≡ part_of s top
+  pub is : t ≡ record s { tops = t.tops; front = t.front; opened = loaded 1 s.opened }
+
+pub record EntersBack (s t : TwoLevel) : Type 0 where
+  pub top : Handle
+  pub tops : s.tops ≡ t.tops ++ top ∷ []
+  pub told : ok_results t.back ≡ part_of s top
+  pub is : t ≡ record s { tops = t.tops; back = t.back; opened = loaded 1 s.opened }
+
+-- the next partition at an end could not be loaded, or its handle not be shared
+pub record Fails (end : List Handle → Option Handle × List Handle) (s : TwoLevel) (e : Error) (t : TwoLevel) : Type 0 where
+  pub some : s.tops ≡ [] → ⊥
+  pub told : is_memory e ≡ false → (top : Handle) × ((end s.tops).0 ≡ Some top) × (Err e ∷ [] ≡ part_of s top)
+  pub count : ℕ
+  pub counts : t.opened ≡ loaded count s.opened
+  pub within : count + length t.tops ≤ length s.tops
+  pub most : count ≤ 1
+  pub body : t.body ≡ s.body
+  pub whole : t.whole ≡ s.whole

@@ -1,0 +1,7 @@
+pub mod Index
+pub mod Left
+pub mod Seen
+pub mod Dealt
+pub mod Answers
+pub mod Kinds
+pub mod Words

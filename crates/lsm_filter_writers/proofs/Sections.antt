@@ -1,0 +1,305 @@
+-- The sections of a filter, behind what was written before.
+use Rattle.std.proofs.Common.{◌≡◌, refl, ◌∙◌, ap, sym, subst, ℕ, ◌+◌, ◌-◌, ◌^◌, ◌<◌, ◌≤◌, List, [], ◌∷◌, ◌++◌, length, take, append_assoc, length-append, arith}
+use Rattle.std.specs.Prelude.{map, min, nat_le, sum_by, Bool, true, false, Option, Some, None, Result, Ok, Err, OnOk, IfOk, if◌then◌else◌}
+use Rattle.std.specs.List.{AllByRecursion, flat_map}
+use Rattle.std.proofs.lemmas.List.{append-nil, map-append}
+use Rattle.std.proofs.lemmas.List.Concat.{flat_map-append}
+use Rattle.std.proofs.lemmas.List.Sums.{sum_by-cons}
+use Rattle.std.proofs.Math.Seq.{take-append_seam}
+use Rattle.sst_sections.specs.declared.section.SectionName.{SectionName}
+use Rattle.sst_sections.specs.declared.section.SectionName.TheVariants.{Filter as FilterSection, FilterTli}
+use Rattle.sst_sections.specs.declared.version.TableVersion.TheVariants.{V4}
+use Rattle.sst_sections.specs.Fnv.{fnv1a}
+use Rattle.sst_sections.specs.Sections.{Written}
+use Rattle.sst_blocks.specs.declared.block_type.BlockType.TheVariants.{Filter}
+use Rattle.sst_blocks.specs.Block.{block_bytes}
+use Rattle.sst_blocks.specs.Handle.{Handle}
+use Rattle.sst_blocks.specs.Handles.{AreStrictHandles, end_of}
+use Rattle.sst_blocks.specs.Place.{Place}
+use Rattle.sst_blocks.specs.Bounds.{handle_bound}
+use Rattle.sst_blocks.specs.Encoding.{handles_fault, is_long_key, key_fault}
+use Rattle.sst_entries.specs.Entry.{Entry}
+use Rattle.sst_entries.specs.Error.{Faults}
+use Rattle.sst_entries.specs.Strict.{IsStrict}
+use Rattle.sst_entries.specs.declared.error.Error.{Error}
+use Rattle.sst_entries.specs.declared.error.Error.TheVariants.{KeyTooLong, SectionTooLarge}
+use Rattle.std.proofs.lemmas.Bool.Decides.{nat_tests}
+use Rattle.std.specs.Option.{option_or}
+use Rattle.lsm_files.specs.Failed.{failed_fault}
+use Rattle.lsm_filter_writers.specs.Cutting.{waiting_by}
+use Rattle.lsm_filter_writers.specs.Rising.{AreRising, end_entry}
+use Rattle.sst_filters.specs.Filter.{BloomFilter, IsBuilt, payload_of}
+use Rattle.sst_filters.specs.Policy.{bound_for, size_for, tenths_of}
+use Rattle.sst_filters.specs.declared.policy.BloomConstructionPolicy.{BloomConstructionPolicy}
+use Rattle.lsm_files.specs.declared.options.FilterKind.TheVariants.{Full, Partitioned}
+use Rattle.lsm_files.specs.Filters.{AreFiltersFor, IsFilterFor, filter_block, filter_partition, filter_partitions, is_full_filter, last_of_keys}
+use Rattle.lsm_files.specs.Fits.{SectionFits}
+use Rattle.lsm_files.specs.Layout.{Sections, appended}
+use Rattle.lsm_files.specs.Partitions.{Partition, handles_block, tops_from}
+use Rattle.lsm_files.specs.Parts.{parts_by}
+use Rattle.lsm_files.proofs.BlockLengths.{length-block}
+use Rattle.lsm_filter_writers.specs.Held.{capped, CutPart, CutParts, end_keys, filters_of, Hashes, HoldsAll, HoldsHashes, partition_of}
+use Rattle.lsm_filter_writers.specs.Refusing.{end_handle, filter_fault, keys_fault, parts_bound, section_fault, top_fault}
+use Rattle.lsm_filter_writers.specs.Writing.{part_sections, tops_block, tops_of, WritesFilter}
+
+-- no section, and one, and two
+pub appended_none : (w : Written) → w ≡ appended w []
+appended_none w = rw (append-nil w.bytes, append-nil w.started) refl
+
+pub section_more : (w u v : Written) (name : SectionName) (bytes : List ℕ) → u ≡ record w { started = w.started ++ (name, length w.bytes) ∷ [] } →
+    v ≡ record u { bytes = u.bytes ++ bytes } → v ≡ appended w ((name, bytes) ∷ [])
+section_more w u v name bytes eu ev = rw (ev, eu, append-nil bytes) refl
+
+pub section_behind : (w u : Written) (s t : SectionName × List ℕ) → u ≡ appended w (s ∷ []) → appended u (t ∷ []) ≡ appended w (s ∷ t ∷ [])
+section_behind w u s t e =
+    let bytes : (w.bytes ++ (s.1 ++ [])) ++ (t.1 ++ []) ≡ w.bytes ++ (s.1 ++ (t.1 ++ [])) = append_assoc w.bytes (s.1 ++ []) (t.1 ++ []) ∙ ap (λ bs. w.bytes ++ bs) (append_assoc s.1 [] (t.1 ++ [])) in
+    let at : length (w.bytes ++ (s.1 ++ [])) ≡ length w.bytes + length s.1 = length-append w.bytes (s.1 ++ []) ∙ ap (λ (bs : List ℕ). length w.bytes + length bs) (append-nil s.1) in
+    let started : (w.started ++ (s.0, length w.bytes) ∷ []) ++ (t.0, length (w.bytes ++ (s.1 ++ []))) ∷ [] ≡ w.started ++ (s.0, length w.bytes) ∷ (t.0, length w.bytes + length s.1) ∷ [] =
+    append_assoc w.started ((s.0, length w.bytes) ∷ []) ((t.0, length (w.bytes ++ (s.1 ++ []))) ∷ [])
+    ∙ ap (λ (n : ℕ). w.started ++ (s.0, length w.bytes) ∷ (t.0, n) ∷ []) at in
+    rw (e, bytes, started) refl
+
+-- how long a filter's block is
+length-filter_block : (f : BloomFilter) → length (filter_block V4 f) ≡ 25 + length f.bits
+length-filter_block f = omega (arith, length-block V4 Filter (payload_of f))
+
+-- a full filter
+pub full_none : (w : Hashes) (keys : List (List ℕ)) (before : Written) → w.hashes ≡ [] → HoldsHashes w keys → WritesFilter Full w.policy keys before before 1
+full_none w [] before none h = record { filters = []; are = tt; written = appended_none before; counted = refl; fit = tt }
+full_none w (k ∷ keys) before none h = let e : fnv1a k ∷ map fnv1a keys ≡ [] = sym h.hashes ∙ none in cc
+
+pub full_one : (w : Hashes) (keys : List (List ℕ)) (before u after : Written) (f : BloomFilter) (payload : List ℕ) →
+    (w.hashes ≡ [] → ⊥) → HoldsHashes w keys → IsFilterFor w.policy keys f → IsBuilt f → payload ≡ payload_of f →
+    u ≡ record before { started = before.started ++ (FilterSection, length before.bytes) ∷ [] } →
+    after ≡ record u { bytes = u.bytes ++ block_bytes V4 Filter payload } → WritesFilter Full w.policy keys before after 1
+full_one w [] before u after f payload some h is built e eu ev = absurd (some h.hashes)
+full_one w (k ∷ keys) before u after f payload some h is built e eu ev = record {
+  filters = f ∷ [];
+  are = (is, tt);
+  written = section_more before u after FilterSection (filter_block V4 f) eu (ev ∙ ap (λ p. record u { bytes = u.bytes ++ block_bytes V4 Filter p }) e);
+  counted = refl;
+  fit = (record { short = omega (arith, built.short, length-filter_block f) }, tt);
+}
+
+-- what the top level has
+partitions_same : (ps : List (List (List ℕ))) (cs : List CutPart) → end_keys cs ≡ map last_of_keys ps → filter_partitions ps (filters_of cs) ≡ map partition_of cs
+partitions_same [] [] e = refl
+partitions_same [] (c ∷ cs) e = cc
+partitions_same (p ∷ ps) [] e = cc
+partitions_same (p ∷ ps) (c ∷ cs) e =
+    let here : c.end_key ≡ last_of_keys p = cc in
+    let later : end_keys cs ≡ map last_of_keys ps = cc in
+    let first : filter_partition p c.filter ≡ partition_of c = ap (λ (k : List ℕ). record (partition_of c) { end_key = k }) (sym here) in
+    rw (first, partitions_same ps cs later) refl
+
+-- the section of the parts is as long as its bound
+length-filters : (policy : BloomConstructionPolicy) (ps : List (List (List ℕ))) (fs : List BloomFilter) → AreFiltersFor policy ps fs → parts_bound policy ps < 2 ^ 32 →
+    length (flat_map (filter_block V4) fs) ≡ parts_bound policy ps
+length-filters policy [] [] h lt = refl
+length-filters policy [] (f ∷ fs) h lt = absurd h
+length-filters policy (p ∷ ps) [] h lt = absurd h
+length-filters policy (p ∷ ps) (f ∷ fs) h lt =
+    let sum : parts_bound policy (p ∷ ps) ≡ bound_for (tenths_of policy) (length p) + parts_bound policy ps = sum_by-cons (λ (q : List (List ℕ)). bound_for (tenths_of policy) (length q)) p ps in
+    let later : parts_bound policy ps < 2 ^ 32 = omega (arith, lt, sum) in
+    let small : bound_for (tenths_of policy) (length p) < 2 ^ 32 = omega (arith, lt, sum) in
+    let first : length (filter_block V4 f) ≡ bound_for (tenths_of policy) (length p) =
+    length-filter_block f ∙ ap (λ (n : ℕ). 25 + n) h.0.size ∙ sym (uncapped (size_for (tenths_of policy) (length p)) small) in
+    let rest : length (flat_map (filter_block V4) fs) ≡ parts_bound policy ps = length-filters policy ps fs h.1 later in
+    length-append (filter_block V4 f) (flat_map (filter_block V4) fs) ∙ ap (λ (n : ℕ). n + length (flat_map (filter_block V4) fs)) first
+    ∙ ap (λ (n : ℕ). bound_for (tenths_of policy) (length p) + n) rest ∙ sym sum
+  where
+    uncapped : (s : ℕ) → min (2 ^ 64 - 1) (25 + s) < 2 ^ 32 → min (2 ^ 64 - 1) (25 + s) ≡ 25 + s
+    uncapped s lt = omega (arith, lt)
+
+-- a partitioned filter
+no_parts : (policy : BloomConstructionPolicy) (ps : List (List (List ℕ))) → AreFiltersFor policy ps [] → ps ≡ []
+no_parts policy [] h = refl
+no_parts policy (p ∷ ps) h = absurd h
+
+pub parts_of_none : (v : CutParts) (keys : List (List ℕ)) → HoldsAll v keys → v.parts ≡ [] → parts_by (is_full_filter v.policy v.size) keys ≡ []
+parts_of_none v keys h none = no_parts v.policy _ (subst (λ cs. AreFiltersFor v.policy (parts_by (is_full_filter v.policy v.size) keys) (filters_of cs)) none h.filters)
+
+pub parts_none : (v : CutParts) (keys : List (List ℕ)) (before : Written) → HoldsAll v keys → v.parts ≡ [] → WritesFilter (Partitioned v.size) v.policy keys before before 0
+parts_none v keys before h none = record {
+  filters = [];
+  are = rw (parts_of_none v keys h none) tt;
+  written = appended_none before;
+  counted = refl;
+  fit = tt;
+}
+
+-- the sections by parts that are cut
+by_parts : (at : ℕ) (ps : List (List (List ℕ))) (cs : List CutPart) → end_keys cs ≡ map last_of_keys ps →
+    (FilterSection, flat_map (filter_block V4) (filters_of cs)) ∷ (FilterTli, handles_block V4 (tops_from at (filter_partitions ps (filters_of cs)))) ∷ [] ≡ part_sections at cs
+by_parts at ps cs e =
+    ap (λ (qs : List Partition). (FilterSection, flat_map (filter_block V4) (filters_of cs)) ∷ (FilterTli, handles_block V4 (tops_from at qs)) ∷ []) (partitions_same ps cs e)
+
+some_parts : (size : ℕ) (policy : BloomConstructionPolicy) (keys : List (List ℕ)) (cs : List CutPart) (before after : Written) (n : ℕ) →
+    AreFiltersFor policy (parts_by (is_full_filter policy size) keys) (filters_of cs) → end_keys cs ≡ map last_of_keys (parts_by (is_full_filter policy size) keys) →
+    (cs ≡ [] → ⊥) → parts_bound policy (parts_by (is_full_filter policy size) keys) < 2 ^ 32 → after ≡ appended before (part_sections (length before.bytes) cs) →
+    SectionFits (FilterTli, tops_block (length before.bytes) cs) → n ≡ length cs → WritesFilter (Partitioned size) policy keys before after n
+some_parts size policy keys [] before after n are ends some lt e fits count = absurd (some refl)
+some_parts size policy keys (c ∷ cs) before after n are ends some lt e fits count =
+    let at = length before.bytes in
+    let ps = parts_by (is_full_filter policy size) keys in
+    let same = by_parts at ps (c ∷ cs) ends in
+    let all : AllByRecursion SectionFits (part_sections at (c ∷ cs)) = (record { short = omega (arith, lt, length-filters policy ps (filters_of (c ∷ cs)) are) }, (fits, tt)) in
+    record {
+      filters = filters_of (c ∷ cs);
+      are = are;
+      written = e ∙ ap (λ (ss : Sections). appended before ss) (sym same);
+      counted = count ∙ counted cs;
+      fit = subst (λ (ss : Sections). AllByRecursion SectionFits ss) (sym same) all;
+    }
+  where
+    lengths : (cs : List CutPart) → length cs ≡ length (filters_of cs)
+    lengths [] = refl
+    lengths (c ∷ cs) = omega (arith, lengths cs)
+
+    counted : (cs : List CutPart) → length (c ∷ cs) ≡ length (filters_of (c ∷ cs))
+    counted cs = lengths (c ∷ cs)
+
+pub parts_write : (v : CutParts) (keys : List (List ℕ)) (before after : Written) (n : ℕ) → HoldsAll v keys → (v.parts ≡ [] → ⊥) → v.bound < 2 ^ 32 →
+    after ≡ appended before (part_sections (length before.bytes) v.parts) → SectionFits (FilterTli, tops_block (length before.bytes) v.parts) → n ≡ length v.parts →
+    WritesFilter (Partitioned v.size) v.policy keys before after n
+parts_write v keys before after n h some lt e fits count =
+    let small : parts_bound v.policy (parts_by (is_full_filter v.policy v.size) keys) < 2 ^ 32 = uncapped _ (subst (λ (x : ℕ). x < 2 ^ 32) h.bound lt) in
+    some_parts v.size v.policy keys v.parts before after n h.filters h.ends some small e fits count
+  where
+    uncapped : (s : ℕ) → capped s < 2 ^ 32 → s < 2 ^ 32
+    uncapped s lt = omega (arith, lt)
+
+-- writing the parts, one behind another
+pub record PartsWritten (before now : Written) (cs : List CutPart) (hs : List Handle) : Type 0 where
+  pub bytes : now.bytes ≡ before.bytes ++ flat_map (filter_block V4) (filters_of cs)
+  pub started : now.started ≡ before.started
+  pub handles : hs ≡ tops_of (length before.bytes) cs
+
+pub written_none : (before now : Written) (hs : List Handle) → now ≡ before → hs ≡ [] → PartsWritten before now [] hs
+written_none before now hs e none = record {
+  bytes = ap (λ (w : Written). w.bytes) e ∙ sym (append-nil before.bytes);
+  started = ap (λ (w : Written). w.started) e;
+  handles = none;
+}
+
+-- the handle of the part behind others
+tops_push : (at : ℕ) (cs : List CutPart) (c : CutPart) (h : Handle) → h ≡ record {
+  end_key = c.end_key;
+  seqno = 0;
+  offset = at + length (flat_map (filter_block V4) (filters_of cs));
+  size = 24 + length (payload_of c.filter);
+} → tops_of at (cs ++ c ∷ []) ≡ tops_of at cs ++ h ∷ []
+tops_push at [] c h e =
+    let here : at + 0 ≡ at = omega arith in
+    let is : h ≡ record { end_key = c.end_key; seqno = 0; offset = at; size = 24 + length (payload_of c.filter) } =
+    e ∙ ap (λ (n : ℕ). record { end_key = c.end_key; seqno = 0; offset = n; size = 24 + length (payload_of c.filter) }) here in
+    ap (λ (x : Handle). x ∷ []) (sym is)
+tops_push at (d ∷ cs) c h e =
+    let next : ℕ = at + (24 + length (payload_of d.filter)) in
+    let here : at + length (flat_map (filter_block V4) (filters_of (d ∷ cs))) ≡ next + length (flat_map (filter_block V4) (filters_of cs)) =
+    omega (arith, length-append (filter_block V4 d.filter) (flat_map (filter_block V4) (filters_of cs)), length-block V4 Filter (payload_of d.filter)) in
+    let is : h ≡ record { end_key = c.end_key; seqno = 0; offset = next + length (flat_map (filter_block V4) (filters_of cs)); size = 24 + length (payload_of c.filter) } =
+    e ∙ ap (λ (n : ℕ). record { end_key = c.end_key; seqno = 0; offset = n; size = 24 + length (payload_of c.filter) }) here in
+    ap (λ (hs : List Handle). (record { end_key = d.end_key; seqno = 0; offset = at; size = 24 + length (payload_of d.filter) }) ∷ hs) (tops_push next cs c h is)
+
+pub written_more : (before now next : Written) (cs : List CutPart) (hs : List Handle) (c : CutPart) (payload : List ℕ) (place : Place) (h : Handle) (more : List Handle) →
+    PartsWritten before now cs hs → payload ≡ payload_of c.filter → next ≡ record now { bytes = now.bytes ++ block_bytes V4 Filter payload } →
+    place ≡ record { offset = length now.bytes; size = 24 + length payload } → h ≡ record { end_key = c.end_key; seqno = 0; offset = place.offset; size = place.size } →
+    more ≡ hs ++ h ∷ [] → PartsWritten before next (cs ++ c ∷ []) more
+written_more before now next cs hs c payload place h more w is e at named pushed =
+    let block : block_bytes V4 Filter payload ≡ filter_block V4 c.filter = ap (λ p. block_bytes V4 Filter p) is in
+    let of : List CutPart → List ℕ = λ ps. flat_map (filter_block V4) (filters_of ps) in
+    let all : of (cs ++ c ∷ []) ≡ of cs ++ (filter_block V4 c.filter ++ []) =
+    ap (λ fs. flat_map (filter_block V4) fs) (map-append (λ (p : CutPart). p.filter) cs (c ∷ [])) ∙ flat_map-append (filter_block V4) (filters_of cs) (c.filter ∷ []) in
+    let long : length now.bytes ≡ length before.bytes + length (of cs) = ap length w.bytes ∙ length-append before.bytes (of cs) in
+    let handle : h ≡ record { end_key = c.end_key; seqno = 0; offset = length before.bytes + length (of cs); size = 24 + length (payload_of c.filter) } =
+    named ∙ ap (λ (p : Place). record { end_key = c.end_key; seqno = 0; offset = p.offset; size = p.size }) at
+    ∙ rw (is, long) refl in
+    record {
+      bytes = ap (λ (x : Written). x.bytes) e ∙ ap (λ b. now.bytes ++ b) block ∙ ap (λ b. b ++ filter_block V4 c.filter) w.bytes
+          ∙ append_assoc before.bytes (of cs) (filter_block V4 c.filter)
+          ∙ ap (λ b. before.bytes ++ (of cs ++ b)) (sym (append-nil (filter_block V4 c.filter))) ∙ ap (λ b. before.bytes ++ b) (sym all);
+      started = ap (λ (x : Written). x.started) e ∙ w.started;
+      handles = pushed ∙ ap (λ x. x ++ h ∷ []) w.handles ∙ sym (tops_push (length before.bytes) cs c h handle);
+    }
+
+-- what was written before stays at the front
+pub front_stays : (before now : Written) (cs : List CutPart) (hs : List Handle) → PartsWritten before now cs hs → take (length before.bytes) now.bytes ≡ before.bytes
+front_stays before now cs hs w = ap (λ b. take (length before.bytes) b) w.bytes ∙ take-append_seam before.bytes _
+
+-- the handles of the top level, by the last keys of the parts
+ends_of_tops : (at : ℕ) (cs : List CutPart) → map end_of (tops_of at cs) ≡ map end_entry (end_keys cs)
+ends_of_tops at [] = refl
+ends_of_tops at (c ∷ cs) = ap (λ (es : List Entry). end_entry c.end_key ∷ es) (ends_of_tops (at + (24 + length (payload_of c.filter))) cs)
+
+pub tops_strict : (at : ℕ) (cs : List CutPart) (hs : List Handle) → hs ≡ tops_of at cs → AreRising (end_keys cs) → AreStrictHandles hs
+tops_strict at cs hs e rising = subst (λ es. IsStrict es) (sym (ap (λ xs. map end_of xs) e ∙ ends_of_tops at cs)) rising
+
+key_fault_of_tops : (at : ℕ) (cs : List CutPart) → key_fault (tops_of at cs) ≡ key_fault (map end_handle (end_keys cs))
+key_fault_of_tops at [] = refl
+key_fault_of_tops at (c ∷ cs) = ap (λ (f : Option Error). if is_long_key c.end_key then Some KeyTooLong else f) (key_fault_of_tops (at + (24 + length (payload_of c.filter))) cs)
+
+bound_of_tops : (at : ℕ) (cs : List CutPart) → sum_by handle_bound (tops_of at cs) ≡ sum_by handle_bound (map end_handle (end_keys cs))
+bound_of_tops at [] = refl
+bound_of_tops at (c ∷ cs) =
+    let next : ℕ = at + (24 + length (payload_of c.filter)) in
+    let first : Handle = record { end_key = c.end_key; seqno = 0; offset = at; size = 24 + length (payload_of c.filter) } in
+    sum_by-cons handle_bound first (tops_of next cs) ∙ ap (λ (n : ℕ). handle_bound first + n) (bound_of_tops next cs)
+    ∙ sym (sum_by-cons handle_bound (end_handle c.end_key) (map end_handle (end_keys cs)))
+
+pub tops_fault : (at : ℕ) (cs : List CutPart) (hs : List Handle) → hs ≡ tops_of at cs → top_fault (end_keys cs) ≡ handles_fault hs
+tops_fault at cs hs e =
+    let keys = key_fault_of_tops at cs in
+    let bound = bound_of_tops at cs in
+    sym (ap (λ xs. handles_fault xs) e ∙ rw (keys, bound) refl)
+
+pub length_tops : (at : ℕ) (cs : List CutPart) → length (tops_of at cs) ≡ length cs
+length_tops at [] = refl
+length_tops at (c ∷ cs) = omega (arith, length_tops (at + (24 + length (payload_of c.filter))) cs)
+
+-- what finishing does with the parts that are cut then
+pub finish_writes : (v : CutParts) (size : ℕ) (policy : BloomConstructionPolicy) (cs : List CutPart) (b : ℕ) (keys : List (List ℕ)) (before after : Written) (n : ℕ) →
+    HoldsAll v keys → v.policy ≡ policy → v.size ≡ size → cs ≡ v.parts → b ≡ v.bound → (cs ≡ [] → ⊥) → b < 2 ^ 32 →
+    after ≡ appended before (part_sections (length before.bytes) cs) → SectionFits (FilterTli, tops_block (length before.bytes) cs) → n ≡ length cs →
+    WritesFilter (Partitioned size) policy keys before after n
+finish_writes v size policy cs b keys before after n h same same' parts bound some lt e fits count =
+    let whole : WritesFilter (Partitioned v.size) v.policy keys before after n =
+    parts_write v keys before after n h (λ none. some (parts ∙ none)) (subst (λ (x : ℕ). x < 2 ^ 32) bound lt)
+    (e ∙ ap (λ ps. appended before (part_sections (length before.bytes) ps)) parts)
+    (subst (λ ps. SectionFits (FilterTli, tops_block (length before.bytes) ps)) parts fits) (count ∙ ap (λ (ps : List CutPart). length ps) parts) in
+    subst (λ (s : ℕ). WritesFilter (Partitioned s) policy keys before after n) same'
+    (subst (λ p. WritesFilter (Partitioned v.size) p keys before after n) same whole)
+
+pub finish_none : (v : CutParts) (size : ℕ) (policy : BloomConstructionPolicy) (cs : List CutPart) (keys : List (List ℕ)) (before : Written) →
+    HoldsAll v keys → v.policy ≡ policy → v.size ≡ size → cs ≡ v.parts → cs ≡ [] → WritesFilter (Partitioned size) policy keys before before 0
+finish_none v size policy cs keys before h same same' parts none =
+    subst (λ (s : ℕ). WritesFilter (Partitioned s) policy keys before before 0) same'
+    (subst (λ p. WritesFilter (Partitioned v.size) p keys before before 0) same (parts_none v keys before h (sym parts ∙ none)))
+
+-- and what it refuses
+section_fits : (n : ℕ) → n < 2 ^ 32 → section_fault n ≡ None
+section_fits n lt = ap (λ (b : Bool). if b then Some SectionTooLarge else None) (small n lt)
+  where
+    small : (n : ℕ) → n < 2 ^ 32 → nat_le (2 ^ 32) n ≡ false
+    small n lt = grind (arith, nat_tests, lt)
+
+pub finish_fault : (v : CutParts) (size : ℕ) (policy : BloomConstructionPolicy) (cs : List CutPart) (b : ℕ) (keys : List (List ℕ)) (failed : Bool) →
+    failed ≡ false → keys_fault policy (waiting_by (is_full_filter policy size) keys) ≡ None → HoldsAll v keys → v.policy ≡ policy → v.size ≡ size → cs ≡ v.parts → b ≡ v.bound → b < 2 ^ 32 →
+    option_or (failed_fault failed) (filter_fault (Partitioned size) policy keys) ≡ top_fault (end_keys cs)
+finish_fault v size policy cs b keys failed works rest h same same' parts bound lt =
+    let ps = parts_by (is_full_filter policy size) keys in
+    let ends : end_keys cs ≡ map last_of_keys ps = ap (λ (x : List CutPart). end_keys x) parts ∙ rw (same, same') at h.ends in
+    let sum : b ≡ capped (parts_bound policy ps) = bound ∙ rw (same, same') at h.bound in
+    let small : parts_bound policy ps < 2 ^ 32 = uncapped (parts_bound policy ps) (subst (λ (x : ℕ). x < 2 ^ 32) sum lt) in
+    rw (works, rest, section_fits (parts_bound policy ps) small, ends) refl
+  where
+    uncapped : (s : ℕ) → capped s < 2 ^ 32 → s < 2 ^ 32
+    uncapped s lt = omega (arith, lt)
+
+-- of a call that answers how many blocks it wrote
+pub written_blocks : (r : Result ℕ Error) (P Q : Type 0) (R S : ℕ → Type 0) → OnOk r P → OnOk r Q → IfOk r R → ((n : ℕ) → P → Q → R n → S n) → IfOk r S
+written_blocks (Ok n) P Q R S p q h step = step n p q h
+written_blocks (Err e) P Q R S p q h step = tt
+
+pub faults_same : (r : Result ℕ Error) (told other : Option Error) → told ≡ other → Faults r other → Faults r told
+faults_same r told other e h = subst (λ x. Faults r x) (sym e) h

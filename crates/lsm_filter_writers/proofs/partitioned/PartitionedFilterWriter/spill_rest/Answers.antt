@@ -1,0 +1,26 @@
+-- What waits is the last part.
+use Rattle.std.proofs.Common.{◌≡◌, ap, refl, sym, ◌∙◌, Some, None}
+use Rattle.std.proofs.lemmas.List.{append-nil}
+use Rattle.sst_blocks.proofs.HandleFaults.{on_ok}
+use Rattle.lsm_filter_writers.specs.Held.{as_list, CutParts, end_keys}
+use Rattle.lsm_filter_writers.proofs.Holding.{holds_all, rest_cuts}
+use Rattle.lsm_filter_writers.proofs.RisingLaws.{rising_front}
+use Rattle.lsm_filter_writers.proofs.partitioned.PartitionedFilterWriter.spill_rest.Goals as goal
+
+pub invariant_of-self-in-Some : goal.invariant_of-self-in-Some
+invariant_of-self-in-Some g c = rw (c.take.ensures.after, append-nil (end_keys c.self.inside.partitions.items)) (rising_front _ (as_list c.self.inside.last_key) c.self.invariant)
+
+pub returns-in-None-clause-ok : goal.returns-in-None-clause-ok
+returns-in-None-clause-ok g c = λ keys h.
+    holds_all c.args.self.now _ keys h (sym (ap (λ (w : CutParts). w.last) c.self.view_is) ∙ sym c.take.ensures.value ∙ c.in-None.is)
+    (ap (λ (w : CutParts). w.policy) c.self.view_is) (ap (λ (w : CutParts). w.size) c.self.view_is)
+    (ap (λ (w : CutParts). w.parts) c.self.view_is) (ap (λ (w : CutParts). w.bound) c.self.view_is)
+
+pub returns-in-Some-clause-ok : goal.returns-in-Some-clause-ok
+returns-in-Some-clause-ok g c = on_ok _ _ c.spill_filter_partition.result c.spill_filter_partition.ensures.ok
+    (λ cuts keys h.
+    let policy = ap (λ (w : CutParts). w.policy) c.self.view_is in
+    rest_cuts c.args.self.now _ c.spill_filter_partition.new.self keys c.in-Some.end_key h
+    (sym (ap (λ (w : CutParts). w.last) c.self.view_is) ∙ sym c.take.ensures.value ∙ c.in-Some.is)
+    policy (ap (λ (w : CutParts). w.parts) c.self.view_is) (ap (λ (w : CutParts). w.bound) c.self.view_is) (ap (λ (w : CutParts). w.hashes) c.self.view_is)
+    (c.spill_filter_partition.ensures.policy ∙ policy) (c.spill_filter_partition.ensures.size ∙ ap (λ (w : CutParts). w.size) c.self.view_is) cuts)

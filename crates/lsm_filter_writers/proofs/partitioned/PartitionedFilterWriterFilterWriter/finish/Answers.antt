@@ -1,0 +1,30 @@
+-- All parts are written, or nothing where there are none.
+use Rattle.std.proofs.Common.{◌≡◌, ◌<◌, ◌^◌, ap, refl, sym, subst, ◌∙◌, arith}
+use Rattle.lsm_filter_writers.specs.Held.{as_list, CutParts, end_keys}
+use Rattle.lsm_filter_writers.proofs.Emptiness.{vec_is_some}
+use Rattle.lsm_filter_writers.proofs.RisingLaws.{rising_front}
+use Rattle.lsm_filter_writers.proofs.Sections.{faults_same, finish_fault, finish_writes, written_blocks}
+use Rattle.lsm_filter_writers.proofs.partitioned.PartitionedFilterWriterFilterWriter.finish.Goals as goal
+
+pub write_sections-requires-clause-rising : goal.write_sections-requires-clause-rising
+write_sections-requires-clause-rising g c = rising_front (end_keys c.self-2.inside.partitions.items) (as_list c.self-2.inside.last_key) c.self-2.invariant
+
+pub returns-clause-ok : goal.returns-clause-ok
+returns-clause-ok g c =
+    written_blocks c.write_sections.result _ _ _ _ c.write_sections.ensures.ok c.write_sections.ensures.short c.write_sections.ensures.count
+    (λ n ok short count keys h.
+    finish_writes c.spill_rest.new.self c.args.self.size c.args.self.policy c.self-2.inside.partitions.items c.self-2.inside.relative_file_pos keys c.args.writer.now c.write_sections.new.writer n
+    (c.in_ok-spill_rest.ensures.ok keys h) c.spill_rest.ensures.policy c.spill_rest.ensures.size
+    (ap (λ (w : CutParts). w.parts) c.self-2.view_is) (ap (λ (w : CutParts). w.bound) c.self-2.view_is)
+    (vec_is_some c.self-2.inside.partitions c.self-2.inside.partitions.items c.is_empty.result refl c.is_empty.ensures c.if-is_empty.false)
+    (omega (arith, c.from.ensures, c.if-self-from.false)) ok short count)
+
+pub returns-clause-refused : goal.returns-clause-refused
+returns-clause-refused g c = λ keys h.
+    faults_same c.write_sections.result _ _
+    (finish_fault c.spill_rest.new.self c.args.self.size c.args.self.policy c.self-2.inside.partitions.items c.self-2.inside.relative_file_pos keys c.args.self.failed
+    (sym (ap (λ (w : CutParts). w.failed) c.self.view_is) ∙ c.if-self.false) (c.in_ok-spill_rest.ensures.refused keys h)
+    (c.in_ok-spill_rest.ensures.ok keys h) c.spill_rest.ensures.policy c.spill_rest.ensures.size
+    (ap (λ (w : CutParts). w.parts) c.self-2.view_is) (ap (λ (w : CutParts). w.bound) c.self-2.view_is)
+    (omega (arith, c.from.ensures, c.if-self-from.false)))
+    c.write_sections.ensures.refused

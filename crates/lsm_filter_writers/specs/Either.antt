@@ -1,0 +1,24 @@
+-- What a writer of either kind holds.
+use Rattle.std.specs.Prelude.{ℕ, Bool, List}
+use Rattle.sst_filters.specs.declared.policy.BloomConstructionPolicy.{BloomConstructionPolicy}
+use Rattle.lsm_files.specs.declared.options.FilterKind.{FilterKind}
+use Rattle.lsm_files.specs.declared.options.FilterKind.TheVariants.{Full, Partitioned}
+use Rattle.lsm_filter_writers.specs.Held.{HoldsHashes, HoldsParts}
+use Rattle.lsm_filter_writers.specs.declared.either.FilterWriterImpl.{FilterWriterImpl}
+use Rattle.lsm_filter_writers.specs.declared.either.FilterWriterImpl.TheVariants.{Full as FullWriter, Partitioned as PartitionedWriter}
+
+abbrev pub kind_by : {A : Type 0} → FilterWriterImpl A → FilterKind
+kind_by (FullWriter w) = Full
+kind_by (PartitionedWriter w) = Partitioned w.size
+
+abbrev pub policy_by : {A : Type 0} → FilterWriterImpl A → BloomConstructionPolicy
+policy_by (FullWriter w) = w.policy
+policy_by (PartitionedWriter w) = w.policy
+
+abbrev pub failed_by : {A : Type 0} → FilterWriterImpl A → Bool
+failed_by (FullWriter w) = w.failed
+failed_by (PartitionedWriter w) = w.failed
+
+abbrev pub HoldsBy : {A : Type 0} → FilterWriterImpl A → List (List ℕ) → Type 0
+HoldsBy (FullWriter w) keys = HoldsHashes w keys
+HoldsBy (PartitionedWriter w) keys = HoldsParts w keys

@@ -1,0 +1,92 @@
+-- What writers of filters hold, and the keys that it stands for.
+use Rattle.std.specs.Prelude.{◌≡◌, ℕ, ◌+◌, ◌-◌, ◌^◌, Bool, List, [], ◌∷◌, ◌++◌, length, map, min, Option, Some, None}
+use Rattle.sst_blocks.specs.Block.{header_len}
+use Rattle.sst_sections.specs.Fnv.{fnv1a}
+use Rattle.sst_filters.specs.declared.policy.BloomConstructionPolicy.{BloomConstructionPolicy}
+use Rattle.sst_filters.specs.Filter.{BloomFilter, payload_of}
+use Rattle.sst_filters.specs.Policy.{bound_for, tenths_of}
+use Rattle.lsm_files.specs.Filters.{AreFiltersFor, IsFilterFor, is_full_filter, last_of_keys}
+use Rattle.lsm_files.specs.Partitions.{Partition}
+use Rattle.lsm_files.specs.Parts.{parts_by}
+use Rattle.lsm_filter_writers.specs.Cutting.{closed_by, waiting_by}
+use Rattle.lsm_filter_writers.specs.Refusing.{parts_bound}
+
+-- the hashes of all keys
+pub record Hashes : Type 0 where
+  pub policy : BloomConstructionPolicy
+  pub hashes : List ℕ
+  pub failed : Bool
+
+-- these are the keys
+pub record HoldsHashes (w : Hashes) (keys : List (List ℕ)) : Type 0 where
+  pub hashes : w.hashes ≡ map fnv1a keys
+
+-- a part that was cut: its last key and its filter
+pub record CutPart : Type 0 where
+  pub end_key : List ℕ
+  pub filter : BloomFilter
+
+-- the parts that were cut, with a bound on the length of their blocks, and of the part that waits the hashes
+-- and the last key
+pub record CutParts : Type 0 where
+  pub policy : BloomConstructionPolicy
+  pub size : ℕ
+  pub parts : List CutPart
+  pub bound : ℕ
+  pub hashes : List ℕ
+  pub last : Option (List ℕ)
+  pub failed : Bool
+
+abbrev pub end_keys : List CutPart → List (List ℕ)
+end_keys parts = map (λ (p : CutPart). p.end_key) parts
+
+abbrev pub filters_of : List CutPart → List BloomFilter
+filters_of parts = map (λ (p : CutPart). p.filter) parts
+
+-- what the top level has of a part that was cut
+abbrev pub partition_of : CutPart → Partition
+partition_of p = record {
+  end_key = p.end_key;
+  seqno = 0;
+  size = header_len + length (payload_of p.filter);
+}
+
+-- the last of some keys, where there are keys
+abbrev pub last_key_of : List (List ℕ) → Option (List ℕ)
+last_key_of [] = None
+last_key_of (k ∷ keys) = Some (last_of_keys (k ∷ keys))
+
+-- a last key as a list
+abbrev pub as_list : Option (List ℕ) → List (List ℕ)
+as_list None = []
+as_list (Some key) = key ∷ []
+
+abbrev pub capped : ℕ → ℕ
+capped n = min n (2 ^ 64 - 1)
+
+-- these are the keys: the parts that are cut of them have the filters, and the rest waits
+pub record HoldsParts (w : CutParts) (keys : List (List ℕ)) : Type 0 where
+  pub filters : AreFiltersFor w.policy (closed_by (is_full_filter w.policy w.size) keys)
+      (filters_of w.parts)
+  pub ends : end_keys w.parts ≡ map last_of_keys (closed_by (is_full_filter w.policy w.size) keys)
+  pub bound : w.bound ≡
+      capped (parts_bound w.policy (closed_by (is_full_filter w.policy w.size) keys))
+  pub hashes : w.hashes ≡ map fnv1a (waiting_by (is_full_filter w.policy w.size) keys)
+  pub last : w.last ≡ last_key_of (waiting_by (is_full_filter w.policy w.size) keys)
+
+-- these are the keys, all cut: each part has its filter
+pub record HoldsAll (w : CutParts) (keys : List (List ℕ)) : Type 0 where
+  pub filters : AreFiltersFor w.policy (parts_by (is_full_filter w.policy w.size) keys)
+      (filters_of w.parts)
+  pub ends : end_keys w.parts ≡ map last_of_keys (parts_by (is_full_filter w.policy w.size) keys)
+  pub bound : w.bound ≡
+      capped (parts_bound w.policy (parts_by (is_full_filter w.policy w.size) keys))
+
+-- what waits was cut off as a part with this last key
+pub record Cuts (key : List ℕ) (w v : CutParts) : Type 0 where
+  pub filter : BloomFilter
+  pub is : (keys : List (List ℕ)) → w.hashes ≡ map fnv1a keys → IsFilterFor w.policy keys filter
+  pub parts : v.parts ≡ w.parts ++ record { end_key = key; filter = filter } ∷ []
+  pub bound : v.bound ≡ capped (w.bound + bound_for (tenths_of w.policy) (length w.hashes))
+  pub hashes : v.hashes ≡ []
+  pub last : v.last ≡ None

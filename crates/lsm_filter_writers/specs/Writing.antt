@@ -1,0 +1,51 @@
+-- What writing the filter of some keys does.
+use Rattle.std.specs.Prelude.{◌≡◌, ℕ, List, [], ◌∷◌, length, map}
+use Rattle.std.specs.List.{AllByRecursion, flat_map}
+use Rattle.sst_sections.specs.declared.version.TableVersion.TheVariants.{V4}
+use Rattle.sst_sections.specs.Sections.{Written}
+use Rattle.sst_sections.specs.declared.section.SectionName.TheVariants.{Filter as FilterSection, FilterTli}
+use Rattle.sst_blocks.specs.Handle.{Handle}
+use Rattle.sst_filters.specs.declared.policy.BloomConstructionPolicy.{BloomConstructionPolicy}
+use Rattle.sst_filters.specs.Filter.{BloomFilter}
+use Rattle.lsm_files.specs.declared.options.FilterKind.{FilterKind}
+use Rattle.lsm_files.specs.declared.options.FilterKind.TheVariants.{Full, Partitioned}
+use Rattle.lsm_files.specs.Filters.{AreFiltersFor, filter_block}
+use Rattle.lsm_files.specs.Fits.{SectionFits}
+use Rattle.lsm_files.specs.Kinds.{filter_count, filter_parts, filter_sections}
+use Rattle.lsm_files.specs.Layout.{Sections, appended}
+use Rattle.lsm_files.specs.Partitions.{handles_block, tops_from}
+use Rattle.lsm_filter_writers.specs.Held.{CutPart, filters_of, partition_of}
+
+-- the sections of the filters of these keys, behind what was written before
+abbrev pub sections_behind : FilterKind → BloomConstructionPolicy → List (List ℕ) → Written
+    → List BloomFilter → Sections
+sections_behind kind policy keys before fs =
+    filter_sections kind V4 (length before.bytes) (filter_parts kind policy keys) fs
+
+-- the filters of these keys were written behind what was written before, and so many blocks are counted
+pub record WritesFilter (kind : FilterKind) (policy : BloomConstructionPolicy)
+    (keys : List (List ℕ)) (before after : Written) (count : ℕ) : Type 0 where
+  pub filters : List BloomFilter
+  pub are : AreFiltersFor policy (filter_parts kind policy keys) filters
+  pub written : after ≡ appended before (sections_behind kind policy keys before filters)
+  pub counted : count ≡ filter_count kind filters
+  pub fit : AllByRecursion SectionFits (sections_behind kind policy keys before filters)
+
+-- the top level of some parts, the first of them at a position
+abbrev pub tops_of : ℕ → List CutPart → List Handle
+tops_of at parts = tops_from at (map partition_of parts)
+
+abbrev pub tops_block : ℕ → List CutPart → List ℕ
+tops_block at parts = handles_block V4 (tops_of at parts)
+
+-- the sections of some parts
+abbrev pub part_sections : ℕ → List CutPart → Sections
+part_sections at parts =
+    (FilterSection, flat_map (filter_block V4) (filters_of parts))
+    ∷ (FilterTli, tops_block at parts)
+    ∷ []
+
+-- the kind with partitions of this size, where it has partitions
+abbrev pub with_size : ℕ → FilterKind → FilterKind
+with_size size Full = Full
+with_size size (Partitioned before) = Partitioned size

@@ -1,0 +1,24 @@
+//! Building the filter of some keys.
+ghost use Rattle.std.specs.Prelude.{◌≡◌, ℕ, List, length, map, IfOk};
+ghost use Rattle.lsm_filter_writers.specs.Words.{Faults, IsFilterFor, fault_for, fnv1a, tenths_of};
+
+use sst_blocks::{BloomConstructionPolicy, Builder, Error};
+use std::alloc::Allocator;
+
+/// The filter of the keys of these hashes. Refused [`Error::BlockTooLarge`] where its block would have 2^32 bytes or more,
+/// and [`Error::OutOfMemory`].
+pub(crate) fn build_filter<A: Allocator>(
+    alloc: A,
+    policy: &BloomConstructionPolicy,
+    hashes: &[u64],
+) -> Result<Builder<A>, Error>
+    ensures filter { IfOk result (λ f. (keys : List (List ℕ)) →
+        hashes.now ≡ map fnv1a keys → IsFilterFor policy.now keys f) }
+    ensures refused { Faults result (fault_for (tenths_of policy.now) (length hashes.now)) }
+{
+    let mut filter = policy.init(alloc, hashes.len())?;
+    for hash in hashes {
+        filter.set_with_hash(*hash);
+    }
+    Ok(filter)
+}

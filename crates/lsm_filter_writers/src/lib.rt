@@ -1,0 +1,14 @@
+//! Writers of the filter of a table's keys: one block with all keys, or partitions and a top level.
+#![tactic(auto)]
+
+mod build;
+mod either;
+mod full;
+mod partitioned;
+mod writer;
+
+pub use either::FilterWriterImpl;
+pub use full::FullFilterWriter;
+pub use lsm_files::FilterKind;
+pub use partitioned::PartitionedFilterWriter;
+pub use writer::{FilterWriter, small_partitions_fit};

@@ -1,0 +1,302 @@
+//! The writer of a filter of partitions.
+ghost use Rattle.std.specs.Prelude.{◌≡◌, ◌++◌, ◌∷◌, ℕ, List, [], None, true, false, nat_le, length, map, take, All, IfOk, IfErr, OnOk};
+ghost use Rattle.lsm_filter_writers.specs.Words.{AreRising, AreStrictHandles, Cuts, Faults, FaultsFirst};
+ghost use Rattle.lsm_filter_writers.specs.Words.{HasNoFilter, HoldsAll, HoldsParts, SectionFits};
+ghost use Rattle.lsm_filter_writers.specs.Words.{appended, end_keys, fault_for, filter_block, filters_of};
+ghost use Rattle.lsm_filter_writers.specs.Words.{handles_block, handles_fault, is_full_filter, keys_fault};
+ghost use Rattle.lsm_filter_writers.specs.Words.{part_sections, register_fault, size_for, slot_index};
+ghost use Rattle.lsm_filter_writers.specs.Words.{tenths_of, top_fault, tops_block, tops_of};
+ghost use Rattle.lsm_filter_writers.specs.Words.{waiting_by};
+ghost use Rattle.std.specs.List.{flat_map};
+ghost use Rattle.lsm_files.specs.declared.options.FilterKind.TheVariants.{Partitioned};
+ghost use Rattle.sst_entries.specs.declared.error.Error.TheVariants.{OutOfMemory};
+ghost use Rattle.sst_sections.specs.declared.section.SectionName.TheVariants.{FilterTli};
+ghost use Rattle.sst_sections.specs.declared.version.TableVersion.TheVariants.{V4};
+
+use crate::build::build_filter;
+use crate::writer::FilterWriter;
+use sst_blocks::{
+    Block, BlockType, BloomConstructionPolicy, Builder, CompressionType, Error, IndexBlock,
+    KeyedBlockHandle, SectionName, SectionWriter, UserKey, filter_bound,
+};
+use std::alloc::{Allocator, Global};
+use std::marker::Model;
+
+/// A partition that was cut: the last of its keys, and its filter.
+#[derive(Drop)]
+struct FilterPartition<A: Allocator = Global> {
+    end_key: UserKey<A>,
+    filter: Builder<A>,
+}
+
+impl<A: Allocator> Model for FilterPartition<A> {
+    ghost use Rattle.lsm_filter_writers.specs.Held.{CutPart};
+
+    ghost Value = { CutPart };
+
+    ghost view = { λ p. record { end_key = p.end_key; filter = p.filter } };
+}
+
+/// Writes a filter of partitions, each cut when it has so many bytes, and a top level that has their last keys. A contract
+/// sees the filters of the partitions that were cut, and the hashes of the keys behind them.
+#[derive(Drop)]
+pub struct PartitionedFilterWriter<A: Allocator = Global> {
+    bloom_policy: BloomConstructionPolicy,
+    partition_size: u32,
+    compression: CompressionType,
+    // what was cut, and where its blocks end when they are written one behind another
+    partitions: Vec<FilterPartition<A>, A>,
+    relative_file_pos: u64,
+    // the keys behind: their hashes, and the last one where there are any
+    bloom_hash_buffer: Vec<u64, A>,
+    last_key: Option<UserKey<A>>,
+    failed: bool,
+}
+
+impl<A: Allocator> Model for PartitionedFilterWriter<A> {
+    ghost use Rattle.std.specs.Prelude.{◌++◌};
+    ghost use Rattle.lsm_filter_writers.specs.Held.{CutParts, as_list, end_keys};
+    ghost use Rattle.lsm_filter_writers.specs.Rising.{AreRising};
+
+    ghost Value = { CutParts };
+
+    ghost view = { λ w. record {
+      policy = w.bloom_policy;
+      size = w.partition_size;
+      parts = w.partitions.items;
+      bound = w.relative_file_pos;
+      hashes = w.bloom_hash_buffer.items;
+      last = w.last_key;
+      failed = w.failed;
+    } };
+
+    ghost invariant = { λ w. AreRising (end_keys w.partitions.items ++ as_list w.last_key) };
+}
+
+impl<A: Allocator + Clone> PartitionedFilterWriter<A> {
+    /// No keys, and partitions of 4,096 bytes. Refused [`Error::OutOfMemory`] where the allocator does not clone.
+    pub fn new(
+        alloc: A,
+        policy: BloomConstructionPolicy,
+    ) -> Result<PartitionedFilterWriter<A>, Error>
+        ensures value { IfOk result (λ w. w ≡ record {
+          policy = policy;
+          size = 4096;
+          parts = [];
+          bound = 0;
+          hashes = [];
+          last = None;
+          failed = false;
+        }) }
+        ensures holds { IfOk result (λ w. HoldsParts w []) }
+        ensures err { IfErr result (λ e. e ≡ OutOfMemory) }
+    {
+        Ok(PartitionedFilterWriter {
+            bloom_policy: policy,
+            partition_size: 4_096,
+            compression: CompressionType::None,
+            partitions: Vec::new(alloc.clone()?),
+            relative_file_pos: 0,
+            bloom_hash_buffer: Vec::new(alloc),
+            last_key: None,
+            failed: false,
+        })
+    }
+
+    // Whether the pending keys are cut off.
+    fn is_full(&self) -> bool
+        ensures { result ≡
+            nat_le self.now.size (size_for (tenths_of self.now.policy) (length self.now.hashes)) }
+    {
+        let approx_filter_size = self
+            .bloom_policy
+            .estimated_filter_size(self.bloom_hash_buffer.len());
+        approx_filter_size >= self.partition_size as usize
+    }
+
+    // Cuts the pending keys off, of which `end_key` is the last.
+    fn spill_filter_partition(&mut self, end_key: UserKey<A>) -> Result<(), Error>
+        requires { AreRising (end_keys self.old.parts ++ end_key ∷ []) }
+        ensures ok { OnOk result (Cuts end_key self.old self.new) }
+        ensures policy { self.new.policy ≡ self.old.policy }
+        ensures size { self.new.size ≡ self.old.size }
+        ensures failed { self.new.failed ≡ self.old.failed }
+        ensures refused { let n = length self.old.hashes in
+            Faults result (fault_for (tenths_of self.old.policy) n) }
+    {
+        let n = self.bloom_hash_buffer.len();
+        let alloc = self.bloom_hash_buffer.allocator().clone()?;
+        let filter = build_filter(alloc, &self.bloom_policy, &self.bloom_hash_buffer)?;
+        self.partitions.push(FilterPartition { end_key, filter })?;
+        self.relative_file_pos = self
+            .relative_file_pos
+            .saturating_add(filter_bound(&self.bloom_policy, n));
+        self.bloom_hash_buffer.clear();
+        self.last_key = None;
+        Ok(())
+    }
+
+    // Adds a key to those that are pending, and cuts them off where they are enough.
+    fn push_key(&mut self, key: &UserKey<A>) -> Result<(), Error>
+        requires { AreRising (end_keys self.old.parts ++ key.now ∷ []) }
+        ensures ok { OnOk result ((keys : List (List ℕ)) →
+            HoldsParts self.old keys → HoldsParts self.new (keys ++ key.now ∷ [])) }
+        ensures policy { self.new.policy ≡ self.old.policy }
+        ensures size { self.new.size ≡ self.old.size }
+        ensures failed { self.new.failed ≡ self.old.failed }
+        ensures refused { (keys : List (List ℕ)) → HoldsParts self.old keys →
+            let kind = Partitioned self.old.size in
+            Faults result (register_fault kind self.old.policy keys key.now) }
+    {
+        let end_key = key.clone()?;
+        self.bloom_hash_buffer
+            .push(Builder::<A>::get_hash(key.as_slice()))?;
+        if self.is_full() {
+            return self.spill_filter_partition(end_key);
+        }
+        self.last_key = Some(end_key);
+        Ok(())
+    }
+
+    // Cuts the pending keys off, where there are any.
+    fn spill_rest(&mut self) -> Result<(), Error>
+        ensures ok { OnOk result ((keys : List (List ℕ)) →
+            HoldsParts self.old keys → HoldsAll self.new keys) }
+        ensures policy { self.new.policy ≡ self.old.policy }
+        ensures size { self.new.size ≡ self.old.size }
+        ensures refused { (keys : List (List ℕ)) → HoldsParts self.old keys →
+            let full = is_full_filter self.old.policy self.old.size in
+            Faults result (keys_fault self.old.policy (waiting_by full keys)) }
+    {
+        match self.last_key.take() {
+            None => Ok(()),
+            Some(end_key) => self.spill_filter_partition(end_key),
+        }
+    }
+}
+
+impl<A: Allocator + Clone> FilterWriter<A> for PartitionedFilterWriter<A> {
+    ghost use Rattle.lsm_filter_writers.specs.Held.{HoldsParts};
+    ghost use Rattle.lsm_files.specs.declared.options.FilterKind.TheVariants.{Partitioned};
+
+    ghost kind = { λ w. Partitioned w.size };
+
+    ghost policy = { λ w. w.policy };
+
+    ghost has_failed = { λ w. w.failed };
+
+    ghost Holds = { HoldsParts };
+
+    fn register_key(&mut self, key: &UserKey<A>) -> Result<(), Error> {
+        if self.failed {
+            return Err(Error::WriterFailed); // nothing is registered
+        }
+        self.failed = true;
+        self.push_key(key)?;
+        self.failed = false;
+        Ok(())
+    }
+
+    fn finish(mut self, writer: &mut SectionWriter<A>) -> Result<usize, Error> {
+        if self.failed {
+            return Err(Error::WriterFailed); // nothing is written
+        }
+        self.spill_rest()?;
+        if self.partitions.is_empty() {
+            return Ok(0);
+        }
+        if self.relative_file_pos > u64::from(u32::MAX) {
+            return Err(Error::SectionTooLarge);
+        }
+        write_sections(writer, self.partitions, self.compression)
+    }
+
+    fn set_filter_policy(
+        mut self,
+        bloom_policy: BloomConstructionPolicy,
+    ) -> PartitionedFilterWriter<A> {
+        self.bloom_policy = bloom_policy;
+        self
+    }
+
+    fn use_tli_compression(mut self, compression: CompressionType) -> PartitionedFilterWriter<A> {
+        self.compression = compression;
+        self
+    }
+
+    fn use_partition_size(mut self, size: u32) -> PartitionedFilterWriter<A> {
+        self.partition_size = size;
+        self
+    }
+}
+
+/// Writes the section of the partitions, one behind another, and the section of their top level. Answers how many partitions
+/// there are. Refused where the top level's block is too large, and [`Error::OutOfMemory`].
+fn write_sections<A: Allocator + Clone>(
+    writer: &mut SectionWriter<A>,
+    partitions: Vec<FilterPartition<A>, A>,
+    compression: CompressionType,
+) -> Result<usize, Error>
+    requires unwritten { HasNoFilter writer.old }
+    requires rising { AreRising (end_keys partitions.items) }
+    ensures ok { OnOk result (writer.new ≡
+        appended writer.old (part_sections (length writer.old.bytes) partitions.items)) }
+    ensures short { OnOk result (
+        SectionFits (FilterTli, tops_block (length writer.old.bytes) partitions.items)) }
+    ensures count { IfOk result (λ n. n ≡ length partitions.items) }
+    ensures before { take (length writer.old.bytes) writer.new.bytes ≡ writer.old.bytes }
+    ensures refused { Faults result (top_fault (end_keys partitions.items)) }
+{
+    let alloc = partitions.allocator().clone()?;
+    writer.start(SectionName::Filter)?;
+    let handles = write_partitions(writer, alloc.clone()?, partitions)?;
+    write_top_level(writer, alloc, &handles, compression)?;
+    Ok(handles.len())
+}
+
+/// Writes the blocks of the partitions, one behind another, and answers the top level's handles of them. Refused
+/// [`Error::OutOfMemory`] alone.
+fn write_partitions<A: Allocator + Clone>(
+    writer: &mut SectionWriter<A>,
+    alloc: A,
+    partitions: Vec<FilterPartition<A>, A>,
+) -> Result<Vec<KeyedBlockHandle<A>, A>, Error>
+    ensures ok { OnOk result (writer.new.bytes ≡
+        writer.old.bytes ++ flat_map (filter_block V4) (filters_of partitions.items)) }
+    ensures handles { let at = length writer.old.bytes in
+        IfOk result (λ hs. hs.items ≡ tops_of at partitions.items) }
+    ensures started { writer.new.started ≡ writer.old.started }
+    ensures before { take (length writer.old.bytes) writer.new.bytes ≡ writer.old.bytes }
+    ensures err { IfErr result (λ e. e ≡ OutOfMemory) }
+{
+    let mut handles = Vec::new(alloc);
+    for partition in partitions {
+        let payload = partition.filter.build();
+        let place = Block::write_into(writer, &payload, BlockType::Filter, CompressionType::None)?;
+        handles.push(KeyedBlockHandle::new(partition.end_key, 0, place))?;
+    }
+    Ok(handles)
+}
+
+/// Writes the section of the top level: one block of these handles. Refused where it is too large, and
+/// [`Error::OutOfMemory`].
+fn write_top_level<A: Allocator + Clone>(
+    writer: &mut SectionWriter<A>,
+    alloc: A,
+    handles: &[KeyedBlockHandle<A>],
+    compression: CompressionType,
+) -> Result<(), Error>
+    requires unwritten { All (λ s. slot_index s.0 ≡ 4 → ⊥) writer.old.started }
+    requires strict { AreStrictHandles handles.now }
+    ensures ok { OnOk result (writer.new ≡
+        appended writer.old ((FilterTli, handles_block V4 handles.now) ∷ [])) }
+    ensures short { OnOk result (SectionFits (FilterTli, handles_block V4 handles.now)) }
+    ensures before { take (length writer.old.bytes) writer.new.bytes ≡ writer.old.bytes }
+    ensures refused { Faults result (handles_fault handles.now) }
+{
+    let mut payload = Vec::new(alloc);
+    IndexBlock::encode_into(&mut payload, handles)?;
+    writer.start(SectionName::FilterTli)?;
+    Block::write_into(writer, &payload, BlockType::Index, compression)?;
+    Ok(())
+}

@@ -1,0 +1,4 @@
+pub mod Strict
+pub mod Tops
+pub mod Cutting
+pub mod Finishing

@@ -1,0 +1,8 @@
+-- What a writer of either kind holds.
+use Rattle.lsm_index_writers.specs.Registered.{Registered}
+use Rattle.lsm_index_writers.specs.declared.either.IndexWriterImpl.{IndexWriterImpl}
+use Rattle.lsm_index_writers.specs.declared.either.IndexWriterImpl.TheVariants.{Full, Partitioned}
+
+abbrev pub registered_by : {A : Type 0} → IndexWriterImpl A → Registered
+registered_by (Full w) = w
+registered_by (Partitioned w) = w

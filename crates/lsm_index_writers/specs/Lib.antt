@@ -1,0 +1,4 @@
+pub mod Registered
+pub mod Refusing
+pub mod Words
+pub mod Either

@@ -1,0 +1,41 @@
+-- What index writers refuse.
+use Rattle.std.specs.Prelude.{ℕ, ◌+◌, ◌^◌, nat_le, Bool, List, [], ◌∷◌, Option, Some, None, if◌then◌else◌}
+use Rattle.std.specs.Option.{option_or}
+use Rattle.sst_entries.specs.declared.error.Error.{Error}
+use Rattle.sst_entries.specs.declared.error.Error.TheVariants.{SectionTooLarge}
+use Rattle.sst_sections.specs.declared.version.TableVersion.TheVariants.{V4}
+use Rattle.sst_blocks.specs.Bounds.{index_block_bound_of}
+use Rattle.sst_blocks.specs.Encoding.{handles_fault}
+use Rattle.sst_blocks.specs.Handle.{Handle}
+use Rattle.lsm_files.specs.Failed.{failed_fault}
+use Rattle.lsm_files.specs.Parts.{parts_by}
+use Rattle.lsm_files.specs.Partitions.{index_tops, is_full_index}
+use Rattle.lsm_files.specs.declared.options.IndexKind.{IndexKind}
+use Rattle.lsm_files.specs.declared.options.IndexKind.TheVariants.{Full, Partitioned}
+
+-- the blocks of a section with so many bytes at most are too large
+abbrev pub section_fault : ℕ → Option Error
+section_fault bound = if nat_le (2 ^ 32) bound then Some SectionTooLarge else None
+
+-- what a part refuses behind blocks with so many bytes at most: its own block, then the section so far
+abbrev pub part_fault : ℕ → List Handle → Option Error
+part_fault before part =
+    option_or (handles_fault part) (section_fault (before + index_block_bound_of part))
+
+-- the same of parts, one after another
+unfoldable pub parts_fault : ℕ → List (List Handle) → Option Error
+parts_fault before [] = None
+parts_fault before (p ∷ ps) =
+    option_or (part_fault before p) (parts_fault (before + index_block_bound_of p) ps)
+
+-- what an index of these handles refuses: its one block; or its parts, then the block of the top level, whatever position
+-- the parts begin at
+abbrev pub kind_fault : IndexKind → List Handle → Option Error
+kind_fault Full hs = handles_fault hs
+kind_fault (Partitioned size) hs =
+    let parts = parts_by (is_full_index size) hs in
+    option_or (parts_fault 0 parts) (handles_fault (index_tops V4 0 parts))
+
+-- what finishing refuses, first that the writer has failed
+abbrev pub index_fault : IndexKind → Bool → List Handle → Option Error
+index_fault kind failed hs = option_or (failed_fault failed) (kind_fault kind hs)

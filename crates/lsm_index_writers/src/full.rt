@@ -1,0 +1,93 @@
+//! The writer of a full index.
+ghost use Rattle.std.specs.Prelude.{◌≡◌, [], false};
+ghost use Rattle.lsm_index_writers.specs.Words.{AreStrictHandles};
+ghost use Rattle.lsm_index_writers.specs.Either.{registered_by};
+ghost use Rattle.lsm_files.specs.declared.options.IndexKind.TheVariants.{Full};
+
+use crate::block::write_top_level;
+use crate::either::IndexWriterImpl;
+use crate::held::HeldHandles;
+use crate::writer::BlockIndexWriter;
+use lsm_files::IndexKind;
+use sst_blocks::{CompressionType, Error, KeyedBlockHandle, SectionWriter};
+use std::alloc::{Allocator, Global};
+use std::marker::Model;
+
+/// Writes an index of one block, which has the handles of all data blocks. A contract sees the handles.
+#[derive(Drop)]
+pub struct FullIndexWriter<A: Allocator = Global> {
+    compression: CompressionType,
+    held: HeldHandles<A>,
+}
+
+impl<A: Allocator> Model for FullIndexWriter<A> {
+    ghost use Rattle.sst_blocks.specs.Handles.{AreStrictHandles};
+    ghost use Rattle.lsm_files.specs.declared.options.IndexKind.TheVariants.{Full};
+    ghost use Rattle.lsm_index_writers.specs.Registered.{Registered};
+
+    ghost Value = { Registered };
+
+    ghost view = { λ w. record {
+      handles = w.held.handles.items;
+      kind = Full;
+      failed = w.held.failed;
+    } };
+
+    ghost invariant = { λ w. AreStrictHandles w.held.handles.items };
+}
+
+impl<A: Allocator> FullIndexWriter<A> {
+    /// No handles.
+    pub fn new(alloc: A) -> FullIndexWriter<A>
+        ensures { result ≡ record { handles = []; kind = Full; failed = false } }
+    {
+        FullIndexWriter::of(CompressionType::None, HeldHandles::new(alloc))
+    }
+
+    /// A writer of these handles.
+    pub(crate) fn of(compression: CompressionType, held: HeldHandles<A>) -> FullIndexWriter<A>
+        requires { AreStrictHandles held.handles.items }
+        ensures { result ≡
+            record { handles = held.handles.items; kind = Full; failed = held.failed } }
+    {
+        FullIndexWriter { compression, held }
+    }
+
+    /// A writer of an index of another kind, with the same handles: so a table's writer can choose the kind when all handles
+    /// are there.
+    pub fn into_kind(self, kind: IndexKind) -> IndexWriterImpl<A>
+        ensures { registered_by result ≡ record self { kind = kind } }
+    {
+        IndexWriterImpl::of(kind, self.compression, self.held)
+    }
+}
+
+impl<A: Allocator + Clone> BlockIndexWriter<A> for FullIndexWriter<A> {
+    ghost kind = { λ w. w.kind };
+
+    ghost registered = { λ w. w.handles };
+
+    ghost has_failed = { λ w. w.failed };
+
+    fn register_data_block(&mut self, handle: &KeyedBlockHandle<A>) -> Result<(), Error> {
+        self.held.register_data_block(handle)
+    }
+
+    fn finish(self, writer: &mut SectionWriter<A>) -> Result<usize, Error> {
+        if self.held.failed {
+            return Err(Error::WriterFailed); // nothing is written
+        }
+        let mut buffer = Vec::new(self.held.handles.allocator().clone()?);
+        write_top_level(writer, &self.held.handles, &mut buffer, self.compression)?;
+        Ok(1)
+    }
+
+    fn use_compression(mut self, compression: CompressionType) -> FullIndexWriter<A> {
+        self.compression = compression;
+        self
+    }
+
+    fn use_partition_size(self, _size: u32) -> FullIndexWriter<A> {
+        self
+    }
+}

@@ -1,5 +1,0 @@
-//! Block indexes: from keys to the handles of data blocks.
-
-mod full;
-
-pub use full::FullBlockIndex;

@@ -1,0 +1,46 @@
+-- Calls that nothing but want of memory refuses.
+use Rattle.std.proofs.Common.{◌≡◌, refl, sym, subst, ◌∙◌, Bool, true, false}
+use Rattle.std.specs.Prelude.{Option, Some, None, Result, Ok, Err, IfErr, IsErrAnd}
+use Rattle.sst_entries.specs.Error.{Faults, is_memory}
+use Rattle.sst_entries.specs.declared.error.Error.{Error}
+use Rattle.sst_entries.specs.declared.error.Error.TheVariants.{OutOfMemory, Truncated, InvalidHeader, InvalidTag, ChecksumMismatch, InvalidBlock, KeyTooLong, ValueTooLong, BlockTooLarge, SectionTooLarge, InvalidTrailer, MissingSection, MetaKeyMissing, InvalidMetaValue, UnsupportedTableVersion, UnsupportedHashType, UnsupportedChecksumType, UnsupportedIndexInterval, UnsupportedCompression, GlobalSeqNoTooLarge, SeqNoOverflow, TableIdsSpent, WriterFailed, Source}
+
+memory_is : (e : Error) → is_memory e ≡ true → e ≡ OutOfMemory
+memory_is OutOfMemory h = refl
+memory_is Truncated h = absurd cc
+memory_is InvalidHeader h = absurd cc
+memory_is (InvalidTag name byte) h = absurd cc
+memory_is ChecksumMismatch h = absurd cc
+memory_is InvalidBlock h = absurd cc
+memory_is KeyTooLong h = absurd cc
+memory_is ValueTooLong h = absurd cc
+memory_is BlockTooLarge h = absurd cc
+memory_is SectionTooLarge h = absurd cc
+memory_is InvalidTrailer h = absurd cc
+memory_is MissingSection h = absurd cc
+memory_is MetaKeyMissing h = absurd cc
+memory_is InvalidMetaValue h = absurd cc
+memory_is UnsupportedTableVersion h = absurd cc
+memory_is UnsupportedHashType h = absurd cc
+memory_is UnsupportedChecksumType h = absurd cc
+memory_is UnsupportedIndexInterval h = absurd cc
+memory_is UnsupportedCompression h = absurd cc
+memory_is GlobalSeqNoTooLarge h = absurd cc
+memory_is SeqNoOverflow h = absurd cc
+memory_is TableIdsSpent h = absurd cc
+memory_is WriterFailed h = absurd cc
+memory_is (Source n) h = absurd cc
+
+memory_or : (e : Error) (told : Option Error) (b : Bool) → is_memory e ≡ b → told ≡ None → (is_memory e ≡ false → told ≡ Some e) → e ≡ OutOfMemory
+memory_or e told true m none h = memory_is e m
+memory_or e told false m none h = let no : None ≡ Some e = sym none ∙ h m in cc
+
+-- where no fault is told, a refusal is want of memory
+pub memory_alone : {X : Type 0} (r : Result X Error) (told : Option Error) → told ≡ None → Faults r told → IfErr r (λ e. e ≡ OutOfMemory)
+memory_alone (Ok x) told none h = tt
+memory_alone (Err e) told none h = memory_or e told (is_memory e) refl none h
+
+-- the same of a call that passes its refusal on
+pub passed_on : {X Y : Type 0} (r : Result X Error) (s : Result Y Error) (e : Error) → s ≡ Err e → IfErr s (λ x. x ≡ OutOfMemory) → IsErrAnd r (λ y. y ≡ e) → IfErr r (λ x. x ≡ OutOfMemory)
+passed_on {X} {Y} (Ok x) s e is told was = tt
+passed_on {X} {Y} (Err y) s e is told was = was ∙ subst (λ (t : Result Y Error). IfErr t (λ x. x ≡ OutOfMemory)) is told

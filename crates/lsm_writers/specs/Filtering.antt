@@ -1,0 +1,49 @@
+-- The keys of a table's filter, and the filter writer that has them.
+use Rattle.std.specs.Prelude.{◌≡◌, ℕ, ◌≤◌, Bool, false, ◌&&◌, nat_lt, List, [], ◌∷◌, ◌++◌, Option, Some, None, if◌then◌else◌}
+use Rattle.sst_entries.specs.Entry.{Entry}
+use Rattle.sst_filters.specs.declared.policy.BloomConstructionPolicy.{BloomConstructionPolicy}
+use Rattle.sst_filters.specs.Policy.{tenths_of}
+use Rattle.lsm_files.specs.declared.options.FilterKind.{FilterKind}
+use Rattle.lsm_files.specs.Filters.{filtered_keys}
+use Rattle.lsm_filter_writers.specs.declared.either.FilterWriterImpl.{FilterWriterImpl}
+use Rattle.lsm_filter_writers.specs.Either.{kind_by, policy_by, failed_by, HoldsBy}
+use Rattle.lsm_filter_writers.specs.Refusing.{partition_size}
+use Rattle.lsm_filter_writers.specs.Rising.{AreRising}
+
+-- the key of an entry as a filter has it: none without an active policy, and none but the first of
+-- its key
+abbrev pub registered_key : BloomConstructionPolicy → Bool → List ℕ → List (List ℕ)
+registered_key policy starts key = if nat_lt 0 (tenths_of policy) && starts then key ∷ [] else []
+
+-- a filter writer of a kind and a policy that has these keys
+pub record HasKeys {A : Type 0} (kind : FilterKind) (policy : BloomConstructionPolicy)
+    (w : FilterWriterImpl A) (keys : List (List ℕ)) : Type 0 where
+  pub kind_is : kind_by w ≡ kind
+  pub policy_is : policy_by w ≡ policy
+  pub works : failed_by w ≡ false
+  pub holds : HoldsBy w keys
+
+-- what may be a filter writer has these keys; it is made when the first key comes
+abbrev pub MayHaveKeys : {A : Type 0} → FilterKind → BloomConstructionPolicy
+    → Option (FilterWriterImpl A) → List (List ℕ) → Type 0
+MayHaveKeys kind policy None keys = keys ≡ []
+MayHaveKeys kind policy (Some w) keys = (keys ≡ [] → ⊥) × HasKeys kind policy w keys
+
+-- partitions of a filter are cut below four megabytes
+abbrev pub IsSmallFilter : FilterKind → Type 0
+IsSmallFilter kind = partition_size kind ≤ 4194304
+
+-- keys may be registered behind those that are there
+pub record CanRegister {A : Type 0} (kind : FilterKind) (policy : BloomConstructionPolicy)
+    (w : Option (FilterWriterImpl A)) (more : List (List ℕ)) : Type 0 where
+  pub keys : List (List ℕ)
+  pub has : MayHaveKeys kind policy w keys
+  pub rising : AreRising (keys ++ more)
+  pub small : IsSmallFilter kind
+
+-- the filter writer of a writer has the keys of the list, unless something was refused
+pub record IsFiltered {A : Type 0} (failed : Bool) (kind : FilterKind)
+    (policy : BloomConstructionPolicy) (w : Option (FilterWriterImpl A)) (es : List Entry)
+    : Type 0 where
+  pub small : IsSmallFilter kind
+  pub has : failed ≡ false → MayHaveKeys kind policy w (filtered_keys policy es)

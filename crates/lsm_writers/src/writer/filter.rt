@@ -1,0 +1,92 @@
+//! The keys of a table's filter.
+ghost use Rattle.std.specs.Prelude.{◌≡◌, ◌<◌, ◌^◌, ◌&&◌, ◌++◌, ℕ, List, [], nat_lt, OnOk, IfOk, IfErr};
+ghost use Rattle.lsm_writers.specs.Words.{CanRegister, Faults, HasKeys, HasNoFilter, MayHaveKeys, WritesFilter};
+ghost use Rattle.lsm_writers.specs.Words.{filter_fault, registered_key, tenths_of};
+ghost use Rattle.sst_entries.specs.declared.error.Error.TheVariants.{OutOfMemory};
+
+use lsm_files::{BloomConstructionPolicy, FilterKind, Options};
+use lsm_filter_writers::{
+    FilterWriter, FilterWriterImpl, FullFilterWriter, PartitionedFilterWriter, small_partitions_fit,
+};
+use sst_blocks::{Error, SectionWriter, UserKey};
+use std::alloc::Allocator;
+
+/// A filter writer of the options' kind and policy, without keys.
+fn filter_writer_of<A: Allocator + Clone>(
+    alloc: A,
+    options: &Options,
+) -> Result<FilterWriterImpl<A>, Error>
+    ensures ok { IfOk result (λ w. HasKeys options.now.filter_kind options.now.bloom_policy w []) }
+    ensures err { IfErr result (λ e. e ≡ OutOfMemory) }
+{
+    let policy = options.bloom_policy;
+    Ok(match options.filter_kind {
+        FilterKind::Full => FilterWriterImpl::Full(FullFilterWriter::new(alloc, policy)),
+        FilterKind::Partitioned(size) => FilterWriterImpl::Partitioned(PartitionedFilterWriter::new(
+            alloc, policy,
+        )?.use_partition_size(size)),
+    })
+}
+
+/// Whether the key of an entry is registered: the first of a run of versions is, under an active policy.
+fn is_registered(policy: BloomConstructionPolicy, starts_key: bool) -> bool
+    ensures is { result ≡ (nat_lt 0 (tenths_of policy) && starts_key) }
+    ensures few { tenths_of policy < 2 ^ 32 }
+{
+    policy.is_active() && starts_key
+}
+
+/// Registers the key of an entry that is the first of its key, under an active policy. The writer is made when the first key
+/// comes. Refused [`Error::OutOfMemory`] alone.
+pub(crate) fn register_key<A: Allocator + Clone>(
+    filter_writer: &mut Option<FilterWriterImpl<A>>,
+    alloc: &A,
+    options: &Options,
+    starts_key: bool,
+    key: &UserKey<A>,
+) -> Result<(), Error>
+    requires { CanRegister options.now.filter_kind options.now.bloom_policy filter_writer.old
+        (registered_key options.now.bloom_policy starts_key key.now) }
+    ensures ok { OnOk result ((keys : List (List ℕ)) →
+        MayHaveKeys options.now.filter_kind options.now.bloom_policy filter_writer.old keys →
+        MayHaveKeys options.now.filter_kind options.now.bloom_policy filter_writer.new
+        (keys ++ registered_key options.now.bloom_policy starts_key key.now)) }
+    ensures err { IfErr result (λ e. e ≡ OutOfMemory) }
+{
+    if !is_registered(options.bloom_policy, starts_key) {
+        return Ok(());
+    }
+    small_partitions_fit(); // so no part is too large
+    if let Some(writer) = filter_writer {
+        return writer.register_key(key);
+    }
+    let mut writer = filter_writer_of(alloc.clone()?, options)?;
+    writer.register_key(key)?;
+    *filter_writer = Some(writer);
+    Ok(())
+}
+
+/// Writes the filter of the keys that were registered, and answers how many blocks it counts. Refused where a block or a
+/// section of it is too large, and [`Error::OutOfMemory`].
+pub(crate) fn finish_filter<A: Allocator + Clone>(
+    filter_writer: Option<FilterWriterImpl<A>>,
+    options: &Options,
+    file_writer: &mut SectionWriter<A>,
+) -> Result<usize, Error>
+    requires { HasNoFilter file_writer.old }
+    ensures ok { IfOk result (λ n. (keys : List (List ℕ)) →
+        MayHaveKeys options.now.filter_kind options.now.bloom_policy filter_writer keys →
+        WritesFilter options.now.filter_kind options.now.bloom_policy keys
+        file_writer.old file_writer.new n) }
+    ensures refused { (keys : List (List ℕ)) →
+        MayHaveKeys options.now.filter_kind options.now.bloom_policy filter_writer keys →
+        Faults result (filter_fault options.now.filter_kind options.now.bloom_policy keys) }
+{
+    match filter_writer {
+        Some(writer) => writer.finish(file_writer),
+        None => Ok(match options.filter_kind {
+            FilterKind::Full => 1,
+            FilterKind::Partitioned(_) => 0,
+        }),
+    }
+}

@@ -1,0 +1,68 @@
+//! What is kept of the entries that a workload was given.
+ghost use Rattle.std.specs.Prelude.{◌≡◌, IfErr, OnOk};
+ghost use Rattle.sst_entries.specs.Error.{number_of};
+
+use sst_blocks::{Error, InternalValue};
+use std::alloc::Allocator;
+
+/// How many entries there were, how many bytes their keys and values have, and a sum over the ends
+/// of keys and values that depends on the entries' order. All three wrap.
+#[repr(C)]
+#[derive(Clone, Copy)]
+pub struct Digest {
+    /// How many entries.
+    pub entries: u64,
+    /// How many bytes of keys and values.
+    pub bytes: u64,
+    /// The sum.
+    pub sum: u64,
+}
+
+// The last 8 bytes as a number; 0 of fewer bytes.
+#[inline]
+fn tail(bytes: &[u8]) -> u64 {
+    match bytes.last_chunk::<8>() {
+        Some(last) => u64::from_le_bytes(*last),
+        None => 0,
+    }
+}
+
+impl Digest {
+    /// That of no entries.
+    pub fn empty() -> Digest
+        ensures { result ≡ record { entries = 0; bytes = 0; sum = 0 } }
+    {
+        Digest {
+            entries: 0,
+            bytes: 0,
+            sum: 0,
+        }
+    }
+
+    #[inline]
+    pub(crate) fn add<A: Allocator>(&mut self, item: &InternalValue<A>) {
+        let key = item.key.user_key.as_slice();
+        let value = item.value.as_slice();
+        let ends = tail(key).wrapping_mul(0x9e37_79b9_7f4a_7c15) ^ tail(value);
+        self.entries = self.entries.wrapping_add(1);
+        self.bytes = self
+            .bytes
+            .wrapping_add(key.len() as u64)
+            .wrapping_add(value.len() as u64);
+        self.sum = self
+            .sum
+            .wrapping_mul(0x0000_0100_0000_01b3)
+            .wrapping_add(ends);
+    }
+}
+
+// 0, or the number of the refusal.
+pub(crate) fn code(outcome: Result<(), Error>) -> u32
+    ensures done { OnOk outcome (result ≡ 0) }
+    ensures refused { IfErr outcome (λ e. result ≡ number_of e) }
+{
+    match outcome {
+        Ok(()) => 0,
+        Err(error) => u32::from(error.number()),
+    }
+}

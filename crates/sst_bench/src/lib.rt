@@ -1,0 +1,31 @@
+//! Whole workloads over sorted tables, each behind one call from C: `bench/` at the top of the
+//! repository times them beside other stores.
+//!
+//! Nothing is kept between calls, so a call that reads opens its tables first. What is to be timed
+//! is the difference between a call that does its work and one that does it no time at all. A call
+//! answers 0, or the number of what refused it (`Error::number`); 24 is bytes that are shorter than
+//! the lengths beside them say, and entries that are out of order. What it has counted until a
+//! refusal means nothing.
+//!
+//! Of this crate's own functions it is proved that they are safe, end, and ask the crates below for
+//! nothing that those do not promise; whether the answers are right, the driver finds by comparing
+//! them with those of the other stores.
+#![tactic(auto)]
+
+mod builds;
+mod compactions;
+mod digest;
+mod files;
+mod gets;
+mod merges;
+mod packings;
+mod scans;
+
+pub use builds::{Written, sst_bench_build};
+pub use compactions::{sst_bench_compact, sst_bench_compact_and_scan};
+pub use digest::Digest;
+pub use files::sst_bench_open;
+pub use gets::sst_bench_get;
+pub use merges::sst_bench_merge;
+pub use packings::{Packed, sst_bench_optimize_runs};
+pub use scans::sst_bench_scan;

@@ -1,0 +1,27 @@
+//! Scans of one table.
+use crate::digest::{Digest, code};
+use crate::files::open_copy;
+use sst_blocks::Error;
+use std::alloc::Global;
+
+fn scan_passes(alloc: Global, file: &[u8], passes: u64, digest: &mut Digest) -> Result<(), Error> {
+    let table = open_copy(alloc, file)?;
+    for _ in 0..passes {
+        *digest = Digest::empty();
+        for item in table.scan()? {
+            digest.add(&item?);
+        }
+    }
+    Ok(())
+}
+
+/// Copies and opens a table, and scans it so many times over. Tells what the last pass gave.
+#[unsafe(no_mangle)]
+pub extern "C" fn sst_bench_scan(
+    alloc: Global,
+    file: &[u8],
+    passes: u64,
+    digest: &mut Digest,
+) -> u32 {
+    code(scan_passes(alloc, file, passes, digest))
+}
