@@ -6,6 +6,8 @@ mod changed_bytes;
 #[cfg(test)]
 mod changed_meta;
 #[cfg(test)]
+mod kinds;
+#[cfg(test)]
 mod layout;
 #[cfg(test)]
 mod lists;

@@ -1,0 +1,248 @@
+//! Tables that are written with each kind of index and of filter.
+ghost use Rattle.std.specs.Prelude.{IfOk};
+ghost use Rattle.lsm_writers.specs.Writing.{IsFresh};
+
+use crate::tables::{Row, fill, load_entries, new_writer};
+use lsm_tables::{ParsedRegions, Table};
+use lsm_writers::{BloomConstructionPolicy, FinishedTable, Timestamp, Writer};
+use refusing::{Refusing, each_refused};
+use sst_blocks::{
+    BlockSource, BlockType, Checksum, DataBlock, Error, Opened, SectionName, SeqNo, ValueType,
+};
+use std::alloc::{Allocator, Global};
+use std::test::Fail;
+
+const ROWS: [Row<'static>; 4] = [
+    (b"a", 9, ValueType::Value, b""),
+    (b"a", 7, ValueType::Value, b""),
+    (b"a", 5, ValueType::Value, b""),
+    (b"b", 1, ValueType::Value, b""),
+];
+
+const TEN_BITS: BloomConstructionPolicy = BloomConstructionPolicy::BitsPerKey(100);
+
+// A writer of a block for each entry.
+fn blocks_of_one<A: Allocator + Clone>(alloc: A) -> Result<Writer<A>, Error>
+    ensures { IfOk result (λ w. IsFresh w) }
+{
+    Ok(new_writer(alloc)?.use_data_block_size(0))
+}
+
+// Partitions of the index, a handle each.
+fn index_parts<A: Allocator + Clone>(alloc: A) -> Result<FinishedTable<A>, Error> {
+    let writer = blocks_of_one(alloc.clone()?)?
+        .use_partitioned_index()
+        .use_meta_partition_size(1);
+    fill(writer, alloc, &ROWS)
+}
+
+// A partition size that is forgotten, as partitions are asked for after it.
+fn forgotten_index_parts<A: Allocator + Clone>(alloc: A) -> Result<FinishedTable<A>, Error> {
+    let writer = blocks_of_one(alloc.clone()?)?
+        .use_meta_partition_size(1)
+        .use_partitioned_index();
+    fill(writer, alloc, &ROWS)
+}
+
+// Partitions of the filter, a key each.
+fn filter_parts<A: Allocator + Clone>(alloc: A) -> Result<FinishedTable<A>, Error> {
+    let writer = blocks_of_one(alloc.clone()?)?
+        .use_bloom_policy(TEN_BITS)
+        .use_partitioned_filter()
+        .use_meta_partition_size(1);
+    fill(writer, alloc, &ROWS)
+}
+
+fn forgotten_filter_parts<A: Allocator + Clone>(alloc: A) -> Result<FinishedTable<A>, Error> {
+    let writer = blocks_of_one(alloc.clone()?)?
+        .use_bloom_policy(TEN_BITS)
+        .use_meta_partition_size(1)
+        .use_partitioned_filter();
+    fill(writer, alloc, &ROWS)
+}
+
+// Partitions of a filter without keys.
+fn no_filter_parts<A: Allocator + Clone>(alloc: A) -> Result<FinishedTable<A>, Error> {
+    let writer = blocks_of_one(alloc.clone()?)?.use_partitioned_filter();
+    fill(writer, alloc, &ROWS)
+}
+
+// The sections of a table, each with its position and its length, in the order of their names.
+type Sections = [(u64, u64); 7];
+
+const NAMES: [SectionName; 7] = [
+    SectionName::Data,
+    SectionName::Index,
+    SectionName::Tli,
+    SectionName::Filter,
+    SectionName::FilterTli,
+    SectionName::TableVersion,
+    SectionName::Meta,
+];
+
+fn sections<A: Allocator + Clone>(source: &BlockSource<A>) -> Sections {
+    let mut sections = [(0, 0); 7];
+    for (i, name) in NAMES.iter().enumerate() {
+        if let Some(section) = source.toc().section(*name)
+            && i < 7
+        {
+            sections[i] = (section.position, section.len);
+        }
+    }
+    sections
+}
+
+// The byte with which the value of a meta item begins.
+fn first_byte<A: Allocator>(block: &DataBlock<A>, name: &[u8]) -> Result<Option<u8>, Error> {
+    match block.point_read(name, SeqNo::MAX)? {
+        Some(item) => Ok(item.value.as_slice().first().copied()),
+        None => Ok(None),
+    }
+}
+
+// How many blocks of the index and of the filter are counted.
+fn counts<A: Allocator + Clone>(
+    source: &BlockSource<A>,
+) -> Result<(Option<u8>, Option<u8>), Error> {
+    let regions = ParsedRegions::parse_from_toc(source.toc())?;
+    let mut opened = Opened::none();
+    let meta = load_entries(source, &regions.metadata, BlockType::Meta, &mut opened)?;
+    let index = first_byte(&meta, b"block_count#index")?;
+    let filter = first_byte(&meta, b"block_count#filter")?;
+    Ok((index, filter))
+}
+
+// The sections of a table, and how many blocks of its index and its filter are counted.
+type Laid = (Sections, Option<u8>, Option<u8>);
+
+fn laid(alloc: Global, table: Result<FinishedTable, Error>) -> Result<Laid, Error> {
+    let source = BlockSource::new(alloc, table?.bytes)?;
+    let (index, filter) = counts(&source)?;
+    Ok((sections(&source), index, filter))
+}
+
+const DATA: (u64, u64) = (0, 184);
+
+const NONE: (u64, u64) = (0, 0);
+
+#[test]
+fn sections_of_a_partitioned_index(rt: HostRuntime) -> Result<(), Fail> {
+    let four: Sections = [
+        DATA,
+        (184, 212),
+        (396, 128),
+        NONE,
+        NONE,
+        (524, 1),
+        (525, 1099),
+    ];
+    let parts = laid(rt.alloc(), index_parts(rt.alloc()))?;
+    assert_eq!(rt; parts, (four, Some(4), Some(1)));
+    let one: Sections = [
+        DATA,
+        (184, 128),
+        (312, 53),
+        NONE,
+        NONE,
+        (365, 1),
+        (366, 1099),
+    ];
+    let forgotten = laid(rt.alloc(), forgotten_index_parts(rt.alloc()))?;
+    assert_eq!(rt; forgotten, (one, Some(1), Some(1)));
+    Ok(())
+}
+
+#[test]
+fn sections_of_a_partitioned_filter(rt: HostRuntime) -> Result<(), Fail> {
+    let two: Sections = [
+        DATA,
+        NONE,
+        (184, 128),
+        (312, 66),
+        (378, 78),
+        (456, 1),
+        (457, 1099),
+    ];
+    let parts = laid(rt.alloc(), filter_parts(rt.alloc()))?;
+    assert_eq!(rt; parts, (two, Some(1), Some(2)));
+    let one: Sections = [
+        DATA,
+        NONE,
+        (184, 128),
+        (312, 33),
+        (345, 53),
+        (398, 1),
+        (399, 1099),
+    ];
+    let forgotten = laid(rt.alloc(), forgotten_filter_parts(rt.alloc()))?;
+    assert_eq!(rt; forgotten, (one, Some(1), Some(1)));
+    let none: Sections = [DATA, NONE, (184, 128), NONE, NONE, (312, 1), (313, 1099)];
+    let keyless = laid(rt.alloc(), no_filter_parts(rt.alloc()))?;
+    assert_eq!(rt; keyless, (none, Some(1), Some(0)));
+    Ok(())
+}
+
+#[test]
+fn partitions_of_the_index_byte_for_byte(rt: HostRuntime) -> Result<(), Fail> {
+    let table = index_parts(rt.alloc())?;
+    assert_eq!(rt; table.bytes.len(), 1744);
+    assert!(rt; table.checksum == Checksum(0x3e3e_26fe_b3b2_fc42));
+    Ok(())
+}
+
+// The table of a@1, with the value `x`, as it is written where nothing is asked for.
+fn one_key(alloc: Global) -> Result<FinishedTable, Error> {
+    let rows: [Row<'static>; 1] = [(b"a", 1, ValueType::Value, b"x")];
+    fill(Writer::new(alloc, 1, 0, Timestamp::from(0))?, alloc, &rows)
+}
+
+#[test]
+fn the_filter_of_one_key_byte_for_byte(rt: HostRuntime) -> Result<(), Fail> {
+    let table = one_key(rt.alloc())?;
+    assert_eq!(rt; table.bytes.len(), 1353);
+    assert!(rt; table.checksum == Checksum(0xdb3f_d8f7_6139_63e8));
+    let payload: [u8; 9] = [0x06, 0x01, 0x30, 0x00, 0x02, 0x40, 0x00, 0x08, 0x00];
+    assert!(rt; table.bytes.as_slice().get(124..133) == Some(payload.as_slice()));
+    Ok(())
+}
+
+// Writes a table with partitions of the index, opens it, reads each of its rows and scans it; how many rows were found.
+fn rows_found<A: Allocator + Clone>(alloc: A) -> Result<usize, Error> {
+    let bytes = index_parts(alloc.clone()?)?.bytes;
+    let table = Table::recover(alloc, bytes, Checksum(0), 0, 0, true, true)?;
+    let mut found = 0_usize;
+    for row in &ROWS {
+        if read(&table, row)? {
+            found = found.saturating_add(1);
+        }
+    }
+    for item in table.scan()? {
+        let _ = item?;
+        found = found.saturating_add(1);
+    }
+    Ok(found)
+}
+
+// Whether a read finds a row.
+fn read<A: Allocator + Clone>(table: &Table<A>, row: &Row<'_>) -> Result<bool, Error> {
+    let bound = row.1.saturating_add(1);
+    let found = table.get(row.0, bound, Table::<A>::key_hash(row.0))?;
+    Ok(found.map(|item| item.key.seqno) == Some(row.1))
+}
+
+// Whether the rows are found, or a refused request is answered as one.
+fn finds_its_rows(heap: &Refusing, may_fail: bool) -> bool {
+    match rows_found(heap) {
+        Ok(found) => !may_fail && found == 8,
+        Err(error) => may_fail && error == Error::OutOfMemory,
+    }
+}
+
+#[test]
+fn each_request_refused_is_told(rt: HostRuntime) -> Result<(), Fail> {
+    let answers = each_refused(rt.alloc(), |heap, may_fail| finds_its_rows(heap, may_fail));
+    let heap = Refusing::new(rt.alloc(), 0);
+    assert!(rt; finds_its_rows(&heap, false));
+    assert_eq!(rt; answers, Ok(heap.requests()));
+    Ok(())
+}
