@@ -14,15 +14,15 @@ use Rattle.lsm_block_indexes.specs.Seen.{PartGives}
 use Rattle.lsm_block_indexes.proofs.AtEnds.{R, End, pair, front_in, back_in, back_push, first_split, last_split, not_memory, no_handles, at_part, carries_front, carries_back}
 
 module _ {X : Type 0} where
-  nil_left : (xs ys : List X) → xs ++ ys ≡ [] → xs ≡ []
+  pub nil_left : (xs ys : List X) → xs ++ ys ≡ [] → xs ≡ []
   nil_left [] ys e = refl
   nil_left (x ∷ xs) ys e = absurd cc
 
-  nil_right : (xs ys : List X) → xs ++ ys ≡ [] → ys ≡ []
+  pub nil_right : (xs ys : List X) → xs ++ ys ≡ [] → ys ≡ []
   nil_right [] ys e = e
   nil_right (x ∷ xs) ys e = absurd cc
 
-  no_items : (xs : List X) → length xs ≡ 0 → xs ≡ []
+  pub no_items : (xs : List X) → length xs ≡ 0 → xs ≡ []
   no_items [] e = refl
   no_items (x ∷ xs) e = absurd (omega (arith, e))
 
@@ -130,7 +130,7 @@ pub record Reached (needed : TwoLevel → ℕ) (s u : TwoLevel) : Type 0 where
   pub falls : count + length u.tops ≡ length s.tops
   pub needs : count + needed u ≡ needed s
 
-loaded_more : (m n : ℕ) (o : Opened) → loaded m (loaded n o) ≡ loaded (m + n) o
+pub loaded_more : (m n : ℕ) (o : Opened) → loaded m (loaded n o) ≡ loaded (m + n) o
 loaded_more zero n o = ap (λ (k : ℕ). loaded k o) (let e : n ≡ 0 + n = omega arith in e)
 loaded_more (suc m) n o = ap (loaded 1) (loaded_more m n o) ∙ ap (λ (k : ℕ). loaded k o) (let e : suc (m + n) ≡ suc m + n = omega arith in e)
 

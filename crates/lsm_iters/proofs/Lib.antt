@@ -1,0 +1,5 @@
+pub mod Cuts
+pub mod Ends
+pub mod Ranges
+pub mod Parts
+pub mod RangeLaws

@@ -1,0 +1,25 @@
+use Rattle.std.proofs.Common.{ap, ◌≡◌, max, ◌∙◌}
+use Rattle.sst_entries.specs.Entry.{Entry}
+use Rattle.sst_entries.specs.Span.{Span}
+use Rattle.sst_blocks.proofs.Narrowing.{sought_lower, keeps_upper}
+use Rattle.sst_blocks.proofs.SpanLemmas.{span_left, left_any}
+use Rattle.lsm_iters.specs.Words.{edge_of, lower_place}
+use Rattle.lsm_iters.proofs.owned.OwnedDataBlockIter.seek_lower_bound.Goals as goal
+
+pub returns-clause-kept : goal.returns-clause-kept
+returns-clause-kept g c =
+    let s : Span Entry = record { list = c.self.inside.block; from = c.self.inside.from; to = c.self.inside.to } in
+    let place : c.max-self-inside.result ≡ max s.from (lower_place (edge_of c.args.bound.now) s.list) = c.max-self-inside.ensures ∙ ap (max c.self.inside.from) c.first_behind.ensures.place in
+    rw (← c.self.view_is) (sought_lower (edge_of c.args.bound.now) s c.max-self-inside.result c.first_behind.ensures.strict place)
+
+pub returns-clause-both : goal.returns-clause-both
+returns-clause-both g c =
+    let s : Span Entry = record { list = c.self.inside.block; from = c.self.inside.from; to = c.self.inside.to } in
+    let place : c.max-self-inside.result ≡ max s.from (lower_place (edge_of c.args.bound.now) s.list) = c.max-self-inside.ensures ∙ ap (max c.self.inside.from) c.first_behind.ensures.place in
+    rw (← c.self.view_is) (keeps_upper (edge_of c.args.bound.now) s (record s { from = c.max-self-inside.result }) (sought_lower (edge_of c.args.bound.now) s c.max-self-inside.result c.first_behind.ensures.strict place))
+
+pub returns-clause-deals : goal.returns-clause-deals
+returns-clause-deals g c = span_left (record { list = c.self.inside.block; from = c.max-self-inside.result; to = c.self.inside.to })
+
+pub returns-clause-left : goal.returns-clause-left
+returns-clause-left g c = left_any (record { list = c.self.inside.block; from = c.max-self-inside.result; to = c.self.inside.to }) c.self.invariant

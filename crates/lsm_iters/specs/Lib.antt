@@ -1,0 +1,6 @@
+pub mod Lift
+pub mod Bounds
+pub mod Rows
+pub mod Range
+pub mod Steps
+pub mod Words

@@ -1,0 +1,20 @@
+-- Entries with the global number of their table added.
+use Rattle.std.specs.Prelude.{ℕ, ◌+◌, ◌-◌, ◌^◌, nat_lt, List, map, Result, Ok, Err, if◌then◌else◌}
+use Rattle.sst_entries.specs.declared.error.Error.{Error}
+use Rattle.sst_entries.specs.declared.error.Error.TheVariants.{SeqNoOverflow}
+use Rattle.sst_entries.specs.Entry.{Entry}
+
+-- an entry, and a list, with the global number added to each stored number
+abbrev pub lifted : ℕ → Entry → Entry
+lifted g e = record e { seqno = e.seqno + g }
+
+abbrev pub lift : List Entry → ℕ → List Entry
+lift es g = map (lifted g) es
+
+-- the same of an entry where the sum fits
+abbrev pub lifted_told : ℕ → Entry → Result Entry Error
+lifted_told g e = if nat_lt (2 ^ 64 - 1) (e.seqno + g) then Err SeqNoOverflow else Ok (lifted g e)
+
+-- a list of them
+abbrev pub lift_told : ℕ → List Entry → List (Result Entry Error)
+lift_told g es = map (lifted_told g) es

@@ -1,0 +1,130 @@
+-- What an iterator over a range of a table still deals, and one call of it.
+use Rattle.std.specs.Prelude.{◌≡◌, ℕ, zero, suc, ◌+◌, ◌≤◌, Bool, true, false, List, [], ◌∷◌, ◌++◌, length, reverse, Option, Some, None, Result, Ok, Err, MatchOption, MatchResult, if◌then◌else◌}
+use Rattle.std.specs.declared.ops.Bound.TheVariants.{Unbounded}
+use Rattle.sst_blocks.specs.declared.block_type.BlockType.TheVariants.{Data}
+use Rattle.sst_blocks.specs.declared.opened.Opened.{Opened}
+use Rattle.sst_entries.specs.declared.error.Error.{Error}
+use Rattle.sst_entries.specs.Entry.{Entry}
+use Rattle.sst_entries.specs.Error.{is_memory}
+use Rattle.sst_blocks.specs.Handle.{Handle}
+use Rattle.sst_blocks.specs.Opened.{with_load, none_opened}
+use Rattle.lsm_block_indexes.specs.declared.kinds.BlockIndexIterImpl.{BlockIndexIterImpl}
+use Rattle.lsm_block_indexes.specs.Kinds.{left_of}
+use Rattle.lsm_block_indexes.specs.Left.{Left, loaded, none_behind}
+use Rattle.lsm_iters.specs.Bounds.{lower_edge, upper_edge}
+use Rattle.lsm_iters.specs.Lift.{lift_told}
+use Rattle.lsm_iters.specs.Rows.{Bounded, block_rows, rows}
+
+-- the iterator of an index, whether its edges were sought, and whether all is over
+pub record Handles (A : Type 0) : Type 0 where
+  pub iter : BlockIndexIterImpl A
+  pub sought : Bool
+  pub ended : Bool
+
+-- what it still deals: nothing once all is over
+abbrev pub none_left : Left → Left
+none_left l = record l { results = []; loads = 0 }
+
+abbrev pub left_unless : Bool → Left → Left
+left_unless true l = none_left l
+left_unless false l = l
+
+abbrev pub left_in : {A : Type 0} → Handles A → Left
+left_in h = left_unless h.ended (left_of h.iter)
+
+-- what it reads within which bounds, what its index still deals, the entries within the bounds that are left of the blocks loaded
+-- at the front and at the back, and how many blocks it loaded beside its index
+pub record Range (A : Type 0) : Type 0 where
+  pub of : Bounded
+  pub handles : Handles A
+  pub front : List Entry
+  pub back : List Entry
+  pub opened : Opened
+
+-- before a bound is set
+abbrev pub new_range : {A : Type 0} → List ℕ → ℕ → BlockIndexIterImpl A → Range A
+new_range body g iter = record {
+  of = record { body = body; global_seqno = g; low = Unbounded; high = Unbounded };
+  handles = record { iter = iter; sought = false; ended = false };
+  front = [];
+  back = [];
+  opened = none_opened;
+}
+
+-- the handles of the blocks that are not loaded; before the first step those that the index has between two edges
+abbrev pub to_seek : {A : Type 0} → Handles A → Option (List ℕ × ℕ) → Option (List ℕ) → List (Result Handle Error)
+to_seek h low high = if h.sought then (left_in h).results else (left_in h).index.told low high
+
+abbrev pub to_come : {A : Type 0} → Range A → List (Result Handle Error)
+to_come s = to_seek s.handles (lower_edge s.of.low) (upper_edge s.of.high)
+
+-- and how many blocks of the index are loaded for them at most
+abbrev pub index_to_seek : {A : Type 0} → Handles A → Option (List ℕ × ℕ) → Option (List ℕ) → ℕ
+index_to_seek h low high = if h.sought then (left_in h).loads else (left_in h).index.loads low high
+
+abbrev pub index_to_come : {A : Type 0} → Range A → ℕ
+index_to_come s = index_to_seek s.handles (lower_edge s.of.low) (upper_edge s.of.high)
+
+-- the results still to be dealt
+abbrev pub range_left : {A : Type 0} → Range A → List (Result Entry Error)
+range_left s =
+    let g = s.of.global_seqno in
+    lift_told g s.front ++ (rows s.of (to_come s) ++ lift_told g s.back)
+
+-- a bound on the answers that are left
+abbrev pub range_size : {A : Type 0} → Range A → ℕ
+range_size s =
+    length (range_left s) + length (to_come s) + index_to_come s + (if s.handles.sought then 0 else 1)
+
+-- nothing more comes, and nothing is loaded
+abbrev pub IsEnded : {A : Type 0} → Range A → Type 0
+IsEnded s = range_size s ≡ 0
+
+-- how many of the blocks of these handles, the next one first, an end loads for its answer: those up to the first that has an item
+abbrev pub blocks_needed : Bounded → List (Result Handle Error) → ℕ
+blocks_needed b [] = 0
+blocks_needed b (Ok h ∷ hs) = suc (none_behind (block_rows b h) (blocks_needed b hs))
+blocks_needed b (Err e ∷ hs) = 0
+
+-- the same at the front and at the back: none where an entry of a loaded block stands there
+abbrev pub front_blocks : {A : Type 0} → Range A → ℕ
+front_blocks s = none_behind s.front (blocks_needed s.of (to_come s))
+
+abbrev pub back_blocks : {A : Type 0} → Range A → ℕ
+back_blocks s = none_behind s.back (blocks_needed s.of (reverse (to_come s)))
+
+-- the counts after so many loads of data blocks
+abbrev pub data_loaded : ℕ → Opened → Opened
+data_loaded zero o = o
+data_loaded (suc n) o = with_load Data (data_loaded n o)
+
+-- how many blocks of each kind were loaded
+abbrev pub opened_in : {A : Type 0} → Range A → Opened
+opened_in s = record (left_in s.handles).opened { data_loads = s.opened.data_loads }
+
+-- an answer at an end: the result that stands there, and the others are left; nothing, where nothing is left; want of memory
+-- stands in the place of any answer, except once all is over
+abbrev pub RangeAnswer : {A : Type 0} → (List (Result Entry Error) → Option (Result Entry Error) × List (Result Entry Error)) → Range A → Option (Result Entry Error) → Range A → Type 0
+RangeAnswer end s None t = (range_left s ≡ []) × IsEnded t
+RangeAnswer end s (Some (Ok e)) t = end (range_left s) ≡ (Some (Ok e), range_left t)
+RangeAnswer end s (Some (Err e)) t =
+    (is_memory e ≡ false → (end (range_left s)).0 ≡ Some (Err e)) × (IsEnded s → ⊥)
+
+-- each block that a call loads is counted, is among those to come, and is needed for the answer
+pub record CountsBlocks {A : Type 0} (needed : ℕ) (s t : Range A) : Type 0 where
+  pub blocks : ℕ
+  pub counts : t.opened ≡ data_loaded blocks s.opened
+  pub within : blocks + length (to_come t) ≤ length (to_come s)
+  pub most : blocks ≤ needed
+  pub index : ℕ
+  pub index_counts : (left_in t.handles).opened ≡ loaded index (left_in s.handles).opened
+  pub index_within : index + index_to_come t ≤ index_to_come s
+
+-- one call at an end; an error ends the iterator
+pub record RangeGives {A : Type 0} (end : List (Result Entry Error) → Option (Result Entry Error) × List (Result Entry Error)) (needed : Range A → ℕ) (s : Range A) (r : Option (Result Entry Error)) (t : Range A) : Type 0 where
+  pub answer : RangeAnswer end s r t
+  pub ends : MatchOption r (Unit {0}) (λ x. MatchResult x (λ _. Unit {0}) (λ _. IsEnded t))
+  pub of : t.of ≡ s.of
+  pub index : (left_in t.handles).index ≡ (left_in s.handles).index
+  pub initialized : t.handles.sought ≡ true
+  pub loads : CountsBlocks (needed s) s t

@@ -1,0 +1,139 @@
+//! The handles of the blocks that are not loaded.
+ghost use Rattle.std.specs.Prelude.{◌≡◌, None, true, false, OnOk, OnErr, IfErr, List, ℕ, Option};
+ghost use Rattle.sst_entries.specs.declared.error.Error.TheVariants.{OutOfMemory};
+ghost use Rattle.lsm_iters.specs.Words.{IsSought, LeftGives, LoadsNone, SeeksOnce, all_over, back_of};
+ghost use Rattle.lsm_iters.specs.Words.{edge_in, front_of, left_in, left_of, lower_edge, upper_edge};
+
+use crate::Bound;
+use lsm_block_indexes::{BlockIndexIter, BlockIndexIterImpl};
+use sst_blocks::{Error, KeyedBlockHandle, Opened, SeqNo};
+use std::alloc::Allocator;
+use std::marker::Model;
+
+/// The handles that an index still deals. Its edges are sought once, before its first step.
+#[derive(Drop)]
+pub struct Handles<A: Allocator> {
+    iter: BlockIndexIterImpl<A>,
+    sought: bool,
+    ended: bool,
+}
+
+impl<A: Allocator> Model for Handles<A> {
+    ghost use Rattle.std.specs.Prelude.{◌≡◌, false, None};
+    ghost use Rattle.lsm_block_indexes.specs.Kinds.{IsSought};
+    ghost use Rattle.lsm_iters.specs.Range.{Handles};
+
+    ghost Value = { Handles A };
+
+    ghost view = { λ h. record { iter = h.iter; sought = h.sought; ended = h.ended } };
+
+    ghost invariant = { λ h. h.sought ≡ false → IsSought h.iter None None × (h.ended ≡ false) };
+}
+
+impl<A: Allocator + Clone> Handles<A> {
+    /// Of an iterator whose edges were not sought, and of which no step was made.
+    pub fn new(iter: BlockIndexIterImpl<A>) -> Handles<A>
+        requires { IsSought iter None None }
+        ensures { result ≡ record { iter = iter; sought = false; ended = false } }
+    {
+        Handles {
+            iter,
+            sought: false,
+            ended: false,
+        }
+    }
+
+    /// Seeks the edges of two bounds, where they were not sought yet. Refused [`Error::OutOfMemory`] alone.
+    pub fn seek(&mut self, lower: &Option<Bound<A>>, upper: &Option<Bound<A>>) -> Result<(), Error>
+        ensures ok { let low = lower_edge (edge_in lower.now) in
+            let high = upper_edge (edge_in upper.now) in
+            OnOk result (SeeksOnce self.old self.new low high) }
+        ensures none { LoadsNone (left_in self.old) (left_in self.new) }
+        ensures sought { self.new.sought ≡ true }
+        ensures once { OnErr result (self.old.sought ≡ false) }
+        ensures err { IfErr result (λ e. e ≡ OutOfMemory) }
+    {
+        if self.sought {
+            return Ok(());
+        }
+        self.sought = true;
+        seek_lower(&mut self.iter, lower)?;
+        seek_upper(&mut self.iter, upper)
+    }
+
+    /// Takes the first handle.
+    pub fn next(&mut self) -> Option<Result<KeyedBlockHandle<A>, Error>>
+        ensures gives { LeftGives front_of (left_in self.old) result (left_in self.new) }
+        ensures sought { self.new.sought ≡ true }
+    {
+        self.sought = true;
+        if self.ended { None } else { self.iter.next() }
+    }
+
+    /// Takes the last handle.
+    pub fn next_back(&mut self) -> Option<Result<KeyedBlockHandle<A>, Error>>
+        ensures gives { LeftGives back_of (left_in self.old) result (left_in self.new) }
+        ensures sought { self.new.sought ≡ true }
+    {
+        self.sought = true;
+        if self.ended {
+            None
+        } else {
+            self.iter.next_back()
+        }
+    }
+
+    /// Lets go what is left.
+    pub fn end(&mut self)
+        ensures { self.new ≡ all_over self.old }
+    {
+        self.sought = true;
+        self.ended = true;
+    }
+
+    /// How many blocks of each kind the index loaded.
+    pub fn opened(&self) -> Opened
+        ensures { result ≡ (left_in self.now).opened }
+    {
+        self.iter.opened()
+    }
+}
+
+/// Seeks the edge of a lower bound, where there is one.
+fn seek_lower<A: Allocator + Clone>(
+    iter: &mut BlockIndexIterImpl<A>,
+    lower: &Option<Bound<A>>,
+) -> Result<(), Error>
+    ensures sought { let low = lower_edge (edge_in lower.now) in
+        IsSought iter.old None None → OnOk result (IsSought iter.new low None) }
+    ensures none { LoadsNone (left_of iter.old) (left_of iter.new) }
+    ensures err { IfErr result (λ e. e ≡ OutOfMemory) }
+{
+    match lower {
+        Some(bound) => {
+            iter.seek_lower(bound.key(), SeqNo::MAX)?;
+            Ok(())
+        }
+        None => Ok(()),
+    }
+}
+
+/// Seeks the edge of an upper bound, where there is one.
+fn seek_upper<A: Allocator + Clone>(
+    iter: &mut BlockIndexIterImpl<A>,
+    upper: &Option<Bound<A>>,
+) -> Result<(), Error>
+    ensures sought { let high = upper_edge (edge_in upper.now) in
+        (low : Option (List ℕ × ℕ)) → IsSought iter.old low None →
+        OnOk result (IsSought iter.new low high) }
+    ensures none { LoadsNone (left_of iter.old) (left_of iter.new) }
+    ensures err { IfErr result (λ e. e ≡ OutOfMemory) }
+{
+    match upper {
+        Some(bound) => {
+            iter.seek_upper(bound.key(), SeqNo::MAX)?;
+            Ok(())
+        }
+        None => Ok(()),
+    }
+}

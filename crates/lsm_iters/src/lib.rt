@@ -1,0 +1,16 @@
+//! Ranges of one sorted table, from both ends: the blocks that an index names, cut to bounds.
+#![tactic(auto)]
+
+mod bound;
+mod handles;
+mod iter;
+mod owned;
+mod part;
+
+pub use bound::Bound;
+pub use iter::Iter;
+pub use lsm_block_indexes::{BlockIndexIter, BlockIndexIterImpl};
+pub use owned::OwnedDataBlockIter;
+pub use sst_blocks::{
+    BlockSource, CompressionType, DataBlock, Error, IterItem, Opened, SeqNo, UserKey,
+};

@@ -1,0 +1,143 @@
+//! The entries of a data block, from both ends, by an iterator that holds the block.
+ghost use Rattle.std.specs.Prelude.{◌≡◌, ◌-◌, ◌↔◌, [], IsTrue};
+ghost use Rattle.std.specs.Iterator.{at_most};
+ghost use Rattle.std.specs.declared.ops.Bound.TheVariants.{Unbounded};
+ghost use Rattle.lsm_iters.specs.Words.{DealsLeft, IsStrict, KeepsLower, KeepsUpper, SpanGives, back_of, edge_of, front_of};
+ghost use Rattle.lsm_iters.specs.Words.{lower_place, rest_in, span_from, span_to, upper_place, whole_span, within};
+
+use crate::Bound;
+use sst_blocks::{DataBlock, IterItem, SeqNo};
+use std::alloc::{Allocator, Global};
+use std::marker::Model;
+
+/// The entries of a data block that it holds, dealt from both ends. After a call that is refused
+/// [`sst_blocks::Error::OutOfMemory`] nothing more comes, from either end. A contract sees the block's entries and the places
+/// between which they are left.
+#[derive(Drop)]
+pub struct OwnedDataBlockIter<A: Allocator = Global> {
+    block: DataBlock<A>,
+    from: usize,
+    to: usize,
+}
+
+impl<A: Allocator> Model for OwnedDataBlockIter<A> {
+    ghost use Rattle.std.specs.Prelude.{◌≤◌, length};
+    ghost use Rattle.sst_entries.specs.Entry.{Entry};
+    ghost use Rattle.sst_entries.specs.Span.{Span};
+
+    ghost Value = { Span Entry };
+
+    ghost view = { λ i. record { list = i.block; from = i.from; to = i.to } };
+
+    ghost invariant = { λ i. i.to ≤ length i.block };
+}
+
+impl<A: Allocator> OwnedDataBlockIter<A> {
+    /// All entries of a block.
+    pub fn new(block: DataBlock<A>) -> OwnedDataBlockIter<A>
+        ensures { result ≡ whole_span block }
+    {
+        let to = block.len();
+        OwnedDataBlockIter { block, from: 0, to }
+    }
+
+    /// Drops the entries before a bound. Answers whether an entry is left. The number is not looked at.
+    pub fn seek_lower_bound(&mut self, bound: &Bound<A>, _seqno: SeqNo) -> bool
+        ensures narrowed { let place = lower_place (edge_of bound.now) self.old.list in
+            self.new ≡ span_from place self.old }
+        ensures left { IsTrue result ↔ (rest_in self.new ≡ [] → ⊥) }
+        ensures kept { rest_in self.new ≡ within (edge_of bound.now) Unbounded (rest_in self.old) }
+        ensures both { KeepsUpper (edge_of bound.now) self.old self.new }
+        ensures deals { DealsLeft ⟦<OwnedDataBlockIter<A> as Iterator>⟧.next_gives
+            ⟦<OwnedDataBlockIter<A> as DoubleEndedIterator>⟧.next_back_gives self.new }
+    {
+        self.from = self.from.max(first_behind(&self.block, bound));
+        self.from < self.to
+    }
+
+    /// Drops the entries behind a bound. Answers whether an entry is left. The number is not looked at.
+    pub fn seek_upper_bound(&mut self, bound: &Bound<A>, _seqno: SeqNo) -> bool
+        ensures narrowed { let place = upper_place (edge_of bound.now) self.old.list in
+            self.new ≡ span_to place self.old }
+        ensures left { IsTrue result ↔ (rest_in self.new ≡ [] → ⊥) }
+        ensures kept { rest_in self.new ≡ within Unbounded (edge_of bound.now) (rest_in self.old) }
+        ensures both { KeepsLower (edge_of bound.now) self.old self.new }
+        ensures deals { DealsLeft ⟦<OwnedDataBlockIter<A> as Iterator>⟧.next_gives
+            ⟦<OwnedDataBlockIter<A> as DoubleEndedIterator>⟧.next_back_gives self.new }
+    {
+        self.to = self.to.min(first_past(&self.block, bound));
+        self.from < self.to
+    }
+}
+
+impl<A: Allocator> Iterator for OwnedDataBlockIter<A> {
+    type Item = IterItem<A>;
+
+    ghost can_next = { λ _. Unit {0} };
+
+    ghost next_gives = { SpanGives front_of };
+
+    ghost remaining = { λ s. at_most (s.to - s.from) };
+
+    fn next(&mut self) -> Option<IterItem<A>> {
+        if self.to <= self.from {
+            return None;
+        }
+        match self.block.entry(self.from) {
+            Ok(entry) => {
+                self.from += 1;
+                Some(Ok(entry))
+            }
+            Err(refusal) => {
+                // Nothing more comes.
+                self.from = self.to;
+                Some(Err(refusal))
+            }
+        }
+    }
+}
+
+impl<A: Allocator> DoubleEndedIterator for OwnedDataBlockIter<A> {
+    ghost can_next_back = { λ _. Unit {0} };
+
+    ghost next_back_gives = { SpanGives back_of };
+
+    fn next_back(&mut self) -> Option<IterItem<A>> {
+        if self.to <= self.from {
+            return None;
+        }
+        match self.block.entry(self.to - 1) {
+            Ok(entry) => {
+                self.to -= 1;
+                Some(Ok(entry))
+            }
+            Err(refusal) => {
+                // Nothing more comes.
+                self.to = self.from;
+                Some(Err(refusal))
+            }
+        }
+    }
+}
+
+/// How many entries of a block stand before a lower bound.
+fn first_behind<A: Allocator>(block: &DataBlock<A>, bound: &Bound<A>) -> usize
+    ensures place { result ≡ lower_place (edge_of bound.now) block.now }
+    ensures strict { IsStrict block.now }
+{
+    match bound {
+        Bound::Included(key) => block.first_at_least(key.as_slice()),
+        Bound::Excluded(key) => block.first_above(key.as_slice()),
+    }
+}
+
+/// How many entries of a block stand up to an upper bound.
+fn first_past<A: Allocator>(block: &DataBlock<A>, bound: &Bound<A>) -> usize
+    ensures place { result ≡ upper_place (edge_of bound.now) block.now }
+    ensures strict { IsStrict block.now }
+{
+    match bound {
+        Bound::Included(key) => block.first_above(key.as_slice()),
+        Bound::Excluded(key) => block.first_at_least(key.as_slice()),
+    }
+}
