@@ -24,3 +24,5 @@ pub mod FilePoints
 pub mod Ends
 pub mod Scans
 pub mod FileScans
+pub mod Windows
+pub mod FileWindows

@@ -1,5 +1,5 @@
 -- A point read of a table, over any bytes: a key is admitted, its data block is found, and is read.
-use Rattle.std.specs.Prelude.{◌≡◌, ℕ, ◌+◌, ◌-◌, ◌^◌, ◌≤◌, nat_lt, Bool, true, false, List, map, find, Option, Some, None, if◌then◌else◌}
+use Rattle.std.specs.Prelude.{◌≡◌, ℕ, ◌+◌, ◌-◌, ◌^◌, ◌≤◌, nat_lt, Bool, true, false, List, find, Option, Some, None, if◌then◌else◌}
 use Rattle.std.specs.Option.{option_map}
 use Rattle.sst_blocks.specs.declared.block_type.BlockType.TheVariants.{Data, Index, Filter}
 use Rattle.sst_blocks.specs.declared.opened.Opened.{Opened}
@@ -10,18 +10,12 @@ use Rattle.sst_blocks.specs.Handles.{reaches}
 use Rattle.sst_blocks.specs.Place.{Place, place_of}
 use Rattle.sst_entries.specs.Point.{point}
 use Rattle.sst_filters.specs.Filter.{BloomFilter, admits, filter_in}
+pub use Rattle.lsm_iters.specs.Lift.{lifted, lift}
 use Rattle.lsm_readers.specs.Parts.{Parts, PinnedIndex, full, volatile, two_level}
 use Rattle.lsm_readers.specs.Table.{OpenTable}
 use Rattle.sst_sections.specs.Fnv.{fnv1a}
 use Rattle.sst_sections.specs.Sections.{body_of}
 use Rattle.lsm_readers.specs.Read.{Read, known, block_read, read_map, read_then}
-
--- an entry, and a list, with the global number added to its stored number
-abbrev pub lifted : ℕ → Entry → Entry
-lifted g e = record e { seqno = e.seqno + g }
-
-abbrev pub lift : List Entry → ℕ → List Entry
-lift es g = map (lifted g) es
 
 -- whether the filter block at a place may have a hash
 abbrev pub block_admits : List ℕ → ℕ → Place → Read Bool

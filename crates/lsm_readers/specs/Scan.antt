@@ -1,21 +1,18 @@
 -- A scan of a table: its blocks one behind another, and their entries.
-use Rattle.std.specs.Prelude.{◌≡◌, ℕ, zero, suc, ◌+◌, ◌-◌, ◌^◌, ◌<◌, ◌≤◌, max, nat_lt, Bool, true, false, List, [], ◌∷◌, ◌++◌, length, map, Option, Some, None, MatchOption, Result, Ok, Err, IfErr, MatchResult, ◌⊎◌, if◌then◌else◌}
+use Rattle.std.specs.Prelude.{◌≡◌, ℕ, zero, suc, ◌+◌, ◌<◌, ◌≤◌, max, Bool, true, false, List, [], ◌∷◌, ◌++◌, length, map, Option, Some, None, MatchOption, Result, Ok, Err, IfErr, MatchResult, ◌⊎◌}
 use Rattle.std.specs.List.{flat_map}
 use Rattle.sst_blocks.specs.declared.block_type.BlockType.TheVariants.{Data}
 use Rattle.sst_entries.specs.declared.error.Error.{Error}
-use Rattle.sst_entries.specs.declared.error.Error.TheVariants.{OutOfMemory, SeqNoOverflow}
+use Rattle.sst_entries.specs.declared.error.Error.TheVariants.{OutOfMemory}
 use Rattle.sst_blocks.specs.declared.opened.Opened.{Opened}
 use Rattle.sst_blocks.specs.Block.{Loaded, load_at_told, entries_of, header_len}
 use Rattle.sst_entries.specs.Entry.{Entry}
 use Rattle.sst_entries.specs.Error.{Gives, is_memory}
 use Rattle.sst_blocks.specs.Opened.{with_load}
 use Rattle.sst_entries.specs.Stream.{Answers, Deals, ok_results, front_of, nowhere, answer_stops}
-use Rattle.lsm_readers.specs.Answer.{lifted, lift}
+pub use Rattle.lsm_iters.specs.Lift.{lifted_told}
+use Rattle.lsm_iters.specs.Lift.{lift}
 use Rattle.lsm_readers.specs.Read.{◌>>=◌}
-
--- an entry with the global number added, where the sum fits
-abbrev pub lifted_told : ℕ → Entry → Result Entry Error
-lifted_told g e = if nat_lt (2 ^ 64 - 1) (e.seqno + g) then Err SeqNoOverflow else Ok (lifted g e)
 
 -- a result, and what comes behind a value
 abbrev pub then_blocks : Result Loaded Error → (Loaded → List (Result Loaded Error))

@@ -1,0 +1,195 @@
+-- The index of a table of a list has the window of its handles, whatever of it stays loaded.
+use Rattle.std.proofs.Common.{◌≡◌, ℕ, ◌+◌, ◌^◌, ◌<◌, Bool, true, false, List, [], ◌∷◌, ◌++◌, length, map, refl, sym, ap, subst, ◌∙◌, append_assoc, append-nil, length-append, arith}
+use Rattle.std.specs.Prelude.{Option, Some, None, Result, Ok}
+use Rattle.std.specs.List.{AllByRecursion, flat_map}
+use Rattle.std.proofs.lemmas.List.{map-append}
+use Rattle.std.proofs.lemmas.List.Concat.{flat_map-append}
+use Rattle.sst_sections.specs.declared.version.TableVersion.{TableVersion}
+use Rattle.sst_entries.specs.declared.error.Error.{Error}
+use Rattle.sst_entries.specs.declared.value_type.ValueType.TheVariants.{Value}
+use Rattle.sst_entries.specs.Entry.{Entry, entry}
+use Rattle.sst_entries.specs.Stream.{ok_results}
+use Rattle.sst_entries.specs.Strict.{IsStrictAfter, is_before, last_of}
+use Rattle.sst_entries.proofs.Booleans.{apart, is_false}
+use Rattle.sst_entries.proofs.OrderLemmas.{before_trans}
+use Rattle.sst_blocks.specs.declared.block_type.BlockType.TheVariants.{Index}
+use Rattle.sst_blocks.specs.Block.{Loaded, load_told}
+use Rattle.sst_blocks.specs.Handle.{Handle}
+use Rattle.sst_blocks.specs.Handles.{AreStrictHandles, IsSpellableHandle, end_of, from_edge, from_first, handles_payload, is_above, reaches, to_edge, up_to_first, window}
+use Rattle.sst_blocks.specs.Place.{Place, place_of}
+use Rattle.sst_blocks.proofs.Reaching.{above_reaches, reaches_after}
+use Rattle.lsm_files.proofs.BlockLengths.{length-block}
+use Rattle.lsm_files.specs.Fits.{SectionFits}
+use Rattle.lsm_files.specs.Kinds.{AreIndexParts, index_sections}
+use Rattle.lsm_files.specs.Layout.{bytes_in}
+use Rattle.lsm_files.specs.Parts.{joined_parts}
+use Rattle.lsm_files.specs.Partitions.{handles_block, index_tops, is_full_index, last_end}
+use Rattle.lsm_files.specs.declared.options.IndexKind.{IndexKind}
+use Rattle.lsm_files.specs.declared.options.IndexKind.TheVariants.{Full as FullIndex, Partitioned as PartitionedIndex}
+use Rattle.lsm_block_indexes.specs.Index.{between, block_between, parts_between}
+use Rattle.lsm_readers.specs.BlockIndexes.{index_over}
+use Rattle.lsm_readers.specs.OfList.{index_said}
+use Rattle.lsm_readers.proofs.ChunkReads.{strict_after, strict_front}
+use Rattle.lsm_readers.proofs.FileIndexes.{LoadsHandles, part_loads}
+use Rattle.lsm_readers.proofs.FileKinds.{full_loads}
+use Rattle.lsm_readers.proofs.FileSections.{top_place}
+use Rattle.lsm_readers.proofs.PartEnds.{some_parts}
+use Rattle.lsm_readers.proofs.PartReads.{AreSomeParts, top_at}
+use Rattle.lsm_readers.proofs.Windows.{AllCut, AllTell, Rises, Tells, parts_cut, to_here, to_later}
+
+-- ---- the tests at the edges
+
+-- a test by the end alone, which each handle behind one that passes it passes too
+pub record IsEdge (p : Handle → Bool) : Type 0 where
+  pub upward : (a b : Handle) → is_before (end_of a) (end_of b) ≡ true → p a ≡ true → p b ≡ true
+  pub by_end : (a b : Handle) → end_of a ≡ end_of b → p a ≡ p b
+
+reach_edge : (key : List ℕ) (bound : ℕ) → IsEdge (reaches key bound)
+reach_edge key bound =
+    let read = entry key [] bound Value in
+    record {
+      upward = λ a b lt hit. reaches_after key bound b ∙ before_trans read (end_of a) (end_of b) (sym (reaches_after key bound a) ∙ hit) lt;
+      by_end = λ a b same. reaches_after key bound a ∙ ap (is_before read) same ∙ sym (reaches_after key bound b);
+    }
+
+above_edge : (key : List ℕ) → IsEdge (is_above key)
+above_edge key = record {
+  upward = λ a b lt hit. above_reaches key b ∙ (reach_edge key 0).upward a b lt (sym (above_reaches key a) ∙ hit);
+  by_end = λ a b same. above_reaches key a ∙ (reach_edge key 0).by_end a b same ∙ sym (above_reaches key b);
+}
+
+abbrev pub from_test : Option (List ℕ × ℕ) → Handle → Bool
+from_test None = λ h. true
+from_test (Some edge) = reaches edge.0 edge.1
+
+abbrev pub to_test : Option (List ℕ) → Handle → Bool
+to_test None = λ h. false
+to_test (Some key) = is_above key
+
+from_is_edge : (lo : Option (List ℕ × ℕ)) → IsEdge (from_test lo)
+from_is_edge None = record { upward = λ a b lt hit. refl; by_end = λ a b same. refl }
+from_is_edge (Some edge) = reach_edge edge.0 edge.1
+
+to_is_edge : (hi : Option (List ℕ)) → IsEdge (to_test hi)
+to_is_edge None = record { upward = λ a b lt hit. hit; by_end = λ a b same. refl }
+to_is_edge (Some key) = above_edge key
+
+from_is : (lo : Option (List ℕ × ℕ)) (hs : List Handle) → from_edge lo hs ≡ from_first (from_test lo) hs
+from_is None [] = refl
+from_is None (h ∷ hs) = refl
+from_is (Some edge) hs = refl
+
+to_is : (hi : Option (List ℕ)) (hs : List Handle) → to_edge hi hs ≡ up_to_first (to_test hi) hs
+to_is None [] = refl
+to_is None (h ∷ hs) = ap (λ (xs : List Handle). h ∷ xs) (to_is None hs)
+to_is (Some key) hs = refl
+
+-- a window is cut by the two tests
+pub window_is : (hs : List Handle) (lo : Option (List ℕ × ℕ)) (hi : Option (List ℕ)) → window hs lo hi ≡ from_first (from_test lo) (up_to_first (to_test hi) hs)
+window_is hs lo hi = from_is lo (to_edge hi hs) ∙ ap (from_first (from_test lo)) (to_is hi hs)
+
+-- ---- strict handles
+
+end_is : (x : Handle) (xs : List Handle) → entry (last_end (x ∷ xs)).user_key [] (last_end (x ∷ xs)).seqno Value ≡ last_end (x ∷ xs)
+unfolding last_of
+end_is x [] = refl
+end_is x (y ∷ ys) = end_is y ys
+
+split : (last : Option Entry) (part : List Handle) (parts : List (List Handle)) → IsStrictAfter last (map end_of (joined_parts (part ∷ parts))) → IsStrictAfter last (map end_of part ++ map end_of (joined_parts parts))
+split last part parts h = subst (λ (es : List Entry). IsStrictAfter last es) (map-append end_of part (joined_parts parts)) h
+
+module _ (p : Handle → Bool) (edge : IsEdge p) where
+  behind : (x : Handle) (xs : List Handle) → IsStrictAfter (Some (end_of x)) (map end_of xs) → p x ≡ true → AllByRecursion (λ y. p y ≡ true) xs
+  unfolding IsStrictAfter
+  behind x [] strict hit = tt
+  behind x (y ∷ ys) strict hit = let here = edge.upward x y strict.0 hit in (here, behind y ys strict.1 here)
+
+  rises : (last : Option Entry) (hs : List Handle) → IsStrictAfter last (map end_of hs) → Rises p hs
+  unfolding IsStrictAfter
+  rises last [] strict = tt
+  rises last (x ∷ xs) strict = (behind x xs strict.1, rises (Some (end_of x)) xs strict.1)
+
+  none_pass : (last : Option Entry) (top x : Handle) (xs : List Handle) → end_of top ≡ last_end (x ∷ xs) → IsStrictAfter last (map end_of (x ∷ xs)) → p top ≡ false → AllByRecursion (λ y. p y ≡ false) (x ∷ xs)
+  unfolding IsStrictAfter last_of
+  none_pass last top x [] ends strict early = (sym (edge.by_end top x ends) ∙ early, tt)
+  none_pass last top x (y ∷ ys) ends strict early =
+      let more : AllByRecursion (λ y. p y ≡ false) (y ∷ ys) = none_pass (Some (end_of x)) top y ys ends strict.1 early in
+      (is_false (p x) (λ hit. apart (p y) (edge.upward x y strict.1.0 hit) more.0), more)
+
+  some_pass : (top x : Handle) (xs rest : List Handle) → end_of top ≡ last_end (x ∷ xs) → p top ≡ true → up_to_first p ((x ∷ xs) ++ rest) ≡ up_to_first p (x ∷ xs)
+  unfolding last_of
+  some_pass top x [] rest ends hit =
+      let here : p x ≡ true = sym (edge.by_end top x ends) ∙ hit in
+      to_here p x rest here ∙ sym (to_here p x [] here)
+  some_pass top x (y ∷ ys) rest ends hit =
+      elim (p x) as (λ b. p x ≡ b → up_to_first p ((x ∷ y ∷ ys) ++ rest) ≡ up_to_first p (x ∷ y ∷ ys)) [
+        | true ↦ λ t. to_here p x ((y ∷ ys) ++ rest) t ∙ sym (to_here p x (y ∷ ys) t)
+        | false ↦ λ f. to_later p x ((y ∷ ys) ++ rest) f ∙ ap (λ (hs : List Handle). x ∷ hs) (some_pass top y ys rest ends hit) ∙ sym (to_later p x (y ∷ ys) f)
+      ] refl
+
+  -- a handle of the top level tells of its part
+  tell : (last : Option Entry) (top x : Handle) (xs : List Handle) → end_of top ≡ last_end (x ∷ xs) → IsStrictAfter last (map end_of (x ∷ xs)) → Tells p top (x ∷ xs)
+  tell last top x xs ends strict = record { none = none_pass last top x xs ends strict; some = λ hit rest. some_pass top x xs rest ends hit }
+
+  tells : (v : TableVersion) (at : ℕ) (last : Option Entry) (parts : List (List Handle)) → AreSomeParts parts → IsStrictAfter last (map end_of (joined_parts parts)) → AllTell p (index_tops v at parts) parts
+  tells v at last [] some strict = tt
+  tells v at last ([] ∷ ps) some strict = absurd (omega (arith, some.0))
+  tells v at last ((x ∷ xs) ∷ ps) some strict =
+      let part = x ∷ xs in
+      let whole = split last part ps strict in (
+        tell last (top_at v at part) x xs (end_is x xs) (strict_front last (map end_of part) (map end_of (joined_parts ps)) whole),
+        tells v (at + (24 + length (handles_payload v part))) (last_of last (map end_of part)) ps some.1 (strict_after last (map end_of part) (map end_of (joined_parts ps)) whole),
+      )
+
+-- ---- what a block and what partitions have between the edges
+
+between_here : (body : List ℕ) (place : Place) (hs : List Handle) (lo : Option (List ℕ × ℕ)) (hi : Option (List ℕ)) → LoadsHandles body place.offset place.size hs → block_between body lo hi place ≡ ok_results (window hs lo hi)
+between_here body place hs lo hi l = rw (l.loads, l.handles) refl
+
+module _ (v : TableVersion) (at : ℕ) (parts : List (List Handle)) (some : AreSomeParts parts) (strict : AreStrictHandles (joined_parts parts)) (spelled : AllByRecursion (IsSpellableHandle v) (joined_parts parts))
+    (short : length (flat_map (handles_block v) parts) < 2 ^ 32) (pre post body : List ℕ) (from : at ≡ length pre) (lies : body ≡ pre ++ (flat_map (handles_block v) parts ++ post)) (lo : Option (List ℕ × ℕ)) (hi : Option (List ℕ)) where
+  abbrev result : Handle → Result Handle Error
+  result h = Ok h
+
+  abbrev results : Handle → List (Result Handle Error)
+  results top = block_between body lo hi (place_of top)
+
+  cuts : (before behind : List (List Handle)) → parts ≡ before ++ behind → AllCut (from_test lo) (to_test hi) result results (index_tops v (at + length (flat_map (handles_block v) before)) behind) behind
+  cuts before [] are = tt
+  cuts before (part ∷ behind) are =
+      let n = at + length (flat_map (handles_block v) before) in
+      let front = before ++ part ∷ [] in
+      let next : at + length (flat_map (handles_block v) front) ≡ n + (24 + length (handles_payload v part)) =
+          omega (arith, ap length (flat_map-append (handles_block v) before (part ∷ [])), length-append (flat_map (handles_block v) before) (handles_block v part ++ []), length-append {A = ℕ} (handles_block v part) [], length-block v Index (handles_payload v part)) in
+      let more = cuts front behind (are ∙ sym (append_assoc before (part ∷ []) behind)) in (
+        between_here body (place_of (top_at v n part)) part lo hi (part_loads v at parts some strict spelled short pre post body from lies before part behind are) ∙ ap (map result) (window_is part lo hi),
+        subst (λ (m : ℕ). AllCut (from_test lo) (to_test hi) result results (index_tops v m behind) behind) next more,
+      )
+
+  pub parts_window : parts_between body lo hi (window (index_tops v at parts) lo hi) ≡ ok_results (window (joined_parts parts) lo hi)
+  parts_window =
+      let tops = index_tops v at parts in
+      let start : at + 0 ≡ at = omega arith in
+      let all = subst (λ (m : ℕ). AllCut (from_test lo) (to_test hi) result results (index_tops v m parts) parts) start (cuts [] parts refl) in
+      ap (flat_map results) (window_is tops lo hi)
+      ∙ parts_cut (from_test lo) (to_test hi) result results tops parts (tells (from_test lo) (from_is_edge lo) v at None parts some strict) (tells (to_test hi) (to_is_edge hi) v at None parts some strict) all
+        (rises (from_test lo) (from_is_edge lo) None (joined_parts parts) strict)
+      ∙ ap (map result) (sym (window_is (joined_parts parts) lo hi))
+
+-- ---- the index of each kind
+
+module _ (v : TableVersion) (at : ℕ) (hs : List Handle) (parts : List (List Handle)) (strict : AreStrictHandles hs) (spelled : AllByRecursion (IsSpellableHandle v) hs) (pre post body : List ℕ) (from : at ≡ length pre)
+    (lo : Option (List ℕ × ℕ)) (hi : Option (List ℕ)) where
+  pub index_window : (k : IndexKind) (tli : Place) (pin : Bool) → AreIndexParts k hs parts → AllByRecursion SectionFits (index_sections k v at hs parts) → body ≡ pre ++ (bytes_in (index_sections k v at hs parts) ++ post) → tli ≡ top_place k v at hs parts
+      → (index_over body (index_said k v at hs parts pin) tli).told lo hi ≡ ok_results (window hs lo hi)
+  index_window FullIndex tli true are fits lies place = refl
+  index_window FullIndex tli false are fits lies place =
+      ap (block_between body lo hi) place ∙ between_here body (top_place FullIndex v at hs parts) hs lo hi (full_loads v at hs parts strict spelled pre post body from fits lies)
+  index_window (PartitionedIndex size) tli pin are fits lies place =
+      let top = handles_block v (index_tops v at parts) in
+      let blocks = flat_map (handles_block v) parts in
+      let whole : body ≡ pre ++ (blocks ++ ((top ++ []) ++ post)) = lies ∙ simp append_assoc in
+      let line : AreStrictHandles (joined_parts parts) = subst AreStrictHandles (sym are.whole) strict in
+      let all : AllByRecursion (IsSpellableHandle v) (joined_parts parts) = subst (λ (xs : List Handle). AllByRecursion (IsSpellableHandle v) xs) (sym are.whole) spelled in
+      parts_window v at parts (some_parts (is_full_index size) parts are.each) line all (fits.0).short pre ((top ++ []) ++ post) body from whole lo hi
+      ∙ ap (λ (xs : List Handle). ok_results (window xs lo hi)) are.whole
