@@ -72,13 +72,13 @@ all_lifted g (e ∷ es) fits =
 -- ---- blocks
 
 -- the block of a chunk
-abbrev loaded_of : TableVersion → List Entry → Loaded
+abbrev pub loaded_of : TableVersion → List Entry → Loaded
 loaded_of v c = record { version = v; kind = Data; payload = payload v c }
 
-abbrev Reads : TableVersion → List Entry → Type 0
+abbrev pub Reads : TableVersion → List Entry → Type 0
 Reads v c = (entries_in v (payload v c) ≡ Some c) × (length (payload v c) < 2 ^ 32)
 
-all_read : (v : TableVersion) (last : Option Entry) (cs : List (List Entry)) → IsStrictAfter last (joined cs) → AllByRecursion (EntryFits v) (joined cs) → AllByRecursion (BlockFits v) cs → AllByRecursion (Reads v) cs
+pub all_read : (v : TableVersion) (last : Option Entry) (cs : List (List Entry)) → IsStrictAfter last (joined cs) → AllByRecursion (EntryFits v) (joined cs) → AllByRecursion (BlockFits v) cs → AllByRecursion (Reads v) cs
 all_read v last [] strict fits blocks = tt
 all_read v last (c ∷ cs) strict fits blocks =
     let block : BlockFits v c = blocks.0 in

@@ -26,3 +26,4 @@ pub mod Scans
 pub mod FileScans
 pub mod Windows
 pub mod FileWindows
+pub mod FileRanges
