@@ -161,9 +161,9 @@ module _ (v : TableVersion) (body : List ℕ) (g : ℕ) (low high : Bound (List 
         let P : Entry → Type 0 = λ e. key_lt e.user_key key ≡ true in
         let Q : Entry → Type 0 = λ e. (is_from low e.user_key && is_to high e.user_key) ≡ false in
         let here : reaches key (2 ^ 64 - 1) (handle_of v at c) ≡ false → row (handle_of v at c) ≡ [] = λ early.
-            let before = all_below v key last x xs (strict_front last c (joined cs) strict) (all_front (EntryFits v) c (joined cs) fits) (sym (reaches_after key (2 ^ 64 - 1) (handle_of v at c)) ∙ early) in
-            let beside = all_more P Q (λ e lt. not_from low high e.user_key (none e.user_key lt)) c before in
-            are.0 ∙ ap (lift_told g) (none_within low high c beside) in
+        let before = all_below v key last x xs (strict_front last c (joined cs) strict) (all_front (EntryFits v) c (joined cs) fits) (sym (reaches_after key (2 ^ 64 - 1) (handle_of v at c)) ∙ early) in
+        let beside = all_more P Q (λ e lt. not_from low high e.user_key (none e.user_key lt)) c before in
+        are.0 ∙ ap (lift_told g) (none_within low high c beside) in
         (here, early_rows (at + block_size v c) (last_of last c) cs some.1 (strict_after last c (joined cs) strict) (all_behind (EntryFits v) c (joined cs) fits) are.1)
 
   -- and so has each behind the first that ends above the upper bound's key
@@ -179,8 +179,8 @@ module _ (v : TableVersion) (body : List ℕ) (g : ℕ) (low high : Bound (List 
         let rest = strict_after last c (joined cs) strict in
         let behind : IsStrictAfter (Some (last_entry c)) (joined cs) = subst (λ (l : Option Entry). IsStrictAfter l (joined cs)) (last_some x xs) rest in
         let here : is_above key (handle_of v at c) ≡ true → flat_map row (handles_from v (at + block_size v c) cs) ≡ [] = λ above.
-            let beside = all_more P Q (λ e lt. not_to low high e.user_key (none e.user_key lt)) (joined cs) (all_above key (last_entry c) (joined cs) behind above) in
-            rows_whole (at + block_size v c) cs are.1 ∙ ap (lift_told g) (none_within low high (joined cs) beside) in
+        let beside = all_more P Q (λ e lt. not_to low high e.user_key (none e.user_key lt)) (joined cs) (all_above key (last_entry c) (joined cs) behind above) in
+        rows_whole (at + block_size v c) cs are.1 ∙ ap (lift_told g) (none_within low high (joined cs) beside) in
         (here, late_rows (at + block_size v c) (last_of last c) cs some.1 rest are.1)
 
 -- ---- by the bounds
@@ -237,8 +237,8 @@ module _ (v : TableVersion) (label : Label) (options : Options) (spills : List �
     written_index lo hi =
         ap (λ (p : Parts). (index_over the_file p.pinned.index p.regions.tli).told lo hi) (parts_are v label options spills es c is fits strict short g pin_filter pin_index parts told)
         ∙ index_window v (length (data_section v cs)) (handles v cs) c.index (handles_line v label options spills es c is fits strict short) (handles_fit v label options spills es c is fits strict short)
-          (data_section v cs) (behind_index v label options spills es c is fits strict short) the_file refl lo hi options.index_kind (regions_said v label options c).tli pin_index is.index fits.index (body_is v label options c)
-          (tli_place v label options spills es c is fits strict short)
+        (data_section v cs) (behind_index v label options spills es c is fits strict short) the_file refl lo hi options.index_kind (regions_said v label options c).tli pin_index is.index fits.index (body_is v label options c)
+        (tli_place v label options spills es c is fits strict short)
 
     pub written_rows : (low high : Bound (List ℕ)) → rows (bounded v the_file g low high) ((index_over the_file parts.pinned.index parts.regions.tli).told (lower_edge low) (upper_edge high)) ≡ ok_results (within low high (lift es g))
     written_rows low high =

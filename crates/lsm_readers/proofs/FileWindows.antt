@@ -160,7 +160,7 @@ module _ (v : TableVersion) (at : ℕ) (parts : List (List Handle)) (some : AreS
       let n = at + length (flat_map (handles_block v) before) in
       let front = before ++ part ∷ [] in
       let next : at + length (flat_map (handles_block v) front) ≡ n + (24 + length (handles_payload v part)) =
-          omega (arith, ap length (flat_map-append (handles_block v) before (part ∷ [])), length-append (flat_map (handles_block v) before) (handles_block v part ++ []), length-append {A = ℕ} (handles_block v part) [], length-block v Index (handles_payload v part)) in
+      omega (arith, ap length (flat_map-append (handles_block v) before (part ∷ [])), length-append (flat_map (handles_block v) before) (handles_block v part ++ []), length-append {A = ℕ} (handles_block v part) [], length-block v Index (handles_payload v part)) in
       let more = cuts front behind (are ∙ sym (append_assoc before (part ∷ []) behind)) in (
         between_here body (place_of (top_at v n part)) part lo hi (part_loads v at parts some strict spelled short pre post body from lies before part behind are) ∙ ap (map result) (window_is part lo hi),
         subst (λ (m : ℕ). AllCut (from_test lo) (to_test hi) result results (index_tops v m behind) behind) next more,
@@ -173,7 +173,7 @@ module _ (v : TableVersion) (at : ℕ) (parts : List (List Handle)) (some : AreS
       let all = subst (λ (m : ℕ). AllCut (from_test lo) (to_test hi) result results (index_tops v m parts) parts) start (cuts [] parts refl) in
       ap (flat_map results) (window_is tops lo hi)
       ∙ parts_cut (from_test lo) (to_test hi) result results tops parts (tells (from_test lo) (from_is_edge lo) v at None parts some strict) (tells (to_test hi) (to_is_edge hi) v at None parts some strict) all
-        (rises (from_test lo) (from_is_edge lo) None (joined_parts parts) strict)
+      (rises (from_test lo) (from_is_edge lo) None (joined_parts parts) strict)
       ∙ ap (map result) (sym (window_is (joined_parts parts) lo hi))
 
 -- ---- the index of each kind

@@ -27,3 +27,4 @@ pub mod FileScans
 pub mod Windows
 pub mod FileWindows
 pub mod FileRanges
+pub mod TableRanges

@@ -7,4 +7,5 @@ pub mod Answer
 pub mod BlockIndexes
 pub mod OfList
 pub mod Scan
+pub mod Ranges
 pub mod Words

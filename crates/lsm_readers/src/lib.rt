@@ -1,4 +1,4 @@
-//! One sorted table: opening its bytes, point reads and scans.
+//! One sorted table: opening its bytes, point reads, scans and ranges.
 #![tactic(auto)]
 
 mod inner;
@@ -14,6 +14,7 @@ pub use lsm_block_indexes::{
     OwnedIndexBlockIter, TwoLevelBlockIndex, VolatileBlockIndex,
 };
 pub use lsm_files::{GlobalTableId, TableId, Timestamp, TreeId};
+pub use lsm_iters::Iter;
 pub use meta::ParsedMeta;
 pub use point::point_in;
 pub use regions::ParsedRegions;

@@ -10,6 +10,8 @@ ghost use Rattle.sst_blocks.specs.declared.block_type.BlockType.TheVariants.{Dat
 ghost use Rattle.sst_entries.specs.declared.error.Error.{Error};
 ghost use Rattle.sst_entries.specs.declared.error.Error.TheVariants.{GlobalSeqNoTooLarge, OutOfMemory};
 
+mod range;
+
 use crate::inner::PinnedBlocks;
 use crate::{Inner, ParsedMeta, ParsedRegions, PinnedBlockIndex, Scanner, point_in};
 use lsm_block_indexes::{BlockIndexImpl, FullBlockIndex, TwoLevelBlockIndex, VolatileBlockIndex};

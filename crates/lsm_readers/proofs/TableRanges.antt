@@ -1,0 +1,204 @@
+-- What a range of an opened table deals and loads.
+use Rattle.std.proofs.Common.{◌≡◌, ℕ, zero, suc, ◌+◌, ◌^◌, ◌<◌, ◌≤◌, Bool, true, false, List, [], ◌∷◌, ◌++◌, length, reverse, refl, sym, ap, subst, ◌∙◌, append-nil, arith}
+use Rattle.std.specs.Prelude.{Option, Some, None, Result, Ok, Err}
+use Rattle.std.specs.declared.ops.Bound.{Bound}
+use Rattle.std.specs.declared.ops.Bound.TheVariants.{Unbounded}
+use Rattle.sst_sections.specs.Sections.{body_of}
+use Rattle.sst_entries.specs.declared.error.Error.{Error}
+use Rattle.sst_entries.specs.declared.error.Error.TheVariants.{OutOfMemory}
+use Rattle.sst_entries.specs.declared.stream.Direction.{Direction}
+use Rattle.sst_entries.specs.declared.stream.Direction.TheVariants.{Front, Back}
+use Rattle.sst_entries.specs.Entry.{Entry}
+use Rattle.sst_entries.specs.Error.{is_memory}
+use Rattle.sst_entries.specs.Point.{within}
+use Rattle.sst_entries.specs.Stream.{Deals, NoneStops, Runs, answer_stops, back_of, but_first, deal, first, front_of, ok_results}
+use Rattle.sst_entries.proofs.Booleans.{apart, is_false}
+use Rattle.sst_entries.proofs.StreamLemmas.{map_reverse}
+use Rattle.sst_blocks.specs.declared.opened.Opened.{Opened}
+use Rattle.sst_blocks.specs.Handle.{Handle}
+use Rattle.sst_blocks.specs.Opened.{none_opened}
+use Rattle.lsm_files.specs.Table.{IsTable}
+use Rattle.lsm_block_indexes.specs.declared.kinds.BlockIndexIterImpl.{BlockIndexIterImpl}
+use Rattle.lsm_block_indexes.specs.Dealt.{DealsEnding, up_to_error}
+use Rattle.lsm_block_indexes.specs.Kinds.{BackGives, FrontGives, IsReader, left_of}
+use Rattle.lsm_block_indexes.specs.Left.{loaded}
+use Rattle.lsm_iters.specs.Bounds.{lower_edge, upper_edge}
+use Rattle.lsm_iters.specs.Lift.{lift, lift_told}
+use Rattle.lsm_iters.specs.Range.{Range, RangeGives, back_blocks, data_loaded, front_blocks, index_to_come, left_in, new_range, opened_in, range_left, to_come}
+use Rattle.lsm_iters.specs.Rows.{Bounded, rows}
+use Rattle.lsm_iters.proofs.Ends.{if_false}
+use Rattle.lsm_iters.proofs.RangeLaws.{range_deals}
+use Rattle.lsm_readers.specs.BlockIndexes.{table_index}
+use Rattle.lsm_readers.specs.Ranges.{AreFew, DealsWithin, IsRangeOf, LoadsAtMost, blocks_within, bounded, index_within, range_told}
+use Rattle.lsm_readers.specs.Table.{IsOpen, OpenTable}
+use Rattle.lsm_readers.proofs.FileRanges.{file_blocks, file_rows}
+use Rattle.lsm_readers.proofs.Scans.{memory_is}
+
+abbrev R : Type 0
+R = Result Entry Error
+
+-- ---- where only want of memory stops a reader, values are dealt to the end
+
+module _ (stops : Error → Bool) (memory : stops OutOfMemory ≡ true) where
+  no_memory : (r : Option R) → answer_stops stops r ≡ false → answer_stops is_memory r ≡ false
+  no_memory None fine = refl
+  no_memory (Some (Ok e)) fine = refl
+  no_memory (Some (Err e)) fine = is_false (is_memory e) (λ m. apart (stops e) (subst (λ (x : Error). stops x ≡ true) (sym (memory_is e m)) memory) fine)
+
+  none_memory : (rs : List (Option R)) → NoneStops (answer_stops stops) rs → NoneStops (answer_stops is_memory) rs
+  none_memory [] fine = tt
+  none_memory (r ∷ rs) fine = (no_memory r fine.0, none_memory rs fine.1)
+
+-- the answers at the back, by the list in reverse
+abbrev BackOk : List R → List Direction → Type 0
+BackOk zs ends = up_to_error (first zs ∷ deal (reverse (but_first zs)) ends) ≡ first zs ∷ deal (reverse (but_first zs)) ends
+
+by_back : (ys : List Entry) (ends : List Direction) → ((us : List Entry) → up_to_error (deal (ok_results us) ends) ≡ deal (ok_results us) ends) → BackOk (ok_results ys) ends
+by_back [] ends more = ap (λ (rs : List (Option R)). None ∷ rs) (more [])
+by_back (y ∷ ys) ends more =
+    let zs = reverse (ok_results ys) in
+    let rest : up_to_error (deal zs ends) ≡ deal zs ends = subst (λ (xs : List R). up_to_error (deal xs ends) ≡ deal xs ends) (sym (map_reverse ys)) (more (reverse ys)) in
+    ap (λ (rs : List (Option R)). Some (Ok y) ∷ rs) rest
+
+deal_ok : (xs : List Entry) (ends : List Direction) → up_to_error (deal (ok_results xs) ends) ≡ deal (ok_results xs) ends
+deal_ok xs [] = refl
+deal_ok [] (Front ∷ ends) = ap (λ (rs : List (Option R)). None ∷ rs) (deal_ok [] ends)
+deal_ok (x ∷ xs) (Front ∷ ends) = ap (λ (rs : List (Option R)). Some (Ok x) ∷ rs) (deal_ok xs ends)
+deal_ok xs (Back ∷ ends) = subst (λ (zs : List R). BackOk zs ends) (sym (map_reverse xs)) (by_back (reverse xs) ends (λ us. deal_ok us ends))
+
+deals_values : {S : Type 0} (front back : S → Option R → S → Type 0) (may may_back : S → Type 0) (s : S) (xs : List Entry) → DealsEnding front back may may_back s (ok_results xs) → (stops : Error → Bool) → stops OutOfMemory ≡ true → Deals (answer_stops stops) front back s (ok_results xs)
+deals_values front back may may_back s xs d stops memory = record {
+  answers = λ ends rs t runs fine. d.answers ends rs t runs (none_memory stops memory rs fine) ∙ deal_ok xs ends;
+}
+
+-- ---- how many blocks are loaded
+
+data_more : (n : ℕ) (o : Opened) → (data_loaded n o).data_loads ≤ o.data_loads + n
+data_more zero o = omega arith
+data_more (suc n) o = omega (arith, data_more n o)
+
+index_more : (n : ℕ) (o : Opened) → (loaded n o).index_loads ≤ o.index_loads + n
+index_more zero o = omega arith
+index_more (suc n) o = omega (arith, index_more n o)
+
+same_filter : (n : ℕ) (o : Opened) → (loaded n o).filter_loads ≡ o.filter_loads
+same_filter zero o = refl
+same_filter (suc n) o = same_filter n o
+
+same_meta : (n : ℕ) (o : Opened) → (loaded n o).meta_loads ≡ o.meta_loads
+same_meta zero o = refl
+same_meta (suc n) o = same_meta n o
+
+-- what was loaded and what is to come are no more than so many
+record IsWithin {A : Type 0} (blocks index : ℕ) (s : Range A) : Type 0 where
+  data_fits : (opened_in s).data_loads + length (to_come s) ≤ blocks
+  index_fits : (opened_in s).index_loads + index_to_come s ≤ index
+  no_filter : (opened_in s).filter_loads ≡ 0
+  no_meta : (opened_in s).meta_loads ≡ 0
+
+module _ {A : Type 0} (blocks index : ℕ) where
+  stays : (end : List R → Option R × List R) (needed : Range A → ℕ) (s : Range A) (r : Option R) (t : Range A) → RangeGives end needed s r t → IsWithin blocks index s → IsWithin blocks index t
+  stays end needed s r t step held =
+      let o = (left_in s.handles).opened in
+      let n = step.loads.index in
+      record {
+        data_fits = omega (arith, ap (λ (x : Opened). x.data_loads) step.loads.counts, data_more step.loads.blocks s.opened, step.loads.within, held.data_fits);
+        index_fits = omega (arith, ap (λ (x : Opened). x.index_loads) step.loads.index_counts, index_more n o, step.loads.index_within, held.index_fits);
+        no_filter = ap (λ (x : Opened). x.filter_loads) step.loads.index_counts ∙ same_filter n o ∙ held.no_filter;
+        no_meta = ap (λ (x : Opened). x.meta_loads) step.loads.index_counts ∙ same_meta n o ∙ held.no_meta;
+      }
+
+  along : (ends : List Direction) (rs : List (Option R)) (s t : Range A) → Runs (RangeGives front_of front_blocks) (RangeGives back_of back_blocks) s ends rs t → IsWithin blocks index s → IsWithin blocks index t
+  along [] [] s t runs held = subst (λ (x : Range A). IsWithin blocks index x) runs held
+  along [] (r ∷ rs) s t runs held = absurd runs
+  along (e ∷ ends) [] s t runs held = absurd runs
+  along (Front ∷ ends) (r ∷ rs) s t runs held = along ends rs runs.0 t runs.2 (stays front_of front_blocks s r runs.0 runs.1 held)
+  along (Back ∷ ends) (r ∷ rs) s t runs held = along ends rs runs.0 t runs.2 (stays back_of back_blocks s r runs.0 runs.1 held)
+
+-- ---- a range of an opened table
+
+module _ {A : Type 0} where
+  -- before a bound is set
+  pub starts : (t : OpenTable) (body : List ℕ) (g : ℕ) (iter : BlockIndexIterImpl A) → body ≡ body_of t.bytes → g ≡ t.global_seqno → IsReader iter (table_index t) None None → IsRangeOf t Unbounded Unbounded (new_range body g iter)
+  starts t body g iter bytes number reader = record {
+    of = rw (bytes, number) refl;
+    index = reader.index_is;
+    whole = reader.between;
+    unsought = refl;
+    front = refl;
+    back = refl;
+    opened = ap (λ (o : Opened). record o { data_loads = 0 }) reader.opened;
+  }
+
+  -- a bound is set
+  pub from_lower : (t : OpenTable) (low high : Bound (List ℕ)) (old : Bound (List ℕ)) (s u : Range A) → IsRangeOf t old high s → u ≡ record s { of = record s.of { low = low } } → IsRangeOf t low high u
+  from_lower t low high old s u is set =
+      subst (λ (x : Range A). IsRangeOf t low high x) (sym set)
+      (record { of = ap (λ (b : Bounded). record b { low = low }) is.of; index = is.index; whole = is.whole; unsought = is.unsought; front = is.front; back = is.back; opened = is.opened })
+
+  pub to_upper : (t : OpenTable) (low high : Bound (List ℕ)) (old : Bound (List ℕ)) (s u : Range A) → IsRangeOf t low old s → u ≡ record s { of = record s.of { high = high } } → IsRangeOf t low high u
+  to_upper t low high old s u is set =
+      subst (λ (x : Range A). IsRangeOf t low high x) (sym set)
+      (record { of = ap (λ (b : Bounded). record b { high = high }) is.of; index = is.index; whole = is.whole; unsought = is.unsought; front = is.front; back = is.back; opened = is.opened })
+
+module _ {A : Type 0} (t : OpenTable) (low high : Bound (List ℕ)) (s : Range A) (is : IsRangeOf t low high s) where
+  abbrev told : List (Result Handle Error)
+  told = (table_index t).told (lower_edge low) (upper_edge high)
+
+  come : to_come s ≡ told
+  come =
+      if_false s.handles.sought (left_in s.handles).results ((left_in s.handles).index.told (lower_edge s.of.low) (upper_edge s.of.high)) is.unsought
+      ∙ ap (λ (b : Bounded). (left_in s.handles).index.told (lower_edge b.low) (upper_edge b.high)) is.of
+      ∙ ap (λ i. i.told (lower_edge low) (upper_edge high)) is.index
+
+  index_come : index_to_come s ≡ index_within t low high
+  index_come =
+      if_false s.handles.sought (left_in s.handles).loads ((left_in s.handles).index.loads (lower_edge s.of.low) (upper_edge s.of.high)) is.unsought
+      ∙ ap (λ (b : Bounded). (left_in s.handles).index.loads (lower_edge b.low) (upper_edge b.high)) is.of
+      ∙ ap (λ i. i.loads (lower_edge low) (upper_edge high)) is.index
+
+  left_is : range_left s ≡ range_told t low high
+  left_is =
+      ap (λ (es : List Entry). lift_told s.of.global_seqno es ++ (rows s.of (to_come s) ++ lift_told s.of.global_seqno s.back)) is.front
+      ∙ ap (λ (es : List Entry). rows s.of (to_come s) ++ lift_told s.of.global_seqno es) is.back
+      ∙ append-nil (rows s.of (to_come s))
+      ∙ ap (λ (b : Bounded). rows b (to_come s)) is.of
+      ∙ ap (rows (bounded t low high)) come
+
+  -- it deals what the table tells
+  pub table_deals : DealsEnding (RangeGives front_of front_blocks) (RangeGives back_of back_blocks) (λ _. Unit {0}) (λ _. Unit {0}) s (range_told t low high)
+  table_deals = subst (λ (xs : List R). DealsEnding (RangeGives front_of front_blocks) (RangeGives back_of back_blocks) (λ _. Unit {0}) (λ _. Unit {0}) s xs) left_is (range_deals s)
+
+  loads_few : (blocks : ℕ) → length told ≡ blocks → LoadsAtMost (RangeGives front_of front_blocks) (RangeGives back_of back_blocks) blocks (index_within t low high) s
+  loads_few blocks many ends rs u runs =
+      let index = index_within t low high in
+      let held : IsWithin blocks index s = record {
+        data_fits = omega (arith, ap (λ (o : Opened). o.data_loads) is.opened, ap length come, many);
+        index_fits = omega (arith, ap (λ (o : Opened). o.index_loads) is.opened, index_come);
+        no_filter = ap (λ (o : Opened). o.filter_loads) is.opened;
+        no_meta = ap (λ (o : Opened). o.meta_loads) is.opened;
+      } in
+      let last = along blocks index ends rs s u runs held in
+      record {
+        data_few = omega (arith, last.data_fits);
+        index_few = omega (arith, last.index_fits);
+        no_filter = last.no_filter;
+        no_meta = last.no_meta;
+      }
+
+  -- and loads no more blocks than its index names
+  pub table_loads : LoadsAtMost (RangeGives front_of front_blocks) (RangeGives back_of back_blocks) (length ((table_index t).told (lower_edge low) (upper_edge high))) (index_within t low high) s
+  table_loads = loads_few (length told) refl
+
+  -- ---- of a table of a list
+
+  module _ (held : IsOpen t) (es : List Entry) (file : IsTable t.bytes es) where
+    pub list_deals : DealsWithin (RangeGives front_of front_blocks) (RangeGives back_of back_blocks) low high es t.global_seqno s
+    list_deals stops memory =
+        let of_list = file_rows t.bytes es file t.global_seqno held.recovered.pin_filter held.recovered.pin_index t.parts held.short held.recovered.told low high in
+        let deals = subst (λ (xs : List R). DealsEnding (RangeGives front_of front_blocks) (RangeGives back_of back_blocks) (λ _. Unit {0}) (λ _. Unit {0}) s xs) of_list table_deals in
+        deals_values (RangeGives front_of front_blocks) (RangeGives back_of back_blocks) (λ _. Unit {0}) (λ _. Unit {0}) s (within low high (lift es t.global_seqno)) deals stops memory
+
+    pub list_loads : LoadsAtMost (RangeGives front_of front_blocks) (RangeGives back_of back_blocks) (blocks_within file low high) (index_within t low high) s
+    list_loads =
+        loads_few (blocks_within file low high) (file_blocks t.bytes es file t.global_seqno held.recovered.pin_filter held.recovered.pin_index t.parts held.short held.recovered.told (lower_edge low) (upper_edge high))

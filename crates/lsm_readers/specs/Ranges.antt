@@ -1,0 +1,83 @@
+-- The entries of a table within bounds.
+use Rattle.std.specs.Prelude.{◌≡◌, ℕ, ◌≤◌, Bool, true, false, List, [], length, Option, None, Result}
+use Rattle.std.specs.declared.ops.Bound.{Bound}
+use Rattle.sst_sections.specs.Sections.{body_of}
+use Rattle.sst_entries.specs.declared.error.Error.{Error}
+use Rattle.sst_entries.specs.declared.error.Error.TheVariants.{OutOfMemory}
+use Rattle.sst_entries.specs.declared.stream.Direction.{Direction}
+use Rattle.sst_entries.specs.Entry.{Entry}
+use Rattle.sst_entries.specs.Point.{within}
+use Rattle.sst_entries.specs.Stream.{Deals, Runs, answer_stops, ok_results}
+use Rattle.sst_blocks.specs.declared.opened.Opened.{Opened}
+use Rattle.sst_blocks.specs.Handles.{window}
+use Rattle.sst_blocks.specs.Opened.{none_opened}
+use Rattle.lsm_files.specs.Index.{handles}
+use Rattle.lsm_files.specs.Table.{IsTable}
+use Rattle.lsm_block_indexes.specs.Left.{IsBetween}
+use Rattle.lsm_iters.specs.Bounds.{lower_edge, upper_edge}
+use Rattle.lsm_iters.specs.Lift.{lift}
+use Rattle.lsm_iters.specs.Range.{Range, left_in, opened_in}
+use Rattle.lsm_iters.specs.Rows.{Bounded, rows}
+use Rattle.lsm_readers.specs.BlockIndexes.{table_index}
+use Rattle.lsm_readers.specs.Table.{OpenTable}
+
+-- a table's bytes before the trailer, its global number, and two bounds
+abbrev pub bounded : OpenTable → Bound (List ℕ) → Bound (List ℕ) → Bounded
+bounded t low high = record {
+  body = body_of t.bytes;
+  global_seqno = t.global_seqno;
+  low = low;
+  high = high;
+}
+
+-- the entries within the bounds of the blocks that the table's index names between their edges, their
+-- numbers lifted; and in the place of a block that cannot be loaded its fault
+abbrev pub range_told : OpenTable → Bound (List ℕ) → Bound (List ℕ) → List (Result Entry Error)
+range_told t low high =
+    rows (bounded t low high) ((table_index t).told (lower_edge low) (upper_edge high))
+
+-- an iterator over them: it has made no step, its index was not sought, and nothing was loaded
+pub record IsRangeOf {A : Type 0} (t : OpenTable) (low high : Bound (List ℕ)) (s : Range A)
+    : Type 0 where
+  pub of : s.of ≡ bounded t low high
+  pub index : (left_in s.handles).index ≡ table_index t
+  pub whole : IsBetween (left_in s.handles) None None
+  pub unsought : s.handles.sought ≡ false
+  pub front : s.front ≡ []
+  pub back : s.back ≡ []
+  pub opened : opened_in s ≡ none_opened
+
+-- where want of memory stops its reader, it deals the entries of a list within the bounds, their numbers
+-- lifted, to whatever ends
+abbrev pub DealsWithin : {S : Type 0} (front back : S → Option (Result Entry Error) → S → Type 0)
+    → Bound (List ℕ) → Bound (List ℕ) → List Entry → ℕ → S → Type 0
+DealsWithin front back low high es g s =
+    (stops : Error → Bool) → stops OutOfMemory ≡ true →
+    Deals (answer_stops stops) front back s (ok_results (within low high (lift es g)))
+
+-- no more data blocks and index blocks were loaded than so many, and no others
+pub record AreFew (blocks index : ℕ) (o : Opened) : Type 0 where
+  pub data_few : o.data_loads ≤ blocks
+  pub index_few : o.index_loads ≤ index
+  pub no_filter : o.filter_loads ≡ 0
+  pub no_meta : o.meta_loads ≡ 0
+
+-- wherever calls lead
+abbrev pub LoadsAtMost : {A : Type 0}
+    (front back : Range A → Option (Result Entry Error) → Range A → Type 0)
+    → ℕ → ℕ → Range A → Type 0
+LoadsAtMost {A} front back blocks index s =
+    (ends : List Direction) (rs : List (Option (Result Entry Error))) (t : Range A) →
+    Runs front back s ends rs t → AreFew blocks index (opened_in t)
+
+-- how many data blocks of a table of a list the bounds need: those from the first that may hold the lower
+-- bound's key up to the first that ends above the upper bound's
+abbrev pub blocks_within : {bytes : List ℕ} {es : List Entry} → IsTable bytes es
+    → Bound (List ℕ) → Bound (List ℕ) → ℕ
+blocks_within t low high =
+    length (window (handles t.version (t.file).content.blocks) (lower_edge low) (upper_edge high))
+
+-- how many index blocks: none where the whole index stays loaded, its one block on demand, or of two
+-- levels the partitions between the edges
+abbrev pub index_within : OpenTable → Bound (List ℕ) → Bound (List ℕ) → ℕ
+index_within t low high = (table_index t).loads (lower_edge low) (upper_edge high)

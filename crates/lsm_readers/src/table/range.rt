@@ -1,0 +1,112 @@
+//! Ranges of a table, from both ends.
+ghost use Rattle.std.specs.Prelude.{◌≡◌, List, ℕ, IfOk, IfErr, length};
+ghost use Rattle.std.specs.declared.ops.Bound.{Bound};
+ghost use Rattle.std.specs.declared.ops.Bound.TheVariants.{Unbounded};
+ghost use Rattle.sst_entries.specs.declared.error.Error.TheVariants.{OutOfMemory};
+ghost use Rattle.lsm_readers.specs.Words.{DealsEnding, DealsWithin, Entry, IsOpen, IsRangeOf, IsTable, LoadsAtMost};
+ghost use Rattle.lsm_readers.specs.Words.{OpenTable, blocks_within, index_within, range_told};
+
+use crate::{BlockIndex, Inner, Table};
+use lsm_iters::{Bound as Edge, Iter};
+use sst_blocks::{Error, UserKey};
+use std::alloc::Allocator;
+use std::ops::Bound;
+
+impl<A: Allocator + Clone> Table<A> {
+    /// All entries in order, from both ends, their numbers with the global number added. Nothing is loaded yet. Refused
+    /// [`Error::OutOfMemory`] alone.
+    pub fn iter(&self) -> Result<Iter<A>, Error>
+        ensures is { IfOk result (IsRangeOf self.now Unbounded Unbounded) }
+        ensures deals { let gives = ⟦<Iter<A> as Iterator>⟧.next_gives in
+            let back_gives = ⟦<Iter<A> as DoubleEndedIterator>⟧.next_back_gives in
+            let told = range_told self.now Unbounded Unbounded in
+            IfOk result (λ i. DealsEnding gives back_gives (λ _. Unit {0}) (λ _. Unit {0}) i told) }
+        // On a table of a list it is the list, its numbers lifted.
+        ensures list { let gives = ⟦<Iter<A> as Iterator>⟧.next_gives in
+            let back_gives = ⟦<Iter<A> as DoubleEndedIterator>⟧.next_back_gives in
+            (es : List Entry) → IsTable self.now.bytes es → let g = self.now.global_seqno in
+            IfOk result (DealsWithin gives back_gives Unbounded Unbounded es g) }
+        // Each of its blocks is loaded at most once.
+        ensures few { let gives = ⟦<Iter<A> as Iterator>⟧.next_gives in
+            let back_gives = ⟦<Iter<A> as DoubleEndedIterator>⟧.next_back_gives in
+            (es : List Entry) (t : IsTable self.now.bytes es) →
+            let blocks = blocks_within t Unbounded Unbounded in
+            let index = index_within self.now Unbounded Unbounded in
+            IfOk result (LoadsAtMost gives back_gives blocks index) }
+        ensures err { IfErr result (λ e. e ≡ OutOfMemory) }
+    {
+        self.range(Bound::Unbounded, Bound::Unbounded)
+    }
+
+    /// The entries whose keys lie within both bounds, in order, from both ends, their numbers with the global number added.
+    /// Where the lower bound is above the upper one there are none. Nothing is loaded yet: the first step seeks the bounds in
+    /// the index, and each data block is loaded where a step first needs it, once. Refused [`Error::OutOfMemory`] alone.
+    pub fn range(
+        &self,
+        lower: Bound<UserKey<A>>,
+        upper: Bound<UserKey<A>>,
+    ) -> Result<Iter<A>, Error>
+        // It reads the table's bytes by the table's index, with these bounds, and has made no step.
+        ensures is { IfOk result (IsRangeOf self.now lower upper) }
+        // Whatever ends are asked, it deals what the blocks between the bounds have, up to the first error.
+        ensures deals { let gives = ⟦<Iter<A> as Iterator>⟧.next_gives in
+            let back_gives = ⟦<Iter<A> as DoubleEndedIterator>⟧.next_back_gives in
+            let told = range_told self.now lower upper in
+            IfOk result (λ i. DealsEnding gives back_gives (λ _. Unit {0}) (λ _. Unit {0}) i told) }
+        // On a table of a list it is the list's entries within the bounds, their numbers lifted.
+        ensures list { let gives = ⟦<Iter<A> as Iterator>⟧.next_gives in
+            let back_gives = ⟦<Iter<A> as DoubleEndedIterator>⟧.next_back_gives in
+            (es : List Entry) → IsTable self.now.bytes es → let g = self.now.global_seqno in
+            IfOk result (DealsWithin gives back_gives lower upper es g) }
+        // It loads no data block outside of the bounds, and none twice.
+        ensures few { let gives = ⟦<Iter<A> as Iterator>⟧.next_gives in
+            let back_gives = ⟦<Iter<A> as DoubleEndedIterator>⟧.next_back_gives in
+            (es : List Entry) (t : IsTable self.now.bytes es) →
+            let blocks = blocks_within t lower upper in
+            let index = index_within self.now lower upper in
+            IfOk result (LoadsAtMost gives back_gives blocks index) }
+        ensures err { IfErr result (λ e. e ≡ OutOfMemory) }
+    {
+        let mut iter = self.unbounded()?;
+        set_lower(&mut iter, lower);
+        set_upper(&mut iter, upper);
+        Ok(iter)
+    }
+
+    /// The entries of all blocks, before bounds are set.
+    fn unbounded(&self) -> Result<Iter<A>, Error>
+        ensures is { IfOk result (IsRangeOf self.now Unbounded Unbounded) }
+        ensures open { IsOpen self.now }
+        ensures err { IfErr result (λ e. e ≡ OutOfMemory) }
+    {
+        let inner: &Inner<A> = &self.inner;
+        let index = self.block_index()?;
+        let handles = index.iter()?;
+        let compression = inner.metadata.data_block_compression;
+        Iter::new(inner.global_seqno, &self.source, handles, compression)
+    }
+}
+
+/// Sets a lower bound, where there is one.
+fn set_lower<A: Allocator + Clone>(iter: &mut Iter<A>, lower: Bound<UserKey<A>>)
+    ensures { (t : OpenTable) (high : Bound (List ℕ)) → IsRangeOf t Unbounded high iter.old →
+        IsRangeOf t lower high iter.new }
+{
+    match lower {
+        Bound::Included(key) => iter.set_lower_bound(Edge::Included(key)),
+        Bound::Excluded(key) => iter.set_lower_bound(Edge::Excluded(key)),
+        Bound::Unbounded => {}
+    }
+}
+
+/// Sets an upper bound, where there is one.
+fn set_upper<A: Allocator + Clone>(iter: &mut Iter<A>, upper: Bound<UserKey<A>>)
+    ensures { (t : OpenTable) (low : Bound (List ℕ)) → IsRangeOf t low Unbounded iter.old →
+        IsRangeOf t low upper iter.new }
+{
+    match upper {
+        Bound::Included(key) => iter.set_upper_bound(Edge::Included(key)),
+        Bound::Excluded(key) => iter.set_upper_bound(Edge::Excluded(key)),
+        Bound::Unbounded => {}
+    }
+}
