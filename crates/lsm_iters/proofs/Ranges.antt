@@ -345,12 +345,12 @@ module _ {A : Type 0} where
   pub reached_front : (s u t v : Range A) (es : List Entry) → v ≡ t → FrontReached s u → u.front ≡ [] → BlockGives front_of u (Some (Ok es)) t → FrontReached s (record v { front = es })
   reached_front s u t v es same reached none gives = entered_front s u v es reached none (subst (λ (x : Range A). BlockGives front_of u (Some (Ok es)) x) (sym same) gives)
 
+  pub reached_back : (s u t v : Range A) (es : List Entry) → v ≡ t → BackReached s u → u.back ≡ [] → BlockGives back_of u (Some (Ok es)) t → BackReached s (record v { back = es })
+  reached_back s u t v es same reached none gives = entered_back s u v es reached none (subst (λ (x : Range A). BlockGives back_of u (Some (Ok es)) x) (sym same) gives)
+
   -- entries that are used up may be asked again
   pub kept_front : (s u : Range A) (es : List Entry) → FrontReached s u → u.front ≡ [] → es ≡ [] → FrontReached s (record u { front = es })
   kept_front s u es reached was is = subst (λ (xs : List Entry). Reached xs (coming u) (front_blocks s) s (record u { front = xs })) (was ∙ sym is) reached
-
-  pub reached_back : (s u t v : Range A) (es : List Entry) → v ≡ t → BackReached s u → u.back ≡ [] → BlockGives back_of u (Some (Ok es)) t → BackReached s (record v { back = es })
-  reached_back s u t v es same reached none gives = entered_back s u v es reached none (subst (λ (x : Range A). BlockGives back_of u (Some (Ok es)) x) (sym same) gives)
 
   pub kept_back : (s u : Range A) (es : List Entry) → BackReached s u → u.back ≡ [] → es ≡ [] → BackReached s (record u { back = es })
   kept_back s u es reached was is = subst (λ (xs : List Entry). Reached xs (reverse (coming u)) (back_blocks s) s (record u { back = xs })) (was ∙ sym is) reached
@@ -519,6 +519,12 @@ module _ {A : Type 0} where
       let is : left_rows v ≡ lift_told t.of.global_seqno es = left_front v (ap (λ (x : Range A). x.back) rests.is ∙ none) rests.ended.results in
       gives_all back_of back_blocks u.back (reverse (coming u)) s u v r reached (rest_moves _ u t v rests refl) (far_from back_of u v t.of.global_seqno t.front es r was is rests.ended part)
 
+  pub front_rest : (s u t v : Range A) (r : Option R) (es : List Entry) → v ≡ t → FrontReached s u → u.front ≡ [] → BlockGives front_of u None t → PartGives front_of v.of.global_seqno v.back r es → RangeGives front_of front_blocks s r (stopped r (record v { back = es }))
+  front_rest s u t v r es same reached none gives part = rest_front s u v r es reached none (subst (λ (x : Range A). BlockGives front_of u None x) (sym same) gives) part
+
+  pub back_rest : (s u t v : Range A) (r : Option R) (es : List Entry) → v ≡ t → BackReached s u → u.back ≡ [] → BlockGives back_of u None t → PartGives back_of v.of.global_seqno v.front r es → RangeGives back_of back_blocks s r (stopped r (record v { front = es }))
+  back_rest s u t v r es same reached none gives part = rest_back s u v r es reached none (subst (λ (x : Range A). BlockGives back_of u None x) (sym same) gives) part
+
   -- the next block cannot be loaded
   pub front_fault : (s u t : Range A) (e : Error) → FrontReached s u → u.front ≡ [] → BlockGives front_of u (Some (Err e)) t → RangeGives front_of front_blocks s (Some (Err e)) (over t)
   front_fault s u t e reached none gives = gives_all front_of front_blocks u.front (coming u) s u t (Some (Err e)) reached faults.moves (λ fine. at fine, λ ended. faults.some ended.index)
@@ -547,22 +553,7 @@ module _ {A : Type 0} where
           ∙ ap (λ (rs : List R). lift_told u.of.global_seqno u.front ++ (rows u.of others ++ rs)) x.1)
           ∙ put_last (rows u.of others ++ Err e ∷ []) (lift_told u.of.global_seqno u.front) (Err e) (put_last (Err e ∷ []) (rows u.of others) (Err e) refl)
 
-  pub front_rest : (s u t v : Range A) (r : Option R) (es : List Entry) → v ≡ t → FrontReached s u → u.front ≡ [] → BlockGives front_of u None t → PartGives front_of v.of.global_seqno v.back r es → RangeGives front_of front_blocks s r (stopped r (record v { back = es }))
-  front_rest s u t v r es same reached none gives part = rest_front s u v r es reached none (subst (λ (x : Range A). BlockGives front_of u None x) (sym same) gives) part
-
-  pub front_smaller : (w u t v : Range A) (es : List Entry) → u.handles ≡ w.handles → v ≡ t → BlockGives front_of u (Some (Ok es)) t → length (coming v) < length (coming w)
-  front_smaller w u t v es before after gives =
-      let enters = enters_of front_of u t es gives in
-      omega (
-        arith,
-        front_shortens (coming u) (coming t) (Ok enters.handle) enters.takes,
-        ap (λ (h : Handles A). length (left_in h).results) before,
-        ap (λ (x : Range A). length (coming x)) after,
-      )
-
-  pub back_rest : (s u t v : Range A) (r : Option R) (es : List Entry) → v ≡ t → BackReached s u → u.back ≡ [] → BlockGives back_of u None t → PartGives back_of v.of.global_seqno v.front r es → RangeGives back_of back_blocks s r (stopped r (record v { front = es }))
-  back_rest s u t v r es same reached none gives part = rest_back s u v r es reached none (subst (λ (x : Range A). BlockGives back_of u None x) (sym same) gives) part
-
+  -- a block was taken, so fewer are left
   pub back_smaller : (w u t v : Range A) (es : List Entry) → u.handles ≡ w.handles → v ≡ t → BlockGives back_of u (Some (Ok es)) t → length (coming v) < length (coming w)
   back_smaller w u t v es before after gives =
       let enters = enters_of back_of u t es gives in
