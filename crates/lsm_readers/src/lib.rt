@@ -14,7 +14,7 @@ pub use lsm_block_indexes::{
     OwnedIndexBlockIter, TwoLevelBlockIndex, VolatileBlockIndex,
 };
 pub use lsm_files::{GlobalTableId, TableId, Timestamp, TreeId};
-pub use lsm_iters::Iter;
+pub use lsm_iters::{Bound, Iter, OwnedDataBlockIter};
 pub use meta::ParsedMeta;
 pub use point::point_in;
 pub use regions::ParsedRegions;

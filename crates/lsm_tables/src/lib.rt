@@ -4,8 +4,8 @@
 mod written;
 
 pub use lsm_readers::{
-    BlockIndex, BlockIndexImpl, BlockIndexIter, BlockIndexIterImpl, FullBlockIndex, GlobalTableId,
-    Inner, OwnedIndexBlockIter, ParsedMeta, ParsedRegions, Scanner, Table, TableId, TableInner,
-    Timestamp, TreeId, point_in,
+    BlockIndex, BlockIndexImpl, BlockIndexIter, BlockIndexIterImpl, Bound, FullBlockIndex,
+    GlobalTableId, Inner, Iter, OwnedDataBlockIter, OwnedIndexBlockIter, ParsedMeta, ParsedRegions,
+    Scanner, Table, TableId, TableInner, Timestamp, TreeId, point_in,
 };
 pub use written::{read_back, write_and_open};
