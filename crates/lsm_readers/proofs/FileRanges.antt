@@ -1,5 +1,5 @@
 -- The entries within bounds, in the blocks that the index of a table of a list names between their edges, are those of the list.
-use Rattle.std.proofs.Common.{◌≡◌, ℕ, ◌+◌, ◌-◌, ◌^◌, ◌<◌, Bool, true, false, cond, nat_lt, ◌==◌, List, [], ◌∷◌, ◌++◌, length, map, filter, refl, sym, ap, subst, ◌∙◌, append_assoc, append-nil, length-append, arith}
+use Rattle.std.proofs.Common.{◌≡◌, ℕ, ◌+◌, ◌-◌, ◌^◌, ◌<◌, Bool, true, false, cond, nat_lt, ◌==◌, List, [], ◌∷◌, ◌++◌, length, filter, refl, sym, ap, subst, ◌∙◌, append_assoc, length-append, arith}
 use Rattle.std.specs.Prelude.{Option, Some, None, Result, Ok, is_some, unwrap_or, not, ◌&&◌}
 use Rattle.std.specs.List.{AllByRecursion, flat_map}
 use Rattle.std.specs.declared.ops.Bound.{Bound}
@@ -25,9 +25,9 @@ use Rattle.sst_entries.proofs.KeyLemmas.{le_itself}
 use Rattle.sst_entries.proofs.Lists.{all_behind, all_front, all_more}
 use Rattle.sst_entries.proofs.OrderLemmas.{before_trans, lt_of_cond, lt_trans}
 use Rattle.sst_blocks.specs.declared.block_type.BlockType.TheVariants.{Data}
-use Rattle.sst_blocks.specs.Block.{Loaded, load_told}
+use Rattle.sst_blocks.specs.Block.{load_told}
 use Rattle.sst_blocks.specs.Handle.{Handle}
-use Rattle.sst_blocks.specs.Handles.{from_first, is_above, reaches, up_to_first, window}
+use Rattle.sst_blocks.specs.Handles.{is_above, reaches, up_to_first, window}
 use Rattle.sst_blocks.specs.Payload.{payload}
 use Rattle.sst_blocks.proofs.BlockLaws.{written_loads}
 use Rattle.sst_blocks.proofs.Reaching.{above_reaches, reaches_after}
@@ -44,15 +44,15 @@ use Rattle.lsm_files.specs.declared.label.Label.{Label}
 use Rattle.lsm_files.specs.declared.options.Options.{Options}
 use Rattle.lsm_iters.specs.Bounds.{lower_edge, upper_edge}
 use Rattle.lsm_iters.specs.Lift.{lift, lift_told, lifted, lifted_told}
-use Rattle.lsm_iters.specs.Rows.{Bounded, block_rows, handle_rows, rows, rows_in}
+use Rattle.lsm_iters.specs.Rows.{Bounded, block_rows, rows, rows_in}
 use Rattle.lsm_readers.specs.BlockIndexes.{index_over}
 use Rattle.lsm_readers.specs.Meta.{Facts}
-use Rattle.lsm_readers.specs.OfList.{index_said, pinned_said, regions_said}
+use Rattle.lsm_readers.specs.OfList.{regions_said}
 use Rattle.lsm_readers.specs.Parts.{Parts, recovered_told}
 use Rattle.lsm_readers.proofs.ChunkReads.{AreSome, later, not_before, strict_after, strict_front}
 use Rattle.lsm_readers.proofs.FileContent.{all_some, handles_fit, handles_line, line, whole}
 use Rattle.lsm_readers.proofs.FileLengths.{last_some}
-use Rattle.lsm_readers.proofs.FileParts.{behind_index, facts_are, parts_are, short_file, the_body, tli_place, told_file, written_parts}
+use Rattle.lsm_readers.proofs.FileParts.{behind_index, facts_are, parts_are, short_file, the_body, tli_place, told_file}
 use Rattle.lsm_readers.proofs.FileScans.{Reads, all_read, loaded_of}
 use Rattle.lsm_readers.proofs.FileSections.{body_is, the_index, written}
 use Rattle.lsm_readers.proofs.FileWindows.{from_test, index_window, to_test, window_is}

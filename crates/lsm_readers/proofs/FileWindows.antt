@@ -1,5 +1,5 @@
 -- The index of a table of a list has the window of its handles, whatever of it stays loaded.
-use Rattle.std.proofs.Common.{◌≡◌, ℕ, ◌+◌, ◌^◌, ◌<◌, Bool, true, false, List, [], ◌∷◌, ◌++◌, length, map, refl, sym, ap, subst, ◌∙◌, append_assoc, append-nil, length-append, arith}
+use Rattle.std.proofs.Common.{◌≡◌, ℕ, ◌+◌, ◌^◌, ◌<◌, Bool, true, false, List, [], ◌∷◌, ◌++◌, length, map, refl, sym, ap, subst, ◌∙◌, append_assoc, length-append, arith}
 use Rattle.std.specs.Prelude.{Option, Some, None, Result, Ok}
 use Rattle.std.specs.List.{AllByRecursion, flat_map}
 use Rattle.std.proofs.lemmas.List.{map-append}
@@ -13,7 +13,6 @@ use Rattle.sst_entries.specs.Strict.{IsStrictAfter, is_before, last_of}
 use Rattle.sst_entries.proofs.Booleans.{apart, is_false}
 use Rattle.sst_entries.proofs.OrderLemmas.{before_trans}
 use Rattle.sst_blocks.specs.declared.block_type.BlockType.TheVariants.{Index}
-use Rattle.sst_blocks.specs.Block.{Loaded, load_told}
 use Rattle.sst_blocks.specs.Handle.{Handle}
 use Rattle.sst_blocks.specs.Handles.{AreStrictHandles, IsSpellableHandle, end_of, from_edge, from_first, handles_payload, is_above, reaches, to_edge, up_to_first, window}
 use Rattle.sst_blocks.specs.Place.{Place, place_of}
@@ -26,7 +25,7 @@ use Rattle.lsm_files.specs.Parts.{joined_parts}
 use Rattle.lsm_files.specs.Partitions.{handles_block, index_tops, is_full_index, last_end}
 use Rattle.lsm_files.specs.declared.options.IndexKind.{IndexKind}
 use Rattle.lsm_files.specs.declared.options.IndexKind.TheVariants.{Full as FullIndex, Partitioned as PartitionedIndex}
-use Rattle.lsm_block_indexes.specs.Index.{between, block_between, parts_between}
+use Rattle.lsm_block_indexes.specs.Index.{block_between, parts_between}
 use Rattle.lsm_readers.specs.BlockIndexes.{index_over}
 use Rattle.lsm_readers.specs.OfList.{index_said}
 use Rattle.lsm_readers.proofs.ChunkReads.{strict_after, strict_front}

@@ -1,6 +1,6 @@
 -- What a range of an opened table deals and loads.
-use Rattle.std.proofs.Common.{◌≡◌, ℕ, zero, suc, ◌+◌, ◌^◌, ◌<◌, ◌≤◌, Bool, true, false, List, [], ◌∷◌, ◌++◌, length, reverse, refl, sym, ap, subst, ◌∙◌, append-nil, arith}
-use Rattle.std.specs.Prelude.{Option, Some, None, Result, Ok, Err}
+use Rattle.std.proofs.Common.{◌≡◌, ℕ, zero, suc, ◌+◌, ◌≤◌, Bool, true, false, List, [], ◌∷◌, ◌++◌, length, reverse, refl, sym, ap, subst, ◌∙◌, append-nil, arith}
+use Rattle.std.specs.Prelude.{IfOk, Option, Some, None, Result, Ok, Err}
 use Rattle.std.specs.declared.ops.Bound.{Bound}
 use Rattle.std.specs.declared.ops.Bound.TheVariants.{Unbounded}
 use Rattle.sst_sections.specs.Sections.{body_of}
@@ -16,11 +16,10 @@ use Rattle.sst_entries.proofs.Booleans.{apart, is_false}
 use Rattle.sst_entries.proofs.StreamLemmas.{map_reverse}
 use Rattle.sst_blocks.specs.declared.opened.Opened.{Opened}
 use Rattle.sst_blocks.specs.Handle.{Handle}
-use Rattle.sst_blocks.specs.Opened.{none_opened}
 use Rattle.lsm_files.specs.Table.{IsTable}
 use Rattle.lsm_block_indexes.specs.declared.kinds.BlockIndexIterImpl.{BlockIndexIterImpl}
 use Rattle.lsm_block_indexes.specs.Dealt.{DealsEnding, up_to_error}
-use Rattle.lsm_block_indexes.specs.Kinds.{BackGives, FrontGives, IsReader, left_of}
+use Rattle.lsm_block_indexes.specs.Kinds.{IsReader}
 use Rattle.lsm_block_indexes.specs.Left.{loaded}
 use Rattle.lsm_iters.specs.Bounds.{lower_edge, upper_edge}
 use Rattle.lsm_iters.specs.Lift.{lift, lift_told}
@@ -29,13 +28,20 @@ use Rattle.lsm_iters.specs.Rows.{Bounded, rows}
 use Rattle.lsm_iters.proofs.Ends.{if_false}
 use Rattle.lsm_iters.proofs.RangeLaws.{range_deals}
 use Rattle.lsm_readers.specs.BlockIndexes.{table_index}
-use Rattle.lsm_readers.specs.Ranges.{AreFew, DealsWithin, IsRangeOf, LoadsAtMost, blocks_within, bounded, index_within, range_told}
+use Rattle.lsm_readers.specs.Ranges.{DealsAll, DealsWithin, IsRangeOf, LoadsAtMost, blocks_within, bounded, index_within, range_told}
 use Rattle.lsm_readers.specs.Table.{IsOpen, OpenTable}
 use Rattle.lsm_readers.proofs.FileRanges.{file_blocks, file_rows}
 use Rattle.lsm_readers.proofs.Scans.{memory_is}
 
 abbrev R : Type 0
 R = Result Entry Error
+
+-- one call at the front, and at the back
+abbrev pub gives : {A : Type 0} → Range A → Option R → Range A → Type 0
+gives = RangeGives front_of front_blocks
+
+abbrev pub back_gives : {A : Type 0} → Range A → Option R → Range A → Type 0
+back_gives = RangeGives back_of back_blocks
 
 -- ---- where only want of memory stops a reader, values are dealt to the end
 
@@ -108,7 +114,7 @@ module _ {A : Type 0} (blocks index : ℕ) where
         no_meta = ap (λ (x : Opened). x.meta_loads) step.loads.index_counts ∙ same_meta n o ∙ held.no_meta;
       }
 
-  along : (ends : List Direction) (rs : List (Option R)) (s t : Range A) → Runs (RangeGives front_of front_blocks) (RangeGives back_of back_blocks) s ends rs t → IsWithin blocks index s → IsWithin blocks index t
+  along : (ends : List Direction) (rs : List (Option R)) (s t : Range A) → Runs gives back_gives s ends rs t → IsWithin blocks index s → IsWithin blocks index t
   along [] [] s t runs held = subst (λ (x : Range A). IsWithin blocks index x) runs held
   along [] (r ∷ rs) s t runs held = absurd runs
   along (e ∷ ends) [] s t runs held = absurd runs
@@ -166,10 +172,10 @@ module _ {A : Type 0} (t : OpenTable) (low high : Bound (List ℕ)) (s : Range A
       ∙ ap (rows (bounded t low high)) come
 
   -- it deals what the table tells
-  pub table_deals : DealsEnding (RangeGives front_of front_blocks) (RangeGives back_of back_blocks) (λ _. Unit {0}) (λ _. Unit {0}) s (range_told t low high)
-  table_deals = subst (λ (xs : List R). DealsEnding (RangeGives front_of front_blocks) (RangeGives back_of back_blocks) (λ _. Unit {0}) (λ _. Unit {0}) s xs) left_is (range_deals s)
+  pub table_deals : DealsEnding gives back_gives (λ _. Unit {0}) (λ _. Unit {0}) s (range_told t low high)
+  table_deals = subst (λ (xs : List R). DealsEnding gives back_gives (λ _. Unit {0}) (λ _. Unit {0}) s xs) left_is (range_deals s)
 
-  loads_few : (blocks : ℕ) → length told ≡ blocks → LoadsAtMost (RangeGives front_of front_blocks) (RangeGives back_of back_blocks) blocks (index_within t low high) s
+  loads_few : (blocks : ℕ) → length told ≡ blocks → LoadsAtMost gives back_gives blocks (index_within t low high) s
   loads_few blocks many ends rs u runs =
       let index = index_within t low high in
       let held : IsWithin blocks index s = record {
@@ -186,19 +192,24 @@ module _ {A : Type 0} (t : OpenTable) (low high : Bound (List ℕ)) (s : Range A
         no_meta = last.no_meta;
       }
 
-  -- and loads no more blocks than its index names
-  pub table_loads : LoadsAtMost (RangeGives front_of front_blocks) (RangeGives back_of back_blocks) (length ((table_index t).told (lower_edge low) (upper_edge high))) (index_within t low high) s
-  table_loads = loads_few (length told) refl
-
   -- ---- of a table of a list
 
   module _ (held : IsOpen t) (es : List Entry) (file : IsTable t.bytes es) where
-    pub list_deals : DealsWithin (RangeGives front_of front_blocks) (RangeGives back_of back_blocks) low high es t.global_seqno s
+    pub list_deals : DealsWithin gives back_gives low high es t.global_seqno s
     list_deals stops memory =
         let of_list = file_rows t.bytes es file t.global_seqno held.recovered.pin_filter held.recovered.pin_index t.parts held.short held.recovered.told low high in
-        let deals = subst (λ (xs : List R). DealsEnding (RangeGives front_of front_blocks) (RangeGives back_of back_blocks) (λ _. Unit {0}) (λ _. Unit {0}) s xs) of_list table_deals in
-        deals_values (RangeGives front_of front_blocks) (RangeGives back_of back_blocks) (λ _. Unit {0}) (λ _. Unit {0}) s (within low high (lift es t.global_seqno)) deals stops memory
+        let deals = subst (λ (xs : List R). DealsEnding gives back_gives (λ _. Unit {0}) (λ _. Unit {0}) s xs) of_list table_deals in
+        deals_values gives back_gives (λ _. Unit {0}) (λ _. Unit {0}) s (within low high (lift es t.global_seqno)) deals stops memory
 
-    pub list_loads : LoadsAtMost (RangeGives front_of front_blocks) (RangeGives back_of back_blocks) (blocks_within file low high) (index_within t low high) s
+    pub list_loads : LoadsAtMost gives back_gives (blocks_within file low high) (index_within t low high) s
     list_loads =
         loads_few (blocks_within file low high) (file_blocks t.bytes es file t.global_seqno held.recovered.pin_filter held.recovered.pin_index t.parts held.short held.recovered.told (lower_edge low) (upper_edge high))
+
+-- all entries lie within no bounds
+within_all : (es : List Entry) → within Unbounded Unbounded es ≡ es
+within_all [] = refl
+within_all (e ∷ es) = ap (λ (xs : List Entry). e ∷ xs) (within_all es)
+
+pub deals_all : {S : Type 0} (front back : S → Option R → S → Type 0) (r : Result S Error) (es : List Entry) (g : ℕ) → IfOk r (DealsWithin front back Unbounded Unbounded es g) → IfOk r (DealsAll front back es g)
+deals_all front back (Ok s) es g deals = λ stops memory. subst (λ (xs : List Entry). Deals (answer_stops stops) front back s (ok_results xs)) (within_all (lift es g)) (deals stops memory)
+deals_all front back (Err e) es g deals = tt

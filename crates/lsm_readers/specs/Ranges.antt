@@ -1,5 +1,6 @@
 -- The entries of a table within bounds.
-use Rattle.std.specs.Prelude.{◌≡◌, ℕ, ◌≤◌, Bool, true, false, List, [], length, Option, None, Result}
+use Rattle.std.specs.Prelude.{◌≡◌, ℕ, ◌≤◌, Bool, true, false, List, [], length, Option, None}
+use Rattle.std.specs.Prelude.{Result}
 use Rattle.std.specs.declared.ops.Bound.{Bound}
 use Rattle.sst_sections.specs.Sections.{body_of}
 use Rattle.sst_entries.specs.declared.error.Error.{Error}
@@ -30,8 +31,8 @@ bounded t low high = record {
   high = high;
 }
 
--- the entries within the bounds of the blocks that the table's index names between their edges, their
--- numbers lifted; and in the place of a block that cannot be loaded its fault
+-- the entries within the bounds, their numbers lifted, of the blocks that the table's index names
+-- between their edges; and in the place of a block that cannot be loaded its fault
 abbrev pub range_told : OpenTable → Bound (List ℕ) → Bound (List ℕ) → List (Result Entry Error)
 range_told t low high =
     rows (bounded t low high) ((table_index t).told (lower_edge low) (upper_edge high))
@@ -47,13 +48,20 @@ pub record IsRangeOf {A : Type 0} (t : OpenTable) (low high : Bound (List ℕ)) 
   pub back : s.back ≡ []
   pub opened : opened_in s ≡ none_opened
 
--- where want of memory stops its reader, it deals the entries of a list within the bounds, their numbers
--- lifted, to whatever ends
+-- where want of memory stops its reader, it deals the entries of a list within the bounds, their
+-- numbers lifted, to whatever ends
 abbrev pub DealsWithin : {S : Type 0} (front back : S → Option (Result Entry Error) → S → Type 0)
     → Bound (List ℕ) → Bound (List ℕ) → List Entry → ℕ → S → Type 0
 DealsWithin front back low high es g s =
     (stops : Error → Bool) → stops OutOfMemory ≡ true →
     Deals (answer_stops stops) front back s (ok_results (within low high (lift es g)))
+
+-- the same of all entries of a list
+abbrev pub DealsAll : {S : Type 0} (front back : S → Option (Result Entry Error) → S → Type 0)
+    → List Entry → ℕ → S → Type 0
+DealsAll front back es g s =
+    (stops : Error → Bool) → stops OutOfMemory ≡ true →
+    Deals (answer_stops stops) front back s (ok_results (lift es g))
 
 -- no more data blocks and index blocks were loaded than so many, and no others
 pub record AreFew (blocks index : ℕ) (o : Opened) : Type 0 where
@@ -70,14 +78,14 @@ LoadsAtMost {A} front back blocks index s =
     (ends : List Direction) (rs : List (Option (Result Entry Error))) (t : Range A) →
     Runs front back s ends rs t → AreFew blocks index (opened_in t)
 
--- how many data blocks of a table of a list the bounds need: those from the first that may hold the lower
--- bound's key up to the first that ends above the upper bound's
+-- how many data blocks of a table of a list the bounds need: those from the first that may hold the
+-- lower bound's key up to the first that ends above the upper bound's
 abbrev pub blocks_within : {bytes : List ℕ} {es : List Entry} → IsTable bytes es
     → Bound (List ℕ) → Bound (List ℕ) → ℕ
 blocks_within t low high =
     length (window (handles t.version (t.file).content.blocks) (lower_edge low) (upper_edge high))
 
--- how many index blocks: none where the whole index stays loaded, its one block on demand, or of two
--- levels the partitions between the edges
+-- how many index blocks: none where the whole index stays loaded, its one block on demand, or of
+-- two levels the partitions between the edges
 abbrev pub index_within : OpenTable → Bound (List ℕ) → Bound (List ℕ) → ℕ
 index_within t low high = (table_index t).loads (lower_edge low) (upper_edge high)

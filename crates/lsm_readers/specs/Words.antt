@@ -26,5 +26,4 @@ pub use Rattle.lsm_readers.specs.Scan.{Scan, ScansList, ScansNext, TakesEntry, b
 pub use Rattle.lsm_readers.specs.Scan.{fault_of, lifted_told, scan_size, scan_told}
 pub use Rattle.lsm_readers.specs.Table.{IsOpen, IsRecovered, OpenTable, facts_of, index_of, parts_of, pinned_of}
 pub use Rattle.lsm_block_indexes.specs.Dealt.{DealsEnding}
-pub use Rattle.lsm_iters.specs.Bounds.{edge_in}
-pub use Rattle.lsm_readers.specs.Ranges.{DealsWithin, IsRangeOf, LoadsAtMost, blocks_within, index_within, range_told}
+pub use Rattle.lsm_readers.specs.Ranges.{DealsAll, DealsWithin, IsRangeOf, LoadsAtMost, blocks_within, index_within, range_told}

@@ -3,7 +3,7 @@ ghost use Rattle.std.specs.Prelude.{◌≡◌, List, ℕ, IfOk, IfErr, length};
 ghost use Rattle.std.specs.declared.ops.Bound.{Bound};
 ghost use Rattle.std.specs.declared.ops.Bound.TheVariants.{Unbounded};
 ghost use Rattle.sst_entries.specs.declared.error.Error.TheVariants.{OutOfMemory};
-ghost use Rattle.lsm_readers.specs.Words.{DealsEnding, DealsWithin, Entry, IsOpen, IsRangeOf, IsTable, LoadsAtMost};
+ghost use Rattle.lsm_readers.specs.Words.{DealsAll, DealsEnding, DealsWithin, Entry, IsOpen, IsRangeOf, IsTable, LoadsAtMost};
 ghost use Rattle.lsm_readers.specs.Words.{OpenTable, blocks_within, index_within, range_told};
 
 use crate::{BlockIndex, Inner, Table};
@@ -25,8 +25,8 @@ impl<A: Allocator + Clone> Table<A> {
         ensures list { let gives = ⟦<Iter<A> as Iterator>⟧.next_gives in
             let back_gives = ⟦<Iter<A> as DoubleEndedIterator>⟧.next_back_gives in
             (es : List Entry) → IsTable self.now.bytes es → let g = self.now.global_seqno in
-            IfOk result (DealsWithin gives back_gives Unbounded Unbounded es g) }
-        // Each of its blocks is loaded at most once.
+            IfOk result (DealsAll gives back_gives es g) }
+        // It loads at most all data blocks, and the index blocks that lead to them.
         ensures few { let gives = ⟦<Iter<A> as Iterator>⟧.next_gives in
             let back_gives = ⟦<Iter<A> as DoubleEndedIterator>⟧.next_back_gives in
             (es : List Entry) (t : IsTable self.now.bytes es) →
@@ -40,7 +40,7 @@ impl<A: Allocator + Clone> Table<A> {
 
     /// The entries whose keys lie within both bounds, in order, from both ends, their numbers with the global number added.
     /// Where the lower bound is above the upper one there are none. Nothing is loaded yet: the first step seeks the bounds in
-    /// the index, and each data block is loaded where a step first needs it, once. Refused [`Error::OutOfMemory`] alone.
+    /// the index, and each data block is loaded where a step first needs it. Refused [`Error::OutOfMemory`] alone.
     pub fn range(
         &self,
         lower: Bound<UserKey<A>>,
@@ -58,7 +58,7 @@ impl<A: Allocator + Clone> Table<A> {
             let back_gives = ⟦<Iter<A> as DoubleEndedIterator>⟧.next_back_gives in
             (es : List Entry) → IsTable self.now.bytes es → let g = self.now.global_seqno in
             IfOk result (DealsWithin gives back_gives lower upper es g) }
-        // It loads no data block outside of the bounds, and none twice.
+        // It loads at most the data blocks between the bounds, and the index blocks that lead there.
         ensures few { let gives = ⟦<Iter<A> as Iterator>⟧.next_gives in
             let back_gives = ⟦<Iter<A> as DoubleEndedIterator>⟧.next_back_gives in
             (es : List Entry) (t : IsTable self.now.bytes es) →

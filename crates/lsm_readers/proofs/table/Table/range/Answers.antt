@@ -1,5 +1,4 @@
 use Rattle.std.specs.declared.ops.Bound.TheVariants.{Unbounded}
-use Rattle.lsm_readers.specs.Words.{IsRangeOf}
 use Rattle.lsm_readers.proofs.TableRanges.{list_deals, list_loads, table_deals}
 use Rattle.lsm_readers.proofs.table.Table.range.Goals as goal
 

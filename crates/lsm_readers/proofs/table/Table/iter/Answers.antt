@@ -1,0 +1,5 @@
+use Rattle.lsm_readers.proofs.TableRanges.{back_gives, deals_all, gives}
+use Rattle.lsm_readers.proofs.table.Table.iter.Goals as goal
+
+pub returns-clause-list : goal.returns-clause-list
+returns-clause-list g c es is = deals_all gives back_gives c.range.result es c.args.self.now.global_seqno (c.range.ensures.list es is)
