@@ -16,8 +16,6 @@ mod pins;
 #[cfg(test)]
 mod point_reads;
 #[cfg(test)]
-mod ranges;
-#[cfg(test)]
 mod scans;
 #[cfg(test)]
 mod stored;
