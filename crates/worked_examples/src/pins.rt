@@ -1,6 +1,6 @@
 //! Stored tables that are read with each pin and without: what stays loaded, what is found, and what each read loads.
 use crate::stored::{filter_parts, one_entry, one_entry_filtered, two_levels};
-use lsm_tables::{BlockIndex, Table};
+use lsm_tables::Table;
 use sst_blocks::{Checksum, Error, SeqNo, Slice};
 use std::alloc::Allocator;
 use std::test::Fail;
@@ -164,40 +164,6 @@ fn reads_under_each_pair_of_pins(rt: HostRuntime) -> Result<(), Fail> {
         for at in 0..4 {
             assert!(rt; wrong_read(rt.alloc(), bytes, reads, at)?.is_none());
         }
-    }
-    Ok(())
-}
-
-// The number of the first handle that a reader of the index gives, if any; `None` where there is no reader.
-fn reader_starts<A: Allocator + Clone>(
-    alloc: A,
-    bytes: &[u8],
-    pins: Pins,
-    from: (&[u8], SeqNo),
-) -> Result<Option<Option<SeqNo>>, Error> {
-    let index = open_with(alloc, bytes, pins)?.block_index()?;
-    let Some(mut reader) = index.forward_reader(from.0, from.1)? else {
-        return Ok(None);
-    };
-    match reader.next() {
-        Some(handle) => Ok(Some(Some(handle?.seqno()))),
-        None => Ok(Some(None)),
-    }
-}
-
-#[test]
-fn readers_of_the_index_of_each_kind(rt: HostRuntime) -> Result<(), Fail> {
-    // only an index that stays loaded tells at once that no handle reaches a key
-    let tables: [(&[u8], Pins, Option<Option<SeqNo>>); 3] = [
-        (&filter_parts::BYTES, (true, true), None),
-        (&filter_parts::BYTES, (true, false), Some(None)),
-        (&two_levels::BYTES, (true, true), Some(None)),
-    ];
-    for (bytes, pins, behind) in tables {
-        let found = reader_starts(rt.alloc(), bytes, pins, (b"a", 8))?;
-        assert_eq!(rt; found, Some(Some(7)));
-        let none = reader_starts(rt.alloc(), bytes, pins, (b"c", 100))?;
-        assert_eq!(rt; none, behind);
     }
     Ok(())
 }
