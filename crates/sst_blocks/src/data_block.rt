@@ -6,9 +6,8 @@ ghost use Rattle.std.specs.Option.{option_map};
 ghost use Rattle.sst_blocks.specs.Words.{AreSpellable, CanDeal, Deals, EndsAtError, EntriesAt};
 ghost use Rattle.sst_blocks.specs.Words.{Entry, Faults, FaultsFirst, HoldsEntries, IsStrict};
 ghost use Rattle.sst_blocks.specs.Words.{answer_stops, data_block_bound_of, entries_fault};
-ghost use Rattle.sst_blocks.specs.Words.{entries_in, entries_of, entry_of_ref, front_length};
-ghost use Rattle.sst_blocks.specs.Words.{header_len, is_memory, key_and_number, key_lt, ok_results};
-ghost use Rattle.sst_blocks.specs.Words.{payload, point, whole_span};
+ghost use Rattle.sst_blocks.specs.Words.{entries_in, entries_of, entry_of_ref, front_length, header_len, is_memory};
+ghost use Rattle.sst_blocks.specs.Words.{key_and_number, key_lt, ok_results, payload, point, whole_span};
 ghost use Rattle.sst_entries.specs.declared.error.Error.{Error};
 ghost use Rattle.sst_entries.specs.declared.error.Error.TheVariants.{OutOfMemory, InvalidBlock};
 ghost use Rattle.sst_sections.specs.declared.version.TableVersion.TheVariants.{V4};
@@ -194,9 +193,9 @@ impl<A: Allocator> DataBlock<A> {
         }
     }
 
-    // The key and the number of the entry of a place, which are all that a search reads of it.
+    /// The key and the number of the entry of a place, which are all that a search reads of it.
     #[inline(always)]
-    fn key_at(&self, index: usize) -> (&[u8], SeqNo)
+    pub fn key_at(&self, index: usize) -> (&[u8], SeqNo)
         requires { index < length self.now }
         ensures { option_map key_and_number (slice_get self.now index)
             ≡ Some (result.0.now, result.1) }
