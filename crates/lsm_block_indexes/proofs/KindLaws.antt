@@ -1,5 +1,5 @@
 -- The same of an iterator of one of the three kinds.
-use Rattle.std.proofs.Common.{◌≡◌, ℕ, Bool, false, List, [], refl, sym, ap, ◌∙◌}
+use Rattle.std.proofs.Common.{◌≡◌, ℕ, Bool, false, List, [], refl, sym, ap, ◌∙◌, arith}
 use Rattle.std.specs.Prelude.{Option, Some, None}
 use Rattle.sst_entries.specs.Span.{Span, rest_in}
 use Rattle.sst_entries.specs.Stream.{front_of, back_of}
@@ -15,6 +15,7 @@ use Rattle.lsm_block_indexes.specs.Index.{Index, full, on_demand, two_level}
 use Rattle.lsm_block_indexes.specs.Kinds.{BackGives, FrontGives, IsReader, IsSought, SeekAnswers, left_of}
 use Rattle.lsm_block_indexes.specs.Left.{IsBetween, IsTwoLevelSought, LeftGives, OnDemand, TwoLevel, new_on_demand, new_two_level, two_level_left}
 use Rattle.lsm_block_indexes.proofs.AtEnds.{R}
+use Rattle.lsm_block_indexes.proofs.Counting.{counts_along}
 use Rattle.lsm_block_indexes.proofs.Dealing.{deals_left}
 use Rattle.lsm_block_indexes.proofs.Seeks.{all_of}
 use Rattle.lsm_block_indexes.proofs.Laws.{demand_back, demand_between, demand_front, demand_none, levels_back, levels_between, levels_front, levels_none, span_back, span_between, span_front, span_none}
@@ -69,7 +70,16 @@ module _ {A : Type 0} where
 
   pub reader_of : (i : BlockIndexIterImpl A) (index : Index) (lo : Option (List ℕ × ℕ)) (hi : Option (List ℕ)) → IsSought i lo hi → (left_of i).index ≡ index → (left_of i).opened ≡ none_opened → IsReader i index lo hi
   reader_of i index lo hi sought same opened =
-      record { sought = sought; between = kind_between i lo hi sought; index_is = same; opened = opened; deals = kind_deals i }
+      let between = kind_between i lo hi sought in
+      let most : (left_of i).loads ≡ index.loads lo hi = between.loads ∙ ap (λ (x : Index). x.loads lo hi) same in
+      record {
+        sought = sought;
+        between = between;
+        index_is = same;
+        opened = opened;
+        deals = kind_deals i;
+        counts = λ ends rs t runs. counts_along left_of FrontGives BackGives kind_front kind_back (index.loads lo hi) ends rs i t (record { count = 0; counts = opened; within = omega (arith, most) }) runs;
+      }
 
   pub full_reader : (s : Span Handle) (hs : List Handle) → s ≡ whole_span hs → IsReader {A = A} (Full s) (full hs) None None
   full_reader s hs is =

@@ -4,5 +4,6 @@ pub mod Loads
 pub mod Dealing
 pub mod OnDemands
 pub mod TwoLevels
+pub mod Counting
 pub mod Laws
 pub mod KindLaws

@@ -5,7 +5,7 @@ use Rattle.std.proofs.lemmas.List.Concat.{flat_map-append}
 use Rattle.std.specs.Prelude.{Option, Some, None, Ok, Err, MatchOption, MatchResult}
 use Rattle.sst_entries.specs.declared.error.Error.{Error}
 use Rattle.sst_entries.specs.Error.{is_memory}
-use Rattle.sst_entries.specs.Stream.{first, but_first, last, but_last, front_of, back_of, ok_results}
+use Rattle.sst_entries.specs.Stream.{answer_stops, first, but_first, last, but_last, front_of, back_of, ok_results}
 use Rattle.sst_blocks.specs.declared.opened.Opened.{Opened}
 use Rattle.sst_blocks.specs.Handle.{Handle}
 use Rattle.lsm_block_indexes.specs.Index.{parts_between, two_level}
@@ -117,6 +117,44 @@ back_some u none some =
     let more = some_needs (reverse parts) (omega (arith, some_tops u.tops some, length-map u.tops (part_of u), length-reverse parts)) in
     omega (arith, more, ap (λ (xs : List Handle). none_behind xs (needs (reverse parts))) none)
 
+-- none where a handle stands at the end, or where no partition is left
+none_needed : (hs : List Handle) (n : ℕ) → (hs ≡ [] → ⊥) → none_behind hs n ≡ 0
+none_needed [] n some = absurd (some refl)
+none_needed (h ∷ hs) n some = refl
+
+has_first : (hs : List Handle) (h : Handle) → first hs ≡ Some h → hs ≡ [] → ⊥
+has_first hs h at none = let wrong : None ≡ Some h = sym (ap first none) ∙ at in absurd cc
+
+has_last : (hs : List Handle) (h : Handle) → last hs ≡ Some h → hs ≡ [] → ⊥
+has_last hs h at none = let wrong : None ≡ Some h = sym (ap last none) ∙ at in absurd cc
+
+front_none : (u : TwoLevel) → u.front ≡ [] → u.tops ≡ [] → front_needs u ≡ 0
+front_none u none tops =
+    ap (λ (xs : List Handle). none_behind xs (needs (map (part_of u) u.tops))) none
+    ∙ ap (λ (xs : List Handle). needs (map (part_of u) xs)) tops
+
+back_none : (u : TwoLevel) → u.back ≡ [] → u.tops ≡ [] → back_needs u ≡ 0
+back_none u none tops =
+    ap (λ (xs : List Handle). none_behind xs (needs (reverse (map (part_of u) u.tops)))) none
+    ∙ ap (λ (xs : List Handle). needs (reverse (map (part_of u) xs))) tops
+
+-- one where the next partition is a fault
+front_one : (u : TwoLevel) (top : Handle) (e : Error) → u.front ≡ [] → first u.tops ≡ Some top → Err e ∷ [] ≡ part_of u top → front_needs u ≡ 1
+front_one u top e none at told =
+    ap (λ (xs : List Handle). none_behind xs (needs (map (part_of u) u.tops))) none
+    ∙ ap (λ (xs : List Handle). needs (map (part_of u) xs)) (first_split u.tops top at)
+    ∙ ap (λ (p : List R). needs (p ∷ map (part_of u) (but_first u.tops))) (sym told)
+
+back_one : (u : TwoLevel) (top : Handle) (e : Error) → u.back ≡ [] → last u.tops ≡ Some top → Err e ∷ [] ≡ part_of u top → back_needs u ≡ 1
+back_one u top e none at told =
+    let tops = but_last u.tops in
+    let turned : reverse (map (part_of u) (tops ++ top ∷ [])) ≡ part_of u top ∷ reverse (map (part_of u) tops) =
+    ap reverse (map-append (part_of u) tops (top ∷ [])) ∙ reverse-append (map (part_of u) tops) (part_of u top ∷ []) in
+    ap (λ (xs : List Handle). none_behind xs (needs (reverse (map (part_of u) u.tops)))) none
+    ∙ ap (λ (xs : List Handle). needs (reverse (map (part_of u) xs))) (last_split u.tops top at)
+    ∙ ap needs turned
+    ∙ ap (λ (p : List R). needs (p ∷ reverse (map (part_of u) tops))) (sym told)
+
 -- ---- the partitions that a call goes through
 
 -- from s the call has come to u, of which as much is left
@@ -186,8 +224,8 @@ answers of needed s u t (Some (Err e)) reached answer =
     (λ fine. ap (λ (rs : List R). (of rs).0) (sym reached.results) ∙ answer.0 fine, λ over. answer.1 (reached.ended over))
 
 -- it loads no more
-steps : (of : End) (needed : TwoLevel → ℕ) (s u t : TwoLevel) (r : Option R) → Reached needed s u → AtEnd of (two_level_left u) r (two_level_left t) → t.opened ≡ u.opened → t.tops ≡ u.tops → t.body ≡ u.body → t.whole ≡ u.whole → TwoLevelSteps of needed s r t
-steps of needed s u t r reached answer opened tops body whole =
+steps : (of : End) (needed : TwoLevel → ℕ) (s u t : TwoLevel) (r : Option R) → Reached needed s u → AtEnd of (two_level_left u) r (two_level_left t) → (answer_stops is_memory r ≡ false → needed u ≡ 0) → t.opened ≡ u.opened → t.tops ≡ u.tops → t.body ≡ u.body → t.whole ≡ u.whole → TwoLevelSteps of needed s r t
+steps of needed s u t r reached answer all opened tops body whole =
     let same : length t.tops ≡ length u.tops = ap length tops in
     record {
       answer = answers of needed s u t r reached answer;
@@ -199,41 +237,44 @@ steps of needed s u t r reached answer opened tops body whole =
       body = body ∙ reached.body;
       whole = whole ∙ reached.whole;
       most = omega (arith, reached.needs);
+      exact = λ fine. omega (arith, reached.needs, all fine);
     }
 
 -- an item of the partition at the front
 pub front_item : (s u : TwoLevel) (item : R) (hs : List Handle) → Reached front_needs s u → PartGives front_of u.front (Some item) hs → TwoLevelSteps front_of front_needs s (Some item) (record u { front = hs })
 front_item s u (Ok x) hs reached gives =
-    steps front_of front_needs s u (record u { front = hs }) (Some (Ok x)) reached (front_in (front_more u) u.front hs x gives.0 gives.1) refl refl refl refl
+    steps front_of front_needs s u (record u { front = hs }) (Some (Ok x)) reached (front_in (front_more u) u.front hs x gives.0 gives.1) (λ fine. none_needed u.front _ (has_first u.front x gives.0)) refl refl refl refl
 front_item s u (Err e) hs reached gives =
     steps front_of front_needs s u (record u { front = hs }) (Some (Err e)) reached
-    (λ fine. absurd (not_memory e gives.0 fine), λ over. gives.1 (no_handles u.front (nil_left (ok_results u.front) (front_more u) over.results))) refl refl refl refl
+    (λ fine. absurd (not_memory e gives.0 fine), λ over. gives.1 (no_handles u.front (nil_left (ok_results u.front) (front_more u) over.results)))
+    (λ fine. absurd (not_memory e gives.0 fine)) refl refl refl refl
 
 -- and at the back
 pub back_item : (s u : TwoLevel) (item : R) (hs : List Handle) → Reached back_needs s u → PartGives back_of u.back (Some item) hs → TwoLevelSteps back_of back_needs s (Some item) (record u { back = hs })
 back_item s u (Ok x) hs reached gives =
     let t : TwoLevel = record u { back = hs } in
-    steps back_of back_needs s u t (Some (Ok x)) reached (ap back_of (from_back u) ∙ back_in (back_more u) u.back hs x gives.0 gives.1 ∙ pair refl (sym (from_back t))) refl refl refl refl
+    steps back_of back_needs s u t (Some (Ok x)) reached (ap back_of (from_back u) ∙ back_in (back_more u) u.back hs x gives.0 gives.1 ∙ pair refl (sym (from_back t))) (λ fine. none_needed u.back _ (has_last u.back x gives.0)) refl refl refl refl
 back_item s u (Err e) hs reached gives =
     steps back_of back_needs s u (record u { back = hs }) (Some (Err e)) reached
-    (λ fine. absurd (not_memory e gives.0 fine), λ over. gives.1 (no_handles u.back (nil_right (back_more u) (ok_results u.back) (sym (from_back u) ∙ over.results)))) refl refl refl refl
+    (λ fine. absurd (not_memory e gives.0 fine), λ over. gives.1 (no_handles u.back (nil_right (back_more u) (ok_results u.back) (sym (from_back u) ∙ over.results))))
+    (λ fine. absurd (not_memory e gives.0 fine)) refl refl refl refl
 
 -- nothing is left between the ends, so one partition serves both
 pub front_rest : (s u : TwoLevel) (r : Option R) (hs : List Handle) → Reached front_needs s u → u.front ≡ [] → u.tops ≡ [] → PartGives front_of u.back r hs → TwoLevelSteps front_of front_needs s r (record u { back = hs })
 front_rest s u r hs reached none tops gives =
     let t : TwoLevel = record u { back = hs } in
     steps front_of front_needs s u t r reached
-    (at_part front_of front_of carries_front (two_level_left u) (two_level_left t) u.back hs r (left_back u none tops) (left_back t none tops) (ap length tops) gives) refl refl refl refl
+    (at_part front_of front_of carries_front (two_level_left u) (two_level_left t) u.back hs r (left_back u none tops) (left_back t none tops) (ap length tops) gives) (λ fine. front_none u none tops) refl refl refl refl
 
 pub back_rest : (s u : TwoLevel) (r : Option R) (hs : List Handle) → Reached back_needs s u → u.back ≡ [] → u.tops ≡ [] → PartGives back_of u.front r hs → TwoLevelSteps back_of back_needs s r (record u { front = hs })
 back_rest s u r hs reached none tops gives =
     let t : TwoLevel = record u { front = hs } in
     steps back_of back_needs s u t r reached
-    (at_part back_of back_of carries_back (two_level_left u) (two_level_left t) u.front hs r (left_front u none tops) (left_front t none tops) (ap length tops) gives) refl refl refl refl
+    (at_part back_of back_of carries_back (two_level_left u) (two_level_left t) u.front hs r (left_front u none tops) (left_front t none tops) (ap length tops) gives) (λ fine. back_none u none tops) refl refl refl refl
 
 -- the next partition cannot be loaded
-fault_steps : (of : End) (end : List Handle → Option Handle × List Handle) (needed : TwoLevel → ℕ) (s u t : TwoLevel) (e : Error) → Reached needed s u → Fails end u e t → 0 < needed u → (is_memory e ≡ false → (of (left u)).0 ≡ Some (Err e)) → TwoLevelSteps of needed s (Some (Err e)) t
-fault_steps of end needed s u t e reached fails some told = record {
+fault_steps : (of : End) (end : List Handle → Option Handle × List Handle) (needed : TwoLevel → ℕ) (s u t : TwoLevel) (e : Error) → Reached needed s u → Fails end u e t → 0 < needed u → (is_memory e ≡ false → needed u ≡ 1) → (is_memory e ≡ false → (of (left u)).0 ≡ Some (Err e)) → TwoLevelSteps of needed s (Some (Err e)) t
+fault_steps of end needed s u t e reached fails some one told = record {
   answer = answers of needed s u t (Some (Err e)) reached (told, λ over. fails.some (no_items u.tops over.loads));
   loads = record {
     count = fails.count + reached.count;
@@ -243,10 +284,11 @@ fault_steps of end needed s u t e reached fails some told = record {
   body = fails.body ∙ reached.body;
   whole = fails.whole ∙ reached.whole;
   most = omega (arith, fails.most, some, reached.needs);
+  exact = λ fine. omega (arith, fails.exact fine, one fine, reached.needs);
 }
 
 pub front_fault : (s u t : TwoLevel) (e : Error) → Reached front_needs s u → u.front ≡ [] → Fails front_of u e t → TwoLevelSteps front_of front_needs s (Some (Err e)) t
-front_fault s u t e reached none fails = fault_steps front_of front_of front_needs s u t e reached fails (front_some u none fails.some) (λ fine. at fine)
+front_fault s u t e reached none fails = fault_steps front_of front_of front_needs s u t e reached fails (front_some u none fails.some) (λ fine. let x = fails.told fine in front_one u x.0 e none x.1 x.2) (λ fine. at fine)
   where
     at : is_memory e ≡ false → first (left u) ≡ Some (Err e)
     at fine =
@@ -255,7 +297,7 @@ front_fault s u t e reached none fails = fault_steps front_of front_of front_nee
         ap first (next_front u x.0 (but_first u.tops) none split ∙ ap (λ (rs : List R). rs ++ (parts_of u (but_first u.tops) ++ ok_results u.back)) (sym x.2))
 
 pub back_fault : (s u t : TwoLevel) (e : Error) → Reached back_needs s u → u.back ≡ [] → Fails back_of u e t → TwoLevelSteps back_of back_needs s (Some (Err e)) t
-back_fault s u t e reached none fails = fault_steps back_of back_of back_needs s u t e reached fails (back_some u none fails.some) (λ fine. at fine)
+back_fault s u t e reached none fails = fault_steps back_of back_of back_needs s u t e reached fails (back_some u none fails.some) (λ fine. let x = fails.told fine in back_one u x.0 e none x.1 x.2) (λ fine. at fine)
   where
     at : is_memory e ≡ false → last (left u) ≡ Some (Err e)
     at fine =
@@ -309,6 +351,7 @@ module _ (s u : TwoLevel) (whole rest : List Handle) (kept : whole ≡ s.whole)
         counts = ap (λ (x : TwoLevel). x.opened) is;
         within = omega (arith, shorter, same);
         most = omega arith;
+        exact = λ fine. refl;
         body = ap (λ (x : TwoLevel). x.body) is;
         whole = ap (λ (x : TwoLevel). x.whole) is ∙ kept;
       }
@@ -330,9 +373,9 @@ index_is s t body whole = ap (λ (xs : List ℕ). two_level xs t.whole) body ∙
 
 pub goes_on : (of : End) (needed : TwoLevel → ℕ) (s t : TwoLevel) (r : Option R) → MatchOption r (Unit {0}) (λ x. MatchResult x (λ _. Unit {0}) (λ _. ⊥)) → TwoLevelSteps of needed s r t → TwoLevelGives of needed s r t
 goes_on of needed s t None fine step =
-    record { gives = record { answer = step.answer; ends = tt; index = index_is s t step.body step.whole; loads = step.loads }; most = step.most }
+    record { gives = record { answer = step.answer; ends = tt; index = index_is s t step.body step.whole; loads = step.loads }; most = step.most; exact = step.exact }
 goes_on of needed s t (Some (Ok x)) fine step =
-    record { gives = record { answer = step.answer; ends = tt; index = index_is s t step.body step.whole; loads = step.loads }; most = step.most }
+    record { gives = record { answer = step.answer; ends = tt; index = index_is s t step.body step.whole; loads = step.loads }; most = step.most; exact = step.exact }
 goes_on of needed s t (Some (Err e)) fine step = absurd fine
 
 pub ends_at : (of : End) (needed : TwoLevel → ℕ) (s t : TwoLevel) (e : Error) → TwoLevelSteps of needed s (Some (Err e)) t → TwoLevelGives of needed s (Some (Err e)) (record t { tops = []; front = []; back = [] })
@@ -344,4 +387,5 @@ ends_at of needed s t e step = record {
     loads = record { count = step.loads.count; counts = step.loads.counts; within = omega (arith, step.loads.within) };
   };
   most = step.most;
+  exact = step.exact;
 }

@@ -5,7 +5,7 @@ use Rattle.std.specs.List.{flat_map}
 use Rattle.sst_blocks.specs.declared.block_type.BlockType.TheVariants.{Index as IndexBlock}
 use Rattle.sst_entries.specs.declared.error.Error.{Error}
 use Rattle.sst_entries.specs.Stream.{ok_results}
-use Rattle.sst_blocks.specs.Block.{Loaded, load_told, handles_of}
+use Rattle.sst_blocks.specs.Block.{Loaded, load_told, place_fault, handles_of}
 use Rattle.sst_blocks.specs.Handle.{Handle}
 use Rattle.sst_blocks.specs.Handles.{window}
 use Rattle.sst_blocks.specs.Place.{Place, place_of}
@@ -24,6 +24,10 @@ between lower upper (Err e) = Err e ∷ []
 -- those of the index block at a place
 abbrev pub block_between : List ℕ → Option (List ℕ × ℕ) → Option (List ℕ) → Place → List (Result Handle Error)
 block_between body lower upper place = between lower upper (load_told body place.offset place.size IndexBlock)
+
+-- the fault of that block that is found before memory is taken
+abbrev pub block_early : List ℕ → Place → Option Error
+block_early body place = place_fault body place.offset place.size IndexBlock
 
 -- those of the partitions that some handles of the top level name, one behind another
 abbrev pub parts_between : List ℕ → Option (List ℕ × ℕ) → Option (List ℕ) → List Handle → List (Result Handle Error)

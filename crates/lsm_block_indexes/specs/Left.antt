@@ -5,12 +5,12 @@ use Rattle.sst_entries.specs.declared.error.Error.{Error}
 use Rattle.sst_blocks.specs.declared.opened.Opened.{Opened}
 use Rattle.sst_entries.specs.Error.{is_memory}
 use Rattle.sst_entries.specs.Span.{Span, rest_in}
-use Rattle.sst_entries.specs.Stream.{ok_results}
+use Rattle.sst_entries.specs.Stream.{answer_stops, ok_results}
 use Rattle.sst_blocks.specs.Handle.{Handle}
 use Rattle.sst_blocks.specs.Handles.{window}
 use Rattle.sst_blocks.specs.Opened.{with_load, none_opened}
 use Rattle.sst_blocks.specs.Place.{Place, place_of}
-use Rattle.lsm_block_indexes.specs.Index.{Index, full, on_demand, two_level, block_between, parts_between}
+use Rattle.lsm_block_indexes.specs.Index.{Index, full, on_demand, two_level, block_between, block_early, parts_between}
 
 -- the results still to be dealt, how many blocks may still be loaded for them, the index that they are of, and what was loaded
 pub record Left : Type 0 where
@@ -50,6 +50,12 @@ pub record CountsLoads (s t : Left) : Type 0 where
   pub count : ℕ
   pub counts : t.opened ≡ loaded count s.opened
   pub within : count + t.loads ≤ s.loads
+
+-- from an iterator that had loaded nothing: what was loaded is counted, and with what may still be loaded it is at most so much
+pub record CountsUpTo (most : ℕ) (l : Left) : Type 0 where
+  pub count : ℕ
+  pub counts : l.opened ≡ loaded count none_opened
+  pub within : count + l.loads ≤ most
 
 -- one call at an end; an error ends the iterator
 pub record LeftGives (end : List (Result Handle Error) → Option (Result Handle Error) × List (Result Handle Error)) (s : Left) (r : Option (Result Handle Error)) (t : Left) : Type 0 where
@@ -116,11 +122,17 @@ pub record IsDemandSought (s : OnDemand) (low : Option (List ℕ × ℕ)) (high 
   pub lower : s.lower ≡ low
   pub upper : s.upper ≡ high
 
--- one call of it: the first one loads the block, once
+-- the fault of a block that is yet to be loaded that is found before memory is taken
+abbrev pub demand_early : OnDemand → Option (List Handle) → Option Error
+demand_early s None = block_early s.body s.place
+demand_early s (Some hs) = None
+
+-- one call of it: the first one loads the block, once; and a fault that needs no memory to be found comes before any want of it
 pub record OnDemandGives (end : List (Result Handle Error) → Option (Result Handle Error) × List (Result Handle Error)) (s : OnDemand) (r : Option (Result Handle Error)) (t : OnDemand) : Type 0 where
   pub gives : LeftGives end (on_demand_left s) r (on_demand_left t)
   pub once : gives.loads.count ≡ demands s.part
   pub kept : demands t.part ≡ 0
+  pub first : (f : Error) → demand_early s s.part ≡ Some f → r ≡ Some (Err f)
 
 -- ---- of two levels
 
@@ -182,10 +194,11 @@ front_needs s = none_behind s.front (needs (map (part_of s) s.tops))
 abbrev pub back_needs : TwoLevel → ℕ
 back_needs s = none_behind s.back (needs (reverse (map (part_of s) s.tops)))
 
--- one call of it: no more partitions are loaded than it needs
+-- one call of it: it loads the partitions that it needs, and no more where it wants memory
 pub record TwoLevelGives (end : List (Result Handle Error) → Option (Result Handle Error) × List (Result Handle Error)) (needed : TwoLevel → ℕ) (s : TwoLevel) (r : Option (Result Handle Error)) (t : TwoLevel) : Type 0 where
   pub gives : LeftGives end (two_level_left s) r (two_level_left t)
   pub most : gives.loads.count ≤ needed s
+  pub exact : answer_stops is_memory r ≡ false → gives.loads.count ≡ needed s
 
 -- the same before an error ends it
 pub record TwoLevelSteps (end : List (Result Handle Error) → Option (Result Handle Error) × List (Result Handle Error)) (needed : TwoLevel → ℕ) (s : TwoLevel) (r : Option (Result Handle Error)) (t : TwoLevel) : Type 0 where
@@ -194,6 +207,7 @@ pub record TwoLevelSteps (end : List (Result Handle Error) → Option (Result Ha
   pub body : t.body ≡ s.body
   pub whole : t.whole ≡ s.whole
   pub most : loads.count ≤ needed s
+  pub exact : answer_stops is_memory r ≡ false → loads.count ≡ needed s
 
 -- the next partition at the front was loaded; and at the back
 pub record EntersFront (s t : TwoLevel) : Type 0 where
@@ -216,5 +230,6 @@ pub record Fails (end : List Handle → Option Handle × List Handle) (s : TwoLe
   pub counts : t.opened ≡ loaded count s.opened
   pub within : count + length t.tops ≤ length s.tops
   pub most : count ≤ 1
+  pub exact : is_memory e ≡ false → count ≡ 1
   pub body : t.body ≡ s.body
   pub whole : t.whole ≡ s.whole

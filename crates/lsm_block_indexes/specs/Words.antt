@@ -7,8 +7,8 @@ pub use Rattle.sst_blocks.specs.Opened.{none_opened}
 pub use Rattle.sst_blocks.specs.Seeking.{DealsLeft, KeepsLowerEdge, KeepsUpperEdge, above_place, reaching_place, span_from, span_to, whole_span}
 pub use Rattle.lsm_block_indexes.specs.Answers.{AnswersAny, AnswersTrue}
 pub use Rattle.lsm_block_indexes.specs.Dealt.{DealsEnding}
-pub use Rattle.lsm_block_indexes.specs.Index.{Index, block_between, full, on_demand, two_level}
-pub use Rattle.lsm_block_indexes.specs.Left.{IsBetween, IsDemandSought, IsSpanSought, IsTwoLevelSought, Left, LeftGives}
+pub use Rattle.lsm_block_indexes.specs.Index.{Index, block_between, block_early, full, on_demand, two_level}
+pub use Rattle.lsm_block_indexes.specs.Left.{IsBetween, IsDemandSought, IsEnded, IsSpanSought, IsTwoLevelSought, Left, LeftGives}
 pub use Rattle.lsm_block_indexes.specs.Left.{OnDemand, OnDemandGives, demanded, demands, left_size, loaded, new_on_demand, new_two_level}
 pub use Rattle.lsm_block_indexes.specs.Left.{on_demand_left, span_left, two_level_left}
 pub use Rattle.lsm_block_indexes.specs.Left.{EntersBack, EntersFront, Fails, TwoLevel, TwoLevelGives, back_needs, front_needs, part_of}

@@ -122,6 +122,8 @@ impl<A: Allocator> BlockIndexIter<A> for Iter<A> {
 
     ghost seek_answers = { AnswersAny };
 
+    ghost takes_memory = { λ _. ⊥ };
+
     fn seek_lower(&mut self, key: &[u8], seqno: SeqNo) -> Result<bool, Error> {
         Ok(self.0.seek_lower(key, seqno))
     }

@@ -2,8 +2,9 @@
 ghost use Rattle.std.specs.Prelude.{◌≡◌, ℕ, Bool, List, Option, [], Some, None, false, MatchOption, OnOk, OnErr, IfOk, IfErr};
 ghost use Rattle.std.specs.Iterator.{at_most};
 ghost use Rattle.sst_entries.specs.declared.error.Error.TheVariants.{OutOfMemory};
-ghost use Rattle.lsm_block_indexes.specs.Words.{DealsEnding, Index, IsBetween, Left, left_size};
-ghost use Rattle.lsm_block_indexes.specs.Kinds.{BackGives, FrontGives, IsReader, IsSought, SeekAnswers, index_of, left_of};
+ghost use Rattle.lsm_block_indexes.specs.Words.{DealsEnding, Index, IsBetween, IsEnded, Left, left_size};
+ghost use Rattle.lsm_block_indexes.specs.Kinds.{BackGives, FrontGives, HasReader, IsReader, IsSought, SeekAnswers, TakesMemory};
+ghost use Rattle.lsm_block_indexes.specs.Kinds.{index_of, left_of};
 
 use crate::full::{self, FullBlockIndex};
 use crate::two_level::{self, TwoLevelBlockIndex};
@@ -12,7 +13,7 @@ use sst_blocks::{Error, KeyedBlockHandle, Opened, SeqNo};
 use std::alloc::{Allocator, Global};
 
 /// Handles of an index, dealt from both ends, between edges that may be sought. An edge is to be sought once, and before the
-/// first step: what a later seek leaves is open.
+/// first step: what a later seek leaves is open, except that what is over stays over.
 ///
 /// After an error, [`Error::OutOfMemory`] among them, a step answers `None`, at either end.
 pub trait BlockIndexIter<A: Allocator>: DoubleEndedIterator<
@@ -27,9 +28,12 @@ pub trait BlockIndexIter<A: Allocator>: DoubleEndedIterator<
     // What a seek answers by what it leaves.
     ghost seek_answers: { Self → Bool → Type 0 };
 
+    // Whether a seek may want memory, for the edge that it keeps.
+    ghost takes_memory: { Self → Type 0 };
+
     /// Drops what stands before the first handle that reaches a key and a number: whose end key is greater, or equal and
     /// numbered below `seqno`. It answers false only where nothing is left, and loads nothing. Refused
-    /// [`Error::OutOfMemory`] alone; nothing has changed then.
+    /// [`Error::OutOfMemory`] alone, and not at all where the whole index stays loaded; nothing has changed then.
     fn seek_lower(&mut self, key: &[u8], seqno: SeqNo) -> Result<bool, Error>
         ensures sought { (upper : Option (List ℕ)) → sought self.old None upper →
             OnOk result (sought self.new (Some (key.now, seqno)) upper) }
@@ -37,12 +41,15 @@ pub trait BlockIndexIter<A: Allocator>: DoubleEndedIterator<
             OnOk result (IsBetween (left self.new) (Some (key.now, seqno)) upper) }
         ensures answers { IfOk result (λ any. seek_answers self.new any) }
         ensures none { IfOk result (λ any. any ≡ false → (left self.new).results ≡ []) }
+        // A seek does not bring back what has ended.
+        ensures over { IsEnded (left self.old) → IsEnded (left self.new) }
         // Whatever ends are asked from here on, what is left is dealt up to the first error.
         ensures deals { DealsEnding Self.next_gives Self.next_back_gives Self.can_next
             Self.can_next_back self.new (left self.new).results }
         ensures index { (left self.new).index ≡ (left self.old).index }
         ensures opened { (left self.new).opened ≡ (left self.old).opened }
         ensures unchanged { OnErr result (self.new ≡ self.old) }
+        ensures refused { OnErr result (takes_memory self.old) }
         ensures err { IfErr result (λ e. e ≡ OutOfMemory) };
 
     /// Drops what stands behind the first handle whose end key is greater than a key. The number is not looked at: versions of
@@ -55,11 +62,13 @@ pub trait BlockIndexIter<A: Allocator>: DoubleEndedIterator<
             OnOk result (IsBetween (left self.new) lower (Some key.now)) }
         ensures answers { IfOk result (λ any. seek_answers self.new any) }
         ensures none { IfOk result (λ any. any ≡ false → (left self.new).results ≡ []) }
+        ensures over { IsEnded (left self.old) → IsEnded (left self.new) }
         ensures deals { DealsEnding Self.next_gives Self.next_back_gives Self.can_next
             Self.can_next_back self.new (left self.new).results }
         ensures index { (left self.new).index ≡ (left self.old).index }
         ensures opened { (left self.new).opened ≡ (left self.old).opened }
         ensures unchanged { OnErr result (self.new ≡ self.old) }
+        ensures refused { OnErr result (takes_memory self.old) }
         ensures err { IfErr result (λ e. e ≡ OutOfMemory) };
 
     /// How many blocks of each kind were loaded.
@@ -72,8 +81,12 @@ pub trait BlockIndex<A: Allocator> {
     // What it has between two edges.
     ghost index: { Self → Index };
 
+    // Whether there is a reader from an edge on.
+    ghost has_reader: { Self → Option (List ℕ × ℕ) → Type 0 };
+
     /// The handles from the first on that reaches a key and a number: whose end key is greater, or equal and numbered below
-    /// `seqno`. `None` only where there is no such handle. Nothing is loaded. Refused [`Error::OutOfMemory`] alone.
+    /// `seqno`. `None` only where there is no such handle, and only of an index that stays loaded. Nothing is loaded. Refused
+    /// [`Error::OutOfMemory`] alone.
     fn forward_reader(
         &self,
         key: &[u8],
@@ -82,6 +95,8 @@ pub trait BlockIndex<A: Allocator> {
         ensures found { let edge = Some (key.now, seqno) in
             IfOk result (λ found. MatchOption found ((index self.now).told edge None ≡ [])
             (λ i. IsReader i (index self.now) edge None)) }
+        ensures reader { let has = has_reader self.now (Some (key.now, seqno)) in
+            IfOk result (λ found. MatchOption found (has → ⊥) (λ i. has)) }
         ensures err { IfErr result (λ e. e ≡ OutOfMemory) };
 
     /// All handles. Nothing is loaded. Refused [`Error::OutOfMemory`] alone.
@@ -103,6 +118,8 @@ pub enum BlockIndexImpl<A: Allocator = Global> {
 
 impl<A: Allocator + Clone> BlockIndex<A> for BlockIndexImpl<A> {
     ghost index = { index_of };
+
+    ghost has_reader = { HasReader };
 
     fn forward_reader(
         &self,
@@ -184,6 +201,8 @@ impl<A: Allocator + Clone> BlockIndexIter<A> for BlockIndexIterImpl<A> {
     ghost sought = { IsSought };
 
     ghost seek_answers = { SeekAnswers };
+
+    ghost takes_memory = { TakesMemory };
 
     fn seek_lower(&mut self, key: &[u8], seqno: SeqNo) -> Result<bool, Error> {
         match self {

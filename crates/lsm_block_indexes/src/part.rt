@@ -1,8 +1,8 @@
 //! What is left of a partition.
 ghost use Rattle.std.specs.Prelude.{◌≡◌, ◌∷◌, [], Err, false, IfOk, IfErr};
-ghost use Rattle.sst_entries.specs.Error.{is_memory};
+ghost use Rattle.sst_entries.specs.Error.{FaultsFirst, is_memory};
 ghost use Rattle.sst_entries.specs.Stream.{ok_results};
-ghost use Rattle.lsm_block_indexes.specs.Words.{PartGives, back_of, block_between, body_of, front_of};
+ghost use Rattle.lsm_block_indexes.specs.Words.{PartGives, back_of, block_between, block_early, body_of, front_of};
 ghost use Rattle.lsm_block_indexes.specs.Words.{loaded, rest_in};
 
 use crate::edges::Edges;
@@ -77,6 +77,8 @@ pub fn load_part<A: Allocator + Clone>(
         IfOk result (λ hs. ok_results hs ≡ told handle.now) }
     ensures err { let told = block_between (body_of source.now) edges.now.0 edges.now.1 in
         IfErr result (λ e. is_memory e ≡ false → Err e ∷ [] ≡ told handle.now) }
+    // What is found before memory is taken comes before any want of it.
+    ensures first { FaultsFirst result (block_early (body_of source.now) handle.now) }
     ensures counted { opened.new ≡ loaded 1 opened.old }
 {
     let block = source.load(handle, BlockType::Index, opened)?;

@@ -74,7 +74,7 @@ impl<A: Allocator + Clone> TwoLevelBlockIndex<A> {
 }
 
 /// The handles of an index of two levels, dealt from both ends. A partition is loaded where a step first needs it, and no step
-/// loads more than it needs; where one cannot be loaded, the fault comes in the place of its handles. After an error,
+/// loads more than it needs; each load is counted; where one cannot be loaded, the fault comes in the place of its handles. After an error,
 /// [`Error::OutOfMemory`] among them, nothing more comes, from either end.
 #[derive(Drop)]
 pub struct Iter<A: Allocator = Global> {
@@ -245,6 +245,8 @@ impl<A: Allocator + Clone> BlockIndexIter<A> for Iter<A> {
     ghost sought = { IsTwoLevelSought };
 
     ghost seek_answers = { AnswersTrue };
+
+    ghost takes_memory = { λ _. Unit {0} };
 
     fn seek_lower(&mut self, key: &[u8], seqno: SeqNo) -> Result<bool, Error> {
         self.edges.set_lower(key, seqno)?;

@@ -82,8 +82,8 @@ impl<A: Allocator + Clone> VolatileBlockIndex<A> {
 }
 
 /// The handles of an index on demand, dealt from both ends. The first step loads the block, once; where that is refused, the
-/// fault comes in the place of the handles. After an error, [`Error::OutOfMemory`] among them, nothing more comes, from either
-/// end.
+/// fault comes in the place of the handles, and one that needs no memory to be found comes before any want of it. After an error,
+/// [`Error::OutOfMemory`] among them, nothing more comes, from either end.
 #[derive(Drop)]
 pub struct Iter<A: Allocator = Global> {
     source: BlockSource<A>,
@@ -167,6 +167,8 @@ impl<A: Allocator + Clone> BlockIndexIter<A> for Iter<A> {
     ghost sought = { IsDemandSought };
 
     ghost seek_answers = { AnswersTrue };
+
+    ghost takes_memory = { λ _. Unit {0} };
 
     fn seek_lower(&mut self, key: &[u8], seqno: SeqNo) -> Result<bool, Error> {
         self.edges.set_lower(key, seqno)?;
