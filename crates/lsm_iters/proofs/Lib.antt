@@ -1,4 +1,5 @@
 pub mod Cuts
+pub mod Reach
 pub mod Ends
 pub mod Ranges
 pub mod Parts

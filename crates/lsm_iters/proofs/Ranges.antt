@@ -7,7 +7,7 @@ use Rattle.sst_entries.specs.declared.error.Error.{Error}
 use Rattle.sst_entries.specs.declared.error.Error.TheVariants.{OutOfMemory}
 use Rattle.sst_entries.specs.Entry.{Entry}
 use Rattle.sst_entries.specs.Error.{is_memory}
-use Rattle.sst_entries.specs.Stream.{first, but_first, last, but_last, front_of, back_of}
+use Rattle.sst_entries.specs.Stream.{answer_stops, first, but_first, last, but_last, front_of, back_of}
 use Rattle.sst_blocks.specs.declared.opened.Opened.{Opened}
 use Rattle.sst_blocks.specs.Handle.{Handle}
 use Rattle.lsm_block_indexes.specs.Left.{CountsLoads, IsEnded as IsLeftEnded, Left, LeftGives, loaded, none_behind}
@@ -93,6 +93,19 @@ module _ {A : Type 0} where
         if_true {X = ℕ} t.handles.sought 0 1 sought,
       )
 
+-- ---- how many blocks an answer needs
+
+-- where an entry stands at the end no block is needed
+stands : (end : End) → (end []).0 ≡ None → (g : ℕ) (es fs : List Entry) (item : R) (n : ℕ) → PartGives end g es (Some item) fs → 0 ≡ none_behind es n
+stands end none g (x ∷ es) fs item n gives = refl
+stands end none g [] fs (Ok e) n gives = let wrong : None ≡ Some (Ok e) = sym none ∙ ap (λ (p : Option R × List R). p.0) gives in absurd cc
+stands end none g [] fs (Err e) n gives = absurd (gives.1 refl)
+
+-- nothing is left at the end, so no block is needed
+rest_all : (b : Bounded) (near : List Entry) (turned : List H) → near ≡ [] → turned ≡ [] → 0 ≡ none_behind near (blocks_needed b turned)
+rest_all b near turned none hs =
+    sym (ap (λ (es : List Entry). none_behind es (blocks_needed b turned)) none ∙ ap (blocks_needed b) hs)
+
 -- ---- the blocks that a call goes through
 
 -- from s the call has come to u, of which as much is left: what stands next at the end are these entries, and then these handles
@@ -168,6 +181,7 @@ module _ {A : Type 0} (s t : Range A) (is : t ≡ record s { handles = t.handles
       index_counts = unless_opened t.handles.ended _ ∙ none.opened;
       index_within = omega arith;
     };
+    exact = λ fine. absurd (not_memory e memory fine);
   }
 
 -- the next block was loaded
@@ -206,6 +220,7 @@ pub record Faults {A : Type 0} (end : HandleEnd) (allowed : ℕ) (u : Range A) (
   pub told : is_memory e ≡ false → ((end (coming u)).0 ≡ Some at) × (handle_rows u.of at ≡ Err e ∷ [])
   pub some : IsLeftEnded (left_in u.handles) → ⊥
   pub moves : Moves allowed u t
+  pub exact : is_memory e ≡ false → moves.blocks ≡ allowed
 
 module _ {A : Type 0} (end : HandleEnd) (u : Range A) (t : Range A) where
   enters_by : (x : Option H) (es : List Entry) → LeftGives end (left_in u.handles) x (left_in t.handles) → BlockTold u.of x (Some (Ok es)) → t.handles.sought ≡ true → t ≡ record u { handles = t.handles; opened = data_loaded (loads_for x) u.opened } → Enters end u es t
@@ -225,6 +240,8 @@ module _ {A : Type 0} (end : HandleEnd) (u : Range A) (t : Range A) where
   faults_by turn turns shortens None e near empty step told sought is = absurd cc
   faults_by turn turns shortens (Some (Err f)) e near empty step told sought is =
       let same : e ≡ f = cc in
+      let here : is_memory e ≡ false → Takes end (coming u) (Err f) (end (coming u)).1 =
+      λ fine. ap (λ (o : Option H). (o, (end (coming u)).1)) (step.answer.0 (subst (λ (x : Error). is_memory x ≡ false) same fine)) in
       record {
         at = Err f;
         told = λ fine. (step.answer.0 (subst (λ (x : Error). is_memory x ≡ false) same fine), ap (λ (x : Error). Err x ∷ []) (sym same));
@@ -239,6 +256,7 @@ module _ {A : Type 0} (end : HandleEnd) (u : Range A) (t : Range A) where
           most = omega arith;
           loads = step.loads;
         };
+        exact = λ fine. sym (ap (λ (es : List Entry). none_behind es (blocks_needed u.of (turn (coming u)))) empty ∙ ap (blocks_needed u.of) (turns (coming u) (end (coming u)).1 (Err f) (here fine)));
       }
   faults_by turn turns shortens (Some (Ok h)) e near empty step told sought is =
       let shorter : length (coming u) ≡ suc (length (coming t)) = shortens (coming u) (coming t) (Ok h) step.answer in
@@ -258,6 +276,7 @@ module _ {A : Type 0} (end : HandleEnd) (u : Range A) (t : Range A) where
           most = omega (arith, allowed);
           loads = step.loads;
         };
+        exact = λ fine. sym (allowed ∙ ap (λ (rs : List R). suc (none_behind rs (blocks_needed u.of (turn (coming t))))) (sym (told fine)));
       }
 
   pub enters_of : (es : List Entry) → BlockGives end u (Some (Ok es)) t → Enters end u es t
@@ -364,6 +383,9 @@ module _ {A : Type 0} where
   From end u (Some (Err e)) t = (is_memory e ≡ false → (end (left_rows u)).0 ≡ Some (Err e)) × (IsOver u → ⊥)
 
   module _ (needed : ℕ) (near : List Entry) (turned : List H) (s u t : Range A) (reached : Reached near turned needed s u) (moves : Moves (none_behind near (blocks_needed u.of turned)) u t) where
+    all_counted : moves.blocks ≡ none_behind near (blocks_needed u.of turned) → moves.blocks + reached.blocks ≡ needed
+    all_counted all = omega (arith, all, reached.most)
+
     counted : t.opened ≡ data_loaded (moves.blocks + reached.blocks) s.opened
     counted = moves.counts ∙ ap (data_loaded moves.blocks) reached.counts ∙ data_more moves.blocks reached.blocks s.opened
 
@@ -393,30 +415,34 @@ module _ {A : Type 0} where
     }
 
   -- it is one of the whole
-  gives_all : (end : End) (needed : Range A → ℕ) (near : List Entry) (turned : List H) (s u t : Range A) (r : Option R) → Reached near turned (needed s) s u → Moves (none_behind near (blocks_needed u.of turned)) u t → From end u r t → RangeGives end needed s r (stopped r t)
-  gives_all end needed near turned s u t None reached moves from = record {
+  gives_all : (end : End) (needed : Range A → ℕ) (near : List Entry) (turned : List H) (s u t : Range A) (r : Option R) → Reached near turned (needed s) s u → (moves : Moves (none_behind near (blocks_needed u.of turned)) u t) → (answer_stops is_memory r ≡ false → moves.blocks ≡ none_behind near (blocks_needed u.of turned)) → From end u r t → RangeGives end needed s r (stopped r t)
+  unfolding counts_on counts_over
+  gives_all end needed near turned s u t None reached moves all from = record {
     answer = (sym reached.results ∙ from.0, size_over t moves.sought from.1);
     ends = tt;
     of = moves.of ∙ reached.of;
     index = moves.index ∙ reached.index;
     initialized = moves.sought;
     loads = counts_on (needed s) near turned s u t reached moves;
+    exact = λ fine. all_counted (needed s) near turned s u t reached moves (all fine);
   }
-  gives_all end needed near turned s u t (Some (Ok e)) reached moves from = record {
+  gives_all end needed near turned s u t (Some (Ok e)) reached moves all from = record {
     answer = ap end (sym reached.results) ∙ from ∙ pair refl (sym (left_is t moves.sought));
     ends = tt;
     of = moves.of ∙ reached.of;
     index = moves.index ∙ reached.index;
     initialized = moves.sought;
     loads = counts_on (needed s) near turned s u t reached moves;
+    exact = λ fine. all_counted (needed s) near turned s u t reached moves (all fine);
   }
-  gives_all end needed near turned s u t (Some (Err e)) reached moves from = record {
+  gives_all end needed near turned s u t (Some (Err e)) reached moves all from = record {
     answer = (λ fine. ap (λ (rs : List R). (end rs).0) (sym reached.results) ∙ from.0 fine, λ ended. from.1 (reached.ended ended));
     ends = refl;
     of = moves.of ∙ reached.of;
     index = unless_index t.handles.ended _ ∙ moves.index ∙ reached.index;
     initialized = refl;
     loads = counts_over (needed s) near turned s u t reached moves;
+    exact = λ fine. all_counted (needed s) near turned s u t reached moves (all fine);
   }
 
   -- nothing is loaded
@@ -444,8 +470,9 @@ module _ {A : Type 0} where
   )
 
   pub front_item : (s u : Range A) (item : R) (es : List Entry) → FrontReached s u → PartGives front_of u.of.global_seqno u.front (Some item) es → RangeGives front_of front_blocks s (Some item) (stopped (Some item) (record u { front = es }))
+  unfolding stays
   front_item s u item es reached gives =
-      gives_all front_of front_blocks u.front (coming u) s u (record u { front = es }) (Some item) reached (stays _ u (record u { front = es }) reached.sought refl) (near_front u item es gives)
+      gives_all front_of front_blocks u.front (coming u) s u (record u { front = es }) (Some item) reached (stays _ u (record u { front = es }) reached.sought refl) (λ fine. stands front_of refl u.of.global_seqno u.front es item _ gives) (near_front u item es gives)
 
   -- and at the back
   from_back : (u : Range A) → left_rows u ≡ (lift_told u.of.global_seqno u.front ++ rows u.of (coming u)) ++ lift_told u.of.global_seqno u.back
@@ -462,8 +489,9 @@ module _ {A : Type 0} where
   )
 
   pub back_item : (s u : Range A) (item : R) (es : List Entry) → BackReached s u → PartGives back_of u.of.global_seqno u.back (Some item) es → RangeGives back_of back_blocks s (Some item) (stopped (Some item) (record u { back = es }))
+  unfolding stays
   back_item s u item es reached gives =
-      gives_all back_of back_blocks u.back (reverse (coming u)) s u (record u { back = es }) (Some item) reached (stays _ u (record u { back = es }) reached.sought refl) (near_back u item es gives)
+      gives_all back_of back_blocks u.back (reverse (coming u)) s u (record u { back = es }) (Some item) reached (stays _ u (record u { back = es }) reached.sought refl) (λ fine. stands back_of refl u.of.global_seqno u.back es item _ gives) (near_back u item es gives)
 
   -- nothing is left between the ends, so one block serves both
   far_from : (end : End) (u v : Range A) (g : ℕ) (es fs : List Entry) (r : Option R) → left_rows u ≡ lift_told g es → left_rows v ≡ lift_told g fs → IsLeftEnded (left_in v.handles) → PartGives end g es r fs → From end u r v
@@ -502,22 +530,24 @@ module _ {A : Type 0} where
       }
 
   rest_front : (s u t : Range A) (r : Option R) (es : List Entry) → FrontReached s u → u.front ≡ [] → BlockGives front_of u None t → PartGives front_of t.of.global_seqno t.back r es → RangeGives front_of front_blocks s r (stopped r (record t { back = es }))
+  unfolding rest_moves
   rest_front s u t r es reached none gives part =
       let rests = rests_of front_of u t gives in
       let v : Range A = record t { back = es } in
       let was : left_rows u ≡ lift_told t.of.global_seqno t.back =
       left_back u none rests.none ∙ sym (ap (λ (x : Range A). lift_told x.of.global_seqno x.back) rests.is) in
       let is : left_rows v ≡ lift_told t.of.global_seqno es = left_back v (ap (λ (x : Range A). x.front) rests.is ∙ none) rests.ended.results in
-      gives_all front_of front_blocks u.front (coming u) s u v r reached (rest_moves _ u t v rests refl) (far_from front_of u v t.of.global_seqno t.back es r was is rests.ended part)
+      gives_all front_of front_blocks u.front (coming u) s u v r reached (rest_moves _ u t v rests refl) (λ fine. rest_all u.of u.front (coming u) none rests.none) (far_from front_of u v t.of.global_seqno t.back es r was is rests.ended part)
 
   rest_back : (s u t : Range A) (r : Option R) (es : List Entry) → BackReached s u → u.back ≡ [] → BlockGives back_of u None t → PartGives back_of t.of.global_seqno t.front r es → RangeGives back_of back_blocks s r (stopped r (record t { front = es }))
+  unfolding rest_moves
   rest_back s u t r es reached none gives part =
       let rests = rests_of back_of u t gives in
       let v : Range A = record t { front = es } in
       let was : left_rows u ≡ lift_told t.of.global_seqno t.front =
       left_front u none rests.none ∙ sym (ap (λ (x : Range A). lift_told x.of.global_seqno x.front) rests.is) in
       let is : left_rows v ≡ lift_told t.of.global_seqno es = left_front v (ap (λ (x : Range A). x.back) rests.is ∙ none) rests.ended.results in
-      gives_all back_of back_blocks u.back (reverse (coming u)) s u v r reached (rest_moves _ u t v rests refl) (far_from back_of u v t.of.global_seqno t.front es r was is rests.ended part)
+      gives_all back_of back_blocks u.back (reverse (coming u)) s u v r reached (rest_moves _ u t v rests refl) (λ fine. rest_all u.of u.back (reverse (coming u)) none (ap reverse rests.none)) (far_from back_of u v t.of.global_seqno t.front es r was is rests.ended part)
 
   pub front_rest : (s u t v : Range A) (r : Option R) (es : List Entry) → v ≡ t → FrontReached s u → u.front ≡ [] → BlockGives front_of u None t → PartGives front_of v.of.global_seqno v.back r es → RangeGives front_of front_blocks s r (stopped r (record v { back = es }))
   front_rest s u t v r es same reached none gives part = rest_front s u v r es reached none (subst (λ (x : Range A). BlockGives front_of u None x) (sym same) gives) part
@@ -527,7 +557,7 @@ module _ {A : Type 0} where
 
   -- the next block cannot be loaded
   pub front_fault : (s u t : Range A) (e : Error) → FrontReached s u → u.front ≡ [] → BlockGives front_of u (Some (Err e)) t → RangeGives front_of front_blocks s (Some (Err e)) (over t)
-  front_fault s u t e reached none gives = gives_all front_of front_blocks u.front (coming u) s u t (Some (Err e)) reached faults.moves (λ fine. at fine, λ ended. faults.some ended.index)
+  front_fault s u t e reached none gives = gives_all front_of front_blocks u.front (coming u) s u t (Some (Err e)) reached faults.moves (λ fine. faults.exact fine) (λ fine. at fine, λ ended. faults.some ended.index)
     where
       faults : Faults front_of (none_behind u.front (blocks_needed u.of (coming u))) u e t
       faults = faults_of front_of u t (λ (xs : List H). xs) front_turns front_shortens e u.front none gives
@@ -540,7 +570,7 @@ module _ {A : Type 0} where
           ∙ ap (λ (rs : List R). rs ++ (rows u.of others ++ lift_told u.of.global_seqno u.back)) x.1)
 
   pub back_fault : (s u t : Range A) (e : Error) → BackReached s u → u.back ≡ [] → BlockGives back_of u (Some (Err e)) t → RangeGives back_of back_blocks s (Some (Err e)) (over t)
-  back_fault s u t e reached none gives = gives_all back_of back_blocks u.back (reverse (coming u)) s u t (Some (Err e)) reached faults.moves (λ fine. at fine, λ ended. faults.some ended.index)
+  back_fault s u t e reached none gives = gives_all back_of back_blocks u.back (reverse (coming u)) s u t (Some (Err e)) reached faults.moves (λ fine. faults.exact fine) (λ fine. at fine, λ ended. faults.some ended.index)
     where
       faults : Faults back_of (none_behind u.back (blocks_needed u.of (reverse (coming u)))) u e t
       faults = faults_of back_of u t reverse back_turns back_shortens e u.back none gives

@@ -6,6 +6,7 @@ use Rattle.sst_blocks.specs.declared.opened.Opened.{Opened}
 use Rattle.sst_entries.specs.declared.error.Error.{Error}
 use Rattle.sst_entries.specs.Entry.{Entry}
 use Rattle.sst_entries.specs.Error.{is_memory}
+use Rattle.sst_entries.specs.Stream.{answer_stops}
 use Rattle.sst_blocks.specs.Handle.{Handle}
 use Rattle.sst_blocks.specs.Opened.{with_load, none_opened}
 use Rattle.lsm_block_indexes.specs.declared.kinds.BlockIndexIterImpl.{BlockIndexIterImpl}
@@ -120,7 +121,7 @@ pub record CountsBlocks {A : Type 0} (needed : ℕ) (s t : Range A) : Type 0 whe
   pub index_counts : (left_in t.handles).opened ≡ loaded index (left_in s.handles).opened
   pub index_within : index + index_to_come t ≤ index_to_come s
 
--- one call at an end; an error ends the iterator
+-- one call at an end; an error ends the iterator; it loads the blocks that it needs, and no more where it wants memory
 pub record RangeGives {A : Type 0} (end : List (Result Entry Error) → Option (Result Entry Error) × List (Result Entry Error)) (needed : Range A → ℕ) (s : Range A) (r : Option (Result Entry Error)) (t : Range A) : Type 0 where
   pub answer : RangeAnswer end s r t
   pub ends : MatchOption r (Unit {0}) (λ x. MatchResult x (λ _. Unit {0}) (λ _. IsEnded t))
@@ -128,3 +129,4 @@ pub record RangeGives {A : Type 0} (end : List (Result Entry Error) → Option (
   pub index : (left_in t.handles).index ≡ (left_in s.handles).index
   pub initialized : t.handles.sought ≡ true
   pub loads : CountsBlocks (needed s) s t
+  pub exact : answer_stops is_memory r ≡ false → loads.blocks ≡ needed s

@@ -1,5 +1,5 @@
 //! The entries of a data block, from both ends, by an iterator that holds the block.
-ghost use Rattle.std.specs.Prelude.{◌≡◌, ◌-◌, ◌↔◌, [], IsTrue};
+ghost use Rattle.std.specs.Prelude.{◌≡◌, ◌-◌, ◌↔◌, [], IsTrue, length};
 ghost use Rattle.std.specs.Iterator.{at_most};
 ghost use Rattle.std.specs.declared.ops.Bound.TheVariants.{Unbounded};
 ghost use Rattle.lsm_iters.specs.Words.{DealsLeft, IsStrict, KeepsLower, KeepsUpper, SpanGives, back_of, edge_of, front_of};
@@ -120,22 +120,59 @@ impl<A: Allocator> DoubleEndedIterator for OwnedDataBlockIter<A> {
     }
 }
 
-/// How many entries of a block stand before a lower bound.
+/// Whether a block begins within a lower bound: no entry stands before the bound then. One comparison tells.
+fn begins_within<A: Allocator>(block: &DataBlock<A>, bound: &Bound<A>) -> bool
+    ensures place { IsTrue result → lower_place (edge_of bound.now) block.now ≡ 0 }
+    ensures strict { IsStrict block.now }
+{
+    if block.len() == 0 {
+        return true;
+    }
+    let (key, _) = block.key_at(0);
+    match bound {
+        Bound::Included(low) => !key.cmp(low.as_slice()).is_lt(),
+        Bound::Excluded(low) => low.as_slice().cmp(key).is_lt(),
+    }
+}
+
+/// Whether a block ends within an upper bound: no entry stands past the bound then.
+fn ends_within<A: Allocator>(block: &DataBlock<A>, bound: &Bound<A>) -> bool
+    ensures place { IsTrue result → upper_place (edge_of bound.now) block.now ≡ length block.now }
+    ensures strict { IsStrict block.now }
+{
+    let len = block.len();
+    if len == 0 {
+        return true;
+    }
+    let (key, _) = block.key_at(len - 1);
+    match bound {
+        Bound::Included(high) => !high.as_slice().cmp(key).is_lt(),
+        Bound::Excluded(high) => key.cmp(high.as_slice()).is_lt(),
+    }
+}
+
+/// How many entries of a block stand before a lower bound. A search is made only where the bound cuts the block's front.
 fn first_behind<A: Allocator>(block: &DataBlock<A>, bound: &Bound<A>) -> usize
     ensures place { result ≡ lower_place (edge_of bound.now) block.now }
     ensures strict { IsStrict block.now }
 {
+    if begins_within(block, bound) {
+        return 0;
+    }
     match bound {
         Bound::Included(key) => block.first_at_least(key.as_slice()),
         Bound::Excluded(key) => block.first_above(key.as_slice()),
     }
 }
 
-/// How many entries of a block stand up to an upper bound.
+/// How many entries of a block stand up to an upper bound. A search is made only where the bound cuts the block's back.
 fn first_past<A: Allocator>(block: &DataBlock<A>, bound: &Bound<A>) -> usize
     ensures place { result ≡ upper_place (edge_of bound.now) block.now }
     ensures strict { IsStrict block.now }
 {
+    if ends_within(block, bound) {
+        return block.len();
+    }
     match bound {
         Bound::Included(key) => block.first_above(key.as_slice()),
         Bound::Excluded(key) => block.first_at_least(key.as_slice()),
