@@ -2,9 +2,8 @@
 use Rattle.std.proofs.Common.{◌≡◌, refl, ◌∙◌, ap, sym, Bool, true, false, ◌⊎◌, inl, inr, List, [], ◌∷◌, ◌++◌}
 use Rattle.std.specs.Prelude.{if◌then◌else◌}
 use Rattle.std.proofs.lemmas.Bool.{cases_Bool}
-use Rattle.std.proofs.lemmas.List.{append-nil}
-use Rattle.lsm_files.specs.Parts.{parts_after, parts_by, rest_part}
-use Rattle.lsm_filter_writers.specs.Cutting.{closed_after, closed_by, waiting_after, waiting_by}
+use Rattle.lsm_files.specs.Parts.{parts_after, rest_part}
+use Rattle.lsm_filter_writers.specs.Cutting.{closed_after, waiting_after}
 
 pub closed_none : {A : Type 0} (full : List A → Bool) (w : List A) → closed_after full w [] ≡ []
 unfolding closed_after

@@ -1,16 +1,17 @@
 -- Which keys a writer of partitions stands for, step by step.
-use Rattle.std.proofs.Common.{◌≡◌, refl, ◌∙◌, ap, sym, subst, ℕ, ◌+◌, ◌-◌, ◌^◌, ◌<◌, ◌≤◌, nat_le, Bool, true, false, inl, inr, List, [], ◌∷◌, ◌++◌, length, Option, Some, None, arith}
-use Rattle.std.specs.Prelude.{map, min, sum_by}
+use Rattle.std.proofs.Common.{◌≡◌, refl, ◌∙◌, ap, sym, subst, ℕ, ◌+◌, nat_le, Bool, true, false, List, [], ◌∷◌, ◌++◌, length, Some, None, arith}
+use Rattle.std.specs.Prelude.{map}
 use Rattle.std.proofs.lemmas.List.{append-nil, length-map, map-append}
 use Rattle.std.proofs.lemmas.List.Sums.{sum_by-append, sum_by-cons}
 use Rattle.sst_sections.specs.Fnv.{fnv1a}
+use Rattle.sst_blocks.specs.Bounds.{capped}
 use Rattle.sst_filters.specs.Filter.{BloomFilter}
 use Rattle.sst_filters.specs.Policy.{bound_for, fault_for, size_for, tenths_of}
 use Rattle.sst_filters.specs.declared.policy.BloomConstructionPolicy.{BloomConstructionPolicy}
 use Rattle.lsm_files.specs.Filters.{AreFiltersFor, IsFilterFor, is_full_filter, last_of_keys}
 use Rattle.lsm_files.specs.Parts.{parts_by, rest_part}
 use Rattle.lsm_filter_writers.specs.Cutting.{closed_by, waiting_by}
-use Rattle.lsm_filter_writers.specs.Held.{capped, CutPart, CutParts, Cuts, end_keys, filters_of, HoldsAll, HoldsParts, last_key_of}
+use Rattle.lsm_filter_writers.specs.Held.{CutPart, CutParts, Cuts, end_keys, filters_of, HoldsAll, HoldsParts, last_key_of}
 use Rattle.lsm_filter_writers.specs.Refusing.{keys_fault, parts_bound}
 use Rattle.lsm_filter_writers.specs.Rising.{AreRising}
 use Rattle.lsm_filter_writers.proofs.CutLaws.{closed_none, closed_cut, closed_same, parts_split, waiting_none, waiting_cut, waiting_more}
@@ -30,6 +31,10 @@ holds_none w parts bound hashes last =
       last = rw (waiting, last) refl;
     }
 
+no_ends : (ps : List CutPart) → end_keys ps ≡ [] → ps ≡ []
+no_ends [] e = refl
+no_ends (p ∷ ps) e = cc
+
 -- as a writer holds, before there are keys, so it does with other options
 pub holds_none_again : (w v : CutParts) → HoldsParts w [] → v.parts ≡ w.parts → v.bound ≡ w.bound → v.hashes ≡ w.hashes → v.last ≡ w.last → HoldsParts v []
 holds_none_again w v h parts bound hashes last =
@@ -38,10 +43,20 @@ holds_none_again w v h parts bound hashes last =
     let waiting : waiting_by full [] ≡ [] = waiting_none full [] in
     let ends : end_keys w.parts ≡ [] = rw closed at h.ends in
     holds_none v (parts ∙ no_ends w.parts ends) (bound ∙ rw closed at h.bound) (hashes ∙ rw waiting at h.hashes) (last ∙ rw waiting at h.last)
-  where
-    no_ends : (ps : List CutPart) → end_keys ps ≡ [] → ps ≡ []
-    no_ends [] e = refl
-    no_ends (p ∷ ps) e = cc
+
+-- without keys nothing waits, and nothing was cut
+pub none_waits : (w : CutParts) → HoldsParts w [] → w.last ≡ None
+none_waits w h =
+    let waiting : waiting_by (is_full_filter w.policy w.size) [] ≡ [] = waiting_none (is_full_filter w.policy w.size) [] in
+    rw waiting at h.last
+
+pub none_cut : (v : CutParts) → HoldsAll v [] → v.parts ≡ []
+none_cut v h =
+    let full = is_full_filter v.policy v.size in
+    let closed : closed_by full [] ≡ [] = closed_none full [] in
+    let waiting : waiting_by full [] ≡ [] = waiting_none full [] in
+    let all : parts_by full [] ≡ [] = parts_split full [] [] ∙ rw (closed, waiting) refl in
+    no_ends v.parts (rw all at h.ends)
 
 -- a key's hash came to those that wait
 pub record Adds (key : List ℕ) (w v : CutParts) : Type 0 where

@@ -16,7 +16,7 @@ use Rattle.sst_blocks.specs.Block.{block_bytes}
 use Rattle.sst_blocks.specs.Handle.{Handle}
 use Rattle.sst_blocks.specs.Handles.{AreStrictHandles, end_of}
 use Rattle.sst_blocks.specs.Place.{Place}
-use Rattle.sst_blocks.specs.Bounds.{handle_bound}
+use Rattle.sst_blocks.specs.Bounds.{capped, handle_bound}
 use Rattle.sst_blocks.specs.Encoding.{handles_fault, is_long_key, key_fault}
 use Rattle.sst_entries.specs.Entry.{Entry}
 use Rattle.sst_entries.specs.Error.{Faults}
@@ -38,7 +38,7 @@ use Rattle.lsm_files.specs.Layout.{Sections, appended}
 use Rattle.lsm_files.specs.Partitions.{Partition, handles_block, tops_from}
 use Rattle.lsm_files.specs.Parts.{parts_by}
 use Rattle.lsm_files.proofs.BlockLengths.{length-block}
-use Rattle.lsm_filter_writers.specs.Held.{capped, CutPart, CutParts, end_keys, filters_of, Hashes, HoldsAll, HoldsHashes, partition_of}
+use Rattle.lsm_filter_writers.specs.Held.{CutPart, CutParts, end_keys, filters_of, Hashes, HoldsAll, HoldsHashes, partition_of}
 use Rattle.lsm_filter_writers.specs.Refusing.{end_handle, filter_fault, keys_fault, parts_bound, section_fault, top_fault}
 use Rattle.lsm_filter_writers.specs.Writing.{part_sections, tops_block, tops_of, WritesFilter}
 
@@ -276,7 +276,33 @@ finish_none v size policy cs keys before h same same' parts none =
     subst (λ (s : ℕ). WritesFilter (Partitioned s) policy keys before before 0) same'
     (subst (λ p. WritesFilter (Partitioned v.size) p keys before before 0) same (parts_none v keys before h (sym parts ∙ none)))
 
--- and what it refuses
+-- and what it refuses: nothing without parts
+pub finish_none_fault : (v : CutParts) (size : ℕ) (policy : BloomConstructionPolicy) (cs : List CutPart) (keys : List (List ℕ)) (failed : Bool) →
+    failed ≡ false → keys_fault policy (waiting_by (is_full_filter policy size) keys) ≡ None → HoldsAll v keys → v.policy ≡ policy → v.size ≡ size → cs ≡ v.parts → cs ≡ [] →
+    option_or (failed_fault failed) (filter_fault (Partitioned size) policy keys) ≡ None
+finish_none_fault v size policy cs keys failed works rest h same same' parts none =
+    let nothing : parts_by (is_full_filter policy size) keys ≡ [] = rw (same, same') at (parts_of_none v keys h (sym parts ∙ none)) in
+    rw (works, rest, nothing) refl
+
+-- their section, where it is too large
+pub finish_large : (v : CutParts) (size : ℕ) (policy : BloomConstructionPolicy) (b : ℕ) (keys : List (List ℕ)) (failed : Bool) →
+    failed ≡ false → keys_fault policy (waiting_by (is_full_filter policy size) keys) ≡ None → HoldsAll v keys → v.policy ≡ policy → v.size ≡ size → b ≡ v.bound → 2 ^ 32 ≤ b →
+    option_or (failed_fault failed) (filter_fault (Partitioned size) policy keys) ≡ Some SectionTooLarge
+finish_large v size policy b keys failed works rest h same same' bound le =
+    let ps = parts_by (is_full_filter policy size) keys in
+    let sum : b ≡ capped (parts_bound policy ps) = bound ∙ rw (same, same') at h.bound in
+    rw (works, rest, section_large (parts_bound policy ps) (reached (parts_bound policy ps) (subst (λ (x : ℕ). 2 ^ 32 ≤ x) sum le))) refl
+  where
+    reached : (s : ℕ) → 2 ^ 32 ≤ capped s → 2 ^ 32 ≤ s
+    reached s le = omega (arith, le)
+
+    section_large : (n : ℕ) → 2 ^ 32 ≤ n → section_fault n ≡ Some SectionTooLarge
+    section_large n le = ap (λ (b : Bool). if b then Some SectionTooLarge else None) (large n le)
+      where
+        large : (n : ℕ) → 2 ^ 32 ≤ n → nat_le (2 ^ 32) n ≡ true
+        large n le = grind (arith, nat_tests, le)
+
+-- the top level, where the section fits
 section_fits : (n : ℕ) → n < 2 ^ 32 → section_fault n ≡ None
 section_fits n lt = ap (λ (b : Bool). if b then Some SectionTooLarge else None) (small n lt)
   where

@@ -1,4 +1,4 @@
--- What a writer of either kind holds.
+-- What a writer of either kind holds, and the same writer with other options.
 use Rattle.std.specs.Prelude.{ℕ, Bool, List}
 use Rattle.sst_filters.specs.declared.policy.BloomConstructionPolicy.{BloomConstructionPolicy}
 use Rattle.lsm_files.specs.declared.options.FilterKind.{FilterKind}
@@ -22,3 +22,13 @@ failed_by (PartitionedWriter w) = w.failed
 abbrev pub HoldsBy : {A : Type 0} → FilterWriterImpl A → List (List ℕ) → Type 0
 HoldsBy (FullWriter w) keys = HoldsHashes w keys
 HoldsBy (PartitionedWriter w) keys = HoldsParts w keys
+
+abbrev pub with_policy_by : {A : Type 0} → FilterWriterImpl A → BloomConstructionPolicy
+    → FilterWriterImpl A
+with_policy_by (FullWriter w) policy = FullWriter (record w { policy = policy })
+with_policy_by (PartitionedWriter w) policy = PartitionedWriter (record w { policy = policy })
+
+-- a full filter has no partitions
+abbrev pub with_size_by : {A : Type 0} → FilterWriterImpl A → ℕ → FilterWriterImpl A
+with_size_by (FullWriter w) size = FullWriter w
+with_size_by (PartitionedWriter w) size = PartitionedWriter (record w { size = size })

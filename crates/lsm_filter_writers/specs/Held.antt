@@ -1,6 +1,7 @@
 -- What writers of filters hold, and the keys that it stands for.
-use Rattle.std.specs.Prelude.{◌≡◌, ℕ, ◌+◌, ◌-◌, ◌^◌, Bool, List, [], ◌∷◌, ◌++◌, length, map, min, Option, Some, None}
+use Rattle.std.specs.Prelude.{◌≡◌, ℕ, ◌+◌, Bool, List, [], ◌∷◌, ◌++◌, length, map, Option, Some, None}
 use Rattle.sst_blocks.specs.Block.{header_len}
+use Rattle.sst_blocks.specs.Bounds.{capped}
 use Rattle.sst_sections.specs.Fnv.{fnv1a}
 use Rattle.sst_filters.specs.declared.policy.BloomConstructionPolicy.{BloomConstructionPolicy}
 use Rattle.sst_filters.specs.Filter.{BloomFilter, payload_of}
@@ -60,9 +61,6 @@ last_key_of (k ∷ keys) = Some (last_of_keys (k ∷ keys))
 abbrev pub as_list : Option (List ℕ) → List (List ℕ)
 as_list None = []
 as_list (Some key) = key ∷ []
-
-abbrev pub capped : ℕ → ℕ
-capped n = min n (2 ^ 64 - 1)
 
 -- these are the keys: the parts that are cut of them have the filters, and the rest waits
 pub record HoldsParts (w : CutParts) (keys : List (List ℕ)) : Type 0 where

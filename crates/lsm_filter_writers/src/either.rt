@@ -16,7 +16,7 @@ pub enum FilterWriterImpl<A: Allocator = Global> {
 }
 
 impl<A: Allocator + Clone> FilterWriter<A> for FilterWriterImpl<A> {
-    ghost use Rattle.lsm_filter_writers.specs.Either.{HoldsBy, failed_by, kind_by, policy_by};
+    ghost use Rattle.lsm_filter_writers.specs.Either.{HoldsBy, failed_by, kind_by, policy_by, with_policy_by, with_size_by};
 
     ghost kind = { λ w. kind_by w };
 
@@ -25,6 +25,10 @@ impl<A: Allocator + Clone> FilterWriter<A> for FilterWriterImpl<A> {
     ghost has_failed = { λ w. failed_by w };
 
     ghost Holds = { λ w keys. HoldsBy w keys };
+
+    ghost with_policy = { λ w policy. with_policy_by w policy };
+
+    ghost with_partition_size = { λ w size. with_size_by w size };
 
     fn register_key(&mut self, key: &UserKey<A>) -> Result<(), Error> {
         match self {

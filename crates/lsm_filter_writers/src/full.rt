@@ -58,6 +58,10 @@ impl<A: Allocator + Clone> FilterWriter<A> for FullFilterWriter<A> {
 
     ghost Holds = { HoldsHashes };
 
+    ghost with_policy = { λ w policy. record w { policy = policy } };
+
+    ghost with_partition_size = { λ w _. w };
+
     fn register_key(&mut self, key: &UserKey<A>) -> Result<(), Error> {
         if self.failed {
             return Err(Error::WriterFailed); // nothing is registered

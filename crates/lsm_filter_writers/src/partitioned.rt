@@ -1,12 +1,11 @@
 //! The writer of a filter of partitions.
-ghost use Rattle.std.specs.Prelude.{◌≡◌, ◌++◌, ◌∷◌, ℕ, List, [], None, true, false, nat_le, length, map, take, All, IfOk, IfErr, OnOk};
+ghost use Rattle.std.specs.Prelude.{◌≡◌, ◌++◌, ◌∷◌, ℕ, List, [], None, true, false, nat_le, length, map, take, All, IfOk, IfErr, OnOk, OnErr};
 ghost use Rattle.lsm_filter_writers.specs.Words.{AreRising, AreStrictHandles, Cuts, Faults, FaultsFirst};
 ghost use Rattle.lsm_filter_writers.specs.Words.{HasNoFilter, HoldsAll, HoldsParts, SectionFits};
 ghost use Rattle.lsm_filter_writers.specs.Words.{appended, end_keys, fault_for, filter_block, filters_of};
 ghost use Rattle.lsm_filter_writers.specs.Words.{handles_block, handles_fault, is_full_filter, keys_fault};
 ghost use Rattle.lsm_filter_writers.specs.Words.{part_sections, register_fault, size_for, slot_index};
-ghost use Rattle.lsm_filter_writers.specs.Words.{tenths_of, top_fault, tops_block, tops_of};
-ghost use Rattle.lsm_filter_writers.specs.Words.{waiting_by};
+ghost use Rattle.lsm_filter_writers.specs.Words.{tenths_of, top_fault, tops_block, tops_of, waiting_by};
 ghost use Rattle.std.specs.List.{flat_map};
 ghost use Rattle.lsm_files.specs.declared.options.FilterKind.TheVariants.{Partitioned};
 ghost use Rattle.sst_entries.specs.declared.error.Error.TheVariants.{OutOfMemory};
@@ -167,6 +166,8 @@ impl<A: Allocator + Clone> PartitionedFilterWriter<A> {
         ensures refused { (keys : List (List ℕ)) → HoldsParts self.old keys →
             let full = is_full_filter self.old.policy self.old.size in
             Faults result (keys_fault self.old.policy (waiting_by full keys)) }
+        // Where nothing is pending it succeeds.
+        ensures idle { OnErr result (self.old.last ≡ None → ⊥) }
     {
         match self.last_key.take() {
             None => Ok(()),
@@ -186,6 +187,10 @@ impl<A: Allocator + Clone> FilterWriter<A> for PartitionedFilterWriter<A> {
     ghost has_failed = { λ w. w.failed };
 
     ghost Holds = { HoldsParts };
+
+    ghost with_policy = { λ w policy. record w { policy = policy } };
+
+    ghost with_partition_size = { λ w size. record w { size = size } };
 
     fn register_key(&mut self, key: &UserKey<A>) -> Result<(), Error> {
         if self.failed {

@@ -32,6 +32,12 @@ pub trait FilterWriter<A: Allocator> {
     /// It stands for these keys. Of most keys nothing but their hashes is kept.
     ghost Holds: { Self → List (List ℕ) → Type 0 };
 
+    /// The same writer with another policy.
+    ghost with_policy: { Self → BloomConstructionPolicy → Self };
+
+    /// The same writer with another size of partitions, where it has partitions.
+    ghost with_partition_size: { Self → ℕ → Self };
+
     /// Registers a key, which is greater than those before it. Refused [`Error::WriterFailed`] where it has refused before;
     /// [`Error::BlockTooLarge`] where the filter of a part that is cut behind the key is too large; and
     /// [`Error::OutOfMemory`]. It has then failed.
@@ -49,9 +55,13 @@ pub trait FilterWriter<A: Allocator> {
         // That it has failed takes no memory to find.
         ensures first { FaultsFirst result (failed_fault (has_failed self.old)) };
 
-    /// Writes the filter, and answers of how many blocks it is. Without keys it writes nothing. Refused
-    /// [`Error::WriterFailed`] where it has refused before, where a block or a section is too large, and
-    /// [`Error::OutOfMemory`]; the bytes that were written before stay.
+    /// Writes the filter, and answers how many blocks are counted: 1 for a full filter, also without keys, else how many
+    /// partitions there are. Without keys it writes nothing, and takes no memory.
+    ///
+    /// Refused [`Error::WriterFailed`] where it has refused before; [`Error::BlockTooLarge`] where the filter of all keys, or
+    /// of those behind the last cut, is too large; then, of partitions alone, [`Error::SectionTooLarge`] where their blocks
+    /// are, [`Error::KeyTooLong`] where the last key of one of them is too long for the top level, and
+    /// [`Error::BlockTooLarge`] where the top level is; and [`Error::OutOfMemory`]. The bytes that were written before stay.
     fn finish(self, writer: &mut SectionWriter<A>) -> Result<usize, Error>
         requires { HasNoFilter writer.old }
         ensures ok { IfOk result (λ n. (keys : List (List ℕ)) → Holds self keys →
@@ -60,10 +70,15 @@ pub trait FilterWriter<A: Allocator> {
         ensures refused { (keys : List (List ℕ)) → Holds self keys →
             Faults result (option_or (failed_fault (has_failed self))
             (filter_fault (kind self) (policy self) keys)) }
-        ensures first { FaultsFirst result (failed_fault (has_failed self)) };
+        ensures first { FaultsFirst result (failed_fault (has_failed self)) }
+        // Without keys, only a writer that has failed refuses.
+        ensures idle { OnErr result (Holds self [] → has_failed self ≡ true) };
 
-    /// Sets how large the filter is made, before there are keys.
+    /// Sets how large the filter is made, and changes nothing else: the keys that were registered stay. Partitions that were
+    /// cut stay as they are, so what [`FilterWriter::finish`] promises of partitions holds where the policy was set before
+    /// the first key.
     fn set_filter_policy(self, bloom_policy: BloomConstructionPolicy) -> Self
+        ensures value { result ≡ with_policy self bloom_policy }
         ensures policy { policy result ≡ bloom_policy }
         ensures kind { kind result ≡ kind self }
         ensures failed { has_failed result ≡ has_failed self }
@@ -71,13 +86,17 @@ pub trait FilterWriter<A: Allocator> {
 
     /// Compresses the top level, where the filter has partitions. What it holds and what it writes stay.
     fn use_tli_compression(self, compression: CompressionType) -> Self
+        ensures value { result ≡ self }
         ensures policy { policy result ≡ policy self }
         ensures kind { kind result ≡ kind self }
         ensures failed { has_failed result ≡ has_failed self }
         ensures holds { (keys : List (List ℕ)) → Holds self keys → Holds result keys };
 
-    /// Sets the size in bytes at which a partition is cut, where the filter has partitions, before there are keys.
+    /// Sets the size in bytes at which a partition is cut, where the filter has partitions, and changes nothing else: what was
+    /// registered and what was cut stay. What [`FilterWriter::finish`] promises of partitions holds where the size was set
+    /// before the first key.
     fn use_partition_size(self, size: u32) -> Self
+        ensures value { result ≡ with_partition_size self size }
         ensures policy { policy result ≡ policy self }
         ensures kind { kind result ≡ with_size size (kind self) }
         ensures failed { has_failed result ≡ has_failed self }

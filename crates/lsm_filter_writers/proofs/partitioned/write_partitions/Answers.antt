@@ -1,6 +1,5 @@
 -- One part more is written.
 use Rattle.std.proofs.Common.{◌≡◌, ap, refl, ◌∙◌}
-use Rattle.sst_blocks.specs.Handle.{Handle}
 use Rattle.sst_filters.specs.Filter.{payload_of}
 use Rattle.lsm_filter_writers.specs.Held.{CutPart}
 use Rattle.lsm_filter_writers.proofs.Sections.{written_more, written_none}

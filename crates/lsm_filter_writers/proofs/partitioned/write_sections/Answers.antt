@@ -1,5 +1,5 @@
 -- The top level has the handles of the parts.
-use Rattle.std.proofs.Common.{◌≡◌, ap, sym, ◌∙◌, length, arith}
+use Rattle.std.proofs.Common.{ap, ◌∙◌, length, arith}
 use Rattle.sst_entries.proofs.Refusals.{faults_refusal}
 use Rattle.lsm_filter_writers.proofs.Sections.{length_tops, tops_fault, tops_strict}
 use Rattle.lsm_filter_writers.proofs.partitioned.write_sections.Goals as goal

@@ -1,5 +1,5 @@
 -- The key fills a part, or waits.
-use Rattle.std.proofs.Common.{◌≡◌, ◌++◌, ◌∷◌, [], ap, refl, sym, ◌∙◌, List, ℕ}
+use Rattle.std.proofs.Common.{◌++◌, ◌∷◌, [], ap, refl, ◌∙◌, List, ℕ}
 use Rattle.sst_blocks.proofs.HandleFaults.{on_ok}
 use Rattle.sst_sections.specs.Fnv.{fnv1a}
 use Rattle.lsm_filter_writers.specs.Held.{CutParts}

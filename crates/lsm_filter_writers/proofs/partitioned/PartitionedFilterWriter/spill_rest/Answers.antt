@@ -1,5 +1,5 @@
 -- What waits is the last part.
-use Rattle.std.proofs.Common.{◌≡◌, ap, refl, sym, ◌∙◌, Some, None}
+use Rattle.std.proofs.Common.{ap, sym, ◌∙◌}
 use Rattle.std.proofs.lemmas.List.{append-nil}
 use Rattle.sst_blocks.proofs.HandleFaults.{on_ok}
 use Rattle.lsm_filter_writers.specs.Held.{as_list, CutParts, end_keys}

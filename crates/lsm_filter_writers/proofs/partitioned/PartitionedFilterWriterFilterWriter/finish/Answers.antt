@@ -1,9 +1,11 @@
 -- All parts are written, or nothing where there are none.
-use Rattle.std.proofs.Common.{◌≡◌, ◌<◌, ◌^◌, ap, refl, sym, subst, ◌∙◌, arith}
-use Rattle.lsm_filter_writers.specs.Held.{as_list, CutParts, end_keys}
-use Rattle.lsm_filter_writers.proofs.Emptiness.{vec_is_some}
+use Rattle.std.proofs.Common.{◌≡◌, [], true, ap, refl, sym, ◌∙◌, arith}
+use Rattle.sst_entries.proofs.StreamLemmas.{on_err}
+use Rattle.lsm_filter_writers.specs.Held.{as_list, CutParts, end_keys, HoldsParts}
+use Rattle.lsm_filter_writers.proofs.Emptiness.{vec_is_empty, vec_is_some}
+use Rattle.lsm_filter_writers.proofs.Holding.{none_cut, none_waits}
 use Rattle.lsm_filter_writers.proofs.RisingLaws.{rising_front}
-use Rattle.lsm_filter_writers.proofs.Sections.{faults_same, finish_fault, finish_writes, written_blocks}
+use Rattle.lsm_filter_writers.proofs.Sections.{faults_same, finish_fault, finish_large, finish_none, finish_none_fault, finish_writes, written_blocks}
 use Rattle.lsm_filter_writers.proofs.partitioned.PartitionedFilterWriterFilterWriter.finish.Goals as goal
 
 pub write_sections-requires-clause-rising : goal.write_sections-requires-clause-rising
@@ -28,3 +30,41 @@ returns-clause-refused g c = λ keys h.
     (ap (λ (w : CutParts). w.parts) c.self-2.view_is) (ap (λ (w : CutParts). w.bound) c.self-2.view_is)
     (omega (arith, c.from.ensures, c.if-self-from.false)))
     c.write_sections.ensures.refused
+
+pub returns-then-is_empty-clause-ok : goal.returns-then-is_empty-clause-ok
+returns-then-is_empty-clause-ok g c = λ keys h.
+    finish_none c.spill_rest.new.self c.args.self.size c.args.self.policy c.self-2.inside.partitions.items keys c.args.writer.now
+    (c.in_ok-spill_rest.ensures.ok keys h) c.spill_rest.ensures.policy c.spill_rest.ensures.size (ap (λ (w : CutParts). w.parts) c.self-2.view_is)
+    (vec_is_empty c.self-2.inside.partitions c.self-2.inside.partitions.items c.is_empty.result refl c.is_empty.ensures c.if-is_empty.true)
+
+pub returns-then-is_empty-clause-refused : goal.returns-then-is_empty-clause-refused
+returns-then-is_empty-clause-refused g c = λ keys h.
+    finish_none_fault c.spill_rest.new.self c.args.self.size c.args.self.policy c.self-2.inside.partitions.items keys c.args.self.failed
+    (sym (ap (λ (w : CutParts). w.failed) c.self.view_is) ∙ c.if-self.false) (c.in_ok-spill_rest.ensures.refused keys h)
+    (c.in_ok-spill_rest.ensures.ok keys h) c.spill_rest.ensures.policy c.spill_rest.ensures.size (ap (λ (w : CutParts). w.parts) c.self-2.view_is)
+    (vec_is_empty c.self-2.inside.partitions c.self-2.inside.partitions.items c.is_empty.result refl c.is_empty.ensures c.if-is_empty.true)
+
+pub returns-then-self-from-clause-refused : goal.returns-then-self-from-clause-refused
+returns-then-self-from-clause-refused g c = λ keys h told.
+    finish_large c.spill_rest.new.self c.args.self.size c.args.self.policy c.self-2.inside.relative_file_pos keys c.args.self.failed
+    (sym (ap (λ (w : CutParts). w.failed) c.self.view_is) ∙ c.if-self.false) (c.in_ok-spill_rest.ensures.refused keys h)
+    (c.in_ok-spill_rest.ensures.ok keys h) c.spill_rest.ensures.policy c.spill_rest.ensures.size (ap (λ (w : CutParts). w.bound) c.self-2.view_is)
+    (omega (arith, c.from.ensures, c.if-self-from.true))
+
+-- without keys nothing waits, and there are no parts
+pub returns-in_err-spill_rest-clause-idle : goal.returns-in_err-spill_rest-clause-idle
+returns-in_err-spill_rest-clause-idle g c =
+    let none : HoldsParts c.args.self [] → c.args.self.failed ≡ true = λ h. absurd (c.in_err-spill_rest.ensures.idle (none_waits c.args.self h)) in
+    on_err c.from_residual.result none
+
+pub returns-then-self-from-clause-idle : goal.returns-then-self-from-clause-idle
+returns-then-self-from-clause-idle g c = λ h.
+    absurd (vec_is_some c.self-2.inside.partitions c.self-2.inside.partitions.items c.is_empty.result refl c.is_empty.ensures c.if-is_empty.false
+    (ap (λ (w : CutParts). w.parts) c.self-2.view_is ∙ none_cut c.spill_rest.new.self (c.in_ok-spill_rest.ensures.ok [] h)))
+
+pub returns-clause-idle : goal.returns-clause-idle
+returns-clause-idle g c =
+    let none : HoldsParts c.args.self [] → c.args.self.failed ≡ true = λ h.
+    absurd (vec_is_some c.self-2.inside.partitions c.self-2.inside.partitions.items c.is_empty.result refl c.is_empty.ensures c.if-is_empty.false
+    (ap (λ (w : CutParts). w.parts) c.self-2.view_is ∙ none_cut c.spill_rest.new.self (c.in_ok-spill_rest.ensures.ok [] h))) in
+    on_err c.write_sections.result none

@@ -1,5 +1,5 @@
 -- The key is greater than the last keys of the parts.
-use Rattle.std.proofs.Common.{◌≡◌, ◌++◌, ◌∷◌, [], ap, sym, subst, ◌∙◌}
+use Rattle.std.proofs.Common.{◌++◌, ◌∷◌, [], ap, sym, subst, ◌∙◌}
 use Rattle.lsm_filter_writers.specs.Held.{CutParts, end_keys}
 use Rattle.lsm_filter_writers.specs.Rising.{AreRising}
 use Rattle.lsm_filter_writers.proofs.Holding.{ends_and_key}
