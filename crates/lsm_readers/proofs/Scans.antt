@@ -9,15 +9,15 @@ use Rattle.std.proofs.lemmas.Option.{slice_get_within, get_or_from_slice_get}
 use Rattle.sst_blocks.specs.declared.block_type.BlockType.TheVariants.{Data}
 use Rattle.sst_entries.specs.declared.error.Error.{Error}
 use Rattle.sst_entries.specs.declared.error.Error.TheVariants.{OutOfMemory, SeqNoOverflow, Truncated, InvalidHeader, InvalidTag, ChecksumMismatch, InvalidBlock, KeyTooLong, ValueTooLong, BlockTooLarge, SectionTooLarge, InvalidTrailer, MissingSection, MetaKeyMissing, InvalidMetaValue, UnsupportedTableVersion, UnsupportedHashType, UnsupportedChecksumType, UnsupportedIndexInterval, UnsupportedCompression, GlobalSeqNoTooLarge, TableIdsSpent, WriterFailed, Source}
-use Rattle.sst_blocks.specs.Block.{Loaded, load_at_told, entries_of}
+use Rattle.sst_blocks.specs.Block.{Loaded, load_at_told, position_fault, entries_of}
 use Rattle.sst_entries.specs.Entry.{Entry}
-use Rattle.sst_entries.specs.Error.{is_memory}
+use Rattle.sst_entries.specs.Error.{FaultsFirst, is_memory}
 use Rattle.sst_blocks.specs.declared.opened.Opened.{Opened}
 use Rattle.sst_blocks.specs.Opened.{with_load}
 use Rattle.sst_entries.specs.Stream.{Answers, Deals, CanDeal, first, but_first, front_of, nowhere, answer_stops}
 use Rattle.sst_entries.proofs.StreamLemmas.{head_eq, deals_by, can_by}
 use Rattle.lsm_readers.specs.Answer.{lifted}
-use Rattle.lsm_readers.specs.Scan.{IsEnded, Scan, ScanHas, ScansNext, TakesEntry, behind, block_told, blocks_told, ended, entries_from, entries_told, fault_of, lifted_told, loads, scan_loads_behind, loads_from, loads_of, scan_left, scan_size, scan_told, then_blocks, unless_left, up_to_error}
+use Rattle.lsm_readers.specs.Scan.{FaultsAtBlock, IsEnded, Scan, ScanHas, ScansNext, TakesEntry, behind, block_told, blocks_told, ended, entries_from, entries_told, fault_of, lifted_told, loads, scan_loads_behind, loads_from, loads_of, scan_left, scan_size, scan_told, then_blocks, unless_left, up_to_error}
 use Rattle.lsm_readers.specs.Read.{◌>>=◌}
 
 abbrev R : Type 0
@@ -157,9 +157,14 @@ gave_none s done = record {
 
 -- ---- the blocks that a call goes through
 
--- from s the call has come to u, of which as much is left
+-- the next block has no fault that is found before memory is taken
+abbrev HasNoFault : Scan → Type 0
+HasNoFault s = (e : Error) → position_fault s.body s.position Data ≡ Some e → ⊥
+
+-- from s the call has come to u, of which as much is left; either no block was read yet, or the first had no fault
 pub record Reached (s u : Scan) : Type 0 where
   pub left : scan_left u ≡ scan_left s
+  pub start : (s ≡ u) ⊎ HasNoFault s
   pub ended : IsEnded s → IsEnded u
   pub count : ℕ
   pub counts : u.opened ≡ loads count s.opened
@@ -167,7 +172,7 @@ pub record Reached (s u : Scan) : Type 0 where
   pub needs : count + loads_of u ≡ loads_of s
 
 pub reached_first : (s : Scan) → Reached s s
-reached_first s = record { left = refl; ended = λ e. e; count = 0; counts = refl; falls = omega arith; needs = omega arith }
+reached_first s = record { left = refl; start = inl refl; ended = λ e. e; count = 0; counts = refl; falls = omega arith; needs = omega arith }
 
 ended_too : (s u : Scan) (m : Type 0) → (IsEnded s → IsEnded u) → IsEnded s ⊎ m → IsEnded u ⊎ m
 ended_too s u m on (inl e) = inl (on e)
@@ -197,12 +202,20 @@ needs_next : (u : Scan) (n : ℕ) (es : List Entry) (next : ℕ) → u.entries �
 needs_next u n es next none some told =
     needs_first u n none some ∙ ap (λ (r : Result (List Entry × ℕ) Error). suc (scan_loads_behind r (λ next. loads_from u.body next n))) told
 
-pub reached_next : (s u : Scan) (es : List Entry) (next : ℕ) → Reached s u → u.entries ≡ [] → 0 < u.blocks → block_told u.body u.position ≡ Ok (es, next) → Reached s (moved u es next)
-reached_next s u es next reached none some told =
+abbrev loaded : Result (Unit {0}) Error
+loaded = Ok tt
+
+no_fault : (s u : Scan) → (s ≡ u) ⊎ HasNoFault s → FaultsFirst loaded (position_fault u.body u.position Data) → HasNoFault s
+no_fault s u (inl same) ahead = subst HasNoFault (sym same) (λ e h. let wrong : Some e ≡ None = ahead e h in cc)
+no_fault s u (inr none) ahead = none
+
+pub reached_next : (s u : Scan) (es : List Entry) (next : ℕ) → Reached s u → u.entries ≡ [] → 0 < u.blocks → block_told u.body u.position ≡ Ok (es, next) → FaultsFirst loaded (position_fault u.body u.position Data) → Reached s (moved u es next)
+reached_next s u es next reached none some told ahead =
     let n = u.blocks - 1 in
     let k : u.blocks ≡ suc n = omega (arith, some) in
     record {
       left = sym (next_is u n none k ∙ ap (next_left u.body u.global_seqno n) told) ∙ reached.left;
+      start = inr (no_fault s u reached.start ahead);
       ended = λ e. absurd (omega (arith, some, (reached.ended e).1));
       count = suc reached.count;
       counts = ap (with_load Data) reached.counts;
@@ -224,6 +237,25 @@ all_loaded s u e es reached some =
     let none : loads_of u ≡ 0 = ap (λ (xs : List Entry). unless_left xs (loads_from u.body u.position u.blocks)) some in
     omega (arith, reached.needs, none)
 
+abbrev refused : Error → Result (Unit {0}) Error
+refused e = Err e
+
+-- where an entry is left, and where nothing is left to read, no block was asked for or the first had no fault
+early_entry : (s u : Scan) (e : Entry) (es : List Entry) (r : Option R) → (s ≡ u) ⊎ HasNoFault s → u.entries ≡ e ∷ es → FaultsAtBlock s r
+early_entry s u e es r (inl same) some none more fault h = absurd (let wrong : [] ≡ e ∷ es = sym none ∙ ap (λ (v : Scan). v.entries) same ∙ some in cc)
+early_entry s u e es r (inr calm) some none more fault h = absurd (calm fault h)
+
+early_none : (s u : Scan) (r : Option R) → (s ≡ u) ⊎ HasNoFault s → u.blocks ≡ 0 → FaultsAtBlock s r
+early_none s u r (inl same) last none more fault h = absurd (omega (arith, more, ap (λ (v : Scan). v.blocks) same, last))
+early_none s u r (inr calm) last none more fault h = absurd (calm fault h)
+
+-- the refusal of the block that was reached
+early_block : (s u : Scan) (e : Error) → (s ≡ u) ⊎ HasNoFault s → FaultsFirst (refused e) (position_fault u.body u.position Data) → FaultsAtBlock s (Some (Err e))
+early_block s u e (inl same) ahead none more fault h =
+    let is : Some fault ≡ Some e = ahead fault (ap (λ (v : Scan). position_fault v.body v.position Data) (sym same) ∙ h) in
+    cc
+early_block s u e (inr calm) ahead none more fault h = absurd (calm fault h)
+
 entry_ok : (s u : Scan) (e : Entry) (es : List Entry) (x : Entry) → Reached s u → u.entries ≡ e ∷ es → lifted_told u.global_seqno e ≡ Ok x → ScansNext s (Some (Ok x)) (record u { entries = es })
 entry_ok s u e es x reached some told =
     let left : scan_left u ≡ Ok x ∷ scan_left (record u { entries = es }) =
@@ -233,6 +265,7 @@ entry_ok s u e es x reached some told =
     record {
       answers = answers_from s u (record u { entries = es }) (Some (Ok x)) reached (gave_entry u (record u { entries = es }) x left);
       ends = tt;
+      early = early_entry s u e es (Some (Ok x)) reached.start some;
       count = reached.count;
       counts = reached.counts;
       within = omega (arith, reached.falls);
@@ -250,6 +283,7 @@ entry_err s u e es fault reached some told =
     record {
       answers = answers_from s u (ended u) (Some (Err fault)) reached (gave_error u (ended u) fault left (has_entry u e es some) (refl, refl));
       ends = (refl, refl);
+      early = early_entry s u e es (Some (Err fault)) reached.start some;
       count = reached.count;
       counts = reached.counts;
       within = omega (arith, reached.falls);
@@ -278,14 +312,15 @@ fault_is (Err f) e h = let same : f ≡ e = cc in ap (λ (x : Error). Err x) sam
 one_load : (u : Scan) (n : ℕ) {e : Error} → block_told u.body u.position ≡ Err e → scan_loads_behind (block_told u.body u.position) (λ next. loads_from u.body next n) ≡ 0
 one_load u n told = ap (λ (r : Result (List Entry × ℕ) Error). scan_loads_behind r (λ next. loads_from u.body next n)) told
 
-pub scans_fault : (s u t : Scan) (e : Error) → Reached s u → u.entries ≡ [] → 0 < u.blocks → (is_memory e ≡ false → fault_of (block_told u.body u.position) ≡ Some e) → t ≡ halted u → ScansNext s (Some (Err e)) t
-scans_fault s u t e reached none some told is =
+pub scans_fault : (s u t : Scan) (e : Error) → Reached s u → u.entries ≡ [] → 0 < u.blocks → (is_memory e ≡ false → fault_of (block_told u.body u.position) ≡ Some e) → FaultsFirst (refused e) (position_fault u.body u.position Data) → t ≡ halted u → ScansNext s (Some (Err e)) t
+scans_fault s u t e reached none some told ahead is =
     let n = u.blocks - 1 in
     let k : u.blocks ≡ suc n = omega (arith, some) in
     let left = λ (m : is_memory e ≡ false). next_is u n none k ∙ ap (next_left u.body u.global_seqno n) (fault_is (block_told u.body u.position) e (told m)) in
     let step : ScansNext s (Some (Err e)) (halted u) = record {
       answers = answers_from s u (halted u) (Some (Err e)) reached (gave_error u (halted u) e left (has_block u some) (refl, refl));
       ends = (refl, refl);
+      early = early_block s u e reached.start ahead;
       count = suc reached.count;
       counts = ap (with_load Data) reached.counts;
       within = omega (arith, reached.falls, some);
@@ -319,6 +354,7 @@ scans_none s u end last =
     record {
       answers = answers_from s u u None end.reached (gave_none u done);
       ends = done;
+      early = early_none s u None (end.reached).start done.1;
       count = (end.reached).count;
       counts = (end.reached).counts;
       within = omega (arith, (end.reached).falls);

@@ -1,5 +1,5 @@
 //! Point reads, over whatever blocks can be loaded from.
-ghost use Rattle.std.specs.Prelude.{◌≡◌, ◌+◌, ◌<◌, ◌^◌, Option, IfOk, IfErr};
+ghost use Rattle.std.specs.Prelude.{◌≡◌, ◌+◌, ◌<◌, ◌^◌, [], Option, IfOk, IfErr, IsOk};
 ghost use Rattle.std.specs.Option.{option_map};
 ghost use Rattle.sst_entries.specs.declared.error.Error.TheVariants.{OutOfMemory};
 ghost use Rattle.lsm_readers.specs.Words.{DoesRead, Entry, FaultsFirst, Gives, LoadsFew, Opens, admission};
@@ -183,7 +183,8 @@ fn read_in<S: LoadBlocks>(
 
 /// The first entry of a key numbered below `seqno`, its number with the global number added. The source is its only way to
 /// a block that is not pinned: at most one filter block is loaded, one index block, and one data block, the first whose end
-/// reaches the key at that number. Refused with the first fault of loading them, and [`Error::OutOfMemory`].
+/// reaches the key at that number. Refused with the first fault of loading them, and [`Error::OutOfMemory`]; where none is
+/// loaded, as where a filter says no that is pinned or has no partition for the key, nothing is refused.
 pub fn point_in<S: LoadBlocks>(
     source: &mut S,
     inner: &Inner<S::Alloc>,
@@ -199,6 +200,10 @@ pub fn point_in<S: LoadBlocks>(
     ensures early { let parts = parts_of inner.now in
         let read = answer (S.body source.old) inner.now.global_seqno parts key.now seqno in
         FaultsFirst result read.early }
+    // Without a load nothing is refused: memory is taken only for a block.
+    ensures calm { let parts = parts_of inner.now in
+        let read = answer (S.body source.old) inner.now.global_seqno parts key.now seqno in
+        read.loads ≡ [] → IsOk result }
     ensures body { S.body source.new ≡ S.body source.old }
     // It makes the loads of the read, and no others.
     ensures opened { let parts = parts_of inner.now in

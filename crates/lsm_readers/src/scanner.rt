@@ -17,7 +17,8 @@ use std::marker::Model;
 ///
 /// The first block is read when the scanner is made, each further one when a step first needs it. Where a block cannot be
 /// loaded its fault comes in the place of its entries, and [`Error::SeqNoOverflow`] in the place of an entry whose number
-/// passes `u64` with the global number added. After an error, [`Error::OutOfMemory`] among them, nothing more comes.
+/// passes `u64` with the global number added. What the header of a step's first block says, and its checksum, comes before
+/// any want of memory. After an error, [`Error::OutOfMemory`] among them, nothing more comes.
 #[derive(Drop)]
 pub struct Scanner<A: Allocator = Global> {
     source: BlockSource<A>,
@@ -178,6 +179,7 @@ impl<A: Allocator + Clone> Scanner<A> {
         ensures err { IfErr result (λ e.
             self.new ≡ record (ended self.old) { opened = with_load Data self.old.opened }) }
         ensures refused { Faults result (fault_of (block_told self.old.body self.old.position)) }
+        ensures early { FaultsFirst result (position_fault self.old.body self.old.position Data) }
     {
         match block_at(&self.source, self.position, &mut self.opened) {
             Ok((block, position)) => {

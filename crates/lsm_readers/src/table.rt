@@ -1,6 +1,6 @@
 //! Tables: opening a table's bytes, and reading from them.
-ghost use Rattle.std.specs.Prelude.{◌≡◌, ◌≢◌, ◌+◌, ℕ, Bool, List, [], Option, Some, Result, Ok, Err, false, true, length, IfOk, IfErr, MatchResult};
-ghost use Rattle.lsm_readers.specs.Words.{BloomFilter, CanDeal, Deals, Entry, Faults, FaultsFirst, Gives, Handle, IsOpen, IsRecovered, IsTable};
+ghost use Rattle.std.specs.Prelude.{◌≡◌, ◌≢◌, ◌+◌, ℕ, Bool, List, [], Option, Some, Result, Ok, Err, false, true, length, IfOk, IfErr, IsOk, MatchResult};
+ghost use Rattle.lsm_readers.specs.Words.{BloomFilter, CanDeal, Deals, Entry, Faults, FaultsFirst, Gives, Handle, IsOpen, IsRecovered, IsTable, NamesBlocksOf};
 ghost use Rattle.lsm_readers.specs.Words.{Loaded, LoadsFew, OpenTable, Opens, SaysList, Scan, ScansList, answer_stops, body_of, early_fault, early_in, ends_of};
 ghost use Rattle.lsm_readers.specs.Words.{facts_of, fault_of, filter_len, filter_told, fitting_told, fnv1a, handles_told, index_len, index_of, index_told, key_bound, lift};
 ghost use Rattle.lsm_readers.specs.Words.{list_told, load_at_told, load_told, none_opened, nowhere, number_told, overlaps_bounds, parts_of, parts_told};
@@ -320,6 +320,8 @@ impl<A: Allocator + Clone> Table<A> {
             (table_answer self.now key.now seqno).told }
         // What is found before memory is taken is the refusal, whatever memory there is.
         ensures early { FaultsFirst result.0 (table_answer self.now key.now seqno).early }
+        // Where no block is loaded nothing is refused.
+        ensures calm { (table_answer self.now key.now seqno).loads ≡ [] → IsOk result.0 }
         ensures opened { let loads = (table_answer self.now key.now seqno).loads in
             Opens result.0 loads none_opened result.1 }
         ensures few { LoadsFew self.now.parts none_opened result.1 }
@@ -337,7 +339,8 @@ impl<A: Allocator + Clone> Table<A> {
 
     /// The first entry of a key numbered below `seqno`, its number with the global number added. `key_hash` is the key's
     /// [`Table::key_hash`]. Refused with the first fault of loading the blocks that the read rests on, at most one of the filter,
-    /// one of the index and one of data, and [`Error::OutOfMemory`]; nothing changes then.
+    /// one of the index and one of data, and [`Error::OutOfMemory`]; nothing changes then. Where none is loaded, as where a filter
+    /// says no that is pinned or has no partition for the key, nothing is refused.
     pub fn get(
         &self,
         key: &[u8],
@@ -348,6 +351,7 @@ impl<A: Allocator + Clone> Table<A> {
         ensures told { Gives (λ (found : Option Entry). found) result
             (table_answer self.now key.now seqno).told }
         ensures early { FaultsFirst result (table_answer self.now key.now seqno).early }
+        ensures calm { (table_answer self.now key.now seqno).loads ≡ [] → IsOk result }
         ensures recovered { IsRecovered self.now }
         // On a table of a list it is the first match in the list, its numbers lifted.
         ensures list { (es : List Entry) → IsTable self.now.bytes es →
@@ -398,6 +402,9 @@ impl<A: Allocator + Clone> Table<A> {
     /// each iterator loads, or partitions below the top level. Nothing is loaded. Refused [`Error::OutOfMemory`] alone.
     pub fn block_index(&self) -> Result<BlockIndexImpl<A>, Error>
         ensures index { IfOk result (λ index. index_read index ≡ table_index self.now) }
+        // On a table of a list it has the handles of the table's data blocks between any two edges.
+        ensures list { (es : List Entry) (t : IsTable self.now.bytes es) →
+            IfOk result (λ index. NamesBlocksOf t (index_read index)) }
         ensures err { IfErr result (λ e. e ≡ OutOfMemory) }
     {
         let inner: &Inner<A> = &self.inner;

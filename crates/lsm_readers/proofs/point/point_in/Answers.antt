@@ -17,6 +17,13 @@ returns-in_err-handle-clause-early g c =
     c.in_err-handle.field-0.0 _ _ c.in_err-handle.ensures.read c.from_residual.ensures.1 in
     does.early
 
+pub returns-in_err-handle-clause-calm : goal.returns-in_err-handle-clause-calm
+returns-in_err-handle-clause-calm g c =
+    let inner = c.args.inner.now in
+    let does = answer_fails (g.S.LoadBlocks.body c.args.source.now) inner.global_seqno (parts_of inner) c.args.key.now c.args.seqno c.saturating_sub-low.result c.saturating_sub-low.ensures c.from_residual.result
+    c.in_err-handle.field-0.0 _ _ c.in_err-handle.ensures.read c.from_residual.ensures.1 in
+    does.calm
+
 pub returns-in_err-handle-clause-opened : goal.returns-in_err-handle-clause-opened
 returns-in_err-handle-clause-opened g c =
     let inner = c.args.inner.now in
@@ -40,6 +47,14 @@ returns-in-Some-clause-early g c =
     c.in-Some.handle _ _ _ _ found c.admitted_handle.ensures.body c.read_in.ensures.read in
     does.early
 
+pub returns-in-Some-clause-calm : goal.returns-in-Some-clause-calm
+returns-in-Some-clause-calm g c =
+    let inner = c.args.inner.now in
+    let found = rw c.in-Some.is at c.in_ok-handle.ensures.read in
+    let does = answer_at (g.S.LoadBlocks.body c.args.source.now) inner.global_seqno (parts_of inner) c.args.key.now c.args.seqno c.saturating_sub-low.result c.saturating_sub-low.ensures c.read_in.result
+    c.in-Some.handle _ _ _ _ found c.admitted_handle.ensures.body c.read_in.ensures.read in
+    does.calm
+
 pub returns-in-Some-clause-opened : goal.returns-in-Some-clause-opened
 returns-in-Some-clause-opened g c =
     let inner = c.args.inner.now in
@@ -61,6 +76,13 @@ returns-in-None-clause-early g c =
     let found = rw c.in-None.is at c.in_ok-handle.ensures.read in
     let does = answer_none (g.S.LoadBlocks.body c.args.source.now) inner.global_seqno (parts_of inner) c.args.key.now c.args.seqno c.saturating_sub-low.result c.saturating_sub-low.ensures _ _ found in
     does.early
+
+pub returns-in-None-clause-calm : goal.returns-in-None-clause-calm
+returns-in-None-clause-calm g c =
+    let inner = c.args.inner.now in
+    let found = rw c.in-None.is at c.in_ok-handle.ensures.read in
+    let does = answer_none (g.S.LoadBlocks.body c.args.source.now) inner.global_seqno (parts_of inner) c.args.key.now c.args.seqno c.saturating_sub-low.result c.saturating_sub-low.ensures _ _ found in
+    does.calm
 
 pub returns-in-None-clause-opened : goal.returns-in-None-clause-opened
 returns-in-None-clause-opened g c =

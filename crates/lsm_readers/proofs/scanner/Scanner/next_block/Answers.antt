@@ -1,4 +1,6 @@
 use Rattle.std.proofs.Common.{ap, sym, ◌∙◌}
+use Rattle.sst_blocks.specs.Block.{position_fault}
+use Rattle.sst_blocks.specs.declared.block_type.BlockType.TheVariants.{Data}
 use Rattle.lsm_readers.specs.Scan.{Scan, block_told, fault_of}
 use Rattle.lsm_readers.proofs.Scans.{moved_is, halted_is}
 use Rattle.lsm_readers.proofs.scanner.Scanner.next_block.Goals as goal
@@ -19,3 +21,9 @@ returns-in-Err-clause-refused g c memory = ap (λ (s : Scan). fault_of (block_to
 
 pub returns-in-Err-clause-err : goal.returns-in-Err-clause-err
 returns-in-Err-clause-err g c = c.end.ensures ∙ halted_is _ c.args.self.now c.block_at.new.opened c.self.view_is c.in-Err.ensures.counted
+
+pub returns-in-Ok-clause-early : goal.returns-in-Ok-clause-early
+returns-in-Ok-clause-early g c e told = c.in-Ok.ensures.early e (ap (λ (s : Scan). position_fault s.body s.position Data) c.self.view_is ∙ told)
+
+pub returns-in-Err-clause-early : goal.returns-in-Err-clause-early
+returns-in-Err-clause-early g c e told = c.in-Err.ensures.early e (ap (λ (s : Scan). position_fault s.body s.position Data) c.self.view_is ∙ told)

@@ -1,5 +1,5 @@
-use Rattle.std.proofs.Common.{◌∙◌, ap, subst, sym, Option}
-use Rattle.std.specs.Prelude.{Result}
+use Rattle.std.proofs.Common.{◌≡◌, ◌∙◌, [], ap, subst, sym, Option}
+use Rattle.std.specs.Prelude.{IsOk, Result}
 use Rattle.sst_entries.specs.declared.error.Error.{Error}
 use Rattle.sst_entries.specs.Entry.{Entry}
 use Rattle.sst_entries.specs.Error.{FaultsFirst, Gives}
@@ -24,6 +24,12 @@ returns-clause-early g c =
     let same = ap (table_of c.self.inside.source) c.deref-inner.ensures ∙ c.self.view_is in
     let is = table_read c.new-source.result.0 c.self.inside.source c.deref-inner.result.now c.args.self.now c.args.key.now c.args.seqno c.new-source.ensures.source same in
     subst (λ (r : Read (Option Entry)). FaultsFirst c.point_in-found.result r.early) is c.point_in-found.ensures.early
+
+pub returns-clause-calm : goal.returns-clause-calm
+returns-clause-calm g c =
+    let same = ap (table_of c.self.inside.source) c.deref-inner.ensures ∙ c.self.view_is in
+    let is = table_read c.new-source.result.0 c.self.inside.source c.deref-inner.result.now c.args.self.now c.args.key.now c.args.seqno c.new-source.ensures.source same in
+    subst (λ (r : Read (Option Entry)). r.loads ≡ [] → IsOk c.point_in-found.result) is c.point_in-found.ensures.calm
 
 pub returns-clause-opened : goal.returns-clause-opened
 returns-clause-opened g c =
