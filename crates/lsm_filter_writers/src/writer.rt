@@ -86,11 +86,7 @@ pub trait FilterWriter<A: Allocator> {
 
     /// Compresses the top level, where the filter has partitions. What it holds and what it writes stay.
     fn use_tli_compression(self, compression: CompressionType) -> Self
-        ensures value { result ≡ self }
-        ensures policy { policy result ≡ policy self }
-        ensures kind { kind result ≡ kind self }
-        ensures failed { has_failed result ≡ has_failed self }
-        ensures holds { (keys : List (List ℕ)) → Holds self keys → Holds result keys };
+        ensures { result ≡ self };
 
     /// Sets the size in bytes at which a partition is cut, where the filter has partitions, and changes nothing else: what was
     /// registered and what was cut stay. What [`FilterWriter::finish`] promises of partitions holds where the size was set
