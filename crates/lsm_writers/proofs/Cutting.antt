@@ -32,7 +32,7 @@ use Rattle.sst_entries.proofs.Lists.{all_append, all_more}
 use Rattle.lsm_writers.proofs.Orders.{last_of-append, last_of_cons, HasSome, handles_strict}
 
 -- what a header says of the length
-len_again : (p rest : List ℕ) → length p < 2 ^ 32 → data_len (block_bytes V4 DataKind p ++ rest) ≡ length p
+pub len_again : (p rest : List ℕ) → length p < 2 ^ 32 → data_len (block_bytes V4 DataKind p ++ rest) ≡ length p
 len_again p rest short =
     let n = length p in
     let e : data_len (block_bytes V4 DataKind p ++ rest) ≡ num4 (le4 n ++ (le4 n ++ (le8 (fnv1a p) ++ (p ++ rest)))) = ap num4 (simp append_assoc) in
@@ -41,7 +41,7 @@ len_again p rest short =
 header_len : (p : List ℕ) → length (header V4 DataKind p) ≡ 24
 header_len p = simp (length-append, wide4.len, wide8.len)
 
-past_header : (p rest : List ℕ) → drop 24 (block_bytes V4 DataKind p ++ rest) ≡ p ++ rest
+pub past_header : (p rest : List ℕ) → drop 24 (block_bytes V4 DataKind p ++ rest) ≡ p ++ rest
 past_header p rest = ap (λ (x : List ℕ). drop 24 x) (append_assoc (header V4 DataKind p) p rest) ∙ drop_at (header V4 DataKind p) (p ++ rest) 24 (header_len p)
 
 pub block_len : (c : List Entry) → length (data_block V4 c) ≡ block_size V4 c

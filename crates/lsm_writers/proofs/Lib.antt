@@ -1,7 +1,15 @@
 pub mod Orders
 pub mod Refused
 pub mod Cutting
+pub mod DataBack
+pub mod CutTables
+pub mod Rotating
+pub mod Turning
+pub mod AllTables
+pub mod Fitting
+pub mod Whole
 pub mod Taking
+pub mod Beginning
 pub mod Chunking
 pub mod Laying
 pub mod Keys

@@ -12,21 +12,16 @@ use Rattle.sst_blocks.specs.Bounds.{data_block_bound_of, entry_bound}
 use Rattle.sst_blocks.specs.Encoding.{is_long_key, length_fault, entries_fault, large_fault}
 use Rattle.sst_entries.specs.Entry.{Entry, entry}
 use Rattle.lsm_files.specs.Chunks.{joined, entry_size, entries_size, is_full}
-use Rattle.sst_entries.specs.Strict.{IsStrictAfter, IsStrict, last_of}
+use Rattle.sst_entries.specs.Strict.{IsStrict, last_of}
 use Rattle.sst_entries.specs.declared.value_type.ValueType.TheVariants.{Value}
 use Rattle.sst_sections.specs.declared.version.TableVersion.TheVariants.{V4}
 use Rattle.lsm_writers.specs.declared.writer.meta.Metadata.{Metadata}
 use Rattle.lsm_writers.specs.declared.writer.meta.Tally.{Tally}
-use Rattle.lsm_writers.specs.Counts.{no_counts, metadata_of, brought, tally_of, added, with_entry, HasRoom}
-use Rattle.lsm_writers.specs.Cut.{Cut, rest_chunk, with_cut}
+use Rattle.lsm_writers.specs.Counts.{metadata_of, brought, tally_of, added, with_entry, HasRoom}
+use Rattle.lsm_writers.specs.Cut.{rest_chunk, with_cut}
 use Rattle.lsm_files.specs.Facts.{count_after, lowest_seqno, highest_seqno, is_tombstone, is_weak, is_reclaimable, starts_key, one_if, first_key}
-use Rattle.lsm_files.specs.Filters.{keys_after}
-use Rattle.lsm_files.specs.Fits.{EntryFits, LabelFits}
-use Rattle.lsm_files.specs.declared.label.Label.{Label}
-use Rattle.lsm_files.specs.declared.options.Options.{Options}
-use Rattle.lsm_files.specs.Options.{default_options}
-use Rattle.lsm_writers.specs.Filtering.{IsFiltered}
-use Rattle.lsm_writers.specs.Held.{IsUnfilled, IsHeld, CanGoOn, IsShortest}
+use Rattle.lsm_files.specs.Fits.{EntryFits}
+use Rattle.lsm_writers.specs.Held.{IsUnfilled, IsHeld, IsShortest}
 use Rattle.lsm_writers.specs.Writing.{item_fault, may_be_written}
 use Rattle.lsm_writers.proofs.Cutting.{joined_more}
 use Rattle.sst_entries.proofs.Lists.{all_append, all_behind}
@@ -71,15 +66,6 @@ item_large es e k v h = rw (le-ltb _ _ k, lt-leb _ _ v) (too_large es e h)
 
 pub item_fits : (es : List Entry) (e : Entry) → length e.user_key ≤ 1048576 → length e.value < 2 ^ 32 → 28 + 17 * (length es + 1) + (entries_size es + entry_size e) < 2 ^ 32 → item_fault es e ≡ None
 item_fits es e k v h = rw (le-ltb _ _ k, lt-leb _ _ v) (fits_still es e h)
-
--- ---- between the calls
-
-pub nothing_held : {A : Type 0} (size : ℕ) (cut : Cut) (pending : List Entry) (meta : Metadata A) (label : Label) (options : Options) → cut ≡ record { chunks = []; failed = false } → pending ≡ [] → meta ≡ no_counts → LabelFits label → options ≡ default_options → IsHeld size cut.chunks pending 0 meta × CanGoOn false size cut pending × LabelFits label × IsFiltered {A = A} false options.filter_kind options.bloom_policy None (joined cut.chunks ++ pending)
-unfolding IsStrictAfter last_of count_after keys_after lowest_seqno highest_seqno
-nothing_held size cut pending meta label options c p m fits o =
-    let held : IsHeld size [] [] 0 meta = record { strict = tt; fits = tt; shortest = tt; front = λ n lt le. absurd (omega (arith, lt, le)); counted = m; sized = refl; small = omega arith } in
-    let ready : CanGoOn false size (record { chunks = []; failed = false }) [] = record { works = λ _. refl; room = λ _. tt } in
-    rw (c, p, o) (held, ready, fits, record { small = omega arith; has = λ _. refl })
 
 -- ---- one entry more
 

@@ -3,4 +3,5 @@ pub mod Cut
 pub mod Writing
 pub mod Filtering
 pub mod Held
+pub mod Tables
 pub mod Words

@@ -18,7 +18,8 @@ pub use Rattle.lsm_filter_writers.specs.Writing.{WritesFilter, with_size as filt
 pub use Rattle.lsm_index_writers.specs.Registered.{with_size as index_with_size}
 pub use Rattle.lsm_writers.specs.Counts.{metadata_of, tally_of}
 pub use Rattle.lsm_writers.specs.Cut.{CountsCut, Cut, IsReadable, rest_chunk, with_cut}
-pub use Rattle.lsm_writers.specs.Filtering.{CanRegister, HasKeys, MayHaveKeys, registered_key}
-pub use Rattle.lsm_writers.specs.Writing.{WritesTable, sections_fault}
+pub use Rattle.lsm_writers.specs.Filtering.{CanRegister, HasKeys, IsSmallFilter, MayHaveKeys, registered_key}
+pub use Rattle.lsm_files.specs.Facts.{starts_key}
+pub use Rattle.lsm_writers.specs.Writing.{WritesTable, fresh_writing, sections_fault}
 pub use Rattle.lsm_writers.specs.Writing.{IsFinished, IsFresh, finish_fault, gained, item_fault}
 pub use Rattle.lsm_writers.specs.Writing.{may_be_written, new_writing, spilled, write_fault, written}

@@ -140,9 +140,13 @@ pub record IsWritable (es : List Entry) : Type 0 where
   pub numbered : AllByRecursion (λ (e : Entry). e.seqno < 2 ^ 64 - 1) es
 
 -- a writer of a table that has no entry yet
+abbrev pub fresh_writing : Label → Options → Writing
+fresh_writing label options =
+    record { label = label; options = options; cut = []; pending = []; failed = false }
+
+-- the same with the options that hold where none are told
 abbrev pub new_writing : Label → Writing
-new_writing label =
-    record { label = label; options = default_options; cut = []; pending = []; failed = false }
+new_writing label = fresh_writing label default_options
 
 -- the first fault of writing some entries one by one and then finishing
 abbrev pub writing_fault : Writing → List Entry → Option Error
@@ -153,15 +157,19 @@ writing_fault w (e ∷ es) = option_or (write_fault w e) (writing_fault (gained 
 abbrev pub list_fault : Label → List Entry → Option Error
 list_fault label es = writing_fault (new_writing label) es
 
--- a finished table of a list, of which no block was spilled before it was full: its id, its
--- checksum and its bytes
-pub record IsTableOf (label : Label) (es : List Entry) (id : ℕ) (checksum : ℕ)
-    (bytes : List ℕ) : Type 0 where
+-- a finished table of a list under a label and with options, of which no block was spilled before it
+-- was full: its id, its checksum and its bytes
+pub record IsTableWith (label : Label) (options : Options) (es : List Entry) (id : ℕ)
+    (checksum : ℕ) (bytes : List ℕ) : Type 0 where
   pub some : es ≡ [] → ⊥
   pub id_is : id ≡ label.table_id
   pub checksum_is : checksum ≡ fnv1a bytes
   pub table : IsTable bytes es
   pub label_is : table.label ≡ label
-  pub options_are : table.options ≡ default_options
+  pub options_are : table.options ≡ options
   pub version_is : table.version ≡ V4
   pub spills_are : table.spills ≡ []
+
+-- the same with the options that hold where none are told
+abbrev pub IsTableOf : Label → List Entry → ℕ → ℕ → List ℕ → Type 0
+IsTableOf label es id checksum bytes = IsTableWith label default_options es id checksum bytes

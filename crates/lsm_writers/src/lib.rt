@@ -2,6 +2,8 @@
 #![tactic(auto)]
 
 mod list;
+mod multi_writer;
+mod table_ids;
 mod writer;
 
 pub use list::{is_writable, write_list};
@@ -10,10 +12,12 @@ pub use lsm_files::{
     Timestamp, TreeId,
 };
 pub use lsm_filter_writers::{
-    FilterWriter, FilterWriterImpl, FullFilterWriter, PartitionedFilterWriter,
+    FilterWriter, FilterWriterImpl, FullFilterWriter, PartitionedFilterWriter, small_partitions_fit,
 };
 pub use lsm_index_writers::{
     BlockIndexWriter, FullIndexWriter, IndexWriterImpl, PartitionedIndexWriter,
 };
+pub use multi_writer::{MultiWriter, tables_law};
+pub use table_ids::TableIds;
 pub use writer::meta::Metadata;
 pub use writer::{FinishedTable, Writer};

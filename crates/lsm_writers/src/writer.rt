@@ -1,11 +1,10 @@
 //! Writing a table.
 ghost use Rattle.std.specs.Prelude.{◌≡◌, ◌↔◌, ◌<◌, ◌≤◌, ◌+◌, ◌*◌, ◌^◌, List, [], ◌∷◌, ◌++◌, None, Some, false, true, length, IsTrue, IfOk, IfErr, OnOk, OnErr, MatchResult, MatchOption};
-ghost use Rattle.lsm_writers.specs.Words.{EntryFits, Faults, FaultsFirst, HasNoVersion, IsFinished, IsFresh};
+ghost use Rattle.lsm_writers.specs.Words.{EntryFits, Faults, FaultsFirst, HasNoVersion, IsFinished, IsFresh, IsSmallFilter};
 ghost use Rattle.lsm_writers.specs.Words.{IsStrict, LabelFits, WritesTable, appended, entries_size, entry_size};
 ghost use Rattle.lsm_writers.specs.Words.{failed_fault, filter_with_size, finish_fault, fnv1a, gained};
 ghost use Rattle.lsm_writers.specs.Words.{index_with_size, item_fault, label_of, last_of, may_be_written};
-ghost use Rattle.lsm_writers.specs.Words.{metadata_of, new_writing, sections_fault, spilled, version_section};
-ghost use Rattle.lsm_writers.specs.Words.{write_fault, written};
+ghost use Rattle.lsm_writers.specs.Words.{fresh_writing, metadata_of, new_writing, sections_fault, spilled, starts_key, version_section, write_fault, written};
 ghost use Rattle.std.specs.Option.{option_copied};
 ghost use Rattle.sst_entries.specs.declared.error.Error.TheVariants.{OutOfMemory};
 ghost use Rattle.sst_sections.specs.declared.version.TableVersion.TheVariants.{V4};
@@ -24,7 +23,7 @@ use filter::{finish_filter, register_key};
 use lsm_files::{BloomConstructionPolicy, FilterKind, IndexKind, Label, Options};
 use lsm_filter_writers::FilterWriterImpl;
 use lsm_index_writers::BlockIndexWriter;
-use meta::{Metadata, Tally};
+use meta::{Metadata, Tally, starts_key};
 use meta_block::{BlockCounts, write_meta};
 use sst_blocks::{
     Checksum, CompressionType, Error, InternalKey, InternalValue, SectionName, SectionWriter,
@@ -78,14 +77,40 @@ impl<A: Allocator + Clone> Writer<A> {
         ensures ok { IfOk result (λ w. w ≡ new_writing (label_of id initial_level created_at)) }
         ensures err { IfErr result (λ e. e ≡ OutOfMemory) }
     {
+        let label = Label {
+            table_id: id,
+            initial_level,
+            created_at,
+        };
+        Writer::fresh(alloc, label, Options::default())
+    }
+
+    /// A writer of another table that has no entry yet, with the same level, moment and options. Refused
+    /// [`Error::OutOfMemory`] alone.
+    pub(crate) fn successor(&self, id: TableId) -> Result<Writer<A>, Error>
+        ensures ok { IfOk result (λ w.
+            w ≡ fresh_writing (record self.now.label { table_id = id }) self.now.options) }
+        ensures err { IfErr result (λ e. e ≡ OutOfMemory) }
+    {
+        let label = Label {
+            table_id: id,
+            initial_level: self.label.initial_level,
+            created_at: self.label.created_at,
+        };
+        Writer::fresh(self.chunk.allocator().clone()?, label, self.options)
+    }
+
+    /// A writer that has no entry yet. Refused [`Error::OutOfMemory`] alone.
+    fn fresh(alloc: A, label: Label, options: Options) -> Result<Writer<A>, Error>
+        requires label { LabelFits label }
+        requires small { IsSmallFilter options.filter_kind }
+        ensures ok { IfOk result (λ w. w ≡ fresh_writing label options) }
+        ensures err { IfErr result (λ e. e ≡ OutOfMemory) }
+    {
         let chunk = Vec::new(alloc.clone()?);
         Ok(Writer {
-            label: Label {
-                table_id: id,
-                initial_level,
-                created_at,
-            },
-            options: Options::default(),
+            label,
+            options,
             blocks: DataBlocks::new(alloc)?,
             chunk,
             chunk_size: 0,
@@ -93,6 +118,13 @@ impl<A: Allocator + Clone> Writer<A> {
             filter_writer: None,
             failed: false,
         })
+    }
+
+    /// Whether an entry is the first of its key, if it is written next.
+    pub(crate) fn starts_key(&self, item: &InternalValue<A>) -> bool
+        ensures { result ≡ starts_key (last_of None (written self.now)) item.now }
+    {
+        starts_key(last_written(&self.chunk, self.blocks.last()), item)
     }
 
     /// Whether no entry was given yet, also none that was refused.
@@ -213,9 +245,9 @@ impl<A: Allocator + Clone> Writer<A> {
         ensures first { FaultsFirst result (failed_fault self.failed) }
         // Where nothing was written, only a writer that has failed refuses.
         ensures idle { OnErr result (written self ≡ [] → self.failed ≡ true) }
-        // The list that was written is strict, and its entries fit the fields of a table.
-        ensures strict { IfOk result (λ t. IsStrict (written self)) }
-        ensures fits { IfOk result (λ t. AllByRecursion (EntryFits V4) (written self)) }
+        // The list that was written is strict, and its entries fit the fields of a table, whatever is answered.
+        ensures strict { IsStrict (written self) }
+        ensures fits { AllByRecursion (EntryFits V4) (written self) }
     {
         self.spill_block()?;
         if self.meta.item_count == 0 {

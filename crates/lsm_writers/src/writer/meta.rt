@@ -64,7 +64,10 @@ impl<A: Allocator> Default for Metadata<A> {
 }
 
 /// Whether an entry is the first of its key, by the entry directly before it.
-fn starts_key<A: Allocator>(before: Option<&InternalValue<A>>, item: &InternalValue<A>) -> bool
+pub(crate) fn starts_key<A: Allocator>(
+    before: Option<&InternalValue<A>>,
+    item: &InternalValue<A>,
+) -> bool
     ensures { result ≡ starts_key (option_copied before.entry) item.now }
 {
     match before {

@@ -1,5 +1,8 @@
 use Rattle.std.proofs.Common.{◌≡◌, ◌∙◌, ap, sym, subst, true, []}
-use Rattle.lsm_files.specs.Fits.{LabelFits}
+use Rattle.std.specs.List.{AllByRecursion}
+use Rattle.sst_sections.specs.declared.version.TableVersion.TheVariants.{V4}
+use Rattle.sst_entries.specs.Strict.{IsStrict}
+use Rattle.lsm_files.specs.Fits.{EntryFits, LabelFits}
 use Rattle.sst_entries.proofs.StreamLemmas.{on_err}
 use Rattle.lsm_files.specs.Chunks.{joined}
 use Rattle.lsm_writers.specs.Writing.{Writing, WritesTable, written}
@@ -21,18 +24,6 @@ returns-then-self-eq0-clause-refused g c =
     let held = spilled_is c.args.self _ i.chunk_size i.meta (c.self.view_is ∙ c.in_ok-spill_block.ensures.ok) c.self.invariant.0 in
     no_finish_fault c.args.self i.chunk_size i.meta held c.in_ok-spill_block.ensures.refused c.if-self-eq0.true
 
-pub returns-then-self-eq0-clause-strict : goal.returns-then-self-eq0-clause-strict
-returns-then-self-eq0-clause-strict g c =
-    let i = c.self.inside in
-    let held = spilled_is c.args.self _ i.chunk_size i.meta (c.self.view_is ∙ c.in_ok-spill_block.ensures.ok) c.self.invariant.0 in
-    written_strict c.args.self i.chunk_size i.meta held
-
-pub returns-then-self-eq0-clause-fits : goal.returns-then-self-eq0-clause-fits
-returns-then-self-eq0-clause-fits g c =
-    let i = c.self.inside in
-    let held = spilled_is c.args.self _ i.chunk_size i.meta (c.self.view_is ∙ c.in_ok-spill_block.ensures.ok) c.self.invariant.0 in
-    written_fits c.args.self i.chunk_size i.meta held
-
 pub returns-clause-table : goal.returns-clause-table
 returns-clause-table g c =
     let i = c.self.inside in
@@ -48,18 +39,6 @@ returns-clause-table g c =
 pub returns-clause-refused : goal.returns-clause-refused
 returns-clause-refused g c = sym (sections_fault_is c.args.self _ c.in_ok-spill_block.ensures.ok c.in_ok-spill_block.ensures.refused) ∙ c.in_ok-table.ensures.refused
 
-pub returns-clause-strict : goal.returns-clause-strict
-returns-clause-strict g c =
-    let i = c.self.inside in
-    let held = spilled_is c.args.self _ i.chunk_size i.meta (c.self.view_is ∙ c.in_ok-spill_block.ensures.ok) c.self.invariant.0 in
-    written_strict c.args.self i.chunk_size i.meta held
-
-pub returns-clause-fits : goal.returns-clause-fits
-returns-clause-fits g c =
-    let i = c.self.inside in
-    let held = spilled_is c.args.self _ i.chunk_size i.meta (c.self.view_is ∙ c.in_ok-spill_block.ensures.ok) c.self.invariant.0 in
-    written_fits c.args.self i.chunk_size i.meta held
-
 pub returns-in_err-spill_block-clause-idle : goal.returns-in_err-spill_block-clause-idle
 returns-in_err-spill_block-clause-idle g c =
     let w = c.args.self in
@@ -73,3 +52,45 @@ returns-in_err-table-clause-idle g c =
     let held = spilled_is w _ i.chunk_size i.meta (c.self.view_is ∙ c.in_ok-spill_block.ensures.ok) c.self.invariant.0 in
     let idle : written w ≡ [] → w.failed ≡ true = λ e. absurd (written_some w i.chunk_size i.meta held c.if-self-eq0.false e) in
     on_err c.from_residual-in_err-table.result idle
+
+pub returns-in_err-spill_block-clause-strict : goal.returns-in_err-spill_block-clause-strict
+returns-in_err-spill_block-clause-strict g c = subst (λ (w : Writing). IsStrict (written w)) (c.self.view_is ∙ c.in_err-spill_block.ensures.failed) c.self.invariant.0.strict
+
+pub returns-in_err-spill_block-clause-fits : goal.returns-in_err-spill_block-clause-fits
+returns-in_err-spill_block-clause-fits g c = subst (λ (w : Writing). AllByRecursion (EntryFits V4) (written w)) (c.self.view_is ∙ c.in_err-spill_block.ensures.failed) c.self.invariant.0.fits
+
+pub returns-then-self-eq0-clause-strict : goal.returns-then-self-eq0-clause-strict
+returns-then-self-eq0-clause-strict g c =
+    let i = c.self.inside in
+    let held = spilled_is c.args.self _ i.chunk_size i.meta (c.self.view_is ∙ c.in_ok-spill_block.ensures.ok) c.self.invariant.0 in
+    written_strict c.args.self i.chunk_size i.meta held
+
+pub returns-then-self-eq0-clause-fits : goal.returns-then-self-eq0-clause-fits
+returns-then-self-eq0-clause-fits g c =
+    let i = c.self.inside in
+    let held = spilled_is c.args.self _ i.chunk_size i.meta (c.self.view_is ∙ c.in_ok-spill_block.ensures.ok) c.self.invariant.0 in
+    written_fits c.args.self i.chunk_size i.meta held
+
+pub returns-in_err-table-clause-strict : goal.returns-in_err-table-clause-strict
+returns-in_err-table-clause-strict g c =
+    let i = c.self.inside in
+    let held = spilled_is c.args.self _ i.chunk_size i.meta (c.self.view_is ∙ c.in_ok-spill_block.ensures.ok) c.self.invariant.0 in
+    written_strict c.args.self i.chunk_size i.meta held
+
+pub returns-in_err-table-clause-fits : goal.returns-in_err-table-clause-fits
+returns-in_err-table-clause-fits g c =
+    let i = c.self.inside in
+    let held = spilled_is c.args.self _ i.chunk_size i.meta (c.self.view_is ∙ c.in_ok-spill_block.ensures.ok) c.self.invariant.0 in
+    written_fits c.args.self i.chunk_size i.meta held
+
+pub returns-clause-strict : goal.returns-clause-strict
+returns-clause-strict g c =
+    let i = c.self.inside in
+    let held = spilled_is c.args.self _ i.chunk_size i.meta (c.self.view_is ∙ c.in_ok-spill_block.ensures.ok) c.self.invariant.0 in
+    written_strict c.args.self i.chunk_size i.meta held
+
+pub returns-clause-fits : goal.returns-clause-fits
+returns-clause-fits g c =
+    let i = c.self.inside in
+    let held = spilled_is c.args.self _ i.chunk_size i.meta (c.self.view_is ∙ c.in_ok-spill_block.ensures.ok) c.self.invariant.0 in
+    written_fits c.args.self i.chunk_size i.meta held

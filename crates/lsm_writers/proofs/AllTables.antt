@@ -1,0 +1,108 @@
+-- The tables that a writer of many tables answers.
+use Rattle.std.proofs.Common.{◌≡◌, refl, sym, ◌∙◌, ap, subst, ℕ, ◌<◌, Bool, true, false, List, [], ◌∷◌, ◌++◌, length, append-nil, arith}
+use Rattle.std.specs.Prelude.{Option, Some, None, MatchOption, not}
+use Rattle.std.specs.Option.{option_to_list}
+use Rattle.std.specs.declared.cmp.Ordering.{Ordering}
+use Rattle.std.specs.declared.cmp.Ordering.TheVariants.{Less, Equal, Greater}
+use Rattle.std.specs.Ordering.{nat_cmp, is_lt, is_eq, ordering_then}
+use Rattle.std.specs.Cmp.Lexicographic.{slice_cmp, texts_ties}
+use Rattle.std.proofs.lemmas.List.{length-map}
+use Rattle.std.proofs.lemmas.List.Concat.{flat_map-append}
+use Rattle.sst_entries.specs.Entry.{Entry}
+use Rattle.sst_entries.specs.Key.{key_lt, same_key}
+use Rattle.sst_entries.specs.Strict.{IsStrictAfter, is_before, last_of, may_follow}
+use Rattle.sst_entries.proofs.Booleans.{not_is}
+use Rattle.lsm_files.specs.Chunks.{is_full, joined}
+use Rattle.lsm_files.specs.Facts.{starts_key}
+use Rattle.lsm_files.specs.Index.{last_entry}
+use Rattle.lsm_writers.specs.declared.writer.FinishedTable.{FinishedTable}
+use Rattle.lsm_writers.specs.Cut.{rest_chunk}
+use Rattle.lsm_writers.specs.Tables.{AddsTable, AreCuts, AreFinished, AreInKeyOrder, AreTables, GoesOn, all_written, apart, first_label, gained_all, label_before, list_in, lists_in, tables_of}
+use Rattle.lsm_writers.specs.Writing.{IsFinished, Writing, fresh_writing, gained, written}
+use Rattle.lsm_writers.proofs.Chunking.{joined_rest}
+use Rattle.lsm_writers.proofs.Cutting.{rest_is}
+use Rattle.lsm_writers.proofs.Orders.{last_of_cons, strict_back}
+use Rattle.lsm_writers.proofs.Rotating.{all_finished}
+use Rattle.lsm_writers.proofs.Turning.{state_of}
+
+-- ---- the order of their keys
+
+lt_first : (o p : Ordering) → is_lt (ordering_then o p) ≡ true → is_eq o ≡ false → is_lt o ≡ true
+lt_first Less p h apart = refl
+lt_first Equal p h apart = absurd cc
+lt_first Greater p h apart = absurd cc
+
+key_above : (a b : Entry) → is_before a b ≡ true → same_key a.user_key b.user_key ≡ false → key_lt a.user_key b.user_key ≡ true
+key_above a b h other = lt_first (slice_cmp nat_cmp a.user_key b.user_key) _ h (sym (texts_ties a.user_key b.user_key) ∙ other)
+
+-- the first entry behind a list has a greater key, where it has another
+below_first : (before : Option Entry) (x : Entry) (xs : List Entry) (e : Entry) (es : List Entry) → IsStrictAfter before ((x ∷ xs) ++ e ∷ es) → starts_key (last_of None (x ∷ xs)) e ≡ true → key_lt (last_entry (x ∷ xs)).user_key e.user_key ≡ true
+unfolding IsStrictAfter
+below_first before x xs e es strict starts =
+    let last = last_entry (x ∷ xs) in
+    let follows : may_follow (last_of before (x ∷ xs)) e ≡ true = (strict_back before (x ∷ xs) (e ∷ es) strict).0 in
+    let is : is_before last e ≡ true = subst (λ (o : Option Entry). may_follow o e ≡ true) (last_of_cons before x xs) follows in
+    let other : not (same_key last.user_key e.user_key) ≡ true = subst (λ (o : Option Entry). starts_key o e ≡ true) (last_of_cons None x xs) starts in
+    key_above last e is (not_is _ other)
+
+pub in_order : (size target : ℕ) (before : Option Entry) (ts : List (List Entry)) → AreCuts size target ts → IsStrictAfter before (joined ts) → AreInKeyOrder ts
+in_order size target before [] cuts strict = tt
+in_order size target before (t ∷ []) cuts strict = (tt, tt)
+in_order size target before ([] ∷ u ∷ ts) cuts strict = absurd (omega (arith, (cuts.0).some))
+in_order size target before ((x ∷ xs) ∷ [] ∷ ts) cuts strict = absurd (omega (arith, (cuts.2.0).some))
+in_order size target before ((x ∷ xs) ∷ (e ∷ es) ∷ ts) cuts strict = (
+  below_first before x xs e (es ++ joined ts) strict cuts.1.0,
+  in_order size target (last_of before (x ∷ xs)) ((e ∷ es) ∷ ts) cuts.2 (strict_back before (x ∷ xs) (joined ((e ∷ es) ∷ ts)) strict),
+)
+
+-- ---- what is answered
+
+joined_all : (ts : List (List Entry)) (t : List Entry) → joined (ts ++ rest_chunk t) ≡ joined ts ++ t
+joined_all ts t = flat_map-append (λ (x : List Entry). x) ts (rest_chunk t) ∙ ap (λ (x : List Entry). joined ts ++ x) (joined_rest t)
+
+some_length : (es : List Entry) → (es ≡ [] → ⊥) → 0 < length es
+some_length [] some = absurd (some refl)
+some_length (x ∷ es) some = omega arith
+
+nothing_behind : (xs ys : List Entry) → xs ++ ys ≡ [] → ys ≡ []
+nothing_behind [] ys h = h
+nothing_behind (x ∷ xs) ys h = absurd cc
+
+failed_by : (w : Writing) (e : Entry) (full : Bool) → is_full w.options.data_block_size (w.pending ++ e ∷ []) ≡ full → (gained w e).failed ≡ w.failed
+failed_by w e true h = rw h refl
+failed_by w e false h = rw h refl
+
+pub failed_kept : (w : Writing) (es : List Entry) → (gained_all w es).failed ≡ w.failed
+failed_kept w [] = refl
+failed_kept w (e ∷ es) = failed_kept (gained w e) es ∙ failed_by w e _ refl
+
+module _ {A : Type 0} (target : ℕ) (ids : Option ℕ) (fs gs : List (FinishedTable A)) (w : Writing) (h : GoesOn target ids fs w) where
+  finished_by : (table : Option (FinishedTable A)) → gs ≡ fs ++ option_to_list table → MatchOption table (written w ≡ []) (λ f. IsFinished w f.id f.checksum.0 f.bytes) → AreFinished w.options (label_before (length fs) w.label) (lists_in fs ++ rest_chunk (written w)) gs
+  finished_by None added is =
+      rw (is, added, append-nil (lists_in fs), append-nil fs) h.finished
+  finished_by (Some f) added is =
+      rw (rest_is (written w) (some_length (written w) is.some), added) (all_finished target ids fs w f h is)
+
+  none_by : (table : Option (FinishedTable A)) → gs ≡ fs ++ option_to_list table → MatchOption table (written w ≡ []) (λ f. IsFinished w f.id f.checksum.0 f.bytes) → joined (lists_in fs) ++ written w ≡ [] → gs ≡ []
+  none_by None added is none = added ∙ (append-nil fs ∙ h.begun is)
+  none_by (Some f) added is none = absurd (is.some (nothing_behind (joined (lists_in fs)) (written w) none))
+
+  module _ (failed : Bool) (works : failed ≡ false) where
+    pub are_tables : AreTables w.options.data_block_size target (all_written (state_of target ids fs w failed)) (tables_of (state_of target ids fs w failed))
+    are_tables = rw works (record { whole = joined_all (lists_in fs) (written w); each = h.cuts })
+
+    pub are_in_order : AreInKeyOrder (tables_of (state_of target ids fs w failed))
+    are_in_order = in_order w.options.data_block_size target None (lists_in fs ++ rest_chunk (written w)) h.cuts (rw (joined_all (lists_in fs) (written w)) h.strict)
+
+    pub are_finished : AddsTable w fs gs → AreFinished w.options (first_label (state_of target ids fs w failed)) (tables_of (state_of target ids fs w failed)) gs
+    are_finished a = rw (length-map fs (λ (f : FinishedTable A). list_in f.bytes)) (finished_by a.table a.added a.is)
+
+    pub none_answered : AddsTable w fs gs → all_written (state_of target ids fs w failed) ≡ [] → gs ≡ []
+    none_answered a none = none_by a.table a.added a.is (rw works at none)
+
+    pub works_still : (written w ≡ [] → w.failed ≡ true) → all_written (state_of target ids fs w failed) ≡ [] → failed ≡ true
+    works_still idle none =
+        let refused : w.failed ≡ true = idle (nothing_behind (joined (lists_in fs)) (written w) (rw works at none)) in
+        let fine : w.failed ≡ false = ap (λ (v : Writing). v.failed) h.present ∙ failed_kept (fresh_writing w.label w.options) (written w) in
+        let both : true ≡ false = sym refused ∙ fine in
+        absurd cc

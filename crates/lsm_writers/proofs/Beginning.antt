@@ -1,0 +1,25 @@
+-- Writers that have no entry yet.
+use Rattle.std.proofs.Common.{◌≡◌, refl, ℕ, false, List, [], ◌++◌, arith}
+use Rattle.std.specs.Prelude.{None}
+use Rattle.sst_entries.specs.Entry.{Entry}
+use Rattle.sst_entries.specs.Strict.{IsStrictAfter, last_of}
+use Rattle.lsm_files.specs.Chunks.{joined}
+use Rattle.lsm_files.specs.Facts.{count_after, lowest_seqno, highest_seqno}
+use Rattle.lsm_files.specs.Filters.{keys_after}
+use Rattle.lsm_files.specs.Fits.{LabelFits}
+use Rattle.lsm_files.specs.declared.label.Label.{Label}
+use Rattle.lsm_files.specs.declared.options.Options.{Options}
+use Rattle.lsm_writers.specs.declared.writer.meta.Metadata.{Metadata}
+use Rattle.lsm_writers.specs.Counts.{no_counts}
+use Rattle.lsm_writers.specs.Cut.{Cut}
+use Rattle.lsm_writers.specs.Filtering.{IsFiltered, IsSmallFilter}
+use Rattle.lsm_writers.specs.Held.{CanGoOn, IsHeld}
+use Rattle.lsm_writers.proofs.Filtered.{no_keys}
+
+-- a writer with options that were told before
+pub nothing_held : {A : Type 0} (size : ℕ) (cut : Cut) (pending : List Entry) (meta : Metadata A) (label : Label) (options : Options) → cut ≡ record { chunks = []; failed = false } → pending ≡ [] → meta ≡ no_counts → LabelFits label → IsSmallFilter options.filter_kind → IsHeld size cut.chunks pending 0 meta × CanGoOn false size cut pending × LabelFits label × IsFiltered {A = A} false options.filter_kind options.bloom_policy None (joined cut.chunks ++ pending)
+unfolding IsStrictAfter last_of count_after keys_after lowest_seqno highest_seqno
+nothing_held size cut pending meta label options c p m fits small =
+    let held : IsHeld size [] [] 0 meta = record { strict = tt; fits = tt; shortest = tt; front = λ n lt le. absurd (omega (arith, lt, le)); counted = m; sized = refl; small = omega arith } in
+    let ready : CanGoOn false size (record { chunks = []; failed = false }) [] = record { works = λ _. refl; room = λ _. tt } in
+    rw (c, p) (held, ready, fits, record { small = small; has = λ _. no_keys options.bloom_policy })

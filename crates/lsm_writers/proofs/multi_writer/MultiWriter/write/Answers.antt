@@ -1,0 +1,69 @@
+use Rattle.std.proofs.Common.{◌≡◌, ◌∙◌, None}
+use Rattle.sst_entries.proofs.Refusals.{faults_refusal}
+use Rattle.lsm_writers.specs.Tables.{took_fault, turn_fault}
+use Rattle.lsm_writers.specs.Tables.{HasRoomFor}
+use Rattle.lsm_writers.proofs.Fitting.{room_fault, room_turn}
+use Rattle.lsm_writers.proofs.Refused.{memory_alone}
+use Rattle.lsm_writers.proofs.Turning.{early_due, early_is, fault_is, listed_is, next_follows, refuses_passed, still_goes_on, took_is}
+use Rattle.lsm_writers.proofs.multi_writer.MultiWriter.write.Goals as goal
+
+pub returns-in_err-make_ready-clause-first : goal.returns-in_err-make_ready-clause-first
+returns-in_err-make_ready-clause-first g c =
+    let i = c.self.inside in
+    rw (← c.self.view_is) (λ x early. refuses_passed c.from_residual.result c.in_err-make_ready.field-0.0 x c.from_residual.ensures.1 (c.in_err-make_ready.ensures.first x (early_due i.target_size i.ids i.finished.items i.writer c.args.item i.failed x c.if-self.false c.in_err-make_ready.ensures.idle early)))
+
+pub write-requires : goal.write-requires
+write-requires g c =
+    let i = c.self.inside in
+    let n = c.make_ready.new in
+    let next = rw (← c.self.view_is) at c.requires in
+    next_follows i.target_size i.ids n.ids i.finished.items n.finished.items i.writer n.writer c.args.item i.failed c.if-self.false c.in_ok-make_ready.ensures.ok (c.self.invariant c.if-self.false) next
+
+pub returns-in_err-write-clause-refused : goal.returns-in_err-write-clause-refused
+returns-in_err-write-clause-refused g c =
+    let i = c.self.inside in
+    let n = c.make_ready.new in
+    rw (← c.self.view_is) (faults_refusal c.from_residual-in_err-write.result c.in_err-write.field-0.0 _ c.from_residual-in_err-write.ensures.1
+    (λ memory. fault_is i.target_size i.ids n.ids i.finished.items n.finished.items i.writer n.writer c.args.item i.failed c.if-self.false c.in_ok-make_ready.ensures.ok c.in_ok-make_ready.ensures.refused ∙ c.in_err-write.ensures.refused memory))
+
+pub returns-in_err-write-clause-first : goal.returns-in_err-write-clause-first
+returns-in_err-write-clause-first g c =
+    let i = c.self.inside in
+    let n = c.make_ready.new in
+    rw (← c.self.view_is) (λ x early. refuses_passed c.from_residual-in_err-write.result c.in_err-write.field-0.0 x c.from_residual-in_err-write.ensures.1
+    (c.in_err-write.ensures.first x (early_is i.target_size i.ids n.ids i.finished.items n.finished.items i.writer n.writer c.args.item i.failed c.if-self.false c.in_ok-make_ready.ensures.ok c.in_ok-make_ready.ensures.refused x early)))
+
+pub returns-in_err-write-clause-memory : goal.returns-in_err-write-clause-memory
+returns-in_err-write-clause-memory g c =
+    λ none. memory_alone c.from_residual-in_err-write.result _ none (returns-in_err-write-clause-refused g c)
+
+pub invariant_of-self-2 : goal.invariant_of-self-2
+invariant_of-self-2 g c =
+    let i = c.self.inside in
+    let n = c.make_ready.new in
+    let next = rw (← c.self.view_is) at c.requires in
+    λ works. still_goes_on i.target_size i.ids n.ids i.finished.items n.finished.items i.writer n.writer c.args.item i.failed c.if-self.false c.in_ok-make_ready.ensures.ok c.in_ok-make_ready.ensures.refused c.write.new.self c.in_ok-write.ensures.ok (c.self.invariant c.if-self.false) next
+
+pub returns-clause-ok : goal.returns-clause-ok
+returns-clause-ok g c =
+    let i = c.self.inside in
+    let n = c.make_ready.new in
+    rw (← c.self.view_is) (took_is i.target_size i.ids n.ids i.finished.items n.finished.items i.writer n.writer c.args.item i.failed c.if-self.false c.in_ok-make_ready.ensures.ok c.write.new.self c.in_ok-write.ensures.ok)
+
+pub returns-clause-listed : goal.returns-clause-listed
+returns-clause-listed g c =
+    let i = c.self.inside in
+    let n = c.make_ready.new in
+    rw (← c.self.view_is) (listed_is i.target_size i.ids n.ids i.finished.items n.finished.items i.writer n.writer c.args.item i.failed c.if-self.false c.in_ok-make_ready.ensures.ok c.write.new.self c.in_ok-write.ensures.ok)
+
+pub returns-in_err-write-clause-taken : goal.returns-in_err-write-clause-taken
+returns-in_err-write-clause-taken g c =
+    let i = c.self.inside in
+    let fine : HasRoomFor c.args.self.now c.args.item → took_fault c.args.self.now c.args.item ≡ None = rw (← c.self.view_is) (room_fault i.target_size i.ids i.finished.items i.writer i.failed c.args.item c.self.invariant) in
+    λ room. returns-in_err-write-clause-memory g c (fine room)
+
+pub returns-in_err-make_ready-clause-taken : goal.returns-in_err-make_ready-clause-taken
+returns-in_err-make_ready-clause-taken g c =
+    let i = c.self.inside in
+    let fine : HasRoomFor c.args.self.now c.args.item → turn_fault i.target_size i.ids i.writer c.args.item ≡ None = rw (← c.self.view_is) (room_turn i.target_size i.ids i.finished.items i.writer i.failed c.args.item c.self.invariant) in
+    λ room. memory_alone c.from_residual.result (turn_fault i.target_size i.ids i.writer c.args.item) (fine room) (faults_refusal c.from_residual.result c.in_err-make_ready.field-0.0 (turn_fault i.target_size i.ids i.writer c.args.item) c.from_residual.ensures.1 c.in_err-make_ready.ensures.refused)

@@ -1,0 +1,327 @@
+-- A list that is cut into tables, and the state of a writer of many tables.
+use Rattle.std.specs.Prelude.{◌≡◌, ℕ, zero, suc, ◌+◌, ◌-◌, ◌^◌, ◌<◌, ◌≤◌, ◌==◌, ◌&&◌, Bool, true, false, nat_lt, nat_le, IsTrue, List, [], ◌∷◌, ◌++◌, length, take, drop, map, slice_index, Option, Some, None, unwrap_or, MatchOption, if◌then◌else◌}
+use Rattle.std.specs.List.{AllByRecursion, filter}
+use Rattle.std.specs.Option.{option_or, option_to_list}
+use Rattle.sst_entries.specs.declared.error.Error.{Error}
+use Rattle.sst_entries.specs.declared.error.Error.TheVariants.{TableIdsSpent, WriterFailed}
+use Rattle.sst_entries.specs.Entry.{Entry}
+use Rattle.sst_entries.specs.Key.{key_lt}
+use Rattle.sst_entries.specs.Strict.{IsStrict, last_of}
+use Rattle.sst_sections.specs.declared.version.TableVersion.TheVariants.{V4}
+use Rattle.sst_blocks.specs.declared.block_type.BlockType.TheVariants.{Data}
+use Rattle.sst_blocks.specs.Block.{data_len, header_len, kind_tag}
+use Rattle.sst_blocks.specs.Bounds.{data_block_bound_of}
+use Rattle.sst_blocks.specs.Reading.{entries_in}
+use Rattle.lsm_files.specs.declared.label.Label.{Label}
+use Rattle.lsm_files.specs.declared.options.Options.{Options}
+use Rattle.lsm_files.specs.Chunks.{joined, is_full}
+use Rattle.lsm_files.specs.Facts.{starts_key}
+use Rattle.lsm_files.specs.Filters.{filtered_keys}
+use Rattle.lsm_files.specs.Fits.{EntryFits}
+use Rattle.lsm_files.specs.Index.{data_section, handles, last_entry}
+use Rattle.lsm_files.specs.Options.{default_options, label_of}
+use Rattle.lsm_files.specs.Parts.{parts_by}
+use Rattle.lsm_filter_writers.specs.Cutting.{waiting_by}
+use Rattle.lsm_filter_writers.specs.Refusing.{filter_fault}
+use Rattle.lsm_index_writers.specs.Refusing.{index_fault}
+use Rattle.lsm_writers.specs.declared.writer.FinishedTable.{FinishedTable}
+use Rattle.lsm_writers.specs.Cut.{rest_chunk}
+use Rattle.lsm_writers.specs.Writing.{IsFinished, IsFresh, IsTableWith, IsWritable, Writing, finish_fault, fresh_writing, gained, may_be_written, write_fault, written}
+
+-- the chunks of a list that are full: those whose blocks are cut while it is written
+abbrev pub full_chunks : ℕ → List Entry → List (List Entry)
+full_chunks size es = filter (is_full size) (parts_by (is_full size) es)
+
+-- how long the blocks of these are
+abbrev pub cut_len : ℕ → List Entry → ℕ
+cut_len size es = length (data_section V4 (full_chunks size es))
+
+-- both lists have entries, and the second begins with another key than the first ends with
+abbrev pub apart : List Entry → List Entry → Bool
+apart [] b = false
+apart (x ∷ a) [] = false
+apart (x ∷ a) (y ∷ b) = starts_key (last_of None (x ∷ a)) y
+
+-- a table has entries, and no shorter front that ends with a key's last entry has full blocks of
+-- the target's length
+pub record IsCut (size : ℕ) (target : ℕ) (t : List Entry) : Type 0 where
+  pub some : 0 < length t
+  pub shortest : (a b : List Entry) → t ≡ a ++ b → apart a b ≡ true → cut_len size a < target
+
+-- a table that another follows ends with a key's last entry, and has reached the target
+abbrev pub EndsCut : ℕ → ℕ → List Entry → List (List Entry) → Type 0
+EndsCut size target t [] = Unit {0}
+EndsCut size target t (u ∷ us) = (apart t u ≡ true) × (target ≤ cut_len size t)
+
+abbrev pub AreCuts : ℕ → ℕ → List (List Entry) → Type 0
+AreCuts size target [] = Unit {0}
+AreCuts size target (t ∷ ts) =
+    IsCut size target t × EndsCut size target t ts × AreCuts size target ts
+
+-- a list cut into tables: each is the shortest front of the rest that ends with a key's last entry
+-- and has full blocks of the target's length, and the last one takes what is left
+pub record AreTables (size : ℕ) (target : ℕ) (es : List Entry) (ts : List (List Entry)) : Type 0
+  where
+    pub whole : joined ts ≡ es
+    pub each : AreCuts size target ts
+
+-- the keys of a table are below those of the one behind it
+abbrev pub IsBelow : List Entry → List (List Entry) → Type 0
+IsBelow t [] = Unit {0}
+IsBelow t ([] ∷ us) = IsBelow t us
+IsBelow t ((e ∷ u) ∷ us) = key_lt (last_entry t).user_key e.user_key ≡ true
+
+abbrev pub AreInKeyOrder : List (List Entry) → Type 0
+AreInKeyOrder [] = Unit {0}
+AreInKeyOrder (t ∷ ts) = IsBelow t ts × AreInKeyOrder ts
+
+-- ---- finished tables
+
+-- the label of the table behind
+abbrev pub next_label : Label → Label
+next_label label = record label { table_id = label.table_id + 1 }
+
+-- finished tables of these lists, under ids that run on from the first label's
+abbrev pub AreFinished : {A : Type 0} → Options → Label → List (List Entry)
+    → List (FinishedTable A) → Type 0
+AreFinished options label [] [] = Unit {0}
+AreFinished options label [] (f ∷ fs) = ⊥
+AreFinished options label (t ∷ ts) [] = ⊥
+AreFinished options label (t ∷ ts) (f ∷ fs) =
+    IsTableWith label options t f.id f.checksum.0 f.bytes
+    × AreFinished options (next_label label) ts fs
+
+-- the chunks of the data blocks at the front of some bytes: they end where a block of another kind
+-- begins
+unfoldable pub leading_chunks : ℕ → List ℕ → List (List Entry)
+leading_chunks zero bytes = []
+leading_chunks (suc n) bytes =
+    if slice_index bytes 4 == kind_tag Data
+    then unwrap_or (entries_in V4 (take (data_len bytes) (drop header_len bytes))) []
+    ∷ leading_chunks n (drop (header_len + data_len bytes) bytes)
+    else []
+
+-- the list of a finished table, as its bytes hold it
+abbrev pub list_in : List ℕ → List Entry
+list_in bytes = joined (leading_chunks (length bytes) bytes)
+
+abbrev pub lists_in : {A : Type 0} → List (FinishedTable A) → List (List Entry)
+lists_in {A = A} fs = map (λ (f : FinishedTable A). list_in f.bytes) fs
+
+-- the finished table of a writer behind those before, where the writer has entries
+pub record AddsTable {A : Type 0} (w : Writing) (fs gs : List (FinishedTable A)) : Type 0 where
+  pub table : Option (FinishedTable A)
+  pub added : gs ≡ fs ++ option_to_list table
+  pub is : MatchOption table (written w ≡ []) (λ f. IsFinished w f.id f.checksum.0 f.bytes)
+
+-- ---- ids
+
+-- the id behind this one, where there is one
+abbrev pub next_id : ℕ → Option ℕ
+next_id id = if nat_lt id (2 ^ 64 - 1) then Some (id + 1) else None
+
+-- a counter once it was drawn from
+abbrev pub drawn : Option ℕ → Option ℕ
+drawn None = None
+drawn (Some id) = next_id id
+
+-- what drawing an id refuses
+abbrev pub ids_fault : Option ℕ → Option Error
+ids_fault None = Some TableIdsSpent
+ids_fault (Some id) = None
+
+-- ---- a writer of many tables
+
+-- the length that a table reaches, the next id, the lists of the finished tables, the table that is
+-- being written, with the options, the level and the moment of all, and whether a call was refused
+pub record TablesWriting : Type 0 where
+  pub target : ℕ
+  pub ids : Option ℕ
+  pub tables : List (List Entry)
+  pub present : Writing
+  pub failed : Bool
+
+-- the list written: the entries of the finished tables, then those of the present one; a writer that
+-- has refused gives it up
+abbrev pub all_written : TablesWriting → List Entry
+all_written m = if m.failed then [] else joined m.tables ++ written m.present
+
+-- the lists of all tables, the present one the last
+abbrev pub tables_of : TablesWriting → List (List Entry)
+tables_of m = m.tables ++ rest_chunk (written m.present)
+
+-- no entry was given yet
+abbrev pub IsFreshRun : TablesWriting → Type 0
+IsFreshRun m = (m.tables ≡ []) × IsFresh m.present × (m.failed ≡ false)
+
+-- a writer of no table yet, which has drawn its first id
+abbrev pub new_tables : Option ℕ → ℕ → ℕ → ℕ → TablesWriting
+new_tables ids target level moment = record {
+  target = target;
+  ids = drawn ids;
+  tables = [];
+  present = fresh_writing (label_of (unwrap_or ids 0) level moment) default_options;
+  failed = false;
+}
+
+-- the label of the table that stands so many places before
+abbrev pub label_before : ℕ → Label → Label
+label_before n label = record label { table_id = label.table_id - n }
+
+-- the label of the first table
+abbrev pub first_label : TablesWriting → Label
+first_label m = label_before (length m.tables) m.present.label
+
+-- other options, for all tables
+abbrev pub with_options : TablesWriting → Options → TablesWriting
+with_options m options = record m { present = record m.present { options = options } }
+
+-- an entry is the first of its key, and the data bytes that were cut have reached the target
+abbrev pub is_due : ℕ → Writing → Entry → Bool
+is_due target w e =
+    starts_key (last_of None (written w)) e && nat_le target (length (data_section V4 w.cut))
+
+-- a writer of the next table, with the same options
+abbrev pub next_writing : Option ℕ → Writing → Writing
+next_writing ids w =
+    fresh_writing (record w.label { table_id = unwrap_or ids 0 }) w.options
+
+-- the present table is finished, and the next one stands in its place
+abbrev pub rotated : TablesWriting → TablesWriting
+rotated m = record m {
+  ids = drawn m.ids;
+  tables = tables_of m;
+  present = next_writing m.ids m.present;
+}
+
+-- the ids, the finished tables and the writer once a table that was due has begun
+abbrev pub IsStanding : {A : Type 0} → Bool → Option ℕ → List (FinishedTable A) → Writing
+    → Option ℕ → List (FinishedTable A) → Writing → Type 0
+IsStanding false ids fs w ids' fs' w' = (ids' ≡ ids) × (fs' ≡ fs) × (w' ≡ w)
+IsStanding true ids fs w ids' fs' w' =
+    (ids' ≡ drawn ids) × AddsTable w fs fs' × (w' ≡ next_writing ids w)
+
+-- the tables as they stand when an entry is taken
+abbrev pub standing : TablesWriting → Entry → TablesWriting
+standing m e = if is_due m.target m.present e then rotated m else m
+
+-- one more entry
+abbrev pub took : TablesWriting → Entry → TablesWriting
+took m e = let n = standing m e in record n { present = gained n.present e }
+
+-- what is refused where the next id is drawn, and then the present table finished
+abbrev pub rotation_fault : Option ℕ → Writing → Option Error
+rotation_fault ids w = option_or (ids_fault ids) (finish_fault w)
+
+abbrev pub turn_fault : ℕ → Option ℕ → Writing → Entry → Option Error
+turn_fault target ids w e = if is_due target w e then rotation_fault ids w else None
+
+-- what writing an entry refuses: the rotation first, then the entry
+abbrev pub took_fault : TablesWriting → Entry → Option Error
+took_fault m e =
+    if m.failed then Some WriterFailed
+    else option_or (turn_fault m.target m.ids m.present e) (write_fault (standing m e).present e)
+
+-- what of it is found before any memory is taken
+abbrev pub early_fault : TablesWriting → Entry → Option Error
+early_fault m e =
+    if m.failed then Some WriterFailed
+    else (if is_due m.target m.present e then ids_fault m.ids else write_fault m.present e)
+
+-- what finishing refuses
+abbrev pub run_fault : TablesWriting → Option Error
+run_fault m = if m.failed then Some WriterFailed else finish_fault m.present
+
+-- ---- what is refused for want of memory alone
+
+-- what writing the index and then the filter of a table of a list refuses
+abbrev pub table_fault : Options → List Entry → Option Error
+table_fault options es =
+    let cs = parts_by (is_full options.data_block_size) es in
+    let keys = filtered_keys options.bloom_policy es in
+    option_or (index_fault options.index_kind false (handles V4 cs))
+    (filter_fault options.filter_kind options.bloom_policy keys)
+
+-- the entries of a list that are in no full chunk
+abbrev pub filling : Options → List Entry → List Entry
+filling options es = waiting_by (is_full options.data_block_size) es
+
+-- an entry behind a table's list: it fits, so does its block, and so do the table's sections
+pub record FitsBehind (options : Options) (es : List Entry) (e : Entry) : Type 0 where
+  pub entry : EntryFits V4 e
+  pub block : data_block_bound_of (filling options es ++ e ∷ []) < 2 ^ 32
+  pub sections : table_fault options es ≡ None
+
+-- a writer that has not refused, and an id that is left, where the entry fits behind the list of the
+-- present table
+pub record HasRoomFor (m : TablesWriting) (e : Entry) : Type 0 where
+  pub works : m.failed ≡ false
+  pub left : m.ids ≡ None → ⊥
+  pub fits : FitsBehind m.present.options (written m.present) e
+
+-- ---- a list that is written whole
+
+-- a table whose entries, data blocks and sections of index and filter fit
+pub record TableFits (options : Options) (t : List Entry) : Type 0 where
+  pub entries : AllByRecursion (EntryFits V4) t
+  pub blocks : AllByRecursion (λ (c : List Entry). data_block_bound_of c < 2 ^ 32)
+      (parts_by (is_full options.data_block_size) t)
+  pub sections : table_fault options t ≡ None
+
+-- the id of the first table: at target 0 the second one, since the table that has the first is
+-- finished before it has an entry
+abbrev pub first_id : ℕ → ℕ → ℕ
+first_id target first = if target == 0 then first + 1 else first
+
+-- a writer of many tables that has taken its list: finishing refuses nothing, and its tables are
+-- these, under ids that run on from this label's
+pub record HasTaken (ts : List (List Entry)) (label : Label) (m : TablesWriting) : Type 0 where
+  pub finishes : run_fault m ≡ None
+  pub tables : tables_of m ≡ ts
+  pub first : (ts ≡ [] → ⊥) → first_label m ≡ label
+
+-- a list is taken whole: each entry may follow those before it and is not refused, and at the end
+-- the tables are these
+abbrev pub Takes : List (List Entry) → Label → TablesWriting → List Entry → Type 0
+Takes ts label m [] = HasTaken ts label m
+Takes ts label m (e ∷ es) =
+    IsTrue (may_be_written (all_written m) e.user_key e.seqno) × (took_fault m e ≡ None)
+    × Takes ts label (took m e) es
+
+-- a list each of whose tables fits is taken whole by a writer that was told its options before the
+-- first entry, where an id is left for each table
+abbrev pub TakesLaw : Type 0
+TakesLaw = (first target level moment : ℕ) (options : Options) (es : List Entry)
+    (ts : List (List Entry)) → IsWritable es → AreTables options.data_block_size target es ts →
+    AllByRecursion (TableFits options) ts → first_id target first + length ts ≤ 2 ^ 64 →
+    Takes ts (label_of (first_id target first) level moment)
+    (with_options (new_tables (Some first) target level moment) options) es
+
+-- entries of one key
+abbrev pub HasOneKey : List Entry → Type 0
+HasOneKey [] = Unit {0}
+HasOneKey (e ∷ es) = AllByRecursion (λ (x : Entry). x.user_key ≡ e.user_key) es
+
+-- at target 0 each table has the entries of one key, and as the keys of tables rise, all of them
+abbrev pub OneKeyLaw : Type 0
+OneKeyLaw = (size : ℕ) (es : List Entry) (ts : List (List Entry)) → IsStrict es →
+    AreTables size 0 es ts → AllByRecursion HasOneKey ts × AreInKeyOrder ts
+
+-- ---- what holds of a writer of many tables between its calls
+
+-- a writer that has taken some entries
+abbrev pub gained_all : Writing → List Entry → Writing
+gained_all w [] = w
+gained_all w (e ∷ es) = gained_all (gained w e) es
+
+-- the present writer has taken its entries and nothing else; the lists are cut where they may be, and
+-- the finished tables are tables of theirs, under ids that run on up to the present one
+pub record GoesOn {A : Type 0} (target : ℕ) (ids : Option ℕ) (fs : List (FinishedTable A))
+    (w : Writing) : Type 0 where
+  pub present : w ≡ gained_all (fresh_writing w.label w.options) (written w)
+  pub strict : IsStrict (joined (lists_in fs) ++ written w)
+  pub cuts : AreCuts w.options.data_block_size target (lists_in fs ++ rest_chunk (written w))
+  pub finished : AreFinished w.options (label_before (length fs) w.label) (lists_in fs) fs
+  pub few : length fs ≤ w.label.table_id
+  pub next : ids ≡ next_id w.label.table_id
+  pub begun : written w ≡ [] → fs ≡ []

@@ -1,0 +1,338 @@
+//! Writing many tables, one after another.
+ghost use Rattle.std.specs.Prelude.{◌≡◌, ◌↔◌, ◌<◌, ◌≤◌, ◌∷◌, ◌++◌, if◌then◌else◌, [], false, true, IfErr, IfOk, IsTrue, OnErr, OnOk, Some, None};
+ghost use Rattle.sst_entries.specs.declared.error.Error.TheVariants.{OutOfMemory};
+ghost use Rattle.lsm_files.specs.declared.options.FilterKind.TheVariants.{Partitioned as PartitionedFilter};
+ghost use Rattle.lsm_files.specs.declared.options.IndexKind.TheVariants.{Partitioned as PartitionedIndex};
+ghost use Rattle.lsm_writers.specs.Words.{Faults, FaultsFirst, IsStrict, failed_fault, finish_fault};
+ghost use Rattle.lsm_writers.specs.Words.{may_be_written, written};
+ghost use Rattle.lsm_writers.specs.Tables.{AddsTable, AreFinished, AreInKeyOrder, AreTables, HasRoomFor, IsFreshRun};
+ghost use Rattle.lsm_writers.specs.Tables.{all_written, drawn, early_fault, first_label, ids_fault, is_due};
+ghost use Rattle.lsm_writers.specs.Tables.{new_tables, next_writing, rotation_fault, run_fault, table_fault, tables_of};
+ghost use Rattle.lsm_writers.specs.Tables.{IsStanding, OneKeyLaw, TakesLaw, took, took_fault, turn_fault, with_options};
+
+#[cfg(test)]
+mod tests;
+
+use crate::{FinishedTable, TableIds, Timestamp, Writer};
+use lsm_files::BloomConstructionPolicy;
+use sst_blocks::{CompressionType, Error, InternalKey, InternalValue, SeqNo};
+use std::alloc::{Allocator, Global};
+use std::marker::Model;
+use std::mem;
+
+/// Writes entries into tables, one after another, each with an id of its own. The next table begins at the first entry of a
+/// key, once the data blocks that were cut for the present one have the target's length. A contract sees the lists of the
+/// finished tables, the writer of the present one and the counter of ids.
+#[derive(Drop)]
+pub struct MultiWriter<A: Allocator = Global> {
+    target_size: u64,
+    ids: TableIds,
+    // the tables before the present one
+    finished: Vec<FinishedTable<A>, A>,
+    // the present table; it has the options, the level and the moment of all
+    writer: Writer<A>,
+    // it stands while a call works, so that whatever the call refuses stays refused
+    failed: bool,
+}
+
+impl<A: Allocator> Model for MultiWriter<A> {
+    ghost use Rattle.std.specs.Prelude.{◌≡◌, false};
+    ghost use Rattle.lsm_writers.specs.Tables.{TablesWriting, GoesOn, lists_in};
+
+    ghost Value = { TablesWriting };
+
+    ghost view = { λ w. record { target = w.target_size; ids = w.ids; tables = lists_in w.finished.items; present = w.writer; failed = w.failed } };
+
+    ghost invariant = { λ w. w.failed ≡ false → GoesOn w.target_size w.ids w.finished.items w.writer };
+}
+
+impl<A: Allocator + Clone> MultiWriter<A> {
+    /// A writer of tables that stand at `initial_level` and are created at a moment that is handed in; each but the last has
+    /// at least `target_size` bytes of data blocks. It draws the first id.
+    ///
+    /// Refused [`Error::TableIdsSpent`] where no id is left, and [`Error::OutOfMemory`].
+    pub fn new(
+        alloc: A,
+        mut ids: TableIds,
+        target_size: u64,
+        initial_level: u8,
+        created_at: Timestamp,
+    ) -> Result<MultiWriter<A>, Error>
+        ensures ok { IfOk result (λ w. w ≡ new_tables ids target_size initial_level created_at) }
+        ensures refused { Faults result (ids_fault ids) }
+        ensures first { FaultsFirst result (ids_fault ids) }
+    {
+        let Some(id) = ids.next() else {
+            return Err(Error::TableIdsSpent);
+        };
+        let finished = Vec::new(alloc.clone()?);
+        Ok(MultiWriter {
+            target_size,
+            ids,
+            finished,
+            writer: Writer::new(alloc, id, initial_level, created_at)?,
+            failed: false,
+        })
+    }
+
+    /// Whether no entry was given yet, also none that was refused.
+    pub fn is_empty(&self) -> bool
+        ensures { IsTrue result ↔ IsFreshRun self.now }
+    {
+        !self.failed && self.finished.is_empty() && self.writer.is_empty()
+    }
+
+    /// Whether an entry of this key may be written next: its number is below `u64::MAX`, and it comes strictly after the last
+    /// one by key and number. A writer that has refused has given its list up, so any key may follow there.
+    pub fn can_follow(&self, key: &InternalKey<A>) -> bool
+        ensures { result ≡ may_be_written (all_written self.now) key.now.user_key key.now.seqno }
+    {
+        if self.failed {
+            return key.seqno < SeqNo::MAX;
+        }
+        self.writer.can_follow(key)
+    }
+
+    /// The counter of ids as it stands: its next id is that of the table behind the present one.
+    pub fn table_ids(&self) -> TableIds
+        ensures { result ≡ self.now.ids }
+    {
+        self.ids
+    }
+
+    /// Writes an entry, at the front of the next table where one is due: at the first entry of a key, once the data blocks that
+    /// were cut for the present table have the target's length. The present table is then finished.
+    ///
+    /// Refused [`Error::WriterFailed`] where a call was refused before; where a table is due, [`Error::TableIdsSpent`] where no
+    /// id is left for it, and what [`Writer::finish`] refuses of the present one; then what [`Writer::write`] refuses; and
+    /// [`Error::OutOfMemory`]. Whatever is refused, the list is given up, and each later call is refused
+    /// [`Error::WriterFailed`].
+    pub fn write(&mut self, item: InternalValue<A>) -> Result<(), Error>
+        requires { IsTrue (may_be_written (all_written self.old) item.user_key item.seqno) }
+        ensures ok { OnOk result (self.new ≡ took self.old item) }
+        ensures listed { OnOk result (all_written self.new ≡ all_written self.old ++ item ∷ []) }
+        ensures refused { Faults result (took_fault self.old item) }
+        // What needs no memory to be found comes before any want of memory.
+        ensures first { FaultsFirst result (early_fault self.old item) }
+        ensures memory { took_fault self.old item ≡ None → IfErr result (λ e. e ≡ OutOfMemory) }
+        // So it is where an id is left, and the entry, its block and the sections of the present table fit.
+        ensures taken { HasRoomFor self.old item → IfErr result (λ e. e ≡ OutOfMemory) }
+        ensures failed { OnErr result (self.new.failed ≡ true) }
+    {
+        if self.failed {
+            return Err(Error::WriterFailed);
+        }
+        self.failed = true;
+        make_ready(
+            self.target_size,
+            &mut self.ids,
+            &mut self.finished,
+            &mut self.writer,
+            &item,
+        )?;
+        self.writer.write(item)?;
+        self.failed = false;
+        Ok(())
+    }
+
+    /// Finishes the present table and answers all tables in key order: none where nothing was written. Their ids run on from
+    /// the first; at target 0 from the second, as the first table is finished before it has an entry.
+    ///
+    /// Refused [`Error::WriterFailed`] where a call was refused before, then what [`Writer::finish`] refuses of the present
+    /// table; and [`Error::OutOfMemory`].
+    pub fn finish(self) -> Result<Vec<FinishedTable<A>, A>, Error>
+        ensures tables { IfOk result (λ fs.
+            AreTables self.present.options.data_block_size self.target
+            (all_written self) (tables_of self)) }
+        ensures finished { IfOk result (λ fs.
+            AreFinished self.present.options (first_label self) (tables_of self) fs.items) }
+        ensures order { IfOk result (λ fs. AreInKeyOrder (tables_of self)) }
+        ensures strict { IfOk result (λ fs. IsStrict (all_written self)) }
+        ensures none { IfOk result (λ fs. all_written self ≡ [] → fs.items ≡ []) }
+        ensures refused { Faults result (run_fault self) }
+        ensures first { FaultsFirst result (failed_fault self.failed) }
+        ensures memory { run_fault self ≡ None → IfErr result (λ e. e ≡ OutOfMemory) }
+        // So it is where the sections of the last table fit.
+        ensures taken { self.failed ≡ false →
+            table_fault self.present.options (written self.present) ≡ None →
+            IfErr result (λ e. e ≡ OutOfMemory) }
+        // Where nothing was written, only a writer that has failed refuses.
+        ensures idle { OnErr result (all_written self ≡ [] → self.failed ≡ true) }
+    {
+        if self.failed {
+            return Err(Error::WriterFailed);
+        }
+        let MultiWriter {
+            mut finished,
+            writer,
+            ..
+        } = self;
+        add_table(&mut finished, writer)?;
+        Ok(finished)
+    }
+
+    /// After how many entries at most a data block has a place where reading can restart.
+    pub fn use_data_block_restart_interval(mut self, interval: u8) -> MultiWriter<A>
+        requires fresh { IsFreshRun self }
+        requires some { 0 < interval }
+        ensures { result ≡
+            with_options self
+            (record self.present.options { data_block_restart_interval = interval }) }
+    {
+        self.writer = self.writer.use_data_block_restart_interval(interval);
+        self
+    }
+
+    /// The same for the blocks of the index. Only tables written with 1 can be opened.
+    pub fn use_index_block_restart_interval(mut self, interval: u8) -> MultiWriter<A>
+        requires { IsFreshRun self }
+        ensures { result ≡
+            with_options self
+            (record self.present.options { index_block_restart_interval = interval }) }
+    {
+        self.writer = self.writer.use_index_block_restart_interval(interval);
+        self
+    }
+
+    /// How many buckets a data block's hash index has for each entry, in thousandths; 0 for none.
+    pub fn use_data_block_hash_ratio(mut self, ratio: u32) -> MultiWriter<A>
+        requires { IsFreshRun self }
+        ensures { result ≡
+            with_options self (record self.present.options { data_block_hash_ratio = ratio }) }
+    {
+        self.writer = self.writer.use_data_block_hash_ratio(ratio);
+        self
+    }
+
+    /// How many bytes of keys and values a data block has when it is cut.
+    pub fn use_data_block_size(mut self, size: u32) -> MultiWriter<A>
+        requires fresh { IsFreshRun self }
+        requires small { size ≤ 4194304 }
+        ensures { result ≡
+            with_options self (record self.present.options { data_block_size = size }) }
+    {
+        self.writer = self.writer.use_data_block_size(size);
+        self
+    }
+
+    /// Writes filters of partitions, each cut when it has 4,096 bytes.
+    pub fn use_partitioned_filter(mut self) -> MultiWriter<A>
+        requires { IsFreshRun self }
+        ensures { result ≡
+            with_options self
+            (record self.present.options { filter_kind = PartitionedFilter 4096 }) }
+    {
+        self.writer = self.writer.use_partitioned_filter();
+        self
+    }
+
+    /// Writes indexes of partitions, each cut when it has 4,096 bytes.
+    pub fn use_partitioned_index(mut self) -> MultiWriter<A>
+        requires { IsFreshRun self }
+        ensures { result ≡
+            with_options self (record self.present.options { index_kind = PartitionedIndex 4096 }) }
+    {
+        self.writer = self.writer.use_partitioned_index();
+        self
+    }
+
+    /// How many bits a filter has for a key; where these are 0, no filter is written.
+    pub fn use_bloom_policy(mut self, policy: BloomConstructionPolicy) -> MultiWriter<A>
+        requires { IsFreshRun self }
+        ensures { result ≡
+            with_options self (record self.present.options { bloom_policy = policy }) }
+    {
+        self.writer = self.writer.use_bloom_policy(policy);
+        self
+    }
+
+    /// How data blocks are compressed.
+    pub fn use_data_block_compression(self, compression: CompressionType) -> MultiWriter<A>
+        requires { IsFreshRun self }
+        ensures { result ≡ self }
+    {
+        match compression {
+            CompressionType::None => self,
+        }
+    }
+
+    /// How the blocks of the index are compressed.
+    pub fn use_index_block_compression(self, compression: CompressionType) -> MultiWriter<A>
+        requires { IsFreshRun self }
+        ensures { result ≡ self }
+    {
+        match compression {
+            CompressionType::None => self,
+        }
+    }
+}
+
+/// Finishes a table and puts it behind the others, unless it has no entry. Refused as [`Writer::finish`] is.
+fn add_table<A: Allocator + Clone>(
+    finished: &mut Vec<FinishedTable<A>, A>,
+    writer: Writer<A>,
+) -> Result<(), Error>
+    ensures ok { OnOk result (AddsTable writer finished.old.items finished.new.items) }
+    ensures refused { Faults result (finish_fault writer) }
+    ensures idle { OnErr result (written writer ≡ [] → writer.failed ≡ true) }
+{
+    if let Some(table) = writer.finish()? {
+        finished.push(table)?;
+    }
+    Ok(())
+}
+
+/// Whether the next table begins with this entry.
+fn is_due<A: Allocator + Clone>(target: u64, writer: &Writer<A>, item: &InternalValue<A>) -> bool
+    ensures { result ≡ is_due target writer.now item.now }
+{
+    writer.starts_key(item) && writer.metadata().file_pos.0 >= target
+}
+
+/// Draws the next id, finishes the present table, and begins the next one. Refused [`Error::TableIdsSpent`] where no id is
+/// left, then as [`Writer::finish`] is.
+fn rotate<A: Allocator + Clone>(
+    ids: &mut TableIds,
+    finished: &mut Vec<FinishedTable<A>, A>,
+    writer: &mut Writer<A>,
+) -> Result<(), Error>
+    ensures ids { OnOk result (ids.new ≡ drawn ids.old) }
+    ensures next { OnOk result (writer.new ≡ next_writing ids.old writer.old) }
+    ensures added { OnOk result (AddsTable writer.old finished.old.items finished.new.items) }
+    ensures refused { Faults result (rotation_fault ids.old writer.old) }
+    ensures first { FaultsFirst result (ids_fault ids.old) }
+{
+    let Some(id) = ids.next() else {
+        return Err(Error::TableIdsSpent);
+    };
+    let next = writer.successor(id)?;
+    add_table(finished, mem::replace(writer, next))
+}
+
+/// Begins the next table where one is due. Refused as the rotation is.
+fn make_ready<A: Allocator + Clone>(
+    target: u64,
+    ids: &mut TableIds,
+    finished: &mut Vec<FinishedTable<A>, A>,
+    writer: &mut Writer<A>,
+    item: &InternalValue<A>,
+) -> Result<(), Error>
+    ensures ok { OnOk result (IsStanding (is_due target writer.old item.now)
+        ids.old finished.old.items writer.old ids.new finished.new.items writer.new) }
+    ensures refused { Faults result (turn_fault target ids.old writer.old item.now) }
+    ensures first { FaultsFirst result
+        (if is_due target writer.old item.now then ids_fault ids.old else None) }
+    ensures idle { OnErr result (is_due target writer.old item.now ≡ true) }
+{
+    if is_due(target, writer, item) {
+        rotate(ids, finished, writer)?;
+    }
+    Ok(())
+}
+
+/// Laws of a list that is written whole. Where each table that it is cut into fits, and an id is left for each, it is taken,
+/// and its tables are these; at target 0 each table has all entries of one key. The call does nothing.
+pub fn tables_law()
+    ensures takes { TakesLaw }
+    ensures one_key { OneKeyLaw }
+{}
