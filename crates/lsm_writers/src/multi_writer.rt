@@ -10,9 +10,6 @@ ghost use Rattle.lsm_writers.specs.Tables.{all_written, drawn, early_fault, firs
 ghost use Rattle.lsm_writers.specs.Tables.{new_tables, next_writing, rotation_fault, run_fault, table_fault, tables_of};
 ghost use Rattle.lsm_writers.specs.Tables.{IsStanding, OneKeyLaw, TakesLaw, took, took_fault, turn_fault, with_options};
 
-#[cfg(test)]
-mod tests;
-
 use crate::{FinishedTable, TableIds, Timestamp, Writer};
 use lsm_files::BloomConstructionPolicy;
 use sst_blocks::{CompressionType, Error, InternalKey, InternalValue, SeqNo};

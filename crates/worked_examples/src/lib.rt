@@ -12,6 +12,8 @@ mod layout;
 #[cfg(test)]
 mod lists;
 #[cfg(test)]
+mod many_tables;
+#[cfg(test)]
 mod pins;
 #[cfg(test)]
 mod point_reads;

@@ -1,5 +1,7 @@
 //! Tables that are written one after another.
-use crate::{FinishedTable, MultiWriter, TableId, TableIds, Timestamp, is_writable, write_list};
+use lsm_writers::{
+    FinishedTable, MultiWriter, TableId, TableIds, Timestamp, is_writable, write_list,
+};
 use sst_blocks::{Error, InternalValue, SeqNo, Slice, ValueType};
 use std::alloc::Global;
 use std::test::Fail;
