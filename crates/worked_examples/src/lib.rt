@@ -18,6 +18,8 @@ mod pins;
 #[cfg(test)]
 mod point_reads;
 #[cfg(test)]
+mod ranges;
+#[cfg(test)]
 mod scans;
 #[cfg(test)]
 mod stored;

@@ -1,6 +1,6 @@
 //! Stored tables that are read with each pin and without: what stays loaded, what is found, and what each read loads.
 use crate::stored::{filter_parts, one_entry, one_entry_filtered, two_levels};
-use lsm_tables::Table;
+use lsm_tables::{BlockIndex, BlockIndexImpl, BlockIndexIterImpl, Table};
 use sst_blocks::{Checksum, Error, SeqNo, Slice};
 use std::alloc::Allocator;
 use std::test::Fail;
@@ -164,6 +164,66 @@ fn reads_under_each_pair_of_pins(rt: HostRuntime) -> Result<(), Fail> {
         for at in 0..4 {
             assert!(rt; wrong_read(rt.alloc(), bytes, reads, at)?.is_none());
         }
+    }
+    Ok(())
+}
+
+// The number of the first handle that a reader of an index gives, if any.
+fn first_number<A: Allocator + Clone>(
+    reader: &mut BlockIndexIterImpl<A>,
+) -> Result<Option<SeqNo>, Error> {
+    match reader.next() {
+        Some(Ok(handle)) => Ok(Some(handle.seqno())),
+        Some(Err(error)) => Err(error),
+        None => Ok(None),
+    }
+}
+
+// The same of the reader from a key and a number on; `None` where there is no reader.
+fn starts<A: Allocator + Clone>(
+    index: &BlockIndexImpl<A>,
+    key: &[u8],
+    seqno: SeqNo,
+) -> Result<Option<Option<SeqNo>>, Error> {
+    match index.forward_reader(key, seqno)? {
+        Some(mut reader) => Ok(Some(first_number(&mut reader)?)),
+        None => Ok(None),
+    }
+}
+
+fn index_of<A: Allocator + Copy>(
+    alloc: A,
+    bytes: &[u8],
+    pins: Pins,
+) -> Result<BlockIndexImpl<A>, Error> {
+    let table = open_with(alloc, bytes, pins)?;
+    table.block_index()
+}
+
+// The same of the index of a table.
+fn starts_in<A: Allocator + Copy>(
+    alloc: A,
+    bytes: &[u8],
+    pins: Pins,
+    from: (&[u8], SeqNo),
+) -> Result<Option<Option<SeqNo>>, Error> {
+    let index = index_of(alloc, bytes, pins)?;
+    starts(&index, from.0, from.1)
+}
+
+#[test]
+fn readers_of_the_index_of_each_kind(rt: HostRuntime) -> Result<(), Fail> {
+    // only an index that stays loaded tells at once that no handle reaches a key
+    let tables: [(&[u8], Pins, Option<Option<SeqNo>>); 3] = [
+        (&filter_parts::BYTES, (true, true), None),
+        (&filter_parts::BYTES, (true, false), Some(None)),
+        (&two_levels::BYTES, (true, true), Some(None)),
+    ];
+    for (bytes, pins, behind) in tables {
+        let found = starts_in(rt.alloc(), bytes, pins, (b"a", 8))?;
+        assert_eq!(rt; found, Some(Some(7)));
+        let none = starts_in(rt.alloc(), bytes, pins, (b"c", 100))?;
+        assert_eq!(rt; none, behind);
     }
     Ok(())
 }
