@@ -1,6 +1,6 @@
 //! Ranges of tables from both ends, under each kind of index.
-use crate::stored::two_levels;
-use crate::tables::{Row, fill, new_writer};
+use crate::stored::{one_entry, two_levels};
+use crate::tables::{Row, fill, new_writer, open, overwritten};
 use lsm_tables::{Iter, Table};
 use refusing::{Refusing, each_refused};
 use sst_blocks::{Checksum, Direction, Error, IterItem, SeqNo, Slice, UserKey, ValueType};
@@ -467,5 +467,40 @@ fn each_request_of_a_range_refused_is_told(rt: HostRuntime) -> Result<(), Fail> 
     let heap = Refusing::new(rt.alloc(), 0);
     assert!(rt; is_dealt(&heap, false));
     assert_eq!(rt; answers, Ok(heap.requests()));
+    Ok(())
+}
+
+// ---- faults
+
+fn iter_of(alloc: Global, bytes: Slice<Global>) -> Result<Iter<Global>, Error> {
+    let table = open(alloc, bytes, 0)?;
+    table.iter()
+}
+
+// What the first step over a stored table with some bytes changed is refused, if it is, and whether nothing follows it.
+fn refused(
+    alloc: Global,
+    changes: &[(usize, &[u8])],
+    end: Direction,
+) -> Result<(Option<Error>, bool), Error> {
+    let bytes = overwritten(alloc, &one_entry::BYTES, changes)?;
+    let mut iter = iter_of(alloc, bytes)?;
+    let refusal = step(&mut iter, end).err();
+    Ok((refusal, is_over(&mut iter)))
+}
+
+#[test]
+fn the_fault_of_a_block_ends_all_from_either_end(rt: HostRuntime) -> Result<(), Fail> {
+    let faults: [(&[(usize, &[u8])], Direction, Option<Error>); 5] = [
+        (&[(44, b"y")], F, Some(Error::ChecksumMismatch)),
+        (&[(44, b"y")], B, Some(Error::ChecksumMismatch)),
+        (&[(5, &[1])], F, Some(Error::UnsupportedCompression)),
+        (&[(5, &[1])], B, Some(Error::UnsupportedCompression)),
+        // its one entry is given
+        (&[], F, None),
+    ];
+    for (changes, end, fault) in faults {
+        assert!(rt; refused(rt.alloc(), changes, end)? == (fault, true));
+    }
     Ok(())
 }
