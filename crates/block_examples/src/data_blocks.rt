@@ -206,6 +206,22 @@ fn a_point_read_finds_entries_as_they_were_written(rt: HostRuntime) -> Result<()
     Ok(())
 }
 
+// The key and the number of the place, where the block has it.
+fn has_key_at(block: &DataBlock, place: usize, key: &[u8], seqno: SeqNo) -> bool {
+    place < block.len() && block.key_at(place) == (key, seqno)
+}
+
+fn has_five_keys(alloc: Global) -> Result<bool, Error> {
+    let block = block_of_five(alloc)?;
+    Ok(has_key_at(&block, 1, b"a", 7) && has_key_at(&block, 4, b"e", 3))
+}
+
+#[test]
+fn the_key_of_a_place_is_that_of_its_entry(rt: HostRuntime) -> Result<(), Fail> {
+    assert!(rt; has_five_keys(rt.alloc())?);
+    Ok(())
+}
+
 // The number of the next entry, from the front or the back, or 99 where there is none.
 fn number<A: Allocator>(answer: Option<IterItem<A>>) -> Result<SeqNo, Error> {
     match answer {
@@ -544,7 +560,7 @@ fn each_request_refused_is_answered_so(rt: HostRuntime) -> Result<(), Fail> {
         Err(Error::OutOfMemory) => may_fail,
         Err(_) => false,
     });
-    assert_eq!(rt; answers, Ok(25));
+    assert_eq!(rt; answers, Ok(29));
     Ok(())
 }
 

@@ -421,7 +421,7 @@ fn each_request_refused_is_answered_so(rt: HostRuntime) -> Result<(), Fail> {
         Err(Error::OutOfMemory) => may_fail,
         Err(_) => false,
     });
-    assert_eq!(rt; answers, Ok(19));
+    assert_eq!(rt; answers, Ok(23));
     Ok(())
 }
 

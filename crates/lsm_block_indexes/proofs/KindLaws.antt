@@ -98,8 +98,11 @@ module _ {A : Type 0} where
       (ap (λ (x : OnDemand). on_demand x.body x.place) is)
       (ap (λ (x : OnDemand). x.opened) is)
 
-  pub levels_reader : (s t : TwoLevel) (body : List ℕ) (whole : List Handle) (lo : Option (List ℕ × ℕ)) → s ≡ new_two_level body whole → IsTwoLevelSought t lo None → (two_level_left t).index ≡ (two_level_left s).index → t.opened ≡ s.opened → IsReader {A = A} (Levels t) (two_level body whole) lo None
-  levels_reader s t body whole lo is sought index opened =
-      reader_of (Levels t) (two_level body whole) lo None sought
-      (index ∙ ap (λ (x : TwoLevel). two_level x.body x.whole) is)
-      (opened ∙ ap (λ (x : TwoLevel). x.opened) is)
+  pub levels_reader : (s : TwoLevel) (body : List ℕ) (whole : List Handle) → s ≡ new_two_level body whole → IsReader {A = A} (Levels s) (two_level body whole) None None
+  levels_reader s body whole is =
+      reader_of (Levels s) (two_level body whole) None None (levels_new s body whole is)
+      (ap (λ (x : TwoLevel). two_level x.body x.whole) is)
+      (ap (λ (x : TwoLevel). x.opened) is)
+
+  pub levels_reader_from : (s : TwoLevel) (body : List ℕ) (whole : List Handle) (lo : Option (List ℕ × ℕ)) → IsTwoLevelSought s lo None → (two_level_left s).index ≡ two_level body whole → s.opened ≡ none_opened → IsReader {A = A} (Levels s) (two_level body whole) lo None
+  levels_reader_from s body whole lo sought index opened = reader_of (Levels s) (two_level body whole) lo None sought index opened

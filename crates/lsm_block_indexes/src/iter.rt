@@ -33,7 +33,9 @@ impl<A: Allocator> Model for OwnedIndexBlockIter<A> {
 impl<A: Allocator> OwnedIndexBlockIter<A> {
     /// All handles of a block.
     pub fn new(block: IndexBlock<A>) -> OwnedIndexBlockIter<A>
-        ensures { result ≡ whole_span block }
+        ensures whole { result ≡ whole_span block }
+        ensures deals { DealsLeft ⟦<OwnedIndexBlockIter<A> as Iterator>⟧.next_gives
+            ⟦<OwnedIndexBlockIter<A> as DoubleEndedIterator>⟧.next_back_gives result }
     {
         let to = block.len();
         OwnedIndexBlockIter { block, from: 0, to }

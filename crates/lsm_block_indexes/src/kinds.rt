@@ -50,6 +50,8 @@ pub trait BlockIndexIter<A: Allocator>: DoubleEndedIterator<
         ensures opened { (left self.new).opened ≡ (left self.old).opened }
         ensures unchanged { OnErr result (self.new ≡ self.old) }
         ensures refused { OnErr result (takes_memory self.old) }
+        // An index that stays loaded goes on to want none.
+        ensures wants { takes_memory self.new → takes_memory self.old }
         ensures err { IfErr result (λ e. e ≡ OutOfMemory) };
 
     /// Drops what stands behind the first handle whose end key is greater than a key. The number is not looked at: versions of
@@ -69,6 +71,7 @@ pub trait BlockIndexIter<A: Allocator>: DoubleEndedIterator<
         ensures opened { (left self.new).opened ≡ (left self.old).opened }
         ensures unchanged { OnErr result (self.new ≡ self.old) }
         ensures refused { OnErr result (takes_memory self.old) }
+        ensures wants { takes_memory self.new → takes_memory self.old }
         ensures err { IfErr result (λ e. e ≡ OutOfMemory) };
 
     /// How many blocks of each kind were loaded.
@@ -136,8 +139,7 @@ impl<A: Allocator + Clone> BlockIndex<A> for BlockIndexImpl<A> {
                 Ok(Some(BlockIndexIterImpl::Volatile(iter)))
             }
             BlockIndexImpl::TwoLevel(index) => {
-                let mut iter = index.iter()?;
-                iter.seek_lower(key, seqno)?;
+                let iter = index.forward_reader(key, seqno)?;
                 Ok(Some(BlockIndexIterImpl::TwoLevel(iter)))
             }
         }

@@ -7,7 +7,7 @@ ghost use Rattle.sst_entries.specs.declared.error.Error.TheVariants.{OutOfMemory
 ghost use Rattle.lsm_block_indexes.specs.Words.{AnswersTrue, DealsEnding, IsBetween, IsTwoLevelSought};
 ghost use Rattle.lsm_block_indexes.specs.Words.{EntersBack, EntersFront, Fails, TwoLevelGives, TwoLevelSteps};
 ghost use Rattle.lsm_block_indexes.specs.Words.{back_needs, back_of, body_of, front_needs, front_of, left_size};
-ghost use Rattle.lsm_block_indexes.specs.Words.{loaded, new_two_level, part_of, two_level_left};
+ghost use Rattle.lsm_block_indexes.specs.Words.{loaded, new_two_level, none_opened, part_of, two_level, two_level_left};
 
 use crate::edges::Edges;
 use crate::iter::OwnedIndexBlockIter;
@@ -50,6 +50,26 @@ impl<A: Allocator + Clone> TwoLevelBlockIndex<A> {
             source,
             top_level_index,
         }
+    }
+
+    /// The handles from the first on that reaches a key and a number: whose end key is greater, or equal and numbered below
+    /// `seqno`. There is always a reader, and nothing is loaded. Refused [`Error::OutOfMemory`] alone.
+    pub fn forward_reader(&self, key: &[u8], seqno: SeqNo) -> Result<Iter<A>, Error>
+        ensures sought { IfOk result (λ i. IsTwoLevelSought i (Some (key.now, seqno)) None) }
+        ensures between { let edge = Some (key.now, seqno) in
+            IfOk result (λ i. IsBetween (two_level_left i) edge None) }
+        ensures index { let index = two_level self.now.0 self.now.1 in
+            IfOk result (λ i. (two_level_left i).index ≡ index) }
+        ensures opened { IfOk result (λ i. i.opened ≡ none_opened) }
+        ensures deals { let gives = ⟦<Iter<A> as Iterator>⟧.next_gives in
+            let back_gives = ⟦<Iter<A> as DoubleEndedIterator>⟧.next_back_gives in
+            IfOk result (λ i. DealsEnding gives back_gives (λ _. Unit {0}) (λ _. Unit {0}) i
+            (two_level_left i).results) }
+        ensures err { IfErr result (λ e. e ≡ OutOfMemory) }
+    {
+        let mut iter = self.iter()?;
+        iter.seek_lower(key, seqno)?;
+        Ok(iter)
     }
 
     /// All handles. Nothing is loaded. Refused [`Error::OutOfMemory`] alone.

@@ -1,12 +1,14 @@
 -- What an iterator over a range of a table still deals, and one call of it.
 use Rattle.std.specs.Prelude.{◌≡◌, ℕ, zero, suc, ◌+◌, ◌≤◌, Bool, true, false, List, [], ◌∷◌, ◌++◌, length, reverse, Option, Some, None, Result, Ok, Err, MatchOption, MatchResult, if◌then◌else◌}
 use Rattle.std.specs.declared.ops.Bound.TheVariants.{Unbounded}
+use Rattle.std.specs.Option.{option_or}
 use Rattle.sst_blocks.specs.declared.block_type.BlockType.TheVariants.{Data}
 use Rattle.sst_blocks.specs.declared.opened.Opened.{Opened}
 use Rattle.sst_entries.specs.declared.error.Error.{Error}
 use Rattle.sst_entries.specs.Entry.{Entry}
 use Rattle.sst_entries.specs.Error.{is_memory}
 use Rattle.sst_entries.specs.Stream.{answer_stops}
+use Rattle.sst_blocks.specs.Block.{place_fault}
 use Rattle.sst_blocks.specs.Handle.{Handle}
 use Rattle.sst_blocks.specs.Opened.{with_load, none_opened}
 use Rattle.lsm_block_indexes.specs.declared.kinds.BlockIndexIterImpl.{BlockIndexIterImpl}
@@ -14,7 +16,7 @@ use Rattle.lsm_block_indexes.specs.Kinds.{left_of}
 use Rattle.lsm_block_indexes.specs.Left.{Left, loaded, none_behind}
 use Rattle.lsm_iters.specs.Bounds.{lower_edge, upper_edge}
 use Rattle.lsm_iters.specs.Lift.{lift_told}
-use Rattle.lsm_iters.specs.Rows.{Bounded, block_rows, rows}
+use Rattle.lsm_iters.specs.Rows.{Bounded, block_rows, handle_rows, rows}
 
 -- the iterator of an index, whether its edges were sought, and whether all is over
 pub record Handles (A : Type 0) : Type 0 where
@@ -87,12 +89,37 @@ blocks_needed b [] = 0
 blocks_needed b (Ok h ∷ hs) = suc (none_behind (block_rows b h) (blocks_needed b hs))
 blocks_needed b (Err e ∷ hs) = 0
 
--- the same at the front and at the back: none where an entry of a loaded block stands there
-abbrev pub front_blocks : {A : Type 0} → Range A → ℕ
-front_blocks s = none_behind s.front (blocks_needed s.of (to_come s))
+-- the fault of a block that is found before memory is taken, and of the first of some blocks that has an item
+abbrev pub handle_early : Bounded → Result Handle Error → Option Error
+handle_early b (Ok h) = place_fault b.body h.offset h.size Data
+handle_early b (Err e) = None
 
-abbrev pub back_blocks : {A : Type 0} → Range A → ℕ
-back_blocks s = none_behind s.back (blocks_needed s.of (reverse (to_come s)))
+abbrev pub early_behind : {X : Type 0} → List X → Option Error → Option Error
+early_behind [] early = early
+early_behind (x ∷ xs) early = None
+
+abbrev pub blocks_early : Bounded → List (Result Handle Error) → Option Error
+blocks_early b [] = None
+blocks_early b (x ∷ hs) = option_or (handle_early b x) (early_behind (handle_rows b x) (blocks_early b hs))
+
+-- what stands next at an end: the entries of the block that is loaded there, and then the handles to come, the next one first
+pub record Next : Type 0 where
+  pub entries : List Entry
+  pub handles : List (Result Handle Error)
+
+abbrev pub front_next : {A : Type 0} → Range A → Next
+front_next s = record { entries = s.front; handles = to_come s }
+
+abbrev pub back_next : {A : Type 0} → Range A → Next
+back_next s = record { entries = s.back; handles = reverse (to_come s) }
+
+-- how many blocks an answer needs there: none where an entry of a loaded block stands there
+abbrev pub blocks_for : Bounded → Next → ℕ
+blocks_for b n = none_behind n.entries (blocks_needed b n.handles)
+
+-- the fault that stands there and is found before memory is taken
+abbrev pub early_for : Bounded → Next → Option Error
+early_for b n = early_behind n.entries (blocks_early b n.handles)
 
 -- the counts after so many loads of data blocks
 abbrev pub data_loaded : ℕ → Opened → Opened
@@ -121,12 +148,14 @@ pub record CountsBlocks {A : Type 0} (needed : ℕ) (s t : Range A) : Type 0 whe
   pub index_counts : (left_in t.handles).opened ≡ loaded index (left_in s.handles).opened
   pub index_within : index + index_to_come t ≤ index_to_come s
 
--- one call at an end; an error ends the iterator; it loads the blocks that it needs, and no more where it wants memory
-pub record RangeGives {A : Type 0} (end : List (Result Entry Error) → Option (Result Entry Error) × List (Result Entry Error)) (needed : Range A → ℕ) (s : Range A) (r : Option (Result Entry Error)) (t : Range A) : Type 0 where
+-- one call at an end; an error ends the iterator; it loads the blocks that it needs, and no more where it wants memory; where all of
+-- them were loaded, a fault that needs no memory to be found comes before any want of it
+pub record RangeGives {A : Type 0} (end : List (Result Entry Error) → Option (Result Entry Error) × List (Result Entry Error)) (next : Range A → Next) (s : Range A) (r : Option (Result Entry Error)) (t : Range A) : Type 0 where
   pub answer : RangeAnswer end s r t
   pub ends : MatchOption r (Unit {0}) (λ x. MatchResult x (λ _. Unit {0}) (λ _. IsEnded t))
   pub of : t.of ≡ s.of
   pub index : (left_in t.handles).index ≡ (left_in s.handles).index
   pub initialized : t.handles.sought ≡ true
-  pub loads : CountsBlocks (needed s) s t
-  pub exact : answer_stops is_memory r ≡ false → loads.blocks ≡ needed s
+  pub loads : CountsBlocks (blocks_for s.of (next s)) s t
+  pub exact : answer_stops is_memory r ≡ false → loads.blocks ≡ blocks_for s.of (next s)
+  pub first : (f : Error) → early_for s.of (next s) ≡ Some f → loads.blocks ≡ blocks_for s.of (next s) → r ≡ Some (Err f)

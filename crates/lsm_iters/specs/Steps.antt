@@ -7,7 +7,7 @@ use Rattle.sst_entries.specs.Span.{Span, rest_in}
 use Rattle.sst_blocks.specs.Handle.{Handle}
 use Rattle.lsm_block_indexes.specs.Left.{Left, LeftGives}
 use Rattle.lsm_iters.specs.Lift.{lift_told, lifted_told}
-use Rattle.lsm_iters.specs.Range.{Handles, Range, data_loaded, index_to_seek, left_in, to_seek}
+use Rattle.lsm_iters.specs.Range.{Handles, Range, data_loaded, handle_early, index_to_seek, left_in, to_seek}
 use Rattle.lsm_iters.specs.Rows.{Bounded, block_rows}
 
 -- ---- what is left of a loaded block
@@ -63,11 +63,17 @@ BlockTold b (Some (Ok h)) None = ⊥
 BlockTold b (Some (Ok h)) (Some (Ok es)) = lift_told b.global_seqno es ≡ block_rows b h
 BlockTold b (Some (Ok h)) (Some (Err e)) = is_memory e ≡ false → Err e ∷ [] ≡ block_rows b h
 
--- the next block at an end was taken
+-- the fault of that block that is found before memory is taken
+abbrev pub told_early : Bounded → Option (Result Handle Error) → Option Error
+told_early b None = None
+told_early b (Some x) = handle_early b x
+
+-- the next block at an end was taken; a fault that needs no memory to be found comes before any want of it
 pub record BlockGives {A : Type 0} (end : List (Result Handle Error) → Option (Result Handle Error) × List (Result Handle Error)) (s : Range A) (r : Option (Result (List Entry) Error)) (t : Range A) : Type 0 where
   pub handle : Option (Result Handle Error)
   pub step : LeftGives end (left_in s.handles) handle (left_in t.handles)
   pub told : BlockTold s.of handle r
+  pub first : (f : Error) → told_early s.of handle ≡ Some f → r ≡ Some (Err f)
   pub sought : t.handles.sought ≡ true
   pub is : t ≡ record s { handles = t.handles; opened = data_loaded (loads_for handle) s.opened }
 

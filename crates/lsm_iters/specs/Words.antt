@@ -3,14 +3,16 @@ pub use Rattle.sst_entries.specs.Point.{lower_place, upper_place, within}
 pub use Rattle.sst_entries.specs.Span.{SpanGives, rest_in}
 pub use Rattle.sst_entries.specs.Stream.{back_of, front_of}
 pub use Rattle.sst_entries.specs.Strict.{IsStrict}
+pub use Rattle.sst_entries.specs.Error.{FaultsFirst}
 pub use Rattle.sst_sections.specs.Sections.{body_of}
+pub use Rattle.sst_blocks.specs.Block.{place_fault}
 pub use Rattle.sst_blocks.specs.Seeking.{DealsLeft, KeepsLower, KeepsUpper, span_from, span_to, whole_span}
 pub use Rattle.lsm_block_indexes.specs.Dealt.{DealsEnding}
-pub use Rattle.lsm_block_indexes.specs.Kinds.{IsSought, left_of}
+pub use Rattle.lsm_block_indexes.specs.Kinds.{IsSought, TakesMemory, left_of}
 pub use Rattle.lsm_block_indexes.specs.Left.{LeftGives}
 pub use Rattle.lsm_iters.specs.Bounds.{edge_in, edge_of, key_of, lower_edge, upper_edge}
 pub use Rattle.lsm_iters.specs.Lift.{lift, lift_told, lifted, lifted_told}
-pub use Rattle.lsm_iters.specs.Range.{Range, RangeGives, back_blocks, data_loaded, front_blocks, left_in, new_range}
+pub use Rattle.lsm_iters.specs.Range.{Range, RangeGives, back_next, data_loaded, front_next, left_in, new_range}
 pub use Rattle.lsm_iters.specs.Range.{opened_in, range_left, range_size}
 pub use Rattle.lsm_iters.specs.Rows.{Bounded, block_rows, rows}
 pub use Rattle.lsm_iters.specs.Steps.{BlockGives, LoadsNone, PartGives, SeeksOnce, all_over, lifted_answer, over, stopped}

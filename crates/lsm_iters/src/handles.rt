@@ -1,7 +1,7 @@
 //! The handles of the blocks that are not loaded.
 ghost use Rattle.std.specs.Prelude.{◌≡◌, None, true, false, OnOk, OnErr, IfErr, List, ℕ, Option};
 ghost use Rattle.sst_entries.specs.declared.error.Error.TheVariants.{OutOfMemory};
-ghost use Rattle.lsm_iters.specs.Words.{IsSought, LeftGives, LoadsNone, SeeksOnce, all_over, back_of};
+ghost use Rattle.lsm_iters.specs.Words.{IsSought, LeftGives, LoadsNone, SeeksOnce, TakesMemory, all_over, back_of};
 ghost use Rattle.lsm_iters.specs.Words.{edge_in, front_of, left_in, left_of, lower_edge, upper_edge};
 
 use crate::Bound;
@@ -51,6 +51,8 @@ impl<A: Allocator + Clone> Handles<A> {
         ensures none { LoadsNone (left_in self.old) (left_in self.new) }
         ensures sought { self.new.sought ≡ true }
         ensures once { OnErr result (self.old.sought ≡ false) }
+        // Over an index that stays loaded nothing is refused.
+        ensures refused { OnErr result (TakesMemory self.old.iter) }
         ensures err { IfErr result (λ e. e ≡ OutOfMemory) }
     {
         if self.sought {
@@ -107,6 +109,8 @@ fn seek_lower<A: Allocator + Clone>(
     ensures sought { let low = lower_edge (edge_in lower.now) in
         IsSought iter.old None None → OnOk result (IsSought iter.new low None) }
     ensures none { LoadsNone (left_of iter.old) (left_of iter.new) }
+    ensures refused { OnErr result (TakesMemory iter.old) }
+    ensures wants { TakesMemory iter.new → TakesMemory iter.old }
     ensures err { IfErr result (λ e. e ≡ OutOfMemory) }
 {
     match lower {
@@ -127,6 +131,7 @@ fn seek_upper<A: Allocator + Clone>(
         (low : Option (List ℕ × ℕ)) → IsSought iter.old low None →
         OnOk result (IsSought iter.new low high) }
     ensures none { LoadsNone (left_of iter.old) (left_of iter.new) }
+    ensures refused { OnErr result (TakesMemory iter.old) }
     ensures err { IfErr result (λ e. e ≡ OutOfMemory) }
 {
     match upper {

@@ -2,11 +2,12 @@
 ghost use Rattle.std.specs.Prelude.{◌≡◌, ◌∷◌, [], None, Err, false, true, IfOk, IfErr, OnOk, OnErr};
 ghost use Rattle.std.specs.Iterator.{at_most};
 ghost use Rattle.sst_entries.specs.Error.{is_memory};
+ghost use Rattle.sst_blocks.specs.declared.block_type.BlockType.TheVariants.{Data};
 ghost use Rattle.sst_entries.specs.declared.error.Error.TheVariants.{OutOfMemory};
-ghost use Rattle.lsm_iters.specs.Words.{BlockGives, DealsEnding, IsSought, LoadsNone, RangeGives, SeeksOnce};
-ghost use Rattle.lsm_iters.specs.Words.{back_blocks, back_of, block_rows, body_of, data_loaded, edge_of};
-ghost use Rattle.lsm_iters.specs.Words.{front_blocks, front_of, left_in, lift_told, lower_edge, new_range};
-ghost use Rattle.lsm_iters.specs.Words.{opened_in, over, range_left, range_size, stopped, upper_edge};
+ghost use Rattle.lsm_iters.specs.Words.{BlockGives, DealsEnding, FaultsFirst, IsSought, LoadsNone, RangeGives};
+ghost use Rattle.lsm_iters.specs.Words.{SeeksOnce, back_next, back_of, block_rows, body_of, data_loaded, edge_of};
+ghost use Rattle.lsm_iters.specs.Words.{front_next, front_of, left_in, lift_told, lower_edge, new_range};
+ghost use Rattle.lsm_iters.specs.Words.{opened_in, over, place_fault, range_left, range_size, stopped, upper_edge};
 
 use crate::Bound;
 use crate::handles::Handles;
@@ -143,6 +144,8 @@ impl<A: Allocator + Clone> Iter<A> {
             IfOk result (λ es. lift_told of.global_seqno es ≡ block_rows of handle) }
         ensures err { let of = self.old.of in
             IfErr result (λ e. is_memory e ≡ false → Err e ∷ [] ≡ block_rows of handle) }
+        ensures first { let body = self.old.of.body in
+            FaultsFirst result (place_fault body handle.offset handle.size Data) }
         ensures counted { self.new ≡ record self.old { opened = data_loaded 1 self.old.opened } }
     {
         let handle = handle.into_inner();
@@ -176,7 +179,7 @@ impl<A: Allocator + Clone> Iter<A> {
 
     /// The answer at the front; an error does not end the iterator yet.
     fn step_front(&mut self) -> Option<IterItem<A>>
-        ensures { RangeGives front_of front_blocks self.old result (stopped result self.new) }
+        ensures { RangeGives front_of front_next self.old result (stopped result self.new) }
     {
         if let Err(refusal) = self.initialize() {
             return Some(Err(refusal));
@@ -195,7 +198,7 @@ impl<A: Allocator + Clone> Iter<A> {
 
     /// The answer at the back; an error does not end the iterator yet.
     fn step_back(&mut self) -> Option<IterItem<A>>
-        ensures { RangeGives back_of back_blocks self.old result (stopped result self.new) }
+        ensures { RangeGives back_of back_next self.old result (stopped result self.new) }
     {
         if let Err(refusal) = self.initialize() {
             return Some(Err(refusal));
@@ -227,7 +230,7 @@ impl<A: Allocator + Clone> Iterator for Iter<A> {
 
     ghost can_next = { λ _. Unit {0} };
 
-    ghost next_gives = { RangeGives front_of front_blocks };
+    ghost next_gives = { RangeGives front_of front_next };
 
     ghost remaining = { λ s. at_most (range_size s) };
 
@@ -246,7 +249,7 @@ impl<A: Allocator + Clone> Iterator for Iter<A> {
 impl<A: Allocator + Clone> DoubleEndedIterator for Iter<A> {
     ghost can_next_back = { λ _. Unit {0} };
 
-    ghost next_back_gives = { RangeGives back_of back_blocks };
+    ghost next_back_gives = { RangeGives back_of back_next };
 
     fn next_back(&mut self) -> Option<IterItem<A>> {
         match self.step_back() {

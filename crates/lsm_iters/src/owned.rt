@@ -35,7 +35,9 @@ impl<A: Allocator> Model for OwnedDataBlockIter<A> {
 impl<A: Allocator> OwnedDataBlockIter<A> {
     /// All entries of a block.
     pub fn new(block: DataBlock<A>) -> OwnedDataBlockIter<A>
-        ensures { result ≡ whole_span block }
+        ensures whole { result ≡ whole_span block }
+        ensures deals { DealsLeft ⟦<OwnedDataBlockIter<A> as Iterator>⟧.next_gives
+            ⟦<OwnedDataBlockIter<A> as DoubleEndedIterator>⟧.next_back_gives result }
     {
         let to = block.len();
         OwnedDataBlockIter { block, from: 0, to }

@@ -163,6 +163,10 @@ file_scans stored es t g pin_filter pin_index parts short told any =
     subst (λ (b : List ℕ). Scans (body_of b) parts.facts.data_block_count g (ok_results (lift es g))) (sym t.file.are)
     (written_scan t.version t.label t.options t.spills es c t.file.is t.fits t.strict (short_file stored es t short) g pin_filter pin_index parts (told_file stored es t short g pin_filter pin_index parts told) any)
 
+-- so a scan of it gives the list
+pub file_told : (stored : List ℕ) (es : List Entry) (t : IsTable stored es) (g : ℕ) (pin_filter pin_index : Bool) (parts : Parts) → length stored < 2 ^ 63 → recovered_told stored g pin_filter pin_index ≡ Ok parts → 0 < length es → scan_told (body_of stored) parts.facts.data_block_count g ≡ ok_results (lift es g)
+file_told stored es t g pin_filter pin_index parts short told any = (file_scans stored es t g pin_filter pin_index parts short told any).all
+
 -- ---- a scan that has a first block is refused for want of memory alone
 
 memory_or : (e : Error) (b : Bool) → is_memory e ≡ b → (is_memory e ≡ false → None ≡ Some e) → e ≡ OutOfMemory

@@ -421,5 +421,13 @@ first_left body g count es next told =
     let k : max 1 count ≡ suc (count - 1) = omega arith in
     ap (entries_from body g [] 0) k ∙ block_left body g 0 (count - 1) ∙ ap (next_left body g (count - 1)) told
 
+-- it could not be read
+pub fault_left : (body : List ℕ) (g count : ℕ) (e : Error) → fault_of (load_at_told body 0 Data) ≡ Some e → scan_told body count g ≡ Err e ∷ []
+fault_left body g count e fault =
+    let k : max 1 count ≡ suc (count - 1) = omega arith in
+    ap (entries_from body g [] 0) k
+    ∙ block_left body g 0 (count - 1)
+    ∙ ap (λ (r : Result Loaded Error). next_left body g (count - 1) (r >>= λ b. Ok (entries_of b, behind 0 b))) (fault_is (load_at_told body 0 Data) e fault)
+
 pub same_left : (b d : List ℕ) (g : ℕ) (es fs : List Entry) (next m n : ℕ) → b ≡ d → es ≡ fs → m ≡ n → entries_from b g es next m ≡ entries_from d g fs next n
 same_left b d g es fs next m n p q r = rw (p, q, r) refl

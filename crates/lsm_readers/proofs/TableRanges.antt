@@ -23,7 +23,7 @@ use Rattle.lsm_block_indexes.specs.Kinds.{IsReader}
 use Rattle.lsm_block_indexes.specs.Left.{loaded}
 use Rattle.lsm_iters.specs.Bounds.{lower_edge, upper_edge}
 use Rattle.lsm_iters.specs.Lift.{lift, lift_told}
-use Rattle.lsm_iters.specs.Range.{Range, RangeGives, back_blocks, data_loaded, front_blocks, index_to_come, left_in, new_range, opened_in, range_left, to_come}
+use Rattle.lsm_iters.specs.Range.{Next, Range, RangeGives, back_next, data_loaded, front_next, index_to_come, left_in, new_range, opened_in, range_left, to_come}
 use Rattle.lsm_iters.specs.Rows.{Bounded, rows}
 use Rattle.lsm_iters.proofs.Ends.{if_false}
 use Rattle.lsm_iters.proofs.RangeLaws.{range_deals}
@@ -38,10 +38,10 @@ R = Result Entry Error
 
 -- one call at the front, and at the back
 abbrev pub gives : {A : Type 0} → Range A → Option R → Range A → Type 0
-gives = RangeGives front_of front_blocks
+gives = RangeGives front_of front_next
 
 abbrev pub back_gives : {A : Type 0} → Range A → Option R → Range A → Type 0
-back_gives = RangeGives back_of back_blocks
+back_gives = RangeGives back_of back_next
 
 -- ---- where only want of memory stops a reader, values are dealt to the end
 
@@ -72,7 +72,7 @@ deal_ok [] (Front ∷ ends) = ap (λ (rs : List (Option R)). None ∷ rs) (deal_
 deal_ok (x ∷ xs) (Front ∷ ends) = ap (λ (rs : List (Option R)). Some (Ok x) ∷ rs) (deal_ok xs ends)
 deal_ok xs (Back ∷ ends) = subst (λ (zs : List R). BackOk zs ends) (sym (map_reverse xs)) (by_back (reverse xs) ends (λ us. deal_ok us ends))
 
-deals_values : {S : Type 0} (front back : S → Option R → S → Type 0) (may may_back : S → Type 0) (s : S) (xs : List Entry) → DealsEnding front back may may_back s (ok_results xs) → (stops : Error → Bool) → stops OutOfMemory ≡ true → Deals (answer_stops stops) front back s (ok_results xs)
+pub deals_values : {S : Type 0} (front back : S → Option R → S → Type 0) (may may_back : S → Type 0) (s : S) (xs : List Entry) → DealsEnding front back may may_back s (ok_results xs) → (stops : Error → Bool) → stops OutOfMemory ≡ true → Deals (answer_stops stops) front back s (ok_results xs)
 deals_values front back may may_back s xs d stops memory = record {
   answers = λ ends rs t runs fine. d.answers ends rs t runs (none_memory stops memory rs fine) ∙ deal_ok xs ends;
 }
@@ -103,8 +103,8 @@ record IsWithin {A : Type 0} (blocks index : ℕ) (s : Range A) : Type 0 where
   no_meta : (opened_in s).meta_loads ≡ 0
 
 module _ {A : Type 0} (blocks index : ℕ) where
-  stays : (end : List R → Option R × List R) (needed : Range A → ℕ) (s : Range A) (r : Option R) (t : Range A) → RangeGives end needed s r t → IsWithin blocks index s → IsWithin blocks index t
-  stays end needed s r t step held =
+  stays : (end : List R → Option R × List R) (next : Range A → Next) (s : Range A) (r : Option R) (t : Range A) → RangeGives end next s r t → IsWithin blocks index s → IsWithin blocks index t
+  stays end next s r t step held =
       let o = (left_in s.handles).opened in
       let n = step.loads.index in
       record {
@@ -118,8 +118,8 @@ module _ {A : Type 0} (blocks index : ℕ) where
   along [] [] s t runs held = subst (λ (x : Range A). IsWithin blocks index x) runs held
   along [] (r ∷ rs) s t runs held = absurd runs
   along (e ∷ ends) [] s t runs held = absurd runs
-  along (Front ∷ ends) (r ∷ rs) s t runs held = along ends rs runs.0 t runs.2 (stays front_of front_blocks s r runs.0 runs.1 held)
-  along (Back ∷ ends) (r ∷ rs) s t runs held = along ends rs runs.0 t runs.2 (stays back_of back_blocks s r runs.0 runs.1 held)
+  along (Front ∷ ends) (r ∷ rs) s t runs held = along ends rs runs.0 t runs.2 (stays front_of front_next s r runs.0 runs.1 held)
+  along (Back ∷ ends) (r ∷ rs) s t runs held = along ends rs runs.0 t runs.2 (stays back_of back_next s r runs.0 runs.1 held)
 
 -- ---- a range of an opened table
 
@@ -151,19 +151,19 @@ module _ {A : Type 0} (t : OpenTable) (low high : Bound (List ℕ)) (s : Range A
   abbrev told : List (Result Handle Error)
   told = (table_index t).told (lower_edge low) (upper_edge high)
 
-  come : to_come s ≡ told
+  pub come : to_come s ≡ told
   come =
       if_false s.handles.sought (left_in s.handles).results ((left_in s.handles).index.told (lower_edge s.of.low) (upper_edge s.of.high)) is.unsought
       ∙ ap (λ (b : Bounded). (left_in s.handles).index.told (lower_edge b.low) (upper_edge b.high)) is.of
       ∙ ap (λ i. i.told (lower_edge low) (upper_edge high)) is.index
 
-  index_come : index_to_come s ≡ index_within t low high
+  pub index_come : index_to_come s ≡ index_within t low high
   index_come =
       if_false s.handles.sought (left_in s.handles).loads ((left_in s.handles).index.loads (lower_edge s.of.low) (upper_edge s.of.high)) is.unsought
       ∙ ap (λ (b : Bounded). (left_in s.handles).index.loads (lower_edge b.low) (upper_edge b.high)) is.of
       ∙ ap (λ i. i.loads (lower_edge low) (upper_edge high)) is.index
 
-  left_is : range_left s ≡ range_told t low high
+  pub left_is : range_left s ≡ range_told t low high
   left_is =
       ap (λ (es : List Entry). lift_told s.of.global_seqno es ++ (rows s.of (to_come s) ++ lift_told s.of.global_seqno s.back)) is.front
       ∙ ap (λ (es : List Entry). rows s.of (to_come s) ++ lift_told s.of.global_seqno es) is.back

@@ -1,5 +1,5 @@
 -- A scan of a table: its blocks one behind another, and their entries.
-use Rattle.std.specs.Prelude.{◌≡◌, ℕ, zero, suc, ◌+◌, ◌<◌, ◌≤◌, max, Bool, true, false, List, [], ◌∷◌, ◌++◌, length, map, Option, Some, None, MatchOption, Result, Ok, Err, IfErr, MatchResult, ◌⊎◌}
+use Rattle.std.specs.Prelude.{◌≡◌, ℕ, zero, suc, ◌+◌, ◌-◌, ◌<◌, ◌≤◌, max, Bool, true, false, List, [], ◌∷◌, ◌++◌, length, map, Option, Some, None, MatchOption, Result, Ok, Err, IfErr, MatchResult, ◌⊎◌}
 use Rattle.std.specs.List.{flat_map}
 use Rattle.sst_blocks.specs.declared.block_type.BlockType.TheVariants.{Data}
 use Rattle.sst_entries.specs.declared.error.Error.{Error}
@@ -142,6 +142,11 @@ pub record ScansNext (s : Scan) (r : Option (Result Entry Error)) (t : Scan) : T
   pub some : 0 < loads_of s → 0 < count
   pub falls : MatchOption r (Unit {0})
       (λ x. MatchResult x (λ _. count + t.blocks ≡ s.blocks) (λ _. Unit {0}))
+
+-- a scan of so many blocks before its first step: all that it gives is left, and all blocks but the first
+pub record IsNewScan (body : List ℕ) (count g : ℕ) (s : Scan) : Type 0 where
+  pub left : scan_left s ≡ scan_told body count g
+  pub blocks : s.blocks ≡ count - 1
 
 -- how many items come at most
 abbrev pub scan_size : Scan → ℕ

@@ -1,7 +1,7 @@
 //! Reading a whole table, block after block.
 ghost use Rattle.std.specs.Prelude.{◌≡◌, ◌∷◌, ◌<◌, ◌-◌, ◌↔◌, ℕ, [], Bool, List, Some, Ok, Err, true, length, IsTrue, IfNone, IfOk, IfErr, IfSome};
 ghost use Rattle.std.specs.Iterator.{at_most};
-ghost use Rattle.lsm_readers.specs.Words.{CanDeal, Deals, Entry, Faults, FaultsFirst, Gives, Scan, ScansNext, TakesEntry, block_told, body_of, with_load};
+ghost use Rattle.lsm_readers.specs.Words.{CanDeal, Deals, Entry, Faults, FaultsFirst, Gives, IsNewScan, Scan, ScansNext, TakesEntry, block_told, body_of, with_load};
 ghost use Rattle.lsm_readers.specs.Words.{ended, fault_of, lifted_told, load_at_told, none_opened, nowhere, position_fault, scan_size, scan_told, answer_stops};
 ghost use Rattle.sst_blocks.specs.declared.block_type.BlockType.TheVariants.{Data};
 ghost use Rattle.sst_entries.specs.declared.error.Error.{Error};
@@ -60,6 +60,8 @@ fn block_at<A: Allocator + Clone>(
     ensures early { FaultsFirst result (position_fault (body_of source.now) position Data) }
     ensures counted { opened.new ≡ with_load Data opened.old }
 {
+    // The blocks behind it will be asked next: their checksums cost little more with this one's.
+    source.compare_ahead(position);
     let block = source.load_at(position, BlockType::Data, opened)?;
     let next = position + Header::serialized_len() as u64 + block.size() as u64;
     Ok((DataBlock::new(block), next))
@@ -78,6 +80,7 @@ impl<A: Allocator + Clone> Scanner<A> {
         // What the block's header says, and its checksum, comes before any want of memory.
         ensures early { FaultsFirst result (position_fault (body_of source.now) 0 Data) }
         ensures opened { IfOk result (λ s. s.opened ≡ with_load Data none_opened) }
+        ensures left { IfOk result (IsNewScan (body_of source.now) block_count global_seqno) }
         // Want of memory aside, it gives the entries of the blocks.
         ensures deals { (stops : Error → Bool) → stops OutOfMemory ≡ true →
             let gives = ⟦<Scanner<A> as Iterator>⟧.next_gives in

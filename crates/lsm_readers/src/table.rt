@@ -1,6 +1,6 @@
 //! Tables: opening a table's bytes, and reading from them.
 ghost use Rattle.std.specs.Prelude.{◌≡◌, ◌≢◌, ◌+◌, ℕ, Bool, List, [], Option, Some, Result, Ok, Err, false, true, length, IfOk, IfErr, IsOk, MatchResult};
-ghost use Rattle.lsm_readers.specs.Words.{BloomFilter, CanDeal, Deals, Entry, Faults, FaultsFirst, Gives, Handle, IsOpen, IsRecovered, IsTable, NamesBlocksOf};
+ghost use Rattle.lsm_readers.specs.Words.{BloomFilter, CanDeal, Deals, Entry, Faults, FaultsFirst, Gives, Handle, IsNewScan, IsOpen, IsRecovered, IsTable, NamesBlocksOf};
 ghost use Rattle.lsm_readers.specs.Words.{Loaded, LoadsFew, OpenTable, Opens, SaysList, Scan, ScansList, answer_stops, body_of, early_fault, early_in, ends_of};
 ghost use Rattle.lsm_readers.specs.Words.{facts_of, fault_of, filter_len, filter_told, fitting_told, fnv1a, handles_told, index_len, index_of, index_told, key_bound, lift};
 ghost use Rattle.lsm_readers.specs.Words.{list_told, load_at_told, load_told, none_opened, nowhere, number_told, overlaps_bounds, parts_of, parts_told};
@@ -381,6 +381,8 @@ impl<A: Allocator + Clone> Table<A> {
             ⟦<Scanner<A> as Iterator>⟧.next_gives s (Some (Err e)) t →
             Deals (answer_stops stops) ⟦<Scanner<A> as Iterator>⟧.next_gives nowhere t [] }
         ensures opened { IfOk result (λ s. s.opened ≡ with_load Data none_opened) }
+        ensures left { let count = self.now.parts.facts.data_block_count in
+            IfOk result (IsNewScan (body_of self.now.bytes) count self.now.global_seqno) }
         // On a table of a list it is the list, its numbers lifted; where the list has an entry, nothing but want of memory
         // refuses it.
         ensures list { (es : List Entry) → IsTable self.now.bytes es →
@@ -429,12 +431,14 @@ impl<A: Allocator + Clone> Table<A> {
 }
 
 impl<A: Allocator> Table<A> {
-    /// A law, which does nothing: a table of a list says of itself what the list says, and its key range is the list's ends.
+    /// A law, which does nothing: a table of a list says of itself what the list says, and its key range is the list's ends; and
+    /// any table was recovered from its bytes, which are in memory.
     pub fn tells_its_list(&self)
         ensures parts { (es : List Entry) (t : IsTable self.now.bytes es) →
             SaysList t self.now.parts }
         ensures range { (es : List Entry) → IsTable self.now.bytes es →
             ⟦<Table<A> as Ranged>⟧.range self.now ≡ ends_of es }
+        ensures open { IsOpen self.now }
     {
         let _source: &BlockSource<A> = &self.source;
     }

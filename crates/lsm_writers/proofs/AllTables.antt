@@ -57,7 +57,7 @@ in_order size target before ((x ∷ xs) ∷ (e ∷ es) ∷ ts) cuts strict = (
 
 -- ---- what is answered
 
-joined_all : (ts : List (List Entry)) (t : List Entry) → joined (ts ++ rest_chunk t) ≡ joined ts ++ t
+pub joined_all : (ts : List (List Entry)) (t : List Entry) → joined (ts ++ rest_chunk t) ≡ joined ts ++ t
 joined_all ts t = flat_map-append (λ (x : List Entry). x) ts (rest_chunk t) ∙ ap (λ (x : List Entry). joined ts ++ x) (joined_rest t)
 
 some_length : (es : List Entry) → (es ≡ [] → ⊥) → 0 < length es

@@ -136,11 +136,15 @@ snoc_split (x ∷ a) b (y ∷ t) e h =
       | inr some ↦ inr (some.0, some.1, cc (head, some.2))
     ]
 
+pub no_end : (es : List Entry) (e : Entry) → es ++ e ∷ [] ≡ [] → ⊥
+no_end [] e h = cc
+no_end (x ∷ es) e h = cc
+
 apart_nil : (a : List Entry) → apart a [] ≡ true → ⊥
 apart_nil [] h = cc
 apart_nil (x ∷ a) h = cc
 
-apart_none : (b : List Entry) → apart [] b ≡ true → ⊥
+pub apart_none : (b : List Entry) → apart [] b ≡ true → ⊥
 apart_none b h = cc
 
 -- the joint is told by the first entry behind it
@@ -217,7 +221,7 @@ cuts_first size target e = (cut_one size target e, tt, tt)
 
 -- ---- whether a table is due
 
-not_due : (starts reached : Bool) → (starts && reached) ≡ false → starts ≡ true → reached ≡ false
+pub not_due : (starts reached : Bool) → (starts && reached) ≡ false → starts ≡ true → reached ≡ false
 not_due true reached h s = h
 not_due false reached h s = absurd cc
 

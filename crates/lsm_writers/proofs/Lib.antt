@@ -3,6 +3,7 @@ pub mod Refused
 pub mod Cutting
 pub mod DataBack
 pub mod CutTables
+pub mod OneCut
 pub mod Rotating
 pub mod Turning
 pub mod AllTables

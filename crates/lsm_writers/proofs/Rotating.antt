@@ -13,7 +13,7 @@ use Rattle.lsm_writers.specs.declared.writer.FinishedTable.{FinishedTable}
 use Rattle.lsm_writers.specs.Cut.{rest_chunk}
 use Rattle.lsm_writers.specs.Tables.{AddsTable, AreCuts, AreFinished, GoesOn, drawn, gained_all, ids_fault, is_due, label_before, list_in, lists_in, next_id, next_label, next_writing}
 use Rattle.lsm_writers.specs.Writing.{IsFinished, IsTableWith, Writing, fresh_writing, gained, may_be_written, spills_of, written}
-use Rattle.lsm_writers.proofs.CutTables.{cuts_first, cuts_longer, cuts_next, gained_snoc, long_enough, still_short, unspilled}
+use Rattle.lsm_writers.proofs.CutTables.{cuts_first, cuts_longer, cuts_next, gained_snoc, long_enough, no_end, still_short, unspilled}
 use Rattle.lsm_writers.proofs.Cutting.{joined_more, rest_is}
 use Rattle.lsm_writers.proofs.DataBack.{list_back}
 use Rattle.lsm_writers.proofs.ListWriting.{no_spills, same_label, written_gained}
@@ -86,10 +86,6 @@ pub lists_more : {A : Type 0} (fs : List (FinishedTable A)) (f : FinishedTable A
 lists_more {A} fs f t is = map-append (λ (x : FinishedTable A). list_in x.bytes) fs (f ∷ []) ∙ ap (λ (x : List Entry). lists_in fs ++ x ∷ []) is
 
 -- ---- one entry more in the present table
-
-no_end : (es : List Entry) (e : Entry) → es ++ e ∷ [] ≡ [] → ⊥
-no_end [] e h = cc
-no_end (x ∷ es) e h = cc
 
 -- the lists of all tables, one after another, with an entry more
 module _ {A : Type 0} (target : ℕ) (ids : Option ℕ) (fs : List (FinishedTable A)) (w : Writing) (e : Entry) (h : GoesOn target ids fs w) (next : IsTrue (may_be_written (joined (lists_in fs) ++ written w) e.user_key e.seqno)) where

@@ -25,7 +25,7 @@ use Rattle.lsm_writers.specs.Cut.{rest_chunk}
 use Rattle.lsm_writers.specs.Tables.{AreCuts, HasOneKey, HasTaken, IsCut, OneKeyLaw, TableFits, TablesWriting, Takes, TakesLaw, apart, cut_len, drawn, first_id, gained_all, ids_fault, is_due, label_before, next_id, next_label, rotated, rotation_fault, standing, table_fault, took, took_fault, turn_fault}
 use Rattle.lsm_writers.specs.Writing.{IsWritable, Writing, finish_fault, fresh_writing, gained, may_be_written, spilled, write_fault, written}
 use Rattle.lsm_writers.proofs.AllTables.{failed_kept, in_order}
-use Rattle.lsm_writers.proofs.CutTables.{apart_first, apart_starts, cut_len_is, gained_full, gained_open, gained_snoc, long_enough, options_kept, part_full, part_open}
+use Rattle.lsm_writers.proofs.CutTables.{apart_first, apart_starts, cut_len_is, gained_full, gained_open, gained_snoc, long_enough, no_end, options_kept, part_full, part_open}
 use Rattle.lsm_writers.proofs.Cutting.{joined_more, rest_is}
 use Rattle.lsm_writers.proofs.Finishing.{nothing_refused}
 use Rattle.lsm_writers.proofs.Fitting.{finish_fault_is, fits_in}
@@ -70,10 +70,6 @@ none_fits options label = sym (finish_is options label []) ∙ nothing_refused (
 
 abbrev Small : List Entry → Type 0
 Small c = data_block_bound_of c < 2 ^ 32
-
-no_end : (t : List Entry) (e : Entry) → t ++ e ∷ [] ≡ [] → ⊥
-no_end [] e h = cc
-no_end (x ∷ xs) e h = cc
 
 fewer_small : (p es : List Entry) → Small (p ++ es) → Small p
 fewer_small p es small = omega (arith, small, sum_by-append entry_bound p es)

@@ -65,6 +65,20 @@ pub record AreTables (size : ℕ) (target : ℕ) (es : List Entry) (ts : List (L
     pub whole : joined ts ≡ es
     pub each : AreCuts size target ts
 
+-- tables that a list is cut into
+pub record HasTables (size : ℕ) (target : ℕ) (es : List Entry) : Type 0 where
+  pub tables : List (List Entry)
+  pub are : AreTables size target es tables
+
+-- each list is cut into tables, whatever the size of blocks and the target
+abbrev pub CutLaw : Type 0
+CutLaw = (size target : ℕ) (es : List Entry) → HasTables size target es
+
+-- in one way
+abbrev pub OneCutLaw : Type 0
+OneCutLaw = (size target : ℕ) (es : List Entry) (ts us : List (List Entry)) →
+    AreTables size target es ts → AreTables size target es us → ts ≡ us
+
 -- the keys of a table are below those of the one behind it
 abbrev pub IsBelow : List Entry → List (List Entry) → Type 0
 IsBelow t [] = Unit {0}
@@ -204,6 +218,10 @@ IsStanding true ids fs w ids' fs' w' =
 -- the tables as they stand when an entry is taken
 abbrev pub standing : TablesWriting → Entry → TablesWriting
 standing m e = if is_due m.target m.present e then rotated m else m
+
+-- the ids once an entry was given, whatever is answered
+abbrev pub ids_after : TablesWriting → Entry → Option ℕ
+ids_after m e = if m.failed then m.ids else (standing m e).ids
 
 -- one more entry
 abbrev pub took : TablesWriting → Entry → TablesWriting

@@ -6,9 +6,10 @@ ghost use Rattle.lsm_files.specs.declared.options.IndexKind.TheVariants.{Partiti
 ghost use Rattle.lsm_writers.specs.Words.{Faults, FaultsFirst, IsStrict, failed_fault, finish_fault};
 ghost use Rattle.lsm_writers.specs.Words.{may_be_written, written};
 ghost use Rattle.lsm_writers.specs.Tables.{AddsTable, AreFinished, AreInKeyOrder, AreTables, HasRoomFor, IsFreshRun};
-ghost use Rattle.lsm_writers.specs.Tables.{all_written, drawn, early_fault, first_label, ids_fault, is_due};
+ghost use Rattle.lsm_writers.specs.Tables.{all_written, drawn, early_fault, first_label, ids_after, ids_fault, is_due};
 ghost use Rattle.lsm_writers.specs.Tables.{new_tables, next_writing, rotation_fault, run_fault, table_fault, tables_of};
-ghost use Rattle.lsm_writers.specs.Tables.{IsStanding, OneKeyLaw, TakesLaw, took, took_fault, turn_fault, with_options};
+ghost use Rattle.lsm_writers.specs.Tables.{CutLaw, IsStanding, OneCutLaw, OneKeyLaw, TakesLaw};
+ghost use Rattle.lsm_writers.specs.Tables.{took, took_fault, turn_fault, with_options};
 
 use crate::{FinishedTable, TableIds, Timestamp, Writer};
 use lsm_files::BloomConstructionPolicy;
@@ -103,7 +104,7 @@ impl<A: Allocator + Clone> MultiWriter<A> {
     /// Refused [`Error::WriterFailed`] where a call was refused before; where a table is due, [`Error::TableIdsSpent`] where no
     /// id is left for it, and what [`Writer::finish`] refuses of the present one; then what [`Writer::write`] refuses; and
     /// [`Error::OutOfMemory`]. Whatever is refused, the list is given up, and each later call is refused
-    /// [`Error::WriterFailed`].
+    /// [`Error::WriterFailed`] and changes nothing. An id that was drawn stays drawn, also where the call is refused then.
     pub fn write(&mut self, item: InternalValue<A>) -> Result<(), Error>
         requires { IsTrue (may_be_written (all_written self.old) item.user_key item.seqno) }
         ensures ok { OnOk result (self.new ≡ took self.old item) }
@@ -115,6 +116,9 @@ impl<A: Allocator + Clone> MultiWriter<A> {
         // So it is where an id is left, and the entry, its block and the sections of the present table fit.
         ensures taken { HasRoomFor self.old item → IfErr result (λ e. e ≡ OutOfMemory) }
         ensures failed { OnErr result (self.new.failed ≡ true) }
+        // Whatever is answered, an id was drawn just where a table was due.
+        ensures ids { self.new.ids ≡ ids_after self.old item }
+        ensures kept { self.old.failed ≡ true → self.new ≡ self.old }
     {
         if self.failed {
             return Err(Error::WriterFailed);
@@ -283,17 +287,18 @@ fn add_table<A: Allocator + Clone>(
 fn is_due<A: Allocator + Clone>(target: u64, writer: &Writer<A>, item: &InternalValue<A>) -> bool
     ensures { result ≡ is_due target writer.now item.now }
 {
-    writer.starts_key(item) && writer.metadata().file_pos.0 >= target
+    // The length first: it costs less than comparing keys.
+    writer.metadata().file_pos.0 >= target && writer.starts_key(item)
 }
 
 /// Draws the next id, finishes the present table, and begins the next one. Refused [`Error::TableIdsSpent`] where no id is
-/// left, then as [`Writer::finish`] is.
+/// left, then as [`Writer::finish`] is; the id stays drawn.
 fn rotate<A: Allocator + Clone>(
     ids: &mut TableIds,
     finished: &mut Vec<FinishedTable<A>, A>,
     writer: &mut Writer<A>,
 ) -> Result<(), Error>
-    ensures ids { OnOk result (ids.new ≡ drawn ids.old) }
+    ensures ids { ids.new ≡ drawn ids.old }
     ensures next { OnOk result (writer.new ≡ next_writing ids.old writer.old) }
     ensures added { OnOk result (AddsTable writer.old finished.old.items finished.new.items) }
     ensures refused { Faults result (rotation_fault ids.old writer.old) }
@@ -320,6 +325,7 @@ fn make_ready<A: Allocator + Clone>(
     ensures first { FaultsFirst result
         (if is_due target writer.old item.now then ids_fault ids.old else None) }
     ensures idle { OnErr result (is_due target writer.old item.now ≡ true) }
+    ensures ids { ids.new ≡ (if is_due target writer.old item.now then drawn ids.old else ids.old) }
 {
     if is_due(target, writer, item) {
         rotate(ids, finished, writer)?;
@@ -327,9 +333,12 @@ fn make_ready<A: Allocator + Clone>(
     Ok(())
 }
 
-/// Laws of a list that is written whole. Where each table that it is cut into fits, and an id is left for each, it is taken,
-/// and its tables are these; at target 0 each table has all entries of one key. The call does nothing.
+/// Laws of a list that is written whole. Each list is cut into tables, and in one way. Where each of these fits, and an id is
+/// left for each, a strict list is taken, and its tables are these; at target 0 each table has all entries of one key. The call
+/// does nothing.
 pub fn tables_law()
+    ensures cut { CutLaw }
+    ensures one_cut { OneCutLaw }
     ensures takes { TakesLaw }
     ensures one_key { OneKeyLaw }
 {}

@@ -5,8 +5,6 @@
 #[cfg(test)]
 mod compaction;
 #[cfg(test)]
-mod heaps;
-#[cfg(test)]
 mod merging;
 #[cfg(test)]
 mod merging_front;

@@ -14,3 +14,4 @@ pub mod Within
 pub mod Grown
 pub mod Narrowing
 pub mod StrictHandles
+pub mod MarkLemmas

@@ -4,6 +4,7 @@ pub mod Handle
 pub mod Place
 pub mod Handles
 pub mod Block
+pub mod Marks
 pub mod Bounds
 pub mod Starts
 pub mod Encoding

@@ -8,6 +8,7 @@ mod data_block;
 mod filter_block;
 mod handle;
 mod index_block;
+mod marks;
 mod opened;
 mod source;
 mod starts;
@@ -25,5 +26,6 @@ pub use sst_filters::{BloomConstructionPolicy, Builder, contains_hash, filter_bo
 pub use sst_sections::{
     Checksum, Direction, Error, InternalKey, InternalValue, IterItem, Section, SectionName,
     SectionWriter, SeqNo, Slice, TableVersion, TagName, Toc, UserKey, UserValue, ValueType,
-    answer_at, answers_at, are_strict, compare_versions, from_the_front, hash, source_of,
+    answer_at, answers_at, are_strict, compare_versions, from_the_front, hash, hash_four,
+    source_of,
 };

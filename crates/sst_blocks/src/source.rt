@@ -1,38 +1,53 @@
 //! The only way to the blocks of a table's bytes.
-ghost use Rattle.std.specs.Prelude.{◌≡◌, ◌+◌, ◌<◌, ◌≤◌, ◌^◌, List, ℕ, length, map, slice_range, IfOk, None};
-ghost use Rattle.sst_blocks.specs.Block.{header_len};
-ghost use Rattle.sst_blocks.specs.Block.{checked_payload, checksum_fault, load_told, load_at_told, place_fault, position_fault, Loaded};
+ghost use Rattle.std.specs.Prelude.{◌≡◌, ◌↔◌, ◌+◌, ◌<◌, ◌≤◌, ◌^◌, List, ℕ, length, map, slice_range};
+ghost use Rattle.std.specs.Prelude.{IfOk, IfSome, IsTrue, MatchOption, None};
+ghost use Rattle.sst_blocks.specs.Block.{checked_payload, checksum_fault, header_len};
+ghost use Rattle.sst_blocks.specs.Block.{load_told, load_at_told, place_fault, position_fault};
+ghost use Rattle.sst_blocks.specs.Block.{Loaded};
+ghost use Rattle.sst_blocks.specs.Marks.{IsSaid};
+ghost use Rattle.sst_sections.specs.Fnv.{fnv1a};
+ghost use Rattle.std.specs.Arc.{arc_value};
 ghost use Rattle.sst_entries.specs.Error.{Gives, Refuses, FaultsFirst};
 ghost use Rattle.sst_blocks.specs.Opened.{with_load, none_opened};
 ghost use Rattle.sst_sections.specs.Sections.{body_of, section_in, section_names, trailer_fault};
 ghost use Rattle.sst_blocks.specs.declared.opened.Opened.{Opened};
 
 use crate::block::Header;
-use crate::{Block, BlockHandle, BlockType, Error, Opened, Slice, Toc, hash};
+use crate::marks::Marks;
+use crate::{Block, BlockHandle, BlockType, Error, Opened, Slice, Toc, hash, hash_four};
 use sst_sections::TRAILER_LEN;
+use sst_sections::number::{u32_at, u64_at};
 use std::alloc::{AllocError, Allocator, Global};
 use std::marker::Model;
+use std::sync::Arc;
 
 /// The length of a block header in bytes.
 const HEADER_LEN: usize = Header::LEN as usize;
 
 /// A table's bytes, whose trailer was read. Blocks are loaded from it, and in no other way. A contract sees the bytes.
+///
+/// It remembers the payloads whose checksum was compared, together with its clones, and does not hash them again.
 #[derive(Drop)]
 pub struct BlockSource<A: Allocator = Global> {
     bytes: Slice<A>,
     toc: Toc,
     alloc: A,
+    // none where there was no memory for them
+    marks: Option<Arc<Marks<A>, A>>,
 }
 
 impl<A: Allocator> Model for BlockSource<A> {
     ghost use Rattle.std.specs.Prelude.{◌≡◌, List, ℕ, map, None};
     ghost use Rattle.sst_sections.specs.Sections.{section_in, section_names, trailer_fault};
+    ghost use Rattle.std.specs.Prelude.{MatchOption};
+    ghost use Rattle.std.specs.Arc.{arc_value};
 
     ghost Value = { List ℕ };
 
     ghost view = { λ s. s.bytes };
 
-    ghost invariant = { λ s. (s.toc ≡ map (section_in s.bytes) section_names) × (trailer_fault s.bytes ≡ None) };
+    ghost invariant = { λ s. (s.toc ≡ map (section_in s.bytes) section_names) × (trailer_fault s.bytes ≡ None) ×
+        MatchOption s.marks (Unit {0}) (λ m. (arc_value m).table.shared.key ≡ s.bytes) };
 }
 
 impl<A: Allocator + Clone> Clone for BlockSource<A> {
@@ -46,20 +61,59 @@ impl<A: Allocator + Clone> Clone for BlockSource<A> {
             bytes: self.bytes.clone()?,
             toc: self.toc,
             alloc: self.alloc.clone()?,
+            marks: shared(&self.marks),
         })
     }
 }
 
+// The same marks, or none where the count of their sharers is refused.
+fn shared<A: Allocator>(marks: &Option<Arc<Marks<A>, A>>) -> Option<Arc<Marks<A>, A>>
+    ensures { (bytes : List ℕ) →
+        MatchOption marks.now (Unit {0}) (λ m. (arc_value m).table.shared.key ≡ bytes) →
+        MatchOption result (Unit {0}) (λ m. (arc_value m).table.shared.key ≡ bytes) }
+{
+    match marks {
+        Some(marks) => marks.clone().ok(),
+        None => None,
+    }
+}
+
+// Marks of no payload, or none where there is no memory for them.
+fn new_marks<A: Allocator + Clone>(alloc: &A, bytes: &Slice<A>) -> Option<Arc<Marks<A>, A>>
+    ensures { MatchOption result (Unit {0}) (λ m. (arc_value m).table.shared.key ≡ bytes.now) }
+{
+    match shared_marks(alloc, bytes) {
+        Ok(marks) => Some(marks),
+        Err(_) => None,
+    }
+}
+
+fn shared_marks<A: Allocator + Clone>(
+    alloc: &A,
+    bytes: &Slice<A>,
+) -> Result<Arc<Marks<A>, A>, AllocError>
+    ensures { IfOk result (λ m. (arc_value m).table.shared.key ≡ bytes.now) }
+{
+    let marks = Marks::new(alloc.clone()?, bytes)?;
+    Ok(Arc::new(alloc.clone()?, marks)?)
+}
+
 impl<A: Allocator + Clone> BlockSource<A> {
-    /// Reads the trailer, and takes no memory. Refused [`Error::InvalidTrailer`] where there are fewer than 120 bytes, the mark
-    /// differs or a section passes the end of the body.
+    /// Reads the trailer. Refused [`Error::InvalidTrailer`] where there are fewer than 120 bytes, the mark differs or a section
+    /// passes the end of the body, and not for want of memory: where there is none for its marks, it does without.
     pub fn new(alloc: A, bytes: Slice<A>) -> Result<BlockSource<A>, Error>
         ensures ok { IfOk result (λ s. s ≡ bytes) }
         ensures short { length bytes < 2 ^ 63 }
         ensures refused { Refuses result (trailer_fault bytes) }
     {
         let toc = Toc::of(bytes.as_slice())?;
-        Ok(BlockSource { bytes, toc, alloc })
+        let marks = new_marks(&alloc, &bytes);
+        Ok(BlockSource {
+            bytes,
+            toc,
+            alloc,
+            marks,
+        })
     }
 
     /// Where the sections lie.
@@ -176,12 +230,152 @@ impl<A: Allocator + Clone> BlockSource<A> {
         ensures first { let payload = slice_range (body_of self.now) start end in
             FaultsFirst result (checksum_fault header.checksum payload) }
     {
-        if hash(&self.body()[start..end]) != header.checksum {
+        if !self.has_sum(header.checksum, start, end) {
             return Err(Error::ChecksumMismatch);
         }
         let payload = self.bytes.slice(start, end)?;
         Block::open(self.alloc.clone()?, header.version, kind, payload)
     }
+
+    /// Whether the bytes from `start` up to `end` have this checksum. What is marked is not hashed again.
+    fn has_sum(&self, checksum: u64, start: usize, end: usize) -> bool
+        requires ordered { start ≤ end }
+        requires within { end ≤ length (body_of self.now) }
+        ensures { let payload = slice_range (body_of self.now) start end in
+            IsTrue result ↔ (fnv1a payload ≡ checksum) }
+    {
+        if self.remembers(checksum, start, end) {
+            return true;
+        }
+        let same = hash(&self.body()[start..end]) == checksum;
+        if same {
+            self.remember(checksum, start, end);
+        }
+        same
+    }
+
+    /// Whether it is marked that the bytes from `start` up to `end` have this checksum.
+    fn remembers(&self, checksum: u64, start: usize, end: usize) -> bool
+        requires ordered { start ≤ end }
+        requires within { end ≤ length (body_of self.now) }
+        ensures { IsTrue result → fnv1a (slice_range (body_of self.now) start end) ≡ checksum }
+    {
+        match &self.marks {
+            Some(marks) => self.is_said(checksum, start, end) && marks.has(start as u64),
+            None => false,
+        }
+    }
+
+    /// Marks that they have it.
+    fn remember(&self, checksum: u64, start: usize, end: usize)
+        requires ordered { start ≤ end }
+        requires within { end ≤ length (body_of self.now) }
+        requires sum { fnv1a (slice_range (body_of self.now) start end) ≡ checksum }
+    {
+        if let Some(marks) = &self.marks {
+            if self.is_said(checksum, start, end) {
+                marks.mark(start as u64);
+            }
+        }
+    }
+
+    /// Whether a header before `start` says this checksum and a payload up to `end`.
+    fn is_said(&self, checksum: u64, start: usize, end: usize) -> bool
+        requires ordered { start ≤ end }
+        requires within { end ≤ length self.now }
+        ensures { IsTrue result → IsSaid self.now start end checksum }
+    {
+        if start < HEADER_LEN {
+            return false;
+        }
+        let head = &self.bytes.as_slice()[start - HEADER_LEN..start];
+        u32_at(&head[8..]) as usize == end - start && u64_at(&head[16..]) == checksum
+    }
+
+    /// Compares the checksums of the data block at a position and of up to three behind it, in one loop, where that of the
+    /// first was not compared yet. Loading them, one after another, is faster for it, and answers what it would without.
+    pub fn compare_ahead(&self, position: u64) {
+        let Some(marks) = &self.marks else {
+            return;
+        };
+        let first = self.said_at(position);
+        match first {
+            Some(said) if !marks.has(said.start as u64) => {}
+            _ => return,
+        }
+        let second = self.said_behind(first);
+        let third = self.said_behind(second);
+        let fourth = self.said_behind(third);
+        let sums = hash_four(
+            self.payload(first),
+            self.payload(second),
+            self.payload(third),
+            self.payload(fourth),
+        );
+        self.mark_said(marks, first, sums.0);
+        self.mark_said(marks, second, sums.1);
+        self.mark_said(marks, third, sums.2);
+        self.mark_said(marks, fourth, sums.3);
+    }
+
+    /// What the header of the data block at a position says of its payload.
+    fn said_at(&self, position: u64) -> Option<Said>
+        ensures { IfSome result (λ said. IsSaid self.now said.start said.end said.checksum) }
+    {
+        let bytes = self.bytes.as_slice();
+        if bytes.len() < HEADER_LEN || ((bytes.len() - HEADER_LEN) as u64) < position {
+            return None;
+        }
+        let start = position as usize + HEADER_LEN;
+        let head = &bytes[start - HEADER_LEN..start];
+        let len = u32_at(&head[8..]) as usize;
+        if head[4] != BlockType::Data.tag() || bytes.len() - start < len {
+            return None;
+        }
+        Some(Said {
+            start,
+            end: start + len,
+            checksum: u64_at(&head[16..]),
+        })
+    }
+
+    fn said_behind(&self, before: Option<Said>) -> Option<Said>
+        ensures { IfSome result (λ said. IsSaid self.now said.start said.end said.checksum) }
+    {
+        self.said_at(before?.end as u64)
+    }
+
+    /// The payload of which that is said.
+    fn payload(&self, said: Option<Said>) -> &[u8]
+        requires { IfSome said (λ s. IsSaid self.now s.start s.end s.checksum) }
+        ensures { IfSome said (λ s. result.now ≡ slice_range self.now s.start s.end) }
+    {
+        match said {
+            Some(said) => &self.bytes.as_slice()[said.start..said.end],
+            None => &[],
+        }
+    }
+
+    /// Marks a payload whose checksum is what its header says.
+    fn mark_said(&self, marks: &Marks<A>, said: Option<Said>, sum: u64)
+        requires of { marks.now.table.shared.key ≡ self.now }
+        requires said { IfSome said (λ s. IsSaid self.now s.start s.end s.checksum) }
+        requires sum { IfSome said (λ s. sum ≡ fnv1a (slice_range self.now s.start s.end)) }
+    {
+        if let Some(said) = said {
+            if sum == said.checksum {
+                marks.mark(said.start as u64);
+            }
+        }
+    }
+}
+
+/// Where a payload lies, and the checksum that its header says.
+#[derive(Clone, Copy)]
+struct Said {
+    start: usize,
+    end: usize,
+    checksum: u64,
 }
 
 /// Whatever blocks can be loaded from, one handle at a time.

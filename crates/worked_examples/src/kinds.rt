@@ -2,7 +2,6 @@
 ghost use Rattle.std.specs.Prelude.{IfOk};
 ghost use Rattle.lsm_writers.specs.Writing.{IsFresh};
 
-use crate::tables::{Row, fill, load_entries, new_writer};
 use lsm_tables::{ParsedRegions, Table};
 use lsm_writers::{BloomConstructionPolicy, FinishedTable, Timestamp, Writer};
 use refusing::{Refusing, each_refused};
@@ -11,6 +10,8 @@ use sst_blocks::{
 };
 use std::alloc::{Allocator, Global};
 use std::test::Fail;
+use stored_examples::tables::load_entries;
+use writer_examples::rows::{Row, fill, new_writer};
 
 const ROWS: [Row<'static>; 4] = [
     (b"a", 9, ValueType::Value, b""),
@@ -230,10 +231,10 @@ fn read<A: Allocator + Clone>(table: &Table<A>, row: &Row<'_>) -> Result<bool, E
     Ok(found.map(|item| item.key.seqno) == Some(row.1))
 }
 
-// Whether the rows are found, or a refused request is answered as one.
+// Whether the rows are found, also where there is no memory for marks, or a refused request is answered as one.
 fn finds_its_rows(heap: &Refusing, may_fail: bool) -> bool {
     match rows_found(heap) {
-        Ok(found) => !may_fail && found == 8,
+        Ok(found) => found == 8,
         Err(error) => may_fail && error == Error::OutOfMemory,
     }
 }

@@ -1,6 +1,4 @@
 //! Where the parts of written and of stored tables lie, and what the tables say of themselves.
-use crate::stored::{filter_parts, one_entry, one_entry_filtered, two_levels};
-use crate::tables::{Row, fill, load_entries, load_handles, new_writer};
 use lsm_tables::{ParsedMeta, ParsedRegions};
 use sst_blocks::{
     BlockHandle, BlockSource, BlockType, DataBlock, Error, IndexBlock, Opened, SectionName, SeqNo,
@@ -8,6 +6,9 @@ use sst_blocks::{
 };
 use std::alloc::{Allocator, Global};
 use std::test::Fail;
+use stored_examples::stored::{filter_parts, one_entry, one_entry_filtered, two_levels};
+use stored_examples::tables::{load_entries, load_handles};
+use writer_examples::rows::{Row, fill, new_writer};
 
 const NAMES: [SectionName; 7] = [
     SectionName::Data,

@@ -2,34 +2,16 @@
 #![tactic(auto)]
 
 #[cfg(test)]
-mod changed_bytes;
-#[cfg(test)]
-mod changed_meta;
-#[cfg(test)]
 mod kinds;
 #[cfg(test)]
 mod layout;
 #[cfg(test)]
 mod lists;
 #[cfg(test)]
-mod many_tables;
-#[cfg(test)]
-mod pins;
-#[cfg(test)]
 mod point_reads;
-#[cfg(test)]
-mod ranges;
 #[cfg(test)]
 mod scans;
 #[cfg(test)]
-mod stored;
-#[cfg(test)]
-mod stored_reads;
-#[cfg(test)]
 mod surface;
-#[cfg(test)]
-mod tables;
-#[cfg(test)]
-mod writers;
 #[cfg(test)]
 mod writing;

@@ -1,5 +1,4 @@
 //! Lists that are written as one table, opened and read.
-use crate::tables::{Row, entry};
 use lsm_tables::{Scanner, read_back, write_and_open};
 use lsm_writers::{Timestamp, is_writable, write_list};
 use refusing::{Refusing, each_refused};
@@ -7,6 +6,7 @@ use sst_blocks::{Error, InternalValue, SeqNo, ValueType};
 use std::alloc::{Allocator, Global};
 use std::ops::Bound;
 use std::test::Fail;
+use writer_examples::rows::{Row, entry};
 
 const ROWS: [Row<'static>; 4] = [
     (b"a", 9, ValueType::Value, b"x"),

@@ -1,5 +1,4 @@
 //! Point reads of a table that is written and opened.
-use crate::tables::{Row, fill, new_writer, open, read};
 use lsm_tables::{Table, point_in};
 use refusing::each_refused;
 use sst_blocks::{
@@ -8,6 +7,8 @@ use sst_blocks::{
 };
 use std::alloc::{Allocator, Global};
 use std::test::Fail;
+use stored_examples::tables::{open, read};
+use writer_examples::rows::{Row, fill, new_writer};
 
 const ROWS: [Row<'static>; 4] = [
     (b"a", 9, ValueType::Value, b""),

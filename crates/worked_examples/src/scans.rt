@@ -1,11 +1,12 @@
 //! Whole tables, read in order.
-use crate::stored::{filter_parts, one_entry, one_entry_filtered, two_levels};
-use crate::tables::{Row, fill, new_writer, open, overwritten};
 use lsm_tables::{Scanner, Table};
 use refusing::{Refusing, each_refused};
 use sst_blocks::{BlockSource, CompressionType, Error, SeqNo, Slice, ValueType};
 use std::alloc::{Allocator, Global};
 use std::test::Fail;
+use stored_examples::stored::{filter_parts, one_entry, one_entry_filtered, two_levels};
+use stored_examples::tables::{open, overwritten};
+use writer_examples::rows::{Row, fill, new_writer};
 
 /// What a step of a scan gives: the number of an entry, a refusal, or nothing.
 type Step = Option<Result<SeqNo, Error>>;

@@ -1,11 +1,12 @@
 //! What a table says of itself.
-use crate::tables::{Row, fill, new_writer, open};
 use lsm_ranges::Ranged;
 use lsm_tables::Table;
 use sst_blocks::{Error, ValueType};
 use std::alloc::Global;
 use std::ops::Bound;
 use std::test::Fail;
+use stored_examples::tables::open;
+use writer_examples::rows::{Row, fill, new_writer};
 
 // A table of `a` and `b`.
 fn table_of_two(alloc: Global) -> Result<Table, Error> {

@@ -1,8 +1,9 @@
 //! Tables that are written and opened.
-use crate::tables::{Row, fill, new_writer, open, read};
 use sst_blocks::{Error, ValueType};
 use std::alloc::Global;
 use std::test::Fail;
+use stored_examples::tables::{open, read};
+use writer_examples::rows::{Row, fill, new_writer};
 
 // Opens a table whose index has an interval of two.
 fn open_interval_of_two(alloc: Global) -> Result<(), Error> {

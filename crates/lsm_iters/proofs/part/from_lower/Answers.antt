@@ -6,9 +6,9 @@ use Rattle.lsm_iters.proofs.Cuts.{whole_within}
 use Rattle.lsm_iters.proofs.part.from_lower.Goals as goal
 
 pub returns-in-None : goal.returns-in-None
-returns-in-None g c = rw (c.new-iter.ensures, c.in-None.is) (whole_within c.args.block)
+returns-in-None g c = rw (c.new-iter.ensures.whole, c.in-None.is) (whole_within c.args.block)
 
 pub returns-in-Some : goal.returns-in-Some
 returns-in-Some g c =
-    let was = ap (λ (s : Span Entry). rest_in s) c.new-iter.ensures ∙ whole_within c.args.block in
+    let was = ap (λ (s : Span Entry). rest_in s) c.new-iter.ensures.whole ∙ whole_within c.args.block in
     rw c.in-Some.is (c.seek_lower_bound.ensures.both Unbounded c.args.block was)

@@ -1,6 +1,6 @@
 use Rattle.std.specs.Prelude.{Some, None}
 use Rattle.sst_blocks.specs.Seeking.{reaching_place}
-use Rattle.lsm_block_indexes.proofs.KindLaws.{demand_reader, full_reader_from, levels_new, levels_reader}
+use Rattle.lsm_block_indexes.proofs.KindLaws.{demand_reader, full_reader_from, levels_reader_from}
 use Rattle.lsm_block_indexes.proofs.kinds.BlockIndexImplBlockIndex.forward_reader.Goals as goal
 
 pub returns-in-Some-clause-found : goal.returns-in-Some-clause-found
@@ -13,8 +13,7 @@ pub returns-in_ok-iter-in-VolatileFull-clause-found : goal.returns-in_ok-iter-in
 returns-in_ok-iter-in-VolatileFull-clause-found g c =
     rw c.in-VolatileFull.is (demand_reader c.in_ok-iter-in-VolatileFull.iter c.in-VolatileFull.index.0 c.in-VolatileFull.index.1 (Some (c.args.key.now, c.args.seqno)) c.in_ok-iter-in-VolatileFull.ensures.sought)
 
-pub returns-in_ok-seek_lower-in-TwoLevel-clause-found : goal.returns-in_ok-seek_lower-in-TwoLevel-clause-found
-returns-in_ok-seek_lower-in-TwoLevel-clause-found g c =
-    let unsought = c.in_ok-iter-in-TwoLevel.ensures.unsought in
-    let sought = c.in_ok-seek_lower-in-TwoLevel.ensures.sought None (levels_new c.in_ok-iter-in-TwoLevel.iter c.in-TwoLevel.index.0 c.in-TwoLevel.index.1 unsought) in
-    rw c.in-TwoLevel.is (levels_reader c.in_ok-iter-in-TwoLevel.iter c.seek_lower.new.self c.in-TwoLevel.index.0 c.in-TwoLevel.index.1 (Some (c.args.key.now, c.args.seqno)) unsought sought c.seek_lower.ensures.index c.seek_lower.ensures.opened)
+pub returns-in_ok-iter-in-TwoLevel-clause-found : goal.returns-in_ok-iter-in-TwoLevel-clause-found
+returns-in_ok-iter-in-TwoLevel-clause-found g c =
+    let found = c.in_ok-iter-in-TwoLevel.ensures in
+    rw c.in-TwoLevel.is (levels_reader_from c.in_ok-iter-in-TwoLevel.iter c.in-TwoLevel.index.0 c.in-TwoLevel.index.1 (Some (c.args.key.now, c.args.seqno)) found.sought found.index found.opened)

@@ -1,6 +1,5 @@
-use Rattle.std.proofs.Common.{refl}
 use Rattle.std.specs.Prelude.{None}
-use Rattle.lsm_block_indexes.proofs.KindLaws.{demand_reader, full_reader, levels_new, levels_reader}
+use Rattle.lsm_block_indexes.proofs.KindLaws.{demand_reader, full_reader, levels_reader}
 use Rattle.lsm_block_indexes.proofs.kinds.BlockIndexImplBlockIndex.iter.Goals as goal
 
 pub returns-in_ok-iter-in-Full-clause-all : goal.returns-in_ok-iter-in-Full-clause-all
@@ -13,6 +12,4 @@ returns-in_ok-iter-in-VolatileFull-clause-all g c =
 
 pub returns-in_ok-iter-in-TwoLevel-clause-all : goal.returns-in_ok-iter-in-TwoLevel-clause-all
 returns-in_ok-iter-in-TwoLevel-clause-all g c =
-    let s = c.in_ok-iter-in-TwoLevel.field-0 in
-    let unsought = c.in_ok-iter-in-TwoLevel.ensures.unsought in
-    rw c.in-TwoLevel.is (levels_reader s s c.in-TwoLevel.index.0 c.in-TwoLevel.index.1 None unsought (levels_new s c.in-TwoLevel.index.0 c.in-TwoLevel.index.1 unsought) refl refl)
+    rw c.in-TwoLevel.is (levels_reader c.in_ok-iter-in-TwoLevel.field-0 c.in-TwoLevel.index.0 c.in-TwoLevel.index.1 c.in_ok-iter-in-TwoLevel.ensures.unsought)

@@ -1,13 +1,13 @@
 use Rattle.std.proofs.Common.{ap, sym, subst}
 use Rattle.sst_entries.specs.Stream.{back_of}
-use Rattle.lsm_iters.specs.Range.{Range, back_blocks}
+use Rattle.lsm_iters.specs.Range.{Range, back_next}
 use Rattle.lsm_iters.proofs.Ranges.{BackReached, back_fault, back_item, back_rest, back_smaller, back_starts, kept_back, reached_back, refused}
 use Rattle.lsm_iters.proofs.iter.Iter.step_back.Goals as goal
 
 pub returns-in-Err : goal.returns-in-Err
 returns-in-Err g c =
     let done = c.initialize.ensures in
-    refused c.args.self.now c.initialize.new.self done.is done.none done.sought back_of back_blocks c.in-Err.refusal c.in-Err.ensures.err c.in-Err.ensures.once
+    refused c.args.self.now c.initialize.new.self done.is done.none done.sought back_of back_next c.in-Err.refusal c.in-Err.ensures.err c.in-Err.ensures.once
 
 pub loop-item-init : goal.loop-item-init
 loop-item-init g c =

@@ -1,13 +1,13 @@
 use Rattle.std.proofs.Common.{sym, subst}
 use Rattle.sst_entries.specs.Stream.{front_of}
-use Rattle.lsm_iters.specs.Range.{front_blocks}
+use Rattle.lsm_iters.specs.Range.{front_next}
 use Rattle.lsm_iters.proofs.Ranges.{FrontReached, front_fault, front_item, front_rest, front_starts, kept_front, reached_front, refused}
 use Rattle.lsm_iters.proofs.iter.Iter.step_front.Goals as goal
 
 pub returns-in-Err : goal.returns-in-Err
 returns-in-Err g c =
     let done = c.initialize.ensures in
-    refused c.args.self.now c.initialize.new.self done.is done.none done.sought front_of front_blocks c.in-Err.refusal c.in-Err.ensures.err c.in-Err.ensures.once
+    refused c.args.self.now c.initialize.new.self done.is done.none done.sought front_of front_next c.in-Err.refusal c.in-Err.ensures.err c.in-Err.ensures.once
 
 pub loop-item-init : goal.loop-item-init
 loop-item-init g c =

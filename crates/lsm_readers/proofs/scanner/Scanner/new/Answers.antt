@@ -13,6 +13,14 @@ returns-in_err-clone-clause-ends g c stops s t e step = scan_ends stops s t e st
 pub returns-clause-ends : goal.returns-clause-ends
 returns-clause-ends g c stops s t e step = scan_ends stops s t e step
 
+pub returns-clause-left : goal.returns-clause-left
+returns-clause-left g c =
+    let body = body_of c.args.source.now in
+    let first = first_left body c.args.global_seqno c.args.block_count c.in_ok-block.block c.in_ok-block.position c.in_ok-block.ensures.told in
+    let rest = same_left body (body_of c.in_ok-clone.field-0) c.args.global_seqno c.in_ok-block.block c.in_ok-block.block c.in_ok-block.position (c.args.block_count - 1) c.saturating_sub.result
+    (ap body_of (sym c.in_ok-clone.ensures.cases)) refl (sym c.saturating_sub.ensures) in
+    record { left = sym (first ∙ rest); blocks = c.saturating_sub.ensures }
+
 pub returns-clause-deals : goal.returns-clause-deals
 returns-clause-deals g c stops memory =
     let body = body_of c.args.source.now in

@@ -2,6 +2,7 @@ use Rattle.std.proofs.Common.{◌≡◌, ap, subst, sym, ◌∙◌}
 use Rattle.std.specs.Arc.{arc_value}
 use Rattle.std.specs.Prelude.{Result, Ok}
 use Rattle.sst_entries.specs.declared.error.Error.{Error}
+use Rattle.sst_entries.specs.declared.error.Error.TheVariants.{OutOfMemory}
 use Rattle.sst_entries.specs.Error.{Gives}
 use Rattle.lsm_readers.specs.declared.inner.Inner.{Inner}
 use Rattle.lsm_readers.specs.Parts.{Parts}
@@ -72,6 +73,10 @@ pub returns-in_err-inner-clause-list : goal.returns-in_err-inner-clause-list
 returns-in_err-inner-clause-list g c es t one =
     by_list (λ (x : OpenTable). x.parts) c.from_residual-in_err-inner.result _ _ (returns-in_err-inner-clause-told g c)
     (table_told c.args.bytes es t c.in_ok-source.ensures.short c.args.global_seqno c.args.pin_filter c.args.pin_index one)
+
+pub returns-in_err-kept-clause-list : goal.returns-in_err-kept-clause-list
+returns-in_err-kept-clause-list g c es t one =
+    passes_fault (λ (x : OpenTable). x.parts) c.from_residual-in_err-kept.result _ OutOfMemory c.from_residual-in_err-kept.ensures.1 (λ memory. absurd cc)
 
 pub returns-clause-list : goal.returns-clause-list
 returns-clause-list g c es t one =

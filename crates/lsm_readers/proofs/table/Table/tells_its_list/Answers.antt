@@ -18,3 +18,6 @@ returns-clause-range g c es t =
     let held = subst IsOpen c.self.view_is c.self.invariant in
     let pins = held.recovered in
     range_is seen held.recovered ∙ ap (λ (p : Parts). p.facts.key_range) (table_parts seen.bytes es t held.short seen.global_seqno pins.pin_filter pins.pin_index seen.parts pins.told)
+
+pub returns-clause-open : goal.returns-clause-open
+returns-clause-open g c = subst IsOpen c.self.view_is c.self.invariant

@@ -1,0 +1,285 @@
+use crate::streams::{FailingReader, FailingWriter};
+use refusing::{Refusing, each_refused};
+use sst_script::run_script;
+use std::alloc::{AllocError, Allocator, Global};
+use std::test::Fail;
+
+// What a script prints, what it reports, and its status.
+#[derive(Drop)]
+struct Ran<A: Allocator> {
+    output: Vec<u8, A>,
+    errors: Vec<u8, A>,
+    status: u8,
+}
+
+fn run<A: Allocator + Clone, B: Allocator + Clone>(
+    alloc: A,
+    plenty: B,
+    script: &[u8],
+) -> Result<Ran<B>, AllocError> {
+    let mut output = Vec::new(plenty.clone()?);
+    let mut errors = Vec::new(plenty);
+    let status = run_script(alloc, script, &mut output, &mut errors);
+    Ok(Ran {
+        output,
+        errors,
+        status,
+    })
+}
+
+fn gives<A: Allocator + Clone>(alloc: A, script: &[u8], output: &[u8]) -> Result<bool, AllocError> {
+    let ran = run(alloc.clone()?, alloc, script)?;
+    Ok(ran.output.as_slice() == output && ran.errors.is_empty() && ran.status == 0)
+}
+
+fn stops<A: Allocator + Clone>(
+    alloc: A,
+    script: &[u8],
+    output: &[u8],
+    errors: &[u8],
+) -> Result<bool, AllocError> {
+    let ran = run(alloc.clone()?, alloc, script)?;
+    Ok(ran.output.as_slice() == output && ran.errors.as_slice() == errors && ran.status == 2)
+}
+
+const FIRST: &[u8] =
+    b"entry a 9 V x\nentry a 7 T -\nentry b 1 V y\ntable\nget a 9\nget a 100\nget c 5\n";
+
+const FIRST_OUTPUT: &[u8] = b"tables 1\na 7 T -\na 9 V x\nnone\n";
+
+// Scripts, and what they print.
+const READ_BACK: &[(&[u8], &[u8])] = &[
+    (FIRST, FIRST_OUTPUT),
+    (b"", b""),
+    (b"\n\ntable\n\ntable", b"tables 0\ntables 0\n"),
+    (b"get - 0\nget - 18446744073709551615", b"none\nnone\n"),
+    (
+        b"entry - 0 W ~!\ntable\nget - 1\nget - 0",
+        b"tables 1\n- 0 W ~!\nnone\n",
+    ),
+    (
+        b"entry - 18446744073709551614 I -\ntable\nget - 18446744073709551615",
+        b"tables 1\n- 18446744073709551614 I -\n",
+    ),
+    // The newest answer comes from the older run.
+    (
+        b"entry a 9 V x\ntable\nentry a 3 V y\nentry b 1 T -\ntable\nget a 10\nget a 9\nget b 2",
+        b"tables 1\ntables 1\na 9 V x\na 3 V y\nb 1 T -\n",
+    ),
+    // A number of a key may stand in one run only, and another number of it in another.
+    (
+        b"entry a 2 V x\ntable\nentry a 1 V y\ntable\nentry b 2 V z\ntable\nget a 2\nget b 3",
+        b"tables 1\ntables 1\ntables 1\na 1 V y\nb 2 V z\n",
+    ),
+];
+
+#[test]
+fn reads_back_what_was_written(rt: HostRuntime) -> Result<(), Fail> {
+    let alloc = rt.alloc();
+    for &(script, output) in READ_BACK {
+        assert!(rt; gives(alloc, script, output)?);
+    }
+    Ok(())
+}
+
+const NO_COMMANDS: &[&[u8]] = &[
+    b"range * *",
+    b"Table",
+    b" table",
+    b"table ",
+    b"table x",
+    b"table\r",
+    b"\t",
+    b" ",
+    b"get",
+    b"get ",
+    b"get a",
+    b"get a ",
+    b"get  1",
+    b"get a  1",
+    b"get a 1 ",
+    b"get a 1 2",
+    b"get a -",
+    b"get a 01",
+    b"get a 00",
+    b"get a +1",
+    b"get a 1x",
+    b"get a 18446744073709551616",
+    b"get a 99999999999999999999999999999999",
+    b"get a\t 1",
+    b"get \x7f 1",
+    b"get \x80 1",
+    b"entry a 1 V",
+    b"entry a 1 V x y",
+    b"entry a 1 X x",
+    b"entry a 1 v x",
+    b"entry a 1 VV x",
+    b"entry a 1  x",
+    b"entry a 1 V \x1f",
+    b"entry a 18446744073709551615 V x",
+];
+
+#[test]
+fn a_line_of_no_such_form_ends_the_script(rt: HostRuntime) -> Result<(), Fail> {
+    let alloc = rt.alloc();
+    for &line in NO_COMMANDS {
+        assert!(rt; stops(alloc, line, b"", b"sst: line 1\n")?, "{line:?}");
+    }
+    Ok(())
+}
+
+// Scripts, what they print, and what they report.
+const OUT_OF_ORDER: &[(&[u8], &[u8], &[u8])] = &[
+    (b"entry a 1 V x\nentry a 2 V y", b"", b"sst: line 2\n"),
+    (b"entry a 1 V x\n\nentry a 1 T -", b"", b"sst: line 3\n"),
+    (b"entry b 1 V x\nentry a 2 V y\nget", b"", b"sst: line 2\n"),
+    (b"entry aa 1 V x\nentry a 0 V y", b"", b"sst: line 2\n"),
+    (
+        b"entry a 9 V x\ntable\nentry a 8 V x\nentry a 7 V y\ntable\nentry - 1 V x\nentry a 9 T -\ntable\ntable",
+        b"tables 1\ntables 1\n",
+        b"sst: line 8\n",
+    ),
+    (
+        b"entry a 9 V x\nentry a 8 V x\nentry b 7 V x\ntable\nget b 8\nentry a 8 V x\ntable",
+        b"tables 1\nb 7 V x\n",
+        b"sst: line 7\n",
+    ),
+];
+
+#[test]
+fn an_entry_out_of_order_or_twice_ends_the_script(rt: HostRuntime) -> Result<(), Fail> {
+    let alloc = rt.alloc();
+    for &(script, output, errors) in OUT_OF_ORDER {
+        assert!(rt; stops(alloc, script, output, errors)?);
+    }
+    Ok(())
+}
+
+// A script with an entry whose key has `length` bytes between two parts.
+fn with_long_key<A: Allocator>(
+    alloc: A,
+    before: &[u8],
+    length: usize,
+    after: &[u8],
+) -> Result<Vec<u8, A>, AllocError> {
+    let mut script = Vec::new(alloc);
+    script.extend_from_slice(before)?;
+    script.extend_from_slice(b"entry ")?;
+    for _ in 0..length {
+        script.push(b'k')?;
+    }
+    script.extend_from_slice(b" 1 V z\n")?;
+    script.extend_from_slice(after)?;
+    Ok(script)
+}
+
+#[test]
+fn a_key_too_long_is_refused_by_the_table(rt: HostRuntime) -> Result<(), Fail> {
+    let alloc = rt.alloc();
+    let before = b"entry b 1 V x\ntable\nentry b 0 V x\n";
+    let after = b"table\nget b 9\nget b 1\ntable\nget b 9\n";
+    // The refused table gives its entries up, and the runs stay.
+    let script = with_long_key(alloc, before, 1_048_577, after)?;
+    let output = b"tables 1\nrefused 7\nb 1 V x\nnone\ntables 0\nb 1 V x\n";
+    assert!(rt; gives(alloc, &script, output)?);
+    let script = with_long_key(alloc, before, 1_048_576, after)?;
+    let output = b"tables 1\ntables 1\nb 1 V x\nb 0 V x\ntables 0\nb 1 V x\n";
+    assert!(rt; gives(alloc, &script, output)?);
+    // A key and number that a run already holds come first.
+    let before = b"entry b 1 V x\ntable\nentry b 1 V x\n";
+    let script = with_long_key(alloc, before, 1_048_577, after)?;
+    assert!(rt; stops(alloc, &script, b"tables 1\n", b"sst: line 5\n")?);
+    Ok(())
+}
+
+// Whether input that fails behind a script ends it there, once that much was shown and told.
+fn ends_where_input_fails(alloc: Global, script: &[u8], shown: &[u8], told: &[u8]) -> bool {
+    let mut output = Vec::new(alloc);
+    let mut errors = Vec::new(alloc);
+    let input = FailingReader::new(script);
+    let status = run_script(alloc, input, &mut output, &mut errors);
+    status == 2 && output.as_slice() == shown && errors.as_slice() == told
+}
+
+// Likewise, where input fails behind the script.
+const BEFORE_FAILING_INPUT: &[(&[u8], &[u8], &[u8])] = &[
+    (b"", b"", b"sst: input\n"),
+    (b"get a 1\n\n", b"none\n", b"sst: input\n"),
+    (b"get a 1\nget b 1", b"none\n", b"sst: input\n"),
+    (b"get a 1\nrange\n", b"none\n", b"sst: line 2\n"),
+];
+
+#[test]
+fn failing_input_ends_the_script(rt: HostRuntime) -> Result<(), Fail> {
+    let alloc = rt.alloc();
+    for &(script, shown, told) in BEFORE_FAILING_INPUT {
+        assert!(rt; ends_where_input_fails(alloc, script, shown, told));
+    }
+    Ok(())
+}
+
+// Whether output that fails ends a script, and that much is told.
+fn ends_where_output_fails(alloc: Global, script: &[u8], told: &[u8]) -> bool {
+    let mut errors = Vec::new(alloc);
+    let status = run_script(alloc, script, &mut FailingWriter, &mut errors);
+    status == 2 && errors.as_slice() == told
+}
+
+// The status where neither output nor errors can be written.
+fn status_untold(alloc: Global, script: &[u8]) -> u8 {
+    run_script(alloc, script, &mut FailingWriter, &mut FailingWriter)
+}
+
+// Scripts whose output fails, and what they report.
+const WITH_FAILING_OUTPUT: &[(&[u8], &[u8])] = &[
+    (b"get a 1\n", b"sst: output\n"),
+    (b"entry a 1 V x\ntable\nrange\n", b"sst: output\n"),
+    (b"get a 1\nrange\n", b"sst: output\n"),
+    (b"entry a 1 V x\nrange\ntable\n", b"sst: line 2\n"),
+];
+
+#[test]
+fn failing_output_ends_the_script(rt: HostRuntime) -> Result<(), Fail> {
+    let alloc = rt.alloc();
+    for &(script, told) in WITH_FAILING_OUTPUT {
+        assert!(rt; ends_where_output_fails(alloc, script, told));
+        // Where errors cannot be told either, the status is the same.
+        assert_eq!(rt; status_untold(alloc, script), 2);
+    }
+    assert_eq!(rt; status_untold(alloc, b"entry a 1 V x\n"), 0);
+    Ok(())
+}
+
+// What the first script prints where one of its commands is refused for want of memory, or none.
+const REFUSED_OUTPUTS: [&[u8]; 8] = [
+    FIRST_OUTPUT,
+    b"refused 1\ntables 1\na 7 T -\na 7 T -\nnone\n",
+    b"refused 1\ntables 1\nnone\na 9 V x\nnone\n",
+    b"refused 1\ntables 1\na 7 T -\na 9 V x\nnone\n",
+    b"refused 1\nnone\nnone\nnone\n",
+    b"tables 1\nrefused 1\na 9 V x\nnone\n",
+    b"tables 1\na 7 T -\nrefused 1\nnone\n",
+    b"tables 1\na 7 T -\na 9 V x\nrefused 1\n",
+];
+
+// Whether a run of the first script is right, where one request for memory may have been refused.
+fn is_right<A: Allocator>(ran: &Ran<A>, may_fail: bool) -> bool {
+    if ran.status == 2 {
+        return may_fail && ran.errors.as_slice() == b"sst: input\n".as_slice();
+    }
+    let output = ran.output.as_slice();
+    ran.status == 0 && (output == FIRST_OUTPUT || may_fail && REFUSED_OUTPUTS.contains(&output))
+}
+
+#[test]
+fn each_request_refused_in_turn(rt: HostRuntime) -> Result<(), Fail> {
+    let alloc = rt.alloc();
+    let answers = each_refused(alloc, |heap: &Refusing, may_fail: bool| {
+        match run(heap, alloc, FIRST) {
+            Ok(ran) => is_right(&ran, may_fail),
+            Err(_) => false,
+        }
+    });
+    assert!(rt; answers.is_ok_and(|requests| requests > 40));
+    Ok(())
+}

@@ -1,0 +1,60 @@
+-- The forms of a script's lines.
+use Rattle.std.specs.Prelude.{◌≡◌, ℕ, ◌<◌, ◌==◌, true, List, [], ◌∷◌, length, nat_eq, codes, if◌then◌else◌, Option, Some, None}
+use Rattle.std.specs.Char.{is_ascii_graphic}
+use Rattle.std.specs.Cmp.Lexicographic.{pointwise}
+use Rattle.std.specs.List.{list_all, slice_split}
+use Rattle.std.specs.Str.Parse.{digits_value}
+use Rattle.sst_entries.specs.declared.value_type.ValueType.{ValueType}
+use Rattle.sst_script.specs.declared.command.Command.{Command}
+use Rattle.sst_script.specs.declared.command.Command.TheVariants.{Entry, Table, Get}
+use Rattle.sst_script.specs.Text.{letter_of, IsNumber}
+
+-- the parts of a line between its spaces
+abbrev pub words_of : List ℕ → List (List ℕ)
+words_of line = slice_split (λ b. b == 32) line
+
+-- the words of what follows a space, if there is one
+abbrev pub words_behind : Option (List ℕ) → List (List ℕ)
+words_behind None = []
+words_behind (Some rest) = words_of rest
+
+-- what a word stands for: - for no bytes, any other word for itself
+abbrev pub text_of : List ℕ → List ℕ
+text_of word = if pointwise nat_eq word (45 ∷ []) then [] else word
+
+-- a word of visible bytes, and its text
+pub record StandsFor (word text : List ℕ) : Type 0 where
+  pub some : 0 < length word
+  pub visible : list_all is_ascii_graphic word ≡ true
+  pub text_is : text ≡ text_of word
+
+-- a number's word, and the number
+pub record Counts (word : List ℕ) (n : ℕ) : Type 0 where
+  pub number : IsNumber word
+  pub value_is : n ≡ digits_value 10 word
+
+-- the words of a line that adds an entry
+pub record AddsEntry (words : List (List ℕ)) (key : List ℕ) (seqno : ℕ) (kind : ValueType)
+    (value : List ℕ) : Type 0 where
+  pub key_word : List ℕ
+  pub number_word : List ℕ
+  pub value_word : List ℕ
+  pub words_are : words ≡
+      codes "entry" ∷ key_word ∷ number_word ∷ (letter_of kind ∷ []) ∷ value_word ∷ []
+  pub key_is : StandsFor key_word key
+  pub seqno_is : Counts number_word seqno
+  pub value_is : StandsFor value_word value
+
+-- the words of a line that reads a key
+pub record ReadsKey (words : List (List ℕ)) (key : List ℕ) (bound : ℕ) : Type 0 where
+  pub key_word : List ℕ
+  pub number_word : List ℕ
+  pub words_are : words ≡ codes "get" ∷ key_word ∷ number_word ∷ []
+  pub key_is : StandsFor key_word key
+  pub bound_is : Counts number_word bound
+
+-- the words of a line ask for a command
+abbrev pub AskFor : List (List ℕ) → Command → Type 0
+AskFor words (Entry key seqno kind value) = AddsEntry words key.now seqno kind value.now
+AskFor words Table = words ≡ codes "table" ∷ []
+AskFor words (Get key bound) = ReadsKey words key.now bound

@@ -1,0 +1,141 @@
+//! What a line of a script asks for.
+ghost use Rattle.std.specs.Prelude.{◌≡◌, ◌==◌, ◌<◌, ℕ, List, [], ◌∷◌, length, None, Some, IfSome, IfNone, codes};
+ghost use Rattle.std.specs.Option.{SomeIff, option_copied};
+ghost use Rattle.std.specs.Char.{is_ascii_graphic};
+ghost use Rattle.std.specs.List.{list_all, position};
+ghost use Rattle.std.specs.Str.Parse.{digits_value};
+ghost use Rattle.sst_entries.specs.declared.value_type.ValueType.{ValueType};
+ghost use Rattle.sst_script.specs.declared.command.Command.{Command};
+ghost use Rattle.sst_script.specs.Command.{words_of, words_behind, StandsFor, AddsEntry, ReadsKey, AskFor};
+ghost use Rattle.sst_script.specs.Text.{letter_of, IsNumber};
+
+use sst_blocks::{SeqNo, ValueType};
+
+/// A line of a script.
+#[derive(Clone, Copy, Debug, PartialEq, Eq)]
+pub(crate) enum Command<'a> {
+    /// Adds a pending entry.
+    Entry {
+        key: &'a [u8],
+        seqno: SeqNo,
+        kind: ValueType,
+        value: &'a [u8],
+    },
+    /// Writes the pending entries as a table.
+    Table,
+    /// Reads the newest entry of a key numbered below a bound.
+    Get {
+        key: &'a [u8],
+        bound: SeqNo,
+    },
+}
+
+/// The command that a line spells, or `None` where it spells none.
+pub(crate) fn parse_command(line: &[u8]) -> Option<Command<'_>>
+    ensures form { IfSome result (λ command. AskFor (words_of line.now) command) }
+    ensures none { IfNone result ((command : Command) → ¬ AskFor (words_of line.now) command) }
+{
+    let (name, rest) = split_word(line);
+    match rest {
+        None if name == b"table".as_slice() => Some(Command::Table),
+        None => None,
+        Some(words) if name == b"entry".as_slice() => parse_entry(words),
+        Some(words) if name == b"get".as_slice() => parse_get(words),
+        Some(_) => None,
+    }
+}
+
+// What follows `entry `: a key, a number, a kind and a value.
+fn parse_entry(words: &[u8]) -> Option<Command<'_>>
+    ensures form { IfSome result (λ command. AskFor (codes "entry" ∷ words_of words.now) command) }
+    ensures none { IfNone result ((key : List ℕ) (seqno : ℕ) (kind : ValueType) (value : List ℕ) →
+        ¬ AddsEntry (codes "entry" ∷ words_of words.now) key seqno kind value) }
+{
+    let (key, rest) = split_word(words);
+    let (seqno, rest) = split_word(rest?);
+    let (kind, value) = split_word(rest?);
+    Some(Command::Entry {
+        key: parse_text(key)?,
+        seqno: parse_number(seqno)?,
+        kind: parse_kind(kind)?,
+        value: parse_text(value?)?,
+    })
+}
+
+// What follows `get `: a key and a bound.
+fn parse_get(words: &[u8]) -> Option<Command<'_>>
+    ensures form { IfSome result (λ command. AskFor (codes "get" ∷ words_of words.now) command) }
+    ensures none { IfNone result ((key : List ℕ) (bound : ℕ) →
+        ¬ ReadsKey (codes "get" ∷ words_of words.now) key bound) }
+{
+    let (key, bound) = split_word(words);
+    Some(Command::Get {
+        key: parse_text(key)?,
+        bound: parse_number(bound?)?,
+    })
+}
+
+// The first word, and what follows the space behind it.
+fn split_word(line: &[u8]) -> (&[u8], Option<&[u8]>)
+    ensures { words_of line.now ≡ result.0.now ∷ words_behind (option_copied result.1) }
+{
+    match find_space(line) {
+        Some(at) => (&line[..at], Some(&line[at + 1..])),
+        None => (line, None),
+    }
+}
+
+fn find_space(line: &[u8]) -> Option<usize>
+    ensures first { result ≡ position (λ byte. byte == 32) line.now }
+    ensures within { IfSome result (λ at. at < length line.now) }
+{
+    line.iter().position(|byte| *byte == b' ')
+}
+
+// The text of a word of visible bytes, where `-` stands for no bytes.
+fn parse_text(word: &[u8]) -> Option<&[u8]>
+    ensures text { IfSome result (λ text. StandsFor word.now text.now) }
+    ensures none { IfNone result ((text : List ℕ) → ¬ StandsFor word.now text) }
+{
+    if word.is_empty() || !is_visible(word) {
+        return None;
+    }
+    if word == b"-".as_slice() {
+        Some(b"")
+    } else {
+        Some(word)
+    }
+}
+
+fn is_visible(word: &[u8]) -> bool
+    ensures { result ≡ list_all is_ascii_graphic word.now }
+{
+    word.iter().all(|byte| byte.is_ascii_graphic())
+}
+
+// A decimal number without leading zeros.
+fn parse_number(word: &[u8]) -> Option<u64>
+    ensures { SomeIff result (IsNumber word.now) (digits_value 10 word.now) }
+{
+    if let [b'+', ..] | [b'0', _, ..] = word {
+        return None;
+    }
+    match str::from_utf8(word) {
+        Ok(text) => text.parse::<u64>().ok(),
+        Err(_) => None,
+    }
+}
+
+// A kind's letter.
+fn parse_kind(word: &[u8]) -> Option<ValueType>
+    ensures letter { IfSome result (λ kind. word.now ≡ letter_of kind ∷ []) }
+    ensures all { (kind : ValueType) → word.now ≡ letter_of kind ∷ [] → result ≡ Some kind }
+{
+    match word {
+        b"V" => Some(ValueType::Value),
+        b"T" => Some(ValueType::Tombstone),
+        b"W" => Some(ValueType::WeakTombstone),
+        b"I" => Some(ValueType::Indirection),
+        _ => None,
+    }
+}

@@ -1,0 +1,110 @@
+//! The entries that wait for the next table.
+ghost use Rattle.std.specs.Prelude.{◌≡◌, [], ◌∷◌, ◌++◌, IsTrue, IfOk, IfErr, OnOk, OnErr, MatchOption};
+ghost use Rattle.sst_entries.specs.Entry.{entry};
+ghost use Rattle.sst_entries.specs.Error.{Faults};
+ghost use Rattle.lsm_files.specs.Options.{label_of};
+ghost use Rattle.lsm_writers.specs.Writing.{may_be_written, list_fault, IsWritable};
+ghost use Rattle.lsm_tables.specs.Written.{IsOpened};
+ghost use Rattle.sst_script.specs.Script.{entry_failure};
+
+use crate::stop::Failure;
+use lsm_tables::{Table, TableId, Timestamp, write_and_open};
+use sst_blocks::{Error, InternalValue, SeqNo, Slice, ValueType};
+use std::alloc::Allocator;
+use std::marker::Model;
+
+/// Entries that a table can be written of. A contract sees the list.
+#[derive(Drop)]
+pub(crate) struct Pending<A: Allocator> {
+    items: Vec<InternalValue<A>, A>,
+}
+
+impl<A: Allocator> Model for Pending<A> {
+    ghost use Rattle.std.specs.Prelude.{List};
+    ghost use Rattle.sst_entries.specs.Entry.{Entry};
+    ghost use Rattle.lsm_writers.specs.Writing.{IsWritable};
+
+    ghost Value = { List Entry };
+
+    ghost view = { λ p. p.items.items };
+
+    ghost invariant = { λ p. IsWritable p.items.items };
+}
+
+impl<A: Allocator + Clone> Pending<A> {
+    /// No entries.
+    pub(crate) fn new(alloc: A) -> Pending<A>
+        ensures { result ≡ [] }
+    {
+        Pending {
+            items: Vec::new(alloc),
+        }
+    }
+
+    /// The entries.
+    pub(crate) fn items(&self) -> &[InternalValue<A>]
+        ensures items { result.now ≡ self.now }
+        ensures writable { IsWritable result.now }
+    {
+        &self.items
+    }
+
+    /// Whether an entry of this key and number may come next.
+    fn can_follow(&self, key: &[u8], seqno: SeqNo) -> bool
+        ensures { result ≡ may_be_written self.now key.now seqno }
+    {
+        seqno < SeqNo::MAX
+            && match self.items.last() {
+                None => true,
+                Some(last) => last
+                    .key
+                    .user_key
+                    .as_slice()
+                    .cmp(key)
+                    .then(seqno.cmp(&last.key.seqno))
+                    .is_lt(),
+            }
+    }
+
+    /// Adds an entry. The line is at fault where the entry does not follow the last one; nothing is added then, nor where
+    /// memory is refused.
+    pub(crate) fn add(
+        &mut self,
+        key: &[u8],
+        seqno: SeqNo,
+        kind: ValueType,
+        value: &[u8],
+    ) -> Result<(), Failure>
+        ensures ok { OnOk result (self.new ≡ self.old ++ entry key.now value.now seqno kind ∷ []) }
+        ensures order { OnOk result (IsTrue (may_be_written self.old key.now seqno)) }
+        ensures refused { IfErr result (λ e. e ≡ entry_failure self.old key.now seqno) }
+        ensures err { OnErr result (self.new ≡ self.old) }
+    {
+        if !self.can_follow(key, seqno) {
+            return Err(Failure::BadLine);
+        }
+        let alloc = self.items.allocator();
+        let key = Slice::from(alloc.clone()?, key)?;
+        let value = Slice::from(alloc.clone()?, value)?;
+        self.items
+            .push(InternalValue::from_components(key, value, seqno, kind))?;
+        Ok(())
+    }
+
+    /// Gives the entries up.
+    pub(crate) fn clear(&mut self)
+        ensures { self.new ≡ [] }
+    {
+        self.items.clear();
+    }
+
+    /// Writes the entries as one table, and opens it; `None` where there are none. Refused with the first fault of an entry
+    /// or of finishing the table, and [`Error::OutOfMemory`].
+    pub(crate) fn write(self, alloc: A, id: TableId) -> Result<Option<Table<A>>, Error>
+        ensures table { IfOk result (λ t. MatchOption t (self ≡ [])
+            (λ table. IsOpened (label_of id 0 0) self 0 table)) }
+        ensures refused { Faults result (list_fault (label_of id 0 0) self) }
+    {
+        write_and_open(alloc, id, Timestamp::from(0), self.items, 0)
+    }
+}

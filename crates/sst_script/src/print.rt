@@ -1,0 +1,73 @@
+//! The text of answers.
+ghost use Rattle.std.specs.Prelude.{◌≡◌, OnOk};
+ghost use Rattle.std.specs.Io.KnownBytes.{Appends};
+ghost use Rattle.sst_script.specs.Answer.{answer_line, entry_line, refusal_line};
+ghost use Rattle.sst_script.specs.Text.{letter_of, printed};
+
+use sst_blocks::{InternalValue, ValueType};
+use std::alloc::Allocator;
+use std::io::{Result, Write};
+
+/// What a command answers.
+#[derive(Drop)]
+pub(crate) enum Answer<A: Allocator> {
+    /// Nothing is printed.
+    Silent,
+    /// How many tables were written.
+    Tables(u64),
+    /// The entry that was found.
+    Found(Option<InternalValue<A>>),
+}
+
+/// Prints an answer.
+pub(crate) fn print_answer<W: Write, A: Allocator>(output: &mut W, answer: &Answer<A>) -> Result<()>
+    ensures { OnOk result (Appends (W.contents output.old) (W.contents output.new)
+        (answer_line answer.now)) }
+{
+    match answer {
+        Answer::Silent => Ok(()),
+        Answer::Tables(count) => writeln!(output, "tables {count}"),
+        Answer::Found(Some(item)) => print_entry(output, item),
+        Answer::Found(None) => output.write_all(b"none\n"),
+    }
+}
+
+/// Prints the number of a refusal.
+pub(crate) fn print_refusal<W: Write>(output: &mut W, number: u8) -> Result<()>
+    ensures { OnOk result (Appends (W.contents output.old) (W.contents output.new)
+        (refusal_line number)) }
+{
+    writeln!(output, "refused {number}")
+}
+
+// A key, a number, a kind and a value.
+fn print_entry<W: Write, A: Allocator>(output: &mut W, item: &InternalValue<A>) -> Result<()>
+    ensures { OnOk result (Appends (W.contents output.old) (W.contents output.new)
+        (entry_line item.now)) }
+{
+    let seqno = item.key.seqno;
+    output.write_all(printed(item.key.user_key.as_slice()))?;
+    write!(output, " {seqno} ")?;
+    output.write_all(&[letter_of(item.key.value_type), b' '])?;
+    output.write_all(printed(item.value.as_slice()))?;
+    output.write_all(b"\n")
+}
+
+// Bytes as they are printed: `-` for none.
+fn printed(bytes: &[u8]) -> &[u8]
+    ensures { result.now ≡ printed bytes.now }
+{
+    if bytes.is_empty() { b"-" } else { bytes }
+}
+
+// A kind's letter.
+fn letter_of(kind: ValueType) -> u8
+    ensures { result ≡ letter_of kind }
+{
+    match kind {
+        ValueType::Value => b'V',
+        ValueType::Tombstone => b'T',
+        ValueType::WeakTombstone => b'W',
+        ValueType::Indirection => b'I',
+    }
+}

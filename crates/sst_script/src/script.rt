@@ -1,0 +1,212 @@
+//! Running a script.
+ghost use Rattle.std.specs.Prelude.{◌≡◌, ◌⊎◌, [], ◌∷◌, ◌++◌, ⊤, Some, Result, IfOk, IfErr, OnOk};
+ghost use Rattle.std.specs.Io.BufRead.{strip_last};
+ghost use Rattle.std.specs.Io.KnownBytes.{Appends};
+ghost use Rattle.sst_script.specs.declared.stop.Stop.TheVariants.{Input, Line, Output};
+ghost use Rattle.sst_script.specs.declared.stop.Stop.{Stop};
+ghost use Rattle.sst_script.specs.Answering.{LineEnds, PrintEnds, ScriptEnds, outcome_text, status_of};
+ghost use Rattle.sst_script.specs.Lines.{ReadsLine};
+ghost use Rattle.sst_script.specs.Runs.{ForRuns, HasRuns};
+ghost use Rattle.sst_script.specs.Stop.{stop_text};
+ghost use Rattle.sst_script.specs.Script.{store, Executes, WritesTable};
+
+use crate::command::{Command, parse_command};
+use crate::pending::Pending;
+use crate::print::{Answer, print_answer, print_refusal};
+use crate::runs::{is_repeated, newest_answer};
+use crate::stop::{Failure, Stop};
+use lsm_tables::{Table, TableId};
+use sst_blocks::Error;
+use std::alloc::{AllocError, Allocator};
+use std::io::{BufRead, BufReader, Read, Write};
+use std::{io, mem};
+
+/// Runs the script that `input` gives, line by line, and answers the status: 0, or 2 where the script ends before its last
+/// line.
+///
+/// Answers go to `output`, each before the next line is read. A command that is refused prints `refused` and the refusal's
+/// number, and the script goes on. A line that is none of a script's ends it with `sst: line` and the line's number on
+/// `errors`, failing input, also want of memory for it, with `sst: input`, and failing output with `sst: output`. Whether
+/// `errors` takes that is passed over.
+pub fn run_script<A: Allocator + Clone, R: Read + Drop, W: Write, E: Write>(
+    alloc: A,
+    input: R,
+    output: &mut W,
+    errors: &mut E,
+) -> u8
+    ensures status { (result ≡ 0) ⊎ (result ≡ 2) }
+    ensures ended { (ended : Result ⊤ Stop) × (result ≡ status_of ended)
+        × ScriptEnds A (R.remaining input) (W.contents output.old) (W.contents output.new) ended }
+    ensures silent { result ≡ 0 → errors.new ≡ errors.old }
+{
+    match answer_script(alloc, input, output) {
+        Ok(()) => 0,
+        Err(stop) => {
+            let _ = report(errors, stop);
+            2
+        }
+    }
+}
+
+// Says on `errors` why the script ended.
+fn report<E: Write>(errors: &mut E, stop: Stop) -> io::Result<()>
+    ensures { OnOk result (Appends (E.contents errors.old) (E.contents errors.new)
+        (stop_text stop ++ 10 ∷ [])) }
+{
+    writeln!(errors, "{stop}")
+}
+
+// Answers the lines of `input` up to the last one, or up to the one at which the script ends.
+fn answer_script<A: Allocator + Clone, R: Read + Drop, W: Write>(
+    alloc: A,
+    input: R,
+    output: &mut W,
+) -> Result<(), Stop>
+    ensures { ScriptEnds A (R.remaining input)
+        (W.contents output.old) (W.contents output.new) result }
+{
+    let mut script = Script::new(alloc.clone()?)?;
+    let mut line = Vec::new(alloc.clone()?);
+    let mut input = BufReader::new(alloc, input).map_err(|_| Stop::Input)?;
+    for before in 0..u64::MAX {
+        if !read_line(&mut input, &mut line)? {
+            return Ok(());
+        }
+        script.answer_line(before + 1, &line, output)?;
+    }
+    Err(Stop::Input)
+}
+
+// Reads the next line, without its end; `false` where there is none.
+fn read_line<R: BufRead, A: Allocator>(input: &mut R, line: &mut Vec<u8, A>) -> Result<bool, Stop>
+    ensures read { IfOk result (ReadsLine
+        (R.remaining input.old) (R.remaining input.new) line.new.items) }
+    ensures failed { IfErr result (λ stop. stop ≡ Input) }
+{
+    line.clear();
+    let length = input.read_until(b'\n', line).map_err(|_| Stop::Input)?;
+    strip_end(line);
+    Ok(length > 0)
+}
+
+// Takes away the end of a line, which the last line may lack.
+fn strip_end<A: Allocator>(line: &mut Vec<u8, A>)
+    ensures { line.new.items ≡ strip_last 10 line.old.items }
+{
+    if line.last() == Some(&b'\n') {
+        line.pop();
+    }
+}
+
+// Prints what a command came to.
+fn print_outcome<W: Write, A: Allocator>(
+    output: &mut W,
+    number: u64,
+    outcome: &Result<Answer<A>, Failure>,
+) -> Result<(), Stop>
+    ensures { PrintEnds number (outcome_text outcome.now)
+        (W.contents output.old) (W.contents output.new) result }
+{
+    let printed = match outcome {
+        Ok(answer) => print_answer(output, answer),
+        Err(Failure::Refused(error)) => print_refusal(output, error.number()),
+        Err(Failure::BadLine) => return Err(Stop::Line(number)),
+    };
+    printed.map_err(|_| Stop::Output)?;
+    output.flush().map_err(|_| Stop::Output)
+}
+
+// What a script has built so far.
+#[derive(Drop)]
+struct Script<A: Allocator> {
+    alloc: A,
+    pending: Pending<A>,
+    // one table each, the newest first
+    runs: Vec<Table<A>, A>,
+    // none after the last id was used up
+    next_id: Option<TableId>,
+}
+
+impl<A: Allocator + Clone> Script<A> {
+    fn new(alloc: A) -> Result<Script<A>, AllocError>
+        ensures { IfOk result (λ script.
+            (script.pending ≡ []) × (script.runs.items ≡ []) × (script.next_id ≡ Some 1)) }
+    {
+        Ok(Script {
+            pending: Pending::new(alloc.clone()?),
+            runs: Vec::new(alloc.clone()?),
+            next_id: Some(1),
+            alloc,
+        })
+    }
+
+    // Prints the answer of a line; an empty one has none.
+    fn answer_line<W: Write>(
+        &mut self,
+        number: u64,
+        line: &[u8],
+        output: &mut W,
+    ) -> Result<(), Stop>
+        ensures stops { IfErr result (λ stop. (stop ≡ Line number) ⊎ (stop ≡ Output)) }
+        ensures ended { ForRuns self.old.runs.items (λ before. HasRuns self.new.runs.items (λ after.
+            LineEnds A number line.now
+            (store self.old.pending before self.old.next_id)
+            (store self.new.pending after self.new.next_id)
+            (W.contents output.old) (W.contents output.new) result)) }
+    {
+        if line.is_empty() {
+            return Ok(());
+        }
+        let command = parse_command(line).ok_or(Stop::Line(number))?;
+        print_outcome(output, number, &self.execute(command))
+    }
+
+    fn execute(&mut self, command: Command<'_>) -> Result<Answer<A>, Failure>
+        ensures { ForRuns self.old.runs.items (λ before. HasRuns self.new.runs.items (λ after.
+            Executes command.entry
+            (store self.old.pending before self.old.next_id) result
+            (store self.new.pending after self.new.next_id))) }
+    {
+        match command {
+            Command::Entry {
+                key,
+                seqno,
+                kind,
+                value,
+            } => {
+                self.pending.add(key, seqno, kind, value)?;
+                Ok(Answer::Silent)
+            }
+            Command::Table => {
+                let written = self.write_table();
+                self.pending.clear();
+                Ok(Answer::Tables(written?))
+            }
+            Command::Get { key, bound } => {
+                let found = newest_answer(&self.runs, key, bound)?;
+                Ok(Answer::Found(found))
+            }
+        }
+    }
+
+    // Writes the pending entries as a run of one table, and answers how many tables there are. Where it is refused, the runs
+    // and the next id stay. What is left of the pending entries is for the caller to clear.
+    fn write_table(&mut self) -> Result<u64, Failure>
+        ensures { ForRuns self.old.runs.items (λ before. HasRuns self.new.runs.items (λ after.
+            WritesTable
+            (store self.old.pending before self.old.next_id) result
+            (store [] after self.new.next_id))) }
+    {
+        if is_repeated(&self.runs, self.pending.items())? {
+            return Err(Failure::BadLine);
+        }
+        let id = self.next_id.ok_or(Error::TableIdsSpent)?;
+        let pending = mem::replace(&mut self.pending, Pending::new(self.alloc.clone()?));
+        let Some(run) = pending.write(self.alloc.clone()?, id)? else {
+            return Ok(0);
+        };
+        self.runs.insert(0, run)?;
+        self.next_id = id.checked_add(1);
+        Ok(1)
+    }
+}

@@ -1,0 +1,14 @@
+//! Worked examples of tables that were stored: tests over the bytes of an independent program, as they are and changed, and
+//! the words for them that other tests use too. Nothing here is for use.
+#![tactic(auto)]
+
+#[cfg(test)]
+mod changed_bytes;
+#[cfg(test)]
+mod changed_meta;
+#[cfg(test)]
+mod pins;
+pub mod stored;
+#[cfg(test)]
+mod stored_reads;
+pub mod tables;

@@ -1,0 +1,198 @@
+//! Tables that are written one after another.
+use lsm_writers::{
+    FinishedTable, MultiWriter, TableId, TableIds, Timestamp, is_writable, write_list,
+};
+use refusing::{Refusing, each_refused};
+use sst_blocks::{Error, InternalValue, SeqNo, Slice, ValueType};
+use std::alloc::{Allocator, Global};
+use std::test::Fail;
+
+// A key and a number.
+type Row = (&'static [u8], SeqNo);
+
+const NO_ROWS: &[Row] = &[];
+
+const TWO_KEYS: &[Row] = &[(b"a", 1), (b"b", 1)];
+
+const THREE_KEYS: &[Row] = &[(b"a", 1), (b"b", 1), (b"c", 1)];
+
+const VERSIONS: &[Row] = &[
+    (b"a", 2),
+    (b"a", 1),
+    (b"a", 0),
+    (b"b", 0),
+    (b"c", 1),
+    (b"c", 0),
+];
+
+// An entry whose value has so many bytes.
+fn entry<A: Allocator + Copy>(alloc: A, row: &Row, len: usize) -> Result<InternalValue<A>, Error> {
+    let value = vec![in alloc; 0x78u8; len]?;
+    let (key, value) = (Slice::from(alloc, row.0)?, Slice::from(alloc, &value)?);
+    Ok(InternalValue::from_components(key, value, row.1, ValueType::Value))
+}
+
+// Writes an entry; `Source(0)` where it may not follow.
+fn put<A: Allocator + Copy>(
+    writer: &mut MultiWriter<A>,
+    item: InternalValue<A>,
+) -> Result<(), Error> {
+    if !writer.can_follow(&item.key) {
+        return Err(Error::Source(0));
+    }
+    writer.write(item)
+}
+
+// A writer of these rows.
+fn filled<A: Allocator + Copy>(
+    alloc: A,
+    first: TableId,
+    target: u64,
+    rows: &[Row],
+    len: usize,
+) -> Result<MultiWriter<A>, Error> {
+    let ids = TableIds::new(first);
+    let mut writer = MultiWriter::new(alloc, ids, target, 0, Timestamp::from(0))?;
+    for row in rows {
+        put(&mut writer, entry(alloc, row, len)?)?;
+    }
+    Ok(writer)
+}
+
+// The ids of the first tables, and the next one.
+fn ids(
+    alloc: Global,
+    first: TableId,
+    target: u64,
+    rows: &[Row],
+) -> Result<[Option<TableId>; 4], Error> {
+    let writer = filled(alloc, first, target, rows, 0)?;
+    let next = writer.table_ids().next();
+    let mut tables = writer.finish()?.into_iter().map(|table| table.id);
+    Ok([tables.next(), tables.next(), tables.next(), next])
+}
+
+#[test]
+fn ids_run_on_from_the_second_at_target_0(rt: HostRuntime) -> Result<(), Fail> {
+    assert_eq!(rt;
+        ids(rt.alloc(), 5, 0, TWO_KEYS)?,
+        [Some(6), Some(7), None, Some(8)]
+    );
+    assert_eq!(rt;
+        ids(rt.alloc(), 5, 1, TWO_KEYS)?,
+        [Some(5), None, None, Some(6)]
+    );
+    Ok(())
+}
+
+#[test]
+fn nothing_written_gives_no_table(rt: HostRuntime) -> Result<(), Fail> {
+    assert_eq!(rt;
+        ids(rt.alloc(), 5, 0, NO_ROWS)?,
+        [None, None, None, Some(6)]
+    );
+    Ok(())
+}
+
+// The table of these rows alone.
+fn alone(alloc: Global, id: TableId, rows: &[Row]) -> Result<Option<FinishedTable>, Error> {
+    let mut items = Vec::new(alloc);
+    for row in rows {
+        items.push(entry(alloc, row, 8_000)?)?;
+    }
+    if !is_writable(&items) {
+        return Err(Error::Source(0));
+    }
+    write_list(alloc, id, 0, Timestamp::from(0), items)
+}
+
+fn are_same(table: &FinishedTable, other: &FinishedTable) -> bool {
+    table.id == other.id && table.checksum == other.checksum && table.bytes == other.bytes
+}
+
+// Whether the versions of three keys come out as these tables.
+fn come_as(alloc: Global, lists: &[(TableId, &[Row])]) -> Result<bool, Error> {
+    let tables = filled(alloc, 1, 1_024, VERSIONS, 8_000)?.finish()?;
+    for (place, (id, rows)) in lists.iter().enumerate() {
+        let same = match (tables.get(place), alone(alloc, *id, rows)?) {
+            (Some(table), Some(other)) => are_same(table, &other),
+            _ => false,
+        };
+        if !same {
+            return Ok(false);
+        }
+    }
+    Ok(tables.len() == lists.len())
+}
+
+#[test]
+fn the_versions_of_a_key_stay_in_one_table(rt: HostRuntime) -> Result<(), Fail> {
+    let lists: [(TableId, &[Row]); 3] = [
+        (1, &[(b"a", 2), (b"a", 1), (b"a", 0)]),
+        (2, &[(b"b", 0)]),
+        (3, &[(b"c", 1), (b"c", 0)]),
+    ];
+    assert!(rt; come_as(rt.alloc(), &lists)?);
+    Ok(())
+}
+
+// What the first and the second entry answer where the ids are spent.
+fn spent(alloc: Global) -> Result<[Result<(), Error>; 3], Error> {
+    let ids = TableIds::new(TableId::MAX);
+    let mut writer = MultiWriter::new(alloc, ids, 0, 0, Timestamp::from(0))?;
+    let first = put(&mut writer, entry(alloc, &(b"a", 1), 1)?);
+    let second = put(&mut writer, entry(alloc, &(b"a", 1), 1)?);
+    let last = writer.finish().map(|_| ());
+    Ok([first, second, last])
+}
+
+#[test]
+fn no_table_begins_once_the_ids_are_spent(rt: HostRuntime) -> Result<(), Fail> {
+    let expected = [
+        Err(Error::TableIdsSpent),
+        Err(Error::WriterFailed),
+        Err(Error::WriterFailed),
+    ];
+    assert!(rt; spent(rt.alloc())? == expected);
+    Ok(())
+}
+
+// The ids that are left from the last one on, and what a new writer answers then.
+fn left(alloc: Global) -> ([Option<TableId>; 2], Option<Error>) {
+    let mut ids = TableIds::new(TableId::MAX);
+    let drawn = [ids.next(), ids.next()];
+    let writer = MultiWriter::new(alloc, ids, 0, 0, Timestamp::from(0));
+    (drawn, writer.err())
+}
+
+#[test]
+fn ids_end_with_the_largest(rt: HostRuntime) {
+    let expected = ([Some(TableId::MAX), None], Some(Error::TableIdsSpent));
+    assert!(rt; left(rt.alloc()) == expected);
+}
+
+// The tables of three keys, one for each: an entry fills its block, and a block reaches the target.
+fn three_tables<A: Allocator + Copy>(alloc: A) -> Result<Vec<FinishedTable<A>, A>, Error> {
+    filled(alloc, 1, 1, THREE_KEYS, 4_096)?.finish()
+}
+
+// Whether three tables are written, or memory refused where it is to be.
+fn writes_three_tables<A: Allocator + Copy>(alloc: A, is_refused: bool) -> bool {
+    match three_tables(alloc) {
+        Ok(tables) => !is_refused && tables.len() == 3,
+        Err(Error::OutOfMemory) => is_refused,
+        Err(_) => false,
+    }
+}
+
+#[test]
+fn each_request_refused_is_want_of_memory(rt: HostRuntime) -> Result<(), Fail> {
+    let answers = each_refused(
+        rt.alloc(),
+        |heap, is_refused| writes_three_tables(heap, is_refused),
+    );
+    let heap = Refusing::new(rt.alloc(), 0);
+    assert!(rt; writes_three_tables(&heap, false));
+    assert_eq!(rt; answers, Ok(heap.requests()));
+    Ok(())
+}
