@@ -1,1 +1,16 @@
 pub mod Opening
+pub mod Places
+pub mod RunSteps
+pub mod RunLaws
+pub mod RunWithin
+pub mod Opens
+pub mod Unions
+pub mod RunLists
+pub mod Rising
+pub mod Leading
+pub mod RunPoints
+pub mod RunLoops
+pub mod Together
+pub mod ScanSteps
+pub mod RunWriting
+pub mod RunBack

@@ -1,1 +1,7 @@
 pub mod Written
+pub mod RunParts
+pub mod RunRange
+pub mod RunLists
+pub mod RunScan
+pub mod SeveralRuns
+pub mod Chain

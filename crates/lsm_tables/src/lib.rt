@@ -1,11 +1,22 @@
 //! Runs of sorted tables, and a list that is written, opened and read. What `lsm_readers` exports is passed on.
 #![tactic(auto)]
 
+mod bounds;
+mod chain;
+mod run_reader;
+mod run_scanner;
+mod runs;
+mod spans;
+mod unopened;
 mod written;
 
+pub use chain::{read_run_back, write_run};
 pub use lsm_readers::{
     BlockIndex, BlockIndexImpl, BlockIndexIter, BlockIndexIterImpl, Bound, FullBlockIndex,
     GlobalTableId, Inner, Iter, OwnedDataBlockIter, OwnedIndexBlockIter, ParsedMeta, ParsedRegions,
     Scanner, Table, TableId, TableInner, Timestamp, TreeId, point_in,
 };
+pub use run_reader::RunReader;
+pub use run_scanner::RunScanner;
+pub use runs::{get_runs, range_runs};
 pub use written::{read_back, write_and_open};

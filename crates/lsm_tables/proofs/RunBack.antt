@@ -1,0 +1,62 @@
+-- A run of a list that is read back.
+use Rattle.std.proofs.Common.{◌≡◌, refl, sym, ◌∙◌, ap, subst, ℕ, false, inl, inr, List, [], ◌∷◌, append-nil}
+use Rattle.std.specs.Prelude.{Option, Ok, Err, Result}
+use Rattle.std.specs.List.{AllByRecursion}
+use Rattle.std.specs.declared.ops.Bound.{Bound}
+use Rattle.std.proofs.lemmas.Bool.{cases_Bool}
+use Rattle.sst_entries.specs.declared.error.Error.{Error}
+use Rattle.sst_entries.specs.declared.error.Error.TheVariants.{OutOfMemory}
+use Rattle.sst_entries.specs.Entry.{Entry}
+use Rattle.sst_entries.specs.Error.{is_memory}
+use Rattle.sst_entries.specs.Point.{point, within}
+use Rattle.sst_entries.specs.Stream.{ok_results}
+use Rattle.lsm_files.specs.Chunks.{joined}
+use Rattle.lsm_merge.specs.Union.{AtMost, Ascends, entries_among, insert_sorted, newest, sort_entries}
+use Rattle.lsm_merge.proofs.Pairs.{Strict}
+use Rattle.lsm_readers.specs.Answer.{lift}
+use Rattle.lsm_readers.specs.Table.{OpenTable}
+use Rattle.lsm_readers.proofs.Scans.{memory_is}
+use Rattle.lsm_tables.specs.Chain.{IsRunOfList}
+use Rattle.lsm_tables.specs.RunLists.{DealsList, RunsHoldLists}
+use Rattle.lsm_tables.specs.SeveralRuns.{union_in}
+use Rattle.lsm_tables.proofs.Rising.{ascends_of, run_strict}
+use Rattle.lsm_tables.proofs.Unions.{entries_of}
+
+-- sorting leaves a sorted list as it is
+least_first : (x : Entry) (ys : List Entry) → AllByRecursion (AtMost x) ys → insert_sorted x ys ≡ x ∷ ys
+least_first x [] h = refl
+least_first x (y ∷ ys) h = rw h.0 refl
+
+sorted_same : (es : List Entry) → Ascends es → sort_entries es ≡ es
+sorted_same [] up = refl
+sorted_same (e ∷ es) up = ap (insert_sorted e) (sorted_same es up.1) ∙ least_first e es up.0
+
+-- one run alone
+one_run : (ls : List (List Entry)) (es : List Entry) → joined ls ≡ es → Ascends es → union_in (ls ∷ []) ≡ es
+one_run ls es whole up =
+    ap sort_entries (append-nil (entries_among (ok_results (joined ls))) ∙ entries_of (joined ls) ∙ whole) ∙ sorted_same es up
+
+abbrev read : Option Entry → Result (Option Entry) Error
+read found = Ok found
+
+module _ (es : List Entry) (g : ℕ) (run : List OpenTable) (h : IsRunOfList es g run) where
+  union_is : union_in (h.lists ∷ []) ≡ lift es g
+  union_is = one_run h.lists (lift es g) h.whole (ascends_of (lift es g) (subst Strict h.whole (run_strict run h.lists h.hold h.order)))
+
+  pub run_held : (runs : List (List OpenTable)) → runs ≡ run ∷ [] → RunsHoldLists runs (h.lists ∷ [])
+  run_held runs is = subst (λ (x : List (List OpenTable)). RunsHoldLists x (h.lists ∷ [])) (sym is) ((h.order, h.hold), tt)
+
+  pub point_back : (key : List ℕ) (bound : ℕ) (found : Option Entry) → read (point (union_in (h.lists ∷ [])) key bound) ≡ read found → found ≡ point (lift es g) key bound
+  point_back key bound found told =
+      let same : point (union_in (h.lists ∷ [])) key bound ≡ found = cc in
+      sym same ∙ ap (λ (xs : List Entry). point xs key bound) union_is
+
+  pub range_back : {S : Type 0} (front back : S → Option (Result Entry Error) → S → Type 0) (low high : Bound (List ℕ)) (s : S) → DealsList front back (newest (within low high (union_in (h.lists ∷ [])))) s → DealsList front back (newest (within low high (lift es g))) s
+  range_back front back low high s deals = subst (λ (xs : List Entry). DealsList front back (newest (within low high xs)) s) union_is deals
+
+-- a read that tells a value is refused for want of memory alone
+pub told_alone : (found : Option Entry) (e : Error) → (is_memory e ≡ false → read found ≡ Err e) → e ≡ OutOfMemory
+told_alone found e h = elim (cases_Bool (is_memory e)) [
+  | inl memory ↦ memory_is e memory
+  | inr fine ↦ absurd (let wrong : read found ≡ Err e = h fine in cc)
+]

@@ -1,0 +1,37 @@
+-- What a new reader of a run of tables of lists deals.
+use Rattle.std.proofs.Common.{◌≡◌, ℕ, suc, ◌+◌, ◌-◌, ◌≤◌, true, List, [], ◌++◌, length, sym, ap, subst, ◌∙◌, append-nil, arith}
+use Rattle.std.specs.Prelude.{Option, Some}
+use Rattle.std.specs.declared.ops.Bound.{Bound}
+use Rattle.sst_entries.specs.Entry.{Entry}
+use Rattle.sst_entries.specs.Point.{within}
+use Rattle.sst_entries.specs.Stream.{back_of, front_of, ok_results}
+use Rattle.lsm_block_indexes.specs.Dealt.{DealsEnding}
+use Rattle.lsm_files.specs.Chunks.{joined}
+use Rattle.lsm_iters.specs.Range.{Range}
+use Rattle.lsm_ranges.specs.Run.{are_in_order, overlap_indexes}
+use Rattle.lsm_readers.specs.Table.{OpenTable}
+use Rattle.lsm_tables.specs.RunLists.{DealsList, HoldLists}
+use Rattle.lsm_tables.specs.RunParts.{Part, Span, parts_at, ranges_of, span_of, span_parts}
+use Rattle.lsm_tables.specs.RunRange.{IsRunOf, OpensAtMost, RunGives, RunRange, back_tables, front_tables, left_of, parts_told, run_left}
+use Rattle.lsm_tables.proofs.RunLaws.{few_between, opens_few, run_deals}
+use Rattle.lsm_tables.proofs.RunSteps.{R}
+use Rattle.lsm_tables.proofs.RunWithin.{span_deals}
+use Rattle.lsm_readers.proofs.TableRanges.{deals_values}
+
+module _ {A : Type 0} (ts : List OpenTable) (span : Span) (s : RunRange A) (is : IsRunOf ts span s) where
+  pub new_left : run_left s ≡ parts_told (span_parts span ts)
+  new_left =
+      ap (λ (o : Option (Range A)). left_of o ++ (parts_told s.unopened.parts ++ left_of s.back)) is.front
+      ∙ ap (λ (o : Option (Range A)). parts_told s.unopened.parts ++ left_of o) is.back
+      ∙ append-nil (parts_told s.unopened.parts)
+      ∙ ap parts_told is.parts
+
+  pub new_few : OpensAtMost (RunGives front_of front_tables) (RunGives back_of back_tables) (span.last + 1 - span.first) s
+  new_few = opens_few (span.last + 1 - span.first) s (omega (arith, is.opened, ap length is.parts, few_between (parts_at span 0 ts) span.first (suc span.last)))
+
+module _ {A : Type 0} (low high : Bound (List ℕ)) (ts : List OpenTable) (ls : List (List Entry)) (h : HoldLists ts ls) (order : are_in_order (ranges_of ts) ≡ true) where
+  pub new_deals : (ends : ℕ × ℕ) → overlap_indexes low high (ranges_of ts) ≡ Some ends → (s : RunRange A) → IsRunOf ts (span_of ends low high) s → DealsList (RunGives front_of front_tables) (RunGives back_of back_tables) (within low high (joined ls)) s
+  new_deals ends found s is stops memory =
+      let told : run_left s ≡ ok_results (within low high (joined ls)) = new_left ts (span_of ends low high) s is ∙ span_deals low high ts ls h order ends found in
+      let deals = subst (λ (xs : List R). DealsEnding (RunGives front_of front_tables) (RunGives back_of back_tables) (λ _. Unit {0}) (λ _. Unit {0}) s xs) told (run_deals s) in
+      deals_values (RunGives front_of front_tables) (RunGives back_of back_tables) (λ _. Unit {0}) (λ _. Unit {0}) s (within low high (joined ls)) deals stops memory

@@ -1,0 +1,103 @@
+-- What a scan of a run still gives, and one call of it.
+use Rattle.std.specs.Prelude.{◌≡◌, ℕ, suc, ◌+◌, ◌-◌, ◌≤◌, false, List, [], ◌∷◌, ◌++◌, drop, length, max, take, Option, Some, None, Result, Ok, Err, MatchOption, MatchResult}
+use Rattle.std.specs.List.{flat_map}
+use Rattle.sst_sections.specs.Sections.{body_of}
+use Rattle.sst_entries.specs.declared.error.Error.{Error}
+use Rattle.sst_entries.specs.Entry.{Entry}
+use Rattle.sst_entries.specs.Error.{is_memory}
+use Rattle.sst_entries.specs.Stream.{Lowers, first}
+use Rattle.lsm_readers.specs.Scan.{IsNewScan, Scan, scan_left, scan_size, scan_told, up_to_error}
+use Rattle.lsm_readers.specs.Table.{OpenTable}
+
+-- what a scan of a table gives, and a bound on its answers
+abbrev pub table_scan : OpenTable → List (Result Entry Error)
+table_scan t = scan_told (body_of t.bytes) t.parts.facts.data_block_count t.global_seqno
+
+abbrev pub table_size : OpenTable → ℕ
+table_size t = length (table_scan t) + max 1 t.parts.facts.data_block_count
+
+-- the scan of the table that is opened, and the tables that are not
+pub record RunScan : Type 0 where
+  pub scan : Option Scan
+  pub tables : List OpenTable
+
+-- the tables of a run from a first place to a last
+abbrev pub tables_between : List OpenTable → ℕ × ℕ → List OpenTable
+tables_between tables ends = take (suc ends.1 - ends.0) (drop ends.0 tables)
+
+-- what is left of a scan, and of all, up to the first error
+abbrev pub left_of_scan : Option Scan → List (Result Entry Error)
+left_of_scan None = []
+left_of_scan (Some s) = scan_left s
+
+abbrev pub tables_scan : List OpenTable → List (Result Entry Error)
+tables_scan ts = up_to_error (flat_map table_scan ts)
+
+abbrev pub run_scan_left : RunScan → List (Result Entry Error)
+run_scan_left s = up_to_error (left_of_scan s.scan ++ flat_map table_scan s.tables)
+
+-- a bound on the answers that are left
+abbrev pub size_of_scan : Option Scan → ℕ
+size_of_scan None = 0
+size_of_scan (Some s) = scan_size s
+
+abbrev pub tables_size : List OpenTable → ℕ
+tables_size [] = 0
+tables_size (t ∷ ts) = table_size t + tables_size ts
+
+abbrev pub run_scan_size : RunScan → ℕ
+run_scan_size s = size_of_scan s.scan + tables_size s.tables
+
+-- nothing more comes, and nothing is opened
+abbrev pub IsEnded : RunScan → Type 0
+IsEnded s = run_scan_size s ≡ 0
+
+-- an answer: the first of what is left, and the others are left; nothing, where nothing is left; want of memory stands in the place
+-- of any answer
+abbrev pub ScanAnswer : RunScan → Option (Result Entry Error) → RunScan → Type 0
+ScanAnswer s None t = run_scan_left s ≡ []
+ScanAnswer s (Some (Ok e)) t = run_scan_left s ≡ Ok e ∷ run_scan_left t
+ScanAnswer s (Some (Err e)) t = is_memory e ≡ false → first (run_scan_left s) ≡ Some (Err e)
+
+-- one call; an error ends the scan
+pub record RunScansNext (s : RunScan) (r : Option (Result Entry Error)) (t : RunScan) : Type 0 where
+  pub answer : ScanAnswer s r t
+  pub ends : MatchOption r (Unit {0}) (λ x. MatchResult x (λ _. Unit {0}) (λ _. IsEnded t))
+  pub lowers : Lowers r (run_scan_size s) (run_scan_size t)
+
+-- a scanner of a span of a run: its first table is opened, and no step was made
+pub record IsScanOf (tables : List OpenTable) (ends : ℕ × ℕ) (s : RunScan) : Type 0 where
+  pub left : run_scan_left s ≡ tables_scan (tables_between tables ends)
+  pub size : run_scan_size s ≤ tables_size (tables_between tables ends)
+
+-- ---- one step of its parts
+
+-- an answer of the scan of one table, and nothing where none is opened
+abbrev pub ItemAnswer : Option Scan → Option (Result Entry Error) → Option Scan → Type 0
+ItemAnswer s None t = left_of_scan s ≡ []
+ItemAnswer s (Some (Ok e)) t = left_of_scan s ≡ Ok e ∷ left_of_scan t
+ItemAnswer s (Some (Err e)) t = is_memory e ≡ false → first (left_of_scan s) ≡ Some (Err e)
+
+pub record ScansItem (s : Option Scan) (r : Option (Result Entry Error)) (t : Option Scan) : Type 0 where
+  pub answer : ItemAnswer s r t
+  pub lowers : Lowers r (size_of_scan s) (size_of_scan t)
+
+-- the scan of a table begins, or it is refused, memory aside with the fault that the scan tells
+abbrev pub BeginsScan : OpenTable → Result Scan Error → Type 0
+BeginsScan t (Ok s) = IsNewScan (body_of t.bytes) t.parts.facts.data_block_count t.global_seqno s
+BeginsScan t (Err e) = is_memory e ≡ false → first (table_scan t) ≡ Some (Err e)
+
+-- that of the next table, where one is left
+abbrev pub BeginsNext : RunScan → Option (Result Scan Error) → RunScan → Type 0
+BeginsNext s None t = (s.tables ≡ []) × (t ≡ s)
+BeginsNext s (Some r) t = (table : OpenTable) × (s.tables ≡ table ∷ t.tables) × (t.scan ≡ s.scan) × BeginsScan table r
+
+-- nothing more comes
+abbrev pub over_scan : RunScan → RunScan
+over_scan s = record { scan = None; tables = [] }
+
+-- an error ends the scan
+abbrev pub stopped_scan : Option (Result Entry Error) → RunScan → RunScan
+stopped_scan None t = t
+stopped_scan (Some (Ok e)) t = t
+stopped_scan (Some (Err e)) t = over_scan t

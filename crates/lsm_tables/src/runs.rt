@@ -1,0 +1,161 @@
+//! Reading several runs as one.
+ghost use Rattle.std.specs.Prelude.{◌≡◌, [], IfOk, IfErr, List, MatchOption, None, Ok, Option, map};
+ghost use Rattle.std.specs.Arc.{arc_value};
+ghost use Rattle.std.specs.List.{AllByRecursion};
+ghost use Rattle.std.specs.Ordering.{is_lt};
+ghost use Rattle.sst_entries.specs.Entry.{Entry};
+ghost use Rattle.sst_entries.specs.Error.{Gives};
+ghost use Rattle.sst_entries.specs.Point.{point, within};
+ghost use Rattle.sst_entries.specs.Stream.{CanDeal};
+ghost use Rattle.sst_entries.specs.declared.error.Error.TheVariants.{OutOfMemory};
+ghost use Rattle.lsm_files.specs.Chunks.{joined};
+ghost use Rattle.lsm_merge.specs.Union.{item_cmp, newest};
+ghost use Rattle.lsm_ranges.specs.Run.{IsInOrder};
+ghost use Rattle.lsm_tables.specs.RunLists.{DealTogether, DealsList, HoldLists, RunsHoldLists};
+ghost use Rattle.lsm_tables.specs.RunParts.{range_of};
+ghost use Rattle.lsm_tables.specs.SeveralRuns.{leading_of, run_told, runs_told, union_in};
+
+use crate::bounds::share;
+use crate::{RunReader, Table};
+use lsm_merge::Merger;
+use lsm_ranges::Run;
+use lsm_sorted::{MvccStream, newest_from_both_ends, newest_of};
+use sst_blocks::{Error, InternalValue, SeqNo, UserKey};
+use std::alloc::Allocator;
+use std::ops::Bound;
+use std::sync::Arc;
+
+// The reader of a run within both bounds, where a table's range reaches past them.
+fn reader_of<A: Allocator + Clone>(
+    run: &Arc<Run<Table<A>, A>, A>,
+    range: &(Bound<UserKey<A>>, Bound<UserKey<A>>),
+) -> Result<Option<RunReader<A>>, Error>
+    // Of tables of lists in a run in order it deals what lies within the bounds; without a reader there is nothing.
+    ensures list { let gives = ⟦<RunReader<A> as Iterator>⟧.next_gives in
+        let back_gives = ⟦<RunReader<A> as DoubleEndedIterator>⟧.next_back_gives in
+        (lists : List (List Entry)) →
+        IsInOrder range_of (arc_value run.now) × HoldLists (arc_value run.now) lists →
+        let found = within range.now.0 range.now.1 (joined lists) in IfOk result (λ r.
+        MatchOption r (found ≡ []) (λ reader. DealsList gives back_gives found reader)) }
+    ensures err { IfErr result (λ e. e ≡ OutOfMemory) }
+{
+    let bounds = (share(&range.0)?, share(&range.1)?);
+    RunReader::new(run.clone()?, bounds)
+}
+
+// A reader of each run that has a table whose range reaches past both bounds.
+fn readers_of<A: Allocator + Clone>(
+    alloc: A,
+    runs: &[Arc<Run<Table<A>, A>, A>],
+    range: &(Bound<UserKey<A>>, Bound<UserKey<A>>),
+) -> Result<Vec<RunReader<A>, A>, Error>
+    // Of tables of lists in runs in order they deal together what of each run lies within the bounds.
+    ensures list { let gives = ⟦<RunReader<A> as Iterator>⟧.next_gives in
+        let back_gives = ⟦<RunReader<A> as DoubleEndedIterator>⟧.next_back_gives in
+        (lists : List (List (List Entry))) → RunsHoldLists (map arc_value runs.now) lists →
+        let found = map (λ ls. within range.now.0 range.now.1 (joined ls)) lists in
+        IfOk result (λ v. DealTogether gives back_gives v.items found) }
+    ensures err { IfErr result (λ e. e ≡ OutOfMemory) }
+{
+    let mut readers = Vec::new(alloc);
+    for run in runs {
+        if let Some(reader) = reader_of(run, range)? {
+            readers.push(reader)?;
+        }
+    }
+    Ok(readers)
+}
+
+/// The newest version of each key within both bounds, of what several runs have together, from both ends. No table is opened
+/// yet. Refused [`Error::OutOfMemory`] alone.
+pub fn range_runs<A: Allocator + Clone>(
+    alloc: A,
+    runs: &[Arc<Run<Table<A>, A>, A>],
+    range: (Bound<UserKey<A>>, Bound<UserKey<A>>),
+) -> Result<MvccStream<Merger<RunReader<A>, A>>, Error>
+    // Of tables of lists in runs in order it deals, for every list of ends, what is newest of the sorted entries of all lists,
+    // lifted, that lie within the bounds.
+    ensures list { let gives = ⟦<MvccStream<Merger<RunReader<A>, A>> as Iterator>⟧.next_gives in
+        let back_gives =
+        ⟦<MvccStream<Merger<RunReader<A>, A>> as DoubleEndedIterator>⟧.next_back_gives in
+        (lists : List (List (List Entry))) → RunsHoldLists (map arc_value runs.now) lists →
+        let found = newest (within range.0 range.1 (union_in lists)) in
+        IfOk result (λ s. DealsList gives back_gives found s) }
+    // Whatever the tables' bytes are, both ends may be asked however often.
+    ensures can { IfOk result (λ s.
+        CanDeal ⟦<MvccStream<Merger<RunReader<A>, A>> as Iterator>⟧.next_gives
+        ⟦<MvccStream<Merger<RunReader<A>, A>> as DoubleEndedIterator>⟧.next_back_gives
+        ⟦<MvccStream<Merger<RunReader<A>, A>> as Iterator>⟧.can_next
+        ⟦<MvccStream<Merger<RunReader<A>, A>> as DoubleEndedIterator>⟧.can_next_back s) }
+    ensures err { IfErr result (λ e. e ≡ OutOfMemory) }
+{
+    let readers = readers_of(alloc.clone()?, runs, &range)?;
+    let stream = newest_of(alloc, readers)?;
+    newest_from_both_ends(&stream);
+    Ok(stream)
+}
+
+// The first match in the one table of a run whose range has the key.
+fn get_run<A: Allocator + Clone>(
+    run: &Run<Table<A>, A>,
+    key: &[u8],
+    seqno: SeqNo,
+) -> Result<Option<InternalValue<A>>, Error>
+    ensures { IsInOrder range_of run.now →
+        Gives (λ (x : Option Entry). x) result (run_told key.now seqno run.now) }
+{
+    match run.get_for_key(key) {
+        Some(table) => table.get(key, seqno, Table::<A>::key_hash(key)),
+        None => Ok(None),
+    }
+}
+
+// Whether an entry stands before another.
+fn stands_before<A: Allocator>(x: &InternalValue<A>, y: &InternalValue<A>) -> bool
+    ensures { result ≡ is_lt (item_cmp x.now y.now) }
+{
+    x.key < y.key
+}
+
+// Of two entries that may be there the one that stands before the other, or the first.
+fn leading<A: Allocator>(
+    first: Option<InternalValue<A>>,
+    second: Option<InternalValue<A>>,
+) -> Option<InternalValue<A>>
+    ensures { result ≡ leading_of first second }
+{
+    match (first, second) {
+        (Some(first), Some(second)) => {
+            if stands_before(&second, &first) {
+                Some(second)
+            } else {
+                Some(first)
+            }
+        }
+        (Some(first), None) => Some(first),
+        (None, second) => second,
+    }
+}
+
+/// The first entry of a key numbered below `seqno`, of what several runs have together. In each run one table is asked at most,
+/// the one whose range has the key. Refused with the first refusal, in the order of the runs.
+pub fn get_runs<A: Allocator + Clone>(
+    runs: &[Arc<Run<Table<A>, A>, A>],
+    key: &[u8],
+    seqno: SeqNo,
+) -> Result<Option<InternalValue<A>>, Error>
+    // On runs in order, memory aside, it is what the runs' tables tell, whatever their bytes.
+    ensures told { AllByRecursion (IsInOrder range_of) (map arc_value runs.now) →
+        Gives (λ (x : Option Entry). x) result
+        (runs_told key.now seqno None (map arc_value runs.now)) }
+    // Of tables of lists it is the first match in the sorted entries of all lists, lifted.
+    ensures list { (lists : List (List (List Entry))) →
+        RunsHoldLists (map arc_value runs.now) lists →
+        Gives (λ (x : Option Entry). x) result (Ok (point (union_in lists) key.now seqno)) }
+{
+    let mut found = None;
+    for run in runs {
+        found = leading(found, get_run(run, key, seqno)?);
+    }
+    Ok(found)
+}

@@ -1,0 +1,12 @@
+//! Worked examples of runs of tables: tests of what is read from one run, from both ends and by a scan, and from several as one.
+//! Nothing here is for use.
+#![tactic(auto)]
+
+#[cfg(test)]
+mod damaged;
+#[cfg(test)]
+mod readers;
+#[cfg(test)]
+mod several;
+#[cfg(test)]
+mod tables;

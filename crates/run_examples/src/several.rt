@@ -1,0 +1,215 @@
+//! Several runs, read as one.
+use crate::tables::{
+    ALL, Bounds, Name, Tables, from_before, from_to, is_right, name_of, owned_range, run_of,
+};
+use lsm_tables::{get_runs, range_runs};
+use refusing::{Refusing, each_refused};
+use sst_blocks::{Direction, Error, SeqNo, ValueType, answers_at};
+use std::alloc::{Allocator, Global};
+use std::test::Fail;
+use writer_examples::rows::Row;
+
+const F: Direction = Direction::Front;
+
+const B: Direction = Direction::Back;
+
+const A9: Option<Name> = Some((b'a', 9));
+
+const B1: Option<Name> = Some((b'b', 1));
+
+const C2: Option<Name> = Some((b'c', 2));
+
+const C4: Option<Name> = Some((b'c', 4));
+
+const D3: Option<Name> = Some((b'd', 3));
+
+const NEWER: [Row<'static>; 2] = [
+    (b"a", 9, ValueType::Value, b"x"),
+    (b"b", 1, ValueType::Value, b"x"),
+];
+
+const OLDER: [Row<'static>; 2] = [
+    (b"a", 5, ValueType::Value, b"x"),
+    (b"c", 2, ValueType::Value, b"x"),
+];
+
+const A_AND_C: [Row<'static>; 2] = [
+    (b"a", 7, ValueType::Value, b"x"),
+    (b"c", 4, ValueType::Value, b"x"),
+];
+
+const ONE_D: [Row<'static>; 1] = [(b"d", 3, ValueType::Value, b"x")];
+
+// The tables of a run, by their rows.
+type Lists = &'static [&'static [Row<'static>]];
+
+const TWO_RUNS: [Lists; 2] = [&[&NEWER], &[&OLDER]];
+
+// The third is of two tables.
+const THREE_RUNS: [Lists; 3] = [&[&NEWER], &[&OLDER], &[&A_AND_C, &ONE_D]];
+
+fn runs_of<A: Allocator + Copy>(alloc: A, lists: &[Lists]) -> Result<Vec<Tables<A>, A>, Error> {
+    let mut runs = Vec::new(alloc);
+    for tables in lists {
+        runs.push(run_of(alloc, tables)?)?;
+    }
+    Ok(runs)
+}
+
+// Whether some runs give these names at these ends, within bounds.
+fn range_gives<A: Allocator + Copy>(
+    alloc: A,
+    lists: &[Lists],
+    bounds: Bounds<'_>,
+    ends: &[Direction],
+    names: &[Option<Name>],
+) -> Result<bool, Error> {
+    let runs = runs_of(alloc, lists)?;
+    let mut stream = range_runs(alloc, &runs, owned_range(alloc, bounds)?)?;
+    let answers = answers_at(alloc, &mut stream, ends)?;
+    for (answer, name) in answers.into_iter().zip(names.iter()) {
+        if name_of(answer)? != *name {
+            return Ok(false);
+        }
+    }
+    Ok(true)
+}
+
+#[test]
+fn the_newest_version_of_each_key_comes_from_the_front(rt: HostRuntime) -> Result<(), Fail> {
+    let alloc = rt.alloc();
+    assert!(rt; range_gives(alloc, &TWO_RUNS, ALL, &[F, F, F, F], &[A9, B1, C2, None])?);
+    Ok(())
+}
+
+#[test]
+fn the_newest_version_of_each_key_comes_from_both_ends(rt: HostRuntime) -> Result<(), Fail> {
+    let alloc = rt.alloc();
+    assert!(rt;
+        range_gives(
+            alloc,
+            &TWO_RUNS,
+            ALL,
+            &[B, F, B, F, B],
+            &[C2, A9, B1, None, None]
+        )?
+    );
+    Ok(())
+}
+
+#[test]
+fn several_runs_are_read_within_bounds(rt: HostRuntime) -> Result<(), Fail> {
+    let alloc = rt.alloc();
+    let a_and_b = from_before(b"a", b"c");
+    assert!(rt; range_gives(alloc, &TWO_RUNS, a_and_b, &[B, B, B], &[B1, A9, None])?);
+    assert!(rt;
+        range_gives(
+            alloc,
+            &TWO_RUNS,
+            from_to(b"d", b"z"),
+            &[F, B],
+            &[None, None]
+        )?
+    );
+    Ok(())
+}
+
+#[test]
+fn the_newest_versions_in_three_runs_come_from_both_ends(rt: HostRuntime) -> Result<(), Fail> {
+    let alloc = rt.alloc();
+    assert!(rt;
+        range_gives(
+            alloc,
+            &THREE_RUNS,
+            ALL,
+            &[F, F, F, F, F],
+            &[A9, B1, C4, D3, None]
+        )?
+    );
+    assert!(rt;
+        range_gives(
+            alloc,
+            &THREE_RUNS,
+            ALL,
+            &[B, F, B, B, B],
+            &[D3, A9, C4, B1, None]
+        )?
+    );
+    Ok(())
+}
+
+#[test]
+fn no_runs_give_nothing(rt: HostRuntime) -> Result<(), Fail> {
+    let alloc = rt.alloc();
+    let runs: [Tables<Global>; 0] = [];
+    assert!(rt; get_runs(&runs, b"a", 9)?.is_none());
+    let mut stream = range_runs(alloc, &runs, owned_range(alloc, ALL)?)?;
+    let answers = answers_at(alloc, &mut stream, &[F, B])?;
+    assert!(rt; answers.iter().all(|answer| answer.is_none()));
+    Ok(())
+}
+
+// The number of the entry that a read of some runs finds.
+fn found<A: Allocator + Copy>(
+    alloc: A,
+    lists: &[Lists],
+    key: &[u8],
+    seqno: SeqNo,
+) -> Result<Option<SeqNo>, Error> {
+    let runs = runs_of(alloc, lists)?;
+    Ok(get_runs(&runs, key, seqno)?.map(|item| item.key.seqno))
+}
+
+#[test]
+fn a_read_finds_the_greatest_number_below_its_bound(rt: HostRuntime) -> Result<(), Fail> {
+    let alloc = rt.alloc();
+    assert_eq!(rt; found(alloc, &TWO_RUNS, b"a", 10)?, Some(9));
+    assert_eq!(rt; found(alloc, &TWO_RUNS, b"a", 9)?, Some(5));
+    assert_eq!(rt; found(alloc, &TWO_RUNS, b"a", 5)?, None);
+    assert_eq!(rt; found(alloc, &TWO_RUNS, b"b", 10)?, Some(1));
+    assert_eq!(rt; found(alloc, &TWO_RUNS, b"c", 10)?, Some(2));
+    assert_eq!(rt; found(alloc, &TWO_RUNS, b"d", 10)?, None);
+    Ok(())
+}
+
+#[test]
+fn a_read_of_three_runs_finds_the_greatest_number_below_its_bound(
+    rt: HostRuntime,
+) -> Result<(), Fail> {
+    let alloc = rt.alloc();
+    assert_eq!(rt; found(alloc, &THREE_RUNS, b"a", 10)?, Some(9));
+    assert_eq!(rt; found(alloc, &THREE_RUNS, b"a", 9)?, Some(7));
+    assert_eq!(rt; found(alloc, &THREE_RUNS, b"a", 7)?, Some(5));
+    assert_eq!(rt; found(alloc, &THREE_RUNS, b"c", 10)?, Some(4));
+    assert_eq!(rt; found(alloc, &THREE_RUNS, b"d", 10)?, Some(3));
+    assert_eq!(rt; found(alloc, &THREE_RUNS, b"e", 10)?, None);
+    Ok(())
+}
+
+// The older entry stands in the earlier run.
+#[test]
+fn a_read_does_not_stop_at_the_first_run_that_answers(rt: HostRuntime) -> Result<(), Fail> {
+    let alloc = rt.alloc();
+    let runs = [run_of(alloc, &[&OLDER])?, run_of(alloc, &[&NEWER])?];
+    let number = get_runs(&runs, b"a", 10)?.map(|item| item.key.seqno);
+    assert_eq!(rt; number, Some(9));
+    Ok(())
+}
+
+#[test]
+fn several_runs_are_read_with_each_request_refused(rt: HostRuntime) {
+    let answers = each_refused(rt.alloc(), |heap: &Refusing, may_fail: bool| {
+        let answer = range_gives(heap, &TWO_RUNS, ALL, &[F, B, F, F], &[A9, C2, B1, None]);
+        is_right(answer, may_fail)
+    });
+    assert!(rt; answers.is_ok());
+}
+
+#[test]
+fn an_entry_is_read_with_each_request_refused(rt: HostRuntime) {
+    let answers = each_refused(rt.alloc(), |heap: &Refusing, may_fail: bool| {
+        let answer = found(heap, &TWO_RUNS, b"a", 9).map(|number| number == Some(5));
+        is_right(answer, may_fail)
+    });
+    assert!(rt; answers.is_ok());
+}

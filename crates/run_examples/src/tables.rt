@@ -1,0 +1,108 @@
+//! Runs of small tables, bounds, and the names of entries.
+use lsm_ranges::Run;
+use lsm_tables::Table;
+use sst_blocks::{Error, IterItem, SeqNo, Slice, UserKey};
+use std::alloc::Allocator;
+use std::ops::Bound;
+use std::sync::Arc;
+use stored_examples::tables::{open, overwritten};
+use writer_examples::rows::{Row, fill, new_writer};
+
+pub(crate) type Bounds<'a> = (Bound<&'a [u8]>, Bound<&'a [u8]>);
+
+pub(crate) const ALL: Bounds<'static> = (Bound::Unbounded, Bound::Unbounded);
+
+pub(crate) type Tables<A> = Arc<Run<Table<A>, A>, A>;
+
+/// A key of one byte, 0 for any other, and a number.
+pub(crate) type Name = (u8, SeqNo);
+
+// The table of some rows, all in one block of data, and some of its bytes changed.
+fn table_of<A: Allocator + Copy>(
+    alloc: A,
+    rows: &[Row<'_>],
+    changes: &[(usize, &[u8])],
+) -> Result<Table<A>, Error> {
+    let written = fill(new_writer(alloc)?, alloc, rows)?;
+    open(
+        alloc,
+        overwritten(alloc, written.bytes.as_slice(), changes)?,
+        0,
+    )
+}
+
+// The first byte of the payload of the block of data.
+const DAMAGE: &[(usize, &[u8])] = &[(24, b"?")];
+
+/// A run of the tables of some lists. `Source(2)` where there are none.
+pub(crate) fn run_of<A: Allocator + Copy>(
+    alloc: A,
+    lists: &[&[Row<'_>]],
+) -> Result<Tables<A>, Error> {
+    damaged_run_of(alloc, lists, lists.len())
+}
+
+/// The same, where the block of data of the table at a place is damaged, if there is one.
+pub(crate) fn damaged_run_of<A: Allocator + Copy>(
+    alloc: A,
+    lists: &[&[Row<'_>]],
+    damaged: usize,
+) -> Result<Tables<A>, Error> {
+    let mut tables = Vec::new(alloc);
+    for (place, rows) in lists.iter().enumerate() {
+        let changes = if place == damaged { DAMAGE } else { &[] };
+        tables.push(table_of(alloc, rows, changes)?)?;
+    }
+    match Run::new(tables) {
+        Some(run) => Ok(Arc::new(alloc, run)?),
+        None => Err(Error::Source(2)),
+    }
+}
+
+// A bound with a key of its own.
+fn owned<A: Allocator + Copy>(alloc: A, bound: Bound<&[u8]>) -> Result<Bound<UserKey<A>>, Error> {
+    match bound {
+        Bound::Included(key) => Ok(Bound::Included(Slice::from(alloc, key)?)),
+        Bound::Excluded(key) => Ok(Bound::Excluded(Slice::from(alloc, key)?)),
+        Bound::Unbounded => Ok(Bound::Unbounded),
+    }
+}
+
+/// Bounds with keys of their own.
+pub(crate) fn owned_range<A: Allocator + Copy>(
+    alloc: A,
+    bounds: Bounds<'_>,
+) -> Result<(Bound<UserKey<A>>, Bound<UserKey<A>>), Error> {
+    Ok((owned(alloc, bounds.0)?, owned(alloc, bounds.1)?))
+}
+
+/// From a key to a key, both included.
+pub(crate) fn from_to<'a>(low: &'a [u8], high: &'a [u8]) -> Bounds<'a> {
+    (Bound::Included(low), Bound::Included(high))
+}
+
+/// From a key up to a key that is left out.
+pub(crate) fn from_before<'a>(low: &'a [u8], high: &'a [u8]) -> Bounds<'a> {
+    (Bound::Included(low), Bound::Excluded(high))
+}
+
+/// The name of an answer.
+pub(crate) fn name_of<A: Allocator>(item: Option<IterItem<A>>) -> Result<Option<Name>, Error> {
+    match item {
+        Some(Ok(item)) => match item.key.user_key.as_slice() {
+            [byte] => Ok(Some((*byte, item.key.seqno))),
+            _ => Ok(Some((0, item.key.seqno))),
+        },
+        Some(Err(error)) => Err(error),
+        None => Ok(None),
+    }
+}
+
+/// Whether an answer is right, or is want of memory where a request is refused. Some requests are for what a table remembers, and
+/// refused it does without.
+pub(crate) fn is_right(answer: Result<bool, Error>, may_fail: bool) -> bool {
+    match answer {
+        Ok(right) => right,
+        Err(error) => may_fail && error == Error::OutOfMemory,
+    }
+}
