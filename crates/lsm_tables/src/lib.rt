@@ -14,7 +14,8 @@ pub use chain::{read_run_back, write_run};
 pub use lsm_readers::{
     BlockIndex, BlockIndexImpl, BlockIndexIter, BlockIndexIterImpl, Bound, FullBlockIndex,
     GlobalTableId, Inner, Iter, OwnedDataBlockIter, OwnedIndexBlockIter, ParsedMeta, ParsedRegions,
-    Scanner, Table, TableId, TableInner, Timestamp, TreeId, point_in,
+    PinnedBlockIndex, Scanner, Table, TableId, TableInner, Timestamp, TreeId, TwoLevelBlockIndex,
+    VolatileBlockIndex, point_in,
 };
 pub use run_reader::RunReader;
 pub use run_scanner::RunScanner;
