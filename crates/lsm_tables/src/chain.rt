@@ -6,6 +6,7 @@ ghost use Rattle.sst_entries.specs.declared.error.Error.TheVariants.{OutOfMemory
 ghost use Rattle.sst_entries.specs.Entry.{Entry};
 ghost use Rattle.sst_entries.specs.Error.{Faults};
 ghost use Rattle.sst_entries.specs.Point.{point, within};
+ghost use Rattle.sst_entries.specs.Stream.{CanDeal};
 ghost use Rattle.lsm_files.specs.declared.label.Label.{Label};
 ghost use Rattle.lsm_files.specs.Facts.{highest_seqno};
 ghost use Rattle.lsm_files.specs.Options.{default_options};
@@ -153,6 +154,12 @@ pub fn read_run_back<A: Allocator + Clone>(
         IfOk result (λ r. MatchOption r (items.items ≡ []) (λ read.
         (read.0 ≡ point lifted key.now seqno)
         × DealsList gives back_gives (newest (within range.0 range.1 lifted)) read.1)) }
+    // Both ends of the range may be asked however often.
+    ensures can { IfOk result (λ r. IfSome r (λ read.
+        CanDeal ⟦<MvccStream<Merger<RunReader<A>, A>> as Iterator>⟧.next_gives
+        ⟦<MvccStream<Merger<RunReader<A>, A>> as DoubleEndedIterator>⟧.next_back_gives
+        ⟦<MvccStream<Merger<RunReader<A>, A>> as Iterator>⟧.can_next
+        ⟦<MvccStream<Merger<RunReader<A>, A>> as DoubleEndedIterator>⟧.can_next_back read.1)) }
     ensures taken { FitsAsTables (Some 1) target_size items.items →
         highest_seqno items.items + global_seqno < 2 ^ 64 →
         IfErr result (λ e. e ≡ OutOfMemory) }

@@ -106,14 +106,22 @@ fn culled_gives<A: Allocator + Copy>(
     gives(&mut culled(alloc, bounds, span)?, steps)
 }
 
-// The same of the tables within bounds; `None` where there is no reader.
+// The reader of the four tables within bounds.
+fn reader_within<A: Allocator + Copy>(
+    alloc: A,
+    bounds: Bounds<'_>,
+) -> Result<Option<RunReader<A>>, Error> {
+    let run = run_of(alloc, &FOUR_TABLES)?;
+    RunReader::new(run, owned_range(alloc, bounds)?)
+}
+
+// Whether it gives these steps; `None` where there is no reader.
 fn new_gives<A: Allocator + Copy>(
     alloc: A,
     bounds: Bounds<'_>,
     steps: &[Step],
 ) -> Result<Option<bool>, Error> {
-    let run = run_of(alloc, &FOUR_TABLES)?;
-    match RunReader::new(run, owned_range(alloc, bounds)?)? {
+    match reader_within(alloc, bounds)? {
         Some(mut reader) => Ok(Some(gives(&mut reader, steps)?)),
         None => Ok(None),
     }

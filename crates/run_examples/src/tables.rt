@@ -32,7 +32,20 @@ fn table_of<A: Allocator + Copy>(
 }
 
 // The first byte of the payload of the block of data.
-const DAMAGE: &[(usize, &[u8])] = &[(24, b"?")];
+const DAMAGE: [(usize, &[u8]); 1] = [(24, b"?")];
+
+// The table at a place, its block of data damaged if it is the damaged one.
+fn table_at<A: Allocator + Copy>(
+    alloc: A,
+    rows: &[Row<'_>],
+    is_damaged: bool,
+) -> Result<Table<A>, Error> {
+    if is_damaged {
+        table_of(alloc, rows, &DAMAGE)
+    } else {
+        table_of(alloc, rows, &[])
+    }
+}
 
 /// A run of the tables of some lists. `Source(2)` where there are none.
 pub(crate) fn run_of<A: Allocator + Copy>(
@@ -50,8 +63,7 @@ pub(crate) fn damaged_run_of<A: Allocator + Copy>(
 ) -> Result<Tables<A>, Error> {
     let mut tables = Vec::new(alloc);
     for (place, rows) in lists.iter().enumerate() {
-        let changes = if place == damaged { DAMAGE } else { &[] };
-        tables.push(table_of(alloc, rows, changes)?)?;
+        tables.push(table_at(alloc, rows, place == damaged)?)?;
     }
     match Run::new(tables) {
         Some(run) => Ok(Arc::new(alloc, run)?),
