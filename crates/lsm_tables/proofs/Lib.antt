@@ -14,3 +14,4 @@ pub mod Together
 pub mod ScanSteps
 pub mod RunWriting
 pub mod RunBack
+pub mod Packing
