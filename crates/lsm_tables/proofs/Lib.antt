@@ -15,3 +15,4 @@ pub mod ScanSteps
 pub mod RunWriting
 pub mod RunBack
 pub mod Packing
+pub mod PackingTies
