@@ -16,3 +16,4 @@ pub mod RunWriting
 pub mod RunBack
 pub mod Packing
 pub mod PackingTies
+pub mod PackingRuns
