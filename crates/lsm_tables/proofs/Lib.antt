@@ -17,3 +17,4 @@ pub mod RunBack
 pub mod Packing
 pub mod PackingTies
 pub mod PackingRuns
+pub mod PackingResult
