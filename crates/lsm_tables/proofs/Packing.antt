@@ -133,15 +133,15 @@ same_union runs packed same =
       ascends = own.ascends;
       same = record {
         count = λ p.
-          own.same.count p
-          ∙ ap (count_by p) (entries_in runs)
-          ∙ count_same p (tables_of runs) (tables_of packed) same
-          ∙ ap (count_by p) (sym (entries_in packed));
+            own.same.count p
+            ∙ ap (count_by p) (entries_in runs)
+            ∙ count_same p (tables_of runs) (tables_of packed) same
+            ∙ ap (count_by p) (sym (entries_in packed));
       };
     }
 
 pub packed_alike : PackedLaw
 packed_alike runs packed lists h strict same order =
     packed_union runs packed lists h same order (λ are.
-      let own : IsStrict (union_in (lists_of runs)) = subst (λ (ls : List (List (List Entry))). IsStrict (union_in ls)) are strict in
-      sym (only_union (results_of (lists_of packed)) (union_in (lists_of runs)) (same_union runs packed same) own) ∙ sym (ap union_in are))
+    let own : IsStrict (union_in (lists_of runs)) = subst (λ (ls : List (List (List Entry))). IsStrict (union_in ls)) are strict in
+    sym (only_union (results_of (lists_of packed)) (union_in (lists_of runs)) (same_union runs packed same) own) ∙ sym (ap union_in are))

@@ -44,7 +44,7 @@ module _ {V E : Type 0} (items : V → List (List OpenTable)) (runs : List (List
   pub result_holders : IfOk r (λ p. AreWellFormed range_of (items v) → SameHolders range_of (items v) (items p)) → IfOk r (λ p. AreInOrder range_of runs → SameHolders range_of runs (items p))
   result_holders =
       if_ok r (λ p same order.
-        subst (λ (ts : List OpenTable). (k : List ℕ) → holders range_of (items p) k ≡ filter (λ (t : OpenTable). has_key (range_of t) k) ts) same_tables (same (formed_shared order)))
+      subst (λ (ts : List OpenTable). (k : List ℕ) → holders range_of (items p) k ≡ filter (λ (t : OpenTable). has_key (range_of t) k) ts) same_tables (same (formed_shared order)))
 
   pub result_ordered : (length (items v) ≤ 1 → r ≡ Ok v) → IfOk r (λ p. AreWellFormed range_of (items v) → 1 < length (items v) → ArePacked range_of (items p)) → IfOk r (λ p. AreInOrder range_of runs → ArePacked range_of (items p))
   result_ordered one packs =
@@ -58,9 +58,9 @@ module _ {V E : Type 0} (items : V → List (List OpenTable)) (runs : List (List
   pub result_least : IfOk r (λ p. AreDisjointRuns range_of (items v) → IsLeastSize range_of (items v) (length (items p))) → IfOk r (λ p. AreInOrder range_of runs → IsLeastSize range_of runs (length (items p)))
   result_least =
       if_ok r (λ p least order.
-        least_kept runs (length (items p))
-        (subst (λ (rs : List (List OpenTable)). IsLeastSize range_of rs (length (items p))) are
-        (least (subst (AreDisjointRuns range_of) (sym are) (kept_disjoint runs order)))))
+      least_kept runs (length (items p))
+      (subst (λ (rs : List (List OpenTable)). IsLeastSize range_of rs (length (items p))) are
+      (least (subst (AreDisjointRuns range_of) (sym are) (kept_disjoint runs order)))))
 
 pub result_list : {V E : Type 0} (items : V → List (List OpenTable)) (runs : List (List OpenTable)) (r : Result V E) → IfOk r (λ p. SameTables runs (items p)) → IfOk r (λ p. AreInOrder range_of runs → SameHolders range_of runs (items p)) → IfOk r (λ p. AreInOrder range_of runs → ArePacked range_of (items p))
     → (lists : List (List (List Entry))) → RunsHoldLists runs lists → IfOk r (λ p. HoldUnion (items p) (union_in lists))

@@ -137,12 +137,12 @@ least_kept runs n least =
     let number = least.reached.0 in
     let placed : IsPlacement range_of (kept runs) number = least.reached.1 in record {
       at_least = λ number ns placement holds.
-        least.at_least (λ i j. number (up runs i) j) ns
-        (record {
-          keeps = λ i j k l t u less a b o.
-              placement.keeps (up runs i) j (up runs k) l t u (up_rises runs i k less) (up_at runs i j t a) (up_at runs k l u b) o;
-        })
-        (λ i j t a. holds (up runs i) j t (up_at runs i j t a));
+          least.at_least (λ i j. number (up runs i) j) ns
+          (record {
+            keeps = λ i j k l t u less a b o.
+                placement.keeps (up runs i) j (up runs k) l t u (up_rises runs i k less) (up_at runs i j t a) (up_at runs k l u b) o;
+          })
+          (λ i j t a. holds (up runs i) j t (up_at runs i j t a));
       reached = (
         (λ i j. number (down runs i) j),
         record {

@@ -140,12 +140,12 @@ key_entries k (t ∷ ts) h =
 pub kept_alike : KeptLaw
 kept_alike runs packed lists h same holds order =
     packed_union runs packed lists h same order (λ are.
-      let own = runs_all_hold runs lists h in
-      union_sorts packed
-      ∙ sorts_alike (flat_map list_of (tables_of packed)) (flat_map list_of (tables_of runs))
-      (λ k.
-        key_entries k (tables_of packed) (same_hold runs packed same own)
-        ∙ ap (flat_map (λ (t : OpenTable). of_key k (list_of t))) (holds k)
-        ∙ sym (key_entries k (tables_of runs) own))
-      ∙ sym (union_sorts runs)
-      ∙ sym (ap union_in are))
+    let own = runs_all_hold runs lists h in
+    union_sorts packed
+    ∙ sorts_alike (flat_map list_of (tables_of packed)) (flat_map list_of (tables_of runs))
+    (λ k.
+    key_entries k (tables_of packed) (same_hold runs packed same own)
+    ∙ ap (flat_map (λ (t : OpenTable). of_key k (list_of t))) (holds k)
+    ∙ sym (key_entries k (tables_of runs) own))
+    ∙ sym (union_sorts runs)
+    ∙ sym (ap union_in are))
