@@ -1,7 +1,7 @@
 -- The same tables in other runs in order hold the same entries.
-use Rattle.std.proofs.Common.{◌≡◌, refl, sym, ◌∙◌, ap, subst, ℕ, ◌+◌, Bool, true, false, cond, List, [], ◌∷◌, ◌++◌, arith}
+use Rattle.std.proofs.Common.{◌≡◌, refl, sym, ◌∙◌, ap, subst, ℕ, ◌+◌, Bool, cond, List, [], ◌∷◌, ◌++◌}
 use Rattle.std.specs.Prelude.{IsPermutation, count_by, flat_map, map, sum_by}
-use Rattle.std.specs.List.{All, AllByRecursion, AllZip}
+use Rattle.std.specs.List.{AllByRecursion}
 use Rattle.std.specs.declared.ops.Bound.TheVariants.{Unbounded}
 use Rattle.std.proofs.lemmas.List.Concat.{flat_map-append}
 use Rattle.std.proofs.lemmas.List.Elements.{All-from_recursion, recursion_from_All}
@@ -14,10 +14,9 @@ use Rattle.sst_entries.specs.Stream.{ok_results}
 use Rattle.sst_entries.proofs.Lists.{all_append, all_behind, all_front}
 use Rattle.lsm_files.specs.Chunks.{joined}
 use Rattle.lsm_merge.specs.Ends.{R}
-use Rattle.lsm_merge.specs.Union.{IsUnion, all_entries, entries_among, sort_entries, union_of}
+use Rattle.lsm_merge.specs.Union.{IsUnion, all_entries, entries_among, sort_entries}
 use Rattle.lsm_merge.proofs.UnionLemmas.{merged_union, only_union}
 use Rattle.lsm_ranges.specs.Packing.{AreInOrder, SameTables, tables_of}
-use Rattle.lsm_ranges.specs.Run.{IsInOrder}
 use Rattle.lsm_readers.specs.Ranges.{range_told}
 use Rattle.lsm_readers.specs.Table.{OpenTable}
 use Rattle.lsm_tables.specs.Packed.{HoldUnion, PackedLaw}

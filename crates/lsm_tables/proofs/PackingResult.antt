@@ -1,18 +1,16 @@
 -- What packing the shared tables of runs gives of the runs themselves.
-use Rattle.std.proofs.Common.{◌≡◌, refl, sym, ◌∙◌, ap, subst, ℕ, ◌<◌, ◌≤◌, ◌⊎◌, Bool, true, List, [], ◌∷◌, filter, length, inl, inr, arith}
+use Rattle.std.proofs.Common.{◌≡◌, sym, ◌∙◌, ap, subst, ℕ, ◌<◌, ◌≤◌, ◌⊎◌, List, [], ◌∷◌, filter, length, inl, inr, arith}
 use Rattle.std.specs.Prelude.{◌≢◌, IfOk, IsPermutation, Result, Ok, Err}
 use Rattle.std.specs.List.{AllByRecursion}
-use Rattle.sst_entries.specs.declared.error.Error.{Error}
 use Rattle.sst_entries.specs.Entry.{Entry}
 use Rattle.sst_entries.proofs.Lists.{all_more}
 use Rattle.lsm_ranges.specs.KeyRange.{has_key}
 use Rattle.lsm_ranges.specs.Packing.{AreDisjointRuns, AreInOrder, ArePacked, AreWellFormed, IsLeastSize, SameHolders, SameTables, holders, tables_of}
-use Rattle.lsm_ranges.specs.Run.{are_in_order}
 use Rattle.lsm_ranges.proofs.PackLemmas.{if_ok}
 use Rattle.lsm_readers.specs.Table.{OpenTable}
 use Rattle.lsm_tables.specs.Packed.{HoldUnion}
 use Rattle.lsm_tables.specs.RunLists.{RunsHoldLists}
-use Rattle.lsm_tables.specs.RunParts.{range_of, ranges_of}
+use Rattle.lsm_tables.specs.RunParts.{range_of}
 use Rattle.lsm_tables.specs.SeveralRuns.{union_in}
 use Rattle.lsm_tables.proofs.PackingRuns.{formed, kept, kept_disjoint, kept_order, kept_some, kept_tables, least_kept}
 use Rattle.lsm_tables.proofs.PackingTies.{kept_alike}

@@ -1,6 +1,6 @@
 -- Runs in which each key has its tables in the same order hold the same entries, those that tie too.
-use Rattle.std.proofs.Common.{◌≡◌, refl, sym, ◌∙◌, ap, subst, ℕ, Bool, true, false, cond, List, [], ◌∷◌, ◌++◌, filter, IsTrue, inl, inr}
-use Rattle.std.specs.Prelude.{◌&&◌, flat_map, map}
+use Rattle.std.proofs.Common.{◌≡◌, refl, sym, ◌∙◌, ap, ℕ, Bool, true, false, cond, List, [], ◌∷◌, ◌++◌, filter, inl, inr}
+use Rattle.std.specs.Prelude.{◌&&◌, flat_map}
 use Rattle.std.specs.List.{AllByRecursion}
 use Rattle.std.specs.Cmp.Lexicographic.{nat_list_cmp_total, slice_cmp}
 use Rattle.std.specs.Ordering.{is_gt, is_lt, nat_cmp, ordering_reverse, ordering_then}
@@ -13,16 +13,16 @@ use Rattle.sst_entries.specs.Entry.{Entry}
 use Rattle.sst_entries.specs.Kind.{tag_of}
 use Rattle.sst_entries.specs.Point.{within}
 use Rattle.sst_entries.proofs.Booleans.{is_false}
-use Rattle.lsm_merge.specs.Union.{AtMost, Ascends, item_cmp, sort_entries}
+use Rattle.lsm_merge.specs.Union.{AtMost, Ascends, sort_entries}
 use Rattle.lsm_ranges.specs.KeyRange.{Interval, IsOutside, has_key, key_le}
-use Rattle.lsm_ranges.specs.Packing.{SameHolders, holders, tables_of}
+use Rattle.lsm_ranges.specs.Packing.{tables_of}
 use Rattle.lsm_ranges.proofs.IntervalLemmas.{above, le_refl, le_to, le_trans, lt_then_le, not_le}
 use Rattle.lsm_readers.specs.Table.{OpenTable}
 use Rattle.lsm_readers.proofs.Ends.{nothing_within}
 use Rattle.lsm_tables.specs.Packed.{KeptLaw}
 use Rattle.lsm_tables.specs.RunParts.{range_of}
 use Rattle.lsm_tables.specs.SeveralRuns.{union_in}
-use Rattle.lsm_tables.proofs.Packing.{Holds, list_of, lists_of, packed_union, runs_all_hold, same_hold, union_sorts}
+use Rattle.lsm_tables.proofs.Packing.{Holds, list_of, packed_union, runs_all_hold, same_hold, union_sorts}
 use Rattle.lsm_tables.proofs.RunWithin.{held_keys}
 use Rattle.lsm_tables.proofs.Unions.{sorted, within_sorted}
 use Rattle.sst_entries.specs.Key.{key_lt}
