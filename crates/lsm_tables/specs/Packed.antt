@@ -1,4 +1,4 @@
--- What runs hold together, and that it does not change where their tables go into other runs.
+-- What the tables of runs hold together, and that they hold it in other runs too.
 use Rattle.std.specs.Prelude.{◌≡◌, Bool, true, false, List, [], ◌∷◌}
 use Rattle.sst_entries.specs.Entry.{Entry}
 use Rattle.sst_entries.specs.Strict.{IsStrict}
@@ -14,15 +14,15 @@ pub record HoldUnion (runs : List (List OpenTable)) (all : List Entry) : Type 0 
   pub hold : RunsHoldLists runs lists
   pub union : union_in lists ≡ all
 
--- of runs in order that hold a strict list, the same tables hold it in whatever runs in order
+-- where runs in order hold a strict list together, their tables hold it in any other runs in order
 abbrev pub PackedLaw : Type 0
 PackedLaw =
     (runs packed : List (List OpenTable)) (lists : List (List (List Entry))) →
     RunsHoldLists runs lists → IsStrict (union_in lists) → SameTables runs packed →
     AreInOrder range_of packed → HoldUnion packed (union_in lists)
 
--- of runs in order that hold any list, the same tables hold it in runs in order where each key has its tables in
--- the same order
+-- where they hold any list, their tables hold it in other runs in order if each key has its tables in the same
+-- order there
 abbrev pub KeptLaw : Type 0
 KeptLaw =
     (runs packed : List (List OpenTable)) (lists : List (List (List Entry))) →
