@@ -14,3 +14,7 @@ pub mod Together
 pub mod ScanSteps
 pub mod RunWriting
 pub mod RunBack
+pub mod Packing
+pub mod PackingTies
+pub mod PackingRuns
+pub mod PackingResult

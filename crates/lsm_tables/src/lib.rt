@@ -3,6 +3,7 @@
 
 mod bounds;
 mod chain;
+mod pack;
 mod run_reader;
 mod run_scanner;
 mod runs;
@@ -17,6 +18,7 @@ pub use lsm_readers::{
     PinnedBlockIndex, Scanner, Table, TableId, TableInner, Timestamp, TreeId, TwoLevelBlockIndex,
     VolatileBlockIndex, point_in,
 };
+pub use pack::{pack_runs, packing_law};
 pub use run_reader::RunReader;
 pub use run_scanner::RunScanner;
 pub use runs::{get_runs, range_runs};
