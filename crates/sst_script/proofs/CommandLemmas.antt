@@ -11,7 +11,7 @@ use Rattle.std.specs.Str.Parse.{AllDigits}
 use Rattle.std.proofs.lemmas.List.Splits.{length-slice_split, join_with_byte-slice_split}
 use Rattle.std.proofs.lemmas.Str.Parse.{digit_from_value}
 use Rattle.sst_script.specs.declared.command.Command.{Command}
-use Rattle.sst_script.specs.declared.command.Command.TheVariants.{Entry, Table, Get}
+use Rattle.sst_script.specs.declared.command.Command.TheVariants.{Entry, Table, Get, Range}
 use Rattle.sst_script.specs.Command.{words_of, AskFor}
 use Rattle.sst_entries.proofs.Booleans.{and_parts}
 
@@ -77,7 +77,8 @@ pub parts : (w x : List ℕ) (ws rest others : List (List ℕ)) → ws ≡ w ∷
 parts w x ws rest others h k = let e : w ∷ rest ≡ x ∷ others = sym h ∙ k in (cc, cc)
 
 -- a line of several words whose first is neither name asks for nothing
-pub no_command : (line name rest : List ℕ) → words_of line ≡ name ∷ words_of rest → (name ≡ codes "entry" → ⊥) → (name ≡ codes "get" → ⊥) → (command : Command) → AskFor (words_of line) command → ⊥
-no_command line name rest words no_entry no_get (Entry key seqno kind value) h = no_entry (parts name (codes "entry") (words_of line) (words_of rest) _ words h.words_are).0
-no_command line name rest words no_entry no_get Table h = some_word rest (parts name (codes "table") (words_of line) (words_of rest) [] words h).1
-no_command line name rest words no_entry no_get (Get key bound) h = no_get (parts name (codes "get") (words_of line) (words_of rest) _ words h.words_are).0
+pub no_command : (line name rest : List ℕ) → words_of line ≡ name ∷ words_of rest → (name ≡ codes "entry" → ⊥) → (name ≡ codes "get" → ⊥) → (name ≡ codes "range" → ⊥) → (command : Command) → AskFor (words_of line) command → ⊥
+no_command line name rest words no_entry no_get no_range (Entry key seqno kind value) h = no_entry (parts name (codes "entry") (words_of line) (words_of rest) _ words h.words_are).0
+no_command line name rest words no_entry no_get no_range Table h = some_word rest (parts name (codes "table") (words_of line) (words_of rest) [] words h).1
+no_command line name rest words no_entry no_get no_range (Get key bound) h = no_get (parts name (codes "get") (words_of line) (words_of rest) _ words h.words_are).0
+no_command line name rest words no_entry no_get no_range (Range low high) h = no_range (parts name (codes "range") (words_of line) (words_of rest) _ words h.words_are).0
