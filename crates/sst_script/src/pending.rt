@@ -1,11 +1,11 @@
 //! The entries that wait for the next table.
-ghost use Rattle.std.specs.Prelude.{◌≡◌, [], ◌∷◌, ◌++◌, IsTrue, IfOk, IfErr, OnOk, OnErr, MatchOption};
+ghost use Rattle.std.specs.Prelude.{◌≡◌, ◌↔◌, [], ◌∷◌, ◌++◌, length, IsTrue, IfErr, IfOk, IfSome, OnErr, OnOk, MatchOption};
+ghost use Rattle.std.specs.Option.{option_map_or};
 ghost use Rattle.sst_entries.specs.Entry.{entry};
 ghost use Rattle.sst_entries.specs.Error.{Faults};
-ghost use Rattle.lsm_files.specs.Options.{label_of};
-ghost use Rattle.lsm_writers.specs.Writing.{may_be_written, list_fault, IsWritable};
-ghost use Rattle.lsm_tables.specs.Written.{IsOpened};
-ghost use Rattle.sst_script.specs.Script.{entry_failure};
+ghost use Rattle.lsm_writers.specs.Writing.{IsWritable, may_be_written};
+ghost use Rattle.lsm_tables.specs.Chain.{AreCutOf, IsRunOfList, ids_behind, run_label, tables_fault};
+ghost use Rattle.sst_script.specs.Script.{entry_failure, target_size};
 
 use crate::stop::Failure;
 use lsm_ranges::Run;
@@ -119,6 +119,11 @@ impl<A: Allocator + Clone> Pending<A> {
     ) -> Result<(Option<Run<Table<A>, A>>, TableIds), Error>
         ensures run { IfOk result (λ r. MatchOption r.0 (self ≡ [])
             (λ run. IsRunOfList self 0 run)) }
+        ensures cut { IfOk result (λ r. IfSome r.0 (λ run.
+            AreCutOf (run_label ids target_size 0) target_size self 0 run)) }
+        ensures ids { IfOk result (λ r.
+            r.1 ≡ ids_behind ids target_size (option_map_or length r.0 0)) }
+        ensures refused { Faults result (tables_fault ids target_size 0 self) }
     {
         write_run(alloc, ids, TARGET_SIZE, Timestamp::from(0), self.items, 0)
     }

@@ -1,7 +1,7 @@
 //! The text of answers.
 ghost use Rattle.std.specs.Prelude.{◌≡◌, OnOk};
 ghost use Rattle.std.specs.Io.KnownBytes.{Appends};
-ghost use Rattle.sst_script.specs.Answer.{answer_line, entry_line, refusal_line};
+ghost use Rattle.sst_script.specs.Answer.{answer_lines, entry_line, entry_lines, none_line, refusal_line};
 ghost use Rattle.sst_script.specs.Text.{letter_of, printed};
 
 use sst_blocks::{InternalValue, ValueType};
@@ -24,7 +24,7 @@ pub(crate) enum Answer<A: Allocator> {
 /// Prints an answer.
 pub(crate) fn print_answer<W: Write, A: Allocator>(output: &mut W, answer: &Answer<A>) -> Result<()>
     ensures { OnOk result (Appends (W.contents output.old) (W.contents output.new)
-        (answer_line answer.now)) }
+        (answer_lines answer.now)) }
 {
     match answer {
         Answer::Silent => Ok(()),

@@ -1,9 +1,13 @@
 //! What the runs that a script has written answer.
-ghost use Rattle.std.specs.Prelude.{◌≡◌, ◌-◌, ◌<◌, ◌^◌, Bool, List, Option, Ok, map};
+ghost use Rattle.std.specs.Prelude.{◌≡◌, ◌+◌, ◌-◌, ◌<◌, ◌^◌, Bool, IfErr, IfOk, List, Option, Ok, map};
 ghost use Rattle.std.specs.Arc.{arc_value};
+ghost use Rattle.std.specs.Iterator.{IsFinite};
+ghost use Rattle.std.specs.Vec.{vec_items};
+ghost use Rattle.sst_entries.specs.declared.error.Error.TheVariants.{OutOfMemory};
 ghost use Rattle.sst_entries.specs.Entry.{Entry};
 ghost use Rattle.sst_entries.specs.Error.{Gives};
 ghost use Rattle.sst_entries.specs.Point.{point, within};
+ghost use Rattle.sst_entries.specs.Stream.{nowhere};
 ghost use Rattle.lsm_merge.specs.Union.{newest};
 ghost use Rattle.lsm_ranges.specs.KeyRange.{key_bound};
 ghost use Rattle.lsm_tables.specs.RunLists.{DealsList};
@@ -38,7 +42,7 @@ pub(crate) fn newest_entries<A: Allocator + Clone>(
 ) -> Result<Vec<InternalValue<A>, A>, Error>
     ensures { let from = key_bound low in let to = key_bound high in
         ForRuns (map arc_value runs.now) (λ rs.
-        Gives (λ (v : Vec). v.items) result (Ok (newest (within from to (union rs))))) }
+        Gives vec_items result (Ok (newest (within from to (union rs))))) }
 {
     let bounds = (owned(&alloc, low)?, owned(&alloc, high)?);
     let stream = range_runs(alloc.clone()?, runs, bounds)?;
@@ -50,7 +54,8 @@ fn owned<A: Allocator + Clone>(
     alloc: &A,
     bound: Bound<&[u8]>,
 ) -> Result<Bound<UserKey<A>>, Error>
-    ensures { IfOk result (λ b. b ≡ key_bound bound) }
+    ensures ok { IfOk result (λ b. b ≡ key_bound bound) }
+    ensures err { IfErr result (λ e. e ≡ OutOfMemory) }
 {
     match bound {
         Bound::Included(key) => Ok(Bound::Included(Slice::from(alloc.clone()?, key)?)),
@@ -59,11 +64,15 @@ fn owned<A: Allocator + Clone>(
     }
 }
 
-// All entries of a stream, or its first error.
+// All entries of a stream, or its first error. A stream that deals a list fails for want of memory alone.
 fn collect<A: Allocator, I: Iterator<Item = IterItem<A>>>(
     alloc: A,
     stream: I,
 ) -> Result<Vec<InternalValue<A>, A>, Error>
+    requires can { I.can_next stream }
+    requires ends { IsFinite (I.remaining stream) }
+    ensures { (es : List Entry) → DealsList I.next_gives nowhere es stream →
+        Gives vec_items result (Ok es) }
 {
     let mut items = Vec::new(alloc);
     for item in stream {

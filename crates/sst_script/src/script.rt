@@ -1,5 +1,6 @@
 //! Running a script.
-ghost use Rattle.std.specs.Prelude.{◌≡◌, ◌⊎◌, [], ◌∷◌, ◌++◌, ⊤, Some, Result, IfOk, IfErr, OnOk};
+ghost use Rattle.std.specs.Prelude.{◌≡◌, ◌⊎◌, [], ◌∷◌, ◌++◌, ⊤, Some, Result, IfOk, IfErr, OnOk, map};
+ghost use Rattle.std.specs.Arc.{arc_value};
 ghost use Rattle.std.specs.Io.BufRead.{strip_last};
 ghost use Rattle.std.specs.Io.KnownBytes.{Appends};
 ghost use Rattle.sst_script.specs.declared.stop.Stop.TheVariants.{Input, Line, Output};
@@ -149,7 +150,8 @@ impl<A: Allocator + Clone> Script<A> {
         output: &mut W,
     ) -> Result<(), Stop>
         ensures stops { IfErr result (λ stop. (stop ≡ Line number) ⊎ (stop ≡ Output)) }
-        ensures ended { ForRuns self.old.runs.items (λ before. HasRuns self.new.runs.items (λ after.
+        ensures ended { ForRuns (map arc_value self.old.runs.items) (λ before.
+            HasRuns (map arc_value self.new.runs.items) (λ after.
             LineEnds A number line.now
             (store self.old.pending before self.old.ids)
             (store self.new.pending after self.new.ids)
@@ -163,7 +165,8 @@ impl<A: Allocator + Clone> Script<A> {
     }
 
     fn execute(&mut self, command: Command<'_>) -> Result<Answer<A>, Failure>
-        ensures { ForRuns self.old.runs.items (λ before. HasRuns self.new.runs.items (λ after.
+        ensures { ForRuns (map arc_value self.old.runs.items) (λ before.
+            HasRuns (map arc_value self.new.runs.items) (λ after.
             Executes command.entry
             (store self.old.pending before self.old.ids) result
             (store self.new.pending after self.new.ids))) }
@@ -197,7 +200,8 @@ impl<A: Allocator + Clone> Script<A> {
     // Writes the pending entries as a run, and answers how many tables it has. Where it is refused, the runs and the next id
     // stay. What is left of the pending entries is for the caller to clear.
     fn write_table(&mut self) -> Result<u64, Failure>
-        ensures { ForRuns self.old.runs.items (λ before. HasRuns self.new.runs.items (λ after.
+        ensures { ForRuns (map arc_value self.old.runs.items) (λ before.
+            HasRuns (map arc_value self.new.runs.items) (λ after.
             WritesTable
             (store self.old.pending before self.old.ids) result
             (store [] after self.new.ids))) }

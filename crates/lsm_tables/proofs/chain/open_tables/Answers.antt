@@ -45,4 +45,4 @@ pub returns-clause-refused : goal.returns-clause-refused
 returns-clause-refused g c label lists f =
     let rest = c.loop-table.table-iterator.rest in
     let none : rest.items ≡ [] = nil_from_length rest.items (sym rest.ok.0 ∙ c.in-None.ensures.steps.0) in
-    numbers_fit c.args.global_seqno c.ranges.global_seqno rest.items none label lists c.loop-table.opened.items (c.loop-table.invariant label lists f)
+    numbers_fit c.args.global_seqno c.ranges.global_seqno.fits rest.items none label lists c.loop-table.opened.items (c.loop-table.invariant label lists f)

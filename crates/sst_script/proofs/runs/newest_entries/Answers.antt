@@ -1,0 +1,16 @@
+use Rattle.std.specs.Prelude.{Ok, map}
+use Rattle.std.specs.Arc.{arc_value}
+use Rattle.std.specs.Vec.{vec_items}
+use Rattle.sst_entries.specs.Point.{within}
+use Rattle.lsm_merge.specs.Union.{newest}
+use Rattle.lsm_ranges.specs.KeyRange.{key_bound}
+use Rattle.sst_script.specs.Runs.{union}
+use Rattle.sst_script.proofs.RefusalLemmas.{gives_refusal}
+use Rattle.sst_script.proofs.RunLemmas.{out_of_memory, range_deals}
+use Rattle.sst_script.proofs.runs.newest_entries.Goals as goal
+
+pub returns : goal.returns
+returns g c rs same =
+    let a = c.args in
+    c.collect.ensures (newest (within (key_bound a.low) (key_bound a.high) (union rs)))
+    (range_deals rs (map arc_value a.runs.now) same _ _ c.in_ok-stream.stream c.in_ok-owned.field-0 c.in_ok-owned-2.field-0 (key_bound a.low) (key_bound a.high) c.in_ok-owned.ensures.ok c.in_ok-owned-2.ensures.ok c.in_ok-stream.ensures.list)
