@@ -1,5 +1,5 @@
 -- Runs of tables that were written of lists, and what is read of them.
-use Rattle.std.specs.Prelude.{◌≡◌, Bool, true, List, Option, Result}
+use Rattle.std.specs.Prelude.{◌≡◌, ℕ, Bool, true, List, Option, Result}
 use Rattle.std.specs.List.{AllByRecursion, AllZip}
 use Rattle.sst_entries.specs.declared.error.Error.{Error}
 use Rattle.sst_entries.specs.declared.error.Error.TheVariants.{OutOfMemory}
