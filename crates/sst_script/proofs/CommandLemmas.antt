@@ -1,6 +1,8 @@
 -- The words of lines.
-use Rattle.std.proofs.Common.{◌≡◌, refl, sym, ◌∙◌, ap, ℕ, ◌+◌, ◌<◌, ◌≤◌, Bool, true, false, List, [], ◌∷◌, length, take, drop, arith, ltb-true, ltb-false}
+use Rattle.std.proofs.Common.{◌≡◌, refl, sym, ◌∙◌, ap, subst, ℕ, ◌+◌, ◌<◌, ◌≤◌, Bool, true, false, List, [], ◌∷◌, length, take, drop, arith, ltb-true, ltb-false}
 use Rattle.std.specs.Prelude.{Some, None, ◌==◌, ◌&&◌, nat_lt, codes}
+use Rattle.std.specs.declared.ops.Bound.{Bound}
+use Rattle.std.specs.declared.ops.Bound.TheVariants.{Included, Excluded, Unbounded}
 use Rattle.std.specs.Char.{is_ascii_graphic}
 use Rattle.std.specs.List.{position, position_or_len, slice_split, onto_first, list_all}
 use Rattle.std.proofs.lemmas.Bool.Decides.{nat_tests}
@@ -12,7 +14,7 @@ use Rattle.std.proofs.lemmas.List.Splits.{length-slice_split, join_with_byte-sli
 use Rattle.std.proofs.lemmas.Str.Parse.{digit_from_value}
 use Rattle.sst_script.specs.declared.command.Command.{Command}
 use Rattle.sst_script.specs.declared.command.Command.TheVariants.{Entry, Table, Get, Range}
-use Rattle.sst_script.specs.Command.{words_of, AskFor}
+use Rattle.sst_script.specs.Command.{words_of, AskFor, Limits}
 use Rattle.sst_entries.proofs.Booleans.{and_parts}
 
 abbrev pub is_space : ℕ → Bool
@@ -54,6 +56,12 @@ visible_word [] h = refl
 visible_word (x ∷ xs) h =
     let both = and_parts (is_ascii_graphic x) (list_all is_ascii_graphic xs) h in
     rw (visible_step x _ _ refl refl both.0) (ap (onto_first x) (visible_word xs both.1))
+
+-- the word of a bound is one word
+pub limit_word : (word : List ℕ) (bound : Bound (List ℕ)) → Limits word bound → words_of word ≡ word ∷ []
+limit_word word (Included key) h = subst (λ (w : List ℕ). words_of w ≡ w ∷ []) (sym h.1) (ap (onto_first 61) (visible_word h.0 h.2.visible))
+limit_word word (Excluded key) h = subst (λ (w : List ℕ). words_of w ≡ w ∷ []) (sym h.1) (ap (onto_first 33) (visible_word h.0 h.2.visible))
+limit_word word Unbounded h = subst (λ (w : List ℕ). words_of w ≡ w ∷ []) (sym h) refl
 
 no_digit : (x : ℕ) (b : Bool) → is_space x ≡ b → IsInRange 48 57 x → b ≡ false
 no_digit x true p h = absurd (grind (arith, nat_tests))

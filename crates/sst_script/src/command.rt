@@ -24,7 +24,7 @@ pub(crate) enum Command<'a> {
         kind: ValueType,
         value: &'a [u8],
     },
-    /// Writes the pending entries as a table.
+    /// Writes the pending entries as a run of tables.
     Table,
     /// Reads the newest entry of a key numbered below a bound.
     Get {
