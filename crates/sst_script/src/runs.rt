@@ -40,7 +40,7 @@ pub(crate) fn newest_entries<A: Allocator + Clone>(
     low: Bound<&[u8]>,
     high: Bound<&[u8]>,
 ) -> Result<Vec<InternalValue<A>, A>, Error>
-    ensures { let from = key_bound low in let to = key_bound high in
+    ensures { let from = key_bound low.entry in let to = key_bound high.entry in
         ForRuns (map arc_value runs.now) (λ rs.
         Gives vec_items result (Ok (newest (within from to (union rs))))) }
 {
@@ -54,7 +54,7 @@ fn owned<A: Allocator + Clone>(
     alloc: &A,
     bound: Bound<&[u8]>,
 ) -> Result<Bound<UserKey<A>>, Error>
-    ensures ok { IfOk result (λ b. b ≡ key_bound bound) }
+    ensures ok { IfOk result (λ b. b ≡ key_bound bound.entry) }
     ensures err { IfErr result (λ e. e ≡ OutOfMemory) }
 {
     match bound {

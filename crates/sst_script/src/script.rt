@@ -213,7 +213,8 @@ impl<A: Allocator + Clone> Script<A> {
             return Ok(0);
         }
         let pending = mem::replace(&mut self.pending, Pending::new(self.alloc.clone()?));
-        let (Some(run), ids) = pending.write(self.alloc.clone()?, self.ids)? else {
+        let (run, ids) = pending.write(self.alloc.clone()?, self.ids)?;
+        let Some(run) = run else {
             return Ok(0);
         };
         let count = run.as_slice().len() as u64;

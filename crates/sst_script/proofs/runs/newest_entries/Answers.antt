@@ -1,3 +1,4 @@
+use Rattle.std.proofs.Common.{refl, []}
 use Rattle.std.specs.Prelude.{Ok, map}
 use Rattle.std.specs.Arc.{arc_value}
 use Rattle.std.specs.Vec.{vec_items}
@@ -14,3 +15,6 @@ returns g c rs same =
     let a = c.args in
     c.collect.ensures (newest (within (key_bound a.low) (key_bound a.high) (union rs)))
     (range_deals rs (map arc_value a.runs.now) same _ _ c.in_ok-stream.stream c.in_ok-owned.field-0 c.in_ok-owned-2.field-0 (key_bound a.low) (key_bound a.high) c.in_ok-owned.ensures.ok c.in_ok-owned-2.ensures.ok c.in_ok-stream.ensures.list)
+
+pub collect-requires-clause-can : goal.collect-requires-clause-can
+collect-requires-clause-can g c = (c.in_ok-stream.ensures.can.at [] [] c.in_ok-stream.stream refl).0
