@@ -1,6 +1,6 @@
 -- The words of lines.
 use Rattle.std.proofs.Common.{◌≡◌, refl, sym, ◌∙◌, ap, subst, ℕ, ◌+◌, ◌<◌, ◌≤◌, Bool, true, false, List, [], ◌∷◌, length, take, drop, arith, ltb-true, ltb-false}
-use Rattle.std.specs.Prelude.{Some, None, ◌==◌, ◌&&◌, nat_lt, codes}
+use Rattle.std.specs.Prelude.{Some, None, ◌==◌, nat_lt, codes}
 use Rattle.std.specs.declared.ops.Bound.{Bound}
 use Rattle.std.specs.declared.ops.Bound.TheVariants.{Included, Excluded, Unbounded}
 use Rattle.std.specs.Char.{is_ascii_graphic}

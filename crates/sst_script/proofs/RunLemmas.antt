@@ -1,6 +1,6 @@
 -- The lists of runs, and what is read of them.
-use Rattle.std.proofs.Common.{◌≡◌, refl, sym, ◌∙◌, ap, subst, ℕ, zero, suc, ◌+◌, ◌<◌, ◌≤◌, Bool, true, false, List, [], ◌∷◌, length, get_or, drop, drop-cons, add-one, arith}
-use Rattle.std.specs.Prelude.{Option, Some, None, Result, Ok, Err, ◌||◌, map}
+use Rattle.std.proofs.Common.{◌≡◌, refl, sym, ◌∙◌, ap, subst, ℕ, zero, suc, ◌+◌, ◌<◌, Bool, true, false, List, [], ◌∷◌, length, get_or, drop, drop-cons, add-one, arith}
+use Rattle.std.specs.Prelude.{Option, Result, Ok, Err, ◌||◌, map}
 use Rattle.std.specs.List.{AllByRecursion}
 use Rattle.std.specs.declared.ops.Bound.{Bound}
 use Rattle.sst_entries.specs.declared.error.Error.{Error}
@@ -11,7 +11,6 @@ use Rattle.sst_entries.specs.Point.{point, within}
 use Rattle.sst_entries.specs.Stream.{nowhere, ok_results}
 use Rattle.sst_entries.proofs.FrontLemmas.{deals_in_front}
 use Rattle.lsm_files.specs.Chunks.{joined}
-use Rattle.lsm_merge.specs.Ends.{R}
 use Rattle.lsm_merge.specs.Union.{all_entries, newest, union_of}
 use Rattle.lsm_readers.specs.Table.{OpenTable}
 use Rattle.lsm_tables.specs.RunLists.{DealsList, RunsHoldLists}

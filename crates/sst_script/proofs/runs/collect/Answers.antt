@@ -1,10 +1,9 @@
-use Rattle.std.proofs.Common.{◌≡◌, ap, refl, List, rules}
+use Rattle.std.proofs.Common.{ap, refl, List, rules}
 use Rattle.std.specs.Prelude.{Ok}
 use Rattle.std.specs.Iterator.{IsFinite}
 use Rattle.std.specs.Vec.{vec_items}
 use Rattle.sst_entries.specs.Entry.{Entry}
 use Rattle.sst_entries.specs.Stream.{nowhere}
-use Rattle.lsm_tables.specs.RunLists.{DealsList}
 use Rattle.sst_script.proofs.DealtLemmas.{taken_all, taken_fails, taken_more}
 use Rattle.sst_script.proofs.RefusalLemmas.{gives_refusal}
 use Rattle.sst_script.proofs.runs.collect.Goals as goal

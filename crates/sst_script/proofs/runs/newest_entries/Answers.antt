@@ -1,13 +1,11 @@
 use Rattle.std.proofs.Common.{refl, []}
-use Rattle.std.specs.Prelude.{Ok, map}
+use Rattle.std.specs.Prelude.{map}
 use Rattle.std.specs.Arc.{arc_value}
-use Rattle.std.specs.Vec.{vec_items}
 use Rattle.sst_entries.specs.Point.{within}
 use Rattle.lsm_merge.specs.Union.{newest}
 use Rattle.lsm_ranges.specs.KeyRange.{key_bound}
 use Rattle.sst_script.specs.Runs.{union}
-use Rattle.sst_script.proofs.RefusalLemmas.{gives_refusal}
-use Rattle.sst_script.proofs.RunLemmas.{out_of_memory, range_deals}
+use Rattle.sst_script.proofs.RunLemmas.{range_deals}
 use Rattle.sst_script.proofs.runs.newest_entries.Goals as goal
 
 pub returns : goal.returns

@@ -1,5 +1,5 @@
 use Rattle.std.proofs.Common.{◌≡◌, ◌∙◌, ap, refl, rules, sym, subst, [], ℕ, Bool, true, List}
-use Rattle.std.specs.Prelude.{Option, Result, Err, map}
+use Rattle.std.specs.Prelude.{Option, Err, map}
 use Rattle.std.specs.Arc.{arc_value}
 use Rattle.sst_script.specs.declared.stop.Stop.{Stop}
 use Rattle.std.specs.Io.Buffered.{reader_remaining}
