@@ -50,10 +50,7 @@ pub(crate) fn newest_entries<A: Allocator + Clone>(
 }
 
 // The bound with a key of its own.
-fn owned<A: Allocator + Clone>(
-    alloc: &A,
-    bound: Bound<&[u8]>,
-) -> Result<Bound<UserKey<A>>, Error>
+fn owned<A: Allocator + Clone>(alloc: &A, bound: Bound<&[u8]>) -> Result<Bound<UserKey<A>>, Error>
     ensures ok { IfOk result (λ b. b ≡ key_bound bound.entry) }
     ensures err { IfErr result (λ e. e ≡ OutOfMemory) }
 {

@@ -18,11 +18,14 @@ returns-in_err-item g c es deals =
     (taken_fails g.I.Iterator.next_gives nowhere c.loop-item.item-iterator c.next.new.self es c.loop-item.items.items c.in-Some.item c.in_err-item.field-0.0 c.in_err-item.was c.in-Some.ensures.steps (c.loop-item.invariant.2 es deals))
 
 pub loop-item-preserved : goal.loop-item-preserved
-loop-item-preserved g c = 
+loop-item-preserved g c =
     let can : g.I.Iterator.can_next c.next.new.self = search rules in
-    let ends : IsFinite (g.I.Iterator.remaining c.next.new.self) = search rules in
-    (can, ends, λ es deals. rw c.in_ok-push.ensures.items
-    (taken_more g.I.Iterator.next_gives nowhere c.loop-item.item-iterator c.next.new.self es c.loop-item.items.items c.in-Some.item c.in_ok-item.field-0 c.in_ok-item.was c.in-Some.ensures.steps (c.loop-item.invariant.2 es deals)))
+    let ends : IsFinite (g.I.Iterator.remaining c.next.new.self) = search rules in (
+      can,
+      ends,
+      λ es deals. rw c.in_ok-push.ensures.items
+          (taken_more g.I.Iterator.next_gives nowhere c.loop-item.item-iterator c.next.new.self es c.loop-item.items.items c.in-Some.item c.in_ok-item.field-0 c.in_ok-item.was c.in-Some.ensures.steps (c.loop-item.invariant.2 es deals)),
+    )
 
 pub returns : goal.returns
 returns g c es deals =
