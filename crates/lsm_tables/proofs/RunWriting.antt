@@ -1,5 +1,5 @@
 -- A list that is written as tables, which are opened and stand in order.
-use Rattle.std.proofs.Common.{◌≡◌, refl, sym, ◌∙◌, ap, subst, ℕ, suc, ◌+◌, ◌-◌, ◌^◌, ◌<◌, ◌==◌, Bool, true, false, cond, List, [], ◌∷◌, ◌++◌, length, ◌≢◌, ◌⊎◌, inl, inr, arith, length-append, append-nil, le-ltb}
+use Rattle.std.proofs.Common.{◌≡◌, refl, sym, ◌∙◌, ap, subst, ℕ, suc, ◌+◌, ◌-◌, ◌^◌, ◌<◌, ◌==◌, Bool, true, false, cond, List, [], ◌∷◌, ◌++◌, length, ◌≢◌, ◌⊎◌, inl, inr, arith, length-append, append-nil, le-ltb, lt-ltb, ltb-false, ltb-true}
 use Rattle.std.specs.Prelude.{Option, Some, None, Result, Ok, Err, IfErr, IfSome, IsErrAnd, MatchOption, map, max, nat_le, nat_lt, unwrap_or}
 use Rattle.std.specs.List.{AllByRecursion, list_all}
 use Rattle.std.specs.Option.{option_map, option_map_or, option_or}
@@ -273,33 +273,66 @@ all_small g (es ∷ ls) small =
     let both = highest_joined es (joined ls) in
     (omega (arith, both, small), all_small g ls (omega (arith, both, small)))
 
--- some of the tables are opened, and the others are left
+-- the highest number of two lists passes u64 where that of one does
+fault_else : (m n g : ℕ) → nat_lt (2 ^ 64 - 1) (m + g) ≡ false → (b : Bool) → nat_lt (2 ^ 64 - 1) (n + g) ≡ b → nat_lt (2 ^ 64 - 1) (max m n + g) ≡ b
+fault_else m n g small true large = lt-ltb (2 ^ 64 - 1) (max m n + g) (omega (arith, ltb-true _ _ large))
+fault_else m n g small false low = le-ltb (2 ^ 64 - 1) (max m n + g) (omega (arith, ltb-false _ _ small, ltb-false _ _ low))
+
+fault_by : (m n g : ℕ) (b : Bool) → nat_lt (2 ^ 64 - 1) (m + g) ≡ b → cond (nat_lt (2 ^ 64 - 1) (max m n + g)) (Some GlobalSeqNoTooLarge) None ≡ option_or (cond b (Some GlobalSeqNoTooLarge) None) (cond (nat_lt (2 ^ 64 - 1) (n + g)) (Some GlobalSeqNoTooLarge) None)
+fault_by m n g true large = ap (λ (b : Bool). cond b (Some GlobalSeqNoTooLarge) None) (lt-ltb (2 ^ 64 - 1) (max m n + g) (omega (arith, ltb-true _ _ large)))
+fault_by m n g false small = ap (λ (b : Bool). cond b (Some GlobalSeqNoTooLarge) None) (fault_else m n g small (nat_lt (2 ^ 64 - 1) (n + g)) refl)
+
+number_joined : (xs ys : List Entry) (g : ℕ) → number_fault (xs ++ ys) g ≡ option_or (number_fault xs g) (number_fault ys g)
+number_joined xs ys g =
+    ap (λ (n : ℕ). cond (nat_lt (2 ^ 64 - 1) (n + g)) (Some GlobalSeqNoTooLarge) None) (highest_joined xs ys) ∙ fault_by (highest_seqno xs) (highest_seqno ys) g _ refl
+
+no_number : (g : ℕ) → g < 2 ^ 64 → number_fault [] g ≡ None
+unfolding highest_seqno
+no_number g small = small_number [] g (omega (arith, small))
+
+-- some of the tables are opened, their numbers fit, and the others are left
 abbrev pub OpenSoFar : {A : Type 0} → Label → List (List Entry) → ℕ → List OpenTable → List (FinishedTable A) → Type 0
 OpenSoFar label lists g [] fs = AreFinished default_options label lists fs
 OpenSoFar label [] g (t ∷ ts) fs = ⊥
-OpenSoFar label (es ∷ ls) g (t ∷ ts) fs = IsOpenedOf label es g t × OpenSoFar (next_label label) ls g ts fs
+OpenSoFar label (es ∷ ls) g (t ∷ ts) fs = IsOpenedOf label es g t × (number_fault es g ≡ None) × OpenSoFar (next_label label) ls g ts fs
 
 module _ {A : Type 0} (g : ℕ) where
   module _ (f : FinishedTable A) (fs : List (FinishedTable A)) where
-    pub opened_next : (label : Label) (lists : List (List Entry)) (ts : List OpenTable) (t : OpenTable) → OpenSoFar label lists g ts (f ∷ fs) → ((l : Label) (es : List Entry) → IsTableOf l es f.id f.checksum.0 f.bytes → IsOpenedOf l es g t) → OpenSoFar label lists g (ts ++ t ∷ []) fs
+    pub opened_next : (label : Label) (lists : List (List Entry)) (ts : List OpenTable) (t : OpenTable) → OpenSoFar label lists g ts (f ∷ fs) → ((l : Label) (es : List Entry) → IsTableOf l es f.id f.checksum.0 f.bytes → IsOpenedOf l es g t × (number_fault es g ≡ None)) → OpenSoFar label lists g (ts ++ t ∷ []) fs
     opened_next label [] [] t h opens = absurd h
-    opened_next label (es ∷ ls) [] t h opens = (opens label es h.0, h.1)
+    opened_next label (es ∷ ls) [] t h opens = let is = opens label es h.0 in (is.0, is.1, h.1)
     opened_next label [] (x ∷ ts) t h opens = absurd h
-    opened_next label (es ∷ ls) (x ∷ ts) t h opens = (h.0, opened_next (next_label label) ls ts t h.1 opens)
+    opened_next label (es ∷ ls) (x ∷ ts) t h opens = (h.0, h.1, opened_next (next_label label) ls ts t h.2 opens)
+
+    -- the next of them is one whose number passes u64, and so does the highest of all
+    pub next_large : (e : Error) (label : Label) (lists : List (List Entry)) (ts : List OpenTable) → OpenSoFar label lists g ts (f ∷ fs) → ((l : Label) (es : List Entry) → IsTableOf l es f.id f.checksum.0 f.bytes → number_fault es g ≡ Some e) → number_fault (joined lists) g ≡ Some e
+    next_large e label [] [] h large = absurd h
+    next_large e label (es ∷ ls) [] h large = number_joined es (joined ls) g ∙ ap (λ (x : Option Error). option_or x (number_fault (joined ls) g)) (large label es h.0)
+    next_large e label [] (x ∷ ts) h large = absurd h
+    next_large e label (es ∷ ls) (x ∷ ts) h large =
+        number_joined es (joined ls) g ∙ ap (λ (x : Option Error). option_or x (number_fault (joined ls) g)) h.1 ∙ next_large e (next_label label) ls ts h.2 large
 
     -- the next of them is one of a list whose numbers fit
     pub next_fits : (label : Label) (lists : List (List Entry)) (ts : List OpenTable) → OpenSoFar label lists g ts (f ∷ fs) → AllByRecursion (λ (es : List Entry). highest_seqno es + g < 2 ^ 64) lists → (l : Label) × (es : List Entry) × IsTableOf l es f.id f.checksum.0 f.bytes × (number_fault es g ≡ None)
     next_fits label [] [] h small = absurd h
     next_fits label (es ∷ ls) [] h small = (label, es, h.0, small_number es g small.0)
     next_fits label [] (x ∷ ts) h small = absurd h
-    next_fits label (es ∷ ls) (x ∷ ts) h small = next_fits (next_label label) ls ts h.1 small.1
+    next_fits label (es ∷ ls) (x ∷ ts) h small = next_fits (next_label label) ls ts h.2 small.1
 
   pub opened_all : (fs : List (FinishedTable A)) → fs ≡ [] → (label : Label) (lists : List (List Entry)) (ts : List OpenTable) → OpenSoFar label lists g ts fs → AreOpened label lists g ts
   opened_all [] none label [] [] h = tt
   opened_all [] none label (es ∷ ls) [] h = absurd h
   opened_all [] none label [] (t ∷ ts) h = absurd h
-  opened_all [] none label (es ∷ ls) (t ∷ ts) h = (h.0, opened_all [] none (next_label label) ls ts h.1)
+  opened_all [] none label (es ∷ ls) (t ∷ ts) h = (h.0, opened_all [] none (next_label label) ls ts h.2)
   opened_all (f ∷ fs) none label ls ts h = absurd cc
+
+  pub numbers_fit : g < 2 ^ 64 → (fs : List (FinishedTable A)) → fs ≡ [] → (label : Label) (lists : List (List Entry)) (ts : List OpenTable) → OpenSoFar label lists g ts fs → number_fault (joined lists) g ≡ None
+  numbers_fit small [] none label [] [] h = no_number g small
+  numbers_fit small [] none label (es ∷ ls) [] h = absurd h
+  numbers_fit small [] none label [] (t ∷ ts) h = absurd h
+  numbers_fit small [] none label (es ∷ ls) (t ∷ ts) h =
+      number_joined es (joined ls) g ∙ ap (λ (x : Option Error). option_or x (number_fault (joined ls) g)) h.1 ∙ numbers_fit small [] none (next_label label) ls ts h.2
+  numbers_fit small (f ∷ fs) none label ls ts h = absurd cc
 
 -- ---- the run
 

@@ -1,19 +1,21 @@
 -- A list that is written as tables, which are opened and put in a run.
 use Rattle.std.specs.Prelude.{◌≡◌, ℕ, zero, suc, ◌+◌, ◌^◌, ◌≤◌, List, [], ◌∷◌, length, Option, Some, unwrap_or}
 use Rattle.std.specs.List.{AllByRecursion}
+use Rattle.std.specs.Option.{option_or}
+use Rattle.sst_entries.specs.declared.error.Error.{Error}
 use Rattle.sst_entries.specs.Entry.{Entry}
 use Rattle.lsm_files.specs.declared.label.Label.{Label}
 use Rattle.lsm_files.specs.Chunks.{joined}
 use Rattle.lsm_files.specs.Options.{default_options, label_of}
 use Rattle.lsm_ranges.specs.Run.{IsInOrder}
 use Rattle.lsm_writers.specs.declared.writer.FinishedTable.{FinishedTable}
-use Rattle.lsm_writers.specs.Tables.{AreFinished, AreInKeyOrder, AreTables, TableFits, drawn, first_id, next_id, next_label}
+use Rattle.lsm_writers.specs.Tables.{AreFinished, AreInKeyOrder, AreTables, TableFits, TablesWriting, drawn, first_id, ids_fault, new_tables, next_id, next_label, run_fault, took, took_fault}
 use Rattle.lsm_readers.specs.Answer.{lift}
 use Rattle.lsm_readers.specs.OfList.{ends_of}
 use Rattle.lsm_readers.specs.Table.{IsOpen, OpenTable}
 use Rattle.lsm_tables.specs.RunLists.{HoldLists}
 use Rattle.lsm_tables.specs.RunParts.{range_of}
-use Rattle.lsm_tables.specs.Written.{IsOpened}
+use Rattle.lsm_tables.specs.Written.{IsOpened, number_fault}
 
 -- opened tables whose lists, one behind another, are a list, lifted; they stand in order
 pub record IsRunOfList (es : List Entry) (g : ℕ) (tables : List OpenTable) : Type 0 where
@@ -70,3 +72,18 @@ pub record FitsAsTables (ids : Option ℕ) (target : ℕ) (es : List Entry) : Ty
   pub cut : AreTables default_options.data_block_size target es tables
   pub fit : AllByRecursion (TableFits default_options) tables
   pub left : first_id target first + length tables ≤ 2 ^ 64
+
+-- the first fault of writing some entries one by one and then finishing
+abbrev pub writes_fault : TablesWriting → List Entry → Option Error
+writes_fault m [] = run_fault m
+writes_fault m (e ∷ es) = option_or (took_fault m e) (writes_fault (took m e) es)
+
+-- what writing a list as tables refuses: that no id is left, or else the first fault of its writing
+abbrev pub tables_fault : Option ℕ → ℕ → ℕ → List Entry → Option Error
+tables_fault ids target moment es =
+    option_or (ids_fault ids) (writes_fault (new_tables ids target 0 moment) es)
+
+-- what writing a list as a run refuses: that, or else that a number is too large once it is lifted
+abbrev pub chain_fault : Option ℕ → ℕ → ℕ → List Entry → ℕ → Option Error
+chain_fault ids target moment es g =
+    option_or (tables_fault ids target moment es) (number_fault es g)

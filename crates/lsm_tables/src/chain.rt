@@ -8,13 +8,14 @@ ghost use Rattle.sst_entries.specs.Error.{Faults};
 ghost use Rattle.sst_entries.specs.Point.{point, within};
 ghost use Rattle.sst_entries.specs.Stream.{CanDeal};
 ghost use Rattle.lsm_files.specs.declared.label.Label.{Label};
+ghost use Rattle.lsm_files.specs.Chunks.{joined};
 ghost use Rattle.lsm_files.specs.Facts.{highest_seqno};
 ghost use Rattle.lsm_files.specs.Options.{default_options};
 ghost use Rattle.lsm_merge.specs.Union.{newest};
 ghost use Rattle.lsm_readers.specs.Answer.{lift};
 ghost use Rattle.lsm_writers.specs.Tables.{AreFinished};
 ghost use Rattle.lsm_writers.specs.Writing.{IsTableOf, IsWritable};
-ghost use Rattle.lsm_tables.specs.Chain.{AreCutOf, AreOpened, AreWritten, FitsAsTables, IsOpenedOf, IsRunOfList, ids_behind, run_label};
+ghost use Rattle.lsm_tables.specs.Chain.{AreCutOf, AreOpened, AreWritten, FitsAsTables, IsOpenedOf, IsRunOfList, chain_fault, ids_behind, run_label, tables_fault};
 ghost use Rattle.lsm_tables.specs.RunLists.{DealsList};
 ghost use Rattle.lsm_tables.specs.Written.{number_fault};
 
@@ -39,6 +40,7 @@ fn write_tables<A: Allocator + Clone>(
     requires { IsWritable items.items }
     ensures written { IfOk result (λ r.
         AreWritten ids target_size created_at items.items r.0.items r.1) }
+    ensures refused { Faults result (tables_fault ids target_size created_at items.items) }
     ensures taken { FitsAsTables ids target_size items.items →
         IfErr result (λ e. e ≡ OutOfMemory) }
 {
@@ -81,6 +83,9 @@ fn open_tables<A: Allocator + Clone>(
     ensures opened { (label : Label) (lists : List (List Entry)) →
         AreFinished default_options label lists tables.items →
         IfOk result (λ v. AreOpened label lists global_seqno v.items) }
+    ensures refused { (label : Label) (lists : List (List Entry)) →
+        AreFinished default_options label lists tables.items →
+        Faults result (number_fault (joined lists) global_seqno) }
     ensures taken { (label : Label) (lists : List (List Entry)) →
         AreFinished default_options label lists tables.items →
         AllByRecursion (λ es. highest_seqno es + global_seqno < 2 ^ 64) lists →
@@ -116,6 +121,9 @@ pub fn write_run<A: Allocator + Clone>(
         AreCutOf (run_label ids target_size created_at) target_size items.items global_seqno run)) }
     ensures ids { IfOk result (λ r.
         r.1 ≡ ids_behind ids target_size (option_map_or length r.0 0)) }
+    // Memory aside, the refusal is the first: of the counter, of the entries in order, of the last table, of the numbers.
+    ensures refused { Faults result
+        (chain_fault ids target_size created_at items.items global_seqno) }
     // A list whose tables fit, with an id left for each, is refused for want of memory alone.
     ensures taken { FitsAsTables ids target_size items.items →
         highest_seqno items.items + global_seqno < 2 ^ 64 →

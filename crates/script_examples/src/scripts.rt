@@ -71,7 +71,48 @@ const READ_BACK: &[(&[u8], &[u8])] = &[
         b"entry a 2 V x\ntable\nentry a 1 V y\ntable\nentry b 2 V z\ntable\nget a 2\nget b 3",
         b"tables 1\ntables 1\ntables 1\na 1 V y\nb 2 V z\n",
     ),
+    // A range has the newest version of each key, a tombstone too.
+    (
+        b"entry a 5 V o\nentry c 2 V z\ntable\nentry a 9 V x\nentry b 1 T -\ntable\nrange * *\nget a 9\nget a 10",
+        b"tables 1\ntables 1\na 9 V x\nb 1 T -\nc 2 V z\na 5 V o\na 9 V x\n",
+    ),
+    (
+        b"entry a 9 V x\ntable\nentry a 5 V o\ntable\nget a 10\nrange =a =a",
+        b"tables 1\ntables 1\na 9 V x\na 9 V x\n",
+    ),
+    // Bounds that count and that do not, of keys that are there and that are not.
+    (
+        b"entry - 1 V -\nentry a 2 V x\nentry b 3 V y\ntable\nrange =a !b\nrange !- =aa\nrange =- =-\nrange !b *\nrange =b =a\nrange * !-",
+        b"tables 1\na 2 V x\na 2 V x\n- 1 V -\nnone\nnone\nnone\n",
+    ),
+    (b"range * *\nrange =* !*", b"none\nnone\n"),
 ];
+
+// A script with entries of a thousand bytes each, which are more than a table takes.
+fn many_entries<A: Allocator>(alloc: A, count: u8) -> Result<Vec<u8, A>, AllocError> {
+    let mut script = Vec::new(alloc);
+    for number in 0..count {
+        script.extend_from_slice(b"entry k")?;
+        script.push(b'0' + number / 10)?;
+        script.push(b'0' + number % 10)?;
+        script.extend_from_slice(b" 1 V ")?;
+        script.resize(script.len() + 1000, b'x')?;
+        script.push(b'\n')?;
+    }
+    script.extend_from_slice(b"table\nget k99 2\nrange !k99 *\n")?;
+    Ok(script)
+}
+
+fn has_two_tables<A: Allocator + Clone>(alloc: A) -> Result<bool, AllocError> {
+    let script = many_entries(alloc.clone()?, 80)?;
+    gives(alloc, &script, b"tables 2\nnone\nnone\n")
+}
+
+#[test]
+fn many_entries_are_several_tables(rt: HostRuntime) -> Result<(), Fail> {
+    assert!(rt; has_two_tables(rt.alloc())?);
+    Ok(())
+}
 
 #[test]
 fn reads_back_what_was_written(rt: HostRuntime) -> Result<(), Fail> {
@@ -83,7 +124,15 @@ fn reads_back_what_was_written(rt: HostRuntime) -> Result<(), Fail> {
 }
 
 const NO_COMMANDS: &[&[u8]] = &[
-    b"range * *",
+    b"range",
+    b"range *",
+    b"range * * *",
+    b"range a b",
+    b"range = *",
+    b"range * !",
+    b"range ** *",
+    b"range * =\x7f",
+    b"range  *",
     b"Table",
     b" table",
     b"table ",

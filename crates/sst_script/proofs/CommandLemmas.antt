@@ -1,6 +1,8 @@
 -- The words of lines.
-use Rattle.std.proofs.Common.{◌≡◌, refl, sym, ◌∙◌, ap, ℕ, ◌+◌, ◌<◌, ◌≤◌, Bool, true, false, List, [], ◌∷◌, length, take, drop, arith, ltb-true, ltb-false}
-use Rattle.std.specs.Prelude.{Some, None, ◌==◌, ◌&&◌, nat_lt, codes}
+use Rattle.std.proofs.Common.{◌≡◌, refl, sym, ◌∙◌, ap, subst, ℕ, ◌+◌, ◌<◌, ◌≤◌, Bool, true, false, List, [], ◌∷◌, length, take, drop, arith, ltb-true, ltb-false}
+use Rattle.std.specs.Prelude.{Some, None, ◌==◌, nat_lt, codes}
+use Rattle.std.specs.declared.ops.Bound.{Bound}
+use Rattle.std.specs.declared.ops.Bound.TheVariants.{Included, Excluded, Unbounded}
 use Rattle.std.specs.Char.{is_ascii_graphic}
 use Rattle.std.specs.List.{position, position_or_len, slice_split, onto_first, list_all}
 use Rattle.std.proofs.lemmas.Bool.Decides.{nat_tests}
@@ -11,8 +13,8 @@ use Rattle.std.specs.Str.Parse.{AllDigits}
 use Rattle.std.proofs.lemmas.List.Splits.{length-slice_split, join_with_byte-slice_split}
 use Rattle.std.proofs.lemmas.Str.Parse.{digit_from_value}
 use Rattle.sst_script.specs.declared.command.Command.{Command}
-use Rattle.sst_script.specs.declared.command.Command.TheVariants.{Entry, Table, Get}
-use Rattle.sst_script.specs.Command.{words_of, AskFor}
+use Rattle.sst_script.specs.declared.command.Command.TheVariants.{Entry, Table, Get, Range}
+use Rattle.sst_script.specs.Command.{words_of, AskFor, Limits}
 use Rattle.sst_entries.proofs.Booleans.{and_parts}
 
 abbrev pub is_space : ℕ → Bool
@@ -55,6 +57,12 @@ visible_word (x ∷ xs) h =
     let both = and_parts (is_ascii_graphic x) (list_all is_ascii_graphic xs) h in
     rw (visible_step x _ _ refl refl both.0) (ap (onto_first x) (visible_word xs both.1))
 
+-- the word of a bound is one word
+pub limit_word : (word : List ℕ) (bound : Bound (List ℕ)) → Limits word bound → words_of word ≡ word ∷ []
+limit_word word (Included key) h = subst (λ (w : List ℕ). words_of w ≡ w ∷ []) (sym h.1) (ap (onto_first 61) (visible_word h.0 h.2.visible))
+limit_word word (Excluded key) h = subst (λ (w : List ℕ). words_of w ≡ w ∷ []) (sym h.1) (ap (onto_first 33) (visible_word h.0 h.2.visible))
+limit_word word Unbounded h = subst (λ (w : List ℕ). words_of w ≡ w ∷ []) (sym h) refl
+
 no_digit : (x : ℕ) (b : Bool) → is_space x ≡ b → IsInRange 48 57 x → b ≡ false
 no_digit x true p h = absurd (grind (arith, nat_tests))
 no_digit x false p h = refl
@@ -77,7 +85,8 @@ pub parts : (w x : List ℕ) (ws rest others : List (List ℕ)) → ws ≡ w ∷
 parts w x ws rest others h k = let e : w ∷ rest ≡ x ∷ others = sym h ∙ k in (cc, cc)
 
 -- a line of several words whose first is neither name asks for nothing
-pub no_command : (line name rest : List ℕ) → words_of line ≡ name ∷ words_of rest → (name ≡ codes "entry" → ⊥) → (name ≡ codes "get" → ⊥) → (command : Command) → AskFor (words_of line) command → ⊥
-no_command line name rest words no_entry no_get (Entry key seqno kind value) h = no_entry (parts name (codes "entry") (words_of line) (words_of rest) _ words h.words_are).0
-no_command line name rest words no_entry no_get Table h = some_word rest (parts name (codes "table") (words_of line) (words_of rest) [] words h).1
-no_command line name rest words no_entry no_get (Get key bound) h = no_get (parts name (codes "get") (words_of line) (words_of rest) _ words h.words_are).0
+pub no_command : (line name rest : List ℕ) → words_of line ≡ name ∷ words_of rest → (name ≡ codes "entry" → ⊥) → (name ≡ codes "get" → ⊥) → (name ≡ codes "range" → ⊥) → (command : Command) → AskFor (words_of line) command → ⊥
+no_command line name rest words no_entry no_get no_range (Entry key seqno kind value) h = no_entry (parts name (codes "entry") (words_of line) (words_of rest) _ words h.words_are).0
+no_command line name rest words no_entry no_get no_range Table h = some_word rest (parts name (codes "table") (words_of line) (words_of rest) [] words h).1
+no_command line name rest words no_entry no_get no_range (Get key bound) h = no_get (parts name (codes "get") (words_of line) (words_of rest) _ words h.words_are).0
+no_command line name rest words no_entry no_get no_range (Range low high) h = no_range (parts name (codes "range") (words_of line) (words_of rest) _ words h.words_are).0

@@ -1,7 +1,9 @@
 pub mod CommandLemmas
+pub mod DealtLemmas
 pub mod EntryLemmas
 pub mod PendingLemmas
 pub mod RefusalLemmas
 pub mod RunLemmas
+pub mod PrintLemmas
 pub mod ScriptLemmas
 pub mod StoreLemmas

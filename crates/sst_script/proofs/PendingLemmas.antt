@@ -1,6 +1,6 @@
 -- Lists that a table can be written of.
-use Rattle.std.proofs.Common.{◌≡◌, refl, sym, ◌∙◌, subst, ◌+◌, ◌-◌, ◌^◌, ◌<◌, Bool, true, false, IsTrue, List, [], ◌∷◌, ◌++◌, arith, ltb, ltb-true, le-ltb}
-use Rattle.std.specs.Prelude.{Option, Some, None, nat_lt}
+use Rattle.std.proofs.Common.{◌≡◌, refl, sym, ◌∙◌, ap, subst, ℕ, ◌+◌, ◌-◌, ◌^◌, ◌<◌, Bool, true, false, IsTrue, List, [], ◌∷◌, ◌++◌, arith, ltb, ltb-true, le-ltb}
+use Rattle.std.specs.Prelude.{Option, Some, None, IfOk, IfSome, MatchOption, Result, nat_lt}
 use Rattle.std.specs.List.{AllByRecursion}
 use Rattle.std.specs.Option.{option_or}
 use Rattle.sst_entries.specs.declared.error.Error.{Error}
@@ -9,9 +9,10 @@ use Rattle.sst_entries.specs.Entry.{Entry, entry}
 use Rattle.sst_entries.specs.Error.{Faults}
 use Rattle.sst_entries.specs.Strict.{last_of, may_follow, IsStrictAfter}
 use Rattle.lsm_files.specs.Facts.{highest_seqno}
-use Rattle.lsm_files.specs.declared.label.Label.{Label}
-use Rattle.lsm_writers.specs.Writing.{may_be_written, list_fault, IsWritable}
-use Rattle.lsm_tables.specs.Written.{number_fault, opening_fault}
+use Rattle.lsm_writers.specs.Writing.{may_be_written, IsWritable}
+use Rattle.lsm_readers.specs.Table.{OpenTable}
+use Rattle.lsm_tables.specs.Chain.{AreCutOf, IsRunOfList, chain_fault, run_label, tables_fault}
+use Rattle.lsm_tables.specs.Written.{number_fault}
 use Rattle.sst_entries.proofs.Booleans.{and_parts}
 use Rattle.sst_entries.proofs.Lists.{all_append}
 use Rattle.sst_entries.proofs.Strictness.{strict_push}
@@ -53,9 +54,27 @@ or_none : (a : Option Error) → option_or a None ≡ a
 or_none None = refl
 or_none (Some e) = refl
 
--- with no global number, what opening refuses is what writing refuses
-pub opening_is : (label : Label) (es : List Entry) → IsWritable es → opening_fault label es 0 ≡ list_fault label es
-opening_is label es p = rw (number_fits es p) (or_none (list_fault label es))
+-- with no global number, what a run refuses is what writing its tables refuses
+refusal_is : (ids : Option ℕ) (target moment : ℕ) (es : List Entry) → IsWritable es → chain_fault ids target moment es 0 ≡ tables_fault ids target moment es
+refusal_is ids target moment es p = ap (option_or (tables_fault ids target moment es)) (number_fits es p) ∙ or_none (tables_fault ids target moment es)
 
-pub written_faults : {X : Type 0} (r : _) (label : Label) (es : List Entry) → IsWritable es → Faults {X = X} r (opening_fault label es 0) → Faults r (list_fault label es)
-written_faults {X} r label es p h = subst (λ (o : Option Error). Faults {X = X} r o) (opening_is label es p) h
+-- what was refused at a moment, of the list that was pending
+pub run_faults : {X : Type 0} (r : Result X Error) (ids : Option ℕ) (target moment now : ℕ) (es pending : List Entry) → moment ≡ now → es ≡ pending → IsWritable es
+    → Faults r (chain_fault ids target moment es 0) → Faults r (tables_fault ids target now pending)
+run_faults {X} r ids target moment now es pending time is p h =
+    subst (λ (n : ℕ). Faults r (tables_fault ids target n pending)) time
+    (subst (λ (xs : List Entry). Faults r (tables_fault ids target moment xs)) is
+    (subst (λ (o : Option Error). Faults r o) (refusal_is ids target moment es p) h))
+
+-- a run of the list that was pending
+abbrev pub IsWrittenOf : List Entry → Option (List OpenTable) → Type 0
+IsWrittenOf es r = MatchOption r (es ≡ []) (λ run. IsRunOfList es 0 run)
+
+-- its tables are cut by a target, under ids that run on
+abbrev pub IsCutOf : Option ℕ → ℕ → ℕ → List Entry → Option (List OpenTable) → Type 0
+IsCutOf ids target moment es r = IfSome r (λ run. AreCutOf (run_label ids target moment) target es 0 run)
+
+pub run_cut : (r : Result (Option (List OpenTable) × Option ℕ) Error) (ids : Option ℕ) (target moment now : ℕ) (es pending : List Entry) → moment ≡ now → es ≡ pending
+    → IfOk r (λ x. IsCutOf ids target moment es x.0) → IfOk r (λ x. IsCutOf ids target now pending x.0)
+run_cut r ids target moment now es pending time is h =
+    subst (λ (n : ℕ). IfOk r (λ x. IsCutOf ids target n pending x.0)) time (subst (λ (xs : List Entry). IfOk r (λ x. IsCutOf ids target moment xs x.0)) is h)

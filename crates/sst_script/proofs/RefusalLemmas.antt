@@ -1,9 +1,9 @@
 -- Refusals that a call passes on.
-use Rattle.std.proofs.Common.{◌≡◌, ap, false}
-use Rattle.std.specs.Prelude.{Option, Some, Result, Ok, Err, IfErr}
+use Rattle.std.proofs.Common.{◌≡◌, ap}
+use Rattle.std.specs.Prelude.{Result, Ok, Err, IfErr}
 use Rattle.std.specs.Result.{IsErrAnd}
 use Rattle.sst_entries.specs.declared.error.Error.{Error}
-use Rattle.sst_entries.specs.Error.{is_memory, Fails, Gives, Faults}
+use Rattle.sst_entries.specs.Error.{Fails, Gives}
 
 -- an error of which something holds
 pub passes : {T E : Type 0} (r : Result T E) (e : E) (P : E → Type 0) → IsErrAnd r (λ y. y ≡ e) → P e → IfErr r P

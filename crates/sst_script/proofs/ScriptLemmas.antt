@@ -11,7 +11,7 @@ use Rattle.sst_script.specs.declared.command.Command.{Command}
 use Rattle.sst_script.specs.declared.print.Answer.{Answer}
 use Rattle.sst_script.specs.declared.stop.Failure.{Failure}
 use Rattle.sst_script.specs.declared.stop.Failure.TheVariants.{BadLine, Refused}
-use Rattle.sst_script.specs.Answer.{answer_line, refusal_line}
+use Rattle.sst_script.specs.Answer.{answer_lines, refusal_line}
 use Rattle.sst_entries.specs.Error.{number_of}
 use Rattle.sst_script.specs.Command.{words_of, AskFor}
 use Rattle.sst_script.specs.Script.{Store, store, Executes}
@@ -216,11 +216,11 @@ kept_behind (Some x) (Some y) (Some z) bs p q = q ∙ p
 pub ends_printed : {X A : Type 0} (number : ℕ) (line : List ℕ) (command : Command) (old new : Store) (r : Result (Answer A) Failure) (before after : Option (List ℕ)) (result : Result X Stop)
     → 0 < length line → AskFor (words_of line) command → Executes command old r new → PrintEnds number (outcome_text r) before after result → LineEnds A number line old new before after result
 ends_printed {X} {A} number line command old new (Ok answer) before after (Ok x) some asked does ends =
-    (answer_line answer, answers_some A line old new (answer_line answer) some (Ok answer, (command, asked, does), refl), ends)
+    (answer_lines answer, answers_some A line old new (answer_lines answer) some (Ok answer, (command, asked, does), refl), ends)
 ends_printed {X} {A} number line command old new (Err (Refused error)) before after (Ok x) some asked does ends =
     (refusal_line (number_of error), answers_some A line old new (refusal_line (number_of error)) some (Err (Refused error), (command, asked, does), refl), ends)
 ends_printed {X} {A} number line command old new (Ok answer) before after (Err stop) some asked does ends =
-    let shown : LineEnds {X = X} A number line old new before after (Err Output) = (answer_line answer, (Ok answer, (command, asked, does), refl)) in
+    let shown : LineEnds {X = X} A number line old new before after (Err Output) = (answer_lines answer, (Ok answer, (command, asked, does), refl)) in
     subst (λ (s : Stop). LineEnds {X = X} A number line old new before after (Err s)) (sym ends) shown
 ends_printed {X} {A} number line command old new (Err (Refused error)) before after (Err stop) some asked does ends =
     let shown : LineEnds {X = X} A number line old new before after (Err Output) = (refusal_line (number_of error), (Err (Refused error), (command, asked, does), refl)) in

@@ -1,23 +1,21 @@
 -- What writing the pending entries comes to.
-use Rattle.std.proofs.Common.{◌≡◌, refl, sym, ◌∙◌, ap, subst, inl, inr, ◌⊎◌, ℕ, Bool, true, false, List, [], ◌∷◌}
-use Rattle.std.specs.Prelude.{Option, Some, None, Result, Ok, Err, ok_or}
+use Rattle.std.proofs.Common.{◌≡◌, refl, sym, ◌∙◌, ap, subst, inl, inr, ◌⊎◌, ℕ, Bool, true, false, List, [], ◌∷◌, length}
+use Rattle.std.specs.Prelude.{Option, Some, None, Result, Ok, Err}
 use Rattle.std.specs.Result.{IsErrAnd}
 use Rattle.sst_entries.specs.declared.error.Error.{Error}
-use Rattle.sst_entries.specs.declared.error.Error.TheVariants.{OutOfMemory, TableIdsSpent}
+use Rattle.sst_entries.specs.declared.error.Error.TheVariants.{OutOfMemory}
 use Rattle.sst_entries.specs.Entry.{Entry}
 use Rattle.sst_entries.specs.Error.{is_memory, Fails, Gives}
-use Rattle.lsm_files.specs.Options.{label_of}
 use Rattle.lsm_readers.proofs.Scans.{memory_is}
 use Rattle.lsm_readers.specs.Table.{OpenTable}
-use Rattle.lsm_tables.specs.Written.{IsOpened}
-use Rattle.lsm_writers.specs.Writing.{list_fault}
+use Rattle.lsm_tables.specs.Chain.{AreCutOf, IsRunOfList, ids_behind, run_label, tables_fault}
 use Rattle.sst_script.specs.declared.command.Command.{Command}
 use Rattle.sst_script.specs.declared.command.Command.TheVariants.{Table}
 use Rattle.sst_script.specs.declared.print.Answer.TheVariants.{Tables}
 use Rattle.sst_script.specs.declared.stop.Failure.{Failure}
 use Rattle.sst_script.specs.declared.stop.Failure.TheVariants.{BadLine, Refused}
 use Rattle.sst_script.specs.Runs.{repeats, run_tables, HasRuns, Run}
-use Rattle.sst_script.specs.Script.{id_after, store, table_fault, Executes, GivesUp, Writes, WritesTable}
+use Rattle.sst_script.specs.Script.{pending_fault, store, table_fault, target_size, Executes, GivesUp, Writes, WritesTable}
 use Rattle.sst_script.proofs.RunLemmas.{memory_of}
 
 abbrev MayFail : List Run → List Entry → Option ℕ → Failure → Type 0
@@ -31,50 +29,62 @@ wants_memory rs es next e told fails = inl (ap (λ (x : Error). Refused x) (memo
 pub repeated : (rs : List Run) (es : List Entry) (next : Option ℕ) → repeats rs es ≡ true → MayFail rs es next BadLine
 repeated rs es next is = inr (rw is refl)
 
--- no id is left
-pub ids_spent : (rs : List Run) (es : List Entry) (next : Option ℕ) (e : Error) → repeats rs es ≡ false → next ≡ None → Err e ≡ ok_or next TableIdsSpent → MayFail rs es next (Refused e)
-ids_spent rs es None e fresh none is = let spent : e ≡ TableIdsSpent = cc in inr (rw (fresh, spent) refl)
-ids_spent rs es (Some id) e fresh none is = absurd cc
+-- what writing some entries refuses
+pending_is : (next : Option ℕ) (es : List Entry) → (es ≡ [] → ⊥) → pending_fault next es ≡ tables_fault next target_size 0 es
+pending_is next [] some = absurd (some refl)
+pending_is next (e ∷ es) some = refl
 
-unwritten_by : (rs : List Run) (es : List Entry) (id : ℕ) (e : Error) (b : Bool) → is_memory e ≡ b → repeats rs es ≡ false → (is_memory e ≡ false → list_fault (label_of id 0 0) es ≡ Some e) → MayFail rs es (Some id) (Refused e)
-unwritten_by rs es id e true memory fresh fault = inl (ap (λ (x : Error). Refused x) (memory_is e memory))
-unwritten_by rs es id e false memory fresh fault = inr (rw (fresh, fault memory) refl)
+unwritten_by : (rs : List Run) (es : List Entry) (next : Option ℕ) (e : Error) (b : Bool) → is_memory e ≡ b → repeats rs es ≡ false → (es ≡ [] → ⊥) → (is_memory e ≡ false → tables_fault next target_size 0 es ≡ Some e) → MayFail rs es next (Refused e)
+unwritten_by rs es next e true memory fresh some fault = inl (ap (λ (x : Error). Refused x) (memory_is e memory))
+unwritten_by rs es next e false memory fresh some fault =
+    let told : pending_fault next es ≡ Some e = pending_is next es some ∙ fault memory in
+    inr (rw (fresh, told) refl)
 
 -- the entries could not be written
-pub unwritten : (rs : List Run) (es : List Entry) (next : Option ℕ) (id : ℕ) (e : Error) → repeats rs es ≡ false → next ≡ Some id → (is_memory e ≡ false → list_fault (label_of id 0 0) es ≡ Some e) → MayFail rs es next (Refused e)
-unwritten rs es next id e fresh drawn fault = subst (λ (n : Option ℕ). MayFail rs es n (Refused e)) (sym drawn) (unwritten_by rs es id e _ refl fresh fault)
+pub unwritten : (rs : List Run) (es : List Entry) (next : Option ℕ) (e : Error) → repeats rs es ≡ false → (es ≡ [] → ⊥) → (is_memory e ≡ false → tables_fault next target_size 0 es ≡ Some e) → MayFail rs es next (Refused e)
+unwritten rs es next e fresh some fault = unwritten_by rs es next e _ refl fresh some fault
+
+nothing_refused : (next : Option ℕ) (es : List Entry) → tables_fault next target_size 0 es ≡ None → pending_fault next es ≡ None
+nothing_refused next [] written = refl
+nothing_refused next (e ∷ es) written = written
 
 -- nothing is against them
-pub fine : (rs : List Run) (es : List Entry) (next : Option ℕ) (id : ℕ) → repeats rs es ≡ false → next ≡ Some id → list_fault (label_of id 0 0) es ≡ None → table_fault (store es rs next) ≡ None
-fine rs es next id fresh drawn written = rw (fresh, drawn, written) refl
+fine : (rs : List Run) (es : List Entry) (next : Option ℕ) → repeats rs es ≡ false → tables_fault next target_size 0 es ≡ None → table_fault (store es rs next) ≡ None
+fine rs es next fresh written =
+    let told : pending_fault next es ≡ None = nothing_refused next es written in
+    rw (fresh, told) refl
 
--- the refusal is passed on
-pub gives_up : (r : Result ℕ Failure) (f : Failure) (rs : List Run) (es : List Entry) (next : Option ℕ) → IsErrAnd r (λ y. y ≡ f) → MayFail rs es next f → WritesTable (store es rs next) r (store [] rs next)
-gives_up (Ok count) f rs es next is may = absurd is
-gives_up (Err y) f rs es next is may = subst (λ (x : Failure). GivesUp (store es rs next) x (store [] rs next)) (sym is) (may, refl)
+-- the refusal is passed on, and the runs are what they were
+pub gives_up : (r : Result ℕ Failure) (f : Failure) (rs : List Run) (ts : List (List OpenTable)) (es : List Entry) (next : Option ℕ) → run_tables rs ≡ ts → IsErrAnd r (λ y. y ≡ f) → MayFail rs es next f
+    → HasRuns ts (λ after. WritesTable (store es rs next) r (store [] after next))
+gives_up (Ok count) f rs ts es next same is may = absurd is
+gives_up (Err y) f rs ts es next same is may = (rs, same, subst (λ (x : Failure). GivesUp (store es rs next) x (store [] rs next)) (sym is) (may, refl))
 
 -- what the test for repeated entries answered
-pub answered_no : (rs : List Run) (es given : List Entry) (b : Bool) → Gives (λ (x : Bool). x) (Ok b) (Ok (repeats rs given)) → b ≡ false → given ≡ es → repeats rs es ≡ false
-answered_no rs es given b told fresh same =
+pub answered : (rs : List Run) (es given : List Entry) (b told : Bool) → Gives (λ (x : Bool). x) (Ok b) (Ok (repeats rs given)) → b ≡ told → given ≡ es → repeats rs es ≡ told
+answered rs es given b told gives fresh same =
     let is : repeats rs given ≡ b = cc in
-    subst (λ (xs : List Entry). repeats rs xs ≡ false) same (is ∙ fresh)
+    subst (λ (xs : List Entry). repeats rs xs ≡ told) same (is ∙ fresh)
 
--- a table was written
-pub wrote : (rs : List Run) (ts new : List OpenTable) (es : List Entry) (next following : Option ℕ) (id : ℕ) (t : OpenTable) → run_tables rs ≡ ts → new ≡ t ∷ ts
-    → repeats rs es ≡ false → next ≡ Some id → following ≡ id_after id → list_fault (label_of id 0 0) es ≡ None → IsOpened (label_of id 0 0) es 0 t
-    → HasRuns new (λ after. Writes (store es rs next) 1 (store [] after following))
-wrote rs ts new es next following id t same new_is fresh drawn then written opened =
-    let run : Run = record { id = id; list = es; table = t; opened = opened } in (
+-- there was nothing to write
+pub wrote_nothing : (rs : List Run) (ts : List (List OpenTable)) (es : List Entry) (next : Option ℕ) → run_tables rs ≡ ts → es ≡ [] → HasRuns ts (λ after. Writes (store es rs next) 0 (store [] after next))
+wrote_nothing rs ts es next same none = (rs, same, (ap (λ (xs : List Entry). table_fault (store xs rs next)) none, inl (refl, none, refl)))
+
+-- a run was written
+pub wrote : (rs : List Run) (ts new : List (List OpenTable)) (es : List Entry) (next following : Option ℕ) (tables : List OpenTable) (count : ℕ) → run_tables rs ≡ ts → new ≡ tables ∷ ts → count ≡ length tables
+    → repeats rs es ≡ false → tables_fault next target_size 0 es ≡ None → following ≡ ids_behind next target_size (length tables)
+    → IsRunOfList es 0 tables → AreCutOf (run_label next target_size 0) target_size es 0 tables
+    → HasRuns new (λ after. Writes (store es rs next) count (store [] after following))
+wrote rs ts new es next following tables count same new_is count_is fresh written behind is cut =
+    let run : Run = record { list = es; tables = tables; is = is } in
+    let left : following ≡ ids_behind next target_size count = behind ∙ ap (ids_behind next target_size) (sym count_is) in (
       run ∷ rs,
-      ap (λ (us : List OpenTable). t ∷ us) same ∙ sym new_is,
-      (
-        fine rs es next id fresh drawn written,
-        inr (refl, (run, refl, drawn, ap (λ (n : Option ℕ). store [] (run ∷ rs) n) then)),
-      ),
+      ap (λ (us : List (List OpenTable)). tables ∷ us) same ∙ sym new_is,
+      (fine rs es next fresh written, inr (run, refl, count_is, cut, ap (λ (n : Option ℕ). store [] (run ∷ rs) n) left)),
     )
 
 -- a command that writes a table
-pub executed : (A : Type 0) (command : Command) (rs : List Run) (es left : List Entry) (next following : Option ℕ) (count : ℕ) (new : List OpenTable) → command ≡ Table → left ≡ []
+pub executed : (A : Type 0) (command : Command) (rs : List Run) (es left : List Entry) (next following : Option ℕ) (count : ℕ) (new : List (List OpenTable)) → command ≡ Table → left ≡ []
     → HasRuns new (λ after. Writes (store es rs next) count (store [] after following))
     → HasRuns new (λ after. Executes {A = A} command (store es rs next) (Ok (Tables count)) (store left after following))
 executed A command rs es left next following count new is none done =

@@ -8,14 +8,14 @@ use Rattle.sst_script.specs.declared.stop.Failure.{Failure}
 use Rattle.sst_script.specs.declared.stop.Failure.TheVariants.{BadLine, Refused}
 use Rattle.sst_script.specs.declared.stop.Stop.{Stop}
 use Rattle.sst_script.specs.declared.stop.Stop.TheVariants.{Line, Input, Output}
-use Rattle.sst_script.specs.Answer.{answer_line, refusal_line}
+use Rattle.sst_script.specs.Answer.{answer_lines, refusal_line}
 use Rattle.sst_script.specs.Command.{words_of, AskFor}
 use Rattle.sst_script.specs.Lines.{HasLines}
 use Rattle.sst_script.specs.Script.{Store, store, Executes}
 
 -- what a command's result is printed as; a line at fault has no answer
 abbrev pub outcome_text : {A : Type 0} → Result (Answer A) Failure → Option (List ℕ)
-outcome_text (Ok answer) = Some (answer_line answer)
+outcome_text (Ok answer) = Some (answer_lines answer)
 outcome_text (Err (Refused error)) = Some (refusal_line (number_of error))
 outcome_text (Err BadLine) = None
 

@@ -6,7 +6,10 @@ use Rattle.std.specs.List.{list_all, slice_split}
 use Rattle.std.specs.Str.Parse.{digits_value}
 use Rattle.sst_entries.specs.declared.value_type.ValueType.{ValueType}
 use Rattle.sst_script.specs.declared.command.Command.{Command}
-use Rattle.sst_script.specs.declared.command.Command.TheVariants.{Entry, Table, Get}
+use Rattle.std.specs.declared.ops.Bound.{Bound}
+use Rattle.std.specs.declared.ops.Bound.TheVariants.{Included, Excluded, Unbounded}
+use Rattle.lsm_ranges.specs.KeyRange.{key_bound}
+use Rattle.sst_script.specs.declared.command.Command.TheVariants.{Entry, Table, Get, Range}
 use Rattle.sst_script.specs.Text.{letter_of, IsNumber}
 
 -- the parts of a line between its spaces
@@ -53,8 +56,23 @@ pub record ReadsKey (words : List (List ℕ)) (key : List ℕ) (bound : ℕ) : T
   pub key_is : StandsFor key_word key
   pub bound_is : Counts number_word bound
 
+-- the word of a bound: * for none, else = before a key that is within it, or ! before one that is not
+abbrev pub Limits : List ℕ → Bound (List ℕ) → Type 0
+Limits word (Included key) = (text : List ℕ) × (word ≡ 61 ∷ text) × StandsFor text key
+Limits word (Excluded key) = (text : List ℕ) × (word ≡ 33 ∷ text) × StandsFor text key
+Limits word Unbounded = word ≡ 42 ∷ []
+
+-- the words of a line that reads the keys within two bounds
+pub record ReadsRange (words : List (List ℕ)) (low high : Bound (List ℕ)) : Type 0 where
+  pub low_word : List ℕ
+  pub high_word : List ℕ
+  pub words_are : words ≡ codes "range" ∷ low_word ∷ high_word ∷ []
+  pub low_is : Limits low_word low
+  pub high_is : Limits high_word high
+
 -- the words of a line ask for a command
 abbrev pub AskFor : List (List ℕ) → Command → Type 0
 AskFor words (Entry key seqno kind value) = AddsEntry words key.now seqno kind value.now
 AskFor words Table = words ≡ codes "table" ∷ []
 AskFor words (Get key bound) = ReadsKey words key.now bound
+AskFor words (Range low high) = ReadsRange words (key_bound low) (key_bound high)

@@ -1,20 +1,23 @@
 -- What a script's commands do to its runs.
-use Rattle.std.specs.Prelude.{◌≡◌, ℕ, ◌+◌, ◌^◌, IsTrue, nat_lt, List, [], ◌∷◌, ◌++◌, Option, Some, None, Result, MatchResult, ◌⊎◌, if◌then◌else◌}
+use Rattle.std.specs.Prelude.{◌≡◌, ℕ, IsTrue, List, [], ◌∷◌, ◌++◌, length, Option, Some, None, Result, MatchResult, ◌⊎◌, if◌then◌else◌}
 use Rattle.std.specs.Option.{option_map}
 use Rattle.sst_entries.specs.declared.error.Error.{Error}
-use Rattle.sst_entries.specs.declared.error.Error.TheVariants.{OutOfMemory, TableIdsSpent}
+use Rattle.sst_entries.specs.declared.error.Error.TheVariants.{OutOfMemory}
 use Rattle.sst_entries.specs.Entry.{Entry, entry}
-use Rattle.lsm_files.specs.Options.{label_of}
-use Rattle.lsm_writers.specs.Writing.{may_be_written, list_fault}
+use Rattle.sst_entries.specs.Point.{point, within}
+use Rattle.lsm_merge.specs.Union.{newest}
+use Rattle.lsm_ranges.specs.KeyRange.{key_bound}
+use Rattle.lsm_tables.specs.Chain.{AreCutOf, ids_behind, run_label, tables_fault}
+use Rattle.lsm_writers.specs.Writing.{may_be_written}
 use Rattle.sst_script.specs.declared.command.Command.{Command}
-use Rattle.sst_script.specs.declared.command.Command.TheVariants.{Entry as Add, Table, Get}
+use Rattle.sst_script.specs.declared.command.Command.TheVariants.{Entry as Add, Table, Get, Range}
 use Rattle.sst_script.specs.declared.print.Answer.{Answer}
-use Rattle.sst_script.specs.declared.print.Answer.TheVariants.{Silent, Tables, Found}
+use Rattle.sst_script.specs.declared.print.Answer.TheVariants.{Silent, Tables, Found, Entries}
 use Rattle.sst_script.specs.declared.stop.Failure.{Failure}
 use Rattle.sst_script.specs.declared.stop.Failure.TheVariants.{BadLine, Refused}
-use Rattle.sst_script.specs.Runs.{Run, newest_point, repeats}
+use Rattle.sst_script.specs.Runs.{Run, repeats, union}
 
--- what a script has stored: the entries of the next table, the runs, newest first, and the next id
+-- what a script has stored: the entries of the next run, the runs, newest first, and the next id
 pub record Store : Type 0 where
   pub pending : List Entry
   pub runs : List Run
@@ -23,28 +26,31 @@ pub record Store : Type 0 where
 abbrev pub store : List Entry → List Run → Option ℕ → Store
 store pending runs id = record { pending = pending; runs = runs; next_id = id }
 
--- the id after one, if there is one
-abbrev pub id_after : ℕ → Option ℕ
-id_after id = if nat_lt (id + 1) (2 ^ 64) then Some (id + 1) else None
+-- how many bytes of data blocks a table has before the next one begins
+abbrev pub target_size : ℕ
+target_size = 65536
 
--- what writing a list as the next table refuses: that no id is left, or the list's first fault
-abbrev pub run_fault : Option ℕ → List Entry → Option Error
-run_fault None es = Some TableIdsSpent
-run_fault (Some id) es = list_fault (label_of id 0 0) es
+-- what writing pending entries refuses: nothing where there are none, or else that no id is left for
+-- the first table, or the first fault of writing them
+abbrev pub pending_fault : Option ℕ → List Entry → Option Error
+pending_fault ids [] = None
+pending_fault ids (e ∷ es) = tables_fault ids target_size 0 (e ∷ es)
 
 -- why pending entries become no run: a run holds one of them; or, where none does, writing them is
 -- refused
 abbrev pub table_fault : Store → Option Failure
 table_fault s =
     if repeats s.runs s.pending then Some BadLine
-    else option_map Refused (run_fault s.next_id s.pending)
+    else option_map Refused (pending_fault s.next_id s.pending)
 
--- the pending entries became a run before the others, whose id was used up; or there were none
+-- the pending entries became a run before the others, cut by the target into so many tables, whose
+-- ids run on; or there were none
 abbrev pub AddsRun : Store → ℕ → Store → Type 0
 AddsRun old count new =
     ((count ≡ 0) × (old.pending ≡ []) × (new ≡ store [] old.runs old.next_id))
-    ⊎ ((count ≡ 1) × ((run : Run) × (run.list ≡ old.pending) × (old.next_id ≡ Some run.id)
-    × (new ≡ store [] (run ∷ old.runs) (id_after run.id))))
+    ⊎ ((run : Run) × (run.list ≡ old.pending) × (count ≡ length run.tables)
+    × AreCutOf (run_label old.next_id target_size 0) target_size run.list 0 run.tables
+    × (new ≡ store [] (run ∷ old.runs) (ids_behind old.next_id target_size count)))
 
 -- nothing was against the pending entries, and they were written
 abbrev pub Writes : Store → ℕ → Store → Type 0
@@ -64,6 +70,11 @@ WritesTable old r new = MatchResult r (λ count. Writes old count new) (λ e. Gi
 abbrev pub entry_failure : List Entry → List ℕ → ℕ → Failure
 entry_failure es key seqno = if may_be_written es key seqno then Refused OutOfMemory else BadLine
 
+-- an answer is these entries
+abbrev pub AreAnswered : {A : Type 0} → List Entry → Answer A → Type 0
+AreAnswered es (Entries v) = v.items ≡ es
+AreAnswered es answer = ⊥
+
 -- a command's answer, and what it leaves
 abbrev pub Executes : {A : Type 0} → Command → Store → Result (Answer A) Failure → Store → Type 0
 Executes (Add key seqno kind value) old r new = MatchResult r
@@ -74,5 +85,8 @@ Executes Table old r new = MatchResult r
     (λ a. (count : ℕ) × (a ≡ Tables count) × Writes old count new)
     (λ e. GivesUp old e new)
 Executes (Get key bound) old r new = (new ≡ old) × MatchResult r
-    (λ a. a ≡ Found (newest_point old.runs key.now bound))
+    (λ a. a ≡ Found (point (union old.runs) key.now bound))
+    (λ e. e ≡ Refused OutOfMemory)
+Executes (Range low high) old r new = (new ≡ old) × MatchResult r
+    (λ a. AreAnswered (newest (within (key_bound low) (key_bound high) (union old.runs))) a)
     (λ e. e ≡ Refused OutOfMemory)

@@ -4,12 +4,15 @@ ghost use Rattle.std.specs.Option.{SomeIff, option_copied};
 ghost use Rattle.std.specs.Char.{is_ascii_graphic};
 ghost use Rattle.std.specs.List.{list_all, position};
 ghost use Rattle.std.specs.Str.Parse.{digits_value};
+ghost use Rattle.std.specs.declared.ops.Bound.{Bound};
 ghost use Rattle.sst_entries.specs.declared.value_type.ValueType.{ValueType};
+ghost use Rattle.lsm_ranges.specs.KeyRange.{key_bound};
 ghost use Rattle.sst_script.specs.declared.command.Command.{Command};
-ghost use Rattle.sst_script.specs.Command.{words_of, words_behind, StandsFor, AddsEntry, ReadsKey, AskFor};
+ghost use Rattle.sst_script.specs.Command.{words_of, words_behind, StandsFor, AddsEntry, Limits, ReadsKey, ReadsRange, AskFor};
 ghost use Rattle.sst_script.specs.Text.{letter_of, IsNumber};
 
 use sst_blocks::{SeqNo, ValueType};
+use std::ops::Bound;
 
 /// A line of a script.
 #[derive(Clone, Copy, Debug, PartialEq, Eq)]
@@ -21,12 +24,17 @@ pub(crate) enum Command<'a> {
         kind: ValueType,
         value: &'a [u8],
     },
-    /// Writes the pending entries as a table.
+    /// Writes the pending entries as a run of tables.
     Table,
     /// Reads the newest entry of a key numbered below a bound.
     Get {
         key: &'a [u8],
         bound: SeqNo,
+    },
+    /// Reads the newest entry of each key within two bounds.
+    Range {
+        low: Bound<&'a [u8]>,
+        high: Bound<&'a [u8]>,
     },
 }
 
@@ -41,6 +49,7 @@ pub(crate) fn parse_command(line: &[u8]) -> Option<Command<'_>>
         None => None,
         Some(words) if name == b"entry".as_slice() => parse_entry(words),
         Some(words) if name == b"get".as_slice() => parse_get(words),
+        Some(words) if name == b"range".as_slice() => parse_range(words),
         Some(_) => None,
     }
 }
@@ -73,6 +82,32 @@ fn parse_get(words: &[u8]) -> Option<Command<'_>>
         key: parse_text(key)?,
         bound: parse_number(bound?)?,
     })
+}
+
+// What follows `range `: two bounds.
+fn parse_range(words: &[u8]) -> Option<Command<'_>>
+    ensures form { IfSome result (λ command. AskFor (codes "range" ∷ words_of words.now) command) }
+    ensures none { IfNone result ((low high : Bound (List ℕ)) →
+        ¬ ReadsRange (codes "range" ∷ words_of words.now) low high) }
+{
+    let (low, high) = split_word(words);
+    Some(Command::Range {
+        low: parse_bound(low)?,
+        high: parse_bound(high?)?,
+    })
+}
+
+// A bound: `*` for none, else `=` before a key that is within it, or `!` before one that is not.
+fn parse_bound(word: &[u8]) -> Option<Bound<&[u8]>>
+    ensures bound { IfSome result (λ bound. Limits word.now (key_bound bound)) }
+    ensures none { IfNone result ((bound : Bound (List ℕ)) → ¬ Limits word.now bound) }
+{
+    match word {
+        b"*" => Some(Bound::Unbounded),
+        [b'=', key @ ..] => Some(Bound::Included(parse_text(key)?)),
+        [b'!', key @ ..] => Some(Bound::Excluded(parse_text(key)?)),
+        _ => None,
+    }
 }
 
 // The first word, and what follows the space behind it.

@@ -1,19 +1,24 @@
 //! The entries that wait for the next table.
-ghost use Rattle.std.specs.Prelude.{◌≡◌, [], ◌∷◌, ◌++◌, IsTrue, IfOk, IfErr, OnOk, OnErr, MatchOption};
+ghost use Rattle.std.specs.Prelude.{◌≡◌, ◌↔◌, [], ◌∷◌, ◌++◌, length, IsTrue, IfErr, IfOk, IfSome, OnErr, OnOk, MatchOption};
+ghost use Rattle.std.specs.Option.{option_map_or};
 ghost use Rattle.sst_entries.specs.Entry.{entry};
 ghost use Rattle.sst_entries.specs.Error.{Faults};
-ghost use Rattle.lsm_files.specs.Options.{label_of};
-ghost use Rattle.lsm_writers.specs.Writing.{may_be_written, list_fault, IsWritable};
-ghost use Rattle.lsm_tables.specs.Written.{IsOpened};
-ghost use Rattle.sst_script.specs.Script.{entry_failure};
+ghost use Rattle.lsm_writers.specs.Writing.{IsWritable, may_be_written};
+ghost use Rattle.lsm_tables.specs.Chain.{AreCutOf, IsRunOfList, ids_behind, run_label, tables_fault};
+ghost use Rattle.sst_script.specs.Script.{entry_failure, target_size};
 
 use crate::stop::Failure;
-use lsm_tables::{Table, TableId, Timestamp, write_and_open};
+use lsm_ranges::Run;
+use lsm_tables::{Table, Timestamp, write_run};
+use lsm_writers::TableIds;
 use sst_blocks::{Error, InternalValue, SeqNo, Slice, ValueType};
 use std::alloc::Allocator;
 use std::marker::Model;
 
-/// Entries that a table can be written of. A contract sees the list.
+/// How many bytes of data blocks a table has before the next one begins.
+const TARGET_SIZE: u64 = 65_536;
+
+/// Entries that tables can be written of. A contract sees the list.
 #[derive(Drop)]
 pub(crate) struct Pending<A: Allocator> {
     items: Vec<InternalValue<A>, A>,
@@ -39,6 +44,13 @@ impl<A: Allocator + Clone> Pending<A> {
         Pending {
             items: Vec::new(alloc),
         }
+    }
+
+    /// Whether there are none.
+    pub(crate) fn is_empty(&self) -> bool
+        ensures { IsTrue result ↔ (self.now ≡ []) }
+    {
+        self.items.is_empty()
     }
 
     /// The entries.
@@ -98,13 +110,21 @@ impl<A: Allocator + Clone> Pending<A> {
         self.items.clear();
     }
 
-    /// Writes the entries as one table, and opens it; `None` where there are none. Refused with the first fault of an entry
-    /// or of finishing the table, and [`Error::OutOfMemory`].
-    pub(crate) fn write(self, alloc: A, id: TableId) -> Result<Option<Table<A>>, Error>
-        ensures table { IfOk result (λ t. MatchOption t (self ≡ [])
-            (λ table. IsOpened (label_of id 0 0) self 0 table)) }
-        ensures refused { Faults result (list_fault (label_of id 0 0) self) }
+    /// Writes the entries as tables, and opens these as a run; none where there are no entries. Answers the counter of ids
+    /// behind the last table, too. Refused as [`write_run`].
+    pub(crate) fn write(
+        self,
+        alloc: A,
+        ids: TableIds,
+    ) -> Result<(Option<Run<Table<A>, A>>, TableIds), Error>
+        ensures run { IfOk result (λ r. MatchOption r.0 (self ≡ [])
+            (λ run. IsRunOfList self 0 run)) }
+        ensures cut { IfOk result (λ r. IfSome r.0 (λ run.
+            AreCutOf (run_label ids target_size 0) target_size self 0 run)) }
+        ensures ids { IfOk result (λ r.
+            r.1 ≡ ids_behind ids target_size (option_map_or length r.0 0)) }
+        ensures refused { Faults result (tables_fault ids target_size 0 self) }
     {
-        write_and_open(alloc, id, Timestamp::from(0), self.items, 0)
+        write_run(alloc, ids, TARGET_SIZE, Timestamp::from(0), self.items, 0)
     }
 }

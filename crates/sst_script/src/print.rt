@@ -1,7 +1,7 @@
 //! The text of answers.
 ghost use Rattle.std.specs.Prelude.{◌≡◌, OnOk};
 ghost use Rattle.std.specs.Io.KnownBytes.{Appends};
-ghost use Rattle.sst_script.specs.Answer.{answer_line, entry_line, refusal_line};
+ghost use Rattle.sst_script.specs.Answer.{answer_lines, entry_line, entry_lines, none_line, refusal_line};
 ghost use Rattle.sst_script.specs.Text.{letter_of, printed};
 
 use sst_blocks::{InternalValue, ValueType};
@@ -17,19 +17,42 @@ pub(crate) enum Answer<A: Allocator> {
     Tables(u64),
     /// The entry that was found.
     Found(Option<InternalValue<A>>),
+    /// The entries that were read.
+    Entries(Vec<InternalValue<A>, A>),
 }
 
 /// Prints an answer.
 pub(crate) fn print_answer<W: Write, A: Allocator>(output: &mut W, answer: &Answer<A>) -> Result<()>
     ensures { OnOk result (Appends (W.contents output.old) (W.contents output.new)
-        (answer_line answer.now)) }
+        (answer_lines answer.now)) }
 {
     match answer {
         Answer::Silent => Ok(()),
         Answer::Tables(count) => writeln!(output, "tables {count}"),
         Answer::Found(Some(item)) => print_entry(output, item),
-        Answer::Found(None) => output.write_all(b"none\n"),
+        Answer::Found(None) => print_none(output),
+        Answer::Entries(items) => print_entries(output, items),
     }
+}
+
+fn print_none<W: Write>(output: &mut W) -> Result<()>
+    ensures { OnOk result (Appends (W.contents output.old) (W.contents output.new) none_line) }
+{
+    output.write_all(b"none\n")
+}
+
+// Each entry on a line of its own.
+fn print_entries<W: Write, A: Allocator>(output: &mut W, items: &[InternalValue<A>]) -> Result<()>
+    ensures { OnOk result (Appends (W.contents output.old) (W.contents output.new)
+        (entry_lines items.now)) }
+{
+    if items.is_empty() {
+        return print_none(output);
+    }
+    for item in items {
+        print_entry(output, item)?;
+    }
+    Ok(())
 }
 
 /// Prints the number of a refusal.

@@ -1,95 +1,94 @@
-//! The tables that a script has written.
-ghost use Rattle.std.specs.Prelude.{◌≡◌, ◌-◌, ◌<◌, ◌^◌, Bool, Option, Ok};
+//! What the runs that a script has written answer.
+ghost use Rattle.std.specs.Prelude.{◌≡◌, ◌+◌, ◌-◌, ◌<◌, ◌^◌, Bool, IfErr, IfOk, List, Option, Ok, map};
+ghost use Rattle.std.specs.Arc.{arc_value};
+ghost use Rattle.std.specs.Iterator.{IsFinite};
+ghost use Rattle.std.specs.Vec.{vec_items};
+ghost use Rattle.sst_entries.specs.declared.error.Error.TheVariants.{OutOfMemory};
 ghost use Rattle.sst_entries.specs.Entry.{Entry};
 ghost use Rattle.sst_entries.specs.Error.{Gives};
-ghost use Rattle.sst_entries.specs.Point.{point};
+ghost use Rattle.sst_entries.specs.Point.{point, within};
+ghost use Rattle.sst_entries.specs.Stream.{nowhere};
+ghost use Rattle.lsm_merge.specs.Union.{newest};
+ghost use Rattle.lsm_ranges.specs.KeyRange.{key_bound};
+ghost use Rattle.lsm_tables.specs.RunLists.{DealsList};
 ghost use Rattle.lsm_writers.specs.Writing.{IsWritable};
-ghost use Rattle.sst_script.specs.Runs.{has_entry, newer_of, newest_point, repeats, shares_entry, ForRuns, Run};
+ghost use Rattle.sst_script.specs.Runs.{ForRuns, has_entry, repeats, union};
 
-use lsm_tables::Table;
-use sst_blocks::{Error, InternalValue, SeqNo};
+use lsm_ranges::Run;
+use lsm_tables::{Table, get_runs, range_runs};
+use sst_blocks::{Error, InternalValue, IterItem, SeqNo, Slice, UserKey};
 use std::alloc::Allocator;
 use std::ops::Bound;
+use std::sync::Arc;
 
 /// The newest of the runs' entries of a key numbered below a bound. Refused for want of memory alone.
 pub(crate) fn newest_answer<A: Allocator + Clone>(
-    runs: &[Table<A>],
+    runs: &[Arc<Run<Table<A>, A>, A>],
     key: &[u8],
     bound: SeqNo,
 ) -> Result<Option<InternalValue<A>>, Error>
-    ensures { ForRuns runs.now (λ rs.
-        Gives (λ (found : Option Entry). found) result (Ok (newest_point rs key.now bound))) }
+    ensures { ForRuns (map arc_value runs.now) (λ rs.
+        Gives (λ (found : Option Entry). found) result (Ok (point (union rs) key.now bound))) }
 {
-    let mut newest = None;
-    for run in runs {
-        newest = newer(newest, first_match(run, key, bound)?);
-    }
-    Ok(newest)
+    get_runs(runs, key, bound)
 }
 
-// The first match in a run. A run whose key range lacks the key is passed over.
-fn first_match<A: Allocator + Clone>(
-    run: &Table<A>,
-    key: &[u8],
-    bound: SeqNo,
-) -> Result<Option<InternalValue<A>>, Error>
-    ensures { (r : Run) → r.table ≡ run.now →
-        Gives (λ (found : Option Entry). found) result (Ok (point r.list key.now bound)) }
+/// The newest of the runs' entries of each key within two bounds. Refused for want of memory alone.
+pub(crate) fn newest_entries<A: Allocator + Clone>(
+    alloc: A,
+    runs: &[Arc<Run<Table<A>, A>, A>],
+    low: Bound<&[u8]>,
+    high: Bound<&[u8]>,
+) -> Result<Vec<InternalValue<A>, A>, Error>
+    ensures { let from = key_bound low.entry in let to = key_bound high.entry in
+        ForRuns (map arc_value runs.now) (λ rs.
+        Gives vec_items result (Ok (newest (within from to (union rs))))) }
 {
-    if !run.check_key_range_overlap(&(Bound::Included(key), Bound::Included(key))) {
-        return Ok(None);
-    }
-    run.get(key, bound, Table::<A>::key_hash(key))
+    let bounds = (owned(&alloc, low)?, owned(&alloc, high)?);
+    let stream = range_runs(alloc.clone()?, runs, bounds)?;
+    collect(alloc, stream)
 }
 
-// Of two entries the one with the greater number, or the first.
-fn newer<A: Allocator>(
-    first: Option<InternalValue<A>>,
-    second: Option<InternalValue<A>>,
-) -> Option<InternalValue<A>>
-    ensures { result ≡ newer_of first second }
+// The bound with a key of its own.
+fn owned<A: Allocator + Clone>(alloc: &A, bound: Bound<&[u8]>) -> Result<Bound<UserKey<A>>, Error>
+    ensures ok { IfOk result (λ b. b ≡ key_bound bound.entry) }
+    ensures err { IfErr result (λ e. e ≡ OutOfMemory) }
 {
-    match (first, second) {
-        (Some(first), Some(second)) => {
-            if first.key.seqno < second.key.seqno {
-                Some(second)
-            } else {
-                Some(first)
-            }
-        }
-        (Some(first), None) => Some(first),
-        (None, second) => second,
+    match bound {
+        Bound::Included(key) => Ok(Bound::Included(Slice::from(alloc.clone()?, key)?)),
+        Bound::Excluded(key) => Ok(Bound::Excluded(Slice::from(alloc.clone()?, key)?)),
+        Bound::Unbounded => Ok(Bound::Unbounded),
     }
+}
+
+// All entries of a stream, or its first error. A stream that deals a list fails for want of memory alone.
+fn collect<A: Allocator, I: Iterator<Item = IterItem<A>>>(
+    alloc: A,
+    stream: I,
+) -> Result<Vec<InternalValue<A>, A>, Error>
+    requires can { I.can_next stream }
+    requires ends { IsFinite (I.remaining stream) }
+    ensures { (es : List Entry) → DealsList I.next_gives nowhere es stream →
+        Gives vec_items result (Ok es) }
+{
+    let mut items = Vec::new(alloc);
+    for item in stream {
+        items.push(item?)?;
+    }
+    Ok(items)
 }
 
 /// Whether one of the runs has the key and number of one of some entries. Refused for want of memory alone.
 pub(crate) fn is_repeated<A: Allocator + Clone>(
-    runs: &[Table<A>],
+    runs: &[Arc<Run<Table<A>, A>, A>],
     items: &[InternalValue<A>],
 ) -> Result<bool, Error>
     requires { IsWritable items.now }
-    ensures { ForRuns runs.now (λ rs.
+    ensures { ForRuns (map arc_value runs.now) (λ rs.
         Gives (λ (held : Bool). held) result (Ok (repeats rs items.now))) }
 {
-    for run in runs {
-        if shares_entry(run, items)? {
-            return Ok(true);
-        }
-    }
-    Ok(false)
-}
-
-// Whether a run has the key and number of one of some entries.
-fn shares_entry<A: Allocator + Clone>(
-    run: &Table<A>,
-    items: &[InternalValue<A>],
-) -> Result<bool, Error>
-    requires { IsWritable items.now }
-    ensures { (r : Run) → r.table ≡ run.now →
-        Gives (λ (held : Bool). held) result (Ok (shares_entry r.list items.now)) }
-{
     for item in items {
-        if has_entry(run, item.key.user_key.as_slice(), item.key.seqno)? {
+        if has_entry(runs, item.key.user_key.as_slice(), item.key.seqno)? {
             return Ok(true);
         }
     }
@@ -97,11 +96,15 @@ fn shares_entry<A: Allocator + Clone>(
 }
 
 // Whether a run has an entry of this key and number: it is then the first that is numbered below the next number.
-fn has_entry<A: Allocator + Clone>(run: &Table<A>, key: &[u8], seqno: SeqNo) -> Result<bool, Error>
+fn has_entry<A: Allocator + Clone>(
+    runs: &[Arc<Run<Table<A>, A>, A>],
+    key: &[u8],
+    seqno: SeqNo,
+) -> Result<bool, Error>
     requires { seqno < 2 ^ 64 - 1 }
-    ensures { (r : Run) → r.table ≡ run.now →
-        Gives (λ (held : Bool). held) result (Ok (has_entry r.list key.now seqno)) }
+    ensures { ForRuns (map arc_value runs.now) (λ rs.
+        Gives (λ (held : Bool). held) result (Ok (has_entry (union rs) key.now seqno))) }
 {
-    let found = first_match(run, key, seqno + 1)?;
+    let found = get_runs(runs, key, seqno + 1)?;
     Ok(found.is_some_and(|item| item.key.seqno == seqno))
 }

@@ -1,5 +1,6 @@
 //! Running a script.
-ghost use Rattle.std.specs.Prelude.{◌≡◌, ◌⊎◌, [], ◌∷◌, ◌++◌, ⊤, Some, Result, IfOk, IfErr, OnOk};
+ghost use Rattle.std.specs.Prelude.{◌≡◌, ◌⊎◌, [], ◌∷◌, ◌++◌, ⊤, Some, Result, IfOk, IfErr, OnOk, map};
+ghost use Rattle.std.specs.Arc.{arc_value};
 ghost use Rattle.std.specs.Io.BufRead.{strip_last};
 ghost use Rattle.std.specs.Io.KnownBytes.{Appends};
 ghost use Rattle.sst_script.specs.declared.stop.Stop.TheVariants.{Input, Line, Output};
@@ -13,12 +14,14 @@ ghost use Rattle.sst_script.specs.Script.{store, Executes, WritesTable};
 use crate::command::{Command, parse_command};
 use crate::pending::Pending;
 use crate::print::{Answer, print_answer, print_refusal};
-use crate::runs::{is_repeated, newest_answer};
+use crate::runs::{is_repeated, newest_answer, newest_entries};
 use crate::stop::{Failure, Stop};
-use lsm_tables::{Table, TableId};
-use sst_blocks::Error;
+use lsm_ranges::Run;
+use lsm_tables::Table;
+use lsm_writers::TableIds;
 use std::alloc::{AllocError, Allocator};
 use std::io::{BufRead, BufReader, Read, Write};
+use std::sync::Arc;
 use std::{io, mem};
 
 /// Runs the script that `input` gives, line by line, and answers the status: 0, or 2 where the script ends before its last
@@ -121,21 +124,20 @@ fn print_outcome<W: Write, A: Allocator>(
 struct Script<A: Allocator> {
     alloc: A,
     pending: Pending<A>,
-    // one table each, the newest first
-    runs: Vec<Table<A>, A>,
-    // none after the last id was used up
-    next_id: Option<TableId>,
+    // the newest first
+    runs: Vec<Arc<Run<Table<A>, A>, A>, A>,
+    ids: TableIds,
 }
 
 impl<A: Allocator + Clone> Script<A> {
     fn new(alloc: A) -> Result<Script<A>, AllocError>
         ensures { IfOk result (λ script.
-            (script.pending ≡ []) × (script.runs.items ≡ []) × (script.next_id ≡ Some 1)) }
+            (script.pending ≡ []) × (script.runs.items ≡ []) × (script.ids ≡ Some 1)) }
     {
         Ok(Script {
             pending: Pending::new(alloc.clone()?),
             runs: Vec::new(alloc.clone()?),
-            next_id: Some(1),
+            ids: TableIds::new(1),
             alloc,
         })
     }
@@ -148,10 +150,11 @@ impl<A: Allocator + Clone> Script<A> {
         output: &mut W,
     ) -> Result<(), Stop>
         ensures stops { IfErr result (λ stop. (stop ≡ Line number) ⊎ (stop ≡ Output)) }
-        ensures ended { ForRuns self.old.runs.items (λ before. HasRuns self.new.runs.items (λ after.
+        ensures ended { ForRuns (map arc_value self.old.runs.items) (λ before.
+            HasRuns (map arc_value self.new.runs.items) (λ after.
             LineEnds A number line.now
-            (store self.old.pending before self.old.next_id)
-            (store self.new.pending after self.new.next_id)
+            (store self.old.pending before self.old.ids)
+            (store self.new.pending after self.new.ids)
             (W.contents output.old) (W.contents output.new) result)) }
     {
         if line.is_empty() {
@@ -162,10 +165,11 @@ impl<A: Allocator + Clone> Script<A> {
     }
 
     fn execute(&mut self, command: Command<'_>) -> Result<Answer<A>, Failure>
-        ensures { ForRuns self.old.runs.items (λ before. HasRuns self.new.runs.items (λ after.
+        ensures { ForRuns (map arc_value self.old.runs.items) (λ before.
+            HasRuns (map arc_value self.new.runs.items) (λ after.
             Executes command.entry
-            (store self.old.pending before self.old.next_id) result
-            (store self.new.pending after self.new.next_id))) }
+            (store self.old.pending before self.old.ids) result
+            (store self.new.pending after self.new.ids))) }
     {
         match command {
             Command::Entry {
@@ -186,27 +190,36 @@ impl<A: Allocator + Clone> Script<A> {
                 let found = newest_answer(&self.runs, key, bound)?;
                 Ok(Answer::Found(found))
             }
+            Command::Range { low, high } => {
+                let found = newest_entries(self.alloc.clone()?, &self.runs, low, high)?;
+                Ok(Answer::Entries(found))
+            }
         }
     }
 
-    // Writes the pending entries as a run of one table, and answers how many tables there are. Where it is refused, the runs
-    // and the next id stay. What is left of the pending entries is for the caller to clear.
+    // Writes the pending entries as a run, and answers how many tables it has. Where it is refused, the runs and the next id
+    // stay. What is left of the pending entries is for the caller to clear.
     fn write_table(&mut self) -> Result<u64, Failure>
-        ensures { ForRuns self.old.runs.items (λ before. HasRuns self.new.runs.items (λ after.
+        ensures { ForRuns (map arc_value self.old.runs.items) (λ before.
+            HasRuns (map arc_value self.new.runs.items) (λ after.
             WritesTable
-            (store self.old.pending before self.old.next_id) result
-            (store [] after self.new.next_id))) }
+            (store self.old.pending before self.old.ids) result
+            (store [] after self.new.ids))) }
     {
         if is_repeated(&self.runs, self.pending.items())? {
             return Err(Failure::BadLine);
         }
-        let id = self.next_id.ok_or(Error::TableIdsSpent)?;
+        if self.pending.is_empty() {
+            return Ok(0);
+        }
         let pending = mem::replace(&mut self.pending, Pending::new(self.alloc.clone()?));
-        let Some(run) = pending.write(self.alloc.clone()?, id)? else {
+        let (run, ids) = pending.write(self.alloc.clone()?, self.ids)?;
+        let Some(run) = run else {
             return Ok(0);
         };
-        self.runs.insert(0, run)?;
-        self.next_id = id.checked_add(1);
-        Ok(1)
+        let count = run.as_slice().len() as u64;
+        self.runs.insert(0, Arc::new(self.alloc.clone()?, run)?)?;
+        self.ids = ids;
+        Ok(count)
     }
 }

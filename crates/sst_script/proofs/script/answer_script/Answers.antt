@@ -1,5 +1,6 @@
 use Rattle.std.proofs.Common.{◌≡◌, ◌∙◌, ap, refl, rules, sym, subst, [], ℕ, Bool, true, List}
-use Rattle.std.specs.Prelude.{Option, Result, Err}
+use Rattle.std.specs.Prelude.{Option, Err, map}
+use Rattle.std.specs.Arc.{arc_value}
 use Rattle.sst_script.specs.declared.stop.Stop.{Stop}
 use Rattle.std.specs.Io.Buffered.{reader_remaining}
 use Rattle.sst_script.specs.declared.stop.Stop.TheVariants.{Input}
@@ -30,7 +31,7 @@ pub loop-before-init : goal.loop-before-init
 loop-before-init g c =
     let new = c.in_ok-script.ensures in
     let left : reader_remaining g.R.Read.remaining c.in_ok-input.input ≡ g.R.Read.remaining c.args.input = search rules in
-    ([], sym new.1, rw (new.0, new.2, left) (at_start g.row.A.Denot _ _))
+    ([], ap (map arc_value) (sym new.1), rw (new.0, new.2, left) (at_start g.row.A.Denot _ _))
 
 pub returns-in_err-read_line : goal.returns-in_err-read_line
 returns-in_err-read_line g c =

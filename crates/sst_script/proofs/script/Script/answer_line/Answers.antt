@@ -13,8 +13,8 @@ returns-clause-ended g c before same =
     c.args.number
     c.args.line.now
     c.in_ok-command.command
-    (store c.args.self.now.pending before c.args.self.now.next_id)
-    (store c.execute.new.self.pending done.0 c.execute.new.self.next_id)
+    (store c.args.self.now.pending before c.args.self.now.ids)
+    (store c.execute.new.self.pending done.0 c.execute.new.self.ids)
     c.execute.result
     (g.W.Write.contents c.args.output.now)
     (g.W.Write.contents c.print_outcome.new.output)

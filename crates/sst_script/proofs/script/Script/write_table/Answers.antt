@@ -1,25 +1,28 @@
-use Rattle.std.proofs.Common.{◌≡◌, ℕ, ◌+◌, ◌^◌, ◌<◌, ◌∙◌, sym, subst, List, Option, rules}
-use Rattle.std.specs.Prelude.{None, SomeIff}
+use Rattle.std.proofs.Common.{◌≡◌, ◌∙◌, sym, ap, subst, ◌∷◌, false, length, List}
+use Rattle.std.specs.Prelude.{None, map}
+use Rattle.std.specs.Arc.{arc_value}
 use Rattle.sst_entries.specs.Entry.{Entry}
-use Rattle.lsm_files.specs.Options.{label_of}
-use Rattle.lsm_tables.specs.Written.{IsOpened}
-use Rattle.lsm_writers.specs.Writing.{list_fault}
-use Rattle.sst_script.specs.Script.{id_after}
-use Rattle.sst_script.proofs.StoreLemmas.{answered_no, wrote}
+use Rattle.lsm_readers.specs.Table.{OpenTable}
+use Rattle.lsm_tables.specs.Chain.{AreCutOf, IsRunOfList, run_label, tables_fault}
+use Rattle.sst_script.specs.Script.{target_size}
+use Rattle.sst_script.proofs.StoreLemmas.{answered, wrote}
 use Rattle.sst_script.proofs.script.Script.write_table.Goals as goal
-
-next_is : (next : Option ℕ) (id : ℕ) → SomeIff next (id + 1 < 2 ^ 64) (id + 1) → next ≡ id_after id
-next_is next id is = search rules
 
 pub returns : goal.returns
 returns g c runs same =
     let s = c.args.self.now in
-    let id = c.in_ok-id.id in
-    let fresh = answered_no runs s.pending c.items.result.now c.in_ok-is_repeated.field-0 (c.in_ok-is_repeated.ensures runs (same ∙ sym c.deref.ensures.value)) c.if-branch.false c.items.ensures.items in
-    let next = next_is c.checked_add-self.result id c.checked_add-self.ensures in
+    let ts = map arc_value s.runs.items in
+    let tables = c.in-Some.run' in
+    let label = run_label s.ids target_size 0 in
+    let fresh = answered runs s.pending c.items.result.now c.in_ok-is_repeated.field-0 false (c.in_ok-is_repeated.ensures runs (same ∙ ap (map arc_value) (sym c.deref.ensures.value))) c.if-branch.false c.items.ensures.items in
     let taken = c.replace-pending.ensures.value in
-    let table = rw c.in-Some.is at c.in_ok-run.ensures.table in
-    wrote runs s.runs.items c.insert.new.self.items s.pending s.next_id c.checked_add-self.result id c.in-Some.run' same c.in_ok-insert.ensures.items
-    fresh c.in_ok-id.ensures.ok_part next
-    (subst (λ (es : List Entry). list_fault (label_of id 0 0) es ≡ None) taken c.in_ok-run.ensures.refused)
-    (subst (λ (es : List Entry). IsOpened (label_of id 0 0) es 0 c.in-Some.run') taken table)
+    let put = ap (map arc_value) c.in_ok-insert.ensures.items ∙ ap (λ (run : List OpenTable). run ∷ ts) c.in_ok-new.ensures.ok in
+    let count = ap length c.as_slice.ensures in
+    let behind = rw c.in-Some.is at c.in_ok-run.ensures.ids in
+    let is = rw c.in-Some.is at c.in_ok-run.ensures.run in
+    let cut = rw c.in-Some.is at c.in_ok-run.ensures.cut in
+    wrote runs ts (map arc_value c.insert.new.self.items) s.pending s.ids c.in_ok-run.ids tables _ same put count fresh
+    (subst (λ (es : List Entry). tables_fault s.ids target_size 0 es ≡ None) taken c.in_ok-run.ensures.refused)
+    behind
+    (subst (λ (es : List Entry). IsRunOfList es 0 tables) taken is)
+    (subst (λ (es : List Entry). AreCutOf label target_size es 0 tables) taken cut)
