@@ -5,3 +5,4 @@ pub mod RunLists
 pub mod RunScan
 pub mod SeveralRuns
 pub mod Chain
+pub mod Compacted

@@ -3,6 +3,7 @@
 
 mod bounds;
 mod chain;
+mod compact;
 mod run_reader;
 mod run_scanner;
 mod runs;
@@ -11,6 +12,7 @@ mod unopened;
 mod written;
 
 pub use chain::{read_run_back, write_run};
+pub use compact::compact_runs;
 pub use lsm_readers::{
     BlockIndex, BlockIndexImpl, BlockIndexIter, BlockIndexIterImpl, Bound, FullBlockIndex,
     GlobalTableId, Inner, Iter, OwnedDataBlockIter, OwnedIndexBlockIter, ParsedMeta, ParsedRegions,
