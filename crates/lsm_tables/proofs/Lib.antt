@@ -14,3 +14,6 @@ pub mod Together
 pub mod ScanSteps
 pub mod RunWriting
 pub mod RunBack
+pub mod WrittenBy
+pub mod WritesOn
+pub mod Scanners
