@@ -17,3 +17,4 @@ pub mod RunBack
 pub mod WrittenBy
 pub mod WritesOn
 pub mod Scanners
+pub mod Keeping
