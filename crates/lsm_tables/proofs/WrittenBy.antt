@@ -19,7 +19,7 @@ use Rattle.lsm_writers.specs.Writing.{IsWritable, Writing, fresh_writing, gained
 use Rattle.lsm_writers.proofs.Cutting.{rest_is}
 use Rattle.lsm_writers.proofs.ListWriting.{same_label, written_gained}
 use Rattle.lsm_writers.proofs.Refused.{memory_alone}
-use Rattle.lsm_tables.specs.Compacted.{AreWrittenBy, FitsBy, RunsOn, begun_behind, drawn_often, tables_fault}
+use Rattle.lsm_tables.specs.Compacted.{AreWrittenBy, FitsBy, RunsOn, begun_behind, drawn_often, first_written, tables_fault}
 
 -- ---- small facts
 
@@ -250,30 +250,22 @@ other_label options k l [] [] none h = tt
 other_label options k l [] (f ∷ fs) none h = absurd h
 other_label options k l (t ∷ ts) fs none h = absurd cc
 
-module _ {A : Type 0} (w m : TablesWriting) (fresh : IsFreshRun w) (h : Since w m) (es : List Entry) (fs : List (FinishedTable A)) (left : Option ℕ) where
-  -- the tables, by the id of the first
-  abbrev Numbered : Type 0
-  Numbered =
-      (first : ℕ) × (RunsOn w → first ≡ first_id w.target w.present.label.table_id)
-      × AreFinished w.present.options (record w.present.label { table_id = first }) (tables_of m) fs
-      × (left ≡ drawn_often (begun_behind w.target (length (tables_of m))) w.ids)
-
-  numbered : left ≡ m.ids → AreFinished w.present.options (first_label m) (tables_of m) fs → (m ≡ w) ⊎ Going w m → Numbered
+module _ {A : Type 0} (w m : TablesWriting) (fresh : IsFreshRun w) (next : RunsOn w) (h : Since w m) (es : List Entry) (fs : List (FinishedTable A)) (left : Option ℕ) where
+  numbered : left ≡ m.ids → AreFinished w.present.options (first_label m) (tables_of m) fs → (m ≡ w) ⊎ Going w m → AreFinished w.present.options (first_written w) (tables_of m) fs × (left ≡ drawn_often (begun_behind w.target (length (tables_of m))) w.ids)
   numbered is finished (inl same) =
-      let first = first_id w.target w.present.label.table_id in
       let none : tables_of m ≡ [] = ap tables_of same ∙ no_tables w fresh in
       (
-        first,
-        λ r. refl,
-        other_label w.present.options (first_label m) (record w.present.label { table_id = first }) (tables_of m) fs none finished,
+        other_label w.present.options (first_label m) (first_written w) (tables_of m) fs none finished,
         is ∙ ap (λ (x : TablesWriting). x.ids) same ∙ ap (λ (k : ℕ). drawn_often k w.ids) (sym (ap (λ (ts : List (List Entry)). begun_behind w.target (length ts)) none ∙ begun_none w.target)),
       )
   numbered is finished (inr g) =
-      let first = m.present.label.table_id - length m.tables in
+      let id = g.id_is next in
+      let first : m.present.label.table_id - length m.tables ≡ first_id w.target w.present.label.table_id = omega (arith, id) in
+      let label : first_label m ≡ first_written w =
+      ap (λ (l : Label). record l { table_id = m.present.label.table_id - length m.tables }) g.label_is
+      ∙ ap (λ (i : ℕ). record w.present.label { table_id = i }) first in
       (
-        first,
-        λ r. let id = g.id_is r in omega (arith, id),
-        subst (λ (l : Label). AreFinished w.present.options l (tables_of m) fs) (ap (λ (l : Label). record l { table_id = first }) g.label_is) finished,
+        subst (λ (l : Label). AreFinished w.present.options l (tables_of m) fs) label finished,
         is ∙ g.ids_are ∙ ap (λ (k : ℕ). drawn_often (begun_behind w.target k) w.ids) (sym (one_more m.tables (written m.present) g.some)),
       )
 
@@ -288,10 +280,8 @@ module _ {A : Type 0} (w m : TablesWriting) (fresh : IsFreshRun w) (h : Since w 
             (subst (λ (o : Options). AreTables o.data_block_size w.target (all_written m) (tables_of m)) h.options_are
             (subst (λ (t : ℕ). AreTables m.present.options.data_block_size t (all_written m) (tables_of m)) h.target_is cut));
         order = order;
-        first = n.0;
-        first_is = n.1;
-        finished = n.2;
-        left_is = n.3;
+        finished = n.0;
+        left_is = n.1;
       }
 
 -- ---- a list that fits
@@ -311,9 +301,9 @@ none_taken : (ts : List (List Entry)) (label : Label) (m : TablesWriting) (es : 
 none_taken ts label m [] h = h.finishes
 none_taken ts label m (e ∷ es) h = ap (λ (o : Option Error). option_or o (tables_fault (took m e) es)) h.1 ∙ none_taken ts label (took m e) es h.2
 
-pub fits_none : (w : TablesWriting) (es : List Entry) → TakesLaw → IsFreshRun w → IsWritable es → FitsBy w es → tables_fault w es ≡ None
-fits_none w es law fresh writable fits =
+pub fits_none : (w : TablesWriting) (es : List Entry) → TakesLaw → IsFreshRun w → RunsOn w → IsWritable es → FitsBy w es → tables_fault w es ≡ None
+fits_none w es law fresh next writable fits =
     let label = w.present.label in
     let takes = law label.table_id w.target label.initial_level label.created_at w.present.options es fits.tables writable fits.cut fits.fit fits.left in
     none_taken fits.tables (label_of (first_id w.target label.table_id) label.initial_level label.created_at) w es
-    (subst (λ (x : TablesWriting). Takes fits.tables (label_of (first_id w.target label.table_id) label.initial_level label.created_at) x es) (fresh_is w fresh fits.next) takes)
+    (subst (λ (x : TablesWriting). Takes fits.tables (label_of (first_id w.target label.table_id) label.initial_level label.created_at) x es) (fresh_is w fresh next) takes)

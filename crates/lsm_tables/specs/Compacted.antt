@@ -1,12 +1,12 @@
 -- Several runs that are compacted: what is kept of them, as tables of a writer, and what readers see then.
-use Rattle.std.specs.Prelude.{◌≡◌, ℕ, zero, suc, ◌+◌, ◌-◌, ◌^◌, ◌<◌, ◌≤◌, ◌==◌, ◌⊎◌, List, [], ◌∷◌, ◌++◌, length, Option, Result, if◌then◌else◌}
+use Rattle.std.specs.Prelude.{◌≡◌, ℕ, zero, suc, ◌+◌, ◌-◌, ◌^◌, ◌<◌, ◌≤◌, ◌==◌, List, [], ◌∷◌, length, Option, Result, if◌then◌else◌}
 use Rattle.std.specs.List.{AllByRecursion}
 use Rattle.std.specs.Option.{option_or}
 use Rattle.sst_entries.specs.declared.error.Error.{Error}
 use Rattle.sst_entries.specs.Entry.{Entry}
 use Rattle.sst_entries.specs.Stream.{nowhere}
 use Rattle.sst_entries.specs.Strict.{IsStrict}
-use Rattle.lsm_files.specs.Chunks.{joined}
+use Rattle.lsm_files.specs.declared.label.Label.{Label}
 use Rattle.lsm_sorted.specs.Compaction.{Rules, kept, unfiltered}
 use Rattle.lsm_writers.specs.declared.writer.FinishedTable.{FinishedTable}
 use Rattle.lsm_writers.specs.Tables.{AreFinished, AreInKeyOrder, AreTables, TableFits, TablesWriting, drawn, first_id, next_id, run_fault, took, took_fault}
@@ -41,6 +41,10 @@ pub record DealsWritable {S : Type 0} (next : S → Option (Result Entry Error) 
 
 -- ---- a list that is written by a writer that has written nothing
 
+-- the next id is the one behind that of the first table
+abbrev pub RunsOn : TablesWriting → Type 0
+RunsOn w = w.ids ≡ next_id w.present.label.table_id
+
 -- a counter once it was drawn from so often
 abbrev pub drawn_often : ℕ → Option ℕ → Option ℕ
 drawn_often zero ids = ids
@@ -50,20 +54,18 @@ drawn_often (suc n) ids = drawn (drawn_often n ids)
 abbrev pub begun_behind : ℕ → ℕ → ℕ
 begun_behind target n = if target == 0 then n else n - 1
 
--- the writer's next id is the one behind that of its first table; it is so of each writer that was just made
-abbrev pub RunsOn : TablesWriting → Type 0
-RunsOn w = w.ids ≡ next_id w.present.label.table_id
+-- the label of the first table that has entries
+abbrev pub first_written : TablesWriting → Label
+first_written w = record w.present.label { table_id = first_id w.target w.present.label.table_id }
 
 -- finished tables of a list that is cut by the writer's target, with the writer's options, level and moment, under ids that run
--- on; and the counter behind them, which was drawn from for each table behind the writer's first
+-- on from the writer's; and the counter behind them, which was drawn from for each table behind the writer's first
 pub record AreWrittenBy {A : Type 0} (w : TablesWriting) (es : List Entry) (fs : List (FinishedTable A)) (left : Option ℕ) : Type 0 where
   pub strict : IsStrict es
   pub lists : List (List Entry)
   pub cut : AreTables w.present.options.data_block_size w.target es lists
   pub order : AreInKeyOrder lists
-  pub first : ℕ
-  pub first_is : RunsOn w → first ≡ first_id w.target w.present.label.table_id
-  pub finished : AreFinished w.present.options (record w.present.label { table_id = first }) lists fs
+  pub finished : AreFinished w.present.options (first_written w) lists fs
   pub left_is : left ≡ drawn_often (begun_behind w.target (length lists)) w.ids
 
 -- the first fault of writing entries one by one and then finishing
@@ -73,7 +75,6 @@ tables_fault w (e ∷ es) = option_or (took_fault w e) (tables_fault (took w e) 
 
 -- a list whose tables fit, where an id is left for each
 pub record FitsBy (w : TablesWriting) (es : List Entry) : Type 0 where
-  pub next : RunsOn w
   pub tables : List (List Entry)
   pub cut : AreTables w.present.options.data_block_size w.target es tables
   pub fit : AllByRecursion (TableFits w.present.options) tables

@@ -11,7 +11,7 @@ ghost use Rattle.lsm_files.specs.Chunks.{joined};
 ghost use Rattle.lsm_sorted.specs.Compaction.{Rules};
 ghost use Rattle.lsm_writers.specs.Tables.{IsFreshRun};
 ghost use Rattle.lsm_tables.specs.Compacted.{AreCompactable, AreWrittenBy, DealsWritable, FitsBy};
-ghost use Rattle.lsm_tables.specs.Compacted.{HaveEntries, kept_in, tables_fault};
+ghost use Rattle.lsm_tables.specs.Compacted.{HaveEntries, RunsOn, kept_in, tables_fault};
 ghost use Rattle.lsm_tables.specs.RunLists.{DealTogether, DealsList, HoldLists};
 
 use crate::{RunScanner, Table};
@@ -92,6 +92,7 @@ fn write_all<I: Iterator<Item = IterItem<A>> + Drop, A: Allocator + Clone>(
     mut writer: MultiWriter<A>,
 ) -> Result<(Vec<FinishedTable<A>, A>, TableIds), Error>
     requires fresh { IsFreshRun writer }
+    requires next { RunsOn writer }
     requires can { I.can_next items }
     requires finite { IsFinite (I.remaining items) }
     requires deals { DealsWritable I.next_gives items }

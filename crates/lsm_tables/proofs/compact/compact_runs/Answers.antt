@@ -15,6 +15,7 @@ write_all-requires g c =
     let next : RunsOn c.args.writer = subst RunsOn c.writer.view_is (c.writer.invariant (ap (λ (w : TablesWriting). w.failed) c.writer.view_is ∙ c.requires.fresh.2)).next in
     record {
       fresh = c.requires.fresh;
+      next = next;
       can = c.in_ok-stream.ensures.can;
       finite = tt;
       deals = record { list = kept_in rules able.lists; writable = stays_writable rules (union_in able.lists) able.writable; deals = c.in_ok-stream.ensures.list able };
@@ -33,6 +34,7 @@ returns-clause-refused g c able =
 pub returns-clause-taken : goal.returns-clause-taken
 returns-clause-taken g c able fits =
     let rules : Rules = record { watermark = c.args.gc_seqno_threshold; evict = c.args.evict_tombstones; zeroing = c.args.zero_seqnos } in
+    let next : RunsOn c.args.writer = subst RunsOn c.writer.view_is (c.writer.invariant (ap (λ (w : TablesWriting). w.failed) c.writer.view_is ∙ c.requires.fresh.2)).next in
     let writable = stays_writable rules (union_in able.lists) able.writable in
-    memory_alone c.write_all.result _ (fits_none c.args.writer (kept_in rules able.lists) c.tables_law.ensures.takes c.requires.fresh writable fits)
+    memory_alone c.write_all.result _ (fits_none c.args.writer (kept_in rules able.lists) c.tables_law.ensures.takes c.requires.fresh next writable fits)
     (c.write_all.ensures.refused (record { list = kept_in rules able.lists; writable = writable; deals = c.in_ok-stream.ensures.list able }))

@@ -75,7 +75,7 @@ returns-clause-written g c d =
     let m = c.loop-item.writer in
     let all = all_taken next w d.list m c.loop-item.item-iterator c.next.new.self (c.loop-item.invariant.writes d) c.in-None.ensures.steps in
     let f = c.in_ok-tables.ensures in
-    all_finished w m c.requires.fresh c.loop-item.invariant.since d.list c.in_ok-tables.tables.items c.table_ids-left.result all c.table_ids-left.ensures f.strict f.tables f.order f.finished
+    all_finished w m c.requires.fresh c.requires.next c.loop-item.invariant.since d.list c.in_ok-tables.tables.items c.table_ids-left.result all c.table_ids-left.ensures f.strict f.tables f.order f.finished
 
 pub returns-clause-refused : goal.returns-clause-refused
 returns-clause-refused g c d =
