@@ -18,3 +18,6 @@ pub mod WrittenBy
 pub mod WritesOn
 pub mod Scanners
 pub mod Keeping
+pub mod Versions
+pub mod Replaced
+pub mod ShownRanges

@@ -100,7 +100,7 @@ own_label : (p v : Label) → p ≡ v → p ≡ record v { table_id = p.table_id
 own_label p v same = same ∙ ap (λ (x : Label). record v { table_id = x.table_id }) (sym same)
 
 begun_none : (target : ℕ) → begun_behind target 0 ≡ 0
-begun_none target = elim (cases_Bool (target == 0)) [ | inl e ↦ rw e refl | inr e ↦ rw e refl ]
+begun_none target = elim (cases_Bool (target == 0)) [ inl e ↦ rw e refl | inr e ↦ rw e refl ]
 
 pub since_now : (w : TablesWriting) → IsFreshRun w → Since w w
 since_now w fresh = record { target_is = refl; options_are = refl; works = fresh.2; stands = inl refl }
@@ -253,8 +253,7 @@ other_label options k l (t ∷ ts) fs none h = absurd cc
 module _ {A : Type 0} (w m : TablesWriting) (fresh : IsFreshRun w) (next : RunsOn w) (h : Since w m) (es : List Entry) (fs : List (FinishedTable A)) (left : Option ℕ) where
   numbered : left ≡ m.ids → AreFinished w.present.options (first_label m) (tables_of m) fs → (m ≡ w) ⊎ Going w m → AreFinished w.present.options (first_written w) (tables_of m) fs × (left ≡ drawn_often (begun_behind w.target (length (tables_of m))) w.ids)
   numbered is finished (inl same) =
-      let none : tables_of m ≡ [] = ap tables_of same ∙ no_tables w fresh in
-      (
+      let none : tables_of m ≡ [] = ap tables_of same ∙ no_tables w fresh in (
         other_label w.present.options (first_label m) (first_written w) (tables_of m) fs none finished,
         is ∙ ap (λ (x : TablesWriting). x.ids) same ∙ ap (λ (k : ℕ). drawn_often k w.ids) (sym (ap (λ (ts : List (List Entry)). begun_behind w.target (length ts)) none ∙ begun_none w.target)),
       )
@@ -263,8 +262,7 @@ module _ {A : Type 0} (w m : TablesWriting) (fresh : IsFreshRun w) (next : RunsO
       let first : m.present.label.table_id - length m.tables ≡ first_id w.target w.present.label.table_id = omega (arith, id) in
       let label : first_label m ≡ first_written w =
       ap (λ (l : Label). record l { table_id = m.present.label.table_id - length m.tables }) g.label_is
-      ∙ ap (λ (i : ℕ). record w.present.label { table_id = i }) first in
-      (
+      ∙ ap (λ (i : ℕ). record w.present.label { table_id = i }) first in (
         subst (λ (l : Label). AreFinished w.present.options l (tables_of m) fs) label finished,
         is ∙ g.ids_are ∙ ap (λ (k : ℕ). drawn_often (begun_behind w.target k) w.ids) (sym (one_more m.tables (written m.present) g.some)),
       )

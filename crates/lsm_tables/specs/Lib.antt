@@ -6,3 +6,4 @@ pub mod RunScan
 pub mod SeveralRuns
 pub mod Chain
 pub mod Compacted
+pub mod ReadsCompacted

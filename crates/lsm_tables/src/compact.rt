@@ -12,12 +12,13 @@ ghost use Rattle.lsm_sorted.specs.Compaction.{Rules};
 ghost use Rattle.lsm_writers.specs.Tables.{IsFreshRun};
 ghost use Rattle.lsm_tables.specs.Compacted.{AreCompactable, AreWrittenBy, DealsWritable, FitsBy};
 ghost use Rattle.lsm_tables.specs.Compacted.{HaveEntries, RunsOn, kept_in, tables_fault};
+ghost use Rattle.lsm_tables.specs.ReadsCompacted.{PointsStay, RangesStay, SideBySide, StayStrict};
 ghost use Rattle.lsm_tables.specs.RunLists.{DealTogether, DealsList, HoldLists};
 
 use crate::{RunScanner, Table};
 use lsm_merge::Merger;
 use lsm_ranges::Run;
-use lsm_sorted::compaction::stream::CompactionStream;
+use lsm_sorted::compaction::stream::{CompactionStream, read_law};
 use lsm_writers::{FinishedTable, MultiWriter, TableIds, tables_law};
 use sst_blocks::{Error, IterItem, SeqNo};
 use std::alloc::Allocator;
@@ -163,4 +164,21 @@ pub fn compact_runs<A: Allocator + Clone>(
         zero_seqnos,
     )?;
     write_all(stream, writer)
+}
+
+/// Laws of reads of several runs where a part of them is compacted, without a filter, and the rest stays: where nothing is
+/// evicted or zeroed and the part has no weak tombstone, or of each key all others are newer than the part. A point read whose
+/// bound is the watermark or above sees the same of each key before and after, and so does a range of the newest versions
+/// within any bounds. No key is there twice under one number then, so that the runs may be compacted again.
+///
+/// What is said holds wherever the new runs stand among the others; the last clause says it of runs side by side. The call does
+/// nothing: its contract says so.
+pub fn compaction_law()
+    ensures points { PointsStay }
+    ensures ranges { RangesStay }
+    ensures strict { StayStrict }
+    ensures side_by_side { SideBySide }
+{
+    // Of a part that is compacted.
+    read_law();
 }

@@ -12,7 +12,7 @@ mod unopened;
 mod written;
 
 pub use chain::{read_run_back, write_run};
-pub use compact::compact_runs;
+pub use compact::{compact_runs, compaction_law};
 pub use lsm_readers::{
     BlockIndex, BlockIndexImpl, BlockIndexIter, BlockIndexIterImpl, Bound, FullBlockIndex,
     GlobalTableId, Inner, Iter, OwnedDataBlockIter, OwnedIndexBlockIter, ParsedMeta, ParsedRegions,
