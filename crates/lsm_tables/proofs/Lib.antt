@@ -21,3 +21,4 @@ pub mod Keeping
 pub mod Versions
 pub mod Replaced
 pub mod ShownRanges
+pub mod OneList

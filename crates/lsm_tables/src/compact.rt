@@ -13,7 +13,7 @@ ghost use Rattle.lsm_writers.specs.Tables.{IsFreshRun};
 ghost use Rattle.lsm_tables.specs.Compacted.{AreCompactable, AreWrittenBy, DealsWritable, FitsBy};
 ghost use Rattle.lsm_tables.specs.Compacted.{HaveEntries, RunsOn, kept_in, tables_fault};
 ghost use Rattle.lsm_tables.specs.ReadsCompacted.{PointsStay, RangesStay, SideBySide, StayStrict};
-ghost use Rattle.lsm_tables.specs.RunLists.{DealTogether, DealsList, HoldLists};
+ghost use Rattle.lsm_tables.specs.RunLists.{DealTogether, DealsList, HoldLists, RunsHoldLists};
 
 use crate::{RunScanner, Table};
 use lsm_merge::Merger;
@@ -135,24 +135,24 @@ pub fn compact_runs<A: Allocator + Clone>(
       evict = evict_tombstones;
       zeroing = zero_seqnos;
     } in
-        (able : AreCompactable (map arc_value runs.now)) →
-        IfOk result (λ r. AreWrittenBy writer (kept_in rules able.lists) r.0.items r.1) }
+        (lists : List (List (List Entry))) → RunsHoldLists (map arc_value runs.now) lists →
+        IfOk result (λ r. AreWrittenBy writer (kept_in rules lists) r.0.items r.1) }
     // The refusal is the writer's first one: reading refuses nothing but for want of memory.
     ensures refused { let rules : Rules = record {
       watermark = gc_seqno_threshold;
       evict = evict_tombstones;
       zeroing = zero_seqnos;
     } in
-        (able : AreCompactable (map arc_value runs.now)) →
-        Faults result (tables_fault writer (kept_in rules able.lists)) }
+        (lists : List (List (List Entry))) → RunsHoldLists (map arc_value runs.now) lists →
+        Faults result (tables_fault writer (kept_in rules lists)) }
     // Where its tables fit, and an id is left for each, that is for want of memory alone.
     ensures taken { let rules : Rules = record {
       watermark = gc_seqno_threshold;
       evict = evict_tombstones;
       zeroing = zero_seqnos;
     } in
-        (able : AreCompactable (map arc_value runs.now)) →
-        FitsBy writer (kept_in rules able.lists) → IfErr result (λ e. e ≡ OutOfMemory) }
+        (lists : List (List (List Entry))) → RunsHoldLists (map arc_value runs.now) lists →
+        FitsBy writer (kept_in rules lists) → IfErr result (λ e. e ≡ OutOfMemory) }
 {
     // A list whose tables fit is taken whole.
     tables_law();
