@@ -1,5 +1,5 @@
 -- Several runs that are compacted: what is kept of them, as tables of a writer, and what readers see then.
-use Rattle.std.specs.Prelude.{◌≡◌, ℕ, zero, suc, ◌+◌, ◌-◌, ◌^◌, ◌<◌, ◌≤◌, ◌==◌, List, [], ◌∷◌, length, Option, Result, if◌then◌else◌}
+use Rattle.std.specs.Prelude.{◌≡◌, ℕ, Bool, zero, suc, ◌+◌, ◌-◌, ◌^◌, ◌<◌, ◌≤◌, ◌==◌, List, [], ◌∷◌, length, Option, Result, if◌then◌else◌}
 use Rattle.std.specs.List.{AllByRecursion}
 use Rattle.std.specs.Option.{option_or}
 use Rattle.sst_entries.specs.declared.error.Error.{Error}
@@ -28,6 +28,10 @@ pub record AreCompactable (runs : List (List OpenTable)) : Type 0 where
   pub hold : RunsHoldLists runs lists
   pub some : AllByRecursion HaveEntries lists
   pub writable : IsWritable (union_in lists)
+
+-- how a compaction is set
+abbrev pub rules_by : ℕ → Bool → Bool → Rules
+rules_by watermark evict zeroing = record { watermark = watermark; evict = evict; zeroing = zeroing }
 
 -- what a compaction without a filter keeps of the sorted entries of several runs' lists
 abbrev pub kept_in : Rules → List (List (List Entry)) → List Entry

@@ -8,10 +8,9 @@ ghost use Rattle.sst_entries.specs.Entry.{Entry};
 ghost use Rattle.sst_entries.specs.Error.{Faults};
 ghost use Rattle.sst_entries.specs.Stream.{nowhere};
 ghost use Rattle.lsm_files.specs.Chunks.{joined};
-ghost use Rattle.lsm_sorted.specs.Compaction.{Rules};
 ghost use Rattle.lsm_writers.specs.Tables.{IsFreshRun};
 ghost use Rattle.lsm_tables.specs.Compacted.{AreCompactable, AreWrittenBy, DealsWritable, FitsBy};
-ghost use Rattle.lsm_tables.specs.Compacted.{HaveEntries, RunsOn, kept_in, tables_fault};
+ghost use Rattle.lsm_tables.specs.Compacted.{HaveEntries, RunsOn, kept_in, rules_by, tables_fault};
 ghost use Rattle.lsm_tables.specs.ReadsCompacted.{PointsStay, RangesStay, SideBySide, StayStrict};
 ghost use Rattle.lsm_tables.specs.RunLists.{DealTogether, DealsList, HoldLists, RunsHoldLists};
 
@@ -67,11 +66,7 @@ fn kept_of<A: Allocator + Clone>(
     requires { AreCompactable (map arc_value runs.now) }
     ensures can { IfOk result
         ⟦<CompactionStream<Merger<RunScanner<A>, A>> as Iterator>⟧.can_next }
-    ensures list { let rules : Rules = record {
-      watermark = gc_seqno_threshold;
-      evict = evict_tombstones;
-      zeroing = zero_seqnos;
-    } in
+    ensures list { let rules = rules_by gc_seqno_threshold evict_tombstones zero_seqnos in
         let gives = ⟦<CompactionStream<Merger<RunScanner<A>, A>> as Iterator>⟧.next_gives in
         (able : AreCompactable (map arc_value runs.now)) →
         IfOk result (DealsList gives nowhere (kept_in rules able.lists)) }
@@ -130,27 +125,15 @@ pub fn compact_runs<A: Allocator + Clone>(
     requires fresh { IsFreshRun writer }
     requires able { AreCompactable (map arc_value runs.now) }
     // The tables are those of what is kept of all entries together, as the writer cuts them.
-    ensures tables { let rules : Rules = record {
-      watermark = gc_seqno_threshold;
-      evict = evict_tombstones;
-      zeroing = zero_seqnos;
-    } in
+    ensures tables { let rules = rules_by gc_seqno_threshold evict_tombstones zero_seqnos in
         (lists : List (List (List Entry))) → RunsHoldLists (map arc_value runs.now) lists →
         IfOk result (λ r. AreWrittenBy writer (kept_in rules lists) r.0.items r.1) }
     // The refusal is the writer's first one: reading refuses nothing but for want of memory.
-    ensures refused { let rules : Rules = record {
-      watermark = gc_seqno_threshold;
-      evict = evict_tombstones;
-      zeroing = zero_seqnos;
-    } in
+    ensures refused { let rules = rules_by gc_seqno_threshold evict_tombstones zero_seqnos in
         (lists : List (List (List Entry))) → RunsHoldLists (map arc_value runs.now) lists →
         Faults result (tables_fault writer (kept_in rules lists)) }
     // Where its tables fit, and an id is left for each, that is for want of memory alone.
-    ensures taken { let rules : Rules = record {
-      watermark = gc_seqno_threshold;
-      evict = evict_tombstones;
-      zeroing = zero_seqnos;
-    } in
+    ensures taken { let rules = rules_by gc_seqno_threshold evict_tombstones zero_seqnos in
         (lists : List (List (List Entry))) → RunsHoldLists (map arc_value runs.now) lists →
         FitsBy writer (kept_in rules lists) → IfErr result (λ e. e ≡ OutOfMemory) }
 {
