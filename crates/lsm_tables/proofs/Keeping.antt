@@ -1,7 +1,7 @@
 -- What is kept of a list that can be written can be written.
 use Rattle.std.proofs.Common.{◌-◌, ◌^◌, ◌<◌, List, arith}
 use Rattle.sst_entries.specs.Entry.{Entry}
-use Rattle.lsm_sorted.specs.Compaction.{Rules, kept, unfiltered, zeroed}
+use Rattle.lsm_sorted.specs.Compaction.{Rules, kept, unfiltered}
 use Rattle.lsm_sorted.proofs.KeptLemmas.{all_kept, stays_strict, zeroed_below}
 use Rattle.lsm_writers.specs.Writing.{IsWritable}
 

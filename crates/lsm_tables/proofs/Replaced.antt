@@ -1,5 +1,5 @@
 -- Point reads of runs of which a part is compacted.
-use Rattle.std.proofs.Common.{◌≡◌, ◌≢◌, refl, sym, ◌∙◌, ap, subst, ℕ, ◌+◌, ◌<◌, ◌≤◌, ◌⊎◌, inl, inr, Bool, false, cond, ◌&&◌, nat_lt, List, [], ◌∷◌, ◌++◌, count_by, arith}
+use Rattle.std.proofs.Common.{◌≡◌, ◌≢◌, sym, ◌∙◌, ap, ℕ, ◌+◌, ◌<◌, ◌≤◌, inl, inr, Bool, false, cond, ◌&&◌, nat_lt, List, ◌++◌, count_by, arith}
 use Rattle.std.specs.Prelude.{map}
 use Rattle.std.specs.List.{AllByRecursion}
 use Rattle.std.proofs.lemmas.List.{map-append}
@@ -10,18 +10,18 @@ use Rattle.sst_entries.specs.Stream.{ok_results}
 use Rattle.sst_entries.specs.Strict.{IsStrict}
 use Rattle.sst_entries.proofs.Lists.{all_more}
 use Rattle.lsm_files.specs.Chunks.{joined}
-use Rattle.lsm_merge.specs.Union.{Ascends, SameBag, all_entries}
-use Rattle.lsm_merge.proofs.Pairs.{Strict, as_pairs, from_pairs, pairs_of}
+use Rattle.lsm_merge.specs.Union.{Ascends, all_entries}
+use Rattle.lsm_merge.proofs.Pairs.{Strict, as_pairs, from_pairs}
 use Rattle.lsm_merge.proofs.UnionLemmas.{merged_union}
 use Rattle.lsm_sorted.specs.Compaction.{Rules, kept, unfiltered, zeroed}
 use Rattle.lsm_sorted.specs.Point.{seen}
-use Rattle.lsm_sorted.specs.ReadLaw.{AllNewer, Distinct, IsMerged, IsPlain, PartLaw}
+use Rattle.lsm_sorted.specs.ReadLaw.{AllNewer, Distinct, IsMerged, PartLaw}
 use Rattle.lsm_sorted.proofs.KeptLemmas.{all_kept, pairs_stay, zeroed_below}
 use Rattle.lsm_tables.specs.Compacted.{kept_in}
-use Rattle.lsm_tables.specs.ReadsCompacted.{AreReplaced, PointsStay, SideBySide, StayStrict, entries_in}
+use Rattle.lsm_tables.specs.ReadsCompacted.{AreReplaced, SideBySide, entries_in}
 use Rattle.lsm_tables.specs.SeveralRuns.{union_in}
 use Rattle.lsm_tables.proofs.Unions.{entries_joined}
-use Rattle.lsm_tables.proofs.Versions.{Once, OnceIn, at, count_join, distinct_once, once_distinct, once_strict, strict_once}
+use Rattle.lsm_tables.proofs.Versions.{OnceIn, at, count_join, distinct_once, once_distinct, once_strict, strict_once}
 
 -- ---- the sorted entries are the entries
 

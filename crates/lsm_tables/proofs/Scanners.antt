@@ -1,8 +1,8 @@
 -- Scanners of several runs: what they deal together, merged.
-use Rattle.std.proofs.Common.{◌≡◌, refl, sym, ◌∙◌, ap, subst, ℕ, zero, suc, ◌+◌, ◌-◌, ◌<◌, ◌≤◌, Bool, true, false, List, [], ◌∷◌, ◌++◌, drop, get_or, length, take, arith}
+use Rattle.std.proofs.Common.{◌≡◌, refl, sym, ◌∙◌, ap, subst, ℕ, zero, suc, ◌+◌, ◌-◌, ◌<◌, ◌≤◌, Bool, true, false, List, [], ◌∷◌, ◌++◌, get_or, length, take, arith}
 use Rattle.std.specs.Prelude.{Option, Some, None, Result, Ok, Err, IfErr, map}
 use Rattle.std.specs.Iterator.{Count}
-use Rattle.std.specs.List.{AllByRecursion, AllZip, slice_get}
+use Rattle.std.specs.List.{AllByRecursion, slice_get}
 use Rattle.std.proofs.lemmas.List.{take_all}
 use Rattle.std.proofs.lemmas.Simd.{map-map}
 use Rattle.std.proofs.lemmas.Slice.Zip.{AllZip-long}
@@ -25,7 +25,7 @@ use Rattle.lsm_sorted.specs.Ahead.{HoldsAhead}
 use Rattle.lsm_sorted.specs.Compaction.{Rules, kept, unfiltered}
 use Rattle.lsm_sorted.specs.CompactionState.{Compacts, DealsKept, MayCompact, rules_of, source_of}
 use Rattle.lsm_tables.specs.Compacted.{AreCompactable, HaveEntries}
-use Rattle.lsm_tables.specs.RunLists.{DealTogether, DealsList, HoldLists, RunsHoldLists}
+use Rattle.lsm_tables.specs.RunLists.{DealTogether, DealsList, HoldLists}
 use Rattle.lsm_tables.specs.RunParts.{ends_given, range_of}
 use Rattle.lsm_tables.specs.RunScan.{RunScan, RunScansNext, tables_between, tables_scan}
 use Rattle.lsm_tables.specs.SeveralRuns.{union_in}

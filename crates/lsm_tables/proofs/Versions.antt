@@ -1,5 +1,5 @@
 -- A sorted list is strict where it has each version of a key once at most.
-use Rattle.std.proofs.Common.{◌≡◌, ◌≢◌, refl, sym, ◌∙◌, ap, subst, ℕ, ◌+◌, ◌<◌, ◌≤◌, ◌⊎◌, inl, inr, Bool, true, false, cond, List, [], ◌∷◌, ◌++◌, count_by, arith}
+use Rattle.std.proofs.Common.{◌≡◌, ◌≢◌, refl, sym, ◌∙◌, ap, subst, ℕ, ◌+◌, ◌<◌, ◌≤◌, inl, inr, Bool, true, false, cond, List, [], ◌∷◌, ◌++◌, count_by, arith}
 use Rattle.std.specs.Prelude.{◌==◌, ◌&&◌}
 use Rattle.std.specs.List.{AllByRecursion}
 use Rattle.std.specs.Cmp.Lexicographic.{slice_cmp}
@@ -12,13 +12,12 @@ use Rattle.std.proofs.lemmas.List.Sums.{sum_by-append}
 use Rattle.sst_entries.specs.Entry.{Entry}
 use Rattle.sst_entries.specs.Key.{key_lt, same_key}
 use Rattle.sst_entries.specs.Kind.{tag_of}
-use Rattle.sst_entries.specs.Strict.{IsStrict}
 use Rattle.sst_entries.proofs.Booleans.{and_both, and_parts, apart, is_false}
 use Rattle.sst_entries.proofs.KeyLemmas.{le_itself, same_is, same_itself}
 use Rattle.sst_entries.proofs.OrderLemmas.{gt_first, tie_same}
 use Rattle.lsm_merge.specs.Union.{AtMost, Ascends}
 use Rattle.lsm_merge.proofs.HeldLemmas.{count_cons, count_no, count_yes}
-use Rattle.lsm_merge.proofs.Pairs.{Precedes, Strict, as_pairs, from_pairs}
+use Rattle.lsm_merge.proofs.Pairs.{Precedes, Strict}
 use Rattle.lsm_sorted.specs.ReadLaw.{Distinct}
 
 -- a version of a key

@@ -1,15 +1,12 @@
 -- A stream whose entries are written one by one: what it still deals, and what the writer refuses then.
-use Rattle.std.proofs.Common.{◌≡◌, refl, sym, ◌∙◌, ap, subst, Bool, false, List, [], ◌∷◌, ◌++◌, IsTrue, append_assoc, append-nil}
-use Rattle.std.specs.Prelude.{Option, Some, None, Result, Ok, Err}
+use Rattle.std.proofs.Common.{◌≡◌, refl, sym, ◌∙◌, ap, subst, false, List, [], ◌∷◌, ◌++◌, IsTrue, append_assoc, append-nil}
+use Rattle.std.specs.Prelude.{Option, Some, None, Ok, Err}
 use Rattle.std.specs.Option.{option_or}
-use Rattle.std.specs.List.{AllByRecursion}
 use Rattle.sst_entries.specs.declared.error.Error.{Error}
 use Rattle.sst_entries.specs.Entry.{Entry}
-use Rattle.sst_entries.specs.Error.{Faults, is_memory}
+use Rattle.sst_entries.specs.Error.{is_memory}
 use Rattle.sst_entries.specs.Stream.{answer_stops, nowhere, ok_results}
-use Rattle.sst_entries.proofs.Refusals.{faults_refusal}
 use Rattle.sst_entries.proofs.StreamLemmas.{deals_front}
-use Rattle.std.specs.Result.{IsErrAnd}
 use Rattle.lsm_merge.specs.Ends.{R}
 use Rattle.lsm_writers.specs.Tables.{TablesWriting, all_written, run_fault, took, took_fault}
 use Rattle.lsm_writers.specs.Writing.{IsWritable, may_be_written}

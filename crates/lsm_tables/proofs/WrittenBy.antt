@@ -1,12 +1,11 @@
 -- A writer that had written nothing: its labels, its counter and its tables once it has taken a list.
-use Rattle.std.proofs.Common.{◌≡◌, refl, sym, ◌∙◌, ap, subst, ℕ, zero, suc, ◌+◌, ◌-◌, ◌^◌, ◌<◌, ◌≤◌, ◌==◌, Bool, true, false, cond, List, [], ◌∷◌, ◌++◌, length, ◌⊎◌, inl, inr, arith, append-nil, length-append}
-use Rattle.std.specs.Prelude.{Option, Some, None, Result, Ok, Err, IfErr, nat_le, nat_lt}
+use Rattle.std.proofs.Common.{◌≡◌, refl, sym, ◌∙◌, ap, subst, ℕ, zero, suc, ◌+◌, ◌-◌, ◌^◌, ◌<◌, ◌==◌, Bool, true, false, cond, List, [], ◌∷◌, ◌++◌, length, ◌⊎◌, inl, inr, arith, length-append}
+use Rattle.std.specs.Prelude.{Option, Some, None, nat_le, nat_lt}
 use Rattle.std.specs.Option.{option_or}
 use Rattle.std.proofs.lemmas.Bool.{cases_Bool, eqb-true, leb-false, leb-true}
 use Rattle.sst_entries.specs.declared.error.Error.{Error}
-use Rattle.sst_entries.specs.declared.error.Error.TheVariants.{OutOfMemory, WriterFailed}
+use Rattle.sst_entries.specs.declared.error.Error.TheVariants.{WriterFailed}
 use Rattle.sst_entries.specs.Entry.{Entry}
-use Rattle.sst_entries.specs.Error.{Faults}
 use Rattle.sst_entries.specs.Strict.{IsStrict, last_of}
 use Rattle.lsm_files.specs.Chunks.{joined}
 use Rattle.lsm_files.specs.declared.label.Label.{Label}
@@ -18,7 +17,6 @@ use Rattle.lsm_writers.specs.Tables.{AreFinished, AreInKeyOrder, AreTables, IsFr
 use Rattle.lsm_writers.specs.Writing.{IsWritable, Writing, fresh_writing, gained, write_fault, written}
 use Rattle.lsm_writers.proofs.Cutting.{rest_is}
 use Rattle.lsm_writers.proofs.ListWriting.{same_label, written_gained}
-use Rattle.lsm_writers.proofs.Refused.{memory_alone}
 use Rattle.lsm_tables.specs.Compacted.{AreWrittenBy, FitsBy, RunsOn, begun_behind, drawn_often, first_written, tables_fault}
 
 -- ---- small facts
