@@ -1,4 +1,4 @@
--- Several runs that are compacted: what is kept of them, as tables of a writer, and what readers see then.
+-- Several runs that are compacted: what is kept of them, and the tables that a writer makes of it.
 use Rattle.std.specs.Prelude.{◌≡◌, ℕ, Bool, zero, suc, ◌+◌, ◌-◌, ◌^◌, ◌<◌, ◌≤◌, ◌==◌, List, [], ◌∷◌, length, Option, Result, if◌then◌else◌}
 use Rattle.std.specs.List.{AllByRecursion}
 use Rattle.std.specs.Option.{option_or}
