@@ -18,3 +18,11 @@ pub mod Packing
 pub mod PackingTies
 pub mod PackingRuns
 pub mod PackingResult
+pub mod WrittenBy
+pub mod WritesOn
+pub mod Scanners
+pub mod Keeping
+pub mod Versions
+pub mod Replaced
+pub mod ShownRanges
+pub mod OneList

@@ -41,7 +41,7 @@ no_longer (Ok x ∷ xs) = omega (arith, no_longer xs)
 no_longer (Err f ∷ xs) = omega arith
 
 -- values have no error
-all_values : (es : List Entry) → up_to_error (ok_results es) ≡ ok_results es
+pub all_values : (es : List Entry) → up_to_error (ok_results es) ≡ ok_results es
 all_values [] = refl
 all_values (e ∷ es) = ap (λ (rs : List R). Ok e ∷ rs) (all_values es)
 
@@ -236,7 +236,7 @@ held_scan t es h some =
     let stored : 0 < length h.stored = omega (arith, some, ap length h.lifted_is, length-map h.stored (lifted t.global_seqno)) in
     file_told t.bytes h.stored h.table t.global_seqno pins.pin_filter pins.pin_index t.parts h.opened.short pins.told stored ∙ ap ok_results (sym h.lifted_is)
 
-held_scans : (ts : List OpenTable) (ls : List (List Entry)) → HoldLists ts ls → AllByRecursion (λ (es : List Entry). 0 < length es) ls → flat_map table_scan ts ≡ ok_results (joined ls)
+pub held_scans : (ts : List OpenTable) (ls : List (List Entry)) → HoldLists ts ls → AllByRecursion (λ (es : List Entry). 0 < length es) ls → flat_map table_scan ts ≡ ok_results (joined ls)
 held_scans [] [] h some = refl
 held_scans [] (es ∷ ls) h some = absurd h
 held_scans (t ∷ ts) [] h some = absurd h

@@ -75,14 +75,14 @@ module _ {S : Type 0} (front back : S → Option R → S → Type 0) where
 
   -- ---- what is newest of all
 
-  each_deals : (stops : Error → Bool) → stops OutOfMemory ≡ true → (sources : List S) (dealt : List (List Entry)) → AllZip (λ (s : S) (es : List Entry). DealsList front back es s) sources dealt
+  pub each_deals : (stops : Error → Bool) → stops OutOfMemory ≡ true → (sources : List S) (dealt : List (List Entry)) → AllZip (λ (s : S) (es : List Entry). DealsList front back es s) sources dealt
       → AllZip (Deals (answer_stops stops) front back) sources (map (λ (es : List Entry). ok_results es) dealt)
   each_deals stops memory [] [] all = tt
   each_deals stops memory [] (es ∷ dealt) all = absurd all
   each_deals stops memory (s ∷ sources) [] all = absurd all
   each_deals stops memory (s ∷ sources) (es ∷ dealt) all = (all.0 stops memory, each_deals stops memory sources dealt all.1)
 
-  each_ascends : (dealt : List (List Entry)) → AllByRecursion Ascends dealt → AllByRecursion (λ (rs : List R). Ascends (entries_among rs)) (map (λ (es : List Entry). ok_results es) dealt)
+  pub each_ascends : (dealt : List (List Entry)) → AllByRecursion Ascends dealt → AllByRecursion (λ (rs : List R). Ascends (entries_among rs)) (map (λ (es : List Entry). ok_results es) dealt)
   each_ascends [] up = tt
   each_ascends (es ∷ dealt) up = (subst Ascends (sym (entries_of es)) up.0, each_ascends dealt up.1)
 

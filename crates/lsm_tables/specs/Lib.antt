@@ -6,3 +6,5 @@ pub mod RunScan
 pub mod SeveralRuns
 pub mod Chain
 pub mod Packed
+pub mod Compacted
+pub mod ReadsCompacted

@@ -3,6 +3,7 @@
 
 mod bounds;
 mod chain;
+mod compact;
 mod pack;
 mod run_reader;
 mod run_scanner;
@@ -12,6 +13,7 @@ mod unopened;
 mod written;
 
 pub use chain::{read_run_back, write_run};
+pub use compact::{compact_runs, compaction_law};
 pub use lsm_readers::{
     BlockIndex, BlockIndexImpl, BlockIndexIter, BlockIndexIterImpl, Bound, FullBlockIndex,
     GlobalTableId, Inner, Iter, OwnedDataBlockIter, OwnedIndexBlockIter, ParsedMeta, ParsedRegions,

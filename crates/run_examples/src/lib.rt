@@ -1,4 +1,4 @@
-//! Worked examples of runs of tables: tests of what is read from one run, from both ends and by a scan, and from several as one.
+//! Worked examples of runs of tables: tests of what is read from one run, from both ends and by a scan, and from several as one, and of runs that are packed.
 //! Nothing here is for use.
 #![tactic(auto)]
 
@@ -6,6 +6,8 @@
 mod chains;
 #[cfg(test)]
 mod damaged;
+#[cfg(test)]
+mod packed;
 #[cfg(test)]
 mod readers;
 #[cfg(test)]

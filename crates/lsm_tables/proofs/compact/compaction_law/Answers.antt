@@ -1,0 +1,17 @@
+use Rattle.lsm_tables.specs.SeveralRuns.{union_in}
+use Rattle.lsm_tables.proofs.Replaced.{points, side_by_side, strict_after, union_up}
+use Rattle.lsm_tables.proofs.ShownRanges.{ranges_by_points}
+use Rattle.lsm_tables.proofs.compact.compaction_law.Goals as goal
+
+pub returns-clause-points : goal.returns-clause-points
+returns-clause-points c rules part rest before after h = points rules part rest before after h c.read_law.ensures.part
+
+pub returns-clause-ranges : goal.returns-clause-ranges
+returns-clause-ranges c rules part rest before after h low high =
+    ranges_by_points low high (union_in after) (union_in before) (union_up after) (union_up before) rules.watermark (points rules part rest before after h c.read_law.ensures.part)
+
+pub returns-clause-strict : goal.returns-clause-strict
+returns-clause-strict c rules part rest before after h = strict_after rules part rest before after h
+
+pub returns-clause-side_by_side : goal.returns-clause-side_by_side
+returns-clause-side_by_side c = side_by_side
