@@ -3,17 +3,20 @@ ghost use Rattle.std.specs.Prelude.{IfOk};
 ghost use Rattle.lsm_writers.specs.Writing.{IsWritable};
 ghost use Rattle.sst_entries.specs.Stream.{CanDeal};
 
-use crate::tables::{ALL, Bounds, Name, from_before, is_right, name_of, owned_range};
+use crate::tables::{ALL, Bounds, Name, is_right, name_of, owned_range};
 use lsm_merge::Merger;
 use lsm_ranges::Run;
 use lsm_sorted::MvccStream;
 use lsm_tables::{RunReader, Table, read_run_back, write_run};
 use lsm_writers::{TableIds, Timestamp, is_writable};
 use refusing::{Refusing, each_refused};
-use sst_blocks::{Error, InternalValue, SeqNo, ValueType};
+use sst_blocks::{Error, InternalValue, IterItem, SeqNo, ValueType};
 use std::alloc::{Allocator, Global};
+use std::ops::Bound;
 use std::test::Fail;
 use writer_examples::rows::{Row, entry};
+
+const BEFORE_B: Bounds<'static> = (Bound::Unbounded, Bound::Excluded(b"b"));
 
 type Stream<A> = MvccStream<Merger<RunReader<A>, A>>;
 
@@ -65,9 +68,15 @@ fn names_of<A: Allocator + Clone>(read: Read<A>) -> Result<[Option<Name>; 3], Er
         ⟦<Stream<A> as DoubleEndedIterator>⟧.can_next_back stream }
 {
     let (found, mut stream) = read;
-    let found = found.map(|item| Ok(item));
-    let last = name_of(stream.next_back())?;
-    Ok([name_of(found)?, name_of(stream.next())?, last])
+    let (last, first) = (stream.next_back(), stream.next());
+    named([found.map(|item| Ok(item)), first, last])
+}
+
+fn named<A: Allocator>(answers: [Option<IterItem<A>>; 3]) -> Result<[Option<Name>; 3], Error> {
+    let [found, first, last] = answers;
+    let found = name_of(found)?;
+    let first = name_of(first)?;
+    Ok([found, first, name_of(last)?])
 }
 
 // What a list gives that is written as tables, each key in one of its own: at a key below 8, and the ends of a range.
@@ -85,16 +94,21 @@ fn read_rows<A: Allocator + Copy>(
     }
 }
 
+// The global number, bounds, and the names that are read.
+type Case = (SeqNo, Bounds<'static>, [Option<Name>; 3]);
+
+const CASES: [Case; 3] = [
+    (0, ALL, [Some((b'a', 7)), Some((b'a', 9)), Some((b'b', 1))]),
+    (2, ALL, [Some((b'a', 7)), Some((b'a', 11)), Some((b'b', 3))]),
+    (0, BEFORE_B, [Some((b'a', 7)), None, Some((b'a', 9))]),
+];
+
 #[test]
 fn a_list_is_read_back_from_its_run(rt: HostRuntime) -> Result<(), Fail> {
-    let alloc = rt.alloc();
-    let whole = Some([Some((b'a', 7)), Some((b'a', 9)), Some((b'b', 1))]);
-    assert!(rt; read_rows(alloc, &ROWS, 0, ALL)? == whole);
-    let lifted = Some([Some((b'a', 7)), Some((b'a', 11)), Some((b'b', 3))]);
-    assert!(rt; read_rows(alloc, &ROWS, 2, ALL)? == lifted);
-    let before_b = Some([Some((b'a', 7)), None, Some((b'a', 9))]);
-    assert!(rt; read_rows(alloc, &ROWS, 0, from_before(b"a", b"b"))? == before_b);
-    assert!(rt; read_rows(alloc, &[], 0, ALL)? == None);
+    for (global_seqno, bounds, names) in CASES {
+        assert!(rt; read_rows(rt.alloc(), &ROWS, global_seqno, bounds)? == Some(names));
+    }
+    assert!(rt; read_rows(rt.alloc(), &[], 0, ALL)? == None);
     Ok(())
 }
 

@@ -94,19 +94,28 @@ fn scanned<A: Allocator + Copy>(scanner: &mut RunScanner<A>) -> Answer {
     Ok(name_of(scanner.next())?.map_or(0, |name| name.0))
 }
 
-// Whether the steps of a scan of the three tables, one of them damaged, answer as they should. `Source(3)` where there are none.
-fn scans<A: Allocator + Copy>(alloc: A, damaged: usize, steps: &[Answer]) -> Result<bool, Error> {
+// The scanner of the three tables, one of them damaged. `Source(3)` where there are none.
+fn scanner<A: Allocator + Copy>(alloc: A, damaged: usize) -> Result<RunScanner<A>, Error> {
     let run = run(alloc, damaged)?;
     if run.as_slice().is_empty() {
         return Err(Error::Source(3));
     }
-    let mut scanner = RunScanner::culled(run, (None, None))?;
+    RunScanner::culled(run, (None, None))
+}
+
+// Whether the steps of a scan answer as they should.
+fn scan_answers<A: Allocator + Copy>(scanner: &mut RunScanner<A>, steps: &[Answer]) -> bool {
     for answer in steps {
-        if scanned(&mut scanner) != *answer {
-            return Ok(false);
+        if scanned(scanner) != *answer {
+            return false;
         }
     }
-    Ok(true)
+    true
+}
+
+fn scans<A: Allocator + Copy>(alloc: A, damaged: usize, steps: &[Answer]) -> Result<bool, Error> {
+    let mut scanner = scanner(alloc, damaged)?;
+    Ok(scan_answers(&mut scanner, steps))
 }
 
 #[test]

@@ -1,5 +1,5 @@
-//! Worked examples of runs of tables: tests of what is read from one run, from both ends and by a scan, and from several as one, and of runs that are packed.
-//! Nothing here is for use.
+//! Worked examples of runs of tables: tests of what is read from one run, from both ends and by a scan, and from several as one,
+//! of lists that are written as runs, and of runs that are packed. Nothing here is for use.
 #![tactic(auto)]
 
 #[cfg(test)]

@@ -1,40 +1,39 @@
 //! Runs of tables that are packed, and read before and after.
+use crate::several::{Lists, runs_of};
 use crate::tables::Tables;
-use lsm_ranges::{Ranged, Run};
-use lsm_tables::{Table, get_runs, pack_runs, packing_law, write_run};
-use lsm_writers::{TableIds, Timestamp, is_writable};
-use sst_blocks::{Error, InternalValue, SeqNo, Slice, ValueType};
+use lsm_ranges::Run;
+use lsm_tables::{Table, get_runs, pack_runs, packing_law};
+use sst_blocks::{Error, SeqNo, ValueType};
 use std::alloc::Allocator;
 use std::sync::Arc;
 use std::test::Fail;
+use writer_examples::rows::Row;
 
-// A run of one table, which has one entry of each key.
-fn run_of<A: Allocator + Copy>(
-    alloc: A,
-    id: u64,
-    keys: &[&[u8]],
-    seqno: SeqNo,
-) -> Result<Tables<A>, Error> {
-    let mut items = Vec::new(alloc);
-    for key in keys {
-        let (key, value) = (Slice::from(alloc, key)?, Slice::from(alloc, b"x")?);
-        let kind = ValueType::Value;
-        items.push(InternalValue::from_components(key, value, seqno, kind))?;
-    }
-    if !is_writable(&items) {
-        return Err(Error::Source(1));
-    }
-    let (ids, moment) = (TableIds::new(id), Timestamp::from(0));
-    match write_run(alloc, ids, 1 << 20, moment, items, 0)? {
-        (Some(run), _) => Ok(Arc::new(alloc, run)?),
-        (None, _) => Err(Error::Source(2)),
-    }
+const A9_C9: [Row<'static>; 2] = [
+    (b"a", 9, ValueType::Value, b"x"),
+    (b"c", 9, ValueType::Value, b"x"),
+];
+
+const A5: [Row<'static>; 1] = [(b"a", 5, ValueType::Value, b"x")];
+
+const C3: [Row<'static>; 1] = [(b"c", 3, ValueType::Value, b"x")];
+
+const APART: [Lists; 2] = [&[&C3], &[&A5]];
+
+// The first table overlaps both others.
+const OVERLAPPING: [Lists; 3] = [&[&A9_C9], &[&C3], &[&A5]];
+
+// The numbers that point reads of `a`, `b` and `c` find.
+type Numbers = [Option<SeqNo>; 3];
+
+fn number_of<A: Allocator + Copy>(runs: &[Tables<A>], key: &[u8]) -> Result<Option<SeqNo>, Error> {
+    Ok(get_runs(runs, key, 100)?.map(|entry| entry.key.seqno))
 }
 
-// The number of the entry that a point read of some runs finds.
-fn number_of<A: Allocator + Copy>(runs: &[Tables<A>], key: &[u8]) -> Result<Option<SeqNo>, Error> {
-    let found = get_runs(runs, key, 100)?;
-    Ok(found.map(|entry| entry.key.seqno))
+fn numbers<A: Allocator + Copy>(runs: &[Tables<A>]) -> Result<Numbers, Error> {
+    let a = number_of(runs, b"a")?;
+    let b = number_of(runs, b"b")?;
+    Ok([a, b, number_of(runs, b"c")?])
 }
 
 fn shared<A: Allocator + Copy>(
@@ -48,40 +47,41 @@ fn shared<A: Allocator + Copy>(
     Ok(tables)
 }
 
+// How many runs there are once some are packed, and what is read of them.
+fn packed<A: Allocator + Copy>(alloc: A, runs: &[Tables<A>]) -> Result<(usize, Numbers), Error> {
+    let runs = shared(alloc, pack_runs(alloc, runs)?)?;
+    Ok((runs.len(), numbers(&runs)?))
+}
+
+// What is read before, how many runs there are then, and what is read of these.
+fn read_and_packed<A: Allocator + Copy>(
+    alloc: A,
+    lists: &[Lists],
+) -> Result<(Numbers, usize, Numbers), Error> {
+    let runs = runs_of(alloc, lists)?;
+    let before = numbers(&runs)?;
+    let (count, after) = packed(alloc, &runs)?;
+    Ok((before, count, after))
+}
+
 #[test]
 fn tables_that_do_not_overlap_go_into_one_run(rt: HostRuntime) -> Result<(), Fail> {
     packing_law();
-    let alloc = rt.alloc();
-    let runs = [run_of(alloc, 1, &[b"c"], 3)?, run_of(alloc, 2, &[b"a"], 5)?];
-    let packed = pack_runs(alloc, &runs)?;
-    assert_eq!(rt; packed.len(), 1);
-    let tables = packed[0].as_slice();
-    assert_eq!(rt; tables.len(), 2);
-    assert_eq!(rt; tables[0].key_range().min().as_slice(), b"a".as_slice());
-    assert_eq!(rt; tables[1].key_range().min().as_slice(), b"c".as_slice());
-    let packed = shared(alloc, packed)?;
-    for (key, number) in [(b"a", Some(5)), (b"b", None), (b"c", Some(3))] {
-        assert_eq!(rt; number_of(&runs, key)?, number);
-        assert_eq!(rt; number_of(&packed, key)?, number);
-    }
+    let read = [Some(5), None, Some(3)];
+    assert!(rt; read_and_packed(rt.alloc(), &APART)? == (read, 1, read));
     Ok(())
 }
 
 #[test]
 fn a_table_stays_before_those_that_it_overlaps(rt: HostRuntime) -> Result<(), Fail> {
-    let alloc = rt.alloc();
-    let newest = run_of(alloc, 1, &[b"a", b"c"], 9)?;
-    let runs = [
-        newest,
-        run_of(alloc, 2, &[b"c"], 3)?,
-        run_of(alloc, 3, &[b"a"], 5)?,
-    ];
-    let packed = pack_runs(alloc, &runs)?;
-    assert_eq!(rt; packed.len(), 2);
-    assert_eq!(rt; packed[0].as_slice().len(), 1);
-    assert_eq!(rt; packed[1].as_slice().len(), 2);
-    let packed = shared(alloc, packed)?;
-    assert_eq!(rt; number_of(&packed, b"a")?, Some(9));
-    assert_eq!(rt; number_of(&packed, b"c")?, Some(9));
+    let read = [Some(9), None, Some(9)];
+    assert!(rt; read_and_packed(rt.alloc(), &OVERLAPPING)? == (read, 2, read));
+    Ok(())
+}
+
+#[test]
+fn no_runs_are_packed_as_none(rt: HostRuntime) -> Result<(), Fail> {
+    let read = [None, None, None];
+    assert!(rt; read_and_packed(rt.alloc(), &[])? == (read, 0, read));
     Ok(())
 }

@@ -96,14 +96,19 @@ fn culled<A: Allocator + Copy>(
     RunReader::culled(run, range, span)
 }
 
-// Whether the reader of a span of the four tables gives these steps.
+// Whether a reader gives these steps.
+fn gives_all<A: Allocator + Copy>(mut reader: RunReader<A>, steps: &[Step]) -> Result<bool, Error> {
+    gives(&mut reader, steps)
+}
+
+// Whether the reader of a span of the four tables does.
 fn culled_gives<A: Allocator + Copy>(
     alloc: A,
     bounds: Bounds<'_>,
     span: Span,
     steps: &[Step],
 ) -> Result<bool, Error> {
-    gives(&mut culled(alloc, bounds, span)?, steps)
+    gives_all(culled(alloc, bounds, span)?, steps)
 }
 
 // The reader of the four tables within bounds.
@@ -122,7 +127,7 @@ fn new_gives<A: Allocator + Copy>(
     steps: &[Step],
 ) -> Result<Option<bool>, Error> {
     match reader_within(alloc, bounds)? {
-        Some(mut reader) => Ok(Some(gives(&mut reader, steps)?)),
+        Some(reader) => Ok(Some(gives_all(reader, steps)?)),
         None => Ok(None),
     }
 }
@@ -318,15 +323,23 @@ fn scanner<A: Allocator + Copy>(alloc: A, span: Span) -> Result<RunScanner<A>, E
     RunScanner::culled(run, span)
 }
 
-// Whether a scan of a span of the four tables gives just these keys.
-fn scans<A: Allocator + Copy>(alloc: A, span: Span, keys: &[u8]) -> Result<bool, Error> {
-    let mut scanner = scanner(alloc, span)?;
+// Whether a scan gives just these keys.
+fn gives_keys<A: Allocator + Copy>(
+    scanner: &mut RunScanner<A>,
+    keys: &[u8],
+) -> Result<bool, Error> {
     for key in keys {
         if name_of(scanner.next())? != Some((*key, 0)) {
             return Ok(false);
         }
     }
-    Ok(name_of(scanner.next())?.is_none() && name_of(scanner.next())?.is_none())
+    Ok(scanner.next().is_none() && scanner.next().is_none())
+}
+
+// Whether that of a span of the four tables does.
+fn scans<A: Allocator + Copy>(alloc: A, span: Span, keys: &[u8]) -> Result<bool, Error> {
+    let mut scanner = scanner(alloc, span)?;
+    gives_keys(&mut scanner, keys)
 }
 
 #[test]

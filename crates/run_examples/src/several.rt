@@ -4,7 +4,7 @@ use crate::tables::{
 };
 use lsm_tables::{get_runs, range_runs};
 use refusing::{Refusing, each_refused};
-use sst_blocks::{Direction, Error, SeqNo, ValueType, answers_at};
+use sst_blocks::{Direction, Error, IterItem, SeqNo, ValueType, answers_at};
 use std::alloc::{Allocator, Global};
 use std::test::Fail;
 use writer_examples::rows::Row;
@@ -40,20 +40,48 @@ const A_AND_C: [Row<'static>; 2] = [
 
 const ONE_D: [Row<'static>; 1] = [(b"d", 3, ValueType::Value, b"x")];
 
-// The tables of a run, by their rows.
-type Lists = &'static [&'static [Row<'static>]];
+/// The tables of a run, by their rows.
+pub(crate) type Lists = &'static [&'static [Row<'static>]];
 
 const TWO_RUNS: [Lists; 2] = [&[&NEWER], &[&OLDER]];
 
 // The third is of two tables.
 const THREE_RUNS: [Lists; 3] = [&[&NEWER], &[&OLDER], &[&A_AND_C, &ONE_D]];
 
-fn runs_of<A: Allocator + Copy>(alloc: A, lists: &[Lists]) -> Result<Vec<Tables<A>, A>, Error> {
+pub(crate) fn runs_of<A: Allocator + Copy>(
+    alloc: A,
+    lists: &[Lists],
+) -> Result<Vec<Tables<A>, A>, Error> {
     let mut runs = Vec::new(alloc);
     for tables in lists {
         runs.push(run_of(alloc, tables)?)?;
     }
     Ok(runs)
+}
+
+// What some runs answer at these ends, within bounds.
+fn answers_of<A: Allocator + Copy>(
+    alloc: A,
+    runs: &[Tables<A>],
+    bounds: Bounds<'_>,
+    ends: &[Direction],
+) -> Result<Vec<Option<IterItem<A>>, A>, Error> {
+    let range = owned_range(alloc, bounds)?;
+    let mut stream = range_runs(alloc, runs, range)?;
+    Ok(answers_at(alloc, &mut stream, ends)?)
+}
+
+// Whether answers have these names.
+fn are_named<A: Allocator + Copy>(
+    answers: Vec<Option<IterItem<A>>, A>,
+    names: &[Option<Name>],
+) -> Result<bool, Error> {
+    for (answer, name) in answers.into_iter().zip(names.iter()) {
+        if name_of(answer)? != *name {
+            return Ok(false);
+        }
+    }
+    Ok(true)
 }
 
 // Whether some runs give these names at these ends, within bounds.
@@ -65,14 +93,8 @@ fn range_gives<A: Allocator + Copy>(
     names: &[Option<Name>],
 ) -> Result<bool, Error> {
     let runs = runs_of(alloc, lists)?;
-    let mut stream = range_runs(alloc, &runs, owned_range(alloc, bounds)?)?;
-    let answers = answers_at(alloc, &mut stream, ends)?;
-    for (answer, name) in answers.into_iter().zip(names.iter()) {
-        if name_of(answer)? != *name {
-            return Ok(false);
-        }
-    }
-    Ok(true)
+    let answers = answers_of(alloc, &runs, bounds, ends)?;
+    are_named(answers, names)
 }
 
 #[test]
@@ -141,11 +163,8 @@ fn the_newest_versions_in_three_runs_come_from_both_ends(rt: HostRuntime) -> Res
 #[test]
 fn no_runs_give_nothing(rt: HostRuntime) -> Result<(), Fail> {
     let alloc = rt.alloc();
-    let runs: [Tables<Global>; 0] = [];
-    assert!(rt; get_runs(&runs, b"a", 9)?.is_none());
-    let mut stream = range_runs(alloc, &runs, owned_range(alloc, ALL)?)?;
-    let answers = answers_at(alloc, &mut stream, &[F, B])?;
-    assert!(rt; answers.iter().all(|answer| answer.is_none()));
+    assert!(rt; range_gives(alloc, &[], ALL, &[F, B], &[None, None])?);
+    assert_eq!(rt; found(alloc, &[], b"a", 9)?, None);
     Ok(())
 }
 
@@ -160,39 +179,50 @@ fn found<A: Allocator + Copy>(
     Ok(get_runs(&runs, key, seqno)?.map(|item| item.key.seqno))
 }
 
-#[test]
-fn a_read_finds_the_greatest_number_below_its_bound(rt: HostRuntime) -> Result<(), Fail> {
-    let alloc = rt.alloc();
-    assert_eq!(rt; found(alloc, &TWO_RUNS, b"a", 10)?, Some(9));
-    assert_eq!(rt; found(alloc, &TWO_RUNS, b"a", 9)?, Some(5));
-    assert_eq!(rt; found(alloc, &TWO_RUNS, b"a", 5)?, None);
-    assert_eq!(rt; found(alloc, &TWO_RUNS, b"b", 10)?, Some(1));
-    assert_eq!(rt; found(alloc, &TWO_RUNS, b"c", 10)?, Some(2));
-    assert_eq!(rt; found(alloc, &TWO_RUNS, b"d", 10)?, None);
-    Ok(())
+// A key, a bound, and the number that is found.
+type Found = (&'static [u8], SeqNo, Option<SeqNo>);
+
+const FOUND_IN_TWO: [Found; 6] = [
+    (b"a", 10, Some(9)),
+    (b"a", 9, Some(5)),
+    (b"a", 5, None),
+    (b"b", 10, Some(1)),
+    (b"c", 10, Some(2)),
+    (b"d", 10, None),
+];
+
+const FOUND_IN_THREE: [Found; 6] = [
+    (b"a", 10, Some(9)),
+    (b"a", 9, Some(7)),
+    (b"a", 7, Some(5)),
+    (b"c", 10, Some(4)),
+    (b"d", 10, Some(3)),
+    (b"e", 10, None),
+];
+
+// Whether reads of some runs find these numbers.
+fn finds_all(alloc: Global, lists: &[Lists], cases: &[Found]) -> Result<bool, Error> {
+    for (key, bound, number) in cases {
+        if found(alloc, lists, key, *bound)? != *number {
+            return Ok(false);
+        }
+    }
+    Ok(true)
 }
 
 #[test]
-fn a_read_of_three_runs_finds_the_greatest_number_below_its_bound(
-    rt: HostRuntime,
-) -> Result<(), Fail> {
-    let alloc = rt.alloc();
-    assert_eq!(rt; found(alloc, &THREE_RUNS, b"a", 10)?, Some(9));
-    assert_eq!(rt; found(alloc, &THREE_RUNS, b"a", 9)?, Some(7));
-    assert_eq!(rt; found(alloc, &THREE_RUNS, b"a", 7)?, Some(5));
-    assert_eq!(rt; found(alloc, &THREE_RUNS, b"c", 10)?, Some(4));
-    assert_eq!(rt; found(alloc, &THREE_RUNS, b"d", 10)?, Some(3));
-    assert_eq!(rt; found(alloc, &THREE_RUNS, b"e", 10)?, None);
+fn a_read_finds_the_greatest_number_below_its_bound(rt: HostRuntime) -> Result<(), Fail> {
+    assert!(rt; finds_all(rt.alloc(), &TWO_RUNS, &FOUND_IN_TWO)?);
+    assert!(rt; finds_all(rt.alloc(), &THREE_RUNS, &FOUND_IN_THREE)?);
     Ok(())
 }
 
 // The older entry stands in the earlier run.
+const OLDER_FIRST: [Lists; 2] = [&[&OLDER], &[&NEWER]];
+
 #[test]
 fn a_read_does_not_stop_at_the_first_run_that_answers(rt: HostRuntime) -> Result<(), Fail> {
-    let alloc = rt.alloc();
-    let runs = [run_of(alloc, &[&OLDER])?, run_of(alloc, &[&NEWER])?];
-    let number = get_runs(&runs, b"a", 10)?.map(|item| item.key.seqno);
-    assert_eq!(rt; number, Some(9));
+    assert_eq!(rt; found(rt.alloc(), &OLDER_FIRST, b"a", 10)?, Some(9));
     Ok(())
 }
 
