@@ -17,7 +17,7 @@ all_within (e ∷ es) = ap (λ (xs : List Entry). e ∷ xs) (all_within es)
 same_results : (es us : List Entry) → ok_results es ≡ ok_results us → es ≡ us
 same_results es us same = sym (entries_of es) ∙ ap entries_among same ∙ entries_of us
 
-one_list : (t : OpenTable) (es us : List Entry) → HoldsList t es → HoldsList t us → es ≡ us
+pub one_list : (t : OpenTable) (es us : List Entry) → HoldsList t es → HoldsList t us → es ≡ us
 one_list t es us h k =
     sym (all_within es)
     ∙ same_results (within Unbounded Unbounded es) (within Unbounded Unbounded us) (sym (held_told t es h Unbounded Unbounded) ∙ held_told t us k Unbounded Unbounded)

@@ -40,7 +40,7 @@ abbrev read : Option Entry → Result (Option Entry) Error
 read found = Ok found
 
 module _ (es : List Entry) (g : ℕ) (run : List OpenTable) (h : IsRunOfList es g run) where
-  union_is : union_in (h.lists ∷ []) ≡ lift es g
+  pub union_is : union_in (h.lists ∷ []) ≡ lift es g
   union_is = one_run h.lists (lift es g) h.whole (ascends_of (lift es g) (subst Strict h.whole (run_strict run h.lists h.hold h.order)))
 
   pub run_held : (runs : List (List OpenTable)) → runs ≡ run ∷ [] → RunsHoldLists runs (h.lists ∷ [])
