@@ -69,11 +69,14 @@ fn names_of<A: Allocator + Clone>(read: Read<A>) -> Result<[Option<Name>; 3], Er
 {
     let (found, mut stream) = read;
     let (last, first) = (stream.next_back(), stream.next());
-    named([found.map(|item| Ok(item)), first, last])
+    named(found.map(|item| Ok(item)), first, last)
 }
 
-fn named<A: Allocator>(answers: [Option<IterItem<A>>; 3]) -> Result<[Option<Name>; 3], Error> {
-    let [found, first, last] = answers;
+fn named<A: Allocator>(
+    found: Option<IterItem<A>>,
+    first: Option<IterItem<A>>,
+    last: Option<IterItem<A>>,
+) -> Result<[Option<Name>; 3], Error> {
     let found = name_of(found)?;
     let first = name_of(first)?;
     Ok([found, first, name_of(last)?])
