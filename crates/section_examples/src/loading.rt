@@ -1,6 +1,6 @@
 //! Loading the blocks of a stored table, and what its changed bytes are refused for.
 use crate::stored_table;
-use refusing::each_refused;
+use refusing::{Refusing, each_refused};
 use sst_blocks::{
     Block, BlockHandle, BlockOffset, BlockSource, BlockType, Counted, Error, LoadBlocks, Opened,
     Slice, TagName, written_blocks_load,
@@ -221,6 +221,27 @@ fn each_request_of_a_load_refused(rt: HostRuntime) -> Result<(), Fail> {
         Err(_) => false,
     });
     assert!(rt; refused.is_ok_and(|requests| requests > 3));
+    Ok(())
+}
+
+// How many requests the bytes take, and how many with the source over them, whose blocks load.
+fn requests_of_a_source(alloc: &Refusing) -> Result<(usize, usize), Error> {
+    let bytes = Slice::from(alloc, stored_table::bytes())?;
+    let first = alloc.requests();
+    let source = BlockSource::new(alloc, bytes)?;
+    let last = alloc.requests();
+    sizes(&mut Counted::new(&source))?;
+    Ok((first, last))
+}
+
+// A source that is refused what it would remember checksums in loads all the same.
+#[test]
+fn a_source_that_remembers_nothing_loads(rt: HostRuntime) -> Result<(), Fail> {
+    let (first, last) = requests_of_a_source(&Refusing::new(rt.alloc(), 0))?;
+    assert!(rt; first < last);
+    for nth in first..last {
+        requests_of_a_source(&Refusing::new(rt.alloc(), nth.saturating_add(1)))?;
+    }
     Ok(())
 }
 

@@ -7,7 +7,7 @@ use atomic_table::{Play, Table, TableRule};
 use std::alloc::{AllocError, Allocator, Global};
 
 /// How many bytes of a table share a word.
-const SPAN: u64 = 2048;
+pub(crate) const SPAN: u64 = 2048;
 
 // Each word is 0, or one more than the place of a payload that has its checksum.
 struct Compared;

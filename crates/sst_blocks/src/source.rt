@@ -13,7 +13,7 @@ ghost use Rattle.sst_sections.specs.Sections.{body_of, section_in, section_names
 ghost use Rattle.sst_blocks.specs.declared.opened.Opened.{Opened};
 
 use crate::block::Header;
-use crate::marks::Marks;
+use crate::marks::{Marks, SPAN};
 use crate::{Block, BlockHandle, BlockType, Error, Opened, Slice, Toc, hash, hash_four};
 use sst_sections::TRAILER_LEN;
 use sst_sections::number::{u32_at, u64_at};
@@ -26,7 +26,8 @@ const HEADER_LEN: usize = Header::LEN as usize;
 
 /// A table's bytes, whose trailer was read. Blocks are loaded from it, and in no other way. A contract sees the bytes.
 ///
-/// It remembers the payloads whose checksum was compared, together with its clones, and does not hash them again.
+/// Of the payloads whose checksum was compared it remembers, together with its clones, the last that starts in each 2,048 bytes,
+/// where there is memory for it, and does not hash those again. No answer depends on it.
 #[derive(Drop)]
 pub struct BlockSource<A: Allocator = Global> {
     bytes: Slice<A>,
@@ -55,7 +56,8 @@ impl<A: Allocator + Clone> Clone for BlockSource<A> {
 
     ghost is_clone = { λ s copy. copy ≡ s };
 
-    /// A source over the same bytes, which both share. Refused where the count of sharers is refused.
+    /// A source over the same bytes, which both share. Refused where their count of sharers is refused; where that of what is
+    /// remembered is, the clone remembers nothing.
     fn clone(&self) -> Result<BlockSource<A>, AllocError> {
         Ok(BlockSource {
             bytes: self.bytes.clone()?,
@@ -292,8 +294,9 @@ impl<A: Allocator + Clone> BlockSource<A> {
         u32_at(&head[8..]) as usize == end - start && u64_at(&head[16..]) == checksum
     }
 
-    /// Compares the checksums of the data block at a position and of up to three behind it, in one loop, where that of the
-    /// first was not compared yet. Loading them, one after another, is faster for it, and answers what it would without.
+    /// Compares the checksums of the data block at a position and of up to three behind it, in one loop, where that of the first
+    /// is not remembered and there is memory to remember them. A block that ends in the 2,048 bytes in which it starts is the
+    /// last that is compared. Loading the blocks, one after another, answers what it would without.
     pub fn compare_ahead(&self, position: u64) {
         let Some(marks) = &self.marks else {
             return;
@@ -342,7 +345,12 @@ impl<A: Allocator + Clone> BlockSource<A> {
     fn said_behind(&self, before: Option<Said>) -> Option<Said>
         ensures { IfSome result (λ said. IsSaid self.now said.start said.end said.checksum) }
     {
-        self.said_at(before?.end as u64)
+        let before = before?;
+        // Only the last payload that starts in a span is remembered, so the next one there would be hashed for nothing.
+        if before.start as u64 / SPAN == before.end as u64 / SPAN {
+            return None;
+        }
+        self.said_at(before.end as u64)
     }
 
     /// The payload of which that is said.
