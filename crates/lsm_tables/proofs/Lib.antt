@@ -26,3 +26,4 @@ pub mod Versions
 pub mod Replaced
 pub mod ShownRanges
 pub mod OneList
+pub mod CompactedBack

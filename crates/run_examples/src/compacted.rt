@@ -120,7 +120,7 @@ fn a_tombstone_that_is_evicted_leaves_no_run(rt: HostRuntime) -> Result<(), Fail
     assert!(rt; evicted == None);
     let stays = read_kept(alloc, &TOMBSTONE, (5, false, false), b"a", 7)?;
     let name = Some((b'a', 4));
-    assert!(rt; stays == Some((name, [name, None])));
+    assert!(rt; stays == Some((name, [None, name])));
     assert!(rt; read_kept(alloc, &[], (5, false, false), b"a", 7)? == None);
     Ok(())
 }
