@@ -1,6 +1,6 @@
 -- A run of a list that is compacted alone: it may be, and what is kept is kept of the list.
-use Rattle.std.proofs.Common.{◌≡◌, refl, sym, ◌∙◌, ap, subst, ℕ, ◌+◌, ◌<◌, List, [], ◌∷◌, ◌++◌, length, arith, append-nil}
-use Rattle.std.specs.Prelude.{Option, Result, map}
+use Rattle.std.proofs.Common.{◌≡◌, refl, sym, ◌∙◌, ap, subst, ℕ, suc, ◌+◌, ◌-◌, ◌^◌, ◌<◌, List, [], ◌∷◌, ◌++◌, length, arith, append-nil}
+use Rattle.std.specs.Prelude.{Option, Some, Result, map}
 use Rattle.std.specs.List.{AllByRecursion}
 use Rattle.std.specs.declared.ops.Bound.{Bound}
 use Rattle.std.proofs.lemmas.List.{map-append}
@@ -10,6 +10,8 @@ use Rattle.sst_entries.specs.Point.{point, within}
 use Rattle.sst_entries.specs.Stream.{ok_results}
 use Rattle.lsm_files.specs.declared.label.Label.{Label}
 use Rattle.lsm_files.specs.Chunks.{joined}
+use Rattle.lsm_files.specs.Facts.{highest_seqno}
+use Rattle.lsm_files.specs.Options.{default_options}
 use Rattle.lsm_merge.specs.Union.{AtMost, Ascends, entries_among, insert_sorted, newest, sort_entries}
 use Rattle.lsm_merge.proofs.Pairs.{Strict, as_pairs}
 use Rattle.lsm_readers.specs.Answer.{lift, lifted}
@@ -18,8 +20,9 @@ use Rattle.lsm_sorted.specs.Compaction.{Rules, kept, unfiltered}
 use Rattle.lsm_writers.specs.declared.writer.FinishedTable.{FinishedTable}
 use Rattle.lsm_writers.specs.Tables.{TablesWriting, new_tables, next_label}
 use Rattle.lsm_writers.specs.Writing.{IsWritable}
-use Rattle.lsm_tables.specs.Chain.{AreCutOf, AreOpened, AreWritten, IsRunOfList, ids_behind}
-use Rattle.lsm_tables.specs.Compacted.{AreCompactable, AreWrittenBy, kept_in}
+use Rattle.lsm_writers.proofs.OneCut.{one_cut_law}
+use Rattle.lsm_tables.specs.Chain.{AreCutOf, AreOpened, AreWritten, FitsAsTables, IsRunOfList, ids_behind}
+use Rattle.lsm_tables.specs.Compacted.{AreCompactable, AreWrittenBy, FitsBy, kept_in}
 use Rattle.lsm_tables.specs.RunLists.{DealsList, HoldLists}
 use Rattle.lsm_tables.specs.SeveralRuns.{union_in}
 use Rattle.lsm_tables.proofs.Rising.{ascends_of, run_strict}
@@ -119,3 +122,32 @@ as_written ids target moment es w fs left new by =
       ids_behind ids target (length n.lists),
       record { lists = n.lists; cut = n.cut; order = n.order; finished = n.finished; left_is = refl },
     )
+
+-- ---- what fits
+
+-- the numbers of a list that can be written are below 2^64
+pub small_numbers : (es : List Entry) → AllByRecursion (λ (e : Entry). e.seqno < 2 ^ 64 - 1) es → highest_seqno es + 0 < 2 ^ 64
+unfolding highest_seqno
+small_numbers [] h = omega arith
+small_numbers (e ∷ es) h = let rest = small_numbers es h.1 in omega (arith, h.0, rest)
+
+-- a list that fits as tables is taken by a new writer
+pub fits_by : (ids : Option ℕ) (target moment : ℕ) (es xs : List Entry) (w : TablesWriting) → w ≡ new_tables ids target 0 moment → es ≡ xs → FitsAsTables ids target xs → FitsBy w es
+fits_by ids target moment es xs w new same fits =
+    let m = new_tables (Some fits.first) target 0 moment in
+    let is : w ≡ m = new ∙ ap (λ (o : Option ℕ). new_tables o target 0 moment) fits.first_is in
+    let by : FitsBy m xs = record { tables = fits.tables; cut = fits.cut; fit = fits.fit; left = fits.left } in
+    subst (λ (x : TablesWriting). FitsBy x es) (sym is) (subst (FitsBy m) (sym same) by)
+
+many_opened : (g : ℕ) (label : Label) (lists : List (List Entry)) (ts : List OpenTable) → AreOpened label lists g ts → length lists ≡ length ts
+many_opened g label [] [] h = refl
+many_opened g label [] (t ∷ ts) h = absurd h
+many_opened g label (es ∷ ls) [] h = absurd h
+many_opened g label (es ∷ ls) (t ∷ ts) h = ap suc (many_opened g (next_label label) ls ts h.1)
+
+-- the counter behind a run is the one behind the tables of its list, and what fits behind these fits behind it
+pub fits_behind : (label : Label) (target : ℕ) (es xs : List Entry) (run : List OpenTable) (ids : Option ℕ) → AreCutOf label target es 0 run → ids ≡ ids_behind (Some 1) target (length run) → (first : FitsAsTables (Some 1) target es)
+    → FitsAsTables (ids_behind (Some 1) target (length first.tables)) target xs → FitsAsTables ids target xs
+fits_behind label target es xs run ids cut is first fits =
+    let many : length run ≡ length first.tables = sym (many_opened 0 label cut.lists run cut.opened) ∙ ap length (one_cut_law default_options.data_block_size target es cut.lists first.tables cut.cut first.cut) in
+    subst (λ (o : Option ℕ). FitsAsTables o target xs) (sym (is ∙ ap (ids_behind (Some 1) target) many)) fits

@@ -1,14 +1,15 @@
 //! A list that is written as a run, which is compacted alone and read.
-ghost use Rattle.std.specs.Prelude.{◌≡◌, ◌∷◌, ℕ, [], List, Option, IfErr, IfOk, IfSome, MatchOption, Some, length};
+ghost use Rattle.std.specs.Prelude.{◌≡◌, ◌∷◌, ◌+◌, ◌<◌, ◌^◌, ℕ, [], List, Option, IfErr, IfOk, IfSome, MatchOption, Some, length};
 ghost use Rattle.sst_entries.specs.declared.error.Error.TheVariants.{OutOfMemory};
 ghost use Rattle.sst_entries.specs.Entry.{Entry};
 ghost use Rattle.sst_entries.specs.Point.{point, within};
 ghost use Rattle.sst_entries.specs.Stream.{CanDeal};
+ghost use Rattle.lsm_files.specs.Facts.{highest_seqno};
 ghost use Rattle.lsm_merge.specs.Union.{newest};
 ghost use Rattle.lsm_readers.specs.Answer.{lift};
 ghost use Rattle.lsm_sorted.specs.Compaction.{kept, unfiltered};
 ghost use Rattle.lsm_writers.specs.Writing.{IsWritable};
-ghost use Rattle.lsm_tables.specs.Chain.{AreWritten, IsRunOfList};
+ghost use Rattle.lsm_tables.specs.Chain.{AreWritten, FitsAsTables, IsRunOfList, ids_behind};
 ghost use Rattle.lsm_tables.specs.Compacted.{AreCompactable, rules_by};
 ghost use Rattle.lsm_tables.specs.RunLists.{DealsList};
 
@@ -31,6 +32,9 @@ fn run_of_tables<A: Allocator + Clone>(
     ensures run { (ids : Option ℕ) (target moment : ℕ) (es : List Entry) (left : Option ℕ) →
         AreWritten ids target moment es tables.items left →
         IfOk result (λ r. MatchOption r (es ≡ []) (λ run. IsRunOfList es 0 run)) }
+    ensures taken { (ids : Option ℕ) (target moment : ℕ) (es : List Entry) (left : Option ℕ) →
+        AreWritten ids target moment es tables.items left → highest_seqno es + 0 < 2 ^ 64 →
+        IfErr result (λ e. e ≡ OutOfMemory) }
 {
     let opened = open_tables(alloc, tables, 0)?;
     Ok(Run::new(opened))
@@ -52,12 +56,17 @@ fn compact_alone<A: Allocator + Clone>(
         (es : List Entry) → IsRunOfList es 0 run →
         let left = kept rules (unfiltered es) in
         IfOk result (λ r. MatchOption r (left ≡ []) (λ new. IsRunOfList left 0 new)) }
+    ensures taken { let rules = rules_by gc_seqno_threshold evict_tombstones zero_seqnos in
+        (es : List Entry) → IsRunOfList es 0 run → IsWritable es →
+        FitsAsTables ids target_size (kept rules (unfiltered es)) →
+        IfErr result (λ e. e ≡ OutOfMemory) }
 {
+    let runs = [Arc::new(alloc.clone()?, run)?];
+    let merging = alloc.clone()?;
     let created_at = Timestamp::from(0);
     let writer = MultiWriter::new(alloc.clone()?, ids, target_size, 0, created_at)?;
-    let runs = [Arc::new(alloc.clone()?, run)?];
     let (tables, _) = compact_runs(
-        alloc.clone()?,
+        merging,
         &runs,
         gc_seqno_threshold,
         evict_tombstones,
@@ -80,6 +89,11 @@ fn write_and_compact<A: Allocator + Clone>(
     ensures run { let rules = rules_by gc_seqno_threshold evict_tombstones zero_seqnos in
         let left = kept rules (unfiltered items.items) in
         IfOk result (λ r. MatchOption r (left ≡ []) (λ run. IsRunOfList left 0 run)) }
+    ensures taken { let rules = rules_by gc_seqno_threshold evict_tombstones zero_seqnos in
+        let left = kept rules (unfiltered items.items) in
+        (first : FitsAsTables (Some 1) target_size items.items) →
+        FitsAsTables (ids_behind (Some 1) target_size (length first.tables)) target_size left →
+        IfErr result (λ e. e ≡ OutOfMemory) }
 {
     let (ids, created_at) = (TableIds::new(1), Timestamp::from(0));
     let (run, ids) = write_run(alloc.clone()?, ids, target_size, created_at, items, 0)?;
@@ -171,6 +185,13 @@ pub fn compact_run_back<A: Allocator + Clone>(
         ⟦<MvccStream<Merger<RunReader<A>, A>> as DoubleEndedIterator>⟧.next_back_gives
         ⟦<MvccStream<Merger<RunReader<A>, A>> as Iterator>⟧.can_next
         ⟦<MvccStream<Merger<RunReader<A>, A>> as DoubleEndedIterator>⟧.can_next_back read.1)) }
+    // Where the tables of the list fit, and behind them those of what is kept, with an id left for each, it is refused for want
+    // of memory alone.
+    ensures taken { let rules = rules_by gc_seqno_threshold evict_tombstones zero_seqnos in
+        let left = kept rules (unfiltered items.items) in
+        (first : FitsAsTables (Some 1) target_size items.items) →
+        FitsAsTables (ids_behind (Some 1) target_size (length first.tables)) target_size left →
+        IfErr result (λ e. e ≡ OutOfMemory) }
 {
     let run = write_and_compact(
         alloc.clone()?,
