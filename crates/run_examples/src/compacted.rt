@@ -16,6 +16,8 @@ use writer_examples::rows::{Row, entry};
 
 type Stream<A> = MvccStream<Merger<RunReader<A>, A>>;
 
+type Read<A> = (Option<InternalValue<A>>, Stream<A>);
+
 // A threshold, whether tombstones are evicted, whether numbers become 0.
 type Rules = (SeqNo, bool, bool);
 
@@ -51,35 +53,33 @@ fn items_of<A: Allocator + Copy>(
     }
 }
 
-// The names of the first and the last entry of a range.
-fn ends_of<A: Allocator + Clone>(mut stream: Stream<A>) -> Result<[Option<Name>; 2], Error>
-    requires {
+// The names of a found entry, and of the first and the last of a range.
+fn names_of<A: Allocator + Clone>(read: Read<A>) -> Result<[Option<Name>; 3], Error>
+    requires { let stream = read.1 in
         CanDeal ⟦<Stream<A> as Iterator>⟧.next_gives
         ⟦<Stream<A> as DoubleEndedIterator>⟧.next_back_gives
         ⟦<Stream<A> as Iterator>⟧.can_next
         ⟦<Stream<A> as DoubleEndedIterator>⟧.can_next_back stream }
 {
+    let (found, mut stream) = read;
+    let found = found.map(|item| Ok(item));
     let last = name_of(stream.next_back())?;
-    Ok([name_of(stream.next())?, last])
+    Ok([name_of(found)?, name_of(stream.next())?, last])
 }
 
-// What is kept of rows that are written as tables of one key each: a key below a number, and the ends of all.
+// What is kept of rows that are written as tables of one key each: at a key below a number, and the ends of all.
 fn read_kept<A: Allocator + Copy>(
     alloc: A,
     rows: &[Row<'_>],
     rules: Rules,
     key: &[u8],
     seqno: SeqNo,
-) -> Result<Option<(Option<Name>, [Option<Name>; 2])>, Error> {
+) -> Result<Option<[Option<Name>; 3]>, Error> {
     let items = items_of(alloc, rows)?;
     let range = owned_range(alloc, ALL)?;
     let (threshold, evict, zero) = rules;
-    let read = compact_run_back(alloc, items, 0, threshold, evict, zero, key, seqno, range)?;
-    match read {
-        Some((found, stream)) => {
-            let found = name_of(found.map(|item| Ok(item)))?;
-            Ok(Some((found, ends_of(stream)?)))
-        }
+    match compact_run_back(alloc, items, 0, threshold, evict, zero, key, seqno, range)? {
+        Some(read) => Ok(Some(names_of(read)?)),
         None => Ok(None),
     }
 }
@@ -91,7 +91,7 @@ fn found_at<A: Allocator + Copy>(
     seqno: SeqNo,
 ) -> Result<Option<Name>, Error> {
     match read_kept(alloc, &VALUES, (threshold, false, false), b"a", seqno)? {
-        Some((found, _)) => Ok(found),
+        Some([found, _, _]) => Ok(found),
         None => Err(Error::Source(1)),
     }
 }
@@ -120,7 +120,7 @@ fn a_tombstone_that_is_evicted_leaves_no_run(rt: HostRuntime) -> Result<(), Fail
     assert!(rt; evicted == None);
     let stays = read_kept(alloc, &TOMBSTONE, (5, false, false), b"a", 7)?;
     let name = Some((b'a', 4));
-    assert!(rt; stays == Some((name, [None, name])));
+    assert!(rt; stays == Some([name, None, name]));
     assert!(rt; read_kept(alloc, &[], (5, false, false), b"a", 7)? == None);
     Ok(())
 }
@@ -128,8 +128,7 @@ fn a_tombstone_that_is_evicted_leaves_no_run(rt: HostRuntime) -> Result<(), Fail
 #[test]
 fn numbers_below_the_threshold_become_0(rt: HostRuntime) -> Result<(), Fail> {
     let read = read_kept(rt.alloc(), &THREE_KEYS, (5, false, true), b"b", 1)?;
-    let ends = [Some((b'a', 10)), Some((b'c', 6))];
-    assert!(rt; read == Some((Some((b'b', 0)), ends)));
+    assert!(rt; read == Some([Some((b'b', 0)), Some((b'a', 10)), Some((b'c', 6))]));
     Ok(())
 }
 
