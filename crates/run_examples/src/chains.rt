@@ -18,7 +18,7 @@ use writer_examples::rows::{Row, entry};
 
 const BEFORE_B: Bounds<'static> = (Bound::Unbounded, Bound::Excluded(b"b"));
 
-type Stream<A> = MvccStream<Merger<RunReader<A>, A>>;
+pub(crate) type Stream<A> = MvccStream<Merger<RunReader<A>, A>>;
 
 const ROWS: [Row<'static>; 4] = [
     (b"a", 9, ValueType::Value, b"x"),
@@ -39,8 +39,8 @@ const LONG_ROWS: [Row<'static>; 6] = [
     (b"c", 0, ValueType::Value, &LONG),
 ];
 
-// `Source(0)` where the rows cannot be written.
-fn list_of<A: Allocator + Copy>(
+/// The entries of some rows. `Source(0)` where they cannot be written.
+pub(crate) fn list_of<A: Allocator + Copy>(
     alloc: A,
     rows: &[Row<'_>],
 ) -> Result<Vec<InternalValue<A>, A>, Error>
@@ -57,8 +57,8 @@ fn list_of<A: Allocator + Copy>(
     }
 }
 
-// What a range answers at its back, and then at its front.
-fn ends_of<A: Allocator + Copy>(
+/// What a range answers at its back, and then at its front.
+pub(crate) fn ends_of<A: Allocator + Copy>(
     alloc: A,
     mut stream: Stream<A>,
 ) -> Result<Vec<Option<IterItem<A>>, A>, Error>
@@ -70,8 +70,8 @@ fn ends_of<A: Allocator + Copy>(
     Ok(answers_at(alloc, &mut stream, &[Direction::Back, Direction::Front])?)
 }
 
-// The names of a found entry, and of the last and the first of a range.
-fn named<A: Allocator + Copy>(
+/// The names of a found entry, and of the first and the last of a range, by the answers of [`ends_of`].
+pub(crate) fn named<A: Allocator + Copy>(
     found: Option<InternalValue<A>>,
     ends: Vec<Option<IterItem<A>>, A>,
 ) -> Result<[Option<Name>; 3], Error> {
