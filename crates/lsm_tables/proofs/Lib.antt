@@ -27,3 +27,4 @@ pub mod Replaced
 pub mod ShownRanges
 pub mod OneList
 pub mod Compactable
+pub mod CompactedBack

@@ -75,7 +75,7 @@ fn open_table<A: Allocator + Clone>(
     Ok(opened)
 }
 
-fn open_tables<A: Allocator + Clone>(
+pub(crate) fn open_tables<A: Allocator + Clone>(
     alloc: A,
     tables: Vec<FinishedTable<A>, A>,
     global_seqno: SeqNo,

@@ -4,6 +4,7 @@
 mod bounds;
 mod chain;
 mod compact;
+mod compacted;
 mod pack;
 mod run_reader;
 mod run_scanner;
@@ -14,6 +15,7 @@ mod written;
 
 pub use chain::{read_run_back, write_run};
 pub use compact::{compact_runs, compaction_law};
+pub use compacted::compact_run_back;
 pub use lsm_readers::{
     BlockIndex, BlockIndexImpl, BlockIndexIter, BlockIndexIterImpl, Bound, FullBlockIndex,
     GlobalTableId, Inner, Iter, OwnedDataBlockIter, OwnedIndexBlockIter, ParsedMeta, ParsedRegions,

@@ -10,7 +10,7 @@ use lsm_sorted::MvccStream;
 use lsm_tables::{RunReader, Table, read_run_back, write_run};
 use lsm_writers::{TableIds, Timestamp, is_writable};
 use refusing::{Refusing, each_refused};
-use sst_blocks::{Error, InternalValue, IterItem, SeqNo, ValueType};
+use sst_blocks::{Direction, Error, InternalValue, IterItem, SeqNo, ValueType, answers_at};
 use std::alloc::{Allocator, Global};
 use std::ops::Bound;
 use std::test::Fail;
@@ -18,9 +18,7 @@ use writer_examples::rows::{Row, entry};
 
 const BEFORE_B: Bounds<'static> = (Bound::Unbounded, Bound::Excluded(b"b"));
 
-type Stream<A> = MvccStream<Merger<RunReader<A>, A>>;
-
-type Read<A> = (Option<InternalValue<A>>, Stream<A>);
+pub(crate) type Stream<A> = MvccStream<Merger<RunReader<A>, A>>;
 
 const ROWS: [Row<'static>; 4] = [
     (b"a", 9, ValueType::Value, b"x"),
@@ -41,8 +39,8 @@ const LONG_ROWS: [Row<'static>; 6] = [
     (b"c", 0, ValueType::Value, &LONG),
 ];
 
-// `Source(0)` where the rows cannot be written.
-fn list_of<A: Allocator + Copy>(
+/// The entries of some rows. `Source(0)` where they cannot be written.
+pub(crate) fn list_of<A: Allocator + Copy>(
     alloc: A,
     rows: &[Row<'_>],
 ) -> Result<Vec<InternalValue<A>, A>, Error>
@@ -59,27 +57,30 @@ fn list_of<A: Allocator + Copy>(
     }
 }
 
-// The names of a found entry, and of the first and the last of a range.
-fn names_of<A: Allocator + Clone>(read: Read<A>) -> Result<[Option<Name>; 3], Error>
-    requires { let stream = read.1 in
-        CanDeal ⟦<Stream<A> as Iterator>⟧.next_gives
+/// What a range answers at its back, and then at its front.
+pub(crate) fn ends_of<A: Allocator + Copy>(
+    alloc: A,
+    mut stream: Stream<A>,
+) -> Result<Vec<Option<IterItem<A>>, A>, Error>
+    requires { CanDeal ⟦<Stream<A> as Iterator>⟧.next_gives
         ⟦<Stream<A> as DoubleEndedIterator>⟧.next_back_gives
         ⟦<Stream<A> as Iterator>⟧.can_next
         ⟦<Stream<A> as DoubleEndedIterator>⟧.can_next_back stream }
 {
-    let (found, mut stream) = read;
-    let (last, first) = (stream.next_back(), stream.next());
-    named(found.map(|item| Ok(item)), first, last)
+    Ok(answers_at(alloc, &mut stream, &[Direction::Back, Direction::Front])?)
 }
 
-fn named<A: Allocator>(
-    found: Option<IterItem<A>>,
-    first: Option<IterItem<A>>,
-    last: Option<IterItem<A>>,
+/// The names of a found entry, and of the first and the last of a range, by the answers of [`ends_of`].
+pub(crate) fn named<A: Allocator + Copy>(
+    found: Option<InternalValue<A>>,
+    ends: Vec<Option<IterItem<A>>, A>,
 ) -> Result<[Option<Name>; 3], Error> {
-    let found = name_of(found)?;
-    let first = name_of(first)?;
-    Ok([found, first, name_of(last)?])
+    let found = name_of(found.map(|item| Ok(item)))?;
+    let mut names = [None; 2];
+    for (slot, answer) in names.iter_mut().zip(ends.into_iter()) {
+        *slot = name_of(answer)?;
+    }
+    Ok([found, names[1], names[0]])
 }
 
 // What a list gives that is written as tables, each key in one of its own: at a key below 8, and the ends of a range.
@@ -92,7 +93,7 @@ fn read_rows<A: Allocator + Copy>(
     let items = list_of(alloc, rows)?;
     let range = owned_range(alloc, bounds)?;
     match read_run_back(alloc, items, 0, global_seqno, b"a", 8, range)? {
-        Some(read) => Ok(Some(names_of(read)?)),
+        Some((found, stream)) => Ok(Some(named(found, ends_of(alloc, stream)?)?)),
         None => Ok(None),
     }
 }

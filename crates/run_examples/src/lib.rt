@@ -5,6 +5,8 @@
 #[cfg(test)]
 mod chains;
 #[cfg(test)]
+mod compacted;
+#[cfg(test)]
 mod damaged;
 #[cfg(test)]
 mod packed;

@@ -1,0 +1,208 @@
+//! A list that is written as a run, which is compacted alone and read.
+ghost use Rattle.std.specs.Prelude.{◌≡◌, ◌∷◌, ◌+◌, ◌<◌, ◌^◌, ℕ, [], List, Option, IfErr, IfOk, IfSome, MatchOption, Some, length};
+ghost use Rattle.sst_entries.specs.declared.error.Error.TheVariants.{OutOfMemory};
+ghost use Rattle.sst_entries.specs.Entry.{Entry};
+ghost use Rattle.sst_entries.specs.Point.{point, within};
+ghost use Rattle.sst_entries.specs.Stream.{CanDeal};
+ghost use Rattle.lsm_files.specs.Facts.{highest_seqno};
+ghost use Rattle.lsm_merge.specs.Union.{newest};
+ghost use Rattle.lsm_readers.specs.Answer.{lift};
+ghost use Rattle.lsm_sorted.specs.Compaction.{kept, unfiltered};
+ghost use Rattle.lsm_writers.specs.Writing.{IsWritable};
+ghost use Rattle.lsm_tables.specs.Chain.{AreWritten, FitsAsTables, IsRunOfList, ids_behind};
+ghost use Rattle.lsm_tables.specs.Compacted.{AreCompactable, rules_by};
+ghost use Rattle.lsm_tables.specs.RunLists.{DealsList};
+
+use crate::chain::open_tables;
+use crate::{RunReader, Table, Timestamp, compact_runs, get_runs, range_runs, write_run};
+use lsm_merge::Merger;
+use lsm_ranges::Run;
+use lsm_sorted::MvccStream;
+use lsm_writers::{FinishedTable, MultiWriter, TableIds};
+use sst_blocks::{Error, InternalValue, SeqNo, UserKey};
+use std::alloc::Allocator;
+use std::ops::Bound;
+use std::sync::Arc;
+
+// Opens finished tables without a global number and puts them in a run; none where there is no table.
+fn run_of_tables<A: Allocator + Clone>(
+    alloc: A,
+    tables: Vec<FinishedTable<A>, A>,
+) -> Result<Option<Run<Table<A>, A>>, Error>
+    ensures run { (ids : Option ℕ) (target moment : ℕ) (es : List Entry) (left : Option ℕ) →
+        AreWritten ids target moment es tables.items left →
+        IfOk result (λ r. MatchOption r (es ≡ []) (λ run. IsRunOfList es 0 run)) }
+    ensures taken { (ids : Option ℕ) (target moment : ℕ) (es : List Entry) (left : Option ℕ) →
+        AreWritten ids target moment es tables.items left → highest_seqno es + 0 < 2 ^ 64 →
+        IfErr result (λ e. e ≡ OutOfMemory) }
+{
+    let opened = open_tables(alloc, tables, 0)?;
+    Ok(Run::new(opened))
+}
+
+// Compacts a run alone into tables, and puts these in a run; none where nothing is kept.
+fn compact_alone<A: Allocator + Clone>(
+    alloc: A,
+    run: Run<Table<A>, A>,
+    ids: TableIds,
+    target_size: u64,
+    gc_seqno_threshold: SeqNo,
+    evict_tombstones: bool,
+    zero_seqnos: bool,
+) -> Result<Option<Run<Table<A>, A>>, Error>
+    requires { AreCompactable (run ∷ []) }
+    // It is the run of what is kept of the list.
+    ensures run { let rules = rules_by gc_seqno_threshold evict_tombstones zero_seqnos in
+        (es : List Entry) → IsRunOfList es 0 run →
+        let left = kept rules (unfiltered es) in
+        IfOk result (λ r. MatchOption r (left ≡ []) (λ new. IsRunOfList left 0 new)) }
+    ensures taken { let rules = rules_by gc_seqno_threshold evict_tombstones zero_seqnos in
+        (es : List Entry) → IsRunOfList es 0 run → IsWritable es →
+        FitsAsTables ids target_size (kept rules (unfiltered es)) →
+        IfErr result (λ e. e ≡ OutOfMemory) }
+{
+    let runs = [Arc::new(alloc.clone()?, run)?];
+    let merging = alloc.clone()?;
+    let created_at = Timestamp::from(0);
+    let writer = MultiWriter::new(alloc.clone()?, ids, target_size, 0, created_at)?;
+    let (tables, _) = compact_runs(
+        merging,
+        &runs,
+        gc_seqno_threshold,
+        evict_tombstones,
+        zero_seqnos,
+        writer,
+    )?;
+    run_of_tables(alloc, tables)
+}
+
+// Writes a list as a run and compacts it; none where nothing is kept.
+fn write_and_compact<A: Allocator + Clone>(
+    alloc: A,
+    items: Vec<InternalValue<A>, A>,
+    target_size: u64,
+    gc_seqno_threshold: SeqNo,
+    evict_tombstones: bool,
+    zero_seqnos: bool,
+) -> Result<Option<Run<Table<A>, A>>, Error>
+    requires { IsWritable items.items }
+    ensures run { let rules = rules_by gc_seqno_threshold evict_tombstones zero_seqnos in
+        let left = kept rules (unfiltered items.items) in
+        IfOk result (λ r. MatchOption r (left ≡ []) (λ run. IsRunOfList left 0 run)) }
+    ensures taken { let rules = rules_by gc_seqno_threshold evict_tombstones zero_seqnos in
+        let left = kept rules (unfiltered items.items) in
+        (first : FitsAsTables (Some 1) target_size items.items) →
+        FitsAsTables (ids_behind (Some 1) target_size (length first.tables)) target_size left →
+        IfErr result (λ e. e ≡ OutOfMemory) }
+{
+    let (ids, created_at) = (TableIds::new(1), Timestamp::from(0));
+    let (run, ids) = write_run(alloc.clone()?, ids, target_size, created_at, items, 0)?;
+    let Some(run) = run else {
+        return Ok(None);
+    };
+    compact_alone(
+        alloc,
+        run,
+        ids,
+        target_size,
+        gc_seqno_threshold,
+        evict_tombstones,
+        zero_seqnos,
+    )
+}
+
+// What a point read and a range of a run alone give.
+fn read_alone<A: Allocator + Clone>(
+    alloc: A,
+    run: Run<Table<A>, A>,
+    key: &[u8],
+    seqno: SeqNo,
+    range: (Bound<UserKey<A>>, Bound<UserKey<A>>),
+) -> Result<
+    (
+        Option<InternalValue<A>>,
+        MvccStream<Merger<RunReader<A>, A>>,
+    ),
+    Error,
+>
+    // Of tables of a list, lifted, they are those of the list.
+    ensures list { let gives = ⟦<MvccStream<Merger<RunReader<A>, A>> as Iterator>⟧.next_gives in
+        let back_gives =
+        ⟦<MvccStream<Merger<RunReader<A>, A>> as DoubleEndedIterator>⟧.next_back_gives in
+        (es : List Entry) (g : ℕ) → IsRunOfList es g run → IfOk result (λ read.
+        (read.0 ≡ point (lift es g) key.now seqno)
+        × DealsList gives back_gives (newest (within range.0 range.1 (lift es g))) read.1) }
+    ensures can { IfOk result (λ read.
+        CanDeal ⟦<MvccStream<Merger<RunReader<A>, A>> as Iterator>⟧.next_gives
+        ⟦<MvccStream<Merger<RunReader<A>, A>> as DoubleEndedIterator>⟧.next_back_gives
+        ⟦<MvccStream<Merger<RunReader<A>, A>> as Iterator>⟧.can_next
+        ⟦<MvccStream<Merger<RunReader<A>, A>> as DoubleEndedIterator>⟧.can_next_back read.1) }
+    ensures taken { (es : List Entry) (g : ℕ) → IsRunOfList es g run →
+        IfErr result (λ e. e ≡ OutOfMemory) }
+{
+    let runs = [Arc::new(alloc.clone()?, run)?];
+    let found = get_runs(&runs, key, seqno)?;
+    let stream = range_runs(alloc, &runs, range)?;
+    Ok((found, stream))
+}
+
+/// What a point read and a range give of a list that was written as a run, compacted, and whose new tables were opened;
+/// `None` where nothing is kept. The contracts of writing, compacting, opening and reading runs alone say that it is what the
+/// compaction keeps of the list. Refused as [`write_run`] and [`compact_runs`], with tables of the first level under ids from 1
+/// that run on.
+pub fn compact_run_back<A: Allocator + Clone>(
+    alloc: A,
+    items: Vec<InternalValue<A>, A>,
+    target_size: u64,
+    gc_seqno_threshold: SeqNo,
+    evict_tombstones: bool,
+    zero_seqnos: bool,
+    key: &[u8],
+    seqno: SeqNo,
+    range: (Bound<UserKey<A>>, Bound<UserKey<A>>),
+) -> Result<
+    Option<
+        (
+            Option<InternalValue<A>>,
+            MvccStream<Merger<RunReader<A>, A>>,
+        ),
+    >,
+    Error,
+>
+    requires { IsWritable items.items }
+    // The first match of the key, and from both ends the newest version of each key within the bounds, of what is kept.
+    ensures list { let gives = ⟦<MvccStream<Merger<RunReader<A>, A>> as Iterator>⟧.next_gives in
+        let back_gives =
+        ⟦<MvccStream<Merger<RunReader<A>, A>> as DoubleEndedIterator>⟧.next_back_gives in
+        let rules = rules_by gc_seqno_threshold evict_tombstones zero_seqnos in
+        let left = kept rules (unfiltered items.items) in
+        IfOk result (λ r. MatchOption r (left ≡ []) (λ read.
+        (read.0 ≡ point left key.now seqno)
+        × DealsList gives back_gives (newest (within range.0 range.1 left)) read.1)) }
+    // Both ends of the range may be asked however often.
+    ensures can { IfOk result (λ r. IfSome r (λ read.
+        CanDeal ⟦<MvccStream<Merger<RunReader<A>, A>> as Iterator>⟧.next_gives
+        ⟦<MvccStream<Merger<RunReader<A>, A>> as DoubleEndedIterator>⟧.next_back_gives
+        ⟦<MvccStream<Merger<RunReader<A>, A>> as Iterator>⟧.can_next
+        ⟦<MvccStream<Merger<RunReader<A>, A>> as DoubleEndedIterator>⟧.can_next_back read.1)) }
+    // Where the tables of the list fit, and behind them those of what is kept, with an id left for each, it is refused for want
+    // of memory alone.
+    ensures taken { let rules = rules_by gc_seqno_threshold evict_tombstones zero_seqnos in
+        let left = kept rules (unfiltered items.items) in
+        (first : FitsAsTables (Some 1) target_size items.items) →
+        FitsAsTables (ids_behind (Some 1) target_size (length first.tables)) target_size left →
+        IfErr result (λ e. e ≡ OutOfMemory) }
+{
+    let run = write_and_compact(
+        alloc.clone()?,
+        items,
+        target_size,
+        gc_seqno_threshold,
+        evict_tombstones,
+        zero_seqnos,
+    )?;
+    match run {
+        Some(run) => Ok(Some(read_alone(alloc, run, key, seqno, range)?)),
+        None => Ok(None),
+    }
+}
