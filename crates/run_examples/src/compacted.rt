@@ -49,7 +49,7 @@ fn found_at<A: Allocator + Copy>(
     seqno: SeqNo,
 ) -> Result<Option<Name>, Error> {
     match read_kept(alloc, &VALUES, (threshold, false, false), b"a", seqno)? {
-        Some([found, _, _]) => Ok(found),
+        Some(names) => Ok(names[0]),
         None => Err(Error::Source(1)),
     }
 }
