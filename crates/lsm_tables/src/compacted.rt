@@ -1,7 +1,10 @@
 //! A list that is written as a run, which is compacted alone and read.
-ghost use Rattle.std.specs.Prelude.{◌≡◌, ◌∷◌, ◌+◌, ◌<◌, ◌^◌, ℕ, [], List, Option, IfErr, IfOk, IfSome, MatchOption, Some, length};
+ghost use Rattle.std.specs.Prelude.{◌≡◌, ◌∷◌, ◌+◌, ◌<◌, ◌^◌, ℕ, [], List, Option, IfErr, IfOk, IfSome, MatchOption, Some, length, map};
+ghost use Rattle.std.specs.Arc.{arc_value};
+ghost use Rattle.std.specs.Option.{option_map_or};
 ghost use Rattle.sst_entries.specs.declared.error.Error.TheVariants.{OutOfMemory};
 ghost use Rattle.sst_entries.specs.Entry.{Entry};
+ghost use Rattle.sst_entries.specs.Error.{Faults};
 ghost use Rattle.sst_entries.specs.Point.{point, within};
 ghost use Rattle.sst_entries.specs.Stream.{CanDeal};
 ghost use Rattle.lsm_files.specs.Facts.{highest_seqno};
@@ -9,9 +12,9 @@ ghost use Rattle.lsm_merge.specs.Union.{newest};
 ghost use Rattle.lsm_readers.specs.Answer.{lift};
 ghost use Rattle.lsm_sorted.specs.Compaction.{kept, unfiltered};
 ghost use Rattle.lsm_writers.specs.Writing.{IsWritable};
-ghost use Rattle.lsm_tables.specs.Chain.{AreWritten, FitsAsTables, IsRunOfList, ids_behind};
-ghost use Rattle.lsm_tables.specs.Compacted.{AreCompactable, rules_by};
-ghost use Rattle.lsm_tables.specs.RunLists.{DealsList};
+ghost use Rattle.lsm_tables.specs.Chain.{AreCutOf, AreWritten, FitsAsTables, IsRunOfList, ids_behind, run_label, tables_fault};
+ghost use Rattle.lsm_tables.specs.Compacted.{AreCompactable, kept_in, rules_by};
+ghost use Rattle.lsm_tables.specs.RunLists.{DealsList, RunsHoldLists};
 
 use crate::chain::open_tables;
 use crate::{RunReader, Table, Timestamp, compact_runs, get_runs, range_runs, write_run};
@@ -38,6 +41,58 @@ fn run_of_tables<A: Allocator + Clone>(
 {
     let opened = open_tables(alloc, tables, 0)?;
     Ok(Run::new(opened))
+}
+
+/// Compacts several runs and puts what is kept in a run: [`compact_runs`] with a writer of tables of the first level, each but
+/// the last of at least `target_size` bytes of data blocks, under ids that run on; then each table is opened without a global
+/// number. No run where nothing is kept. Answers the counter of ids behind the last table, too.
+///
+/// Refused as [`MultiWriter::new`] and [`compact_runs`] are, whose conditions of the runs are its own, and
+/// [`Error::OutOfMemory`]. Whatever is answered, the given runs are as they were.
+pub fn compact_to_run<A: Allocator + Clone>(
+    alloc: A,
+    runs: &[Arc<Run<Table<A>, A>, A>],
+    gc_seqno_threshold: SeqNo,
+    evict_tombstones: bool,
+    zero_seqnos: bool,
+    ids: TableIds,
+    target_size: u64,
+    created_at: Timestamp,
+) -> Result<(Option<Run<Table<A>, A>>, TableIds), Error>
+    requires { AreCompactable (map arc_value runs.now) }
+    // The tables hold what is kept of all entries together, one behind another, and stand in order.
+    ensures run { let rules = rules_by gc_seqno_threshold evict_tombstones zero_seqnos in
+        (lists : List (List (List Entry))) → RunsHoldLists (map arc_value runs.now) lists →
+        let left = kept_in rules lists in
+        IfOk result (λ r. MatchOption r.0 (left ≡ []) (λ run. IsRunOfList left 0 run)) }
+    // What is kept is cut by the target, and the tables' ids run on.
+    ensures cut { let rules = rules_by gc_seqno_threshold evict_tombstones zero_seqnos in
+        (lists : List (List (List Entry))) → RunsHoldLists (map arc_value runs.now) lists →
+        IfOk result (λ r. IfSome r.0 (λ run.
+        AreCutOf (run_label ids target_size created_at) target_size (kept_in rules lists) 0 run)) }
+    ensures ids { IfOk result (λ r.
+        r.1 ≡ ids_behind ids target_size (option_map_or length r.0 0)) }
+    // The run may be compacted again.
+    ensures able { IfOk result (λ r. IfSome r.0 (λ run. AreCompactable (run ∷ []))) }
+    // Memory aside, the refusal is the first: of the counter, of the entries that are kept in order, of the last table.
+    ensures refused { let rules = rules_by gc_seqno_threshold evict_tombstones zero_seqnos in
+        (lists : List (List (List Entry))) → RunsHoldLists (map arc_value runs.now) lists →
+        Faults result (tables_fault ids target_size created_at (kept_in rules lists)) }
+    // Where the tables fit, with an id left for each, it is refused for want of memory alone.
+    ensures taken { let rules = rules_by gc_seqno_threshold evict_tombstones zero_seqnos in
+        (lists : List (List (List Entry))) → RunsHoldLists (map arc_value runs.now) lists →
+        FitsAsTables ids target_size (kept_in rules lists) → IfErr result (λ e. e ≡ OutOfMemory) }
+{
+    let writer = MultiWriter::new(alloc.clone()?, ids, target_size, 0, created_at)?;
+    let (tables, left) = compact_runs(
+        alloc.clone()?,
+        runs,
+        gc_seqno_threshold,
+        evict_tombstones,
+        zero_seqnos,
+        writer,
+    )?;
+    Ok((run_of_tables(alloc, tables)?, left))
 }
 
 // Compacts a run alone into tables, and puts these in a run; none where nothing is kept.

@@ -15,7 +15,7 @@ mod written;
 
 pub use chain::{read_run_back, write_run};
 pub use compact::{compact_runs, compaction_law};
-pub use compacted::compact_run_back;
+pub use compacted::{compact_run_back, compact_to_run};
 pub use lsm_readers::{
     BlockIndex, BlockIndexImpl, BlockIndexIter, BlockIndexIterImpl, Bound, FullBlockIndex,
     GlobalTableId, Inner, Iter, OwnedDataBlockIter, OwnedIndexBlockIter, ParsedMeta, ParsedRegions,
