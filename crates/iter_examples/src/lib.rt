@@ -2,4 +2,6 @@
 #![tactic(auto)]
 
 #[cfg(test)]
+mod one_answer;
+#[cfg(test)]
 mod ranges;

@@ -5,6 +5,7 @@ mod bounds;
 mod chain;
 mod compact;
 mod compacted;
+mod one_answer;
 mod pack;
 mod run_reader;
 mod run_scanner;
@@ -22,6 +23,7 @@ pub use lsm_readers::{
     PinnedBlockIndex, Scanner, Table, TableId, TableInner, Timestamp, TreeId, TwoLevelBlockIndex,
     VolatileBlockIndex, point_in,
 };
+pub use one_answer::read_each_way;
 pub use pack::{pack_runs, packing_law};
 pub use run_reader::RunReader;
 pub use run_scanner::RunScanner;

@@ -1,0 +1,42 @@
+//! All reads of one table.
+ghost use Rattle.std.specs.Prelude.{◌≡◌, [], IfErr, IfOk, List};
+ghost use Rattle.sst_entries.specs.declared.error.Error.TheVariants.{OutOfMemory};
+ghost use Rattle.lsm_readers.specs.Words.{DealsAll, DealsWithin, Entry, IsTable};
+ghost use Rattle.lsm_tables.specs.Written.{ReadsList};
+
+use crate::{Iter, Scanner, Table};
+use sst_blocks::{Error, InternalValue, SeqNo, UserKey};
+use std::alloc::Allocator;
+use std::ops::Bound;
+
+/// What each read of a table gives: a point read, the entries within two bounds from both ends, all entries from both ends, and
+/// a scan.
+///
+/// Of a table of a list these are the list's, its numbers lifted by the global number, and nothing else of the table has a say
+/// in it: whichever index and filter it was written with, in one block or in partitions, whichever of their blocks stay loaded,
+/// of whichever sizes its blocks are and in whichever version it is stored. So two tables of one list answer alike. Refused with
+/// the first fault of a block that the point read or the scan loads first, and [`Error::OutOfMemory`].
+pub fn read_each_way<A: Allocator + Clone>(
+    table: &Table<A>,
+    key: &[u8],
+    seqno: SeqNo,
+    lower: Bound<UserKey<A>>,
+    upper: Bound<UserKey<A>>,
+) -> Result<(Option<InternalValue<A>>, Iter<A>, Iter<A>, Scanner<A>), Error>
+    ensures list { let gives = ⟦<Iter<A> as Iterator>⟧.next_gives in
+        let back_gives = ⟦<Iter<A> as DoubleEndedIterator>⟧.next_back_gives in
+        let g = table.now.global_seqno in
+        (es : List Entry) → IsTable table.now.bytes es → IfOk result (λ read.
+        ReadsList es g key.now seqno read.0 read.3
+        × DealsWithin gives back_gives lower upper es g read.1
+        × DealsAll gives back_gives es g read.2) }
+    // Where the list has an entry, it is refused for want of memory alone.
+    ensures err { (es : List Entry) → IsTable table.now.bytes es → (es ≡ [] → ⊥) →
+        IfErr result (λ e. e ≡ OutOfMemory) }
+{
+    let found = table.get(key, seqno, Table::<A>::key_hash(key))?;
+    let range = table.range(lower, upper)?;
+    let all = table.iter()?;
+    let scan = table.scan()?;
+    Ok((found, range, all, scan))
+}
