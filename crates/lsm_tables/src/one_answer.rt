@@ -9,6 +9,39 @@ use sst_blocks::{Error, InternalValue, SeqNo, UserKey};
 use std::alloc::Allocator;
 use std::ops::Bound;
 
+// The entries within two bounds, and all.
+fn ranges_of<A: Allocator + Clone>(
+    table: &Table<A>,
+    lower: Bound<UserKey<A>>,
+    upper: Bound<UserKey<A>>,
+) -> Result<(Iter<A>, Iter<A>), Error>
+    ensures list { let gives = ⟦<Iter<A> as Iterator>⟧.next_gives in
+        let back_gives = ⟦<Iter<A> as DoubleEndedIterator>⟧.next_back_gives in
+        let g = table.now.global_seqno in
+        (es : List Entry) → IsTable table.now.bytes es → IfOk result (λ ranges.
+        DealsWithin gives back_gives lower upper es g ranges.0
+        × DealsAll gives back_gives es g ranges.1) }
+    ensures err { IfErr result (λ e. e ≡ OutOfMemory) }
+{
+    let range = table.range(lower, upper)?;
+    Ok((range, table.iter()?))
+}
+
+// What a point read finds, and a scan.
+fn read_and_scan<A: Allocator + Clone>(
+    table: &Table<A>,
+    key: &[u8],
+    seqno: SeqNo,
+) -> Result<(Option<InternalValue<A>>, Scanner<A>), Error>
+    ensures list { (es : List Entry) → IsTable table.now.bytes es → IfOk result (λ read.
+        ReadsList es table.now.global_seqno key.now seqno read.0 read.1) }
+    ensures err { (es : List Entry) → IsTable table.now.bytes es → (es ≡ [] → ⊥) →
+        IfErr result (λ e. e ≡ OutOfMemory) }
+{
+    let found = table.get(key, seqno, Table::<A>::key_hash(key))?;
+    Ok((found, table.scan()?))
+}
+
 /// What each read of a table gives: a point read, the entries within two bounds from both ends, all entries from both ends, and
 /// a scan.
 ///
@@ -34,9 +67,7 @@ pub fn read_each_way<A: Allocator + Clone>(
     ensures err { (es : List Entry) → IsTable table.now.bytes es → (es ≡ [] → ⊥) →
         IfErr result (λ e. e ≡ OutOfMemory) }
 {
-    let found = table.get(key, seqno, Table::<A>::key_hash(key))?;
-    let range = table.range(lower, upper)?;
-    let all = table.iter()?;
-    let scan = table.scan()?;
+    let (range, all) = ranges_of(table, lower, upper)?;
+    let (found, scan) = read_and_scan(table, key, seqno)?;
     Ok((found, range, all, scan))
 }
