@@ -120,7 +120,7 @@ all_each i many o h = record { data_few = omega (arith, h.data_few); index_few =
 abbrev pub found_is : Option Entry → Result (Option Entry) Error
 found_is found = Ok found
 
-abbrev refused_by : Error → Result (Option Entry) Error
+abbrev pub refused_by : Error → Result (Option Entry) Error
 refused_by e = Err e
 
 module _ {X : Type 0} (f : X → List OpenTable) (key : List ℕ) (bound : ℕ) (xs : List X) (i : ℕ) where
