@@ -13,10 +13,7 @@ use Rattle.lsm_tables.specs.Compacted.{AreCompactable, HaveEntries}
 use Rattle.lsm_tables.specs.RunLists.{HoldLists, HoldsList}
 use Rattle.lsm_tables.proofs.OneList.{one_list}
 use Rattle.lsm_tables.proofs.RunBack.{run_held, union_is}
-
-some_length : (es : List Entry) → (es ≡ [] → ⊥) → 0 < length es
-some_length [] some = absurd (some refl)
-some_length (e ∷ es) some = omega arith
+use Rattle.lsm_tables.proofs.RunWriting.{some_length}
 
 one_some : (label : Label) (us : List Entry) (g : ℕ) (t : OpenTable) (es : List Entry) → IsOpenedOf label us g t → HoldsList t es → 0 < length es
 one_some label us g t es o h =

@@ -10,6 +10,7 @@ pub mod Rising
 pub mod Leading
 pub mod RunPoints
 pub mod RunLoops
+pub mod RunReads
 pub mod Together
 pub mod ScanSteps
 pub mod RunWriting

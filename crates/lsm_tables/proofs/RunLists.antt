@@ -8,7 +8,7 @@ use Rattle.sst_entries.specs.Stream.{back_of, front_of, ok_results}
 use Rattle.lsm_block_indexes.specs.Dealt.{DealsEnding}
 use Rattle.lsm_files.specs.Chunks.{joined}
 use Rattle.lsm_iters.specs.Range.{Range}
-use Rattle.lsm_ranges.specs.Run.{are_in_order, overlap_indexes}
+use Rattle.lsm_ranges.specs.Run.{ArePlacesOf, are_in_order, overlap_indexes}
 use Rattle.lsm_readers.specs.Table.{OpenTable}
 use Rattle.lsm_tables.specs.RunLists.{DealsList, HoldLists}
 use Rattle.lsm_tables.specs.RunParts.{Part, Span, parts_at, ranges_of, span_of, span_parts}
@@ -28,6 +28,18 @@ module _ {A : Type 0} (ts : List OpenTable) (span : Span) (s : RunRange A) (is :
 
   pub new_few : OpensAtMost (RunGives front_of front_tables) (RunGives back_of back_tables) (span.last + 1 - span.first) s
   new_few = opens_few (span.last + 1 - span.first) s (omega (arith, is.opened, ap length is.parts, few_between (parts_at span 0 ts) span.first (suc span.last)))
+
+module _ {A : Type 0} (low high : Bound (List ℕ)) (ts : List OpenTable) (ends : ℕ × ℕ) (s : RunRange A) (is : IsRunOf ts (span_of ends low high) s) where
+  -- of the tables that were found
+  pub few_found : (found : Option (ℕ × ℕ)) (others : ℕ × ℕ) → found ≡ Some ends → found ≡ Some others → OpensAtMost (RunGives front_of front_tables) (RunGives back_of back_tables) (others.1 + 1 - others.0) s
+  few_found found others told same =
+      let one : Some ends ≡ Some others = sym told ∙ same in
+      let are : ends ≡ others = cc in
+      subst (λ (e : ℕ × ℕ). OpensAtMost (RunGives front_of front_tables) (RunGives back_of back_tables) (e.1 + 1 - e.0) s) are (new_few ts (span_of ends low high) s is)
+
+  -- of all tables
+  pub few_all : ArePlacesOf ts ends → OpensAtMost (RunGives front_of front_tables) (RunGives back_of back_tables) (length ts) s
+  few_all places asked rs t runs = let few = new_few ts (span_of ends low high) s is asked rs t runs in omega (arith, few, places.1)
 
 module _ {A : Type 0} (low high : Bound (List ℕ)) (ts : List OpenTable) (ls : List (List Entry)) (h : HoldLists ts ls) (order : are_in_order (ranges_of ts) ≡ true) where
   pub new_deals : (ends : ℕ × ℕ) → overlap_indexes low high (ranges_of ts) ≡ Some ends → (s : RunRange A) → IsRunOf ts (span_of ends low high) s → DealsList (RunGives front_of front_tables) (RunGives back_of back_tables) (within low high (joined ls)) s

@@ -22,7 +22,7 @@ use Rattle.lsm_readers.specs.Table.{OpenTable}
 use Rattle.lsm_readers.proofs.FilePoints.{file_answers}
 use Rattle.lsm_tables.specs.RunLists.{HoldLists, HoldsList, RunsHoldLists}
 use Rattle.lsm_tables.specs.RunParts.{range_of, ranges_of}
-use Rattle.lsm_tables.specs.SeveralRuns.{leading_of, run_told, runs_told, table_told, union_in}
+use Rattle.lsm_tables.specs.SeveralRuns.{leading_of, run_read, runs_told, table_read, union_in}
 use Rattle.lsm_tables.proofs.Leading.{leading_assoc, leading_last, leading_sorted}
 use Rattle.lsm_tables.proofs.Rising.{ascends_of, run_strict}
 use Rattle.lsm_tables.proofs.RunWithin.{Keys, held_keys}
@@ -76,9 +76,9 @@ module _ (key : List ℕ) (bound : ℕ) where
       ∙ ap (λ (xs : List Entry). Ok (point xs key bound)) (sym h.lifted_is)
 
   abbrev by_first : OpenTable → List OpenTable → Bool → Result (Option Entry) Error
-  by_first t ts b = table_told key bound (cond b (Some t) (table_of_key range_of key ts))
+  by_first t ts b = (table_read key bound (cond b (Some t) (table_of_key range_of key ts))).told
 
-  run_point : (ts : List OpenTable) (ls : List (List Entry)) → HoldLists ts ls → are_in_order (ranges_of ts) ≡ true → run_told key bound ts ≡ Ok (point (joined ls) key bound)
+  run_point : (ts : List OpenTable) (ls : List (List Entry)) → HoldLists ts ls → are_in_order (ranges_of ts) ≡ true → (run_read key bound ts).told ≡ Ok (point (joined ls) key bound)
   unfolding point
   run_point [] [] h order = refl
   run_point [] (es ∷ ls) h order = absurd h

@@ -42,26 +42,26 @@ use Rattle.lsm_tables.specs.Written.{number_fault}
 
 -- ---- the ids of a writer of many tables
 
-no_end : (t : List Entry) (e : Entry) → t ++ e ∷ [] ≡ [] → ⊥
+pub no_end : (t : List Entry) (e : Entry) → t ++ e ∷ [] ≡ [] → ⊥
 no_end [] e h = cc
 no_end (x ∷ t) e h = cc
 
-some_length : (es : List Entry) → (es ≡ [] → ⊥) → 0 < length es
+pub some_length : (es : List Entry) → (es ≡ [] → ⊥) → 0 < length es
 some_length [] some = absurd (some refl)
 some_length (e ∷ es) some = omega arith
 
 one_more : (ts : List (List Entry)) (t : List Entry) → (t ≡ [] → ⊥) → length (ts ++ rest_chunk t) ≡ length ts + 1
 one_more ts t some = ap (λ (c : List (List Entry)). length (ts ++ c)) (rest_is t (some_length t some)) ∙ length-append ts (t ∷ [])
 
-nothing_last : last_of None [] ≡ None
+pub nothing_last : last_of None [] ≡ None
 unfolding last_of
 nothing_last = refl
 
-first_is : (fault : Option ℕ) → ids_fault fault ≡ None → (first : ℕ) × (fault ≡ Some first)
+pub first_is : (fault : Option ℕ) → ids_fault fault ≡ None → (first : ℕ) × (fault ≡ Some first)
 first_is None h = absurd cc
 first_is (Some first) h = (first, refl)
 
-next_by : (id first : ℕ) (b : Bool) → nat_lt id (2 ^ 64 - 1) ≡ b → next_id id ≡ Some first → first ≡ id + 1
+pub next_by : (id first : ℕ) (b : Bool) → nat_lt id (2 ^ 64 - 1) ≡ b → next_id id ≡ Some first → first ≡ id + 1
 next_by id first true is h = let n : Some (id + 1) ≡ Some first = sym (rw is refl) ∙ h in cc
 next_by id first false is h = let n : None ≡ Some first = sym (rw is refl) ∙ h in absurd cc
 
@@ -91,16 +91,16 @@ new_draws (Some first) target moment m is fine =
 due_fresh : (target : ℕ) (label : Label) (e : Entry) → is_due target (fresh_writing label default_options) e ≡ nat_le target 0
 due_fresh target label e = rw nothing_last refl
 
-first_at : (target first : ℕ) → target ≡ 0 → first_id target first ≡ first + 1
+pub first_at : (target first : ℕ) → target ≡ 0 → first_id target first ≡ first + 1
 first_at target first none = ap (λ (t : ℕ). first_id t first) none
 
-first_else : (target first : ℕ) → 0 < target → first_id target first ≡ first
+pub first_else : (target first : ℕ) → 0 < target → first_id target first ≡ first
 first_else target first some = elim (cases_Bool (target == 0)) [
   | inl e ↦ absurd (let none : target ≡ 0 = eqb-true _ _ e in omega (arith, none, some))
   | inr e ↦ rw e refl
 ]
 
-left_none : (a b : Option Error) → option_or a b ≡ None → a ≡ None
+pub left_none : (a b : Option Error) → option_or a b ≡ None → a ≡ None
 left_none None b h = refl
 left_none (Some x) b h = absurd cc
 
@@ -184,7 +184,7 @@ module _ (ids : Option ℕ) (target moment : ℕ) (m : TablesWriting) (e : Entry
 
 -- ---- the tables of a writer that has taken its list
 
-other_label : {A : Type 0} (options : Options) (k l : Label) (ts : List (List Entry)) (fs : List (FinishedTable A)) → ts ≡ [] → AreFinished options k ts fs → AreFinished options l ts fs
+pub other_label : {A : Type 0} (options : Options) (k l : Label) (ts : List (List Entry)) (fs : List (FinishedTable A)) → ts ≡ [] → AreFinished options k ts fs → AreFinished options l ts fs
 other_label options k l [] [] none h = tt
 other_label options k l [] (f ∷ fs) none h = absurd h
 other_label options k l (t ∷ ts) fs none h = absurd cc
@@ -336,7 +336,7 @@ module _ {A : Type 0} (g : ℕ) where
 
 -- ---- the run
 
-many_opened : (label : Label) (lists : List (List Entry)) (g : ℕ) (ts : List OpenTable) → AreOpened label lists g ts → length lists ≡ length ts
+pub many_opened : (label : Label) (lists : List (List Entry)) (g : ℕ) (ts : List OpenTable) → AreOpened label lists g ts → length lists ≡ length ts
 many_opened label [] g [] h = refl
 many_opened label [] g (t ∷ ts) h = absurd h
 many_opened label (es ∷ ls) g [] h = absurd h

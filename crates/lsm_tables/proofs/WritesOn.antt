@@ -11,7 +11,7 @@ use Rattle.lsm_merge.specs.Ends.{R}
 use Rattle.lsm_writers.specs.Tables.{TablesWriting, all_written, run_fault, took, took_fault}
 use Rattle.lsm_writers.specs.Writing.{IsWritable, may_be_written}
 use Rattle.lsm_writers.proofs.ListWriting.{listed_follows}
-use Rattle.lsm_tables.specs.Compacted.{tables_fault}
+use Rattle.lsm_tables.specs.Chain.{writes_fault}
 use Rattle.lsm_tables.specs.RunLists.{DealsList}
 
 -- a counted fault, where the first entry is refused, or where it is not
@@ -59,7 +59,7 @@ module _ {S : Type 0} (next : S → Option R → S → Type 0) where
     pub rest : List Entry
     pub whole : es ≡ all_written m ++ rest
     pub deals : DealsRest rest s
-    pub fault : tables_fault w es ≡ tables_fault m rest
+    pub fault : writes_fault w es ≡ writes_fault m rest
 
   pub nothing_written_yet : (w : TablesWriting) (es : List Entry) (s : S) → all_written w ≡ [] → DealsRest es s → WritesOn w es w s
   nothing_written_yet w es s none d = record { rest = es; whole = ap (λ (xs : List Entry). xs ++ es) (sym none); deals = d; fault = refl }
@@ -74,19 +74,19 @@ module _ {S : Type 0} (next : S → Option R → S → Type 0) where
     pub may_follow_on : IsWritable es → IsTrue (may_be_written (all_written m) e.user_key e.seqno)
     may_follow_on writable = listed_follows (all_written m) e one.0 (subst IsWritable whole_one writable)
 
-    fault_one : tables_fault w es ≡ option_or (took_fault m e) (tables_fault (took m e) one.0)
-    fault_one = h.fault ∙ ap (tables_fault m) one.1
+    fault_one : writes_fault w es ≡ option_or (took_fault m e) (writes_fault (took m e) one.0)
+    fault_one = h.fault ∙ ap (writes_fault m) one.1
 
     pub writes_more : (n : TablesWriting) → n ≡ took m e → took_fault m e ≡ None → all_written n ≡ all_written m ++ e ∷ [] → WritesOn w es n t
     writes_more n is fine listed = record {
       rest = one.0;
       whole = whole_one ∙ sym (ap (λ (xs : List Entry). xs ++ one.0) listed ∙ append_assoc (all_written m) (e ∷ []) one.0);
       deals = one.2;
-      fault = fault_one ∙ none_refused (took_fault m e) (tables_fault (took m e) one.0) fine ∙ ap (λ (x : TablesWriting). tables_fault x one.0) (sym is);
+      fault = fault_one ∙ none_refused (took_fault m e) (writes_fault (took m e) one.0) fine ∙ ap (λ (x : TablesWriting). writes_fault x one.0) (sym is);
     }
 
-    pub refused_one : (f : Error) → took_fault m e ≡ Some f → tables_fault w es ≡ Some f
-    refused_one f is = fault_one ∙ first_refused (took_fault m e) (tables_fault (took m e) one.0) f is
+    pub refused_one : (f : Error) → took_fault m e ≡ Some f → writes_fault w es ≡ Some f
+    refused_one f is = fault_one ∙ first_refused (took_fault m e) (writes_fault (took m e) one.0) f is
 
   module _ (w : TablesWriting) (es : List Entry) (m : TablesWriting) (s t : S) (h : WritesOn w es m s) (step : next s None t) where
     none_left : h.rest ≡ []
@@ -95,5 +95,5 @@ module _ {S : Type 0} (next : S → Option R → S → Type 0) where
     pub all_taken : all_written m ≡ es
     all_taken = sym (h.whole ∙ ap (λ (xs : List Entry). all_written m ++ xs) none_left ∙ append-nil (all_written m))
 
-    pub fault_left : tables_fault w es ≡ run_fault m
-    fault_left = h.fault ∙ ap (tables_fault m) none_left
+    pub fault_left : writes_fault w es ≡ run_fault m
+    fault_left = h.fault ∙ ap (writes_fault m) none_left

@@ -1,5 +1,5 @@
 -- A writer that had written nothing: its labels, its counter and its tables once it has taken a list.
-use Rattle.std.proofs.Common.{◌≡◌, refl, sym, ◌∙◌, ap, subst, ℕ, zero, suc, ◌+◌, ◌-◌, ◌^◌, ◌<◌, ◌==◌, Bool, true, false, cond, List, [], ◌∷◌, ◌++◌, length, ◌⊎◌, inl, inr, arith, length-append}
+use Rattle.std.proofs.Common.{◌≡◌, refl, sym, ◌∙◌, ap, subst, ℕ, zero, suc, ◌+◌, ◌-◌, ◌^◌, ◌<◌, ◌==◌, Bool, true, false, cond, List, [], ◌∷◌, ◌++◌, length, ◌⊎◌, inl, inr, arith, length-append, le-ltb, ltb-false}
 use Rattle.std.specs.Prelude.{Option, Some, None, nat_le, nat_lt}
 use Rattle.std.specs.Option.{option_or}
 use Rattle.std.proofs.lemmas.Bool.{cases_Bool, eqb-true, leb-false, leb-true}
@@ -17,47 +17,16 @@ use Rattle.lsm_writers.specs.Tables.{AreFinished, AreInKeyOrder, AreTables, IsFr
 use Rattle.lsm_writers.specs.Writing.{IsWritable, Writing, fresh_writing, gained, write_fault, written}
 use Rattle.lsm_writers.proofs.Cutting.{rest_is}
 use Rattle.lsm_writers.proofs.ListWriting.{same_label, written_gained}
-use Rattle.lsm_tables.specs.Compacted.{AreWrittenBy, FitsBy, RunsOn, begun_behind, drawn_often, first_written, tables_fault}
+use Rattle.lsm_tables.specs.Chain.{ids_behind, writes_fault}
+use Rattle.lsm_tables.specs.Compacted.{AreWrittenBy, FitsBy, RunsOn, begun_behind, drawn_often, first_written}
+use Rattle.lsm_tables.proofs.RunWriting.{first_at, first_else, first_is, left_none, next_by, no_end, nothing_last, other_label, some_length}
 
 -- ---- small facts
-
-no_end : (t : List Entry) (e : Entry) → t ++ e ∷ [] ≡ [] → ⊥
-no_end [] e h = cc
-no_end (x ∷ t) e h = cc
-
-some_length : (es : List Entry) → (es ≡ [] → ⊥) → 0 < length es
-some_length [] some = absurd (some refl)
-some_length (e ∷ es) some = omega arith
 
 one_more : (ts : List (List Entry)) (t : List Entry) → (t ≡ [] → ⊥) → length (ts ++ rest_chunk t) ≡ suc (length ts)
 one_more ts t some =
     ap (λ (c : List (List Entry)). length (ts ++ c)) (rest_is t (some_length t some)) ∙ length-append ts (t ∷ [])
     ∙ (let e : length ts + 1 ≡ suc (length ts) = omega arith in e)
-
-nothing_last : last_of None [] ≡ None
-unfolding last_of
-nothing_last = refl
-
-left_none : (a b : Option Error) → option_or a b ≡ None → a ≡ None
-left_none None b h = refl
-left_none (Some x) b h = absurd cc
-
-first_is : (ids : Option ℕ) → ids_fault ids ≡ None → (first : ℕ) × (ids ≡ Some first)
-first_is None h = absurd cc
-first_is (Some first) h = (first, refl)
-
-next_by : (id first : ℕ) (b : Bool) → nat_lt id (2 ^ 64 - 1) ≡ b → next_id id ≡ Some first → first ≡ id + 1
-next_by id first true is h = let n : Some (id + 1) ≡ Some first = sym (rw is refl) ∙ h in cc
-next_by id first false is h = let n : None ≡ Some first = sym (rw is refl) ∙ h in absurd cc
-
-first_at : (target first : ℕ) → target ≡ 0 → first_id target first ≡ first + 1
-first_at target first none = ap (λ (t : ℕ). first_id t first) none
-
-first_else : (target first : ℕ) → 0 < target → first_id target first ≡ first
-first_else target first some = elim (cases_Bool (target == 0)) [
-  | inl e ↦ absurd (let none : target ≡ 0 = eqb-true _ _ e in omega (arith, none, some))
-  | inr e ↦ rw e refl
-]
 
 begun_at : (target n : ℕ) → target ≡ 0 → begun_behind target n ≡ n
 begun_at target n none = ap (λ (t : ℕ). begun_behind t n) none
@@ -243,11 +212,6 @@ module _ (w m : TablesWriting) (fresh : IsFreshRun w) (e : Entry) (h : Since w m
 
 -- ---- the tables at the end
 
-other_label : {A : Type 0} (options : Options) (k l : Label) (ts : List (List Entry)) (fs : List (FinishedTable A)) → ts ≡ [] → AreFinished options k ts fs → AreFinished options l ts fs
-other_label options k l [] [] none h = tt
-other_label options k l [] (f ∷ fs) none h = absurd h
-other_label options k l (t ∷ ts) fs none h = absurd cc
-
 module _ {A : Type 0} (w m : TablesWriting) (fresh : IsFreshRun w) (next : RunsOn w) (h : Since w m) (es : List Entry) (fs : List (FinishedTable A)) (left : Option ℕ) where
   numbered : left ≡ m.ids → AreFinished w.present.options (first_label m) (tables_of m) fs → (m ≡ w) ⊎ Going w m → AreFinished w.present.options (first_written w) (tables_of m) fs × (left ≡ drawn_often (begun_behind w.target (length (tables_of m))) w.ids)
   numbered is finished (inl same) =
@@ -293,13 +257,44 @@ fresh_is w fresh next =
     ∙ ap (λ (q : Writing). let x : TablesWriting = record { target = t; ids = w.ids; tables = w.tables; present = q; failed = false } in x) (sym (present_is w fresh))
     ∙ ap (λ (b : Bool). let x : TablesWriting = record { target = t; ids = w.ids; tables = w.tables; present = w.present; failed = b } in x) (sym fresh.2)
 
-none_taken : (ts : List (List Entry)) (label : Label) (m : TablesWriting) (es : List Entry) → Takes ts label m es → tables_fault m es ≡ None
+none_taken : (ts : List (List Entry)) (label : Label) (m : TablesWriting) (es : List Entry) → Takes ts label m es → writes_fault m es ≡ None
 none_taken ts label m [] h = h.finishes
-none_taken ts label m (e ∷ es) h = ap (λ (o : Option Error). option_or o (tables_fault (took m e) es)) h.1 ∙ none_taken ts label (took m e) es h.2
+none_taken ts label m (e ∷ es) h = ap (λ (o : Option Error). option_or o (writes_fault (took m e) es)) h.1 ∙ none_taken ts label (took m e) es h.2
 
-pub fits_none : (w : TablesWriting) (es : List Entry) → TakesLaw → IsFreshRun w → RunsOn w → IsWritable es → FitsBy w es → tables_fault w es ≡ None
+pub fits_none : (w : TablesWriting) (es : List Entry) → TakesLaw → IsFreshRun w → RunsOn w → IsWritable es → FitsBy w es → writes_fault w es ≡ None
 fits_none w es law fresh next writable fits =
     let label = w.present.label in
     let takes = law label.table_id w.target label.initial_level label.created_at w.present.options es fits.tables writable fits.cut fits.fit fits.left in
     none_taken fits.tables (label_of (first_id w.target label.table_id) label.initial_level label.created_at) w es
     (subst (λ (x : TablesWriting). Takes fits.tables (label_of (first_id w.target label.table_id) label.initial_level label.created_at) x es) (fresh_is w fresh next) takes)
+
+-- ---- the counter behind the tables of a new writer
+
+-- drawing once more gives what is behind the next id, where there is one or not
+drawn_next : (id : ℕ) (b : Bool) → nat_lt id (2 ^ 64 - 1) ≡ b → drawn (next_id id) ≡ next_id (id + 1)
+drawn_next id true is = rw is refl
+drawn_next id false is =
+    let past : nat_lt (id + 1) (2 ^ 64 - 1) ≡ false = le-ltb _ _ (omega (arith, ltb-false _ _ is)) in
+    rw (is, past) refl
+
+drawn_all : (n id : ℕ) → drawn_often n (next_id id) ≡ next_id (id + n)
+drawn_all zero id = ap next_id (let k : id ≡ id + 0 = omega arith in k)
+drawn_all (suc n) id =
+    ap drawn (drawn_all n id) ∙ drawn_next (id + n) _ refl ∙ ap next_id (let k : id + n + 1 ≡ id + suc n = omega arith in k)
+
+drawn_behind : (target first n : ℕ) → drawn_often (begun_behind target n) (next_id first) ≡ ids_behind (Some first) target n
+drawn_behind target first zero = ap (λ (k : ℕ). drawn_often k (next_id first)) (begun_none target)
+drawn_behind target first (suc n) = elim (cases_Bool (target == 0)) [
+  | inl e ↦
+      let none : target ≡ 0 = eqb-true _ _ e in
+      let id : first + suc n ≡ first_id target first + n = omega (arith, first_at target first none) in
+      ap (λ (k : ℕ). drawn_often k (next_id first)) (begun_at target (suc n) none) ∙ drawn_all (suc n) first ∙ ap next_id id
+  | inr e ↦
+      let begun : begun_behind target (suc n) ≡ n = rw e (let k : suc n - 1 ≡ n = omega arith in k) in
+      let id : first + n ≡ first_id target first + n = ap (λ (k : ℕ). k + n) (rw e refl) in
+      ap (λ (k : ℕ). drawn_often k (next_id first)) begun ∙ drawn_all n first ∙ ap next_id id
+]
+
+pub behind_new : (ids : Option ℕ) (target n : ℕ) → ids_fault ids ≡ None → drawn_often (begun_behind target n) (drawn ids) ≡ ids_behind ids target n
+behind_new None target n fine = absurd cc
+behind_new (Some first) target n fine = drawn_behind target first n

@@ -1,7 +1,6 @@
 -- Several runs that are compacted: what is kept of them, and the tables that a writer makes of it.
 use Rattle.std.specs.Prelude.{◌≡◌, ℕ, Bool, zero, suc, ◌+◌, ◌-◌, ◌^◌, ◌<◌, ◌≤◌, ◌==◌, List, [], ◌∷◌, length, Option, Result, if◌then◌else◌}
 use Rattle.std.specs.List.{AllByRecursion}
-use Rattle.std.specs.Option.{option_or}
 use Rattle.sst_entries.specs.declared.error.Error.{Error}
 use Rattle.sst_entries.specs.Entry.{Entry}
 use Rattle.sst_entries.specs.Stream.{nowhere}
@@ -9,7 +8,7 @@ use Rattle.sst_entries.specs.Strict.{IsStrict}
 use Rattle.lsm_files.specs.declared.label.Label.{Label}
 use Rattle.lsm_sorted.specs.Compaction.{Rules, kept, unfiltered}
 use Rattle.lsm_writers.specs.declared.writer.FinishedTable.{FinishedTable}
-use Rattle.lsm_writers.specs.Tables.{AreFinished, AreInKeyOrder, AreTables, TableFits, TablesWriting, drawn, first_id, next_id, run_fault, took, took_fault}
+use Rattle.lsm_writers.specs.Tables.{AreFinished, AreInKeyOrder, AreTables, TableFits, TablesWriting, drawn, first_id, next_id}
 use Rattle.lsm_writers.specs.Writing.{IsWritable}
 use Rattle.lsm_readers.specs.Table.{OpenTable}
 use Rattle.lsm_tables.specs.RunLists.{DealsList, RunsHoldLists}
@@ -71,11 +70,6 @@ pub record AreWrittenBy {A : Type 0} (w : TablesWriting) (es : List Entry) (fs :
   pub order : AreInKeyOrder lists
   pub finished : AreFinished w.present.options (first_written w) lists fs
   pub left_is : left ≡ drawn_often (begun_behind w.target (length lists)) w.ids
-
--- the first fault of writing entries one by one and then finishing
-abbrev pub tables_fault : TablesWriting → List Entry → Option Error
-tables_fault w [] = run_fault w
-tables_fault w (e ∷ es) = option_or (took_fault w e) (tables_fault (took w e) es)
 
 -- a list whose tables fit, where an id is left for each
 pub record FitsBy (w : TablesWriting) (es : List Entry) : Type 0 where

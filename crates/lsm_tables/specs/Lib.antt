@@ -8,3 +8,4 @@ pub mod Chain
 pub mod Packed
 pub mod Compacted
 pub mod ReadsCompacted
+pub mod Words

@@ -3,21 +3,13 @@ ghost use Rattle.std.specs.Prelude.{◌≡◌, ◌+◌, ◌^◌, ◌<◌, [], le
 ghost use Rattle.std.specs.List.{AllByRecursion};
 ghost use Rattle.std.specs.Option.{option_map_or};
 ghost use Rattle.sst_entries.specs.declared.error.Error.TheVariants.{OutOfMemory};
-ghost use Rattle.sst_entries.specs.Entry.{Entry};
-ghost use Rattle.sst_entries.specs.Error.{Faults};
-ghost use Rattle.sst_entries.specs.Point.{point, within};
-ghost use Rattle.sst_entries.specs.Stream.{CanDeal};
 ghost use Rattle.lsm_files.specs.declared.label.Label.{Label};
-ghost use Rattle.lsm_files.specs.Chunks.{joined};
-ghost use Rattle.lsm_files.specs.Facts.{highest_seqno};
-ghost use Rattle.lsm_files.specs.Options.{default_options};
-ghost use Rattle.lsm_merge.specs.Union.{newest};
-ghost use Rattle.lsm_readers.specs.Answer.{lift};
-ghost use Rattle.lsm_writers.specs.Tables.{AreFinished};
-ghost use Rattle.lsm_writers.specs.Writing.{IsTableOf, IsWritable};
-ghost use Rattle.lsm_tables.specs.Chain.{AreCutOf, AreOpened, AreWritten, FitsAsTables, IsOpenedOf, IsRunOfList, chain_fault, ids_behind, run_label, tables_fault};
-ghost use Rattle.lsm_tables.specs.RunLists.{DealsList};
-ghost use Rattle.lsm_tables.specs.Written.{number_fault};
+ghost use Rattle.lsm_tables.specs.Words.{AreCutOf, AreFinished, AreOpened, AreWritten, CanDeal};
+ghost use Rattle.lsm_tables.specs.Words.{DealsList, Entry, Faults, FitsAsTables, IsOpenedOf};
+ghost use Rattle.lsm_tables.specs.Words.{IsRunOfList, IsTableOf, IsWritable, chain_fault};
+ghost use Rattle.lsm_tables.specs.Words.{default_options, highest_seqno, ids_behind, joined, lift};
+ghost use Rattle.lsm_tables.specs.Words.{newest, number_fault, point, run_label, tables_fault};
+ghost use Rattle.lsm_tables.specs.Words.{within};
 
 use crate::{RunReader, Table, Timestamp, get_runs, range_runs};
 use lsm_merge::Merger;

@@ -3,15 +3,11 @@ ghost use Rattle.std.specs.Prelude.{◌≡◌, ◌<◌, IfErr, IfOk, List, lengt
 ghost use Rattle.std.specs.Arc.{arc_value};
 ghost use Rattle.std.specs.Iterator.{IsFinite};
 ghost use Rattle.sst_entries.specs.declared.error.Error.TheVariants.{OutOfMemory};
-ghost use Rattle.sst_entries.specs.Entry.{Entry};
-ghost use Rattle.sst_entries.specs.Error.{Faults};
-ghost use Rattle.sst_entries.specs.Stream.{nowhere};
-ghost use Rattle.lsm_files.specs.Chunks.{joined};
-ghost use Rattle.lsm_writers.specs.Tables.{IsFreshRun};
-ghost use Rattle.lsm_tables.specs.Compacted.{AreCompactable, AreWrittenBy, DealsWritable, FitsBy};
-ghost use Rattle.lsm_tables.specs.Compacted.{HaveEntries, RunsOn, kept_in, rules_by, tables_fault};
 ghost use Rattle.lsm_tables.specs.ReadsCompacted.{PointsStay, RangesStay, SideBySide, StayStrict};
-ghost use Rattle.lsm_tables.specs.RunLists.{DealTogether, DealsList, HoldLists, RunsHoldLists};
+ghost use Rattle.lsm_tables.specs.Words.{AreCompactable, AreWrittenBy, DealTogether, DealsList};
+ghost use Rattle.lsm_tables.specs.Words.{DealsWritable, Entry, Faults, FitsBy, HaveEntries};
+ghost use Rattle.lsm_tables.specs.Words.{HoldLists, IsFreshRun, RunsHoldLists, RunsOn, joined};
+ghost use Rattle.lsm_tables.specs.Words.{kept_in, nowhere, rules_by, writes_fault};
 
 use crate::{RunScanner, Table};
 use lsm_merge::Merger;
@@ -95,7 +91,7 @@ fn write_all<I: Iterator<Item = IterItem<A>> + Drop, A: Allocator + Clone>(
         IfOk result (λ r. AreWrittenBy writer d.list r.0.items r.1) }
     // The stream refuses nothing but for want of memory.
     ensures refused { (d : DealsWritable I.next_gives items) →
-        Faults result (tables_fault writer d.list) }
+        Faults result (writes_fault writer d.list) }
 {
     for item in items {
         writer.write(item?)?;
@@ -130,7 +126,7 @@ pub fn compact_runs<A: Allocator + Clone>(
     // The refusal is the writer's first one: reading refuses nothing but for want of memory.
     ensures refused { let rules = rules_by gc_seqno_threshold evict_tombstones zero_seqnos in
         (lists : List (List (List Entry))) → RunsHoldLists (map arc_value runs.now) lists →
-        Faults result (tables_fault writer (kept_in rules lists)) }
+        Faults result (writes_fault writer (kept_in rules lists)) }
     // Where its tables fit, and an id is left for each, that is for want of memory alone.
     ensures taken { let rules = rules_by gc_seqno_threshold evict_tombstones zero_seqnos in
         (lists : List (List (List Entry))) → RunsHoldLists (map arc_value runs.now) lists →

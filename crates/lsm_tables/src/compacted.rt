@@ -3,18 +3,11 @@ ghost use Rattle.std.specs.Prelude.{◌≡◌, ◌∷◌, ◌+◌, ◌<◌, ◌^
 ghost use Rattle.std.specs.Arc.{arc_value};
 ghost use Rattle.std.specs.Option.{option_map_or};
 ghost use Rattle.sst_entries.specs.declared.error.Error.TheVariants.{OutOfMemory};
-ghost use Rattle.sst_entries.specs.Entry.{Entry};
-ghost use Rattle.sst_entries.specs.Error.{Faults};
-ghost use Rattle.sst_entries.specs.Point.{point, within};
-ghost use Rattle.sst_entries.specs.Stream.{CanDeal};
-ghost use Rattle.lsm_files.specs.Facts.{highest_seqno};
-ghost use Rattle.lsm_merge.specs.Union.{newest};
-ghost use Rattle.lsm_readers.specs.Answer.{lift};
-ghost use Rattle.lsm_sorted.specs.Compaction.{kept, unfiltered};
-ghost use Rattle.lsm_writers.specs.Writing.{IsWritable};
-ghost use Rattle.lsm_tables.specs.Chain.{AreCutOf, AreWritten, FitsAsTables, IsRunOfList, ids_behind, run_label, tables_fault};
-ghost use Rattle.lsm_tables.specs.Compacted.{AreCompactable, kept_in, rules_by};
-ghost use Rattle.lsm_tables.specs.RunLists.{DealsList, RunsHoldLists};
+ghost use Rattle.lsm_tables.specs.Words.{AreCompactable, AreCutOf, AreWritten, CanDeal, DealsList};
+ghost use Rattle.lsm_tables.specs.Words.{Entry, Faults, FitsAsTables, IsRunOfList, IsWritable};
+ghost use Rattle.lsm_tables.specs.Words.{RunsHoldLists, highest_seqno, ids_behind, kept, kept_in};
+ghost use Rattle.lsm_tables.specs.Words.{lift, newest, point, rules_by, run_label, tables_fault};
+ghost use Rattle.lsm_tables.specs.Words.{unfiltered, within};
 
 use crate::chain::open_tables;
 use crate::{RunReader, Table, Timestamp, compact_runs, get_runs, range_runs, write_run};
@@ -35,6 +28,13 @@ fn run_of_tables<A: Allocator + Clone>(
     ensures run { (ids : Option ℕ) (target moment : ℕ) (es : List Entry) (left : Option ℕ) →
         AreWritten ids target moment es tables.items left →
         IfOk result (λ r. MatchOption r (es ≡ []) (λ run. IsRunOfList es 0 run)) }
+    ensures cut { (ids : Option ℕ) (target moment : ℕ) (es : List Entry) (left : Option ℕ) →
+        AreWritten ids target moment es tables.items left →
+        IfOk result (λ r. IfSome r (λ run.
+        AreCutOf (run_label ids target moment) target es 0 run)) }
+    ensures ids { (ids : Option ℕ) (target moment : ℕ) (es : List Entry) (left : Option ℕ) →
+        AreWritten ids target moment es tables.items left →
+        IfOk result (λ r. left ≡ ids_behind ids target (option_map_or length r 0)) }
     ensures taken { (ids : Option ℕ) (target moment : ℕ) (es : List Entry) (left : Option ℕ) →
         AreWritten ids target moment es tables.items left → highest_seqno es + 0 < 2 ^ 64 →
         IfErr result (λ e. e ≡ OutOfMemory) }
@@ -117,18 +117,18 @@ fn compact_alone<A: Allocator + Clone>(
         IfErr result (λ e. e ≡ OutOfMemory) }
 {
     let runs = [Arc::new(alloc.clone()?, run)?];
-    let merging = alloc.clone()?;
     let created_at = Timestamp::from(0);
-    let writer = MultiWriter::new(alloc.clone()?, ids, target_size, 0, created_at)?;
-    let (tables, _) = compact_runs(
-        merging,
+    let (compacted, _) = compact_to_run(
+        alloc,
         &runs,
         gc_seqno_threshold,
         evict_tombstones,
         zero_seqnos,
-        writer,
+        ids,
+        target_size,
+        created_at,
     )?;
-    run_of_tables(alloc, tables)
+    Ok(compacted)
 }
 
 // Writes a list as a run and compacts it; none where nothing is kept.

@@ -27,5 +27,5 @@ pub use one_answer::read_each_way;
 pub use pack::{pack_runs, packing_law};
 pub use run_reader::RunReader;
 pub use run_scanner::RunScanner;
-pub use runs::{get_runs, range_runs};
+pub use runs::{get_runs, get_runs_counted, range_runs};
 pub use written::{read_back, write_and_open};

@@ -1,17 +1,12 @@
 //! Reading the tables of a run one behind another, from both ends.
-ghost use Rattle.std.specs.Prelude.{◌≡◌, ◌-◌, ◌+◌, ℕ, [], None, Some, List, IfOk, IfSome, IsOk, MatchOption, map};
+ghost use Rattle.std.specs.Prelude.{◌≡◌, ◌-◌, ◌+◌, ℕ, [], None, Some, List, IfOk, IfSome, IsOk, MatchOption, length, map};
 ghost use Rattle.std.specs.Arc.{arc_value};
 ghost use Rattle.std.specs.Iterator.{at_most};
-ghost use Rattle.sst_entries.specs.Entry.{Entry};
-ghost use Rattle.sst_entries.specs.Point.{within};
-ghost use Rattle.sst_entries.specs.Stream.{back_of, front_of};
-ghost use Rattle.lsm_block_indexes.specs.Dealt.{DealsEnding};
-ghost use Rattle.lsm_files.specs.Chunks.{joined};
-ghost use Rattle.lsm_ranges.specs.Run.{ArePlacesOf, IsInOrder, overlap_indexes};
-ghost use Rattle.lsm_tables.specs.RunLists.{DealsList, HoldLists};
-ghost use Rattle.lsm_tables.specs.RunParts.{ends_given, span_of};
-ghost use Rattle.lsm_tables.specs.RunRange.{IsRunOf, ItemGives, OpensAtMost, RunGives, back_tables, front_tables};
-ghost use Rattle.lsm_tables.specs.RunRange.{over, run_left, run_size, stopped};
+ghost use Rattle.lsm_tables.specs.Words.{ArePlacesOf, DealsEnding, DealsList, Entry, HoldLists};
+ghost use Rattle.lsm_tables.specs.Words.{IsInOrder, IsRunOf, ItemGives, OpensAtMost, RunGives};
+ghost use Rattle.lsm_tables.specs.Words.{back_of, back_tables, ends_given, front_of, front_tables};
+ghost use Rattle.lsm_tables.specs.Words.{joined, over, overlap_indexes, run_left, run_size};
+ghost use Rattle.lsm_tables.specs.Words.{span_of, stopped, within};
 
 use crate::spans::{ends_in, places_within};
 use crate::unopened::Unopened;
@@ -132,6 +127,18 @@ impl<A: Allocator + Clone> RunReader<A> {
             let found = within range.0 range.1 (joined lists) in
             IfOk result (λ r. MatchOption r (found ≡ [])
             (λ reader. DealsList gives back_gives found reader)) }
+        // On a run in order no more tables are opened than have a range that reaches past both bounds.
+        ensures few { let gives = ⟦<RunReader<A> as Iterator>⟧.next_gives in
+            let back_gives = ⟦<RunReader<A> as DoubleEndedIterator>⟧.next_back_gives in
+            let range_of = ⟦<Table<A> as Ranged>⟧.range in
+            let tables = arc_value run in IsInOrder range_of tables → (ends : ℕ × ℕ) →
+            overlap_indexes range.0 range.1 (map range_of tables) ≡ Some ends → IfOk result (λ r.
+            IfSome r (OpensAtMost gives back_gives (ends.1 + 1 - ends.0))) }
+        // Of any other run, no more than it has.
+        ensures most { let gives = ⟦<RunReader<A> as Iterator>⟧.next_gives in
+            let back_gives = ⟦<RunReader<A> as DoubleEndedIterator>⟧.next_back_gives in
+            let tables = arc_value run in
+            IfOk result (λ r. IfSome r (OpensAtMost gives back_gives (length tables))) }
         ensures ok { IsOk result }
     {
         match places_within(&run, &range) {

@@ -3,17 +3,11 @@ ghost use Rattle.std.specs.Prelude.{◌≡◌, ◌<◌, Err, IfErr, IfOk, List, 
 ghost use Rattle.std.specs.Arc.{arc_value};
 ghost use Rattle.std.specs.Iterator.{at_most};
 ghost use Rattle.std.specs.List.{AllByRecursion};
-ghost use Rattle.sst_entries.specs.Entry.{Entry};
-ghost use Rattle.sst_entries.specs.Error.{is_memory};
-ghost use Rattle.sst_entries.specs.Stream.{first, nowhere};
-ghost use Rattle.lsm_block_indexes.specs.Dealt.{DealsEnding};
-ghost use Rattle.lsm_files.specs.Chunks.{joined};
-ghost use Rattle.lsm_ranges.specs.Run.{ArePlacesOf};
-ghost use Rattle.lsm_readers.specs.Table.{OpenTable};
-ghost use Rattle.lsm_tables.specs.RunLists.{DealsList, HoldLists};
-ghost use Rattle.lsm_tables.specs.RunParts.{ends_given};
-ghost use Rattle.lsm_tables.specs.RunScan.{BeginsNext, BeginsScan, IsScanOf, RunScansNext, ScansItem};
-ghost use Rattle.lsm_tables.specs.RunScan.{over_scan, run_scan_size, stopped_scan, tables_between, tables_scan};
+ghost use Rattle.lsm_tables.specs.Words.{ArePlacesOf, BeginsNext, BeginsScan, DealsEnding};
+ghost use Rattle.lsm_tables.specs.Words.{DealsList, Entry, HoldLists, IsScanOf, OpenTable};
+ghost use Rattle.lsm_tables.specs.Words.{RunScansNext, ScansItem, ends_given, first, is_memory};
+ghost use Rattle.lsm_tables.specs.Words.{joined, nowhere, over_scan, run_scan_size, stopped_scan};
+ghost use Rattle.lsm_tables.specs.Words.{tables_between, tables_scan};
 
 use crate::spans::{ends_in, place_behind};
 use crate::{Scanner, Table};

@@ -1,26 +1,21 @@
 //! Reading several runs as one.
-ghost use Rattle.std.specs.Prelude.{◌≡◌, [], IfOk, IfErr, List, MatchOption, None, Ok, Option, map};
+ghost use Rattle.std.specs.Prelude.{◌≡◌, [], IfOk, IfErr, List, MatchOption, None, Ok, Option, map, length};
 ghost use Rattle.std.specs.Arc.{arc_value};
 ghost use Rattle.std.specs.List.{AllByRecursion};
 ghost use Rattle.std.specs.Ordering.{is_lt};
-ghost use Rattle.sst_entries.specs.Entry.{Entry};
-ghost use Rattle.sst_entries.specs.Error.{Gives};
-ghost use Rattle.sst_entries.specs.Point.{point, within};
-ghost use Rattle.sst_entries.specs.Stream.{CanDeal};
 ghost use Rattle.sst_entries.specs.declared.error.Error.TheVariants.{OutOfMemory};
-ghost use Rattle.lsm_files.specs.Chunks.{joined};
-ghost use Rattle.lsm_merge.specs.Union.{item_cmp, newest};
-ghost use Rattle.lsm_ranges.specs.Run.{IsInOrder};
-ghost use Rattle.lsm_tables.specs.RunLists.{DealTogether, DealsList, HoldLists, RunsHoldLists};
-ghost use Rattle.lsm_tables.specs.RunParts.{range_of};
-ghost use Rattle.lsm_tables.specs.SeveralRuns.{leading_of, run_told, runs_told, union_in};
+ghost use Rattle.lsm_tables.specs.Words.{CanDeal, DealTogether, DealsList, DoesRead, Entry, Gives};
+ghost use Rattle.lsm_tables.specs.Words.{HoldLists, IsInOrder, LoadsEach, Opens, RunsHoldLists};
+ghost use Rattle.lsm_tables.specs.Words.{item_cmp, joined, leading_of, loads_together, newest};
+ghost use Rattle.lsm_tables.specs.Words.{none_opened, point, range_of, run_read, runs_read};
+ghost use Rattle.lsm_tables.specs.Words.{runs_told, union_in, within};
 
 use crate::bounds::share;
 use crate::{RunReader, Table};
 use lsm_merge::Merger;
 use lsm_ranges::Run;
 use lsm_sorted::{MvccStream, newest_from_both_ends, newest_of};
-use sst_blocks::{Error, InternalValue, SeqNo, UserKey};
+use sst_blocks::{Error, InternalValue, Opened, SeqNo, UserKey};
 use std::alloc::Allocator;
 use std::ops::Bound;
 use std::sync::Arc;
@@ -95,18 +90,31 @@ pub fn range_runs<A: Allocator + Clone>(
     Ok(stream)
 }
 
-// The first match in the one table of a run whose range has the key.
-fn get_run<A: Allocator + Clone>(
+// The first match in the one table of a run whose range has the key, with how many blocks were loaded for it.
+fn get_run_counted<A: Allocator + Clone>(
     run: &Run<Table<A>, A>,
     key: &[u8],
     seqno: SeqNo,
-) -> Result<Option<InternalValue<A>>, Error>
-    ensures { IsInOrder range_of run.now →
-        Gives (λ (x : Option Entry). x) result (run_told key.now seqno run.now) }
+) -> (Result<Option<InternalValue<A>>, Error>, Opened)
+    ensures read { IsInOrder range_of run.now →
+        DoesRead result.0 (run_read key.now seqno run.now) none_opened result.1 }
+    ensures few { LoadsEach 1 result.1 }
 {
     match run.get_for_key(key) {
-        Some(table) => table.get(key, seqno, Table::<A>::key_hash(key)),
-        None => Ok(None),
+        Some(table) => table.get_counted(key, seqno, Table::<A>::key_hash(key)),
+        None => (Ok(None), Opened::none()),
+    }
+}
+
+// The loads of two counts together.
+fn together(first: Opened, second: Opened) -> Opened
+    ensures { result ≡ loads_together first second }
+{
+    Opened {
+        data_loads: first.data_loads.saturating_add(second.data_loads),
+        index_loads: first.index_loads.saturating_add(second.index_loads),
+        filter_loads: first.filter_loads.saturating_add(second.filter_loads),
+        meta_loads: first.meta_loads.saturating_add(second.meta_loads),
     }
 }
 
@@ -137,6 +145,42 @@ fn leading<A: Allocator>(
     }
 }
 
+/// The first entry of a key numbered below `seqno`, of what several runs have together, with how many blocks were loaded for it.
+/// Answers as [`get_runs`].
+pub fn get_runs_counted<A: Allocator + Clone>(
+    runs: &[Arc<Run<Table<A>, A>, A>],
+    key: &[u8],
+    seqno: SeqNo,
+) -> (Result<Option<InternalValue<A>>, Error>, Opened)
+    // On runs in order, memory aside, it is what the runs' tables tell, whatever their bytes.
+    ensures told { AllByRecursion (IsInOrder range_of) (map arc_value runs.now) →
+        Gives (λ (x : Option Entry). x) result.0
+        (runs_told key.now seqno None (map arc_value runs.now)) }
+    // Of tables of lists it is the first match in the sorted entries of all lists, lifted.
+    ensures list { (lists : List (List (List Entry))) →
+        RunsHoldLists (map arc_value runs.now) lists →
+        Gives (λ (x : Option Entry). x) result.0 (Ok (point (union_in lists) key.now seqno)) }
+    // The blocks loaded are those of the reads of the runs' tables, up to the first refusal.
+    ensures opened { AllByRecursion (IsInOrder range_of) (map arc_value runs.now) →
+        let read = runs_read key.now seqno None (map arc_value runs.now) in
+        Opens result.0 read.loads none_opened result.1 }
+    // Whatever the runs and the tables' bytes, also where it is refused: at most one data block, one index block and one filter
+    // block a run.
+    ensures few { LoadsEach (length runs.now) result.1 }
+{
+    let mut found = None;
+    let mut opened = Opened::none();
+    for run in runs {
+        let (told, loads) = get_run_counted(run, key, seqno);
+        opened = together(opened, loads);
+        match told {
+            Ok(next) => found = leading(found, next),
+            Err(error) => return (Err(error), opened),
+        }
+    }
+    (Ok(found), opened)
+}
+
 /// The first entry of a key numbered below `seqno`, of what several runs have together. In each run one table is asked at most,
 /// the one whose range has the key. Refused with the first refusal, in the order of the runs.
 pub fn get_runs<A: Allocator + Clone>(
@@ -153,9 +197,5 @@ pub fn get_runs<A: Allocator + Clone>(
         RunsHoldLists (map arc_value runs.now) lists →
         Gives (λ (x : Option Entry). x) result (Ok (point (union_in lists) key.now seqno)) }
 {
-    let mut found = None;
-    for run in runs {
-        found = leading(found, get_run(run, key, seqno)?);
-    }
-    Ok(found)
+    get_runs_counted(runs, key, seqno).0
 }

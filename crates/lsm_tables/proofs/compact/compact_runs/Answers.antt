@@ -6,7 +6,8 @@ use Rattle.sst_entries.specs.Error.{Faults}
 use Rattle.lsm_writers.specs.Tables.{TablesWriting}
 use Rattle.lsm_writers.specs.Writing.{IsWritable}
 use Rattle.lsm_writers.proofs.Refused.{memory_alone}
-use Rattle.lsm_tables.specs.Compacted.{AreWrittenBy, RunsOn, kept_in, rules_by, tables_fault}
+use Rattle.lsm_tables.specs.Chain.{writes_fault}
+use Rattle.lsm_tables.specs.Compacted.{AreWrittenBy, RunsOn, kept_in, rules_by}
 use Rattle.lsm_tables.specs.SeveralRuns.{union_in}
 use Rattle.lsm_tables.proofs.Keeping.{stays_writable}
 use Rattle.lsm_tables.proofs.OneList.{one_way}
@@ -37,7 +38,7 @@ pub returns-clause-refused : goal.returns-clause-refused
 returns-clause-refused g c lists held =
     let rules = rules_by c.args.gc_seqno_threshold c.args.evict_tombstones c.args.zero_seqnos in
     let able = c.requires.able in
-    subst (λ (ls : List (List (List Entry))). Faults c.write_all.result (tables_fault c.args.writer (kept_in rules ls))) (one_way (map arc_value c.args.runs.now) able.lists lists able.hold held)
+    subst (λ (ls : List (List (List Entry))). Faults c.write_all.result (writes_fault c.args.writer (kept_in rules ls))) (one_way (map arc_value c.args.runs.now) able.lists lists able.hold held)
     (c.write_all.ensures.refused (record { list = kept_in rules able.lists; writable = stays_writable rules (union_in able.lists) able.writable; deals = c.in_ok-stream.ensures.list able }))
 
 pub returns-clause-taken : goal.returns-clause-taken

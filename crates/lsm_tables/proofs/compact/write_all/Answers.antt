@@ -2,7 +2,7 @@ use Rattle.std.proofs.Common.{◌∙◌, sym, subst}
 use Rattle.std.specs.Prelude.{Some}
 use Rattle.std.specs.Iterator.{IsFinite}
 use Rattle.sst_entries.proofs.Refusals.{faults_refusal}
-use Rattle.lsm_tables.specs.Compacted.{tables_fault}
+use Rattle.lsm_tables.specs.Chain.{writes_fault}
 use Rattle.lsm_tables.specs.RunLists.{DealsList}
 use Rattle.sst_entries.specs.Stream.{nowhere}
 use Rattle.lsm_tables.proofs.WritesOn.{all_taken, deals_fine, fault_left, may_follow_on, nothing_written_yet, refused_one, writes_more}
@@ -26,7 +26,7 @@ returns-in_err-item-clause-refused g c d =
     let next = g.I.Iterator.next_gives in
     let f = c.in_err-item.field-0.0 in
     let step = subst (λ r. next c.loop-item.item-iterator (Some r) c.next.new.self) c.in_err-item.was c.in-Some.ensures.steps in
-    faults_refusal c.from_residual.result f (tables_fault c.args.writer d.list) c.from_residual.ensures.1
+    faults_refusal c.from_residual.result f (writes_fault c.args.writer d.list) c.from_residual.ensures.1
     (λ fine. absurd (deals_fine next (c.loop-item.invariant.writes d).rest c.loop-item.item-iterator c.next.new.self f (c.loop-item.invariant.writes d).deals step fine))
 
 pub write-requires : goal.write-requires
@@ -57,7 +57,7 @@ returns-in_err-write-clause-refused g c d =
     let w = c.args.writer in
     let step = subst (λ r. next c.loop-item.item-iterator (Some r) c.next.new.self) c.in_ok-item.was c.in-Some.ensures.steps in
     let f = c.in_err-write.field-0.0 in
-    faults_refusal c.from_residual-in_err-write.result f (tables_fault w d.list) c.from_residual-in_err-write.ensures.1
+    faults_refusal c.from_residual-in_err-write.result f (writes_fault w d.list) c.from_residual-in_err-write.ensures.1
     (λ fine. refused_one next w d.list c.loop-item.writer c.loop-item.item-iterator c.next.new.self c.in_ok-item.field-0 (c.loop-item.invariant.writes d) step f (c.in_err-write.ensures.refused fine))
 
 pub returns-in_err-tables-clause-refused : goal.returns-in_err-tables-clause-refused
@@ -66,7 +66,7 @@ returns-in_err-tables-clause-refused g c d =
     let w = c.args.writer in
     let f = c.in_err-tables.field-0.0 in
     let left = fault_left next w d.list c.loop-item.writer c.loop-item.item-iterator c.next.new.self (c.loop-item.invariant.writes d) c.in-None.ensures.steps in
-    faults_refusal c.from_residual-in_err-tables.result f (tables_fault w d.list) c.from_residual-in_err-tables.ensures.1 (λ fine. left ∙ c.in_err-tables.ensures.refused fine)
+    faults_refusal c.from_residual-in_err-tables.result f (writes_fault w d.list) c.from_residual-in_err-tables.ensures.1 (λ fine. left ∙ c.in_err-tables.ensures.refused fine)
 
 pub returns-clause-written : goal.returns-clause-written
 returns-clause-written g c d =

@@ -1,5 +1,5 @@
 use Rattle.lsm_tables.specs.Chain.{run_label}
-use Rattle.lsm_tables.proofs.RunWriting.{all_fit, run_put, wants}
+use Rattle.lsm_tables.proofs.RunWriting.{all_fit, cut_put, ids_put, run_put, wants}
 use Rattle.lsm_tables.proofs.compacted.run_of_tables.Goals as goal
 
 pub returns-in_err-opened-clause-taken : goal.returns-in_err-opened-clause-taken
@@ -10,3 +10,11 @@ returns-in_err-opened-clause-taken g c ids target moment es left w small =
 pub returns-clause-run : goal.returns-clause-run
 returns-clause-run g c ids target moment es left w =
     run_put ids target moment es c.args.tables.items left 0 c.in_ok-opened.opened.items w (c.in_ok-opened.ensures.opened (run_label ids target moment) w.lists w.finished) c.new.result c.new.ensures
+
+pub returns-clause-cut : goal.returns-clause-cut
+returns-clause-cut g c ids target moment es left w =
+    cut_put ids target moment es c.args.tables.items left 0 c.in_ok-opened.opened.items w (c.in_ok-opened.ensures.opened (run_label ids target moment) w.lists w.finished) c.new.result c.new.ensures
+
+pub returns-clause-ids : goal.returns-clause-ids
+returns-clause-ids g c ids target moment es left w =
+    ids_put ids target moment es c.args.tables.items left 0 c.in_ok-opened.opened.items w (c.in_ok-opened.ensures.opened (run_label ids target moment) w.lists w.finished) c.new.result c.new.ensures

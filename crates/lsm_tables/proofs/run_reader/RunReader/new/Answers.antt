@@ -1,6 +1,6 @@
 use Rattle.std.proofs.Common.{sym}
 use Rattle.lsm_tables.proofs.RunLaws.{run_deals}
-use Rattle.lsm_tables.proofs.RunLists.{new_deals}
+use Rattle.lsm_tables.proofs.RunLists.{few_all, few_found, new_deals}
 use Rattle.lsm_tables.proofs.RunWithin.{none_deals}
 use Rattle.lsm_tables.proofs.run_reader.RunReader.new.Goals as goal
 
@@ -22,3 +22,10 @@ returns-in-None-clause-span g c order = sym (rw c.deref.ensures at (c.in-None.en
 
 pub returns-in-None-clause-list : goal.returns-in-None-clause-list
 returns-in-None-clause-list g c order lists held = none_deals c.args.range.0 c.args.range.1 _ lists held order (sym (rw c.deref.ensures at (c.in-None.ensures.found (rw c.deref.ensures order))))
+
+pub returns-in-Some-clause-few : goal.returns-in-Some-clause-few
+returns-in-Some-clause-few g c order ends same =
+    few_found c.args.range.0 c.args.range.1 _ c.in-Some.ends c.of_span.result c.of_span.ensures _ ends (sym (rw c.deref.ensures at (c.in-Some.ensures.found (rw c.deref.ensures order)))) same
+
+pub returns-in-Some-clause-most : goal.returns-in-Some-clause-most
+returns-in-Some-clause-most g c = few_all c.args.range.0 c.args.range.1 _ c.in-Some.ends c.of_span.result c.of_span.ensures (rw c.deref.ensures at c.in-Some.ensures.within)
