@@ -1,5 +1,5 @@
 //! All reads of tables of one list, under each kind of index and of filter.
-use lsm_tables::{Iter, Scanner, Table, read_each_way};
+use lsm_tables::{Iter, PointAndScan, Ranges, Scanner, Table, read_each_way};
 use lsm_writers::{BloomConstructionPolicy, Writer};
 use sst_blocks::{Checksum, Error, IterItem, SeqNo, Slice, ValueType};
 use std::alloc::{Allocator, Global};
@@ -132,19 +132,17 @@ fn scanned<A: Allocator + Clone>(items: &mut Scanner<A>) -> Result<Names, Error>
 // table whose global number is 10.
 type Answers = (Option<SeqNo>, Names, Names, Names);
 
-fn taken(reads: &mut (Iter<Global>, Iter<Global>, Scanner<Global>)) -> Result<[Names; 3], Error> {
-    let range = backwards(&mut reads.0)?;
-    let all = forwards(&mut reads.1)?;
-    Ok([range, all, scanned(&mut reads.2)?])
+fn taken(reads: &mut (PointAndScan<Global>, Ranges<Global>)) -> Result<Answers, Error> {
+    let found = reads.0.0.as_ref().map(|item| item.key.seqno);
+    let range = backwards(&mut reads.1.0)?;
+    let all = forwards(&mut reads.1.1)?;
+    Ok((found, range, all, scanned(&mut reads.0.1)?))
 }
 
 fn answers(alloc: Global, table: &Table<Global>) -> Result<Answers, Error> {
     let lower = Bound::Excluded(Slice::from(alloc, b"a")?);
     let upper = Bound::Included(Slice::from(alloc, b"c")?);
-    let (found, range, all, scan) = read_each_way(table, b"a", 19, lower, upper)?;
-    let found = found.map(|item| item.key.seqno);
-    let [range, all, scan] = taken(&mut (range, all, scan))?;
-    Ok((found, range, all, scan))
+    taken(&mut read_each_way(table, b"a", 19, lower, upper)?)
 }
 
 fn answers_of(alloc: Global, kind: &Kind) -> Result<Answers, Error> {

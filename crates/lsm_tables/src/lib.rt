@@ -23,7 +23,7 @@ pub use lsm_readers::{
     PinnedBlockIndex, Scanner, Table, TableId, TableInner, Timestamp, TreeId, TwoLevelBlockIndex,
     VolatileBlockIndex, point_in,
 };
-pub use one_answer::read_each_way;
+pub use one_answer::{PointAndScan, Ranges, read_each_way};
 pub use pack::{pack_runs, packing_law};
 pub use run_reader::RunReader;
 pub use run_scanner::RunScanner;

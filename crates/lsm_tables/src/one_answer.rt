@@ -9,12 +9,18 @@ use sst_blocks::{Error, InternalValue, SeqNo, UserKey};
 use std::alloc::Allocator;
 use std::ops::Bound;
 
+/// The entries of a table within two bounds, and all of them.
+pub type Ranges<A> = (Iter<A>, Iter<A>);
+
+/// What a point read of a table finds, and a scan of the table.
+pub type PointAndScan<A> = (Option<InternalValue<A>>, Scanner<A>);
+
 // The entries within two bounds, and all.
 fn ranges_of<A: Allocator + Clone>(
     table: &Table<A>,
     lower: Bound<UserKey<A>>,
     upper: Bound<UserKey<A>>,
-) -> Result<(Iter<A>, Iter<A>), Error>
+) -> Result<Ranges<A>, Error>
     ensures list { let gives = ⟦<Iter<A> as Iterator>⟧.next_gives in
         let back_gives = ⟦<Iter<A> as DoubleEndedIterator>⟧.next_back_gives in
         let g = table.now.global_seqno in
@@ -32,7 +38,7 @@ fn read_and_scan<A: Allocator + Clone>(
     table: &Table<A>,
     key: &[u8],
     seqno: SeqNo,
-) -> Result<(Option<InternalValue<A>>, Scanner<A>), Error>
+) -> Result<PointAndScan<A>, Error>
     ensures list { (es : List Entry) → IsTable table.now.bytes es → IfOk result (λ read.
         ReadsList es table.now.global_seqno key.now seqno read.0 read.1) }
     ensures err { (es : List Entry) → IsTable table.now.bytes es → (es ≡ [] → ⊥) →
@@ -42,8 +48,8 @@ fn read_and_scan<A: Allocator + Clone>(
     Ok((found, table.scan()?))
 }
 
-/// What each read of a table gives: a point read, the entries within two bounds from both ends, all entries from both ends, and
-/// a scan.
+/// What each read of a table gives: what a point read finds, beside a scan of all; and the entries within two bounds, beside all
+/// entries, both from both ends.
 ///
 /// Of a table of a list these are the list's, its numbers lifted by the global number, and nothing else of the table has a say
 /// in it: whichever index and filter it was written with, in one block or in partitions, whichever of their blocks stay loaded,
@@ -55,19 +61,18 @@ pub fn read_each_way<A: Allocator + Clone>(
     seqno: SeqNo,
     lower: Bound<UserKey<A>>,
     upper: Bound<UserKey<A>>,
-) -> Result<(Option<InternalValue<A>>, Iter<A>, Iter<A>, Scanner<A>), Error>
+) -> Result<(PointAndScan<A>, Ranges<A>), Error>
     ensures list { let gives = ⟦<Iter<A> as Iterator>⟧.next_gives in
         let back_gives = ⟦<Iter<A> as DoubleEndedIterator>⟧.next_back_gives in
         let g = table.now.global_seqno in
         (es : List Entry) → IsTable table.now.bytes es → IfOk result (λ read.
-        ReadsList es g key.now seqno read.0 read.3
-        × DealsWithin gives back_gives lower upper es g read.1
-        × DealsAll gives back_gives es g read.2) }
+        ReadsList es g key.now seqno read.0.0 read.0.1
+        × DealsWithin gives back_gives lower upper es g read.1.0
+        × DealsAll gives back_gives es g read.1.1) }
     // Where the list has an entry, it is refused for want of memory alone.
     ensures err { (es : List Entry) → IsTable table.now.bytes es → (es ≡ [] → ⊥) →
         IfErr result (λ e. e ≡ OutOfMemory) }
 {
-    let (range, all) = ranges_of(table, lower, upper)?;
-    let (found, scan) = read_and_scan(table, key, seqno)?;
-    Ok((found, range, all, scan))
+    let ranges = ranges_of(table, lower, upper)?;
+    Ok((read_and_scan(table, key, seqno)?, ranges))
 }
