@@ -1,4 +1,4 @@
-use Rattle.std.proofs.Common.{ap, subst, List, [], ◌∷◌, sym}
+use Rattle.std.proofs.Common.{◌≡◌, ap, subst, List, [], ◌∷◌, sym}
 use Rattle.std.specs.Prelude.{Option, MatchOption}
 use Rattle.sst_entries.specs.Entry.{Entry}
 use Rattle.lsm_readers.specs.Table.{OpenTable}

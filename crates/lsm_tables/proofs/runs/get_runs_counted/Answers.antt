@@ -1,12 +1,10 @@
 use Rattle.std.proofs.Common.{◌+◌, length, subst}
-use Rattle.std.specs.Prelude.{None, Ok, Err, Option, Result, map}
+use Rattle.std.specs.Prelude.{None, Option, Result, map}
 use Rattle.std.specs.Arc.{arc_value}
 use Rattle.sst_entries.specs.declared.error.Error.{Error}
 use Rattle.sst_entries.specs.Entry.{Entry}
 use Rattle.sst_entries.specs.Error.{Gives}
-use Rattle.sst_blocks.specs.Opened.{none_opened}
 use Rattle.lsm_ranges.specs.Run.{IsInOrder}
-use Rattle.lsm_readers.specs.Read.{DoesRead}
 use Rattle.lsm_tables.specs.RunParts.{range_of}
 use Rattle.lsm_tables.specs.SeveralRuns.{loads_together}
 use Rattle.lsm_tables.proofs.RunLoops.{all_at}

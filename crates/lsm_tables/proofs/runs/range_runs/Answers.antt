@@ -1,4 +1,4 @@
-use Rattle.sst_entries.specs.Stream.{CanDeal, back_of, front_of}
+use Rattle.sst_entries.specs.Stream.{back_of, front_of}
 use Rattle.lsm_tables.specs.RunRange.{RunGives, back_tables, front_tables}
 use Rattle.lsm_tables.proofs.RunLaws.{run_deals}
 use Rattle.lsm_tables.proofs.Together.{all_of, newest_together}

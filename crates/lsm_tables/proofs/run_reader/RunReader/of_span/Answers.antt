@@ -1,4 +1,4 @@
-use Rattle.std.proofs.Common.{ap, refl}
+use Rattle.std.proofs.Common.{ap}
 use Rattle.lsm_tables.specs.RunRange.{Unopened}
 use Rattle.lsm_tables.proofs.run_reader.RunReader.of_span.Goals as goal
 

@@ -1,4 +1,4 @@
-use Rattle.std.proofs.Common.{◌≡◌, ℕ, suc, ◌+◌, ap, arith}
+use Rattle.std.proofs.Common.{◌≡◌, ℕ, suc, ap, arith}
 use Rattle.std.specs.Arc.{arc_value}
 use Rattle.lsm_tables.specs.RunParts.{span_of}
 use Rattle.lsm_tables.proofs.Opens.{held}
