@@ -78,6 +78,21 @@ fn collect<A: Allocator, I: Iterator<Item = IterItem<A>>>(
     Ok(items)
 }
 
+/// Runs that can be shared. Refused for want of memory alone.
+pub(crate) fn share_all<A: Allocator + Clone>(
+    alloc: A,
+    runs: Vec<Run<Table<A>, A>, A>,
+) -> Result<Vec<Arc<Run<Table<A>, A>, A>, A>, Error>
+    ensures ok { IfOk result (λ shared. map arc_value shared.items ≡ runs.items) }
+    ensures err { IfErr result (λ e. e ≡ OutOfMemory) }
+{
+    let mut shared = Vec::new(alloc.clone()?);
+    for run in runs {
+        shared.push(Arc::new(alloc.clone()?, run)?)?;
+    }
+    Ok(shared)
+}
+
 /// Whether one of the runs has the key and number of one of some entries. Refused for want of memory alone.
 pub(crate) fn is_repeated<A: Allocator + Clone>(
     runs: &[Arc<Run<Table<A>, A>, A>],
