@@ -139,15 +139,15 @@ fn parse_compact(words: &[u8]) -> Option<Command<'_>>
 // Whether tombstones are evicted and whether numbers become 0: each by its word, in this order.
 fn parse_settings(settings: Option<&[u8]>) -> Option<(bool, bool)>
     ensures words { IfSome result (λ told.
-        words_behind (option_copied settings) ≡ setting_words told.0 told.1) }
+        words_behind (option_copied settings.entry) ≡ setting_words told.0 told.1) }
     ensures none { IfNone result ((evict zero : Bool) →
-        ¬ (words_behind (option_copied settings) ≡ setting_words evict zero)) }
+        ¬ (words_behind (option_copied settings.entry) ≡ setting_words evict zero)) }
 {
     match settings {
         None => Some((false, false)),
-        Some(b"evict") => Some((true, false)),
-        Some(b"zero") => Some((false, true)),
-        Some(b"evict zero") => Some((true, true)),
+        Some(words) if words == b"evict".as_slice() => Some((true, false)),
+        Some(words) if words == b"zero".as_slice() => Some((false, true)),
+        Some(words) if words == b"evict zero".as_slice() => Some((true, true)),
         Some(_) => None,
     }
 }

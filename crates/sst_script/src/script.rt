@@ -248,7 +248,7 @@ impl<A: Allocator + Clone> Script<A> {
             (store self.old.pending before self.old.ids) (kept_by watermark evict zero before) result
             (store self.new.pending after self.new.ids))) }
     {
-        let (run, ids) = compact_to_run(
+        let (run, next_ids) = compact_to_run(
             self.alloc.clone()?,
             &self.runs,
             watermark,
@@ -258,15 +258,17 @@ impl<A: Allocator + Clone> Script<A> {
             TARGET_SIZE,
             Timestamp::from(0),
         )?;
+        let Some(run) = run else {
+            self.runs.clear();
+            self.ids = next_ids;
+            return Ok(0);
+        };
+        let tables = run.as_slice().len() as u64;
         let mut runs = Vec::new(self.alloc.clone()?);
-        let mut count = 0;
-        if let Some(run) = run {
-            count = run.as_slice().len() as u64;
-            runs.push(Arc::new(self.alloc.clone()?, run)?)?;
-        }
+        runs.push(Arc::new(self.alloc.clone()?, run)?)?;
         self.runs = runs;
-        self.ids = ids;
-        Ok(count)
+        self.ids = next_ids;
+        Ok(tables)
     }
 
     // Puts the tables of all runs in the fewest runs, and answers how many these are. Refused for want of memory alone; the
