@@ -426,10 +426,13 @@ const REFUSED_OUTPUTS: [&[u8]; 14] = [
 
 // Whether a run of the first script is right, where one request for memory may have been refused.
 fn is_right<A: Allocator>(ran: &Ran<A>, may_fail: bool) -> bool {
-    if ran.status == 2 {
-        return may_fail && ran.errors.as_slice() == b"sst: input\n".as_slice();
-    }
     let output = ran.output.as_slice();
+    if ran.status == 2 {
+        // What was answered before stays.
+        return may_fail
+            && FIRST_OUTPUT.starts_with(output)
+            && ran.errors.as_slice() == b"sst: input\n".as_slice();
+    }
     ran.status == 0 && (output == FIRST_OUTPUT || may_fail && REFUSED_OUTPUTS.contains(&output))
 }
 

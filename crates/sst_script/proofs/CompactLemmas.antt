@@ -23,7 +23,7 @@ use Rattle.lsm_tables.proofs.OneList.{one_way}
 use Rattle.sst_script.specs.declared.stop.Failure.{Failure}
 use Rattle.sst_script.specs.declared.stop.Failure.TheVariants.{Refused}
 use Rattle.sst_script.specs.Runs.{HasRuns, Run, repeats, run_tables, union}
-use Rattle.sst_script.specs.Script.{CompactsNot, CompactsRuns, Compacts, kept_by, kept_fault, store, target_size}
+use Rattle.sst_script.specs.Script.{FailsToCompact, CompactsRuns, Compacts, kept_by, kept_fault, store, target_size}
 use Rattle.sst_script.proofs.EntryLemmas.{lift_zero}
 use Rattle.sst_script.proofs.PendingLemmas.{nothing_pending}
 use Rattle.sst_script.proofs.RunLemmas.{held, lists_of, union_same}
@@ -110,7 +110,7 @@ module _ (es left : List Entry) (next : Option ℕ) (rs : List Run) (ts : List (
 
   pub not_compacted : (r : Result ℕ Failure) (f : Failure) → IsErrAnd r (λ y. y ≡ f) → MayFail f → HasRuns ts (λ after. CompactsRuns (store es rs next) left r (store es after next))
   not_compacted (Ok count) f is may = absurd is
-  not_compacted (Err y) f is may = (rs, same, subst (λ (x : Failure). CompactsNot (store es rs next) left x (store es rs next)) (sym is) (may, refl))
+  not_compacted (Err y) f is may = (rs, same, subst (λ (x : Failure). FailsToCompact (store es rs next) left x (store es rs next)) (sym is) (may, refl))
 
   pub memory_fails : MayFail (Refused OutOfMemory)
   memory_fails = inl refl

@@ -82,15 +82,15 @@ module _ (rs : List Run) (ts packed : List (List OpenTable)) (same : run_tables 
   lists_are : hold.lists ≡ lists_of made.0
   lists_are = one_way packed hold.lists (lists_of made.0) hold.hold (held made.0 packed made.1)
 
-  union_is : union made.0 ≡ union rs
-  union_is = sym (union_same made.0) ∙ ap union_in (sym lists_are) ∙ hold.union ∙ union_same rs
+  same_union : union made.0 ≡ union rs
+  same_union = sym (union_same made.0) ∙ ap union_in (sym lists_are) ∙ hold.union ∙ union_same rs
 
   -- they may be compacted
   pub packed_able : SameTables ts packed → AreCompactable ts → AreCompactable packed
   packed_able tables able =
       let each = packed_some ts packed tables (runs_some ts (lists_of rs) (held rs ts same) (able_entries rs ts same able)) in
       able_from made.0 packed made.1 (have_entries packed (lists_of made.0) (held made.0 packed made.1) some each)
-      (subst IsWritable (sym union_is) (able_writable rs ts same able))
+      (subst IsWritable (sym same_union) (able_writable rs ts same able))
 
   -- they stand in the place of the runs
   pub packed_runs : (es : List Entry) (next : Option ℕ) (count : ℕ) → count ≡ length packed → SameTables ts packed → SameHolders range_of ts packed → IsLeastSize range_of ts (length packed)
@@ -104,7 +104,7 @@ module _ (rs : List Run) (ts packed : List (List OpenTable)) (same : run_tables 
         holders = subst (λ (us : List (List OpenTable)). SameHolders range_of us (run_tables made.0)) ts_is (subst (SameHolders range_of ts) packed_is holders);
         ordered = subst (ArePacked range_of) packed_is ordered;
         least = subst (λ (us : List (List OpenTable)). IsLeastSize range_of us (length made.0)) ts_is (subst (IsLeastSize range_of ts) many least);
-        union_is = union_is;
+        union_is = same_union;
       } in
       (made.0, made.1, (count_is ∙ many, are, refl))
 

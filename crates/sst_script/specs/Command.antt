@@ -78,7 +78,7 @@ setting_words false true = codes "zero" ∷ []
 setting_words true true = codes "evict" ∷ codes "zero" ∷ []
 
 -- the words of a line that compacts the runs
-pub record Compacts (words : List (List ℕ)) (watermark : ℕ) (evict zero : Bool) : Type 0 where
+pub record CompactsBy (words : List (List ℕ)) (watermark : ℕ) (evict zero : Bool) : Type 0 where
   pub number_word : List ℕ
   pub words_are : words ≡ codes "compact" ∷ number_word ∷ setting_words evict zero
   pub watermark_is : Counts number_word watermark
@@ -89,5 +89,5 @@ AskFor words (Entry key seqno kind value) = AddsEntry words key.now seqno kind v
 AskFor words Table = words ≡ codes "table" ∷ []
 AskFor words (Get key bound) = ReadsKey words key.now bound
 AskFor words (Range low high) = ReadsRange words (key_bound low) (key_bound high)
-AskFor words (Compact watermark evict zero) = Compacts words watermark evict zero
+AskFor words (Compact watermark evict zero) = CompactsBy words watermark evict zero
 AskFor words Pack = words ≡ codes "pack" ∷ []

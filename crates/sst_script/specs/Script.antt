@@ -93,14 +93,14 @@ abbrev pub Compacts : Store → List Entry → ℕ → Store → Type 0
 Compacts old left count new = (kept_fault old left ≡ None) × LeavesRun old left count new
 
 -- all is as it was, for the kept entries' fault or for want of memory
-abbrev pub CompactsNot : Store → List Entry → Failure → Store → Type 0
-CompactsNot old left e new =
+abbrev pub FailsToCompact : Store → List Entry → Failure → Store → Type 0
+FailsToCompact old left e new =
     ((e ≡ Refused OutOfMemory) ⊎ (kept_fault old left ≡ Some e)) × (new ≡ old)
 
 -- what compacting the runs to kept entries comes to
 abbrev pub CompactsRuns : Store → List Entry → Result ℕ Failure → Store → Type 0
 CompactsRuns old left r new =
-    MatchResult r (λ count. Compacts old left count new) (λ e. CompactsNot old left e new)
+    MatchResult r (λ count. Compacts old left count new) (λ e. FailsToCompact old left e new)
 
 -- the same tables in other runs: of each key in the same order, in runs in order that have a table
 -- each, so few that none can do with fewer; they hold the same sorted entries
@@ -152,7 +152,7 @@ Executes (Range low high) old r new = (new ≡ old) × MatchResult r
 Executes (Compact watermark evict zero) old r new =
     let left = kept_by watermark evict zero old.runs in MatchResult r
     (λ a. (count : ℕ) × (a ≡ Tables count) × Compacts old left count new)
-    (λ e. CompactsNot old left e new)
+    (λ e. FailsToCompact old left e new)
 Executes Pack old r new = MatchResult r
     (λ a. (count : ℕ) × (a ≡ PackedInto count) × Packs old count new)
     (λ e. WantsMemory old e new)

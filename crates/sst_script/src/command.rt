@@ -8,7 +8,7 @@ ghost use Rattle.std.specs.declared.ops.Bound.{Bound};
 ghost use Rattle.sst_entries.specs.declared.value_type.ValueType.{ValueType};
 ghost use Rattle.lsm_ranges.specs.KeyRange.{key_bound};
 ghost use Rattle.sst_script.specs.declared.command.Command.{Command};
-ghost use Rattle.sst_script.specs.Command.{words_of, words_behind, StandsFor, AddsEntry, Compacts, Limits, ReadsKey, ReadsRange, AskFor, setting_words};
+ghost use Rattle.sst_script.specs.Command.{words_of, words_behind, StandsFor, AddsEntry, CompactsBy, Limits, ReadsKey, ReadsRange, AskFor, setting_words};
 ghost use Rattle.sst_script.specs.Text.{letter_of, IsNumber};
 
 use sst_blocks::{SeqNo, ValueType};
@@ -124,7 +124,7 @@ fn parse_bound(word: &[u8]) -> Option<Bound<&[u8]>>
 fn parse_compact(words: &[u8]) -> Option<Command<'_>>
     ensures form { IfSome result (λ command. AskFor (codes "compact" ∷ words_of words.now) command) }
     ensures none { IfNone result ((watermark : ℕ) (evict zero : Bool) →
-        ¬ Compacts (codes "compact" ∷ words_of words.now) watermark evict zero) }
+        ¬ CompactsBy (codes "compact" ∷ words_of words.now) watermark evict zero) }
 {
     let (watermark, settings) = split_word(words);
     let watermark = parse_number(watermark)?;
