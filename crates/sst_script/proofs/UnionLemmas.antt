@@ -1,12 +1,12 @@
 -- More entries in a sorted list in which no key has one number twice.
 use Rattle.std.proofs.Common.{◌≡◌, refl, sym, ◌∙◌, ap, subst, ℕ, ◌-◌, ◌^◌, ◌<◌, ◌⊎◌, inl, inr, Bool, true, false, cond, List, [], ◌∷◌, ◌++◌, arith, rules}
-use Rattle.std.specs.Prelude.{◌&&◌, ◌||◌, ◌==◌, map}
-use Rattle.std.specs.List.{AllByRecursion, list_any}
+use Rattle.std.specs.Prelude.{◌&&◌, ◌==◌, map}
+use Rattle.std.specs.List.{AllByRecursion}
 use Rattle.std.specs.declared.cmp.Ordering.{Ordering}
 use Rattle.std.specs.declared.cmp.Ordering.TheVariants.{Less, Equal, Greater}
 use Rattle.std.specs.Cmp.Lexicographic.{slice_cmp}
 use Rattle.std.specs.Ordering.{is_gt, is_lt, nat_cmp, ordering_reverse, ordering_then}
-use Rattle.std.proofs.lemmas.Bool.{eq-eqb}
+use Rattle.std.proofs.lemmas.Bool.{eq-eqb, or_parts}
 use Rattle.sst_entries.specs.Entry.{Entry}
 use Rattle.sst_entries.specs.Key.{same_key}
 use Rattle.sst_entries.specs.Kind.{tag_of}
@@ -106,20 +106,16 @@ apart_of x y miss =
       | Greater ↦ λ e. inr (ap is_lt (number_total.antisymm y x ∙ ap ordering_reverse e))
     ] refl
 
-neither : (a b : Bool) → (a || b) ≡ false → (a ≡ false) × (b ≡ false)
-neither true b h = absurd cc
-neither false b h = (refl, h)
-
 all_apart : (x : Entry) (ys : List Entry) → has_entry ys x.user_key x.seqno ≡ false → AllByRecursion (Apart x) ys
 all_apart x [] h = tt
 all_apart x (y ∷ ys) h =
-    let both = neither (is_at x y) (has_entry ys x.user_key x.seqno) h in
+    let both = or_parts (is_at x y) (has_entry ys x.user_key x.seqno) h in
     (apart_of x y both.0, all_apart x ys both.1)
 
 each_apart : (rs : List Run) (es : List Entry) → repeats rs es ≡ false → AreApart es (union rs)
 each_apart rs [] h = tt
 each_apart rs (e ∷ es) h =
-    let both = neither (has_entry (union rs) e.user_key e.seqno) (repeats rs es) h in
+    let both = or_parts (has_entry (union rs) e.user_key e.seqno) (repeats rs es) h in
     (all_apart e (union rs) both.0, each_apart rs es both.1)
 
 -- ---- a run more

@@ -122,7 +122,8 @@ fn parse_bound(word: &[u8]) -> Option<Bound<&[u8]>>
 
 // What follows `compact `: a watermark, and its settings.
 fn parse_compact(words: &[u8]) -> Option<Command<'_>>
-    ensures form { IfSome result (λ command. AskFor (codes "compact" ∷ words_of words.now) command) }
+    ensures form { IfSome result (λ command.
+        AskFor (codes "compact" ∷ words_of words.now) command) }
     ensures none { IfNone result ((watermark : ℕ) (evict zero : Bool) →
         ¬ CompactsBy (codes "compact" ∷ words_of words.now) watermark evict zero) }
 {
