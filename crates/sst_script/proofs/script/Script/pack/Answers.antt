@@ -19,9 +19,10 @@ returns-clause-done g c runs same =
     let order = in_order runs ts own in
     let packed = c.in_ok-packed.packed.items in
     let made = c.in_ok-packed.ensures in
-    let shared = c.in_ok-share_all.ensures.ok in
-    let new = c.in_ok-share_all.field-0.items in
-    let count : c.len.result ≡ length packed = search rules in
+    let shared = c.in_ok-self.ensures.ok in
+    let items = c.in_ok-self.field-0.items in
+    let many : c.len.result ≡ length items = search rules in
+    let count : c.len.result ≡ length packed = many ∙ sym (length-map items arc_value) ∙ ap length shared in
     subst (λ (us : List (List OpenTable)). HasRuns us (λ after. Packs (store s.pending runs s.ids) c.len.result (store s.pending after s.ids))) (sym shared)
     (packed_runs runs ts packed own (made.list (lists_of runs) (held runs ts own)) (made.ordered order) s.pending s.ids c.len.result count made.tables (made.holders order) (made.least order))
 
@@ -33,5 +34,5 @@ returns-clause-able g c =
     let order = in_order runs.0 ts runs.1 in
     let packed = c.in_ok-packed.packed.items in
     let made = c.in_ok-packed.ensures in
-    subst AreCompactable (sym c.in_ok-share_all.ensures.ok)
+    subst AreCompactable (sym c.in_ok-self.ensures.ok)
     (packed_able runs.0 ts packed runs.1 (made.list (lists_of runs.0) (held runs.0 ts runs.1)) (made.ordered order) made.tables able)
