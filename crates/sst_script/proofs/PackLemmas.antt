@@ -1,6 +1,6 @@
 -- What packing the runs comes to.
-use Rattle.std.proofs.Common.{◌≡◌, refl, sym, ◌∙◌, ap, subst, ℕ, ◌<◌, List, [], ◌∷◌, ◌++◌, length, arith}
-use Rattle.std.specs.Prelude.{◌≢◌, Option, Result, Ok, Err, IsPermutation, map}
+use Rattle.std.proofs.Common.{◌≡◌, refl, sym, ◌∙◌, ap, subst, ℕ, ◌<◌, List, [], ◌∷◌, length, arith}
+use Rattle.std.specs.Prelude.{◌≢◌, Option, Result, Ok, Err}
 use Rattle.std.specs.List.{AllByRecursion}
 use Rattle.std.specs.Result.{IsErrAnd}
 use Rattle.std.proofs.lemmas.List.{length-map}
@@ -23,7 +23,7 @@ use Rattle.lsm_tables.proofs.RunPoints.{runs_in_order}
 use Rattle.sst_script.specs.declared.stop.Failure.{Failure}
 use Rattle.sst_script.specs.declared.stop.Failure.TheVariants.{Refused}
 use Rattle.sst_script.specs.Runs.{HasRuns, Run, run_tables, union}
-use Rattle.sst_script.specs.Script.{ArePackedRuns, Packs, PacksRuns, WantsMemory, store}
+use Rattle.sst_script.specs.Script.{ArePackedRuns, Packs, PacksRuns, store}
 use Rattle.sst_script.proofs.CompactLemmas.{able_entries, able_from, able_writable, runs_of}
 use Rattle.sst_script.proofs.RunLemmas.{held, lists_of, union_same}
 

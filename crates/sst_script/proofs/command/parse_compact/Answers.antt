@@ -1,7 +1,7 @@
-use Rattle.std.proofs.Common.{◌≡◌, ◌∙◌, ap, sym, subst, refl, List, ℕ, [], ◌∷◌, rules}
+use Rattle.std.proofs.Common.{◌≡◌, ◌∙◌, ap, sym, subst, refl, List, ℕ, ◌∷◌, rules}
 use Rattle.std.specs.Prelude.{codes, None}
 use Rattle.std.specs.Option.{option_copied}
-use Rattle.sst_script.specs.Command.{words_behind, words_of, Counts, setting_words}
+use Rattle.sst_script.specs.Command.{words_behind, words_of, setting_words}
 use Rattle.sst_script.specs.Text.{IsNumber}
 use Rattle.sst_script.proofs.CommandLemmas.{parts}
 use Rattle.sst_script.proofs.command.parse_compact.Goals as goal

@@ -1,5 +1,5 @@
-use Rattle.std.proofs.Common.{◌≡◌, ◌∙◌, ap, false, rules, List, ℕ}
-use Rattle.std.specs.Prelude.{codes, nat_eq, Option}
+use Rattle.std.proofs.Common.{◌≡◌, ◌∙◌, false, rules}
+use Rattle.std.specs.Prelude.{codes, nat_eq}
 use Rattle.std.specs.Cmp.Lexicographic.{pointwise}
 use Rattle.std.specs.Option.{option_copied}
 use Rattle.sst_script.specs.Command.{words_of, words_behind}

@@ -1,7 +1,6 @@
-use Rattle.std.proofs.Common.{◌≡◌, ◌∙◌, sym, ap, subst, refl, ◌∷◌, [], length, List, ℕ, false, rules}
+use Rattle.std.proofs.Common.{◌≡◌, ◌∙◌, sym, ap, subst, refl, ◌∷◌, [], length, List, false, rules}
 use Rattle.std.specs.Prelude.{None, Some, map}
 use Rattle.std.specs.Arc.{arc_value}
-use Rattle.sst_entries.specs.declared.error.Error.TheVariants.{OutOfMemory}
 use Rattle.sst_entries.specs.Entry.{Entry}
 use Rattle.sst_entries.specs.Error.{is_memory}
 use Rattle.lsm_readers.specs.Table.{OpenTable}
@@ -9,7 +8,7 @@ use Rattle.lsm_tables.specs.Chain.{AreCutOf, IsRunOfList, run_label, tables_faul
 use Rattle.lsm_tables.specs.Compacted.{AreCompactable, kept_in, rules_by}
 use Rattle.sst_script.specs.declared.stop.Failure.TheVariants.{Refused}
 use Rattle.sst_script.specs.Script.{kept_by, target_size}
-use Rattle.sst_script.proofs.CompactLemmas.{able_none, compacted, compacted_away, compaction_fails, kept_is, memory_fails, moved, not_compacted}
+use Rattle.sst_script.proofs.CompactLemmas.{able_none, compacted, compacted_away, compaction_fails, kept_is, moved, not_compacted}
 use Rattle.sst_script.proofs.RunLemmas.{held, lists_of}
 use Rattle.sst_script.proofs.script.Script.compact.Goals as goal
 
@@ -36,7 +35,7 @@ returns-clause-done g c runs same =
     let own = held runs (map arc_value c.deref.result.now) (same ∙ ap (map arc_value) (sym c.deref.ensures.value)) in
     let tables = c.in-Some.run' in
     let moment : c.from.result ≡ 0 = search rules in
-    let put = ap (map arc_value) c.in_ok-push.ensures.items ∙ ap (λ (run : List OpenTable). run ∷ []) c.in_ok-new.ensures.ok in
+    let put : map arc_value c.push.new.self.items ≡ c.in-Some.run' ∷ [] = rw (c.in_ok-push.ensures.items, c.new-runs.ensures.items) (ap (λ (run : List OpenTable). run ∷ []) c.in_ok-new.ensures.ok) in
     compacted s.pending left s.ids runs (map arc_value s.runs.items) same (map arc_value c.push.new.self.items) c.in_ok-run.next_ids tables _
     put
     (ap length c.as_slice.ensures)
@@ -47,11 +46,11 @@ returns-clause-done g c runs same =
 
 pub returns-clause-able : goal.returns-clause-able
 returns-clause-able g c =
-    let put = ap (map arc_value) c.in_ok-push.ensures.items ∙ ap (λ (run : List OpenTable). run ∷ []) c.in_ok-new.ensures.ok in
+    let put : map arc_value c.push.new.self.items ≡ c.in-Some.run' ∷ [] = rw (c.in_ok-push.ensures.items, c.new-runs.ensures.items) (ap (λ (run : List OpenTable). run ∷ []) c.in_ok-new.ensures.ok) in
     subst AreCompactable (sym put) (rw c.in-Some.is at c.in_ok-run.ensures.able)
 
-pub returns-in-None-clause-done : goal.returns-in-None-clause-done
-returns-in-None-clause-done g c runs same =
+pub returns-in_default-clause-done : goal.returns-in_default-clause-done
+returns-in_default-clause-done g c runs same =
     let s = c.args.self.now in
     let a = c.args in
     let left = kept_by a.watermark a.evict a.zero runs in
@@ -63,8 +62,8 @@ returns-in-None-clause-done g c runs same =
     (ap (map arc_value) c.clear.ensures.items)
     refl
     (moved (λ m es. tables_fault s.ids target_size m es ≡ None) c.from.result 0 of left moment is (c.in_ok-run.ensures.refused (lists_of runs) own))
-    (rw c.in-None.is at c.in_ok-run.ensures.ids)
-    (sym is ∙ (rw c.in-None.is at (c.in_ok-run.ensures.run (lists_of runs) own)))
+    (rw c.in_default.is at c.in_ok-run.ensures.ids)
+    (sym is ∙ (rw c.in_default.is at (c.in_ok-run.ensures.run (lists_of runs) own)))
 
-pub returns-in-None-clause-able : goal.returns-in-None-clause-able
-returns-in-None-clause-able g c = rw c.clear.ensures.items able_none
+pub returns-in_default-clause-able : goal.returns-in_default-clause-able
+returns-in_default-clause-able g c = rw c.clear.ensures.items able_none
