@@ -43,9 +43,10 @@ fn stops<A: Allocator + Clone>(
 }
 
 const FIRST: &[u8] =
-    b"entry a 9 V x\nentry a 7 T -\nentry b 1 V y\ntable\nget a 9\nget a 100\nget c 5\n";
+    b"entry a 9 V x\nentry a 7 T -\nentry b 1 V y\ntable\nget a 9\nget a 100\nget c 5\nrange * *\ncompact 8\nrange =a !b\nentry d 2 V q\ntable\npack\n";
 
-const FIRST_OUTPUT: &[u8] = b"tables 1\na 7 T -\na 9 V x\nnone\n";
+const FIRST_OUTPUT: &[u8] =
+    b"tables 1\na 7 T -\na 9 V x\nnone\na 9 V x\nb 1 V y\ntables 1\na 9 V x\ntables 1\nruns 1\n";
 
 // Scripts, and what they print.
 const READ_BACK: &[(&[u8], &[u8])] = &[
@@ -88,6 +89,62 @@ const READ_BACK: &[(&[u8], &[u8])] = &[
     (b"range * *\nrange =* !*", b"none\nnone\n"),
 ];
 
+// Scripts that compact or pack their runs, and what they print.
+const COMPACTED: &[(&[u8], &[u8])] = &[
+    (b"compact 5\npack\nrange * *", b"tables 0\nruns 0\nnone\n"),
+    (
+        b"entry a 4 T -\ntable\ncompact 5 evict\nrange * *",
+        b"tables 1\ntables 0\nnone\n",
+    ),
+    // A tombstone stays where none is evicted, and where its number is not below the watermark.
+    (
+        b"entry a 4 T -\ntable\ncompact 5\nrange * *\ncompact 5 zero\nrange * *",
+        b"tables 1\ntables 1\na 4 T -\ntables 1\na 0 T -\n",
+    ),
+    (
+        b"entry a 4 V x\ntable\ncompact 5 zero\nget a 1\nget a 5",
+        b"tables 1\ntables 1\na 0 V x\na 0 V x\n",
+    ),
+    (
+        b"entry a 4 V x\nentry b 2 T -\ntable\ncompact 0 zero\nrange * *\ncompact 5 evict zero\nrange * *",
+        b"tables 1\ntables 1\na 4 V x\nb 2 T -\ntables 1\na 0 V x\n",
+    ),
+    // A weak tombstone goes with the value that it hides, and stays where that is a tombstone.
+    (
+        b"entry a 5 W -\nentry a 3 V x\nentry b 5 W -\nentry b 3 T -\ntable\ncompact 6\nrange * *\nget a 4\nget b 4",
+        b"tables 1\ntables 1\nb 5 W -\nnone\nnone\n",
+    ),
+    // Versions of a key in several runs meet in one, and what the watermark hides is gone.
+    (
+        b"entry a 9 V x\ntable\nentry a 3 V y\nentry b 2 V z\ntable\nentry a 1 V w\ntable\ncompact 4\nget a 10\nget a 9\nget a 3\nget b 3\npack",
+        b"tables 1\ntables 1\ntables 1\ntables 1\na 9 V x\na 3 V y\nnone\nb 2 V z\nruns 1\n",
+    ),
+    // A number that is gone may come again.
+    (
+        b"entry a 9 V x\nentry a 3 V y\ntable\ncompact 10\nentry a 3 V z\ntable\nget a 9\npack\ncompact 10\nget a 9",
+        b"tables 1\ntables 1\ntables 1\na 3 V z\nruns 2\ntables 1\nnone\n",
+    ),
+    // What is pending stays so.
+    (
+        b"entry a 1 V x\ntable\nentry b 1 V y\ncompact 5\npack\nrange * *\nentry c 1 V z\ntable\nrange * *",
+        b"tables 1\ntables 1\nruns 1\na 1 V x\ntables 1\na 1 V x\nb 1 V y\nc 1 V z\n",
+    ),
+    // Tables beside one another go into one run, in the order of their keys.
+    (
+        b"entry d 1 V x\ntable\nentry a 1 V y\ntable\npack\nrange * *",
+        b"tables 1\ntables 1\nruns 1\na 1 V y\nd 1 V x\n",
+    ),
+    // Tables of one key cannot.
+    (
+        b"entry a 1 V x\nentry c 1 V x\ntable\nentry b 2 V y\ntable\nentry d 3 V z\ntable\npack\nrange * *\npack\ncompact 0\npack",
+        b"tables 1\ntables 1\ntables 1\nruns 2\na 1 V x\nb 2 V y\nc 1 V x\nd 3 V z\nruns 2\ntables 1\nruns 1\n",
+    ),
+    (
+        b"entry a 9 V x\nentry a 3 V y\ntable\ncompact 9\ncompact 9\nrange * *\ncompact 10\nget a 9\npack",
+        b"tables 1\ntables 1\ntables 1\na 9 V x\ntables 1\nnone\nruns 1\n",
+    ),
+];
+
 // A script with entries of a thousand bytes each, which are more than a table takes.
 fn many_entries<A: Allocator>(alloc: A, count: u8) -> Result<Vec<u8, A>, AllocError> {
     let mut script = Vec::new(alloc);
@@ -99,13 +156,13 @@ fn many_entries<A: Allocator>(alloc: A, count: u8) -> Result<Vec<u8, A>, AllocEr
         script.resize(script.len() + 1000, b'x')?;
         script.push(b'\n')?;
     }
-    script.extend_from_slice(b"table\nget k99 2\nrange !k99 *\n")?;
+    script.extend_from_slice(b"table\nget k99 2\nrange !k99 *\ncompact 2\npack\n")?;
     Ok(script)
 }
 
 fn has_two_tables<A: Allocator + Clone>(alloc: A) -> Result<bool, AllocError> {
     let script = many_entries(alloc.clone()?, 80)?;
-    gives(alloc, &script, b"tables 2\nnone\nnone\n")
+    gives(alloc, &script, b"tables 2\nnone\nnone\ntables 2\nruns 1\n")
 }
 
 #[test]
@@ -123,7 +180,40 @@ fn reads_back_what_was_written(rt: HostRuntime) -> Result<(), Fail> {
     Ok(())
 }
 
+#[test]
+fn compacts_and_packs(rt: HostRuntime) -> Result<(), Fail> {
+    let alloc = rt.alloc();
+    for &(script, output) in COMPACTED {
+        assert!(rt; gives(alloc, script, output)?);
+    }
+    Ok(())
+}
+
 const NO_COMMANDS: &[&[u8]] = &[
+    b"compact",
+    b"compact ",
+    b"compact x",
+    b"compact 08",
+    b"compact +8",
+    b"compact  8",
+    b"compact evict",
+    b"compact 18446744073709551616",
+    b"compact 5 ",
+    b"compact 5 x",
+    b"compact 5  evict",
+    b"compact 5 Evict",
+    b"compact 5 evict ",
+    b"compact 5 evictzero",
+    b"compact 5 zero evict",
+    b"compact 5 evict evict",
+    b"compact 5 zero zero",
+    b"compact 5 evict  zero",
+    b"compact 5 evict zero zero",
+    b"compact 5 evict zero ",
+    b"Compact 5",
+    b"pack 1",
+    b"pack ",
+    b"Pack",
     b"range",
     b"range *",
     b"range * * *",
@@ -191,6 +281,23 @@ const OUT_OF_ORDER: &[(&[u8], &[u8], &[u8])] = &[
     (
         b"entry a 9 V x\nentry a 8 V x\nentry b 7 V x\ntable\nget b 8\nentry a 8 V x\ntable",
         b"tables 1\nb 7 V x\n",
+        b"sst: line 7\n",
+    ),
+    // A compacted run holds what it kept, under the number that it has there.
+    (
+        b"entry a 4 V x\ntable\ncompact 5\nentry a 4 V y\ntable\npack",
+        b"tables 1\ntables 1\n",
+        b"sst: line 5\n",
+    ),
+    (
+        b"entry a 4 V x\ntable\ncompact 5 zero\nentry a 4 V y\ntable\nentry a 0 V z\ntable",
+        b"tables 1\ntables 1\ntables 1\n",
+        b"sst: line 7\n",
+    ),
+    // So does each packed run.
+    (
+        b"entry a 4 V x\ntable\nentry b 4 V y\ntable\npack\nentry a 4 V z\ntable",
+        b"tables 1\ntables 1\nruns 1\n",
         b"sst: line 7\n",
     ),
 ];
@@ -300,23 +407,32 @@ fn failing_output_ends_the_script(rt: HostRuntime) -> Result<(), Fail> {
 }
 
 // What the first script prints where one of its commands is refused for want of memory, or none.
-const REFUSED_OUTPUTS: [&[u8]; 8] = [
+const REFUSED_OUTPUTS: [&[u8]; 14] = [
     FIRST_OUTPUT,
-    b"refused 1\ntables 1\na 7 T -\na 7 T -\nnone\n",
-    b"refused 1\ntables 1\nnone\na 9 V x\nnone\n",
-    b"refused 1\ntables 1\na 7 T -\na 9 V x\nnone\n",
-    b"refused 1\nnone\nnone\nnone\n",
-    b"tables 1\nrefused 1\na 9 V x\nnone\n",
-    b"tables 1\na 7 T -\nrefused 1\nnone\n",
-    b"tables 1\na 7 T -\na 9 V x\nrefused 1\n",
+    b"refused 1\ntables 1\na 7 T -\na 7 T -\nnone\na 7 T -\nb 1 V y\ntables 1\na 7 T -\ntables 1\nruns 1\n",
+    b"refused 1\ntables 1\nnone\na 9 V x\nnone\na 9 V x\nb 1 V y\ntables 1\na 9 V x\ntables 1\nruns 1\n",
+    b"refused 1\ntables 1\na 7 T -\na 9 V x\nnone\na 9 V x\ntables 1\na 9 V x\ntables 1\nruns 1\n",
+    b"refused 1\nnone\nnone\nnone\nnone\ntables 0\nnone\ntables 1\nruns 1\n",
+    b"tables 1\nrefused 1\na 9 V x\nnone\na 9 V x\nb 1 V y\ntables 1\na 9 V x\ntables 1\nruns 1\n",
+    b"tables 1\na 7 T -\nrefused 1\nnone\na 9 V x\nb 1 V y\ntables 1\na 9 V x\ntables 1\nruns 1\n",
+    b"tables 1\na 7 T -\na 9 V x\nrefused 1\na 9 V x\nb 1 V y\ntables 1\na 9 V x\ntables 1\nruns 1\n",
+    b"tables 1\na 7 T -\na 9 V x\nnone\nrefused 1\ntables 1\na 9 V x\ntables 1\nruns 1\n",
+    b"tables 1\na 7 T -\na 9 V x\nnone\na 9 V x\nb 1 V y\nrefused 1\na 9 V x\ntables 1\nruns 1\n",
+    b"tables 1\na 7 T -\na 9 V x\nnone\na 9 V x\nb 1 V y\ntables 1\nrefused 1\ntables 1\nruns 1\n",
+    b"tables 1\na 7 T -\na 9 V x\nnone\na 9 V x\nb 1 V y\ntables 1\na 9 V x\nrefused 1\ntables 0\nruns 1\n",
+    b"tables 1\na 7 T -\na 9 V x\nnone\na 9 V x\nb 1 V y\ntables 1\na 9 V x\nrefused 1\nruns 1\n",
+    b"tables 1\na 7 T -\na 9 V x\nnone\na 9 V x\nb 1 V y\ntables 1\na 9 V x\ntables 1\nrefused 1\n",
 ];
 
 // Whether a run of the first script is right, where one request for memory may have been refused.
 fn is_right<A: Allocator>(ran: &Ran<A>, may_fail: bool) -> bool {
-    if ran.status == 2 {
-        return may_fail && ran.errors.as_slice() == b"sst: input\n".as_slice();
-    }
     let output = ran.output.as_slice();
+    if ran.status == 2 {
+        // What was answered before stays.
+        return may_fail
+            && FIRST_OUTPUT.starts_with(output)
+            && ran.errors.as_slice() == b"sst: input\n".as_slice();
+    }
     ran.status == 0 && (output == FIRST_OUTPUT || may_fail && REFUSED_OUTPUTS.contains(&output))
 }
 

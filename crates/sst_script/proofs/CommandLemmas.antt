@@ -13,8 +13,8 @@ use Rattle.std.specs.Str.Parse.{AllDigits}
 use Rattle.std.proofs.lemmas.List.Splits.{length-slice_split, join_with_byte-slice_split}
 use Rattle.std.proofs.lemmas.Str.Parse.{digit_from_value}
 use Rattle.sst_script.specs.declared.command.Command.{Command}
-use Rattle.sst_script.specs.declared.command.Command.TheVariants.{Entry, Table, Get, Range}
-use Rattle.sst_script.specs.Command.{words_of, AskFor, Limits}
+use Rattle.sst_script.specs.declared.command.Command.TheVariants.{Entry, Table, Get, Range, Compact, Pack}
+use Rattle.sst_script.specs.Command.{words_of, AskFor, Limits, setting_words}
 use Rattle.sst_entries.proofs.Booleans.{and_parts}
 
 abbrev pub is_space : ℕ → Bool
@@ -76,6 +76,10 @@ digits_word (x ∷ xs) h = rw (no_digit x _ refl (digit_from_value x h.0)) (ap (
 pub one_word : (line word : List ℕ) → words_of line ≡ word ∷ [] → line ≡ word
 one_word line word h = sym (join_with_byte-slice_split 32 line) ∙ ap (join_with_byte 32) h
 
+-- a line is its words with spaces between them
+pub words_joined : (line : List ℕ) (words : List (List ℕ)) → words_of line ≡ words → line ≡ join_with_byte 32 words
+words_joined line words h = sym (join_with_byte-slice_split 32 line) ∙ ap (join_with_byte 32) h
+
 -- a line has words
 pub some_word : (line : List ℕ) → words_of line ≡ [] → ⊥
 some_word line h = omega (arith, length-slice_split is_space line, ap length h)
@@ -84,9 +88,34 @@ some_word line h = omega (arith, length-slice_split is_space line, ap length h)
 pub parts : (w x : List ℕ) (ws rest others : List (List ℕ)) → ws ≡ w ∷ rest → ws ≡ x ∷ others → (w ≡ x) × (rest ≡ others)
 parts w x ws rest others h k = let e : w ∷ rest ≡ x ∷ others = sym h ∙ k in (cc, cc)
 
--- a line of several words whose first is neither name asks for nothing
-pub no_command : (line name rest : List ℕ) → words_of line ≡ name ∷ words_of rest → (name ≡ codes "entry" → ⊥) → (name ≡ codes "get" → ⊥) → (name ≡ codes "range" → ⊥) → (command : Command) → AskFor (words_of line) command → ⊥
-no_command line name rest words no_entry no_get no_range (Entry key seqno kind value) h = no_entry (parts name (codes "entry") (words_of line) (words_of rest) _ words h.words_are).0
-no_command line name rest words no_entry no_get no_range Table h = some_word rest (parts name (codes "table") (words_of line) (words_of rest) [] words h).1
-no_command line name rest words no_entry no_get no_range (Get key bound) h = no_get (parts name (codes "get") (words_of line) (words_of rest) _ words h.words_are).0
-no_command line name rest words no_entry no_get no_range (Range low high) h = no_range (parts name (codes "range") (words_of line) (words_of rest) _ words h.words_are).0
+-- a line of several words whose first is none of these names asks for nothing
+pub no_command : (line name rest : List ℕ) → words_of line ≡ name ∷ words_of rest → (name ≡ codes "entry" → ⊥) → (name ≡ codes "get" → ⊥) → (name ≡ codes "range" → ⊥) → (name ≡ codes "compact" → ⊥) → (command : Command) → AskFor (words_of line) command → ⊥
+no_command line name rest words no_entry no_get no_range no_compact (Entry key seqno kind value) h = no_entry (parts name (codes "entry") (words_of line) (words_of rest) _ words h.words_are).0
+no_command line name rest words no_entry no_get no_range no_compact Table h = some_word rest (parts name (codes "table") (words_of line) (words_of rest) [] words h).1
+no_command line name rest words no_entry no_get no_range no_compact (Get key bound) h = no_get (parts name (codes "get") (words_of line) (words_of rest) _ words h.words_are).0
+no_command line name rest words no_entry no_get no_range no_compact (Range low high) h = no_range (parts name (codes "range") (words_of line) (words_of rest) _ words h.words_are).0
+no_command line name rest words no_entry no_get no_range no_compact (Compact watermark evict zero) h = no_compact (parts name (codes "compact") (words_of line) (words_of rest) _ words h.words_are).0
+no_command line name rest words no_entry no_get no_range no_compact Pack h = some_word rest (parts name (codes "pack") (words_of line) (words_of rest) [] words h).1
+
+none_behind : (w x y : List ℕ) (ws rest : List (List ℕ)) → ws ≡ w ∷ [] → ws ≡ x ∷ y ∷ rest → ⊥
+none_behind w x y ws rest h k = let e : w ∷ [] ≡ x ∷ y ∷ rest = sym h ∙ k in absurd cc
+
+-- a line of one word that is neither name asks for nothing
+pub no_word : (line name : List ℕ) → words_of line ≡ name ∷ [] → (name ≡ codes "table" → ⊥) → (name ≡ codes "pack" → ⊥) → (command : Command) → AskFor (words_of line) command → ⊥
+no_word line name words no_table no_pack (Entry key seqno kind value) h = none_behind name _ _ (words_of line) _ words h.words_are
+no_word line name words no_table no_pack Table h = no_table (parts name (codes "table") (words_of line) [] [] words h).0
+no_word line name words no_table no_pack (Get key bound) h = none_behind name _ _ (words_of line) _ words h.words_are
+no_word line name words no_table no_pack (Range low high) h = none_behind name _ _ (words_of line) _ words h.words_are
+no_word line name words no_table no_pack (Compact watermark evict zero) h = none_behind name _ _ (words_of line) _ words h.words_are
+no_word line name words no_table no_pack Pack h = no_pack (parts name (codes "pack") (words_of line) [] [] words h).0
+
+-- words behind a watermark that are none of these are no settings
+pub no_settings : (rest : List ℕ) → (rest ≡ codes "evict" → ⊥) → (rest ≡ codes "zero" → ⊥) → (rest ≡ codes "evict zero" → ⊥) → (evict zero : Bool) → words_of rest ≡ setting_words evict zero → ⊥
+no_settings rest no_evict no_zero no_both false false h = some_word rest h
+no_settings rest no_evict no_zero no_both true false h = no_evict (words_joined rest (codes "evict" ∷ []) h)
+no_settings rest no_evict no_zero no_both false true h = no_zero (words_joined rest (codes "zero" ∷ []) h)
+no_settings rest no_evict no_zero no_both true true h = no_both (words_joined rest (codes "evict" ∷ codes "zero" ∷ []) h)
+
+-- both of them
+pub both_settings : (rest : List ℕ) → rest ≡ codes "evict zero" → words_of rest ≡ setting_words true true
+both_settings rest is = ap words_of is

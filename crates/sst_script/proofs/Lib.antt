@@ -1,9 +1,12 @@
 pub mod CommandLemmas
+pub mod CompactLemmas
 pub mod DealtLemmas
 pub mod EntryLemmas
+pub mod PackLemmas
 pub mod PendingLemmas
 pub mod RefusalLemmas
 pub mod RunLemmas
 pub mod PrintLemmas
 pub mod ScriptLemmas
 pub mod StoreLemmas
+pub mod UnionLemmas

@@ -1,7 +1,8 @@
 -- The lists of runs, and what is read of them.
-use Rattle.std.proofs.Common.{◌≡◌, refl, sym, ◌∙◌, ap, subst, ℕ, zero, suc, ◌+◌, ◌<◌, Bool, true, false, List, [], ◌∷◌, length, get_or, drop, drop-cons, add-one, arith}
+use Rattle.std.proofs.Common.{◌≡◌, refl, sym, ◌∙◌, ap, subst, ℕ, zero, suc, ◌+◌, ◌<◌, Bool, true, false, List, [], ◌∷◌, ◌++◌, append_assoc, append-nil, length, get_or, drop, drop-cons, add-one, arith}
 use Rattle.std.specs.Prelude.{Option, Result, Ok, Err, ◌||◌, map}
 use Rattle.std.specs.List.{AllByRecursion}
+use Rattle.std.proofs.lemmas.List.{map-append}
 use Rattle.std.specs.declared.ops.Bound.{Bound}
 use Rattle.sst_entries.specs.declared.error.Error.{Error}
 use Rattle.sst_entries.specs.declared.error.Error.TheVariants.{OutOfMemory}
@@ -39,7 +40,7 @@ pub union_same : (rs : List Run) → union_in (lists_of rs) ≡ union rs
 union_same rs = ap union_of (all_same rs)
 
 module _ (rs : List Run) (ts : List (List OpenTable)) (same : run_tables rs ≡ ts) where
-  held : RunsHoldLists ts (lists_of rs)
+  pub held : RunsHoldLists ts (lists_of rs)
   held = subst (λ (us : List (List OpenTable)). RunsHoldLists us (lists_of rs)) same (runs_held rs)
 
   -- a read of the runs' tables answers the first match in the sorted entries of all lists
@@ -78,6 +79,19 @@ memory_of {X} e found false is fails = let no : Ok found ≡ Err e = fails is in
 
 pub out_of_memory : {Y : Type 0} (e : Error) (told : Y) → e ≡ OutOfMemory → Fails e (Ok told)
 out_of_memory e told is memory = let other : is_memory OutOfMemory ≡ false = sym (ap is_memory is) ∙ memory in absurd cc
+
+-- ---- a list whose values are shared one by one
+
+pub shared_more : {X Y : Type 0} (f : X → Y) (shared : List X) (x : X) (y : Y) (before rest all : List Y) → f x ≡ y → before ≡ y ∷ rest → map f shared ++ before ≡ all → map f (shared ++ x ∷ []) ++ rest ≡ all
+shared_more {X} {Y} f shared x y before rest all is next so_far =
+    ap (λ (ys : List Y). ys ++ rest) (map-append f shared (x ∷ []))
+    ∙ append_assoc (map f shared) (f x ∷ []) rest
+    ∙ ap (λ (z : Y). map f shared ++ z ∷ rest) is
+    ∙ ap (λ (ys : List Y). map f shared ++ ys) (sym next)
+    ∙ so_far
+
+pub shared_all : {X Y : Type 0} (f : X → Y) (shared : List X) (rest all : List Y) → rest ≡ [] → map f shared ++ rest ≡ all → map f shared ≡ all
+shared_all {X} {Y} f shared rest all none so_far = sym (append-nil (map f shared)) ∙ ap (λ (ys : List Y). map f shared ++ ys) (sym none) ∙ so_far
 
 -- ---- a list, from a place on
 

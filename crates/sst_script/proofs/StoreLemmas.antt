@@ -10,12 +10,12 @@ use Rattle.lsm_readers.proofs.Scans.{memory_is}
 use Rattle.lsm_readers.specs.Table.{OpenTable}
 use Rattle.lsm_tables.specs.Chain.{AreCutOf, IsRunOfList, ids_behind, run_label, tables_fault}
 use Rattle.sst_script.specs.declared.command.Command.{Command}
-use Rattle.sst_script.specs.declared.command.Command.TheVariants.{Table}
-use Rattle.sst_script.specs.declared.print.Answer.TheVariants.{Tables}
+use Rattle.sst_script.specs.declared.command.Command.TheVariants.{Compact, Pack, Table}
+use Rattle.sst_script.specs.declared.print.Answer.TheVariants.{Runs, Tables}
 use Rattle.sst_script.specs.declared.stop.Failure.{Failure}
 use Rattle.sst_script.specs.declared.stop.Failure.TheVariants.{BadLine, Refused}
 use Rattle.sst_script.specs.Runs.{repeats, run_tables, HasRuns, Run}
-use Rattle.sst_script.specs.Script.{pending_fault, store, table_fault, target_size, Executes, GivesUp, Writes, WritesTable}
+use Rattle.sst_script.specs.Script.{Store, kept_by, pending_fault, store, table_fault, target_size, Compacts, Executes, GivesUp, Packs, Writes, WritesTable}
 use Rattle.sst_script.proofs.RunLemmas.{memory_of}
 
 abbrev MayFail : List Run → List Entry → Option ℕ → Failure → Type 0
@@ -94,3 +94,23 @@ executed A command rs es left next following count new is none done =
       subst (λ (c : Command). Executes {A = A} c (store es rs next) (Ok (Tables count)) (store left done.0 following)) (sym is)
           (subst (λ (xs : List Entry). Executes {A = A} Table (store es rs next) (Ok (Tables count)) (store xs done.0 following)) (sym none) table),
     )
+
+-- a command that compacts the runs
+pub compact_executed : (A : Type 0) (command : Command) (old : Store) (watermark : ℕ) (evict zero : Bool) (count : ℕ) (new : List (List OpenTable)) (after : List Run → Store) → command ≡ Compact watermark evict zero
+    → HasRuns new (λ rs. Compacts old (kept_by watermark evict zero old.runs) count (after rs))
+    → HasRuns new (λ rs. Executes {A = A} command old (Ok (Tables count)) (after rs))
+compact_executed A command old watermark evict zero count new after is done = (
+  done.0,
+  done.1,
+  subst (λ (c : Command). Executes {A = A} c old (Ok (Tables count)) (after done.0)) (sym is) (count, refl, done.2),
+)
+
+-- a command that packs them
+pub pack_executed : (A : Type 0) (command : Command) (old : Store) (count : ℕ) (new : List (List OpenTable)) (after : List Run → Store) → command ≡ Pack
+    → HasRuns new (λ rs. Packs old count (after rs))
+    → HasRuns new (λ rs. Executes {A = A} command old (Ok (Runs count)) (after rs))
+pack_executed A command old count new after is done = (
+  done.0,
+  done.1,
+  subst (λ (c : Command). Executes {A = A} c old (Ok (Runs count)) (after done.0)) (sym is) (count, refl, done.2),
+)

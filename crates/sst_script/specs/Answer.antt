@@ -4,7 +4,7 @@ use Rattle.std.specs.Fmt.{decimal}
 use Rattle.std.specs.List.{flat_map, join_with_byte}
 use Rattle.sst_entries.specs.Entry.{Entry}
 use Rattle.sst_script.specs.declared.print.Answer.{Answer}
-use Rattle.sst_script.specs.declared.print.Answer.TheVariants.{Silent, Tables, Found, Entries}
+use Rattle.sst_script.specs.declared.print.Answer.TheVariants.{Silent, Tables, Runs, Found, Entries}
 use Rattle.sst_script.specs.Text.{letter_of, printed}
 
 -- an entry's line: its key, number, kind and value
@@ -27,6 +27,7 @@ entry_lines (e ∷ es) = flat_map entry_line (e ∷ es)
 abbrev pub answer_lines : {A : Type 0} → Answer A → List ℕ
 answer_lines Silent = []
 answer_lines (Tables n) = codes "tables " ++ decimal n ++ 10 ∷ []
+answer_lines (Runs n) = codes "runs " ++ decimal n ++ 10 ∷ []
 answer_lines (Found None) = none_line
 answer_lines (Found (Some e)) = entry_line e
 answer_lines (Entries v) = entry_lines v.items

@@ -1,5 +1,5 @@
 -- The forms of a script's lines.
-use Rattle.std.specs.Prelude.{◌≡◌, ℕ, ◌<◌, ◌==◌, true, List, [], ◌∷◌, length, nat_eq, codes, if◌then◌else◌, Option, Some, None}
+use Rattle.std.specs.Prelude.{◌≡◌, ℕ, ◌<◌, ◌==◌, Bool, true, false, List, [], ◌∷◌, length, nat_eq, codes, if◌then◌else◌, Option, Some, None}
 use Rattle.std.specs.Char.{is_ascii_graphic}
 use Rattle.std.specs.Cmp.Lexicographic.{pointwise}
 use Rattle.std.specs.List.{list_all, slice_split}
@@ -9,7 +9,7 @@ use Rattle.sst_script.specs.declared.command.Command.{Command}
 use Rattle.std.specs.declared.ops.Bound.{Bound}
 use Rattle.std.specs.declared.ops.Bound.TheVariants.{Included, Excluded, Unbounded}
 use Rattle.lsm_ranges.specs.KeyRange.{key_bound}
-use Rattle.sst_script.specs.declared.command.Command.TheVariants.{Entry, Table, Get, Range}
+use Rattle.sst_script.specs.declared.command.Command.TheVariants.{Entry, Table, Get, Range, Compact, Pack}
 use Rattle.sst_script.specs.Text.{letter_of, IsNumber}
 
 -- the parts of a line between its spaces
@@ -70,9 +70,24 @@ pub record ReadsRange (words : List (List ℕ)) (low high : Bound (List ℕ)) : 
   pub low_is : Limits low_word low
   pub high_is : Limits high_word high
 
+-- the words behind a watermark: whether tombstones are evicted, and whether numbers become 0
+abbrev pub setting_words : Bool → Bool → List (List ℕ)
+setting_words false false = []
+setting_words true false = codes "evict" ∷ []
+setting_words false true = codes "zero" ∷ []
+setting_words true true = codes "evict" ∷ codes "zero" ∷ []
+
+-- the words of a line that compacts the runs
+pub record CompactsBy (words : List (List ℕ)) (watermark : ℕ) (evict zero : Bool) : Type 0 where
+  pub number_word : List ℕ
+  pub words_are : words ≡ codes "compact" ∷ number_word ∷ setting_words evict zero
+  pub watermark_is : Counts number_word watermark
+
 -- the words of a line ask for a command
 abbrev pub AskFor : List (List ℕ) → Command → Type 0
 AskFor words (Entry key seqno kind value) = AddsEntry words key.now seqno kind value.now
 AskFor words Table = words ≡ codes "table" ∷ []
 AskFor words (Get key bound) = ReadsKey words key.now bound
 AskFor words (Range low high) = ReadsRange words (key_bound low) (key_bound high)
+AskFor words (Compact watermark evict zero) = CompactsBy words watermark evict zero
+AskFor words Pack = words ≡ codes "pack" ∷ []

@@ -6,3 +6,4 @@ pub mod Runs
 pub mod Script
 pub mod Stop
 pub mod Text
+pub mod Words

@@ -1,5 +1,5 @@
 -- What a script's commands do to its runs.
-use Rattle.std.specs.Prelude.{◌≡◌, ℕ, IsTrue, List, [], ◌∷◌, ◌++◌, length, Option, Some, None, Result, MatchResult, ◌⊎◌, if◌then◌else◌}
+use Rattle.std.specs.Prelude.{◌≡◌, ℕ, Bool, IsTrue, List, [], ◌∷◌, ◌++◌, length, Option, Some, None, Result, MatchResult, ◌⊎◌, if◌then◌else◌}
 use Rattle.std.specs.Option.{option_map}
 use Rattle.sst_entries.specs.declared.error.Error.{Error}
 use Rattle.sst_entries.specs.declared.error.Error.TheVariants.{OutOfMemory}
@@ -7,15 +7,19 @@ use Rattle.sst_entries.specs.Entry.{Entry, entry}
 use Rattle.sst_entries.specs.Point.{point, within}
 use Rattle.lsm_merge.specs.Union.{newest}
 use Rattle.lsm_ranges.specs.KeyRange.{key_bound}
+use Rattle.lsm_ranges.specs.Packing.{ArePacked, IsLeastSize, SameHolders, SameTables}
+use Rattle.lsm_sorted.specs.Compaction.{kept, unfiltered}
 use Rattle.lsm_tables.specs.Chain.{AreCutOf, ids_behind, run_label, tables_fault}
+use Rattle.lsm_tables.specs.Compacted.{rules_by}
+use Rattle.lsm_tables.specs.RunParts.{range_of}
 use Rattle.lsm_writers.specs.Writing.{may_be_written}
 use Rattle.sst_script.specs.declared.command.Command.{Command}
-use Rattle.sst_script.specs.declared.command.Command.TheVariants.{Entry as Add, Table, Get, Range}
+use Rattle.sst_script.specs.declared.command.Command.TheVariants.{Entry as Add, Table, Get, Range, Compact, Pack}
 use Rattle.sst_script.specs.declared.print.Answer.{Answer}
-use Rattle.sst_script.specs.declared.print.Answer.TheVariants.{Silent, Tables, Found, Entries}
+use Rattle.sst_script.specs.declared.print.Answer.TheVariants.{Silent, Tables, Runs as PackedInto, Found, Entries}
 use Rattle.sst_script.specs.declared.stop.Failure.{Failure}
 use Rattle.sst_script.specs.declared.stop.Failure.TheVariants.{BadLine, Refused}
-use Rattle.sst_script.specs.Runs.{Run, repeats, union}
+use Rattle.sst_script.specs.Runs.{Run, repeats, run_tables, union}
 
 -- what a script has stored: the entries of the next run, the runs, newest first, and the next id
 pub record Store : Type 0 where
@@ -66,6 +70,61 @@ GivesUp old e new =
 abbrev pub WritesTable : Store → Result ℕ Failure → Store → Type 0
 WritesTable old r new = MatchResult r (λ count. Writes old count new) (λ e. GivesUp old e new)
 
+-- what a compaction keeps of the sorted entries of the runs' lists
+abbrev pub kept_by : ℕ → Bool → Bool → List Run → List Entry
+kept_by watermark evict zero runs = kept (rules_by watermark evict zero) (unfiltered (union runs))
+
+-- the kept entries became the only run, cut by the target into so many tables, whose ids run on; or
+-- there were none, and no run is left
+abbrev pub LeavesRun : Store → List Entry → ℕ → Store → Type 0
+LeavesRun old left count new =
+    ((count ≡ 0) × (left ≡ [])
+    × (new ≡ store old.pending [] (ids_behind old.next_id target_size count)))
+    ⊎ ((run : Run) × (run.list ≡ left) × (count ≡ length run.tables)
+    × AreCutOf (run_label old.next_id target_size 0) target_size run.list 0 run.tables
+    × (new ≡ store old.pending (run ∷ []) (ids_behind old.next_id target_size count)))
+
+-- why kept entries become no run: writing them is refused
+abbrev pub kept_fault : Store → List Entry → Option Failure
+kept_fault s left = option_map Refused (tables_fault s.next_id target_size 0 left)
+
+-- nothing was against the kept entries, and they were written
+abbrev pub Compacts : Store → List Entry → ℕ → Store → Type 0
+Compacts old left count new = (kept_fault old left ≡ None) × LeavesRun old left count new
+
+-- all is as it was, for the kept entries' fault or for want of memory
+abbrev pub FailsToCompact : Store → List Entry → Failure → Store → Type 0
+FailsToCompact old left e new =
+    ((e ≡ Refused OutOfMemory) ⊎ (kept_fault old left ≡ Some e)) × (new ≡ old)
+
+-- what compacting the runs to kept entries comes to
+abbrev pub CompactsRuns : Store → List Entry → Result ℕ Failure → Store → Type 0
+CompactsRuns old left r new =
+    MatchResult r (λ count. Compacts old left count new) (λ e. FailsToCompact old left e new)
+
+-- the same tables in other runs: of each key in the same order, in runs in order that have a table
+-- each, so few that none can do with fewer; they hold the same sorted entries
+pub record ArePackedRuns (old new : List Run) : Type 0 where
+  pub tables : SameTables (run_tables old) (run_tables new)
+  pub holders : SameHolders range_of (run_tables old) (run_tables new)
+  pub ordered : ArePacked range_of (run_tables new)
+  pub least : IsLeastSize range_of (run_tables old) (length new)
+  pub union_is : union new ≡ union old
+
+-- so many packed runs stand in the place of the runs
+abbrev pub Packs : Store → ℕ → Store → Type 0
+Packs old count new = (count ≡ length new.runs) × ArePackedRuns old.runs new.runs
+    × (new ≡ store old.pending new.runs old.next_id)
+
+-- all is as it was, for want of memory
+abbrev pub WantsMemory : Store → Failure → Store → Type 0
+WantsMemory old e new = (e ≡ Refused OutOfMemory) × (new ≡ old)
+
+-- what packing the runs comes to
+abbrev pub PacksRuns : Store → Result ℕ Failure → Store → Type 0
+PacksRuns old r new =
+    MatchResult r (λ count. Packs old count new) (λ e. WantsMemory old e new)
+
 -- why an entry is not added: it may not follow the pending ones, or memory is refused
 abbrev pub entry_failure : List Entry → List ℕ → ℕ → Failure
 entry_failure es key seqno = if may_be_written es key seqno then Refused OutOfMemory else BadLine
@@ -90,3 +149,10 @@ Executes (Get key bound) old r new = (new ≡ old) × MatchResult r
 Executes (Range low high) old r new = (new ≡ old) × MatchResult r
     (λ a. AreAnswered (newest (within (key_bound low) (key_bound high) (union old.runs))) a)
     (λ e. e ≡ Refused OutOfMemory)
+Executes (Compact watermark evict zero) old r new =
+    let left = kept_by watermark evict zero old.runs in MatchResult r
+    (λ a. (count : ℕ) × (a ≡ Tables count) × Compacts old left count new)
+    (λ e. FailsToCompact old left e new)
+Executes Pack old r new = MatchResult r
+    (λ a. (count : ℕ) × (a ≡ PackedInto count) × Packs old count new)
+    (λ e. WantsMemory old e new)

@@ -1,5 +1,5 @@
 //! What a line of a script asks for.
-ghost use Rattle.std.specs.Prelude.{◌≡◌, ◌==◌, ◌<◌, ℕ, List, [], ◌∷◌, length, None, Some, IfSome, IfNone, codes};
+ghost use Rattle.std.specs.Prelude.{◌≡◌, ◌==◌, ◌<◌, ℕ, Bool, List, [], ◌∷◌, length, None, Some, IfSome, IfNone, codes};
 ghost use Rattle.std.specs.Option.{SomeIff, option_copied};
 ghost use Rattle.std.specs.Char.{is_ascii_graphic};
 ghost use Rattle.std.specs.List.{list_all, position};
@@ -8,7 +8,7 @@ ghost use Rattle.std.specs.declared.ops.Bound.{Bound};
 ghost use Rattle.sst_entries.specs.declared.value_type.ValueType.{ValueType};
 ghost use Rattle.lsm_ranges.specs.KeyRange.{key_bound};
 ghost use Rattle.sst_script.specs.declared.command.Command.{Command};
-ghost use Rattle.sst_script.specs.Command.{words_of, words_behind, StandsFor, AddsEntry, Limits, ReadsKey, ReadsRange, AskFor};
+ghost use Rattle.sst_script.specs.Command.{words_of, words_behind, StandsFor, AddsEntry, CompactsBy, Limits, ReadsKey, ReadsRange, AskFor, setting_words};
 ghost use Rattle.sst_script.specs.Text.{letter_of, IsNumber};
 
 use sst_blocks::{SeqNo, ValueType};
@@ -36,6 +36,14 @@ pub(crate) enum Command<'a> {
         low: Bound<&'a [u8]>,
         high: Bound<&'a [u8]>,
     },
+    /// Puts what is kept of all runs in the place of them.
+    Compact {
+        watermark: SeqNo,
+        evict: bool,
+        zero: bool,
+    },
+    /// Puts the tables of all runs in the fewest runs.
+    Pack,
 }
 
 /// The command that a line spells, or `None` where it spells none.
@@ -46,10 +54,12 @@ pub(crate) fn parse_command(line: &[u8]) -> Option<Command<'_>>
     let (name, rest) = split_word(line);
     match rest {
         None if name == b"table".as_slice() => Some(Command::Table),
+        None if name == b"pack".as_slice() => Some(Command::Pack),
         None => None,
         Some(words) if name == b"entry".as_slice() => parse_entry(words),
         Some(words) if name == b"get".as_slice() => parse_get(words),
         Some(words) if name == b"range".as_slice() => parse_range(words),
+        Some(words) if name == b"compact".as_slice() => parse_compact(words),
         Some(_) => None,
     }
 }
@@ -107,6 +117,39 @@ fn parse_bound(word: &[u8]) -> Option<Bound<&[u8]>>
         [b'=', key @ ..] => Some(Bound::Included(parse_text(key)?)),
         [b'!', key @ ..] => Some(Bound::Excluded(parse_text(key)?)),
         _ => None,
+    }
+}
+
+// What follows `compact `: a watermark, and its settings.
+fn parse_compact(words: &[u8]) -> Option<Command<'_>>
+    ensures form { IfSome result (λ command.
+        AskFor (codes "compact" ∷ words_of words.now) command) }
+    ensures none { IfNone result ((watermark : ℕ) (evict zero : Bool) →
+        ¬ CompactsBy (codes "compact" ∷ words_of words.now) watermark evict zero) }
+{
+    let (watermark, settings) = split_word(words);
+    let watermark = parse_number(watermark)?;
+    let (evict, zero) = parse_settings(settings)?;
+    Some(Command::Compact {
+        watermark,
+        evict,
+        zero,
+    })
+}
+
+// Whether tombstones are evicted and whether numbers become 0: each by its word, in this order.
+fn parse_settings(settings: Option<&[u8]>) -> Option<(bool, bool)>
+    ensures words { IfSome result (λ told.
+        words_behind (option_copied settings.entry) ≡ setting_words told.0 told.1) }
+    ensures none { IfNone result ((evict zero : Bool) →
+        ¬ (words_behind (option_copied settings.entry) ≡ setting_words evict zero)) }
+{
+    match settings {
+        None => Some((false, false)),
+        Some(words) if words == b"evict".as_slice() => Some((true, false)),
+        Some(words) if words == b"zero".as_slice() => Some((false, true)),
+        Some(words) if words == b"evict zero".as_slice() => Some((true, true)),
+        Some(_) => None,
     }
 }
 

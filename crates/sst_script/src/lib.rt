@@ -3,6 +3,9 @@
 //! A line `entry KEY NUMBER KIND VALUE` adds a pending entry, `table` writes the pending entries as tables, which are a run,
 //! `get KEY BOUND` reads the newest entry of a key numbered below a bound, and `range LOW HIGH` reads the newest entry of each
 //! key within two bounds: `*` for none, or a key behind `=`, which is within, or behind `!`, which is not.
+//!
+//! A line `compact WATERMARK` puts one run in the place of all runs, of what a compaction under that watermark keeps of them;
+//! behind the watermark may stand `evict`, and behind that `zero`. `pack` puts the tables of all runs in the fewest runs.
 #![tactic(auto)]
 
 mod command;

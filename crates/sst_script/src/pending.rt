@@ -16,7 +16,7 @@ use std::alloc::Allocator;
 use std::marker::Model;
 
 /// How many bytes of data blocks a table has before the next one begins.
-const TARGET_SIZE: u64 = 65_536;
+pub(crate) const TARGET_SIZE: u64 = 65_536;
 
 /// Entries that tables can be written of. A contract sees the list.
 #[derive(Drop)]

@@ -15,6 +15,8 @@ pub(crate) enum Answer<A: Allocator> {
     Silent,
     /// How many tables were written.
     Tables(u64),
+    /// Into how many runs the tables were packed.
+    Runs(u64),
     /// The entry that was found.
     Found(Option<InternalValue<A>>),
     /// The entries that were read.
@@ -29,6 +31,7 @@ pub(crate) fn print_answer<W: Write, A: Allocator>(output: &mut W, answer: &Answ
     match answer {
         Answer::Silent => Ok(()),
         Answer::Tables(count) => writeln!(output, "tables {count}"),
+        Answer::Runs(count) => writeln!(output, "runs {count}"),
         Answer::Found(Some(item)) => print_entry(output, item),
         Answer::Found(None) => print_none(output),
         Answer::Entries(items) => print_entries(output, items),

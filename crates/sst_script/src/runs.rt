@@ -4,15 +4,8 @@ ghost use Rattle.std.specs.Arc.{arc_value};
 ghost use Rattle.std.specs.Iterator.{IsFinite};
 ghost use Rattle.std.specs.Vec.{vec_items};
 ghost use Rattle.sst_entries.specs.declared.error.Error.TheVariants.{OutOfMemory};
-ghost use Rattle.sst_entries.specs.Entry.{Entry};
-ghost use Rattle.sst_entries.specs.Error.{Gives};
-ghost use Rattle.sst_entries.specs.Point.{point, within};
-ghost use Rattle.sst_entries.specs.Stream.{nowhere};
-ghost use Rattle.lsm_merge.specs.Union.{newest};
-ghost use Rattle.lsm_ranges.specs.KeyRange.{key_bound};
-ghost use Rattle.lsm_tables.specs.RunLists.{DealsList};
-ghost use Rattle.lsm_writers.specs.Writing.{IsWritable};
 ghost use Rattle.sst_script.specs.Runs.{ForRuns, has_entry, repeats, union};
+ghost use Rattle.sst_script.specs.Words.{DealsList, Entry, Gives, IsWritable, key_bound, newest, nowhere, point, within};
 
 use lsm_ranges::Run;
 use lsm_tables::{Table, get_runs, range_runs};
@@ -76,6 +69,21 @@ fn collect<A: Allocator, I: Iterator<Item = IterItem<A>>>(
         items.push(item?)?;
     }
     Ok(items)
+}
+
+/// Runs that can be shared. Refused for want of memory alone.
+pub(crate) fn share_all<A: Allocator + Clone>(
+    alloc: A,
+    runs: Vec<Run<Table<A>, A>, A>,
+) -> Result<Vec<Arc<Run<Table<A>, A>, A>, A>, Error>
+    ensures ok { IfOk result (λ shared. map arc_value shared.items ≡ runs.items) }
+    ensures err { IfErr result (λ e. e ≡ OutOfMemory) }
+{
+    let mut shared = Vec::new(alloc.clone()?);
+    for run in runs {
+        shared.push(Arc::new(alloc.clone()?, run)?)?;
+    }
+    Ok(shared)
 }
 
 /// Whether one of the runs has the key and number of one of some entries. Refused for want of memory alone.

@@ -9,16 +9,18 @@ ghost use Rattle.sst_script.specs.Answering.{LineEnds, PrintEnds, ScriptEnds, ou
 ghost use Rattle.sst_script.specs.Lines.{ReadsLine};
 ghost use Rattle.sst_script.specs.Runs.{ForRuns, HasRuns};
 ghost use Rattle.sst_script.specs.Stop.{stop_text};
-ghost use Rattle.sst_script.specs.Script.{store, Executes, WritesTable};
+ghost use Rattle.lsm_tables.specs.Compacted.{AreCompactable};
+ghost use Rattle.sst_script.specs.Script.{store, kept_by, CompactsRuns, Executes, PacksRuns, WritesTable};
 
 use crate::command::{Command, parse_command};
-use crate::pending::Pending;
+use crate::pending::{Pending, TARGET_SIZE};
 use crate::print::{Answer, print_answer, print_refusal};
-use crate::runs::{is_repeated, newest_answer, newest_entries};
+use crate::runs::{is_repeated, newest_answer, newest_entries, share_all};
 use crate::stop::{Failure, Stop};
 use lsm_ranges::Run;
-use lsm_tables::Table;
+use lsm_tables::{Table, Timestamp, compact_to_run, pack_runs};
 use lsm_writers::TableIds;
+use sst_blocks::SeqNo;
 use std::alloc::{AllocError, Allocator};
 use std::io::{BufRead, BufReader, Read, Write};
 use std::sync::Arc;
@@ -149,6 +151,8 @@ impl<A: Allocator + Clone> Script<A> {
         line: &[u8],
         output: &mut W,
     ) -> Result<(), Stop>
+        requires { AreCompactable (map arc_value self.old.runs.items) }
+        ensures able { AreCompactable (map arc_value self.new.runs.items) }
         ensures stops { IfErr result (λ stop. (stop ≡ Line number) ⊎ (stop ≡ Output)) }
         ensures ended { ForRuns (map arc_value self.old.runs.items) (λ before.
             HasRuns (map arc_value self.new.runs.items) (λ after.
@@ -165,7 +169,9 @@ impl<A: Allocator + Clone> Script<A> {
     }
 
     fn execute(&mut self, command: Command<'_>) -> Result<Answer<A>, Failure>
-        ensures { ForRuns (map arc_value self.old.runs.items) (λ before.
+        requires { AreCompactable (map arc_value self.old.runs.items) }
+        ensures able { AreCompactable (map arc_value self.new.runs.items) }
+        ensures done { ForRuns (map arc_value self.old.runs.items) (λ before.
             HasRuns (map arc_value self.new.runs.items) (λ after.
             Executes command.entry
             (store self.old.pending before self.old.ids) result
@@ -194,13 +200,21 @@ impl<A: Allocator + Clone> Script<A> {
                 let found = newest_entries(self.alloc.clone()?, &self.runs, low, high)?;
                 Ok(Answer::Entries(found))
             }
+            Command::Compact {
+                watermark,
+                evict,
+                zero,
+            } => Ok(Answer::Tables(self.compact(watermark, evict, zero)?)),
+            Command::Pack => Ok(Answer::Runs(self.pack()?)),
         }
     }
 
     // Writes the pending entries as a run, and answers how many tables it has. Where it is refused, the runs and the next id
     // stay. What is left of the pending entries is for the caller to clear.
     fn write_table(&mut self) -> Result<u64, Failure>
-        ensures { ForRuns (map arc_value self.old.runs.items) (λ before.
+        requires { AreCompactable (map arc_value self.old.runs.items) }
+        ensures able { AreCompactable (map arc_value self.new.runs.items) }
+        ensures done { ForRuns (map arc_value self.old.runs.items) (λ before.
             HasRuns (map arc_value self.new.runs.items) (λ after.
             WritesTable
             (store self.old.pending before self.old.ids) result
@@ -221,5 +235,55 @@ impl<A: Allocator + Clone> Script<A> {
         self.runs.insert(0, Arc::new(self.alloc.clone()?, run)?)?;
         self.ids = ids;
         Ok(count)
+    }
+
+    // Puts the run of what is kept of all runs in the place of them, or none where nothing is kept, and answers how many tables
+    // it has. Where it is refused, the runs and the next id stay.
+    fn compact(&mut self, watermark: SeqNo, evict: bool, zero: bool) -> Result<u64, Failure>
+        requires { AreCompactable (map arc_value self.old.runs.items) }
+        ensures able { AreCompactable (map arc_value self.new.runs.items) }
+        ensures done { ForRuns (map arc_value self.old.runs.items) (λ before.
+            HasRuns (map arc_value self.new.runs.items) (λ after.
+            CompactsRuns
+            (store self.old.pending before self.old.ids) (kept_by watermark evict zero before) result
+            (store self.new.pending after self.new.ids))) }
+    {
+        let (run, next_ids) = compact_to_run(
+            self.alloc.clone()?,
+            &self.runs,
+            watermark,
+            evict,
+            zero,
+            self.ids,
+            TARGET_SIZE,
+            Timestamp::from(0),
+        )?;
+        let Some(run) = run else {
+            self.runs.clear();
+            self.ids = next_ids;
+            return Ok(0);
+        };
+        let tables = run.as_slice().len() as u64;
+        let mut runs = Vec::new(self.alloc.clone()?);
+        runs.push(Arc::new(self.alloc.clone()?, run)?)?;
+        self.runs = runs;
+        self.ids = next_ids;
+        Ok(tables)
+    }
+
+    // Puts the tables of all runs in the fewest runs, and answers how many these are. Refused for want of memory alone; the
+    // runs stay then.
+    fn pack(&mut self) -> Result<u64, Failure>
+        requires { AreCompactable (map arc_value self.old.runs.items) }
+        ensures able { AreCompactable (map arc_value self.new.runs.items) }
+        ensures done { ForRuns (map arc_value self.old.runs.items) (λ before.
+            HasRuns (map arc_value self.new.runs.items) (λ after.
+            PacksRuns
+            (store self.old.pending before self.old.ids) result
+            (store self.new.pending after self.new.ids))) }
+    {
+        let packed = pack_runs(self.alloc.clone()?, &self.runs)?;
+        self.runs = share_all(self.alloc.clone()?, packed)?;
+        Ok(self.runs.len() as u64)
     }
 }

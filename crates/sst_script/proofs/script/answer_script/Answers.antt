@@ -5,6 +5,7 @@ use Rattle.sst_script.specs.declared.stop.Stop.{Stop}
 use Rattle.std.specs.Io.Buffered.{reader_remaining}
 use Rattle.sst_script.specs.declared.stop.Stop.TheVariants.{Input}
 use Rattle.sst_script.specs.Lines.{LosesLine, ReadsLine}
+use Rattle.sst_script.proofs.CompactLemmas.{able_none}
 use Rattle.sst_script.proofs.RefusalLemmas.{passed}
 use Rattle.sst_script.proofs.ScriptLemmas.{at_start, at_more, at_failure, at_stop}
 use Rattle.sst_script.proofs.script.answer_script.Goals as goal
@@ -31,17 +32,17 @@ pub loop-before-init : goal.loop-before-init
 loop-before-init g c =
     let new = c.in_ok-script.ensures in
     let left : reader_remaining g.R.Read.remaining c.in_ok-input.input ≡ g.R.Read.remaining c.args.input = search rules in
-    ([], ap (map arc_value) (sym new.1), rw (new.0, new.2, left) (at_start g.row.A.Denot _ _))
+    (rw new.1 able_none, ([], ap (map arc_value) (sym new.1), rw (new.0, new.2, left) (at_start g.row.A.Denot _ _)))
 
 pub returns-in_err-read_line : goal.returns-in_err-read_line
 returns-in_err-read_line g c =
     let r = c.from_residual-in_err-read_line.result in
     let e = c.in_err-read_line.field-0.0 in
-    at_failure r (passed r e c.from_residual-in_err-read_line.ensures.1 ∙ ap (λ (stop : Stop). Err stop) c.in_err-read_line.ensures.failed) c.loop-before.invariant.2
+    at_failure r (passed r e c.from_residual-in_err-read_line.ensures.1 ∙ ap (λ (stop : Stop). Err stop) c.in_err-read_line.ensures.failed) c.loop-before.invariant.1.2
 
 pub returns-in_err-answer_line : goal.returns-in_err-answer_line
 returns-in_err-answer_line g c =
-    let here = c.loop-before.invariant in
+    let here = c.loop-before.invariant.1 in
     let line = c.deref.result.now in
     let stop = c.in_err-answer_line.field-0.0 in
     let left = reader_remaining g.R.Read.remaining c.read_line.new.input in
@@ -50,12 +51,12 @@ returns-in_err-answer_line g c =
 
 pub loop-before-preserved : goal.loop-before-preserved
 loop-before-preserved g c =
-    let here = c.loop-before.invariant in
+    let here = c.loop-before.invariant.1 in
     let line = c.deref.result.now in
     let loses : LosesLine (reader_remaining g.R.Read.remaining c.loop-before.input) (reader_remaining g.R.Read.remaining c.read_line.new.input) line =
     line_read c.in_ok-read_line.field-0 _ _ c.read_line.new.line.items line c.in_ok-read_line.ensures.read c.if-not-branch.false c.deref.ensures.value in
     let done = c.in_ok-answer_line.ensures.ended here.0 here.1 in
-    (done.0, done.1, at_more line c.in_ok-answer_line.field-0 here.2 loses done.2)
+    (c.in_ok-answer_line.ensures.able, (done.0, done.1, at_more line c.in_ok-answer_line.field-0 here.2 loses done.2))
 
 pub returns : goal.returns
-returns g c = at_failure {X = Unit {0}} (Err Input) refl c.loop-before.invariant.2
+returns g c = at_failure {X = Unit {0}} (Err Input) refl c.loop-before.invariant.1.2

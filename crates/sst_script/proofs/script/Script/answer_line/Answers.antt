@@ -8,7 +8,7 @@ pub returns-clause-ended : goal.returns-clause-ended
 returns-clause-ended g c before same =
     let some : 0 < length c.args.line.now = search rules in
     let asked : AskFor (words_of c.args.line.now) c.in_ok-command.command = search rules in
-    let done = c.execute.ensures before same in
+    let done = c.execute.ensures.done before same in
     let ended = ends_printed
     c.args.number
     c.args.line.now
