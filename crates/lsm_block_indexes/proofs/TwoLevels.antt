@@ -6,7 +6,7 @@ use Rattle.std.specs.Option.{option_map, option_or}
 use Rattle.std.specs.Prelude.{Option, Some, None, Ok, Err, MatchOption, MatchResult}
 use Rattle.sst_entries.specs.declared.error.Error.{Error}
 use Rattle.sst_entries.specs.Error.{FaultsFirst, is_memory}
-use Rattle.sst_entries.specs.Stream.{answer_stops, first, but_first, last, but_last, front_of, back_of, ok_results}
+use Rattle.sst_entries.specs.Stream.{first, but_first, last, but_last, front_of, back_of, ok_results}
 use Rattle.sst_blocks.specs.declared.opened.Opened.{Opened}
 use Rattle.sst_blocks.specs.Handle.{Handle}
 use Rattle.sst_blocks.specs.Place.{Place, place_of}

@@ -95,8 +95,8 @@ impl<A: Allocator + Clone> TwoLevelBlockIndex<A> {
 
 /// The handles of an index of two levels, dealt from both ends. A partition is loaded where a step first needs it, and no step
 /// loads more than it needs; each load is counted; where one cannot be loaded, the fault comes in the place of its handles, and one
-/// that needs no memory to be found comes before any want of it. After an error, [`Error::OutOfMemory`] among them, nothing more
-/// comes, from either end.
+/// that needs no memory to be found comes before any want of it for this partition. After an error, [`Error::OutOfMemory`] among
+/// them, nothing more comes, from either end.
 #[derive(Drop)]
 pub struct Iter<A: Allocator = Global> {
     source: BlockSource<A>,
