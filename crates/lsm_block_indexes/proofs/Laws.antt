@@ -9,7 +9,7 @@ use Rattle.sst_blocks.specs.Handles.{window}
 use Rattle.lsm_block_indexes.specs.Answers.{AnswersAny, AnswersTrue}
 use Rattle.lsm_block_indexes.specs.Dealt.{DealsEnding}
 use Rattle.lsm_block_indexes.specs.Index.{full, block_between, parts_between}
-use Rattle.lsm_block_indexes.specs.Left.{LeftGives, IsBetween, IsSpanSought, IsDemandSought, IsTwoLevelSought, TwoLevelGives, back_needs, front_needs, OnDemand, OnDemandGives, TwoLevel, demanded, demands, on_demand_left, span_left, two_level_left}
+use Rattle.lsm_block_indexes.specs.Left.{LeftGives, IsBetween, IsSpanSought, IsDemandSought, IsTwoLevelSought, TwoLevelGives, back_early, back_needs, front_early, front_needs, OnDemand, OnDemandGives, TwoLevel, demanded, demands, on_demand_left, span_left, two_level_left}
 use Rattle.lsm_block_indexes.specs.Seen.{PartGives}
 use Rattle.lsm_block_indexes.proofs.AtEnds.{R, End, Carries, at_part, part_ends, carries_front, carries_back}
 use Rattle.lsm_block_indexes.proofs.Dealing.{deals_left}
@@ -75,14 +75,14 @@ demand_none s any answers none = absurd (true_not any answers none)
 
 -- ---- one of two levels
 
-pub levels_front : (s : TwoLevel) (r : Option R) (t : TwoLevel) → TwoLevelGives front_of front_needs s r t → LeftGives front_of (two_level_left s) r (two_level_left t)
+pub levels_front : (s : TwoLevel) (r : Option R) (t : TwoLevel) → TwoLevelGives front_of front_needs front_early s r t → LeftGives front_of (two_level_left s) r (two_level_left t)
 levels_front s r t step = step.gives
 
-pub levels_back : (s : TwoLevel) (r : Option R) (t : TwoLevel) → TwoLevelGives back_of back_needs s r t → LeftGives back_of (two_level_left s) r (two_level_left t)
+pub levels_back : (s : TwoLevel) (r : Option R) (t : TwoLevel) → TwoLevelGives back_of back_needs back_early s r t → LeftGives back_of (two_level_left s) r (two_level_left t)
 levels_back s r t step = step.gives
 
-pub levels_deals : (s : TwoLevel) → DealsEnding (TwoLevelGives front_of front_needs) (TwoLevelGives back_of back_needs) (λ _. Unit {0}) (λ _. Unit {0}) s (two_level_left s).results
-levels_deals s = deals_left two_level_left (TwoLevelGives front_of front_needs) (TwoLevelGives back_of back_needs) levels_front levels_back s
+pub levels_deals : (s : TwoLevel) → DealsEnding (TwoLevelGives front_of front_needs front_early) (TwoLevelGives back_of back_needs back_early) (λ _. Unit {0}) (λ _. Unit {0}) s (two_level_left s).results
+levels_deals s = deals_left two_level_left (TwoLevelGives front_of front_needs front_early) (TwoLevelGives back_of back_needs back_early) levels_front levels_back s
 
 pub levels_between : (s : TwoLevel) (lo : Option (List ℕ × ℕ)) (hi : Option (List ℕ)) → IsTwoLevelSought s lo hi → IsBetween (two_level_left s) lo hi
 levels_between s lo hi sought = record {

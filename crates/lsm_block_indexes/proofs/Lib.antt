@@ -3,6 +3,7 @@ pub mod AtEnds
 pub mod Loads
 pub mod Dealing
 pub mod OnDemands
+pub mod Places
 pub mod TwoLevels
 pub mod Counting
 pub mod Laws

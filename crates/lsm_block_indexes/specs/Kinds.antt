@@ -14,7 +14,7 @@ use Rattle.lsm_block_indexes.specs.declared.kinds.BlockIndexIterImpl.{BlockIndex
 use Rattle.lsm_block_indexes.specs.declared.kinds.BlockIndexIterImpl.TheVariants.{Full, Volatile, TwoLevel as Levels}
 use Rattle.lsm_block_indexes.specs.Dealt.{DealsEnding}
 use Rattle.lsm_block_indexes.specs.Index.{Index, full, on_demand, two_level}
-use Rattle.lsm_block_indexes.specs.Left.{CountsUpTo, Left, OnDemandGives, TwoLevelGives, IsBetween, IsDemandSought, IsSpanSought, IsTwoLevelSought, back_needs, front_needs, on_demand_left, span_left, two_level_left}
+use Rattle.lsm_block_indexes.specs.Left.{CountsUpTo, Left, OnDemandGives, TwoLevelGives, IsBetween, IsDemandSought, IsSpanSought, IsTwoLevelSought, back_early, back_needs, front_early, front_needs, on_demand_left, span_left, two_level_left}
 
 -- the index of each kind
 abbrev pub index_of : {A : Type 0} → BlockIndexImpl A → Index
@@ -56,13 +56,13 @@ TakesMemory (Levels s) = Unit {0}
 abbrev pub FrontGives : {A : Type 0} → BlockIndexIterImpl A → Option (Result Handle Error) → BlockIndexIterImpl A → Type 0
 FrontGives (Full s) r (Full t) = SpanGives front_of s r t
 FrontGives (Volatile s) r (Volatile t) = OnDemandGives front_of s r t
-FrontGives (Levels s) r (Levels t) = TwoLevelGives front_of front_needs s r t
+FrontGives (Levels s) r (Levels t) = TwoLevelGives front_of front_needs front_early s r t
 FrontGives _ r _ = ⊥
 
 abbrev pub BackGives : {A : Type 0} → BlockIndexIterImpl A → Option (Result Handle Error) → BlockIndexIterImpl A → Type 0
 BackGives (Full s) r (Full t) = SpanGives back_of s r t
 BackGives (Volatile s) r (Volatile t) = OnDemandGives back_of s r t
-BackGives (Levels s) r (Levels t) = TwoLevelGives back_of back_needs s r t
+BackGives (Levels s) r (Levels t) = TwoLevelGives back_of back_needs back_early s r t
 BackGives _ r _ = ⊥
 
 -- an iterator over what an index has between two edges, which has loaded nothing; whatever ends are asked, it counts no more

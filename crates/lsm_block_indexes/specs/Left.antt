@@ -1,5 +1,6 @@
 -- What an index iterator still deals, and one call of it.
-use Rattle.std.specs.Prelude.{◌≡◌, ℕ, zero, suc, ◌+◌, ◌≤◌, false, List, [], ◌∷◌, ◌++◌, length, Option, Some, None, Result, Ok, Err, MatchOption, MatchResult, map, reverse}
+use Rattle.std.specs.Prelude.{◌≡◌, ℕ, zero, suc, ◌+◌, ◌<◌, ◌≤◌, false, List, [], ◌∷◌, ◌++◌, length, Option, Some, None, Result, Ok, Err, MatchOption, MatchResult, map, reverse}
+use Rattle.std.specs.Option.{option_or}
 use Rattle.sst_blocks.specs.declared.block_type.BlockType.TheVariants.{Index as IndexBlock}
 use Rattle.sst_entries.specs.declared.error.Error.{Error}
 use Rattle.sst_blocks.specs.declared.opened.Opened.{Opened}
@@ -184,9 +185,14 @@ abbrev pub needs : List (List (Result Handle Error)) → ℕ
 needs [] = 0
 needs (p ∷ ps) = suc (none_behind p (needs ps))
 
--- the same at the front and at the back: none where a handle of a partition that was loaded stands there
+-- what the partition at a place holds between the edges, and that of a handle of the top level
+abbrev pub part_at : TwoLevel → Place → List (Result Handle Error)
+part_at s place = block_between s.body s.lower s.upper place
+
 abbrev pub part_of : TwoLevel → Handle → List (Result Handle Error)
-part_of s top = block_between s.body s.lower s.upper (place_of top)
+part_of s top = part_at s (place_of top)
+
+-- how many an end loads, at the front and at the back: none where a handle of a partition that was loaded stands there
 
 abbrev pub front_needs : TwoLevel → ℕ
 front_needs s = none_behind s.front (needs (map (part_of s) s.tops))
@@ -194,42 +200,65 @@ front_needs s = none_behind s.front (needs (map (part_of s) s.tops))
 abbrev pub back_needs : TwoLevel → ℕ
 back_needs s = none_behind s.back (needs (reverse (map (part_of s) s.tops)))
 
--- one call of it: it loads the partitions that it needs, and no more where it wants memory
-pub record TwoLevelGives (end : List (Result Handle Error) → Option (Result Handle Error) × List (Result Handle Error)) (needed : TwoLevel → ℕ) (s : TwoLevel) (r : Option (Result Handle Error)) (t : TwoLevel) : Type 0 where
+-- of these partitions, the next one first, up to the first that has an item: the fault that is found before memory is taken
+abbrev pub early_behind : {X : Type 0} → List X → Option Error → Option Error
+early_behind [] early = early
+early_behind (x ∷ xs) early = None
+
+abbrev pub tops_early : List ℕ → (Handle → List (Result Handle Error)) → List Handle → Option Error
+tops_early body part [] = None
+tops_early body part (top ∷ tops) =
+    option_or (block_early body (place_of top)) (early_behind (part top) (tops_early body part tops))
+
+-- the same at the front and at the back
+abbrev pub front_early : TwoLevel → Option Error
+front_early s = early_behind s.front (tops_early s.body (part_of s) s.tops)
+
+abbrev pub back_early : TwoLevel → Option Error
+back_early s = early_behind s.back (tops_early s.body (part_of s) (reverse s.tops))
+
+-- one call of it: it loads the partitions that it needs, and no more where it wants memory, which it does not before it loads
+-- one; and where it loads them all, a fault that needs no memory to be found comes before any want of it
+pub record TwoLevelGives (end : List (Result Handle Error) → Option (Result Handle Error) × List (Result Handle Error)) (needed : TwoLevel → ℕ) (early : TwoLevel → Option Error) (s : TwoLevel) (r : Option (Result Handle Error)) (t : TwoLevel) : Type 0 where
   pub gives : LeftGives end (two_level_left s) r (two_level_left t)
   pub most : gives.loads.count ≤ needed s
+  pub some : 0 < needed s → 0 < gives.loads.count
   pub exact : answer_stops is_memory r ≡ false → gives.loads.count ≡ needed s
+  pub first : (f : Error) → early s ≡ Some f → gives.loads.count ≡ needed s → r ≡ Some (Err f)
 
 -- the same before an error ends it
-pub record TwoLevelSteps (end : List (Result Handle Error) → Option (Result Handle Error) × List (Result Handle Error)) (needed : TwoLevel → ℕ) (s : TwoLevel) (r : Option (Result Handle Error)) (t : TwoLevel) : Type 0 where
+pub record TwoLevelSteps (end : List (Result Handle Error) → Option (Result Handle Error) × List (Result Handle Error)) (needed : TwoLevel → ℕ) (early : TwoLevel → Option Error) (s : TwoLevel) (r : Option (Result Handle Error)) (t : TwoLevel) : Type 0 where
   pub answer : AtEnd end (two_level_left s) r (two_level_left t)
   pub loads : CountsLoads (two_level_left s) (two_level_left t)
   pub body : t.body ≡ s.body
   pub whole : t.whole ≡ s.whole
   pub most : loads.count ≤ needed s
+  pub some : 0 < needed s → 0 < loads.count
   pub exact : answer_stops is_memory r ≡ false → loads.count ≡ needed s
+  pub first : (f : Error) → early s ≡ Some f → loads.count ≡ needed s → r ≡ Some (Err f)
 
 -- the next partition at the front was loaded; and at the back
 pub record EntersFront (s t : TwoLevel) : Type 0 where
   pub top : Handle
   pub tops : s.tops ≡ top ∷ t.tops
   pub told : ok_results t.front ≡ part_of s top
+  pub fine : block_early s.body (place_of top) ≡ None
   pub is : t ≡ record s { tops = t.tops; front = t.front; opened = loaded 1 s.opened }
 
 pub record EntersBack (s t : TwoLevel) : Type 0 where
   pub top : Handle
   pub tops : s.tops ≡ t.tops ++ top ∷ []
   pub told : ok_results t.back ≡ part_of s top
+  pub fine : block_early s.body (place_of top) ≡ None
   pub is : t ≡ record s { tops = t.tops; back = t.back; opened = loaded 1 s.opened }
 
--- the next partition at an end could not be loaded, or its handle not be shared
+-- the next partition at an end could not be loaded
 pub record Fails (end : List Handle → Option Handle × List Handle) (s : TwoLevel) (e : Error) (t : TwoLevel) : Type 0 where
-  pub some : s.tops ≡ [] → ⊥
-  pub told : is_memory e ≡ false → (top : Handle) × ((end s.tops).0 ≡ Some top) × (Err e ∷ [] ≡ part_of s top)
-  pub count : ℕ
-  pub counts : t.opened ≡ loaded count s.opened
-  pub within : count + length t.tops ≤ length s.tops
-  pub most : count ≤ 1
-  pub exact : is_memory e ≡ false → count ≡ 1
+  pub top : Handle
+  pub at : (end s.tops).0 ≡ Some top
+  pub told : is_memory e ≡ false → Err e ∷ [] ≡ part_of s top
+  pub first : (f : Error) → block_early s.body (place_of top) ≡ Some f → e ≡ f
+  pub counts : t.opened ≡ loaded 1 s.opened
+  pub fewer : length s.tops ≡ 1 + length t.tops
   pub body : t.body ≡ s.body
   pub whole : t.whole ≡ s.whole

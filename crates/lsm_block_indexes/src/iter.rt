@@ -1,11 +1,11 @@
 //! The handles of an index block, from both ends, by an iterator that holds the block.
 ghost use Rattle.std.specs.Prelude.{◌≡◌, ◌+◌, ◌-◌, ◌↔◌, [], IsTrue, Some, None};
 ghost use Rattle.std.specs.Iterator.{at_most};
-ghost use Rattle.lsm_block_indexes.specs.Words.{DealsLeft, KeepsLowerEdge, KeepsUpperEdge, SpanGives};
+ghost use Rattle.lsm_block_indexes.specs.Words.{DealsLeft, KeepsLowerEdge, KeepsUpperEdge, PlaceGives, SpanGives};
 ghost use Rattle.lsm_block_indexes.specs.Words.{above_place, back_of, front_of, reaching_place, rest_in};
 ghost use Rattle.lsm_block_indexes.specs.Words.{span_from, span_to, whole_span, window};
 
-use sst_blocks::{Error, IndexBlock, KeyedBlockHandle, SeqNo};
+use sst_blocks::{BlockHandle, Error, IndexBlock, KeyedBlockHandle, SeqNo};
 use std::alloc::{Allocator, Global};
 use std::marker::Model;
 
@@ -71,6 +71,30 @@ impl<A: Allocator> OwnedIndexBlockIter<A> {
         let last = self.block.first_above(key);
         self.to = self.to.min(last.saturating_add(1));
         self.from < self.to
+    }
+
+    /// Takes the first handle, and answers where its block lies. The end key is not shared, so no memory is taken.
+    pub(crate) fn next_place(&mut self) -> Option<BlockHandle>
+        ensures { PlaceGives front_of self.old result self.new }
+    {
+        if self.to <= self.from {
+            return None;
+        }
+        let place = self.block.place_at(self.from);
+        self.from += 1;
+        Some(place)
+    }
+
+    /// The same of the last handle.
+    pub(crate) fn next_place_back(&mut self) -> Option<BlockHandle>
+        ensures { PlaceGives back_of self.old result self.new }
+    {
+        if self.to <= self.from {
+            return None;
+        }
+        let place = self.block.place_at(self.to - 1);
+        self.to -= 1;
+        Some(place)
     }
 
     /// Lets go what is left.

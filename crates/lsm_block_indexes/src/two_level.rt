@@ -1,19 +1,19 @@
 //! The index of two levels: a top level that stays loaded, and partitions that each iterator loads one after another.
 ghost use Rattle.std.specs.Prelude.{◌≡◌, ◌∷◌, [], Some, None, true, false, Ok, Err, IfOk, IfErr};
 ghost use Rattle.std.specs.Iterator.{at_most};
-ghost use Rattle.sst_entries.specs.Error.{is_memory};
+ghost use Rattle.sst_entries.specs.Error.{FaultsFirst, is_memory};
 ghost use Rattle.sst_entries.specs.Stream.{ok_results};
 ghost use Rattle.sst_entries.specs.declared.error.Error.TheVariants.{OutOfMemory};
 ghost use Rattle.lsm_block_indexes.specs.Words.{AnswersTrue, DealsEnding, IsBetween, IsTwoLevelSought};
 ghost use Rattle.lsm_block_indexes.specs.Words.{EntersBack, EntersFront, Fails, TwoLevelGives, TwoLevelSteps};
-ghost use Rattle.lsm_block_indexes.specs.Words.{back_needs, back_of, body_of, front_needs, front_of, left_size};
-ghost use Rattle.lsm_block_indexes.specs.Words.{loaded, new_two_level, none_opened, part_of, two_level, two_level_left};
+ghost use Rattle.lsm_block_indexes.specs.Words.{back_early, back_needs, back_of, block_early, body_of, front_early, front_needs, front_of};
+ghost use Rattle.lsm_block_indexes.specs.Words.{left_size, loaded, new_two_level, none_opened, part_at, two_level, two_level_left};
 
 use crate::edges::Edges;
 use crate::iter::OwnedIndexBlockIter;
 use crate::kinds::BlockIndexIter;
 use crate::part::{Part, load_part};
-use sst_blocks::{BlockSource, Error, IndexBlock, KeyedBlockHandle, Opened, SeqNo};
+use sst_blocks::{BlockHandle, BlockSource, Error, IndexBlock, KeyedBlockHandle, Opened, SeqNo};
 use std::alloc::{Allocator, Global};
 use std::marker::Model;
 
@@ -94,8 +94,9 @@ impl<A: Allocator + Clone> TwoLevelBlockIndex<A> {
 }
 
 /// The handles of an index of two levels, dealt from both ends. A partition is loaded where a step first needs it, and no step
-/// loads more than it needs; each load is counted; where one cannot be loaded, the fault comes in the place of its handles.
-/// After an error, [`Error::OutOfMemory`] among them, nothing more comes, from either end.
+/// loads more than it needs; each load is counted; where one cannot be loaded, the fault comes in the place of its handles, and one
+/// that needs no memory to be found comes before any want of it for this partition. After an error, [`Error::OutOfMemory`] among
+/// them, nothing more comes, from either end.
 #[derive(Drop)]
 pub struct Iter<A: Allocator = Global> {
     source: BlockSource<A>,
@@ -127,18 +128,15 @@ impl<A: Allocator> Model for Iter<A> {
 }
 
 impl<A: Allocator + Clone> Iter<A> {
-    /// What the partition of a handle of the top level holds between the edges.
-    fn load(&mut self, top: KeyedBlockHandle<A>) -> Result<Part<A>, Error>
-        ensures ok { IfOk result (λ hs. ok_results hs ≡ part_of self.old top) }
-        ensures err { IfErr result (λ e. is_memory e ≡ false → Err e ∷ [] ≡ part_of self.old top) }
+    /// What the partition at a place holds between the edges.
+    fn load(&mut self, top: &BlockHandle) -> Result<Part<A>, Error>
+        ensures ok { IfOk result (λ hs. ok_results hs ≡ part_at self.old top.now) }
+        ensures err { IfErr result (λ e. is_memory e ≡ false →
+            Err e ∷ [] ≡ part_at self.old top.now) }
+        ensures first { FaultsFirst result (block_early self.old.body top.now) }
         ensures counted { self.new ≡ record self.old { opened = loaded 1 self.old.opened } }
     {
-        load_part(
-            &self.source,
-            &top.into_inner(),
-            &self.edges,
-            &mut self.opened,
-        )
+        load_part(&self.source, top, &self.edges, &mut self.opened)
     }
 
     /// Loads the next partition at the front, where one is left. Answers whether there was one.
@@ -147,17 +145,12 @@ impl<A: Allocator + Clone> Iter<A> {
         ensures none { result ≡ Ok false → (self.old.tops ≡ []) × (self.new ≡ self.old) }
         ensures fails { IfErr result (λ e. Fails front_of self.old e self.new) }
     {
-        match self.tops.next() {
-            Some(Ok(top)) => match self.load(top) {
-                Ok(part) => {
-                    self.front = part;
-                    Ok(true)
-                }
-                Err(error) => Err(error),
-            },
-            Some(Err(refusal)) => Err(refusal),
-            None => Ok(false),
-        }
+        let Some(top) = self.tops.next_place() else {
+            return Ok(false);
+        };
+        let part = self.load(&top)?;
+        self.front = part;
+        Ok(true)
     }
 
     /// Loads the next partition at the back, where one is left. Answers whether there was one.
@@ -166,17 +159,12 @@ impl<A: Allocator + Clone> Iter<A> {
         ensures none { result ≡ Ok false → (self.old.tops ≡ []) × (self.new ≡ self.old) }
         ensures fails { IfErr result (λ e. Fails back_of self.old e self.new) }
     {
-        match self.tops.next_back() {
-            Some(Ok(top)) => match self.load(top) {
-                Ok(part) => {
-                    self.back = part;
-                    Ok(true)
-                }
-                Err(error) => Err(error),
-            },
-            Some(Err(refusal)) => Err(refusal),
-            None => Ok(false),
-        }
+        let Some(top) = self.tops.next_place_back() else {
+            return Ok(false);
+        };
+        let part = self.load(&top)?;
+        self.back = part;
+        Ok(true)
     }
 
     /// Lets go what is left.
@@ -190,7 +178,7 @@ impl<A: Allocator + Clone> Iter<A> {
 
     /// The answer at the front; an error does not end the iterator yet.
     fn step_front(&mut self) -> Option<Result<KeyedBlockHandle<A>, Error>>
-        ensures { TwoLevelSteps front_of front_needs self.old result self.new }
+        ensures { TwoLevelSteps front_of front_needs front_early self.old result self.new }
     {
         loop {
             if let Some(item) = self.front.next() {
@@ -206,7 +194,7 @@ impl<A: Allocator + Clone> Iter<A> {
 
     /// The answer at the back; an error does not end the iterator yet.
     fn step_back(&mut self) -> Option<Result<KeyedBlockHandle<A>, Error>>
-        ensures { TwoLevelSteps back_of back_needs self.old result self.new }
+        ensures { TwoLevelSteps back_of back_needs back_early self.old result self.new }
     {
         loop {
             if let Some(item) = self.back.next_back() {
@@ -226,7 +214,7 @@ impl<A: Allocator + Clone> Iterator for Iter<A> {
 
     ghost can_next = { λ _. Unit {0} };
 
-    ghost next_gives = { TwoLevelGives front_of front_needs };
+    ghost next_gives = { TwoLevelGives front_of front_needs front_early };
 
     ghost remaining = { λ s. at_most (left_size (two_level_left s)) };
 
@@ -245,7 +233,7 @@ impl<A: Allocator + Clone> Iterator for Iter<A> {
 impl<A: Allocator + Clone> DoubleEndedIterator for Iter<A> {
     ghost can_next_back = { λ _. Unit {0} };
 
-    ghost next_back_gives = { TwoLevelGives back_of back_needs };
+    ghost next_back_gives = { TwoLevelGives back_of back_needs back_early };
 
     fn next_back(&mut self) -> Option<Self::Item> {
         match self.step_back() {

@@ -39,7 +39,8 @@ use Rattle.lsm_files.specs.Partitions.{Partition, handles_block, tops_from}
 use Rattle.lsm_files.specs.Parts.{parts_by}
 use Rattle.lsm_files.proofs.BlockLengths.{length-block}
 use Rattle.lsm_filter_writers.specs.Held.{CutPart, CutParts, end_keys, filters_of, Hashes, HoldsAll, HoldsHashes, partition_of}
-use Rattle.lsm_filter_writers.specs.Refusing.{end_handle, filter_fault, keys_fault, parts_bound, section_fault, top_fault}
+use Rattle.lsm_files.specs.Failed.{section_fault}
+use Rattle.lsm_filter_writers.specs.Refusing.{end_handle, filter_fault, keys_fault, parts_bound, top_fault}
 use Rattle.lsm_filter_writers.specs.Writing.{part_sections, tops_block, tops_of, WritesFilter}
 
 -- no section, and one, and two

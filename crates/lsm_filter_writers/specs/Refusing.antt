@@ -1,14 +1,14 @@
 -- What writers of filters refuse.
-use Rattle.std.specs.Prelude.{ℕ, ◌^◌, nat_le, List, [], ◌∷◌, ◌++◌, length, map, sum_by, Option, Some, None, if◌then◌else◌}
+use Rattle.std.specs.Prelude.{ℕ, List, [], ◌∷◌, ◌++◌, length, map, sum_by, Option, None, if◌then◌else◌}
 use Rattle.std.specs.Option.{option_or}
 use Rattle.sst_entries.specs.declared.error.Error.{Error}
-use Rattle.sst_entries.specs.declared.error.Error.TheVariants.{SectionTooLarge}
 use Rattle.sst_blocks.specs.Encoding.{handles_fault}
 use Rattle.sst_blocks.specs.Handle.{Handle}
 use Rattle.sst_filters.specs.declared.policy.BloomConstructionPolicy.{BloomConstructionPolicy}
 use Rattle.sst_filters.specs.Policy.{bound_for, fault_for, tenths_of}
 use Rattle.lsm_files.specs.declared.options.FilterKind.{FilterKind}
 use Rattle.lsm_files.specs.declared.options.FilterKind.TheVariants.{Full, Partitioned}
+use Rattle.lsm_files.specs.Failed.{section_fault}
 use Rattle.lsm_files.specs.Filters.{is_full_filter, last_of_keys}
 use Rattle.lsm_files.specs.Parts.{parts_by}
 use Rattle.lsm_filter_writers.specs.Cutting.{waiting_by}
@@ -38,9 +38,6 @@ partition_size (Partitioned size) = size
 -- how long the blocks of these parts are at most, one after another
 abbrev pub parts_bound : BloomConstructionPolicy → List (List (List ℕ)) → ℕ
 parts_bound policy parts = sum_by (λ p. bound_for (tenths_of policy) (length p)) parts
-
-abbrev pub section_fault : ℕ → Option Error
-section_fault bound = if nat_le (2 ^ 32) bound then Some SectionTooLarge else None
 
 -- a handle that ends with this key
 abbrev pub end_handle : List ℕ → Handle

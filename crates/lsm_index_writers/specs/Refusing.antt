@@ -1,21 +1,16 @@
 -- What index writers refuse.
-use Rattle.std.specs.Prelude.{ℕ, ◌+◌, ◌^◌, nat_le, Bool, List, [], ◌∷◌, Option, Some, None, if◌then◌else◌}
+use Rattle.std.specs.Prelude.{ℕ, ◌+◌, Bool, List, [], ◌∷◌, Option, None}
 use Rattle.std.specs.Option.{option_or}
 use Rattle.sst_entries.specs.declared.error.Error.{Error}
-use Rattle.sst_entries.specs.declared.error.Error.TheVariants.{SectionTooLarge}
 use Rattle.sst_sections.specs.declared.version.TableVersion.TheVariants.{V4}
 use Rattle.sst_blocks.specs.Bounds.{index_block_bound_of}
 use Rattle.sst_blocks.specs.Encoding.{handles_fault}
 use Rattle.sst_blocks.specs.Handle.{Handle}
-use Rattle.lsm_files.specs.Failed.{failed_fault}
+use Rattle.lsm_files.specs.Failed.{failed_fault, section_fault}
 use Rattle.lsm_files.specs.Parts.{parts_by}
 use Rattle.lsm_files.specs.Partitions.{index_tops, is_full_index}
 use Rattle.lsm_files.specs.declared.options.IndexKind.{IndexKind}
 use Rattle.lsm_files.specs.declared.options.IndexKind.TheVariants.{Full, Partitioned}
-
--- the blocks of a section with so many bytes at most are too large
-abbrev pub section_fault : ℕ → Option Error
-section_fault bound = if nat_le (2 ^ 32) bound then Some SectionTooLarge else None
 
 -- what a part refuses behind blocks with so many bytes at most: its own block, then the section so far
 abbrev pub part_fault : ℕ → List Handle → Option Error

@@ -7,7 +7,8 @@ use Rattle.sst_entries.specs.Span.{rest_in}
 use Rattle.sst_blocks.specs.Seeking.{whole_span}
 use Rattle.std.proofs.lemmas.List.{take_all}
 
-all_within : (es : List Entry) → within Unbounded Unbounded es ≡ es
+-- all entries lie within no bounds
+pub all_within : (es : List Entry) → within Unbounded Unbounded es ≡ es
 all_within [] = refl
 all_within (e ∷ es) = ap (λ (xs : List Entry). e ∷ xs) (all_within es)
 

@@ -11,12 +11,12 @@ use Rattle.sst_entries.specs.Error.{Refuses, is_memory}
 use Rattle.sst_entries.specs.Stream.{answer_stops, first, but_first, last, but_last, front_of, back_of}
 use Rattle.sst_blocks.specs.declared.opened.Opened.{Opened}
 use Rattle.sst_blocks.specs.Handle.{Handle}
-use Rattle.lsm_block_indexes.specs.Left.{CountsLoads, IsEnded as IsLeftEnded, Left, LeftGives, loaded, none_behind}
+use Rattle.lsm_block_indexes.specs.Left.{CountsLoads, IsEnded as IsLeftEnded, Left, LeftGives, early_behind, loaded, none_behind}
 use Rattle.lsm_block_indexes.proofs.AtEnds.{pair, first_split, last_split, not_memory}
 use Rattle.lsm_block_indexes.proofs.TwoLevels.{loaded_more, nil_left, nil_right, no_items}
 use Rattle.lsm_iters.specs.Bounds.{lower_edge, upper_edge}
 use Rattle.lsm_iters.specs.Lift.{lift_told}
-use Rattle.lsm_iters.specs.Range.{CountsBlocks, Handles, IsEnded, Next, Range, RangeGives, back_next, blocks_early, blocks_for, blocks_needed, data_loaded, early_behind, early_for, front_next, handle_early, index_to_come, left_in, left_unless, range_left, to_come}
+use Rattle.lsm_iters.specs.Range.{CountsBlocks, Handles, IsEnded, Next, Range, RangeGives, back_next, blocks_early, blocks_for, blocks_needed, data_loaded, early_for, front_next, handle_early, index_to_come, left_in, left_unless, range_left, to_come}
 use Rattle.lsm_iters.specs.Rows.{Bounded, block_rows, handle_rows, rows}
 use Rattle.lsm_iters.specs.Steps.{BlockGives, BlockTold, LoadsNone, PartGives, SeeksOnce, loads_for, over, stopped, told_early}
 use Rattle.lsm_iters.proofs.Ends.{back_split, Shortens, Takes, Turns, back_shortens, back_turns, front_shortens, front_turns, if_false, if_true, put_back, put_first, put_front, put_last}

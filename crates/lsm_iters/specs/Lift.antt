@@ -11,7 +11,11 @@ lifted g e = record e { seqno = e.seqno + g }
 abbrev pub lift : List Entry → ℕ → List Entry
 lift es g = map (lifted g) es
 
--- the same of an entry where the sum fits
+-- a stored number with the global number added, where the sum fits
+abbrev pub number_told : ℕ → ℕ → Result ℕ Error
+number_told g n = if nat_lt (2 ^ 64 - 1) (n + g) then Err SeqNoOverflow else Ok (n + g)
+
+-- the same of an entry
 abbrev pub lifted_told : ℕ → Entry → Result Entry Error
 lifted_told g e = if nat_lt (2 ^ 64 - 1) (e.seqno + g) then Err SeqNoOverflow else Ok (lifted g e)
 

@@ -13,7 +13,7 @@ use Rattle.sst_blocks.specs.Handle.{Handle}
 use Rattle.sst_blocks.specs.Opened.{with_load, none_opened}
 use Rattle.lsm_block_indexes.specs.declared.kinds.BlockIndexIterImpl.{BlockIndexIterImpl}
 use Rattle.lsm_block_indexes.specs.Kinds.{left_of}
-use Rattle.lsm_block_indexes.specs.Left.{Left, loaded, none_behind}
+use Rattle.lsm_block_indexes.specs.Left.{Left, early_behind, loaded, none_behind}
 use Rattle.lsm_iters.specs.Bounds.{lower_edge, upper_edge}
 use Rattle.lsm_iters.specs.Lift.{lift_told}
 use Rattle.lsm_iters.specs.Rows.{Bounded, block_rows, handle_rows, rows}
@@ -93,10 +93,6 @@ blocks_needed b (Err e ∷ hs) = 0
 abbrev pub handle_early : Bounded → Result Handle Error → Option Error
 handle_early b (Ok h) = place_fault b.body h.offset h.size Data
 handle_early b (Err e) = None
-
-abbrev pub early_behind : {X : Type 0} → List X → Option Error → Option Error
-early_behind [] early = early
-early_behind (x ∷ xs) early = None
 
 abbrev pub blocks_early : Bounded → List (Result Handle Error) → Option Error
 blocks_early b [] = None

@@ -11,7 +11,7 @@ pub use Rattle.lsm_block_indexes.specs.Dealt.{DealsEnding}
 pub use Rattle.lsm_block_indexes.specs.Kinds.{IsSought, TakesMemory, left_of}
 pub use Rattle.lsm_block_indexes.specs.Left.{LeftGives}
 pub use Rattle.lsm_iters.specs.Bounds.{edge_in, edge_of, key_of, lower_edge, upper_edge}
-pub use Rattle.lsm_iters.specs.Lift.{lift, lift_told, lifted, lifted_told}
+pub use Rattle.lsm_iters.specs.Lift.{lift, lift_told, lifted, lifted_told, number_told}
 pub use Rattle.lsm_iters.specs.Range.{Range, RangeGives, back_next, data_loaded, front_next, left_in, new_range}
 pub use Rattle.lsm_iters.specs.Range.{opened_in, range_left, range_size}
 pub use Rattle.lsm_iters.specs.Rows.{Bounded, block_rows, rows}

@@ -4,11 +4,13 @@
 mod bound;
 mod handles;
 mod iter;
+mod lift;
 mod owned;
 mod part;
 
 pub use bound::Bound;
 pub use iter::Iter;
+pub use lift::lift_seqno;
 pub use lsm_block_indexes::{BlockIndexIter, BlockIndexIterImpl};
 pub use owned::OwnedDataBlockIter;
 pub use sst_blocks::{

@@ -4,8 +4,8 @@ ghost use Rattle.std.specs.declared.ops.Bound.TheVariants.{Unbounded};
 ghost use Rattle.lsm_iters.specs.Words.{PartGives, back_of, edge_in, front_of, lifted_answer, lifted_told};
 ghost use Rattle.lsm_iters.specs.Words.{rest_in, within};
 
-use crate::{Bound, OwnedDataBlockIter};
-use sst_blocks::{DataBlock, Error, InternalValue, IterItem, SeqNo};
+use crate::{Bound, OwnedDataBlockIter, lift_seqno};
+use sst_blocks::{DataBlock, InternalValue, IterItem, SeqNo};
 use std::alloc::Allocator;
 use std::marker::Model;
 
@@ -66,13 +66,8 @@ impl<A: Allocator> Part<A> {
 fn lift<A: Allocator>(mut item: InternalValue<A>, global_seqno: SeqNo) -> IterItem<A>
     ensures { result ≡ lifted_told global_seqno item }
 {
-    match item.key.seqno.checked_add(global_seqno) {
-        Some(seqno) => {
-            item.key.seqno = seqno;
-            Ok(item)
-        }
-        None => Err(Error::SeqNoOverflow),
-    }
+    item.key.seqno = lift_seqno(item.key.seqno, global_seqno)?;
+    Ok(item)
 }
 
 /// The same of an answer.

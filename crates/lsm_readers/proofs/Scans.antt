@@ -1,9 +1,9 @@
 -- What is left of a scan: one step of it, and what it deals.
-use Rattle.std.proofs.Common.{◌≡◌, ℕ, zero, suc, ◌+◌, ◌-◌, ◌^◌, ◌<◌, ◌≤◌, Bool, true, false, List, [], ◌∷◌, ◌++◌, length, drop, get_or, map, max, refl, sym, ap, subst, ◌∙◌, arith, inl, inr}
+use Rattle.std.proofs.Common.{◌≡◌, ℕ, zero, suc, ◌+◌, ◌-◌, ◌^◌, ◌<◌, Bool, true, false, List, [], ◌∷◌, ◌++◌, length, drop, get_or, map, max, refl, sym, ap, subst, ◌∙◌, arith, inl, inr}
 use Rattle.std.specs.Prelude.{Option, Some, None, Result, Ok, Err, ◌⊎◌}
 use Rattle.std.specs.Iterator.{MakesProgress, at_most}
 use Rattle.std.specs.List.{flat_map, slice_get}
-use Rattle.std.proofs.lemmas.Bool.{le-ltb, lt-ltb}
+use Rattle.std.proofs.lemmas.Bool.{le-ltb}
 use Rattle.std.proofs.lemmas.List.{drop_more}
 use Rattle.std.proofs.lemmas.Option.{slice_get_within, get_or_from_slice_get}
 use Rattle.sst_blocks.specs.declared.block_type.BlockType.TheVariants.{Data}
@@ -11,13 +11,15 @@ use Rattle.sst_entries.specs.declared.error.Error.{Error}
 use Rattle.sst_entries.specs.declared.error.Error.TheVariants.{OutOfMemory, SeqNoOverflow, Truncated, InvalidHeader, InvalidTag, ChecksumMismatch, InvalidBlock, KeyTooLong, ValueTooLong, BlockTooLarge, SectionTooLarge, InvalidTrailer, MissingSection, MetaKeyMissing, InvalidMetaValue, UnsupportedTableVersion, UnsupportedHashType, UnsupportedChecksumType, UnsupportedIndexInterval, UnsupportedCompression, GlobalSeqNoTooLarge, TableIdsSpent, WriterFailed, Source}
 use Rattle.sst_blocks.specs.Block.{Loaded, load_at_told, position_fault, entries_of}
 use Rattle.sst_entries.specs.Entry.{Entry}
-use Rattle.sst_entries.specs.Error.{FaultsFirst, is_memory}
+use Rattle.sst_blocks.specs.Reading.{key_and_number}
+use Rattle.std.specs.Option.{option_map}
+use Rattle.sst_entries.specs.Error.{FaultsFirst, Refuses, is_memory}
 use Rattle.sst_blocks.specs.declared.opened.Opened.{Opened}
 use Rattle.sst_blocks.specs.Opened.{with_load}
 use Rattle.sst_entries.specs.Stream.{Answers, Deals, CanDeal, first, but_first, front_of, nowhere, answer_stops}
 use Rattle.sst_entries.proofs.StreamLemmas.{head_eq, deals_by, can_by}
 use Rattle.lsm_readers.specs.Answer.{lifted}
-use Rattle.lsm_readers.specs.Scan.{FaultsAtBlock, IsEnded, Scan, ScanHas, ScansNext, TakesEntry, behind, block_told, blocks_told, ended, entries_from, entries_told, fault_of, lifted_told, loads, scan_loads_behind, loads_from, loads_of, scan_left, scan_size, scan_told, then_blocks, unless_left, up_to_error}
+use Rattle.lsm_readers.specs.Scan.{FaultsAtBlock, FaultsAtEntry, IsEnded, Scan, ScanHas, ScansNext, TakesEntry, behind, block_told, blocks_told, ended, entries_from, entries_told, fault_of, lifted_told, loads, scan_loads_behind, loads_from, loads_of, scan_left, scan_size, scan_told, then_blocks, unless_left, up_to_error}
 use Rattle.lsm_readers.specs.Read.{◌>>=◌}
 
 abbrev R : Type 0
@@ -59,19 +61,26 @@ memory_is (Source n) h = absurd cc
 pub lifted_ok : (g : ℕ) (e : Entry) → e.seqno + g < 2 ^ 64 → lifted_told g e ≡ Ok (lifted g e)
 lifted_ok g e fits = rw (le-ltb (2 ^ 64 - 1) (e.seqno + g) (omega (arith, fits))) refl
 
-pub lifted_past : (g : ℕ) (e : Entry) → 2 ^ 64 ≤ e.seqno + g → lifted_told g e ≡ Err SeqNoOverflow
-lifted_past g e past = rw (lt-ltb (2 ^ 64 - 1) (e.seqno + g) (omega (arith, past))) refl
-
--- the entry with its sum in place of its number
-pub lifted_is : (g n : ℕ) (seen e : Entry) → seen ≡ e → n ≡ seen.seqno + g → n < 2 ^ 64 → lifted_told g e ≡ Ok (record seen { seqno = n })
-lifted_is g n seen e same sum fits =
-    subst (λ (x : Entry). lifted_told g x ≡ Ok (record seen { seqno = n })) same (lifted_ok g seen (omega (arith, sum, fits)) ∙ ap (λ (k : ℕ). Ok (record seen { seqno = k })) (sym sum))
-
 -- the entry of a place is the first of those from there on
 pub entry_is : (xs : List Entry) (i : ℕ) (x e : Entry) (es : List Entry) → slice_get xs i ≡ Some x → drop i xs ≡ e ∷ es → x ≡ e
 entry_is xs i x e es here some =
     let within : i < length xs = slice_get_within xs i x here in
     sym (get_or_from_slice_get xs i x x here) ∙ head_eq (sym (drop_more xs i x within) ∙ some)
+
+-- and so its number, which is looked at before the entry is shared
+pub number_is : (xs : List Entry) (i : ℕ) (o : Option Entry) (k : List ℕ) (n : ℕ) (e : Entry) (es : List Entry) → slice_get xs i ≡ o → option_map key_and_number o ≡ Some (k, n) → drop i xs ≡ e ∷ es → n ≡ e.seqno
+number_is xs i None k n e es here told some = let wrong : None ≡ Some (k, n) = told in absurd cc
+number_is xs i (Some x) k n e es here told some =
+    let same : ◌≡◌ {A = List ℕ × ℕ} (x.user_key, x.seqno) (k, n) = some_same (x.user_key, x.seqno) (k, n) told in
+    sym (ap (λ (p : List ℕ × ℕ). p.1) same) ∙ ap (λ (y : Entry). y.seqno) (entry_is xs i x e es here some)
+  where
+    some_same : {X : Type 0} (p q : X) → Some p ≡ Some q → p ≡ q
+    some_same p q h = cc
+
+-- a sum that fits has no fault
+pub fits : (told : R) {x : Entry} → told ≡ Ok x → (f : Error) → fault_of told ≡ Some f → ⊥
+fits (Ok y) h f is = let wrong : None ≡ Some f = is in absurd cc
+fits (Err e) h f is = absurd cc
 
 -- where there is one
 pub record Cut (xs : List Entry) (i : ℕ) : Type 0 where
@@ -165,6 +174,7 @@ HasNoFault s = (e : Error) → position_fault s.body s.position Data ≡ Some e 
 pub record Reached (s u : Scan) : Type 0 where
   pub left : scan_left u ≡ scan_left s
   pub start : (s ≡ u) ⊎ HasNoFault s
+  pub stands : (s ≡ u) ⊎ (s.entries ≡ [])
   pub ended : IsEnded s → IsEnded u
   pub count : ℕ
   pub counts : u.opened ≡ loads count s.opened
@@ -172,7 +182,7 @@ pub record Reached (s u : Scan) : Type 0 where
   pub needs : count + loads_of u ≡ loads_of s
 
 pub reached_first : (s : Scan) → Reached s s
-reached_first s = record { left = refl; start = inl refl; ended = λ e. e; count = 0; counts = refl; falls = omega arith; needs = omega arith }
+reached_first s = record { left = refl; start = inl refl; stands = inl refl; ended = λ e. e; count = 0; counts = refl; falls = omega arith; needs = omega arith }
 
 ended_too : (s u : Scan) (m : Type 0) → (IsEnded s → IsEnded u) → IsEnded s ⊎ m → IsEnded u ⊎ m
 ended_too s u m on (inl e) = inl (on e)
@@ -209,6 +219,11 @@ no_fault : (s u : Scan) → (s ≡ u) ⊎ HasNoFault s → FaultsFirst loaded (p
 no_fault s u (inl same) ahead = subst HasNoFault (sym same) (λ e h. let wrong : Some e ≡ None = ahead e h in cc)
 no_fault s u (inr none) ahead = none
 
+-- a block is read only where no entry is left
+none_stood : (s u : Scan) → (s ≡ u) ⊎ (s.entries ≡ []) → u.entries ≡ [] → s.entries ≡ []
+none_stood s u (inl same) none = ap (λ (v : Scan). v.entries) same ∙ none
+none_stood s u (inr none) _ = none
+
 pub reached_next : (s u : Scan) (es : List Entry) (next : ℕ) → Reached s u → u.entries ≡ [] → 0 < u.blocks → block_told u.body u.position ≡ Ok (es, next) → FaultsFirst loaded (position_fault u.body u.position Data) → Reached s (moved u es next)
 reached_next s u es next reached none some told ahead =
     let n = u.blocks - 1 in
@@ -216,6 +231,7 @@ reached_next s u es next reached none some told ahead =
     record {
       left = sym (next_is u n none k ∙ ap (next_left u.body u.global_seqno n) told) ∙ reached.left;
       start = inr (no_fault s u reached.start ahead);
+      stands = inr (none_stood s u reached.stands none);
       ended = λ e. absurd (omega (arith, some, (reached.ended e).1));
       count = suc reached.count;
       counts = ap (with_load Data) reached.counts;
@@ -256,8 +272,28 @@ early_block s u e (inl same) ahead none more fault h =
     cc
 early_block s u e (inr calm) ahead none more fault h = absurd (calm fault h)
 
-entry_ok : (s u : Scan) (e : Entry) (es : List Entry) (x : Entry) → Reached s u → u.entries ≡ e ∷ es → lifted_told u.global_seqno e ≡ Ok x → ScansNext s (Some (Ok x)) (record u { entries = es })
-entry_ok s u e es x reached some told =
+-- the number of the entry that stands there was looked at first
+own_entry : (u : Scan) (e : Entry) (es : List Entry) (r : R) → u.entries ≡ e ∷ es → FaultsFirst r (fault_of (lifted_told u.global_seqno e)) → FaultsAtEntry u (Some r)
+own_entry u e es r some early x xs stands f told =
+    let same : e ≡ x = first_same e x es xs (sym some ∙ stands) in
+    ap (λ (y : R). Some y) (refused_first r f (early f (ap (λ (y : Entry). fault_of (lifted_told u.global_seqno y)) same ∙ ap fault_of told)))
+  where
+    first_same : (a b : Entry) (xs ys : List Entry) → a ∷ xs ≡ b ∷ ys → a ≡ b
+    first_same a b xs ys h = cc
+
+    refused_first : (r : R) (f : Error) → Refuses r (Some f) → r ≡ Err f
+    refused_first (Ok x) f h = absurd cc
+    refused_first (Err g) f h = let same : f ≡ g = cc in ap (λ (x : Error). Err x) (sym same)
+
+lifts_entry : (s u : Scan) (e : Entry) (es : List Entry) (r : R) → (s ≡ u) ⊎ (s.entries ≡ []) → u.entries ≡ e ∷ es → FaultsFirst r (fault_of (lifted_told u.global_seqno e)) → FaultsAtEntry s (Some r)
+lifts_entry s u e es r (inl same) some early = subst (λ (v : Scan). FaultsAtEntry v (Some r)) (sym same) (own_entry u e es r some early)
+lifts_entry s u e es r (inr none) some early = λ x xs stands f told. absurd (let wrong : [] ≡ x ∷ xs = sym none ∙ stands in cc)
+
+lifts_none : (s u : Scan) (r : Option R) → (s ≡ u) ⊎ (s.entries ≡ []) → u.entries ≡ [] → FaultsAtEntry s r
+lifts_none s u r stood none x xs stands f told = absurd (let wrong : [] ≡ x ∷ xs = sym (none_stood s u stood none) ∙ stands in cc)
+
+entry_ok : (s u : Scan) (e : Entry) (es : List Entry) (x : Entry) → Reached s u → u.entries ≡ e ∷ es → lifted_told u.global_seqno e ≡ Ok x → FaultsFirst {X = Entry} (Ok x) (fault_of (lifted_told u.global_seqno e)) → ScansNext s (Some (Ok x)) (record u { entries = es })
+entry_ok s u e es x reached some told first =
     let left : scan_left u ≡ Ok x ∷ scan_left (record u { entries = es }) =
     ap (λ (ys : List Entry). entries_from u.body u.global_seqno ys u.position u.blocks) some
     ∙ entry_left u.body u.global_seqno e es u.position u.blocks
@@ -266,6 +302,7 @@ entry_ok s u e es x reached some told =
       answers = answers_from s u (record u { entries = es }) (Some (Ok x)) reached (gave_entry u (record u { entries = es }) x left);
       ends = tt;
       early = early_entry s u e es (Some (Ok x)) reached.start some;
+      lifts = lifts_entry s u e es (Ok x) reached.stands some first;
       count = reached.count;
       counts = reached.counts;
       within = omega (arith, reached.falls);
@@ -275,8 +312,8 @@ entry_ok s u e es x reached some told =
       falls = reached.falls;
     }
 
-entry_err : (s u : Scan) (e : Entry) (es : List Entry) (fault : Error) → Reached s u → u.entries ≡ e ∷ es → (is_memory fault ≡ false → lifted_told u.global_seqno e ≡ Err fault) → ScansNext s (Some (Err fault)) (ended u)
-entry_err s u e es fault reached some told =
+entry_err : (s u : Scan) (e : Entry) (es : List Entry) (fault : Error) → Reached s u → u.entries ≡ e ∷ es → (is_memory fault ≡ false → lifted_told u.global_seqno e ≡ Err fault) → FaultsFirst {X = Entry} (Err fault) (fault_of (lifted_told u.global_seqno e)) → ScansNext s (Some (Err fault)) (ended u)
+entry_err s u e es fault reached some told first =
     let left = λ (m : is_memory fault ≡ false). ap (λ (ys : List Entry). entries_from u.body u.global_seqno ys u.position u.blocks) some
     ∙ entry_left u.body u.global_seqno e es u.position u.blocks
     ∙ ap (λ (r : R). first_entry r (entries_from u.body u.global_seqno es u.position u.blocks)) (told m) in
@@ -284,6 +321,7 @@ entry_err s u e es fault reached some told =
       answers = answers_from s u (ended u) (Some (Err fault)) reached (gave_error u (ended u) fault left (has_entry u e es some) (refl, refl));
       ends = (refl, refl);
       early = early_entry s u e es (Some (Err fault)) reached.start some;
+      lifts = lifts_entry s u e es (Err fault) reached.stands some first;
       count = reached.count;
       counts = reached.counts;
       within = omega (arith, reached.falls);
@@ -295,8 +333,8 @@ entry_err s u e es fault reached some told =
 
 -- an entry was taken from the block that was reached
 pub scans_entry : (s u t : Scan) (r : R) → Reached s u → TakesEntry u r t → ScansNext s (Some r) t
-scans_entry s u t (Ok x) reached taken = subst (ScansNext s (Some (Ok x))) (sym taken.took) (entry_ok s u taken.entry taken.others x reached taken.some taken.told)
-scans_entry s u t (Err fault) reached taken = subst (ScansNext s (Some (Err fault))) (sym taken.took) (entry_err s u taken.entry taken.others fault reached taken.some taken.told)
+scans_entry s u t (Ok x) reached taken = subst (ScansNext s (Some (Ok x))) (sym taken.took) (entry_ok s u taken.entry taken.others x reached taken.some taken.told taken.first)
+scans_entry s u t (Err fault) reached taken = subst (ScansNext s (Some (Err fault))) (sym taken.took) (entry_err s u taken.entry taken.others fault reached taken.some taken.told taken.first)
 
 -- a block could not be loaded
 abbrev pub halted : Scan → Scan
@@ -321,6 +359,7 @@ scans_fault s u t e reached none some told ahead is =
       answers = answers_from s u (halted u) (Some (Err e)) reached (gave_error u (halted u) e left (has_block u some) (refl, refl));
       ends = (refl, refl);
       early = early_block s u e reached.start ahead;
+      lifts = lifts_none s u (Some (Err e)) reached.stands none;
       count = suc reached.count;
       counts = ap (with_load Data) reached.counts;
       within = omega (arith, reached.falls, some);
@@ -355,6 +394,7 @@ scans_none s u end last =
       answers = answers_from s u u None end.reached (gave_none u done);
       ends = done;
       early = early_none s u None (end.reached).start done.1;
+      lifts = lifts_none s u None (end.reached).stands end.none;
       count = (end.reached).count;
       counts = (end.reached).counts;
       within = omega (arith, (end.reached).falls);

@@ -25,6 +25,7 @@ use Rattle.lsm_iters.specs.Bounds.{lower_edge, upper_edge}
 use Rattle.lsm_iters.specs.Lift.{lift, lift_told}
 use Rattle.lsm_iters.specs.Range.{Next, Range, RangeGives, back_next, data_loaded, front_next, index_to_come, left_in, new_range, opened_in, range_left, to_come}
 use Rattle.lsm_iters.specs.Rows.{Bounded, rows}
+use Rattle.lsm_iters.proofs.Cuts.{all_within}
 use Rattle.lsm_iters.proofs.Ends.{if_false}
 use Rattle.lsm_iters.proofs.RangeLaws.{range_deals}
 use Rattle.lsm_readers.specs.BlockIndexes.{table_index}
@@ -205,11 +206,6 @@ module _ {A : Type 0} (t : OpenTable) (low high : Bound (List ℕ)) (s : Range A
     list_loads =
         loads_few (blocks_within file low high) (file_blocks t.bytes es file t.global_seqno held.recovered.pin_filter held.recovered.pin_index t.parts held.short held.recovered.told (lower_edge low) (upper_edge high))
 
--- all entries lie within no bounds
-within_all : (es : List Entry) → within Unbounded Unbounded es ≡ es
-within_all [] = refl
-within_all (e ∷ es) = ap (λ (xs : List Entry). e ∷ xs) (within_all es)
-
 pub deals_all : {S : Type 0} (front back : S → Option R → S → Type 0) (r : Result S Error) (es : List Entry) (g : ℕ) → IfOk r (DealsWithin front back Unbounded Unbounded es g) → IfOk r (DealsAll front back es g)
-deals_all front back (Ok s) es g deals = λ stops memory. subst (λ (xs : List Entry). Deals (answer_stops stops) front back s (ok_results xs)) (within_all (lift es g)) (deals stops memory)
+deals_all front back (Ok s) es g deals = λ stops memory. subst (λ (xs : List Entry). Deals (answer_stops stops) front back s (ok_results xs)) (all_within (lift es g)) (deals stops memory)
 deals_all front back (Err e) es g deals = tt

@@ -7,7 +7,7 @@ use Rattle.sst_entries.specs.declared.error.Error.TheVariants.{OutOfMemory}
 use Rattle.sst_blocks.specs.declared.opened.Opened.{Opened}
 use Rattle.sst_blocks.specs.Block.{Loaded, load_at_told, position_fault, entries_of, header_len}
 use Rattle.sst_entries.specs.Entry.{Entry}
-use Rattle.sst_entries.specs.Error.{Gives, is_memory}
+use Rattle.sst_entries.specs.Error.{FaultsFirst, Gives, is_memory}
 use Rattle.sst_blocks.specs.Opened.{with_load}
 use Rattle.sst_entries.specs.Stream.{Answers, Deals, ok_results, front_of, nowhere, answer_stops}
 pub use Rattle.lsm_iters.specs.Lift.{lifted_told}
@@ -93,6 +93,7 @@ pub record TakesEntry (s : Scan) (r : Result Entry Error) (t : Scan) : Type 0 wh
   pub others : List Entry
   pub some : s.entries ≡ entry ∷ others
   pub told : Gives (λ (x : Entry). x) r (lifted_told s.global_seqno entry)
+  pub first : FaultsFirst r (fault_of (lifted_told s.global_seqno entry))
   pub took : MatchResult r (λ _. t ≡ record s { entries = others }) (λ _. t ≡ ended s)
 
 -- so many loads of data blocks were counted
@@ -127,6 +128,12 @@ FaultsAtBlock s r =
     s.entries ≡ [] → 0 < s.blocks → (e : Error) → position_fault s.body s.position Data ≡ Some e →
     r ≡ Some (Err e)
 
+-- where the number of the next entry of the present block passes `u64`, that is the answer, and not want of memory
+abbrev pub FaultsAtEntry : Scan → Option (Result Entry Error) → Type 0
+FaultsAtEntry s r =
+    (e : Entry) (es : List Entry) → s.entries ≡ e ∷ es → (f : Error) →
+    lifted_told s.global_seqno e ≡ Err f → r ≡ Some (Err f)
+
 -- one call: it gives the first of what is left; an error ends it for good; each load counts, and lowers
 -- the number of blocks by one. As many blocks are loaded as the next entry needs; want of memory may
 -- stop at any of them, at the first only where its header and its checksum have no fault
@@ -134,6 +141,7 @@ pub record ScansNext (s : Scan) (r : Option (Result Entry Error)) (t : Scan) : T
   pub answers : Answers (λ _. Unit {0}) ScanHas front_of s r t
   pub ends : MatchOption r (IsEnded t) (λ x. IfErr x (λ _. IsEnded t))
   pub early : FaultsAtBlock s r
+  pub lifts : FaultsAtEntry s r
   pub count : ℕ
   pub counts : t.opened ≡ loads count s.opened
   pub within : count ≤ s.blocks

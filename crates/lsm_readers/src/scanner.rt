@@ -7,6 +7,7 @@ ghost use Rattle.sst_blocks.specs.declared.block_type.BlockType.TheVariants.{Dat
 ghost use Rattle.sst_entries.specs.declared.error.Error.{Error};
 ghost use Rattle.sst_entries.specs.declared.error.Error.TheVariants.{OutOfMemory};
 
+use lsm_iters::lift_seqno;
 use sst_blocks::{
     BlockSource, BlockType, CompressionType, DataBlock, Error, Header, IterItem, Opened, SeqNo,
 };
@@ -17,8 +18,8 @@ use std::marker::Model;
 ///
 /// The first block is read when the scanner is made, each further one when a step first needs it. Where a block cannot be
 /// loaded its fault comes in the place of its entries, and [`Error::SeqNoOverflow`] in the place of an entry whose number
-/// passes `u64` with the global number added. What the header of a step's first block says, and its checksum, comes before
-/// any want of memory. After an error, [`Error::OutOfMemory`] among them, nothing more comes.
+/// passes `u64` with the global number added; of an entry that stands next in a loaded block that comes before any want of
+/// memory, and so does what the header of a step's first block says, and its checksum. After an error, [`Error::OutOfMemory`] among them, nothing more comes.
 #[derive(Drop)]
 pub struct Scanner<A: Allocator = Global> {
     source: BlockSource<A>,
@@ -135,17 +136,17 @@ impl<A: Allocator + Clone> Scanner<A> {
     /// The next entry of the present block, its number lifted.
     fn entry(&self) -> IterItem<A>
         requires { 0 < length self.now.entries }
-        ensures { (e : Entry) (es : List Entry) → self.now.entries ≡ e ∷ es →
+        ensures told { (e : Entry) (es : List Entry) → self.now.entries ≡ e ∷ es →
             Gives (λ (x : Entry). x) result (lifted_told self.now.global_seqno e) }
+        // A number that passes `u64` comes before any want of memory.
+        ensures first { (e : Entry) (es : List Entry) → self.now.entries ≡ e ∷ es →
+            FaultsFirst result (fault_of (lifted_told self.now.global_seqno e)) }
     {
+        let (_, number) = self.block.key_at(self.index);
+        let seqno = lift_seqno(number, self.global_seqno)?;
         let mut item = self.block.entry(self.index)?;
-        match item.key.seqno.checked_add(self.global_seqno) {
-            Some(seqno) => {
-                item.key.seqno = seqno;
-                Ok(item)
-            }
-            None => Err(Error::SeqNoOverflow),
-        }
+        item.key.seqno = seqno;
+        Ok(item)
     }
 
     /// Takes the next entry of the present block, where one is left. An error ends the scan.

@@ -1,5 +1,5 @@
 -- A payload that has its checksum may be marked.
-use Rattle.std.proofs.Common.{◌≡◌, ◌≤◌, ℕ, zero, suc, ◌+◌, ◌-◌, List, [], ◌∷◌, length, slice_index, slice_set, slice_range, refl, subst, sym, ◌∙◌, arith}
+use Rattle.std.proofs.Common.{◌≡◌, ◌≤◌, ℕ, zero, suc, ◌+◌, ◌-◌, List, [], ◌∷◌, length, slice_index, slice_set, slice_range, refl, subst, sym, ap, ◌∙◌, arith}
 use Rattle.std.proofs.lemmas.List.{length-take}
 use Rattle.bytes.proofs.Ranges.{slice_range_front}
 use Rattle.sst_blocks.specs.Block.{data_len, stored_checksum}
@@ -28,3 +28,19 @@ module _ (bytes : List ℕ) (start end checksum : ℕ) (said : IsSaid bytes star
 pub body_part : (bytes : List ℕ) (start end : ℕ) → end ≤ length (body_of bytes) → slice_range (body_of bytes) start end ≡ slice_range bytes start end
 body_part bytes start end within =
     slice_range_front (body_of bytes) bytes start end (length bytes - 120) refl (omega (arith, within, length-take (length bytes - 120) bytes))
+
+-- the header before a payload of the body, and what it says
+pub head_part : (bytes : List ℕ) (at : ℕ) → at + 24 ≤ length (body_of bytes) → head_before bytes (at + 24) ≡ slice_range (body_of bytes) at (at + 24)
+head_part bytes at within =
+    let from : at + 24 - 24 ≡ at = omega arith in
+    ap (λ (n : ℕ). slice_range bytes n (at + 24)) from ∙ sym (body_part bytes at (at + 24) within)
+
+pub said_there : (bytes : List ℕ) (at checksum len : ℕ) → at + 24 + len ≤ length (body_of bytes) → checksum ≡ stored_checksum (slice_range (body_of bytes) at (at + 24)) → len ≡ data_len (slice_range (body_of bytes) at (at + 24)) → IsSaid bytes (at + 24) (at + 24 + len) checksum
+said_there bytes at checksum len within sum size =
+    let head = head_part bytes at (omega (arith, within)) in
+    record {
+      ordered = omega arith;
+      within = omega (arith, within, length-take (length bytes - 120) bytes);
+      sum = ap stored_checksum head ∙ sym sum;
+      len = ap (λ (n : ℕ). at + 24 + n) (ap data_len head ∙ sym size);
+    }

@@ -143,6 +143,15 @@ impl<A: Allocator> IndexBlock<A> {
         Ok(KeyedBlockHandle::new(end_key, handle.seqno, inner))
     }
 
+    /// Where the block lies that the handle at a place names. The end key is not shared, so no memory is taken.
+    pub fn place_at(&self, index: usize) -> BlockHandle
+        requires { index < length self.now }
+        ensures { option_map place_of (slice_get self.now index) ≡ Some result }
+    {
+        let found = self.handle_ref(index);
+        BlockHandle::new(BlockOffset(found.offset), found.size)
+    }
+
     /// How many handles stand before the first that reaches a key and a number: whose end key is greater, or equal and
     /// numbered below `seqno`.
     pub fn first_reaching(&self, key: &[u8], seqno: SeqNo) -> usize
@@ -182,8 +191,7 @@ impl<A: Allocator> IndexBlock<A> {
         if index == self.len() {
             return None;
         }
-        let handle = self.handle_ref(index);
-        Some(BlockHandle::new(BlockOffset(handle.offset), handle.size))
+        Some(self.place_at(index))
     }
 
     /// The handles, from both ends.

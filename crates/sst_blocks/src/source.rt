@@ -1,9 +1,8 @@
 //! The only way to the blocks of a table's bytes.
 ghost use Rattle.std.specs.Prelude.{◌≡◌, ◌↔◌, ◌+◌, ◌<◌, ◌≤◌, ◌^◌, List, ℕ, length, map, slice_range};
 ghost use Rattle.std.specs.Prelude.{IfOk, IfSome, IsTrue, MatchOption, None};
-ghost use Rattle.sst_blocks.specs.Block.{checked_payload, checksum_fault, header_len};
+ghost use Rattle.sst_blocks.specs.Block.{Loaded, checked_payload, checksum_fault, header_len};
 ghost use Rattle.sst_blocks.specs.Block.{load_told, load_at_told, place_fault, position_fault};
-ghost use Rattle.sst_blocks.specs.Block.{Loaded};
 ghost use Rattle.sst_blocks.specs.Marks.{IsSaid};
 ghost use Rattle.sst_sections.specs.Fnv.{fnv1a};
 ghost use Rattle.std.specs.Arc.{arc_value};
@@ -11,6 +10,7 @@ ghost use Rattle.sst_entries.specs.Error.{Gives, Refuses, FaultsFirst};
 ghost use Rattle.sst_blocks.specs.Opened.{with_load, none_opened};
 ghost use Rattle.sst_sections.specs.Sections.{body_of, section_in, section_names, trailer_fault};
 ghost use Rattle.sst_blocks.specs.declared.opened.Opened.{Opened};
+ghost use Rattle.sst_blocks.specs.declared.block_type.BlockType.TheVariants.{Data};
 
 use crate::block::Header;
 use crate::marks::{Marks, SPAN};
@@ -56,8 +56,9 @@ impl<A: Allocator + Clone> Clone for BlockSource<A> {
 
     ghost is_clone = { λ s copy. copy ≡ s };
 
-    /// A source over the same bytes, which both share. Refused where their count of sharers is refused; where that of what is
-    /// remembered is, the clone remembers nothing.
+    /// A source over the same bytes, which both share, so each load of it answers the same. Refused for want of memory alone:
+    /// where the count of the sharers of the bytes is refused, or a clone of the allocator. Where the count of the sharers of
+    /// what is remembered is refused, the clone remembers nothing.
     fn clone(&self) -> Result<BlockSource<A>, AllocError> {
         Ok(BlockSource {
             bytes: self.bytes.clone()?,
@@ -321,24 +322,32 @@ impl<A: Allocator + Clone> BlockSource<A> {
         self.mark_said(marks, fourth, sums.3);
     }
 
-    /// What the header of the data block at a position says of its payload.
+    /// What the header of the data block at a position says of its payload, where a load there would come to the checksum: no
+    /// payload is hashed for a header that is refused.
     fn said_at(&self, position: u64) -> Option<Said>
-        ensures { IfSome result (λ said. IsSaid self.now said.start said.end said.checksum) }
+        ensures said { IfSome result (λ said. IsSaid self.now said.start said.end said.checksum) }
+        ensures tested { IfSome result (λ said.
+            let payload = slice_range (body_of self.now) said.start said.end in
+            position_fault (body_of self.now) position Data
+            ≡ checksum_fault said.checksum payload) }
     {
-        let bytes = self.bytes.as_slice();
-        if bytes.len() < HEADER_LEN || ((bytes.len() - HEADER_LEN) as u64) < position {
+        let body = self.body();
+        if body.len() < HEADER_LEN || ((body.len() - HEADER_LEN) as u64) < position {
             return None;
         }
-        let start = position as usize + HEADER_LEN;
-        let head = &bytes[start - HEADER_LEN..start];
-        let len = u32_at(&head[8..]) as usize;
-        if head[4] != BlockType::Data.tag() || bytes.len() - start < len {
+        let header_start = position as usize;
+        let start = header_start + HEADER_LEN;
+        let Ok(header) = Header::decode(&body[header_start..start], BlockType::Data) else {
+            return None;
+        };
+        let len = header.data_len as usize;
+        if header.data_len != header.uncompressed_len || body.len() - start < len {
             return None;
         }
         Some(Said {
             start,
             end: start + len,
-            checksum: u64_at(&head[16..]),
+            checksum: header.checksum,
         })
     }
 

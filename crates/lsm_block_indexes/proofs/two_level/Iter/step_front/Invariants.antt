@@ -1,10 +1,10 @@
 use Rattle.std.proofs.Common.{length}
-use Rattle.lsm_block_indexes.specs.Left.{front_needs}
+use Rattle.lsm_block_indexes.specs.Left.{front_early, front_needs}
 use Rattle.lsm_block_indexes.proofs.TwoLevels.{Reached}
 use Rattle.lsm_block_indexes.proofs.two_level.Iter.step_front.Given as goal
 
 abbrev pub invariant-loop-item : goal.invariant-loop-item
-invariant-loop-item g l = Reached front_needs l.fn.self l.self
+invariant-loop-item g l = Reached front_needs front_early l.fn.self l.self
 
 abbrev pub decreases-loop-item : goal.decreases-loop-item
 decreases-loop-item g l = length l.self.tops

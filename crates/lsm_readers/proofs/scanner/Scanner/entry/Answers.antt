@@ -1,29 +1,33 @@
-use Rattle.std.proofs.Common.{◌≡◌, ℕ, ◌+◌, ◌<◌, ◌≤◌, ◌^◌, arith, ap, ◌∙◌, inl, inr}
-use Rattle.std.proofs.lemmas.Bool.{cases_lt}
-use Rattle.sst_entries.specs.Entry.{Entry, entry}
+use Rattle.std.proofs.Common.{ap, refl, ◌∙◌}
+use Rattle.std.proofs.lemmas.Result.{err_from_is_err_and}
+use Rattle.lsm_iters.specs.Lift.{number_told}
+use Rattle.lsm_iters.proofs.Lifts.{lift_refused, lift_fits}
 use Rattle.lsm_readers.specs.Scan.{Scan}
-use Rattle.lsm_readers.proofs.Scans.{entry_is, lifted_is, lifted_past}
+use Rattle.lsm_readers.proofs.Scans.{entry_is, number_is, fits}
 use Rattle.lsm_readers.proofs.scanner.Scanner.entry.Goals as goal
 
-not_below : (m n : ℕ) → (m < n → ⊥) → n ≤ m
-not_below m n h = elim (cases_lt m n) [
-  | inl lt ↦ absurd (h lt)
-  | inr le ↦ le
-]
-
-pub returns-in-Some : goal.returns-in-Some
-returns-in-Some g c e es some =
-    let i = c.item.inside in
+pub returns-in_err-seqno-clause-told : goal.returns-in_err-seqno-clause-told
+returns-in_err-seqno-clause-told g c e es some =
+    let p = err_from_is_err_and c.from_residual.result c.from_residual.ensures.1 in
     let whole = ap (λ (s : Scan). s.entries) c.self.view_is ∙ some in
-    let same = c.item.view_is ∙ entry_is c.self.inside.block c.self.inside.index c.in_ok-item.item e es c.in_ok-item.ensures.found whole in
-    let number = ap (λ (s : Scan). s.global_seqno) c.self.view_is in
-    lifted_is c.args.self.now.global_seqno c.in-Some.seqno (entry i.key.user_key i.value i.key.seqno i.key.value_type) e same (c.in-Some.ensures.1 ∙ ap (λ (n : ℕ). i.key.seqno + n) number) (omega (arith, c.in-Some.ensures.0, c.in-Some.ensures.1))
+    let own = number_is c.self.inside.block c.self.inside.index _ _ c.key_at-number.result.1 e es refl c.key_at-number.ensures whole in
+    rw (p.1, p.2) (λ fine. lift_refused c.args.self.now.global_seqno c.key_at-number.result.1 e c.in_err-seqno.field-0.0 own (c.in_err-seqno.ensures ∙ ap (λ (s : Scan). number_told s.global_seqno c.key_at-number.result.1) c.self.view_is))
 
-pub returns-in-None : goal.returns-in-None
-returns-in-None g c e es some _ =
-    let i = c.item.inside in
+pub returns-in_err-item-clause-first : goal.returns-in_err-item-clause-first
+returns-in_err-item-clause-first g c e es some =
     let whole = ap (λ (s : Scan). s.entries) c.self.view_is ∙ some in
+    let own = number_is c.self.inside.block c.self.inside.index _ _ c.key_at-number.result.1 e es refl c.key_at-number.ensures whole in
+    λ f is. absurd (fits _ (lift_fits c.args.self.now.global_seqno c.key_at-number.result.1 c.in_ok-seqno.seqno e own (c.in_ok-seqno.ensures ∙ ap (λ (s : Scan). number_told s.global_seqno c.key_at-number.result.1) c.self.view_is)) f is)
+
+pub returns-clause-told : goal.returns-clause-told
+returns-clause-told g c e es some =
+    let whole = ap (λ (s : Scan). s.entries) c.self.view_is ∙ some in
+    let own = number_is c.self.inside.block c.self.inside.index _ _ c.key_at-number.result.1 e es refl c.key_at-number.ensures whole in
     let same = c.item.view_is ∙ entry_is c.self.inside.block c.self.inside.index c.in_ok-item.item e es c.in_ok-item.ensures.found whole in
-    let number = ap (λ (s : Scan). s.global_seqno) c.self.view_is in
-    let own : i.key.seqno ≡ e.seqno = ap (λ (x : Entry). x.seqno) same in
-    lifted_past c.args.self.now.global_seqno e (omega (arith, own, number, not_below (i.key.seqno + c.self.inside.global_seqno) (2 ^ 64) c.in-None.ensures))
+    lift_fits c.args.self.now.global_seqno c.key_at-number.result.1 c.in_ok-seqno.seqno e own (c.in_ok-seqno.ensures ∙ ap (λ (s : Scan). number_told s.global_seqno c.key_at-number.result.1) c.self.view_is) ∙ rw (← same) refl
+
+pub returns-clause-first : goal.returns-clause-first
+returns-clause-first g c e es some =
+    let whole = ap (λ (s : Scan). s.entries) c.self.view_is ∙ some in
+    let own = number_is c.self.inside.block c.self.inside.index _ _ c.key_at-number.result.1 e es refl c.key_at-number.ensures whole in
+    λ f is. absurd (fits _ (lift_fits c.args.self.now.global_seqno c.key_at-number.result.1 c.in_ok-seqno.seqno e own (c.in_ok-seqno.ensures ∙ ap (λ (s : Scan). number_told s.global_seqno c.key_at-number.result.1) c.self.view_is)) f is)

@@ -14,7 +14,8 @@ returns-in-Ok-clause-takes g c =
       entry = cut.entry;
       others = drop (index + 1) block;
       some = some;
-      told = c.in-Ok.ensures cut.entry (drop (index + 1) block) some;
+      told = c.in-Ok.ensures.told cut.entry (drop (index + 1) block) some;
+      first = c.in-Ok.ensures.first cut.entry (drop (index + 1) block) some;
       took = ap (λ (s : Scan). record s { entries = drop (index + 1) block }) c.self.view_is;
     }
 
@@ -29,6 +30,7 @@ returns-in-Err-clause-takes g c =
       entry = cut.entry;
       others = drop (index + 1) block;
       some = some;
-      told = c.in-Err.ensures cut.entry (drop (index + 1) block) some;
+      told = c.in-Err.ensures.told cut.entry (drop (index + 1) block) some;
+      first = c.in-Err.ensures.first cut.entry (drop (index + 1) block) some;
       took = c.end.ensures;
     }

@@ -1,23 +1,21 @@
-use Rattle.std.proofs.Common.{◌≡◌, ◌+◌, ◌-◌, ◌<◌, ◌≤◌, ℕ, List, drop, length, slice_range, arith, sym, ap, ◌∙◌}
-use Rattle.std.proofs.lemmas.List.{take_rest}
-use Rattle.sst_sections.specs.Number.{num4, num8}
-use Rattle.sst_blocks.specs.Block.{data_len, stored_checksum}
-use Rattle.sst_blocks.specs.Marks.{IsSaid, head_before}
+use Rattle.std.proofs.Common.{◌≡◌, ◌+◌, List, ℕ, length, slice_range, ap, ◌∙◌, arith}
+use Rattle.sst_blocks.specs.declared.block_type.BlockType.TheVariants.{Data}
+use Rattle.sst_blocks.specs.Block.{checksum_fault, data_len, position_fault, stored_checksum}
+use Rattle.sst_sections.specs.Sections.{body_of}
+use Rattle.sst_blocks.proofs.LoadLemmas.{position_checked}
+use Rattle.sst_blocks.proofs.MarkLemmas.{said_there}
 use Rattle.sst_blocks.proofs.source.BlockSource.said_at.Goals as goal
 
-pub returns : goal.returns
-returns g c =
-    let bytes : List ℕ = c.args.self.now in
-    let same : c.as_slice-bytes.result.now ≡ bytes = cc (c.as_slice-bytes.ensures, c.self.view_is) in
-    let start : ℕ = c.args.position + 24 in
-    let head : List ℕ = slice_range c.as_slice-bytes.result.now (start - 24) start in
-    let sum : c.u64_at.result ≡ stored_checksum (head_before bytes start) =
-    c.u64_at.ensures ∙ ap num8 (take_rest head 16) ∙ ap (λ (b : List ℕ). stored_checksum (head_before b start)) same in
-    let len : c.u32_at-len.result ≡ data_len (head_before bytes start) =
-    c.u32_at-len.ensures ∙ ap num4 (take_rest head 8) ∙ ap (λ (b : List ℕ). data_len (head_before b start)) same in
-    record {
-      ordered = omega arith;
-      within = omega (arith, c.if-bytes-start.false, c.if-bytes-lt-HEADER_LEN.false, c.if-bytes-position.false, ap length same);
-      sum = sym sum;
-      len = ap (λ (n : ℕ). start + n) (sym len);
-    }
+pub returns-clause-said : goal.returns-clause-said
+returns-clause-said g c =
+    let at = c.args.position in
+    let body = c.body-body.ensures.body in
+    said_there c.args.self.now at c.in-Ok.header.checksum c.in-Ok.header.data_len
+    (omega (arith, ap length body, c.if-body-position.false, c.if-body-lt-HEADER_LEN.false, c.if-body-start.false))
+    (c.in-Ok.ensures.checksum ∙ ap (λ (b : List ℕ). stored_checksum (slice_range b at (at + 24))) body)
+    (c.in-Ok.ensures.data_len ∙ ap (λ (b : List ℕ). data_len (slice_range b at (at + 24))) body)
+
+pub returns-clause-tested : goal.returns-clause-tested
+returns-clause-tested g c =
+    let told = position_checked c.body-body.result.now c.args.position Data (omega arith) c.in-Ok.ensures.fault (omega (arith, c.in-Ok.ensures.data_len, c.in-Ok.ensures.uncompressed_len)) (omega (arith, c.in-Ok.ensures.data_len)) in
+    cc (c.body-body.ensures.body, c.in-Ok.ensures.checksum, c.in-Ok.ensures.data_len)
