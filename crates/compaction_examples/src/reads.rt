@@ -34,7 +34,13 @@ fn found_around<A: Allocator + Copy>(
 
 #[test]
 fn a_read_above_the_threshold_finds_the_same(rt: HostRuntime) -> Result<(), Fail> {
-    for (bound, number) in [(11, Some(10)), (10, Some(3)), (7, Some(3)), (4, Some(3)), (3, None)] {
+    for (bound, number) in [
+        (11, Some(10)),
+        (10, Some(3)),
+        (7, Some(3)),
+        (4, Some(3)),
+        (3, None),
+    ] {
         let read = found_around(rt.alloc(), &A10_A3, (5, false, false), b"a", bound)?;
         assert!(rt; read == [number, number]);
     }
@@ -101,11 +107,7 @@ const OLDER_PART: [Row<'static>; 5] = [
     (b"c", 2, V, b"z"),
 ];
 
-const NEWER_REST: [Row<'static>; 3] = [
-    (b"a", 9, V, b"u"),
-    (b"b", 8, V, b"v"),
-    (b"d", 1, V, b"w"),
-];
+const NEWER_REST: [Row<'static>; 3] = [(b"a", 9, V, b"u"), (b"b", 8, V, b"v"), (b"d", 1, V, b"w")];
 
 // What a reader sees of a key: the value of the first entry below a bound. That of a tombstone has no byte.
 fn seen<A: Allocator + Copy>(
@@ -147,9 +149,7 @@ fn stays_seen<A: Allocator + Copy>(
 }
 
 #[test]
-fn a_compacted_part_shows_the_same_at_the_watermark_and_above(
-    rt: HostRuntime,
-) -> Result<(), Fail> {
+fn a_compacted_part_shows_the_same_at_the_watermark_and_above(rt: HostRuntime) -> Result<(), Fail> {
     let alloc = rt.alloc();
     assert!(rt; stays_seen(alloc, &PLAIN_PART, &PLAIN_REST, (7, false, false))?);
     assert!(rt; stays_seen(alloc, &OLDER_PART, &NEWER_REST, (7, true, true))?);

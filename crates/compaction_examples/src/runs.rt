@@ -40,12 +40,7 @@ fn lifted<A: Allocator>(
         return Err(Error::Source(0));
     };
     let (key, value) = (item.key.user_key.clone()?, item.value.clone()?);
-    Ok(InternalValue::from_components(
-        key,
-        value,
-        seqno,
-        item.key.value_type,
-    ))
+    Ok(InternalValue::from_components(key, value, seqno, item.key.value_type))
 }
 
 // Puts entries behind others, with a global number added.

@@ -16,11 +16,7 @@ use writer_examples::rows::Row;
 const LONG: [u8; 8000] = [b'v'; 8000];
 
 // `a`, `d` and `e` fill a block each; `b` and `c` go into that of `d`.
-const FIRST: &[Row<'static>] = &[
-    (b"a", 9, V, &LONG),
-    (b"b", 6, V, b"x"),
-    (b"d", 4, V, &LONG),
-];
+const FIRST: &[Row<'static>] = &[(b"a", 9, V, &LONG), (b"b", 6, V, b"x"), (b"d", 4, V, &LONG)];
 
 const SECOND: &[Row<'static>] = &[(b"a", 5, V, b"x"), (b"c", 7, T, b""), (b"e", 1, V, &LONG)];
 
@@ -59,7 +55,10 @@ fn written(alloc: Global, target_size: u64) -> Result<(Vec<Version>, Ids), Error
 
 // A target size, and the ids of the new tables. At target 0 the first one stays without entries.
 const CUTS: [(u64, Ids); 2] = [
-    (0, ([Some(6), Some(7), Some(8), Some(9), Some(10)], Some(11))),
+    (
+        0,
+        ([Some(6), Some(7), Some(8), Some(9), Some(10)], Some(11)),
+    ),
     (1_024, ([Some(5), Some(6), Some(7), None, None], Some(8))),
 ];
 
@@ -115,11 +114,7 @@ fn spent() -> TableIds {
 }
 
 // What a compaction into a table for each key answers.
-fn refusal<A: Allocator + Copy>(
-    alloc: A,
-    runs: &[Tables<A>],
-    ids: TableIds,
-) -> Result<usize, Error>
+fn refusal<A: Allocator + Copy>(alloc: A, runs: &[Tables<A>], ids: TableIds) -> Result<usize, Error>
     requires { AreCompactable (map arc_value runs.now) }
 {
     let writer = MultiWriter::new(alloc, ids, 0, 0, Timestamp::from(0))?;
@@ -147,13 +142,20 @@ fn refused(alloc: Global, ids: TableIds) -> Result<(Result<usize, Error>, bool),
     let before = read(alloc, &runs)?;
     let answer = refusal(alloc, &runs, ids);
     let after = read(alloc, &runs)?;
-    Ok((answer, before == after && before.0 == [Some(9), Some(6), Some(7)]))
+    Ok((
+        answer,
+        before == after && before.0 == [Some(9), Some(6), Some(7)],
+    ))
 }
 
 #[test]
 fn runs_stay_where_the_ids_are_spent(rt: HostRuntime) -> Result<(), Fail> {
     let alloc = rt.alloc();
-    for ids in [TableIds::new(TableId::MAX - 1), TableIds::new(TableId::MAX), spent()] {
+    for ids in [
+        TableIds::new(TableId::MAX - 1),
+        TableIds::new(TableId::MAX),
+        spent(),
+    ] {
         assert!(rt; refused(alloc, ids)? == (Err(Error::TableIdsSpent), true));
     }
     let kept = (Ok(5), true);

@@ -51,10 +51,7 @@ fn table_at<A: Allocator + Copy>(
 }
 
 /// A run of the tables of some lists. `Source(2)` where there are none.
-pub fn run_of<A: Allocator + Copy>(
-    alloc: A,
-    lists: &[&[Row<'_>]],
-) -> Result<Tables<A>, Error> {
+pub fn run_of<A: Allocator + Copy>(alloc: A, lists: &[&[Row<'_>]]) -> Result<Tables<A>, Error> {
     damaged_run_of(alloc, lists, lists.len())
 }
 
@@ -75,10 +72,7 @@ pub fn damaged_run_of<A: Allocator + Copy>(
 }
 
 /// A run for each of some lists of tables.
-pub fn runs_of<A: Allocator + Copy>(
-    alloc: A,
-    lists: &[Lists],
-) -> Result<Vec<Tables<A>, A>, Error> {
+pub fn runs_of<A: Allocator + Copy>(alloc: A, lists: &[Lists]) -> Result<Vec<Tables<A>, A>, Error> {
     let mut runs = Vec::new(alloc);
     for tables in lists {
         runs.push(run_of(alloc, tables)?)?;
