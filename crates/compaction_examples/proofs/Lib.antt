@@ -1,1 +1,2 @@
 pub mod Compactable
+pub mod Stored

@@ -1,22 +1,22 @@
 //! A run of a table that was stored in version 3 and of one that is written now.
-ghost use Rattle.std.specs.Prelude.{IfOk};
+ghost use Rattle.std.specs.Prelude.{[], ◌∷◌, IfOk, List};
+ghost use Rattle.std.specs.Arc.{arc_value};
+ghost use Rattle.sst_entries.specs.Entry.{Entry};
+ghost use Rattle.lsm_files.specs.Table.{IsTable};
+ghost use Rattle.lsm_tables.specs.Compacted.{AreCompactable};
+ghost use Rattle.lsm_tables.specs.RunLists.{HoldsList};
+ghost use Rattle.compaction_examples.specs.Stored.{new_entries, stored_entries};
 
-use crate::runs::{V, Version, newest_in, opened, scanned, version_of};
-use lsm_merge::Merger;
+use crate::runs::{V, Version, compacted, newest_in, scanned, version_of};
 use lsm_ranges::Run;
-use lsm_sorted::compaction::stream::CompactionStream;
-use lsm_tables::{RunReader, RunScanner, Table};
-use lsm_writers::{FinishedTable, MultiWriter, TableIds, Timestamp};
+use lsm_tables::{RunReader, Table};
+use lsm_writers::{Timestamp, write_list};
 use run_examples::tables::{ALL, Tables, owned_range};
-use sst_blocks::{Error, Slice};
+use sst_blocks::{Checksum, Error, InternalValue, Slice};
 use std::alloc::Global;
 use std::sync::Arc;
 use std::test::Fail;
 use stored_examples::stored::two_levels;
-use stored_examples::tables::open;
-use writer_examples::rows::{Row, fill, new_writer};
-
-const C2: [Row<'static>; 1] = [(b"c", 2, V, b"")];
 
 const ENTRIES: [Version; 5] = [
     (b'a', 9, V),
@@ -26,15 +26,49 @@ const ENTRIES: [Version; 5] = [
     (b'c', 2, V),
 ];
 
-// The run of both tables. `Source(2)` where there are none.
-fn run(alloc: Global) -> Result<Tables<Global>, Error> {
-    let mut tables = Vec::new(alloc);
-    tables.push(open(alloc, Slice::from(alloc, &two_levels::BYTES)?, 0)?)?;
-    tables.push(open(alloc, fill(new_writer(alloc)?, alloc, &C2)?.bytes, 0)?)?;
-    match Run::new(tables) {
-        Some(run) => Ok(Arc::new(alloc, run)?),
-        None => Err(Error::Source(2)),
+// The bytes of the stored table. They are a table of its entries.
+fn stored_bytes(alloc: Global) -> Result<Slice, Error>
+    ensures { IfOk result (λ b. IsTable b stored_entries) }
+{
+    Slice::from(alloc, &two_levels::BYTES)
+}
+
+// The bytes of a table of c@2.
+fn new_bytes(alloc: Global) -> Result<Slice, Error>
+    ensures { IfOk result (λ b. IsTable b new_entries) }
+{
+    let (key, value) = (Slice::from(alloc, b"c")?, Slice::from(alloc, b"")?);
+    let mut items = Vec::new(alloc);
+    items.push(InternalValue::from_components(key, value, 2, V))?;
+    match write_list(alloc, 2, 0, Timestamp::from(0), items)? {
+        Some(table) => Ok(table.bytes),
+        None => Err(Error::Source(1)),
     }
+}
+
+// The table of some bytes.
+fn table(alloc: Global, bytes: Slice) -> Result<Table, Error>
+    ensures { (es : List Entry) → IsTable bytes es → IfOk result (λ t. HoldsList t es) }
+{
+    let table = Table::recover(alloc, bytes, Checksum(0), 0, 0, true, true)?;
+    table.tells_its_list();
+    Ok(table)
+}
+
+// The run of both tables. `Source(2)` where they are no run.
+fn run(alloc: Global) -> Result<Tables<Global>, Error>
+    ensures { IfOk result (λ run. AreCompactable (arc_value run ∷ [])) }
+{
+    let mut tables = Vec::new(alloc);
+    tables.push(table(alloc, stored_bytes(alloc)?)?)?;
+    tables.push(table(alloc, new_bytes(alloc)?)?)?;
+    let Some(run) = Run::new(tables) else {
+        return Err(Error::Source(2));
+    };
+    if !run.is_in_order() {
+        return Err(Error::Source(2));
+    }
+    Ok(Arc::new(alloc, run)?)
 }
 
 // Whether tables are of these versions.
@@ -75,49 +109,17 @@ fn a_stored_table_and_a_new_one_are_read_as_one_run(rt: HostRuntime) -> Result<(
     Ok(())
 }
 
-// What is kept of a run at watermark 0.
-type Kept = CompactionStream<Merger<RunScanner<Global>, Global>>;
-
-// The steps of `compact_runs`, which itself is called where each table is known to hold a list: no call tells that of stored bytes.
-// `Source(3)` where there are no tables.
-fn kept(alloc: Global, run: Tables<Global>) -> Result<Kept, Error>
-    ensures { IfOk result ⟦<Kept as Iterator>⟧.can_next }
-{
-    if run.as_slice().is_empty() {
-        return Err(Error::Source(3));
-    }
-    let mut scanners = Vec::new(alloc);
-    scanners.push(RunScanner::culled(run, (None, None))?)?;
-    let merger = Merger::new(alloc, scanners)?;
-    Ok(CompactionStream::new(merger, 0))
-}
-
-// Writes what is kept. `Source(0)` where an entry may not follow the one before.
-fn write_all(items: Kept, writer: &mut MultiWriter<Global>) -> Result<(), Error>
-    requires { ⟦<Kept as Iterator>⟧.can_next items }
-{
-    for item in items {
-        let item = item?;
-        if !writer.can_follow(&item.key) {
-            return Err(Error::Source(0));
-        }
-        writer.write(item)?;
-    }
-    Ok(())
-}
-
-// The new tables of what is kept of the run, each key in one of its own.
-fn compacted(alloc: Global) -> Result<Vec<FinishedTable>, Error> {
-    let mut writer = MultiWriter::new(alloc, TableIds::new(1), 0, 0, Timestamp::from(0))?;
-    write_all(kept(alloc, run(alloc)?)?, &mut writer)?;
-    writer.finish()
+// The tables of what is kept of the run at watermark 0.
+fn kept(alloc: Global) -> Result<Vec<Table>, Error> {
+    let runs = [run(alloc)?];
+    compacted(alloc, &runs, (0, false, false))
 }
 
 #[test]
 fn a_stored_table_is_compacted_into_tables_of_version_4(rt: HostRuntime) -> Result<(), Fail> {
     let alloc = rt.alloc();
     assert!(rt; has_versions(run(alloc)?.as_slice(), &[3, 4]));
-    let tables = opened(alloc, compacted(alloc)?)?;
+    let tables = kept(alloc)?;
     assert!(rt; has_versions(&tables, &[4, 4, 4]));
     assert!(rt; scanned(alloc, &tables)?.as_slice() == ENTRIES.as_slice());
     Ok(())
