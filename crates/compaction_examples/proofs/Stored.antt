@@ -107,7 +107,7 @@ lift_none [] = refl
 lift_none (e ∷ es) = ap (λ (us : List Entry). e ∷ us) (lift_none es)
 
 pub holds : (t : OpenTable) (es : List Entry) → IsOpen t → t.global_seqno ≡ 0 → IsTable t.bytes es → HoldsList t es
-holds t es open none is = record { stored = es; opened = open; table = is; lifted_is = lift_none es ∙ ap (lift es) (sym none) }
+holds t es recovered none is = record { stored = es; opened = recovered; table = is; lifted_is = lift_none es ∙ ap (lift es) (sym none) }
 
 pub new_writable : IsWritable new_entries
 unfolding IsStrictAfter

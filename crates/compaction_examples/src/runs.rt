@@ -1,5 +1,5 @@
 //! Runs that may be compacted, and what their new tables have.
-ghost use Rattle.std.specs.Prelude.{◌≡◌, ◌+◌, ◌++◌, IfOk, OnOk, map};
+ghost use Rattle.std.specs.Prelude.{◌≡◌, ◌+◌, ◌++◌, IfOk, IsPermutation, OnOk, map};
 ghost use Rattle.std.specs.Arc.{arc_value};
 ghost use Rattle.lsm_iters.specs.Lift.{lift};
 ghost use Rattle.lsm_writers.specs.Writing.{IsWritable};
@@ -74,6 +74,13 @@ fn written<A: Allocator + Copy>(
     }
 }
 
+// Sorts entries by key up and number down.
+fn put_in_order<A: Allocator>(all: &mut Vec<InternalValue<A>, A>)
+    ensures { IsPermutation all.old.items all.new.items }
+{
+    all.sort_unstable_by(|x: &InternalValue<A>, y: &InternalValue<A>| x.key.cmp(&y.key));
+}
+
 /// A run of each of some lists, with a global number. `Source(0)` where they cannot be compacted together.
 pub(crate) fn runs_with<A: Allocator + Copy>(
     alloc: A,
@@ -89,7 +96,7 @@ pub(crate) fn runs_with<A: Allocator + Copy>(
         add_lifted(&mut all, &items, global_seqno)?;
         runs.push(written(alloc, items, global_seqno)?)?;
     }
-    all.sort_unstable_by(|x: &InternalValue<A>, y: &InternalValue<A>| x.key.cmp(&y.key));
+    put_in_order(&mut all);
     if is_writable(&all) {
         Ok(runs)
     } else {
