@@ -10,7 +10,7 @@ use Rattle.sst_entries.specs.Entry.{Entry}
 use Rattle.sst_entries.specs.Strict.{IsStrict}
 use Rattle.lsm_files.specs.declared.label.Label.{Label}
 use Rattle.lsm_files.specs.Chunks.{joined}
-use Rattle.lsm_iters.specs.Lift.{lift}
+use Rattle.lsm_readers.specs.Answer.{lift}
 use Rattle.lsm_merge.specs.Union.{Ascends}
 use Rattle.lsm_merge.proofs.Pairs.{Strict, as_pairs, from_pairs}
 use Rattle.lsm_merge.proofs.UnionLemmas.{merged_union, only_union}

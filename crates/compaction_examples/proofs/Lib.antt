@@ -1,2 +1,2 @@
 pub mod Compactable
-pub mod Stored
+pub mod StoredTable

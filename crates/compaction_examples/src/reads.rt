@@ -133,8 +133,8 @@ fn see_the_same<A: Allocator + Copy>(
 // Whether a reader of two lists' runs sees the same where the first is compacted.
 fn stays_seen<A: Allocator + Copy>(
     alloc: A,
-    part: &[Row<'_>],
-    rest: &[Row<'_>],
+    part: &'static [Row<'static>],
+    rest: &'static [Row<'static>],
     rules: Rules,
 ) -> Result<bool, Error> {
     let before = runs_of(alloc, &[part, rest])?;

@@ -1,7 +1,7 @@
 //! Runs that may be compacted, and what their new tables have.
 ghost use Rattle.std.specs.Prelude.{◌≡◌, ◌+◌, ◌++◌, IfOk, IsPermutation, OnOk, map};
 ghost use Rattle.std.specs.Arc.{arc_value};
-ghost use Rattle.lsm_iters.specs.Lift.{lift};
+ghost use Rattle.lsm_readers.specs.Answer.{lift};
 ghost use Rattle.lsm_writers.specs.Writing.{IsWritable};
 ghost use Rattle.lsm_tables.specs.Compacted.{AreCompactable};
 ghost use Rattle.compaction_examples.specs.Runs.{HasList};

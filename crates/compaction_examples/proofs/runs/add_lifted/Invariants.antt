@@ -1,5 +1,5 @@
 use Rattle.std.specs.Prelude.{◌≡◌, ◌++◌, take}
-use Rattle.lsm_iters.specs.Lift.{lift}
+use Rattle.lsm_readers.specs.Answer.{lift}
 use Rattle.compaction_examples.proofs.runs.add_lifted.Given as goal
 
 abbrev pub invariant-loop-item : goal.invariant-loop-item

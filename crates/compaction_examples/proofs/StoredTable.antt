@@ -23,7 +23,7 @@ use Rattle.lsm_files.specs.File.{file, index_part}
 use Rattle.lsm_files.specs.Fits.{Fits, EntryFits, BlockFits, SectionFits, LabelFits}
 use Rattle.sst_blocks.specs.Block.{header_len}
 use Rattle.lsm_files.specs.Table.{IsTable}
-use Rattle.lsm_iters.specs.Lift.{lift}
+use Rattle.lsm_readers.specs.Answer.{lift}
 use Rattle.lsm_ranges.specs.Run.{IsInOrder}
 use Rattle.lsm_readers.specs.Table.{IsOpen, OpenTable}
 use Rattle.lsm_writers.specs.Writing.{IsWritable}
