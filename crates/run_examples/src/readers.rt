@@ -96,11 +96,6 @@ fn culled<A: Allocator + Copy>(
     RunReader::culled(run, range, span)
 }
 
-// Whether a reader gives these steps.
-fn gives_all<A: Allocator + Copy>(mut reader: RunReader<A>, steps: &[Step]) -> Result<bool, Error> {
-    gives(&mut reader, steps)
-}
-
 // Whether the reader of a span of the four tables does.
 fn culled_gives<A: Allocator + Copy>(
     alloc: A,
@@ -108,7 +103,8 @@ fn culled_gives<A: Allocator + Copy>(
     span: Span,
     steps: &[Step],
 ) -> Result<bool, Error> {
-    gives_all(culled(alloc, bounds, span)?, steps)
+    let mut reader = culled(alloc, bounds, span)?;
+    gives(&mut reader, steps)
 }
 
 // The reader of the four tables within bounds.
@@ -127,7 +123,7 @@ fn new_gives<A: Allocator + Copy>(
     steps: &[Step],
 ) -> Result<Option<bool>, Error> {
     match reader_within(alloc, bounds)? {
-        Some(reader) => Ok(Some(gives_all(reader, steps)?)),
+        Some(mut reader) => gives(&mut reader, steps).map(|given| Some(given)),
         None => Ok(None),
     }
 }
