@@ -73,6 +73,6 @@ pub fn read_each_way<A: Allocator + Clone>(
     ensures err { (es : List Entry) → IsTable table.now.bytes es → (es ≡ [] → ⊥) →
         IfErr result (λ e. e ≡ OutOfMemory) }
 {
-    let ranges = ranges_of(table, lower, upper)?;
-    Ok((read_and_scan(table, key, seqno)?, ranges))
+    let read = read_and_scan(table, key, seqno)?;
+    Ok((read, ranges_of(table, lower, upper)?))
 }
