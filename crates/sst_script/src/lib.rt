@@ -4,8 +4,9 @@
 //! `get KEY BOUND` reads the newest entry of a key numbered below a bound, and `range LOW HIGH` reads the newest entry of each
 //! key within two bounds: `*` for none, or a key behind `=`, which is within, or behind `!`, which is not.
 //!
-//! A line `compact WATERMARK` puts one run in the place of all runs, of what a compaction under that watermark keeps of them;
-//! behind the watermark may stand `evict`, and behind that `zero`. `pack` puts the tables of all runs in the fewest runs.
+//! A line `compact WATERMARK` puts one run in the place of all runs, of what a compaction under that watermark keeps of them, or
+//! none where it keeps nothing. Behind the watermark may stand `evict`, so that tombstones go, then `zero`, so that numbers
+//! below the watermark become 0; either may stand alone. `pack` puts the tables of all runs in the fewest runs.
 #![tactic(auto)]
 
 mod command;
