@@ -136,3 +136,8 @@ both_compactable run s n is hs hn order = record {
   some = ((omega arith, (omega arith, (omega arith, tt))), tt);
   writable = subst IsWritable (sym sorted) both_writable;
 }
+
+-- the one entry behind none
+pub new_alone : (all before : List Entry) (e : Entry) (k v : List ℕ) → all ≡ before ++ e ∷ [] → before ≡ [] → e ≡ entry k v 2 Value → k ≡ 99 ∷ [] → v ≡ [] → all ≡ new_entries
+new_alone all before e k v all_is none e_is k_is v_is =
+    all_is ∙ ap (λ (es : List Entry). es ++ e ∷ []) none ∙ ap (λ (x : Entry). x ∷ []) (e_is ∙ ap (λ (b : List ℕ). entry b v 2 Value) k_is ∙ ap (λ (b : List ℕ). entry (99 ∷ []) b 2 Value) v_is)
