@@ -87,8 +87,11 @@ fits = record {
   label_fits = record { id = omega arith; created_at = omega arith };
 }
 
+abbrev pub stored_file : List ℕ
+stored_file = file V3 (label_of 1 0 0) options content
+
 -- whatever bytes are this file are a table of the entries
-pub stored_table : (bytes : List ℕ) → bytes ≡ file V3 (label_of 1 0 0) options content → IsTable bytes stored_entries
+pub stored_table : (bytes : List ℕ) → bytes ≡ stored_file → IsTable bytes stored_entries
 unfolding IsStrictAfter last_of keys_after
 stored_table bytes are = record {
   label = label_of 1 0 0;
@@ -106,8 +109,8 @@ lift_none : (es : List Entry) → es ≡ lift es 0
 lift_none [] = refl
 lift_none (e ∷ es) = ap (λ (us : List Entry). e ∷ us) (lift_none es)
 
-pub holds : (t : OpenTable) (es : List Entry) → IsOpen t → t.global_seqno ≡ 0 → IsTable t.bytes es → HoldsList t es
-holds t es recovered none is = record { stored = es; opened = recovered; table = is; lifted_is = lift_none es ∙ ap (lift es) (sym none) }
+pub holds : (t : OpenTable) (bytes : List ℕ) (es : List Entry) → IsOpen t → t.bytes ≡ bytes → t.global_seqno ≡ 0 → IsTable bytes es → HoldsList t es
+holds t bytes es recovered same none is = record { stored = es; opened = recovered; table = subst (λ b. IsTable b es) (sym same) is; lifted_is = lift_none es ∙ ap (lift es) (sym none) }
 
 pub new_writable : IsWritable new_entries
 unfolding IsStrictAfter
@@ -133,3 +136,8 @@ both_compactable run s n is hs hn order = record {
   some = ((omega arith, (omega arith, (omega arith, tt))), tt);
   writable = subst IsWritable (sym sorted) both_writable;
 }
+
+-- the one entry behind none
+pub new_alone : (all before : List Entry) (e : Entry) (k v : List ℕ) → all ≡ before ++ e ∷ [] → before ≡ [] → e ≡ entry k v 2 Value → k ≡ 99 ∷ [] → v ≡ [] → all ≡ new_entries
+new_alone all before e k v all_is none e_is k_is v_is =
+    all_is ∙ ap (λ (es : List Entry). es ++ e ∷ []) none ∙ ap (λ (x : Entry). x ∷ []) (e_is ∙ ap (λ (b : List ℕ). entry b v 2 Value) k_is ∙ ap (λ (b : List ℕ). entry (99 ∷ []) b 2 Value) v_is)

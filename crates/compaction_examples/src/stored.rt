@@ -55,20 +55,34 @@ fn table(alloc: Global, bytes: Slice) -> Result<Table, Error>
     Ok(table)
 }
 
+fn stored_table(alloc: Global) -> Result<Table, Error>
+    ensures { IfOk result (λ t. HoldsList t stored_entries) }
+{
+    table(alloc, stored_bytes(alloc)?)
+}
+
+fn new_table(alloc: Global) -> Result<Table, Error>
+    ensures { IfOk result (λ t. HoldsList t new_entries) }
+{
+    table(alloc, new_bytes(alloc)?)
+}
+
 // The run of both tables. `Source(2)` where they are no run.
 fn run(alloc: Global) -> Result<Tables<Global>, Error>
     ensures { IfOk result (λ run. AreCompactable (arc_value run ∷ [])) }
 {
+    let stored = stored_table(alloc)?;
+    let new = new_table(alloc)?;
     let mut tables = Vec::new(alloc);
-    tables.push(table(alloc, stored_bytes(alloc)?)?)?;
-    tables.push(table(alloc, new_bytes(alloc)?)?)?;
-    let Some(run) = Run::new(tables) else {
+    tables.push(stored)?;
+    tables.push(new)?;
+    let Some(both) = Run::new(tables) else {
         return Err(Error::Source(2));
     };
-    if !run.is_in_order() {
+    if !both.is_in_order() {
         return Err(Error::Source(2));
     }
-    Ok(Arc::new(alloc, run)?)
+    Ok(Arc::new(alloc, both)?)
 }
 
 // Whether tables are of these versions.
