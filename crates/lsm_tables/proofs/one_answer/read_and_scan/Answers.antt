@@ -1,0 +1,26 @@
+use Rattle.std.proofs.Common.{refl}
+use Rattle.sst_entries.specs.Point.{point}
+use Rattle.lsm_readers.specs.Answer.{lift}
+use Rattle.lsm_tables.proofs.Opening.{reads}
+use Rattle.lsm_tables.proofs.RunBack.{told_alone}
+use Rattle.lsm_tables.proofs.RunWriting.{some_length, wants}
+use Rattle.lsm_tables.proofs.one_answer.read_and_scan.Goals as goal
+
+pub returns-in_err-found-clause-err : goal.returns-in_err-found-clause-err
+returns-in_err-found-clause-err g c es t some =
+    let a = c.args in
+    let e = c.in_err-found.field-0.0 in
+    wants c.from_residual.result e c.from_residual.ensures.1
+    (told_alone (point (lift es a.table.now.global_seqno) a.key.now a.seqno) e (c.in_err-found.ensures.list es t))
+
+pub returns-in_err-scan-clause-err : goal.returns-in_err-scan-clause-err
+returns-in_err-scan-clause-err g c es t some =
+    let e = c.in_err-scan.field-0.0 in
+    wants c.from_residual-in_err-scan.result e c.from_residual-in_err-scan.ensures.1
+    (c.in_err-scan.ensures.list es t (some_length es some))
+
+pub returns-clause-list : goal.returns-clause-list
+returns-clause-list g c es t =
+    let n = c.args.table.now.global_seqno in
+    reads es n n c.args.key.now c.args.seqno c.in_ok-found.found c.in_ok-scan.field-0 refl
+    (c.in_ok-found.ensures.list es t) (c.in_ok-scan.ensures.list es t)
