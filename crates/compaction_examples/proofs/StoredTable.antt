@@ -1,5 +1,5 @@
 -- A table that was stored in version 3.
-use Rattle.std.proofs.Common.{◌≡◌, refl, sym, ◌∙◌, ap, subst, ℕ, ◌<◌, ◌≤◌, ◌^◌, Bool, true, nat_lt, List, [], ◌∷◌, ◌+◌, ◌-◌, length, arith}
+use Rattle.std.proofs.Common.{◌≡◌, refl, sym, ◌∙◌, ap, subst, ℕ, ◌<◌, ◌≤◌, ◌^◌, Bool, true, nat_lt, List, [], ◌∷◌, ◌+◌, ◌-◌, length, arith, ◌++◌}
 use Rattle.std.specs.List.{AllByRecursion}
 use Rattle.sst_entries.specs.Entry.{Entry, entry}
 use Rattle.sst_entries.specs.Strict.{IsStrict, IsStrictAfter, last_of}
@@ -23,7 +23,7 @@ use Rattle.lsm_files.specs.File.{file, index_part}
 use Rattle.lsm_files.specs.Fits.{Fits, EntryFits, BlockFits, SectionFits, LabelFits}
 use Rattle.sst_blocks.specs.Block.{header_len}
 use Rattle.lsm_files.specs.Table.{IsTable}
-use Rattle.lsm_readers.specs.Answer.{lift}
+use Rattle.lsm_readers.specs.Answer.{lift, lifted}
 use Rattle.lsm_ranges.specs.Run.{IsInOrder}
 use Rattle.lsm_readers.specs.Table.{IsOpen, OpenTable}
 use Rattle.lsm_writers.specs.Writing.{IsWritable}
@@ -105,9 +105,15 @@ stored_table bytes are = record {
 
 -- ---- the run of both
 
+and_none : (n : ℕ) → n ≡ n + 0
+and_none n = omega arith
+
+-- no global number changes nothing
 lift_none : (es : List Entry) → es ≡ lift es 0
 lift_none [] = refl
-lift_none (e ∷ es) = ap (λ (us : List Entry). e ∷ us) (lift_none es)
+lift_none (e ∷ es) =
+    ap (λ (n : ℕ). let x : Entry = record { user_key = e.user_key; seqno = n; kind = e.kind; value = e.value } in x ∷ es) (and_none e.seqno)
+    ∙ ap (λ (us : List Entry). lifted 0 e ∷ us) (lift_none es)
 
 pub holds : (t : OpenTable) (bytes : List ℕ) (es : List Entry) → IsOpen t → t.bytes ≡ bytes → t.global_seqno ≡ 0 → IsTable bytes es → HoldsList t es
 holds t bytes es recovered same none is = record { stored = es; opened = recovered; table = subst (λ b. IsTable b es) (sym same) is; lifted_is = lift_none es ∙ ap (lift es) (sym none) }

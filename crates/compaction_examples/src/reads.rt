@@ -130,24 +130,28 @@ fn see_the_same<A: Allocator + Copy>(
     Ok(true)
 }
 
+// A list that is compacted, and one that stays.
+type Lists = [&'static [Row<'static>]; 2];
+
+const PLAIN: Lists = [&PLAIN_PART, &PLAIN_REST];
+
+const NEWER: Lists = [&OLDER_PART, &NEWER_REST];
+
+const HIDDEN: Lists = [&A6_T, &A3];
+
 // Whether a reader of two lists' runs sees the same where the first is compacted.
-fn stays_seen<A: Allocator + Copy>(
-    alloc: A,
-    part: &'static [Row<'static>],
-    rest: &'static [Row<'static>],
-    rules: Rules,
-) -> Result<bool, Error> {
-    let before = runs_of(alloc, &[part, rest])?;
-    let after = part_compacted(alloc, part, rest, rules)?;
+fn stays_seen<A: Allocator + Copy>(alloc: A, lists: &Lists, rules: Rules) -> Result<bool, Error> {
+    let before = runs_of(alloc, lists.as_slice())?;
+    let after = part_compacted(alloc, lists[0], lists[1], rules)?;
     see_the_same(&after, &before)
 }
 
 #[test]
 fn a_compacted_part_shows_the_same_at_the_watermark_and_above(rt: HostRuntime) -> Result<(), Fail> {
     let alloc = rt.alloc();
-    assert!(rt; stays_seen(alloc, &PLAIN_PART, &PLAIN_REST, (7, false, false))?);
-    assert!(rt; stays_seen(alloc, &OLDER_PART, &NEWER_REST, (7, true, true))?);
+    assert!(rt; stays_seen(alloc, &PLAIN, (7, false, false))?);
+    assert!(rt; stays_seen(alloc, &NEWER, (7, true, true))?);
     // Where neither is so it may show what it hid.
-    assert!(rt; !stays_seen(alloc, &A6_T, &A3, (7, true, false))?);
+    assert!(rt; !stays_seen(alloc, &HIDDEN, (7, true, false))?);
     Ok(())
 }
