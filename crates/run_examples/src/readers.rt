@@ -96,6 +96,11 @@ fn culled<A: Allocator + Copy>(
     RunReader::culled(run, range, span)
 }
 
+// Whether a reader gives these steps.
+fn gives_all<A: Allocator + Copy>(mut reader: RunReader<A>, steps: &[Step]) -> Result<bool, Error> {
+    gives(&mut reader, steps)
+}
+
 // Whether the reader of a span of the four tables does.
 fn culled_gives<A: Allocator + Copy>(
     alloc: A,
@@ -103,8 +108,7 @@ fn culled_gives<A: Allocator + Copy>(
     span: Span,
     steps: &[Step],
 ) -> Result<bool, Error> {
-    let mut reader = culled(alloc, bounds, span)?;
-    gives(&mut reader, steps)
+    gives_all(culled(alloc, bounds, span)?, steps)
 }
 
 // The reader of the four tables within bounds.
@@ -123,7 +127,7 @@ fn new_gives<A: Allocator + Copy>(
     steps: &[Step],
 ) -> Result<Option<bool>, Error> {
     match reader_within(alloc, bounds)? {
-        Some(mut reader) => gives(&mut reader, steps).map(|given| Some(given)),
+        Some(reader) => Ok(Some(gives_all(reader, steps)?)),
         None => Ok(None),
     }
 }

@@ -1,7 +1,8 @@
 //! Runs of tables that are packed, and read before and after.
+use crate::several::{Lists, runs_of};
+use crate::tables::Tables;
 use lsm_ranges::Run;
 use lsm_tables::{Table, get_runs, pack_runs, packing_law};
-use run_examples::tables::{Lists, Tables, runs_of};
 use sst_blocks::{Error, SeqNo, ValueType};
 use std::alloc::Allocator;
 use std::sync::Arc;

@@ -1,2 +1,0 @@
-pub mod Compactable
-pub mod StoredTable
