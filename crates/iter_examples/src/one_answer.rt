@@ -1,4 +1,7 @@
 //! All reads of tables of one list, under each kind of index and of filter.
+ghost use Rattle.std.specs.Prelude.{IfOk};
+ghost use Rattle.lsm_writers.specs.Writing.{IsFresh};
+
 use lsm_tables::{Iter, PointAndScan, Ranges, Scanner, Table, read_each_way};
 use lsm_writers::{BloomConstructionPolicy, Writer};
 use sst_blocks::{Checksum, Error, IterItem, SeqNo, Slice, ValueType};
@@ -40,7 +43,9 @@ const KINDS: [Kind; 10] = [
     (Parted::Both, 100, true, true),
 ];
 
-fn writer_of(alloc: Global, bits: u32) -> Result<Writer<Global>, Error> {
+fn writer_of(alloc: Global, bits: u32) -> Result<Writer<Global>, Error>
+    ensures { IfOk result (λ w. IsFresh w) }
+{
     Ok(
         new_writer(alloc)?
             .use_data_block_size(0)
