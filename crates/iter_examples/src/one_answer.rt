@@ -144,10 +144,18 @@ fn taken(reads: &mut (PointAndScan<Global>, Ranges<Global>)) -> Result<Answers, 
     Ok((found, range, all, scanned(&mut reads.0.1)?))
 }
 
-fn answers(alloc: Global, table: &Table<Global>) -> Result<Answers, Error> {
+fn reads(
+    alloc: Global,
+    table: &Table<Global>,
+) -> Result<(PointAndScan<Global>, Ranges<Global>), Error> {
     let lower = Bound::Excluded(Slice::from(alloc, b"a")?);
     let upper = Bound::Included(Slice::from(alloc, b"c")?);
-    taken(&mut read_each_way(table, b"a", 19, lower, upper)?)
+    read_each_way(table, b"a", 19, lower, upper)
+}
+
+fn answers(alloc: Global, table: &Table<Global>) -> Result<Answers, Error> {
+    let mut reads = reads(alloc, table)?;
+    taken(&mut reads)
 }
 
 fn answers_of(alloc: Global, kind: &Kind) -> Result<Answers, Error> {
