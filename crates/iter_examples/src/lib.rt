@@ -2,6 +2,4 @@
 #![tactic(auto)]
 
 #[cfg(test)]
-mod one_answer;
-#[cfg(test)]
 mod ranges;
