@@ -19,7 +19,8 @@ use std::marker::Model;
 /// The first block is read when the scanner is made, each further one when a step first needs it. Where a block cannot be
 /// loaded its fault comes in the place of its entries, and [`Error::SeqNoOverflow`] in the place of an entry whose number
 /// passes `u64` with the global number added; of an entry that stands next in a loaded block that comes before any want of
-/// memory, and so does what the header of a step's first block says, and its checksum. After an error, [`Error::OutOfMemory`] among them, nothing more comes.
+/// memory, and so does what the header of a step's first block says, and its checksum. After an error,
+/// [`Error::OutOfMemory`] among them, nothing more comes.
 #[derive(Drop)]
 pub struct Scanner<A: Allocator = Global> {
     source: BlockSource<A>,

@@ -53,8 +53,8 @@ fn read_and_scan<A: Allocator + Clone>(
 ///
 /// Of a table of a list these are the list's, its numbers lifted by the global number, and nothing else of the table has a say
 /// in it: whichever index and filter it was written with, in one block or in partitions, whichever of their blocks stay loaded,
-/// of whichever sizes its blocks are and in whichever version it is stored. So two tables of one list answer alike. Refused with
-/// the first fault of a block that the point read or the scan loads first, and [`Error::OutOfMemory`].
+/// of whichever sizes its blocks are and in whichever version it is stored. So two tables of one list answer alike. Where the
+/// list has an entry it is refused [`Error::OutOfMemory`] alone; other tables as these reads are.
 pub fn read_each_way<A: Allocator + Clone>(
     table: &Table<A>,
     key: &[u8],
