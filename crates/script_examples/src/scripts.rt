@@ -1,7 +1,8 @@
-use crate::streams::{FailingReader, FailingWriter};
+use crate::streams::{FailingReader, FailingWriter, FlushCounter, UnflushedWriter};
 use refusing::{Refusing, each_refused};
 use sst_script::run_script;
 use std::alloc::{AllocError, Allocator, Global};
+use std::io::{self, BufWriter};
 use std::test::Fail;
 
 // What a script prints, what it reports, and its status.
@@ -76,6 +77,10 @@ const READ_BACK: &[(&[u8], &[u8])] = &[
     (
         b"entry a 5 V o\nentry c 2 V z\ntable\nentry a 9 V x\nentry b 1 T -\ntable\nrange * *\nget a 9\nget a 10",
         b"tables 1\ntables 1\na 9 V x\nb 1 T -\nc 2 V z\na 5 V o\na 9 V x\n",
+    ),
+    (
+        b"entry a 5 V o\nentry c 2 V z\ntable\nentry a 9 V x\nentry b 1 V y\ntable\nrange * *\nget a 9\nget a 10",
+        b"tables 1\ntables 1\na 9 V x\nb 1 V y\nc 2 V z\na 5 V o\na 9 V x\n",
     ),
     (
         b"entry a 9 V x\ntable\nentry a 5 V o\ntable\nget a 10\nrange =a =a",
@@ -403,6 +408,56 @@ fn failing_output_ends_the_script(rt: HostRuntime) -> Result<(), Fail> {
         assert_eq!(rt; status_untold(alloc, script), 2);
     }
     assert_eq!(rt; status_untold(alloc, b"entry a 1 V x\n"), 0);
+    Ok(())
+}
+
+// Whether output that takes every byte, and fails where it is flushed, ends a script with this status.
+fn ends_unflushed(alloc: Global, script: &[u8], told: &[u8], wanted: u8) -> bool {
+    let mut errors = Vec::new(alloc);
+    let status = run_script(alloc, script, &mut UnflushedWriter, &mut errors);
+    status == wanted && errors.as_slice() == told
+}
+
+// The same of output that keeps bytes until it is flushed, before output that takes none.
+fn ends_unkept(alloc: Global, script: &[u8], told: &[u8], wanted: u8) -> io::Result<bool> {
+    let mut errors = Vec::new(alloc);
+    let mut output = BufWriter::new(alloc, FailingWriter)?;
+    let status = run_script(alloc, script, &mut output, &mut errors);
+    Ok(status == wanted && errors.as_slice() == told)
+}
+
+// Scripts whose output fails only where it is flushed, what they report, and their status.
+const UNFLUSHED: &[(&[u8], &[u8], u8)] = &[
+    (b"", b"", 0),
+    (b"\n\n", b"", 0),
+    (b"get a 1\n", b"sst: output\n", 2),
+    (b"get a 1\nrange\n", b"sst: output\n", 2),
+    (b"range\nget a 1\n", b"sst: line 1\n", 2),
+];
+
+#[test]
+fn output_that_fails_when_flushed_ends_the_script(rt: HostRuntime) -> Result<(), Fail> {
+    let alloc = rt.alloc();
+    for &(script, told, status) in UNFLUSHED {
+        assert!(rt; ends_unflushed(alloc, script, told, status));
+        assert!(rt; ends_unkept(alloc, script, told, status)?);
+    }
+    Ok(())
+}
+
+// How often a script's output is flushed.
+fn flushes_of(alloc: Global, script: &[u8]) -> u64 {
+    let mut output = FlushCounter::new();
+    run_script(alloc, script, &mut output, &mut Vec::new(alloc));
+    output.flushes()
+}
+
+#[test]
+fn each_answer_is_flushed(rt: HostRuntime) -> Result<(), Fail> {
+    let alloc = rt.alloc();
+    assert_eq!(rt; flushes_of(alloc, b"\n"), 0);
+    assert_eq!(rt; flushes_of(alloc, b"get a 1\n"), 1);
+    assert_eq!(rt; flushes_of(alloc, b"get a 1\n\nrange * *\ntable\n"), 3);
     Ok(())
 }
 

@@ -36,3 +36,44 @@ impl Write for FailingWriter {
         Ok(())
     }
 }
+
+/// Takes every byte, and fails where it is flushed.
+#[derive(Drop)]
+pub(crate) struct UnflushedWriter;
+
+impl Write for UnflushedWriter {
+    fn write(&mut self, buf: &[u8]) -> Result<usize> {
+        Ok(buf.len())
+    }
+
+    fn flush(&mut self) -> Result<()> {
+        Err(Error::other("full"))
+    }
+}
+
+/// Takes every byte, and counts how often it is flushed.
+#[derive(Drop)]
+pub(crate) struct FlushCounter {
+    flushes: u64,
+}
+
+impl FlushCounter {
+    pub(crate) fn new() -> FlushCounter {
+        FlushCounter { flushes: 0 }
+    }
+
+    pub(crate) fn flushes(&self) -> u64 {
+        self.flushes
+    }
+}
+
+impl Write for FlushCounter {
+    fn write(&mut self, buf: &[u8]) -> Result<usize> {
+        Ok(buf.len())
+    }
+
+    fn flush(&mut self) -> Result<()> {
+        self.flushes = self.flushes.saturating_add(1);
+        Ok(())
+    }
+}
