@@ -309,6 +309,33 @@ class Peer {
     return digest;
   }
 
+  Digest ScanBackward() {
+    Digest digest{};
+    std::unique_ptr<typename Store::Iterator> entries(kept_[0]->NewIterator());
+    for (entries->SeekToLast(); entries->Valid(); entries->Prev()) {
+      Add(&digest, View(entries->key()), View(entries->value()));
+    }
+    Ok(entries->status());
+    return digest;
+  }
+
+  // From each key on, so many entries.
+  Digest RangeEach(const std::vector<std::string>& keys, uint64_t count, uint64_t passes) {
+    Digest digest{};
+    for (uint64_t pass = 0; pass < passes; pass++) {
+      digest = Digest{};
+      for (const std::string& key : keys) {
+        std::unique_ptr<typename Store::Iterator> entries(kept_[0]->NewIterator());
+        uint64_t left = count;
+        for (entries->Seek(key); left > 0 && entries->Valid(); entries->Next(), left--) {
+          Add(&digest, View(entries->key()), View(entries->value()));
+        }
+        Ok(entries->status());
+      }
+    }
+    return digest;
+  }
+
   Digest Merge() {
     Digest digest{};
     MergeNewest(Iterators(), [&](std::string_view key, std::string_view value) {

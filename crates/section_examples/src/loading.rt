@@ -78,6 +78,39 @@ fn the_first_fault_of_a_changed_block(rt: HostRuntime) {
     }
 }
 
+// What a source answers for a block that it may have loaded before.
+fn loaded_from(
+    source: &BlockSource<Global>,
+    lies: BlockHandle,
+    kind: BlockType,
+) -> Result<(BlockType, usize), Error> {
+    told(source.load(&lies, kind, &mut Opened::none()))
+}
+
+// A block whose checksum was compared and whose grammar was tested loads as before, in its own kind alone.
+#[test]
+fn a_block_loads_again(rt: HostRuntime) -> Result<(), Fail> {
+    let alloc = rt.alloc();
+    let source = BlockSource::new(alloc, changed(alloc, &[])?)?;
+    let kind = |tag| Err(Error::InvalidTag(TagName::BlockType, tag));
+    for _ in 0..3 {
+        for (offset, size, kind, expected) in [
+            (0, 45, BlockType::Data, Ok((BlockType::Data, 21))),
+            (0, 45, BlockType::Meta, kind(0)),
+            (45, 51, BlockType::Index, Ok((BlockType::Index, 27))),
+            (45, 51, BlockType::Data, kind(1)),
+            (97, 1041, BlockType::Meta, Ok((BlockType::Meta, 1017))),
+            (97, 1041, BlockType::Index, kind(3)),
+        ] {
+            assert!(rt;
+                loaded_from(&source, handle(offset, size), kind) == expected,
+                "{offset}"
+            );
+        }
+    }
+    Ok(())
+}
+
 // What loads at two positions of the stored table answer.
 fn loaded_at(alloc: Global, offset: u64) -> Result<(BlockType, usize), Error> {
     let source = BlockSource::new(alloc, changed(alloc, &[])?)?;

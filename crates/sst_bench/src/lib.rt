@@ -19,6 +19,7 @@ mod files;
 mod gets;
 mod merges;
 mod packings;
+mod ranges;
 mod scans;
 
 pub use builds::{Written, sst_bench_build};
@@ -28,4 +29,5 @@ pub use files::sst_bench_open;
 pub use gets::sst_bench_get;
 pub use merges::sst_bench_merge;
 pub use packings::{Packed, sst_bench_optimize_runs};
+pub use ranges::{sst_bench_backward, sst_bench_range, sst_bench_range_runs};
 pub use scans::sst_bench_scan;

@@ -1,6 +1,6 @@
 -- Payloads of items, whatever an item's format: one walk from the left, the two laws of reading, and what stands at each start.
 use Rattle.std.proofs.Common.{◌≡◌, ℕ, zero, suc, ◌+◌, ◌-◌, ◌^◌, ◌<◌, ◌≤◌, Bool, true, false, cond, ltb, List, [], ◌∷◌, ◌++◌, length, get_or, drop, map, Option, Some, None, refl, sym, ap, subst, ◌∙◌, append_assoc, arith}
-use Rattle.std.specs.Prelude.{option_and_then, nat_lt, if◌then◌else◌}
+use Rattle.std.specs.Prelude.{option_and_then, is_some, nat_lt, if◌then◌else◌}
 use Rattle.std.specs.List.{flat_map, AllByRecursion}
 use Rattle.std.specs.Option.{option_map}
 use Rattle.std.proofs.lemmas.Bool.{ltb-false, lt-ltb, le-ltb}
@@ -116,6 +116,12 @@ module _ {X : Type 0} (f : Format X) (Fits : X → Type 0) (law : IsFormat f Fit
       let ordered : in_order f xs ≡ true = test_from_strict None (map f.key xs) strict in
       rw (long, wide4.again (length xs) B few, drop_at (le4 (length xs)) B 4 (wide4.len (length xs)), items_again xs fit, ordered) refl
 
+-- a test whose failure would leave nothing holds where something is left
+in_order_if : {A : Type 0} (b : Bool) (o : Option A) → (b ≡ false → o ≡ None) → is_some o ≡ true → b ≡ true
+in_order_if true o none some = refl
+in_order_if false None none some = some
+in_order_if false (Some x) none some = absurd (none-some x (sym (none refl)))
+
 -- ---- one walk from the left
 
 -- after n items, rest is left: what is read from here on is read of the whole
@@ -216,6 +222,12 @@ module _ {X : Type 0} (f : Format X) where
       (λ more there is.
       let keys : map f.key ((w.items ++ x ∷ []) ++ more) ≡ es ++ f.key x ∷ map f.key more = ap (map f.key) (append_assoc w.items (x ∷ []) more) ∙ map-append f.key w.items (x ∷ more) in
       ap (in_order f) (sym is) ∙ ap (is_strict_after None) keys ∙ test_fails None es (f.key x) (map f.key more) (subst (λ (o : Option Entry). may_follow o (f.key x) ≡ false) w.last_is early)))
+
+  -- where the whole is known to be in order, so is each item
+  pub walk_tested : (bytes rest starts : List ℕ) (last : Option Entry) (n : ℕ) (x : X) (after : List ℕ) → Walk f bytes rest starts last n → n < num4 bytes
+      → f.read rest ≡ Some (x, after) → is_some (items_in f bytes) ≡ true → may_follow last (f.key x) ≡ true
+  walk_tested bytes rest starts last n x after w lt read some =
+      in_order_if (may_follow last (f.key x)) (items_in f bytes) (λ early. walk_unordered bytes rest starts last n x after w lt read early) some
 
   none_after_last : (rest : List ℕ) → 0 < length rest → items_at f.read 0 rest ≡ None
   none_after_last [] lt = absurd (omega arith)

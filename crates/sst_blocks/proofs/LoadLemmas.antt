@@ -10,7 +10,7 @@ use Rattle.sst_sections.specs.declared.version.TableVersion.{TableVersion}
 use Rattle.sst_entries.specs.Error.{Gives, FaultsFirst, unless}
 use Rattle.std.specs.Option.{option_or}
 use Rattle.sst_sections.specs.Fnv.{fnv1a}
-use Rattle.sst_blocks.specs.Block.{Loaded, grammar_fault, checksum_fault, loaded, header_fault, data_len, uncompressed_len, stored_checksum, version_in, checked_payload, load_told, load_at_told, place_fault, position_fault}
+use Rattle.sst_blocks.specs.Block.{Loaded, grammar_fault, in_grammar, checksum_fault, loaded, header_fault, data_len, uncompressed_len, stored_checksum, version_in, checked_payload, load_told, load_at_told, place_fault, position_fault}
 
 -- no fault yet
 after : {A : Type 0} (wrong : Bool) (e : Error) (fault : Option Error) (told : Result A Error) → wrong ≡ false → fault ≡ None → (if wrong then Err e else unless fault told) ≡ told
@@ -194,6 +194,11 @@ checksum_told checksum payload differ = grind arith
 pub checksum_right : (v : TableVersion) (checksum : ℕ) (kind : BlockType) (payload : List ℕ) → fnv1a payload ≡ checksum → checked_payload v checksum kind payload ≡ unless (grammar_fault v kind payload) (Ok (loaded v kind payload))
 unfolding checked_payload
 checksum_right v checksum kind payload same = let e = eq-eqb (fnv1a payload) checksum same in rw e refl
+
+-- what is given was in the grammar
+pub given_items : (v : TableVersion) (checksum : ℕ) (kind : BlockType) (payload : List ℕ) (b : Loaded) → checked_payload v checksum kind payload ≡ Ok b → in_grammar v kind payload ≡ true
+unfolding checked_payload
+given_items v checksum kind payload b given = grind arith
 
 pub checksum_fine : (checksum : ℕ) (payload : List ℕ) → fnv1a payload ≡ checksum → checksum_fault checksum payload ≡ None
 checksum_fine checksum payload same = grind arith

@@ -1,9 +1,12 @@
 -- A payload that has its checksum may be marked.
-use Rattle.std.proofs.Common.{◌≡◌, ◌≤◌, ℕ, zero, suc, ◌+◌, ◌-◌, List, [], ◌∷◌, length, slice_index, slice_set, slice_range, refl, subst, sym, ap, ◌∙◌, arith}
+use Rattle.std.proofs.Common.{◌≡◌, ◌≤◌, ℕ, zero, suc, ◌+◌, ◌-◌, true, List, [], ◌∷◌, length, slice_index, slice_set, slice_range, refl, subst, sym, ap, ◌∙◌, arith}
 use Rattle.std.proofs.lemmas.List.{length-take}
 use Rattle.bytes.proofs.Ranges.{slice_range_front}
-use Rattle.sst_blocks.specs.Block.{data_len, stored_checksum}
-use Rattle.sst_blocks.specs.Marks.{HasSum, IsSaid, Says, head_before}
+use Rattle.sst_sections.specs.declared.version.TableVersion.{TableVersion}
+use Rattle.sst_blocks.specs.declared.block_type.BlockType.{BlockType}
+use Rattle.sst_blocks.specs.declared.block_type.BlockType.TheVariants.{Data, Index, Filter, Meta}
+use Rattle.sst_blocks.specs.Block.{data_len, in_grammar, kind_tag, stored_checksum, version_in}
+use Rattle.sst_blocks.specs.Marks.{HasItems, HasSum, IsHeaded, IsSaid, Says, head_before}
 use Rattle.sst_sections.specs.Fnv.{fnv1a}
 use Rattle.sst_sections.specs.Sections.{body_of}
 
@@ -23,6 +26,41 @@ module _ (bytes : List ℕ) (start end checksum : ℕ) (said : IsSaid bytes star
   pub sum_said : fnv1a (slice_range bytes start end) ≡ checksum → HasSum bytes start
   unfolding HasSum
   sum_said is = subst (λ (e : ℕ). fnv1a (slice_range bytes start e) ≡ checksum) (sym said.len) is ∙ sym said.sum
+
+-- kinds of one tag are the same
+tag_only : (a b : BlockType) → kind_tag a ≡ kind_tag b → a ≡ b
+tag_only Data Data same = refl
+tag_only Data Index same = absurd cc
+tag_only Data Filter same = absurd cc
+tag_only Data Meta same = absurd cc
+tag_only Index Data same = absurd cc
+tag_only Index Index same = refl
+tag_only Index Filter same = absurd cc
+tag_only Index Meta same = absurd cc
+tag_only Filter Data same = absurd cc
+tag_only Filter Index same = absurd cc
+tag_only Filter Filter same = refl
+tag_only Filter Meta same = absurd cc
+tag_only Meta Data same = absurd cc
+tag_only Meta Index same = absurd cc
+tag_only Meta Filter same = absurd cc
+tag_only Meta Meta same = refl
+
+module _ (bytes : List ℕ) (start end : ℕ) (v : TableVersion) (kind : BlockType) (checksum : ℕ) (headed : IsHeaded bytes start end v kind checksum) where
+  -- the payload behind a header is in the grammar that the header says, and so of its version and kind
+  pub items_tested : HasItems bytes start → in_grammar v kind (slice_range bytes start end) ≡ true
+  unfolding HasItems
+  items_tested has =
+      let told = subst (λ (w : TableVersion). in_grammar w kind (slice_range bytes start (start + data_len (head_before bytes start))) ≡ true) headed.version (has kind headed.kind_is) in
+      subst (λ (e : ℕ). in_grammar v kind (slice_range bytes start e) ≡ true) headed.said.len told
+
+  pub tested_items : in_grammar v kind (slice_range bytes start end) ≡ true → HasItems bytes start
+  unfolding HasItems
+  tested_items is = λ other tag.
+      let head = head_before bytes start in
+      let whole = subst (λ (e : ℕ). in_grammar v kind (slice_range bytes start e) ≡ true) (sym headed.said.len) is in
+      let of_head = subst (λ (w : TableVersion). in_grammar w kind (slice_range bytes start (start + data_len head)) ≡ true) (sym headed.version) whole in
+      subst (λ (k : BlockType). in_grammar (version_in head) k (slice_range bytes start (start + data_len head)) ≡ true) (tag_only kind other (sym headed.kind_is ∙ tag)) of_head
 
 -- a part of the body is one of the bytes
 pub body_part : (bytes : List ℕ) (start end : ℕ) → end ≤ length (body_of bytes) → slice_range (body_of bytes) start end ≡ slice_range bytes start end

@@ -1,9 +1,9 @@
 //! Blocks: a checked payload of one kind.
-ghost use Rattle.std.specs.Prelude.{◌≡◌, ◌+◌, ◌++◌, ◌<◌, ◌^◌, List, Ok, true, length, IfOk, IfErr, OnOk, OnErr};
+ghost use Rattle.std.specs.Prelude.{◌≡◌, ◌+◌, ◌++◌, ◌<◌, ◌^◌, List, Ok, true, length, IsTrue, IfOk, IfErr, OnOk, OnErr};
 ghost use Rattle.sst_blocks.specs.Words.{AreSpellable, AreSpellableHandles, AreStrictHandles};
 ghost use Rattle.sst_blocks.specs.Words.{Entry, Faults, Gives, Handle, HoldsEntries, IsBlock};
 ghost use Rattle.sst_blocks.specs.Words.{IsStrict, Loaded, LoadsBack, block_bytes, entries_of};
-ghost use Rattle.sst_blocks.specs.Words.{grammar_fault, handles_of, handles_payload, header_len};
+ghost use Rattle.sst_blocks.specs.Words.{grammar_fault, handles_of, handles_payload, header_len, in_grammar};
 ghost use Rattle.sst_blocks.specs.Words.{BloomFilter, IsBuilt, filter_in, is_filter, loaded, payload};
 ghost use Rattle.sst_blocks.specs.Words.{payload_of, unless};
 ghost use Rattle.sst_blocks.specs.declared.block_type.BlockType.{BlockType};
@@ -83,18 +83,20 @@ impl<A: Allocator> Block<A> {
 
 impl<A: Allocator + Clone> Block<A> {
     /// The block of a payload whose checksum is right. Refused [`Error::InvalidBlock`] where the payload is not in the
-    /// grammar of its kind, and [`Error::OutOfMemory`].
+    /// grammar of its kind, and [`Error::OutOfMemory`]. Where it was tested before that it is, no keys are compared.
     pub(crate) fn open(
         alloc: A,
         version: TableVersion,
         kind: BlockType,
         payload: Slice<A>,
+        is_tested: bool,
     ) -> Result<Block<A>, Error>
-        requires { length payload < 2 ^ 32 }
+        requires short { length payload < 2 ^ 32 }
+        requires tested { IsTrue is_tested → in_grammar version kind payload ≡ true }
         ensures { Gives (λ (b : Loaded). b) result
             (unless (grammar_fault version kind payload) (Ok (loaded version kind payload))) }
     {
-        let starts = item_starts(alloc, version, kind, payload.as_slice())?;
+        let starts = item_starts(alloc, version, kind, payload.as_slice(), is_tested)?;
         Ok(Block {
             version,
             kind,
@@ -111,14 +113,16 @@ fn item_starts<A: Allocator>(
     version: TableVersion,
     kind: BlockType,
     payload: &[u8],
+    is_tested: bool,
 ) -> Result<Vec<u32, A>, Error>
-    requires { length payload.now < 2 ^ 32 }
+    requires short { length payload.now < 2 ^ 32 }
+    requires tested { IsTrue is_tested → in_grammar version kind payload.now ≡ true }
     ensures found { IfOk result (λ starts. IsBlock version kind payload.now starts.items) }
     ensures refused { Faults result (grammar_fault version kind payload.now) }
 {
     match kind {
-        BlockType::Data | BlockType::Meta => entry_starts(alloc, version, payload),
-        BlockType::Index => handle_starts(alloc, version, payload),
+        BlockType::Data | BlockType::Meta => entry_starts(alloc, version, payload, is_tested),
+        BlockType::Index => handle_starts(alloc, version, payload, is_tested),
         BlockType::Filter if is_filter(payload) => Ok(Vec::new(alloc)),
         BlockType::Filter => Err(Error::InvalidBlock),
     }

@@ -1,5 +1,5 @@
 //! Data blocks: strict lists of entries.
-ghost use Rattle.std.specs.Prelude.{◌≡◌, ℕ, ◌+◌, ◌++◌, ◌<◌, ◌≤◌, ◌≢◌, ◌^◌, ◌↔◌, List, [], Some, None, Bool, true, false, not, length, IsTrue, IfOk, IfErr, OnOk, OnErr};
+ghost use Rattle.std.specs.Prelude.{◌≡◌, ℕ, ◌+◌, ◌++◌, ◌<◌, ◌≤◌, ◌≢◌, ◌^◌, ◌↔◌, List, [], Some, None, Bool, true, false, not, is_some, length, IsTrue, IfOk, IfErr, OnOk, OnErr};
 ghost use Rattle.std.specs.List.{slice_get};
 ghost use Rattle.std.specs.List.Sorted.{IsPartitionedBy};
 ghost use Rattle.std.specs.Option.{option_map};
@@ -65,13 +65,15 @@ impl<A: Allocator> Clone for DataBlock<A> {
 }
 
 /// Where the entries of a payload begin. Refused [`Error::InvalidBlock`] where the payload does not spell a strict list of
-/// entries, and [`Error::OutOfMemory`].
+/// entries, and [`Error::OutOfMemory`]. Where it was tested before that it does, no keys are compared.
 pub(crate) fn entry_starts<A: Allocator>(
     alloc: A,
     version: TableVersion,
     payload: &[u8],
+    is_tested: bool,
 ) -> Result<Vec<u32, A>, Error>
-    requires { length payload.now < 2 ^ 32 }
+    requires short { length payload.now < 2 ^ 32 }
+    requires tested { IsTrue is_tested → is_some (entries_in version payload.now) ≡ true }
     ensures found { IfOk result (λ starts. EntriesAt version payload.now starts.items) }
     ensures fault { IfErr result (λ e. is_memory e ≡ false →
         (e ≡ InvalidBlock) × (entries_in version payload.now ≡ None)) }
@@ -90,7 +92,7 @@ pub(crate) fn entry_starts<A: Allocator>(
         let Some((entry, after)) = read_entry(version, rest) else {
             return Err(Error::InvalidBlock);
         };
-        if !entry.may_follow(&last) {
+        if !is_tested && !entry.may_follow(&last) {
             return Err(Error::InvalidBlock);
         }
         starts.push(start)?;

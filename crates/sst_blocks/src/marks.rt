@@ -1,6 +1,6 @@
-//! Marks of the payloads whose checksum was compared before.
+//! Marks of the payloads whose checksum was compared before, and whose grammar was tested.
 ghost use Rattle.std.specs.Prelude.{◌≡◌, IsTrue, IfOk};
-ghost use Rattle.sst_blocks.specs.Marks.{HasSum, Says};
+ghost use Rattle.sst_blocks.specs.Marks.{HasItems, HasSum, Says};
 
 use crate::Slice;
 use atomic_table::{Play, Table, TableRule};
@@ -9,7 +9,10 @@ use std::alloc::{AllocError, Allocator, Global};
 /// How many bytes of a table share a word.
 pub(crate) const SPAN: u64 = 2048;
 
-// Each word is 0, or one more than the place of a payload that has its checksum.
+// No table has a payload that starts here or behind.
+const END: u64 = 1 << 62;
+
+// Each word is 0, or one more than twice the place of a payload that has its checksum, or two more where it is in its grammar.
 struct Compared;
 
 impl<A: Allocator> TableRule<u8, Slice<A>, Slice<A>> for Compared {
@@ -37,7 +40,7 @@ impl<A: Allocator> Play<u8, Slice<A>> for Quiet {
 }
 
 /// Marks beside a table's bytes: a word for each [`SPAN`] of them, which has the last payload that starts there and whose
-/// checksum was compared. Many may read and mark at once.
+/// checksum was compared, and whether its grammar was tested. Many may read and mark at once.
 #[derive(Drop)]
 pub(crate) struct Marks<A: Allocator = Global> {
     table: Table<u8, Slice<A>, Slice<A>, Compared, A>,
@@ -54,25 +57,60 @@ impl<A: Allocator + Clone> Marks<A> {
         Ok(Marks { table })
     }
 
-    /// Whether the payload that starts here is marked.
-    pub(crate) fn has(&self, start: u64) -> bool
-        ensures { IsTrue result → HasSum self.now.table.shared.key start }
+    /// The word of a payload that starts here; 0 where there is none.
+    fn word(&self, start: u64) -> u64
+        ensures { Says self.now.table.shared.key result }
     {
-        let word = (start / SPAN) as usize;
-        if word >= self.table.word_count() {
-            return false;
+        let at = (start / SPAN) as usize;
+        if at >= self.table.word_count() {
+            return 0;
         }
-        let (found, _seat) = self.table.shared.load_new_seat::<Found>(word);
-        0 < found && found - 1 == start
+        let (found, _seat) = self.table.shared.load_new_seat::<Found>(at);
+        found
     }
 
-    /// Marks the payload that starts here.
-    pub(crate) fn mark(&self, start: u64)
+    /// Sets the word of a payload that starts here, where there is one.
+    fn set_word(&self, start: u64, word: u64)
+        requires { Says self.now.table.shared.key word }
+    {
+        let at = (start / SPAN) as usize;
+        if at < self.table.word_count() {
+            let (_found, _seat) = self.table.shared.swap_new_seat::<Quiet>(at, word);
+        }
+    }
+
+    /// Whether it is marked that the payload which starts here has its checksum.
+    pub(crate) fn has_sum(&self, start: u64) -> bool
+        ensures { IsTrue result → HasSum self.now.table.shared.key start }
+    {
+        let word = self.word(start);
+        0 < word && (word - 1) / 2 == start
+    }
+
+    /// Whether it is marked that it is in its grammar, too.
+    pub(crate) fn is_tested(&self, start: u64) -> bool
+        ensures sum { IsTrue result → HasSum self.now.table.shared.key start }
+        ensures items { IsTrue result → HasItems self.now.table.shared.key start }
+    {
+        start < END && self.word(start) == 2 * start + 2
+    }
+
+    /// Marks that the payload which starts here has its checksum.
+    pub(crate) fn mark_sum(&self, start: u64)
         requires { HasSum self.now.table.shared.key start }
     {
-        let word = (start / SPAN) as usize;
-        if word < self.table.word_count() && start < u64::MAX {
-            let (_found, _seat) = self.table.shared.swap_new_seat::<Quiet>(word, start + 1);
+        if start < END {
+            self.set_word(start, 2 * start + 1);
+        }
+    }
+
+    /// Marks that it is in its grammar, too.
+    pub(crate) fn mark_tested(&self, start: u64)
+        requires sum { HasSum self.now.table.shared.key start }
+        requires items { HasItems self.now.table.shared.key start }
+    {
+        if start < END {
+            self.set_word(start, 2 * start + 2);
         }
     }
 }

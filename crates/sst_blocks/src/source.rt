@@ -1,9 +1,9 @@
 //! The only way to the blocks of a table's bytes.
 ghost use Rattle.std.specs.Prelude.{◌≡◌, ◌↔◌, ◌+◌, ◌<◌, ◌≤◌, ◌^◌, List, ℕ, length, map, slice_range};
-ghost use Rattle.std.specs.Prelude.{IfOk, IfSome, IsTrue, MatchOption, None};
-ghost use Rattle.sst_blocks.specs.Block.{Loaded, checked_payload, checksum_fault, header_len};
+ghost use Rattle.std.specs.Prelude.{IfOk, IfSome, IsTrue, MatchOption, None, true};
+ghost use Rattle.sst_blocks.specs.Block.{Loaded, checked_payload, checksum_fault, header_len, in_grammar};
 ghost use Rattle.sst_blocks.specs.Block.{load_told, load_at_told, place_fault, position_fault};
-ghost use Rattle.sst_blocks.specs.Marks.{IsSaid};
+ghost use Rattle.sst_blocks.specs.Marks.{IsHeaded, IsSaid};
 ghost use Rattle.sst_sections.specs.Fnv.{fnv1a};
 ghost use Rattle.std.specs.Arc.{arc_value};
 ghost use Rattle.sst_entries.specs.Error.{Gives, Refuses, FaultsFirst};
@@ -14,7 +14,9 @@ ghost use Rattle.sst_blocks.specs.declared.block_type.BlockType.TheVariants.{Dat
 
 use crate::block::Header;
 use crate::marks::{Marks, SPAN};
-use crate::{Block, BlockHandle, BlockType, Error, Opened, Slice, Toc, hash, hash_four};
+use crate::{
+    Block, BlockHandle, BlockType, Error, Opened, Slice, TableVersion, Toc, hash, hash_four,
+};
 use sst_sections::TRAILER_LEN;
 use sst_sections::number::{u32_at, u64_at};
 use std::alloc::{AllocError, Allocator, Global};
@@ -27,7 +29,8 @@ const HEADER_LEN: usize = Header::LEN as usize;
 /// A table's bytes, whose trailer was read. Blocks are loaded from it, and in no other way. A contract sees the bytes.
 ///
 /// Of the payloads whose checksum was compared it remembers, together with its clones, the last that starts in each 2,048 bytes,
-/// where there is memory for it, and does not hash those again. No answer depends on it.
+/// where there is memory for it, and does not hash those again; where their grammar was tested too, no keys are compared again.
+/// No answer depends on it.
 #[derive(Drop)]
 pub struct BlockSource<A: Allocator = Global> {
     bytes: Slice<A>,
@@ -233,11 +236,94 @@ impl<A: Allocator + Clone> BlockSource<A> {
         ensures first { let payload = slice_range (body_of self.now) start end in
             FaultsFirst result (checksum_fault header.checksum payload) }
     {
+        if self.was_tested(&header, kind, start, end) {
+            return self.open(&header, kind, start, end, true);
+        }
         if !self.has_sum(header.checksum, start, end) {
             return Err(Error::ChecksumMismatch);
         }
+        let block = self.open(&header, kind, start, end, false)?;
+        self.remember_test(&header, kind, start, end);
+        Ok(block)
+    }
+
+    /// The block of the payload there, whose checksum is right.
+    fn open(
+        &self,
+        header: &Header,
+        kind: BlockType,
+        start: usize,
+        end: usize,
+        is_tested: bool,
+    ) -> Result<Block<A>, Error>
+        requires ordered { start ≤ end }
+        requires within { end ≤ length (body_of self.now) }
+        requires short { end < start + 2 ^ 32 }
+        requires sum { fnv1a (slice_range (body_of self.now) start end) ≡ header.now.checksum }
+        requires tested { let payload = slice_range (body_of self.now) start end in
+            IsTrue is_tested → in_grammar header.now.version kind payload ≡ true }
+        ensures told { let payload = slice_range (body_of self.now) start end in
+            Gives (λ (b : Loaded). b) result
+            (checked_payload header.now.version header.now.checksum kind payload) }
+    {
         let payload = self.bytes.slice(start, end)?;
-        Block::open(self.alloc.clone()?, header.version, kind, payload)
+        Block::open(
+            self.alloc.clone()?,
+            header.version,
+            kind,
+            payload,
+            is_tested,
+        )
+    }
+
+    /// Whether it is marked that the bytes from `start` up to `end`, behind this header, have their checksum and are in the
+    /// grammar of their kind.
+    fn was_tested(&self, header: &Header, kind: BlockType, start: usize, end: usize) -> bool
+        requires ordered { start ≤ end }
+        requires within { end ≤ length (body_of self.now) }
+        ensures sum { let payload = slice_range (body_of self.now) start end in
+            IsTrue result → fnv1a payload ≡ header.now.checksum }
+        ensures items { let payload = slice_range (body_of self.now) start end in
+            IsTrue result → in_grammar header.now.version kind payload ≡ true }
+    {
+        match &self.marks {
+            Some(marks) => {
+                self.is_headed(header, kind, start, end) && marks.is_tested(start as u64)
+            }
+            None => false,
+        }
+    }
+
+    /// Marks that they do and are.
+    fn remember_test(&self, header: &Header, kind: BlockType, start: usize, end: usize)
+        requires ordered { start ≤ end }
+        requires within { end ≤ length (body_of self.now) }
+        requires sum { fnv1a (slice_range (body_of self.now) start end) ≡ header.now.checksum }
+        requires items { let payload = slice_range (body_of self.now) start end in
+            in_grammar header.now.version kind payload ≡ true }
+    {
+        if let Some(marks) = &self.marks {
+            if self.is_headed(header, kind, start, end) {
+                marks.mark_tested(start as u64);
+            }
+        }
+    }
+
+    /// Whether the header before `start` is this one, of this kind, and says a payload up to `end`.
+    fn is_headed(&self, header: &Header, kind: BlockType, start: usize, end: usize) -> bool
+        requires ordered { start ≤ end }
+        requires within { end ≤ length self.now }
+        ensures { IsTrue result →
+            IsHeaded self.now start end header.now.version kind header.now.checksum }
+    {
+        if start < HEADER_LEN {
+            return false;
+        }
+        let head = &self.bytes.as_slice()[start - HEADER_LEN..start];
+        let version = TableVersion::from_mark(&head[..4]);
+        head[4] == kind.tag()
+            && version == Some(header.version)
+            && self.is_said(header.checksum, start, end)
     }
 
     /// Whether the bytes from `start` up to `end` have this checksum. What is marked is not hashed again.
@@ -264,7 +350,7 @@ impl<A: Allocator + Clone> BlockSource<A> {
         ensures { IsTrue result → fnv1a (slice_range (body_of self.now) start end) ≡ checksum }
     {
         match &self.marks {
-            Some(marks) => self.is_said(checksum, start, end) && marks.has(start as u64),
+            Some(marks) => self.is_said(checksum, start, end) && marks.has_sum(start as u64),
             None => false,
         }
     }
@@ -277,7 +363,7 @@ impl<A: Allocator + Clone> BlockSource<A> {
     {
         if let Some(marks) = &self.marks {
             if self.is_said(checksum, start, end) {
-                marks.mark(start as u64);
+                marks.mark_sum(start as u64);
             }
         }
     }
@@ -304,7 +390,7 @@ impl<A: Allocator + Clone> BlockSource<A> {
         };
         let first = self.said_at(position);
         match first {
-            Some(said) if !marks.has(said.start as u64) => {}
+            Some(said) if !marks.has_sum(said.start as u64) => {}
             _ => return,
         }
         let second = self.said_behind(first);
@@ -381,7 +467,7 @@ impl<A: Allocator + Clone> BlockSource<A> {
     {
         if let Some(said) = said {
             if sum == said.checksum {
-                marks.mark(said.start as u64);
+                marks.mark_sum(said.start as u64);
             }
         }
     }

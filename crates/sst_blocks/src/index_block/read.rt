@@ -1,5 +1,5 @@
 //! Reading the handles of a payload.
-ghost use Rattle.std.specs.Prelude.{◌≡◌, ◌+◌, ◌<◌, ◌^◌, Some, None, false, length, IfOk, IfErr};
+ghost use Rattle.std.specs.Prelude.{◌≡◌, ◌+◌, ◌<◌, ◌^◌, Some, None, true, false, is_some, length, IsTrue, IfOk, IfErr};
 ghost use Rattle.std.specs.Option.{option_map};
 ghost use Rattle.sst_entries.specs.Error.{is_memory};
 ghost use Rattle.sst_blocks.specs.Handles.{handle_at, handles_in, end_of};
@@ -89,13 +89,15 @@ impl HandleRef<'_> {
 }
 
 /// Where the handles of a payload begin. Refused [`Error::InvalidBlock`] where the payload does not spell a strict list of
-/// handles, and [`Error::OutOfMemory`].
+/// handles, and [`Error::OutOfMemory`]. Where it was tested before that it does, no keys are compared.
 pub(crate) fn handle_starts<A: Allocator>(
     alloc: A,
     version: TableVersion,
     payload: &[u8],
+    is_tested: bool,
 ) -> Result<Vec<u32, A>, Error>
-    requires { length payload.now < 2 ^ 32 }
+    requires short { length payload.now < 2 ^ 32 }
+    requires tested { IsTrue is_tested → is_some (handles_in version payload.now) ≡ true }
     ensures found { IfOk result (λ starts. HandlesAt version payload.now starts.items) }
     ensures fault { IfErr result (λ e. is_memory e ≡ false →
         (e ≡ InvalidBlock) × (handles_in version payload.now ≡ None)) }
@@ -114,7 +116,7 @@ pub(crate) fn handle_starts<A: Allocator>(
         let Some((handle, after)) = read_handle(version, rest) else {
             return Err(Error::InvalidBlock);
         };
-        if !handle.may_follow(&last) {
+        if !is_tested && !handle.may_follow(&last) {
             return Err(Error::InvalidBlock);
         }
         starts.push(start)?;

@@ -1,13 +1,15 @@
-use Rattle.std.proofs.Common.{◌≡◌, ◌≤◌, ◌<◌, length, refl, rules, arith, true, false, Some, None, ◌∙◌}
+use Rattle.std.proofs.Common.{◌≡◌, ◌≤◌, ◌<◌, length, refl, sym, ap, rules, arith, true, false, Some, None, ◌∙◌}
+use Rattle.std.specs.Prelude.{is_some}
 use Rattle.std.specs.Option.{option_map}
 use Rattle.std.proofs.lemmas.List.{take_rest}
-use Rattle.sst_blocks.specs.Handles.{handle_at, end_of}
+use Rattle.sst_blocks.specs.Handles.{handle_at, handles_in, end_of}
 use Rattle.sst_blocks.specs.SeenHandle.{handle_of_ref}
 use Rattle.sst_entries.specs.Strict.{may_follow}
 use Rattle.sst_blocks.proofs.HandleLaws.{handle_format, handles_format, handles_in_same}
-use Rattle.sst_blocks.proofs.Items.{walk_begins, walk_on, walk_short, walk_missing, walk_unordered, walk_over, walk_ends}
+use Rattle.sst_blocks.proofs.Items.{walk_begins, walk_on, walk_short, walk_missing, walk_tested, walk_unordered, walk_over, walk_ends}
 use Rattle.sst_sections.proofs.Numbers.{IsBytes}
 use Rattle.sst_blocks.proofs.index_block.read.handle_starts.Goals as goal
+use Rattle.sst_blocks.proofs.index_block.read.handle_starts.Goals.{else-not-is_tested-via-then-not-is_tested+else-not-may_follow, else-not-is_tested-via-else-not-is_tested}
 
 pub returns-then-payload-lt4-clause-fault : goal.returns-then-payload-lt4-clause-fault
 returns-then-payload-lt4-clause-fault g c memory = (refl, handles_in_same _ _ ∙ walk_short (handle_format c.args.version) _ c.if-payload-lt4.true)
@@ -32,7 +34,12 @@ returns-then-not-may_follow-clause-fault g c memory =
 pub loop-preserved : goal.loop-preserved
 loop-preserved g c =
     let some : handle_at c.args.version c.loop.rest.now ≡ Some (handle_of_ref c.in-Some.handle, c.in-Some.after.now) = search rules in
-    let follows : may_follow (option_map (λ h. end_of (handle_of_ref h)) c.loop.last) (end_of (handle_of_ref c.in-Some.handle)) ≡ true = search rules in
+    let follows : may_follow (option_map (λ h. end_of (handle_of_ref h)) c.loop.last) (end_of (handle_of_ref c.in-Some.handle)) ≡ true = elim c.else-not-is_tested.branch [
+      | else-not-is_tested-via-then-not-is_tested+else-not-may_follow w ↦ search rules
+      | else-not-is_tested-via-else-not-is_tested w ↦
+          let told : is_some (handles_in c.args.version c.args.payload.now) ≡ true = c.requires.tested (search rules) in
+          walk_tested (handle_format c.args.version) _ _ _ _ _ _ _ c.loop.invariant (omega arith) some (ap is_some (sym (handles_in_same c.args.version c.args.payload.now)) ∙ told)
+    ] in
     rw c.in_ok-push.ensures.items (walk_on (handle_format c.args.version) _ (handles_format c.args.version) _ _ _ _ _ _ _ c.loop.invariant some follows)
 
 pub returns-then-not-is_empty-clause-fault : goal.returns-then-not-is_empty-clause-fault
@@ -43,4 +50,4 @@ returns-then-not-is_empty-clause-fault g c memory =
 pub returns-clause-found : goal.returns-clause-found
 returns-clause-found g c =
     let none : length c.loop.rest.now ≡ 0 = search rules in
-    rw handles_in_same (walk_ends (handle_format c.args.version) _ _ _ _ _ c.requires c.loop.invariant (omega arith) none)
+    rw handles_in_same (walk_ends (handle_format c.args.version) _ _ _ _ _ c.requires.short c.loop.invariant (omega arith) none)

@@ -4,8 +4,8 @@ use Rattle.sst_blocks.proofs.MarkLemmas.{body_part, sum_said}
 use Rattle.sst_sections.specs.Fnv.{fnv1a}
 use Rattle.sst_blocks.proofs.source.BlockSource.remember.Goals as goal
 
-pub mark-requires : goal.mark-requires
-mark-requires g c =
+pub mark_sum-requires : goal.mark_sum-requires
+mark_sum-requires g c =
     let bytes : List ℕ = c.args.self.now in
     let said : IsSaid bytes c.args.start c.args.end c.args.checksum = c.if-is_said.ensures refl in
     let of = rw c.in-Some.is at c.self.invariant.2 in

@@ -1,7 +1,6 @@
-use Rattle.std.proofs.Common.{◌≡◌, ◌+◌, List, ℕ, length, slice_range, ap, ◌∙◌, arith}
+use Rattle.std.proofs.Common.{◌+◌, List, ℕ, length, slice_range, ap, ◌∙◌, arith}
 use Rattle.sst_blocks.specs.declared.block_type.BlockType.TheVariants.{Data}
-use Rattle.sst_blocks.specs.Block.{checksum_fault, data_len, position_fault, stored_checksum}
-use Rattle.sst_sections.specs.Sections.{body_of}
+use Rattle.sst_blocks.specs.Block.{data_len, stored_checksum}
 use Rattle.sst_blocks.proofs.LoadLemmas.{position_checked}
 use Rattle.sst_blocks.proofs.MarkLemmas.{said_there}
 use Rattle.sst_blocks.proofs.source.BlockSource.said_at.Goals as goal

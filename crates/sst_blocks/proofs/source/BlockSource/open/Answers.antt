@@ -1,0 +1,29 @@
+use Rattle.std.proofs.Common.{◌≡◌, ℕ, List, true, slice_range, sym, ap, subst, ◌∙◌}
+use Rattle.std.specs.Prelude.{Result, Ok}
+use Rattle.sst_blocks.specs.Block.{Loaded, in_grammar, loaded, grammar_fault}
+use Rattle.sst_entries.specs.declared.error.Error.{Error}
+use Rattle.sst_entries.specs.Error.{Gives, unless}
+use Rattle.sst_sections.specs.Sections.{body_of}
+use Rattle.sst_blocks.proofs.LoadLemmas.{checksum_right}
+use Rattle.sst_blocks.proofs.MarkLemmas.{body_part}
+use Rattle.sst_blocks.proofs.source.BlockSource.open.Goals as goal
+
+pub open-requires-clause-tested : goal.open-requires-clause-tested
+open-requires-clause-tested g c = λ tested.
+    let bytes : List ℕ = c.args.self.now in
+    let payload : List ℕ = slice_range (body_of bytes) c.args.start c.args.end in
+    let part = body_part bytes c.args.start c.args.end c.requires.within in
+    let cut : c.in_ok-payload.payload ≡ slice_range bytes c.args.start c.args.end =
+    ◌∙◌ {b = slice_range c.self.inside.bytes c.args.start c.args.end} c.in_ok-payload.ensures.ok (ap (λ (xs : List ℕ). slice_range xs c.args.start c.args.end) c.self.view_is) in
+    subst (λ (p : List ℕ). in_grammar c.args.header.now.version c.args.kind p ≡ true) (sym (cut ∙ sym part)) (c.requires.tested tested)
+
+pub returns : goal.returns
+returns g c =
+    let bytes : List ℕ = c.args.self.now in
+    let payload : List ℕ = slice_range (body_of bytes) c.args.start c.args.end in
+    let part = body_part bytes c.args.start c.args.end c.requires.within in
+    let cut : c.in_ok-payload.payload ≡ slice_range bytes c.args.start c.args.end =
+    ◌∙◌ {b = slice_range c.self.inside.bytes c.args.start c.args.end} c.in_ok-payload.ensures.ok (ap (λ (xs : List ℕ). slice_range xs c.args.start c.args.end) c.self.view_is) in
+    let right = checksum_right c.args.header.now.version c.args.header.now.checksum c.args.kind payload c.requires.sum in
+    let told = ap (λ (p : List ℕ). unless (grammar_fault c.args.header.now.version c.args.kind p) (Ok (loaded c.args.header.now.version c.args.kind p))) (cut ∙ sym part) ∙ sym right in
+    record { told = subst (λ (r : Result Loaded Error). Gives {X = Loaded} {Y = Loaded} (λ b. b) c.open.result r) told c.open.ensures }
