@@ -1,5 +1,7 @@
 -- A table holds one list, and so does each table of several runs.
 use Rattle.std.proofs.Common.{◌≡◌, refl, sym, ◌∙◌, ap, List, [], ◌∷◌}
+use Rattle.std.specs.Prelude.{Err, IfOk, MatchResult, Ok, Result}
+use Rattle.sst_entries.specs.declared.error.Error.{Error}
 use Rattle.std.specs.declared.ops.Bound.TheVariants.{Unbounded}
 use Rattle.sst_entries.specs.Entry.{Entry}
 use Rattle.sst_entries.specs.Point.{within}
@@ -40,3 +42,9 @@ one_way (ts ∷ runs) [] others h k = absurd h
 one_way (ts ∷ runs) (ls ∷ lists) [] h k = absurd k
 one_way (ts ∷ runs) (ls ∷ lists) (ms ∷ others) h k =
     ap (λ (ns : List (List Entry)). ns ∷ lists) (one_each ts ls ms h.0.1 k.0.1) ∙ ap (λ (os : List (List (List Entry))). ms ∷ os) (one_way runs lists others h.1 k.1)
+
+-- ---- two values, of which the second may be refused
+
+pub beside_ok : {T U : Type 0} (P : T → Type 0) (Q : U → Type 0) (x : T) (second : Result U Error) (r : Result (T × U) Error) → MatchResult second (λ y. r ≡ Ok (x, y)) (λ e. r ≡ Err e) → P x → IfOk second Q → IfOk r (λ both. P both.0 × Q both.1)
+beside_ok P Q x (Ok y) r told p q = rw told (p, q)
+beside_ok P Q x (Err e) r told p q = rw told tt

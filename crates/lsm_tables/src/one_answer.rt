@@ -1,5 +1,5 @@
 //! All reads of one table.
-ghost use Rattle.std.specs.Prelude.{◌≡◌, [], IfErr, IfOk, List};
+ghost use Rattle.std.specs.Prelude.{◌≡◌, [], Err, IfErr, IfOk, List, MatchResult, Ok};
 ghost use Rattle.sst_entries.specs.declared.error.Error.TheVariants.{OutOfMemory};
 ghost use Rattle.lsm_readers.specs.Words.{DealsAll, DealsWithin, Entry, IsTable};
 ghost use Rattle.lsm_tables.specs.Written.{ReadsList};
@@ -14,6 +14,13 @@ pub type Ranges<A> = (Iter<A>, Iter<A>);
 
 /// What a point read of a table finds, and a scan of the table.
 pub type PointAndScan<A> = (Option<InternalValue<A>>, Scanner<A>);
+
+// Two values, where the second is not refused. Generic in both, so that no part of a large value is looked at.
+fn beside<T: Drop, U>(first: T, second: Result<U, Error>) -> Result<(T, U), Error>
+    ensures ok { MatchResult second (λ y. result ≡ Ok (first, y)) (λ e. result ≡ Err e) }
+{
+    Ok((first, second?))
+}
 
 // The entries within two bounds, and all.
 fn ranges_of<A: Allocator + Clone>(
@@ -30,7 +37,8 @@ fn ranges_of<A: Allocator + Clone>(
     ensures err { IfErr result (λ e. e ≡ OutOfMemory) }
 {
     let range = table.range(lower, upper)?;
-    Ok((range, table.iter()?))
+    let all = table.iter();
+    beside(range, all)
 }
 
 // What a point read finds, and a scan.

@@ -37,6 +37,9 @@ impl<A: Allocator> Model for RunReader<A> {
     ghost view = { λ r. record { unopened = r.unopened; front = r.lo_reader; back = r.hi_reader } };
 }
 
+// Gives a value up. What is generic in it looks at none of its parts, which makes this cheap to prove for a large one.
+fn let_go<T: Drop>(_value: T) {}
+
 /// The reader of one table, where one is opened.
 #[derive(Drop)]
 struct Opened<A: Allocator> {
@@ -64,14 +67,14 @@ impl<A: Allocator> Opened<A> {
     fn set(&mut self, reader: Iter<A>)
         ensures { self.new ≡ Some reader }
     {
-        self.reader = Some(reader);
+        let_go(self.reader.replace(reader));
     }
 
     /// Lets go the table.
     fn end(&mut self)
         ensures { self.new ≡ None }
     {
-        self.reader = None;
+        let_go(self.reader.take());
     }
 }
 
