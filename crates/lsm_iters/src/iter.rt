@@ -11,6 +11,7 @@ ghost use Rattle.lsm_iters.specs.Words.{opened_in, over, place_fault, range_left
 
 use crate::Bound;
 use crate::handles::Handles;
+use crate::pairs::beside;
 use crate::part::{Part, cut};
 use lsm_block_indexes::BlockIndexIterImpl;
 use sst_blocks::{
@@ -80,10 +81,11 @@ impl<A: Allocator + Clone> Iter<A> {
         match compression {
             CompressionType::None => {}
         }
+        let (index, source) = beside(Handles::new(index_iter), source.clone())?;
         Ok(Iter {
-            source: source.clone()?,
+            source,
             global_seqno,
-            index: Handles::new(index_iter),
+            index,
             lo_data_block: Part::none(),
             hi_data_block: Part::none(),
             range: (None, None),

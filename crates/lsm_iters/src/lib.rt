@@ -6,6 +6,7 @@ mod handles;
 mod iter;
 mod lift;
 mod owned;
+mod pairs;
 mod part;
 
 pub use bound::Bound;
@@ -13,6 +14,7 @@ pub use iter::Iter;
 pub use lift::lift_seqno;
 pub use lsm_block_indexes::{BlockIndexIter, BlockIndexIterImpl};
 pub use owned::OwnedDataBlockIter;
+pub use pairs::beside;
 pub use sst_blocks::{
     BlockSource, CompressionType, DataBlock, Error, IterItem, Opened, SeqNo, UserKey,
 };

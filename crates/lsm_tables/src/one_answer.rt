@@ -1,10 +1,11 @@
 //! All reads of one table.
-ghost use Rattle.std.specs.Prelude.{◌≡◌, [], Err, IfErr, IfOk, List, MatchResult, Ok};
+ghost use Rattle.std.specs.Prelude.{◌≡◌, [], IfErr, IfOk, List};
 ghost use Rattle.sst_entries.specs.declared.error.Error.TheVariants.{OutOfMemory};
 ghost use Rattle.lsm_readers.specs.Words.{DealsAll, DealsWithin, Entry, IsTable};
 ghost use Rattle.lsm_tables.specs.Written.{ReadsList};
 
 use crate::{Iter, Scanner, Table};
+use lsm_iters::beside;
 use sst_blocks::{Error, InternalValue, SeqNo, UserKey};
 use std::alloc::Allocator;
 use std::ops::Bound;
@@ -14,13 +15,6 @@ pub type Ranges<A> = (Iter<A>, Iter<A>);
 
 /// What a point read of a table finds, and a scan of the table.
 pub type PointAndScan<A> = (Option<InternalValue<A>>, Scanner<A>);
-
-// Two values, where the second is not refused. Generic in both, so that no part of a large value is looked at.
-fn beside<T: Drop, U>(first: T, second: Result<U, Error>) -> Result<(T, U), Error>
-    ensures ok { MatchResult second (λ y. result ≡ Ok (first, y)) (λ e. result ≡ Err e) }
-{
-    Ok((first, second?))
-}
 
 // The entries within two bounds, and all.
 fn ranges_of<A: Allocator + Clone>(

@@ -10,5 +10,5 @@ returns-clause-list g c es t =
     beside_ok
     (λ r. DealsWithin (RangeGives front_of front_next) (RangeGives back_of back_next) c.args.lower c.args.upper es n r)
     (λ r. DealsAll (RangeGives front_of front_next) (RangeGives back_of back_next) es n r)
-    c.in_ok-range.range c.iter-all.result c.beside.result c.beside.ensures.ok
+    c.in_ok-range.range c.iter-all.result c.beside.result c.beside.ensures.both
     (c.in_ok-range.ensures.list es t) (c.iter-all.ensures.list es t)
