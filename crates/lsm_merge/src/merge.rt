@@ -8,8 +8,8 @@ ghost use Rattle.sst_entries.specs.declared.stream.Direction.TheVariants.{Front,
 ghost use Rattle.sst_entries.specs.declared.error.Error.TheVariants.{OutOfMemory};
 ghost use Rattle.lsm_merge.specs.Ends.{R, new_ends, Goes};
 ghost use Rattle.lsm_merge.specs.Union.{IsUnion, union_of};
-ghost use Rattle.lsm_merge.specs.Merge.{HoldsAtMost, Adds, SameRoom, HasPlaces, MayMerge, LowersTotal, LowersByOne, merge_size, entry_of, is_ready};
-ghost use Rattle.lsm_merge.specs.Asks.{AsksSource, Fills, TakesStep, Calls, IsMergerOf, HoldsNone, Pops, made_ready};
+ghost use Rattle.lsm_merge.specs.Merge.{HoldsAtMost, Adds, SameRoom, HasPlaces, MayMerge, LowersTotal, merge_size, entry_of, is_ready};
+ghost use Rattle.lsm_merge.specs.Asks.{AsksSource, Fills, Calls, IsMergerOf, HoldsNone, Pops, made_ready};
 ghost use Rattle.lsm_merge.specs.MergeLaws.{DealsBeforeErrors, DealsMerged, DealsUntilError, MeetsErrorsLate, CanMerge};
 
 use crate::ends::{AtBack, AtFront, End, Ends};
@@ -22,11 +22,12 @@ use std::alloc::{Allocator, Global};
 #[derive(Drop)]
 #[derive_where(PartialEq, Eq, PartialOrd, Ord)]
 struct HeapItem<A: Allocator> {
+    // The key and the value stand as in an `InternalValue`, so that an entry is moved in one piece.
     key: InternalKey<A>,
-    source: usize,
-    end: Direction,
     #[derive_where(skip(EqHashOrd))]
     value: UserValue<A>,
+    source: usize,
+    end: Direction,
 }
 
 impl<A: Allocator> HeapItem<A> {
@@ -37,9 +38,9 @@ impl<A: Allocator> HeapItem<A> {
     {
         HeapItem {
             key: item.key,
+            value: item.value,
             source,
             end,
-            value: item.value,
         }
     }
 
@@ -51,6 +52,14 @@ impl<A: Allocator> HeapItem<A> {
             value: self.value,
         }
     }
+}
+
+// Lets go of an entry. It is a call of its own, since a place in which an entry may be let go is
+// moved in many small pieces.
+#[cold]
+#[inline(never)]
+fn give_up<A: Allocator>(item: HeapItem<A>) {
+    let _ = item;
 }
 
 /// Gives the entries of several sorted sources in order, from the front, and from both ends where the sources have two. A
@@ -205,6 +214,8 @@ impl<I, A: Allocator> Merger<I, A> {
     }
 
     // An error ends the merge for good.
+    #[cold]
+    #[inline(never)]
     fn fail(&mut self, error: Error) -> Option<IterItem<A>>
         ensures answer { result ≡ Some (Err error) }
         ensures state { self.new ≡ record self.old { failed = true } }
@@ -241,8 +252,29 @@ impl<I: Iterator<Item = IterItem<A>>, A: Allocator> Merger<I, A> {
         }
     }
 
-    // Once for each end, moves what stands there in each source into the heap.
+    // Moves what stands at an end of each source into the heap.
+    #[inline(never)]
     fn fill<E: End<I>>(&mut self) -> Result<(), Error>
+        requires places { HasPlaces I.next_gives E.back_gives I.can_next E.can_back I.remaining
+            self.old }
+        requires first { is_ready E.end self.old ≡ false }
+        ensures places { IfOk result (λ _.
+            HasPlaces I.next_gives E.back_gives I.can_next E.can_back I.remaining self.new) }
+        ensures failed { self.new.failed ≡ self.old.failed }
+        ensures lowers { LowersTotal I.remaining self.old result self.new }
+        ensures fills { Fills (Steps I.next_gives E.back_gives E.end) E.end self.old result
+            self.new }
+    {
+        for i in 0..self.sources.len() {
+            self.take::<E>(i)?;
+        }
+        self.make_ready(E::end());
+        Ok(())
+    }
+
+    // Fills the heap, once for each end.
+    #[inline(always)]
+    fn fill_once<E: End<I>>(&mut self) -> Result<(), Error>
         requires { HasPlaces I.next_gives E.back_gives I.can_next E.can_back I.remaining self.old }
         ensures places { IfOk result (λ _.
             HasPlaces I.next_gives E.back_gives I.can_next E.can_back I.remaining self.new) }
@@ -254,33 +286,11 @@ impl<I: Iterator<Item = IterItem<A>>, A: Allocator> Merger<I, A> {
         if self.is_ready(E::end()) {
             return Ok(());
         }
-        for i in 0..self.sources.len() {
-            self.take::<E>(i)?;
-        }
-        self.make_ready(E::end());
-        Ok(())
+        self.fill::<E>()
     }
 
-    // Takes the entry of an end of all sources, and the next of its source into the heap.
-    #[inline(always)]
-    fn step<E: End<I>>(&mut self) -> Result<Option<InternalValue<A>>, Error>
-        requires { HasPlaces I.next_gives E.back_gives I.can_next E.can_back I.remaining self.old }
-        ensures places { IfOk result (λ _.
-            HasPlaces I.next_gives E.back_gives I.can_next E.can_back I.remaining self.new) }
-        ensures failed { self.new.failed ≡ self.old.failed }
-        ensures lowers { LowersByOne I.remaining self.old result self.new }
-        ensures steps { TakesStep (Steps I.next_gives E.back_gives E.end) E.end self.old result
-            self.new }
-    {
-        self.fill::<E>()?;
-        let Some(lead) = self.pop(E::end()) else {
-            return Ok(None);
-        };
-        self.take::<E>(lead.source)?;
-        Ok(Some(lead.into_item()))
-    }
-
-    // The answer at an end.
+    // The answer at an end: the entry of this end of all sources, while the next of its source goes
+    // into the heap.
     #[inline(always)]
     fn call<E: End<I>>(&mut self) -> Option<IterItem<A>>
         requires { MayMerge I.next_gives E.back_gives I.can_next E.can_back I.remaining self.old }
@@ -294,10 +304,18 @@ impl<I: Iterator<Item = IterItem<A>>, A: Allocator> Merger<I, A> {
         if self.failed {
             return None;
         }
-        match self.step::<E>() {
-            Ok(Some(item)) => Some(Ok(item)),
-            Ok(None) => None,
-            Err(error) => self.fail(error),
+        if let Err(error) = self.fill_once::<E>() {
+            return self.fail(error);
+        }
+        let Some(lead) = self.pop(E::end()) else {
+            return None;
+        };
+        match self.take::<E>(lead.source) {
+            Ok(()) => Some(Ok(lead.into_item())),
+            Err(error) => {
+                give_up(lead);
+                self.fail(error)
+            }
         }
     }
 }
