@@ -8,26 +8,74 @@ ghost use Rattle.sst_entries.specs.declared.stream.Direction.TheVariants.{Front,
 ghost use Rattle.sst_entries.specs.declared.error.Error.TheVariants.{OutOfMemory};
 ghost use Rattle.lsm_merge.specs.Ends.{R, new_ends, Goes};
 ghost use Rattle.lsm_merge.specs.Union.{IsUnion, union_of};
-ghost use Rattle.lsm_merge.specs.Merge.{HoldsAtMost, Adds, SameRoom, HasPlaces, MayMerge, LowersTotal, merge_size, entry_of, is_ready};
+ghost use Rattle.lsm_merge.specs.Merge.{HoldsAtMost, Adds, SameRoom, HasPlaces, MayMerge, LowersTotal, merge_size, entry_of, is_ready, turn_cmp, turn_total};
 ghost use Rattle.lsm_merge.specs.Asks.{AsksSource, Fills, Calls, IsMergerOf, HoldsNone, Pops, made_ready};
 ghost use Rattle.lsm_merge.specs.MergeLaws.{DealsBeforeErrors, DealsMerged, DealsUntilError, MeetsErrorsLate, CanMerge};
+ghost use Rattle.std.proofs.Common.{refl};
+ghost use Rattle.std.specs.Cmp.{partial_order_from_total, partial_equiv_from_equiv, eq_by_cmp_equiv};
+ghost use Rattle.std.specs.Ordering.{as_partial_cmp, eq_by_cmp};
 
 use crate::ends::{AtBack, AtFront, End, Ends};
+use crate::words::compare_keys;
 use lsm_heaps::LazyTournament;
 use sst_entries::{Direction, Error, InternalKey, InternalValue, IterItem, UserValue};
 use std::alloc::{Allocator, Global};
+use std::cmp::Ordering;
 
 // An entry on its way through the heap. Where keys tie, entries of earlier sources come first,
 // and those of one source in its order: the one from its front before the one from its back.
 #[derive(Drop)]
-#[derive_where(PartialEq, Eq, PartialOrd, Ord)]
 struct HeapItem<A: Allocator> {
     // The key and the value stand as in an `InternalValue`, so that an entry is moved in one piece.
     key: InternalKey<A>,
-    #[derive_where(skip(EqHashOrd))]
     value: UserValue<A>,
     source: usize,
     end: Direction,
+}
+
+impl<A: Allocator> Ord for HeapItem<A> {
+    ghost cmp = { turn_cmp };
+
+    ghost total = { turn_total };
+
+    ghost matches_partial_cmp = { λ x y. refl };
+
+    ghost matches_eq = { λ x y. refl };
+
+    #[inline(always)]
+    fn cmp(&self, other: &HeapItem<A>) -> Ordering {
+        match compare_keys(&self.key, &other.key) {
+            Ordering::Equal => self
+                .source
+                .cmp(&other.source)
+                .then(self.end.cmp(&other.end)),
+            found => found,
+        }
+    }
+}
+
+impl<A: Allocator> PartialOrd for HeapItem<A> {
+    ghost partial_cmp = { as_partial_cmp turn_cmp };
+
+    ghost laws = { partial_order_from_total turn_total };
+
+    fn partial_cmp(&self, other: &HeapItem<A>) -> Option<Ordering> {
+        Some(self.cmp(other))
+    }
+}
+
+impl<A: Allocator> PartialEq for HeapItem<A> {
+    ghost eq = { eq_by_cmp turn_cmp };
+
+    ghost laws = { partial_equiv_from_equiv (eq_by_cmp_equiv turn_total) };
+
+    fn eq(&self, other: &HeapItem<A>) -> bool {
+        self.cmp(other).is_eq()
+    }
+}
+
+impl<A: Allocator> Eq for HeapItem<A> {
+    ghost laws = { eq_by_cmp_equiv turn_total };
 }
 
 impl<A: Allocator> HeapItem<A> {
