@@ -1,13 +1,14 @@
 -- One call of an `Ends` that isn't done.
 use Rattle.std.proofs.Common.{◌≡◌, refl, sym, ◌∙◌, ap, subst, Bool, true, false, List, [], ◌∷◌, reverse}
-use Rattle.std.specs.Prelude.{Option, Some, None, is_none}
-use Rattle.std.specs.Iterator.{Count, IsFinite, MakesProgress}
+use Rattle.std.specs.Prelude.{Option, Some, None, is_none, not, cond, ◌<◌}
+use Rattle.std.specs.Option.{is_some}
+use Rattle.std.specs.Iterator.{Count, IsFinite, MakesProgress, size}
 use Rattle.sst_entries.specs.declared.error.Error.{Error}
 use Rattle.lsm_merge.specs.declared.ends.Ends.{Ends}
-use Rattle.sst_entries.specs.Stream.{first, but_first, last, but_last, answer_stops, Deals, CanDeal, nowhere, DealsFirst, DealsLast, Steps}
+use Rattle.sst_entries.specs.Stream.{first, but_first, last, but_last, answer_stops, Deals, CanDeal, nowhere, DealsFirst, DealsLast, Steps, Lowers}
 use Rattle.sst_entries.specs.declared.stream.Direction.{Direction}
 use Rattle.sst_entries.specs.declared.stream.Direction.TheVariants.{Front, Back}
-use Rattle.lsm_merge.specs.Ends.{R, LeftIf, Left, GoesIf, Goes, AskedIf, Asked, DealsAt}
+use Rattle.lsm_merge.specs.Ends.{R, LeftIf, Left, GoesIf, Goes, AskedIf, Asked, DealsAt, ends_size}
 use Rattle.sst_entries.proofs.FrontLemmas.{can_in_front}
 use Rattle.sst_entries.proofs.StreamLemmas.{deals_front, deals_back, can_front, can_after_back, can_now, can_now_back}
 
@@ -70,11 +71,8 @@ module _ {S : Type 0} (front back : S → Option R → S → Type 0) where
 -- ---- a call by what it asks
 
 module _ {S : Type 0} (ask : S → Option R → S → Type 0) (s : Ends S) where
-  pub asked_some : (x : R) (t : S) → s.done ≡ false → ask s.iter (Some x) t → Asked ask s (Some x) (record { iter = t; done = s.done })
-  asked_some x t e step = record { call = subst (λ (b : Bool). AskedIf ask b s (Some x) (record { iter = t; done = s.done })) (sym e) (step, e) }
-
-  pub asked_none : (t : S) → s.done ≡ false → ask s.iter None t → Asked ask s None (record { iter = t; done = true })
-  asked_none t e step = record { call = subst (λ (b : Bool). AskedIf ask b s None (record { iter = t; done = true })) (sym e) (step, refl) }
+  pub asked_now : (r : Option R) (t : S) (d : Bool) → s.done ≡ false → d ≡ is_none r → ask s.iter r t → Asked ask s r (record { iter = t; done = d })
+  asked_now r t d e ends step = record { call = subst (λ (b : Bool). AskedIf ask b s r (record { iter = t; done = d })) (sym e) (step, ends) }
 
   pub asked_done : s.done ≡ true → Asked ask s None s
   asked_done e = record { call = subst (λ (b : Bool). AskedIf ask b s None s) (sym e) (refl, refl) }
@@ -143,3 +141,19 @@ module _ {S : Type 0} (front back : S → Option R → S → Type 0) (can can_ba
       by_done : (b : Bool) → s.done ≡ b → AskedIf front b s r t → Goes front back can can_back left t
       by_done true e c = rw c.1 g
       by_done false e c = one r e c.0 c.1
+
+pub ended_by : (r : Option R) (d : Bool) → is_some r ≡ not d → d ≡ is_none r
+ended_by r true e = sym (ap not e)
+ended_by r false e = sym (ap not e)
+
+-- one that was asked, and has ended if the answer was `None`
+module _ {S : Type 0} (front back : S → Option R → S → Type 0) (can can_back : S → Type 0) (left : S → Count) (s : Ends S) where
+  pub goes_now : (r : Option R) (t : S) (d : Bool) → IsFinite (left s.iter) → d ≡ is_none r → MakesProgress (CanDeal front back can can_back) left s.iter r t → Goes front back can can_back left (record { iter = t; done = d })
+  goes_now None t d ends e p = record { ready = subst (λ (b : Bool). GoesIf front back can can_back left b t) (sym e) tt }
+  goes_now (Some x) t d ends e p = record { ready = subst (λ (b : Bool). GoesIf front back can can_back left b t) (sym e) (let q = p.on ends in (q.0, q.1)) }
+
+  pub lowers_now : (r : Option R) (t : S) (d : Bool) → s.done ≡ false → IsFinite (left s.iter) → d ≡ is_none r → MakesProgress (CanDeal front back can can_back) left s.iter r t → Lowers r (ends_size left s) (ends_size left (record { iter = t; done = d }))
+  lowers_now None t d was ends e p = subst (λ (b : Bool). cond b 0 (size (left t)) ≡ 0) (sym e) refl
+  lowers_now (Some x) t d was ends e p =
+      subst (λ (b : Bool). cond b 0 (size (left t)) < ends_size left s) (sym e)
+      (subst (λ (b : Bool). size (left t) < cond b 0 (size (left s.iter))) (sym was) (p.on ends).2)

@@ -9,6 +9,7 @@ pub mod RoomLemmas
 pub mod FillLemmas
 pub mod PopLemmas
 pub mod StepLemmas
+pub mod WordLemmas
 pub mod UnionLemmas
 pub mod DealsMerged
 pub mod AsksLemmas

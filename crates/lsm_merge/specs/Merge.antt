@@ -1,10 +1,14 @@
 -- A merger of sources: what it holds, how often it may be called, and what calls of it give.
-use Rattle.std.specs.Prelude.{◌≡◌, ℕ, ◌+◌, ◌<◌, ◌≤◌, ◌==◌, ◌⊎◌, Bool, true, false, cond, List, [], ◌∷◌, length, All, Contains, IsPermutation, count_by, Option, Some, None, Result, Ok, Err, MatchResult, MatchOption, sum_by}
+use Rattle.std.specs.Prelude.{◌≡◌, ℕ, ◌+◌, ◌<◌, ◌≤◌, ◌==◌, ◌⊎◌, Bool, true, false, cond, List, [], ◌∷◌, length, All, Contains, IsPermutation, count_by, Option, Some, None, Result, Ok, Err, MatchResult, sum_by}
 use Rattle.std.specs.List.{AllByRecursion}
 use Rattle.std.specs.Iterator.{Count}
-use Rattle.std.specs.Ordering.{nat_cmp, ordering_then}
+use Rattle.std.specs.Ordering.{nat_cmp, on, then_cmp}
 use Rattle.std.specs.declared.cmp.Ordering.{Ordering}
+use Rattle.std.specs.Cmp.{IsTotalOrder, then_total, on_total, back_total, nat_cmp_total}
+use Rattle.std.specs.Cmp.Lexicographic.{nat_list_cmp_total}
 use Rattle.sst_entries.specs.Key.{key_cmp}
+use Rattle.sst_entries.specs.Kind.{tag_of}
+use Rattle.sst_entries.specs.declared.key.InternalKey.{InternalKey}
 use Rattle.sst_entries.specs.Entry.{Entry, entry}
 use Rattle.sst_entries.specs.Stream.{answer_stops, ok_results, deal, NoneStops, Runs}
 use Rattle.sst_entries.specs.declared.stream.Direction.{Direction}
@@ -25,8 +29,17 @@ end_number Back = 1
 
 -- by key, then by source, then the front before the back
 abbrev pub turn_cmp : {A : Type 0} → HeapItem A → HeapItem A → Ordering
-turn_cmp x y = ordering_then (key_cmp x.key y.key)
-    (ordering_then (nat_cmp x.source y.source) (nat_cmp (end_number x.end) (end_number y.end)))
+turn_cmp {A = A} = then_cmp (on (λ (h : HeapItem A). h.key) key_cmp)
+    (then_cmp (on (λ (h : HeapItem A). h.source) nat_cmp)
+    (on (λ (h : HeapItem A). end_number h.end) nat_cmp))
+
+pub turn_total : {A : Type 0} → IsTotalOrder (turn_cmp {A = A})
+turn_total {A = A} = then_total (on_total (λ (h : HeapItem A). h.key)
+    (then_total (on_total (λ (k : InternalKey A). k.user_key) nat_list_cmp_total)
+    (then_total (back_total (on_total (λ (k : InternalKey A). k.seqno) nat_cmp_total))
+    (on_total (λ (k : InternalKey A). tag_of k.value_type) nat_cmp_total))))
+    (then_total (on_total (λ (h : HeapItem A). h.source) nat_cmp_total)
+    (on_total (λ (h : HeapItem A). end_number h.end) nat_cmp_total))
 
 -- how many entries of source k a merger holds
 abbrev pub held_of : {S A : Type 0} → ℕ → Merger S A → ℕ
@@ -56,15 +69,6 @@ abbrev pub LowersTotal : {S A X : Type 0} → (S → Count) → Merger S A → R
     → Type 0
 LowersTotal left s r t = MatchResult r
     (λ _. merge_total left t ≤ merge_total left s) (λ _. merge_total left t < merge_total left s)
-
--- fewer after an entry too
-abbrev pub LowersByOne : {S A X : Type 0} → (S → Count) → Merger S A → Result (Option X) Error
-    → Merger S A → Type 0
-LowersByOne left s r t = MatchResult r
-    (λ o. MatchOption o
-    (merge_total left t ≤ merge_total left s)
-    (λ _. merge_total left t < merge_total left s))
-    (λ _. merge_total left t < merge_total left s)
 
 -- what a take leaves as it was
 pub record SameRoom {S A : Type 0} (s t : Merger S A) : Type 0 where

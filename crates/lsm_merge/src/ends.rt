@@ -100,13 +100,9 @@ impl<I: Iterator<Item = IterItem<A>>, A: Allocator> Ends<I> {
         if self.done {
             return None;
         }
-        match E::ask(&mut self.iter) {
-            Some(item) => Some(item),
-            None => {
-                self.done = true;
-                None
-            }
-        }
+        let answer = E::ask(&mut self.iter);
+        self.done = answer.is_none();
+        answer
     }
 
     // The next item of an iterator that is taken from the front alone.

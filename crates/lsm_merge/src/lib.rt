@@ -3,6 +3,7 @@
 
 mod ends;
 mod merge;
+mod words;
 
 pub use ends::Ends;
 pub use lsm_heaps::{IntervalHeap, Tournament};

@@ -8,25 +8,74 @@ ghost use Rattle.sst_entries.specs.declared.stream.Direction.TheVariants.{Front,
 ghost use Rattle.sst_entries.specs.declared.error.Error.TheVariants.{OutOfMemory};
 ghost use Rattle.lsm_merge.specs.Ends.{R, new_ends, Goes};
 ghost use Rattle.lsm_merge.specs.Union.{IsUnion, union_of};
-ghost use Rattle.lsm_merge.specs.Merge.{HoldsAtMost, Adds, SameRoom, HasPlaces, MayMerge, LowersTotal, LowersByOne, merge_size, entry_of, is_ready};
-ghost use Rattle.lsm_merge.specs.Asks.{AsksSource, Fills, TakesStep, Calls, IsMergerOf, HoldsNone, Pops, made_ready};
+ghost use Rattle.lsm_merge.specs.Merge.{HoldsAtMost, Adds, SameRoom, HasPlaces, MayMerge, LowersTotal, merge_size, entry_of, is_ready, turn_cmp, turn_total};
+ghost use Rattle.lsm_merge.specs.Asks.{AsksSource, Fills, Calls, IsMergerOf, HoldsNone, Pops, made_ready};
 ghost use Rattle.lsm_merge.specs.MergeLaws.{DealsBeforeErrors, DealsMerged, DealsUntilError, MeetsErrorsLate, CanMerge};
+ghost use Rattle.std.proofs.Common.{refl};
+ghost use Rattle.std.specs.Cmp.{partial_order_from_total, partial_equiv_from_equiv, eq_by_cmp_equiv};
+ghost use Rattle.std.specs.Ordering.{as_partial_cmp, eq_by_cmp};
 
 use crate::ends::{AtBack, AtFront, End, Ends};
+use crate::words::compare_keys;
 use lsm_heaps::LazyTournament;
 use sst_entries::{Direction, Error, InternalKey, InternalValue, IterItem, UserValue};
 use std::alloc::{Allocator, Global};
+use std::cmp::Ordering;
 
 // An entry on its way through the heap. Where keys tie, entries of earlier sources come first,
 // and those of one source in its order: the one from its front before the one from its back.
 #[derive(Drop)]
-#[derive_where(PartialEq, Eq, PartialOrd, Ord)]
 struct HeapItem<A: Allocator> {
+    // The key and the value stand as in an `InternalValue`, so that an entry is moved in one piece.
     key: InternalKey<A>,
+    value: UserValue<A>,
     source: usize,
     end: Direction,
-    #[derive_where(skip(EqHashOrd))]
-    value: UserValue<A>,
+}
+
+impl<A: Allocator> Ord for HeapItem<A> {
+    ghost cmp = { turn_cmp };
+
+    ghost total = { turn_total };
+
+    ghost matches_partial_cmp = { λ x y. refl };
+
+    ghost matches_eq = { λ x y. refl };
+
+    #[inline(always)]
+    fn cmp(&self, other: &HeapItem<A>) -> Ordering {
+        match compare_keys(&self.key, &other.key) {
+            Ordering::Equal => self
+                .source
+                .cmp(&other.source)
+                .then(self.end.cmp(&other.end)),
+            found => found,
+        }
+    }
+}
+
+impl<A: Allocator> PartialOrd for HeapItem<A> {
+    ghost partial_cmp = { as_partial_cmp turn_cmp };
+
+    ghost laws = { partial_order_from_total turn_total };
+
+    fn partial_cmp(&self, other: &HeapItem<A>) -> Option<Ordering> {
+        Some(self.cmp(other))
+    }
+}
+
+impl<A: Allocator> PartialEq for HeapItem<A> {
+    ghost eq = { eq_by_cmp turn_cmp };
+
+    ghost laws = { partial_equiv_from_equiv (eq_by_cmp_equiv turn_total) };
+
+    fn eq(&self, other: &HeapItem<A>) -> bool {
+        self.cmp(other).is_eq()
+    }
+}
+
+impl<A: Allocator> Eq for HeapItem<A> {
+    ghost laws = { eq_by_cmp_equiv turn_total };
 }
 
 impl<A: Allocator> HeapItem<A> {
@@ -37,9 +86,9 @@ impl<A: Allocator> HeapItem<A> {
     {
         HeapItem {
             key: item.key,
+            value: item.value,
             source,
             end,
-            value: item.value,
         }
     }
 
@@ -51,6 +100,14 @@ impl<A: Allocator> HeapItem<A> {
             value: self.value,
         }
     }
+}
+
+// Lets go of an entry. It is a call of its own, since a place in which an entry may be let go is
+// moved in many small pieces.
+#[cold]
+#[inline(never)]
+fn give_up<A: Allocator>(item: HeapItem<A>) {
+    let _ = item;
 }
 
 /// Gives the entries of several sorted sources in order, from the front, and from both ends where the sources have two. A
@@ -205,6 +262,8 @@ impl<I, A: Allocator> Merger<I, A> {
     }
 
     // An error ends the merge for good.
+    #[cold]
+    #[inline(never)]
     fn fail(&mut self, error: Error) -> Option<IterItem<A>>
         ensures answer { result ≡ Some (Err error) }
         ensures state { self.new ≡ record self.old { failed = true } }
@@ -241,8 +300,29 @@ impl<I: Iterator<Item = IterItem<A>>, A: Allocator> Merger<I, A> {
         }
     }
 
-    // Once for each end, moves what stands there in each source into the heap.
+    // Moves what stands at an end of each source into the heap.
+    #[inline(never)]
     fn fill<E: End<I>>(&mut self) -> Result<(), Error>
+        requires places { HasPlaces I.next_gives E.back_gives I.can_next E.can_back I.remaining
+            self.old }
+        requires first { is_ready E.end self.old ≡ false }
+        ensures places { IfOk result (λ _.
+            HasPlaces I.next_gives E.back_gives I.can_next E.can_back I.remaining self.new) }
+        ensures failed { self.new.failed ≡ self.old.failed }
+        ensures lowers { LowersTotal I.remaining self.old result self.new }
+        ensures fills { Fills (Steps I.next_gives E.back_gives E.end) E.end self.old result
+            self.new }
+    {
+        for i in 0..self.sources.len() {
+            self.take::<E>(i)?;
+        }
+        self.make_ready(E::end());
+        Ok(())
+    }
+
+    // Fills the heap, once for each end.
+    #[inline(always)]
+    fn fill_once<E: End<I>>(&mut self) -> Result<(), Error>
         requires { HasPlaces I.next_gives E.back_gives I.can_next E.can_back I.remaining self.old }
         ensures places { IfOk result (λ _.
             HasPlaces I.next_gives E.back_gives I.can_next E.can_back I.remaining self.new) }
@@ -254,33 +334,11 @@ impl<I: Iterator<Item = IterItem<A>>, A: Allocator> Merger<I, A> {
         if self.is_ready(E::end()) {
             return Ok(());
         }
-        for i in 0..self.sources.len() {
-            self.take::<E>(i)?;
-        }
-        self.make_ready(E::end());
-        Ok(())
+        self.fill::<E>()
     }
 
-    // Takes the entry of an end of all sources, and the next of its source into the heap.
-    #[inline(always)]
-    fn step<E: End<I>>(&mut self) -> Result<Option<InternalValue<A>>, Error>
-        requires { HasPlaces I.next_gives E.back_gives I.can_next E.can_back I.remaining self.old }
-        ensures places { IfOk result (λ _.
-            HasPlaces I.next_gives E.back_gives I.can_next E.can_back I.remaining self.new) }
-        ensures failed { self.new.failed ≡ self.old.failed }
-        ensures lowers { LowersByOne I.remaining self.old result self.new }
-        ensures steps { TakesStep (Steps I.next_gives E.back_gives E.end) E.end self.old result
-            self.new }
-    {
-        self.fill::<E>()?;
-        let Some(lead) = self.pop(E::end()) else {
-            return Ok(None);
-        };
-        self.take::<E>(lead.source)?;
-        Ok(Some(lead.into_item()))
-    }
-
-    // The answer at an end.
+    // The answer at an end: the entry of this end of all sources, while the next of its source goes
+    // into the heap.
     #[inline(always)]
     fn call<E: End<I>>(&mut self) -> Option<IterItem<A>>
         requires { MayMerge I.next_gives E.back_gives I.can_next E.can_back I.remaining self.old }
@@ -294,10 +352,18 @@ impl<I: Iterator<Item = IterItem<A>>, A: Allocator> Merger<I, A> {
         if self.failed {
             return None;
         }
-        match self.step::<E>() {
-            Ok(Some(item)) => Some(Ok(item)),
-            Ok(None) => None,
-            Err(error) => self.fail(error),
+        if let Err(error) = self.fill_once::<E>() {
+            return self.fail(error);
+        }
+        let Some(lead) = self.pop(E::end()) else {
+            return None;
+        };
+        match self.take::<E>(lead.source) {
+            Ok(()) => Some(Ok(lead.into_item())),
+            Err(error) => {
+                give_up(lead);
+                self.fail(error)
+            }
         }
     }
 }

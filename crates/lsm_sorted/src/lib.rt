@@ -6,6 +6,7 @@
 mod ahead;
 pub mod compaction;
 mod gap;
+mod give_up;
 mod mvcc_stream;
 mod newest;
 mod peeked;

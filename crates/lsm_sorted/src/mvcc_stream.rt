@@ -8,6 +8,7 @@ ghost use Rattle.lsm_sorted.specs.Newest.{front_step, back_step};
 ghost use Rattle.lsm_sorted.specs.Mvcc.{MayStep, StepsAt, AnswersSteps, DealsSteps, DealsNewestOf, CanStep, mvcc_size, mvcc_outlook, read_from};
 ghost use Rattle.lsm_sorted.specs.Outlook.{before_any};
 
+use crate::give_up::give_up;
 use crate::peeked::Peeked;
 use sst_entries::{InternalValue, IterItem};
 use std::alloc::Allocator;
@@ -123,8 +124,12 @@ impl<I: Iterator<Item = IterItem<A>>, A: Allocator> Iterator for MvccStream<I> {
                         self.inner.put_front(other);
                         return Some(Ok(head));
                     }
+                    give_up(other);
                 }
-                Some(Err(error)) => return Some(Err(error)),
+                Some(Err(error)) => {
+                    give_up(head);
+                    return Some(Err(error));
+                }
                 None => return Some(Ok(head)),
             }
         }

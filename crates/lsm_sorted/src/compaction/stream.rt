@@ -13,6 +13,7 @@ ghost use Rattle.sst_entries.specs.declared.error.Error.{Error};
 ghost use Rattle.sst_entries.specs.declared.stream.Direction.TheVariants.{Front};
 
 use crate::ahead::Ahead;
+use crate::give_up::give_up;
 use sst_entries::{Error, InternalValue, IterItem, SeqNo, UserValue, ValueType};
 use std::alloc::{Allocator, Global};
 
@@ -285,6 +286,7 @@ impl<
                         return Ok(());
                     }
                     self.dropped_callback.on_dropped(&x);
+                    give_up(x);
                 }
                 Some(Err(error)) => return Err(error),
                 None => return Ok(()),
@@ -322,10 +324,13 @@ impl<
             self.inner.put_back(next);
             return Ok(false);
         }
-        self.drain_hidden(head, &next)
+        let goes = self.drain_hidden(head, &next);
+        give_up(next);
+        goes
     }
 
     // Reports this version and the older ones that are next, and says whether the head goes, which hides them.
+    #[inline(never)]
     fn drain_hidden(
         &mut self,
         head: &InternalValue<A>,
@@ -416,9 +421,12 @@ impl<
                 Err(error) => return Some(Err(error)),
             };
             match self.lets_go(&head) {
-                Ok(true) => {}
+                Ok(true) => give_up(head),
                 Ok(false) => return Some(Ok(self.zeroed(head))),
-                Err(error) => return Some(Err(error)),
+                Err(error) => {
+                    give_up(head);
+                    return Some(Err(error));
+                }
             }
         }
     }

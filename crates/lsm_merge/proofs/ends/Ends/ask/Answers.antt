@@ -1,16 +1,25 @@
 use Rattle.sst_entries.specs.Stream.{Steps}
-use Rattle.lsm_merge.proofs.EndsLemmas.{goes_ready, asked_some, asked_none, asked_deals}
+use Rattle.lsm_merge.proofs.EndsLemmas.{goes_ready, asked_now, asked_deals, goes_now, lowers_now, ended_by}
 use Rattle.lsm_merge.proofs.ends.Ends.ask.Goals as goal
 
-pub ask-requires : goal.ask-requires
-ask-requires g c = (goes_ready _ _ _ _ _ c.args.self.now c.if-self.false c.requires).0
+pub ask-answer-requires : goal.ask-answer-requires
+ask-answer-requires g c = (goes_ready _ _ _ _ _ c.args.self.now c.if-self.false c.requires).0
 
-pub returns-in-Some-clause-deals : goal.returns-in-Some-clause-deals
-returns-in-Some-clause-deals g c stops =
-    asked_deals stops g.I.Iterator.next_gives g.E.End.back_gives g.E.End.end c.args.self.now _ _
-    (asked_some (Steps g.I.Iterator.next_gives g.E.End.back_gives g.E.End.end) c.args.self.now c.in-Some.item c.ask.new.iter c.if-self.false c.in-Some.ensures.steps)
+pub returns-clause-asked : goal.returns-clause-asked
+returns-clause-asked g c =
+    asked_now (Steps g.I.Iterator.next_gives g.E.End.back_gives g.E.End.end) c.args.self.now c.ask-answer.result c.ask-answer.new.iter c.is_none-self.result c.if-self.false (ended_by c.ask-answer.result c.is_none-self.result c.is_none-self.ensures) c.ask-answer.ensures.steps
 
-pub returns-in-None-clause-deals : goal.returns-in-None-clause-deals
-returns-in-None-clause-deals g c stops =
+pub returns-clause-deals : goal.returns-clause-deals
+returns-clause-deals g c stops =
     asked_deals stops g.I.Iterator.next_gives g.E.End.back_gives g.E.End.end c.args.self.now _ _
-    (asked_none (Steps g.I.Iterator.next_gives g.E.End.back_gives g.E.End.end) c.args.self.now c.ask.new.iter c.if-self.false c.in-None.ensures.steps)
+    (returns-clause-asked g c)
+
+pub returns-clause-goes : goal.returns-clause-goes
+returns-clause-goes g c =
+    goes_now g.I.Iterator.next_gives g.E.End.back_gives g.I.Iterator.can_next g.E.End.can_back g.I.Iterator.remaining c.args.self.now c.ask-answer.result c.ask-answer.new.iter c.is_none-self.result
+    (goes_ready _ _ _ _ _ c.args.self.now c.if-self.false c.requires).1 (ended_by c.ask-answer.result c.is_none-self.result c.is_none-self.ensures) c.ask-answer.ensures.goes
+
+pub returns-clause-lowers : goal.returns-clause-lowers
+returns-clause-lowers g c =
+    lowers_now g.I.Iterator.next_gives g.E.End.back_gives g.I.Iterator.can_next g.E.End.can_back g.I.Iterator.remaining c.args.self.now c.ask-answer.result c.ask-answer.new.iter c.is_none-self.result
+    c.if-self.false (goes_ready _ _ _ _ _ c.args.self.now c.if-self.false c.requires).1 (ended_by c.ask-answer.result c.is_none-self.result c.is_none-self.ensures) c.ask-answer.ensures.goes

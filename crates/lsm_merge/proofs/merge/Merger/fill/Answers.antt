@@ -4,7 +4,7 @@ use Rattle.std.proofs.lemmas.Result.{err_from_is_err_and}
 use Rattle.sst_entries.specs.Stream.{Steps}
 use Rattle.lsm_merge.specs.Merge.{HasPlaces}
 use Rattle.lsm_merge.specs.Asks.{AsksEach, FillsIf}
-use Rattle.lsm_merge.proofs.ReadyLemmas.{same_room, same_twice, not_ready_at, made_at}
+use Rattle.lsm_merge.proofs.ReadyLemmas.{same_room, same_twice, made_at}
 use Rattle.lsm_merge.proofs.RoomLemmas.{fill_first, fill_next, fill_last}
 use Rattle.lsm_merge.proofs.merge.Merger.fill.Goals as goal
 
@@ -14,9 +14,8 @@ next_of i = omega arith
 pub loop-i-init : goal.loop-i-init
 loop-i-init g c =
     let s = c.args.self.now in
-    let not_ready = not_ready_at g.E.End.end c.end.result s c.is_ready.result c.end.ensures c.is_ready.ensures c.if-is_ready.false in
     record {
-      filled = fill_first g.I.Iterator.next_gives g.E.End.back_gives g.I.Iterator.can_next g.E.End.can_back g.I.Iterator.remaining g.E.End.end s c.requires not_ready;
+      filled = fill_first g.I.Iterator.next_gives g.E.End.back_gives g.I.Iterator.can_next g.E.End.can_back g.I.Iterator.remaining g.E.End.end s c.requires.places c.requires.first;
       same = same_room s;
       lowers = omega arith;
       each = refl;
@@ -39,16 +38,15 @@ returns-clause-places g c =
     let m = c.loop-i.self in
     let before = c.loop-i.invariant in
     let all : c.loop-i.i ≤ length s.sources.items = omega (arith, c.loop-i.auto.i-end, c.len-i-end.ensures) in
-    subst (HasPlaces g.I.Iterator.next_gives g.E.End.back_gives g.I.Iterator.can_next g.E.End.can_back g.I.Iterator.remaining) (made_at g.E.End.end c.end-2.result m c.make_ready.new.self c.end-2.ensures c.make_ready.ensures)
+    subst (HasPlaces g.I.Iterator.next_gives g.E.End.back_gives g.I.Iterator.can_next g.E.End.can_back g.I.Iterator.remaining) (made_at g.E.End.end c.end.result m c.make_ready.new.self c.end.ensures c.make_ready.ensures)
     (fill_last g.I.Iterator.next_gives g.E.End.back_gives g.I.Iterator.can_next g.E.End.can_back g.I.Iterator.remaining g.E.End.end c.loop-i.i s m before.filled all before.same)
 
 pub returns-in_err-take-clause-fills : goal.returns-in_err-take-clause-fills
 returns-in_err-take-clause-fills g c =
     let p = err_from_is_err_and c.from_residual.result c.from_residual.ensures.1 in
     let s = c.args.self.now in
-    let not_ready = not_ready_at g.E.End.end c.end.result s c.is_ready.result c.end.ensures c.is_ready.ensures c.if-is_ready.false in
     rw (p.1, p.2) (record {
-      fill = subst (λ (b : Bool). FillsIf (Steps g.I.Iterator.next_gives g.E.End.back_gives g.E.End.end) g.E.End.end b s (Err c.in_err-take.field-0.0) c.take.new.self) (sym not_ready)
+      fill = subst (λ (b : Bool). FillsIf (Steps g.I.Iterator.next_gives g.E.End.back_gives g.E.End.end) g.E.End.end b s (Err c.in_err-take.field-0.0) c.take.new.self) (sym c.requires.first)
           (record { place = c.loop-i.i; before = c.loop-i.self; each = c.loop-i.invariant.each; fails = c.in_err-take.ensures.asks });
     })
 
@@ -58,11 +56,10 @@ returns-clause-fills g c =
     let m = c.loop-i.self in
     let before = c.loop-i.invariant in
     let all : c.loop-i.i ≡ length s.sources.items = omega (arith, c.loop-i.auto.i-end, c.loop-i-test.false, c.len-i-end.ensures, before.same.count) in
-    let not_ready = not_ready_at g.E.End.end c.end.result s c.is_ready.result c.end.ensures c.is_ready.ensures c.if-is_ready.false in
     record {
-      fill = subst (λ (b : Bool). FillsIf (Steps g.I.Iterator.next_gives g.E.End.back_gives g.E.End.end) g.E.End.end b s (Ok tt) c.make_ready.new.self) (sym not_ready) (record {
+      fill = subst (λ (b : Bool). FillsIf (Steps g.I.Iterator.next_gives g.E.End.back_gives g.E.End.end) g.E.End.end b s (Ok tt) c.make_ready.new.self) (sym c.requires.first) (record {
         last = m;
         each = subst (λ (n : ℕ). AsksEach (Steps g.I.Iterator.next_gives g.E.End.back_gives g.E.End.end) g.E.End.end n s m) all before.each;
-        ready = sym (made_at g.E.End.end c.end-2.result m c.make_ready.new.self c.end-2.ensures c.make_ready.ensures);
+        ready = sym (made_at g.E.End.end c.end.result m c.make_ready.new.self c.end.ensures c.make_ready.ensures);
       });
     }

@@ -25,33 +25,26 @@ loop-other-init g c = record {
 pub returns-then-has_other_key-clause-steps : goal.returns-then-has_other_key-clause-steps
 returns-then-has_other_key-clause-steps g c = record {
   may = rw c.put_front.ensures.source c.in-Some-Ok-next.ensures.goes;
-  hears = hears_other g.I.Iterator.next_gives _ _ _ c.loop-other.head c.loop-other.invariant.hears _ c.in-Some-Ok-next.other (rw c.in-Some-Ok-next.field-0-is at c.in-Some-Ok-next.ensures.hears) (keys_apart c.in-Some-Ok-next.other.user_key c.loop-other.head.user_key _ c.has_other_key.ensures c.if-has_other_key.true) c.put_front.ensures.puts;
+  hears = hears_other g.I.Iterator.next_gives _ _ _ c.in-Some-Ok.head c.loop-other.invariant.hears _ c.in-Some-Ok-next.other (rw c.in-Some-Ok-next.field-0-is at c.in-Some-Ok-next.ensures.hears) (keys_apart c.in-Some-Ok-next.other.user_key c.in-Some-Ok.head.user_key _ c.has_other_key.ensures c.if-has_other_key.true) c.put_front.ensures.puts;
 }
 
 pub loop-other-preserved : goal.loop-other-preserved
 loop-other-preserved g c = record {
   may = c.in-Some-Ok-next.ensures.goes;
-  hears = hears_version g.I.Iterator.next_gives _ _ _ c.loop-other.head c.loop-other.invariant.hears c.in-Some-Ok-next.other (rw c.in-Some-Ok-next.field-0-is at c.in-Some-Ok-next.ensures.hears) (keys_same c.in-Some-Ok-next.other.user_key c.loop-other.head.user_key _ c.has_other_key.ensures c.if-has_other_key.false);
-  fewer = omega (arith, c.in-Some-Ok-next.ensures.lowers, c.loop-other.invariant.fewer);
-}
-
-pub loop-other-preserved-else-has_other_key : goal.loop-other-preserved-else-has_other_key
-loop-other-preserved-else-has_other_key g c = record {
-  may = c.in-Some-Ok-next.ensures.goes;
-  hears = hears_version g.I.Iterator.next_gives _ _ _ c.loop-other.head c.loop-other.invariant.hears c.in-Some-Ok-next.other (rw c.in-Some-Ok-next.field-0-is at c.in-Some-Ok-next.ensures.hears) (keys_same c.in-Some-Ok-next.other.user_key c.loop-other.head.user_key _ c.has_other_key.ensures c.if-has_other_key.false);
+  hears = hears_version g.I.Iterator.next_gives _ _ _ c.in-Some-Ok.head c.loop-other.invariant.hears c.in-Some-Ok-next.other (rw c.in-Some-Ok-next.field-0-is at c.in-Some-Ok-next.ensures.hears) (keys_same c.in-Some-Ok-next.other.user_key c.in-Some-Ok.head.user_key _ c.has_other_key.ensures c.if-has_other_key.false);
   fewer = omega (arith, c.in-Some-Ok-next.ensures.lowers, c.loop-other.invariant.fewer);
 }
 
 pub returns-in-Some-Err-next-clause-steps : goal.returns-in-Some-Err-next-clause-steps
 returns-in-Some-Err-next-clause-steps g c = record {
   may = c.in-Some-Err-next.ensures.goes;
-  hears = hears_error g.I.Iterator.next_gives _ _ _ c.loop-other.head c.loop-other.invariant.hears c.in-Some-Err-next.error (rw c.in-Some-Err-next.field-0-is at c.in-Some-Err-next.ensures.hears);
+  hears = hears_error g.I.Iterator.next_gives _ _ _ c.in-Some-Ok.head c.loop-other.invariant.hears c.in-Some-Err-next.error (rw c.in-Some-Err-next.field-0-is at c.in-Some-Err-next.ensures.hears);
 }
 
 pub returns-in-None-next-clause-steps : goal.returns-in-None-next-clause-steps
 returns-in-None-next-clause-steps g c = record {
   may = c.in-None-next.ensures.goes;
-  hears = hears_last g.I.Iterator.next_gives _ _ _ c.loop-other.head c.loop-other.invariant.hears c.in-None-next.ensures.hears;
+  hears = hears_last g.I.Iterator.next_gives _ _ _ c.in-Some-Ok.head c.loop-other.invariant.hears c.in-None-next.ensures.hears;
 }
 
 pub returns-in-Some-Err-clause-goes : goal.returns-in-Some-Err-clause-goes

@@ -28,8 +28,8 @@ returns-then-not-is_below_threshold-clause-settles g c stops =
 
 pub returns-clause-settles : goal.returns-clause-settles
 returns-clause-settles g c stops =
-    let drains = c.drain_hidden.ensures.drains stops in
-    settles_closed stops (HoldsAhead stops g.I.Iterator.next_gives) g.C.DroppedKvCallback.gets _ c.args.head.now c.args.self.now.inner c.next.new.self _ c.args.self.now.dropped_callback drains.0 _ c.in-Some-Ok.next (rw c.in-Some-Ok.field-0-is at (c.in-Some-Ok.ensures.deals stops)) (sym c.has_key_of.ensures ∙ c.if-not-has_key_of.false) (sym c.is_below_threshold.ensures ∙ c.if-not-is_below_threshold.false) drains.1 c.drain_hidden.result drains.2 c.drain_hidden.ensures.goes
+    let drains = c.drain_hidden-goes.ensures.drains stops in
+    settles_closed stops (HoldsAhead stops g.I.Iterator.next_gives) g.C.DroppedKvCallback.gets _ c.args.head.now c.args.self.now.inner c.next.new.self _ c.args.self.now.dropped_callback drains.0 _ c.in-Some-Ok.next (rw c.in-Some-Ok.field-0-is at (c.in-Some-Ok.ensures.deals stops)) (sym c.has_key_of.ensures ∙ c.if-not-has_key_of.false) (sym c.is_below_threshold.ensures ∙ c.if-not-is_below_threshold.false) drains.1 c.drain_hidden-goes.result drains.2 c.drain_hidden-goes.ensures.goes
 
 pub returns-then-not-has_key_of-clause-may : goal.returns-then-not-has_key_of-clause-may
 returns-then-not-has_key_of-clause-may g c = rw c.put_back.ensures.source c.in-Some-Ok.ensures.goes
@@ -56,16 +56,16 @@ pub returns-then-not-is_below_threshold-clause-size : goal.returns-then-not-is_b
 returns-then-not-is_below_threshold-clause-size g c = size_again (ahead_size g.I.Iterator.remaining c.args.self.now.inner) (ahead_size g.I.Iterator.remaining c.next.new.self) _ c.in-Some-Ok.ensures.lowers c.put_back-then-not-is_below_threshold.ensures.size
 
 pub returns-clause-may : goal.returns-clause-may
-returns-clause-may g c = c.drain_hidden.ensures.may
+returns-clause-may g c = c.drain_hidden-goes.ensures.may
 
 pub returns-clause-rules : goal.returns-clause-rules
-returns-clause-rules g c = c.drain_hidden.ensures.rules
+returns-clause-rules g c = c.drain_hidden-goes.ensures.rules
 
 pub returns-clause-filter : goal.returns-clause-filter
-returns-clause-filter g c = c.drain_hidden.ensures.filter
+returns-clause-filter g c = c.drain_hidden-goes.ensures.filter
 
 pub returns-clause-size : goal.returns-clause-size
-returns-clause-size g c = size_less (ahead_size g.I.Iterator.remaining c.args.self.now.inner) (ahead_size g.I.Iterator.remaining c.next.new.self) _ c.in-Some-Ok.ensures.lowers c.drain_hidden.ensures.size
+returns-clause-size g c = size_less (ahead_size g.I.Iterator.remaining c.args.self.now.inner) (ahead_size g.I.Iterator.remaining c.next.new.self) _ c.in-Some-Ok.ensures.lowers c.drain_hidden-goes.ensures.size
 
 pub returns-in-Some-Err-clause-hears : goal.returns-in-Some-Err-clause-hears
 returns-in-Some-Err-clause-hears g c = hears_settled_err g.I.Iterator.next_gives g.C.DroppedKvCallback.gets _ c.args.head.now _ _ _ c.in-Some-Err.error (rw c.in-Some-Err.field-0-is at c.in-Some-Err.ensures.hears)
@@ -83,5 +83,5 @@ returns-then-not-is_below_threshold-clause-hears g c =
 
 pub returns-clause-hears : goal.returns-clause-hears
 returns-clause-hears g c =
-    let drains = c.drain_hidden.ensures.hears in
-    hears_settled_closed g.I.Iterator.next_gives g.C.DroppedKvCallback.gets _ c.args.head.now c.args.self.now.inner c.next.new.self _ c.args.self.now.dropped_callback c.in-Some-Ok.next (rw c.in-Some-Ok.field-0-is at c.in-Some-Ok.ensures.hears) drains.0 _ c.drain_hidden.result (sym c.has_key_of.ensures ∙ c.if-not-has_key_of.false) (sym c.is_below_threshold.ensures ∙ c.if-not-is_below_threshold.false) drains.1 drains.2 c.drain_hidden.ensures.goes
+    let drains = c.drain_hidden-goes.ensures.hears in
+    hears_settled_closed g.I.Iterator.next_gives g.C.DroppedKvCallback.gets _ c.args.head.now c.args.self.now.inner c.next.new.self _ c.args.self.now.dropped_callback c.in-Some-Ok.next (rw c.in-Some-Ok.field-0-is at c.in-Some-Ok.ensures.hears) drains.0 _ c.drain_hidden-goes.result (sym c.has_key_of.ensures ∙ c.if-not-has_key_of.false) (sym c.is_below_threshold.ensures ∙ c.if-not-is_below_threshold.false) drains.1 drains.2 c.drain_hidden-goes.ensures.goes

@@ -71,16 +71,6 @@ returns-in-Err-lets_go-clause-steps g c = record {
       (called_err stops (HoldsAhead stops g.I.Iterator.next_gives) g.F.StreamFilter.gives g.C.DroppedKvCallback.gets (rules_of c.args.self.now) c.args.self.now.inner c.loop-head.self.inner c.next.new.self c.args.self.now.filter c.loop-head.self.filter c.filtered.new.self.filter c.args.self.now.dropped_callback c.loop-head.self.dropped_callback c.filtered.new.self.dropped_callback c.in-Some-Ok.head (c.loop-head.invariant.going stops) (rw c.in-Some-Ok.field-0-is at (c.in-Some-Ok.ensures.deals stops)) c.in-Ok-Some.head (rw c.in-Ok-Some.field-0-is at c.in-Ok-Some.ensures.filters) c.lets_go.new.self.inner c.lets_go.new.self.dropped_callback c.in-Err-lets_go.error (settles_along stops (HoldsAhead stops g.I.Iterator.next_gives) g.F.StreamFilter.gives g.C.DroppedKvCallback.gets (rules_of c.args.self.now) (rules_of c.filtered.new.self) (rules_of c.args.self.now) c.in-Ok-Some.head c.filtered.new.self.inner c.next.new.self c.lets_go.new.self.inner c.filtered.new.self.dropped_callback c.lets_go.new.self.dropped_callback (Err c.in-Err-lets_go.error) (c.filtered.ensures.rules ∙ c.loop-head.invariant.rules) c.filtered.ensures.source (c.in-Err-lets_go.ensures.settles stops)));
 }
 
-pub loop-head-preserved-in-Ok-true : goal.loop-head-preserved-in-Ok-true
-loop-head-preserved-in-Ok-true g c = record {
-  may = c.lets_go.ensures.may;
-  rules = c.lets_go.ensures.rules ∙ c.filtered.ensures.rules ∙ c.loop-head.invariant.rules;
-  size = omega (arith, c.lets_go.ensures.size, rw c.filtered.ensures.source at c.lets_go.ensures.size, c.in-Some-Ok.ensures.lowers, c.loop-head.invariant.size);
-  hears = rw c.lets_go.ensures.filter (hears_on g.I.Iterator.next_gives g.F.StreamFilter.gives g.C.DroppedKvCallback.gets (rules_of c.args.self.now) c.args.self.now.inner c.loop-head.self.inner c.next.new.self c.args.self.now.filter c.loop-head.self.filter c.args.self.now.dropped_callback c.loop-head.self.dropped_callback c.loop-head.invariant.hears c.filtered.new.self.filter c.filtered.new.self.dropped_callback c.in-Some-Ok.head (rw c.in-Some-Ok.field-0-is at c.in-Some-Ok.ensures.hears) c.in-Ok-Some.head (rw c.in-Ok-Some.field-0-is at c.in-Ok-Some.ensures.filters) (rules_of c.filtered.new.self) c.filtered.new.self.inner c.lets_go.new.self.inner c.lets_go.new.self.dropped_callback c.filtered.ensures.source (c.filtered.ensures.rules ∙ c.loop-head.invariant.rules) (rw c.in-Ok-true.field-0-test at c.in-Ok-true.ensures.hears));
-  going = λ stops. going_along stops (HoldsAhead stops g.I.Iterator.next_gives) g.F.StreamFilter.gives g.C.DroppedKvCallback.gets (rules_of c.args.self.now) c.args.self.now.inner c.lets_go.new.self.inner c.args.self.now.filter c.filtered.new.self.filter c.lets_go.new.self.filter c.args.self.now.dropped_callback c.lets_go.new.self.dropped_callback (sym c.lets_go.ensures.filter)
-      (going_on stops (HoldsAhead stops g.I.Iterator.next_gives) g.F.StreamFilter.gives g.C.DroppedKvCallback.gets (rules_of c.args.self.now) c.args.self.now.inner c.loop-head.self.inner c.next.new.self c.args.self.now.filter c.loop-head.self.filter c.filtered.new.self.filter c.args.self.now.dropped_callback c.loop-head.self.dropped_callback c.filtered.new.self.dropped_callback c.in-Some-Ok.head (c.loop-head.invariant.going stops) (rw c.in-Some-Ok.field-0-is at (c.in-Some-Ok.ensures.deals stops)) c.in-Ok-Some.head (rw c.in-Ok-Some.field-0-is at c.in-Ok-Some.ensures.filters) c.lets_go.new.self.inner c.lets_go.new.self.dropped_callback (settles_along stops (HoldsAhead stops g.I.Iterator.next_gives) g.F.StreamFilter.gives g.C.DroppedKvCallback.gets (rules_of c.args.self.now) (rules_of c.filtered.new.self) (rules_of c.args.self.now) c.in-Ok-Some.head c.filtered.new.self.inner c.next.new.self c.lets_go.new.self.inner c.filtered.new.self.dropped_callback c.lets_go.new.self.dropped_callback (Ok true) (c.filtered.ensures.rules ∙ c.loop-head.invariant.rules) c.filtered.ensures.source (rw c.in-Ok-true.field-0-test at (c.in-Ok-true.ensures.settles stops))));
-}
-
 pub loop-head-preserved : goal.loop-head-preserved
 loop-head-preserved g c = record {
   may = c.lets_go.ensures.may;
