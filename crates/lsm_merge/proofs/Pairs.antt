@@ -55,7 +55,7 @@ Strict (x ∷ xs) = AllByRecursion (Precedes x) xs × Strict xs
 nat_less : (a b : ℕ) → is_lt (nat_cmp a b) ≡ true → a < b
 nat_less a b h = grind (arith, rules)
 
-nat_is_less : (a b : ℕ) → a < b → is_lt (nat_cmp a b) ≡ true
+pub nat_is_less : (a b : ℕ) → a < b → is_lt (nat_cmp a b) ≡ true
 nat_is_less a b h = grind (arith, rules)
 
 pub precedes_of : (x y : Entry) → is_before x y ≡ true → Precedes x y
@@ -65,7 +65,7 @@ precedes_of x y h = elim (slice_cmp nat_cmp x.user_key y.user_key) as (λ o. sli
   | Greater ↦ λ e k. absurd cc
 ] refl h
 
-tied : (xs : List ℕ) → slice_cmp nat_cmp xs xs ≡ Equal
+pub tied : (xs : List ℕ) → slice_cmp nat_cmp xs xs ≡ Equal
 tied xs = search (comparing, rules)
 
 pub before_of : (x y : Entry) → Precedes x y → is_before x y ≡ true

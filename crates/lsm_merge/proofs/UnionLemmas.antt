@@ -33,7 +33,7 @@ ascends_inserted x (y ∷ ys) h =
       | false ↦ λ e. ((e, all_more (AtMost y) (AtMost x) (λ z le. at_most_chain x y z e le) ys h.0), h)
     ] refl
 
-ascends_in_order : (xs : List Entry) → Ascends (sort_entries xs)
+pub ascends_in_order : (xs : List Entry) → Ascends (sort_entries xs)
 ascends_in_order [] = tt
 ascends_in_order (x ∷ xs) = ascends_inserted x (sort_entries xs) (ascends_in_order xs)
 
@@ -94,7 +94,7 @@ entry_is a b h =
 
 -- ---- the only one
 
-then_less : (a b c : Ordering) → ordering_then a b ≡ Less → ordering_then a (ordering_then b c) ≡ Less
+pub then_less : (a b c : Ordering) → ordering_then a b ≡ Less → ordering_then a (ordering_then b c) ≡ Less
 then_less Less b c h = refl
 then_less Equal b c h = ap (λ (o : Ordering). ordering_then o c) h
 then_less Greater b c h = absurd cc

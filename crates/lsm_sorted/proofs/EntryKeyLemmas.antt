@@ -10,7 +10,7 @@ use Rattle.sst_entries.proofs.KeyLemmas.{KeyLe}
 use Rattle.sst_entries.proofs.OrderLemmas.{gt_first}
 use Rattle.lsm_merge.specs.Union.{AtMost}
 
-lt_reverse : (o : Ordering) → is_lt (ordering_reverse o) ≡ is_gt o
+pub lt_reverse : (o : Ordering) → is_lt (ordering_reverse o) ≡ is_gt o
 lt_reverse Less = refl
 lt_reverse Equal = refl
 lt_reverse Greater = refl

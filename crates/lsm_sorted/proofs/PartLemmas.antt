@@ -143,7 +143,7 @@ abbrev Down : List Entry → Type 0
 Down [] = Unit {0}
 Down (x ∷ xs) = AllByRecursion (NotAbove x) xs × Down xs
 
-no_less : (a b : List ℕ) → key_lt a b ≡ true → a ≡ b → ⊥
+pub no_less : (a b : List ℕ) → key_lt a b ≡ true → a ≡ b → ⊥
 no_less a b h e = apart (key_lt b b) (subst (λ (k : List ℕ). key_lt k b ≡ true) e h) (le_itself b)
 
 precedes_down : (x y : Entry) → Precedes x y → NotAbove x y
@@ -341,15 +341,15 @@ module _ (key : List ℕ) (bound : ℕ) where
         ]
       ]
 
-newer_distinct : (xs ys : List Entry) → AllNewer xs ys → Distinct xs ys
+pub newer_distinct : (xs ys : List Entry) → AllNewer xs ys → Distinct xs ys
 newer_distinct xs ys = all_more (λ x. AllByRecursion (λ y. x.user_key ≡ y.user_key → x.seqno < y.seqno) ys) (λ x. AllByRecursion (λ y. x.user_key ≡ y.user_key → x.seqno ≢ y.seqno) ys)
     (λ x all. all_more (λ y. x.user_key ≡ y.user_key → x.seqno < y.seqno) (λ y. x.user_key ≡ y.user_key → x.seqno ≢ y.seqno) (λ y h e n. let k = h e in absurd (omega arith)) ys all) xs
 
-kept_newer : (rules : Rules) (xs ys : List Entry) → AllNewer xs ys → AllNewer (kept rules (unfiltered xs)) ys
+pub kept_newer : (rules : Rules) (xs ys : List Entry) → AllNewer xs ys → AllNewer (kept rules (unfiltered xs)) ys
 kept_newer rules xs ys = all_kept rules (λ x. AllByRecursion (λ y. x.user_key ≡ y.user_key → x.seqno < y.seqno) ys)
     (λ x all. all_more (λ y. x.user_key ≡ y.user_key → x.seqno < y.seqno) (λ y. x.user_key ≡ y.user_key → (zeroed rules x).seqno < y.seqno) (λ y h e. let k = h e in let z = zeroed_below rules x in omega arith) ys all) xs
 
-kept_distinct : (rules : Rules) → rules.zeroing ≡ false → (xs ys : List Entry) → Distinct xs ys → Distinct (kept rules (unfiltered xs)) ys
+pub kept_distinct : (rules : Rules) → rules.zeroing ≡ false → (xs ys : List Entry) → Distinct xs ys → Distinct (kept rules (unfiltered xs)) ys
 kept_distinct rules zeroing xs ys = all_kept rules (λ x. AllByRecursion (λ y. x.user_key ≡ y.user_key → x.seqno ≢ y.seqno) ys)
     (λ x all. all_more (λ y. x.user_key ≡ y.user_key → x.seqno ≢ y.seqno) (λ y. x.user_key ≡ y.user_key → (zeroed rules x).seqno ≢ y.seqno)
     (λ y h e n. h e (sym (ap (λ (b : Bool). cond (b && nat_lt x.seqno rules.watermark) 0 x.seqno) zeroing) ∙ n)) ys all) xs

@@ -19,6 +19,7 @@ use Rattle.lsm_writers.specs.declared.writer.FinishedTable.{FinishedTable}
 use Rattle.lsm_writers.specs.Cut.{rest_chunk}
 use Rattle.lsm_writers.specs.Tables.{AddsTable, AreCuts, AreFinished, AreInKeyOrder, AreTables, GoesOn, all_written, apart, first_label, gained_all, label_before, list_in, lists_in, tables_of}
 use Rattle.lsm_writers.specs.Writing.{IsFinished, Writing, fresh_writing, gained, written}
+use Rattle.lsm_writers.proofs.Finishing.{nothing_behind}
 use Rattle.lsm_writers.proofs.Chunking.{joined_rest}
 use Rattle.lsm_writers.proofs.Cutting.{rest_is}
 use Rattle.lsm_writers.proofs.Orders.{last_of_cons, strict_back}
@@ -63,10 +64,6 @@ joined_all ts t = flat_map-append (λ (x : List Entry). x) ts (rest_chunk t) ∙
 some_length : (es : List Entry) → (es ≡ [] → ⊥) → 0 < length es
 some_length [] some = absurd (some refl)
 some_length (x ∷ es) some = omega arith
-
-nothing_behind : (xs ys : List Entry) → xs ++ ys ≡ [] → ys ≡ []
-nothing_behind [] ys h = h
-nothing_behind (x ∷ xs) ys h = absurd cc
 
 failed_by : (w : Writing) (e : Entry) (full : Bool) → is_full w.options.data_block_size (w.pending ++ e ∷ []) ≡ full → (gained w e).failed ≡ w.failed
 failed_by w e true h = rw h refl

@@ -87,26 +87,50 @@ fn loaded_from(
     told(source.load(&lies, kind, &mut Opened::none()))
 }
 
-// A block whose checksum was compared and whose grammar was tested loads as before, in its own kind alone.
+// Whether a block loads over and over, with the size of its payload, and in its own kind and with its own size alone.
+fn loads_again(
+    source: &BlockSource<Global>,
+    lies: BlockHandle,
+    kind: BlockType,
+    size: usize,
+) -> bool {
+    let other = match kind {
+        BlockType::Data => BlockType::Meta,
+        BlockType::Index | BlockType::Filter | BlockType::Meta => BlockType::Data,
+    };
+    let of_other_kind = Err(Error::InvalidTag(TagName::BlockType, kind.tag()));
+    let shorter = BlockHandle::new(lies.offset(), lies.size() - 1);
+    for _ in 0..3 {
+        if loaded_from(source, lies, kind) != Ok((kind, size))
+            || loaded_from(source, lies, other) != of_other_kind
+            || loaded_from(source, shorter, kind) != Err(Error::InvalidHeader)
+        {
+            return false;
+        }
+    }
+    true
+}
+
+// A block whose checksum was compared and whose grammar was tested loads as before, of a clone of the source too.
 #[test]
 fn a_block_loads_again(rt: HostRuntime) -> Result<(), Fail> {
     let alloc = rt.alloc();
     let source = BlockSource::new(alloc, changed(alloc, &[])?)?;
-    let kind = |tag| Err(Error::InvalidTag(TagName::BlockType, tag));
-    for _ in 0..3 {
-        for (offset, size, kind, expected) in [
-            (0, 45, BlockType::Data, Ok((BlockType::Data, 21))),
-            (0, 45, BlockType::Meta, kind(0)),
-            (45, 51, BlockType::Index, Ok((BlockType::Index, 27))),
-            (45, 51, BlockType::Data, kind(1)),
-            (97, 1041, BlockType::Meta, Ok((BlockType::Meta, 1017))),
-            (97, 1041, BlockType::Index, kind(3)),
-        ] {
-            assert!(rt;
-                loaded_from(&source, handle(offset, size), kind) == expected,
-                "{offset}"
-            );
-        }
+    let clone = source.clone()?;
+    for (offset, size, kind) in [
+        (0, 45, BlockType::Data),
+        (45, 51, BlockType::Index),
+        (97, 1041, BlockType::Meta),
+    ] {
+        let lies = handle(offset, size);
+        assert!(rt;
+            loads_again(&source, lies, kind, size as usize - 24),
+            "{offset}"
+        );
+        assert!(rt;
+            loads_again(&clone, lies, kind, size as usize - 24),
+            "{offset}"
+        );
     }
     Ok(())
 }

@@ -9,7 +9,7 @@ use std::alloc::{AllocError, Allocator, Global};
 /// How many bytes of a table share a word.
 pub(crate) const SPAN: u64 = 2048;
 
-// No table has a payload that starts here or behind.
+// A payload that starts here or behind is not marked: twice its place might not fit a word.
 const END: u64 = 1 << 62;
 
 // Each word is 0, or one more than twice the place of a payload that has its checksum, or two more where it is in its grammar.

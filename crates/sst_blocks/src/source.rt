@@ -30,7 +30,7 @@ const HEADER_LEN: usize = Header::LEN as usize;
 ///
 /// Of the payloads whose checksum was compared it remembers, together with its clones, the last that starts in each 2,048 bytes,
 /// where there is memory for it, and does not hash those again; where their grammar was tested too, no keys are compared again.
-/// No answer depends on it.
+/// Memory aside, no answer depends on it.
 #[derive(Drop)]
 pub struct BlockSource<A: Allocator = Global> {
     bytes: Slice<A>,
@@ -381,8 +381,8 @@ impl<A: Allocator + Clone> BlockSource<A> {
         u32_at(&head[8..]) as usize == end - start && u64_at(&head[16..]) == checksum
     }
 
-    /// Compares the checksums of the data block at a position and of up to three behind it, in one loop, where that of the first
-    /// is not remembered and there is memory to remember them. A block that ends in the 2,048 bytes in which it starts is the
+    /// Compares the checksums of the data block at a position and of up to three behind it, up to one that is remembered, where
+    /// that of the first is not and there is memory to remember them; those of four in one loop. A block that ends in the 2,048 bytes in which it starts is the
     /// last that is compared. Loading the blocks, one after another, answers what it would without.
     pub fn compare_ahead(&self, position: u64) {
         let Some(marks) = &self.marks else {
@@ -393,9 +393,9 @@ impl<A: Allocator + Clone> BlockSource<A> {
             Some(said) if !marks.has_sum(said.start as u64) => {}
             _ => return,
         }
-        let second = self.said_behind(first);
-        let third = self.said_behind(second);
-        let fourth = self.said_behind(third);
+        let second = self.said_behind(marks, first);
+        let third = self.said_behind(marks, second);
+        let fourth = self.said_behind(marks, third);
         let sums = hash_four(
             self.payload(first),
             self.payload(second),
@@ -437,7 +437,8 @@ impl<A: Allocator + Clone> BlockSource<A> {
         })
     }
 
-    fn said_behind(&self, before: Option<Said>) -> Option<Said>
+    /// The same of the block behind another, where its checksum is not remembered.
+    fn said_behind(&self, marks: &Marks<A>, before: Option<Said>) -> Option<Said>
         ensures { IfSome result (λ said. IsSaid self.now said.start said.end said.checksum) }
     {
         let before = before?;
@@ -445,7 +446,12 @@ impl<A: Allocator + Clone> BlockSource<A> {
         if before.start as u64 / SPAN == before.end as u64 / SPAN {
             return None;
         }
-        self.said_at(before.end as u64)
+        let said = self.said_at(before.end as u64)?;
+        // It keeps its mark, which may say more.
+        if marks.has_sum(said.start as u64) {
+            return None;
+        }
+        Some(said)
     }
 
     /// The payload of which that is said.

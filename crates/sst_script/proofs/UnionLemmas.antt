@@ -19,6 +19,7 @@ use Rattle.sst_entries.proofs.OrderLemmas.{before_trans, less_of, number_total, 
 use Rattle.lsm_merge.specs.Union.{all_entries, insert_sorted, item_cmp, sort_entries}
 use Rattle.lsm_merge.proofs.MergedLemmas.{Above, above_at_most, all_inserted, item_total}
 use Rattle.lsm_merge.proofs.Pairs.{AllBefore, pairs_of, strict_from}
+use Rattle.lsm_merge.proofs.UnionLemmas.{then_less}
 use Rattle.lsm_tables.proofs.Unions.{entries_of}
 use Rattle.lsm_writers.specs.Writing.{IsWritable}
 use Rattle.sst_script.specs.Runs.{Run, has_entry, repeats, union}
@@ -26,11 +27,6 @@ use Rattle.sst_script.specs.Runs.{Run, has_entry, repeats, union}
 -- two entries of different keys or numbers: one comes before the other
 abbrev Apart : Entry → Entry → Type 0
 Apart x y = (is_before x y ≡ true) ⊎ (is_before y x ≡ true)
-
-then_less : (a b c : Ordering) → ordering_then a b ≡ Less → ordering_then a (ordering_then b c) ≡ Less
-then_less Less b c h = refl
-then_less Equal b c h = ap (λ (o : Ordering). ordering_then o c) h
-then_less Greater b c h = absurd cc
 
 -- what comes behind an entry is above it
 behind_above : (x y : Entry) → is_before x y ≡ true → Above y x
