@@ -226,6 +226,7 @@ impl<A: Allocator> Bracket<A> {
 }
 
 // The winner of two slots. An empty slot loses, and of equal items the first wins.
+#[inline(always)]
 fn winner_of<T: Ord>(
     slots: &[Option<T>],
     end: Direction,
@@ -257,6 +258,7 @@ fn winner_of<T: Ord>(
 }
 
 // Whether y comes before x at this end. Each comparison of two items is made here, and counted.
+#[inline(always)]
 fn beats<T: Ord>(end: Direction, y: &T, x: &T, steps: &mut u64) -> bool
     ensures value { result ≡ is_gt (toward end T.cmp x.now y.now) }
     ensures counted { steps.new ≡ min (steps.old + 1) (2 ^ 64 - 1) }
