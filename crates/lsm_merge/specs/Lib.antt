@@ -6,3 +6,4 @@ pub mod MergeLaws
 pub use Rattle.lsm_heaps.specs.Bag
 pub use Rattle.lsm_heaps.specs.Tournament
 pub use Rattle.lsm_heaps.specs.IntervalHeap
+pub mod Words

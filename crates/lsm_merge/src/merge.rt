@@ -1,16 +1,13 @@
 //! Several sorted sources as one.
 ghost use Rattle.std.specs.Prelude.{◌≡◌, ℕ, ◌+◌, ◌*◌, ◌<◌, ◌≤◌, true, false, List, [], length, map, All, IfOk, IfErr, IfSome, IfNone};
 ghost use Rattle.std.specs.Iterator.{at_most, MakesProgress};
-ghost use Rattle.sst_entries.specs.Entry.{Entry};
-ghost use Rattle.sst_entries.specs.Stream.{Steps, nowhere, EndsAtError};
-ghost use Rattle.sst_entries.specs.Strict.{IsStrict};
 ghost use Rattle.sst_entries.specs.declared.stream.Direction.TheVariants.{Front, Back};
 ghost use Rattle.sst_entries.specs.declared.error.Error.TheVariants.{OutOfMemory};
-ghost use Rattle.lsm_merge.specs.Ends.{R, new_ends, Goes};
-ghost use Rattle.lsm_merge.specs.Union.{IsUnion, union_of};
-ghost use Rattle.lsm_merge.specs.Merge.{HoldsAtMost, Adds, SameRoom, HasPlaces, MayMerge, LowersTotal, merge_size, entry_of, is_ready, turn_cmp, turn_total};
-ghost use Rattle.lsm_merge.specs.Asks.{AsksSource, Fills, Calls, IsMergerOf, HoldsNone, Pops, made_ready};
-ghost use Rattle.lsm_merge.specs.MergeLaws.{DealsBeforeErrors, DealsMerged, DealsUntilError, MeetsErrorsLate, CanMerge};
+ghost use Rattle.lsm_merge.specs.Words.{Adds, AsksSource, Calls, CanMerge, DealsBeforeErrors, DealsMerged};
+ghost use Rattle.lsm_merge.specs.Words.{DealsUntilError, EndsAtError, Entry, Fills, Goes, HasPlaces};
+ghost use Rattle.lsm_merge.specs.Words.{HoldsAtMost, HoldsNone, IsMergerOf, IsStrict, IsUnion, LowersTotal};
+ghost use Rattle.lsm_merge.specs.Words.{MayMerge, MeetsErrorsLate, Pops, R, SameRoom, Steps, entry_of};
+ghost use Rattle.lsm_merge.specs.Words.{is_ready, made_ready, merge_size, new_ends, nowhere, turn_cmp, turn_total, union_of};
 ghost use Rattle.std.proofs.Common.{refl};
 ghost use Rattle.std.specs.Cmp.{partial_order_from_total, partial_equiv_from_equiv, eq_by_cmp_equiv};
 ghost use Rattle.std.specs.Ordering.{as_partial_cmp, eq_by_cmp};
