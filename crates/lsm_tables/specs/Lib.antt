@@ -8,4 +8,5 @@ pub mod Chain
 pub mod Packed
 pub mod Compacted
 pub mod ReadsCompacted
+pub mod PartReads
 pub mod Words
