@@ -30,3 +30,4 @@ pub mod OneList
 pub mod Compactable
 pub mod CompactedBack
 pub mod PartRuns
+pub mod Spanned

@@ -4,6 +4,7 @@ pub mod RunRange
 pub mod RunLists
 pub mod RunScan
 pub mod SeveralRuns
+pub mod SpansRead
 pub mod Chain
 pub mod Packed
 pub mod Compacted
