@@ -29,3 +29,5 @@ pub mod ShownRanges
 pub mod OneList
 pub mod Compactable
 pub mod CompactedBack
+pub mod PartRuns
+pub mod Spanned

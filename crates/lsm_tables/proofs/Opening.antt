@@ -62,11 +62,16 @@ module _ (label : Label) (es : List Entry) (g : ℕ) where
     pub unopened : (e : Error) → list_told t g true true ≡ Err e → opening_fault label es g ≡ Some e
     unopened e told = or_second (list_fault label es) (number_fault es g) e written (fault_by (ltb (2 ^ 64 - 1) (highest_seqno es + g)) (parts_said t true true) e told)
 
+parts_by : (large : Bool) (p q : Parts) → cond large (Err GlobalSeqNoTooLarge) (Ok p) ≡ Ok q → q ≡ p
+parts_by true p q told = absurd cc
+parts_by false p q told = cc
+
 -- what was opened
-pub opened : (label : Label) (es : List Entry) (g id sum : ℕ) (bytes : List ℕ) (t : OpenTable) → IsTableOf label es id sum bytes → t.bytes ≡ bytes → t.global_seqno ≡ g → t.tree_id ≡ 0 → t.checksum ≡ sum → IsOpened label es g t
-opened label es g id sum bytes t f same number tree check =
-    let P : List ℕ → Type 0 = λ b. (x : IsTable b es) × (x.label ≡ label) × (x.options ≡ default_options) × (x.version ≡ V4) × (x.spills ≡ []) in
-    let table : P t.bytes = subst P (sym same) (f.table, f.label_is, f.options_are, f.version_is, f.spills_are) in
+pub opened : (label : Label) (es : List Entry) (g id sum : ℕ) (bytes : List ℕ) (t : OpenTable) (f : IsTableOf label es id sum bytes) → t.bytes ≡ bytes → t.global_seqno ≡ g → t.tree_id ≡ 0 → t.checksum ≡ sum → list_told f.table g true true ≡ Ok t.parts → IsOpened label es g t
+opened label es g id sum bytes t f same number tree check told =
+    let P : List ℕ → Type 0 = λ b. (x : IsTable b es) × (x.label ≡ label) × (x.options ≡ default_options) × (x.version ≡ V4) × (x.spills ≡ []) × (t.parts ≡ parts_said x true true) in
+    let parts = parts_by (ltb (2 ^ 64 - 1) (highest_seqno es + g)) (parts_said f.table true true) t.parts told in
+    let table : P t.bytes = subst P (sym same) (f.table, f.label_is, f.options_are, f.version_is, f.spills_are, parts) in
     record {
       some = f.some;
       table = table.0;
@@ -74,6 +79,7 @@ opened label es g id sum bytes t f same number tree check =
       options_are = table.2;
       version_is = table.3;
       spills_are = table.4;
+      parts_are = table.5;
       number_is = number;
       tree_is = tree;
       checksum_is = check ∙ f.checksum_is ∙ subst (λ (b : List ℕ). fnv1a b ≡ fnv1a t.bytes) same refl;

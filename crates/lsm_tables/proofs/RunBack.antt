@@ -36,7 +36,7 @@ one_run : (ls : List (List Entry)) (es : List Entry) → joined ls ≡ es → As
 one_run ls es whole up =
     ap sort_entries (append-nil (entries_among (ok_results (joined ls))) ∙ entries_of (joined ls) ∙ whole) ∙ sorted_same es up
 
-abbrev read : Option Entry → Result (Option Entry) Error
+abbrev pub read : Option Entry → Result (Option Entry) Error
 read found = Ok found
 
 module _ (es : List Entry) (g : ℕ) (run : List OpenTable) (h : IsRunOfList es g run) where

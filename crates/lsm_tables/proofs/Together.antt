@@ -36,7 +36,7 @@ all_of {X} P each xs = All-from_recursion P xs (one_by_one xs)
     one_by_one [] = tt
     one_by_one (y ∷ ys) = (each y, one_by_one ys)
 
-zip_push : {A B : Type 0} (Q : A → B → Type 0) (xs : List A) (ys : List B) (x : A) (y : B) → AllZip Q xs ys → Q x y → AllZip Q (xs ++ x ∷ []) (ys ++ y ∷ [])
+pub zip_push : {A B : Type 0} (Q : A → B → Type 0) (xs : List A) (ys : List B) (x : A) (y : B) → AllZip Q xs ys → Q x y → AllZip Q (xs ++ x ∷ []) (ys ++ y ∷ [])
 zip_push Q [] [] x y all one = (one, tt)
 zip_push Q [] (z ∷ zs) x y all one = absurd all
 zip_push Q (z ∷ zs) [] x y all one = absurd all

@@ -1,6 +1,6 @@
 -- The words of the contracts of runs, those of the crates below among them, so that a file asks for them in one place.
 pub use Rattle.sst_entries.specs.Entry.{Entry}
-pub use Rattle.sst_entries.specs.Error.{Faults, Gives, is_memory}
+pub use Rattle.sst_entries.specs.Error.{Faults, FaultsFirst, Gives, is_memory}
 pub use Rattle.sst_entries.specs.Point.{point, within}
 pub use Rattle.sst_entries.specs.Stream.{CanDeal, back_of, first, front_of, nowhere}
 pub use Rattle.sst_blocks.specs.Opened.{none_opened}
@@ -21,6 +21,8 @@ pub use Rattle.lsm_tables.specs.RunParts.{ends_given, range_of, span_of}
 pub use Rattle.lsm_tables.specs.RunRange.{IsRunOf, ItemGives, OpensAtMost, RunGives, back_tables, front_tables, over, run_left, run_size, stopped}
 pub use Rattle.lsm_tables.specs.RunLists.{DealTogether, DealsList, HoldLists, RunsHoldLists}
 pub use Rattle.lsm_tables.specs.RunScan.{BeginsNext, BeginsScan, IsScanOf, RunScansNext, ScansItem, over_scan, run_scan_size, stopped_scan, tables_between, tables_scan}
+pub use Rattle.lsm_tables.specs.SpansRead.{IsOverSpans, spans_within}
 pub use Rattle.lsm_tables.specs.SeveralRuns.{LoadsEach, leading_of, loads_together, run_read, runs_read, runs_told, union_in}
-pub use Rattle.lsm_tables.specs.Chain.{AreCutOf, AreOpened, AreWritten, FitsAsTables, IsOpenedOf, IsRunOfList, chain_fault, ids_behind, run_label, tables_fault, writes_fault}
+pub use Rattle.lsm_tables.specs.Chain.{AreCutOf, AreOpened, AreWritten, FitsAsTables, IsOpenedOf, IsRunOfList, behind_fault, chain_fault, ids_behind, run_label, tables_fault, writes_fault}
 pub use Rattle.lsm_tables.specs.Compacted.{AreCompactable, AreWrittenBy, DealsWritable, FitsBy, HaveEntries, RunsOn, kept_in, rules_by}
+pub use Rattle.lsm_tables.specs.PartReads.{HoldSides, ReadsKept, ReadsOf, ShowAlike}

@@ -14,6 +14,7 @@ use Rattle.lsm_files.specs.Options.{default_options}
 use Rattle.lsm_files.specs.Table.{IsTable}
 use Rattle.lsm_writers.specs.Writing.{list_fault}
 use Rattle.lsm_readers.specs.Answer.{lift}
+use Rattle.lsm_readers.specs.OfList.{parts_said}
 use Rattle.lsm_readers.specs.Scan.{Scan, ScansNext}
 use Rattle.lsm_readers.specs.Table.{OpenTable}
 
@@ -27,7 +28,7 @@ abbrev pub opening_fault : Label → List Entry → ℕ → Option Error
 opening_fault label es g = option_or (list_fault label es) (number_fault es g)
 
 -- an opened table of a list, in the version that is written, of tree 0 and with the checksum of its
--- bytes; no block was spilled before it was full
+-- bytes; no block was spilled before it was full, and its filter and its index stay loaded
 pub record IsOpened (label : Label) (es : List Entry) (g : ℕ) (t : OpenTable) : Type 0 where
   pub some : es ≡ [] → ⊥
   pub table : IsTable t.bytes es
@@ -38,6 +39,7 @@ pub record IsOpened (label : Label) (es : List Entry) (g : ℕ) (t : OpenTable) 
   pub number_is : t.global_seqno ≡ g
   pub tree_is : t.tree_id ≡ 0
   pub checksum_is : t.checksum ≡ fnv1a t.bytes
+  pub parts_are : t.parts ≡ parts_said table true true
 
 -- what was read of a list: the first match of a key, and a scan of all, each number lifted
 pub record ReadsList (es : List Entry) (g : ℕ) (key : List ℕ) (bound : ℕ)

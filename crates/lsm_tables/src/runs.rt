@@ -1,14 +1,15 @@
 //! Reading several runs as one.
-ghost use Rattle.std.specs.Prelude.{◌≡◌, [], IfOk, IfErr, List, MatchOption, None, Ok, Option, map, length};
+ghost use Rattle.std.specs.Prelude.{◌≡◌, ℕ, [], IfErr, IfOk, IsOk, List, MatchOption, None, Ok, Option, Some, length, map};
 ghost use Rattle.std.specs.Arc.{arc_value};
-ghost use Rattle.std.specs.List.{AllByRecursion};
+ghost use Rattle.std.specs.List.{AllByRecursion, AllZip};
 ghost use Rattle.std.specs.Ordering.{is_lt};
 ghost use Rattle.sst_entries.specs.declared.error.Error.TheVariants.{OutOfMemory};
-ghost use Rattle.lsm_tables.specs.Words.{CanDeal, DealTogether, DealsList, DoesRead, Entry, Gives};
-ghost use Rattle.lsm_tables.specs.Words.{HoldLists, IsInOrder, LoadsEach, Opens, RunsHoldLists};
-ghost use Rattle.lsm_tables.specs.Words.{item_cmp, joined, leading_of, loads_together, newest};
-ghost use Rattle.lsm_tables.specs.Words.{none_opened, point, range_of, run_read, runs_read};
-ghost use Rattle.lsm_tables.specs.Words.{runs_told, union_in, within};
+ghost use Rattle.lsm_tables.specs.Words.{CanDeal, DealTogether, DealsList, DoesRead, Entry};
+ghost use Rattle.lsm_tables.specs.Words.{FaultsFirst, Gives, HoldLists, IsInOrder, IsOverSpans};
+ghost use Rattle.lsm_tables.specs.Words.{IsRunOf, LoadsEach, Opens, RunsHoldLists, item_cmp};
+ghost use Rattle.lsm_tables.specs.Words.{joined, leading_of, loads_together, newest, none_opened};
+ghost use Rattle.lsm_tables.specs.Words.{overlap_indexes, point, range_of, run_read, runs_read};
+ghost use Rattle.lsm_tables.specs.Words.{runs_told, span_of, spans_within, union_in, within};
 
 use crate::bounds::share;
 use crate::{RunReader, Table};
@@ -32,6 +33,11 @@ fn reader_of<A: Allocator + Clone>(
         IsInOrder range_of (arc_value run.now) × HoldLists (arc_value run.now) lists →
         let found = within range.now.0 range.now.1 (joined lists) in IfOk result (λ r.
         MatchOption r (found ≡ []) (λ reader. DealsList gives back_gives found reader)) }
+    // Of any tables in a run in order it is that of the span of those whose ranges reach past both bounds.
+    ensures span { let tables = arc_value run.now in IsInOrder range_of tables →
+        let found = overlap_indexes range.now.0 range.now.1 (map range_of tables) in
+        IfOk result (λ r. MatchOption r (found ≡ None) (λ reader. (ends : ℕ × ℕ) ×
+        (found ≡ Some ends) × IsRunOf tables (span_of ends range.now.0 range.now.1) reader)) }
     ensures err { IfErr result (λ e. e ≡ OutOfMemory) }
 {
     let bounds = (share(&range.0)?, share(&range.1)?);
@@ -50,6 +56,10 @@ fn readers_of<A: Allocator + Clone>(
         (lists : List (List (List Entry))) → RunsHoldLists (map arc_value runs.now) lists →
         let found = map (λ ls. within range.now.0 range.now.1 (joined ls)) lists in
         IfOk result (λ v. DealTogether gives back_gives v.items found) }
+    // Of any tables in runs in order they are those of the spans.
+    ensures spans { AllByRecursion (IsInOrder range_of) (map arc_value runs.now) →
+        IfOk result (λ v. AllZip (λ reader span. IsRunOf span.0 span.1 reader) v.items
+        (spans_within range.now.0 range.now.1 (map arc_value runs.now))) }
     ensures err { IfErr result (λ e. e ≡ OutOfMemory) }
 {
     let mut readers = Vec::new(alloc);
@@ -76,6 +86,13 @@ pub fn range_runs<A: Allocator + Clone>(
         (lists : List (List (List Entry))) → RunsHoldLists (map arc_value runs.now) lists →
         let found = newest (within range.0 range.1 (union_in lists)) in
         IfOk result (λ s. DealsList gives back_gives found s) }
+    // Of any tables in runs in order it is over the readers of the spans within the bounds: where one of them is refused, want of
+    // memory too, that error stands in its place, and what is dealt goes on by the stream's steps.
+    ensures steps { let gives = ⟦<MvccStream<Merger<RunReader<A>, A>> as Iterator>⟧.next_gives in
+        let back_gives =
+        ⟦<MvccStream<Merger<RunReader<A>, A>> as DoubleEndedIterator>⟧.next_back_gives in
+        AllByRecursion (IsInOrder range_of) (map arc_value runs.now) → IfOk result
+        (IsOverSpans gives back_gives range.0 range.1 (map arc_value runs.now)) }
     // Whatever the tables' bytes are, both ends may be asked however often.
     ensures can { IfOk result (λ s.
         CanDeal ⟦<MvccStream<Merger<RunReader<A>, A>> as Iterator>⟧.next_gives
@@ -164,6 +181,12 @@ pub fn get_runs_counted<A: Allocator + Clone>(
     ensures opened { AllByRecursion (IsInOrder range_of) (map arc_value runs.now) →
         let read = runs_read key.now seqno None (map arc_value runs.now) in
         Opens result.0 read.loads none_opened result.1 }
+    // A fault that is found before memory is taken, of the first block that is loaded, comes before any want of memory,
+    ensures early { AllByRecursion (IsInOrder range_of) (map arc_value runs.now) →
+        FaultsFirst result.0 (runs_read key.now seqno None (map arc_value runs.now)).early }
+    // and where no block is loaded, as where there are no runs, nothing is refused.
+    ensures calm { AllByRecursion (IsInOrder range_of) (map arc_value runs.now) →
+        (runs_read key.now seqno None (map arc_value runs.now)).loads ≡ [] → IsOk result.0 }
     // Whatever the runs and the tables' bytes, also where it is refused: at most one data block, one index block and one filter
     // block a run.
     ensures few { LoadsEach (length runs.now) result.1 }
@@ -196,6 +219,12 @@ pub fn get_runs<A: Allocator + Clone>(
     ensures list { (lists : List (List (List Entry))) →
         RunsHoldLists (map arc_value runs.now) lists →
         Gives (λ (x : Option Entry). x) result (Ok (point (union_in lists) key.now seqno)) }
+    // A fault that is found before memory is taken, of the first block that is loaded, comes before any want of memory,
+    ensures early { AllByRecursion (IsInOrder range_of) (map arc_value runs.now) →
+        FaultsFirst result (runs_read key.now seqno None (map arc_value runs.now)).early }
+    // and where no block is loaded, as where there are no runs, nothing is refused.
+    ensures calm { AllByRecursion (IsInOrder range_of) (map arc_value runs.now) →
+        (runs_read key.now seqno None (map arc_value runs.now)).loads ≡ [] → IsOk result }
 {
     get_runs_counted(runs, key, seqno).0
 }

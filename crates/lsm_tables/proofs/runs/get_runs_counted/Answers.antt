@@ -46,6 +46,26 @@ returns-in-Err-clause-list g c lists held =
     subst (λ (told : Result (Option Entry) Error). Gives (λ (x : Option Entry). x) (refused_by c.in-Err.error) told) (runs_point c.args.key.now c.args.seqno None runs lists held)
     (returns-in-Err-clause-told g c (runs_in_order runs lists held))
 
+pub returns-in-Err-clause-early : goal.returns-in-Err-clause-early
+returns-in-Err-clause-early g c order =
+    let runs = c.args.runs.now in
+    let i = c.loop-run.run-index in
+    let before = c.loop-run.invariant in
+    let told = c.get_run_counted-told in
+    let own = all_at arc_value (IsInOrder range_of) runs i c.run-item.result order c.loop-run-test.true c.run-item.is in
+    let here = rw c.in-Err.is at (rw c.deref.ensures at (told.ensures.read (rw c.deref.ensures own))) in
+    (reads_fault arc_value c.args.key.now c.args.seqno runs i c.run-item.result c.loop-run-test.true c.run-item.is c.loop-run.found c.loop-run.opened told.result.1 before.small (before.reads order) c.in-Err.error here).early
+
+pub returns-in-Err-clause-calm : goal.returns-in-Err-clause-calm
+returns-in-Err-clause-calm g c order none =
+    let runs = c.args.runs.now in
+    let i = c.loop-run.run-index in
+    let before = c.loop-run.invariant in
+    let told = c.get_run_counted-told in
+    let own = all_at arc_value (IsInOrder range_of) runs i c.run-item.result order c.loop-run-test.true c.run-item.is in
+    let here = rw c.in-Err.is at (rw c.deref.ensures at (told.ensures.read (rw c.deref.ensures own))) in
+    (reads_fault arc_value c.args.key.now c.args.seqno runs i c.run-item.result c.loop-run-test.true c.run-item.is c.loop-run.found c.loop-run.opened told.result.1 before.small (before.reads order) c.in-Err.error here).calm none
+
 pub returns-in-Err-clause-opened : goal.returns-in-Err-clause-opened
 returns-in-Err-clause-opened g c order =
     let runs = c.args.runs.now in
@@ -78,3 +98,6 @@ returns-clause-opened g c order = (reads_all arc_value c.args.key.now c.args.seq
 
 pub returns-clause-few : goal.returns-clause-few
 returns-clause-few g c = all_each c.loop-run.run-index (length c.args.runs.now) c.loop-run.opened c.loop-run.invariant.few
+
+pub returns-clause-early : goal.returns-clause-early
+returns-clause-early g c order = (reads_all arc_value c.args.key.now c.args.seqno c.args.runs.now c.loop-run.run-index c.loop-run.found c.loop-run.opened (c.loop-run.invariant.reads order) c.loop-run-test.false).early

@@ -16,3 +16,14 @@ returns-clause-can g c =
     (c.newest_from_both_ends.ensures.can readers c.in_ok-stream.ensures.starts).asks
     (all_of _ (λ s. (run_deals s).can) readers)
     (all_of _ (λ s. tt) readers)
+
+pub returns-clause-steps : goal.returns-clause-steps
+returns-clause-steps g c order =
+    let readers = c.in_ok-readers.readers.items in
+    record {
+      readers = readers;
+      spans = c.in_ok-readers.ensures.spans order;
+      deal = all_of _ (λ s. run_deals s) readers;
+      of = c.in_ok-stream.ensures.starts;
+      answers = c.newest_from_both_ends.ensures.past readers c.in_ok-stream.ensures.starts;
+    }

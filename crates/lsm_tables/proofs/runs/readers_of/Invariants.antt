@@ -5,10 +5,14 @@ use Rattle.sst_entries.specs.Entry.{Entry}
 use Rattle.sst_entries.specs.Stream.{back_of, front_of}
 use Rattle.lsm_tables.specs.RunLists.{RunsHoldLists}
 use Rattle.lsm_tables.specs.RunRange.{RunGives, back_tables, front_tables}
+use Rattle.lsm_tables.proofs.Spanned.{SpannedSoFar}
 use Rattle.lsm_tables.proofs.Together.{ReadSoFar}
 use Rattle.lsm_tables.proofs.runs.readers_of.Given as goal
 
 abbrev pub invariant-loop-run : goal.invariant-loop-run
-invariant-loop-run g l =
-    (lists : List (List (List Entry))) (held : RunsHoldLists (map arc_value l.runs) lists) →
-    ReadSoFar (RunGives front_of front_tables) (RunGives back_of back_tables) arc_value l.range.0 l.range.1 l.runs l.run-index lists held l.readers.items l.run-index
+invariant-loop-run g l = record {
+  list :
+      (lists : List (List (List Entry))) (held : RunsHoldLists (map arc_value l.runs) lists) →
+      ReadSoFar (RunGives front_of front_tables) (RunGives back_of back_tables) arc_value l.range.0 l.range.1 l.runs l.run-index lists held l.readers.items l.run-index;
+  spans : SpannedSoFar arc_value l.range.0 l.range.1 l.runs l.readers.items l.run-index;
+}

@@ -32,3 +32,4 @@ returns-in_ok-opened-in-Some-clause-table g c =
     let f = rw c.in-Some.is at c.in_ok-write_list.ensures.table in
     let o = c.in_ok-opened-in-Some.ensures in
     opened (label_of c.args.id 0 c.args.created_at) c.args.items.items c.args.global_seqno t.id t.checksum.0 t.bytes c.in_ok-opened-in-Some.opened f o.bytes o.number o.tree o.checksum
+    (o.list c.args.items.items f.table (ap (λ (x : Options). x.index_block_restart_interval) f.options_are))
