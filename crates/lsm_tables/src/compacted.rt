@@ -207,8 +207,8 @@ fn read_alone<A: Allocator + Clone>(
 
 /// What a point read and a range give of a list that was written as a run, compacted, and whose new tables were opened;
 /// `None` where nothing is kept. The contracts of writing, compacting, opening and reading runs alone say that it is what the
-/// compaction keeps of the list. Refused as [`write_run`] and [`compact_runs`], with tables of the first level under ids from 1
-/// that run on.
+/// compaction keeps of the list. The tables are of the first level, under ids from 1 on. Where those of the list fit, and
+/// behind them those of what is kept, it is refused [`Error::OutOfMemory`] alone; the contract names no other refusals.
 pub fn compact_run_back<A: Allocator + Clone>(
     alloc: A,
     items: Vec<InternalValue<A>, A>,
