@@ -57,6 +57,11 @@ pub compactable_again : (label : Label) (target : ℕ) (es : List Entry) (r : Op
 compactable_again label target es None writable is cut = tt
 compactable_again label target es (Some run) writable is cut = written_run_is_compactable label target es run writable is cut
 
+-- so it is of any global number, where the lifted list can be written
+pub put_compactable : (label : Label) (target : ℕ) (es : List Entry) (g : ℕ) (r : Option (List OpenTable)) → IsWritable (lift es g) → MatchOption r (es ≡ []) (λ run. IsRunOfList es g run) → IfSome r (λ run. AreCutOf label target es g run) → IfSome r (λ run. AreCompactable (run ∷ []))
+put_compactable label target es g None writable is cut = tt
+put_compactable label target es g (Some run) writable is cut = run_compactable label target es g run is cut writable
+
 -- ---- what a writer that had written nothing has written
 
 -- tables that a new writer has made of a list are tables of the list, and the counter stands behind them

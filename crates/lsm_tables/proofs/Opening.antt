@@ -31,15 +31,15 @@ fault_by : (large : Bool) (p : Parts) (e : Error) → cond large (Err GlobalSeqN
 fault_by true p e told = cc
 fault_by false p e told = absurd cc
 
-or_fine : (a b : Option Error) → a ≡ None → b ≡ None → option_or a b ≡ None
+pub or_fine : (a b : Option Error) → a ≡ None → b ≡ None → option_or a b ≡ None
 or_fine None b p q = q
 or_fine (Some e) b p q = p
 
-or_second : (a b : Option Error) (e : Error) → a ≡ None → b ≡ Some e → option_or a b ≡ Some e
+pub or_second : (a b : Option Error) (e : Error) → a ≡ None → b ≡ Some e → option_or a b ≡ Some e
 or_second None b e p q = q
 or_second (Some d) b e p q = absurd cc
 
-or_first : (a b : Option Error) (e : Error) → a ≡ Some e → option_or a b ≡ Some e
+pub or_first : (a b : Option Error) (e : Error) → a ≡ Some e → option_or a b ≡ Some e
 or_first None b e p = absurd cc
 or_first (Some d) b e p = p
 

@@ -1,5 +1,5 @@
 -- A list that is written as tables, which are opened and put in a run.
-use Rattle.std.specs.Prelude.{◌≡◌, ℕ, zero, suc, ◌+◌, ◌^◌, ◌≤◌, List, [], ◌∷◌, length, Option, Some, None, unwrap_or}
+use Rattle.std.specs.Prelude.{◌≡◌, ℕ, zero, suc, ◌+◌, ◌^◌, ◌≤◌, List, [], ◌∷◌, length, Option, Some, unwrap_or}
 use Rattle.std.specs.List.{AllByRecursion}
 use Rattle.std.specs.Option.{option_or}
 use Rattle.sst_entries.specs.declared.error.Error.{Error}
@@ -82,12 +82,6 @@ writes_fault m (e ∷ es) = option_or (took_fault m e) (writes_fault (took m e) 
 abbrev pub tables_fault : Option ℕ → ℕ → ℕ → List Entry → Option Error
 tables_fault ids target moment es =
     option_or (ids_fault ids) (writes_fault (new_tables ids target 0 moment) es)
-
--- what compacting a run of so many tables refuses, with ids behind it, of the entries that are kept; nothing, where there is none
-abbrev pub behind_fault : ℕ → List (List Entry) → List Entry → Option Error
-behind_fault target [] left = None
-behind_fault target (t ∷ ts) left =
-    tables_fault (ids_behind (Some 1) target (length (t ∷ ts))) target 0 left
 
 -- what writing a list as a run refuses: that, or else that a number is too large once it is lifted
 abbrev pub chain_fault : Option ℕ → ℕ → ℕ → List Entry → ℕ → Option Error

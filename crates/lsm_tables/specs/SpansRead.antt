@@ -26,9 +26,10 @@ abbrev pub spans_within : Bound (List ℕ) → Bound (List ℕ) → List (List O
 spans_within low high runs =
     flat_map (λ tables. span_at tables low high (overlap_indexes low high (ranges_of tables))) runs
 
--- before any call, a stream of newest versions over one reader of each of these spans. What a reader deals, up to its first error,
--- is what its tables tell, and behind an error, want of memory too, it deals nothing. For every list of ends the stream's answers
--- are those of its steps on all entries, or on what is left of them where an error that was met takes the place of a stretch
+-- before any call, a stream of newest versions over one reader of each of these spans. What a reader deals, up to its first
+-- error, is what its tables tell, and behind an error, want of memory too, it deals nothing. For every list of ends the
+-- stream's answers are those of its steps on all entries, or on what is left of them where an error that was met takes the
+-- place of a stretch
 pub record IsOverSpans {A : Type 0}
     (next next_back : MvccStream (Merger (RunRange A) A) (Result Entry Error)
     → Option (Result Entry Error)
@@ -38,7 +39,8 @@ pub record IsOverSpans {A : Type 0}
   pub readers : List (RunRange A)
   pub spans : AllZip (λ reader run. IsRunOf run.0 run.1 reader) readers (spans_within low high runs)
   pub deal : All (λ reader. DealsEnding (RunGives front_of front_tables)
-      (RunGives back_of back_tables) (λ _. Unit {0}) (λ _. Unit {0}) reader (run_left reader)) readers
+      (RunGives back_of back_tables) (λ _. Unit {0}) (λ _. Unit {0}) reader
+      (run_left reader)) readers
   pub of : IsNewestOf readers s
   pub answers : AnswersNewest (RunGives front_of front_tables) (RunGives back_of back_tables)
       readers next next_back s

@@ -23,6 +23,6 @@ pub use Rattle.lsm_tables.specs.RunLists.{DealTogether, DealsList, HoldLists, Ru
 pub use Rattle.lsm_tables.specs.RunScan.{BeginsNext, BeginsScan, IsScanOf, RunScansNext, ScansItem, over_scan, run_scan_size, stopped_scan, tables_between, tables_scan}
 pub use Rattle.lsm_tables.specs.SpansRead.{IsOverSpans, spans_within}
 pub use Rattle.lsm_tables.specs.SeveralRuns.{LoadsEach, leading_of, loads_together, run_read, runs_read, runs_told, union_in}
-pub use Rattle.lsm_tables.specs.Chain.{AreCutOf, AreOpened, AreWritten, FitsAsTables, IsOpenedOf, IsRunOfList, behind_fault, chain_fault, ids_behind, run_label, tables_fault, writes_fault}
+pub use Rattle.lsm_tables.specs.Chain.{AreCutOf, AreOpened, AreWritten, FitsAsTables, IsOpenedOf, IsRunOfList, chain_fault, ids_behind, run_label, tables_fault, writes_fault}
 pub use Rattle.lsm_tables.specs.Compacted.{AreCompactable, AreWrittenBy, DealsWritable, FitsBy, HaveEntries, RunsOn, kept_in, rules_by}
 pub use Rattle.lsm_tables.specs.PartReads.{HoldSides, ReadsKept, ReadsOf, ShowAlike}

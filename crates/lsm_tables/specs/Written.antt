@@ -13,9 +13,12 @@ use Rattle.lsm_files.specs.declared.label.Label.{Label}
 use Rattle.lsm_files.specs.Options.{default_options}
 use Rattle.lsm_files.specs.Table.{IsTable}
 use Rattle.lsm_writers.specs.Writing.{list_fault}
-use Rattle.lsm_readers.specs.Answer.{lift}
+use Rattle.sst_blocks.specs.Block.{load_at_told}
+use Rattle.sst_blocks.specs.declared.block_type.BlockType.TheVariants.{Data}
+use Rattle.sst_sections.specs.Sections.{body_of}
+use Rattle.lsm_readers.specs.Answer.{lift, table_answer}
 use Rattle.lsm_readers.specs.OfList.{parts_said}
-use Rattle.lsm_readers.specs.Scan.{Scan, ScansNext}
+use Rattle.lsm_readers.specs.Scan.{Scan, ScansNext, fault_of}
 use Rattle.lsm_readers.specs.Table.{OpenTable}
 
 -- the highest number passes u64 with the global number added
@@ -40,6 +43,12 @@ pub record IsOpened (label : Label) (es : List Entry) (g : ℕ) (t : OpenTable) 
   pub tree_is : t.tree_id ≡ 0
   pub checksum_is : t.checksum ≡ fnv1a t.bytes
   pub parts_are : t.parts ≡ parts_said table true true
+
+-- what a point read of a table, and a scan behind it, refuse
+abbrev pub reads_fault : OpenTable → List ℕ → ℕ → Option Error
+reads_fault t key bound =
+    option_or (fault_of (table_answer t key bound).told)
+    (fault_of (load_at_told (body_of t.bytes) 0 Data))
 
 -- what was read of a list: the first match of a key, and a scan of all, each number lifted
 pub record ReadsList (es : List Entry) (g : ℕ) (key : List ℕ) (bound : ℕ)

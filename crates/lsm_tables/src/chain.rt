@@ -1,11 +1,12 @@
 //! A list that is written as tables, which are opened and put in a run.
-ghost use Rattle.std.specs.Prelude.{◌≡◌, ◌+◌, ◌^◌, ◌<◌, [], length, List, Some, IfErr, IfOk, IfSome, MatchOption};
+ghost use Rattle.std.specs.Prelude.{◌≡◌, ◌∷◌, ◌+◌, ◌^◌, ◌<◌, [], length, List, Some, IfErr, IfOk, IfSome, MatchOption};
 ghost use Rattle.std.specs.List.{AllByRecursion};
 ghost use Rattle.std.specs.Option.{option_map_or};
 ghost use Rattle.sst_entries.specs.declared.error.Error.TheVariants.{OutOfMemory};
 ghost use Rattle.lsm_files.specs.declared.label.Label.{Label};
-ghost use Rattle.lsm_tables.specs.Words.{AreCutOf, AreFinished, AreOpened, AreWritten, CanDeal};
-ghost use Rattle.lsm_tables.specs.Words.{DealsList, Entry, Faults, FitsAsTables, IsOpenedOf};
+ghost use Rattle.lsm_tables.specs.Words.{AreCompactable, AreCutOf, AreFinished, AreOpened};
+ghost use Rattle.lsm_tables.specs.Words.{AreWritten, CanDeal, DealsList, Entry, Faults};
+ghost use Rattle.lsm_tables.specs.Words.{FitsAsTables, IsOpenedOf};
 ghost use Rattle.lsm_tables.specs.Words.{IsRunOfList, IsTableOf, IsWritable, chain_fault};
 ghost use Rattle.lsm_tables.specs.Words.{default_options, highest_seqno, ids_behind, joined, lift};
 ghost use Rattle.lsm_tables.specs.Words.{newest, number_fault, point, run_label, tables_fault};
@@ -113,6 +114,9 @@ pub fn write_run<A: Allocator + Clone>(
         AreCutOf (run_label ids target_size created_at) target_size items.items global_seqno run)) }
     ensures ids { IfOk result (λ r.
         r.1 ≡ ids_behind ids target_size (option_map_or length r.0 0)) }
+    // Where the lifted list can be written, as where its numbers stay below the largest one, the run may be compacted.
+    ensures able { IsWritable (lift items.items global_seqno) →
+        IfOk result (λ r. IfSome r.0 (λ run. AreCompactable (run ∷ []))) }
     // Memory aside, the refusal is the first: of the counter, of the entries in order, of the last table, of the numbers.
     ensures refused { Faults result
         (chain_fault ids target_size created_at items.items global_seqno) }
@@ -127,7 +131,8 @@ pub fn write_run<A: Allocator + Clone>(
 }
 
 /// What a point read and a range of a list give once it was written as a run and opened; `None` where the list has no entry.
-/// The contracts of writing, opening and reading runs alone say that it is the list. Refused as [`write_run`].
+/// The contracts of writing, opening and reading runs alone say that it is the list. Refused as [`write_run`] with
+/// ids from 1 on.
 pub fn read_run_back<A: Allocator + Clone>(
     alloc: A,
     items: Vec<InternalValue<A>, A>,
@@ -160,6 +165,9 @@ pub fn read_run_back<A: Allocator + Clone>(
         ⟦<MvccStream<Merger<RunReader<A>, A>> as DoubleEndedIterator>⟧.next_back_gives
         ⟦<MvccStream<Merger<RunReader<A>, A>> as Iterator>⟧.can_next
         ⟦<MvccStream<Merger<RunReader<A>, A>> as DoubleEndedIterator>⟧.can_next_back read.1)) }
+    // Memory aside, the refusal is that of writing and opening the list: reading refuses nothing.
+    ensures refused { Faults result
+        (chain_fault (Some 1) target_size 0 items.items global_seqno) }
     ensures taken { FitsAsTables (Some 1) target_size items.items →
         highest_seqno items.items + global_seqno < 2 ^ 64 →
         IfErr result (λ e. e ≡ OutOfMemory) }

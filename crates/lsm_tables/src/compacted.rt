@@ -74,6 +74,10 @@ pub fn compact_to_run<A: Allocator + Clone>(
         r.1 ≡ ids_behind ids target_size (option_map_or length r.0 0)) }
     // The run may be compacted again.
     ensures able { IfOk result (λ r. IfSome r.0 (λ run. AreCompactable (run ∷ []))) }
+    // What is kept can be written again: no key is there twice under one number, each number is below the largest one.
+    ensures writable { let rules = rules_by gc_seqno_threshold evict_tombstones zero_seqnos in
+        (lists : List (List (List Entry))) → RunsHoldLists (map arc_value runs.now) lists →
+        IfOk result (λ _. IsWritable (kept_in rules lists)) }
     // Memory aside, the refusal is the first: of the counter, of the entries that are kept in order, of the last table.
     ensures refused { let rules = rules_by gc_seqno_threshold evict_tombstones zero_seqnos in
         (lists : List (List (List Entry))) → RunsHoldLists (map arc_value runs.now) lists →
@@ -203,8 +207,8 @@ fn read_alone<A: Allocator + Clone>(
 
 /// What a point read and a range give of a list that was written as a run, compacted, and whose new tables were opened;
 /// `None` where nothing is kept. The contracts of writing, compacting, opening and reading runs alone say that it is what the
-/// compaction keeps of the list. Refused as [`write_run`] and [`compact_runs`], with tables of the first level under ids from 1
-/// that run on.
+/// compaction keeps of the list. The tables are of the first level, under ids from 1 on. Where those of the list fit, and
+/// behind them those of what is kept, it is refused [`Error::OutOfMemory`] alone; the contract names no other refusals.
 pub fn compact_run_back<A: Allocator + Clone>(
     alloc: A,
     items: Vec<InternalValue<A>, A>,

@@ -2,7 +2,8 @@
 ghost use Rattle.std.specs.Prelude.{◌≡◌, [], IfErr, IfOk, List};
 ghost use Rattle.sst_entries.specs.declared.error.Error.TheVariants.{OutOfMemory};
 ghost use Rattle.lsm_readers.specs.Words.{DealsAll, DealsWithin, Entry, IsTable};
-ghost use Rattle.lsm_tables.specs.Written.{ReadsList};
+ghost use Rattle.sst_entries.specs.Error.{Faults};
+ghost use Rattle.lsm_tables.specs.Written.{ReadsList, reads_fault};
 
 use crate::{Iter, Scanner, Table};
 use lsm_iters::beside;
@@ -43,6 +44,7 @@ fn read_and_scan<A: Allocator + Clone>(
 ) -> Result<PointAndScan<A>, Error>
     ensures list { (es : List Entry) → IsTable table.now.bytes es → IfOk result (λ read.
         ReadsList es table.now.global_seqno key.now seqno read.0 read.1) }
+    ensures refused { Faults result (reads_fault table.now key.now seqno) }
     ensures err { (es : List Entry) → IsTable table.now.bytes es → (es ≡ [] → ⊥) →
         IfErr result (λ e. e ≡ OutOfMemory) }
 {
@@ -56,7 +58,7 @@ fn read_and_scan<A: Allocator + Clone>(
 /// Of a table of a list these are the list's, its numbers lifted by the global number, and nothing else of the table has a say
 /// in it: whichever index and filter it was written with, in one block or in partitions, whichever of their blocks stay loaded,
 /// of whichever sizes its blocks are and in whichever version it is stored. So two tables of one list answer alike. Where the
-/// list has an entry it is refused [`Error::OutOfMemory`] alone; other tables as these reads are.
+/// list has an entry it is refused [`Error::OutOfMemory`] alone; other tables as [`Table::get`], or else [`Table::scan`], is.
 pub fn read_each_way<A: Allocator + Clone>(
     table: &Table<A>,
     key: &[u8],
@@ -71,6 +73,8 @@ pub fn read_each_way<A: Allocator + Clone>(
         ReadsList es g key.now seqno read.0.0 read.0.1
         × DealsWithin gives back_gives lower upper es g read.1.0
         × DealsAll gives back_gives es g read.1.1) }
+    // Whatever the table's bytes are, the refusal is that of the point read, or else of the scan, memory aside.
+    ensures refused { Faults result (reads_fault table.now key.now seqno) }
     // Where the list has an entry, it is refused for want of memory alone.
     ensures err { (es : List Entry) → IsTable table.now.bytes es → (es ≡ [] → ⊥) →
         IfErr result (λ e. e ≡ OutOfMemory) }

@@ -221,14 +221,14 @@ fn read_compacted<A: Allocator + Clone>(
     read_side_by_side(alloc, front, &made, behind, key, seqno, range)
 }
 
-/// What a point read and a range of several runs give before and after a part of them is compacted, by [`compact_to_run`], and
-/// its run put in the part's place. The contracts of reading and compacting runs, and [`compaction_law`], alone say that readers
-/// see the same: where nothing is evicted or zeroed and the part has no weak tombstone, or of each key all others are newer than
-/// the part, and the point read's bound is the watermark or above.
+/// What a point read and a range of several runs give before and after a part of them is compacted, by [`compact_to_run`],
+/// and its run put in the part's place. The contracts of reading and compacting runs, and [`compaction_law`], alone say that
+/// readers see the same: where nothing is evicted or zeroed and the part has no weak tombstone, or of each key all others are
+/// newer than the part, and the point read's bound is the watermark or above.
 ///
-/// Refused as [`compact_to_run`]. Whatever is answered, the given runs are as they were. Conditions: those of [`compact_to_run`]
-/// on the part. That the other runs are in order, that their tables hold lists, and that no key of all lists together has one
-/// number twice, are premises of the clauses alone.
+/// Refused as [`compact_to_run`]. Whatever is answered, the given runs are as they were. Conditions: those of
+/// [`compact_to_run`] on the part. That the other runs are in order, that their tables hold lists, and that no key of all
+/// lists together has one number twice, are premises of the clauses alone.
 pub fn compact_part_back<A: Allocator + Clone>(
     alloc: A,
     front: &[Arc<Run<Table<A>, A>, A>],

@@ -86,8 +86,8 @@ pub fn range_runs<A: Allocator + Clone>(
         (lists : List (List (List Entry))) → RunsHoldLists (map arc_value runs.now) lists →
         let found = newest (within range.0 range.1 (union_in lists)) in
         IfOk result (λ s. DealsList gives back_gives found s) }
-    // Of any tables in runs in order it is over the readers of the spans within the bounds: where one of them is refused, want of
-    // memory too, that error stands in its place, and what is dealt goes on by the stream's steps.
+    // Of any tables in runs in order it is over the readers of the spans within the bounds: where one of them is refused,
+    // want of memory too, that error stands in its place, and what is dealt goes on by the stream's steps.
     ensures steps { let gives = ⟦<MvccStream<Merger<RunReader<A>, A>> as Iterator>⟧.next_gives in
         let back_gives =
         ⟦<MvccStream<Merger<RunReader<A>, A>> as DoubleEndedIterator>⟧.next_back_gives in

@@ -6,6 +6,7 @@ use Rattle.sst_entries.specs.Entry.{Entry}
 use Rattle.sst_entries.proofs.Refusals.{faults_refusal}
 use Rattle.lsm_tables.specs.Chain.{chain_fault, run_label}
 use Rattle.lsm_tables.specs.Written.{number_fault}
+use Rattle.lsm_tables.proofs.CompactedBack.{put_compactable}
 use Rattle.lsm_tables.proofs.RunWriting.{all_fit, cut_put, ids_put, run_put, wants}
 use Rattle.lsm_tables.proofs.chain.write_run.Goals as goal
 
@@ -61,3 +62,8 @@ returns-clause-refused g c =
     let label = run_label a.ids a.target_size a.created_at in
     ap (λ (x : Option Error). option_or x (number_fault a.items.items a.global_seqno)) c.in_ok-tables.ensures.refused
     ∙ ap (λ (xs : List Entry). number_fault xs a.global_seqno) (sym w.cut.whole) ∙ c.in_ok-opened.ensures.refused label w.lists w.finished
+
+pub returns-clause-able : goal.returns-clause-able
+returns-clause-able g c writable =
+    let a = c.args in
+    put_compactable (run_label a.ids a.target_size a.created_at) a.target_size a.items.items a.global_seqno c.new.result writable (returns-clause-run g c) (returns-clause-cut g c)

@@ -1,5 +1,9 @@
-use Rattle.std.proofs.Common.{◌≡◌, ◌∙◌, ap, sym, true, false}
-use Rattle.std.specs.Prelude.{Option}
+use Rattle.std.proofs.Common.{◌≡◌, ◌∙◌, ap, subst, sym, true, false, List}
+use Rattle.std.specs.Prelude.{Option, map}
+use Rattle.std.specs.Arc.{arc_value}
+use Rattle.sst_entries.specs.Entry.{Entry}
+use Rattle.lsm_writers.specs.Writing.{IsWritable}
+use Rattle.lsm_tables.proofs.OneList.{one_way}
 use Rattle.std.specs.Option.{option_or}
 use Rattle.sst_entries.specs.declared.error.Error.{Error}
 use Rattle.sst_entries.specs.Error.{is_memory}
@@ -101,3 +105,10 @@ returns-clause-refused g c lists held =
     let a = c.args in
     let left = kept_in (rules_by a.gc_seqno_threshold a.evict_tombstones a.zero_seqnos) lists in
     new_fault a.ids a.target_size a.created_at left c.in_ok-writer.writer c.in_ok-writer.ensures.ok c.in_ok-writer.ensures.refused ∙ c.in_ok-tables.ensures.refused lists held
+
+pub returns-clause-writable : goal.returns-clause-writable
+returns-clause-writable g c lists held =
+    let a = c.args in
+    let able = c.requires in
+    let rules = rules_by a.gc_seqno_threshold a.evict_tombstones a.zero_seqnos in
+    subst (λ (ls : List (List (List Entry))). IsWritable (kept_in rules ls)) (one_way (map arc_value a.runs.now) able.lists lists able.hold held) (stays_writable rules (union_in able.lists) able.writable)
