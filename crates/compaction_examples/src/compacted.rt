@@ -1,0 +1,103 @@
+//! Lists that are written as runs, which are compacted and read.
+use lsm_tables::compact_run_back;
+use refusing::{Refusing, each_refused};
+use run_examples::lists::{ends_of, list_of, named};
+use run_examples::tables::{ALL, Name, is_right, owned_range};
+use sst_blocks::{Error, SeqNo, ValueType};
+use std::alloc::Allocator;
+use std::test::Fail;
+use writer_examples::rows::Row;
+
+// A threshold, whether tombstones are evicted, whether numbers become 0.
+type Rules = (SeqNo, bool, bool);
+
+const VALUES: [Row<'static>; 2] = [
+    (b"a", 10, ValueType::Value, b"x"),
+    (b"a", 3, ValueType::Value, b"y"),
+];
+
+const TOMBSTONE: [Row<'static>; 1] = [(b"a", 4, ValueType::Tombstone, b"")];
+
+const THREE_KEYS: [Row<'static>; 4] = [
+    (b"a", 10, ValueType::Value, b"x"),
+    (b"b", 4, ValueType::Value, b"y"),
+    (b"b", 2, ValueType::Value, b"y"),
+    (b"c", 6, ValueType::Value, b"z"),
+];
+
+// What is kept of rows that are written as tables of one key each: at a key below a number, and the ends of all.
+fn read_kept<A: Allocator + Copy>(
+    alloc: A,
+    rows: &[Row<'_>],
+    rules: Rules,
+    key: &[u8],
+    seqno: SeqNo,
+) -> Result<Option<[Option<Name>; 3]>, Error> {
+    let items = list_of(alloc, rows)?;
+    let range = owned_range(alloc, ALL)?;
+    let (threshold, evict, zero) = rules;
+    match compact_run_back(alloc, items, 0, threshold, evict, zero, key, seqno, range)? {
+        Some((found, mut stream)) => {
+            let ends = ends_of(alloc, &mut stream)?;
+            Ok(Some(named(found, ends)?))
+        }
+        None => Ok(None),
+    }
+}
+
+// The name of the entry that is found of the values of `a`.
+fn found_at<A: Allocator + Copy>(
+    alloc: A,
+    threshold: SeqNo,
+    seqno: SeqNo,
+) -> Result<Option<Name>, Error> {
+    match read_kept(alloc, &VALUES, (threshold, false, false), b"a", seqno)? {
+        Some(names) => Ok(names[0]),
+        None => Err(Error::Source(1)),
+    }
+}
+
+// A threshold, a bound, and what is found of the values of `a`.
+const FOUND: [(SeqNo, SeqNo, Option<Name>); 5] = [
+    (5, 11, Some((b'a', 10))),
+    (5, 7, Some((b'a', 3))),
+    (5, 3, None),
+    (100, 7, None),
+    (100, 11, Some((b'a', 10))),
+];
+
+#[test]
+fn versions_stay_that_a_reader_may_see(rt: HostRuntime) -> Result<(), Fail> {
+    for (threshold, bound, name) in FOUND {
+        assert_eq!(rt; found_at(rt.alloc(), threshold, bound)?, name);
+    }
+    Ok(())
+}
+
+#[test]
+fn a_tombstone_that_is_evicted_leaves_no_run(rt: HostRuntime) -> Result<(), Fail> {
+    let alloc = rt.alloc();
+    let evicted = read_kept(alloc, &TOMBSTONE, (5, true, false), b"a", 7)?;
+    assert!(rt; evicted == None);
+    let stays = read_kept(alloc, &TOMBSTONE, (5, false, false), b"a", 7)?;
+    let name = Some((b'a', 4));
+    assert!(rt; stays == Some([name, None, name]));
+    assert!(rt; read_kept(alloc, &[], (5, false, false), b"a", 7)? == None);
+    Ok(())
+}
+
+#[test]
+fn numbers_below_the_threshold_become_0(rt: HostRuntime) -> Result<(), Fail> {
+    let read = read_kept(rt.alloc(), &THREE_KEYS, (5, false, true), b"b", 1)?;
+    assert!(rt; read == Some([Some((b'b', 0)), Some((b'a', 10)), Some((b'c', 6))]));
+    Ok(())
+}
+
+#[test]
+fn a_list_is_compacted_with_each_request_refused(rt: HostRuntime) {
+    let right = Some((b'a', 3));
+    let answers = each_refused(rt.alloc(), |heap: &Refusing, may_fail: bool| {
+        is_right(found_at(heap, 5, 7).map(|found| found == right), may_fail)
+    });
+    assert!(rt; answers.is_ok());
+}
