@@ -44,26 +44,47 @@ fn answer_of<A: Allocator + Copy>(reader: &mut RunReader<A>, end: Direction) -> 
     Ok(name.map_or(0, |name| name.0))
 }
 
-// Whether the steps of a reader of the three tables, one of them damaged, answer as they should.
-fn reads<A: Allocator + Copy>(
-    alloc: A,
-    damaged: usize,
-    steps: &[(Direction, Answer)],
-) -> Result<bool, Error> {
-    let range = owned_range(alloc, ALL)?;
-    match RunReader::new(run(alloc, damaged)?, range)? {
-        Some(mut reader) => Ok(answers(&mut reader, steps)),
-        None => Ok(false),
-    }
+// The reader of the three tables, one of them damaged.
+fn reader_of<A: Allocator + Copy>(alloc: A, damaged: usize) -> Result<Option<RunReader<A>>, Error> {
+    let run = run(alloc, damaged)?;
+    RunReader::new(run, owned_range(alloc, ALL)?)
 }
 
-fn answers<A: Allocator + Copy>(reader: &mut RunReader<A>, steps: &[(Direction, Answer)]) -> bool {
+// A list of it.
+fn readers_in<A: Allocator + Copy>(
+    alloc: A,
+    damaged: usize,
+) -> Result<Vec<RunReader<A>, A>, Error> {
+    let mut readers = Vec::new(alloc);
+    if let Some(reader) = reader_of(alloc, damaged)? {
+        readers.push(reader)?;
+    }
+    Ok(readers)
+}
+
+// Whether there is a reader, and its steps answer as they should.
+fn answered<A: Allocator + Copy>(
+    readers: &mut Vec<RunReader<A>, A>,
+    steps: &[(Direction, Answer)],
+) -> bool {
+    let Some(reader) = readers.first_mut() else {
+        return false;
+    };
     for (end, answer) in steps {
         if answer_of(reader, *end) != *answer {
             return false;
         }
     }
     true
+}
+
+fn reads<A: Allocator + Copy>(
+    alloc: A,
+    damaged: usize,
+    steps: &[(Direction, Answer)],
+) -> Result<bool, Error> {
+    let mut readers = readers_in(alloc, damaged)?;
+    Ok(answered(&mut readers, steps))
 }
 
 const FROM_THE_FRONT: [(Direction, Answer); 5] = [

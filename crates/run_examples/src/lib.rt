@@ -1,18 +1,18 @@
-//! Worked examples of runs of tables: tests of what is read from one run, from both ends and by a scan, and from several as one,
-//! of lists that are written as runs, and of runs that are packed. Nothing here is for use.
+//! Worked examples of runs of tables: tests of what is read from one run, from both ends and by a scan, from several as one, and
+//! of lists that are written as runs; and the runs and lists that other tests use too. Nothing here is for use.
 #![tactic(auto)]
 
 #[cfg(test)]
 mod chains;
 #[cfg(test)]
-mod compacted;
+mod counted;
 #[cfg(test)]
 mod damaged;
-#[cfg(test)]
-mod packed;
+pub mod lists;
 #[cfg(test)]
 mod readers;
 #[cfg(test)]
-mod several;
+mod refused;
 #[cfg(test)]
-mod tables;
+mod several;
+pub mod tables;

@@ -58,7 +58,10 @@ fn key_at<A: Allocator + Copy>(reader: &mut RunReader<A>, end: Direction) -> Res
 }
 
 // Whether no table was opened yet, and the steps of a reader give what they should.
-fn gives<A: Allocator + Copy>(reader: &mut RunReader<A>, steps: &[Step]) -> Result<bool, Error> {
+fn steps_give<A: Allocator + Copy>(
+    reader: &mut RunReader<A>,
+    steps: &[Step],
+) -> Result<bool, Error> {
     if reader.tables_opened() != 0 {
         return Ok(false);
     }
@@ -68,6 +71,17 @@ fn gives<A: Allocator + Copy>(reader: &mut RunReader<A>, steps: &[Step]) -> Resu
         }
     }
     Ok(true)
+}
+
+// The same of the first of some readers; `None` where there is none.
+fn gives<A: Allocator + Copy>(
+    readers: &mut Vec<RunReader<A>, A>,
+    steps: &[Step],
+) -> Result<Option<bool>, Error> {
+    match readers.first_mut() {
+        Some(reader) => Ok(Some(steps_give(reader, steps)?)),
+        None => Ok(None),
+    }
 }
 
 // Whether some tables have a span.
@@ -96,19 +110,26 @@ fn culled<A: Allocator + Copy>(
     RunReader::culled(run, range, span)
 }
 
-// Whether a reader gives these steps.
-fn gives_all<A: Allocator + Copy>(mut reader: RunReader<A>, steps: &[Step]) -> Result<bool, Error> {
-    gives(&mut reader, steps)
+// A list of it.
+fn readers_culled<A: Allocator + Copy>(
+    alloc: A,
+    bounds: Bounds<'_>,
+    span: Span,
+) -> Result<Vec<RunReader<A>, A>, Error> {
+    let mut readers = Vec::new(alloc);
+    readers.push(culled(alloc, bounds, span)?)?;
+    Ok(readers)
 }
 
-// Whether the reader of a span of the four tables does.
+// Whether it gives these steps.
 fn culled_gives<A: Allocator + Copy>(
     alloc: A,
     bounds: Bounds<'_>,
     span: Span,
     steps: &[Step],
-) -> Result<bool, Error> {
-    gives_all(culled(alloc, bounds, span)?, steps)
+) -> Result<Option<bool>, Error> {
+    let mut readers = readers_culled(alloc, bounds, span)?;
+    gives(&mut readers, steps)
 }
 
 // The reader of the four tables within bounds.
@@ -120,16 +141,26 @@ fn reader_within<A: Allocator + Copy>(
     RunReader::new(run, owned_range(alloc, bounds)?)
 }
 
+// A list of it.
+fn readers_within<A: Allocator + Copy>(
+    alloc: A,
+    bounds: Bounds<'_>,
+) -> Result<Vec<RunReader<A>, A>, Error> {
+    let mut readers = Vec::new(alloc);
+    if let Some(reader) = reader_within(alloc, bounds)? {
+        readers.push(reader)?;
+    }
+    Ok(readers)
+}
+
 // Whether it gives these steps; `None` where there is no reader.
 fn new_gives<A: Allocator + Copy>(
     alloc: A,
     bounds: Bounds<'_>,
     steps: &[Step],
 ) -> Result<Option<bool>, Error> {
-    match reader_within(alloc, bounds)? {
-        Some(reader) => Ok(Some(gives_all(reader, steps)?)),
-        None => Ok(None),
-    }
+    let mut readers = readers_within(alloc, bounds)?;
+    gives(&mut readers, steps)
 }
 
 const IN_TURN: [Step; 14] = [
@@ -209,7 +240,10 @@ const FROM_D: [Step; 10] = [
 
 #[test]
 fn a_span_is_read_from_its_first_table_on(rt: HostRuntime) -> Result<(), Fail> {
-    assert!(rt; culled_gives(rt.alloc(), ALL, (Some(1), None), &FROM_D)?);
+    assert_eq!(rt;
+        culled_gives(rt.alloc(), ALL, (Some(1), None), &FROM_D)?,
+        Some(true)
+    );
     Ok(())
 }
 
@@ -225,7 +259,10 @@ const UP_TO_F: [Step; 7] = [
 
 #[test]
 fn a_span_is_read_up_to_its_last_table(rt: HostRuntime) -> Result<(), Fail> {
-    assert!(rt; culled_gives(rt.alloc(), ALL, (None, Some(1)), &UP_TO_F)?);
+    assert_eq!(rt;
+        culled_gives(rt.alloc(), ALL, (None, Some(1)), &UP_TO_F)?,
+        Some(true)
+    );
     Ok(())
 }
 
@@ -244,7 +281,10 @@ const BETWEEN: [Step; 8] = [
 #[test]
 fn tables_between_the_ends_of_a_span_are_read_whole(rt: HostRuntime) -> Result<(), Fail> {
     let from_y = (Bound::Included(b"y".as_slice()), Bound::Unbounded);
-    assert!(rt; culled_gives(rt.alloc(), from_y, WHOLE, &BETWEEN)?);
+    assert_eq!(rt;
+        culled_gives(rt.alloc(), from_y, WHOLE, &BETWEEN)?,
+        Some(true)
+    );
     Ok(())
 }
 
@@ -265,14 +305,20 @@ fn the_first_and_the_last_table_of_a_span_are_read_within_bounds(
     rt: HostRuntime,
 ) -> Result<(), Fail> {
     let before_b = (Bound::Unbounded, Bound::Excluded(b"b".as_slice()));
-    assert!(rt; culled_gives(rt.alloc(), before_b, WHOLE, &BEFORE_B)?);
+    assert_eq!(rt;
+        culled_gives(rt.alloc(), before_b, WHOLE, &BEFORE_B)?,
+        Some(true)
+    );
     Ok(())
 }
 
 #[test]
 fn a_table_that_both_ends_meet_in_is_opened_once(rt: HostRuntime) -> Result<(), Fail> {
     let steps = [(F, b'g', 1), (B, b'i', 1), (F, b'h', 1), (B, 0, 1)];
-    assert!(rt; culled_gives(rt.alloc(), ALL, (Some(2), Some(2)), &steps)?);
+    assert_eq!(rt;
+        culled_gives(rt.alloc(), ALL, (Some(2), Some(2)), &steps)?,
+        Some(true)
+    );
     Ok(())
 }
 
@@ -290,6 +336,34 @@ fn bounds_in_different_tables_leave_what_lies_between(rt: HostRuntime) -> Result
         new_gives(rt.alloc(), from_to(b"c", b"g"), &steps)?,
         Some(true)
     );
+    Ok(())
+}
+
+const FORWARD_FROM_G: [Step; 7] = [
+    (F, b'g', 1),
+    (F, b'h', 1),
+    (F, b'i', 1),
+    (F, b'j', 2),
+    (F, b'k', 2),
+    (F, b'l', 2),
+    (F, 0, 2),
+];
+
+const BACKWARD_TO_G: [Step; 7] = [
+    (B, b'l', 1),
+    (B, b'k', 1),
+    (B, b'j', 1),
+    (B, b'i', 2),
+    (B, b'h', 2),
+    (B, b'g', 2),
+    (B, 0, 2),
+];
+
+#[test]
+fn a_run_is_read_from_a_key_on(rt: HostRuntime) -> Result<(), Fail> {
+    let from_g = (Bound::Included(b"g".as_slice()), Bound::Unbounded);
+    assert_eq!(rt; new_gives(rt.alloc(), from_g, &FORWARD_FROM_G)?, Some(true));
+    assert_eq!(rt; new_gives(rt.alloc(), from_g, &BACKWARD_TO_G)?, Some(true));
     Ok(())
 }
 
@@ -353,9 +427,17 @@ fn a_scan_gives_a_span_whole(rt: HostRuntime) -> Result<(), Fail> {
 
 // ---- want of memory
 
-// Whether nothing is left at either end.
+// Whether nothing is left at either end of a reader.
 fn is_over<A: Allocator + Copy>(reader: &mut RunReader<A>) -> bool {
     reader.next().is_none() && reader.next_back().is_none()
+}
+
+// Whether nothing is left of the first of some readers; `false` where there is none.
+fn are_over<A: Allocator + Copy>(readers: &mut Vec<RunReader<A>, A>) -> bool {
+    match readers.first_mut() {
+        Some(reader) => is_over(reader),
+        None => false,
+    }
 }
 
 const D_TO_I: [Step; 7] = [
@@ -368,34 +450,61 @@ const D_TO_I: [Step; 7] = [
     (B, 0, 2),
 ];
 
-// Whether the steps of a reader give what they should; where a step is refused the refusal, behind which nothing follows from
-// either end.
-fn gives_or_ends<A: Allocator + Copy>(alloc: A) -> Result<bool, Error> {
-    let mut reader = culled(alloc, ALL, (Some(1), Some(2)))?;
-    match gives(&mut reader, &D_TO_I) {
-        Ok(right) => Ok(right && is_over(&mut reader)),
-        Err(error) => {
-            if is_over(&mut reader) {
-                Err(error)
-            } else {
-                Ok(false)
-            }
-        }
+// Whether a reader gives these steps, and nothing follows from either end; where a step is refused the refusal, if nothing follows
+// it.
+fn gives_or_ends<A: Allocator + Copy>(
+    readers: &mut Vec<RunReader<A>, A>,
+    steps: &[Step],
+) -> Result<bool, Error> {
+    let given = gives(readers, steps);
+    if are_over(readers) {
+        Ok(given? == Some(true))
+    } else {
+        Ok(false)
     }
+}
+
+fn span_gives_or_ends<A: Allocator + Copy>(alloc: A) -> Result<bool, Error> {
+    let mut readers = readers_culled(alloc, ALL, (Some(1), Some(2)))?;
+    gives_or_ends(&mut readers, &D_TO_I)
+}
+
+fn run_gives_or_ends<A: Allocator + Copy>(alloc: A) -> Result<bool, Error> {
+    let mut readers = readers_within(alloc, ALL)?;
+    gives_or_ends(&mut readers, &IN_TURN)
 }
 
 #[test]
 fn a_run_is_read_with_each_request_refused(rt: HostRuntime) {
     let answers = each_refused(rt.alloc(), |heap: &Refusing, may_fail: bool| {
-        is_right(gives_or_ends(heap), may_fail)
+        is_right(run_gives_or_ends(heap), may_fail)
     });
     assert!(rt; answers.is_ok());
 }
 
 #[test]
+fn a_span_is_read_with_each_request_refused(rt: HostRuntime) {
+    let answers = each_refused(rt.alloc(), |heap: &Refusing, may_fail: bool| {
+        is_right(span_gives_or_ends(heap), may_fail)
+    });
+    assert!(rt; answers.is_ok());
+}
+
+// Whether a scan gives just these keys; where a step is refused the refusal, if nothing follows it.
+fn scan_or_end<A: Allocator + Copy>(alloc: A, span: Span, keys: &[u8]) -> Result<bool, Error> {
+    let mut scanner = scanner(alloc, span)?;
+    let given = gives_keys(&mut scanner, keys);
+    if scanner.next().is_none() {
+        given
+    } else {
+        Ok(false)
+    }
+}
+
+#[test]
 fn a_run_is_scanned_with_each_request_refused(rt: HostRuntime) {
     let answers = each_refused(rt.alloc(), |heap: &Refusing, may_fail: bool| {
-        is_right(scans(heap, (Some(1), Some(2)), b"defghi"), may_fail)
+        is_right(scan_or_end(heap, (Some(1), None), b"defghijkl"), may_fail)
     });
     assert!(rt; answers.is_ok());
 }

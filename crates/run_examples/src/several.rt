@@ -1,6 +1,6 @@
 //! Several runs, read as one.
 use crate::tables::{
-    ALL, Bounds, Name, Tables, from_before, from_to, is_right, name_of, owned_range, run_of,
+    ALL, Bounds, Lists, Name, Tables, from_before, from_to, is_right, name_of, owned_range, runs_of,
 };
 use lsm_tables::{get_runs, range_runs};
 use refusing::{Refusing, each_refused};
@@ -40,24 +40,10 @@ const A_AND_C: [Row<'static>; 2] = [
 
 const ONE_D: [Row<'static>; 1] = [(b"d", 3, ValueType::Value, b"x")];
 
-/// The tables of a run, by their rows.
-pub(crate) type Lists = &'static [&'static [Row<'static>]];
-
 const TWO_RUNS: [Lists; 2] = [&[&NEWER], &[&OLDER]];
 
 // The third is of two tables.
 const THREE_RUNS: [Lists; 3] = [&[&NEWER], &[&OLDER], &[&A_AND_C, &ONE_D]];
-
-pub(crate) fn runs_of<A: Allocator + Copy>(
-    alloc: A,
-    lists: &[Lists],
-) -> Result<Vec<Tables<A>, A>, Error> {
-    let mut runs = Vec::new(alloc);
-    for tables in lists {
-        runs.push(run_of(alloc, tables)?)?;
-    }
-    Ok(runs)
-}
 
 // What some runs answer at these ends, within bounds.
 fn answers_of<A: Allocator + Copy>(

@@ -8,14 +8,17 @@ use std::sync::Arc;
 use stored_examples::tables::{open, overwritten};
 use writer_examples::rows::{Row, fill, new_writer};
 
-pub(crate) type Bounds<'a> = (Bound<&'a [u8]>, Bound<&'a [u8]>);
+pub type Bounds<'a> = (Bound<&'a [u8]>, Bound<&'a [u8]>);
 
-pub(crate) const ALL: Bounds<'static> = (Bound::Unbounded, Bound::Unbounded);
+pub const ALL: Bounds<'static> = (Bound::Unbounded, Bound::Unbounded);
 
-pub(crate) type Tables<A> = Arc<Run<Table<A>, A>, A>;
+pub type Tables<A> = Arc<Run<Table<A>, A>, A>;
 
 /// A key of one byte, 0 for any other, and a number.
-pub(crate) type Name = (u8, SeqNo);
+pub type Name = (u8, SeqNo);
+
+/// The tables of a run, by their rows.
+pub type Lists = &'static [&'static [Row<'static>]];
 
 // The table of some rows, all in one block of data, and some of its bytes changed.
 fn table_of<A: Allocator + Copy>(
@@ -48,15 +51,12 @@ fn table_at<A: Allocator + Copy>(
 }
 
 /// A run of the tables of some lists. `Source(2)` where there are none.
-pub(crate) fn run_of<A: Allocator + Copy>(
-    alloc: A,
-    lists: &[&[Row<'_>]],
-) -> Result<Tables<A>, Error> {
+pub fn run_of<A: Allocator + Copy>(alloc: A, lists: &[&[Row<'_>]]) -> Result<Tables<A>, Error> {
     damaged_run_of(alloc, lists, lists.len())
 }
 
 /// The same, where the block of data of the table at a place is damaged, if there is one.
-pub(crate) fn damaged_run_of<A: Allocator + Copy>(
+pub fn damaged_run_of<A: Allocator + Copy>(
     alloc: A,
     lists: &[&[Row<'_>]],
     damaged: usize,
@@ -71,6 +71,15 @@ pub(crate) fn damaged_run_of<A: Allocator + Copy>(
     }
 }
 
+/// A run for each of some lists of tables.
+pub fn runs_of<A: Allocator + Copy>(alloc: A, lists: &[Lists]) -> Result<Vec<Tables<A>, A>, Error> {
+    let mut runs = Vec::new(alloc);
+    for tables in lists {
+        runs.push(run_of(alloc, tables)?)?;
+    }
+    Ok(runs)
+}
+
 // A bound with a key of its own.
 fn owned<A: Allocator + Copy>(alloc: A, bound: Bound<&[u8]>) -> Result<Bound<UserKey<A>>, Error> {
     match bound {
@@ -81,7 +90,7 @@ fn owned<A: Allocator + Copy>(alloc: A, bound: Bound<&[u8]>) -> Result<Bound<Use
 }
 
 /// Bounds with keys of their own.
-pub(crate) fn owned_range<A: Allocator + Copy>(
+pub fn owned_range<A: Allocator + Copy>(
     alloc: A,
     bounds: Bounds<'_>,
 ) -> Result<(Bound<UserKey<A>>, Bound<UserKey<A>>), Error> {
@@ -89,17 +98,17 @@ pub(crate) fn owned_range<A: Allocator + Copy>(
 }
 
 /// From a key to a key, both included.
-pub(crate) fn from_to<'a>(low: &'a [u8], high: &'a [u8]) -> Bounds<'a> {
+pub fn from_to<'a>(low: &'a [u8], high: &'a [u8]) -> Bounds<'a> {
     (Bound::Included(low), Bound::Included(high))
 }
 
 /// From a key up to a key that is left out.
-pub(crate) fn from_before<'a>(low: &'a [u8], high: &'a [u8]) -> Bounds<'a> {
+pub fn from_before<'a>(low: &'a [u8], high: &'a [u8]) -> Bounds<'a> {
     (Bound::Included(low), Bound::Excluded(high))
 }
 
 /// The name of an answer.
-pub(crate) fn name_of<A: Allocator>(item: Option<IterItem<A>>) -> Result<Option<Name>, Error> {
+pub fn name_of<A: Allocator>(item: Option<IterItem<A>>) -> Result<Option<Name>, Error> {
     match item {
         Some(Ok(item)) => match item.key.user_key.as_slice() {
             [byte] => Ok(Some((*byte, item.key.seqno))),
@@ -112,7 +121,7 @@ pub(crate) fn name_of<A: Allocator>(item: Option<IterItem<A>>) -> Result<Option<
 
 /// Whether an answer is right, or is want of memory where a request is refused. Some requests are for what a table remembers, and
 /// refused it does without.
-pub(crate) fn is_right(answer: Result<bool, Error>, may_fail: bool) -> bool {
+pub fn is_right(answer: Result<bool, Error>, may_fail: bool) -> bool {
     match answer {
         Ok(right) => right,
         Err(error) => may_fail && error == Error::OutOfMemory,

@@ -1,8 +1,8 @@
 //! Lists that are written as runs, which are compacted and read.
-use crate::chains::{ends_of, list_of, named};
-use crate::tables::{ALL, Name, is_right, owned_range};
 use lsm_tables::compact_run_back;
 use refusing::{Refusing, each_refused};
+use run_examples::lists::{ends_of, list_of, named};
+use run_examples::tables::{ALL, Name, is_right, owned_range};
 use sst_blocks::{Error, SeqNo, ValueType};
 use std::alloc::Allocator;
 use std::test::Fail;
@@ -37,7 +37,10 @@ fn read_kept<A: Allocator + Copy>(
     let range = owned_range(alloc, ALL)?;
     let (threshold, evict, zero) = rules;
     match compact_run_back(alloc, items, 0, threshold, evict, zero, key, seqno, range)? {
-        Some((found, stream)) => Ok(Some(named(found, ends_of(alloc, stream)?)?)),
+        Some((found, mut stream)) => {
+            let ends = ends_of(alloc, &mut stream)?;
+            Ok(Some(named(found, ends)?))
+        }
         None => Ok(None),
     }
 }

@@ -1,8 +1,8 @@
 //! Runs of tables that are packed, and read before and after.
-use crate::several::{Lists, runs_of};
-use crate::tables::Tables;
 use lsm_ranges::Run;
 use lsm_tables::{Table, get_runs, pack_runs, packing_law};
+use refusing::{Refusing, each_refused};
+use run_examples::tables::{Lists, Tables, is_right, runs_of};
 use sst_blocks::{Error, SeqNo, ValueType};
 use std::alloc::Allocator;
 use std::sync::Arc;
@@ -84,4 +84,14 @@ fn no_runs_are_packed_as_none(rt: HostRuntime) -> Result<(), Fail> {
     let read = [None, None, None];
     assert!(rt; read_and_packed(rt.alloc(), &[])? == (read, 0, read));
     Ok(())
+}
+
+#[test]
+fn runs_are_packed_with_each_request_refused(rt: HostRuntime) {
+    let read = [Some(9), None, Some(9)];
+    let answers = each_refused(rt.alloc(), |heap: &Refusing, may_fail: bool| {
+        let right = read_and_packed(heap, &OVERLAPPING).map(|packed| packed == (read, 2, read));
+        is_right(right, may_fail)
+    });
+    assert!(rt; answers.is_ok());
 }

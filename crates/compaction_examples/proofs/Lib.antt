@@ -1,0 +1,2 @@
+pub mod Compactable
+pub mod StoredTable

@@ -1,0 +1,157 @@
+//! What readers see before and after runs are compacted, all of them or a part.
+use crate::runs::{Rules, T, V, Version, W, compacted, newest_in, run_of_tables, runs_of};
+use lsm_tables::{compaction_law, get_runs};
+use run_examples::tables::Tables;
+use sst_blocks::{Error, SeqNo};
+use std::alloc::Allocator;
+use std::test::Fail;
+use writer_examples::rows::Row;
+
+const A10_A3: [Row<'static>; 2] = [(b"a", 10, V, b"x"), (b"a", 3, V, b"y")];
+
+// The number of the entry that a read of some runs finds.
+fn found<A: Allocator + Copy>(
+    runs: &[Tables<A>],
+    key: &[u8],
+    seqno: SeqNo,
+) -> Result<Option<SeqNo>, Error> {
+    Ok(get_runs(runs, key, seqno)?.map(|item| item.key.seqno))
+}
+
+// What a read finds before and after a list is compacted.
+fn found_around<A: Allocator + Copy>(
+    alloc: A,
+    rows: &[Row<'_>],
+    rules: Rules,
+    key: &[u8],
+    seqno: SeqNo,
+) -> Result<[Option<SeqNo>; 2], Error> {
+    let runs = runs_of(alloc, &[rows])?;
+    let before = found(&runs, key, seqno)?;
+    let runs = run_of_tables(alloc, compacted(alloc, &runs, rules)?)?;
+    Ok([before, found(&runs, key, seqno)?])
+}
+
+#[test]
+fn a_read_at_the_threshold_and_above_finds_the_same(rt: HostRuntime) -> Result<(), Fail> {
+    for (bound, number) in [(11, Some(10)), (10, Some(3)), (7, Some(3)), (5, Some(3))] {
+        let read = found_around(rt.alloc(), &A10_A3, (5, false, false), b"a", bound)?;
+        assert!(rt; read == [number, number]);
+    }
+    Ok(())
+}
+
+// The runs of two lists, where that of the first is compacted.
+fn part_compacted<A: Allocator + Copy>(
+    alloc: A,
+    part: &[Row<'_>],
+    rest: &[Row<'_>],
+    rules: Rules,
+) -> Result<Vec<Tables<A>, A>, Error> {
+    let whole = runs_of(alloc, &[part])?;
+    let mut runs = run_of_tables(alloc, compacted(alloc, &whole, rules)?)?;
+    for run in runs_of(alloc, &[rest])? {
+        runs.push(run)?;
+    }
+    Ok(runs)
+}
+
+const A6_T: [Row<'static>; 1] = [(b"a", 6, T, b"")];
+
+const A3: [Row<'static>; 1] = [(b"a", 3, V, b"x")];
+
+// The newest versions where a@6, a tombstone, is compacted beside a@3.
+fn newest_beside_a3<A: Allocator + Copy>(alloc: A, evict: bool) -> Result<Vec<Version, A>, Error> {
+    let runs = part_compacted(alloc, &A6_T, &A3, (7, evict, false))?;
+    newest_in(alloc, &runs)
+}
+
+// Where it is evicted the law says nothing: a@3 is older, and shows again.
+#[test]
+fn a_tombstone_hides_what_is_older_in_other_runs(rt: HostRuntime) -> Result<(), Fail> {
+    compaction_law();
+    let (hidden, shown) = ([(b'a', 6, T)], [(b'a', 3, V)]);
+    assert!(rt; newest_beside_a3(rt.alloc(), false)?.as_slice() == hidden.as_slice());
+    assert!(rt; newest_beside_a3(rt.alloc(), true)?.as_slice() == shown.as_slice());
+    Ok(())
+}
+
+// Neither of the lists is newer, and the part has no weak tombstone.
+const PLAIN_PART: [Row<'static>; 5] = [
+    (b"a", 9, V, b"x"),
+    (b"a", 6, T, b""),
+    (b"b", 4, V, b"y"),
+    (b"b", 2, V, b"z"),
+    (b"c", 5, T, b""),
+];
+
+const PLAIN_REST: [Row<'static>; 4] = [
+    (b"a", 7, V, b"u"),
+    (b"a", 3, V, b"v"),
+    (b"b", 8, T, b""),
+    (b"c", 1, V, b"w"),
+];
+
+// Of each key all others are newer than the part.
+const OLDER_PART: [Row<'static>; 5] = [
+    (b"a", 5, T, b""),
+    (b"a", 3, V, b"x"),
+    (b"b", 6, W, b""),
+    (b"b", 4, V, b"y"),
+    (b"c", 2, V, b"z"),
+];
+
+const NEWER_REST: [Row<'static>; 3] = [(b"a", 9, V, b"u"), (b"b", 8, V, b"v"), (b"d", 1, V, b"w")];
+
+// What a reader sees of a key: the value of the first entry below a bound. That of a tombstone has no byte.
+fn seen<A: Allocator + Copy>(
+    runs: &[Tables<A>],
+    key: &[u8],
+    seqno: SeqNo,
+) -> Result<Option<u8>, Error> {
+    match get_runs(runs, key, seqno)? {
+        Some(item) => Ok(item.value.as_slice().first().copied()),
+        None => Ok(None),
+    }
+}
+
+// Whether a reader of some runs sees the same as one of others, of each key at each bound from 7 up.
+fn see_the_same<A: Allocator + Copy>(
+    runs: &[Tables<A>],
+    others: &[Tables<A>],
+) -> Result<bool, Error> {
+    for key in [b"a", b"b", b"c", b"d"] {
+        for bound in [7, 8, 9, 10, SeqNo::MAX] {
+            if seen(runs, key, bound)? != seen(others, key, bound)? {
+                return Ok(false);
+            }
+        }
+    }
+    Ok(true)
+}
+
+// A list that is compacted, and one that stays.
+type Lists = [&'static [Row<'static>]; 2];
+
+const PLAIN: Lists = [&PLAIN_PART, &PLAIN_REST];
+
+const NEWER: Lists = [&OLDER_PART, &NEWER_REST];
+
+const HIDDEN: Lists = [&A6_T, &A3];
+
+// Whether a reader of two lists' runs sees the same where the first is compacted.
+fn stays_seen<A: Allocator + Copy>(alloc: A, lists: &Lists, rules: Rules) -> Result<bool, Error> {
+    let before = runs_of(alloc, lists.as_slice())?;
+    let after = part_compacted(alloc, lists[0], lists[1], rules)?;
+    see_the_same(&after, &before)
+}
+
+#[test]
+fn a_compacted_part_shows_the_same_at_the_watermark_and_above(rt: HostRuntime) -> Result<(), Fail> {
+    let alloc = rt.alloc();
+    assert!(rt; stays_seen(alloc, &PLAIN, (7, false, false))?);
+    assert!(rt; stays_seen(alloc, &NEWER, (7, true, true))?);
+    // Where neither is so it may show what it hid.
+    assert!(rt; !stays_seen(alloc, &HIDDEN, (7, true, false))?);
+    Ok(())
+}

@@ -1,0 +1,60 @@
+//! Lists of entries, and what is read of the two ends of a stream of them.
+ghost use Rattle.std.specs.Prelude.{IfOk};
+ghost use Rattle.lsm_writers.specs.Writing.{IsWritable};
+ghost use Rattle.sst_entries.specs.Stream.{CanDeal};
+
+use crate::tables::{Name, name_of};
+use lsm_merge::Merger;
+use lsm_sorted::MvccStream;
+use lsm_tables::RunReader;
+use lsm_writers::is_writable;
+use sst_blocks::{Direction, Error, InternalValue, IterItem, answers_at};
+use std::alloc::Allocator;
+use writer_examples::rows::{Row, entry};
+
+/// The newest versions of several runs.
+pub type Stream<A> = MvccStream<Merger<RunReader<A>, A>>;
+
+/// The entries of some rows. `Source(0)` where they cannot be written.
+pub fn list_of<A: Allocator + Copy>(
+    alloc: A,
+    rows: &[Row<'_>],
+) -> Result<Vec<InternalValue<A>, A>, Error>
+    ensures { IfOk result (λ v. IsWritable v.items) }
+{
+    let mut items = Vec::new(alloc);
+    for row in rows {
+        items.push(entry(alloc, row)?)?;
+    }
+    if is_writable(&items) {
+        Ok(items)
+    } else {
+        Err(Error::Source(0))
+    }
+}
+
+/// What a stream answers at its back, and then at its front.
+pub fn ends_of<A: Allocator + Copy>(
+    alloc: A,
+    stream: &mut Stream<A>,
+) -> Result<Vec<Option<IterItem<A>>, A>, Error>
+    requires { CanDeal ⟦<Stream<A> as Iterator>⟧.next_gives
+        ⟦<Stream<A> as DoubleEndedIterator>⟧.next_back_gives
+        ⟦<Stream<A> as Iterator>⟧.can_next
+        ⟦<Stream<A> as DoubleEndedIterator>⟧.can_next_back stream.old }
+{
+    Ok(answers_at(alloc, stream, &[Direction::Back, Direction::Front])?)
+}
+
+/// The names of a found entry, and of the first and the last of a stream, by the answers of [`ends_of`].
+pub fn named<A: Allocator + Copy>(
+    found: Option<InternalValue<A>>,
+    ends: Vec<Option<IterItem<A>>, A>,
+) -> Result<[Option<Name>; 3], Error> {
+    let found = name_of(found.map(|item| Ok(item)))?;
+    let mut names = [None; 2];
+    for (slot, answer) in names.iter_mut().zip(ends.into_iter()) {
+        *slot = name_of(answer)?;
+    }
+    Ok([found, names[1], names[0]])
+}

@@ -1,0 +1,145 @@
+//! What comes behind a refused step of several runs that are read as one.
+use crate::tables::{ALL, Lists, Name, name_of, owned_range, runs_of};
+use lsm_tables::range_runs;
+use refusing::Refusing;
+use sst_blocks::{Direction, Error, IterItem, ValueType, answers_at};
+use std::alloc::{Allocator, Global};
+use std::test::Fail;
+use writer_examples::rows::Row;
+
+const F: Direction = Direction::Front;
+
+const B: Direction = Direction::Back;
+
+const A9_ROW: [Row<'static>; 1] = [(b"a", 9, ValueType::Value, b"x")];
+
+const C4_ROW: [Row<'static>; 1] = [(b"c", 4, ValueType::Value, b"x")];
+
+const E2_ROW: [Row<'static>; 1] = [(b"e", 2, ValueType::Value, b"x")];
+
+const B1_AND_D3: [Row<'static>; 2] = [
+    (b"b", 1, ValueType::Value, b"x"),
+    (b"d", 3, ValueType::Value, b"x"),
+];
+
+// The first run is of three tables.
+const RUNS: [Lists; 2] = [&[&A9_ROW, &C4_ROW, &E2_ROW], &[&B1_AND_D3]];
+
+// What a step gives.
+type Answer = Result<Option<Name>, Error>;
+
+const A9: Answer = Ok(Some((b'a', 9)));
+
+const B1: Answer = Ok(Some((b'b', 1)));
+
+const C4: Answer = Ok(Some((b'c', 4)));
+
+const D3: Answer = Ok(Some((b'd', 3)));
+
+const E2: Answer = Ok(Some((b'e', 2)));
+
+const NOTHING: Answer = Ok(None);
+
+const REFUSED: Answer = Err(Error::OutOfMemory);
+
+type Answers = [Answer; 7];
+
+const FIRST_REFUSED: Answers = [
+    REFUSED, NOTHING, NOTHING, NOTHING, NOTHING, NOTHING, NOTHING,
+];
+
+// The ends of some steps, and their answers: where no step is refused, where the first one is, where the second one is. The others
+// take no memory. The entry that waits at the other end comes behind the refusal.
+type Case = ([Direction; 7], [Answers; 3]);
+
+const CASES: [Case; 4] = [
+    (
+        [F, F, F, F, F, F, B],
+        [
+            [A9, B1, C4, D3, E2, NOTHING, NOTHING],
+            FIRST_REFUSED,
+            [A9, REFUSED, NOTHING, NOTHING, NOTHING, NOTHING, NOTHING],
+        ],
+    ),
+    (
+        [B, B, B, B, B, B, F],
+        [
+            [E2, D3, C4, B1, A9, NOTHING, NOTHING],
+            FIRST_REFUSED,
+            [E2, REFUSED, NOTHING, NOTHING, NOTHING, NOTHING, NOTHING],
+        ],
+    ),
+    (
+        [F, B, F, B, F, B, F],
+        [
+            [A9, E2, B1, D3, C4, NOTHING, NOTHING],
+            FIRST_REFUSED,
+            [A9, REFUSED, B1, NOTHING, NOTHING, NOTHING, NOTHING],
+        ],
+    ),
+    (
+        [B, F, F, B, F, B, F],
+        [
+            [E2, A9, B1, D3, C4, NOTHING, NOTHING],
+            FIRST_REFUSED,
+            [E2, REFUSED, D3, NOTHING, NOTHING, NOTHING, NOTHING],
+        ],
+    ),
+];
+
+// What both runs give at some ends.
+fn answered<A: Allocator + Copy>(
+    alloc: A,
+    ends: &[Direction],
+) -> Result<Vec<Option<IterItem<A>>, A>, Error> {
+    let runs = runs_of(alloc, &RUNS)?;
+    let mut stream = range_runs(alloc, &runs, owned_range(alloc, ALL)?)?;
+    Ok(answers_at(alloc, &mut stream, ends)?)
+}
+
+// The names of some answers.
+fn named<A: Allocator + Copy>(answers: Vec<Option<IterItem<A>>, A>) -> Answers {
+    let mut names = [NOTHING; 7];
+    for (name, answer) in names.iter_mut().zip(answers.into_iter()) {
+        *name = name_of(answer);
+    }
+    names
+}
+
+// Which of the answers of a case both runs give, if any; an error where there is no memory for the runs.
+fn which<A: Allocator + Copy>(alloc: A, case: &Case) -> Result<Option<usize>, Error> {
+    let names = named(answered(alloc, &case.0)?);
+    Ok(case.1.iter().position(|answers| *answers == names))
+}
+
+// Which of them they give with each request refused in turn; none where one of the answers is no other.
+fn met(alloc: Global, case: &Case) -> Result<Option<[bool; 3]>, Error> {
+    let unrefused = Refusing::new(alloc, 0);
+    if which(&unrefused, case)? != Some(0) {
+        return Ok(None);
+    }
+    let mut met = [true, false, false];
+    for nth in 1..=unrefused.requests() {
+        let heap = Refusing::new(alloc, nth);
+        match which(&heap, case) {
+            Ok(Some(place)) => {
+                if let Some(met) = met.get_mut(place) {
+                    *met = true;
+                }
+            }
+            Ok(None) => return Ok(None),
+            Err(Error::OutOfMemory) => {}
+            Err(error) => return Err(error),
+        }
+    }
+    Ok(Some(met))
+}
+
+// A request for what a table remembers is none that a step needs.
+#[test]
+fn a_refused_step_leaves_what_waits_at_the_other_end(rt: HostRuntime) -> Result<(), Fail> {
+    for case in &CASES {
+        assert_eq!(rt; met(rt.alloc(), case)?, Some([true, true, true]));
+    }
+    Ok(())
+}
