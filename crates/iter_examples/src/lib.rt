@@ -1,5 +1,8 @@
-//! Worked examples of ranges of a table: tests from both ends, under each kind of index. Nothing here is for use.
+//! Worked examples of ranges of a table: tests from both ends, under each kind of index; and of all reads of a table. Nothing
+//! here is for use.
 #![tactic(auto)]
 
+#[cfg(test)]
+mod one_answer;
 #[cfg(test)]
 mod ranges;

@@ -133,31 +133,41 @@ fn scanned<A: Allocator + Clone>(items: &mut Scanner<A>) -> Result<Names, Error>
     Ok(names)
 }
 
-// What a point read of a below 19 finds, what lies above a up to c, from the back, all entries, and what a scan gives, of a
-// table whose global number is 10.
+// What a point read of a below 19 finds, what lies above a up to c, from the back, all entries, and what a scan gives.
 type Answers = (Option<SeqNo>, Names, Names, Names);
 
-fn taken(reads: &mut (PointAndScan<Global>, Ranges<Global>)) -> Result<Answers, Error> {
+// All reads of a table.
+type Reads = (PointAndScan<Global>, Ranges<Global>);
+
+fn taken(reads: &mut Reads) -> Result<Answers, Error> {
     let found = reads.0.0.as_ref().map(|item| item.key.seqno);
     let range = backwards(&mut reads.1.0)?;
     let all = forwards(&mut reads.1.1)?;
     Ok((found, range, all, scanned(&mut reads.0.1)?))
 }
 
-fn reads(
-    alloc: Global,
-    table: &Table<Global>,
-) -> Result<(PointAndScan<Global>, Ranges<Global>), Error> {
+fn all_reads(alloc: Global, table: &Table<Global>) -> Result<Reads, Error> {
     let lower = Bound::Excluded(Slice::from(alloc, b"a")?);
     let upper = Bound::Included(Slice::from(alloc, b"c")?);
     read_each_way(table, b"a", 19, lower, upper)
 }
 
-fn answers(alloc: Global, table: &Table<Global>) -> Result<Answers, Error> {
-    let mut reads = reads(alloc, table)?;
-    taken(&mut reads)
+// A list of them.
+fn listed(alloc: Global, table: &Table<Global>) -> Result<Vec<Reads>, Error> {
+    let mut list = Vec::new(alloc);
+    list.push(all_reads(alloc, table)?)?;
+    Ok(list)
 }
 
+fn answers(alloc: Global, table: &Table<Global>) -> Result<Answers, Error> {
+    let mut list = listed(alloc, table)?;
+    match list.first_mut() {
+        Some(reads) => taken(reads),
+        None => Err(Error::Source(2)),
+    }
+}
+
+// Those of a table whose global number is 10.
 fn answers_of(alloc: Global, kind: &Kind) -> Result<Answers, Error> {
     let bytes = bytes_of(alloc, kind.0, kind.1)?;
     let table = Table::recover(alloc, bytes, Checksum(0), 10, 0, kind.2, kind.3)?;
