@@ -450,8 +450,8 @@ const D_TO_I: [Step; 7] = [
     (B, 0, 2),
 ];
 
-// Whether a reader gives these steps, and nothing follows from either end; where a step is refused the refusal, if nothing follows
-// it.
+// Whether a reader gives these steps, and nothing follows from either end; where a step is refused the refusal, if nothing
+// follows it.
 fn gives_or_ends<A: Allocator + Copy>(
     readers: &mut Vec<RunReader<A>, A>,
     steps: &[Step],

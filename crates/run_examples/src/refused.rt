@@ -48,8 +48,8 @@ const FIRST_REFUSED: Answers = [
     REFUSED, NOTHING, NOTHING, NOTHING, NOTHING, NOTHING, NOTHING,
 ];
 
-// The ends of some steps, and their answers: where no step is refused, where the first one is, where the second one is. The others
-// take no memory. The entry that waits at the other end comes behind the refusal.
+// The ends of some steps, and their answers: where no step is refused, where the first one is, where the second one is. The
+// others take no memory. The entry that waits at the other end comes behind the refusal.
 type Case = ([Direction; 7], [Answers; 3]);
 
 const CASES: [Case; 4] = [
