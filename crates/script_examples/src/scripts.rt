@@ -479,27 +479,53 @@ const REFUSED_OUTPUTS: [&[u8]; 14] = [
     b"tables 1\na 7 T -\na 9 V x\nnone\na 9 V x\nb 1 V y\ntables 1\na 9 V x\ntables 1\nrefused 1\n",
 ];
 
-// Whether a run of the first script is right, where one request for memory may have been refused.
-fn is_right<A: Allocator>(ran: &Ran<A>, may_fail: bool) -> bool {
+// A script that reads two runs, and what it prints: all, and where one of its commands is refused for want of memory.
+const OVER_TWO_RUNS: &[u8] =
+    b"entry a 5 V o\nentry c 2 V z\ntable\nentry a 9 V x\nentry b 1 V y\ntable\nrange * *\nget a 9\nget a 10\n";
+
+const OVER_TWO_RUNS_OUTPUTS: [&[u8]; 10] = [
+    b"tables 1\ntables 1\na 9 V x\nb 1 V y\nc 2 V z\na 5 V o\na 9 V x\n",
+    b"refused 1\ntables 1\ntables 1\na 9 V x\nb 1 V y\nc 2 V z\nnone\na 9 V x\n",
+    b"refused 1\ntables 1\ntables 1\na 9 V x\nb 1 V y\na 5 V o\na 9 V x\n",
+    b"refused 1\ntables 1\na 9 V x\nb 1 V y\nnone\na 9 V x\n",
+    b"tables 1\nrefused 1\ntables 1\na 5 V o\nb 1 V y\nc 2 V z\na 5 V o\na 5 V o\n",
+    b"tables 1\nrefused 1\ntables 1\na 9 V x\nc 2 V z\na 5 V o\na 9 V x\n",
+    b"tables 1\nrefused 1\na 5 V o\nc 2 V z\na 5 V o\na 5 V o\n",
+    b"tables 1\ntables 1\nrefused 1\na 5 V o\na 9 V x\n",
+    b"tables 1\ntables 1\na 9 V x\nb 1 V y\nc 2 V z\nrefused 1\na 9 V x\n",
+    b"tables 1\ntables 1\na 9 V x\nb 1 V y\nc 2 V z\na 5 V o\nrefused 1\n",
+];
+
+// Whether a run of a script is right, where one request for memory may have been refused; the first output is of none refused.
+fn is_right<A: Allocator>(ran: &Ran<A>, outputs: &[&[u8]], may_fail: bool) -> bool {
+    let Some(whole) = outputs.first() else {
+        return false;
+    };
     let output = ran.output.as_slice();
     if ran.status == 2 {
         // What was answered before stays.
         return may_fail
-            && FIRST_OUTPUT.starts_with(output)
+            && whole.starts_with(output)
             && ran.errors.as_slice() == b"sst: input\n".as_slice();
     }
-    ran.status == 0 && (output == FIRST_OUTPUT || may_fail && REFUSED_OUTPUTS.contains(&output))
+    ran.status == 0 && (output == *whole || may_fail && outputs.contains(&output))
+}
+
+// Whether a script is right whichever of its requests for memory is refused, of which there are more than so many.
+fn is_right_in_turn(alloc: Global, script: &[u8], outputs: &[&[u8]], more_than: usize) -> bool {
+    let answers = each_refused(alloc, |heap: &Refusing, may_fail: bool| {
+        match run(heap, alloc, script) {
+            Ok(ran) => is_right(&ran, outputs, may_fail),
+            Err(_) => false,
+        }
+    });
+    answers.is_ok_and(|requests| requests > more_than)
 }
 
 #[test]
 fn each_request_refused_in_turn(rt: HostRuntime) -> Result<(), Fail> {
     let alloc = rt.alloc();
-    let answers = each_refused(alloc, |heap: &Refusing, may_fail: bool| {
-        match run(heap, alloc, FIRST) {
-            Ok(ran) => is_right(&ran, may_fail),
-            Err(_) => false,
-        }
-    });
-    assert!(rt; answers.is_ok_and(|requests| requests > 40));
+    assert!(rt; is_right_in_turn(alloc, FIRST, &REFUSED_OUTPUTS, 40));
+    assert!(rt; is_right_in_turn(alloc, OVER_TWO_RUNS, &OVER_TWO_RUNS_OUTPUTS, 40));
     Ok(())
 }
