@@ -21,7 +21,7 @@ namespace {
 constexpr size_t kSources = 8;
 constexpr size_t kTables = 10000;
 constexpr uint64_t kStride = 40;  // more than the entries of a block
-constexpr uint64_t kRange = 50;   // how many entries a short range takes
+constexpr size_t kRange = 50;     // how many entries a short range takes
 
 // How many bits a key the other stores' filters have, where the command says nothing else: as many
 // as those of our tables.
@@ -126,7 +126,6 @@ class TableBench {
         }
       }
     }
-    for (size_t i = count_; i > 0; i--) Add(&backward_, single_.Key(i - 1), single_.Value(i - 1));
     for (const std::string& key : present_.each) {
       size_t at = strtoull(key.c_str(), nullptr, 10) / 2;
       Add(&found_, single_.Key(at), single_.Value(at));
@@ -212,9 +211,6 @@ class TableBench {
       Check("scan", passes, whole_, [&](Digest* digest) {
         return sst_bench_scan(Bytes(table_), table_.size(), passes, digest);
       });
-      Check("backward", passes, backward_, [&](Digest* digest) {
-        return sst_bench_backward(Bytes(table_), table_.size(), passes, digest);
-      });
       Check("range", passes, ranges_, [&](Digest* digest) {
         return sst_bench_range(Bytes(table_), table_.size(), Bytes(present_.joined),
                                present_.joined.size(), kKeyLen, kRange, passes, digest);
@@ -284,7 +280,6 @@ class TableBench {
     GetsOf(peer, "absent", absent_, Digest{});
     peer->Keep({"/single"});
     CheckOf(peer, "scan", whole_, [&] { return peer->Scan(); });
-    CheckOf(peer, "backward", backward_, [&] { return peer->ScanBackward(); });
     CheckOf(peer, "range", ranges_,
             [&] { return peer->RangeEach(present_.each, kRange, again_); });
     peer->Keep(paths_);
@@ -329,9 +324,6 @@ class TableBench {
         RowOf("get of an absent key", "absent", Second("absent"), keys, again),
         RowOf("scan, first pass, an entry", "scan", First("scan"), entries, 1),
         RowOf("scan, second pass, an entry", "scan", Second("scan"), entries, 1),
-        RowOf("scan from the back, first pass, an entry", "backward", First("backward"), entries, 1),
-        RowOf("scan from the back, second pass, an entry", "backward", Second("backward"), entries,
-              1),
         RowOf("range of 50 entries, first pass", "range", First("range"), keys, again),
         RowOf("range of 50 entries, second pass", "range", Second("range"), keys, again),
         RowOf("merge of 8, first pass, an entry", "merge", First("merge"), merged, 1),
@@ -349,7 +341,7 @@ class TableBench {
   Times times_;
   Entries single_;
   std::vector<Entries> parts_;
-  Digest whole_{}, newest_{}, found_{}, backward_{}, ranges_{};
+  Digest whole_{}, newest_{}, found_{}, ranges_{};
   Keys present_{Numbers(count_, 0)};
   Keys absent_{Numbers(count_, 1)};
   std::string table_, files_;

@@ -34,8 +34,7 @@ uint32_t sst_bench_scan(const uint8_t* file, size_t file_len, uint64_t passes, D
 uint32_t sst_bench_merge(const uint8_t* files, size_t files_len, const uint64_t* lens,
                          size_t lens_len, uint64_t passes, Digest* digest);
 uint32_t sst_bench_range(const uint8_t* file, size_t file_len, const uint8_t* keys, size_t keys_len,
-                         size_t key_len, uint64_t count, uint64_t passes, Digest* digest);
-uint32_t sst_bench_backward(const uint8_t* file, size_t file_len, uint64_t passes, Digest* digest);
+                         size_t key_len, size_t count, uint64_t passes, Digest* digest);
 uint32_t sst_bench_range_runs(const uint8_t* files, size_t files_len, const uint64_t* lens,
                               size_t lens_len, uint64_t passes, Digest* digest);
 uint32_t sst_bench_compact(const uint8_t* files, size_t files_len, const uint64_t* lens,

@@ -309,16 +309,6 @@ class Peer {
     return digest;
   }
 
-  Digest ScanBackward() {
-    Digest digest{};
-    std::unique_ptr<typename Store::Iterator> entries(kept_[0]->NewIterator());
-    for (entries->SeekToLast(); entries->Valid(); entries->Prev()) {
-      Add(&digest, View(entries->key()), View(entries->value()));
-    }
-    Ok(entries->status());
-    return digest;
-  }
-
   // From each key on, so many entries.
   Digest RangeEach(const std::vector<std::string>& keys, uint64_t count, uint64_t passes) {
     Digest digest{};

@@ -29,5 +29,5 @@ pub use files::sst_bench_open;
 pub use gets::sst_bench_get;
 pub use merges::sst_bench_merge;
 pub use packings::{Packed, sst_bench_optimize_runs};
-pub use ranges::{sst_bench_backward, sst_bench_range, sst_bench_range_runs};
+pub use ranges::{sst_bench_range, sst_bench_range_runs};
 pub use scans::sst_bench_scan;

@@ -9,7 +9,7 @@ use sst_blocks::{Error, IterItem};
 use std::alloc::Global;
 
 // Takes all that a stream gives.
-pub(crate) fn drain<I: Iterator<Item = IterItem<Global>>>(
+fn drain<I: Iterator<Item = IterItem<Global>>>(
     stream: &mut I,
     digest: &mut Digest,
 ) -> Result<(), Error>

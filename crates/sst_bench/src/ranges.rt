@@ -1,21 +1,46 @@
 //! Entries within bounds, of one table and of several runs.
+ghost use Rattle.std.specs.Iterator.{IsFinite};
+
 use crate::digest::{Digest, code};
 use crate::files::{open_copy, tables_of};
-use crate::merges::drain;
 use lsm_ranges::Run;
-use lsm_tables::{Iter, Table, range_runs};
-use sst_blocks::{Error, Slice};
+use lsm_tables::{Table, range_runs};
+use sst_blocks::{Error, IterItem, Slice};
 use std::alloc::Global;
 use std::ops::Bound;
 use std::sync::Arc;
 
+// Takes all that an iterator gives. It is generic in it, so that a caller hands a large one on and has none of its parts to
+// let go.
+fn take_all<I: Iterator<Item = IterItem<Global>> + Drop>(
+    mut items: I,
+    digest: &mut Digest,
+) -> Result<(), Error>
+    requires can { I.can_next items }
+    requires finite { IsFinite (I.remaining items) }
+{
+    while let Some(item) = items.next() {
+        digest.add(&item?);
+    }
+    Ok(())
+}
+
 // Takes so many entries from the front, or all where there are fewer.
-fn take(items: &mut Iter, count: u64, digest: &mut Digest) -> Result<(), Error> {
-    for _ in 0..count {
-        match items.next() {
-            Some(item) => digest.add(&item?),
-            None => break,
+fn take_front<I: Iterator<Item = IterItem<Global>> + Drop>(
+    items: I,
+    count: usize,
+    digest: &mut Digest,
+) -> Result<(), Error>
+    requires can { I.can_next items }
+    requires finite { IsFinite (I.remaining items) }
+{
+    let mut left = count;
+    for item in items {
+        if left == 0 {
+            break;
         }
+        left -= 1;
+        digest.add(&item?);
     }
     Ok(())
 }
@@ -26,7 +51,7 @@ fn range_each(
     table: &Table,
     keys: &[u8],
     key_len: usize,
-    count: u64,
+    count: usize,
     digest: &mut Digest,
 ) -> Result<(), Error> {
     let mut rest = keys;
@@ -36,8 +61,7 @@ fn range_each(
         };
         rest = after;
         let from = Bound::Included(Slice::from(alloc, key)?);
-        let mut items = table.range(from, Bound::Unbounded)?;
-        take(&mut items, count, digest)?;
+        take_front(table.range(from, Bound::Unbounded)?, count, digest)?;
     }
     Ok(())
 }
@@ -47,7 +71,7 @@ fn range_passes(
     file: &[u8],
     keys: &[u8],
     key_len: usize,
-    count: u64,
+    count: usize,
     passes: u64,
     digest: &mut Digest,
 ) -> Result<(), Error> {
@@ -68,49 +92,11 @@ pub extern "C" fn sst_bench_range(
     file: &[u8],
     keys: &[u8],
     key_len: usize,
-    count: u64,
+    count: usize,
     passes: u64,
     digest: &mut Digest,
 ) -> u32 {
     code(range_passes(alloc, file, keys, key_len, count, passes, digest))
-}
-
-// Takes all entries from the back.
-fn take_back(items: &mut Iter, count: u64, digest: &mut Digest) -> Result<(), Error> {
-    for _ in 0..count {
-        match items.next_back() {
-            Some(item) => digest.add(&item?),
-            None => break,
-        }
-    }
-    Ok(())
-}
-
-fn backward_passes(
-    alloc: Global,
-    file: &[u8],
-    passes: u64,
-    digest: &mut Digest,
-) -> Result<(), Error> {
-    let table = open_copy(alloc, file)?;
-    for _ in 0..passes {
-        *digest = Digest::empty();
-        let mut items = table.iter()?;
-        take_back(&mut items, u64::MAX, digest)?;
-    }
-    Ok(())
-}
-
-/// Copies and opens a table, and takes all its entries from the back so many times over. Tells what
-/// the last pass gave.
-#[unsafe(no_mangle)]
-pub extern "C" fn sst_bench_backward(
-    alloc: Global,
-    file: &[u8],
-    passes: u64,
-    digest: &mut Digest,
-) -> u32 {
-    code(backward_passes(alloc, file, passes, digest))
 }
 
 // A run for each table.
@@ -128,8 +114,10 @@ fn runs_of(alloc: Global, tables: Vec<Table>) -> Result<Vec<Arc<Run<Table>>>, Er
 
 #[tactic(auto, using(sst_entries::proofs::StreamLemmas::can_now))]
 fn read_runs(alloc: Global, runs: &[Arc<Run<Table>>], digest: &mut Digest) -> Result<(), Error> {
-    let mut stream = range_runs(alloc, runs, (Bound::Unbounded, Bound::Unbounded))?;
-    drain(&mut stream, digest)
+    take_all(
+        range_runs(alloc, runs, (Bound::Unbounded, Bound::Unbounded))?,
+        digest,
+    )
 }
 
 fn runs_passes(
