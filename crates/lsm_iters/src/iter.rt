@@ -157,12 +157,23 @@ impl<A: Allocator + Clone> Iter<A> {
         Ok(cut(DataBlock::new(block), &self.range.0, &self.range.1))
     }
 
+    /// From the third block on, has the checksums of a block and of those behind it compared together: whoever took two blocks
+    /// whole is likely to go on. No answer depends on it.
+    fn look_ahead(&self, handle: &KeyedBlockHandle<A>) {
+        if self.opened.data_loads >= 2 {
+            self.source.compare_ahead(handle.offset().0);
+        }
+    }
+
     /// Loads the next block at the front, where one is left.
     fn next_block(&mut self) -> Option<Result<Part<A>, Error>>
         ensures { BlockGives front_of self.old result self.new }
     {
         match self.index.next() {
-            Some(Ok(handle)) => Some(self.load(handle)),
+            Some(Ok(handle)) => {
+                self.look_ahead(&handle);
+                Some(self.load(handle))
+            }
             Some(Err(error)) => Some(Err(error)),
             None => None,
         }
