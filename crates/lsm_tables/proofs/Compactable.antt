@@ -1,9 +1,11 @@
 -- A run that was written of a list may be compacted.
-use Rattle.std.proofs.Common.{◌≡◌, refl, sym, ap, subst, ℕ, ◌<◌, List, [], ◌∷◌, length, arith}
+use Rattle.std.proofs.Common.{◌≡◌, ◌∙◌, refl, sym, ap, subst, ℕ, ◌<◌, List, [], ◌∷◌, length, arith}
+use Rattle.std.specs.Prelude.{IfSome, MatchOption, None, Option, Some}
 use Rattle.std.specs.List.{AllByRecursion}
 use Rattle.std.proofs.lemmas.List.{length-map}
 use Rattle.sst_entries.specs.Entry.{Entry}
 use Rattle.lsm_files.specs.declared.label.Label.{Label}
+use Rattle.lsm_files.specs.Chunks.{joined}
 use Rattle.lsm_iters.specs.Lift.{lift, lifted}
 use Rattle.lsm_readers.specs.Table.{OpenTable}
 use Rattle.lsm_writers.specs.Tables.{next_label}
@@ -37,6 +39,21 @@ some_lists (t ∷ ts) (es ∷ ls) h some = omega arith
 -- its tables have entries
 pub run_entries : (label : Label) (target : ℕ) (es : List Entry) (g : ℕ) (run : List OpenTable) (h : IsRunOfList es g run) → AreCutOf label target es g run → HaveEntries h.lists
 run_entries label target es g run h cut = (some_lists run h.lists h.hold h.some, each_some label cut.lists g run h.lists cut.opened h.hold)
+
+joined_some : (ls : List (List Entry)) → HaveEntries ls → joined ls ≡ [] → ⊥
+joined_some [] have none = absurd (omega (arith, have.0))
+joined_some ([] ∷ ls) have none = absurd (omega (arith, have.1.0))
+joined_some ((x ∷ xs) ∷ ls) have none = absurd cc
+
+-- so the list has one
+pub some_listed : (label : Label) (target : ℕ) (es : List Entry) (g : ℕ) (run : List OpenTable) → IsRunOfList es g run → AreCutOf label target es g run → es ≡ [] → ⊥
+some_listed label target es g run h cut none =
+    joined_some h.lists (run_entries label target es g run h cut) (h.whole ∙ ap (λ (xs : List Entry). lift xs g) none)
+
+-- where there is a run
+pub run_listed : (label : Label) (target : ℕ) (es : List Entry) (g : ℕ) (o : Option (List OpenTable)) → MatchOption o (es ≡ []) (λ run. IsRunOfList es g run) → IfSome o (λ run. AreCutOf label target es g run) → IfSome o (λ _. es ≡ [] → ⊥)
+run_listed label target es g None h cut = tt
+run_listed label target es g (Some run) h cut = some_listed label target es g run h cut
 
 -- so it may be compacted alone, where its list, lifted, can be written
 pub run_compactable : (label : Label) (target : ℕ) (es : List Entry) (g : ℕ) (run : List OpenTable) → IsRunOfList es g run → AreCutOf label target es g run → IsWritable (lift es g) → AreCompactable (run ∷ [])

@@ -159,6 +159,8 @@ pub fn read_run_back<A: Allocator + Clone>(
         IfOk result (λ r. MatchOption r (items.items ≡ []) (λ read.
         (read.0 ≡ point lifted key.now seqno)
         × DealsList gives back_gives (newest (within range.0 range.1 lifted)) read.1)) }
+    // Where the list has no entry, there is no answer.
+    ensures none { IfOk result (λ r. IfSome r (λ _. items.items ≡ [] → ⊥)) }
     // Both ends of the range may be asked however often.
     ensures can { IfOk result (λ r. IfSome r (λ read.
         CanDeal ⟦<MvccStream<Merger<RunReader<A>, A>> as Iterator>⟧.next_gives

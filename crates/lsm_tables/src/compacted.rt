@@ -115,6 +115,9 @@ fn compact_alone<A: Allocator + Clone>(
         (es : List Entry) → IsRunOfList es 0 run →
         let left = kept rules (unfiltered es) in
         IfOk result (λ r. MatchOption r (left ≡ []) (λ new. IsRunOfList left 0 new)) }
+    ensures none { let rules = rules_by gc_seqno_threshold evict_tombstones zero_seqnos in
+        (es : List Entry) → IsRunOfList es 0 run → let left = kept rules (unfiltered es) in
+        IfOk result (λ r. IfSome r (λ _. left ≡ [] → ⊥)) }
     ensures taken { let rules = rules_by gc_seqno_threshold evict_tombstones zero_seqnos in
         (es : List Entry) → IsRunOfList es 0 run → IsWritable es →
         FitsAsTables ids target_size (kept rules (unfiltered es)) →
@@ -148,6 +151,9 @@ fn write_and_compact<A: Allocator + Clone>(
     ensures run { let rules = rules_by gc_seqno_threshold evict_tombstones zero_seqnos in
         let left = kept rules (unfiltered items.items) in
         IfOk result (λ r. MatchOption r (left ≡ []) (λ run. IsRunOfList left 0 run)) }
+    ensures none { let rules = rules_by gc_seqno_threshold evict_tombstones zero_seqnos in
+        let left = kept rules (unfiltered items.items) in
+        IfOk result (λ r. IfSome r (λ _. left ≡ [] → ⊥)) }
     ensures taken { let rules = rules_by gc_seqno_threshold evict_tombstones zero_seqnos in
         let left = kept rules (unfiltered items.items) in
         (first : FitsAsTables (Some 1) target_size items.items) →
@@ -238,6 +244,10 @@ pub fn compact_run_back<A: Allocator + Clone>(
         IfOk result (λ r. MatchOption r (left ≡ []) (λ read.
         (read.0 ≡ point left key.now seqno)
         × DealsList gives back_gives (newest (within range.0 range.1 left)) read.1)) }
+    // Where nothing is kept, there is no answer.
+    ensures none { let rules = rules_by gc_seqno_threshold evict_tombstones zero_seqnos in
+        let left = kept rules (unfiltered items.items) in
+        IfOk result (λ r. IfSome r (λ _. left ≡ [] → ⊥)) }
     // Both ends of the range may be asked however often.
     ensures can { IfOk result (λ r. IfSome r (λ read.
         CanDeal ⟦<MvccStream<Merger<RunReader<A>, A>> as Iterator>⟧.next_gives

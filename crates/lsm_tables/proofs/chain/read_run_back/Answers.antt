@@ -7,6 +7,7 @@ use Rattle.sst_entries.specs.Point.{point}
 use Rattle.lsm_readers.specs.Table.{OpenTable}
 use Rattle.lsm_tables.specs.SeveralRuns.{union_in}
 use Rattle.lsm_tables.proofs.RunBack.{point_back, range_back, run_held, told_alone}
+use Rattle.lsm_tables.proofs.Compactable.{some_listed}
 use Rattle.lsm_tables.proofs.RunWriting.{wants}
 use Rattle.lsm_tables.proofs.chain.read_run_back.Goals as goal
 
@@ -47,3 +48,9 @@ returns-clause-refused g c =
     sym (ap (λ (o : Option ℕ). chain_fault o a.target_size 0 a.items.items a.global_seqno) c.new-ids.ensures)
     ∙ sym (ap (λ (m : ℕ). chain_fault c.new-ids.result a.target_size m a.items.items a.global_seqno) c.from-created_at.ensures)
     ∙ c.in_ok-run.ensures.refused
+
+pub returns-clause-none : goal.returns-clause-none
+returns-clause-none g c =
+    let h = rw c.in-Some.is at c.in_ok-run.ensures.run in
+    let cut = rw c.in-Some.is at c.in_ok-run.ensures.cut in
+    some_listed _ _ c.args.items.items c.args.global_seqno c.in-Some.run' h cut

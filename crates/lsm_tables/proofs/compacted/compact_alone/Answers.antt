@@ -1,9 +1,10 @@
 use Rattle.std.proofs.Common.{◌≡◌, ap, subst, List, [], ◌∷◌, sym}
-use Rattle.std.specs.Prelude.{Option, MatchOption}
+use Rattle.std.specs.Prelude.{IfSome, Option, MatchOption}
 use Rattle.sst_entries.specs.Entry.{Entry}
 use Rattle.lsm_readers.specs.Table.{OpenTable}
 use Rattle.lsm_tables.specs.Chain.{FitsAsTables, IsRunOfList}
 use Rattle.lsm_tables.specs.Compacted.{rules_by}
+use Rattle.lsm_tables.proofs.Compactable.{run_listed}
 use Rattle.lsm_tables.proofs.CompactedBack.{kept_alone}
 use Rattle.lsm_tables.proofs.RunBack.{run_held}
 use Rattle.lsm_tables.proofs.RunWriting.{wants}
@@ -24,3 +25,11 @@ returns-clause-run g c es is =
     let held = run_held es 0 a.run is _ (ap (λ (r : List OpenTable). r ∷ []) c.in_ok-new.ensures.ok) in
     subst (λ (left : List Entry). MatchOption c.in_ok-compacted.compacted (left ≡ []) (λ new. IsRunOfList left 0 new)) (kept_alone rules es a.run is)
     (c.in_ok-compacted.ensures.run (is.lists ∷ []) held)
+
+pub returns-clause-none : goal.returns-clause-none
+returns-clause-none g c es is =
+    let a = c.args in
+    let rules = rules_by a.gc_seqno_threshold a.evict_tombstones a.zero_seqnos in
+    let held = run_held es 0 a.run is _ (ap (λ (r : List OpenTable). r ∷ []) c.in_ok-new.ensures.ok) in
+    subst (λ (left : List Entry). IfSome c.in_ok-compacted.compacted (λ _. left ≡ [] → ⊥)) (kept_alone rules es a.run is)
+    (run_listed _ _ _ 0 c.in_ok-compacted.compacted (c.in_ok-compacted.ensures.run (is.lists ∷ []) held) (c.in_ok-compacted.ensures.cut (is.lists ∷ []) held))

@@ -10,3 +10,6 @@ returns-in_ok-read_alone-in-Some-clause-list g c =
     let is = rw c.in-Some.is at c.in_ok-run.ensures.run in
     let read = c.in_ok-read_alone-in-Some.field-0 in
     unlifted _ _ left a.key.now a.seqno a.range.0 a.range.1 read.0 read.1 (c.in_ok-read_alone-in-Some.ensures.list left 0 is)
+
+pub returns-in_ok-read_alone-in-Some-clause-none : goal.returns-in_ok-read_alone-in-Some-clause-none
+returns-in_ok-read_alone-in-Some-clause-none g c = rw c.in-Some.is at c.in_ok-run.ensures.none

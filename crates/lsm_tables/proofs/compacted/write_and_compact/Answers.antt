@@ -27,3 +27,6 @@ returns-clause-taken g c first fits =
     let ids = rw c.in-Some.is at c.in_ok-run.ensures.ids in
     let from_1 = ids ∙ ap (λ (o : Option ℕ). ids_behind o a.target_size (length run)) c.new-ids.ensures in
     c.compact_alone.ensures.taken a.items.items is c.requires (fits_behind _ a.target_size a.items.items _ run c.in_ok-run.ids cut from_1 first fits)
+
+pub returns-clause-none : goal.returns-clause-none
+returns-clause-none g c = c.compact_alone.ensures.none c.args.items.items (rw c.in-Some.is at c.in_ok-run.ensures.run)
