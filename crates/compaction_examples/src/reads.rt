@@ -1,8 +1,13 @@
 //! What readers see before and after runs are compacted, all of them or a part.
+ghost use Rattle.std.specs.Prelude.{map};
+ghost use Rattle.std.specs.Arc.{arc_value};
+ghost use Rattle.lsm_tables.specs.Compacted.{AreCompactable};
+
 use crate::runs::{Rules, T, V, Version, W, compacted, newest_in, run_of_tables, runs_of};
-use lsm_tables::{compaction_law, get_runs};
-use run_examples::tables::Tables;
-use sst_blocks::{Error, SeqNo};
+use lsm_tables::{compact_part_back, compaction_law, get_runs};
+use lsm_writers::{TableIds, Timestamp};
+use run_examples::tables::{ALL, Tables, owned_range};
+use sst_blocks::{Error, InternalValue, SeqNo};
 use std::alloc::Allocator;
 use std::test::Fail;
 use writer_examples::rows::Row;
@@ -73,6 +78,64 @@ fn a_tombstone_hides_what_is_older_in_other_runs(rt: HostRuntime) -> Result<(), 
     let (hidden, shown) = ([(b'a', 6, T)], [(b'a', 3, V)]);
     assert!(rt; newest_beside_a3(rt.alloc(), false)?.as_slice() == hidden.as_slice());
     assert!(rt; newest_beside_a3(rt.alloc(), true)?.as_slice() == shown.as_slice());
+    Ok(())
+}
+
+// The numbers that point reads find before and after a part is compacted. It is generic in what else was read, so that none of
+// its parts is looked at.
+fn numbers_of<A: Allocator, S: Drop>(
+    reads: Result<((Option<InternalValue<A>>, S), (Option<InternalValue<A>>, S)), Error>,
+) -> Result<[Option<SeqNo>; 2], Error> {
+    let (before, after) = reads?;
+    Ok([
+        before.0.map(|item| item.key.seqno),
+        after.0.map(|item| item.key.seqno),
+    ])
+}
+
+// What a point read finds before and after some runs are compacted in their place, with tombstones evicted or not.
+fn found_around_a_part<A: Allocator + Copy>(
+    alloc: A,
+    front: &[Tables<A>],
+    part: &[Tables<A>],
+    behind: &[Tables<A>],
+    evict: bool,
+    key: &[u8],
+    seqno: SeqNo,
+) -> Result<[Option<SeqNo>; 2], Error>
+    requires { AreCompactable (map arc_value part.now) }
+{
+    let (ids, moment) = (TableIds::new(9), Timestamp::from(0));
+    let range = owned_range(alloc, ALL)?;
+    numbers_of(compact_part_back(
+        alloc, front, part, behind, 7, evict, false, ids, 0, moment, key, seqno, range,
+    ))
+}
+
+// The same of the run of a@6, a tombstone, behind that of a@3.
+fn found_around_a6<A: Allocator + Copy>(
+    alloc: A,
+    evict: bool,
+    key: &[u8],
+    seqno: SeqNo,
+) -> Result<[Option<SeqNo>; 2], Error> {
+    let front = runs_of(alloc, &[&A3])?;
+    let part = runs_of(alloc, &[&A6_T])?;
+    let behind = Vec::new(alloc);
+    found_around_a_part(alloc, &front, &part, &behind, evict, key, seqno)
+}
+
+#[test]
+fn a_part_is_compacted_in_its_place(rt: HostRuntime) -> Result<(), Fail> {
+    let alloc = rt.alloc();
+    for (evict, seqno, numbers) in [
+        (false, 8, [Some(6), Some(6)]),
+        (false, 4, [Some(3), Some(3)]),
+        (true, 8, [Some(6), Some(3)]),
+    ] {
+        let found = found_around_a6(alloc, evict, b"a", seqno)?;
+        assert!(rt; found == numbers, "{seqno}");
+    }
     Ok(())
 }
 
