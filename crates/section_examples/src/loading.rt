@@ -99,7 +99,7 @@ fn loads_again(
         BlockType::Index | BlockType::Filter | BlockType::Meta => BlockType::Data,
     };
     let of_other_kind = Err(Error::InvalidTag(TagName::BlockType, kind.tag()));
-    let shorter = BlockHandle::new(lies.offset(), lies.size() - 1);
+    let shorter = BlockHandle::new(lies.offset(), lies.size().saturating_sub(1));
     for _ in 0..3 {
         if loaded_from(source, lies, kind) != Ok((kind, size))
             || loaded_from(source, lies, other) != of_other_kind
