@@ -1,13 +1,14 @@
 //! What readers see before and after runs are compacted, all of them or a part.
 ghost use Rattle.std.specs.Prelude.{map};
 ghost use Rattle.std.specs.Arc.{arc_value};
+ghost use Rattle.sst_entries.specs.Stream.{CanDeal};
 ghost use Rattle.lsm_tables.specs.Compacted.{AreCompactable};
 
 use crate::runs::{Rules, T, V, Version, W, compacted, newest_in, run_of_tables, runs_of};
 use lsm_tables::{compact_part_back, compaction_law, get_runs};
 use lsm_writers::{TableIds, Timestamp};
 use run_examples::tables::{ALL, Tables, owned_range};
-use sst_blocks::{Error, InternalValue, SeqNo};
+use sst_blocks::{Direction, Error, InternalValue, IterItem, SeqNo, answer_at};
 use std::alloc::Allocator;
 use std::test::Fail;
 use writer_examples::rows::Row;
@@ -81,19 +82,34 @@ fn a_tombstone_hides_what_is_older_in_other_runs(rt: HostRuntime) -> Result<(), 
     Ok(())
 }
 
-// The numbers that point reads find before and after a part is compacted. It is generic in what else was read, so that none of
-// its parts is looked at.
-fn numbers_of<A: Allocator, S: Drop>(
-    reads: Result<((Option<InternalValue<A>>, S), (Option<InternalValue<A>>, S)), Error>,
-) -> Result<[Option<SeqNo>; 2], Error> {
-    let (before, after) = reads?;
-    Ok([
-        before.0.map(|item| item.key.seqno),
-        after.0.map(|item| item.key.seqno),
-    ])
+// The number of the entry at one end of a range.
+fn number_at<A: Allocator, S: DoubleEndedIterator<Item = IterItem<A>>>(
+    range: &mut S,
+    end: Direction,
+) -> Result<Option<SeqNo>, Error>
+    requires { CanDeal S.next_gives S.next_back_gives S.can_next S.can_next_back range.old }
+    ensures { CanDeal S.next_gives S.next_back_gives S.can_next S.can_next_back range.new }
+{
+    match answer_at(range, end) {
+        Some(item) => Ok(Some(item?.key.seqno)),
+        None => Ok(None),
+    }
 }
 
-// What a point read finds before and after some runs are compacted in their place, with tombstones evicted or not.
+/// The numbers of the entry that a point read finds, and of those at both ends of a range. It is generic in the range, so that
+/// none of its parts is looked at.
+pub(crate) fn numbers_of<A: Allocator, S: DoubleEndedIterator<Item = IterItem<A>> + Drop>(
+    read: (Option<InternalValue<A>>, S),
+) -> Result<[Option<SeqNo>; 3], Error>
+    requires { CanDeal S.next_gives S.next_back_gives S.can_next S.can_next_back read.1 }
+{
+    let (found, mut range) = read;
+    let first = number_at(&mut range, Direction::Front)?;
+    let last = number_at(&mut range, Direction::Back)?;
+    Ok([found.map(|item| item.key.seqno), first, last])
+}
+
+// What a point read and a range find before and after some runs are compacted in their place, with tombstones evicted or not.
 fn found_around_a_part<A: Allocator + Copy>(
     alloc: A,
     front: &[Tables<A>],
@@ -102,39 +118,68 @@ fn found_around_a_part<A: Allocator + Copy>(
     evict: bool,
     key: &[u8],
     seqno: SeqNo,
-) -> Result<[Option<SeqNo>; 2], Error>
+) -> Result<[[Option<SeqNo>; 3]; 2], Error>
     requires { AreCompactable (map arc_value part.now) }
 {
     let (ids, moment) = (TableIds::new(9), Timestamp::from(0));
     let range = owned_range(alloc, ALL)?;
-    numbers_of(compact_part_back(
+    let (before, after) = compact_part_back(
         alloc, front, part, behind, 7, evict, false, ids, 0, moment, key, seqno, range,
-    ))
+    )?;
+    Ok([numbers_of(before)?, numbers_of(after)?])
 }
 
-// The same of the run of a@6, a tombstone, behind that of a@3.
+const A1_B2: [Row<'static>; 2] = [(b"a", 1, V, b"x"), (b"b", 2, V, b"x")];
+
+// The same of the run of a@6, a tombstone, behind that of a@3, and in front of that of a@1 and b@2.
 fn found_around_a6<A: Allocator + Copy>(
     alloc: A,
     evict: bool,
     key: &[u8],
     seqno: SeqNo,
-) -> Result<[Option<SeqNo>; 2], Error> {
+) -> Result<[[Option<SeqNo>; 3]; 2], Error> {
     let front = runs_of(alloc, &[&A3])?;
     let part = runs_of(alloc, &[&A6_T])?;
-    let behind = Vec::new(alloc);
+    let behind = runs_of(alloc, &[&A1_B2])?;
     found_around_a_part(alloc, &front, &part, &behind, evict, key, seqno)
 }
 
+// A range has the newest version of each key, whatever a point read is bounded by.
 #[test]
 fn a_part_is_compacted_in_its_place(rt: HostRuntime) -> Result<(), Fail> {
     let alloc = rt.alloc();
-    for (evict, seqno, numbers) in [
-        (false, 8, [Some(6), Some(6)]),
-        (false, 4, [Some(3), Some(3)]),
-        (true, 8, [Some(6), Some(3)]),
+    for (evict, key, seqno, before, after) in [
+        (
+            false,
+            b"a",
+            8,
+            [Some(6), Some(6), Some(2)],
+            [Some(6), Some(6), Some(2)],
+        ),
+        (
+            false,
+            b"a",
+            4,
+            [Some(3), Some(6), Some(2)],
+            [Some(3), Some(6), Some(2)],
+        ),
+        (
+            false,
+            b"b",
+            8,
+            [Some(2), Some(6), Some(2)],
+            [Some(2), Some(6), Some(2)],
+        ),
+        (
+            true,
+            b"a",
+            8,
+            [Some(6), Some(6), Some(2)],
+            [Some(3), Some(3), Some(2)],
+        ),
     ] {
-        let found = found_around_a6(alloc, evict, b"a", seqno)?;
-        assert!(rt; found == numbers, "{seqno}");
+        let found = found_around_a6(alloc, evict, key, seqno)?;
+        assert!(rt; found == [before, after], "{seqno}");
     }
     Ok(())
 }

@@ -3,12 +3,13 @@ ghost use Rattle.std.specs.Prelude.{◌∷◌, [], IfOk, IfSome, map};
 ghost use Rattle.std.specs.Arc.{arc_value};
 ghost use Rattle.lsm_tables.specs.Compacted.{AreCompactable};
 
+use crate::reads::numbers_of;
 use crate::runs::{Rules, T, V, Version, runs_of, scanned};
-use lsm_tables::compact_to_run;
+use lsm_tables::{compact_to_run, read_run};
 use lsm_writers::{TableId, TableIds, Timestamp};
-use run_examples::tables::Tables;
-use sst_blocks::Error;
-use std::alloc::Global;
+use run_examples::tables::{ALL, Tables, owned_range};
+use sst_blocks::{Error, SeqNo};
+use std::alloc::{Allocator, Global};
 use std::sync::Arc;
 use std::test::Fail;
 use writer_examples::rows::Row;
@@ -117,5 +118,24 @@ fn none_kept(alloc: Global) -> Result<Kept, Error> {
 fn where_nothing_is_kept_there_is_no_run(rt: HostRuntime) -> Result<(), Fail> {
     let none = none_kept(rt.alloc())?;
     assert!(rt; are(&none, &[], [None; 4], Some(6)));
+    Ok(())
+}
+
+// The numbers that reads of what is kept of two lists find, of a version below a bound and of a range.
+fn read_kept<A: Allocator + Copy>(alloc: A, seqno: SeqNo) -> Result<[Option<SeqNo>; 3], Error> {
+    let runs = runs_of(alloc, &[NEWER, OLDER])?;
+    let (ids, moment) = (TableIds::new(5), Timestamp::from(0));
+    let (run, _) = compact_to_run(alloc, &runs, 5, false, false, ids, 0, moment)?;
+    match run {
+        Some(run) => numbers_of(read_run(alloc, run, b"a", seqno, owned_range(alloc, ALL)?)?),
+        None => Ok([None; 3]),
+    }
+}
+
+#[test]
+fn the_new_run_is_read(rt: HostRuntime) -> Result<(), Fail> {
+    assert!(rt; read_kept(rt.alloc(), 10)? == [Some(9), Some(9), Some(1)]);
+    assert!(rt; read_kept(rt.alloc(), 9)? == [Some(3), Some(9), Some(1)]);
+    assert!(rt; read_kept(rt.alloc(), 3)? == [None, Some(9), Some(1)]);
     Ok(())
 }

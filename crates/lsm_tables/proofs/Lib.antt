@@ -3,6 +3,8 @@ pub mod Places
 pub mod RunSteps
 pub mod RunLaws
 pub mod RunWithin
+pub mod OneList
+pub mod SpanLists
 pub mod Opens
 pub mod Unions
 pub mod RunLists
@@ -25,8 +27,8 @@ pub mod Scanners
 pub mod Keeping
 pub mod Versions
 pub mod Replaced
+pub mod StaysWritable
 pub mod ShownRanges
-pub mod OneList
 pub mod Compactable
 pub mod CompactedBack
 pub mod PartRuns

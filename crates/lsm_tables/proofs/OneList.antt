@@ -12,7 +12,7 @@ use Rattle.lsm_tables.specs.RunLists.{HoldLists, HoldsList, RunsHoldLists}
 use Rattle.lsm_tables.proofs.RunWithin.{held_told}
 use Rattle.lsm_tables.proofs.Unions.{entries_of}
 
-all_within : (es : List Entry) → within Unbounded Unbounded es ≡ es
+pub all_within : (es : List Entry) → within Unbounded Unbounded es ≡ es
 all_within [] = refl
 all_within (e ∷ es) = ap (λ (xs : List Entry). e ∷ xs) (all_within es)
 

@@ -86,8 +86,8 @@ same_bounds front back key bound low low' high high' es found l h r =
 module _ {S : Type 0} (front back : S → Option (Result Entry Error) → S → Type 0) (key : List ℕ) (bound : ℕ) (low high : Bound (List ℕ)) (rules : Rules) (fs ps bs : List (List (List Entry))) where
   pub alike : (points : PointsStay) (ranges : RangesStay) (sides : SideBySide) (before after : Option Entry × S)
       → ReadsOf front back key bound low high (union_in (fs ++ (ps ++ bs))) before → ReadsKept front back key bound low high rules fs ps bs after
-      → IsStrict (union_in (fs ++ (ps ++ bs))) → IsPlain rules (union_in ps) ⊎ AllNewer (union_in ps) (union_in (fs ++ bs)) → rules.watermark ≤ bound → ShowAlike front back key bound low high before after
-  alike points ranges sides before after b a strict safe served =
+      → IsStrict (union_in (fs ++ (ps ++ bs))) → IsPlain rules (union_in ps) ⊎ AllNewer (union_in ps) (union_in (fs ++ bs)) → ShowAlike front back key bound low high rules.watermark before after
+  alike points ranges sides before after b a strict safe =
       let all = fs ++ (ps ++ bs) in
       let left = fs ++ (a.made ++ bs) in
       let replaced = sides rules fs ps a.made bs a.kept_are strict safe in
@@ -96,6 +96,6 @@ module _ {S : Type 0} (front back : S → Option (Result Entry Error) → S → 
         has = union_in left;
         had_read = b;
         has_read = a.reads;
-        same_point = ap shown a.reads.point_is ∙ points rules ps (fs ++ bs) all left replaced key bound served ∙ sym (ap shown b.point_is);
+        same_point = λ served. ap shown a.reads.point_is ∙ points rules ps (fs ++ bs) all left replaced key bound served ∙ sym (ap shown b.point_is);
         same_range = ranges rules ps (fs ++ bs) all left replaced low high;
       }

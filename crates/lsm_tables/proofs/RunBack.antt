@@ -1,6 +1,6 @@
 -- A run of a list that is read back.
 use Rattle.std.proofs.Common.{◌≡◌, refl, sym, ◌∙◌, ap, subst, ℕ, false, inl, inr, List, [], ◌∷◌, append-nil}
-use Rattle.std.specs.Prelude.{Option, Ok, Err, Result}
+use Rattle.std.specs.Prelude.{Option, Ok, Err, IfOk, Result}
 use Rattle.std.specs.List.{AllByRecursion}
 use Rattle.std.specs.declared.ops.Bound.{Bound}
 use Rattle.std.proofs.lemmas.Bool.{cases_Bool}
@@ -8,16 +8,16 @@ use Rattle.sst_entries.specs.declared.error.Error.{Error}
 use Rattle.sst_entries.specs.declared.error.Error.TheVariants.{OutOfMemory}
 use Rattle.sst_entries.specs.Entry.{Entry}
 use Rattle.sst_entries.specs.Error.{is_memory}
-use Rattle.sst_entries.specs.Point.{point, within}
 use Rattle.sst_entries.specs.Stream.{ok_results}
 use Rattle.lsm_files.specs.Chunks.{joined}
-use Rattle.lsm_merge.specs.Union.{AtMost, Ascends, entries_among, insert_sorted, newest, sort_entries}
+use Rattle.lsm_merge.specs.Union.{AtMost, Ascends, entries_among, insert_sorted, sort_entries}
 use Rattle.lsm_merge.proofs.Pairs.{Strict}
 use Rattle.lsm_readers.specs.Answer.{lift}
 use Rattle.lsm_readers.specs.Table.{OpenTable}
 use Rattle.lsm_readers.proofs.Scans.{memory_is}
 use Rattle.lsm_tables.specs.Chain.{IsRunOfList}
-use Rattle.lsm_tables.specs.RunLists.{DealsList, RunsHoldLists}
+use Rattle.lsm_tables.specs.PartReads.{ReadsOf}
+use Rattle.lsm_tables.specs.RunLists.{RunsHoldLists}
 use Rattle.lsm_tables.specs.SeveralRuns.{union_in}
 use Rattle.lsm_tables.proofs.Rising.{ascends_of, run_strict}
 use Rattle.lsm_tables.proofs.Unions.{entries_of}
@@ -46,13 +46,10 @@ module _ (es : List Entry) (g : ℕ) (run : List OpenTable) (h : IsRunOfList es 
   pub run_held : (runs : List (List OpenTable)) → runs ≡ run ∷ [] → RunsHoldLists runs (h.lists ∷ [])
   run_held runs is = subst (λ (x : List (List OpenTable)). RunsHoldLists x (h.lists ∷ [])) (sym is) ((h.order, h.hold), tt)
 
-  pub point_back : (key : List ℕ) (bound : ℕ) (found : Option Entry) → read (point (union_in (h.lists ∷ [])) key bound) ≡ read found → found ≡ point (lift es g) key bound
-  point_back key bound found told =
-      let same : point (union_in (h.lists ∷ [])) key bound ≡ found = cc in
-      sym same ∙ ap (λ (xs : List Entry). point xs key bound) union_is
-
-  pub range_back : {S : Type 0} (front back : S → Option (Result Entry Error) → S → Type 0) (low high : Bound (List ℕ)) (s : S) → DealsList front back (newest (within low high (union_in (h.lists ∷ [])))) s → DealsList front back (newest (within low high (lift es g))) s
-  range_back front back low high s deals = subst (λ (xs : List Entry). DealsList front back (newest (within low high xs)) s) union_is deals
+  -- what is read of the run alone is read of the list
+  pub reads_back : {S : Type 0} (front back : S → Option (Result Entry Error) → S → Type 0) (key : List ℕ) (bound : ℕ) (low high : Bound (List ℕ)) (r : Result (Option Entry × S) Error)
+      → IfOk r (ReadsOf front back key bound low high (union_in (h.lists ∷ []))) → IfOk r (ReadsOf front back key bound low high (lift es g))
+  reads_back front back key bound low high r = subst (λ (xs : List Entry). IfOk r (ReadsOf front back key bound low high xs)) union_is
 
 -- a read that tells a value is refused for want of memory alone
 pub told_alone : (found : Option Entry) (e : Error) → (is_memory e ≡ false → read found ≡ Err e) → e ≡ OutOfMemory

@@ -10,12 +10,13 @@ use Rattle.lsm_files.specs.Chunks.{joined}
 use Rattle.lsm_iters.specs.Range.{Range}
 use Rattle.lsm_ranges.specs.Run.{ArePlacesOf, are_in_order, overlap_indexes}
 use Rattle.lsm_readers.specs.Table.{OpenTable}
-use Rattle.lsm_tables.specs.RunLists.{DealsList, HoldLists}
+use Rattle.lsm_tables.specs.RunLists.{DealsList, HoldLists, span_list}
 use Rattle.lsm_tables.specs.RunParts.{Part, Span, parts_at, ranges_of, span_of, span_parts}
 use Rattle.lsm_tables.specs.RunRange.{IsRunOf, OpensAtMost, RunGives, RunRange, back_tables, front_tables, left_of, parts_told, run_left}
 use Rattle.lsm_tables.proofs.RunLaws.{few_between, opens_few, run_deals}
 use Rattle.lsm_tables.proofs.RunSteps.{R}
 use Rattle.lsm_tables.proofs.RunWithin.{span_deals}
+use Rattle.lsm_tables.proofs.SpanLists.{told_between}
 use Rattle.lsm_readers.proofs.TableRanges.{deals_values}
 
 module _ {A : Type 0} (ts : List OpenTable) (span : Span) (s : RunRange A) (is : IsRunOf ts span s) where
@@ -41,9 +42,17 @@ module _ {A : Type 0} (low high : Bound (List ℕ)) (ts : List OpenTable) (ends 
   pub few_all : ArePlacesOf ts ends → OpensAtMost (RunGives front_of front_tables) (RunGives back_of back_tables) (length ts) s
   few_all places asked rs t runs = let few = new_few ts (span_of ends low high) s is asked rs t runs in omega (arith, few, places.1)
 
-module _ {A : Type 0} (low high : Bound (List ℕ)) (ts : List OpenTable) (ls : List (List Entry)) (h : HoldLists ts ls) (order : are_in_order (ranges_of ts) ≡ true) where
-  pub new_deals : (ends : ℕ × ℕ) → overlap_indexes low high (ranges_of ts) ≡ Some ends → (s : RunRange A) → IsRunOf ts (span_of ends low high) s → DealsList (RunGives front_of front_tables) (RunGives back_of back_tables) (within low high (joined ls)) s
-  new_deals ends found s is stops memory =
-      let told : run_left s ≡ ok_results (within low high (joined ls)) = new_left ts (span_of ends low high) s is ∙ span_deals low high ts ls h order ends found in
-      let deals = subst (λ (xs : List R). DealsEnding (RunGives front_of front_tables) (RunGives back_of back_tables) (λ _. Unit {0}) (λ _. Unit {0}) s xs) told (run_deals s) in
-      deals_values (RunGives front_of front_tables) (RunGives back_of back_tables) (λ _. Unit {0}) (λ _. Unit {0}) s (within low high (joined ls)) deals stops memory
+-- what is left, where it is a list
+left_deals : {A : Type 0} (s : RunRange A) (es : List Entry) → run_left s ≡ ok_results es → DealsList (RunGives front_of front_tables) (RunGives back_of back_tables) es s
+left_deals s es told stops memory =
+    let deals = subst (λ (xs : List R). DealsEnding (RunGives front_of front_tables) (RunGives back_of back_tables) (λ _. Unit {0}) (λ _. Unit {0}) s xs) told (run_deals s) in
+    deals_values (RunGives front_of front_tables) (RunGives back_of back_tables) (λ _. Unit {0}) (λ _. Unit {0}) s es deals stops memory
+
+module _ {A : Type 0} (low high : Bound (List ℕ)) (ts : List OpenTable) (ls : List (List Entry)) (h : HoldLists ts ls) (ends : ℕ × ℕ) (s : RunRange A) (is : IsRunOf ts (span_of ends low high) s) where
+  pub new_deals : are_in_order (ranges_of ts) ≡ true → overlap_indexes low high (ranges_of ts) ≡ Some ends → DealsList (RunGives front_of front_tables) (RunGives back_of back_tables) (within low high (joined ls)) s
+  new_deals order found = left_deals s (within low high (joined ls)) (new_left ts (span_of ends low high) s is ∙ span_deals low high ts ls h order ends found)
+
+  -- whatever the places are
+  pub culled_deals : DealsList (RunGives front_of front_tables) (RunGives back_of back_tables) (span_list (span_of ends low high) ls) s
+  culled_deals =
+      left_deals s (span_list (span_of ends low high) ls) (new_left ts (span_of ends low high) s is ∙ told_between (span_of ends low high) ends.0 (suc ends.1 - ends.0) 0 ts ls h)

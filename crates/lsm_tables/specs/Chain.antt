@@ -87,3 +87,10 @@ tables_fault ids target moment es =
 abbrev pub chain_fault : Option ℕ → ℕ → ℕ → List Entry → ℕ → Option Error
 chain_fault ids target moment es g =
     option_or (tables_fault ids target moment es) (number_fault es g)
+
+-- what writing a list as tables under ids from 1 on refuses, or else writing what is kept of it under
+-- those behind
+abbrev pub both_fault : ℕ → List Entry → List (List Entry) → List Entry → Option Error
+both_fault target es tables left =
+    option_or (tables_fault (Some 1) target 0 es)
+    (tables_fault (ids_behind (Some 1) target (length tables)) target 0 left)

@@ -1,5 +1,5 @@
 -- What is read of several runs before and after a part of them is compacted.
-use Rattle.std.specs.Prelude.{◌≡◌, ℕ, List, ◌++◌, Option, Result}
+use Rattle.std.specs.Prelude.{◌≡◌, ◌≤◌, ℕ, List, ◌++◌, Option, Result}
 use Rattle.std.specs.declared.ops.Bound.{Bound}
 use Rattle.sst_entries.specs.declared.error.Error.{Error}
 use Rattle.sst_entries.specs.Entry.{Entry}
@@ -34,12 +34,13 @@ module _ {S : Type 0} (front back : S → Option (Result Entry Error) → S → 
     pub kept_are : entries_in made ≡ kept_in rules ps
     pub reads : ReadsOf (union_in (fs ++ (made ++ bs))) read
 
-  -- reads of one list before and of another after show the same
-  pub record ShowAlike (before after : Option Entry × S) : Type 0 where
+  -- reads of one list before and of another after show the same, point reads to a reader at the
+  -- watermark or above
+  pub record ShowAlike (watermark : ℕ) (before after : Option Entry × S) : Type 0 where
     pub had : List Entry
     pub has : List Entry
     pub had_read : ReadsOf had before
     pub has_read : ReadsOf has after
-    pub same_point : shown after.0 ≡ shown before.0
+    pub same_point : watermark ≤ bound → shown after.0 ≡ shown before.0
     pub same_range : all_shown (newest (within low high has))
         ≡ all_shown (newest (within low high had))

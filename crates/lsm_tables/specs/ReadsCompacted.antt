@@ -11,6 +11,7 @@ use Rattle.lsm_merge.specs.Union.{SameBag, newest}
 use Rattle.lsm_sorted.specs.Compaction.{Rules}
 use Rattle.lsm_sorted.specs.Point.{seen}
 use Rattle.lsm_sorted.specs.ReadLaw.{AllNewer, IsPlain}
+use Rattle.lsm_writers.specs.Writing.{IsWritable}
 use Rattle.lsm_tables.specs.Compacted.{kept_in}
 use Rattle.lsm_tables.specs.SeveralRuns.{union_in}
 
@@ -52,6 +53,12 @@ RangesStay = (rules : Rules) (part rest before after : List (List (List Entry)))
 abbrev pub StayStrict : Type 0
 StayStrict = (rules : Rules) (part rest before after : List (List (List Entry))) →
     AreReplaced rules part rest before after → IsStrict (union_in after)
+
+-- and each number stays below the largest one: the runs may be compacted again
+abbrev pub StayWritable : Type 0
+StayWritable = (rules : Rules) (part rest before after : List (List (List Entry))) →
+    AreReplaced rules part rest before after → IsWritable (union_in before) →
+    IsWritable (union_in after)
 
 -- so it is where runs that stand side by side are compacted into runs that take their place
 abbrev pub SideBySide : Type 0

@@ -14,15 +14,15 @@ pub use Rattle.lsm_readers.specs.Answer.{lift}
 pub use Rattle.lsm_readers.specs.Read.{DoesRead, Opens}
 pub use Rattle.lsm_readers.specs.Table.{OpenTable}
 pub use Rattle.lsm_sorted.specs.Compaction.{kept, unfiltered}
-pub use Rattle.lsm_writers.specs.Tables.{AreFinished, IsFreshRun}
+pub use Rattle.lsm_writers.specs.Tables.{AreFinished, AreTables, IsFreshRun}
 pub use Rattle.lsm_writers.specs.Writing.{IsTableOf, IsWritable}
 pub use Rattle.lsm_tables.specs.Written.{number_fault}
 pub use Rattle.lsm_tables.specs.RunParts.{ends_given, range_of, span_of}
 pub use Rattle.lsm_tables.specs.RunRange.{IsRunOf, ItemGives, OpensAtMost, RunGives, back_tables, front_tables, over, run_left, run_size, stopped}
-pub use Rattle.lsm_tables.specs.RunLists.{DealTogether, DealsList, HoldLists, RunsHoldLists}
+pub use Rattle.lsm_tables.specs.RunLists.{DealTogether, DealsList, HoldLists, RunsHoldLists, span_list}
 pub use Rattle.lsm_tables.specs.RunScan.{BeginsNext, BeginsScan, IsScanOf, RunScansNext, ScansItem, over_scan, run_scan_size, stopped_scan, tables_between, tables_scan}
 pub use Rattle.lsm_tables.specs.SpansRead.{IsOverSpans, spans_within}
 pub use Rattle.lsm_tables.specs.SeveralRuns.{LoadsEach, leading_of, loads_together, run_read, runs_read, runs_told, union_in}
-pub use Rattle.lsm_tables.specs.Chain.{AreCutOf, AreOpened, AreWritten, FitsAsTables, IsOpenedOf, IsRunOfList, chain_fault, ids_behind, run_label, tables_fault, writes_fault}
+pub use Rattle.lsm_tables.specs.Chain.{AreCutOf, AreOpened, AreWritten, FitsAsTables, IsOpenedOf, IsRunOfList, both_fault, chain_fault, ids_behind, run_label, tables_fault, writes_fault}
 pub use Rattle.lsm_tables.specs.Compacted.{AreCompactable, AreWrittenBy, DealsWritable, FitsBy, HaveEntries, RunsOn, kept_in, rules_by}
 pub use Rattle.lsm_tables.specs.PartReads.{HoldSides, ReadsKept, ReadsOf, ShowAlike}

@@ -5,14 +5,12 @@ ghost use Rattle.std.specs.Option.{option_map_or};
 ghost use Rattle.sst_entries.specs.declared.error.Error.TheVariants.{OutOfMemory};
 ghost use Rattle.lsm_files.specs.declared.label.Label.{Label};
 ghost use Rattle.lsm_tables.specs.Words.{AreCompactable, AreCutOf, AreFinished, AreOpened};
-ghost use Rattle.lsm_tables.specs.Words.{AreWritten, CanDeal, DealsList, Entry, Faults};
-ghost use Rattle.lsm_tables.specs.Words.{FitsAsTables, IsOpenedOf};
-ghost use Rattle.lsm_tables.specs.Words.{IsRunOfList, IsTableOf, IsWritable, chain_fault};
-ghost use Rattle.lsm_tables.specs.Words.{default_options, highest_seqno, ids_behind, joined, lift};
-ghost use Rattle.lsm_tables.specs.Words.{newest, number_fault, point, run_label, tables_fault};
-ghost use Rattle.lsm_tables.specs.Words.{within};
+ghost use Rattle.lsm_tables.specs.Words.{AreWritten, CanDeal, Entry, Faults, FitsAsTables};
+ghost use Rattle.lsm_tables.specs.Words.{IsOpenedOf, IsRunOfList, IsTableOf, IsWritable, ReadsOf};
+ghost use Rattle.lsm_tables.specs.Words.{chain_fault, default_options, highest_seqno, ids_behind};
+ghost use Rattle.lsm_tables.specs.Words.{joined, lift, number_fault, run_label, tables_fault};
 
-use crate::{RunReader, Table, Timestamp, get_runs, range_runs};
+use crate::{Reads, RunReader, Table, Timestamp, read_run};
 use lsm_merge::Merger;
 use lsm_ranges::Run;
 use lsm_sorted::MvccStream;
@@ -20,7 +18,6 @@ use lsm_writers::{FinishedTable, MultiWriter, TableIds, tables_law};
 use sst_blocks::{Error, InternalValue, SeqNo, UserKey};
 use std::alloc::Allocator;
 use std::ops::Bound;
-use std::sync::Arc;
 
 // Writes a list as tables of a target size; none where it has no entry. Refused as `MultiWriter` is.
 fn write_tables<A: Allocator + Clone>(
@@ -141,24 +138,14 @@ pub fn read_run_back<A: Allocator + Clone>(
     key: &[u8],
     seqno: SeqNo,
     range: (Bound<UserKey<A>>, Bound<UserKey<A>>),
-) -> Result<
-    Option<
-        (
-            Option<InternalValue<A>>,
-            MvccStream<Merger<RunReader<A>, A>>,
-        ),
-    >,
-    Error,
->
+) -> Result<Option<Reads<A>>, Error>
     requires { IsWritable items.items }
     // The first match of the key, and from both ends the newest version of each key within the bounds, of the list, lifted.
     ensures list { let gives = ⟦<MvccStream<Merger<RunReader<A>, A>> as Iterator>⟧.next_gives in
         let back_gives =
         ⟦<MvccStream<Merger<RunReader<A>, A>> as DoubleEndedIterator>⟧.next_back_gives in
-        let lifted = lift items.items global_seqno in
-        IfOk result (λ r. MatchOption r (items.items ≡ []) (λ read.
-        (read.0 ≡ point lifted key.now seqno)
-        × DealsList gives back_gives (newest (within range.0 range.1 lifted)) read.1)) }
+        IfOk result (λ r. MatchOption r (items.items ≡ [])
+        (ReadsOf gives back_gives key.now seqno range.0 range.1 (lift items.items global_seqno))) }
     // Where the list has no entry, there is no answer.
     ensures none { IfOk result (λ r. IfSome r (λ _. items.items ≡ [] → ⊥)) }
     // Both ends of the range may be asked however often.
@@ -183,11 +170,8 @@ pub fn read_run_back<A: Allocator + Clone>(
         items,
         global_seqno,
     )?;
-    let Some(run) = run else {
-        return Ok(None);
-    };
-    let runs = [Arc::new(alloc.clone()?, run)?];
-    let found = get_runs(&runs, key, seqno)?;
-    let stream = range_runs(alloc, &runs, range)?;
-    Ok(Some((found, stream)))
+    match run {
+        Some(run) => Ok(Some(read_run(alloc, run, key, seqno, range)?)),
+        None => Ok(None),
+    }
 }

@@ -3,7 +3,8 @@ ghost use Rattle.std.specs.Prelude.{◌≡◌, ◌<◌, IfErr, IfOk, List, lengt
 ghost use Rattle.std.specs.Arc.{arc_value};
 ghost use Rattle.std.specs.Iterator.{IsFinite};
 ghost use Rattle.sst_entries.specs.declared.error.Error.TheVariants.{OutOfMemory};
-ghost use Rattle.lsm_tables.specs.ReadsCompacted.{PointsStay, RangesStay, SideBySide, StayStrict};
+ghost use Rattle.lsm_tables.specs.ReadsCompacted.{PointsStay, RangesStay, SideBySide};
+ghost use Rattle.lsm_tables.specs.ReadsCompacted.{StayStrict, StayWritable};
 ghost use Rattle.lsm_tables.specs.Words.{AreCompactable, AreWrittenBy, DealTogether, DealsList};
 ghost use Rattle.lsm_tables.specs.Words.{DealsWritable, Entry, Faults, FitsBy, HaveEntries};
 ghost use Rattle.lsm_tables.specs.Words.{HoldLists, IsFreshRun, RunsHoldLists, RunsOn, joined};
@@ -147,7 +148,8 @@ pub fn compact_runs<A: Allocator + Clone>(
 /// Laws of reads of several runs where a part of them is compacted, without a filter, and the rest stays: where nothing is
 /// evicted or zeroed and the part has no weak tombstone, or of each key all others are newer than the part. A point read whose
 /// bound is the watermark or above sees the same of each key before and after, and so does a range of the newest versions
-/// within any bounds. No key is there twice under one number then, so that the runs may be compacted again.
+/// within any bounds. No key is there twice under one number then, and where each number was below the largest one, each still
+/// is: so the runs may be compacted again.
 ///
 /// What is said holds wherever the new runs stand among the others; the last clause says it of runs side by side. The call does
 /// nothing: its contract says so.
@@ -155,6 +157,7 @@ pub fn compaction_law()
     ensures points { PointsStay }
     ensures ranges { RangesStay }
     ensures strict { StayStrict }
+    ensures writable { StayWritable }
     ensures side_by_side { SideBySide }
 {
     // Of a part that is compacted.

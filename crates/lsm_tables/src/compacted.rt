@@ -3,14 +3,14 @@ ghost use Rattle.std.specs.Prelude.{◌≡◌, ◌∷◌, ◌+◌, ◌<◌, ◌^
 ghost use Rattle.std.specs.Arc.{arc_value};
 ghost use Rattle.std.specs.Option.{option_map_or};
 ghost use Rattle.sst_entries.specs.declared.error.Error.TheVariants.{OutOfMemory};
-ghost use Rattle.lsm_tables.specs.Words.{AreCompactable, AreCutOf, AreWritten, CanDeal, DealsList};
+ghost use Rattle.lsm_tables.specs.Words.{AreCompactable, AreCutOf, AreTables, AreWritten, CanDeal};
 ghost use Rattle.lsm_tables.specs.Words.{Entry, Faults, FitsAsTables, IsRunOfList, IsWritable};
-ghost use Rattle.lsm_tables.specs.Words.{RunsHoldLists, highest_seqno, ids_behind, kept, kept_in};
-ghost use Rattle.lsm_tables.specs.Words.{lift, newest, point, rules_by, run_label, tables_fault};
-ghost use Rattle.lsm_tables.specs.Words.{unfiltered, within};
+ghost use Rattle.lsm_tables.specs.Words.{ReadsOf, RunsHoldLists, both_fault, default_options};
+ghost use Rattle.lsm_tables.specs.Words.{highest_seqno, ids_behind, kept, kept_in, rules_by};
+ghost use Rattle.lsm_tables.specs.Words.{run_label, tables_fault, unfiltered};
 
 use crate::chain::open_tables;
-use crate::{RunReader, Table, Timestamp, compact_runs, get_runs, range_runs, write_run};
+use crate::{Reads, RunReader, Table, Timestamp, compact_runs, read_run, write_run};
 use lsm_merge::Merger;
 use lsm_ranges::Run;
 use lsm_sorted::MvccStream;
@@ -118,6 +118,9 @@ fn compact_alone<A: Allocator + Clone>(
     ensures none { let rules = rules_by gc_seqno_threshold evict_tombstones zero_seqnos in
         (es : List Entry) → IsRunOfList es 0 run → let left = kept rules (unfiltered es) in
         IfOk result (λ r. IfSome r (λ _. left ≡ [] → ⊥)) }
+    ensures refused { let rules = rules_by gc_seqno_threshold evict_tombstones zero_seqnos in
+        (es : List Entry) → IsRunOfList es 0 run →
+        Faults result (tables_fault ids target_size 0 (kept rules (unfiltered es))) }
     ensures taken { let rules = rules_by gc_seqno_threshold evict_tombstones zero_seqnos in
         (es : List Entry) → IsRunOfList es 0 run → IsWritable es →
         FitsAsTables ids target_size (kept rules (unfiltered es)) →
@@ -154,6 +157,11 @@ fn write_and_compact<A: Allocator + Clone>(
     ensures none { let rules = rules_by gc_seqno_threshold evict_tombstones zero_seqnos in
         let left = kept rules (unfiltered items.items) in
         IfOk result (λ r. IfSome r (λ _. left ≡ [] → ⊥)) }
+    // The refusal is the first: of writing the list, which is cut into these tables, and then what is kept.
+    ensures refused { let rules = rules_by gc_seqno_threshold evict_tombstones zero_seqnos in
+        let left = kept rules (unfiltered items.items) in (tables : List (List Entry)) →
+        AreTables default_options.data_block_size target_size items.items tables →
+        Faults result (both_fault target_size items.items tables left) }
     ensures taken { let rules = rules_by gc_seqno_threshold evict_tombstones zero_seqnos in
         let left = kept rules (unfiltered items.items) in
         (first : FitsAsTables (Some 1) target_size items.items) →
@@ -176,45 +184,12 @@ fn write_and_compact<A: Allocator + Clone>(
     )
 }
 
-// What a point read and a range of a run alone give.
-fn read_alone<A: Allocator + Clone>(
-    alloc: A,
-    run: Run<Table<A>, A>,
-    key: &[u8],
-    seqno: SeqNo,
-    range: (Bound<UserKey<A>>, Bound<UserKey<A>>),
-) -> Result<
-    (
-        Option<InternalValue<A>>,
-        MvccStream<Merger<RunReader<A>, A>>,
-    ),
-    Error,
->
-    // Of tables of a list, lifted, they are those of the list.
-    ensures list { let gives = ⟦<MvccStream<Merger<RunReader<A>, A>> as Iterator>⟧.next_gives in
-        let back_gives =
-        ⟦<MvccStream<Merger<RunReader<A>, A>> as DoubleEndedIterator>⟧.next_back_gives in
-        (es : List Entry) (g : ℕ) → IsRunOfList es g run → IfOk result (λ read.
-        (read.0 ≡ point (lift es g) key.now seqno)
-        × DealsList gives back_gives (newest (within range.0 range.1 (lift es g))) read.1) }
-    ensures can { IfOk result (λ read.
-        CanDeal ⟦<MvccStream<Merger<RunReader<A>, A>> as Iterator>⟧.next_gives
-        ⟦<MvccStream<Merger<RunReader<A>, A>> as DoubleEndedIterator>⟧.next_back_gives
-        ⟦<MvccStream<Merger<RunReader<A>, A>> as Iterator>⟧.can_next
-        ⟦<MvccStream<Merger<RunReader<A>, A>> as DoubleEndedIterator>⟧.can_next_back read.1) }
-    ensures taken { (es : List Entry) (g : ℕ) → IsRunOfList es g run →
-        IfErr result (λ e. e ≡ OutOfMemory) }
-{
-    let runs = [Arc::new(alloc.clone()?, run)?];
-    let found = get_runs(&runs, key, seqno)?;
-    let stream = range_runs(alloc, &runs, range)?;
-    Ok((found, stream))
-}
-
 /// What a point read and a range give of a list that was written as a run, compacted, and whose new tables were opened;
 /// `None` where nothing is kept. The contracts of writing, compacting, opening and reading runs alone say that it is what the
-/// compaction keeps of the list. The tables are of the first level, under ids from 1 on. Where those of the list fit, and
-/// behind them those of what is kept, it is refused [`Error::OutOfMemory`] alone; the contract names no other refusals.
+/// compaction keeps of the list. The tables are of the first level, under ids from 1 on.
+///
+/// Refused with the first fault of writing the list, or else that of writing what is kept behind the list's tables; and
+/// [`Error::OutOfMemory`].
 pub fn compact_run_back<A: Allocator + Clone>(
     alloc: A,
     items: Vec<InternalValue<A>, A>,
@@ -225,15 +200,7 @@ pub fn compact_run_back<A: Allocator + Clone>(
     key: &[u8],
     seqno: SeqNo,
     range: (Bound<UserKey<A>>, Bound<UserKey<A>>),
-) -> Result<
-    Option<
-        (
-            Option<InternalValue<A>>,
-            MvccStream<Merger<RunReader<A>, A>>,
-        ),
-    >,
-    Error,
->
+) -> Result<Option<Reads<A>>, Error>
     requires { IsWritable items.items }
     // The first match of the key, and from both ends the newest version of each key within the bounds, of what is kept.
     ensures list { let gives = ⟦<MvccStream<Merger<RunReader<A>, A>> as Iterator>⟧.next_gives in
@@ -241,9 +208,8 @@ pub fn compact_run_back<A: Allocator + Clone>(
         ⟦<MvccStream<Merger<RunReader<A>, A>> as DoubleEndedIterator>⟧.next_back_gives in
         let rules = rules_by gc_seqno_threshold evict_tombstones zero_seqnos in
         let left = kept rules (unfiltered items.items) in
-        IfOk result (λ r. MatchOption r (left ≡ []) (λ read.
-        (read.0 ≡ point left key.now seqno)
-        × DealsList gives back_gives (newest (within range.0 range.1 left)) read.1)) }
+        IfOk result (λ r. MatchOption r (left ≡ [])
+        (ReadsOf gives back_gives key.now seqno range.0 range.1 left)) }
     // Where nothing is kept, there is no answer.
     ensures none { let rules = rules_by gc_seqno_threshold evict_tombstones zero_seqnos in
         let left = kept rules (unfiltered items.items) in
@@ -254,6 +220,11 @@ pub fn compact_run_back<A: Allocator + Clone>(
         ⟦<MvccStream<Merger<RunReader<A>, A>> as DoubleEndedIterator>⟧.next_back_gives
         ⟦<MvccStream<Merger<RunReader<A>, A>> as Iterator>⟧.can_next
         ⟦<MvccStream<Merger<RunReader<A>, A>> as DoubleEndedIterator>⟧.can_next_back read.1)) }
+    // Memory aside, the refusal is the first: of writing the list, which is cut into these tables, and then what is kept.
+    ensures refused { let rules = rules_by gc_seqno_threshold evict_tombstones zero_seqnos in
+        let left = kept rules (unfiltered items.items) in (tables : List (List Entry)) →
+        AreTables default_options.data_block_size target_size items.items tables →
+        Faults result (both_fault target_size items.items tables left) }
     // Where the tables of the list fit, and behind them those of what is kept, with an id left for each, it is refused for want
     // of memory alone.
     ensures taken { let rules = rules_by gc_seqno_threshold evict_tombstones zero_seqnos in
@@ -271,7 +242,7 @@ pub fn compact_run_back<A: Allocator + Clone>(
         zero_seqnos,
     )?;
     match run {
-        Some(run) => Ok(Some(read_alone(alloc, run, key, seqno, range)?)),
+        Some(run) => Ok(Some(read_run(alloc, run, key, seqno, range)?)),
         None => Ok(None),
     }
 }

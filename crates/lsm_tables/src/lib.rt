@@ -8,6 +8,7 @@ mod compacted;
 mod one_answer;
 mod pack;
 mod part;
+mod reads;
 mod run_reader;
 mod run_scanner;
 mod runs;
@@ -26,7 +27,8 @@ pub use lsm_readers::{
 };
 pub use one_answer::{PointAndScan, Ranges, read_each_way};
 pub use pack::{pack_runs, packing_law};
-pub use part::{Reads, compact_part_back};
+pub use part::compact_part_back;
+pub use reads::{Reads, read_run};
 pub use run_reader::RunReader;
 pub use run_scanner::RunScanner;
 pub use runs::{get_runs, get_runs_counted, range_runs};

@@ -1,5 +1,5 @@
 //! A part of several runs that is compacted, and what is read of the runs before and after.
-ghost use Rattle.std.specs.Prelude.{◌≡◌, ◌∷◌, ◌++◌, ◌≤◌, ◌⊎◌, [], IfErr, IfOk, List, MatchOption, OnOk, map};
+ghost use Rattle.std.specs.Prelude.{◌≡◌, ◌∷◌, ◌++◌, ◌⊎◌, [], IfErr, IfOk, List, MatchOption, OnOk, map};
 ghost use Rattle.std.specs.Arc.{arc_value};
 ghost use Rattle.sst_entries.specs.Strict.{IsStrict};
 ghost use Rattle.sst_entries.specs.declared.error.Error.TheVariants.{OutOfMemory};
@@ -10,48 +10,16 @@ ghost use Rattle.lsm_tables.specs.Words.{HoldSides, ReadsKept, ReadsOf, RunsHold
 ghost use Rattle.lsm_tables.specs.Words.{kept_in, rules_by, tables_fault, union_in};
 
 use crate::bounds::share;
-use crate::{RunReader, Table, Timestamp, compact_to_run, compaction_law, get_runs, range_runs};
+use crate::reads::read_runs;
+use crate::{Reads, RunReader, Table, Timestamp, compact_to_run, compaction_law};
 use lsm_merge::Merger;
 use lsm_ranges::Run;
 use lsm_sorted::MvccStream;
 use lsm_writers::TableIds;
-use sst_blocks::{Error, InternalValue, SeqNo, UserKey};
+use sst_blocks::{Error, SeqNo, UserKey};
 use std::alloc::Allocator;
 use std::ops::Bound;
 use std::sync::Arc;
-
-/// What a point read of several runs finds, and the newest version of each key within two bounds.
-pub type Reads<A> = (
-    Option<InternalValue<A>>,
-    MvccStream<Merger<RunReader<A>, A>>,
-);
-
-// What a point read and a range of several runs give.
-fn read_runs<A: Allocator + Clone>(
-    alloc: A,
-    runs: &[Arc<Run<Table<A>, A>, A>],
-    key: &[u8],
-    seqno: SeqNo,
-    range: (Bound<UserKey<A>>, Bound<UserKey<A>>),
-) -> Result<Reads<A>, Error>
-    ensures list { let gives = ⟦<MvccStream<Merger<RunReader<A>, A>> as Iterator>⟧.next_gives in
-        let back_gives =
-        ⟦<MvccStream<Merger<RunReader<A>, A>> as DoubleEndedIterator>⟧.next_back_gives in
-        (lists : List (List (List Entry))) → RunsHoldLists (map arc_value runs.now) lists →
-        IfOk result
-        (ReadsOf gives back_gives key.now seqno range.0 range.1 (union_in lists)) }
-    ensures can { IfOk result (λ read.
-        CanDeal ⟦<MvccStream<Merger<RunReader<A>, A>> as Iterator>⟧.next_gives
-        ⟦<MvccStream<Merger<RunReader<A>, A>> as DoubleEndedIterator>⟧.next_back_gives
-        ⟦<MvccStream<Merger<RunReader<A>, A>> as Iterator>⟧.can_next
-        ⟦<MvccStream<Merger<RunReader<A>, A>> as DoubleEndedIterator>⟧.can_next_back read.1) }
-    ensures taken { (lists : List (List (List Entry))) →
-        RunsHoldLists (map arc_value runs.now) lists → IfErr result (λ e. e ≡ OutOfMemory) }
-{
-    let found = get_runs(runs, key, seqno)?;
-    let stream = range_runs(alloc, runs, range)?;
-    Ok((found, stream))
-}
 
 // Shares runs behind others.
 fn share_behind<A: Allocator>(
@@ -224,7 +192,7 @@ fn read_compacted<A: Allocator + Clone>(
 /// What a point read and a range of several runs give before and after a part of them is compacted, by [`compact_to_run`],
 /// and its run put in the part's place. The contracts of reading and compacting runs, and [`compaction_law`], alone say that
 /// readers see the same: where nothing is evicted or zeroed and the part has no weak tombstone, or of each key all others are
-/// newer than the part, and the point read's bound is the watermark or above.
+/// newer than the part; the point reads where their bound is the watermark or above.
 ///
 /// Refused as [`compact_to_run`]. Whatever is answered, the given runs are as they were. Conditions: those of
 /// [`compact_to_run`] on the part. That the other runs are in order, that their tables hold lists, and that no key of all
@@ -260,7 +228,8 @@ pub fn compact_part_back<A: Allocator + Clone>(
         (fs ps bs : List (List (List Entry))) → HoldSides (map arc_value front.now)
         (map arc_value part.now) (map arc_value behind.now) fs ps bs → IfOk result (λ r.
         ReadsKept gives back_gives key.now seqno range.0 range.1 rules fs ps bs r.1) }
-    // Both show the same, under the conditions of the law, to a reader at the watermark or above.
+    // Both show the same, under the conditions of the law: the point reads to a reader at the watermark or above, the ranges to
+    // any.
     ensures alike { let gives = ⟦<MvccStream<Merger<RunReader<A>, A>> as Iterator>⟧.next_gives in
         let back_gives =
         ⟦<MvccStream<Merger<RunReader<A>, A>> as DoubleEndedIterator>⟧.next_back_gives in
@@ -269,8 +238,8 @@ pub fn compact_part_back<A: Allocator + Clone>(
         (map arc_value part.now) (map arc_value behind.now) fs ps bs →
         IsStrict (union_in (fs ++ (ps ++ bs))) →
         IsPlain rules (union_in ps) ⊎ AllNewer (union_in ps) (union_in (fs ++ bs)) →
-        gc_seqno_threshold ≤ seqno → IfOk result (λ r.
-        ShowAlike gives back_gives key.now seqno range.0 range.1 r.0 r.1) }
+        IfOk result (λ r. ShowAlike gives back_gives key.now seqno range.0 range.1
+        gc_seqno_threshold r.0 r.1) }
     // Both ends of both ranges may be asked however often.
     ensures can { let can =
         CanDeal ⟦<MvccStream<Merger<RunReader<A>, A>> as Iterator>⟧.next_gives

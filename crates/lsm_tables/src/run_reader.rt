@@ -6,7 +6,7 @@ ghost use Rattle.lsm_tables.specs.Words.{ArePlacesOf, DealsEnding, DealsList, En
 ghost use Rattle.lsm_tables.specs.Words.{IsInOrder, IsRunOf, ItemGives, OpensAtMost, RunGives};
 ghost use Rattle.lsm_tables.specs.Words.{back_of, back_tables, ends_given, front_of, front_tables};
 ghost use Rattle.lsm_tables.specs.Words.{joined, over, overlap_indexes, run_left, run_size};
-ghost use Rattle.lsm_tables.specs.Words.{span_of, stopped, within};
+ghost use Rattle.lsm_tables.specs.Words.{span_list, span_of, stopped, within};
 
 use crate::spans::{ends_in, places_within};
 use crate::unopened::Unopened;
@@ -167,6 +167,13 @@ impl<A: Allocator + Clone> RunReader<A> {
             let back_gives = ⟦<RunReader<A> as DoubleEndedIterator>⟧.next_back_gives in
             IfOk result (λ reader. DealsEnding gives back_gives (λ _. Unit {0}) (λ _. Unit {0})
             reader (run_left reader)) }
+        // On tables of lists it is what of the span's first and last list, lifted, lies within the bounds, and all of those
+        // between.
+        ensures list { let gives = ⟦<RunReader<A> as Iterator>⟧.next_gives in
+            let back_gives = ⟦<RunReader<A> as DoubleEndedIterator>⟧.next_back_gives in
+            let tables = arc_value run in let ends = ends_given tables span in
+            (lists : List (List Entry)) → HoldLists tables lists → IfOk result
+            (DealsList gives back_gives (span_list (span_of ends range.0 range.1) lists)) }
         // No more tables are opened than the span has.
         ensures few { let gives = ⟦<RunReader<A> as Iterator>⟧.next_gives in
             let back_gives = ⟦<RunReader<A> as DoubleEndedIterator>⟧.next_back_gives in

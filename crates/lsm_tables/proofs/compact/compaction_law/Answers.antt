@@ -1,6 +1,7 @@
 use Rattle.lsm_tables.specs.SeveralRuns.{union_in}
 use Rattle.lsm_tables.proofs.Replaced.{points, side_by_side, strict_after, union_up}
 use Rattle.lsm_tables.proofs.ShownRanges.{ranges_by_points}
+use Rattle.lsm_tables.proofs.StaysWritable.{writable_after}
 use Rattle.lsm_tables.proofs.compact.compaction_law.Goals as goal
 
 pub returns-clause-points : goal.returns-clause-points
@@ -12,6 +13,9 @@ returns-clause-ranges c rules part rest before after h low high =
 
 pub returns-clause-strict : goal.returns-clause-strict
 returns-clause-strict c rules part rest before after h = strict_after rules part rest before after h
+
+pub returns-clause-writable : goal.returns-clause-writable
+returns-clause-writable c rules part rest before after h writable = writable_after rules part rest before after h writable
 
 pub returns-clause-side_by_side : goal.returns-clause-side_by_side
 returns-clause-side_by_side c = side_by_side

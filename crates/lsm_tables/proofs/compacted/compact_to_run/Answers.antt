@@ -1,4 +1,4 @@
-use Rattle.std.proofs.Common.{◌≡◌, ◌∙◌, ap, subst, sym, true, false, List}
+use Rattle.std.proofs.Common.{◌≡◌, ◌∙◌, ap, subst, sym, List}
 use Rattle.std.specs.Prelude.{Option, map}
 use Rattle.std.specs.Arc.{arc_value}
 use Rattle.sst_entries.specs.Entry.{Entry}
@@ -6,7 +6,6 @@ use Rattle.lsm_writers.specs.Writing.{IsWritable}
 use Rattle.lsm_tables.proofs.OneList.{one_way}
 use Rattle.std.specs.Option.{option_or}
 use Rattle.sst_entries.specs.declared.error.Error.{Error}
-use Rattle.sst_entries.specs.Error.{is_memory}
 use Rattle.sst_entries.proofs.Refusals.{faults_refusal}
 use Rattle.lsm_writers.specs.Tables.{ids_fault, new_tables}
 use Rattle.lsm_writers.proofs.Refused.{memory_alone}
@@ -15,7 +14,7 @@ use Rattle.lsm_tables.specs.Compacted.{kept_in, rules_by}
 use Rattle.lsm_tables.specs.SeveralRuns.{union_in}
 use Rattle.lsm_tables.proofs.CompactedBack.{as_written, compactable_again, fits_by, new_fault, small_numbers}
 use Rattle.lsm_tables.proofs.Keeping.{stays_writable}
-use Rattle.lsm_tables.proofs.RunWriting.{wants}
+use Rattle.lsm_tables.proofs.RunWriting.{memory_faults, wants}
 use Rattle.lsm_tables.proofs.compacted.compact_to_run.Goals as goal
 
 pub returns-in_err-writer-clause-refused : goal.returns-in_err-writer-clause-refused
@@ -58,7 +57,7 @@ returns-in_err-run_of_tables-clause-refused g c lists held =
     let r = c.from_residual-in_err-run_of_tables in
     let e = c.in_err-run_of_tables.field-0.0 in
     let memory = c.in_err-run_of_tables.ensures.taken a.ids a.target_size a.created_at left c.in_ok-tables.left w small in
-    faults_refusal r.result e _ r.ensures.1 (λ fine. absurd (let both : is_memory e ≡ true = ap is_memory memory in let no : false ≡ true = sym fine ∙ both in cc))
+    memory_faults r.result e _ r.ensures.1 memory
 
 pub returns-in_err-run_of_tables-clause-taken : goal.returns-in_err-run_of_tables-clause-taken
 returns-in_err-run_of_tables-clause-taken g c lists held fits =

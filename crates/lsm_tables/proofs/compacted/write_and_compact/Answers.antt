@@ -1,8 +1,13 @@
 use Rattle.std.proofs.Common.{◌∙◌, ap, sym, subst, ℕ, length}
 use Rattle.std.specs.Prelude.{Option}
-use Rattle.lsm_tables.specs.Chain.{FitsAsTables, ids_behind}
-use Rattle.lsm_tables.proofs.CompactedBack.{fits_behind, small_numbers, written_run_is_compactable}
+use Rattle.lsm_tables.specs.Chain.{FitsAsTables, both_fault, ids_behind}
+use Rattle.lsm_tables.proofs.CompactedBack.{first_refused, fits_behind, none_refused, small_numbers, then_refused, written_run_is_compactable}
+use Rattle.lsm_block_indexes.proofs.OnDemands.{none_of}
 use Rattle.lsm_tables.proofs.RunWriting.{wants}
+use Rattle.lsm_sorted.specs.Compaction.{kept, unfiltered}
+use Rattle.lsm_tables.specs.Compacted.{rules_by}
+use Rattle.sst_entries.proofs.Refusals.{faults_refusal}
+use Rattle.sst_entries.specs.Error.{Faults}
 use Rattle.lsm_tables.proofs.compacted.write_and_compact.Goals as goal
 
 pub compact_alone-requires : goal.compact_alone-requires
@@ -30,3 +35,30 @@ returns-clause-taken g c first fits =
 
 pub returns-clause-none : goal.returns-clause-none
 returns-clause-none g c = c.compact_alone.ensures.none c.args.items.items (rw c.in-Some.is at c.in_ok-run.ensures.run)
+
+pub returns-in_err-run-clause-refused : goal.returns-in_err-run-clause-refused
+returns-in_err-run-clause-refused g c tables are =
+    let a = c.args in
+    let left = kept (rules_by a.gc_seqno_threshold a.evict_tombstones a.zero_seqnos) (unfiltered a.items.items) in
+    let r = c.from_residual-in_err-run in
+    let e = c.in_err-run.field-0.0 in
+    faults_refusal r.result e (both_fault a.target_size a.items.items tables left) r.ensures.1
+    (λ fine. first_refused c.new-ids.result a.target_size c.from-created_at.result a.items.items c.new-ids.ensures c.from-created_at.ensures e tables left (small_numbers a.items.items c.requires.numbered) (c.in_err-run.ensures.refused fine))
+
+pub returns-clause-refused : goal.returns-clause-refused
+returns-clause-refused g c tables are =
+    let a = c.args in
+    let run = c.in-Some.run' in
+    let left = kept (rules_by a.gc_seqno_threshold a.evict_tombstones a.zero_seqnos) (unfiltered a.items.items) in
+    let is = rw c.in-Some.is at c.in_ok-run.ensures.run in
+    let cut = rw c.in-Some.is at c.in_ok-run.ensures.cut in
+    let behind = rw c.in-Some.is at c.in_ok-run.ensures.ids in
+    let same = then_refused c.new-ids.result a.target_size c.from-created_at.result a.items.items c.new-ids.ensures c.from-created_at.ensures _ run c.in_ok-run.ids cut behind c.in_ok-run.ensures.refused tables are left in
+    subst (Faults c.compact_alone.result) same (c.compact_alone.ensures.refused a.items.items is)
+
+pub returns-in_default-clause-refused : goal.returns-in_default-clause-refused
+returns-in_default-clause-refused g c tables are =
+    let a = c.args in
+    let rules = rules_by a.gc_seqno_threshold a.evict_tombstones a.zero_seqnos in
+    let none = rw (none_of c.in_ok-run.run' c.in_default.not-Some) at c.in_ok-run.ensures.run in
+    none_refused c.new-ids.result a.target_size c.from-created_at.result a.items.items c.new-ids.ensures c.from-created_at.ensures rules tables none c.in_ok-run.ensures.refused are

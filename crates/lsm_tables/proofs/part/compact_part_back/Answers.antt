@@ -25,8 +25,8 @@ returns-clause-before g c fs ps bs h =
     same_bounds _ _ a.key.now a.seqno c.in_ok-share.field-0 a.range.0 c.in_ok-share-2.field-0 a.range.1 (union_in (fs ++ (ps ++ bs))) c.in_ok-before.before c.in_ok-share.ensures c.in_ok-share-2.ensures (c.in_ok-before.ensures.list fs ps bs h)
 
 pub returns-clause-alike : goal.returns-clause-alike
-returns-clause-alike g c fs ps bs h strict safe served =
+returns-clause-alike g c fs ps bs h strict safe =
     let a = c.args in
     let law = c.compaction_law.ensures in
     alike _ _ a.key.now a.seqno a.range.0 a.range.1 (rules_by a.gc_seqno_threshold a.evict_tombstones a.zero_seqnos) fs ps bs law.points law.ranges law.side_by_side c.in_ok-before.before c.in_ok-after.after
-    (returns-clause-before g c fs ps bs h) (c.in_ok-after.ensures.list fs ps bs h) strict safe served
+    (returns-clause-before g c fs ps bs h) (c.in_ok-after.ensures.list fs ps bs h) strict safe

@@ -15,7 +15,7 @@ returns-in-Some-clause-deals g c = run_deals _
 
 pub returns-in-Some-clause-list : goal.returns-in-Some-clause-list
 returns-in-Some-clause-list g c order lists held =
-    new_deals c.args.range.0 c.args.range.1 _ lists held order c.in-Some.ends (sym (rw c.deref.ensures at (c.in-Some.ensures.found (rw c.deref.ensures order)))) c.of_span.result c.of_span.ensures
+    new_deals c.args.range.0 c.args.range.1 _ lists held c.in-Some.ends c.of_span.result c.of_span.ensures order (sym (rw c.deref.ensures at (c.in-Some.ensures.found (rw c.deref.ensures order))))
 
 pub returns-in-None-clause-span : goal.returns-in-None-clause-span
 returns-in-None-clause-span g c order = sym (rw c.deref.ensures at (c.in-None.ensures.found (rw c.deref.ensures order)))

@@ -1,7 +1,7 @@
 use Rattle.sst_entries.specs.Point.{point}
 use Rattle.lsm_tables.specs.SeveralRuns.{union_in}
 use Rattle.lsm_tables.proofs.PartRuns.{value_found}
-use Rattle.lsm_tables.proofs.part.read_runs.Goals as goal
+use Rattle.lsm_tables.proofs.reads.read_runs.Goals as goal
 
 pub returns-clause-list : goal.returns-clause-list
 returns-clause-list g c lists held = record {

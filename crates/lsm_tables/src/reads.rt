@@ -1,0 +1,76 @@
+//! What a point read and a range give together, of several runs and of one.
+ghost use Rattle.std.specs.Prelude.{◌≡◌, ℕ, IfErr, IfOk, List, map};
+ghost use Rattle.std.specs.Arc.{arc_value};
+ghost use Rattle.sst_entries.specs.declared.error.Error.TheVariants.{OutOfMemory};
+ghost use Rattle.lsm_tables.specs.Words.{CanDeal, Entry, IsRunOfList, ReadsOf, RunsHoldLists};
+ghost use Rattle.lsm_tables.specs.Words.{lift, union_in};
+
+use crate::{RunReader, Table, get_runs, range_runs};
+use lsm_merge::Merger;
+use lsm_ranges::Run;
+use lsm_sorted::MvccStream;
+use sst_blocks::{Error, InternalValue, SeqNo, UserKey};
+use std::alloc::Allocator;
+use std::ops::Bound;
+use std::sync::Arc;
+
+/// What a point read finds, and the newest version of each key within two bounds.
+pub type Reads<A> = (
+    Option<InternalValue<A>>,
+    MvccStream<Merger<RunReader<A>, A>>,
+);
+
+// What a point read and a range of several runs give.
+pub(crate) fn read_runs<A: Allocator + Clone>(
+    alloc: A,
+    runs: &[Arc<Run<Table<A>, A>, A>],
+    key: &[u8],
+    seqno: SeqNo,
+    range: (Bound<UserKey<A>>, Bound<UserKey<A>>),
+) -> Result<Reads<A>, Error>
+    ensures list { let gives = ⟦<MvccStream<Merger<RunReader<A>, A>> as Iterator>⟧.next_gives in
+        let back_gives =
+        ⟦<MvccStream<Merger<RunReader<A>, A>> as DoubleEndedIterator>⟧.next_back_gives in
+        (lists : List (List (List Entry))) → RunsHoldLists (map arc_value runs.now) lists →
+        IfOk result
+        (ReadsOf gives back_gives key.now seqno range.0 range.1 (union_in lists)) }
+    ensures can { IfOk result (λ read.
+        CanDeal ⟦<MvccStream<Merger<RunReader<A>, A>> as Iterator>⟧.next_gives
+        ⟦<MvccStream<Merger<RunReader<A>, A>> as DoubleEndedIterator>⟧.next_back_gives
+        ⟦<MvccStream<Merger<RunReader<A>, A>> as Iterator>⟧.can_next
+        ⟦<MvccStream<Merger<RunReader<A>, A>> as DoubleEndedIterator>⟧.can_next_back read.1) }
+    ensures taken { (lists : List (List (List Entry))) →
+        RunsHoldLists (map arc_value runs.now) lists → IfErr result (λ e. e ≡ OutOfMemory) }
+{
+    let found = get_runs(runs, key, seqno)?;
+    let stream = range_runs(alloc, runs, range)?;
+    Ok((found, stream))
+}
+
+/// What a point read of one run finds, and the newest version of each key of it within two bounds: [`get_runs`] and
+/// [`range_runs`] of this run alone. Of a run whose tables hold a list it is refused for want of memory alone.
+pub fn read_run<A: Allocator + Clone>(
+    alloc: A,
+    run: Run<Table<A>, A>,
+    key: &[u8],
+    seqno: SeqNo,
+    range: (Bound<UserKey<A>>, Bound<UserKey<A>>),
+) -> Result<Reads<A>, Error>
+    // Of tables of a list, lifted, they are those of the list.
+    ensures list { let gives = ⟦<MvccStream<Merger<RunReader<A>, A>> as Iterator>⟧.next_gives in
+        let back_gives =
+        ⟦<MvccStream<Merger<RunReader<A>, A>> as DoubleEndedIterator>⟧.next_back_gives in
+        (es : List Entry) (g : ℕ) → IsRunOfList es g run →
+        IfOk result (ReadsOf gives back_gives key.now seqno range.0 range.1 (lift es g)) }
+    // Both ends of the range may be asked however often.
+    ensures can { IfOk result (λ read.
+        CanDeal ⟦<MvccStream<Merger<RunReader<A>, A>> as Iterator>⟧.next_gives
+        ⟦<MvccStream<Merger<RunReader<A>, A>> as DoubleEndedIterator>⟧.next_back_gives
+        ⟦<MvccStream<Merger<RunReader<A>, A>> as Iterator>⟧.can_next
+        ⟦<MvccStream<Merger<RunReader<A>, A>> as DoubleEndedIterator>⟧.can_next_back read.1) }
+    ensures taken { (es : List Entry) (g : ℕ) → IsRunOfList es g run →
+        IfErr result (λ e. e ≡ OutOfMemory) }
+{
+    let runs = [Arc::new(alloc.clone()?, run)?];
+    read_runs(alloc, &runs, key, seqno, range)
+}
