@@ -24,7 +24,7 @@ use Rattle.sst_script.specs.declared.stop.Failure.{Failure}
 use Rattle.sst_script.specs.declared.stop.Failure.TheVariants.{Refused}
 use Rattle.sst_script.specs.Runs.{HasRuns, Run, repeats, run_tables, union}
 use Rattle.sst_script.specs.Script.{FailsToCompact, CompactsRuns, Compacts, kept_by, kept_fault, store, target_size}
-use Rattle.sst_script.proofs.EntryLemmas.{lift_zero}
+use Rattle.lsm_tables.proofs.CompactedBack.{lift_zero}
 use Rattle.sst_script.proofs.PendingLemmas.{nothing_pending}
 use Rattle.sst_script.proofs.RunLemmas.{held, lists_of, union_same}
 use Rattle.sst_script.proofs.UnionLemmas.{union_more}

@@ -16,15 +16,7 @@ use Rattle.sst_entries.specs.Point.{is_hit, point}
 use Rattle.sst_entries.proofs.KeyLemmas.{same_is}
 use Rattle.sst_entries.proofs.OrderLemmas.{gt_first}
 use Rattle.lsm_merge.specs.Union.{AtMost, Ascends}
-use Rattle.lsm_readers.specs.Answer.{lift}
 use Rattle.sst_script.specs.Runs.{has_entry}
-
--- without a global number a list stays as it is
-pub lift_zero : (es : List Entry) → lift es 0 ≡ es
-lift_zero [] = refl
-lift_zero (e ∷ es) =
-    let same : e.seqno + 0 ≡ e.seqno = omega arith in
-    rw (same, lift_zero es) refl
 
 -- whether an entry that may be there has a number
 abbrev pub has_number : ℕ → Option Entry → Bool
