@@ -287,7 +287,7 @@ fn leaves(alloc: Global, to: &str, key: &[u8], first: SeqNo, last: SeqNo) -> Res
     Ok(left_of_five(alloc, to, key)? == (first != 99, (first, last)))
 }
 
-// How it is sought, a key, and the first entry and the last, which is 99 where there are fewer than two.
+// How a key is sought, the key, and the first entry and the last, which is 99 where there are fewer than two.
 const SEEKS: &[(&str, &[u8], SeqNo, SeqNo)] = &[
     ("at least", b"a", 9, 3),
     ("at least", b"b", 0, 3),

@@ -368,7 +368,7 @@ fn handle_within(bytes: &Slice, start: usize) -> Result<KeyedBlockHandle, Error>
     Ok(KeyedBlockHandle::new(bytes.slice(start, end)?, 1, inner))
 }
 
-// Handles whose end keys are 2^20 of the bytes from 4,096 places on.
+// Handles whose end keys of 2^20 bytes begin at 4,096 places of these bytes.
 fn handles_within(alloc: Global, bytes: &Slice) -> Result<Vec<KeyedBlockHandle>, Error> {
     let mut handles = Vec::new(alloc);
     for i in 0..4096usize {

@@ -104,14 +104,6 @@ impl StreamFilter<Global> for NewestOfFive {
     }
 }
 
-// Adds the word of a result that is let go of.
-fn put_given<A: Allocator, B: Allocator>(
-    text: &mut String<B>,
-    item: IterItem<A>,
-) -> Result<(), AllocError> {
-    put_result(text, &item)
-}
-
 // The words of a stream's results, to its end.
 fn drained<A: Allocator, I: Iterator<Item = IterItem<A>>>(
     alloc: Global,
@@ -122,7 +114,7 @@ fn drained<A: Allocator, I: Iterator<Item = IterItem<A>>>(
 {
     let mut text = String::new(alloc);
     while let Some(item) = stream.next() {
-        put_given(&mut text, item)?;
+        put_result(&mut text, &item)?;
     }
     Ok(text)
 }

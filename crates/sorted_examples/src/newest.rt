@@ -1,13 +1,9 @@
 //! The newest versions of some results and of several sources, from both ends and from the front alone.
-ghost use Rattle.std.specs.Prelude.{All};
-ghost use Rattle.std.specs.Iterator.{IsFinite};
-ghost use Rattle.sst_entries.specs.Stream.{CanDeal};
-
 use crate::merging::{self, passed_of};
 use crate::merging_front::{begins_so, sources_of};
 use crate::words::answers_so;
 use lsm_sorted::{MvccStream, newest_from_both_ends, newest_of};
-use sst_entries::{Error, IterItem};
+use sst_entries::Error;
 use std::alloc::Global;
 use std::test::Fail;
 
@@ -94,25 +90,11 @@ fn gives_the_newest_version_of_each_key_from_either_end(rt: HostRuntime) -> Resu
     Ok(())
 }
 
-// Whether the newest versions of what some sources have are these at the ends.
-fn newest_answer<I: DoubleEndedIterator<Item = IterItem> + Drop>(
-    alloc: Global,
-    sources: Vec<I>,
-    ends: &str,
-    wanted: &str,
-) -> Result<bool, Error>
-    requires can { All (CanDeal I.next_gives I.next_back_gives I.can_next I.can_next_back)
-        sources.items }
-    requires finite { All (λ s. IsFinite (I.remaining s)) sources.items }
-{
-    let stream = newest_of(alloc, sources)?;
-    newest_from_both_ends(&stream);
-    answers_so(alloc, stream, ends, wanted)
-}
-
 // Whether the newest versions of the sources are these at the ends.
 fn are_newest(alloc: Global, sources: &str, ends: &str, wanted: &str) -> Result<bool, Error> {
-    newest_answer(alloc, merging::sources_of(alloc, sources)?, ends, wanted)
+    let stream = newest_of(alloc, merging::sources_of(alloc, sources)?)?;
+    newest_from_both_ends(&stream);
+    answers_so(alloc, stream, ends, wanted)
 }
 
 // Sources, ends and answers.
