@@ -1,13 +1,13 @@
 //! Data blocks: what is written of entries, and what reads and seeks find.
 
-use crate::payloads::data_block;
+use crate::payloads::{behind_seven, data_block, put_numbers};
 use refusing::{Refusing, each_refused};
 use sst_blocks::Direction::{Back, Front};
 use sst_blocks::{
     DataBlock, DataBlockIter, Direction, Error, InternalValue, IterItem, SeqNo, Slice,
     TableVersion, ValueType, answer_at, are_strict, data_block_bound,
 };
-use std::alloc::{Allocator, Global};
+use std::alloc::{AllocError, Allocator, Global};
 use std::test::Fail;
 
 fn entry<A: Allocator + Copy>(
@@ -46,7 +46,7 @@ fn written_and_loaded<A: Allocator + Copy>(
 }
 
 // a@9, a@7 as a tombstone, a@5, c@0 and e@3.
-const FIVE: [(&[u8], SeqNo, ValueType, &[u8]); 5] = [
+const FIVE: &[(&[u8], SeqNo, ValueType, &[u8])] = &[
     (b"a", 9, ValueType::Value, b"newest"),
     (b"a", 7, ValueType::Tombstone, b""),
     (b"a", 5, ValueType::Value, b""),
@@ -56,10 +56,9 @@ const FIVE: [(&[u8], SeqNo, ValueType, &[u8]); 5] = [
 
 // The five entries.
 fn five_entries<A: Allocator + Copy>(alloc: A) -> Result<Vec<InternalValue<A>, A>, Error> {
-    let five = FIVE;
     let mut items = Vec::with_capacity(alloc, 5)?;
-    for (key, seqno, kind, value) in &five {
-        items.push(entry(alloc, key, *seqno, *kind, value)?)?;
+    for &(key, seqno, kind, value) in FIVE {
+        items.push(entry(alloc, key, seqno, kind, value)?)?;
     }
     Ok(items)
 }
@@ -87,8 +86,10 @@ fn number_found<A: Allocator>(
     key: &[u8],
     seqno: SeqNo,
 ) -> Result<SeqNo, Error> {
-    let found = block.point_read(key, seqno)?;
-    Ok(found.map_or(99, |item| item.key.seqno))
+    match block.point_read(key, seqno)? {
+        Some(item) => Ok(item.key.seqno),
+        None => Ok(99),
+    }
 }
 
 // a@1, a value of `x`.
@@ -156,28 +157,30 @@ fn found_in_five(alloc: Global, key: &[u8], seqno: SeqNo) -> Result<SeqNo, Error
     number_found(&block, key, seqno)
 }
 
+// A key, a number, and the number that a point read finds below it.
+const READS: &[(&[u8], SeqNo, SeqNo)] = &[
+    (b"", u64::MAX, 99),
+    (b"a", u64::MAX, 9),
+    (b"a", 10, 9),
+    (b"a", 9, 7),
+    (b"a", 8, 7),
+    (b"a", 7, 5),
+    (b"a", 6, 5),
+    (b"a", 5, 99),
+    (b"a", 0, 99),
+    (b"aa", u64::MAX, 99),
+    (b"b", u64::MAX, 99),
+    (b"c", 1, 0),
+    (b"c", 0, 99),
+    (b"d", u64::MAX, 99),
+    (b"e", 4, 3),
+    (b"e", 3, 99),
+    (b"f", u64::MAX, 99),
+];
+
 #[test]
 fn a_point_read_finds_the_newest_version_below_a_number(rt: HostRuntime) -> Result<(), Fail> {
-    let reads: [(&[u8], SeqNo, SeqNo); 17] = [
-        (b"", u64::MAX, 99),
-        (b"a", u64::MAX, 9),
-        (b"a", 10, 9),
-        (b"a", 9, 7),
-        (b"a", 8, 7),
-        (b"a", 7, 5),
-        (b"a", 6, 5),
-        (b"a", 5, 99),
-        (b"a", 0, 99),
-        (b"aa", u64::MAX, 99),
-        (b"b", u64::MAX, 99),
-        (b"c", 1, 0),
-        (b"c", 0, 99),
-        (b"d", u64::MAX, 99),
-        (b"e", 4, 3),
-        (b"e", 3, 99),
-        (b"f", u64::MAX, 99),
-    ];
-    for (key, seqno, found) in reads {
+    for &(key, seqno, found) in READS {
         assert_eq!(rt; found_in_five(rt.alloc(), key, seqno)?, found);
     }
     Ok(())
@@ -273,35 +276,41 @@ fn ends_after(block: &DataBlock, to: &str, key: &[u8]) -> Result<(bool, (SeqNo, 
     Ok((seek(&mut iter, to, key), ends(&mut iter)?))
 }
 
+// What a seek leaves of the block of five.
+fn left_of_five(alloc: Global, to: &str, key: &[u8]) -> Result<(bool, (SeqNo, SeqNo)), Error> {
+    let block = block_of_five(alloc)?;
+    ends_after(&block, to, key)
+}
+
 // Whether a seek in the block of five leaves a first and a last entry of these numbers.
 fn leaves(alloc: Global, to: &str, key: &[u8], first: SeqNo, last: SeqNo) -> Result<bool, Error> {
-    let block = block_of_five(alloc)?;
-    Ok(ends_after(&block, to, key)? == (first != 99, (first, last)))
+    Ok(left_of_five(alloc, to, key)? == (first != 99, (first, last)))
 }
+
+// How a key is sought, the key, and the first entry and the last, which is 99 where there are fewer than two.
+const SEEKS: &[(&str, &[u8], SeqNo, SeqNo)] = &[
+    ("at least", b"a", 9, 3),
+    ("at least", b"b", 0, 3),
+    ("at least", b"c", 0, 3),
+    ("at least", b"e", 3, 99),
+    ("at least", b"f", 99, 99),
+    ("above", b"Z", 9, 3),
+    ("above", b"a", 0, 3),
+    ("above", b"c", 3, 99),
+    ("above", b"e", 99, 99),
+    ("at most", b"Z", 99, 99),
+    ("at most", b"a", 9, 5),
+    ("at most", b"c", 9, 0),
+    ("at most", b"f", 9, 3),
+    ("below", b"a", 99, 99),
+    ("below", b"c", 9, 5),
+    ("below", b"d", 9, 0),
+    ("below", b"f", 9, 3),
+];
 
 #[test]
 fn seeks_narrow_to_the_entries_on_one_side_of_a_key(rt: HostRuntime) -> Result<(), Fail> {
-    // The last entry is 99 where there are fewer than two.
-    let seeks: [(&str, &[u8], SeqNo, SeqNo); 17] = [
-        ("at least", b"a", 9, 3),
-        ("at least", b"b", 0, 3),
-        ("at least", b"c", 0, 3),
-        ("at least", b"e", 3, 99),
-        ("at least", b"f", 99, 99),
-        ("above", b"Z", 9, 3),
-        ("above", b"a", 0, 3),
-        ("above", b"c", 3, 99),
-        ("above", b"e", 99, 99),
-        ("at most", b"Z", 99, 99),
-        ("at most", b"a", 9, 5),
-        ("at most", b"c", 9, 0),
-        ("at most", b"f", 9, 3),
-        ("below", b"a", 99, 99),
-        ("below", b"c", 9, 5),
-        ("below", b"d", 9, 0),
-        ("below", b"f", 9, 3),
-    ];
-    for (to, key, first, last) in seeks {
+    for &(to, key, first, last) in SEEKS {
         assert!(rt;
             leaves(rt.alloc(), to, key, first, last)?,
             "{to}: {first} to {last}"
@@ -364,14 +373,11 @@ fn a_later_seek_widens_no_window(rt: HostRuntime) -> Result<(), Fail> {
 }
 
 // Spells an entry by its tag, its number, both of its lengths and the first of the two bytes behind them.
-fn spell<A: Allocator>(bytes: &mut Vec<u8, A>, entry: &[u32; 5]) -> Result<(), Error> {
+fn spell<A: Allocator>(bytes: &mut Vec<u8, A>, entry: [u32; 5]) -> Result<(), AllocError> {
     let [tag, seqno, key_len, value_len, first] = entry;
-    bytes.push((*tag & 0xff) as u8)?;
-    bytes.extend_from_slice(&u64::from(*seqno).to_le_bytes())?;
-    bytes.extend_from_slice(&key_len.to_le_bytes())?;
-    bytes.extend_from_slice(&value_len.to_le_bytes())?;
-    bytes.extend_from_slice(&[(*first & 0xff) as u8, b'x'])?;
-    Ok(())
+    bytes.push((tag & 0xff) as u8)?;
+    put_numbers(bytes, &[seqno, 0, key_len, value_len])?;
+    bytes.extend_from_slice(&[(first & 0xff) as u8, b'x'])
 }
 
 // A payload of a count, and then of entries.
@@ -381,7 +387,7 @@ fn spelled<A: Allocator + Copy>(
     entries: &[[u32; 5]],
 ) -> Result<Vec<u8, A>, Error> {
     let mut bytes = Vec::from_slice(alloc, &count.to_le_bytes())?;
-    for entry in entries {
+    for &entry in entries {
         spell(&mut bytes, entry)?;
     }
     Ok(bytes)
@@ -510,7 +516,7 @@ fn refusal<A: Allocator + Copy>(
         return Ok(None);
     }
     let refused = DataBlock::encode_into(&mut buf, items, 16, 0).err();
-    Ok(refused.filter(|_| buf.as_slice() == [7].as_slice()))
+    Ok(behind_seven(&buf, refused))
 }
 
 // The bound on the block of as many entries, and how they are refused.
@@ -578,17 +584,34 @@ fn a_clone_reads_as_its_block(rt: HostRuntime) -> Result<(), Fail> {
     Ok(())
 }
 
-// Whether a block's entries, taken from the back, end for good at the first that is refused.
-fn ends_at_refusal<A: Allocator>(block: &DataBlock<A>) -> bool {
-    let mut iter = block.iter();
-    for _ in 0..block.len() {
-        match iter.next_back() {
-            Some(Ok(_)) => {}
-            Some(Err(_)) => return iter.next().is_none() && iter.next_back().is_none(),
+// Whether an answer is an entry or a refusal, where there is one.
+fn is_entry<A: Allocator>(answer: Option<IterItem<A>>) -> Option<bool> {
+    match answer {
+        Some(item) => Some(item.is_ok()),
+        None => None,
+    }
+}
+
+// Whether neither end has an answer.
+fn is_over<A: Allocator>(iter: &mut DataBlockIter<'_, A>) -> bool {
+    is_entry(iter.next()).is_none() && is_entry(iter.next_back()).is_none()
+}
+
+// Whether so many entries at most, taken from the back, end for good at the first that is refused.
+fn ends_at_first<A: Allocator>(iter: &mut DataBlockIter<'_, A>, len: usize) -> bool {
+    for _ in 0..len {
+        match is_entry(iter.next_back()) {
+            Some(true) => {}
+            Some(false) => return is_over(iter),
             None => return false,
         }
     }
-    iter.next_back().is_none()
+    is_entry(iter.next_back()).is_none()
+}
+
+// Whether a block's entries, taken from the back, end for good at the first that is refused.
+fn ends_at_refusal<A: Allocator>(block: &DataBlock<A>) -> bool {
+    ends_at_first(&mut block.iter(), block.len())
 }
 
 // Whether it does so for one allocator's block of five; memory may have run out before.

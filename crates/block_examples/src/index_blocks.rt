@@ -1,12 +1,12 @@
 //! Index blocks: what is written of handles, and what reads and seeks find.
 
-use crate::payloads::index_block;
+use crate::payloads::{behind_seven, index_block, put_numbers};
 use refusing::{Refusing, each_refused};
 use sst_blocks::{
-    BlockHandle, BlockOffset, Error, IndexBlock, KeyedBlockHandle, SeqNo, Slice, TableVersion,
-    are_strict_handles, index_block_bound,
+    BlockHandle, BlockOffset, Error, IndexBlock, IndexBlockIter, KeyedBlockHandle, SeqNo, Slice,
+    TableVersion, are_strict_handles, index_block_bound,
 };
-use std::alloc::{Allocator, Global};
+use std::alloc::{AllocError, Allocator, Global};
 use std::test::Fail;
 
 fn handle<A: Allocator + Copy>(
@@ -21,22 +21,23 @@ fn handle<A: Allocator + Copy>(
 }
 
 // b@5, b@3, d@9 and f@1, and the positions of their blocks.
-const FOUR: [(&[u8], SeqNo, u64); 4] = [(b"b", 5, 0), (b"b", 3, 10), (b"d", 9, 20), (b"f", 1, 30)];
+const FOUR: &[(&[u8], SeqNo, u64)] = &[(b"b", 5, 0), (b"b", 3, 10), (b"d", 9, 20), (b"f", 1, 30)];
 
 // The four handles.
 fn four_handles<A: Allocator + Copy>(alloc: A) -> Result<Vec<KeyedBlockHandle<A>, A>, Error> {
-    let four = FOUR;
     let mut handles = Vec::new(alloc);
-    for (end_key, seqno, offset) in &four {
-        handles.push(handle(alloc, end_key, *seqno, *offset, 10)?)?;
+    for &(end_key, seqno, offset) in FOUR {
+        handles.push(handle(alloc, end_key, seqno, offset, 10)?)?;
     }
     Ok(handles)
 }
 
 // The position of the handle that is found, or 99 where there is none.
 fn found_at<A: Allocator>(block: &IndexBlock<A>, key: &[u8], seqno: SeqNo) -> u64 {
-    let found = block.find(key, seqno);
-    found.map_or(99, |handle| handle.offset().0)
+    match block.find(key, seqno) {
+        Some(handle) => handle.offset().0,
+        None => 99,
+    }
 }
 
 // Whether what reaches a@2 lies at the position 0, and has a size.
@@ -165,7 +166,7 @@ fn after_both_seeks<A: Allocator>(
 }
 
 // A key and a number, and the position of the first handle that reaches them.
-const FIRST: [(u8, u64, u64); 12] = [
+const FIRST: &[(u8, u64, u64)] = &[
     (b'a', u64::MAX, 0),
     (b'b', 6, 0),
     (b'b', 5, 10),
@@ -181,7 +182,7 @@ const FIRST: [(u8, u64, u64); 12] = [
 ];
 
 // A key, and the position of the first handle whose end key is above it, or of the last.
-const LAST: [(u8, u64); 6] = [
+const LAST: &[(u8, u64)] = &[
     (b'a', 0),
     (b'b', 20),
     (b'c', 20),
@@ -192,13 +193,10 @@ const LAST: [(u8, u64); 6] = [
 
 // The first case of `FIRST` that the block answers otherwise.
 fn wrong_first<A: Allocator>(block: &IndexBlock<A>) -> Result<Option<u64>, Error> {
-    let cases = FIRST;
-    for case in &cases {
-        let (key, seqno, first) = *case;
-        if first_after_seek(block, &[key], seqno)? != (first != 99, first) {
-            return Ok(Some(first));
-        }
-        if found_at(block, &[key], seqno) != first {
+    for &(key, seqno, first) in FIRST {
+        if first_after_seek(block, &[key], seqno)? != (first != 99, first)
+            || found_at(block, &[key], seqno) != first
+        {
             return Ok(Some(first));
         }
     }
@@ -207,9 +205,7 @@ fn wrong_first<A: Allocator>(block: &IndexBlock<A>) -> Result<Option<u64>, Error
 
 // The first case of `LAST` that the block answers otherwise.
 fn wrong_last<A: Allocator>(block: &IndexBlock<A>) -> Result<Option<u64>, Error> {
-    let cases = LAST;
-    for case in &cases {
-        let (key, last) = *case;
+    for &(key, last) in LAST {
         if last_after_seek(block, &[key])? != (true, last) {
             return Ok(Some(last));
         }
@@ -240,13 +236,10 @@ fn seeks_narrow_to_the_handles_that_may_hold_a_key(rt: HostRuntime) -> Result<()
 }
 
 // Spells a handle by its end key, the key length that it claims and its number.
-fn spell<A: Allocator>(bytes: &mut Vec<u8, A>, claim: &[u8; 3]) -> Result<(), Error> {
+fn spell<A: Allocator>(bytes: &mut Vec<u8, A>, claim: &[u8; 3]) -> Result<(), AllocError> {
     let [key, key_len, seqno] = claim;
-    bytes.extend_from_slice(&u64::from(*seqno).to_le_bytes())?;
-    bytes.extend_from_slice(&[0; 12])?;
-    bytes.extend_from_slice(&u32::from(*key_len).to_le_bytes())?;
-    bytes.push(*key)?;
-    Ok(())
+    put_numbers(bytes, &[u32::from(*seqno), 0, 0, 0, 0, u32::from(*key_len)])?;
+    bytes.extend_from_slice(&[*key])
 }
 
 // A payload of a count, and then of handles.
@@ -262,38 +255,43 @@ fn spelled<A: Allocator + Copy>(
     Ok(bytes)
 }
 
-// How many handles a payload of a count and of handles has.
+// How many handles a payload of a count and of handles has, where it is in the grammar.
 fn handles_claimed<A: Allocator + Copy>(
     alloc: A,
     count: u32,
     claims: &[[u8; 3]],
-) -> Result<usize, Error> {
+) -> Result<Option<usize>, Error> {
     let bytes = spelled(alloc, count, claims)?;
-    Ok(index_block(alloc, TableVersion::V4, bytes.as_slice())?.len())
+    match index_block(alloc, TableVersion::V4, bytes.as_slice()) {
+        Ok(block) => Ok(Some(block.len())),
+        Err(Error::InvalidBlock) => Ok(None),
+        Err(error) => Err(error),
+    }
 }
+
+// A count, handles, and how many the payload has, where it is in the grammar.
+const CLAIMS: &[(u32, &[[u8; 3]], Option<usize>)] = &[
+    (0, &[], Some(0)),
+    (1, &[[b'a', 1, 1]], Some(1)),
+    (2, &[[b'a', 1, 2], [b'a', 1, 1]], Some(2)),
+    (2, &[[b'a', 1, 1], [b'b', 1, 2]], Some(2)),
+    // Fewer handles or more than the count says, an end key that is cut short, a byte behind the last one, and handles that
+    // are not strict: the same twice, numbers upward, keys downward.
+    (1, &[], None),
+    (u32::MAX, &[[b'a', 1, 1]], None),
+    (0, &[[b'a', 1, 1]], None),
+    (1, &[[b'a', 2, 1]], None),
+    (1, &[[b'a', 0, 1]], None),
+    (2, &[[b'a', 1, 1], [b'a', 1, 1]], None),
+    (2, &[[b'a', 1, 1], [b'a', 1, 2]], None),
+    (2, &[[b'b', 1, 1], [b'a', 1, 0]], None),
+];
 
 #[test]
 fn payloads_out_of_the_grammar_are_refused(rt: HostRuntime) -> Result<(), Fail> {
-    let alloc = rt.alloc();
-    assert!(rt; handles_claimed(alloc, 0, &[]) == Ok(0));
-    assert!(rt; handles_claimed(alloc, 1, &[[b'a', 1, 1]]) == Ok(1));
-    assert!(rt; handles_claimed(alloc, 2, &[[b'a', 1, 2], [b'a', 1, 1]]) == Ok(2));
-    assert!(rt; handles_claimed(alloc, 2, &[[b'a', 1, 1], [b'b', 1, 2]]) == Ok(2));
-    // Fewer handles or more than the count says, an end key that is cut short, a byte behind the last one, and handles that
-    // are not strict: the same twice, numbers upward, keys downward.
-    let faults: [(u32, &[[u8; 3]]); 8] = [
-        (1, &[]),
-        (u32::MAX, &[[b'a', 1, 1]]),
-        (0, &[[b'a', 1, 1]]),
-        (1, &[[b'a', 2, 1]]),
-        (1, &[[b'a', 0, 1]]),
-        (2, &[[b'a', 1, 1], [b'a', 1, 1]]),
-        (2, &[[b'a', 1, 1], [b'a', 1, 2]]),
-        (2, &[[b'b', 1, 1], [b'a', 1, 0]]),
-    ];
-    for (count, claims) in &faults {
+    for &(count, claims, wanted) in CLAIMS {
         assert!(rt;
-            handles_claimed(alloc, *count, claims) == Err(Error::InvalidBlock),
+            handles_claimed(rt.alloc(), count, claims)? == wanted,
             "{count}"
         );
     }
@@ -331,7 +329,7 @@ fn refusal<A: Allocator + Copy>(
         return Ok(None);
     }
     let refused = IndexBlock::encode_into(&mut buf, handles).err();
-    Ok(refused.filter(|_| buf.as_slice() == [7].as_slice()))
+    Ok(behind_seven(&buf, refused))
 }
 
 // The refusal of one handle whose end key has this length.
@@ -370,14 +368,19 @@ fn handle_within(bytes: &Slice, start: usize) -> Result<KeyedBlockHandle, Error>
     Ok(KeyedBlockHandle::new(bytes.slice(start, end)?, 1, inner))
 }
 
+// Handles whose end keys of 2^20 bytes begin at 4,096 places of these bytes.
+fn handles_within(alloc: Global, bytes: &Slice) -> Result<Vec<KeyedBlockHandle>, Error> {
+    let mut handles = Vec::new(alloc);
+    for i in 0..4096usize {
+        handles.push(handle_within(bytes, 2 * i)?)?;
+    }
+    Ok(handles)
+}
+
 // 4,096 handles whose end keys of 2^20 bytes share their memory: key i begins with i, the high byte first.
 fn many_handles(alloc: Global) -> Result<Vec<KeyedBlockHandle>, Error> {
     let shared = numbers(alloc)?;
-    let mut handles = Vec::new(alloc);
-    for i in 0..4096usize {
-        handles.push(handle_within(&shared, 2 * i)?)?;
-    }
-    Ok(handles)
+    handles_within(alloc, &shared)
 }
 
 // The bound on the block of as many handles, and how they are refused.
@@ -425,13 +428,23 @@ fn each_request_refused_is_answered_so(rt: HostRuntime) -> Result<(), Fail> {
     Ok(())
 }
 
+// A clone of a block, which outlives it.
+fn left_by_its_block<A: Allocator>(block: IndexBlock<A>) -> Result<IndexBlock<A>, AllocError> {
+    block.clone()
+}
+
+// How many handles such a clone has, and the position of the one that reaches c@1.
+fn found_after<A: Allocator>(block: IndexBlock<A>) -> Result<(usize, u64), Error> {
+    let copy = left_by_its_block(block)?;
+    Ok((copy.len(), found_at(&copy, b"c", 1)))
+}
+
 // Whether a clone of the block of four, which outlives it, finds what the block does, and takes no memory.
 fn a_clone_finds(heap: &Refusing) -> Result<bool, Error> {
     let block = block_of_four(heap)?;
     let requests = heap.requests();
-    let copy = block.clone()?;
-    drop(block);
-    Ok(heap.requests() == requests && copy.len() == 4 && found_at(&copy, b"c", 1) == 20)
+    let found = found_after(block)?;
+    Ok(heap.requests() == requests && found == (4, 20))
 }
 
 #[test]
@@ -441,17 +454,34 @@ fn a_clone_reads_as_its_block_and_takes_no_memory(rt: HostRuntime) -> Result<(),
     Ok(())
 }
 
-// Whether a block's handles, taken from the front, end for good at the first that is refused.
-fn ends_at_refusal<A: Allocator>(block: &IndexBlock<A>) -> bool {
-    let mut iter = block.iter();
-    for _ in 0..block.len() {
-        match iter.next() {
-            Some(Ok(_)) => {}
-            Some(Err(_)) => return iter.next_back().is_none() && iter.next().is_none(),
+// Whether an answer is a handle or a refusal, where there is one.
+fn is_handle<A: Allocator>(answer: Option<Result<KeyedBlockHandle<A>, Error>>) -> Option<bool> {
+    match answer {
+        Some(handle) => Some(handle.is_ok()),
+        None => None,
+    }
+}
+
+// Whether neither end has an answer.
+fn is_over<A: Allocator>(iter: &mut IndexBlockIter<'_, A>) -> bool {
+    is_handle(iter.next_back()).is_none() && is_handle(iter.next()).is_none()
+}
+
+// Whether so many handles at most, taken from the front, end for good at the first that is refused.
+fn ends_at_first<A: Allocator>(iter: &mut IndexBlockIter<'_, A>, len: usize) -> bool {
+    for _ in 0..len {
+        match is_handle(iter.next()) {
+            Some(true) => {}
+            Some(false) => return is_over(iter),
             None => return false,
         }
     }
-    iter.next().is_none()
+    is_handle(iter.next()).is_none()
+}
+
+// Whether a block's handles, taken from the front, end for good at the first that is refused.
+fn ends_at_refusal<A: Allocator>(block: &IndexBlock<A>) -> bool {
+    ends_at_first(&mut block.iter(), block.len())
 }
 
 // Whether it does so for one allocator's block of four; memory may have run out before.

@@ -3,7 +3,27 @@ use sst_blocks::{
     Block, BlockSource, BlockType, DataBlock, Error, IndexBlock, Opened, SectionName,
     SectionWriter, Slice, TableVersion, TagName, hash,
 };
-use std::alloc::Allocator;
+use std::alloc::{AllocError, Allocator};
+
+/// Adds numbers of four bytes, the low byte first.
+pub(crate) fn put_numbers<A: Allocator>(
+    bytes: &mut Vec<u8, A>,
+    numbers: &[u32],
+) -> Result<(), AllocError> {
+    for number in numbers {
+        bytes.extend_from_slice(&number.to_le_bytes())?;
+    }
+    Ok(())
+}
+
+/// How the encoding behind the byte 7 was refused, where that left the byte alone.
+pub(crate) fn behind_seven(bytes: &[u8], refused: Option<Error>) -> Option<Error> {
+    if bytes == [7].as_slice() {
+        refused
+    } else {
+        None
+    }
+}
 
 // Writes a block of either version: its mark, its kind, its length twice, its payload's hash and the payload.
 fn write<A: Allocator + Copy>(
@@ -12,7 +32,9 @@ fn write<A: Allocator + Copy>(
     kind: BlockType,
     payload: &[u8],
 ) -> Result<(), Error> {
-    let len = u32::try_from(payload.len()).map_err(|_| Error::BlockTooLarge)?;
+    let Ok(len) = u32::try_from(payload.len()) else {
+        return Err(Error::BlockTooLarge);
+    };
     let parts: [&[u8]; 6] = [
         &version.mark(),
         &[kind.tag(), 0, 0, 0],
@@ -27,6 +49,18 @@ fn write<A: Allocator + Copy>(
     Ok(())
 }
 
+// The bytes of a table, once this payload is written.
+fn finished<A: Allocator + Copy>(
+    mut writer: SectionWriter<A>,
+    version: TableVersion,
+    kind: BlockType,
+    payload: &[u8],
+) -> Result<Slice<A>, Error> {
+    write(&mut writer, version, kind, payload)?;
+    let (bytes, _) = writer.finish()?;
+    Ok(bytes)
+}
+
 // The bytes of a table with this payload alone.
 fn table<A: Allocator + Copy>(
     alloc: A,
@@ -36,9 +70,17 @@ fn table<A: Allocator + Copy>(
 ) -> Result<Slice<A>, Error> {
     let mut writer = SectionWriter::new(alloc)?;
     writer.start(SectionName::Data)?;
-    write(&mut writer, version, kind, payload)?;
-    let (bytes, _) = writer.finish()?;
-    Ok(bytes)
+    finished(writer, version, kind, payload)
+}
+
+// The first block of a table.
+fn first_block<A: Allocator + Copy>(
+    alloc: A,
+    bytes: Slice<A>,
+    kind: BlockType,
+) -> Result<Block<A>, Error> {
+    let source = BlockSource::new(alloc, bytes)?;
+    source.load_at(0, kind, &mut Opened::none())
 }
 
 // The block that is loaded from a table with this payload alone.
@@ -49,7 +91,7 @@ fn load<A: Allocator + Copy>(
     payload: &[u8],
 ) -> Result<Block<A>, Error> {
     let bytes = table(alloc, version, kind, payload)?;
-    BlockSource::new(alloc, bytes)?.load_at(0, kind, &mut Opened::none())
+    first_block(alloc, bytes, kind)
 }
 
 /// The data block of a payload.

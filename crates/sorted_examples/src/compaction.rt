@@ -2,7 +2,9 @@
 ghost use Rattle.std.specs.Prelude.{◌<◌};
 ghost use Rattle.std.specs.Iterator.{IsFinite};
 
-use crate::words::{put_entry, results_of, text_of};
+use crate::merging::passed_of;
+use crate::merging_front::{Forward, forward_of};
+use crate::words::{put_entry, put_result};
 use lsm_sorted::MvccStream;
 use lsm_sorted::compaction::stream::{
     CompactionStream, DroppedKvCallback, StreamFilter, StreamFilterVerdict,
@@ -27,11 +29,11 @@ impl Received {
         }
     }
 
-    fn into_text(self) -> Result<String, Error> {
+    fn into_text(self) -> Result<String, AllocError> {
         if self.is_whole {
             Ok(self.text)
         } else {
-            Err(Error::OutOfMemory)
+            Err(AllocError)
         }
     }
 }
@@ -110,11 +112,22 @@ fn drained<A: Allocator, I: Iterator<Item = IterItem<A>>>(
     requires can { I.can_next stream.old }
     requires finite { IsFinite (I.remaining stream.old) }
 {
-    let mut answers = Vec::new(alloc);
+    let mut text = String::new(alloc);
     while let Some(item) = stream.next() {
-        answers.push(Some(item))?;
+        put_result(&mut text, &item)?;
     }
-    text_of(alloc, &answers)
+    Ok(text)
+}
+
+// The words of the results of a stream that is let go of.
+pub fn given_by<A: Allocator, I: Iterator<Item = IterItem<A>> + Drop>(
+    alloc: Global,
+    mut stream: I,
+) -> Result<String, AllocError>
+    requires can { I.can_next stream }
+    requires finite { IsFinite (I.remaining stream) }
+{
+    drained(alloc, &mut stream)
 }
 
 // How a compaction is done.
@@ -133,19 +146,30 @@ const PLAIN: Settings = Settings {
     zero: false,
 };
 
-// What a compaction of some results gives, and what its callback received.
-fn compacted(alloc: Global, settings: &Settings, over: &str) -> Result<(String, String), Error> {
-    let items = results_of(&alloc, over)?.into_iter();
+// Whether a text is this one, where memory lasted for it.
+fn is_text(text: Result<String, AllocError>, wanted: &str) -> Result<bool, AllocError> {
+    Ok(text?.as_str() == wanted)
+}
+
+// Whether a compaction of a source gives these results and reports these entries.
+fn gives_and_reports(
+    alloc: Global,
+    settings: &Settings,
+    items: Forward,
+    results: &str,
+    reports: &str,
+) -> Result<bool, AllocError> {
     let mut stream = CompactionStream::new(items, settings.threshold)
         .evict_tombstones(settings.evict)
         .zero_seqnos(settings.zero)
         .with_filter(settings.plan)
         .with_drop_callback(Received::new(alloc));
-    let given = drained(alloc, &mut stream)?;
-    Ok((given, stream.into_callback().into_text()?))
+    let given = is_text(drained(alloc, &mut stream), results);
+    let received = is_text(stream.into_callback().into_text(), reports);
+    Ok(given? && received?)
 }
 
-// Whether a compaction gives these results and reports these entries.
+// The same of some results.
 fn compacts(
     alloc: Global,
     settings: &Settings,
@@ -153,8 +177,8 @@ fn compacts(
     results: &str,
     reports: &str,
 ) -> Result<bool, Error> {
-    let (given, received) = compacted(alloc, settings, over)?;
-    Ok(given.as_str() == results && received.as_str() == reports)
+    let items = forward_of(alloc, over)?;
+    Ok(gives_and_reports(alloc, settings, items, results, reports)?)
 }
 
 // In each table: what is compacted, the results, and what is reported.
@@ -181,37 +205,26 @@ fn keeps_what_readers_at_the_threshold_see(rt: HostRuntime) -> Result<(), Fail> 
     Ok(())
 }
 
-const EVICTED: &[(&str, &str, &str)] = &[
-    ("aW10 aT3", "aW10", ""),
-    ("aT10 aV3", "aT10 aV3", ""),
-    ("aT4", "", ""),
-    ("aW4 aT3", "aW4", "aT3"),
-];
-
-const ZEROED: &[(&str, &str, &str)] = &[
-    ("aV10 aV4 aV3", "aV10 aV0", "aV3"),
-    ("aV4 bV5", "aV0 bV5", ""),
+// Whether tombstones are evicted and whether numbers are zeroed come first here.
+const EVICTED_OR_ZEROED: &[(bool, bool, &str, &str, &str)] = &[
+    (true, false, "aW10 aT3", "aW10", ""),
+    (true, false, "aT10 aV3", "aT10 aV3", ""),
+    (true, false, "aT4", "", ""),
+    (true, false, "aW4 aT3", "aW4", "aT3"),
+    (false, true, "aV10 aV4 aV3", "aV10 aV0", "aV3"),
+    (false, true, "aV4 bV5", "aV0 bV5", ""),
 ];
 
 #[test]
 fn evicts_tombstones_and_zeroes_numbers(rt: HostRuntime) -> Result<(), Fail> {
-    let evicting = Settings {
-        evict: true,
-        ..PLAIN
-    };
-    for &(over, results, reports) in EVICTED {
+    for &(evict, zero, over, results, reports) in EVICTED_OR_ZEROED {
+        let settings = Settings {
+            evict,
+            zero,
+            ..PLAIN
+        };
         assert!(rt;
-            compacts(rt.alloc(), &evicting, over, results, reports)?,
-            "{over}"
-        );
-    }
-    let zeroing = Settings {
-        zero: true,
-        ..PLAIN
-    };
-    for &(over, results, reports) in ZEROED {
-        assert!(rt;
-            compacts(rt.alloc(), &zeroing, over, results, reports)?,
+            compacts(rt.alloc(), &settings, over, results, reports)?,
             "{over}"
         );
     }
@@ -302,9 +315,8 @@ fn newest_of_five(alloc: Global, over: &str, watermark: u8) -> Result<String, Er
         previous: None,
         watermark,
     };
-    let items = results_of(&alloc, over)?.into_iter();
-    let mut stream = CompactionStream::new(items, 995).with_filter(filter);
-    Ok(drained(alloc, &mut stream)?)
+    let items = forward_of(alloc, over)?;
+    Ok(given_by(alloc, CompactionStream::new(items, 995).with_filter(filter))?)
 }
 
 // What is compacted, the watermark of the filter, and the results.
@@ -327,34 +339,34 @@ fn keeps_a_state_in_the_filter(rt: HostRuntime) -> Result<(), Fail> {
 }
 
 // What a compaction without a filter leaves of some results in the memory of any allocator.
-fn unfiltered<A: Allocator + Clone>(
-    memory: &A,
+fn unfiltered<A: Allocator + Copy>(
+    memory: A,
     alloc: Global,
     over: &str,
     threshold: u64,
 ) -> Result<String, Error> {
-    let items = results_of(memory, over)?.into_iter();
-    Ok(drained(alloc, &mut CompactionStream::new(items, threshold))?)
+    let items = passed_of(memory, over)?;
+    Ok(given_by(alloc, CompactionStream::new(items, threshold))?)
 }
 
 #[test]
 fn needs_neither_filter_nor_callback(rt: HostRuntime) -> Result<(), Fail> {
-    let given = unfiltered(&rt.alloc(), rt.alloc(), "aV2353 bV2353 cV2353", 5000)?;
+    let given = unfiltered(rt.alloc(), rt.alloc(), "aV2353 bV2353 cV2353", 5000)?;
     assert_eq!(rt; given.as_str(), "aV2353 bV2353 cV2353");
     Ok(())
 }
 
 // What a stream of the newest versions gives of some results in the memory of any allocator.
-fn newest<A: Allocator + Clone>(memory: &A, alloc: Global, over: &str) -> Result<String, Error> {
-    let items = results_of(memory, over)?.into_iter();
-    Ok(drained(alloc, &mut MvccStream::new(items))?)
+fn newest<A: Allocator + Copy>(memory: A, alloc: Global, over: &str) -> Result<String, Error> {
+    let items = passed_of(memory, over)?;
+    Ok(given_by(alloc, MvccStream::new(items))?)
 }
 
 #[test]
 fn streams_take_entries_of_any_allocator(rt: HostRuntime) -> Result<(), Fail> {
     let heap = Refusing::new(rt.alloc(), 0);
-    let compacted = unfiltered(&&heap, rt.alloc(), "aV4 aV3 aV2", 4)?;
-    let newest = newest(&&heap, rt.alloc(), "aV4 aV3 aV2")?;
+    let compacted = unfiltered(&heap, rt.alloc(), "aV4 aV3 aV2", 4)?;
+    let newest = newest(&heap, rt.alloc(), "aV4 aV3 aV2")?;
     assert_eq!(rt; (compacted.as_str(), newest.as_str()), ("aV4 aV3", "aV4"));
     assert!(rt; heap.requests() > 0);
     Ok(())

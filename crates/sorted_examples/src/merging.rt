@@ -1,69 +1,70 @@
 //! Merging several sources from both ends, and what that takes of memory.
-use crate::words::{answers_so, result_of};
+use crate::words::{answers_so, results_of};
 use lsm_sorted::{Merger, from_both_ends};
 use refusing::{Refusing, each_refused};
 use sst_entries::{Error, IterItem};
 use std::alloc::{Allocator, Global};
 use std::test::Fail;
+use std::vec::IntoIter;
 
-// A source that only passes on what another gives.
+// A source that only passes on what a list holds.
 #[derive(Drop)]
-pub struct Passed<I> {
-    pub source: I,
+pub struct Passed<A: Allocator> {
+    items: IntoIter<IterItem<A>, A>,
 }
 
-impl<I: Iterator + Drop> Iterator for Passed<I> {
-    type Item = I::Item;
+impl<A: Allocator> Iterator for Passed<A> {
+    type Item = IterItem<A>;
 
-    ghost can_next = { λ s. I.can_next s.source };
+    ghost can_next = { λ s. ⟦<IntoIter<IterItem<A>, A> as Iterator>⟧.can_next s.items };
 
-    ghost next_gives = { λ s r t. I.next_gives s.source r t.source };
+    ghost next_gives = { λ s r t. ⟦<IntoIter<IterItem<A>, A> as Iterator>⟧.next_gives s.items r
+        t.items };
 
-    ghost remaining = { λ s. I.remaining s.source };
+    ghost remaining = { λ s. ⟦<IntoIter<IterItem<A>, A> as Iterator>⟧.remaining s.items };
 
-    fn next(&mut self) -> Option<I::Item> {
-        self.source.next()
+    fn next(&mut self) -> Option<IterItem<A>> {
+        self.items.next()
     }
 }
 
-impl<I: DoubleEndedIterator + Drop> DoubleEndedIterator for Passed<I> {
-    ghost can_next_back = { λ s. I.can_next_back s.source };
+impl<A: Allocator> DoubleEndedIterator for Passed<A> {
+    ghost can_next_back = { λ s. ⟦<IntoIter<IterItem<A>, A> as DoubleEndedIterator>⟧.can_next_back
+        s.items };
 
-    ghost next_back_gives = { λ s r t. I.next_back_gives s.source r t.source };
+    ghost next_back_gives = { λ s r t.
+        ⟦<IntoIter<IterItem<A>, A> as DoubleEndedIterator>⟧.next_back_gives s.items r t.items };
 
-    fn next_back(&mut self) -> Option<I::Item> {
-        self.source.next_back()
+    fn next_back(&mut self) -> Option<IterItem<A>> {
+        self.items.next_back()
     }
 }
 
-pub type Source<A> = Passed<std::vec::IntoIter<IterItem<A>, A>>;
+// The source that passes on the results that a text spells.
+pub fn passed_of<A: Allocator + Copy>(alloc: A, text: &str) -> Result<Passed<A>, Error> {
+    let items = results_of(alloc, text)?.into_iter();
+    Ok(Passed { items })
+}
 
 // The sources that a text spells, each up to a `/`.
-pub fn sources_of<A: Allocator + Clone>(alloc: &A, text: &str) -> Result<Vec<Source<A>, A>, Error> {
-    let mut sources = Vec::new(alloc.clone()?);
-    let mut items = Vec::new(alloc.clone()?);
-    for word in text.split_whitespace() {
-        if word == "/" {
-            let source = items.into_iter();
-            sources.push(Passed { source })?;
-            items = Vec::new(alloc.clone()?);
-        } else {
-            items.push(result_of(alloc, word)?)?;
-        }
+pub fn sources_of<A: Allocator + Copy>(alloc: A, text: &str) -> Result<Vec<Passed<A>, A>, Error> {
+    let mut sources = Vec::new(alloc);
+    for part in text.split_terminator('/') {
+        sources.push(passed_of(alloc, part)?)?;
     }
     Ok(sources)
 }
 
 // Whether a merger of the sources answers so at the ends.
-fn merges<A: Allocator + Clone>(
-    alloc: &A,
+fn merges<A: Allocator + Copy>(
+    alloc: A,
     sources: &str,
     ends: &str,
     wanted: &str,
 ) -> Result<bool, Error> {
-    let mut merger = Merger::new(alloc.clone()?, sources_of(alloc, sources)?)?;
+    let merger = Merger::new(alloc, sources_of(alloc, sources)?)?;
     from_both_ends(&merger);
-    answers_so(alloc, &mut merger, ends, wanted)
+    answers_so(alloc, merger, ends, wanted)
 }
 
 // Sources, ends and answers.
@@ -90,7 +91,7 @@ const MERGED: &[(&str, &str, &str)] = &[
 fn gives_the_entries_of_all_sources_in_order_up_to_an_error(rt: HostRuntime) -> Result<(), Fail> {
     for &(sources, ends, wanted) in MERGED {
         assert!(rt;
-            merges(&rt.alloc(), sources, ends, wanted)?,
+            merges(rt.alloc(), sources, ends, wanted)?,
             "{sources} at {ends}"
         );
     }
@@ -100,7 +101,7 @@ fn gives_the_entries_of_all_sources_in_order_up_to_an_error(rt: HostRuntime) -> 
 #[test]
 fn refuses_memory_when_made(rt: HostRuntime) {
     let answers = each_refused(rt.alloc(), |heap, may_fail| {
-        match merges(&heap, "aV1 cV1 / bV2 /", "FBFB", "aV1 cV1 bV2 -") {
+        match merges(heap, "aV1 cV1 / bV2 /", "FBFB", "aV1 cV1 bV2 -") {
             Ok(answer) => answer,
             Err(Error::OutOfMemory) => may_fail,
             Err(_) => false,
@@ -110,23 +111,23 @@ fn refuses_memory_when_made(rt: HostRuntime) {
 }
 
 // Whether a merger of sources, all in memory over a heap, makes requests of it when it is made, and none while it answers.
-fn requests_at_first_alone<A: Allocator + Clone>(
+fn requests_at_first_alone<A: Allocator + Copy>(
     alloc: Global,
     heap: &Refusing,
-    memory: &A,
+    memory: A,
 ) -> Result<bool, Error> {
     let sources = sources_of(memory, "aV1 cV1 / bV2 /")?;
     let before = heap.requests();
-    let mut merger = Merger::new(memory.clone()?, sources)?;
+    let merger = Merger::new(memory, sources)?;
     from_both_ends(&merger);
     let made = heap.requests();
-    let is_right = answers_so(&alloc, &mut merger, "FBFB", "aV1 cV1 bV2 -")?;
+    let is_right = answers_so(alloc, merger, "FBFB", "aV1 cV1 bV2 -")?;
     Ok(is_right && before < made && made == heap.requests())
 }
 
 #[test]
 fn takes_no_memory_after_it_is_made(rt: HostRuntime) -> Result<(), Fail> {
     let heap = Refusing::new(rt.alloc(), 0);
-    assert!(rt; requests_at_first_alone(rt.alloc(), &heap, &&heap)?);
+    assert!(rt; requests_at_first_alone(rt.alloc(), &heap, &heap)?);
     Ok(())
 }

@@ -1,52 +1,50 @@
 //! Merging from the front alone: sources without a back, and errors in the middle and at the far end of one of three sources.
 ghost use Rattle.sst_entries.specs.Stream.{CanDeal, nowhere};
 
-use crate::words::{result_of, text_of};
+use crate::words::{results_of, text_of};
 use lsm_sorted::Merger;
 use sst_entries::{Error, IterItem};
 use std::alloc::{Allocator, Global};
 use std::test::Fail;
+use std::vec::IntoIter;
 
-// A source that is taken from the front alone.
+// A source that passes on what a list holds, from the front alone.
 #[derive(Drop)]
-pub struct Forward<I> {
-    pub source: I,
+pub struct Forward {
+    items: IntoIter<IterItem>,
 }
 
-impl<I: Iterator + Drop> Iterator for Forward<I> {
-    type Item = I::Item;
+impl Iterator for Forward {
+    type Item = IterItem;
 
-    ghost can_next = { λ s. I.can_next s.source };
+    ghost can_next = { λ s. ⟦<IntoIter<IterItem> as Iterator>⟧.can_next s.items };
 
-    ghost next_gives = { λ s r t. I.next_gives s.source r t.source };
+    ghost next_gives = { λ s r t. ⟦<IntoIter<IterItem> as Iterator>⟧.next_gives s.items r t.items };
 
-    ghost remaining = { λ s. I.remaining s.source };
+    ghost remaining = { λ s. ⟦<IntoIter<IterItem> as Iterator>⟧.remaining s.items };
 
-    fn next(&mut self) -> Option<I::Item> {
-        self.source.next()
+    fn next(&mut self) -> Option<IterItem> {
+        self.items.next()
     }
 }
 
-pub type Source = Forward<std::vec::IntoIter<IterItem>>;
+// The source that passes on the results that a text spells.
+pub fn forward_of(alloc: Global, text: &str) -> Result<Forward, Error> {
+    let items = results_of(alloc, text)?.into_iter();
+    Ok(Forward { items })
+}
 
 // The sources that a text spells, each up to a `/`.
-pub fn sources_of(alloc: Global, text: &str) -> Result<Vec<Source>, Error> {
+pub fn sources_of(alloc: Global, text: &str) -> Result<Vec<Forward>, Error> {
     let mut sources = Vec::new(alloc);
-    let mut items = Vec::new(alloc);
-    for word in text.split_whitespace() {
-        if word == "/" {
-            let source = items.into_iter();
-            sources.push(Forward { source })?;
-            items = Vec::new(alloc);
-        } else {
-            items.push(result_of(&alloc, word)?)?;
-        }
+    for part in text.split_terminator('/') {
+        sources.push(forward_of(alloc, part)?)?;
     }
     Ok(sources)
 }
 
 // The first answers of a stream, as many as these.
-pub fn first_answers<A: Allocator, I: Iterator<Item = IterItem<A>>>(
+fn first_answers<A: Allocator, I: Iterator<Item = IterItem<A>>>(
     alloc: Global,
     stream: &mut I,
     count: usize,
@@ -61,11 +59,22 @@ pub fn first_answers<A: Allocator, I: Iterator<Item = IterItem<A>>>(
     Ok(answers)
 }
 
+// Whether a stream answers so first.
+pub fn begins_so<A: Allocator, I: Iterator<Item = IterItem<A>> + Drop>(
+    alloc: Global,
+    mut stream: I,
+    wanted: &str,
+) -> Result<bool, Error>
+    requires { CanDeal I.next_gives nowhere I.can_next I.can_next stream }
+{
+    let answers = first_answers(alloc, &mut stream, wanted.split_whitespace().count())?;
+    Ok(text_of(alloc, &answers)?.as_str() == wanted)
+}
+
 // Whether a merger of the sources gives these answers first.
 fn merges(alloc: Global, sources: &str, wanted: &str) -> Result<bool, Error> {
-    let mut merger = Merger::new(alloc, sources_of(alloc, sources)?)?;
-    let answers = first_answers(alloc, &mut merger, wanted.split_whitespace().count())?;
-    Ok(text_of(alloc, &answers)?.as_str() == wanted)
+    let merger = Merger::new(alloc, sources_of(alloc, sources)?)?;
+    begins_so(alloc, merger, wanted)
 }
 
 // Sources and answers.

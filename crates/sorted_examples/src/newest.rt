@@ -1,7 +1,7 @@
 //! The newest versions of some results and of several sources, from both ends and from the front alone.
-use crate::merging;
-use crate::merging_front::{first_answers, sources_of};
-use crate::words::{answers_so, results_of, text_of};
+use crate::merging::{self, passed_of};
+use crate::merging_front::{begins_so, sources_of};
+use crate::words::answers_so;
 use lsm_sorted::{MvccStream, newest_from_both_ends, newest_of};
 use sst_entries::Error;
 use std::alloc::Global;
@@ -9,9 +9,9 @@ use std::test::Fail;
 
 // Whether a stream over some results answers so at the ends.
 fn answers(alloc: Global, results: &str, ends: &str, wanted: &str) -> Result<bool, Error> {
-    let mut stream = MvccStream::new(results_of(&alloc, results)?.into_iter());
+    let stream = MvccStream::new(passed_of(alloc, results)?);
     stream.from_both_ends();
-    answers_so(&alloc, &mut stream, ends, wanted)
+    answers_so(alloc, stream, ends, wanted)
 }
 
 // Results, ends and answers.
@@ -92,9 +92,9 @@ fn gives_the_newest_version_of_each_key_from_either_end(rt: HostRuntime) -> Resu
 
 // Whether the newest versions of the sources are these at the ends.
 fn are_newest(alloc: Global, sources: &str, ends: &str, wanted: &str) -> Result<bool, Error> {
-    let mut stream = newest_of(alloc, merging::sources_of(&alloc, sources)?)?;
+    let stream = newest_of(alloc, merging::sources_of(alloc, sources)?)?;
     newest_from_both_ends(&stream);
-    answers_so(&alloc, &mut stream, ends, wanted)
+    answers_so(alloc, stream, ends, wanted)
 }
 
 // Sources, ends and answers.
@@ -142,9 +142,11 @@ fn gives_the_newest_version_of_each_key_of_all_sources(rt: HostRuntime) -> Resul
 
 // Whether the newest versions of sources without a back are these first.
 fn are_first(alloc: Global, sources: &str, wanted: &str) -> Result<bool, Error> {
-    let mut stream = newest_of(alloc, sources_of(alloc, sources)?)?;
-    let answers = first_answers(alloc, &mut stream, wanted.split_whitespace().count())?;
-    Ok(text_of(alloc, &answers)?.as_str() == wanted)
+    begins_so(
+        alloc,
+        newest_of(alloc, sources_of(alloc, sources)?)?,
+        wanted,
+    )
 }
 
 // Sources and answers.

@@ -9,8 +9,8 @@ ghost use Rattle.lsm_sorted.specs.Compaction.{kept, unfiltered};
 ghost use Rattle.lsm_sorted.specs.CompactionState.{rules_of};
 ghost use Rattle.lsm_sorted.specs.Gap.{GivesUpToGap};
 
-use crate::merging_front::{Source, sources_of};
-use crate::words::text_of;
+use crate::compaction::given_by;
+use crate::merging_front::{Forward, sources_of};
 use lsm_sorted::compaction::stream::{CompactionStream, NoCallback, NoFilter};
 use lsm_sorted::{Merger, up_to_gap};
 use sst_entries::{Error, IterItem, SeqNo};
@@ -44,12 +44,12 @@ fn compaction_of<I: Iterator<Item = IterItem<A>>, A: Allocator + Clone>(
 // What readers at 5 need of the sources that a text spells, each up to a `/`.
 fn compacted(alloc: Global, sources: &str) -> Result<String, Error> {
     let merger = Merger::new(alloc, sources_of(alloc, sources)?)?;
-    let mut stream = CompactionStream::new(merger, 5);
-    let mut answers = Vec::new(alloc);
-    while let Some(item) = stream.next() {
-        answers.push(Some(item))?;
-    }
-    Ok(text_of(alloc, &answers)?)
+    Ok(given_by(alloc, CompactionStream::new(merger, 5))?)
+}
+
+// Whether the compaction of no sources is made.
+fn composes(alloc: Global) -> bool {
+    compaction_of(alloc, Vec::<Forward>::new(alloc), 5).is_ok()
 }
 
 // Sources without a back, and what is left of them.
@@ -70,7 +70,6 @@ fn compacts_several_sources_up_to_an_error(rt: HostRuntime) -> Result<(), Fail> 
             "{sources}"
         );
     }
-    let composed = compaction_of(rt.alloc(), Vec::<Source>::new(rt.alloc()), 5);
-    assert!(rt; composed.is_ok());
+    assert!(rt; composes(rt.alloc()));
     Ok(())
 }

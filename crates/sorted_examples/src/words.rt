@@ -8,7 +8,7 @@ ghost use Rattle.sst_entries.specs.Stream.{CanDeal};
 use sst_entries::{Direction, Error, InternalValue, IterItem, Slice, ValueType, answers_at};
 use std::alloc::{AllocError, Allocator};
 
-fn slice_of<A: Allocator + Clone>(alloc: A, byte: u8) -> Result<Slice<A>, Error> {
+fn slice_of<A: Allocator + Copy>(alloc: A, byte: u8) -> Result<Slice<A>, Error> {
     if byte == 0 {
         return Ok(Slice::empty());
     }
@@ -24,19 +24,19 @@ fn byte_of<A: Allocator>(bytes: &Slice<A>) -> u8 {
 
 // The number that some digits spell, and the byte behind them, or 0.
 fn number_and_byte(text: &[u8]) -> (u64, u8) {
-    let (digits, byte) = match text {
-        [digits @ .., byte] if !byte.is_ascii_digit() => (digits, *byte),
-        digits => (digits, 0),
-    };
-    let number = match str::from_utf8(digits) {
-        Ok(digits) => digits.parse::<u64>().unwrap_or(0),
-        Err(_) => 0,
-    };
-    (number, byte)
+    let mut number = 0u64;
+    for byte in text {
+        if !byte.is_ascii_digit() {
+            return (number, *byte);
+        }
+        let digit = u64::from(byte.wrapping_sub(b'0'));
+        number = number.wrapping_mul(10).wrapping_add(digit);
+    }
+    (number, 0)
 }
 
-fn entry_of<A: Allocator + Clone>(
-    alloc: &A,
+fn entry_of<A: Allocator + Copy>(
+    alloc: A,
     key: u8,
     kind: u8,
     rest: &[u8],
@@ -48,16 +48,13 @@ fn entry_of<A: Allocator + Clone>(
         _ if byte == 0 => (ValueType::Value, key),
         _ => (ValueType::Value, byte),
     };
-    Ok(InternalValue::from_components(
-        slice_of(alloc.clone()?, key)?,
-        slice_of(alloc.clone()?, value)?,
-        seqno,
-        kind,
-    ))
+    let key = slice_of(alloc, key)?;
+    let value = slice_of(alloc, value)?;
+    Ok(InternalValue::from_components(key, value, seqno, kind))
 }
 
-/// The result that a word stands for.
-pub fn result_of<A: Allocator + Clone>(alloc: &A, word: &str) -> Result<IterItem<A>, Error> {
+// The result that a word stands for.
+fn result_of<A: Allocator + Copy>(alloc: A, word: &str) -> Result<IterItem<A>, Error> {
     match word.as_bytes() {
         [b'!', code @ ..] => Ok(Err(Error::Source(number_and_byte(code).0))),
         [b'?', ..] | [] | [_] => Ok(Err(Error::OutOfMemory)),
@@ -66,11 +63,8 @@ pub fn result_of<A: Allocator + Clone>(alloc: &A, word: &str) -> Result<IterItem
 }
 
 /// The results that the words of a text stand for.
-pub fn results_of<A: Allocator + Clone>(
-    alloc: &A,
-    text: &str,
-) -> Result<Vec<IterItem<A>, A>, Error> {
-    let mut results = Vec::new(alloc.clone()?);
+pub fn results_of<A: Allocator + Copy>(alloc: A, text: &str) -> Result<Vec<IterItem<A>, A>, Error> {
+    let mut results = Vec::new(alloc);
     for word in text.split_whitespace() {
         results.push(result_of(alloc, word)?)?;
     }
@@ -111,17 +105,35 @@ pub fn put_entry<A: Allocator, B: Allocator>(
     Ok(())
 }
 
+// Adds an error's word.
+fn put_error<B: Allocator>(text: &mut String<B>, error: &Error) -> Result<(), AllocError> {
+    let space = if text.is_empty() { "" } else { " " };
+    let (sign, number) = match error {
+        Error::Source(code) => ('!', *code),
+        error => ('?', u64::from(error.number())),
+    };
+    write!(text, "{space}{sign}{number}")
+}
+
+/// Adds a result's word.
+pub fn put_result<A: Allocator, B: Allocator>(
+    text: &mut String<B>,
+    item: &IterItem<A>,
+) -> Result<(), AllocError> {
+    match item {
+        Ok(entry) => put_entry(text, entry),
+        Err(error) => put_error(text, error),
+    }
+}
+
 // Adds an answer's word.
 fn put_answer<A: Allocator, B: Allocator>(
     text: &mut String<B>,
     answer: &Option<IterItem<A>>,
 ) -> Result<(), AllocError> {
-    let space = if text.is_empty() { "" } else { " " };
     match answer {
-        Some(Ok(entry)) => put_entry(text, entry),
-        Some(Err(Error::Source(code))) => write!(text, "{space}!{code}"),
-        Some(Err(error)) => write!(text, "{space}?{}", error.number()),
-        None => write!(text, "{space}-"),
+        Some(item) => put_result(text, item),
+        None => text.push_str(if text.is_empty() { "-" } else { " -" }),
     }
 }
 
@@ -137,16 +149,26 @@ pub fn text_of<A: Allocator, B: Allocator>(
     Ok(text)
 }
 
-/// Whether a stream answers so at the ends that `F` and `B` stand for.
-pub fn answers_so<A: Allocator, B: Allocator + Clone, I: DoubleEndedIterator<Item = IterItem<A>>>(
-    alloc: &B,
+// The words of a stream's answers at the ends that `F` and `B` stand for.
+fn text_at<A: Allocator, B: Allocator + Copy, I: DoubleEndedIterator<Item = IterItem<A>>>(
+    alloc: B,
     stream: &mut I,
     ends: &str,
-    wanted: &str,
-) -> Result<bool, Error>
+) -> Result<String<B>, Error>
     requires { CanDeal I.next_gives I.next_back_gives I.can_next I.can_next_back stream.old }
 {
-    let ends = ends_of(alloc.clone()?, ends)?;
-    let answers = answers_at(alloc.clone()?, stream, &ends)?;
-    Ok(text_of(alloc.clone()?, &answers)?.as_str() == wanted)
+    let ends = ends_of(alloc, ends)?;
+    let answers = answers_at(alloc, stream, &ends)?;
+    Ok(text_of(alloc, &answers)?)
+}
+
+/// Whether a stream answers so at the ends that `F` and `B` stand for.
+pub fn answers_so<
+    A: Allocator,
+    B: Allocator + Copy,
+    I: DoubleEndedIterator<Item = IterItem<A>> + Drop,
+>(alloc: B, mut stream: I, ends: &str, wanted: &str) -> Result<bool, Error>
+    requires { CanDeal I.next_gives I.next_back_gives I.can_next I.can_next_back stream }
+{
+    Ok(text_at(alloc, &mut stream, ends)?.as_str() == wanted)
 }
