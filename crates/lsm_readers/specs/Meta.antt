@@ -107,14 +107,9 @@ seqnos_told es =
     u64_told es SeqnoMax >>= λ max.
     Ok (min, max)
 
--- all that is read, in this order
-unfoldable pub facts_told : List Entry → Result Facts Error
-facts_told es =
-    version_told es >>= λ table_version.
-    kinds_told es >>= λ _.
-    triple_told es TableId ItemCount TombstoneCount >>= λ table.
-    triple_told es BlockCountData BlockCountIndex BlockCountFilter >>= λ blocks.
-    triple_told es FileSize WeakTombstoneCount WeakTombstoneReclaimable >>= λ sizes.
+-- what is read behind the version and the counts, in this order
+unfoldable pub rest_told : List Entry → ℕ → ℕ × ℕ × ℕ → ℕ × ℕ × ℕ → ℕ × ℕ × ℕ → Result Facts Error
+rest_told es table_version table blocks sizes =
     created_told es >>= λ created_at.
     keys_told es >>= λ key_range.
     seqnos_told es >>= λ seqnos.
@@ -134,6 +129,16 @@ facts_told es =
       weak_tombstone_count = sizes.1;
       weak_tombstone_reclaimable = sizes.2;
     })
+
+-- all that is read, in this order
+unfoldable pub facts_told : List Entry → Result Facts Error
+facts_told es =
+    version_told es >>= λ table_version.
+    kinds_told es >>= λ _.
+    triple_told es TableId ItemCount TombstoneCount >>= λ table.
+    triple_told es BlockCountData BlockCountIndex BlockCountFilter >>= λ blocks.
+    triple_told es FileSize WeakTombstoneCount WeakTombstoneReclaimable >>= λ sizes.
+    rest_told es table_version table blocks sizes
 
 -- what the meta block at a place tells: it is loaded, then its items are read
 abbrev pub meta_told : List ℕ → Place → Result Facts Error

@@ -4,12 +4,13 @@ ghost use Rattle.sst_entries.specs.Error.{FaultsFirst, Gives};
 ghost use Rattle.sst_blocks.specs.Block.{place_fault};
 ghost use Rattle.sst_blocks.specs.declared.block_type.BlockType.TheVariants.{Meta};
 ghost use Rattle.sst_sections.specs.Sections.{body_of};
-ghost use Rattle.lsm_readers.specs.Meta.{Facts, item_told, number8_told, number16_told, u64_told, byte_told, first_told, version_told, kinds_told, compressions_told, created_told, triple_told, keys_told, seqnos_told, facts_told, meta_told};
+ghost use Rattle.lsm_readers.specs.Meta.{Facts, item_told, number8_told, number16_told, u64_told, byte_told, first_told, version_told, kinds_told, compressions_told, created_told, triple_told, keys_told, seqnos_told, rest_told, facts_told, meta_told};
 ghost use Rattle.lsm_ranges.specs.KeyRange.{Interval};
 ghost use Rattle.lsm_readers.specs.Table.{facts_of};
 
 use byteorder::{ByteOrder, LittleEndian};
 use lsm_files::{ItemName, TableId, Timestamp};
+use lsm_iters::beside;
 use lsm_ranges::KeyRange;
 use sst_blocks::{
     BlockHandle, BlockSource, BlockType, CompressionType, DataBlock, Error, Opened, SeqNo, Slice,
@@ -221,33 +222,23 @@ fn seqno_items<A: Allocator>(block: &DataBlock<A>) -> Result<(SeqNo, SeqNo), Err
     Ok((min, max))
 }
 
-fn read_facts<A: Allocator>(block: &DataBlock<A>) -> Result<ParsedMeta<A>, Error>
-    ensures { Gives facts_of result (facts_told block.now) }
+/// What a table says of itself, where its version and its counts were read: the rest is read here.
+fn read_rest<A: Allocator>(
+    block: &DataBlock<A>,
+    table_version: u8,
+    table: (u64, u64, u64),
+    blocks: (u64, u64, u64),
+    sizes: (u64, u64, u64),
+) -> Result<ParsedMeta<A>, Error>
+    ensures { Gives facts_of result (rest_told block.now table_version table blocks sizes) }
 {
-    let table_version = version_item(block)?;
-    test_kinds(block)?;
-    let (id, item_count, tombstone_count) = three_items(
-        block,
-        ItemName::TableId,
-        ItemName::ItemCount,
-        ItemName::TombstoneCount,
-    )?;
-    let (data_block_count, index_block_count, _filter_block_count) = three_items(
-        block,
-        ItemName::BlockCountData,
-        ItemName::BlockCountIndex,
-        ItemName::BlockCountFilter,
-    )?;
-    let (file_size, weak_tombstone_count, weak_tombstone_reclaimable) = three_items(
-        block,
-        ItemName::FileSize,
-        ItemName::WeakTombstoneCount,
-        ItemName::WeakTombstoneReclaimable,
-    )?;
+    let (id, item_count, tombstone_count) = table;
+    let (data_block_count, index_block_count, _filter_block_count) = blocks;
+    let (file_size, weak_tombstone_count, weak_tombstone_reclaimable) = sizes;
     let created_at = created_item(block)?;
     let key_range = key_items(block)?;
-    let seqnos = seqno_items(block)?;
-    test_compressions(block)?;
+    let (key_range, seqnos) = beside(key_range, seqno_items(block))?;
+    let (key_range, ()) = beside(key_range, test_compressions(block))?;
     Ok(ParsedMeta {
         table_version,
         id,
@@ -264,6 +255,32 @@ fn read_facts<A: Allocator>(block: &DataBlock<A>) -> Result<ParsedMeta<A>, Error
         data_block_compression: CompressionType::None,
         index_block_compression: CompressionType::None,
     })
+}
+
+fn read_facts<A: Allocator>(block: &DataBlock<A>) -> Result<ParsedMeta<A>, Error>
+    ensures { Gives facts_of result (facts_told block.now) }
+{
+    let table_version = version_item(block)?;
+    test_kinds(block)?;
+    let table = three_items(
+        block,
+        ItemName::TableId,
+        ItemName::ItemCount,
+        ItemName::TombstoneCount,
+    )?;
+    let blocks = three_items(
+        block,
+        ItemName::BlockCountData,
+        ItemName::BlockCountIndex,
+        ItemName::BlockCountFilter,
+    )?;
+    let sizes = three_items(
+        block,
+        ItemName::FileSize,
+        ItemName::WeakTombstoneCount,
+        ItemName::WeakTombstoneReclaimable,
+    )?;
+    read_rest(block, table_version, table, blocks, sizes)
 }
 
 impl<A: Allocator + Clone> ParsedMeta<A> {

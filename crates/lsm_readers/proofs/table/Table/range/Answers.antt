@@ -11,7 +11,7 @@ pub returns-clause-deals : goal.returns-clause-deals
 returns-clause-deals g c = table_deals c.args.self.now c.args.lower c.args.upper c.set_upper.new.iter (returns-clause-is g c)
 
 pub returns-clause-list : goal.returns-clause-list
-returns-clause-list g c es is = list_deals c.args.self.now c.args.lower c.args.upper c.set_upper.new.iter (returns-clause-is g c) c.unbounded.ensures.open es is
+returns-clause-list g c es is = list_deals c.args.self.now c.args.lower c.args.upper c.set_upper.new.iter (returns-clause-is g c) c.in_ok-iter.ensures.open es is
 
 pub returns-clause-few : goal.returns-clause-few
-returns-clause-few g c es is = list_loads c.args.self.now c.args.lower c.args.upper c.set_upper.new.iter (returns-clause-is g c) c.unbounded.ensures.open es is
+returns-clause-few g c es is = list_loads c.args.self.now c.args.lower c.args.upper c.set_upper.new.iter (returns-clause-is g c) c.in_ok-iter.ensures.open es is
