@@ -56,18 +56,25 @@ unfoldable pub byte_told : List Entry → ItemName → ℕ → Error → Result 
 byte_told es name byte fault = item_told es name >>= λ value.
     if pointwise nat_eq value (byte ∷ []) then Ok tt else Err fault
 
--- an item whose first byte has to be this one, else a fault
-unfoldable pub first_told : List Entry → ItemName → ℕ → Error → Result (Unit {0}) Error
-first_told es name byte fault = item_told es name >>= λ value.
+-- a first byte that has to be this one, else a fault
+abbrev pub first_byte_told : List ℕ → ℕ → Error → Result (Unit {0}) Error
+first_byte_told value byte fault =
     if nat_lt (length value) 1 then Err InvalidMetaValue
     else (if slice_index value 0 == byte then Ok tt else Err fault)
 
+-- an item whose first byte has to be this one, else a fault
+unfoldable pub first_told : List Entry → ItemName → ℕ → Error → Result (Unit {0}) Error
+first_told es name byte fault = item_told es name >>= λ value. first_byte_told value byte fault
+
 -- the version, one byte, 3 or 4
-unfoldable pub version_told : List Entry → Result ℕ Error
-version_told es = item_told es TableVersion >>= λ value.
+abbrev pub version_number_told : List ℕ → Result ℕ Error
+version_number_told value =
     if pointwise nat_eq value (3 ∷ []) || pointwise nat_eq value (4 ∷ [])
     then Ok (slice_index value 0)
     else Err UnsupportedTableVersion
+
+unfoldable pub version_told : List Entry → Result ℕ Error
+version_told es = item_told es TableVersion >>= version_number_told
 
 -- the hash, the checksum and the index have to be those that are known
 unfoldable pub kinds_told : List Entry → Result (Unit {0}) Error

@@ -4,7 +4,7 @@ ghost use Rattle.sst_entries.specs.Error.{FaultsFirst, Gives};
 ghost use Rattle.sst_blocks.specs.Block.{place_fault};
 ghost use Rattle.sst_blocks.specs.declared.block_type.BlockType.TheVariants.{Meta};
 ghost use Rattle.sst_sections.specs.Sections.{body_of};
-ghost use Rattle.lsm_readers.specs.Meta.{Facts, item_told, number8_told, number16_told, u64_told, byte_told, first_told, version_told, kinds_told, compressions_told, created_told, triple_told, keys_told, seqnos_told, rest_told, facts_told, meta_told};
+ghost use Rattle.lsm_readers.specs.Meta.{Facts, item_told, number8_told, number16_told, u64_told, byte_told, first_byte_told, first_told, version_number_told, version_told, kinds_told, compressions_told, created_told, triple_told, keys_told, seqnos_told, rest_told, facts_told, meta_told};
 ghost use Rattle.lsm_ranges.specs.KeyRange.{Interval};
 ghost use Rattle.lsm_readers.specs.Table.{facts_of};
 
@@ -108,6 +108,15 @@ fn byte_item<A: Allocator>(
     }
 }
 
+fn test_first(value: &[u8], byte: u8, fault: Error) -> Result<(), Error>
+    ensures { result ≡ first_byte_told value.now byte fault }
+{
+    if value.is_empty() {
+        return Err(Error::InvalidMetaValue);
+    }
+    if value[0] == byte { Ok(()) } else { Err(fault) }
+}
+
 #[tactic(auto, unfolding(crate::specs::Meta::first_told))]
 fn first_item<A: Allocator>(
     block: &DataBlock<A>,
@@ -118,25 +127,26 @@ fn first_item<A: Allocator>(
     ensures { Gives (λ (_ : _). tt) result (first_told block.now name byte fault) }
 {
     let value = item(block, name)?;
-    let value = value.as_slice();
-    if value.is_empty() {
-        return Err(Error::InvalidMetaValue);
-    }
-    if value[0] == byte { Ok(()) } else { Err(fault) }
+    test_first(value.as_slice(), byte, fault)
 }
 
 // The version, one byte, 3 or 4.
-#[tactic(auto, unfolding(crate::specs::Meta::version_told))]
-fn version_item<A: Allocator>(block: &DataBlock<A>) -> Result<u8, Error>
-    ensures { Gives (λ (n : ℕ). n) result (version_told block.now) }
+fn version(value: &[u8]) -> Result<u8, Error>
+    ensures { result ≡ version_number_told value.now }
 {
-    let value = item(block, ItemName::TableVersion)?;
-    let value = value.as_slice();
     if value == [3].as_slice() || value == [4].as_slice() {
         Ok(value[0])
     } else {
         Err(Error::UnsupportedTableVersion)
     }
+}
+
+#[tactic(auto, unfolding(crate::specs::Meta::version_told))]
+fn version_item<A: Allocator>(block: &DataBlock<A>) -> Result<u8, Error>
+    ensures { Gives (λ (n : ℕ). n) result (version_told block.now) }
+{
+    let value = item(block, ItemName::TableVersion)?;
+    version(value.as_slice())
 }
 
 #[tactic(auto, unfolding(crate::specs::Meta::kinds_told))]
