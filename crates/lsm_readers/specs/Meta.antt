@@ -51,10 +51,14 @@ number16_told value = if nat_lt (length value) 16 then Err InvalidMetaValue else
 unfoldable pub u64_told : List Entry → ItemName → Result ℕ Error
 u64_told es name = item_told es name >>= number8_told
 
+-- one byte, which has to be this one, else a fault
+abbrev pub one_byte_told : List ℕ → ℕ → Error → Result (Unit {0}) Error
+one_byte_told value byte fault =
+    if pointwise nat_eq value (byte ∷ []) then Ok tt else Err fault
+
 -- an item that has to be one byte, else a fault
 unfoldable pub byte_told : List Entry → ItemName → ℕ → Error → Result (Unit {0}) Error
-byte_told es name byte fault = item_told es name >>= λ value.
-    if pointwise nat_eq value (byte ∷ []) then Ok tt else Err fault
+byte_told es name byte fault = item_told es name >>= λ value. one_byte_told value byte fault
 
 -- a first byte that has to be this one, else a fault
 abbrev pub first_byte_told : List ℕ → ℕ → Error → Result (Unit {0}) Error

@@ -4,7 +4,7 @@ ghost use Rattle.sst_entries.specs.Error.{FaultsFirst, Gives};
 ghost use Rattle.sst_blocks.specs.Block.{place_fault};
 ghost use Rattle.sst_blocks.specs.declared.block_type.BlockType.TheVariants.{Meta};
 ghost use Rattle.sst_sections.specs.Sections.{body_of};
-ghost use Rattle.lsm_readers.specs.Meta.{Facts, item_told, number8_told, number16_told, u64_told, byte_told, first_byte_told, first_told, version_number_told, version_told, kinds_told, compressions_told, created_told, triple_told, keys_told, seqnos_told, rest_told, facts_told, meta_told};
+ghost use Rattle.lsm_readers.specs.Meta.{Facts, item_told, number8_told, number16_told, u64_told, one_byte_told, byte_told, first_byte_told, first_told, version_number_told, version_told, kinds_told, compressions_told, created_told, triple_told, keys_told, seqnos_told, rest_told, facts_told, meta_told};
 ghost use Rattle.lsm_ranges.specs.KeyRange.{Interval};
 ghost use Rattle.lsm_readers.specs.Table.{facts_of};
 
@@ -91,6 +91,16 @@ fn u64_item<A: Allocator>(block: &DataBlock<A>, name: ItemName) -> Result<u64, E
     number8(value.as_slice())
 }
 
+fn test_byte(value: &[u8], byte: u8, fault: Error) -> Result<(), Error>
+    ensures { result ≡ one_byte_told value.now byte fault }
+{
+    if value == [byte].as_slice() {
+        Ok(())
+    } else {
+        Err(fault)
+    }
+}
+
 #[tactic(auto, unfolding(crate::specs::Meta::byte_told))]
 fn byte_item<A: Allocator>(
     block: &DataBlock<A>,
@@ -101,11 +111,7 @@ fn byte_item<A: Allocator>(
     ensures { Gives (λ (_ : _). tt) result (byte_told block.now name byte fault) }
 {
     let value = item(block, name)?;
-    if value.as_slice() == [byte].as_slice() {
-        Ok(())
-    } else {
-        Err(fault)
-    }
+    test_byte(value.as_slice(), byte, fault)
 }
 
 fn test_first(value: &[u8], byte: u8, fault: Error) -> Result<(), Error>

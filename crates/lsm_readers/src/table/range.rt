@@ -7,7 +7,7 @@ ghost use Rattle.lsm_readers.specs.Words.{DealsAll, DealsEnding, DealsWithin, En
 ghost use Rattle.lsm_readers.specs.Words.{OpenTable, blocks_within, index_read, index_within, range_told, table_index};
 
 use crate::{BlockIndex, BlockIndexImpl, Inner, Table};
-use lsm_iters::{Bound as Edge, Iter};
+use lsm_iters::{Bound as Edge, Iter, beside};
 use sst_blocks::{Error, UserKey};
 use std::alloc::Allocator;
 use std::ops::Bound;
@@ -67,7 +67,7 @@ impl<A: Allocator + Clone> Table<A> {
             IfOk result (LoadsAtMost gives back_gives blocks index) }
         ensures err { IfErr result (λ e. e ≡ OutOfMemory) }
     {
-        let mut iter = self.unbounded()?;
+        let ((lower, upper), mut iter) = beside((lower, upper), self.unbounded())?;
         set_lower(&mut iter, lower);
         set_upper(&mut iter, upper);
         Ok(iter)

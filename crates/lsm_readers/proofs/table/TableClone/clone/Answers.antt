@@ -1,6 +1,4 @@
-use Rattle.std.proofs.Common.{subst, sym, ◌∙◌}
-use Rattle.std.specs.Arc.{arc_value}
-use Rattle.lsm_readers.specs.Table.{IsOpen, table_of}
+use Rattle.std.proofs.Common.{◌∙◌}
 use Rattle.lsm_readers.proofs.Steps.{beside_first, beside_is}
 use Rattle.lsm_readers.proofs.table.TableClone.clone.Goals as goal
 
