@@ -23,7 +23,7 @@ use Rattle.std.specs.Cmp.Lexicographic.{pointwise}
 use Rattle.byteorder.specs.Numbers.{little_number-reads_back}
 use Rattle.sst_entries.specs.declared.error.Error.TheVariants.{UnsupportedTableVersion, UnsupportedIndexInterval}
 use Rattle.lsm_ranges.specs.KeyRange.{interval}
-use Rattle.lsm_readers.specs.Meta.{Facts, item_told, u64_told, version_told, kinds_told, byte_told, first_told, compressions_told, created_told, keys_told, seqnos_told, triple_told, facts_told}
+use Rattle.lsm_readers.specs.Meta.{Facts, item_told, u64_told, version_told, kinds_told, byte_told, first_told, compressions_told, created_told, keys_told, seqnos_told, triple_told, rest_told, facts_told}
 
 -- a number that was written is read
 pub u64_read : (es : List Entry) (name : ItemName) (n : ℕ) → item_told es name ≡ Ok (le8 n) → n < 2 ^ 64 → u64_told es name ≡ Ok n
@@ -208,5 +208,5 @@ module _ (v : TableVersion) (label : Label) (options : Options) (cs : List (List
 
   -- the facts of the written list
   pub facts_read : FactsFit label options cs v blocks → facts_told es ≡ Ok (written_facts v label cs blocks)
-  unfolding facts_told
+  unfolding facts_told rest_told
   facts_read fit = rw (version_read, kinds_read fit.interval, table_read fit, blocks_read fit, sizes_read fit, created_read fit.created_at, keys_read, seqnos_read fit, compressions_read) refl

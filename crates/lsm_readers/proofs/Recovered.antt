@@ -50,6 +50,22 @@ same_facts : (large : Bool) (f k : Facts) → cond large (Err GlobalSeqNoTooLarg
 same_facts true f k h = absurd cc
 same_facts false f k h = cc
 
+-- they are, where each told something
+steps_of : (bytes : List ℕ) (g : ℕ) (pin_filter pin_index : Bool) (parts : Parts) (regions : ParsedRegions) (told_facts facts : Facts) (pinned : Pinned)
+    → parts_told bytes g pin_filter pin_index ≡ Ok parts → places_told bytes ≡ Ok regions → meta_told (body_of bytes) regions.metadata ≡ Ok told_facts → number_told told_facts g ≡ Ok facts
+    → pinned_told (body_of bytes) regions pin_filter pin_index ≡ Ok pinned → made regions facts pinned ≡ parts → Steps bytes g pin_filter pin_index parts
+steps_of bytes g pin_filter pin_index parts regions told_facts facts pinned trailer places meta number pins same =
+    let large = ltb (2 ^ 64 - 1) (told_facts.seqno_max + g) in
+    let kept : told_facts ≡ facts = same_facts large told_facts facts number in
+    let all : Steps bytes g pin_filter pin_index (made regions facts pinned) = record {
+      trailer = trailer ∙ ap (λ (p : Parts). Ok p) (sym same);
+      regions = places;
+      facts = meta ∙ ap (λ (f : Facts). Ok f) kept;
+      fits = number_fits large told_facts facts g refl number;
+      pinned = pins;
+    } in
+    subst (Steps bytes g pin_filter pin_index) same all
+
 pub steps : (bytes : List ℕ) (g : ℕ) (pin_filter pin_index : Bool) (parts : Parts) → recovered_told bytes g pin_filter pin_index ≡ Ok parts → Steps bytes g pin_filter pin_index parts
 unfolding parts_told
 steps bytes g pin_filter pin_index parts h =
@@ -60,11 +76,7 @@ steps bytes g pin_filter pin_index parts h =
     let m = bind_ok (meta_told body (r.0).metadata) (λ facts. number_told facts g >>= λ facts. pinned_in r.0 >>= λ pinned. Ok (made r.0 facts pinned)) parts r.2 in
     let n = bind_ok (number_told m.0 g) (λ facts. pinned_in r.0 >>= λ pinned. Ok (made r.0 facts pinned)) parts m.2 in
     let i = bind_ok (pinned_in r.0) (λ pinned. Ok (made r.0 n.0 pinned)) parts n.2 in
-    let same : made r.0 n.0 i.0 ≡ parts = cc in
-    let fits : (n.0).seqno_max + g < 2 ^ 64 = number_fits (ltb (2 ^ 64 - 1) ((m.0).seqno_max + g)) m.0 n.0 g refl n.1 in
-    let kept : m.0 ≡ n.0 = same_facts (ltb (2 ^ 64 - 1) ((m.0).seqno_max + g)) m.0 n.0 n.1 in
-    let all : Steps bytes g pin_filter pin_index (made r.0 n.0 i.0) = record { trailer = told ∙ ap (λ (p : Parts). Ok p) (sym same); regions = r.1; facts = m.1 ∙ ap (λ (f : Facts). Ok f) kept; fits = fits; pinned = i.1 } in
-    subst (Steps bytes g pin_filter pin_index) same all
+    steps_of bytes g pin_filter pin_index parts r.0 m.0 n.0 i.0 told r.1 m.1 n.1 i.1 cc
 
 pub recovered_steps : (t : OpenTable) (is : IsRecovered t) → Steps t.bytes t.global_seqno is.pin_filter is.pin_index t.parts
 recovered_steps t is = steps t.bytes t.global_seqno is.pin_filter is.pin_index t.parts is.told

@@ -1,10 +1,10 @@
 -- What a chain of steps tells: the fault of the step that refuses, or what the last step told.
-use Rattle.std.proofs.Common.{◌≡◌, ap, ◌∙◌}
+use Rattle.std.proofs.Common.{◌≡◌, ap, subst, sym, ◌∙◌}
 use Rattle.std.proofs.lemmas.Result.{err_from_is_err_and}
-use Rattle.std.specs.Prelude.{Result, Ok, Err}
+use Rattle.std.specs.Prelude.{MatchResult, Option, None, Some, Result, Ok, Err}
 use Rattle.std.specs.Result.{IsErrAnd}
 use Rattle.sst_entries.specs.declared.error.Error.{Error}
-use Rattle.sst_entries.specs.Error.{Fails, Gives}
+use Rattle.sst_entries.specs.Error.{Fails, FaultsFirst, Gives}
 use Rattle.lsm_readers.specs.Read.{◌>>=◌}
 
 -- a step that told a value
@@ -42,3 +42,62 @@ both_fail (Err d) f h e fails = λ memory. same_fault d e (fails memory)
 pub both_later : {A B C : Type 0} (r : Result A Error) (f : A → Result C Error) (h : C → Result B Error) (x : C) (e : Error) → (r >>= f) ≡ Ok x → Fails e (h x) → Fails e (r >>= λ a. f a >>= h)
 both_later (Ok a) f h x e step fails = fails_later (f a) h x e step fails
 both_later (Err d) f h x e step fails = absurd cc
+
+-- ---- a value beside the answer of a call
+
+abbrev paired : {X Y E : Type 0} → X → Y → Result (X × Y) E
+paired x y = Ok (x, y)
+
+abbrev unpaired : {X Y E : Type 0} → E → Result (X × Y) E
+unpaired e = Err e
+
+abbrev answered : {Y E : Type 0} → Y → Result Y E
+answered y = Ok y
+
+same_pair : {X Y E : Type 0} (x v : X) (y z : Y) → paired {E = E} x y ≡ paired v z → ◌≡◌ {A = X × Y} (x, y) (v, z)
+same_pair x v y z is = cc
+
+-- the value is the one that was put there
+pub beside_first : {X Y E : Type 0} (first : X) (second : Result Y E) (x : X) (y : Y)
+    → MatchResult second (λ z. paired {E = E} x y ≡ paired first z) (λ d. paired x y ≡ unpaired d) → x ≡ first
+beside_first {X = X} {Y = Y} first (Ok z) x y is = ap (λ (p : X × Y). p.0) (same_pair x first y z is)
+beside_first first (Err d) x y is = absurd cc
+
+-- and the answer the call's
+pub beside_second : {X Y E : Type 0} (first : X) (second : Result Y E) (x : X) (y : Y)
+    → MatchResult second (λ z. paired {E = E} x y ≡ paired first z) (λ d. paired x y ≡ unpaired d) → second ≡ Ok y
+beside_second {X = X} {Y = Y} {E = E} first (Ok z) x y is = ap (λ (p : X × Y). answered {E = E} p.1) (sym (same_pair x first y z is))
+beside_second first (Err d) x y is = absurd cc
+
+pub beside_fault : {X Y E : Type 0} (first : X) (second : Result Y E) (e : E)
+    → MatchResult second (λ z. unpaired e ≡ paired first z) (λ d. unpaired {X = X} {Y = Y} e ≡ unpaired d) → second ≡ Err e
+beside_fault first (Ok z) e is = absurd cc
+beside_fault first (Err d) e is = cc
+
+-- what the call gave, and the fault that it passed on
+pub beside_gives : {X Y Z : Type 0} (view : Y → Z) (first : X) (second : Result Y Error) (told : Result Z Error) (x : X) (y : Y) → Gives view second told
+    → MatchResult second (λ z. paired {E = Error} x y ≡ paired first z) (λ d. paired x y ≡ unpaired d) → told ≡ Ok (view y)
+beside_gives {Y = Y} view first second told x y gives is =
+    subst (λ (r : Result Y Error). Gives view r told) (beside_second first second x y is) gives
+
+pub beside_fails : {X Y Z : Type 0} (view : Y → Z) (first : X) (second : Result Y Error) (told : Result Z Error) (e : Error) → Gives view second told
+    → MatchResult second (λ z. unpaired e ≡ paired first z) (λ d. unpaired {X = X} {Y = Y} e ≡ unpaired d) → Fails e told
+beside_fails {Y = Y} view first second told e gives is =
+    subst (λ (r : Result Y Error). Gives view r told) (beside_fault first second e is) gives
+
+-- what it refuses first
+pub beside_early : {X Y : Type 0} (first : X) (second : Result Y Error) (told : Option Error) (e : Error) → FaultsFirst second told
+    → MatchResult second (λ z. unpaired e ≡ paired first z) (λ d. unpaired {X = X} {Y = Y} e ≡ unpaired d) → (f : Error) → told ≡ Some f → Some f ≡ Some e
+beside_early {Y = Y} first second told e early is =
+    subst (λ (r : Result Y Error). FaultsFirst r told) (beside_fault first second e is) early
+
+pub beside_none : {X Y : Type 0} (first : X) (second : Result Y Error) (told : Option Error) (x : X) (y : Y) → FaultsFirst second told
+    → MatchResult second (λ z. paired {E = Error} x y ≡ paired first z) (λ d. paired x y ≡ unpaired d) → (f : Error) → told ≡ Some f → Some f ≡ None
+beside_none {Y = Y} first second told x y early is =
+    subst (λ (r : Result Y Error). FaultsFirst r told) (beside_second first second x y is) early
+
+-- what the call says of its answer
+pub beside_is : {X Y E : Type 0} (P : Y → Type 0) (Q : E → Type 0) (first : X) (second : Result Y E) (x : X) (y : Y) → MatchResult second P Q
+    → MatchResult second (λ z. paired {E = E} x y ≡ paired first z) (λ d. paired x y ≡ unpaired d) → P y
+beside_is {Y = Y} {E = E} P Q first second x y made is =
+    subst (λ (r : Result Y E). MatchResult r P Q) (beside_second first second x y is) made

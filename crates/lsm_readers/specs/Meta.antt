@@ -51,23 +51,34 @@ number16_told value = if nat_lt (length value) 16 then Err InvalidMetaValue else
 unfoldable pub u64_told : List Entry → ItemName → Result ℕ Error
 u64_told es name = item_told es name >>= number8_told
 
--- an item that has to be one byte, else a fault
-unfoldable pub byte_told : List Entry → ItemName → ℕ → Error → Result (Unit {0}) Error
-byte_told es name byte fault = item_told es name >>= λ value.
+-- one byte, which has to be this one, else a fault
+abbrev pub one_byte_told : List ℕ → ℕ → Error → Result (Unit {0}) Error
+one_byte_told value byte fault =
     if pointwise nat_eq value (byte ∷ []) then Ok tt else Err fault
 
--- an item whose first byte has to be this one, else a fault
-unfoldable pub first_told : List Entry → ItemName → ℕ → Error → Result (Unit {0}) Error
-first_told es name byte fault = item_told es name >>= λ value.
+-- an item that has to be one byte, else a fault
+unfoldable pub byte_told : List Entry → ItemName → ℕ → Error → Result (Unit {0}) Error
+byte_told es name byte fault = item_told es name >>= λ value. one_byte_told value byte fault
+
+-- a first byte that has to be this one, else a fault
+abbrev pub first_byte_told : List ℕ → ℕ → Error → Result (Unit {0}) Error
+first_byte_told value byte fault =
     if nat_lt (length value) 1 then Err InvalidMetaValue
     else (if slice_index value 0 == byte then Ok tt else Err fault)
 
+-- an item whose first byte has to be this one, else a fault
+unfoldable pub first_told : List Entry → ItemName → ℕ → Error → Result (Unit {0}) Error
+first_told es name byte fault = item_told es name >>= λ value. first_byte_told value byte fault
+
 -- the version, one byte, 3 or 4
-unfoldable pub version_told : List Entry → Result ℕ Error
-version_told es = item_told es TableVersion >>= λ value.
+abbrev pub version_number_told : List ℕ → Result ℕ Error
+version_number_told value =
     if pointwise nat_eq value (3 ∷ []) || pointwise nat_eq value (4 ∷ [])
     then Ok (slice_index value 0)
     else Err UnsupportedTableVersion
+
+unfoldable pub version_told : List Entry → Result ℕ Error
+version_told es = item_told es TableVersion >>= version_number_told
 
 -- the hash, the checksum and the index have to be those that are known
 unfoldable pub kinds_told : List Entry → Result (Unit {0}) Error
@@ -107,14 +118,9 @@ seqnos_told es =
     u64_told es SeqnoMax >>= λ max.
     Ok (min, max)
 
--- all that is read, in this order
-unfoldable pub facts_told : List Entry → Result Facts Error
-facts_told es =
-    version_told es >>= λ table_version.
-    kinds_told es >>= λ _.
-    triple_told es TableId ItemCount TombstoneCount >>= λ table.
-    triple_told es BlockCountData BlockCountIndex BlockCountFilter >>= λ blocks.
-    triple_told es FileSize WeakTombstoneCount WeakTombstoneReclaimable >>= λ sizes.
+-- what is read behind the version and the counts, in this order
+unfoldable pub rest_told : List Entry → ℕ → ℕ × ℕ × ℕ → ℕ × ℕ × ℕ → ℕ × ℕ × ℕ → Result Facts Error
+rest_told es table_version table blocks sizes =
     created_told es >>= λ created_at.
     keys_told es >>= λ key_range.
     seqnos_told es >>= λ seqnos.
@@ -134,6 +140,16 @@ facts_told es =
       weak_tombstone_count = sizes.1;
       weak_tombstone_reclaimable = sizes.2;
     })
+
+-- all that is read, in this order
+unfoldable pub facts_told : List Entry → Result Facts Error
+facts_told es =
+    version_told es >>= λ table_version.
+    kinds_told es >>= λ _.
+    triple_told es TableId ItemCount TombstoneCount >>= λ table.
+    triple_told es BlockCountData BlockCountIndex BlockCountFilter >>= λ blocks.
+    triple_told es FileSize WeakTombstoneCount WeakTombstoneReclaimable >>= λ sizes.
+    rest_told es table_version table blocks sizes
 
 -- what the meta block at a place tells: it is loaded, then its items are read
 abbrev pub meta_told : List ℕ → Place → Result Facts Error

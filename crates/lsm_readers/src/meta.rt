@@ -4,12 +4,13 @@ ghost use Rattle.sst_entries.specs.Error.{FaultsFirst, Gives};
 ghost use Rattle.sst_blocks.specs.Block.{place_fault};
 ghost use Rattle.sst_blocks.specs.declared.block_type.BlockType.TheVariants.{Meta};
 ghost use Rattle.sst_sections.specs.Sections.{body_of};
-ghost use Rattle.lsm_readers.specs.Meta.{Facts, item_told, number8_told, number16_told, u64_told, byte_told, first_told, version_told, kinds_told, compressions_told, created_told, triple_told, keys_told, seqnos_told, facts_told, meta_told};
+ghost use Rattle.lsm_readers.specs.Meta.{Facts, item_told, number8_told, number16_told, u64_told, one_byte_told, byte_told, first_byte_told, first_told, version_number_told, version_told, kinds_told, compressions_told, created_told, triple_told, keys_told, seqnos_told, rest_told, facts_told, meta_told};
 ghost use Rattle.lsm_ranges.specs.KeyRange.{Interval};
 ghost use Rattle.lsm_readers.specs.Table.{facts_of};
 
 use byteorder::{ByteOrder, LittleEndian};
 use lsm_files::{ItemName, TableId, Timestamp};
+use lsm_iters::beside;
 use lsm_ranges::KeyRange;
 use sst_blocks::{
     BlockHandle, BlockSource, BlockType, CompressionType, DataBlock, Error, Opened, SeqNo, Slice,
@@ -90,6 +91,16 @@ fn u64_item<A: Allocator>(block: &DataBlock<A>, name: ItemName) -> Result<u64, E
     number8(value.as_slice())
 }
 
+fn test_byte(value: &[u8], byte: u8, fault: Error) -> Result<(), Error>
+    ensures { result ≡ one_byte_told value.now byte fault }
+{
+    if value == [byte].as_slice() {
+        Ok(())
+    } else {
+        Err(fault)
+    }
+}
+
 #[tactic(auto, unfolding(crate::specs::Meta::byte_told))]
 fn byte_item<A: Allocator>(
     block: &DataBlock<A>,
@@ -100,11 +111,16 @@ fn byte_item<A: Allocator>(
     ensures { Gives (λ (_ : _). tt) result (byte_told block.now name byte fault) }
 {
     let value = item(block, name)?;
-    if value.as_slice() == [byte].as_slice() {
-        Ok(())
-    } else {
-        Err(fault)
+    test_byte(value.as_slice(), byte, fault)
+}
+
+fn test_first(value: &[u8], byte: u8, fault: Error) -> Result<(), Error>
+    ensures { result ≡ first_byte_told value.now byte fault }
+{
+    if value.is_empty() {
+        return Err(Error::InvalidMetaValue);
     }
+    if value[0] == byte { Ok(()) } else { Err(fault) }
 }
 
 #[tactic(auto, unfolding(crate::specs::Meta::first_told))]
@@ -117,25 +133,26 @@ fn first_item<A: Allocator>(
     ensures { Gives (λ (_ : _). tt) result (first_told block.now name byte fault) }
 {
     let value = item(block, name)?;
-    let value = value.as_slice();
-    if value.is_empty() {
-        return Err(Error::InvalidMetaValue);
-    }
-    if value[0] == byte { Ok(()) } else { Err(fault) }
+    test_first(value.as_slice(), byte, fault)
 }
 
 // The version, one byte, 3 or 4.
-#[tactic(auto, unfolding(crate::specs::Meta::version_told))]
-fn version_item<A: Allocator>(block: &DataBlock<A>) -> Result<u8, Error>
-    ensures { Gives (λ (n : ℕ). n) result (version_told block.now) }
+fn version(value: &[u8]) -> Result<u8, Error>
+    ensures { result ≡ version_number_told value.now }
 {
-    let value = item(block, ItemName::TableVersion)?;
-    let value = value.as_slice();
     if value == [3].as_slice() || value == [4].as_slice() {
         Ok(value[0])
     } else {
         Err(Error::UnsupportedTableVersion)
     }
+}
+
+#[tactic(auto, unfolding(crate::specs::Meta::version_told))]
+fn version_item<A: Allocator>(block: &DataBlock<A>) -> Result<u8, Error>
+    ensures { Gives (λ (n : ℕ). n) result (version_told block.now) }
+{
+    let value = item(block, ItemName::TableVersion)?;
+    version(value.as_slice())
 }
 
 #[tactic(auto, unfolding(crate::specs::Meta::kinds_told))]
@@ -221,33 +238,23 @@ fn seqno_items<A: Allocator>(block: &DataBlock<A>) -> Result<(SeqNo, SeqNo), Err
     Ok((min, max))
 }
 
-fn read_facts<A: Allocator>(block: &DataBlock<A>) -> Result<ParsedMeta<A>, Error>
-    ensures { Gives facts_of result (facts_told block.now) }
+/// What a table says of itself, where its version and its counts were read: the rest is read here.
+fn read_rest<A: Allocator>(
+    block: &DataBlock<A>,
+    table_version: u8,
+    table: (u64, u64, u64),
+    blocks: (u64, u64, u64),
+    sizes: (u64, u64, u64),
+) -> Result<ParsedMeta<A>, Error>
+    ensures { Gives facts_of result (rest_told block.now table_version table blocks sizes) }
 {
-    let table_version = version_item(block)?;
-    test_kinds(block)?;
-    let (id, item_count, tombstone_count) = three_items(
-        block,
-        ItemName::TableId,
-        ItemName::ItemCount,
-        ItemName::TombstoneCount,
-    )?;
-    let (data_block_count, index_block_count, _filter_block_count) = three_items(
-        block,
-        ItemName::BlockCountData,
-        ItemName::BlockCountIndex,
-        ItemName::BlockCountFilter,
-    )?;
-    let (file_size, weak_tombstone_count, weak_tombstone_reclaimable) = three_items(
-        block,
-        ItemName::FileSize,
-        ItemName::WeakTombstoneCount,
-        ItemName::WeakTombstoneReclaimable,
-    )?;
+    let (id, item_count, tombstone_count) = table;
+    let (data_block_count, index_block_count, _filter_block_count) = blocks;
+    let (file_size, weak_tombstone_count, weak_tombstone_reclaimable) = sizes;
     let created_at = created_item(block)?;
     let key_range = key_items(block)?;
-    let seqnos = seqno_items(block)?;
-    test_compressions(block)?;
+    let (key_range, seqnos) = beside(key_range, seqno_items(block))?;
+    let (key_range, ()) = beside(key_range, test_compressions(block))?;
     Ok(ParsedMeta {
         table_version,
         id,
@@ -264,6 +271,32 @@ fn read_facts<A: Allocator>(block: &DataBlock<A>) -> Result<ParsedMeta<A>, Error
         data_block_compression: CompressionType::None,
         index_block_compression: CompressionType::None,
     })
+}
+
+fn read_facts<A: Allocator>(block: &DataBlock<A>) -> Result<ParsedMeta<A>, Error>
+    ensures { Gives facts_of result (facts_told block.now) }
+{
+    let table_version = version_item(block)?;
+    test_kinds(block)?;
+    let table = three_items(
+        block,
+        ItemName::TableId,
+        ItemName::ItemCount,
+        ItemName::TombstoneCount,
+    )?;
+    let blocks = three_items(
+        block,
+        ItemName::BlockCountData,
+        ItemName::BlockCountIndex,
+        ItemName::BlockCountFilter,
+    )?;
+    let sizes = three_items(
+        block,
+        ItemName::FileSize,
+        ItemName::WeakTombstoneCount,
+        ItemName::WeakTombstoneReclaimable,
+    )?;
+    read_rest(block, table_version, table, blocks, sizes)
 }
 
 impl<A: Allocator + Clone> ParsedMeta<A> {

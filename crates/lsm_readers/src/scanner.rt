@@ -7,7 +7,7 @@ ghost use Rattle.sst_blocks.specs.declared.block_type.BlockType.TheVariants.{Dat
 ghost use Rattle.sst_entries.specs.declared.error.Error.{Error};
 ghost use Rattle.sst_entries.specs.declared.error.Error.TheVariants.{OutOfMemory};
 
-use lsm_iters::lift_seqno;
+use lsm_iters::{beside, lift_seqno};
 use sst_blocks::{
     BlockSource, BlockType, CompressionType, DataBlock, Error, Header, IterItem, Opened, SeqNo,
 };
@@ -101,8 +101,9 @@ impl<A: Allocator + Clone> Scanner<A> {
         }
         let mut opened = Opened::none();
         let (block, position) = block_at(source, 0, &mut opened)?;
+        let (block, source) = beside(block, source.clone())?;
         Ok(Scanner {
-            source: source.clone()?,
+            source,
             block,
             index: 0,
             position,

@@ -6,6 +6,8 @@ ghost use Rattle.lsm_readers.specs.Words.{facts_of, fault_of, filter_len, filter
 ghost use Rattle.lsm_readers.specs.Words.{list_told, load_at_told, load_told, none_opened, nowhere, number_told, overlaps_bounds, parts_of, parts_told};
 ghost use Rattle.lsm_readers.specs.Words.{index_read, pinned_of, pinned_told, place_fault, place_size, places_told, point, table_index};
 ghost use Rattle.lsm_readers.specs.Words.{position_fault, recovered_told, scan_told, table_answer, tops_told, volatile, with_load, within};
+ghost use Rattle.std.specs.Arc.{arc_value};
+ghost use Rattle.lsm_block_indexes.specs.Index.{on_demand, two_level};
 ghost use Rattle.sst_blocks.specs.declared.block_type.BlockType.TheVariants.{Data, Index, Meta};
 ghost use Rattle.sst_entries.specs.declared.error.Error.{Error};
 ghost use Rattle.sst_entries.specs.declared.error.Error.TheVariants.{GlobalSeqNoTooLarge, OutOfMemory};
@@ -16,6 +18,7 @@ use crate::inner::PinnedBlocks;
 use crate::{Inner, ParsedMeta, ParsedRegions, PinnedBlockIndex, Scanner, point_in};
 use lsm_block_indexes::{BlockIndexImpl, FullBlockIndex, TwoLevelBlockIndex, VolatileBlockIndex};
 use lsm_files::{TableId, TreeId};
+use lsm_iters::beside;
 use lsm_ranges::{KeyRange, Ranged};
 use sst_blocks::{
     BlockHandle, BlockSource, BlockType, Checksum, Counted, Error, FilterBlock, Header, IndexBlock,
@@ -55,10 +58,8 @@ impl<A: Allocator + Clone> Clone for Table<A> {
     ghost is_clone = { λ t copy. copy ≡ t };
 
     fn clone(&self) -> Result<Table<A>, AllocError> {
-        Ok(Table {
-            source: self.source.clone()?,
-            inner: self.inner.clone()?,
-        })
+        let (source, inner) = beside(self.source.clone()?, self.inner.clone())?;
+        Ok(Table { source, inner })
     }
 }
 
@@ -180,13 +181,14 @@ fn load_pinned<A: Allocator + Clone>(
         (pinned_told (body_of source.now) regions.now pin_filter pin_index) }
 {
     let index = load_index(source, regions, pin_index)?;
-    let filter_index = load_filter_index(source, regions.filter_tli)?;
+    let (index, filter_index) = beside(index, load_filter_index(source, regions.filter_tli))?;
     let pinned = if pin_filter && regions.filter_tli.is_none() {
         regions.filter
     } else {
         None
     };
-    let filter_block = load_filter(source, pinned)?;
+    let (tops, filter_block) = beside((index, filter_index), load_filter(source, pinned))?;
+    let (index, filter_index) = tops;
     Ok(PinnedBlocks {
         index,
         filter_index,
@@ -239,7 +241,8 @@ fn recover_inner<A: Allocator + Clone>(
 {
     let regions = ParsedRegions::parse_from_toc(source.toc())?;
     let metadata = fitting_metadata(source, &regions.metadata, global_seqno)?;
-    let pinned = load_pinned(source, &regions, pin_filter, pin_index)?;
+    let pinned = load_pinned(source, &regions, pin_filter, pin_index);
+    let (metadata, pinned) = beside(metadata, pinned)?;
     Ok(Inner {
         tree_id,
         global_seqno,
@@ -250,6 +253,43 @@ fn recover_inner<A: Allocator + Clone>(
         pinned_filter_index: pinned.filter_index,
         pinned_filter_block: pinned.filter_block,
     })
+}
+
+/// A value behind a shared handle, in the memory that there is for one. It is generic in the value, so that none of a large
+/// value's parts is looked at where it is let go. Refused [`Error::OutOfMemory`] alone.
+fn share<T: Drop, A: Allocator>(kept: Result<A, AllocError>, value: T) -> Result<Arc<T, A>, Error>
+    ensures ok { IfOk result (λ shared. arc_value shared ≡ value) }
+    ensures err { IfErr result (λ e. e ≡ OutOfMemory) }
+{
+    Ok(Arc::new(kept?, value)?)
+}
+
+/// What a table is recovered to, behind a shared handle. Refused as [`recover_inner`], then [`Error::OutOfMemory`].
+fn recover_shared<A: Allocator + Clone>(
+    source: &BlockSource<A>,
+    kept: Result<A, AllocError>,
+    checksum: Checksum,
+    global_seqno: SeqNo,
+    tree_id: TreeId,
+    pin_filter: bool,
+    pin_index: bool,
+) -> Result<Arc<Inner<A>, A>, Error>
+    ensures told { Gives (λ shared. parts_of (arc_value shared)) result
+        (parts_told source.now global_seqno pin_filter pin_index) }
+    ensures early { FaultsFirst result (early_in (body_of source.now) (places_told source.now)) }
+    ensures number { IfOk result (λ shared. (arc_value shared).global_seqno ≡ global_seqno) }
+    ensures tree { IfOk result (λ shared. (arc_value shared).tree_id ≡ tree_id) }
+    ensures checksum { IfOk result (λ shared. (arc_value shared).checksum ≡ checksum) }
+{
+    let inner = recover_inner(
+        source,
+        checksum,
+        global_seqno,
+        tree_id,
+        pin_filter,
+        pin_index,
+    )?;
+    share(kept, inner)
 }
 
 impl<A: Allocator + Clone> Table<A> {
@@ -286,19 +326,17 @@ impl<A: Allocator + Clone> Table<A> {
         // Faults of the bytes come before a refusal of the allocator.
         let kept: Result<A, AllocError> = alloc.clone();
         let source = BlockSource::new(alloc, bytes)?;
-        let inner = recover_inner(
+        let shared = recover_shared(
             &source,
+            kept,
             checksum,
             global_seqno,
             tree_id,
             pin_filter,
             pin_index,
-        )?;
-        let shared = Arc::new(kept?, inner)?;
-        Ok(Table {
-            source,
-            inner: shared,
-        })
+        );
+        let (source, inner) = beside(source, shared)?;
+        Ok(Table { source, inner })
     }
 
     /// The hash of a key, which a point read is given.
@@ -399,6 +437,35 @@ impl<A: Allocator + Clone> Table<A> {
     }
 }
 
+/// An index whose one block, at a place, each iterator loads. Refused [`Error::OutOfMemory`] alone.
+fn volatile_index<A: Allocator + Clone>(
+    source: &BlockSource<A>,
+    handle: BlockHandle,
+) -> Result<BlockIndexImpl<A>, Error>
+    ensures index { let read = on_demand (body_of source.now) handle in
+        IfOk result (λ index. index_read index ≡ read) }
+    ensures err { IfErr result (λ e. e ≡ OutOfMemory) }
+{
+    let (alloc, source) = (source.allocator().clone()?, source.clone()?);
+    let index = VolatileBlockIndex::new(alloc, source, handle);
+    Ok(BlockIndexImpl::VolatileFull(index))
+}
+
+/// An index of partitions below a top level. Refused [`Error::OutOfMemory`] alone.
+fn two_level_index<A: Allocator + Clone>(
+    source: &BlockSource<A>,
+    tops: &IndexBlock<A>,
+) -> Result<BlockIndexImpl<A>, Error>
+    ensures index { let read = two_level (body_of source.now) tops.now in
+        IfOk result (λ index. index_read index ≡ read) }
+    ensures err { IfErr result (λ e. e ≡ OutOfMemory) }
+{
+    let (alloc, source) = (source.allocator().clone()?, source.clone()?);
+    let (source, tops) = beside(source, tops.clone())?;
+    let index = TwoLevelBlockIndex::new(alloc, source, tops);
+    Ok(BlockIndexImpl::TwoLevel(index))
+}
+
 impl<A: Allocator + Clone> Table<A> {
     /// The index that [`Table::recover`] chose, over the table's bytes: the whole index that stays loaded, the one block that
     /// each iterator loads, or partitions below the top level. Nothing is loaded. Refused [`Error::OutOfMemory`] alone.
@@ -410,22 +477,13 @@ impl<A: Allocator + Clone> Table<A> {
         ensures err { IfErr result (λ e. e ≡ OutOfMemory) }
     {
         let inner: &Inner<A> = &self.inner;
-        let alloc = self.source.allocator();
         match &inner.pinned_block_index {
             PinnedBlockIndex::Full(index) => {
                 let handles = index.inner().clone()?;
                 Ok(BlockIndexImpl::Full(FullBlockIndex::new(handles)))
             }
-            PinnedBlockIndex::VolatileFull => {
-                let (alloc, source) = (alloc.clone()?, self.source.clone()?);
-                let index = VolatileBlockIndex::new(alloc, source, inner.regions.tli);
-                Ok(BlockIndexImpl::VolatileFull(index))
-            }
-            PinnedBlockIndex::TwoLevel(tops) => {
-                let (alloc, source) = (alloc.clone()?, self.source.clone()?);
-                let index = TwoLevelBlockIndex::new(alloc, source, tops.clone()?);
-                Ok(BlockIndexImpl::TwoLevel(index))
-            }
+            PinnedBlockIndex::VolatileFull => volatile_index(&self.source, inner.regions.tli),
+            PinnedBlockIndex::TwoLevel(tops) => two_level_index(&self.source, tops),
         }
     }
 }

@@ -4,10 +4,10 @@ ghost use Rattle.std.specs.declared.ops.Bound.{Bound};
 ghost use Rattle.std.specs.declared.ops.Bound.TheVariants.{Unbounded};
 ghost use Rattle.sst_entries.specs.declared.error.Error.TheVariants.{OutOfMemory};
 ghost use Rattle.lsm_readers.specs.Words.{DealsAll, DealsEnding, DealsWithin, Entry, IsOpen, IsRangeOf, IsTable, LoadsAtMost};
-ghost use Rattle.lsm_readers.specs.Words.{OpenTable, blocks_within, index_within, range_told};
+ghost use Rattle.lsm_readers.specs.Words.{OpenTable, blocks_within, index_read, index_within, range_told, table_index};
 
-use crate::{BlockIndex, Inner, Table};
-use lsm_iters::{Bound as Edge, Iter};
+use crate::{BlockIndex, BlockIndexImpl, Inner, Table};
+use lsm_iters::{Bound as Edge, Iter, beside};
 use sst_blocks::{Error, UserKey};
 use std::alloc::Allocator;
 use std::ops::Bound;
@@ -67,7 +67,7 @@ impl<A: Allocator + Clone> Table<A> {
             IfOk result (LoadsAtMost gives back_gives blocks index) }
         ensures err { IfErr result (λ e. e ≡ OutOfMemory) }
     {
-        let mut iter = self.unbounded()?;
+        let ((lower, upper), mut iter) = beside((lower, upper), self.unbounded())?;
         set_lower(&mut iter, lower);
         set_upper(&mut iter, upper);
         Ok(iter)
@@ -76,16 +76,31 @@ impl<A: Allocator + Clone> Table<A> {
     /// The entries of all blocks, before bounds are set.
     fn unbounded(&self) -> Result<Iter<A>, Error>
         ensures is { IfOk result (IsRangeOf self.now Unbounded Unbounded) }
+        ensures open { IfOk result (λ _. IsOpen self.now) }
+        ensures err { IfErr result (λ e. e ≡ OutOfMemory) }
+    {
+        let index = self.block_index()?;
+        let iter = self.unbounded_by(&index);
+        let_go(index);
+        iter
+    }
+
+    /// The entries of all blocks that the table's index names, before bounds are set.
+    fn unbounded_by(&self, index: &BlockIndexImpl<A>) -> Result<Iter<A>, Error>
+        requires { index_read index.now ≡ table_index self.now }
+        ensures is { IfOk result (IsRangeOf self.now Unbounded Unbounded) }
         ensures open { IsOpen self.now }
         ensures err { IfErr result (λ e. e ≡ OutOfMemory) }
     {
         let inner: &Inner<A> = &self.inner;
-        let index = self.block_index()?;
         let handles = index.iter()?;
         let compression = inner.metadata.data_block_compression;
         Iter::new(inner.global_seqno, &self.source, handles, compression)
     }
 }
+
+// Gives a value up. What is generic in it looks at none of its parts, which makes this cheap to prove for a large one.
+fn let_go<T: Drop>(_value: T) {}
 
 /// Sets a lower bound, where there is one.
 fn set_lower<A: Allocator + Clone>(iter: &mut Iter<A>, lower: Bound<UserKey<A>>)

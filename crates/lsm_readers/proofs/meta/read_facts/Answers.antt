@@ -1,6 +1,10 @@
-use Rattle.std.proofs.Common.{ℕ, refl, ap, sym, ◌∙◌}
-use Rattle.std.specs.Prelude.{Ok}
-use Rattle.lsm_readers.specs.Meta.{facts_told}
+use Rattle.std.proofs.Common.{◌≡◌, ℕ, List, refl, subst, sym}
+use Rattle.std.specs.Prelude.{Result, Ok}
+use Rattle.sst_entries.specs.Entry.{Entry}
+use Rattle.lsm_files.specs.declared.item_name.ItemName.TheVariants.{BlockCountData, BlockCountFilter, BlockCountIndex, FileSize, ItemCount, TableId, TombstoneCount, WeakTombstoneCount, WeakTombstoneReclaimable}
+use Rattle.sst_entries.specs.declared.error.Error.{Error}
+use Rattle.sst_entries.specs.Error.{Gives}
+use Rattle.lsm_readers.specs.Meta.{Facts, facts_told, kinds_told, rest_told, triple_told, version_told}
 use Rattle.lsm_readers.specs.Table.{facts_of}
 use Rattle.lsm_readers.proofs.Steps.{goes_on, fails_here, fails_later, passes_fault}
 use Rattle.lsm_readers.proofs.meta.read_facts.Goals as goal
@@ -17,48 +21,32 @@ returns-in_err-test_kinds g c =
     passes_fault (facts_of {A = g.row.A.Denot}) c.from_residual-in_err-test_kinds.result _ c.in_err-test_kinds.field-0.0 c.from_residual-in_err-test_kinds.ensures.1
     (fails_later _ _ _ _ c.in_ok-table_version.ensures (fails_here _ _ _ c.in_err-test_kinds.ensures))
 
-pub returns-in_err-id : goal.returns-in_err-id
+pub returns-in_err-table : goal.returns-in_err-table
 unfolding facts_told
-returns-in_err-id g c =
-    passes_fault (facts_of {A = g.row.A.Denot}) c.from_residual-in_err-id.result _ c.in_err-id.field-0.0 c.from_residual-in_err-id.ensures.1
-    (fails_later _ _ _ _ c.in_ok-table_version.ensures (fails_later _ _ _ _ c.in_ok-test_kinds.ensures (fails_here _ _ _ c.in_err-id.ensures)))
+returns-in_err-table g c =
+    passes_fault (facts_of {A = g.row.A.Denot}) c.from_residual-in_err-table.result _ c.in_err-table.field-0.0 c.from_residual-in_err-table.ensures.1
+    (fails_later _ _ _ _ c.in_ok-table_version.ensures (fails_later _ _ _ _ c.in_ok-test_kinds.ensures (fails_here _ _ _ c.in_err-table.ensures)))
 
-pub returns-in_err-data_block_count : goal.returns-in_err-data_block_count
+pub returns-in_err-blocks : goal.returns-in_err-blocks
 unfolding facts_told
-returns-in_err-data_block_count g c =
-    passes_fault (facts_of {A = g.row.A.Denot}) c.from_residual-in_err-data_block_count.result _ c.in_err-data_block_count.field-0.0 c.from_residual-in_err-data_block_count.ensures.1
-    (fails_later _ _ _ _ c.in_ok-table_version.ensures (fails_later _ _ _ _ c.in_ok-test_kinds.ensures (fails_later _ _ _ _ c.in_ok-id.ensures (fails_here _ _ _ c.in_err-data_block_count.ensures))))
+returns-in_err-blocks g c =
+    passes_fault (facts_of {A = g.row.A.Denot}) c.from_residual-in_err-blocks.result _ c.in_err-blocks.field-0.0 c.from_residual-in_err-blocks.ensures.1
+    (fails_later _ _ _ _ c.in_ok-table_version.ensures (fails_later _ _ _ _ c.in_ok-test_kinds.ensures (fails_later _ _ _ _ c.in_ok-table.ensures (fails_here _ _ _ c.in_err-blocks.ensures))))
 
-pub returns-in_err-file_size : goal.returns-in_err-file_size
+pub returns-in_err-sizes : goal.returns-in_err-sizes
 unfolding facts_told
-returns-in_err-file_size g c =
-    passes_fault (facts_of {A = g.row.A.Denot}) c.from_residual-in_err-file_size.result _ c.in_err-file_size.field-0.0 c.from_residual-in_err-file_size.ensures.1
-    (fails_later _ _ _ _ c.in_ok-table_version.ensures (fails_later _ _ _ _ c.in_ok-test_kinds.ensures (fails_later _ _ _ _ c.in_ok-id.ensures (fails_later _ _ _ _ c.in_ok-data_block_count.ensures (fails_here _ _ _ c.in_err-file_size.ensures)))))
+returns-in_err-sizes g c =
+    passes_fault (facts_of {A = g.row.A.Denot}) c.from_residual-in_err-sizes.result _ c.in_err-sizes.field-0.0 c.from_residual-in_err-sizes.ensures.1
+    (fails_later _ _ _ _ c.in_ok-table_version.ensures (fails_later _ _ _ _ c.in_ok-test_kinds.ensures (fails_later _ _ _ _ c.in_ok-table.ensures (fails_later _ _ _ _ c.in_ok-blocks.ensures (fails_here _ _ _ c.in_err-sizes.ensures)))))
 
-pub returns-in_err-created_at : goal.returns-in_err-created_at
+-- where each of the first steps told something, it is what the rest tells
+goes_through : (es : List Entry) (version : ℕ) (table blocks sizes : ℕ × ℕ × ℕ) → version_told es ≡ Ok version → kinds_told es ≡ Ok tt → triple_told es TableId ItemCount TombstoneCount ≡ Ok table
+    → triple_told es BlockCountData BlockCountIndex BlockCountFilter ≡ Ok blocks → triple_told es FileSize WeakTombstoneCount WeakTombstoneReclaimable ≡ Ok sizes
+    → facts_told es ≡ rest_told es version table blocks sizes
 unfolding facts_told
-returns-in_err-created_at g c =
-    passes_fault (facts_of {A = g.row.A.Denot}) c.from_residual-in_err-created_at.result _ c.in_err-created_at.field-0.0 c.from_residual-in_err-created_at.ensures.1
-    (fails_later _ _ _ _ c.in_ok-table_version.ensures (fails_later _ _ _ _ c.in_ok-test_kinds.ensures (fails_later _ _ _ _ c.in_ok-id.ensures (fails_later _ _ _ _ c.in_ok-data_block_count.ensures (fails_later _ _ _ _ c.in_ok-file_size.ensures (fails_here _ _ _ c.in_err-created_at.ensures))))))
-
-pub returns-in_err-key_range : goal.returns-in_err-key_range
-unfolding facts_told
-returns-in_err-key_range g c =
-    passes_fault (facts_of {A = g.row.A.Denot}) c.from_residual-in_err-key_range.result _ c.in_err-key_range.field-0.0 c.from_residual-in_err-key_range.ensures.1
-    (fails_later _ _ _ _ c.in_ok-table_version.ensures (fails_later _ _ _ _ c.in_ok-test_kinds.ensures (fails_later _ _ _ _ c.in_ok-id.ensures (fails_later _ _ _ _ c.in_ok-data_block_count.ensures (fails_later _ _ _ _ c.in_ok-file_size.ensures (fails_later _ _ _ _ c.in_ok-created_at.ensures (fails_here _ _ _ c.in_err-key_range.ensures)))))))
-
-pub returns-in_err-seqnos : goal.returns-in_err-seqnos
-unfolding facts_told
-returns-in_err-seqnos g c =
-    passes_fault (facts_of {A = g.row.A.Denot}) c.from_residual-in_err-seqnos.result _ c.in_err-seqnos.field-0.0 c.from_residual-in_err-seqnos.ensures.1
-    (fails_later _ _ _ _ c.in_ok-table_version.ensures (fails_later _ _ _ _ c.in_ok-test_kinds.ensures (fails_later _ _ _ _ c.in_ok-id.ensures (fails_later _ _ _ _ c.in_ok-data_block_count.ensures (fails_later _ _ _ _ c.in_ok-file_size.ensures (fails_later _ _ _ _ c.in_ok-created_at.ensures (fails_later _ _ _ _ c.in_ok-key_range.ensures (fails_here _ _ _ c.in_err-seqnos.ensures))))))))
-
-pub returns-in_err-test_compressions : goal.returns-in_err-test_compressions
-unfolding facts_told
-returns-in_err-test_compressions g c =
-    passes_fault (facts_of {A = g.row.A.Denot}) c.from_residual-in_err-test_compressions.result _ c.in_err-test_compressions.field-0.0 c.from_residual-in_err-test_compressions.ensures.1
-    (fails_later _ _ _ _ c.in_ok-table_version.ensures (fails_later _ _ _ _ c.in_ok-test_kinds.ensures (fails_later _ _ _ _ c.in_ok-id.ensures (fails_later _ _ _ _ c.in_ok-data_block_count.ensures (fails_later _ _ _ _ c.in_ok-file_size.ensures (fails_later _ _ _ _ c.in_ok-created_at.ensures (fails_later _ _ _ _ c.in_ok-key_range.ensures (fails_later _ _ _ _ c.in_ok-seqnos.ensures (fails_here _ _ _ c.in_err-test_compressions.ensures)))))))))
+goes_through es version table blocks sizes a b c d e = goes_on _ _ _ _ a (goes_on _ _ _ _ b (goes_on _ _ _ _ c (goes_on _ _ _ _ d (goes_on _ _ _ _ e refl))))
 
 pub returns : goal.returns
-unfolding facts_told
-returns g c = goes_on _ _ _ _ c.in_ok-table_version.ensures (goes_on _ _ _ _ c.in_ok-test_kinds.ensures (goes_on _ _ _ _ c.in_ok-id.ensures (goes_on _ _ _ _ c.in_ok-data_block_count.ensures (goes_on _ _ _ _ c.in_ok-file_size.ensures (goes_on _ _ _ _ (c.in_ok-created_at.ensures ∙ ap (λ (n : ℕ). Ok n) (sym c.from.ensures)) (goes_on _ _ _ _ c.in_ok-key_range.ensures (goes_on _ _ _ _ c.in_ok-seqnos.ensures (goes_on _ _ _ _ c.in_ok-test_compressions.ensures refl))))))))
+returns g c =
+    let told = goes_through c.args.block.now c.in_ok-table_version.table_version c.in_ok-table.table c.in_ok-blocks.blocks c.in_ok-sizes.sizes c.in_ok-table_version.ensures c.in_ok-test_kinds.ensures c.in_ok-table.ensures c.in_ok-blocks.ensures c.in_ok-sizes.ensures in
+    subst (λ (r : Result Facts Error). Gives (facts_of {A = g.row.A.Denot}) c.read_rest.result r) (sym told) c.read_rest.ensures

@@ -1,14 +1,21 @@
-use Rattle.std.proofs.Common.{refl, ap, sym, ◌∙◌}
+use Rattle.std.proofs.Common.{ap, sym, ◌∙◌}
 use Rattle.std.proofs.lemmas.Result.{IfOk-from_err}
 use Rattle.sst_sections.specs.Sections.{body_of}
 use Rattle.lsm_readers.specs.Meta.{meta_told}
 use Rattle.lsm_readers.specs.Meta.{Facts}
-use Rattle.lsm_readers.specs.Parts.{parts_told, number_told, places_told}
+use Rattle.std.specs.Prelude.{Result, Ok}
+use Rattle.sst_entries.specs.declared.error.Error.{Error}
+use Rattle.lsm_readers.specs.declared.meta.ParsedMeta.{ParsedMeta}
+use Rattle.lsm_readers.specs.declared.regions.ParsedRegions.{ParsedRegions}
+use Rattle.lsm_readers.specs.Parts.{Parts, Pinned, parts_told, number_told, pinned_told, places_told}
 use Rattle.lsm_readers.specs.Regions.{regions_told}
-use Rattle.lsm_readers.specs.Table.{parts_of}
+use Rattle.lsm_readers.specs.Table.{facts_of, parts_of, pinned_of}
 use Rattle.lsm_readers.proofs.Recovered.{first_from, first_none, places_fine, places_first, places_none}
-use Rattle.lsm_readers.proofs.Steps.{goes_on, fails_here, fails_later, passes_fault, both_on, both_fail, both_later}
+use Rattle.lsm_readers.proofs.Steps.{goes_on, fails_here, fails_later, passes_fault, both_on, both_fail, both_later, beside_fails, beside_first, beside_gives}
 use Rattle.lsm_readers.proofs.table.recover_inner.Goals as goal
+
+abbrev told_parts : Facts → ParsedRegions → Pinned → Result Parts Error
+told_parts facts regions pinned = Ok (record { facts = facts; regions = regions; pinned = pinned })
 
 pub returns-in_err-regions-clause-told : goal.returns-in_err-regions-clause-told
 unfolding parts_told
@@ -40,26 +47,37 @@ returns-in_err-metadata-clause-tree g c = IfOk-from_err _ _ c.from_residual-in_e
 pub returns-in_err-metadata-clause-checksum : goal.returns-in_err-metadata-clause-checksum
 returns-in_err-metadata-clause-checksum g c = IfOk-from_err _ _ c.from_residual-in_err-metadata.ensures.0
 
-pub returns-in_err-pinned-clause-told : goal.returns-in_err-pinned-clause-told
+pub returns-in_err-metadata-2-clause-told : goal.returns-in_err-metadata-2-clause-told
 unfolding parts_told
-returns-in_err-pinned-clause-told g c =
-    passes_fault (parts_of {A = g.row.A.Denot}) c.from_residual-in_err-pinned.result _ c.in_err-pinned.field-0.0 c.from_residual-in_err-pinned.ensures.1
-    (fails_later _ _ _ _ (ap regions_told (sym c.toc.ensures.toc) ∙ sym c.in_ok-regions.ensures) (both_later (meta_told (body_of c.args.source.now) (c.in_ok-regions.regions).metadata) (λ (facts : Facts). number_told facts c.args.global_seqno) _ _ _ c.in_ok-metadata.ensures.told (fails_here _ _ _ c.in_err-pinned.ensures)))
+returns-in_err-metadata-2-clause-told g c =
+    let regions = c.in_ok-regions.regions in
+    let body = body_of c.args.source.now in
+    let e = c.in_err-metadata-2.field-0.0 in
+    let fails = beside_fails (pinned_of {A = g.row.A.Denot}) c.in_ok-metadata.metadata c.load_pinned-pinned.result (pinned_told body regions c.args.pin_filter c.args.pin_index) e c.load_pinned-pinned.ensures c.in_err-metadata-2.ensures.both in
+    passes_fault (parts_of {A = g.row.A.Denot}) c.from_residual-in_err-metadata-2.result _ e c.from_residual-in_err-metadata-2.ensures.1
+    (fails_later _ _ _ _ (ap regions_told (sym c.toc.ensures.toc) ∙ sym c.in_ok-regions.ensures) (both_later (meta_told body regions.metadata) (λ (facts : Facts). number_told facts c.args.global_seqno) _ _ _ c.in_ok-metadata.ensures.told (fails_here _ _ _ fails)))
 
-pub returns-in_err-pinned-clause-number : goal.returns-in_err-pinned-clause-number
-returns-in_err-pinned-clause-number g c = IfOk-from_err _ _ c.from_residual-in_err-pinned.ensures.0
+pub returns-in_err-metadata-2-clause-number : goal.returns-in_err-metadata-2-clause-number
+returns-in_err-metadata-2-clause-number g c = IfOk-from_err _ _ c.from_residual-in_err-metadata-2.ensures.0
 
-pub returns-in_err-pinned-clause-tree : goal.returns-in_err-pinned-clause-tree
-returns-in_err-pinned-clause-tree g c = IfOk-from_err _ _ c.from_residual-in_err-pinned.ensures.0
+pub returns-in_err-metadata-2-clause-tree : goal.returns-in_err-metadata-2-clause-tree
+returns-in_err-metadata-2-clause-tree g c = IfOk-from_err _ _ c.from_residual-in_err-metadata-2.ensures.0
 
-pub returns-in_err-pinned-clause-checksum : goal.returns-in_err-pinned-clause-checksum
-returns-in_err-pinned-clause-checksum g c = IfOk-from_err _ _ c.from_residual-in_err-pinned.ensures.0
+pub returns-in_err-metadata-2-clause-checksum : goal.returns-in_err-metadata-2-clause-checksum
+returns-in_err-metadata-2-clause-checksum g c = IfOk-from_err _ _ c.from_residual-in_err-metadata-2.ensures.0
 
 pub returns-clause-told : goal.returns-clause-told
 unfolding parts_told
 returns-clause-told g c =
+    let regions = c.in_ok-regions.regions in
+    let body = body_of c.args.source.now in
+    let kept = c.in_ok-metadata-2.metadata in
+    let pinned = c.in_ok-metadata-2.pinned in
+    let call = c.load_pinned-pinned in
+    let gives = beside_gives (pinned_of {A = g.row.A.Denot}) c.in_ok-metadata.metadata call.result (pinned_told body regions c.args.pin_filter c.args.pin_index) kept pinned call.ensures c.in_ok-metadata-2.ensures.both in
+    let same = beside_first c.in_ok-metadata.metadata call.result kept pinned c.in_ok-metadata-2.ensures.both in
     goes_on _ _ _ _ (ap regions_told (sym c.toc.ensures.toc) ∙ sym c.in_ok-regions.ensures)
-    (both_on (meta_told (body_of c.args.source.now) (c.in_ok-regions.regions).metadata) (λ (facts : Facts). number_told facts c.args.global_seqno) _ _ _ c.in_ok-metadata.ensures.told (goes_on _ _ _ _ c.in_ok-pinned.ensures refl))
+    (both_on (meta_told body regions.metadata) (λ (facts : Facts). number_told facts c.args.global_seqno) _ _ _ c.in_ok-metadata.ensures.told (goes_on _ _ _ _ gives (ap (λ (m : ParsedMeta g.row.A.Denot). told_parts (facts_of m) regions (pinned_of pinned)) (sym same))))
 
 pub returns-in_err-regions-clause-early : goal.returns-in_err-regions-clause-early
 returns-in_err-regions-clause-early g c =
@@ -71,10 +89,10 @@ returns-in_err-metadata-clause-early g c =
     places_fine c.from_residual-in_err-metadata.result (body_of c.args.source.now) (places_told c.args.source.now) c.in_ok-regions.regions (ap regions_told (sym c.toc.ensures.toc) ∙ sym c.in_ok-regions.ensures)
     (first_from c.from_residual-in_err-metadata.result c.in_err-metadata.field-0.0 _ c.from_residual-in_err-metadata.ensures.1 c.in_err-metadata.ensures.early)
 
-pub returns-in_err-pinned-clause-early : goal.returns-in_err-pinned-clause-early
-returns-in_err-pinned-clause-early g c =
-    places_fine c.from_residual-in_err-pinned.result (body_of c.args.source.now) (places_told c.args.source.now) c.in_ok-regions.regions (ap regions_told (sym c.toc.ensures.toc) ∙ sym c.in_ok-regions.ensures)
-    (first_none c.from_residual-in_err-pinned.result _ c.in_ok-metadata.ensures.early)
+pub returns-in_err-metadata-2-clause-early : goal.returns-in_err-metadata-2-clause-early
+returns-in_err-metadata-2-clause-early g c =
+    places_fine c.from_residual-in_err-metadata-2.result (body_of c.args.source.now) (places_told c.args.source.now) c.in_ok-regions.regions (ap regions_told (sym c.toc.ensures.toc) ∙ sym c.in_ok-regions.ensures)
+    (first_none c.from_residual-in_err-metadata-2.result _ c.in_ok-metadata.ensures.early)
 
 pub returns-clause-early : goal.returns-clause-early
 returns-clause-early g c =

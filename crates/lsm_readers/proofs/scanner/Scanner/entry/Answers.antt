@@ -1,10 +1,24 @@
-use Rattle.std.proofs.Common.{ap, refl, ◌∙◌}
+use Rattle.std.proofs.Common.{◌≡◌, ℕ, ◌-◌, ◌<◌, List, drop, length, length-drop, ap, refl, subst, sym, ◌∙◌, arith}
+use Rattle.sst_entries.specs.Entry.{Entry}
 use Rattle.std.proofs.lemmas.Result.{err_from_is_err_and}
 use Rattle.lsm_iters.specs.Lift.{number_told}
 use Rattle.lsm_iters.proofs.Lifts.{lift_refused, lift_fits}
 use Rattle.lsm_readers.specs.Scan.{Scan}
 use Rattle.lsm_readers.proofs.Scans.{entry_is, number_is, fits}
 use Rattle.lsm_readers.proofs.scanner.Scanner.entry.Goals as goal
+
+-- where entries are left of a block, the next one's place is within it
+within : (xs : List Entry) (i : ℕ) (s : Scan) → drop i xs ≡ s.entries → 0 < length s.entries → i < length xs
+within xs i s left some =
+    let all : length (drop i xs) ≡ length xs - i = length-drop i xs in
+    let more : 0 < length (drop i xs) = subst (λ (es : List Entry). 0 < length es) (sym left) some in
+    omega (arith, all, more)
+
+pub key_at-number-requires : goal.key_at-number-requires
+key_at-number-requires g c = within c.self.inside.block c.self.inside.index c.args.self.now (ap (λ (s : Scan). s.entries) c.self.view_is) c.requires
+
+pub entry-requires : goal.entry-requires
+entry-requires g c = within c.self.inside.block c.self.inside.index c.args.self.now (ap (λ (s : Scan). s.entries) c.self.view_is) c.requires
 
 pub returns-in_err-seqno-clause-told : goal.returns-in_err-seqno-clause-told
 returns-in_err-seqno-clause-told g c e es some =

@@ -1,7 +1,11 @@
 use Rattle.std.proofs.Common.{◌≡◌, ap, subst, ◌∙◌, rules}
 use Rattle.lsm_files.specs.Table.{IsTable}
 use Rattle.sst_entries.specs.Entry.{Entry}
-use Rattle.std.specs.Prelude.{List}
+use Rattle.std.specs.Prelude.{List, Result, Ok, Err, IfOk}
+use Rattle.sst_entries.specs.declared.error.Error.{Error}
+use Rattle.sst_sections.specs.Sections.{body_of}
+use Rattle.lsm_block_indexes.specs.declared.kinds.BlockIndexImpl.{BlockIndexImpl}
+use Rattle.lsm_block_indexes.specs.Kinds.{index_of}
 use Rattle.lsm_block_indexes.specs.Index.{Index, full, on_demand, two_level}
 use Rattle.lsm_readers.specs.BlockIndexes.{NamesBlocksOf, table_index}
 use Rattle.lsm_readers.specs.Table.{IsOpen, OpenTable}
@@ -14,22 +18,28 @@ names t held index is es file lower upper =
     ap (λ (i : Index). i.told lower upper) is
     ∙ file_index t.bytes es file t.global_seqno held.recovered.pin_filter held.recovered.pin_index t.parts held.short held.recovered.told lower upper
 
+-- and the one that a call made, where it made one
+all_name : {A : Type 0} (t : OpenTable) → IsOpen t → (index : Index) → index ≡ table_index t → (r : Result (BlockIndexImpl A) Error) → IfOk r (λ i. index_of i ≡ index)
+    → (es : List Entry) (file : IsTable t.bytes es) → IfOk r (λ i. NamesBlocksOf file (index_of i))
+all_name t held index is (Ok i) made es file = names t held (index_of i) (made ∙ is) es file
+all_name t held index is (Err e) made es file = tt
+
 pub returns-in_ok-handles-in-Full-clause-list : goal.returns-in_ok-handles-in-Full-clause-list
 returns-in_ok-handles-in-Full-clause-list g c =
     let t = c.args.self.now in
     let is : full c.new.result ≡ table_index t = search rules in
     names t (subst IsOpen c.self.view_is c.self.invariant) (full c.new.result) is
 
-pub returns-in_ok-source-in-VolatileFull-clause-list : goal.returns-in_ok-source-in-VolatileFull-clause-list
-returns-in_ok-source-in-VolatileFull-clause-list g c =
+pub returns-in-VolatileFull-clause-list : goal.returns-in-VolatileFull-clause-list
+returns-in-VolatileFull-clause-list g c =
     let t = c.args.self.now in
-    let i = c.new-index.result in
-    let is : on_demand i.0 i.1 ≡ table_index t = search rules in
-    names t (subst IsOpen c.self.view_is c.self.invariant) (on_demand i.0 i.1) is
+    let i = on_demand (body_of c.self.inside.source) (c.deref-inner.result.now).regions.tli in
+    let is : i ≡ table_index t = search rules in
+    all_name t (subst IsOpen c.self.view_is c.self.invariant) i is c.volatile_index.result c.volatile_index.ensures.index
 
-pub returns-in_ok-clone-in-TwoLevel-clause-list : goal.returns-in_ok-clone-in-TwoLevel-clause-list
-returns-in_ok-clone-in-TwoLevel-clause-list g c =
+pub returns-in-TwoLevel-clause-list : goal.returns-in-TwoLevel-clause-list
+returns-in-TwoLevel-clause-list g c =
     let t = c.args.self.now in
-    let i = c.new-index-in-TwoLevel.result in
-    let is : two_level i.0 i.1 ≡ table_index t = search rules in
-    names t (subst IsOpen c.self.view_is c.self.invariant) (two_level i.0 i.1) is
+    let i = two_level (body_of c.self.inside.source) c.in-TwoLevel.tops in
+    let is : i ≡ table_index t = search rules in
+    all_name t (subst IsOpen c.self.view_is c.self.invariant) i is c.two_level_index.result c.two_level_index.ensures.index

@@ -1,19 +1,15 @@
-use Rattle.std.proofs.Common.{◌≡◌, ap, subst, sym, ◌∙◌}
+use Rattle.std.proofs.Common.{◌≡◌, subst, sym, ◌∙◌}
+use Rattle.std.proofs.lemmas.Result.{IfOk-at_ok}
 use Rattle.std.specs.Arc.{arc_value}
-use Rattle.std.specs.Prelude.{Result, Ok}
+use Rattle.std.specs.Prelude.{Result}
 use Rattle.sst_entries.specs.declared.error.Error.{Error}
-use Rattle.sst_entries.specs.declared.error.Error.TheVariants.{OutOfMemory}
 use Rattle.sst_entries.specs.Error.{Gives}
-use Rattle.lsm_readers.specs.declared.inner.Inner.{Inner}
 use Rattle.lsm_readers.specs.Parts.{Parts}
-use Rattle.lsm_readers.specs.Table.{OpenTable, parts_of, table_of}
+use Rattle.lsm_readers.specs.Table.{OpenTable, table_of}
 use Rattle.lsm_readers.proofs.FileParts.{table_told}
-use Rattle.lsm_readers.proofs.Recovered.{first_from, first_none, is_open, opening_fails, opening_told, trailer_fine, trailer_first, trailer_none}
-use Rattle.lsm_readers.proofs.Steps.{passes_fault}
+use Rattle.lsm_readers.proofs.Recovered.{first_from, is_open, opening_fails, opening_told, trailer_fine, trailer_first, trailer_none}
+use Rattle.lsm_readers.proofs.Steps.{beside_early, beside_fails, beside_first, beside_gives, beside_none, beside_second, passes_fault}
 use Rattle.lsm_readers.proofs.table.Table.recover.Goals as goal
-
-abbrev read : Parts → Result Parts Error
-read parts = Ok parts
 
 pub returns-in_err-source-clause-told : goal.returns-in_err-source-clause-told
 returns-in_err-source-clause-told g c =
@@ -23,43 +19,46 @@ returns-in_err-source-clause-told g c =
 pub returns-in_err-source-clause-early : goal.returns-in_err-source-clause-early
 returns-in_err-source-clause-early g c = trailer_first c.from_residual.result c.args.bytes c.in_err-source.field-0.0 c.from_residual.ensures.1 c.in_err-source.ensures.refused
 
-pub returns-in_err-inner-clause-told : goal.returns-in_err-inner-clause-told
-returns-in_err-inner-clause-told g c =
-    passes_fault (λ (t : OpenTable). t.parts) c.from_residual-in_err-inner.result _ c.in_err-inner.field-0.0 c.from_residual-in_err-inner.ensures.1
-    (λ memory. opening_told c.args.bytes c.in_ok-source.source c.args.global_seqno c.args.pin_filter c.args.pin_index _ c.in_ok-source.ensures.refused c.in_ok-source.ensures.ok (c.in_err-inner.ensures.told memory))
+pub returns-in_err-source-2-clause-told : goal.returns-in_err-source-2-clause-told
+returns-in_err-source-2-clause-told g c =
+    let call = c.recover_shared-shared in
+    let e = c.in_err-source-2.field-0.0 in
+    passes_fault (λ (t : OpenTable). t.parts) c.from_residual-in_err-source-2.result _ e c.from_residual-in_err-source-2.ensures.1
+    (λ memory. opening_told c.args.bytes c.in_ok-source.source c.args.global_seqno c.args.pin_filter c.args.pin_index _ c.in_ok-source.ensures.refused c.in_ok-source.ensures.ok
+    (beside_fails _ c.in_ok-source.source call.result _ e call.ensures.told c.in_err-source-2.ensures.both memory))
 
-pub returns-in_err-inner-clause-early : goal.returns-in_err-inner-clause-early
-returns-in_err-inner-clause-early g c =
-    trailer_fine c.from_residual-in_err-inner.result c.args.bytes c.in_ok-source.source c.in_ok-source.ensures.refused c.in_ok-source.ensures.ok
-    (first_from c.from_residual-in_err-inner.result c.in_err-inner.field-0.0 _ c.from_residual-in_err-inner.ensures.1 c.in_err-inner.ensures.early)
+pub returns-in_err-source-2-clause-early : goal.returns-in_err-source-2-clause-early
+returns-in_err-source-2-clause-early g c =
+    let call = c.recover_shared-shared in
+    let e = c.in_err-source-2.field-0.0 in
+    trailer_fine c.from_residual-in_err-source-2.result c.args.bytes c.in_ok-source.source c.in_ok-source.ensures.refused c.in_ok-source.ensures.ok
+    (first_from c.from_residual-in_err-source-2.result e _ c.from_residual-in_err-source-2.ensures.1
+    (beside_early c.in_ok-source.source call.result _ e call.ensures.early c.in_err-source-2.ensures.both))
 
 pub returns-clause-early : goal.returns-clause-early
 returns-clause-early g c =
-    trailer_none c.args.bytes c.in_ok-source.source c.in_ok-source.ensures.refused c.in_ok-source.ensures.ok c.in_ok-inner.ensures.early
-
-pub returns-in_err-kept-clause-early : goal.returns-in_err-kept-clause-early
-returns-in_err-kept-clause-early g c =
-    first_none c.from_residual-in_err-kept.result _
-    (trailer_none c.args.bytes c.in_ok-source.source c.in_ok-source.ensures.refused c.in_ok-source.ensures.ok c.in_ok-inner.ensures.early)
-
-pub returns-in_err-shared-clause-early : goal.returns-in_err-shared-clause-early
-returns-in_err-shared-clause-early g c =
-    first_none c.from_residual-in_err-shared.result _
-    (trailer_none c.args.bytes c.in_ok-source.source c.in_ok-source.ensures.refused c.in_ok-source.ensures.ok c.in_ok-inner.ensures.early)
+    let call = c.recover_shared-shared in
+    trailer_none c.args.bytes c.in_ok-source.source c.in_ok-source.ensures.refused c.in_ok-source.ensures.ok
+    (beside_none c.in_ok-source.source call.result _ c.in_ok-source-2.source c.in_ok-source-2.inner call.ensures.early c.in_ok-source-2.ensures.both)
 
 pub invariant_of-result : goal.invariant_of-result
 invariant_of-result g c =
-    let held = c.in_ok-shared.ensures.ok in
-    is_open (table_of c.in_ok-source.source (arc_value c.in_ok-shared.shared)) c.args.bytes c.args.global_seqno c.args.pin_filter c.args.pin_index c.in_ok-source.ensures.ok
-    (ap (λ (i : Inner g.row.A.Denot). i.global_seqno) held ∙ c.in_ok-inner.ensures.number)
+    let call = c.recover_shared-shared in
+    let both = c.in_ok-source-2.ensures.both in
+    let source = c.in_ok-source-2.source in
+    let inner = c.in_ok-source-2.inner in
+    is_open (table_of source (arc_value inner)) c.args.bytes c.args.global_seqno c.args.pin_filter c.args.pin_index
+    (beside_first c.in_ok-source.source call.result source inner both ∙ c.in_ok-source.ensures.ok)
+    (IfOk-at_ok _ (beside_second c.in_ok-source.source call.result source inner both) call.ensures.number)
     c.in_ok-source.ensures.short
-    (opening_told c.args.bytes c.in_ok-source.source c.args.global_seqno c.args.pin_filter c.args.pin_index _ c.in_ok-source.ensures.refused c.in_ok-source.ensures.ok c.in_ok-inner.ensures.told
-    ∙ ap (λ (i : Inner g.row.A.Denot). read (parts_of i)) (sym held))
+    (opening_told c.args.bytes c.in_ok-source.source c.args.global_seqno c.args.pin_filter c.args.pin_index _ c.in_ok-source.ensures.refused c.in_ok-source.ensures.ok
+    (beside_gives _ c.in_ok-source.source call.result _ source inner call.ensures.told both))
 
 pub returns-clause-told : goal.returns-clause-told
 returns-clause-told g c =
-    opening_told c.args.bytes c.in_ok-source.source c.args.global_seqno c.args.pin_filter c.args.pin_index _ c.in_ok-source.ensures.refused c.in_ok-source.ensures.ok c.in_ok-inner.ensures.told
-    ∙ ap (λ (i : Inner g.row.A.Denot). read (parts_of i)) (sym c.in_ok-shared.ensures.ok)
+    let call = c.recover_shared-shared in
+    opening_told c.args.bytes c.in_ok-source.source c.args.global_seqno c.args.pin_filter c.args.pin_index _ c.in_ok-source.ensures.refused c.in_ok-source.ensures.ok
+    (beside_gives _ c.in_ok-source.source call.result _ c.in_ok-source-2.source c.in_ok-source-2.inner call.ensures.told c.in_ok-source-2.ensures.both)
 
 by_list : {X : Type 0} (view : X → Parts) (r : Result X Error) (told list : Result Parts Error) → Gives view r told → told ≡ list → Gives view r list
 by_list view r told list gives same = subst (λ (x : Result Parts Error). Gives view r x) same gives
@@ -69,14 +68,10 @@ returns-in_err-source-clause-list g c es t one =
     by_list (λ (x : OpenTable). x.parts) c.from_residual.result _ _ (returns-in_err-source-clause-told g c)
     (table_told c.args.bytes es t c.in_err-source.ensures.short c.args.global_seqno c.args.pin_filter c.args.pin_index one)
 
-pub returns-in_err-inner-clause-list : goal.returns-in_err-inner-clause-list
-returns-in_err-inner-clause-list g c es t one =
-    by_list (λ (x : OpenTable). x.parts) c.from_residual-in_err-inner.result _ _ (returns-in_err-inner-clause-told g c)
+pub returns-in_err-source-2-clause-list : goal.returns-in_err-source-2-clause-list
+returns-in_err-source-2-clause-list g c es t one =
+    by_list (λ (x : OpenTable). x.parts) c.from_residual-in_err-source-2.result _ _ (returns-in_err-source-2-clause-told g c)
     (table_told c.args.bytes es t c.in_ok-source.ensures.short c.args.global_seqno c.args.pin_filter c.args.pin_index one)
-
-pub returns-in_err-kept-clause-list : goal.returns-in_err-kept-clause-list
-returns-in_err-kept-clause-list g c es t one =
-    passes_fault (λ (x : OpenTable). x.parts) c.from_residual-in_err-kept.result _ OutOfMemory c.from_residual-in_err-kept.ensures.1 (λ memory. absurd cc)
 
 pub returns-clause-list : goal.returns-clause-list
 returns-clause-list g c es t one =
