@@ -247,8 +247,14 @@ impl<A: Allocator + Clone> Writer<A> {
         ensures strict { IsStrict (written self) }
         ensures fits { AllByRecursion (EntryFits V4) (written self) }
     {
-        self.spill_block()?;
-        if self.meta.item_count == 0 {
+        let spilled = self.spill_block();
+        let item_count = self.meta.item_count;
+        if let Err(error) = spilled {
+            let_go(self);
+            return Err(error);
+        }
+        if item_count == 0 {
+            let_go(self);
             return Ok(None);
         }
         Ok(Some(self.table()?))
@@ -431,6 +437,9 @@ pub struct FinishedTable<A: Allocator = Global> {
     /// The sections and their trailer.
     pub bytes: Slice<A>,
 }
+
+// Gives a value up. What is generic in it looks at none of its parts, which makes this cheap to prove for a large one.
+fn let_go<T: Drop>(_value: T) {}
 
 /// Writes the number of the version. Refused [`Error::OutOfMemory`] alone; nothing is written then.
 fn write_version<A: Allocator + Clone>(file_writer: &mut SectionWriter<A>) -> Result<(), Error>
