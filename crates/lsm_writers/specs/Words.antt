@@ -18,7 +18,7 @@ pub use Rattle.lsm_filter_writers.specs.Refusing.{filter_fault}
 pub use Rattle.lsm_filter_writers.specs.Writing.{WritesFilter, with_size as filter_with_size}
 pub use Rattle.lsm_index_writers.specs.Registered.{with_size as index_with_size}
 pub use Rattle.lsm_writers.specs.Counts.{metadata_of, tally_of}
-pub use Rattle.lsm_writers.specs.Cut.{CountsCut, Cut, IsReadable, rest_chunk, with_cut}
+pub use Rattle.lsm_writers.specs.Cut.{AreCut, CanCut, CountsCut, Cut, IsReadable, rest_chunk, with_cut}
 pub use Rattle.lsm_writers.specs.Filtering.{CanRegister, HasKeys, IsSmallFilter, MayHaveKeys, registered_key}
 pub use Rattle.lsm_writers.specs.Held.{AreParts, HaveParts, IsTaken}
 pub use Rattle.lsm_files.specs.Facts.{starts_key}
