@@ -275,13 +275,15 @@ impl<A: Allocator + Clone> Writer<A> {
             label,
             options,
             blocks,
+            chunk,
             meta,
             filter_writer,
             ..
         } = self;
+        let_go(chunk);
         let (mut file_writer, index_writer, mut buffer) = blocks.into_parts();
         let index_writer = index_writer.into_kind(options.index_kind);
-        write_sections(
+        let sections = write_sections(
             &mut file_writer,
             &mut buffer,
             index_writer,
@@ -289,7 +291,13 @@ impl<A: Allocator + Clone> Writer<A> {
             &label,
             &options,
             &meta,
-        )?;
+        );
+        let_go(meta);
+        let_go(buffer);
+        if let Err(error) = sections {
+            let_go(file_writer);
+            return Err(error);
+        }
         let (bytes, checksum) = file_writer.finish()?;
         Ok(FinishedTable {
             id: label.table_id,
@@ -439,7 +447,7 @@ pub struct FinishedTable<A: Allocator = Global> {
 }
 
 // Gives a value up. What is generic in it looks at none of its parts, which makes this cheap to prove for a large one.
-fn let_go<T: Drop>(_value: T) {}
+pub(crate) fn let_go<T: Drop>(_value: T) {}
 
 /// Writes the number of the version. Refused [`Error::OutOfMemory`] alone; nothing is written then.
 fn write_version<A: Allocator + Clone>(file_writer: &mut SectionWriter<A>) -> Result<(), Error>

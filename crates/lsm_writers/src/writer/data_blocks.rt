@@ -10,6 +10,7 @@ ghost use Rattle.sst_sections.specs.declared.section.SectionName.TheVariants.{Da
 ghost use Rattle.sst_sections.specs.declared.version.TableVersion.TheVariants.{V4};
 ghost use Rattle.std.specs.List.{AllByRecursion};
 
+use crate::writer::let_go;
 use crate::writer::meta::Metadata;
 use lsm_files::Options;
 use lsm_index_writers::{BlockIndexWriter, FullIndexWriter};
@@ -19,6 +20,7 @@ use sst_blocks::{
 };
 use std::alloc::{Allocator, Global};
 use std::marker::Model;
+use std::mem;
 
 /// The data blocks that were cut so far, behind one another in the data section, and the index that has their handles. A
 /// contract sees the chunks that the blocks hold, as they are read back from the bytes.
@@ -97,17 +99,20 @@ impl<A: Allocator + Clone> DataBlocks<A> {
             return Ok(());
         };
         let last_key = last.key.user_key.clone()?;
-        add_block(
+        if let Err(error) = add_block(
             &mut self.file_writer,
             &mut self.index_writer,
             &mut self.block_buffer,
             chunk,
             last,
             options,
-        )?;
+        ) {
+            let_go(last_key);
+            return Err(error);
+        }
         let end = BlockOffset(self.file_writer.position());
         meta.count_block(chunk.len(), self.block_buffer.len(), end, last_key);
-        self.last = chunk.pop();
+        let_go(mem::replace(&mut self.last, chunk.pop()));
         chunk.clear();
         Ok(())
     }

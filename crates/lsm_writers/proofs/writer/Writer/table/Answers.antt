@@ -1,12 +1,11 @@
 use Rattle.std.proofs.Common.{◌≡◌, ◌∙◌, ap, sym, subst, List, ℕ}
 use Rattle.std.specs.Prelude.{None}
-use Rattle.sst_entries.proofs.Refusals.{faults_refusal}
 use Rattle.lsm_writers.specs.Writing.{Writing, WritesTable, cut_writing, sections_fault}
 use Rattle.lsm_writers.proofs.Finishing.{all_cut, parts_are}
 use Rattle.lsm_writers.proofs.writer.Writer.table.Goals as goal
 
-pub write_sections-requires : goal.write_sections-requires
-write_sections-requires g c =
+pub write_sections-sections-requires : goal.write_sections-sections-requires
+write_sections-sections-requires g c =
     let i = c.self.inside in
     let none = ap (λ (w : Writing). w.pending) c.self.view_is ∙ c.requires.cut in
     let works = ap (λ (w : Writing). w.failed) c.self.view_is ∙ c.requires.works in
@@ -22,7 +21,7 @@ returns-clause-table g c =
     let same = all_cut i.label i.options i.blocks.chunks i.chunk.items i.failed none works ∙ c.self.view_is in
     subst (λ (w : Writing). WritesTable w c.in_ok-bytes.bytes) same
     (subst (λ (bytes : List ℕ). WritesTable (cut_writing i.label i.options i.blocks.chunks) bytes) (sym c.in_ok-bytes.ensures.bytes)
-    (c.in_ok-write_sections.ensures.table i.blocks.chunks parts))
+    (c.in_default.ensures.table i.blocks.chunks parts))
 
 pub returns-clause-refused : goal.returns-clause-refused
 returns-clause-refused g c =
@@ -31,13 +30,13 @@ returns-clause-refused g c =
     let works = ap (λ (w : Writing). w.failed) c.self.view_is ∙ c.requires.works in
     let parts = parts_are i.failed i.options i.blocks.chunks i.chunk.items i.chunk_size i.meta i.filter_writer _ _ _ _ c.self.invariant.0 c.self.invariant.3 none works c.into_parts-file_writer.ensures.data c.into_kind-index_writer.ensures c.into_parts-file_writer.ensures.index c.into_parts-file_writer.ensures.works c.into_parts-file_writer.ensures.blocks in
     let same = all_cut i.label i.options i.blocks.chunks i.chunk.items i.failed none works ∙ c.self.view_is in
-    subst (λ (w : Writing). sections_fault w ≡ None) same (c.in_ok-write_sections.ensures.refused i.blocks.chunks parts)
+    subst (λ (w : Writing). sections_fault w ≡ None) same (c.in_default.ensures.refused i.blocks.chunks parts)
 
-pub returns-in_err-write_sections-clause-refused : goal.returns-in_err-write_sections-clause-refused
-returns-in_err-write_sections-clause-refused g c =
+pub returns-in-Err-clause-refused : goal.returns-in-Err-clause-refused
+returns-in-Err-clause-refused g c =
     let i = c.self.inside in
     let none = ap (λ (w : Writing). w.pending) c.self.view_is ∙ c.requires.cut in
     let works = ap (λ (w : Writing). w.failed) c.self.view_is ∙ c.requires.works in
     let parts = parts_are i.failed i.options i.blocks.chunks i.chunk.items i.chunk_size i.meta i.filter_writer _ _ _ _ c.self.invariant.0 c.self.invariant.3 none works c.into_parts-file_writer.ensures.data c.into_kind-index_writer.ensures c.into_parts-file_writer.ensures.index c.into_parts-file_writer.ensures.works c.into_parts-file_writer.ensures.blocks in
     let same = all_cut i.label i.options i.blocks.chunks i.chunk.items i.failed none works ∙ c.self.view_is in
-    faults_refusal c.from_residual.result c.in_err-write_sections.field-0.0 (sections_fault c.args.self) c.from_residual.ensures.1 (λ memory. ap sections_fault (sym same) ∙ c.in_err-write_sections.ensures.refused i.blocks.chunks parts memory)
+    λ memory. ap sections_fault (sym same) ∙ c.in-Err.ensures.refused i.blocks.chunks parts memory

@@ -8,7 +8,6 @@ use Rattle.lsm_files.specs.Chunks.{joined}
 use Rattle.lsm_files.specs.Index.{last_entry}
 use Rattle.lsm_writers.specs.Cut.{AreCut, chunks_in, Cut, with_cut}
 use Rattle.lsm_writers.proofs.Cutting.{added_is, held_again, held_by_bytes, counted_more, rest_is, room_for, at_least_blocks, exact_blocks, sizes}
-use Rattle.sst_entries.proofs.StreamLemmas.{on_err}
 use Rattle.lsm_writers.proofs.Orders.{last_is, last_place, last_popped}
 use Rattle.lsm_writers.proofs.writer.data_blocks.DataBlocks.cut.Goals as goal
 
@@ -29,18 +28,18 @@ invariant_of-self g c =
     let old = chunks_in V4 (length i.index_writer.handles) i.file_writer.bytes in
     let cs : old ≡ c.args.self.now.chunks = ap (λ (x : Cut). x.chunks) c.self.view_is in
     let t = c.add_block.new in
-    let left = c.in_err-add_block.ensures.left old i.last c.self.invariant.0 in
+    let left = c.in-Err.ensures.left old i.last c.self.invariant.0 in
     (held_by_bytes old t.file_writer t.index_writer.handles i.last t.index_writer.failed left, rw (held_again old t.file_writer t.index_writer.handles i.last t.index_writer.failed left) c.self.invariant.1)
 
-pub returns-in_err-add_block-clause-unchanged : goal.returns-in_err-add_block-clause-unchanged
-returns-in_err-add_block-clause-unchanged g c =
+pub returns-in-Err-clause-unchanged : goal.returns-in-Err-clause-unchanged
+returns-in-Err-clause-unchanged g c =
     let i = c.self.inside in
     let old = chunks_in V4 (length i.index_writer.handles) i.file_writer.bytes in
     let cs : old ≡ c.args.self.now.chunks = ap (λ (x : Cut). x.chunks) c.self.view_is in
     let t = c.add_block.new in
-    let left = c.in_err-add_block.ensures.left old i.last c.self.invariant.0 in
+    let left = c.in-Err.ensures.left old i.last c.self.invariant.0 in
     let same : chunks_in V4 (length t.index_writer.handles) t.file_writer.bytes ≡ c.args.self.now.chunks = held_again old t.file_writer t.index_writer.handles i.last t.index_writer.failed left ∙ cs in
-    on_err _ same
+    same
 
 pub count_block-requires : goal.count_block-requires
 count_block-requires g c =
@@ -49,13 +48,13 @@ count_block-requires g c =
     let cs : old ≡ c.args.self.now.chunks = ap (λ (x : Cut). x.chunks) c.self.view_is in
     let t = c.add_block.new in
     let es = c.args.chunk.now.items in
-    let more = added_is old c.args.self.now.chunks c.deref-2.result.now es i.file_writer t.file_writer i.index_writer.handles t.index_writer.handles i.last (Some c.in-Some.last.now) i.index_writer.failed t.index_writer.failed c.self.invariant.0 cs c.deref-2.ensures.value c.requires.strict c.in_ok-add_block.ensures.added in
+    let more = added_is old c.args.self.now.chunks c.deref-2.result.now es i.file_writer t.file_writer i.index_writer.handles t.index_writer.handles i.last (Some c.in-Some.last.now) i.index_writer.failed t.index_writer.failed c.self.invariant.0 cs c.deref-2.ensures.value c.requires.strict c.in_default-add_block.ensures.added in
     let are = subst (λ (x : List (List Entry)). c.args.meta.now ≡ with_cut x c.args.meta.now) (sym cs) c.requires.counts.are in
     let le = at_least_blocks (old ++ es ∷ []) t.file_writer t.index_writer.handles (Some c.in-Some.last.now) t.index_writer.failed more in
     let lt : length t.file_writer.bytes < 2 ^ 64 = omega arith in
     let room = room_for c.args.meta.now old es (length t.file_writer.bytes) are more.readable le lt in
     let n : c.len.result ≡ length es = search rules in
-    let buffer : t.buffer.items ≡ payload V4 es = c.in_ok-add_block.ensures.encoded ∙ ap (payload V4) c.deref-2.ensures.value in
+    let buffer : t.buffer.items ≡ payload V4 es = subst (λ (x : List Entry). t.buffer.items ≡ payload V4 x) c.deref-2.ensures.value c.in_default-add_block.ensures.encoded in
     let m : c.len-2.result ≡ length t.buffer.items = search rules in
     (room.0, omega (arith, n, room.1), omega (arith, m, ap length buffer, room.2))
 
@@ -66,11 +65,11 @@ invariant_of-self-2 g c =
     let cs : old ≡ c.args.self.now.chunks = ap (λ (x : Cut). x.chunks) c.self.view_is in
     let t = c.add_block.new in
     let es = c.args.chunk.now.items in
-    let more = added_is old c.args.self.now.chunks c.deref-2.result.now es i.file_writer t.file_writer i.index_writer.handles t.index_writer.handles i.last (Some c.in-Some.last.now) i.index_writer.failed t.index_writer.failed c.self.invariant.0 cs c.deref-2.ensures.value c.requires.strict c.in_ok-add_block.ensures.added in
+    let more = added_is old c.args.self.now.chunks c.deref-2.result.now es i.file_writer t.file_writer i.index_writer.handles t.index_writer.handles i.last (Some c.in-Some.last.now) i.index_writer.failed t.index_writer.failed c.self.invariant.0 cs c.deref-2.ensures.value c.requires.strict c.in_default-add_block.ensures.added in
     let n : vec_len c.args.chunk.now ≡ length es = search rules in
     let place = last_place _ es c.in-Some.last.now c.deref.ensures.value c.in-Some.ensures.value in
     let last : c.pop.result ≡ Some (last_entry es) = last_popped _ es c.in-Some.last.now _ _ c.deref.ensures.value c.in-Some.ensures.value n (c.pop.ensures.value c.in-Some.last.now (omega (arith, n, place.0))) in
-    let popped = subst (λ (o : Option Entry). AreCut (old ++ es ∷ []) t.file_writer t.index_writer.handles o t.index_writer.failed) (sym (last ∙ ap (λ (y : Entry). Some y) place.1)) more in
+    let popped = subst (λ (o : Option Entry). AreCut (old ++ es ∷ []) t.file_writer t.index_writer.handles o t.index_writer.failed) (sym (c.replace.ensures.after ∙ last ∙ ap (λ (y : Entry). Some y) place.1)) more in
     let le = at_least_blocks (old ++ es ∷ []) t.file_writer t.index_writer.handles (Some c.in-Some.last.now) t.index_writer.failed more in
     let lt : length t.file_writer.bytes < 2 ^ 64 = omega arith in
     let again = held_again (old ++ es ∷ []) t.file_writer t.index_writer.handles (Some c.in-Some.last.now) t.index_writer.failed more in
@@ -83,7 +82,7 @@ returns-clause-ok g c =
     let cs : old ≡ c.args.self.now.chunks = ap (λ (x : Cut). x.chunks) c.self.view_is in
     let t = c.add_block.new in
     let es = c.args.chunk.now.items in
-    let more = added_is old c.args.self.now.chunks c.deref-2.result.now es i.file_writer t.file_writer i.index_writer.handles t.index_writer.handles i.last (Some c.in-Some.last.now) i.index_writer.failed t.index_writer.failed c.self.invariant.0 cs c.deref-2.ensures.value c.requires.strict c.in_ok-add_block.ensures.added in
+    let more = added_is old c.args.self.now.chunks c.deref-2.result.now es i.file_writer t.file_writer i.index_writer.handles t.index_writer.handles i.last (Some c.in-Some.last.now) i.index_writer.failed t.index_writer.failed c.self.invariant.0 cs c.deref-2.ensures.value c.requires.strict c.in_default-add_block.ensures.added in
     let place = last_place _ es c.in-Some.last.now c.deref.ensures.value c.in-Some.ensures.value in
     held_again (old ++ es ∷ []) t.file_writer t.index_writer.handles (Some c.in-Some.last.now) t.index_writer.failed more ∙ ap (λ (x : List (List Entry)). x ++ es ∷ []) cs ∙ ap (λ (x : List (List Entry)). c.args.self.now.chunks ++ x) (sym (rest_is es place.0))
 
@@ -94,15 +93,15 @@ returns-clause-counted g c =
     let cs : old ≡ c.args.self.now.chunks = ap (λ (x : Cut). x.chunks) c.self.view_is in
     let t = c.add_block.new in
     let es = c.args.chunk.now.items in
-    let more = added_is old c.args.self.now.chunks c.deref-2.result.now es i.file_writer t.file_writer i.index_writer.handles t.index_writer.handles i.last (Some c.in-Some.last.now) i.index_writer.failed t.index_writer.failed c.self.invariant.0 cs c.deref-2.ensures.value c.requires.strict c.in_ok-add_block.ensures.added in
+    let more = added_is old c.args.self.now.chunks c.deref-2.result.now es i.file_writer t.file_writer i.index_writer.handles t.index_writer.handles i.last (Some c.in-Some.last.now) i.index_writer.failed t.index_writer.failed c.self.invariant.0 cs c.deref-2.ensures.value c.requires.strict c.in_default-add_block.ensures.added in
     let are = subst (λ (x : List (List Entry)). c.args.meta.now ≡ with_cut x c.args.meta.now) (sym cs) c.requires.counts.are in
     let le = at_least_blocks (old ++ es ∷ []) t.file_writer t.index_writer.handles (Some c.in-Some.last.now) t.index_writer.failed more in
     let lt : length t.file_writer.bytes < 2 ^ 64 = omega arith in
     let place = last_place _ es c.in-Some.last.now c.deref.ensures.value c.in-Some.ensures.value in
     let n : c.len.result ≡ length es = search rules in
-    let buffer : t.buffer.items ≡ payload V4 es = c.in_ok-add_block.ensures.encoded ∙ ap (payload V4) c.deref-2.ensures.value in
+    let buffer : t.buffer.items ≡ payload V4 es = subst (λ (x : List Entry). t.buffer.items ≡ payload V4 x) c.deref-2.ensures.value c.in_default-add_block.ensures.encoded in
     let m : c.len-2.result ≡ length t.buffer.items = search rules in
     let key : c.in_ok-last_key.last_key ≡ (last_entry es).user_key = c.in_ok-last_key.ensures.cases ∙ ap (λ (y : Entry). y.user_key) c.last-2.view_is ∙ ap (λ (y : Entry). y.user_key) (sym place.1) in
-    let at = c.position.ensures ∙ exact_blocks (old ++ es ∷ []) t.file_writer t.index_writer.handles (Some c.in-Some.last.now) t.index_writer.failed more c.in_ok-add_block.ensures.works in
+    let at = c.position.ensures ∙ exact_blocks (old ++ es ∷ []) t.file_writer t.index_writer.handles (Some c.in-Some.last.now) t.index_writer.failed more c.in_default-add_block.ensures.works in
     let again = held_again (old ++ es ∷ []) t.file_writer t.index_writer.handles (Some c.in-Some.last.now) t.index_writer.failed more in
     c.count_block.ensures ∙ rw (n, m ∙ ap length buffer, key, again) (counted_more c.args.meta.now old es _ are place.0 at)
