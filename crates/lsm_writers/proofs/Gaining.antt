@@ -1,5 +1,5 @@
 -- A writer's parts once an entry was put behind those that were pending.
-use Rattle.std.proofs.Common.{◌≡◌, refl, sym, ◌∙◌, ap, subst, ℕ, ◌<◌, Bool, true, false, List, [], ◌∷◌, ◌++◌, length, arith, length-append, cond}
+use Rattle.std.proofs.Common.{◌≡◌, refl, sym, ◌∙◌, ap, ℕ, Bool, true, false, List, [], ◌∷◌, ◌++◌, arith, length-append, cond}
 use Rattle.std.specs.Prelude.{Option}
 use Rattle.sst_entries.specs.Entry.{Entry}
 use Rattle.sst_filters.specs.declared.policy.BloomConstructionPolicy.{BloomConstructionPolicy}

@@ -122,6 +122,7 @@ impl<A: Allocator + Clone> MultiWriter<A> {
         ensures kept { self.old.failed ≡ true → self.new ≡ self.old }
     {
         if self.failed {
+            let_go(item);
             return Err(Error::WriterFailed);
         }
         self.failed = true;

@@ -183,6 +183,7 @@ impl<A: Allocator + Clone> Writer<A> {
         ensures failed { OnErr result (self.new ≡ record self.old { failed = true }) }
     {
         if self.failed {
+            let_go(item);
             return Err(Error::WriterFailed);
         }
         self.failed = true;

@@ -1,4 +1,4 @@
-use Rattle.std.proofs.Common.{◌≡◌, ◌∙◌, refl, sym, ap, subst, arith, IsTrue, List, [], ◌∷◌, ◌++◌, ◌+◌, ℕ}
+use Rattle.std.proofs.Common.{◌≡◌, refl, sym, subst, arith, IsTrue, List, [], ◌∷◌, ◌++◌, ◌+◌, ℕ}
 use Rattle.std.specs.Prelude.{Option}
 use Rattle.std.specs.Option.{option_copied}
 use Rattle.sst_entries.specs.Entry.{Entry}
@@ -18,7 +18,7 @@ admit-requires-clause-rising g c =
     let i = c.self.inside in
     let e = c.args.item in
     let next = subst (λ (w : Writing). IsTrue (may_be_written (written w) e.user_key e.seqno)) (sym c.self.view_is) c.requires in
-    let before = c.last_written.ensures ∙ ap (λ (x : List Entry). last_of (option_copied c.last.result) x) c.deref.ensures.value in
+    let before = subst (λ (x : List Entry). option_copied c.last_written.result ≡ last_of (option_copied c.last.result) x) c.deref.ensures.value c.last_written.ensures in
     rw before (may_register i.failed _ _ _ i.blocks.chunks i.chunk.items e (option_copied c.last.result) i.meta.first_key (tally_of (last_of (option_copied c.last.result) i.chunk.items) e i.meta.first_key) e.user_key c.self.invariant.3 c.if-self.false c.self.invariant.0.strict next c.last.ensures.last refl refl)
 
 pub take_item-requires-clause-strict : goal.take_item-requires-clause-strict
@@ -26,8 +26,8 @@ take_item-requires-clause-strict g c =
     let i = c.self.inside in
     let e = c.args.item in
     let next = subst (λ (w : Writing). IsTrue (may_be_written (written w) e.user_key e.seqno)) (sym c.self.view_is) c.requires in
-    let before = c.last_written.ensures ∙ ap (λ (x : List Entry). last_of (option_copied c.last.result) x) c.deref.ensures.value in
-    let tally = c.in_ok-tally.ensures.tally ∙ ap (λ (x : Option Entry). tally_of x e i.meta.first_key) before in
+    let before = subst (λ (x : List Entry). option_copied c.last_written.result ≡ last_of (option_copied c.last.result) x) c.deref.ensures.value c.last_written.ensures in
+    let tally = subst (λ (x : Option Entry). c.in_ok-tally.tally ≡ tally_of x e i.meta.first_key) before c.in_ok-tally.ensures.tally in
     let held = taken_counted i.options.data_block_size i.blocks.chunks i.chunk.items i.chunk_size i.meta e (option_copied c.last.result) (i.chunk.items ++ e ∷ []) (i.chunk_size + entry_size e) c.in_ok-tally.tally (added c.in_ok-tally.tally i.meta) c.self.invariant.0 (c.self.invariant.1.room c.if-self.false) next c.in_ok-tally.ensures.refused c.last.ensures.last refl refl tally refl in
     held.strict
 
@@ -36,8 +36,8 @@ take_item-requires-clause-fit g c =
     let i = c.self.inside in
     let e = c.args.item in
     let next = subst (λ (w : Writing). IsTrue (may_be_written (written w) e.user_key e.seqno)) (sym c.self.view_is) c.requires in
-    let before = c.last_written.ensures ∙ ap (λ (x : List Entry). last_of (option_copied c.last.result) x) c.deref.ensures.value in
-    let tally = c.in_ok-tally.ensures.tally ∙ ap (λ (x : Option Entry). tally_of x e i.meta.first_key) before in
+    let before = subst (λ (x : List Entry). option_copied c.last_written.result ≡ last_of (option_copied c.last.result) x) c.deref.ensures.value c.last_written.ensures in
+    let tally = subst (λ (x : Option Entry). c.in_ok-tally.tally ≡ tally_of x e i.meta.first_key) before c.in_ok-tally.ensures.tally in
     let held = taken_counted i.options.data_block_size i.blocks.chunks i.chunk.items i.chunk_size i.meta e (option_copied c.last.result) (i.chunk.items ++ e ∷ []) (i.chunk_size + entry_size e) c.in_ok-tally.tally (added c.in_ok-tally.tally i.meta) c.self.invariant.0 (c.self.invariant.1.room c.if-self.false) next c.in_ok-tally.ensures.refused c.last.ensures.last refl refl tally refl in
     held_fits _ _ _ _ _ held
 
@@ -53,8 +53,8 @@ invariant_of-self-2 g c =
     let i = c.self.inside in
     let e = c.args.item in
     let next = subst (λ (w : Writing). IsTrue (may_be_written (written w) e.user_key e.seqno)) (sym c.self.view_is) c.requires in
-    let before = c.last_written.ensures ∙ ap (λ (x : List Entry). last_of (option_copied c.last.result) x) c.deref.ensures.value in
-    let tally = c.in_ok-tally.ensures.tally ∙ ap (λ (x : Option Entry). tally_of x e i.meta.first_key) before in
+    let before = subst (λ (x : List Entry). option_copied c.last_written.result ≡ last_of (option_copied c.last.result) x) c.deref.ensures.value c.last_written.ensures in
+    let tally = subst (λ (x : Option Entry). c.in_ok-tally.tally ≡ tally_of x e i.meta.first_key) before c.in_ok-tally.ensures.tally in
     let held = taken_counted i.options.data_block_size i.blocks.chunks i.chunk.items i.chunk_size i.meta e (option_copied c.last.result) (i.chunk.items ++ e ∷ []) (i.chunk_size + entry_size e) c.in_ok-tally.tally (added c.in_ok-tally.tally i.meta) c.self.invariant.0 (c.self.invariant.1.room c.if-self.false) next c.in_ok-tally.ensures.refused c.last.ensures.last refl refl tally refl in
     let size = i.options.data_block_size in
     let kind = i.options.filter_kind in

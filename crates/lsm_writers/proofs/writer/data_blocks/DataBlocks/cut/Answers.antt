@@ -1,4 +1,4 @@
-use Rattle.std.proofs.Common.{◌≡◌, ◌∙◌, ap, sym, subst, ◌<◌, ◌^◌, false, List, [], ◌∷◌, ◌++◌, ◌-◌, length, slice_get, arith, rules, vec_len}
+use Rattle.std.proofs.Common.{◌≡◌, ◌∙◌, ap, sym, subst, ◌<◌, ◌^◌, List, [], ◌∷◌, ◌++◌, ◌-◌, length, slice_get, arith, rules, vec_len}
 use Rattle.std.specs.Prelude.{Some, None, Option}
 use Rattle.sst_sections.specs.declared.version.TableVersion.TheVariants.{V4}
 use Rattle.sst_entries.specs.Entry.{Entry}
@@ -69,7 +69,7 @@ invariant_of-self-2 g c =
     let n : vec_len c.args.chunk.now ≡ length es = search rules in
     let place = last_place _ es c.in-Some.last.now c.deref.ensures.value c.in-Some.ensures.value in
     let last : c.pop.result ≡ Some (last_entry es) = last_popped _ es c.in-Some.last.now _ _ c.deref.ensures.value c.in-Some.ensures.value n (c.pop.ensures.value c.in-Some.last.now (omega (arith, n, place.0))) in
-    let popped = subst (λ (o : Option Entry). AreCut (old ++ es ∷ []) t.file_writer t.index_writer.handles o t.index_writer.failed) (sym (c.replace.ensures.after ∙ last ∙ ap (λ (y : Entry). Some y) place.1)) more in
+    let popped = subst (λ (o : Option Entry). AreCut (old ++ es ∷ []) t.file_writer t.index_writer.handles o t.index_writer.failed) {y = c.replace.new.dest} (sym (c.replace.ensures.after ∙ last ∙ ap (λ (y : Entry). Some y) place.1)) more in
     let le = at_least_blocks (old ++ es ∷ []) t.file_writer t.index_writer.handles (Some c.in-Some.last.now) t.index_writer.failed more in
     let lt : length t.file_writer.bytes < 2 ^ 64 = omega arith in
     let again = held_again (old ++ es ∷ []) t.file_writer t.index_writer.handles (Some c.in-Some.last.now) t.index_writer.failed more in
