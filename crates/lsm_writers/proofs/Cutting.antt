@@ -115,6 +115,14 @@ cut_more cs w w' hs hs' before last failed failed' c old works strict ok ew eh e
       last_is = el ∙ sym (last_is_some (last_of None (joined cs)) c ok.some) ∙ sym (last_of-append None (joined cs) c) ∙ ap (last_of None) (sym (joined_more cs c));
     }
 
+-- the same behind the chunks that a call's caller knows
+pub added_is : (cs known : List (List Entry)) (d c : List Entry) (w w' : Written) (hs hs' : List Handle) (before last : Option Entry) (failed failed' : Bool)
+    → AreCut cs w hs before failed → cs ≡ known → d ≡ c → IsStrict (joined known ++ c)
+    → ((chunks : List (List Entry)) → (b : Option Entry) → AreCut chunks w hs b failed → IsStrict (joined chunks ++ d) → AreCut (chunks ++ d ∷ []) w' hs' last failed')
+    → AreCut (cs ++ c ∷ []) w' hs' last failed'
+added_is cs known d c w w' hs hs' before last failed failed' old k e strict added =
+    subst (λ (x : List Entry). AreCut (cs ++ x ∷ []) w' hs' last failed') e (added cs before old (rw (k, e) strict))
+
 -- what the bytes hold is what the state says
 pub held_again : (cs : List (List Entry)) (w : Written) (hs : List Handle) (last : Option Entry) (failed : Bool) → AreCut cs w hs last failed → chunks_in V4 (length hs) w.bytes ≡ cs
 held_again cs w hs last failed old =

@@ -38,14 +38,17 @@ use Rattle.sst_sections.specs.declared.section.SectionName.TheVariants.{Data}
 use Rattle.lsm_writers.proofs.Laying.{laid_more}
 use Rattle.lsm_files.specs.ItemName.{name_of}
 use Rattle.lsm_files.specs.Fits.{BlockFits, EntryFits, LabelFits, SectionFits}
-use Rattle.lsm_writers.specs.Held.{IsShortest, IsHeld}
+use Rattle.lsm_index_writers.specs.declared.either.IndexWriterImpl.{IndexWriterImpl}
+use Rattle.lsm_index_writers.specs.Either.{registered_by}
+use Rattle.lsm_index_writers.specs.Registered.{Registered}
+use Rattle.lsm_writers.specs.Held.{AreParts, IsShortest, IsHeld}
 use Rattle.sst_blocks.specs.Handle.{Handle}
 use Rattle.lsm_files.specs.Index.{data_section, handles, last_entry}
 use Rattle.lsm_files.specs.MetaBlock.{Blocks, meta_items, meta_entries}
 use Rattle.lsm_files.specs.declared.options.Options.{Options}
 use Rattle.lsm_files.specs.declared.label.Label.{Label}
 use Rattle.lsm_files.specs.Failed.{failed_fault}
-use Rattle.lsm_writers.specs.Writing.{Writing, written, spilled, blocks_of, content_of, keys_of_parts, spills_of, sections_fault, finish_fault, IsFinished, WritesTable}
+use Rattle.lsm_writers.specs.Writing.{Writing, written, spilled, blocks_of, content_of, keys_of_parts, spills_of, cut_writing, sections_fault, finish_fault, IsFinished, WritesTable}
 use Rattle.lsm_writers.proofs.Chunking.{are_chunks}
 use Rattle.sst_entries.proofs.Lists.{all_more, all_behind, all_front}
 use Rattle.lsm_writers.proofs.Orders.{last_of_cons}
@@ -301,7 +304,24 @@ writes_table w m i f first indexed filtered versioned whole kind hs bytes k d h 
       filter = subst (λ (n : ℕ). AllByRecursion SectionFits (filter_sections w.options.filter_kind V4 n c.keys fs)) front t.fit;
     }
 
+-- the same, from the parts that a table is finished from
+pub sections_written : {A : Type 0} (label : Label) (options : Options) (cut : List (List Entry)) (i f : ℕ) (first indexed filtered versioned whole : Written) (index : IndexWriterImpl A) (filter : Option (FilterWriterImpl A)) (m : Metadata A)
+    → AreParts options cut first index filter m
+    → indexed ≡ appended first (index_sections (registered_by index).kind V4 (length first.bytes) (registered_by index).handles (index_parts (registered_by index).kind (registered_by index).handles))
+    → AllByRecursion SectionFits (index_sections (registered_by index).kind V4 (length first.bytes) (registered_by index).handles (index_parts (registered_by index).kind (registered_by index).handles))
+    → i ≡ length (index_parts (registered_by index).kind (registered_by index).handles)
+    → WritesFilter options.filter_kind options.bloom_policy (filtered_keys options.bloom_policy (joined cut)) indexed filtered f
+    → versioned ≡ appended filtered (version_section V4)
+    → whole ≡ appended versioned (meta_section V4 (counted_items label options (record { index = i; filter = f }) m))
+    → WritesTable (cut_writing label options cut) (finished whole)
+sections_written label options cut i f first indexed filtered versioned whole index filter m p x xf count t v e =
+    writes_table (cut_writing label options cut) m i f first indexed filtered versioned whole (registered_by index).kind (registered_by index).handles (finished whole) p.kind p.laid_first p.handles_are x xf count t v e p.counted p.blocks refl
+
 -- ---- a writer that has nothing pending
+
+pub all_cut : (label : Label) (options : Options) (cut : List (List Entry)) (pending : List Entry) (failed : Bool) → pending ≡ [] → failed ≡ false
+    → ◌≡◌ {A = Writing} (cut_writing label options cut) (record { label = label; options = options; cut = cut; pending = pending; failed = failed })
+all_cut label options cut pending failed p f = rw (p, f) refl
 
 pub none_pending : {A : Type 0} (size : ℕ) (cs : List (List Entry)) (pending : List Entry) (n : ℕ) (m : Metadata A) → IsHeld size cs pending n m → pending ≡ [] → IsHeld size cs [] n m
 none_pending size cs pending n m h e = subst (λ (p : List Entry). IsHeld size cs p n m) e h
@@ -399,3 +419,21 @@ pub keys_of_cut : {A : Type 0} (failed : Bool) (kind : FilterKind) (policy : Blo
     → MayHaveKeys kind policy w (filtered_keys policy (joined cs))
 keys_of_cut failed kind policy w cs pending h works none =
     subst (λ (es : List Entry). MayHaveKeys kind policy w (filtered_keys policy es)) (ap (λ (p : List Entry). joined cs ++ p) none ∙ append-nil (joined cs)) (h.has works)
+
+-- the parts of a writer that has cut all its chunks off
+pub parts_are : {A : Type 0} (failed : Bool) (options : Options) (cut : List (List Entry)) (pending : List Entry) (n : ℕ) (m : Metadata A) (filter : Option (FilterWriterImpl A)) (first : Written) (hs : List Handle) (lost : Bool) (index : IndexWriterImpl A)
+    → IsHeld options.data_block_size cut pending n m → IsFiltered failed options.filter_kind options.bloom_policy filter (joined cut ++ pending) → pending ≡ [] → failed ≡ false
+    → first ≡ laid ((Data, data_section V4 cut) ∷ []) → registered_by index ≡ record { handles = hs; kind = options.index_kind; failed = lost } → hs ≡ handles V4 cut → lost ≡ false → AllByRecursion (BlockFits V4) cut
+    → AreParts options cut first index filter m
+parts_are failed options cut pending n m filter first hs lost index held filtered none works l r h f blocks =
+    let all = none_pending options.data_block_size cut pending n m held none in
+    record {
+      laid_first = l;
+      kind = ap (λ (x : Registered). x.kind) r;
+      handles_are = ap (λ (x : Registered). x.handles) r ∙ h;
+      works = ap (λ (x : Registered). x.failed) r ∙ f;
+      keys = keys_of_cut failed options.filter_kind options.bloom_policy filter cut pending filtered works none;
+      counted = all.counted;
+      short = held_short options.data_block_size cut n m all;
+      blocks = blocks;
+    }

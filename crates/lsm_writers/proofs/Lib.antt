@@ -10,6 +10,7 @@ pub mod AllTables
 pub mod Fitting
 pub mod Whole
 pub mod Taking
+pub mod Gaining
 pub mod Beginning
 pub mod Chunking
 pub mod Laying

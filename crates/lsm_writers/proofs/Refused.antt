@@ -1,6 +1,6 @@
 -- Calls that nothing but want of memory refuses.
 use Rattle.std.proofs.Common.{◌≡◌, refl, sym, subst, ◌∙◌, Bool, true, false}
-use Rattle.std.specs.Prelude.{Option, Some, None, Result, Ok, Err, IfErr, IsErrAnd}
+use Rattle.std.specs.Prelude.{Option, Some, None, Result, Ok, Err, IfErr}
 use Rattle.sst_entries.specs.Error.{Faults, is_memory}
 use Rattle.sst_entries.specs.declared.error.Error.{Error}
 use Rattle.sst_entries.specs.declared.error.Error.TheVariants.{OutOfMemory, Truncated, InvalidHeader, InvalidTag, ChecksumMismatch, InvalidBlock, KeyTooLong, ValueTooLong, BlockTooLarge, SectionTooLarge, InvalidTrailer, MissingSection, MetaKeyMissing, InvalidMetaValue, UnsupportedTableVersion, UnsupportedHashType, UnsupportedChecksumType, UnsupportedIndexInterval, UnsupportedCompression, GlobalSeqNoTooLarge, SeqNoOverflow, TableIdsSpent, WriterFailed, Source}
@@ -40,7 +40,6 @@ pub memory_alone : {X : Type 0} (r : Result X Error) (told : Option Error) → t
 memory_alone (Ok x) told none h = tt
 memory_alone (Err e) told none h = memory_or e told (is_memory e) refl none h
 
--- the same of a call that passes its refusal on
-pub passed_on : {X Y : Type 0} (r : Result X Error) (s : Result Y Error) (e : Error) → s ≡ Err e → IfErr s (λ x. x ≡ OutOfMemory) → IsErrAnd r (λ y. y ≡ e) → IfErr r (λ x. x ≡ OutOfMemory)
-passed_on {X} {Y} (Ok x) s e is told was = tt
-passed_on {X} {Y} (Err y) s e is told was = was ∙ subst (λ (t : Result Y Error). IfErr t (λ x. x ≡ OutOfMemory)) is told
+-- so of the refusal itself
+pub refused_alone : {X : Type 0} (r : Result X Error) (e : Error) → r ≡ Err e → IfErr r (λ x. x ≡ OutOfMemory) → e ≡ OutOfMemory
+refused_alone {X} r e is told = subst (λ (t : Result X Error). IfErr t (λ x. x ≡ OutOfMemory)) is told

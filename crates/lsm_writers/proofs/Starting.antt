@@ -12,7 +12,7 @@ use Rattle.std.specs.List.{flat_map}
 use Rattle.lsm_files.specs.Filters.{filter_block}
 use Rattle.lsm_files.specs.Partitions.{handles_block}
 use Rattle.sst_filters.specs.declared.policy.BloomConstructionPolicy.{BloomConstructionPolicy}
-use Rattle.lsm_files.specs.File.{HasNoMeta, version_section}
+use Rattle.lsm_files.specs.File.{HasNoMeta, HasNoVersion, version_section}
 use Rattle.lsm_files.specs.Kinds.{index_sections, filter_parts, filter_sections}
 use Rattle.lsm_files.specs.Layout.{appended, laid, starts_from}
 use Rattle.lsm_filter_writers.specs.Writing.{WritesFilter}
@@ -55,3 +55,14 @@ no_meta_yet first indexed filtered versioned bytes k at hs parts kind policy key
     let behind_index : HasNoMeta indexed = subst (λ (x : Written). HasNoMeta x) (sym i) (no_meta_behind_index first k at hs parts (no_meta_first first bytes f)) in
     let behind_filter : HasNoMeta filtered = subst (λ (x : Written). HasNoMeta x) (sym w.written) (no_meta_behind_filter indexed kind (length indexed.bytes) (filter_parts kind policy keys) w.filters behind_index) in
     subst (λ (x : Written). HasNoMeta x) (sym v) (no_meta_behind_version filtered behind_filter)
+
+-- no version yet once the index and the filter were written
+abbrev NoVersionAt : SectionName × ℕ → Type 0
+NoVersionAt s = slot_index s.0 ≡ 5 → ⊥
+
+pub no_version_yet : (first indexed filtered : Written) (bytes : List ℕ) (k : IndexKind) (at : ℕ) (hs : List Handle) (parts : List (List Handle)) (kind : FilterKind) (policy : BloomConstructionPolicy) (keys : List (List ℕ)) (n : ℕ)
+    → first ≡ laid ((Data, bytes) ∷ []) → indexed ≡ appended first (index_sections k V4 at hs parts) → WritesFilter kind policy keys indexed filtered n → HasNoVersion filtered
+no_version_yet first indexed filtered bytes k at hs parts kind policy keys n f i w =
+    let start : HasNoVersion first = rw f (All-cons NoVersionAt (Data, 0) [] (λ e. absurd cc) (All-nil NoVersionAt)) in
+    let behind_index : HasNoVersion indexed = subst (λ (x : Written). HasNoVersion x) (sym i) (All-append NoVersionAt first.started _ start (index_starts NoVersionAt k at _ hs parts (λ n e. absurd cc) (λ n e. absurd cc))) in
+    subst (λ (x : Written). HasNoVersion x) (sym w.written) (All-append NoVersionAt indexed.started _ behind_index (filter_starts NoVersionAt kind (length indexed.bytes) _ (filter_parts kind policy keys) w.filters (λ n e. absurd cc) (λ n e. absurd cc)))

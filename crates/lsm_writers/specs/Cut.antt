@@ -48,6 +48,14 @@ pub record AreCut (chunks : List (List Entry)) (w : Written) (hs : List Handle)
   pub strict : IsStrict (joined chunks)
   pub last_is : last ≡ last_of None (joined chunks)
 
+-- entries may be cut off behind the blocks that were cut
+pub record CanCut (w : Written) (hs : List Handle) (failed : Bool) (es : List Entry) : Type 0 where
+  pub chunks : List (List Entry)
+  pub last : Option Entry
+  pub are : AreCut chunks w hs last failed
+  pub works : failed ≡ false
+  pub strict : IsStrict (joined chunks ++ es)
+
 -- what is left as a chunk, where there is something
 abbrev pub rest_chunk : List Entry → List (List Entry)
 rest_chunk [] = []

@@ -1,14 +1,24 @@
 -- What holds of a writer's parts between its calls.
-use Rattle.std.specs.Prelude.{◌≡◌, ℕ, ◌+◌, ◌*◌, ◌<◌, ◌^◌, Bool, false, List, [], ◌∷◌, ◌++◌, length, take}
+use Rattle.std.specs.Prelude.{◌≡◌, ℕ, ◌+◌, ◌*◌, ◌<◌, ◌^◌, Bool, true, false, List, [], ◌∷◌, ◌++◌, length, take, Option}
 use Rattle.std.specs.List.{AllByRecursion}
 use Rattle.sst_sections.specs.declared.version.TableVersion.TheVariants.{V4}
 use Rattle.sst_entries.specs.Entry.{Entry}
 use Rattle.sst_entries.specs.Strict.{IsStrict}
+use Rattle.sst_sections.specs.declared.section.SectionName.TheVariants.{Data}
+use Rattle.sst_sections.specs.Sections.{Written}
 use Rattle.lsm_writers.specs.declared.writer.meta.Metadata.{Metadata}
 use Rattle.lsm_files.specs.Chunks.{joined, entries_size, is_full}
-use Rattle.lsm_writers.specs.Counts.{metadata_of}
-use Rattle.lsm_writers.specs.Cut.{Cut}
-use Rattle.lsm_files.specs.Fits.{EntryFits}
+use Rattle.lsm_files.specs.Filters.{filtered_keys}
+use Rattle.lsm_files.specs.Fits.{BlockFits, EntryFits}
+use Rattle.lsm_files.specs.Index.{data_section, handles}
+use Rattle.lsm_files.specs.Layout.{laid}
+use Rattle.lsm_files.specs.declared.options.Options.{Options}
+use Rattle.lsm_index_writers.specs.declared.either.IndexWriterImpl.{IndexWriterImpl}
+use Rattle.lsm_index_writers.specs.Either.{registered_by}
+use Rattle.lsm_filter_writers.specs.declared.either.FilterWriterImpl.{FilterWriterImpl}
+use Rattle.lsm_writers.specs.Counts.{HasShortKeys, metadata_of}
+use Rattle.lsm_writers.specs.Cut.{Cut, with_cut}
+use Rattle.lsm_writers.specs.Filtering.{MayHaveKeys}
 
 -- no shorter front of a chunk is full
 pub record IsShortest (size : ℕ) (c : List Entry) : Type 0 where
@@ -35,3 +45,34 @@ pub record IsHeld {A : Type 0} (size : ℕ) (cut : List (List Entry)) (pending :
   pub counted : meta ≡ metadata_of V4 cut pending
   pub sized : chunk_size ≡ entries_size pending
   pub small : 28 + 17 * length pending + chunk_size < 2 ^ 32
+
+-- what is pending, its size, the blocks and the counts once an entry was put behind those that were
+-- pending: all of these are cut off as a block where they are full
+abbrev pub IsTaken : {A : Type 0} → Bool → List Entry → Cut → Metadata A → List Entry → ℕ → Cut
+    → Metadata A → Type 0
+IsTaken false chunk cut meta pending size cut' meta' =
+    (pending ≡ chunk) × (size ≡ entries_size chunk) × (cut' ≡ cut) × (meta' ≡ meta)
+IsTaken true chunk cut meta pending size cut' meta' =
+    (pending ≡ []) × (size ≡ 0) × (cut'.chunks ≡ cut.chunks ++ chunk ∷ [])
+    × (cut'.failed ≡ false) × (meta' ≡ with_cut cut'.chunks meta)
+
+-- the parts that a table is finished from: the data section, the index and the filter of some chunks,
+-- and their counts
+pub record AreParts {A : Type 0} (options : Options) (cut : List (List Entry)) (front : Written)
+    (index : IndexWriterImpl A) (filter : Option (FilterWriterImpl A)) (meta : Metadata A)
+    : Type 0 where
+  pub laid_first : front ≡ laid ((Data, data_section V4 cut) ∷ [])
+  pub kind : (registered_by index).kind ≡ options.index_kind
+  pub handles_are : (registered_by index).handles ≡ handles V4 cut
+  pub works : (registered_by index).failed ≡ false
+  pub keys : MayHaveKeys options.filter_kind options.bloom_policy filter
+      (filtered_keys options.bloom_policy (joined cut))
+  pub counted : meta ≡ metadata_of V4 cut []
+  pub short : HasShortKeys meta
+  pub blocks : AllByRecursion (BlockFits V4) cut
+
+-- there are such chunks
+pub record HaveParts {A : Type 0} (options : Options) (front : Written) (index : IndexWriterImpl A)
+    (filter : Option (FilterWriterImpl A)) (meta : Metadata A) : Type 0 where
+  pub cut : List (List Entry)
+  pub are : AreParts options cut front index filter meta

@@ -3,10 +3,11 @@ pub use Rattle.sst_entries.specs.Entry.{Entry}
 pub use Rattle.sst_entries.specs.Error.{Faults, FaultsFirst}
 pub use Rattle.sst_entries.specs.Strict.{IsStrict, last_of}
 pub use Rattle.sst_sections.specs.Fnv.{fnv1a}
+pub use Rattle.sst_sections.specs.Sections.{finished}
 pub use Rattle.sst_filters.specs.Policy.{tenths_of}
 pub use Rattle.sst_blocks.specs.Encoding.{entries_fault}
 pub use Rattle.sst_blocks.specs.Payload.{payload}
-pub use Rattle.lsm_files.specs.Chunks.{entry_size, joined, entries_size}
+pub use Rattle.lsm_files.specs.Chunks.{entry_size, is_full, joined, entries_size}
 pub use Rattle.lsm_files.specs.Failed.{failed_fault}
 pub use Rattle.lsm_files.specs.File.{HasNoFilter, HasNoVersion, version_section}
 pub use Rattle.lsm_files.specs.Fits.{BlockFits, EntryFits, LabelFits}
@@ -17,9 +18,10 @@ pub use Rattle.lsm_filter_writers.specs.Refusing.{filter_fault}
 pub use Rattle.lsm_filter_writers.specs.Writing.{WritesFilter, with_size as filter_with_size}
 pub use Rattle.lsm_index_writers.specs.Registered.{with_size as index_with_size}
 pub use Rattle.lsm_writers.specs.Counts.{metadata_of, tally_of}
-pub use Rattle.lsm_writers.specs.Cut.{CountsCut, Cut, IsReadable, rest_chunk, with_cut}
+pub use Rattle.lsm_writers.specs.Cut.{AreCut, CanCut, CountsCut, Cut, IsReadable, rest_chunk, with_cut}
 pub use Rattle.lsm_writers.specs.Filtering.{CanRegister, HasKeys, IsSmallFilter, MayHaveKeys, registered_key}
+pub use Rattle.lsm_writers.specs.Held.{AreParts, HaveParts, IsTaken}
 pub use Rattle.lsm_files.specs.Facts.{starts_key}
-pub use Rattle.lsm_writers.specs.Writing.{WritesTable, fresh_writing, sections_fault}
+pub use Rattle.lsm_writers.specs.Writing.{WritesTable, cut_writing, fresh_writing, sections_fault}
 pub use Rattle.lsm_writers.specs.Writing.{IsFinished, IsFresh, finish_fault, gained, item_fault}
 pub use Rattle.lsm_writers.specs.Writing.{may_be_written, new_writing, spilled, write_fault, written}

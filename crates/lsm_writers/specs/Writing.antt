@@ -148,6 +148,10 @@ fresh_writing label options =
 abbrev pub new_writing : Label → Writing
 new_writing label = fresh_writing label default_options
 
+-- a writer that has cut these chunks off, and has no entry that is pending
+abbrev pub cut_writing : Label → Options → List (List Entry) → Writing
+cut_writing label options cut = record (fresh_writing label options) { cut = cut }
+
 -- the first fault of writing some entries one by one and then finishing
 abbrev pub writing_fault : Writing → List Entry → Option Error
 writing_fault w [] = finish_fault w

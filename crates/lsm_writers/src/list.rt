@@ -6,6 +6,7 @@ ghost use Rattle.sst_entries.specs.Error.{Faults};
 ghost use Rattle.lsm_files.specs.Options.{label_of};
 ghost use Rattle.lsm_writers.specs.Writing.{IsTableOf, IsWritable, list_fault};
 
+use crate::writer::let_go;
 use crate::{FinishedTable, TableId, Timestamp, Writer};
 use sst_blocks::{Error, InternalValue, SeqNo};
 use sst_entries::are_strict;
@@ -44,7 +45,10 @@ pub fn write_list<A: Allocator + Clone>(
 {
     let mut writer = Writer::new(alloc, id, initial_level, created_at)?;
     for item in items {
-        writer.write(item)?;
+        if let Err(error) = writer.write(item) {
+            let_go(writer);
+            return Err(error);
+        }
     }
     writer.finish()
 }

@@ -1,9 +1,11 @@
 //! Writing a table.
-ghost use Rattle.std.specs.Prelude.{◌≡◌, ◌↔◌, ◌<◌, ◌≤◌, ◌+◌, ◌*◌, ◌^◌, List, [], ◌∷◌, ◌++◌, None, Some, false, true, length, IsTrue, IfOk, IfErr, OnOk, OnErr, MatchResult, MatchOption};
+ghost use Rattle.std.specs.Prelude.{◌≡◌, ◌↔◌, ◌<◌, ◌≤◌, ◌+◌, ◌*◌, ◌^◌, ℕ, List, [], ◌∷◌, ◌++◌, None, Some, false, true, length, IsTrue, IfOk, IfErr, OnOk, OnErr, MatchResult, MatchOption};
 ghost use Rattle.lsm_writers.specs.Words.{EntryFits, Faults, FaultsFirst, HasNoVersion, IsFinished, IsFresh, IsSmallFilter};
 ghost use Rattle.lsm_writers.specs.Words.{IsStrict, LabelFits, WritesTable, appended, entries_size, entry_size};
 ghost use Rattle.lsm_writers.specs.Words.{failed_fault, filter_with_size, finish_fault, fnv1a, gained};
 ghost use Rattle.lsm_writers.specs.Words.{index_with_size, item_fault, label_of, last_of, may_be_written};
+ghost use Rattle.lsm_writers.specs.Words.{AreParts, CanRegister, CountsCut, Entry, HaveParts, IsTaken, MayHaveKeys, cut_writing};
+ghost use Rattle.lsm_writers.specs.Words.{entries_fault, finished, is_full, joined, registered_key, tally_of};
 ghost use Rattle.lsm_writers.specs.Words.{fresh_writing, metadata_of, new_writing, sections_fault, spilled, starts_key, version_section, write_fault, written};
 ghost use Rattle.std.specs.Option.{option_copied};
 ghost use Rattle.sst_entries.specs.declared.error.Error.TheVariants.{OutOfMemory};
@@ -22,7 +24,7 @@ use data_blocks::DataBlocks;
 use filter::{finish_filter, register_key};
 use lsm_files::{BloomConstructionPolicy, FilterKind, IndexKind, Label, Options};
 use lsm_filter_writers::FilterWriterImpl;
-use lsm_index_writers::BlockIndexWriter;
+use lsm_index_writers::{BlockIndexWriter, IndexWriterImpl};
 use meta::{Metadata, Tally, starts_key};
 use meta_block::{BlockCounts, write_meta};
 use sst_blocks::{
@@ -181,30 +183,27 @@ impl<A: Allocator + Clone> Writer<A> {
         ensures failed { OnErr result (self.new ≡ record self.old { failed = true }) }
     {
         if self.failed {
+            let_go(item);
             return Err(Error::WriterFailed);
         }
         self.failed = true;
-        let (options, pending, size) = (self.options, self.chunk.len(), self.chunk_size);
-        check_item(&self.chunk, size, &item)?;
-        let tally = self
-            .meta
-            .tally(last_written(&self.chunk, self.blocks.last()), &item)?;
-        register_key(
+        let tally = admit(
+            &self.chunk,
+            self.chunk_size,
+            last_written(&self.chunk, self.blocks.last()),
+            &self.meta,
             &mut self.filter_writer,
-            self.chunk.allocator(),
-            &options,
-            tally.starts_key,
-            &item.key.user_key,
+            &self.options,
+            &item,
         )?;
-        take_item(&mut self.chunk, &mut self.chunk_size, item)?;
-        if self.chunk_size >= options.data_block_size as usize {
-            if let Err(error) = self.blocks.cut(&mut self.chunk, &mut self.meta, &options) {
-                self.chunk.truncate(pending); // the entry is given up
-                self.chunk_size = size;
-                return Err(error);
-            }
-            self.chunk_size = 0;
-        }
+        take_item(
+            &mut self.chunk,
+            &mut self.chunk_size,
+            &mut self.blocks,
+            &mut self.meta,
+            &self.options,
+            item,
+        )?;
         self.meta.count(tally);
         self.failed = false;
         Ok(())
@@ -249,8 +248,14 @@ impl<A: Allocator + Clone> Writer<A> {
         ensures strict { IsStrict (written self) }
         ensures fits { AllByRecursion (EntryFits V4) (written self) }
     {
-        self.spill_block()?;
-        if self.meta.item_count == 0 {
+        let spilled = self.spill_block();
+        let item_count = self.meta.item_count;
+        if let Err(error) = spilled {
+            let_go(self);
+            return Err(error);
+        }
+        if item_count == 0 {
+            let_go(self);
             return Ok(None);
         }
         Ok(Some(self.table()?))
@@ -271,27 +276,29 @@ impl<A: Allocator + Clone> Writer<A> {
             label,
             options,
             blocks,
+            chunk,
             meta,
             filter_writer,
             ..
         } = self;
+        let_go(chunk);
         let (mut file_writer, index_writer, mut buffer) = blocks.into_parts();
         let index_writer = index_writer.into_kind(options.index_kind);
-        let index_blocks = index_writer.finish(&mut file_writer)?;
-        let filter_blocks = finish_filter(filter_writer, &options, &mut file_writer)?;
-        write_version(&mut file_writer)?;
-        let counts = BlockCounts {
-            index: index_blocks,
-            filter: filter_blocks,
-        };
-        write_meta(
+        let sections = write_sections(
             &mut file_writer,
             &mut buffer,
+            index_writer,
+            filter_writer,
             &label,
             &options,
-            counts,
             &meta,
-        )?;
+        );
+        let_go(meta);
+        let_go(buffer);
+        if let Err(error) = sections {
+            let_go(file_writer);
+            return Err(error);
+        }
         let (bytes, checksum) = file_writer.finish()?;
         Ok(FinishedTable {
             id: label.table_id,
@@ -440,6 +447,9 @@ pub struct FinishedTable<A: Allocator = Global> {
     pub bytes: Slice<A>,
 }
 
+// Gives a value up. What is generic in it looks at none of its parts, which makes this cheap to prove for a large one.
+pub(crate) fn let_go<T: Drop>(_value: T) {}
+
 /// Writes the number of the version. Refused [`Error::OutOfMemory`] alone; nothing is written then.
 fn write_version<A: Allocator + Clone>(file_writer: &mut SectionWriter<A>) -> Result<(), Error>
     requires { HasNoVersion file_writer.old }
@@ -463,14 +473,92 @@ fn last_written<'a, A: Allocator>(
     }
 }
 
+/// Checks an entry that comes after `before`, and registers its key. Answers what it adds to the counts. What is wrong with the
+/// entry is refused before any memory is taken; and [`Error::OutOfMemory`].
+fn admit<A: Allocator + Clone>(
+    chunk: &Vec<InternalValue<A>, A>,
+    chunk_size: usize,
+    before: Option<&InternalValue<A>>,
+    meta: &Metadata<A>,
+    filter_writer: &mut Option<FilterWriterImpl<A>>,
+    options: &Options,
+    item: &InternalValue<A>,
+) -> Result<Tally<A>, Error>
+    requires sized { chunk_size ≡ entries_size chunk.now.items }
+    requires small { 28 + 17 * length chunk.now.items + chunk_size < 2 ^ 32 }
+    requires rising { CanRegister options.now.filter_kind options.now.bloom_policy filter_writer.old
+        (registered_key options.now.bloom_policy
+        (starts_key (option_copied before) item.now) item.now.user_key) }
+    ensures tally { IfOk result (λ t. t ≡
+        tally_of (option_copied before.entry) item.now meta.now.first_key) }
+    ensures registered { OnOk result ((keys : List (List ℕ)) →
+        MayHaveKeys options.now.filter_kind options.now.bloom_policy filter_writer.old keys →
+        MayHaveKeys options.now.filter_kind options.now.bloom_policy filter_writer.new
+        (keys ++ registered_key options.now.bloom_policy
+        (starts_key (option_copied before.entry) item.now) item.now.user_key)) }
+    ensures refused { Faults result (item_fault chunk.now.items item.now) }
+    ensures first { FaultsFirst result (item_fault chunk.now.items item.now) }
+{
+    check_item(chunk, chunk_size, item)?;
+    let tally = meta.tally(before, item)?;
+    register_key(
+        filter_writer,
+        chunk.allocator(),
+        options,
+        tally.starts_key,
+        &item.key.user_key,
+    )?;
+    Ok(tally)
+}
+
+/// Puts an entry behind the pending ones, and cuts these off as a block once they are full. Refused [`Error::OutOfMemory`]
+/// alone; the entry is then given up, and all else stays.
+fn take_item<A: Allocator + Clone>(
+    chunk: &mut Vec<InternalValue<A>, A>,
+    chunk_size: &mut usize,
+    blocks: &mut DataBlocks<A>,
+    meta: &mut Metadata<A>,
+    options: &Options,
+    item: InternalValue<A>,
+) -> Result<(), Error>
+    requires sized { chunk_size.old ≡ entries_size chunk.old.items }
+    requires works { blocks.old.failed ≡ false }
+    requires strict { IsStrict (joined blocks.old.chunks ++ (chunk.old.items ++ item ∷ [])) }
+    requires fit { entries_fault (chunk.old.items ++ item ∷ []) ≡ None }
+    requires small { entry_size item + chunk_size.old < 2 ^ 64 }
+    requires counts { CountsCut blocks.old.chunks meta.old }
+    ensures taken { OnOk result (IsTaken
+        (is_full options.now.data_block_size (chunk.old.items ++ item ∷ []))
+        (chunk.old.items ++ item ∷ []) blocks.old meta.old
+        chunk.new.items chunk_size.new blocks.new meta.new) }
+    ensures left { OnErr result (chunk.new.items ≡ chunk.old.items) }
+    ensures same_size { OnErr result (chunk_size.new ≡ chunk_size.old) }
+    ensures uncut { OnErr result (blocks.new.chunks ≡ blocks.old.chunks) }
+    ensures uncounted { OnErr result (meta.new ≡ meta.old) }
+    ensures err { IfErr result (λ e. e ≡ OutOfMemory) }
+{
+    let (pending, size) = (chunk.len(), *chunk_size);
+    push_item(chunk, chunk_size, item)?;
+    if *chunk_size < options.data_block_size as usize {
+        return Ok(());
+    }
+    if let Err(error) = blocks.cut(chunk, meta, options) {
+        chunk.truncate(pending); // the entry is given up
+        *chunk_size = size;
+        return Err(error);
+    }
+    *chunk_size = 0;
+    Ok(())
+}
+
 /// Puts an entry behind the pending ones. Refused [`Error::OutOfMemory`] alone; nothing changes then.
-fn take_item<A: Allocator>(
+fn push_item<A: Allocator>(
     chunk: &mut Vec<InternalValue<A>, A>,
     chunk_size: &mut usize,
     item: InternalValue<A>,
 ) -> Result<(), Error>
     requires fits { entry_size item + chunk_size.old < 2 ^ 64 }
-    ensures taken { OnOk result (chunk.new.items ≡ chunk.old.items ++ item ∷ []) }
+    ensures pushed { OnOk result (chunk.new.items ≡ chunk.old.items ++ item ∷ []) }
     ensures sized { OnOk result (chunk_size.new ≡ chunk_size.old + entry_size item) }
     ensures left { OnErr result (chunk.new.items ≡ chunk.old.items) }
     ensures same_size { OnErr result (chunk_size.new ≡ chunk_size.old) }
@@ -479,6 +567,36 @@ fn take_item<A: Allocator>(
     let size = item.key.user_key.len() + item.value.len();
     chunk.push(item)?;
     *chunk_size += size;
+    Ok(())
+}
+
+/// Writes the index of the data blocks behind them, the filter, the version and the meta block. Refused as [`Writer::finish`]
+/// is.
+fn write_sections<A: Allocator + Clone>(
+    file_writer: &mut SectionWriter<A>,
+    buffer: &mut Vec<u8, A>,
+    index_writer: IndexWriterImpl<A>,
+    filter_writer: Option<FilterWriterImpl<A>>,
+    label: &Label,
+    options: &Options,
+    meta: &Metadata<A>,
+) -> Result<(), Error>
+    requires { HaveParts options.now file_writer.old index_writer filter_writer meta.now }
+    ensures table { OnOk result ((cut : List (List Entry)) →
+        AreParts options.now cut file_writer.old index_writer filter_writer meta.now →
+        WritesTable (cut_writing label.now options.now cut) (finished file_writer.new)) }
+    ensures refused { (cut : List (List Entry)) →
+        AreParts options.now cut file_writer.old index_writer filter_writer meta.now →
+        Faults result (sections_fault (cut_writing label.now options.now cut)) }
+{
+    let index_blocks = index_writer.finish(file_writer)?;
+    let filter_blocks = finish_filter(filter_writer, options, file_writer)?;
+    write_version(file_writer)?;
+    let counts = BlockCounts {
+        index: index_blocks,
+        filter: filter_blocks,
+    };
+    write_meta(file_writer, buffer, label, options, counts, meta)?;
     Ok(())
 }
 

@@ -1,6 +1,7 @@
 //! The data blocks of a table, with the index that they are registered with.
-ghost use Rattle.std.specs.Prelude.{◌≡◌, ◌+◌, ◌*◌, ◌++◌, ◌^◌, ◌<◌, [], ◌∷◌, None, Some, false, length, IfOk, IfErr, OnOk, OnErr};
-ghost use Rattle.lsm_writers.specs.Words.{BlockFits, CountsCut, Cut, IsReadable, IsStrict, data_block, data_section};
+ghost use Rattle.std.specs.Prelude.{◌≡◌, ◌+◌, ◌*◌, ◌++◌, ◌^◌, ◌<◌, List, [], ◌∷◌, Option, None, Some, false, length, IfOk, IfErr, OnOk, OnErr};
+ghost use Rattle.lsm_writers.specs.Words.{AreCut, BlockFits, CanCut, CountsCut, Entry};
+ghost use Rattle.lsm_writers.specs.Words.{Cut, IsReadable, IsStrict, data_block, data_section};
 ghost use Rattle.lsm_writers.specs.Words.{entries_fault, handle_of, handles, joined, laid, last_of, payload};
 ghost use Rattle.lsm_writers.specs.Words.{rest_chunk, with_cut};
 ghost use Rattle.std.specs.Option.{option_copied};
@@ -9,6 +10,7 @@ ghost use Rattle.sst_sections.specs.declared.section.SectionName.TheVariants.{Da
 ghost use Rattle.sst_sections.specs.declared.version.TableVersion.TheVariants.{V4};
 ghost use Rattle.std.specs.List.{AllByRecursion};
 
+use crate::writer::let_go;
 use crate::writer::meta::Metadata;
 use lsm_files::Options;
 use lsm_index_writers::{BlockIndexWriter, FullIndexWriter};
@@ -18,6 +20,7 @@ use sst_blocks::{
 };
 use std::alloc::{Allocator, Global};
 use std::marker::Model;
+use std::mem;
 
 /// The data blocks that were cut so far, behind one another in the data section, and the index that has their handles. A
 /// contract sees the chunks that the blocks hold, as they are read back from the bytes.
@@ -96,17 +99,20 @@ impl<A: Allocator + Clone> DataBlocks<A> {
             return Ok(());
         };
         let last_key = last.key.user_key.clone()?;
-        let handle = write_chunk(
+        if let Err(error) = add_block(
             &mut self.file_writer,
+            &mut self.index_writer,
             &mut self.block_buffer,
             chunk,
             last,
             options,
-        )?;
-        self.index_writer.register_data_block(&handle)?;
+        ) {
+            let_go(last_key);
+            return Err(error);
+        }
         let end = BlockOffset(self.file_writer.position());
         meta.count_block(chunk.len(), self.block_buffer.len(), end, last_key);
-        self.last = chunk.pop();
+        let_go(mem::replace(&mut self.last, chunk.pop()));
         chunk.clear();
         Ok(())
     }
@@ -127,6 +133,35 @@ impl<A: Allocator + Clone> DataBlocks<A> {
         } = self;
         (file_writer, index_writer, block_buffer)
     }
+}
+
+/// Writes these entries as a block at the end, and registers it with the index. Refused [`Error::OutOfMemory`] alone; the blocks
+/// before stay.
+fn add_block<A: Allocator + Clone>(
+    file_writer: &mut SectionWriter<A>,
+    index_writer: &mut FullIndexWriter<A>,
+    buffer: &mut Vec<u8, A>,
+    items: &[InternalValue<A>],
+    last: &InternalValue<A>,
+    options: &Options,
+) -> Result<(), Error>
+    requires last { last_of None items.now ≡ Some last.now }
+    requires fit { entries_fault items.now ≡ None }
+    requires cut { CanCut file_writer.old index_writer.old.handles index_writer.old.failed items.now }
+    ensures added { OnOk result ((chunks : List (List Entry)) → (before : Option Entry) →
+        AreCut chunks file_writer.old index_writer.old.handles before index_writer.old.failed →
+        IsStrict (joined chunks ++ items.now) → AreCut (chunks ++ items.now ∷ [])
+        file_writer.new index_writer.new.handles (Some last.now) index_writer.new.failed) }
+    ensures works { OnOk result (index_writer.new.failed ≡ false) }
+    ensures encoded { OnOk result (buffer.new.items ≡ payload V4 items.now) }
+    ensures left { OnErr result ((chunks : List (List Entry)) → (before : Option Entry) →
+        AreCut chunks file_writer.old index_writer.old.handles before index_writer.old.failed →
+        AreCut chunks file_writer.new index_writer.new.handles before index_writer.new.failed) }
+    ensures err { IfErr result (λ e. e ≡ OutOfMemory) }
+{
+    let handle = write_chunk(file_writer, buffer, items, last, options)?;
+    index_writer.register_data_block(&handle)?;
+    Ok(())
 }
 
 /// Encodes these entries into the buffer and writes them as a block at the end. Answers what the index has of the block.

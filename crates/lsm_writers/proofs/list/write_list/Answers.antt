@@ -41,9 +41,9 @@ loop-item-preserved g c =
     let rest = c.next.new.self.rest.items in
     let w = c.loop-item.writer in
     let first : c.loop-item.item-iterator.rest.items ≡ e ∷ rest = c.in-Some.ensures.steps.0 in
-    let more : c.write.new.self ≡ gained w e = c.in_ok-write.ensures.ok in
+    let more : c.write.new.self ≡ gained w e = c.in_default.ensures.ok in
     let same = same_label w e in
-    let none : write_fault w e ≡ None = c.in_ok-write.ensures.refused in
+    let none : write_fault w e ≡ None = c.in_default.ensures.refused in
     record {
       label = ap (λ (x : Writing). x.label) more ∙ same.0 ∙ c.loop-item.invariant.label;
       options = ap (λ (x : Writing). x.options) more ∙ same.1 ∙ c.loop-item.invariant.options;
@@ -59,15 +59,13 @@ returns-in_err-writer-clause-refused g c =
     let memory = ap is_memory c.in_err-writer.ensures.err in
     faults_refusal c.from_residual.result e (list_fault (label_of c.args.id c.args.initial_level c.args.created_at) c.args.items.items) c.from_residual.ensures.1 (λ other. absurd (cc (memory, other)))
 
-pub returns-in_err-write-clause-refused : goal.returns-in_err-write-clause-refused
-returns-in_err-write-clause-refused g c =
-    let e = c.in_err-write.field-0.0 in
+pub returns-in-Err-clause-refused : goal.returns-in-Err-clause-refused
+returns-in-Err-clause-refused g c =
     let item = c.in-Some.item in
     let w = c.loop-item.writer in
     let rest = c.next.new.self.rest.items in
     let first : c.loop-item.item-iterator.rest.items ≡ item ∷ rest = c.in-Some.ensures.steps.0 in
-    faults_refusal c.from_residual-in_err-write.result e (list_fault (label_of c.args.id c.args.initial_level c.args.created_at) c.args.items.items) c.from_residual-in_err-write.ensures.1
-    (λ memory. c.loop-item.invariant.fault ∙ ap (writing_fault w) first ∙ ap (λ (x : Option Error). option_or x (writing_fault (gained w item) rest)) (c.in_err-write.ensures.refused memory))
+    λ memory. c.loop-item.invariant.fault ∙ ap (writing_fault w) first ∙ ap (λ (x : Option Error). option_or x (writing_fault (gained w item) rest)) (c.in-Err.ensures.refused memory)
 
 pub returns-clause-refused : goal.returns-clause-refused
 returns-clause-refused g c =

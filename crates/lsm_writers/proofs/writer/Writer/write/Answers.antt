@@ -1,85 +1,73 @@
-use Rattle.std.proofs.Common.{◌≡◌, ◌∙◌, refl, sym, ap, subst, ◌<◌, arith, rules, IsTrue, None, List}
+use Rattle.std.proofs.Common.{◌≡◌, refl, sym, subst, arith, IsTrue, List, [], ◌∷◌, ◌++◌, ◌+◌, ℕ}
 use Rattle.std.specs.Prelude.{Option}
 use Rattle.std.specs.Option.{option_copied}
 use Rattle.sst_entries.specs.Entry.{Entry}
 use Rattle.sst_entries.specs.Strict.{last_of}
 use Rattle.lsm_writers.specs.Counts.{added, tally_of}
-use Rattle.lsm_writers.specs.Writing.{Writing, item_fault, written, may_be_written}
-use Rattle.lsm_writers.proofs.Filtered.{filtered_cut, filtered_not, may_register, registered_now}
-use Rattle.lsm_writers.proofs.Taking.{taken_counted, held_fits, cut_held, has_room, room_still, not_full, given_up}
+use Rattle.lsm_writers.specs.Writing.{Writing, written, may_be_written}
+use Rattle.lsm_files.specs.Chunks.{entry_size, is_full}
+use Rattle.lsm_files.specs.Facts.{starts_key}
+use Rattle.lsm_writers.specs.Filtering.{MayHaveKeys, registered_key}
+use Rattle.lsm_writers.proofs.Filtered.{may_register, registered_now}
+use Rattle.lsm_writers.proofs.Gaining.{filter_taken, gained_is, parts_taken, room_taken}
+use Rattle.lsm_writers.proofs.Taking.{taken_counted, held_fits, has_room}
 use Rattle.lsm_writers.proofs.writer.Writer.write.Goals as goal
-use Rattle.lsm_writers.proofs.writer.Writer.write.Goals.{then-self-options+in_default, else-self-options}
 
-pub register_key-requires : goal.register_key-requires
-register_key-requires g c =
+pub admit-requires-clause-rising : goal.admit-requires-clause-rising
+admit-requires-clause-rising g c =
     let i = c.self.inside in
     let e = c.args.item in
     let next = subst (λ (w : Writing). IsTrue (may_be_written (written w) e.user_key e.seqno)) (sym c.self.view_is) c.requires in
-    let before = c.last_written.ensures ∙ ap (λ (x : List Entry). last_of (option_copied c.last.result) x) c.deref-2.ensures.value in
-    let tally = c.in_ok-tally.ensures.ok ∙ ap (λ (x : Option Entry). tally_of x e i.meta.first_key) before in
-    may_register i.failed _ _ _ i.blocks.chunks i.chunk.items e (option_copied c.last.result) i.meta.first_key c.in_ok-tally.tally _ c.self.invariant.3 c.if-self.false c.self.invariant.0.strict next c.last.ensures.last tally (ap (λ (x : Entry). x.user_key) (sym c.item.view_is))
+    let before = subst (λ (x : List Entry). option_copied c.last_written.result ≡ last_of (option_copied c.last.result) x) c.deref.ensures.value c.last_written.ensures in
+    rw before (may_register i.failed _ _ _ i.blocks.chunks i.chunk.items e (option_copied c.last.result) i.meta.first_key (tally_of (last_of (option_copied c.last.result) i.chunk.items) e i.meta.first_key) e.user_key c.self.invariant.3 c.if-self.false c.self.invariant.0.strict next c.last.ensures.last refl refl)
 
-pub cut-requires-clause-strict : goal.cut-requires-clause-strict
-cut-requires-clause-strict g c =
+pub take_item-requires-clause-strict : goal.take_item-requires-clause-strict
+take_item-requires-clause-strict g c =
     let i = c.self.inside in
     let e = c.args.item in
     let next = subst (λ (w : Writing). IsTrue (may_be_written (written w) e.user_key e.seqno)) (sym c.self.view_is) c.requires in
-    let before = c.last_written.ensures ∙ ap (λ (x : List Entry). last_of (option_copied c.last.result) x) c.deref-2.ensures.value in
-    let tally = c.in_ok-tally.ensures.ok ∙ ap (λ (x : Option Entry). tally_of x e i.meta.first_key) before in
-    let fits = subst (λ (x : List Entry). item_fault x e ≡ None) c.deref.ensures.value c.in_ok-check_item.ensures in
-    let t = c.in_ok-take_item.ensures in
-    let held = taken_counted i.options.data_block_size i.blocks.chunks i.chunk.items i.chunk_size i.meta e (option_copied c.last.result) _ _ c.in_ok-tally.tally (added c.in_ok-tally.tally i.meta) c.self.invariant.0 (c.self.invariant.1.room c.if-self.false) next fits c.last.ensures.last t.taken t.sized tally refl in
+    let before = subst (λ (x : List Entry). option_copied c.last_written.result ≡ last_of (option_copied c.last.result) x) c.deref.ensures.value c.last_written.ensures in
+    let tally = subst (λ (x : Option Entry). c.in_ok-tally.tally ≡ tally_of x e i.meta.first_key) before c.in_ok-tally.ensures.tally in
+    let held = taken_counted i.options.data_block_size i.blocks.chunks i.chunk.items i.chunk_size i.meta e (option_copied c.last.result) (i.chunk.items ++ e ∷ []) (i.chunk_size + entry_size e) c.in_ok-tally.tally (added c.in_ok-tally.tally i.meta) c.self.invariant.0 (c.self.invariant.1.room c.if-self.false) next c.in_ok-tally.ensures.refused c.last.ensures.last refl refl tally refl in
     held.strict
 
-pub cut-requires-clause-fit : goal.cut-requires-clause-fit
-cut-requires-clause-fit g c =
+pub take_item-requires-clause-fit : goal.take_item-requires-clause-fit
+take_item-requires-clause-fit g c =
     let i = c.self.inside in
     let e = c.args.item in
     let next = subst (λ (w : Writing). IsTrue (may_be_written (written w) e.user_key e.seqno)) (sym c.self.view_is) c.requires in
-    let before = c.last_written.ensures ∙ ap (λ (x : List Entry). last_of (option_copied c.last.result) x) c.deref-2.ensures.value in
-    let tally = c.in_ok-tally.ensures.ok ∙ ap (λ (x : Option Entry). tally_of x e i.meta.first_key) before in
-    let fits = subst (λ (x : List Entry). item_fault x e ≡ None) c.deref.ensures.value c.in_ok-check_item.ensures in
-    let t = c.in_ok-take_item.ensures in
-    let held = taken_counted i.options.data_block_size i.blocks.chunks i.chunk.items i.chunk_size i.meta e (option_copied c.last.result) _ _ c.in_ok-tally.tally (added c.in_ok-tally.tally i.meta) c.self.invariant.0 (c.self.invariant.1.room c.if-self.false) next fits c.last.ensures.last t.taken t.sized tally refl in
+    let before = subst (λ (x : List Entry). option_copied c.last_written.result ≡ last_of (option_copied c.last.result) x) c.deref.ensures.value c.last_written.ensures in
+    let tally = subst (λ (x : Option Entry). c.in_ok-tally.tally ≡ tally_of x e i.meta.first_key) before c.in_ok-tally.ensures.tally in
+    let held = taken_counted i.options.data_block_size i.blocks.chunks i.chunk.items i.chunk_size i.meta e (option_copied c.last.result) (i.chunk.items ++ e ∷ []) (i.chunk_size + entry_size e) c.in_ok-tally.tally (added c.in_ok-tally.tally i.meta) c.self.invariant.0 (c.self.invariant.1.room c.if-self.false) next c.in_ok-tally.ensures.refused c.last.ensures.last refl refl tally refl in
     held_fits _ _ _ _ _ held
-
-pub invariant_of-self-in-Err : goal.invariant_of-self-in-Err
-invariant_of-self-in-Err g c =
-    let after = c.in-Err.ensures in
-    let items = after.left ∙ c.in_ok-take_item.ensures.taken in
-    let back = c.truncate.ensures.items ∙ given_up c.self.inside.chunk.items _ c.args.item c.len-pending.result items (search rules) in
-    rw (after.unchanged, back, after.uncounted) (c.self.invariant.0, record { works = λ h. absurd cc; room = λ h. absurd cc }, c.self.invariant.2, filtered_not _ _ _ _ c.self.invariant.3.small)
 
 pub count-requires : goal.count-requires
 count-requires g c =
     let i = c.self.inside in
     let held = c.self.invariant.0 in
     let room = has_room i.blocks.chunks i.chunk.items i.meta held.counted c.last.ensures.few (omega (arith, held.small)) in
-    elim c.if-self-options.branch [
-      | then-self-options+in_default w ↦ rw (w.self-inside-is, w.in_default.ensures.counted) (room_still _ _ room)
-      | else-self-options w ↦ rw w.self-inside-is room
-    ]
+    room_taken _ _ _ _ _ _ _ _ room c.in_ok-take_item.ensures.taken
 
 pub invariant_of-self-2 : goal.invariant_of-self-2
 invariant_of-self-2 g c =
     let i = c.self.inside in
     let e = c.args.item in
-    let size = i.options.data_block_size in
     let next = subst (λ (w : Writing). IsTrue (may_be_written (written w) e.user_key e.seqno)) (sym c.self.view_is) c.requires in
-    let before = c.last_written.ensures ∙ ap (λ (x : List Entry). last_of (option_copied c.last.result) x) c.deref-2.ensures.value in
-    let tally = c.in_ok-tally.ensures.ok ∙ ap (λ (x : Option Entry). tally_of x e i.meta.first_key) before in
-    let fits = subst (λ (x : List Entry). item_fault x e ≡ None) c.deref.ensures.value c.in_ok-check_item.ensures in
-    let t = c.in_ok-take_item.ensures in
-    let held = taken_counted size i.blocks.chunks i.chunk.items i.chunk_size i.meta e (option_copied c.last.result) _ _ c.in_ok-tally.tally (added c.in_ok-tally.tally i.meta) c.self.invariant.0 (c.self.invariant.1.room c.if-self.false) next fits c.last.ensures.last t.taken t.sized tally refl in
-    let filtered = registered_now i.failed _ _ _ c.register_key.new.filter_writer i.blocks.chunks i.chunk.items c.take_item.new.chunk.items e (option_copied c.last.result) i.meta.first_key c.in_ok-tally.tally _ c.self.invariant.3 c.if-self.false c.last.ensures.last tally (ap (λ (x : Entry). x.user_key) (sym c.item.view_is)) t.taken c.in_ok-register_key.ensures.ok in
-    elim c.if-self-options.branch [
-      | then-self-options+in_default w ↦
-          let after = w.in_default.ensures in
-          let counted = rw w.self-inside-is at c.count.ensures in
-          let done = cut_held size i.blocks.chunks c.take_item.new.chunk.items c.take_item.new.chunk_size i.meta c.in_ok-tally.tally w.cut.new.self.chunks w.cut.new.meta c.count.new.self held after.ok after.counted counted in
-          rw (w.self-inside-is, after.taken) (done, record { works = λ _. after.works; room = λ _. tt }, c.self.invariant.2, filtered_cut _ _ _ i.blocks.chunks w.cut.new.self.chunks c.take_item.new.chunk.items filtered after.ok)
-      | else-self-options w ↦
-          let below : c.take_item.new.chunk_size < size = omega (arith, w.if-self-options.false) in
-          let counted = rw w.self-inside-is at c.count.ensures in
-          rw (w.self-inside-is, counted) (held, record { works = λ _. c.self.invariant.1.works c.if-self.false; room = λ _. not_full size _ _ held.sized below }, c.self.invariant.2, filtered)
-    ]
+    let before = subst (λ (x : List Entry). option_copied c.last_written.result ≡ last_of (option_copied c.last.result) x) c.deref.ensures.value c.last_written.ensures in
+    let tally = subst (λ (x : Option Entry). c.in_ok-tally.tally ≡ tally_of x e i.meta.first_key) before c.in_ok-tally.ensures.tally in
+    let held = taken_counted i.options.data_block_size i.blocks.chunks i.chunk.items i.chunk_size i.meta e (option_copied c.last.result) (i.chunk.items ++ e ∷ []) (i.chunk_size + entry_size e) c.in_ok-tally.tally (added c.in_ok-tally.tally i.meta) c.self.invariant.0 (c.self.invariant.1.room c.if-self.false) next c.in_ok-tally.ensures.refused c.last.ensures.last refl refl tally refl in
+    let size = i.options.data_block_size in
+    let kind = i.options.filter_kind in
+    let policy = i.options.bloom_policy in
+    let t = c.take_item.new in
+    let taken = c.in_ok-take_item.ensures.taken in
+    let done = parts_taken (is_full size (i.chunk.items ++ e ∷ [])) size i.blocks t.blocks i.chunk.items e (i.chunk_size + entry_size e) t.chunk.items t.chunk_size c.in_ok-tally.tally i.meta t.meta c.count.new.self refl held (c.self.invariant.1.works c.if-self.false) taken c.count.ensures in
+    let more = subst (λ (x : Option Entry). (keys : List (List ℕ)) → MayHaveKeys kind policy i.filter_writer keys → MayHaveKeys kind policy c.admit.new.filter_writer (keys ++ registered_key policy (starts_key x e) e.user_key)) before c.in_ok-tally.ensures.registered in
+    let filtered = registered_now i.failed kind policy i.filter_writer c.admit.new.filter_writer i.blocks.chunks i.chunk.items (i.chunk.items ++ e ∷ []) e (option_copied c.last.result) i.meta.first_key (tally_of (last_of (option_copied c.last.result) i.chunk.items) e i.meta.first_key) e.user_key c.self.invariant.3 c.if-self.false c.last.ensures.last refl refl refl more in
+    (done.0, done.1, c.self.invariant.2, filter_taken (is_full size (i.chunk.items ++ e ∷ [])) kind policy c.admit.new.filter_writer i.blocks t.blocks i.chunk.items e t.chunk.items t.chunk_size i.meta t.meta filtered taken)
+
+pub returns-clause-ok : goal.returns-clause-ok
+returns-clause-ok g c =
+    let i = c.self.inside in
+    let t = c.take_item.new in
+    rw (← c.self.view_is) (gained_is i.label i.options i.blocks t.blocks i.chunk.items t.chunk.items i.failed c.args.item t.chunk_size i.meta t.meta c.if-self.false c.in_ok-take_item.ensures.taken)

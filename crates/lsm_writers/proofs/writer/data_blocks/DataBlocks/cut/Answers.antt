@@ -1,121 +1,107 @@
-use Rattle.std.proofs.Common.{◌≡◌, ◌∙◌, ap, sym, refl, subst, ◌<◌, ◌^◌, false, List, [], ◌∷◌, ◌++◌, ◌-◌, length, slice_get, arith, rules, vec_len}
-use Rattle.std.specs.Prelude.{Some, None}
+use Rattle.std.proofs.Common.{◌≡◌, ◌∙◌, ap, sym, subst, ◌<◌, ◌^◌, List, [], ◌∷◌, ◌++◌, ◌-◌, length, slice_get, arith, rules, vec_len}
+use Rattle.std.specs.Prelude.{Some, None, Option}
 use Rattle.sst_sections.specs.declared.version.TableVersion.TheVariants.{V4}
 use Rattle.sst_entries.specs.Entry.{Entry}
-use Rattle.sst_blocks.specs.Handle.{Handle}
 use Rattle.sst_blocks.specs.Payload.{payload}
 use Rattle.sst_entries.specs.Strict.{IsStrict}
 use Rattle.lsm_files.specs.Chunks.{joined}
-use Rattle.lsm_writers.specs.Cut.{chunks_in, IsReadable, Cut, with_cut}
-use Rattle.lsm_files.specs.Index.{last_entry, data_block, handle_of}
-use Rattle.lsm_writers.proofs.Cutting.{cut_more, cut_lost, held_again, held_by_bytes, counted_more, registered_strict, rest_is, room_for, at_least_blocks, exact_blocks, sizes}
-use Rattle.sst_entries.proofs.StreamLemmas.{on_err}
-use Rattle.sst_entries.proofs.Strictness.{strict_alone}
-use Rattle.lsm_writers.proofs.Orders.{strict_back, last_is, last_place, last_popped}
+use Rattle.lsm_files.specs.Index.{last_entry}
+use Rattle.lsm_writers.specs.Cut.{AreCut, chunks_in, Cut, with_cut}
+use Rattle.lsm_writers.proofs.Cutting.{added_is, held_again, held_by_bytes, counted_more, rest_is, room_for, at_least_blocks, exact_blocks, sizes}
+use Rattle.lsm_writers.proofs.Orders.{last_is, last_place, last_popped}
 use Rattle.lsm_writers.proofs.writer.data_blocks.DataBlocks.cut.Goals as goal
 
-pub write_chunk-requires-clause-last : goal.write_chunk-requires-clause-last
-write_chunk-requires-clause-last g c = rw c.deref-2.ensures.value (sym (last_is None _ _ (subst (λ (x : List Entry). Some c.in-Some.last.now ≡ slice_get x (length x - 1)) c.deref.ensures.value c.in-Some.ensures.value)))
+pub add_block-requires-clause-last : goal.add_block-requires-clause-last
+add_block-requires-clause-last g c = rw c.deref-2.ensures.value (sym (last_is None _ _ (subst (λ (x : List Entry). Some c.in-Some.last.now ≡ slice_get x (length x - 1)) c.deref.ensures.value c.in-Some.ensures.value)))
 
-pub write_chunk-requires-clause-strict : goal.write_chunk-requires-clause-strict
-write_chunk-requires-clause-strict g c = rw c.deref-2.ensures.value (strict_alone _ _ (strict_back None _ _ c.requires.strict))
+pub add_block-requires-clause-cut : goal.add_block-requires-clause-cut
+add_block-requires-clause-cut g c =
+    let i = c.self.inside in
+    let old = chunks_in V4 (length i.index_writer.handles) i.file_writer.bytes in
+    let cs : old ≡ c.args.self.now.chunks = ap (λ (x : Cut). x.chunks) c.self.view_is in
+    let strict : IsStrict (joined old ++ c.deref-2.result.now) = rw (cs, c.deref-2.ensures.value) c.requires.strict in
+    record { chunks = old; last = i.last; are = c.self.invariant.0; works = ap (λ (x : Cut). x.failed) c.self.view_is ∙ c.requires.works; strict = strict }
 
-pub register_data_block-requires : goal.register_data_block-requires
-register_data_block-requires g c =
-    let works : c.self.inside.index_writer.failed ≡ false = ap (λ (x : Cut). x.failed) c.self.view_is ∙ c.requires.works in
-    let cs : chunks_in V4 (length c.self.inside.index_writer.handles) c.self.inside.file_writer.bytes ≡ c.args.self.now.chunks = ap (λ (x : Cut). x.chunks) c.self.view_is in
-    let strict : IsStrict (joined (chunks_in V4 (length c.self.inside.index_writer.handles) c.self.inside.file_writer.bytes) ++ c.args.chunk.now.items) = rw cs c.requires.strict in
-    let w = c.self.inside.file_writer in
-    let items = c.deref-2.ensures.value in
-    let readable = subst (λ (x : List Entry). IsReadable V4 x) items c.in_ok-handle.ensures.readable in
-    let handle : c.in_ok-handle.handle ≡ handle_of V4 (length w.bytes) c.args.chunk.now.items = c.in_ok-handle.ensures.handle ∙ ap (λ (x : List Entry). handle_of V4 (length w.bytes) x) items in
-    registered_strict _ _ _ _ _ _ _ c.self.invariant.0 works strict readable handle
+pub invariant_of-self : goal.invariant_of-self
+invariant_of-self g c =
+    let i = c.self.inside in
+    let old = chunks_in V4 (length i.index_writer.handles) i.file_writer.bytes in
+    let cs : old ≡ c.args.self.now.chunks = ap (λ (x : Cut). x.chunks) c.self.view_is in
+    let t = c.add_block.new in
+    let left = c.in-Err.ensures.left old i.last c.self.invariant.0 in
+    (held_by_bytes old t.file_writer t.index_writer.handles i.last t.index_writer.failed left, rw (held_again old t.file_writer t.index_writer.handles i.last t.index_writer.failed left) c.self.invariant.1)
 
-pub invariant_of-self-in_err-register_data_block : goal.invariant_of-self-in_err-register_data_block
-invariant_of-self-in_err-register_data_block g c =
-    let lost = cut_lost _ c.self.inside.file_writer c.write_chunk.new.file_writer c.self.inside.index_writer.handles c.register_data_block.new.self.handles _ c.self.inside.index_writer.failed c.register_data_block.new.self.failed _ c.self.invariant.0 c.in_ok-handle.ensures.ok c.in_err-register_data_block.ensures.unchanged c.in_err-register_data_block.ensures.failed in
-    (held_by_bytes _ _ _ _ _ lost, rw (held_again _ _ _ _ _ lost) c.self.invariant.1)
-
-pub returns-in_err-register_data_block-clause-unchanged : goal.returns-in_err-register_data_block-clause-unchanged
-returns-in_err-register_data_block-clause-unchanged g c =
-    let lost = cut_lost _ c.self.inside.file_writer c.write_chunk.new.file_writer c.self.inside.index_writer.handles c.register_data_block.new.self.handles _ c.self.inside.index_writer.failed c.register_data_block.new.self.failed _ c.self.invariant.0 c.in_ok-handle.ensures.ok c.in_err-register_data_block.ensures.unchanged c.in_err-register_data_block.ensures.failed in
-    let same : chunks_in V4 (length c.register_data_block.new.self.handles) c.write_chunk.new.file_writer.bytes ≡ c.args.self.now.chunks = held_again _ _ _ _ _ lost ∙ ap (λ (x : Cut). x.chunks) c.self.view_is in
-    on_err _ same
+pub returns-in-Err-clause-unchanged : goal.returns-in-Err-clause-unchanged
+returns-in-Err-clause-unchanged g c =
+    let i = c.self.inside in
+    let old = chunks_in V4 (length i.index_writer.handles) i.file_writer.bytes in
+    let cs : old ≡ c.args.self.now.chunks = ap (λ (x : Cut). x.chunks) c.self.view_is in
+    let t = c.add_block.new in
+    let left = c.in-Err.ensures.left old i.last c.self.invariant.0 in
+    let same : chunks_in V4 (length t.index_writer.handles) t.file_writer.bytes ≡ c.args.self.now.chunks = held_again old t.file_writer t.index_writer.handles i.last t.index_writer.failed left ∙ cs in
+    same
 
 pub count_block-requires : goal.count_block-requires
 count_block-requires g c =
-    let works : c.self.inside.index_writer.failed ≡ false = ap (λ (x : Cut). x.failed) c.self.view_is ∙ c.requires.works in
-    let cs : chunks_in V4 (length c.self.inside.index_writer.handles) c.self.inside.file_writer.bytes ≡ c.args.self.now.chunks = ap (λ (x : Cut). x.chunks) c.self.view_is in
-    let strict : IsStrict (joined (chunks_in V4 (length c.self.inside.index_writer.handles) c.self.inside.file_writer.bytes) ++ c.args.chunk.now.items) = rw cs c.requires.strict in
-    let w = c.self.inside.file_writer in
-    let items = c.deref-2.ensures.value in
-    let readable = subst (λ (x : List Entry). IsReadable V4 x) items c.in_ok-handle.ensures.readable in
-    let handle : c.in_ok-handle.handle ≡ handle_of V4 (length w.bytes) c.args.chunk.now.items = c.in_ok-handle.ensures.handle ∙ ap (λ (x : List Entry). handle_of V4 (length w.bytes) x) items in
-    let bytes : c.write_chunk.new.file_writer ≡ record w { bytes = w.bytes ++ data_block V4 c.args.chunk.now.items } = c.in_ok-handle.ensures.ok ∙ ap (λ (x : List Entry). record w { bytes = w.bytes ++ data_block V4 x }) items in
-    let hs : c.register_data_block.new.self.handles ≡ c.self.inside.index_writer.handles ++ handle_of V4 (length w.bytes) c.args.chunk.now.items ∷ [] = c.in_ok-register_data_block.ensures.ok ∙ ap (λ (h : Handle). c.self.inside.index_writer.handles ++ h ∷ []) handle in
-    let more = cut_more _ w c.write_chunk.new.file_writer c.self.inside.index_writer.handles c.register_data_block.new.self.handles c.self.inside.last (Some (last_entry c.args.chunk.now.items)) c.self.inside.index_writer.failed c.register_data_block.new.self.failed c.args.chunk.now.items c.self.invariant.0 works strict readable bytes hs refl in
+    let i = c.self.inside in
+    let old = chunks_in V4 (length i.index_writer.handles) i.file_writer.bytes in
+    let cs : old ≡ c.args.self.now.chunks = ap (λ (x : Cut). x.chunks) c.self.view_is in
+    let t = c.add_block.new in
+    let es = c.args.chunk.now.items in
+    let more = added_is old c.args.self.now.chunks c.deref-2.result.now es i.file_writer t.file_writer i.index_writer.handles t.index_writer.handles i.last (Some c.in-Some.last.now) i.index_writer.failed t.index_writer.failed c.self.invariant.0 cs c.deref-2.ensures.value c.requires.strict c.in_default-add_block.ensures.added in
     let are = subst (λ (x : List (List Entry)). c.args.meta.now ≡ with_cut x c.args.meta.now) (sym cs) c.requires.counts.are in
-    let le = at_least_blocks _ _ _ _ _ more in
-    let lt : length c.write_chunk.new.file_writer.bytes < 2 ^ 64 = omega arith in
-    let room = room_for c.args.meta.now _ c.args.chunk.now.items _ are more.readable le lt in
-    let n : c.len.result ≡ length c.args.chunk.now.items = search rules in
-    let buffer : c.write_chunk.new.buffer.items ≡ payload V4 c.args.chunk.now.items = c.in_ok-handle.ensures.encoded ∙ ap (payload V4) items in
-    let m : c.len-2.result ≡ length c.write_chunk.new.buffer.items = search rules in
-    (room.0, omega (arith, n, room.1), omega (arith, m ∙ ap length buffer, room.2))
+    let le = at_least_blocks (old ++ es ∷ []) t.file_writer t.index_writer.handles (Some c.in-Some.last.now) t.index_writer.failed more in
+    let lt : length t.file_writer.bytes < 2 ^ 64 = omega arith in
+    let room = room_for c.args.meta.now old es (length t.file_writer.bytes) are more.readable le lt in
+    let n : c.len.result ≡ length es = search rules in
+    let buffer : t.buffer.items ≡ payload V4 es = subst (λ (x : List Entry). t.buffer.items ≡ payload V4 x) c.deref-2.ensures.value c.in_default-add_block.ensures.encoded in
+    let m : c.len-2.result ≡ length t.buffer.items = search rules in
+    (room.0, omega (arith, n, room.1), omega (arith, m, ap length buffer, room.2))
 
 pub invariant_of-self-2 : goal.invariant_of-self-2
 invariant_of-self-2 g c =
-    let works : c.self.inside.index_writer.failed ≡ false = ap (λ (x : Cut). x.failed) c.self.view_is ∙ c.requires.works in
-    let cs : chunks_in V4 (length c.self.inside.index_writer.handles) c.self.inside.file_writer.bytes ≡ c.args.self.now.chunks = ap (λ (x : Cut). x.chunks) c.self.view_is in
-    let strict : IsStrict (joined (chunks_in V4 (length c.self.inside.index_writer.handles) c.self.inside.file_writer.bytes) ++ c.args.chunk.now.items) = rw cs c.requires.strict in
-    let w = c.self.inside.file_writer in
-    let items = c.deref-2.ensures.value in
-    let readable = subst (λ (x : List Entry). IsReadable V4 x) items c.in_ok-handle.ensures.readable in
-    let handle : c.in_ok-handle.handle ≡ handle_of V4 (length w.bytes) c.args.chunk.now.items = c.in_ok-handle.ensures.handle ∙ ap (λ (x : List Entry). handle_of V4 (length w.bytes) x) items in
-    let bytes : c.write_chunk.new.file_writer ≡ record w { bytes = w.bytes ++ data_block V4 c.args.chunk.now.items } = c.in_ok-handle.ensures.ok ∙ ap (λ (x : List Entry). record w { bytes = w.bytes ++ data_block V4 x }) items in
-    let hs : c.register_data_block.new.self.handles ≡ c.self.inside.index_writer.handles ++ handle_of V4 (length w.bytes) c.args.chunk.now.items ∷ [] = c.in_ok-register_data_block.ensures.ok ∙ ap (λ (h : Handle). c.self.inside.index_writer.handles ++ h ∷ []) handle in
-    let n : vec_len c.args.chunk.now ≡ length c.args.chunk.now.items = search rules in
-    let place = last_place _ _ _ c.deref.ensures.value c.in-Some.ensures.value in
-    let last : c.pop.result ≡ Some (last_entry c.args.chunk.now.items) = last_popped _ _ c.in-Some.last.now _ _ c.deref.ensures.value c.in-Some.ensures.value n (c.pop.ensures.value c.in-Some.last.now (omega (arith, n, place.0))) in
-    let more = cut_more _ w c.write_chunk.new.file_writer c.self.inside.index_writer.handles c.register_data_block.new.self.handles c.self.inside.last c.pop.result c.self.inside.index_writer.failed c.register_data_block.new.self.failed c.args.chunk.now.items c.self.invariant.0 works strict readable bytes hs last in
-    let le = at_least_blocks _ _ _ _ _ more in
-    let lt : length c.write_chunk.new.file_writer.bytes < 2 ^ 64 = omega arith in
-    (held_by_bytes _ _ _ _ _ more, rw (held_again _ _ _ _ _ more) (omega (arith, (sizes _ more.readable).items, le, lt)))
+    let i = c.self.inside in
+    let old = chunks_in V4 (length i.index_writer.handles) i.file_writer.bytes in
+    let cs : old ≡ c.args.self.now.chunks = ap (λ (x : Cut). x.chunks) c.self.view_is in
+    let t = c.add_block.new in
+    let es = c.args.chunk.now.items in
+    let more = added_is old c.args.self.now.chunks c.deref-2.result.now es i.file_writer t.file_writer i.index_writer.handles t.index_writer.handles i.last (Some c.in-Some.last.now) i.index_writer.failed t.index_writer.failed c.self.invariant.0 cs c.deref-2.ensures.value c.requires.strict c.in_default-add_block.ensures.added in
+    let n : vec_len c.args.chunk.now ≡ length es = search rules in
+    let place = last_place _ es c.in-Some.last.now c.deref.ensures.value c.in-Some.ensures.value in
+    let last : c.pop.result ≡ Some (last_entry es) = last_popped _ es c.in-Some.last.now _ _ c.deref.ensures.value c.in-Some.ensures.value n (c.pop.ensures.value c.in-Some.last.now (omega (arith, n, place.0))) in
+    let popped = subst (λ (o : Option Entry). AreCut (old ++ es ∷ []) t.file_writer t.index_writer.handles o t.index_writer.failed) {y = c.replace.new.dest} (sym (c.replace.ensures.after ∙ last ∙ ap (λ (y : Entry). Some y) place.1)) more in
+    let le = at_least_blocks (old ++ es ∷ []) t.file_writer t.index_writer.handles (Some c.in-Some.last.now) t.index_writer.failed more in
+    let lt : length t.file_writer.bytes < 2 ^ 64 = omega arith in
+    let again = held_again (old ++ es ∷ []) t.file_writer t.index_writer.handles (Some c.in-Some.last.now) t.index_writer.failed more in
+    (held_by_bytes _ _ _ _ _ popped, rw again (omega (arith, (sizes (old ++ es ∷ []) more.readable).items, le, lt)))
 
 pub returns-clause-ok : goal.returns-clause-ok
 returns-clause-ok g c =
-    let works : c.self.inside.index_writer.failed ≡ false = ap (λ (x : Cut). x.failed) c.self.view_is ∙ c.requires.works in
-    let cs : chunks_in V4 (length c.self.inside.index_writer.handles) c.self.inside.file_writer.bytes ≡ c.args.self.now.chunks = ap (λ (x : Cut). x.chunks) c.self.view_is in
-    let strict : IsStrict (joined (chunks_in V4 (length c.self.inside.index_writer.handles) c.self.inside.file_writer.bytes) ++ c.args.chunk.now.items) = rw cs c.requires.strict in
-    let w = c.self.inside.file_writer in
-    let items = c.deref-2.ensures.value in
-    let readable = subst (λ (x : List Entry). IsReadable V4 x) items c.in_ok-handle.ensures.readable in
-    let handle : c.in_ok-handle.handle ≡ handle_of V4 (length w.bytes) c.args.chunk.now.items = c.in_ok-handle.ensures.handle ∙ ap (λ (x : List Entry). handle_of V4 (length w.bytes) x) items in
-    let bytes : c.write_chunk.new.file_writer ≡ record w { bytes = w.bytes ++ data_block V4 c.args.chunk.now.items } = c.in_ok-handle.ensures.ok ∙ ap (λ (x : List Entry). record w { bytes = w.bytes ++ data_block V4 x }) items in
-    let hs : c.register_data_block.new.self.handles ≡ c.self.inside.index_writer.handles ++ handle_of V4 (length w.bytes) c.args.chunk.now.items ∷ [] = c.in_ok-register_data_block.ensures.ok ∙ ap (λ (h : Handle). c.self.inside.index_writer.handles ++ h ∷ []) handle in
-    let more = cut_more _ w c.write_chunk.new.file_writer c.self.inside.index_writer.handles c.register_data_block.new.self.handles c.self.inside.last (Some (last_entry c.args.chunk.now.items)) c.self.inside.index_writer.failed c.register_data_block.new.self.failed c.args.chunk.now.items c.self.invariant.0 works strict readable bytes hs refl in
-    held_again _ _ _ _ _ more ∙ ap (λ (x : List (List Entry)). x ++ c.args.chunk.now.items ∷ []) cs ∙ ap (λ (x : List (List Entry)). c.args.self.now.chunks ++ x) (sym (rest_is c.args.chunk.now.items readable.some))
+    let i = c.self.inside in
+    let old = chunks_in V4 (length i.index_writer.handles) i.file_writer.bytes in
+    let cs : old ≡ c.args.self.now.chunks = ap (λ (x : Cut). x.chunks) c.self.view_is in
+    let t = c.add_block.new in
+    let es = c.args.chunk.now.items in
+    let more = added_is old c.args.self.now.chunks c.deref-2.result.now es i.file_writer t.file_writer i.index_writer.handles t.index_writer.handles i.last (Some c.in-Some.last.now) i.index_writer.failed t.index_writer.failed c.self.invariant.0 cs c.deref-2.ensures.value c.requires.strict c.in_default-add_block.ensures.added in
+    let place = last_place _ es c.in-Some.last.now c.deref.ensures.value c.in-Some.ensures.value in
+    held_again (old ++ es ∷ []) t.file_writer t.index_writer.handles (Some c.in-Some.last.now) t.index_writer.failed more ∙ ap (λ (x : List (List Entry)). x ++ es ∷ []) cs ∙ ap (λ (x : List (List Entry)). c.args.self.now.chunks ++ x) (sym (rest_is es place.0))
 
 pub returns-clause-counted : goal.returns-clause-counted
 returns-clause-counted g c =
-    let works : c.self.inside.index_writer.failed ≡ false = ap (λ (x : Cut). x.failed) c.self.view_is ∙ c.requires.works in
-    let cs : chunks_in V4 (length c.self.inside.index_writer.handles) c.self.inside.file_writer.bytes ≡ c.args.self.now.chunks = ap (λ (x : Cut). x.chunks) c.self.view_is in
-    let strict : IsStrict (joined (chunks_in V4 (length c.self.inside.index_writer.handles) c.self.inside.file_writer.bytes) ++ c.args.chunk.now.items) = rw cs c.requires.strict in
-    let w = c.self.inside.file_writer in
-    let items = c.deref-2.ensures.value in
-    let readable = subst (λ (x : List Entry). IsReadable V4 x) items c.in_ok-handle.ensures.readable in
-    let handle : c.in_ok-handle.handle ≡ handle_of V4 (length w.bytes) c.args.chunk.now.items = c.in_ok-handle.ensures.handle ∙ ap (λ (x : List Entry). handle_of V4 (length w.bytes) x) items in
-    let bytes : c.write_chunk.new.file_writer ≡ record w { bytes = w.bytes ++ data_block V4 c.args.chunk.now.items } = c.in_ok-handle.ensures.ok ∙ ap (λ (x : List Entry). record w { bytes = w.bytes ++ data_block V4 x }) items in
-    let hs : c.register_data_block.new.self.handles ≡ c.self.inside.index_writer.handles ++ handle_of V4 (length w.bytes) c.args.chunk.now.items ∷ [] = c.in_ok-register_data_block.ensures.ok ∙ ap (λ (h : Handle). c.self.inside.index_writer.handles ++ h ∷ []) handle in
-    let more = cut_more _ w c.write_chunk.new.file_writer c.self.inside.index_writer.handles c.register_data_block.new.self.handles c.self.inside.last (Some (last_entry c.args.chunk.now.items)) c.self.inside.index_writer.failed c.register_data_block.new.self.failed c.args.chunk.now.items c.self.invariant.0 works strict readable bytes hs refl in
+    let i = c.self.inside in
+    let old = chunks_in V4 (length i.index_writer.handles) i.file_writer.bytes in
+    let cs : old ≡ c.args.self.now.chunks = ap (λ (x : Cut). x.chunks) c.self.view_is in
+    let t = c.add_block.new in
+    let es = c.args.chunk.now.items in
+    let more = added_is old c.args.self.now.chunks c.deref-2.result.now es i.file_writer t.file_writer i.index_writer.handles t.index_writer.handles i.last (Some c.in-Some.last.now) i.index_writer.failed t.index_writer.failed c.self.invariant.0 cs c.deref-2.ensures.value c.requires.strict c.in_default-add_block.ensures.added in
     let are = subst (λ (x : List (List Entry)). c.args.meta.now ≡ with_cut x c.args.meta.now) (sym cs) c.requires.counts.are in
-    let le = at_least_blocks _ _ _ _ _ more in
-    let lt : length c.write_chunk.new.file_writer.bytes < 2 ^ 64 = omega arith in
-    let room = room_for c.args.meta.now _ c.args.chunk.now.items _ are more.readable le lt in
-    let place = last_place _ _ _ c.deref.ensures.value c.in-Some.ensures.value in
-    let n : c.len.result ≡ length c.args.chunk.now.items = search rules in
-    let buffer : c.write_chunk.new.buffer.items ≡ payload V4 c.args.chunk.now.items = c.in_ok-handle.ensures.encoded ∙ ap (payload V4) items in
-    let m : c.len-2.result ≡ length c.write_chunk.new.buffer.items = search rules in
-    let key : c.in_ok-last_key.last_key ≡ (last_entry c.args.chunk.now.items).user_key = c.in_ok-last_key.ensures.cases ∙ ap (λ (y : Entry). y.user_key) c.last-2.view_is ∙ ap (λ (y : Entry). y.user_key) (sym place.1) in
-    let at = c.position.ensures ∙ exact_blocks _ _ _ _ _ more c.in_ok-register_data_block.ensures.works in
-    c.count_block.ensures ∙ rw (n, m ∙ ap length buffer, key, held_again _ _ _ _ _ more) (counted_more c.args.meta.now _ c.args.chunk.now.items _ are place.0 at)
+    let le = at_least_blocks (old ++ es ∷ []) t.file_writer t.index_writer.handles (Some c.in-Some.last.now) t.index_writer.failed more in
+    let lt : length t.file_writer.bytes < 2 ^ 64 = omega arith in
+    let place = last_place _ es c.in-Some.last.now c.deref.ensures.value c.in-Some.ensures.value in
+    let n : c.len.result ≡ length es = search rules in
+    let buffer : t.buffer.items ≡ payload V4 es = subst (λ (x : List Entry). t.buffer.items ≡ payload V4 x) c.deref-2.ensures.value c.in_default-add_block.ensures.encoded in
+    let m : c.len-2.result ≡ length t.buffer.items = search rules in
+    let key : c.in_ok-last_key.last_key ≡ (last_entry es).user_key = c.in_ok-last_key.ensures.cases ∙ ap (λ (y : Entry). y.user_key) c.last-2.view_is ∙ ap (λ (y : Entry). y.user_key) (sym place.1) in
+    let at = c.position.ensures ∙ exact_blocks (old ++ es ∷ []) t.file_writer t.index_writer.handles (Some c.in-Some.last.now) t.index_writer.failed more c.in_default-add_block.ensures.works in
+    let again = held_again (old ++ es ∷ []) t.file_writer t.index_writer.handles (Some c.in-Some.last.now) t.index_writer.failed more in
+    c.count_block.ensures ∙ rw (n, m ∙ ap length buffer, key, again) (counted_more c.args.meta.now old es _ are place.0 at)
