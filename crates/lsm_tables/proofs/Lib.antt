@@ -17,6 +17,7 @@ pub mod Together
 pub mod ScanSteps
 pub mod RunWriting
 pub mod RunBack
+pub mod OneRun
 pub mod Packing
 pub mod PackingTies
 pub mod PackingRuns

@@ -1,13 +1,13 @@
 -- A run of a list that is read back.
-use Rattle.std.proofs.Common.{◌≡◌, refl, sym, ◌∙◌, ap, subst, ℕ, false, inl, inr, List, [], ◌∷◌, append-nil}
-use Rattle.std.specs.Prelude.{Option, Ok, Err, IfOk, Result}
+use Rattle.std.proofs.Common.{◌≡◌, refl, sym, ◌∙◌, ap, subst, ℕ, false, true, inl, inr, List, [], ◌∷◌, append-nil}
+use Rattle.std.specs.Prelude.{Option, Ok, Err, IfErr, IfOk, IsErrAnd, Result}
 use Rattle.std.specs.List.{AllByRecursion}
 use Rattle.std.specs.declared.ops.Bound.{Bound}
 use Rattle.std.proofs.lemmas.Bool.{cases_Bool}
 use Rattle.sst_entries.specs.declared.error.Error.{Error}
 use Rattle.sst_entries.specs.declared.error.Error.TheVariants.{OutOfMemory}
 use Rattle.sst_entries.specs.Entry.{Entry}
-use Rattle.sst_entries.specs.Error.{is_memory}
+use Rattle.sst_entries.specs.Error.{Fails, is_memory}
 use Rattle.sst_entries.specs.Stream.{ok_results}
 use Rattle.lsm_files.specs.Chunks.{joined}
 use Rattle.lsm_merge.specs.Union.{AtMost, Ascends, entries_among, insert_sorted, sort_entries}
@@ -57,3 +57,12 @@ told_alone found e h = elim (cases_Bool (is_memory e)) [
   | inl memory ↦ memory_is e memory
   | inr fine ↦ absurd (let wrong : read found ≡ Err e = h fine in cc)
 ]
+
+-- ---- any tables
+
+pub fails_refusal : {X Y : Type 0} (r : Result X Error) (e : Error) (told : Result Y Error) → IsErrAnd r (λ y. y ≡ e) → Fails e told → IfErr r (λ x. Fails x told)
+fails_refusal (Ok x) e told is fails = tt
+fails_refusal (Err y) e told is fails = subst (λ (x : Error). Fails x told) (sym is) fails
+
+pub memory_fails : {X Y : Type 0} (r : Result X Error) (e : Error) (told : Result Y Error) → IsErrAnd r (λ y. y ≡ e) → e ≡ OutOfMemory → IfErr r (λ x. Fails x told)
+memory_fails r e told is memory = fails_refusal r e told is (λ fine. absurd (let both : is_memory e ≡ true = ap is_memory memory in let no : false ≡ true = sym fine ∙ both in cc))

@@ -145,11 +145,11 @@ pub fn compact_runs<A: Allocator + Clone>(
     write_all(stream, writer)
 }
 
-/// Laws of reads of several runs where a part of them is compacted, without a filter, and the rest stays: where nothing is
-/// evicted or zeroed and the part has no weak tombstone, or of each key all others are newer than the part. A point read whose
-/// bound is the watermark or above sees the same of each key before and after, and so does a range of the newest versions
-/// within any bounds. No key is there twice under one number then, and where each number was below the largest one, each still
-/// is: so the runs may be compacted again.
+/// Laws of reads of several runs where a part of them is compacted, without a filter, and the rest stays: no key was there
+/// twice under one number, and nothing is evicted or zeroed and the part has no weak tombstone, or of each key all others are
+/// newer. A point read whose bound is the watermark or above sees the same of each key before and after, and so does a range of
+/// the newest versions within any bounds. Again no key is there twice under one number, and where each number was below the
+/// largest one, each still is: so the runs may be compacted again.
 ///
 /// What is said holds wherever the new runs stand among the others; the last clause says it of runs side by side. The call does
 /// nothing: its contract says so.

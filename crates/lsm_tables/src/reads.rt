@@ -1,9 +1,11 @@
 //! What a point read and a range give together, of several runs and of one.
-ghost use Rattle.std.specs.Prelude.{◌≡◌, ℕ, IfErr, IfOk, List, map};
+ghost use Rattle.std.specs.Prelude.{◌≡◌, ◌∷◌, ℕ, [], IfErr, IfOk, List, None, Ok, map};
 ghost use Rattle.std.specs.Arc.{arc_value};
+ghost use Rattle.std.specs.List.{AllByRecursion};
+ghost use Rattle.sst_entries.specs.Error.{Fails};
 ghost use Rattle.sst_entries.specs.declared.error.Error.TheVariants.{OutOfMemory};
-ghost use Rattle.lsm_tables.specs.Words.{CanDeal, Entry, IsRunOfList, ReadsOf, RunsHoldLists};
-ghost use Rattle.lsm_tables.specs.Words.{lift, union_in};
+ghost use Rattle.lsm_tables.specs.Words.{CanDeal, Entry, IsInOrder, IsOverSpans, IsRunOfList};
+ghost use Rattle.lsm_tables.specs.Words.{ReadsOf, RunsHoldLists, lift, range_of, runs_told, union_in};
 
 use crate::{RunReader, Table, get_runs, range_runs};
 use lsm_merge::Merger;
@@ -41,6 +43,17 @@ pub(crate) fn read_runs<A: Allocator + Clone>(
         ⟦<MvccStream<Merger<RunReader<A>, A>> as DoubleEndedIterator>⟧.can_next_back read.1) }
     ensures taken { (lists : List (List (List Entry))) →
         RunsHoldLists (map arc_value runs.now) lists → IfErr result (λ e. e ≡ OutOfMemory) }
+    // Of any tables in runs in order the point read is what they tell, and memory aside so is the refusal;
+    ensures told { AllByRecursion (IsInOrder range_of) (map arc_value runs.now) →
+        IfOk result (λ read. runs_told key.now seqno None (map arc_value runs.now) ≡ Ok read.0) }
+    ensures fails { AllByRecursion (IsInOrder range_of) (map arc_value runs.now) →
+        IfErr result (λ e. Fails e (runs_told key.now seqno None (map arc_value runs.now))) }
+    // and the range is over the spans within the bounds.
+    ensures steps { let gives = ⟦<MvccStream<Merger<RunReader<A>, A>> as Iterator>⟧.next_gives in
+        let back_gives =
+        ⟦<MvccStream<Merger<RunReader<A>, A>> as DoubleEndedIterator>⟧.next_back_gives in
+        AllByRecursion (IsInOrder range_of) (map arc_value runs.now) → IfOk result (λ read.
+        IsOverSpans gives back_gives range.0 range.1 (map arc_value runs.now) read.1) }
 {
     let found = get_runs(runs, key, seqno)?;
     let stream = range_runs(alloc, runs, range)?;
@@ -48,7 +61,7 @@ pub(crate) fn read_runs<A: Allocator + Clone>(
 }
 
 /// What a point read of one run finds, and the newest version of each key of it within two bounds: [`get_runs`] and
-/// [`range_runs`] of this run alone. Of a run whose tables hold a list it is refused for want of memory alone.
+/// [`range_runs`] of this run alone. Refused as [`get_runs`]; of a run whose tables hold a list for want of memory alone.
 pub fn read_run<A: Allocator + Clone>(
     alloc: A,
     run: Run<Table<A>, A>,
@@ -70,6 +83,17 @@ pub fn read_run<A: Allocator + Clone>(
         ⟦<MvccStream<Merger<RunReader<A>, A>> as DoubleEndedIterator>⟧.can_next_back read.1) }
     ensures taken { (es : List Entry) (g : ℕ) → IsRunOfList es g run →
         IfErr result (λ e. e ≡ OutOfMemory) }
+    // Of any tables in a run in order the point read is what they tell, and memory aside so is the refusal;
+    ensures told { IsInOrder range_of run →
+        IfOk result (λ read. runs_told key.now seqno None (run ∷ []) ≡ Ok read.0) }
+    ensures fails { IsInOrder range_of run →
+        IfErr result (λ e. Fails e (runs_told key.now seqno None (run ∷ []))) }
+    // and the range is over the span within the bounds.
+    ensures steps { let gives = ⟦<MvccStream<Merger<RunReader<A>, A>> as Iterator>⟧.next_gives in
+        let back_gives =
+        ⟦<MvccStream<Merger<RunReader<A>, A>> as DoubleEndedIterator>⟧.next_back_gives in
+        IsInOrder range_of run → IfOk result (λ read.
+        IsOverSpans gives back_gives range.0 range.1 (run ∷ []) read.1) }
 {
     let runs = [Arc::new(alloc.clone()?, run)?];
     read_runs(alloc, &runs, key, seqno, range)
