@@ -1,18 +1,16 @@
 //! Writing a table.
 ghost use Rattle.std.specs.Prelude.{◌≡◌, ◌↔◌, ◌<◌, ◌≤◌, ◌+◌, ◌*◌, ◌^◌, ℕ, List, [], ◌∷◌, ◌++◌, None, Some, false, true, length, IsTrue, IfOk, IfErr, OnOk, OnErr, MatchResult, MatchOption};
-ghost use Rattle.lsm_writers.specs.Words.{EntryFits, Faults, FaultsFirst, HasNoVersion, IsFinished, IsFresh, IsSmallFilter};
-ghost use Rattle.lsm_writers.specs.Words.{IsStrict, LabelFits, WritesTable, appended, entries_size, entry_size};
-ghost use Rattle.lsm_writers.specs.Words.{failed_fault, filter_with_size, finish_fault, fnv1a, gained};
-ghost use Rattle.lsm_writers.specs.Words.{index_with_size, item_fault, label_of, last_of, may_be_written};
-ghost use Rattle.lsm_writers.specs.Words.{AreParts, CanRegister, CountsCut, Entry, HaveParts, IsTaken, MayHaveKeys, cut_writing};
-ghost use Rattle.lsm_writers.specs.Words.{entries_fault, finished, is_full, joined, registered_key, tally_of};
-ghost use Rattle.lsm_writers.specs.Words.{fresh_writing, metadata_of, new_writing, sections_fault, spilled, starts_key, version_section, write_fault, written};
+ghost use Rattle.lsm_writers.specs.Words.{AreParts, CanRegister, CountsCut, Entry, EntryFits, Faults, FaultsFirst, HasNoVersion, HaveParts, IsFinished};
+ghost use Rattle.lsm_writers.specs.Words.{IsFresh, IsSmallFilter, IsStrict, IsTaken, LabelFits, MayHaveKeys, WritesTable, appended, cut_writing};
+ghost use Rattle.lsm_writers.specs.Words.{entries_fault, entries_size, entry_size, failed_fault, filter_with_size, finish_fault, finished, fnv1a};
+ghost use Rattle.lsm_writers.specs.Words.{fresh_writing, gained, index_with_size, is_full, item_fault, joined, label_of, last_of, may_be_written, metadata_of};
+ghost use Rattle.lsm_writers.specs.Words.{new_writing, registered_key, sections_fault, spilled, starts_key, tally_of, version_section, write_fault, written};
+ghost use Rattle.std.specs.List.{AllByRecursion};
 ghost use Rattle.std.specs.Option.{option_copied};
 ghost use Rattle.sst_entries.specs.declared.error.Error.TheVariants.{OutOfMemory};
 ghost use Rattle.sst_sections.specs.declared.version.TableVersion.TheVariants.{V4};
 ghost use Rattle.lsm_files.specs.declared.options.FilterKind.TheVariants.{Partitioned as PartitionedFilter};
 ghost use Rattle.lsm_files.specs.declared.options.IndexKind.TheVariants.{Partitioned as PartitionedIndex};
-ghost use Rattle.std.specs.List.{AllByRecursion};
 
 mod data_blocks;
 mod filter;

@@ -147,7 +147,8 @@ fn add_block<A: Allocator + Clone>(
 ) -> Result<(), Error>
     requires last { last_of None items.now ≡ Some last.now }
     requires fit { entries_fault items.now ≡ None }
-    requires cut { CanCut file_writer.old index_writer.old.handles index_writer.old.failed items.now }
+    requires cut { CanCut file_writer.old index_writer.old.handles index_writer.old.failed
+        items.now }
     ensures added { OnOk result ((chunks : List (List Entry)) → (before : Option Entry) →
         AreCut chunks file_writer.old index_writer.old.handles before index_writer.old.failed →
         IsStrict (joined chunks ++ items.now) → AreCut (chunks ++ items.now ∷ [])
