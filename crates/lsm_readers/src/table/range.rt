@@ -81,7 +81,7 @@ impl<A: Allocator + Clone> Table<A> {
     {
         let index = self.block_index()?;
         let iter = self.unbounded_by(&index);
-        let_go(index);
+        drop(index);
         iter
     }
 
@@ -98,9 +98,6 @@ impl<A: Allocator + Clone> Table<A> {
         Iter::new(inner.global_seqno, &self.source, handles, compression)
     }
 }
-
-// Gives a value up. What is generic in it looks at none of its parts, which makes this cheap to prove for a large one.
-fn let_go<T: Drop>(_value: T) {}
 
 /// Sets a lower bound, where there is one.
 fn set_lower<A: Allocator + Clone>(iter: &mut Iter<A>, lower: Bound<UserKey<A>>)
