@@ -6,7 +6,6 @@ ghost use Rattle.sst_entries.specs.Error.{Faults};
 ghost use Rattle.lsm_files.specs.Options.{label_of};
 ghost use Rattle.lsm_writers.specs.Writing.{IsTableOf, IsWritable, list_fault};
 
-use crate::writer::let_go;
 use crate::{FinishedTable, TableId, Timestamp, Writer};
 use sst_blocks::{Error, InternalValue, SeqNo};
 use sst_entries::are_strict;
@@ -46,7 +45,7 @@ pub fn write_list<A: Allocator + Clone>(
     let mut writer = Writer::new(alloc, id, initial_level, created_at)?;
     for item in items {
         if let Err(error) = writer.write(item) {
-            let_go(writer);
+            drop(writer);
             return Err(error);
         }
     }

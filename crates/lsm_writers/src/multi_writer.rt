@@ -11,7 +11,6 @@ ghost use Rattle.lsm_writers.specs.Tables.{new_tables, next_writing, rotation_fa
 ghost use Rattle.lsm_writers.specs.Tables.{CutLaw, IsStanding, OneCutLaw, OneKeyLaw, TakesLaw};
 ghost use Rattle.lsm_writers.specs.Tables.{took, took_fault, turn_fault, with_options};
 
-use crate::writer::let_go;
 use crate::{FinishedTable, TableIds, Timestamp, Writer};
 use lsm_files::BloomConstructionPolicy;
 use sst_blocks::{CompressionType, Error, InternalKey, InternalValue, SeqNo};
@@ -122,7 +121,7 @@ impl<A: Allocator + Clone> MultiWriter<A> {
         ensures kept { self.old.failed ≡ true → self.new ≡ self.old }
     {
         if self.failed {
-            let_go(item);
+            drop(item);
             return Err(Error::WriterFailed);
         }
         self.failed = true;
@@ -163,7 +162,7 @@ impl<A: Allocator + Clone> MultiWriter<A> {
         ensures idle { OnErr result (all_written self ≡ [] → self.failed ≡ true) }
     {
         if self.failed {
-            let_go(self);
+            drop(self);
             return Err(Error::WriterFailed);
         }
         let MultiWriter {

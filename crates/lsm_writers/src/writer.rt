@@ -181,7 +181,7 @@ impl<A: Allocator + Clone> Writer<A> {
         ensures failed { OnErr result (self.new ≡ record self.old { failed = true }) }
     {
         if self.failed {
-            let_go(item);
+            drop(item);
             return Err(Error::WriterFailed);
         }
         self.failed = true;
@@ -249,11 +249,11 @@ impl<A: Allocator + Clone> Writer<A> {
         let spilled = self.spill_block();
         let item_count = self.meta.item_count;
         if let Err(error) = spilled {
-            let_go(self);
+            drop(self);
             return Err(error);
         }
         if item_count == 0 {
-            let_go(self);
+            drop(self);
             return Ok(None);
         }
         Ok(Some(self.table()?))
@@ -279,7 +279,7 @@ impl<A: Allocator + Clone> Writer<A> {
             filter_writer,
             ..
         } = self;
-        let_go(chunk);
+        drop(chunk);
         let (mut file_writer, index_writer, mut buffer) = blocks.into_parts();
         let index_writer = index_writer.into_kind(options.index_kind);
         let sections = write_sections(
@@ -291,10 +291,10 @@ impl<A: Allocator + Clone> Writer<A> {
             &options,
             &meta,
         );
-        let_go(meta);
-        let_go(buffer);
+        drop(meta);
+        drop(buffer);
         if let Err(error) = sections {
-            let_go(file_writer);
+            drop(file_writer);
             return Err(error);
         }
         let (bytes, checksum) = file_writer.finish()?;
@@ -444,9 +444,6 @@ pub struct FinishedTable<A: Allocator = Global> {
     /// The sections and their trailer.
     pub bytes: Slice<A>,
 }
-
-// Gives a value up. What is generic in it looks at none of its parts, which makes this cheap to prove for a large one.
-pub(crate) fn let_go<T: Drop>(_value: T) {}
 
 /// Writes the number of the version. Refused [`Error::OutOfMemory`] alone; nothing is written then.
 fn write_version<A: Allocator + Clone>(file_writer: &mut SectionWriter<A>) -> Result<(), Error>

@@ -10,7 +10,6 @@ ghost use Rattle.sst_sections.specs.declared.section.SectionName.TheVariants.{Da
 ghost use Rattle.sst_sections.specs.declared.version.TableVersion.TheVariants.{V4};
 ghost use Rattle.std.specs.List.{AllByRecursion};
 
-use crate::writer::let_go;
 use crate::writer::meta::Metadata;
 use lsm_files::Options;
 use lsm_index_writers::{BlockIndexWriter, FullIndexWriter};
@@ -107,12 +106,12 @@ impl<A: Allocator + Clone> DataBlocks<A> {
             last,
             options,
         ) {
-            let_go(last_key);
+            drop(last_key);
             return Err(error);
         }
         let end = BlockOffset(self.file_writer.position());
         meta.count_block(chunk.len(), self.block_buffer.len(), end, last_key);
-        let_go(mem::replace(&mut self.last, chunk.pop()));
+        drop(mem::replace(&mut self.last, chunk.pop()));
         chunk.clear();
         Ok(())
     }

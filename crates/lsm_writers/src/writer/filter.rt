@@ -4,7 +4,6 @@ ghost use Rattle.lsm_writers.specs.Words.{CanRegister, Faults, HasKeys, HasNoFil
 ghost use Rattle.lsm_writers.specs.Words.{filter_fault, registered_key, tenths_of};
 ghost use Rattle.sst_entries.specs.declared.error.Error.TheVariants.{OutOfMemory};
 
-use crate::writer::let_go;
 use lsm_files::{BloomConstructionPolicy, FilterKind, Options};
 use lsm_filter_writers::{
     FilterWriter, FilterWriterImpl, FullFilterWriter, PartitionedFilterWriter, small_partitions_fit,
@@ -63,10 +62,10 @@ pub(crate) fn register_key<A: Allocator + Clone>(
     }
     let mut writer = filter_writer_of(alloc.clone()?, options)?;
     if let Err(error) = writer.register_key(key) {
-        let_go(writer);
+        drop(writer);
         return Err(error);
     }
-    let_go(filter_writer.replace(writer));
+    drop(filter_writer.replace(writer));
     Ok(())
 }
 
