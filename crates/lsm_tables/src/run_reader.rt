@@ -37,9 +37,6 @@ impl<A: Allocator> Model for RunReader<A> {
     ghost view = { λ r. record { unopened = r.unopened; front = r.lo_reader; back = r.hi_reader } };
 }
 
-// Gives a value up. What is generic in it looks at none of its parts, which makes this cheap to prove for a large one.
-fn let_go<T: Drop>(_value: T) {}
-
 /// The reader of one table, where one is opened.
 #[derive(Drop)]
 struct Opened<A: Allocator> {
@@ -67,14 +64,14 @@ impl<A: Allocator> Opened<A> {
     fn set(&mut self, reader: Iter<A>)
         ensures { self.new ≡ Some reader }
     {
-        let_go(self.reader.replace(reader));
+        drop(self.reader.replace(reader));
     }
 
     /// Lets go the table.
     fn end(&mut self)
         ensures { self.new ≡ None }
     {
-        let_go(self.reader.take());
+        drop(self.reader.take());
     }
 }
 
