@@ -1,4 +1,3 @@
-pub mod CommandLemmas
 pub mod CompactLemmas
 pub mod DealtLemmas
 pub mod EntryLemmas
@@ -6,7 +5,6 @@ pub mod PackLemmas
 pub mod PendingLemmas
 pub mod RefusalLemmas
 pub mod RunLemmas
-pub mod PrintLemmas
 pub mod ScriptLemmas
 pub mod StoreLemmas
 pub mod UnionLemmas

@@ -2,14 +2,14 @@
 use Rattle.std.specs.Prelude.{◌≡◌, ◌<◌, ℕ, ◌+◌, List, [], ◌∷◌, ◌++◌, length, Option, Some, None, Result, Ok, Err, MatchResult, ◌⊎◌}
 use Rattle.std.specs.Io.KnownBytes.{Appends}
 use Rattle.sst_entries.specs.Error.{number_of}
-use Rattle.sst_script.specs.declared.command.Command.{Command}
-use Rattle.sst_script.specs.declared.print.Answer.{Answer}
-use Rattle.sst_script.specs.declared.stop.Failure.{Failure}
-use Rattle.sst_script.specs.declared.stop.Failure.TheVariants.{BadLine, Refused}
-use Rattle.sst_script.specs.declared.stop.Stop.{Stop}
-use Rattle.sst_script.specs.declared.stop.Stop.TheVariants.{Line, Input, Output}
-use Rattle.sst_script.specs.Answer.{answer_lines, refusal_line}
-use Rattle.sst_script.specs.Command.{words_of, AskFor}
+use Rattle.sst_commands.specs.declared.command.Command.{Command}
+use Rattle.sst_commands.specs.declared.print.Answer.{Answer}
+use Rattle.sst_commands.specs.declared.stop.Failure.{Failure}
+use Rattle.sst_commands.specs.declared.stop.Failure.TheVariants.{BadLine, Refused}
+use Rattle.sst_commands.specs.declared.stop.Stop.{Stop}
+use Rattle.sst_commands.specs.declared.stop.Stop.TheVariants.{Line, Input, Output}
+use Rattle.sst_commands.specs.Answer.{answer_lines, refusal_line}
+use Rattle.sst_commands.specs.Command.{words_of, AskFor}
 use Rattle.sst_script.specs.Lines.{HasLines}
 use Rattle.sst_script.specs.Script.{Store, store, Executes}
 

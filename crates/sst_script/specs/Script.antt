@@ -13,12 +13,12 @@ use Rattle.lsm_tables.specs.Chain.{AreCutOf, ids_behind, run_label, tables_fault
 use Rattle.lsm_tables.specs.Compacted.{rules_by}
 use Rattle.lsm_tables.specs.RunParts.{range_of}
 use Rattle.lsm_writers.specs.Writing.{may_be_written}
-use Rattle.sst_script.specs.declared.command.Command.{Command}
-use Rattle.sst_script.specs.declared.command.Command.TheVariants.{Entry as Add, Table, Get, Range, Compact, Pack}
-use Rattle.sst_script.specs.declared.print.Answer.{Answer}
-use Rattle.sst_script.specs.declared.print.Answer.TheVariants.{Silent, Tables, Runs as PackedInto, Found, Entries}
-use Rattle.sst_script.specs.declared.stop.Failure.{Failure}
-use Rattle.sst_script.specs.declared.stop.Failure.TheVariants.{BadLine, Refused}
+use Rattle.sst_commands.specs.declared.command.Command.{Command}
+use Rattle.sst_commands.specs.declared.command.Command.TheVariants.{Entry as Add, Table, Get, Range, Compact, Pack}
+use Rattle.sst_commands.specs.declared.print.Answer.{Answer}
+use Rattle.sst_commands.specs.declared.print.Answer.TheVariants.{Silent, Tables, Runs as PackedInto, Found, Entries}
+use Rattle.sst_commands.specs.declared.stop.Failure.{Failure}
+use Rattle.sst_commands.specs.declared.stop.Failure.TheVariants.{BadLine, Refused}
 use Rattle.sst_script.specs.Runs.{Run, repeats, run_tables, union}
 
 -- what a script has stored: the entries of the next run, the runs, newest first, and the next id

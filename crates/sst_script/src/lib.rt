@@ -9,11 +9,8 @@
 //! below the watermark become 0; either may stand alone. `pack` puts the tables of all runs in the fewest runs.
 #![tactic(auto)]
 
-mod command;
 mod pending;
-mod print;
 mod runs;
 mod script;
-mod stop;
 
 pub use script::run_script;

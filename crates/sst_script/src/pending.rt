@@ -7,11 +7,11 @@ ghost use Rattle.lsm_writers.specs.Writing.{IsWritable, may_be_written};
 ghost use Rattle.lsm_tables.specs.Chain.{AreCutOf, IsRunOfList, ids_behind, run_label, tables_fault};
 ghost use Rattle.sst_script.specs.Script.{entry_failure, target_size};
 
-use crate::stop::Failure;
 use lsm_ranges::Run;
 use lsm_tables::{Table, Timestamp, write_run};
 use lsm_writers::TableIds;
 use sst_blocks::{Error, InternalValue, SeqNo, Slice, ValueType};
+use sst_commands::Failure;
 use std::alloc::Allocator;
 use std::marker::Model;
 

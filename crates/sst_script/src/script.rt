@@ -3,24 +3,24 @@ ghost use Rattle.std.specs.Prelude.{◌≡◌, ◌⊎◌, [], ◌∷◌, ◌++�
 ghost use Rattle.std.specs.Arc.{arc_value};
 ghost use Rattle.std.specs.Io.BufRead.{strip_last};
 ghost use Rattle.std.specs.Io.KnownBytes.{Appends};
-ghost use Rattle.sst_script.specs.declared.stop.Stop.TheVariants.{Input, Line, Output};
-ghost use Rattle.sst_script.specs.declared.stop.Stop.{Stop};
+ghost use Rattle.sst_commands.specs.declared.stop.Stop.TheVariants.{Input, Line, Output};
+ghost use Rattle.sst_commands.specs.declared.stop.Stop.{Stop};
 ghost use Rattle.sst_script.specs.Answering.{LineEnds, PrintEnds, ScriptEnds, outcome_text, status_of};
 ghost use Rattle.sst_script.specs.Lines.{ReadsLine};
 ghost use Rattle.sst_script.specs.Runs.{ForRuns, HasRuns};
-ghost use Rattle.sst_script.specs.Stop.{stop_text};
+ghost use Rattle.sst_commands.specs.Stop.{stop_text};
 ghost use Rattle.lsm_tables.specs.Compacted.{AreCompactable};
 ghost use Rattle.sst_script.specs.Script.{store, kept_by, CompactsRuns, Executes, PacksRuns, WritesTable};
 
-use crate::command::{Command, parse_command};
 use crate::pending::{Pending, TARGET_SIZE};
-use crate::print::{Answer, print_answer, print_refusal};
 use crate::runs::{is_repeated, newest_answer, newest_entries, share_all};
-use crate::stop::{Failure, Stop};
 use lsm_ranges::Run;
 use lsm_tables::{Table, Timestamp, compact_to_run, pack_runs};
 use lsm_writers::TableIds;
 use sst_blocks::SeqNo;
+use sst_commands::{
+    Answer, Command, Failure, Stop, parse_command, print_answer, print_refusal,
+};
 use std::alloc::{AllocError, Allocator};
 use std::io::{BufRead, BufReader, Read, Write};
 use std::sync::Arc;

@@ -1,6 +1,6 @@
 use Rattle.std.proofs.Common.{refl, subst, inl, inr}
 use Rattle.std.specs.Prelude.{Result, Ok, Err, ⊤}
-use Rattle.sst_script.specs.declared.stop.Stop.{Stop}
+use Rattle.sst_commands.specs.declared.stop.Stop.{Stop}
 use Rattle.sst_script.specs.Answering.{ScriptEnds}
 use Rattle.sst_script.proofs.script.run_script.Goals as goal
 

@@ -1,0 +1,26 @@
+use Rattle.std.proofs.Common.{◌<◌, sym, subst, List, ℕ, arith, length}
+use Rattle.std.proofs.lemmas.Bool.Decides.{nat_tests}
+use Rattle.std.proofs.KnownBytes.{Appends-nil, Appends-trans}
+use Rattle.std.specs.Io.KnownBytes.{Appends}
+use Rattle.sst_commands.specs.Answer.{entry_line}
+use Rattle.sst_commands.proofs.PrintLemmas.{lines_all, lines_more, lines_to}
+use Rattle.sst_commands.proofs.print.print_entries.Goals as goal
+
+pub loop-item-init : goal.loop-item-init
+loop-item-init g c = Appends-nil (g.W.Write.contents c.args.output.now)
+
+pub loop-item-preserved : goal.loop-item-preserved
+loop-item-preserved g c =
+    let before = g.W.Write.contents c.args.output.now in
+    let after = g.W.Write.contents c.print_entry.new.output in
+    let es = c.args.items.now in
+    let i = c.loop-item.item-index in
+    let e = c.item-item.result in
+    subst (λ (text : List ℕ). Appends before after text) (sym (lines_more es i e c.loop-item-test.true c.item-item.is))
+    (Appends-trans before (g.W.Write.contents c.loop-item.output) after (lines_to es i) (entry_line e) c.loop-item.invariant c.in_ok-print_entry.ensures)
+
+pub returns : goal.returns
+returns g c =
+    let es = c.args.items.now in
+    let some : 0 < length es = grind (c.is_empty.ensures, c.if-is_empty.false, arith, nat_tests) in
+    subst (λ (text : List ℕ). Appends (g.W.Write.contents c.args.output.now) (g.W.Write.contents c.loop-item.output) text) (sym (lines_all es c.loop-item.item-index some c.loop-item-test.false)) c.loop-item.invariant
