@@ -17,15 +17,15 @@ use Rattle.lsm_merge.proofs.UnionLemmas.{merged_union, only_union}
 use Rattle.lsm_ranges.specs.Run.{IsInOrder}
 use Rattle.lsm_readers.specs.Table.{OpenTable}
 use Rattle.lsm_writers.specs.Writing.{IsWritable}
-use Rattle.lsm_tables.specs.Chain.{AreCutOf, IsRunOfList}
-use Rattle.lsm_tables.specs.Compacted.{AreCompactable, HaveEntries}
-use Rattle.lsm_tables.specs.ReadsCompacted.{entries_in}
-use Rattle.lsm_tables.specs.RunLists.{HoldLists, RunsHoldLists}
-use Rattle.lsm_tables.specs.RunParts.{range_of}
-use Rattle.lsm_tables.specs.SeveralRuns.{union_in}
-use Rattle.lsm_tables.proofs.Compactable.{run_entries}
-use Rattle.lsm_tables.proofs.Replaced.{union_count}
-use Rattle.lsm_tables.proofs.Rising.{ascends_of}
+use Rattle.lsm_compactions.specs.Chain.{AreCutOf, IsRunOfList}
+use Rattle.lsm_compactions.specs.Compacted.{AreCompactable, HaveEntries}
+use Rattle.lsm_compactions.specs.ReadsCompacted.{entries_in}
+use Rattle.lsm_runs.specs.RunLists.{HoldLists, RunsHoldLists}
+use Rattle.lsm_runs.specs.RunParts.{range_of}
+use Rattle.lsm_runs.specs.SeveralRuns.{union_in}
+use Rattle.lsm_compactions.proofs.Compactable.{run_entries}
+use Rattle.lsm_compactions.proofs.Replaced.{union_count}
+use Rattle.lsm_runs.proofs.Rising.{ascends_of}
 use Rattle.compaction_examples.specs.Runs.{HasList, HaveAll}
 
 -- a run of a list that was written and cut

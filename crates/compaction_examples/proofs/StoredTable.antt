@@ -27,10 +27,10 @@ use Rattle.lsm_readers.specs.Answer.{lift, lifted}
 use Rattle.lsm_ranges.specs.Run.{IsInOrder}
 use Rattle.lsm_readers.specs.Table.{IsOpen, OpenTable}
 use Rattle.lsm_writers.specs.Writing.{IsWritable}
-use Rattle.lsm_tables.specs.Compacted.{AreCompactable}
-use Rattle.lsm_tables.specs.RunLists.{HoldLists, HoldsList}
-use Rattle.lsm_tables.specs.RunParts.{range_of}
-use Rattle.lsm_tables.specs.SeveralRuns.{union_in}
+use Rattle.lsm_compactions.specs.Compacted.{AreCompactable}
+use Rattle.lsm_runs.specs.RunLists.{HoldLists, HoldsList}
+use Rattle.lsm_runs.specs.RunParts.{range_of}
+use Rattle.lsm_runs.specs.SeveralRuns.{union_in}
 use Rattle.lsm_files.specs.Options.{label_of}
 use Rattle.lsm_files.specs.declared.options.Options.{Options}
 use Rattle.lsm_files.specs.declared.options.FilterKind.TheVariants.{Full as FullFilter}

@@ -5,10 +5,10 @@ use Rattle.sst_entries.specs.Entry.{Entry}
 use Rattle.lsm_files.specs.Chunks.{joined}
 use Rattle.lsm_ranges.specs.Run.{IsInOrder}
 use Rattle.lsm_readers.specs.Table.{OpenTable}
-use Rattle.lsm_tables.specs.Compacted.{HaveEntries}
-use Rattle.lsm_tables.specs.ReadsCompacted.{entries_in}
-use Rattle.lsm_tables.specs.RunLists.{HoldLists, RunsHoldLists}
-use Rattle.lsm_tables.specs.RunParts.{range_of}
+use Rattle.lsm_compactions.specs.Compacted.{HaveEntries}
+use Rattle.lsm_compactions.specs.ReadsCompacted.{entries_in}
+use Rattle.lsm_runs.specs.RunLists.{HoldLists, RunsHoldLists}
+use Rattle.lsm_runs.specs.RunParts.{range_of}
 
 -- a run in order whose tables' lists, none of them empty, are together a list
 pub record HasList (es : List Entry) (run : List OpenTable) : Type 0 where

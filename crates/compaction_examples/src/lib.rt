@@ -13,6 +13,8 @@ mod packing;
 #[cfg(test)]
 mod reads;
 #[cfg(test)]
+mod refused;
+#[cfg(test)]
 mod runs;
 #[cfg(test)]
 mod stored;

@@ -146,6 +146,27 @@ fn one_run_stays_as_it_is(rt: HostRuntime) -> Result<(), Fail> {
     Ok(())
 }
 
+// A run whose tables were taken out.
+fn emptied(alloc: Global, ends: &[Ends]) -> Result<Run<Table<Global>>, Error> {
+    let mut run = run(alloc, ends)?;
+    run.retain(|_| false);
+    Ok(run)
+}
+
+// Whether a run is packed alone that stands beside one without tables.
+fn leaves_out_what_is_empty(alloc: Global) -> Result<bool, Error> {
+    let mut given = runs(alloc, &[&[(0, b"a", b"b")]])?;
+    given.push(emptied(alloc, &[(1, b"c", b"d")])?)?;
+    let packed = pack_runs(alloc, &shared(alloc, given)?)?;
+    Ok(have_ids(&shared(alloc, packed)?, &[&[0]]))
+}
+
+#[test]
+fn a_run_without_tables_is_left_out(rt: HostRuntime) -> Result<(), Fail> {
+    assert!(rt; leaves_out_what_is_empty(rt.alloc())?);
+    Ok(())
+}
+
 fn number_of(runs: &[Tables<Global>], key: &[u8]) -> Result<Option<SeqNo>, Error> {
     Ok(get_runs(runs, key, SeqNo::MAX)?.map(|item| item.key.seqno))
 }

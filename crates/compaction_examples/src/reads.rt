@@ -2,7 +2,7 @@
 ghost use Rattle.std.specs.Prelude.{map};
 ghost use Rattle.std.specs.Arc.{arc_value};
 ghost use Rattle.sst_entries.specs.Stream.{CanDeal};
-ghost use Rattle.lsm_tables.specs.Compacted.{AreCompactable};
+ghost use Rattle.lsm_compactions.specs.Compacted.{AreCompactable};
 
 use crate::runs::{Rules, T, V, Version, W, compacted, newest_in, run_of_tables, runs_of};
 use lsm_tables::{compact_part_back, compaction_law, get_runs};

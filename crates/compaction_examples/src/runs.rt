@@ -3,7 +3,7 @@ ghost use Rattle.std.specs.Prelude.{◌≡◌, ◌+◌, ◌++◌, IfOk, IsPermut
 ghost use Rattle.std.specs.Arc.{arc_value};
 ghost use Rattle.lsm_readers.specs.Answer.{lift};
 ghost use Rattle.lsm_writers.specs.Writing.{IsWritable};
-ghost use Rattle.lsm_tables.specs.Compacted.{AreCompactable};
+ghost use Rattle.lsm_compactions.specs.Compacted.{AreCompactable};
 ghost use Rattle.compaction_examples.specs.Runs.{HasList};
 
 use lsm_ranges::Run;

@@ -3,8 +3,8 @@ ghost use Rattle.std.specs.Prelude.{[], ◌∷◌, IfOk, List};
 ghost use Rattle.std.specs.Arc.{arc_value};
 ghost use Rattle.sst_entries.specs.Entry.{Entry};
 ghost use Rattle.lsm_files.specs.Table.{IsTable};
-ghost use Rattle.lsm_tables.specs.Compacted.{AreCompactable};
-ghost use Rattle.lsm_tables.specs.RunLists.{HoldsList};
+ghost use Rattle.lsm_compactions.specs.Compacted.{AreCompactable};
+ghost use Rattle.lsm_runs.specs.RunLists.{HoldsList};
 ghost use Rattle.compaction_examples.specs.Stored.{new_entries, stored_entries};
 
 use crate::runs::{V, Version, compacted, newest_in, scanned, version_of};

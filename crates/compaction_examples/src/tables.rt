@@ -1,7 +1,7 @@
 //! The tables that a compaction of several runs writes, and what it refuses.
 ghost use Rattle.std.specs.Prelude.{map};
 ghost use Rattle.std.specs.Arc.{arc_value};
-ghost use Rattle.lsm_tables.specs.Compacted.{AreCompactable};
+ghost use Rattle.lsm_compactions.specs.Compacted.{AreCompactable};
 
 use crate::runs::{T, V, Version, newest_in, opened, run_of_tables, runs_of, scanned};
 use lsm_tables::{compact_runs, get_runs};

@@ -1,7 +1,7 @@
 //! Runs that are compacted into one run, which may be compacted again.
 ghost use Rattle.std.specs.Prelude.{◌∷◌, [], IfOk, IfSome, map};
 ghost use Rattle.std.specs.Arc.{arc_value};
-ghost use Rattle.lsm_tables.specs.Compacted.{AreCompactable};
+ghost use Rattle.lsm_compactions.specs.Compacted.{AreCompactable};
 
 use crate::reads::numbers_of;
 use crate::runs::{Rules, T, V, Version, runs_of, scanned};

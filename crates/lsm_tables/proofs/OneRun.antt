@@ -9,9 +9,9 @@ use Rattle.lsm_merge.specs.declared.merge.Merger.{Merger}
 use Rattle.lsm_ranges.specs.Run.{IsInOrder}
 use Rattle.lsm_readers.specs.Table.{OpenTable}
 use Rattle.lsm_sorted.specs.declared.mvcc_stream.MvccStream.{MvccStream}
-use Rattle.lsm_tables.specs.RunParts.{range_of}
-use Rattle.lsm_tables.specs.RunRange.{RunRange}
-use Rattle.lsm_tables.specs.SpansRead.{IsOverSpans}
+use Rattle.lsm_runs.specs.RunParts.{range_of}
+use Rattle.lsm_runs.specs.RunRange.{RunRange}
+use Rattle.lsm_runs.specs.SpansRead.{IsOverSpans}
 
 pub of_one : (P : List (List OpenTable) → Type 0) (runs : List (List OpenTable)) (run : List OpenTable) → runs ≡ run ∷ [] → (AllByRecursion (IsInOrder range_of) runs → P runs) → IsInOrder range_of run → P (run ∷ [])
 of_one P runs run is holds order = subst P is (holds (subst (AllByRecursion (IsInOrder range_of)) (sym is) (order, tt)))

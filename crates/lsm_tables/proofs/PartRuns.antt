@@ -13,15 +13,15 @@ use Rattle.lsm_readers.specs.Table.{OpenTable}
 use Rattle.lsm_sorted.specs.Compaction.{Rules}
 use Rattle.lsm_sorted.specs.Point.{shown}
 use Rattle.lsm_sorted.specs.ReadLaw.{AllNewer, IsPlain}
-use Rattle.lsm_tables.specs.Chain.{IsRunOfList}
-use Rattle.lsm_tables.specs.Compacted.{kept_in}
-use Rattle.lsm_tables.specs.PartReads.{HoldSides, ReadsKept, ReadsOf, ShowAlike}
-use Rattle.lsm_tables.specs.ReadsCompacted.{PointsStay, RangesStay, SideBySide, entries_in}
-use Rattle.lsm_tables.specs.RunLists.{HoldLists, RunsHoldLists}
-use Rattle.lsm_tables.specs.RunParts.{range_of}
-use Rattle.lsm_tables.specs.SeveralRuns.{union_in}
-use Rattle.lsm_tables.proofs.CompactedBack.{lift_zero}
-use Rattle.lsm_tables.proofs.RunBack.{read, run_held}
+use Rattle.lsm_compactions.specs.Chain.{IsRunOfList}
+use Rattle.lsm_compactions.specs.Compacted.{kept_in}
+use Rattle.lsm_compactions.specs.PartReads.{HoldSides, ReadsKept, ReadsOf, ShowAlike}
+use Rattle.lsm_compactions.specs.ReadsCompacted.{PointsStay, RangesStay, SideBySide, entries_in}
+use Rattle.lsm_runs.specs.RunLists.{HoldLists, RunsHoldLists}
+use Rattle.lsm_runs.specs.RunParts.{range_of}
+use Rattle.lsm_runs.specs.SeveralRuns.{union_in}
+use Rattle.lsm_compactions.proofs.CompactedBack.{lift_zero}
+use Rattle.lsm_compactions.proofs.RunBack.{read, run_held}
 
 -- ---- runs shared behind others
 

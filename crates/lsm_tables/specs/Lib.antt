@@ -1,13 +1,1 @@
-pub mod Written
-pub mod RunParts
-pub mod RunRange
-pub mod RunLists
-pub mod RunScan
-pub mod SeveralRuns
-pub mod SpansRead
-pub mod Chain
-pub mod Packed
-pub mod Compacted
-pub mod ReadsCompacted
-pub mod PartReads
 pub mod Words

@@ -1,28 +1,9 @@
--- The words of the contracts of runs, those of the crates below among them, so that a file asks for them in one place.
-pub use Rattle.sst_entries.specs.Entry.{Entry}
-pub use Rattle.sst_entries.specs.Error.{Faults, FaultsFirst, Gives, is_memory}
-pub use Rattle.sst_entries.specs.Point.{point, within}
-pub use Rattle.sst_entries.specs.Stream.{CanDeal, back_of, first, front_of, nowhere}
-pub use Rattle.sst_blocks.specs.Opened.{none_opened}
-pub use Rattle.lsm_block_indexes.specs.Dealt.{DealsEnding}
-pub use Rattle.lsm_files.specs.Chunks.{joined}
-pub use Rattle.lsm_files.specs.Facts.{highest_seqno}
-pub use Rattle.lsm_files.specs.Options.{default_options, label_of}
-pub use Rattle.lsm_merge.specs.Union.{item_cmp, newest}
-pub use Rattle.lsm_ranges.specs.Run.{ArePlacesOf, IsInOrder, overlap_indexes}
-pub use Rattle.lsm_readers.specs.Answer.{lift}
-pub use Rattle.lsm_readers.specs.Read.{DoesRead, Opens}
-pub use Rattle.lsm_readers.specs.Table.{OpenTable}
-pub use Rattle.lsm_sorted.specs.Compaction.{kept, unfiltered}
-pub use Rattle.lsm_writers.specs.Tables.{AreFinished, AreTables, IsFreshRun}
-pub use Rattle.lsm_writers.specs.Writing.{IsTableOf, IsWritable}
-pub use Rattle.lsm_tables.specs.Written.{number_fault}
-pub use Rattle.lsm_tables.specs.RunParts.{ends_given, range_of, span_of}
-pub use Rattle.lsm_tables.specs.RunRange.{IsRunOf, ItemGives, OpensAtMost, RunGives, back_tables, front_tables, over, run_left, run_size, stopped}
-pub use Rattle.lsm_tables.specs.RunLists.{DealTogether, DealsList, HoldLists, RunsHoldLists, span_list}
-pub use Rattle.lsm_tables.specs.RunScan.{BeginsNext, BeginsScan, IsScanOf, RunScansNext, ScansItem, over_scan, run_scan_size, stopped_scan, tables_between, tables_scan}
-pub use Rattle.lsm_tables.specs.SpansRead.{IsOverSpans, spans_within}
-pub use Rattle.lsm_tables.specs.SeveralRuns.{LoadsEach, leading_of, loads_together, run_read, runs_read, runs_told, union_in}
-pub use Rattle.lsm_tables.specs.Chain.{AreCutOf, AreOpened, AreWritten, FitsAsTables, IsOpenedOf, IsRunOfList, both_fault, chain_fault, ids_behind, run_label, tables_fault, writes_fault}
-pub use Rattle.lsm_tables.specs.Compacted.{AreCompactable, AreWrittenBy, DealsWritable, FitsBy, HaveEntries, RunsOn, kept_in, rules_by}
-pub use Rattle.lsm_tables.specs.PartReads.{HoldSides, ReadsKept, ReadsOf, ShowAlike}
+-- The words of the contracts of whole ways, those of the crates below, so that a file asks for them in one place.
+pub use Rattle.lsm_compactions.specs.Words.{Entry, Faults, CanDeal}
+pub use Rattle.lsm_compactions.specs.Words.{highest_seqno, default_options, IsInOrder, lift}
+pub use Rattle.lsm_compactions.specs.Words.{range_of}
+pub use Rattle.lsm_compactions.specs.Words.{RunsHoldLists}
+pub use Rattle.lsm_compactions.specs.Words.{IsOverSpans}
+pub use Rattle.lsm_compactions.specs.Words.{runs_told, union_in, kept, unfiltered, AreTables, IsWritable}
+pub use Rattle.lsm_compactions.specs.Words.{FitsAsTables, IsRunOfList, both_fault, chain_fault, ids_behind, tables_fault}
+pub use Rattle.lsm_compactions.specs.Words.{AreCompactable, kept_in, rules_by, HoldSides, ReadsKept, ReadsOf, ShowAlike}

@@ -1,131 +1,16 @@
-//! A list that is written as tables, which are opened and put in a run.
-ghost use Rattle.std.specs.Prelude.{◌≡◌, ◌∷◌, ◌+◌, ◌^◌, ◌<◌, [], length, List, Some, IfErr, IfOk, IfSome, MatchOption};
-ghost use Rattle.std.specs.List.{AllByRecursion};
-ghost use Rattle.std.specs.Option.{option_map_or};
+//! A list that is written as a run and read.
+ghost use Rattle.std.specs.Prelude.{◌≡◌, ◌+◌, ◌^◌, ◌<◌, [], Some, IfErr, IfOk, IfSome, MatchOption};
 ghost use Rattle.sst_entries.specs.declared.error.Error.TheVariants.{OutOfMemory};
-ghost use Rattle.lsm_files.specs.declared.label.Label.{Label};
-ghost use Rattle.lsm_tables.specs.Words.{AreCompactable, AreCutOf, AreFinished, AreOpened};
-ghost use Rattle.lsm_tables.specs.Words.{AreWritten, CanDeal, Entry, Faults, FitsAsTables};
-ghost use Rattle.lsm_tables.specs.Words.{IsOpenedOf, IsRunOfList, IsTableOf, IsWritable, ReadsOf};
-ghost use Rattle.lsm_tables.specs.Words.{chain_fault, default_options, highest_seqno, ids_behind};
-ghost use Rattle.lsm_tables.specs.Words.{joined, lift, number_fault, run_label, tables_fault};
+ghost use Rattle.lsm_tables.specs.Words.{CanDeal, Faults, FitsAsTables, IsWritable, ReadsOf};
+ghost use Rattle.lsm_tables.specs.Words.{chain_fault, highest_seqno, lift};
 
-use crate::{Reads, RunReader, Table, Timestamp, read_run};
+use crate::{Reads, RunReader, Timestamp, read_run, write_run};
 use lsm_merge::Merger;
-use lsm_ranges::Run;
 use lsm_sorted::MvccStream;
-use lsm_writers::{FinishedTable, MultiWriter, TableIds, tables_law};
+use lsm_writers::TableIds;
 use sst_blocks::{Error, InternalValue, SeqNo, UserKey};
 use std::alloc::Allocator;
 use std::ops::Bound;
-
-// Writes a list as tables of a target size; none where it has no entry. Refused as `MultiWriter` is.
-fn write_tables<A: Allocator + Clone>(
-    alloc: A,
-    ids: TableIds,
-    target_size: u64,
-    created_at: Timestamp,
-    items: Vec<InternalValue<A>, A>,
-) -> Result<(Vec<FinishedTable<A>, A>, TableIds), Error>
-    requires { IsWritable items.items }
-    ensures written { IfOk result (λ r.
-        AreWritten ids target_size created_at items.items r.0.items r.1) }
-    ensures refused { Faults result (tables_fault ids target_size created_at items.items) }
-    ensures taken { FitsAsTables ids target_size items.items →
-        IfErr result (λ e. e ≡ OutOfMemory) }
-{
-    // A list whose tables fit is taken whole.
-    tables_law();
-    let mut writer = MultiWriter::new(alloc, ids, target_size, 0, created_at)?;
-    for item in items {
-        writer.write(item)?;
-    }
-    let left = writer.table_ids();
-    let tables = writer.finish()?;
-    Ok((tables, left))
-}
-
-// Opens a finished table; its filter and its index stay loaded.
-fn open_table<A: Allocator + Clone>(
-    alloc: A,
-    table: FinishedTable<A>,
-    global_seqno: SeqNo,
-) -> Result<Table<A>, Error>
-    ensures opened { (label : Label) (es : List Entry) →
-        IsTableOf label es table.id table.checksum.0 table.bytes →
-        IfOk result (λ t. IsOpenedOf label es global_seqno t) }
-    ensures refused { (label : Label) (es : List Entry) →
-        IsTableOf label es table.id table.checksum.0 table.bytes →
-        Faults result (number_fault es global_seqno) }
-{
-    let (bytes, checksum) = (table.bytes, table.checksum);
-    let opened = Table::recover(alloc, bytes, checksum, global_seqno, 0, true, true)?;
-    // It is open, and its range is its list's ends.
-    opened.tells_its_list();
-    Ok(opened)
-}
-
-pub(crate) fn open_tables<A: Allocator + Clone>(
-    alloc: A,
-    tables: Vec<FinishedTable<A>, A>,
-    global_seqno: SeqNo,
-) -> Result<Vec<Table<A>, A>, Error>
-    ensures opened { (label : Label) (lists : List (List Entry)) →
-        AreFinished default_options label lists tables.items →
-        IfOk result (λ v. AreOpened label lists global_seqno v.items) }
-    ensures refused { (label : Label) (lists : List (List Entry)) →
-        AreFinished default_options label lists tables.items →
-        Faults result (number_fault (joined lists) global_seqno) }
-    ensures taken { (label : Label) (lists : List (List Entry)) →
-        AreFinished default_options label lists tables.items →
-        AllByRecursion (λ es. highest_seqno es + global_seqno < 2 ^ 64) lists →
-        IfErr result (λ e. e ≡ OutOfMemory) }
-{
-    let mut opened = Vec::new(alloc.clone()?);
-    for table in tables {
-        opened.push(open_table(alloc.clone()?, table, global_seqno)?)?;
-    }
-    Ok(opened)
-}
-
-/// Writes a list as tables of the first level, each but the last of at least `target_size` bytes of data blocks, under ids
-/// that run on, opens each and puts them in a run; no run where the list has no entry. Answers the counter of ids behind the
-/// last table, too.
-///
-/// Refused as [`MultiWriter::new`], [`MultiWriter::write`] and [`MultiWriter::finish`] are, then
-/// [`Error::GlobalSeqNoTooLarge`] where the highest number plus `global_seqno` passes `u64`; and [`Error::OutOfMemory`].
-pub fn write_run<A: Allocator + Clone>(
-    alloc: A,
-    ids: TableIds,
-    target_size: u64,
-    created_at: Timestamp,
-    items: Vec<InternalValue<A>, A>,
-    global_seqno: SeqNo,
-) -> Result<(Option<Run<Table<A>, A>>, TableIds), Error>
-    requires { IsWritable items.items }
-    // The tables hold the list, one behind another, and stand in order.
-    ensures run { IfOk result (λ r. MatchOption r.0 (items.items ≡ [])
-        (λ run. IsRunOfList items.items global_seqno run)) }
-    // The list is cut by the target, and the tables' ids run on.
-    ensures cut { IfOk result (λ r. IfSome r.0 (λ run.
-        AreCutOf (run_label ids target_size created_at) target_size items.items global_seqno run)) }
-    ensures ids { IfOk result (λ r.
-        r.1 ≡ ids_behind ids target_size (option_map_or length r.0 0)) }
-    // Where the lifted list can be written, as where its numbers stay below the largest one, the run may be compacted.
-    ensures able { IsWritable (lift items.items global_seqno) →
-        IfOk result (λ r. IfSome r.0 (λ run. AreCompactable (run ∷ []))) }
-    // Memory aside, the refusal is the first: of the counter, of the entries in order, of the last table, of the numbers.
-    ensures refused { Faults result
-        (chain_fault ids target_size created_at items.items global_seqno) }
-    // A list whose tables fit, with an id left for each, is refused for want of memory alone.
-    ensures taken { FitsAsTables ids target_size items.items →
-        highest_seqno items.items + global_seqno < 2 ^ 64 →
-        IfErr result (λ e. e ≡ OutOfMemory) }
-{
-    let (tables, left) = write_tables(alloc.clone()?, ids, target_size, created_at, items)?;
-    let opened = open_tables(alloc, tables, global_seqno)?;
-    Ok((Run::new(opened), left))
-}
 
 /// What a point read and a range of a list give once it was written as a run and opened; `None` where the list has no entry.
 /// The contracts of writing, opening and reading runs alone say that it is the list. Refused as [`write_run`] with

@@ -3,7 +3,7 @@ ghost use Rattle.std.specs.Prelude.{◌≡◌, [], IfErr, IfOk, List};
 ghost use Rattle.sst_entries.specs.declared.error.Error.TheVariants.{OutOfMemory};
 ghost use Rattle.lsm_readers.specs.Words.{DealsAll, DealsWithin, Entry, IsTable};
 ghost use Rattle.sst_entries.specs.Error.{Faults};
-ghost use Rattle.lsm_tables.specs.Written.{ReadsList, reads_fault};
+ghost use Rattle.lsm_compactions.specs.Written.{ReadsList, reads_fault};
 
 use crate::{Iter, Scanner, Table};
 use lsm_iters::beside;

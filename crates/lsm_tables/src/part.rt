@@ -4,16 +4,16 @@ ghost use Rattle.std.specs.Arc.{arc_value};
 ghost use Rattle.sst_entries.specs.Strict.{IsStrict};
 ghost use Rattle.sst_entries.specs.declared.error.Error.TheVariants.{OutOfMemory};
 ghost use Rattle.lsm_sorted.specs.ReadLaw.{AllNewer, IsPlain};
-ghost use Rattle.lsm_tables.specs.ReadsCompacted.{entries_in};
+ghost use Rattle.lsm_compactions.specs.ReadsCompacted.{entries_in};
 ghost use Rattle.lsm_tables.specs.Words.{AreCompactable, CanDeal, Entry, Faults, FitsAsTables};
 ghost use Rattle.lsm_tables.specs.Words.{HoldSides, ReadsKept, ReadsOf, RunsHoldLists, ShowAlike};
 ghost use Rattle.lsm_tables.specs.Words.{kept_in, rules_by, tables_fault, union_in};
 
-use crate::bounds::share;
 use crate::reads::read_runs;
 use crate::{Reads, RunReader, Table, Timestamp, compact_to_run, compaction_law};
 use lsm_merge::Merger;
 use lsm_ranges::Run;
+use lsm_runs::share;
 use lsm_sorted::MvccStream;
 use lsm_writers::TableIds;
 use sst_blocks::{Error, SeqNo, UserKey};

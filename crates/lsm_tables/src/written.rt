@@ -3,7 +3,7 @@ ghost use Rattle.std.specs.Prelude.{◌≡◌, [], IfOk, MatchOption};
 ghost use Rattle.sst_entries.specs.Error.{Faults};
 ghost use Rattle.lsm_files.specs.Options.{label_of};
 ghost use Rattle.lsm_writers.specs.Writing.{IsWritable};
-ghost use Rattle.lsm_tables.specs.Written.{IsOpened, ReadsList, opening_fault};
+ghost use Rattle.lsm_compactions.specs.Written.{IsOpened, ReadsList, opening_fault};
 
 use crate::{Scanner, Table};
 use lsm_writers::{TableId, Timestamp, write_list};

@@ -14,17 +14,17 @@ use Rattle.lsm_readers.proofs.Scans.{memory_is}
 use Rattle.lsm_readers.specs.Table.{OpenTable}
 use Rattle.lsm_sorted.specs.Compaction.{kept, unfiltered}
 use Rattle.lsm_writers.specs.Writing.{IsWritable}
-use Rattle.lsm_tables.specs.Chain.{AreCutOf, IsRunOfList, ids_behind, run_label, tables_fault}
-use Rattle.lsm_tables.specs.Compacted.{AreCompactable, HaveEntries, kept_in, rules_by}
-use Rattle.lsm_tables.specs.RunLists.{HoldLists, RunsHoldLists}
-use Rattle.lsm_tables.specs.SeveralRuns.{union_in}
-use Rattle.lsm_tables.proofs.Compactable.{run_entries}
-use Rattle.lsm_tables.proofs.OneList.{one_way}
+use Rattle.lsm_compactions.specs.Chain.{AreCutOf, IsRunOfList, ids_behind, run_label, tables_fault}
+use Rattle.lsm_compactions.specs.Compacted.{AreCompactable, HaveEntries, kept_in, rules_by}
+use Rattle.lsm_runs.specs.RunLists.{HoldLists, RunsHoldLists}
+use Rattle.lsm_runs.specs.SeveralRuns.{union_in}
+use Rattle.lsm_compactions.proofs.Compactable.{run_entries}
+use Rattle.lsm_runs.proofs.OneList.{one_way}
 use Rattle.sst_commands.specs.declared.stop.Failure.{Failure}
 use Rattle.sst_commands.specs.declared.stop.Failure.TheVariants.{Refused}
 use Rattle.sst_script.specs.Runs.{HasRuns, Run, repeats, run_tables, union}
 use Rattle.sst_script.specs.Script.{FailsToCompact, CompactsRuns, Compacts, kept_by, kept_fault, store, target_size}
-use Rattle.lsm_tables.proofs.CompactedBack.{lift_zero}
+use Rattle.lsm_compactions.proofs.CompactedBack.{lift_zero}
 use Rattle.sst_script.proofs.PendingLemmas.{nothing_pending}
 use Rattle.sst_script.proofs.RunLemmas.{held, lists_of, union_same}
 use Rattle.sst_script.proofs.UnionLemmas.{union_more}

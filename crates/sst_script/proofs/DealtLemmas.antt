@@ -6,7 +6,7 @@ use Rattle.sst_entries.specs.Entry.{Entry}
 use Rattle.sst_entries.specs.Error.{is_memory, Fails}
 use Rattle.sst_entries.specs.Stream.{answer_stops, first, ok_results}
 use Rattle.sst_entries.proofs.StreamLemmas.{deals_front}
-use Rattle.lsm_tables.specs.RunLists.{DealsList}
+use Rattle.lsm_runs.specs.RunLists.{DealsList}
 
 module _ {S : Type 0} (front back : S → Option (Result Entry Error) → S → Type 0) (s t : S) where
   -- what a call tells of the list, where nothing but want of memory stops it

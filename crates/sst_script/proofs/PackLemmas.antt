@@ -11,15 +11,15 @@ use Rattle.sst_entries.specs.Entry.{Entry}
 use Rattle.sst_entries.proofs.Lists.{all_append, all_behind, all_front, all_more}
 use Rattle.lsm_ranges.specs.Packing.{AreInOrder, ArePacked, IsLeastSize, SameHolders, SameTables, tables_of}
 use Rattle.lsm_readers.specs.Table.{OpenTable}
-use Rattle.lsm_tables.specs.Compacted.{AreCompactable, HaveEntries}
-use Rattle.lsm_tables.specs.Packed.{HoldUnion}
-use Rattle.lsm_tables.specs.RunLists.{HoldLists, RunsHoldLists}
-use Rattle.lsm_tables.specs.RunParts.{range_of}
-use Rattle.lsm_tables.specs.SeveralRuns.{union_in}
+use Rattle.lsm_compactions.specs.Compacted.{AreCompactable, HaveEntries}
+use Rattle.lsm_compactions.specs.Packed.{HoldUnion}
+use Rattle.lsm_runs.specs.RunLists.{HoldLists, RunsHoldLists}
+use Rattle.lsm_runs.specs.RunParts.{range_of}
+use Rattle.lsm_runs.specs.SeveralRuns.{union_in}
 use Rattle.lsm_writers.specs.Writing.{IsWritable}
-use Rattle.lsm_tables.proofs.OneList.{one_way}
-use Rattle.lsm_tables.proofs.Packing.{list_is, list_of}
-use Rattle.lsm_tables.proofs.RunPoints.{runs_in_order}
+use Rattle.lsm_runs.proofs.OneList.{one_way}
+use Rattle.lsm_compactions.proofs.Packing.{list_is, list_of}
+use Rattle.lsm_runs.proofs.RunPoints.{runs_in_order}
 use Rattle.sst_commands.specs.declared.stop.Failure.{Failure}
 use Rattle.sst_commands.specs.declared.stop.Failure.TheVariants.{Refused}
 use Rattle.sst_script.specs.Runs.{HasRuns, Run, run_tables, union}

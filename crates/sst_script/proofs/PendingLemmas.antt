@@ -11,8 +11,8 @@ use Rattle.sst_entries.specs.Strict.{last_of, may_follow, IsStrictAfter}
 use Rattle.lsm_files.specs.Facts.{highest_seqno}
 use Rattle.lsm_writers.specs.Writing.{may_be_written, IsWritable}
 use Rattle.lsm_readers.specs.Table.{OpenTable}
-use Rattle.lsm_tables.specs.Chain.{AreCutOf, IsRunOfList, chain_fault, run_label, tables_fault}
-use Rattle.lsm_tables.specs.Written.{number_fault}
+use Rattle.lsm_compactions.specs.Chain.{AreCutOf, IsRunOfList, chain_fault, run_label, tables_fault}
+use Rattle.lsm_compactions.specs.Written.{number_fault}
 use Rattle.sst_entries.proofs.Booleans.{and_parts}
 use Rattle.sst_entries.proofs.Lists.{all_append}
 use Rattle.sst_entries.proofs.Strictness.{strict_push}

@@ -14,10 +14,10 @@ use Rattle.sst_entries.proofs.FrontLemmas.{deals_in_front}
 use Rattle.lsm_files.specs.Chunks.{joined}
 use Rattle.lsm_merge.specs.Union.{all_entries, newest, union_of}
 use Rattle.lsm_readers.specs.Table.{OpenTable}
-use Rattle.lsm_tables.specs.RunLists.{DealsList, RunsHoldLists}
-use Rattle.lsm_tables.specs.SeveralRuns.{union_in}
-use Rattle.lsm_tables.proofs.CompactedBack.{lift_zero}
-use Rattle.lsm_tables.proofs.Unions.{sorted}
+use Rattle.lsm_runs.specs.RunLists.{DealsList, RunsHoldLists}
+use Rattle.lsm_runs.specs.SeveralRuns.{union_in}
+use Rattle.lsm_compactions.proofs.CompactedBack.{lift_zero}
+use Rattle.lsm_runs.proofs.Unions.{sorted}
 use Rattle.sst_script.specs.Runs.{Run, has_entry, repeats, run_tables, union}
 use Rattle.sst_script.proofs.EntryLemmas.{has_entry_found, has_number}
 

@@ -8,7 +8,7 @@ use Rattle.sst_entries.specs.Entry.{Entry}
 use Rattle.sst_entries.specs.Error.{is_memory, Fails, Gives}
 use Rattle.lsm_readers.proofs.Scans.{memory_is}
 use Rattle.lsm_readers.specs.Table.{OpenTable}
-use Rattle.lsm_tables.specs.Chain.{AreCutOf, IsRunOfList, ids_behind, run_label, tables_fault}
+use Rattle.lsm_compactions.specs.Chain.{AreCutOf, IsRunOfList, ids_behind, run_label, tables_fault}
 use Rattle.sst_commands.specs.declared.command.Command.{Command}
 use Rattle.sst_commands.specs.declared.command.Command.TheVariants.{Compact, Pack, Table}
 use Rattle.sst_commands.specs.declared.print.Answer.TheVariants.{Runs, Tables}

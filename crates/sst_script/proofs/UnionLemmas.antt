@@ -20,7 +20,7 @@ use Rattle.lsm_merge.specs.Union.{all_entries, insert_sorted, item_cmp, sort_ent
 use Rattle.lsm_merge.proofs.MergedLemmas.{Above, above_at_most, all_inserted, item_total}
 use Rattle.lsm_merge.proofs.Pairs.{AllBefore, pairs_of, strict_from}
 use Rattle.lsm_merge.proofs.UnionLemmas.{then_less}
-use Rattle.lsm_tables.proofs.Unions.{entries_of}
+use Rattle.lsm_runs.proofs.Unions.{entries_of}
 use Rattle.lsm_writers.specs.Writing.{IsWritable}
 use Rattle.sst_script.specs.Runs.{Run, has_entry, repeats, union}
 

@@ -6,7 +6,7 @@ use Rattle.sst_entries.specs.Key.{same_key}
 use Rattle.sst_entries.specs.Stream.{ok_results}
 use Rattle.lsm_merge.specs.Union.{union_of}
 use Rattle.lsm_readers.specs.Table.{OpenTable}
-use Rattle.lsm_tables.specs.Chain.{IsRunOfList}
+use Rattle.lsm_compactions.specs.Chain.{IsRunOfList}
 
 -- a run: a list, and the tables that were written of it and opened, with global number 0
 pub record Run : Type 0 where

@@ -9,9 +9,9 @@ use Rattle.lsm_merge.specs.Union.{newest}
 use Rattle.lsm_ranges.specs.KeyRange.{key_bound}
 use Rattle.lsm_ranges.specs.Packing.{ArePacked, IsLeastSize, SameHolders, SameTables}
 use Rattle.lsm_sorted.specs.Compaction.{kept, unfiltered}
-use Rattle.lsm_tables.specs.Chain.{AreCutOf, ids_behind, run_label, tables_fault}
-use Rattle.lsm_tables.specs.Compacted.{rules_by}
-use Rattle.lsm_tables.specs.RunParts.{range_of}
+use Rattle.lsm_compactions.specs.Chain.{AreCutOf, ids_behind, run_label, tables_fault}
+use Rattle.lsm_compactions.specs.Compacted.{rules_by}
+use Rattle.lsm_runs.specs.RunParts.{range_of}
 use Rattle.lsm_writers.specs.Writing.{may_be_written}
 use Rattle.sst_commands.specs.declared.command.Command.{Command}
 use Rattle.sst_commands.specs.declared.command.Command.TheVariants.{Entry as Add, Table, Get, Range, Compact, Pack}

@@ -6,4 +6,4 @@ pub use Rattle.sst_entries.specs.Stream.{nowhere}
 pub use Rattle.lsm_merge.specs.Union.{newest}
 pub use Rattle.lsm_ranges.specs.KeyRange.{key_bound}
 pub use Rattle.lsm_writers.specs.Writing.{IsWritable}
-pub use Rattle.lsm_tables.specs.RunLists.{DealsList}
+pub use Rattle.lsm_runs.specs.RunLists.{DealsList}

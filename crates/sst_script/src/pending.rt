@@ -4,11 +4,12 @@ ghost use Rattle.std.specs.Option.{option_map_or};
 ghost use Rattle.sst_entries.specs.Entry.{entry};
 ghost use Rattle.sst_entries.specs.Error.{Faults};
 ghost use Rattle.lsm_writers.specs.Writing.{IsWritable, may_be_written};
-ghost use Rattle.lsm_tables.specs.Chain.{AreCutOf, IsRunOfList, ids_behind, run_label, tables_fault};
+ghost use Rattle.lsm_compactions.specs.Chain.{AreCutOf, IsRunOfList, ids_behind, run_label, tables_fault};
 ghost use Rattle.sst_script.specs.Script.{entry_failure, target_size};
 
+use lsm_compactions::write_run;
 use lsm_ranges::Run;
-use lsm_tables::{Table, Timestamp, write_run};
+use lsm_readers::{Table, Timestamp};
 use lsm_writers::TableIds;
 use sst_blocks::{Error, InternalValue, SeqNo, Slice, ValueType};
 use sst_commands::Failure;

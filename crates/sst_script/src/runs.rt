@@ -8,7 +8,8 @@ ghost use Rattle.sst_script.specs.Runs.{ForRuns, has_entry, repeats, union};
 ghost use Rattle.sst_script.specs.Words.{DealsList, Entry, Gives, IsWritable, key_bound, newest, nowhere, point, within};
 
 use lsm_ranges::Run;
-use lsm_tables::{Table, get_runs, range_runs};
+use lsm_readers::Table;
+use lsm_runs::{get_runs, range_runs};
 use sst_blocks::{Error, InternalValue, IterItem, SeqNo, Slice, UserKey};
 use std::alloc::Allocator;
 use std::ops::Bound;

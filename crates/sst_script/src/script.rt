@@ -9,13 +9,14 @@ ghost use Rattle.sst_script.specs.Answering.{LineEnds, PrintEnds, ScriptEnds, ou
 ghost use Rattle.sst_script.specs.Lines.{ReadsLine};
 ghost use Rattle.sst_script.specs.Runs.{ForRuns, HasRuns};
 ghost use Rattle.sst_commands.specs.Stop.{stop_text};
-ghost use Rattle.lsm_tables.specs.Compacted.{AreCompactable};
+ghost use Rattle.lsm_compactions.specs.Compacted.{AreCompactable};
 ghost use Rattle.sst_script.specs.Script.{store, kept_by, CompactsRuns, Executes, PacksRuns, WritesTable};
 
 use crate::pending::{Pending, TARGET_SIZE};
 use crate::runs::{is_repeated, newest_answer, newest_entries, share_all};
+use lsm_compactions::{compact_to_run, pack_runs};
 use lsm_ranges::Run;
-use lsm_tables::{Table, Timestamp, compact_to_run, pack_runs};
+use lsm_readers::{Table, Timestamp};
 use lsm_writers::TableIds;
 use sst_blocks::SeqNo;
 use sst_commands::{

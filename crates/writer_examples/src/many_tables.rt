@@ -1,4 +1,5 @@
 //! Tables that are written one after another.
+use crate::rows::written;
 use lsm_writers::{
     FinishedTable, MultiWriter, TableId, TableIds, Timestamp, is_writable, write_list,
 };
@@ -43,6 +44,19 @@ fn put<A: Allocator + Copy>(
     writer.write(item)
 }
 
+// Writes these rows.
+fn put_all<A: Allocator + Copy>(
+    alloc: A,
+    writer: &mut MultiWriter<A>,
+    rows: &[Row],
+    len: usize,
+) -> Result<(), Error> {
+    for row in rows {
+        put(writer, entry(alloc, row, len)?)?;
+    }
+    Ok(())
+}
+
 // A writer of these rows.
 fn filled<A: Allocator + Copy>(
     alloc: A,
@@ -53,10 +67,8 @@ fn filled<A: Allocator + Copy>(
 ) -> Result<MultiWriter<A>, Error> {
     let ids = TableIds::new(first);
     let mut writer = MultiWriter::new(alloc, ids, target, 0, Timestamp::from(0))?;
-    for row in rows {
-        put(&mut writer, entry(alloc, row, len)?)?;
-    }
-    Ok(writer)
+    let answer = put_all(alloc, &mut writer, rows, len);
+    written(writer, answer)
 }
 
 // The ids of the first tables, and the next one.
@@ -136,13 +148,20 @@ fn the_versions_of_a_key_stay_in_one_table(rt: HostRuntime) -> Result<(), Fail> 
     Ok(())
 }
 
-// What the first and the second entry answer where the ids are spent.
+// What an entry answers, and again.
+fn put_twice(alloc: Global, writer: &mut MultiWriter) -> Result<[Result<(), Error>; 2], Error> {
+    let first = put(writer, entry(alloc, &(b"a", 1), 1)?);
+    let second = put(writer, entry(alloc, &(b"a", 1), 1)?);
+    Ok([first, second])
+}
+
+// What the first and the second entry answer where the ids are spent, and the end.
 fn spent(alloc: Global) -> Result<[Result<(), Error>; 3], Error> {
     let ids = TableIds::new(TableId::MAX);
     let mut writer = MultiWriter::new(alloc, ids, 0, 0, Timestamp::from(0))?;
-    let first = put(&mut writer, entry(alloc, &(b"a", 1), 1)?);
-    let second = put(&mut writer, entry(alloc, &(b"a", 1), 1)?);
+    let answers = put_twice(alloc, &mut writer);
     let last = writer.finish().map(|_| ());
+    let [first, second] = answers?;
     Ok([first, second, last])
 }
 

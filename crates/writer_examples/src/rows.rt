@@ -52,17 +52,25 @@ pub fn put_rows<A: Allocator + Clone>(
     Ok(true)
 }
 
+/// A writer, once it has written what it was given. Generic in the writer, so that none of its parts is looked at.
+pub fn written<W: Drop>(writer: W, answer: Result<(), Error>) -> Result<W, Error> {
+    answer?;
+    Ok(writer)
+}
+
+// `Source(0)` where a row may not follow the one before.
+fn all_put(put: Result<bool, Error>) -> Result<(), Error> {
+    if put? { Ok(()) } else { Err(Error::Source(0)) }
+}
+
 /// The writer, once it has written some rows. `Source(0)` where a row may not follow the one before.
 pub fn filled<A: Allocator + Clone>(
     mut writer: Writer<A>,
     alloc: A,
     rows: &[Row<'_>],
 ) -> Result<Writer<A>, Error> {
-    if put_rows(alloc, &mut writer, rows)? {
-        Ok(writer)
-    } else {
-        Err(Error::Source(0))
-    }
+    let answer = all_put(put_rows(alloc, &mut writer, rows));
+    written(writer, answer)
 }
 
 /// The table of some rows. `Source(0)` where a row may not follow the one before, `Source(1)` where there are none.

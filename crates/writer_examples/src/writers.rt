@@ -1,6 +1,6 @@
 //! What writers count, cut, write and refuse.
 use crate::one_entry_v4;
-use crate::rows::{Row, entry, fill, filled, new_writer, put_rows};
+use crate::rows::{Row, entry, fill, filled, new_writer, put_rows, written};
 use lsm_writers::{
     BlockIndexWriter, FinishedTable, FullIndexWriter, GlobalTableId, Metadata, Timestamp, Writer,
 };
@@ -113,14 +113,14 @@ fn keeps_the_lowest_and_the_highest_number(rt: HostRuntime) -> Result<(), Fail> 
     Ok(())
 }
 
-// Whether an entry may follow e@3, and is written then.
+// Whether e@3 is written, and an entry may follow it and is written then.
+fn put_behind(alloc: Global, writer: &mut Writer, row: Row<'_>) -> Result<bool, Error> {
+    put_rows(alloc, writer, &[(b"e", 3, ValueType::Tombstone, b""), row])
+}
+
+// The same of a new writer.
 fn follows(alloc: Global, row: Row<'_>) -> Result<bool, Error> {
-    let mut writer = new_writer(alloc)?;
-    put_rows(
-        alloc,
-        &mut writer,
-        &[(b"e", 3, ValueType::Tombstone, b""), row],
-    )
+    put_behind(alloc, &mut new_writer(alloc)?, row)
 }
 
 #[test]
@@ -183,10 +183,12 @@ fn after_a_key_of(alloc: Global, len: usize) -> Result<[u8; 4], Error> {
     let key = vec![in alloc; 0x61u8; len]?;
     let mut writer = new_writer(alloc)?;
     let [first, second, cut] = after_a_key(alloc, &mut writer, &key);
-    if writer.is_empty() {
+    let is_empty = writer.is_empty();
+    let last = number(writer.finish().err());
+    if is_empty {
         return Err(Error::Source(0));
     }
-    Ok([first, second, cut, number(writer.finish().err())])
+    Ok([first, second, cut, last])
 }
 
 #[test]
@@ -196,17 +198,25 @@ fn refuses_long_keys_and_whatever_follows(rt: HostRuntime) -> Result<(), Fail> {
     Ok(())
 }
 
-// Whether a writer with all its options set writes nothing.
+// A writer with all its options set.
+fn with_options(alloc: Global) -> Result<Writer, Error> {
+    Ok(
+        Writer::new(alloc, 1, 3, Timestamp::from(5))?
+            .use_data_block_restart_interval(8)
+            .use_index_block_restart_interval(2)
+            .use_data_block_hash_ratio(750)
+            .use_data_block_size(4_194_304)
+            .use_meta_partition_size(4_194_304)
+            .use_data_block_compression(CompressionType::None)
+            .use_index_block_compression(CompressionType::None),
+    )
+}
+
+// Whether it writes nothing.
 fn writes_nothing(alloc: Global) -> Result<bool, Error> {
-    let writer = Writer::new(alloc, 1, 3, Timestamp::from(5))?
-        .use_data_block_restart_interval(8)
-        .use_index_block_restart_interval(2)
-        .use_data_block_hash_ratio(750)
-        .use_data_block_size(4_194_304)
-        .use_meta_partition_size(4_194_304)
-        .use_data_block_compression(CompressionType::None)
-        .use_index_block_compression(CompressionType::None);
-    Ok(writer.is_empty() && writer.finish()?.is_none())
+    let writer = with_options(alloc)?;
+    let is_empty = writer.is_empty();
+    Ok(writer.finish()?.is_none() && is_empty)
 }
 
 #[test]
@@ -275,8 +285,8 @@ fn write_three<A: Allocator + Clone>(alloc: A, writer: &mut Writer<A>) -> Result
 // A table of three blocks. Whatever is refused, the writer refuses from then on.
 fn three_blocks<A: Allocator + Clone>(alloc: A) -> Result<FinishedTable<A>, Error> {
     let mut writer = new_writer(alloc.clone()?)?.use_data_block_size(0);
-    write_three(alloc, &mut writer)?;
-    writer.finish()?.ok_or(Error::Source(1))
+    let answer = write_three(alloc, &mut writer);
+    written(writer, answer)?.finish()?.ok_or(Error::Source(1))
 }
 
 // Whether a table of three blocks is written, or memory refused where it may be.

@@ -1,6 +1,6 @@
 use Rattle.std.proofs.Common.{◌∙◌, ap, sym, subst, List, [], ◌∷◌, ◌++◌}
 use Rattle.lsm_readers.specs.Table.{OpenTable}
-use Rattle.lsm_tables.specs.Compacted.{AreCompactable}
+use Rattle.lsm_compactions.specs.Compacted.{AreCompactable}
 use Rattle.compaction_examples.proofs.StoredTable.{both_compactable}
 use Rattle.compaction_examples.proofs.stored.run.Goals as goal
 

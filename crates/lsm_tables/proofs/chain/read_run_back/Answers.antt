@@ -1,8 +1,8 @@
 use Rattle.std.proofs.Common.{◌∙◌, ap, sym, ℕ}
 use Rattle.std.specs.Prelude.{Option}
-use Rattle.lsm_tables.specs.Chain.{chain_fault}
-use Rattle.lsm_tables.proofs.Compactable.{some_listed}
-use Rattle.lsm_tables.proofs.RunWriting.{memory_faults, wants}
+use Rattle.lsm_compactions.specs.Chain.{chain_fault}
+use Rattle.lsm_compactions.proofs.Compactable.{some_listed}
+use Rattle.lsm_compactions.proofs.RunWriting.{memory_faults, wants}
 use Rattle.lsm_tables.proofs.chain.read_run_back.Goals as goal
 
 pub returns-in_err-read_run-in-Some-clause-taken : goal.returns-in_err-read_run-in-Some-clause-taken

@@ -4,12 +4,12 @@ use Rattle.sst_entries.specs.Entry.{Entry}
 use Rattle.sst_entries.proofs.Refusals.{faults_refusal}
 use Rattle.lsm_readers.specs.Table.{OpenTable}
 use Rattle.lsm_sorted.specs.Compaction.{kept, unfiltered}
-use Rattle.lsm_tables.specs.Chain.{FitsAsTables, IsRunOfList, tables_fault}
-use Rattle.lsm_tables.specs.Compacted.{rules_by}
-use Rattle.lsm_tables.proofs.Compactable.{run_listed}
-use Rattle.lsm_tables.proofs.CompactedBack.{fault_alone, kept_alone}
-use Rattle.lsm_tables.proofs.RunBack.{run_held}
-use Rattle.lsm_tables.proofs.RunWriting.{wants}
+use Rattle.lsm_compactions.specs.Chain.{FitsAsTables, IsRunOfList, tables_fault}
+use Rattle.lsm_compactions.specs.Compacted.{rules_by}
+use Rattle.lsm_compactions.proofs.Compactable.{run_listed}
+use Rattle.lsm_compactions.proofs.CompactedBack.{fault_alone, kept_alone}
+use Rattle.lsm_compactions.proofs.RunBack.{run_held}
+use Rattle.lsm_compactions.proofs.RunWriting.{wants}
 use Rattle.lsm_tables.proofs.compacted.compact_alone.Goals as goal
 
 pub returns-in_err-compacted-clause-taken : goal.returns-in_err-compacted-clause-taken

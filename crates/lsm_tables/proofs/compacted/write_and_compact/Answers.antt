@@ -1,11 +1,11 @@
 use Rattle.std.proofs.Common.{◌∙◌, ap, sym, subst, ℕ, length}
 use Rattle.std.specs.Prelude.{Option}
-use Rattle.lsm_tables.specs.Chain.{FitsAsTables, both_fault, ids_behind}
-use Rattle.lsm_tables.proofs.CompactedBack.{first_refused, fits_behind, none_refused, small_numbers, then_refused, written_run_is_compactable}
+use Rattle.lsm_compactions.specs.Chain.{FitsAsTables, both_fault, ids_behind}
+use Rattle.lsm_compactions.proofs.CompactedBack.{first_refused, fits_behind, none_refused, small_numbers, then_refused, written_run_is_compactable}
 use Rattle.lsm_block_indexes.proofs.OnDemands.{none_of}
-use Rattle.lsm_tables.proofs.RunWriting.{wants}
+use Rattle.lsm_compactions.proofs.RunWriting.{wants}
 use Rattle.lsm_sorted.specs.Compaction.{kept, unfiltered}
-use Rattle.lsm_tables.specs.Compacted.{rules_by}
+use Rattle.lsm_compactions.specs.Compacted.{rules_by}
 use Rattle.sst_entries.proofs.Refusals.{faults_refusal}
 use Rattle.sst_entries.specs.Error.{Faults}
 use Rattle.lsm_tables.proofs.compacted.write_and_compact.Goals as goal

@@ -1,7 +1,7 @@
 use Rattle.lsm_iters.specs.Range.{RangeGives, back_next, front_next}
 use Rattle.sst_entries.specs.Stream.{back_of, front_of}
 use Rattle.lsm_readers.specs.Words.{DealsAll, DealsWithin}
-use Rattle.lsm_tables.proofs.OneList.{beside_ok}
+use Rattle.lsm_runs.proofs.OneList.{beside_ok}
 use Rattle.lsm_tables.proofs.one_answer.ranges_of.Goals as goal
 
 pub returns-clause-list : goal.returns-clause-list

@@ -1,5 +1,5 @@
 use Rattle.std.specs.Arc.{arc_value}
-use Rattle.lsm_tables.specs.Compacted.{kept_in, rules_by}
+use Rattle.lsm_compactions.specs.Compacted.{kept_in, rules_by}
 use Rattle.lsm_tables.proofs.PartRuns.{made_result}
 use Rattle.lsm_tables.proofs.part.compact_part.Goals as goal
 

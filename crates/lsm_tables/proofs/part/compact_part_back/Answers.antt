@@ -1,10 +1,10 @@
 use Rattle.std.proofs.Common.{◌++◌}
 use Rattle.sst_entries.proofs.Refusals.{faults_refusal}
-use Rattle.lsm_tables.specs.Chain.{tables_fault}
-use Rattle.lsm_tables.specs.Compacted.{kept_in, rules_by}
-use Rattle.lsm_tables.specs.SeveralRuns.{union_in}
+use Rattle.lsm_compactions.specs.Chain.{tables_fault}
+use Rattle.lsm_compactions.specs.Compacted.{kept_in, rules_by}
+use Rattle.lsm_runs.specs.SeveralRuns.{union_in}
 use Rattle.lsm_tables.proofs.PartRuns.{alike, same_bounds}
-use Rattle.lsm_tables.proofs.RunWriting.{wants}
+use Rattle.lsm_compactions.proofs.RunWriting.{wants}
 use Rattle.lsm_tables.proofs.part.compact_part_back.Goals as goal
 
 pub returns-in_err-after-clause-refused : goal.returns-in_err-after-clause-refused

@@ -2,7 +2,7 @@ use Rattle.sst_entries.proofs.Refusals.{faults_refusal}
 use Rattle.std.proofs.Common.{ap, arith}
 use Rattle.lsm_files.specs.declared.options.Options.{Options}
 use Rattle.lsm_files.specs.Options.{label_of}
-use Rattle.lsm_tables.proofs.Opening.{none_written, opened, opens, unopened}
+use Rattle.lsm_compactions.proofs.Opening.{none_written, opened, opens, unopened}
 use Rattle.lsm_tables.proofs.written.write_and_open.Goals as goal
 
 pub returns-in_err-opened-in-Some-clause-refused : goal.returns-in_err-opened-in-Some-clause-refused

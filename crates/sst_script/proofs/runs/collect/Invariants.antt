@@ -1,7 +1,7 @@
 use Rattle.std.proofs.Common.{◌≡◌, List, ◌++◌}
 use Rattle.sst_entries.specs.Entry.{Entry}
 use Rattle.sst_entries.specs.Stream.{nowhere}
-use Rattle.lsm_tables.specs.RunLists.{DealsList}
+use Rattle.lsm_runs.specs.RunLists.{DealsList}
 use Rattle.sst_script.proofs.runs.collect.Given as goal
 
 abbrev pub invariant-loop-item : goal.invariant-loop-item

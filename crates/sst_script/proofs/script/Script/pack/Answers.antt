@@ -3,7 +3,7 @@ use Rattle.std.specs.Prelude.{map}
 use Rattle.std.specs.Arc.{arc_value}
 use Rattle.std.proofs.lemmas.List.{length-map}
 use Rattle.lsm_readers.specs.Table.{OpenTable}
-use Rattle.lsm_tables.specs.Compacted.{AreCompactable}
+use Rattle.lsm_compactions.specs.Compacted.{AreCompactable}
 use Rattle.sst_script.specs.Runs.{HasRuns}
 use Rattle.sst_script.specs.Script.{Packs, store}
 use Rattle.sst_script.proofs.CompactLemmas.{able_runs}

@@ -1,0 +1,55 @@
+//! What making a run refuses where no id is left for a table.
+use crate::runs::{V, runs_of};
+use lsm_tables::{compact_part_back, compact_to_run};
+use lsm_writers::{TableIds, Timestamp};
+use run_examples::tables::{ALL, owned_range};
+use sst_blocks::Error;
+use std::alloc::Global;
+use std::test::Fail;
+use writer_examples::rows::Row;
+
+const ROWS: [Row<'static>; 2] = [(b"a", 9, V, b"x"), (b"b", 4, V, b"y")];
+
+// A counter behind the last id.
+fn spent() -> TableIds {
+    let mut ids = TableIds::new(u64::MAX);
+    ids.next();
+    ids
+}
+
+fn compacted(alloc: Global) -> Result<(), Error> {
+    let runs = runs_of(alloc, &[&ROWS])?;
+    let moment = Timestamp::from(0);
+    compact_to_run(alloc, &runs, 5, false, false, spent(), 0, moment)?;
+    Ok(())
+}
+
+fn compacted_in_its_place(alloc: Global) -> Result<(), Error> {
+    let part = runs_of(alloc, &[&ROWS])?;
+    let (moment, range) = (Timestamp::from(0), owned_range(alloc, ALL)?);
+    let ids = spent();
+    compact_part_back(
+        alloc,
+        &[],
+        &part,
+        &[],
+        5,
+        false,
+        false,
+        ids,
+        0,
+        moment,
+        b"a",
+        10,
+        range,
+    )?;
+    Ok(())
+}
+
+#[test]
+fn no_run_is_made_without_an_id(rt: HostRuntime) -> Result<(), Fail> {
+    let alloc = rt.alloc();
+    assert!(rt; compacted(alloc) == Err(Error::TableIdsSpent));
+    assert!(rt; compacted_in_its_place(alloc) == Err(Error::TableIdsSpent));
+    Ok(())
+}

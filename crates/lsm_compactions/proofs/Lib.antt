@@ -1,0 +1,17 @@
+pub mod Opening
+pub mod RunWriting
+pub mod RunBack
+pub mod Packing
+pub mod PackingTies
+pub mod PackingRuns
+pub mod PackingResult
+pub mod WrittenBy
+pub mod WritesOn
+pub mod Scanners
+pub mod Keeping
+pub mod Versions
+pub mod Replaced
+pub mod StaysWritable
+pub mod ShownRanges
+pub mod Compactable
+pub mod CompactedBack

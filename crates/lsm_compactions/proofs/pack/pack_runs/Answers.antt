@@ -1,0 +1,23 @@
+use Rattle.std.specs.Prelude.{map}
+use Rattle.std.specs.Arc.{arc_value}
+use Rattle.lsm_compactions.proofs.PackingResult.{result_holders, result_least, result_list, result_ordered, result_tables}
+use Rattle.lsm_compactions.proofs.pack.pack_runs.Goals as goal
+
+pub returns-clause-tables : goal.returns-clause-tables
+returns-clause-tables g c =
+    result_tables (λ v. v.items) (map arc_value c.args.runs.now) c.in_ok-shared.shared c.in_ok-shared.ensures.runs c.optimize_runs.result c.optimize_runs.ensures.tables
+
+pub returns-clause-holders : goal.returns-clause-holders
+returns-clause-holders g c =
+    result_holders (λ v. v.items) (map arc_value c.args.runs.now) c.in_ok-shared.shared c.in_ok-shared.ensures.runs c.optimize_runs.result c.optimize_runs.ensures.holders
+
+pub returns-clause-ordered : goal.returns-clause-ordered
+returns-clause-ordered g c =
+    result_ordered (λ v. v.items) (map arc_value c.args.runs.now) c.in_ok-shared.shared c.in_ok-shared.ensures.runs c.optimize_runs.result c.optimize_runs.ensures.one c.optimize_runs.ensures.ordered
+
+pub returns-clause-least : goal.returns-clause-least
+returns-clause-least g c =
+    result_least (λ v. v.items) (map arc_value c.args.runs.now) c.in_ok-shared.shared c.in_ok-shared.ensures.runs c.optimize_runs.result c.optimize_runs.ensures.least
+
+pub returns-clause-list : goal.returns-clause-list
+returns-clause-list g c = result_list (λ v. v.items) (map arc_value c.args.runs.now) c.optimize_runs.result (returns-clause-tables g c) (returns-clause-holders g c) (returns-clause-ordered g c)

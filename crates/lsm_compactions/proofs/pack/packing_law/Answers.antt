@@ -1,0 +1,9 @@
+use Rattle.lsm_compactions.proofs.Packing.{packed_alike}
+use Rattle.lsm_compactions.proofs.PackingTies.{kept_alike}
+use Rattle.lsm_compactions.proofs.pack.packing_law.Goals as goal
+
+pub returns-clause-reads : goal.returns-clause-reads
+returns-clause-reads c = packed_alike
+
+pub returns-clause-kept : goal.returns-clause-kept
+returns-clause-kept c = kept_alike

@@ -1,0 +1,7 @@
+pub mod Written
+pub mod Chain
+pub mod Packed
+pub mod Compacted
+pub mod ReadsCompacted
+pub mod PartReads
+pub mod Words

@@ -1,0 +1,35 @@
+-- What the tables of runs hold together, and that they hold it in other runs too.
+use Rattle.std.specs.Prelude.{◌≡◌, Bool, true, false, List, [], ◌∷◌}
+use Rattle.sst_entries.specs.Entry.{Entry}
+use Rattle.sst_entries.specs.Strict.{IsStrict}
+use Rattle.lsm_ranges.specs.Packing.{AreInOrder, SameHolders, SameTables}
+use Rattle.lsm_readers.specs.Table.{OpenTable}
+use Rattle.lsm_runs.specs.RunLists.{RunsHoldLists}
+use Rattle.lsm_runs.specs.RunParts.{range_of}
+use Rattle.lsm_runs.specs.SeveralRuns.{union_in}
+
+-- runs in order whose tables hold lists; these are the sorted entries of all lists
+pub record HoldUnion (runs : List (List OpenTable)) (all : List Entry) : Type 0 where
+  pub lists : List (List (List Entry))
+  pub hold : RunsHoldLists runs lists
+  pub union : union_in lists ≡ all
+
+-- where runs in order hold a strict list together, their tables hold it in any other runs in order
+abbrev pub PackedLaw : Type 0
+PackedLaw =
+    (runs packed : List (List OpenTable)) (lists : List (List (List Entry))) →
+    RunsHoldLists runs lists → IsStrict (union_in lists) → SameTables runs packed →
+    AreInOrder range_of packed → HoldUnion packed (union_in lists)
+
+-- where they hold any list, their tables hold it in other runs in order if each key has its tables in the same
+-- order there
+abbrev pub KeptLaw : Type 0
+KeptLaw =
+    (runs packed : List (List OpenTable)) (lists : List (List (List Entry))) →
+    RunsHoldLists runs lists → SameTables runs packed → SameHolders range_of runs packed →
+    AreInOrder range_of packed → HoldUnion packed (union_in lists)
+
+-- whether a run has a table
+abbrev pub has_table : List OpenTable → Bool
+has_table [] = false
+has_table (t ∷ ts) = true

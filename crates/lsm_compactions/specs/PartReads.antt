@@ -1,0 +1,46 @@
+-- What is read of several runs before and after a part of them is compacted.
+use Rattle.std.specs.Prelude.{◌≡◌, ◌≤◌, ℕ, List, ◌++◌, Option, Result}
+use Rattle.std.specs.declared.ops.Bound.{Bound}
+use Rattle.sst_entries.specs.declared.error.Error.{Error}
+use Rattle.sst_entries.specs.Entry.{Entry}
+use Rattle.sst_entries.specs.Point.{point, within}
+use Rattle.lsm_merge.specs.Union.{newest}
+use Rattle.lsm_readers.specs.Table.{OpenTable}
+use Rattle.lsm_sorted.specs.Compaction.{Rules}
+use Rattle.lsm_sorted.specs.Point.{shown}
+use Rattle.lsm_compactions.specs.Compacted.{kept_in}
+use Rattle.lsm_compactions.specs.ReadsCompacted.{all_shown, entries_in}
+use Rattle.lsm_runs.specs.RunLists.{DealsList, RunsHoldLists}
+use Rattle.lsm_runs.specs.SeveralRuns.{union_in}
+
+-- tables of lists in runs that stand side by side: in front of a part, in the part, and behind it
+pub record HoldSides (front part behind : List (List OpenTable))
+    (fs ps bs : List (List (List Entry))) : Type 0 where
+  pub in_front : RunsHoldLists front fs
+  pub in_part : RunsHoldLists part ps
+  pub in_behind : RunsHoldLists behind bs
+
+module _ {S : Type 0} (front back : S → Option (Result Entry Error) → S → Type 0)
+    (key : List ℕ) (bound : ℕ) (low high : Bound (List ℕ)) where
+  -- what was read of a list: the first match of a key, and the newest versions within two bounds
+  pub record ReadsOf (es : List Entry) (read : Option Entry × S) : Type 0 where
+    pub point_is : read.0 ≡ point es key bound
+    pub range_is : DealsList front back (newest (within low high es)) read.1
+
+  -- it was read of what is kept of a part's lists, and of the lists in front of them and behind them
+  pub record ReadsKept (rules : Rules) (fs ps bs : List (List (List Entry)))
+      (read : Option Entry × S) : Type 0 where
+    pub made : List (List (List Entry))
+    pub kept_are : entries_in made ≡ kept_in rules ps
+    pub reads : ReadsOf (union_in (fs ++ (made ++ bs))) read
+
+  -- reads of one list before and of another after show the same, point reads to a reader at the
+  -- watermark or above
+  pub record ShowAlike (watermark : ℕ) (before after : Option Entry × S) : Type 0 where
+    pub had : List Entry
+    pub has : List Entry
+    pub had_read : ReadsOf had before
+    pub has_read : ReadsOf has after
+    pub same_point : watermark ≤ bound → shown after.0 ≡ shown before.0
+    pub same_range : all_shown (newest (within low high has))
+        ≡ all_shown (newest (within low high had))

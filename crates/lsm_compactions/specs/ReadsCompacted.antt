@@ -1,0 +1,68 @@
+-- What readers see where some of several runs are compacted and the others stay.
+use Rattle.std.specs.Prelude.{◌≡◌, ◌≤◌, ◌⊎◌, ℕ, not, List, ◌++◌, filter, map}
+use Rattle.std.specs.declared.ops.Bound.{Bound}
+use Rattle.sst_entries.specs.declared.value_type.ValueType.{ValueType}
+use Rattle.sst_entries.specs.Entry.{Entry}
+use Rattle.sst_entries.specs.Kind.{is_tombstone_kind}
+use Rattle.sst_entries.specs.Point.{within}
+use Rattle.sst_entries.specs.Strict.{IsStrict}
+use Rattle.lsm_files.specs.Chunks.{joined}
+use Rattle.lsm_merge.specs.Union.{SameBag, newest}
+use Rattle.lsm_sorted.specs.Compaction.{Rules}
+use Rattle.lsm_sorted.specs.Point.{seen}
+use Rattle.lsm_sorted.specs.ReadLaw.{AllNewer, IsPlain}
+use Rattle.lsm_writers.specs.Writing.{IsWritable}
+use Rattle.lsm_compactions.specs.Compacted.{kept_in}
+use Rattle.lsm_runs.specs.SeveralRuns.{union_in}
+
+-- the key, the kind and the value of each entry that is no tombstone
+abbrev pub shown_of : Entry → List ℕ × ValueType × List ℕ
+shown_of e = (e.user_key, e.kind, e.value)
+
+abbrev pub all_shown : List Entry → List (List ℕ × ValueType × List ℕ)
+all_shown es = map shown_of (filter (λ e. not (is_tombstone_kind e.kind)) es)
+
+-- the entries of several runs' lists, run by run
+abbrev pub entries_in : List (List (List Entry)) → List Entry
+entries_in lists = joined (map joined lists)
+
+-- a part of the runs is compacted, and the rest stays: the runs before have the entries of both, where no key is there twice
+-- under one number; those after have what is kept of the part, and the entries of the rest, in whatever runs. Nothing is evicted
+-- or zeroed and no weak tombstone is in the part, or else of each key all others are newer than the part
+pub record AreReplaced (rules : Rules) (part rest before after : List (List (List Entry))) : Type 0
+  where
+    pub strict : IsStrict (union_in before)
+    pub had : SameBag (entries_in before) (entries_in part ++ entries_in rest)
+    pub has : SameBag (entries_in after) (kept_in rules part ++ entries_in rest)
+    pub safe : IsPlain rules (union_in part) ⊎ AllNewer (union_in part) (union_in rest)
+
+-- a point read whose bound is the watermark or above sees the same of each key
+abbrev pub PointsStay : Type 0
+PointsStay = (rules : Rules) (part rest before after : List (List (List Entry))) →
+    AreReplaced rules part rest before after → (key : List ℕ) (bound : ℕ) →
+    rules.watermark ≤ bound → seen (union_in after) key bound ≡ seen (union_in before) key bound
+
+-- a range sees the same of the newest versions within any bounds
+abbrev pub RangesStay : Type 0
+RangesStay = (rules : Rules) (part rest before after : List (List (List Entry))) →
+    AreReplaced rules part rest before after → (low high : Bound (List ℕ)) →
+    all_shown (newest (within low high (union_in after)))
+    ≡ all_shown (newest (within low high (union_in before)))
+
+-- again no key is there twice under one number
+abbrev pub StayStrict : Type 0
+StayStrict = (rules : Rules) (part rest before after : List (List (List Entry))) →
+    AreReplaced rules part rest before after → IsStrict (union_in after)
+
+-- and each number stays below the largest one: the runs may be compacted again
+abbrev pub StayWritable : Type 0
+StayWritable = (rules : Rules) (part rest before after : List (List (List Entry))) →
+    AreReplaced rules part rest before after → IsWritable (union_in before) →
+    IsWritable (union_in after)
+
+-- so it is where runs that stand side by side are compacted into runs that take their place
+abbrev pub SideBySide : Type 0
+SideBySide = (rules : Rules) (front part made behind : List (List (List Entry))) →
+    entries_in made ≡ kept_in rules part → IsStrict (union_in (front ++ (part ++ behind))) →
+    IsPlain rules (union_in part) ⊎ AllNewer (union_in part) (union_in (front ++ behind)) →
+    AreReplaced rules part (front ++ behind) (front ++ (part ++ behind)) (front ++ (made ++ behind))

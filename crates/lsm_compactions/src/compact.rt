@@ -1,0 +1,166 @@
+//! Compacting several runs into new tables.
+ghost use Rattle.std.specs.Prelude.{◌≡◌, ◌<◌, IfErr, IfOk, List, length, map};
+ghost use Rattle.std.specs.Arc.{arc_value};
+ghost use Rattle.std.specs.Iterator.{IsFinite};
+ghost use Rattle.sst_entries.specs.declared.error.Error.TheVariants.{OutOfMemory};
+ghost use Rattle.lsm_compactions.specs.ReadsCompacted.{PointsStay, RangesStay, SideBySide};
+ghost use Rattle.lsm_compactions.specs.ReadsCompacted.{StayStrict, StayWritable};
+ghost use Rattle.lsm_compactions.specs.Words.{AreCompactable, AreWrittenBy, DealTogether, DealsList};
+ghost use Rattle.lsm_compactions.specs.Words.{DealsWritable, Entry, Faults, FitsBy, HaveEntries};
+ghost use Rattle.lsm_compactions.specs.Words.{HoldLists, IsFreshRun, RunsHoldLists, RunsOn, joined};
+ghost use Rattle.lsm_compactions.specs.Words.{kept_in, nowhere, rules_by, writes_fault};
+
+use lsm_merge::Merger;
+use lsm_ranges::Run;
+use lsm_readers::Table;
+use lsm_runs::RunScanner;
+use lsm_sorted::compaction::stream::{CompactionStream, read_law};
+use lsm_writers::{FinishedTable, MultiWriter, TableIds, tables_law};
+use sst_blocks::{Error, IterItem, SeqNo};
+use std::alloc::Allocator;
+use std::sync::Arc;
+
+// The scanner of a whole run.
+fn scanner_of<A: Allocator + Clone>(run: &Arc<Run<Table<A>, A>, A>) -> Result<RunScanner<A>, Error>
+    requires { 0 < length (arc_value run.now) }
+    // Of tables of lists that have entries it deals these lists, one behind another.
+    ensures list { let gives = ⟦<RunScanner<A> as Iterator>⟧.next_gives in
+        (lists : List (List Entry)) → HoldLists (arc_value run.now) lists → HaveEntries lists →
+        IfOk result (DealsList gives nowhere (joined lists)) }
+    ensures refused { (lists : List (List Entry)) → HoldLists (arc_value run.now) lists →
+        HaveEntries lists → IfErr result (λ e. e ≡ OutOfMemory) }
+{
+    RunScanner::culled(run.clone()?, (None, None))
+}
+
+// A scanner of each run.
+fn scanners_of<A: Allocator + Clone>(
+    alloc: A,
+    runs: &[Arc<Run<Table<A>, A>, A>],
+) -> Result<Vec<RunScanner<A>, A>, Error>
+    requires { AreCompactable (map arc_value runs.now) }
+    // They deal together what each run has.
+    ensures list { let gives = ⟦<RunScanner<A> as Iterator>⟧.next_gives in
+        (able : AreCompactable (map arc_value runs.now)) →
+        IfOk result (λ v. DealTogether gives nowhere v.items (map joined able.lists)) }
+    ensures err { IfErr result (λ e. e ≡ OutOfMemory) }
+{
+    let mut scanners = Vec::new(alloc);
+    for run in runs {
+        scanners.push(scanner_of(run)?)?;
+    }
+    Ok(scanners)
+}
+
+// What is kept of all entries of the runs together, in order.
+fn kept_of<A: Allocator + Clone>(
+    alloc: A,
+    runs: &[Arc<Run<Table<A>, A>, A>],
+    gc_seqno_threshold: SeqNo,
+    evict_tombstones: bool,
+    zero_seqnos: bool,
+) -> Result<CompactionStream<Merger<RunScanner<A>, A>>, Error>
+    requires { AreCompactable (map arc_value runs.now) }
+    ensures can { IfOk result
+        ⟦<CompactionStream<Merger<RunScanner<A>, A>> as Iterator>⟧.can_next }
+    ensures list { let rules = rules_by gc_seqno_threshold evict_tombstones zero_seqnos in
+        let gives = ⟦<CompactionStream<Merger<RunScanner<A>, A>> as Iterator>⟧.next_gives in
+        (able : AreCompactable (map arc_value runs.now)) →
+        IfOk result (DealsList gives nowhere (kept_in rules able.lists)) }
+    ensures err { IfErr result (λ e. e ≡ OutOfMemory) }
+{
+    let scanners = scanners_of(alloc.clone()?, runs)?;
+    let merger = Merger::new(alloc, scanners)?;
+    let stream = CompactionStream::new(merger, gc_seqno_threshold)
+        .evict_tombstones(evict_tombstones)
+        .zero_seqnos(zero_seqnos);
+    // What it goes through it deals compacted.
+    stream.unfiltered_run();
+    Ok(stream)
+}
+
+// Writes all that a stream deals, and finishes. Refused as the writer is.
+fn write_all<I: Iterator<Item = IterItem<A>> + Drop, A: Allocator + Clone>(
+    items: I,
+    mut writer: MultiWriter<A>,
+) -> Result<(Vec<FinishedTable<A>, A>, TableIds), Error>
+    requires fresh { IsFreshRun writer }
+    requires next { RunsOn writer }
+    requires can { I.can_next items }
+    requires finite { IsFinite (I.remaining items) }
+    requires deals { DealsWritable I.next_gives items }
+    ensures written { (d : DealsWritable I.next_gives items) →
+        IfOk result (λ r. AreWrittenBy writer d.list r.0.items r.1) }
+    // The stream refuses nothing but for want of memory.
+    ensures refused { (d : DealsWritable I.next_gives items) →
+        Faults result (writes_fault writer d.list) }
+{
+    for item in items {
+        writer.write(item?)?;
+    }
+    let left = writer.table_ids();
+    let tables = writer.finish()?;
+    Ok((tables, left))
+}
+
+/// Compacts several runs into new tables: what a [`CompactionStream`] without a filter keeps of all their entries together is
+/// written by `writer`, in one pass. Answers the finished tables, none where nothing is kept, and the writer's counter of ids
+/// behind them.
+///
+/// Refused as [`MultiWriter::write`] and [`MultiWriter::finish`] are, and [`Error::OutOfMemory`]. Whatever is answered, the runs
+/// are as they were. Conditions: `writer` has written nothing; the runs are in order, each has a table, and each of their tables
+/// holds a list that has an entry; in all lists together, lifted, no key has one number twice, and each number is below
+/// `u64::MAX`.
+pub fn compact_runs<A: Allocator + Clone>(
+    alloc: A,
+    runs: &[Arc<Run<Table<A>, A>, A>],
+    gc_seqno_threshold: SeqNo,
+    evict_tombstones: bool,
+    zero_seqnos: bool,
+    writer: MultiWriter<A>,
+) -> Result<(Vec<FinishedTable<A>, A>, TableIds), Error>
+    requires fresh { IsFreshRun writer }
+    requires able { AreCompactable (map arc_value runs.now) }
+    // The tables are those of what is kept of all entries together, as the writer cuts them.
+    ensures tables { let rules = rules_by gc_seqno_threshold evict_tombstones zero_seqnos in
+        (lists : List (List (List Entry))) → RunsHoldLists (map arc_value runs.now) lists →
+        IfOk result (λ r. AreWrittenBy writer (kept_in rules lists) r.0.items r.1) }
+    // The refusal is the writer's first one: reading refuses nothing but for want of memory.
+    ensures refused { let rules = rules_by gc_seqno_threshold evict_tombstones zero_seqnos in
+        (lists : List (List (List Entry))) → RunsHoldLists (map arc_value runs.now) lists →
+        Faults result (writes_fault writer (kept_in rules lists)) }
+    // Where its tables fit, and an id is left for each, that is for want of memory alone.
+    ensures taken { let rules = rules_by gc_seqno_threshold evict_tombstones zero_seqnos in
+        (lists : List (List (List Entry))) → RunsHoldLists (map arc_value runs.now) lists →
+        FitsBy writer (kept_in rules lists) → IfErr result (λ e. e ≡ OutOfMemory) }
+{
+    // A list whose tables fit is taken whole.
+    tables_law();
+    let stream = kept_of(
+        alloc,
+        runs,
+        gc_seqno_threshold,
+        evict_tombstones,
+        zero_seqnos,
+    )?;
+    write_all(stream, writer)
+}
+
+/// Laws of reads of several runs where a part of them is compacted, without a filter, and the rest stays: no key was there
+/// twice under one number, and nothing is evicted or zeroed and the part has no weak tombstone, or of each key all others are
+/// newer. A point read whose bound is the watermark or above sees the same of each key before and after, and so does a range of
+/// the newest versions within any bounds. Again no key is there twice under one number, and where each number was below the
+/// largest one, each still is: so the runs may be compacted again.
+///
+/// What is said holds wherever the new runs stand among the others; the last clause says it of runs side by side. The call does
+/// nothing: its contract says so.
+pub fn compaction_law()
+    ensures points { PointsStay }
+    ensures ranges { RangesStay }
+    ensures strict { StayStrict }
+    ensures writable { StayWritable }
+    ensures side_by_side { SideBySide }
+{
+    // Of a part that is compacted.
+    read_law();
+}

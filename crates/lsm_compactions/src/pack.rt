@@ -1,0 +1,89 @@
+//! Packing runs of tables, and what packed runs hold.
+ghost use Rattle.std.specs.Prelude.{◌≡◌, IfErr, IfOk, List, filter, length, map};
+ghost use Rattle.std.specs.Arc.{arc_value};
+ghost use Rattle.sst_entries.specs.Entry.{Entry};
+ghost use Rattle.sst_entries.specs.declared.error.Error.TheVariants.{OutOfMemory};
+ghost use Rattle.lsm_ranges.specs.Packing.{AreInOrder, ArePacked, IsLeastSize, SameHolders, SameTables};
+ghost use Rattle.lsm_compactions.specs.Packed.{HoldUnion, KeptLaw, PackedLaw, has_table};
+ghost use Rattle.lsm_runs.specs.RunLists.{RunsHoldLists};
+ghost use Rattle.lsm_runs.specs.RunParts.{range_of};
+ghost use Rattle.lsm_runs.specs.SeveralRuns.{union_in};
+
+use lsm_ranges::{Run, optimize_runs};
+use lsm_readers::Table;
+use sst_blocks::Error;
+use std::alloc::Allocator;
+use std::sync::Arc;
+
+/// Laws of the same tables in other runs, each in order.
+///
+/// Of runs in order that hold together a strict list, in which no key has one number twice, whatever runs in order have
+/// their tables hold that list; so a point read and a range give the same of them. Where the list is not strict, it
+/// still holds of runs in which each key has its tables in the same order.
+///
+/// The call does nothing: its contract says so.
+pub fn packing_law()
+    ensures reads { PackedLaw }
+    ensures kept { KeptLaw }
+{}
+
+// The tables of a run, shared.
+fn share_tables<A: Allocator + Clone>(
+    alloc: A,
+    run: &Run<Table<A>, A>,
+) -> Result<Vec<Table<A>, A>, Error>
+    ensures tables { IfOk result (λ tables. tables.items ≡ run.now) }
+    ensures err { IfErr result (λ e. e ≡ OutOfMemory) }
+{
+    let mut tables = Vec::new(alloc);
+    for table in run.as_slice() {
+        tables.push(table.clone()?)?;
+    }
+    Ok(tables)
+}
+
+// The runs that have a table, their tables shared.
+fn share_runs<A: Allocator + Clone>(
+    alloc: A,
+    runs: &[Arc<Run<Table<A>, A>, A>],
+) -> Result<Vec<Run<Table<A>, A>, A>, Error>
+    ensures runs { IfOk result (λ shared.
+        shared.items ≡ filter has_table (map arc_value runs.now)) }
+    ensures err { IfErr result (λ e. e ≡ OutOfMemory) }
+{
+    let mut shared = Vec::new(alloc.clone()?);
+    for run in runs {
+        if let Some(run) = Run::new(share_tables(alloc.clone()?, run)?) {
+            shared.push(run)?;
+        }
+    }
+    Ok(shared)
+}
+
+/// Packs the tables of some runs in as few runs as there can be, as [`optimize_runs`]; runs with no table are left out. The
+/// tables are shared handles: no bytes are copied, and the given runs stay. Refused [`Error::OutOfMemory`] alone.
+pub fn pack_runs<A: Allocator + Clone>(
+    alloc: A,
+    runs: &[Arc<Run<Table<A>, A>, A>],
+) -> Result<Vec<Run<Table<A>, A>, A>, Error>
+    // Of tables of lists in runs in order the packed runs hold the same lists' entries, so each read gives the same.
+    ensures list { (lists : List (List (List Entry))) →
+        RunsHoldLists (map arc_value runs.now) lists →
+        IfOk result (λ packed. HoldUnion packed.items (union_in lists)) }
+    // The tables are the same, each as often.
+    ensures tables { IfOk result (λ packed.
+        SameTables (map arc_value runs.now) packed.items) }
+    // Of runs in order, for each key the tables whose range has it come in the same order,
+    ensures holders { IfOk result (λ packed. AreInOrder range_of (map arc_value runs.now) →
+        SameHolders range_of (map arc_value runs.now) packed.items) }
+    // each packed run is in order and has a table,
+    ensures ordered { IfOk result (λ packed. AreInOrder range_of (map arc_value runs.now) →
+        ArePacked range_of packed.items) }
+    // and no fewer runs can do.
+    ensures least { IfOk result (λ packed. AreInOrder range_of (map arc_value runs.now) →
+        IsLeastSize range_of (map arc_value runs.now) (length packed.items)) }
+    ensures err { IfErr result (λ e. e ≡ OutOfMemory) }
+{
+    let shared = share_runs(alloc.clone()?, runs)?;
+    optimize_runs(alloc, shared)
+}

@@ -1,0 +1,17 @@
+pub mod Places
+pub mod RunSteps
+pub mod RunLaws
+pub mod RunWithin
+pub mod OneList
+pub mod SpanLists
+pub mod Opens
+pub mod Unions
+pub mod RunLists
+pub mod Rising
+pub mod Leading
+pub mod RunPoints
+pub mod RunLoops
+pub mod RunReads
+pub mod Together
+pub mod ScanSteps
+pub mod Spanned

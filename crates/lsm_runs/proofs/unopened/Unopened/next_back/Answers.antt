@@ -1,0 +1,15 @@
+use Rattle.std.proofs.Common.{◌+◌, ◌-◌, arith}
+use Rattle.std.specs.Arc.{arc_value}
+use Rattle.lsm_runs.specs.RunParts.{span_of}
+use Rattle.lsm_runs.proofs.Opens.{fails_last, opens_last}
+use Rattle.lsm_runs.proofs.unopened.Unopened.next_back.Goals as goal
+
+pub returns-in-Ok : goal.returns-in-Ok
+returns-in-Ok g c =
+    let i = c.self.inside in
+    rw (← c.self.view_is) (opens_last (span_of i.ends i.range.0 i.range.1) (arc_value i.run) i.lo i.hi i.opened c.in-Ok.reader (i.hi - 1) (i.opened + 1) (omega arith) (omega arith) (omega arith) (omega arith) (λ t at. c.in-Ok.ensures.ok t (rw (c.as_slice.ensures, c.deref.ensures) at)))
+
+pub returns-in-Err : goal.returns-in-Err
+returns-in-Err g c =
+    let i = c.self.inside in
+    rw (← c.self.view_is) (fails_last g.row.A.Denot (span_of i.ends i.range.0 i.range.1) (arc_value i.run) i.lo i.hi i.opened c.in-Err.refusal (i.hi - 1) (omega arith) c.in-Err.ensures.err (omega arith) (omega arith))

@@ -1,0 +1,7 @@
+pub mod RunParts
+pub mod RunRange
+pub mod RunLists
+pub mod RunScan
+pub mod SeveralRuns
+pub mod SpansRead
+pub mod Words

@@ -1,0 +1,46 @@
+-- The readers of several runs within two bounds, before any call, and the stream over them.
+use Rattle.std.specs.Prelude.{ℕ, All, List, [], ◌∷◌, Option, Some, None, Result}
+use Rattle.std.specs.List.{AllZip, flat_map}
+use Rattle.std.specs.declared.ops.Bound.{Bound}
+use Rattle.sst_entries.specs.declared.error.Error.{Error}
+use Rattle.sst_entries.specs.Entry.{Entry}
+use Rattle.sst_entries.specs.Stream.{back_of, front_of}
+use Rattle.lsm_block_indexes.specs.Dealt.{DealsEnding}
+use Rattle.lsm_merge.specs.declared.merge.Merger.{Merger}
+use Rattle.lsm_ranges.specs.Run.{overlap_indexes}
+use Rattle.lsm_readers.specs.Table.{OpenTable}
+use Rattle.lsm_sorted.specs.NewestLaws.{AnswersNewest, IsNewestOf}
+use Rattle.lsm_sorted.specs.declared.mvcc_stream.MvccStream.{MvccStream}
+use Rattle.lsm_runs.specs.RunParts.{Span, ranges_of, span_of}
+use Rattle.lsm_runs.specs.RunRange.{IsRunOf, RunGives, RunRange, back_tables, front_tables, run_left}
+
+-- the tables of a run, and the span of those that lie at a first and a last place, where there are any
+abbrev pub span_at : List OpenTable → Bound (List ℕ) → Bound (List ℕ) → Option (ℕ × ℕ)
+    → List (List OpenTable × Span)
+span_at tables low high None = []
+span_at tables low high (Some ends) = (tables, span_of ends low high) ∷ []
+
+-- each run that has a table whose range reaches past both bounds, with the span of these tables
+abbrev pub spans_within : Bound (List ℕ) → Bound (List ℕ) → List (List OpenTable)
+    → List (List OpenTable × Span)
+spans_within low high runs =
+    flat_map (λ tables. span_at tables low high (overlap_indexes low high (ranges_of tables))) runs
+
+-- before any call, a stream of newest versions over one reader of each of these spans. What a reader deals, up to its first
+-- error, is what its tables tell, and behind an error, want of memory too, it deals nothing. For every list of ends the
+-- stream's answers are those of its steps on all entries, or on what is left of them where an error that was met takes the
+-- place of a stretch
+pub record IsOverSpans {A : Type 0}
+    (next next_back : MvccStream (Merger (RunRange A) A) (Result Entry Error)
+    → Option (Result Entry Error)
+    → MvccStream (Merger (RunRange A) A) (Result Entry Error) → Type 0)
+    (low high : Bound (List ℕ)) (runs : List (List OpenTable))
+    (s : MvccStream (Merger (RunRange A) A) (Result Entry Error)) : Type 0 where
+  pub readers : List (RunRange A)
+  pub spans : AllZip (λ reader run. IsRunOf run.0 run.1 reader) readers (spans_within low high runs)
+  pub deal : All (λ reader. DealsEnding (RunGives front_of front_tables)
+      (RunGives back_of back_tables) (λ _. Unit {0}) (λ _. Unit {0}) reader
+      (run_left reader)) readers
+  pub of : IsNewestOf readers s
+  pub answers : AnswersNewest (RunGives front_of front_tables) (RunGives back_of back_tables)
+      readers next next_back s

@@ -1,0 +1,21 @@
+-- The words of the contracts of runs that are read, those of the crates below among them, so that a file asks for them in one place.
+pub use Rattle.sst_entries.specs.Entry.{Entry}
+pub use Rattle.sst_entries.specs.Error.{Faults, FaultsFirst, Gives, is_memory}
+pub use Rattle.sst_entries.specs.Point.{point, within}
+pub use Rattle.sst_entries.specs.Stream.{CanDeal, back_of, first, front_of, nowhere}
+pub use Rattle.sst_blocks.specs.Opened.{none_opened}
+pub use Rattle.lsm_block_indexes.specs.Dealt.{DealsEnding}
+pub use Rattle.lsm_files.specs.Chunks.{joined}
+pub use Rattle.lsm_files.specs.Facts.{highest_seqno}
+pub use Rattle.lsm_files.specs.Options.{default_options}
+pub use Rattle.lsm_merge.specs.Union.{item_cmp, newest}
+pub use Rattle.lsm_ranges.specs.Run.{ArePlacesOf, IsInOrder, overlap_indexes}
+pub use Rattle.lsm_readers.specs.Answer.{lift}
+pub use Rattle.lsm_readers.specs.Read.{DoesRead, Opens}
+pub use Rattle.lsm_readers.specs.Table.{OpenTable}
+pub use Rattle.lsm_runs.specs.RunParts.{ends_given, range_of, span_of}
+pub use Rattle.lsm_runs.specs.RunRange.{IsRunOf, ItemGives, OpensAtMost, RunGives, back_tables, front_tables, over, run_left, run_size, stopped}
+pub use Rattle.lsm_runs.specs.RunLists.{DealTogether, DealsList, HoldLists, RunsHoldLists, span_list}
+pub use Rattle.lsm_runs.specs.RunScan.{BeginsNext, BeginsScan, IsScanOf, RunScansNext, ScansItem, over_scan, run_scan_size, stopped_scan, tables_between, tables_scan}
+pub use Rattle.lsm_runs.specs.SpansRead.{IsOverSpans, spans_within}
+pub use Rattle.lsm_runs.specs.SeveralRuns.{LoadsEach, leading_of, loads_together, run_read, runs_read, runs_told, union_in}

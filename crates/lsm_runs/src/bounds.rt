@@ -1,0 +1,31 @@
+//! Bounds that own their keys.
+ghost use Rattle.std.specs.Prelude.{◌≡◌, IfOk};
+ghost use Rattle.lsm_ranges.specs.KeyRange.{key_bound};
+
+use sst_blocks::UserKey;
+use std::alloc::{AllocError, Allocator};
+use std::ops::Bound;
+
+/// The bound, by the bytes of its key.
+pub(crate) fn edge<A: Allocator>(bound: &Bound<UserKey<A>>) -> Bound<&[u8]>
+    ensures { key_bound result ≡ bound.now }
+{
+    match bound {
+        Bound::Included(key) => Bound::Included(key.as_slice()),
+        Bound::Excluded(key) => Bound::Excluded(key.as_slice()),
+        Bound::Unbounded => Bound::Unbounded,
+    }
+}
+
+/// The same bound, which shares its key's memory. Refused where its count of sharers is full.
+pub fn share<A: Allocator>(
+    bound: &Bound<UserKey<A>>,
+) -> Result<Bound<UserKey<A>>, AllocError>
+    ensures { IfOk result (λ b. b ≡ bound.now) }
+{
+    match bound {
+        Bound::Included(key) => Ok(Bound::Included(key.clone()?)),
+        Bound::Excluded(key) => Ok(Bound::Excluded(key.clone()?)),
+        Bound::Unbounded => Ok(Bound::Unbounded),
+    }
+}

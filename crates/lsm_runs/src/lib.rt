@@ -1,0 +1,14 @@
+//! Reading runs of tables: one run from both ends or in one pass, and several runs as one.
+#![tactic(auto)]
+
+mod bounds;
+mod run_reader;
+mod run_scanner;
+mod runs;
+mod spans;
+mod unopened;
+
+pub use bounds::share;
+pub use run_reader::RunReader;
+pub use run_scanner::RunScanner;
+pub use runs::{get_runs, get_runs_counted, range_runs};

@@ -1,0 +1,231 @@
+//! Reading several runs as one.
+ghost use Rattle.std.specs.Prelude.{◌≡◌, ℕ, [], IfErr, IfOk, IsOk, List, MatchOption, None, Ok, Option, Some, length, map};
+ghost use Rattle.std.specs.Arc.{arc_value};
+ghost use Rattle.std.specs.List.{AllByRecursion, AllZip};
+ghost use Rattle.std.specs.Ordering.{is_lt};
+ghost use Rattle.sst_entries.specs.declared.error.Error.TheVariants.{OutOfMemory};
+ghost use Rattle.lsm_runs.specs.Words.{CanDeal, DealTogether, DealsList, DoesRead, Entry};
+ghost use Rattle.lsm_runs.specs.Words.{FaultsFirst, Gives, HoldLists, IsInOrder, IsOverSpans};
+ghost use Rattle.lsm_runs.specs.Words.{IsRunOf, LoadsEach, Opens, RunsHoldLists, item_cmp};
+ghost use Rattle.lsm_runs.specs.Words.{joined, leading_of, loads_together, newest, none_opened};
+ghost use Rattle.lsm_runs.specs.Words.{overlap_indexes, point, range_of, run_read, runs_read};
+ghost use Rattle.lsm_runs.specs.Words.{runs_told, span_of, spans_within, union_in, within};
+
+use crate::RunReader;
+use crate::bounds::share;
+use lsm_merge::Merger;
+use lsm_ranges::Run;
+use lsm_readers::Table;
+use lsm_sorted::{MvccStream, newest_from_both_ends, newest_of};
+use sst_blocks::{Error, InternalValue, Opened, SeqNo, UserKey};
+use std::alloc::Allocator;
+use std::ops::Bound;
+use std::sync::Arc;
+
+// The reader of a run within both bounds, where a table's range reaches past them.
+fn reader_of<A: Allocator + Clone>(
+    run: &Arc<Run<Table<A>, A>, A>,
+    range: &(Bound<UserKey<A>>, Bound<UserKey<A>>),
+) -> Result<Option<RunReader<A>>, Error>
+    // Of tables of lists in a run in order it deals what lies within the bounds; without a reader there is nothing.
+    ensures list { let gives = ⟦<RunReader<A> as Iterator>⟧.next_gives in
+        let back_gives = ⟦<RunReader<A> as DoubleEndedIterator>⟧.next_back_gives in
+        (lists : List (List Entry)) →
+        IsInOrder range_of (arc_value run.now) × HoldLists (arc_value run.now) lists →
+        let found = within range.now.0 range.now.1 (joined lists) in IfOk result (λ r.
+        MatchOption r (found ≡ []) (λ reader. DealsList gives back_gives found reader)) }
+    // Of any tables in a run in order it is that of the span of those whose ranges reach past both bounds.
+    ensures span { let tables = arc_value run.now in IsInOrder range_of tables →
+        let found = overlap_indexes range.now.0 range.now.1 (map range_of tables) in
+        IfOk result (λ r. MatchOption r (found ≡ None) (λ reader. (ends : ℕ × ℕ) ×
+        (found ≡ Some ends) × IsRunOf tables (span_of ends range.now.0 range.now.1) reader)) }
+    ensures err { IfErr result (λ e. e ≡ OutOfMemory) }
+{
+    let bounds = (share(&range.0)?, share(&range.1)?);
+    RunReader::new(run.clone()?, bounds)
+}
+
+// A reader of each run that has a table whose range reaches past both bounds.
+fn readers_of<A: Allocator + Clone>(
+    alloc: A,
+    runs: &[Arc<Run<Table<A>, A>, A>],
+    range: &(Bound<UserKey<A>>, Bound<UserKey<A>>),
+) -> Result<Vec<RunReader<A>, A>, Error>
+    // Of tables of lists in runs in order they deal together what of each run lies within the bounds.
+    ensures list { let gives = ⟦<RunReader<A> as Iterator>⟧.next_gives in
+        let back_gives = ⟦<RunReader<A> as DoubleEndedIterator>⟧.next_back_gives in
+        (lists : List (List (List Entry))) → RunsHoldLists (map arc_value runs.now) lists →
+        let found = map (λ ls. within range.now.0 range.now.1 (joined ls)) lists in
+        IfOk result (λ v. DealTogether gives back_gives v.items found) }
+    // Of any tables in runs in order they are those of the spans.
+    ensures spans { AllByRecursion (IsInOrder range_of) (map arc_value runs.now) →
+        IfOk result (λ v. AllZip (λ reader span. IsRunOf span.0 span.1 reader) v.items
+        (spans_within range.now.0 range.now.1 (map arc_value runs.now))) }
+    ensures err { IfErr result (λ e. e ≡ OutOfMemory) }
+{
+    let mut readers = Vec::new(alloc);
+    for run in runs {
+        if let Some(reader) = reader_of(run, range)? {
+            readers.push(reader)?;
+        }
+    }
+    Ok(readers)
+}
+
+/// The newest version of each key within both bounds, of what several runs have together, from both ends. No table is opened
+/// yet. Refused [`Error::OutOfMemory`] alone.
+pub fn range_runs<A: Allocator + Clone>(
+    alloc: A,
+    runs: &[Arc<Run<Table<A>, A>, A>],
+    range: (Bound<UserKey<A>>, Bound<UserKey<A>>),
+) -> Result<MvccStream<Merger<RunReader<A>, A>>, Error>
+    // Of tables of lists in runs in order it deals, for every list of ends, what is newest of the sorted entries of all lists,
+    // lifted, that lie within the bounds.
+    ensures list { let gives = ⟦<MvccStream<Merger<RunReader<A>, A>> as Iterator>⟧.next_gives in
+        let back_gives =
+        ⟦<MvccStream<Merger<RunReader<A>, A>> as DoubleEndedIterator>⟧.next_back_gives in
+        (lists : List (List (List Entry))) → RunsHoldLists (map arc_value runs.now) lists →
+        let found = newest (within range.0 range.1 (union_in lists)) in
+        IfOk result (λ s. DealsList gives back_gives found s) }
+    // Of any tables in runs in order it is over the readers of the spans within the bounds: where one of them is refused,
+    // want of memory too, that error stands in its place, and what is dealt goes on by the stream's steps.
+    ensures steps { let gives = ⟦<MvccStream<Merger<RunReader<A>, A>> as Iterator>⟧.next_gives in
+        let back_gives =
+        ⟦<MvccStream<Merger<RunReader<A>, A>> as DoubleEndedIterator>⟧.next_back_gives in
+        AllByRecursion (IsInOrder range_of) (map arc_value runs.now) → IfOk result
+        (IsOverSpans gives back_gives range.0 range.1 (map arc_value runs.now)) }
+    // Whatever the tables' bytes are, both ends may be asked however often.
+    ensures can { IfOk result (λ s.
+        CanDeal ⟦<MvccStream<Merger<RunReader<A>, A>> as Iterator>⟧.next_gives
+        ⟦<MvccStream<Merger<RunReader<A>, A>> as DoubleEndedIterator>⟧.next_back_gives
+        ⟦<MvccStream<Merger<RunReader<A>, A>> as Iterator>⟧.can_next
+        ⟦<MvccStream<Merger<RunReader<A>, A>> as DoubleEndedIterator>⟧.can_next_back s) }
+    ensures err { IfErr result (λ e. e ≡ OutOfMemory) }
+{
+    let readers = readers_of(alloc.clone()?, runs, &range)?;
+    let stream = newest_of(alloc, readers)?;
+    newest_from_both_ends(&stream);
+    Ok(stream)
+}
+
+// The first match in the one table of a run whose range has the key, with how many blocks were loaded for it.
+fn get_run_counted<A: Allocator + Clone>(
+    run: &Run<Table<A>, A>,
+    key: &[u8],
+    seqno: SeqNo,
+) -> (Result<Option<InternalValue<A>>, Error>, Opened)
+    ensures read { IsInOrder range_of run.now →
+        DoesRead result.0 (run_read key.now seqno run.now) none_opened result.1 }
+    ensures few { LoadsEach 1 result.1 }
+{
+    match run.get_for_key(key) {
+        Some(table) => table.get_counted(key, seqno, Table::<A>::key_hash(key)),
+        None => (Ok(None), Opened::none()),
+    }
+}
+
+// The loads of two counts together.
+fn together(first: Opened, second: Opened) -> Opened
+    ensures { result ≡ loads_together first second }
+{
+    Opened {
+        data_loads: first.data_loads.saturating_add(second.data_loads),
+        index_loads: first.index_loads.saturating_add(second.index_loads),
+        filter_loads: first.filter_loads.saturating_add(second.filter_loads),
+        meta_loads: first.meta_loads.saturating_add(second.meta_loads),
+    }
+}
+
+// Whether an entry stands before another.
+fn stands_before<A: Allocator>(x: &InternalValue<A>, y: &InternalValue<A>) -> bool
+    ensures { result ≡ is_lt (item_cmp x.now y.now) }
+{
+    x.key < y.key
+}
+
+// Of two entries that may be there the one that stands before the other, or the first.
+fn leading<A: Allocator>(
+    first: Option<InternalValue<A>>,
+    second: Option<InternalValue<A>>,
+) -> Option<InternalValue<A>>
+    ensures { result ≡ leading_of first second }
+{
+    match (first, second) {
+        (Some(first), Some(second)) => {
+            if stands_before(&second, &first) {
+                Some(second)
+            } else {
+                Some(first)
+            }
+        }
+        (Some(first), None) => Some(first),
+        (None, second) => second,
+    }
+}
+
+/// The first entry of a key numbered below `seqno`, of what several runs have together, with how many blocks were loaded for it.
+/// Answers as [`get_runs`].
+pub fn get_runs_counted<A: Allocator + Clone>(
+    runs: &[Arc<Run<Table<A>, A>, A>],
+    key: &[u8],
+    seqno: SeqNo,
+) -> (Result<Option<InternalValue<A>>, Error>, Opened)
+    // On runs in order, memory aside, it is what the runs' tables tell, whatever their bytes.
+    ensures told { AllByRecursion (IsInOrder range_of) (map arc_value runs.now) →
+        Gives (λ (x : Option Entry). x) result.0
+        (runs_told key.now seqno None (map arc_value runs.now)) }
+    // Of tables of lists it is the first match in the sorted entries of all lists, lifted.
+    ensures list { (lists : List (List (List Entry))) →
+        RunsHoldLists (map arc_value runs.now) lists →
+        Gives (λ (x : Option Entry). x) result.0 (Ok (point (union_in lists) key.now seqno)) }
+    // The blocks loaded are those of the reads of the runs' tables, up to the first refusal.
+    ensures opened { AllByRecursion (IsInOrder range_of) (map arc_value runs.now) →
+        let read = runs_read key.now seqno None (map arc_value runs.now) in
+        Opens result.0 read.loads none_opened result.1 }
+    // A fault that is found before memory is taken, of the first block that is loaded, comes before any want of memory,
+    ensures early { AllByRecursion (IsInOrder range_of) (map arc_value runs.now) →
+        FaultsFirst result.0 (runs_read key.now seqno None (map arc_value runs.now)).early }
+    // and where no block is loaded, as where there are no runs, nothing is refused.
+    ensures calm { AllByRecursion (IsInOrder range_of) (map arc_value runs.now) →
+        (runs_read key.now seqno None (map arc_value runs.now)).loads ≡ [] → IsOk result.0 }
+    // Whatever the runs and the tables' bytes, also where it is refused: at most one data block, one index block and one filter
+    // block a run.
+    ensures few { LoadsEach (length runs.now) result.1 }
+{
+    let mut found = None;
+    let mut opened = Opened::none();
+    for run in runs {
+        let (told, loads) = get_run_counted(run, key, seqno);
+        opened = together(opened, loads);
+        match told {
+            Ok(next) => found = leading(found, next),
+            Err(error) => return (Err(error), opened),
+        }
+    }
+    (Ok(found), opened)
+}
+
+/// The first entry of a key numbered below `seqno`, of what several runs have together. In each run one table is asked at most,
+/// the one whose range has the key. Refused with the first refusal, in the order of the runs.
+pub fn get_runs<A: Allocator + Clone>(
+    runs: &[Arc<Run<Table<A>, A>, A>],
+    key: &[u8],
+    seqno: SeqNo,
+) -> Result<Option<InternalValue<A>>, Error>
+    // On runs in order, memory aside, it is what the runs' tables tell, whatever their bytes.
+    ensures told { AllByRecursion (IsInOrder range_of) (map arc_value runs.now) →
+        Gives (λ (x : Option Entry). x) result
+        (runs_told key.now seqno None (map arc_value runs.now)) }
+    // Of tables of lists it is the first match in the sorted entries of all lists, lifted.
+    ensures list { (lists : List (List (List Entry))) →
+        RunsHoldLists (map arc_value runs.now) lists →
+        Gives (λ (x : Option Entry). x) result (Ok (point (union_in lists) key.now seqno)) }
+    // A fault that is found before memory is taken, of the first block that is loaded, comes before any want of memory,
+    ensures early { AllByRecursion (IsInOrder range_of) (map arc_value runs.now) →
+        FaultsFirst result (runs_read key.now seqno None (map arc_value runs.now)).early }
+    // and where no block is loaded, as where there are no runs, nothing is refused.
+    ensures calm { AllByRecursion (IsInOrder range_of) (map arc_value runs.now) →
+        (runs_read key.now seqno None (map arc_value runs.now)).loads ≡ [] → IsOk result }
+{
+    get_runs_counted(runs, key, seqno).0
+}

@@ -1,0 +1,145 @@
+//! The tables of a run that are not opened yet.
+ghost use Rattle.std.specs.Prelude.{◌≡◌, ◌<◌, [], Some, IfOk, IfErr, length, slice_get};
+ghost use Rattle.std.specs.Arc.{arc_value};
+ghost use Rattle.sst_entries.specs.Stream.{back_of, front_of};
+ghost use Rattle.sst_entries.specs.declared.error.Error.TheVariants.{OutOfMemory};
+ghost use Rattle.lsm_ranges.specs.Run.{ArePlacesOf};
+ghost use Rattle.lsm_readers.specs.Ranges.{IsRangeOf};
+ghost use Rattle.lsm_readers.specs.Table.{OpenTable};
+ghost use Rattle.lsm_runs.specs.RunParts.{part_at, span_of, span_parts};
+ghost use Rattle.lsm_runs.specs.RunRange.{OpensAt, none_unopened};
+
+use crate::bounds::share;
+use crate::spans::{is_end, place_behind};
+use lsm_ranges::Run;
+use lsm_readers::{Iter, Table};
+use sst_blocks::{Error, UserKey};
+use std::alloc::Allocator;
+use std::marker::Model;
+use std::ops::Bound;
+use std::sync::Arc;
+
+/// The tables of a span of a run that have no reader yet, and how many readers were made.
+#[derive(Drop)]
+pub(crate) struct Unopened<A: Allocator> {
+    run: Arc<Run<Table<A>, A>, A>,
+    range: (Bound<UserKey<A>>, Bound<UserKey<A>>),
+    // the first and the last place of the span, whose tables are read within the bounds
+    ends: (usize, usize),
+    // the place of the first table that is not opened, and that behind the last
+    lo: usize,
+    hi: usize,
+    opened: usize,
+}
+
+impl<A: Allocator> Model for Unopened<A> {
+    ghost use Rattle.std.specs.Prelude.{◌≤◌, ◌+◌, length};
+    ghost use Rattle.std.specs.Arc.{arc_value};
+    ghost use Rattle.lsm_runs.specs.RunParts.{parts_between, span_of};
+    ghost use Rattle.lsm_runs.specs.RunRange.{Unopened};
+
+    ghost Value = { Unopened };
+
+    ghost view = { λ u. record {
+      parts = parts_between (span_of u.ends u.range.0 u.range.1) (arc_value u.run) u.lo u.hi;
+      opened = u.opened;
+    } };
+
+    ghost invariant = { λ u. (u.lo ≤ u.hi) × (u.hi ≤ length (arc_value u.run)) ×
+        (u.opened + u.hi ≤ length (arc_value u.run) + u.lo) };
+}
+
+/// The reader of the table at a place: within the bounds where the span begins or ends there, else of the whole table.
+fn reader_at<A: Allocator + Clone>(
+    tables: &[Table<A>],
+    place: usize,
+    ends: (usize, usize),
+    range: &(Bound<UserKey<A>>, Bound<UserKey<A>>),
+) -> Result<Iter<A>, Error>
+    requires { place < length tables.now }
+    ensures ok { let span = span_of ends range.now.0 range.now.1 in
+        (t : OpenTable) → slice_get tables.now place ≡ Some t → let p = part_at span place t in
+        IfOk result (λ reader. IsRangeOf p.table p.low p.high reader) }
+    ensures err { IfErr result (λ e. e ≡ OutOfMemory) }
+{
+    let table = &tables[place];
+    if is_end(place, ends) {
+        table.range(share(&range.0)?, share(&range.1)?)
+    } else {
+        table.iter()
+    }
+}
+
+impl<A: Allocator> Unopened<A> {
+    /// All tables from the first place of a span to its last.
+    pub(crate) fn new(
+        run: Arc<Run<Table<A>, A>, A>,
+        range: (Bound<UserKey<A>>, Bound<UserKey<A>>),
+        ends: (usize, usize),
+    ) -> Unopened<A>
+        requires { ArePlacesOf (arc_value run) ends }
+        ensures { let span = span_of ends range.0 range.1 in
+            result ≡ record { parts = span_parts span (arc_value run); opened = 0 } }
+    {
+        let hi = place_behind(run.as_slice(), ends.1);
+        Unopened {
+            run,
+            range,
+            ends,
+            lo: ends.0,
+            hi,
+            opened: 0,
+        }
+    }
+
+    /// How many readers were made.
+    pub(crate) fn opened(&self) -> usize
+        ensures { result ≡ self.now.opened }
+    {
+        self.opened
+    }
+
+    /// Lets go what is left.
+    pub(crate) fn end(&mut self)
+        ensures { self.new ≡ none_unopened self.old }
+    {
+        self.lo = self.hi;
+    }
+}
+
+impl<A: Allocator + Clone> Unopened<A> {
+    /// Opens the first table.
+    pub(crate) fn next(&mut self) -> Option<Result<Iter<A>, Error>>
+        ensures { OpensAt front_of self.old result self.new }
+    {
+        if self.lo == self.hi {
+            return None;
+        }
+        let place = self.lo;
+        self.lo += 1;
+        match reader_at(self.run.as_slice(), place, self.ends, &self.range) {
+            Ok(reader) => {
+                self.opened += 1;
+                Some(Ok(reader))
+            }
+            Err(refusal) => Some(Err(refusal)),
+        }
+    }
+
+    /// Opens the last table.
+    pub(crate) fn next_back(&mut self) -> Option<Result<Iter<A>, Error>>
+        ensures { OpensAt back_of self.old result self.new }
+    {
+        if self.lo == self.hi {
+            return None;
+        }
+        self.hi -= 1;
+        match reader_at(self.run.as_slice(), self.hi, self.ends, &self.range) {
+            Ok(reader) => {
+                self.opened += 1;
+                Some(Ok(reader))
+            }
+            Err(refusal) => Some(Err(refusal)),
+        }
+    }
+}

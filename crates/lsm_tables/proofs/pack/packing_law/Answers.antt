@@ -1,9 +1,0 @@
-use Rattle.lsm_tables.proofs.Packing.{packed_alike}
-use Rattle.lsm_tables.proofs.PackingTies.{kept_alike}
-use Rattle.lsm_tables.proofs.pack.packing_law.Goals as goal
-
-pub returns-clause-reads : goal.returns-clause-reads
-returns-clause-reads c = packed_alike
-
-pub returns-clause-kept : goal.returns-clause-kept
-returns-clause-kept c = kept_alike
