@@ -84,9 +84,10 @@ pub fn compact_to_run<A: Allocator + Clone>(
         (lists : List (List (List Entry))) → RunsHoldLists (map arc_value runs.now) lists →
         FitsAsTables ids target_size (kept_in rules lists) → IfErr result (λ e. e ≡ OutOfMemory) }
 {
+    let own = alloc.clone()?;
     let writer = MultiWriter::new(alloc.clone()?, ids, target_size, 0, created_at)?;
     let (tables, left) = compact_runs(
-        alloc.clone()?,
+        own,
         runs,
         gc_seqno_threshold,
         evict_tombstones,

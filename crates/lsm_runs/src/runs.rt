@@ -4,6 +4,7 @@ ghost use Rattle.std.specs.Arc.{arc_value};
 ghost use Rattle.std.specs.List.{AllByRecursion, AllZip};
 ghost use Rattle.std.specs.Ordering.{is_lt};
 ghost use Rattle.sst_entries.specs.declared.error.Error.TheVariants.{OutOfMemory};
+ghost use Rattle.sst_sections.specs.Fnv.{fnv1a};
 ghost use Rattle.lsm_runs.specs.Words.{CanDeal, DealTogether, DealsList, DoesRead, Entry};
 ghost use Rattle.lsm_runs.specs.Words.{FaultsFirst, Gives, HoldLists, IsInOrder, IsOverSpans};
 ghost use Rattle.lsm_runs.specs.Words.{IsRunOf, LoadsEach, Opens, RunsHoldLists, item_cmp};
@@ -113,13 +114,15 @@ fn get_run_counted<A: Allocator + Clone>(
     run: &Run<Table<A>, A>,
     key: &[u8],
     seqno: SeqNo,
+    key_hash: u64,
 ) -> (Result<Option<InternalValue<A>>, Error>, Opened)
+    requires { key_hash ≡ fnv1a key.now }
     ensures read { IsInOrder range_of run.now →
         DoesRead result.0 (run_read key.now seqno run.now) none_opened result.1 }
     ensures few { LoadsEach 1 result.1 }
 {
     match run.get_for_key(key) {
-        Some(table) => table.get_counted(key, seqno, Table::<A>::key_hash(key)),
+        Some(table) => table.get_counted(key, seqno, key_hash),
         None => (Ok(None), Opened::none()),
     }
 }
@@ -194,8 +197,9 @@ pub fn get_runs_counted<A: Allocator + Clone>(
 {
     let mut found = None;
     let mut opened = Opened::none();
+    let key_hash = Table::<A>::key_hash(key);
     for run in runs {
-        let (told, loads) = get_run_counted(run, key, seqno);
+        let (told, loads) = get_run_counted(run, key, seqno, key_hash);
         opened = together(opened, loads);
         match told {
             Ok(next) => found = leading(found, next),
