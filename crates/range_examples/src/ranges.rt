@@ -59,16 +59,6 @@ fn asked<T: Drop, U, E, F: FnOnce(&T) -> U + Drop>(made: Result<T, E>, ask: F) -
     Ok(ask(&made?))
 }
 
-// The same of a value that is changed.
-fn changed<T: Drop, U, E, F: FnOnce(&mut T) -> U + Drop>(
-    made: Result<T, E>,
-    change: F,
-) -> Result<U, E>
-    requires { F.IsAlwaysCallable change }
-{
-    Ok(change(&mut made?))
-}
-
 fn range_of<A: Allocator + Copy>(alloc: A, min: &str, max: &str) -> Result<KeyRange<A>, Error> {
     let min = Slice::from(alloc, min.as_bytes())?;
     let ends = beside(min, Slice::from(alloc, max.as_bytes()))?;
@@ -130,11 +120,41 @@ fn bytes_of<'a>(bound: Bound<&'a str>) -> Bound<&'a [u8]> {
     }
 }
 
+// What is asked of the range with these ends.
+fn asked_range<U, F: FnOnce(&KeyRange) -> U + Drop>(
+    alloc: Global,
+    ends: (&str, &str),
+    ask: F,
+) -> Result<U, Error>
+    requires { F.IsAlwaysCallable ask }
+{
+    asked(range_of(alloc, ends.0, ends.1), ask)
+}
+
+// What a change of the run of some tables answers.
+fn changed_run<U, F: FnOnce(&mut Run<FakeTable>) -> U + Drop>(
+    alloc: Global,
+    tables: &[(u64, &str, &str)],
+    change: F,
+) -> Result<U, Error>
+    requires { F.IsAlwaysCallable change }
+{
+    let mut run = run_of(alloc, tables)?;
+    Ok(change(&mut run))
+}
+
 const FOUR: [(u64, &str, &str); 4] = [(0, "a", "d"), (1, "e", "j"), (2, "k", "o"), (3, "p", "z")];
+
+// What is asked of the run of four tables.
+fn asked_four<U, F: FnOnce(&Run<FakeTable>) -> U + Drop>(alloc: Global, ask: F) -> Result<U, Error>
+    requires { F.IsAlwaysCallable ask }
+{
+    asked(run_of(alloc, &FOUR), ask)
+}
 
 // Whether a range with these ends is well-formed and has a key.
 fn has_key(alloc: Global, ends: (&str, &str), key: &str) -> Result<bool, Error> {
-    asked(range_of(alloc, ends.0, ends.1), |range| {
+    asked_range(alloc, ends, |range| {
         has_ends_and_key(range, ends, key)
     })
 }
@@ -177,7 +197,7 @@ fn compared_to(
     range: &KeyRange,
     other: (&str, &str),
 ) -> Result<(bool, bool), Error> {
-    asked(range_of(alloc, other.0, other.1), |other| {
+    asked_range(alloc, other, |other| {
         (
             range.overlaps_with_key_range(other),
             range.contains_range(other),
@@ -191,7 +211,7 @@ fn compared(
     first: (&str, &str),
     second: (&str, &str),
 ) -> Result<(bool, bool), Error> {
-    asked(range_of(alloc, first.0, first.1), |first| {
+    asked_range(alloc, first, |first| {
         compared_to(alloc, first, second)
     })?
 }
@@ -248,7 +268,7 @@ fn reach_together(
     disjoint: bool,
     reach: (&str, &str),
 ) -> Result<bool, Error> {
-    let together = asked(range_of(alloc, reach.0, reach.1), |aggregate| {
+    let together = asked_range(alloc, reach, |aggregate| {
         made_and_taken_together(alloc, ends, aggregate)
     })?;
     Ok(together? == (disjoint, true))
@@ -280,7 +300,7 @@ fn equals_its_clone(range: &KeyRange) -> Result<bool, AllocError> {
 
 // Whether a clone of the range from "a" to "z" equals it.
 fn is_cloned(alloc: Global) -> Result<bool, Error> {
-    let equal = asked(range_of(alloc, "a", "z"), |range| equals_its_clone(range))?;
+    let equal = asked_range(alloc, ("a", "z"), |range| equals_its_clone(range))?;
     Ok(equal?)
 }
 
@@ -293,7 +313,7 @@ fn a_clone_is_the_same_range(rt: HostRuntime) -> Result<(), Fail> {
 // Whether the range from "key1" to "key5" overlaps with two bounds.
 fn overlaps(alloc: Global, low: Bound<&str>, high: Bound<&str>) -> Result<bool, Error> {
     let bounds = (bytes_of(low), bytes_of(high));
-    asked(range_of(alloc, "key1", "key5"), |range| {
+    asked_range(alloc, ("key1", "key5"), |range| {
         range.overlaps_with_bounds(&bounds)
     })
 }
@@ -329,19 +349,19 @@ fn has_four_over(run: &Run<FakeTable>, range: &KeyRange) -> Result<bool, Error> 
 
 // Whether four tables make a run that reaches over a range.
 fn four_make_a_run_over(alloc: Global, range: &KeyRange) -> Result<bool, Error> {
-    asked(run_of(alloc, &FOUR), |run| has_four_over(run, range))?
+    asked_four(alloc, |run| has_four_over(run, range))?
 }
 
 // Whether four tables make a run from the least to the greatest of their keys.
 fn four_make_a_run(alloc: Global) -> Result<bool, Error> {
-    asked(range_of(alloc, "a", "z"), |range| {
+    asked_range(alloc, ("a", "z"), |range| {
         four_make_a_run_over(alloc, range)
     })?
 }
 
 // The id of the one of four tables that has a key.
 fn id_of_four(alloc: Global, key: &str) -> Result<Option<u64>, Error> {
-    asked(run_of(alloc, &FOUR), |run| {
+    asked_four(alloc, |run| {
         run.get_for_key(key.as_bytes()).map(|table| table.id)
     })
 }
@@ -372,7 +392,7 @@ fn span_of_four(
     low: Bound<&str>,
     high: Bound<&str>,
 ) -> Result<Option<(usize, usize)>, Error> {
-    asked(run_of(alloc, &FOUR), |run| {
+    asked_four(alloc, |run| {
         run.range_overlap_indexes(bytes_of(low), bytes_of(high))
     })
 }
@@ -405,7 +425,7 @@ fn found_by_range(
     overlapping: &[u64],
     contained: &[u64],
 ) -> Result<bool, Error> {
-    asked(run_of(alloc, &FOUR), |run| {
+    asked_four(alloc, |run| {
         has_ids(run.get_overlapping(range), overlapping)
             && has_ids(run.get_contained(range), contained)
     })
@@ -418,7 +438,7 @@ fn found_in_four(
     overlapping: &[u64],
     contained: &[u64],
 ) -> Result<bool, Error> {
-    asked(range_of(alloc, range.0, range.1), |range| {
+    asked_range(alloc, range, |range| {
         found_by_range(alloc, range, overlapping, contained)
     })?
 }
@@ -463,7 +483,7 @@ fn remove_second(run: &mut Run<FakeTable>) -> Option<u64> {
 
 #[test]
 fn a_removed_table_is_not_found(rt: HostRuntime) -> Result<(), Fail> {
-    let without = changed(run_of(rt.alloc(), &FOUR), |run| without_second(run))?;
+    let without = changed_run(rt.alloc(), &FOUR, |run| without_second(run))?;
     assert_eq!(rt; without, (Some(1), false, None));
     Ok(())
 }
@@ -477,14 +497,14 @@ fn put_behind_and_retain(
     let is_in_order = run.is_in_order();
     let are_five = has_ids(run.as_slice(), &[0, 1, 2, 3, 4]);
     run.retain(|table| table.id != 4);
-    let are_four = asked(run_of(alloc, &FOUR), |four| *run == *four)?;
+    let are_four = asked_four(alloc, |four| *run == *four)?;
     Ok((is_in_order, are_five, are_four))
 }
 
 #[test]
 fn tables_are_put_behind_and_retained(rt: HostRuntime) -> Result<(), Fail> {
     let alloc = rt.alloc();
-    let answers = changed(run_of(alloc, &FOUR), |run| {
+    let answers = changed_run(alloc, &FOUR, |run| {
         put_behind_and_retain(alloc, run)
     })?;
     assert_eq!(rt; answers?, (false, true, true));
@@ -507,7 +527,7 @@ fn emptied(run: &mut Run<FakeTable>) -> (bool, bool, Option<(usize, usize)>) {
 #[test]
 fn a_run_may_be_emptied(rt: HostRuntime) -> Result<(), Fail> {
     assert!(rt; none_make_no_run(rt.alloc()));
-    let answers = changed(run_of(rt.alloc(), &FOUR), |run| emptied(run))?;
+    let answers = changed_run(rt.alloc(), &FOUR, |run| emptied(run))?;
     assert_eq!(rt; answers, (true, false, None));
     Ok(())
 }
@@ -530,7 +550,7 @@ fn push_two_and_clear(alloc: Global, run: &mut Run<FakeTable>) -> Result<(bool, 
 #[test]
 fn tables_of_one_least_key_keep_their_order(rt: HostRuntime) -> Result<(), Fail> {
     let alloc = rt.alloc();
-    let answers = changed(run_of(alloc, &[(0, "a", "b")]), |run| {
+    let answers = changed_run(alloc, &[(0, "a", "b")], |run| {
         push_two_and_clear(alloc, run)
     })?;
     assert_eq!(rt; answers?, (true, true));
@@ -547,7 +567,7 @@ fn put_behind_and_push(alloc: Global, run: &mut Run<FakeTable>) -> Result<bool, 
 #[test]
 fn a_push_sorts_a_run_that_is_out_of_order(rt: HostRuntime) -> Result<(), Fail> {
     let alloc = rt.alloc();
-    let is_sorted = changed(run_of(alloc, &FOUR), |run| put_behind_and_push(alloc, run))?;
+    let is_sorted = changed_run(alloc, &FOUR, |run| put_behind_and_push(alloc, run))?;
     assert!(rt; is_sorted?);
     Ok(())
 }
