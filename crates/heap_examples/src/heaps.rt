@@ -1,5 +1,5 @@
 //! The priority queues against a count of each number, and what they take of memory.
-ghost use Rattle.std.specs.Prelude.{◌≡◌};
+ghost use Rattle.std.specs.Prelude.{◌≡◌, ◌≤◌};
 
 use lsm_heaps::{IntervalHeap, LazyTournament, Tournament};
 use refusing::{Refusing, each_refused};
@@ -151,20 +151,34 @@ fn first_to_disagree(alloc: Global, items: &[u8], patterns: u32) -> Result<Optio
     Ok(None)
 }
 
+// The first of so many lists of some numbers, by its code, and the pattern by which the queues do not agree.
+fn first_list_to_disagree(
+    alloc: Global,
+    count: usize,
+    lists: u32,
+    patterns: u32,
+) -> Result<Option<(u32, u32)>, Error>
+    requires { count ≤ 6 }
+{
+    for code in 0..lists {
+        if let Some(pattern) = first_to_disagree(alloc, &digits(code)[..count], patterns)? {
+            return Ok(Some((code, pattern)));
+        }
+    }
+    Ok(None)
+}
+
 #[test]
 fn each_list_of_six_in_each_pattern_of_pops(rt: HostRuntime) -> Result<(), Fail> {
     let mut lists = 1;
     let mut patterns = 1;
     for count in 0..=6usize {
-        for code in 0..lists {
-            let items = digits(code);
-            let first = first_to_disagree(rt.alloc(), &items[..count], patterns)?;
-            assert_eq!(rt; first, None, "{items:?} {count}");
-        }
+        let first = first_list_to_disagree(rt.alloc(), count, lists, patterns)?;
+        assert!(rt; first.is_none(), "{count} {first:?}");
         lists = u32::saturating_mul(lists, 3);
         patterns = u32::saturating_mul(patterns, 2);
     }
-    assert_eq!(rt; (lists, patterns), (2187, 128));
+    assert!(rt; (lists, patterns) == (2187, 128));
     Ok(())
 }
 
@@ -386,7 +400,7 @@ fn an_end_that_is_not_asked_plays_no_match(rt: HostRuntime) -> Result<(), Fail> 
         (Some('d'), 6),
         (Some('c'), 6),
     ];
-    assert!(rt; popped == want, "{popped:?}");
+    assert!(rt; popped == want);
     Ok(())
 }
 
@@ -453,6 +467,18 @@ fn makes_interval_heap<A: Allocator>(memory: A, may_fail: bool) -> bool {
     }
 }
 
+// How many requests for memory a tournament makes, each of which may be refused.
+fn tournaments_refused(alloc: Global) -> Result<usize, usize> {
+    each_refused(alloc, |memory, may_fail| makes_tournament(memory, may_fail))
+}
+
+// The same of an interval heap.
+fn interval_heaps_refused(alloc: Global) -> Result<usize, usize> {
+    each_refused(alloc, |memory, may_fail| {
+        makes_interval_heap(memory, may_fail)
+    })
+}
+
 // How many requests for memory are made for a tournament with room for two, and whether it is used over and over.
 fn used_tournament(memory: &Refusing) -> Result<(usize, bool), Error> {
     let mut queue = Tournament::with_capacity(memory, 2)?;
@@ -489,14 +515,8 @@ fn given_up_without_room(alloc: Global) -> Result<(Option<u8>, Option<u8>), Erro
 
 #[test]
 fn memory_is_taken_at_first_alone(rt: HostRuntime) -> Result<(), Fail> {
-    let refusals = each_refused(rt.alloc(), |memory, may_fail| {
-        makes_tournament(memory, may_fail)
-    });
-    assert!(rt; refusals == Ok(4), "{refusals:?}");
-    let refusals = each_refused(rt.alloc(), |memory, may_fail| {
-        makes_interval_heap(memory, may_fail)
-    });
-    assert!(rt; refusals == Ok(1), "{refusals:?}");
+    assert!(rt; tournaments_refused(rt.alloc()) == Ok(4));
+    assert!(rt; interval_heaps_refused(rt.alloc()) == Ok(1));
     assert!(rt; tournament_makes(rt.alloc(), 4)?);
     assert!(rt; interval_heap_makes(rt.alloc(), 1)?);
     assert!(rt; given_up_without_room(rt.alloc())? == (None, None));

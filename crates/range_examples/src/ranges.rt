@@ -154,9 +154,7 @@ fn asked_four<U, F: FnOnce(&Run<FakeTable>) -> U + Drop>(alloc: Global, ask: F) 
 
 // Whether a range with these ends is well-formed and has a key.
 fn has_key(alloc: Global, ends: (&str, &str), key: &str) -> Result<bool, Error> {
-    asked_range(alloc, ends, |range| {
-        has_ends_and_key(range, ends, key)
-    })
+    asked_range(alloc, ends, |range| { has_ends_and_key(range, ends, key) })
 }
 
 fn has_ends_and_key(range: &KeyRange, ends: (&str, &str), key: &str) -> bool {
@@ -211,9 +209,7 @@ fn compared(
     first: (&str, &str),
     second: (&str, &str),
 ) -> Result<(bool, bool), Error> {
-    asked_range(alloc, first, |first| {
-        compared_to(alloc, first, second)
-    })?
+    asked_range(alloc, first, |first| { compared_to(alloc, first, second) })?
 }
 
 // The ends of two ranges, and whether they overlap, and whether the first contains the second.
@@ -465,9 +461,7 @@ fn the_tables_that_overlap_a_range(rt: HostRuntime) -> Result<(), Fail> {
 
 // The id of the second of four tables, which is removed; and then whether its least key is found, and the places of the tables
 // in its range.
-fn without_second(
-    run: &mut Run<FakeTable>,
-) -> (Option<u64>, bool, Option<(usize, usize)>) {
+fn without_second(run: &mut Run<FakeTable>) -> (Option<u64>, bool, Option<(usize, usize)>) {
     let removed = remove_second(run);
     let is_found = run.get_for_key(b"e").is_some();
     let span = run.range_overlap_indexes(Bound::Included(b"e"), Bound::Included(b"j"));
@@ -504,9 +498,7 @@ fn put_behind_and_retain(
 #[test]
 fn tables_are_put_behind_and_retained(rt: HostRuntime) -> Result<(), Fail> {
     let alloc = rt.alloc();
-    let answers = changed_run(alloc, &FOUR, |run| {
-        put_behind_and_retain(alloc, run)
-    })?;
+    let answers = changed_run(alloc, &FOUR, |run| { put_behind_and_retain(alloc, run) })?;
     assert_eq!(rt; answers?, (false, true, true));
     Ok(())
 }

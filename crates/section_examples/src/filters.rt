@@ -82,7 +82,10 @@ const PROBES: &[(u32, u8)] = &[
 #[test]
 fn probes_by_bits_a_key(rt: HostRuntime) -> Result<(), Fail> {
     for &(bits, probes) in PROBES {
-        assert!(rt; of_no_keys(rt.alloc(), bits)? == (Some(probes), true), "{bits}");
+        assert!(rt;
+            of_no_keys(rt.alloc(), bits)? == (Some(probes), true),
+            "{bits}"
+        );
     }
     Ok(())
 }

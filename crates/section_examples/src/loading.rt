@@ -85,10 +85,7 @@ fn loads_from_a_stored_table(rt: HostRuntime) {
 const FAULTS: &[(&[(usize, u8)], Error)] = &[
     (&[(0, 0)], Error::InvalidHeader),
     (&[(7, 1), (4, 9)], Error::InvalidHeader),
-    (
-        &[(4, 9), (5, 1)],
-        Error::InvalidTag(TagName::BlockType, 9),
-    ),
+    (&[(4, 9), (5, 1)], Error::InvalidTag(TagName::BlockType, 9)),
     (&[(5, 1), (8, 0)], Error::UnsupportedCompression),
     (&[(8, 20), (16, 0)], Error::InvalidHeader),
     (&[(8, 20), (12, 20)], Error::InvalidHeader),
@@ -138,10 +135,7 @@ const BLOCKS: &[(BlockType, u64, u32, usize)] = &[
 ];
 
 // The position of the first block that does not load so of both sources.
-fn first_not_again(
-    source: &BlockSource<Global>,
-    clone: &BlockSource<Global>,
-) -> Option<u64> {
+fn first_not_again(source: &BlockSource<Global>, clone: &BlockSource<Global>) -> Option<u64> {
     for &(kind, offset, size, payload) in BLOCKS {
         let lies = handle(offset, size);
         if !loads_again(source, lies, kind, payload) || !loads_again(clone, lies, kind, payload) {
@@ -297,7 +291,10 @@ fn a_source_that_counts_its_loads(rt: HostRuntime) -> Result<(), Fail> {
 // The sizes, over any allocator.
 fn open_and_load<A: Allocator + Copy>(alloc: A) -> Result<(usize, usize), Error> {
     let bytes = Slice::from(alloc, stored_table::bytes())?;
-    let counted = asked(BlockSource::new(alloc, bytes), |source| counted_sizes(source))?;
+    let counted = asked(
+        BlockSource::new(alloc, bytes),
+        |source| counted_sizes(source),
+    )?;
     Ok(counted?.0)
 }
 
