@@ -478,7 +478,7 @@ fn remove_second(run: &mut Run<FakeTable>) -> Option<u64> {
 #[test]
 fn a_removed_table_is_not_found(rt: HostRuntime) -> Result<(), Fail> {
     let without = changed_run(rt.alloc(), &FOUR, |run| without_second(run))?;
-    assert_eq!(rt; without, (Some(1), false, None));
+    assert!(rt; without == (Some(1), false, None));
     Ok(())
 }
 
@@ -499,7 +499,7 @@ fn put_behind_and_retain(
 fn tables_are_put_behind_and_retained(rt: HostRuntime) -> Result<(), Fail> {
     let alloc = rt.alloc();
     let answers = changed_run(alloc, &FOUR, |run| { put_behind_and_retain(alloc, run) })?;
-    assert_eq!(rt; answers?, (false, true, true));
+    assert!(rt; answers? == (false, true, true));
     Ok(())
 }
 
@@ -520,7 +520,7 @@ fn emptied(run: &mut Run<FakeTable>) -> (bool, bool, Option<(usize, usize)>) {
 fn a_run_may_be_emptied(rt: HostRuntime) -> Result<(), Fail> {
     assert!(rt; none_make_no_run(rt.alloc()));
     let answers = changed_run(rt.alloc(), &FOUR, |run| emptied(run))?;
-    assert_eq!(rt; answers, (true, false, None));
+    assert!(rt; answers == (true, false, None));
     Ok(())
 }
 
@@ -545,7 +545,7 @@ fn tables_of_one_least_key_keep_their_order(rt: HostRuntime) -> Result<(), Fail>
     let answers = changed_run(alloc, &[(0, "a", "b")], |run| {
         push_two_and_clear(alloc, run)
     })?;
-    assert_eq!(rt; answers?, (true, true));
+    assert!(rt; answers? == (true, true));
     Ok(())
 }
 
