@@ -54,7 +54,7 @@ const LOADS: &[(&[u8], Result<(usize, u32), Error>)] = &[
     (&[0, 255], Err(Error::InvalidBlock)),
     (&[31, 255], Err(Error::InvalidBlock)),
     (&[1], Err(Error::InvalidBlock)),
-    (&ONE_KEY, Ok((9, 33))),
+    (ONE_KEY, Ok((9, 33))),
 ];
 
 #[test]
@@ -96,11 +96,21 @@ fn built_admit(alloc: Global, keys: &[&[u8]], key: &[u8]) -> Result<(bool, bool)
     })?
 }
 
+// Whether the filter of "a" is built as it is known, and what that filter answers for "a" and for no bytes.
+fn of_one_key(alloc: Global) -> Result<(bool, (bool, bool), (bool, bool)), Error> {
+    Ok((
+        is_built(alloc, &[b"a"], ONE_KEY)?,
+        loaded_admit(alloc, ONE_KEY, b"a")?,
+        loaded_admit(alloc, ONE_KEY, b"")?,
+    ))
+}
+
 #[test]
 fn a_filter_of_one_key(rt: HostRuntime) -> Result<(), Fail> {
-    assert!(rt; is_built(rt.alloc(), &[b"a"], &ONE_KEY)?);
-    assert!(rt; loaded_admit(rt.alloc(), &ONE_KEY, b"a")? == (true, true));
-    assert!(rt; loaded_admit(rt.alloc(), &ONE_KEY, b"")? == (false, false));
+    let (is_known, of_key, of_no_bytes) = of_one_key(rt.alloc())?;
+    assert!(rt; is_known);
+    assert!(rt; of_key == (true, true));
+    assert!(rt; of_no_bytes == (false, false));
     Ok(())
 }
 

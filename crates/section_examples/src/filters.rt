@@ -47,15 +47,15 @@ pub(crate) fn payload_of<A: Allocator>(
 }
 
 /// The payload of a filter of one key, "a", at ten bits.
-pub(crate) const ONE_KEY: [u8; 9] = [6, 1, 0x30, 0, 2, 0x40, 0, 8, 0];
+pub(crate) const ONE_KEY: &[u8; 9] = &[6, 1, 0x30, 0, 2, 0x40, 0, 8, 0];
 
 #[test]
 fn one_key_at_ten_bits(rt: HostRuntime) -> Result<(), Fail> {
     let payload = payload_of(rt.alloc(), tenths(100), 1, &[b"a"]);
     let is_as_expected = asked(payload, |payload| payload.as_slice() == ONE_KEY.as_slice())?;
     assert!(rt; is_as_expected);
-    assert!(rt; contains_hash(&ONE_KEY, hash(b"a")));
-    assert!(rt; !contains_hash(&ONE_KEY, hash(b"")));
+    assert!(rt; contains_hash(ONE_KEY, hash(b"a")));
+    assert!(rt; !contains_hash(ONE_KEY, hash(b"")));
     Ok(())
 }
 
