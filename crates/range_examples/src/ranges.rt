@@ -143,13 +143,13 @@ fn changed_run<U, F: FnOnce(&mut Run<FakeTable>) -> U + Drop>(
     Ok(change(&mut run))
 }
 
-const FOUR: [(u64, &str, &str); 4] = [(0, "a", "d"), (1, "e", "j"), (2, "k", "o"), (3, "p", "z")];
+const FOUR: &[(u64, &str, &str)] = &[(0, "a", "d"), (1, "e", "j"), (2, "k", "o"), (3, "p", "z")];
 
 // What is asked of the run of four tables.
 fn asked_four<U, F: FnOnce(&Run<FakeTable>) -> U + Drop>(alloc: Global, ask: F) -> Result<U, Error>
     requires { F.IsAlwaysCallable ask }
 {
-    asked(run_of(alloc, &FOUR), ask)
+    asked(run_of(alloc, FOUR), ask)
 }
 
 // Whether a range with these ends is well-formed and has a key.
@@ -477,7 +477,7 @@ fn remove_second(run: &mut Run<FakeTable>) -> Option<u64> {
 
 #[test]
 fn a_removed_table_is_not_found(rt: HostRuntime) -> Result<(), Fail> {
-    let without = changed_run(rt.alloc(), &FOUR, |run| without_second(run))?;
+    let without = changed_run(rt.alloc(), FOUR, |run| without_second(run))?;
     assert!(rt; without == (Some(1), false, None));
     Ok(())
 }
@@ -498,7 +498,7 @@ fn put_behind_and_retain(
 #[test]
 fn tables_are_put_behind_and_retained(rt: HostRuntime) -> Result<(), Fail> {
     let alloc = rt.alloc();
-    let answers = changed_run(alloc, &FOUR, |run| { put_behind_and_retain(alloc, run) })?;
+    let answers = changed_run(alloc, FOUR, |run| { put_behind_and_retain(alloc, run) })?;
     assert!(rt; answers? == (false, true, true));
     Ok(())
 }
@@ -519,7 +519,7 @@ fn emptied(run: &mut Run<FakeTable>) -> (bool, bool, Option<(usize, usize)>) {
 #[test]
 fn a_run_may_be_emptied(rt: HostRuntime) -> Result<(), Fail> {
     assert!(rt; none_make_no_run(rt.alloc()));
-    let answers = changed_run(rt.alloc(), &FOUR, |run| emptied(run))?;
+    let answers = changed_run(rt.alloc(), FOUR, |run| emptied(run))?;
     assert!(rt; answers == (true, false, None));
     Ok(())
 }
@@ -559,7 +559,7 @@ fn put_behind_and_push(alloc: Global, run: &mut Run<FakeTable>) -> Result<bool, 
 #[test]
 fn a_push_sorts_a_run_that_is_out_of_order(rt: HostRuntime) -> Result<(), Fail> {
     let alloc = rt.alloc();
-    let is_sorted = changed_run(alloc, &FOUR, |run| put_behind_and_push(alloc, run))?;
+    let is_sorted = changed_run(alloc, FOUR, |run| put_behind_and_push(alloc, run))?;
     assert!(rt; is_sorted?);
     Ok(())
 }
@@ -620,7 +620,7 @@ fn packs(
 }
 
 // In each: some runs, the ids of the runs that they are packed into, and the runs of a chain.
-const PACKINGS: [(&[&[(u64, &str, &str)]], &[&[u64]], &[usize]); 9] = [
+const PACKINGS: &[(&[&[(u64, &str, &str)]], &[&[u64]], &[usize])] = &[
     (&[], &[], &[]),
     (&[&[(0, "a", "b")]], &[&[0]], &[0]),
     (
@@ -659,7 +659,7 @@ const PACKINGS: [(&[&[(u64, &str, &str)]], &[&[u64]], &[usize]); 9] = [
 
 #[test]
 fn packed_runs(rt: HostRuntime) -> Result<(), Fail> {
-    for (runs, packed, chain) in PACKINGS {
+    for &(runs, packed, chain) in PACKINGS {
         assert!(rt; packs(rt.alloc(), runs, packed, chain)?);
     }
     Ok(())
