@@ -1,5 +1,5 @@
 //! The priority queues against a count of each number, and what they take of memory.
-ghost use Rattle.std.specs.Prelude.{◌≡◌};
+ghost use Rattle.std.specs.Prelude.{◌≡◌, ◌≤◌};
 
 use lsm_heaps::{IntervalHeap, LazyTournament, Tournament};
 use refusing::{Refusing, each_refused};
@@ -102,23 +102,70 @@ fn give_up_nothing(queue: &mut Tournament<u8>, heap: &mut IntervalHeap<u8>) -> b
         && heap.pop_max().is_none()
 }
 
-// Whether both queues give the least and the greatest number in turn as the pattern has it, and then
-// none.
-fn agree(alloc: Global, items: &[u8], mut pattern: u32) -> Result<bool, Error> {
-    let mut tournament = tournament_of(alloc, items)?;
-    let mut heap = interval_heap_of(alloc, items)?;
+// Whether both queues, which hold some numbers, give up the least and the greatest in turn as the
+// pattern has it, and then none.
+fn pop_all_alike(
+    tournament: &mut Tournament<u8>,
+    heap: &mut IntervalHeap<u8>,
+    items: &[u8],
+    mut pattern: u32,
+) -> bool {
     let mut counts = Counts { of: [0; 3] };
     for item in items {
         counts.put(*item);
     }
     for _ in items {
         let least = pattern % 2 == 0;
-        if counts.is_empty() || !pop_alike(&mut tournament, &mut heap, &mut counts, least) {
-            return Ok(false);
+        if counts.is_empty() || !pop_alike(tournament, heap, &mut counts, least) {
+            return false;
         }
         pattern /= 2;
     }
-    Ok(give_up_nothing(&mut tournament, &mut heap))
+    give_up_nothing(tournament, heap)
+}
+
+// The same of a tournament and of an interval heap that is made of the numbers.
+fn agrees_with_heap(
+    tournament: &mut Tournament<u8>,
+    alloc: Global,
+    items: &[u8],
+    pattern: u32,
+) -> Result<bool, Error> {
+    let mut heap = interval_heap_of(alloc, items)?;
+    Ok(pop_all_alike(tournament, &mut heap, items, pattern))
+}
+
+// The same of both queues made of the numbers.
+fn agree(alloc: Global, items: &[u8], pattern: u32) -> Result<bool, Error> {
+    let mut tournament = tournament_of(alloc, items)?;
+    agrees_with_heap(&mut tournament, alloc, items, pattern)
+}
+
+// The first of so many patterns by which the queues do not agree.
+fn first_to_disagree(alloc: Global, items: &[u8], patterns: u32) -> Result<Option<u32>, Error> {
+    for pattern in 0..patterns {
+        if !agree(alloc, items, pattern)? {
+            return Ok(Some(pattern));
+        }
+    }
+    Ok(None)
+}
+
+// The first of so many lists of some numbers, by its code, and the pattern by which the queues do not agree.
+fn first_list_to_disagree(
+    alloc: Global,
+    count: usize,
+    lists: u32,
+    patterns: u32,
+) -> Result<Option<(u32, u32)>, Error>
+    requires { count ≤ 6 }
+{
+    for code in 0..lists {
+        if let Some(pattern) = first_to_disagree(alloc, &digits(code)[..count], patterns)? {
+            return Ok(Some((code, pattern)));
+        }
+    }
+    Ok(None)
 }
 
 #[test]
@@ -126,43 +173,76 @@ fn each_list_of_six_in_each_pattern_of_pops(rt: HostRuntime) -> Result<(), Fail>
     let mut lists = 1;
     let mut patterns = 1;
     for count in 0..=6usize {
-        for code in 0..lists {
-            let items = digits(code);
-            for pattern in 0..patterns {
-                let agreed = agree(rt.alloc(), &items[..count], pattern)?;
-                assert!(rt; agreed, "{items:?} {count} {pattern}");
-            }
-        }
+        let first = first_list_to_disagree(rt.alloc(), count, lists, patterns)?;
+        assert!(rt; first.is_none(), "{count} {first:?}");
         lists = u32::saturating_mul(lists, 3);
         patterns = u32::saturating_mul(patterns, 2);
     }
-    assert_eq!(rt; (lists, patterns), (2187, 128));
+    assert!(rt; (lists, patterns) == (2187, 128));
     Ok(())
+}
+
+// Pushes a number to both queues, which have room for four, where the digit is 0 and they are not full. Else they are popped:
+// whether they give up the same then, the least where the digit is 1.
+fn agree_in_turn(
+    tournament: &mut Tournament<u8>,
+    heap: &mut IntervalHeap<u8>,
+    counts: &mut Counts,
+    digit: u32,
+    number: u8,
+) -> bool
+    requires tournament { tournament.old.room ≡ 4 }
+    requires heap { heap.old.room ≡ 4 }
+    ensures tournament { tournament.new.room ≡ 4 }
+    ensures heap { heap.new.room ≡ 4 }
+{
+    if digit != 0 || tournament.len() >= 4 || heap.len() >= 4 {
+        return pop_alike(tournament, heap, counts, digit == 1);
+    }
+    tournament.push(number);
+    heap.push(number);
+    counts.put(number);
+    true
 }
 
 // Whether both queues, with room for four, agree while they are pushed to and popped, as the digits
 // of the code have it.
-fn agree_in_turns(alloc: Global, mut code: u32, turns: u8) -> Result<bool, Error> {
-    let mut tournament = Tournament::with_capacity(alloc, 4)?;
-    let mut heap = IntervalHeap::with_capacity(alloc, 4)?;
+fn agree_by_digits(
+    tournament: &mut Tournament<u8>,
+    heap: &mut IntervalHeap<u8>,
+    mut code: u32,
+    turns: u8,
+) -> bool
+    requires tournament { tournament.old.room ≡ 4 }
+    requires heap { heap.old.room ≡ 4 }
+{
     let mut counts = Counts { of: [0; 3] };
     for turn in 0..turns {
-        match code % 3 {
-            0 if tournament.len() < 4 && heap.len() < 4 => {
-                let item = turn % 3;
-                tournament.push(item);
-                heap.push(item);
-                counts.put(item);
-            }
-            end => {
-                if !pop_alike(&mut tournament, &mut heap, &mut counts, end == 1) {
-                    return Ok(false);
-                }
-            }
+        if !agree_in_turn(tournament, heap, &mut counts, code % 3, turn % 3) {
+            return false;
         }
         code /= 3;
     }
-    Ok(tournament.len() == heap.len())
+    tournament.len() == heap.len()
+}
+
+// The same of a tournament and of an interval heap that is made.
+fn agrees_in_turns_with_heap(
+    tournament: &mut Tournament<u8>,
+    alloc: Global,
+    code: u32,
+    turns: u8,
+) -> Result<bool, Error>
+    requires { tournament.old.room ≡ 4 }
+{
+    let mut heap = IntervalHeap::with_capacity(alloc, 4)?;
+    Ok(agree_by_digits(tournament, &mut heap, code, turns))
+}
+
+// The same of both queues, which are made.
+fn agree_in_turns(alloc: Global, code: u32, turns: u8) -> Result<bool, Error> {
+    let mut tournament = Tournament::with_capacity(alloc, 4)?;
+    agrees_in_turns_with_heap(&mut tournament, alloc, code, turns)
 }
 
 #[test]
@@ -174,31 +254,47 @@ fn pushes_and_pops_in_turns(rt: HostRuntime) -> Result<(), Fail> {
     Ok(())
 }
 
+// Pushes a number to a lazy tournament with room for four, where the digit is 0 and it is not full. Else it is popped: whether it
+// gives up what is counted then, the least where the digit is 1.
+fn is_counted_in_turn(
+    queue: &mut LazyTournament<u8>,
+    counts: &mut Counts,
+    digit: u32,
+    number: u8,
+) -> bool
+    requires { queue.old.room ≡ 4 }
+    ensures { queue.new.room ≡ 4 }
+{
+    match digit {
+        0 if queue.len() < 4 => {
+            queue.push(number);
+            counts.put(number);
+            true
+        }
+        1 => queue.pop_min() == counts.take_least(),
+        _ => queue.pop_max() == counts.take_greatest(),
+    }
+}
+
 // Whether a lazy tournament with room for four gives up what is counted, while it is pushed to and
 // popped as the digits of the code have it.
-fn is_counted_in_turns(alloc: Global, mut code: u32, turns: u8) -> Result<bool, Error> {
-    let mut queue = LazyTournament::with_capacity(alloc, 4)?;
+fn is_counted_by_digits(queue: &mut LazyTournament<u8>, mut code: u32, turns: u8) -> bool
+    requires { queue.old.room ≡ 4 }
+{
     let mut counts = Counts { of: [0; 3] };
     for turn in 0..turns {
-        match code % 3 {
-            0 if queue.len() < 4 => {
-                queue.push(turn % 3);
-                counts.put(turn % 3);
-            }
-            1 => {
-                if queue.pop_min() != counts.take_least() {
-                    return Ok(false);
-                }
-            }
-            _ => {
-                if queue.pop_max() != counts.take_greatest() {
-                    return Ok(false);
-                }
-            }
+        if !is_counted_in_turn(queue, &mut counts, code % 3, turn % 3) {
+            return false;
         }
         code /= 3;
     }
-    Ok(true)
+    true
+}
+
+// The same of a lazy tournament that is made.
+fn is_counted_in_turns(alloc: Global, code: u32, turns: u8) -> Result<bool, Error> {
+    let mut queue = LazyTournament::with_capacity(alloc, 4)?;
+    Ok(is_counted_by_digits(&mut queue, code, turns))
 }
 
 #[test]
@@ -268,14 +364,21 @@ fn push_to_lazy(queue: &mut LazyTournament<char>, item: char) -> u64
     queue.steps()
 }
 
+// Pushes four letters to a lazy one with room for four, and says how many steps were made.
+fn push_four_to_lazy(queue: &mut LazyTournament<char>) -> u64
+    requires { queue.old.room ≡ 4 }
+{
+    push_to_lazy(queue, 'd');
+    push_to_lazy(queue, 'b');
+    push_to_lazy(queue, 'c');
+    push_to_lazy(queue, 'a')
+}
+
 // What a lazy one gives up of four letters, at the front twice, at the back and at the front, and the
 // steps after the pushes and after each pop.
 fn lazily_popped(alloc: Global) -> Result<(u64, [(Option<char>, u64); 4]), Error> {
     let mut queue = LazyTournament::with_capacity(alloc, 4)?;
-    push_to_lazy(&mut queue, 'd');
-    push_to_lazy(&mut queue, 'b');
-    push_to_lazy(&mut queue, 'c');
-    let pushed = push_to_lazy(&mut queue, 'a');
+    let pushed = push_four_to_lazy(&mut queue);
     let popped = [
         (queue.pop_min(), queue.steps()),
         (queue.pop_min(), queue.steps()),
@@ -288,7 +391,7 @@ fn lazily_popped(alloc: Global) -> Result<(u64, [(Option<char>, u64); 4]), Error
 #[test]
 fn an_end_that_is_not_asked_plays_no_match(rt: HostRuntime) -> Result<(), Fail> {
     let (pushed, popped) = lazily_popped(rt.alloc())?;
-    assert_eq!(rt; pushed, 0);
+    assert!(rt; pushed == 0);
     // Three matches at the first pop, and one after 'a' has gone. Then one more for the least, after
     // 'b' has gone, and one for the greatest: the others have no opponent. None at the last.
     let want = [
@@ -297,18 +400,18 @@ fn an_end_that_is_not_asked_plays_no_match(rt: HostRuntime) -> Result<(), Fail> 
         (Some('d'), 6),
         (Some('c'), 6),
     ];
-    assert_eq!(rt; popped, want);
+    assert!(rt; popped == want);
     Ok(())
 }
 
 #[test]
 fn steps_are_the_matches_played(rt: HostRuntime) -> Result<(), Fail> {
-    assert_eq!(rt; one_pushed_and_popped(rt.alloc())?, (0, Some('a'), 0, 0));
+    assert!(rt; one_pushed_and_popped(rt.alloc())? == (0, Some('a'), 0, 0));
     // Each match is played for the least and for the greatest, but not above one that another slot
     // wins as before: the last push leaves the final of the greatest as it is. The matches above an
     // emptied slot are played at the next call.
-    assert_eq!(rt; four_pushed(rt.alloc())?, ([0, 2, 4, 7], 4));
-    assert_eq!(rt; four_popped(rt.alloc())?, [(Some('a'), 7), (Some('d'), 8)]);
+    assert!(rt; four_pushed(rt.alloc())? == ([0, 2, 4, 7], 4));
+    assert!(rt; four_popped(rt.alloc())? == [(Some('a'), 7), (Some('d'), 8)]);
     Ok(())
 }
 
@@ -364,20 +467,44 @@ fn makes_interval_heap<A: Allocator>(memory: A, may_fail: bool) -> bool {
     }
 }
 
-// Whether a tournament with room for two makes so many requests for memory, all before it is used over and over.
-fn tournament_makes(memory: &Refusing, requests: usize) -> Result<bool, Error> {
-    let mut queue = Tournament::with_capacity(memory, 2)?;
-    let at_first = memory.requests();
-    let is_reused = reuse_tournament(&mut queue);
-    Ok(is_reused && at_first == requests && memory.requests() == requests)
+// How many requests for memory a tournament makes, each of which may be refused.
+fn tournaments_refused(alloc: Global) -> Result<usize, usize> {
+    each_refused(alloc, |memory, may_fail| makes_tournament(memory, may_fail))
 }
 
 // The same of an interval heap.
-fn interval_heap_makes(memory: &Refusing, requests: usize) -> Result<bool, Error> {
+fn interval_heaps_refused(alloc: Global) -> Result<usize, usize> {
+    each_refused(alloc, |memory, may_fail| {
+        makes_interval_heap(memory, may_fail)
+    })
+}
+
+// How many requests for memory are made for a tournament with room for two, and whether it is used over and over.
+fn used_tournament(memory: &Refusing) -> Result<(usize, bool), Error> {
+    let mut queue = Tournament::with_capacity(memory, 2)?;
+    let requests = memory.requests();
+    Ok((requests, reuse_tournament(&mut queue)))
+}
+
+// The same of an interval heap.
+fn used_interval_heap(memory: &Refusing) -> Result<(usize, bool), Error> {
     let mut queue = IntervalHeap::with_capacity(memory, 2)?;
-    let at_first = memory.requests();
-    let is_reused = reuse_interval_heap(&mut queue);
-    Ok(is_reused && at_first == requests && memory.requests() == requests)
+    let requests = memory.requests();
+    Ok((requests, reuse_interval_heap(&mut queue)))
+}
+
+// Whether a tournament with room for two makes so many requests for memory, all before it is used over and over.
+fn tournament_makes(alloc: Global, requests: usize) -> Result<bool, Error> {
+    let memory = Refusing::new(alloc, 0);
+    let used = used_tournament(&memory)?;
+    Ok(used == (requests, true) && memory.requests() == requests)
+}
+
+// The same of an interval heap.
+fn interval_heap_makes(alloc: Global, requests: usize) -> Result<bool, Error> {
+    let memory = Refusing::new(alloc, 0);
+    let used = used_interval_heap(&memory)?;
+    Ok(used == (requests, true) && memory.requests() == requests)
 }
 
 // What a tournament without room gives up from either end.
@@ -388,16 +515,10 @@ fn given_up_without_room(alloc: Global) -> Result<(Option<u8>, Option<u8>), Erro
 
 #[test]
 fn memory_is_taken_at_first_alone(rt: HostRuntime) -> Result<(), Fail> {
-    let refusals = each_refused(rt.alloc(), |memory, may_fail| {
-        makes_tournament(memory, may_fail)
-    });
-    assert_eq!(rt; refusals, Ok(4));
-    let refusals = each_refused(rt.alloc(), |memory, may_fail| {
-        makes_interval_heap(memory, may_fail)
-    });
-    assert_eq!(rt; refusals, Ok(1));
-    assert!(rt; tournament_makes(&Refusing::new(rt.alloc(), 0), 4)?);
-    assert!(rt; interval_heap_makes(&Refusing::new(rt.alloc(), 0), 1)?);
-    assert_eq!(rt; given_up_without_room(rt.alloc())?, (None, None));
+    assert!(rt; tournaments_refused(rt.alloc()) == Ok(4));
+    assert!(rt; interval_heaps_refused(rt.alloc()) == Ok(1));
+    assert!(rt; tournament_makes(rt.alloc(), 4)?);
+    assert!(rt; interval_heap_makes(rt.alloc(), 1)?);
+    assert!(rt; given_up_without_room(rt.alloc())? == (None, None));
     Ok(())
 }

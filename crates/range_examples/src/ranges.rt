@@ -47,39 +47,57 @@ impl<A: Allocator> Clone for FakeTable<A> {
     }
 }
 
-fn range_of<A: Allocator + Clone>(alloc: A, min: &str, max: &str) -> Result<KeyRange<A>, Error> {
-    let min = Slice::from(alloc.clone()?, min.as_bytes())?;
-    Ok(KeyRange::new((min, Slice::from(alloc, max.as_bytes())?)))
+// A large value beside another one, or the refusal of the other. It is generic, so that no part of the values is looked at.
+fn beside<T: Drop, U>(value: T, other: Result<U, Error>) -> Result<(T, U), Error> {
+    Ok((value, other?))
 }
 
-fn tables_of<A: Allocator + Clone>(
+// What is asked of a large value, which is let go of here alone, or why there is none.
+fn asked<T: Drop, U, E, F: FnOnce(&T) -> U + Drop>(made: Result<T, E>, ask: F) -> Result<U, E>
+    requires { F.IsAlwaysCallable ask }
+{
+    Ok(ask(&made?))
+}
+
+fn range_of<A: Allocator + Copy>(alloc: A, min: &str, max: &str) -> Result<KeyRange<A>, Error> {
+    let min = Slice::from(alloc, min.as_bytes())?;
+    let ends = beside(min, Slice::from(alloc, max.as_bytes()))?;
+    Ok(KeyRange::new(ends))
+}
+
+fn table_of<A: Allocator + Copy>(
+    alloc: A,
+    table: &(u64, &str, &str),
+) -> Result<FakeTable<A>, Error> {
+    let (id, min, max) = *table;
+    let range = range_of(alloc, min, max)?;
+    Ok(FakeTable { id, range })
+}
+
+fn tables_of<A: Allocator + Copy>(
     alloc: A,
     tables: &[(u64, &str, &str)],
 ) -> Result<Vec<FakeTable<A>, A>, Error> {
-    let mut made = Vec::new(alloc.clone()?);
-    for (id, min, max) in tables {
-        let range = range_of(alloc.clone()?, min, max)?;
-        made.push(FakeTable { id: *id, range })?;
-    }
-    Ok(made)
+    tables
+        .iter()
+        .map(|table| table_of(alloc, table))
+        .try_collect(alloc)
 }
 
-fn run_of<A: Allocator + Clone>(
+fn run_of<A: Allocator + Copy>(
     alloc: A,
     tables: &[(u64, &str, &str)],
 ) -> Result<Run<FakeTable<A>, A>, Error> {
     Run::new(tables_of(alloc, tables)?).ok_or(Error::Source(0))
 }
 
-fn runs_of<A: Allocator + Clone>(
+fn runs_of<A: Allocator + Copy>(
     alloc: A,
     runs: &[&[(u64, &str, &str)]],
 ) -> Result<Vec<Run<FakeTable<A>, A>, A>, Error> {
-    let mut made = Vec::new(alloc.clone()?);
-    for tables in runs {
-        made.push(run_of(alloc.clone()?, tables)?)?;
-    }
-    Ok(made)
+    runs.iter()
+        .map(|tables| run_of(alloc, tables))
+        .try_collect(alloc)
 }
 
 fn has_ids<A: Allocator>(tables: &[FakeTable<A>], ids: &[u64]) -> bool {
@@ -102,14 +120,47 @@ fn bytes_of<'a>(bound: Bound<&'a str>) -> Bound<&'a [u8]> {
     }
 }
 
-const FOUR: [(u64, &str, &str); 4] = [(0, "a", "d"), (1, "e", "j"), (2, "k", "o"), (3, "p", "z")];
+// What is asked of the range with these ends.
+fn asked_range<U, F: FnOnce(&KeyRange) -> U + Drop>(
+    alloc: Global,
+    ends: (&str, &str),
+    ask: F,
+) -> Result<U, Error>
+    requires { F.IsAlwaysCallable ask }
+{
+    asked(range_of(alloc, ends.0, ends.1), ask)
+}
+
+// What a change of the run of some tables answers.
+fn changed_run<U, F: FnOnce(&mut Run<FakeTable>) -> U + Drop>(
+    alloc: Global,
+    tables: &[(u64, &str, &str)],
+    change: F,
+) -> Result<U, Error>
+    requires { F.IsAlwaysCallable change }
+{
+    let mut run = run_of(alloc, tables)?;
+    Ok(change(&mut run))
+}
+
+const FOUR: &[(u64, &str, &str)] = &[(0, "a", "d"), (1, "e", "j"), (2, "k", "o"), (3, "p", "z")];
+
+// What is asked of the run of four tables.
+fn asked_four<U, F: FnOnce(&Run<FakeTable>) -> U + Drop>(alloc: Global, ask: F) -> Result<U, Error>
+    requires { F.IsAlwaysCallable ask }
+{
+    asked(run_of(alloc, FOUR), ask)
+}
 
 // Whether a range with these ends is well-formed and has a key.
 fn has_key(alloc: Global, ends: (&str, &str), key: &str) -> Result<bool, Error> {
-    let range = range_of(alloc, ends.0, ends.1)?;
+    asked_range(alloc, ends, |range| { has_ends_and_key(range, ends, key) })
+}
+
+fn has_ends_and_key(range: &KeyRange, ends: (&str, &str), key: &str) -> bool {
     let min = range.min().as_slice() == ends.0.as_bytes();
     let max = range.max().as_slice() == ends.1.as_bytes();
-    Ok(min && max && range.is_well_formed() && range.contains_key(key.as_bytes()))
+    min && max && range.is_well_formed() && range.contains_key(key.as_bytes())
 }
 
 // Whether the range of the empty key alone has a key.
@@ -144,11 +195,12 @@ fn compared_to(
     range: &KeyRange,
     other: (&str, &str),
 ) -> Result<(bool, bool), Error> {
-    let other = range_of(alloc, other.0, other.1)?;
-    Ok((
-        range.overlaps_with_key_range(&other),
-        range.contains_range(&other),
-    ))
+    asked_range(alloc, other, |other| {
+        (
+            range.overlaps_with_key_range(other),
+            range.contains_range(other),
+        )
+    })
 }
 
 // The same of two ranges with these ends.
@@ -157,8 +209,7 @@ fn compared(
     first: (&str, &str),
     second: (&str, &str),
 ) -> Result<(bool, bool), Error> {
-    let first = range_of(alloc, first.0, first.1)?;
-    compared_to(alloc, &first, second)
+    asked_range(alloc, first, |first| { compared_to(alloc, first, second) })?
 }
 
 // The ends of two ranges, and whether they overlap, and whether the first contains the second.
@@ -178,25 +229,31 @@ fn ranges_that_meet_overlap(rt: HostRuntime) -> Result<(), Fail> {
 }
 
 fn ranges_of(alloc: Global, ends: &[(&str, &str)]) -> Result<Vec<KeyRange>, Error> {
-    let mut ranges = Vec::new(alloc);
-    for (min, max) in ends {
-        ranges.push(range_of(alloc, min, max)?)?;
-    }
-    Ok(ranges)
+    ends.iter()
+        .map(|(min, max)| range_of(alloc, min, max))
+        .try_collect(alloc)
 }
 
 // Whether no two of some ranges have a key in common, and whether their aggregate is a range.
 fn taken_together(
     alloc: Global,
+    ranges: &[KeyRange],
+    aggregate: &KeyRange,
+) -> Result<(bool, bool), Error> {
+    let all: Vec<&KeyRange> = ranges.iter().collect(alloc)?;
+    let is_aggregate = asked(KeyRange::aggregate(&all), |found| *found == *aggregate)?;
+    Ok((KeyRange::is_disjoint(&all), is_aggregate))
+}
+
+// The same of ranges with these ends.
+fn made_and_taken_together(
+    alloc: Global,
     ends: &[(&str, &str)],
     aggregate: &KeyRange,
 ) -> Result<(bool, bool), Error> {
-    let ranges = ranges_of(alloc, ends)?;
-    let all: Vec<&KeyRange> = ranges.iter().collect(alloc)?;
-    Ok((
-        KeyRange::is_disjoint(&all),
-        KeyRange::aggregate(&all)? == *aggregate,
-    ))
+    asked(ranges_of(alloc, ends), |ranges| {
+        taken_together(alloc, ranges, aggregate)
+    })?
 }
 
 // Whether some ranges, taken together, are disjoint or not as wanted, and reach from one key to
@@ -207,8 +264,10 @@ fn reach_together(
     disjoint: bool,
     reach: (&str, &str),
 ) -> Result<bool, Error> {
-    let aggregate = range_of(alloc, reach.0, reach.1)?;
-    Ok(taken_together(alloc, ends, &aggregate)? == (disjoint, true))
+    let together = asked_range(alloc, reach, |aggregate| {
+        made_and_taken_together(alloc, ends, aggregate)
+    })?;
+    Ok(together? == (disjoint, true))
 }
 
 // The ends of ranges, whether they are disjoint, and the ends of their aggregate.
@@ -232,20 +291,27 @@ fn an_aggregate_reaches_from_the_least_to_the_greatest_key(rt: HostRuntime) -> R
 
 // Whether a clone of a range equals it.
 fn equals_its_clone(range: &KeyRange) -> Result<bool, AllocError> {
-    Ok(range.clone()? == *range)
+    asked(range.clone(), |copy| *copy == *range)
+}
+
+// Whether a clone of the range from "a" to "z" equals it.
+fn is_cloned(alloc: Global) -> Result<bool, Error> {
+    let equal = asked_range(alloc, ("a", "z"), |range| equals_its_clone(range))?;
+    Ok(equal?)
 }
 
 #[test]
 fn a_clone_is_the_same_range(rt: HostRuntime) -> Result<(), Fail> {
-    let range = range_of(rt.alloc(), "a", "z")?;
-    assert!(rt; equals_its_clone(&range)?);
+    assert!(rt; is_cloned(rt.alloc())?);
     Ok(())
 }
 
 // Whether the range from "key1" to "key5" overlaps with two bounds.
 fn overlaps(alloc: Global, low: Bound<&str>, high: Bound<&str>) -> Result<bool, Error> {
-    let range = range_of(alloc, "key1", "key5")?;
-    Ok(range.overlaps_with_bounds(&(bytes_of(low), bytes_of(high))))
+    let bounds = (bytes_of(low), bytes_of(high));
+    asked_range(alloc, ("key1", "key5"), |range| {
+        range.overlaps_with_bounds(&bounds)
+    })
 }
 
 // A lower and an upper bound, and whether the range from "key1" to "key5" overlaps with them.
@@ -271,20 +337,29 @@ fn key_ranges_and_bounds(rt: HostRuntime) -> Result<(), Fail> {
 
 // Whether a run is in order, has four tables, and reaches over a range.
 fn has_four_over(run: &Run<FakeTable>, range: &KeyRange) -> Result<bool, Error> {
-    let has_four = run.as_slice().len() == 4;
-    Ok(run.is_in_order() && has_four && run.aggregate_key_range()? == *range)
+    if run.as_slice().len() != 4 || !run.is_in_order() {
+        return Ok(false);
+    }
+    asked(run.aggregate_key_range(), |reach| *reach == *range)
+}
+
+// Whether four tables make a run that reaches over a range.
+fn four_make_a_run_over(alloc: Global, range: &KeyRange) -> Result<bool, Error> {
+    asked_four(alloc, |run| has_four_over(run, range))?
 }
 
 // Whether four tables make a run from the least to the greatest of their keys.
 fn four_make_a_run(alloc: Global) -> Result<bool, Error> {
-    let run = run_of(alloc, &FOUR)?;
-    has_four_over(&run, &range_of(alloc, "a", "z")?)
+    asked_range(alloc, ("a", "z"), |range| {
+        four_make_a_run_over(alloc, range)
+    })?
 }
 
 // The id of the one of four tables that has a key.
 fn id_of_four(alloc: Global, key: &str) -> Result<Option<u64>, Error> {
-    let run = run_of(alloc, &FOUR)?;
-    Ok(run.get_for_key(key.as_bytes()).map(|table| table.id))
+    asked_four(alloc, |run| {
+        run.get_for_key(key.as_bytes()).map(|table| table.id)
+    })
 }
 
 // A key, and the id of the one of four tables that has it.
@@ -313,8 +388,9 @@ fn span_of_four(
     low: Bound<&str>,
     high: Bound<&str>,
 ) -> Result<Option<(usize, usize)>, Error> {
-    let run = run_of(alloc, &FOUR)?;
-    Ok(run.range_overlap_indexes(bytes_of(low), bytes_of(high)))
+    asked_four(alloc, |run| {
+        run.range_overlap_indexes(bytes_of(low), bytes_of(high))
+    })
 }
 
 // A lower and an upper bound, and the places of the first and the last of four tables between them.
@@ -339,18 +415,28 @@ fn the_tables_between_two_bounds(rt: HostRuntime) -> Result<(), Fail> {
 }
 
 // Whether the tables of four that overlap a range, and those that it contains, have these ids.
+fn found_by_range(
+    alloc: Global,
+    range: &KeyRange,
+    overlapping: &[u64],
+    contained: &[u64],
+) -> Result<bool, Error> {
+    asked_four(alloc, |run| {
+        has_ids(run.get_overlapping(range), overlapping)
+            && has_ids(run.get_contained(range), contained)
+    })
+}
+
+// The same of a range with these ends.
 fn found_in_four(
     alloc: Global,
     range: (&str, &str),
     overlapping: &[u64],
     contained: &[u64],
 ) -> Result<bool, Error> {
-    let run = run_of(alloc, &FOUR)?;
-    let range = range_of(alloc, range.0, range.1)?;
-    Ok(
-        has_ids(run.get_overlapping(&range), overlapping)
-            && has_ids(run.get_contained(&range), contained),
-    )
+    asked_range(alloc, range, |range| {
+        found_by_range(alloc, range, overlapping, contained)
+    })?
 }
 
 // The ends of a range, and the ids of the tables of four that overlap with it, and of those inside
@@ -373,80 +459,123 @@ fn the_tables_that_overlap_a_range(rt: HostRuntime) -> Result<(), Fail> {
     Ok(())
 }
 
+// The id of the second of four tables, which is removed; and then whether its least key is found, and the places of the tables
+// in its range.
+fn without_second(run: &mut Run<FakeTable>) -> (Option<u64>, bool, Option<(usize, usize)>) {
+    let removed = remove_second(run);
+    let is_found = run.get_for_key(b"e").is_some();
+    let span = run.range_overlap_indexes(Bound::Included(b"e"), Bound::Included(b"j"));
+    (removed, is_found, span)
+}
+
+fn remove_second(run: &mut Run<FakeTable>) -> Option<u64> {
+    if run.as_slice().len() != 4 {
+        return None;
+    }
+    Some(run.remove(1).id)
+}
+
 #[test]
 fn a_removed_table_is_not_found(rt: HostRuntime) -> Result<(), Fail> {
-    let mut run = run_of(rt.alloc(), &FOUR)?;
-    assert!(rt; run.as_slice().len() == 4);
-    assert_eq!(rt; run.remove(1).id, 1);
-    assert!(rt; run.get_for_key(b"e").is_none());
-    let span = run.range_overlap_indexes(Bound::Included(b"e"), Bound::Included(b"j"));
-    assert_eq!(rt; span, None);
+    let without = changed_run(rt.alloc(), FOUR, |run| without_second(run))?;
+    assert!(rt; without == (Some(1), false, None));
     Ok(())
+}
+
+// Puts a table behind four: whether they are in order, and are five. Then retains the four: whether they are as before.
+fn put_behind_and_retain(
+    alloc: Global,
+    run: &mut Run<FakeTable>,
+) -> Result<(bool, bool, bool), Error> {
+    run.extend(tables_of(alloc, &[(4, "b", "c")])?)?;
+    let is_in_order = run.is_in_order();
+    let are_five = has_ids(run.as_slice(), &[0, 1, 2, 3, 4]);
+    run.retain(|table| table.id != 4);
+    let are_four = asked_four(alloc, |four| *run == *four)?;
+    Ok((is_in_order, are_five, are_four))
 }
 
 #[test]
 fn tables_are_put_behind_and_retained(rt: HostRuntime) -> Result<(), Fail> {
-    let mut run = run_of(rt.alloc(), &FOUR)?;
-    run.extend(tables_of(rt.alloc(), &[(4, "b", "c")])?)?;
-    assert!(rt; !run.is_in_order());
-    assert!(rt; has_ids(run.as_slice(), &[0, 1, 2, 3, 4]));
-    run.retain(|table| table.id != 4);
-    assert!(rt; run == run_of(rt.alloc(), &FOUR)?);
+    let alloc = rt.alloc();
+    let answers = changed_run(alloc, FOUR, |run| { put_behind_and_retain(alloc, run) })?;
+    assert!(rt; answers? == (false, true, true));
     Ok(())
+}
+
+// Whether no tables make no run.
+fn none_make_no_run(alloc: Global) -> bool {
+    Run::<FakeTable>::new(Vec::new(alloc)).is_none()
+}
+
+// Empties a run: whether it is in order, whether a key is found, and the places of all tables.
+fn emptied(run: &mut Run<FakeTable>) -> (bool, bool, Option<(usize, usize)>) {
+    run.retain(|_| false);
+    let is_found = run.get_for_key(b"a").is_some();
+    let span = run.range_overlap_indexes(Bound::Unbounded, Bound::Unbounded);
+    (run.is_in_order(), is_found, span)
 }
 
 #[test]
 fn a_run_may_be_emptied(rt: HostRuntime) -> Result<(), Fail> {
-    assert!(rt; Run::<FakeTable>::new(Vec::new(rt.alloc())).is_none());
-    let mut run = run_of(rt.alloc(), &FOUR)?;
-    run.retain(|_| false);
-    assert!(rt; run.is_in_order());
-    assert!(rt; run.get_for_key(b"a").is_none());
-    let span = run.range_overlap_indexes(Bound::Unbounded, Bound::Unbounded);
-    assert_eq!(rt; span, None);
+    assert!(rt; none_make_no_run(rt.alloc()));
+    let answers = changed_run(rt.alloc(), FOUR, |run| emptied(run))?;
+    assert!(rt; answers == (true, false, None));
     Ok(())
 }
 
-// A run of a table, into which some others are pushed.
-fn pushed(alloc: Global) -> Result<Run<FakeTable>, Error> {
-    let mut run = run_of(alloc, &[(0, "a", "b")])?;
-    for table in tables_of(alloc, &[(1, "a", "c"), (2, "a", "a")])? {
+fn push_all(run: &mut Run<FakeTable>, tables: Vec<FakeTable>) -> Result<(), Error> {
+    for table in tables {
         run.push(table)?;
     }
-    Ok(run)
+    Ok(())
+}
+
+// Pushes two tables to a run of one: whether they follow it. Then clears the run: whether it is empty.
+fn push_two_and_clear(alloc: Global, run: &mut Run<FakeTable>) -> Result<(bool, bool), Error> {
+    push_all(run, tables_of(alloc, &[(1, "a", "c"), (2, "a", "a")])?)?;
+    let are_three = has_ids(run.as_slice(), &[0, 1, 2]);
+    run.inner_mut().clear();
+    Ok((are_three, run.as_slice().is_empty()))
 }
 
 #[test]
 fn tables_of_one_least_key_keep_their_order(rt: HostRuntime) -> Result<(), Fail> {
-    let mut run = pushed(rt.alloc())?;
-    assert!(rt; has_ids(run.as_slice(), &[0, 1, 2]));
-    run.inner_mut().clear();
-    assert!(rt; run.as_slice().is_empty());
+    let alloc = rt.alloc();
+    let answers = changed_run(alloc, &[(0, "a", "b")], |run| {
+        push_two_and_clear(alloc, run)
+    })?;
+    assert!(rt; answers? == (true, true));
     Ok(())
+}
+
+// Puts two tables behind four, out of order, and pushes one more: whether all are in order then.
+fn put_behind_and_push(alloc: Global, run: &mut Run<FakeTable>) -> Result<bool, Error> {
+    run.extend(tables_of(alloc, &[(4, "b", "c"), (5, "q", "r")])?)?;
+    push_all(run, tables_of(alloc, &[(6, "y", "z")])?)?;
+    Ok(has_ids(run.as_slice(), &[0, 4, 1, 2, 3, 5, 6]))
 }
 
 #[test]
 fn a_push_sorts_a_run_that_is_out_of_order(rt: HostRuntime) -> Result<(), Fail> {
-    let mut run = run_of(rt.alloc(), &FOUR)?;
-    run.extend(tables_of(rt.alloc(), &[(4, "b", "c"), (5, "q", "r")])?)?;
-    let mut last = tables_of(rt.alloc(), &[(6, "y", "z")])?;
-    if let Some(table) = last.pop() {
-        run.push(table)?;
-    }
-    assert!(rt; has_ids(run.as_slice(), &[0, 4, 1, 2, 3, 5, 6]));
+    let alloc = rt.alloc();
+    let is_sorted = changed_run(alloc, FOUR, |run| put_behind_and_push(alloc, run))?;
+    assert!(rt; is_sorted?);
     Ok(())
 }
 
 // Whether a table as it stands in a run shows its id and its range.
-fn shows_its_table(alloc: Global) -> Result<bool, Error> {
-    let range = range_of(alloc, "k", "l")?;
-    let table = Indexed::new(FakeTable { id: 7, range });
+fn shows(table: &Indexed<FakeTable>, id: u64, min: &str, max: &str) -> bool {
     let range = table.key_range();
-    Ok(
-        table.id == 7
-            && range.min().as_slice() == b"k".as_slice()
-            && range.max().as_slice() == b"l".as_slice(),
-    )
+    table.id == id
+        && range.min().as_slice() == min.as_bytes()
+        && range.max().as_slice() == max.as_bytes()
+}
+
+fn shows_its_table(alloc: Global) -> Result<bool, Error> {
+    asked(table_of(alloc, &(7, "k", "l")).map(Indexed::new), |table| {
+        shows(table, 7, "k", "l")
+    })
 }
 
 #[test]
@@ -455,8 +584,29 @@ fn a_table_of_a_run_has_its_range(rt: HostRuntime) -> Result<(), Fail> {
     Ok(())
 }
 
-// Whether some runs are packed into runs of these ids, and a chain has these runs. Of several
-// tables that could be a chain's only one, any may be.
+// How many tables a chain of some runs has.
+fn chain_len<A: Allocator + Copy>(alloc: A, runs: &[Run<FakeTable<A>, A>]) -> Result<usize, Error> {
+    Ok(overlap_chain(alloc, runs)?.len())
+}
+
+// Whether a chain of some runs goes through these. Of several tables that could be a chain's only
+// one, any may be.
+fn are_chained(alloc: Global, runs: &[Run<FakeTable>], chain: &[usize]) -> Result<bool, Error> {
+    let found = overlap_chain(alloc, runs)?;
+    let chained = found.len() == 1 || found.iter().zip(chain).all(|(found, run)| found.0 == *run);
+    Ok(found.len() == chain.len() && chained)
+}
+
+// Whether some runs are packed into runs of these ids.
+fn are_packed<A: Allocator + Copy>(
+    alloc: A,
+    runs: Vec<Run<FakeTable<A>, A>, A>,
+    ids: &[&[u64]],
+) -> Result<bool, Error> {
+    Ok(have_ids(&optimize_runs(alloc, runs)?, ids))
+}
+
+// Whether some runs are packed into runs of these ids, and a chain goes through these.
 fn packs(
     alloc: Global,
     runs: &[&[(u64, &str, &str)]],
@@ -464,13 +614,13 @@ fn packs(
     chain: &[usize],
 ) -> Result<bool, Error> {
     let made = runs_of(alloc, runs)?;
-    let found = overlap_chain(alloc, &made)?;
-    let chained = found.len() == 1 || found.iter().zip(chain).all(|(found, run)| found.0 == *run);
-    Ok(found.len() == chain.len() && chained && have_ids(&optimize_runs(alloc, made)?, packed))
+    let chained = are_chained(alloc, &made, chain);
+    let (made, chained) = beside(made, chained)?;
+    Ok(are_packed(alloc, made, packed)? && chained)
 }
 
 // In each: some runs, the ids of the runs that they are packed into, and the runs of a chain.
-const PACKINGS: [(&[&[(u64, &str, &str)]], &[&[u64]], &[usize]); 9] = [
+const PACKINGS: &[(&[&[(u64, &str, &str)]], &[&[u64]], &[usize])] = &[
     (&[], &[], &[]),
     (&[&[(0, "a", "b")]], &[&[0]], &[0]),
     (
@@ -509,7 +659,7 @@ const PACKINGS: [(&[&[(u64, &str, &str)]], &[&[u64]], &[usize]); 9] = [
 
 #[test]
 fn packed_runs(rt: HostRuntime) -> Result<(), Fail> {
-    for (runs, packed, chain) in PACKINGS {
+    for &(runs, packed, chain) in PACKINGS {
         assert!(rt; packs(rt.alloc(), runs, packed, chain)?);
     }
     Ok(())
@@ -517,26 +667,28 @@ fn packed_runs(rt: HostRuntime) -> Result<(), Fail> {
 
 // Whether packing gives runs of these ids, and the chain has as many places, or memory was refused
 // where it may be.
-fn packs_to<A: Allocator + Clone>(
-    alloc: &A,
+fn packs_to<A: Allocator + Copy>(
+    alloc: A,
     runs: &[&[(u64, &str, &str)]],
     ids: &[&[u64]],
     may_fail: bool,
 ) -> bool {
-    match packed_and_chained(alloc, runs) {
-        Ok((packed, chained)) => have_ids(&packed, ids) && chained == ids.len(),
+    match packed_and_chained(alloc, runs, ids) {
+        Ok(packed_and_chained) => packed_and_chained,
         Err(Error::OutOfMemory) => may_fail,
         Err(_) => false,
     }
 }
 
-fn packed_and_chained<A: Allocator + Clone>(
-    alloc: &A,
+fn packed_and_chained<A: Allocator + Copy>(
+    alloc: A,
     runs: &[&[(u64, &str, &str)]],
-) -> Result<(Vec<Run<FakeTable<A>, A>, A>, usize), Error> {
-    let made = runs_of(alloc.clone()?, runs)?;
-    let chain = overlap_chain(alloc.clone()?, &made)?;
-    Ok((optimize_runs(alloc.clone()?, made)?, chain.len()))
+    ids: &[&[u64]],
+) -> Result<bool, Error> {
+    let made = runs_of(alloc, runs)?;
+    let chained = chain_len(alloc, &made);
+    let (made, chained) = beside(made, chained)?;
+    Ok(are_packed(alloc, made, ids)? && chained == ids.len())
 }
 
 #[test]
@@ -547,7 +699,7 @@ fn each_request_for_memory_refused(rt: HostRuntime) -> Result<(), Fail> {
             &[(1, "a", "z")],
             &[(0, "a", "c")],
         ];
-        packs_to(&heap, &runs, &[&[2], &[1], &[0]], may_fail)
+        packs_to(heap, &runs, &[&[2], &[1], &[0]], may_fail)
     });
     assert!(rt; three.is_ok_and(|requests| requests > 5));
     let four = each_refused(rt.alloc(), |heap, may_fail| {
@@ -557,7 +709,7 @@ fn each_request_for_memory_refused(rt: HostRuntime) -> Result<(), Fail> {
             &[(3, "d", "f")],
             &[(4, "x", "z")],
         ];
-        packs_to(&heap, &runs, &[&[0, 1, 4], &[2], &[3]], may_fail)
+        packs_to(heap, &runs, &[&[0, 1, 4], &[2], &[3]], may_fail)
     });
     assert!(rt; four.is_ok_and(|requests| requests > 5));
     Ok(())

@@ -9,6 +9,8 @@ mod filters;
 #[cfg(test)]
 mod hashes;
 #[cfg(test)]
+mod large;
+#[cfg(test)]
 mod loading;
 #[cfg(test)]
 mod sections;

@@ -1,6 +1,7 @@
 //! The sections of a stored table, written again.
 ghost use Rattle.std.specs.Prelude.{◌≡◌, []};
 
+use crate::large::asked;
 use crate::stored_table;
 use refusing::each_refused;
 use sst_blocks::{BlockSource, Error, SectionName, SectionWriter, Slice};
@@ -32,11 +33,12 @@ fn write_again<A: Allocator + Copy>(alloc: A) -> Result<(Slice<A>, u128), Error>
 
 // Whether the stored table is the same when written again, and the checksum of what is written.
 fn is_same<A: Allocator + Copy>(alloc: A) -> Result<(bool, u128), Error> {
-    let (bytes, checksum) = write_again(alloc)?;
-    Ok((
-        bytes.as_slice() == stored_table::bytes().as_slice(),
-        checksum,
-    ))
+    asked(write_again(alloc), |(bytes, checksum)| {
+        (
+            bytes.as_slice() == stored_table::bytes().as_slice(),
+            *checksum,
+        )
+    })
 }
 
 #[test]
@@ -50,13 +52,12 @@ fn a_stored_table_is_written_again(rt: HostRuntime) -> Result<(), Fail> {
 // Where a section of what was written lies.
 fn lies(alloc: Global, name: SectionName) -> Result<Option<(u64, u64)>, Error> {
     let (bytes, _) = write_again(alloc)?;
-    let source = BlockSource::new(alloc, bytes)?;
-    Ok(
+    asked(BlockSource::new(alloc, bytes), |source| {
         source
             .toc()
             .section(name)
-            .map(|section| (section.position, section.len)),
-    )
+            .map(|section| (section.position, section.len))
+    })
 }
 
 // A section, and its position and length.
