@@ -154,6 +154,14 @@ full_fault r policy hashes w (k ∷ keys) same held some works h fault =
     ∙ ap (λ (n : ℕ). fault_for (tenths_of policy) n) count in
     subst (λ x. Faults r x) (sym told) fault
 
+pub full_none_fault : (w : Hashes) (keys : List (List ℕ)) → w.failed ≡ false → w.hashes ≡ [] → HoldsHashes w keys →
+    option_or (failed_fault w.failed) (filter_fault Full w.policy keys) ≡ None
+full_none_fault w [] works none h = ap (λ (b : Bool). option_or (failed_fault b) None) works
+full_none_fault w (k ∷ keys) works none h = let e : fnv1a k ∷ map fnv1a keys ≡ [] = sym h.hashes ∙ none in cc
+
+pub full_idle : (w : Hashes) → (w.hashes ≡ [] → ⊥) → HoldsHashes w [] → w.failed ≡ true
+full_idle w some h = absurd (some h.hashes)
+
 -- what the top level has
 partitions_same : (ps : List (List (List ℕ))) (cs : List CutPart) → end_keys cs ≡ map last_of_keys ps → filter_partitions ps (filters_of cs) ≡ map partition_of cs
 partitions_same [] [] e = refl
