@@ -1,6 +1,6 @@
 -- The sections of a filter, behind what was written before.
 use Rattle.std.proofs.Common.{◌≡◌, refl, ◌∙◌, ap, sym, subst, ℕ, ◌+◌, ◌-◌, ◌^◌, ◌<◌, ◌≤◌, List, [], ◌∷◌, ◌++◌, length, take, append_assoc, length-append, arith}
-use Rattle.std.specs.Prelude.{map, min, nat_le, sum_by, Bool, true, false, Option, Some, None, Result, Ok, Err, OnOk, IfOk, if◌then◌else◌}
+use Rattle.std.specs.Prelude.{map, min, nat_le, sum_by, Bool, true, false, Option, Some, None, Result, Ok, Err, OnOk, IfOk, IsErrAnd, if◌then◌else◌}
 use Rattle.std.specs.List.{AllByRecursion, flat_map}
 use Rattle.std.proofs.lemmas.List.{append-nil, length-map, length-take, map-append, take-take, take_all}
 use Rattle.std.proofs.lemmas.List.Concat.{flat_map-append}
@@ -18,7 +18,8 @@ use Rattle.sst_blocks.specs.Handles.{AreStrictHandles, end_of, handles_payload}
 use Rattle.sst_blocks.specs.Bounds.{capped, handle_bound}
 use Rattle.sst_blocks.specs.Encoding.{handles_fault, is_long_key, key_fault}
 use Rattle.sst_entries.specs.Entry.{Entry}
-use Rattle.sst_entries.specs.Error.{Faults}
+use Rattle.sst_entries.specs.Error.{Faults, FaultsFirst, is_memory}
+use Rattle.sst_entries.proofs.Refusals.{faults_refusal}
 use Rattle.sst_entries.specs.Strict.{IsStrict}
 use Rattle.sst_entries.specs.declared.error.Error.{Error}
 use Rattle.sst_entries.specs.declared.error.Error.TheVariants.{KeyTooLong, SectionTooLarge}
@@ -370,6 +371,23 @@ pub finish_none_fault : (v : CutParts) (size : ℕ) (policy : BloomConstructionP
 finish_none_fault v size policy cs keys failed works rest h same same' parts none =
     let nothing : parts_by (is_full_filter policy size) keys ≡ [] = rw (same, same') at (parts_of_none v keys h (sym parts ∙ none)) in
     rw (works, rest, nothing) refl
+
+-- only a writer that has failed refuses before memory is asked for
+pub works_first : {X : Type 0} (r : Result X Error) (inside failed : Bool) → inside ≡ failed → inside ≡ false → FaultsFirst r (failed_fault failed)
+works_first r inside failed same works = λ e told. absurd (none_told failed e (sym same ∙ works) told)
+  where
+    none_told : (failed : Bool) (e : Error) → failed ≡ false → failed_fault failed ≡ Some e → ⊥
+    none_told true e works told = cc
+    none_told false e works told = cc
+
+pub bytes_stay : (w : Written) → take (length w.bytes) w.bytes ≡ w.bytes
+bytes_stay w = take_all (length w.bytes) w.bytes (omega arith)
+
+-- what is left waiting
+pub rest_refused : {X : Type 0} (r : Result X Error) (e : Error) (size : ℕ) (policy : BloomConstructionPolicy) (keys : List (List ℕ)) (failed : Bool) → IsErrAnd r (λ y. y ≡ e) →
+    failed ≡ false → (is_memory e ≡ false → keys_fault policy (waiting_by (is_full_filter policy size) keys) ≡ Some e) →
+    Faults r (option_or (failed_fault failed) (filter_fault (Partitioned size) policy keys))
+rest_refused r e size policy keys failed is works fault = faults_refusal r e _ is (λ m. rw (works, fault m) refl)
 
 -- their section, where it is too large
 pub finish_large : (v : CutParts) (size : ℕ) (policy : BloomConstructionPolicy) (b : ℕ) (keys : List (List ℕ)) (failed : Bool) →
