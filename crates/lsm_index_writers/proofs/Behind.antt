@@ -1,0 +1,36 @@
+-- Sections behind what was written before.
+use Rattle.std.proofs.Common.{◌≡◌, refl, ◌∙◌, ap, sym, ℕ, ◌+◌, ◌≤◌, List, [], ◌∷◌, ◌++◌, length, take, append_assoc, length-append, arith}
+use Rattle.std.proofs.Math.Seq.{take-append_seam}
+use Rattle.std.proofs.lemmas.List.{append-nil, length-take, take-take, take_all}
+use Rattle.sst_sections.specs.Sections.{Written}
+use Rattle.sst_sections.specs.declared.section.SectionName.{SectionName}
+use Rattle.lsm_files.specs.Layout.{appended}
+
+-- one section, and two
+pub section_more : (w u v : Written) (name : SectionName) (bytes : List ℕ) → u ≡ record w { started = w.started ++ (name, length w.bytes) ∷ [] } →
+    v ≡ record u { bytes = u.bytes ++ bytes } → v ≡ appended w ((name, bytes) ∷ [])
+section_more w u v name bytes eu ev = rw (ev, eu, append-nil bytes) refl
+
+pub section_behind : (w u : Written) (s t : SectionName × List ℕ) → u ≡ appended w (s ∷ []) → appended u (t ∷ []) ≡ appended w (s ∷ t ∷ [])
+section_behind w u s t e =
+    let bytes : (w.bytes ++ (s.1 ++ [])) ++ (t.1 ++ []) ≡ w.bytes ++ (s.1 ++ (t.1 ++ [])) = append_assoc w.bytes (s.1 ++ []) (t.1 ++ []) ∙ ap (λ bs. w.bytes ++ bs) (append_assoc s.1 [] (t.1 ++ [])) in
+    let at : length (w.bytes ++ (s.1 ++ [])) ≡ length w.bytes + length s.1 = length-append w.bytes (s.1 ++ []) ∙ ap (λ (bs : List ℕ). length w.bytes + length bs) (append-nil s.1) in
+    let started : (w.started ++ (s.0, length w.bytes) ∷ []) ++ (t.0, length (w.bytes ++ (s.1 ++ []))) ∷ [] ≡ w.started ++ (s.0, length w.bytes) ∷ (t.0, length w.bytes + length s.1) ∷ [] =
+    append_assoc w.started ((s.0, length w.bytes) ∷ []) ((t.0, length (w.bytes ++ (s.1 ++ []))) ∷ [])
+    ∙ ap (λ (n : ℕ). w.started ++ (s.0, length w.bytes) ∷ (t.0, n) ∷ []) at in
+    rw (e, bytes, started) refl
+
+-- what was written before stays at the front
+pub front_begun : (w u : Written) (started : List (SectionName × ℕ)) → u ≡ record w { started = started } → take (length w.bytes) u.bytes ≡ w.bytes
+front_begun w u started e = ap (λ (y : Written). take (length w.bytes) y.bytes) e ∙ take_all (length w.bytes) w.bytes (omega arith)
+
+pub front_longer : (w x : Written) (block : List ℕ) → x ≡ record w { bytes = w.bytes ++ block } → take (length w.bytes) x.bytes ≡ w.bytes
+front_longer w x block e = ap (λ (y : Written). take (length w.bytes) y.bytes) e ∙ take-append_seam w.bytes block
+
+pub front_after : (w u x : Written) → take (length w.bytes) u.bytes ≡ w.bytes → take (length u.bytes) x.bytes ≡ u.bytes → take (length w.bytes) x.bytes ≡ w.bytes
+front_after w u x before stays =
+    let long : length w.bytes ≤ length u.bytes = omega (arith, length-take (length w.bytes) u.bytes, ap length before) in
+    sym (take-take (length w.bytes) (length u.bytes) x.bytes long) ∙ ap (λ (bs : List ℕ). take (length w.bytes) bs) stays ∙ before
+
+pub front_same : (w u x : Written) → take (length w.bytes) u.bytes ≡ w.bytes → x ≡ u → take (length w.bytes) x.bytes ≡ w.bytes
+front_same w u x before e = ap (λ (y : Written). take (length w.bytes) y.bytes) e ∙ before
