@@ -1,9 +1,12 @@
 -- Sections behind what was written before.
-use Rattle.std.proofs.Common.{◌≡◌, refl, ◌∙◌, ap, sym, ℕ, ◌+◌, ◌≤◌, List, [], ◌∷◌, ◌++◌, length, take, append_assoc, length-append, arith}
+use Rattle.std.proofs.Common.{◌≡◌, refl, ◌∙◌, ap, sym, subst, ℕ, ◌+◌, ◌≤◌, All, List, [], ◌∷◌, ◌++◌, length, take, append_assoc, length-append, arith}
 use Rattle.std.proofs.Math.Seq.{take-append_seam}
 use Rattle.std.proofs.lemmas.List.{append-nil, length-take, take-take, take_all}
-use Rattle.sst_sections.specs.Sections.{Written}
+use Rattle.std.proofs.lemmas.List.Elements.{All-push, All-weaker}
+use Rattle.sst_sections.specs.Sections.{Written, slot_index}
 use Rattle.sst_sections.specs.declared.section.SectionName.{SectionName}
+use Rattle.sst_sections.specs.declared.section.SectionName.TheVariants.{Index}
+use Rattle.lsm_files.specs.File.{HasNoIndex}
 use Rattle.lsm_files.specs.Layout.{appended}
 
 -- one section, and two
@@ -19,6 +22,19 @@ section_behind w u s t e =
     append_assoc w.started ((s.0, length w.bytes) ∷ []) ((t.0, length (w.bytes ++ (s.1 ++ []))) ∷ [])
     ∙ ap (λ (n : ℕ). w.started ++ (s.0, length w.bytes) ∷ (t.0, n) ∷ []) at in
     rw (e, bytes, started) refl
+
+-- which sections were not started yet
+pub no_index_yet : (w : Written) → HasNoIndex w → All (λ (s : SectionName × ℕ). slot_index s.0 ≡ 1 → ⊥) w.started
+no_index_yet w none =
+    All-weaker (λ (s : SectionName × ℕ). (slot_index s.0 ≡ 1 → ⊥) × (slot_index s.0 ≡ 2 → ⊥)) (λ (s : SectionName × ℕ). slot_index s.0 ≡ 1 → ⊥) (λ s h. h.0) w.started none
+
+pub no_top_level_yet : (w u v : Written) → HasNoIndex w → u ≡ record w { started = w.started ++ (Index, length w.bytes) ∷ [] } → v.started ≡ u.started →
+    All (λ (s : SectionName × ℕ). slot_index s.0 ≡ 2 → ⊥) v.started
+no_top_level_yet w u v none begun same =
+    subst (λ ss. All (λ (s : SectionName × ℕ). slot_index s.0 ≡ 2 → ⊥) ss) (sym (same ∙ ap (λ (y : Written). y.started) begun))
+    (All-push (λ (s : SectionName × ℕ). slot_index s.0 ≡ 2 → ⊥) w.started (Index, length w.bytes)
+    (All-weaker (λ (s : SectionName × ℕ). (slot_index s.0 ≡ 1 → ⊥) × (slot_index s.0 ≡ 2 → ⊥)) (λ (s : SectionName × ℕ). slot_index s.0 ≡ 2 → ⊥) (λ s h. h.1) w.started none)
+    (λ e. absurd cc))
 
 -- what was written before stays at the front
 pub front_begun : (w u : Written) (started : List (SectionName × ℕ)) → u ≡ record w { started = started } → take (length w.bytes) u.bytes ≡ w.bytes

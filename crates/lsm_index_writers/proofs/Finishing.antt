@@ -1,25 +1,28 @@
 -- Finishing an index.
-use Rattle.std.proofs.Common.{◌≡◌, ◌∙◌, ap, sym, subst, ℕ, ◌^◌, ◌<◌, Bool, true, false, List, [], ◌∷◌, ◌++◌, length}
-use Rattle.std.specs.Prelude.{Option, Some, None, Result, IsErrAnd}
+use Rattle.std.proofs.Common.{◌≡◌, ◌∙◌, ap, sym, subst, ℕ, ◌+◌, ◌-◌, ◌^◌, ◌<◌, ◌≤◌, nat_le, Bool, true, false, List, [], ◌∷◌, ◌++◌, length, length-append, arith}
+use Rattle.std.specs.Prelude.{Option, Some, None, Result, IsErrAnd, if◌then◌else◌}
+use Rattle.std.proofs.lemmas.Bool.Decides.{nat_tests}
 use Rattle.std.specs.List.{AllByRecursion, flat_map}
 use Rattle.std.specs.Option.{option_or}
 use Rattle.sst_entries.specs.Error.{Faults, FaultsFirst, is_memory}
 use Rattle.sst_entries.specs.declared.error.Error.{Error}
+use Rattle.sst_entries.specs.declared.error.Error.TheVariants.{SectionTooLarge}
 use Rattle.sst_entries.proofs.Refusals.{faults_refusal}
 use Rattle.sst_sections.specs.Sections.{Written}
 use Rattle.sst_sections.specs.declared.section.SectionName.TheVariants.{Index, Tli}
 use Rattle.sst_sections.specs.declared.version.TableVersion.TheVariants.{V4}
+use Rattle.sst_blocks.specs.Bounds.{index_block_bound_of}
 use Rattle.sst_blocks.specs.Encoding.{handles_fault}
 use Rattle.sst_blocks.specs.Handle.{Handle}
 use Rattle.sst_blocks.specs.Handles.{AreStrictHandles}
-use Rattle.lsm_files.specs.Failed.{failed_fault}
+use Rattle.lsm_files.specs.Failed.{failed_fault, section_fault}
 use Rattle.lsm_files.specs.Fits.{SectionFits}
 use Rattle.lsm_files.specs.Layout.{appended}
 use Rattle.lsm_files.specs.Parts.{parts_by}
 use Rattle.lsm_files.specs.Partitions.{handles_block, index_tops, is_full_index, partitioned_index}
 use Rattle.lsm_files.specs.declared.options.IndexKind.{IndexKind}
 use Rattle.lsm_files.specs.declared.options.IndexKind.TheVariants.{Partitioned}
-use Rattle.lsm_index_writers.specs.Refusing.{index_fault, kind_fault, parts_fault}
+use Rattle.lsm_index_writers.specs.Refusing.{index_fault, kind_fault, part_fault, parts_fault}
 use Rattle.lsm_index_writers.specs.Registered.{Registered}
 use Rattle.lsm_index_writers.proofs.Behind.{section_behind, section_more}
 use Rattle.lsm_index_writers.proofs.Tops.{length_tops, tops_fault, tops_strict}
@@ -85,3 +88,25 @@ works_first r inside failed same works = λ e told. absurd (none_told failed e (
     none_told : (failed : Bool) (e : Error) → failed ≡ false → failed_fault failed ≡ Some e → ⊥
     none_told true e works told = cc
     none_told false e works told = cc
+
+-- what a part refuses behind others: its block, then the section so far
+pub part_refused : {X : Type 0} (r : Result X Error) (e : Error) (before : ℕ) (part : List Handle) → IsErrAnd r (λ y. y ≡ e) → (is_memory e ≡ false → handles_fault part ≡ Some e) →
+    Faults r (part_fault before part)
+part_refused r e before part refused fault = faults_refusal r e _ refused
+    (λ m. ap (λ (f : Option Error). option_or f (section_fault (before + index_block_bound_of part))) (fault m))
+
+module _ (w x : Written) (base : ℕ) (part : List Handle) (block : List ℕ) (written : x ≡ record w { bytes = w.bytes ++ block }) (bound : length block ≡ index_block_bound_of part)
+    (behind : base ≤ length w.bytes) (fits : handles_fault part ≡ None) where
+  so_far : length w.bytes - base + index_block_bound_of part ≡ length x.bytes - base
+  so_far = omega (arith, ap (λ (y : Written). length y.bytes) written, length-append w.bytes block, bound, behind)
+
+  told : (large : Bool) → nat_le (2 ^ 32) (length x.bytes - base) ≡ large → part_fault (length w.bytes - base) part ≡ (if large then Some SectionTooLarge else None)
+  told large is =
+      ap (λ (f : Option Error). option_or f (section_fault (length w.bytes - base + index_block_bound_of part))) fits
+      ∙ ap (λ (n : ℕ). section_fault n) so_far ∙ ap (λ (b : Bool). if b then Some SectionTooLarge else None) is
+
+  pub part_large : 2 ^ 32 ≤ length x.bytes - base → part_fault (length w.bytes - base) part ≡ Some SectionTooLarge
+  part_large le = told true (grind (arith, nat_tests, le))
+
+  pub part_fits : length x.bytes - base < 2 ^ 32 → part_fault (length w.bytes - base) part ≡ None
+  part_fits lt = told false (grind (arith, nat_tests, lt))

@@ -1,7 +1,8 @@
 -- The top level has the handles of the parts.
-use Rattle.std.proofs.Common.{◌∙◌}
+use Rattle.std.proofs.Common.{ap, ◌∙◌}
+use Rattle.sst_sections.specs.Sections.{Written}
 use Rattle.sst_entries.proofs.Refusals.{faults_refusal}
-use Rattle.lsm_index_writers.proofs.Behind.{front_after, front_begun}
+use Rattle.lsm_index_writers.proofs.Behind.{front_after, front_begun, no_index_yet, no_top_level_yet}
 use Rattle.lsm_index_writers.proofs.Finishing.{all_behind, all_fit, parts_refused, top_count, top_fault, top_strict}
 use Rattle.lsm_index_writers.proofs.partitioned.write_sections.Goals as goal
 
@@ -69,3 +70,18 @@ returns-clause-refused g c =
     top_fault c.args.handles.now.items c.deref.result.now c.args.partition_size c.deref.ensures.value
     c.args.writer.now c.start.new.self c.write_partitions.new.writer c.write_partitions.new.tops.items c.deref-2.result.now c.in_ok-start.ensures.ok c.in_ok-write_partitions.ensures.tops c.deref-2.ensures.value
     c.in_ok-write_partitions.ensures.refused ∙ c.in_ok-write_top_level.ensures.refused
+
+pub returns-in_err-clone-clause-before : goal.returns-in_err-clone-clause-before
+returns-in_err-clone-clause-before g c = front_begun c.args.writer.now c.start.new.self _ c.in_ok-start.ensures.ok
+
+
+pub returns-in_err-clone-2-clause-before : goal.returns-in_err-clone-2-clause-before
+returns-in_err-clone-2-clause-before g c = front_begun c.args.writer.now c.start.new.self _ c.in_ok-start.ensures.ok
+
+pub start-requires : goal.start-requires
+start-requires g c = no_index_yet c.args.writer.now c.requires.unwritten
+
+pub write_top_level-requires-clause-unwritten : goal.write_top_level-requires-clause-unwritten
+write_top_level-requires-clause-unwritten g c =
+    no_top_level_yet c.args.writer.now c.start.new.self c.write_partitions.new.writer c.requires.unwritten c.in_ok-start.ensures.ok
+    (ap (λ (y : Written). y.started) c.in_ok-write_partitions.ensures.ok)
