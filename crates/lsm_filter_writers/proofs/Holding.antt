@@ -14,7 +14,7 @@ use Rattle.lsm_files.specs.Filters.{AreFiltersFor, IsFilterFor, is_full_filter, 
 use Rattle.lsm_files.specs.Parts.{parts_by, rest_part}
 use Rattle.lsm_files.specs.declared.options.FilterKind.TheVariants.{Partitioned}
 use Rattle.lsm_filter_writers.specs.Cutting.{closed_by, waiting_by}
-use Rattle.lsm_filter_writers.specs.Held.{CutPart, CutParts, Cuts, end_keys, filters_of, HoldsAll, HoldsParts, last_key_of}
+use Rattle.lsm_filter_writers.specs.Held.{as_list, CutPart, CutParts, Cuts, end_keys, filters_of, HoldsAll, HoldsParts, last_key_of}
 use Rattle.lsm_filter_writers.specs.Refusing.{keys_fault, parts_bound, register_fault}
 use Rattle.lsm_filter_writers.specs.Rising.{AreRising}
 use Rattle.lsm_filter_writers.proofs.CutLaws.{closed_none, closed_cut, closed_same, parts_split, waiting_none, waiting_cut, waiting_more}
@@ -265,3 +265,21 @@ rest_fault_for result w keys key policy hashes h some same held fault =
 
 pub some_is_not_none : (last : Option (List ℕ)) (key : List ℕ) → last ≡ Some key → last ≡ None → ⊥
 some_is_not_none last key some none = let e : Some key ≡ None = sym some ∙ none in cc
+
+-- the last keys rise, with that of a part that was cut, and with that of one that waits
+pub cut_rising : (cs longer parts : List CutPart) (part : CutPart) (key : List ℕ) (last : Option (List ℕ)) → cs ≡ parts → part.end_key ≡ key → longer ≡ cs ++ part ∷ [] → last ≡ None →
+    AreRising (end_keys parts ++ key ∷ []) → AreRising (end_keys longer ++ as_list last)
+cut_rising cs longer parts part key last same named pushed none rising =
+    let keys : end_keys longer ≡ end_keys parts ++ key ∷ [] =
+    ap (λ (ps : List CutPart). end_keys ps) pushed ∙ map-append (λ (p : CutPart). p.end_key) cs (part ∷ [])
+    ∙ ap (λ (k : List ℕ). end_keys cs ++ k ∷ []) named ∙ ap (λ (ps : List CutPart). end_keys ps ++ key ∷ []) same in
+    let all : end_keys longer ++ as_list last ≡ end_keys parts ++ key ∷ [] =
+    ap (λ (x : Option (List ℕ)). end_keys longer ++ as_list x) none ∙ append-nil (end_keys longer) ∙ keys in
+    subst (λ ks. AreRising ks) (sym all) rising
+
+pub waits_rising : (cs parts : List CutPart) (key end_key : List ℕ) (last : Option (List ℕ)) → cs ≡ parts → end_key ≡ key → last ≡ Some end_key →
+    AreRising (end_keys parts ++ key ∷ []) → AreRising (end_keys cs ++ as_list last)
+waits_rising cs parts key end_key last same named some rising =
+    let all : end_keys cs ++ as_list last ≡ end_keys parts ++ key ∷ [] =
+    ap (λ (x : Option (List ℕ)). end_keys cs ++ as_list x) (some ∙ ap (λ (k : List ℕ). Some k) named) ∙ ap (λ (ps : List CutPart). end_keys ps ++ key ∷ []) same in
+    subst (λ ks. AreRising ks) (sym all) rising

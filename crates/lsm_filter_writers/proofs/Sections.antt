@@ -2,7 +2,7 @@
 use Rattle.std.proofs.Common.{◌≡◌, refl, ◌∙◌, ap, sym, subst, ℕ, ◌+◌, ◌-◌, ◌^◌, ◌<◌, ◌≤◌, List, [], ◌∷◌, ◌++◌, length, take, append_assoc, length-append, arith}
 use Rattle.std.specs.Prelude.{map, min, nat_le, sum_by, Bool, true, false, Option, Some, None, Result, Ok, Err, OnOk, IfOk, IsErrAnd, if◌then◌else◌}
 use Rattle.std.specs.List.{AllByRecursion, flat_map}
-use Rattle.std.proofs.lemmas.List.{append-nil, length-map, length-take, map-append, take-take, take_all}
+use Rattle.std.proofs.lemmas.List.{append-nil, length-map, length-take, map-append, map-id, take-take, take_all}
 use Rattle.std.proofs.lemmas.List.Concat.{flat_map-append}
 use Rattle.std.proofs.lemmas.List.Sums.{sum_by-cons}
 use Rattle.std.proofs.Math.Seq.{take-append_seam}
@@ -305,6 +305,9 @@ written_more before now next cs hs c h more w e named pushed =
 
 pub front_stays : (before now : Written) (cs : List CutPart) (hs : List Handle) → PartsWritten before now cs hs → take (length before.bytes) now.bytes ≡ before.bytes
 front_stays before now cs hs w = ap (λ b. take (length before.bytes) b) w.bytes ∙ take-append_seam before.bytes _
+
+pub written_all : (before now : Written) (some all : List CutPart) (hs : List Handle) → PartsWritten before now some hs → map (λ (c : CutPart). c) some ≡ all → PartsWritten before now all hs
+written_all before now some all hs w e = subst (λ cs. PartsWritten before now cs hs) (sym (map-id some) ∙ e) w
 
 pub front_unchanged : (before now next : Written) (cs : List CutPart) (hs : List Handle) → PartsWritten before now cs hs → next ≡ now →
     take (length before.bytes) next.bytes ≡ before.bytes

@@ -130,7 +130,7 @@ impl<A: Allocator + Clone> PartitionedFilterWriter<A> {
             .relative_file_pos
             .saturating_add(filter_bound(&self.bloom_policy, n));
         self.bloom_hash_buffer.clear();
-        self.last_key = None;
+        drop(self.last_key.take());
         Ok(())
     }
 
@@ -152,7 +152,7 @@ impl<A: Allocator + Clone> PartitionedFilterWriter<A> {
         if self.is_full() {
             return self.spill_filter_partition(end_key);
         }
-        self.last_key = Some(end_key);
+        drop(self.last_key.replace(end_key));
         Ok(())
     }
 
@@ -289,7 +289,7 @@ fn write_partition<A: Allocator + Clone>(
     ensures handle { let size = header_len + length (payload_of partition.filter) in
         let at = length writer.old.bytes in
         IfOk result (λ h. h ≡
-            record { end_key = partition.end_key; seqno = 0; offset = at; size = size }) }
+        record { end_key = partition.end_key; seqno = 0; offset = at; size = size }) }
     ensures unchanged { OnErr result (writer.new ≡ writer.old) }
     ensures err { IfErr result (λ e. e ≡ OutOfMemory) }
 {

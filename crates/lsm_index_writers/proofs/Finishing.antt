@@ -72,9 +72,10 @@ module _ (hs now : List Handle) (limit : ℕ) (is : now ≡ hs) where
         ∙ section_behind w v (Index, blocks) (Tli, handles_block V4 (index_tops V4 (length w.bytes) parts)) first
 
     pub all_fit : length (flat_map (handles_block V4) parts_now) < 2 ^ 32 → SectionFits (Tli, handles_block V4 given) → AllByRecursion SectionFits (partitioned_index V4 (length w.bytes) parts)
-    all_fit short fits =
-        (record { short = subst (λ (ps : List (List Handle)). length (flat_map (handles_block V4) ps) < 2 ^ 32) same_parts short },
-        (subst (λ (ts : List Handle). SectionFits (Tli, handles_block V4 ts)) told_now fits, tt))
+    all_fit short fits = (
+      record { short = subst (λ (ps : List (List Handle)). length (flat_map (handles_block V4) ps) < 2 ^ 32) same_parts short },
+      (subst (λ (ts : List Handle). SectionFits (Tli, handles_block V4 ts)) told_now fits, tt),
+    )
 
 -- what a writer refuses that has not failed
 pub works_fault : {X : Type 0} (r : Result X Error) (w : Registered) (kind : IndexKind) (hs : List Handle) (failed : Bool) → record { handles = hs; kind = kind; failed = failed } ≡ w → failed ≡ false →

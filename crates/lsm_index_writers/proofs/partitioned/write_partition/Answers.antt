@@ -16,14 +16,11 @@ returns-clause-top g c =
 pub returns-then-position-base-clause-before : goal.returns-then-position-base-clause-before
 returns-then-position-base-clause-before g c = front_longer c.args.writer.now c.write_block.new.writer _ c.in_ok-block.ensures.ok
 
-
 pub returns-in_err-end_key-clause-before : goal.returns-in_err-end_key-clause-before
 returns-in_err-end_key-clause-before g c = front_longer c.args.writer.now c.write_block.new.writer _ c.in_ok-block.ensures.ok
 
-
 pub returns-in_err-push-clause-before : goal.returns-in_err-push-clause-before
 returns-in_err-push-clause-before g c = front_longer c.args.writer.now c.write_block.new.writer _ c.in_ok-block.ensures.ok
-
 
 pub returns-clause-before : goal.returns-clause-before
 returns-clause-before g c = front_longer c.args.writer.now c.write_block.new.writer _ c.in_ok-block.ensures.ok

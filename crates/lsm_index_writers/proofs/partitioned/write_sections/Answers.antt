@@ -74,7 +74,6 @@ returns-clause-refused g c =
 pub returns-in_err-clone-clause-before : goal.returns-in_err-clone-clause-before
 returns-in_err-clone-clause-before g c = front_begun c.args.writer.now c.start.new.self _ c.in_ok-start.ensures.ok
 
-
 pub returns-in_err-clone-2-clause-before : goal.returns-in_err-clone-2-clause-before
 returns-in_err-clone-2-clause-before g c = front_begun c.args.writer.now c.start.new.self _ c.in_ok-start.ensures.ok
 

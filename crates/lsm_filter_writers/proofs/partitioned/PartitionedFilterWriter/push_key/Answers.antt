@@ -3,7 +3,7 @@ use Rattle.std.proofs.Common.{◌++◌, ◌∷◌, [], ap, refl, ◌∙◌, List
 use Rattle.sst_blocks.proofs.HandleFaults.{on_ok}
 use Rattle.sst_sections.specs.Fnv.{fnv1a}
 use Rattle.lsm_filter_writers.specs.Held.{CutParts}
-use Rattle.lsm_filter_writers.proofs.Holding.{cuts_fault, pushed_cuts, pushed_waits, waits_fault}
+use Rattle.lsm_filter_writers.proofs.Holding.{cuts_fault, pushed_cuts, pushed_waits, waits_fault, waits_rising}
 use Rattle.lsm_filter_writers.proofs.partitioned.PartitionedFilterWriter.push_key.Goals as goal
 
 pub returns-then-is_full-clause-ok : goal.returns-then-is_full-clause-ok
@@ -30,7 +30,7 @@ returns-clause-ok g c = λ keys h.
     (ap (λ (w : CutParts). w.policy) c.self.view_is) (ap (λ (w : CutParts). w.size) c.self.view_is) (ap (λ (w : CutParts). w.parts) c.self.view_is)
     (ap (λ (w : CutParts). w.bound) c.self.view_is)
     (c.in_ok-push.ensures.items ∙ ap (λ (hs : List ℕ). hs ++ c.get_hash-hash.result ∷ []) (ap (λ (w : CutParts). w.hashes) c.self.view_is))
-    refl refl refl refl refl refl c.is_full.ensures c.if-is_full.false
+    refl refl refl refl refl c.replace.ensures.after c.is_full.ensures c.if-is_full.false
 
 pub returns-then-is_full-clause-refused : goal.returns-then-is_full-clause-refused
 returns-then-is_full-clause-refused g c = λ keys h.
@@ -61,3 +61,20 @@ returns-clause-refused g c = λ keys h.
     (ap (λ (w : CutParts). w.bound) c.self.view_is)
     (c.in_ok-push.ensures.items ∙ ap (λ (hs : List ℕ). hs ++ c.get_hash-hash.result ∷ []) (ap (λ (w : CutParts). w.hashes) c.self.view_is)) c.is_full.ensures
     c.if-is_full.false
+
+pub invariant_of-self : goal.invariant_of-self
+invariant_of-self g c = c.self.invariant
+
+pub invariant_of-self-in_err-end_key : goal.invariant_of-self-in_err-end_key
+invariant_of-self-in_err-end_key g c = c.self.invariant
+
+pub invariant_of-self-then-is_full : goal.invariant_of-self-then-is_full
+invariant_of-self-then-is_full g c = c.self.invariant
+
+pub invariant_of-self-2 : goal.invariant_of-self-2
+invariant_of-self-2 g c = c.self.invariant
+
+pub invariant_of-self-3 : goal.invariant_of-self-3
+invariant_of-self-3 g c =
+    waits_rising c.self.inside.partitions.items c.args.self.now.parts c.args.key.now c.in_ok-end_key.end_key c.replace.new.self (ap (λ (w : CutParts). w.parts) c.self.view_is)
+    c.in_ok-end_key.ensures.cases c.replace.ensures.after c.requires
