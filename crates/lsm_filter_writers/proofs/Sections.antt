@@ -1,8 +1,9 @@
 -- The sections of a filter, behind what was written before.
-use Rattle.std.proofs.Common.{◌≡◌, refl, ◌∙◌, ap, sym, subst, ℕ, ◌+◌, ◌-◌, ◌^◌, ◌<◌, ◌≤◌, List, [], ◌∷◌, ◌++◌, length, take, append_assoc, length-append, arith}
+use Rattle.std.proofs.Common.{◌≡◌, refl, ◌∙◌, ap, sym, subst, ℕ, ◌+◌, ◌-◌, ◌^◌, ◌<◌, ◌≤◌, All, List, [], ◌∷◌, ◌++◌, length, take, append_assoc, length-append, arith}
 use Rattle.std.specs.Prelude.{map, min, nat_le, sum_by, Bool, true, false, Option, Some, None, Result, Ok, Err, OnOk, IfOk, IsErrAnd, if◌then◌else◌}
 use Rattle.std.specs.List.{AllByRecursion, flat_map}
 use Rattle.std.proofs.lemmas.List.{append-nil, length-map, length-take, map-append, map-id, take-take, take_all}
+use Rattle.std.proofs.lemmas.List.Elements.{All-push, All-weaker}
 use Rattle.std.proofs.lemmas.List.Concat.{flat_map-append}
 use Rattle.std.proofs.lemmas.List.Sums.{sum_by-cons}
 use Rattle.std.proofs.Math.Seq.{take-append_seam}
@@ -10,7 +11,7 @@ use Rattle.sst_sections.specs.declared.section.SectionName.{SectionName}
 use Rattle.sst_sections.specs.declared.section.SectionName.TheVariants.{Filter as FilterSection, FilterTli}
 use Rattle.sst_sections.specs.declared.version.TableVersion.TheVariants.{V4}
 use Rattle.sst_sections.specs.Fnv.{fnv1a}
-use Rattle.sst_sections.specs.Sections.{Written}
+use Rattle.sst_sections.specs.Sections.{Written, slot_index}
 use Rattle.sst_blocks.specs.declared.block_type.BlockType.TheVariants.{Filter, Index}
 use Rattle.sst_blocks.specs.Block.{block_bytes}
 use Rattle.sst_blocks.specs.Handle.{Handle}
@@ -32,6 +33,7 @@ use Rattle.sst_filters.specs.Filter.{BloomFilter, IsBuilt, payload_of}
 use Rattle.sst_filters.specs.Policy.{bound_for, fault_for, size_for, tenths_of}
 use Rattle.sst_filters.specs.declared.policy.BloomConstructionPolicy.{BloomConstructionPolicy}
 use Rattle.lsm_files.specs.declared.options.FilterKind.TheVariants.{Full, Partitioned}
+use Rattle.lsm_files.specs.File.{HasNoFilter}
 use Rattle.lsm_files.specs.Filters.{AreFiltersFor, IsFilterFor, filter_block, filter_partition, filter_partitions, is_full_filter, last_of_keys}
 use Rattle.lsm_files.specs.Fits.{SectionFits}
 use Rattle.lsm_files.specs.Layout.{Sections, appended}
@@ -82,7 +84,23 @@ pub tops_fit : (w u : Written) (cs : List CutPart) (hs : List Handle) → u ≡ 
     hs ≡ tops_of (length u.bytes) cs → SectionFits (FilterTli, handles_block V4 hs) → SectionFits (FilterTli, tops_block (length w.bytes) cs)
 tops_fit w u cs hs eu tops fits = subst (λ (xs : List Handle). SectionFits (FilterTli, handles_block V4 xs)) (tops_at w u cs hs eu tops) fits
 
+-- which sections were not started yet
+pub no_filter_yet : (w : Written) → HasNoFilter w → All (λ (s : SectionName × ℕ). slot_index s.0 ≡ 3 → ⊥) w.started
+no_filter_yet w none =
+    All-weaker (λ (s : SectionName × ℕ). (slot_index s.0 ≡ 3 → ⊥) × (slot_index s.0 ≡ 4 → ⊥)) (λ (s : SectionName × ℕ). slot_index s.0 ≡ 3 → ⊥) (λ s h. h.0) w.started none
+
+pub no_top_level_yet : (w u v : Written) → HasNoFilter w → u ≡ record w { started = w.started ++ (FilterSection, length w.bytes) ∷ [] } → v.started ≡ u.started →
+    All (λ (s : SectionName × ℕ). slot_index s.0 ≡ 4 → ⊥) v.started
+no_top_level_yet w u v none begun same =
+    subst (λ ss. All (λ (s : SectionName × ℕ). slot_index s.0 ≡ 4 → ⊥) ss) (sym (same ∙ ap (λ (y : Written). y.started) begun))
+    (All-push (λ (s : SectionName × ℕ). slot_index s.0 ≡ 4 → ⊥) w.started (FilterSection, length w.bytes)
+    (All-weaker (λ (s : SectionName × ℕ). (slot_index s.0 ≡ 3 → ⊥) × (slot_index s.0 ≡ 4 → ⊥)) (λ (s : SectionName × ℕ). slot_index s.0 ≡ 4 → ⊥) (λ s h. h.1) w.started none)
+    (λ e. absurd cc))
+
 -- what was written before stays at the front
+pub bytes_stay : (w : Written) → take (length w.bytes) w.bytes ≡ w.bytes
+bytes_stay w = take_all (length w.bytes) w.bytes (omega arith)
+
 pub front_begun : (w u : Written) (started : List (SectionName × ℕ)) → u ≡ record w { started = started } → take (length w.bytes) u.bytes ≡ w.bytes
 front_begun w u started e = ap (λ (y : Written). take (length w.bytes) y.bytes) e ∙ take_all (length w.bytes) w.bytes (omega arith)
 
@@ -100,6 +118,9 @@ pub front_of_block : (w u x : Written) (started : List (SectionName × ℕ)) (bl
 front_of_block w u x started block eu ex =
     front_behind w u started x.bytes eu (ap (λ (y : Written). take (length u.bytes) y.bytes) ex ∙ take-append_seam u.bytes block)
 
+pub front_same : (w u x : Written) (started : List (SectionName × ℕ)) → u ≡ record w { started = started } → x ≡ u → take (length w.bytes) x.bytes ≡ w.bytes
+front_same w u x started eu ex = ap (λ (y : Written). take (length w.bytes) y.bytes) ex ∙ front_begun w u started eu
+
 -- the top level alone
 pub top_written : (w u x : Written) (hs given : List Handle) (payload none : List ℕ) → u ≡ record w { started = w.started ++ (FilterTli, length w.bytes) ∷ [] } →
     given ≡ hs → none ≡ [] → payload ≡ none ++ handles_payload V4 given → x ≡ record u { bytes = u.bytes ++ block_bytes V4 Index payload } →
@@ -112,6 +133,11 @@ pub top_fits : (hs given : List Handle) → given ≡ hs → 24 + length (handle
 top_fits hs given same short = record {
   short = omega (arith, length-block V4 Index (handles_payload V4 hs), subst (λ (xs : List Handle). 24 + length (handles_payload V4 xs) < 2 ^ 32) same short);
 }
+
+pub top_room : (given : List Handle) (payload none : List ℕ) → none ≡ [] → payload ≡ none ++ handles_payload V4 given → 24 + length (handles_payload V4 given) < 2 ^ 32 → length payload + 24 < 2 ^ 32
+top_room given payload none empty is short =
+    let spelled : payload ≡ handles_payload V4 given = is ∙ ap (λ (bs : List ℕ). bs ++ handles_payload V4 given) empty in
+    omega (arith, ap length spelled, short)
 
 -- how long a filter's block is
 length-filter_block : (f : BloomFilter) → length (filter_block V4 f) ≡ 25 + length f.bits
@@ -382,9 +408,6 @@ works_first r inside failed same works = λ e told. absurd (none_told failed e (
     none_told : (failed : Bool) (e : Error) → failed ≡ false → failed_fault failed ≡ Some e → ⊥
     none_told true e works told = cc
     none_told false e works told = cc
-
-pub bytes_stay : (w : Written) → take (length w.bytes) w.bytes ≡ w.bytes
-bytes_stay w = take_all (length w.bytes) w.bytes (omega arith)
 
 -- what is left waiting
 pub rest_refused : {X : Type 0} (r : Result X Error) (e : Error) (size : ℕ) (policy : BloomConstructionPolicy) (keys : List (List ℕ)) (failed : Bool) → IsErrAnd r (λ y. y ≡ e) →

@@ -1,7 +1,7 @@
 -- The top level has the handles of the parts.
 use Rattle.std.proofs.Common.{ap, ◌∙◌, length, arith}
 use Rattle.sst_entries.proofs.Refusals.{faults_refusal}
-use Rattle.lsm_filter_writers.proofs.Sections.{front_after, front_begun, front_behind, length_tops, parts_behind, tops_fault, tops_fit, tops_strict}
+use Rattle.lsm_filter_writers.proofs.Sections.{front_after, front_begun, front_behind, length_tops, no_filter_yet, no_top_level_yet, parts_behind, tops_fault, tops_fit, tops_strict}
 use Rattle.lsm_filter_writers.proofs.partitioned.write_sections.Goals as goal
 
 pub returns-in_err-start-clause-before : goal.returns-in_err-start-clause-before
@@ -51,3 +51,10 @@ pub returns-clause-refused : goal.returns-clause-refused
 returns-clause-refused g c =
     tops_fault (length c.start.new.self.bytes) c.args.partitions.items c.in_ok-handles.handles.items c.in_ok-handles.ensures.handles
     ∙ c.in_ok-write_top_level.ensures.refused
+
+pub start-requires : goal.start-requires
+start-requires g c = no_filter_yet c.args.writer.now c.requires.unwritten
+
+pub write_top_level-requires-clause-unwritten : goal.write_top_level-requires-clause-unwritten
+write_top_level-requires-clause-unwritten g c =
+    no_top_level_yet c.args.writer.now c.start.new.self c.write_partitions.new.writer c.requires.unwritten c.in_ok-start.ensures.ok c.write_partitions.ensures.started
