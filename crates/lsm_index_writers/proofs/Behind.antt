@@ -28,17 +28,22 @@ pub no_index_yet : (w : Written) → HasNoIndex w → All (λ (s : SectionName �
 no_index_yet w none =
     All-weaker (λ (s : SectionName × ℕ). (slot_index s.0 ≡ 1 → ⊥) × (slot_index s.0 ≡ 2 → ⊥)) (λ (s : SectionName × ℕ). slot_index s.0 ≡ 1 → ⊥) (λ s h. h.0) w.started none
 
+pub no_top_level_first : (w : Written) → HasNoIndex w → All (λ (s : SectionName × ℕ). slot_index s.0 ≡ 2 → ⊥) w.started
+no_top_level_first w none =
+    All-weaker (λ (s : SectionName × ℕ). (slot_index s.0 ≡ 1 → ⊥) × (slot_index s.0 ≡ 2 → ⊥)) (λ (s : SectionName × ℕ). slot_index s.0 ≡ 2 → ⊥) (λ s h. h.1) w.started none
+
 pub no_top_level_yet : (w u v : Written) → HasNoIndex w → u ≡ record w { started = w.started ++ (Index, length w.bytes) ∷ [] } → v.started ≡ u.started →
     All (λ (s : SectionName × ℕ). slot_index s.0 ≡ 2 → ⊥) v.started
 no_top_level_yet w u v none begun same =
     subst (λ ss. All (λ (s : SectionName × ℕ). slot_index s.0 ≡ 2 → ⊥) ss) (sym (same ∙ ap (λ (y : Written). y.started) begun))
-    (All-push (λ (s : SectionName × ℕ). slot_index s.0 ≡ 2 → ⊥) w.started (Index, length w.bytes)
-    (All-weaker (λ (s : SectionName × ℕ). (slot_index s.0 ≡ 1 → ⊥) × (slot_index s.0 ≡ 2 → ⊥)) (λ (s : SectionName × ℕ). slot_index s.0 ≡ 2 → ⊥) (λ s h. h.1) w.started none)
-    (λ e. absurd cc))
+    (All-push (λ (s : SectionName × ℕ). slot_index s.0 ≡ 2 → ⊥) w.started (Index, length w.bytes) (no_top_level_first w none) (λ e. absurd cc))
 
 -- what was written before stays at the front
+pub bytes_stay : (w : Written) → take (length w.bytes) w.bytes ≡ w.bytes
+bytes_stay w = take_all (length w.bytes) w.bytes (omega arith)
+
 pub front_begun : (w u : Written) (started : List (SectionName × ℕ)) → u ≡ record w { started = started } → take (length w.bytes) u.bytes ≡ w.bytes
-front_begun w u started e = ap (λ (y : Written). take (length w.bytes) y.bytes) e ∙ take_all (length w.bytes) w.bytes (omega arith)
+front_begun w u started e = ap (λ (y : Written). take (length w.bytes) y.bytes) e ∙ bytes_stay w
 
 pub front_longer : (w x : Written) (block : List ℕ) → x ≡ record w { bytes = w.bytes ++ block } → take (length w.bytes) x.bytes ≡ w.bytes
 front_longer w x block e = ap (λ (y : Written). take (length w.bytes) y.bytes) e ∙ take-append_seam w.bytes block

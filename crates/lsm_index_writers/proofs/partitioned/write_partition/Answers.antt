@@ -1,7 +1,7 @@
 -- The top level has the last handle's key and number.
 use Rattle.std.proofs.Common.{◌++◌, ◌-◌, ap, ◌∙◌, length, arith, List}
 use Rattle.sst_blocks.specs.Handle.{Handle}
-use Rattle.lsm_index_writers.proofs.Behind.{front_longer, front_same}
+use Rattle.lsm_index_writers.proofs.Behind.{front_longer}
 use Rattle.lsm_index_writers.proofs.Finishing.{part_fits, part_large, part_refused}
 use Rattle.lsm_index_writers.proofs.Tops.{top_is}
 use Rattle.lsm_index_writers.proofs.partitioned.write_partition.Goals as goal
