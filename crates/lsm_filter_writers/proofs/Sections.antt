@@ -102,7 +102,7 @@ pub bytes_stay : (w : Written) → take (length w.bytes) w.bytes ≡ w.bytes
 bytes_stay w = take_all (length w.bytes) w.bytes (omega arith)
 
 pub front_begun : (w u : Written) (started : List (SectionName × ℕ)) → u ≡ record w { started = started } → take (length w.bytes) u.bytes ≡ w.bytes
-front_begun w u started e = ap (λ (y : Written). take (length w.bytes) y.bytes) e ∙ take_all (length w.bytes) w.bytes (omega arith)
+front_begun w u started e = ap (λ (y : Written). take (length w.bytes) y.bytes) e ∙ bytes_stay w
 
 pub front_after : (bytes longer now : List ℕ) → take (length bytes) longer ≡ bytes → take (length longer) now ≡ longer → take (length bytes) now ≡ bytes
 front_after bytes longer now before stays =
