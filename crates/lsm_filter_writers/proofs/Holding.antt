@@ -1,8 +1,10 @@
 -- Which keys a writer of partitions stands for, step by step.
 use Rattle.std.proofs.Common.{◌≡◌, refl, ◌∙◌, ap, sym, subst, ℕ, ◌+◌, nat_le, Bool, true, false, List, [], ◌∷◌, ◌++◌, length, Some, None, arith}
-use Rattle.std.specs.Prelude.{map}
+use Rattle.std.specs.Prelude.{map, Option, Result, if◌then◌else◌}
 use Rattle.std.proofs.lemmas.List.{append-nil, length-map, map-append}
 use Rattle.std.proofs.lemmas.List.Sums.{sum_by-append, sum_by-cons}
+use Rattle.sst_entries.specs.Error.{Faults}
+use Rattle.sst_entries.specs.declared.error.Error.{Error}
 use Rattle.sst_sections.specs.Fnv.{fnv1a}
 use Rattle.sst_blocks.specs.Bounds.{capped}
 use Rattle.sst_filters.specs.Filter.{BloomFilter}
@@ -10,9 +12,10 @@ use Rattle.sst_filters.specs.Policy.{bound_for, fault_for, size_for, tenths_of}
 use Rattle.sst_filters.specs.declared.policy.BloomConstructionPolicy.{BloomConstructionPolicy}
 use Rattle.lsm_files.specs.Filters.{AreFiltersFor, IsFilterFor, is_full_filter, last_of_keys}
 use Rattle.lsm_files.specs.Parts.{parts_by, rest_part}
+use Rattle.lsm_files.specs.declared.options.FilterKind.TheVariants.{Partitioned}
 use Rattle.lsm_filter_writers.specs.Cutting.{closed_by, waiting_by}
-use Rattle.lsm_filter_writers.specs.Held.{CutPart, CutParts, Cuts, end_keys, filters_of, HoldsAll, HoldsParts, last_key_of}
-use Rattle.lsm_filter_writers.specs.Refusing.{keys_fault, parts_bound}
+use Rattle.lsm_filter_writers.specs.Held.{as_list, CutPart, CutParts, Cuts, end_keys, filters_of, HoldsAll, HoldsParts, last_key_of}
+use Rattle.lsm_filter_writers.specs.Refusing.{keys_fault, parts_bound, register_fault}
 use Rattle.lsm_filter_writers.specs.Rising.{AreRising}
 use Rattle.lsm_filter_writers.proofs.CutLaws.{closed_none, closed_cut, closed_same, parts_split, waiting_none, waiting_cut, waiting_more}
 use Rattle.lsm_filter_writers.proofs.RisingLaws.{last_keys_rise, last_more}
@@ -224,3 +227,59 @@ pushed_waits w u v keys key end_key hash r h same hashed policy size parts bound
     key_waits w u keys key h
     (record { policy = policy; size = size; parts = parts; bound = bound; hashes = hashes ∙ ap (λ (x : ℕ). w.hashes ++ x ∷ []) hashed })
     v (sym test ∙ f) policy' size' parts' bound' hashes' (last ∙ ap (λ (k : List ℕ). Some k) same)
+
+-- and what pushing it refuses
+module _ (w u : CutParts) (keys : List (List ℕ)) (key : List ℕ) (hash : ℕ) (r : Bool) (h : HoldsParts w keys) (hashed : hash ≡ fnv1a key)
+    (policy : u.policy ≡ w.policy) (size : u.size ≡ w.size) (parts : u.parts ≡ w.parts) (bound : u.bound ≡ w.bound) (hashes : u.hashes ≡ w.hashes ++ hash ∷ [])
+    (test : r ≡ nat_le u.size (size_for (tenths_of u.policy) (length u.hashes))) where
+  adds : Adds key w u
+  adds = record { policy = policy; size = size; parts = parts; bound = bound; hashes = hashes ∙ ap (λ (x : ℕ). w.hashes ++ x ∷ []) hashed }
+
+  abbrev part : List (List ℕ)
+  part = waiting_by (is_full_filter w.policy w.size) keys ++ key ∷ []
+
+  pub cuts_fault : {X : Type 0} (result : Result X Error) → r ≡ true → Faults result (fault_for (tenths_of u.policy) (length u.hashes)) →
+      Faults result (register_fault (Partitioned w.size) w.policy keys key)
+  cuts_fault result t fault =
+      let filled : is_full_filter w.policy w.size part ≡ true = sym (test_is w u keys key h adds) ∙ sym test ∙ t in
+      let told : register_fault (Partitioned w.size) w.policy keys key ≡ fault_for (tenths_of u.policy) (length u.hashes) =
+      ap (λ (b : Bool). if b then fault_for (tenths_of w.policy) (length part) else None) filled
+      ∙ ap (λ (n : ℕ). fault_for (tenths_of w.policy) n) (sym (count_more w u keys key h adds))
+      ∙ ap (λ (p : BloomConstructionPolicy). fault_for (tenths_of p) (length u.hashes)) (sym policy) in
+      subst (λ x. Faults result x) (sym told) fault
+
+  pub waits_fault : r ≡ false → register_fault (Partitioned w.size) w.policy keys key ≡ None
+  waits_fault f =
+      let waits : is_full_filter w.policy w.size part ≡ false = sym (test_is w u keys key h adds) ∙ sym test ∙ f in
+      ap (λ (b : Bool). if b then fault_for (tenths_of w.policy) (length part) else None) waits
+
+pub rest_fault_for : {X : Type 0} (result : Result X Error) (w : CutParts) (keys : List (List ℕ)) (key : List ℕ) (policy : BloomConstructionPolicy) (hashes : List ℕ) → HoldsParts w keys →
+    w.last ≡ Some key → policy ≡ w.policy → hashes ≡ w.hashes → Faults result (fault_for (tenths_of policy) (length hashes)) →
+    Faults result (keys_fault w.policy (waiting_by (is_full_filter w.policy w.size) keys))
+rest_fault_for result w keys key policy hashes h some same held fault =
+    let told : keys_fault w.policy (waiting_by (is_full_filter w.policy w.size) keys) ≡ fault_for (tenths_of policy) (length hashes) =
+    rest_fault_some w keys key h some
+    ∙ ap (λ (p : BloomConstructionPolicy). fault_for (tenths_of p) (length w.hashes)) (sym same)
+    ∙ ap (λ (hs : List ℕ). fault_for (tenths_of policy) (length hs)) (sym held) in
+    subst (λ x. Faults result x) (sym told) fault
+
+pub some_is_not_none : (last : Option (List ℕ)) (key : List ℕ) → last ≡ Some key → last ≡ None → ⊥
+some_is_not_none last key some none = let e : Some key ≡ None = sym some ∙ none in cc
+
+-- the last keys rise, with that of a part that was cut, and with that of one that waits
+pub cut_rising : (cs longer parts : List CutPart) (part : CutPart) (key : List ℕ) (last : Option (List ℕ)) → cs ≡ parts → part.end_key ≡ key → longer ≡ cs ++ part ∷ [] → last ≡ None →
+    AreRising (end_keys parts ++ key ∷ []) → AreRising (end_keys longer ++ as_list last)
+cut_rising cs longer parts part key last same named pushed none rising =
+    let keys : end_keys longer ≡ end_keys parts ++ key ∷ [] =
+    ap (λ (ps : List CutPart). end_keys ps) pushed ∙ map-append (λ (p : CutPart). p.end_key) cs (part ∷ [])
+    ∙ ap (λ (k : List ℕ). end_keys cs ++ k ∷ []) named ∙ ap (λ (ps : List CutPart). end_keys ps ++ key ∷ []) same in
+    let all : end_keys longer ++ as_list last ≡ end_keys parts ++ key ∷ [] =
+    ap (λ (x : Option (List ℕ)). end_keys longer ++ as_list x) none ∙ append-nil (end_keys longer) ∙ keys in
+    subst (λ ks. AreRising ks) (sym all) rising
+
+pub waits_rising : (cs parts : List CutPart) (key end_key : List ℕ) (last : Option (List ℕ)) → cs ≡ parts → end_key ≡ key → last ≡ Some end_key →
+    AreRising (end_keys parts ++ key ∷ []) → AreRising (end_keys cs ++ as_list last)
+waits_rising cs parts key end_key last same named some rising =
+    let all : end_keys cs ++ as_list last ≡ end_keys parts ++ key ∷ [] =
+    ap (λ (x : Option (List ℕ)). end_keys cs ++ as_list x) (some ∙ ap (λ (k : List ℕ). Some k) named) ∙ ap (λ (ps : List CutPart). end_keys ps ++ key ∷ []) same in
+    subst (λ ks. AreRising ks) (sym all) rising

@@ -1,8 +1,9 @@
 -- The sections of a filter, behind what was written before.
-use Rattle.std.proofs.Common.{◌≡◌, refl, ◌∙◌, ap, sym, subst, ℕ, ◌+◌, ◌-◌, ◌^◌, ◌<◌, ◌≤◌, List, [], ◌∷◌, ◌++◌, length, take, append_assoc, length-append, arith}
-use Rattle.std.specs.Prelude.{map, min, nat_le, sum_by, Bool, true, false, Option, Some, None, Result, Ok, Err, OnOk, IfOk, if◌then◌else◌}
+use Rattle.std.proofs.Common.{◌≡◌, refl, ◌∙◌, ap, sym, subst, ℕ, ◌+◌, ◌-◌, ◌^◌, ◌<◌, ◌≤◌, All, List, [], ◌∷◌, ◌++◌, length, take, append_assoc, length-append, arith}
+use Rattle.std.specs.Prelude.{map, min, nat_le, sum_by, Bool, true, false, Option, Some, None, Result, Ok, Err, OnOk, IfOk, IsErrAnd, if◌then◌else◌}
 use Rattle.std.specs.List.{AllByRecursion, flat_map}
-use Rattle.std.proofs.lemmas.List.{append-nil, map-append}
+use Rattle.std.proofs.lemmas.List.{append-nil, length-map, length-take, map-append, map-id, take-take, take_all}
+use Rattle.std.proofs.lemmas.List.Elements.{All-push, All-weaker}
 use Rattle.std.proofs.lemmas.List.Concat.{flat_map-append}
 use Rattle.std.proofs.lemmas.List.Sums.{sum_by-cons}
 use Rattle.std.proofs.Math.Seq.{take-append_seam}
@@ -10,16 +11,16 @@ use Rattle.sst_sections.specs.declared.section.SectionName.{SectionName}
 use Rattle.sst_sections.specs.declared.section.SectionName.TheVariants.{Filter as FilterSection, FilterTli}
 use Rattle.sst_sections.specs.declared.version.TableVersion.TheVariants.{V4}
 use Rattle.sst_sections.specs.Fnv.{fnv1a}
-use Rattle.sst_sections.specs.Sections.{Written}
-use Rattle.sst_blocks.specs.declared.block_type.BlockType.TheVariants.{Filter}
+use Rattle.sst_sections.specs.Sections.{Written, slot_index}
+use Rattle.sst_blocks.specs.declared.block_type.BlockType.TheVariants.{Filter, Index}
 use Rattle.sst_blocks.specs.Block.{block_bytes}
 use Rattle.sst_blocks.specs.Handle.{Handle}
-use Rattle.sst_blocks.specs.Handles.{AreStrictHandles, end_of}
-use Rattle.sst_blocks.specs.Place.{Place}
+use Rattle.sst_blocks.specs.Handles.{AreStrictHandles, end_of, handles_payload}
 use Rattle.sst_blocks.specs.Bounds.{capped, handle_bound}
 use Rattle.sst_blocks.specs.Encoding.{handles_fault, is_long_key, key_fault}
 use Rattle.sst_entries.specs.Entry.{Entry}
-use Rattle.sst_entries.specs.Error.{Faults}
+use Rattle.sst_entries.specs.Error.{Faults, FaultsFirst, is_memory}
+use Rattle.sst_entries.proofs.Refusals.{faults_refusal}
 use Rattle.sst_entries.specs.Strict.{IsStrict}
 use Rattle.sst_entries.specs.declared.error.Error.{Error}
 use Rattle.sst_entries.specs.declared.error.Error.TheVariants.{KeyTooLong, SectionTooLarge}
@@ -29,9 +30,10 @@ use Rattle.lsm_files.specs.Failed.{failed_fault}
 use Rattle.lsm_filter_writers.specs.Cutting.{waiting_by}
 use Rattle.lsm_filter_writers.specs.Rising.{AreRising, end_entry}
 use Rattle.sst_filters.specs.Filter.{BloomFilter, IsBuilt, payload_of}
-use Rattle.sst_filters.specs.Policy.{bound_for, size_for, tenths_of}
+use Rattle.sst_filters.specs.Policy.{bound_for, fault_for, size_for, tenths_of}
 use Rattle.sst_filters.specs.declared.policy.BloomConstructionPolicy.{BloomConstructionPolicy}
 use Rattle.lsm_files.specs.declared.options.FilterKind.TheVariants.{Full, Partitioned}
+use Rattle.lsm_files.specs.File.{HasNoFilter}
 use Rattle.lsm_files.specs.Filters.{AreFiltersFor, IsFilterFor, filter_block, filter_partition, filter_partitions, is_full_filter, last_of_keys}
 use Rattle.lsm_files.specs.Fits.{SectionFits}
 use Rattle.lsm_files.specs.Layout.{Sections, appended}
@@ -60,6 +62,83 @@ section_behind w u s t e =
     ∙ ap (λ (n : ℕ). w.started ++ (s.0, length w.bytes) ∷ (t.0, n) ∷ []) at in
     rw (e, bytes, started) refl
 
+-- the section of the parts, and that of the top level behind it
+written_is : (v : Written) (bytes : List ℕ) (started : List (SectionName × ℕ)) → v.bytes ≡ bytes → v.started ≡ started → v ≡ record { bytes = bytes; started = started }
+written_is v bytes started eb es = rw (← eb, ← es) refl
+
+tops_at : (w u : Written) (cs : List CutPart) (hs : List Handle) → u ≡ record w { started = w.started ++ (FilterSection, length w.bytes) ∷ [] } →
+    hs ≡ tops_of (length u.bytes) cs → hs ≡ tops_of (length w.bytes) cs
+tops_at w u cs hs eu tops = tops ∙ ap (λ (y : Written). tops_of (length y.bytes) cs) eu
+
+pub parts_behind : (w u v x : Written) (cs : List CutPart) (hs : List Handle) → u ≡ record w { started = w.started ++ (FilterSection, length w.bytes) ∷ [] } →
+    v.bytes ≡ u.bytes ++ flat_map (filter_block V4) (filters_of cs) → v.started ≡ u.started → hs ≡ tops_of (length u.bytes) cs →
+    x ≡ appended v ((FilterTli, handles_block V4 hs) ∷ []) → x ≡ appended w (part_sections (length w.bytes) cs)
+parts_behind w u v x cs hs eu eb es tops ex =
+    let blocks : List ℕ = flat_map (filter_block V4) (filters_of cs) in
+    let first : v ≡ appended w ((FilterSection, blocks) ∷ []) = section_more w u v FilterSection blocks eu (written_is v (u.bytes ++ blocks) u.started eb es) in
+    let at : hs ≡ tops_of (length w.bytes) cs = tops_at w u cs hs eu tops in
+    ex ∙ ap (λ (xs : List Handle). appended v ((FilterTli, handles_block V4 xs) ∷ [])) at
+    ∙ section_behind w v (FilterSection, blocks) (FilterTli, tops_block (length w.bytes) cs) first
+
+pub tops_fit : (w u : Written) (cs : List CutPart) (hs : List Handle) → u ≡ record w { started = w.started ++ (FilterSection, length w.bytes) ∷ [] } →
+    hs ≡ tops_of (length u.bytes) cs → SectionFits (FilterTli, handles_block V4 hs) → SectionFits (FilterTli, tops_block (length w.bytes) cs)
+tops_fit w u cs hs eu tops fits = subst (λ (xs : List Handle). SectionFits (FilterTli, handles_block V4 xs)) (tops_at w u cs hs eu tops) fits
+
+-- which sections were not started yet
+pub no_filter_yet : (w : Written) → HasNoFilter w → All (λ (s : SectionName × ℕ). slot_index s.0 ≡ 3 → ⊥) w.started
+no_filter_yet w none =
+    All-weaker (λ (s : SectionName × ℕ). (slot_index s.0 ≡ 3 → ⊥) × (slot_index s.0 ≡ 4 → ⊥)) (λ (s : SectionName × ℕ). slot_index s.0 ≡ 3 → ⊥) (λ s h. h.0) w.started none
+
+pub no_top_level_yet : (w u v : Written) → HasNoFilter w → u ≡ record w { started = w.started ++ (FilterSection, length w.bytes) ∷ [] } → v.started ≡ u.started →
+    All (λ (s : SectionName × ℕ). slot_index s.0 ≡ 4 → ⊥) v.started
+no_top_level_yet w u v none begun same =
+    subst (λ ss. All (λ (s : SectionName × ℕ). slot_index s.0 ≡ 4 → ⊥) ss) (sym (same ∙ ap (λ (y : Written). y.started) begun))
+    (All-push (λ (s : SectionName × ℕ). slot_index s.0 ≡ 4 → ⊥) w.started (FilterSection, length w.bytes)
+    (All-weaker (λ (s : SectionName × ℕ). (slot_index s.0 ≡ 3 → ⊥) × (slot_index s.0 ≡ 4 → ⊥)) (λ (s : SectionName × ℕ). slot_index s.0 ≡ 4 → ⊥) (λ s h. h.1) w.started none)
+    (λ e. absurd cc))
+
+-- what was written before stays at the front
+pub bytes_stay : (w : Written) → take (length w.bytes) w.bytes ≡ w.bytes
+bytes_stay w = take_all (length w.bytes) w.bytes (omega arith)
+
+pub front_begun : (w u : Written) (started : List (SectionName × ℕ)) → u ≡ record w { started = started } → take (length w.bytes) u.bytes ≡ w.bytes
+front_begun w u started e = ap (λ (y : Written). take (length w.bytes) y.bytes) e ∙ bytes_stay w
+
+pub front_after : (bytes longer now : List ℕ) → take (length bytes) longer ≡ bytes → take (length longer) now ≡ longer → take (length bytes) now ≡ bytes
+front_after bytes longer now before stays =
+    let long : length bytes ≤ length longer = omega (arith, length-take (length bytes) longer, ap length before) in
+    sym (take-take (length bytes) (length longer) now long) ∙ ap (λ (bs : List ℕ). take (length bytes) bs) stays ∙ before
+
+pub front_behind : (w u : Written) (started : List (SectionName × ℕ)) (now : List ℕ) → u ≡ record w { started = started } → take (length u.bytes) now ≡ u.bytes →
+    take (length w.bytes) now ≡ w.bytes
+front_behind w u started now e stays = front_after w.bytes u.bytes now (front_begun w u started e) stays
+
+pub front_of_block : (w u x : Written) (started : List (SectionName × ℕ)) (block : List ℕ) → u ≡ record w { started = started } → x ≡ record u { bytes = u.bytes ++ block } →
+    take (length w.bytes) x.bytes ≡ w.bytes
+front_of_block w u x started block eu ex =
+    front_behind w u started x.bytes eu (ap (λ (y : Written). take (length u.bytes) y.bytes) ex ∙ take-append_seam u.bytes block)
+
+pub front_same : (w u x : Written) (started : List (SectionName × ℕ)) → u ≡ record w { started = started } → x ≡ u → take (length w.bytes) x.bytes ≡ w.bytes
+front_same w u x started eu ex = ap (λ (y : Written). take (length w.bytes) y.bytes) ex ∙ front_begun w u started eu
+
+-- the top level alone
+pub top_written : (w u x : Written) (hs given : List Handle) (payload none : List ℕ) → u ≡ record w { started = w.started ++ (FilterTli, length w.bytes) ∷ [] } →
+    given ≡ hs → none ≡ [] → payload ≡ none ++ handles_payload V4 given → x ≡ record u { bytes = u.bytes ++ block_bytes V4 Index payload } →
+    x ≡ appended w ((FilterTli, handles_block V4 hs) ∷ [])
+top_written w u x hs given payload none eu same empty is ex =
+    let spelled : payload ≡ handles_payload V4 hs = is ∙ rw (empty, same) refl in
+    section_more w u x FilterTli (handles_block V4 hs) eu (ex ∙ ap (λ (p : List ℕ). record u { bytes = u.bytes ++ block_bytes V4 Index p }) spelled)
+
+pub top_fits : (hs given : List Handle) → given ≡ hs → 24 + length (handles_payload V4 given) < 2 ^ 32 → SectionFits (FilterTli, handles_block V4 hs)
+top_fits hs given same short = record {
+  short = omega (arith, length-block V4 Index (handles_payload V4 hs), subst (λ (xs : List Handle). 24 + length (handles_payload V4 xs) < 2 ^ 32) same short);
+}
+
+pub top_room : (given : List Handle) (payload none : List ℕ) → none ≡ [] → payload ≡ none ++ handles_payload V4 given → 24 + length (handles_payload V4 given) < 2 ^ 32 → length payload + 24 < 2 ^ 32
+top_room given payload none empty is short =
+    let spelled : payload ≡ handles_payload V4 given = is ∙ ap (λ (bs : List ℕ). bs ++ handles_payload V4 given) empty in
+    omega (arith, ap length spelled, short)
+
 -- how long a filter's block is
 length-filter_block : (f : BloomFilter) → length (filter_block V4 f) ≡ 25 + length f.bits
 length-filter_block f = omega (arith, length-block V4 Filter (payload_of f))
@@ -81,6 +160,34 @@ full_one w (k ∷ keys) before u after f payload some h is built e eu ev = recor
   counted = refl;
   fit = (record { short = omega (arith, built.short, length-filter_block f) }, tt);
 }
+
+pub full_written : (r : Result ℕ Error) (policy : BloomConstructionPolicy) (hashes : List ℕ) (w : Hashes) (before after : Written) → policy ≡ w.policy → hashes ≡ w.hashes →
+    IfOk r (λ n. (keys : List (List ℕ)) → hashes ≡ map fnv1a keys → WritesFilter Full policy keys before after n) →
+    IfOk r (λ n. (keys : List (List ℕ)) → HoldsHashes w keys → WritesFilter Full w.policy keys before after n)
+full_written (Ok n) policy hashes w before after same held writes = λ keys h.
+    subst (λ p. WritesFilter Full p keys before after n) same (writes keys (held ∙ h.hashes))
+full_written (Err e) policy hashes w before after same held writes = tt
+
+-- and what it refuses
+pub full_fault : (r : Result ℕ Error) (policy : BloomConstructionPolicy) (hashes : List ℕ) (w : Hashes) (keys : List (List ℕ)) → policy ≡ w.policy → hashes ≡ w.hashes →
+    (w.hashes ≡ [] → ⊥) → w.failed ≡ false → HoldsHashes w keys → Faults r (fault_for (tenths_of policy) (length hashes)) →
+    Faults r (option_or (failed_fault w.failed) (filter_fault Full w.policy keys))
+full_fault r policy hashes w [] same held some works h fault = absurd (some h.hashes)
+full_fault r policy hashes w (k ∷ keys) same held some works h fault =
+    let count : length (k ∷ keys) ≡ length hashes = sym (ap length (held ∙ h.hashes) ∙ length-map (k ∷ keys) fnv1a) in
+    let told : option_or (failed_fault w.failed) (filter_fault Full w.policy (k ∷ keys)) ≡ fault_for (tenths_of policy) (length hashes) =
+    ap (λ (b : Bool). option_or (failed_fault b) (fault_for (tenths_of w.policy) (length (k ∷ keys)))) works
+    ∙ ap (λ (p : BloomConstructionPolicy). fault_for (tenths_of p) (length (k ∷ keys))) (sym same)
+    ∙ ap (λ (n : ℕ). fault_for (tenths_of policy) n) count in
+    subst (λ x. Faults r x) (sym told) fault
+
+pub full_none_fault : (w : Hashes) (keys : List (List ℕ)) → w.failed ≡ false → w.hashes ≡ [] → HoldsHashes w keys →
+    option_or (failed_fault w.failed) (filter_fault Full w.policy keys) ≡ None
+full_none_fault w [] works none h = ap (λ (b : Bool). option_or (failed_fault b) None) works
+full_none_fault w (k ∷ keys) works none h = let e : fnv1a k ∷ map fnv1a keys ≡ [] = sym h.hashes ∙ none in cc
+
+pub full_idle : (w : Hashes) → (w.hashes ≡ [] → ⊥) → HoldsHashes w [] → w.failed ≡ true
+full_idle w some h = absurd (some h.hashes)
 
 -- what the top level has
 partitions_same : (ps : List (List (List ℕ))) (cs : List CutPart) → end_keys cs ≡ map last_of_keys ps → filter_partitions ps (filters_of cs) ≡ map partition_of cs
@@ -203,30 +310,39 @@ tops_push at (d ∷ cs) c h e =
     e ∙ ap (λ (n : ℕ). record { end_key = c.end_key; seqno = 0; offset = n; size = 24 + length (payload_of c.filter) }) here in
     ap (λ (hs : List Handle). (record { end_key = d.end_key; seqno = 0; offset = at; size = 24 + length (payload_of d.filter) }) ∷ hs) (tops_push next cs c h is)
 
-pub written_more : (before now next : Written) (cs : List CutPart) (hs : List Handle) (c : CutPart) (payload : List ℕ) (place : Place) (h : Handle) (more : List Handle) →
-    PartsWritten before now cs hs → payload ≡ payload_of c.filter → next ≡ record now { bytes = now.bytes ++ block_bytes V4 Filter payload } →
-    place ≡ record { offset = length now.bytes; size = 24 + length payload } → h ≡ record { end_key = c.end_key; seqno = 0; offset = place.offset; size = place.size } →
+pub written_more : (before now next : Written) (cs : List CutPart) (hs : List Handle) (c : CutPart) (h : Handle) (more : List Handle) →
+    PartsWritten before now cs hs → next ≡ record now { bytes = now.bytes ++ filter_block V4 c.filter } →
+    h ≡ record { end_key = c.end_key; seqno = 0; offset = length now.bytes; size = 24 + length (payload_of c.filter) } →
     more ≡ hs ++ h ∷ [] → PartsWritten before next (cs ++ c ∷ []) more
-written_more before now next cs hs c payload place h more w is e at named pushed =
-    let block : block_bytes V4 Filter payload ≡ filter_block V4 c.filter = ap (λ p. block_bytes V4 Filter p) is in
+written_more before now next cs hs c h more w e named pushed =
     let of : List CutPart → List ℕ = λ ps. flat_map (filter_block V4) (filters_of ps) in
     let all : of (cs ++ c ∷ []) ≡ of cs ++ (filter_block V4 c.filter ++ []) =
     ap (λ fs. flat_map (filter_block V4) fs) (map-append (λ (p : CutPart). p.filter) cs (c ∷ [])) ∙ flat_map-append (filter_block V4) (filters_of cs) (c.filter ∷ []) in
     let long : length now.bytes ≡ length before.bytes + length (of cs) = ap length w.bytes ∙ length-append before.bytes (of cs) in
     let handle : h ≡ record { end_key = c.end_key; seqno = 0; offset = length before.bytes + length (of cs); size = 24 + length (payload_of c.filter) } =
-    named ∙ ap (λ (p : Place). record { end_key = c.end_key; seqno = 0; offset = p.offset; size = p.size }) at
-    ∙ rw (is, long) refl in
+    named ∙ ap (λ (n : ℕ). record { end_key = c.end_key; seqno = 0; offset = n; size = 24 + length (payload_of c.filter) }) long in
     record {
-      bytes = ap (λ (x : Written). x.bytes) e ∙ ap (λ b. now.bytes ++ b) block ∙ ap (λ b. b ++ filter_block V4 c.filter) w.bytes
+      bytes = ap (λ (x : Written). x.bytes) e ∙ ap (λ b. b ++ filter_block V4 c.filter) w.bytes
           ∙ append_assoc before.bytes (of cs) (filter_block V4 c.filter)
           ∙ ap (λ b. before.bytes ++ (of cs ++ b)) (sym (append-nil (filter_block V4 c.filter))) ∙ ap (λ b. before.bytes ++ b) (sym all);
       started = ap (λ (x : Written). x.started) e ∙ w.started;
       handles = pushed ∙ ap (λ x. x ++ h ∷ []) w.handles ∙ sym (tops_push (length before.bytes) cs c h handle);
     }
 
--- what was written before stays at the front
 pub front_stays : (before now : Written) (cs : List CutPart) (hs : List Handle) → PartsWritten before now cs hs → take (length before.bytes) now.bytes ≡ before.bytes
 front_stays before now cs hs w = ap (λ b. take (length before.bytes) b) w.bytes ∙ take-append_seam before.bytes _
+
+pub written_all : (before now : Written) (some all : List CutPart) (hs : List Handle) → PartsWritten before now some hs → map (λ (c : CutPart). c) some ≡ all → PartsWritten before now all hs
+written_all before now some all hs w e = subst (λ cs. PartsWritten before now cs hs) (sym (map-id some) ∙ e) w
+
+pub front_unchanged : (before now next : Written) (cs : List CutPart) (hs : List Handle) → PartsWritten before now cs hs → next ≡ now →
+    take (length before.bytes) next.bytes ≡ before.bytes
+front_unchanged before now next cs hs w e = ap (λ (y : Written). take (length before.bytes) y.bytes) e ∙ front_stays before now cs hs w
+
+pub front_longer : (before now next : Written) (cs : List CutPart) (hs : List Handle) (block : List ℕ) → PartsWritten before now cs hs → next ≡ record now { bytes = now.bytes ++ block } →
+    take (length before.bytes) next.bytes ≡ before.bytes
+front_longer before now next cs hs block w e =
+    front_after before.bytes now.bytes next.bytes (front_stays before now cs hs w) (ap (λ (y : Written). take (length now.bytes) y.bytes) e ∙ take-append_seam now.bytes block)
 
 -- the handles of the top level, by the last keys of the parts
 ends_of_tops : (at : ℕ) (cs : List CutPart) → map end_of (tops_of at cs) ≡ map end_entry (end_keys cs)
@@ -284,6 +400,20 @@ pub finish_none_fault : (v : CutParts) (size : ℕ) (policy : BloomConstructionP
 finish_none_fault v size policy cs keys failed works rest h same same' parts none =
     let nothing : parts_by (is_full_filter policy size) keys ≡ [] = rw (same, same') at (parts_of_none v keys h (sym parts ∙ none)) in
     rw (works, rest, nothing) refl
+
+-- only a writer that has failed refuses before memory is asked for
+pub works_first : {X : Type 0} (r : Result X Error) (inside failed : Bool) → inside ≡ failed → inside ≡ false → FaultsFirst r (failed_fault failed)
+works_first r inside failed same works = λ e told. absurd (none_told failed e (sym same ∙ works) told)
+  where
+    none_told : (failed : Bool) (e : Error) → failed ≡ false → failed_fault failed ≡ Some e → ⊥
+    none_told true e works told = cc
+    none_told false e works told = cc
+
+-- what is left waiting
+pub rest_refused : {X : Type 0} (r : Result X Error) (e : Error) (size : ℕ) (policy : BloomConstructionPolicy) (keys : List (List ℕ)) (failed : Bool) → IsErrAnd r (λ y. y ≡ e) →
+    failed ≡ false → (is_memory e ≡ false → keys_fault policy (waiting_by (is_full_filter policy size) keys) ≡ Some e) →
+    Faults r (option_or (failed_fault failed) (filter_fault (Partitioned size) policy keys))
+rest_refused r e size policy keys failed is works fault = faults_refusal r e _ is (λ m. rw (works, fault m) refl)
 
 -- their section, where it is too large
 pub finish_large : (v : CutParts) (size : ℕ) (policy : BloomConstructionPolicy) (b : ℕ) (keys : List (List ℕ)) (failed : Bool) →

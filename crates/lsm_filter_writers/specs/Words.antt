@@ -2,7 +2,9 @@
 pub use Rattle.sst_entries.specs.Error.{Faults, FaultsFirst}
 pub use Rattle.sst_sections.specs.Fnv.{fnv1a}
 pub use Rattle.sst_sections.specs.Sections.{slot_index}
+pub use Rattle.sst_filters.specs.Filter.{payload_of}
 pub use Rattle.sst_filters.specs.Policy.{fault_for, size_for, tenths_of}
+pub use Rattle.sst_blocks.specs.Block.{header_len}
 pub use Rattle.sst_blocks.specs.Encoding.{handles_fault}
 pub use Rattle.sst_blocks.specs.Handles.{AreStrictHandles}
 pub use Rattle.lsm_files.specs.File.{HasNoFilter}
@@ -15,4 +17,4 @@ pub use Rattle.lsm_filter_writers.specs.Held.{Cuts, HoldsAll, HoldsHashes, Holds
 pub use Rattle.lsm_filter_writers.specs.Held.{end_keys, filters_of, partition_of}
 pub use Rattle.lsm_filter_writers.specs.Refusing.{keys_fault, partition_size, register_fault, top_fault}
 pub use Rattle.lsm_filter_writers.specs.Rising.{AreRising}
-pub use Rattle.lsm_filter_writers.specs.Writing.{part_sections, tops_block, tops_of}
+pub use Rattle.lsm_filter_writers.specs.Writing.{WritesFilter, part_sections, tops_block, tops_of}

@@ -5,9 +5,22 @@ ghost use Rattle.lsm_filter_writers.specs.Words.{Faults, IsFilterFor, fault_for,
 use sst_blocks::{BloomConstructionPolicy, Builder, Error};
 use std::alloc::Allocator;
 
+/// The filter of the keys whose hashes are in a buffer, by the buffer's allocator. Refused as [`build_filter`] is.
+pub(crate) fn build_from_buffer<A: Allocator + Clone>(
+    policy: &BloomConstructionPolicy,
+    hashes: &Vec<u64, A>,
+) -> Result<Builder<A>, Error>
+    ensures filter { IfOk result (λ f. (keys : List (List ℕ)) →
+        hashes.now.items ≡ map fnv1a keys → IsFilterFor policy.now keys f) }
+    ensures refused { let n = length hashes.now.items in
+        Faults result (fault_for (tenths_of policy.now) n) }
+{
+    build_filter(hashes.allocator().clone()?, policy, hashes)
+}
+
 /// The filter of the keys of these hashes. Refused [`Error::BlockTooLarge`] where its block would have 2^32 bytes or more,
 /// and [`Error::OutOfMemory`].
-pub(crate) fn build_filter<A: Allocator>(
+fn build_filter<A: Allocator>(
     alloc: A,
     policy: &BloomConstructionPolicy,
     hashes: &[u64],

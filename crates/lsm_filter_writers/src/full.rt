@@ -1,8 +1,10 @@
 //! The writer of a full filter.
-ghost use Rattle.std.specs.Prelude.{◌≡◌, [], false};
-ghost use Rattle.lsm_filter_writers.specs.Words.{HoldsHashes};
+ghost use Rattle.std.specs.Prelude.{◌≡◌, ℕ, List, [], false, length, map, take, IfOk};
+ghost use Rattle.lsm_filter_writers.specs.Words.{Faults, HasNoFilter, HoldsHashes, WritesFilter};
+ghost use Rattle.lsm_filter_writers.specs.Words.{fault_for, fnv1a, tenths_of};
+ghost use Rattle.lsm_files.specs.declared.options.FilterKind.TheVariants.{Full};
 
-use crate::build::build_filter;
+use crate::build::build_from_buffer;
 use crate::writer::FilterWriter;
 use sst_blocks::{
     Block, BlockType, BloomConstructionPolicy, Builder, CompressionType, Error, SectionName,
@@ -80,12 +82,7 @@ impl<A: Allocator + Clone> FilterWriter<A> for FullFilterWriter<A> {
         if self.bloom_hash_buffer.is_empty() {
             return Ok(1); // counted, though it is not written
         }
-        let alloc = self.bloom_hash_buffer.allocator().clone()?;
-        let filter = build_filter(alloc, &self.bloom_policy, &self.bloom_hash_buffer)?;
-        let payload = filter.build();
-        writer.start(SectionName::Filter)?;
-        Block::write_into(writer, &payload, BlockType::Filter, CompressionType::None)?;
-        Ok(1)
+        write_filter(writer, &self.bloom_policy, &self.bloom_hash_buffer)
     }
 
     fn set_filter_policy(mut self, bloom_policy: BloomConstructionPolicy) -> FullFilterWriter<A> {
@@ -100,4 +97,26 @@ impl<A: Allocator + Clone> FilterWriter<A> for FullFilterWriter<A> {
     fn use_partition_size(self, _size: u32) -> FullFilterWriter<A> {
         self
     }
+}
+
+/// Writes the section of the filter of the keys of these hashes, and answers how many blocks it has. Refused
+/// [`Error::BlockTooLarge`] where the filter is too large, and [`Error::OutOfMemory`].
+fn write_filter<A: Allocator + Clone>(
+    writer: &mut SectionWriter<A>,
+    policy: &BloomConstructionPolicy,
+    hashes: &Vec<u64, A>,
+) -> Result<usize, Error>
+    requires unwritten { HasNoFilter writer.old }
+    requires some { hashes.now.items ≡ [] → ⊥ }
+    ensures ok { IfOk result (λ n. (keys : List (List ℕ)) → hashes.now.items ≡ map fnv1a keys →
+        WritesFilter Full policy.now keys writer.old writer.new n) }
+    ensures before { take (length writer.old.bytes) writer.new.bytes ≡ writer.old.bytes }
+    ensures refused { let n = length hashes.now.items in
+        Faults result (fault_for (tenths_of policy.now) n) }
+{
+    let filter = build_from_buffer(policy, hashes)?;
+    let payload = filter.build();
+    writer.start(SectionName::Filter)?;
+    Block::write_into(writer, &payload, BlockType::Filter, CompressionType::None)?;
+    Ok(1)
 }

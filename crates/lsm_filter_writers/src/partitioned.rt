@@ -1,10 +1,10 @@
 //! The writer of a filter of partitions.
-ghost use Rattle.std.specs.Prelude.{◌≡◌, ◌++◌, ◌∷◌, ℕ, List, [], None, true, false, nat_le, length, map, take, All, IfOk, IfErr, OnOk, OnErr};
+ghost use Rattle.std.specs.Prelude.{◌≡◌, ◌+◌, ◌++◌, ◌∷◌, ℕ, List, [], None, true, false, nat_le, length, map, take, All, IfOk, IfErr, OnOk, OnErr};
 ghost use Rattle.lsm_filter_writers.specs.Words.{AreRising, AreStrictHandles, Cuts, Faults, FaultsFirst};
 ghost use Rattle.lsm_filter_writers.specs.Words.{HasNoFilter, HoldsAll, HoldsParts, SectionFits};
 ghost use Rattle.lsm_filter_writers.specs.Words.{appended, end_keys, fault_for, filter_block, filters_of};
-ghost use Rattle.lsm_filter_writers.specs.Words.{handles_block, handles_fault, is_full_filter, keys_fault};
-ghost use Rattle.lsm_filter_writers.specs.Words.{part_sections, register_fault, size_for, slot_index};
+ghost use Rattle.lsm_filter_writers.specs.Words.{handles_block, handles_fault, header_len, is_full_filter};
+ghost use Rattle.lsm_filter_writers.specs.Words.{keys_fault, part_sections, payload_of, register_fault, size_for, slot_index};
 ghost use Rattle.lsm_filter_writers.specs.Words.{tenths_of, top_fault, tops_block, tops_of, waiting_by};
 ghost use Rattle.std.specs.List.{flat_map};
 ghost use Rattle.lsm_files.specs.declared.options.FilterKind.TheVariants.{Partitioned};
@@ -12,7 +12,7 @@ ghost use Rattle.sst_entries.specs.declared.error.Error.TheVariants.{OutOfMemory
 ghost use Rattle.sst_sections.specs.declared.section.SectionName.TheVariants.{FilterTli};
 ghost use Rattle.sst_sections.specs.declared.version.TableVersion.TheVariants.{V4};
 
-use crate::build::build_filter;
+use crate::build::build_from_buffer;
 use crate::writer::FilterWriter;
 use sst_blocks::{
     Block, BlockType, BloomConstructionPolicy, Builder, CompressionType, Error, IndexBlock,
@@ -124,14 +124,13 @@ impl<A: Allocator + Clone> PartitionedFilterWriter<A> {
             Faults result (fault_for (tenths_of self.old.policy) n) }
     {
         let n = self.bloom_hash_buffer.len();
-        let alloc = self.bloom_hash_buffer.allocator().clone()?;
-        let filter = build_filter(alloc, &self.bloom_policy, &self.bloom_hash_buffer)?;
+        let filter = build_from_buffer(&self.bloom_policy, &self.bloom_hash_buffer)?;
         self.partitions.push(FilterPartition { end_key, filter })?;
         self.relative_file_pos = self
             .relative_file_pos
             .saturating_add(filter_bound(&self.bloom_policy, n));
         self.bloom_hash_buffer.clear();
-        self.last_key = None;
+        drop(self.last_key.take());
         Ok(())
     }
 
@@ -147,13 +146,13 @@ impl<A: Allocator + Clone> PartitionedFilterWriter<A> {
             let kind = Partitioned self.old.size in
             Faults result (register_fault kind self.old.policy keys key.now) }
     {
+        let hash = Builder::<A>::get_hash(key.as_slice());
+        self.bloom_hash_buffer.push(hash)?;
         let end_key = key.clone()?;
-        self.bloom_hash_buffer
-            .push(Builder::<A>::get_hash(key.as_slice()))?;
         if self.is_full() {
             return self.spill_filter_partition(end_key);
         }
-        self.last_key = Some(end_key);
+        drop(self.last_key.replace(end_key));
         Ok(())
     }
 
@@ -252,10 +251,9 @@ fn write_sections<A: Allocator + Clone>(
     ensures before { take (length writer.old.bytes) writer.new.bytes ≡ writer.old.bytes }
     ensures refused { Faults result (top_fault (end_keys partitions.items)) }
 {
-    let alloc = partitions.allocator().clone()?;
     writer.start(SectionName::Filter)?;
-    let handles = write_partitions(writer, alloc.clone()?, partitions)?;
-    write_top_level(writer, alloc, &handles, compression)?;
+    let handles = write_partitions(writer, partitions)?;
+    write_top_level(writer, &handles, compression)?;
     Ok(handles.len())
 }
 
@@ -263,7 +261,6 @@ fn write_sections<A: Allocator + Clone>(
 /// [`Error::OutOfMemory`] alone.
 fn write_partitions<A: Allocator + Clone>(
     writer: &mut SectionWriter<A>,
-    alloc: A,
     partitions: Vec<FilterPartition<A>, A>,
 ) -> Result<Vec<KeyedBlockHandle<A>, A>, Error>
     ensures ok { OnOk result (writer.new.bytes ≡
@@ -274,32 +271,49 @@ fn write_partitions<A: Allocator + Clone>(
     ensures before { take (length writer.old.bytes) writer.new.bytes ≡ writer.old.bytes }
     ensures err { IfErr result (λ e. e ≡ OutOfMemory) }
 {
-    let mut handles = Vec::new(alloc);
+    let mut handles = Vec::new(partitions.allocator().clone()?);
     for partition in partitions {
-        let payload = partition.filter.build();
-        let place = Block::write_into(writer, &payload, BlockType::Filter, CompressionType::None)?;
-        handles.push(KeyedBlockHandle::new(partition.end_key, 0, place))?;
+        let handle = write_partition(writer, partition)?;
+        handles.push(handle)?;
     }
     Ok(handles)
+}
+
+/// Writes the block of a partition at the end, and answers the top level's handle of it. Refused [`Error::OutOfMemory`] alone.
+fn write_partition<A: Allocator + Clone>(
+    writer: &mut SectionWriter<A>,
+    partition: FilterPartition<A>,
+) -> Result<KeyedBlockHandle<A>, Error>
+    ensures ok { let bytes = writer.old.bytes ++ filter_block V4 partition.filter in
+        OnOk result (writer.new ≡ record writer.old { bytes = bytes }) }
+    ensures handle { let size = header_len + length (payload_of partition.filter) in
+        let at = length writer.old.bytes in
+        IfOk result (λ h. h ≡
+        record { end_key = partition.end_key; seqno = 0; offset = at; size = size }) }
+    ensures unchanged { OnErr result (writer.new ≡ writer.old) }
+    ensures err { IfErr result (λ e. e ≡ OutOfMemory) }
+{
+    let payload = partition.filter.build();
+    let place = Block::write_into(writer, &payload, BlockType::Filter, CompressionType::None)?;
+    Ok(KeyedBlockHandle::new(partition.end_key, 0, place))
 }
 
 /// Writes the section of the top level: one block of these handles. Refused where it is too large, and
 /// [`Error::OutOfMemory`].
 fn write_top_level<A: Allocator + Clone>(
     writer: &mut SectionWriter<A>,
-    alloc: A,
-    handles: &[KeyedBlockHandle<A>],
+    handles: &Vec<KeyedBlockHandle<A>, A>,
     compression: CompressionType,
 ) -> Result<(), Error>
     requires unwritten { All (λ s. slot_index s.0 ≡ 4 → ⊥) writer.old.started }
-    requires strict { AreStrictHandles handles.now }
+    requires strict { AreStrictHandles handles.now.items }
     ensures ok { OnOk result (writer.new ≡
-        appended writer.old ((FilterTli, handles_block V4 handles.now) ∷ [])) }
-    ensures short { OnOk result (SectionFits (FilterTli, handles_block V4 handles.now)) }
+        appended writer.old ((FilterTli, handles_block V4 handles.now.items) ∷ [])) }
+    ensures short { OnOk result (SectionFits (FilterTli, handles_block V4 handles.now.items)) }
     ensures before { take (length writer.old.bytes) writer.new.bytes ≡ writer.old.bytes }
-    ensures refused { Faults result (handles_fault handles.now) }
+    ensures refused { Faults result (handles_fault handles.now.items) }
 {
-    let mut payload = Vec::new(alloc);
+    let mut payload = Vec::new(handles.allocator().clone()?);
     IndexBlock::encode_into(&mut payload, handles)?;
     writer.start(SectionName::FilterTli)?;
     Block::write_into(writer, &payload, BlockType::Index, compression)?;

@@ -1,8 +1,11 @@
 //! The writer of a full index.
-ghost use Rattle.std.specs.Prelude.{◌≡◌, [], false};
-ghost use Rattle.lsm_index_writers.specs.Words.{AreStrictHandles};
+ghost use Rattle.std.specs.Prelude.{◌≡◌, ◌∷◌, [], false, length, take, IfOk, OnOk};
+ghost use Rattle.lsm_index_writers.specs.Words.{AreStrictHandles, Faults, HasNoIndex, SectionFits, appended};
+ghost use Rattle.lsm_index_writers.specs.Words.{handles_block, handles_fault};
 ghost use Rattle.lsm_index_writers.specs.Either.{registered_by};
 ghost use Rattle.lsm_files.specs.declared.options.IndexKind.TheVariants.{Full};
+ghost use Rattle.sst_sections.specs.declared.section.SectionName.TheVariants.{Tli};
+ghost use Rattle.sst_sections.specs.declared.version.TableVersion.TheVariants.{V4};
 
 use crate::block::write_top_level;
 use crate::either::IndexWriterImpl;
@@ -77,9 +80,7 @@ impl<A: Allocator + Clone> BlockIndexWriter<A> for FullIndexWriter<A> {
         if self.held.failed {
             return Err(Error::WriterFailed); // nothing is written
         }
-        let mut buffer = Vec::new(self.held.handles.allocator().clone()?);
-        write_top_level(writer, &self.held.handles, &mut buffer, self.compression)?;
-        Ok(1)
+        write_section(writer, &self.held.handles, self.compression)
     }
 
     fn use_compression(mut self, compression: CompressionType) -> FullIndexWriter<A> {
@@ -90,4 +91,25 @@ impl<A: Allocator + Clone> BlockIndexWriter<A> for FullIndexWriter<A> {
     fn use_partition_size(self, _size: u32) -> FullIndexWriter<A> {
         self
     }
+}
+
+/// Writes the section of the one block of these handles, and answers how many blocks it has. Refused where the block is too
+/// large, and [`Error::OutOfMemory`].
+fn write_section<A: Allocator + Clone>(
+    writer: &mut SectionWriter<A>,
+    handles: &Vec<KeyedBlockHandle<A>, A>,
+    compression: CompressionType,
+) -> Result<usize, Error>
+    requires unwritten { HasNoIndex writer.old }
+    requires strict { AreStrictHandles handles.now.items }
+    ensures ok { OnOk result (writer.new ≡
+        appended writer.old ((Tli, handles_block V4 handles.now.items) ∷ [])) }
+    ensures count { IfOk result (λ n. n ≡ 1) }
+    ensures fits { OnOk result (SectionFits (Tli, handles_block V4 handles.now.items)) }
+    ensures before { take (length writer.old.bytes) writer.new.bytes ≡ writer.old.bytes }
+    ensures refused { Faults result (handles_fault handles.now.items) }
+{
+    let mut buffer = Vec::new(handles.allocator().clone()?);
+    write_top_level(writer, handles, &mut buffer, compression)?;
+    Ok(1)
 }

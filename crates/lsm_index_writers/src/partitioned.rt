@@ -1,9 +1,10 @@
 //! The writer of an index of partitions.
 ghost use Rattle.std.specs.Prelude.{◌≡◌, ◌+◌, ◌-◌, ◌<◌, ◌≤◌, ◌^◌, ◌++◌, ◌∷◌, [], false, length, take, IfOk, OnOk};
-ghost use Rattle.std.specs.List.{flat_map};
-ghost use Rattle.lsm_index_writers.specs.Words.{AreStrictHandles, Faults, capped, handle_size, handles_block};
-ghost use Rattle.lsm_index_writers.specs.Words.{index_block_bound_of, index_tops, is_full_index};
-ghost use Rattle.lsm_index_writers.specs.Words.{part_fault, parts_by, parts_fault};
+ghost use Rattle.std.specs.List.{AllByRecursion, flat_map};
+ghost use Rattle.lsm_index_writers.specs.Words.{AreStrictHandles, Faults, HasNoIndex, SectionFits, appended};
+ghost use Rattle.lsm_index_writers.specs.Words.{capped, handle_size, handles_block, index_block_bound_of};
+ghost use Rattle.lsm_index_writers.specs.Words.{index_tops, is_full_index, kind_fault, part_fault};
+ghost use Rattle.lsm_index_writers.specs.Words.{partitioned_index, parts_by, parts_fault};
 ghost use Rattle.lsm_files.specs.declared.options.IndexKind.TheVariants.{Partitioned};
 ghost use Rattle.sst_sections.specs.declared.version.TableVersion.TheVariants.{V4};
 
@@ -86,20 +87,8 @@ impl<A: Allocator + Clone> BlockIndexWriter<A> for PartitionedIndexWriter<A> {
         if self.held.failed {
             return Err(Error::WriterFailed); // nothing is written
         }
-        let alloc = self.held.handles.allocator().clone()?;
-        let mut buffer = Vec::new(alloc.clone()?);
-        let mut tops = Vec::new(alloc);
-        writer.start(SectionName::Index)?;
-        write_partitions(
-            writer,
-            &self.held.handles,
-            self.partition_size,
-            &mut tops,
-            &mut buffer,
-            self.compression,
-        )?;
-        write_top_level(writer, &tops, &mut buffer, self.compression)?;
-        Ok(tops.len())
+        let handles = &self.held.handles;
+        write_sections(writer, handles, self.partition_size, self.compression)
     }
 
     fn use_compression(mut self, compression: CompressionType) -> PartitionedIndexWriter<A> {
@@ -111,6 +100,42 @@ impl<A: Allocator + Clone> BlockIndexWriter<A> for PartitionedIndexWriter<A> {
         self.partition_size = size;
         self
     }
+}
+
+/// Writes the section of the partitions of these handles, and the section of their top level. Answers how many partitions there
+/// are. Refused where a block or all of them are too large, and [`Error::OutOfMemory`].
+fn write_sections<A: Allocator + Clone>(
+    writer: &mut SectionWriter<A>,
+    handles: &Vec<KeyedBlockHandle<A>, A>,
+    partition_size: u32,
+    compression: CompressionType,
+) -> Result<usize, Error>
+    requires unwritten { HasNoIndex writer.old }
+    requires strict { AreStrictHandles handles.now.items }
+    ensures ok { let parts = parts_by (is_full_index partition_size) handles.now.items in
+        let at = length writer.old.bytes in
+        OnOk result (writer.new ≡ appended writer.old (partitioned_index V4 at parts)) }
+    ensures count { let parts = parts_by (is_full_index partition_size) handles.now.items in
+        IfOk result (λ n. n ≡ length parts) }
+    ensures fits { let parts = parts_by (is_full_index partition_size) handles.now.items in
+        let at = length writer.old.bytes in
+        OnOk result (AllByRecursion SectionFits (partitioned_index V4 at parts)) }
+    ensures before { take (length writer.old.bytes) writer.new.bytes ≡ writer.old.bytes }
+    ensures refused { Faults result (kind_fault (Partitioned partition_size) handles.now.items) }
+{
+    writer.start(SectionName::Index)?;
+    let mut buffer = Vec::new(handles.allocator().clone()?);
+    let mut tops = Vec::new(handles.allocator().clone()?);
+    write_partitions(
+        writer,
+        handles,
+        partition_size,
+        &mut tops,
+        &mut buffer,
+        compression,
+    )?;
+    write_top_level(writer, &tops, &mut buffer, compression)?;
+    Ok(tops.len())
 }
 
 /// Cuts the handles into partitions, writes their blocks one behind another, and puts the top level's handles of them into

@@ -1,7 +1,7 @@
 -- A handle waits, or fills a part that is written.
 use Rattle.std.proofs.Common.{◌+◌, length, arith}
 use Rattle.sst_entries.proofs.Refusals.{faults_refusal}
-use Rattle.lsm_index_writers.proofs.Cutting.{all_fit, all_short, all_told, all_written, cut_filled, cut_none, cut_waits, front_stays, no_rest, part_done, part_fails, part_next, rest_next}
+use Rattle.lsm_index_writers.proofs.Cutting.{all_fit, all_short, all_told, all_written, cut_filled, cut_none, cut_waits, done_front, done_length, front_stays, no_rest, part_done, part_fails, part_next, rest_next}
 use Rattle.lsm_index_writers.proofs.Strict.{strict_range}
 use Rattle.lsm_index_writers.proofs.partitioned.write_partitions.Goals as goal
 use Rattle.lsm_index_writers.proofs.partitioned.write_partitions.Goals.{then-size-from+in_ok-write_partition, else-size-from}
@@ -118,3 +118,18 @@ returns-else-start-handles-clause-refused g c =
     let now = c.loop-i in
     all_fit _ c.args.writer.now now.writer now.tops.items
     (no_rest c.args.partition_size c.args.handles.now c.args.writer.now now.writer now.tops.items now.start now.i now.size now.invariant c.loop-i-test.false c.if-start-handles.false)
+
+pub returns-in_ok-write_partition-2-clause-before : goal.returns-in_ok-write_partition-2-clause-before
+returns-in_ok-write_partition-2-clause-before g c =
+    front_stays _ _ c.args.writer.now c.loop-i.writer c.loop-i.tops.items c.loop-i.invariant.upto c.write_partition-then-start-handles.new.writer c.in_ok-write_partition-2.ensures.before
+
+pub returns-else-start-handles-clause-before : goal.returns-else-start-handles-clause-before
+returns-else-start-handles-clause-before g c = done_front _ _ c.args.writer.now c.loop-i.writer c.loop-i.tops.items c.loop-i.invariant.upto
+
+pub write_partition-requires-clause-behind : goal.write_partition-requires-clause-behind
+write_partition-requires-clause-behind g c =
+    omega (arith, c.position-base.ensures, done_length _ _ c.args.writer.now c.loop-i.writer c.loop-i.tops.items c.loop-i.invariant.upto)
+
+pub write_partition-requires-then-start-handles-clause-behind : goal.write_partition-requires-then-start-handles-clause-behind
+write_partition-requires-then-start-handles-clause-behind g c =
+    omega (arith, c.position-base.ensures, done_length _ _ c.args.writer.now c.loop-i.writer c.loop-i.tops.items c.loop-i.invariant.upto)

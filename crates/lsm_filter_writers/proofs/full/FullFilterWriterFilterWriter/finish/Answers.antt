@@ -1,11 +1,9 @@
 -- One block where there are keys, and nothing without.
-use Rattle.std.proofs.Common.{◌≡◌, ap, subst, ◌∙◌}
-use Rattle.std.specs.Prelude.{map}
-use Rattle.sst_sections.specs.Fnv.{fnv1a}
-use Rattle.lsm_files.specs.Filters.{IsFilterFor}
+use Rattle.std.proofs.Common.{ap, sym, ◌∙◌}
+use Rattle.sst_entries.proofs.StreamLemmas.{on_err}
 use Rattle.lsm_filter_writers.specs.Held.{Hashes}
 use Rattle.lsm_filter_writers.proofs.Emptiness.{vec_is_empty, vec_is_some}
-use Rattle.lsm_filter_writers.proofs.Sections.{full_none, full_one}
+use Rattle.lsm_filter_writers.proofs.Sections.{full_fault, full_idle, full_none, full_none_fault, full_written}
 use Rattle.lsm_filter_writers.proofs.full.FullFilterWriterFilterWriter.finish.Goals as goal
 
 pub returns-then-is_empty-clause-ok : goal.returns-then-is_empty-clause-ok
@@ -13,11 +11,30 @@ returns-then-is_empty-clause-ok g c = λ keys h.
     full_none c.args.self keys c.args.writer.now
     (vec_is_empty c.self.inside.bloom_hash_buffer c.args.self.hashes c.is_empty.result (ap (λ (w : Hashes). w.hashes) c.self.view_is) c.is_empty.ensures c.if-is_empty.true) h
 
+pub returns-then-is_empty-clause-refused : goal.returns-then-is_empty-clause-refused
+returns-then-is_empty-clause-refused g c = λ keys h.
+    full_none_fault c.args.self keys (sym (ap (λ (w : Hashes). w.failed) c.self.view_is) ∙ c.if-self.false)
+    (vec_is_empty c.self.inside.bloom_hash_buffer c.args.self.hashes c.is_empty.result (ap (λ (w : Hashes). w.hashes) c.self.view_is) c.is_empty.ensures c.if-is_empty.true) h
+
+pub write_filter-requires-clause-some : goal.write_filter-requires-clause-some
+write_filter-requires-clause-some g c = λ none.
+    vec_is_some c.self.inside.bloom_hash_buffer c.args.self.hashes c.is_empty.result (ap (λ (w : Hashes). w.hashes) c.self.view_is) c.is_empty.ensures c.if-is_empty.false
+    (sym (ap (λ (w : Hashes). w.hashes) c.self.view_is) ∙ none)
+
 pub returns-clause-ok : goal.returns-clause-ok
-returns-clause-ok g c = λ keys h.
-    let hashes : c.deref.result.now ≡ map fnv1a keys = c.deref.ensures.value ∙ ap (λ (w : Hashes). w.hashes) c.self.view_is ∙ h.hashes in
-    let is : IsFilterFor c.args.self.policy keys c.in_ok-filter.filter =
-    subst (λ p. IsFilterFor p keys c.in_ok-filter.filter) (ap (λ (w : Hashes). w.policy) c.self.view_is) (c.in_ok-filter.ensures.filter keys hashes) in
-    full_one c.args.self keys c.args.writer.now c.start.new.self c.write_into.new.writer c.in_ok-filter.filter c.deref-2.result.now
+returns-clause-ok g c =
+    full_written c.write_filter.result c.self.inside.bloom_policy c.self.inside.bloom_hash_buffer.items c.args.self c.args.writer.now c.write_filter.new.writer
+    (ap (λ (w : Hashes). w.policy) c.self.view_is) (ap (λ (w : Hashes). w.hashes) c.self.view_is) c.write_filter.ensures.ok
+
+pub returns-clause-refused : goal.returns-clause-refused
+returns-clause-refused g c = λ keys h.
+    full_fault c.write_filter.result c.self.inside.bloom_policy c.self.inside.bloom_hash_buffer.items c.args.self keys
+    (ap (λ (w : Hashes). w.policy) c.self.view_is) (ap (λ (w : Hashes). w.hashes) c.self.view_is)
     (vec_is_some c.self.inside.bloom_hash_buffer c.args.self.hashes c.is_empty.result (ap (λ (w : Hashes). w.hashes) c.self.view_is) c.is_empty.ensures c.if-is_empty.false)
-    h is c.build-payload.ensures.built (c.deref-2.ensures.value ∙ c.build-payload.ensures.payload) c.in_ok-start.ensures.ok c.in_ok-write_into.ensures.ok
+    (sym (ap (λ (w : Hashes). w.failed) c.self.view_is) ∙ c.if-self.false) h c.write_filter.ensures.refused
+
+pub returns-clause-idle : goal.returns-clause-idle
+returns-clause-idle g c =
+    on_err c.write_filter.result
+    (full_idle c.args.self
+    (vec_is_some c.self.inside.bloom_hash_buffer c.args.self.hashes c.is_empty.result (ap (λ (w : Hashes). w.hashes) c.self.view_is) c.is_empty.ensures c.if-is_empty.false))

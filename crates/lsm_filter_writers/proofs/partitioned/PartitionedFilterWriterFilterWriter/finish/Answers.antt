@@ -1,11 +1,13 @@
 -- All parts are written, or nothing where there are none.
-use Rattle.std.proofs.Common.{◌≡◌, [], true, ap, refl, sym, ◌∙◌, arith}
+use Rattle.std.proofs.Common.{◌≡◌, ℕ, [], true, ap, refl, sym, ◌∙◌, arith}
+use Rattle.std.specs.Prelude.{Ok, Err}
 use Rattle.sst_entries.proofs.StreamLemmas.{on_err}
+use Rattle.sst_entries.specs.declared.error.Error.TheVariants.{SectionTooLarge}
 use Rattle.lsm_filter_writers.specs.Held.{as_list, CutParts, end_keys, HoldsParts}
 use Rattle.lsm_filter_writers.proofs.Emptiness.{vec_is_empty, vec_is_some}
 use Rattle.lsm_filter_writers.proofs.Holding.{none_cut, none_waits}
 use Rattle.lsm_filter_writers.proofs.RisingLaws.{rising_front}
-use Rattle.lsm_filter_writers.proofs.Sections.{faults_same, finish_fault, finish_large, finish_none, finish_none_fault, finish_writes, written_blocks}
+use Rattle.lsm_filter_writers.proofs.Sections.{faults_same, finish_fault, finish_large, finish_none, finish_none_fault, finish_writes, rest_refused, works_first, written_blocks, bytes_stay}
 use Rattle.lsm_filter_writers.proofs.partitioned.PartitionedFilterWriterFilterWriter.finish.Goals as goal
 
 pub write_sections-requires-clause-rising : goal.write_sections-requires-clause-rising
@@ -68,3 +70,29 @@ returns-clause-idle g c =
     absurd (vec_is_some c.self-2.inside.partitions c.self-2.inside.partitions.items c.is_empty.result refl c.is_empty.ensures c.if-is_empty.false
     (ap (λ (w : CutParts). w.parts) c.self-2.view_is ∙ none_cut c.spill_rest.new.self (c.in_ok-spill_rest.ensures.ok [] h))) in
     on_err c.write_sections.result none
+
+pub returns-in_err-spill_rest-clause-refused : goal.returns-in_err-spill_rest-clause-refused
+returns-in_err-spill_rest-clause-refused g c = λ keys h.
+    rest_refused c.from_residual.result c.in_err-spill_rest.field-0.0 c.args.self.size c.args.self.policy keys c.args.self.failed c.from_residual.ensures.1
+    (sym (ap (λ (w : CutParts). w.failed) c.self.view_is) ∙ c.if-self.false) (c.in_err-spill_rest.ensures.refused keys h)
+
+pub returns-in_err-spill_rest-clause-first : goal.returns-in_err-spill_rest-clause-first
+returns-in_err-spill_rest-clause-first g c = works_first c.from_residual.result c.self.inside.failed c.args.self.failed (ap (λ (w : CutParts). w.failed) c.self.view_is) c.if-self.false
+
+pub returns-then-is_empty-clause-first : goal.returns-then-is_empty-clause-first
+returns-then-is_empty-clause-first g c = works_first {X = ℕ} (Ok 0) c.self.inside.failed c.args.self.failed (ap (λ (w : CutParts). w.failed) c.self.view_is) c.if-self.false
+
+pub returns-then-self-from-clause-first : goal.returns-then-self-from-clause-first
+returns-then-self-from-clause-first g c = works_first {X = ℕ} (Err SectionTooLarge) c.self.inside.failed c.args.self.failed (ap (λ (w : CutParts). w.failed) c.self.view_is) c.if-self.false
+
+pub returns-clause-first : goal.returns-clause-first
+returns-clause-first g c = works_first c.write_sections.result c.self.inside.failed c.args.self.failed (ap (λ (w : CutParts). w.failed) c.self.view_is) c.if-self.false
+
+pub returns-in_err-spill_rest-clause-before : goal.returns-in_err-spill_rest-clause-before
+returns-in_err-spill_rest-clause-before g c = bytes_stay c.args.writer.now
+
+pub returns-then-is_empty-clause-before : goal.returns-then-is_empty-clause-before
+returns-then-is_empty-clause-before g c = bytes_stay c.args.writer.now
+
+pub returns-then-self-from-clause-before : goal.returns-then-self-from-clause-before
+returns-then-self-from-clause-before g c = bytes_stay c.args.writer.now

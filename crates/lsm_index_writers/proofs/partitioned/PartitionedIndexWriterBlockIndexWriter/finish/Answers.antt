@@ -1,37 +1,37 @@
--- The top level has the handles of the parts.
-use Rattle.std.proofs.Common.{sym, subst, ◌∙◌, length}
-use Rattle.sst_blocks.specs.Handles.{AreStrictHandles}
-use Rattle.sst_entries.proofs.Refusals.{faults_refusal}
-use Rattle.lsm_index_writers.proofs.Finishing.{top_count, top_fault, top_strict}
+-- What is inside is what the writer holds.
+use Rattle.std.proofs.Common.{◌≡◌, ap, subst, length}
+use Rattle.std.specs.Prelude.{OnOk, IfOk}
+use Rattle.std.specs.List.{AllByRecursion}
+use Rattle.sst_sections.specs.declared.version.TableVersion.TheVariants.{V4}
+use Rattle.lsm_files.specs.Fits.{SectionFits}
+use Rattle.lsm_files.specs.Kinds.{index_parts, index_sections}
+use Rattle.lsm_files.specs.Layout.{appended}
+use Rattle.lsm_files.specs.declared.options.IndexKind.TheVariants.{Partitioned}
+use Rattle.lsm_index_writers.specs.Registered.{Registered}
+use Rattle.lsm_index_writers.proofs.Finishing.{works_fault, works_first}
 use Rattle.lsm_index_writers.proofs.partitioned.PartitionedIndexWriterBlockIndexWriter.finish.Goals as goal
 
-pub write_top_level-requires-clause-strict : goal.write_top_level-requires-clause-strict
-write_top_level-requires-clause-strict g c =
-    let inside = c.self.inside in
-    subst (λ xs. AreStrictHandles xs) (sym c.deref-2.ensures.value)
-    (top_strict c.args.self inside.held.handles.items c.deref.result.now inside.partition_size (length c.start.new.self.bytes) inside.held.failed c.write_partitions.new.tops.items
-    c.self.view_is c.deref.ensures.value c.in_ok-write_partitions.ensures.tops c.self.invariant)
-
-pub returns-in_err-write_top_level-clause-refused :
-    goal.returns-in_err-write_top_level-clause-refused
-returns-in_err-write_top_level-clause-refused g c =
-    let inside = c.self.inside in
-    faults_refusal c.from_residual-in_err-write_top_level.result c.in_err-write_top_level.field-0.0 _ c.from_residual-in_err-write_top_level.ensures.1
-    (λ m. top_fault c.args.self inside.held.handles.items c.deref.result.now inside.partition_size (length c.start.new.self.bytes) inside.held.failed c.deref-2.result.now
-    c.self.view_is c.deref.ensures.value (c.deref-2.ensures.value ∙ c.in_ok-write_partitions.ensures.tops) c.if-self.false c.in_ok-write_partitions.ensures.refused
-    ∙ c.in_err-write_top_level.ensures.refused m)
+pub returns-clause-ok : goal.returns-clause-ok
+returns-clause-ok g c =
+    subst (λ (w : Registered). OnOk c.write_sections.result (c.write_sections.new.writer ≡
+    appended c.args.writer.now (index_sections w.kind V4 (length c.args.writer.now.bytes) w.handles (index_parts w.kind w.handles))))
+    c.self.view_is c.write_sections.ensures.ok
 
 pub returns-clause-count : goal.returns-clause-count
 returns-clause-count g c =
-    let inside = c.self.inside in
-    let tops = c.write_partitions.new.tops in
-    c.len.ensures ∙ tops.ok.0
-    ∙ top_count c.args.self inside.held.handles.items c.deref.result.now inside.partition_size (length c.start.new.self.bytes) inside.held.failed tops.items
-    c.self.view_is c.deref.ensures.value c.in_ok-write_partitions.ensures.tops
+    subst (λ (w : Registered). IfOk c.write_sections.result (λ n. n ≡ length (index_parts w.kind w.handles))) c.self.view_is c.write_sections.ensures.count
+
+pub returns-clause-fits : goal.returns-clause-fits
+returns-clause-fits g c =
+    subst (λ (w : Registered). OnOk c.write_sections.result (AllByRecursion SectionFits
+    (index_sections w.kind V4 (length c.args.writer.now.bytes) w.handles (index_parts w.kind w.handles))))
+    c.self.view_is c.write_sections.ensures.fits
 
 pub returns-clause-refused : goal.returns-clause-refused
 returns-clause-refused g c =
-    let inside = c.self.inside in
-    top_fault c.args.self inside.held.handles.items c.deref.result.now inside.partition_size (length c.start.new.self.bytes) inside.held.failed c.deref-2.result.now
-    c.self.view_is c.deref.ensures.value (c.deref-2.ensures.value ∙ c.in_ok-write_partitions.ensures.tops) c.if-self.false c.in_ok-write_partitions.ensures.refused
-    ∙ c.in_ok-write_top_level.ensures.refused
+    works_fault c.write_sections.result c.args.self (Partitioned c.self.inside.partition_size) c.self.inside.held.handles.items c.self.inside.held.failed c.self.view_is c.if-self.false
+    c.write_sections.ensures.refused
+
+pub returns-clause-first : goal.returns-clause-first
+returns-clause-first g c =
+    works_first c.write_sections.result c.self.inside.held.failed c.args.self.failed (ap (λ (w : Registered). w.failed) c.self.view_is) c.if-self.false

@@ -1,0 +1,38 @@
+-- What is inside is what the writer holds.
+use Rattle.std.proofs.Common.{◌≡◌, ap, subst, length}
+use Rattle.std.specs.Prelude.{OnOk, IfOk}
+use Rattle.std.specs.List.{AllByRecursion}
+use Rattle.sst_blocks.proofs.HandleFaults.{on_ok}
+use Rattle.sst_sections.specs.declared.version.TableVersion.TheVariants.{V4}
+use Rattle.lsm_files.specs.Fits.{SectionFits}
+use Rattle.lsm_files.specs.Kinds.{index_parts, index_sections}
+use Rattle.lsm_files.specs.Layout.{appended}
+use Rattle.lsm_files.specs.declared.options.IndexKind.TheVariants.{Full}
+use Rattle.lsm_index_writers.specs.Registered.{Registered}
+use Rattle.lsm_index_writers.proofs.Finishing.{works_fault, works_first}
+use Rattle.lsm_index_writers.proofs.full.FullIndexWriterBlockIndexWriter.finish.Goals as goal
+
+pub returns-clause-ok : goal.returns-clause-ok
+returns-clause-ok g c =
+    subst (λ (w : Registered). OnOk c.write_section.result (c.write_section.new.writer ≡
+    appended c.args.writer.now (index_sections w.kind V4 (length c.args.writer.now.bytes) w.handles (index_parts w.kind w.handles))))
+    c.self.view_is c.write_section.ensures.ok
+
+pub returns-clause-count : goal.returns-clause-count
+returns-clause-count g c =
+    subst (λ (w : Registered). IfOk c.write_section.result (λ n. n ≡ length (index_parts w.kind w.handles))) c.self.view_is c.write_section.ensures.count
+
+pub returns-clause-fits : goal.returns-clause-fits
+returns-clause-fits g c =
+    subst (λ (w : Registered). OnOk c.write_section.result (AllByRecursion SectionFits
+    (index_sections w.kind V4 (length c.args.writer.now.bytes) w.handles (index_parts w.kind w.handles))))
+    c.self.view_is (on_ok _ _ c.write_section.result c.write_section.ensures.fits (λ fits. (fits, tt)))
+
+pub returns-clause-refused : goal.returns-clause-refused
+returns-clause-refused g c =
+    works_fault c.write_section.result c.args.self Full c.self.inside.held.handles.items c.self.inside.held.failed c.self.view_is c.if-self.false
+    c.write_section.ensures.refused
+
+pub returns-clause-first : goal.returns-clause-first
+returns-clause-first g c =
+    works_first c.write_section.result c.self.inside.held.failed c.args.self.failed (ap (λ (w : Registered). w.failed) c.self.view_is) c.if-self.false
