@@ -1,6 +1,7 @@
 //! Compaction of some results, with filters and callbacks.
 ghost use Rattle.std.specs.Prelude.{◌<◌};
 ghost use Rattle.std.specs.Iterator.{IsFinite};
+ghost use Rattle.sst_entries.specs.Stream.{CanDeal, nowhere};
 
 use crate::merging::passed_of;
 use crate::merging_front::{Forward, forward_of};
@@ -119,15 +120,29 @@ fn drained<A: Allocator, I: Iterator<Item = IterItem<A>>>(
     Ok(text)
 }
 
-// The words of the results of a stream that is let go of.
-pub fn given_by<A: Allocator, I: Iterator<Item = IterItem<A>> + Drop>(
+// Whether a stream gives these results to its end.
+fn gives_so<A: Allocator, I: Iterator<Item = IterItem<A>> + Drop>(
     alloc: Global,
     mut stream: I,
-) -> Result<String, AllocError>
+    wanted: &str,
+) -> Result<bool, AllocError>
     requires can { I.can_next stream }
     requires finite { IsFinite (I.remaining stream) }
 {
-    drained(alloc, &mut stream)
+    is_text(drained(alloc, &mut stream), wanted)
+}
+
+// Whether a compaction of this source, whatever it is, leaves these for readers at the threshold, without a filter.
+pub fn leaves_so<A: Allocator, I: Iterator<Item = IterItem<A>> + Drop>(
+    alloc: Global,
+    source: I,
+    threshold: u64,
+    wanted: &str,
+) -> Result<bool, AllocError>
+    requires can { CanDeal I.next_gives nowhere I.can_next I.can_next source }
+    requires finite { IsFinite (I.remaining source) }
+{
+    gives_so(alloc, CompactionStream::new(source, threshold), wanted)
 }
 
 // How a compaction is done.
@@ -309,14 +324,20 @@ fn drops_old_versions_and_hidden_values(rt: HostRuntime) -> Result<(), Fail> {
     Ok(())
 }
 
-// What a compaction at the threshold 995 leaves whose filter has a state.
-fn newest_of_five(alloc: Global, over: &str, watermark: u8) -> Result<String, Error> {
+// Whether a compaction at the threshold 995 leaves these whose filter has a state.
+fn leaves_newest_of_five(
+    alloc: Global,
+    over: &str,
+    watermark: u8,
+    wanted: &str,
+) -> Result<bool, Error> {
     let filter = NewestOfFive {
         previous: None,
         watermark,
     };
     let items = forward_of(alloc, over)?;
-    Ok(given_by(alloc, CompactionStream::new(items, 995).with_filter(filter))?)
+    let stream = CompactionStream::new(items, 995).with_filter(filter);
+    Ok(gives_so(alloc, stream, wanted)?)
 }
 
 // What is compacted, the watermark of the filter, and the results.
@@ -332,42 +353,50 @@ const NEWEST_OF_FIVE: &[(&str, u8, &str)] = &[
 #[test]
 fn keeps_a_state_in_the_filter(rt: HostRuntime) -> Result<(), Fail> {
     for &(over, watermark, wanted) in NEWEST_OF_FIVE {
-        let given = newest_of_five(rt.alloc(), over, watermark)?;
-        assert_eq!(rt; given.as_str(), wanted);
+        assert!(rt;
+            leaves_newest_of_five(rt.alloc(), over, watermark, wanted)?,
+            "{over}"
+        );
     }
     Ok(())
 }
 
-// What a compaction without a filter leaves of some results in the memory of any allocator.
-fn unfiltered<A: Allocator + Copy>(
+// Whether a compaction without a filter leaves these of some results in the memory of any allocator.
+fn leaves_unfiltered<A: Allocator + Copy>(
     memory: A,
     alloc: Global,
     over: &str,
     threshold: u64,
-) -> Result<String, Error> {
+    wanted: &str,
+) -> Result<bool, Error> {
     let items = passed_of(memory, over)?;
-    Ok(given_by(alloc, CompactionStream::new(items, threshold))?)
+    Ok(leaves_so(alloc, items, threshold, wanted)?)
 }
 
 #[test]
 fn needs_neither_filter_nor_callback(rt: HostRuntime) -> Result<(), Fail> {
-    let given = unfiltered(rt.alloc(), rt.alloc(), "aV2353 bV2353 cV2353", 5000)?;
-    assert_eq!(rt; given.as_str(), "aV2353 bV2353 cV2353");
+    let over = "aV2353 bV2353 cV2353";
+    assert!(rt; leaves_unfiltered(rt.alloc(), rt.alloc(), over, 5000, over)?);
     Ok(())
 }
 
-// What a stream of the newest versions gives of some results in the memory of any allocator.
-fn newest<A: Allocator + Copy>(memory: A, alloc: Global, over: &str) -> Result<String, Error> {
+// Whether a stream of the newest versions gives these of some results in the memory of any allocator.
+fn gives_newest<A: Allocator + Copy>(
+    memory: A,
+    alloc: Global,
+    over: &str,
+    wanted: &str,
+) -> Result<bool, Error> {
     let items = passed_of(memory, over)?;
-    Ok(given_by(alloc, MvccStream::new(items))?)
+    Ok(gives_so(alloc, MvccStream::new(items), wanted)?)
 }
 
 #[test]
 fn streams_take_entries_of_any_allocator(rt: HostRuntime) -> Result<(), Fail> {
     let heap = Refusing::new(rt.alloc(), 0);
-    let compacted = unfiltered(&heap, rt.alloc(), "aV4 aV3 aV2", 4)?;
-    let newest = newest(&heap, rt.alloc(), "aV4 aV3 aV2")?;
-    assert_eq!(rt; (compacted.as_str(), newest.as_str()), ("aV4 aV3", "aV4"));
+    let over = "aV4 aV3 aV2";
+    assert!(rt; leaves_unfiltered(&heap, rt.alloc(), over, 4, "aV4 aV3")?);
+    assert!(rt; gives_newest(&heap, rt.alloc(), over, "aV4")?);
     assert!(rt; heap.requests() > 0);
     Ok(())
 }

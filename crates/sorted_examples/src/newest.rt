@@ -1,17 +1,34 @@
 //! The newest versions of some results and of several sources, from both ends and from the front alone.
+ghost use Rattle.std.specs.Prelude.{All};
+ghost use Rattle.std.specs.Iterator.{IsFinite};
+ghost use Rattle.sst_entries.specs.Stream.{CanDeal, nowhere};
+
 use crate::merging::{self, passed_of};
 use crate::merging_front::{begins_so, sources_of};
 use crate::words::answers_so;
 use lsm_sorted::{MvccStream, newest_from_both_ends, newest_of};
-use sst_entries::Error;
-use std::alloc::Global;
+use sst_entries::{Error, IterItem};
+use std::alloc::{Allocator, Global};
 use std::test::Fail;
+
+// Whether a stream over this source, whatever it is, answers so at the ends.
+fn stream_answers_so<I: DoubleEndedIterator<Item = IterItem<A>> + Drop, A: Allocator>(
+    alloc: Global,
+    source: I,
+    ends: &str,
+    wanted: &str,
+) -> Result<bool, Error>
+    requires can { CanDeal I.next_gives I.next_back_gives I.can_next I.can_next_back source }
+    requires finite { IsFinite (I.remaining source) }
+{
+    let stream = MvccStream::new(source);
+    stream.from_both_ends();
+    answers_so(alloc, stream, ends, wanted)
+}
 
 // Whether a stream over some results answers so at the ends.
 fn answers(alloc: Global, results: &str, ends: &str, wanted: &str) -> Result<bool, Error> {
-    let stream = MvccStream::new(passed_of(alloc, results)?);
-    stream.from_both_ends();
-    answers_so(alloc, stream, ends, wanted)
+    stream_answers_so(alloc, passed_of(alloc, results)?, ends, wanted)
 }
 
 // Results, ends and answers.
@@ -90,11 +107,25 @@ fn gives_the_newest_version_of_each_key_from_either_end(rt: HostRuntime) -> Resu
     Ok(())
 }
 
-// Whether the newest versions of the sources are these at the ends.
-fn are_newest(alloc: Global, sources: &str, ends: &str, wanted: &str) -> Result<bool, Error> {
-    let stream = newest_of(alloc, merging::sources_of(alloc, sources)?)?;
+// Whether the newest versions of these sources, whatever they are, are these at the ends.
+fn newest_answers_so<I: DoubleEndedIterator<Item = IterItem<A>> + Drop, A: Allocator + Copy>(
+    alloc: A,
+    sources: Vec<I, A>,
+    ends: &str,
+    wanted: &str,
+) -> Result<bool, Error>
+    requires can { All (CanDeal I.next_gives I.next_back_gives I.can_next I.can_next_back)
+        sources.items }
+    requires finite { All (λ s. IsFinite (I.remaining s)) sources.items }
+{
+    let stream = newest_of(alloc, sources)?;
     newest_from_both_ends(&stream);
     answers_so(alloc, stream, ends, wanted)
+}
+
+// Whether the newest versions of the sources that a text spells are these at the ends.
+fn are_newest(alloc: Global, sources: &str, ends: &str, wanted: &str) -> Result<bool, Error> {
+    newest_answers_so(alloc, merging::sources_of(alloc, sources)?, ends, wanted)
 }
 
 // Sources, ends and answers.
@@ -140,13 +171,21 @@ fn gives_the_newest_version_of_each_key_of_all_sources(rt: HostRuntime) -> Resul
     Ok(())
 }
 
+// Whether the newest versions of these sources, whatever they are, are these first.
+fn newest_begins_so<I: Iterator<Item = IterItem> + Drop>(
+    alloc: Global,
+    sources: Vec<I>,
+    wanted: &str,
+) -> Result<bool, Error>
+    requires can { All (CanDeal I.next_gives nowhere I.can_next I.can_next) sources.items }
+    requires finite { All (λ s. IsFinite (I.remaining s)) sources.items }
+{
+    begins_so(alloc, newest_of(alloc, sources)?, wanted)
+}
+
 // Whether the newest versions of sources without a back are these first.
 fn are_first(alloc: Global, sources: &str, wanted: &str) -> Result<bool, Error> {
-    begins_so(
-        alloc,
-        newest_of(alloc, sources_of(alloc, sources)?)?,
-        wanted,
-    )
+    newest_begins_so(alloc, sources_of(alloc, sources)?, wanted)
 }
 
 // Sources and answers.

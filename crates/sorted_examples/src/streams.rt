@@ -9,7 +9,7 @@ ghost use Rattle.lsm_sorted.specs.Compaction.{kept, unfiltered};
 ghost use Rattle.lsm_sorted.specs.CompactionState.{rules_of};
 ghost use Rattle.lsm_sorted.specs.Gap.{GivesUpToGap};
 
-use crate::compaction::given_by;
+use crate::compaction::leaves_so;
 use crate::merging_front::{Forward, sources_of};
 use lsm_sorted::compaction::stream::{CompactionStream, NoCallback, NoFilter};
 use lsm_sorted::{Merger, up_to_gap};
@@ -41,10 +41,10 @@ fn compaction_of<I: Iterator<Item = IterItem<A>>, A: Allocator + Clone>(
     Ok(stream)
 }
 
-// What readers at 5 need of the sources that a text spells, each up to a `/`.
-fn compacted(alloc: Global, sources: &str) -> Result<String, Error> {
+// Whether readers at 5 need these of the sources that a text spells, each up to a `/`.
+fn compacts(alloc: Global, sources: &str, wanted: &str) -> Result<bool, Error> {
     let merger = Merger::new(alloc, sources_of(alloc, sources)?)?;
-    Ok(given_by(alloc, CompactionStream::new(merger, 5))?)
+    Ok(leaves_so(alloc, merger, 5, wanted)?)
 }
 
 // Whether the compaction of no sources is made.
@@ -65,10 +65,7 @@ const COMPACTED: &[(&str, &str)] = &[
 #[test]
 fn compacts_several_sources_up_to_an_error(rt: HostRuntime) -> Result<(), Fail> {
     for &(sources, wanted) in COMPACTED {
-        assert!(rt;
-            compacted(rt.alloc(), sources)?.as_str() == wanted,
-            "{sources}"
-        );
+        assert!(rt; compacts(rt.alloc(), sources, wanted)?, "{sources}");
     }
     assert!(rt; composes(rt.alloc()));
     Ok(())
