@@ -4,8 +4,8 @@ ghost use Rattle.std.specs.Iterator.{IsFinite};
 ghost use Rattle.sst_entries.specs.Stream.{CanDeal, nowhere};
 
 use crate::merging::passed_of;
-use crate::merging_front::{Forward, forward_of};
-use crate::words::{put_entry, put_result};
+use crate::merging_front::forward_of;
+use crate::words::{is_text, put_entry, put_result};
 use lsm_sorted::MvccStream;
 use lsm_sorted::compaction::stream::{
     CompactionStream, DroppedKvCallback, StreamFilter, StreamFilterVerdict,
@@ -105,6 +105,11 @@ impl StreamFilter<Global> for NewestOfFive {
     }
 }
 
+// Adds the word of a result that is let go of.
+fn put_given<A: Allocator>(text: &mut String, item: IterItem<A>) -> Result<(), AllocError> {
+    put_result(text, &item)
+}
+
 // The words of a stream's results, to its end.
 fn drained<A: Allocator, I: Iterator<Item = IterItem<A>>>(
     alloc: Global,
@@ -115,7 +120,7 @@ fn drained<A: Allocator, I: Iterator<Item = IterItem<A>>>(
 {
     let mut text = String::new(alloc);
     while let Some(item) = stream.next() {
-        put_result(&mut text, &item)?;
+        put_given(&mut text, item)?;
     }
     Ok(text)
 }
@@ -161,19 +166,17 @@ const PLAIN: Settings = Settings {
     zero: false,
 };
 
-// Whether a text is this one, where memory lasted for it.
-fn is_text(text: Result<String, AllocError>, wanted: &str) -> Result<bool, AllocError> {
-    Ok(text?.as_str() == wanted)
-}
-
-// Whether a compaction of a source gives these results and reports these entries.
-fn gives_and_reports(
+// Whether a compaction of this source, whatever it is, gives these results and reports these entries.
+fn gives_and_reports<I: Iterator<Item = IterItem> + Drop>(
     alloc: Global,
     settings: &Settings,
-    items: Forward,
+    items: I,
     results: &str,
     reports: &str,
-) -> Result<bool, AllocError> {
+) -> Result<bool, AllocError>
+    requires can { CanDeal I.next_gives nowhere I.can_next I.can_next items }
+    requires finite { IsFinite (I.remaining items) }
+{
     let mut stream = CompactionStream::new(items, settings.threshold)
         .evict_tombstones(settings.evict)
         .zero_seqnos(settings.zero)

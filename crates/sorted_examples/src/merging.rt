@@ -3,7 +3,7 @@ ghost use Rattle.std.specs.Prelude.{All, IfOk};
 ghost use Rattle.std.specs.Iterator.{IsFinite};
 ghost use Rattle.sst_entries.specs.Stream.{CanDeal};
 
-use crate::words::{answers_so, results_of};
+use crate::words::{answers_so, push_made, results_of};
 use lsm_sorted::{Merger, from_both_ends};
 use refusing::{Refusing, each_refused};
 use sst_entries::{Error, IterItem};
@@ -54,7 +54,7 @@ pub fn passed_of<A: Allocator + Copy>(alloc: A, text: &str) -> Result<Passed<A>,
 pub fn sources_of<A: Allocator + Copy>(alloc: A, text: &str) -> Result<Vec<Passed<A>, A>, Error> {
     let mut sources = Vec::new(alloc);
     for part in text.split_terminator('/') {
-        sources.push(passed_of(alloc, part)?)?;
+        push_made(&mut sources, passed_of(alloc, part))?;
     }
     Ok(sources)
 }

@@ -1,10 +1,10 @@
 //! Merging from the front alone: sources without a back, and errors in the middle and at the far end of one of three sources.
 ghost use Rattle.sst_entries.specs.Stream.{CanDeal, nowhere};
 
-use crate::words::{results_of, text_of};
+use crate::words::{is_text, push_made, results_of, text_of};
 use lsm_sorted::Merger;
 use sst_entries::{Error, IterItem};
-use std::alloc::{Allocator, Global};
+use std::alloc::{AllocError, Allocator, Global};
 use std::test::Fail;
 use std::vec::IntoIter;
 
@@ -38,7 +38,7 @@ pub fn forward_of(alloc: Global, text: &str) -> Result<Forward, Error> {
 pub fn sources_of(alloc: Global, text: &str) -> Result<Vec<Forward>, Error> {
     let mut sources = Vec::new(alloc);
     for part in text.split_terminator('/') {
-        sources.push(forward_of(alloc, part)?)?;
+        push_made(&mut sources, forward_of(alloc, part))?;
     }
     Ok(sources)
 }
@@ -48,7 +48,7 @@ fn first_answers<A: Allocator, I: Iterator<Item = IterItem<A>>>(
     alloc: Global,
     stream: &mut I,
     count: usize,
-) -> Result<Vec<Option<IterItem<A>>>, Error>
+) -> Result<Vec<Option<IterItem<A>>>, AllocError>
     requires { CanDeal I.next_gives nowhere I.can_next I.can_next stream.old }
 {
     let mut answers = Vec::new(alloc);
@@ -59,6 +59,18 @@ fn first_answers<A: Allocator, I: Iterator<Item = IterItem<A>>>(
     Ok(answers)
 }
 
+// The words of the first answers of a stream, as many as these.
+fn first_words<A: Allocator, I: Iterator<Item = IterItem<A>>>(
+    alloc: Global,
+    stream: &mut I,
+    count: usize,
+) -> Result<String, AllocError>
+    requires { CanDeal I.next_gives nowhere I.can_next I.can_next stream.old }
+{
+    let answers = first_answers(alloc, stream, count)?;
+    text_of(alloc, &answers)
+}
+
 // Whether a stream answers so first.
 pub fn begins_so<A: Allocator, I: Iterator<Item = IterItem<A>> + Drop>(
     alloc: Global,
@@ -67,8 +79,8 @@ pub fn begins_so<A: Allocator, I: Iterator<Item = IterItem<A>> + Drop>(
 ) -> Result<bool, Error>
     requires { CanDeal I.next_gives nowhere I.can_next I.can_next stream }
 {
-    let answers = first_answers(alloc, &mut stream, wanted.split_whitespace().count())?;
-    Ok(text_of(alloc, &answers)?.as_str() == wanted)
+    let count = wanted.split_whitespace().count();
+    Ok(is_text(first_words(alloc, &mut stream, count), wanted)?)
 }
 
 // Whether a merger of the sources gives these answers first.

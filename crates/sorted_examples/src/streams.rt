@@ -47,9 +47,14 @@ fn compacts(alloc: Global, sources: &str, wanted: &str) -> Result<bool, Error> {
     Ok(leaves_so(alloc, merger, 5, wanted)?)
 }
 
+// Whether a value is made, of which nothing more is asked.
+pub fn is_made<T: Drop>(made: Result<T, Error>) -> bool {
+    made.is_ok()
+}
+
 // Whether the compaction of no sources is made.
 fn composes(alloc: Global) -> bool {
-    compaction_of(alloc, Vec::<Forward>::new(alloc), 5).is_ok()
+    is_made(compaction_of(alloc, Vec::<Forward>::new(alloc), 5))
 }
 
 // Sources without a back, and what is left of them.

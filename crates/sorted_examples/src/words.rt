@@ -62,26 +62,57 @@ fn result_of<A: Allocator + Copy>(alloc: A, word: &str) -> Result<IterItem<A>, E
     }
 }
 
+/// Adds a value to a list, where it was made.
+pub fn push_made<T: Drop, A: Allocator>(
+    list: &mut Vec<T, A>,
+    made: Result<T, Error>,
+) -> Result<(), Error> {
+    Ok(list.push(made?)?)
+}
+
 /// The results that the words of a text stand for.
 pub fn results_of<A: Allocator + Copy>(alloc: A, text: &str) -> Result<Vec<IterItem<A>, A>, Error> {
     let mut results = Vec::new(alloc);
     for word in text.split_whitespace() {
-        results.push(result_of(alloc, word)?)?;
+        push_made(&mut results, result_of(alloc, word))?;
     }
     Ok(results)
 }
 
+// The end that a letter stands for.
+fn end_of(letter: u8) -> Direction {
+    if letter == b'B' {
+        Direction::Back
+    } else {
+        Direction::Front
+    }
+}
+
 // The ends that `F` and `B` stand for.
-fn ends_of<A: Allocator>(alloc: A, text: &str) -> Result<Vec<Direction, A>, Error> {
+fn ends_of<A: Allocator>(alloc: A, text: &str) -> Result<Vec<Direction, A>, AllocError> {
     let mut ends = Vec::new(alloc);
-    for byte in text.bytes() {
-        ends.push(if byte == b'B' {
-            Direction::Back
-        } else {
-            Direction::Front
-        })?;
+    for letter in text.bytes() {
+        ends.push(end_of(letter))?;
     }
     Ok(ends)
+}
+
+// Parts a word from those before it.
+fn put_space<B: Allocator>(text: &mut String<B>) -> Result<(), AllocError> {
+    if text.is_empty() {
+        return Ok(());
+    }
+    text.push(' ')
+}
+
+// The letter of a kind.
+fn letter_of(kind: ValueType) -> char {
+    match kind {
+        ValueType::Value => 'V',
+        ValueType::Tombstone => 'T',
+        ValueType::WeakTombstone => 'W',
+        ValueType::Indirection => 'I',
+    }
 }
 
 /// Adds an entry's word to those of a text.
@@ -91,14 +122,9 @@ pub fn put_entry<A: Allocator, B: Allocator>(
 ) -> Result<(), AllocError> {
     let key = byte_of(&entry.key.user_key);
     let value = byte_of(&entry.value);
-    let kind = match entry.key.value_type {
-        ValueType::Value => 'V',
-        ValueType::Tombstone => 'T',
-        ValueType::WeakTombstone => 'W',
-        ValueType::Indirection => 'I',
-    };
-    let space = if text.is_empty() { "" } else { " " };
-    write!(text, "{space}{}{kind}{}", char::from(key), entry.key.seqno)?;
+    let kind = letter_of(entry.key.value_type);
+    put_space(text)?;
+    write!(text, "{}{kind}{}", char::from(key), entry.key.seqno)?;
     if value != 0 && (kind != 'V' || value != key) {
         text.push(char::from(value))?;
     }
@@ -107,12 +133,12 @@ pub fn put_entry<A: Allocator, B: Allocator>(
 
 // Adds an error's word.
 fn put_error<B: Allocator>(text: &mut String<B>, error: &Error) -> Result<(), AllocError> {
-    let space = if text.is_empty() { "" } else { " " };
     let (sign, number) = match error {
         Error::Source(code) => ('!', *code),
         error => ('?', u64::from(error.number())),
     };
-    write!(text, "{space}{sign}{number}")
+    put_space(text)?;
+    write!(text, "{sign}{number}")
 }
 
 /// Adds a result's word.
@@ -133,7 +159,10 @@ fn put_answer<A: Allocator, B: Allocator>(
 ) -> Result<(), AllocError> {
     match answer {
         Some(item) => put_result(text, item),
-        None => text.push_str(if text.is_empty() { "-" } else { " -" }),
+        None => {
+            put_space(text)?;
+            text.push('-')
+        }
     }
 }
 
@@ -149,17 +178,24 @@ pub fn text_of<A: Allocator, B: Allocator>(
     Ok(text)
 }
 
-// The words of a stream's answers at the ends that `F` and `B` stand for.
+// The words of a stream's answers at some ends.
 fn text_at<A: Allocator, B: Allocator + Copy, I: DoubleEndedIterator<Item = IterItem<A>>>(
     alloc: B,
     stream: &mut I,
-    ends: &str,
-) -> Result<String<B>, Error>
+    ends: &[Direction],
+) -> Result<String<B>, AllocError>
     requires { CanDeal I.next_gives I.next_back_gives I.can_next I.can_next_back stream.old }
 {
-    let ends = ends_of(alloc, ends)?;
-    let answers = answers_at(alloc, stream, &ends)?;
-    Ok(text_of(alloc, &answers)?)
+    let answers = answers_at(alloc, stream, ends)?;
+    text_of(alloc, &answers)
+}
+
+/// Whether a text is this one, where memory lasted for it.
+pub fn is_text<B: Allocator>(
+    text: Result<String<B>, AllocError>,
+    wanted: &str,
+) -> Result<bool, AllocError> {
+    Ok(text?.as_str() == wanted)
 }
 
 /// Whether a stream answers so at the ends that `F` and `B` stand for.
@@ -170,5 +206,6 @@ pub fn answers_so<
 >(alloc: B, mut stream: I, ends: &str, wanted: &str) -> Result<bool, Error>
     requires { CanDeal I.next_gives I.next_back_gives I.can_next I.can_next_back stream }
 {
-    Ok(text_at(alloc, &mut stream, ends)?.as_str() == wanted)
+    let ends = ends_of(alloc, ends)?;
+    Ok(is_text(text_at(alloc, &mut stream, &ends), wanted)?)
 }
