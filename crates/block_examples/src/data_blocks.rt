@@ -1,6 +1,8 @@
 //! Data blocks: what is written of entries, and what reads and seeks find.
 
-use crate::payloads::{behind_seven, data_block, put_numbers};
+use crate::payloads::{
+    behind_seven, beside, data_block, in_grammar, is_given, push_made, put_numbers,
+};
 use refusing::{Refusing, each_refused};
 use sst_blocks::Direction::{Back, Front};
 use sst_blocks::{
@@ -17,8 +19,7 @@ fn entry<A: Allocator + Copy>(
     kind: ValueType,
     value: &[u8],
 ) -> Result<InternalValue<A>, Error> {
-    let key = Slice::from(alloc, key)?;
-    let value = Slice::from(alloc, value)?;
+    let (key, value) = beside(Slice::from(alloc, key)?, Slice::from(alloc, value))?;
     Ok(InternalValue::from_components(key, value, seqno, kind))
 }
 
@@ -58,7 +59,7 @@ const FIVE: &[(&[u8], SeqNo, ValueType, &[u8])] = &[
 fn five_entries<A: Allocator + Copy>(alloc: A) -> Result<Vec<InternalValue<A>, A>, Error> {
     let mut items = Vec::with_capacity(alloc, 5)?;
     for &(key, seqno, kind, value) in FIVE {
-        items.push(entry(alloc, key, seqno, kind, value)?)?;
+        push_made(&mut items, entry(alloc, key, seqno, kind, value))?;
     }
     Ok(items)
 }
@@ -69,6 +70,11 @@ fn block_of_five<A: Allocator + Copy>(alloc: A) -> Result<DataBlock<A>, Error> {
     written_and_loaded(alloc, &items)
 }
 
+// Whether what is found is what is expected.
+fn is<T: PartialEq + Drop>(found: Option<T>, expected: Option<&T>) -> bool {
+    found.as_ref() == expected
+}
+
 // Whether a point read finds this entry.
 fn finds<A: Allocator>(
     block: &DataBlock<A>,
@@ -76,8 +82,7 @@ fn finds<A: Allocator>(
     seqno: SeqNo,
     expected: Option<&InternalValue<A>>,
 ) -> Result<bool, Error> {
-    let found = block.point_read(key, seqno)?;
-    Ok(found.as_ref() == expected)
+    Ok(is(block.point_read(key, seqno)?, expected))
 }
 
 // The number of the entry that a point read finds, or 99 where it finds none.
@@ -86,10 +91,11 @@ fn number_found<A: Allocator>(
     key: &[u8],
     seqno: SeqNo,
 ) -> Result<SeqNo, Error> {
-    match block.point_read(key, seqno)? {
-        Some(item) => Ok(item.key.seqno),
-        None => Ok(99),
-    }
+    let found = block.point_read(key, seqno)?;
+    Ok(match &found {
+        Some(item) => item.key.seqno,
+        None => 99,
+    })
 }
 
 // a@1, a value of `x`.
@@ -214,9 +220,14 @@ fn has_key_at(block: &DataBlock, place: usize, key: &[u8], seqno: SeqNo) -> bool
     place < block.len() && block.key_at(place) == (key, seqno)
 }
 
+// Whether a block has the second key of the five and the fifth in their places.
+fn has_their_keys(block: &DataBlock) -> bool {
+    has_key_at(block, 1, b"a", 7) && has_key_at(block, 4, b"e", 3)
+}
+
 fn has_five_keys(alloc: Global) -> Result<bool, Error> {
     let block = block_of_five(alloc)?;
-    Ok(has_key_at(&block, 1, b"a", 7) && has_key_at(&block, 4, b"e", 3))
+    Ok(has_their_keys(&block))
 }
 
 #[test]
@@ -311,10 +322,7 @@ const SEEKS: &[(&str, &[u8], SeqNo, SeqNo)] = &[
 #[test]
 fn seeks_narrow_to_the_entries_on_one_side_of_a_key(rt: HostRuntime) -> Result<(), Fail> {
     for &(to, key, first, last) in SEEKS {
-        assert!(rt;
-            leaves(rt.alloc(), to, key, first, last)?,
-            "{to}: {first} to {last}"
-        );
+        assert!(rt; leaves(rt.alloc(), to, key, first, last)?, "{to}: {first}");
     }
     Ok(())
 }
@@ -393,14 +401,17 @@ fn spelled<A: Allocator + Copy>(
     Ok(bytes)
 }
 
-// Whether a payload of a count and of entries is in the grammar.
+// How many entries a payload has.
+fn entries_read<A: Allocator + Copy>(alloc: A, bytes: &[u8]) -> Result<usize, Error> {
+    let block = data_block(alloc, TableVersion::V4, bytes)?;
+    Ok(block.len())
+}
+
+// Whether a payload of a count and of entries is in the grammar, and has as many.
 fn is_read<A: Allocator + Copy>(alloc: A, count: u32, entries: &[[u32; 5]]) -> Result<bool, Error> {
     let bytes = spelled(alloc, count, entries)?;
-    match data_block(alloc, TableVersion::V4, bytes.as_slice()) {
-        Ok(block) => Ok(block.len() == entries.len()),
-        Err(Error::InvalidBlock) => Ok(false),
-        Err(error) => Err(error),
-    }
+    let len = in_grammar(entries_read(alloc, bytes.as_slice()))?;
+    Ok(len == Some(entries.len()))
 }
 
 // A count, entries, and whether they are a payload.
@@ -483,8 +494,8 @@ fn entry_sharing<A: Allocator + Copy>(
     number: u16,
     value: &Slice<A>,
 ) -> Result<InternalValue<A>, Error> {
-    let key = Slice::from(alloc, &number.to_be_bytes())?;
-    Ok(InternalValue::from_components(key, value.clone()?, 1, ValueType::Value))
+    let (key, value) = beside(Slice::from(alloc, &number.to_be_bytes())?, value.clone())?;
+    Ok(InternalValue::from_components(key, value, 1, ValueType::Value))
 }
 
 // Entries of 4,096 keys, which share this value's memory.
@@ -494,7 +505,7 @@ fn entries_sharing<A: Allocator + Copy>(
 ) -> Result<Vec<InternalValue<A>, A>, Error> {
     let mut items = Vec::new(alloc);
     for number in 0..4096 {
-        items.push(entry_sharing(alloc, number, value)?)?;
+        push_made(&mut items, entry_sharing(alloc, number, value))?;
     }
     Ok(items)
 }
@@ -505,45 +516,46 @@ fn many_entries<A: Allocator + Copy>(alloc: A) -> Result<Vec<InternalValue<A>, A
     entries_sharing(alloc, &value)
 }
 
-// How encoding some entries behind the byte 7 is refused, where that leaves the byte alone.
-fn refusal<A: Allocator + Copy>(
+// Whether encoding some entries behind the byte 7 is refused so, where that leaves the byte alone.
+fn is_refused_so<A: Allocator + Copy>(
     alloc: A,
     items: &[InternalValue<A>],
-) -> Result<Option<Error>, Error> {
+    expected: Error,
+) -> Result<bool, Error> {
     let mut buf = Vec::new(alloc);
     buf.push(7)?;
     if !are_strict(items) {
-        return Ok(None);
+        return Ok(false);
     }
     let refused = DataBlock::encode_into(&mut buf, items, 16, 0).err();
-    Ok(behind_seven(&buf, refused))
+    Ok(behind_seven(&buf, refused) == Some(expected))
 }
 
-// The bound on the block of as many entries, and how they are refused.
-fn bound_and_refusal(alloc: Global) -> Result<(u64, Option<Error>), Error> {
+// The bound on the block of as many entries, and whether they are refused for it.
+fn bound_and_refusal(alloc: Global) -> Result<(u64, bool), Error> {
     let items = many_entries(alloc)?;
-    let refused = refusal(alloc, &items)?;
-    Ok((data_block_bound(&items), refused))
+    let is_refused = is_refused_so(alloc, &items, Error::BlockTooLarge)?;
+    Ok((data_block_bound(&items), is_refused))
 }
 
 #[test]
 fn a_block_of_four_gibibytes_is_refused(rt: HostRuntime) -> Result<(), Fail> {
-    let (bound, refused) = bound_and_refusal(rt.alloc())?;
+    let (bound, is_refused) = bound_and_refusal(rt.alloc())?;
     assert_eq!(rt; bound, 28 + 4096 * (17 + 2 + 1048576));
-    assert_eq!(rt; refused, Some(Error::BlockTooLarge));
+    assert!(rt; is_refused);
     Ok(())
 }
 
-// The refusal of as many entries, and one behind them whose key is too long.
-fn refusal_of_a_long_key(alloc: Global) -> Result<Option<Error>, Error> {
+// Whether as many entries, and one behind them whose key is too long, are refused for the key.
+fn is_refused_for_a_key(alloc: Global) -> Result<bool, Error> {
     let mut items = many_entries(alloc)?;
-    items.push(entry_of_key_len(alloc, 0xff, 1048577)?)?;
-    refusal(alloc, &items)
+    push_made(&mut items, entry_of_key_len(alloc, 0xff, 1048577))?;
+    is_refused_so(alloc, &items, Error::KeyTooLong)
 }
 
 #[test]
 fn a_key_that_is_too_long_is_told_before_the_block(rt: HostRuntime) -> Result<(), Fail> {
-    assert_eq!(rt; refusal_of_a_long_key(rt.alloc())?, Some(Error::KeyTooLong));
+    assert!(rt; is_refused_for_a_key(rt.alloc())?);
     Ok(())
 }
 
@@ -570,11 +582,14 @@ fn each_request_refused_is_answered_so(rt: HostRuntime) -> Result<(), Fail> {
     Ok(())
 }
 
+// A clone of a block, which outlives it.
+fn left_by_its_block<A: Allocator>(block: DataBlock<A>) -> Result<DataBlock<A>, AllocError> {
+    block.clone()
+}
+
 // These numbers of a clone of the block of five, which outlives it.
 fn read_a_clone<A: Allocator + Copy>(alloc: A) -> Result<(SeqNo, SeqNo, SeqNo), Error> {
-    let block = block_of_five(alloc)?;
-    let copy = block.clone()?;
-    drop(block);
+    let copy = left_by_its_block(block_of_five(alloc)?)?;
     read(&copy)
 }
 
@@ -584,29 +599,21 @@ fn a_clone_reads_as_its_block(rt: HostRuntime) -> Result<(), Fail> {
     Ok(())
 }
 
-// Whether an answer is an entry or a refusal, where there is one.
-fn is_entry<A: Allocator>(answer: Option<IterItem<A>>) -> Option<bool> {
-    match answer {
-        Some(item) => Some(item.is_ok()),
-        None => None,
-    }
-}
-
 // Whether neither end has an answer.
 fn is_over<A: Allocator>(iter: &mut DataBlockIter<'_, A>) -> bool {
-    is_entry(iter.next()).is_none() && is_entry(iter.next_back()).is_none()
+    is_given(iter.next()).is_none() && is_given(iter.next_back()).is_none()
 }
 
 // Whether so many entries at most, taken from the back, end for good at the first that is refused.
 fn ends_at_first<A: Allocator>(iter: &mut DataBlockIter<'_, A>, len: usize) -> bool {
     for _ in 0..len {
-        match is_entry(iter.next_back()) {
+        match is_given(iter.next_back()) {
             Some(true) => {}
             Some(false) => return is_over(iter),
             None => return false,
         }
     }
-    is_entry(iter.next_back()).is_none()
+    is_given(iter.next_back()).is_none()
 }
 
 // Whether a block's entries, taken from the back, end for good at the first that is refused.
@@ -628,16 +635,16 @@ fn nothing_comes_after_a_refused_entry(rt: HostRuntime) {
     assert!(rt; answers.is_ok());
 }
 
-// The refusal of one entry in an allocator that refuses its sixth request, and how many it was asked.
-fn refusal_of_the_sixth(heap: &Refusing) -> Result<(Option<Error>, usize), Error> {
-    let items = [entry(heap, b"a", 1, ValueType::Value, b"x")?];
-    let refused = refusal(heap, &items)?;
-    Ok((refused, heap.requests()))
+// Whether one entry in an allocator is refused for memory.
+fn is_refused_memory<A: Allocator + Copy>(alloc: A) -> Result<bool, Error> {
+    let items = [entry(alloc, b"a", 1, ValueType::Value, b"x")?];
+    is_refused_so(alloc, &items, Error::OutOfMemory)
 }
 
 #[test]
 fn a_refused_growth_leaves_the_buffer_as_it_was(rt: HostRuntime) -> Result<(), Fail> {
     let heap = Refusing::new(rt.alloc(), 6);
-    assert_eq!(rt; refusal_of_the_sixth(&heap)?, (Some(Error::OutOfMemory), 6));
+    assert!(rt; is_refused_memory(&heap)?);
+    assert_eq!(rt; heap.requests(), 6);
     Ok(())
 }

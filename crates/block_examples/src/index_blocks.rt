@@ -1,6 +1,6 @@
 //! Index blocks: what is written of handles, and what reads and seeks find.
 
-use crate::payloads::{behind_seven, index_block, put_numbers};
+use crate::payloads::{behind_seven, in_grammar, index_block, is_given, push_made, put_numbers};
 use refusing::{Refusing, each_refused};
 use sst_blocks::{
     BlockHandle, BlockOffset, Error, IndexBlock, IndexBlockIter, KeyedBlockHandle, SeqNo, Slice,
@@ -27,7 +27,7 @@ const FOUR: &[(&[u8], SeqNo, u64)] = &[(b"b", 5, 0), (b"b", 3, 10), (b"d", 9, 20
 fn four_handles<A: Allocator + Copy>(alloc: A) -> Result<Vec<KeyedBlockHandle<A>, A>, Error> {
     let mut handles = Vec::new(alloc);
     for &(end_key, seqno, offset) in FOUR {
-        handles.push(handle(alloc, end_key, seqno, offset, 10)?)?;
+        push_made(&mut handles, handle(alloc, end_key, seqno, offset, 10))?;
     }
     Ok(handles)
 }
@@ -149,6 +149,12 @@ fn last_after_seek<A: Allocator>(block: &IndexBlock<A>, key: &[u8]) -> Result<(b
     Ok((left, position(iter.next_back())?))
 }
 
+// The positions of the next two handles from the front.
+fn next_two<A: Allocator>(iter: &mut IndexBlockIter<'_, A>) -> Result<(u64, u64), Error> {
+    let first = position(iter.next())?;
+    Ok((first, position(iter.next())?))
+}
+
 // The positions from the back, from the front twice and from the back again, after both seeks.
 fn after_both_seeks<A: Allocator>(
     block: &IndexBlock<A>,
@@ -160,8 +166,7 @@ fn after_both_seeks<A: Allocator>(
     iter.seek(key, seqno);
     iter.seek_upper(upper, 0);
     let last = position(iter.next_back())?;
-    let first = position(iter.next())?;
-    let second = position(iter.next())?;
+    let (first, second) = next_two(&mut iter)?;
     Ok((last, first, second, position(iter.next_back())?))
 }
 
@@ -255,6 +260,12 @@ fn spelled<A: Allocator + Copy>(
     Ok(bytes)
 }
 
+// How many handles a payload has.
+fn handles_read<A: Allocator + Copy>(alloc: A, bytes: &[u8]) -> Result<usize, Error> {
+    let block = index_block(alloc, TableVersion::V4, bytes)?;
+    Ok(block.len())
+}
+
 // How many handles a payload of a count and of handles has, where it is in the grammar.
 fn handles_claimed<A: Allocator + Copy>(
     alloc: A,
@@ -262,11 +273,7 @@ fn handles_claimed<A: Allocator + Copy>(
     claims: &[[u8; 3]],
 ) -> Result<Option<usize>, Error> {
     let bytes = spelled(alloc, count, claims)?;
-    match index_block(alloc, TableVersion::V4, bytes.as_slice()) {
-        Ok(block) => Ok(Some(block.len())),
-        Err(Error::InvalidBlock) => Ok(None),
-        Err(error) => Err(error),
-    }
+    in_grammar(handles_read(alloc, bytes.as_slice()))
 }
 
 // A count, handles, and how many the payload has, where it is in the grammar.
@@ -318,33 +325,31 @@ fn payloads_cut_short_or_of_the_other_version_are_refused(rt: HostRuntime) {
     }
 }
 
-// The refusal of encoding some handles behind the byte 7, where that leaves the byte alone.
-fn refusal<A: Allocator + Copy>(
+// Whether encoding some handles behind the byte 7 is refused so, or not at all, where that leaves the byte alone.
+fn is_refused_so<A: Allocator + Copy>(
     alloc: A,
     handles: &[KeyedBlockHandle<A>],
-) -> Result<Option<Error>, Error> {
+    expected: Option<Error>,
+) -> Result<bool, Error> {
     let mut buf = Vec::new(alloc);
     buf.push(7)?;
     if !are_strict_handles(handles) {
-        return Ok(None);
+        return Ok(expected.is_none());
     }
     let refused = IndexBlock::encode_into(&mut buf, handles).err();
-    Ok(behind_seven(&buf, refused))
+    Ok(behind_seven(&buf, refused) == expected)
 }
 
-// The refusal of one handle whose end key has this length.
-fn refusal_of_a_key(alloc: Global, len: usize) -> Result<Option<Error>, Error> {
+// Whether one handle whose end key has this length is refused so, or not at all.
+fn is_key_refused_so(alloc: Global, len: usize, expected: Option<Error>) -> Result<bool, Error> {
     let end_key = vec![in alloc; 0u8; len]?;
-    refusal(alloc, &[handle(alloc, &end_key, 1, 0, 24)?])
+    is_refused_so(alloc, &[handle(alloc, &end_key, 1, 0, 24)?], expected)
 }
 
 #[test]
 fn keys_of_a_mebibyte_are_taken_and_longer_ones_refused(rt: HostRuntime) -> Result<(), Fail> {
-    assert_eq!(rt; refusal_of_a_key(rt.alloc(), 1048576)?, None);
-    assert_eq!(rt;
-        refusal_of_a_key(rt.alloc(), 1048577)?,
-        Some(Error::KeyTooLong)
-    );
+    assert!(rt; is_key_refused_so(rt.alloc(), 1048576, None)?);
+    assert!(rt; is_key_refused_so(rt.alloc(), 1048577, Some(Error::KeyTooLong))?);
     Ok(())
 }
 
@@ -372,7 +377,7 @@ fn handle_within(bytes: &Slice, start: usize) -> Result<KeyedBlockHandle, Error>
 fn handles_within(alloc: Global, bytes: &Slice) -> Result<Vec<KeyedBlockHandle>, Error> {
     let mut handles = Vec::new(alloc);
     for i in 0..4096usize {
-        handles.push(handle_within(bytes, 2 * i)?)?;
+        push_made(&mut handles, handle_within(bytes, 2 * i))?;
     }
     Ok(handles)
 }
@@ -383,18 +388,18 @@ fn many_handles(alloc: Global) -> Result<Vec<KeyedBlockHandle>, Error> {
     handles_within(alloc, &shared)
 }
 
-// The bound on the block of as many handles, and how they are refused.
-fn bound_and_refusal(alloc: Global) -> Result<(u64, Option<Error>), Error> {
+// The bound on the block of as many handles, and whether they are refused for it.
+fn bound_and_refusal(alloc: Global) -> Result<(u64, bool), Error> {
     let handles = many_handles(alloc)?;
-    let refused = refusal(alloc, &handles)?;
-    Ok((index_block_bound(&handles), refused))
+    let is_refused = is_refused_so(alloc, &handles, Some(Error::BlockTooLarge))?;
+    Ok((index_block_bound(&handles), is_refused))
 }
 
 #[test]
 fn a_block_of_four_gibibytes_is_refused(rt: HostRuntime) -> Result<(), Fail> {
-    let (bound, refused) = bound_and_refusal(rt.alloc())?;
+    let (bound, is_refused) = bound_and_refusal(rt.alloc())?;
     assert_eq!(rt; bound, 28 + 4096 * (24 + 1048576));
-    assert_eq!(rt; refused, Some(Error::BlockTooLarge));
+    assert!(rt; is_refused);
     Ok(())
 }
 
@@ -454,29 +459,21 @@ fn a_clone_reads_as_its_block_and_takes_no_memory(rt: HostRuntime) -> Result<(),
     Ok(())
 }
 
-// Whether an answer is a handle or a refusal, where there is one.
-fn is_handle<A: Allocator>(answer: Option<Result<KeyedBlockHandle<A>, Error>>) -> Option<bool> {
-    match answer {
-        Some(handle) => Some(handle.is_ok()),
-        None => None,
-    }
-}
-
 // Whether neither end has an answer.
 fn is_over<A: Allocator>(iter: &mut IndexBlockIter<'_, A>) -> bool {
-    is_handle(iter.next_back()).is_none() && is_handle(iter.next()).is_none()
+    is_given(iter.next_back()).is_none() && is_given(iter.next()).is_none()
 }
 
 // Whether so many handles at most, taken from the front, end for good at the first that is refused.
 fn ends_at_first<A: Allocator>(iter: &mut IndexBlockIter<'_, A>, len: usize) -> bool {
     for _ in 0..len {
-        match is_handle(iter.next()) {
+        match is_given(iter.next()) {
             Some(true) => {}
             Some(false) => return is_over(iter),
             None => return false,
         }
     }
-    is_handle(iter.next()).is_none()
+    is_given(iter.next()).is_none()
 }
 
 // Whether a block's handles, taken from the front, end for good at the first that is refused.
@@ -498,16 +495,16 @@ fn nothing_comes_after_a_refused_handle(rt: HostRuntime) {
     assert!(rt; answers.is_ok());
 }
 
-// The refusal of one handle in an allocator, and how many requests it was asked.
-fn refusal_and_requests(heap: &Refusing) -> Result<(Option<Error>, usize), Error> {
-    let handles = [handle(heap, b"a", 1, 0, 47)?];
-    let refused = refusal(heap, &handles)?;
-    Ok((refused, heap.requests()))
+// Whether one handle in an allocator is refused for memory.
+fn is_refused_memory<A: Allocator + Copy>(alloc: A) -> Result<bool, Error> {
+    let handles = [handle(alloc, b"a", 1, 0, 47)?];
+    is_refused_so(alloc, &handles, Some(Error::OutOfMemory))
 }
 
 #[test]
 fn a_refused_growth_leaves_the_buffer_as_it_was(rt: HostRuntime) -> Result<(), Fail> {
     let heap = Refusing::new(rt.alloc(), 4);
-    assert_eq!(rt; refusal_and_requests(&heap)?, (Some(Error::OutOfMemory), 4));
+    assert!(rt; is_refused_memory(&heap)?);
+    assert_eq!(rt; heap.requests(), 4);
     Ok(())
 }

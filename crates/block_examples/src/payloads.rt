@@ -16,6 +16,36 @@ pub(crate) fn put_numbers<A: Allocator>(
     Ok(())
 }
 
+/// A value beside another one, or the refusal of the other.
+pub(crate) fn beside<T: Drop, U, E>(first: T, second: Result<U, E>) -> Result<(T, U), E> {
+    Ok((first, second?))
+}
+
+/// Adds a value to a list, where it was made.
+pub(crate) fn push_made<T: Drop, A: Allocator>(
+    list: &mut Vec<T, A>,
+    made: Result<T, Error>,
+) -> Result<(), Error> {
+    Ok(list.push(made?)?)
+}
+
+/// Whether an answer is given or refused, where there is one.
+pub(crate) fn is_given<T: Drop>(answer: Option<Result<T, Error>>) -> Option<bool> {
+    match answer {
+        Some(given) => Some(given.is_ok()),
+        None => None,
+    }
+}
+
+/// A length, where a payload is in the grammar.
+pub(crate) fn in_grammar(len: Result<usize, Error>) -> Result<Option<usize>, Error> {
+    match len {
+        Ok(len) => Ok(Some(len)),
+        Err(Error::InvalidBlock) => Ok(None),
+        Err(error) => Err(error),
+    }
+}
+
 /// How the encoding behind the byte 7 was refused, where that left the byte alone.
 pub(crate) fn behind_seven(bytes: &[u8], refused: Option<Error>) -> Option<Error> {
     if bytes == [7].as_slice() {
@@ -23,6 +53,17 @@ pub(crate) fn behind_seven(bytes: &[u8], refused: Option<Error>) -> Option<Error
     } else {
         None
     }
+}
+
+// Appends some parts in turn.
+fn append_all<A: Allocator + Copy>(
+    writer: &mut SectionWriter<A>,
+    parts: &[&[u8]],
+) -> Result<(), Error> {
+    for part in parts {
+        writer.append(part)?;
+    }
+    Ok(())
 }
 
 // Writes a block of either version: its mark, its kind, its length twice, its payload's hash and the payload.
@@ -35,18 +76,18 @@ fn write<A: Allocator + Copy>(
     let Ok(len) = u32::try_from(payload.len()) else {
         return Err(Error::BlockTooLarge);
     };
-    let parts: [&[u8]; 6] = [
-        &version.mark(),
-        &[kind.tag(), 0, 0, 0],
-        &len.to_le_bytes(),
-        &len.to_le_bytes(),
-        &hash(payload).to_le_bytes(),
-        payload,
-    ];
-    for part in parts {
-        writer.append(part)?;
-    }
-    Ok(())
+    let len = len.to_le_bytes();
+    append_all(
+        writer,
+        &[
+            &version.mark(),
+            &[kind.tag(), 0, 0, 0],
+            &len,
+            &len,
+            &hash(payload).to_le_bytes(),
+            payload,
+        ],
+    )
 }
 
 // The bytes of a table, once this payload is written.
@@ -56,7 +97,8 @@ fn finished<A: Allocator + Copy>(
     kind: BlockType,
     payload: &[u8],
 ) -> Result<Slice<A>, Error> {
-    write(&mut writer, version, kind, payload)?;
+    let written = write(&mut writer, version, kind, payload);
+    let (writer, ()) = beside(writer, written)?;
     let (bytes, _) = writer.finish()?;
     Ok(bytes)
 }
@@ -69,7 +111,8 @@ fn table<A: Allocator + Copy>(
     payload: &[u8],
 ) -> Result<Slice<A>, Error> {
     let mut writer = SectionWriter::new(alloc)?;
-    writer.start(SectionName::Data)?;
+    let started = writer.start(SectionName::Data);
+    let (writer, ()) = beside(writer, started)?;
     finished(writer, version, kind, payload)
 }
 
