@@ -1,7 +1,8 @@
 //! Data blocks: what is written of entries, and what reads and seeks find.
 
 use crate::payloads::{
-    behind_seven, beside, data_block, in_grammar, is_given, push_made, put_numbers,
+    behind_seven, beside, data_block, in_grammar, is_given, is_invalid, once_done, push_made,
+    put_numbers,
 };
 use refusing::{Refusing, each_refused};
 use sst_blocks::Direction::{Back, Front};
@@ -33,8 +34,8 @@ fn written_behind<A: Allocator + Copy>(
         return Err(Error::InvalidBlock);
     }
     let mut written = Vec::from_slice(alloc, front)?;
-    DataBlock::encode_into(&mut written, items, 16, 0)?;
-    Ok(written)
+    let done = DataBlock::encode_into(&mut written, items, 16, 0);
+    once_done(written, done)
 }
 
 // The block of these entries, by way of its bytes.
@@ -43,7 +44,9 @@ fn written_and_loaded<A: Allocator + Copy>(
     items: &[InternalValue<A>],
 ) -> Result<DataBlock<A>, Error> {
     let bytes = written_behind(alloc, b"", items)?;
-    data_block(alloc, TableVersion::V4, bytes.as_slice())
+    let block = data_block(alloc, TableVersion::V4, bytes.as_slice());
+    drop(bytes);
+    block
 }
 
 // a@9, a@7 as a tombstone, a@5, c@0 and e@3.
@@ -55,19 +58,30 @@ const FIVE: &[(&[u8], SeqNo, ValueType, &[u8])] = &[
     (b"e", 3, ValueType::Indirection, b"far"),
 ];
 
+// Adds the five entries.
+fn put_five<A: Allocator + Copy>(
+    alloc: A,
+    items: &mut Vec<InternalValue<A>, A>,
+) -> Result<(), Error> {
+    for &(key, seqno, kind, value) in FIVE {
+        push_made(items, entry(alloc, key, seqno, kind, value))?;
+    }
+    Ok(())
+}
+
 // The five entries.
 fn five_entries<A: Allocator + Copy>(alloc: A) -> Result<Vec<InternalValue<A>, A>, Error> {
     let mut items = Vec::with_capacity(alloc, 5)?;
-    for &(key, seqno, kind, value) in FIVE {
-        push_made(&mut items, entry(alloc, key, seqno, kind, value))?;
-    }
-    Ok(items)
+    let done = put_five(alloc, &mut items);
+    once_done(items, done)
 }
 
 // The block of the five entries, by way of its bytes.
 fn block_of_five<A: Allocator + Copy>(alloc: A) -> Result<DataBlock<A>, Error> {
     let items = five_entries(alloc)?;
-    written_and_loaded(alloc, &items)
+    let block = written_and_loaded(alloc, &items);
+    drop(items);
+    block
 }
 
 // Whether what is found is what is expected.
@@ -92,10 +106,12 @@ fn number_found<A: Allocator>(
     seqno: SeqNo,
 ) -> Result<SeqNo, Error> {
     let found = block.point_read(key, seqno)?;
-    Ok(match &found {
+    let number = match &found {
         Some(item) => item.key.seqno,
         None => 99,
-    })
+    };
+    drop(found);
+    Ok(number)
 }
 
 // a@1, a value of `x`.
@@ -110,7 +126,9 @@ const ONE_IN_V4: [u8; 23] = [
 // Whether a point read finds a@1, with the value `x`.
 fn finds_x(alloc: Global, block: &DataBlock) -> Result<bool, Error> {
     let expected = entry(alloc, b"a", 1, ValueType::Value, b"x")?;
-    finds(block, b"a", 2, Some(&expected))
+    let is_found = finds(block, b"a", 2, Some(&expected));
+    drop(expected);
+    is_found
 }
 
 // Whether a block has a@1 alone, with the value `x`.
@@ -126,7 +144,9 @@ fn has_one_entry(alloc: Global, block: &DataBlock) -> Result<bool, Error> {
 // Whether a payload is such a block.
 fn is_one_entry(alloc: Global, version: TableVersion, bytes: &[u8]) -> Result<bool, Error> {
     let block = data_block(alloc, version, bytes)?;
-    has_one_entry(alloc, &block)
+    let is_right = has_one_entry(alloc, &block);
+    drop(block);
+    is_right
 }
 
 #[test]
@@ -145,22 +165,24 @@ fn is_behind_seven(written: &[u8]) -> bool {
 // The bound on the block of a@1, and whether its payload is written behind the byte 7.
 fn bound_and_payload(alloc: Global) -> Result<(u64, bool), Error> {
     let items = [entry(alloc, b"a", 1, ValueType::Value, b"x")?];
-    let written = written_behind(alloc, &[7], &items)?;
-    Ok((data_block_bound(&items), is_behind_seven(&written)))
+    let bound = data_block_bound(&items);
+    let written = written_behind(alloc, &[7], &items);
+    drop(items);
+    Ok((bound, is_behind_seven(&written?)))
 }
 
 #[test]
 fn entries_are_written_behind_what_was_there(rt: HostRuntime) -> Result<(), Fail> {
-    let (bound, is_behind) = bound_and_payload(rt.alloc())?;
-    assert_eq!(rt; bound, 24 + 23);
-    assert!(rt; is_behind);
+    assert_eq!(rt; bound_and_payload(rt.alloc())?, (24 + 23, true));
     Ok(())
 }
 
 // The number of the entry that a point read finds in the block of five, or 99 where it finds none.
 fn found_in_five(alloc: Global, key: &[u8], seqno: SeqNo) -> Result<SeqNo, Error> {
     let block = block_of_five(alloc)?;
-    number_found(&block, key, seqno)
+    let number = number_found(&block, key, seqno);
+    drop(block);
+    number
 }
 
 // A key, a number, and the number that a point read finds below it.
@@ -202,11 +224,20 @@ fn finds_three(block: &DataBlock, items: &[InternalValue]) -> Result<bool, Error
     )
 }
 
+// Whether the block of such entries gives them back whole.
+fn finds_in_theirs(alloc: Global, items: &[InternalValue]) -> Result<bool, Error> {
+    let block = written_and_loaded(alloc, items)?;
+    let found = finds_three(&block, items);
+    drop(block);
+    found
+}
+
 // Whether the block of five gives such entries back whole.
 fn finds_whole_entries(alloc: Global) -> Result<bool, Error> {
     let items = five_entries(alloc)?;
-    let block = written_and_loaded(alloc, &items)?;
-    finds_three(&block, &items)
+    let found = finds_in_theirs(alloc, &items);
+    drop(items);
+    found
 }
 
 #[test]
@@ -227,7 +258,9 @@ fn has_their_keys(block: &DataBlock) -> bool {
 
 fn has_five_keys(alloc: Global) -> Result<bool, Error> {
     let block = block_of_five(alloc)?;
-    Ok(has_their_keys(&block))
+    let has_them = has_their_keys(&block);
+    drop(block);
+    Ok(has_them)
 }
 
 #[test]
@@ -236,10 +269,18 @@ fn the_key_of_a_place_is_that_of_its_entry(rt: HostRuntime) -> Result<(), Fail> 
     Ok(())
 }
 
+// The number of an entry that is given.
+fn number_of<A: Allocator>(item: IterItem<A>) -> Result<SeqNo, Error> {
+    let item = item?;
+    let number = item.key.seqno;
+    drop(item);
+    Ok(number)
+}
+
 // The number of the next entry, from the front or the back, or 99 where there is none.
 fn number<A: Allocator>(answer: Option<IterItem<A>>) -> Result<SeqNo, Error> {
     match answer {
-        Some(item) => Ok(item?.key.seqno),
+        Some(item) => number_of(item),
         None => Ok(99),
     }
 }
@@ -262,7 +303,9 @@ fn gives_none(block: &DataBlock) -> Result<bool, Error> {
 // Whether a block without entries gives none.
 fn has_none(alloc: Global) -> Result<bool, Error> {
     let block = data_block(alloc, TableVersion::V3, &[0; 4])?;
-    gives_none(&block)
+    let none = gives_none(&block);
+    drop(block);
+    none
 }
 
 #[test]
@@ -290,7 +333,9 @@ fn ends_after(block: &DataBlock, to: &str, key: &[u8]) -> Result<(bool, (SeqNo, 
 // What a seek leaves of the block of five.
 fn left_of_five(alloc: Global, to: &str, key: &[u8]) -> Result<(bool, (SeqNo, SeqNo)), Error> {
     let block = block_of_five(alloc)?;
-    ends_after(&block, to, key)
+    let left = ends_after(&block, to, key);
+    drop(block);
+    left
 }
 
 // Whether a seek in the block of five leaves a first and a last entry of these numbers.
@@ -341,7 +386,9 @@ fn gives(block: &DataBlock, answers: &[(Direction, SeqNo)]) -> Result<bool, Erro
 // Whether the block of five gives these numbers at these ends.
 fn deals(alloc: Global, answers: &[(Direction, SeqNo)]) -> Result<bool, Error> {
     let block = block_of_five(alloc)?;
-    gives(&block, answers)
+    let given = gives(&block, answers);
+    drop(block);
+    given
 }
 
 #[test]
@@ -371,7 +418,9 @@ fn edges_stay_crossed(block: &DataBlock) -> Result<bool, Error> {
 // Whether such edges leave nothing in the block of five.
 fn crossed_edges_stay(alloc: Global) -> Result<bool, Error> {
     let block = block_of_five(alloc)?;
-    edges_stay_crossed(&block)
+    let stay = edges_stay_crossed(&block);
+    drop(block);
+    stay
 }
 
 #[test]
@@ -404,14 +453,17 @@ fn spelled<A: Allocator + Copy>(
 // How many entries a payload has.
 fn entries_read<A: Allocator + Copy>(alloc: A, bytes: &[u8]) -> Result<usize, Error> {
     let block = data_block(alloc, TableVersion::V4, bytes)?;
-    Ok(block.len())
+    let len = block.len();
+    drop(block);
+    Ok(len)
 }
 
 // Whether a payload of a count and of entries is in the grammar, and has as many.
 fn is_read<A: Allocator + Copy>(alloc: A, count: u32, entries: &[[u32; 5]]) -> Result<bool, Error> {
     let bytes = spelled(alloc, count, entries)?;
-    let len = in_grammar(entries_read(alloc, bytes.as_slice()))?;
-    Ok(len == Some(entries.len()))
+    let len = in_grammar(entries_read(alloc, bytes.as_slice()));
+    drop(bytes);
+    Ok(len? == Some(entries.len()))
 }
 
 // A count, entries, and whether they are a payload.
@@ -446,7 +498,7 @@ fn payloads_are_read_where_they_are_in_the_grammar(rt: HostRuntime) -> Result<()
 
 // Whether a payload is no block.
 fn is_refused(alloc: Global, version: TableVersion, bytes: &[u8]) -> bool {
-    matches!(data_block(alloc, version, bytes), Err(Error::InvalidBlock))
+    is_invalid(data_block(alloc, version, bytes))
 }
 
 #[test]
@@ -477,7 +529,9 @@ fn entry_of_key_len<A: Allocator + Copy>(
 // How many bytes are written of one entry, of a key of so many.
 fn written_len<A: Allocator + Copy>(alloc: A, key_len: usize) -> Result<usize, Error> {
     let items = [entry_of_key_len(alloc, 0, key_len)?];
-    Ok(written_behind(alloc, b"", &items)?.len())
+    let written = written_behind(alloc, b"", &items);
+    drop(items);
+    Ok(written?.len())
 }
 
 #[test]
@@ -498,22 +552,34 @@ fn entry_sharing<A: Allocator + Copy>(
     Ok(InternalValue::from_components(key, value, 1, ValueType::Value))
 }
 
+// Adds entries of 4,096 keys, which share this value's memory.
+fn put_entries_sharing<A: Allocator + Copy>(
+    alloc: A,
+    items: &mut Vec<InternalValue<A>, A>,
+    value: &Slice<A>,
+) -> Result<(), Error> {
+    for number in 0..4096 {
+        push_made(items, entry_sharing(alloc, number, value))?;
+    }
+    Ok(())
+}
+
 // Entries of 4,096 keys, which share this value's memory.
 fn entries_sharing<A: Allocator + Copy>(
     alloc: A,
     value: &Slice<A>,
 ) -> Result<Vec<InternalValue<A>, A>, Error> {
     let mut items = Vec::new(alloc);
-    for number in 0..4096 {
-        push_made(&mut items, entry_sharing(alloc, number, value))?;
-    }
-    Ok(items)
+    let done = put_entries_sharing(alloc, &mut items, value);
+    once_done(items, done)
 }
 
 // Entries of 4,096 keys, whose values of a mebibyte share their memory.
 fn many_entries<A: Allocator + Copy>(alloc: A) -> Result<Vec<InternalValue<A>, A>, Error> {
     let value = Slice::from_vec(vec![in alloc; 0u8; 1048576]?)?;
-    entries_sharing(alloc, &value)
+    let items = entries_sharing(alloc, &value);
+    drop(value);
+    items
 }
 
 // Whether encoding some entries behind the byte 7 is refused so, where that leaves the byte alone.
@@ -534,23 +600,29 @@ fn is_refused_so<A: Allocator + Copy>(
 // The bound on the block of as many entries, and whether they are refused for it.
 fn bound_and_refusal(alloc: Global) -> Result<(u64, bool), Error> {
     let items = many_entries(alloc)?;
-    let is_refused = is_refused_so(alloc, &items, Error::BlockTooLarge)?;
-    Ok((data_block_bound(&items), is_refused))
+    let bound = data_block_bound(&items);
+    let is_refused = is_refused_so(alloc, &items, Error::BlockTooLarge);
+    drop(items);
+    Ok((bound, is_refused?))
 }
 
 #[test]
 fn a_block_of_four_gibibytes_is_refused(rt: HostRuntime) -> Result<(), Fail> {
-    let (bound, is_refused) = bound_and_refusal(rt.alloc())?;
-    assert_eq!(rt; bound, 28 + 4096 * (17 + 2 + 1048576));
-    assert!(rt; is_refused);
+    assert_eq!(rt;
+        bound_and_refusal(rt.alloc())?,
+        (28 + 4096 * (17 + 2 + 1048576), true)
+    );
     Ok(())
 }
 
 // Whether as many entries, and one behind them whose key is too long, are refused for the key.
 fn is_refused_for_a_key(alloc: Global) -> Result<bool, Error> {
     let mut items = many_entries(alloc)?;
-    push_made(&mut items, entry_of_key_len(alloc, 0xff, 1048577))?;
-    is_refused_so(alloc, &items, Error::KeyTooLong)
+    let done = push_made(&mut items, entry_of_key_len(alloc, 0xff, 1048577));
+    let items = once_done(items, done)?;
+    let is_refused = is_refused_so(alloc, &items, Error::KeyTooLong);
+    drop(items);
+    is_refused
 }
 
 #[test]
@@ -568,7 +640,9 @@ fn read<A: Allocator>(block: &DataBlock<A>) -> Result<(SeqNo, SeqNo, SeqNo), Err
 // These numbers of the block of five, by way of its bytes.
 fn write_and_read<A: Allocator + Copy>(alloc: A) -> Result<(SeqNo, SeqNo, SeqNo), Error> {
     let block = block_of_five(alloc)?;
-    read(&block)
+    let numbers = read(&block);
+    drop(block);
+    numbers
 }
 
 #[test]
@@ -584,13 +658,17 @@ fn each_request_refused_is_answered_so(rt: HostRuntime) -> Result<(), Fail> {
 
 // A clone of a block, which outlives it.
 fn left_by_its_block<A: Allocator>(block: DataBlock<A>) -> Result<DataBlock<A>, AllocError> {
-    block.clone()
+    let copy: Result<_, _> = block.clone();
+    drop(block);
+    copy
 }
 
 // These numbers of a clone of the block of five, which outlives it.
 fn read_a_clone<A: Allocator + Copy>(alloc: A) -> Result<(SeqNo, SeqNo, SeqNo), Error> {
     let copy = left_by_its_block(block_of_five(alloc)?)?;
-    read(&copy)
+    let numbers = read(&copy);
+    drop(copy);
+    numbers
 }
 
 #[test]
@@ -624,7 +702,11 @@ fn ends_at_refusal<A: Allocator>(block: &DataBlock<A>) -> bool {
 // Whether it does so for one allocator's block of five; memory may have run out before.
 fn is_ended<A: Allocator + Copy>(alloc: A) -> bool {
     match block_of_five(alloc) {
-        Ok(block) => ends_at_refusal(&block),
+        Ok(block) => {
+            let ends = ends_at_refusal(&block);
+            drop(block);
+            ends
+        }
         Err(_) => true,
     }
 }
@@ -638,13 +720,15 @@ fn nothing_comes_after_a_refused_entry(rt: HostRuntime) {
 // Whether one entry in an allocator is refused for memory.
 fn is_refused_memory<A: Allocator + Copy>(alloc: A) -> Result<bool, Error> {
     let items = [entry(alloc, b"a", 1, ValueType::Value, b"x")?];
-    is_refused_so(alloc, &items, Error::OutOfMemory)
+    let is_refused = is_refused_so(alloc, &items, Error::OutOfMemory);
+    drop(items);
+    is_refused
 }
 
 #[test]
 fn a_refused_growth_leaves_the_buffer_as_it_was(rt: HostRuntime) -> Result<(), Fail> {
     let heap = Refusing::new(rt.alloc(), 6);
-    assert!(rt; is_refused_memory(&heap)?);
-    assert_eq!(rt; heap.requests(), 6);
+    let is_refused = is_refused_memory(&heap)?;
+    assert_eq!(rt; (is_refused, heap.requests()), (true, 6));
     Ok(())
 }

@@ -1,6 +1,8 @@
 //! Index blocks: what is written of handles, and what reads and seeks find.
 
-use crate::payloads::{behind_seven, in_grammar, index_block, is_given, push_made, put_numbers};
+use crate::payloads::{
+    behind_seven, in_grammar, index_block, is_given, is_invalid, once_done, push_made, put_numbers,
+};
 use refusing::{Refusing, each_refused};
 use sst_blocks::{
     BlockHandle, BlockOffset, Error, IndexBlock, IndexBlockIter, KeyedBlockHandle, SeqNo, Slice,
@@ -23,13 +25,22 @@ fn handle<A: Allocator + Copy>(
 // b@5, b@3, d@9 and f@1, and the positions of their blocks.
 const FOUR: &[(&[u8], SeqNo, u64)] = &[(b"b", 5, 0), (b"b", 3, 10), (b"d", 9, 20), (b"f", 1, 30)];
 
+// Adds the four handles.
+fn put_four<A: Allocator + Copy>(
+    alloc: A,
+    handles: &mut Vec<KeyedBlockHandle<A>, A>,
+) -> Result<(), Error> {
+    for &(end_key, seqno, offset) in FOUR {
+        push_made(handles, handle(alloc, end_key, seqno, offset, 10))?;
+    }
+    Ok(())
+}
+
 // The four handles.
 fn four_handles<A: Allocator + Copy>(alloc: A) -> Result<Vec<KeyedBlockHandle<A>, A>, Error> {
     let mut handles = Vec::new(alloc);
-    for &(end_key, seqno, offset) in FOUR {
-        push_made(&mut handles, handle(alloc, end_key, seqno, offset, 10))?;
-    }
-    Ok(handles)
+    let done = put_four(alloc, &mut handles);
+    once_done(handles, done)
 }
 
 // The position of the handle that is found, or 99 where there is none.
@@ -69,7 +80,9 @@ fn is_one_handle(
     size: u32,
 ) -> Result<bool, Error> {
     let block = index_block(alloc, version, bytes)?;
-    Ok(has_one_handle(&block, size))
+    let is_right = has_one_handle(&block, size);
+    drop(block);
+    Ok(is_right)
 }
 
 // What is written of some handles behind some bytes.
@@ -82,8 +95,8 @@ fn written_behind<A: Allocator + Copy>(
         return Err(Error::InvalidBlock);
     }
     let mut written = Vec::from_slice(alloc, front)?;
-    IndexBlock::encode_into(&mut written, handles)?;
-    Ok(written)
+    let done = IndexBlock::encode_into(&mut written, handles);
+    once_done(written, done)
 }
 
 #[test]
@@ -96,8 +109,10 @@ fn payloads_of_both_versions_read_as_their_handles(rt: HostRuntime) -> Result<()
 
 // Whether the payload of a@1 is written behind the byte 7.
 fn is_behind_seven(alloc: Global) -> Result<bool, Error> {
-    let written = written_behind(alloc, &[7], &[handle(alloc, b"a", 1, 0, 47)?])?;
-    Ok(matches!(written.as_slice(), [7, payload @ ..] if payload == ONE_IN_V4.as_slice()))
+    let handles = [handle(alloc, b"a", 1, 0, 47)?];
+    let written = written_behind(alloc, &[7], &handles);
+    drop(handles);
+    Ok(matches!(written?.as_slice(), [7, payload @ ..] if payload == ONE_IN_V4.as_slice()))
 }
 
 #[test]
@@ -106,12 +121,20 @@ fn handles_are_written_behind_what_was_there(rt: HostRuntime) -> Result<(), Fail
     Ok(())
 }
 
+// The position of a handle that is given.
+fn position_of<A: Allocator>(handle: Result<KeyedBlockHandle<A>, Error>) -> Result<u64, Error> {
+    let handle = handle?;
+    let position = handle.offset().0;
+    drop(handle);
+    Ok(position)
+}
+
 // The position of the next handle, from the front or the back, or 99 where there is none.
 fn position<A: Allocator>(
     answer: Option<Result<KeyedBlockHandle<A>, Error>>,
 ) -> Result<u64, Error> {
     match answer {
-        Some(handle) => Ok(handle?.offset().0),
+        Some(handle) => position_of(handle),
         None => Ok(99),
     }
 }
@@ -122,13 +145,17 @@ fn written_and_loaded<A: Allocator + Copy>(
     handles: &[KeyedBlockHandle<A>],
 ) -> Result<IndexBlock<A>, Error> {
     let bytes = written_behind(alloc, b"", handles)?;
-    index_block(alloc, TableVersion::V4, bytes.as_slice())
+    let block = index_block(alloc, TableVersion::V4, bytes.as_slice());
+    drop(bytes);
+    block
 }
 
 // The block of the four handles, through its bytes.
 fn block_of_four<A: Allocator + Copy>(alloc: A) -> Result<IndexBlock<A>, Error> {
     let handles = four_handles(alloc)?;
-    written_and_loaded(alloc, &handles)
+    let block = written_and_loaded(alloc, &handles);
+    drop(handles);
+    block
 }
 
 // Whether handles are left after a seek, and the position of the first.
@@ -231,7 +258,9 @@ fn lead_right(block: &IndexBlock) -> Result<bool, Error> {
 // Whether they do so in the block of four, by way of its bytes.
 fn seeks_lead_right(alloc: Global) -> Result<bool, Error> {
     let block = block_of_four(alloc)?;
-    lead_right(&block)
+    let are_right = lead_right(&block);
+    drop(block);
+    are_right
 }
 
 #[test]
@@ -263,7 +292,9 @@ fn spelled<A: Allocator + Copy>(
 // How many handles a payload has.
 fn handles_read<A: Allocator + Copy>(alloc: A, bytes: &[u8]) -> Result<usize, Error> {
     let block = index_block(alloc, TableVersion::V4, bytes)?;
-    Ok(block.len())
+    let len = block.len();
+    drop(block);
+    Ok(len)
 }
 
 // How many handles a payload of a count and of handles has, where it is in the grammar.
@@ -273,7 +304,9 @@ fn handles_claimed<A: Allocator + Copy>(
     claims: &[[u8; 3]],
 ) -> Result<Option<usize>, Error> {
     let bytes = spelled(alloc, count, claims)?;
-    in_grammar(handles_read(alloc, bytes.as_slice()))
+    let len = in_grammar(handles_read(alloc, bytes.as_slice()));
+    drop(bytes);
+    len
 }
 
 // A count, handles, and how many the payload has, where it is in the grammar.
@@ -309,10 +342,7 @@ fn payloads_out_of_the_grammar_are_refused(rt: HostRuntime) -> Result<(), Fail> 
 fn is_refused(alloc: Global, len: usize) -> bool {
     let old = ONE_IN_V3;
     match old.get(..len) {
-        Some(bytes) => matches!(
-            index_block(alloc, TableVersion::V4, bytes),
-            Err(Error::InvalidBlock)
-        ),
+        Some(bytes) => is_invalid(index_block(alloc, TableVersion::V4, bytes)),
         None => false,
     }
 }
@@ -343,7 +373,10 @@ fn is_refused_so<A: Allocator + Copy>(
 // Whether one handle whose end key has this length is refused so, or not at all.
 fn is_key_refused_so(alloc: Global, len: usize, expected: Option<Error>) -> Result<bool, Error> {
     let end_key = vec![in alloc; 0u8; len]?;
-    is_refused_so(alloc, &[handle(alloc, &end_key, 1, 0, 24)?], expected)
+    let handles = [handle(alloc, &end_key, 1, 0, 24)?];
+    let is_refused = is_refused_so(alloc, &handles, expected);
+    drop(handles);
+    is_refused
 }
 
 #[test]
@@ -373,33 +406,44 @@ fn handle_within(bytes: &Slice, start: usize) -> Result<KeyedBlockHandle, Error>
     Ok(KeyedBlockHandle::new(bytes.slice(start, end)?, 1, inner))
 }
 
+// Adds handles whose end keys of 2^20 bytes begin at 4,096 places of these bytes.
+fn put_handles_within(handles: &mut Vec<KeyedBlockHandle>, bytes: &Slice) -> Result<(), Error> {
+    for i in 0..4096usize {
+        push_made(handles, handle_within(bytes, 2 * i))?;
+    }
+    Ok(())
+}
+
 // Handles whose end keys of 2^20 bytes begin at 4,096 places of these bytes.
 fn handles_within(alloc: Global, bytes: &Slice) -> Result<Vec<KeyedBlockHandle>, Error> {
     let mut handles = Vec::new(alloc);
-    for i in 0..4096usize {
-        push_made(&mut handles, handle_within(bytes, 2 * i))?;
-    }
-    Ok(handles)
+    let done = put_handles_within(&mut handles, bytes);
+    once_done(handles, done)
 }
 
 // 4,096 handles whose end keys of 2^20 bytes share their memory: key i begins with i, the high byte first.
 fn many_handles(alloc: Global) -> Result<Vec<KeyedBlockHandle>, Error> {
     let shared = numbers(alloc)?;
-    handles_within(alloc, &shared)
+    let handles = handles_within(alloc, &shared);
+    drop(shared);
+    handles
 }
 
 // The bound on the block of as many handles, and whether they are refused for it.
 fn bound_and_refusal(alloc: Global) -> Result<(u64, bool), Error> {
     let handles = many_handles(alloc)?;
-    let is_refused = is_refused_so(alloc, &handles, Some(Error::BlockTooLarge))?;
-    Ok((index_block_bound(&handles), is_refused))
+    let bound = index_block_bound(&handles);
+    let is_refused = is_refused_so(alloc, &handles, Some(Error::BlockTooLarge));
+    drop(handles);
+    Ok((bound, is_refused?))
 }
 
 #[test]
 fn a_block_of_four_gibibytes_is_refused(rt: HostRuntime) -> Result<(), Fail> {
-    let (bound, is_refused) = bound_and_refusal(rt.alloc())?;
-    assert_eq!(rt; bound, 28 + 4096 * (24 + 1048576));
-    assert!(rt; is_refused);
+    assert_eq!(rt;
+        bound_and_refusal(rt.alloc())?,
+        (28 + 4096 * (24 + 1048576), true)
+    );
     Ok(())
 }
 
@@ -419,7 +463,9 @@ fn read<A: Allocator>(block: &IndexBlock<A>) -> Result<(u64, u64, u64), Error> {
 // These positions in the block of four, by way of its bytes.
 fn write_and_read<A: Allocator + Copy>(alloc: A) -> Result<(u64, u64, u64), Error> {
     let block = block_of_four(alloc)?;
-    read(&block)
+    let positions = read(&block);
+    drop(block);
+    positions
 }
 
 #[test]
@@ -435,13 +481,17 @@ fn each_request_refused_is_answered_so(rt: HostRuntime) -> Result<(), Fail> {
 
 // A clone of a block, which outlives it.
 fn left_by_its_block<A: Allocator>(block: IndexBlock<A>) -> Result<IndexBlock<A>, AllocError> {
-    block.clone()
+    let copy: Result<_, _> = block.clone();
+    drop(block);
+    copy
 }
 
 // How many handles such a clone has, and the position of the one that reaches c@1.
 fn found_after<A: Allocator>(block: IndexBlock<A>) -> Result<(usize, u64), Error> {
     let copy = left_by_its_block(block)?;
-    Ok((copy.len(), found_at(&copy, b"c", 1)))
+    let found = (copy.len(), found_at(&copy, b"c", 1));
+    drop(copy);
+    Ok(found)
 }
 
 // Whether a clone of the block of four, which outlives it, finds what the block does, and takes no memory.
@@ -484,7 +534,11 @@ fn ends_at_refusal<A: Allocator>(block: &IndexBlock<A>) -> bool {
 // Whether it does so for one allocator's block of four; memory may have run out before.
 fn is_ended<A: Allocator + Copy>(alloc: A) -> bool {
     match block_of_four(alloc) {
-        Ok(block) => ends_at_refusal(&block),
+        Ok(block) => {
+            let ends = ends_at_refusal(&block);
+            drop(block);
+            ends
+        }
         Err(_) => true,
     }
 }
@@ -498,13 +552,15 @@ fn nothing_comes_after_a_refused_handle(rt: HostRuntime) {
 // Whether one handle in an allocator is refused for memory.
 fn is_refused_memory<A: Allocator + Copy>(alloc: A) -> Result<bool, Error> {
     let handles = [handle(alloc, b"a", 1, 0, 47)?];
-    is_refused_so(alloc, &handles, Some(Error::OutOfMemory))
+    let is_refused = is_refused_so(alloc, &handles, Some(Error::OutOfMemory));
+    drop(handles);
+    is_refused
 }
 
 #[test]
 fn a_refused_growth_leaves_the_buffer_as_it_was(rt: HostRuntime) -> Result<(), Fail> {
     let heap = Refusing::new(rt.alloc(), 4);
-    assert!(rt; is_refused_memory(&heap)?);
-    assert_eq!(rt; heap.requests(), 4);
+    let is_refused = is_refused_memory(&heap)?;
+    assert_eq!(rt; (is_refused, heap.requests()), (true, 4));
     Ok(())
 }

@@ -21,6 +21,17 @@ pub(crate) fn beside<T: Drop, U, E>(first: T, second: Result<U, E>) -> Result<(T
     Ok((first, second?))
 }
 
+/// A value, once what was done with it is not refused.
+pub(crate) fn once_done<T: Drop>(value: T, done: Result<(), Error>) -> Result<T, Error> {
+    done?;
+    Ok(value)
+}
+
+/// Whether a payload is out of the grammar.
+pub(crate) fn is_invalid<T: Drop>(read: Result<T, Error>) -> bool {
+    matches!(read, Err(Error::InvalidBlock))
+}
+
 /// Adds a value to a list, where it was made.
 pub(crate) fn push_made<T: Drop, A: Allocator>(
     list: &mut Vec<T, A>,
@@ -98,8 +109,7 @@ fn finished<A: Allocator + Copy>(
     payload: &[u8],
 ) -> Result<Slice<A>, Error> {
     let written = write(&mut writer, version, kind, payload);
-    let (writer, ()) = beside(writer, written)?;
-    let (bytes, _) = writer.finish()?;
+    let (bytes, _) = once_done(writer, written)?.finish()?;
     Ok(bytes)
 }
 
@@ -112,8 +122,7 @@ fn table<A: Allocator + Copy>(
 ) -> Result<Slice<A>, Error> {
     let mut writer = SectionWriter::new(alloc)?;
     let started = writer.start(SectionName::Data);
-    let (writer, ()) = beside(writer, started)?;
-    finished(writer, version, kind, payload)
+    finished(once_done(writer, started)?, version, kind, payload)
 }
 
 // The first block of a table.
@@ -123,7 +132,9 @@ fn first_block<A: Allocator + Copy>(
     kind: BlockType,
 ) -> Result<Block<A>, Error> {
     let source = BlockSource::new(alloc, bytes)?;
-    source.load_at(0, kind, &mut Opened::none())
+    let block = source.load_at(0, kind, &mut Opened::none());
+    drop(source);
+    block
 }
 
 // The block that is loaded from a table with this payload alone.
@@ -146,7 +157,10 @@ pub(crate) fn data_block<A: Allocator + Copy>(
     let block = load(alloc, version, BlockType::Data, payload)?;
     match block.kind() {
         BlockType::Data => Ok(DataBlock::new(block)),
-        _ => Err(Error::InvalidTag(TagName::BlockType, 0)),
+        _ => {
+            drop(block);
+            Err(Error::InvalidTag(TagName::BlockType, 0))
+        }
     }
 }
 
@@ -159,6 +173,9 @@ pub(crate) fn index_block<A: Allocator + Copy>(
     let block = load(alloc, version, BlockType::Index, payload)?;
     match block.kind() {
         BlockType::Index => Ok(IndexBlock::new(block)),
-        _ => Err(Error::InvalidTag(TagName::BlockType, 1)),
+        _ => {
+            drop(block);
+            Err(Error::InvalidTag(TagName::BlockType, 1))
+        }
     }
 }
