@@ -107,7 +107,9 @@ impl StreamFilter<Global> for NewestOfFive {
 
 // Adds the word of a result that is let go of.
 fn put_given<A: Allocator>(text: &mut String, item: IterItem<A>) -> Result<(), AllocError> {
-    put_result(text, &item)
+    let done = put_result(text, &item);
+    drop(item);
+    done
 }
 
 // The words of a stream's results, to its end.
@@ -134,7 +136,9 @@ fn gives_so<A: Allocator, I: Iterator<Item = IterItem<A>> + Drop>(
     requires can { I.can_next stream }
     requires finite { IsFinite (I.remaining stream) }
 {
-    is_text(drained(alloc, &mut stream), wanted)
+    let text = drained(alloc, &mut stream);
+    drop(stream);
+    is_text(text, wanted)
 }
 
 // Whether a compaction of this source, whatever it is, leaves these for readers at the threshold, without a filter.
@@ -394,12 +398,19 @@ fn gives_newest<A: Allocator + Copy>(
     Ok(gives_so(alloc, MvccStream::new(items), wanted)?)
 }
 
+// Whether streams of both kinds take entries in the memory of any allocator.
+fn streams_take<A: Allocator + Copy>(memory: A, alloc: Global) -> Result<bool, Error> {
+    let over = "aV4 aV3 aV2";
+    Ok(
+        leaves_unfiltered(memory, alloc, over, 4, "aV4 aV3")?
+            && gives_newest(memory, alloc, over, "aV4")?,
+    )
+}
+
 #[test]
 fn streams_take_entries_of_any_allocator(rt: HostRuntime) -> Result<(), Fail> {
     let heap = Refusing::new(rt.alloc(), 0);
-    let over = "aV4 aV3 aV2";
-    assert!(rt; leaves_unfiltered(&heap, rt.alloc(), over, 4, "aV4 aV3")?);
-    assert!(rt; gives_newest(&heap, rt.alloc(), over, "aV4")?);
+    assert!(rt; streams_take(&heap, rt.alloc())?);
     assert!(rt; heap.requests() > 0);
     Ok(())
 }

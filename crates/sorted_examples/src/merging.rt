@@ -3,7 +3,7 @@ ghost use Rattle.std.specs.Prelude.{All, IfOk};
 ghost use Rattle.std.specs.Iterator.{IsFinite};
 ghost use Rattle.sst_entries.specs.Stream.{CanDeal};
 
-use crate::words::{answers_so, push_made, results_of};
+use crate::words::{answers_so, once_done, push_made, results_of};
 use lsm_sorted::{Merger, from_both_ends};
 use refusing::{Refusing, each_refused};
 use sst_entries::{Error, IterItem};
@@ -50,13 +50,23 @@ pub fn passed_of<A: Allocator + Copy>(alloc: A, text: &str) -> Result<Passed<A>,
     Ok(Passed { items })
 }
 
+// Adds the sources that a text spells, each up to a `/`.
+fn put_sources<A: Allocator + Copy>(
+    alloc: A,
+    sources: &mut Vec<Passed<A>, A>,
+    text: &str,
+) -> Result<(), Error> {
+    for part in text.split_terminator('/') {
+        push_made(sources, passed_of(alloc, part))?;
+    }
+    Ok(())
+}
+
 // The sources that a text spells, each up to a `/`.
 pub fn sources_of<A: Allocator + Copy>(alloc: A, text: &str) -> Result<Vec<Passed<A>, A>, Error> {
     let mut sources = Vec::new(alloc);
-    for part in text.split_terminator('/') {
-        push_made(&mut sources, passed_of(alloc, part))?;
-    }
-    Ok(sources)
+    let done = put_sources(alloc, &mut sources, text);
+    once_done(sources, done)
 }
 
 // A merger of these sources, whatever they are, that may be asked at both ends.

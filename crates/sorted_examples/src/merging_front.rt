@@ -1,7 +1,7 @@
 //! Merging from the front alone: sources without a back, and errors in the middle and at the far end of one of three sources.
 ghost use Rattle.sst_entries.specs.Stream.{CanDeal, nowhere};
 
-use crate::words::{is_text, push_made, results_of, text_of};
+use crate::words::{is_text, once_done, push_made, results_of, text_of};
 use lsm_sorted::Merger;
 use sst_entries::{Error, IterItem};
 use std::alloc::{AllocError, Allocator, Global};
@@ -34,13 +34,19 @@ pub fn forward_of(alloc: Global, text: &str) -> Result<Forward, Error> {
     Ok(Forward { items })
 }
 
+// Adds the sources that a text spells, each up to a `/`.
+fn put_sources(alloc: Global, sources: &mut Vec<Forward>, text: &str) -> Result<(), Error> {
+    for part in text.split_terminator('/') {
+        push_made(sources, forward_of(alloc, part))?;
+    }
+    Ok(())
+}
+
 // The sources that a text spells, each up to a `/`.
 pub fn sources_of(alloc: Global, text: &str) -> Result<Vec<Forward>, Error> {
     let mut sources = Vec::new(alloc);
-    for part in text.split_terminator('/') {
-        push_made(&mut sources, forward_of(alloc, part))?;
-    }
-    Ok(sources)
+    let done = put_sources(alloc, &mut sources, text);
+    once_done(sources, done)
 }
 
 // The first answers of a stream, as many as these.
@@ -68,7 +74,9 @@ fn first_words<A: Allocator, I: Iterator<Item = IterItem<A>>>(
     requires { CanDeal I.next_gives nowhere I.can_next I.can_next stream.old }
 {
     let answers = first_answers(alloc, stream, count)?;
-    text_of(alloc, &answers)
+    let text = text_of(alloc, &answers);
+    drop(answers);
+    text
 }
 
 // Whether a stream answers so first.
@@ -80,7 +88,9 @@ pub fn begins_so<A: Allocator, I: Iterator<Item = IterItem<A>> + Drop>(
     requires { CanDeal I.next_gives nowhere I.can_next I.can_next stream }
 {
     let count = wanted.split_whitespace().count();
-    Ok(is_text(first_words(alloc, &mut stream, count), wanted)?)
+    let words = first_words(alloc, &mut stream, count);
+    drop(stream);
+    Ok(is_text(words, wanted)?)
 }
 
 // Whether a merger of the sources gives these answers first.

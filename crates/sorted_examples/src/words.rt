@@ -70,13 +70,29 @@ pub fn push_made<T: Drop, A: Allocator>(
     Ok(list.push(made?)?)
 }
 
+/// A value, once what was done with it is not refused.
+pub fn once_done<T: Drop>(value: T, done: Result<(), Error>) -> Result<T, Error> {
+    done?;
+    Ok(value)
+}
+
+// Adds the results that the words of a text stand for.
+fn put_results<A: Allocator + Copy>(
+    alloc: A,
+    results: &mut Vec<IterItem<A>, A>,
+    text: &str,
+) -> Result<(), Error> {
+    for word in text.split_whitespace() {
+        push_made(results, result_of(alloc, word))?;
+    }
+    Ok(())
+}
+
 /// The results that the words of a text stand for.
 pub fn results_of<A: Allocator + Copy>(alloc: A, text: &str) -> Result<Vec<IterItem<A>, A>, Error> {
     let mut results = Vec::new(alloc);
-    for word in text.split_whitespace() {
-        push_made(&mut results, result_of(alloc, word))?;
-    }
-    Ok(results)
+    let done = put_results(alloc, &mut results, text);
+    once_done(results, done)
 }
 
 // The end that a letter stands for.
@@ -115,6 +131,17 @@ fn letter_of(kind: ValueType) -> char {
     }
 }
 
+// Adds the word of an entry without its value.
+fn put_key<B: Allocator>(
+    text: &mut String<B>,
+    key: u8,
+    kind: char,
+    seqno: u64,
+) -> Result<(), AllocError> {
+    put_space(text)?;
+    write!(text, "{}{kind}{seqno}", char::from(key))
+}
+
 /// Adds an entry's word to those of a text.
 pub fn put_entry<A: Allocator, B: Allocator>(
     text: &mut String<B>,
@@ -123,8 +150,7 @@ pub fn put_entry<A: Allocator, B: Allocator>(
     let key = byte_of(&entry.key.user_key);
     let value = byte_of(&entry.value);
     let kind = letter_of(entry.key.value_type);
-    put_space(text)?;
-    write!(text, "{}{kind}{}", char::from(key), entry.key.seqno)?;
+    put_key(text, key, kind, entry.key.seqno)?;
     if value != 0 && (kind != 'V' || value != key) {
         text.push(char::from(value))?;
     }
@@ -187,7 +213,9 @@ fn text_at<A: Allocator, B: Allocator + Copy, I: DoubleEndedIterator<Item = Iter
     requires { CanDeal I.next_gives I.next_back_gives I.can_next I.can_next_back stream.old }
 {
     let answers = answers_at(alloc, stream, ends)?;
-    text_of(alloc, &answers)
+    let text = text_of(alloc, &answers);
+    drop(answers);
+    text
 }
 
 /// Whether a text is this one, where memory lasted for it.
@@ -195,7 +223,25 @@ pub fn is_text<B: Allocator>(
     text: Result<String<B>, AllocError>,
     wanted: &str,
 ) -> Result<bool, AllocError> {
-    Ok(text?.as_str() == wanted)
+    let text = text?;
+    let is_wanted = text.as_str() == wanted;
+    drop(text);
+    Ok(is_wanted)
+}
+
+// Whether a stream answers so at the ends that `F` and `B` stand for, where memory lasts.
+fn is_answered_so<A: Allocator, B: Allocator + Copy, I: DoubleEndedIterator<Item = IterItem<A>>>(
+    alloc: B,
+    stream: &mut I,
+    ends: &str,
+    wanted: &str,
+) -> Result<bool, AllocError>
+    requires { CanDeal I.next_gives I.next_back_gives I.can_next I.can_next_back stream.old }
+{
+    let ends = ends_of(alloc, ends)?;
+    let is_wanted = is_text(text_at(alloc, stream, &ends), wanted);
+    drop(ends);
+    is_wanted
 }
 
 /// Whether a stream answers so at the ends that `F` and `B` stand for.
@@ -206,6 +252,7 @@ pub fn answers_so<
 >(alloc: B, mut stream: I, ends: &str, wanted: &str) -> Result<bool, Error>
     requires { CanDeal I.next_gives I.next_back_gives I.can_next I.can_next_back stream }
 {
-    let ends = ends_of(alloc, ends)?;
-    Ok(is_text(text_at(alloc, &mut stream, &ends), wanted)?)
+    let is_wanted = is_answered_so(alloc, &mut stream, ends, wanted);
+    drop(stream);
+    Ok(is_wanted?)
 }
