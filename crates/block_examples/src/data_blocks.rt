@@ -1,7 +1,7 @@
 //! Data blocks: what is written of entries, and what reads and seeks find.
 
 use crate::payloads::{
-    behind_seven, beside, data_block, in_grammar, is_given, is_invalid, once_done, push_made,
+    behind_seven, beside, both, data_block, in_grammar, is_given, is_invalid, once_done, push_made,
     put_numbers,
 };
 use refusing::{Refusing, each_refused};
@@ -150,11 +150,10 @@ fn is_one_entry(alloc: Global, version: TableVersion, bytes: &[u8]) -> Result<bo
 }
 
 #[test]
-fn payloads_of_both_versions_read_as_their_entries(rt: HostRuntime) -> Result<(), Fail> {
+fn payloads_of_both_versions_read_as_their_entries(rt: HostRuntime) {
     let alloc = rt.alloc();
-    assert!(rt; is_one_entry(alloc, TableVersion::V3, &ONE_IN_V3)?);
-    assert!(rt; is_one_entry(alloc, TableVersion::V4, &ONE_IN_V4)?);
-    Ok(())
+    assert!(rt; is_one_entry(alloc, TableVersion::V3, &ONE_IN_V3) == Ok(true));
+    assert!(rt; is_one_entry(alloc, TableVersion::V4, &ONE_IN_V4) == Ok(true));
 }
 
 // Whether some bytes are 7 and then the payload of a@1.
@@ -287,8 +286,7 @@ fn number<A: Allocator>(answer: Option<IterItem<A>>) -> Result<SeqNo, Error> {
 
 // The numbers of the first entry and of the last, 99 where there is none.
 fn ends<A: Allocator>(iter: &mut DataBlockIter<'_, A>) -> Result<(SeqNo, SeqNo), Error> {
-    let first = number(iter.next())?;
-    Ok((first, number(iter.next_back())?))
+    both(number(iter.next()), number(iter.next_back()))
 }
 
 // Whether a block gives no entries.
@@ -327,7 +325,8 @@ fn seek(iter: &mut DataBlockIter<'_>, to: &str, key: &[u8]) -> bool {
 // Whether a seek leaves entries, and the numbers of the first and of the last.
 fn ends_after(block: &DataBlock, to: &str, key: &[u8]) -> Result<(bool, (SeqNo, SeqNo)), Error> {
     let mut iter = block.iter();
-    Ok((seek(&mut iter, to, key), ends(&mut iter)?))
+    let left = seek(&mut iter, to, key);
+    beside(left, ends(&mut iter))
 }
 
 // What a seek leaves of the block of five.
@@ -412,7 +411,8 @@ fn edges_stay_crossed(block: &DataBlock) -> Result<bool, Error> {
     let above = iter.seek_exclusive(b"a");
     let crossed = iter.seek_upper(b"a");
     let later = iter.seek(b"a");
-    Ok(above && !crossed && !later && ends(&mut iter)? == (99, 99))
+    let left = ends(&mut iter)?;
+    Ok(above && !crossed && !later && left == (99, 99))
 }
 
 // Whether such edges leave nothing in the block of five.
@@ -437,17 +437,23 @@ fn spell<A: Allocator>(bytes: &mut Vec<u8, A>, entry: [u32; 5]) -> Result<(), Al
     bytes.extend_from_slice(&[(first & 0xff) as u8, b'x'])
 }
 
+// Spells entries one behind another.
+fn spell_all<A: Allocator>(bytes: &mut Vec<u8, A>, entries: &[[u32; 5]]) -> Result<(), AllocError> {
+    for &entry in entries {
+        spell(bytes, entry)?;
+    }
+    Ok(())
+}
+
 // A payload of a count, and then of entries.
 fn spelled<A: Allocator + Copy>(
     alloc: A,
     count: u32,
     entries: &[[u32; 5]],
-) -> Result<Vec<u8, A>, Error> {
+) -> Result<Vec<u8, A>, AllocError> {
     let mut bytes = Vec::from_slice(alloc, &count.to_le_bytes())?;
-    for &entry in entries {
-        spell(&mut bytes, entry)?;
-    }
-    Ok(bytes)
+    let done = spell_all(&mut bytes, entries);
+    once_done(bytes, done)
 }
 
 // How many entries a payload has.
@@ -603,7 +609,7 @@ fn bound_and_refusal(alloc: Global) -> Result<(u64, bool), Error> {
     let bound = data_block_bound(&items);
     let is_refused = is_refused_so(alloc, &items, Error::BlockTooLarge);
     drop(items);
-    Ok((bound, is_refused?))
+    beside(bound, is_refused)
 }
 
 #[test]
@@ -632,13 +638,12 @@ fn a_key_that_is_too_long_is_told_before_the_block(rt: HostRuntime) -> Result<()
 }
 
 // The numbers of a block's ends and of what a point read finds.
-fn read<A: Allocator>(block: &DataBlock<A>) -> Result<(SeqNo, SeqNo, SeqNo), Error> {
-    let (first, last) = ends(&mut block.iter())?;
-    Ok((first, last, number_found(block, b"c", 1)?))
+fn read<A: Allocator>(block: &DataBlock<A>) -> Result<((SeqNo, SeqNo), SeqNo), Error> {
+    both(ends(&mut block.iter()), number_found(block, b"c", 1))
 }
 
 // These numbers of the block of five, by way of its bytes.
-fn write_and_read<A: Allocator + Copy>(alloc: A) -> Result<(SeqNo, SeqNo, SeqNo), Error> {
+fn write_and_read<A: Allocator + Copy>(alloc: A) -> Result<((SeqNo, SeqNo), SeqNo), Error> {
     let block = block_of_five(alloc)?;
     let numbers = read(&block);
     drop(block);
@@ -648,7 +653,7 @@ fn write_and_read<A: Allocator + Copy>(alloc: A) -> Result<(SeqNo, SeqNo, SeqNo)
 #[test]
 fn each_request_refused_is_answered_so(rt: HostRuntime) -> Result<(), Fail> {
     let answers = each_refused(rt.alloc(), |heap, may_fail| match write_and_read(heap) {
-        Ok(answer) => answer == (9, 3, 0),
+        Ok(answer) => answer == ((9, 3), 0),
         Err(Error::OutOfMemory) => may_fail,
         Err(_) => false,
     });
@@ -664,7 +669,7 @@ fn left_by_its_block<A: Allocator>(block: DataBlock<A>) -> Result<DataBlock<A>, 
 }
 
 // These numbers of a clone of the block of five, which outlives it.
-fn read_a_clone<A: Allocator + Copy>(alloc: A) -> Result<(SeqNo, SeqNo, SeqNo), Error> {
+fn read_a_clone<A: Allocator + Copy>(alloc: A) -> Result<((SeqNo, SeqNo), SeqNo), Error> {
     let copy = left_by_its_block(block_of_five(alloc)?)?;
     let numbers = read(&copy);
     drop(copy);
@@ -673,7 +678,7 @@ fn read_a_clone<A: Allocator + Copy>(alloc: A) -> Result<(SeqNo, SeqNo, SeqNo), 
 
 #[test]
 fn a_clone_reads_as_its_block(rt: HostRuntime) -> Result<(), Fail> {
-    assert_eq!(rt; read_a_clone(rt.alloc())?, (9, 3, 0));
+    assert_eq!(rt; read_a_clone(rt.alloc())?, ((9, 3), 0));
     Ok(())
 }
 

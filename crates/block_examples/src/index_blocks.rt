@@ -1,7 +1,8 @@
 //! Index blocks: what is written of handles, and what reads and seeks find.
 
 use crate::payloads::{
-    behind_seven, in_grammar, index_block, is_given, is_invalid, once_done, push_made, put_numbers,
+    behind_seven, beside, both, in_grammar, index_block, is_given, is_invalid, once_done,
+    push_made, put_numbers,
 };
 use refusing::{Refusing, each_refused};
 use sst_blocks::{
@@ -100,11 +101,10 @@ fn written_behind<A: Allocator + Copy>(
 }
 
 #[test]
-fn payloads_of_both_versions_read_as_their_handles(rt: HostRuntime) -> Result<(), Fail> {
+fn payloads_of_both_versions_read_as_their_handles(rt: HostRuntime) {
     let alloc = rt.alloc();
-    assert!(rt; is_one_handle(alloc, TableVersion::V3, &ONE_IN_V3, 45)?);
-    assert!(rt; is_one_handle(alloc, TableVersion::V4, &ONE_IN_V4, 47)?);
-    Ok(())
+    assert!(rt; is_one_handle(alloc, TableVersion::V3, &ONE_IN_V3, 45) == Ok(true));
+    assert!(rt; is_one_handle(alloc, TableVersion::V4, &ONE_IN_V4, 47) == Ok(true));
 }
 
 // Whether the payload of a@1 is written behind the byte 7.
@@ -166,20 +166,14 @@ fn first_after_seek<A: Allocator>(
 ) -> Result<(bool, u64), Error> {
     let mut iter = block.iter();
     let left = iter.seek(key, seqno);
-    Ok((left, position(iter.next())?))
+    beside(left, position(iter.next()))
 }
 
 // Whether handles are left after a seek of the upper end, and the position of the last.
 fn last_after_seek<A: Allocator>(block: &IndexBlock<A>, key: &[u8]) -> Result<(bool, u64), Error> {
     let mut iter = block.iter();
     let left = iter.seek_upper(key, 0);
-    Ok((left, position(iter.next_back())?))
-}
-
-// The positions of the next two handles from the front.
-fn next_two<A: Allocator>(iter: &mut IndexBlockIter<'_, A>) -> Result<(u64, u64), Error> {
-    let first = position(iter.next())?;
-    Ok((first, position(iter.next())?))
+    beside(left, position(iter.next_back()))
 }
 
 // The positions from the back, from the front twice and from the back again, after both seeks.
@@ -188,13 +182,13 @@ fn after_both_seeks<A: Allocator>(
     key: &[u8],
     seqno: SeqNo,
     upper: &[u8],
-) -> Result<(u64, u64, u64, u64), Error> {
+) -> Result<((u64, u64), (u64, u64)), Error> {
     let mut iter = block.iter();
     iter.seek(key, seqno);
     iter.seek_upper(upper, 0);
-    let last = position(iter.next_back())?;
-    let (first, second) = next_two(&mut iter)?;
-    Ok((last, first, second, position(iter.next_back())?))
+    let outer = both(position(iter.next_back()), position(iter.next()));
+    let inner = both(position(iter.next()), position(iter.next_back()));
+    both(outer, inner)
 }
 
 // A key and a number, and the position of the first handle that reaches them.
@@ -250,8 +244,8 @@ fn lead_right(block: &IndexBlock) -> Result<bool, Error> {
     Ok(
         wrong_first(block)?.is_none()
             && wrong_last(block)?.is_none()
-            && after_both_seeks(block, b"b", 4, b"c")? == (20, 10, 99, 99)
-            && after_both_seeks(block, b"d", 9, b"a")? == (99, 99, 99, 99),
+            && after_both_seeks(block, b"b", 4, b"c")? == ((20, 10), (99, 99))
+            && after_both_seeks(block, b"d", 9, b"a")? == ((99, 99), (99, 99)),
     )
 }
 
@@ -276,17 +270,23 @@ fn spell<A: Allocator>(bytes: &mut Vec<u8, A>, claim: &[u8; 3]) -> Result<(), Al
     bytes.extend_from_slice(&[*key])
 }
 
+// Spells handles one behind another.
+fn spell_all<A: Allocator>(bytes: &mut Vec<u8, A>, claims: &[[u8; 3]]) -> Result<(), AllocError> {
+    for claim in claims {
+        spell(bytes, claim)?;
+    }
+    Ok(())
+}
+
 // A payload of a count, and then of handles.
 fn spelled<A: Allocator + Copy>(
     alloc: A,
     count: u32,
     claims: &[[u8; 3]],
-) -> Result<Vec<u8, A>, Error> {
+) -> Result<Vec<u8, A>, AllocError> {
     let mut bytes = Vec::from_slice(alloc, &count.to_le_bytes())?;
-    for claim in claims {
-        spell(&mut bytes, claim)?;
-    }
-    Ok(bytes)
+    let done = spell_all(&mut bytes, claims);
+    once_done(bytes, done)
 }
 
 // How many handles a payload has.
@@ -435,7 +435,7 @@ fn bound_and_refusal(alloc: Global) -> Result<(u64, bool), Error> {
     let bound = index_block_bound(&handles);
     let is_refused = is_refused_so(alloc, &handles, Some(Error::BlockTooLarge));
     drop(handles);
-    Ok((bound, is_refused?))
+    beside(bound, is_refused)
 }
 
 #[test]
@@ -450,18 +450,16 @@ fn a_block_of_four_gibibytes_is_refused(rt: HostRuntime) -> Result<(), Fail> {
 // The positions of a block's first handle and of its last, 99 where there is none.
 fn ends<A: Allocator>(block: &IndexBlock<A>) -> Result<(u64, u64), Error> {
     let mut iter = block.iter();
-    let first = position(iter.next())?;
-    Ok((first, position(iter.next_back())?))
+    both(position(iter.next()), position(iter.next_back()))
 }
 
-// The positions of a block's ends and of the handle that reaches b@5.
-fn read<A: Allocator>(block: &IndexBlock<A>) -> Result<(u64, u64, u64), Error> {
-    let (first, last) = ends(block)?;
-    Ok((first, last, found_at(block, b"b", 5)))
+// The position of the handle that reaches b@5, and those of a block's ends.
+fn read<A: Allocator>(block: &IndexBlock<A>) -> Result<(u64, (u64, u64)), Error> {
+    beside(found_at(block, b"b", 5), ends(block))
 }
 
 // These positions in the block of four, by way of its bytes.
-fn write_and_read<A: Allocator + Copy>(alloc: A) -> Result<(u64, u64, u64), Error> {
+fn write_and_read<A: Allocator + Copy>(alloc: A) -> Result<(u64, (u64, u64)), Error> {
     let block = block_of_four(alloc)?;
     let positions = read(&block);
     drop(block);
@@ -471,7 +469,7 @@ fn write_and_read<A: Allocator + Copy>(alloc: A) -> Result<(u64, u64, u64), Erro
 #[test]
 fn each_request_refused_is_answered_so(rt: HostRuntime) -> Result<(), Fail> {
     let answers = each_refused(rt.alloc(), |heap, may_fail| match write_and_read(heap) {
-        Ok(answer) => answer == (0, 30, 10),
+        Ok(answer) => answer == (10, (0, 30)),
         Err(Error::OutOfMemory) => may_fail,
         Err(_) => false,
     });

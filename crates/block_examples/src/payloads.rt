@@ -21,8 +21,16 @@ pub(crate) fn beside<T: Drop, U, E>(first: T, second: Result<U, E>) -> Result<(T
     Ok((first, second?))
 }
 
+/// Two values, or the refusal of the first that is refused.
+pub(crate) fn both<T: Drop, U: Drop, E: Drop>(
+    first: Result<T, E>,
+    second: Result<U, E>,
+) -> Result<(T, U), E> {
+    Ok((first?, second?))
+}
+
 /// A value, once what was done with it is not refused.
-pub(crate) fn once_done<T: Drop>(value: T, done: Result<(), Error>) -> Result<T, Error> {
+pub(crate) fn once_done<T: Drop, E>(value: T, done: Result<(), E>) -> Result<T, E> {
     done?;
     Ok(value)
 }
