@@ -1,8 +1,8 @@
 //! Data blocks: what is written of entries, and what reads and seeks find.
 
 use crate::payloads::{
-    behind_seven, beside, both, data_block, in_grammar, is_given, is_invalid, once_done, push_made,
-    put_numbers,
+    behind_seven, beside, both, data_block, holds, in_grammar, is_answer, is_given, is_invalid,
+    once_done, push_made, put_numbers,
 };
 use refusing::{Refusing, each_refused};
 use sst_blocks::Direction::{Back, Front};
@@ -11,7 +11,6 @@ use sst_blocks::{
     TableVersion, ValueType, answer_at, are_strict, data_block_bound,
 };
 use std::alloc::{AllocError, Allocator, Global};
-use std::test::Fail;
 
 fn entry<A: Allocator + Copy>(
     alloc: A,
@@ -171,9 +170,8 @@ fn bound_and_payload(alloc: Global) -> Result<(u64, bool), Error> {
 }
 
 #[test]
-fn entries_are_written_behind_what_was_there(rt: HostRuntime) -> Result<(), Fail> {
-    assert_eq!(rt; bound_and_payload(rt.alloc())?, (24 + 23, true));
-    Ok(())
+fn entries_are_written_behind_what_was_there(rt: HostRuntime) {
+    assert!(rt; is_answer(bound_and_payload(rt.alloc()), (24 + 23, true)));
 }
 
 // The number of the entry that a point read finds in the block of five, or 99 where it finds none.
@@ -206,11 +204,10 @@ const READS: &[(&[u8], SeqNo, SeqNo)] = &[
 ];
 
 #[test]
-fn a_point_read_finds_the_newest_version_below_a_number(rt: HostRuntime) -> Result<(), Fail> {
+fn a_point_read_finds_the_newest_version_below_a_number(rt: HostRuntime) {
     for &(key, seqno, found) in READS {
-        assert_eq!(rt; found_in_five(rt.alloc(), key, seqno)?, found);
+        assert!(rt; is_answer(found_in_five(rt.alloc(), key, seqno), found));
     }
-    Ok(())
 }
 
 // Whether point reads in the block of five find a@7, a tombstone, and c@0, a weak one, and e@3 with its value.
@@ -240,9 +237,8 @@ fn finds_whole_entries(alloc: Global) -> Result<bool, Error> {
 }
 
 #[test]
-fn a_point_read_finds_entries_as_they_were_written(rt: HostRuntime) -> Result<(), Fail> {
-    assert!(rt; finds_whole_entries(rt.alloc())?);
-    Ok(())
+fn a_point_read_finds_entries_as_they_were_written(rt: HostRuntime) {
+    assert!(rt; holds(finds_whole_entries(rt.alloc())));
 }
 
 // The key and the number of the place, where the block has it.
@@ -263,9 +259,8 @@ fn has_five_keys(alloc: Global) -> Result<bool, Error> {
 }
 
 #[test]
-fn the_key_of_a_place_is_that_of_its_entry(rt: HostRuntime) -> Result<(), Fail> {
-    assert!(rt; has_five_keys(rt.alloc())?);
-    Ok(())
+fn the_key_of_a_place_is_that_of_its_entry(rt: HostRuntime) {
+    assert!(rt; holds(has_five_keys(rt.alloc())));
 }
 
 // The number of an entry that is given.
@@ -307,9 +302,8 @@ fn has_none(alloc: Global) -> Result<bool, Error> {
 }
 
 #[test]
-fn a_block_without_entries_has_none(rt: HostRuntime) -> Result<(), Fail> {
-    assert!(rt; has_none(rt.alloc())?);
-    Ok(())
+fn a_block_without_entries_has_none(rt: HostRuntime) {
+    assert!(rt; holds(has_none(rt.alloc())));
 }
 
 // Seeks in a block, and answers whether that leaves an entry.
@@ -364,11 +358,13 @@ const SEEKS: &[(&str, &[u8], SeqNo, SeqNo)] = &[
 ];
 
 #[test]
-fn seeks_narrow_to_the_entries_on_one_side_of_a_key(rt: HostRuntime) -> Result<(), Fail> {
+fn seeks_narrow_to_the_entries_on_one_side_of_a_key(rt: HostRuntime) {
     for &(to, key, first, last) in SEEKS {
-        assert!(rt; leaves(rt.alloc(), to, key, first, last)?, "{to}: {first}");
+        assert!(rt;
+            holds(leaves(rt.alloc(), to, key, first, last)),
+            "{to}: {first}"
+        );
     }
-    Ok(())
 }
 
 // Whether a block gives these numbers at these ends.
@@ -391,7 +387,7 @@ fn deals(alloc: Global, answers: &[(Direction, SeqNo)]) -> Result<bool, Error> {
 }
 
 #[test]
-fn both_ends_deal_one_window(rt: HostRuntime) -> Result<(), Fail> {
+fn both_ends_deal_one_window(rt: HostRuntime) {
     let answers = [
         (Front, 9),
         (Back, 3),
@@ -401,8 +397,7 @@ fn both_ends_deal_one_window(rt: HostRuntime) -> Result<(), Fail> {
         (Front, 99),
         (Back, 99),
     ];
-    assert!(rt; deals(rt.alloc(), &answers)?);
-    Ok(())
+    assert!(rt; holds(deals(rt.alloc(), &answers)));
 }
 
 // Whether edges that cross at a block's first key leave nothing, whatever is sought later.
@@ -424,9 +419,8 @@ fn crossed_edges_stay(alloc: Global) -> Result<bool, Error> {
 }
 
 #[test]
-fn a_later_seek_widens_no_window(rt: HostRuntime) -> Result<(), Fail> {
-    assert!(rt; crossed_edges_stay(rt.alloc())?);
-    Ok(())
+fn a_later_seek_widens_no_window(rt: HostRuntime) {
+    assert!(rt; holds(crossed_edges_stay(rt.alloc())));
 }
 
 // Spells an entry by its tag, its number, both of its lengths and the first of the two bytes behind them.
@@ -495,11 +489,10 @@ const PAYLOADS: &[(u32, &[[u32; 5]], bool)] = &[
 ];
 
 #[test]
-fn payloads_are_read_where_they_are_in_the_grammar(rt: HostRuntime) -> Result<(), Fail> {
+fn payloads_are_read_where_they_are_in_the_grammar(rt: HostRuntime) {
     for &(count, entries, good) in PAYLOADS {
-        assert_eq!(rt; is_read(rt.alloc(), count, entries)?, good);
+        assert!(rt; is_answer(is_read(rt.alloc(), count, entries), good));
     }
-    Ok(())
 }
 
 // Whether a payload is no block.
@@ -613,12 +606,13 @@ fn bound_and_refusal(alloc: Global) -> Result<(u64, bool), Error> {
 }
 
 #[test]
-fn a_block_of_four_gibibytes_is_refused(rt: HostRuntime) -> Result<(), Fail> {
-    assert_eq!(rt;
-        bound_and_refusal(rt.alloc())?,
-        (28 + 4096 * (17 + 2 + 1048576), true)
+fn a_block_of_four_gibibytes_is_refused(rt: HostRuntime) {
+    assert!(rt;
+        is_answer(
+            bound_and_refusal(rt.alloc()),
+            (28 + 4096 * (17 + 2 + 1048576), true)
+        )
     );
-    Ok(())
 }
 
 // Whether as many entries, and one behind them whose key is too long, are refused for the key.
@@ -632,9 +626,8 @@ fn is_refused_for_a_key(alloc: Global) -> Result<bool, Error> {
 }
 
 #[test]
-fn a_key_that_is_too_long_is_told_before_the_block(rt: HostRuntime) -> Result<(), Fail> {
-    assert!(rt; is_refused_for_a_key(rt.alloc())?);
-    Ok(())
+fn a_key_that_is_too_long_is_told_before_the_block(rt: HostRuntime) {
+    assert!(rt; holds(is_refused_for_a_key(rt.alloc())));
 }
 
 // The numbers of a block's ends and of what a point read finds.
@@ -651,14 +644,13 @@ fn write_and_read<A: Allocator + Copy>(alloc: A) -> Result<((SeqNo, SeqNo), SeqN
 }
 
 #[test]
-fn each_request_refused_is_answered_so(rt: HostRuntime) -> Result<(), Fail> {
+fn each_request_refused_is_answered_so(rt: HostRuntime) {
     let answers = each_refused(rt.alloc(), |heap, may_fail| match write_and_read(heap) {
         Ok(answer) => answer == ((9, 3), 0),
         Err(Error::OutOfMemory) => may_fail,
         Err(_) => false,
     });
     assert_eq!(rt; answers, Ok(29));
-    Ok(())
 }
 
 // A clone of a block, which outlives it.
@@ -677,9 +669,8 @@ fn read_a_clone<A: Allocator + Copy>(alloc: A) -> Result<((SeqNo, SeqNo), SeqNo)
 }
 
 #[test]
-fn a_clone_reads_as_its_block(rt: HostRuntime) -> Result<(), Fail> {
-    assert_eq!(rt; read_a_clone(rt.alloc())?, ((9, 3), 0));
-    Ok(())
+fn a_clone_reads_as_its_block(rt: HostRuntime) {
+    assert!(rt; is_answer(read_a_clone(rt.alloc()), ((9, 3), 0)));
 }
 
 // Whether neither end has an answer.
@@ -731,9 +722,8 @@ fn is_refused_memory<A: Allocator + Copy>(alloc: A) -> Result<bool, Error> {
 }
 
 #[test]
-fn a_refused_growth_leaves_the_buffer_as_it_was(rt: HostRuntime) -> Result<(), Fail> {
+fn a_refused_growth_leaves_the_buffer_as_it_was(rt: HostRuntime) {
     let heap = Refusing::new(rt.alloc(), 6);
-    let is_refused = is_refused_memory(&heap)?;
-    assert_eq!(rt; (is_refused, heap.requests()), (true, 6));
-    Ok(())
+    assert!(rt; holds(is_refused_memory(&heap)));
+    assert_eq!(rt; heap.requests(), 6);
 }

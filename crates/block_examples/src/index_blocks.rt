@@ -1,8 +1,8 @@
 //! Index blocks: what is written of handles, and what reads and seeks find.
 
 use crate::payloads::{
-    behind_seven, beside, both, in_grammar, index_block, is_given, is_invalid, once_done,
-    push_made, put_numbers,
+    behind_seven, beside, both, holds, in_grammar, index_block, is_answer, is_given, is_invalid,
+    once_done, push_made, put_numbers,
 };
 use refusing::{Refusing, each_refused};
 use sst_blocks::{
@@ -10,7 +10,6 @@ use sst_blocks::{
     TableVersion, are_strict_handles, index_block_bound,
 };
 use std::alloc::{AllocError, Allocator, Global};
-use std::test::Fail;
 
 fn handle<A: Allocator + Copy>(
     alloc: A,
@@ -116,9 +115,8 @@ fn is_behind_seven(alloc: Global) -> Result<bool, Error> {
 }
 
 #[test]
-fn handles_are_written_behind_what_was_there(rt: HostRuntime) -> Result<(), Fail> {
-    assert!(rt; is_behind_seven(rt.alloc())?);
-    Ok(())
+fn handles_are_written_behind_what_was_there(rt: HostRuntime) {
+    assert!(rt; holds(is_behind_seven(rt.alloc())));
 }
 
 // The position of a handle that is given.
@@ -258,9 +256,8 @@ fn seeks_lead_right(alloc: Global) -> Result<bool, Error> {
 }
 
 #[test]
-fn seeks_narrow_to_the_handles_that_may_hold_a_key(rt: HostRuntime) -> Result<(), Fail> {
-    assert!(rt; seeks_lead_right(rt.alloc())?);
-    Ok(())
+fn seeks_narrow_to_the_handles_that_may_hold_a_key(rt: HostRuntime) {
+    assert!(rt; holds(seeks_lead_right(rt.alloc())));
 }
 
 // Spells a handle by its end key, the key length that it claims and its number.
@@ -328,14 +325,13 @@ const CLAIMS: &[(u32, &[[u8; 3]], Option<usize>)] = &[
 ];
 
 #[test]
-fn payloads_out_of_the_grammar_are_refused(rt: HostRuntime) -> Result<(), Fail> {
+fn payloads_out_of_the_grammar_are_refused(rt: HostRuntime) {
     for &(count, claims, wanted) in CLAIMS {
         assert!(rt;
-            handles_claimed(rt.alloc(), count, claims)? == wanted,
+            is_answer(handles_claimed(rt.alloc(), count, claims), wanted),
             "{count}"
         );
     }
-    Ok(())
 }
 
 // Whether a payload of the other version, cut to this length, is refused.
@@ -380,10 +376,9 @@ fn is_key_refused_so(alloc: Global, len: usize, expected: Option<Error>) -> Resu
 }
 
 #[test]
-fn keys_of_a_mebibyte_are_taken_and_longer_ones_refused(rt: HostRuntime) -> Result<(), Fail> {
-    assert!(rt; is_key_refused_so(rt.alloc(), 1048576, None)?);
-    assert!(rt; is_key_refused_so(rt.alloc(), 1048577, Some(Error::KeyTooLong))?);
-    Ok(())
+fn keys_of_a_mebibyte_are_taken_and_longer_ones_refused(rt: HostRuntime) {
+    assert!(rt; holds(is_key_refused_so(rt.alloc(), 1048576, None)));
+    assert!(rt; holds(is_key_refused_so(rt.alloc(), 1048577, Some(Error::KeyTooLong))));
 }
 
 // 4,096 numbers, the high bytes first, and zeroes up to 2^20 bytes from the last.
@@ -439,12 +434,13 @@ fn bound_and_refusal(alloc: Global) -> Result<(u64, bool), Error> {
 }
 
 #[test]
-fn a_block_of_four_gibibytes_is_refused(rt: HostRuntime) -> Result<(), Fail> {
-    assert_eq!(rt;
-        bound_and_refusal(rt.alloc())?,
-        (28 + 4096 * (24 + 1048576), true)
+fn a_block_of_four_gibibytes_is_refused(rt: HostRuntime) {
+    assert!(rt;
+        is_answer(
+            bound_and_refusal(rt.alloc()),
+            (28 + 4096 * (24 + 1048576), true)
+        )
     );
-    Ok(())
 }
 
 // The positions of a block's first handle and of its last, 99 where there is none.
@@ -467,14 +463,13 @@ fn write_and_read<A: Allocator + Copy>(alloc: A) -> Result<(u64, (u64, u64)), Er
 }
 
 #[test]
-fn each_request_refused_is_answered_so(rt: HostRuntime) -> Result<(), Fail> {
+fn each_request_refused_is_answered_so(rt: HostRuntime) {
     let answers = each_refused(rt.alloc(), |heap, may_fail| match write_and_read(heap) {
         Ok(answer) => answer == (10, (0, 30)),
         Err(Error::OutOfMemory) => may_fail,
         Err(_) => false,
     });
     assert_eq!(rt; answers, Ok(23));
-    Ok(())
 }
 
 // A clone of a block, which outlives it.
@@ -501,10 +496,9 @@ fn a_clone_finds(heap: &Refusing) -> Result<bool, Error> {
 }
 
 #[test]
-fn a_clone_reads_as_its_block_and_takes_no_memory(rt: HostRuntime) -> Result<(), Fail> {
+fn a_clone_reads_as_its_block_and_takes_no_memory(rt: HostRuntime) {
     let heap = Refusing::new(rt.alloc(), 0);
-    assert!(rt; a_clone_finds(&heap)?);
-    Ok(())
+    assert!(rt; holds(a_clone_finds(&heap)));
 }
 
 // Whether neither end has an answer.
@@ -556,9 +550,8 @@ fn is_refused_memory<A: Allocator + Copy>(alloc: A) -> Result<bool, Error> {
 }
 
 #[test]
-fn a_refused_growth_leaves_the_buffer_as_it_was(rt: HostRuntime) -> Result<(), Fail> {
+fn a_refused_growth_leaves_the_buffer_as_it_was(rt: HostRuntime) {
     let heap = Refusing::new(rt.alloc(), 4);
-    let is_refused = is_refused_memory(&heap)?;
-    assert_eq!(rt; (is_refused, heap.requests()), (true, 4));
-    Ok(())
+    assert!(rt; holds(is_refused_memory(&heap)));
+    assert_eq!(rt; heap.requests(), 4);
 }

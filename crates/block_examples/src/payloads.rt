@@ -35,6 +35,19 @@ pub(crate) fn once_done<T: Drop, E>(value: T, done: Result<(), E>) -> Result<T, 
     Ok(value)
 }
 
+/// Whether something was found to hold, and nothing was refused.
+pub(crate) fn holds(answer: Result<bool, Error>) -> bool {
+    matches!(answer, Ok(true))
+}
+
+/// Whether an answer is this one, and no refusal.
+pub(crate) fn is_answer<T: PartialEq + Drop>(answer: Result<T, Error>, expected: T) -> bool {
+    match answer {
+        Ok(answer) => answer == expected,
+        Err(_) => false,
+    }
+}
+
 /// Whether a payload is out of the grammar.
 pub(crate) fn is_invalid<T: Drop>(read: Result<T, Error>) -> bool {
     matches!(read, Err(Error::InvalidBlock))
