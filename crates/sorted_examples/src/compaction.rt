@@ -5,7 +5,7 @@ ghost use Rattle.sst_entries.specs.Stream.{CanDeal, nowhere};
 
 use crate::merging::passed_of;
 use crate::merging_front::forward_of;
-use crate::words::{is_text, put_entry, put_result};
+use crate::words::{holds, is_text, put_entry, put_result};
 use lsm_sorted::MvccStream;
 use lsm_sorted::compaction::stream::{
     CompactionStream, DroppedKvCallback, StreamFilter, StreamFilterVerdict,
@@ -13,7 +13,6 @@ use lsm_sorted::compaction::stream::{
 use refusing::Refusing;
 use sst_entries::{Error, InternalValue, IterItem, Slice, ValueType};
 use std::alloc::{AllocError, Allocator, Global};
-use std::test::Fail;
 
 // Remembers what it received.
 #[derive(Drop)]
@@ -217,14 +216,13 @@ const KEPT: &[(&str, &str, &str)] = &[
 ];
 
 #[test]
-fn keeps_what_readers_at_the_threshold_see(rt: HostRuntime) -> Result<(), Fail> {
+fn keeps_what_readers_at_the_threshold_see(rt: HostRuntime) {
     for &(over, results, reports) in KEPT {
         assert!(rt;
-            compacts(rt.alloc(), &PLAIN, over, results, reports)?,
+            holds(compacts(rt.alloc(), &PLAIN, over, results, reports)),
             "{over}"
         );
     }
-    Ok(())
 }
 
 // Whether tombstones are evicted and whether numbers are zeroed come first here.
@@ -238,7 +236,7 @@ const EVICTED_OR_ZEROED: &[(bool, bool, &str, &str, &str)] = &[
 ];
 
 #[test]
-fn evicts_tombstones_and_zeroes_numbers(rt: HostRuntime) -> Result<(), Fail> {
+fn evicts_tombstones_and_zeroes_numbers(rt: HostRuntime) {
     for &(evict, zero, over, results, reports) in EVICTED_OR_ZEROED {
         let settings = Settings {
             evict,
@@ -246,11 +244,10 @@ fn evicts_tombstones_and_zeroes_numbers(rt: HostRuntime) -> Result<(), Fail> {
             ..PLAIN
         };
         assert!(rt;
-            compacts(rt.alloc(), &settings, over, results, reports)?,
+            holds(compacts(rt.alloc(), &settings, over, results, reports)),
             "{over}"
         );
     }
-    Ok(())
 }
 
 // The threshold, the filter and whether tombstones are evicted come first here.
@@ -270,7 +267,7 @@ const FILTERED: &[(u64, Plan, bool, &str, &str, &str)] = &[
 ];
 
 #[test]
-fn does_as_the_filter_says(rt: HostRuntime) -> Result<(), Fail> {
+fn does_as_the_filter_says(rt: HostRuntime) {
     for &(threshold, plan, evict, over, results, reports) in FILTERED {
         let settings = Settings {
             threshold,
@@ -279,11 +276,10 @@ fn does_as_the_filter_says(rt: HostRuntime) -> Result<(), Fail> {
             zero: false,
         };
         assert!(rt;
-            compacts(rt.alloc(), &settings, over, results, reports)?,
+            holds(compacts(rt.alloc(), &settings, over, results, reports)),
             "{over}"
         );
     }
-    Ok(())
 }
 
 const SINGLES: &str = "aV999 bV999 cV999";
@@ -316,7 +312,7 @@ const OLD_VERSIONS: &[(u64, bool, &str, &str, &str)] = &[
 ];
 
 #[test]
-fn drops_old_versions_and_hidden_values(rt: HostRuntime) -> Result<(), Fail> {
+fn drops_old_versions_and_hidden_values(rt: HostRuntime) {
     for &(threshold, zero, over, results, reports) in OLD_VERSIONS {
         let settings = Settings {
             threshold,
@@ -324,11 +320,10 @@ fn drops_old_versions_and_hidden_values(rt: HostRuntime) -> Result<(), Fail> {
             ..PLAIN
         };
         assert!(rt;
-            compacts(rt.alloc(), &settings, over, results, reports)?,
+            holds(compacts(rt.alloc(), &settings, over, results, reports)),
             "{over}"
         );
     }
-    Ok(())
 }
 
 // Whether a compaction at the threshold 995 leaves these whose filter has a state.
@@ -358,14 +353,13 @@ const NEWEST_OF_FIVE: &[(&str, u8, &str)] = &[
 ];
 
 #[test]
-fn keeps_a_state_in_the_filter(rt: HostRuntime) -> Result<(), Fail> {
+fn keeps_a_state_in_the_filter(rt: HostRuntime) {
     for &(over, watermark, wanted) in NEWEST_OF_FIVE {
         assert!(rt;
-            leaves_newest_of_five(rt.alloc(), over, watermark, wanted)?,
+            holds(leaves_newest_of_five(rt.alloc(), over, watermark, wanted)),
             "{over}"
         );
     }
-    Ok(())
 }
 
 // Whether a compaction without a filter leaves these of some results in the memory of any allocator.
@@ -381,10 +375,9 @@ fn leaves_unfiltered<A: Allocator + Copy>(
 }
 
 #[test]
-fn needs_neither_filter_nor_callback(rt: HostRuntime) -> Result<(), Fail> {
+fn needs_neither_filter_nor_callback(rt: HostRuntime) {
     let over = "aV2353 bV2353 cV2353";
-    assert!(rt; leaves_unfiltered(rt.alloc(), rt.alloc(), over, 5000, over)?);
-    Ok(())
+    assert!(rt; holds(leaves_unfiltered(rt.alloc(), rt.alloc(), over, 5000, over)));
 }
 
 // Whether a stream of the newest versions gives these of some results in the memory of any allocator.
@@ -408,9 +401,8 @@ fn streams_take<A: Allocator + Copy>(memory: A, alloc: Global) -> Result<bool, E
 }
 
 #[test]
-fn streams_take_entries_of_any_allocator(rt: HostRuntime) -> Result<(), Fail> {
+fn streams_take_entries_of_any_allocator(rt: HostRuntime) {
     let heap = Refusing::new(rt.alloc(), 0);
-    assert!(rt; streams_take(&heap, rt.alloc())?);
+    assert!(rt; holds(streams_take(&heap, rt.alloc())));
     assert!(rt; heap.requests() > 0);
-    Ok(())
 }

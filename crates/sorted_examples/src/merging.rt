@@ -3,12 +3,11 @@ ghost use Rattle.std.specs.Prelude.{All, IfOk};
 ghost use Rattle.std.specs.Iterator.{IsFinite};
 ghost use Rattle.sst_entries.specs.Stream.{CanDeal};
 
-use crate::words::{answers_so, once_done, push_made, results_of};
+use crate::words::{answers_so, holds, once_done, push_made, results_of};
 use lsm_sorted::{Merger, from_both_ends};
 use refusing::{Refusing, each_refused};
 use sst_entries::{Error, IterItem};
 use std::alloc::{Allocator, Global};
-use std::test::Fail;
 use std::vec::IntoIter;
 
 // A source that only passes on what a list holds.
@@ -133,14 +132,13 @@ const MERGED: &[(&str, &str, &str)] = &[
 ];
 
 #[test]
-fn gives_the_entries_of_all_sources_in_order_up_to_an_error(rt: HostRuntime) -> Result<(), Fail> {
+fn gives_the_entries_of_all_sources_in_order_up_to_an_error(rt: HostRuntime) {
     for &(sources, ends, wanted) in MERGED {
         assert!(rt;
-            merges(rt.alloc(), sources, ends, wanted)?,
+            holds(merges(rt.alloc(), sources, ends, wanted)),
             "{sources} at {ends}"
         );
     }
-    Ok(())
 }
 
 #[test]
@@ -170,8 +168,7 @@ fn requests_at_first_alone<A: Allocator + Copy>(
 }
 
 #[test]
-fn takes_no_memory_after_it_is_made(rt: HostRuntime) -> Result<(), Fail> {
+fn takes_no_memory_after_it_is_made(rt: HostRuntime) {
     let heap = Refusing::new(rt.alloc(), 0);
-    assert!(rt; requests_at_first_alone(rt.alloc(), &heap, &heap)?);
-    Ok(())
+    assert!(rt; holds(requests_at_first_alone(rt.alloc(), &heap, &heap)));
 }

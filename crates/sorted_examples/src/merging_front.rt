@@ -1,11 +1,10 @@
 //! Merging from the front alone: sources without a back, and errors in the middle and at the far end of one of three sources.
 ghost use Rattle.sst_entries.specs.Stream.{CanDeal, nowhere};
 
-use crate::words::{is_text, once_done, push_made, results_of, text_of};
+use crate::words::{holds, is_text, once_done, push_made, results_of, text_of};
 use lsm_sorted::Merger;
 use sst_entries::{Error, IterItem};
 use std::alloc::{AllocError, Allocator, Global};
-use std::test::Fail;
 use std::vec::IntoIter;
 
 // A source that passes on what a list holds, from the front alone.
@@ -118,9 +117,8 @@ const MERGED: &[(&str, &str)] = &[
 ];
 
 #[test]
-fn meets_an_error_only_behind_the_entries_before_it(rt: HostRuntime) -> Result<(), Fail> {
+fn meets_an_error_only_behind_the_entries_before_it(rt: HostRuntime) {
     for &(sources, wanted) in MERGED {
-        assert!(rt; merges(rt.alloc(), sources, wanted)?, "{sources}");
+        assert!(rt; holds(merges(rt.alloc(), sources, wanted)), "{sources}");
     }
-    Ok(())
 }

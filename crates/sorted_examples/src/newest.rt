@@ -5,11 +5,10 @@ ghost use Rattle.sst_entries.specs.Stream.{CanDeal, nowhere};
 
 use crate::merging::{self, passed_of};
 use crate::merging_front::{begins_so, sources_of};
-use crate::words::answers_so;
+use crate::words::{answers_so, holds};
 use lsm_sorted::{MvccStream, newest_from_both_ends, newest_of};
 use sst_entries::{Error, IterItem};
 use std::alloc::{Allocator, Global};
-use std::test::Fail;
 
 // Whether a stream over this source, whatever it is, answers so at the ends.
 fn stream_answers_so<I: DoubleEndedIterator<Item = IterItem<A>> + Drop, A: Allocator>(
@@ -56,14 +55,13 @@ const WITH_ERRORS: &[(&str, &str, &str)] = &[
 ];
 
 #[test]
-fn answers_an_error_in_the_place_of_its_key(rt: HostRuntime) -> Result<(), Fail> {
+fn answers_an_error_in_the_place_of_its_key(rt: HostRuntime) {
     for &(results, ends, wanted) in WITH_ERRORS {
         assert!(rt;
-            answers(rt.alloc(), results, ends, wanted)?,
+            holds(answers(rt.alloc(), results, ends, wanted)),
             "{results} at {ends}"
         );
     }
-    Ok(())
 }
 
 // The same without errors.
@@ -97,14 +95,13 @@ const WITHOUT_ERRORS: &[(&str, &str, &str)] = &[
 ];
 
 #[test]
-fn gives_the_newest_version_of_each_key_from_either_end(rt: HostRuntime) -> Result<(), Fail> {
+fn gives_the_newest_version_of_each_key_from_either_end(rt: HostRuntime) {
     for &(results, ends, wanted) in WITHOUT_ERRORS {
         assert!(rt;
-            answers(rt.alloc(), results, ends, wanted)?,
+            holds(answers(rt.alloc(), results, ends, wanted)),
             "{results} at {ends}"
         );
     }
-    Ok(())
 }
 
 // Whether the newest versions of these sources, whatever they are, are these at the ends.
@@ -161,14 +158,13 @@ const OF_SOURCES: &[(&str, &str, &str)] = &[
 ];
 
 #[test]
-fn gives_the_newest_version_of_each_key_of_all_sources(rt: HostRuntime) -> Result<(), Fail> {
+fn gives_the_newest_version_of_each_key_of_all_sources(rt: HostRuntime) {
     for &(sources, ends, wanted) in OF_SOURCES {
         assert!(rt;
-            are_newest(rt.alloc(), sources, ends, wanted)?,
+            holds(are_newest(rt.alloc(), sources, ends, wanted)),
             "{sources} at {ends}"
         );
     }
-    Ok(())
 }
 
 // Whether the newest versions of these sources, whatever they are, are these first.
@@ -197,9 +193,8 @@ const FROM_THE_FRONT: &[(&str, &str)] = &[
 ];
 
 #[test]
-fn takes_sources_without_a_back(rt: HostRuntime) -> Result<(), Fail> {
+fn takes_sources_without_a_back(rt: HostRuntime) {
     for &(sources, wanted) in FROM_THE_FRONT {
-        assert!(rt; are_first(rt.alloc(), sources, wanted)?, "{sources}");
+        assert!(rt; holds(are_first(rt.alloc(), sources, wanted)), "{sources}");
     }
-    Ok(())
 }

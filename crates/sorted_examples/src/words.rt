@@ -218,6 +218,11 @@ fn text_at<A: Allocator, B: Allocator + Copy, I: DoubleEndedIterator<Item = Iter
     text
 }
 
+/// Whether something was found to hold, and nothing was refused.
+pub fn holds(answer: Result<bool, Error>) -> bool {
+    matches!(answer, Ok(true))
+}
+
 /// Whether a text is this one, where memory lasted for it.
 pub fn is_text<B: Allocator>(
     text: Result<String<B>, AllocError>,
