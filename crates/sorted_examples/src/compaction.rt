@@ -131,13 +131,13 @@ fn gives_so<A: Allocator, I: Iterator<Item = IterItem<A>> + Drop>(
     alloc: Global,
     mut stream: I,
     wanted: &str,
-) -> Result<bool, AllocError>
+) -> bool
     requires can { I.can_next stream }
     requires finite { IsFinite (I.remaining stream) }
 {
     let text = drained(alloc, &mut stream);
     drop(stream);
-    is_text(text, wanted)
+    matches!(is_text(text, wanted), Ok(true))
 }
 
 // Whether a compaction of this source, whatever it is, leaves these for readers at the threshold, without a filter.
@@ -146,7 +146,7 @@ pub fn leaves_so<A: Allocator, I: Iterator<Item = IterItem<A>> + Drop>(
     source: I,
     threshold: u64,
     wanted: &str,
-) -> Result<bool, AllocError>
+) -> bool
     requires can { CanDeal I.next_gives nowhere I.can_next I.can_next source }
     requires finite { IsFinite (I.remaining source) }
 {
@@ -176,7 +176,7 @@ fn gives_and_reports<I: Iterator<Item = IterItem> + Drop>(
     items: I,
     results: &str,
     reports: &str,
-) -> Result<bool, AllocError>
+) -> bool
     requires can { CanDeal I.next_gives nowhere I.can_next I.can_next items }
     requires finite { IsFinite (I.remaining items) }
 {
@@ -187,7 +187,7 @@ fn gives_and_reports<I: Iterator<Item = IterItem> + Drop>(
         .with_drop_callback(Received::new(alloc));
     let given = is_text(drained(alloc, &mut stream), results);
     let received = is_text(stream.into_callback().into_text(), reports);
-    Ok(given? && received?)
+    matches!(given, Ok(true)) && matches!(received, Ok(true))
 }
 
 // The same of some results.
@@ -199,7 +199,7 @@ fn compacts(
     reports: &str,
 ) -> Result<bool, Error> {
     let items = forward_of(alloc, over)?;
-    Ok(gives_and_reports(alloc, settings, items, results, reports)?)
+    Ok(gives_and_reports(alloc, settings, items, results, reports))
 }
 
 // In each table: what is compacted, the results, and what is reported.
@@ -339,7 +339,7 @@ fn leaves_newest_of_five(
     };
     let items = forward_of(alloc, over)?;
     let stream = CompactionStream::new(items, 995).with_filter(filter);
-    Ok(gives_so(alloc, stream, wanted)?)
+    Ok(gives_so(alloc, stream, wanted))
 }
 
 // What is compacted, the watermark of the filter, and the results.
@@ -371,7 +371,7 @@ fn leaves_unfiltered<A: Allocator + Copy>(
     wanted: &str,
 ) -> Result<bool, Error> {
     let items = passed_of(memory, over)?;
-    Ok(leaves_so(alloc, items, threshold, wanted)?)
+    Ok(leaves_so(alloc, items, threshold, wanted))
 }
 
 #[test]
@@ -388,21 +388,19 @@ fn gives_newest<A: Allocator + Copy>(
     wanted: &str,
 ) -> Result<bool, Error> {
     let items = passed_of(memory, over)?;
-    Ok(gives_so(alloc, MvccStream::new(items), wanted)?)
+    Ok(gives_so(alloc, MvccStream::new(items), wanted))
 }
 
 // Whether streams of both kinds take entries in the memory of any allocator.
-fn streams_take<A: Allocator + Copy>(memory: A, alloc: Global) -> Result<bool, Error> {
+fn streams_take<A: Allocator + Copy>(memory: A, alloc: Global) -> bool {
     let over = "aV4 aV3 aV2";
-    Ok(
-        leaves_unfiltered(memory, alloc, over, 4, "aV4 aV3")?
-            && gives_newest(memory, alloc, over, "aV4")?,
-    )
+    holds(leaves_unfiltered(memory, alloc, over, 4, "aV4 aV3"))
+        && holds(gives_newest(memory, alloc, over, "aV4"))
 }
 
 #[test]
 fn streams_take_entries_of_any_allocator(rt: HostRuntime) {
     let heap = Refusing::new(rt.alloc(), 0);
-    assert!(rt; holds(streams_take(&heap, rt.alloc())));
+    assert!(rt; streams_take(&heap, rt.alloc()));
     assert!(rt; heap.requests() > 0);
 }

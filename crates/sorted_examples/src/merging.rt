@@ -163,7 +163,7 @@ fn requests_at_first_alone<A: Allocator + Copy>(
     let before = heap.requests();
     let merger = merger_of(memory, sources)?;
     let made = heap.requests();
-    let is_right = merger_answers_so(alloc, merger, "FBFB", "aV1 cV1 bV2 -")?;
+    let is_right = holds(merger_answers_so(alloc, merger, "FBFB", "aV1 cV1 bV2 -"));
     Ok(is_right && before < made && made == heap.requests())
 }
 

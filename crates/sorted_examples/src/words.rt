@@ -35,6 +35,14 @@ fn number_and_byte(text: &[u8]) -> (u64, u8) {
     (number, 0)
 }
 
+// Two values, or the refusal of the first that is refused.
+fn both<T: Drop, U: Drop>(
+    first: Result<T, Error>,
+    second: Result<U, Error>,
+) -> Result<(T, U), Error> {
+    Ok((first?, second?))
+}
+
 fn entry_of<A: Allocator + Copy>(
     alloc: A,
     key: u8,
@@ -48,9 +56,13 @@ fn entry_of<A: Allocator + Copy>(
         _ if byte == 0 => (ValueType::Value, key),
         _ => (ValueType::Value, byte),
     };
-    let key = slice_of(alloc, key)?;
-    let value = slice_of(alloc, value)?;
+    let (key, value) = both(slice_of(alloc, key), slice_of(alloc, value))?;
     Ok(InternalValue::from_components(key, value, seqno, kind))
+}
+
+// A result that gives a value, where that was made.
+fn given<T: Drop>(made: Result<T, Error>) -> Result<Result<T, Error>, Error> {
+    Ok(Ok(made?))
 }
 
 // The result that a word stands for.
@@ -58,7 +70,7 @@ fn result_of<A: Allocator + Copy>(alloc: A, word: &str) -> Result<IterItem<A>, E
     match word.as_bytes() {
         [b'!', code @ ..] => Ok(Err(Error::Source(number_and_byte(code).0))),
         [b'?', ..] | [] | [_] => Ok(Err(Error::OutOfMemory)),
-        [key, kind, rest @ ..] => Ok(Ok(entry_of(alloc, *key, *kind, rest)?)),
+        [key, kind, rest @ ..] => given(entry_of(alloc, *key, *kind, rest)),
     }
 }
 
