@@ -1,6 +1,9 @@
 //! Data blocks: what is written of entries, and what reads and seeks find.
 
-use crate::payloads::{behind_seven, data_block, put_numbers};
+use crate::payloads::{
+    behind_seven, beside, both, data_block, holds, in_grammar, is_answer, is_given, is_invalid,
+    once_done, push_made, put_numbers,
+};
 use refusing::{Refusing, each_refused};
 use sst_blocks::Direction::{Back, Front};
 use sst_blocks::{
@@ -8,7 +11,6 @@ use sst_blocks::{
     TableVersion, ValueType, answer_at, are_strict, data_block_bound,
 };
 use std::alloc::{AllocError, Allocator, Global};
-use std::test::Fail;
 
 fn entry<A: Allocator + Copy>(
     alloc: A,
@@ -17,8 +19,7 @@ fn entry<A: Allocator + Copy>(
     kind: ValueType,
     value: &[u8],
 ) -> Result<InternalValue<A>, Error> {
-    let key = Slice::from(alloc, key)?;
-    let value = Slice::from(alloc, value)?;
+    let (key, value) = beside(Slice::from(alloc, key)?, Slice::from(alloc, value))?;
     Ok(InternalValue::from_components(key, value, seqno, kind))
 }
 
@@ -32,8 +33,8 @@ fn written_behind<A: Allocator + Copy>(
         return Err(Error::InvalidBlock);
     }
     let mut written = Vec::from_slice(alloc, front)?;
-    DataBlock::encode_into(&mut written, items, 16, 0)?;
-    Ok(written)
+    let done = DataBlock::encode_into(&mut written, items, 16, 0);
+    once_done(written, done)
 }
 
 // The block of these entries, by way of its bytes.
@@ -42,7 +43,9 @@ fn written_and_loaded<A: Allocator + Copy>(
     items: &[InternalValue<A>],
 ) -> Result<DataBlock<A>, Error> {
     let bytes = written_behind(alloc, b"", items)?;
-    data_block(alloc, TableVersion::V4, bytes.as_slice())
+    let block = data_block(alloc, TableVersion::V4, bytes.as_slice());
+    drop(bytes);
+    block
 }
 
 // a@9, a@7 as a tombstone, a@5, c@0 and e@3.
@@ -54,19 +57,35 @@ const FIVE: &[(&[u8], SeqNo, ValueType, &[u8])] = &[
     (b"e", 3, ValueType::Indirection, b"far"),
 ];
 
+// Adds the five entries.
+fn put_five<A: Allocator + Copy>(
+    alloc: A,
+    items: &mut Vec<InternalValue<A>, A>,
+) -> Result<(), Error> {
+    for &(key, seqno, kind, value) in FIVE {
+        push_made(items, entry(alloc, key, seqno, kind, value))?;
+    }
+    Ok(())
+}
+
 // The five entries.
 fn five_entries<A: Allocator + Copy>(alloc: A) -> Result<Vec<InternalValue<A>, A>, Error> {
     let mut items = Vec::with_capacity(alloc, 5)?;
-    for &(key, seqno, kind, value) in FIVE {
-        items.push(entry(alloc, key, seqno, kind, value)?)?;
-    }
-    Ok(items)
+    let done = put_five(alloc, &mut items);
+    once_done(items, done)
 }
 
 // The block of the five entries, by way of its bytes.
 fn block_of_five<A: Allocator + Copy>(alloc: A) -> Result<DataBlock<A>, Error> {
     let items = five_entries(alloc)?;
-    written_and_loaded(alloc, &items)
+    let block = written_and_loaded(alloc, &items);
+    drop(items);
+    block
+}
+
+// Whether what is found is what is expected.
+fn is<T: PartialEq + Drop>(found: Option<T>, expected: Option<&T>) -> bool {
+    found.as_ref() == expected
 }
 
 // Whether a point read finds this entry.
@@ -76,8 +95,7 @@ fn finds<A: Allocator>(
     seqno: SeqNo,
     expected: Option<&InternalValue<A>>,
 ) -> Result<bool, Error> {
-    let found = block.point_read(key, seqno)?;
-    Ok(found.as_ref() == expected)
+    Ok(is(block.point_read(key, seqno)?, expected))
 }
 
 // The number of the entry that a point read finds, or 99 where it finds none.
@@ -86,10 +104,13 @@ fn number_found<A: Allocator>(
     key: &[u8],
     seqno: SeqNo,
 ) -> Result<SeqNo, Error> {
-    match block.point_read(key, seqno)? {
-        Some(item) => Ok(item.key.seqno),
-        None => Ok(99),
-    }
+    let found = block.point_read(key, seqno)?;
+    let number = match &found {
+        Some(item) => item.key.seqno,
+        None => 99,
+    };
+    drop(found);
+    Ok(number)
 }
 
 // a@1, a value of `x`.
@@ -104,31 +125,32 @@ const ONE_IN_V4: [u8; 23] = [
 // Whether a point read finds a@1, with the value `x`.
 fn finds_x(alloc: Global, block: &DataBlock) -> Result<bool, Error> {
     let expected = entry(alloc, b"a", 1, ValueType::Value, b"x")?;
-    finds(block, b"a", 2, Some(&expected))
+    let is_found = finds(block, b"a", 2, Some(&expected));
+    drop(expected);
+    is_found
 }
 
 // Whether a block has a@1 alone, with the value `x`.
-fn has_one_entry(alloc: Global, block: &DataBlock) -> Result<bool, Error> {
-    Ok(
-        block.len() == 1
-            && !block.is_empty()
-            && finds_x(alloc, block)?
-            && number_found(block, b"a", 1)? == 99,
-    )
+fn has_one_entry(alloc: Global, block: &DataBlock) -> bool {
+    block.len() == 1
+        && !block.is_empty()
+        && holds(finds_x(alloc, block))
+        && is_answer(number_found(block, b"a", 1), 99)
 }
 
 // Whether a payload is such a block.
 fn is_one_entry(alloc: Global, version: TableVersion, bytes: &[u8]) -> Result<bool, Error> {
     let block = data_block(alloc, version, bytes)?;
-    has_one_entry(alloc, &block)
+    let is_right = has_one_entry(alloc, &block);
+    drop(block);
+    Ok(is_right)
 }
 
 #[test]
-fn payloads_of_both_versions_read_as_their_entries(rt: HostRuntime) -> Result<(), Fail> {
+fn payloads_of_both_versions_read_as_their_entries(rt: HostRuntime) {
     let alloc = rt.alloc();
-    assert!(rt; is_one_entry(alloc, TableVersion::V3, &ONE_IN_V3)?);
-    assert!(rt; is_one_entry(alloc, TableVersion::V4, &ONE_IN_V4)?);
-    Ok(())
+    assert!(rt; is_one_entry(alloc, TableVersion::V3, &ONE_IN_V3) == Ok(true));
+    assert!(rt; is_one_entry(alloc, TableVersion::V4, &ONE_IN_V4) == Ok(true));
 }
 
 // Whether some bytes are 7 and then the payload of a@1.
@@ -139,22 +161,23 @@ fn is_behind_seven(written: &[u8]) -> bool {
 // The bound on the block of a@1, and whether its payload is written behind the byte 7.
 fn bound_and_payload(alloc: Global) -> Result<(u64, bool), Error> {
     let items = [entry(alloc, b"a", 1, ValueType::Value, b"x")?];
-    let written = written_behind(alloc, &[7], &items)?;
-    Ok((data_block_bound(&items), is_behind_seven(&written)))
+    let bound = data_block_bound(&items);
+    let written = written_behind(alloc, &[7], &items);
+    drop(items);
+    Ok((bound, is_behind_seven(&written?)))
 }
 
 #[test]
-fn entries_are_written_behind_what_was_there(rt: HostRuntime) -> Result<(), Fail> {
-    let (bound, is_behind) = bound_and_payload(rt.alloc())?;
-    assert_eq!(rt; bound, 24 + 23);
-    assert!(rt; is_behind);
-    Ok(())
+fn entries_are_written_behind_what_was_there(rt: HostRuntime) {
+    assert!(rt; is_answer(bound_and_payload(rt.alloc()), (24 + 23, true)));
 }
 
 // The number of the entry that a point read finds in the block of five, or 99 where it finds none.
 fn found_in_five(alloc: Global, key: &[u8], seqno: SeqNo) -> Result<SeqNo, Error> {
     let block = block_of_five(alloc)?;
-    number_found(&block, key, seqno)
+    let number = number_found(&block, key, seqno);
+    drop(block);
+    number
 }
 
 // A key, a number, and the number that a point read finds below it.
@@ -179,34 +202,39 @@ const READS: &[(&[u8], SeqNo, SeqNo)] = &[
 ];
 
 #[test]
-fn a_point_read_finds_the_newest_version_below_a_number(rt: HostRuntime) -> Result<(), Fail> {
+fn a_point_read_finds_the_newest_version_below_a_number(rt: HostRuntime) {
     for &(key, seqno, found) in READS {
-        assert_eq!(rt; found_in_five(rt.alloc(), key, seqno)?, found);
+        assert!(rt; is_answer(found_in_five(rt.alloc(), key, seqno), found));
     }
-    Ok(())
 }
 
 // Whether point reads in the block of five find a@7, a tombstone, and c@0, a weak one, and e@3 with its value.
-fn finds_three(block: &DataBlock, items: &[InternalValue]) -> Result<bool, Error> {
-    Ok(
-        block.len() == 5
-            && finds(block, b"a", 9, items.get(1))?
-            && finds(block, b"c", 1, items.get(3))?
-            && finds(block, b"e", 4, items.get(4))?,
-    )
+fn finds_three(block: &DataBlock, items: &[InternalValue]) -> bool {
+    block.len() == 5
+        && holds(finds(block, b"a", 9, items.get(1)))
+        && holds(finds(block, b"c", 1, items.get(3)))
+        && holds(finds(block, b"e", 4, items.get(4)))
+}
+
+// Whether the block of such entries gives them back whole.
+fn finds_in_theirs(alloc: Global, items: &[InternalValue]) -> Result<bool, Error> {
+    let block = written_and_loaded(alloc, items)?;
+    let found = finds_three(&block, items);
+    drop(block);
+    Ok(found)
 }
 
 // Whether the block of five gives such entries back whole.
 fn finds_whole_entries(alloc: Global) -> Result<bool, Error> {
     let items = five_entries(alloc)?;
-    let block = written_and_loaded(alloc, &items)?;
-    finds_three(&block, &items)
+    let found = finds_in_theirs(alloc, &items);
+    drop(items);
+    found
 }
 
 #[test]
-fn a_point_read_finds_entries_as_they_were_written(rt: HostRuntime) -> Result<(), Fail> {
-    assert!(rt; finds_whole_entries(rt.alloc())?);
-    Ok(())
+fn a_point_read_finds_entries_as_they_were_written(rt: HostRuntime) {
+    assert!(rt; holds(finds_whole_entries(rt.alloc())));
 }
 
 // The key and the number of the place, where the block has it.
@@ -214,50 +242,62 @@ fn has_key_at(block: &DataBlock, place: usize, key: &[u8], seqno: SeqNo) -> bool
     place < block.len() && block.key_at(place) == (key, seqno)
 }
 
+// Whether a block has the second key of the five and the fifth in their places.
+fn has_their_keys(block: &DataBlock) -> bool {
+    has_key_at(block, 1, b"a", 7) && has_key_at(block, 4, b"e", 3)
+}
+
 fn has_five_keys(alloc: Global) -> Result<bool, Error> {
     let block = block_of_five(alloc)?;
-    Ok(has_key_at(&block, 1, b"a", 7) && has_key_at(&block, 4, b"e", 3))
+    let has_them = has_their_keys(&block);
+    drop(block);
+    Ok(has_them)
 }
 
 #[test]
-fn the_key_of_a_place_is_that_of_its_entry(rt: HostRuntime) -> Result<(), Fail> {
-    assert!(rt; has_five_keys(rt.alloc())?);
-    Ok(())
+fn the_key_of_a_place_is_that_of_its_entry(rt: HostRuntime) {
+    assert!(rt; holds(has_five_keys(rt.alloc())));
+}
+
+// The number of an entry that is given.
+fn number_of<A: Allocator>(item: IterItem<A>) -> Result<SeqNo, Error> {
+    let item = item?;
+    let number = item.key.seqno;
+    drop(item);
+    Ok(number)
 }
 
 // The number of the next entry, from the front or the back, or 99 where there is none.
 fn number<A: Allocator>(answer: Option<IterItem<A>>) -> Result<SeqNo, Error> {
     match answer {
-        Some(item) => Ok(item?.key.seqno),
+        Some(item) => number_of(item),
         None => Ok(99),
     }
 }
 
 // The numbers of the first entry and of the last, 99 where there is none.
 fn ends<A: Allocator>(iter: &mut DataBlockIter<'_, A>) -> Result<(SeqNo, SeqNo), Error> {
-    let first = number(iter.next())?;
-    Ok((first, number(iter.next_back())?))
+    both(number(iter.next()), number(iter.next_back()))
 }
 
 // Whether a block gives no entries.
-fn gives_none(block: &DataBlock) -> Result<bool, Error> {
-    Ok(
-        block.is_empty()
-            && number_found(block, b"a", u64::MAX)? == 99
-            && ends(&mut block.iter())? == (99, 99),
-    )
+fn gives_none(block: &DataBlock) -> bool {
+    block.is_empty()
+        && is_answer(number_found(block, b"a", u64::MAX), 99)
+        && is_answer(ends(&mut block.iter()), (99, 99))
 }
 
 // Whether a block without entries gives none.
 fn has_none(alloc: Global) -> Result<bool, Error> {
     let block = data_block(alloc, TableVersion::V3, &[0; 4])?;
-    gives_none(&block)
+    let none = gives_none(&block);
+    drop(block);
+    Ok(none)
 }
 
 #[test]
-fn a_block_without_entries_has_none(rt: HostRuntime) -> Result<(), Fail> {
-    assert!(rt; has_none(rt.alloc())?);
-    Ok(())
+fn a_block_without_entries_has_none(rt: HostRuntime) {
+    assert!(rt; holds(has_none(rt.alloc())));
 }
 
 // Seeks in a block, and answers whether that leaves an entry.
@@ -273,13 +313,16 @@ fn seek(iter: &mut DataBlockIter<'_>, to: &str, key: &[u8]) -> bool {
 // Whether a seek leaves entries, and the numbers of the first and of the last.
 fn ends_after(block: &DataBlock, to: &str, key: &[u8]) -> Result<(bool, (SeqNo, SeqNo)), Error> {
     let mut iter = block.iter();
-    Ok((seek(&mut iter, to, key), ends(&mut iter)?))
+    let left = seek(&mut iter, to, key);
+    beside(left, ends(&mut iter))
 }
 
 // What a seek leaves of the block of five.
 fn left_of_five(alloc: Global, to: &str, key: &[u8]) -> Result<(bool, (SeqNo, SeqNo)), Error> {
     let block = block_of_five(alloc)?;
-    ends_after(&block, to, key)
+    let left = ends_after(&block, to, key);
+    drop(block);
+    left
 }
 
 // Whether a seek in the block of five leaves a first and a last entry of these numbers.
@@ -309,35 +352,36 @@ const SEEKS: &[(&str, &[u8], SeqNo, SeqNo)] = &[
 ];
 
 #[test]
-fn seeks_narrow_to_the_entries_on_one_side_of_a_key(rt: HostRuntime) -> Result<(), Fail> {
+fn seeks_narrow_to_the_entries_on_one_side_of_a_key(rt: HostRuntime) {
     for &(to, key, first, last) in SEEKS {
         assert!(rt;
-            leaves(rt.alloc(), to, key, first, last)?,
+            holds(leaves(rt.alloc(), to, key, first, last)),
             "{to}: {first} to {last}"
         );
     }
-    Ok(())
 }
 
 // Whether a block gives these numbers at these ends.
-fn gives(block: &DataBlock, answers: &[(Direction, SeqNo)]) -> Result<bool, Error> {
+fn gives(block: &DataBlock, answers: &[(Direction, SeqNo)]) -> bool {
     let mut iter = block.iter();
     for (end, wanted) in answers {
-        if number(answer_at(&mut iter, *end))? != *wanted {
-            return Ok(false);
+        if !is_answer(number(answer_at(&mut iter, *end)), *wanted) {
+            return false;
         }
     }
-    Ok(true)
+    true
 }
 
 // Whether the block of five gives these numbers at these ends.
 fn deals(alloc: Global, answers: &[(Direction, SeqNo)]) -> Result<bool, Error> {
     let block = block_of_five(alloc)?;
-    gives(&block, answers)
+    let given = gives(&block, answers);
+    drop(block);
+    Ok(given)
 }
 
 #[test]
-fn both_ends_deal_one_window(rt: HostRuntime) -> Result<(), Fail> {
+fn both_ends_deal_one_window(rt: HostRuntime) {
     let answers = [
         (Front, 9),
         (Back, 3),
@@ -347,29 +391,29 @@ fn both_ends_deal_one_window(rt: HostRuntime) -> Result<(), Fail> {
         (Front, 99),
         (Back, 99),
     ];
-    assert!(rt; deals(rt.alloc(), &answers)?);
-    Ok(())
+    assert!(rt; holds(deals(rt.alloc(), &answers)));
 }
 
 // Whether edges that cross at a block's first key leave nothing, whatever is sought later.
-fn edges_stay_crossed(block: &DataBlock) -> Result<bool, Error> {
+fn edges_stay_crossed(block: &DataBlock) -> bool {
     let mut iter = block.iter();
     let above = iter.seek_exclusive(b"a");
     let crossed = iter.seek_upper(b"a");
     let later = iter.seek(b"a");
-    Ok(above && !crossed && !later && ends(&mut iter)? == (99, 99))
+    above && !crossed && !later && is_answer(ends(&mut iter), (99, 99))
 }
 
 // Whether such edges leave nothing in the block of five.
 fn crossed_edges_stay(alloc: Global) -> Result<bool, Error> {
     let block = block_of_five(alloc)?;
-    edges_stay_crossed(&block)
+    let stay = edges_stay_crossed(&block);
+    drop(block);
+    Ok(stay)
 }
 
 #[test]
-fn a_later_seek_widens_no_window(rt: HostRuntime) -> Result<(), Fail> {
-    assert!(rt; crossed_edges_stay(rt.alloc())?);
-    Ok(())
+fn a_later_seek_widens_no_window(rt: HostRuntime) {
+    assert!(rt; holds(crossed_edges_stay(rt.alloc())));
 }
 
 // Spells an entry by its tag, its number, both of its lengths and the first of the two bytes behind them.
@@ -380,27 +424,39 @@ fn spell<A: Allocator>(bytes: &mut Vec<u8, A>, entry: [u32; 5]) -> Result<(), Al
     bytes.extend_from_slice(&[(first & 0xff) as u8, b'x'])
 }
 
+// Spells entries one behind another.
+fn spell_all<A: Allocator>(bytes: &mut Vec<u8, A>, entries: &[[u32; 5]]) -> Result<(), AllocError> {
+    for &entry in entries {
+        spell(bytes, entry)?;
+    }
+    Ok(())
+}
+
 // A payload of a count, and then of entries.
 fn spelled<A: Allocator + Copy>(
     alloc: A,
     count: u32,
     entries: &[[u32; 5]],
-) -> Result<Vec<u8, A>, Error> {
+) -> Result<Vec<u8, A>, AllocError> {
     let mut bytes = Vec::from_slice(alloc, &count.to_le_bytes())?;
-    for &entry in entries {
-        spell(&mut bytes, entry)?;
-    }
-    Ok(bytes)
+    let done = spell_all(&mut bytes, entries);
+    once_done(bytes, done)
 }
 
-// Whether a payload of a count and of entries is in the grammar.
+// How many entries a payload has.
+fn entries_read<A: Allocator + Copy>(alloc: A, bytes: &[u8]) -> Result<usize, Error> {
+    let block = data_block(alloc, TableVersion::V4, bytes)?;
+    let len = block.len();
+    drop(block);
+    Ok(len)
+}
+
+// Whether a payload of a count and of entries is in the grammar, and has as many.
 fn is_read<A: Allocator + Copy>(alloc: A, count: u32, entries: &[[u32; 5]]) -> Result<bool, Error> {
     let bytes = spelled(alloc, count, entries)?;
-    match data_block(alloc, TableVersion::V4, bytes.as_slice()) {
-        Ok(block) => Ok(block.len() == entries.len()),
-        Err(Error::InvalidBlock) => Ok(false),
-        Err(error) => Err(error),
-    }
+    let len = in_grammar(entries_read(alloc, bytes.as_slice()));
+    drop(bytes);
+    Ok(len? == Some(entries.len()))
 }
 
 // A count, entries, and whether they are a payload.
@@ -426,16 +482,15 @@ const PAYLOADS: &[(u32, &[[u32; 5]], bool)] = &[
 ];
 
 #[test]
-fn payloads_are_read_where_they_are_in_the_grammar(rt: HostRuntime) -> Result<(), Fail> {
+fn payloads_are_read_where_they_are_in_the_grammar(rt: HostRuntime) {
     for &(count, entries, good) in PAYLOADS {
-        assert_eq!(rt; is_read(rt.alloc(), count, entries)?, good);
+        assert!(rt; is_answer(is_read(rt.alloc(), count, entries), good));
     }
-    Ok(())
 }
 
 // Whether a payload is no block.
 fn is_refused(alloc: Global, version: TableVersion, bytes: &[u8]) -> bool {
-    matches!(data_block(alloc, version, bytes), Err(Error::InvalidBlock))
+    is_invalid(data_block(alloc, version, bytes))
 }
 
 #[test]
@@ -466,7 +521,9 @@ fn entry_of_key_len<A: Allocator + Copy>(
 // How many bytes are written of one entry, of a key of so many.
 fn written_len<A: Allocator + Copy>(alloc: A, key_len: usize) -> Result<usize, Error> {
     let items = [entry_of_key_len(alloc, 0, key_len)?];
-    Ok(written_behind(alloc, b"", &items)?.len())
+    let written = written_behind(alloc, b"", &items);
+    drop(items);
+    Ok(written?.len())
 }
 
 #[test]
@@ -483,8 +540,20 @@ fn entry_sharing<A: Allocator + Copy>(
     number: u16,
     value: &Slice<A>,
 ) -> Result<InternalValue<A>, Error> {
-    let key = Slice::from(alloc, &number.to_be_bytes())?;
-    Ok(InternalValue::from_components(key, value.clone()?, 1, ValueType::Value))
+    let (key, value) = beside(Slice::from(alloc, &number.to_be_bytes())?, value.clone())?;
+    Ok(InternalValue::from_components(key, value, 1, ValueType::Value))
+}
+
+// Adds entries of 4,096 keys, which share this value's memory.
+fn put_entries_sharing<A: Allocator + Copy>(
+    alloc: A,
+    items: &mut Vec<InternalValue<A>, A>,
+    value: &Slice<A>,
+) -> Result<(), Error> {
+    for number in 0..4096 {
+        push_made(items, entry_sharing(alloc, number, value))?;
+    }
+    Ok(())
 }
 
 // Entries of 4,096 keys, which share this value's memory.
@@ -493,120 +562,125 @@ fn entries_sharing<A: Allocator + Copy>(
     value: &Slice<A>,
 ) -> Result<Vec<InternalValue<A>, A>, Error> {
     let mut items = Vec::new(alloc);
-    for number in 0..4096 {
-        items.push(entry_sharing(alloc, number, value)?)?;
-    }
-    Ok(items)
+    let done = put_entries_sharing(alloc, &mut items, value);
+    once_done(items, done)
 }
 
 // Entries of 4,096 keys, whose values of a mebibyte share their memory.
 fn many_entries<A: Allocator + Copy>(alloc: A) -> Result<Vec<InternalValue<A>, A>, Error> {
     let value = Slice::from_vec(vec![in alloc; 0u8; 1048576]?)?;
-    entries_sharing(alloc, &value)
+    let items = entries_sharing(alloc, &value);
+    drop(value);
+    items
 }
 
-// How encoding some entries behind the byte 7 is refused, where that leaves the byte alone.
-fn refusal<A: Allocator + Copy>(
+// Whether encoding some entries behind the byte 7 is refused so, where that leaves the byte alone.
+fn is_refused_so<A: Allocator + Copy>(
     alloc: A,
     items: &[InternalValue<A>],
-) -> Result<Option<Error>, Error> {
+    expected: Error,
+) -> Result<bool, Error> {
     let mut buf = Vec::new(alloc);
     buf.push(7)?;
     if !are_strict(items) {
-        return Ok(None);
+        return Ok(false);
     }
     let refused = DataBlock::encode_into(&mut buf, items, 16, 0).err();
-    Ok(behind_seven(&buf, refused))
+    Ok(behind_seven(&buf, refused) == Some(expected))
 }
 
-// The bound on the block of as many entries, and how they are refused.
-fn bound_and_refusal(alloc: Global) -> Result<(u64, Option<Error>), Error> {
+// The bound on the block of as many entries, and whether they are refused for it.
+fn bound_and_refusal(alloc: Global) -> Result<(u64, bool), Error> {
     let items = many_entries(alloc)?;
-    let refused = refusal(alloc, &items)?;
-    Ok((data_block_bound(&items), refused))
+    let bound = data_block_bound(&items);
+    let is_refused = is_refused_so(alloc, &items, Error::BlockTooLarge);
+    drop(items);
+    beside(bound, is_refused)
 }
 
 #[test]
-fn a_block_of_four_gibibytes_is_refused(rt: HostRuntime) -> Result<(), Fail> {
-    let (bound, refused) = bound_and_refusal(rt.alloc())?;
-    assert_eq!(rt; bound, 28 + 4096 * (17 + 2 + 1048576));
-    assert_eq!(rt; refused, Some(Error::BlockTooLarge));
-    Ok(())
+fn a_block_of_four_gibibytes_is_refused(rt: HostRuntime) {
+    assert!(rt;
+        is_answer(
+            bound_and_refusal(rt.alloc()),
+            (28 + 4096 * (17 + 2 + 1048576), true)
+        )
+    );
 }
 
-// The refusal of as many entries, and one behind them whose key is too long.
-fn refusal_of_a_long_key(alloc: Global) -> Result<Option<Error>, Error> {
+// Whether as many entries, and one behind them whose key is too long, are refused for the key.
+fn is_refused_for_a_key(alloc: Global) -> Result<bool, Error> {
     let mut items = many_entries(alloc)?;
-    items.push(entry_of_key_len(alloc, 0xff, 1048577)?)?;
-    refusal(alloc, &items)
+    let done = push_made(&mut items, entry_of_key_len(alloc, 0xff, 1048577));
+    let items = once_done(items, done)?;
+    let is_refused = is_refused_so(alloc, &items, Error::KeyTooLong);
+    drop(items);
+    is_refused
 }
 
 #[test]
-fn a_key_that_is_too_long_is_told_before_the_block(rt: HostRuntime) -> Result<(), Fail> {
-    assert_eq!(rt; refusal_of_a_long_key(rt.alloc())?, Some(Error::KeyTooLong));
-    Ok(())
+fn a_key_that_is_too_long_is_told_before_the_block(rt: HostRuntime) {
+    assert!(rt; holds(is_refused_for_a_key(rt.alloc())));
 }
 
 // The numbers of a block's ends and of what a point read finds.
-fn read<A: Allocator>(block: &DataBlock<A>) -> Result<(SeqNo, SeqNo, SeqNo), Error> {
-    let (first, last) = ends(&mut block.iter())?;
-    Ok((first, last, number_found(block, b"c", 1)?))
+fn read<A: Allocator>(block: &DataBlock<A>) -> Result<((SeqNo, SeqNo), SeqNo), Error> {
+    both(ends(&mut block.iter()), number_found(block, b"c", 1))
 }
 
 // These numbers of the block of five, by way of its bytes.
-fn write_and_read<A: Allocator + Copy>(alloc: A) -> Result<(SeqNo, SeqNo, SeqNo), Error> {
+fn write_and_read<A: Allocator + Copy>(alloc: A) -> Result<((SeqNo, SeqNo), SeqNo), Error> {
     let block = block_of_five(alloc)?;
-    read(&block)
+    let numbers = read(&block);
+    drop(block);
+    numbers
 }
 
 #[test]
-fn each_request_refused_is_answered_so(rt: HostRuntime) -> Result<(), Fail> {
+fn each_request_refused_is_answered_so(rt: HostRuntime) {
     let answers = each_refused(rt.alloc(), |heap, may_fail| match write_and_read(heap) {
-        Ok(answer) => answer == (9, 3, 0),
+        Ok(answer) => answer == ((9, 3), 0),
         Err(Error::OutOfMemory) => may_fail,
         Err(_) => false,
     });
     assert_eq!(rt; answers, Ok(29));
-    Ok(())
+}
+
+// A clone of a block, which outlives it.
+fn left_by_its_block<A: Allocator>(block: DataBlock<A>) -> Result<DataBlock<A>, AllocError> {
+    let copy: Result<_, _> = block.clone();
+    drop(block);
+    copy
 }
 
 // These numbers of a clone of the block of five, which outlives it.
-fn read_a_clone<A: Allocator + Copy>(alloc: A) -> Result<(SeqNo, SeqNo, SeqNo), Error> {
-    let block = block_of_five(alloc)?;
-    let copy = block.clone()?;
-    drop(block);
-    read(&copy)
+fn read_a_clone<A: Allocator + Copy>(alloc: A) -> Result<((SeqNo, SeqNo), SeqNo), Error> {
+    let copy = left_by_its_block(block_of_five(alloc)?)?;
+    let numbers = read(&copy);
+    drop(copy);
+    numbers
 }
 
 #[test]
-fn a_clone_reads_as_its_block(rt: HostRuntime) -> Result<(), Fail> {
-    assert_eq!(rt; read_a_clone(rt.alloc())?, (9, 3, 0));
-    Ok(())
-}
-
-// Whether an answer is an entry or a refusal, where there is one.
-fn is_entry<A: Allocator>(answer: Option<IterItem<A>>) -> Option<bool> {
-    match answer {
-        Some(item) => Some(item.is_ok()),
-        None => None,
-    }
+fn a_clone_reads_as_its_block(rt: HostRuntime) {
+    assert!(rt; is_answer(read_a_clone(rt.alloc()), ((9, 3), 0)));
 }
 
 // Whether neither end has an answer.
 fn is_over<A: Allocator>(iter: &mut DataBlockIter<'_, A>) -> bool {
-    is_entry(iter.next()).is_none() && is_entry(iter.next_back()).is_none()
+    is_given(iter.next()).is_none() && is_given(iter.next_back()).is_none()
 }
 
 // Whether so many entries at most, taken from the back, end for good at the first that is refused.
 fn ends_at_first<A: Allocator>(iter: &mut DataBlockIter<'_, A>, len: usize) -> bool {
     for _ in 0..len {
-        match is_entry(iter.next_back()) {
+        match is_given(iter.next_back()) {
             Some(true) => {}
             Some(false) => return is_over(iter),
             None => return false,
         }
     }
-    is_entry(iter.next_back()).is_none()
+    is_given(iter.next_back()).is_none()
 }
 
 // Whether a block's entries, taken from the back, end for good at the first that is refused.
@@ -617,7 +691,11 @@ fn ends_at_refusal<A: Allocator>(block: &DataBlock<A>) -> bool {
 // Whether it does so for one allocator's block of five; memory may have run out before.
 fn is_ended<A: Allocator + Copy>(alloc: A) -> bool {
     match block_of_five(alloc) {
-        Ok(block) => ends_at_refusal(&block),
+        Ok(block) => {
+            let ends = ends_at_refusal(&block);
+            drop(block);
+            ends
+        }
         Err(_) => true,
     }
 }
@@ -628,16 +706,17 @@ fn nothing_comes_after_a_refused_entry(rt: HostRuntime) {
     assert!(rt; answers.is_ok());
 }
 
-// The refusal of one entry in an allocator that refuses its sixth request, and how many it was asked.
-fn refusal_of_the_sixth(heap: &Refusing) -> Result<(Option<Error>, usize), Error> {
-    let items = [entry(heap, b"a", 1, ValueType::Value, b"x")?];
-    let refused = refusal(heap, &items)?;
-    Ok((refused, heap.requests()))
+// Whether one entry in an allocator is refused for memory.
+fn is_refused_memory<A: Allocator + Copy>(alloc: A) -> Result<bool, Error> {
+    let items = [entry(alloc, b"a", 1, ValueType::Value, b"x")?];
+    let is_refused = is_refused_so(alloc, &items, Error::OutOfMemory);
+    drop(items);
+    is_refused
 }
 
 #[test]
-fn a_refused_growth_leaves_the_buffer_as_it_was(rt: HostRuntime) -> Result<(), Fail> {
+fn a_refused_growth_leaves_the_buffer_as_it_was(rt: HostRuntime) {
     let heap = Refusing::new(rt.alloc(), 6);
-    assert_eq!(rt; refusal_of_the_sixth(&heap)?, (Some(Error::OutOfMemory), 6));
-    Ok(())
+    assert!(rt; holds(is_refused_memory(&heap)));
+    assert_eq!(rt; heap.requests(), 6);
 }

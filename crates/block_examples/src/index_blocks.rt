@@ -1,13 +1,15 @@
 //! Index blocks: what is written of handles, and what reads and seeks find.
 
-use crate::payloads::{behind_seven, index_block, put_numbers};
+use crate::payloads::{
+    behind_seven, beside, both, holds, in_grammar, index_block, is_answer, is_given, is_invalid,
+    once_done, push_made, put_numbers,
+};
 use refusing::{Refusing, each_refused};
 use sst_blocks::{
     BlockHandle, BlockOffset, Error, IndexBlock, IndexBlockIter, KeyedBlockHandle, SeqNo, Slice,
     TableVersion, are_strict_handles, index_block_bound,
 };
 use std::alloc::{AllocError, Allocator, Global};
-use std::test::Fail;
 
 fn handle<A: Allocator + Copy>(
     alloc: A,
@@ -23,13 +25,22 @@ fn handle<A: Allocator + Copy>(
 // b@5, b@3, d@9 and f@1, and the positions of their blocks.
 const FOUR: &[(&[u8], SeqNo, u64)] = &[(b"b", 5, 0), (b"b", 3, 10), (b"d", 9, 20), (b"f", 1, 30)];
 
+// Adds the four handles.
+fn put_four<A: Allocator + Copy>(
+    alloc: A,
+    handles: &mut Vec<KeyedBlockHandle<A>, A>,
+) -> Result<(), Error> {
+    for &(end_key, seqno, offset) in FOUR {
+        push_made(handles, handle(alloc, end_key, seqno, offset, 10))?;
+    }
+    Ok(())
+}
+
 // The four handles.
 fn four_handles<A: Allocator + Copy>(alloc: A) -> Result<Vec<KeyedBlockHandle<A>, A>, Error> {
     let mut handles = Vec::new(alloc);
-    for &(end_key, seqno, offset) in FOUR {
-        handles.push(handle(alloc, end_key, seqno, offset, 10)?)?;
-    }
-    Ok(handles)
+    let done = put_four(alloc, &mut handles);
+    once_done(handles, done)
 }
 
 // The position of the handle that is found, or 99 where there is none.
@@ -69,7 +80,9 @@ fn is_one_handle(
     size: u32,
 ) -> Result<bool, Error> {
     let block = index_block(alloc, version, bytes)?;
-    Ok(has_one_handle(&block, size))
+    let is_right = has_one_handle(&block, size);
+    drop(block);
+    Ok(is_right)
 }
 
 // What is written of some handles behind some bytes.
@@ -82,28 +95,36 @@ fn written_behind<A: Allocator + Copy>(
         return Err(Error::InvalidBlock);
     }
     let mut written = Vec::from_slice(alloc, front)?;
-    IndexBlock::encode_into(&mut written, handles)?;
-    Ok(written)
+    let done = IndexBlock::encode_into(&mut written, handles);
+    once_done(written, done)
 }
 
 #[test]
-fn payloads_of_both_versions_read_as_their_handles(rt: HostRuntime) -> Result<(), Fail> {
+fn payloads_of_both_versions_read_as_their_handles(rt: HostRuntime) {
     let alloc = rt.alloc();
-    assert!(rt; is_one_handle(alloc, TableVersion::V3, &ONE_IN_V3, 45)?);
-    assert!(rt; is_one_handle(alloc, TableVersion::V4, &ONE_IN_V4, 47)?);
-    Ok(())
+    assert!(rt; is_one_handle(alloc, TableVersion::V3, &ONE_IN_V3, 45) == Ok(true));
+    assert!(rt; is_one_handle(alloc, TableVersion::V4, &ONE_IN_V4, 47) == Ok(true));
 }
 
 // Whether the payload of a@1 is written behind the byte 7.
 fn is_behind_seven(alloc: Global) -> Result<bool, Error> {
-    let written = written_behind(alloc, &[7], &[handle(alloc, b"a", 1, 0, 47)?])?;
-    Ok(matches!(written.as_slice(), [7, payload @ ..] if payload == ONE_IN_V4.as_slice()))
+    let handles = [handle(alloc, b"a", 1, 0, 47)?];
+    let written = written_behind(alloc, &[7], &handles);
+    drop(handles);
+    Ok(matches!(written?.as_slice(), [7, payload @ ..] if payload == ONE_IN_V4.as_slice()))
 }
 
 #[test]
-fn handles_are_written_behind_what_was_there(rt: HostRuntime) -> Result<(), Fail> {
-    assert!(rt; is_behind_seven(rt.alloc())?);
-    Ok(())
+fn handles_are_written_behind_what_was_there(rt: HostRuntime) {
+    assert!(rt; holds(is_behind_seven(rt.alloc())));
+}
+
+// The position of a handle that is given.
+fn position_of<A: Allocator>(handle: Result<KeyedBlockHandle<A>, Error>) -> Result<u64, Error> {
+    let handle = handle?;
+    let position = handle.offset().0;
+    drop(handle);
+    Ok(position)
 }
 
 // The position of the next handle, from the front or the back, or 99 where there is none.
@@ -111,7 +132,7 @@ fn position<A: Allocator>(
     answer: Option<Result<KeyedBlockHandle<A>, Error>>,
 ) -> Result<u64, Error> {
     match answer {
-        Some(handle) => Ok(handle?.offset().0),
+        Some(handle) => position_of(handle),
         None => Ok(99),
     }
 }
@@ -122,13 +143,17 @@ fn written_and_loaded<A: Allocator + Copy>(
     handles: &[KeyedBlockHandle<A>],
 ) -> Result<IndexBlock<A>, Error> {
     let bytes = written_behind(alloc, b"", handles)?;
-    index_block(alloc, TableVersion::V4, bytes.as_slice())
+    let block = index_block(alloc, TableVersion::V4, bytes.as_slice());
+    drop(bytes);
+    block
 }
 
 // The block of the four handles, through its bytes.
 fn block_of_four<A: Allocator + Copy>(alloc: A) -> Result<IndexBlock<A>, Error> {
     let handles = four_handles(alloc)?;
-    written_and_loaded(alloc, &handles)
+    let block = written_and_loaded(alloc, &handles);
+    drop(handles);
+    block
 }
 
 // Whether handles are left after a seek, and the position of the first.
@@ -139,14 +164,14 @@ fn first_after_seek<A: Allocator>(
 ) -> Result<(bool, u64), Error> {
     let mut iter = block.iter();
     let left = iter.seek(key, seqno);
-    Ok((left, position(iter.next())?))
+    beside(left, position(iter.next()))
 }
 
 // Whether handles are left after a seek of the upper end, and the position of the last.
 fn last_after_seek<A: Allocator>(block: &IndexBlock<A>, key: &[u8]) -> Result<(bool, u64), Error> {
     let mut iter = block.iter();
     let left = iter.seek_upper(key, 0);
-    Ok((left, position(iter.next_back())?))
+    beside(left, position(iter.next_back()))
 }
 
 // The positions from the back, from the front twice and from the back again, after both seeks.
@@ -155,14 +180,13 @@ fn after_both_seeks<A: Allocator>(
     key: &[u8],
     seqno: SeqNo,
     upper: &[u8],
-) -> Result<(u64, u64, u64, u64), Error> {
+) -> Result<((u64, u64), (u64, u64)), Error> {
     let mut iter = block.iter();
     iter.seek(key, seqno);
     iter.seek_upper(upper, 0);
-    let last = position(iter.next_back())?;
-    let first = position(iter.next())?;
-    let second = position(iter.next())?;
-    Ok((last, first, second, position(iter.next_back())?))
+    let outer = both(position(iter.next_back()), position(iter.next()));
+    let inner = both(position(iter.next()), position(iter.next_back()));
+    both(outer, inner)
 }
 
 // A key and a number, and the position of the first handle that reaches them.
@@ -192,47 +216,45 @@ const LAST: &[(u8, u64)] = &[
 ];
 
 // The first case of `FIRST` that the block answers otherwise.
-fn wrong_first<A: Allocator>(block: &IndexBlock<A>) -> Result<Option<u64>, Error> {
+fn wrong_first<A: Allocator>(block: &IndexBlock<A>) -> Option<u64> {
     for &(key, seqno, first) in FIRST {
-        if first_after_seek(block, &[key], seqno)? != (first != 99, first)
-            || found_at(block, &[key], seqno) != first
-        {
-            return Ok(Some(first));
+        let sought = first_after_seek(block, &[key], seqno);
+        if !is_answer(sought, (first != 99, first)) || found_at(block, &[key], seqno) != first {
+            return Some(first);
         }
     }
-    Ok(None)
+    None
 }
 
 // The first case of `LAST` that the block answers otherwise.
-fn wrong_last<A: Allocator>(block: &IndexBlock<A>) -> Result<Option<u64>, Error> {
+fn wrong_last<A: Allocator>(block: &IndexBlock<A>) -> Option<u64> {
     for &(key, last) in LAST {
-        if last_after_seek(block, &[key])? != (true, last) {
-            return Ok(Some(last));
+        if !is_answer(last_after_seek(block, &[key]), (true, last)) {
+            return Some(last);
         }
     }
-    Ok(None)
+    None
 }
 
 // Whether all seeks in a block of the four handles lead where they should.
-fn lead_right(block: &IndexBlock) -> Result<bool, Error> {
-    Ok(
-        wrong_first(block)?.is_none()
-            && wrong_last(block)?.is_none()
-            && after_both_seeks(block, b"b", 4, b"c")? == (20, 10, 99, 99)
-            && after_both_seeks(block, b"d", 9, b"a")? == (99, 99, 99, 99),
-    )
+fn lead_right(block: &IndexBlock) -> bool {
+    wrong_first(block).is_none()
+        && wrong_last(block).is_none()
+        && is_answer(after_both_seeks(block, b"b", 4, b"c"), ((20, 10), (99, 99)))
+        && is_answer(after_both_seeks(block, b"d", 9, b"a"), ((99, 99), (99, 99)))
 }
 
 // Whether they do so in the block of four, by way of its bytes.
 fn seeks_lead_right(alloc: Global) -> Result<bool, Error> {
     let block = block_of_four(alloc)?;
-    lead_right(&block)
+    let are_right = lead_right(&block);
+    drop(block);
+    Ok(are_right)
 }
 
 #[test]
-fn seeks_narrow_to_the_handles_that_may_hold_a_key(rt: HostRuntime) -> Result<(), Fail> {
-    assert!(rt; seeks_lead_right(rt.alloc())?);
-    Ok(())
+fn seeks_narrow_to_the_handles_that_may_hold_a_key(rt: HostRuntime) {
+    assert!(rt; holds(seeks_lead_right(rt.alloc())));
 }
 
 // Spells a handle by its end key, the key length that it claims and its number.
@@ -242,17 +264,31 @@ fn spell<A: Allocator>(bytes: &mut Vec<u8, A>, claim: &[u8; 3]) -> Result<(), Al
     bytes.extend_from_slice(&[*key])
 }
 
+// Spells handles one behind another.
+fn spell_all<A: Allocator>(bytes: &mut Vec<u8, A>, claims: &[[u8; 3]]) -> Result<(), AllocError> {
+    for claim in claims {
+        spell(bytes, claim)?;
+    }
+    Ok(())
+}
+
 // A payload of a count, and then of handles.
 fn spelled<A: Allocator + Copy>(
     alloc: A,
     count: u32,
     claims: &[[u8; 3]],
-) -> Result<Vec<u8, A>, Error> {
+) -> Result<Vec<u8, A>, AllocError> {
     let mut bytes = Vec::from_slice(alloc, &count.to_le_bytes())?;
-    for claim in claims {
-        spell(&mut bytes, claim)?;
-    }
-    Ok(bytes)
+    let done = spell_all(&mut bytes, claims);
+    once_done(bytes, done)
+}
+
+// How many handles a payload has.
+fn handles_read<A: Allocator + Copy>(alloc: A, bytes: &[u8]) -> Result<usize, Error> {
+    let block = index_block(alloc, TableVersion::V4, bytes)?;
+    let len = block.len();
+    drop(block);
+    Ok(len)
 }
 
 // How many handles a payload of a count and of handles has, where it is in the grammar.
@@ -262,11 +298,9 @@ fn handles_claimed<A: Allocator + Copy>(
     claims: &[[u8; 3]],
 ) -> Result<Option<usize>, Error> {
     let bytes = spelled(alloc, count, claims)?;
-    match index_block(alloc, TableVersion::V4, bytes.as_slice()) {
-        Ok(block) => Ok(Some(block.len())),
-        Err(Error::InvalidBlock) => Ok(None),
-        Err(error) => Err(error),
-    }
+    let len = in_grammar(handles_read(alloc, bytes.as_slice()));
+    drop(bytes);
+    len
 }
 
 // A count, handles, and how many the payload has, where it is in the grammar.
@@ -288,24 +322,20 @@ const CLAIMS: &[(u32, &[[u8; 3]], Option<usize>)] = &[
 ];
 
 #[test]
-fn payloads_out_of_the_grammar_are_refused(rt: HostRuntime) -> Result<(), Fail> {
+fn payloads_out_of_the_grammar_are_refused(rt: HostRuntime) {
     for &(count, claims, wanted) in CLAIMS {
         assert!(rt;
-            handles_claimed(rt.alloc(), count, claims)? == wanted,
+            is_answer(handles_claimed(rt.alloc(), count, claims), wanted),
             "{count}"
         );
     }
-    Ok(())
 }
 
 // Whether a payload of the other version, cut to this length, is refused.
 fn is_refused(alloc: Global, len: usize) -> bool {
     let old = ONE_IN_V3;
     match old.get(..len) {
-        Some(bytes) => matches!(
-            index_block(alloc, TableVersion::V4, bytes),
-            Err(Error::InvalidBlock)
-        ),
+        Some(bytes) => is_invalid(index_block(alloc, TableVersion::V4, bytes)),
         None => false,
     }
 }
@@ -318,34 +348,34 @@ fn payloads_cut_short_or_of_the_other_version_are_refused(rt: HostRuntime) {
     }
 }
 
-// The refusal of encoding some handles behind the byte 7, where that leaves the byte alone.
-fn refusal<A: Allocator + Copy>(
+// Whether encoding some handles behind the byte 7 is refused so, or not at all, where that leaves the byte alone.
+fn is_refused_so<A: Allocator + Copy>(
     alloc: A,
     handles: &[KeyedBlockHandle<A>],
-) -> Result<Option<Error>, Error> {
+    expected: Option<Error>,
+) -> Result<bool, Error> {
     let mut buf = Vec::new(alloc);
     buf.push(7)?;
     if !are_strict_handles(handles) {
-        return Ok(None);
+        return Ok(expected.is_none());
     }
     let refused = IndexBlock::encode_into(&mut buf, handles).err();
-    Ok(behind_seven(&buf, refused))
+    Ok(behind_seven(&buf, refused) == expected)
 }
 
-// The refusal of one handle whose end key has this length.
-fn refusal_of_a_key(alloc: Global, len: usize) -> Result<Option<Error>, Error> {
+// Whether one handle whose end key has this length is refused so, or not at all.
+fn is_key_refused_so(alloc: Global, len: usize, expected: Option<Error>) -> Result<bool, Error> {
     let end_key = vec![in alloc; 0u8; len]?;
-    refusal(alloc, &[handle(alloc, &end_key, 1, 0, 24)?])
+    let handles = [handle(alloc, &end_key, 1, 0, 24)?];
+    let is_refused = is_refused_so(alloc, &handles, expected);
+    drop(handles);
+    is_refused
 }
 
 #[test]
-fn keys_of_a_mebibyte_are_taken_and_longer_ones_refused(rt: HostRuntime) -> Result<(), Fail> {
-    assert_eq!(rt; refusal_of_a_key(rt.alloc(), 1048576)?, None);
-    assert_eq!(rt;
-        refusal_of_a_key(rt.alloc(), 1048577)?,
-        Some(Error::KeyTooLong)
-    );
-    Ok(())
+fn keys_of_a_mebibyte_are_taken_and_longer_ones_refused(rt: HostRuntime) {
+    assert!(rt; holds(is_key_refused_so(rt.alloc(), 1048576, None)));
+    assert!(rt; holds(is_key_refused_so(rt.alloc(), 1048577, Some(Error::KeyTooLong))));
 }
 
 // 4,096 numbers, the high bytes first, and zeroes up to 2^20 bytes from the last.
@@ -368,75 +398,90 @@ fn handle_within(bytes: &Slice, start: usize) -> Result<KeyedBlockHandle, Error>
     Ok(KeyedBlockHandle::new(bytes.slice(start, end)?, 1, inner))
 }
 
+// Adds handles whose end keys of 2^20 bytes begin at 4,096 places of these bytes.
+fn put_handles_within(handles: &mut Vec<KeyedBlockHandle>, bytes: &Slice) -> Result<(), Error> {
+    for i in 0..4096usize {
+        push_made(handles, handle_within(bytes, 2 * i))?;
+    }
+    Ok(())
+}
+
 // Handles whose end keys of 2^20 bytes begin at 4,096 places of these bytes.
 fn handles_within(alloc: Global, bytes: &Slice) -> Result<Vec<KeyedBlockHandle>, Error> {
     let mut handles = Vec::new(alloc);
-    for i in 0..4096usize {
-        handles.push(handle_within(bytes, 2 * i)?)?;
-    }
-    Ok(handles)
+    let done = put_handles_within(&mut handles, bytes);
+    once_done(handles, done)
 }
 
 // 4,096 handles whose end keys of 2^20 bytes share their memory: key i begins with i, the high byte first.
 fn many_handles(alloc: Global) -> Result<Vec<KeyedBlockHandle>, Error> {
     let shared = numbers(alloc)?;
-    handles_within(alloc, &shared)
+    let handles = handles_within(alloc, &shared);
+    drop(shared);
+    handles
 }
 
-// The bound on the block of as many handles, and how they are refused.
-fn bound_and_refusal(alloc: Global) -> Result<(u64, Option<Error>), Error> {
+// The bound on the block of as many handles, and whether they are refused for it.
+fn bound_and_refusal(alloc: Global) -> Result<(u64, bool), Error> {
     let handles = many_handles(alloc)?;
-    let refused = refusal(alloc, &handles)?;
-    Ok((index_block_bound(&handles), refused))
+    let bound = index_block_bound(&handles);
+    let is_refused = is_refused_so(alloc, &handles, Some(Error::BlockTooLarge));
+    drop(handles);
+    beside(bound, is_refused)
 }
 
 #[test]
-fn a_block_of_four_gibibytes_is_refused(rt: HostRuntime) -> Result<(), Fail> {
-    let (bound, refused) = bound_and_refusal(rt.alloc())?;
-    assert_eq!(rt; bound, 28 + 4096 * (24 + 1048576));
-    assert_eq!(rt; refused, Some(Error::BlockTooLarge));
-    Ok(())
+fn a_block_of_four_gibibytes_is_refused(rt: HostRuntime) {
+    assert!(rt;
+        is_answer(
+            bound_and_refusal(rt.alloc()),
+            (28 + 4096 * (24 + 1048576), true)
+        )
+    );
 }
 
 // The positions of a block's first handle and of its last, 99 where there is none.
 fn ends<A: Allocator>(block: &IndexBlock<A>) -> Result<(u64, u64), Error> {
     let mut iter = block.iter();
-    let first = position(iter.next())?;
-    Ok((first, position(iter.next_back())?))
+    both(position(iter.next()), position(iter.next_back()))
 }
 
-// The positions of a block's ends and of the handle that reaches b@5.
-fn read<A: Allocator>(block: &IndexBlock<A>) -> Result<(u64, u64, u64), Error> {
-    let (first, last) = ends(block)?;
-    Ok((first, last, found_at(block, b"b", 5)))
+// The position of the handle that reaches b@5, and those of a block's ends.
+fn read<A: Allocator>(block: &IndexBlock<A>) -> Result<(u64, (u64, u64)), Error> {
+    beside(found_at(block, b"b", 5), ends(block))
 }
 
 // These positions in the block of four, by way of its bytes.
-fn write_and_read<A: Allocator + Copy>(alloc: A) -> Result<(u64, u64, u64), Error> {
+fn write_and_read<A: Allocator + Copy>(alloc: A) -> Result<(u64, (u64, u64)), Error> {
     let block = block_of_four(alloc)?;
-    read(&block)
+    let positions = read(&block);
+    drop(block);
+    positions
 }
 
 #[test]
-fn each_request_refused_is_answered_so(rt: HostRuntime) -> Result<(), Fail> {
+fn each_request_refused_is_answered_so(rt: HostRuntime) {
     let answers = each_refused(rt.alloc(), |heap, may_fail| match write_and_read(heap) {
-        Ok(answer) => answer == (0, 30, 10),
+        Ok(answer) => answer == (10, (0, 30)),
         Err(Error::OutOfMemory) => may_fail,
         Err(_) => false,
     });
     assert_eq!(rt; answers, Ok(23));
-    Ok(())
 }
 
 // A clone of a block, which outlives it.
 fn left_by_its_block<A: Allocator>(block: IndexBlock<A>) -> Result<IndexBlock<A>, AllocError> {
-    block.clone()
+    let copy: Result<_, _> = block.clone();
+    drop(block);
+    copy
 }
 
 // How many handles such a clone has, and the position of the one that reaches c@1.
 fn found_after<A: Allocator>(block: IndexBlock<A>) -> Result<(usize, u64), Error> {
     let copy = left_by_its_block(block)?;
-    Ok((copy.len(), found_at(&copy, b"c", 1)))
+    let found = (copy.len(), found_at(&copy, b"c", 1));
+    drop(copy);
+    Ok(found)
 }
 
 // Whether a clone of the block of four, which outlives it, finds what the block does, and takes no memory.
@@ -448,35 +493,26 @@ fn a_clone_finds(heap: &Refusing) -> Result<bool, Error> {
 }
 
 #[test]
-fn a_clone_reads_as_its_block_and_takes_no_memory(rt: HostRuntime) -> Result<(), Fail> {
+fn a_clone_reads_as_its_block_and_takes_no_memory(rt: HostRuntime) {
     let heap = Refusing::new(rt.alloc(), 0);
-    assert!(rt; a_clone_finds(&heap)?);
-    Ok(())
-}
-
-// Whether an answer is a handle or a refusal, where there is one.
-fn is_handle<A: Allocator>(answer: Option<Result<KeyedBlockHandle<A>, Error>>) -> Option<bool> {
-    match answer {
-        Some(handle) => Some(handle.is_ok()),
-        None => None,
-    }
+    assert!(rt; holds(a_clone_finds(&heap)));
 }
 
 // Whether neither end has an answer.
 fn is_over<A: Allocator>(iter: &mut IndexBlockIter<'_, A>) -> bool {
-    is_handle(iter.next_back()).is_none() && is_handle(iter.next()).is_none()
+    is_given(iter.next_back()).is_none() && is_given(iter.next()).is_none()
 }
 
 // Whether so many handles at most, taken from the front, end for good at the first that is refused.
 fn ends_at_first<A: Allocator>(iter: &mut IndexBlockIter<'_, A>, len: usize) -> bool {
     for _ in 0..len {
-        match is_handle(iter.next()) {
+        match is_given(iter.next()) {
             Some(true) => {}
             Some(false) => return is_over(iter),
             None => return false,
         }
     }
-    is_handle(iter.next()).is_none()
+    is_given(iter.next()).is_none()
 }
 
 // Whether a block's handles, taken from the front, end for good at the first that is refused.
@@ -487,7 +523,11 @@ fn ends_at_refusal<A: Allocator>(block: &IndexBlock<A>) -> bool {
 // Whether it does so for one allocator's block of four; memory may have run out before.
 fn is_ended<A: Allocator + Copy>(alloc: A) -> bool {
     match block_of_four(alloc) {
-        Ok(block) => ends_at_refusal(&block),
+        Ok(block) => {
+            let ends = ends_at_refusal(&block);
+            drop(block);
+            ends
+        }
         Err(_) => true,
     }
 }
@@ -498,16 +538,17 @@ fn nothing_comes_after_a_refused_handle(rt: HostRuntime) {
     assert!(rt; answers.is_ok());
 }
 
-// The refusal of one handle in an allocator, and how many requests it was asked.
-fn refusal_and_requests(heap: &Refusing) -> Result<(Option<Error>, usize), Error> {
-    let handles = [handle(heap, b"a", 1, 0, 47)?];
-    let refused = refusal(heap, &handles)?;
-    Ok((refused, heap.requests()))
+// Whether one handle in an allocator is refused for memory.
+fn is_refused_memory<A: Allocator + Copy>(alloc: A) -> Result<bool, Error> {
+    let handles = [handle(alloc, b"a", 1, 0, 47)?];
+    let is_refused = is_refused_so(alloc, &handles, Some(Error::OutOfMemory));
+    drop(handles);
+    is_refused
 }
 
 #[test]
-fn a_refused_growth_leaves_the_buffer_as_it_was(rt: HostRuntime) -> Result<(), Fail> {
+fn a_refused_growth_leaves_the_buffer_as_it_was(rt: HostRuntime) {
     let heap = Refusing::new(rt.alloc(), 4);
-    assert_eq!(rt; refusal_and_requests(&heap)?, (Some(Error::OutOfMemory), 4));
-    Ok(())
+    assert!(rt; holds(is_refused_memory(&heap)));
+    assert_eq!(rt; heap.requests(), 4);
 }

@@ -1,10 +1,11 @@
 //! Compaction of some results, with filters and callbacks.
 ghost use Rattle.std.specs.Prelude.{◌<◌};
 ghost use Rattle.std.specs.Iterator.{IsFinite};
+ghost use Rattle.sst_entries.specs.Stream.{CanDeal, nowhere};
 
 use crate::merging::passed_of;
-use crate::merging_front::{Forward, forward_of};
-use crate::words::{put_entry, put_result};
+use crate::merging_front::forward_of;
+use crate::words::{holds, is_text, put_entry, put_result};
 use lsm_sorted::MvccStream;
 use lsm_sorted::compaction::stream::{
     CompactionStream, DroppedKvCallback, StreamFilter, StreamFilterVerdict,
@@ -12,7 +13,6 @@ use lsm_sorted::compaction::stream::{
 use refusing::Refusing;
 use sst_entries::{Error, InternalValue, IterItem, Slice, ValueType};
 use std::alloc::{AllocError, Allocator, Global};
-use std::test::Fail;
 
 // Remembers what it received.
 #[derive(Drop)]
@@ -104,6 +104,13 @@ impl StreamFilter<Global> for NewestOfFive {
     }
 }
 
+// Adds the word of a result that is let go of.
+fn put_given<A: Allocator>(text: &mut String, item: IterItem<A>) -> Result<(), AllocError> {
+    let done = put_result(text, &item);
+    drop(item);
+    done
+}
+
 // The words of a stream's results, to its end.
 fn drained<A: Allocator, I: Iterator<Item = IterItem<A>>>(
     alloc: Global,
@@ -114,20 +121,36 @@ fn drained<A: Allocator, I: Iterator<Item = IterItem<A>>>(
 {
     let mut text = String::new(alloc);
     while let Some(item) = stream.next() {
-        put_result(&mut text, &item)?;
+        put_given(&mut text, item)?;
     }
     Ok(text)
 }
 
-// The words of the results of a stream that is let go of.
-pub fn given_by<A: Allocator, I: Iterator<Item = IterItem<A>> + Drop>(
+// Whether a stream gives these results to its end.
+fn gives_so<A: Allocator, I: Iterator<Item = IterItem<A>> + Drop>(
     alloc: Global,
     mut stream: I,
-) -> Result<String, AllocError>
+    wanted: &str,
+) -> bool
     requires can { I.can_next stream }
     requires finite { IsFinite (I.remaining stream) }
 {
-    drained(alloc, &mut stream)
+    let text = drained(alloc, &mut stream);
+    drop(stream);
+    matches!(is_text(text, wanted), Ok(true))
+}
+
+// Whether a compaction of this source, whatever it is, leaves these for readers at the threshold, without a filter.
+pub fn leaves_so<A: Allocator, I: Iterator<Item = IterItem<A>> + Drop>(
+    alloc: Global,
+    source: I,
+    threshold: u64,
+    wanted: &str,
+) -> bool
+    requires can { CanDeal I.next_gives nowhere I.can_next I.can_next source }
+    requires finite { IsFinite (I.remaining source) }
+{
+    gives_so(alloc, CompactionStream::new(source, threshold), wanted)
 }
 
 // How a compaction is done.
@@ -146,19 +169,17 @@ const PLAIN: Settings = Settings {
     zero: false,
 };
 
-// Whether a text is this one, where memory lasted for it.
-fn is_text(text: Result<String, AllocError>, wanted: &str) -> Result<bool, AllocError> {
-    Ok(text?.as_str() == wanted)
-}
-
-// Whether a compaction of a source gives these results and reports these entries.
-fn gives_and_reports(
+// Whether a compaction of this source, whatever it is, gives these results and reports these entries.
+fn gives_and_reports<I: Iterator<Item = IterItem> + Drop>(
     alloc: Global,
     settings: &Settings,
-    items: Forward,
+    items: I,
     results: &str,
     reports: &str,
-) -> Result<bool, AllocError> {
+) -> bool
+    requires can { CanDeal I.next_gives nowhere I.can_next I.can_next items }
+    requires finite { IsFinite (I.remaining items) }
+{
     let mut stream = CompactionStream::new(items, settings.threshold)
         .evict_tombstones(settings.evict)
         .zero_seqnos(settings.zero)
@@ -166,7 +187,7 @@ fn gives_and_reports(
         .with_drop_callback(Received::new(alloc));
     let given = is_text(drained(alloc, &mut stream), results);
     let received = is_text(stream.into_callback().into_text(), reports);
-    Ok(given? && received?)
+    matches!(given, Ok(true)) && matches!(received, Ok(true))
 }
 
 // The same of some results.
@@ -178,7 +199,7 @@ fn compacts(
     reports: &str,
 ) -> Result<bool, Error> {
     let items = forward_of(alloc, over)?;
-    Ok(gives_and_reports(alloc, settings, items, results, reports)?)
+    Ok(gives_and_reports(alloc, settings, items, results, reports))
 }
 
 // In each table: what is compacted, the results, and what is reported.
@@ -195,14 +216,13 @@ const KEPT: &[(&str, &str, &str)] = &[
 ];
 
 #[test]
-fn keeps_what_readers_at_the_threshold_see(rt: HostRuntime) -> Result<(), Fail> {
+fn keeps_what_readers_at_the_threshold_see(rt: HostRuntime) {
     for &(over, results, reports) in KEPT {
         assert!(rt;
-            compacts(rt.alloc(), &PLAIN, over, results, reports)?,
+            holds(compacts(rt.alloc(), &PLAIN, over, results, reports)),
             "{over}"
         );
     }
-    Ok(())
 }
 
 // Whether tombstones are evicted and whether numbers are zeroed come first here.
@@ -216,7 +236,7 @@ const EVICTED_OR_ZEROED: &[(bool, bool, &str, &str, &str)] = &[
 ];
 
 #[test]
-fn evicts_tombstones_and_zeroes_numbers(rt: HostRuntime) -> Result<(), Fail> {
+fn evicts_tombstones_and_zeroes_numbers(rt: HostRuntime) {
     for &(evict, zero, over, results, reports) in EVICTED_OR_ZEROED {
         let settings = Settings {
             evict,
@@ -224,11 +244,10 @@ fn evicts_tombstones_and_zeroes_numbers(rt: HostRuntime) -> Result<(), Fail> {
             ..PLAIN
         };
         assert!(rt;
-            compacts(rt.alloc(), &settings, over, results, reports)?,
+            holds(compacts(rt.alloc(), &settings, over, results, reports)),
             "{over}"
         );
     }
-    Ok(())
 }
 
 // The threshold, the filter and whether tombstones are evicted come first here.
@@ -248,7 +267,7 @@ const FILTERED: &[(u64, Plan, bool, &str, &str, &str)] = &[
 ];
 
 #[test]
-fn does_as_the_filter_says(rt: HostRuntime) -> Result<(), Fail> {
+fn does_as_the_filter_says(rt: HostRuntime) {
     for &(threshold, plan, evict, over, results, reports) in FILTERED {
         let settings = Settings {
             threshold,
@@ -257,11 +276,10 @@ fn does_as_the_filter_says(rt: HostRuntime) -> Result<(), Fail> {
             zero: false,
         };
         assert!(rt;
-            compacts(rt.alloc(), &settings, over, results, reports)?,
+            holds(compacts(rt.alloc(), &settings, over, results, reports)),
             "{over}"
         );
     }
-    Ok(())
 }
 
 const SINGLES: &str = "aV999 bV999 cV999";
@@ -294,7 +312,7 @@ const OLD_VERSIONS: &[(u64, bool, &str, &str, &str)] = &[
 ];
 
 #[test]
-fn drops_old_versions_and_hidden_values(rt: HostRuntime) -> Result<(), Fail> {
+fn drops_old_versions_and_hidden_values(rt: HostRuntime) {
     for &(threshold, zero, over, results, reports) in OLD_VERSIONS {
         let settings = Settings {
             threshold,
@@ -302,21 +320,26 @@ fn drops_old_versions_and_hidden_values(rt: HostRuntime) -> Result<(), Fail> {
             ..PLAIN
         };
         assert!(rt;
-            compacts(rt.alloc(), &settings, over, results, reports)?,
+            holds(compacts(rt.alloc(), &settings, over, results, reports)),
             "{over}"
         );
     }
-    Ok(())
 }
 
-// What a compaction at the threshold 995 leaves whose filter has a state.
-fn newest_of_five(alloc: Global, over: &str, watermark: u8) -> Result<String, Error> {
+// Whether a compaction at the threshold 995 leaves these whose filter has a state.
+fn leaves_newest_of_five(
+    alloc: Global,
+    over: &str,
+    watermark: u8,
+    wanted: &str,
+) -> Result<bool, Error> {
     let filter = NewestOfFive {
         previous: None,
         watermark,
     };
     let items = forward_of(alloc, over)?;
-    Ok(given_by(alloc, CompactionStream::new(items, 995).with_filter(filter))?)
+    let stream = CompactionStream::new(items, 995).with_filter(filter);
+    Ok(gives_so(alloc, stream, wanted))
 }
 
 // What is compacted, the watermark of the filter, and the results.
@@ -330,44 +353,54 @@ const NEWEST_OF_FIVE: &[(&str, u8, &str)] = &[
 ];
 
 #[test]
-fn keeps_a_state_in_the_filter(rt: HostRuntime) -> Result<(), Fail> {
+fn keeps_a_state_in_the_filter(rt: HostRuntime) {
     for &(over, watermark, wanted) in NEWEST_OF_FIVE {
-        let given = newest_of_five(rt.alloc(), over, watermark)?;
-        assert_eq!(rt; given.as_str(), wanted);
+        assert!(rt;
+            holds(leaves_newest_of_five(rt.alloc(), over, watermark, wanted)),
+            "{over}"
+        );
     }
-    Ok(())
 }
 
-// What a compaction without a filter leaves of some results in the memory of any allocator.
-fn unfiltered<A: Allocator + Copy>(
+// Whether a compaction without a filter leaves these of some results in the memory of any allocator.
+fn leaves_unfiltered<A: Allocator + Copy>(
     memory: A,
     alloc: Global,
     over: &str,
     threshold: u64,
-) -> Result<String, Error> {
+    wanted: &str,
+) -> Result<bool, Error> {
     let items = passed_of(memory, over)?;
-    Ok(given_by(alloc, CompactionStream::new(items, threshold))?)
+    Ok(leaves_so(alloc, items, threshold, wanted))
 }
 
 #[test]
-fn needs_neither_filter_nor_callback(rt: HostRuntime) -> Result<(), Fail> {
-    let given = unfiltered(rt.alloc(), rt.alloc(), "aV2353 bV2353 cV2353", 5000)?;
-    assert_eq!(rt; given.as_str(), "aV2353 bV2353 cV2353");
-    Ok(())
+fn needs_neither_filter_nor_callback(rt: HostRuntime) {
+    let over = "aV2353 bV2353 cV2353";
+    assert!(rt; holds(leaves_unfiltered(rt.alloc(), rt.alloc(), over, 5000, over)));
 }
 
-// What a stream of the newest versions gives of some results in the memory of any allocator.
-fn newest<A: Allocator + Copy>(memory: A, alloc: Global, over: &str) -> Result<String, Error> {
+// Whether a stream of the newest versions gives these of some results in the memory of any allocator.
+fn gives_newest<A: Allocator + Copy>(
+    memory: A,
+    alloc: Global,
+    over: &str,
+    wanted: &str,
+) -> Result<bool, Error> {
     let items = passed_of(memory, over)?;
-    Ok(given_by(alloc, MvccStream::new(items))?)
+    Ok(gives_so(alloc, MvccStream::new(items), wanted))
+}
+
+// Whether streams of both kinds take entries in the memory of any allocator.
+fn streams_take<A: Allocator + Copy>(memory: A, alloc: Global) -> bool {
+    let over = "aV4 aV3 aV2";
+    holds(leaves_unfiltered(memory, alloc, over, 4, "aV4 aV3"))
+        && holds(gives_newest(memory, alloc, over, "aV4"))
 }
 
 #[test]
-fn streams_take_entries_of_any_allocator(rt: HostRuntime) -> Result<(), Fail> {
+fn streams_take_entries_of_any_allocator(rt: HostRuntime) {
     let heap = Refusing::new(rt.alloc(), 0);
-    let compacted = unfiltered(&heap, rt.alloc(), "aV4 aV3 aV2", 4)?;
-    let newest = newest(&heap, rt.alloc(), "aV4 aV3 aV2")?;
-    assert_eq!(rt; (compacted.as_str(), newest.as_str()), ("aV4 aV3", "aV4"));
+    assert!(rt; streams_take(&heap, rt.alloc()));
     assert!(rt; heap.requests() > 0);
-    Ok(())
 }

@@ -1,10 +1,13 @@
 //! Merging several sources from both ends, and what that takes of memory.
-use crate::words::{answers_so, results_of};
+ghost use Rattle.std.specs.Prelude.{All, IfOk};
+ghost use Rattle.std.specs.Iterator.{IsFinite};
+ghost use Rattle.sst_entries.specs.Stream.{CanDeal};
+
+use crate::words::{answers_so, holds, once_done, push_made, results_of};
 use lsm_sorted::{Merger, from_both_ends};
 use refusing::{Refusing, each_refused};
 use sst_entries::{Error, IterItem};
 use std::alloc::{Allocator, Global};
-use std::test::Fail;
 use std::vec::IntoIter;
 
 // A source that only passes on what a list holds.
@@ -46,25 +49,66 @@ pub fn passed_of<A: Allocator + Copy>(alloc: A, text: &str) -> Result<Passed<A>,
     Ok(Passed { items })
 }
 
+// Adds the sources that a text spells, each up to a `/`.
+fn put_sources<A: Allocator + Copy>(
+    alloc: A,
+    sources: &mut Vec<Passed<A>, A>,
+    text: &str,
+) -> Result<(), Error> {
+    for part in text.split_terminator('/') {
+        push_made(sources, passed_of(alloc, part))?;
+    }
+    Ok(())
+}
+
 // The sources that a text spells, each up to a `/`.
 pub fn sources_of<A: Allocator + Copy>(alloc: A, text: &str) -> Result<Vec<Passed<A>, A>, Error> {
     let mut sources = Vec::new(alloc);
-    for part in text.split_terminator('/') {
-        sources.push(passed_of(alloc, part)?)?;
-    }
-    Ok(sources)
+    let done = put_sources(alloc, &mut sources, text);
+    once_done(sources, done)
 }
 
-// Whether a merger of the sources answers so at the ends.
+// A merger of these sources, whatever they are, that may be asked at both ends.
+fn merger_of<I: DoubleEndedIterator<Item = IterItem<A>>, A: Allocator + Copy>(
+    alloc: A,
+    sources: Vec<I, A>,
+) -> Result<Merger<I, A>, Error>
+    requires can { All (CanDeal I.next_gives I.next_back_gives I.can_next I.can_next_back)
+        sources.items }
+    requires finite { All (λ s. IsFinite (I.remaining s)) sources.items }
+    ensures { IfOk result (CanDeal ⟦<Merger<I, A> as Iterator>⟧.next_gives
+        ⟦<Merger<I, A> as DoubleEndedIterator>⟧.next_back_gives
+        ⟦<Merger<I, A> as Iterator>⟧.can_next
+        ⟦<Merger<I, A> as DoubleEndedIterator>⟧.can_next_back) }
+{
+    let merger = Merger::new(alloc, sources)?;
+    from_both_ends(&merger);
+    Ok(merger)
+}
+
+// Whether a merger answers so at the ends.
+fn merger_answers_so<
+    I: DoubleEndedIterator<Item = IterItem<A>> + Drop,
+    A: Allocator,
+    B: Allocator + Copy,
+>(alloc: B, merger: Merger<I, A>, ends: &str, wanted: &str) -> Result<bool, Error>
+    requires { CanDeal ⟦<Merger<I, A> as Iterator>⟧.next_gives
+        ⟦<Merger<I, A> as DoubleEndedIterator>⟧.next_back_gives
+        ⟦<Merger<I, A> as Iterator>⟧.can_next
+        ⟦<Merger<I, A> as DoubleEndedIterator>⟧.can_next_back merger }
+{
+    answers_so(alloc, merger, ends, wanted)
+}
+
+// Whether a merger of the sources that a text spells answers so at the ends.
 fn merges<A: Allocator + Copy>(
     alloc: A,
     sources: &str,
     ends: &str,
     wanted: &str,
 ) -> Result<bool, Error> {
-    let merger = Merger::new(alloc, sources_of(alloc, sources)?)?;
-    from_both_ends(&merger);
-    answers_so(alloc, merger, ends, wanted)
+    let merger = merger_of(alloc, sources_of(alloc, sources)?)?;
+    merger_answers_so(alloc, merger, ends, wanted)
 }
 
 // Sources, ends and answers.
@@ -88,14 +132,13 @@ const MERGED: &[(&str, &str, &str)] = &[
 ];
 
 #[test]
-fn gives_the_entries_of_all_sources_in_order_up_to_an_error(rt: HostRuntime) -> Result<(), Fail> {
+fn gives_the_entries_of_all_sources_in_order_up_to_an_error(rt: HostRuntime) {
     for &(sources, ends, wanted) in MERGED {
         assert!(rt;
-            merges(rt.alloc(), sources, ends, wanted)?,
+            holds(merges(rt.alloc(), sources, ends, wanted)),
             "{sources} at {ends}"
         );
     }
-    Ok(())
 }
 
 #[test]
@@ -118,16 +161,14 @@ fn requests_at_first_alone<A: Allocator + Copy>(
 ) -> Result<bool, Error> {
     let sources = sources_of(memory, "aV1 cV1 / bV2 /")?;
     let before = heap.requests();
-    let merger = Merger::new(memory, sources)?;
-    from_both_ends(&merger);
+    let merger = merger_of(memory, sources)?;
     let made = heap.requests();
-    let is_right = answers_so(alloc, merger, "FBFB", "aV1 cV1 bV2 -")?;
+    let is_right = holds(merger_answers_so(alloc, merger, "FBFB", "aV1 cV1 bV2 -"));
     Ok(is_right && before < made && made == heap.requests())
 }
 
 #[test]
-fn takes_no_memory_after_it_is_made(rt: HostRuntime) -> Result<(), Fail> {
+fn takes_no_memory_after_it_is_made(rt: HostRuntime) {
     let heap = Refusing::new(rt.alloc(), 0);
-    assert!(rt; requests_at_first_alone(rt.alloc(), &heap, &heap)?);
-    Ok(())
+    assert!(rt; holds(requests_at_first_alone(rt.alloc(), &heap, &heap)));
 }

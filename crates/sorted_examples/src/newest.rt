@@ -1,17 +1,33 @@
 //! The newest versions of some results and of several sources, from both ends and from the front alone.
+ghost use Rattle.std.specs.Prelude.{All};
+ghost use Rattle.std.specs.Iterator.{IsFinite};
+ghost use Rattle.sst_entries.specs.Stream.{CanDeal, nowhere};
+
 use crate::merging::{self, passed_of};
 use crate::merging_front::{begins_so, sources_of};
-use crate::words::answers_so;
+use crate::words::{answers_so, holds};
 use lsm_sorted::{MvccStream, newest_from_both_ends, newest_of};
-use sst_entries::Error;
-use std::alloc::Global;
-use std::test::Fail;
+use sst_entries::{Error, IterItem};
+use std::alloc::{Allocator, Global};
+
+// Whether a stream over this source, whatever it is, answers so at the ends.
+fn stream_answers_so<I: DoubleEndedIterator<Item = IterItem<A>> + Drop, A: Allocator>(
+    alloc: Global,
+    source: I,
+    ends: &str,
+    wanted: &str,
+) -> Result<bool, Error>
+    requires can { CanDeal I.next_gives I.next_back_gives I.can_next I.can_next_back source }
+    requires finite { IsFinite (I.remaining source) }
+{
+    let stream = MvccStream::new(source);
+    stream.from_both_ends();
+    answers_so(alloc, stream, ends, wanted)
+}
 
 // Whether a stream over some results answers so at the ends.
 fn answers(alloc: Global, results: &str, ends: &str, wanted: &str) -> Result<bool, Error> {
-    let stream = MvccStream::new(passed_of(alloc, results)?);
-    stream.from_both_ends();
-    answers_so(alloc, stream, ends, wanted)
+    stream_answers_so(alloc, passed_of(alloc, results)?, ends, wanted)
 }
 
 // Results, ends and answers.
@@ -39,14 +55,13 @@ const WITH_ERRORS: &[(&str, &str, &str)] = &[
 ];
 
 #[test]
-fn answers_an_error_in_the_place_of_its_key(rt: HostRuntime) -> Result<(), Fail> {
+fn answers_an_error_in_the_place_of_its_key(rt: HostRuntime) {
     for &(results, ends, wanted) in WITH_ERRORS {
         assert!(rt;
-            answers(rt.alloc(), results, ends, wanted)?,
+            holds(answers(rt.alloc(), results, ends, wanted)),
             "{results} at {ends}"
         );
     }
-    Ok(())
 }
 
 // The same without errors.
@@ -80,21 +95,34 @@ const WITHOUT_ERRORS: &[(&str, &str, &str)] = &[
 ];
 
 #[test]
-fn gives_the_newest_version_of_each_key_from_either_end(rt: HostRuntime) -> Result<(), Fail> {
+fn gives_the_newest_version_of_each_key_from_either_end(rt: HostRuntime) {
     for &(results, ends, wanted) in WITHOUT_ERRORS {
         assert!(rt;
-            answers(rt.alloc(), results, ends, wanted)?,
+            holds(answers(rt.alloc(), results, ends, wanted)),
             "{results} at {ends}"
         );
     }
-    Ok(())
 }
 
-// Whether the newest versions of the sources are these at the ends.
-fn are_newest(alloc: Global, sources: &str, ends: &str, wanted: &str) -> Result<bool, Error> {
-    let stream = newest_of(alloc, merging::sources_of(alloc, sources)?)?;
+// Whether the newest versions of these sources, whatever they are, are these at the ends.
+fn newest_answers_so<I: DoubleEndedIterator<Item = IterItem<A>> + Drop, A: Allocator + Copy>(
+    alloc: A,
+    sources: Vec<I, A>,
+    ends: &str,
+    wanted: &str,
+) -> Result<bool, Error>
+    requires can { All (CanDeal I.next_gives I.next_back_gives I.can_next I.can_next_back)
+        sources.items }
+    requires finite { All (λ s. IsFinite (I.remaining s)) sources.items }
+{
+    let stream = newest_of(alloc, sources)?;
     newest_from_both_ends(&stream);
     answers_so(alloc, stream, ends, wanted)
+}
+
+// Whether the newest versions of the sources that a text spells are these at the ends.
+fn are_newest(alloc: Global, sources: &str, ends: &str, wanted: &str) -> Result<bool, Error> {
+    newest_answers_so(alloc, merging::sources_of(alloc, sources)?, ends, wanted)
 }
 
 // Sources, ends and answers.
@@ -130,23 +158,30 @@ const OF_SOURCES: &[(&str, &str, &str)] = &[
 ];
 
 #[test]
-fn gives_the_newest_version_of_each_key_of_all_sources(rt: HostRuntime) -> Result<(), Fail> {
+fn gives_the_newest_version_of_each_key_of_all_sources(rt: HostRuntime) {
     for &(sources, ends, wanted) in OF_SOURCES {
         assert!(rt;
-            are_newest(rt.alloc(), sources, ends, wanted)?,
+            holds(are_newest(rt.alloc(), sources, ends, wanted)),
             "{sources} at {ends}"
         );
     }
-    Ok(())
+}
+
+// Whether the newest versions of these sources, whatever they are, are these first.
+fn newest_begins_so<I: Iterator<Item = IterItem> + Drop>(
+    alloc: Global,
+    sources: Vec<I>,
+    wanted: &str,
+) -> Result<bool, Error>
+    requires can { All (CanDeal I.next_gives nowhere I.can_next I.can_next) sources.items }
+    requires finite { All (λ s. IsFinite (I.remaining s)) sources.items }
+{
+    begins_so(alloc, newest_of(alloc, sources)?, wanted)
 }
 
 // Whether the newest versions of sources without a back are these first.
 fn are_first(alloc: Global, sources: &str, wanted: &str) -> Result<bool, Error> {
-    begins_so(
-        alloc,
-        newest_of(alloc, sources_of(alloc, sources)?)?,
-        wanted,
-    )
+    newest_begins_so(alloc, sources_of(alloc, sources)?, wanted)
 }
 
 // Sources and answers.
@@ -158,9 +193,8 @@ const FROM_THE_FRONT: &[(&str, &str)] = &[
 ];
 
 #[test]
-fn takes_sources_without_a_back(rt: HostRuntime) -> Result<(), Fail> {
+fn takes_sources_without_a_back(rt: HostRuntime) {
     for &(sources, wanted) in FROM_THE_FRONT {
-        assert!(rt; are_first(rt.alloc(), sources, wanted)?, "{sources}");
+        assert!(rt; holds(are_first(rt.alloc(), sources, wanted)), "{sources}");
     }
-    Ok(())
 }

@@ -35,6 +35,14 @@ fn number_and_byte(text: &[u8]) -> (u64, u8) {
     (number, 0)
 }
 
+// Two values, or the refusal of the first that is refused.
+fn both<T: Drop, U: Drop>(
+    first: Result<T, Error>,
+    second: Result<U, Error>,
+) -> Result<(T, U), Error> {
+    Ok((first?, second?))
+}
+
 fn entry_of<A: Allocator + Copy>(
     alloc: A,
     key: u8,
@@ -48,9 +56,13 @@ fn entry_of<A: Allocator + Copy>(
         _ if byte == 0 => (ValueType::Value, key),
         _ => (ValueType::Value, byte),
     };
-    let key = slice_of(alloc, key)?;
-    let value = slice_of(alloc, value)?;
+    let (key, value) = both(slice_of(alloc, key), slice_of(alloc, value))?;
     Ok(InternalValue::from_components(key, value, seqno, kind))
+}
+
+// A result that gives a value, where that was made.
+fn given<T: Drop>(made: Result<T, Error>) -> Result<Result<T, Error>, Error> {
+    Ok(Ok(made?))
 }
 
 // The result that a word stands for.
@@ -58,30 +70,88 @@ fn result_of<A: Allocator + Copy>(alloc: A, word: &str) -> Result<IterItem<A>, E
     match word.as_bytes() {
         [b'!', code @ ..] => Ok(Err(Error::Source(number_and_byte(code).0))),
         [b'?', ..] | [] | [_] => Ok(Err(Error::OutOfMemory)),
-        [key, kind, rest @ ..] => Ok(Ok(entry_of(alloc, *key, *kind, rest)?)),
+        [key, kind, rest @ ..] => given(entry_of(alloc, *key, *kind, rest)),
     }
+}
+
+/// Adds a value to a list, where it was made.
+pub fn push_made<T: Drop, A: Allocator>(
+    list: &mut Vec<T, A>,
+    made: Result<T, Error>,
+) -> Result<(), Error> {
+    Ok(list.push(made?)?)
+}
+
+/// A value, once what was done with it is not refused.
+pub fn once_done<T: Drop>(value: T, done: Result<(), Error>) -> Result<T, Error> {
+    done?;
+    Ok(value)
+}
+
+// Adds the results that the words of a text stand for.
+fn put_results<A: Allocator + Copy>(
+    alloc: A,
+    results: &mut Vec<IterItem<A>, A>,
+    text: &str,
+) -> Result<(), Error> {
+    for word in text.split_whitespace() {
+        push_made(results, result_of(alloc, word))?;
+    }
+    Ok(())
 }
 
 /// The results that the words of a text stand for.
 pub fn results_of<A: Allocator + Copy>(alloc: A, text: &str) -> Result<Vec<IterItem<A>, A>, Error> {
     let mut results = Vec::new(alloc);
-    for word in text.split_whitespace() {
-        results.push(result_of(alloc, word)?)?;
+    let done = put_results(alloc, &mut results, text);
+    once_done(results, done)
+}
+
+// The end that a letter stands for.
+fn end_of(letter: u8) -> Direction {
+    if letter == b'B' {
+        Direction::Back
+    } else {
+        Direction::Front
     }
-    Ok(results)
 }
 
 // The ends that `F` and `B` stand for.
-fn ends_of<A: Allocator>(alloc: A, text: &str) -> Result<Vec<Direction, A>, Error> {
+fn ends_of<A: Allocator>(alloc: A, text: &str) -> Result<Vec<Direction, A>, AllocError> {
     let mut ends = Vec::new(alloc);
-    for byte in text.bytes() {
-        ends.push(if byte == b'B' {
-            Direction::Back
-        } else {
-            Direction::Front
-        })?;
+    for letter in text.bytes() {
+        ends.push(end_of(letter))?;
     }
     Ok(ends)
+}
+
+// Parts a word from those before it.
+fn put_space<B: Allocator>(text: &mut String<B>) -> Result<(), AllocError> {
+    if text.is_empty() {
+        return Ok(());
+    }
+    text.push(' ')
+}
+
+// The letter of a kind.
+fn letter_of(kind: ValueType) -> char {
+    match kind {
+        ValueType::Value => 'V',
+        ValueType::Tombstone => 'T',
+        ValueType::WeakTombstone => 'W',
+        ValueType::Indirection => 'I',
+    }
+}
+
+// Adds the word of an entry without its value.
+fn put_key<B: Allocator>(
+    text: &mut String<B>,
+    key: u8,
+    kind: char,
+    seqno: u64,
+) -> Result<(), AllocError> {
+    put_space(text)?;
+    write!(text, "{}{kind}{seqno}", char::from(key))
 }
 
 /// Adds an entry's word to those of a text.
@@ -91,14 +161,8 @@ pub fn put_entry<A: Allocator, B: Allocator>(
 ) -> Result<(), AllocError> {
     let key = byte_of(&entry.key.user_key);
     let value = byte_of(&entry.value);
-    let kind = match entry.key.value_type {
-        ValueType::Value => 'V',
-        ValueType::Tombstone => 'T',
-        ValueType::WeakTombstone => 'W',
-        ValueType::Indirection => 'I',
-    };
-    let space = if text.is_empty() { "" } else { " " };
-    write!(text, "{space}{}{kind}{}", char::from(key), entry.key.seqno)?;
+    let kind = letter_of(entry.key.value_type);
+    put_key(text, key, kind, entry.key.seqno)?;
     if value != 0 && (kind != 'V' || value != key) {
         text.push(char::from(value))?;
     }
@@ -107,12 +171,12 @@ pub fn put_entry<A: Allocator, B: Allocator>(
 
 // Adds an error's word.
 fn put_error<B: Allocator>(text: &mut String<B>, error: &Error) -> Result<(), AllocError> {
-    let space = if text.is_empty() { "" } else { " " };
     let (sign, number) = match error {
         Error::Source(code) => ('!', *code),
         error => ('?', u64::from(error.number())),
     };
-    write!(text, "{space}{sign}{number}")
+    put_space(text)?;
+    write!(text, "{sign}{number}")
 }
 
 /// Adds a result's word.
@@ -133,7 +197,10 @@ fn put_answer<A: Allocator, B: Allocator>(
 ) -> Result<(), AllocError> {
     match answer {
         Some(item) => put_result(text, item),
-        None => text.push_str(if text.is_empty() { "-" } else { " -" }),
+        None => {
+            put_space(text)?;
+            text.push('-')
+        }
     }
 }
 
@@ -149,17 +216,49 @@ pub fn text_of<A: Allocator, B: Allocator>(
     Ok(text)
 }
 
-// The words of a stream's answers at the ends that `F` and `B` stand for.
+// The words of a stream's answers at some ends.
 fn text_at<A: Allocator, B: Allocator + Copy, I: DoubleEndedIterator<Item = IterItem<A>>>(
     alloc: B,
     stream: &mut I,
+    ends: &[Direction],
+) -> Result<String<B>, AllocError>
+    requires { CanDeal I.next_gives I.next_back_gives I.can_next I.can_next_back stream.old }
+{
+    let answers = answers_at(alloc, stream, ends)?;
+    let text = text_of(alloc, &answers);
+    drop(answers);
+    text
+}
+
+/// Whether something was found to hold, and nothing was refused.
+pub fn holds(answer: Result<bool, Error>) -> bool {
+    matches!(answer, Ok(true))
+}
+
+/// Whether a text is this one, where memory lasted for it.
+pub fn is_text<B: Allocator>(
+    text: Result<String<B>, AllocError>,
+    wanted: &str,
+) -> Result<bool, AllocError> {
+    let text = text?;
+    let is_wanted = text.as_str() == wanted;
+    drop(text);
+    Ok(is_wanted)
+}
+
+// Whether a stream answers so at the ends that `F` and `B` stand for, where memory lasts.
+fn is_answered_so<A: Allocator, B: Allocator + Copy, I: DoubleEndedIterator<Item = IterItem<A>>>(
+    alloc: B,
+    stream: &mut I,
     ends: &str,
-) -> Result<String<B>, Error>
+    wanted: &str,
+) -> Result<bool, AllocError>
     requires { CanDeal I.next_gives I.next_back_gives I.can_next I.can_next_back stream.old }
 {
     let ends = ends_of(alloc, ends)?;
-    let answers = answers_at(alloc, stream, &ends)?;
-    Ok(text_of(alloc, &answers)?)
+    let is_wanted = is_text(text_at(alloc, stream, &ends), wanted);
+    drop(ends);
+    is_wanted
 }
 
 /// Whether a stream answers so at the ends that `F` and `B` stand for.
@@ -170,5 +269,7 @@ pub fn answers_so<
 >(alloc: B, mut stream: I, ends: &str, wanted: &str) -> Result<bool, Error>
     requires { CanDeal I.next_gives I.next_back_gives I.can_next I.can_next_back stream }
 {
-    Ok(text_at(alloc, &mut stream, ends)?.as_str() == wanted)
+    let is_wanted = is_answered_so(alloc, &mut stream, ends, wanted);
+    drop(stream);
+    Ok(is_wanted?)
 }
