@@ -1,5 +1,7 @@
+pub mod Refusals
 pub mod Seeks
 pub mod AtEnds
+pub mod Going
 pub mod Loads
 pub mod Dealing
 pub mod OnDemands

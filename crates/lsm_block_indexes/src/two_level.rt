@@ -68,8 +68,8 @@ impl<A: Allocator + Clone> TwoLevelBlockIndex<A> {
         ensures err { IfErr result (λ e. e ≡ OutOfMemory) }
     {
         let mut iter = self.iter()?;
-        iter.seek_lower(key, seqno)?;
-        Ok(iter)
+        let sought = iter.seek_lower(key, seqno);
+        sought.and(Ok(iter))
     }
 
     /// All handles. Nothing is loaded. Refused [`Error::OutOfMemory`] alone.

@@ -57,8 +57,8 @@ impl<A: Allocator + Clone> VolatileBlockIndex<A> {
         ensures err { IfErr result (λ e. e ≡ OutOfMemory) }
     {
         let mut iter = self.iter()?;
-        iter.edges.set_lower(key, seqno)?;
-        Ok(iter)
+        let sought = iter.edges.set_lower(key, seqno);
+        sought.and(Ok(iter))
     }
 
     /// All handles. Nothing is loaded. Refused [`Error::OutOfMemory`] alone.
