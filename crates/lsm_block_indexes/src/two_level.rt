@@ -16,6 +16,7 @@ use crate::part::{Part, load_part};
 use sst_blocks::{BlockHandle, BlockSource, Error, IndexBlock, KeyedBlockHandle, Opened, SeqNo};
 use std::alloc::{Allocator, Global};
 use std::marker::Model;
+use std::mem;
 
 /// An index of two levels: the handles of the top level name partitions, which hold the handles of the data blocks. The top level
 /// stays loaded. A contract sees the bytes before the trailer and the handles of the top level.
@@ -149,7 +150,7 @@ impl<A: Allocator + Clone> Iter<A> {
             return Ok(false);
         };
         let part = self.load(&top)?;
-        self.front = part;
+        drop(mem::replace(&mut self.front, part));
         Ok(true)
     }
 
@@ -163,7 +164,7 @@ impl<A: Allocator + Clone> Iter<A> {
             return Ok(false);
         };
         let part = self.load(&top)?;
-        self.back = part;
+        drop(mem::replace(&mut self.back, part));
         Ok(true)
     }
 
@@ -172,8 +173,8 @@ impl<A: Allocator + Clone> Iter<A> {
         ensures { self.new ≡ record self.old { tops = []; front = []; back = [] } }
     {
         self.tops.end();
-        self.front = Part::none();
-        self.back = Part::none();
+        self.front.end();
+        self.back.end();
     }
 
     /// The answer at the front; an error does not end the iterator yet.

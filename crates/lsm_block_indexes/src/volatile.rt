@@ -125,12 +125,12 @@ impl<A: Allocator + Clone> Iterator for Iter<A> {
         match load_part(&self.source, &self.handle, &self.edges, &mut self.opened) {
             Ok(mut part) => {
                 let item = part.next();
-                self.part = Some(part);
+                drop(self.part.replace(part));
                 item
             }
             Err(error) => {
                 // Nothing more comes.
-                self.part = Some(Part::none());
+                drop(self.part.replace(Part::none()));
                 Some(Err(error))
             }
         }
@@ -149,12 +149,12 @@ impl<A: Allocator + Clone> DoubleEndedIterator for Iter<A> {
         match load_part(&self.source, &self.handle, &self.edges, &mut self.opened) {
             Ok(mut part) => {
                 let item = part.next_back();
-                self.part = Some(part);
+                drop(self.part.replace(part));
                 item
             }
             Err(error) => {
                 // Nothing more comes.
-                self.part = Some(Part::none());
+                drop(self.part.replace(Part::none()));
                 Some(Err(error))
             }
         }
