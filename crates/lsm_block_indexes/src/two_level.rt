@@ -83,10 +83,13 @@ impl<A: Allocator + Clone> TwoLevelBlockIndex<A> {
             (two_level_left i).results) }
         ensures err { IfErr result (λ e. e ≡ OutOfMemory) }
     {
+        let alloc = self.alloc.clone()?;
+        let tops = self.top_level_index.clone()?;
+        let source = self.source.clone()?;
         Ok(Iter {
-            source: self.source.clone()?,
-            tops: OwnedIndexBlockIter::new(self.top_level_index.clone()?),
-            edges: Edges::new(self.alloc.clone()?),
+            source,
+            tops: OwnedIndexBlockIter::new(tops),
+            edges: Edges::new(alloc),
             front: Part::none(),
             back: Part::none(),
             opened: Opened::none(),

@@ -71,10 +71,12 @@ impl<A: Allocator + Clone> VolatileBlockIndex<A> {
             (on_demand_left i).results) }
         ensures err { IfErr result (λ e. e ≡ OutOfMemory) }
     {
+        let alloc = self.alloc.clone()?;
+        let source = self.source.clone()?;
         Ok(Iter {
-            source: self.source.clone()?,
+            source,
             handle: self.handle,
-            edges: Edges::new(self.alloc.clone()?),
+            edges: Edges::new(alloc),
             part: None,
             opened: Opened::none(),
         })

@@ -20,8 +20,8 @@ none_dealt read body tops whole edges front back opened same is none at_front at
 pub returns-clause-unsought : goal.returns-clause-unsought
 returns-clause-unsought g c =
     none_dealt _ c.args.self.now.0 c.new.result c.args.self.now.1 c.new-2.result c.none.result c.none-2.result c.none-3.result
-    (ap body_of c.in_ok-clone.ensures.cases ∙ ap (λ x. x.0) c.self.view_is)
-    (c.new.ensures.whole ∙ ap whole_span (c.in_ok-clone-2.ensures.cases ∙ ap (λ x. x.1) c.self.view_is))
+    (ap body_of c.in_ok-source.ensures.cases ∙ ap (λ x. x.0) c.self.view_is)
+    (c.new.ensures.whole ∙ ap whole_span (c.in_ok-tops.ensures.cases ∙ ap (λ x. x.1) c.self.view_is))
     c.new-2.ensures c.none.ensures c.none-2.ensures c.none-3.ensures
 
 pub returns-clause-between : goal.returns-clause-between
