@@ -9,4 +9,5 @@ pub mod Places
 pub mod TwoLevels
 pub mod Counting
 pub mod Laws
+pub mod Sought
 pub mod KindLaws
