@@ -1,4 +1,4 @@
-use Rattle.std.specs.Prelude.{Some, None}
+use Rattle.std.specs.Prelude.{None}
 use Rattle.std.proofs.Common.{ap, ◌∙◌}
 use Rattle.lsm_block_indexes.specs.Index.{two_level}
 use Rattle.lsm_block_indexes.specs.Left.{TwoLevel}

@@ -6,7 +6,7 @@ use Rattle.sst_blocks.specs.Handle.{Handle}
 use Rattle.sst_blocks.specs.Opened.{none_opened}
 use Rattle.sst_blocks.specs.Seeking.{whole_span}
 use Rattle.sst_blocks.specs.declared.opened.Opened.{Opened}
-use Rattle.lsm_block_indexes.specs.Left.{TwoLevel, new_two_level}
+use Rattle.lsm_block_indexes.specs.Left.{new_two_level}
 use Rattle.lsm_block_indexes.proofs.KindLaws.{levels_new}
 use Rattle.lsm_block_indexes.proofs.Laws.{levels_between, levels_deals}
 use Rattle.lsm_block_indexes.proofs.Seeks.{all_of}
