@@ -1,4 +1,4 @@
-use Rattle.std.proofs.Common.{◌≡◌, ◌⊎◌, ℕ, ◌+◌, ◌-◌, ◌*◌, ◌<◌, ◌≤◌, List, length, get_or, le_refl, ⊎_elim, arith}
+use Rattle.std.proofs.Common.{◌≡◌, ◌⊎◌, ℕ, ◌+◌, ◌-◌, ◌*◌, ◌<◌, ◌≤◌, List, length, get_or, ⊎_elim, arith}
 use Rattle.std.proofs.lemmas.List.{get_or_read}
 use Rattle.lsm_heaps.specs.Order.{toward}
 use Rattle.lsm_heaps.specs.Brackets.{IsBracket}
