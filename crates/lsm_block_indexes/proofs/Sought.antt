@@ -1,10 +1,11 @@
 -- What the seek of an edge leaves of an iterator that keeps its edges.
-use Rattle.std.proofs.Common.{◌≡◌, ℕ, List, [], ◌∷◌, ◌++◌, length, refl, sym, ap, ◌∙◌, arith}
+use Rattle.std.proofs.Common.{◌≡◌, ℕ, zero, suc, ◌-◌, ◌≤◌, List, [], ◌∷◌, ◌++◌, length, min, take, drop, refl, sym, ap, ◌∙◌, arith}
 use Rattle.std.specs.Prelude.{Option, Some, None}
 use Rattle.sst_entries.specs.Span.{Span, rest_in}
 use Rattle.sst_entries.specs.Stream.{ok_results}
 use Rattle.sst_blocks.specs.Handle.{Handle}
 use Rattle.sst_blocks.specs.Handles.{window}
+use Rattle.sst_blocks.specs.Seeking.{span_to}
 use Rattle.lsm_block_indexes.specs.Index.{parts_between}
 use Rattle.lsm_block_indexes.specs.Left.{IsDemandSought, IsEnded, IsTwoLevelSought, OnDemand, TwoLevel, demanded, demands, on_demand_left, two_level_left}
 
@@ -29,6 +30,18 @@ module _ (s : OnDemand) (edges : Option (List ℕ × ℕ) × Option (List ℕ)) 
 no_tops : (hs : List Handle) → length hs ≡ 0 → hs ≡ []
 no_tops [] none = refl
 no_tops (h ∷ hs) none = absurd (omega arith)
+
+take_fewer : (m n : ℕ) (hs : List Handle) → m ≤ n → take n hs ≡ [] → take m hs ≡ []
+take_fewer zero n hs le none = refl
+take_fewer (suc m) n [] le none = refl
+take_fewer (suc m) zero (h ∷ hs) le none = absurd (omega arith)
+take_fewer (suc m) (suc n) (h ∷ hs) le none = absurd cc
+
+-- where nothing is left, a nearer end leaves nothing
+pub none_nearer : (n : ℕ) (s t : Span Handle) → t ≡ span_to n s → rest_in s ≡ [] → rest_in t ≡ []
+none_nearer n s t is none =
+    ap (λ (x : Span Handle). rest_in x) is
+    ∙ take_fewer (min s.to n - s.from) (s.to - s.from) (drop s.from s.list) (omega arith) none
 
 module _ (s : TwoLevel) (tops : Span Handle) (edges : Option (List ℕ × ℕ) × Option (List ℕ)) where
   pub levels_lower : (edge : List ℕ × ℕ) (hi : Option (List ℕ)) → edges ≡ (Some edge, s.upper) → tops.list ≡ s.whole → rest_in tops ≡ window s.whole (Some edge) hi → IsTwoLevelSought s None hi → IsTwoLevelSought (record s { whole = tops.list; tops = rest_in tops; lower = edges.0; upper = edges.1 }) (Some edge) hi

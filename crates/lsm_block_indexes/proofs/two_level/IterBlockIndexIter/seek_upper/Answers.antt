@@ -1,11 +1,11 @@
 use Rattle.std.specs.Prelude.{Some}
-use Rattle.std.proofs.Common.{ap}
+use Rattle.std.proofs.Common.{ap, sym, subst}
 use Rattle.sst_sections.specs.Sections.{body_of}
 use Rattle.sst_entries.specs.Span.{Span, rest_in}
 use Rattle.sst_blocks.specs.Handle.{Handle}
-use Rattle.lsm_block_indexes.specs.Left.{TwoLevel}
+use Rattle.lsm_block_indexes.specs.Left.{IsEnded, TwoLevel, two_level_left}
 use Rattle.lsm_block_indexes.proofs.Laws.{levels_between, levels_deals}
-use Rattle.lsm_block_indexes.proofs.Sought.{levels_upper}
+use Rattle.lsm_block_indexes.proofs.Sought.{levels_over, levels_upper, none_nearer}
 use Rattle.lsm_block_indexes.proofs.two_level.IterBlockIndexIter.seek_upper.Goals as goal
 
 pub returns-in_err-set_upper-clause-deals : goal.returns-in_err-set_upper-clause-deals
@@ -20,6 +20,13 @@ returns-clause-sought g c lower was =
 
 pub returns-clause-between : goal.returns-clause-between
 returns-clause-between g c lower was = levels_between _ lower (Some c.args.key.now) (returns-clause-sought g c lower was)
+
+pub returns-clause-over : goal.returns-clause-over
+returns-clause-over g c over =
+    let s : TwoLevel = record { body = body_of c.self.inside.source; whole = c.self.inside.tops.list; tops = rest_in c.self.inside.tops; lower = c.self.inside.edges.0; upper = c.self.inside.edges.1; front = c.self.inside.front; back = c.self.inside.back; opened = c.self.inside.opened } in
+    levels_over s c.seek_upper.new.self c.set_upper.new.self
+    (none_nearer _ c.self.inside.tops c.seek_upper.new.self c.seek_upper.ensures.narrowed)
+    (subst (λ (x : TwoLevel). IsEnded (two_level_left x)) (sym c.self.view_is) over)
 
 pub returns-clause-deals : goal.returns-clause-deals
 returns-clause-deals g c = levels_deals _
