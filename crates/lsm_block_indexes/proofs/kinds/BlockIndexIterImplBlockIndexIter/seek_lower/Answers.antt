@@ -4,9 +4,6 @@ use Rattle.lsm_block_indexes.specs.declared.kinds.BlockIndexIterImpl.TheVariants
 use Rattle.lsm_block_indexes.proofs.KindLaws.{kind_deals}
 use Rattle.lsm_block_indexes.proofs.kinds.BlockIndexIterImplBlockIndexIter.seek_lower.Goals as goal
 
-pub returns-in-Full-clause-sought : goal.returns-in-Full-clause-sought
-returns-in-Full-clause-sought g c upper was = c.seek_lower.ensures.sought upper (rw c.in-Full.is at was)
-
 pub returns-in-Full-clause-between : goal.returns-in-Full-clause-between
 returns-in-Full-clause-between g c upper was = c.seek_lower.ensures.between upper (rw c.in-Full.is at was)
 
@@ -19,9 +16,6 @@ returns-in-Full-clause-deals g c = kind_deals _
 pub returns-in-Full-clause-unchanged : goal.returns-in-Full-clause-unchanged
 returns-in-Full-clause-unchanged g c = on_err_weaker c.seek_lower.result (λ same. ap Full same ∙ sym c.in-Full.is) c.seek_lower.ensures.unchanged
 
-pub returns-in-Volatile-clause-sought : goal.returns-in-Volatile-clause-sought
-returns-in-Volatile-clause-sought g c upper was = c.seek_lower-in-Volatile.ensures.sought upper (rw c.in-Volatile.is at was)
-
 pub returns-in-Volatile-clause-between : goal.returns-in-Volatile-clause-between
 returns-in-Volatile-clause-between g c upper was = c.seek_lower-in-Volatile.ensures.between upper (rw c.in-Volatile.is at was)
 
@@ -33,9 +27,6 @@ returns-in-Volatile-clause-deals g c = kind_deals _
 
 pub returns-in-Volatile-clause-unchanged : goal.returns-in-Volatile-clause-unchanged
 returns-in-Volatile-clause-unchanged g c = on_err_weaker c.seek_lower-in-Volatile.result (λ same. ap Volatile same ∙ sym c.in-Volatile.is) c.seek_lower-in-Volatile.ensures.unchanged
-
-pub returns-in-TwoLevel-clause-sought : goal.returns-in-TwoLevel-clause-sought
-returns-in-TwoLevel-clause-sought g c upper was = c.seek_lower-in-TwoLevel.ensures.sought upper (rw c.in-TwoLevel.is at was)
 
 pub returns-in-TwoLevel-clause-between : goal.returns-in-TwoLevel-clause-between
 returns-in-TwoLevel-clause-between g c upper was = c.seek_lower-in-TwoLevel.ensures.between upper (rw c.in-TwoLevel.is at was)

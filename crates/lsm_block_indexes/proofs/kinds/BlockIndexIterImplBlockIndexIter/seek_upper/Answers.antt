@@ -4,9 +4,6 @@ use Rattle.lsm_block_indexes.specs.declared.kinds.BlockIndexIterImpl.TheVariants
 use Rattle.lsm_block_indexes.proofs.KindLaws.{kind_deals}
 use Rattle.lsm_block_indexes.proofs.kinds.BlockIndexIterImplBlockIndexIter.seek_upper.Goals as goal
 
-pub returns-in-Full-clause-sought : goal.returns-in-Full-clause-sought
-returns-in-Full-clause-sought g c lower was = c.seek_upper.ensures.sought lower (rw c.in-Full.is at was)
-
 pub returns-in-Full-clause-between : goal.returns-in-Full-clause-between
 returns-in-Full-clause-between g c lower was = c.seek_upper.ensures.between lower (rw c.in-Full.is at was)
 
@@ -19,9 +16,6 @@ returns-in-Full-clause-deals g c = kind_deals _
 pub returns-in-Full-clause-unchanged : goal.returns-in-Full-clause-unchanged
 returns-in-Full-clause-unchanged g c = on_err_weaker c.seek_upper.result (λ same. ap Full same ∙ sym c.in-Full.is) c.seek_upper.ensures.unchanged
 
-pub returns-in-Volatile-clause-sought : goal.returns-in-Volatile-clause-sought
-returns-in-Volatile-clause-sought g c lower was = c.seek_upper-in-Volatile.ensures.sought lower (rw c.in-Volatile.is at was)
-
 pub returns-in-Volatile-clause-between : goal.returns-in-Volatile-clause-between
 returns-in-Volatile-clause-between g c lower was = c.seek_upper-in-Volatile.ensures.between lower (rw c.in-Volatile.is at was)
 
@@ -33,9 +27,6 @@ returns-in-Volatile-clause-deals g c = kind_deals _
 
 pub returns-in-Volatile-clause-unchanged : goal.returns-in-Volatile-clause-unchanged
 returns-in-Volatile-clause-unchanged g c = on_err_weaker c.seek_upper-in-Volatile.result (λ same. ap Volatile same ∙ sym c.in-Volatile.is) c.seek_upper-in-Volatile.ensures.unchanged
-
-pub returns-in-TwoLevel-clause-sought : goal.returns-in-TwoLevel-clause-sought
-returns-in-TwoLevel-clause-sought g c lower was = c.seek_upper-in-TwoLevel.ensures.sought lower (rw c.in-TwoLevel.is at was)
 
 pub returns-in-TwoLevel-clause-between : goal.returns-in-TwoLevel-clause-between
 returns-in-TwoLevel-clause-between g c lower was = c.seek_upper-in-TwoLevel.ensures.between lower (rw c.in-TwoLevel.is at was)

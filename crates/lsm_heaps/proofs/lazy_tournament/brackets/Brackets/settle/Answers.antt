@@ -10,12 +10,6 @@ pub follow-requires : goal.follow-requires
 follow-requires g c =
     are_kept_open g.T.Ord.cmp _ None c.args.slots.now c.args.self.now (subst (λ (o : Option ℕ). AreKept o g.T.Ord.cmp c.args.slots.now c.args.self.now) c.in-Some.is c.requires)
 
-pub returns-in-Some-clause-kept : goal.returns-in-Some-clause-kept
-returns-in-Some-clause-kept g c = c.follow.ensures.kept
-
-pub returns-in-Some-clause-bound : goal.returns-in-Some-clause-bound
-returns-in-Some-clause-bound g c = c.follow.ensures.bound
-
 pub returns-in-None-clause-kept : goal.returns-in-None-clause-kept
 returns-in-None-clause-kept g c = subst (λ (o : Option ℕ). AreKept o g.T.Ord.cmp c.args.slots.now c.args.self.now) c.in-None.is c.requires
 
