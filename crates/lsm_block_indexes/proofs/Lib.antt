@@ -1,5 +1,7 @@
+pub mod Refusals
 pub mod Seeks
 pub mod AtEnds
+pub mod Going
 pub mod Loads
 pub mod Dealing
 pub mod OnDemands
@@ -7,4 +9,5 @@ pub mod Places
 pub mod TwoLevels
 pub mod Counting
 pub mod Laws
+pub mod Sought
 pub mod KindLaws

@@ -43,7 +43,7 @@ impl<A: Allocator + Clone> Edges<A> {
         ensures err { IfErr result (λ e. e ≡ OutOfMemory) }
     {
         let key = Slice::from(self.alloc.clone()?, key)?;
-        self.lower = Some((key, seqno));
+        drop(self.lower.replace((key, seqno)));
         Ok(())
     }
 
@@ -54,7 +54,7 @@ impl<A: Allocator + Clone> Edges<A> {
         ensures err { IfErr result (λ e. e ≡ OutOfMemory) }
     {
         let key = Slice::from(self.alloc.clone()?, key)?;
-        self.upper = Some(key);
+        drop(self.upper.replace(key));
         Ok(())
     }
 

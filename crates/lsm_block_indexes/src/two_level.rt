@@ -16,6 +16,7 @@ use crate::part::{Part, load_part};
 use sst_blocks::{BlockHandle, BlockSource, Error, IndexBlock, KeyedBlockHandle, Opened, SeqNo};
 use std::alloc::{Allocator, Global};
 use std::marker::Model;
+use std::mem;
 
 /// An index of two levels: the handles of the top level name partitions, which hold the handles of the data blocks. The top level
 /// stays loaded. A contract sees the bytes before the trailer and the handles of the top level.
@@ -68,8 +69,8 @@ impl<A: Allocator + Clone> TwoLevelBlockIndex<A> {
         ensures err { IfErr result (λ e. e ≡ OutOfMemory) }
     {
         let mut iter = self.iter()?;
-        iter.seek_lower(key, seqno)?;
-        Ok(iter)
+        let sought = iter.seek_lower(key, seqno);
+        sought.and(Ok(iter))
     }
 
     /// All handles. Nothing is loaded. Refused [`Error::OutOfMemory`] alone.
@@ -82,10 +83,13 @@ impl<A: Allocator + Clone> TwoLevelBlockIndex<A> {
             (two_level_left i).results) }
         ensures err { IfErr result (λ e. e ≡ OutOfMemory) }
     {
+        let alloc = self.alloc.clone()?;
+        let tops = self.top_level_index.clone()?;
+        let source = self.source.clone()?;
         Ok(Iter {
-            source: self.source.clone()?,
-            tops: OwnedIndexBlockIter::new(self.top_level_index.clone()?),
-            edges: Edges::new(self.alloc.clone()?),
+            source,
+            tops: OwnedIndexBlockIter::new(tops),
+            edges: Edges::new(alloc),
             front: Part::none(),
             back: Part::none(),
             opened: Opened::none(),
@@ -149,7 +153,7 @@ impl<A: Allocator + Clone> Iter<A> {
             return Ok(false);
         };
         let part = self.load(&top)?;
-        self.front = part;
+        drop(mem::replace(&mut self.front, part));
         Ok(true)
     }
 
@@ -163,7 +167,7 @@ impl<A: Allocator + Clone> Iter<A> {
             return Ok(false);
         };
         let part = self.load(&top)?;
-        self.back = part;
+        drop(mem::replace(&mut self.back, part));
         Ok(true)
     }
 
@@ -172,8 +176,8 @@ impl<A: Allocator + Clone> Iter<A> {
         ensures { self.new ≡ record self.old { tops = []; front = []; back = [] } }
     {
         self.tops.end();
-        self.front = Part::none();
-        self.back = Part::none();
+        self.front.end();
+        self.back.end();
     }
 
     /// The answer at the front; an error does not end the iterator yet.

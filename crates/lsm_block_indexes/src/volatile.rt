@@ -57,8 +57,8 @@ impl<A: Allocator + Clone> VolatileBlockIndex<A> {
         ensures err { IfErr result (λ e. e ≡ OutOfMemory) }
     {
         let mut iter = self.iter()?;
-        iter.edges.set_lower(key, seqno)?;
-        Ok(iter)
+        let sought = iter.edges.set_lower(key, seqno);
+        sought.and(Ok(iter))
     }
 
     /// All handles. Nothing is loaded. Refused [`Error::OutOfMemory`] alone.
@@ -71,10 +71,12 @@ impl<A: Allocator + Clone> VolatileBlockIndex<A> {
             (on_demand_left i).results) }
         ensures err { IfErr result (λ e. e ≡ OutOfMemory) }
     {
+        let alloc = self.alloc.clone()?;
+        let source = self.source.clone()?;
         Ok(Iter {
-            source: self.source.clone()?,
+            source,
             handle: self.handle,
-            edges: Edges::new(self.alloc.clone()?),
+            edges: Edges::new(alloc),
             part: None,
             opened: Opened::none(),
         })
@@ -125,12 +127,12 @@ impl<A: Allocator + Clone> Iterator for Iter<A> {
         match load_part(&self.source, &self.handle, &self.edges, &mut self.opened) {
             Ok(mut part) => {
                 let item = part.next();
-                self.part = Some(part);
+                drop(self.part.replace(part));
                 item
             }
             Err(error) => {
                 // Nothing more comes.
-                self.part = Some(Part::none());
+                drop(self.part.replace(Part::none()));
                 Some(Err(error))
             }
         }
@@ -149,12 +151,12 @@ impl<A: Allocator + Clone> DoubleEndedIterator for Iter<A> {
         match load_part(&self.source, &self.handle, &self.edges, &mut self.opened) {
             Ok(mut part) => {
                 let item = part.next_back();
-                self.part = Some(part);
+                drop(self.part.replace(part));
                 item
             }
             Err(error) => {
                 // Nothing more comes.
-                self.part = Some(Part::none());
+                drop(self.part.replace(Part::none()));
                 Some(Err(error))
             }
         }

@@ -27,22 +27,43 @@ pub(crate) fn order_last<T: Ord>(items: &mut [T])
 {
     let last = items.len() - 1;
     if last % 2 == 1 {
-        if is_before(Direction::Front, &items[last], &items[last - 1]) {
-            items.swap(last - 1, last);
-            rise(items, Direction::Front, last - 1);
-        } else {
-            rise(items, Direction::Back, last);
-        }
+        order_second(items, last);
     } else if last > 0 {
-        if is_before(
-            Direction::Front,
-            &items[last],
-            &items[place_above(Direction::Front, last)],
-        ) {
-            rise(items, Direction::Front, last);
-        } else {
-            rise(items, Direction::Back, last);
-        }
+        order_single(items, last);
+    }
+}
+
+// The same, where the last item is the second of its node.
+fn order_second<T: Ord>(items: &mut [T], last: usize)
+    requires last { length items.old ≡ last + 1 }
+    requires others { IsIntervalHeap T.cmp (take last items.old) }
+    requires odd { last % 2 ≡ 1 }
+    ensures items { IsPermutation items.old items.new }
+    ensures heap { IsIntervalHeap T.cmp items.new }
+{
+    let first = last - 1;
+    if is_before(Direction::Front, &items[last], &items[first]) {
+        items.swap(first, last);
+        rise(items, Direction::Front, first);
+    } else {
+        rise(items, Direction::Back, last);
+    }
+}
+
+// The same, where the last item is alone in its node, which is not the root.
+fn order_single<T: Ord>(items: &mut [T], last: usize)
+    requires last { length items.old ≡ last + 1 }
+    requires others { IsIntervalHeap T.cmp (take last items.old) }
+    requires even { last % 2 ≡ 0 }
+    requires some { 0 < last }
+    ensures items { IsPermutation items.old items.new }
+    ensures heap { IsIntervalHeap T.cmp items.new }
+{
+    let above = place_above(Direction::Front, last);
+    if is_before(Direction::Front, &items[last], &items[above]) {
+        rise(items, Direction::Front, last);
+    } else {
+        rise(items, Direction::Back, last);
     }
 }
 

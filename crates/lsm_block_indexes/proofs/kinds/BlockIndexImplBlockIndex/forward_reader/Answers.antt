@@ -1,4 +1,4 @@
-use Rattle.std.specs.Prelude.{Some, None}
+use Rattle.std.specs.Prelude.{Some}
 use Rattle.sst_blocks.specs.Seeking.{reaching_place}
 use Rattle.lsm_block_indexes.proofs.KindLaws.{demand_reader, full_reader_from, levels_reader_from}
 use Rattle.lsm_block_indexes.proofs.kinds.BlockIndexImplBlockIndex.forward_reader.Goals as goal

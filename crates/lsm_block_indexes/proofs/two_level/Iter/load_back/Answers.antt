@@ -10,7 +10,7 @@ pub returns-clause-some : goal.returns-clause-some
 returns-clause-some g c loads =
     let s : TwoLevel = record { body = body_of c.self.inside.source; whole = c.self.inside.tops.list; tops = rest_in c.self.inside.tops; lower = c.self.inside.edges.0; upper = c.self.inside.edges.1; front = c.self.inside.front; back = c.self.inside.back; opened = c.self.inside.opened } in
     let step = rw c.in-Some.is at c.next_place_back.ensures in
-    rw (← c.self.view_is) (enters_back s _ c.next_place_back.new.self.list (rest_in c.next_place_back.new.self) step.list (c.self-2.view_is ∙ c.load.ensures.counted) c.in-Some.top c.in_ok-part.part step.told step.rest c.in_ok-part.ensures.ok c.in_ok-part.ensures.first)
+    rw (← c.self.view_is, c.replace.ensures.after) (enters_back s _ c.next_place_back.new.self.list (rest_in c.next_place_back.new.self) step.list (c.self-2.view_is ∙ c.load.ensures.counted) c.in-Some.top c.in_ok-part.part step.told step.rest c.in_ok-part.ensures.ok c.in_ok-part.ensures.first)
 
 pub returns-in_err-part-clause-fails : goal.returns-in_err-part-clause-fails
 returns-in_err-part-clause-fails g c =

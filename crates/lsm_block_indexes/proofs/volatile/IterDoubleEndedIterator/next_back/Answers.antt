@@ -1,8 +1,9 @@
 use Rattle.std.proofs.Common.{refl}
 use Rattle.sst_sections.specs.Sections.{body_of}
 use Rattle.sst_entries.specs.Stream.{back_of}
-use Rattle.lsm_block_indexes.specs.Left.{OnDemand}
+use Rattle.lsm_block_indexes.specs.Left.{OnDemand, on_demand_left}
 use Rattle.lsm_block_indexes.proofs.AtEnds.{carries_back}
+use Rattle.lsm_block_indexes.proofs.Going.{progress, back_shortens}
 use Rattle.lsm_block_indexes.proofs.OnDemands.{none_of, demand_item, demand_first, demand_fault}
 use Rattle.lsm_block_indexes.proofs.volatile.IterDoubleEndedIterator.next_back.Goals as goal
 
@@ -14,9 +15,18 @@ returns-in-Some-clause-steps g c =
 pub returns-in-Ok-clause-steps : goal.returns-in-Ok-clause-steps
 returns-in-Ok-clause-steps g c =
     let s : OnDemand = record { body = body_of c.self.inside.source; place = c.self.inside.handle; lower = c.self.inside.edges.0; upper = c.self.inside.edges.1; part = c.self.inside.part; opened = c.self.inside.opened } in
-    rw (← c.self.view_is) (demand_first back_of back_of carries_back s c.in-Ok.part c.next_back-item.new.self c.next_back-item.result c.load_part.new.opened (none_of c.self.inside.part c.in_default.not-Some) c.in-Ok.ensures.counted c.in-Ok.ensures.ok c.in-Ok.ensures.first c.next_back-item.ensures)
+    rw (← c.self.view_is, c.replace.ensures.after) (demand_first back_of back_of carries_back s c.in-Ok.part c.next_back-item.new.self c.next_back-item.result c.load_part.new.opened (none_of c.self.inside.part c.in_default.not-Some) c.in-Ok.ensures.counted c.in-Ok.ensures.ok c.in-Ok.ensures.first c.next_back-item.ensures)
 
 pub returns-in-Err-clause-steps : goal.returns-in-Err-clause-steps
 returns-in-Err-clause-steps g c =
     let s : OnDemand = record { body = body_of c.self.inside.source; place = c.self.inside.handle; lower = c.self.inside.edges.0; upper = c.self.inside.edges.1; part = c.self.inside.part; opened = c.self.inside.opened } in
-    rw (← c.self.view_is) (demand_fault back_of (λ e. refl) s c.in-Err.error c.none.result c.load_part.new.opened (none_of c.self.inside.part c.in_default.not-Some) c.none.ensures c.in-Err.ensures.counted c.in-Err.ensures.err c.in-Err.ensures.first)
+    rw (← c.self.view_is, c.replace-in-Err.ensures.after) (demand_fault back_of (λ e. refl) s c.in-Err.error c.none.result c.load_part.new.opened (none_of c.self.inside.part c.in_default.not-Some) c.none.ensures c.in-Err.ensures.counted c.in-Err.ensures.err c.in-Err.ensures.first)
+
+pub returns-in-Some-clause-goes : goal.returns-in-Some-clause-goes
+returns-in-Some-clause-goes g c = progress on_demand_left back_of back_shortens _ _ _ (returns-in-Some-clause-steps g c).gives
+
+pub returns-in-Ok-clause-goes : goal.returns-in-Ok-clause-goes
+returns-in-Ok-clause-goes g c = progress on_demand_left back_of back_shortens _ _ _ (returns-in-Ok-clause-steps g c).gives
+
+pub returns-in-Err-clause-goes : goal.returns-in-Err-clause-goes
+returns-in-Err-clause-goes g c = progress on_demand_left back_of back_shortens _ _ _ (returns-in-Err-clause-steps g c).gives

@@ -1,11 +1,23 @@
-use Rattle.std.proofs.Common.{ℕ, ◌^◌, ◌∙◌, sym, ap, subst, length, Option, None}
+use Rattle.std.proofs.Common.{◌≡◌, ℕ, ◌^◌, ◌<◌, ◌∙◌, sym, ap, subst, length, Option, None, arith}
 use Rattle.std.proofs.lemmas.List.{length-replicate}
+use Rattle.std.proofs.Math.Pow.{pow_pos}
+use Rattle.std.specs.Int.{IsNextPowerOfTwo}
 use Rattle.lsm_heaps.specs.Tournament.{height}
 use Rattle.lsm_heaps.specs.Brackets.{AreKept, IsNextIf}
 use Rattle.lsm_heaps.proofs.SlotLemmas.{items_of-replicate}
 use Rattle.lsm_heaps.proofs.HeightLemmas.{next_power_is}
 use Rattle.lsm_heaps.proofs.TournamentLemmas.{kept_unplayed}
 use Rattle.lsm_heaps.proofs.lazy_tournament.LazyTournament.new.Goals as goal
+
+-- a power of two is some number
+some_leaves : (n p : ℕ) → IsNextPowerOfTwo n p → 0 < p
+some_leaves n p next = let is : p ≡ 2 ^ next.0.0 = next.0.1 in let some = pow_pos next.0.0 in omega arith
+
+pub new-requires : goal.new-requires
+new-requires g c = some_leaves c.args.capacity c.in-Some.leaves c.in-Some.ensures
+
+pub new-requires-2 : goal.new-requires-2
+new-requires-2 g c = c.in-Some.ensures.1
 
 pub returns-clause-empty : goal.returns-clause-empty
 returns-clause-empty g c = rw c.in_ok-new.ensures.places (items_of-replicate {T = g.row.T.Denot} c.in-Some.leaves)

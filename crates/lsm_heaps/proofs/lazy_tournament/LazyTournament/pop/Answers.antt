@@ -1,9 +1,10 @@
-use Rattle.std.proofs.Common.{◌≡◌, ◌^◌, ◌<◌, [], Option, Some, None, length, set, sym, ◌∙◌, ap}
+use Rattle.std.proofs.Common.{◌≡◌, ℕ, ◌^◌, ◌<◌, [], Option, Some, None, length, set, sym, ◌∙◌, ap, subst}
 use Rattle.std.proofs.lemmas.List.{length-set, set-get_or}
 use Rattle.lsm_heaps.specs.Order.{toward}
 use Rattle.lsm_heaps.specs.Tournament.{Contest, height}
 use Rattle.lsm_heaps.specs.Slots.{items_of, slot_at}
 use Rattle.lsm_heaps.specs.Brackets.{AreKept, IsUnbeaten}
+use Rattle.lsm_heaps.proofs.AskedLemmas.{plays_at_most, plays_from}
 use Rattle.lsm_heaps.proofs.SlotLemmas.{items_of-empty}
 use Rattle.lsm_heaps.proofs.TournamentLemmas.{IfNone-from, all_behind, none_left, are_kept_set, are_kept_open}
 use Rattle.lsm_heaps.proofs.lazy_tournament.LazyTournament.pop.Goals as goal
@@ -71,3 +72,32 @@ returns-clause-first g c =
     let before = (goal.at.returns-clause-first g c).After-winner-slot in
     rw (← same_items g before)
     (all_behind (toward c.args.end g.T.Ord.cmp) c.in_ok-item.item c.self.inside.slots.places (λ k low. rw c.in_ok-item.ensures.value (wins g before k low)))
+
+-- as many leaves as the slots that were played
+leaves : (g : _) (c : After-winner-slot g) → length c.as_slice.result.now ≡ 2 ^ height c.self.inside.slots.room
+leaves g c = ap length c.as_slice.ensures ∙ c.self.invariant.leaves
+
+pub returns-clause-steps : goal.returns-clause-steps
+returns-clause-steps g c =
+    let same = leaves g (goal.at.returns-clause-steps g c).After-winner-slot in
+    rw (← c.self.view_is) (plays_at_most _ _ _ _ c.self.inside.brackets c.winner-slot.new.self c.args.end (length c.as_slice.result.now) same c.winner-slot.ensures.rises (c.winner-slot.ensures.bound (height c.self.inside.slots.room) same))
+
+pub returns-clause-plays : goal.returns-clause-plays
+returns-clause-plays g c = rw (← c.self.view_is) (plays_from _ _ _ _ c.self.inside.brackets c.winner-slot.new.self c.args.end c.winner-slot.ensures.plays)
+
+pub returns-in_err-item-clause-steps : goal.returns-in_err-item-clause-steps
+returns-in_err-item-clause-steps g c =
+    let same = leaves g (goal.at.returns-in_err-item-clause-steps g c).After-winner-slot in
+    rw (← c.self.view_is) (plays_at_most _ _ _ _ c.self.inside.brackets c.winner-slot.new.self c.args.end (length c.as_slice.result.now) same c.winner-slot.ensures.rises (c.winner-slot.ensures.bound (height c.self.inside.slots.room) same))
+
+pub returns-in_err-item-clause-plays : goal.returns-in_err-item-clause-plays
+returns-in_err-item-clause-plays g c = rw (← c.self.view_is) (plays_from _ _ _ _ c.self.inside.brackets c.winner-slot.new.self c.args.end c.winner-slot.ensures.plays)
+
+pub invariant_of-self : goal.invariant_of-self
+invariant_of-self g c =
+    let here = goal.at.invariant_of-self g c in
+    record {
+      leaves = rw c.remove.ensures.room (same_leaves g here.After-remove);
+      kept = rw (same_places g here.After-from_residual) (subst (λ (o : Option ℕ). AreKept o g.T.Ord.cmp c.self.inside.slots.places c.winner-slot.new.self) (sym c.winner-slot.ensures.emptied) (kept g here.After-winner-slot));
+      next = rw c.winner-slot.ensures.emptied tt;
+    }
