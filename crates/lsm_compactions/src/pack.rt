@@ -4,6 +4,7 @@ ghost use Rattle.std.specs.Arc.{arc_value};
 ghost use Rattle.sst_entries.specs.Entry.{Entry};
 ghost use Rattle.sst_entries.specs.declared.error.Error.TheVariants.{OutOfMemory};
 ghost use Rattle.lsm_ranges.specs.Packing.{AreInOrder, ArePacked, IsLeastSize, SameHolders, SameTables};
+ghost use Rattle.lsm_compactions.specs.Compacted.{AreCompactable};
 ghost use Rattle.lsm_compactions.specs.Packed.{HoldUnion, KeptLaw, PackedLaw, has_table};
 ghost use Rattle.lsm_runs.specs.RunLists.{RunsHoldLists};
 ghost use Rattle.lsm_runs.specs.RunParts.{range_of};
@@ -70,6 +71,9 @@ pub fn pack_runs<A: Allocator + Clone>(
     ensures list { (lists : List (List (List Entry))) →
         RunsHoldLists (map arc_value runs.now) lists →
         IfOk result (λ packed. HoldUnion packed.items (union_in lists)) }
+    // Where the runs may be compacted, the packed ones may be.
+    ensures able { AreCompactable (map arc_value runs.now) →
+        IfOk result (λ packed. AreCompactable packed.items) }
     // The tables are the same, each as often.
     ensures tables { IfOk result (λ packed.
         SameTables (map arc_value runs.now) packed.items) }
