@@ -1,5 +1,5 @@
--- Packed runs may be compacted where the runs before may be.
-use Rattle.std.proofs.Common.{◌≡◌, refl, sym, subst, ◌<◌, List, [], ◌∷◌, length, arith}
+-- What packing does to runs that may be compacted, and to one run alone.
+use Rattle.std.proofs.Common.{◌≡◌, refl, sym, subst, ◌<◌, ◌≤◌, List, [], ◌∷◌, length, arith}
 use Rattle.std.specs.Prelude.{◌≢◌, IfOk, Result, Ok, Err}
 use Rattle.std.specs.List.{AllByRecursion}
 use Rattle.std.proofs.lemmas.List.Elements.{All-from_recursion, recursion_from_All}
@@ -80,3 +80,8 @@ pub result_able : {V : Type 0} (view : V → List (List OpenTable)) (ts : List (
 result_able view ts (Ok v) held tables ordered able =
     packed_able ts (view v) able (held able.lists able.hold) (ordered (runs_in_order ts able.lists able.hold)) tables
 result_able view ts (Err e) held tables ordered able = tt
+
+-- ---- one run alone
+
+pub result_one : {V E : Type 0} (view : V → List (List OpenTable)) (v : V) (given : List (List OpenTable)) → view v ≡ given → (r : Result V E) → (length (view v) ≤ 1 → r ≡ Ok v) → length given ≤ 1 → IfOk r (λ p. view p ≡ given)
+result_one view v given is r one few = let same = one (subst (λ (runs : List (List OpenTable)). length runs ≤ 1) (sym is) few) in rw same is
