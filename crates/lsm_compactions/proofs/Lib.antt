@@ -5,6 +5,7 @@ pub mod Packing
 pub mod PackingTies
 pub mod PackingRuns
 pub mod PackingResult
+pub mod PackedAble
 pub mod WrittenBy
 pub mod WritesOn
 pub mod Scanners

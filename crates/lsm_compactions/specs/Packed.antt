@@ -14,6 +14,12 @@ pub record HoldUnion (runs : List (List OpenTable)) (all : List Entry) : Type 0 
   pub hold : RunsHoldLists runs lists
   pub union : union_in lists ≡ all
 
+-- the tables of runs hold these lists and no others
+abbrev pub HeldLaw : Type 0
+HeldLaw =
+    (runs : List (List OpenTable)) (lists others : List (List (List Entry))) →
+    RunsHoldLists runs lists → RunsHoldLists runs others → lists ≡ others
+
 -- where runs in order hold a strict list together, their tables hold it in any other runs in order
 abbrev pub PackedLaw : Type 0
 PackedLaw =

@@ -1,10 +1,11 @@
 //! Packing runs of tables, and what packed runs hold.
-ghost use Rattle.std.specs.Prelude.{◌≡◌, IfErr, IfOk, List, filter, length, map};
+ghost use Rattle.std.specs.Prelude.{◌≡◌, ◌≤◌, IfErr, IfOk, List, filter, length, map};
 ghost use Rattle.std.specs.Arc.{arc_value};
 ghost use Rattle.sst_entries.specs.Entry.{Entry};
 ghost use Rattle.sst_entries.specs.declared.error.Error.TheVariants.{OutOfMemory};
 ghost use Rattle.lsm_ranges.specs.Packing.{AreInOrder, ArePacked, IsLeastSize, SameHolders, SameTables};
-ghost use Rattle.lsm_compactions.specs.Packed.{HoldUnion, KeptLaw, PackedLaw, has_table};
+ghost use Rattle.lsm_compactions.specs.Compacted.{AreCompactable};
+ghost use Rattle.lsm_compactions.specs.Packed.{HeldLaw, HoldUnion, KeptLaw, PackedLaw, has_table};
 ghost use Rattle.lsm_runs.specs.RunLists.{RunsHoldLists};
 ghost use Rattle.lsm_runs.specs.RunParts.{range_of};
 ghost use Rattle.lsm_runs.specs.SeveralRuns.{union_in};
@@ -19,12 +20,14 @@ use std::sync::Arc;
 ///
 /// Of runs in order that hold together a strict list, in which no key has one number twice, whatever runs in order have
 /// their tables hold that list; so a point read and a range give the same of them. Where the list is not strict, it
-/// still holds of runs in which each key has its tables in the same order.
+/// still holds of runs in which each key has its tables in the same order. The tables of runs hold one list each: what two
+/// clauses say of their lists is said of the same ones.
 ///
 /// The call does nothing: its contract says so.
 pub fn packing_law()
     ensures reads { PackedLaw }
     ensures kept { KeptLaw }
+    ensures held { HeldLaw }
 {}
 
 // The tables of a run, shared.
@@ -70,6 +73,12 @@ pub fn pack_runs<A: Allocator + Clone>(
     ensures list { (lists : List (List (List Entry))) →
         RunsHoldLists (map arc_value runs.now) lists →
         IfOk result (λ packed. HoldUnion packed.items (union_in lists)) }
+    // Where the runs may be compacted, the packed ones may be.
+    ensures able { AreCompactable (map arc_value runs.now) →
+        IfOk result (λ packed. AreCompactable packed.items) }
+    // One run alone comes back as it is, in order or not.
+    ensures one { let given = filter has_table (map arc_value runs.now) in
+        length given ≤ 1 → IfOk result (λ packed. packed.items ≡ given) }
     // The tables are the same, each as often.
     ensures tables { IfOk result (λ packed.
         SameTables (map arc_value runs.now) packed.items) }

@@ -11,6 +11,7 @@ ghost use Rattle.lsm_tables.specs.Words.{kept_in, rules_by, tables_fault, union_
 
 use crate::reads::read_runs;
 use crate::{Reads, RunReader, Table, Timestamp, compact_to_run, compaction_law};
+use lsm_iters::beside;
 use lsm_merge::Merger;
 use lsm_ranges::Run;
 use lsm_runs::share;
@@ -275,6 +276,6 @@ pub fn compact_part_back<A: Allocator + Clone>(
         key,
         seqno,
         range,
-    )?;
-    Ok((before, after))
+    );
+    beside(before, after)
 }

@@ -27,46 +27,6 @@ use Rattle.sst_script.specs.Script.{ArePackedRuns, Packs, PacksRuns, store}
 use Rattle.sst_script.proofs.CompactLemmas.{able_entries, able_from, able_writable, runs_of}
 use Rattle.sst_script.proofs.RunLemmas.{held, lists_of, union_same}
 
--- ---- tables whose lists have entries
-
-abbrev HasEntries : OpenTable → Type 0
-HasEntries t = 0 < length (list_of t)
-
-tables_some : (ts : List OpenTable) (ls : List (List Entry)) → HoldLists ts ls → AllByRecursion (λ (es : List Entry). 0 < length es) ls → AllByRecursion HasEntries ts
-tables_some [] ls h some = tt
-tables_some (t ∷ ts) [] h some = absurd h
-tables_some (t ∷ ts) (es ∷ ls) h some = (subst (λ (xs : List Entry). 0 < length xs) (sym (list_is t es h.0)) some.0, tables_some ts ls h.1 some.1)
-
-runs_some : (runs : List (List OpenTable)) (lists : List (List (List Entry))) → RunsHoldLists runs lists → AllByRecursion HaveEntries lists → AllByRecursion HasEntries (tables_of runs)
-runs_some [] lists h some = tt
-runs_some (run ∷ runs) [] h some = absurd h
-runs_some (run ∷ runs) (ls ∷ lists) h some = all_append HasEntries run (tables_of runs) (tables_some run ls h.0.1 some.0.1) (runs_some runs lists h.1 some.1)
-
--- so it is in other runs of the same tables
-packed_some : (runs packed : List (List OpenTable)) → SameTables runs packed → AllByRecursion HasEntries (tables_of runs) → AllByRecursion HasEntries (tables_of packed)
-packed_some runs packed same h =
-    recursion_from_All HasEntries (tables_of packed) (All-permutation HasEntries (tables_of runs) (tables_of packed) same (All-from_recursion HasEntries (tables_of runs) h))
-
-lists_some : (ts : List OpenTable) (ls : List (List Entry)) → HoldLists ts ls → AllByRecursion HasEntries ts → AllByRecursion (λ (es : List Entry). 0 < length es) ls
-lists_some [] [] h some = tt
-lists_some [] (es ∷ ls) h some = absurd h
-lists_some (t ∷ ts) [] h some = tt
-lists_some (t ∷ ts) (es ∷ ls) h some = (subst (λ (xs : List Entry). 0 < length xs) (list_is t es h.0) some.0, lists_some ts ls h.1 some.1)
-
-many_lists : (ts : List OpenTable) (ls : List (List Entry)) → HoldLists ts ls → ts ≢ [] → 0 < length ls
-many_lists [] ls h some = absurd (some refl)
-many_lists (t ∷ ts) [] h some = absurd h
-many_lists (t ∷ ts) (es ∷ ls) h some = omega arith
-
-have_entries : (runs : List (List OpenTable)) (lists : List (List (List Entry))) → RunsHoldLists runs lists → AllByRecursion (λ (run : List OpenTable). run ≢ []) runs → AllByRecursion HasEntries (tables_of runs) → AllByRecursion HaveEntries lists
-have_entries [] [] h some each = tt
-have_entries [] (ls ∷ lists) h some each = absurd h
-have_entries (run ∷ runs) [] h some each = tt
-have_entries (run ∷ runs) (ls ∷ lists) h some each = (
-  (many_lists run ls h.0.1 some.0, lists_some run ls h.0.1 (all_front HasEntries run (tables_of runs) each)),
-  have_entries runs lists h.1 some.1 (all_behind HasEntries run (tables_of runs) each),
-)
-
 -- ---- packed runs
 
 pub in_order : (rs : List Run) (ts : List (List OpenTable)) → run_tables rs ≡ ts → AreInOrder range_of ts
@@ -84,13 +44,6 @@ module _ (rs : List Run) (ts packed : List (List OpenTable)) (same : run_tables 
 
   same_union : union made.0 ≡ union rs
   same_union = sym (union_same made.0) ∙ ap union_in (sym lists_are) ∙ hold.union ∙ union_same rs
-
-  -- they may be compacted
-  pub packed_able : SameTables ts packed → AreCompactable ts → AreCompactable packed
-  packed_able tables able =
-      let each = packed_some ts packed tables (runs_some ts (lists_of rs) (held rs ts same) (able_entries rs ts same able)) in
-      able_from made.0 packed made.1 (have_entries packed (lists_of made.0) (held made.0 packed made.1) some each)
-      (subst IsWritable (sym same_union) (able_writable rs ts same able))
 
   -- they stand in the place of the runs
   pub packed_runs : (es : List Entry) (next : Option ℕ) (count : ℕ) → count ≡ length packed → SameTables ts packed → SameHolders range_of ts packed → IsLeastSize range_of ts (length packed)

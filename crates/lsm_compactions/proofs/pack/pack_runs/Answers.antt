@@ -1,5 +1,6 @@
 use Rattle.std.specs.Prelude.{map}
 use Rattle.std.specs.Arc.{arc_value}
+use Rattle.lsm_compactions.proofs.PackedAble.{result_able, result_one}
 use Rattle.lsm_compactions.proofs.PackingResult.{result_holders, result_least, result_list, result_ordered, result_tables}
 use Rattle.lsm_compactions.proofs.pack.pack_runs.Goals as goal
 
@@ -21,3 +22,9 @@ returns-clause-least g c =
 
 pub returns-clause-list : goal.returns-clause-list
 returns-clause-list g c = result_list (λ v. v.items) (map arc_value c.args.runs.now) c.optimize_runs.result (returns-clause-tables g c) (returns-clause-holders g c) (returns-clause-ordered g c)
+
+pub returns-clause-able : goal.returns-clause-able
+returns-clause-able g c = result_able (λ v. v.items) (map arc_value c.args.runs.now) c.optimize_runs.result (returns-clause-list g c) (returns-clause-tables g c) (returns-clause-ordered g c)
+
+pub returns-clause-one : goal.returns-clause-one
+returns-clause-one g c = result_one (λ v. v.items) c.in_ok-shared.shared _ c.in_ok-shared.ensures.runs c.optimize_runs.result c.optimize_runs.ensures.one

@@ -1,5 +1,6 @@
 use Rattle.lsm_compactions.proofs.Packing.{packed_alike}
 use Rattle.lsm_compactions.proofs.PackingTies.{kept_alike}
+use Rattle.lsm_runs.proofs.OneList.{one_way}
 use Rattle.lsm_compactions.proofs.pack.packing_law.Goals as goal
 
 pub returns-clause-reads : goal.returns-clause-reads
@@ -7,3 +8,6 @@ returns-clause-reads c = packed_alike
 
 pub returns-clause-kept : goal.returns-clause-kept
 returns-clause-kept c = kept_alike
+
+pub returns-clause-held : goal.returns-clause-held
+returns-clause-held c = one_way

@@ -6,8 +6,7 @@ use Rattle.lsm_readers.specs.Table.{OpenTable}
 use Rattle.lsm_compactions.specs.Compacted.{AreCompactable}
 use Rattle.sst_script.specs.Runs.{HasRuns}
 use Rattle.sst_script.specs.Script.{Packs, store}
-use Rattle.sst_script.proofs.CompactLemmas.{able_runs}
-use Rattle.sst_script.proofs.PackLemmas.{in_order, packed_able, packed_runs}
+use Rattle.sst_script.proofs.PackLemmas.{in_order, packed_runs}
 use Rattle.sst_script.proofs.RunLemmas.{held, lists_of}
 use Rattle.sst_script.proofs.script.Script.pack.Goals as goal
 
@@ -28,11 +27,5 @@ returns-clause-done g c runs same =
 
 pub returns-clause-able : goal.returns-clause-able
 returns-clause-able g c =
-    let ts = map arc_value c.deref.result.now in
-    let able : AreCompactable ts = rw c.deref.ensures.value c.requires in
-    let runs = able_runs ts able in
-    let order = in_order runs.0 ts runs.1 in
-    let packed = c.in_ok-packed.packed.items in
-    let made = c.in_ok-packed.ensures in
-    subst AreCompactable (sym c.in_ok-self.ensures.ok)
-    (packed_able runs.0 ts packed runs.1 (made.list (lists_of runs.0) (held runs.0 ts runs.1)) (made.ordered order) made.tables able)
+    let able : AreCompactable (map arc_value c.deref.result.now) = rw c.deref.ensures.value c.requires in
+    subst AreCompactable (sym c.in_ok-self.ensures.ok) (c.in_ok-packed.ensures.able able)
