@@ -19,9 +19,7 @@ use lsm_ranges::Run;
 use lsm_readers::{Table, Timestamp};
 use lsm_writers::TableIds;
 use sst_blocks::SeqNo;
-use sst_commands::{
-    Answer, Command, Failure, Stop, parse_command, print_answer, print_refusal,
-};
+use sst_commands::{Answer, Command, Failure, Stop, parse_command, print_answer, print_refusal};
 use std::alloc::{AllocError, Allocator};
 use std::io::{BufRead, BufReader, Read, Write};
 use std::sync::Arc;
