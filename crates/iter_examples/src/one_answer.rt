@@ -2,6 +2,7 @@
 ghost use Rattle.std.specs.Prelude.{IfOk};
 ghost use Rattle.lsm_writers.specs.Writing.{IsFresh};
 
+use crate::large::{asked, asked_mut};
 use lsm_tables::{Iter, PointAndScan, Ranges, Scanner, Table, read_each_way};
 use lsm_writers::{BloomConstructionPolicy, Writer};
 use sst_blocks::{Checksum, Error, IterItem, SeqNo, Slice, ValueType};
@@ -152,26 +153,15 @@ fn all_reads(alloc: Global, table: &Table<Global>) -> Result<Reads, Error> {
     read_each_way(table, b"a", 19, lower, upper)
 }
 
-// A list of them.
-fn listed(alloc: Global, table: &Table<Global>) -> Result<Vec<Reads>, Error> {
-    let mut list = Vec::new(alloc);
-    list.push(all_reads(alloc, table)?)?;
-    Ok(list)
-}
-
 fn answers(alloc: Global, table: &Table<Global>) -> Result<Answers, Error> {
-    let mut list = listed(alloc, table)?;
-    match list.first_mut() {
-        Some(reads) => taken(reads),
-        None => Err(Error::Source(2)),
-    }
+    asked_mut(all_reads(alloc, table), |reads| taken(reads))
 }
 
 // Those of a table whose global number is 10.
 fn answers_of(alloc: Global, kind: &Kind) -> Result<Answers, Error> {
     let bytes = bytes_of(alloc, kind.0, kind.1)?;
-    let table = Table::recover(alloc, bytes, Checksum(0), 10, 0, kind.2, kind.3)?;
-    answers(alloc, &table)
+    let table = Table::recover(alloc, bytes, Checksum(0), 10, 0, kind.2, kind.3);
+    asked(table, |table| answers(alloc, table))
 }
 
 const A19: Option<Name> = Some((Some(b'a'), 19));

@@ -1,4 +1,5 @@
 //! Ranges of tables from both ends, under each kind of index.
+use crate::large::{asked, asked_mut};
 use lsm_tables::{Iter, Table};
 use refusing::{Refusing, each_refused};
 use sst_blocks::{Checksum, Direction, Error, IterItem, SeqNo, Slice, UserKey, ValueType};
@@ -7,7 +8,7 @@ use std::ops::Bound;
 use std::test::Fail;
 use stored_examples::stored::{one_entry, two_levels};
 use stored_examples::tables::{open, overwritten};
-use writer_examples::rows::{Row, fill, new_writer};
+use writer_examples::rows::{Row, fill, new_writer, written};
 
 // A key of one byte at most, by that byte, and a number.
 type Name = (Option<u8>, SeqNo);
@@ -95,8 +96,8 @@ fn range_in<A: Allocator + Copy>(
     pin_index: bool,
     bounds: Bounds<'_>,
 ) -> Result<Iter<A>, Error> {
-    let table = open_with(alloc, bytes, pin_index)?;
-    range_of(alloc, &table, bounds)
+    let table = open_with(alloc, bytes, pin_index);
+    asked(table, |table| range_of(alloc, table, bounds))
 }
 
 fn name_of<A: Allocator>(item: Option<IterItem<A>>) -> Result<Option<Name>, Error> {
@@ -192,8 +193,8 @@ fn outcome(
     pin_index: bool,
     case: &Case,
 ) -> Result<(bool, u64, u64), Error> {
-    let mut iter = range_in(alloc, bytes?, pin_index, case.0)?;
-    dealt(&mut iter, case.1)
+    let iter = range_in(alloc, bytes?, pin_index, case.0);
+    asked_mut(iter, |iter| dealt(iter, case.1))
 }
 
 #[test]
@@ -306,6 +307,20 @@ fn is_to(key: &[u8], upper: Bound<&[u8]>) -> bool {
     }
 }
 
+// Appends the names of the rows within bounds.
+fn put_names(
+    within: &mut Vec<Name, Global>,
+    rows: &[Row<'static>],
+    bounds: Bounds<'_>,
+) -> Result<(), Error> {
+    for row in rows {
+        if is_from(row.0, bounds.0) && is_to(row.0, bounds.1) {
+            within.push((row.0.first().copied(), row.1))?;
+        }
+    }
+    Ok(())
+}
+
 // The names of the rows within bounds.
 fn names_within(
     alloc: Global,
@@ -313,12 +328,8 @@ fn names_within(
     bounds: Bounds<'_>,
 ) -> Result<Vec<Name, Global>, Error> {
     let mut within = Vec::new(alloc);
-    for row in rows {
-        if is_from(row.0, bounds.0) && is_to(row.0, bounds.1) {
-            within.push((row.0.first().copied(), row.1))?;
-        }
-    }
-    Ok(within)
+    let put = put_names(&mut within, rows, bounds);
+    written(within, put)
 }
 
 // The names that five ends, a bit for each, take from a list.
@@ -362,8 +373,26 @@ fn ends_deal(
     bounds: Bounds<'static>,
     ends: u32,
 ) -> Result<bool, Error> {
-    let mut iter = range_of(alloc, table, bounds)?;
-    deals(&mut iter, &taken(names, ends), ends)
+    let names = taken(names, ends);
+    asked_mut(
+        range_of(alloc, table, bounds),
+        |iter| deals(iter, &names, ends),
+    )
+}
+
+// Whether a range of a table deals these names, whatever five ends are asked.
+fn names_deal(
+    alloc: Global,
+    table: &Table<Global>,
+    names: &[Name],
+    bounds: Bounds<'static>,
+) -> Result<bool, Error> {
+    for ends in 0..32_u32 {
+        if !ends_deal(alloc, table, names, bounds, ends)? {
+            return Ok(false);
+        }
+    }
+    Ok(true)
 }
 
 // Whether a range of a table deals its rows within the bounds, whatever five ends are asked.
@@ -373,13 +402,8 @@ fn all_ends_deal(
     rows: &[Row<'static>],
     bounds: Bounds<'static>,
 ) -> Result<bool, Error> {
-    let names = names_within(alloc, rows, bounds)?;
-    for ends in 0..32_u32 {
-        if !ends_deal(alloc, table, &names, bounds, ends)? {
-            return Ok(false);
-        }
-    }
-    Ok(true)
+    let names = names_within(alloc, rows, bounds);
+    asked(names, |names| names_deal(alloc, table, names, bounds))
 }
 
 // The first of all pairs of bounds whose range comes out wrong.
@@ -403,8 +427,8 @@ fn wrong_range(
     pin_index: bool,
     rows: &[Row<'static>],
 ) -> Result<Option<u32>, Error> {
-    let table = open_with(alloc, bytes?, pin_index)?;
-    wrong_pair(alloc, &table, rows)
+    let table = open_with(alloc, bytes?, pin_index);
+    asked(table, |table| wrong_pair(alloc, table, rows))
 }
 
 // With a block for each entry, by an index of two levels.
@@ -450,8 +474,8 @@ fn gives_or_ends<A: Allocator + Copy>(iter: &mut Iter<A>, steps: &[Step]) -> Res
 
 fn deals_from_both_ends<A: Allocator + Copy>(alloc: A) -> Result<bool, Error> {
     let bytes = Slice::from(alloc, &two_levels::BYTES)?;
-    let mut iter = range_in(alloc, bytes, true, ALL)?;
-    gives_or_ends(&mut iter, FROM_BOTH_ENDS)
+    let iter = range_in(alloc, bytes, true, ALL);
+    asked_mut(iter, |iter| gives_or_ends(iter, FROM_BOTH_ENDS))
 }
 
 // Whether the range is dealt, also where there is no memory for marks, or a refused request is answered as one.
@@ -474,8 +498,13 @@ fn each_request_of_a_range_refused_is_told(rt: HostRuntime) -> Result<(), Fail> 
 // ---- faults
 
 fn iter_of(alloc: Global, bytes: Slice<Global>) -> Result<Iter<Global>, Error> {
-    let table = open(alloc, bytes, 0)?;
-    table.iter()
+    asked(open(alloc, bytes, 0), |table| table.iter())
+}
+
+// What the first step is refused, if it is, and whether nothing follows it.
+fn refused_step(iter: &mut Iter<Global>, end: Direction) -> (Option<Error>, bool) {
+    let refusal = step(iter, end).err();
+    (refusal, is_over(iter))
 }
 
 // What the first step over a stored table with some bytes changed is refused, if it is, and whether nothing follows it.
@@ -485,9 +514,7 @@ fn refused(
     end: Direction,
 ) -> Result<(Option<Error>, bool), Error> {
     let bytes = overwritten(alloc, &one_entry::BYTES, changes)?;
-    let mut iter = iter_of(alloc, bytes)?;
-    let refusal = step(&mut iter, end).err();
-    Ok((refusal, is_over(&mut iter)))
+    asked_mut(iter_of(alloc, bytes), |iter| Ok(refused_step(iter, end)))
 }
 
 #[test]

@@ -2,7 +2,9 @@
 ghost use Rattle.std.specs.Prelude.{IfOk};
 ghost use Rattle.lsm_writers.specs.Writing.{IsFresh};
 
-use lsm_tables::{ParsedRegions, Table};
+use crate::large::asked;
+use crate::tables::{ROWS, bytes_of};
+use lsm_tables::{ParsedRegions, Scanner, Table};
 use lsm_writers::{BloomConstructionPolicy, FinishedTable, Timestamp, Writer};
 use refusing::{Refusing, each_refused};
 use sst_blocks::{
@@ -10,52 +12,45 @@ use sst_blocks::{
 };
 use std::alloc::{Allocator, Global};
 use std::test::Fail;
-use stored_examples::tables::load_entries;
+use stored_examples::tables::{load_entries, open};
 use writer_examples::rows::{Row, fill, new_writer};
-
-const ROWS: [Row<'static>; 4] = [
-    (b"a", 9, ValueType::Value, b""),
-    (b"a", 7, ValueType::Value, b""),
-    (b"a", 5, ValueType::Value, b""),
-    (b"b", 1, ValueType::Value, b""),
-];
 
 const TEN_BITS: BloomConstructionPolicy = BloomConstructionPolicy::BitsPerKey(100);
 
 // A writer of a block for each entry.
-fn blocks_of_one<A: Allocator + Clone>(alloc: A) -> Result<Writer<A>, Error>
+fn blocks_of_one<A: Allocator + Copy>(alloc: A) -> Result<Writer<A>, Error>
     ensures { IfOk result (λ w. IsFresh w) }
 {
     Ok(new_writer(alloc)?.use_data_block_size(0))
 }
 
 // Partitions of the index, a handle each.
-fn index_parts<A: Allocator + Clone>(alloc: A) -> Result<FinishedTable<A>, Error> {
-    let writer = blocks_of_one(alloc.clone()?)?
+fn index_parts<A: Allocator + Copy>(alloc: A) -> Result<FinishedTable<A>, Error> {
+    let writer = blocks_of_one(alloc)?
         .use_partitioned_index()
         .use_meta_partition_size(1);
     fill(writer, alloc, &ROWS)
 }
 
 // A partition size that is forgotten, as partitions are asked for after it.
-fn forgotten_index_parts<A: Allocator + Clone>(alloc: A) -> Result<FinishedTable<A>, Error> {
-    let writer = blocks_of_one(alloc.clone()?)?
+fn forgotten_index_parts(alloc: Global) -> Result<FinishedTable, Error> {
+    let writer = blocks_of_one(alloc)?
         .use_meta_partition_size(1)
         .use_partitioned_index();
     fill(writer, alloc, &ROWS)
 }
 
 // Partitions of the filter, a key each.
-fn filter_parts<A: Allocator + Clone>(alloc: A) -> Result<FinishedTable<A>, Error> {
-    let writer = blocks_of_one(alloc.clone()?)?
+fn filter_parts(alloc: Global) -> Result<FinishedTable, Error> {
+    let writer = blocks_of_one(alloc)?
         .use_bloom_policy(TEN_BITS)
         .use_partitioned_filter()
         .use_meta_partition_size(1);
     fill(writer, alloc, &ROWS)
 }
 
-fn forgotten_filter_parts<A: Allocator + Clone>(alloc: A) -> Result<FinishedTable<A>, Error> {
-    let writer = blocks_of_one(alloc.clone()?)?
+fn forgotten_filter_parts(alloc: Global) -> Result<FinishedTable, Error> {
+    let writer = blocks_of_one(alloc)?
         .use_bloom_policy(TEN_BITS)
         .use_meta_partition_size(1)
         .use_partitioned_filter();
@@ -63,8 +58,8 @@ fn forgotten_filter_parts<A: Allocator + Clone>(alloc: A) -> Result<FinishedTabl
 }
 
 // Partitions of a filter without keys.
-fn no_filter_parts<A: Allocator + Clone>(alloc: A) -> Result<FinishedTable<A>, Error> {
-    let writer = blocks_of_one(alloc.clone()?)?.use_partitioned_filter();
+fn no_filter_parts(alloc: Global) -> Result<FinishedTable, Error> {
+    let writer = blocks_of_one(alloc)?.use_partitioned_filter();
     fill(writer, alloc, &ROWS)
 }
 
@@ -81,7 +76,7 @@ const NAMES: [SectionName; 7] = [
     SectionName::Meta,
 ];
 
-fn sections<A: Allocator + Clone>(source: &BlockSource<A>) -> Sections {
+fn sections(source: &BlockSource) -> Sections {
     let mut sections = [(0, 0); 7];
     for (i, name) in NAMES.iter().enumerate() {
         if let Some(section) = source.toc().section(*name)
@@ -94,32 +89,38 @@ fn sections<A: Allocator + Clone>(source: &BlockSource<A>) -> Sections {
 }
 
 // The byte with which the value of a meta item begins.
-fn first_byte<A: Allocator>(block: &DataBlock<A>, name: &[u8]) -> Result<Option<u8>, Error> {
+fn first_byte(block: &DataBlock, name: &[u8]) -> Result<Option<u8>, Error> {
     match block.point_read(name, SeqNo::MAX)? {
         Some(item) => Ok(item.value.as_slice().first().copied()),
         None => Ok(None),
     }
 }
 
-// How many blocks of the index and of the filter are counted.
-fn counts<A: Allocator + Clone>(
-    source: &BlockSource<A>,
-) -> Result<(Option<u8>, Option<u8>), Error> {
-    let regions = ParsedRegions::parse_from_toc(source.toc())?;
-    let mut opened = Opened::none();
-    let meta = load_entries(source, &regions.metadata, BlockType::Meta, &mut opened)?;
-    let index = first_byte(&meta, b"block_count#index")?;
-    let filter = first_byte(&meta, b"block_count#filter")?;
+// How many blocks of the index and of the filter a table's meta items count.
+fn counted(meta: &DataBlock) -> Result<(Option<u8>, Option<u8>), Error> {
+    let index = first_byte(meta, b"block_count#index")?;
+    let filter = first_byte(meta, b"block_count#filter")?;
     Ok((index, filter))
 }
 
 // The sections of a table, and how many blocks of its index and its filter are counted.
 type Laid = (Sections, Option<u8>, Option<u8>);
 
+fn laid_in(source: &BlockSource) -> Result<Laid, Error> {
+    let regions = ParsedRegions::parse_from_toc(source.toc())?;
+    let meta = load_entries(
+        source,
+        &regions.metadata,
+        BlockType::Meta,
+        &mut Opened::none(),
+    );
+    let (index, filter) = asked(meta, |meta| counted(meta))?;
+    Ok((sections(source), index, filter))
+}
+
 fn laid(alloc: Global, table: Result<FinishedTable, Error>) -> Result<Laid, Error> {
-    let source = BlockSource::new(alloc, table?.bytes)?;
-    let (index, filter) = counts(&source)?;
-    Ok((sections(&source), index, filter))
+    let bytes = bytes_of(table)?;
+    asked(BlockSource::new(alloc, bytes), |source| laid_in(source))
 }
 
 const DATA: (u64, u64) = (0, 184);
@@ -183,11 +184,16 @@ fn sections_of_a_partitioned_filter(rt: HostRuntime) -> Result<(), Fail> {
     Ok(())
 }
 
+// How long a table is, and its checksum.
+fn told(table: &FinishedTable) -> (usize, Checksum) {
+    (table.bytes.len(), table.checksum)
+}
+
 #[test]
 fn partitions_of_the_index_byte_for_byte(rt: HostRuntime) -> Result<(), Fail> {
-    let table = index_parts(rt.alloc())?;
-    assert_eq!(rt; table.bytes.len(), 1744);
-    assert!(rt; table.checksum == Checksum(0x3e3e_26fe_b3b2_fc42));
+    let (length, checksum) = asked(index_parts(rt.alloc()), |table| Ok(told(table)))?;
+    assert_eq!(rt; length, 1744);
+    assert!(rt; checksum == Checksum(0x3e3e_26fe_b3b2_fc42));
     Ok(())
 }
 
@@ -197,31 +203,58 @@ fn one_key(alloc: Global) -> Result<FinishedTable, Error> {
     fill(Writer::new(alloc, 1, 0, Timestamp::from(0))?, alloc, &rows)
 }
 
+// Whether a table's filter is the one of the key `a`.
+fn has_filter_of_a(table: &FinishedTable) -> bool {
+    let payload: [u8; 9] = [0x06, 0x01, 0x30, 0x00, 0x02, 0x40, 0x00, 0x08, 0x00];
+    table.bytes.as_slice().get(124..133) == Some(payload.as_slice())
+}
+
 #[test]
 fn the_filter_of_one_key_byte_for_byte(rt: HostRuntime) -> Result<(), Fail> {
-    let table = one_key(rt.alloc())?;
-    assert_eq!(rt; table.bytes.len(), 1353);
-    assert!(rt; table.checksum == Checksum(0xdb3f_d8f7_6139_63e8));
-    let payload: [u8; 9] = [0x06, 0x01, 0x30, 0x00, 0x02, 0x40, 0x00, 0x08, 0x00];
-    assert!(rt; table.bytes.as_slice().get(124..133) == Some(payload.as_slice()));
+    let ((length, checksum), has_filter) = asked(one_key(rt.alloc()), |table| {
+        Ok((told(table), has_filter_of_a(table)))
+    })?;
+    assert_eq!(rt; length, 1353);
+    assert!(rt; checksum == Checksum(0xdb3f_d8f7_6139_63e8));
+    assert!(rt; has_filter);
     Ok(())
 }
 
-// Writes a table with partitions of the index, opens it, reads each of its rows and scans it; how many rows were found.
-fn rows_found<A: Allocator + Clone>(alloc: A) -> Result<usize, Error> {
-    let bytes = index_parts(alloc.clone()?)?.bytes;
-    let table = Table::recover(alloc, bytes, Checksum(0), 0, 0, true, true)?;
+// How many of the rows reads find.
+fn count_read<A: Allocator + Clone>(table: &Table<A>) -> Result<usize, Error> {
     let mut found = 0_usize;
     for row in &ROWS {
-        if read(&table, row)? {
+        if read(table, row)? {
             found = found.saturating_add(1);
         }
     }
-    for item in table.scan()? {
-        let _ = item?;
-        found = found.saturating_add(1);
-    }
     Ok(found)
+}
+
+fn one_more(found: Result<usize, Error>, given: Result<(), Error>) -> Result<usize, Error> {
+    given?;
+    Ok(found?.saturating_add(1))
+}
+
+// How many entries a scan gives; nothing follows an error.
+fn count_scanned<A: Allocator + Clone>(scan: Scanner<A>) -> Result<usize, Error> {
+    let mut found = Ok(0_usize);
+    for item in scan {
+        found = one_more(found, item.map(drop));
+    }
+    found
+}
+
+// Reads each of a table's rows and scans it; how many rows were found.
+fn count_found<A: Allocator + Clone>(table: &Table<A>) -> Result<usize, Error> {
+    let read = count_read(table)?;
+    Ok(read.saturating_add(count_scanned(table.scan()?)?))
+}
+
+// Writes a table with partitions of the index and opens it; how many of its rows are found.
+fn rows_found<A: Allocator + Copy>(alloc: A) -> Result<usize, Error> {
+    let bytes = bytes_of(index_parts(alloc))?;
+    asked(open(alloc, bytes, 0), |table| count_found(table))
 }
 
 // Whether a read finds a row.

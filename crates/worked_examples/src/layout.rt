@@ -1,14 +1,16 @@
 //! Where the parts of written and of stored tables lie, and what the tables say of themselves.
+use crate::large::asked;
+use crate::tables::written;
 use lsm_tables::{ParsedMeta, ParsedRegions};
 use sst_blocks::{
     BlockHandle, BlockSource, BlockType, DataBlock, Error, IndexBlock, Opened, SectionName, SeqNo,
     Slice, ValueType,
 };
-use std::alloc::{Allocator, Global};
+use std::alloc::Global;
 use std::test::Fail;
 use stored_examples::stored::{filter_parts, one_entry, one_entry_filtered, two_levels};
 use stored_examples::tables::{load_entries, load_handles};
-use writer_examples::rows::{Row, fill, new_writer};
+use writer_examples::rows::{self, Row};
 
 const NAMES: [SectionName; 7] = [
     SectionName::Data,
@@ -23,7 +25,7 @@ const NAMES: [SectionName; 7] = [
 // The position and the length of each section, in the order of the names.
 type Sections = [Option<(u64, u64)>; 7];
 
-fn sections<A: Allocator + Clone>(source: &BlockSource<A>) -> Sections {
+fn sections(source: &BlockSource) -> Sections {
     let mut sections = [None; 7];
     for (i, name) in NAMES.iter().enumerate() {
         if let Some(section) = source.toc().section(*name)
@@ -35,13 +37,12 @@ fn sections<A: Allocator + Clone>(source: &BlockSource<A>) -> Sections {
     sections
 }
 
-fn source_of<A: Allocator + Clone>(alloc: A, bytes: &[u8]) -> Result<BlockSource<A>, Error> {
-    let bytes = Slice::from(alloc.clone()?, bytes)?;
-    BlockSource::new(alloc, bytes)
+fn source_of(alloc: Global, bytes: &[u8]) -> Result<BlockSource, Error> {
+    BlockSource::new(alloc, Slice::from(alloc, bytes)?)
 }
 
 fn sections_of(alloc: Global, bytes: &[u8]) -> Result<Sections, Error> {
-    Ok(sections(&source_of(alloc, bytes)?))
+    asked(source_of(alloc, bytes), |source| Ok(sections(source)))
 }
 
 #[test]
@@ -99,8 +100,9 @@ fn sections_of_stored_tables(rt: HostRuntime) -> Result<(), Fail> {
 // The sections and the length of the table of a@1, with the value `x`.
 fn written_sections(alloc: Global) -> Result<(Sections, usize), Error> {
     let rows: [Row<'static>; 1] = [(b"a", 1, ValueType::Value, b"x")];
-    let bytes = fill(new_writer(alloc)?, alloc, &rows)?.bytes;
-    Ok((sections_of(alloc, bytes.as_slice())?, bytes.len()))
+    asked(written(alloc, &rows), |bytes| {
+        Ok((sections_of(alloc, bytes.as_slice())?, bytes.len()))
+    })
 }
 
 #[test]
@@ -120,12 +122,9 @@ fn sections_of_a_table_that_is_written(rt: HostRuntime) -> Result<(), Fail> {
 
 // What a table says of itself: its version, its id, how many entries, data blocks and index blocks it has, the length of its
 // data blocks, and its lowest and its highest number.
-fn facts<A: Allocator + Clone>(alloc: A, bytes: &[u8]) -> Result<[u64; 8], Error> {
-    let source = source_of(alloc, bytes)?;
-    let regions = ParsedRegions::parse_from_toc(source.toc())?;
-    let meta = ParsedMeta::load_with_handle(&source, &regions.metadata)?;
+fn facts_of(meta: &ParsedMeta) -> [u64; 8] {
     let (lowest, highest) = meta.seqnos;
-    Ok([
+    [
         u64::from(meta.table_version),
         meta.id,
         meta.item_count,
@@ -134,7 +133,17 @@ fn facts<A: Allocator + Clone>(alloc: A, bytes: &[u8]) -> Result<[u64; 8], Error
         meta.file_size,
         lowest,
         highest,
-    ])
+    ]
+}
+
+fn facts_in(source: &BlockSource) -> Result<[u64; 8], Error> {
+    let regions = ParsedRegions::parse_from_toc(source.toc())?;
+    let meta = ParsedMeta::load_with_handle(source, &regions.metadata);
+    asked(meta, |meta| Ok(facts_of(meta)))
+}
+
+fn facts(alloc: Global, bytes: &[u8]) -> Result<[u64; 8], Error> {
+    asked(source_of(alloc, bytes), |source| facts_in(source))
 }
 
 #[test]
@@ -168,6 +177,16 @@ fn put_places(block: &IndexBlock, places: &mut Vec<BlockHandle>) -> Result<(), E
 }
 
 // Where the blocks below an index block lie.
+fn put_places_below(
+    source: &BlockSource,
+    handle: &BlockHandle,
+    opened: &mut Opened,
+    places: &mut Vec<BlockHandle>,
+) -> Result<(), Error> {
+    let block = load_handles(source, handle, opened);
+    asked(block, |block| put_places(block, places))
+}
+
 fn places_below(
     alloc: Global,
     source: &BlockSource,
@@ -175,8 +194,22 @@ fn places_below(
     opened: &mut Opened,
 ) -> Result<Vec<BlockHandle>, Error> {
     let mut places = Vec::new(alloc);
-    put_places(&load_handles(source, handle, opened)?, &mut places)?;
-    Ok(places)
+    let put = put_places_below(source, handle, opened, &mut places);
+    rows::written(places, put)
+}
+
+// The numbers of the entries of some blocks.
+fn put_blocks(
+    source: &BlockSource,
+    places: &[BlockHandle],
+    opened: &mut Opened,
+    numbers: &mut Vec<SeqNo>,
+) -> Result<(), Error> {
+    for place in places {
+        let block = load_entries(source, place, BlockType::Data, opened);
+        asked(block, |block| put_numbers(block, numbers))?;
+    }
+    Ok(())
 }
 
 // The numbers of the entries below one partition of an index.
@@ -187,9 +220,20 @@ fn put_part(
     opened: &mut Opened,
     numbers: &mut Vec<SeqNo>,
 ) -> Result<(), Error> {
-    for place in places_below(alloc, source, handle, opened)?.iter() {
-        let block = load_entries(source, place, BlockType::Data, opened)?;
-        put_numbers(&block, numbers)?;
+    let places = places_below(alloc, source, handle, opened);
+    asked(places, |places| put_blocks(source, places, opened, numbers))
+}
+
+// The numbers of the entries below some partitions of an index.
+fn put_parts(
+    alloc: Global,
+    source: &BlockSource,
+    parts: &[BlockHandle],
+    opened: &mut Opened,
+    numbers: &mut Vec<SeqNo>,
+) -> Result<(), Error> {
+    for part in parts {
+        put_part(alloc, source, part, opened, numbers)?;
     }
     Ok(())
 }
@@ -202,17 +246,20 @@ fn put_both_levels(
 ) -> Result<Opened, Error> {
     let regions = ParsedRegions::parse_from_toc(source.toc())?;
     let mut opened = Opened::none();
-    for part in places_below(alloc, source, &regions.tli, &mut opened)?.iter() {
-        put_part(alloc, source, part, &mut opened, numbers)?;
-    }
+    let parts = places_below(alloc, source, &regions.tli, &mut opened)?;
+    put_parts(alloc, source, &parts, &mut opened, numbers)?;
     Ok(opened)
+}
+
+fn put_two_levels(alloc: Global, numbers: &mut Vec<SeqNo>) -> Result<Opened, Error> {
+    let source = source_of(alloc, &two_levels::BYTES);
+    asked(source, |source| put_both_levels(alloc, source, numbers))
 }
 
 // The numbers of the entries below both levels of an index, and how many blocks were loaded.
 fn below_two_levels(alloc: Global) -> Result<(Vec<SeqNo>, Opened), Error> {
     let mut numbers = Vec::new(alloc);
-    let source = source_of(alloc, &two_levels::BYTES)?;
-    let opened = put_both_levels(alloc, &source, &mut numbers)?;
+    let opened = put_two_levels(alloc, &mut numbers)?;
     Ok((numbers, opened))
 }
 
@@ -224,18 +271,23 @@ fn two_levels_lead_to_every_entry(rt: HostRuntime) -> Result<(), Fail> {
     Ok(())
 }
 
-// Where a part of a filter lies, and the size of its payload.
-fn filter_part(
+// Appends where some parts of a filter lie, and the sizes of their payloads.
+fn put_filter_parts(
     source: &BlockSource,
-    place: &BlockHandle,
+    places: &[BlockHandle],
     opened: &mut Opened,
-) -> Result<(u64, usize), Error> {
-    let block = source.load(place, BlockType::Filter, opened)?;
-    Ok((place.offset().0, block.size()))
+    parts: &mut Vec<(u64, usize)>,
+) -> Result<(), Error> {
+    for place in places {
+        let block = source.load(place, BlockType::Filter, opened);
+        let size = asked(block, |block| Ok(block.size()))?;
+        parts.push((place.offset().0, size))?;
+    }
+    Ok(())
 }
 
-// Appends where the parts of a filter lie, and the sizes of their payloads.
-fn put_filter_parts(
+// Those of the parts below the top level of a filter.
+fn put_filter_level(
     alloc: Global,
     source: &BlockSource,
     parts: &mut Vec<(u64, usize)>,
@@ -243,18 +295,20 @@ fn put_filter_parts(
     let regions = ParsedRegions::parse_from_toc(source.toc())?;
     let handle = regions.filter_tli.unwrap_or_default();
     let mut opened = Opened::none();
-    for place in places_below(alloc, source, &handle, &mut opened)?.iter() {
-        parts.push(filter_part(source, place, &mut opened)?)?;
-    }
-    Ok(())
+    let places = places_below(alloc, source, &handle, &mut opened)?;
+    put_filter_parts(source, &places, &mut opened, parts)
+}
+
+fn put_stored_parts(alloc: Global, parts: &mut Vec<(u64, usize)>) -> Result<(), Error> {
+    let source = source_of(alloc, &filter_parts::BYTES);
+    asked(source, |source| put_filter_level(alloc, source, parts))
 }
 
 // Where the parts of a filter lie, and the sizes of their payloads.
 fn filter_parts_of(alloc: Global) -> Result<Vec<(u64, usize)>, Error> {
     let mut parts = Vec::new(alloc);
-    let source = source_of(alloc, &filter_parts::BYTES)?;
-    put_filter_parts(alloc, &source, &mut parts)?;
-    Ok(parts)
+    let put = put_stored_parts(alloc, &mut parts);
+    rows::written(parts, put)
 }
 
 #[test]

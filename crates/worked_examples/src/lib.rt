@@ -4,6 +4,8 @@
 #[cfg(test)]
 mod kinds;
 #[cfg(test)]
+mod large;
+#[cfg(test)]
 mod layout;
 #[cfg(test)]
 mod lists;
@@ -13,5 +15,7 @@ mod point_reads;
 mod scans;
 #[cfg(test)]
 mod surface;
+#[cfg(test)]
+mod tables;
 #[cfg(test)]
 mod writing;

@@ -1,12 +1,16 @@
 //! Lists that are written as one table, opened and read.
-use lsm_tables::{Scanner, read_back, write_and_open};
+ghost use Rattle.std.specs.Prelude.{IfOk};
+ghost use Rattle.lsm_writers.specs.Writing.{IsWritable};
+
+use crate::large::asked_if_any;
+use lsm_tables::{Scanner, Table, read_back, write_and_open};
 use lsm_writers::{Timestamp, is_writable, write_list};
 use refusing::{Refusing, each_refused};
-use sst_blocks::{Error, InternalValue, SeqNo, ValueType};
+use sst_blocks::{Error, InternalValue, IterItem, SeqNo, ValueType};
 use std::alloc::{Allocator, Global};
 use std::ops::Bound;
 use std::test::Fail;
-use writer_examples::rows::{Row, entry};
+use writer_examples::rows::{Row, entry, written};
 
 const ROWS: [Row<'static>; 4] = [
     (b"a", 9, ValueType::Value, b"x"),
@@ -15,46 +19,76 @@ const ROWS: [Row<'static>; 4] = [
     (b"b", 1, ValueType::Value, b"z"),
 ];
 
-fn list_of<A: Allocator + Clone>(
+fn put_entries<A: Allocator + Copy>(
+    alloc: A,
+    items: &mut Vec<InternalValue<A>, A>,
+    rows: &[Row<'_>],
+) -> Result<(), Error> {
+    for row in rows {
+        items.push(entry(alloc, row)?)?;
+    }
+    Ok(())
+}
+
+fn entries_of<A: Allocator + Copy>(
     alloc: A,
     rows: &[Row<'_>],
 ) -> Result<Vec<InternalValue<A>, A>, Error> {
-    let mut items = Vec::new(alloc.clone()?);
-    for row in rows {
-        items.push(entry(alloc.clone()?, row)?)?;
+    let mut items = Vec::new(alloc);
+    let put = put_entries(alloc, &mut items, rows);
+    written(items, put)
+}
+
+// The entries of some rows; `Source(0)` where no table can be written of them.
+fn list_of<A: Allocator + Copy>(
+    alloc: A,
+    rows: &[Row<'_>],
+) -> Result<Vec<InternalValue<A>, A>, Error>
+    ensures { IfOk result (λ items. IsWritable items.items) }
+{
+    let items = entries_of(alloc, rows)?;
+    if is_writable(&items) {
+        Ok(items)
+    } else {
+        Err(Error::Source(0))
     }
-    Ok(items)
+}
+
+fn number_of<A: Allocator>(item: IterItem<A>) -> Result<SeqNo, Error> {
+    Ok(item?.key.seqno)
 }
 
 // The numbers that a scan gives, four at most; 0 where nothing comes.
-fn numbers<A: Allocator + Clone>(mut scanner: Scanner<A>) -> Result<[SeqNo; 5], Error> {
+fn numbers<A: Allocator + Clone>(scanner: &mut Scanner<A>) -> Result<[SeqNo; 5], Error> {
     let mut numbers = [0; 5];
     for slot in numbers.iter_mut() {
         if let Some(item) = scanner.next() {
-            *slot = item?.key.seqno;
+            *slot = number_of(item)?;
         }
     }
     Ok(numbers)
 }
 
+// The number of the entry that is found, and the numbers of a scan.
+fn all_numbers<A: Allocator + Clone>(
+    found: &Option<InternalValue<A>>,
+    scanner: &mut Scanner<A>,
+) -> Result<(Option<SeqNo>, [SeqNo; 5]), Error> {
+    let found = found.as_ref().map(|item| item.key.seqno);
+    Ok((found, numbers(scanner)?))
+}
+
 // The number of the entry that a read of a list finds, and the numbers of a scan; `Source(0)` where no table can be written.
-fn read_rows<A: Allocator + Clone>(
+fn read_rows<A: Allocator + Copy>(
     alloc: A,
     rows: &[Row<'_>],
     global_seqno: SeqNo,
     key: &[u8],
     seqno: SeqNo,
 ) -> Result<Option<(Option<SeqNo>, [SeqNo; 5])>, Error> {
-    let items = list_of(alloc.clone()?, rows)?;
-    if !is_writable(&items) {
-        return Err(Error::Source(0));
-    }
-    match read_back(alloc, items, global_seqno, key, seqno)? {
-        None => Ok(None),
-        Some((found, scanner)) => {
-            Ok(Some((found.map(|item| item.key.seqno), numbers(scanner)?)))
-        }
-    }
+    let items = list_of(alloc, rows)?;
+    let read = read_back(alloc, items, global_seqno, key, seqno);
+    asked_if_any(read, |read| all_numbers(&read.0, &mut read.1))
 }
 
 #[test]
@@ -106,24 +140,22 @@ fn a_list_read_back_with_each_request_refused(rt: HostRuntime) -> Result<(), Fai
     Ok(())
 }
 
-// What a table of the rows says: its id, its entries, its tombstones and its highest number.
+// What a table says: its id, its entries, its tombstones and its highest number.
+fn facts_of(table: &Table) -> [u64; 4] {
+    table.tells_its_list();
+    [
+        table.id(),
+        table.metadata.item_count,
+        table.tombstone_count(),
+        table.get_highest_seqno(),
+    ]
+}
+
+// What a table of the rows says.
 fn says(alloc: Global) -> Result<Option<[u64; 4]>, Error> {
     let items = list_of(alloc, &ROWS)?;
-    if !is_writable(&items) {
-        return Err(Error::Source(0));
-    }
-    match write_and_open(alloc, 3, Timestamp::from(5), items, 10)? {
-        None => Ok(None),
-        Some(table) => {
-            table.tells_its_list();
-            Ok(Some([
-                table.id(),
-                table.metadata.item_count,
-                table.tombstone_count(),
-                table.get_highest_seqno(),
-            ]))
-        }
-    }
+    let table = write_and_open(alloc, 3, Timestamp::from(5), items, 10);
+    asked_if_any(table, |table| Ok(facts_of(table)))
 }
 
 #[test]
@@ -132,19 +164,19 @@ fn an_opened_table_says_what_the_list_says(rt: HostRuntime) -> Result<(), Fail> 
     Ok(())
 }
 
-// Whether a table of the rows may have keys from `c` on, and from `b` on.
+// Whether a table may have keys from `c` on, and from `b` on.
+fn overlaps_ends(table: &Table) -> (bool, bool) {
+    (
+        table.check_key_range_overlap(&(Bound::Included(b"c"), Bound::Unbounded)),
+        table.check_key_range_overlap(&(Bound::Included(b"b"), Bound::Unbounded)),
+    )
+}
+
+// Whether a table of the rows may have such keys.
 fn overlaps(alloc: Global) -> Result<Option<(bool, bool)>, Error> {
     let items = list_of(alloc, &ROWS)?;
-    if !is_writable(&items) {
-        return Err(Error::Source(0));
-    }
-    match write_and_open(alloc, 3, Timestamp::from(5), items, 0)? {
-        None => Ok(None),
-        Some(table) => Ok(Some((
-            table.check_key_range_overlap(&(Bound::Included(b"c"), Bound::Unbounded)),
-            table.check_key_range_overlap(&(Bound::Included(b"b"), Bound::Unbounded)),
-        ))),
-    }
+    let table = write_and_open(alloc, 3, Timestamp::from(5), items, 0);
+    asked_if_any(table, |table| Ok(overlaps_ends(table)))
 }
 
 #[test]
@@ -155,11 +187,8 @@ fn a_table_past_its_last_key_has_no_entry(rt: HostRuntime) -> Result<(), Fail> {
 
 // The id of a list's table.
 fn written_id(alloc: Global, rows: &[Row<'_>]) -> Result<Option<u64>, Error> {
-    let items = list_of(alloc, rows)?;
-    if !is_writable(&items) {
-        return Err(Error::Source(0));
-    }
-    Ok(write_list(alloc, 3, 0, Timestamp::from(5), items)?.map(|table| table.id))
+    let table = write_list(alloc, 3, 0, Timestamp::from(5), list_of(alloc, rows)?);
+    asked_if_any(table, |table| Ok(table.id))
 }
 
 #[test]

@@ -1,21 +1,16 @@
 //! Point reads of a table that is written and opened.
+use crate::large::asked;
+use crate::tables::{opened_in_blocks, written, written_in_blocks};
 use lsm_tables::{Table, point_in};
 use refusing::each_refused;
 use sst_blocks::{
-    Block, BlockHandle, BlockSource, BlockType, Counted, Error, LoadBlocks, Opened, SeqNo, Slice,
-    ValueType,
+    Block, BlockHandle, BlockSource, BlockType, Counted, Error, InternalValue, LoadBlocks, Opened,
+    SeqNo, Slice, ValueType,
 };
 use std::alloc::{Allocator, Global};
 use std::test::Fail;
 use stored_examples::tables::{open, read};
-use writer_examples::rows::{Row, fill, new_writer};
-
-const ROWS: [Row<'static>; 4] = [
-    (b"a", 9, ValueType::Value, b""),
-    (b"a", 7, ValueType::Value, b""),
-    (b"a", 5, ValueType::Value, b""),
-    (b"b", 1, ValueType::Value, b""),
-];
+use writer_examples::rows::Row;
 
 // Lists the handles of the blocks that it loads: where each lies, and its size.
 #[derive(Drop)]
@@ -45,6 +40,27 @@ type Read = (Option<SeqNo>, Option<(u64, u32)>);
 
 type Reads = [Read; 3];
 
+// The number of what is found.
+fn number_of<A: Allocator>(
+    found: Result<Option<InternalValue<A>>, Error>,
+) -> Result<Option<SeqNo>, Error> {
+    Ok(found?.map(|item| item.key.seqno))
+}
+
+// The one handle that is listed, if any.
+fn one_handle(handles: &[(u64, u32)]) -> Result<Option<(u64, u32)>, Error> {
+    match handles {
+        [] => Ok(None),
+        [handle] => Ok(Some(*handle)),
+        _ => Err(Error::Source(2)),
+    }
+}
+
+// What a read found, with the one handle that is listed.
+fn with_handle(found: Result<Option<SeqNo>, Error>, handles: &[(u64, u32)]) -> Result<Read, Error> {
+    Ok((found?, one_handle(handles)?))
+}
+
 // A read through a source that lists its loads.
 fn listed_read<A: Allocator + Clone>(
     heap: Global,
@@ -57,16 +73,9 @@ fn listed_read<A: Allocator + Clone>(
         source: Counted::new(source),
         handles: Vec::new(heap),
     };
-    let found = point_in(&mut listing, table, key, seqno, Table::<A>::key_hash(key))?;
-    let seqno = match found {
-        Some(item) => Some(item.key.seqno),
-        None => None,
-    };
-    match listing.handles.as_slice() {
-        [] => Ok((seqno, None)),
-        [handle] => Ok((seqno, Some(*handle))),
-        _ => Err(Error::Source(2)),
-    }
+    let hash = Table::<A>::key_hash(key);
+    let found = number_of(point_in(&mut listing, table, key, seqno, hash));
+    with_handle(found, listing.handles.as_slice())
 }
 
 // The same read. Where it is refused for want of memory, it is asked again.
@@ -83,12 +92,6 @@ fn repeated_read<A: Allocator + Clone>(
     }
 }
 
-// The bytes of a table of the rows, each in a block of its own.
-fn written_rows<A: Allocator + Clone>(alloc: A) -> Result<Slice<A>, Error> {
-    let writer = new_writer(alloc.clone()?)?.use_data_block_size(0);
-    Ok(fill(writer, alloc, &ROWS)?.bytes)
-}
-
 // Three reads of a table.
 fn reads_of<A: Allocator + Clone>(
     heap: Global,
@@ -102,11 +105,36 @@ fn reads_of<A: Allocator + Clone>(
     ])
 }
 
+// A source of some bytes.
+fn source_of<A: Allocator + Copy>(alloc: A, bytes: &Slice<A>) -> Result<BlockSource<A>, Error> {
+    BlockSource::new(alloc, bytes.clone()?)
+}
+
+// The table of some bytes.
+fn table_of<A: Allocator + Copy>(alloc: A, bytes: &Slice<A>) -> Result<Table<A>, Error> {
+    open(alloc, bytes.clone()?, 0)
+}
+
+// Three reads of the table of some bytes.
+fn reads_in<A: Allocator + Copy>(
+    heap: Global,
+    alloc: A,
+    bytes: &Slice<A>,
+    source: &BlockSource<A>,
+) -> Result<Reads, Error> {
+    asked(
+        table_of(alloc, bytes),
+        |table| reads_of(heap, source, table),
+    )
+}
+
 // The three reads of the rows' table, over one allocator.
-fn three_reads<A: Allocator + Clone>(heap: Global, alloc: A) -> Result<Reads, Error> {
-    let bytes = written_rows(alloc.clone()?)?;
-    let source = BlockSource::new(alloc.clone()?, bytes.clone()?)?;
-    reads_of(heap, &source, &open(alloc, bytes, 0)?)
+fn three_reads<A: Allocator + Copy>(heap: Global, alloc: A) -> Result<Reads, Error> {
+    let bytes = written_in_blocks(alloc)?;
+    asked(
+        source_of(alloc, &bytes),
+        |source| reads_in(heap, alloc, &bytes, source),
+    )
 }
 
 // Each block has a header of 24 bytes, a count of 4, and 17 bytes and the key for its one entry.
@@ -145,14 +173,17 @@ fn answers<A: Allocator + Clone>(table: &Table<A>) -> bool {
         && read(table, b"c", 100) == (Ok(None), 0)
 }
 
+fn cloned(table: &Table) -> Result<Table, Error> {
+    Ok(table.clone()?)
+}
+
 // Whether a table answers, and its clone once the table is gone.
 fn clone_answers(alloc: Global) -> Result<bool, Error> {
-    let writer = new_writer(alloc)?.use_data_block_size(0);
-    let table = open(alloc, fill(writer, alloc, &ROWS)?.bytes, 0)?;
-    let copy = table.clone()?;
+    let table = opened_in_blocks(alloc, 0)?;
+    let copy = cloned(&table);
     let answered = answers(&table);
     drop(table);
-    Ok(answered && answers(&copy))
+    asked(copy, |copy| Ok(answered && answers(copy)))
 }
 
 #[test]
@@ -162,10 +193,14 @@ fn a_clone_outlives_its_original(rt: HostRuntime) -> Result<(), Fail> {
 }
 
 // What a read of a@8 opens.
+fn opened_by(table: &Table) -> Opened {
+    table
+        .get_counted(b"a", 8, Table::<Global>::key_hash(b"a"))
+        .1
+}
+
 fn opened_by_a_read(alloc: Global) -> Result<Opened, Error> {
-    let table = open(alloc, written_rows(alloc)?, 0)?;
-    let hash = Table::<Global>::key_hash(b"a");
-    Ok(table.get_counted(b"a", 8, hash).1)
+    asked(opened_in_blocks(alloc, 0), |table| Ok(opened_by(table)))
 }
 
 #[test]
@@ -180,17 +215,24 @@ fn a_read_opens_nothing_but_data(rt: HostRuntime) -> Result<(), Fail> {
     Ok(())
 }
 
-// The highest number of a table of a@3 with a global number, and what reads of `a` below 14, 13 and 10 find.
-fn lifted_reads(alloc: Global, global_seqno: SeqNo) -> Result<(SeqNo, [Option<SeqNo>; 3]), Error> {
-    let rows: [Row<'static>; 1] = [(b"a", 3, ValueType::Value, b"")];
-    let bytes = fill(new_writer(alloc)?, alloc, &rows)?.bytes;
-    let table = open(alloc, bytes, global_seqno)?;
+// The highest number of a table, and what reads of `a` below 14, 13 and 10 find.
+fn highest_and_reads(table: &Table) -> Result<(SeqNo, [Option<SeqNo>; 3]), Error> {
     let reads = [
-        read(&table, b"a", 14).0?,
-        read(&table, b"a", 13).0?,
-        read(&table, b"a", 10).0?,
+        read(table, b"a", 14).0?,
+        read(table, b"a", 13).0?,
+        read(table, b"a", 10).0?,
     ];
     Ok((table.get_highest_seqno(), reads))
+}
+
+// Those of a table of a@3 with a global number.
+fn lifted_reads(alloc: Global, global_seqno: SeqNo) -> Result<(SeqNo, [Option<SeqNo>; 3]), Error> {
+    let rows: [Row<'static>; 1] = [(b"a", 3, ValueType::Value, b"")];
+    let bytes = written(alloc, &rows)?;
+    asked(
+        open(alloc, bytes, global_seqno),
+        |table| highest_and_reads(table),
+    )
 }
 
 #[test]

@@ -1,12 +1,13 @@
 //! Whole tables, read in order.
+use crate::large::{asked, asked_mut};
+use crate::tables::opened_in_blocks;
 use lsm_tables::{Scanner, Table};
 use refusing::{Refusing, each_refused};
-use sst_blocks::{BlockSource, CompressionType, Error, SeqNo, Slice, ValueType};
+use sst_blocks::{BlockSource, CompressionType, Error, IterItem, SeqNo, Slice};
 use std::alloc::{Allocator, Global};
 use std::test::Fail;
 use stored_examples::stored::{filter_parts, one_entry, one_entry_filtered, two_levels};
 use stored_examples::tables::{open, overwritten};
-use writer_examples::rows::{Row, fill, new_writer};
 
 /// What a step of a scan gives: the number of an entry, a refusal, or nothing.
 type Step = Option<Result<SeqNo, Error>>;
@@ -23,20 +24,30 @@ fn five_steps<A: Allocator + Clone>(scan: &mut Scanner<A>) -> [Step; 5] {
     [step(scan), step(scan), step(scan), step(scan), step(scan)]
 }
 
+// A scan of a table that is let go of.
+fn scan_of<A: Allocator + Clone>(table: Result<Table<A>, Error>) -> Result<Scanner<A>, Error> {
+    asked(table, |table| table.scan())
+}
+
 // The first five steps of a table's scan.
-fn first_five<A: Allocator + Clone>(alloc: A, bytes: &[u8]) -> Result<[Step; 5], Error> {
-    let bytes = Slice::from(alloc.clone()?, bytes)?;
-    Ok(five_steps(&mut open(alloc, bytes, 0)?.scan()?))
+fn first_five(alloc: Global, bytes: &[u8]) -> Result<[Step; 5], Error> {
+    let bytes = Slice::from(alloc, bytes)?;
+    asked_mut(scan_of(open(alloc, bytes, 0)), |scan| Ok(five_steps(scan)))
 }
 
 #[test]
 fn stored_tables_are_scanned(rt: HostRuntime) -> Result<(), Fail> {
     let one: [Step; 5] = [Some(Ok(1)), None, None, None, None];
-    assert_eq!(rt; first_five(rt.alloc(), &one_entry::BYTES)?, one);
-    assert_eq!(rt; first_five(rt.alloc(), &one_entry_filtered::BYTES)?, one);
     let four: [Step; 5] = [Some(Ok(9)), Some(Ok(7)), Some(Ok(5)), Some(Ok(1)), None];
-    assert_eq!(rt; first_five(rt.alloc(), &filter_parts::BYTES)?, four);
-    assert_eq!(rt; first_five(rt.alloc(), &two_levels::BYTES)?, four);
+    let tables: [(&[u8], &[Step; 5]); 4] = [
+        (&one_entry::BYTES, &one),
+        (&one_entry_filtered::BYTES, &one),
+        (&filter_parts::BYTES, &four),
+        (&two_levels::BYTES, &four),
+    ];
+    for (bytes, steps) in tables {
+        assert!(rt; first_five(rt.alloc(), bytes)? == *steps);
+    }
     Ok(())
 }
 
@@ -54,14 +65,18 @@ fn a_scan_ends_at_a_damaged_block(rt: HostRuntime) -> Result<(), Fail> {
     Ok(())
 }
 
+fn two_steps(scan: &mut Scanner) -> [Step; 2] {
+    [step(scan), step(scan)]
+}
+
 // The first two steps of a scan of so many blocks.
 fn two_of_source(
     source: &BlockSource,
     block_count: u64,
     global_seqno: SeqNo,
 ) -> Result<[Step; 2], Error> {
-    let mut scan = Scanner::new(source, block_count, CompressionType::None, global_seqno)?;
-    Ok([step(&mut scan), step(&mut scan)])
+    let scan = Scanner::new(source, block_count, CompressionType::None, global_seqno);
+    asked_mut(scan, |scan| Ok(two_steps(scan)))
 }
 
 // The first two steps of a scan of so many blocks of the stored table, from its bytes on.
@@ -72,30 +87,37 @@ fn two_of_blocks(
     global_seqno: SeqNo,
 ) -> Result<[Step; 2], Error> {
     let bytes = overwritten(alloc, &one_entry::BYTES, changes)?;
-    two_of_source(&BlockSource::new(alloc, bytes)?, block_count, global_seqno)
+    let source = BlockSource::new(alloc, bytes);
+    asked(
+        source,
+        |source| two_of_source(source, block_count, global_seqno),
+    )
 }
 
 #[test]
 fn a_scan_of_blocks_goes_on_up_to_what_is_none(rt: HostRuntime) -> Result<(), Fail> {
-    let heap = rt.alloc();
-    let one: [Step; 2] = [Some(Ok(1)), None];
-    assert_eq!(rt; two_of_blocks(heap, &[], 1, 0)?, one);
-    assert_eq!(rt; two_of_blocks(heap, &[], 0, 0)?, one);
-    // What lies behind the data block is no data block.
     let index_tag = Error::InvalidTag(sst_entries::TagName::BlockType, 1);
-    assert_eq!(rt;
-        two_of_blocks(heap, &[], 9, 0)?,
-        [Some(Ok(1)), Some(Err(index_tag))]
-    );
+    let scans: [(u64, [Step; 2]); 3] = [
+        (1, [Some(Ok(1)), None]),
+        (0, [Some(Ok(1)), None]),
+        // What lies behind the data block is no data block.
+        (9, [Some(Ok(1)), Some(Err(index_tag))]),
+    ];
+    for (block_count, steps) in &scans {
+        assert!(rt; two_of_blocks(rt.alloc(), &[], *block_count, 0)? == *steps);
+    }
     Ok(())
 }
 
 #[test]
 fn a_scan_lifts_up_to_the_largest_number(rt: HostRuntime) -> Result<(), Fail> {
-    let highest: [Step; 2] = [Some(Ok(u64::MAX)), None];
-    assert_eq!(rt; two_of_blocks(rt.alloc(), &[], 1, u64::MAX - 1)?, highest);
-    let past: [Step; 2] = [Some(Err(Error::SeqNoOverflow)), None];
-    assert_eq!(rt; two_of_blocks(rt.alloc(), &[], 9, u64::MAX)?, past);
+    let scans: [(u64, SeqNo, [Step; 2]); 2] = [
+        (1, u64::MAX - 1, [Some(Ok(u64::MAX)), None]),
+        (9, u64::MAX, [Some(Err(Error::SeqNoOverflow)), None]),
+    ];
+    for (block_count, global_seqno, steps) in &scans {
+        assert!(rt; two_of_blocks(rt.alloc(), &[], *block_count, *global_seqno)? == *steps);
+    }
     Ok(())
 }
 
@@ -105,28 +127,17 @@ fn a_damaged_first_block_refuses_the_scan(rt: HostRuntime) {
     assert!(rt; answer == Err(Error::ChecksumMismatch));
 }
 
-const ROWS: [Row<'static>; 4] = [
-    (b"a", 9, ValueType::Value, b""),
-    (b"a", 7, ValueType::Value, b""),
-    (b"a", 5, ValueType::Value, b""),
-    (b"b", 1, ValueType::Value, b""),
-];
-
-// A table of the rows, each in a block of its own.
-fn table_of_rows<A: Allocator + Clone>(alloc: A, global_seqno: SeqNo) -> Result<Table<A>, Error> {
-    let writer = new_writer(alloc.clone()?)?.use_data_block_size(0);
-    let bytes = fill(writer, alloc.clone()?, &ROWS)?.bytes;
-    open(alloc, bytes, global_seqno)
+// The steps of a scan, and how many data blocks were loaded before the first and after the last.
+fn counted_steps(scan: &mut Scanner) -> ([Step; 5], [u64; 2]) {
+    let before = scan.opened().data_loads;
+    let steps = five_steps(scan);
+    (steps, [before, scan.opened().data_loads])
 }
 
-// The steps of a scan of a table that is gone, and how many data blocks were loaded before the first and after the last.
+// Those of a scan of a table that is gone.
 fn scanned(alloc: Global, global_seqno: SeqNo) -> Result<([Step; 5], [u64; 2]), Error> {
-    let table = table_of_rows(alloc, global_seqno)?;
-    let mut scan = table.scan()?;
-    drop(table);
-    let before = scan.opened().data_loads;
-    let steps = five_steps(&mut scan);
-    Ok((steps, [before, scan.opened().data_loads]))
+    let scan = scan_of(opened_in_blocks(alloc, global_seqno));
+    asked_mut(scan, |scan| Ok(counted_steps(scan)))
 }
 
 #[test]
@@ -138,13 +149,26 @@ fn a_scan_reads_each_block_once(rt: HostRuntime) -> Result<(), Fail> {
     Ok(())
 }
 
-// The sum of the numbers that a scan gives, all of it over one allocator.
-fn sum<A: Allocator + Clone>(alloc: A) -> Result<u64, Error> {
-    let mut sum = 0u64;
-    for item in table_of_rows(alloc, 0)?.scan()? {
-        sum = sum.saturating_add(item?.key.seqno);
+fn number_of<A: Allocator>(item: IterItem<A>) -> Result<SeqNo, Error> {
+    Ok(item?.key.seqno)
+}
+
+fn added(sum: Result<u64, Error>, number: Result<SeqNo, Error>) -> Result<u64, Error> {
+    Ok(sum?.saturating_add(number?))
+}
+
+// The sum of the numbers that a scan gives; nothing follows an error.
+fn sum_of<A: Allocator + Clone>(scan: Scanner<A>) -> Result<u64, Error> {
+    let mut sum = Ok(0u64);
+    for item in scan {
+        sum = added(sum, number_of(item));
     }
-    Ok(sum)
+    sum
+}
+
+// The sum of a table's numbers, all of it over one allocator.
+fn sum<A: Allocator + Copy>(alloc: A) -> Result<u64, Error> {
+    sum_of(scan_of(opened_in_blocks(alloc, 0))?)
 }
 
 #[test]

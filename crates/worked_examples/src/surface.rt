@@ -1,4 +1,6 @@
 //! What a table says of itself.
+use crate::large::asked;
+use crate::tables::written;
 use lsm_ranges::Ranged;
 use lsm_tables::Table;
 use sst_blocks::{Error, ValueType};
@@ -6,7 +8,7 @@ use std::alloc::Global;
 use std::ops::Bound;
 use std::test::Fail;
 use stored_examples::tables::open;
-use writer_examples::rows::{Row, fill, new_writer};
+use writer_examples::rows::Row;
 
 // A table of `a` and `b`.
 fn table_of_two(alloc: Global) -> Result<Table, Error> {
@@ -14,22 +16,33 @@ fn table_of_two(alloc: Global) -> Result<Table, Error> {
         (b"a", 9, ValueType::Value, b""),
         (b"b", 1, ValueType::Value, b""),
     ];
-    open(alloc, fill(new_writer(alloc)?, alloc, &rows)?.bytes, 0)
+    open(alloc, written(alloc, &rows)?, 0)
+}
+
+// Whether a table is from `a` to `b`.
+fn is_from_a_to_b(table: &Table) -> bool {
+    let range = table.key_range();
+    range.min().as_slice() == b"a".as_slice() && range.max().as_slice() == b"b".as_slice()
+}
+
+// Whether a table has pinned an index of one handle, and no filter.
+fn pins_one_handle(table: &Table) -> bool {
+    // A count of 4, and a key of one byte with 24 for its handle.
+    table.pinned_block_index_size() == 29
+        && table.pinned_filter_size() == 0
+        && table.filter_size() == 0
+}
+
+// Whether a table says its id.
+fn says_its_id(alloc: Global, table: &Table) -> Result<bool, Error> {
+    Ok(format!(in alloc; "{table:?}")?.starts_with("Table:1("))
 }
 
 // Whether a table says its id, the ends of its range and the sizes of what it has pinned.
 fn shows_itself(alloc: Global) -> Result<bool, Error> {
-    let table = table_of_two(alloc)?;
-    let text = format!(in alloc; "{table:?}")?;
-    Ok(
-        text.starts_with("Table:1(")
-            && table.key_range().min().as_slice() == b"a".as_slice()
-            && table.key_range().max().as_slice() == b"b".as_slice()
-            // A count of 4, and a key of one byte with 24 for its handle.
-            && table.pinned_block_index_size() == 29
-            && table.pinned_filter_size() == 0
-            && table.filter_size() == 0,
-    )
+    asked(table_of_two(alloc), |table| {
+        Ok(says_its_id(alloc, table)? && is_from_a_to_b(table) && pins_one_handle(table))
+    })
 }
 
 #[test]
@@ -40,7 +53,10 @@ fn a_table_shows_its_id_and_its_range(rt: HostRuntime) -> Result<(), Fail> {
 
 // Whether a table of `a` to `b` overlaps two bounds.
 fn overlaps(alloc: Global, low: Bound<&[u8]>, high: Bound<&[u8]>) -> Result<bool, Error> {
-    Ok(table_of_two(alloc)?.check_key_range_overlap(&(low, high)))
+    asked(
+        table_of_two(alloc),
+        |table| Ok(table.check_key_range_overlap(&(low, high))),
+    )
 }
 
 #[test]

@@ -1,4 +1,7 @@
 //! Tables that are written and opened.
+use crate::large::asked;
+use crate::tables::{bytes_of, written};
+use lsm_tables::Table;
 use sst_blocks::{Error, ValueType};
 use std::alloc::Global;
 use std::test::Fail;
@@ -9,8 +12,8 @@ use writer_examples::rows::{Row, fill, new_writer};
 fn open_interval_of_two(alloc: Global) -> Result<(), Error> {
     let rows: [Row<'static>; 1] = [(b"a", 1, ValueType::Value, b"x")];
     let writer = new_writer(alloc)?.use_index_block_restart_interval(2);
-    open(alloc, fill(writer, alloc, &rows)?.bytes, 0)?;
-    Ok(())
+    let bytes = bytes_of(fill(writer, alloc, &rows))?;
+    asked(open(alloc, bytes, 0), |_| Ok(()))
 }
 
 #[test]
@@ -21,10 +24,9 @@ fn an_index_interval_of_two_is_written_and_not_opened(rt: HostRuntime) {
 // Whether an entry may follow a@1 in a table.
 fn may_follow(alloc: Global, second: Row<'static>) -> Result<bool, Error> {
     let first: Row<'static> = (b"a", 1, ValueType::Value, b"x");
-    match fill(new_writer(alloc)?, alloc, &[first, second]) {
-        Ok(_) => Ok(true),
+    match asked(written(alloc, &[first, second]), |_| Ok(true)) {
         Err(Error::Source(0)) => Ok(false),
-        Err(error) => Err(error),
+        answer => answer,
     }
 }
 
@@ -52,22 +54,22 @@ const TOMBSTONES: [Row<'static>; 5] = [
     (b"d", 5, ValueType::Indirection, b"far"),
 ];
 
-// How many tombstones, weak ones, values behind those and entries the table has, and its lowest and its highest number.
-fn counts(alloc: Global) -> Result<[u64; 6], Error> {
-    let table = open(
-        alloc,
-        fill(new_writer(alloc)?, alloc, &TOMBSTONES)?.bytes,
-        0,
-    )?;
+// How many tombstones, weak ones, values behind those and entries a table has, and its lowest and its highest number.
+fn counts_of(table: &Table) -> [u64; 6] {
     let (lowest, highest) = table.metadata.seqnos;
-    Ok([
+    [
         table.tombstone_count(),
         table.weak_tombstone_count(),
         table.weak_tombstone_reclaimable(),
         table.metadata.item_count,
         lowest,
         highest,
-    ])
+    ]
+}
+
+fn counts(alloc: Global) -> Result<[u64; 6], Error> {
+    let table = open(alloc, written(alloc, &TOMBSTONES)?, 0);
+    asked(table, |table| Ok(counts_of(table)))
 }
 
 #[test]
@@ -76,15 +78,20 @@ fn counts_of_tombstones_come_back(rt: HostRuntime) -> Result<(), Fail> {
     Ok(())
 }
 
-// Whether each entry of a table is found right above its number.
-fn all_are_found(alloc: Global, rows: &[Row<'_>]) -> Result<bool, Error> {
-    let table = open(alloc, fill(new_writer(alloc)?, alloc, rows)?.bytes, 0)?;
+// Whether a table finds each of some rows right above its number.
+fn finds_all(table: &Table, rows: &[Row<'_>]) -> bool {
     for (key, seqno, _, _) in rows {
-        if read(&table, key, seqno.saturating_add(1)) != (Ok(Some(*seqno)), 1) {
-            return Ok(false);
+        if read(table, key, seqno.saturating_add(1)) != (Ok(Some(*seqno)), 1) {
+            return false;
         }
     }
-    Ok(true)
+    true
+}
+
+// Whether each entry of a table is found.
+fn all_are_found(alloc: Global, rows: &[Row<'_>]) -> Result<bool, Error> {
+    let table = open(alloc, written(alloc, rows)?, 0);
+    asked(table, |table| Ok(finds_all(table, rows)))
 }
 
 #[test]

@@ -1,0 +1,23 @@
+//! Large values, which are asked something and let go of. What stands here is generic in them, so that no part of a value is
+//! looked at.
+use sst_blocks::Error;
+
+/// What is asked of a large value, which is let go of here alone, or why there is none.
+pub(crate) fn asked<T: Drop, U, F: FnOnce(&T) -> Result<U, Error> + Drop>(
+    made: Result<T, Error>,
+    ask: F,
+) -> Result<U, Error>
+    requires { F.IsAlwaysCallable ask }
+{
+    ask(&made?)
+}
+
+/// The same of a value that changes as it is asked.
+pub(crate) fn asked_mut<T: Drop, U, F: FnOnce(&mut T) -> Result<U, Error> + Drop>(
+    made: Result<T, Error>,
+    ask: F,
+) -> Result<U, Error>
+    requires { F.IsAlwaysCallable ask }
+{
+    ask(&mut made?)
+}

@@ -1,0 +1,36 @@
+//! Large values, which are asked something and let go of. What stands here is generic in them, so that no part of a value is
+//! looked at.
+use sst_blocks::Error;
+
+/// What is asked of a large value, which is let go of here alone, or why there is none.
+pub(crate) fn asked<T: Drop, U, F: FnOnce(&T) -> Result<U, Error> + Drop>(
+    made: Result<T, Error>,
+    ask: F,
+) -> Result<U, Error>
+    requires { F.IsAlwaysCallable ask }
+{
+    ask(&made?)
+}
+
+/// The same of a value that changes as it is asked.
+pub(crate) fn asked_mut<T: Drop, U, F: FnOnce(&mut T) -> Result<U, Error> + Drop>(
+    made: Result<T, Error>,
+    ask: F,
+) -> Result<U, Error>
+    requires { F.IsAlwaysCallable ask }
+{
+    ask(&mut made?)
+}
+
+/// The same of a value that there may be none of.
+pub(crate) fn asked_if_any<T: Drop, U, F: FnOnce(&mut T) -> Result<U, Error> + Drop>(
+    made: Result<Option<T>, Error>,
+    ask: F,
+) -> Result<Option<U>, Error>
+    requires { F.IsAlwaysCallable ask }
+{
+    match made? {
+        Some(mut value) => Ok(Some(ask(&mut value)?)),
+        None => Ok(None),
+    }
+}

@@ -1,0 +1,40 @@
+//! Tables that several of the tests write.
+use lsm_tables::Table;
+use lsm_writers::FinishedTable;
+use sst_blocks::{Error, SeqNo, Slice, ValueType};
+use std::alloc::Allocator;
+use stored_examples::tables::open;
+use writer_examples::rows::{Row, fill, new_writer};
+
+pub(crate) const ROWS: [Row<'static>; 4] = [
+    (b"a", 9, ValueType::Value, b""),
+    (b"a", 7, ValueType::Value, b""),
+    (b"a", 5, ValueType::Value, b""),
+    (b"b", 1, ValueType::Value, b""),
+];
+
+/// The bytes of a finished table.
+pub(crate) fn bytes_of<A: Allocator>(
+    table: Result<FinishedTable<A>, Error>,
+) -> Result<Slice<A>, Error> {
+    Ok(table?.bytes)
+}
+
+/// The bytes of a table of some rows.
+pub(crate) fn written<A: Allocator + Copy>(alloc: A, rows: &[Row<'_>]) -> Result<Slice<A>, Error> {
+    bytes_of(fill(new_writer(alloc)?, alloc, rows))
+}
+
+/// The bytes of a table of [`ROWS`], each in a block of its own.
+pub(crate) fn written_in_blocks<A: Allocator + Copy>(alloc: A) -> Result<Slice<A>, Error> {
+    let writer = new_writer(alloc)?.use_data_block_size(0);
+    bytes_of(fill(writer, alloc, &ROWS))
+}
+
+/// That table, opened.
+pub(crate) fn opened_in_blocks<A: Allocator + Copy>(
+    alloc: A,
+    global_seqno: SeqNo,
+) -> Result<Table<A>, Error> {
+    open(alloc, written_in_blocks(alloc)?, global_seqno)
+}
