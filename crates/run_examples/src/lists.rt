@@ -46,15 +46,32 @@ pub fn ends_of<A: Allocator + Copy>(
     Ok(answers_at(alloc, stream, &[Direction::Back, Direction::Front])?)
 }
 
+/// The names of what a read gives: of the entry that is found, and of the first and the last of a stream.
+pub fn read_names<A: Allocator + Copy>(
+    alloc: A,
+    read: (Option<InternalValue<A>>, Stream<A>),
+) -> Result<[Option<Name>; 3], Error>
+    requires { CanDeal ⟦<Stream<A> as Iterator>⟧.next_gives
+        ⟦<Stream<A> as DoubleEndedIterator>⟧.next_back_gives
+        ⟦<Stream<A> as Iterator>⟧.can_next
+        ⟦<Stream<A> as DoubleEndedIterator>⟧.can_next_back read.1 }
+{
+    let (found, mut stream) = read;
+    let ends = ends_of(alloc, &mut stream);
+    drop(stream);
+    named(found, ends?)
+}
+
 /// The names of a found entry, and of the first and the last of a stream, by the answers of [`ends_of`].
 pub fn named<A: Allocator + Copy>(
     found: Option<InternalValue<A>>,
     ends: Vec<Option<IterItem<A>>, A>,
 ) -> Result<[Option<Name>; 3], Error> {
-    let found = name_of(found.map(|item| Ok(item)))?;
-    let mut names = [None; 2];
+    let found = name_of(found.map(|item| Ok(item)));
+    let mut names = [Ok(None), Ok(None)];
     for (slot, answer) in names.iter_mut().zip(ends.into_iter()) {
-        *slot = name_of(answer)?;
+        *slot = name_of(answer);
     }
-    Ok([found, names[1], names[0]])
+    let [last, first] = names;
+    Ok([found?, first?, last?])
 }
