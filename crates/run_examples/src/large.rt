@@ -1,8 +1,5 @@
 //! Large values, and what is asked of them. All here is generic in them, so that none of their parts is looked at.
-ghost use Rattle.std.specs.Prelude.{IfOk};
-ghost use Rattle.sst_entries.specs.Stream.{CanDeal};
-
-use sst_blocks::{Direction, Error, IterItem, answers_at};
+use sst_blocks::Error;
 use std::alloc::Allocator;
 
 /// What is asked of a large value, which is let go of here alone, or why there is none.
@@ -23,17 +20,4 @@ pub fn add<T: Drop, A: Allocator>(
 ) -> Result<(), Error> {
     values.push(made?)?;
     Ok(())
-}
-
-/// What a stream answers at some ends, or why there is none.
-pub fn answers_of<A: Allocator, S: DoubleEndedIterator<Item = IterItem<A>> + Drop>(
-    alloc: A,
-    made: Result<S, Error>,
-    ends: &[Direction],
-) -> Result<Vec<Option<IterItem<A>>, A>, Error>
-    requires { IfOk made (λ stream.
-        CanDeal S.next_gives S.next_back_gives S.can_next S.can_next_back stream) }
-{
-    let mut stream = made?;
-    Ok(answers_at(alloc, &mut stream, ends)?)
 }

@@ -3,10 +3,10 @@ ghost use Rattle.std.specs.Prelude.{IfOk};
 ghost use Rattle.lsm_writers.specs.Writing.{IsWritable};
 ghost use Rattle.sst_entries.specs.Stream.{CanDeal};
 
-use crate::tables::{Name, name_of};
+use crate::tables::{Bounds, Name, Tables, name_of, owned_range};
 use lsm_merge::Merger;
 use lsm_sorted::MvccStream;
-use lsm_tables::RunReader;
+use lsm_tables::{RunReader, range_runs};
 use lsm_writers::is_writable;
 use sst_blocks::{Direction, Error, InternalValue, IterItem, answers_at};
 use std::alloc::Allocator;
@@ -33,6 +33,34 @@ pub fn list_of<A: Allocator + Copy>(
     }
 }
 
+// What a stream answers at some ends.
+fn answers_in<A: Allocator + Copy>(
+    alloc: A,
+    stream: &mut Stream<A>,
+    ends: &[Direction],
+) -> Result<Vec<Option<IterItem<A>>, A>, Error>
+    requires { CanDeal ⟦<Stream<A> as Iterator>⟧.next_gives
+        ⟦<Stream<A> as DoubleEndedIterator>⟧.next_back_gives
+        ⟦<Stream<A> as Iterator>⟧.can_next
+        ⟦<Stream<A> as DoubleEndedIterator>⟧.can_next_back stream.old }
+{
+    Ok(answers_at(alloc, stream, ends)?)
+}
+
+/// What some runs answer at some ends, within bounds.
+pub fn answers_within<A: Allocator + Copy>(
+    alloc: A,
+    runs: &[Tables<A>],
+    bounds: Bounds<'_>,
+    ends: &[Direction],
+) -> Result<Vec<Option<IterItem<A>>, A>, Error> {
+    let range = owned_range(alloc, bounds)?;
+    let mut stream = range_runs(alloc, runs, range)?;
+    let answers = answers_in(alloc, &mut stream, ends);
+    drop(stream);
+    answers
+}
+
 /// What a stream answers at its back, and then at its front.
 pub fn ends_of<A: Allocator + Copy>(
     alloc: A,
@@ -43,7 +71,7 @@ pub fn ends_of<A: Allocator + Copy>(
         ⟦<Stream<A> as Iterator>⟧.can_next
         ⟦<Stream<A> as DoubleEndedIterator>⟧.can_next_back stream.old }
 {
-    Ok(answers_at(alloc, stream, &[Direction::Back, Direction::Front])?)
+    answers_in(alloc, stream, &[Direction::Back, Direction::Front])
 }
 
 /// The names of what a read gives: of the entry that is found, and of the first and the last of a stream.

@@ -1,7 +1,6 @@
 //! What comes behind a refused step of several runs that are read as one.
-use crate::large::answers_of;
-use crate::tables::{ALL, Lists, Name, name_of, owned_range, runs_of};
-use lsm_tables::range_runs;
+use crate::lists::answers_within;
+use crate::tables::{ALL, Lists, Name, name_of, runs_of};
 use refusing::Refusing;
 use sst_blocks::{Direction, Error, IterItem, ValueType};
 use std::alloc::{Allocator, Global};
@@ -94,8 +93,7 @@ fn answered<A: Allocator + Copy>(
     ends: &[Direction],
 ) -> Result<Vec<Option<IterItem<A>>, A>, Error> {
     let runs = runs_of(alloc, &RUNS)?;
-    let range = owned_range(alloc, ALL)?;
-    answers_of(alloc, range_runs(alloc, &runs, range), ends)
+    answers_within(alloc, &runs, ALL, ends)
 }
 
 // The names of some answers.

@@ -1,9 +1,9 @@
 //! Several runs, read as one.
-use crate::large::answers_of;
+use crate::lists::answers_within;
 use crate::tables::{
-    ALL, Bounds, Lists, Name, Tables, from_before, from_to, is_right, name_of, owned_range, runs_of,
+    ALL, Bounds, Lists, Name, Tables, from_before, from_to, is_right, name_of, runs_of,
 };
-use lsm_tables::{get_runs, range_runs};
+use lsm_tables::get_runs;
 use refusing::{Refusing, each_refused};
 use sst_blocks::{Direction, Error, IterItem, SeqNo, ValueType};
 use std::alloc::{Allocator, Global};
@@ -45,17 +45,6 @@ const TWO_RUNS: [Lists; 2] = [&[&NEWER], &[&OLDER]];
 
 // The third is of two tables.
 const THREE_RUNS: [Lists; 3] = [&[&NEWER], &[&OLDER], &[&A_AND_C, &ONE_D]];
-
-// What some runs answer at these ends, within bounds.
-fn answers_within<A: Allocator + Copy>(
-    alloc: A,
-    runs: &[Tables<A>],
-    bounds: Bounds<'_>,
-    ends: &[Direction],
-) -> Result<Vec<Option<IterItem<A>>, A>, Error> {
-    let range = owned_range(alloc, bounds)?;
-    answers_of(alloc, range_runs(alloc, runs, range), ends)
-}
 
 // Whether answers have these names.
 fn are_named<A: Allocator + Copy>(
