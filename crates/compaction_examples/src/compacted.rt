@@ -1,7 +1,7 @@
 //! Lists that are written as runs, which are compacted and read.
 use lsm_tables::compact_run_back;
 use refusing::{Refusing, each_refused};
-use run_examples::lists::{ends_of, list_of, named};
+use run_examples::lists::{list_of, read_names};
 use run_examples::tables::{ALL, Name, is_right, owned_range};
 use sst_blocks::{Error, SeqNo, ValueType};
 use std::alloc::Allocator;
@@ -37,10 +37,7 @@ fn read_kept<A: Allocator + Copy>(
     let range = owned_range(alloc, ALL)?;
     let (threshold, evict, zero) = rules;
     match compact_run_back(alloc, items, 0, threshold, evict, zero, key, seqno, range)? {
-        Some((found, mut stream)) => {
-            let ends = ends_of(alloc, &mut stream)?;
-            Ok(Some(named(found, ends)?))
-        }
+        Some(read) => Ok(Some(read_names(alloc, read)?)),
         None => Ok(None),
     }
 }

@@ -36,7 +36,8 @@ fn numbers<A: Allocator + Copy>(runs: &[Tables<A>]) -> Result<Numbers, Error> {
     Ok([a, b, number_of(runs, b"c")?])
 }
 
-fn shared<A: Allocator + Copy>(
+/// Runs that are shared, each.
+pub(crate) fn shared<A: Allocator + Copy>(
     alloc: A,
     runs: Vec<Run<Table<A>, A>, A>,
 ) -> Result<Vec<Tables<A>, A>, Error> {

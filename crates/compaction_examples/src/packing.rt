@@ -1,12 +1,13 @@
 //! Which tables go into which run, and what is read of them before and after.
+use crate::packed::shared;
 use crate::runs::{V, Version, newest_in};
 use lsm_ranges::{Run, overlap_chain};
 use lsm_tables::{Table, get_runs, pack_runs};
 use lsm_writers::{TableId, Timestamp, Writer};
+use run_examples::large::add;
 use run_examples::tables::Tables;
-use sst_blocks::{Error, SeqNo};
+use sst_blocks::{Error, SeqNo, Slice};
 use std::alloc::Global;
-use std::sync::Arc;
 use std::test::Fail;
 use stored_examples::tables::open;
 use writer_examples::rows::{Row, fill};
@@ -14,19 +15,23 @@ use writer_examples::rows::{Row, fill};
 // A table: its id, its first key and its last one.
 type Ends = (TableId, &'static [u8], &'static [u8]);
 
-// The table of both keys, numbered by its id.
-fn table(alloc: Global, ends: &Ends) -> Result<Table<Global>, Error> {
+// The bytes of the table of both keys, numbered by its id.
+fn bytes(alloc: Global, ends: &Ends) -> Result<Slice, Error> {
     let (id, first, last) = *ends;
     let rows: [Row<'_>; 2] = [(first, id, V, b"x"), (last, id, V, b"x")];
     let writer = Writer::new(alloc, id, 0, Timestamp::from(0))?;
-    open(alloc, fill(writer, alloc, &rows)?.bytes, 0)
+    Ok(fill(writer, alloc, &rows)?.bytes)
+}
+
+fn table(alloc: Global, ends: &Ends) -> Result<Table<Global>, Error> {
+    open(alloc, bytes(alloc, ends)?, 0)
 }
 
 // The run of some tables. `Source(2)` where there are none.
 fn run(alloc: Global, ends: &[Ends]) -> Result<Run<Table<Global>>, Error> {
     let mut tables = Vec::new(alloc);
     for ends in ends {
-        tables.push(table(alloc, ends)?)?;
+        add(&mut tables, table(alloc, ends))?;
     }
     Run::new(tables).ok_or(Error::Source(2))
 }
@@ -34,17 +39,9 @@ fn run(alloc: Global, ends: &[Ends]) -> Result<Run<Table<Global>>, Error> {
 fn runs(alloc: Global, lists: &[&[Ends]]) -> Result<Vec<Run<Table<Global>>>, Error> {
     let mut runs = Vec::new(alloc);
     for ends in lists {
-        runs.push(run(alloc, ends)?)?;
+        add(&mut runs, run(alloc, ends))?;
     }
     Ok(runs)
-}
-
-fn shared(alloc: Global, runs: Vec<Run<Table<Global>>>) -> Result<Vec<Tables<Global>>, Error> {
-    let mut tables = Vec::new(alloc);
-    for run in runs {
-        tables.push(Arc::new(alloc, run)?)?;
-    }
-    Ok(tables)
 }
 
 // Whether tables have these ids.
@@ -118,6 +115,12 @@ fn a_chain_goes_through_tables_that_overlap(rt: HostRuntime) -> Result<(), Fail>
     Ok(())
 }
 
+// Whether given runs are packed into runs of these tables.
+fn are_packed(alloc: Global, given: &[Tables<Global>], ids: &[&[TableId]]) -> Result<bool, Error> {
+    let packed = shared(alloc, pack_runs(alloc, given)?)?;
+    Ok(have_ids(&packed, ids))
+}
+
 // Whether some runs are packed into runs of these tables, and the given runs stay.
 fn packs(alloc: Global, lists: &[&[Ends]], ids: &[&[TableId]]) -> Result<bool, Error> {
     let given = shared(alloc, runs(alloc, lists)?)?;
@@ -156,9 +159,9 @@ fn emptied(alloc: Global, ends: &[Ends]) -> Result<Run<Table<Global>>, Error> {
 // Whether a run is packed alone that stands beside one without tables.
 fn leaves_out_what_is_empty(alloc: Global) -> Result<bool, Error> {
     let mut given = runs(alloc, &[&[(0, b"a", b"b")]])?;
-    given.push(emptied(alloc, &[(1, b"c", b"d")])?)?;
-    let packed = pack_runs(alloc, &shared(alloc, given)?)?;
-    Ok(have_ids(&shared(alloc, packed)?, &[&[0]]))
+    add(&mut given, emptied(alloc, &[(1, b"c", b"d")]))?;
+    let given = shared(alloc, given)?;
+    are_packed(alloc, &given, &[&[0]])
 }
 
 #[test]

@@ -126,7 +126,8 @@ fn found_around_a_part<A: Allocator + Copy>(
     let (before, after) = compact_part_back(
         alloc, front, part, behind, 7, evict, false, ids, 0, moment, key, seqno, range,
     )?;
-    Ok([numbers_of(before)?, numbers_of(after)?])
+    let (before, after) = (numbers_of(before), numbers_of(after));
+    Ok([before?, after?])
 }
 
 const A1_B2: [Row<'static>; 2] = [(b"a", 1, V, b"x"), (b"b", 2, V, b"x")];

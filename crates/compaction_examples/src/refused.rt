@@ -17,18 +17,23 @@ fn spent() -> TableIds {
     ids
 }
 
+// Whether a large value was made, which is let go of here, or why not. It is generic, so that no part of the value is looked at.
+fn made<T: Drop>(value: Result<T, Error>) -> Result<(), Error> {
+    value?;
+    Ok(())
+}
+
 fn compacted(alloc: Global) -> Result<(), Error> {
     let runs = runs_of(alloc, &[&ROWS])?;
     let moment = Timestamp::from(0);
-    compact_to_run(alloc, &runs, 5, false, false, spent(), 0, moment)?;
-    Ok(())
+    made(compact_to_run(alloc, &runs, 5, false, false, spent(), 0, moment))
 }
 
 fn compacted_in_its_place(alloc: Global) -> Result<(), Error> {
     let part = runs_of(alloc, &[&ROWS])?;
     let (moment, range) = (Timestamp::from(0), owned_range(alloc, ALL)?);
     let ids = spent();
-    compact_part_back(
+    made(compact_part_back(
         alloc,
         &[],
         &part,
@@ -42,8 +47,7 @@ fn compacted_in_its_place(alloc: Global) -> Result<(), Error> {
         b"a",
         10,
         range,
-    )?;
-    Ok(())
+    ))
 }
 
 #[test]

@@ -7,11 +7,12 @@ ghost use Rattle.lsm_compactions.specs.Compacted.{AreCompactable};
 ghost use Rattle.compaction_examples.specs.Runs.{HasList};
 
 use lsm_ranges::Run;
-use lsm_tables::{Table, compact_runs, range_runs, write_run};
+use lsm_tables::{Table, compact_runs, write_run};
 use lsm_writers::{FinishedTable, MultiWriter, TableIds, Timestamp, is_writable};
-use run_examples::lists::list_of;
-use run_examples::tables::{ALL, Tables, owned_range};
-use sst_blocks::{Direction, Error, InternalValue, IterItem, SeqNo, ValueType, answers_at};
+use run_examples::large::add;
+use run_examples::lists::{answers_within, list_of};
+use run_examples::tables::{ALL, Tables};
+use sst_blocks::{Direction, Error, InternalValue, SeqNo, ValueType};
 use std::alloc::Allocator;
 use std::sync::Arc;
 use stored_examples::tables::open;
@@ -187,25 +188,15 @@ pub(crate) fn scanned<A: Allocator + Copy>(
 // Six steps from the front.
 const FRONT: [Direction; 6] = [Direction::Front; 6];
 
-// What the first six steps of the newest versions of some runs answer.
-fn newest_answers<A: Allocator + Copy>(
-    alloc: A,
-    runs: &[Tables<A>],
-) -> Result<Vec<Option<IterItem<A>>, A>, Error> {
-    let range = owned_range(alloc, ALL)?;
-    let mut stream = range_runs(alloc, runs, range)?;
-    Ok(answers_at(alloc, &mut stream, &FRONT)?)
-}
-
 /// The first six of the newest versions that some runs have.
 pub(crate) fn newest_in<A: Allocator + Copy>(
     alloc: A,
     runs: &[Tables<A>],
 ) -> Result<Vec<Version, A>, Error> {
     let mut versions = Vec::new(alloc);
-    for answer in newest_answers(alloc, runs)? {
+    for answer in answers_within(alloc, runs, ALL, &FRONT)? {
         if let Some(item) = answer {
-            versions.push(version_of(&item?))?;
+            add(&mut versions, item.map(|item| version_of(&item)))?;
         }
     }
     Ok(versions)

@@ -1,5 +1,5 @@
 //! Lists that are written as tables, opened, put in a run and read.
-use crate::lists::{ends_of, list_of, named};
+use crate::lists::{list_of, read_names};
 use crate::tables::{ALL, Bounds, Name, is_right, owned_range};
 use lsm_ranges::Run;
 use lsm_tables::{Table, read_run_back, write_run};
@@ -42,10 +42,7 @@ fn read_rows<A: Allocator + Copy>(
     let items = list_of(alloc, rows)?;
     let range = owned_range(alloc, bounds)?;
     match read_run_back(alloc, items, 0, global_seqno, b"a", 8, range)? {
-        Some((found, mut stream)) => {
-            let ends = ends_of(alloc, &mut stream)?;
-            Ok(Some(named(found, ends)?))
-        }
+        Some(read) => Ok(Some(read_names(alloc, read)?)),
         None => Ok(None),
     }
 }

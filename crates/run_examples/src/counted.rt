@@ -1,4 +1,5 @@
 //! The blocks that a point read of several runs loads.
+use crate::large::add;
 use crate::tables::{Lists, Tables, damaged_run_of, runs_of};
 use lsm_tables::get_runs_counted;
 use sst_blocks::{Error, Opened, SeqNo, ValueType};
@@ -84,7 +85,7 @@ fn read_damaged(alloc: Global, damaged: usize, key: &[u8]) -> Result<Answer, Err
     let mut runs = Vec::new(alloc);
     for (place, lists) in TWO_RUNS.iter().enumerate() {
         let table = if place == damaged { 0 } else { lists.len() };
-        runs.push(damaged_run_of(alloc, lists, table)?)?;
+        add(&mut runs, damaged_run_of(alloc, lists, table))?;
     }
     Ok(read(&runs, key, 10))
 }

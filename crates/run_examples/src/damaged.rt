@@ -1,4 +1,5 @@
 //! Runs of which one table is damaged.
+use crate::large::asked;
 use crate::tables::{ALL, Tables, damaged_run_of, name_of, owned_range};
 use lsm_tables::{RunReader, RunScanner, get_runs};
 use sst_blocks::{Direction, Error, ValueType};
@@ -50,24 +51,12 @@ fn reader_of<A: Allocator + Copy>(alloc: A, damaged: usize) -> Result<Option<Run
     RunReader::new(run, owned_range(alloc, ALL)?)
 }
 
-// A list of it.
-fn readers_in<A: Allocator + Copy>(
-    alloc: A,
-    damaged: usize,
-) -> Result<Vec<RunReader<A>, A>, Error> {
-    let mut readers = Vec::new(alloc);
-    if let Some(reader) = reader_of(alloc, damaged)? {
-        readers.push(reader)?;
-    }
-    Ok(readers)
-}
-
 // Whether there is a reader, and its steps answer as they should.
 fn answered<A: Allocator + Copy>(
-    readers: &mut Vec<RunReader<A>, A>,
+    reader: &mut Option<RunReader<A>>,
     steps: &[(Direction, Answer)],
 ) -> bool {
-    let Some(reader) = readers.first_mut() else {
+    let Some(reader) = reader.as_mut() else {
         return false;
     };
     for (end, answer) in steps {
@@ -83,8 +72,10 @@ fn reads<A: Allocator + Copy>(
     damaged: usize,
     steps: &[(Direction, Answer)],
 ) -> Result<bool, Error> {
-    let mut readers = readers_in(alloc, damaged)?;
-    Ok(answered(&mut readers, steps))
+    asked(
+        reader_of(alloc, damaged),
+        |reader: &mut Option<RunReader<A>>| Ok(answered(reader, steps)),
+    )
 }
 
 const FROM_THE_FRONT: [(Direction, Answer); 5] = [
@@ -135,8 +126,9 @@ fn scan_answers<A: Allocator + Copy>(scanner: &mut RunScanner<A>, steps: &[Answe
 }
 
 fn scans<A: Allocator + Copy>(alloc: A, damaged: usize, steps: &[Answer]) -> Result<bool, Error> {
-    let mut scanner = scanner(alloc, damaged)?;
-    Ok(scan_answers(&mut scanner, steps))
+    asked(scanner(alloc, damaged), |scanner: &mut RunScanner<A>| {
+        Ok(scan_answers(scanner, steps))
+    })
 }
 
 #[test]
@@ -151,10 +143,14 @@ fn a_damaged_first_table_refuses_the_scan(rt: HostRuntime) {
     assert!(rt; scans(rt.alloc(), 0, &[]) == Err(Error::ChecksumMismatch));
 }
 
+fn has_key<A: Allocator + Copy>(runs: &[Tables<A>], key: &[u8]) -> Result<bool, Error> {
+    Ok(get_runs(runs, key, 1)?.is_some())
+}
+
 // Whether a read of two runs, the first with a damaged table, finds a key.
 fn finds<A: Allocator + Copy>(alloc: A, key: &[u8]) -> Result<bool, Error> {
     let runs = [run(alloc, 1)?, run(alloc, 3)?];
-    Ok(get_runs(&runs, key, 1)?.is_some())
+    has_key(&runs, key)
 }
 
 #[test]

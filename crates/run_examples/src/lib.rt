@@ -8,6 +8,7 @@ mod chains;
 mod counted;
 #[cfg(test)]
 mod damaged;
+pub mod large;
 pub mod lists;
 #[cfg(test)]
 mod readers;

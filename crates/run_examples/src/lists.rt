@@ -3,10 +3,10 @@ ghost use Rattle.std.specs.Prelude.{IfOk};
 ghost use Rattle.lsm_writers.specs.Writing.{IsWritable};
 ghost use Rattle.sst_entries.specs.Stream.{CanDeal};
 
-use crate::tables::{Name, name_of};
+use crate::tables::{Bounds, Name, Tables, name_of, owned_range};
 use lsm_merge::Merger;
 use lsm_sorted::MvccStream;
-use lsm_tables::RunReader;
+use lsm_tables::{RunReader, range_runs};
 use lsm_writers::is_writable;
 use sst_blocks::{Direction, Error, InternalValue, IterItem, answers_at};
 use std::alloc::Allocator;
@@ -33,6 +33,34 @@ pub fn list_of<A: Allocator + Copy>(
     }
 }
 
+// What a stream answers at some ends.
+fn answers_in<A: Allocator + Copy>(
+    alloc: A,
+    stream: &mut Stream<A>,
+    ends: &[Direction],
+) -> Result<Vec<Option<IterItem<A>>, A>, Error>
+    requires { CanDeal ⟦<Stream<A> as Iterator>⟧.next_gives
+        ⟦<Stream<A> as DoubleEndedIterator>⟧.next_back_gives
+        ⟦<Stream<A> as Iterator>⟧.can_next
+        ⟦<Stream<A> as DoubleEndedIterator>⟧.can_next_back stream.old }
+{
+    Ok(answers_at(alloc, stream, ends)?)
+}
+
+/// What some runs answer at some ends, within bounds.
+pub fn answers_within<A: Allocator + Copy>(
+    alloc: A,
+    runs: &[Tables<A>],
+    bounds: Bounds<'_>,
+    ends: &[Direction],
+) -> Result<Vec<Option<IterItem<A>>, A>, Error> {
+    let range = owned_range(alloc, bounds)?;
+    let mut stream = range_runs(alloc, runs, range)?;
+    let answers = answers_in(alloc, &mut stream, ends);
+    drop(stream);
+    answers
+}
+
 /// What a stream answers at its back, and then at its front.
 pub fn ends_of<A: Allocator + Copy>(
     alloc: A,
@@ -43,7 +71,23 @@ pub fn ends_of<A: Allocator + Copy>(
         ⟦<Stream<A> as Iterator>⟧.can_next
         ⟦<Stream<A> as DoubleEndedIterator>⟧.can_next_back stream.old }
 {
-    Ok(answers_at(alloc, stream, &[Direction::Back, Direction::Front])?)
+    answers_in(alloc, stream, &[Direction::Back, Direction::Front])
+}
+
+/// The names of what a read gives: of the entry that is found, and of the first and the last of a stream.
+pub fn read_names<A: Allocator + Copy>(
+    alloc: A,
+    read: (Option<InternalValue<A>>, Stream<A>),
+) -> Result<[Option<Name>; 3], Error>
+    requires { CanDeal ⟦<Stream<A> as Iterator>⟧.next_gives
+        ⟦<Stream<A> as DoubleEndedIterator>⟧.next_back_gives
+        ⟦<Stream<A> as Iterator>⟧.can_next
+        ⟦<Stream<A> as DoubleEndedIterator>⟧.can_next_back read.1 }
+{
+    let (found, mut stream) = read;
+    let ends = ends_of(alloc, &mut stream);
+    drop(stream);
+    named(found, ends?)
 }
 
 /// The names of a found entry, and of the first and the last of a stream, by the answers of [`ends_of`].
@@ -51,10 +95,11 @@ pub fn named<A: Allocator + Copy>(
     found: Option<InternalValue<A>>,
     ends: Vec<Option<IterItem<A>>, A>,
 ) -> Result<[Option<Name>; 3], Error> {
-    let found = name_of(found.map(|item| Ok(item)))?;
-    let mut names = [None; 2];
+    let found = name_of(found.map(|item| Ok(item)));
+    let mut names = [Ok(None), Ok(None)];
     for (slot, answer) in names.iter_mut().zip(ends.into_iter()) {
-        *slot = name_of(answer)?;
+        *slot = name_of(answer);
     }
-    Ok([found, names[1], names[0]])
+    let [last, first] = names;
+    Ok([found?, first?, last?])
 }

@@ -1,6 +1,7 @@
 //! One run, read from both ends and scanned.
 ghost use Rattle.std.specs.Prelude.{◌≡◌, ◌-◌, ◌<◌, ◌≤◌, true, unwrap_or};
 
+use crate::large::asked;
 use crate::tables::{ALL, Bounds, from_before, from_to, is_right, name_of, owned_range, run_of};
 use lsm_tables::{RunReader, RunScanner};
 use refusing::{Refusing, each_refused};
@@ -73,12 +74,12 @@ fn steps_give<A: Allocator + Copy>(
     Ok(true)
 }
 
-// The same of the first of some readers; `None` where there is none.
+// The same where there is a reader, `None` where there is none.
 fn gives<A: Allocator + Copy>(
-    readers: &mut Vec<RunReader<A>, A>,
+    reader: &mut Option<RunReader<A>>,
     steps: &[Step],
 ) -> Result<Option<bool>, Error> {
-    match readers.first_mut() {
+    match reader.as_mut() {
         Some(reader) => Ok(Some(steps_give(reader, steps)?)),
         None => Ok(None),
     }
@@ -103,22 +104,10 @@ fn culled<A: Allocator + Copy>(
     span: Span,
 ) -> Result<RunReader<A>, Error> {
     let run = run_of(alloc, &FOUR_TABLES)?;
-    let range = owned_range(alloc, bounds)?;
     if !has_span(run.as_slice().len(), span) {
         return Err(Error::Source(3));
     }
-    RunReader::culled(run, range, span)
-}
-
-// A list of it.
-fn readers_culled<A: Allocator + Copy>(
-    alloc: A,
-    bounds: Bounds<'_>,
-    span: Span,
-) -> Result<Vec<RunReader<A>, A>, Error> {
-    let mut readers = Vec::new(alloc);
-    readers.push(culled(alloc, bounds, span)?)?;
-    Ok(readers)
+    RunReader::culled(run, owned_range(alloc, bounds)?, span)
 }
 
 // Whether it gives these steps.
@@ -128,8 +117,10 @@ fn culled_gives<A: Allocator + Copy>(
     span: Span,
     steps: &[Step],
 ) -> Result<Option<bool>, Error> {
-    let mut readers = readers_culled(alloc, bounds, span)?;
-    gives(&mut readers, steps)
+    asked(
+        culled(alloc, bounds, span),
+        |reader: &mut RunReader<A>| Ok(Some(steps_give(reader, steps)?)),
+    )
 }
 
 // The reader of the four tables within bounds.
@@ -141,26 +132,16 @@ fn reader_within<A: Allocator + Copy>(
     RunReader::new(run, owned_range(alloc, bounds)?)
 }
 
-// A list of it.
-fn readers_within<A: Allocator + Copy>(
-    alloc: A,
-    bounds: Bounds<'_>,
-) -> Result<Vec<RunReader<A>, A>, Error> {
-    let mut readers = Vec::new(alloc);
-    if let Some(reader) = reader_within(alloc, bounds)? {
-        readers.push(reader)?;
-    }
-    Ok(readers)
-}
-
 // Whether it gives these steps; `None` where there is no reader.
 fn new_gives<A: Allocator + Copy>(
     alloc: A,
     bounds: Bounds<'_>,
     steps: &[Step],
 ) -> Result<Option<bool>, Error> {
-    let mut readers = readers_within(alloc, bounds)?;
-    gives(&mut readers, steps)
+    asked(
+        reader_within(alloc, bounds),
+        |reader: &mut Option<RunReader<A>>| gives(reader, steps),
+    )
 }
 
 const IN_TURN: [Step; 14] = [
@@ -412,8 +393,9 @@ fn gives_keys<A: Allocator + Copy>(
 
 // Whether that of a span of the four tables does.
 fn scans<A: Allocator + Copy>(alloc: A, span: Span, keys: &[u8]) -> Result<bool, Error> {
-    let mut scanner = scanner(alloc, span)?;
-    gives_keys(&mut scanner, keys)
+    asked(scanner(alloc, span), |scanner: &mut RunScanner<A>| {
+        gives_keys(scanner, keys)
+    })
 }
 
 #[test]
@@ -432,14 +414,6 @@ fn is_over<A: Allocator + Copy>(reader: &mut RunReader<A>) -> bool {
     reader.next().is_none() && reader.next_back().is_none()
 }
 
-// Whether nothing is left of the first of some readers; `false` where there is none.
-fn are_over<A: Allocator + Copy>(readers: &mut Vec<RunReader<A>, A>) -> bool {
-    match readers.first_mut() {
-        Some(reader) => is_over(reader),
-        None => false,
-    }
-}
-
 const D_TO_I: [Step; 7] = [
     (F, b'd', 1),
     (B, b'i', 2),
@@ -453,25 +427,28 @@ const D_TO_I: [Step; 7] = [
 // Whether a reader gives these steps, and nothing follows from either end; where a step is refused the refusal, if nothing
 // follows it.
 fn gives_or_ends<A: Allocator + Copy>(
-    readers: &mut Vec<RunReader<A>, A>,
+    reader: &mut RunReader<A>,
     steps: &[Step],
 ) -> Result<bool, Error> {
-    let given = gives(readers, steps);
-    if are_over(readers) {
-        Ok(given? == Some(true))
-    } else {
-        Ok(false)
-    }
+    let given = steps_give(reader, steps);
+    if is_over(reader) { given } else { Ok(false) }
 }
 
 fn span_gives_or_ends<A: Allocator + Copy>(alloc: A) -> Result<bool, Error> {
-    let mut readers = readers_culled(alloc, ALL, (Some(1), Some(2)))?;
-    gives_or_ends(&mut readers, &D_TO_I)
+    asked(
+        culled(alloc, ALL, (Some(1), Some(2))),
+        |reader: &mut RunReader<A>| gives_or_ends(reader, &D_TO_I),
+    )
 }
 
 fn run_gives_or_ends<A: Allocator + Copy>(alloc: A) -> Result<bool, Error> {
-    let mut readers = readers_within(alloc, ALL)?;
-    gives_or_ends(&mut readers, &IN_TURN)
+    asked(
+        reader_within(alloc, ALL),
+        |reader: &mut Option<RunReader<A>>| match reader.as_mut() {
+            Some(reader) => gives_or_ends(reader, &IN_TURN),
+            None => Ok(false),
+        },
+    )
 }
 
 #[test]
@@ -491,14 +468,23 @@ fn a_span_is_read_with_each_request_refused(rt: HostRuntime) {
 }
 
 // Whether a scan gives just these keys; where a step is refused the refusal, if nothing follows it.
-fn scan_or_end<A: Allocator + Copy>(alloc: A, span: Span, keys: &[u8]) -> Result<bool, Error> {
-    let mut scanner = scanner(alloc, span)?;
-    let given = gives_keys(&mut scanner, keys);
+fn gives_keys_or_ends<A: Allocator + Copy>(
+    scanner: &mut RunScanner<A>,
+    keys: &[u8],
+) -> Result<bool, Error> {
+    let given = gives_keys(scanner, keys);
     if scanner.next().is_none() {
         given
     } else {
         Ok(false)
     }
+}
+
+// Whether that of a span of the four tables does.
+fn scan_or_end<A: Allocator + Copy>(alloc: A, span: Span, keys: &[u8]) -> Result<bool, Error> {
+    asked(scanner(alloc, span), |scanner: &mut RunScanner<A>| {
+        gives_keys_or_ends(scanner, keys)
+    })
 }
 
 #[test]

@@ -1,8 +1,8 @@
 //! What comes behind a refused step of several runs that are read as one.
-use crate::tables::{ALL, Lists, Name, name_of, owned_range, runs_of};
-use lsm_tables::range_runs;
+use crate::lists::answers_within;
+use crate::tables::{ALL, Lists, Name, name_of, runs_of};
 use refusing::Refusing;
-use sst_blocks::{Direction, Error, IterItem, ValueType, answers_at};
+use sst_blocks::{Direction, Error, IterItem, ValueType};
 use std::alloc::{Allocator, Global};
 use std::test::Fail;
 use writer_examples::rows::Row;
@@ -93,8 +93,7 @@ fn answered<A: Allocator + Copy>(
     ends: &[Direction],
 ) -> Result<Vec<Option<IterItem<A>>, A>, Error> {
     let runs = runs_of(alloc, &RUNS)?;
-    let mut stream = range_runs(alloc, &runs, owned_range(alloc, ALL)?)?;
-    Ok(answers_at(alloc, &mut stream, ends)?)
+    answers_within(alloc, &runs, ALL, ends)
 }
 
 // The names of some answers.
@@ -112,24 +111,47 @@ fn which<A: Allocator + Copy>(alloc: A, case: &Case) -> Result<Option<usize>, Er
     Ok(case.1.iter().position(|answers| *answers == names))
 }
 
+// How many requests a case makes; none where its answers are not the first of its own.
+fn requests_of(alloc: Global, case: &Case) -> Result<Option<usize>, Error> {
+    let unrefused = Refusing::new(alloc, 0);
+    let place = which(&unrefused, case)?;
+    Ok(if place == Some(0) {
+        Some(unrefused.requests())
+    } else {
+        None
+    })
+}
+
+// Which of them they give with one request refused.
+fn which_refused(alloc: Global, nth: usize, case: &Case) -> Result<Option<usize>, Error> {
+    let heap = Refusing::new(alloc, nth);
+    which(&heap, case)
+}
+
+// Notes which of them they gave; `false` where the answer is no other. There may be no memory for the runs.
+fn meet(met: &mut [bool; 3], answer: Result<Option<usize>, Error>) -> Result<bool, Error> {
+    match answer {
+        Ok(Some(place)) => {
+            if let Some(met) = met.get_mut(place) {
+                *met = true;
+            }
+            Ok(true)
+        }
+        Ok(None) => Ok(false),
+        Err(Error::OutOfMemory) => Ok(true),
+        Err(error) => Err(error),
+    }
+}
+
 // Which of them they give with each request refused in turn; none where one of the answers is no other.
 fn met(alloc: Global, case: &Case) -> Result<Option<[bool; 3]>, Error> {
-    let unrefused = Refusing::new(alloc, 0);
-    if which(&unrefused, case)? != Some(0) {
+    let Some(requests) = requests_of(alloc, case)? else {
         return Ok(None);
-    }
+    };
     let mut met = [true, false, false];
-    for nth in 1..=unrefused.requests() {
-        let heap = Refusing::new(alloc, nth);
-        match which(&heap, case) {
-            Ok(Some(place)) => {
-                if let Some(met) = met.get_mut(place) {
-                    *met = true;
-                }
-            }
-            Ok(None) => return Ok(None),
-            Err(Error::OutOfMemory) => {}
-            Err(error) => return Err(error),
+    for nth in 1..=requests {
+        if !meet(&mut met, which_refused(alloc, nth, case))? {
+            return Ok(None);
         }
     }
     Ok(Some(met))

@@ -1,10 +1,11 @@
 //! Several runs, read as one.
+use crate::lists::answers_within;
 use crate::tables::{
-    ALL, Bounds, Lists, Name, Tables, from_before, from_to, is_right, name_of, owned_range, runs_of,
+    ALL, Bounds, Lists, Name, Tables, from_before, from_to, is_right, name_of, runs_of,
 };
-use lsm_tables::{get_runs, range_runs};
+use lsm_tables::get_runs;
 use refusing::{Refusing, each_refused};
-use sst_blocks::{Direction, Error, IterItem, SeqNo, ValueType, answers_at};
+use sst_blocks::{Direction, Error, IterItem, SeqNo, ValueType};
 use std::alloc::{Allocator, Global};
 use std::test::Fail;
 use writer_examples::rows::Row;
@@ -45,18 +46,6 @@ const TWO_RUNS: [Lists; 2] = [&[&NEWER], &[&OLDER]];
 // The third is of two tables.
 const THREE_RUNS: [Lists; 3] = [&[&NEWER], &[&OLDER], &[&A_AND_C, &ONE_D]];
 
-// What some runs answer at these ends, within bounds.
-fn answers_of<A: Allocator + Copy>(
-    alloc: A,
-    runs: &[Tables<A>],
-    bounds: Bounds<'_>,
-    ends: &[Direction],
-) -> Result<Vec<Option<IterItem<A>>, A>, Error> {
-    let range = owned_range(alloc, bounds)?;
-    let mut stream = range_runs(alloc, runs, range)?;
-    Ok(answers_at(alloc, &mut stream, ends)?)
-}
-
 // Whether answers have these names.
 fn are_named<A: Allocator + Copy>(
     answers: Vec<Option<IterItem<A>>, A>,
@@ -79,8 +68,9 @@ fn range_gives<A: Allocator + Copy>(
     names: &[Option<Name>],
 ) -> Result<bool, Error> {
     let runs = runs_of(alloc, lists)?;
-    let answers = answers_of(alloc, &runs, bounds, ends)?;
-    are_named(answers, names)
+    let answers = answers_within(alloc, &runs, bounds, ends);
+    drop(runs);
+    are_named(answers?, names)
 }
 
 #[test]
@@ -154,6 +144,14 @@ fn no_runs_give_nothing(rt: HostRuntime) -> Result<(), Fail> {
     Ok(())
 }
 
+fn number_of<A: Allocator + Copy>(
+    runs: &[Tables<A>],
+    key: &[u8],
+    seqno: SeqNo,
+) -> Result<Option<SeqNo>, Error> {
+    Ok(get_runs(runs, key, seqno)?.map(|item| item.key.seqno))
+}
+
 // The number of the entry that a read of some runs finds.
 fn found<A: Allocator + Copy>(
     alloc: A,
@@ -162,7 +160,7 @@ fn found<A: Allocator + Copy>(
     seqno: SeqNo,
 ) -> Result<Option<SeqNo>, Error> {
     let runs = runs_of(alloc, lists)?;
-    Ok(get_runs(&runs, key, seqno)?.map(|item| item.key.seqno))
+    number_of(&runs, key, seqno)
 }
 
 // A key, a bound, and the number that is found.

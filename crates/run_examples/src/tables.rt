@@ -1,4 +1,5 @@
 //! Runs of small tables, bounds, and the names of entries.
+use crate::large::add;
 use lsm_ranges::Run;
 use lsm_tables::Table;
 use sst_blocks::{Error, IterItem, SeqNo, Slice, UserKey};
@@ -20,18 +21,20 @@ pub type Name = (u8, SeqNo);
 /// The tables of a run, by their rows.
 pub type Lists = &'static [&'static [Row<'static>]];
 
-// The table of some rows, all in one block of data, and some of its bytes changed.
+// The bytes of the table of some rows, all in one block of data.
+fn bytes_of<A: Allocator + Copy>(alloc: A, rows: &[Row<'_>]) -> Result<Slice<A>, Error> {
+    Ok(fill(new_writer(alloc)?, alloc, rows)?.bytes)
+}
+
+// The table of some rows, and some of its bytes changed.
 fn table_of<A: Allocator + Copy>(
     alloc: A,
     rows: &[Row<'_>],
     changes: &[(usize, &[u8])],
 ) -> Result<Table<A>, Error> {
-    let written = fill(new_writer(alloc)?, alloc, rows)?;
-    open(
-        alloc,
-        overwritten(alloc, written.bytes.as_slice(), changes)?,
-        0,
-    )
+    let written = bytes_of(alloc, rows)?;
+    let bytes = overwritten(alloc, written.as_slice(), changes)?;
+    open(alloc, bytes, 0)
 }
 
 // The first byte of the payload of the block of data.
@@ -50,6 +53,27 @@ fn table_at<A: Allocator + Copy>(
     }
 }
 
+// The tables of some lists, the one at a place damaged.
+fn tables_of<A: Allocator + Copy>(
+    alloc: A,
+    lists: &[&[Row<'_>]],
+    damaged: usize,
+) -> Result<Vec<Table<A>, A>, Error> {
+    let mut tables = Vec::new(alloc);
+    for (place, rows) in lists.iter().enumerate() {
+        add(&mut tables, table_at(alloc, rows, place == damaged))?;
+    }
+    Ok(tables)
+}
+
+// The run of some tables. `Source(2)` where there are none.
+fn shared<A: Allocator + Copy>(alloc: A, tables: Vec<Table<A>, A>) -> Result<Tables<A>, Error> {
+    match Run::new(tables) {
+        Some(run) => Ok(Arc::new(alloc, run)?),
+        None => Err(Error::Source(2)),
+    }
+}
+
 /// A run of the tables of some lists. `Source(2)` where there are none.
 pub fn run_of<A: Allocator + Copy>(alloc: A, lists: &[&[Row<'_>]]) -> Result<Tables<A>, Error> {
     damaged_run_of(alloc, lists, lists.len())
@@ -61,21 +85,14 @@ pub fn damaged_run_of<A: Allocator + Copy>(
     lists: &[&[Row<'_>]],
     damaged: usize,
 ) -> Result<Tables<A>, Error> {
-    let mut tables = Vec::new(alloc);
-    for (place, rows) in lists.iter().enumerate() {
-        tables.push(table_at(alloc, rows, place == damaged)?)?;
-    }
-    match Run::new(tables) {
-        Some(run) => Ok(Arc::new(alloc, run)?),
-        None => Err(Error::Source(2)),
-    }
+    shared(alloc, tables_of(alloc, lists, damaged)?)
 }
 
 /// A run for each of some lists of tables.
 pub fn runs_of<A: Allocator + Copy>(alloc: A, lists: &[Lists]) -> Result<Vec<Tables<A>, A>, Error> {
     let mut runs = Vec::new(alloc);
     for tables in lists {
-        runs.push(run_of(alloc, tables)?)?;
+        add(&mut runs, run_of(alloc, tables))?;
     }
     Ok(runs)
 }
