@@ -5,6 +5,8 @@
 #[cfg(test)]
 mod compacted;
 #[cfg(test)]
+mod filtered;
+#[cfg(test)]
 mod kept;
 #[cfg(test)]
 mod packed;
