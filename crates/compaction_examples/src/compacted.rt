@@ -1,12 +1,12 @@
 //! Lists that are written as runs, which are compacted and read.
+use example_tables::lists::{list_of, read_names};
+use example_tables::rows::Row;
+use example_tables::runs::{ALL, Name, is_right, owned_range};
 use lsm_tables::compact_run_back;
 use refusing::{Refusing, each_refused};
-use run_examples::lists::{list_of, read_names};
-use run_examples::tables::{ALL, Name, is_right, owned_range};
 use sst_blocks::{Error, SeqNo, ValueType};
 use std::alloc::Allocator;
 use std::test::Fail;
-use writer_examples::rows::Row;
 
 // A threshold, whether tombstones are evicted, whether numbers become 0.
 type Rules = (SeqNo, bool, bool);

@@ -2,18 +2,18 @@
 ghost use Rattle.std.specs.Iterator.{IsFinite};
 
 use crate::runs::{T, V, Version, W, opened, run_of_tables, runs_of, scanned, version_of};
+use example_tables::large::add;
+use example_tables::rows::Row;
+use example_tables::runs::Tables;
 use lsm_merge::Merger;
 use lsm_sorted::compaction::stream::{
     CompactionStream, DroppedKvCallback, StreamFilter, StreamFilterVerdict,
 };
 use lsm_tables::{RunScanner, Table, get_runs};
 use lsm_writers::{FinishedTable, MultiWriter, TableIds, Timestamp};
-use run_examples::large::add;
-use run_examples::tables::Tables;
 use sst_blocks::{Error, InternalValue, IterItem, SeqNo, Slice, UserValue, ValueType};
 use std::alloc::{Allocator, Global};
 use std::test::Fail;
-use writer_examples::rows::Row;
 
 // Drops the version of one number, makes that of another a tombstone, and keeps all others.
 #[derive(Clone, Copy)]

@@ -1,9 +1,9 @@
 //! What is kept of runs that are compacted at threshold 5.
 use crate::runs::{Rules, T, V, Version, W, compacted, runs_of, runs_with, scanned};
+use example_tables::rows::Row;
 use sst_blocks::{Error, SeqNo};
 use std::alloc::{Allocator, Global};
 use std::test::Fail;
-use writer_examples::rows::Row;
 
 const A10: Row<'static> = (b"a", 10, V, b"x");
 

@@ -1,13 +1,13 @@
 //! Runs of tables that are packed, and read before and after.
+use example_tables::rows::Row;
+use example_tables::runs::{Lists, Tables, is_right, runs_of};
 use lsm_ranges::Run;
 use lsm_tables::{Table, get_runs, pack_runs, packing_law};
 use refusing::{Refusing, each_refused};
-use run_examples::tables::{Lists, Tables, is_right, runs_of};
 use sst_blocks::{Error, SeqNo, ValueType};
 use std::alloc::Allocator;
 use std::sync::Arc;
 use std::test::Fail;
-use writer_examples::rows::Row;
 
 const A9_C9: [Row<'static>; 2] = [
     (b"a", 9, ValueType::Value, b"x"),

@@ -1,16 +1,16 @@
 //! Which tables go into which run, and what is read of them before and after.
 use crate::packed::shared;
 use crate::runs::{V, Version, newest_in};
+use example_tables::large::add;
+use example_tables::rows::{Row, fill};
+use example_tables::runs::Tables;
+use example_tables::tables::open;
 use lsm_ranges::{Run, overlap_chain};
 use lsm_tables::{Table, get_runs, pack_runs};
 use lsm_writers::{TableId, Timestamp, Writer};
-use run_examples::large::add;
-use run_examples::tables::Tables;
 use sst_blocks::{Error, SeqNo, Slice};
 use std::alloc::Global;
 use std::test::Fail;
-use stored_examples::tables::open;
-use writer_examples::rows::{Row, fill};
 
 // A table: its id, its first key and its last one.
 type Ends = (TableId, &'static [u8], &'static [u8]);

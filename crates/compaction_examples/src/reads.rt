@@ -5,13 +5,13 @@ ghost use Rattle.sst_entries.specs.Stream.{CanDeal};
 ghost use Rattle.lsm_compactions.specs.Compacted.{AreCompactable};
 
 use crate::runs::{Rules, T, V, Version, W, compacted, newest_in, run_of_tables, runs_of};
+use example_tables::rows::Row;
+use example_tables::runs::{ALL, Tables, owned_range};
 use lsm_tables::{compact_part_back, compaction_law, get_runs};
 use lsm_writers::{TableIds, Timestamp};
-use run_examples::tables::{ALL, Tables, owned_range};
 use sst_blocks::{Direction, Error, InternalValue, IterItem, SeqNo, answer_at};
 use std::alloc::Allocator;
 use std::test::Fail;
-use writer_examples::rows::Row;
 
 const A10_A3: [Row<'static>; 2] = [(b"a", 10, V, b"x"), (b"a", 3, V, b"y")];
 

@@ -1,12 +1,12 @@
 //! What making a run refuses where no id is left for a table.
 use crate::runs::{V, runs_of};
+use example_tables::rows::Row;
+use example_tables::runs::{ALL, owned_range};
 use lsm_tables::{compact_part_back, compact_to_run};
 use lsm_writers::{TableIds, Timestamp};
-use run_examples::tables::{ALL, owned_range};
 use sst_blocks::Error;
 use std::alloc::Global;
 use std::test::Fail;
-use writer_examples::rows::Row;
 
 const ROWS: [Row<'static>; 2] = [(b"a", 9, V, b"x"), (b"b", 4, V, b"y")];
 

@@ -6,17 +6,17 @@ ghost use Rattle.lsm_writers.specs.Writing.{IsWritable};
 ghost use Rattle.lsm_compactions.specs.Compacted.{AreCompactable};
 ghost use Rattle.compaction_examples.specs.Runs.{HasList};
 
+use example_tables::large::add;
+use example_tables::lists::{answers_within, list_of};
+use example_tables::rows::Row;
+use example_tables::runs::{ALL, Tables};
+use example_tables::tables::open;
 use lsm_ranges::Run;
 use lsm_tables::{Table, compact_runs, write_run};
 use lsm_writers::{FinishedTable, MultiWriter, TableIds, Timestamp, is_writable};
-use run_examples::large::add;
-use run_examples::lists::{answers_within, list_of};
-use run_examples::tables::{ALL, Tables};
 use sst_blocks::{Direction, Error, InternalValue, SeqNo, ValueType};
 use std::alloc::Allocator;
 use std::sync::Arc;
-use stored_examples::tables::open;
-use writer_examples::rows::Row;
 
 pub(crate) const V: ValueType = ValueType::Value;
 

@@ -8,15 +8,15 @@ ghost use Rattle.lsm_runs.specs.RunLists.{HoldsList};
 ghost use Rattle.compaction_examples.specs.Stored.{new_entries, stored_entries};
 
 use crate::runs::{V, Version, compacted, newest_in, scanned, version_of};
+use example_tables::runs::{ALL, Tables, owned_range};
+use example_tables::stored::two_levels;
 use lsm_ranges::Run;
 use lsm_tables::{RunReader, Table};
 use lsm_writers::{Timestamp, write_list};
-use run_examples::tables::{ALL, Tables, owned_range};
 use sst_blocks::{Checksum, Error, InternalValue, Slice};
 use std::alloc::Global;
 use std::sync::Arc;
 use std::test::Fail;
-use stored_examples::stored::two_levels;
 
 const ENTRIES: [Version; 5] = [
     (b'a', 9, V),

@@ -4,13 +4,13 @@ ghost use Rattle.std.specs.Arc.{arc_value};
 ghost use Rattle.lsm_compactions.specs.Compacted.{AreCompactable};
 
 use crate::runs::{T, V, Version, newest_in, opened, run_of_tables, runs_of, scanned};
+use example_tables::rows::Row;
+use example_tables::runs::Tables;
 use lsm_tables::{compact_runs, get_runs};
 use lsm_writers::{MultiWriter, TableId, TableIds, Timestamp};
-use run_examples::tables::Tables;
 use sst_blocks::{Error, SeqNo};
 use std::alloc::{Allocator, Global};
 use std::test::Fail;
-use writer_examples::rows::Row;
 
 // A value that fills a block, and reaches a target of 1,024 bytes.
 const LONG: [u8; 8000] = [b'v'; 8000];

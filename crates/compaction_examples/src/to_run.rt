@@ -5,14 +5,14 @@ ghost use Rattle.lsm_compactions.specs.Compacted.{AreCompactable};
 
 use crate::reads::numbers_of;
 use crate::runs::{Rules, T, V, Version, runs_of, scanned};
+use example_tables::rows::Row;
+use example_tables::runs::{ALL, Tables, owned_range};
 use lsm_tables::{compact_to_run, read_run};
 use lsm_writers::{TableId, TableIds, Timestamp};
-use run_examples::tables::{ALL, Tables, owned_range};
 use sst_blocks::{Error, SeqNo};
 use std::alloc::{Allocator, Global};
 use std::sync::Arc;
 use std::test::Fail;
-use writer_examples::rows::Row;
 
 const NEWER: &[Row<'static>] = &[(b"a", 9, V, b"x"), (b"b", 4, T, b""), (b"c", 7, V, b"x")];
 

@@ -3,8 +3,6 @@
 #![tactic(auto)]
 
 #[cfg(test)]
-mod large;
-#[cfg(test)]
 mod one_answer;
 #[cfg(test)]
 mod ranges;

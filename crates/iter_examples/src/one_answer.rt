@@ -2,14 +2,14 @@
 ghost use Rattle.std.specs.Prelude.{IfOk};
 ghost use Rattle.lsm_writers.specs.Writing.{IsFresh};
 
-use crate::large::{asked, asked_mut};
+use example_tables::large::{asked, asked_mut};
+use example_tables::rows::{Row, fill, new_writer};
 use lsm_tables::{Iter, PointAndScan, Ranges, Scanner, Table, read_each_way};
 use lsm_writers::{BloomConstructionPolicy, Writer};
 use sst_blocks::{Checksum, Error, IterItem, SeqNo, Slice, ValueType};
 use std::alloc::{Allocator, Global};
 use std::ops::Bound;
 use std::test::Fail;
-use writer_examples::rows::{Row, fill, new_writer};
 
 const ROWS: [Row<'static>; 5] = [
     (b"a", 9, ValueType::Value, b"v"),

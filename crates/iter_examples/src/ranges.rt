@@ -1,14 +1,14 @@
 //! Ranges of tables from both ends, under each kind of index.
-use crate::large::{asked, asked_mut};
+use example_tables::large::{asked, asked_mut};
+use example_tables::rows::{Row, fill, new_writer, written};
+use example_tables::stored::{one_entry, two_levels};
+use example_tables::tables::{open, overwritten};
 use lsm_tables::{Iter, Table};
 use refusing::{Refusing, each_refused};
 use sst_blocks::{Checksum, Direction, Error, IterItem, SeqNo, Slice, UserKey, ValueType};
 use std::alloc::{Allocator, Global};
 use std::ops::Bound;
 use std::test::Fail;
-use stored_examples::stored::{one_entry, two_levels};
-use stored_examples::tables::{open, overwritten};
-use writer_examples::rows::{Row, fill, new_writer, written};
 
 // A key of one byte at most, by that byte, and a number.
 type Name = (Option<u8>, SeqNo);

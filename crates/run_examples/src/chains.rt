@@ -1,6 +1,7 @@
 //! Lists that are written as tables, opened, put in a run and read.
-use crate::lists::{list_of, read_names};
-use crate::tables::{ALL, Bounds, Name, is_right, owned_range};
+use example_tables::lists::{list_of, read_names};
+use example_tables::rows::Row;
+use example_tables::runs::{ALL, Bounds, Name, is_right, owned_range};
 use lsm_ranges::Run;
 use lsm_tables::{Table, read_run_back, write_run};
 use lsm_writers::{TableIds, Timestamp};
@@ -9,7 +10,6 @@ use sst_blocks::{Error, SeqNo, ValueType};
 use std::alloc::Allocator;
 use std::ops::Bound;
 use std::test::Fail;
-use writer_examples::rows::Row;
 
 const BEFORE_B: Bounds<'static> = (Bound::Unbounded, Bound::Excluded(b"b"));
 

@@ -1,11 +1,11 @@
 //! The blocks that a point read of several runs loads.
-use crate::large::add;
-use crate::tables::{Lists, Tables, damaged_run_of, runs_of};
+use example_tables::large::add;
+use example_tables::rows::Row;
+use example_tables::runs::{Lists, Tables, damaged_run_of, runs_of};
 use lsm_tables::get_runs_counted;
 use sst_blocks::{Error, Opened, SeqNo, ValueType};
 use std::alloc::{Allocator, Global};
 use std::test::Fail;
-use writer_examples::rows::Row;
 
 const A9_B3: [Row<'static>; 2] = [
     (b"a", 9, ValueType::Value, b"x"),

@@ -1,11 +1,11 @@
 //! Runs of which one table is damaged.
-use crate::large::asked;
-use crate::tables::{ALL, Tables, damaged_run_of, name_of, owned_range};
+use example_tables::large::asked_mut;
+use example_tables::rows::Row;
+use example_tables::runs::{ALL, Tables, damaged_run_of, name_of, owned_range};
 use lsm_tables::{RunReader, RunScanner, get_runs};
 use sst_blocks::{Direction, Error, ValueType};
 use std::alloc::Allocator;
 use std::test::Fail;
-use writer_examples::rows::Row;
 
 const F: Direction = Direction::Front;
 
@@ -72,7 +72,7 @@ fn reads<A: Allocator + Copy>(
     damaged: usize,
     steps: &[(Direction, Answer)],
 ) -> Result<bool, Error> {
-    asked(
+    asked_mut(
         reader_of(alloc, damaged),
         |reader: &mut Option<RunReader<A>>| Ok(answered(reader, steps)),
     )
@@ -126,7 +126,7 @@ fn scan_answers<A: Allocator + Copy>(scanner: &mut RunScanner<A>, steps: &[Answe
 }
 
 fn scans<A: Allocator + Copy>(alloc: A, damaged: usize, steps: &[Answer]) -> Result<bool, Error> {
-    asked(scanner(alloc, damaged), |scanner: &mut RunScanner<A>| {
+    asked_mut(scanner(alloc, damaged), |scanner: &mut RunScanner<A>| {
         Ok(scan_answers(scanner, steps))
     })
 }

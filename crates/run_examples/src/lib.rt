@@ -1,5 +1,5 @@
 //! Worked examples of runs of tables: tests of what is read from one run, from both ends and by a scan, from several as one, and
-//! of lists that are written as runs; and the runs and lists that other tests use too. Nothing here is for use.
+//! of lists that are written as runs. Nothing here is for use.
 #![tactic(auto)]
 
 #[cfg(test)]
@@ -8,12 +8,9 @@ mod chains;
 mod counted;
 #[cfg(test)]
 mod damaged;
-pub mod large;
-pub mod lists;
 #[cfg(test)]
 mod readers;
 #[cfg(test)]
 mod refused;
 #[cfg(test)]
 mod several;
-pub mod tables;

@@ -1,15 +1,17 @@
 //! One run, read from both ends and scanned.
 ghost use Rattle.std.specs.Prelude.{◌≡◌, ◌-◌, ◌<◌, ◌≤◌, true, unwrap_or};
 
-use crate::large::asked;
-use crate::tables::{ALL, Bounds, from_before, from_to, is_right, name_of, owned_range, run_of};
+use example_tables::large::asked_mut;
+use example_tables::rows::Row;
+use example_tables::runs::{
+    ALL, Bounds, from_before, from_to, is_right, name_of, owned_range, run_of,
+};
 use lsm_tables::{RunReader, RunScanner};
 use refusing::{Refusing, each_refused};
 use sst_blocks::{Direction, Error, ValueType};
 use std::alloc::Allocator;
 use std::ops::Bound;
 use std::test::Fail;
-use writer_examples::rows::Row;
 
 const F: Direction = Direction::Front;
 
@@ -117,7 +119,7 @@ fn culled_gives<A: Allocator + Copy>(
     span: Span,
     steps: &[Step],
 ) -> Result<Option<bool>, Error> {
-    asked(
+    asked_mut(
         culled(alloc, bounds, span),
         |reader: &mut RunReader<A>| Ok(Some(steps_give(reader, steps)?)),
     )
@@ -138,7 +140,7 @@ fn new_gives<A: Allocator + Copy>(
     bounds: Bounds<'_>,
     steps: &[Step],
 ) -> Result<Option<bool>, Error> {
-    asked(
+    asked_mut(
         reader_within(alloc, bounds),
         |reader: &mut Option<RunReader<A>>| gives(reader, steps),
     )
@@ -393,7 +395,7 @@ fn gives_keys<A: Allocator + Copy>(
 
 // Whether that of a span of the four tables does.
 fn scans<A: Allocator + Copy>(alloc: A, span: Span, keys: &[u8]) -> Result<bool, Error> {
-    asked(scanner(alloc, span), |scanner: &mut RunScanner<A>| {
+    asked_mut(scanner(alloc, span), |scanner: &mut RunScanner<A>| {
         gives_keys(scanner, keys)
     })
 }
@@ -435,14 +437,14 @@ fn gives_or_ends<A: Allocator + Copy>(
 }
 
 fn span_gives_or_ends<A: Allocator + Copy>(alloc: A) -> Result<bool, Error> {
-    asked(
+    asked_mut(
         culled(alloc, ALL, (Some(1), Some(2))),
         |reader: &mut RunReader<A>| gives_or_ends(reader, &D_TO_I),
     )
 }
 
 fn run_gives_or_ends<A: Allocator + Copy>(alloc: A) -> Result<bool, Error> {
-    asked(
+    asked_mut(
         reader_within(alloc, ALL),
         |reader: &mut Option<RunReader<A>>| match reader.as_mut() {
             Some(reader) => gives_or_ends(reader, &IN_TURN),
@@ -482,7 +484,7 @@ fn gives_keys_or_ends<A: Allocator + Copy>(
 
 // Whether that of a span of the four tables does.
 fn scan_or_end<A: Allocator + Copy>(alloc: A, span: Span, keys: &[u8]) -> Result<bool, Error> {
-    asked(scanner(alloc, span), |scanner: &mut RunScanner<A>| {
+    asked_mut(scanner(alloc, span), |scanner: &mut RunScanner<A>| {
         gives_keys_or_ends(scanner, keys)
     })
 }

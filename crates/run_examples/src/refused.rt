@@ -1,11 +1,11 @@
 //! What comes behind a refused step of several runs that are read as one.
-use crate::lists::answers_within;
-use crate::tables::{ALL, Lists, Name, name_of, runs_of};
+use example_tables::lists::answers_within;
+use example_tables::rows::Row;
+use example_tables::runs::{ALL, Lists, Name, name_of, runs_of};
 use refusing::Refusing;
 use sst_blocks::{Direction, Error, IterItem, ValueType};
 use std::alloc::{Allocator, Global};
 use std::test::Fail;
-use writer_examples::rows::Row;
 
 const F: Direction = Direction::Front;
 

@@ -1,6 +1,7 @@
 //! Several runs, read as one.
-use crate::lists::answers_within;
-use crate::tables::{
+use example_tables::lists::answers_within;
+use example_tables::rows::Row;
+use example_tables::runs::{
     ALL, Bounds, Lists, Name, Tables, from_before, from_to, is_right, name_of, runs_of,
 };
 use lsm_tables::get_runs;
@@ -8,7 +9,6 @@ use refusing::{Refusing, each_refused};
 use sst_blocks::{Direction, Error, IterItem, SeqNo, ValueType};
 use std::alloc::{Allocator, Global};
 use std::test::Fail;
-use writer_examples::rows::Row;
 
 const F: Direction = Direction::Front;
 

@@ -1,6 +1,6 @@
 //! What opening and reading a stored table answers where its bytes were changed.
-use crate::stored::one_entry;
-use crate::tables::{open, overwritten, read};
+use example_tables::stored::one_entry;
+use example_tables::tables::{open, overwritten, read};
 use sst_blocks::{Error, SeqNo, Slice, TagName};
 use std::alloc::{Allocator, Global};
 

@@ -1,6 +1,6 @@
 //! What opening a table answers where one item or more of its meta block was changed.
-use crate::stored::one_entry;
-use crate::tables::{load_entries, open};
+use example_tables::stored::one_entry;
+use example_tables::tables::{load_entries, open};
 use refusing::each_refused;
 use sst_blocks::{
     Block, BlockHandle, BlockOffset, BlockSource, BlockType, CompressionType, DataBlock, Error,

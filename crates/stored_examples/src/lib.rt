@@ -1,5 +1,5 @@
-//! Worked examples of tables that were stored: tests over the bytes of an independent program, as they are and changed, and
-//! the words for them that other tests use too. Nothing here is for use.
+//! Worked examples of tables that were stored: tests over the bytes of an independent program, as they are and changed. Nothing
+//! here is for use.
 #![tactic(auto)]
 
 #[cfg(test)]
@@ -8,7 +8,5 @@ mod changed_bytes;
 mod changed_meta;
 #[cfg(test)]
 mod pins;
-pub mod stored;
 #[cfg(test)]
 mod stored_reads;
-pub mod tables;

@@ -1,5 +1,5 @@
 //! Stored tables that are read with each pin and without: what stays loaded, what is found, and what each read loads.
-use crate::stored::{filter_parts, one_entry, one_entry_filtered, two_levels};
+use example_tables::stored::{filter_parts, one_entry, one_entry_filtered, two_levels};
 use lsm_tables::{BlockIndex, BlockIndexImpl, BlockIndexIterImpl, Table};
 use sst_blocks::{Checksum, Error, SeqNo, Slice};
 use std::alloc::Allocator;

@@ -1,6 +1,6 @@
 //! Point reads of tables that were stored in version 3.
-use crate::stored::{filter_parts, one_entry, one_entry_filtered};
-use crate::tables::{open, overwritten, read};
+use example_tables::stored::{filter_parts, one_entry, one_entry_filtered};
+use example_tables::tables::{open, overwritten, read};
 use sst_blocks::{Error, SeqNo, Slice};
 use std::alloc::{Allocator, Global};
 use std::test::Fail;

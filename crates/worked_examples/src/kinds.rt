@@ -2,8 +2,10 @@
 ghost use Rattle.std.specs.Prelude.{IfOk};
 ghost use Rattle.lsm_writers.specs.Writing.{IsFresh};
 
-use crate::large::asked;
 use crate::tables::{ROWS, bytes_of};
+use example_tables::large::asked;
+use example_tables::rows::{Row, fill, new_writer};
+use example_tables::tables::{load_entries, open};
 use lsm_tables::{ParsedRegions, Scanner, Table};
 use lsm_writers::{BloomConstructionPolicy, FinishedTable, Timestamp, Writer};
 use refusing::{Refusing, each_refused};
@@ -12,8 +14,6 @@ use sst_blocks::{
 };
 use std::alloc::{Allocator, Global};
 use std::test::Fail;
-use stored_examples::tables::{load_entries, open};
-use writer_examples::rows::{Row, fill, new_writer};
 
 const TEN_BITS: BloomConstructionPolicy = BloomConstructionPolicy::BitsPerKey(100);
 

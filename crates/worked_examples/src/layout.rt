@@ -1,6 +1,9 @@
 //! Where the parts of written and of stored tables lie, and what the tables say of themselves.
-use crate::large::asked;
 use crate::tables::written;
+use example_tables::large::asked;
+use example_tables::rows::{self, Row};
+use example_tables::stored::{filter_parts, one_entry, one_entry_filtered, two_levels};
+use example_tables::tables::{load_entries, load_handles};
 use lsm_tables::{ParsedMeta, ParsedRegions};
 use sst_blocks::{
     BlockHandle, BlockSource, BlockType, DataBlock, Error, IndexBlock, Opened, SectionName, SeqNo,
@@ -8,9 +11,6 @@ use sst_blocks::{
 };
 use std::alloc::Global;
 use std::test::Fail;
-use stored_examples::stored::{filter_parts, one_entry, one_entry_filtered, two_levels};
-use stored_examples::tables::{load_entries, load_handles};
-use writer_examples::rows::{self, Row};
 
 const NAMES: [SectionName; 7] = [
     SectionName::Data,

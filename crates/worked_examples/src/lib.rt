@@ -4,8 +4,6 @@
 #[cfg(test)]
 mod kinds;
 #[cfg(test)]
-mod large;
-#[cfg(test)]
 mod layout;
 #[cfg(test)]
 mod lists;

@@ -2,7 +2,8 @@
 ghost use Rattle.std.specs.Prelude.{IfOk};
 ghost use Rattle.lsm_writers.specs.Writing.{IsWritable};
 
-use crate::large::asked_if_any;
+use example_tables::large::asked_if_any;
+use example_tables::rows::{Row, entry, written};
 use lsm_tables::{Scanner, Table, read_back, write_and_open};
 use lsm_writers::{Timestamp, is_writable, write_list};
 use refusing::{Refusing, each_refused};
@@ -10,7 +11,6 @@ use sst_blocks::{Error, InternalValue, IterItem, SeqNo, ValueType};
 use std::alloc::{Allocator, Global};
 use std::ops::Bound;
 use std::test::Fail;
-use writer_examples::rows::{Row, entry, written};
 
 const ROWS: [Row<'static>; 4] = [
     (b"a", 9, ValueType::Value, b"x"),

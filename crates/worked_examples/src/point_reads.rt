@@ -1,6 +1,8 @@
 //! Point reads of a table that is written and opened.
-use crate::large::asked;
 use crate::tables::{opened_in_blocks, written, written_in_blocks};
+use example_tables::large::asked;
+use example_tables::rows::Row;
+use example_tables::tables::{open, read};
 use lsm_tables::{Table, point_in};
 use refusing::each_refused;
 use sst_blocks::{
@@ -9,8 +11,6 @@ use sst_blocks::{
 };
 use std::alloc::{Allocator, Global};
 use std::test::Fail;
-use stored_examples::tables::{open, read};
-use writer_examples::rows::Row;
 
 // Lists the handles of the blocks that it loads: where each lies, and its size.
 #[derive(Drop)]

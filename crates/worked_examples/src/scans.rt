@@ -1,13 +1,13 @@
 //! Whole tables, read in order.
-use crate::large::{asked, asked_mut};
 use crate::tables::opened_in_blocks;
+use example_tables::large::{asked, asked_mut};
+use example_tables::stored::{filter_parts, one_entry, one_entry_filtered, two_levels};
+use example_tables::tables::{open, overwritten};
 use lsm_tables::{Scanner, Table};
 use refusing::{Refusing, each_refused};
 use sst_blocks::{BlockSource, CompressionType, Error, IterItem, SeqNo, Slice};
 use std::alloc::{Allocator, Global};
 use std::test::Fail;
-use stored_examples::stored::{filter_parts, one_entry, one_entry_filtered, two_levels};
-use stored_examples::tables::{open, overwritten};
 
 /// What a step of a scan gives: the number of an entry, a refusal, or nothing.
 type Step = Option<Result<SeqNo, Error>>;

@@ -1,14 +1,14 @@
 //! What a table says of itself.
-use crate::large::asked;
 use crate::tables::written;
+use example_tables::large::asked;
+use example_tables::rows::Row;
+use example_tables::tables::open;
 use lsm_ranges::Ranged;
 use lsm_tables::Table;
 use sst_blocks::{Error, ValueType};
 use std::alloc::Global;
 use std::ops::Bound;
 use std::test::Fail;
-use stored_examples::tables::open;
-use writer_examples::rows::Row;
 
 // A table of `a` and `b`.
 fn table_of_two(alloc: Global) -> Result<Table, Error> {

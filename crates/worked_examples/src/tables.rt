@@ -1,10 +1,10 @@
 //! Tables that several of the tests write.
+use example_tables::rows::{Row, fill, new_writer};
+use example_tables::tables::open;
 use lsm_tables::Table;
 use lsm_writers::FinishedTable;
 use sst_blocks::{Error, SeqNo, Slice, ValueType};
 use std::alloc::Allocator;
-use stored_examples::tables::open;
-use writer_examples::rows::{Row, fill, new_writer};
 
 pub(crate) const ROWS: [Row<'static>; 4] = [
     (b"a", 9, ValueType::Value, b""),

@@ -1,12 +1,12 @@
 //! Tables that are written and opened.
-use crate::large::asked;
 use crate::tables::{bytes_of, written};
+use example_tables::large::asked;
+use example_tables::rows::{Row, fill, new_writer};
+use example_tables::tables::{open, read};
 use lsm_tables::Table;
 use sst_blocks::{Error, ValueType};
 use std::alloc::Global;
 use std::test::Fail;
-use stored_examples::tables::{open, read};
-use writer_examples::rows::{Row, fill, new_writer};
 
 // Opens a table whose index has an interval of two.
 fn open_interval_of_two(alloc: Global) -> Result<(), Error> {

@@ -1,5 +1,5 @@
 //! Tables that are written one after another.
-use crate::rows::written;
+use example_tables::rows::written;
 use lsm_writers::{
     FinishedTable, MultiWriter, TableId, TableIds, Timestamp, is_writable, write_list,
 };

@@ -1,6 +1,6 @@
 //! What writers count, cut, write and refuse.
 use crate::one_entry_v4;
-use crate::rows::{Row, entry, fill, filled, new_writer, put_rows, written};
+use example_tables::rows::{Row, entry, fill, filled, new_writer, put_rows, written};
 use lsm_writers::{
     BlockIndexWriter, FinishedTable, FullIndexWriter, GlobalTableId, Metadata, Timestamp, Writer,
 };

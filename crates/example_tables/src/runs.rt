@@ -1,13 +1,13 @@
 //! Runs of small tables, bounds, and the names of entries.
 use crate::large::add;
+use crate::rows::{Row, fill, new_writer};
+use crate::tables::{open, overwritten};
 use lsm_ranges::Run;
 use lsm_tables::Table;
 use sst_blocks::{Error, IterItem, SeqNo, Slice, UserKey};
 use std::alloc::Allocator;
 use std::ops::Bound;
 use std::sync::Arc;
-use stored_examples::tables::{open, overwritten};
-use writer_examples::rows::{Row, fill, new_writer};
 
 pub type Bounds<'a> = (Bound<&'a [u8]>, Bound<&'a [u8]>);
 

@@ -1,9 +1,10 @@
 //! Large values, which are asked something and let go of. What stands here is generic in them, so that no part of a value is
 //! looked at.
 use sst_blocks::Error;
+use std::alloc::Allocator;
 
 /// What is asked of a large value, which is let go of here alone, or why there is none.
-pub(crate) fn asked<T: Drop, U, F: FnOnce(&T) -> Result<U, Error> + Drop>(
+pub fn asked<T: Drop, U, F: FnOnce(&T) -> Result<U, Error> + Drop>(
     made: Result<T, Error>,
     ask: F,
 ) -> Result<U, Error>
@@ -13,7 +14,7 @@ pub(crate) fn asked<T: Drop, U, F: FnOnce(&T) -> Result<U, Error> + Drop>(
 }
 
 /// The same of a value that changes as it is asked.
-pub(crate) fn asked_mut<T: Drop, U, F: FnOnce(&mut T) -> Result<U, Error> + Drop>(
+pub fn asked_mut<T: Drop, U, F: FnOnce(&mut T) -> Result<U, Error> + Drop>(
     made: Result<T, Error>,
     ask: F,
 ) -> Result<U, Error>
@@ -23,7 +24,7 @@ pub(crate) fn asked_mut<T: Drop, U, F: FnOnce(&mut T) -> Result<U, Error> + Drop
 }
 
 /// The same of a value that there may be none of.
-pub(crate) fn asked_if_any<T: Drop, U, F: FnOnce(&mut T) -> Result<U, Error> + Drop>(
+pub fn asked_if_any<T: Drop, U, F: FnOnce(&mut T) -> Result<U, Error> + Drop>(
     made: Result<Option<T>, Error>,
     ask: F,
 ) -> Result<Option<U>, Error>
@@ -33,4 +34,13 @@ pub(crate) fn asked_if_any<T: Drop, U, F: FnOnce(&mut T) -> Result<U, Error> + D
         Some(mut value) => Ok(Some(ask(&mut value)?)),
         None => Ok(None),
     }
+}
+
+/// Puts a large value behind others, or says why there is none.
+pub fn add<T: Drop, A: Allocator>(
+    values: &mut Vec<T, A>,
+    made: Result<T, Error>,
+) -> Result<(), Error> {
+    values.push(made?)?;
+    Ok(())
 }

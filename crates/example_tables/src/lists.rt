@@ -3,14 +3,14 @@ ghost use Rattle.std.specs.Prelude.{IfOk};
 ghost use Rattle.lsm_writers.specs.Writing.{IsWritable};
 ghost use Rattle.sst_entries.specs.Stream.{CanDeal};
 
-use crate::tables::{Bounds, Name, Tables, name_of, owned_range};
+use crate::rows::{Row, entry};
+use crate::runs::{Bounds, Name, Tables, name_of, owned_range};
 use lsm_merge::Merger;
 use lsm_sorted::MvccStream;
 use lsm_tables::{RunReader, range_runs};
 use lsm_writers::is_writable;
 use sst_blocks::{Direction, Error, InternalValue, IterItem, answers_at};
 use std::alloc::Allocator;
-use writer_examples::rows::{Row, entry};
 
 /// The newest versions of several runs.
 pub type Stream<A> = MvccStream<Merger<RunReader<A>, A>>;
