@@ -28,3 +28,5 @@ pub mod Windows
 pub mod FileWindows
 pub mod FileRanges
 pub mod TableRanges
+pub mod ManyReads
+pub mod ManyOfList

@@ -4,6 +4,7 @@ pub mod Meta
 pub mod Parts
 pub mod Table
 pub mod Answer
+pub mod Many
 pub mod BlockIndexes
 pub mod OfList
 pub mod Scan

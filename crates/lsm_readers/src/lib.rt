@@ -19,4 +19,4 @@ pub use meta::ParsedMeta;
 pub use point::point_in;
 pub use regions::ParsedRegions;
 pub use scanner::Scanner;
-pub use table::{Table, TableInner};
+pub use table::{Query, Table, TableInner, get_many};

@@ -12,6 +12,7 @@ ghost use Rattle.sst_blocks.specs.declared.block_type.BlockType.TheVariants.{Dat
 ghost use Rattle.sst_entries.specs.declared.error.Error.{Error};
 ghost use Rattle.sst_entries.specs.declared.error.Error.TheVariants.{GlobalSeqNoTooLarge, OutOfMemory};
 
+mod queries;
 mod range;
 
 use crate::inner::PinnedBlocks;
@@ -20,6 +21,7 @@ use lsm_block_indexes::{BlockIndexImpl, FullBlockIndex, TwoLevelBlockIndex, Vola
 use lsm_files::{TableId, TreeId};
 use lsm_iters::beside;
 use lsm_ranges::{KeyRange, Ranged};
+pub use queries::{Query, get_many};
 use sst_blocks::{
     BlockHandle, BlockSource, BlockType, Checksum, Counted, Error, FilterBlock, Header, IndexBlock,
     InternalValue, Opened, SeqNo, Slice, hash,

@@ -17,8 +17,8 @@ pub use lsm_compactions::{
 pub use lsm_readers::{
     BlockIndex, BlockIndexImpl, BlockIndexIter, BlockIndexIterImpl, Bound, FullBlockIndex,
     GlobalTableId, Inner, Iter, OwnedDataBlockIter, OwnedIndexBlockIter, ParsedMeta, ParsedRegions,
-    PinnedBlockIndex, Scanner, Table, TableId, TableInner, Timestamp, TreeId, TwoLevelBlockIndex,
-    VolatileBlockIndex, point_in,
+    PinnedBlockIndex, Query, Scanner, Table, TableId, TableInner, Timestamp, TreeId,
+    TwoLevelBlockIndex, VolatileBlockIndex, get_many, point_in,
 };
 pub use lsm_runs::{RunReader, RunScanner, get_runs, get_runs_counted, range_runs};
 pub use one_answer::{PointAndScan, Ranges, read_each_way};

@@ -4,6 +4,7 @@ ghost use Rattle.std.specs.Iterator.{IsFinite};
 use crate::builds::{Written, write_next};
 use crate::digest::{Digest, code};
 use crate::files::{open, scanners_of, tables_of};
+use crate::scans::scan;
 use lsm_sorted::Merger;
 use lsm_sorted::compaction::stream::CompactionStream;
 use lsm_tables::Table;
@@ -43,8 +44,22 @@ fn next_table(
     Ok(())
 }
 
-fn write_all<I: Iterator<Item = IterItem<Global>>>(
+// Writes an entry, into the next table where this one has reached its size.
+fn write_item(
     alloc: Global,
+    writer: &mut Writer,
+    item: IterItem<Global>,
+    target: u64,
+    out: &mut Vec<FinishedTable>,
+) -> Result<(), Error> {
+    let item = item?;
+    next_table(alloc, writer, target, out)?;
+    write_next(writer, item)
+}
+
+fn write_each<I: Iterator<Item = IterItem<Global>>>(
+    alloc: Global,
+    writer: &mut Writer,
     stream: &mut I,
     target: u64,
     out: &mut Vec<FinishedTable>,
@@ -52,22 +67,42 @@ fn write_all<I: Iterator<Item = IterItem<Global>>>(
     requires can { I.can_next stream.old }
     requires finite { IsFinite (I.remaining stream.old) }
 {
-    let mut writer = new_writer(alloc, 1)?;
     while let Some(item) = stream.next() {
-        let item = item?;
-        next_table(alloc, &mut writer, target, out)?;
-        write_next(&mut writer, item)?;
+        write_item(alloc, writer, item, target, out)?;
     }
+    Ok(())
+}
+
+// Finishes the last table, if all was written.
+fn finish_last(
+    writer: Writer,
+    written: Result<(), Error>,
+    out: &mut Vec<FinishedTable>,
+) -> Result<(), Error> {
+    written?;
     finish(writer, out)
+}
+
+fn write_all<I: Iterator<Item = IterItem<Global>>>(
+    alloc: Global,
+    stream: &mut I,
+    target: u64,
+) -> Result<Vec<FinishedTable>, Error>
+    requires can { I.can_next stream.old }
+    requires finite { IsFinite (I.remaining stream.old) }
+{
+    let mut out = Vec::new(alloc);
+    let mut writer = new_writer(alloc, 1)?;
+    let written = write_each(alloc, &mut writer, stream, target, &mut out);
+    finish_last(writer, written, &mut out)?;
+    Ok(out)
 }
 
 // Of each key the newest version, in tables of about the target's size.
 fn compacted(alloc: Global, tables: &[Table], target: u64) -> Result<Vec<FinishedTable>, Error> {
     let merger = Merger::new(alloc, scanners_of(alloc, tables)?)?;
     let mut stream = CompactionStream::new(merger, SeqNo::MAX);
-    let mut out = Vec::new(alloc);
-    write_all(alloc, &mut stream, target, &mut out)?;
-    Ok(out)
+    write_all(alloc, &mut stream, target)
 }
 
 fn written_of(tables: &[FinishedTable]) -> Written {
@@ -109,12 +144,13 @@ pub extern "C" fn sst_bench_compact(
     code(compact_passes(alloc, files, lens, target, passes, written))
 }
 
+fn scan_written(alloc: Global, table: FinishedTable, digest: &mut Digest) -> Result<(), Error> {
+    scan(&open(alloc, table.bytes)?, digest)
+}
+
 fn scan_all(alloc: Global, tables: Vec<FinishedTable>, digest: &mut Digest) -> Result<(), Error> {
     for table in tables {
-        let opened = open(alloc, table.bytes)?;
-        for item in opened.scan()? {
-            digest.add(&item?);
-        }
+        scan_written(alloc, table, digest)?;
     }
     Ok(())
 }

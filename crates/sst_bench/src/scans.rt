@@ -1,16 +1,24 @@
 //! Scans of one table.
 use crate::digest::{Digest, code};
 use crate::files::open_copy;
+use lsm_tables::Table;
 use sst_blocks::Error;
 use std::alloc::Global;
+
+// Takes all that a scan gives.
+#[inline(always)]
+pub(crate) fn scan(table: &Table, digest: &mut Digest) -> Result<(), Error> {
+    for item in table.scan()? {
+        digest.add(&item?);
+    }
+    Ok(())
+}
 
 fn scan_passes(alloc: Global, file: &[u8], passes: u64, digest: &mut Digest) -> Result<(), Error> {
     let table = open_copy(alloc, file)?;
     for _ in 0..passes {
         *digest = Digest::empty();
-        for item in table.scan()? {
-            digest.add(&item?);
-        }
+        scan(&table, digest)?;
     }
     Ok(())
 }

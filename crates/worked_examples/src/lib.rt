@@ -10,6 +10,8 @@ mod lists;
 #[cfg(test)]
 mod point_reads;
 #[cfg(test)]
+mod queries;
+#[cfg(test)]
 mod scans;
 #[cfg(test)]
 mod surface;

@@ -1,0 +1,128 @@
+//! Many reads of one table at once.
+use crate::tables::{opened_in_blocks, written_in_blocks};
+use example_tables::large::asked;
+use example_tables::runs::is_right;
+use example_tables::stored::one_entry;
+use example_tables::tables::{open, overwritten};
+use lsm_tables::{Query, Table, get_many};
+use refusing::{Refusing, each_refused};
+use sst_blocks::{Error, InternalValue, SeqNo, Slice};
+use std::alloc::{Allocator, Global};
+use std::test::Fail;
+
+// A key and a bound.
+type Sought = (&'static [u8], SeqNo);
+
+// The numbers that queries find.
+type Numbers<A> = Result<Vec<Option<SeqNo>, A>, Error>;
+
+fn query<A: Allocator + Copy>(alloc: A, sought: &Sought) -> Result<Query<A>, Error> {
+    Ok(Query {
+        key: Slice::from(alloc, sought.0)?,
+        seqno: sought.1,
+    })
+}
+
+fn queries_of<A: Allocator + Copy>(alloc: A, sought: &[Sought]) -> Result<Vec<Query<A>, A>, Error> {
+    let mut queries = Vec::new(alloc);
+    for one in sought {
+        queries.push(query(alloc, one)?)?;
+    }
+    Ok(queries)
+}
+
+fn numbers_of<A: Allocator>(alloc: A, found: Vec<Option<InternalValue<A>>, A>) -> Numbers<A> {
+    let mut numbers = Vec::new(alloc);
+    for item in found {
+        numbers.push(item.map(|item| item.key.seqno))?;
+    }
+    Ok(numbers)
+}
+
+fn found_in<A: Allocator + Copy>(alloc: A, table: &Table<A>, sought: &[Sought]) -> Numbers<A> {
+    let queries = queries_of(alloc, sought)?;
+    numbers_of(alloc, get_many(table, &queries)?)
+}
+
+// The same. Where it is refused for want of memory, it is asked again.
+fn repeated<A: Allocator + Copy>(alloc: A, table: &Table<A>, sought: &[Sought]) -> Numbers<A> {
+    match found_in(alloc, table, sought) {
+        Err(Error::OutOfMemory) => found_in(alloc, table, sought),
+        found => found,
+    }
+}
+
+// What queries find in a table of three versions of `a` and one of `b`, each in a block of its own.
+fn found<A: Allocator + Copy>(alloc: A, sought: &[Sought]) -> Numbers<A> {
+    asked(opened_in_blocks(alloc, 0), |table| {
+        repeated(alloc, table, sought)
+    })
+}
+
+fn cloned(table: Table) -> Result<Table, Error> {
+    Ok(table.clone()?)
+}
+
+// What they find in its clone once the table is gone.
+fn found_in_clone(alloc: Global, sought: &[Sought]) -> Numbers<Global> {
+    let copy = cloned(opened_in_blocks(alloc, 0)?);
+    asked(copy, |table| found_in(alloc, table, sought))
+}
+
+// Three queries, the first one again, and what they find.
+const SOUGHT: [Sought; 4] = [(b"a", 8), (b"a", 5), (b"c", 100), (b"a", 8)];
+
+const FOUND: [Option<SeqNo>; 4] = [Some(7), None, None, Some(7)];
+
+#[test]
+fn each_query_has_its_answer_in_its_place(rt: HostRuntime) -> Result<(), Fail> {
+    for count in [0, 3, 4] {
+        let (sought, numbers) = (&SOUGHT[..count], &FOUND[..count]);
+        assert!(rt; found(rt.alloc(), sought)?.as_slice() == numbers);
+        assert!(rt; found_in_clone(rt.alloc(), sought)?.as_slice() == numbers);
+    }
+    Ok(())
+}
+
+// What queries find in a stored table of a@1 whose one data block is damaged.
+fn found_in_damaged(alloc: Global, sought: &[Sought]) -> Numbers<Global> {
+    let bytes = overwritten(alloc, &one_entry::BYTES, &[(44, b"y")])?;
+    asked(open(alloc, bytes, 0), |table| {
+        found_in(alloc, table, sought)
+    })
+}
+
+#[test]
+fn a_query_that_is_refused_leaves_no_answers(rt: HostRuntime) -> Result<(), Fail> {
+    let refused = found_in_damaged(rt.alloc(), &[(b"c", 2), (b"a", 2), (b"a", 1)]);
+    assert!(rt; refused.is_err_and(|error| error == Error::ChecksumMismatch));
+    let none = found_in_damaged(rt.alloc(), &[(b"c", 2), (b"a", 1)])?;
+    assert!(rt; none.as_slice() == [None, None].as_slice());
+    Ok(())
+}
+
+// What they find in that of several blocks, where that of a@7 and that of b@1 are damaged in two ways.
+fn found_in_two_damaged(alloc: Global, sought: &[Sought]) -> Numbers<Global> {
+    let written = written_in_blocks(alloc)?;
+    let bytes = overwritten(alloc, written.as_slice(), &[(91, b"?"), (138, b"?")])?;
+    asked(open(alloc, bytes, 0), |table| {
+        found_in(alloc, table, sought)
+    })
+}
+
+#[test]
+fn the_earliest_refusal_is_answered(rt: HostRuntime) {
+    let first = found_in_two_damaged(rt.alloc(), &[(b"a", 10), (b"a", 8), (b"b", 2)]);
+    assert!(rt; first.is_err_and(|error| error == Error::ChecksumMismatch));
+    let second = found_in_two_damaged(rt.alloc(), &[(b"b", 2), (b"a", 10), (b"a", 8)]);
+    assert!(rt; second.is_err_and(|error| error == Error::InvalidHeader));
+}
+
+#[test]
+fn each_request_of_many_reads_refused(rt: HostRuntime) {
+    let answers = each_refused(rt.alloc(), |heap: &Refusing, may_fail: bool| {
+        let right = found(heap, &SOUGHT[..3]).map(|found| found.as_slice() == &FOUND[..3]);
+        is_right(right, may_fail)
+    });
+    assert!(rt; answers.is_ok());
+}
