@@ -1,7 +1,7 @@
 -- What a reader of a run deals, how many tables it opens, and how far off its end is.
 use Rattle.std.proofs.Common.{◌≡◌, ℕ, zero, suc, ◌+◌, ◌-◌, ◌<◌, ◌≤◌, List, [], ◌∷◌, ◌++◌, drop, length, take, refl, sym, ap, subst, ◌∙◌, arith}
 use Rattle.std.proofs.lemmas.List.{length-append, length-take, length-drop}
-use Rattle.std.specs.Prelude.{Option, Some, None, Ok, Err}
+use Rattle.std.specs.Prelude.{Option, Some, None, Result, Ok, Err, IfOk}
 use Rattle.sst_entries.specs.declared.stream.Direction.{Direction}
 use Rattle.sst_entries.specs.declared.stream.Direction.TheVariants.{Front, Back}
 use Rattle.sst_entries.specs.Stream.{Runs, front_of, back_of}
@@ -65,3 +65,8 @@ module _ {A : Type 0} where
 -- what stands between two places
 pub few_between : {X : Type 0} (xs : List X) (lo hi : ℕ) → length (take (hi - lo) (drop lo xs)) ≤ hi - lo
 few_between xs lo hi = omega (arith, length-take (hi - lo) (drop lo xs))
+
+-- two facts of a success give another
+pub if_ok_both : {Y E : Type 0} {P Q S : Y → Type 0} (r : Result Y E) → ((y : Y) → P y → Q y → S y) → IfOk r P → IfOk r Q → IfOk r S
+if_ok_both (Ok y) h p q = h y p q
+if_ok_both (Err e) h p q = p

@@ -5,6 +5,7 @@ ghost use Rattle.std.specs.List.{AllByRecursion, AllZip};
 ghost use Rattle.std.specs.Ordering.{is_lt};
 ghost use Rattle.sst_entries.specs.declared.error.Error.TheVariants.{OutOfMemory};
 ghost use Rattle.sst_sections.specs.Fnv.{fnv1a};
+ghost use Rattle.lsm_sorted.specs.NewestLaws.{AnswersNewest, CanAskNewest, DealsNewest, IsNewestOf};
 ghost use Rattle.lsm_runs.specs.Words.{CanDeal, DealTogether, DealsList, DoesRead, Entry};
 ghost use Rattle.lsm_runs.specs.Words.{FaultsFirst, Gives, HoldLists, IsInOrder, IsOverSpans};
 ghost use Rattle.lsm_runs.specs.Words.{IsRunOf, LoadsEach, Opens, RunsHoldLists, item_cmp};
@@ -18,7 +19,7 @@ use lsm_merge::Merger;
 use lsm_ranges::Run;
 use lsm_readers::Table;
 use lsm_sorted::{MvccStream, newest_from_both_ends, newest_of};
-use sst_blocks::{Error, InternalValue, Opened, SeqNo, UserKey};
+use sst_blocks::{Error, InternalValue, IterItem, Opened, SeqNo, UserKey};
 use std::alloc::Allocator;
 use std::ops::Bound;
 use std::sync::Arc;
@@ -73,6 +74,50 @@ fn readers_of<A: Allocator + Clone>(
     Ok(readers)
 }
 
+// The same, where the bounds are let go of.
+fn readers_within<A: Allocator + Clone>(
+    alloc: A,
+    runs: &[Arc<Run<Table<A>, A>, A>],
+    range: (Bound<UserKey<A>>, Bound<UserKey<A>>),
+) -> Result<Vec<RunReader<A>, A>, Error>
+    ensures list { let gives = ⟦<RunReader<A> as Iterator>⟧.next_gives in
+        let back_gives = ⟦<RunReader<A> as DoubleEndedIterator>⟧.next_back_gives in
+        (lists : List (List (List Entry))) → RunsHoldLists (map arc_value runs.now) lists →
+        let found = map (λ ls. within range.0 range.1 (joined ls)) lists in
+        IfOk result (λ v. DealTogether gives back_gives v.items found) }
+    ensures spans { AllByRecursion (IsInOrder range_of) (map arc_value runs.now) →
+        IfOk result (λ v. AllZip (λ reader span. IsRunOf span.0 span.1 reader) v.items
+        (spans_within range.0 range.1 (map arc_value runs.now))) }
+    ensures err { IfErr result (λ e. e ≡ OutOfMemory) }
+{
+    readers_of(alloc, runs, &range)
+}
+
+// The newest versions of sources with two ends. It is generic in these, so that none of a reader's parts is looked at.
+fn newest_from<I: DoubleEndedIterator<Item = IterItem<A>>, A: Allocator + Clone>(
+    alloc: A,
+    sources: Vec<I, A>,
+) -> Result<MvccStream<Merger<I, A>>, Error>
+    ensures starts { IfOk result (IsNewestOf sources.items) }
+    ensures deals { IfOk result (DealsNewest I.next_gives I.next_back_gives sources.items
+        ⟦<MvccStream<Merger<I, A>> as Iterator>⟧.next_gives
+        ⟦<MvccStream<Merger<I, A>> as DoubleEndedIterator>⟧.next_back_gives) }
+    ensures past { IfOk result (AnswersNewest I.next_gives I.next_back_gives sources.items
+        ⟦<MvccStream<Merger<I, A>> as Iterator>⟧.next_gives
+        ⟦<MvccStream<Merger<I, A>> as DoubleEndedIterator>⟧.next_back_gives) }
+    ensures can { IfOk result (CanAskNewest I.next_gives I.next_back_gives I.can_next
+        I.can_next_back I.remaining sources.items
+        ⟦<MvccStream<Merger<I, A>> as Iterator>⟧.next_gives
+        ⟦<MvccStream<Merger<I, A>> as DoubleEndedIterator>⟧.next_back_gives
+        ⟦<MvccStream<Merger<I, A>> as Iterator>⟧.can_next
+        ⟦<MvccStream<Merger<I, A>> as DoubleEndedIterator>⟧.can_next_back) }
+    ensures err { IfErr result (λ e. e ≡ OutOfMemory) }
+{
+    let stream = newest_of(alloc, sources)?;
+    newest_from_both_ends(&stream);
+    Ok(stream)
+}
+
 /// The newest version of each key within both bounds, of what several runs have together, from both ends. No table is opened
 /// yet. Refused [`Error::OutOfMemory`] alone.
 pub fn range_runs<A: Allocator + Clone>(
@@ -103,10 +148,8 @@ pub fn range_runs<A: Allocator + Clone>(
         ⟦<MvccStream<Merger<RunReader<A>, A>> as DoubleEndedIterator>⟧.can_next_back s) }
     ensures err { IfErr result (λ e. e ≡ OutOfMemory) }
 {
-    let readers = readers_of(alloc.clone()?, runs, &range)?;
-    let stream = newest_of(alloc, readers)?;
-    newest_from_both_ends(&stream);
-    Ok(stream)
+    let readers = readers_within(alloc.clone()?, runs, range)?;
+    newest_from(alloc, readers)
 }
 
 // The first match in the one table of a run whose range has the key, with how many blocks were loaded for it.
