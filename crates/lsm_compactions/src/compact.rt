@@ -1,11 +1,11 @@
 //! Compacting several runs into new tables.
-ghost use Rattle.std.specs.Prelude.{◌≡◌, ◌<◌, IfErr, IfOk, List, length, map};
+ghost use Rattle.std.specs.Prelude.{◌≡◌, ◌<◌, All, IfErr, IfOk, List, length, map};
 ghost use Rattle.std.specs.Arc.{arc_value};
 ghost use Rattle.std.specs.Iterator.{IsFinite};
 ghost use Rattle.sst_entries.specs.declared.error.Error.TheVariants.{OutOfMemory};
 ghost use Rattle.lsm_compactions.specs.ReadsCompacted.{PointsStay, RangesStay, SideBySide};
 ghost use Rattle.lsm_compactions.specs.ReadsCompacted.{StayStrict, StayWritable};
-ghost use Rattle.lsm_compactions.specs.Words.{AreCompactable, AreWrittenBy, DealTogether, DealsList};
+ghost use Rattle.lsm_compactions.specs.Words.{AreCompactable, AreWrittenBy, CanDeal, DealTogether, DealsList};
 ghost use Rattle.lsm_compactions.specs.Words.{DealsWritable, Entry, Faults, FitsBy, HaveEntries};
 ghost use Rattle.lsm_compactions.specs.Words.{HoldLists, IsFreshRun, RunsHoldLists, RunsOn, joined};
 ghost use Rattle.lsm_compactions.specs.Words.{kept_in, nowhere, rules_by, writes_fault};
@@ -52,6 +52,34 @@ fn scanners_of<A: Allocator + Clone>(
     Ok(scanners)
 }
 
+// What is kept of all entries of some sources together, in order. It is generic in these, so that none of a scanner's parts is
+// looked at.
+fn kept_from<I: Iterator<Item = IterItem<A>>, A: Allocator + Clone>(
+    alloc: A,
+    sources: Vec<I, A>,
+    gc_seqno_threshold: SeqNo,
+    evict_tombstones: bool,
+    zero_seqnos: bool,
+) -> Result<CompactionStream<Merger<I, A>>, Error>
+    ensures can { All (CanDeal I.next_gives nowhere I.can_next I.can_next) sources.items →
+        All (λ s. IsFinite (I.remaining s)) sources.items →
+        IfOk result ⟦<CompactionStream<Merger<I, A>> as Iterator>⟧.can_next }
+    ensures list { let rules = rules_by gc_seqno_threshold evict_tombstones zero_seqnos in
+        let gives = ⟦<CompactionStream<Merger<I, A>> as Iterator>⟧.next_gives in
+        (lists : List (List (List Entry))) →
+        DealTogether I.next_gives nowhere sources.items (map joined lists) →
+        IfOk result (DealsList gives nowhere (kept_in rules lists)) }
+    ensures err { IfErr result (λ e. e ≡ OutOfMemory) }
+{
+    let merger = Merger::new(alloc, sources)?;
+    let stream = CompactionStream::new(merger, gc_seqno_threshold)
+        .evict_tombstones(evict_tombstones)
+        .zero_seqnos(zero_seqnos);
+    // What it goes through it deals compacted.
+    stream.unfiltered_run();
+    Ok(stream)
+}
+
 // What is kept of all entries of the runs together, in order.
 fn kept_of<A: Allocator + Clone>(
     alloc: A,
@@ -70,13 +98,13 @@ fn kept_of<A: Allocator + Clone>(
     ensures err { IfErr result (λ e. e ≡ OutOfMemory) }
 {
     let scanners = scanners_of(alloc.clone()?, runs)?;
-    let merger = Merger::new(alloc, scanners)?;
-    let stream = CompactionStream::new(merger, gc_seqno_threshold)
-        .evict_tombstones(evict_tombstones)
-        .zero_seqnos(zero_seqnos);
-    // What it goes through it deals compacted.
-    stream.unfiltered_run();
-    Ok(stream)
+    kept_from(
+        alloc,
+        scanners,
+        gc_seqno_threshold,
+        evict_tombstones,
+        zero_seqnos,
+    )
 }
 
 // Writes all that a stream deals, and finishes. Refused as the writer is.
