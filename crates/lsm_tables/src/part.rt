@@ -84,6 +84,36 @@ fn read_side_by_side<A: Allocator + Clone>(
     read_runs(alloc, &runs, key, seqno, range)
 }
 
+// The same within bounds that are for other reads too.
+fn read_within<A: Allocator + Clone>(
+    alloc: A,
+    front: &[Arc<Run<Table<A>, A>, A>],
+    part: &[Arc<Run<Table<A>, A>, A>],
+    behind: &[Arc<Run<Table<A>, A>, A>],
+    key: &[u8],
+    seqno: SeqNo,
+    range: &(Bound<UserKey<A>>, Bound<UserKey<A>>),
+) -> Result<Reads<A>, Error>
+    ensures list { let gives = ⟦<MvccStream<Merger<RunReader<A>, A>> as Iterator>⟧.next_gives in
+        let back_gives =
+        ⟦<MvccStream<Merger<RunReader<A>, A>> as DoubleEndedIterator>⟧.next_back_gives in
+        let low = range.now.0 in let high = range.now.1 in
+        (fs ps bs : List (List (List Entry))) → HoldSides (map arc_value front.now)
+        (map arc_value part.now) (map arc_value behind.now) fs ps bs → IfOk result
+        (ReadsOf gives back_gives key.now seqno low high (union_in (fs ++ (ps ++ bs)))) }
+    ensures can { IfOk result (λ read.
+        CanDeal ⟦<MvccStream<Merger<RunReader<A>, A>> as Iterator>⟧.next_gives
+        ⟦<MvccStream<Merger<RunReader<A>, A>> as DoubleEndedIterator>⟧.next_back_gives
+        ⟦<MvccStream<Merger<RunReader<A>, A>> as Iterator>⟧.can_next
+        ⟦<MvccStream<Merger<RunReader<A>, A>> as DoubleEndedIterator>⟧.can_next_back read.1) }
+    ensures taken { (fs ps bs : List (List (List Entry))) → HoldSides (map arc_value front.now)
+        (map arc_value part.now) (map arc_value behind.now) fs ps bs →
+        IfErr result (λ e. e ≡ OutOfMemory) }
+{
+    let bounds = (share(&range.0)?, share(&range.1)?);
+    read_side_by_side(alloc, front, part, behind, key, seqno, bounds)
+}
+
 // A run alone, as one that is shared; none where there is none.
 fn shared_alone<A: Allocator + Clone>(
     alloc: A,
@@ -260,8 +290,7 @@ pub fn compact_part_back<A: Allocator + Clone>(
         FitsAsTables ids target_size (kept_in rules ps) → IfErr result (λ e. e ≡ OutOfMemory) }
 {
     compaction_law();
-    let bounds = (share(&range.0)?, share(&range.1)?);
-    let before = read_side_by_side(alloc.clone()?, front, part, behind, key, seqno, bounds)?;
+    let before = read_within(alloc.clone()?, front, part, behind, key, seqno, &range)?;
     let after = read_compacted(
         alloc,
         front,

@@ -1,13 +1,11 @@
-use Rattle.std.proofs.Common.{◌++◌}
 use Rattle.std.specs.Prelude.{◌≡◌}
 use Rattle.sst_entries.specs.declared.error.Error.{Error}
 use Rattle.sst_entries.specs.declared.error.Error.TheVariants.{OutOfMemory}
 use Rattle.lsm_compactions.specs.Chain.{tables_fault}
 use Rattle.lsm_compactions.specs.Compacted.{kept_in, rules_by}
-use Rattle.lsm_runs.specs.SeveralRuns.{union_in}
 use Rattle.lsm_runs.proofs.OneList.{beside_ok}
 use Rattle.lsm_tables.proofs.Beside.{beside_errs, beside_faults, beside_former, beside_later, beside_tied}
-use Rattle.lsm_tables.proofs.PartRuns.{alike, same_bounds}
+use Rattle.lsm_tables.proofs.PartRuns.{alike}
 use Rattle.lsm_tables.proofs.part.compact_part_back.Goals as goal
 
 pub returns-clause-refused : goal.returns-clause-refused
@@ -22,9 +20,8 @@ returns-clause-taken g c fs ps bs h fits =
 
 pub returns-clause-before : goal.returns-clause-before
 returns-clause-before g c fs ps bs h =
-    let a = c.args in
     beside_former c.in_ok-before.before _ c.read_compacted-after.result c.beside.result c.beside.ensures.both
-    (same_bounds _ _ a.key.now a.seqno c.in_ok-share.field-0 a.range.0 c.in_ok-share-2.field-0 a.range.1 (union_in (fs ++ (ps ++ bs))) c.in_ok-before.before c.in_ok-share.ensures c.in_ok-share-2.ensures (c.in_ok-before.ensures.list fs ps bs h))
+    (c.in_ok-before.ensures.list fs ps bs h)
 
 pub returns-clause-after : goal.returns-clause-after
 returns-clause-after g c fs ps bs h =
@@ -34,7 +31,7 @@ pub returns-clause-alike : goal.returns-clause-alike
 returns-clause-alike g c fs ps bs h strict safe =
     let a = c.args in
     let law = c.compaction_law.ensures in
-    let before = same_bounds _ _ a.key.now a.seqno c.in_ok-share.field-0 a.range.0 c.in_ok-share-2.field-0 a.range.1 (union_in (fs ++ (ps ++ bs))) c.in_ok-before.before c.in_ok-share.ensures c.in_ok-share-2.ensures (c.in_ok-before.ensures.list fs ps bs h) in
+    let before = c.in_ok-before.ensures.list fs ps bs h in
     beside_tied c.in_ok-before.before _ _ c.read_compacted-after.result c.beside.result c.beside.ensures.both
     (λ after kept. alike _ _ a.key.now a.seqno a.range.0 a.range.1 (rules_by a.gc_seqno_threshold a.evict_tombstones a.zero_seqnos) fs ps bs law.points law.ranges law.side_by_side c.in_ok-before.before after before kept strict safe)
     (c.read_compacted-after.ensures.list fs ps bs h)
