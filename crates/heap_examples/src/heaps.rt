@@ -107,11 +107,20 @@ fn pop_alike(
 }
 
 // Whether both queues are empty, and give up nothing.
-fn give_up_nothing(queue: &mut Tournament<u8>, heap: &mut IntervalHeap<u8>) -> bool {
+fn give_up_nothing(mut queue: Tournament<u8>, mut heap: IntervalHeap<u8>) -> bool {
     let are_empty = queue.len() == 0 && heap.len() == 0;
     let queue_gives = queue.pop_min().is_some() | queue.pop_max().is_some();
     let heap_gives = heap.pop_min().is_some() | heap.pop_max().is_some();
     are_empty && !queue_gives && !heap_gives
+}
+
+// How often each of some numbers is there.
+fn counts_of(items: &[u8]) -> Counts {
+    let mut counts = Counts { of: [0; 3] };
+    for item in items {
+        counts.put(*item);
+    }
+    counts
 }
 
 // Whether both queues, which hold some numbers, give up the least and the greatest in turn as the
@@ -122,18 +131,15 @@ fn pop_all_alike(
     items: &[u8],
     mut pattern: u32,
 ) -> bool {
-    let mut counts = Counts { of: [0; 3] };
-    for item in items {
-        counts.put(*item);
-    }
+    let mut counts = counts_of(items);
+    let mut are_alike = true;
     for _ in items {
         let least = pattern % 2 == 0;
-        if counts.is_empty() || !pop_alike(&mut tournament, &mut heap, &mut counts, least) {
-            return false;
-        }
+        are_alike &= !counts.is_empty();
+        are_alike &= pop_alike(&mut tournament, &mut heap, &mut counts, least);
         pattern /= 2;
     }
-    give_up_nothing(&mut tournament, &mut heap)
+    give_up_nothing(tournament, heap) && are_alike
 }
 
 // The same of both queues made of the numbers.
@@ -217,13 +223,12 @@ fn agree_by_digits(
     requires heap { heap.room ≡ 4 }
 {
     let mut counts = Counts { of: [0; 3] };
+    let mut agreed = true;
     for turn in 0..turns {
-        if !agree_in_turn(&mut tournament, &mut heap, &mut counts, code % 3, turn % 3) {
-            return false;
-        }
+        agreed &= agree_in_turn(&mut tournament, &mut heap, &mut counts, code % 3, turn % 3);
         code /= 3;
     }
-    tournament.len() == heap.len()
+    agreed && tournament.len() == heap.len()
 }
 
 // The same of both queues, which are made.
@@ -268,13 +273,12 @@ fn is_counted_by_digits(mut queue: LazyTournament<u8>, mut code: u32, turns: u8)
     requires { queue.room ≡ 4 }
 {
     let mut counts = Counts { of: [0; 3] };
+    let mut counted = true;
     for turn in 0..turns {
-        if !is_counted_in_turn(&mut queue, &mut counts, code % 3, turn % 3) {
-            return false;
-        }
+        counted &= is_counted_in_turn(&mut queue, &mut counts, code % 3, turn % 3);
         code /= 3;
     }
-    true
+    counted
 }
 
 // The same of a lazy tournament that is made.
@@ -414,8 +418,8 @@ fn steps_are_the_matches_played(rt: HostRuntime) {
 }
 
 // Pushes and pops in a tournament with room for two, over and over.
-fn reuse_tournament<A: Allocator>(mut queue: Tournament<u8, A>) -> bool
-    requires { queue.room ≡ 2 }
+fn reuse_tournament<A: Allocator>(queue: &mut Tournament<u8, A>) -> bool
+    requires { queue.old.room ≡ 2 }
 {
     for number in 0..5 {
         if queue.len() < 2 {
@@ -432,8 +436,8 @@ fn reuse_tournament<A: Allocator>(mut queue: Tournament<u8, A>) -> bool
 }
 
 // The same with an interval heap.
-fn reuse_interval_heap<A: Allocator>(mut queue: IntervalHeap<u8, A>) -> bool
-    requires { queue.room ≡ 2 }
+fn reuse_interval_heap<A: Allocator>(queue: &mut IntervalHeap<u8, A>) -> bool
+    requires { queue.old.room ≡ 2 }
 {
     for number in 0..5 {
         if queue.len() < 2 {
@@ -479,16 +483,16 @@ fn interval_heaps_refused(alloc: Global) -> Result<usize, usize> {
 
 // How many requests for memory are made for a tournament with room for two, and whether it is used over and over.
 fn used_tournament(memory: &Refusing) -> Result<(usize, bool), Error> {
-    let queue = Tournament::with_capacity(memory, 2)?;
+    let mut queue = Tournament::with_capacity(memory, 2)?;
     let requests = memory.requests();
-    Ok((requests, reuse_tournament(queue)))
+    Ok((requests, reuse_tournament(&mut queue)))
 }
 
 // The same of an interval heap.
 fn used_interval_heap(memory: &Refusing) -> Result<(usize, bool), Error> {
-    let queue = IntervalHeap::with_capacity(memory, 2)?;
+    let mut queue = IntervalHeap::with_capacity(memory, 2)?;
     let requests = memory.requests();
-    Ok((requests, reuse_interval_heap(queue)))
+    Ok((requests, reuse_interval_heap(&mut queue)))
 }
 
 // Whether a tournament with room for two makes so many requests for memory, all before it is used over and over.
