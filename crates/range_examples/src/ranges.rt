@@ -129,16 +129,16 @@ fn four(alloc: Global) -> Result<Run<FakeTable>, Error> {
 }
 
 // Whether a range has these ends, is well-formed, and has a key.
-fn has_ends_and_key(range: KeyRange, ends: (&str, &str), key: &str) -> bool {
+fn has_ends_and_key(range: &KeyRange, ends: (&str, &str), key: &str) -> bool {
     let min = range.min().as_slice() == ends.0.as_bytes();
     let max = range.max().as_slice() == ends.1.as_bytes();
     min && max && range.is_well_formed() && range.contains_key(key.as_bytes())
 }
 
-// The same of a range that is made.
-fn has_key(alloc: Global, ends: (&str, &str), key: &str) -> Result<bool, Error> {
+// Whether the range with these ends is well-formed and has a key, or not, as wanted.
+fn has_key(alloc: Global, ends: (&str, &str), key: &str, inside: bool) -> Result<bool, Error> {
     let range = range_of(alloc, ends.0, ends.1)?;
-    Ok(has_ends_and_key(range, ends, key))
+    Ok(has_ends_and_key(&range, ends, key) == inside)
 }
 
 // Whether the range of the empty key alone has a key.
@@ -159,31 +159,31 @@ const KEYS: &[((&str, &str), &str, bool)] = &[
 ];
 
 #[test]
-fn a_range_has_the_keys_between_its_ends(rt: HostRuntime) -> Result<(), Fail> {
+fn a_range_has_the_keys_between_its_ends(rt: HostRuntime) {
     for &(ends, key, inside) in KEYS {
-        assert!(rt; has_key(rt.alloc(), ends, key)? == inside, "{key}");
+        assert!(rt; holds(has_key(rt.alloc(), ends, key, inside)), "{key}");
     }
     assert!(rt; the_empty_range_has(b""));
-    Ok(())
 }
 
 // Whether a range overlaps with another, and whether it contains the other.
-fn compared_ranges(range: KeyRange, other: KeyRange) -> (bool, bool) {
+fn compared_ranges(range: &KeyRange, other: &KeyRange) -> (bool, bool) {
     (
-        range.overlaps_with_key_range(&other),
-        range.contains_range(&other),
+        range.overlaps_with_key_range(other),
+        range.contains_range(other),
     )
 }
 
-// The same of two ranges with these ends.
+// Whether the same of two ranges with these ends is as wanted.
 fn compared(
     alloc: Global,
     first: (&str, &str),
     second: (&str, &str),
-) -> Result<(bool, bool), Error> {
+    wanted: (bool, bool),
+) -> Result<bool, Error> {
     let first = range_of(alloc, first.0, first.1);
     let (first, second) = both(first, range_of(alloc, second.0, second.1))?;
-    Ok(compared_ranges(first, second))
+    Ok(compared_ranges(&first, &second) == wanted)
 }
 
 // The ends of two ranges, and whether they overlap, and whether the first contains the second.
@@ -195,11 +195,13 @@ const PAIRS: &[((&str, &str), (&str, &str), (bool, bool))] = &[
 ];
 
 #[test]
-fn ranges_that_meet_overlap(rt: HostRuntime) -> Result<(), Fail> {
+fn ranges_that_meet_overlap(rt: HostRuntime) {
     for &(first, second, wanted) in PAIRS {
-        assert_eq!(rt; compared(rt.alloc(), first, second)?, wanted);
+        assert!(rt;
+            holds(compared(rt.alloc(), first, second, wanted)),
+            "{second:?}"
+        );
     }
-    Ok(())
 }
 
 fn ranges_of(alloc: Global, ends: &[(&str, &str)]) -> Result<Vec<KeyRange>, Error> {
@@ -283,14 +285,19 @@ fn a_clone_is_the_same_range(rt: HostRuntime) {
 }
 
 // Whether a range overlaps with two bounds.
-fn overlaps_with(range: KeyRange, low: Bound<&str>, high: Bound<&str>) -> bool {
+fn overlaps_with(range: &KeyRange, low: Bound<&str>, high: Bound<&str>) -> bool {
     range.overlaps_with_bounds(&(bytes_of(low), bytes_of(high)))
 }
 
-// Whether the range from "key1" to "key5" overlaps with two bounds.
-fn overlaps(alloc: Global, low: Bound<&str>, high: Bound<&str>) -> Result<bool, Error> {
+// Whether the range from "key1" to "key5" overlaps with two bounds, or not, as wanted.
+fn overlaps(
+    alloc: Global,
+    low: Bound<&str>,
+    high: Bound<&str>,
+    overlap: bool,
+) -> Result<bool, Error> {
     let range = range_of(alloc, "key1", "key5")?;
-    Ok(overlaps_with(range, low, high))
+    Ok(overlaps_with(&range, low, high) == overlap)
 }
 
 // A lower and an upper bound, and whether the range from "key1" to "key5" overlaps with them.
@@ -307,11 +314,10 @@ const BOUNDS: &[(Bound<&str>, Bound<&str>, bool)] = &[
 ];
 
 #[test]
-fn key_ranges_and_bounds(rt: HostRuntime) -> Result<(), Fail> {
+fn key_ranges_and_bounds(rt: HostRuntime) {
     for &(low, high, overlap) in BOUNDS {
-        assert!(rt; overlaps(rt.alloc(), low, high)? == overlap);
+        assert!(rt; holds(overlaps(rt.alloc(), low, high, overlap)));
     }
-    Ok(())
 }
 
 // Whether a run is in order, has four tables, and reaches over a range.
@@ -334,14 +340,15 @@ fn four_make_a_run(alloc: Global) -> Result<bool, Error> {
 }
 
 // The id of the one table of a run that has a key.
-fn id_for_key(run: Run<FakeTable>, key: &str) -> Option<u64> {
+fn id_for_key(run: &Run<FakeTable>, key: &str) -> Option<u64> {
     let table = run.get_for_key(key.as_bytes())?;
     Some(table.id)
 }
 
-// The id of the one of four tables that has a key.
-fn id_of_four(alloc: Global, key: &str) -> Result<Option<u64>, Error> {
-    Ok(id_for_key(four(alloc)?, key))
+// Whether the one of four tables that has a key has this id.
+fn has_id_in_four(alloc: Global, key: &str, id: Option<u64>) -> Result<bool, Error> {
+    let run = four(alloc)?;
+    Ok(id_for_key(&run, key) == id)
 }
 
 // A key, and the id of the one of four tables that has it.
@@ -356,26 +363,27 @@ const FOUND: &[(&str, Option<u64>)] = &[
 ];
 
 #[test]
-fn the_table_of_a_key(rt: HostRuntime) -> Result<(), Fail> {
-    assert!(rt; four_make_a_run(rt.alloc())?);
+fn the_table_of_a_key(rt: HostRuntime) {
+    assert!(rt; holds(four_make_a_run(rt.alloc())));
     for &(key, id) in FOUND {
-        assert!(rt; id_of_four(rt.alloc(), key)? == id, "{key}");
+        assert!(rt; holds(has_id_in_four(rt.alloc(), key, id)), "{key}");
     }
-    Ok(())
 }
 
 // The places of the first and the last table of a run that overlap with two bounds.
-fn span_of(run: Run<FakeTable>, low: Bound<&str>, high: Bound<&str>) -> Option<(usize, usize)> {
+fn span_of(run: &Run<FakeTable>, low: Bound<&str>, high: Bound<&str>) -> Option<(usize, usize)> {
     run.range_overlap_indexes(bytes_of(low), bytes_of(high))
 }
 
-// The same of four tables.
-fn span_of_four(
+// Whether the same of four tables are these places.
+fn has_span_in_four(
     alloc: Global,
     low: Bound<&str>,
     high: Bound<&str>,
-) -> Result<Option<(usize, usize)>, Error> {
-    Ok(span_of(four(alloc)?, low, high))
+    span: Option<(usize, usize)>,
+) -> Result<bool, Error> {
+    let run = four(alloc)?;
+    Ok(span_of(&run, low, high) == span)
 }
 
 // A lower and an upper bound, and the places of the first and the last of four tables between them.
@@ -392,22 +400,20 @@ const SPANS: &[(Bound<&str>, Bound<&str>, Option<(usize, usize)>)] = &[
 ];
 
 #[test]
-fn the_tables_between_two_bounds(rt: HostRuntime) -> Result<(), Fail> {
+fn the_tables_between_two_bounds(rt: HostRuntime) {
     for &(low, high, span) in SPANS {
-        assert!(rt; span_of_four(rt.alloc(), low, high)? == span);
+        assert!(rt; holds(has_span_in_four(rt.alloc(), low, high, span)));
     }
-    Ok(())
 }
 
 // Whether the tables of a run that overlap a range, and those that it contains, have these ids.
 fn found_by_range(
-    run: Run<FakeTable>,
-    range: KeyRange,
+    run: &Run<FakeTable>,
+    range: &KeyRange,
     overlapping: &[u64],
     contained: &[u64],
 ) -> bool {
-    has_ids(run.get_overlapping(&range), overlapping)
-        && has_ids(run.get_contained(&range), contained)
+    has_ids(run.get_overlapping(range), overlapping) && has_ids(run.get_contained(range), contained)
 }
 
 // The same of four tables, and of a range with these ends.
@@ -418,7 +424,7 @@ fn found_in_four(
     contained: &[u64],
 ) -> Result<bool, Error> {
     let (run, range) = both(four(alloc), range_of(alloc, range.0, range.1))?;
-    Ok(found_by_range(run, range, overlapping, contained))
+    Ok(found_by_range(&run, &range, overlapping, contained))
 }
 
 // The ends of a range, and the ids of the tables of four that overlap with it, and of those inside
@@ -568,7 +574,7 @@ fn a_push_sorts_a_run_that_is_out_of_order(rt: HostRuntime) {
 }
 
 // Whether a table as it stands in a run shows its id and its range.
-fn shows(table: Indexed<FakeTable>, id: u64, min: &str, max: &str) -> bool {
+fn shows(table: &Indexed<FakeTable>, id: u64, min: &str, max: &str) -> bool {
     let range = table.key_range();
     table.id == id
         && range.min().as_slice() == min.as_bytes()
@@ -577,7 +583,7 @@ fn shows(table: Indexed<FakeTable>, id: u64, min: &str, max: &str) -> bool {
 
 fn shows_its_table(alloc: Global) -> Result<bool, Error> {
     let table = Indexed::new(table_of(alloc, &(7, "k", "l"))?);
-    Ok(shows(table, 7, "k", "l"))
+    Ok(shows(&table, 7, "k", "l"))
 }
 
 #[test]
