@@ -8,10 +8,10 @@ use crate::merging_front::sources_of;
 use crate::words::{answers_so, begins_so, holds};
 use lsm_sorted::{MvccStream, newest_from_both_ends, newest_of};
 use sst_entries::{Error, IterItem};
-use std::alloc::{Allocator, Global};
+use std::alloc::Global;
 
 // Whether a stream over this source, whatever it is, answers so at the ends.
-fn stream_answers_so<I: DoubleEndedIterator<Item = IterItem<A>> + Drop, A: Allocator>(
+fn stream_answers_so<I: DoubleEndedIterator<Item = IterItem> + Drop>(
     source: I,
     ends: &str,
     wanted: &str,
@@ -105,9 +105,9 @@ fn gives_the_newest_version_of_each_key_from_either_end(rt: HostRuntime) {
 }
 
 // Whether the newest versions of these sources, whatever they are, are these at the ends.
-fn newest_answers_so<I: DoubleEndedIterator<Item = IterItem<A>> + Drop, A: Allocator + Copy>(
-    alloc: A,
-    sources: Vec<I, A>,
+fn newest_answers_so<I: DoubleEndedIterator<Item = IterItem> + Drop>(
+    alloc: Global,
+    sources: Vec<I>,
     ends: &str,
     wanted: &str,
 ) -> Result<bool, Error>

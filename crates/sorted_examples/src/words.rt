@@ -180,29 +180,24 @@ pub fn answers_so<A: Allocator, I: DoubleEndedIterator<Item = IterItem<A>> + Dro
     requires { CanDeal I.next_gives I.next_back_gives I.can_next I.can_next_back stream }
 {
     let mut words = wanted.split_whitespace();
+    let mut is_right = true;
     for letter in ends.bytes() {
         let answer = answer_at(&mut stream, end_of(letter));
-        if !is_said(answer, words.next()) {
-            return false;
-        }
+        is_right &= is_said(answer, words.next());
     }
-    words.next().is_none()
+    is_right && words.next().is_none()
 }
 
 /// Whether a stream answers so first.
-pub fn begins_so<A: Allocator, I: Iterator<Item = IterItem<A>> + Drop>(
-    mut stream: I,
-    wanted: &str,
-) -> bool
+pub fn begins_so<I: Iterator<Item = IterItem> + Drop>(mut stream: I, wanted: &str) -> bool
     requires { CanDeal I.next_gives nowhere I.can_next I.can_next stream }
 {
+    let mut is_right = true;
     for word in wanted.split_whitespace() {
         let answer = stream.next();
-        if !is_said(answer, Some(word)) {
-            return false;
-        }
+        is_right &= is_said(answer, Some(word));
     }
-    true
+    is_right
 }
 
 /// Whether a stream gives these results to its end.
@@ -214,12 +209,11 @@ pub fn gives_all<A: Allocator, I: Iterator<Item = IterItem<A>>>(
     requires finite { IsFinite (I.remaining stream.old) }
 {
     let mut words = wanted.split_whitespace();
+    let mut is_right = true;
     while let Some(item) = stream.next() {
-        if !is_said(Some(item), words.next()) {
-            return false;
-        }
+        is_right &= is_said(Some(item), words.next());
     }
-    words.next().is_none()
+    is_right && words.next().is_none()
 }
 
 /// The same of a stream that is let go of.
