@@ -167,10 +167,10 @@ fn a_range_has_the_keys_between_its_ends(rt: HostRuntime) {
 }
 
 // Whether a range overlaps with another, and whether it contains the other.
-fn compared_ranges(range: &KeyRange, other: &KeyRange) -> (bool, bool) {
+fn compared_ranges(range: KeyRange, other: KeyRange) -> (bool, bool) {
     (
-        range.overlaps_with_key_range(other),
-        range.contains_range(other),
+        range.overlaps_with_key_range(&other),
+        range.contains_range(&other),
     )
 }
 
@@ -183,7 +183,7 @@ fn compared(
 ) -> Result<bool, Error> {
     let first = range_of(alloc, first.0, first.1);
     let (first, second) = both(first, range_of(alloc, second.0, second.1))?;
-    Ok(compared_ranges(&first, &second) == wanted)
+    Ok(compared_ranges(first, second) == wanted)
 }
 
 // The ends of two ranges, and whether they overlap, and whether the first contains the second.
@@ -285,7 +285,7 @@ fn a_clone_is_the_same_range(rt: HostRuntime) {
 }
 
 // Whether a range overlaps with two bounds.
-fn overlaps_with(range: &KeyRange, low: Bound<&str>, high: Bound<&str>) -> bool {
+fn overlaps_with(range: KeyRange, low: Bound<&str>, high: Bound<&str>) -> bool {
     range.overlaps_with_bounds(&(bytes_of(low), bytes_of(high)))
 }
 
@@ -297,7 +297,7 @@ fn overlaps(
     overlap: bool,
 ) -> Result<bool, Error> {
     let range = range_of(alloc, "key1", "key5")?;
-    Ok(overlaps_with(&range, low, high) == overlap)
+    Ok(overlaps_with(range, low, high) == overlap)
 }
 
 // A lower and an upper bound, and whether the range from "key1" to "key5" overlaps with them.
@@ -408,12 +408,13 @@ fn the_tables_between_two_bounds(rt: HostRuntime) {
 
 // Whether the tables of a run that overlap a range, and those that it contains, have these ids.
 fn found_by_range(
-    run: &Run<FakeTable>,
-    range: &KeyRange,
+    run: Run<FakeTable>,
+    range: KeyRange,
     overlapping: &[u64],
     contained: &[u64],
 ) -> bool {
-    has_ids(run.get_overlapping(range), overlapping) && has_ids(run.get_contained(range), contained)
+    has_ids(run.get_overlapping(&range), overlapping)
+        && has_ids(run.get_contained(&range), contained)
 }
 
 // The same of four tables, and of a range with these ends.
@@ -424,7 +425,7 @@ fn found_in_four(
     contained: &[u64],
 ) -> Result<bool, Error> {
     let (run, range) = both(four(alloc), range_of(alloc, range.0, range.1))?;
-    Ok(found_by_range(&run, &range, overlapping, contained))
+    Ok(found_by_range(run, range, overlapping, contained))
 }
 
 // The ends of a range, and the ids of the tables of four that overlap with it, and of those inside
@@ -574,7 +575,7 @@ fn a_push_sorts_a_run_that_is_out_of_order(rt: HostRuntime) {
 }
 
 // Whether a table as it stands in a run shows its id and its range.
-fn shows(table: &Indexed<FakeTable>, id: u64, min: &str, max: &str) -> bool {
+fn shows(table: Indexed<FakeTable>, id: u64, min: &str, max: &str) -> bool {
     let range = table.key_range();
     table.id == id
         && range.min().as_slice() == min.as_bytes()
@@ -583,7 +584,7 @@ fn shows(table: &Indexed<FakeTable>, id: u64, min: &str, max: &str) -> bool {
 
 fn shows_its_table(alloc: Global) -> Result<bool, Error> {
     let table = Indexed::new(table_of(alloc, &(7, "k", "l"))?);
-    Ok(shows(&table, 7, "k", "l"))
+    Ok(shows(table, 7, "k", "l"))
 }
 
 #[test]
