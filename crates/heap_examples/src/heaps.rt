@@ -1,11 +1,10 @@
 //! The priority queues against a count of each number, and what they take of memory.
-ghost use Rattle.std.specs.Prelude.{◌≡◌, ◌≤◌};
+ghost use Rattle.std.specs.Prelude.{◌≡◌, ◌≤◌, [], IfOk, Ok};
 
 use lsm_heaps::{IntervalHeap, LazyTournament, Tournament};
 use refusing::{Refusing, each_refused};
 use sst_entries::Error;
 use std::alloc::{Allocator, Global};
-use std::test::Fail;
 
 // Some of the numbers 0 to 2, as how often each is there.
 #[derive(Drop)]
@@ -41,6 +40,22 @@ impl Counts {
     fn take_greatest(&mut self) -> Option<u8> {
         (0..3u8).rev().find(|number| self.take(*number as usize))
     }
+}
+
+// Whether something was found to hold, and nothing was refused.
+fn holds(answer: Result<bool, Error>) -> bool {
+    matches!(answer, Ok(true))
+}
+
+// Two values, or the refusal of the first that is refused.
+fn both<T: Drop, U: Drop>(
+    first: Result<T, Error>,
+    second: Result<U, Error>,
+) -> Result<(T, U), Error>
+    ensures first { IfOk result (λ made. first ≡ Ok made.0) }
+    ensures second { IfOk result (λ made. second ≡ Ok made.1) }
+{
+    Ok((first?, second?))
 }
 
 fn tournament_of(alloc: Global, items: &[u8]) -> Result<Tournament<u8>, Error> {
@@ -83,72 +98,64 @@ fn pop_alike(
     ensures queue { queue.new.room ≡ queue.old.room }
     ensures heap { heap.new.room ≡ heap.old.room }
 {
-    if least {
-        let want = counts.take_least();
-        queue.pop_min() == want && heap.pop_min() == want
+    let (want, first, second) = if least {
+        (counts.take_least(), queue.pop_min(), heap.pop_min())
     } else {
-        let want = counts.take_greatest();
-        queue.pop_max() == want && heap.pop_max() == want
-    }
+        (counts.take_greatest(), queue.pop_max(), heap.pop_max())
+    };
+    first == want && second == want
 }
 
 // Whether both queues are empty, and give up nothing.
-fn give_up_nothing(queue: &mut Tournament<u8>, heap: &mut IntervalHeap<u8>) -> bool {
-    queue.len() == 0
-        && heap.len() == 0
-        && queue.pop_min().is_none()
-        && queue.pop_max().is_none()
-        && heap.pop_min().is_none()
-        && heap.pop_max().is_none()
+fn give_up_nothing(mut queue: Tournament<u8>, mut heap: IntervalHeap<u8>) -> bool {
+    let are_empty = queue.len() == 0 && heap.len() == 0;
+    let queue_gives = queue.pop_min().is_some() | queue.pop_max().is_some();
+    let heap_gives = heap.pop_min().is_some() | heap.pop_max().is_some();
+    are_empty && !queue_gives && !heap_gives
+}
+
+// How often each of some numbers is there.
+fn counts_of(items: &[u8]) -> Counts {
+    let mut counts = Counts { of: [0; 3] };
+    for item in items {
+        counts.put(*item);
+    }
+    counts
 }
 
 // Whether both queues, which hold some numbers, give up the least and the greatest in turn as the
 // pattern has it, and then none.
 fn pop_all_alike(
-    tournament: &mut Tournament<u8>,
-    heap: &mut IntervalHeap<u8>,
+    mut tournament: Tournament<u8>,
+    mut heap: IntervalHeap<u8>,
     items: &[u8],
     mut pattern: u32,
 ) -> bool {
-    let mut counts = Counts { of: [0; 3] };
-    for item in items {
-        counts.put(*item);
-    }
+    let mut counts = counts_of(items);
+    let mut are_alike = true;
     for _ in items {
         let least = pattern % 2 == 0;
-        if counts.is_empty() || !pop_alike(tournament, heap, &mut counts, least) {
-            return false;
-        }
+        are_alike &= !counts.is_empty();
+        are_alike &= pop_alike(&mut tournament, &mut heap, &mut counts, least);
         pattern /= 2;
     }
-    give_up_nothing(tournament, heap)
-}
-
-// The same of a tournament and of an interval heap that is made of the numbers.
-fn agrees_with_heap(
-    tournament: &mut Tournament<u8>,
-    alloc: Global,
-    items: &[u8],
-    pattern: u32,
-) -> Result<bool, Error> {
-    let mut heap = interval_heap_of(alloc, items)?;
-    Ok(pop_all_alike(tournament, &mut heap, items, pattern))
+    give_up_nothing(tournament, heap) && are_alike
 }
 
 // The same of both queues made of the numbers.
 fn agree(alloc: Global, items: &[u8], pattern: u32) -> Result<bool, Error> {
-    let mut tournament = tournament_of(alloc, items)?;
-    agrees_with_heap(&mut tournament, alloc, items, pattern)
+    let (tournament, heap) = both(tournament_of(alloc, items), interval_heap_of(alloc, items))?;
+    Ok(pop_all_alike(tournament, heap, items, pattern))
 }
 
 // The first of so many patterns by which the queues do not agree.
-fn first_to_disagree(alloc: Global, items: &[u8], patterns: u32) -> Result<Option<u32>, Error> {
+fn first_to_disagree(alloc: Global, items: &[u8], patterns: u32) -> Option<u32> {
     for pattern in 0..patterns {
-        if !agree(alloc, items, pattern)? {
-            return Ok(Some(pattern));
+        if !holds(agree(alloc, items, pattern)) {
+            return Some(pattern);
         }
     }
-    Ok(None)
+    None
 }
 
 // The first of so many lists of some numbers, by its code, and the pattern by which the queues do not agree.
@@ -157,29 +164,28 @@ fn first_list_to_disagree(
     count: usize,
     lists: u32,
     patterns: u32,
-) -> Result<Option<(u32, u32)>, Error>
+) -> Option<(u32, u32)>
     requires { count ≤ 6 }
 {
     for code in 0..lists {
-        if let Some(pattern) = first_to_disagree(alloc, &digits(code)[..count], patterns)? {
-            return Ok(Some((code, pattern)));
+        if let Some(pattern) = first_to_disagree(alloc, &digits(code)[..count], patterns) {
+            return Some((code, pattern));
         }
     }
-    Ok(None)
+    None
 }
 
 #[test]
-fn each_list_of_six_in_each_pattern_of_pops(rt: HostRuntime) -> Result<(), Fail> {
+fn each_list_of_six_in_each_pattern_of_pops(rt: HostRuntime) {
     let mut lists = 1;
     let mut patterns = 1;
     for count in 0..=6usize {
-        let first = first_list_to_disagree(rt.alloc(), count, lists, patterns)?;
+        let first = first_list_to_disagree(rt.alloc(), count, lists, patterns);
         assert!(rt; first.is_none(), "{count} {first:?}");
         lists = u32::saturating_mul(lists, 3);
         patterns = u32::saturating_mul(patterns, 2);
     }
-    assert!(rt; (lists, patterns) == (2187, 128));
-    Ok(())
+    assert!(rt; lists == 2187 && patterns == 128);
 }
 
 // Pushes a number to both queues, which have room for four, where the digit is 0 and they are not full. Else they are popped:
@@ -208,50 +214,35 @@ fn agree_in_turn(
 // Whether both queues, with room for four, agree while they are pushed to and popped, as the digits
 // of the code have it.
 fn agree_by_digits(
-    tournament: &mut Tournament<u8>,
-    heap: &mut IntervalHeap<u8>,
+    mut tournament: Tournament<u8>,
+    mut heap: IntervalHeap<u8>,
     mut code: u32,
     turns: u8,
 ) -> bool
-    requires tournament { tournament.old.room ≡ 4 }
-    requires heap { heap.old.room ≡ 4 }
+    requires tournament { tournament.room ≡ 4 }
+    requires heap { heap.room ≡ 4 }
 {
     let mut counts = Counts { of: [0; 3] };
+    let mut agreed = true;
     for turn in 0..turns {
-        if !agree_in_turn(tournament, heap, &mut counts, code % 3, turn % 3) {
-            return false;
-        }
+        agreed &= agree_in_turn(&mut tournament, &mut heap, &mut counts, code % 3, turn % 3);
         code /= 3;
     }
-    tournament.len() == heap.len()
-}
-
-// The same of a tournament and of an interval heap that is made.
-fn agrees_in_turns_with_heap(
-    tournament: &mut Tournament<u8>,
-    alloc: Global,
-    code: u32,
-    turns: u8,
-) -> Result<bool, Error>
-    requires { tournament.old.room ≡ 4 }
-{
-    let mut heap = IntervalHeap::with_capacity(alloc, 4)?;
-    Ok(agree_by_digits(tournament, &mut heap, code, turns))
+    agreed && tournament.len() == heap.len()
 }
 
 // The same of both queues, which are made.
 fn agree_in_turns(alloc: Global, code: u32, turns: u8) -> Result<bool, Error> {
-    let mut tournament = Tournament::with_capacity(alloc, 4)?;
-    agrees_in_turns_with_heap(&mut tournament, alloc, code, turns)
+    let tournament = Tournament::with_capacity(alloc, 4);
+    let (tournament, heap) = both(tournament, IntervalHeap::with_capacity(alloc, 4))?;
+    Ok(agree_by_digits(tournament, heap, code, turns))
 }
 
 #[test]
-fn pushes_and_pops_in_turns(rt: HostRuntime) -> Result<(), Fail> {
+fn pushes_and_pops_in_turns(rt: HostRuntime) {
     for code in 0..6561 {
-        let agreed = agree_in_turns(rt.alloc(), code, 8)?;
-        assert!(rt; agreed, "{code}");
+        assert!(rt; holds(agree_in_turns(rt.alloc(), code, 8)), "{code}");
     }
-    Ok(())
 }
 
 // Pushes a number to a lazy tournament with room for four, where the digit is 0 and it is not full. Else it is popped: whether it
@@ -278,32 +269,29 @@ fn is_counted_in_turn(
 
 // Whether a lazy tournament with room for four gives up what is counted, while it is pushed to and
 // popped as the digits of the code have it.
-fn is_counted_by_digits(queue: &mut LazyTournament<u8>, mut code: u32, turns: u8) -> bool
-    requires { queue.old.room ≡ 4 }
+fn is_counted_by_digits(mut queue: LazyTournament<u8>, mut code: u32, turns: u8) -> bool
+    requires { queue.room ≡ 4 }
 {
     let mut counts = Counts { of: [0; 3] };
+    let mut counted = true;
     for turn in 0..turns {
-        if !is_counted_in_turn(queue, &mut counts, code % 3, turn % 3) {
-            return false;
-        }
+        counted &= is_counted_in_turn(&mut queue, &mut counts, code % 3, turn % 3);
         code /= 3;
     }
-    true
+    counted
 }
 
 // The same of a lazy tournament that is made.
 fn is_counted_in_turns(alloc: Global, code: u32, turns: u8) -> Result<bool, Error> {
-    let mut queue = LazyTournament::with_capacity(alloc, 4)?;
-    Ok(is_counted_by_digits(&mut queue, code, turns))
+    let queue = LazyTournament::with_capacity(alloc, 4)?;
+    Ok(is_counted_by_digits(queue, code, turns))
 }
 
 #[test]
-fn lazy_pushes_and_pops_in_turns(rt: HostRuntime) -> Result<(), Fail> {
+fn lazy_pushes_and_pops_in_turns(rt: HostRuntime) {
     for code in 0..6561 {
-        let counted = is_counted_in_turns(rt.alloc(), code, 8)?;
-        assert!(rt; counted, "{code}");
+        assert!(rt; holds(is_counted_in_turns(rt.alloc(), code, 8)), "{code}");
     }
-    Ok(())
 }
 
 // Pushes to one with room for four, and says how many steps were made.
@@ -331,26 +319,41 @@ fn push_four(queue: &mut Tournament<char>) -> ([u64; 4], usize)
     (steps, queue.len())
 }
 
-// What pushing four letters answers.
-fn four_pushed(alloc: Global) -> Result<([u64; 4], usize), Error> {
-    Ok(push_four(&mut Tournament::with_capacity(alloc, 4)?))
+// What pushing four letters answers, and then what is given up of them, from the front and then from the back, and the steps
+// after each.
+fn four_pushed_and_popped(
+    mut queue: Tournament<char>,
+) -> ([u64; 4], usize, [(Option<char>, u64); 2])
+    requires { queue.room ≡ 4 }
+{
+    let (steps, count) = push_four(&mut queue);
+    let first = (queue.pop_min(), queue.steps());
+    let last = (queue.pop_max(), queue.steps());
+    (steps, count, [first, last])
 }
 
-// What is given up of four letters, from the front and then from the back, and the steps after each.
-fn four_popped(alloc: Global) -> Result<[(Option<char>, u64); 2], Error> {
-    let mut queue = Tournament::with_capacity(alloc, 4)?;
-    push_four(&mut queue);
-    Ok([
-        (queue.pop_min(), queue.steps()),
-        (queue.pop_max(), queue.steps()),
-    ])
+// Whether pushing four letters and popping two takes the steps that it should.
+fn four_take_their_steps(alloc: Global) -> Result<bool, Error> {
+    let (pushed, count, popped) = four_pushed_and_popped(Tournament::with_capacity(alloc, 4)?);
+    // Each match is played for the least and for the greatest, but not above one that another slot
+    // wins as before: the last push leaves the final of the greatest as it is. The matches above an
+    // emptied slot are played at the next call.
+    Ok(pushed == [0, 2, 4, 7] && count == 4 && popped == [(Some('a'), 7), (Some('d'), 8)])
 }
 
 // The steps after one letter is pushed, what is given up, and then the steps and how many items there are.
-fn one_pushed_and_popped(alloc: Global) -> Result<(u64, Option<char>, u64, usize), Error> {
-    let mut queue = Tournament::with_capacity(alloc, 1)?;
+fn one_pushed_and_popped(mut queue: Tournament<char>) -> (u64, Option<char>, u64, usize)
+    requires room { queue.room ≡ 1 }
+    requires empty { queue.items ≡ [] }
+{
     queue.push('a');
-    Ok((queue.steps(), queue.pop_max(), queue.steps(), queue.len()))
+    (queue.steps(), queue.pop_max(), queue.steps(), queue.len())
+}
+
+// Whether pushing one letter and popping it takes no step.
+fn one_takes_no_step(alloc: Global) -> Result<bool, Error> {
+    let answers = one_pushed_and_popped(Tournament::with_capacity(alloc, 1)?);
+    Ok(answers == (0, Some('a'), 0, 0))
 }
 
 // Pushes to a lazy one with room for four, and says how many steps were made.
@@ -374,10 +377,11 @@ fn push_four_to_lazy(queue: &mut LazyTournament<char>) -> u64
     push_to_lazy(queue, 'a')
 }
 
-// What a lazy one gives up of four letters, at the front twice, at the back and at the front, and the
-// steps after the pushes and after each pop.
-fn lazily_popped(alloc: Global) -> Result<(u64, [(Option<char>, u64); 4]), Error> {
-    let mut queue = LazyTournament::with_capacity(alloc, 4)?;
+// How many steps pushing four letters to a lazy one makes; and what it gives up of them, at the front twice, at the back and at
+// the front, and the steps after each pop.
+fn lazily_popped(mut queue: LazyTournament<char>) -> (u64, [(Option<char>, u64); 4])
+    requires { queue.room ≡ 4 }
+{
     let pushed = push_four_to_lazy(&mut queue);
     let popped = [
         (queue.pop_min(), queue.steps()),
@@ -385,13 +389,12 @@ fn lazily_popped(alloc: Global) -> Result<(u64, [(Option<char>, u64); 4]), Error
         (queue.pop_max(), queue.steps()),
         (queue.pop_min(), queue.steps()),
     ];
-    Ok((pushed, popped))
+    (pushed, popped)
 }
 
-#[test]
-fn an_end_that_is_not_asked_plays_no_match(rt: HostRuntime) -> Result<(), Fail> {
-    let (pushed, popped) = lazily_popped(rt.alloc())?;
-    assert!(rt; pushed == 0);
+// Whether a lazy one plays a match only where an end is asked that needs it.
+fn plays_where_it_is_asked(alloc: Global) -> Result<bool, Error> {
+    let (pushed, popped) = lazily_popped(LazyTournament::with_capacity(alloc, 4)?);
     // Three matches at the first pop, and one after 'a' has gone. Then one more for the least, after
     // 'b' has gone, and one for the greatest: the others have no opponent. None at the last.
     let want = [
@@ -400,19 +403,18 @@ fn an_end_that_is_not_asked_plays_no_match(rt: HostRuntime) -> Result<(), Fail> 
         (Some('d'), 6),
         (Some('c'), 6),
     ];
-    assert!(rt; popped == want);
-    Ok(())
+    Ok(pushed == 0 && popped == want)
 }
 
 #[test]
-fn steps_are_the_matches_played(rt: HostRuntime) -> Result<(), Fail> {
-    assert!(rt; one_pushed_and_popped(rt.alloc())? == (0, Some('a'), 0, 0));
-    // Each match is played for the least and for the greatest, but not above one that another slot
-    // wins as before: the last push leaves the final of the greatest as it is. The matches above an
-    // emptied slot are played at the next call.
-    assert!(rt; four_pushed(rt.alloc())? == ([0, 2, 4, 7], 4));
-    assert!(rt; four_popped(rt.alloc())? == [(Some('a'), 7), (Some('d'), 8)]);
-    Ok(())
+fn an_end_that_is_not_asked_plays_no_match(rt: HostRuntime) {
+    assert!(rt; holds(plays_where_it_is_asked(rt.alloc())));
+}
+
+#[test]
+fn steps_are_the_matches_played(rt: HostRuntime) {
+    assert!(rt; holds(one_takes_no_step(rt.alloc())));
+    assert!(rt; holds(four_take_their_steps(rt.alloc())));
 }
 
 // Pushes and pops in a tournament with room for two, over and over.
@@ -507,18 +509,21 @@ fn interval_heap_makes(alloc: Global, requests: usize) -> Result<bool, Error> {
     Ok(used == (requests, true) && memory.requests() == requests)
 }
 
-// What a tournament without room gives up from either end.
-fn given_up_without_room(alloc: Global) -> Result<(Option<u8>, Option<u8>), Error> {
-    let mut none = Tournament::<u8>::with_capacity(alloc, 0)?;
-    Ok((none.pop_min(), none.pop_max()))
+// Whether a tournament without room gives up nothing from either end.
+fn gives_up_nothing(mut none: Tournament<u8>) -> bool {
+    none.pop_min().is_none() & none.pop_max().is_none()
+}
+
+// The same of one that is made.
+fn gives_up_nothing_without_room(alloc: Global) -> Result<bool, Error> {
+    Ok(gives_up_nothing(Tournament::with_capacity(alloc, 0)?))
 }
 
 #[test]
-fn memory_is_taken_at_first_alone(rt: HostRuntime) -> Result<(), Fail> {
+fn memory_is_taken_at_first_alone(rt: HostRuntime) {
     assert!(rt; tournaments_refused(rt.alloc()) == Ok(4));
     assert!(rt; interval_heaps_refused(rt.alloc()) == Ok(1));
-    assert!(rt; tournament_makes(rt.alloc(), 4)?);
-    assert!(rt; interval_heap_makes(rt.alloc(), 1)?);
-    assert!(rt; given_up_without_room(rt.alloc())? == (None, None));
-    Ok(())
+    assert!(rt; holds(tournament_makes(rt.alloc(), 4)));
+    assert!(rt; holds(interval_heap_makes(rt.alloc(), 1)));
+    assert!(rt; holds(gives_up_nothing_without_room(rt.alloc())));
 }

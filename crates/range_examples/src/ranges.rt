@@ -47,22 +47,23 @@ impl<A: Allocator> Clone for FakeTable<A> {
     }
 }
 
-// A large value beside another one, or the refusal of the other. It is generic, so that no part of the values is looked at.
-fn beside<T: Drop, U>(value: T, other: Result<U, Error>) -> Result<(T, U), Error> {
-    Ok((value, other?))
+// Two values, or the refusal of the first that is refused. It is generic, so that no part of the values is looked at.
+fn both<T: Drop, U: Drop>(
+    first: Result<T, Error>,
+    second: Result<U, Error>,
+) -> Result<(T, U), Error> {
+    Ok((first?, second?))
 }
 
-// What is asked of a large value, which is let go of here alone, or why there is none.
-fn asked<T: Drop, U, E, F: FnOnce(&T) -> U + Drop>(made: Result<T, E>, ask: F) -> Result<U, E>
-    requires { F.IsAlwaysCallable ask }
-{
-    Ok(ask(&made?))
+// Whether something was found to hold, and nothing was refused.
+fn holds(answer: Result<bool, Error>) -> bool {
+    matches!(answer, Ok(true))
 }
 
 fn range_of<A: Allocator + Copy>(alloc: A, min: &str, max: &str) -> Result<KeyRange<A>, Error> {
-    let min = Slice::from(alloc, min.as_bytes())?;
-    let ends = beside(min, Slice::from(alloc, max.as_bytes()))?;
-    Ok(KeyRange::new(ends))
+    let min = Slice::from(alloc, min.as_bytes());
+    let max = Slice::from(alloc, max.as_bytes());
+    Ok(KeyRange::new(both(min, max)?))
 }
 
 fn table_of<A: Allocator + Copy>(
@@ -120,47 +121,24 @@ fn bytes_of<'a>(bound: Bound<&'a str>) -> Bound<&'a [u8]> {
     }
 }
 
-// What is asked of the range with these ends.
-fn asked_range<U, F: FnOnce(&KeyRange) -> U + Drop>(
-    alloc: Global,
-    ends: (&str, &str),
-    ask: F,
-) -> Result<U, Error>
-    requires { F.IsAlwaysCallable ask }
-{
-    asked(range_of(alloc, ends.0, ends.1), ask)
-}
-
-// What a change of the run of some tables answers.
-fn changed_run<U, F: FnOnce(&mut Run<FakeTable>) -> U + Drop>(
-    alloc: Global,
-    tables: &[(u64, &str, &str)],
-    change: F,
-) -> Result<U, Error>
-    requires { F.IsAlwaysCallable change }
-{
-    let mut run = run_of(alloc, tables)?;
-    Ok(change(&mut run))
-}
-
 const FOUR: &[(u64, &str, &str)] = &[(0, "a", "d"), (1, "e", "j"), (2, "k", "o"), (3, "p", "z")];
 
-// What is asked of the run of four tables.
-fn asked_four<U, F: FnOnce(&Run<FakeTable>) -> U + Drop>(alloc: Global, ask: F) -> Result<U, Error>
-    requires { F.IsAlwaysCallable ask }
-{
-    asked(run_of(alloc, FOUR), ask)
+// The run of four tables.
+fn four(alloc: Global) -> Result<Run<FakeTable>, Error> {
+    run_of(alloc, FOUR)
 }
 
-// Whether a range with these ends is well-formed and has a key.
-fn has_key(alloc: Global, ends: (&str, &str), key: &str) -> Result<bool, Error> {
-    asked_range(alloc, ends, |range| { has_ends_and_key(range, ends, key) })
-}
-
+// Whether a range has these ends, is well-formed, and has a key.
 fn has_ends_and_key(range: &KeyRange, ends: (&str, &str), key: &str) -> bool {
     let min = range.min().as_slice() == ends.0.as_bytes();
     let max = range.max().as_slice() == ends.1.as_bytes();
     min && max && range.is_well_formed() && range.contains_key(key.as_bytes())
+}
+
+// Whether the range with these ends is well-formed and has a key, or not, as wanted.
+fn has_key(alloc: Global, ends: (&str, &str), key: &str, inside: bool) -> Result<bool, Error> {
+    let range = range_of(alloc, ends.0, ends.1)?;
+    Ok(has_ends_and_key(&range, ends, key) == inside)
 }
 
 // Whether the range of the empty key alone has a key.
@@ -181,35 +159,31 @@ const KEYS: &[((&str, &str), &str, bool)] = &[
 ];
 
 #[test]
-fn a_range_has_the_keys_between_its_ends(rt: HostRuntime) -> Result<(), Fail> {
+fn a_range_has_the_keys_between_its_ends(rt: HostRuntime) {
     for &(ends, key, inside) in KEYS {
-        assert!(rt; has_key(rt.alloc(), ends, key)? == inside, "{key}");
+        assert!(rt; holds(has_key(rt.alloc(), ends, key, inside)), "{key}");
     }
     assert!(rt; the_empty_range_has(b""));
-    Ok(())
 }
 
 // Whether a range overlaps with another, and whether it contains the other.
-fn compared_to(
-    alloc: Global,
-    range: &KeyRange,
-    other: (&str, &str),
-) -> Result<(bool, bool), Error> {
-    asked_range(alloc, other, |other| {
-        (
-            range.overlaps_with_key_range(other),
-            range.contains_range(other),
-        )
-    })
+fn compared_ranges(range: KeyRange, other: KeyRange) -> (bool, bool) {
+    (
+        range.overlaps_with_key_range(&other),
+        range.contains_range(&other),
+    )
 }
 
-// The same of two ranges with these ends.
+// Whether the same of two ranges with these ends is as wanted.
 fn compared(
     alloc: Global,
     first: (&str, &str),
     second: (&str, &str),
-) -> Result<(bool, bool), Error> {
-    asked_range(alloc, first, |first| { compared_to(alloc, first, second) })?
+    wanted: (bool, bool),
+) -> Result<bool, Error> {
+    let first = range_of(alloc, first.0, first.1);
+    let (first, second) = both(first, range_of(alloc, second.0, second.1))?;
+    Ok(compared_ranges(first, second) == wanted)
 }
 
 // The ends of two ranges, and whether they overlap, and whether the first contains the second.
@@ -221,17 +195,24 @@ const PAIRS: &[((&str, &str), (&str, &str), (bool, bool))] = &[
 ];
 
 #[test]
-fn ranges_that_meet_overlap(rt: HostRuntime) -> Result<(), Fail> {
+fn ranges_that_meet_overlap(rt: HostRuntime) {
     for &(first, second, wanted) in PAIRS {
-        assert_eq!(rt; compared(rt.alloc(), first, second)?, wanted);
+        assert!(rt;
+            holds(compared(rt.alloc(), first, second, wanted)),
+            "{second:?}"
+        );
     }
-    Ok(())
 }
 
 fn ranges_of(alloc: Global, ends: &[(&str, &str)]) -> Result<Vec<KeyRange>, Error> {
     ends.iter()
         .map(|(min, max)| range_of(alloc, min, max))
         .try_collect(alloc)
+}
+
+// Whether a range is this one.
+fn is_range(found: KeyRange, wanted: &KeyRange) -> bool {
+    found == *wanted
 }
 
 // Whether no two of some ranges have a key in common, and whether their aggregate is a range.
@@ -241,19 +222,19 @@ fn taken_together(
     aggregate: &KeyRange,
 ) -> Result<(bool, bool), Error> {
     let all: Vec<&KeyRange> = ranges.iter().collect(alloc)?;
-    let is_aggregate = asked(KeyRange::aggregate(&all), |found| *found == *aggregate)?;
-    Ok((KeyRange::is_disjoint(&all), is_aggregate))
+    let is_disjoint = KeyRange::is_disjoint(&all);
+    let found = KeyRange::aggregate(&all);
+    drop(all);
+    Ok((is_disjoint, is_range(found?, aggregate)))
 }
 
-// The same of ranges with these ends.
-fn made_and_taken_together(
+// The same of ranges that are let go of.
+fn all_taken_together(
     alloc: Global,
-    ends: &[(&str, &str)],
-    aggregate: &KeyRange,
+    ranges: Vec<KeyRange>,
+    aggregate: KeyRange,
 ) -> Result<(bool, bool), Error> {
-    asked(ranges_of(alloc, ends), |ranges| {
-        taken_together(alloc, ranges, aggregate)
-    })?
+    taken_together(alloc, &ranges, &aggregate)
 }
 
 // Whether some ranges, taken together, are disjoint or not as wanted, and reach from one key to
@@ -264,10 +245,10 @@ fn reach_together(
     disjoint: bool,
     reach: (&str, &str),
 ) -> Result<bool, Error> {
-    let together = asked_range(alloc, reach, |aggregate| {
-        made_and_taken_together(alloc, ends, aggregate)
-    })?;
-    Ok(together? == (disjoint, true))
+    let ranges = ranges_of(alloc, ends);
+    let (ranges, aggregate) = both(ranges, range_of(alloc, reach.0, reach.1))?;
+    let (is_disjoint, is_aggregate) = all_taken_together(alloc, ranges, aggregate)?;
+    Ok(is_disjoint == disjoint && is_aggregate)
 }
 
 // The ends of ranges, whether they are disjoint, and the ends of their aggregate.
@@ -279,39 +260,44 @@ const AGGREGATES: &[(&[(&str, &str)], bool, (&str, &str))] = &[
 ];
 
 #[test]
-fn an_aggregate_reaches_from_the_least_to_the_greatest_key(rt: HostRuntime) -> Result<(), Fail> {
+fn an_aggregate_reaches_from_the_least_to_the_greatest_key(rt: HostRuntime) {
     for &(ranges, disjoint, reach) in AGGREGATES {
         assert!(rt;
-            reach_together(rt.alloc(), ranges, disjoint, reach)?,
+            holds(reach_together(rt.alloc(), ranges, disjoint, reach)),
             "{ranges:?}"
         );
     }
-    Ok(())
 }
 
 // Whether a clone of a range equals it.
-fn equals_its_clone(range: &KeyRange) -> Result<bool, AllocError> {
-    asked(range.clone(), |copy| *copy == *range)
+fn equals_its_clone(range: &KeyRange) -> Result<bool, Error> {
+    Ok(is_range(range.clone()?, range))
 }
 
 // Whether a clone of the range from "a" to "z" equals it.
 fn is_cloned(alloc: Global) -> Result<bool, Error> {
-    let equal = asked_range(alloc, ("a", "z"), |range| equals_its_clone(range))?;
-    Ok(equal?)
+    equals_its_clone(&range_of(alloc, "a", "z")?)
 }
 
 #[test]
-fn a_clone_is_the_same_range(rt: HostRuntime) -> Result<(), Fail> {
-    assert!(rt; is_cloned(rt.alloc())?);
-    Ok(())
+fn a_clone_is_the_same_range(rt: HostRuntime) {
+    assert!(rt; holds(is_cloned(rt.alloc())));
 }
 
-// Whether the range from "key1" to "key5" overlaps with two bounds.
-fn overlaps(alloc: Global, low: Bound<&str>, high: Bound<&str>) -> Result<bool, Error> {
-    let bounds = (bytes_of(low), bytes_of(high));
-    asked_range(alloc, ("key1", "key5"), |range| {
-        range.overlaps_with_bounds(&bounds)
-    })
+// Whether a range overlaps with two bounds.
+fn overlaps_with(range: KeyRange, low: Bound<&str>, high: Bound<&str>) -> bool {
+    range.overlaps_with_bounds(&(bytes_of(low), bytes_of(high)))
+}
+
+// Whether the range from "key1" to "key5" overlaps with two bounds, or not, as wanted.
+fn overlaps(
+    alloc: Global,
+    low: Bound<&str>,
+    high: Bound<&str>,
+    overlap: bool,
+) -> Result<bool, Error> {
+    let range = range_of(alloc, "key1", "key5")?;
+    Ok(overlaps_with(range, low, high) == overlap)
 }
 
 // A lower and an upper bound, and whether the range from "key1" to "key5" overlaps with them.
@@ -328,11 +314,10 @@ const BOUNDS: &[(Bound<&str>, Bound<&str>, bool)] = &[
 ];
 
 #[test]
-fn key_ranges_and_bounds(rt: HostRuntime) -> Result<(), Fail> {
+fn key_ranges_and_bounds(rt: HostRuntime) {
     for &(low, high, overlap) in BOUNDS {
-        assert!(rt; overlaps(rt.alloc(), low, high)? == overlap);
+        assert!(rt; holds(overlaps(rt.alloc(), low, high, overlap)));
     }
-    Ok(())
 }
 
 // Whether a run is in order, has four tables, and reaches over a range.
@@ -340,26 +325,30 @@ fn has_four_over(run: &Run<FakeTable>, range: &KeyRange) -> Result<bool, Error> 
     if run.as_slice().len() != 4 || !run.is_in_order() {
         return Ok(false);
     }
-    asked(run.aggregate_key_range(), |reach| *reach == *range)
+    Ok(is_range(run.aggregate_key_range()?, range))
 }
 
-// Whether four tables make a run that reaches over a range.
-fn four_make_a_run_over(alloc: Global, range: &KeyRange) -> Result<bool, Error> {
-    asked_four(alloc, |run| has_four_over(run, range))?
+// The same of a run and a range that are let go of.
+fn is_four_over(run: Run<FakeTable>, range: KeyRange) -> Result<bool, Error> {
+    has_four_over(&run, &range)
 }
 
 // Whether four tables make a run from the least to the greatest of their keys.
 fn four_make_a_run(alloc: Global) -> Result<bool, Error> {
-    asked_range(alloc, ("a", "z"), |range| {
-        four_make_a_run_over(alloc, range)
-    })?
+    let (run, range) = both(four(alloc), range_of(alloc, "a", "z"))?;
+    is_four_over(run, range)
 }
 
-// The id of the one of four tables that has a key.
-fn id_of_four(alloc: Global, key: &str) -> Result<Option<u64>, Error> {
-    asked_four(alloc, |run| {
-        run.get_for_key(key.as_bytes()).map(|table| table.id)
-    })
+// The id of the one table of a run that has a key.
+fn id_for_key(run: &Run<FakeTable>, key: &str) -> Option<u64> {
+    let table = run.get_for_key(key.as_bytes())?;
+    Some(table.id)
+}
+
+// Whether the one of four tables that has a key has this id.
+fn has_id_in_four(alloc: Global, key: &str, id: Option<u64>) -> Result<bool, Error> {
+    let run = four(alloc)?;
+    Ok(id_for_key(&run, key) == id)
 }
 
 // A key, and the id of the one of four tables that has it.
@@ -374,23 +363,27 @@ const FOUND: &[(&str, Option<u64>)] = &[
 ];
 
 #[test]
-fn the_table_of_a_key(rt: HostRuntime) -> Result<(), Fail> {
-    assert!(rt; four_make_a_run(rt.alloc())?);
+fn the_table_of_a_key(rt: HostRuntime) {
+    assert!(rt; holds(four_make_a_run(rt.alloc())));
     for &(key, id) in FOUND {
-        assert!(rt; id_of_four(rt.alloc(), key)? == id, "{key}");
+        assert!(rt; holds(has_id_in_four(rt.alloc(), key, id)), "{key}");
     }
-    Ok(())
 }
 
-// The places of the first and the last of four tables that overlap with two bounds.
-fn span_of_four(
+// The places of the first and the last table of a run that overlap with two bounds.
+fn span_of(run: &Run<FakeTable>, low: Bound<&str>, high: Bound<&str>) -> Option<(usize, usize)> {
+    run.range_overlap_indexes(bytes_of(low), bytes_of(high))
+}
+
+// Whether the same of four tables are these places.
+fn has_span_in_four(
     alloc: Global,
     low: Bound<&str>,
     high: Bound<&str>,
-) -> Result<Option<(usize, usize)>, Error> {
-    asked_four(alloc, |run| {
-        run.range_overlap_indexes(bytes_of(low), bytes_of(high))
-    })
+    span: Option<(usize, usize)>,
+) -> Result<bool, Error> {
+    let run = four(alloc)?;
+    Ok(span_of(&run, low, high) == span)
 }
 
 // A lower and an upper bound, and the places of the first and the last of four tables between them.
@@ -407,36 +400,32 @@ const SPANS: &[(Bound<&str>, Bound<&str>, Option<(usize, usize)>)] = &[
 ];
 
 #[test]
-fn the_tables_between_two_bounds(rt: HostRuntime) -> Result<(), Fail> {
+fn the_tables_between_two_bounds(rt: HostRuntime) {
     for &(low, high, span) in SPANS {
-        assert!(rt; span_of_four(rt.alloc(), low, high)? == span);
+        assert!(rt; holds(has_span_in_four(rt.alloc(), low, high, span)));
     }
-    Ok(())
 }
 
-// Whether the tables of four that overlap a range, and those that it contains, have these ids.
+// Whether the tables of a run that overlap a range, and those that it contains, have these ids.
 fn found_by_range(
-    alloc: Global,
-    range: &KeyRange,
+    run: Run<FakeTable>,
+    range: KeyRange,
     overlapping: &[u64],
     contained: &[u64],
-) -> Result<bool, Error> {
-    asked_four(alloc, |run| {
-        has_ids(run.get_overlapping(range), overlapping)
-            && has_ids(run.get_contained(range), contained)
-    })
+) -> bool {
+    has_ids(run.get_overlapping(&range), overlapping)
+        && has_ids(run.get_contained(&range), contained)
 }
 
-// The same of a range with these ends.
+// The same of four tables, and of a range with these ends.
 fn found_in_four(
     alloc: Global,
     range: (&str, &str),
     overlapping: &[u64],
     contained: &[u64],
 ) -> Result<bool, Error> {
-    asked_range(alloc, range, |range| {
-        found_by_range(alloc, range, overlapping, contained)
-    })?
+    let (run, range) = both(four(alloc), range_of(alloc, range.0, range.1))?;
+    Ok(found_by_range(run, range, overlapping, contained))
 }
 
 // The ends of a range, and the ids of the tables of four that overlap with it, and of those inside
@@ -451,12 +440,13 @@ const OVERLAPS: &[((&str, &str), &[u64], &[u64])] = &[
 ];
 
 #[test]
-fn the_tables_that_overlap_a_range(rt: HostRuntime) -> Result<(), Fail> {
+fn the_tables_that_overlap_a_range(rt: HostRuntime) {
     for &(range, overlapping, contained) in OVERLAPS {
-        let found = found_in_four(rt.alloc(), range, overlapping, contained)?;
-        assert!(rt; found, "{range:?}");
+        assert!(rt;
+            holds(found_in_four(rt.alloc(), range, overlapping, contained)),
+            "{range:?}"
+        );
     }
-    Ok(())
 }
 
 // The id of the second of four tables, which is removed; and then whether its least key is found, and the places of the tables
@@ -475,11 +465,22 @@ fn remove_second(run: &mut Run<FakeTable>) -> Option<u64> {
     Some(run.remove(1).id)
 }
 
+// The same of four tables.
+fn four_without_second(
+    alloc: Global,
+) -> Result<(Option<u64>, bool, Option<(usize, usize)>), Error> {
+    Ok(without_second(&mut four(alloc)?))
+}
+
 #[test]
 fn a_removed_table_is_not_found(rt: HostRuntime) -> Result<(), Fail> {
-    let without = changed_run(rt.alloc(), FOUR, |run| without_second(run))?;
-    assert!(rt; without == (Some(1), false, None));
+    assert!(rt; four_without_second(rt.alloc())? == (Some(1), false, None));
     Ok(())
+}
+
+// Whether a run is that of four tables.
+fn is_four(alloc: Global, run: &Run<FakeTable>) -> Result<bool, Error> {
+    Ok(four(alloc)? == *run)
 }
 
 // Puts a table behind four: whether they are in order, and are five. Then retains the four: whether they are as before.
@@ -491,15 +492,17 @@ fn put_behind_and_retain(
     let is_in_order = run.is_in_order();
     let are_five = has_ids(run.as_slice(), &[0, 1, 2, 3, 4]);
     run.retain(|table| table.id != 4);
-    let are_four = asked_four(alloc, |four| *run == *four)?;
-    Ok((is_in_order, are_five, are_four))
+    Ok((is_in_order, are_five, is_four(alloc, run)?))
+}
+
+// The same of four tables.
+fn put_behind_four_and_retained(alloc: Global) -> Result<(bool, bool, bool), Error> {
+    put_behind_and_retain(alloc, &mut four(alloc)?)
 }
 
 #[test]
 fn tables_are_put_behind_and_retained(rt: HostRuntime) -> Result<(), Fail> {
-    let alloc = rt.alloc();
-    let answers = changed_run(alloc, FOUR, |run| { put_behind_and_retain(alloc, run) })?;
-    assert!(rt; answers? == (false, true, true));
+    assert!(rt; put_behind_four_and_retained(rt.alloc())? == (false, true, true));
     Ok(())
 }
 
@@ -516,11 +519,15 @@ fn emptied(run: &mut Run<FakeTable>) -> (bool, bool, Option<(usize, usize)>) {
     (run.is_in_order(), is_found, span)
 }
 
+// The same of four tables.
+fn four_emptied(alloc: Global) -> Result<(bool, bool, Option<(usize, usize)>), Error> {
+    Ok(emptied(&mut four(alloc)?))
+}
+
 #[test]
 fn a_run_may_be_emptied(rt: HostRuntime) -> Result<(), Fail> {
     assert!(rt; none_make_no_run(rt.alloc()));
-    let answers = changed_run(rt.alloc(), FOUR, |run| emptied(run))?;
-    assert!(rt; answers == (true, false, None));
+    assert!(rt; four_emptied(rt.alloc())? == (true, false, None));
     Ok(())
 }
 
@@ -539,13 +546,14 @@ fn push_two_and_clear(alloc: Global, run: &mut Run<FakeTable>) -> Result<(bool, 
     Ok((are_three, run.as_slice().is_empty()))
 }
 
+// The same of the run of one table.
+fn two_pushed_and_cleared(alloc: Global) -> Result<(bool, bool), Error> {
+    push_two_and_clear(alloc, &mut run_of(alloc, &[(0, "a", "b")])?)
+}
+
 #[test]
 fn tables_of_one_least_key_keep_their_order(rt: HostRuntime) -> Result<(), Fail> {
-    let alloc = rt.alloc();
-    let answers = changed_run(alloc, &[(0, "a", "b")], |run| {
-        push_two_and_clear(alloc, run)
-    })?;
-    assert!(rt; answers? == (true, true));
+    assert!(rt; two_pushed_and_cleared(rt.alloc())? == (true, true));
     Ok(())
 }
 
@@ -556,16 +564,18 @@ fn put_behind_and_push(alloc: Global, run: &mut Run<FakeTable>) -> Result<bool, 
     Ok(has_ids(run.as_slice(), &[0, 4, 1, 2, 3, 5, 6]))
 }
 
+// The same of four tables.
+fn put_behind_four_and_pushed(alloc: Global) -> Result<bool, Error> {
+    put_behind_and_push(alloc, &mut four(alloc)?)
+}
+
 #[test]
-fn a_push_sorts_a_run_that_is_out_of_order(rt: HostRuntime) -> Result<(), Fail> {
-    let alloc = rt.alloc();
-    let is_sorted = changed_run(alloc, FOUR, |run| put_behind_and_push(alloc, run))?;
-    assert!(rt; is_sorted?);
-    Ok(())
+fn a_push_sorts_a_run_that_is_out_of_order(rt: HostRuntime) {
+    assert!(rt; holds(put_behind_four_and_pushed(rt.alloc())));
 }
 
 // Whether a table as it stands in a run shows its id and its range.
-fn shows(table: &Indexed<FakeTable>, id: u64, min: &str, max: &str) -> bool {
+fn shows(table: Indexed<FakeTable>, id: u64, min: &str, max: &str) -> bool {
     let range = table.key_range();
     table.id == id
         && range.min().as_slice() == min.as_bytes()
@@ -573,25 +583,22 @@ fn shows(table: &Indexed<FakeTable>, id: u64, min: &str, max: &str) -> bool {
 }
 
 fn shows_its_table(alloc: Global) -> Result<bool, Error> {
-    asked(table_of(alloc, &(7, "k", "l")).map(Indexed::new), |table| {
-        shows(table, 7, "k", "l")
-    })
+    let table = Indexed::new(table_of(alloc, &(7, "k", "l"))?);
+    Ok(shows(table, 7, "k", "l"))
 }
 
 #[test]
-fn a_table_of_a_run_has_its_range(rt: HostRuntime) -> Result<(), Fail> {
-    assert!(rt; shows_its_table(rt.alloc())?);
-    Ok(())
-}
-
-// How many tables a chain of some runs has.
-fn chain_len<A: Allocator + Copy>(alloc: A, runs: &[Run<FakeTable<A>, A>]) -> Result<usize, Error> {
-    Ok(overlap_chain(alloc, runs)?.len())
+fn a_table_of_a_run_has_its_range(rt: HostRuntime) {
+    assert!(rt; holds(shows_its_table(rt.alloc())));
 }
 
 // Whether a chain of some runs goes through these. Of several tables that could be a chain's only
 // one, any may be.
-fn are_chained(alloc: Global, runs: &[Run<FakeTable>], chain: &[usize]) -> Result<bool, Error> {
+fn are_chained<A: Allocator + Copy>(
+    alloc: A,
+    runs: &[Run<FakeTable<A>, A>],
+    chain: &[usize],
+) -> Result<bool, Error> {
     let found = overlap_chain(alloc, runs)?;
     let chained = found.len() == 1 || found.iter().zip(chain).all(|(found, run)| found.0 == *run);
     Ok(found.len() == chain.len() && chained)
@@ -607,17 +614,26 @@ fn are_packed<A: Allocator + Copy>(
 }
 
 // Whether some runs are packed into runs of these ids, and a chain goes through these.
-fn packs(
-    alloc: Global,
+fn packs<A: Allocator + Copy>(
+    alloc: A,
     runs: &[&[(u64, &str, &str)]],
     packed: &[&[u64]],
     chain: &[usize],
 ) -> Result<bool, Error> {
     let made = runs_of(alloc, runs)?;
     let chained = are_chained(alloc, &made, chain);
-    let (made, chained) = beside(made, chained)?;
-    Ok(are_packed(alloc, made, packed)? && chained)
+    let are_packed = are_packed(alloc, made, packed);
+    Ok(chained? && are_packed?)
 }
+
+const THREE_RUNS: &[&[(u64, &str, &str)]] = &[&[(2, "m", "p")], &[(1, "a", "z")], &[(0, "a", "c")]];
+
+const FOUR_RUNS: &[&[(u64, &str, &str)]] = &[
+    &[(0, "a", "c"), (1, "m", "p")],
+    &[(2, "b", "n")],
+    &[(3, "d", "f")],
+    &[(4, "x", "z")],
+];
 
 // In each: some runs, the ids of the runs that they are packed into, and the runs of a chain.
 const PACKINGS: &[(&[&[(u64, &str, &str)]], &[&[u64]], &[usize])] = &[
@@ -639,78 +655,41 @@ const PACKINGS: &[(&[&[(u64, &str, &str)]], &[&[u64]], &[usize])] = &[
         &[0, 1],
     ),
     (&[&[(1, "d", "f")], &[(0, "a", "c")]], &[&[0, 1]], &[0]),
-    (
-        &[&[(2, "m", "p")], &[(1, "a", "z")], &[(0, "a", "c")]],
-        &[&[2], &[1], &[0]],
-        &[0, 1, 2],
-    ),
-    (
-        &[
-            &[(0, "a", "c"), (1, "m", "p")],
-            &[(2, "b", "n")],
-            &[(3, "d", "f")],
-            &[(4, "x", "z")],
-        ],
-        &[&[0, 1, 4], &[2], &[3]],
-        &[0, 1, 2],
-    ),
+    (THREE_RUNS, &[&[2], &[1], &[0]], &[0, 1, 2]),
+    (FOUR_RUNS, &[&[0, 1, 4], &[2], &[3]], &[0, 1, 2]),
     (&[&[(0, "a", "z"), (1, "c", "d")]], &[&[0, 1]], &[0]),
 ];
 
 #[test]
-fn packed_runs(rt: HostRuntime) -> Result<(), Fail> {
+fn packed_runs(rt: HostRuntime) {
     for &(runs, packed, chain) in PACKINGS {
-        assert!(rt; packs(rt.alloc(), runs, packed, chain)?);
+        assert!(rt; holds(packs(rt.alloc(), runs, packed, chain)));
     }
-    Ok(())
 }
 
-// Whether packing gives runs of these ids, and the chain has as many places, or memory was refused
-// where it may be.
+// Whether packing gives runs of these ids, and a chain of three goes through the first three runs, or memory was refused where it
+// may be.
 fn packs_to<A: Allocator + Copy>(
     alloc: A,
     runs: &[&[(u64, &str, &str)]],
     ids: &[&[u64]],
     may_fail: bool,
 ) -> bool {
-    match packed_and_chained(alloc, runs, ids) {
-        Ok(packed_and_chained) => packed_and_chained,
+    match packs(alloc, runs, ids, &[0, 1, 2]) {
+        Ok(packs) => packs,
         Err(Error::OutOfMemory) => may_fail,
         Err(_) => false,
     }
 }
 
-fn packed_and_chained<A: Allocator + Copy>(
-    alloc: A,
-    runs: &[&[(u64, &str, &str)]],
-    ids: &[&[u64]],
-) -> Result<bool, Error> {
-    let made = runs_of(alloc, runs)?;
-    let chained = chain_len(alloc, &made);
-    let (made, chained) = beside(made, chained)?;
-    Ok(are_packed(alloc, made, ids)? && chained == ids.len())
-}
-
 #[test]
-fn each_request_for_memory_refused(rt: HostRuntime) -> Result<(), Fail> {
+fn each_request_for_memory_refused(rt: HostRuntime) {
     let three = each_refused(rt.alloc(), |heap, may_fail| {
-        let runs: [&[(u64, &str, &str)]; 3] = [
-            &[(2, "m", "p")],
-            &[(1, "a", "z")],
-            &[(0, "a", "c")],
-        ];
-        packs_to(heap, &runs, &[&[2], &[1], &[0]], may_fail)
+        packs_to(heap, THREE_RUNS, &[&[2], &[1], &[0]], may_fail)
     });
     assert!(rt; three.is_ok_and(|requests| requests > 5));
     let four = each_refused(rt.alloc(), |heap, may_fail| {
-        let runs: [&[(u64, &str, &str)]; 4] = [
-            &[(0, "a", "c"), (1, "m", "p")],
-            &[(2, "b", "n")],
-            &[(3, "d", "f")],
-            &[(4, "x", "z")],
-        ];
-        packs_to(heap, &runs, &[&[0, 1, 4], &[2], &[3]], may_fail)
+        packs_to(heap, FOUR_RUNS, &[&[0, 1, 4], &[2], &[3]], may_fail)
     });
     assert!(rt; four.is_ok_and(|requests| requests > 5));
-    Ok(())
 }

@@ -5,36 +5,34 @@ ghost use Rattle.sst_entries.specs.Stream.{CanDeal, nowhere};
 
 use crate::merging::passed_of;
 use crate::merging_front::forward_of;
-use crate::words::{holds, is_text, put_entry, put_result};
+use crate::words::{gives_all, gives_so, holds, said_by, said_of_entry};
 use lsm_sorted::MvccStream;
 use lsm_sorted::compaction::stream::{
     CompactionStream, DroppedKvCallback, StreamFilter, StreamFilterVerdict,
 };
 use refusing::Refusing;
 use sst_entries::{Error, InternalValue, IterItem, Slice, ValueType};
-use std::alloc::{AllocError, Allocator, Global};
+use std::alloc::{Allocator, Global};
+use std::str::SplitWhitespace;
 
-// Remembers what it received.
+// Compares what it receives to the words that it is to receive.
 #[derive(Drop)]
 struct Received {
-    text: String,
-    is_whole: bool,
+    words: SplitWhitespace<'static>,
+    is_right: bool,
 }
 
 impl Received {
-    fn new(alloc: Global) -> Received {
+    fn new(wanted: &'static str) -> Received {
         Received {
-            text: String::new(alloc),
-            is_whole: true,
+            words: wanted.split_whitespace(),
+            is_right: true,
         }
     }
 
-    fn into_text(self) -> Result<String, AllocError> {
-        if self.is_whole {
-            Ok(self.text)
-        } else {
-            Err(AllocError)
-        }
+    // Whether it received all.
+    fn is_done(mut self) -> bool {
+        self.is_right && self.words.next().is_none()
     }
 }
 
@@ -42,9 +40,8 @@ impl DroppedKvCallback<Global> for Received {
     ghost gets = { λ c x d. Unit {0} };
 
     fn on_dropped(&mut self, kv: &InternalValue) {
-        if put_entry(&mut self.text, kv).is_err() {
-            self.is_whole = false;
-        }
+        let said = said_of_entry(kv);
+        self.is_right &= self.words.next().is_some_and(|word| said_by(word) == said);
     }
 }
 
@@ -104,45 +101,8 @@ impl StreamFilter<Global> for NewestOfFive {
     }
 }
 
-// Adds the word of a result that is let go of.
-fn put_given<A: Allocator>(text: &mut String, item: IterItem<A>) -> Result<(), AllocError> {
-    let done = put_result(text, &item);
-    drop(item);
-    done
-}
-
-// The words of a stream's results, to its end.
-fn drained<A: Allocator, I: Iterator<Item = IterItem<A>>>(
-    alloc: Global,
-    stream: &mut I,
-) -> Result<String, AllocError>
-    requires can { I.can_next stream.old }
-    requires finite { IsFinite (I.remaining stream.old) }
-{
-    let mut text = String::new(alloc);
-    while let Some(item) = stream.next() {
-        put_given(&mut text, item)?;
-    }
-    Ok(text)
-}
-
-// Whether a stream gives these results to its end.
-fn gives_so<A: Allocator, I: Iterator<Item = IterItem<A>> + Drop>(
-    alloc: Global,
-    mut stream: I,
-    wanted: &str,
-) -> bool
-    requires can { I.can_next stream }
-    requires finite { IsFinite (I.remaining stream) }
-{
-    let text = drained(alloc, &mut stream);
-    drop(stream);
-    matches!(is_text(text, wanted), Ok(true))
-}
-
 // Whether a compaction of this source, whatever it is, leaves these for readers at the threshold, without a filter.
 pub fn leaves_so<A: Allocator, I: Iterator<Item = IterItem<A>> + Drop>(
-    alloc: Global,
     source: I,
     threshold: u64,
     wanted: &str,
@@ -150,7 +110,7 @@ pub fn leaves_so<A: Allocator, I: Iterator<Item = IterItem<A>> + Drop>(
     requires can { CanDeal I.next_gives nowhere I.can_next I.can_next source }
     requires finite { IsFinite (I.remaining source) }
 {
-    gives_so(alloc, CompactionStream::new(source, threshold), wanted)
+    gives_so(CompactionStream::new(source, threshold), wanted)
 }
 
 // How a compaction is done.
@@ -171,11 +131,10 @@ const PLAIN: Settings = Settings {
 
 // Whether a compaction of this source, whatever it is, gives these results and reports these entries.
 fn gives_and_reports<I: Iterator<Item = IterItem> + Drop>(
-    alloc: Global,
     settings: &Settings,
     items: I,
     results: &str,
-    reports: &str,
+    reports: &'static str,
 ) -> bool
     requires can { CanDeal I.next_gives nowhere I.can_next I.can_next items }
     requires finite { IsFinite (I.remaining items) }
@@ -184,10 +143,9 @@ fn gives_and_reports<I: Iterator<Item = IterItem> + Drop>(
         .evict_tombstones(settings.evict)
         .zero_seqnos(settings.zero)
         .with_filter(settings.plan)
-        .with_drop_callback(Received::new(alloc));
-    let given = is_text(drained(alloc, &mut stream), results);
-    let received = is_text(stream.into_callback().into_text(), reports);
-    matches!(given, Ok(true)) && matches!(received, Ok(true))
+        .with_drop_callback(Received::new(reports));
+    let given = gives_all(&mut stream, results);
+    stream.into_callback().is_done() && given
 }
 
 // The same of some results.
@@ -196,10 +154,10 @@ fn compacts(
     settings: &Settings,
     over: &str,
     results: &str,
-    reports: &str,
+    reports: &'static str,
 ) -> Result<bool, Error> {
     let items = forward_of(alloc, over)?;
-    Ok(gives_and_reports(alloc, settings, items, results, reports))
+    Ok(gives_and_reports(settings, items, results, reports))
 }
 
 // In each table: what is compacted, the results, and what is reported.
@@ -339,7 +297,7 @@ fn leaves_newest_of_five(
     };
     let items = forward_of(alloc, over)?;
     let stream = CompactionStream::new(items, 995).with_filter(filter);
-    Ok(gives_so(alloc, stream, wanted))
+    Ok(gives_so(stream, wanted))
 }
 
 // What is compacted, the watermark of the filter, and the results.
@@ -365,42 +323,35 @@ fn keeps_a_state_in_the_filter(rt: HostRuntime) {
 // Whether a compaction without a filter leaves these of some results in the memory of any allocator.
 fn leaves_unfiltered<A: Allocator + Copy>(
     memory: A,
-    alloc: Global,
     over: &str,
     threshold: u64,
     wanted: &str,
 ) -> Result<bool, Error> {
     let items = passed_of(memory, over)?;
-    Ok(leaves_so(alloc, items, threshold, wanted))
+    Ok(leaves_so(items, threshold, wanted))
 }
 
 #[test]
 fn needs_neither_filter_nor_callback(rt: HostRuntime) {
     let over = "aV2353 bV2353 cV2353";
-    assert!(rt; holds(leaves_unfiltered(rt.alloc(), rt.alloc(), over, 5000, over)));
+    assert!(rt; holds(leaves_unfiltered(rt.alloc(), over, 5000, over)));
 }
 
 // Whether a stream of the newest versions gives these of some results in the memory of any allocator.
-fn gives_newest<A: Allocator + Copy>(
-    memory: A,
-    alloc: Global,
-    over: &str,
-    wanted: &str,
-) -> Result<bool, Error> {
+fn gives_newest<A: Allocator + Copy>(memory: A, over: &str, wanted: &str) -> Result<bool, Error> {
     let items = passed_of(memory, over)?;
-    Ok(gives_so(alloc, MvccStream::new(items), wanted))
+    Ok(gives_so(MvccStream::new(items), wanted))
 }
 
 // Whether streams of both kinds take entries in the memory of any allocator.
-fn streams_take<A: Allocator + Copy>(memory: A, alloc: Global) -> bool {
+fn streams_take<A: Allocator + Copy>(memory: A) -> bool {
     let over = "aV4 aV3 aV2";
-    holds(leaves_unfiltered(memory, alloc, over, 4, "aV4 aV3"))
-        && holds(gives_newest(memory, alloc, over, "aV4"))
+    holds(leaves_unfiltered(memory, over, 4, "aV4 aV3")) && holds(gives_newest(memory, over, "aV4"))
 }
 
 #[test]
 fn streams_take_entries_of_any_allocator(rt: HostRuntime) {
     let heap = Refusing::new(rt.alloc(), 0);
-    assert!(rt; streams_take(&heap, rt.alloc()));
+    assert!(rt; streams_take(&heap));
     assert!(rt; heap.requests() > 0);
 }

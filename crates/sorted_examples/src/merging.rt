@@ -1,8 +1,9 @@
 //! Merging several sources from both ends, and what that takes of memory.
-ghost use Rattle.std.specs.Prelude.{All, IfOk};
+ghost use Rattle.std.specs.Prelude.{All};
 ghost use Rattle.std.specs.Iterator.{IsFinite};
 ghost use Rattle.sst_entries.specs.Stream.{CanDeal};
 
+use crate::streams::is_made;
 use crate::words::{answers_so, holds, once_done, push_made, results_of};
 use lsm_sorted::{Merger, from_both_ends};
 use refusing::{Refusing, each_refused};
@@ -68,36 +69,20 @@ pub fn sources_of<A: Allocator + Copy>(alloc: A, text: &str) -> Result<Vec<Passe
     once_done(sources, done)
 }
 
-// A merger of these sources, whatever they are, that may be asked at both ends.
-fn merger_of<I: DoubleEndedIterator<Item = IterItem<A>>, A: Allocator + Copy>(
+// Whether a merger of these sources, whatever they are, answers so at the ends.
+fn merger_answers_so<I: DoubleEndedIterator<Item = IterItem<A>> + Drop, A: Allocator + Copy>(
     alloc: A,
     sources: Vec<I, A>,
-) -> Result<Merger<I, A>, Error>
+    ends: &str,
+    wanted: &str,
+) -> Result<bool, Error>
     requires can { All (CanDeal I.next_gives I.next_back_gives I.can_next I.can_next_back)
         sources.items }
     requires finite { All (λ s. IsFinite (I.remaining s)) sources.items }
-    ensures { IfOk result (CanDeal ⟦<Merger<I, A> as Iterator>⟧.next_gives
-        ⟦<Merger<I, A> as DoubleEndedIterator>⟧.next_back_gives
-        ⟦<Merger<I, A> as Iterator>⟧.can_next
-        ⟦<Merger<I, A> as DoubleEndedIterator>⟧.can_next_back) }
 {
     let merger = Merger::new(alloc, sources)?;
     from_both_ends(&merger);
-    Ok(merger)
-}
-
-// Whether a merger answers so at the ends.
-fn merger_answers_so<
-    I: DoubleEndedIterator<Item = IterItem<A>> + Drop,
-    A: Allocator,
-    B: Allocator + Copy,
->(alloc: B, merger: Merger<I, A>, ends: &str, wanted: &str) -> Result<bool, Error>
-    requires { CanDeal ⟦<Merger<I, A> as Iterator>⟧.next_gives
-        ⟦<Merger<I, A> as DoubleEndedIterator>⟧.next_back_gives
-        ⟦<Merger<I, A> as Iterator>⟧.can_next
-        ⟦<Merger<I, A> as DoubleEndedIterator>⟧.can_next_back merger }
-{
-    answers_so(alloc, merger, ends, wanted)
+    Ok(answers_so(merger, ends, wanted))
 }
 
 // Whether a merger of the sources that a text spells answers so at the ends.
@@ -107,8 +92,7 @@ fn merges<A: Allocator + Copy>(
     ends: &str,
     wanted: &str,
 ) -> Result<bool, Error> {
-    let merger = merger_of(alloc, sources_of(alloc, sources)?)?;
-    merger_answers_so(alloc, merger, ends, wanted)
+    merger_answers_so(alloc, sources_of(alloc, sources)?, ends, wanted)
 }
 
 // Sources, ends and answers.
@@ -144,7 +128,7 @@ fn gives_the_entries_of_all_sources_in_order_up_to_an_error(rt: HostRuntime) {
 #[test]
 fn refuses_memory_when_made(rt: HostRuntime) {
     let answers = each_refused(rt.alloc(), |heap, may_fail| {
-        match merges(heap, "aV1 cV1 / bV2 /", "FBFB", "aV1 cV1 bV2 -") {
+        match merges(heap, TWO_SOURCES, "FBFB", "aV1 cV1 bV2 -") {
             Ok(answer) => answer,
             Err(Error::OutOfMemory) => may_fail,
             Err(_) => false,
@@ -153,22 +137,31 @@ fn refuses_memory_when_made(rt: HostRuntime) {
     assert!(rt; answers.is_ok_and(|requests| requests > 10));
 }
 
-// Whether a merger of sources, all in memory over a heap, makes requests of it when it is made, and none while it answers.
-fn requests_at_first_alone<A: Allocator + Copy>(
-    alloc: Global,
-    heap: &Refusing,
-    memory: A,
-) -> Result<bool, Error> {
-    let sources = sources_of(memory, "aV1 cV1 / bV2 /")?;
-    let before = heap.requests();
-    let merger = merger_of(memory, sources)?;
-    let made = heap.requests();
-    let is_right = holds(merger_answers_so(alloc, merger, "FBFB", "aV1 cV1 bV2 -"));
-    Ok(is_right && before < made && made == heap.requests())
+const TWO_SOURCES: &str = "aV1 cV1 / bV2 /";
+
+// How many requests for memory two sources take, before they are merged.
+fn requests_of_two(alloc: Global) -> usize {
+    let heap = Refusing::new(alloc, 0);
+    if is_made(sources_of(&heap, TWO_SOURCES)) {
+        heap.requests()
+    } else {
+        usize::MAX
+    }
+}
+
+// How many requests two sources and their merger take, which answers so at the ends; or 0 where it does not.
+fn requests_once_merged(alloc: Global, ends: &str, wanted: &str) -> usize {
+    let heap = Refusing::new(alloc, 0);
+    if holds(merges(&heap, TWO_SOURCES, ends, wanted)) {
+        heap.requests()
+    } else {
+        0
+    }
 }
 
 #[test]
 fn takes_no_memory_after_it_is_made(rt: HostRuntime) {
-    let heap = Refusing::new(rt.alloc(), 0);
-    assert!(rt; holds(requests_at_first_alone(rt.alloc(), &heap, &heap)));
+    let made = requests_once_merged(rt.alloc(), "", "");
+    let answered = requests_once_merged(rt.alloc(), "FBFB", "aV1 cV1 bV2 -");
+    assert!(rt; requests_of_two(rt.alloc()) < made && made == answered);
 }

@@ -1,10 +1,8 @@
 //! Merging from the front alone: sources without a back, and errors in the middle and at the far end of one of three sources.
-ghost use Rattle.sst_entries.specs.Stream.{CanDeal, nowhere};
-
-use crate::words::{holds, is_text, once_done, push_made, results_of, text_of};
+use crate::words::{begins_so, holds, once_done, push_made, results_of};
 use lsm_sorted::Merger;
 use sst_entries::{Error, IterItem};
-use std::alloc::{AllocError, Allocator, Global};
+use std::alloc::Global;
 use std::vec::IntoIter;
 
 // A source that passes on what a list holds, from the front alone.
@@ -48,54 +46,10 @@ pub fn sources_of(alloc: Global, text: &str) -> Result<Vec<Forward>, Error> {
     once_done(sources, done)
 }
 
-// The first answers of a stream, as many as these.
-fn first_answers<A: Allocator, I: Iterator<Item = IterItem<A>>>(
-    alloc: Global,
-    stream: &mut I,
-    count: usize,
-) -> Result<Vec<Option<IterItem<A>>>, AllocError>
-    requires { CanDeal I.next_gives nowhere I.can_next I.can_next stream.old }
-{
-    let mut answers = Vec::new(alloc);
-    while answers.len() < count {
-        let answer = stream.next();
-        answers.push(answer)?;
-    }
-    Ok(answers)
-}
-
-// The words of the first answers of a stream, as many as these.
-fn first_words<A: Allocator, I: Iterator<Item = IterItem<A>>>(
-    alloc: Global,
-    stream: &mut I,
-    count: usize,
-) -> Result<String, AllocError>
-    requires { CanDeal I.next_gives nowhere I.can_next I.can_next stream.old }
-{
-    let answers = first_answers(alloc, stream, count)?;
-    let text = text_of(alloc, &answers);
-    drop(answers);
-    text
-}
-
-// Whether a stream answers so first.
-pub fn begins_so<A: Allocator, I: Iterator<Item = IterItem<A>> + Drop>(
-    alloc: Global,
-    mut stream: I,
-    wanted: &str,
-) -> Result<bool, Error>
-    requires { CanDeal I.next_gives nowhere I.can_next I.can_next stream }
-{
-    let count = wanted.split_whitespace().count();
-    let words = first_words(alloc, &mut stream, count);
-    drop(stream);
-    Ok(is_text(words, wanted)?)
-}
-
 // Whether a merger of the sources gives these answers first.
 fn merges(alloc: Global, sources: &str, wanted: &str) -> Result<bool, Error> {
     let merger = Merger::new(alloc, sources_of(alloc, sources)?)?;
-    begins_so(alloc, merger, wanted)
+    Ok(begins_so(merger, wanted))
 }
 
 // Sources and answers.

@@ -4,30 +4,30 @@ ghost use Rattle.std.specs.Iterator.{IsFinite};
 ghost use Rattle.sst_entries.specs.Stream.{CanDeal, nowhere};
 
 use crate::merging::{self, passed_of};
-use crate::merging_front::{begins_so, sources_of};
-use crate::words::{answers_so, holds};
+use crate::merging_front::sources_of;
+use crate::words::{answers_so, begins_so, holds};
 use lsm_sorted::{MvccStream, newest_from_both_ends, newest_of};
 use sst_entries::{Error, IterItem};
-use std::alloc::{Allocator, Global};
+use std::alloc::Global;
 
 // Whether a stream over this source, whatever it is, answers so at the ends.
-fn stream_answers_so<I: DoubleEndedIterator<Item = IterItem<A>> + Drop, A: Allocator>(
-    alloc: Global,
+fn stream_answers_so<I: DoubleEndedIterator<Item = IterItem> + Drop>(
     source: I,
     ends: &str,
     wanted: &str,
-) -> Result<bool, Error>
+) -> bool
     requires can { CanDeal I.next_gives I.next_back_gives I.can_next I.can_next_back source }
     requires finite { IsFinite (I.remaining source) }
 {
     let stream = MvccStream::new(source);
     stream.from_both_ends();
-    answers_so(alloc, stream, ends, wanted)
+    answers_so(stream, ends, wanted)
 }
 
 // Whether a stream over some results answers so at the ends.
 fn answers(alloc: Global, results: &str, ends: &str, wanted: &str) -> Result<bool, Error> {
-    stream_answers_so(alloc, passed_of(alloc, results)?, ends, wanted)
+    let source = passed_of(alloc, results)?;
+    Ok(stream_answers_so(source, ends, wanted))
 }
 
 // Results, ends and answers.
@@ -105,9 +105,9 @@ fn gives_the_newest_version_of_each_key_from_either_end(rt: HostRuntime) {
 }
 
 // Whether the newest versions of these sources, whatever they are, are these at the ends.
-fn newest_answers_so<I: DoubleEndedIterator<Item = IterItem<A>> + Drop, A: Allocator + Copy>(
-    alloc: A,
-    sources: Vec<I, A>,
+fn newest_answers_so<I: DoubleEndedIterator<Item = IterItem> + Drop>(
+    alloc: Global,
+    sources: Vec<I>,
     ends: &str,
     wanted: &str,
 ) -> Result<bool, Error>
@@ -117,7 +117,7 @@ fn newest_answers_so<I: DoubleEndedIterator<Item = IterItem<A>> + Drop, A: Alloc
 {
     let stream = newest_of(alloc, sources)?;
     newest_from_both_ends(&stream);
-    answers_so(alloc, stream, ends, wanted)
+    Ok(answers_so(stream, ends, wanted))
 }
 
 // Whether the newest versions of the sources that a text spells are these at the ends.
@@ -176,7 +176,8 @@ fn newest_begins_so<I: Iterator<Item = IterItem> + Drop>(
     requires can { All (CanDeal I.next_gives nowhere I.can_next I.can_next) sources.items }
     requires finite { All (λ s. IsFinite (I.remaining s)) sources.items }
 {
-    begins_so(alloc, newest_of(alloc, sources)?, wanted)
+    let stream = newest_of(alloc, sources)?;
+    Ok(begins_so(stream, wanted))
 }
 
 // Whether the newest versions of sources without a back are these first.

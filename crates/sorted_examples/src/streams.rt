@@ -44,7 +44,7 @@ fn compaction_of<I: Iterator<Item = IterItem<A>>, A: Allocator + Clone>(
 // Whether readers at 5 need these of the sources that a text spells, each up to a `/`.
 fn compacts(alloc: Global, sources: &str, wanted: &str) -> Result<bool, Error> {
     let merger = Merger::new(alloc, sources_of(alloc, sources)?)?;
-    Ok(leaves_so(alloc, merger, 5, wanted))
+    Ok(leaves_so(merger, 5, wanted))
 }
 
 // Whether a value is made, of which nothing more is asked.

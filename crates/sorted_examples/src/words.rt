@@ -3,10 +3,14 @@
 //! `aV9` is an entry of the key `a` and the number 9, a value that is its key, and `aV9x` has the value `x`. `T` and `W` are
 //! the tombstones, without a value. `!4` is the error 4 of a caller's own source, `?1` a refused request for memory, and `-`
 //! no answer.
-ghost use Rattle.sst_entries.specs.Stream.{CanDeal};
+ghost use Rattle.std.specs.Iterator.{IsFinite};
+ghost use Rattle.sst_entries.specs.Stream.{CanDeal, nowhere};
 
-use sst_entries::{Direction, Error, InternalValue, IterItem, Slice, ValueType, answers_at};
-use std::alloc::{AllocError, Allocator};
+use sst_entries::{Direction, Error, InternalValue, IterItem, Slice, ValueType, answer_at};
+use std::alloc::Allocator;
+
+/// What a word says: a key or the sign before a number, the letter of a kind, a number, and a value. What is not there is 0.
+pub type Said = (u8, u8, u64, u8);
 
 fn slice_of<A: Allocator + Copy>(alloc: A, byte: u8) -> Result<Slice<A>, Error> {
     if byte == 0 {
@@ -35,6 +39,19 @@ fn number_and_byte(text: &[u8]) -> (u64, u8) {
     (number, 0)
 }
 
+/// What a word says.
+pub fn said_by(word: &str) -> Said {
+    match word.as_bytes() {
+        [sign @ (b'!' | b'?' | b'-'), digits @ ..] => (*sign, 0, number_and_byte(digits).0, 0),
+        [key, kind, rest @ ..] => {
+            let (number, byte) = number_and_byte(rest);
+            let is_key = *kind == b'V' && byte == 0;
+            (*key, *kind, number, if is_key { *key } else { byte })
+        }
+        _ => (0, 0, 0, 0),
+    }
+}
+
 // Two values, or the refusal of the first that is refused.
 fn both<T: Drop, U: Drop>(
     first: Result<T, Error>,
@@ -43,34 +60,30 @@ fn both<T: Drop, U: Drop>(
     Ok((first?, second?))
 }
 
-fn entry_of<A: Allocator + Copy>(
-    alloc: A,
-    key: u8,
-    kind: u8,
-    rest: &[u8],
-) -> Result<InternalValue<A>, Error> {
-    let (seqno, byte) = number_and_byte(rest);
-    let (kind, value) = match kind {
-        b'T' => (ValueType::Tombstone, byte),
-        b'W' => (ValueType::WeakTombstone, byte),
-        _ if byte == 0 => (ValueType::Value, key),
-        _ => (ValueType::Value, byte),
-    };
-    let (key, value) = both(slice_of(alloc, key), slice_of(alloc, value))?;
-    Ok(InternalValue::from_components(key, value, seqno, kind))
+// The kind of a letter.
+fn kind_of(letter: u8) -> ValueType {
+    match letter {
+        b'T' => ValueType::Tombstone,
+        b'W' => ValueType::WeakTombstone,
+        _ => ValueType::Value,
+    }
 }
 
-// A result that gives a value, where that was made.
-fn given<T: Drop>(made: Result<T, Error>) -> Result<Result<T, Error>, Error> {
-    Ok(Ok(made?))
+// The result that gives the entry of which this is said.
+fn entry_of<A: Allocator + Copy>(alloc: A, said: Said) -> Result<IterItem<A>, Error> {
+    let (key, kind, number, value) = said;
+    let (key, value) = both(slice_of(alloc, key), slice_of(alloc, value))?;
+    let entry = InternalValue::from_components(key, value, number, kind_of(kind));
+    Ok(Ok(entry))
 }
 
 // The result that a word stands for.
 fn result_of<A: Allocator + Copy>(alloc: A, word: &str) -> Result<IterItem<A>, Error> {
-    match word.as_bytes() {
-        [b'!', code @ ..] => Ok(Err(Error::Source(number_and_byte(code).0))),
-        [b'?', ..] | [] | [_] => Ok(Err(Error::OutOfMemory)),
-        [key, kind, rest @ ..] => given(entry_of(alloc, *key, *kind, rest)),
+    let said = said_by(word);
+    match said.0 {
+        b'!' => Ok(Err(Error::Source(said.2))),
+        b'?' => Ok(Err(Error::OutOfMemory)),
+        _ => entry_of(alloc, said),
     }
 }
 
@@ -116,118 +129,41 @@ fn end_of(letter: u8) -> Direction {
     }
 }
 
-// The ends that `F` and `B` stand for.
-fn ends_of<A: Allocator>(alloc: A, text: &str) -> Result<Vec<Direction, A>, AllocError> {
-    let mut ends = Vec::new(alloc);
-    for letter in text.bytes() {
-        ends.push(end_of(letter))?;
-    }
-    Ok(ends)
-}
-
-// Parts a word from those before it.
-fn put_space<B: Allocator>(text: &mut String<B>) -> Result<(), AllocError> {
-    if text.is_empty() {
-        return Ok(());
-    }
-    text.push(' ')
-}
-
 // The letter of a kind.
-fn letter_of(kind: ValueType) -> char {
+fn letter_of(kind: ValueType) -> u8 {
     match kind {
-        ValueType::Value => 'V',
-        ValueType::Tombstone => 'T',
-        ValueType::WeakTombstone => 'W',
-        ValueType::Indirection => 'I',
+        ValueType::Value => b'V',
+        ValueType::Tombstone => b'T',
+        ValueType::WeakTombstone => b'W',
+        ValueType::Indirection => b'I',
     }
 }
 
-// Adds the word of an entry without its value.
-fn put_key<B: Allocator>(
-    text: &mut String<B>,
-    key: u8,
-    kind: char,
-    seqno: u64,
-) -> Result<(), AllocError> {
-    put_space(text)?;
-    write!(text, "{}{kind}{seqno}", char::from(key))
+/// What is said of an entry.
+pub fn said_of_entry<A: Allocator>(entry: &InternalValue<A>) -> Said {
+    (
+        byte_of(&entry.key.user_key),
+        letter_of(entry.key.value_type),
+        entry.key.seqno,
+        byte_of(&entry.value),
+    )
 }
 
-/// Adds an entry's word to those of a text.
-pub fn put_entry<A: Allocator, B: Allocator>(
-    text: &mut String<B>,
-    entry: &InternalValue<A>,
-) -> Result<(), AllocError> {
-    let key = byte_of(&entry.key.user_key);
-    let value = byte_of(&entry.value);
-    let kind = letter_of(entry.key.value_type);
-    put_key(text, key, kind, entry.key.seqno)?;
-    if value != 0 && (kind != 'V' || value != key) {
-        text.push(char::from(value))?;
-    }
-    Ok(())
-}
-
-// Adds an error's word.
-fn put_error<B: Allocator>(text: &mut String<B>, error: &Error) -> Result<(), AllocError> {
-    let (sign, number) = match error {
-        Error::Source(code) => ('!', *code),
-        error => ('?', u64::from(error.number())),
-    };
-    put_space(text)?;
-    write!(text, "{sign}{number}")
-}
-
-/// Adds a result's word.
-pub fn put_result<A: Allocator, B: Allocator>(
-    text: &mut String<B>,
-    item: &IterItem<A>,
-) -> Result<(), AllocError> {
-    match item {
-        Ok(entry) => put_entry(text, entry),
-        Err(error) => put_error(text, error),
-    }
-}
-
-// Adds an answer's word.
-fn put_answer<A: Allocator, B: Allocator>(
-    text: &mut String<B>,
-    answer: &Option<IterItem<A>>,
-) -> Result<(), AllocError> {
+// What is said of an answer.
+fn said_of<A: Allocator>(answer: &Option<IterItem<A>>) -> Said {
     match answer {
-        Some(item) => put_result(text, item),
-        None => {
-            put_space(text)?;
-            text.push('-')
-        }
+        Some(Ok(entry)) => said_of_entry(entry),
+        Some(Err(Error::Source(code))) => (b'!', 0, *code, 0),
+        Some(Err(error)) => (b'?', 0, u64::from(error.number()), 0),
+        None => (b'-', 0, 0, 0),
     }
 }
 
-/// The words of answers.
-pub fn text_of<A: Allocator, B: Allocator>(
-    alloc: B,
-    answers: &[Option<IterItem<A>>],
-) -> Result<String<B>, AllocError> {
-    let mut text = String::new(alloc);
-    for answer in answers {
-        put_answer(&mut text, answer)?;
-    }
-    Ok(text)
-}
-
-// The words of a stream's answers at some ends.
-fn text_at<A: Allocator, B: Allocator + Copy, I: DoubleEndedIterator<Item = IterItem<A>>>(
-    alloc: B,
-    stream: &mut I,
-    ends: &[Direction],
-) -> Result<String<B>, AllocError>
-    requires { CanDeal I.next_gives I.next_back_gives I.can_next I.can_next_back stream.old }
-{
-    let answers = answers_at(alloc, stream, ends)?;
-    let text = text_of(alloc, &answers);
-    drop(answers);
-    text
+// Whether there is a word, which says an answer.
+fn is_said<A: Allocator>(answer: Option<IterItem<A>>, word: Option<&str>) -> bool {
+    let said = said_of(&answer);
+    drop(answer);
+    word.is_some_and(|word| said_by(word) == said)
 }
 
 /// Whether something was found to hold, and nothing was refused.
@@ -235,41 +171,58 @@ pub fn holds(answer: Result<bool, Error>) -> bool {
     matches!(answer, Ok(true))
 }
 
-/// Whether a text is this one, where memory lasted for it.
-pub fn is_text<B: Allocator>(
-    text: Result<String<B>, AllocError>,
-    wanted: &str,
-) -> Result<bool, AllocError> {
-    let text = text?;
-    let is_wanted = text.as_str() == wanted;
-    drop(text);
-    Ok(is_wanted)
-}
-
-// Whether a stream answers so at the ends that `F` and `B` stand for, where memory lasts.
-fn is_answered_so<A: Allocator, B: Allocator + Copy, I: DoubleEndedIterator<Item = IterItem<A>>>(
-    alloc: B,
-    stream: &mut I,
+/// Whether a stream answers so at the ends that `F` and `B` stand for.
+pub fn answers_so<A: Allocator, I: DoubleEndedIterator<Item = IterItem<A>> + Drop>(
+    mut stream: I,
     ends: &str,
     wanted: &str,
-) -> Result<bool, AllocError>
-    requires { CanDeal I.next_gives I.next_back_gives I.can_next I.can_next_back stream.old }
-{
-    let ends = ends_of(alloc, ends)?;
-    let is_wanted = is_text(text_at(alloc, stream, &ends), wanted);
-    drop(ends);
-    is_wanted
-}
-
-/// Whether a stream answers so at the ends that `F` and `B` stand for.
-pub fn answers_so<
-    A: Allocator,
-    B: Allocator + Copy,
-    I: DoubleEndedIterator<Item = IterItem<A>> + Drop,
->(alloc: B, mut stream: I, ends: &str, wanted: &str) -> Result<bool, Error>
+) -> bool
     requires { CanDeal I.next_gives I.next_back_gives I.can_next I.can_next_back stream }
 {
-    let is_wanted = is_answered_so(alloc, &mut stream, ends, wanted);
-    drop(stream);
-    Ok(is_wanted?)
+    let mut words = wanted.split_whitespace();
+    let mut is_right = true;
+    for letter in ends.bytes() {
+        let answer = answer_at(&mut stream, end_of(letter));
+        is_right &= is_said(answer, words.next());
+    }
+    is_right && words.next().is_none()
+}
+
+/// Whether a stream answers so first.
+pub fn begins_so<I: Iterator<Item = IterItem> + Drop>(mut stream: I, wanted: &str) -> bool
+    requires { CanDeal I.next_gives nowhere I.can_next I.can_next stream }
+{
+    let mut is_right = true;
+    for word in wanted.split_whitespace() {
+        let answer = stream.next();
+        is_right &= is_said(answer, Some(word));
+    }
+    is_right
+}
+
+/// Whether a stream gives these results to its end.
+pub fn gives_all<A: Allocator, I: Iterator<Item = IterItem<A>>>(
+    stream: &mut I,
+    wanted: &str,
+) -> bool
+    requires can { I.can_next stream.old }
+    requires finite { IsFinite (I.remaining stream.old) }
+{
+    let mut words = wanted.split_whitespace();
+    let mut is_right = true;
+    while let Some(item) = stream.next() {
+        is_right &= is_said(Some(item), words.next());
+    }
+    is_right && words.next().is_none()
+}
+
+/// The same of a stream that is let go of.
+pub fn gives_so<A: Allocator, I: Iterator<Item = IterItem<A>> + Drop>(
+    mut stream: I,
+    wanted: &str,
+) -> bool
+    requires can { I.can_next stream }
+    requires finite { IsFinite (I.remaining stream) }
+{
+    gives_all(&mut stream, wanted)
 }
