@@ -1,15 +1,17 @@
 //! Index blocks: what is written of handles, and what reads and seeks find.
 
 use crate::payloads::{
-    behind_seven, beside, both, holds, in_grammar, index_block, is_answer, is_given, is_invalid,
-    once_done, push_made, put_numbers,
+    behind_seven, beside, both, ends_at_refusal, holds, in_grammar, index_block, is_answer,
+    is_answer_or_refused, is_behind_seven, is_invalid, once_done, push_made,
 };
 use refusing::{Refusing, each_refused};
+use sst_blocks::Direction::Front;
 use sst_blocks::{
     BlockHandle, BlockOffset, Error, IndexBlock, IndexBlockIter, KeyedBlockHandle, SeqNo, Slice,
     TableVersion, are_strict_handles, index_block_bound,
 };
 use std::alloc::{AllocError, Allocator, Global};
+use std::array::from_ref;
 
 fn handle<A: Allocator + Copy>(
     alloc: A,
@@ -85,38 +87,46 @@ fn is_one_handle(
     Ok(is_right)
 }
 
+// Encodes some handles behind what is there.
+fn encoded<A: Allocator>(
+    buf: &mut Vec<u8, A>,
+    handles: &[KeyedBlockHandle<A>],
+) -> Result<(), Error> {
+    if !are_strict_handles(handles) {
+        return Err(Error::InvalidBlock);
+    }
+    IndexBlock::encode_into(buf, handles)
+}
+
 // What is written of some handles behind some bytes.
 fn written_behind<A: Allocator + Copy>(
     alloc: A,
     front: &[u8],
     handles: &[KeyedBlockHandle<A>],
 ) -> Result<Vec<u8, A>, Error> {
-    if !are_strict_handles(handles) {
-        return Err(Error::InvalidBlock);
-    }
     let mut written = Vec::from_slice(alloc, front)?;
-    let done = IndexBlock::encode_into(&mut written, handles);
+    let done = encoded(&mut written, handles);
     once_done(written, done)
 }
 
 #[test]
 fn payloads_of_both_versions_read_as_their_handles(rt: HostRuntime) {
     let alloc = rt.alloc();
-    assert!(rt; is_one_handle(alloc, TableVersion::V3, &ONE_IN_V3, 45) == Ok(true));
-    assert!(rt; is_one_handle(alloc, TableVersion::V4, &ONE_IN_V4, 47) == Ok(true));
+    assert!(rt; holds(is_one_handle(alloc, TableVersion::V3, &ONE_IN_V3, 45)));
+    assert!(rt; holds(is_one_handle(alloc, TableVersion::V4, &ONE_IN_V4, 47)));
 }
 
 // Whether the payload of a@1 is written behind the byte 7.
-fn is_behind_seven(alloc: Global) -> Result<bool, Error> {
-    let handles = [handle(alloc, b"a", 1, 0, 47)?];
-    let written = written_behind(alloc, &[7], &handles);
-    drop(handles);
-    Ok(matches!(written?.as_slice(), [7, payload @ ..] if payload == ONE_IN_V4.as_slice()))
+fn is_one_behind_seven(alloc: Global) -> Result<bool, Error> {
+    let handle = handle(alloc, b"a", 1, 0, 47)?;
+    let written = written_behind(alloc, &[7], from_ref(&handle));
+    drop(handle);
+    is_behind_seven(written, &ONE_IN_V4)
 }
 
 #[test]
 fn handles_are_written_behind_what_was_there(rt: HostRuntime) {
-    assert!(rt; holds(is_behind_seven(rt.alloc())));
+    assert!(rt; holds(is_one_behind_seven(rt.alloc())));
 }
 
 // The position of a handle that is given.
@@ -257,30 +267,19 @@ fn seeks_narrow_to_the_handles_that_may_hold_a_key(rt: HostRuntime) {
     assert!(rt; holds(seeks_lead_right(rt.alloc())));
 }
 
-// Spells a handle by its end key, the key length that it claims and its number.
-fn spell<A: Allocator>(bytes: &mut Vec<u8, A>, claim: &[u8; 3]) -> Result<(), AllocError> {
-    let [key, key_len, seqno] = claim;
-    put_numbers(bytes, &[u32::from(*seqno), 0, 0, 0, 0, u32::from(*key_len)])?;
-    bytes.extend_from_slice(&[*key])
-}
-
-// Spells handles one behind another.
-fn spell_all<A: Allocator>(bytes: &mut Vec<u8, A>, claims: &[[u8; 3]]) -> Result<(), AllocError> {
-    for claim in claims {
-        spell(bytes, claim)?;
-    }
-    Ok(())
-}
-
-// A payload of a count, and then of handles.
-fn spelled<A: Allocator + Copy>(
-    alloc: A,
-    count: u32,
-    claims: &[[u8; 3]],
-) -> Result<Vec<u8, A>, AllocError> {
-    let mut bytes = Vec::from_slice(alloc, &count.to_le_bytes())?;
-    let done = spell_all(&mut bytes, claims);
-    once_done(bytes, done)
+// A payload of a count, and of handles by their end key, the key length that they claim and their number.
+macro_rules! payload {
+    ($count:expr; $([$key:expr, $key_len:expr, $seqno:expr]),*) => {
+        &[
+            ($count & 0xff) as u8,
+            ($count >> 8 & 0xff) as u8,
+            ($count >> 16 & 0xff) as u8,
+            ($count >> 24 & 0xff) as u8,
+            $(
+                $seqno, 0, 0, 0, 0, 0, 0, 0, 0, 0, 0, 0, 0, 0, 0, 0, 0, 0, 0, 0, $key_len, 0, 0, 0, $key,
+            )*
+        ]
+    };
 }
 
 // How many handles a payload has.
@@ -291,43 +290,28 @@ fn handles_read<A: Allocator + Copy>(alloc: A, bytes: &[u8]) -> Result<usize, Er
     Ok(len)
 }
 
-// How many handles a payload of a count and of handles has, where it is in the grammar.
-fn handles_claimed<A: Allocator + Copy>(
-    alloc: A,
-    count: u32,
-    claims: &[[u8; 3]],
-) -> Result<Option<usize>, Error> {
-    let bytes = spelled(alloc, count, claims)?;
-    let len = in_grammar(handles_read(alloc, bytes.as_slice()));
-    drop(bytes);
-    len
-}
-
-// A count, handles, and how many the payload has, where it is in the grammar.
-const CLAIMS: &[(u32, &[[u8; 3]], Option<usize>)] = &[
-    (0, &[], Some(0)),
-    (1, &[[b'a', 1, 1]], Some(1)),
-    (2, &[[b'a', 1, 2], [b'a', 1, 1]], Some(2)),
-    (2, &[[b'a', 1, 1], [b'b', 1, 2]], Some(2)),
+// Payloads, and how many handles they have, where they are in the grammar.
+const PAYLOADS: &[(&[u8], Option<usize>)] = &[
+    (payload!(0;), Some(0)),
+    (payload!(1; [b'a', 1, 1]), Some(1)),
+    (payload!(2; [b'a', 1, 2], [b'a', 1, 1]), Some(2)),
+    (payload!(2; [b'a', 1, 1], [b'b', 1, 2]), Some(2)),
     // Fewer handles or more than the count says, an end key that is cut short, a byte behind the last one, and handles that
     // are not strict: the same twice, numbers upward, keys downward.
-    (1, &[], None),
-    (u32::MAX, &[[b'a', 1, 1]], None),
-    (0, &[[b'a', 1, 1]], None),
-    (1, &[[b'a', 2, 1]], None),
-    (1, &[[b'a', 0, 1]], None),
-    (2, &[[b'a', 1, 1], [b'a', 1, 1]], None),
-    (2, &[[b'a', 1, 1], [b'a', 1, 2]], None),
-    (2, &[[b'b', 1, 1], [b'a', 1, 0]], None),
+    (payload!(1;), None),
+    (payload!(u32::MAX; [b'a', 1, 1]), None),
+    (payload!(0; [b'a', 1, 1]), None),
+    (payload!(1; [b'a', 2, 1]), None),
+    (payload!(1; [b'a', 0, 1]), None),
+    (payload!(2; [b'a', 1, 1], [b'a', 1, 1]), None),
+    (payload!(2; [b'a', 1, 1], [b'a', 1, 2]), None),
+    (payload!(2; [b'b', 1, 1], [b'a', 1, 0]), None),
 ];
 
 #[test]
 fn payloads_out_of_the_grammar_are_refused(rt: HostRuntime) {
-    for &(count, claims, wanted) in CLAIMS {
-        assert!(rt;
-            is_answer(handles_claimed(rt.alloc(), count, claims), wanted),
-            "{count}"
-        );
+    for &(payload, len) in PAYLOADS {
+        assert!(rt; is_answer(in_grammar(handles_read(rt.alloc(), payload)), len));
     }
 }
 
@@ -344,38 +328,50 @@ fn is_refused(alloc: Global, len: usize) -> bool {
 fn payloads_cut_short_or_of_the_other_version_are_refused(rt: HostRuntime) {
     // Fewer bytes than a count has, a head that is cut short, and the key length of the other version.
     for len in [3, 20, 27] {
-        assert!(rt; is_refused(rt.alloc(), len), "{len}");
+        assert!(rt; is_refused(rt.alloc(), len));
     }
 }
 
-// Whether encoding some handles behind the byte 7 is refused so, or not at all, where that leaves the byte alone.
-fn is_refused_so<A: Allocator + Copy>(
+// How encoding some handles behind the byte 7 is refused, where that leaves the byte alone.
+fn refusal<A: Allocator + Copy>(
     alloc: A,
     handles: &[KeyedBlockHandle<A>],
-    expected: Option<Error>,
-) -> Result<bool, Error> {
-    let mut buf = Vec::new(alloc);
-    buf.push(7)?;
-    if !are_strict_handles(handles) {
-        return Ok(expected.is_none());
-    }
-    let refused = IndexBlock::encode_into(&mut buf, handles).err();
-    Ok(behind_seven(&buf, refused) == expected)
+) -> Result<Option<Error>, Error> {
+    let mut buf = Vec::from_slice(alloc, &[7])?;
+    let done = encoded(&mut buf, handles);
+    let refused = behind_seven(&buf, done);
+    drop(buf);
+    Ok(refused)
 }
 
-// Whether one handle whose end key has this length is refused so, or not at all.
-fn is_key_refused_so(alloc: Global, len: usize, expected: Option<Error>) -> Result<bool, Error> {
+// The refusal of one handle.
+fn refusal_of<A: Allocator + Copy>(
+    alloc: A,
+    handle: Result<KeyedBlockHandle<A>, Error>,
+) -> Result<Option<Error>, Error> {
+    let handle = handle?;
+    let refused = refusal(alloc, from_ref(&handle));
+    drop(handle);
+    refused
+}
+
+// The refusal of one handle whose end key has this length.
+fn refusal_of_key_len(alloc: Global, len: usize) -> Result<Option<Error>, Error> {
     let end_key = vec![in alloc; 0u8; len]?;
-    let handles = [handle(alloc, &end_key, 1, 0, 24)?];
-    let is_refused = is_refused_so(alloc, &handles, expected);
-    drop(handles);
-    is_refused
+    let handle = handle(alloc, &end_key, 1, 0, 24);
+    drop(end_key);
+    refusal_of(alloc, handle)
 }
 
 #[test]
 fn keys_of_a_mebibyte_are_taken_and_longer_ones_refused(rt: HostRuntime) {
-    assert!(rt; holds(is_key_refused_so(rt.alloc(), 1048576, None)));
-    assert!(rt; holds(is_key_refused_so(rt.alloc(), 1048577, Some(Error::KeyTooLong))));
+    assert!(rt; is_answer(refusal_of_key_len(rt.alloc(), 1048576), None));
+    assert!(rt;
+        is_answer(
+            refusal_of_key_len(rt.alloc(), 1048577),
+            Some(Error::KeyTooLong)
+        )
+    );
 }
 
 // 4,096 numbers, the high bytes first, and zeroes up to 2^20 bytes from the last.
@@ -421,13 +417,13 @@ fn many_handles(alloc: Global) -> Result<Vec<KeyedBlockHandle>, Error> {
     handles
 }
 
-// The bound on the block of as many handles, and whether they are refused for it.
-fn bound_and_refusal(alloc: Global) -> Result<(u64, bool), Error> {
+// The bound on the block of as many handles, and how they are refused.
+fn bound_and_refusal(alloc: Global) -> Result<(u64, Option<Error>), Error> {
     let handles = many_handles(alloc)?;
     let bound = index_block_bound(&handles);
-    let is_refused = is_refused_so(alloc, &handles, Some(Error::BlockTooLarge));
+    let refused = refusal(alloc, &handles);
     drop(handles);
-    beside(bound, is_refused)
+    beside(bound, refused)
 }
 
 #[test]
@@ -435,7 +431,7 @@ fn a_block_of_four_gibibytes_is_refused(rt: HostRuntime) {
     assert!(rt;
         is_answer(
             bound_and_refusal(rt.alloc()),
-            (28 + 4096 * (24 + 1048576), true)
+            (28 + 4096 * (24 + 1048576), Some(Error::BlockTooLarge))
         )
     );
 }
@@ -461,10 +457,8 @@ fn write_and_read<A: Allocator + Copy>(alloc: A) -> Result<(u64, (u64, u64)), Er
 
 #[test]
 fn each_request_refused_is_answered_so(rt: HostRuntime) {
-    let answers = each_refused(rt.alloc(), |heap, may_fail| match write_and_read(heap) {
-        Ok(answer) => answer == (10, (0, 30)),
-        Err(Error::OutOfMemory) => may_fail,
-        Err(_) => false,
+    let answers = each_refused(rt.alloc(), |heap, may_fail| {
+        is_answer_or_refused(write_and_read(heap), (10, (0, 30)), may_fail)
     });
     assert_eq!(rt; answers, Ok(23));
 }
@@ -498,35 +492,18 @@ fn a_clone_reads_as_its_block_and_takes_no_memory(rt: HostRuntime) {
     assert!(rt; holds(a_clone_finds(&heap)));
 }
 
-// Whether neither end has an answer.
-fn is_over<A: Allocator>(iter: &mut IndexBlockIter<'_, A>) -> bool {
-    is_given(iter.next_back()).is_none() && is_given(iter.next()).is_none()
-}
-
-// Whether so many handles at most, taken from the front, end for good at the first that is refused.
-fn ends_at_first<A: Allocator>(iter: &mut IndexBlockIter<'_, A>, len: usize) -> bool {
-    for _ in 0..len {
-        match is_given(iter.next()) {
-            Some(true) => {}
-            Some(false) => return is_over(iter),
-            None => return false,
-        }
-    }
-    is_given(iter.next()).is_none()
-}
-
 // Whether a block's handles, taken from the front, end for good at the first that is refused.
-fn ends_at_refusal<A: Allocator>(block: &IndexBlock<A>) -> bool {
-    ends_at_first(&mut block.iter(), block.len())
+fn end_at_refusal<A: Allocator>(block: &IndexBlock<A>) -> bool {
+    ends_at_refusal(&mut block.iter(), Front, block.len())
 }
 
 // Whether it does so for one allocator's block of four; memory may have run out before.
 fn is_ended<A: Allocator + Copy>(alloc: A) -> bool {
     match block_of_four(alloc) {
         Ok(block) => {
-            let ends = ends_at_refusal(&block);
+            let end = end_at_refusal(&block);
             drop(block);
-            ends
+            end
         }
         Err(_) => true,
     }
@@ -538,17 +515,14 @@ fn nothing_comes_after_a_refused_handle(rt: HostRuntime) {
     assert!(rt; answers.is_ok());
 }
 
-// Whether one handle in an allocator is refused for memory.
-fn is_refused_memory<A: Allocator + Copy>(alloc: A) -> Result<bool, Error> {
-    let handles = [handle(alloc, b"a", 1, 0, 47)?];
-    let is_refused = is_refused_so(alloc, &handles, Some(Error::OutOfMemory));
-    drop(handles);
-    is_refused
+// Whether one handle is refused for memory, at this request.
+fn is_refused_at(alloc: Global, nth: usize) -> bool {
+    let heap = Refusing::new(alloc, nth);
+    let refused = refusal_of(&heap, handle(&heap, b"a", 1, 0, 47));
+    is_answer(refused, Some(Error::OutOfMemory)) && heap.requests() == nth
 }
 
 #[test]
 fn a_refused_growth_leaves_the_buffer_as_it_was(rt: HostRuntime) {
-    let heap = Refusing::new(rt.alloc(), 4);
-    assert!(rt; holds(is_refused_memory(&heap)));
-    assert_eq!(rt; heap.requests(), 4);
+    assert!(rt; is_refused_at(rt.alloc(), 4));
 }

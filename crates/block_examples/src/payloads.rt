@@ -1,20 +1,12 @@
 //! Blocks of payloads that are spelled byte by byte.
+ghost use Rattle.std.specs.Prelude.{◌≡◌, []};
+ghost use Rattle.sst_entries.specs.Stream.{CanDeal};
+
 use sst_blocks::{
-    Block, BlockSource, BlockType, DataBlock, Error, IndexBlock, Opened, SectionName,
-    SectionWriter, Slice, TableVersion, TagName, hash,
+    Block, BlockSource, BlockType, DataBlock, Direction, Error, IndexBlock, Opened, SectionName,
+    SectionWriter, Slice, TableVersion, TagName, answer_at, hash,
 };
 use std::alloc::{AllocError, Allocator};
-
-/// Adds numbers of four bytes, the low byte first.
-pub(crate) fn put_numbers<A: Allocator>(
-    bytes: &mut Vec<u8, A>,
-    numbers: &[u32],
-) -> Result<(), AllocError> {
-    for number in numbers {
-        bytes.extend_from_slice(&number.to_le_bytes())?;
-    }
-    Ok(())
-}
 
 /// A value beside another one, or the refusal of the other.
 pub(crate) fn beside<T: Drop, U, E>(first: T, second: Result<U, E>) -> Result<(T, U), E> {
@@ -79,12 +71,67 @@ pub(crate) fn in_grammar(len: Result<usize, Error>) -> Result<Option<usize>, Err
 }
 
 /// How the encoding behind the byte 7 was refused, where that left the byte alone.
-pub(crate) fn behind_seven(bytes: &[u8], refused: Option<Error>) -> Option<Error> {
+pub(crate) fn behind_seven(bytes: &[u8], done: Result<(), Error>) -> Option<Error> {
     if bytes == [7].as_slice() {
-        refused
+        done.err()
     } else {
         None
     }
+}
+
+// Whether some bytes are 7 and then a payload.
+fn are_seven_and(bytes: &[u8], payload: &[u8]) -> bool {
+    matches!(bytes, [7, rest @ ..] if rest == payload)
+}
+
+/// Whether what was written is the byte 7 and then a payload.
+pub(crate) fn is_behind_seven<A: Allocator>(
+    written: Result<Vec<u8, A>, Error>,
+    payload: &[u8],
+) -> Result<bool, Error> {
+    let written = written?;
+    let is_so = are_seven_and(&written, payload);
+    drop(written);
+    Ok(is_so)
+}
+
+/// Whether an answer is this one, or memory was refused where it may be.
+pub(crate) fn is_answer_or_refused<T: PartialEq + Drop>(
+    answer: Result<T, Error>,
+    expected: T,
+    may_fail: bool,
+) -> bool {
+    match answer {
+        Ok(answer) => answer == expected,
+        Err(Error::OutOfMemory) => may_fail,
+        Err(_) => false,
+    }
+}
+
+// Whether nothing is given or refused at either end any more.
+fn is_over<X: Drop, I: DoubleEndedIterator<Item = Result<X, Error>>>(stream: &mut I) -> bool
+    requires { CanDeal I.next_gives I.next_back_gives I.can_next I.can_next_back stream.old }
+{
+    is_given(answer_at(stream, Direction::Front)).is_none()
+        && is_given(answer_at(stream, Direction::Back)).is_none()
+}
+
+/// Whether a stream of so many answers at most, taken from one end, ends for good at the first that is refused.
+pub(crate) fn ends_at_refusal<X: Drop, I: DoubleEndedIterator<Item = Result<X, Error>>>(
+    stream: &mut I,
+    end: Direction,
+    len: usize,
+) -> bool
+    requires { CanDeal I.next_gives I.next_back_gives I.can_next I.can_next_back stream.old }
+{
+    for _ in 0..len {
+        match is_given(answer_at(stream, end)) {
+            Some(true) => {}
+            Some(false) => return is_over(stream),
+            None => return false,
+        }
+    }
+    is_given(answer_at(stream, end)).is_none()
 }
 
 // Appends some parts in turn.
@@ -98,13 +145,16 @@ fn append_all<A: Allocator + Copy>(
     Ok(())
 }
 
-// Writes a block of either version: its mark, its kind, its length twice, its payload's hash and the payload.
+// Starts a section with a block of either version: its mark, its kind, its length twice, its payload's hash and the payload.
 fn write<A: Allocator + Copy>(
     writer: &mut SectionWriter<A>,
     version: TableVersion,
     kind: BlockType,
     payload: &[u8],
-) -> Result<(), Error> {
+) -> Result<(), Error>
+    requires { writer.old.started ≡ [] }
+{
+    writer.start(SectionName::Data)?;
     let Ok(len) = u32::try_from(payload.len()) else {
         return Err(Error::BlockTooLarge);
     };
@@ -122,18 +172,6 @@ fn write<A: Allocator + Copy>(
     )
 }
 
-// The bytes of a table, once this payload is written.
-fn finished<A: Allocator + Copy>(
-    mut writer: SectionWriter<A>,
-    version: TableVersion,
-    kind: BlockType,
-    payload: &[u8],
-) -> Result<Slice<A>, Error> {
-    let written = write(&mut writer, version, kind, payload);
-    let (bytes, _) = once_done(writer, written)?.finish()?;
-    Ok(bytes)
-}
-
 // The bytes of a table with this payload alone.
 fn table<A: Allocator + Copy>(
     alloc: A,
@@ -142,8 +180,9 @@ fn table<A: Allocator + Copy>(
     payload: &[u8],
 ) -> Result<Slice<A>, Error> {
     let mut writer = SectionWriter::new(alloc)?;
-    let started = writer.start(SectionName::Data);
-    finished(once_done(writer, started)?, version, kind, payload)
+    let written = write(&mut writer, version, kind, payload);
+    let (bytes, _) = once_done(writer, written)?.finish()?;
+    Ok(bytes)
 }
 
 // The first block of a table.
