@@ -1,8 +1,9 @@
 //! Data blocks: what is written of entries, and what reads and seeks find.
 
 use crate::payloads::{
-    behind_seven, beside, both, data_block, ends_at_refusal, holds, in_grammar, is_answer,
-    is_answer_or_refused, is_behind_seven, is_invalid, once_done, push_made,
+    asked, asked_list, asked_with, behind_seven, beside, both, data_block, ends_at_refusal, holds,
+    holds_or_refused, in_grammar, is_answer, is_answer_or_refused, is_behind_seven, is_invalid,
+    once_done, push_made,
 };
 use refusing::{Refusing, each_refused};
 use sst_blocks::Direction::{Back, Front};
@@ -96,15 +97,15 @@ fn five_entries<A: Allocator + Copy>(alloc: A) -> Result<Vec<InternalValue<A>, A
 
 // The block of the five entries, by way of its bytes.
 fn block_of_five<A: Allocator + Copy>(alloc: A) -> Result<DataBlock<A>, Error> {
-    let items = five_entries(alloc)?;
-    let block = written_and_loaded(alloc, &items);
-    drop(items);
-    block
+    asked_list(alloc, five_entries(alloc), written_and_loaded)
 }
 
-// Whether what is found is what is expected.
-fn is<T: PartialEq + Drop>(found: Option<T>, expected: Option<&T>) -> bool {
-    found.as_ref() == expected
+// Whether what is found is what is expected, and nothing was refused.
+fn is<T: PartialEq + Drop>(found: Result<Option<T>, Error>, expected: Option<&T>) -> bool {
+    match found {
+        Ok(found) => found.as_ref() == expected,
+        Err(_) => false,
+    }
 }
 
 // Whether a point read finds this entry.
@@ -113,23 +114,24 @@ fn finds<A: Allocator>(
     key: &[u8],
     seqno: SeqNo,
     expected: Option<&InternalValue<A>>,
-) -> Result<bool, Error> {
-    Ok(is(block.point_read(key, seqno)?, expected))
+) -> bool {
+    is(block.point_read(key, seqno), expected)
+}
+
+// The number of an entry, or 99 where there is none.
+fn number_or_none<A: Allocator>(found: &Option<InternalValue<A>>) -> SeqNo {
+    match found {
+        Some(item) => item.key.seqno,
+        None => 99,
+    }
 }
 
 // The number of the entry that a point read finds, or 99 where it finds none.
 fn number_found<A: Allocator>(
+    (key, seqno): (&[u8], SeqNo),
     block: &DataBlock<A>,
-    key: &[u8],
-    seqno: SeqNo,
 ) -> Result<SeqNo, Error> {
-    let found = block.point_read(key, seqno)?;
-    let number = match &found {
-        Some(item) => item.key.seqno,
-        None => 99,
-    };
-    drop(found);
-    Ok(number)
+    asked(block.point_read(key, seqno), number_or_none)
 }
 
 // a@1, a value of `x`.
@@ -143,57 +145,48 @@ const ONE_IN_V4: [u8; 23] = [
     1, 0, 0, 0, 0, 1, 0, 0, 0, 0, 0, 0, 0, 1, 0, 0, 0, 1, 0, 0, 0, 0x61, 0x78,
 ];
 
-// Whether a point read finds a@1, with the value `x`.
-fn finds_x(alloc: Global, block: &DataBlock) -> Result<bool, Error> {
-    let expected = entry(alloc, ONE)?;
-    let is_found = finds(block, b"a", 2, Some(&expected));
-    drop(expected);
-    is_found
+// Whether a block has this entry alone.
+fn has_one_entry(block: &DataBlock, expected: &InternalValue) -> bool {
+    block.len() == 1
+        && !block.is_empty()
+        && finds(block, b"a", 2, Some(expected))
+        && is_answer(number_found((b"a", 1), block), 99)
 }
 
 // Whether a block has a@1 alone, with the value `x`.
-fn has_one_entry(alloc: Global, block: &DataBlock) -> bool {
-    block.len() == 1
-        && !block.is_empty()
-        && holds(finds_x(alloc, block))
-        && is_answer(number_found(block, b"a", 1), 99)
+fn has_x(alloc: Global, block: &DataBlock) -> Result<bool, Error> {
+    let expected = entry(alloc, ONE)?;
+    let has_it = has_one_entry(block, &expected);
+    drop(expected);
+    Ok(has_it)
 }
 
 // Whether a payload is such a block.
-fn is_one_entry(alloc: Global, version: TableVersion, bytes: &[u8]) -> Result<bool, Error> {
-    let block = data_block(alloc, version, bytes)?;
-    let is_right = has_one_entry(alloc, &block);
-    drop(block);
-    Ok(is_right)
+fn is_one_entry(alloc: Global, version: TableVersion, bytes: &[u8]) -> bool {
+    holds(asked_with(alloc, data_block(alloc, version, bytes), has_x))
 }
 
 #[test]
 fn payloads_of_both_versions_read_as_their_entries(rt: HostRuntime) {
     let alloc = rt.alloc();
-    assert!(rt; holds(is_one_entry(alloc, TableVersion::V3, &ONE_IN_V3)));
-    assert!(rt; holds(is_one_entry(alloc, TableVersion::V4, &ONE_IN_V4)));
+    assert!(rt; is_one_entry(alloc, TableVersion::V3, &ONE_IN_V3));
+    assert!(rt; is_one_entry(alloc, TableVersion::V4, &ONE_IN_V4));
 }
 
-// The bound on the block of a@1, and whether its payload is written behind the byte 7.
-fn bound_and_payload(alloc: Global) -> Result<(u64, bool), Error> {
-    let item = entry(alloc, ONE)?;
-    let bound = data_block_bound(from_ref(&item));
-    let written = written_behind(alloc, &[7], from_ref(&item));
-    drop(item);
-    beside(bound, is_behind_seven(written, &ONE_IN_V4))
+// The bound on the block of one entry, and whether the payload of a@1 is written of it behind the byte 7.
+fn bound_and_payload(alloc: Global, item: &InternalValue) -> Result<(u64, bool), Error> {
+    let written = written_behind(alloc, &[7], from_ref(item));
+    beside(
+        data_block_bound(from_ref(item)),
+        is_behind_seven(written, &ONE_IN_V4),
+    )
 }
 
 #[test]
 fn entries_are_written_behind_what_was_there(rt: HostRuntime) {
-    assert!(rt; is_answer(bound_and_payload(rt.alloc()), (24 + 23, true)));
-}
-
-// The number of the entry that a point read finds in the block of five, or 99 where it finds none.
-fn found_in_five(alloc: Global, key: &[u8], seqno: SeqNo) -> Result<SeqNo, Error> {
-    let block = block_of_five(alloc)?;
-    let number = number_found(&block, key, seqno);
-    drop(block);
-    number
+    let alloc = rt.alloc();
+    let answer = asked_with(alloc, entry(alloc, ONE), bound_and_payload);
+    assert!(rt; is_answer(answer, (24 + 23, true)));
 }
 
 // A key, a number, and the number that a point read finds below it.
@@ -220,37 +213,30 @@ const READS: &[(&[u8], SeqNo, SeqNo)] = &[
 #[test]
 fn a_point_read_finds_the_newest_version_below_a_number(rt: HostRuntime) {
     for &(key, seqno, found) in READS {
-        assert!(rt; is_answer(found_in_five(rt.alloc(), key, seqno), found));
+        let answer = asked_with((key, seqno), block_of_five(rt.alloc()), number_found);
+        assert!(rt; is_answer(answer, found));
     }
 }
 
 // Whether point reads in the block of five find a@7, a tombstone, and c@0, a weak one, and e@3 with its value.
-fn finds_three(block: &DataBlock, items: &[InternalValue]) -> bool {
-    block.len() == 5
-        && holds(finds(block, b"a", 9, items.get(1)))
-        && holds(finds(block, b"c", 1, items.get(3)))
-        && holds(finds(block, b"e", 4, items.get(4)))
+fn finds_three(items: &[InternalValue], block: &DataBlock) -> Result<bool, Error> {
+    Ok(
+        block.len() == 5
+            && finds(block, b"a", 9, items.get(1))
+            && finds(block, b"c", 1, items.get(3))
+            && finds(block, b"e", 4, items.get(4)),
+    )
 }
 
 // Whether the block of such entries gives them back whole.
 fn finds_in_theirs(alloc: Global, items: &[InternalValue]) -> Result<bool, Error> {
-    let block = written_and_loaded(alloc, items)?;
-    let found = finds_three(&block, items);
-    drop(block);
-    Ok(found)
-}
-
-// Whether the block of five gives such entries back whole.
-fn finds_whole_entries(alloc: Global) -> Result<bool, Error> {
-    let items = five_entries(alloc)?;
-    let found = finds_in_theirs(alloc, &items);
-    drop(items);
-    found
+    asked_with(items, written_and_loaded(alloc, items), finds_three)
 }
 
 #[test]
 fn a_point_read_finds_entries_as_they_were_written(rt: HostRuntime) {
-    assert!(rt; holds(finds_whole_entries(rt.alloc())));
+    let alloc = rt.alloc();
+    assert!(rt; holds(asked_list(alloc, five_entries(alloc), finds_in_theirs)));
 }
 
 // The key and the number of the place, where the block has it.
@@ -263,16 +249,9 @@ fn has_their_keys(block: &DataBlock) -> bool {
     has_key_at(block, 1, b"a", 7) && has_key_at(block, 4, b"e", 3)
 }
 
-fn has_five_keys(alloc: Global) -> Result<bool, Error> {
-    let block = block_of_five(alloc)?;
-    let has_them = has_their_keys(&block);
-    drop(block);
-    Ok(has_them)
-}
-
 #[test]
 fn the_key_of_a_place_is_that_of_its_entry(rt: HostRuntime) {
-    assert!(rt; holds(has_five_keys(rt.alloc())));
+    assert!(rt; holds(asked(block_of_five(rt.alloc()), has_their_keys)));
 }
 
 // The number of an entry that is given.
@@ -299,21 +278,14 @@ fn ends<A: Allocator>(iter: &mut DataBlockIter<'_, A>) -> Result<(SeqNo, SeqNo),
 // Whether a block gives no entries.
 fn gives_none(block: &DataBlock) -> bool {
     block.is_empty()
-        && is_answer(number_found(block, b"a", u64::MAX), 99)
+        && is_answer(number_found((b"a", u64::MAX), block), 99)
         && is_answer(ends(&mut block.iter()), (99, 99))
-}
-
-// Whether a block without entries gives none.
-fn has_none(alloc: Global) -> Result<bool, Error> {
-    let block = data_block(alloc, TableVersion::V3, &[0; 4])?;
-    let none = gives_none(&block);
-    drop(block);
-    Ok(none)
 }
 
 #[test]
 fn a_block_without_entries_has_none(rt: HostRuntime) {
-    assert!(rt; holds(has_none(rt.alloc())));
+    let block = data_block(rt.alloc(), TableVersion::V3, &[0; 4]);
+    assert!(rt; holds(asked(block, gives_none)));
 }
 
 // Where a seek narrows a block: at its front or its back, to the key or past it.
@@ -338,24 +310,20 @@ fn seek(iter: &mut DataBlockIter<'_>, edge: Edge, key: &[u8]) -> bool {
 }
 
 // Whether a seek leaves entries, and the numbers of the first and of the last.
-fn ends_after(block: &DataBlock, edge: Edge, key: &[u8]) -> Result<(bool, (SeqNo, SeqNo)), Error> {
+fn ends_after(
+    (edge, key): (Edge, &[u8]),
+    block: &DataBlock,
+) -> Result<(bool, (SeqNo, SeqNo)), Error> {
     let mut iter = block.iter();
     let left = seek(&mut iter, edge, key);
     beside(left, ends(&mut iter))
 }
 
-// What a seek leaves of the block of five.
-fn left_of_five(alloc: Global, edge: Edge, key: &[u8]) -> Result<(bool, (SeqNo, SeqNo)), Error> {
-    let block = block_of_five(alloc)?;
-    let left = ends_after(&block, edge, key);
-    drop(block);
-    left
-}
-
 // Whether a seek in the block of five leaves a first and a last entry of these numbers.
 fn leaves(alloc: Global, case: &(Edge, &[u8], SeqNo, SeqNo)) -> bool {
     let (edge, key, first, last) = *case;
-    is_answer(left_of_five(alloc, edge, key), (first != 99, (first, last)))
+    let left = asked_with((edge, key), block_of_five(alloc), ends_after);
+    is_answer(left, (first != 99, (first, last)))
 }
 
 // How a key is sought, the key, and the first entry and the last, which is 99 where there are fewer than two.
@@ -386,10 +354,21 @@ fn seeks_narrow_to_the_entries_on_one_side_of_a_key(rt: HostRuntime) {
     }
 }
 
-// Whether a block gives these numbers at these ends.
-fn gives(block: &DataBlock, answers: &[(Direction, SeqNo)]) -> bool {
+// Ends, and the numbers that the block of five gives there.
+const DEALT: &[(Direction, SeqNo)] = &[
+    (Front, 9),
+    (Back, 3),
+    (Front, 7),
+    (Back, 0),
+    (Back, 5),
+    (Front, 99),
+    (Back, 99),
+];
+
+// Whether a block gives these numbers.
+fn deals(block: &DataBlock) -> bool {
     let mut iter = block.iter();
-    for (end, wanted) in answers {
+    for (end, wanted) in DEALT {
         if !is_answer(number(answer_at(&mut iter, *end)), *wanted) {
             return false;
         }
@@ -397,48 +376,23 @@ fn gives(block: &DataBlock, answers: &[(Direction, SeqNo)]) -> bool {
     true
 }
 
-// Whether the block of five gives these numbers at these ends.
-fn deals(alloc: Global, answers: &[(Direction, SeqNo)]) -> Result<bool, Error> {
-    let block = block_of_five(alloc)?;
-    let given = gives(&block, answers);
-    drop(block);
-    Ok(given)
-}
-
 #[test]
 fn both_ends_deal_one_window(rt: HostRuntime) {
-    let answers = [
-        (Front, 9),
-        (Back, 3),
-        (Front, 7),
-        (Back, 0),
-        (Back, 5),
-        (Front, 99),
-        (Back, 99),
-    ];
-    assert!(rt; holds(deals(rt.alloc(), &answers)));
+    assert!(rt; holds(asked(block_of_five(rt.alloc()), deals)));
 }
 
 // Whether edges that cross at a block's first key leave nothing, whatever is sought later.
 fn edges_stay_crossed(block: &DataBlock) -> bool {
     let mut iter = block.iter();
-    let above = iter.seek_exclusive(b"a");
-    let crossed = iter.seek_upper(b"a");
-    let later = iter.seek(b"a");
-    above && !crossed && !later && is_answer(ends(&mut iter), (99, 99))
-}
-
-// Whether such edges leave nothing in the block of five.
-fn crossed_edges_stay(alloc: Global) -> Result<bool, Error> {
-    let block = block_of_five(alloc)?;
-    let stay = edges_stay_crossed(&block);
-    drop(block);
-    Ok(stay)
+    iter.seek_exclusive(b"a")
+        && !iter.seek_upper(b"a")
+        && !iter.seek(b"a")
+        && is_answer(ends(&mut iter), (99, 99))
 }
 
 #[test]
 fn a_later_seek_widens_no_window(rt: HostRuntime) {
-    assert!(rt; holds(crossed_edges_stay(rt.alloc())));
+    assert!(rt; holds(asked(block_of_five(rt.alloc()), edges_stay_crossed)));
 }
 
 // A payload of a count, and of entries by their tag, their number, both of their lengths and the first of the two bytes
@@ -477,10 +431,7 @@ macro_rules! payload {
 
 // How many entries a payload has.
 fn entries_read<A: Allocator + Copy>(alloc: A, bytes: &[u8]) -> Result<usize, Error> {
-    let block = data_block(alloc, TableVersion::V4, bytes)?;
-    let len = block.len();
-    drop(block);
-    Ok(len)
+    asked(data_block(alloc, TableVersion::V4, bytes), DataBlock::len)
 }
 
 // Payloads, and how many entries they have, where they are in the grammar.
@@ -512,23 +463,28 @@ fn payloads_are_read_where_they_are_in_the_grammar(rt: HostRuntime) {
     }
 }
 
-// Whether a payload is no block.
-fn is_refused(alloc: Global, version: TableVersion, bytes: &[u8]) -> bool {
-    is_invalid(data_block(alloc, version, bytes))
+// A version, a payload, and how much of it is no block of the version.
+const REFUSED: &[(TableVersion, &[u8], usize)] = &[
+    (TableVersion::V3, &ONE_IN_V3, 3),
+    (TableVersion::V3, &ONE_IN_V3, 18),
+    (TableVersion::V3, &ONE_IN_V3, 20),
+    (TableVersion::V3, &ONE_IN_V4, 23),
+    (TableVersion::V4, &ONE_IN_V3, 21),
+];
+
+// Whether that much of a payload is no block.
+fn is_refused(alloc: Global, case: &(TableVersion, &[u8], usize)) -> bool {
+    let (version, payload, len) = *case;
+    match payload.get(..len) {
+        Some(bytes) => is_invalid(data_block(alloc, version, bytes)),
+        None => false,
+    }
 }
 
 #[test]
 fn payloads_cut_short_or_of_the_other_version_are_refused(rt: HostRuntime) {
-    let old = ONE_IN_V3;
-    let new = ONE_IN_V4;
-    for (version, bytes) in [
-        (TableVersion::V3, &old[..3]),
-        (TableVersion::V3, &old[..18]),
-        (TableVersion::V3, &old[..20]),
-        (TableVersion::V3, new.as_slice()),
-        (TableVersion::V4, old.as_slice()),
-    ] {
-        assert!(rt; is_refused(rt.alloc(), version, bytes));
+    for case in REFUSED {
+        assert!(rt; is_refused(rt.alloc(), case));
     }
 }
 
@@ -559,25 +515,29 @@ fn len_of<A: Allocator>(written: Result<Vec<u8, A>, Error>) -> Result<usize, Err
     Ok(len)
 }
 
-// How many bytes are written of one entry, of a key of so many.
-fn written_len<A: Allocator + Copy>(alloc: A, key_len: usize) -> Result<usize, Error> {
-    let item = entry_of_key_len(alloc, 0, key_len)?;
-    let written = written_behind(alloc, b"", from_ref(&item));
-    drop(item);
-    len_of(written)
+// How many bytes are written of one entry.
+fn written_len(alloc: Global, item: &InternalValue) -> Result<usize, Error> {
+    len_of(written_behind(alloc, b"", from_ref(item)))
 }
 
-// Whether that many are, or the key is refused so.
-fn is_written_so(alloc: Global, key_len: usize, expected: Result<usize, Error>) -> bool {
-    written_len(alloc, key_len) == expected
+// The length of an entry's key, and how many bytes are written of it, or how it is refused.
+const WRITTEN: &[(usize, Result<usize, Error>)] = &[
+    (65536, Ok(4 + 17 + 65536)),
+    (1048576, Ok(4 + 17 + 1048576)),
+    (1048577, Err(Error::KeyTooLong)),
+];
+
+// Whether they are written so.
+fn is_written_so(alloc: Global, case: &(usize, Result<usize, Error>)) -> bool {
+    let (key_len, expected) = case;
+    asked_with(alloc, entry_of_key_len(alloc, 0, *key_len), written_len) == *expected
 }
 
 #[test]
 fn keys_of_a_mebibyte_are_taken_and_longer_ones_refused(rt: HostRuntime) {
-    let alloc = rt.alloc();
-    assert!(rt; is_written_so(alloc, 65536, Ok(4 + 17 + 65536)));
-    assert!(rt; is_written_so(alloc, 1048576, Ok(4 + 17 + 1048576)));
-    assert!(rt; is_written_so(alloc, 1048577, Err(Error::KeyTooLong)));
+    for case in WRITTEN {
+        assert!(rt; is_written_so(rt.alloc(), case));
+    }
 }
 
 // The same bytes in the same memory.
@@ -632,28 +592,23 @@ fn refusal<A: Allocator + Copy>(
 ) -> Result<Option<Error>, Error> {
     let mut buf = Vec::from_slice(alloc, &[7])?;
     let done = encoded(&mut buf, items);
-    let refused = behind_seven(&buf, done);
-    drop(buf);
-    Ok(refused)
+    Ok(behind_seven(buf, done))
 }
 
-// The bound on the block of as many entries, and how they are refused.
-fn bound_and_refusal(alloc: Global) -> Result<(u64, Option<Error>), Error> {
-    let items = many_entries(alloc)?;
-    let bound = data_block_bound(&items);
-    let refused = refusal(alloc, &items);
-    drop(items);
-    beside(bound, refused)
+// The bound on the block of some entries, and how they are refused.
+fn bound_and_refusal(
+    alloc: Global,
+    items: &[InternalValue],
+) -> Result<(u64, Option<Error>), Error> {
+    beside(data_block_bound(items), refusal(alloc, items))
 }
 
 #[test]
 fn a_block_of_four_gibibytes_is_refused(rt: HostRuntime) {
-    assert!(rt;
-        is_answer(
-            bound_and_refusal(rt.alloc()),
-            (28 + 4096 * (17 + 2 + 1048576), Some(Error::BlockTooLarge))
-        )
-    );
+    let alloc = rt.alloc();
+    let answer = asked_list(alloc, many_entries(alloc), bound_and_refusal);
+    let bound = 28 + 4096 * (17 + 2 + 1048576);
+    assert!(rt; is_answer(answer, (bound, Some(Error::BlockTooLarge))));
 }
 
 // As many entries, and one behind them whose key is too long.
@@ -663,30 +618,21 @@ fn more_entries(alloc: Global) -> Result<Vec<InternalValue>, Error> {
     once_done(items, done)
 }
 
-// How these are refused.
-fn refusal_of_more(alloc: Global) -> Result<Option<Error>, Error> {
-    let items = more_entries(alloc)?;
-    let refused = refusal(alloc, &items);
-    drop(items);
-    refused
-}
-
 #[test]
 fn a_key_that_is_too_long_is_told_before_the_block(rt: HostRuntime) {
-    assert!(rt; is_answer(refusal_of_more(rt.alloc()), Some(Error::KeyTooLong)));
+    let alloc = rt.alloc();
+    let answer = asked_list(alloc, more_entries(alloc), refusal);
+    assert!(rt; is_answer(answer, Some(Error::KeyTooLong)));
 }
 
 // The numbers of a block's ends and of what a point read finds.
 fn read<A: Allocator>(block: &DataBlock<A>) -> Result<((SeqNo, SeqNo), SeqNo), Error> {
-    both(ends(&mut block.iter()), number_found(block, b"c", 1))
+    both(ends(&mut block.iter()), number_found((b"c", 1), block))
 }
 
 // These numbers of the block of five, by way of its bytes.
 fn write_and_read<A: Allocator + Copy>(alloc: A) -> Result<((SeqNo, SeqNo), SeqNo), Error> {
-    let block = block_of_five(alloc)?;
-    let numbers = read(&block);
-    drop(block);
-    numbers
+    asked(block_of_five(alloc), read)?
 }
 
 #[test]
@@ -694,7 +640,7 @@ fn each_request_refused_is_answered_so(rt: HostRuntime) {
     let answers = each_refused(rt.alloc(), |heap, may_fail| {
         is_answer_or_refused(write_and_read(heap), ((9, 3), 0), may_fail)
     });
-    assert_eq!(rt; answers, Ok(29));
+    assert!(rt; answers == Ok(29));
 }
 
 // A clone of a block, which outlives it.
@@ -706,10 +652,7 @@ fn left_by_its_block<A: Allocator>(block: DataBlock<A>) -> Result<DataBlock<A>, 
 
 // These numbers of a clone of the block of five, which outlives it.
 fn read_a_clone<A: Allocator + Copy>(alloc: A) -> Result<((SeqNo, SeqNo), SeqNo), Error> {
-    let copy = left_by_its_block(block_of_five(alloc)?)?;
-    let numbers = read(&copy);
-    drop(copy);
-    numbers
+    asked(left_by_its_block(block_of_five(alloc)?), read)?
 }
 
 #[test]
@@ -722,36 +665,27 @@ fn end_at_refusal<A: Allocator>(block: &DataBlock<A>) -> bool {
     ends_at_refusal(&mut block.iter(), Back, block.len())
 }
 
-// Whether it does so for one allocator's block of five; memory may have run out before.
-fn is_ended<A: Allocator + Copy>(alloc: A) -> bool {
-    match block_of_five(alloc) {
-        Ok(block) => {
-            let end = end_at_refusal(&block);
-            drop(block);
-            end
-        }
-        Err(_) => true,
-    }
-}
-
 #[test]
 fn nothing_comes_after_a_refused_entry(rt: HostRuntime) {
-    let answers = each_refused(rt.alloc(), |heap, _| is_ended(heap));
+    let answers = each_refused(rt.alloc(), |heap, _| {
+        holds_or_refused(asked(block_of_five(heap), end_at_refusal))
+    });
     assert!(rt; answers.is_ok());
 }
 
-// How one entry in an allocator is refused.
-fn refusal_of_one<A: Allocator + Copy>(alloc: A) -> Result<Option<Error>, Error> {
-    let item = entry(alloc, ONE)?;
-    let refused = refusal(alloc, from_ref(&item));
-    drop(item);
-    refused
+// How one entry is refused.
+fn refusal_of<A: Allocator + Copy>(
+    alloc: A,
+    item: &InternalValue<A>,
+) -> Result<Option<Error>, Error> {
+    refusal(alloc, from_ref(item))
 }
 
 // Whether one entry is refused for memory, at this request.
 fn is_refused_at(alloc: Global, nth: usize) -> bool {
     let heap = Refusing::new(alloc, nth);
-    is_answer(refusal_of_one(&heap), Some(Error::OutOfMemory)) && heap.requests() == nth
+    let refused = asked_with(&heap, entry(&heap, ONE), refusal_of);
+    is_answer(refused, Some(Error::OutOfMemory)) && heap.requests() == nth
 }
 
 #[test]

@@ -1,8 +1,9 @@
 //! Index blocks: what is written of handles, and what reads and seeks find.
 
 use crate::payloads::{
-    behind_seven, beside, both, ends_at_refusal, holds, in_grammar, index_block, is_answer,
-    is_answer_or_refused, is_behind_seven, is_invalid, once_done, push_made,
+    asked, asked_list, asked_with, behind_seven, beside, both, ends_at_refusal, holds,
+    holds_or_refused, in_grammar, index_block, is_answer, is_answer_or_refused, is_behind_seven,
+    is_invalid, once_done, push_made,
 };
 use refusing::{Refusing, each_refused};
 use sst_blocks::Direction::Front;
@@ -13,27 +14,45 @@ use sst_blocks::{
 use std::alloc::{AllocError, Allocator, Global};
 use std::array::from_ref;
 
-fn handle<A: Allocator + Copy>(
-    alloc: A,
-    end_key: &[u8],
+// A handle of such an end key.
+fn keyed<A: Allocator>(
+    end_key: Result<Slice<A>, Error>,
     seqno: SeqNo,
-    offset: u64,
-    size: u32,
+    lies: BlockHandle,
 ) -> Result<KeyedBlockHandle<A>, Error> {
-    let inner = BlockHandle::new(BlockOffset(offset), size);
-    Ok(KeyedBlockHandle::new(Slice::from(alloc, end_key)?, seqno, inner))
+    Ok(KeyedBlockHandle::new(end_key?, seqno, lies))
 }
 
-// b@5, b@3, d@9 and f@1, and the positions of their blocks.
-const FOUR: &[(&[u8], SeqNo, u64)] = &[(b"b", 5, 0), (b"b", 3, 10), (b"d", 9, 20), (b"f", 1, 30)];
+// An end key, a number, and the position and the size of a block.
+type Row = (&'static [u8], SeqNo, u64, u32);
+
+fn handle<A: Allocator + Copy>(alloc: A, row: &Row) -> Result<KeyedBlockHandle<A>, Error> {
+    let (end_key, seqno, offset, size) = *row;
+    keyed(
+        Slice::from(alloc, end_key),
+        seqno,
+        BlockHandle::new(BlockOffset(offset), size),
+    )
+}
+
+// b@5, b@3, d@9 and f@1, and where their blocks lie.
+const FOUR: &[Row] = &[
+    (b"b", 5, 0, 10),
+    (b"b", 3, 10, 10),
+    (b"d", 9, 20, 10),
+    (b"f", 1, 30, 10),
+];
+
+// a@1, the end of a block of 47 bytes.
+const ONE: &Row = &(b"a", 1, 0, 47);
 
 // Adds the four handles.
 fn put_four<A: Allocator + Copy>(
     alloc: A,
     handles: &mut Vec<KeyedBlockHandle<A>, A>,
 ) -> Result<(), Error> {
-    for &(end_key, seqno, offset) in FOUR {
-        push_made(handles, handle(alloc, end_key, seqno, offset, 10))?;
+    for row in FOUR {
+        push_made(handles, handle(alloc, row))?;
     }
     Ok(())
 }
@@ -67,24 +86,18 @@ const ONE_IN_V4: [u8; 29] = [
 ];
 
 // Whether a block has one handle, which reaches a@2 and not a@1, at the position 0.
-fn has_one_handle(block: &IndexBlock, size: u32) -> bool {
-    block.len() == 1
-        && !block.is_empty()
-        && finds_one(block, size)
-        && found_at(block, b"a", 1) == 99
+fn has_one_handle(size: u32, block: &IndexBlock) -> Result<bool, Error> {
+    Ok(
+        block.len() == 1
+            && !block.is_empty()
+            && finds_one(block, size)
+            && found_at(block, b"a", 1) == 99,
+    )
 }
 
 // Whether a payload is such a block.
-fn is_one_handle(
-    alloc: Global,
-    version: TableVersion,
-    bytes: &[u8],
-    size: u32,
-) -> Result<bool, Error> {
-    let block = index_block(alloc, version, bytes)?;
-    let is_right = has_one_handle(&block, size);
-    drop(block);
-    Ok(is_right)
+fn is_one_handle(alloc: Global, version: TableVersion, bytes: &[u8], size: u32) -> bool {
+    holds(asked_with(size, index_block(alloc, version, bytes), has_one_handle))
 }
 
 // Encodes some handles behind what is there.
@@ -112,21 +125,19 @@ fn written_behind<A: Allocator + Copy>(
 #[test]
 fn payloads_of_both_versions_read_as_their_handles(rt: HostRuntime) {
     let alloc = rt.alloc();
-    assert!(rt; holds(is_one_handle(alloc, TableVersion::V3, &ONE_IN_V3, 45)));
-    assert!(rt; holds(is_one_handle(alloc, TableVersion::V4, &ONE_IN_V4, 47)));
+    assert!(rt; is_one_handle(alloc, TableVersion::V3, &ONE_IN_V3, 45));
+    assert!(rt; is_one_handle(alloc, TableVersion::V4, &ONE_IN_V4, 47));
 }
 
-// Whether the payload of a@1 is written behind the byte 7.
-fn is_one_behind_seven(alloc: Global) -> Result<bool, Error> {
-    let handle = handle(alloc, b"a", 1, 0, 47)?;
-    let written = written_behind(alloc, &[7], from_ref(&handle));
-    drop(handle);
-    is_behind_seven(written, &ONE_IN_V4)
+// Whether the payload of a@1 is written of a handle behind the byte 7.
+fn is_one_behind_seven(alloc: Global, handle: &KeyedBlockHandle) -> Result<bool, Error> {
+    is_behind_seven(written_behind(alloc, &[7], from_ref(handle)), &ONE_IN_V4)
 }
 
 #[test]
 fn handles_are_written_behind_what_was_there(rt: HostRuntime) {
-    assert!(rt; holds(is_one_behind_seven(rt.alloc())));
+    let alloc = rt.alloc();
+    assert!(rt; holds(asked_with(alloc, handle(alloc, ONE), is_one_behind_seven)));
 }
 
 // The position of a handle that is given.
@@ -160,10 +171,7 @@ fn written_and_loaded<A: Allocator + Copy>(
 
 // The block of the four handles, through its bytes.
 fn block_of_four<A: Allocator + Copy>(alloc: A) -> Result<IndexBlock<A>, Error> {
-    let handles = four_handles(alloc)?;
-    let block = written_and_loaded(alloc, &handles);
-    drop(handles);
-    block
+    asked_list(alloc, four_handles(alloc), written_and_loaded)
 }
 
 // Whether handles are left after a seek, and the position of the first.
@@ -184,6 +192,11 @@ fn last_after_seek<A: Allocator>(block: &IndexBlock<A>, key: &[u8]) -> Result<(b
     beside(left, position(iter.next_back()))
 }
 
+// The positions of the first handle and of the last, 99 where there is none.
+fn ends<A: Allocator>(iter: &mut IndexBlockIter<'_, A>) -> Result<(u64, u64), Error> {
+    both(position(iter.next()), position(iter.next_back()))
+}
+
 // The positions from the back, from the front twice and from the back again, after both seeks.
 fn after_both_seeks<A: Allocator>(
     block: &IndexBlock<A>,
@@ -195,8 +208,7 @@ fn after_both_seeks<A: Allocator>(
     iter.seek(key, seqno);
     iter.seek_upper(upper, 0);
     let outer = both(position(iter.next_back()), position(iter.next()));
-    let inner = both(position(iter.next()), position(iter.next_back()));
-    both(outer, inner)
+    both(outer, ends(&mut iter))
 }
 
 // A key and a number, and the position of the first handle that reaches them.
@@ -254,17 +266,9 @@ fn lead_right(block: &IndexBlock) -> bool {
         && is_answer(after_both_seeks(block, b"d", 9, b"a"), ((99, 99), (99, 99)))
 }
 
-// Whether they do so in the block of four, by way of its bytes.
-fn seeks_lead_right(alloc: Global) -> Result<bool, Error> {
-    let block = block_of_four(alloc)?;
-    let are_right = lead_right(&block);
-    drop(block);
-    Ok(are_right)
-}
-
 #[test]
 fn seeks_narrow_to_the_handles_that_may_hold_a_key(rt: HostRuntime) {
-    assert!(rt; holds(seeks_lead_right(rt.alloc())));
+    assert!(rt; holds(asked(block_of_four(rt.alloc()), lead_right)));
 }
 
 // A payload of a count, and of handles by their end key, the key length that they claim and their number.
@@ -284,10 +288,7 @@ macro_rules! payload {
 
 // How many handles a payload has.
 fn handles_read<A: Allocator + Copy>(alloc: A, bytes: &[u8]) -> Result<usize, Error> {
-    let block = index_block(alloc, TableVersion::V4, bytes)?;
-    let len = block.len();
-    drop(block);
-    Ok(len)
+    asked(index_block(alloc, TableVersion::V4, bytes), IndexBlock::len)
 }
 
 // Payloads, and how many handles they have, where they are in the grammar.
@@ -339,28 +340,26 @@ fn refusal<A: Allocator + Copy>(
 ) -> Result<Option<Error>, Error> {
     let mut buf = Vec::from_slice(alloc, &[7])?;
     let done = encoded(&mut buf, handles);
-    let refused = behind_seven(&buf, done);
-    drop(buf);
-    Ok(refused)
+    Ok(behind_seven(buf, done))
 }
 
-// The refusal of one handle.
+// How one handle is refused.
 fn refusal_of<A: Allocator + Copy>(
     alloc: A,
-    handle: Result<KeyedBlockHandle<A>, Error>,
+    handle: &KeyedBlockHandle<A>,
 ) -> Result<Option<Error>, Error> {
-    let handle = handle?;
-    let refused = refusal(alloc, from_ref(&handle));
-    drop(handle);
-    refused
+    refusal(alloc, from_ref(handle))
 }
 
-// The refusal of one handle whose end key has this length.
+// A handle whose end key has this length.
+fn handle_of_key_len(alloc: Global, len: usize) -> Result<KeyedBlockHandle, Error> {
+    let inner = BlockHandle::new(BlockOffset(0), 24);
+    keyed(Slice::from_vec(vec![in alloc; 0u8; len]?), 1, inner)
+}
+
+// How it is refused.
 fn refusal_of_key_len(alloc: Global, len: usize) -> Result<Option<Error>, Error> {
-    let end_key = vec![in alloc; 0u8; len]?;
-    let handle = handle(alloc, &end_key, 1, 0, 24);
-    drop(end_key);
-    refusal_of(alloc, handle)
+    asked_with(alloc, handle_of_key_len(alloc, len), refusal_of)
 }
 
 #[test]
@@ -391,7 +390,7 @@ fn handle_within(bytes: &Slice, start: usize) -> Result<KeyedBlockHandle, Error>
         return Err(Error::InvalidBlock);
     }
     let inner = BlockHandle::new(BlockOffset(0), 24);
-    Ok(KeyedBlockHandle::new(bytes.slice(start, end)?, 1, inner))
+    keyed(bytes.slice(start, end), 1, inner)
 }
 
 // Adds handles whose end keys of 2^20 bytes begin at 4,096 places of these bytes.
@@ -417,42 +416,30 @@ fn many_handles(alloc: Global) -> Result<Vec<KeyedBlockHandle>, Error> {
     handles
 }
 
-// The bound on the block of as many handles, and how they are refused.
-fn bound_and_refusal(alloc: Global) -> Result<(u64, Option<Error>), Error> {
-    let handles = many_handles(alloc)?;
-    let bound = index_block_bound(&handles);
-    let refused = refusal(alloc, &handles);
-    drop(handles);
-    beside(bound, refused)
+// The bound on the block of some handles, and how they are refused.
+fn bound_and_refusal(
+    alloc: Global,
+    handles: &[KeyedBlockHandle],
+) -> Result<(u64, Option<Error>), Error> {
+    beside(index_block_bound(handles), refusal(alloc, handles))
 }
 
 #[test]
 fn a_block_of_four_gibibytes_is_refused(rt: HostRuntime) {
-    assert!(rt;
-        is_answer(
-            bound_and_refusal(rt.alloc()),
-            (28 + 4096 * (24 + 1048576), Some(Error::BlockTooLarge))
-        )
-    );
-}
-
-// The positions of a block's first handle and of its last, 99 where there is none.
-fn ends<A: Allocator>(block: &IndexBlock<A>) -> Result<(u64, u64), Error> {
-    let mut iter = block.iter();
-    both(position(iter.next()), position(iter.next_back()))
+    let alloc = rt.alloc();
+    let answer = asked_list(alloc, many_handles(alloc), bound_and_refusal);
+    let bound = 28 + 4096 * (24 + 1048576);
+    assert!(rt; is_answer(answer, (bound, Some(Error::BlockTooLarge))));
 }
 
 // The position of the handle that reaches b@5, and those of a block's ends.
 fn read<A: Allocator>(block: &IndexBlock<A>) -> Result<(u64, (u64, u64)), Error> {
-    beside(found_at(block, b"b", 5), ends(block))
+    beside(found_at(block, b"b", 5), ends(&mut block.iter()))
 }
 
 // These positions in the block of four, by way of its bytes.
 fn write_and_read<A: Allocator + Copy>(alloc: A) -> Result<(u64, (u64, u64)), Error> {
-    let block = block_of_four(alloc)?;
-    let positions = read(&block);
-    drop(block);
-    positions
+    asked(block_of_four(alloc), read)?
 }
 
 #[test]
@@ -460,7 +447,7 @@ fn each_request_refused_is_answered_so(rt: HostRuntime) {
     let answers = each_refused(rt.alloc(), |heap, may_fail| {
         is_answer_or_refused(write_and_read(heap), (10, (0, 30)), may_fail)
     });
-    assert_eq!(rt; answers, Ok(23));
+    assert!(rt; answers == Ok(23));
 }
 
 // A clone of a block, which outlives it.
@@ -470,26 +457,27 @@ fn left_by_its_block<A: Allocator>(block: IndexBlock<A>) -> Result<IndexBlock<A>
     copy
 }
 
-// How many handles such a clone has, and the position of the one that reaches c@1.
-fn found_after<A: Allocator>(block: IndexBlock<A>) -> Result<(usize, u64), Error> {
-    let copy = left_by_its_block(block)?;
-    let found = (copy.len(), found_at(&copy, b"c", 1));
-    drop(copy);
-    Ok(found)
+// How many handles a block has, and the position of the one that reaches c@1.
+fn len_and_found<A: Allocator>(block: &IndexBlock<A>) -> (usize, u64) {
+    (block.len(), found_at(block, b"c", 1))
+}
+
+// The same of such a clone.
+fn found_after<A: Allocator>(block: Result<IndexBlock<A>, Error>) -> Result<(usize, u64), Error> {
+    Ok(asked(left_by_its_block(block?), len_and_found)?)
 }
 
 // Whether a clone of the block of four, which outlives it, finds what the block does, and takes no memory.
-fn a_clone_finds(heap: &Refusing) -> Result<bool, Error> {
-    let block = block_of_four(heap)?;
+fn a_clone_finds(alloc: Global) -> bool {
+    let heap = Refusing::new(alloc, 0);
+    let block = block_of_four(&heap);
     let requests = heap.requests();
-    let found = found_after(block)?;
-    Ok(heap.requests() == requests && found == (4, 20))
+    is_answer(found_after(block), (4, 20)) && heap.requests() == requests
 }
 
 #[test]
 fn a_clone_reads_as_its_block_and_takes_no_memory(rt: HostRuntime) {
-    let heap = Refusing::new(rt.alloc(), 0);
-    assert!(rt; holds(a_clone_finds(&heap)));
+    assert!(rt; a_clone_finds(rt.alloc()));
 }
 
 // Whether a block's handles, taken from the front, end for good at the first that is refused.
@@ -497,28 +485,18 @@ fn end_at_refusal<A: Allocator>(block: &IndexBlock<A>) -> bool {
     ends_at_refusal(&mut block.iter(), Front, block.len())
 }
 
-// Whether it does so for one allocator's block of four; memory may have run out before.
-fn is_ended<A: Allocator + Copy>(alloc: A) -> bool {
-    match block_of_four(alloc) {
-        Ok(block) => {
-            let end = end_at_refusal(&block);
-            drop(block);
-            end
-        }
-        Err(_) => true,
-    }
-}
-
 #[test]
 fn nothing_comes_after_a_refused_handle(rt: HostRuntime) {
-    let answers = each_refused(rt.alloc(), |heap, _| is_ended(heap));
+    let answers = each_refused(rt.alloc(), |heap, _| {
+        holds_or_refused(asked(block_of_four(heap), end_at_refusal))
+    });
     assert!(rt; answers.is_ok());
 }
 
 // Whether one handle is refused for memory, at this request.
 fn is_refused_at(alloc: Global, nth: usize) -> bool {
     let heap = Refusing::new(alloc, nth);
-    let refused = refusal_of(&heap, handle(&heap, b"a", 1, 0, 47));
+    let refused = asked_with(&heap, handle(&heap, ONE), refusal_of);
     is_answer(refused, Some(Error::OutOfMemory)) && heap.requests() == nth
 }
 

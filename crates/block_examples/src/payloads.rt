@@ -13,12 +13,47 @@ pub(crate) fn beside<T: Drop, U, E>(first: T, second: Result<U, E>) -> Result<(T
     Ok((first, second?))
 }
 
+/// What is asked of a value, which is let go of here alone, or why there is none. It is generic, so that no part of the value
+/// is looked at.
+pub(crate) fn asked<T: Drop, U, E, F: FnOnce(&T) -> U + Drop>(
+    made: Result<T, E>,
+    ask: F,
+) -> Result<U, E>
+    requires { F.IsAlwaysCallable ask }
+{
+    Ok(ask(&made?))
+}
+
+/// What is asked with something more, and may be refused.
+pub(crate) fn asked_with<C: Drop, T: Drop, U, F: FnOnce(C, &T) -> Result<U, Error> + Drop>(
+    more: C,
+    made: Result<T, Error>,
+    ask: F,
+) -> Result<U, Error>
+    requires { F.IsAlwaysCallable ask }
+{
+    ask(more, &made?)
+}
+
+/// What is asked of a list.
+pub(crate) fn asked_list<
+    C: Drop,
+    T: Drop,
+    A: Allocator,
+    U,
+    F: FnOnce(C, &[T]) -> Result<U, Error> + Drop,
+>(more: C, list: Result<Vec<T, A>, Error>, ask: F) -> Result<U, Error>
+    requires { F.IsAlwaysCallable ask }
+{
+    ask(more, &list?)
+}
+
 /// Two values, or the refusal of the first that is refused.
 pub(crate) fn both<T: Drop, U: Drop, E: Drop>(
     first: Result<T, E>,
     second: Result<U, E>,
 ) -> Result<(T, U), E> {
-    Ok((first?, second?))
+    beside(first?, second)
 }
 
 /// A value, once what was done with it is not refused.
@@ -30,6 +65,11 @@ pub(crate) fn once_done<T: Drop, E>(value: T, done: Result<(), E>) -> Result<T, 
 /// Whether something was found to hold, and nothing was refused.
 pub(crate) fn holds(answer: Result<bool, Error>) -> bool {
     matches!(answer, Ok(true))
+}
+
+/// Whether something was found to hold, or what it is asked of was refused.
+pub(crate) fn holds_or_refused(answer: Result<bool, Error>) -> bool {
+    !matches!(answer, Ok(false))
 }
 
 /// Whether an answer is this one, and no refusal.
@@ -71,8 +111,11 @@ pub(crate) fn in_grammar(len: Result<usize, Error>) -> Result<Option<usize>, Err
 }
 
 /// How the encoding behind the byte 7 was refused, where that left the byte alone.
-pub(crate) fn behind_seven(bytes: &[u8], done: Result<(), Error>) -> Option<Error> {
-    if bytes == [7].as_slice() {
+pub(crate) fn behind_seven<A: Allocator>(
+    bytes: Vec<u8, A>,
+    done: Result<(), Error>,
+) -> Option<Error> {
+    if bytes.as_slice() == [7].as_slice() {
         done.err()
     } else {
         None
@@ -134,42 +177,35 @@ pub(crate) fn ends_at_refusal<X: Drop, I: DoubleEndedIterator<Item = Result<X, E
     is_given(answer_at(stream, end)).is_none()
 }
 
-// Appends some parts in turn.
-fn append_all<A: Allocator + Copy>(
-    writer: &mut SectionWriter<A>,
-    parts: &[&[u8]],
-) -> Result<(), Error> {
-    for part in parts {
-        writer.append(part)?;
-    }
-    Ok(())
+// The header of a block of either version: its mark, its kind, its length twice and its payload's hash.
+fn header(version: TableVersion, kind: BlockType, payload: &[u8]) -> [[u8; 4]; 6] {
+    let len = u32::try_from(payload.len())
+        .unwrap_or(u32::MAX)
+        .to_le_bytes();
+    let [a, b, c, d, e, f, g, h] = hash(payload).to_le_bytes();
+    [
+        version.mark(),
+        [kind.tag(), 0, 0, 0],
+        len,
+        len,
+        [a, b, c, d],
+        [e, f, g, h],
+    ]
 }
 
-// Starts a section with a block of either version: its mark, its kind, its length twice, its payload's hash and the payload.
+// Starts a section with a block of this header and this payload.
 fn write<A: Allocator + Copy>(
     writer: &mut SectionWriter<A>,
-    version: TableVersion,
-    kind: BlockType,
+    header: &[[u8; 4]],
     payload: &[u8],
 ) -> Result<(), Error>
     requires { writer.old.started ≡ [] }
 {
     writer.start(SectionName::Data)?;
-    let Ok(len) = u32::try_from(payload.len()) else {
-        return Err(Error::BlockTooLarge);
-    };
-    let len = len.to_le_bytes();
-    append_all(
-        writer,
-        &[
-            &version.mark(),
-            &[kind.tag(), 0, 0, 0],
-            &len,
-            &len,
-            &hash(payload).to_le_bytes(),
-            payload,
-        ],
-    )
+    for part in header {
+        writer.append(part)?;
+    }
+    writer.append(payload)
 }
 
 // The bytes of a table with this payload alone.
@@ -180,7 +216,7 @@ fn table<A: Allocator + Copy>(
     payload: &[u8],
 ) -> Result<Slice<A>, Error> {
     let mut writer = SectionWriter::new(alloc)?;
-    let written = write(&mut writer, version, kind, payload);
+    let written = write(&mut writer, &header(version, kind, payload), payload);
     let (bytes, _) = once_done(writer, written)?.finish()?;
     Ok(bytes)
 }
