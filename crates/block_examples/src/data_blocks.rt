@@ -1,9 +1,8 @@
 //! Data blocks: what is written of entries, and what reads and seeks find.
 
 use crate::payloads::{
-    asked, asked_list, asked_with, behind_seven, beside, both, data_block, ends_at_refusal, holds,
-    holds_or_refused, in_grammar, is_answer, is_answer_or_refused, is_behind_seven, is_invalid,
-    once_done, push_made,
+    asked, behind_seven, beside, both, data_block, ends_at_refusal, holds, holds_or_refused,
+    in_grammar, is_answer, is_answer_or_refused, is_behind_seven, is_invalid, once_done, push_made,
 };
 use refusing::{Refusing, each_refused};
 use sst_blocks::Direction::{Back, Front};
@@ -97,7 +96,10 @@ fn five_entries<A: Allocator + Copy>(alloc: A) -> Result<Vec<InternalValue<A>, A
 
 // The block of the five entries, by way of its bytes.
 fn block_of_five<A: Allocator + Copy>(alloc: A) -> Result<DataBlock<A>, Error> {
-    asked_list(alloc, five_entries(alloc), written_and_loaded)
+    let items = five_entries(alloc)?;
+    let block = written_and_loaded(alloc, &items);
+    drop(items);
+    block
 }
 
 // Whether what is found is what is expected, and nothing was refused.
@@ -118,20 +120,19 @@ fn finds<A: Allocator>(
     is(block.point_read(key, seqno), expected)
 }
 
-// The number of an entry, or 99 where there is none.
-fn number_or_none<A: Allocator>(found: &Option<InternalValue<A>>) -> SeqNo {
-    match found {
-        Some(item) => item.key.seqno,
-        None => 99,
-    }
-}
-
 // The number of the entry that a point read finds, or 99 where it finds none.
 fn number_found<A: Allocator>(
-    (key, seqno): (&[u8], SeqNo),
     block: &DataBlock<A>,
+    key: &[u8],
+    seqno: SeqNo,
 ) -> Result<SeqNo, Error> {
-    asked(block.point_read(key, seqno), number_or_none)
+    let found = block.point_read(key, seqno)?;
+    let number = match &found {
+        Some(item) => item.key.seqno,
+        None => 99,
+    };
+    drop(found);
+    Ok(number)
 }
 
 // a@1, a value of `x`.
@@ -146,47 +147,51 @@ const ONE_IN_V4: [u8; 23] = [
 ];
 
 // Whether a block has this entry alone.
-fn has_one_entry(block: &DataBlock, expected: &InternalValue) -> bool {
-    block.len() == 1
+fn has_one_entry(block: Result<DataBlock, Error>, expected: &InternalValue) -> Result<bool, Error> {
+    let block = block?;
+    let has_it = block.len() == 1
         && !block.is_empty()
-        && finds(block, b"a", 2, Some(expected))
-        && is_answer(number_found((b"a", 1), block), 99)
-}
-
-// Whether a block has a@1 alone, with the value `x`.
-fn has_x(alloc: Global, block: &DataBlock) -> Result<bool, Error> {
-    let expected = entry(alloc, ONE)?;
-    let has_it = has_one_entry(block, &expected);
-    drop(expected);
+        && finds(&block, b"a", 2, Some(expected))
+        && is_answer(number_found(&block, b"a", 1), 99);
+    drop(block);
     Ok(has_it)
 }
 
-// Whether a payload is such a block.
-fn is_one_entry(alloc: Global, version: TableVersion, bytes: &[u8]) -> bool {
-    holds(asked_with(alloc, data_block(alloc, version, bytes), has_x))
+// Whether a payload is the block of a@1 alone, with the value `x`.
+fn is_one_entry(alloc: Global, version: TableVersion, bytes: &[u8]) -> Result<bool, Error> {
+    let expected = entry(alloc, ONE)?;
+    let is_so = has_one_entry(data_block(alloc, version, bytes), &expected);
+    drop(expected);
+    is_so
 }
 
 #[test]
 fn payloads_of_both_versions_read_as_their_entries(rt: HostRuntime) {
     let alloc = rt.alloc();
-    assert!(rt; is_one_entry(alloc, TableVersion::V3, &ONE_IN_V3));
-    assert!(rt; is_one_entry(alloc, TableVersion::V4, &ONE_IN_V4));
+    assert!(rt; holds(is_one_entry(alloc, TableVersion::V3, &ONE_IN_V3)));
+    assert!(rt; holds(is_one_entry(alloc, TableVersion::V4, &ONE_IN_V4)));
 }
 
-// The bound on the block of one entry, and whether the payload of a@1 is written of it behind the byte 7.
-fn bound_and_payload(alloc: Global, item: &InternalValue) -> Result<(u64, bool), Error> {
-    let written = written_behind(alloc, &[7], from_ref(item));
-    beside(
-        data_block_bound(from_ref(item)),
-        is_behind_seven(written, &ONE_IN_V4),
-    )
+// The bound on the block of a@1, and whether its payload is written behind the byte 7.
+fn bound_and_payload(alloc: Global) -> Result<(u64, bool), Error> {
+    let item = entry(alloc, ONE)?;
+    let bound = data_block_bound(from_ref(&item));
+    let written = written_behind(alloc, &[7], from_ref(&item));
+    drop(item);
+    beside(bound, is_behind_seven(written, &ONE_IN_V4))
 }
 
 #[test]
 fn entries_are_written_behind_what_was_there(rt: HostRuntime) {
-    let alloc = rt.alloc();
-    let answer = asked_with(alloc, entry(alloc, ONE), bound_and_payload);
-    assert!(rt; is_answer(answer, (24 + 23, true)));
+    assert!(rt; is_answer(bound_and_payload(rt.alloc()), (24 + 23, true)));
+}
+
+// The number of the entry that a point read finds in the block of five, or 99 where it finds none.
+fn found_in_five(alloc: Global, key: &[u8], seqno: SeqNo) -> Result<SeqNo, Error> {
+    let block = block_of_five(alloc)?;
+    let number = number_found(&block, key, seqno);
+    drop(block);
+    number
 }
 
 // A key, a number, and the number that a point read finds below it.
@@ -213,30 +218,32 @@ const READS: &[(&[u8], SeqNo, SeqNo)] = &[
 #[test]
 fn a_point_read_finds_the_newest_version_below_a_number(rt: HostRuntime) {
     for &(key, seqno, found) in READS {
-        let answer = asked_with((key, seqno), block_of_five(rt.alloc()), number_found);
-        assert!(rt; is_answer(answer, found));
+        assert!(rt; is_answer(found_in_five(rt.alloc(), key, seqno), found));
     }
 }
 
-// Whether point reads in the block of five find a@7, a tombstone, and c@0, a weak one, and e@3 with its value.
-fn finds_three(items: &[InternalValue], block: &DataBlock) -> Result<bool, Error> {
-    Ok(
-        block.len() == 5
-            && finds(block, b"a", 9, items.get(1))
-            && finds(block, b"c", 1, items.get(3))
-            && finds(block, b"e", 4, items.get(4)),
-    )
+// Whether point reads in the block of such entries find a@7, a tombstone, and c@0, a weak one, and e@3 with its value.
+fn finds_three(block: Result<DataBlock, Error>, items: &[InternalValue]) -> Result<bool, Error> {
+    let block = block?;
+    let found = block.len() == 5
+        && finds(&block, b"a", 9, items.get(1))
+        && finds(&block, b"c", 1, items.get(3))
+        && finds(&block, b"e", 4, items.get(4));
+    drop(block);
+    Ok(found)
 }
 
-// Whether the block of such entries gives them back whole.
-fn finds_in_theirs(alloc: Global, items: &[InternalValue]) -> Result<bool, Error> {
-    asked_with(items, written_and_loaded(alloc, items), finds_three)
+// Whether the block of five gives such entries back whole.
+fn finds_whole_entries(alloc: Global) -> Result<bool, Error> {
+    let items = five_entries(alloc)?;
+    let found = finds_three(written_and_loaded(alloc, &items), &items);
+    drop(items);
+    found
 }
 
 #[test]
 fn a_point_read_finds_entries_as_they_were_written(rt: HostRuntime) {
-    let alloc = rt.alloc();
-    assert!(rt; holds(asked_list(alloc, five_entries(alloc), finds_in_theirs)));
+    assert!(rt; holds(finds_whole_entries(rt.alloc())));
 }
 
 // The key and the number of the place, where the block has it.
@@ -278,7 +285,7 @@ fn ends<A: Allocator>(iter: &mut DataBlockIter<'_, A>) -> Result<(SeqNo, SeqNo),
 // Whether a block gives no entries.
 fn gives_none(block: &DataBlock) -> bool {
     block.is_empty()
-        && is_answer(number_found((b"a", u64::MAX), block), 99)
+        && is_answer(number_found(block, b"a", u64::MAX), 99)
         && is_answer(ends(&mut block.iter()), (99, 99))
 }
 
@@ -310,20 +317,24 @@ fn seek(iter: &mut DataBlockIter<'_>, edge: Edge, key: &[u8]) -> bool {
 }
 
 // Whether a seek leaves entries, and the numbers of the first and of the last.
-fn ends_after(
-    (edge, key): (Edge, &[u8]),
-    block: &DataBlock,
-) -> Result<(bool, (SeqNo, SeqNo)), Error> {
+fn ends_after(block: &DataBlock, edge: Edge, key: &[u8]) -> Result<(bool, (SeqNo, SeqNo)), Error> {
     let mut iter = block.iter();
     let left = seek(&mut iter, edge, key);
     beside(left, ends(&mut iter))
 }
 
+// What a seek leaves of the block of five.
+fn left_of_five(alloc: Global, edge: Edge, key: &[u8]) -> Result<(bool, (SeqNo, SeqNo)), Error> {
+    let block = block_of_five(alloc)?;
+    let left = ends_after(&block, edge, key);
+    drop(block);
+    left
+}
+
 // Whether a seek in the block of five leaves a first and a last entry of these numbers.
 fn leaves(alloc: Global, case: &(Edge, &[u8], SeqNo, SeqNo)) -> bool {
     let (edge, key, first, last) = *case;
-    let left = asked_with((edge, key), block_of_five(alloc), ends_after);
-    is_answer(left, (first != 99, (first, last)))
+    is_answer(left_of_five(alloc, edge, key), (first != 99, (first, last)))
 }
 
 // How a key is sought, the key, and the first entry and the last, which is 99 where there are fewer than two.
@@ -515,9 +526,12 @@ fn len_of<A: Allocator>(written: Result<Vec<u8, A>, Error>) -> Result<usize, Err
     Ok(len)
 }
 
-// How many bytes are written of one entry.
-fn written_len(alloc: Global, item: &InternalValue) -> Result<usize, Error> {
-    len_of(written_behind(alloc, b"", from_ref(item)))
+// How many bytes are written of one entry, of a key of so many.
+fn written_len(alloc: Global, key_len: usize) -> Result<usize, Error> {
+    let item = entry_of_key_len(alloc, 0, key_len)?;
+    let written = written_behind(alloc, b"", from_ref(&item));
+    drop(item);
+    len_of(written)
 }
 
 // The length of an entry's key, and how many bytes are written of it, or how it is refused.
@@ -530,7 +544,7 @@ const WRITTEN: &[(usize, Result<usize, Error>)] = &[
 // Whether they are written so.
 fn is_written_so(alloc: Global, case: &(usize, Result<usize, Error>)) -> bool {
     let (key_len, expected) = case;
-    asked_with(alloc, entry_of_key_len(alloc, 0, *key_len), written_len) == *expected
+    written_len(alloc, *key_len) == *expected
 }
 
 #[test]
@@ -595,20 +609,24 @@ fn refusal<A: Allocator + Copy>(
     Ok(behind_seven(buf, done))
 }
 
-// The bound on the block of some entries, and how they are refused.
-fn bound_and_refusal(
-    alloc: Global,
-    items: &[InternalValue],
-) -> Result<(u64, Option<Error>), Error> {
-    beside(data_block_bound(items), refusal(alloc, items))
+// The bound on the block of as many entries, and how they are refused.
+fn bound_and_refusal(alloc: Global) -> Result<(u64, Option<Error>), Error> {
+    let items = many_entries(alloc)?;
+    let bound = data_block_bound(&items);
+    let refused = refusal(alloc, &items);
+    drop(items);
+    beside(bound, refused)
 }
 
 #[test]
 fn a_block_of_four_gibibytes_is_refused(rt: HostRuntime) {
-    let alloc = rt.alloc();
-    let answer = asked_list(alloc, many_entries(alloc), bound_and_refusal);
     let bound = 28 + 4096 * (17 + 2 + 1048576);
-    assert!(rt; is_answer(answer, (bound, Some(Error::BlockTooLarge))));
+    assert!(rt;
+        is_answer(
+            bound_and_refusal(rt.alloc()),
+            (bound, Some(Error::BlockTooLarge))
+        )
+    );
 }
 
 // As many entries, and one behind them whose key is too long.
@@ -618,21 +636,30 @@ fn more_entries(alloc: Global) -> Result<Vec<InternalValue>, Error> {
     once_done(items, done)
 }
 
+// How these are refused.
+fn refusal_of_more(alloc: Global) -> Result<Option<Error>, Error> {
+    let items = more_entries(alloc)?;
+    let refused = refusal(alloc, &items);
+    drop(items);
+    refused
+}
+
 #[test]
 fn a_key_that_is_too_long_is_told_before_the_block(rt: HostRuntime) {
-    let alloc = rt.alloc();
-    let answer = asked_list(alloc, more_entries(alloc), refusal);
-    assert!(rt; is_answer(answer, Some(Error::KeyTooLong)));
+    assert!(rt; is_answer(refusal_of_more(rt.alloc()), Some(Error::KeyTooLong)));
 }
 
 // The numbers of a block's ends and of what a point read finds.
 fn read<A: Allocator>(block: &DataBlock<A>) -> Result<((SeqNo, SeqNo), SeqNo), Error> {
-    both(ends(&mut block.iter()), number_found((b"c", 1), block))
+    both(ends(&mut block.iter()), number_found(block, b"c", 1))
 }
 
 // These numbers of the block of five, by way of its bytes.
 fn write_and_read<A: Allocator + Copy>(alloc: A) -> Result<((SeqNo, SeqNo), SeqNo), Error> {
-    asked(block_of_five(alloc), read)?
+    let block = block_of_five(alloc)?;
+    let numbers = read(&block);
+    drop(block);
+    numbers
 }
 
 #[test]
@@ -652,7 +679,10 @@ fn left_by_its_block<A: Allocator>(block: DataBlock<A>) -> Result<DataBlock<A>, 
 
 // These numbers of a clone of the block of five, which outlives it.
 fn read_a_clone<A: Allocator + Copy>(alloc: A) -> Result<((SeqNo, SeqNo), SeqNo), Error> {
-    asked(left_by_its_block(block_of_five(alloc)?), read)?
+    let copy = left_by_its_block(block_of_five(alloc)?)?;
+    let numbers = read(&copy);
+    drop(copy);
+    numbers
 }
 
 #[test]
@@ -665,27 +695,29 @@ fn end_at_refusal<A: Allocator>(block: &DataBlock<A>) -> bool {
     ends_at_refusal(&mut block.iter(), Back, block.len())
 }
 
+// Whether they do so of the block of five, where memory lasts for it.
+fn five_end_at_refusal<A: Allocator + Copy>(alloc: A) -> bool {
+    holds_or_refused(asked(block_of_five(alloc), end_at_refusal))
+}
+
 #[test]
 fn nothing_comes_after_a_refused_entry(rt: HostRuntime) {
-    let answers = each_refused(rt.alloc(), |heap, _| {
-        holds_or_refused(asked(block_of_five(heap), end_at_refusal))
-    });
+    let answers = each_refused(rt.alloc(), |heap, _| five_end_at_refusal(heap));
     assert!(rt; answers.is_ok());
 }
 
-// How one entry is refused.
-fn refusal_of<A: Allocator + Copy>(
-    alloc: A,
-    item: &InternalValue<A>,
-) -> Result<Option<Error>, Error> {
-    refusal(alloc, from_ref(item))
+// How one entry in an allocator is refused.
+fn refusal_of_one<A: Allocator + Copy>(alloc: A) -> Result<Option<Error>, Error> {
+    let item = entry(alloc, ONE)?;
+    let refused = refusal(alloc, from_ref(&item));
+    drop(item);
+    refused
 }
 
 // Whether one entry is refused for memory, at this request.
 fn is_refused_at(alloc: Global, nth: usize) -> bool {
     let heap = Refusing::new(alloc, nth);
-    let refused = asked_with(&heap, entry(&heap, ONE), refusal_of);
-    is_answer(refused, Some(Error::OutOfMemory)) && heap.requests() == nth
+    is_answer(refusal_of_one(&heap), Some(Error::OutOfMemory)) && heap.requests() == nth
 }
 
 #[test]

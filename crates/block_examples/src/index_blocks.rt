@@ -1,9 +1,9 @@
 //! Index blocks: what is written of handles, and what reads and seeks find.
 
 use crate::payloads::{
-    asked, asked_list, asked_with, behind_seven, beside, both, ends_at_refusal, holds,
-    holds_or_refused, in_grammar, index_block, is_answer, is_answer_or_refused, is_behind_seven,
-    is_invalid, once_done, push_made,
+    asked, behind_seven, beside, both, ends_at_refusal, holds, holds_or_refused, in_grammar,
+    index_block, is_answer, is_answer_or_refused, is_behind_seven, is_invalid, once_done,
+    push_made,
 };
 use refusing::{Refusing, each_refused};
 use sst_blocks::Direction::Front;
@@ -86,18 +86,24 @@ const ONE_IN_V4: [u8; 29] = [
 ];
 
 // Whether a block has one handle, which reaches a@2 and not a@1, at the position 0.
-fn has_one_handle(size: u32, block: &IndexBlock) -> Result<bool, Error> {
-    Ok(
-        block.len() == 1
-            && !block.is_empty()
-            && finds_one(block, size)
-            && found_at(block, b"a", 1) == 99,
-    )
+fn has_one_handle(block: &IndexBlock, size: u32) -> bool {
+    block.len() == 1
+        && !block.is_empty()
+        && finds_one(block, size)
+        && found_at(block, b"a", 1) == 99
 }
 
 // Whether a payload is such a block.
-fn is_one_handle(alloc: Global, version: TableVersion, bytes: &[u8], size: u32) -> bool {
-    holds(asked_with(size, index_block(alloc, version, bytes), has_one_handle))
+fn is_one_handle(
+    alloc: Global,
+    version: TableVersion,
+    bytes: &[u8],
+    size: u32,
+) -> Result<bool, Error> {
+    let block = index_block(alloc, version, bytes)?;
+    let is_right = has_one_handle(&block, size);
+    drop(block);
+    Ok(is_right)
 }
 
 // Encodes some handles behind what is there.
@@ -125,19 +131,21 @@ fn written_behind<A: Allocator + Copy>(
 #[test]
 fn payloads_of_both_versions_read_as_their_handles(rt: HostRuntime) {
     let alloc = rt.alloc();
-    assert!(rt; is_one_handle(alloc, TableVersion::V3, &ONE_IN_V3, 45));
-    assert!(rt; is_one_handle(alloc, TableVersion::V4, &ONE_IN_V4, 47));
+    assert!(rt; holds(is_one_handle(alloc, TableVersion::V3, &ONE_IN_V3, 45)));
+    assert!(rt; holds(is_one_handle(alloc, TableVersion::V4, &ONE_IN_V4, 47)));
 }
 
-// Whether the payload of a@1 is written of a handle behind the byte 7.
-fn is_one_behind_seven(alloc: Global, handle: &KeyedBlockHandle) -> Result<bool, Error> {
-    is_behind_seven(written_behind(alloc, &[7], from_ref(handle)), &ONE_IN_V4)
+// Whether the payload of a@1 is written behind the byte 7.
+fn is_one_behind_seven(alloc: Global) -> Result<bool, Error> {
+    let handle = handle(alloc, ONE)?;
+    let written = written_behind(alloc, &[7], from_ref(&handle));
+    drop(handle);
+    is_behind_seven(written, &ONE_IN_V4)
 }
 
 #[test]
 fn handles_are_written_behind_what_was_there(rt: HostRuntime) {
-    let alloc = rt.alloc();
-    assert!(rt; holds(asked_with(alloc, handle(alloc, ONE), is_one_behind_seven)));
+    assert!(rt; holds(is_one_behind_seven(rt.alloc())));
 }
 
 // The position of a handle that is given.
@@ -171,7 +179,10 @@ fn written_and_loaded<A: Allocator + Copy>(
 
 // The block of the four handles, through its bytes.
 fn block_of_four<A: Allocator + Copy>(alloc: A) -> Result<IndexBlock<A>, Error> {
-    asked_list(alloc, four_handles(alloc), written_and_loaded)
+    let handles = four_handles(alloc)?;
+    let block = written_and_loaded(alloc, &handles);
+    drop(handles);
+    block
 }
 
 // Whether handles are left after a seek, and the position of the first.
@@ -343,23 +354,24 @@ fn refusal<A: Allocator + Copy>(
     Ok(behind_seven(buf, done))
 }
 
-// How one handle is refused.
+// The refusal of one handle.
 fn refusal_of<A: Allocator + Copy>(
     alloc: A,
-    handle: &KeyedBlockHandle<A>,
+    handle: Result<KeyedBlockHandle<A>, Error>,
 ) -> Result<Option<Error>, Error> {
-    refusal(alloc, from_ref(handle))
+    let handle = handle?;
+    let refused = refusal(alloc, from_ref(&handle));
+    drop(handle);
+    refused
 }
 
-// A handle whose end key has this length.
-fn handle_of_key_len(alloc: Global, len: usize) -> Result<KeyedBlockHandle, Error> {
-    let inner = BlockHandle::new(BlockOffset(0), 24);
-    keyed(Slice::from_vec(vec![in alloc; 0u8; len]?), 1, inner)
-}
-
-// How it is refused.
+// The refusal of one handle whose end key has this length.
 fn refusal_of_key_len(alloc: Global, len: usize) -> Result<Option<Error>, Error> {
-    asked_with(alloc, handle_of_key_len(alloc, len), refusal_of)
+    let end_key = Slice::from_vec(vec![in alloc; 0u8; len]?);
+    refusal_of(
+        alloc,
+        keyed(end_key, 1, BlockHandle::new(BlockOffset(0), 24)),
+    )
 }
 
 #[test]
@@ -416,20 +428,24 @@ fn many_handles(alloc: Global) -> Result<Vec<KeyedBlockHandle>, Error> {
     handles
 }
 
-// The bound on the block of some handles, and how they are refused.
-fn bound_and_refusal(
-    alloc: Global,
-    handles: &[KeyedBlockHandle],
-) -> Result<(u64, Option<Error>), Error> {
-    beside(index_block_bound(handles), refusal(alloc, handles))
+// The bound on the block of as many handles, and how they are refused.
+fn bound_and_refusal(alloc: Global) -> Result<(u64, Option<Error>), Error> {
+    let handles = many_handles(alloc)?;
+    let bound = index_block_bound(&handles);
+    let refused = refusal(alloc, &handles);
+    drop(handles);
+    beside(bound, refused)
 }
 
 #[test]
 fn a_block_of_four_gibibytes_is_refused(rt: HostRuntime) {
-    let alloc = rt.alloc();
-    let answer = asked_list(alloc, many_handles(alloc), bound_and_refusal);
     let bound = 28 + 4096 * (24 + 1048576);
-    assert!(rt; is_answer(answer, (bound, Some(Error::BlockTooLarge))));
+    assert!(rt;
+        is_answer(
+            bound_and_refusal(rt.alloc()),
+            (bound, Some(Error::BlockTooLarge))
+        )
+    );
 }
 
 // The position of the handle that reaches b@5, and those of a block's ends.
@@ -439,7 +455,10 @@ fn read<A: Allocator>(block: &IndexBlock<A>) -> Result<(u64, (u64, u64)), Error>
 
 // These positions in the block of four, by way of its bytes.
 fn write_and_read<A: Allocator + Copy>(alloc: A) -> Result<(u64, (u64, u64)), Error> {
-    asked(block_of_four(alloc), read)?
+    let block = block_of_four(alloc)?;
+    let positions = read(&block);
+    drop(block);
+    positions
 }
 
 #[test]
@@ -457,14 +476,12 @@ fn left_by_its_block<A: Allocator>(block: IndexBlock<A>) -> Result<IndexBlock<A>
     copy
 }
 
-// How many handles a block has, and the position of the one that reaches c@1.
-fn len_and_found<A: Allocator>(block: &IndexBlock<A>) -> (usize, u64) {
-    (block.len(), found_at(block, b"c", 1))
-}
-
-// The same of such a clone.
+// How many handles such a clone has, and the position of the one that reaches c@1.
 fn found_after<A: Allocator>(block: Result<IndexBlock<A>, Error>) -> Result<(usize, u64), Error> {
-    Ok(asked(left_by_its_block(block?), len_and_found)?)
+    let copy = left_by_its_block(block?)?;
+    let found = (copy.len(), found_at(&copy, b"c", 1));
+    drop(copy);
+    Ok(found)
 }
 
 // Whether a clone of the block of four, which outlives it, finds what the block does, and takes no memory.
@@ -485,18 +502,21 @@ fn end_at_refusal<A: Allocator>(block: &IndexBlock<A>) -> bool {
     ends_at_refusal(&mut block.iter(), Front, block.len())
 }
 
+// Whether they do so of the block of four, where memory lasts for it.
+fn four_end_at_refusal<A: Allocator + Copy>(alloc: A) -> bool {
+    holds_or_refused(asked(block_of_four(alloc), end_at_refusal))
+}
+
 #[test]
 fn nothing_comes_after_a_refused_handle(rt: HostRuntime) {
-    let answers = each_refused(rt.alloc(), |heap, _| {
-        holds_or_refused(asked(block_of_four(heap), end_at_refusal))
-    });
+    let answers = each_refused(rt.alloc(), |heap, _| four_end_at_refusal(heap));
     assert!(rt; answers.is_ok());
 }
 
 // Whether one handle is refused for memory, at this request.
 fn is_refused_at(alloc: Global, nth: usize) -> bool {
     let heap = Refusing::new(alloc, nth);
-    let refused = asked_with(&heap, handle(&heap, ONE), refusal_of);
+    let refused = refusal_of(&heap, handle(&heap, ONE));
     is_answer(refused, Some(Error::OutOfMemory)) && heap.requests() == nth
 }
 

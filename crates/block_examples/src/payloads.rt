@@ -24,30 +24,6 @@ pub(crate) fn asked<T: Drop, U, E, F: FnOnce(&T) -> U + Drop>(
     Ok(ask(&made?))
 }
 
-/// What is asked with something more, and may be refused.
-pub(crate) fn asked_with<C: Drop, T: Drop, U, F: FnOnce(C, &T) -> Result<U, Error> + Drop>(
-    more: C,
-    made: Result<T, Error>,
-    ask: F,
-) -> Result<U, Error>
-    requires { F.IsAlwaysCallable ask }
-{
-    ask(more, &made?)
-}
-
-/// What is asked of a list.
-pub(crate) fn asked_list<
-    C: Drop,
-    T: Drop,
-    A: Allocator,
-    U,
-    F: FnOnce(C, &[T]) -> Result<U, Error> + Drop,
->(more: C, list: Result<Vec<T, A>, Error>, ask: F) -> Result<U, Error>
-    requires { F.IsAlwaysCallable ask }
-{
-    ask(more, &list?)
-}
-
 /// Two values, or the refusal of the first that is refused.
 pub(crate) fn both<T: Drop, U: Drop, E: Drop>(
     first: Result<T, E>,
