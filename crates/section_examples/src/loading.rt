@@ -234,18 +234,23 @@ fn is_taken<T: Drop>(made: Result<T, Error>) -> Result<bool, Error> {
     }
 }
 
+// A source of some bytes.
+fn source_of<A: Allocator + Copy>(alloc: A, bytes: &[u8]) -> Result<BlockSource<A>, Error> {
+    BlockSource::new(alloc, Slice::from(alloc, bytes)?)
+}
+
 // Whether the first bytes of the stored table, so many, have no trailer.
-fn has_no_trailer(alloc: Global, len: usize) -> Result<bool, Error> {
-    let Some(bytes) = stored_table::bytes().get(..len) else {
-        return Ok(false);
-    };
-    Ok(!is_taken(BlockSource::new(alloc, Slice::from(alloc, bytes)?))?)
+fn has_no_trailer(alloc: Global, len: usize) -> bool {
+    match stored_table::bytes().get(..len) {
+        Some(bytes) => is_answer(is_taken(source_of(alloc, bytes)), false),
+        None => false,
+    }
 }
 
 #[test]
 fn bytes_that_end_early_have_no_trailer(rt: HostRuntime) {
     for len in 0..stored_table::bytes().len() {
-        assert!(rt; holds(has_no_trailer(rt.alloc(), len)), "{len} bytes");
+        assert!(rt; has_no_trailer(rt.alloc(), len), "{len} bytes");
     }
 }
 
@@ -346,8 +351,7 @@ fn a_source_that_counts_its_loads(rt: HostRuntime) {
 
 // The sizes, over any allocator.
 fn open_and_load<A: Allocator + Copy>(alloc: A) -> Result<(usize, usize), Error> {
-    let bytes = Slice::from(alloc, stored_table::bytes())?;
-    let (sizes, _) = counted_sizes_of(BlockSource::new(alloc, bytes))?;
+    let (sizes, _) = counted_sizes_of(source_of(alloc, stored_table::bytes()))?;
     Ok(sizes)
 }
 
@@ -420,6 +424,6 @@ const ERRORS: &[Error] = &[
 #[test]
 fn each_refusal_has_its_number(rt: HostRuntime) {
     for (i, error) in ERRORS.iter().enumerate() {
-        assert_eq!(rt; usize::from(error.number()), i + 1, "{error:?}");
+        assert!(rt; usize::from(error.number()) == i + 1);
     }
 }

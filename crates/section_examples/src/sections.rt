@@ -1,5 +1,6 @@
 //! The sections of a stored table, written again.
-ghost use Rattle.std.specs.Prelude.{◌≡◌, []};
+ghost use Rattle.std.specs.Prelude.{◌≡◌, ◌++◌, ◌∷◌, [], length, OnOk, All};
+ghost use Rattle.sst_sections.specs.Sections.{slot_index};
 
 use crate::large::{asked, finished, is_answer, is_answer_or_refused};
 use crate::stored_table;
@@ -7,19 +8,29 @@ use refusing::each_refused;
 use sst_blocks::{BlockSource, Error, SectionName, SectionWriter, Slice};
 use std::alloc::{Allocator, Global};
 
+// Writes a section.
+fn put_section<A: Allocator + Copy>(
+    writer: &mut SectionWriter<A>,
+    name: SectionName,
+    bytes: &[u8],
+) -> Result<(), Error>
+    requires { All (λ s. slot_index s.0 ≡ slot_index name → ⊥) writer.old.started }
+    ensures { let started = writer.old.started ++ (name, length writer.old.bytes) ∷ [] in
+        OnOk result (writer.new.started ≡ started) }
+{
+    writer.start(name)?;
+    writer.append(bytes)
+}
+
 // Writes the sections of the stored table.
 fn write_sections<A: Allocator + Copy>(writer: &mut SectionWriter<A>) -> Result<(), Error>
     requires { writer.old.started ≡ [] }
 {
     let bytes = stored_table::bytes();
-    writer.start(SectionName::Data)?;
-    writer.append(&bytes[..45])?;
-    writer.start(SectionName::Tli)?;
-    writer.append(&bytes[45..96])?;
-    writer.start(SectionName::TableVersion)?;
-    writer.append(&bytes[96..97])?;
-    writer.start(SectionName::Meta)?;
-    writer.append(&bytes[97..1138])
+    put_section(writer, SectionName::Data, &bytes[..45])?;
+    put_section(writer, SectionName::Tli, &bytes[45..96])?;
+    put_section(writer, SectionName::TableVersion, &bytes[96..97])?;
+    put_section(writer, SectionName::Meta, &bytes[97..1138])
 }
 
 // The sections of the stored table, written again.
