@@ -261,18 +261,15 @@ fn the_key_of_a_place_is_that_of_its_entry(rt: HostRuntime) {
     assert!(rt; holds(asked(block_of_five(rt.alloc()), has_their_keys)));
 }
 
-// The number of an entry that is given.
-fn number_of<A: Allocator>(item: IterItem<A>) -> Result<SeqNo, Error> {
-    let item = item?;
-    let number = item.key.seqno;
-    drop(item);
-    Ok(number)
-}
-
 // The number of the next entry, from the front or the back, or 99 where there is none.
 fn number<A: Allocator>(answer: Option<IterItem<A>>) -> Result<SeqNo, Error> {
     match answer {
-        Some(item) => number_of(item),
+        Some(Ok(item)) => {
+            let number = item.key.seqno;
+            drop(item);
+            Ok(number)
+        }
+        Some(Err(error)) => Err(error),
         None => Ok(99),
     }
 }
@@ -581,22 +578,13 @@ fn put_entries_sharing<A: Allocator + Copy>(
     Ok(())
 }
 
-// Entries of 4,096 keys, which share this value's memory.
-fn entries_sharing<A: Allocator + Copy>(
-    alloc: A,
-    value: &Slice<A>,
-) -> Result<Vec<InternalValue<A>, A>, Error> {
-    let mut items = Vec::new(alloc);
-    let done = put_entries_sharing(alloc, &mut items, value);
-    once_done(items, done)
-}
-
 // Entries of 4,096 keys, whose values of a mebibyte share their memory.
 fn many_entries<A: Allocator + Copy>(alloc: A) -> Result<Vec<InternalValue<A>, A>, Error> {
     let value = repeated(alloc, 0, 1048576)?;
-    let items = entries_sharing(alloc, &value);
+    let mut items = Vec::new(alloc);
+    let done = put_entries_sharing(alloc, &mut items, &value);
     drop(value);
-    items
+    once_done(items, done)
 }
 
 // How encoding some entries behind the byte 7 is refused, where that leaves the byte alone.

@@ -148,20 +148,17 @@ fn handles_are_written_behind_what_was_there(rt: HostRuntime) {
     assert!(rt; holds(is_one_behind_seven(rt.alloc())));
 }
 
-// The position of a handle that is given.
-fn position_of<A: Allocator>(handle: Result<KeyedBlockHandle<A>, Error>) -> Result<u64, Error> {
-    let handle = handle?;
-    let position = handle.offset().0;
-    drop(handle);
-    Ok(position)
-}
-
 // The position of the next handle, from the front or the back, or 99 where there is none.
 fn position<A: Allocator>(
     answer: Option<Result<KeyedBlockHandle<A>, Error>>,
 ) -> Result<u64, Error> {
     match answer {
-        Some(handle) => position_of(handle),
+        Some(Ok(handle)) => {
+            let position = handle.offset().0;
+            drop(handle);
+            Ok(position)
+        }
+        Some(Err(error)) => Err(error),
         None => Ok(99),
     }
 }
@@ -413,19 +410,13 @@ fn put_handles_within(handles: &mut Vec<KeyedBlockHandle>, bytes: &Slice) -> Res
     Ok(())
 }
 
-// Handles whose end keys of 2^20 bytes begin at 4,096 places of these bytes.
-fn handles_within(alloc: Global, bytes: &Slice) -> Result<Vec<KeyedBlockHandle>, Error> {
-    let mut handles = Vec::new(alloc);
-    let done = put_handles_within(&mut handles, bytes);
-    once_done(handles, done)
-}
-
 // 4,096 handles whose end keys of 2^20 bytes share their memory: key i begins with i, the high byte first.
 fn many_handles(alloc: Global) -> Result<Vec<KeyedBlockHandle>, Error> {
     let shared = numbers(alloc)?;
-    let handles = handles_within(alloc, &shared);
+    let mut handles = Vec::new(alloc);
+    let done = put_handles_within(&mut handles, &shared);
     drop(shared);
-    handles
+    once_done(handles, done)
 }
 
 // The bound on the block of as many handles, and how they are refused.

@@ -197,18 +197,6 @@ fn table<A: Allocator + Copy>(
     Ok(bytes)
 }
 
-// The first block of a table.
-fn first_block<A: Allocator + Copy>(
-    alloc: A,
-    bytes: Slice<A>,
-    kind: BlockType,
-) -> Result<Block<A>, Error> {
-    let source = BlockSource::new(alloc, bytes)?;
-    let block = source.load_at(0, kind, &mut Opened::none());
-    drop(source);
-    block
-}
-
 // The block that is loaded from a table with this payload alone.
 fn load<A: Allocator + Copy>(
     alloc: A,
@@ -216,8 +204,10 @@ fn load<A: Allocator + Copy>(
     kind: BlockType,
     payload: &[u8],
 ) -> Result<Block<A>, Error> {
-    let bytes = table(alloc, version, kind, payload)?;
-    first_block(alloc, bytes, kind)
+    let source = BlockSource::new(alloc, table(alloc, version, kind, payload)?)?;
+    let block = source.load_at(0, kind, &mut Opened::none());
+    drop(source);
+    block
 }
 
 /// The data block of a payload.
