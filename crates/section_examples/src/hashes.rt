@@ -85,5 +85,5 @@ fn as_bytes(written: &([(u64, u32); 2], Slice, u128)) -> ([(u64, u32); 2], bool,
 fn blocks_as_bytes(rt: HostRuntime) {
     let told = asked(two_blocks(rt.alloc()), as_bytes);
     assert!(rt; is_answer(told, ([(0, 47), (47, 26)], true, true)));
-    assert_eq!(rt; Header::serialized_len(), 24);
+    assert!(rt; Header::serialized_len() == 24);
 }

@@ -308,16 +308,10 @@ fn a_trailer_lists_sections_within_the_body(rt: HostRuntime) {
     }
 }
 
-// The size of a block's payload.
-fn size<L: LoadBlocks>(blocks: &mut L, lies: BlockHandle, kind: BlockType) -> Result<usize, Error> {
-    let (_, size) = told(blocks.load(&lies, kind))?;
-    Ok(size)
-}
-
 // The size of a data block and that of an index block behind it.
 fn sizes<L: LoadBlocks>(blocks: &mut L) -> Result<(usize, usize), Error> {
-    let first = size(blocks, handle(0, 45), BlockType::Data)?;
-    let second = size(blocks, handle(45, 51), BlockType::Index)?;
+    let (_, first) = told(blocks.load(&handle(0, 45), BlockType::Data))?;
+    let (_, second) = told(blocks.load(&handle(45, 51), BlockType::Index))?;
     Ok((first, second))
 }
 
