@@ -1,8 +1,8 @@
 //! Data blocks: what is written of entries, and what reads and seeks find.
 
 use crate::payloads::{
-    behind_seven, beside, both, data_block, holds, in_grammar, is_answer, is_given, is_invalid,
-    once_done, push_made, put_numbers,
+    asked, behind_seven, beside, both, data_block, ends_at_refusal, holds, holds_or_refused,
+    in_grammar, is_answer, is_answer_or_refused, is_behind_seven, is_invalid, once_done, push_made,
 };
 use refusing::{Refusing, each_refused};
 use sst_blocks::Direction::{Back, Front};
@@ -11,16 +11,38 @@ use sst_blocks::{
     TableVersion, ValueType, answer_at, are_strict, data_block_bound,
 };
 use std::alloc::{AllocError, Allocator, Global};
+use std::array::from_ref;
 
-fn entry<A: Allocator + Copy>(
-    alloc: A,
-    key: &[u8],
+// A key, a number, a kind and a value.
+type Row = (&'static [u8], SeqNo, ValueType, &'static [u8]);
+
+// An entry of such a key and value.
+fn composed<A: Allocator>(
+    key: Result<Slice<A>, Error>,
+    value: Result<Slice<A>, Error>,
     seqno: SeqNo,
     kind: ValueType,
-    value: &[u8],
 ) -> Result<InternalValue<A>, Error> {
-    let (key, value) = beside(Slice::from(alloc, key)?, Slice::from(alloc, value))?;
+    let (key, value) = both(key, value)?;
     Ok(InternalValue::from_components(key, value, seqno, kind))
+}
+
+fn entry<A: Allocator + Copy>(alloc: A, row: &Row) -> Result<InternalValue<A>, Error> {
+    let (key, seqno, kind, value) = *row;
+    composed(
+        Slice::from(alloc, key),
+        Slice::from(alloc, value),
+        seqno,
+        kind,
+    )
+}
+
+// Encodes some entries behind what is there.
+fn encoded<A: Allocator>(buf: &mut Vec<u8, A>, items: &[InternalValue<A>]) -> Result<(), Error> {
+    if !are_strict(items) {
+        return Err(Error::InvalidBlock);
+    }
+    DataBlock::encode_into(buf, items, 16, 0)
 }
 
 // What is written of some entries, behind some bytes.
@@ -29,11 +51,8 @@ fn written_behind<A: Allocator + Copy>(
     front: &[u8],
     items: &[InternalValue<A>],
 ) -> Result<Vec<u8, A>, Error> {
-    if !are_strict(items) {
-        return Err(Error::InvalidBlock);
-    }
     let mut written = Vec::from_slice(alloc, front)?;
-    let done = DataBlock::encode_into(&mut written, items, 16, 0);
+    let done = encoded(&mut written, items);
     once_done(written, done)
 }
 
@@ -49,7 +68,7 @@ fn written_and_loaded<A: Allocator + Copy>(
 }
 
 // a@9, a@7 as a tombstone, a@5, c@0 and e@3.
-const FIVE: &[(&[u8], SeqNo, ValueType, &[u8])] = &[
+const FIVE: &[Row] = &[
     (b"a", 9, ValueType::Value, b"newest"),
     (b"a", 7, ValueType::Tombstone, b""),
     (b"a", 5, ValueType::Value, b""),
@@ -62,8 +81,8 @@ fn put_five<A: Allocator + Copy>(
     alloc: A,
     items: &mut Vec<InternalValue<A>, A>,
 ) -> Result<(), Error> {
-    for &(key, seqno, kind, value) in FIVE {
-        push_made(items, entry(alloc, key, seqno, kind, value))?;
+    for row in FIVE {
+        push_made(items, entry(alloc, row))?;
     }
     Ok(())
 }
@@ -83,9 +102,12 @@ fn block_of_five<A: Allocator + Copy>(alloc: A) -> Result<DataBlock<A>, Error> {
     block
 }
 
-// Whether what is found is what is expected.
-fn is<T: PartialEq + Drop>(found: Option<T>, expected: Option<&T>) -> bool {
-    found.as_ref() == expected
+// Whether what is found is what is expected, and nothing was refused.
+fn is<T: PartialEq + Drop>(found: Result<Option<T>, Error>, expected: Option<&T>) -> bool {
+    match found {
+        Ok(found) => found.as_ref() == expected,
+        Err(_) => false,
+    }
 }
 
 // Whether a point read finds this entry.
@@ -94,8 +116,8 @@ fn finds<A: Allocator>(
     key: &[u8],
     seqno: SeqNo,
     expected: Option<&InternalValue<A>>,
-) -> Result<bool, Error> {
-    Ok(is(block.point_read(key, seqno)?, expected))
+) -> bool {
+    is(block.point_read(key, seqno), expected)
 }
 
 // The number of the entry that a point read finds, or 99 where it finds none.
@@ -114,6 +136,8 @@ fn number_found<A: Allocator>(
 }
 
 // a@1, a value of `x`.
+const ONE: &Row = &(b"a", 1, ValueType::Value, b"x");
+
 const ONE_IN_V3: [u8; 21] = [
     1, 0, 0, 0, 0, 1, 0, 0, 0, 0, 0, 0, 0, 1, 0, 1, 0, 0, 0, 0x61, 0x78,
 ];
@@ -122,49 +146,39 @@ const ONE_IN_V4: [u8; 23] = [
     1, 0, 0, 0, 0, 1, 0, 0, 0, 0, 0, 0, 0, 1, 0, 0, 0, 1, 0, 0, 0, 0x61, 0x78,
 ];
 
-// Whether a point read finds a@1, with the value `x`.
-fn finds_x(alloc: Global, block: &DataBlock) -> Result<bool, Error> {
-    let expected = entry(alloc, b"a", 1, ValueType::Value, b"x")?;
-    let is_found = finds(block, b"a", 2, Some(&expected));
-    drop(expected);
-    is_found
-}
-
-// Whether a block has a@1 alone, with the value `x`.
-fn has_one_entry(alloc: Global, block: &DataBlock) -> bool {
-    block.len() == 1
+// Whether a block has this entry alone.
+fn has_one_entry(block: Result<DataBlock, Error>, expected: &InternalValue) -> Result<bool, Error> {
+    let block = block?;
+    let has_it = block.len() == 1
         && !block.is_empty()
-        && holds(finds_x(alloc, block))
-        && is_answer(number_found(block, b"a", 1), 99)
+        && finds(&block, b"a", 2, Some(expected))
+        && is_answer(number_found(&block, b"a", 1), 99);
+    drop(block);
+    Ok(has_it)
 }
 
-// Whether a payload is such a block.
+// Whether a payload is the block of a@1 alone, with the value `x`.
 fn is_one_entry(alloc: Global, version: TableVersion, bytes: &[u8]) -> Result<bool, Error> {
-    let block = data_block(alloc, version, bytes)?;
-    let is_right = has_one_entry(alloc, &block);
-    drop(block);
-    Ok(is_right)
+    let expected = entry(alloc, ONE)?;
+    let is_so = has_one_entry(data_block(alloc, version, bytes), &expected);
+    drop(expected);
+    is_so
 }
 
 #[test]
 fn payloads_of_both_versions_read_as_their_entries(rt: HostRuntime) {
     let alloc = rt.alloc();
-    assert!(rt; is_one_entry(alloc, TableVersion::V3, &ONE_IN_V3) == Ok(true));
-    assert!(rt; is_one_entry(alloc, TableVersion::V4, &ONE_IN_V4) == Ok(true));
-}
-
-// Whether some bytes are 7 and then the payload of a@1.
-fn is_behind_seven(written: &[u8]) -> bool {
-    matches!(written, [7, payload @ ..] if payload == ONE_IN_V4.as_slice())
+    assert!(rt; holds(is_one_entry(alloc, TableVersion::V3, &ONE_IN_V3)));
+    assert!(rt; holds(is_one_entry(alloc, TableVersion::V4, &ONE_IN_V4)));
 }
 
 // The bound on the block of a@1, and whether its payload is written behind the byte 7.
 fn bound_and_payload(alloc: Global) -> Result<(u64, bool), Error> {
-    let items = [entry(alloc, b"a", 1, ValueType::Value, b"x")?];
-    let bound = data_block_bound(&items);
-    let written = written_behind(alloc, &[7], &items);
-    drop(items);
-    Ok((bound, is_behind_seven(&written?)))
+    let item = entry(alloc, ONE)?;
+    let bound = data_block_bound(from_ref(&item));
+    let written = written_behind(alloc, &[7], from_ref(&item));
+    drop(item);
+    beside(bound, is_behind_seven(written, &ONE_IN_V4))
 }
 
 #[test]
@@ -208,18 +222,13 @@ fn a_point_read_finds_the_newest_version_below_a_number(rt: HostRuntime) {
     }
 }
 
-// Whether point reads in the block of five find a@7, a tombstone, and c@0, a weak one, and e@3 with its value.
-fn finds_three(block: &DataBlock, items: &[InternalValue]) -> bool {
-    block.len() == 5
-        && holds(finds(block, b"a", 9, items.get(1)))
-        && holds(finds(block, b"c", 1, items.get(3)))
-        && holds(finds(block, b"e", 4, items.get(4)))
-}
-
-// Whether the block of such entries gives them back whole.
-fn finds_in_theirs(alloc: Global, items: &[InternalValue]) -> Result<bool, Error> {
-    let block = written_and_loaded(alloc, items)?;
-    let found = finds_three(&block, items);
+// Whether point reads in the block of such entries find a@7, a tombstone, and c@0, a weak one, and e@3 with its value.
+fn finds_three(block: Result<DataBlock, Error>, items: &[InternalValue]) -> Result<bool, Error> {
+    let block = block?;
+    let found = block.len() == 5
+        && finds(&block, b"a", 9, items.get(1))
+        && finds(&block, b"c", 1, items.get(3))
+        && finds(&block, b"e", 4, items.get(4));
     drop(block);
     Ok(found)
 }
@@ -227,7 +236,7 @@ fn finds_in_theirs(alloc: Global, items: &[InternalValue]) -> Result<bool, Error
 // Whether the block of five gives such entries back whole.
 fn finds_whole_entries(alloc: Global) -> Result<bool, Error> {
     let items = five_entries(alloc)?;
-    let found = finds_in_theirs(alloc, &items);
+    let found = finds_three(written_and_loaded(alloc, &items), &items);
     drop(items);
     found
 }
@@ -247,30 +256,20 @@ fn has_their_keys(block: &DataBlock) -> bool {
     has_key_at(block, 1, b"a", 7) && has_key_at(block, 4, b"e", 3)
 }
 
-fn has_five_keys(alloc: Global) -> Result<bool, Error> {
-    let block = block_of_five(alloc)?;
-    let has_them = has_their_keys(&block);
-    drop(block);
-    Ok(has_them)
-}
-
 #[test]
 fn the_key_of_a_place_is_that_of_its_entry(rt: HostRuntime) {
-    assert!(rt; holds(has_five_keys(rt.alloc())));
-}
-
-// The number of an entry that is given.
-fn number_of<A: Allocator>(item: IterItem<A>) -> Result<SeqNo, Error> {
-    let item = item?;
-    let number = item.key.seqno;
-    drop(item);
-    Ok(number)
+    assert!(rt; holds(asked(block_of_five(rt.alloc()), has_their_keys)));
 }
 
 // The number of the next entry, from the front or the back, or 99 where there is none.
 fn number<A: Allocator>(answer: Option<IterItem<A>>) -> Result<SeqNo, Error> {
     match answer {
-        Some(item) => number_of(item),
+        Some(Ok(item)) => {
+            let number = item.key.seqno;
+            drop(item);
+            Ok(number)
+        }
+        Some(Err(error)) => Err(error),
         None => Ok(99),
     }
 }
@@ -287,84 +286,97 @@ fn gives_none(block: &DataBlock) -> bool {
         && is_answer(ends(&mut block.iter()), (99, 99))
 }
 
-// Whether a block without entries gives none.
-fn has_none(alloc: Global) -> Result<bool, Error> {
-    let block = data_block(alloc, TableVersion::V3, &[0; 4])?;
-    let none = gives_none(&block);
-    drop(block);
-    Ok(none)
-}
-
 #[test]
 fn a_block_without_entries_has_none(rt: HostRuntime) {
-    assert!(rt; holds(has_none(rt.alloc())));
+    let block = data_block(rt.alloc(), TableVersion::V3, &[0; 4]);
+    assert!(rt; holds(asked(block, gives_none)));
 }
 
+// Where a seek narrows a block: at its front or its back, to the key or past it.
+type Edge = (Direction, bool);
+
+const AT_LEAST: Edge = (Front, true);
+
+const ABOVE: Edge = (Front, false);
+
+const AT_MOST: Edge = (Back, true);
+
+const BELOW: Edge = (Back, false);
+
 // Seeks in a block, and answers whether that leaves an entry.
-fn seek(iter: &mut DataBlockIter<'_>, to: &str, key: &[u8]) -> bool {
-    match to {
-        "at least" => iter.seek(key),
-        "above" => iter.seek_exclusive(key),
-        "at most" => iter.seek_upper(key),
-        _ => iter.seek_upper_exclusive(key),
+fn seek(iter: &mut DataBlockIter<'_>, edge: Edge, key: &[u8]) -> bool {
+    match edge {
+        (Front, true) => iter.seek(key),
+        (Front, false) => iter.seek_exclusive(key),
+        (Back, true) => iter.seek_upper(key),
+        (Back, false) => iter.seek_upper_exclusive(key),
     }
 }
 
 // Whether a seek leaves entries, and the numbers of the first and of the last.
-fn ends_after(block: &DataBlock, to: &str, key: &[u8]) -> Result<(bool, (SeqNo, SeqNo)), Error> {
+fn ends_after(block: &DataBlock, edge: Edge, key: &[u8]) -> Result<(bool, (SeqNo, SeqNo)), Error> {
     let mut iter = block.iter();
-    let left = seek(&mut iter, to, key);
+    let left = seek(&mut iter, edge, key);
     beside(left, ends(&mut iter))
 }
 
 // What a seek leaves of the block of five.
-fn left_of_five(alloc: Global, to: &str, key: &[u8]) -> Result<(bool, (SeqNo, SeqNo)), Error> {
+fn left_of_five(alloc: Global, edge: Edge, key: &[u8]) -> Result<(bool, (SeqNo, SeqNo)), Error> {
     let block = block_of_five(alloc)?;
-    let left = ends_after(&block, to, key);
+    let left = ends_after(&block, edge, key);
     drop(block);
     left
 }
 
 // Whether a seek in the block of five leaves a first and a last entry of these numbers.
-fn leaves(alloc: Global, to: &str, key: &[u8], first: SeqNo, last: SeqNo) -> Result<bool, Error> {
-    Ok(left_of_five(alloc, to, key)? == (first != 99, (first, last)))
+fn leaves(alloc: Global, case: &(Edge, &[u8], SeqNo, SeqNo)) -> bool {
+    let (edge, key, first, last) = *case;
+    is_answer(left_of_five(alloc, edge, key), (first != 99, (first, last)))
 }
 
 // How a key is sought, the key, and the first entry and the last, which is 99 where there are fewer than two.
-const SEEKS: &[(&str, &[u8], SeqNo, SeqNo)] = &[
-    ("at least", b"a", 9, 3),
-    ("at least", b"b", 0, 3),
-    ("at least", b"c", 0, 3),
-    ("at least", b"e", 3, 99),
-    ("at least", b"f", 99, 99),
-    ("above", b"Z", 9, 3),
-    ("above", b"a", 0, 3),
-    ("above", b"c", 3, 99),
-    ("above", b"e", 99, 99),
-    ("at most", b"Z", 99, 99),
-    ("at most", b"a", 9, 5),
-    ("at most", b"c", 9, 0),
-    ("at most", b"f", 9, 3),
-    ("below", b"a", 99, 99),
-    ("below", b"c", 9, 5),
-    ("below", b"d", 9, 0),
-    ("below", b"f", 9, 3),
+const SEEKS: &[(Edge, &[u8], SeqNo, SeqNo)] = &[
+    (AT_LEAST, b"a", 9, 3),
+    (AT_LEAST, b"b", 0, 3),
+    (AT_LEAST, b"c", 0, 3),
+    (AT_LEAST, b"e", 3, 99),
+    (AT_LEAST, b"f", 99, 99),
+    (ABOVE, b"Z", 9, 3),
+    (ABOVE, b"a", 0, 3),
+    (ABOVE, b"c", 3, 99),
+    (ABOVE, b"e", 99, 99),
+    (AT_MOST, b"Z", 99, 99),
+    (AT_MOST, b"a", 9, 5),
+    (AT_MOST, b"c", 9, 0),
+    (AT_MOST, b"f", 9, 3),
+    (BELOW, b"a", 99, 99),
+    (BELOW, b"c", 9, 5),
+    (BELOW, b"d", 9, 0),
+    (BELOW, b"f", 9, 3),
 ];
 
 #[test]
 fn seeks_narrow_to_the_entries_on_one_side_of_a_key(rt: HostRuntime) {
-    for &(to, key, first, last) in SEEKS {
-        assert!(rt;
-            holds(leaves(rt.alloc(), to, key, first, last)),
-            "{to}: {first} to {last}"
-        );
+    for case in SEEKS {
+        assert!(rt; leaves(rt.alloc(), case));
     }
 }
 
-// Whether a block gives these numbers at these ends.
-fn gives(block: &DataBlock, answers: &[(Direction, SeqNo)]) -> bool {
+// Ends, and the numbers that the block of five gives there.
+const DEALT: &[(Direction, SeqNo)] = &[
+    (Front, 9),
+    (Back, 3),
+    (Front, 7),
+    (Back, 0),
+    (Back, 5),
+    (Front, 99),
+    (Back, 99),
+];
+
+// Whether a block gives these numbers.
+fn deals(block: &DataBlock) -> bool {
     let mut iter = block.iter();
-    for (end, wanted) in answers {
+    for (end, wanted) in DEALT {
         if !is_answer(number(answer_at(&mut iter, *end)), *wanted) {
             return false;
         }
@@ -372,140 +384,121 @@ fn gives(block: &DataBlock, answers: &[(Direction, SeqNo)]) -> bool {
     true
 }
 
-// Whether the block of five gives these numbers at these ends.
-fn deals(alloc: Global, answers: &[(Direction, SeqNo)]) -> Result<bool, Error> {
-    let block = block_of_five(alloc)?;
-    let given = gives(&block, answers);
-    drop(block);
-    Ok(given)
-}
-
 #[test]
 fn both_ends_deal_one_window(rt: HostRuntime) {
-    let answers = [
-        (Front, 9),
-        (Back, 3),
-        (Front, 7),
-        (Back, 0),
-        (Back, 5),
-        (Front, 99),
-        (Back, 99),
-    ];
-    assert!(rt; holds(deals(rt.alloc(), &answers)));
+    assert!(rt; holds(asked(block_of_five(rt.alloc()), deals)));
 }
 
 // Whether edges that cross at a block's first key leave nothing, whatever is sought later.
 fn edges_stay_crossed(block: &DataBlock) -> bool {
     let mut iter = block.iter();
-    let above = iter.seek_exclusive(b"a");
-    let crossed = iter.seek_upper(b"a");
-    let later = iter.seek(b"a");
-    above && !crossed && !later && is_answer(ends(&mut iter), (99, 99))
-}
-
-// Whether such edges leave nothing in the block of five.
-fn crossed_edges_stay(alloc: Global) -> Result<bool, Error> {
-    let block = block_of_five(alloc)?;
-    let stay = edges_stay_crossed(&block);
-    drop(block);
-    Ok(stay)
+    iter.seek_exclusive(b"a")
+        && !iter.seek_upper(b"a")
+        && !iter.seek(b"a")
+        && is_answer(ends(&mut iter), (99, 99))
 }
 
 #[test]
 fn a_later_seek_widens_no_window(rt: HostRuntime) {
-    assert!(rt; holds(crossed_edges_stay(rt.alloc())));
+    assert!(rt; holds(asked(block_of_five(rt.alloc()), edges_stay_crossed)));
 }
 
-// Spells an entry by its tag, its number, both of its lengths and the first of the two bytes behind them.
-fn spell<A: Allocator>(bytes: &mut Vec<u8, A>, entry: [u32; 5]) -> Result<(), AllocError> {
-    let [tag, seqno, key_len, value_len, first] = entry;
-    bytes.push((tag & 0xff) as u8)?;
-    put_numbers(bytes, &[seqno, 0, key_len, value_len])?;
-    bytes.extend_from_slice(&[(first & 0xff) as u8, b'x'])
-}
-
-// Spells entries one behind another.
-fn spell_all<A: Allocator>(bytes: &mut Vec<u8, A>, entries: &[[u32; 5]]) -> Result<(), AllocError> {
-    for &entry in entries {
-        spell(bytes, entry)?;
-    }
-    Ok(())
-}
-
-// A payload of a count, and then of entries.
-fn spelled<A: Allocator + Copy>(
-    alloc: A,
-    count: u32,
-    entries: &[[u32; 5]],
-) -> Result<Vec<u8, A>, AllocError> {
-    let mut bytes = Vec::from_slice(alloc, &count.to_le_bytes())?;
-    let done = spell_all(&mut bytes, entries);
-    once_done(bytes, done)
+// A payload of a count, and of entries by their tag, their number, both of their lengths and the first of the two bytes
+// behind them.
+macro_rules! payload {
+    ($count:expr; $([$tag:expr, $seqno:expr, $key_len:expr, $value_len:expr, $first:expr]),*) => {
+        &[
+            ($count & 0xff) as u8,
+            ($count >> 8 & 0xff) as u8,
+            ($count >> 16 & 0xff) as u8,
+            ($count >> 24 & 0xff) as u8,
+            $(
+                $tag,
+                $seqno,
+                0,
+                0,
+                0,
+                0,
+                0,
+                0,
+                0,
+                ($key_len & 0xff) as u8,
+                ($key_len >> 8 & 0xff) as u8,
+                ($key_len >> 16 & 0xff) as u8,
+                ($key_len >> 24 & 0xff) as u8,
+                ($value_len & 0xff) as u8,
+                ($value_len >> 8 & 0xff) as u8,
+                ($value_len >> 16 & 0xff) as u8,
+                ($value_len >> 24 & 0xff) as u8,
+                $first,
+                b'x',
+            )*
+        ]
+    };
 }
 
 // How many entries a payload has.
 fn entries_read<A: Allocator + Copy>(alloc: A, bytes: &[u8]) -> Result<usize, Error> {
-    let block = data_block(alloc, TableVersion::V4, bytes)?;
-    let len = block.len();
-    drop(block);
-    Ok(len)
+    asked(data_block(alloc, TableVersion::V4, bytes), DataBlock::len)
 }
 
-// Whether a payload of a count and of entries is in the grammar, and has as many.
-fn is_read<A: Allocator + Copy>(alloc: A, count: u32, entries: &[[u32; 5]]) -> Result<bool, Error> {
-    let bytes = spelled(alloc, count, entries)?;
-    let len = in_grammar(entries_read(alloc, bytes.as_slice()));
-    drop(bytes);
-    Ok(len? == Some(entries.len()))
-}
-
-// A count, entries, and whether they are a payload.
-const PAYLOADS: &[(u32, &[[u32; 5]], bool)] = &[
-    (0, &[], true),
-    (1, &[], false),
-    (u32::MAX, &[], false),
-    (1, &[[0, 1, 1, 1, 97]], true),
-    (1, &[[1, 1, 2, 0, 97]], true),
-    (1, &[[2, 1, 2, 0, 97]], true),
-    (1, &[[4, 1, 0, 2, 97]], true),
-    (1, &[[3, 1, 1, 1, 97]], false),
-    (1, &[[5, 1, 1, 1, 97]], false),
-    (0, &[[0, 1, 1, 1, 97]], false),
-    (2, &[[0, 1, 1, 1, 97]], false),
-    (1, &[[0, 1, 2, 1, 97]], false),
-    (1, &[[0, 1, 1, 2, 97]], false),
-    (1, &[[0, 1, 1, 0, 97]], false),
-    (1, &[[0, 1, u32::MAX, u32::MAX, 97]], false),
-    (2, &[[0, 2, 1, 1, 97], [0, 1, 1, 1, 97]], true),
-    (2, &[[0, 1, 1, 1, 97], [1, 1, 1, 1, 97]], false),
-    (2, &[[0, 1, 1, 1, 98], [0, 2, 1, 1, 97]], false),
+// Payloads, and how many entries they have, where they are in the grammar.
+const PAYLOADS: &[(&[u8], Option<usize>)] = &[
+    (payload!(0;), Some(0)),
+    (payload!(1;), None),
+    (payload!(u32::MAX;), None),
+    (payload!(1; [0, 1, 1, 1, 97]), Some(1)),
+    (payload!(1; [1, 1, 2, 0, 97]), Some(1)),
+    (payload!(1; [2, 1, 2, 0, 97]), Some(1)),
+    (payload!(1; [4, 1, 0, 2, 97]), Some(1)),
+    (payload!(1; [3, 1, 1, 1, 97]), None),
+    (payload!(1; [5, 1, 1, 1, 97]), None),
+    (payload!(0; [0, 1, 1, 1, 97]), None),
+    (payload!(2; [0, 1, 1, 1, 97]), None),
+    (payload!(1; [0, 1, 2, 1, 97]), None),
+    (payload!(1; [0, 1, 1, 2, 97]), None),
+    (payload!(1; [0, 1, 1, 0, 97]), None),
+    (payload!(1; [0, 1, u32::MAX, u32::MAX, 97]), None),
+    (payload!(2; [0, 2, 1, 1, 97], [0, 1, 1, 1, 97]), Some(2)),
+    (payload!(2; [0, 1, 1, 1, 97], [1, 1, 1, 1, 97]), None),
+    (payload!(2; [0, 1, 1, 1, 98], [0, 2, 1, 1, 97]), None),
 ];
 
 #[test]
 fn payloads_are_read_where_they_are_in_the_grammar(rt: HostRuntime) {
-    for &(count, entries, good) in PAYLOADS {
-        assert!(rt; is_answer(is_read(rt.alloc(), count, entries), good));
+    for &(payload, len) in PAYLOADS {
+        assert!(rt; is_answer(in_grammar(entries_read(rt.alloc(), payload)), len));
     }
 }
 
-// Whether a payload is no block.
-fn is_refused(alloc: Global, version: TableVersion, bytes: &[u8]) -> bool {
-    is_invalid(data_block(alloc, version, bytes))
+// A version, a payload, and how much of it is no block of the version.
+const REFUSED: &[(TableVersion, &[u8], usize)] = &[
+    (TableVersion::V3, &ONE_IN_V3, 3),
+    (TableVersion::V3, &ONE_IN_V3, 18),
+    (TableVersion::V3, &ONE_IN_V3, 20),
+    (TableVersion::V3, &ONE_IN_V4, 23),
+    (TableVersion::V4, &ONE_IN_V3, 21),
+];
+
+// Whether that much of a payload is no block.
+fn is_refused(alloc: Global, case: &(TableVersion, &[u8], usize)) -> bool {
+    let (version, payload, len) = *case;
+    match payload.get(..len) {
+        Some(bytes) => is_invalid(data_block(alloc, version, bytes)),
+        None => false,
+    }
 }
 
 #[test]
 fn payloads_cut_short_or_of_the_other_version_are_refused(rt: HostRuntime) {
-    let old = ONE_IN_V3;
-    let new = ONE_IN_V4;
-    for (version, bytes) in [
-        (TableVersion::V3, &old[..3]),
-        (TableVersion::V3, &old[..18]),
-        (TableVersion::V3, &old[..20]),
-        (TableVersion::V3, new.as_slice()),
-        (TableVersion::V4, old.as_slice()),
-    ] {
-        assert!(rt; is_refused(rt.alloc(), version, bytes));
+    for case in REFUSED {
+        assert!(rt; is_refused(rt.alloc(), case));
     }
+}
+
+// A byte so many times.
+fn repeated<A: Allocator + Copy>(alloc: A, byte: u8, len: usize) -> Result<Slice<A>, Error> {
+    Slice::from_vec(vec![in alloc; byte; len]?)
 }
 
 // An entry whose key is a byte so many times.
@@ -514,24 +507,53 @@ fn entry_of_key_len<A: Allocator + Copy>(
     byte: u8,
     key_len: usize,
 ) -> Result<InternalValue<A>, Error> {
-    let key = Slice::from_vec(vec![in alloc; byte; key_len]?)?;
-    Ok(InternalValue::from_components(key, Slice::empty(), 1, ValueType::Value))
+    composed(
+        repeated(alloc, byte, key_len),
+        Ok(Slice::empty()),
+        1,
+        ValueType::Value,
+    )
+}
+
+// The length of what was written.
+fn len_of<A: Allocator>(written: Result<Vec<u8, A>, Error>) -> Result<usize, Error> {
+    let written = written?;
+    let len = written.len();
+    drop(written);
+    Ok(len)
 }
 
 // How many bytes are written of one entry, of a key of so many.
-fn written_len<A: Allocator + Copy>(alloc: A, key_len: usize) -> Result<usize, Error> {
-    let items = [entry_of_key_len(alloc, 0, key_len)?];
-    let written = written_behind(alloc, b"", &items);
-    drop(items);
-    Ok(written?.len())
+fn written_len(alloc: Global, key_len: usize) -> Result<usize, Error> {
+    let item = entry_of_key_len(alloc, 0, key_len)?;
+    let written = written_behind(alloc, b"", from_ref(&item));
+    drop(item);
+    len_of(written)
+}
+
+// The length of an entry's key, and how many bytes are written of it, or how it is refused.
+const WRITTEN: &[(usize, Result<usize, Error>)] = &[
+    (65536, Ok(4 + 17 + 65536)),
+    (1048576, Ok(4 + 17 + 1048576)),
+    (1048577, Err(Error::KeyTooLong)),
+];
+
+// Whether they are written so.
+fn is_written_so(alloc: Global, case: &(usize, Result<usize, Error>)) -> bool {
+    let (key_len, expected) = case;
+    written_len(alloc, *key_len) == *expected
 }
 
 #[test]
 fn keys_of_a_mebibyte_are_taken_and_longer_ones_refused(rt: HostRuntime) {
-    let alloc = rt.alloc();
-    assert!(rt; written_len(alloc, 65536) == Ok(4 + 17 + 65536));
-    assert!(rt; written_len(alloc, 1048576) == Ok(4 + 17 + 1048576));
-    assert!(rt; written_len(alloc, 1048577) == Err(Error::KeyTooLong));
+    for case in WRITTEN {
+        assert!(rt; is_written_so(rt.alloc(), case));
+    }
+}
+
+// The same bytes in the same memory.
+fn shared<A: Allocator>(bytes: &Slice<A>) -> Result<Slice<A>, Error> {
+    Ok(bytes.clone()?)
 }
 
 // An entry whose key is a number, the high byte first, and whose value shares its memory.
@@ -540,8 +562,8 @@ fn entry_sharing<A: Allocator + Copy>(
     number: u16,
     value: &Slice<A>,
 ) -> Result<InternalValue<A>, Error> {
-    let (key, value) = beside(Slice::from(alloc, &number.to_be_bytes())?, value.clone())?;
-    Ok(InternalValue::from_components(key, value, 1, ValueType::Value))
+    let key = Slice::from(alloc, &number.to_be_bytes());
+    composed(key, shared(value), 1, ValueType::Value)
 }
 
 // Adds entries of 4,096 keys, which share this value's memory.
@@ -556,71 +578,63 @@ fn put_entries_sharing<A: Allocator + Copy>(
     Ok(())
 }
 
-// Entries of 4,096 keys, which share this value's memory.
-fn entries_sharing<A: Allocator + Copy>(
-    alloc: A,
-    value: &Slice<A>,
-) -> Result<Vec<InternalValue<A>, A>, Error> {
+// Entries of 4,096 keys, whose values of a mebibyte share their memory.
+fn many_entries<A: Allocator + Copy>(alloc: A) -> Result<Vec<InternalValue<A>, A>, Error> {
+    let value = repeated(alloc, 0, 1048576)?;
     let mut items = Vec::new(alloc);
-    let done = put_entries_sharing(alloc, &mut items, value);
+    let done = put_entries_sharing(alloc, &mut items, &value);
+    drop(value);
     once_done(items, done)
 }
 
-// Entries of 4,096 keys, whose values of a mebibyte share their memory.
-fn many_entries<A: Allocator + Copy>(alloc: A) -> Result<Vec<InternalValue<A>, A>, Error> {
-    let value = Slice::from_vec(vec![in alloc; 0u8; 1048576]?)?;
-    let items = entries_sharing(alloc, &value);
-    drop(value);
-    items
-}
-
-// Whether encoding some entries behind the byte 7 is refused so, where that leaves the byte alone.
-fn is_refused_so<A: Allocator + Copy>(
+// How encoding some entries behind the byte 7 is refused, where that leaves the byte alone.
+fn refusal<A: Allocator + Copy>(
     alloc: A,
     items: &[InternalValue<A>],
-    expected: Error,
-) -> Result<bool, Error> {
-    let mut buf = Vec::new(alloc);
-    buf.push(7)?;
-    if !are_strict(items) {
-        return Ok(false);
-    }
-    let refused = DataBlock::encode_into(&mut buf, items, 16, 0).err();
-    Ok(behind_seven(&buf, refused) == Some(expected))
+) -> Result<Option<Error>, Error> {
+    let mut buf = Vec::from_slice(alloc, &[7])?;
+    let done = encoded(&mut buf, items);
+    Ok(behind_seven(buf, done))
 }
 
-// The bound on the block of as many entries, and whether they are refused for it.
-fn bound_and_refusal(alloc: Global) -> Result<(u64, bool), Error> {
+// The bound on the block of as many entries, and how they are refused.
+fn bound_and_refusal(alloc: Global) -> Result<(u64, Option<Error>), Error> {
     let items = many_entries(alloc)?;
     let bound = data_block_bound(&items);
-    let is_refused = is_refused_so(alloc, &items, Error::BlockTooLarge);
+    let refused = refusal(alloc, &items);
     drop(items);
-    beside(bound, is_refused)
+    beside(bound, refused)
 }
 
 #[test]
 fn a_block_of_four_gibibytes_is_refused(rt: HostRuntime) {
+    let bound = 28 + 4096 * (17 + 2 + 1048576);
     assert!(rt;
         is_answer(
             bound_and_refusal(rt.alloc()),
-            (28 + 4096 * (17 + 2 + 1048576), true)
+            (bound, Some(Error::BlockTooLarge))
         )
     );
 }
 
-// Whether as many entries, and one behind them whose key is too long, are refused for the key.
-fn is_refused_for_a_key(alloc: Global) -> Result<bool, Error> {
+// As many entries, and one behind them whose key is too long.
+fn more_entries(alloc: Global) -> Result<Vec<InternalValue>, Error> {
     let mut items = many_entries(alloc)?;
     let done = push_made(&mut items, entry_of_key_len(alloc, 0xff, 1048577));
-    let items = once_done(items, done)?;
-    let is_refused = is_refused_so(alloc, &items, Error::KeyTooLong);
+    once_done(items, done)
+}
+
+// How these are refused.
+fn refusal_of_more(alloc: Global) -> Result<Option<Error>, Error> {
+    let items = more_entries(alloc)?;
+    let refused = refusal(alloc, &items);
     drop(items);
-    is_refused
+    refused
 }
 
 #[test]
 fn a_key_that_is_too_long_is_told_before_the_block(rt: HostRuntime) {
-    assert!(rt; holds(is_refused_for_a_key(rt.alloc())));
+    assert!(rt; is_answer(refusal_of_more(rt.alloc()), Some(Error::KeyTooLong)));
 }
 
 // The numbers of a block's ends and of what a point read finds.
@@ -638,12 +652,10 @@ fn write_and_read<A: Allocator + Copy>(alloc: A) -> Result<((SeqNo, SeqNo), SeqN
 
 #[test]
 fn each_request_refused_is_answered_so(rt: HostRuntime) {
-    let answers = each_refused(rt.alloc(), |heap, may_fail| match write_and_read(heap) {
-        Ok(answer) => answer == ((9, 3), 0),
-        Err(Error::OutOfMemory) => may_fail,
-        Err(_) => false,
+    let answers = each_refused(rt.alloc(), |heap, may_fail| {
+        is_answer_or_refused(write_and_read(heap), ((9, 3), 0), may_fail)
     });
-    assert_eq!(rt; answers, Ok(29));
+    assert!(rt; answers == Ok(29));
 }
 
 // A clone of a block, which outlives it.
@@ -666,57 +678,37 @@ fn a_clone_reads_as_its_block(rt: HostRuntime) {
     assert!(rt; is_answer(read_a_clone(rt.alloc()), ((9, 3), 0)));
 }
 
-// Whether neither end has an answer.
-fn is_over<A: Allocator>(iter: &mut DataBlockIter<'_, A>) -> bool {
-    is_given(iter.next()).is_none() && is_given(iter.next_back()).is_none()
-}
-
-// Whether so many entries at most, taken from the back, end for good at the first that is refused.
-fn ends_at_first<A: Allocator>(iter: &mut DataBlockIter<'_, A>, len: usize) -> bool {
-    for _ in 0..len {
-        match is_given(iter.next_back()) {
-            Some(true) => {}
-            Some(false) => return is_over(iter),
-            None => return false,
-        }
-    }
-    is_given(iter.next_back()).is_none()
-}
-
 // Whether a block's entries, taken from the back, end for good at the first that is refused.
-fn ends_at_refusal<A: Allocator>(block: &DataBlock<A>) -> bool {
-    ends_at_first(&mut block.iter(), block.len())
+fn end_at_refusal<A: Allocator>(block: &DataBlock<A>) -> bool {
+    ends_at_refusal(&mut block.iter(), Back, block.len())
 }
 
-// Whether it does so for one allocator's block of five; memory may have run out before.
-fn is_ended<A: Allocator + Copy>(alloc: A) -> bool {
-    match block_of_five(alloc) {
-        Ok(block) => {
-            let ends = ends_at_refusal(&block);
-            drop(block);
-            ends
-        }
-        Err(_) => true,
-    }
+// Whether they do so of the block of five, where memory lasts for it.
+fn five_end_at_refusal<A: Allocator + Copy>(alloc: A) -> bool {
+    holds_or_refused(asked(block_of_five(alloc), end_at_refusal))
 }
 
 #[test]
 fn nothing_comes_after_a_refused_entry(rt: HostRuntime) {
-    let answers = each_refused(rt.alloc(), |heap, _| is_ended(heap));
+    let answers = each_refused(rt.alloc(), |heap, _| five_end_at_refusal(heap));
     assert!(rt; answers.is_ok());
 }
 
-// Whether one entry in an allocator is refused for memory.
-fn is_refused_memory<A: Allocator + Copy>(alloc: A) -> Result<bool, Error> {
-    let items = [entry(alloc, b"a", 1, ValueType::Value, b"x")?];
-    let is_refused = is_refused_so(alloc, &items, Error::OutOfMemory);
-    drop(items);
-    is_refused
+// How one entry in an allocator is refused.
+fn refusal_of_one<A: Allocator + Copy>(alloc: A) -> Result<Option<Error>, Error> {
+    let item = entry(alloc, ONE)?;
+    let refused = refusal(alloc, from_ref(&item));
+    drop(item);
+    refused
+}
+
+// Whether one entry is refused for memory, at this request.
+fn is_refused_at(alloc: Global, nth: usize) -> bool {
+    let heap = Refusing::new(alloc, nth);
+    is_answer(refusal_of_one(&heap), Some(Error::OutOfMemory)) && heap.requests() == nth
 }
 
 #[test]
 fn a_refused_growth_leaves_the_buffer_as_it_was(rt: HostRuntime) {
-    let heap = Refusing::new(rt.alloc(), 6);
-    assert!(rt; holds(is_refused_memory(&heap)));
-    assert_eq!(rt; heap.requests(), 6);
+    assert!(rt; is_refused_at(rt.alloc(), 6));
 }

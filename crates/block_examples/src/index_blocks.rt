@@ -1,37 +1,58 @@
 //! Index blocks: what is written of handles, and what reads and seeks find.
 
 use crate::payloads::{
-    behind_seven, beside, both, holds, in_grammar, index_block, is_answer, is_given, is_invalid,
-    once_done, push_made, put_numbers,
+    asked, behind_seven, beside, both, ends_at_refusal, holds, holds_or_refused, in_grammar,
+    index_block, is_answer, is_answer_or_refused, is_behind_seven, is_invalid, once_done,
+    push_made,
 };
 use refusing::{Refusing, each_refused};
+use sst_blocks::Direction::Front;
 use sst_blocks::{
     BlockHandle, BlockOffset, Error, IndexBlock, IndexBlockIter, KeyedBlockHandle, SeqNo, Slice,
     TableVersion, are_strict_handles, index_block_bound,
 };
 use std::alloc::{AllocError, Allocator, Global};
+use std::array::from_ref;
 
-fn handle<A: Allocator + Copy>(
-    alloc: A,
-    end_key: &[u8],
+// A handle of such an end key.
+fn keyed<A: Allocator>(
+    end_key: Result<Slice<A>, Error>,
     seqno: SeqNo,
-    offset: u64,
-    size: u32,
+    lies: BlockHandle,
 ) -> Result<KeyedBlockHandle<A>, Error> {
-    let inner = BlockHandle::new(BlockOffset(offset), size);
-    Ok(KeyedBlockHandle::new(Slice::from(alloc, end_key)?, seqno, inner))
+    Ok(KeyedBlockHandle::new(end_key?, seqno, lies))
 }
 
-// b@5, b@3, d@9 and f@1, and the positions of their blocks.
-const FOUR: &[(&[u8], SeqNo, u64)] = &[(b"b", 5, 0), (b"b", 3, 10), (b"d", 9, 20), (b"f", 1, 30)];
+// An end key, a number, and the position and the size of a block.
+type Row = (&'static [u8], SeqNo, u64, u32);
+
+fn handle<A: Allocator + Copy>(alloc: A, row: &Row) -> Result<KeyedBlockHandle<A>, Error> {
+    let (end_key, seqno, offset, size) = *row;
+    keyed(
+        Slice::from(alloc, end_key),
+        seqno,
+        BlockHandle::new(BlockOffset(offset), size),
+    )
+}
+
+// b@5, b@3, d@9 and f@1, and where their blocks lie.
+const FOUR: &[Row] = &[
+    (b"b", 5, 0, 10),
+    (b"b", 3, 10, 10),
+    (b"d", 9, 20, 10),
+    (b"f", 1, 30, 10),
+];
+
+// a@1, the end of a block of 47 bytes.
+const ONE: &Row = &(b"a", 1, 0, 47);
 
 // Adds the four handles.
 fn put_four<A: Allocator + Copy>(
     alloc: A,
     handles: &mut Vec<KeyedBlockHandle<A>, A>,
 ) -> Result<(), Error> {
-    for &(end_key, seqno, offset) in FOUR {
-        push_made(handles, handle(alloc, end_key, seqno, offset, 10))?;
+    for row in FOUR {
+        push_made(handles, handle(alloc, row))?;
     }
     Ok(())
 }
@@ -85,46 +106,46 @@ fn is_one_handle(
     Ok(is_right)
 }
 
+// Encodes some handles behind what is there.
+fn encoded<A: Allocator>(
+    buf: &mut Vec<u8, A>,
+    handles: &[KeyedBlockHandle<A>],
+) -> Result<(), Error> {
+    if !are_strict_handles(handles) {
+        return Err(Error::InvalidBlock);
+    }
+    IndexBlock::encode_into(buf, handles)
+}
+
 // What is written of some handles behind some bytes.
 fn written_behind<A: Allocator + Copy>(
     alloc: A,
     front: &[u8],
     handles: &[KeyedBlockHandle<A>],
 ) -> Result<Vec<u8, A>, Error> {
-    if !are_strict_handles(handles) {
-        return Err(Error::InvalidBlock);
-    }
     let mut written = Vec::from_slice(alloc, front)?;
-    let done = IndexBlock::encode_into(&mut written, handles);
+    let done = encoded(&mut written, handles);
     once_done(written, done)
 }
 
 #[test]
 fn payloads_of_both_versions_read_as_their_handles(rt: HostRuntime) {
     let alloc = rt.alloc();
-    assert!(rt; is_one_handle(alloc, TableVersion::V3, &ONE_IN_V3, 45) == Ok(true));
-    assert!(rt; is_one_handle(alloc, TableVersion::V4, &ONE_IN_V4, 47) == Ok(true));
+    assert!(rt; holds(is_one_handle(alloc, TableVersion::V3, &ONE_IN_V3, 45)));
+    assert!(rt; holds(is_one_handle(alloc, TableVersion::V4, &ONE_IN_V4, 47)));
 }
 
 // Whether the payload of a@1 is written behind the byte 7.
-fn is_behind_seven(alloc: Global) -> Result<bool, Error> {
-    let handles = [handle(alloc, b"a", 1, 0, 47)?];
-    let written = written_behind(alloc, &[7], &handles);
-    drop(handles);
-    Ok(matches!(written?.as_slice(), [7, payload @ ..] if payload == ONE_IN_V4.as_slice()))
+fn is_one_behind_seven(alloc: Global) -> Result<bool, Error> {
+    let handle = handle(alloc, ONE)?;
+    let written = written_behind(alloc, &[7], from_ref(&handle));
+    drop(handle);
+    is_behind_seven(written, &ONE_IN_V4)
 }
 
 #[test]
 fn handles_are_written_behind_what_was_there(rt: HostRuntime) {
-    assert!(rt; holds(is_behind_seven(rt.alloc())));
-}
-
-// The position of a handle that is given.
-fn position_of<A: Allocator>(handle: Result<KeyedBlockHandle<A>, Error>) -> Result<u64, Error> {
-    let handle = handle?;
-    let position = handle.offset().0;
-    drop(handle);
-    Ok(position)
+    assert!(rt; holds(is_one_behind_seven(rt.alloc())));
 }
 
 // The position of the next handle, from the front or the back, or 99 where there is none.
@@ -132,7 +153,12 @@ fn position<A: Allocator>(
     answer: Option<Result<KeyedBlockHandle<A>, Error>>,
 ) -> Result<u64, Error> {
     match answer {
-        Some(handle) => position_of(handle),
+        Some(Ok(handle)) => {
+            let position = handle.offset().0;
+            drop(handle);
+            Ok(position)
+        }
+        Some(Err(error)) => Err(error),
         None => Ok(99),
     }
 }
@@ -174,6 +200,11 @@ fn last_after_seek<A: Allocator>(block: &IndexBlock<A>, key: &[u8]) -> Result<(b
     beside(left, position(iter.next_back()))
 }
 
+// The positions of the first handle and of the last, 99 where there is none.
+fn ends<A: Allocator>(iter: &mut IndexBlockIter<'_, A>) -> Result<(u64, u64), Error> {
+    both(position(iter.next()), position(iter.next_back()))
+}
+
 // The positions from the back, from the front twice and from the back again, after both seeks.
 fn after_both_seeks<A: Allocator>(
     block: &IndexBlock<A>,
@@ -185,8 +216,7 @@ fn after_both_seeks<A: Allocator>(
     iter.seek(key, seqno);
     iter.seek_upper(upper, 0);
     let outer = both(position(iter.next_back()), position(iter.next()));
-    let inner = both(position(iter.next()), position(iter.next_back()));
-    both(outer, inner)
+    both(outer, ends(&mut iter))
 }
 
 // A key and a number, and the position of the first handle that reaches them.
@@ -244,90 +274,53 @@ fn lead_right(block: &IndexBlock) -> bool {
         && is_answer(after_both_seeks(block, b"d", 9, b"a"), ((99, 99), (99, 99)))
 }
 
-// Whether they do so in the block of four, by way of its bytes.
-fn seeks_lead_right(alloc: Global) -> Result<bool, Error> {
-    let block = block_of_four(alloc)?;
-    let are_right = lead_right(&block);
-    drop(block);
-    Ok(are_right)
-}
-
 #[test]
 fn seeks_narrow_to_the_handles_that_may_hold_a_key(rt: HostRuntime) {
-    assert!(rt; holds(seeks_lead_right(rt.alloc())));
+    assert!(rt; holds(asked(block_of_four(rt.alloc()), lead_right)));
 }
 
-// Spells a handle by its end key, the key length that it claims and its number.
-fn spell<A: Allocator>(bytes: &mut Vec<u8, A>, claim: &[u8; 3]) -> Result<(), AllocError> {
-    let [key, key_len, seqno] = claim;
-    put_numbers(bytes, &[u32::from(*seqno), 0, 0, 0, 0, u32::from(*key_len)])?;
-    bytes.extend_from_slice(&[*key])
-}
-
-// Spells handles one behind another.
-fn spell_all<A: Allocator>(bytes: &mut Vec<u8, A>, claims: &[[u8; 3]]) -> Result<(), AllocError> {
-    for claim in claims {
-        spell(bytes, claim)?;
-    }
-    Ok(())
-}
-
-// A payload of a count, and then of handles.
-fn spelled<A: Allocator + Copy>(
-    alloc: A,
-    count: u32,
-    claims: &[[u8; 3]],
-) -> Result<Vec<u8, A>, AllocError> {
-    let mut bytes = Vec::from_slice(alloc, &count.to_le_bytes())?;
-    let done = spell_all(&mut bytes, claims);
-    once_done(bytes, done)
+// A payload of a count, and of handles by their end key, the key length that they claim and their number.
+macro_rules! payload {
+    ($count:expr; $([$key:expr, $key_len:expr, $seqno:expr]),*) => {
+        &[
+            ($count & 0xff) as u8,
+            ($count >> 8 & 0xff) as u8,
+            ($count >> 16 & 0xff) as u8,
+            ($count >> 24 & 0xff) as u8,
+            $(
+                $seqno, 0, 0, 0, 0, 0, 0, 0, 0, 0, 0, 0, 0, 0, 0, 0, 0, 0, 0, 0, $key_len, 0, 0, 0, $key,
+            )*
+        ]
+    };
 }
 
 // How many handles a payload has.
 fn handles_read<A: Allocator + Copy>(alloc: A, bytes: &[u8]) -> Result<usize, Error> {
-    let block = index_block(alloc, TableVersion::V4, bytes)?;
-    let len = block.len();
-    drop(block);
-    Ok(len)
+    asked(index_block(alloc, TableVersion::V4, bytes), IndexBlock::len)
 }
 
-// How many handles a payload of a count and of handles has, where it is in the grammar.
-fn handles_claimed<A: Allocator + Copy>(
-    alloc: A,
-    count: u32,
-    claims: &[[u8; 3]],
-) -> Result<Option<usize>, Error> {
-    let bytes = spelled(alloc, count, claims)?;
-    let len = in_grammar(handles_read(alloc, bytes.as_slice()));
-    drop(bytes);
-    len
-}
-
-// A count, handles, and how many the payload has, where it is in the grammar.
-const CLAIMS: &[(u32, &[[u8; 3]], Option<usize>)] = &[
-    (0, &[], Some(0)),
-    (1, &[[b'a', 1, 1]], Some(1)),
-    (2, &[[b'a', 1, 2], [b'a', 1, 1]], Some(2)),
-    (2, &[[b'a', 1, 1], [b'b', 1, 2]], Some(2)),
+// Payloads, and how many handles they have, where they are in the grammar.
+const PAYLOADS: &[(&[u8], Option<usize>)] = &[
+    (payload!(0;), Some(0)),
+    (payload!(1; [b'a', 1, 1]), Some(1)),
+    (payload!(2; [b'a', 1, 2], [b'a', 1, 1]), Some(2)),
+    (payload!(2; [b'a', 1, 1], [b'b', 1, 2]), Some(2)),
     // Fewer handles or more than the count says, an end key that is cut short, a byte behind the last one, and handles that
     // are not strict: the same twice, numbers upward, keys downward.
-    (1, &[], None),
-    (u32::MAX, &[[b'a', 1, 1]], None),
-    (0, &[[b'a', 1, 1]], None),
-    (1, &[[b'a', 2, 1]], None),
-    (1, &[[b'a', 0, 1]], None),
-    (2, &[[b'a', 1, 1], [b'a', 1, 1]], None),
-    (2, &[[b'a', 1, 1], [b'a', 1, 2]], None),
-    (2, &[[b'b', 1, 1], [b'a', 1, 0]], None),
+    (payload!(1;), None),
+    (payload!(u32::MAX; [b'a', 1, 1]), None),
+    (payload!(0; [b'a', 1, 1]), None),
+    (payload!(1; [b'a', 2, 1]), None),
+    (payload!(1; [b'a', 0, 1]), None),
+    (payload!(2; [b'a', 1, 1], [b'a', 1, 1]), None),
+    (payload!(2; [b'a', 1, 1], [b'a', 1, 2]), None),
+    (payload!(2; [b'b', 1, 1], [b'a', 1, 0]), None),
 ];
 
 #[test]
 fn payloads_out_of_the_grammar_are_refused(rt: HostRuntime) {
-    for &(count, claims, wanted) in CLAIMS {
-        assert!(rt;
-            is_answer(handles_claimed(rt.alloc(), count, claims), wanted),
-            "{count}"
-        );
+    for &(payload, len) in PAYLOADS {
+        assert!(rt; is_answer(in_grammar(handles_read(rt.alloc(), payload)), len));
     }
 }
 
@@ -344,38 +337,49 @@ fn is_refused(alloc: Global, len: usize) -> bool {
 fn payloads_cut_short_or_of_the_other_version_are_refused(rt: HostRuntime) {
     // Fewer bytes than a count has, a head that is cut short, and the key length of the other version.
     for len in [3, 20, 27] {
-        assert!(rt; is_refused(rt.alloc(), len), "{len}");
+        assert!(rt; is_refused(rt.alloc(), len));
     }
 }
 
-// Whether encoding some handles behind the byte 7 is refused so, or not at all, where that leaves the byte alone.
-fn is_refused_so<A: Allocator + Copy>(
+// How encoding some handles behind the byte 7 is refused, where that leaves the byte alone.
+fn refusal<A: Allocator + Copy>(
     alloc: A,
     handles: &[KeyedBlockHandle<A>],
-    expected: Option<Error>,
-) -> Result<bool, Error> {
-    let mut buf = Vec::new(alloc);
-    buf.push(7)?;
-    if !are_strict_handles(handles) {
-        return Ok(expected.is_none());
-    }
-    let refused = IndexBlock::encode_into(&mut buf, handles).err();
-    Ok(behind_seven(&buf, refused) == expected)
+) -> Result<Option<Error>, Error> {
+    let mut buf = Vec::from_slice(alloc, &[7])?;
+    let done = encoded(&mut buf, handles);
+    Ok(behind_seven(buf, done))
 }
 
-// Whether one handle whose end key has this length is refused so, or not at all.
-fn is_key_refused_so(alloc: Global, len: usize, expected: Option<Error>) -> Result<bool, Error> {
-    let end_key = vec![in alloc; 0u8; len]?;
-    let handles = [handle(alloc, &end_key, 1, 0, 24)?];
-    let is_refused = is_refused_so(alloc, &handles, expected);
-    drop(handles);
-    is_refused
+// The refusal of one handle.
+fn refusal_of<A: Allocator + Copy>(
+    alloc: A,
+    handle: Result<KeyedBlockHandle<A>, Error>,
+) -> Result<Option<Error>, Error> {
+    let handle = handle?;
+    let refused = refusal(alloc, from_ref(&handle));
+    drop(handle);
+    refused
+}
+
+// The refusal of one handle whose end key has this length.
+fn refusal_of_key_len(alloc: Global, len: usize) -> Result<Option<Error>, Error> {
+    let end_key = Slice::from_vec(vec![in alloc; 0u8; len]?);
+    refusal_of(
+        alloc,
+        keyed(end_key, 1, BlockHandle::new(BlockOffset(0), 24)),
+    )
 }
 
 #[test]
 fn keys_of_a_mebibyte_are_taken_and_longer_ones_refused(rt: HostRuntime) {
-    assert!(rt; holds(is_key_refused_so(rt.alloc(), 1048576, None)));
-    assert!(rt; holds(is_key_refused_so(rt.alloc(), 1048577, Some(Error::KeyTooLong))));
+    assert!(rt; is_answer(refusal_of_key_len(rt.alloc(), 1048576), None));
+    assert!(rt;
+        is_answer(
+            refusal_of_key_len(rt.alloc(), 1048577),
+            Some(Error::KeyTooLong)
+        )
+    );
 }
 
 // 4,096 numbers, the high bytes first, and zeroes up to 2^20 bytes from the last.
@@ -395,7 +399,7 @@ fn handle_within(bytes: &Slice, start: usize) -> Result<KeyedBlockHandle, Error>
         return Err(Error::InvalidBlock);
     }
     let inner = BlockHandle::new(BlockOffset(0), 24);
-    Ok(KeyedBlockHandle::new(bytes.slice(start, end)?, 1, inner))
+    keyed(bytes.slice(start, end), 1, inner)
 }
 
 // Adds handles whose end keys of 2^20 bytes begin at 4,096 places of these bytes.
@@ -406,49 +410,38 @@ fn put_handles_within(handles: &mut Vec<KeyedBlockHandle>, bytes: &Slice) -> Res
     Ok(())
 }
 
-// Handles whose end keys of 2^20 bytes begin at 4,096 places of these bytes.
-fn handles_within(alloc: Global, bytes: &Slice) -> Result<Vec<KeyedBlockHandle>, Error> {
-    let mut handles = Vec::new(alloc);
-    let done = put_handles_within(&mut handles, bytes);
-    once_done(handles, done)
-}
-
 // 4,096 handles whose end keys of 2^20 bytes share their memory: key i begins with i, the high byte first.
 fn many_handles(alloc: Global) -> Result<Vec<KeyedBlockHandle>, Error> {
     let shared = numbers(alloc)?;
-    let handles = handles_within(alloc, &shared);
+    let mut handles = Vec::new(alloc);
+    let done = put_handles_within(&mut handles, &shared);
     drop(shared);
-    handles
+    once_done(handles, done)
 }
 
-// The bound on the block of as many handles, and whether they are refused for it.
-fn bound_and_refusal(alloc: Global) -> Result<(u64, bool), Error> {
+// The bound on the block of as many handles, and how they are refused.
+fn bound_and_refusal(alloc: Global) -> Result<(u64, Option<Error>), Error> {
     let handles = many_handles(alloc)?;
     let bound = index_block_bound(&handles);
-    let is_refused = is_refused_so(alloc, &handles, Some(Error::BlockTooLarge));
+    let refused = refusal(alloc, &handles);
     drop(handles);
-    beside(bound, is_refused)
+    beside(bound, refused)
 }
 
 #[test]
 fn a_block_of_four_gibibytes_is_refused(rt: HostRuntime) {
+    let bound = 28 + 4096 * (24 + 1048576);
     assert!(rt;
         is_answer(
             bound_and_refusal(rt.alloc()),
-            (28 + 4096 * (24 + 1048576), true)
+            (bound, Some(Error::BlockTooLarge))
         )
     );
 }
 
-// The positions of a block's first handle and of its last, 99 where there is none.
-fn ends<A: Allocator>(block: &IndexBlock<A>) -> Result<(u64, u64), Error> {
-    let mut iter = block.iter();
-    both(position(iter.next()), position(iter.next_back()))
-}
-
 // The position of the handle that reaches b@5, and those of a block's ends.
 fn read<A: Allocator>(block: &IndexBlock<A>) -> Result<(u64, (u64, u64)), Error> {
-    beside(found_at(block, b"b", 5), ends(block))
+    beside(found_at(block, b"b", 5), ends(&mut block.iter()))
 }
 
 // These positions in the block of four, by way of its bytes.
@@ -461,12 +454,10 @@ fn write_and_read<A: Allocator + Copy>(alloc: A) -> Result<(u64, (u64, u64)), Er
 
 #[test]
 fn each_request_refused_is_answered_so(rt: HostRuntime) {
-    let answers = each_refused(rt.alloc(), |heap, may_fail| match write_and_read(heap) {
-        Ok(answer) => answer == (10, (0, 30)),
-        Err(Error::OutOfMemory) => may_fail,
-        Err(_) => false,
+    let answers = each_refused(rt.alloc(), |heap, may_fail| {
+        is_answer_or_refused(write_and_read(heap), (10, (0, 30)), may_fail)
     });
-    assert_eq!(rt; answers, Ok(23));
+    assert!(rt; answers == Ok(23));
 }
 
 // A clone of a block, which outlives it.
@@ -477,78 +468,50 @@ fn left_by_its_block<A: Allocator>(block: IndexBlock<A>) -> Result<IndexBlock<A>
 }
 
 // How many handles such a clone has, and the position of the one that reaches c@1.
-fn found_after<A: Allocator>(block: IndexBlock<A>) -> Result<(usize, u64), Error> {
-    let copy = left_by_its_block(block)?;
+fn found_after<A: Allocator>(block: Result<IndexBlock<A>, Error>) -> Result<(usize, u64), Error> {
+    let copy = left_by_its_block(block?)?;
     let found = (copy.len(), found_at(&copy, b"c", 1));
     drop(copy);
     Ok(found)
 }
 
 // Whether a clone of the block of four, which outlives it, finds what the block does, and takes no memory.
-fn a_clone_finds(heap: &Refusing) -> Result<bool, Error> {
-    let block = block_of_four(heap)?;
+fn a_clone_finds(alloc: Global) -> bool {
+    let heap = Refusing::new(alloc, 0);
+    let block = block_of_four(&heap);
     let requests = heap.requests();
-    let found = found_after(block)?;
-    Ok(heap.requests() == requests && found == (4, 20))
+    is_answer(found_after(block), (4, 20)) && heap.requests() == requests
 }
 
 #[test]
 fn a_clone_reads_as_its_block_and_takes_no_memory(rt: HostRuntime) {
-    let heap = Refusing::new(rt.alloc(), 0);
-    assert!(rt; holds(a_clone_finds(&heap)));
-}
-
-// Whether neither end has an answer.
-fn is_over<A: Allocator>(iter: &mut IndexBlockIter<'_, A>) -> bool {
-    is_given(iter.next_back()).is_none() && is_given(iter.next()).is_none()
-}
-
-// Whether so many handles at most, taken from the front, end for good at the first that is refused.
-fn ends_at_first<A: Allocator>(iter: &mut IndexBlockIter<'_, A>, len: usize) -> bool {
-    for _ in 0..len {
-        match is_given(iter.next()) {
-            Some(true) => {}
-            Some(false) => return is_over(iter),
-            None => return false,
-        }
-    }
-    is_given(iter.next()).is_none()
+    assert!(rt; a_clone_finds(rt.alloc()));
 }
 
 // Whether a block's handles, taken from the front, end for good at the first that is refused.
-fn ends_at_refusal<A: Allocator>(block: &IndexBlock<A>) -> bool {
-    ends_at_first(&mut block.iter(), block.len())
+fn end_at_refusal<A: Allocator>(block: &IndexBlock<A>) -> bool {
+    ends_at_refusal(&mut block.iter(), Front, block.len())
 }
 
-// Whether it does so for one allocator's block of four; memory may have run out before.
-fn is_ended<A: Allocator + Copy>(alloc: A) -> bool {
-    match block_of_four(alloc) {
-        Ok(block) => {
-            let ends = ends_at_refusal(&block);
-            drop(block);
-            ends
-        }
-        Err(_) => true,
-    }
+// Whether they do so of the block of four, where memory lasts for it.
+fn four_end_at_refusal<A: Allocator + Copy>(alloc: A) -> bool {
+    holds_or_refused(asked(block_of_four(alloc), end_at_refusal))
 }
 
 #[test]
 fn nothing_comes_after_a_refused_handle(rt: HostRuntime) {
-    let answers = each_refused(rt.alloc(), |heap, _| is_ended(heap));
+    let answers = each_refused(rt.alloc(), |heap, _| four_end_at_refusal(heap));
     assert!(rt; answers.is_ok());
 }
 
-// Whether one handle in an allocator is refused for memory.
-fn is_refused_memory<A: Allocator + Copy>(alloc: A) -> Result<bool, Error> {
-    let handles = [handle(alloc, b"a", 1, 0, 47)?];
-    let is_refused = is_refused_so(alloc, &handles, Some(Error::OutOfMemory));
-    drop(handles);
-    is_refused
+// Whether one handle is refused for memory, at this request.
+fn is_refused_at(alloc: Global, nth: usize) -> bool {
+    let heap = Refusing::new(alloc, nth);
+    let refused = refusal_of(&heap, handle(&heap, ONE));
+    is_answer(refused, Some(Error::OutOfMemory)) && heap.requests() == nth
 }
 
 #[test]
 fn a_refused_growth_leaves_the_buffer_as_it_was(rt: HostRuntime) {
-    let heap = Refusing::new(rt.alloc(), 4);
-    assert!(rt; holds(is_refused_memory(&heap)));
-    assert_eq!(rt; heap.requests(), 4);
+    assert!(rt; is_refused_at(rt.alloc(), 4));
 }

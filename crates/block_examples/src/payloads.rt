@@ -1,24 +1,27 @@
 //! Blocks of payloads that are spelled byte by byte.
+ghost use Rattle.std.specs.Prelude.{◌≡◌, []};
+ghost use Rattle.sst_entries.specs.Stream.{CanDeal};
+
 use sst_blocks::{
-    Block, BlockSource, BlockType, DataBlock, Error, IndexBlock, Opened, SectionName,
-    SectionWriter, Slice, TableVersion, TagName, hash,
+    Block, BlockSource, BlockType, DataBlock, Direction, Error, IndexBlock, Opened, SectionName,
+    SectionWriter, Slice, TableVersion, TagName, answer_at, hash,
 };
 use std::alloc::{AllocError, Allocator};
-
-/// Adds numbers of four bytes, the low byte first.
-pub(crate) fn put_numbers<A: Allocator>(
-    bytes: &mut Vec<u8, A>,
-    numbers: &[u32],
-) -> Result<(), AllocError> {
-    for number in numbers {
-        bytes.extend_from_slice(&number.to_le_bytes())?;
-    }
-    Ok(())
-}
 
 /// A value beside another one, or the refusal of the other.
 pub(crate) fn beside<T: Drop, U, E>(first: T, second: Result<U, E>) -> Result<(T, U), E> {
     Ok((first, second?))
+}
+
+/// What is asked of a value, which is let go of here alone, or why there is none. It is generic, so that no part of the value
+/// is looked at.
+pub(crate) fn asked<T: Drop, U, E, F: FnOnce(&T) -> U + Drop>(
+    made: Result<T, E>,
+    ask: F,
+) -> Result<U, E>
+    requires { F.IsAlwaysCallable ask }
+{
+    Ok(ask(&made?))
 }
 
 /// Two values, or the refusal of the first that is refused.
@@ -26,7 +29,7 @@ pub(crate) fn both<T: Drop, U: Drop, E: Drop>(
     first: Result<T, E>,
     second: Result<U, E>,
 ) -> Result<(T, U), E> {
-    Ok((first?, second?))
+    beside(first?, second)
 }
 
 /// A value, once what was done with it is not refused.
@@ -38,6 +41,11 @@ pub(crate) fn once_done<T: Drop, E>(value: T, done: Result<(), E>) -> Result<T, 
 /// Whether something was found to hold, and nothing was refused.
 pub(crate) fn holds(answer: Result<bool, Error>) -> bool {
     matches!(answer, Ok(true))
+}
+
+/// Whether something was found to hold, or what it is asked of was refused.
+pub(crate) fn holds_or_refused(answer: Result<bool, Error>) -> bool {
+    !matches!(answer, Ok(false))
 }
 
 /// Whether an answer is this one, and no refusal.
@@ -79,59 +87,101 @@ pub(crate) fn in_grammar(len: Result<usize, Error>) -> Result<Option<usize>, Err
 }
 
 /// How the encoding behind the byte 7 was refused, where that left the byte alone.
-pub(crate) fn behind_seven(bytes: &[u8], refused: Option<Error>) -> Option<Error> {
-    if bytes == [7].as_slice() {
-        refused
+pub(crate) fn behind_seven<A: Allocator>(
+    bytes: Vec<u8, A>,
+    done: Result<(), Error>,
+) -> Option<Error> {
+    if bytes.as_slice() == [7].as_slice() {
+        done.err()
     } else {
         None
     }
 }
 
-// Appends some parts in turn.
-fn append_all<A: Allocator + Copy>(
-    writer: &mut SectionWriter<A>,
-    parts: &[&[u8]],
-) -> Result<(), Error> {
-    for part in parts {
-        writer.append(part)?;
-    }
-    Ok(())
+// Whether some bytes are 7 and then a payload.
+fn are_seven_and(bytes: &[u8], payload: &[u8]) -> bool {
+    matches!(bytes, [7, rest @ ..] if rest == payload)
 }
 
-// Writes a block of either version: its mark, its kind, its length twice, its payload's hash and the payload.
+/// Whether what was written is the byte 7 and then a payload.
+pub(crate) fn is_behind_seven<A: Allocator>(
+    written: Result<Vec<u8, A>, Error>,
+    payload: &[u8],
+) -> Result<bool, Error> {
+    let written = written?;
+    let is_so = are_seven_and(&written, payload);
+    drop(written);
+    Ok(is_so)
+}
+
+/// Whether an answer is this one, or memory was refused where it may be.
+pub(crate) fn is_answer_or_refused<T: PartialEq + Drop>(
+    answer: Result<T, Error>,
+    expected: T,
+    may_fail: bool,
+) -> bool {
+    match answer {
+        Ok(answer) => answer == expected,
+        Err(Error::OutOfMemory) => may_fail,
+        Err(_) => false,
+    }
+}
+
+// Whether nothing is given or refused at either end any more.
+fn is_over<X: Drop, I: DoubleEndedIterator<Item = Result<X, Error>>>(stream: &mut I) -> bool
+    requires { CanDeal I.next_gives I.next_back_gives I.can_next I.can_next_back stream.old }
+{
+    is_given(answer_at(stream, Direction::Front)).is_none()
+        && is_given(answer_at(stream, Direction::Back)).is_none()
+}
+
+/// Whether a stream of so many answers at most, taken from one end, ends for good at the first that is refused.
+pub(crate) fn ends_at_refusal<X: Drop, I: DoubleEndedIterator<Item = Result<X, Error>>>(
+    stream: &mut I,
+    end: Direction,
+    len: usize,
+) -> bool
+    requires { CanDeal I.next_gives I.next_back_gives I.can_next I.can_next_back stream.old }
+{
+    for _ in 0..len {
+        match is_given(answer_at(stream, end)) {
+            Some(true) => {}
+            Some(false) => return is_over(stream),
+            None => return false,
+        }
+    }
+    is_given(answer_at(stream, end)).is_none()
+}
+
+// The header of a block of either version: its mark, its kind, its length twice and its payload's hash.
+fn header(version: TableVersion, kind: BlockType, payload: &[u8]) -> [[u8; 4]; 6] {
+    let len = u32::try_from(payload.len())
+        .unwrap_or(u32::MAX)
+        .to_le_bytes();
+    let [a, b, c, d, e, f, g, h] = hash(payload).to_le_bytes();
+    [
+        version.mark(),
+        [kind.tag(), 0, 0, 0],
+        len,
+        len,
+        [a, b, c, d],
+        [e, f, g, h],
+    ]
+}
+
+// Starts a section with a block of this header and this payload.
 fn write<A: Allocator + Copy>(
     writer: &mut SectionWriter<A>,
-    version: TableVersion,
-    kind: BlockType,
+    header: &[[u8; 4]],
     payload: &[u8],
-) -> Result<(), Error> {
-    let Ok(len) = u32::try_from(payload.len()) else {
-        return Err(Error::BlockTooLarge);
-    };
-    let len = len.to_le_bytes();
-    append_all(
-        writer,
-        &[
-            &version.mark(),
-            &[kind.tag(), 0, 0, 0],
-            &len,
-            &len,
-            &hash(payload).to_le_bytes(),
-            payload,
-        ],
-    )
-}
-
-// The bytes of a table, once this payload is written.
-fn finished<A: Allocator + Copy>(
-    mut writer: SectionWriter<A>,
-    version: TableVersion,
-    kind: BlockType,
-    payload: &[u8],
-) -> Result<Slice<A>, Error> {
-    let written = write(&mut writer, version, kind, payload);
-    let (bytes, _) = once_done(writer, written)?.finish()?;
-    Ok(bytes)
+) -> Result<(), Error>
+    requires { writer.old.started ≡ [] }
+{
+    writer.start(SectionName::Data)?;
+    for part in header {
+        writer.append(part)?;
+    }
+    writer.append(payload)
 }
 
 // The bytes of a table with this payload alone.
@@ -142,20 +192,9 @@ fn table<A: Allocator + Copy>(
     payload: &[u8],
 ) -> Result<Slice<A>, Error> {
     let mut writer = SectionWriter::new(alloc)?;
-    let started = writer.start(SectionName::Data);
-    finished(once_done(writer, started)?, version, kind, payload)
-}
-
-// The first block of a table.
-fn first_block<A: Allocator + Copy>(
-    alloc: A,
-    bytes: Slice<A>,
-    kind: BlockType,
-) -> Result<Block<A>, Error> {
-    let source = BlockSource::new(alloc, bytes)?;
-    let block = source.load_at(0, kind, &mut Opened::none());
-    drop(source);
-    block
+    let written = write(&mut writer, &header(version, kind, payload), payload);
+    let (bytes, _) = once_done(writer, written)?.finish()?;
+    Ok(bytes)
 }
 
 // The block that is loaded from a table with this payload alone.
@@ -165,8 +204,10 @@ fn load<A: Allocator + Copy>(
     kind: BlockType,
     payload: &[u8],
 ) -> Result<Block<A>, Error> {
-    let bytes = table(alloc, version, kind, payload)?;
-    first_block(alloc, bytes, kind)
+    let source = BlockSource::new(alloc, table(alloc, version, kind, payload)?)?;
+    let block = source.load_at(0, kind, &mut Opened::none());
+    drop(source);
+    block
 }
 
 /// The data block of a payload.

@@ -2,13 +2,12 @@
 ghost use Rattle.std.specs.Prelude.{◌≡◌, []};
 
 use crate::filters::{ONE_KEY, payload_of};
-use crate::large::asked;
+use crate::large::{are_bytes, asked, finished, holds, is_answer};
 use sst_blocks::{
     Block, BlockHandle, BlockSource, BlockType, BloomConstructionPolicy, Builder, CompressionType,
     Error, FilterBlock, Opened, SectionName, SectionWriter, Slice, TagName,
 };
 use std::alloc::Global;
-use std::test::Fail;
 
 // Writes a filter block alone, and says where it lies.
 fn write_filter(writer: &mut SectionWriter, payload: &[u8]) -> Result<BlockHandle, Error>
@@ -22,29 +21,40 @@ fn write_filter(writer: &mut SectionWriter, payload: &[u8]) -> Result<BlockHandl
 }
 
 // A table of a filter block alone, and where the block lies.
-fn table(alloc: Global, payload: &[u8]) -> Result<(BlockHandle, Slice), Error> {
+fn table(alloc: Global, payload: &[u8]) -> Result<(BlockHandle, Slice, u128), Error> {
     let mut writer = SectionWriter::new(alloc)?;
-    let lies = write_filter(&mut writer, payload)?;
-    let (bytes, _checksum) = writer.finish()?;
-    Ok((lies, bytes))
+    let lies = write_filter(&mut writer, payload);
+    finished(writer, lies)
 }
 
-// Writes a filter block and loads it again; also how long the block is.
-fn load(alloc: Global, payload: &[u8]) -> Result<(FilterBlock, u32), Error> {
-    let (lies, bytes) = table(alloc, payload)?;
+// The block that lies there in a table.
+fn block_of(alloc: Global, lies: &BlockHandle, bytes: Slice) -> Result<Block, Error> {
     let source = BlockSource::new(alloc, bytes)?;
-    let block = source.load(&lies, BlockType::Filter, &mut Opened::none())?;
+    let block = source.load(lies, BlockType::Filter, &mut Opened::none());
+    drop(source);
+    block
+}
+
+fn filter_of(block: Block) -> Result<FilterBlock, Error> {
     match block.kind() {
-        BlockType::Filter => Ok((FilterBlock::new(block), lies.size())),
-        _ => Err(Error::InvalidTag(TagName::BlockType, 2)),
+        BlockType::Filter => Ok(FilterBlock::new(block)),
+        _ => {
+            drop(block);
+            Err(Error::InvalidTag(TagName::BlockType, 2))
+        }
     }
 }
 
-// What a load answered: the sizes of the payload and of the block.
+// The filter that is loaded from a table.
+fn load(alloc: Global, lies: &BlockHandle, bytes: Slice) -> Result<FilterBlock, Error> {
+    filter_of(block_of(alloc, lies, bytes)?)
+}
+
+// What a load answers: the sizes of the payload and of the block.
 fn sizes(alloc: Global, payload: &[u8]) -> Result<(usize, u32), Error> {
-    asked(load(alloc, payload), |(filter, size)| {
-        (filter.size(), *size)
-    })
+    let (lies, bytes, _) = table(alloc, payload)?;
+    let size = asked(load(alloc, &lies, bytes), FilterBlock::size)?;
+    Ok((size, lies.size()))
 }
 
 // A payload, and what loading it answers.
@@ -69,49 +79,42 @@ fn built(alloc: Global, keys: &[&[u8]]) -> Result<Vec<u8>, Error> {
     payload_of(alloc, BloomConstructionPolicy::default(), keys.len(), keys)
 }
 
-// Whether that payload has these bytes.
-fn is_built(alloc: Global, keys: &[&[u8]], bytes: &[u8]) -> Result<bool, Error> {
-    asked(built(alloc, keys), |payload| payload.as_slice() == bytes)
-}
-
 fn admits(filter: &FilterBlock, key: &[u8]) -> bool {
     filter.maybe_contains_hash(Builder::<Global>::get_hash(key))
 }
 
 // Whether a filter admits a key, and whether its clone does.
 fn both_admit(filter: &FilterBlock, key: &[u8]) -> Result<(bool, bool), Error> {
-    let clone_admits = asked(filter.clone(), |clone| admits(clone, key))?;
+    let clone: FilterBlock = filter.clone()?;
+    let clone_admits = admits(&clone, key);
+    drop(clone);
     Ok((admits(filter, key), clone_admits))
 }
 
 // The same of the filter that is loaded of a payload.
 fn loaded_admit(alloc: Global, payload: &[u8], key: &[u8]) -> Result<(bool, bool), Error> {
-    asked(load(alloc, payload), |(filter, _)| both_admit(filter, key))?
+    let (lies, bytes, _) = table(alloc, payload)?;
+    let filter = load(alloc, &lies, bytes)?;
+    let admit = both_admit(&filter, key);
+    drop(filter);
+    admit
 }
 
 // The same of the filter of these keys.
 fn built_admit(alloc: Global, keys: &[&[u8]], key: &[u8]) -> Result<(bool, bool), Error> {
-    asked(built(alloc, keys), |payload| {
-        loaded_admit(alloc, payload, key)
-    })?
+    let payload = built(alloc, keys)?;
+    let admit = loaded_admit(alloc, &payload, key);
+    drop(payload);
+    admit
 }
 
-// Whether the filter of "a" is built as it is known, and what that filter answers for "a" and for no bytes.
-fn of_one_key(alloc: Global) -> Result<(bool, (bool, bool), (bool, bool)), Error> {
-    Ok((
-        is_built(alloc, &[b"a"], ONE_KEY)?,
-        loaded_admit(alloc, ONE_KEY, b"a")?,
-        loaded_admit(alloc, ONE_KEY, b"")?,
-    ))
-}
-
+// The filter of "a" is built as it is known, and answers so for "a" and for no bytes.
 #[test]
-fn a_filter_of_one_key(rt: HostRuntime) -> Result<(), Fail> {
-    let (is_known, of_key, of_no_bytes) = of_one_key(rt.alloc())?;
-    assert!(rt; is_known);
-    assert!(rt; of_key == (true, true));
-    assert!(rt; of_no_bytes == (false, false));
-    Ok(())
+fn a_filter_of_one_key(rt: HostRuntime) {
+    let alloc = rt.alloc();
+    assert!(rt; holds(are_bytes(built(alloc, &[b"a"]), ONE_KEY)));
+    assert!(rt; is_answer(loaded_admit(alloc, ONE_KEY, b"a"), (true, true)));
+    assert!(rt; is_answer(loaded_admit(alloc, ONE_KEY, b""), (false, false)));
 }
 
 // The keys of a filter.
@@ -128,10 +131,9 @@ const ASKED: &[(&[u8], bool)] = &[
 ];
 
 #[test]
-fn a_loaded_filter_is_asked(rt: HostRuntime) -> Result<(), Fail> {
+fn a_loaded_filter_is_asked(rt: HostRuntime) {
     for &(key, is_there) in ASKED {
-        let admitted = built_admit(rt.alloc(), KEYS, key)?;
-        assert!(rt; admitted == (is_there, is_there), "{key:?}");
+        let admitted = built_admit(rt.alloc(), KEYS, key);
+        assert!(rt; is_answer(admitted, (is_there, is_there)));
     }
-    Ok(())
 }

@@ -1,10 +1,9 @@
 //! Filters: their sizes, their bits, and which hashes they admit.
-use crate::large::asked;
+use crate::large::{are_bytes, asked, holds, is_answer};
 use refusing::{Refusing, each_refused};
 use sst_filters::{BloomConstructionPolicy, Builder, contains_hash, filter_bound};
 use sst_sections::{Error, hash};
 use std::alloc::{Allocator, Global};
-use std::test::Fail;
 
 fn tenths(tenths: u32) -> BloomConstructionPolicy {
     BloomConstructionPolicy::BitsPerKey(tenths)
@@ -21,12 +20,17 @@ const SIZES: &[(u32, usize, usize, u64)] = &[
     (u32::MAX, usize::MAX, usize::MAX, u64::MAX),
 ];
 
+// Whether a filter has this size and this bound.
+fn is_sized(case: &(u32, usize, usize, u64)) -> bool {
+    let (bits, keys, size, bound) = *case;
+    let policy = tenths(bits);
+    policy.estimated_filter_size(keys) == size && filter_bound(&policy, keys) == bound
+}
+
 #[test]
 fn sizes_of_filters(rt: HostRuntime) {
-    for &(bits, keys, size, bound) in SIZES {
-        let policy = tenths(bits);
-        assert!(rt; policy.estimated_filter_size(keys) == size, "{bits} {keys}");
-        assert!(rt; filter_bound(&policy, keys) == bound, "{bits} {keys}");
+    for case in SIZES {
+        assert!(rt; is_sized(case));
     }
     assert!(rt; BloomConstructionPolicy::default() == tenths(100));
     assert!(rt; tenths(1).is_active() && !tenths(0).is_active());
@@ -50,23 +54,33 @@ pub(crate) fn payload_of<A: Allocator>(
 pub(crate) const ONE_KEY: &[u8; 9] = &[6, 1, 0x30, 0, 2, 0x40, 0, 8, 0];
 
 #[test]
-fn one_key_at_ten_bits(rt: HostRuntime) -> Result<(), Fail> {
+fn one_key_at_ten_bits(rt: HostRuntime) {
     let payload = payload_of(rt.alloc(), tenths(100), 1, &[b"a"]);
-    let is_as_expected = asked(payload, |payload| payload.as_slice() == ONE_KEY.as_slice())?;
-    assert!(rt; is_as_expected);
+    assert!(rt; holds(are_bytes(payload, ONE_KEY)));
     assert!(rt; contains_hash(ONE_KEY, hash(b"a")));
     assert!(rt; !contains_hash(ONE_KEY, hash(b"")));
-    Ok(())
 }
 
-// The first byte of the payload of a filter of no keys, and whether all others are 0.
-fn of_no_keys(alloc: Global, bits: u32) -> Result<(Option<u8>, bool), Error> {
-    asked(payload_of(alloc, tenths(bits), 0, &[]), |payload| {
-        (
-            payload.first().copied(),
-            payload.iter().skip(1).all(|byte| *byte == 0),
-        )
-    })
+fn are_zero(bytes: &[u8]) -> bool {
+    for byte in bytes {
+        if *byte != 0 {
+            return false;
+        }
+    }
+    true
+}
+
+// The first byte, and whether all others are 0.
+fn first_and_rest(payload: &Vec<u8>) -> Option<(u8, bool)> {
+    match payload.as_slice() {
+        [first, rest @ ..] => Some((*first, are_zero(rest))),
+        [] => None,
+    }
+}
+
+// These of the payload of a filter of no keys.
+fn of_no_keys(alloc: Global, bits: u32) -> Result<Option<(u8, bool)>, Error> {
+    asked(payload_of(alloc, tenths(bits), 0, &[]), first_and_rest)
 }
 
 // Tenths of a bit for each key, and the number of probes.
@@ -80,25 +94,31 @@ const PROBES: &[(u32, u8)] = &[
 ];
 
 #[test]
-fn probes_by_bits_a_key(rt: HostRuntime) -> Result<(), Fail> {
+fn probes_by_bits_a_key(rt: HostRuntime) {
     for &(bits, probes) in PROBES {
-        assert!(rt;
-            of_no_keys(rt.alloc(), bits)? == (Some(probes), true),
-            "{bits}"
-        );
+        assert!(rt; is_answer(of_no_keys(rt.alloc(), bits), Some((probes, true))));
     }
-    Ok(())
+}
+
+// Numbers of keys that have a byte each, and whether their filter is too large.
+const LARGE: &[(usize, bool)] = &[(4_294_967_270, false), (4_294_967_271, true)];
+
+// Whether a filter of so many keys, of 8 bits each, is bounded by four gigabytes or more.
+fn is_large(keys: usize) -> bool {
+    filter_bound(&tenths(80), keys) >= 1 << 32
+}
+
+// Whether such a filter is refused.
+fn is_refused(alloc: Global, keys: usize) -> bool {
+    matches!(tenths(80).init(alloc, keys), Err(Error::BlockTooLarge))
 }
 
 #[test]
 fn a_filter_of_four_gigabytes_is_refused(rt: HostRuntime) {
-    // 8 bits a key, so that a key has a byte
-    for (keys, refused) in [(4_294_967_270, false), (4_294_967_271, true)] {
-        let large = filter_bound(&tenths(80), keys) >= 1 << 32;
-        assert!(rt; large == refused, "{keys}");
+    for &(keys, refused) in LARGE {
+        assert!(rt; is_large(keys) == refused);
     }
-    let answer = tenths(80).init(rt.alloc(), 4_294_967_271);
-    assert!(rt; matches!(answer, Err(Error::BlockTooLarge)));
+    assert!(rt; is_refused(rt.alloc(), 4_294_967_271));
 }
 
 // Whether a filter is built, or memory is refused where it may be.
@@ -111,6 +131,6 @@ fn is_built(heap: &Refusing, may_fail: bool) -> bool {
 
 #[test]
 fn a_filter_takes_memory_once(rt: HostRuntime) {
-    let answers = each_refused(rt.alloc(), |heap, may_fail| is_built(heap, may_fail));
+    let answers = each_refused(rt.alloc(), is_built);
     assert!(rt; answers == Ok(1));
 }

@@ -1,22 +1,25 @@
 //! Hashes, and the bytes of blocks.
+ghost use Rattle.std.specs.Prelude.{◌≡◌, []};
+
+use crate::large::{asked, finished, is_answer};
 use sst_blocks::{
     Block, BlockHandle, BlockType, CompressionType, Error, Header, SectionName, SectionWriter,
     Slice, hash,
 };
 use std::alloc::Global;
-use std::test::Fail;
 
 // The vectors are those of http://www.isthe.com/chongo/src/fnv/test_fnv.c.
+const VECTORS: &[(&[u8], u64)] = &[
+    (b"", 0xcbf2_9ce4_8422_2325),
+    (b"a", 0xaf63_dc4c_8601_ec8c),
+    (b"b", 0xaf63_df4c_8601_f1a5),
+    (b"foobar", 0x8594_4171_f739_67e8),
+];
+
 #[test]
 fn hashes_of_byte_strings(rt: HostRuntime) {
-    let vectors: [(&[u8], u64); 4] = [
-        (b"", 0xcbf2_9ce4_8422_2325),
-        (b"a", 0xaf63_dc4c_8601_ec8c),
-        (b"b", 0xaf63_df4c_8601_f1a5),
-        (b"foobar", 0x8594_4171_f739_67e8),
-    ];
-    for (bytes, expected) in vectors {
-        assert_eq!(rt; hash(bytes), expected);
+    for &(bytes, expected) in VECTORS {
+        assert!(rt; hash(bytes) == expected);
     }
 }
 
@@ -44,13 +47,19 @@ fn write_both(writer: &mut SectionWriter) -> Result<[(u64, u32); 2], Error> {
     Ok([lies(first), lies(second)])
 }
 
+// Starts a section with both blocks.
+fn start_with_both(writer: &mut SectionWriter) -> Result<[(u64, u32); 2], Error>
+    requires { writer.old.started ≡ [] }
+{
+    writer.start(SectionName::Data)?;
+    write_both(writer)
+}
+
 // Where both blocks lie, and the bytes with them and their checksum.
 fn two_blocks(alloc: Global) -> Result<([(u64, u32); 2], Slice, u128), Error> {
     let mut writer = SectionWriter::new(alloc)?;
-    writer.start(SectionName::Data)?;
-    let both = write_both(&mut writer)?;
-    let (bytes, checksum) = writer.finish()?;
-    Ok((both, bytes, checksum.0))
+    let both = start_with_both(&mut writer);
+    finished(writer, both)
 }
 
 // Whether some bytes begin with both blocks: header and payload, and a header more and the filter.
@@ -61,23 +70,20 @@ fn begin_with_both(bytes: &[u8]) -> bool {
 }
 
 // Where both blocks lie, whether the bytes hold them there, and whether the checksum is the bytes' hash.
-fn as_bytes(alloc: Global) -> Result<([(u64, u32); 2], bool, bool), Error> {
-    let (both, bytes, checksum) = two_blocks(alloc)?;
+fn as_bytes(written: &([(u64, u32); 2], Slice, u128)) -> ([(u64, u32); 2], bool, bool) {
+    let (both, bytes, checksum) = written;
     let bytes = bytes.as_slice();
-    Ok((
-        both,
+    (
+        *both,
         begin_with_both(bytes),
-        checksum == u128::from(hash(bytes)),
-    ))
+        *checksum == u128::from(hash(bytes)),
+    )
 }
 
 // Two hashes are made at once here, the payload's and that of all bytes.
 #[test]
-fn blocks_as_bytes(rt: HostRuntime) -> Result<(), Fail> {
-    let (both, are_there, is_their_hash) = as_bytes(rt.alloc())?;
-    assert_eq!(rt; both, [(0, 47), (47, 26)]);
-    assert_eq!(rt; Header::serialized_len(), 24);
-    assert!(rt; are_there);
-    assert!(rt; is_their_hash);
-    Ok(())
+fn blocks_as_bytes(rt: HostRuntime) {
+    let told = asked(two_blocks(rt.alloc()), as_bytes);
+    assert!(rt; is_answer(told, ([(0, 47), (47, 26)], true, true)));
+    assert!(rt; Header::serialized_len() == 24);
 }
