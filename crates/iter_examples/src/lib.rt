@@ -6,3 +6,7 @@
 mod one_answer;
 #[cfg(test)]
 mod ranges;
+#[cfg(test)]
+mod walks;
+#[cfg(test)]
+mod written;

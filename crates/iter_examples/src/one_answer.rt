@@ -1,17 +1,14 @@
 //! All reads of tables of one list, under each kind of index and of filter.
-ghost use Rattle.std.specs.Prelude.{IfOk};
-ghost use Rattle.lsm_writers.specs.Writing.{IsFresh};
-
-use example_tables::large::{asked, asked_mut};
-use example_tables::rows::{Row, fill, new_writer};
-use lsm_tables::{Iter, PointAndScan, Ranges, Scanner, Table, read_each_way};
-use lsm_writers::{BloomConstructionPolicy, Writer};
-use sst_blocks::{Checksum, Error, IterItem, SeqNo, Slice, ValueType};
-use std::alloc::{Allocator, Global};
+use crate::walks::{Name, Walk};
+use crate::written::{Parted, bytes_of};
+use example_tables::large::asked;
+use example_tables::rows::Row;
+use lsm_tables::{Iter, Scanner, Table, read_each_way};
+use sst_blocks::{Checksum, Direction, Error, InternalValue, Slice, ValueType};
+use std::alloc::Global;
 use std::ops::Bound;
-use std::test::Fail;
 
-const ROWS: [Row<'static>; 5] = [
+const ROWS: &[Row<'static>] = &[
     (b"a", 9, ValueType::Value, b"v"),
     (b"a", 7, ValueType::Tombstone, b""),
     (b"b", 1, ValueType::Value, b"w"),
@@ -19,19 +16,10 @@ const ROWS: [Row<'static>; 5] = [
     (b"c", 2, ValueType::Value, b"x"),
 ];
 
-// What is in partitions, of a handle or a key each.
-#[derive(Clone, Copy, Debug, PartialEq, Eq)]
-enum Parted {
-    Nothing,
-    Index,
-    Filter,
-    Both,
-}
-
 // What is in partitions, the filter's bits for a key, in tenths, and whether filter and index stay loaded.
 type Kind = (Parted, u32, bool, bool);
 
-const KINDS: [Kind; 10] = [
+const KINDS: &[Kind] = &[
     (Parted::Nothing, 0, true, true),
     (Parted::Nothing, 0, false, false),
     (Parted::Nothing, 100, true, true),
@@ -44,124 +32,14 @@ const KINDS: [Kind; 10] = [
     (Parted::Both, 100, true, true),
 ];
 
-fn writer_of(alloc: Global, bits: u32) -> Result<Writer<Global>, Error>
-    ensures { IfOk result (λ w. IsFresh w) }
-{
-    Ok(
-        new_writer(alloc)?
-            .use_data_block_size(0)
-            .use_bloom_policy(BloomConstructionPolicy::BitsPerKey(bits)),
-    )
-}
-
-fn whole(alloc: Global, bits: u32) -> Result<Slice<Global>, Error> {
-    Ok(fill(writer_of(alloc, bits)?, alloc, &ROWS)?.bytes)
-}
-
-fn index_in_parts(alloc: Global, bits: u32) -> Result<Slice<Global>, Error> {
-    let writer = writer_of(alloc, bits)?
-        .use_partitioned_index()
-        .use_meta_partition_size(1);
-    Ok(fill(writer, alloc, &ROWS)?.bytes)
-}
-
-fn filter_in_parts(alloc: Global, bits: u32) -> Result<Slice<Global>, Error> {
-    let writer = writer_of(alloc, bits)?
-        .use_partitioned_filter()
-        .use_meta_partition_size(1);
-    Ok(fill(writer, alloc, &ROWS)?.bytes)
-}
-
-fn both_in_parts(alloc: Global, bits: u32) -> Result<Slice<Global>, Error> {
-    let writer = writer_of(alloc, bits)?
-        .use_partitioned_index()
-        .use_partitioned_filter()
-        .use_meta_partition_size(1);
-    Ok(fill(writer, alloc, &ROWS)?.bytes)
-}
-
-fn bytes_of(alloc: Global, parted: Parted, bits: u32) -> Result<Slice<Global>, Error> {
-    match parted {
-        Parted::Nothing => whole(alloc, bits),
-        Parted::Index => index_in_parts(alloc, bits),
-        Parted::Filter => filter_in_parts(alloc, bits),
-        Parted::Both => both_in_parts(alloc, bits),
-    }
-}
-
-// A key of one byte at most, by that byte, and a number.
-type Name = (Option<u8>, SeqNo);
-
-fn name_of<A: Allocator>(item: IterItem<A>) -> Result<Name, Error> {
-    let item = item?;
-    let first = item.key.user_key.as_slice().first().copied();
-    Ok((first, item.key.seqno))
-}
-
-// The first entries that are given.
-type Names = [Option<Name>; 6];
-
-fn forwards<A: Allocator + Clone>(items: &mut Iter<A>) -> Result<Names, Error> {
-    let mut names = [None; 6];
-    for place in &mut names {
-        match items.next() {
-            Some(item) => *place = Some(name_of(item)?),
-            None => return Ok(names),
+// Whether the first steps at an end give these names.
+fn gives<W: Walk>(walked: &mut W, end: Direction, names: &[Option<Name>]) -> Result<bool, Error> {
+    for name in names {
+        if walked.step(end)? != *name {
+            return Ok(false);
         }
     }
-    Ok(names)
-}
-
-fn backwards<A: Allocator + Clone>(items: &mut Iter<A>) -> Result<Names, Error> {
-    let mut names = [None; 6];
-    for place in &mut names {
-        match items.next_back() {
-            Some(item) => *place = Some(name_of(item)?),
-            None => return Ok(names),
-        }
-    }
-    Ok(names)
-}
-
-fn scanned<A: Allocator + Clone>(items: &mut Scanner<A>) -> Result<Names, Error> {
-    let mut names = [None; 6];
-    for place in &mut names {
-        match items.next() {
-            Some(item) => *place = Some(name_of(item)?),
-            None => return Ok(names),
-        }
-    }
-    Ok(names)
-}
-
-// What a point read of a below 19 finds, what lies above a up to c, from the back, all entries, and what a scan gives.
-type Answers = (Option<SeqNo>, Names, Names, Names);
-
-// All reads of a table.
-type Reads = (PointAndScan<Global>, Ranges<Global>);
-
-fn taken(reads: &mut Reads) -> Result<Answers, Error> {
-    let found = reads.0.0.as_ref().map(|item| item.key.seqno);
-    let range = backwards(&mut reads.1.0)?;
-    let all = forwards(&mut reads.1.1)?;
-    Ok((found, range, all, scanned(&mut reads.0.1)?))
-}
-
-fn all_reads(alloc: Global, table: &Table<Global>) -> Result<Reads, Error> {
-    let lower = Bound::Excluded(Slice::from(alloc, b"a")?);
-    let upper = Bound::Included(Slice::from(alloc, b"c")?);
-    read_each_way(table, b"a", 19, lower, upper)
-}
-
-fn answers(alloc: Global, table: &Table<Global>) -> Result<Answers, Error> {
-    asked_mut(all_reads(alloc, table), |reads| taken(reads))
-}
-
-// Those of a table whose global number is 10.
-fn answers_of(alloc: Global, kind: &Kind) -> Result<Answers, Error> {
-    let bytes = bytes_of(alloc, kind.0, kind.1)?;
-    let table = Table::recover(alloc, bytes, Checksum(0), 10, 0, kind.2, kind.3);
-    asked(table, |table| answers(alloc, table))
+    Ok(true)
 }
 
 const A19: Option<Name> = Some((Some(b'a'), 19));
@@ -174,16 +52,65 @@ const C16: Option<Name> = Some((Some(b'c'), 16));
 
 const C12: Option<Name> = Some((Some(b'c'), 12));
 
-const ALL: Names = [A19, A17, B11, C16, C12, None];
+const ALL: &[Option<Name>] = &[A19, A17, B11, C16, C12, None];
+
+const ABOVE_A: &[Option<Name>] = &[C12, C16, B11, None];
+
+// What a point read finds and a scan, and two ranges.
+type Reads<S, R> = ((Option<InternalValue<Global>>, S), (R, R));
+
+// Whether they give what they should: a point read of a below 19, from the back what lies above a up to c, all entries, and what
+// a scan gives.
+fn all_give<S: Walk, R: Walk>(reads: &mut Reads<S, R>) -> Result<bool, Error> {
+    match &reads.0.0 {
+        Some(item) if item.key.seqno == 17 => {}
+        _ => return Ok(false),
+    }
+    Ok(
+        gives(&mut reads.1.0, Direction::Back, ABOVE_A)?
+            && gives(&mut reads.1.1, Direction::Front, ALL)?
+            && gives(&mut reads.0.1, Direction::Front, ALL)?,
+    )
+}
+
+// The same of reads that there may be none of.
+fn reads_give<S: Walk + Drop, R: Walk + Drop>(
+    reads: Result<Reads<S, R>, Error>,
+) -> Result<bool, Error> {
+    all_give(&mut reads?)
+}
+
+fn all_reads(
+    alloc: Global,
+    table: &Table<Global>,
+) -> Result<Reads<Scanner<Global>, Iter<Global>>, Error> {
+    let lower = Bound::Excluded(Slice::from(alloc, b"a")?);
+    let upper = Bound::Included(Slice::from(alloc, b"c")?);
+    read_each_way(table, b"a", 19, lower, upper)
+}
+
+fn table_gives(alloc: Global, table: &Table<Global>) -> Result<bool, Error> {
+    reads_give(all_reads(alloc, table))
+}
+
+// Whether those of a table whose global number is 10 do.
+fn kind_gives(alloc: Global, kind: &Kind) -> Result<bool, Error> {
+    let bytes = bytes_of(alloc, &kind.0, ROWS, kind.1, 0)?;
+    let table = Table::recover(alloc, bytes, Checksum(0), 10, 0, kind.2, kind.3);
+    asked(table, |table| table_gives(alloc, table))
+}
+
+// Whether those of all kinds do.
+fn kinds_give(alloc: Global) -> bool {
+    for kind in KINDS {
+        if kind_gives(alloc, kind) != Ok(true) {
+            return false;
+        }
+    }
+    true
+}
 
 #[test]
-fn each_index_and_filter_gives_the_same(rt: HostRuntime) -> Result<(), Fail> {
-    for kind in &KINDS {
-        let found = answers_of(rt.alloc(), kind);
-        assert_eq!(rt;
-            found,
-            Ok((Some(17), [C12, C16, B11, None, None, None], ALL, ALL))
-        );
-    }
-    Ok(())
+fn each_index_and_filter_gives_the_same(rt: HostRuntime) {
+    assert!(rt; kinds_give(rt.alloc()));
 }

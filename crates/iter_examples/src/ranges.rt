@@ -1,17 +1,16 @@
 //! Ranges of tables from both ends, under each kind of index.
-use example_tables::large::{asked, asked_mut};
-use example_tables::rows::{Row, fill, new_writer, written};
+use crate::walks::{Counted, Name, Walk};
+use crate::written::{Parted, bytes_of};
+use example_tables::large::asked;
+use example_tables::rows::{Row, written};
+use example_tables::runs::{ALL, Bounds, owned_range};
 use example_tables::stored::{one_entry, two_levels};
 use example_tables::tables::{open, overwritten};
 use lsm_tables::{Iter, Table};
 use refusing::{Refusing, each_refused};
-use sst_blocks::{Checksum, Direction, Error, IterItem, SeqNo, Slice, UserKey, ValueType};
+use sst_blocks::{Checksum, Direction, Error, SeqNo, Slice, ValueType};
 use std::alloc::{Allocator, Global};
 use std::ops::Bound;
-use std::test::Fail;
-
-// A key of one byte at most, by that byte, and a number.
-type Name = (Option<u8>, SeqNo);
 
 // A step, and the entry that it gives, if any.
 type Step = (Direction, Option<Name>);
@@ -28,39 +27,12 @@ const A5: Option<Name> = Some((Some(b'a'), 5));
 
 const B1: Option<Name> = Some((Some(b'b'), 1));
 
-type Bounds<'a> = (Bound<&'a [u8]>, Bound<&'a [u8]>);
-
-const ALL: Bounds<'static> = (Bound::Unbounded, Bound::Unbounded);
-
-const ROWS: [Row<'static>; 4] = [
+const ROWS: &[Row<'static>] = &[
     (b"a", 9, ValueType::Value, b""),
     (b"a", 7, ValueType::Value, b""),
     (b"a", 5, ValueType::Value, b""),
     (b"b", 1, ValueType::Value, b""),
 ];
-
-// The bytes of a table of some rows, whose index is one block.
-fn full_index<A: Allocator + Copy>(
-    alloc: A,
-    rows: &[Row<'_>],
-    block_size: u32,
-) -> Result<Slice<A>, Error> {
-    let writer = new_writer(alloc)?.use_data_block_size(block_size.min(3));
-    Ok(fill(writer, alloc, rows)?.bytes)
-}
-
-// The same with a partition of the index for each handle.
-fn partitioned_index<A: Allocator + Copy>(
-    alloc: A,
-    rows: &[Row<'_>],
-    block_size: u32,
-) -> Result<Slice<A>, Error> {
-    let writer = new_writer(alloc)?
-        .use_data_block_size(block_size.min(3))
-        .use_partitioned_index()
-        .use_meta_partition_size(1);
-    Ok(fill(writer, alloc, rows)?.bytes)
-}
 
 fn open_with<A: Allocator + Copy>(
     alloc: A,
@@ -70,58 +42,30 @@ fn open_with<A: Allocator + Copy>(
     Table::recover(alloc, bytes, Checksum(0), 0, 0, false, pin_index)
 }
 
-// A bound with a key of its own.
-fn owned<A: Allocator + Copy>(alloc: A, bound: Bound<&[u8]>) -> Result<Bound<UserKey<A>>, Error> {
-    match bound {
-        Bound::Included(key) => Ok(Bound::Included(Slice::from(alloc, key)?)),
-        Bound::Excluded(key) => Ok(Bound::Excluded(Slice::from(alloc, key)?)),
-        Bound::Unbounded => Ok(Bound::Unbounded),
-    }
-}
-
 fn range_of<A: Allocator + Copy>(
     alloc: A,
     table: &Table<A>,
     bounds: Bounds<'_>,
 ) -> Result<Iter<A>, Error> {
-    let lower = owned(alloc, bounds.0)?;
-    let upper = owned(alloc, bounds.1)?;
+    let (lower, upper) = owned_range(alloc, bounds)?;
     table.range(lower, upper)
 }
 
 // A range of a table that is gone before the first step.
 fn range_in<A: Allocator + Copy>(
     alloc: A,
-    bytes: Slice<A>,
+    bytes: Result<Slice<A>, Error>,
     pin_index: bool,
     bounds: Bounds<'_>,
 ) -> Result<Iter<A>, Error> {
-    let table = open_with(alloc, bytes, pin_index);
+    let table = open_with(alloc, bytes?, pin_index);
     asked(table, |table| range_of(alloc, table, bounds))
 }
 
-fn name_of<A: Allocator>(item: Option<IterItem<A>>) -> Result<Option<Name>, Error> {
-    match item {
-        Some(Ok(item)) => {
-            let first = item.key.user_key.as_slice().first().copied();
-            Ok(Some((first, item.key.seqno)))
-        }
-        Some(Err(error)) => Err(error),
-        None => Ok(None),
-    }
-}
-
-fn step<A: Allocator + Copy>(iter: &mut Iter<A>, end: Direction) -> Result<Option<Name>, Error> {
-    match end {
-        Direction::Front => name_of(iter.next()),
-        Direction::Back => name_of(iter.next_back()),
-    }
-}
-
 // Whether the steps of an iterator give what they should.
-fn gives<A: Allocator + Copy>(iter: &mut Iter<A>, steps: &[Step]) -> Result<bool, Error> {
+fn gives<W: Walk>(iter: &mut W, steps: &[Step]) -> Result<bool, Error> {
     for (end, name) in steps {
-        if step(iter, *end)? != *name {
+        if iter.step(*end)? != *name {
             return Ok(false);
         }
     }
@@ -137,7 +81,7 @@ type Case = (Bounds<'static>, &'static [Step], u64, u64);
 
 const FROM_BOTH_ENDS: &[Step] = &[(F, A9), (B, B1), (F, A7), (B, A5), (F, None)];
 
-const CASES: [Case; 7] = [
+const CASES: &[Case] = &[
     (
         (Bound::Excluded(A_KEY), Bound::Unbounded),
         &[(F, B1), (B, None)],
@@ -178,68 +122,94 @@ const CASES: [Case; 7] = [
 ];
 
 // Whether the steps give what they should, and how many blocks of data and of the index they load.
-fn dealt<A: Allocator + Copy>(
-    iter: &mut Iter<A>,
+fn dealt<W: Counted + Drop>(
+    iter: Result<W, Error>,
     steps: &[Step],
 ) -> Result<(bool, u64, u64), Error> {
-    let right = gives(iter, steps)?;
-    let opened = iter.opened();
-    Ok((right, opened.data_loads, opened.index_loads))
+    let mut iter = iter?;
+    let right = gives(&mut iter, steps)?;
+    let (data, index) = iter.loads();
+    Ok((right, data, index))
 }
 
-fn outcome(
+// The bytes of the same table, as an earlier version stored it.
+fn older<A: Allocator + Copy>(alloc: A) -> Result<Slice<A>, Error> {
+    Ok(Slice::from(alloc, &two_levels::BYTES)?)
+}
+
+// A kind of index: one that stays loaded, one on demand, one of two levels, and one as an earlier version stored it.
+enum Kind {
+    Loaded,
+    OnDemand,
+    TwoLevels,
+    Older,
+}
+
+// The bytes of a table of some rows by a kind of index; of the kind that was stored those of its own rows.
+fn bytes_by(
     alloc: Global,
-    bytes: Result<Slice<Global>, Error>,
-    pin_index: bool,
-    case: &Case,
-) -> Result<(bool, u64, u64), Error> {
-    let iter = range_in(alloc, bytes?, pin_index, case.0);
-    asked_mut(iter, |iter| dealt(iter, case.1))
+    kind: &Kind,
+    rows: &[Row<'_>],
+    block_size: u32,
+) -> Result<Slice<Global>, Error> {
+    match kind {
+        Kind::Loaded | Kind::OnDemand => bytes_of(alloc, &Parted::Nothing, rows, 0, block_size),
+        Kind::TwoLevels => bytes_of(alloc, &Parted::Index, rows, 0, block_size),
+        Kind::Older => older(alloc),
+    }
+}
+
+// Whether what can stay loaded of the index does.
+fn pins_index(kind: &Kind) -> bool {
+    match kind {
+        Kind::OnDemand => false,
+        Kind::Loaded | Kind::TwoLevels | Kind::Older => true,
+    }
+}
+
+fn outcome(alloc: Global, kind: &Kind, case: &Case) -> Result<(bool, u64, u64), Error> {
+    let bytes = bytes_by(alloc, kind, ROWS, 0);
+    dealt(range_in(alloc, bytes, pins_index(kind), case.0), case.1)
+}
+
+// How many blocks of the index a case loads.
+fn index_loads(kind: &Kind, case: &Case) -> u64 {
+    match kind {
+        Kind::Loaded => 0,
+        Kind::OnDemand => 1,
+        Kind::TwoLevels | Kind::Older => case.3,
+    }
+}
+
+// Whether all cases come out so.
+fn are_dealt(alloc: Global, kind: &Kind) -> bool {
+    for case in CASES {
+        if outcome(alloc, kind, case) != Ok((true, case.2, index_loads(kind, case))) {
+            return false;
+        }
+    }
+    true
 }
 
 #[test]
-fn ranges_by_an_index_that_stays_loaded(rt: HostRuntime) -> Result<(), Fail> {
-    for case in &CASES {
-        let found = outcome(rt.alloc(), full_index(rt.alloc(), &ROWS, 0), true, case)?;
-        assert_eq!(rt; found, (true, case.2, 0));
-    }
-    Ok(())
+fn ranges_by_an_index_that_stays_loaded(rt: HostRuntime) {
+    assert!(rt; are_dealt(rt.alloc(), &Kind::Loaded));
 }
 
 #[test]
-fn ranges_by_an_index_on_demand(rt: HostRuntime) -> Result<(), Fail> {
-    for case in &CASES {
-        let found = outcome(rt.alloc(), full_index(rt.alloc(), &ROWS, 0), false, case)?;
-        assert_eq!(rt; found, (true, case.2, 1));
-    }
-    Ok(())
+fn ranges_by_an_index_on_demand(rt: HostRuntime) {
+    assert!(rt; are_dealt(rt.alloc(), &Kind::OnDemand));
 }
 
 #[test]
-fn ranges_by_an_index_of_two_levels(rt: HostRuntime) -> Result<(), Fail> {
-    for case in &CASES {
-        let found = outcome(
-            rt.alloc(),
-            partitioned_index(rt.alloc(), &ROWS, 0),
-            true,
-            case,
-        )?;
-        assert_eq!(rt; found, (true, case.2, case.3));
-    }
-    Ok(())
+fn ranges_by_an_index_of_two_levels(rt: HostRuntime) {
+    assert!(rt; are_dealt(rt.alloc(), &Kind::TwoLevels));
 }
 
 // The same table, as an earlier version was stored.
 #[test]
-fn ranges_of_a_table_of_the_older_version(rt: HostRuntime) -> Result<(), Fail> {
-    for case in &CASES {
-        let bytes = Slice::from(rt.alloc(), &two_levels::BYTES)?;
-        assert_eq!(rt;
-            outcome(rt.alloc(), Ok(bytes), true, case)?,
-            (true, case.2, case.3)
-        );
-    }
-    Ok(())
+fn ranges_of_a_table_of_the_older_version(rt: HostRuntime) {
+    assert!(rt; are_dealt(rt.alloc(), &Kind::Older));
 }
 
 // ---- all ranges of small lists
@@ -260,22 +230,24 @@ fn small_shape(number: u32) -> Option<Shape> {
     }
 }
 
-// Some rows, and behind them the versions of a key.
-fn with_versions(
-    mut rows: Vec<Row<'static>, Global>,
+// Appends the versions of a key.
+fn put_versions(
+    rows: &mut Vec<Row<'static>, Global>,
     key: &'static [u8],
     count: u32,
-) -> Result<Vec<Row<'static>, Global>, Error> {
+) -> Result<(), Error> {
     for behind in 0..count {
         rows.push((key, SeqNo::from(count - behind), ValueType::Value, b""))?;
     }
-    Ok(rows)
+    Ok(())
 }
 
 fn rows_of(alloc: Global, shape: &Shape) -> Result<Vec<Row<'static>, Global>, Error> {
-    let rows = with_versions(Vec::new(alloc), KEYS[0], shape[0])?;
-    let rows = with_versions(rows, KEYS[1], shape[1])?;
-    with_versions(rows, KEYS[2], shape[2])
+    let mut rows = Vec::new(alloc);
+    for (key, count) in KEYS.iter().zip(shape.iter()) {
+        put_versions(&mut rows, key, *count)?;
+    }
+    Ok(rows)
 }
 
 // One of seven bounds: one of the keys, included or excluded, or none.
@@ -354,16 +326,25 @@ fn taken(names: &[Name], ends: u32) -> [Option<Name>; 5] {
 }
 
 // Whether five steps at these ends give these names.
-fn deals(iter: &mut Iter<Global>, names: &[Option<Name>; 5], ends: u32) -> Result<bool, Error> {
+fn deals<W: Walk>(iter: &mut W, names: &[Option<Name>; 5], ends: u32) -> Result<bool, Error> {
     let mut ends = ends;
     for name in names {
         let end = if ends % 2 == 1 { B } else { F };
-        if step(iter, end)? != *name {
+        if iter.step(end)? != *name {
             return Ok(false);
         }
         ends /= 2;
     }
     Ok(true)
+}
+
+// The same of an iterator that there may be none of.
+fn all_deal<W: Walk + Drop>(
+    iter: Result<W, Error>,
+    names: &[Option<Name>; 5],
+    ends: u32,
+) -> Result<bool, Error> {
+    deals(&mut iter?, names, ends)
 }
 
 fn ends_deal(
@@ -373,11 +354,7 @@ fn ends_deal(
     bounds: Bounds<'static>,
     ends: u32,
 ) -> Result<bool, Error> {
-    let names = taken(names, ends);
-    asked_mut(
-        range_of(alloc, table, bounds),
-        |iter| deals(iter, &names, ends),
-    )
+    all_deal(range_of(alloc, table, bounds), &taken(names, ends), ends)
 }
 
 // Whether a range of a table deals these names, whatever five ends are asked.
@@ -402,8 +379,8 @@ fn all_ends_deal(
     rows: &[Row<'static>],
     bounds: Bounds<'static>,
 ) -> Result<bool, Error> {
-    let names = names_within(alloc, rows, bounds);
-    asked(names, |names| names_deal(alloc, table, names, bounds))
+    let names = names_within(alloc, rows, bounds)?;
+    names_deal(alloc, table, &names, bounds)
 }
 
 // The first of all pairs of bounds whose range comes out wrong.
@@ -431,51 +408,67 @@ fn wrong_range(
     asked(table, |table| wrong_pair(alloc, table, rows))
 }
 
-// With a block for each entry, by an index of two levels.
-#[test]
-fn all_ranges_of_small_lists_by_two_levels(rt: HostRuntime) -> Result<(), Fail> {
+// The first wrong range of the list of a number, with blocks of some size, if the number is that of a small list.
+fn wrong_in(
+    alloc: Global,
+    kind: &Kind,
+    block_size: u32,
+    number: u32,
+) -> Result<Option<u32>, Error> {
+    let Some(shape) = small_shape(number) else {
+        return Ok(None);
+    };
+    let rows = rows_of(alloc, &shape)?;
+    let bytes = bytes_by(alloc, kind, &rows, block_size);
+    wrong_range(alloc, bytes, pins_index(kind), &rows)
+}
+
+// Whether each range of each small list comes out right.
+fn all_are_right(alloc: Global, kind: &Kind, block_size: u32) -> bool {
     for number in 0..343_u32 {
-        if let Some(shape) = small_shape(number) {
-            let rows = rows_of(rt.alloc(), &shape)?;
-            let bytes = partitioned_index(rt.alloc(), &rows, 0);
-            assert_eq!(rt; wrong_range(rt.alloc(), bytes, true, &rows)?, None);
+        if wrong_in(alloc, kind, block_size, number) != Ok(None) {
+            return false;
         }
     }
-    Ok(())
+    true
+}
+
+// With a block for each entry, by an index of two levels.
+#[test]
+fn all_ranges_of_small_lists_by_two_levels(rt: HostRuntime) {
+    assert!(rt; all_are_right(rt.alloc(), &Kind::TwoLevels, 0));
 }
 
 // With blocks that entries of the empty key do not fill, by an index on demand.
 #[test]
-fn all_ranges_of_small_lists_on_demand(rt: HostRuntime) -> Result<(), Fail> {
-    for number in 0..343_u32 {
-        if let Some(shape) = small_shape(number) {
-            let rows = rows_of(rt.alloc(), &shape)?;
-            let bytes = full_index(rt.alloc(), &rows, 1);
-            assert_eq!(rt; wrong_range(rt.alloc(), bytes, false, &rows)?, None);
-        }
-    }
-    Ok(())
+fn all_ranges_of_small_lists_on_demand(rt: HostRuntime) {
+    assert!(rt; all_are_right(rt.alloc(), &Kind::OnDemand, 1));
 }
 
 // ---- want of memory
 
 // Whether nothing is left at either end.
-fn is_over<A: Allocator + Copy>(iter: &mut Iter<A>) -> bool {
-    iter.next().is_none() && iter.next_back().is_none()
+fn is_over<W: Walk>(iter: &mut W) -> bool {
+    iter.step(F) == Ok(None) && iter.step(B) == Ok(None)
 }
 
 // Whether the steps give what they should; an error where a step is refused, behind which nothing follows from either end.
-fn gives_or_ends<A: Allocator + Copy>(iter: &mut Iter<A>, steps: &[Step]) -> Result<bool, Error> {
-    match gives(iter, steps) {
+fn gives_or_ends<W: Walk + Drop>(iter: Result<W, Error>, steps: &[Step]) -> Result<bool, Error> {
+    let mut iter = iter?;
+    match gives(&mut iter, steps) {
         Ok(right) => Ok(right),
-        Err(error) => { if is_over(iter) { Err(error) } else { Ok(false) } }
+        Err(error) => {
+            if is_over(&mut iter) {
+                Err(error)
+            } else {
+                Ok(false)
+            }
+        }
     }
 }
 
 fn deals_from_both_ends<A: Allocator + Copy>(alloc: A) -> Result<bool, Error> {
-    let bytes = Slice::from(alloc, &two_levels::BYTES)?;
-    let iter = range_in(alloc, bytes, true, ALL);
-    asked_mut(iter, |iter| gives_or_ends(iter, FROM_BOTH_ENDS))
+    gives_or_ends(range_in(alloc, older(alloc), true, ALL), FROM_BOTH_ENDS)
 }
 
 // Whether the range is dealt, also where there is no memory for marks, or a refused request is answered as one.
@@ -487,12 +480,11 @@ fn is_dealt(heap: &Refusing, may_fail: bool) -> bool {
 }
 
 #[test]
-fn each_request_of_a_range_refused_is_told(rt: HostRuntime) -> Result<(), Fail> {
+fn each_request_of_a_range_refused_is_told(rt: HostRuntime) {
     let answers = each_refused(rt.alloc(), |heap, may_fail| is_dealt(heap, may_fail));
     let heap = Refusing::new(rt.alloc(), 0);
     assert!(rt; is_dealt(&heap, false));
-    assert_eq!(rt; answers, Ok(heap.requests()));
-    Ok(())
+    assert!(rt; answers == Ok(heap.requests()));
 }
 
 // ---- faults
@@ -502,33 +494,46 @@ fn iter_of(alloc: Global, bytes: Slice<Global>) -> Result<Iter<Global>, Error> {
 }
 
 // What the first step is refused, if it is, and whether nothing follows it.
-fn refused_step(iter: &mut Iter<Global>, end: Direction) -> (Option<Error>, bool) {
-    let refusal = step(iter, end).err();
-    (refusal, is_over(iter))
-}
-
-// What the first step over a stored table with some bytes changed is refused, if it is, and whether nothing follows it.
-fn refused(
-    alloc: Global,
-    changes: &[(usize, &[u8])],
+fn refused_step<W: Walk + Drop>(
+    iter: Result<W, Error>,
     end: Direction,
 ) -> Result<(Option<Error>, bool), Error> {
-    let bytes = overwritten(alloc, &one_entry::BYTES, changes)?;
-    asked_mut(iter_of(alloc, bytes), |iter| Ok(refused_step(iter, end)))
+    let mut iter = iter?;
+    let refusal = iter.step(end).err();
+    let over = is_over(&mut iter);
+    Ok((refusal, over))
+}
+
+// What bytes of a stored table are changed, the end of the first step, and what it is refused.
+type Fault = (&'static [(usize, &'static [u8])], Direction, Option<Error>);
+
+// Whether the first step over it is refused so, and nothing follows it.
+fn is_refused_so(alloc: Global, fault: &Fault) -> Result<bool, Error> {
+    let bytes = overwritten(alloc, &one_entry::BYTES, fault.0)?;
+    let (refusal, over) = refused_step(iter_of(alloc, bytes), fault.1)?;
+    Ok(over && refusal == fault.2)
+}
+
+const FAULTS: &[Fault] = &[
+    (&[(44, b"y")], F, Some(Error::ChecksumMismatch)),
+    (&[(44, b"y")], B, Some(Error::ChecksumMismatch)),
+    (&[(5, &[1])], F, Some(Error::UnsupportedCompression)),
+    (&[(5, &[1])], B, Some(Error::UnsupportedCompression)),
+    // its one entry is given
+    (&[], F, None),
+];
+
+// Whether all of them are.
+fn are_refused_so(alloc: Global) -> bool {
+    for fault in FAULTS {
+        if is_refused_so(alloc, fault) != Ok(true) {
+            return false;
+        }
+    }
+    true
 }
 
 #[test]
-fn the_fault_of_a_block_ends_all_from_either_end(rt: HostRuntime) -> Result<(), Fail> {
-    let faults: [(&[(usize, &[u8])], Direction, Option<Error>); 5] = [
-        (&[(44, b"y")], F, Some(Error::ChecksumMismatch)),
-        (&[(44, b"y")], B, Some(Error::ChecksumMismatch)),
-        (&[(5, &[1])], F, Some(Error::UnsupportedCompression)),
-        (&[(5, &[1])], B, Some(Error::UnsupportedCompression)),
-        // its one entry is given
-        (&[], F, None),
-    ];
-    for (changes, end, fault) in faults {
-        assert!(rt; refused(rt.alloc(), changes, end)? == (fault, true));
-    }
-    Ok(())
+fn the_fault_of_a_block_ends_all_from_either_end(rt: HostRuntime) {
+    assert!(rt; are_refused_so(rt.alloc()));
 }

@@ -1,19 +1,18 @@
 //! Lists that are written as tables, opened, put in a run and read.
+use crate::memory::{Read, is_right_refused};
 use example_tables::lists::{list_of, read_names};
 use example_tables::rows::Row;
-use example_tables::runs::{ALL, Bounds, Name, is_right, owned_range};
+use example_tables::runs::{ALL, Bounds, Name, owned_range};
 use lsm_ranges::Run;
 use lsm_tables::{Table, read_run_back, write_run};
 use lsm_writers::{TableIds, Timestamp};
-use refusing::{Refusing, each_refused};
 use sst_blocks::{Error, SeqNo, ValueType};
-use std::alloc::Allocator;
+use std::alloc::{Allocator, Global};
 use std::ops::Bound;
-use std::test::Fail;
 
 const BEFORE_B: Bounds<'static> = (Bound::Unbounded, Bound::Excluded(b"b"));
 
-const ROWS: [Row<'static>; 4] = [
+const ROWS: &[Row<'static>] = &[
     (b"a", 9, ValueType::Value, b"x"),
     (b"a", 7, ValueType::Tombstone, b""),
     (b"a", 5, ValueType::Value, b"y"),
@@ -23,7 +22,7 @@ const ROWS: [Row<'static>; 4] = [
 // A value that fills a block, and reaches a target of 1,024 bytes.
 const LONG: [u8; 8000] = [b'v'; 8000];
 
-const LONG_ROWS: [Row<'static>; 6] = [
+const LONG_ROWS: &[Row<'static>] = &[
     (b"a", 2, ValueType::Value, &LONG),
     (b"a", 1, ValueType::Value, &LONG),
     (b"a", 0, ValueType::Value, &LONG),
@@ -47,47 +46,96 @@ fn read_rows<A: Allocator + Copy>(
     }
 }
 
-// The global number, bounds, and the names that are read.
-type Case = (SeqNo, Bounds<'static>, [Option<Name>; 3]);
+// Some rows, the global number, bounds, and the names that are read; none of an empty list.
+type Case = (
+    &'static [Row<'static>],
+    SeqNo,
+    Bounds<'static>,
+    Option<&'static [Option<Name>]>,
+);
 
-const CASES: [Case; 3] = [
-    (0, ALL, [Some((b'a', 7)), Some((b'a', 9)), Some((b'b', 1))]),
-    (2, ALL, [Some((b'a', 7)), Some((b'a', 11)), Some((b'b', 3))]),
-    (0, BEFORE_B, [Some((b'a', 7)), None, Some((b'a', 9))]),
-];
+fn are_named(read: &Option<[Option<Name>; 3]>, names: Option<&[Option<Name>]>) -> bool {
+    match (read, names) {
+        (Some(read), Some(names)) => read.as_slice() == names,
+        (None, None) => true,
+        _ => false,
+    }
+}
+
+fn gives<A: Allocator + Copy>(alloc: A, case: &Case) -> Result<bool, Error> {
+    let read = read_rows(alloc, case.0, case.1, case.2)?;
+    Ok(are_named(&read, case.3))
+}
+
+// Whether a list gives what it should.
+fn is_read(alloc: Global, case: &Case) -> bool {
+    gives(alloc, case) == Ok(true)
+}
+
+const WHOLE: &Case = &(
+    ROWS,
+    0,
+    ALL,
+    Some(&[Some((b'a', 7)), Some((b'a', 9)), Some((b'b', 1))]),
+);
+
+const LIFTED: &Case = &(
+    ROWS,
+    2,
+    ALL,
+    Some(&[Some((b'a', 7)), Some((b'a', 11)), Some((b'b', 3))]),
+);
+
+const ONE_KEY: &Case = &(
+    ROWS,
+    0,
+    BEFORE_B,
+    Some(&[Some((b'a', 7)), None, Some((b'a', 9))]),
+);
+
+const EMPTY: &Case = &(&[], 0, ALL, None);
 
 #[test]
-fn a_list_is_read_back_from_its_run(rt: HostRuntime) -> Result<(), Fail> {
-    for (global_seqno, bounds, names) in CASES {
-        assert!(rt; read_rows(rt.alloc(), &ROWS, global_seqno, bounds)? == Some(names));
-    }
-    assert!(rt; read_rows(rt.alloc(), &[], 0, ALL)? == None);
-    Ok(())
+fn a_list_is_read_back_from_its_run(rt: HostRuntime) {
+    assert!(rt; is_read(rt.alloc(), WHOLE));
+    assert!(rt; is_read(rt.alloc(), LIFTED));
+    assert!(rt; is_read(rt.alloc(), ONE_KEY));
+    assert!(rt; is_read(rt.alloc(), EMPTY));
 }
+
+const TOO_LARGE: &Case = &(ROWS, u64::MAX - 8, ALL, None);
 
 #[test]
 fn a_number_that_passes_the_largest_one_refuses_the_run(rt: HostRuntime) {
-    let refused = Err(Error::GlobalSeqNoTooLarge);
-    assert!(rt; read_rows(rt.alloc(), &ROWS, u64::MAX - 8, ALL) == refused);
+    assert!(rt; gives(rt.alloc(), TOO_LARGE) == Err(Error::GlobalSeqNoTooLarge));
+}
+
+// Whether the list is read back whole.
+pub fn list_is_read<A: Allocator + Copy>(alloc: A) -> Result<bool, Error> {
+    gives(alloc, WHOLE)
 }
 
 #[test]
 fn a_list_is_read_back_with_each_request_refused(rt: HostRuntime) {
-    let whole = Some([Some((b'a', 7)), Some((b'a', 9)), Some((b'b', 1))]);
-    let answers = each_refused(rt.alloc(), |heap: &Refusing, may_fail: bool| {
-        let right = read_rows(heap, &ROWS, 0, ALL).map(|read| read == whole);
-        is_right(right, may_fail)
-    });
-    assert!(rt; answers.is_ok());
+    assert!(rt; is_right_refused(rt.alloc(), &Read::List));
+}
+
+// How many entries the table at a place has, 0 where there is none.
+fn count_at<A: Allocator>(tables: &[Table<A>], place: usize) -> u64 {
+    match tables.get(place) {
+        Some(table) => table.metadata.item_count,
+        None => 0,
+    }
 }
 
 // How many entries each table of a run has, of three at most.
 fn entries_of<A: Allocator>(run: &Run<Table<A>, A>) -> [u64; 3] {
-    let mut counts = [0; 3];
-    for (count, table) in counts.iter_mut().zip(run.as_slice().iter()) {
-        *count = table.metadata.item_count;
-    }
-    counts
+    let tables = run.as_slice();
+    [
+        count_at(tables, 0),
+        count_at(tables, 1),
+        count_at(tables, 2),
+    ]
 }
 
 // The entries of the tables of a run with a target of 1,024 bytes, and the id that is drawn next.
@@ -105,18 +153,17 @@ fn written<A: Allocator + Copy>(
 }
 
 #[test]
-fn a_run_has_the_tables_that_the_target_cuts(rt: HostRuntime) -> Result<(), Fail> {
-    let alloc = rt.alloc();
-    assert!(rt; written(alloc, &LONG_ROWS)? == ([3, 1, 2], Some(8)));
-    assert!(rt; written(alloc, &[])? == ([0, 0, 0], Some(6)));
-    Ok(())
+fn a_run_has_the_tables_that_the_target_cuts(rt: HostRuntime) {
+    assert!(rt; target_cuts(rt.alloc()) == Ok(true));
+    assert!(rt; written(rt.alloc(), &[]) == Ok(([0, 0, 0], Some(6))));
+}
+
+// Whether the target cuts the list.
+pub fn target_cuts<A: Allocator + Copy>(alloc: A) -> Result<bool, Error> {
+    Ok(written(alloc, LONG_ROWS)? == ([3, 1, 2], Some(8)))
 }
 
 #[test]
 fn a_target_cuts_tables_with_each_request_refused(rt: HostRuntime) {
-    let answers = each_refused(rt.alloc(), |heap: &Refusing, may_fail: bool| {
-        let right = written(heap, &LONG_ROWS).map(|run| run == ([3, 1, 2], Some(8)));
-        is_right(right, may_fail)
-    });
-    assert!(rt; answers.is_ok());
+    assert!(rt; is_right_refused(rt.alloc(), &Read::CutList));
 }

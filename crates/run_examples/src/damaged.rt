@@ -1,141 +1,129 @@
 //! Runs of which one table is damaged.
-use example_tables::large::asked_mut;
+use crate::several::number_in;
+use crate::walks::{Scan, WHOLE, Walk, reader_of, scanner_of};
+use example_tables::large::add;
 use example_tables::rows::Row;
-use example_tables::runs::{ALL, Tables, damaged_run_of, name_of, owned_range};
-use lsm_tables::{RunReader, RunScanner, get_runs};
-use sst_blocks::{Direction, Error, ValueType};
+use example_tables::runs::{ALL, Lists, Name, Tables, damaged_run_of};
+use sst_blocks::{Direction, Error, SeqNo, ValueType};
 use std::alloc::Allocator;
-use std::test::Fail;
 
 const F: Direction = Direction::Front;
 
 const B: Direction = Direction::Back;
 
-const A_AND_B: [Row<'static>; 2] = [
+const A_AND_B: &[Row<'static>] = &[
     (b"a", 0, ValueType::Value, b"x"),
     (b"b", 0, ValueType::Value, b"x"),
 ];
 
-const C_AND_D: [Row<'static>; 2] = [
+const C_AND_D: &[Row<'static>] = &[
     (b"c", 0, ValueType::Value, b"x"),
     (b"d", 0, ValueType::Value, b"x"),
 ];
 
-const E_AND_F: [Row<'static>; 2] = [
+const E_AND_F: &[Row<'static>] = &[
     (b"e", 0, ValueType::Value, b"x"),
     (b"f", 0, ValueType::Value, b"x"),
 ];
 
-const THREE_TABLES: [&[Row<'static>]; 3] = [&A_AND_B, &C_AND_D, &E_AND_F];
+const THREE_TABLES: &[&[Row<'static>]] = &[A_AND_B, C_AND_D, E_AND_F];
 
-// The key that a step gives, 0 where there is none, or its error.
-type Answer = Result<u8, Error>;
+// What a step gives.
+type Answer = Result<Option<Name>, Error>;
+
+const NOTHING: Answer = Ok(None);
 
 const DAMAGED: Answer = Err(Error::ChecksumMismatch);
 
+const GIVES_A: Answer = Ok(Some((b'a', 0)));
+
+const GIVES_B: Answer = Ok(Some((b'b', 0)));
+
+const GIVES_E: Answer = Ok(Some((b'e', 0)));
+
+const GIVES_F: Answer = Ok(Some((b'f', 0)));
+
 fn run<A: Allocator + Copy>(alloc: A, damaged: usize) -> Result<Tables<A>, Error> {
-    damaged_run_of(alloc, &THREE_TABLES, damaged)
+    damaged_run_of(alloc, THREE_TABLES, damaged)
 }
 
-fn answer_of<A: Allocator + Copy>(reader: &mut RunReader<A>, end: Direction) -> Answer {
-    let name = match end {
-        Direction::Front => name_of(reader.next())?,
-        Direction::Back => name_of(reader.next_back())?,
-    };
-    Ok(name.map_or(0, |name| name.0))
-}
-
-// The reader of the three tables, one of them damaged.
-fn reader_of<A: Allocator + Copy>(alloc: A, damaged: usize) -> Result<Option<RunReader<A>>, Error> {
-    let run = run(alloc, damaged)?;
-    RunReader::new(run, owned_range(alloc, ALL)?)
-}
-
-// Whether there is a reader, and its steps answer as they should.
-fn answered<A: Allocator + Copy>(
-    reader: &mut Option<RunReader<A>>,
-    steps: &[(Direction, Answer)],
-) -> bool {
-    let Some(reader) = reader.as_mut() else {
-        return false;
-    };
+// Whether the steps of a reader answer as they should.
+fn answers<W: Walk>(reader: &mut W, steps: &[(Direction, Answer)]) -> bool {
     for (end, answer) in steps {
-        if answer_of(reader, *end) != *answer {
+        if reader.step(*end) != *answer {
             return false;
         }
     }
     true
 }
 
-fn reads<A: Allocator + Copy>(
-    alloc: A,
-    damaged: usize,
+// Whether there is a reader, and they do.
+fn reader_answers<W: Walk + Drop>(
+    reader: Result<Option<W>, Error>,
     steps: &[(Direction, Answer)],
 ) -> Result<bool, Error> {
-    asked_mut(
-        reader_of(alloc, damaged),
-        |reader: &mut Option<RunReader<A>>| Ok(answered(reader, steps)),
-    )
+    match reader? {
+        Some(mut reader) => Ok(answers(&mut reader, steps)),
+        None => Ok(false),
+    }
 }
 
-const FROM_THE_FRONT: [(Direction, Answer); 5] = [
-    (F, Ok(b'a')),
-    (F, Ok(b'b')),
+// Whether that of the three tables, one of them damaged, does.
+fn reads<A: Allocator + Copy>(alloc: A, damaged: usize, steps: &[(Direction, Answer)]) -> bool {
+    reader_answers(reader_of(alloc, run(alloc, damaged), ALL), steps) == Ok(true)
+}
+
+const FROM_THE_FRONT: &[(Direction, Answer)] = &[
+    (F, GIVES_A),
+    (F, GIVES_B),
     (F, DAMAGED),
-    (F, Ok(0)),
-    (B, Ok(0)),
+    (F, NOTHING),
+    (B, NOTHING),
 ];
 
-const FROM_THE_BACK: [(Direction, Answer); 5] = [
-    (B, Ok(b'f')),
-    (F, Ok(b'a')),
-    (B, Ok(b'e')),
+const FROM_THE_BACK: &[(Direction, Answer)] = &[
+    (B, GIVES_F),
+    (F, GIVES_A),
+    (B, GIVES_E),
     (B, DAMAGED),
-    (F, Ok(0)),
+    (F, NOTHING),
 ];
 
 // The other tables have entries left.
 #[test]
-fn a_damaged_table_ends_a_reader_at_both_ends(rt: HostRuntime) -> Result<(), Fail> {
-    assert!(rt; reads(rt.alloc(), 1, &FROM_THE_FRONT)?);
-    assert!(rt; reads(rt.alloc(), 1, &FROM_THE_BACK)?);
-    Ok(())
-}
-
-fn scanned<A: Allocator + Copy>(scanner: &mut RunScanner<A>) -> Answer {
-    Ok(name_of(scanner.next())?.map_or(0, |name| name.0))
-}
-
-// The scanner of the three tables, one of them damaged. `Source(3)` where there are none.
-fn scanner<A: Allocator + Copy>(alloc: A, damaged: usize) -> Result<RunScanner<A>, Error> {
-    let run = run(alloc, damaged)?;
-    if run.as_slice().is_empty() {
-        return Err(Error::Source(3));
-    }
-    RunScanner::culled(run, (None, None))
+fn a_damaged_table_ends_a_reader_at_both_ends(rt: HostRuntime) {
+    assert!(rt; reads(rt.alloc(), 1, FROM_THE_FRONT));
+    assert!(rt; reads(rt.alloc(), 1, FROM_THE_BACK));
 }
 
 // Whether the steps of a scan answer as they should.
-fn scan_answers<A: Allocator + Copy>(scanner: &mut RunScanner<A>, steps: &[Answer]) -> bool {
+fn scan_answers<S: Scan>(scanner: &mut S, steps: &[Answer]) -> bool {
     for answer in steps {
-        if scanned(scanner) != *answer {
+        if scanner.scan() != *answer {
             return false;
         }
     }
     true
 }
 
-fn scans<A: Allocator + Copy>(alloc: A, damaged: usize, steps: &[Answer]) -> Result<bool, Error> {
-    asked_mut(scanner(alloc, damaged), |scanner: &mut RunScanner<A>| {
-        Ok(scan_answers(scanner, steps))
-    })
+// The same of a scanner that there may be none of.
+fn scanner_answers<S: Scan + Drop>(
+    scanner: Result<S, Error>,
+    steps: &[Answer],
+) -> Result<bool, Error> {
+    Ok(scan_answers(&mut scanner?, steps))
 }
 
+// Whether that of the three tables, one of them damaged, does.
+fn scans<A: Allocator + Copy>(alloc: A, damaged: usize, steps: &[Answer]) -> Result<bool, Error> {
+    scanner_answers(scanner_of(run(alloc, damaged), WHOLE), steps)
+}
+
+const SCANNED: &[Answer] = &[GIVES_A, GIVES_B, DAMAGED, NOTHING, NOTHING];
+
 #[test]
-fn a_damaged_table_ends_a_scan(rt: HostRuntime) -> Result<(), Fail> {
-    let steps = [Ok(b'a'), Ok(b'b'), DAMAGED, Ok(0), Ok(0)];
-    assert!(rt; scans(rt.alloc(), 1, &steps)?);
-    Ok(())
+fn a_damaged_table_ends_a_scan(rt: HostRuntime) {
+    assert!(rt; scans(rt.alloc(), 1, SCANNED) == Ok(true));
 }
 
 #[test]
@@ -143,18 +131,35 @@ fn a_damaged_first_table_refuses_the_scan(rt: HostRuntime) {
     assert!(rt; scans(rt.alloc(), 0, &[]) == Err(Error::ChecksumMismatch));
 }
 
-fn has_key<A: Allocator + Copy>(runs: &[Tables<A>], key: &[u8]) -> Result<bool, Error> {
-    Ok(get_runs(runs, key, 1)?.is_some())
+/// The runs of some lists of tables, a table of one of them damaged.
+pub fn damaged_runs_of<A: Allocator + Copy>(
+    alloc: A,
+    lists: &[Lists],
+    damaged: (usize, usize),
+) -> Result<Vec<Tables<A>, A>, Error> {
+    let mut runs = Vec::new(alloc);
+    for (place, tables) in lists.iter().enumerate() {
+        let table = if place == damaged.0 {
+            damaged.1
+        } else {
+            tables.len()
+        };
+        add(&mut runs, damaged_run_of(alloc, tables, table))?;
+    }
+    Ok(runs)
 }
 
-// Whether a read of two runs, the first with a damaged table, finds a key.
-fn finds<A: Allocator + Copy>(alloc: A, key: &[u8]) -> Result<bool, Error> {
-    let runs = [run(alloc, 1)?, run(alloc, 3)?];
-    has_key(&runs, key)
+// The first has a damaged table.
+const TWO_RUNS: &[Lists] = &[THREE_TABLES, THREE_TABLES];
+
+// The number that a read of both runs finds.
+fn found<A: Allocator + Copy>(alloc: A, key: &[u8]) -> Result<Option<SeqNo>, Error> {
+    let runs = damaged_runs_of(alloc, TWO_RUNS, (0, 1))?;
+    number_in(&runs, key, 1)
 }
 
 #[test]
 fn a_damaged_table_refuses_the_reads_of_its_keys(rt: HostRuntime) {
-    assert!(rt; finds(rt.alloc(), b"b") == Ok(true));
-    assert!(rt; finds(rt.alloc(), b"c") == Err(Error::ChecksumMismatch));
+    assert!(rt; found(rt.alloc(), b"b") == Ok(Some(0)));
+    assert!(rt; found(rt.alloc(), b"c") == Err(Error::ChecksumMismatch));
 }

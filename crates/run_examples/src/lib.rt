@@ -9,8 +9,12 @@ mod counted;
 #[cfg(test)]
 mod damaged;
 #[cfg(test)]
+mod memory;
+#[cfg(test)]
 mod readers;
 #[cfg(test)]
 mod refused;
 #[cfg(test)]
 mod several;
+#[cfg(test)]
+mod walks;

@@ -1,32 +1,28 @@
 //! What comes behind a refused step of several runs that are read as one.
-use example_tables::lists::answers_within;
+use crate::several::{Answer, answers_of};
 use example_tables::rows::Row;
-use example_tables::runs::{ALL, Lists, Name, name_of, runs_of};
+use example_tables::runs::{ALL, Lists};
 use refusing::Refusing;
-use sst_blocks::{Direction, Error, IterItem, ValueType};
+use sst_blocks::{Direction, Error, ValueType};
 use std::alloc::{Allocator, Global};
-use std::test::Fail;
 
 const F: Direction = Direction::Front;
 
 const B: Direction = Direction::Back;
 
-const A9_ROW: [Row<'static>; 1] = [(b"a", 9, ValueType::Value, b"x")];
+const A9_ROW: &[Row<'static>] = &[(b"a", 9, ValueType::Value, b"x")];
 
-const C4_ROW: [Row<'static>; 1] = [(b"c", 4, ValueType::Value, b"x")];
+const C4_ROW: &[Row<'static>] = &[(b"c", 4, ValueType::Value, b"x")];
 
-const E2_ROW: [Row<'static>; 1] = [(b"e", 2, ValueType::Value, b"x")];
+const E2_ROW: &[Row<'static>] = &[(b"e", 2, ValueType::Value, b"x")];
 
-const B1_AND_D3: [Row<'static>; 2] = [
+const B1_AND_D3: &[Row<'static>] = &[
     (b"b", 1, ValueType::Value, b"x"),
     (b"d", 3, ValueType::Value, b"x"),
 ];
 
 // The first run is of three tables.
-const RUNS: [Lists; 2] = [&[&A9_ROW, &C4_ROW, &E2_ROW], &[&B1_AND_D3]];
-
-// What a step gives.
-type Answer = Result<Option<Name>, Error>;
+const RUNS: &[Lists] = &[&[A9_ROW, C4_ROW, E2_ROW], &[B1_AND_D3]];
 
 const A9: Answer = Ok(Some((b'a', 9)));
 
@@ -40,75 +36,65 @@ const E2: Answer = Ok(Some((b'e', 2)));
 
 const NOTHING: Answer = Ok(None);
 
-const REFUSED: Answer = Err(Error::OutOfMemory);
+const REFUSED: Answer = Err(true);
 
-type Answers = [Answer; 7];
-
-const FIRST_REFUSED: Answers = [
+const FIRST_REFUSED: &[Answer] = &[
     REFUSED, NOTHING, NOTHING, NOTHING, NOTHING, NOTHING, NOTHING,
 ];
 
 // The ends of some steps, and their answers: where no step is refused, where the first one is, where the second one is. The
 // others take no memory. The entry that waits at the other end comes behind the refusal.
-type Case = ([Direction; 7], [Answers; 3]);
+type Case = (&'static [Direction], &'static [&'static [Answer]]);
 
-const CASES: [Case; 4] = [
+const CASES: &[Case] = &[
     (
-        [F, F, F, F, F, F, B],
-        [
-            [A9, B1, C4, D3, E2, NOTHING, NOTHING],
+        &[F, F, F, F, F, F, B],
+        &[
+            &[A9, B1, C4, D3, E2, NOTHING, NOTHING],
             FIRST_REFUSED,
-            [A9, REFUSED, NOTHING, NOTHING, NOTHING, NOTHING, NOTHING],
+            &[A9, REFUSED, NOTHING, NOTHING, NOTHING, NOTHING, NOTHING],
         ],
     ),
     (
-        [B, B, B, B, B, B, F],
-        [
-            [E2, D3, C4, B1, A9, NOTHING, NOTHING],
+        &[B, B, B, B, B, B, F],
+        &[
+            &[E2, D3, C4, B1, A9, NOTHING, NOTHING],
             FIRST_REFUSED,
-            [E2, REFUSED, NOTHING, NOTHING, NOTHING, NOTHING, NOTHING],
+            &[E2, REFUSED, NOTHING, NOTHING, NOTHING, NOTHING, NOTHING],
         ],
     ),
     (
-        [F, B, F, B, F, B, F],
-        [
-            [A9, E2, B1, D3, C4, NOTHING, NOTHING],
+        &[F, B, F, B, F, B, F],
+        &[
+            &[A9, E2, B1, D3, C4, NOTHING, NOTHING],
             FIRST_REFUSED,
-            [A9, REFUSED, B1, NOTHING, NOTHING, NOTHING, NOTHING],
+            &[A9, REFUSED, B1, NOTHING, NOTHING, NOTHING, NOTHING],
         ],
     ),
     (
-        [B, F, F, B, F, B, F],
-        [
-            [E2, A9, B1, D3, C4, NOTHING, NOTHING],
+        &[B, F, F, B, F, B, F],
+        &[
+            &[E2, A9, B1, D3, C4, NOTHING, NOTHING],
             FIRST_REFUSED,
-            [E2, REFUSED, D3, NOTHING, NOTHING, NOTHING, NOTHING],
+            &[E2, REFUSED, D3, NOTHING, NOTHING, NOTHING, NOTHING],
         ],
     ),
 ];
 
-// What both runs give at some ends.
-fn answered<A: Allocator + Copy>(
-    alloc: A,
-    ends: &[Direction],
-) -> Result<Vec<Option<IterItem<A>>, A>, Error> {
-    let runs = runs_of(alloc, &RUNS)?;
-    answers_within(alloc, &runs, ALL, ends)
-}
-
-// The names of some answers.
-fn named<A: Allocator + Copy>(answers: Vec<Option<IterItem<A>>, A>) -> Answers {
-    let mut names = [NOTHING; 7];
-    for (name, answer) in names.iter_mut().zip(answers.into_iter()) {
-        *name = name_of(answer);
+// Which of some answers these are, if any.
+fn place_of(cases: &[&[Answer]], answers: &[Answer]) -> Option<usize> {
+    for (place, case) in cases.iter().enumerate() {
+        if *case == answers {
+            return Some(place);
+        }
     }
-    names
+    None
 }
 
 // Which of the answers of a case both runs give, if any; an error where there is no memory for the runs.
 fn which<A: Allocator + Copy>(alloc: A, case: &Case) -> Result<Option<usize>, Error> {
-    let names = named(answered(alloc, &case.0)?);
-    Ok(case.1.iter().position(|answers| *answers == names))
+    let answers = answers_of(alloc, RUNS, ALL, case.0)?;
+    Ok(place_of(case.1, &answers))
 }
 
 // How many requests a case makes; none where its answers are not the first of its own.
@@ -159,9 +145,8 @@ fn met(alloc: Global, case: &Case) -> Result<Option<[bool; 3]>, Error> {
 
 // A request for what a table remembers is none that a step needs.
 #[test]
-fn a_refused_step_leaves_what_waits_at_the_other_end(rt: HostRuntime) -> Result<(), Fail> {
-    for case in &CASES {
-        assert_eq!(rt; met(rt.alloc(), case)?, Some([true, true, true]));
+fn a_refused_step_leaves_what_waits_at_the_other_end(rt: HostRuntime) {
+    for case in CASES {
+        assert!(rt; met(rt.alloc(), case) == Ok(Some([true, true, true])));
     }
-    Ok(())
 }
