@@ -30,6 +30,7 @@ use Rattle.lsm_writers.specs.Filtering.{IsFiltered, MayHaveKeys}
 use Rattle.lsm_files.specs.declared.options.IndexKind.{IndexKind}
 use Rattle.lsm_files.specs.declared.options.IndexKind.TheVariants.{Full as FullIndex, Partitioned as PartitionedIndex}
 use Rattle.lsm_index_writers.specs.Refusing.{index_fault, parts_fault}
+use Rattle.lsm_filter_writers.specs.Refusing.{filter_fault}
 use Rattle.lsm_filter_writers.specs.Writing.{WritesFilter}
 use Rattle.sst_filters.specs.Filter.{BloomFilter}
 use Rattle.sst_filters.specs.declared.policy.BloomConstructionPolicy.{BloomConstructionPolicy}
@@ -316,6 +317,16 @@ pub sections_written : {A : Type 0} (label : Label) (options : Options) (cut : L
     → WritesTable (cut_writing label options cut) (finished whole)
 sections_written label options cut i f first indexed filtered versioned whole index filter m p x xf count t v e =
     writes_table (cut_writing label options cut) m i f first indexed filtered versioned whole (registered_by index).kind (registered_by index).handles (finished whole) p.kind p.laid_first p.handles_are x xf count t v e p.counted p.blocks refl
+
+-- and nothing is refused of them
+pub sections_fit : {A : Type 0} (label : Label) (options : Options) (cut : List (List Entry)) (first : Written) (index : IndexWriterImpl A) (filter : Option (FilterWriterImpl A)) (m : Metadata A)
+    → AreParts options cut first index filter m
+    → index_fault (registered_by index).kind (registered_by index).failed (registered_by index).handles ≡ None
+    → filter_fault options.filter_kind options.bloom_policy (filtered_keys options.bloom_policy (joined cut)) ≡ None
+    → sections_fault (cut_writing label options cut) ≡ None
+sections_fit label options cut first index filter m p i f =
+    let is = rw (p.kind, p.works, p.handles_are) at i in
+    rw (is, f) refl
 
 -- ---- a writer that has nothing pending
 

@@ -2,13 +2,14 @@
 use Rattle.std.proofs.Common.{◌≡◌, refl, sym, ◌∙◌, ap, subst, ℕ, ◌-◌, ◌^◌, Bool, true, false, List, [], ◌∷◌, ◌++◌, append_assoc, IsTrue}
 use Rattle.std.specs.Prelude.{Option, Some, None, Result, Ok, Err, IsErrAnd, nat_lt, if◌then◌else◌}
 use Rattle.sst_entries.specs.declared.error.Error.{Error}
+use Rattle.sst_entries.specs.declared.error.Error.TheVariants.{OutOfMemory, WriterFailed}
 use Rattle.sst_entries.specs.Entry.{Entry}
 use Rattle.sst_entries.specs.Error.{Refuses}
 use Rattle.sst_entries.proofs.Booleans.{and_parts}
 use Rattle.lsm_files.specs.Chunks.{joined}
 use Rattle.lsm_writers.specs.declared.writer.FinishedTable.{FinishedTable}
 use Rattle.lsm_writers.specs.Cut.{rest_chunk}
-use Rattle.lsm_writers.specs.Tables.{GoesOn, IsStanding, TablesWriting, all_written, early_fault, ids_fault, is_due, lists_in, next_writing, rotation_fault, standing, took, took_fault, turn_fault}
+use Rattle.lsm_writers.specs.Tables.{GoesOn, IsStanding, TablesWriting, all_written, drawn, early_fault, ids_after, ids_fault, is_due, lists_in, next_writing, rotated, rotation_fault, standing, took, took_fault, turn_fault}
 use Rattle.lsm_writers.specs.Writing.{Writing, gained, may_be_written, write_fault, written}
 use Rattle.lsm_writers.proofs.Chunking.{joined_rest}
 use Rattle.lsm_writers.proofs.ListWriting.{written_gained}
@@ -93,3 +94,36 @@ early_due target ids fs w e failed x works due early =
 pub refuses_passed : {X : Type 0} (r : Result X Error) (e x : Error) → IsErrAnd r (λ y. y ≡ e) → Some x ≡ Some e → Refuses r (Some x)
 refuses_passed (Ok y) e x is h = absurd is
 refuses_passed (Err y) e x is h = rw is h
+
+-- ---- a writer that has not refused
+
+module _ {A : Type 0} (target : ℕ) (ids : Option ℕ) (fs : List (FinishedTable A)) (w : Writing) (e : Entry) (failed : Bool) (works : failed ≡ false) where
+  pub fault_turned : (x : Error) → turn_fault target ids w e ≡ Some x → took_fault (state_of target ids fs w failed) e ≡ Some x
+  fault_turned x h = rw (works, h) refl
+
+  ids_by : (due : Bool) (m : TablesWriting) → (if due then drawn m.ids else m.ids) ≡ (if due then rotated m else m).ids
+  ids_by false m = refl
+  ids_by true m = refl
+
+  -- an id was drawn just where a table was due
+  pub ids_are : (ids' : Option ℕ) → ids' ≡ (if is_due target w e then drawn ids else ids) → ids' ≡ ids_after (state_of target ids fs w failed) e
+  ids_are ids' is = rw works (is ∙ ids_by (is_due target w e) (state_of target ids fs w false))
+
+-- ---- a writer that has refused
+
+module _ {A : Type 0} (target : ℕ) (ids : Option ℕ) (fs : List (FinishedTable A)) (w : Writing) (e : Entry) (failed : Bool) (spent : failed ≡ true) where
+  pub spent_fault : took_fault (state_of target ids fs w failed) e ≡ Some WriterFailed
+  spent_fault = rw spent refl
+
+  pub spent_first : (x : Error) → early_fault (state_of target ids fs w failed) e ≡ Some x → Some x ≡ Some WriterFailed
+  spent_first x early =
+      let told : early_fault (state_of target ids fs w failed) e ≡ Some WriterFailed = rw spent refl in
+      sym early ∙ told
+
+  pub spent_memory : took_fault (state_of target ids fs w failed) e ≡ None → WriterFailed ≡ OutOfMemory
+  spent_memory none =
+      let both : None ≡ Some WriterFailed = sym none ∙ spent_fault in
+      absurd cc
+
+  pub spent_ids : ids ≡ ids_after (state_of target ids fs w failed) e
+  spent_ids = rw spent refl
