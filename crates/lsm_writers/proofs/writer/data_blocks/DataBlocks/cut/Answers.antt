@@ -8,7 +8,9 @@ use Rattle.lsm_files.specs.Chunks.{joined}
 use Rattle.lsm_files.specs.Index.{last_entry}
 use Rattle.lsm_writers.specs.Cut.{AreCut, chunks_in, Cut, with_cut}
 use Rattle.lsm_writers.proofs.Cutting.{added_is, held_again, held_by_bytes, counted_more, rest_is, room_for, at_least_blocks, exact_blocks, sizes}
-use Rattle.lsm_writers.proofs.Orders.{last_is, last_place, last_popped}
+use Rattle.std.proofs.lemmas.List.{append-nil}
+use Rattle.sst_blocks.specs.Encoding.{entries_fault}
+use Rattle.lsm_writers.proofs.Orders.{last_is, last_place, last_popped, no_place}
 use Rattle.lsm_writers.proofs.writer.data_blocks.DataBlocks.cut.Goals as goal
 
 pub add_block-requires-clause-last : goal.add_block-requires-clause-last
@@ -105,3 +107,21 @@ returns-clause-counted g c =
     let at = c.position.ensures ∙ exact_blocks (old ++ es ∷ []) t.file_writer t.index_writer.handles (Some c.in-Some.last.now) t.index_writer.failed more c.in_default-add_block.ensures.works in
     let again = held_again (old ++ es ∷ []) t.file_writer t.index_writer.handles (Some c.in-Some.last.now) t.index_writer.failed more in
     c.count_block.ensures ∙ rw (n, m ∙ ap length buffer, key, again) (counted_more c.args.meta.now old es _ are place.0 at)
+
+pub add_block-requires-clause-fit : goal.add_block-requires-clause-fit
+add_block-requires-clause-fit g c = ap entries_fault c.deref-2.ensures.value ∙ c.requires.fit
+
+pub returns-clause-works : goal.returns-clause-works
+returns-clause-works g c = c.in_default-add_block.ensures.works
+
+-- where nothing is to be cut
+pub returns-in_default-clause-taken : goal.returns-in_default-clause-taken
+returns-in_default-clause-taken g c = sym c.deref.ensures.value ∙ no_place c.deref.result.now c.in_default.ensures.value
+
+pub returns-in_default-clause-ok : goal.returns-in_default-clause-ok
+returns-in_default-clause-ok g c =
+    let none : c.args.chunk.now.items ≡ [] = sym c.deref.ensures.value ∙ no_place c.deref.result.now c.in_default.ensures.value in
+    rw none (sym (append-nil c.args.self.now.chunks))
+
+pub returns-in_default-clause-counted : goal.returns-in_default-clause-counted
+returns-in_default-clause-counted g c = c.requires.counts.are
