@@ -6,13 +6,14 @@ use Rattle.sst_entries.specs.declared.error.Error.TheVariants.{OutOfMemory, Tabl
 use Rattle.sst_entries.specs.Entry.{Entry}
 use Rattle.sst_entries.specs.Error.{Refuses}
 use Rattle.sst_entries.specs.Strict.{IsStrictAfter}
+use Rattle.lsm_files.specs.declared.options.Options.{Options}
 use Rattle.lsm_files.specs.Options.{label_of}
 use Rattle.sst_entries.proofs.Booleans.{and_parts}
 use Rattle.lsm_files.specs.Chunks.{joined}
 use Rattle.lsm_writers.specs.declared.writer.FinishedTable.{FinishedTable}
 use Rattle.lsm_writers.specs.Cut.{rest_chunk}
-use Rattle.lsm_writers.specs.Tables.{GoesOn, IsStanding, TablesWriting, all_written, drawn, early_fault, ids_after, ids_fault, is_due, lists_in, new_tables, next_id, next_writing, rotated, rotation_fault, standing, took, took_fault, turn_fault}
-use Rattle.lsm_writers.specs.Writing.{Writing, gained, may_be_written, new_writing, write_fault, written}
+use Rattle.lsm_writers.specs.Tables.{GoesOn, IsFreshRun, IsStanding, TablesWriting, all_written, drawn, early_fault, gained_all, ids_after, ids_fault, is_due, lists_in, new_tables, next_id, next_writing, rotated, rotation_fault, standing, took, took_fault, turn_fault}
+use Rattle.lsm_writers.specs.Writing.{IsFresh, Writing, fresh_writing, gained, may_be_written, new_writing, write_fault, written}
 use Rattle.lsm_writers.proofs.Chunking.{joined_rest}
 use Rattle.lsm_writers.proofs.ListWriting.{written_gained}
 use Rattle.lsm_writers.proofs.Refused.{none_some}
@@ -54,6 +55,22 @@ goes_on_first {A} target ids left id level moment w is drew e =
 pub new_tables_is : {A : Type 0} (target : ℕ) (ids left : Option ℕ) (id level moment : ℕ) (w : Writing) (fs : List (FinishedTable A)) → Some id ≡ ids → left ≡ drawn ids → w ≡ new_writing (label_of id level moment) → fs ≡ []
     → state_of target left fs w false ≡ new_tables ids target level moment
 new_tables_is target ids left id level moment w fs is drew e none = rw (none, drew, e, ← is) refl
+
+-- ---- other options, before the first entry
+
+module _ {A : Type 0} (target : ℕ) (ids : Option ℕ) (fs : List (FinishedTable A)) (w : Writing) (failed : Bool) (m : TablesWriting) (is : state_of target ids fs w failed ≡ m) (fresh : IsFreshRun m) where
+  pub fresh_present : IsFresh w
+  fresh_present = (subst IsFreshRun (sym is) fresh).1
+
+  pub goes_on_with : (v : Writing) (options : Options) → (failed ≡ false → GoesOn target ids fs w) → v ≡ record w { options = options } → failed ≡ false → GoesOn target ids fs v
+  unfolding IsStrictAfter
+  goes_on_with v options goes e works =
+      let h = goes works in
+      let none : written w ≡ [] = rw (fresh_present.0, fresh_present.1) refl in
+      let was : w ≡ fresh_writing w.label w.options = h.present ∙ ap (gained_all (fresh_writing w.label w.options)) none in
+      let now : v ≡ fresh_writing w.label options = e ∙ ap (λ (u : Writing). record u { options = options }) was in
+      let made : GoesOn {A = A} target ids [] (fresh_writing w.label options) = record { present = refl; strict = tt; cuts = tt; finished = tt; few = omega arith; next = h.next; begun = λ _. refl } in
+      rw (now, h.begun none) made
 
 -- whether a table was due is told, so is what stands then
 module _ {A : Type 0} (target : ℕ) (ids ids' : Option ℕ) (fs fs' : List (FinishedTable A)) (w w' : Writing) (e : Entry) where
