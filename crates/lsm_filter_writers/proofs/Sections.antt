@@ -23,7 +23,7 @@ use Rattle.sst_entries.specs.Error.{Faults, FaultsFirst, is_memory}
 use Rattle.sst_entries.proofs.Refusals.{faults_refusal}
 use Rattle.sst_entries.specs.Strict.{IsStrict}
 use Rattle.sst_entries.specs.declared.error.Error.{Error}
-use Rattle.sst_entries.specs.declared.error.Error.TheVariants.{KeyTooLong, SectionTooLarge}
+use Rattle.sst_entries.specs.declared.error.Error.TheVariants.{KeyTooLong, SectionTooLarge, WriterFailed}
 use Rattle.std.proofs.lemmas.Bool.Decides.{nat_tests}
 use Rattle.std.specs.Option.{option_or}
 use Rattle.lsm_files.specs.Failed.{failed_fault}
@@ -408,6 +408,15 @@ works_first r inside failed same works = λ e told. absurd (none_told failed e (
     none_told : (failed : Bool) (e : Error) → failed ≡ false → failed_fault failed ≡ Some e → ⊥
     none_told true e works told = cc
     none_told false e works told = cc
+
+-- and one that has failed refuses with that
+pub spent_told : (inside failed : Bool) (other : Option Error) → inside ≡ failed → inside ≡ true → option_or (failed_fault failed) other ≡ Some WriterFailed
+spent_told inside failed other same spent = rw (sym same ∙ spent) refl
+
+pub spent_first : (inside failed : Bool) (e : Error) → inside ≡ failed → inside ≡ true → failed_fault failed ≡ Some e → Some e ≡ Some WriterFailed
+spent_first inside failed e same spent told =
+    let fault : failed_fault failed ≡ Some WriterFailed = rw (sym same ∙ spent) refl in
+    sym told ∙ fault
 
 -- what is left waiting
 pub rest_refused : {X : Type 0} (r : Result X Error) (e : Error) (size : ℕ) (policy : BloomConstructionPolicy) (keys : List (List ℕ)) (failed : Bool) → IsErrAnd r (λ y. y ≡ e) →

@@ -1,8 +1,12 @@
 -- Sections behind what was written before.
-use Rattle.std.proofs.Common.{◌≡◌, refl, ◌∙◌, ap, sym, subst, ℕ, ◌+◌, ◌≤◌, All, List, [], ◌∷◌, ◌++◌, length, take, append_assoc, length-append, arith}
+use Rattle.std.proofs.Common.{◌≡◌, refl, ◌∙◌, ap, sym, subst, ℕ, ◌+◌, ◌≤◌, Bool, true, false, All, List, [], ◌∷◌, ◌++◌, length, take, append_assoc, length-append, arith}
+use Rattle.std.specs.Prelude.{Option, None, Result, Ok, Err, IfErr}
 use Rattle.std.proofs.Math.Seq.{take-append_seam}
 use Rattle.std.proofs.lemmas.List.{append-nil, length-take, take-take, take_all}
 use Rattle.std.proofs.lemmas.List.Elements.{All-push, All-weaker}
+use Rattle.sst_entries.specs.Error.{Faults, is_memory}
+use Rattle.sst_entries.specs.declared.error.Error.{Error}
+use Rattle.sst_entries.specs.declared.error.Error.TheVariants.{OutOfMemory}
 use Rattle.sst_sections.specs.Sections.{Written, slot_index}
 use Rattle.sst_sections.specs.declared.section.SectionName.{SectionName}
 use Rattle.sst_sections.specs.declared.section.SectionName.TheVariants.{Index}
@@ -55,3 +59,10 @@ front_after w u x before stays =
 
 pub front_same : (w u x : Written) → take (length w.bytes) u.bytes ≡ w.bytes → x ≡ u → take (length w.bytes) x.bytes ≡ w.bytes
 front_same w u x before e = ap (λ (y : Written). take (length w.bytes) y.bytes) e ∙ before
+
+-- where nothing is refused but want of memory, no fault is told
+pub faults_none : {X : Type 0} (r : Result X Error) (told : Option Error) → told ≡ None → IfErr r (λ e. e ≡ OutOfMemory) → Faults r told
+faults_none (Ok x) told none memory = none
+faults_none (Err e) told none memory = λ h.
+    let both : true ≡ false = sym (ap is_memory memory) ∙ h in
+    absurd cc

@@ -33,8 +33,7 @@ pub(crate) fn write_block<A: Allocator + Clone>(
 {
     buffer.clear();
     IndexBlock::encode_into(buffer, handles)?;
-    let place = Block::write_into(writer, buffer, BlockType::Index, compression)?;
-    Ok(place)
+    Block::write_into(writer, buffer, BlockType::Index, compression)
 }
 
 /// Writes the section of an index's top level, or of the whole of a full one: one block of these handles. Refused as

@@ -8,21 +8,25 @@ use Rattle.std.specs.Ordering.{nat_cmp, is_lt, is_eq, ordering_then}
 use Rattle.std.specs.Cmp.Lexicographic.{slice_cmp, texts_ties}
 use Rattle.std.proofs.lemmas.List.{length-map}
 use Rattle.std.proofs.lemmas.List.Concat.{flat_map-append}
+use Rattle.sst_entries.specs.declared.error.Error.{Error}
+use Rattle.sst_entries.specs.declared.error.Error.TheVariants.{OutOfMemory, WriterFailed}
 use Rattle.sst_entries.specs.Entry.{Entry}
 use Rattle.sst_entries.specs.Key.{key_lt, same_key}
-use Rattle.sst_entries.specs.Strict.{IsStrictAfter, is_before, last_of, may_follow}
+use Rattle.sst_entries.specs.Strict.{IsStrict, IsStrictAfter, is_before, last_of, may_follow}
 use Rattle.sst_entries.proofs.Booleans.{not_is}
 use Rattle.lsm_files.specs.Chunks.{is_full, joined}
 use Rattle.lsm_files.specs.Facts.{starts_key}
+use Rattle.lsm_files.specs.Failed.{failed_fault}
 use Rattle.lsm_files.specs.Index.{last_entry}
 use Rattle.lsm_writers.specs.declared.writer.FinishedTable.{FinishedTable}
 use Rattle.lsm_writers.specs.Cut.{rest_chunk}
-use Rattle.lsm_writers.specs.Tables.{AddsTable, AreCuts, AreFinished, AreInKeyOrder, AreTables, GoesOn, all_written, apart, first_label, gained_all, label_before, list_in, lists_in, tables_of}
-use Rattle.lsm_writers.specs.Writing.{IsFinished, Writing, fresh_writing, gained, written}
+use Rattle.lsm_writers.specs.Tables.{AddsTable, AreCuts, AreFinished, AreInKeyOrder, AreTables, GoesOn, all_written, apart, first_label, gained_all, label_before, list_in, lists_in, run_fault, tables_of}
+use Rattle.lsm_writers.specs.Writing.{IsFinished, Writing, finish_fault, fresh_writing, gained, written}
 use Rattle.lsm_writers.proofs.Finishing.{nothing_behind}
 use Rattle.lsm_writers.proofs.Chunking.{joined_rest}
 use Rattle.lsm_writers.proofs.Cutting.{rest_is}
 use Rattle.lsm_writers.proofs.Orders.{last_of_cons, strict_back}
+use Rattle.lsm_writers.proofs.Refused.{none_some}
 use Rattle.lsm_writers.proofs.Rotating.{all_finished}
 use Rattle.lsm_writers.proofs.Turning.{state_of}
 
@@ -103,3 +107,21 @@ module _ {A : Type 0} (target : ℕ) (ids : Option ℕ) (fs gs : List (FinishedT
         let fine : w.failed ≡ false = ap (λ (v : Writing). v.failed) h.present ∙ failed_kept (fresh_writing w.label w.options) (written w) in
         let both : true ≡ false = sym refused ∙ fine in
         absurd cc
+
+    pub all_strict : IsStrict (all_written (state_of target ids fs w failed))
+    all_strict = rw works h.strict
+
+-- ---- what finishing refuses
+
+module _ {A : Type 0} (target : ℕ) (ids : Option ℕ) (fs : List (FinishedTable A)) (w : Writing) (failed : Bool) where
+  pub run_spent : failed ≡ true → run_fault (state_of target ids fs w failed) ≡ Some WriterFailed
+  run_spent spent = rw spent refl
+
+  pub run_spent_memory : failed ≡ true → run_fault (state_of target ids fs w failed) ≡ None → WriterFailed ≡ OutOfMemory
+  run_spent_memory spent none = absurd (none_some WriterFailed (sym none ∙ run_spent spent))
+
+  pub run_works : failed ≡ false → run_fault (state_of target ids fs w failed) ≡ finish_fault w
+  run_works works = rw works refl
+
+  pub works_first : failed ≡ false → (x : Error) → failed_fault failed ≡ Some x → ⊥
+  works_first works x told = none_some x (rw works at told)

@@ -11,7 +11,8 @@ use Rattle.sst_sections.specs.declared.version.TableVersion.TheVariants.{V4}
 use Rattle.sst_blocks.specs.declared.block_type.BlockType.TheVariants.{Data as DataKind}
 use Rattle.sst_sections.specs.declared.section.SectionName.TheVariants.{Data}
 use Rattle.sst_blocks.specs.Block.{block_bytes, header, data_len}
-use Rattle.sst_entries.specs.Entry.{Entry}
+use Rattle.sst_entries.specs.declared.value_type.ValueType.TheVariants.{Value}
+use Rattle.sst_entries.specs.Entry.{Entry, entry}
 use Rattle.sst_sections.specs.Fnv.{fnv1a}
 use Rattle.sst_blocks.specs.Bounds.{data_block_bound_of, entry_bound}
 use Rattle.sst_blocks.specs.Handle.{Handle}
@@ -237,3 +238,11 @@ exact_blocks cs w hs last failed old works = ap length (old.bytes ∙ ap (λ (x 
 pub blocks_fit : (cs : List (List Entry)) → AllByRecursion (IsReadable V4) cs → AllByRecursion (BlockFits V4) cs
 blocks_fit [] h = tt
 blocks_fit (c ∷ cs) h = (record { short = h.0.short }, blocks_fit cs h.1)
+
+-- the handle of a block has the last entry's key and number
+pub chunk_handle : (at : ℕ) (es : List Entry) (x : Entry) (key : List ℕ) (n size : ℕ) (p : List ℕ) → last_of None es ≡ Some x → key ≡ x.user_key → n ≡ x.seqno → size ≡ 24 + length p → p ≡ payload V4 es
+    → ◌≡◌ {A = Handle} (record { end_key = key; seqno = n; offset = at; size = size }) (handle_of V4 at es)
+chunk_handle at es x key n size p l k m s is =
+    let end : x ≡ last_entry es = sym (ap (λ (o : Option Entry). unwrap_or o (entry [] [] 0 Value)) l) in
+    let block : size ≡ block_size V4 es = s ∙ ap (λ (bytes : List ℕ). 24 + length bytes) is in
+    rw (k ∙ ap (λ (y : Entry). y.user_key) end, m ∙ ap (λ (y : Entry). y.seqno) end, block) refl

@@ -1,12 +1,14 @@
 -- A finished table: its index, its meta block and its sections.
 use Rattle.std.proofs.Common.{◌≡◌, refl, sym, ◌∙◌, ap, subst, ℕ, ◌*◌, ◌<◌, ◌≤◌, Bool, true, false, List, [], ◌∷◌, ◌++◌, length, take, append_assoc, arith, length-append}
-use Rattle.std.specs.Prelude.{Option, None, unwrap_or}
+use Rattle.std.specs.Prelude.{Option, Some, None, unwrap_or, if◌then◌else◌}
 use Rattle.std.specs.List.{AllByRecursion}
 use Rattle.std.proofs.lemmas.List.{append-nil, nil_from_length}
 use Rattle.std.proofs.lemmas.List.Sums.{sum_by-cons}
 use Rattle.sst_sections.specs.declared.version.TableVersion.TheVariants.{V4}
 use Rattle.sst_blocks.specs.Encoding.{entries_fault}
 use Rattle.sst_entries.specs.declared.value_type.ValueType.TheVariants.{Value}
+use Rattle.sst_entries.specs.declared.error.Error.{Error}
+use Rattle.sst_entries.specs.declared.error.Error.TheVariants.{WriterFailed}
 use Rattle.sst_entries.specs.Entry.{Entry, entry}
 use Rattle.sst_sections.specs.Fnv.{fnv1a}
 use Rattle.sst_sections.specs.Number.{le4, le8, le16}
@@ -30,6 +32,7 @@ use Rattle.lsm_writers.specs.Filtering.{IsFiltered, MayHaveKeys}
 use Rattle.lsm_files.specs.declared.options.IndexKind.{IndexKind}
 use Rattle.lsm_files.specs.declared.options.IndexKind.TheVariants.{Full as FullIndex, Partitioned as PartitionedIndex}
 use Rattle.lsm_index_writers.specs.Refusing.{index_fault, parts_fault}
+use Rattle.lsm_filter_writers.specs.Refusing.{filter_fault}
 use Rattle.lsm_filter_writers.specs.Writing.{WritesFilter}
 use Rattle.sst_filters.specs.Filter.{BloomFilter}
 use Rattle.sst_filters.specs.declared.policy.BloomConstructionPolicy.{BloomConstructionPolicy}
@@ -316,6 +319,24 @@ pub sections_written : {A : Type 0} (label : Label) (options : Options) (cut : L
     → WritesTable (cut_writing label options cut) (finished whole)
 sections_written label options cut i f first indexed filtered versioned whole index filter m p x xf count t v e =
     writes_table (cut_writing label options cut) m i f first indexed filtered versioned whole (registered_by index).kind (registered_by index).handles (finished whole) p.kind p.laid_first p.handles_are x xf count t v e p.counted p.blocks refl
+
+-- and nothing is refused of them
+pub sections_fit : {A : Type 0} (label : Label) (options : Options) (cut : List (List Entry)) (first : Written) (index : IndexWriterImpl A) (filter : Option (FilterWriterImpl A)) (m : Metadata A)
+    → AreParts options cut first index filter m
+    → index_fault (registered_by index).kind (registered_by index).failed (registered_by index).handles ≡ None
+    → filter_fault options.filter_kind options.bloom_policy (filtered_keys options.bloom_policy (joined cut)) ≡ None
+    → sections_fault (cut_writing label options cut) ≡ None
+sections_fit label options cut first index filter m p i f =
+    let is = rw (p.kind, p.works, p.handles_are) at i in
+    rw (is, f) refl
+
+-- a writer that has refused refuses to finish
+finish_by : (b : Bool) (other : Option Error) (e : Error) → failed_fault b ≡ Some e → (if b then Some WriterFailed else other) ≡ Some e
+finish_by true other e h = h
+finish_by false other e h = absurd cc
+
+pub finish_failed : (w : Writing) (e : Error) → failed_fault w.failed ≡ Some e → finish_fault w ≡ Some e
+finish_failed w e h = finish_by w.failed (sections_fault (spilled w)) e h
 
 -- ---- a writer that has nothing pending
 

@@ -1,6 +1,6 @@
 -- A writer's parts once an entry was put behind those that were pending.
-use Rattle.std.proofs.Common.{◌≡◌, refl, sym, ◌∙◌, ap, ℕ, Bool, true, false, List, [], ◌∷◌, ◌++◌, arith, length-append, cond}
-use Rattle.std.specs.Prelude.{Option}
+use Rattle.std.proofs.Common.{◌≡◌, refl, sym, ◌∙◌, ap, subst, ℕ, Bool, true, false, List, [], ◌∷◌, ◌++◌, arith, length-append, cond}
+use Rattle.std.specs.Prelude.{Option, None}
 use Rattle.sst_entries.specs.Entry.{Entry}
 use Rattle.sst_filters.specs.declared.policy.BloomConstructionPolicy.{BloomConstructionPolicy}
 use Rattle.lsm_files.specs.declared.label.Label.{Label}
@@ -11,13 +11,14 @@ use Rattle.lsm_filter_writers.specs.declared.either.FilterWriterImpl.{FilterWrit
 use Rattle.lsm_writers.specs.declared.writer.meta.Metadata.{Metadata}
 use Rattle.lsm_writers.specs.declared.writer.meta.Tally.{Tally}
 use Rattle.lsm_writers.specs.Counts.{added, HasRoom}
-use Rattle.lsm_writers.specs.Cut.{Cut, rest_chunk}
+use Rattle.lsm_files.specs.Fits.{LabelFits}
+use Rattle.lsm_writers.specs.Cut.{Cut, rest_chunk, with_cut}
 use Rattle.lsm_writers.specs.Filtering.{IsFiltered}
 use Rattle.lsm_writers.specs.Held.{CanGoOn, IsHeld, IsTaken, IsUnfilled}
-use Rattle.lsm_writers.specs.Writing.{Writing, gained}
+use Rattle.lsm_writers.specs.Writing.{Writing, gained, item_fault, spilled, write_fault}
 use Rattle.lsm_writers.proofs.Cutting.{rest_is}
-use Rattle.lsm_writers.proofs.Filtered.{filtered_cut}
-use Rattle.lsm_writers.proofs.Taking.{cut_held, room_still}
+use Rattle.lsm_writers.proofs.Filtered.{filtered_cut, filtered_not}
+use Rattle.lsm_writers.proofs.Taking.{cut_held, held_cut, room_still}
 
 unfilled : (size : ℕ) (es : List Entry) → is_full size es ≡ false → IsUnfilled size es
 unfilled size [] h = tt
@@ -66,3 +67,38 @@ pub gained_is : {A : Type 0} (label : Label) (options : Options) (cut new : Cut)
     → record { label = label; options = options; cut = new.chunks; pending = pending; failed = false } ≡ gained (record { label = label; options = options; cut = cut.chunks; pending = old; failed = failed }) e
 gained_is label options cut new old pending failed e n m o works r =
     rw works (gained_by (is_full options.data_block_size (old ++ e ∷ [])) label options (old ++ e ∷ []) cut new pending n m o r)
+
+-- ---- what a writer refuses
+
+module _ (label : Label) (options : Options) (cut : Cut) (pending : List Entry) (failed : Bool) (e : Entry) (works : failed ≡ false) where
+  pub write_fault_is : write_fault (record { label = label; options = options; cut = cut.chunks; pending = pending; failed = failed }) e ≡ item_fault pending e
+  write_fault_is = rw works refl
+
+  pub write_fault_none : item_fault pending e ≡ None → write_fault (record { label = label; options = options; cut = cut.chunks; pending = pending; failed = failed }) e ≡ None
+  write_fault_none none = write_fault_is ∙ none
+
+-- once a call was refused all parts are as they were, and the filter has any keys
+pub parts_left : {A : Type 0} (size : ℕ) (cut new : Cut) (old pending : List Entry) (k n : ℕ) (m o : Metadata A) (label : Label) (failed : Bool) (kind : FilterKind) (policy : BloomConstructionPolicy) (w v : Option (FilterWriterImpl A)) (es : List Entry)
+    → pending ≡ old → n ≡ k → new.chunks ≡ cut.chunks → o ≡ m → IsHeld size cut.chunks old k m → LabelFits label → IsFiltered failed kind policy w es
+    → IsHeld size new.chunks pending n o × CanGoOn true size new pending × LabelFits label × IsFiltered true kind policy v (joined new.chunks ++ pending)
+parts_left size cut new old pending k n m o label failed kind policy w v es p s c u held fits filtered =
+    (rw (p, s, c, u) held, record { works = λ no. absurd cc; room = λ no. absurd cc }, fits, filtered_not kind policy v (joined new.chunks ++ pending) filtered.small)
+
+pub left_is : (label : Label) (options : Options) (cut new : Cut) (old pending : List Entry) (failed : Bool) → pending ≡ old → new.chunks ≡ cut.chunks
+    → ◌≡◌ {A = Writing} (record { label = label; options = options; cut = new.chunks; pending = pending; failed = true }) (record { label = label; options = options; cut = cut.chunks; pending = old; failed = true })
+left_is label options cut new old pending failed p c = rw (p, c) refl
+
+-- ---- the pending entries were cut off
+
+pub parts_spilled : {A : Type 0} (size : ℕ) (cut new : Cut) (old pending : List Entry) (k : ℕ) (m o : Metadata A) (label : Label) (failed : Bool) (kind : FilterKind) (policy : BloomConstructionPolicy) (w : Option (FilterWriterImpl A))
+    → failed ≡ false → new.chunks ≡ cut.chunks ++ rest_chunk old → new.failed ≡ false → pending ≡ [] → o ≡ with_cut new.chunks m
+    → IsHeld size cut.chunks old k m → LabelFits label → IsFiltered failed kind policy w (joined cut.chunks ++ old)
+    → IsHeld size new.chunks pending 0 o × CanGoOn false size new pending × LabelFits label × IsFiltered false kind policy w (joined new.chunks ++ pending)
+parts_spilled {A} size cut new old pending k m o label failed kind policy w works n f p u held fits filtered =
+    let done : IsHeld size new.chunks [] 0 (with_cut new.chunks m) = subst (λ (cs : List (List Entry)). IsHeld size cs [] 0 (with_cut cs m)) (sym n) (held_cut size cut.chunks old k m held) in
+    let has = subst (λ (b : Bool). IsFiltered b kind policy w (joined cut.chunks ++ old)) works filtered in
+    (rw (p, u) done, record { works = λ _. f; room = λ _. rw p tt }, fits, rw p (filtered_cut kind policy w cut.chunks new.chunks old has n))
+
+pub spilled_now : (label : Label) (options : Options) (cut new : Cut) (old pending : List Entry) (failed : Bool) → failed ≡ false → new.chunks ≡ cut.chunks ++ rest_chunk old → pending ≡ []
+    → ◌≡◌ {A = Writing} (record { label = label; options = options; cut = new.chunks; pending = pending; failed = false }) (spilled (record { label = label; options = options; cut = cut.chunks; pending = old; failed = failed }))
+spilled_now label options cut new old pending failed works n p = rw (works, n, p) refl

@@ -1,6 +1,6 @@
 -- Calls that nothing but want of memory refuses.
-use Rattle.std.proofs.Common.{◌≡◌, refl, sym, subst, ◌∙◌, Bool, true, false}
-use Rattle.std.specs.Prelude.{Option, Some, None, Result, Ok, Err, IfErr}
+use Rattle.std.proofs.Common.{◌≡◌, refl, sym, ap, subst, ◌∙◌, Bool, true, false}
+use Rattle.std.specs.Prelude.{Option, Some, None, Result, Ok, Err, IfErr, IsErrAnd, OnOk, OnErr}
 use Rattle.sst_entries.specs.Error.{Faults, is_memory}
 use Rattle.sst_entries.specs.declared.error.Error.{Error}
 use Rattle.sst_entries.specs.declared.error.Error.TheVariants.{OutOfMemory, Truncated, InvalidHeader, InvalidTag, ChecksumMismatch, InvalidBlock, KeyTooLong, ValueTooLong, BlockTooLarge, SectionTooLarge, InvalidTrailer, MissingSection, MetaKeyMissing, InvalidMetaValue, UnsupportedTableVersion, UnsupportedHashType, UnsupportedChecksumType, UnsupportedIndexInterval, UnsupportedCompression, GlobalSeqNoTooLarge, SeqNoOverflow, TableIdsSpent, WriterFailed, Source}
@@ -43,3 +43,30 @@ memory_alone (Err e) told none h = memory_or e told (is_memory e) refl none h
 -- so of the refusal itself
 pub refused_alone : {X : Type 0} (r : Result X Error) (e : Error) → r ≡ Err e → IfErr r (λ x. x ≡ OutOfMemory) → e ≡ OutOfMemory
 refused_alone {X} r e is told = subst (λ (t : Result X Error). IfErr t (λ x. x ≡ OutOfMemory)) is told
+
+-- where nothing is refused but want of memory, no fault is told
+pub faults_none : {X : Type 0} (r : Result X Error) (told : Option Error) → told ≡ None → IfErr r (λ e. e ≡ OutOfMemory) → Faults r told
+faults_none (Ok x) told none memory = none
+faults_none (Err e) told none memory = λ h.
+    let both : true ≡ false = sym (ap is_memory memory) ∙ h in
+    absurd cc
+
+-- what follows from a call's answer, and from its refusal
+pub ok_then : {X E P Q : Type 0} (r : Result X E) → OnOk r P → (P → Q) → OnOk r Q
+ok_then (Ok x) p f = f p
+ok_then (Err e) p f = tt
+
+pub err_then : {X E P Q R : Type 0} (r : Result X E) → OnErr r P → OnErr r Q → (P → Q → R) → OnErr r R
+err_then (Ok x) p q f = tt
+err_then (Err e) p q f = f p q
+
+-- a call that passes on a want of memory
+pub faults_memory : {X : Type 0} (r : Result X Error) (e : Error) (told : Option Error) → IsErrAnd r (λ y. y ≡ e) → e ≡ OutOfMemory → Faults r told
+faults_memory (Ok x) e told is memory = absurd is
+faults_memory (Err y) e told is memory = λ h.
+    let both : true ≡ false = sym (ap is_memory (is ∙ memory)) ∙ h in
+    absurd cc
+
+-- no fault is another
+pub none_some : (x : Error) → ◌≡◌ {A = Option Error} None (Some x) → ⊥
+none_some x h = absurd cc

@@ -18,12 +18,12 @@ use Rattle.sst_sections.specs.declared.version.TableVersion.TheVariants.{V4}
 use Rattle.lsm_writers.specs.declared.writer.meta.Metadata.{Metadata}
 use Rattle.lsm_writers.specs.declared.writer.meta.Tally.{Tally}
 use Rattle.lsm_writers.specs.Counts.{metadata_of, brought, tally_of, added, with_entry, HasRoom}
-use Rattle.lsm_writers.specs.Cut.{rest_chunk, with_cut}
+use Rattle.lsm_writers.specs.Cut.{Cut, rest_chunk, with_cut}
 use Rattle.lsm_files.specs.Facts.{count_after, lowest_seqno, highest_seqno, is_tombstone, is_weak, is_reclaimable, starts_key, one_if, first_key}
 use Rattle.lsm_files.specs.Fits.{EntryFits}
-use Rattle.lsm_writers.specs.Held.{IsUnfilled, IsHeld, IsShortest}
+use Rattle.lsm_writers.specs.Held.{IsUnfilled, IsHeld, IsShortest, IsTaken}
 use Rattle.lsm_writers.specs.Writing.{item_fault, may_be_written}
-use Rattle.lsm_writers.proofs.Cutting.{joined_more}
+use Rattle.lsm_writers.proofs.Cutting.{joined_more, rest_is}
 use Rattle.sst_entries.proofs.Lists.{all_append, all_behind}
 use Rattle.sst_entries.proofs.Booleans.{and_parts}
 use Rattle.sst_entries.proofs.Strictness.{strict_push}
@@ -215,10 +215,6 @@ held_cut {A} size cut (e ∷ es) n m old =
       small = omega arith;
     }
 
-pub not_full : (size n : ℕ) (pending : List Entry) → n ≡ entries_size pending → n < size → IsUnfilled size pending
-not_full size n [] e lt = tt
-not_full size n (x ∷ xs) e lt = lt-leb _ _ (omega (arith, e, lt))
-
 -- a writer's parts once an entry was taken
 pub taken_held : {A : Type 0} (size : ℕ) (cut : List (List Entry)) (pending : List Entry) (n : ℕ) (m : Metadata A) (e : Entry) (last : Option Entry) (items : List Entry) (k : ℕ) (o : Metadata A)
     → IsHeld size cut pending n m → IsUnfilled size pending → IsTrue (may_be_written (joined cut ++ pending) e.user_key e.seqno) → item_fault pending e ≡ None → last ≡ last_of None (joined cut)
@@ -248,6 +244,24 @@ cut_held {A} size cut items k m t new o p held n c a =
 -- what is pending encodes, as it is held
 pub held_fits : {A : Type 0} (size : ℕ) (cut : List (List Entry)) (pending : List Entry) (n : ℕ) (m : Metadata A) → IsHeld size cut pending n m → entries_fault pending ≡ None
 held_fits size cut pending n m h = no_fault pending (all_behind (EntryFits V4) (joined cut) pending h.fits) (omega (arith, h.sized, h.small))
+
+-- ---- an entry that is put behind the pending ones
+
+pub taken_unfilled : {A : Type 0} (size : ℕ) (cut : Cut) (old items : List Entry) (e : Entry) (k n : ℕ) (m : Metadata A) → items ≡ old ++ e ∷ [] → n ≡ k + entry_size e → k ≡ entries_size old → n < size
+    → IsTaken (is_full size (old ++ e ∷ [])) (old ++ e ∷ []) cut m items n cut m
+taken_unfilled size cut old items e k n m i s o lt =
+    let sum : n ≡ entries_size (old ++ e ∷ []) = omega (arith, s, o, size_more old e) in
+    let left : is_full size (old ++ e ∷ []) ≡ false = lt-leb _ _ (omega (arith, sum, lt)) in
+    rw left (i, sum, refl, refl)
+
+pub taken_full : {A : Type 0} (size : ℕ) (cut new : Cut) (old items pending : List Entry) (e : Entry) (k n : ℕ) (m o : Metadata A) → items ≡ old ++ e ∷ [] → n ≡ k + entry_size e → k ≡ entries_size old → size ≤ n
+    → new.chunks ≡ cut.chunks ++ rest_chunk items → new.failed ≡ false → pending ≡ [] → o ≡ with_cut new.chunks m
+    → IsTaken (is_full size (old ++ e ∷ [])) (old ++ e ∷ []) cut m pending 0 new o
+taken_full size cut new old items pending e k n m o i s q le c f p u =
+    let sum : n ≡ entries_size (old ++ e ∷ []) = omega (arith, s, q, size_more old e) in
+    let full : is_full size (old ++ e ∷ []) ≡ true = le-leb _ _ (omega (arith, sum, le)) in
+    let one : rest_chunk items ≡ (old ++ e ∷ []) ∷ [] = ap rest_chunk i ∙ rest_is (old ++ e ∷ []) (omega (arith, length-append old (e ∷ []))) in
+    rw full (p, refl, c ∙ ap (λ (x : List (List Entry)). cut.chunks ++ x) one, f, u)
 
 -- an entry that is given up again
 pub given_up : (pending items : List Entry) (e : Entry) (n : ℕ) → items ≡ pending ++ e ∷ [] → n ≡ length pending → take n items ≡ pending

@@ -1,17 +1,22 @@
 -- A call of a writer of many tables, where the next table may begin.
-use Rattle.std.proofs.Common.{◌≡◌, refl, sym, ◌∙◌, ap, subst, ℕ, ◌-◌, ◌^◌, Bool, true, false, List, [], ◌∷◌, ◌++◌, append_assoc, IsTrue}
+use Rattle.std.proofs.Common.{◌≡◌, refl, sym, ◌∙◌, ap, subst, ℕ, ◌-◌, ◌^◌, Bool, true, false, List, [], ◌∷◌, ◌++◌, append_assoc, arith, IsTrue}
 use Rattle.std.specs.Prelude.{Option, Some, None, Result, Ok, Err, IsErrAnd, nat_lt, if◌then◌else◌}
 use Rattle.sst_entries.specs.declared.error.Error.{Error}
+use Rattle.sst_entries.specs.declared.error.Error.TheVariants.{OutOfMemory, TableIdsSpent, WriterFailed}
 use Rattle.sst_entries.specs.Entry.{Entry}
 use Rattle.sst_entries.specs.Error.{Refuses}
+use Rattle.sst_entries.specs.Strict.{IsStrictAfter}
+use Rattle.lsm_files.specs.declared.options.Options.{Options}
+use Rattle.lsm_files.specs.Options.{label_of}
 use Rattle.sst_entries.proofs.Booleans.{and_parts}
 use Rattle.lsm_files.specs.Chunks.{joined}
 use Rattle.lsm_writers.specs.declared.writer.FinishedTable.{FinishedTable}
 use Rattle.lsm_writers.specs.Cut.{rest_chunk}
-use Rattle.lsm_writers.specs.Tables.{GoesOn, IsStanding, TablesWriting, all_written, early_fault, ids_fault, is_due, lists_in, next_writing, rotation_fault, standing, took, took_fault, turn_fault}
-use Rattle.lsm_writers.specs.Writing.{Writing, gained, may_be_written, write_fault, written}
+use Rattle.lsm_writers.specs.Tables.{GoesOn, IsFreshRun, IsStanding, TablesWriting, all_written, drawn, early_fault, gained_all, ids_after, ids_fault, is_due, lists_in, new_tables, next_id, next_writing, rotated, rotation_fault, standing, took, took_fault, turn_fault}
+use Rattle.lsm_writers.specs.Writing.{IsFresh, Writing, fresh_writing, gained, may_be_written, new_writing, write_fault, written}
 use Rattle.lsm_writers.proofs.Chunking.{joined_rest}
 use Rattle.lsm_writers.proofs.ListWriting.{written_gained}
+use Rattle.lsm_writers.proofs.Refused.{none_some}
 use Rattle.lsm_writers.proofs.Rotating.{follows_all, follows_none, goes_on_next, goes_on_still, lists_added}
 use Rattle.std.proofs.lemmas.List.Concat.{flat_map-append}
 
@@ -22,6 +27,50 @@ state_of target ids fs w failed = record { target = target; ids = ids; tables = 
 ids_left : (ids : Option ℕ) (w : Writing) → rotation_fault ids w ≡ None → ids_fault ids ≡ None
 ids_left None w h = absurd cc
 ids_left (Some id) w h = refl
+
+-- whether an id is left
+pub ids_spent : (ids : Option ℕ) → None ≡ ids → ids_fault ids ≡ Some TableIdsSpent
+ids_spent ids is = rw (← is) refl
+
+pub ids_spent_first : (ids : Option ℕ) → None ≡ ids → (x : Error) → ids_fault ids ≡ Some x → Some x ≡ Some TableIdsSpent
+ids_spent_first ids is x told = sym told ∙ ids_spent ids is
+
+pub rotation_spent : (ids : Option ℕ) (w : Writing) → None ≡ ids → rotation_fault ids w ≡ Some TableIdsSpent
+rotation_spent ids w is = rw (← is) refl
+
+pub ids_fine : (id : ℕ) (ids : Option ℕ) → Some id ≡ ids → ids_fault ids ≡ None
+ids_fine id ids is = rw (← is) refl
+
+pub ids_fine_first : (id : ℕ) (ids : Option ℕ) → Some id ≡ ids → (x : Error) → ids_fault ids ≡ Some x → ⊥
+ids_fine_first id ids is x told = none_some x (sym (ids_fine id ids is) ∙ told)
+
+-- a writer of no table yet
+pub goes_on_first : {A : Type 0} (target : ℕ) (ids left : Option ℕ) (id level moment : ℕ) (w : Writing) → Some id ≡ ids → left ≡ drawn ids → w ≡ new_writing (label_of id level moment) → GoesOn {A = A} target left [] w
+unfolding IsStrictAfter
+goes_on_first {A} target ids left id level moment w is drew e =
+    let next : left ≡ next_id id = drew ∙ ap drawn (sym is) in
+    let made : GoesOn {A = A} target left [] (new_writing (label_of id level moment)) = record { present = refl; strict = tt; cuts = tt; finished = tt; few = omega arith; next = next; begun = λ _. refl } in
+    subst (λ (v : Writing). GoesOn {A = A} target left [] v) (sym e) made
+
+pub new_tables_is : {A : Type 0} (target : ℕ) (ids left : Option ℕ) (id level moment : ℕ) (w : Writing) (fs : List (FinishedTable A)) → Some id ≡ ids → left ≡ drawn ids → w ≡ new_writing (label_of id level moment) → fs ≡ []
+    → state_of target left fs w false ≡ new_tables ids target level moment
+new_tables_is target ids left id level moment w fs is drew e none = rw (none, drew, e, ← is) refl
+
+-- ---- other options, before the first entry
+
+module _ {A : Type 0} (target : ℕ) (ids : Option ℕ) (fs : List (FinishedTable A)) (w : Writing) (failed : Bool) (m : TablesWriting) (is : state_of target ids fs w failed ≡ m) (fresh : IsFreshRun m) where
+  pub fresh_present : IsFresh w
+  fresh_present = (subst IsFreshRun (sym is) fresh).1
+
+  pub goes_on_with : (v : Writing) (options : Options) → (failed ≡ false → GoesOn target ids fs w) → v ≡ record w { options = options } → failed ≡ false → GoesOn target ids fs v
+  unfolding IsStrictAfter
+  goes_on_with v options goes e works =
+      let h = goes works in
+      let none : written w ≡ [] = rw (fresh_present.0, fresh_present.1) refl in
+      let was : w ≡ fresh_writing w.label w.options = h.present ∙ ap (gained_all (fresh_writing w.label w.options)) none in
+      let now : v ≡ fresh_writing w.label options = e ∙ ap (λ (u : Writing). record u { options = options }) was in
+      let made : GoesOn {A = A} target ids [] (fresh_writing w.label options) = record { present = refl; strict = tt; cuts = tt; finished = tt; few = omega arith; next = h.next; begun = λ _. refl } in
+      rw (now, h.begun none) made
 
 -- whether a table was due is told, so is what stands then
 module _ {A : Type 0} (target : ℕ) (ids ids' : Option ℕ) (fs fs' : List (FinishedTable A)) (w w' : Writing) (e : Entry) where
@@ -93,3 +142,36 @@ early_due target ids fs w e failed x works due early =
 pub refuses_passed : {X : Type 0} (r : Result X Error) (e x : Error) → IsErrAnd r (λ y. y ≡ e) → Some x ≡ Some e → Refuses r (Some x)
 refuses_passed (Ok y) e x is h = absurd is
 refuses_passed (Err y) e x is h = rw is h
+
+-- ---- a writer that has not refused
+
+module _ {A : Type 0} (target : ℕ) (ids : Option ℕ) (fs : List (FinishedTable A)) (w : Writing) (e : Entry) (failed : Bool) (works : failed ≡ false) where
+  pub fault_turned : (x : Error) → turn_fault target ids w e ≡ Some x → took_fault (state_of target ids fs w failed) e ≡ Some x
+  fault_turned x h = rw (works, h) refl
+
+  ids_by : (due : Bool) (m : TablesWriting) → (if due then drawn m.ids else m.ids) ≡ (if due then rotated m else m).ids
+  ids_by false m = refl
+  ids_by true m = refl
+
+  -- an id was drawn just where a table was due
+  pub ids_are : (ids' : Option ℕ) → ids' ≡ (if is_due target w e then drawn ids else ids) → ids' ≡ ids_after (state_of target ids fs w failed) e
+  ids_are ids' is = rw works (is ∙ ids_by (is_due target w e) (state_of target ids fs w false))
+
+-- ---- a writer that has refused
+
+module _ {A : Type 0} (target : ℕ) (ids : Option ℕ) (fs : List (FinishedTable A)) (w : Writing) (e : Entry) (failed : Bool) (spent : failed ≡ true) where
+  pub spent_fault : took_fault (state_of target ids fs w failed) e ≡ Some WriterFailed
+  spent_fault = rw spent refl
+
+  pub spent_first : (x : Error) → early_fault (state_of target ids fs w failed) e ≡ Some x → Some x ≡ Some WriterFailed
+  spent_first x early =
+      let told : early_fault (state_of target ids fs w failed) e ≡ Some WriterFailed = rw spent refl in
+      sym early ∙ told
+
+  pub spent_memory : took_fault (state_of target ids fs w failed) e ≡ None → WriterFailed ≡ OutOfMemory
+  spent_memory none =
+      let both : None ≡ Some WriterFailed = sym none ∙ spent_fault in
+      absurd cc
+
+  pub spent_ids : ids ≡ ids_after (state_of target ids fs w failed) e
+  spent_ids = rw spent refl

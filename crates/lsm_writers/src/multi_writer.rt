@@ -63,12 +63,12 @@ impl<A: Allocator + Clone> MultiWriter<A> {
         let Some(id) = ids.next() else {
             return Err(Error::TableIdsSpent);
         };
-        let finished = Vec::new(alloc.clone()?);
+        let writer = Writer::new(alloc.clone()?, id, initial_level, created_at)?;
         Ok(MultiWriter {
             target_size,
             ids,
-            finished,
-            writer: Writer::new(alloc, id, initial_level, created_at)?,
+            finished: Vec::new(alloc),
+            writer,
             failed: false,
         })
     }

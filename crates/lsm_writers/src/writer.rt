@@ -107,12 +107,12 @@ impl<A: Allocator + Clone> Writer<A> {
         ensures ok { IfOk result (λ w. w ≡ fresh_writing label options) }
         ensures err { IfErr result (λ e. e ≡ OutOfMemory) }
     {
-        let chunk = Vec::new(alloc.clone()?);
+        let blocks = DataBlocks::new(alloc.clone()?)?;
         Ok(Writer {
             label,
             options,
-            blocks: DataBlocks::new(alloc)?,
-            chunk,
+            blocks,
+            chunk: Vec::new(alloc),
             chunk_size: 0,
             meta: Metadata::default(),
             filter_writer: None,
@@ -591,8 +591,7 @@ fn write_sections<A: Allocator + Clone>(
         index: index_blocks,
         filter: filter_blocks,
     };
-    write_meta(file_writer, buffer, label, options, counts, meta)?;
-    Ok(())
+    write_meta(file_writer, buffer, label, options, counts, meta)
 }
 
 /// Refused where an entry is too long, or would make the block of the pending ones too large.

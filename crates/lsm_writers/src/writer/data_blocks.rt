@@ -52,11 +52,12 @@ impl<A: Allocator + Clone> DataBlocks<A> {
         ensures ok { IfOk result (λ b. b ≡ record { chunks = []; failed = false }) }
         ensures err { IfErr result (λ e. e ≡ OutOfMemory) }
     {
+        let index_alloc = alloc.clone()?;
         let mut file_writer = SectionWriter::new(alloc.clone()?)?;
         file_writer.start(SectionName::Data)?;
         Ok(DataBlocks {
             file_writer,
-            index_writer: FullIndexWriter::new(alloc.clone()?),
+            index_writer: FullIndexWriter::new(index_alloc),
             block_buffer: Vec::new(alloc),
             last: None,
         })
@@ -160,8 +161,7 @@ fn add_block<A: Allocator + Clone>(
     ensures err { IfErr result (λ e. e ≡ OutOfMemory) }
 {
     let handle = write_chunk(file_writer, buffer, items, last, options)?;
-    index_writer.register_data_block(&handle)?;
-    Ok(())
+    index_writer.register_data_block(&handle)
 }
 
 /// Encodes these entries into the buffer and writes them as a block at the end. Answers what the index has of the block.
@@ -185,7 +185,6 @@ fn write_chunk<A: Allocator + Clone>(
     ensures unchanged { OnErr result (file_writer.new ≡ file_writer.old) }
     ensures err { IfErr result (λ e. e ≡ OutOfMemory) }
 {
-    let end_key = last.key.user_key.clone()?;
     buffer.clear();
     DataBlock::encode_into(
         buffer,
@@ -193,6 +192,7 @@ fn write_chunk<A: Allocator + Clone>(
         options.data_block_restart_interval,
         options.data_block_hash_ratio,
     )?;
+    let end_key = last.key.user_key.clone()?;
     let place = Block::write_into(file_writer, buffer, BlockType::Data, CompressionType::None)?;
     Ok(KeyedBlockHandle::new(end_key, last.key.seqno, place))
 }

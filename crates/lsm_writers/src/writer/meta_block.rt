@@ -145,14 +145,10 @@ fn put_key_items<A: Allocator + Clone>(
             (ItemName::IndexKeysHaveSeqno, &[1]),
             (ItemName::InitialLevel, &[label.initial_level]),
             (ItemName::ItemCount, &(meta.item_count as u64).to_le_bytes()),
+            (ItemName::KeyMax, bytes_of(&meta.last_key)),
+            (ItemName::KeyMin, bytes_of(&meta.first_key)),
+            (ItemName::KeyCount, &(meta.key_count as u64).to_le_bytes()),
         ],
-    )?;
-    put(items, ItemName::KeyMax, bytes_of(&meta.last_key))?;
-    put(items, ItemName::KeyMin, bytes_of(&meta.first_key))?;
-    put(
-        items,
-        ItemName::KeyCount,
-        &(meta.key_count as u64).to_le_bytes(),
     )
 }
 
@@ -254,8 +250,16 @@ fn put<A: Allocator + Clone>(
     ensures ok { OnOk result (items.new.items ≡ items.old.items ++ meta_entry name value.now ∷ []) }
     ensures err { IfErr result (λ e. e ≡ OutOfMemory) }
 {
-    let name = Slice::from(items.allocator().clone()?, name.key())?;
-    let value = Slice::from(items.allocator().clone()?, value)?;
+    let name = copied(items.allocator(), name.key())?;
+    let value = copied(items.allocator(), value)?;
     items.push(InternalValue::from_components(name, value, 0, ValueType::Value))?;
     Ok(())
+}
+
+/// A copy of some bytes. Refused [`Error::OutOfMemory`] alone.
+fn copied<A: Allocator + Clone>(alloc: &A, bytes: &[u8]) -> Result<Slice<A>, Error>
+    ensures ok { IfOk result (λ s. s ≡ bytes.now) }
+    ensures err { IfErr result (λ e. e ≡ OutOfMemory) }
+{
+    Slice::from(alloc.clone()?, bytes)
 }

@@ -1,9 +1,10 @@
 -- One block where there are keys, and nothing without.
-use Rattle.std.proofs.Common.{ap, sym, ◌∙◌}
+use Rattle.std.proofs.Common.{ap, sym, ◌∙◌, ℕ}
+use Rattle.std.specs.Prelude.{Ok}
 use Rattle.sst_entries.proofs.StreamLemmas.{on_err}
 use Rattle.lsm_filter_writers.specs.Held.{Hashes}
 use Rattle.lsm_filter_writers.proofs.Emptiness.{vec_is_empty, vec_is_some}
-use Rattle.lsm_filter_writers.proofs.Sections.{full_fault, full_idle, full_none, full_none_fault, full_written}
+use Rattle.lsm_filter_writers.proofs.Sections.{bytes_stay, full_fault, full_idle, full_none, full_none_fault, full_written, works_first}
 use Rattle.lsm_filter_writers.proofs.full.FullFilterWriterFilterWriter.finish.Goals as goal
 
 pub returns-then-is_empty-clause-ok : goal.returns-then-is_empty-clause-ok
@@ -38,3 +39,22 @@ returns-clause-idle g c =
     on_err c.write_filter.result
     (full_idle c.args.self
     (vec_is_some c.self.inside.bloom_hash_buffer c.args.self.hashes c.is_empty.result (ap (λ (w : Hashes). w.hashes) c.self.view_is) c.is_empty.ensures c.if-is_empty.false))
+
+pub returns-clause-first : goal.returns-clause-first
+returns-clause-first g c = works_first c.write_filter.result c.self.inside.failed c.args.self.failed (ap (λ (w : Hashes). w.failed) c.self.view_is) c.if-self.false
+
+pub returns-clause-before : goal.returns-clause-before
+returns-clause-before g c = c.write_filter.ensures.before
+
+pub returns-then-is_empty-clause-first : goal.returns-then-is_empty-clause-first
+returns-then-is_empty-clause-first g c = works_first {X = ℕ} (Ok 1) c.self.inside.failed c.args.self.failed (ap (λ (w : Hashes). w.failed) c.self.view_is) c.if-self.false
+
+pub returns-then-is_empty-clause-before : goal.returns-then-is_empty-clause-before
+returns-then-is_empty-clause-before g c = bytes_stay c.args.writer.now
+
+-- a writer that has failed
+pub returns-then-self-clause-before : goal.returns-then-self-clause-before
+returns-then-self-clause-before g c = bytes_stay c.args.writer.now
+
+pub returns-then-self-clause-idle : goal.returns-then-self-clause-idle
+returns-then-self-clause-idle g c = λ h. sym (ap (λ (w : Hashes). w.failed) c.self.view_is) ∙ c.if-self.true

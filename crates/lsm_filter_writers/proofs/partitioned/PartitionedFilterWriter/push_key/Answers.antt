@@ -78,3 +78,39 @@ pub invariant_of-self-3 : goal.invariant_of-self-3
 invariant_of-self-3 g c =
     waits_rising c.self.inside.partitions.items c.args.self.now.parts c.args.key.now c.in_ok-end_key.end_key c.replace.new.self (ap (λ (w : CutParts). w.parts) c.self.view_is)
     c.in_ok-end_key.ensures.cases c.replace.ensures.after c.requires
+
+pub returns-in_err-push-clause-policy : goal.returns-in_err-push-clause-policy
+returns-in_err-push-clause-policy g c = ap (λ (w : CutParts). w.policy) c.self.view_is
+
+pub returns-in_err-push-clause-size : goal.returns-in_err-push-clause-size
+returns-in_err-push-clause-size g c = ap (λ (w : CutParts). w.size) c.self.view_is
+
+pub returns-in_err-push-clause-failed : goal.returns-in_err-push-clause-failed
+returns-in_err-push-clause-failed g c = ap (λ (w : CutParts). w.failed) c.self.view_is
+
+pub returns-in_err-end_key-clause-policy : goal.returns-in_err-end_key-clause-policy
+returns-in_err-end_key-clause-policy g c = ap (λ (w : CutParts). w.policy) c.self.view_is
+
+pub returns-in_err-end_key-clause-size : goal.returns-in_err-end_key-clause-size
+returns-in_err-end_key-clause-size g c = ap (λ (w : CutParts). w.size) c.self.view_is
+
+pub returns-in_err-end_key-clause-failed : goal.returns-in_err-end_key-clause-failed
+returns-in_err-end_key-clause-failed g c = ap (λ (w : CutParts). w.failed) c.self.view_is
+
+pub returns-clause-policy : goal.returns-clause-policy
+returns-clause-policy g c = ap (λ (w : CutParts). w.policy) c.self.view_is
+
+pub returns-clause-size : goal.returns-clause-size
+returns-clause-size g c = ap (λ (w : CutParts). w.size) c.self.view_is
+
+pub returns-clause-failed : goal.returns-clause-failed
+returns-clause-failed g c = ap (λ (w : CutParts). w.failed) c.self.view_is
+
+pub returns-then-is_full-clause-policy : goal.returns-then-is_full-clause-policy
+returns-then-is_full-clause-policy g c = c.spill_filter_partition.ensures.policy ∙ ap (λ (w : CutParts). w.policy) c.self.view_is
+
+pub returns-then-is_full-clause-size : goal.returns-then-is_full-clause-size
+returns-then-is_full-clause-size g c = c.spill_filter_partition.ensures.size ∙ ap (λ (w : CutParts). w.size) c.self.view_is
+
+pub returns-then-is_full-clause-failed : goal.returns-then-is_full-clause-failed
+returns-then-is_full-clause-failed g c = c.spill_filter_partition.ensures.failed ∙ ap (λ (w : CutParts). w.failed) c.self.view_is

@@ -7,7 +7,7 @@ use Rattle.lsm_filter_writers.specs.Held.{as_list, CutParts, end_keys, HoldsPart
 use Rattle.lsm_filter_writers.proofs.Emptiness.{vec_is_empty, vec_is_some}
 use Rattle.lsm_filter_writers.proofs.Holding.{none_cut, none_waits}
 use Rattle.lsm_filter_writers.proofs.RisingLaws.{rising_front}
-use Rattle.lsm_filter_writers.proofs.Sections.{faults_same, finish_fault, finish_large, finish_none, finish_none_fault, finish_writes, rest_refused, works_first, written_blocks, bytes_stay}
+use Rattle.lsm_filter_writers.proofs.Sections.{faults_same, finish_fault, finish_large, finish_none, finish_none_fault, finish_writes, rest_refused, spent_first, spent_told, works_first, written_blocks, bytes_stay}
 use Rattle.lsm_filter_writers.proofs.partitioned.PartitionedFilterWriterFilterWriter.finish.Goals as goal
 
 pub write_sections-requires-clause-rising : goal.write_sections-requires-clause-rising
@@ -96,3 +96,19 @@ returns-then-is_empty-clause-before g c = bytes_stay c.args.writer.now
 
 pub returns-then-self-from-clause-before : goal.returns-then-self-from-clause-before
 returns-then-self-from-clause-before g c = bytes_stay c.args.writer.now
+
+pub returns-clause-before : goal.returns-clause-before
+returns-clause-before g c = c.write_sections.ensures.before
+
+-- a writer that has failed
+pub returns-then-self-clause-before : goal.returns-then-self-clause-before
+returns-then-self-clause-before g c = bytes_stay c.args.writer.now
+
+pub returns-then-self-clause-refused : goal.returns-then-self-clause-refused
+returns-then-self-clause-refused g c = λ keys h memory. spent_told c.self.inside.failed c.args.self.failed _ (ap (λ (w : CutParts). w.failed) c.self.view_is) c.if-self.true
+
+pub returns-then-self-clause-first : goal.returns-then-self-clause-first
+returns-then-self-clause-first g c = λ e told. spent_first c.self.inside.failed c.args.self.failed e (ap (λ (w : CutParts). w.failed) c.self.view_is) c.if-self.true told
+
+pub returns-then-self-clause-idle : goal.returns-then-self-clause-idle
+returns-then-self-clause-idle g c = λ h. sym (ap (λ (w : CutParts). w.failed) c.self.view_is) ∙ c.if-self.true

@@ -4,7 +4,7 @@ use Rattle.lsm_writers.specs.Tables.{took_fault, turn_fault}
 use Rattle.lsm_writers.specs.Tables.{HasRoomFor}
 use Rattle.lsm_writers.proofs.Fitting.{room_fault, room_turn}
 use Rattle.lsm_writers.proofs.Refused.{memory_alone}
-use Rattle.lsm_writers.proofs.Turning.{early_due, early_is, fault_is, listed_is, next_follows, refuses_passed, still_goes_on, took_is}
+use Rattle.lsm_writers.proofs.Turning.{early_due, early_is, fault_is, fault_turned, ids_are, listed_is, next_follows, refuses_passed, spent_fault, spent_first, spent_ids, spent_memory, still_goes_on, took_is}
 use Rattle.lsm_writers.proofs.multi_writer.MultiWriter.write.Goals as goal
 
 pub returns-in_err-make_ready-clause-first : goal.returns-in_err-make_ready-clause-first
@@ -67,3 +67,55 @@ returns-in_err-make_ready-clause-taken g c =
     let i = c.self.inside in
     let fine : HasRoomFor c.args.self.now c.args.item → turn_fault i.target_size i.ids i.writer c.args.item ≡ None = rw (← c.self.view_is) (room_turn i.target_size i.ids i.finished.items i.writer i.failed c.args.item c.self.invariant) in
     λ room. memory_alone c.from_residual.result (turn_fault i.target_size i.ids i.writer c.args.item) (fine room) (faults_refusal c.from_residual.result c.in_err-make_ready.field-0.0 (turn_fault i.target_size i.ids i.writer c.args.item) c.from_residual.ensures.1 c.in_err-make_ready.ensures.refused)
+
+pub returns-in_err-make_ready-clause-refused : goal.returns-in_err-make_ready-clause-refused
+returns-in_err-make_ready-clause-refused g c =
+    let i = c.self.inside in
+    rw (← c.self.view_is) (faults_refusal c.from_residual.result c.in_err-make_ready.field-0.0 _ c.from_residual.ensures.1
+    (λ memory. fault_turned i.target_size i.ids i.finished.items i.writer c.args.item i.failed c.if-self.false _ (c.in_err-make_ready.ensures.refused memory)))
+
+pub returns-in_err-make_ready-clause-memory : goal.returns-in_err-make_ready-clause-memory
+returns-in_err-make_ready-clause-memory g c =
+    λ none. memory_alone c.from_residual.result _ none (returns-in_err-make_ready-clause-refused g c)
+
+pub returns-in_err-make_ready-clause-ids : goal.returns-in_err-make_ready-clause-ids
+returns-in_err-make_ready-clause-ids g c =
+    let i = c.self.inside in
+    rw (← c.self.view_is) (ids_are i.target_size i.ids i.finished.items i.writer c.args.item i.failed c.if-self.false _ c.make_ready.ensures.ids)
+
+pub returns-in_err-write-clause-ids : goal.returns-in_err-write-clause-ids
+returns-in_err-write-clause-ids g c =
+    let i = c.self.inside in
+    rw (← c.self.view_is) (ids_are i.target_size i.ids i.finished.items i.writer c.args.item i.failed c.if-self.false _ c.make_ready.ensures.ids)
+
+pub returns-clause-ids : goal.returns-clause-ids
+returns-clause-ids g c =
+    let i = c.self.inside in
+    rw (← c.self.view_is) (ids_are i.target_size i.ids i.finished.items i.writer c.args.item i.failed c.if-self.false _ c.make_ready.ensures.ids)
+
+-- a writer that has refused
+pub returns-then-self-clause-refused : goal.returns-then-self-clause-refused
+returns-then-self-clause-refused g c =
+    let i = c.self.inside in
+    rw (← c.self.view_is) (λ memory. spent_fault i.target_size i.ids i.finished.items i.writer c.args.item i.failed c.if-self.true)
+
+pub returns-then-self-clause-first : goal.returns-then-self-clause-first
+returns-then-self-clause-first g c =
+    let i = c.self.inside in
+    rw (← c.self.view_is) (spent_first i.target_size i.ids i.finished.items i.writer c.args.item i.failed c.if-self.true)
+
+pub returns-then-self-clause-memory : goal.returns-then-self-clause-memory
+returns-then-self-clause-memory g c =
+    let i = c.self.inside in
+    rw (← c.self.view_is) (spent_memory i.target_size i.ids i.finished.items i.writer c.args.item i.failed c.if-self.true)
+
+pub returns-then-self-clause-taken : goal.returns-then-self-clause-taken
+returns-then-self-clause-taken g c =
+    let i = c.self.inside in
+    let fine : HasRoomFor c.args.self.now c.args.item → took_fault c.args.self.now c.args.item ≡ None = rw (← c.self.view_is) (room_fault i.target_size i.ids i.finished.items i.writer i.failed c.args.item c.self.invariant) in
+    λ room. returns-then-self-clause-memory g c (fine room)
+
+pub returns-then-self-clause-ids : goal.returns-then-self-clause-ids
+returns-then-self-clause-ids g c =
+    let i = c.self.inside in
+    rw (← c.self.view_is) (spent_ids i.target_size i.ids i.finished.items i.writer c.args.item i.failed c.if-self.true)

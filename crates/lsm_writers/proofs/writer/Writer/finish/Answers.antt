@@ -6,7 +6,9 @@ use Rattle.lsm_files.specs.Fits.{EntryFits, LabelFits}
 use Rattle.sst_entries.proofs.StreamLemmas.{on_err}
 use Rattle.lsm_files.specs.Chunks.{joined}
 use Rattle.lsm_writers.specs.Writing.{Writing, WritesTable, written}
-use Rattle.lsm_writers.proofs.Finishing.{spilled_is, nothing_behind, written_none, written_some, works_still, no_finish_fault, sections_fault_is, written_strict, written_fits, finished_is}
+use Rattle.sst_entries.proofs.Refusals.{faults_refusal}
+use Rattle.lsm_writers.proofs.Refused.{none_some}
+use Rattle.lsm_writers.proofs.Finishing.{finish_failed, spilled_is, nothing_behind, written_none, written_some, works_still, no_finish_fault, sections_fault_is, written_strict, written_fits, finished_is}
 use Rattle.lsm_writers.proofs.writer.Writer.finish.Goals as goal
 
 pub table-requires-clause-works : goal.table-requires-clause-works
@@ -93,3 +95,20 @@ returns-clause-fits g c =
     let i = c.self.inside in
     let held = spilled_is c.args.self _ i.chunk_size i.meta (c.self.view_is ∙ c.in_default.ensures.ok) c.self.invariant.0 in
     written_fits c.args.self i.chunk_size i.meta held
+
+pub returns-in-Err-clause-refused : goal.returns-in-Err-clause-refused
+returns-in-Err-clause-refused g c = λ memory. finish_failed c.args.self _ (c.in-Err.ensures.refused memory)
+
+pub returns-in_err-table-clause-refused : goal.returns-in_err-table-clause-refused
+returns-in_err-table-clause-refused g c =
+    faults_refusal c.from_residual.result c.in_err-table.field-0.0 _ c.from_residual.ensures.1
+    (λ memory. sym (sections_fault_is c.args.self _ c.in_default.ensures.ok c.in_default.ensures.refused) ∙ c.in_err-table.ensures.refused memory)
+
+pub returns-in_err-table-clause-first : goal.returns-in_err-table-clause-first
+returns-in_err-table-clause-first g c = λ x told. absurd (none_some x (sym c.in_default.ensures.refused ∙ told))
+
+pub returns-then-item_count-eq0-clause-first : goal.returns-then-item_count-eq0-clause-first
+returns-then-item_count-eq0-clause-first g c = λ x told. absurd (none_some x (sym c.in_default.ensures.refused ∙ told))
+
+pub returns-clause-first : goal.returns-clause-first
+returns-clause-first g c = λ x told. absurd (none_some x (sym c.in_default.ensures.refused ∙ told))

@@ -1,7 +1,9 @@
 use Rattle.std.proofs.Common.{◌≡◌, ◌∙◌, ap, sym, subst, List, ℕ}
 use Rattle.std.specs.Prelude.{None}
 use Rattle.lsm_writers.specs.Writing.{Writing, WritesTable, cut_writing, sections_fault}
+use Rattle.lsm_files.specs.Fits.{LabelFits}
 use Rattle.lsm_writers.proofs.Finishing.{all_cut, parts_are}
+use Rattle.lsm_writers.proofs.Refused.{faults_memory}
 use Rattle.lsm_writers.proofs.writer.Writer.table.Goals as goal
 
 pub write_sections-sections-requires : goal.write_sections-sections-requires
@@ -40,3 +42,18 @@ returns-in-Err-clause-refused g c =
     let parts = parts_are i.failed i.options i.blocks.chunks i.chunk.items i.chunk_size i.meta i.filter_writer _ _ _ _ c.self.invariant.0 c.self.invariant.3 none works c.into_parts-file_writer.ensures.data c.into_kind-index_writer.ensures c.into_parts-file_writer.ensures.index c.into_parts-file_writer.ensures.works c.into_parts-file_writer.ensures.blocks in
     let same = all_cut i.label i.options i.blocks.chunks i.chunk.items i.failed none works ∙ c.self.view_is in
     λ memory. ap sections_fault (sym same) ∙ c.in-Err.ensures.refused i.blocks.chunks parts memory
+
+pub returns-in_err-bytes-clause-refused : goal.returns-in_err-bytes-clause-refused
+returns-in_err-bytes-clause-refused g c = faults_memory c.from_residual.result c.in_err-bytes.field-0.0 _ c.from_residual.ensures.1 c.in_err-bytes.ensures.err
+
+pub returns-in-Err-clause-label : goal.returns-in-Err-clause-label
+returns-in-Err-clause-label g c = subst (λ (w : Writing). LabelFits w.label) c.self.view_is c.self.invariant.2
+
+pub returns-in_err-bytes-clause-label : goal.returns-in_err-bytes-clause-label
+returns-in_err-bytes-clause-label g c = subst (λ (w : Writing). LabelFits w.label) c.self.view_is c.self.invariant.2
+
+pub returns-clause-label : goal.returns-clause-label
+returns-clause-label g c = subst (λ (w : Writing). LabelFits w.label) c.self.view_is c.self.invariant.2
+
+pub returns-clause-id : goal.returns-clause-id
+returns-clause-id g c = ap (λ (w : Writing). w.label.table_id) c.self.view_is

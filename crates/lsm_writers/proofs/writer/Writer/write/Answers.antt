@@ -1,4 +1,4 @@
-use Rattle.std.proofs.Common.{◌≡◌, refl, sym, subst, arith, IsTrue, List, [], ◌∷◌, ◌++◌, ◌+◌, ℕ}
+use Rattle.std.proofs.Common.{◌≡◌, ◌∙◌, refl, sym, subst, arith, IsTrue, List, [], ◌∷◌, ◌++◌, ◌+◌, ℕ}
 use Rattle.std.specs.Prelude.{Option}
 use Rattle.std.specs.Option.{option_copied}
 use Rattle.sst_entries.specs.Entry.{Entry}
@@ -9,8 +9,12 @@ use Rattle.lsm_files.specs.Chunks.{entry_size, is_full}
 use Rattle.lsm_files.specs.Facts.{starts_key}
 use Rattle.lsm_writers.specs.Filtering.{MayHaveKeys, registered_key}
 use Rattle.lsm_writers.proofs.Filtered.{may_register, registered_now}
-use Rattle.lsm_writers.proofs.Gaining.{filter_taken, gained_is, parts_taken, room_taken}
+use Rattle.sst_entries.proofs.Refusals.{faults_refusal}
+use Rattle.sst_entries.proofs.StreamLemmas.{on_err}
+use Rattle.lsm_writers.proofs.Gaining.{filter_taken, gained_is, left_is, parts_left, parts_taken, room_taken, write_fault_is, write_fault_none}
+use Rattle.lsm_writers.proofs.Refused.{faults_memory, none_some}
 use Rattle.lsm_writers.proofs.Taking.{taken_counted, held_fits, has_room}
+use Rattle.lsm_writers.proofs.Turning.{refuses_passed}
 use Rattle.lsm_writers.proofs.writer.Writer.write.Goals as goal
 
 pub admit-requires-clause-rising : goal.admit-requires-clause-rising
@@ -71,3 +75,56 @@ returns-clause-ok g c =
     let i = c.self.inside in
     let t = c.take_item.new in
     rw (← c.self.view_is) (gained_is i.label i.options i.blocks t.blocks i.chunk.items t.chunk.items i.failed c.args.item t.chunk_size i.meta t.meta c.if-self.false c.in_ok-take_item.ensures.taken)
+
+-- ---- an entry that is refused is given up
+
+pub invariant_of-self : goal.invariant_of-self
+invariant_of-self g c =
+    let i = c.self.inside in
+    parts_left i.options.data_block_size i.blocks i.blocks i.chunk.items i.chunk.items i.chunk_size i.chunk_size i.meta i.meta i.label i.failed i.options.filter_kind i.options.bloom_policy i.filter_writer c.admit.new.filter_writer _ refl refl refl refl c.self.invariant.0 c.self.invariant.2 c.self.invariant.3
+
+pub returns-in_err-tally-clause-refused : goal.returns-in_err-tally-clause-refused
+returns-in_err-tally-clause-refused g c =
+    let i = c.self.inside in
+    rw (← c.self.view_is) (faults_refusal c.from_residual.result c.in_err-tally.field-0.0 _ c.from_residual.ensures.1
+    (λ memory. write_fault_is i.label i.options i.blocks i.chunk.items i.failed c.args.item c.if-self.false ∙ c.in_err-tally.ensures.refused memory))
+
+pub returns-in_err-tally-clause-first : goal.returns-in_err-tally-clause-first
+returns-in_err-tally-clause-first g c =
+    let i = c.self.inside in
+    rw (← c.self.view_is) (λ x early. refuses_passed c.from_residual.result c.in_err-tally.field-0.0 x c.from_residual.ensures.1
+    (c.in_err-tally.ensures.first x (sym (write_fault_is i.label i.options i.blocks i.chunk.items i.failed c.args.item c.if-self.false) ∙ early)))
+
+pub invariant_of-self-in_err-take_item : goal.invariant_of-self-in_err-take_item
+invariant_of-self-in_err-take_item g c =
+    let i = c.self.inside in
+    let t = c.take_item.new in
+    let r = c.in_err-take_item.ensures in
+    parts_left i.options.data_block_size i.blocks t.blocks i.chunk.items t.chunk.items i.chunk_size t.chunk_size i.meta t.meta i.label i.failed i.options.filter_kind i.options.bloom_policy i.filter_writer c.admit.new.filter_writer _ r.left r.same_size r.uncut r.uncounted c.self.invariant.0 c.self.invariant.2 c.self.invariant.3
+
+pub returns-in_err-take_item-clause-refused : goal.returns-in_err-take_item-clause-refused
+returns-in_err-take_item-clause-refused g c = faults_memory c.from_residual-in_err-take_item.result c.in_err-take_item.field-0.0 _ c.from_residual-in_err-take_item.ensures.1 c.in_err-take_item.ensures.err
+
+pub returns-in_err-take_item-clause-first : goal.returns-in_err-take_item-clause-first
+returns-in_err-take_item-clause-first g c =
+    let i = c.self.inside in
+    rw (← c.self.view_is) (λ x told. absurd (none_some x (sym (write_fault_none i.label i.options i.blocks i.chunk.items i.failed c.args.item c.if-self.false c.in_ok-tally.ensures.refused) ∙ told)))
+
+pub returns-in_err-take_item-clause-failed : goal.returns-in_err-take_item-clause-failed
+returns-in_err-take_item-clause-failed g c =
+    let i = c.self.inside in
+    let t = c.take_item.new in
+    let r = c.in_err-take_item.ensures in
+    rw (← c.self.view_is) (on_err c.from_residual-in_err-take_item.result (left_is i.label i.options i.blocks t.blocks i.chunk.items t.chunk.items i.failed r.left r.uncut))
+
+-- ---- and nothing is refused of one that is taken
+
+pub returns-clause-refused : goal.returns-clause-refused
+returns-clause-refused g c =
+    let i = c.self.inside in
+    rw (← c.self.view_is) (write_fault_none i.label i.options i.blocks i.chunk.items i.failed c.args.item c.if-self.false c.in_ok-tally.ensures.refused)
+
+pub returns-clause-first : goal.returns-clause-first
+returns-clause-first g c =
+    let i = c.self.inside in
+    rw (← c.self.view_is) (λ x told. absurd (none_some x (sym (write_fault_none i.label i.options i.blocks i.chunk.items i.failed c.args.item c.if-self.false c.in_ok-tally.ensures.refused) ∙ told)))

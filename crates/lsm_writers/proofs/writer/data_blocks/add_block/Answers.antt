@@ -8,6 +8,7 @@ use Rattle.lsm_files.specs.Chunks.{joined}
 use Rattle.lsm_writers.specs.Cut.{AreCut}
 use Rattle.lsm_writers.proofs.Cutting.{cut_lost, cut_more, last_is_some, registered_strict}
 use Rattle.lsm_writers.proofs.Orders.{strict_back}
+use Rattle.lsm_writers.proofs.Refused.{err_then, ok_then}
 use Rattle.lsm_writers.proofs.writer.data_blocks.add_block.Goals as goal
 
 pub write_chunk-requires-clause-strict : goal.write_chunk-requires-clause-strict
@@ -19,18 +20,19 @@ register_data_block-requires g c =
     registered_strict r.chunks c.args.file_writer.now c.args.index_writer.now.handles r.last c.args.index_writer.now.failed c.args.items.now c.in_ok-handle.handle r.are r.works r.strict c.in_ok-handle.ensures.readable c.in_ok-handle.ensures.handle
 
 pub returns-clause-added : goal.returns-clause-added
-returns-clause-added g c = λ chunks before are strict.
+returns-clause-added g c =
     let w = c.args.file_writer.now in
     let es = c.args.items.now in
     let readable = c.in_ok-handle.ensures.readable in
-    let hs = c.in_ok-register_data_block.ensures.ok ∙ ap (λ (h : Handle). c.args.index_writer.now.handles ++ h ∷ []) c.in_ok-handle.ensures.handle in
     let last = sym c.requires.last ∙ last_is_some None es readable.some in
-    cut_more chunks w c.write_chunk.new.file_writer c.args.index_writer.now.handles c.register_data_block.new.self.handles before (Some c.args.last.now) c.args.index_writer.now.failed c.register_data_block.new.self.failed es are c.requires.cut.works strict readable c.in_ok-handle.ensures.ok hs last
+    ok_then c.register_data_block.result c.register_data_block.ensures.ok (λ more chunks before are strict.
+    let hs = more ∙ ap (λ (h : Handle). c.args.index_writer.now.handles ++ h ∷ []) c.in_ok-handle.ensures.handle in
+    cut_more chunks w c.write_chunk.new.file_writer c.args.index_writer.now.handles c.register_data_block.new.self.handles before (Some c.args.last.now) c.args.index_writer.now.failed c.register_data_block.new.self.failed es are c.requires.cut.works strict readable c.in_ok-handle.ensures.ok hs last)
 
 pub returns-in_err-handle-clause-left : goal.returns-in_err-handle-clause-left
 returns-in_err-handle-clause-left g c = on_err c.from_residual.result (λ chunks before are.
     subst (λ (w : Written). AreCut chunks w c.args.index_writer.now.handles before c.args.index_writer.now.failed) (sym c.in_err-handle.ensures.unchanged) are)
 
-pub returns-in_err-register_data_block-clause-left : goal.returns-in_err-register_data_block-clause-left
-returns-in_err-register_data_block-clause-left g c = on_err c.from_residual-in_err-register_data_block.result (λ chunks before are.
-    cut_lost chunks c.args.file_writer.now c.write_chunk.new.file_writer c.args.index_writer.now.handles c.register_data_block.new.self.handles before c.args.index_writer.now.failed c.register_data_block.new.self.failed _ are c.in_ok-handle.ensures.ok c.in_err-register_data_block.ensures.unchanged c.in_err-register_data_block.ensures.failed)
+pub returns-clause-left : goal.returns-clause-left
+returns-clause-left g c = err_then c.register_data_block.result c.register_data_block.ensures.unchanged c.register_data_block.ensures.failed (λ same failed chunks before are.
+    cut_lost chunks c.args.file_writer.now c.write_chunk.new.file_writer c.args.index_writer.now.handles c.register_data_block.new.self.handles before c.args.index_writer.now.failed c.register_data_block.new.self.failed _ are c.in_ok-handle.ensures.ok same failed)
