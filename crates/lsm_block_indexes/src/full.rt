@@ -59,6 +59,7 @@ impl<A: Allocator> FullBlockIndex<A> {
         if iter.0.seek_lower(key, seqno) {
             Ok(Some(iter))
         } else {
+            drop(iter);
             Ok(None)
         }
     }

@@ -173,13 +173,11 @@ impl<A: Allocator + Clone> BlockIndexIter<A> for Iter<A> {
     ghost takes_memory = { λ _. Unit {0} };
 
     fn seek_lower(&mut self, key: &[u8], seqno: SeqNo) -> Result<bool, Error> {
-        self.edges.set_lower(key, seqno)?;
-        Ok(true)
+        self.edges.set_lower(key, seqno).and(Ok(true))
     }
 
     fn seek_upper(&mut self, key: &[u8], _seqno: SeqNo) -> Result<bool, Error> {
-        self.edges.set_upper(key)?;
-        Ok(true)
+        self.edges.set_upper(key).and(Ok(true))
     }
 
     fn opened(&self) -> Opened {

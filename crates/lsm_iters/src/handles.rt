@@ -114,10 +114,7 @@ fn seek_lower<A: Allocator + Clone>(
     ensures err { IfErr result (λ e. e ≡ OutOfMemory) }
 {
     match lower {
-        Some(bound) => {
-            iter.seek_lower(bound.key(), SeqNo::MAX)?;
-            Ok(())
-        }
+        Some(bound) => iter.seek_lower(bound.key(), SeqNo::MAX).and(Ok(())),
         None => Ok(()),
     }
 }
@@ -135,10 +132,7 @@ fn seek_upper<A: Allocator + Clone>(
     ensures err { IfErr result (λ e. e ≡ OutOfMemory) }
 {
     match upper {
-        Some(bound) => {
-            iter.seek_upper(bound.key(), SeqNo::MAX)?;
-            Ok(())
-        }
+        Some(bound) => iter.seek_upper(bound.key(), SeqNo::MAX).and(Ok(())),
         None => Ok(()),
     }
 }

@@ -20,6 +20,7 @@ use sst_blocks::{
 };
 use std::alloc::{Allocator, Global};
 use std::marker::Model;
+use std::mem;
 
 /// The entries of a table that lie within two bounds, dealt from both ends, their numbers with the global number added. It owns
 /// what it reads: a share of the table's bytes.
@@ -102,7 +103,7 @@ impl<A: Allocator + Clone> Iter<A> {
             DealsEnding gives back_gives (λ _. Unit {0}) (λ _. Unit {0}) self.new
             (range_left self.new) }
     {
-        self.range.0 = Some(bound);
+        drop(self.range.0.replace(bound));
     }
 
     /// Leaves out what stands behind a bound. It is to be set before the first step.
@@ -114,7 +115,7 @@ impl<A: Allocator + Clone> Iter<A> {
             DealsEnding gives back_gives (λ _. Unit {0}) (λ _. Unit {0}) self.new
             (range_left self.new) }
     {
-        self.range.1 = Some(bound);
+        drop(self.range.1.replace(bound));
     }
 
     /// How many blocks of each kind were loaded.
@@ -202,7 +203,7 @@ impl<A: Allocator + Clone> Iter<A> {
                 return Some(item);
             }
             match self.next_block() {
-                Some(Ok(block)) => self.lo_data_block = block,
+                Some(Ok(block)) => drop(mem::replace(&mut self.lo_data_block, block)),
                 Some(Err(error)) => return Some(Err(error)),
                 None => return self.hi_data_block.next(self.global_seqno),
             }
@@ -221,7 +222,7 @@ impl<A: Allocator + Clone> Iter<A> {
                 return Some(item);
             }
             match self.next_block_back() {
-                Some(Ok(block)) => self.hi_data_block = block,
+                Some(Ok(block)) => drop(mem::replace(&mut self.hi_data_block, block)),
                 Some(Err(error)) => return Some(Err(error)),
                 None => return self.lo_data_block.next_back(self.global_seqno),
             }
@@ -233,8 +234,8 @@ impl<A: Allocator + Clone> Iter<A> {
         ensures { self.new ≡ over self.old }
     {
         self.index.end();
-        self.lo_data_block = Part::none();
-        self.hi_data_block = Part::none();
+        self.lo_data_block.end();
+        self.hi_data_block.end();
     }
 }
 

@@ -60,6 +60,13 @@ impl<A: Allocator> Part<A> {
         };
         lift_answer(iter.next_back(), global_seqno)
     }
+
+    /// Lets go what is left.
+    pub fn end(&mut self)
+        ensures { self.new ≡ [] }
+    {
+        drop(self.iter.take());
+    }
 }
 
 /// An entry with the global number added. Refused [`Error::SeqNoOverflow`] where the sum passes `u64`.

@@ -1,10 +1,11 @@
 -- What a chain of steps tells: the fault of the step that refuses, or what the last step told.
-use Rattle.std.proofs.Common.{◌≡◌, ap, subst, sym, ◌∙◌}
+use Rattle.std.proofs.Common.{◌≡◌, true, false, ap, subst, sym, ◌∙◌}
 use Rattle.std.proofs.lemmas.Result.{err_from_is_err_and}
-use Rattle.std.specs.Prelude.{MatchResult, Option, None, Some, Result, Ok, Err}
-use Rattle.std.specs.Result.{IsErrAnd}
+use Rattle.std.specs.Prelude.{IfErr, IfOk, MatchResult, Option, None, Some, Result, Ok, Err}
+use Rattle.std.specs.Result.{IsErrAnd, result_and}
 use Rattle.sst_entries.specs.declared.error.Error.{Error}
-use Rattle.sst_entries.specs.Error.{Fails, FaultsFirst, Gives}
+use Rattle.sst_entries.specs.declared.error.Error.TheVariants.{OutOfMemory}
+use Rattle.sst_entries.specs.Error.{Fails, FaultsFirst, Gives, is_memory}
 use Rattle.lsm_readers.specs.Read.{◌>>=◌}
 
 -- a step that told a value
@@ -101,3 +102,35 @@ pub beside_is : {X Y E : Type 0} (P : Y → Type 0) (Q : E → Type 0) (first : 
     → MatchResult second (λ z. paired {E = E} x y ≡ paired first z) (λ d. paired x y ≡ unpaired d) → P y
 beside_is {Y = Y} {E = E} P Q first second x y made is =
     subst (λ (r : Result Y E). MatchResult r P Q) (beside_second first second x y is) made
+
+-- a value that is handed on unless a test was refused, which was the last step
+pub tested : {T X Y Z : Type 0} (view : X → Y) (seen : T → Z) (test : Result T Error) (step : Result Z Error) (x : X) (r : Result X Error) → r ≡ result_and test (Ok x) → Gives seen test step → Gives view r (step >>= λ _. Ok (view x))
+tested {Y = Y} {Z = Z} view seen (Ok t) step x r is gives = rw is (ap (λ (q : Result Z Error). q >>= λ _. answered {E = Error} (view x)) gives)
+tested view seen (Err e) step x r is gives = rw is (fails_here step _ e gives)
+
+-- ---- a value that was put behind a shared handle, where it was made
+
+same_value : {X E : Type 0} (x y : X) → answered {E = E} x ≡ answered y → x ≡ y
+same_value x y is = cc
+
+not_memory : (e : Error) → e ≡ OutOfMemory → is_memory e ≡ false → ⊥
+not_memory e is fine = let wrong : true ≡ false = ap is_memory (sym is) ∙ fine in cc
+
+module _ {X Y : Type 0} (at : Y → X) where
+  pub shared_gives : {Z : Type 0} (view : X → Z) (value : Result X Error) (r : Result Y Error) (told : Result Z Error) → IfOk r (λ y. value ≡ Ok (at y)) → IfErr r (λ e. MatchResult value (λ _. e ≡ OutOfMemory) (λ f. e ≡ f)) → Gives view value told → Gives (λ y. view (at y)) r told
+  shared_gives view (Ok x) (Ok y) told ok err gives = gives ∙ ap (λ (z : X). answered {E = Error} (view z)) (same_value x (at y) ok)
+  shared_gives view (Err f) (Ok y) told ok err gives = absurd cc
+  shared_gives view (Ok x) (Err e) told ok err gives = λ memory. absurd (not_memory e err memory)
+  shared_gives view (Err f) (Err e) told ok err gives = rw err gives
+
+  pub shared_early : (value : Result X Error) (r : Result Y Error) (told : Option Error) → IfOk r (λ y. value ≡ Ok (at y)) → IfErr r (λ e. MatchResult value (λ _. e ≡ OutOfMemory) (λ f. e ≡ f)) → FaultsFirst value told → FaultsFirst r told
+  shared_early (Ok x) (Ok y) told ok err first = first
+  shared_early (Err f) (Ok y) told ok err first = absurd cc
+  shared_early (Ok x) (Err e) told ok err first = λ f h. absurd (let no : Some f ≡ None = first f h in cc)
+  shared_early (Err f) (Err e) told ok err first = rw err first
+
+  pub shared_has : (P : X → Type 0) (value : Result X Error) (r : Result Y Error) → IfOk r (λ y. value ≡ Ok (at y)) → IfOk value P → IfOk r (λ y. P (at y))
+  shared_has P (Ok x) (Ok y) ok has = subst P (same_value x (at y) ok) has
+  shared_has P (Err f) (Ok y) ok has = absurd cc
+  shared_has P (Ok x) (Err e) ok has = tt
+  shared_has P (Err f) (Err e) ok has = tt

@@ -19,7 +19,7 @@ pub use Rattle.lsm_readers.specs.Answer.{handle_at, handle_by, lift, lifted, mat
 pub use Rattle.lsm_readers.specs.OfList.{SaysList, ends_of, list_told}
 pub use Rattle.lsm_readers.specs.Parts.{early_fault, early_in, filter_told, fitting_told, handles_told}
 pub use Rattle.lsm_readers.specs.Parts.{filter_len, index_len, index_told, number_told, parts_told}
-pub use Rattle.lsm_readers.specs.Parts.{pinned_told, place_size, places_told, recovered_told}
+pub use Rattle.lsm_readers.specs.Parts.{pinned_filter, pinned_told, place_size, places_told, recovered_told}
 pub use Rattle.lsm_readers.specs.Parts.{tops_told, volatile}
 pub use Rattle.lsm_readers.specs.Read.{DoesRead, Opens}
 pub use Rattle.lsm_readers.specs.Scan.{IsNewScan, Scan, ScansList, ScansNext, TakesEntry, block_told, ended}

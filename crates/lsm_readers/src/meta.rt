@@ -88,7 +88,9 @@ fn u64_item<A: Allocator>(block: &DataBlock<A>, name: ItemName) -> Result<u64, E
     ensures { Gives (λ (n : ℕ). n) result (u64_told block.now name) }
 {
     let value = item(block, name)?;
-    number8(value.as_slice())
+    let number = number8(value.as_slice());
+    drop(value);
+    number
 }
 
 fn test_byte(value: &[u8], byte: u8, fault: Error) -> Result<(), Error>
@@ -111,7 +113,9 @@ fn byte_item<A: Allocator>(
     ensures { Gives (λ (_ : _). tt) result (byte_told block.now name byte fault) }
 {
     let value = item(block, name)?;
-    test_byte(value.as_slice(), byte, fault)
+    let tested = test_byte(value.as_slice(), byte, fault);
+    drop(value);
+    tested
 }
 
 fn test_first(value: &[u8], byte: u8, fault: Error) -> Result<(), Error>
@@ -133,7 +137,9 @@ fn first_item<A: Allocator>(
     ensures { Gives (λ (_ : _). tt) result (first_told block.now name byte fault) }
 {
     let value = item(block, name)?;
-    test_first(value.as_slice(), byte, fault)
+    let tested = test_first(value.as_slice(), byte, fault);
+    drop(value);
+    tested
 }
 
 // The version, one byte, 3 or 4.
@@ -152,7 +158,9 @@ fn version_item<A: Allocator>(block: &DataBlock<A>) -> Result<u8, Error>
     ensures { Gives (λ (n : ℕ). n) result (version_told block.now) }
 {
     let value = item(block, ItemName::TableVersion)?;
-    version(value.as_slice())
+    let number = version(value.as_slice());
+    drop(value);
+    number
 }
 
 #[tactic(auto, unfolding(crate::specs::Meta::kinds_told))]
@@ -202,7 +210,9 @@ fn created_item<A: Allocator>(block: &DataBlock<A>) -> Result<u128, Error>
     ensures { Gives (λ (n : ℕ). n) result (created_told block.now) }
 {
     let value = item(block, ItemName::CreatedAt)?;
-    number16(value.as_slice())
+    let number = number16(value.as_slice());
+    drop(value);
+    number
 }
 
 #[tactic(auto, unfolding(crate::specs::Meta::triple_told))]
@@ -225,8 +235,8 @@ fn key_items<A: Allocator>(block: &DataBlock<A>) -> Result<KeyRange<A>, Error>
     ensures { Gives (λ (r : Interval). r) result (keys_told block.now) }
 {
     let min = item(block, ItemName::KeyMin)?;
-    let max = item(block, ItemName::KeyMax)?;
-    Ok(KeyRange::new((min, max)))
+    let ends = beside(min, item(block, ItemName::KeyMax))?;
+    Ok(KeyRange::new(ends))
 }
 
 #[tactic(auto, unfolding(crate::specs::Meta::seqnos_told))]
@@ -254,8 +264,7 @@ fn read_rest<A: Allocator>(
     let created_at = created_item(block)?;
     let key_range = key_items(block)?;
     let (key_range, seqnos) = beside(key_range, seqno_items(block))?;
-    let (key_range, ()) = beside(key_range, test_compressions(block))?;
-    Ok(ParsedMeta {
+    let meta = ParsedMeta {
         table_version,
         id,
         created_at: Timestamp::from(created_at),
@@ -270,7 +279,8 @@ fn read_rest<A: Allocator>(
         weak_tombstone_reclaimable,
         data_block_compression: CompressionType::None,
         index_block_compression: CompressionType::None,
-    })
+    };
+    test_compressions(block).and(Ok(meta))
 }
 
 fn read_facts<A: Allocator>(block: &DataBlock<A>) -> Result<ParsedMeta<A>, Error>
@@ -315,6 +325,8 @@ impl<A: Allocator + Clone> ParsedMeta<A> {
         let mut opened = Opened::none();
         let block = source.load(handle, BlockType::Meta, &mut opened)?;
         let block = DataBlock::new(block);
-        read_facts(&block)
+        let meta = read_facts(&block);
+        drop(block);
+        meta
     }
 }

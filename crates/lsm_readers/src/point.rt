@@ -34,7 +34,10 @@ fn block_admits<S: LoadBlocks>(
     ensures body { S.body source.new ≡ S.body source.old }
 {
     let block = source.load(handle, BlockType::Filter)?;
-    Ok(FilterBlock::new(block).maybe_contains_hash(key_hash))
+    let filter = FilterBlock::new(block);
+    let admits = filter.maybe_contains_hash(key_hash);
+    drop(filter);
+    Ok(admits)
 }
 
 // Whether the filter may have a key of a hash.
@@ -98,7 +101,10 @@ fn handle_at<S: LoadBlocks>(
     ensures body { S.body source.new ≡ S.body source.old }
 {
     let block = source.load(handle, BlockType::Index)?;
-    Ok(IndexBlock::new(block).find(key, seqno))
+    let handles = IndexBlock::new(block);
+    let found = handles.find(key, seqno);
+    drop(handles);
+    Ok(found)
 }
 
 // Where the first data block lies that reaches a key below a stored number.
@@ -178,7 +184,10 @@ fn read_in<S: LoadBlocks>(
     ensures body { S.body source.new ≡ S.body source.old }
 {
     let block = source.load(&handle, BlockType::Data)?;
-    lifted_read(&DataBlock::new(block), global_seqno, key, seqno)
+    let entries = DataBlock::new(block);
+    let found = lifted_read(&entries, global_seqno, key, seqno);
+    drop(entries);
+    found
 }
 
 /// The first entry of a key numbered below `seqno`, its number with the global number added. The source is its only way to

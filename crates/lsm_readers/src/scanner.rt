@@ -13,6 +13,7 @@ use sst_blocks::{
 };
 use std::alloc::{Allocator, Global};
 use std::marker::Model;
+use std::mem;
 
 /// Reads a table's data blocks in file order, each once, and gives their entries. A contract sees what is left to read.
 ///
@@ -189,7 +190,7 @@ impl<A: Allocator + Clone> Scanner<A> {
     {
         match block_at(&self.source, self.position, &mut self.opened) {
             Ok((block, position)) => {
-                self.block = block;
+                drop(mem::replace(&mut self.block, block));
                 self.index = 0;
                 self.position = position;
                 self.blocks_left -= 1;

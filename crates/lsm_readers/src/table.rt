@@ -4,7 +4,7 @@ ghost use Rattle.lsm_readers.specs.Words.{BloomFilter, CanDeal, Deals, Entry, Fa
 ghost use Rattle.lsm_readers.specs.Words.{Loaded, LoadsFew, OpenTable, Opens, SaysList, Scan, ScansList, answer_stops, body_of, early_fault, early_in, ends_of};
 ghost use Rattle.lsm_readers.specs.Words.{facts_of, fault_of, filter_len, filter_told, fitting_told, fnv1a, handles_told, index_len, index_of, index_told, key_bound, lift};
 ghost use Rattle.lsm_readers.specs.Words.{list_told, load_at_told, load_told, none_opened, nowhere, number_told, overlaps_bounds, parts_of, parts_told};
-ghost use Rattle.lsm_readers.specs.Words.{index_read, pinned_of, pinned_told, place_fault, place_size, places_told, point, table_index};
+ghost use Rattle.lsm_readers.specs.Words.{index_read, pinned_filter, pinned_of, pinned_told, place_fault, place_size, places_told, point, table_index};
 ghost use Rattle.lsm_readers.specs.Words.{position_fault, recovered_told, scan_told, table_answer, tops_told, volatile, with_load, within};
 ghost use Rattle.std.specs.Arc.{arc_value};
 ghost use Rattle.lsm_block_indexes.specs.Index.{on_demand, two_level};
@@ -102,8 +102,9 @@ impl<A: Allocator> Ranged for Table<A> {
 
 impl<A: Allocator> fmt::Debug for Table<A> {
     fn fmt<W: fmt::Write>(&self, f: &mut fmt::Formatter<W>) -> fmt::Result {
-        let id = self.id();
-        let key_range = &self.inner.metadata.key_range;
+        let inner: &Inner<A> = &self.inner;
+        let id = inner.metadata.id;
+        let key_range = &inner.metadata.key_range;
         write!(f, "Table:{id}({key_range:?})")
     }
 }
@@ -170,9 +171,19 @@ fn load_filter<A: Allocator + Clone>(
     Ok(Some(FilterBlock::new(block)))
 }
 
+/// Where the filter's block lies that is to stay loaded: that of a full filter, where `pin_filter` says so.
+fn filter_to_pin(regions: &ParsedRegions, pin_filter: bool) -> Option<BlockHandle>
+    ensures { result ≡ pinned_filter regions.now pin_filter }
+{
+    if pin_filter && regions.filter_tli.is_none() {
+        regions.filter
+    } else {
+        None
+    }
+}
+
 /// The blocks that stay loaded. Refused with the first fault of the index, of the filter's top level, and of the one block
 /// of a full filter that is to stay.
-#[tactic(auto, unfolding(crate::specs::Parts::pinned_told))]
 fn load_pinned<A: Allocator + Clone>(
     source: &BlockSource<A>,
     regions: &ParsedRegions,
@@ -184,11 +195,7 @@ fn load_pinned<A: Allocator + Clone>(
 {
     let index = load_index(source, regions, pin_index)?;
     let (index, filter_index) = beside(index, load_filter_index(source, regions.filter_tli))?;
-    let pinned = if pin_filter && regions.filter_tli.is_none() {
-        regions.filter
-    } else {
-        None
-    };
+    let pinned = filter_to_pin(regions, pin_filter);
     let (tops, filter_block) = beside((index, filter_index), load_filter(source, pinned))?;
     let (index, filter_index) = tops;
     Ok(PinnedBlocks {
@@ -222,8 +229,8 @@ fn fitting_metadata<A: Allocator + Clone>(
         FaultsFirst result (place_fault body handle.now.offset handle.now.size Meta) }
 {
     let metadata = ParsedMeta::load_with_handle(source, handle)?;
-    test_number(&metadata, global_seqno)?;
-    Ok(metadata)
+    let fits = test_number(&metadata, global_seqno);
+    fits.and(Ok(metadata))
 }
 
 fn recover_inner<A: Allocator + Clone>(
@@ -257,41 +264,17 @@ fn recover_inner<A: Allocator + Clone>(
     })
 }
 
-/// A value behind a shared handle, in the memory that there is for one. It is generic in the value, so that none of a large
-/// value's parts is looked at where it is let go. Refused [`Error::OutOfMemory`] alone.
-fn share<T: Drop, A: Allocator>(kept: Result<A, AllocError>, value: T) -> Result<Arc<T, A>, Error>
-    ensures ok { IfOk result (λ shared. arc_value shared ≡ value) }
-    ensures err { IfErr result (λ e. e ≡ OutOfMemory) }
+/// A value behind a shared handle, where it was made. It is generic in the value, so that none of a large value's parts is
+/// looked at where it is let go. Refused as the value, then [`Error::OutOfMemory`].
+fn share<T: Drop, A: Allocator + Clone>(
+    value: Result<T, Error>,
+    alloc: &A,
+) -> Result<Arc<T, A>, Error>
+    ensures ok { IfOk result (λ shared. value ≡ Ok (arc_value shared)) }
+    ensures err { IfErr result (λ e. MatchResult value (λ _. e ≡ OutOfMemory) (λ f. e ≡ f)) }
 {
-    Ok(Arc::new(kept?, value)?)
-}
-
-/// What a table is recovered to, behind a shared handle. Refused as [`recover_inner`], then [`Error::OutOfMemory`].
-fn recover_shared<A: Allocator + Clone>(
-    source: &BlockSource<A>,
-    kept: Result<A, AllocError>,
-    checksum: Checksum,
-    global_seqno: SeqNo,
-    tree_id: TreeId,
-    pin_filter: bool,
-    pin_index: bool,
-) -> Result<Arc<Inner<A>, A>, Error>
-    ensures told { Gives (λ shared. parts_of (arc_value shared)) result
-        (parts_told source.now global_seqno pin_filter pin_index) }
-    ensures early { FaultsFirst result (early_in (body_of source.now) (places_told source.now)) }
-    ensures number { IfOk result (λ shared. (arc_value shared).global_seqno ≡ global_seqno) }
-    ensures tree { IfOk result (λ shared. (arc_value shared).tree_id ≡ tree_id) }
-    ensures checksum { IfOk result (λ shared. (arc_value shared).checksum ≡ checksum) }
-{
-    let inner = recover_inner(
-        source,
-        checksum,
-        global_seqno,
-        tree_id,
-        pin_filter,
-        pin_index,
-    )?;
-    share(kept, inner)
+    let value = value?;
+    Ok(Arc::new(alloc.clone()?, value)?)
 }
 
 impl<A: Allocator + Clone> Table<A> {
@@ -325,18 +308,16 @@ impl<A: Allocator + Clone> Table<A> {
         ensures tree { IfOk result (λ t. t.tree_id ≡ tree_id) }
         ensures checksum { IfOk result (λ t. t.checksum ≡ checksum.0) }
     {
-        // Faults of the bytes come before a refusal of the allocator.
-        let kept: Result<A, AllocError> = alloc.clone();
         let source = BlockSource::new(alloc, bytes)?;
-        let shared = recover_shared(
+        let inner = recover_inner(
             &source,
-            kept,
             checksum,
             global_seqno,
             tree_id,
             pin_filter,
             pin_index,
         );
+        let shared = share(inner, source.allocator());
         let (source, inner) = beside(source, shared)?;
         Ok(Table { source, inner })
     }

@@ -1,10 +1,12 @@
-use Rattle.std.proofs.Common.{ℕ, ap, sym, ◌∙◌}
+use Rattle.std.proofs.Common.{ℕ, ap, subst, sym, ◌∙◌}
 use Rattle.std.specs.Prelude.{Result, Ok}
 use Rattle.sst_entries.specs.declared.error.Error.{Error}
+use Rattle.sst_entries.specs.Error.{Gives}
 use Rattle.lsm_ranges.specs.KeyRange.{Interval}
-use Rattle.lsm_readers.specs.Meta.{Facts, rest_told}
+use Rattle.lsm_readers.specs.Meta.{Facts, compressions_told, rest_told}
+use Rattle.lsm_readers.specs.Read.{◌>>=◌}
 use Rattle.lsm_readers.specs.Table.{facts_of}
-use Rattle.lsm_readers.proofs.Steps.{goes_on, fails_here, fails_later, passes_fault, beside_fails, beside_first, beside_gives}
+use Rattle.lsm_readers.proofs.Steps.{goes_on, fails_here, fails_later, passes_fault, beside_fails, beside_first, beside_gives, tested}
 use Rattle.lsm_readers.proofs.meta.read_rest.Goals as goal
 
 pub returns-in_err-created_at : goal.returns-in_err-created_at
@@ -24,12 +26,6 @@ unfolding rest_told
 returns-in_err-key_range-2 g c =
     passes_fault (facts_of {A = g.row.A.Denot}) c.from_residual-in_err-key_range-2.result _ c.in_err-key_range-2.field-0.0 c.from_residual-in_err-key_range-2.ensures.1
     (fails_later _ _ _ _ c.in_ok-created_at.ensures (fails_later _ _ _ _ c.in_ok-key_range.ensures (fails_here _ _ _ (beside_fails _ c.in_ok-key_range.key_range c.seqno_items.result _ _ c.seqno_items.ensures c.in_err-key_range-2.ensures.both))))
-
-pub returns-in_err-key_range-3 : goal.returns-in_err-key_range-3
-unfolding rest_told
-returns-in_err-key_range-3 g c =
-    passes_fault (facts_of {A = g.row.A.Denot}) c.from_residual-in_err-key_range-3.result _ c.in_err-key_range-3.field-0.0 c.from_residual-in_err-key_range-3.ensures.1
-    (fails_later _ _ _ _ c.in_ok-created_at.ensures (fails_later _ _ _ _ c.in_ok-key_range.ensures (fails_later _ _ _ _ (beside_gives _ c.in_ok-key_range.key_range c.seqno_items.result _ c.in_ok-key_range-2.key_range c.in_ok-key_range-2.seqnos c.seqno_items.ensures c.in_ok-key_range-2.ensures.both) (fails_here _ _ _ (beside_fails _ c.in_ok-key_range-2.key_range c.test_compressions.result _ _ c.test_compressions.ensures c.in_err-key_range-3.ensures.both)))))
 
 -- what is told, by the range of the keys
 abbrev read : ℕ → ℕ → ℕ × ℕ × ℕ → ℕ × ℕ × ℕ → ℕ × ℕ × ℕ → ℕ × ℕ → Interval → Result Facts Error
@@ -54,13 +50,12 @@ unfolding rest_told
 returns g c =
     let first = c.in_ok-key_range.key_range in
     let second = c.in_ok-key_range-2.key_range in
-    let third = c.in_ok-key_range-3.key_range in
     let seqnos = c.in_ok-key_range-2.seqnos in
     let one = c.in_ok-key_range-2.ensures.both in
-    let two = c.in_ok-key_range-3.ensures.both in
-    let same = beside_first second c.test_compressions.result third c.in_ok-key_range-3.field-0-1 two ∙ beside_first first c.seqno_items.result second seqnos one in
-    goes_on _ _ _ _ (c.in_ok-created_at.ensures ∙ ap (λ (n : ℕ). Ok n) (sym c.from.ensures))
+    let same = beside_first first c.seqno_items.result second seqnos one in
+    subst (λ (told : Result Facts Error). Gives (facts_of {A = g.row.A.Denot}) c.and.result told)
+    (sym (goes_on _ _ _ _ (c.in_ok-created_at.ensures ∙ ap (λ (n : ℕ). Ok n) (sym c.from.ensures))
     (goes_on _ _ _ _ c.in_ok-key_range.ensures
     (goes_on _ _ _ _ (beside_gives _ first c.seqno_items.result _ second seqnos c.seqno_items.ensures one)
-    (goes_on _ _ _ _ (beside_gives _ second c.test_compressions.result _ third c.in_ok-key_range-3.field-0-1 c.test_compressions.ensures two)
-    (ap (read c.args.table_version c.from.result c.args.table c.args.blocks c.args.sizes seqnos) (sym same)))))
+    (ap (λ (keys : Interval). compressions_told c.args.block.now >>= λ _. read c.args.table_version c.from.result c.args.table c.args.blocks c.args.sizes seqnos keys) (sym same))))))
+    (tested (facts_of {A = g.row.A.Denot}) (λ (_ : _). tt) c.test_compressions.result (compressions_told c.args.block.now) _ c.and.result c.and.ensures c.test_compressions.ensures)

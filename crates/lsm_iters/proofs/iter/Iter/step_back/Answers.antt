@@ -19,23 +19,16 @@ returns-in-Some g c =
     let s = c.args.self.now in
     back_item s _ c.in-Some.item c.next_back.new.self (subst (BackReached s) (sym c.self.view_is) c.loop-item.invariant) c.in-Some.ensures
 
-pub loop-item-smaller-in-Some-Ok : goal.loop-item-smaller-in-Some-Ok
-loop-item-smaller-in-Some-Ok g c =
+pub loop-item-smaller : goal.loop-item-smaller
+loop-item-smaller g c =
     back_smaller c.loop-item.self _ c.next_block_back.new.self _ c.in-Some-Ok.block (ap (λ (x : Range g.row.A.Denot). x.handles) c.self.view_is) c.self-in-loop-item.view_is (rw c.in-Some-Ok.field-0-is at c.in-Some-Ok.ensures)
-
-pub loop-item-preserved-in-Some-Ok : goal.loop-item-preserved-in-Some-Ok
-loop-item-preserved-in-Some-Ok g c =
-    let s = c.args.self.now in
-    let none = c.in_default-next_back.ensures in
-    let there = kept_back s _ c.next_back.new.self (subst (BackReached s) (sym c.self.view_is) c.loop-item.invariant) none.0 none.1 in
-    reached_back s _ c.next_block_back.new.self _ c.in-Some-Ok.block c.self-in-loop-item.view_is there none.1 (rw c.in-Some-Ok.field-0-is at c.in-Some-Ok.ensures)
 
 pub loop-item-preserved : goal.loop-item-preserved
 loop-item-preserved g c =
     let s = c.args.self.now in
     let none = c.in_default-next_back.ensures in
     let there = kept_back s _ c.next_back.new.self (subst (BackReached s) (sym c.self.view_is) c.loop-item.invariant) none.0 none.1 in
-    reached_back s _ c.next_block_back.new.self _ c.in-Some-Ok.block c.self-in-loop-item.view_is there none.1 (rw c.in-Some-Ok.field-0-is at c.in-Some-Ok.ensures)
+    rw c.replace.ensures.after (reached_back s _ c.next_block_back.new.self _ c.in-Some-Ok.block c.self-in-loop-item.view_is there none.1 (rw c.in-Some-Ok.field-0-is at c.in-Some-Ok.ensures))
 
 pub returns-in-Some-Err : goal.returns-in-Some-Err
 returns-in-Some-Err g c =

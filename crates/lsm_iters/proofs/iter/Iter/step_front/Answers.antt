@@ -19,19 +19,12 @@ returns-in-Some g c =
     let s = c.args.self.now in
     front_item s _ c.in-Some.item c.next.new.self (subst (FrontReached s) (sym c.self.view_is) c.loop-item.invariant) c.in-Some.ensures
 
-pub loop-item-preserved-in-Some-Ok : goal.loop-item-preserved-in-Some-Ok
-loop-item-preserved-in-Some-Ok g c =
-    let s = c.args.self.now in
-    let none = c.in_default-next.ensures in
-    let there = kept_front s _ c.next.new.self (subst (FrontReached s) (sym c.self.view_is) c.loop-item.invariant) none.0 none.1 in
-    reached_front s _ c.next_block.new.self _ c.in-Some-Ok.block c.self-in-loop-item.view_is there none.1 (rw c.in-Some-Ok.field-0-is at c.in-Some-Ok.ensures)
-
 pub loop-item-preserved : goal.loop-item-preserved
 loop-item-preserved g c =
     let s = c.args.self.now in
     let none = c.in_default-next.ensures in
     let there = kept_front s _ c.next.new.self (subst (FrontReached s) (sym c.self.view_is) c.loop-item.invariant) none.0 none.1 in
-    reached_front s _ c.next_block.new.self _ c.in-Some-Ok.block c.self-in-loop-item.view_is there none.1 (rw c.in-Some-Ok.field-0-is at c.in-Some-Ok.ensures)
+    rw c.replace.ensures.after (reached_front s _ c.next_block.new.self _ c.in-Some-Ok.block c.self-in-loop-item.view_is there none.1 (rw c.in-Some-Ok.field-0-is at c.in-Some-Ok.ensures))
 
 pub returns-in-Some-Err : goal.returns-in-Some-Err
 returns-in-Some-Err g c =

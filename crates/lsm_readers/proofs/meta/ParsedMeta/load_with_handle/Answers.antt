@@ -9,4 +9,4 @@ pub returns-in_err-block-clause-early : goal.returns-in_err-block-clause-early
 returns-in_err-block-clause-early g c = first_from c.from_residual.result c.in_err-block.field-0.0 _ c.from_residual.ensures.1 c.in_err-block.ensures.first
 
 pub returns-clause-early : goal.returns-clause-early
-returns-clause-early g c = first_none c.read_facts.result _ c.in_ok-block.ensures.first
+returns-clause-early g c = first_none c.read_facts-meta.result _ c.in_ok-block.ensures.first

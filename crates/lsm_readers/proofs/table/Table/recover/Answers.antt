@@ -1,14 +1,15 @@
-use Rattle.std.proofs.Common.{◌≡◌, subst, sym, ◌∙◌}
+use Rattle.std.proofs.Common.{◌≡◌, ap, subst, sym, ◌∙◌}
 use Rattle.std.proofs.lemmas.Result.{IfOk-at_ok}
 use Rattle.std.specs.Arc.{arc_value}
 use Rattle.std.specs.Prelude.{Result}
 use Rattle.sst_entries.specs.declared.error.Error.{Error}
 use Rattle.sst_entries.specs.Error.{Gives}
+use Rattle.sst_sections.specs.declared.checksum.Checksum.{Checksum}
 use Rattle.lsm_readers.specs.Parts.{Parts}
-use Rattle.lsm_readers.specs.Table.{OpenTable, table_of}
+use Rattle.lsm_readers.specs.Table.{OpenTable, parts_of, table_of}
 use Rattle.lsm_readers.proofs.FileParts.{table_told}
 use Rattle.lsm_readers.proofs.Recovered.{first_from, is_open, opening_fails, opening_told, trailer_fine, trailer_first, trailer_none}
-use Rattle.lsm_readers.proofs.Steps.{beside_early, beside_fails, beside_first, beside_gives, beside_none, beside_second, passes_fault}
+use Rattle.lsm_readers.proofs.Steps.{beside_early, beside_fails, beside_first, beside_gives, beside_none, beside_second, passes_fault, shared_early, shared_gives, shared_has}
 use Rattle.lsm_readers.proofs.table.Table.recover.Goals as goal
 
 pub returns-in_err-source-clause-told : goal.returns-in_err-source-clause-told
@@ -21,44 +22,49 @@ returns-in_err-source-clause-early g c = trailer_first c.from_residual.result c.
 
 pub returns-in_err-source-2-clause-told : goal.returns-in_err-source-2-clause-told
 returns-in_err-source-2-clause-told g c =
-    let call = c.recover_shared-shared in
+    let made = c.recover_inner-inner in
+    let call = c.share-shared in
     let e = c.in_err-source-2.field-0.0 in
     passes_fault (λ (t : OpenTable). t.parts) c.from_residual-in_err-source-2.result _ e c.from_residual-in_err-source-2.ensures.1
     (λ memory. opening_told c.args.bytes c.in_ok-source.source c.args.global_seqno c.args.pin_filter c.args.pin_index _ c.in_ok-source.ensures.refused c.in_ok-source.ensures.ok
-    (beside_fails _ c.in_ok-source.source call.result _ e call.ensures.told c.in_err-source-2.ensures.both memory))
+    (beside_fails _ c.in_ok-source.source call.result _ e (shared_gives arc_value parts_of made.result call.result _ call.ensures.ok call.ensures.err made.ensures.told) c.in_err-source-2.ensures.both memory))
 
 pub returns-in_err-source-2-clause-early : goal.returns-in_err-source-2-clause-early
 returns-in_err-source-2-clause-early g c =
-    let call = c.recover_shared-shared in
+    let made = c.recover_inner-inner in
+    let call = c.share-shared in
     let e = c.in_err-source-2.field-0.0 in
     trailer_fine c.from_residual-in_err-source-2.result c.args.bytes c.in_ok-source.source c.in_ok-source.ensures.refused c.in_ok-source.ensures.ok
     (first_from c.from_residual-in_err-source-2.result e _ c.from_residual-in_err-source-2.ensures.1
-    (beside_early c.in_ok-source.source call.result _ e call.ensures.early c.in_err-source-2.ensures.both))
+    (beside_early c.in_ok-source.source call.result _ e (shared_early arc_value made.result call.result _ call.ensures.ok call.ensures.err made.ensures.early) c.in_err-source-2.ensures.both))
 
 pub returns-clause-early : goal.returns-clause-early
 returns-clause-early g c =
-    let call = c.recover_shared-shared in
+    let made = c.recover_inner-inner in
+    let call = c.share-shared in
     trailer_none c.args.bytes c.in_ok-source.source c.in_ok-source.ensures.refused c.in_ok-source.ensures.ok
-    (beside_none c.in_ok-source.source call.result _ c.in_ok-source-2.source c.in_ok-source-2.inner call.ensures.early c.in_ok-source-2.ensures.both)
+    (beside_none c.in_ok-source.source call.result _ c.in_ok-source-2.source c.in_ok-source-2.inner (shared_early arc_value made.result call.result _ call.ensures.ok call.ensures.err made.ensures.early) c.in_ok-source-2.ensures.both)
 
 pub invariant_of-result : goal.invariant_of-result
 invariant_of-result g c =
-    let call = c.recover_shared-shared in
+    let made = c.recover_inner-inner in
+    let call = c.share-shared in
     let both = c.in_ok-source-2.ensures.both in
     let source = c.in_ok-source-2.source in
     let inner = c.in_ok-source-2.inner in
     is_open (table_of source (arc_value inner)) c.args.bytes c.args.global_seqno c.args.pin_filter c.args.pin_index
     (beside_first c.in_ok-source.source call.result source inner both ∙ c.in_ok-source.ensures.ok)
-    (IfOk-at_ok _ (beside_second c.in_ok-source.source call.result source inner both) call.ensures.number)
+    (IfOk-at_ok _ (beside_second c.in_ok-source.source call.result source inner both) (shared_has arc_value _ made.result call.result call.ensures.ok made.ensures.number))
     c.in_ok-source.ensures.short
     (opening_told c.args.bytes c.in_ok-source.source c.args.global_seqno c.args.pin_filter c.args.pin_index _ c.in_ok-source.ensures.refused c.in_ok-source.ensures.ok
-    (beside_gives _ c.in_ok-source.source call.result _ source inner call.ensures.told both))
+    (beside_gives _ c.in_ok-source.source call.result _ source inner (shared_gives arc_value parts_of made.result call.result _ call.ensures.ok call.ensures.err made.ensures.told) both))
 
 pub returns-clause-told : goal.returns-clause-told
 returns-clause-told g c =
-    let call = c.recover_shared-shared in
+    let made = c.recover_inner-inner in
+    let call = c.share-shared in
     opening_told c.args.bytes c.in_ok-source.source c.args.global_seqno c.args.pin_filter c.args.pin_index _ c.in_ok-source.ensures.refused c.in_ok-source.ensures.ok
-    (beside_gives _ c.in_ok-source.source call.result _ c.in_ok-source-2.source c.in_ok-source-2.inner call.ensures.told c.in_ok-source-2.ensures.both)
+    (beside_gives _ c.in_ok-source.source call.result _ c.in_ok-source-2.source c.in_ok-source-2.inner (shared_gives arc_value parts_of made.result call.result _ call.ensures.ok call.ensures.err made.ensures.told) c.in_ok-source-2.ensures.both)
 
 by_list : {X : Type 0} (view : X → Parts) (r : Result X Error) (told list : Result Parts Error) → Gives view r told → told ≡ list → Gives view r list
 by_list view r told list gives same = subst (λ (x : Result Parts Error). Gives view r x) same gives
@@ -76,3 +82,27 @@ returns-in_err-source-2-clause-list g c es t one =
 pub returns-clause-list : goal.returns-clause-list
 returns-clause-list g c es t one =
     sym (table_told c.args.bytes es t c.in_ok-source.ensures.short c.args.global_seqno c.args.pin_filter c.args.pin_index one) ∙ returns-clause-told g c
+
+pub returns-clause-number : goal.returns-clause-number
+returns-clause-number g c =
+    let made = c.recover_inner-inner in
+    let call = c.share-shared in
+    let source = c.in_ok-source-2.source in
+    let inner = c.in_ok-source-2.inner in
+    IfOk-at_ok _ (beside_second c.in_ok-source.source call.result source inner c.in_ok-source-2.ensures.both) (shared_has arc_value _ made.result call.result call.ensures.ok made.ensures.number)
+
+pub returns-clause-tree : goal.returns-clause-tree
+returns-clause-tree g c =
+    let made = c.recover_inner-inner in
+    let call = c.share-shared in
+    let source = c.in_ok-source-2.source in
+    let inner = c.in_ok-source-2.inner in
+    IfOk-at_ok _ (beside_second c.in_ok-source.source call.result source inner c.in_ok-source-2.ensures.both) (shared_has arc_value _ made.result call.result call.ensures.ok made.ensures.tree)
+
+pub returns-clause-checksum : goal.returns-clause-checksum
+returns-clause-checksum g c =
+    let made = c.recover_inner-inner in
+    let call = c.share-shared in
+    let source = c.in_ok-source-2.source in
+    let inner = c.in_ok-source-2.inner in
+    ap (λ (k : Checksum). k.0) (IfOk-at_ok _ (beside_second c.in_ok-source.source call.result source inner c.in_ok-source-2.ensures.both) (shared_has arc_value _ made.result call.result call.ensures.ok made.ensures.checksum))

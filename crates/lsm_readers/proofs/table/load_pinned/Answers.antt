@@ -1,0 +1,53 @@
+use Rattle.std.proofs.Common.{List, ap, subst, sym, ◌∙◌}
+use Rattle.std.specs.Prelude.{Option, Result, Ok}
+use Rattle.sst_entries.specs.declared.error.Error.{Error}
+use Rattle.sst_entries.specs.Error.{Gives}
+use Rattle.sst_sections.specs.Sections.{body_of}
+use Rattle.sst_filters.specs.Filter.{BloomFilter}
+use Rattle.sst_blocks.specs.Handle.{Handle}
+use Rattle.sst_blocks.specs.Place.{Place}
+use Rattle.lsm_readers.specs.declared.inner.PinnedBlockIndex.{PinnedBlockIndex}
+use Rattle.lsm_readers.specs.Parts.{Pinned, filter_told, pinned_told}
+use Rattle.lsm_readers.specs.Table.{index_of, pinned_of}
+use Rattle.lsm_readers.proofs.Steps.{goes_on, fails_here, fails_later, passes_fault, beside_fails, beside_first, beside_gives}
+use Rattle.lsm_readers.proofs.table.load_pinned.Goals as goal
+
+-- what is told, by what stays loaded
+abbrev told : {A : Type 0} → PinnedBlockIndex A → Option (List Handle) → Option BloomFilter → Result Pinned Error
+told index tops filter = Ok (record { index = index_of index; filter_tops = tops; filter = filter })
+
+pub returns-in_err-index : goal.returns-in_err-index
+unfolding pinned_told
+returns-in_err-index g c =
+    passes_fault (pinned_of {A = g.row.A.Denot}) c.from_residual.result _ c.in_err-index.field-0.0 c.from_residual.ensures.1
+    (fails_here _ _ _ c.in_err-index.ensures)
+
+pub returns-in_err-index-2 : goal.returns-in_err-index-2
+unfolding pinned_told
+returns-in_err-index-2 g c =
+    passes_fault (pinned_of {A = g.row.A.Denot}) c.from_residual-in_err-index-2.result _ c.in_err-index-2.field-0.0 c.from_residual-in_err-index-2.ensures.1
+    (fails_later _ _ _ _ c.in_ok-index.ensures
+    (fails_here _ _ _ (beside_fails (λ (tops : Option (List Handle)). tops) c.in_ok-index.index c.load_filter_index.result _ _ c.load_filter_index.ensures c.in_err-index-2.ensures.both)))
+
+pub returns-in_err-tops : goal.returns-in_err-tops
+unfolding pinned_told
+returns-in_err-tops g c =
+    let second = c.in_ok-index-2 in
+    let filter = subst (λ (place : Option Place). Gives (λ (f : Option BloomFilter). f) c.load_filter.result (filter_told (body_of c.args.source.now) place)) c.filter_to_pin-pinned.ensures c.load_filter.ensures in
+    passes_fault (pinned_of {A = g.row.A.Denot}) c.from_residual-in_err-tops.result _ c.in_err-tops.field-0.0 c.from_residual-in_err-tops.ensures.1
+    (fails_later _ _ _ _ c.in_ok-index.ensures
+    (fails_later _ _ _ _ (beside_gives (λ (tops : Option (List Handle)). tops) c.in_ok-index.index c.load_filter_index.result _ second.index second.filter_index c.load_filter_index.ensures second.ensures.both)
+    (fails_here _ _ _ (beside_fails (λ (f : Option BloomFilter). f) (second.index, second.filter_index) c.load_filter.result _ _ filter c.in_err-tops.ensures.both))))
+
+pub returns : goal.returns
+unfolding pinned_told
+returns g c =
+    let first = c.in_ok-index.index in
+    let second = c.in_ok-index-2 in
+    let third = c.in_ok-tops in
+    let filter = subst (λ (place : Option Place). Gives (λ (f : Option BloomFilter). f) c.load_filter.result (filter_told (body_of c.args.source.now) place)) c.filter_to_pin-pinned.ensures c.load_filter.ensures in
+    goes_on _ _ _ _ c.in_ok-index.ensures
+    (goes_on _ _ _ _ (beside_gives (λ (tops : Option (List Handle)). tops) first c.load_filter_index.result _ second.index second.filter_index c.load_filter_index.ensures second.ensures.both)
+    (goes_on _ _ _ _ (beside_gives (λ (f : Option BloomFilter). f) (second.index, second.filter_index) c.load_filter.result _ third.tops third.filter_block filter third.ensures.both)
+    (ap (λ (index : PinnedBlockIndex g.row.A.Denot). told index second.filter_index third.filter_block) (sym (beside_first first c.load_filter_index.result second.index second.filter_index second.ensures.both))
+    ∙ ap (λ (p : PinnedBlockIndex g.row.A.Denot × Option (List Handle)). told p.0 p.1 third.filter_block) (sym (beside_first (second.index, second.filter_index) c.load_filter.result third.tops third.filter_block third.ensures.both)))))
