@@ -1,41 +1,16 @@
 //! Where the parts of written and of stored tables lie, and what the tables say of themselves.
-use crate::tables::written;
+use crate::tables::{Sections, sections, written};
 use example_tables::large::asked;
 use example_tables::rows::{self, Row};
 use example_tables::stored::{filter_parts, one_entry, one_entry_filtered, two_levels};
 use example_tables::tables::{load_entries, load_handles};
 use lsm_tables::{ParsedMeta, ParsedRegions};
 use sst_blocks::{
-    BlockHandle, BlockSource, BlockType, DataBlock, Error, IndexBlock, Opened, SectionName, SeqNo,
-    Slice, ValueType,
+    BlockHandle, BlockSource, BlockType, DataBlock, Error, IndexBlock, Opened, SeqNo, Slice,
+    ValueType,
 };
 use std::alloc::Global;
 use std::test::Fail;
-
-const NAMES: [SectionName; 7] = [
-    SectionName::Data,
-    SectionName::Index,
-    SectionName::Tli,
-    SectionName::Filter,
-    SectionName::FilterTli,
-    SectionName::TableVersion,
-    SectionName::Meta,
-];
-
-// The position and the length of each section, in the order of the names.
-type Sections = [Option<(u64, u64)>; 7];
-
-fn sections(source: &BlockSource) -> Sections {
-    let mut sections = [None; 7];
-    for (i, name) in NAMES.iter().enumerate() {
-        if let Some(section) = source.toc().section(*name)
-            && i < 7
-        {
-            sections[i] = Some((section.position, section.len));
-        }
-    }
-    sections
-}
 
 fn source_of(alloc: Global, bytes: &[u8]) -> Result<BlockSource, Error> {
     BlockSource::new(alloc, Slice::from(alloc, bytes)?)
@@ -91,7 +66,7 @@ fn sections_of_stored_tables(rt: HostRuntime) -> Result<(), Fail> {
             ],
         ),
     ];
-    for (bytes, expected) in tables {
+    for &(bytes, expected) in &tables {
         assert_eq!(rt; sections_of(rt.alloc(), bytes)?, expected);
     }
     Ok(())
@@ -154,7 +129,7 @@ fn facts_of_stored_tables(rt: HostRuntime) -> Result<(), Fail> {
         (&two_levels::BYTES, [3, 1, 4, 4, 4, 176, 1, 9]),
         (&filter_parts::BYTES, [3, 1, 4, 4, 1, 176, 1, 9]),
     ];
-    for (bytes, expected) in tables {
+    for &(bytes, expected) in &tables {
         assert_eq!(rt; facts(rt.alloc(), bytes)?, expected);
     }
     Ok(())

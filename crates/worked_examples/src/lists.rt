@@ -1,13 +1,11 @@
 //! Lists that are written as one table, opened and read.
-ghost use Rattle.std.specs.Prelude.{IfOk};
-ghost use Rattle.lsm_writers.specs.Writing.{IsWritable};
-
 use example_tables::large::asked_if_any;
-use example_tables::rows::{Row, entry, written};
+use example_tables::lists::list_of;
+use example_tables::rows::Row;
 use lsm_tables::{Scanner, Table, read_back, write_and_open};
-use lsm_writers::{Timestamp, is_writable, write_list};
-use refusing::{Refusing, each_refused};
-use sst_blocks::{Error, InternalValue, IterItem, SeqNo, ValueType};
+use lsm_writers::{Timestamp, write_list};
+use refusing::each_refused;
+use sst_blocks::{Error, InternalValue, SeqNo, ValueType};
 use std::alloc::{Allocator, Global};
 use std::ops::Bound;
 use std::test::Fail;
@@ -19,58 +17,26 @@ const ROWS: [Row<'static>; 4] = [
     (b"b", 1, ValueType::Value, b"z"),
 ];
 
-fn put_entries<A: Allocator + Copy>(
-    alloc: A,
-    items: &mut Vec<InternalValue<A>, A>,
-    rows: &[Row<'_>],
-) -> Result<(), Error> {
-    for row in rows {
-        items.push(entry(alloc, row)?)?;
+// The number of the next entry of a scan; 0 where nothing comes.
+fn next_number<A: Allocator + Copy>(scanner: &mut Scanner<A>) -> Result<SeqNo, Error> {
+    match scanner.next() {
+        Some(Ok(item)) => Ok(item.key.seqno),
+        Some(Err(error)) => Err(error),
+        None => Ok(0),
     }
-    Ok(())
-}
-
-fn entries_of<A: Allocator + Copy>(
-    alloc: A,
-    rows: &[Row<'_>],
-) -> Result<Vec<InternalValue<A>, A>, Error> {
-    let mut items = Vec::new(alloc);
-    let put = put_entries(alloc, &mut items, rows);
-    written(items, put)
-}
-
-// The entries of some rows; `Source(0)` where no table can be written of them.
-fn list_of<A: Allocator + Copy>(
-    alloc: A,
-    rows: &[Row<'_>],
-) -> Result<Vec<InternalValue<A>, A>, Error>
-    ensures { IfOk result (λ items. IsWritable items.items) }
-{
-    let items = entries_of(alloc, rows)?;
-    if is_writable(&items) {
-        Ok(items)
-    } else {
-        Err(Error::Source(0))
-    }
-}
-
-fn number_of<A: Allocator>(item: IterItem<A>) -> Result<SeqNo, Error> {
-    Ok(item?.key.seqno)
 }
 
 // The numbers that a scan gives, four at most; 0 where nothing comes.
-fn numbers<A: Allocator + Clone>(scanner: &mut Scanner<A>) -> Result<[SeqNo; 5], Error> {
+fn numbers<A: Allocator + Copy>(scanner: &mut Scanner<A>) -> Result<[SeqNo; 5], Error> {
     let mut numbers = [0; 5];
     for slot in numbers.iter_mut() {
-        if let Some(item) = scanner.next() {
-            *slot = number_of(item)?;
-        }
+        *slot = next_number(scanner)?;
     }
     Ok(numbers)
 }
 
 // The number of the entry that is found, and the numbers of a scan.
-fn all_numbers<A: Allocator + Clone>(
+fn all_numbers<A: Allocator + Copy>(
     found: &Option<InternalValue<A>>,
     scanner: &mut Scanner<A>,
 ) -> Result<(Option<SeqNo>, [SeqNo; 5]), Error> {
@@ -126,16 +92,18 @@ fn a_number_that_passes_the_largest_one_is_refused(rt: HostRuntime) -> Result<()
     Ok(())
 }
 
+// Whether the rows are read back, or memory refused where it may be.
+fn reads_rows<A: Allocator + Copy>(alloc: A, may_fail: bool) -> bool {
+    match read_rows(alloc, &ROWS, 0, b"a", 8) {
+        Ok(read) => read == Some((Some(7), [9, 7, 5, 1, 0])),
+        Err(Error::OutOfMemory) => may_fail,
+        Err(_) => false,
+    }
+}
+
 #[test]
 fn a_list_read_back_with_each_request_refused(rt: HostRuntime) -> Result<(), Fail> {
-    let whole = Some((Some(7), [9, 7, 5, 1, 0]));
-    let answers = each_refused(rt.alloc(), |heap: &Refusing, may_fail: bool| {
-        match read_rows(heap, &ROWS, 0, b"a", 8) {
-            Ok(read) => read == whole,
-            Err(Error::OutOfMemory) => may_fail,
-            Err(_) => false,
-        }
-    });
+    let answers = each_refused(rt.alloc(), |heap, may_fail| reads_rows(heap, may_fail));
     assert!(rt; answers.is_ok());
     Ok(())
 }
