@@ -31,37 +31,38 @@ fn sizes<A: Allocator + Copy>(alloc: A, bytes: &[u8], pins: Pins) -> Result<Size
     asked(open_with(alloc, bytes, pins), |table| Ok(sizes_of(table)))
 }
 
-// Whether the sizes of a table are these, under each pair of pins.
-fn has_sizes(alloc: Global, bytes: &[u8], expected: [Sizes; 4]) -> Result<bool, Error> {
-    for (pins, sizes_are) in ALL_PINS.iter().zip(&expected) {
-        if sizes(alloc, bytes, *pins)? != *sizes_are {
-            return Ok(false);
-        }
-    }
-    Ok(true)
+// The sizes of a table under each pair of pins.
+fn all_sizes(alloc: Global, bytes: &[u8]) -> Result<[Sizes; 4], Error> {
+    let [both, filter, index, none] = ALL_PINS;
+    Ok([
+        sizes(alloc, bytes, both)?,
+        sizes(alloc, bytes, filter)?,
+        sizes(alloc, bytes, index)?,
+        sizes(alloc, bytes, none)?,
+    ])
 }
+
+// Those of each stored table.
+fn sizes_of_each(alloc: Global) -> Result<[[Sizes; 4]; 4], Error> {
+    Ok([
+        all_sizes(alloc, &one_entry::BYTES)?,
+        all_sizes(alloc, &one_entry_filtered::BYTES)?,
+        all_sizes(alloc, &two_levels::BYTES)?,
+        all_sizes(alloc, &filter_parts::BYTES)?,
+    ])
+}
+
+const SIZES: [[Sizes; 4]; 4] = [
+    [(0, 0, 27), (0, 0, 0), (0, 0, 27), (0, 0, 0)],
+    [(33, 9, 27), (33, 9, 0), (33, 0, 27), (33, 0, 0)],
+    // a top level is pinned in any case
+    [(0, 0, 96); 4],
+    [(66, 0, 96), (66, 0, 0), (66, 0, 96), (66, 0, 0)],
+];
 
 #[test]
 fn what_is_pinned(rt: HostRuntime) -> Result<(), Fail> {
-    let tables: [(&[u8], [Sizes; 4]); 4] = [
-        (
-            &one_entry::BYTES,
-            [(0, 0, 27), (0, 0, 0), (0, 0, 27), (0, 0, 0)],
-        ),
-        (
-            &one_entry_filtered::BYTES,
-            [(33, 9, 27), (33, 9, 0), (33, 0, 27), (33, 0, 0)],
-        ),
-        // a top level is pinned in any case
-        (&two_levels::BYTES, [(0, 0, 96); 4]),
-        (
-            &filter_parts::BYTES,
-            [(66, 0, 96), (66, 0, 0), (66, 0, 96), (66, 0, 0)],
-        ),
-    ];
-    for &(bytes, expected) in &tables {
-        assert!(rt; has_sizes(rt.alloc(), bytes, expected)?);
-    }
+    assert!(rt; sizes_of_each(rt.alloc())? == SIZES);
     Ok(())
 }
 
@@ -188,17 +189,19 @@ fn all_answered(alloc: Global, bytes: &[u8], reads: &[Read]) -> Result<bool, Err
     Ok(true)
 }
 
+// The same of each stored table.
+fn each_answers(alloc: Global) -> Result<[bool; 4], Error> {
+    Ok([
+        all_answered(alloc, &one_entry::BYTES, &OF_ONE_ENTRY)?,
+        all_answered(alloc, &one_entry_filtered::BYTES, &OF_ONE_ENTRY_FILTERED)?,
+        all_answered(alloc, &two_levels::BYTES, &OF_TWO_LEVELS)?,
+        all_answered(alloc, &filter_parts::BYTES, &OF_FILTER_PARTS)?,
+    ])
+}
+
 #[test]
 fn reads_under_each_pair_of_pins(rt: HostRuntime) -> Result<(), Fail> {
-    let tables: [(&[u8], &[Read]); 4] = [
-        (&one_entry::BYTES, &OF_ONE_ENTRY),
-        (&one_entry_filtered::BYTES, &OF_ONE_ENTRY_FILTERED),
-        (&two_levels::BYTES, &OF_TWO_LEVELS),
-        (&filter_parts::BYTES, &OF_FILTER_PARTS),
-    ];
-    for &(bytes, reads) in &tables {
-        assert!(rt; all_answered(rt.alloc(), bytes, reads)?);
-    }
+    assert_eq!(rt; each_answers(rt.alloc())?, [true; 4]);
     Ok(())
 }
 
@@ -233,27 +236,31 @@ fn index_of<A: Allocator + Copy>(
     asked(open_with(alloc, bytes, pins), |table| table.block_index())
 }
 
-// The same of the index of a table, from a key within it and from one behind it.
-fn starts_in<A: Allocator + Copy>(
-    index: &BlockIndexImpl<A>,
-) -> Result<[Option<Option<SeqNo>>; 2], Error> {
+// Those of the index of a table, from a key within it and from one behind it.
+type Starts = [Option<Option<SeqNo>>; 2];
+
+fn starts_in<A: Allocator + Copy>(index: &BlockIndexImpl<A>) -> Result<Starts, Error> {
     Ok([starts(index, b"a", 8)?, starts(index, b"c", 100)?])
 }
 
-fn starts_of(alloc: Global, bytes: &[u8], pins: Pins) -> Result<[Option<Option<SeqNo>>; 2], Error> {
+fn starts_of(alloc: Global, bytes: &[u8], pins: Pins) -> Result<Starts, Error> {
     asked(index_of(alloc, bytes, pins), |index| starts_in(index))
+}
+
+// Those of an index that stays loaded, of one that does not, and of one in two levels.
+fn starts_of_each(alloc: Global) -> Result<[Starts; 3], Error> {
+    Ok([
+        starts_of(alloc, &filter_parts::BYTES, (true, true))?,
+        starts_of(alloc, &filter_parts::BYTES, (true, false))?,
+        starts_of(alloc, &two_levels::BYTES, (true, true))?,
+    ])
 }
 
 #[test]
 fn readers_of_the_index_of_each_kind(rt: HostRuntime) -> Result<(), Fail> {
     // only an index that stays loaded tells at once that no handle reaches a key
-    let tables: [(&[u8], Pins, Option<Option<SeqNo>>); 3] = [
-        (&filter_parts::BYTES, (true, true), None),
-        (&filter_parts::BYTES, (true, false), Some(None)),
-        (&two_levels::BYTES, (true, true), Some(None)),
-    ];
-    for &(bytes, pins, behind) in &tables {
-        assert!(rt; starts_of(rt.alloc(), bytes, pins)? == [Some(Some(7)), behind]);
-    }
+    let found = Some(Some(7));
+    let expected = [[found, None], [found, Some(None)], [found, Some(None)]];
+    assert!(rt; starts_of_each(rt.alloc())? == expected);
     Ok(())
 }

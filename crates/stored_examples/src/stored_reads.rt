@@ -28,14 +28,14 @@ const OF_FOUR_ENTRIES: [Read; 9] = [
     (b"b", 1, None, 0),
 ];
 
-// The first of some reads that a table answers otherwise.
-fn wrong_read<A: Allocator + Copy>(table: &Table<A>, reads: &[Read]) -> Option<Read> {
+// Whether a table answers some reads so.
+fn answers<A: Allocator + Copy>(table: &Table<A>, reads: &[Read]) -> bool {
     for &(key, seqno, found, loads) in reads {
         if read(table, key, seqno) != (Ok(found), loads) {
-            return Some((key, seqno, found, loads));
+            return false;
         }
     }
-    None
+    true
 }
 
 // A stored table.
@@ -43,21 +43,23 @@ fn opened(alloc: Global, bytes: &[u8]) -> Result<Table, Error> {
     open(alloc, Slice::from(alloc, bytes)?, 0)
 }
 
-// The first of some reads that a stored table answers otherwise.
-fn stored_wrong(alloc: Global, bytes: &[u8], reads: &[Read]) -> Result<Option<Read>, Error> {
-    asked(opened(alloc, bytes), |table| Ok(wrong_read(table, reads)))
+// Whether a stored table answers some reads so.
+fn stored_answers(alloc: Global, bytes: &[u8], reads: &[Read]) -> Result<bool, Error> {
+    asked(opened(alloc, bytes), |table| Ok(answers(table, reads)))
+}
+
+// The same of each stored table.
+fn each_answers(alloc: Global) -> Result<[bool; 3], Error> {
+    Ok([
+        stored_answers(alloc, &one_entry::BYTES, &OF_ONE_ENTRY)?,
+        stored_answers(alloc, &one_entry_filtered::BYTES, &OF_ONE_ENTRY)?,
+        stored_answers(alloc, &filter_parts::BYTES, &OF_FOUR_ENTRIES)?,
+    ])
 }
 
 #[test]
 fn stored_tables_answer_their_reads(rt: HostRuntime) -> Result<(), Fail> {
-    let tables: [(&[u8], &[Read]); 3] = [
-        (&one_entry::BYTES, &OF_ONE_ENTRY),
-        (&one_entry_filtered::BYTES, &OF_ONE_ENTRY),
-        (&filter_parts::BYTES, &OF_FOUR_ENTRIES),
-    ];
-    for &(bytes, reads) in &tables {
-        assert!(rt; stored_wrong(rt.alloc(), bytes, reads)?.is_none());
-    }
+    assert_eq!(rt; each_answers(rt.alloc())?, [true; 3]);
     Ok(())
 }
 
@@ -66,11 +68,18 @@ fn filter_size(alloc: Global, bytes: &[u8]) -> Result<u32, Error> {
     asked(opened(alloc, bytes), |table| Ok(table.filter_size()))
 }
 
+// Those of each stored table.
+fn filter_sizes(alloc: Global) -> Result<[u32; 3], Error> {
+    Ok([
+        filter_size(alloc, &one_entry::BYTES)?,
+        filter_size(alloc, &one_entry_filtered::BYTES)?,
+        filter_size(alloc, &filter_parts::BYTES)?,
+    ])
+}
+
 #[test]
 fn filters_of_stored_tables(rt: HostRuntime) -> Result<(), Fail> {
-    assert_eq!(rt; filter_size(rt.alloc(), &one_entry::BYTES)?, 0);
-    assert_eq!(rt; filter_size(rt.alloc(), &one_entry_filtered::BYTES)?, 33);
-    assert_eq!(rt; filter_size(rt.alloc(), &filter_parts::BYTES)?, 66);
+    assert_eq!(rt; filter_sizes(rt.alloc())?, [0, 33, 66]);
     Ok(())
 }
 
