@@ -98,68 +98,103 @@ fn laid(alloc: Global, table: Result<FinishedTable, Error>) -> Result<Laid, Erro
 
 const DATA: Option<(u64, u64)> = Some((0, 184));
 
+// Where an index in four parts lies, and one in a single part.
+const OF_INDEX_PARTS: [Laid; 2] = [
+    (
+        [
+            DATA,
+            Some((184, 212)),
+            Some((396, 128)),
+            None,
+            None,
+            Some((524, 1)),
+            Some((525, 1099)),
+        ],
+        Some(4),
+        Some(1),
+    ),
+    (
+        [
+            DATA,
+            Some((184, 128)),
+            Some((312, 53)),
+            None,
+            None,
+            Some((365, 1)),
+            Some((366, 1099)),
+        ],
+        Some(1),
+        Some(1),
+    ),
+];
+
+fn laid_index_parts(alloc: Global) -> Result<[Laid; 2], Error> {
+    Ok([
+        laid(alloc, index_parts(alloc))?,
+        laid(alloc, forgotten_index_parts(alloc))?,
+    ])
+}
+
 #[test]
 fn sections_of_a_partitioned_index(rt: HostRuntime) -> Result<(), Fail> {
-    let four: Sections = [
-        DATA,
-        Some((184, 212)),
-        Some((396, 128)),
-        None,
-        None,
-        Some((524, 1)),
-        Some((525, 1099)),
-    ];
-    let parts = laid(rt.alloc(), index_parts(rt.alloc()))?;
-    assert_eq!(rt; parts, (four, Some(4), Some(1)));
-    let one: Sections = [
-        DATA,
-        Some((184, 128)),
-        Some((312, 53)),
-        None,
-        None,
-        Some((365, 1)),
-        Some((366, 1099)),
-    ];
-    let forgotten = laid(rt.alloc(), forgotten_index_parts(rt.alloc()))?;
-    assert_eq!(rt; forgotten, (one, Some(1), Some(1)));
+    assert!(rt; laid_index_parts(rt.alloc())? == OF_INDEX_PARTS);
     Ok(())
+}
+
+// Where a filter in two parts lies, one in a single part, and one without keys.
+const OF_FILTER_PARTS: [Laid; 3] = [
+    (
+        [
+            DATA,
+            None,
+            Some((184, 128)),
+            Some((312, 66)),
+            Some((378, 78)),
+            Some((456, 1)),
+            Some((457, 1099)),
+        ],
+        Some(1),
+        Some(2),
+    ),
+    (
+        [
+            DATA,
+            None,
+            Some((184, 128)),
+            Some((312, 33)),
+            Some((345, 53)),
+            Some((398, 1)),
+            Some((399, 1099)),
+        ],
+        Some(1),
+        Some(1),
+    ),
+    (
+        [
+            DATA,
+            None,
+            Some((184, 128)),
+            None,
+            None,
+            Some((312, 1)),
+            Some((313, 1099)),
+        ],
+        Some(1),
+        Some(0),
+    ),
+];
+
+fn laid_filter_parts(alloc: Global) -> Result<[Laid; 3], Error> {
+    Ok([
+        laid(alloc, filter_parts(alloc))?,
+        laid(alloc, forgotten_filter_parts(alloc))?,
+        laid(alloc, no_filter_parts(alloc))?,
+    ])
 }
 
 #[test]
 fn sections_of_a_partitioned_filter(rt: HostRuntime) -> Result<(), Fail> {
-    let two: Sections = [
-        DATA,
-        None,
-        Some((184, 128)),
-        Some((312, 66)),
-        Some((378, 78)),
-        Some((456, 1)),
-        Some((457, 1099)),
-    ];
-    let parts = laid(rt.alloc(), filter_parts(rt.alloc()))?;
-    assert_eq!(rt; parts, (two, Some(1), Some(2)));
-    let one: Sections = [
-        DATA,
-        None,
-        Some((184, 128)),
-        Some((312, 33)),
-        Some((345, 53)),
-        Some((398, 1)),
-        Some((399, 1099)),
-    ];
-    let forgotten = laid(rt.alloc(), forgotten_filter_parts(rt.alloc()))?;
-    assert_eq!(rt; forgotten, (one, Some(1), Some(1)));
-    let none: Sections = [
-        DATA,
-        None,
-        Some((184, 128)),
-        None,
-        None,
-        Some((312, 1)),
-        Some((313, 1099)),
-    ];
-    let keyless = laid(rt.alloc(), no_filter_parts(rt.alloc()))?;
-    assert_eq!(rt; keyless, (none, Some(1), Some(0)));
+    assert!(rt; laid_filter_parts(rt.alloc())? == OF_FILTER_PARTS);
     Ok(())
 }
 

@@ -36,10 +36,12 @@ fn numbers<A: Allocator + Copy>(scanner: &mut Scanner<A>) -> Result<[SeqNo; 5], 
 }
 
 // The number of the entry that is found, and the numbers of a scan.
+type Numbers = (Option<SeqNo>, [SeqNo; 5]);
+
 fn all_numbers<A: Allocator + Copy>(
     found: &Option<InternalValue<A>>,
     scanner: &mut Scanner<A>,
-) -> Result<(Option<SeqNo>, [SeqNo; 5]), Error> {
+) -> Result<Numbers, Error> {
     let found = found.as_ref().map(|item| item.key.seqno);
     Ok((found, numbers(scanner)?))
 }
@@ -51,32 +53,44 @@ fn read_rows<A: Allocator + Copy>(
     global_seqno: SeqNo,
     key: &[u8],
     seqno: SeqNo,
-) -> Result<Option<(Option<SeqNo>, [SeqNo; 5])>, Error> {
+) -> Result<Option<Numbers>, Error> {
     let items = list_of(alloc, rows)?;
     let read = read_back(alloc, items, global_seqno, key, seqno);
     asked_if_any(read, |read| all_numbers(&read.0, &mut read.1))
 }
 
+// Reads of the rows, as they are, lifted and past the last key, and of no rows.
+fn four_reads(alloc: Global) -> Result<[Option<Numbers>; 4], Error> {
+    Ok([
+        read_rows(alloc, &ROWS, 0, b"a", 8)?,
+        read_rows(alloc, &ROWS, 10, b"a", 18)?,
+        read_rows(alloc, &ROWS, 0, b"c", 8)?,
+        read_rows(alloc, &[], 3, b"a", 8)?,
+    ])
+}
+
 #[test]
 fn a_list_is_read_back(rt: HostRuntime) -> Result<(), Fail> {
-    let alloc = rt.alloc();
-    let plain = Some((Some(7), [9, 7, 5, 1, 0]));
-    assert!(rt; read_rows(alloc, &ROWS, 0, b"a", 8)? == plain);
-    let lifted = Some((Some(17), [19, 17, 15, 11, 0]));
-    assert!(rt; read_rows(alloc, &ROWS, 10, b"a", 18)? == lifted);
-    let missed = Some((None, [9, 7, 5, 1, 0]));
-    assert!(rt; read_rows(alloc, &ROWS, 0, b"c", 8)? == missed);
-    assert!(rt; read_rows(alloc, &[], 3, b"a", 8)? == None);
+    let expected = [
+        Some((Some(7), [9, 7, 5, 1, 0])),
+        Some((Some(17), [19, 17, 15, 11, 0])),
+        Some((None, [9, 7, 5, 1, 0])),
+        None,
+    ];
+    assert!(rt; four_reads(rt.alloc())? == expected);
     Ok(())
+}
+
+// Whether no table can be written of some rows.
+fn is_not_written(alloc: Global, rows: &[Row<'_>], key: &[u8]) -> bool {
+    read_rows(alloc, rows, 0, key, 2) == Err(Error::Source(0))
 }
 
 #[test]
 fn a_list_that_is_not_strict_or_numbered_too_high_is_not_written(rt: HostRuntime) {
     let alloc = rt.alloc();
-    let twice = [ROWS[3], ROWS[3]];
-    assert!(rt; read_rows(alloc, &twice, 0, b"b", 2) == Err(Error::Source(0)));
-    let largest: [Row<'static>; 1] = [(b"a", u64::MAX, ValueType::Value, b"")];
-    assert!(rt; read_rows(alloc, &largest, 0, b"a", 2) == Err(Error::Source(0)));
+    assert!(rt; is_not_written(alloc, &[ROWS[3], ROWS[3]], b"b"));
+    assert!(rt; is_not_written(alloc, &[(b"a", u64::MAX, ValueType::Value, b"")], b"a"));
 }
 
 #[test]

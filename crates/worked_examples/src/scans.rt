@@ -45,14 +45,21 @@ fn first_five(alloc: Global, bytes: &[u8]) -> Result<[Step; 5], Error> {
     asked_mut(scan_of(open(alloc, bytes, 0)), |scan| Ok(five_steps(scan)))
 }
 
+// Those of each stored table.
+fn of_each(alloc: Global) -> Result<[[Step; 5]; 4], Error> {
+    Ok([
+        first_five(alloc, &one_entry::BYTES)?,
+        first_five(alloc, &one_entry_filtered::BYTES)?,
+        first_five(alloc, &filter_parts::BYTES)?,
+        first_five(alloc, &two_levels::BYTES)?,
+    ])
+}
+
 #[test]
 fn stored_tables_are_scanned(rt: HostRuntime) -> Result<(), Fail> {
     let one: [Step; 5] = [Some(Ok(1)), None, None, None, None];
     let four: [Step; 5] = [Some(Ok(9)), Some(Ok(7)), Some(Ok(5)), Some(Ok(1)), None];
-    assert!(rt; first_five(rt.alloc(), &one_entry::BYTES)? == one);
-    assert!(rt; first_five(rt.alloc(), &one_entry_filtered::BYTES)? == one);
-    assert!(rt; first_five(rt.alloc(), &filter_parts::BYTES)? == four);
-    assert!(rt; first_five(rt.alloc(), &two_levels::BYTES)? == four);
+    assert!(rt; of_each(rt.alloc())? == [one, one, four, four]);
     Ok(())
 }
 
@@ -99,25 +106,41 @@ fn two_of_blocks(
     )
 }
 
+// Those of scans of one block, of none and of nine.
+fn of_counts(alloc: Global) -> Result<[[Step; 2]; 3], Error> {
+    Ok([
+        two_of_blocks(alloc, &[], 1, 0)?,
+        two_of_blocks(alloc, &[], 0, 0)?,
+        two_of_blocks(alloc, &[], 9, 0)?,
+    ])
+}
+
 #[test]
 fn a_scan_of_blocks_goes_on_up_to_what_is_none(rt: HostRuntime) -> Result<(), Fail> {
-    let alloc = rt.alloc();
-    assert!(rt; two_of_blocks(alloc, &[], 1, 0)? == [Some(Ok(1)), None]);
-    assert!(rt; two_of_blocks(alloc, &[], 0, 0)? == [Some(Ok(1)), None]);
     // What lies behind the data block is no data block.
     let index_tag = fault(&Error::InvalidTag(TagName::BlockType, 1));
-    assert!(rt; two_of_blocks(alloc, &[], 9, 0)? == [Some(Ok(1)), Some(Err(index_tag))]);
+    let steps = [
+        [Some(Ok(1)), None],
+        [Some(Ok(1)), None],
+        [Some(Ok(1)), Some(Err(index_tag))],
+    ];
+    assert!(rt; of_counts(rt.alloc())? == steps);
     Ok(())
+}
+
+// Those of scans that lift by the two largest numbers.
+fn of_largest(alloc: Global) -> Result<[[Step; 2]; 2], Error> {
+    Ok([
+        two_of_blocks(alloc, &[], 1, u64::MAX - 1)?,
+        two_of_blocks(alloc, &[], 9, u64::MAX)?,
+    ])
 }
 
 #[test]
 fn a_scan_lifts_up_to_the_largest_number(rt: HostRuntime) -> Result<(), Fail> {
-    let alloc = rt.alloc();
-    let lifted = two_of_blocks(alloc, &[], 1, u64::MAX - 1)?;
-    assert!(rt; lifted == [Some(Ok(u64::MAX)), None]);
     let overflow = fault(&Error::SeqNoOverflow);
-    let refused = two_of_blocks(alloc, &[], 9, u64::MAX)?;
-    assert!(rt; refused == [Some(Err(overflow)), None]);
+    let steps = [[Some(Ok(u64::MAX)), None], [Some(Err(overflow)), None]];
+    assert!(rt; of_largest(rt.alloc())? == steps);
     Ok(())
 }
 
