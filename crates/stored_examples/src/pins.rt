@@ -1,8 +1,9 @@
 //! Stored tables that are read with each pin and without: what stays loaded, what is found, and what each read loads.
+use example_tables::large::{asked, asked_if_any};
 use example_tables::stored::{filter_parts, one_entry, one_entry_filtered, two_levels};
 use lsm_tables::{BlockIndex, BlockIndexImpl, BlockIndexIterImpl, Table};
-use sst_blocks::{Checksum, Error, SeqNo, Slice};
-use std::alloc::Allocator;
+use sst_blocks::{Checksum, Error, InternalValue, SeqNo, Slice};
+use std::alloc::{Allocator, Global};
 use std::test::Fail;
 
 // Whether the filter and the index are pinned.
@@ -10,48 +11,58 @@ type Pins = (bool, bool);
 
 const ALL_PINS: [Pins; 4] = [(true, true), (true, false), (false, true), (false, false)];
 
-fn open_with<A: Allocator + Clone>(alloc: A, bytes: &[u8], pins: Pins) -> Result<Table<A>, Error> {
-    let bytes = Slice::from(alloc.clone()?, bytes)?;
+fn open_with<A: Allocator + Copy>(alloc: A, bytes: &[u8], pins: Pins) -> Result<Table<A>, Error> {
+    let bytes = Slice::from(alloc, bytes)?;
     Table::recover(alloc, bytes, Checksum(0), 0, 0, pins.0, pins.1)
 }
 
 // The length of the filter, and how many bytes of it and of the index are pinned.
-fn sizes<A: Allocator + Clone>(
-    alloc: A,
-    bytes: &[u8],
-    pins: Pins,
-) -> Result<(u32, usize, usize), Error> {
-    let table = open_with(alloc, bytes, pins)?;
-    Ok((
+type Sizes = (u32, usize, usize);
+
+fn sizes_of<A: Allocator + Copy>(table: &Table<A>) -> Sizes {
+    (
         table.filter_size(),
         table.pinned_filter_size(),
         table.pinned_block_index_size(),
-    ))
+    )
 }
+
+fn sizes<A: Allocator + Copy>(alloc: A, bytes: &[u8], pins: Pins) -> Result<Sizes, Error> {
+    asked(open_with(alloc, bytes, pins), |table| Ok(sizes_of(table)))
+}
+
+// The sizes of a table under each pair of pins.
+fn all_sizes(alloc: Global, bytes: &[u8]) -> Result<[Sizes; 4], Error> {
+    let [both, filter, index, none] = ALL_PINS;
+    Ok([
+        sizes(alloc, bytes, both)?,
+        sizes(alloc, bytes, filter)?,
+        sizes(alloc, bytes, index)?,
+        sizes(alloc, bytes, none)?,
+    ])
+}
+
+// Those of each stored table.
+fn sizes_of_each(alloc: Global) -> Result<[[Sizes; 4]; 4], Error> {
+    Ok([
+        all_sizes(alloc, &one_entry::BYTES)?,
+        all_sizes(alloc, &one_entry_filtered::BYTES)?,
+        all_sizes(alloc, &two_levels::BYTES)?,
+        all_sizes(alloc, &filter_parts::BYTES)?,
+    ])
+}
+
+const SIZES: [[Sizes; 4]; 4] = [
+    [(0, 0, 27), (0, 0, 0), (0, 0, 27), (0, 0, 0)],
+    [(33, 9, 27), (33, 9, 0), (33, 0, 27), (33, 0, 0)],
+    // a top level is pinned in any case
+    [(0, 0, 96); 4],
+    [(66, 0, 96), (66, 0, 0), (66, 0, 96), (66, 0, 0)],
+];
 
 #[test]
 fn what_is_pinned(rt: HostRuntime) -> Result<(), Fail> {
-    let tables: [(&[u8], [(u32, usize, usize); 4]); 4] = [
-        (
-            &one_entry::BYTES,
-            [(0, 0, 27), (0, 0, 0), (0, 0, 27), (0, 0, 0)],
-        ),
-        (
-            &one_entry_filtered::BYTES,
-            [(33, 9, 27), (33, 9, 0), (33, 0, 27), (33, 0, 0)],
-        ),
-        // a top level is pinned in any case
-        (&two_levels::BYTES, [(0, 0, 96); 4]),
-        (
-            &filter_parts::BYTES,
-            [(66, 0, 96), (66, 0, 0), (66, 0, 96), (66, 0, 0)],
-        ),
-    ];
-    for (bytes, expected) in tables {
-        for (pins, sizes_are) in ALL_PINS.iter().zip(expected) {
-            assert_eq!(rt; sizes(rt.alloc(), bytes, *pins)?, sizes_are);
-        }
-    }
+    assert!(rt; sizes_of_each(rt.alloc())? == SIZES);
     Ok(())
 }
 
@@ -120,56 +131,82 @@ const OF_FILTER_PARTS: [Read; 8] = [
     (b"c", 100, None, NOTHING),
 ];
 
+// The number of what a read found, if any.
+fn number_of<A: Allocator>(
+    found: Result<Option<InternalValue<A>>, Error>,
+) -> Result<Option<SeqNo>, Error> {
+    match found {
+        Ok(Some(item)) => Ok(Some(item.key.seqno)),
+        Ok(None) => Ok(None),
+        Err(error) => Err(error),
+    }
+}
+
 // What a read finds, and how many data, index and filter blocks it loads.
-fn read<A: Allocator + Clone>(
+fn read<A: Allocator + Copy>(
     table: &Table<A>,
     key: &[u8],
     seqno: SeqNo,
 ) -> Result<(Option<SeqNo>, [u64; 3]), Error> {
     let (found, opened) = table.get_counted(key, seqno, Table::<A>::key_hash(key));
-    let found = found?.map(|item| item.key.seqno);
+    let found = number_of(found)?;
     Ok((
         found,
         [opened.data_loads, opened.index_loads, opened.filter_loads],
     ))
 }
 
-// The first of some reads that a table answers otherwise under one pair of pins.
-fn wrong_read<A: Allocator + Clone>(
-    alloc: A,
-    bytes: &[u8],
+// Whether a table answers some reads, under the pair of pins at a place.
+fn answers<A: Allocator + Copy>(
+    table: &Table<A>,
     reads: &[Read],
     at: usize,
-) -> Result<Option<Read>, Error> {
-    let pins = ALL_PINS.get(at).copied().unwrap_or_default();
-    let table = open_with(alloc, bytes, pins)?;
-    for wrong in reads {
-        let loads = wrong.3.get(at).copied().unwrap_or_default();
-        if read(&table, wrong.0, wrong.1)? != (wrong.2, loads) {
-            return Ok(Some(*wrong));
+) -> Result<bool, Error> {
+    for (key, seqno, found, loads) in reads {
+        let loads = loads.get(at).copied().unwrap_or_default();
+        if read(table, key, *seqno)? != (*found, loads) {
+            return Ok(false);
         }
     }
-    Ok(None)
+    Ok(true)
+}
+
+fn opened_answers(alloc: Global, bytes: &[u8], reads: &[Read], at: usize) -> Result<bool, Error> {
+    let pins = ALL_PINS.get(at).copied().unwrap_or_default();
+    asked(
+        open_with(alloc, bytes, pins),
+        |table| answers(table, reads, at),
+    )
+}
+
+// Whether a table answers some reads, under each pair of pins.
+fn all_answered(alloc: Global, bytes: &[u8], reads: &[Read]) -> Result<bool, Error> {
+    for at in 0..4 {
+        if !opened_answers(alloc, bytes, reads, at)? {
+            return Ok(false);
+        }
+    }
+    Ok(true)
+}
+
+// The same of each stored table.
+fn each_answers(alloc: Global) -> Result<[bool; 4], Error> {
+    Ok([
+        all_answered(alloc, &one_entry::BYTES, &OF_ONE_ENTRY)?,
+        all_answered(alloc, &one_entry_filtered::BYTES, &OF_ONE_ENTRY_FILTERED)?,
+        all_answered(alloc, &two_levels::BYTES, &OF_TWO_LEVELS)?,
+        all_answered(alloc, &filter_parts::BYTES, &OF_FILTER_PARTS)?,
+    ])
 }
 
 #[test]
 fn reads_under_each_pair_of_pins(rt: HostRuntime) -> Result<(), Fail> {
-    let tables: [(&[u8], &[Read]); 4] = [
-        (&one_entry::BYTES, &OF_ONE_ENTRY),
-        (&one_entry_filtered::BYTES, &OF_ONE_ENTRY_FILTERED),
-        (&two_levels::BYTES, &OF_TWO_LEVELS),
-        (&filter_parts::BYTES, &OF_FILTER_PARTS),
-    ];
-    for (bytes, reads) in tables {
-        for at in 0..4 {
-            assert!(rt; wrong_read(rt.alloc(), bytes, reads, at)?.is_none());
-        }
-    }
+    assert_eq!(rt; each_answers(rt.alloc())?, [true; 4]);
     Ok(())
 }
 
 // The number of the first handle that a reader of an index gives, if any.
-fn first_number<A: Allocator + Clone>(
+fn first_number<A: Allocator + Copy>(
     reader: &mut BlockIndexIterImpl<A>,
 ) -> Result<Option<SeqNo>, Error> {
     match reader.next() {
@@ -180,15 +217,15 @@ fn first_number<A: Allocator + Clone>(
 }
 
 // The same of the reader from a key and a number on; `None` where there is no reader.
-fn starts<A: Allocator + Clone>(
+fn starts<A: Allocator + Copy>(
     index: &BlockIndexImpl<A>,
     key: &[u8],
     seqno: SeqNo,
 ) -> Result<Option<Option<SeqNo>>, Error> {
-    match index.forward_reader(key, seqno)? {
-        Some(mut reader) => Ok(Some(first_number(&mut reader)?)),
-        None => Ok(None),
-    }
+    asked_if_any(
+        index.forward_reader(key, seqno),
+        |reader| first_number(reader),
+    )
 }
 
 fn index_of<A: Allocator + Copy>(
@@ -196,34 +233,34 @@ fn index_of<A: Allocator + Copy>(
     bytes: &[u8],
     pins: Pins,
 ) -> Result<BlockIndexImpl<A>, Error> {
-    let table = open_with(alloc, bytes, pins)?;
-    table.block_index()
+    asked(open_with(alloc, bytes, pins), |table| table.block_index())
 }
 
-// The same of the index of a table.
-fn starts_in<A: Allocator + Copy>(
-    alloc: A,
-    bytes: &[u8],
-    pins: Pins,
-    from: (&[u8], SeqNo),
-) -> Result<Option<Option<SeqNo>>, Error> {
-    let index = index_of(alloc, bytes, pins)?;
-    starts(&index, from.0, from.1)
+// Those of the index of a table, from a key within it and from one behind it.
+type Starts = [Option<Option<SeqNo>>; 2];
+
+fn starts_in<A: Allocator + Copy>(index: &BlockIndexImpl<A>) -> Result<Starts, Error> {
+    Ok([starts(index, b"a", 8)?, starts(index, b"c", 100)?])
+}
+
+fn starts_of(alloc: Global, bytes: &[u8], pins: Pins) -> Result<Starts, Error> {
+    asked(index_of(alloc, bytes, pins), |index| starts_in(index))
+}
+
+// Those of an index that stays loaded, of one that does not, and of one in two levels.
+fn starts_of_each(alloc: Global) -> Result<[Starts; 3], Error> {
+    Ok([
+        starts_of(alloc, &filter_parts::BYTES, (true, true))?,
+        starts_of(alloc, &filter_parts::BYTES, (true, false))?,
+        starts_of(alloc, &two_levels::BYTES, (true, true))?,
+    ])
 }
 
 #[test]
 fn readers_of_the_index_of_each_kind(rt: HostRuntime) -> Result<(), Fail> {
     // only an index that stays loaded tells at once that no handle reaches a key
-    let tables: [(&[u8], Pins, Option<Option<SeqNo>>); 3] = [
-        (&filter_parts::BYTES, (true, true), None),
-        (&filter_parts::BYTES, (true, false), Some(None)),
-        (&two_levels::BYTES, (true, true), Some(None)),
-    ];
-    for (bytes, pins, behind) in tables {
-        let found = starts_in(rt.alloc(), bytes, pins, (b"a", 8))?;
-        assert_eq!(rt; found, Some(Some(7)));
-        let none = starts_in(rt.alloc(), bytes, pins, (b"c", 100))?;
-        assert_eq!(rt; none, behind);
-    }
+    let found = Some(Some(7));
+    let expected = [[found, None], [found, Some(None)], [found, Some(None)]];
+    assert!(rt; starts_of_each(rt.alloc())? == expected);
     Ok(())
 }

@@ -1,6 +1,8 @@
 //! Point reads of tables that were stored in version 3.
+use example_tables::large::asked;
 use example_tables::stored::{filter_parts, one_entry, one_entry_filtered};
 use example_tables::tables::{open, overwritten, read};
+use lsm_tables::Table;
 use sst_blocks::{Error, SeqNo, Slice};
 use std::alloc::{Allocator, Global};
 use std::test::Fail;
@@ -26,70 +28,91 @@ const OF_FOUR_ENTRIES: [Read; 9] = [
     (b"b", 1, None, 0),
 ];
 
-// The first of some reads that a table answers otherwise.
-fn wrong_read<A: Allocator + Clone>(
-    alloc: A,
-    bytes: &[u8],
-    reads: &[Read],
-) -> Result<Option<Read>, Error> {
-    let bytes = Slice::from(alloc.clone()?, bytes)?;
-    let table = open(alloc, bytes, 0)?;
-    for (key, seqno, found, loads) in reads {
-        if read(&table, key, *seqno) != (Ok(*found), *loads) {
-            return Ok(Some((key, *seqno, *found, *loads)));
+// Whether a table answers some reads so.
+fn answers<A: Allocator + Copy>(table: &Table<A>, reads: &[Read]) -> bool {
+    for &(key, seqno, found, loads) in reads {
+        if read(table, key, seqno) != (Ok(found), loads) {
+            return false;
         }
     }
-    Ok(None)
+    true
+}
+
+// A stored table.
+fn opened(alloc: Global, bytes: &[u8]) -> Result<Table, Error> {
+    open(alloc, Slice::from(alloc, bytes)?, 0)
+}
+
+// Whether a stored table answers some reads so.
+fn stored_answers(alloc: Global, bytes: &[u8], reads: &[Read]) -> Result<bool, Error> {
+    asked(opened(alloc, bytes), |table| Ok(answers(table, reads)))
+}
+
+// The same of each stored table.
+fn each_answers(alloc: Global) -> Result<[bool; 3], Error> {
+    Ok([
+        stored_answers(alloc, &one_entry::BYTES, &OF_ONE_ENTRY)?,
+        stored_answers(alloc, &one_entry_filtered::BYTES, &OF_ONE_ENTRY)?,
+        stored_answers(alloc, &filter_parts::BYTES, &OF_FOUR_ENTRIES)?,
+    ])
 }
 
 #[test]
 fn stored_tables_answer_their_reads(rt: HostRuntime) -> Result<(), Fail> {
-    let tables: [(&[u8], &[Read]); 3] = [
-        (&one_entry::BYTES, &OF_ONE_ENTRY),
-        (&one_entry_filtered::BYTES, &OF_ONE_ENTRY),
-        (&filter_parts::BYTES, &OF_FOUR_ENTRIES),
-    ];
-    for (bytes, reads) in tables {
-        assert!(rt; wrong_read(rt.alloc(), bytes, reads)?.is_none());
-    }
+    assert_eq!(rt; each_answers(rt.alloc())?, [true; 3]);
     Ok(())
 }
 
 // The bytes that a table's filter takes.
 fn filter_size(alloc: Global, bytes: &[u8]) -> Result<u32, Error> {
-    Ok(open(alloc, Slice::from(alloc, bytes)?, 0)?.filter_size())
+    asked(opened(alloc, bytes), |table| Ok(table.filter_size()))
+}
+
+// Those of each stored table.
+fn filter_sizes(alloc: Global) -> Result<[u32; 3], Error> {
+    Ok([
+        filter_size(alloc, &one_entry::BYTES)?,
+        filter_size(alloc, &one_entry_filtered::BYTES)?,
+        filter_size(alloc, &filter_parts::BYTES)?,
+    ])
 }
 
 #[test]
 fn filters_of_stored_tables(rt: HostRuntime) -> Result<(), Fail> {
-    assert_eq!(rt; filter_size(rt.alloc(), &one_entry::BYTES)?, 0);
-    assert_eq!(rt; filter_size(rt.alloc(), &one_entry_filtered::BYTES)?, 33);
-    assert_eq!(rt; filter_size(rt.alloc(), &filter_parts::BYTES)?, 66);
+    assert_eq!(rt; filter_sizes(rt.alloc())?, [0, 33, 66]);
     Ok(())
 }
 
-// What a read answers of the table in four blocks of 44 bytes, of which all but the second are damaged in their last byte.
-fn damaged_read(
-    alloc: Global,
-    key: &[u8],
-    seqno: SeqNo,
-) -> Result<(Result<Option<SeqNo>, Error>, u64), Error> {
+// The table in four blocks of 44 bytes, of which all but the second are damaged in their last byte.
+fn damaged(alloc: Global) -> Result<Table, Error> {
     let changes: [(usize, &[u8]); 3] = [(43, b"?"), (131, b"?"), (175, b"?")];
-    let bytes = overwritten(alloc, &filter_parts::BYTES, &changes)?;
-    Ok(read(&open(alloc, bytes, 0)?, key, seqno))
+    open(
+        alloc,
+        overwritten(alloc, &filter_parts::BYTES, &changes)?,
+        0,
+    )
 }
+
+// What a read answers, and how many data blocks it loads.
+type Answer = (Result<Option<SeqNo>, Error>, u64);
+
+// What a read answers of it.
+fn damaged_read(alloc: Global, key: &[u8], seqno: SeqNo) -> Result<Answer, Error> {
+    asked(damaged(alloc), |table| Ok(read(table, key, seqno)))
+}
+
+const OF_DAMAGED: &[(&[u8], SeqNo, Answer)] = &[
+    (b"a", 8, (Ok(Some(7)), 1)),
+    (b"a", 10, (Err(Error::ChecksumMismatch), 1)),
+    (b"a", 6, (Err(Error::ChecksumMismatch), 1)),
+    (b"a", 5, (Err(Error::ChecksumMismatch), 1)),
+    (b"b", 2, (Err(Error::ChecksumMismatch), 1)),
+];
 
 #[test]
 fn a_damaged_block_refuses_its_own_reads(rt: HostRuntime) -> Result<(), Fail> {
-    let reads: [(&[u8], SeqNo, Result<Option<SeqNo>, Error>); 5] = [
-        (b"a", 8, Ok(Some(7))),
-        (b"a", 10, Err(Error::ChecksumMismatch)),
-        (b"a", 6, Err(Error::ChecksumMismatch)),
-        (b"a", 5, Err(Error::ChecksumMismatch)),
-        (b"b", 2, Err(Error::ChecksumMismatch)),
-    ];
-    for (key, seqno, answer) in reads {
-        assert!(rt; damaged_read(rt.alloc(), key, seqno)? == (answer, 1));
+    for (key, seqno, answer) in OF_DAMAGED {
+        assert!(rt; damaged_read(rt.alloc(), key, *seqno)? == *answer);
     }
     Ok(())
 }

@@ -2,16 +2,14 @@
 ghost use Rattle.std.specs.Prelude.{IfOk};
 ghost use Rattle.lsm_writers.specs.Writing.{IsFresh};
 
-use crate::tables::{ROWS, bytes_of};
+use crate::tables::{ROWS, Sections, bytes_of, sections};
 use example_tables::large::asked;
 use example_tables::rows::{Row, fill, new_writer};
 use example_tables::tables::{load_entries, open};
 use lsm_tables::{ParsedRegions, Scanner, Table};
 use lsm_writers::{BloomConstructionPolicy, FinishedTable, Timestamp, Writer};
 use refusing::{Refusing, each_refused};
-use sst_blocks::{
-    BlockSource, BlockType, Checksum, DataBlock, Error, Opened, SectionName, SeqNo, ValueType,
-};
+use sst_blocks::{BlockSource, BlockType, Checksum, DataBlock, Error, Opened, SeqNo, ValueType};
 use std::alloc::{Allocator, Global};
 use std::test::Fail;
 
@@ -63,31 +61,6 @@ fn no_filter_parts(alloc: Global) -> Result<FinishedTable, Error> {
     fill(writer, alloc, &ROWS)
 }
 
-// The sections of a table, each with its position and its length, in the order of their names.
-type Sections = [(u64, u64); 7];
-
-const NAMES: [SectionName; 7] = [
-    SectionName::Data,
-    SectionName::Index,
-    SectionName::Tli,
-    SectionName::Filter,
-    SectionName::FilterTli,
-    SectionName::TableVersion,
-    SectionName::Meta,
-];
-
-fn sections(source: &BlockSource) -> Sections {
-    let mut sections = [(0, 0); 7];
-    for (i, name) in NAMES.iter().enumerate() {
-        if let Some(section) = source.toc().section(*name)
-            && i < 7
-        {
-            sections[i] = (section.position, section.len);
-        }
-    }
-    sections
-}
-
 // The byte with which the value of a meta item begins.
 fn first_byte(block: &DataBlock, name: &[u8]) -> Result<Option<u8>, Error> {
     match block.point_read(name, SeqNo::MAX)? {
@@ -123,64 +96,105 @@ fn laid(alloc: Global, table: Result<FinishedTable, Error>) -> Result<Laid, Erro
     asked(BlockSource::new(alloc, bytes), |source| laid_in(source))
 }
 
-const DATA: (u64, u64) = (0, 184);
+const DATA: Option<(u64, u64)> = Some((0, 184));
 
-const NONE: (u64, u64) = (0, 0);
+// Where an index in four parts lies, and one in a single part.
+const OF_INDEX_PARTS: [Laid; 2] = [
+    (
+        [
+            DATA,
+            Some((184, 212)),
+            Some((396, 128)),
+            None,
+            None,
+            Some((524, 1)),
+            Some((525, 1099)),
+        ],
+        Some(4),
+        Some(1),
+    ),
+    (
+        [
+            DATA,
+            Some((184, 128)),
+            Some((312, 53)),
+            None,
+            None,
+            Some((365, 1)),
+            Some((366, 1099)),
+        ],
+        Some(1),
+        Some(1),
+    ),
+];
+
+fn laid_index_parts(alloc: Global) -> Result<[Laid; 2], Error> {
+    Ok([
+        laid(alloc, index_parts(alloc))?,
+        laid(alloc, forgotten_index_parts(alloc))?,
+    ])
+}
 
 #[test]
 fn sections_of_a_partitioned_index(rt: HostRuntime) -> Result<(), Fail> {
-    let four: Sections = [
-        DATA,
-        (184, 212),
-        (396, 128),
-        NONE,
-        NONE,
-        (524, 1),
-        (525, 1099),
-    ];
-    let parts = laid(rt.alloc(), index_parts(rt.alloc()))?;
-    assert_eq!(rt; parts, (four, Some(4), Some(1)));
-    let one: Sections = [
-        DATA,
-        (184, 128),
-        (312, 53),
-        NONE,
-        NONE,
-        (365, 1),
-        (366, 1099),
-    ];
-    let forgotten = laid(rt.alloc(), forgotten_index_parts(rt.alloc()))?;
-    assert_eq!(rt; forgotten, (one, Some(1), Some(1)));
+    assert!(rt; laid_index_parts(rt.alloc())? == OF_INDEX_PARTS);
     Ok(())
+}
+
+// Where a filter in two parts lies, one in a single part, and one without keys.
+const OF_FILTER_PARTS: [Laid; 3] = [
+    (
+        [
+            DATA,
+            None,
+            Some((184, 128)),
+            Some((312, 66)),
+            Some((378, 78)),
+            Some((456, 1)),
+            Some((457, 1099)),
+        ],
+        Some(1),
+        Some(2),
+    ),
+    (
+        [
+            DATA,
+            None,
+            Some((184, 128)),
+            Some((312, 33)),
+            Some((345, 53)),
+            Some((398, 1)),
+            Some((399, 1099)),
+        ],
+        Some(1),
+        Some(1),
+    ),
+    (
+        [
+            DATA,
+            None,
+            Some((184, 128)),
+            None,
+            None,
+            Some((312, 1)),
+            Some((313, 1099)),
+        ],
+        Some(1),
+        Some(0),
+    ),
+];
+
+fn laid_filter_parts(alloc: Global) -> Result<[Laid; 3], Error> {
+    Ok([
+        laid(alloc, filter_parts(alloc))?,
+        laid(alloc, forgotten_filter_parts(alloc))?,
+        laid(alloc, no_filter_parts(alloc))?,
+    ])
 }
 
 #[test]
 fn sections_of_a_partitioned_filter(rt: HostRuntime) -> Result<(), Fail> {
-    let two: Sections = [
-        DATA,
-        NONE,
-        (184, 128),
-        (312, 66),
-        (378, 78),
-        (456, 1),
-        (457, 1099),
-    ];
-    let parts = laid(rt.alloc(), filter_parts(rt.alloc()))?;
-    assert_eq!(rt; parts, (two, Some(1), Some(2)));
-    let one: Sections = [
-        DATA,
-        NONE,
-        (184, 128),
-        (312, 33),
-        (345, 53),
-        (398, 1),
-        (399, 1099),
-    ];
-    let forgotten = laid(rt.alloc(), forgotten_filter_parts(rt.alloc()))?;
-    assert_eq!(rt; forgotten, (one, Some(1), Some(1)));
-    let none: Sections = [DATA, NONE, (184, 128), NONE, NONE, (312, 1), (313, 1099)];
-    let keyless = laid(rt.alloc(), no_filter_parts(rt.alloc()))?;
-    assert_eq!(rt; keyless, (none, Some(1), Some(0)));
+    assert!(rt; laid_filter_parts(rt.alloc())? == OF_FILTER_PARTS);
     Ok(())
 }
 
@@ -221,7 +235,7 @@ fn the_filter_of_one_key_byte_for_byte(rt: HostRuntime) -> Result<(), Fail> {
 }
 
 // How many of the rows reads find.
-fn count_read<A: Allocator + Clone>(table: &Table<A>) -> Result<usize, Error> {
+fn count_read<A: Allocator + Copy>(table: &Table<A>) -> Result<usize, Error> {
     let mut found = 0_usize;
     for row in &ROWS {
         if read(table, row)? {
@@ -237,7 +251,7 @@ fn one_more(found: Result<usize, Error>, given: Result<(), Error>) -> Result<usi
 }
 
 // How many entries a scan gives; nothing follows an error.
-fn count_scanned<A: Allocator + Clone>(scan: Scanner<A>) -> Result<usize, Error> {
+fn count_scanned<A: Allocator + Copy>(scan: Scanner<A>) -> Result<usize, Error> {
     let mut found = Ok(0_usize);
     for item in scan {
         found = one_more(found, item.map(drop));
@@ -246,7 +260,7 @@ fn count_scanned<A: Allocator + Clone>(scan: Scanner<A>) -> Result<usize, Error>
 }
 
 // Reads each of a table's rows and scans it; how many rows were found.
-fn count_found<A: Allocator + Clone>(table: &Table<A>) -> Result<usize, Error> {
+fn count_found<A: Allocator + Copy>(table: &Table<A>) -> Result<usize, Error> {
     let read = count_read(table)?;
     Ok(read.saturating_add(count_scanned(table.scan()?)?))
 }
@@ -258,7 +272,7 @@ fn rows_found<A: Allocator + Copy>(alloc: A) -> Result<usize, Error> {
 }
 
 // Whether a read finds a row.
-fn read<A: Allocator + Clone>(table: &Table<A>, row: &Row<'_>) -> Result<bool, Error> {
+fn read<A: Allocator + Copy>(table: &Table<A>, row: &Row<'_>) -> Result<bool, Error> {
     let bound = row.1.saturating_add(1);
     let found = table.get(row.0, bound, Table::<A>::key_hash(row.0))?;
     Ok(found.map(|item| item.key.seqno) == Some(row.1))

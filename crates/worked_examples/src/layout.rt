@@ -1,41 +1,16 @@
 //! Where the parts of written and of stored tables lie, and what the tables say of themselves.
-use crate::tables::written;
+use crate::tables::{Sections, sections, written};
 use example_tables::large::asked;
 use example_tables::rows::{self, Row};
 use example_tables::stored::{filter_parts, one_entry, one_entry_filtered, two_levels};
 use example_tables::tables::{load_entries, load_handles};
 use lsm_tables::{ParsedMeta, ParsedRegions};
 use sst_blocks::{
-    BlockHandle, BlockSource, BlockType, DataBlock, Error, IndexBlock, Opened, SectionName, SeqNo,
-    Slice, ValueType,
+    BlockHandle, BlockSource, BlockType, DataBlock, Error, IndexBlock, Opened, SeqNo, Slice,
+    ValueType,
 };
 use std::alloc::Global;
 use std::test::Fail;
-
-const NAMES: [SectionName; 7] = [
-    SectionName::Data,
-    SectionName::Index,
-    SectionName::Tli,
-    SectionName::Filter,
-    SectionName::FilterTli,
-    SectionName::TableVersion,
-    SectionName::Meta,
-];
-
-// The position and the length of each section, in the order of the names.
-type Sections = [Option<(u64, u64)>; 7];
-
-fn sections(source: &BlockSource) -> Sections {
-    let mut sections = [None; 7];
-    for (i, name) in NAMES.iter().enumerate() {
-        if let Some(section) = source.toc().section(*name)
-            && i < 7
-        {
-            sections[i] = Some((section.position, section.len));
-        }
-    }
-    sections
-}
 
 fn source_of(alloc: Global, bytes: &[u8]) -> Result<BlockSource, Error> {
     BlockSource::new(alloc, Slice::from(alloc, bytes)?)
@@ -45,55 +20,54 @@ fn sections_of(alloc: Global, bytes: &[u8]) -> Result<Sections, Error> {
     asked(source_of(alloc, bytes), |source| Ok(sections(source)))
 }
 
+// Those of each stored table.
+fn sections_of_each(alloc: Global) -> Result<[Sections; 4], Error> {
+    Ok([
+        sections_of(alloc, &one_entry::BYTES)?,
+        sections_of(alloc, &one_entry_filtered::BYTES)?,
+        sections_of(alloc, &two_levels::BYTES)?,
+        sections_of(alloc, &filter_parts::BYTES)?,
+    ])
+}
+
+const DATA: Option<(u64, u64)> = Some((0, 45));
+
+const TLI: Option<(u64, u64)> = Some((45, 51));
+
+const SECTIONS: [Sections; 4] = [
+    [DATA, None, TLI, None, None, Some((96, 1)), Some((97, 1041))],
+    [
+        DATA,
+        None,
+        TLI,
+        Some((96, 33)),
+        None,
+        Some((129, 1)),
+        Some((130, 1041)),
+    ],
+    [
+        Some((0, 176)),
+        Some((176, 204)),
+        Some((380, 120)),
+        None,
+        None,
+        Some((500, 1)),
+        Some((501, 1041)),
+    ],
+    [
+        Some((0, 176)),
+        None,
+        Some((176, 120)),
+        Some((296, 66)),
+        Some((362, 74)),
+        Some((436, 1)),
+        Some((437, 1041)),
+    ],
+];
+
 #[test]
 fn sections_of_stored_tables(rt: HostRuntime) -> Result<(), Fail> {
-    let data = Some((0, 45));
-    let tli = Some((45, 51));
-    let tables: [(&[u8], Sections); 4] = [
-        (
-            &one_entry::BYTES,
-            [data, None, tli, None, None, Some((96, 1)), Some((97, 1041))],
-        ),
-        (
-            &one_entry_filtered::BYTES,
-            [
-                data,
-                None,
-                tli,
-                Some((96, 33)),
-                None,
-                Some((129, 1)),
-                Some((130, 1041)),
-            ],
-        ),
-        (
-            &two_levels::BYTES,
-            [
-                Some((0, 176)),
-                Some((176, 204)),
-                Some((380, 120)),
-                None,
-                None,
-                Some((500, 1)),
-                Some((501, 1041)),
-            ],
-        ),
-        (
-            &filter_parts::BYTES,
-            [
-                Some((0, 176)),
-                None,
-                Some((176, 120)),
-                Some((296, 66)),
-                Some((362, 74)),
-                Some((436, 1)),
-                Some((437, 1041)),
-            ],
-        ),
-    ];
-    for (bytes, expected) in tables {
-        assert_eq!(rt; sections_of(rt.alloc(), bytes)?, expected);
-    }
+    assert!(rt; sections_of_each(rt.alloc())? == SECTIONS);
     Ok(())
 }
 
@@ -146,17 +120,26 @@ fn facts(alloc: Global, bytes: &[u8]) -> Result<[u64; 8], Error> {
     asked(source_of(alloc, bytes), |source| facts_in(source))
 }
 
+// Those of each stored table.
+fn facts_of_each(alloc: Global) -> Result<[[u64; 8]; 4], Error> {
+    Ok([
+        facts(alloc, &one_entry::BYTES)?,
+        facts(alloc, &one_entry_filtered::BYTES)?,
+        facts(alloc, &two_levels::BYTES)?,
+        facts(alloc, &filter_parts::BYTES)?,
+    ])
+}
+
+const FACTS: [[u64; 8]; 4] = [
+    [3, 1, 1, 1, 1, 45, 1, 1],
+    [3, 1, 1, 1, 1, 45, 1, 1],
+    [3, 1, 4, 4, 4, 176, 1, 9],
+    [3, 1, 4, 4, 1, 176, 1, 9],
+];
+
 #[test]
 fn facts_of_stored_tables(rt: HostRuntime) -> Result<(), Fail> {
-    let tables: [(&[u8], [u64; 8]); 4] = [
-        (&one_entry::BYTES, [3, 1, 1, 1, 1, 45, 1, 1]),
-        (&one_entry_filtered::BYTES, [3, 1, 1, 1, 1, 45, 1, 1]),
-        (&two_levels::BYTES, [3, 1, 4, 4, 4, 176, 1, 9]),
-        (&filter_parts::BYTES, [3, 1, 4, 4, 1, 176, 1, 9]),
-    ];
-    for (bytes, expected) in tables {
-        assert_eq!(rt; facts(rt.alloc(), bytes)?, expected);
-    }
+    assert!(rt; facts_of_each(rt.alloc())? == FACTS);
     Ok(())
 }
 

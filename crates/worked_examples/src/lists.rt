@@ -1,13 +1,11 @@
 //! Lists that are written as one table, opened and read.
-ghost use Rattle.std.specs.Prelude.{IfOk};
-ghost use Rattle.lsm_writers.specs.Writing.{IsWritable};
-
 use example_tables::large::asked_if_any;
-use example_tables::rows::{Row, entry, written};
+use example_tables::lists::list_of;
+use example_tables::rows::Row;
 use lsm_tables::{Scanner, Table, read_back, write_and_open};
-use lsm_writers::{Timestamp, is_writable, write_list};
-use refusing::{Refusing, each_refused};
-use sst_blocks::{Error, InternalValue, IterItem, SeqNo, ValueType};
+use lsm_writers::{Timestamp, write_list};
+use refusing::each_refused;
+use sst_blocks::{Error, InternalValue, SeqNo, ValueType};
 use std::alloc::{Allocator, Global};
 use std::ops::Bound;
 use std::test::Fail;
@@ -19,61 +17,31 @@ const ROWS: [Row<'static>; 4] = [
     (b"b", 1, ValueType::Value, b"z"),
 ];
 
-fn put_entries<A: Allocator + Copy>(
-    alloc: A,
-    items: &mut Vec<InternalValue<A>, A>,
-    rows: &[Row<'_>],
-) -> Result<(), Error> {
-    for row in rows {
-        items.push(entry(alloc, row)?)?;
+// The number of the next entry of a scan; 0 where nothing comes.
+fn next_number<A: Allocator + Copy>(scanner: &mut Scanner<A>) -> Result<SeqNo, Error> {
+    match scanner.next() {
+        Some(Ok(item)) => Ok(item.key.seqno),
+        Some(Err(error)) => Err(error),
+        None => Ok(0),
     }
-    Ok(())
-}
-
-fn entries_of<A: Allocator + Copy>(
-    alloc: A,
-    rows: &[Row<'_>],
-) -> Result<Vec<InternalValue<A>, A>, Error> {
-    let mut items = Vec::new(alloc);
-    let put = put_entries(alloc, &mut items, rows);
-    written(items, put)
-}
-
-// The entries of some rows; `Source(0)` where no table can be written of them.
-fn list_of<A: Allocator + Copy>(
-    alloc: A,
-    rows: &[Row<'_>],
-) -> Result<Vec<InternalValue<A>, A>, Error>
-    ensures { IfOk result (λ items. IsWritable items.items) }
-{
-    let items = entries_of(alloc, rows)?;
-    if is_writable(&items) {
-        Ok(items)
-    } else {
-        Err(Error::Source(0))
-    }
-}
-
-fn number_of<A: Allocator>(item: IterItem<A>) -> Result<SeqNo, Error> {
-    Ok(item?.key.seqno)
 }
 
 // The numbers that a scan gives, four at most; 0 where nothing comes.
-fn numbers<A: Allocator + Clone>(scanner: &mut Scanner<A>) -> Result<[SeqNo; 5], Error> {
+fn numbers<A: Allocator + Copy>(scanner: &mut Scanner<A>) -> Result<[SeqNo; 5], Error> {
     let mut numbers = [0; 5];
     for slot in numbers.iter_mut() {
-        if let Some(item) = scanner.next() {
-            *slot = number_of(item)?;
-        }
+        *slot = next_number(scanner)?;
     }
     Ok(numbers)
 }
 
 // The number of the entry that is found, and the numbers of a scan.
-fn all_numbers<A: Allocator + Clone>(
+type Numbers = (Option<SeqNo>, [SeqNo; 5]);
+
+fn all_numbers<A: Allocator + Copy>(
     found: &Option<InternalValue<A>>,
     scanner: &mut Scanner<A>,
-) -> Result<(Option<SeqNo>, [SeqNo; 5]), Error> {
+) -> Result<Numbers, Error> {
     let found = found.as_ref().map(|item| item.key.seqno);
     Ok((found, numbers(scanner)?))
 }
@@ -85,32 +53,44 @@ fn read_rows<A: Allocator + Copy>(
     global_seqno: SeqNo,
     key: &[u8],
     seqno: SeqNo,
-) -> Result<Option<(Option<SeqNo>, [SeqNo; 5])>, Error> {
+) -> Result<Option<Numbers>, Error> {
     let items = list_of(alloc, rows)?;
     let read = read_back(alloc, items, global_seqno, key, seqno);
     asked_if_any(read, |read| all_numbers(&read.0, &mut read.1))
 }
 
+// Reads of the rows, as they are, lifted and past the last key, and of no rows.
+fn four_reads(alloc: Global) -> Result<[Option<Numbers>; 4], Error> {
+    Ok([
+        read_rows(alloc, &ROWS, 0, b"a", 8)?,
+        read_rows(alloc, &ROWS, 10, b"a", 18)?,
+        read_rows(alloc, &ROWS, 0, b"c", 8)?,
+        read_rows(alloc, &[], 3, b"a", 8)?,
+    ])
+}
+
 #[test]
 fn a_list_is_read_back(rt: HostRuntime) -> Result<(), Fail> {
-    let alloc = rt.alloc();
-    let plain = Some((Some(7), [9, 7, 5, 1, 0]));
-    assert!(rt; read_rows(alloc, &ROWS, 0, b"a", 8)? == plain);
-    let lifted = Some((Some(17), [19, 17, 15, 11, 0]));
-    assert!(rt; read_rows(alloc, &ROWS, 10, b"a", 18)? == lifted);
-    let missed = Some((None, [9, 7, 5, 1, 0]));
-    assert!(rt; read_rows(alloc, &ROWS, 0, b"c", 8)? == missed);
-    assert!(rt; read_rows(alloc, &[], 3, b"a", 8)? == None);
+    let expected = [
+        Some((Some(7), [9, 7, 5, 1, 0])),
+        Some((Some(17), [19, 17, 15, 11, 0])),
+        Some((None, [9, 7, 5, 1, 0])),
+        None,
+    ];
+    assert!(rt; four_reads(rt.alloc())? == expected);
     Ok(())
+}
+
+// Whether no table can be written of some rows.
+fn is_not_written(alloc: Global, rows: &[Row<'_>], key: &[u8]) -> bool {
+    read_rows(alloc, rows, 0, key, 2) == Err(Error::Source(0))
 }
 
 #[test]
 fn a_list_that_is_not_strict_or_numbered_too_high_is_not_written(rt: HostRuntime) {
     let alloc = rt.alloc();
-    let twice = [ROWS[3], ROWS[3]];
-    assert!(rt; read_rows(alloc, &twice, 0, b"b", 2) == Err(Error::Source(0)));
-    let largest: [Row<'static>; 1] = [(b"a", u64::MAX, ValueType::Value, b"")];
-    assert!(rt; read_rows(alloc, &largest, 0, b"a", 2) == Err(Error::Source(0)));
+    assert!(rt; is_not_written(alloc, &[ROWS[3], ROWS[3]], b"b"));
+    assert!(rt; is_not_written(alloc, &[(b"a", u64::MAX, ValueType::Value, b"")], b"a"));
 }
 
 #[test]
@@ -126,16 +106,18 @@ fn a_number_that_passes_the_largest_one_is_refused(rt: HostRuntime) -> Result<()
     Ok(())
 }
 
+// Whether the rows are read back, or memory refused where it may be.
+fn reads_rows<A: Allocator + Copy>(alloc: A, may_fail: bool) -> bool {
+    match read_rows(alloc, &ROWS, 0, b"a", 8) {
+        Ok(read) => read == Some((Some(7), [9, 7, 5, 1, 0])),
+        Err(Error::OutOfMemory) => may_fail,
+        Err(_) => false,
+    }
+}
+
 #[test]
 fn a_list_read_back_with_each_request_refused(rt: HostRuntime) -> Result<(), Fail> {
-    let whole = Some((Some(7), [9, 7, 5, 1, 0]));
-    let answers = each_refused(rt.alloc(), |heap: &Refusing, may_fail: bool| {
-        match read_rows(heap, &ROWS, 0, b"a", 8) {
-            Ok(read) => read == whole,
-            Err(Error::OutOfMemory) => may_fail,
-            Err(_) => false,
-        }
-    });
+    let answers = each_refused(rt.alloc(), |heap, may_fail| reads_rows(heap, may_fail));
     assert!(rt; answers.is_ok());
     Ok(())
 }

@@ -19,7 +19,7 @@ struct Listing<'a, A: Allocator> {
     handles: Vec<(u64, u32)>,
 }
 
-impl<A: Allocator + Clone> LoadBlocks for Listing<'_, A> {
+impl<A: Allocator + Copy> LoadBlocks for Listing<'_, A> {
     ghost use Rattle.sst_sections.specs.Sections.{body_of};
 
     type Alloc = A;
@@ -62,7 +62,7 @@ fn with_handle(found: Result<Option<SeqNo>, Error>, handles: &[(u64, u32)]) -> R
 }
 
 // A read through a source that lists its loads.
-fn listed_read<A: Allocator + Clone>(
+fn listed_read<A: Allocator + Copy>(
     heap: Global,
     source: &BlockSource<A>,
     table: &Table<A>,
@@ -79,7 +79,7 @@ fn listed_read<A: Allocator + Clone>(
 }
 
 // The same read. Where it is refused for want of memory, it is asked again.
-fn repeated_read<A: Allocator + Clone>(
+fn repeated_read<A: Allocator + Copy>(
     heap: Global,
     source: &BlockSource<A>,
     table: &Table<A>,
@@ -93,7 +93,7 @@ fn repeated_read<A: Allocator + Clone>(
 }
 
 // Three reads of a table.
-fn reads_of<A: Allocator + Clone>(
+fn reads_of<A: Allocator + Copy>(
     heap: Global,
     source: &BlockSource<A>,
     table: &Table<A>,
@@ -166,7 +166,7 @@ fn each_request_of_writing_and_reading_refused(rt: HostRuntime) -> Result<(), Fa
 }
 
 // Whether a table finds a@7 and b@1 and nothing else, with one load at most.
-fn answers<A: Allocator + Clone>(table: &Table<A>) -> bool {
+fn answers<A: Allocator + Copy>(table: &Table<A>) -> bool {
     read(table, b"a", 8) == (Ok(Some(7)), 1)
         && read(table, b"a", 5) == (Ok(None), 1)
         && read(table, b"b", 2) == (Ok(Some(1)), 1)

@@ -4,28 +4,38 @@ use example_tables::large::{asked, asked_mut};
 use example_tables::stored::{filter_parts, one_entry, one_entry_filtered, two_levels};
 use example_tables::tables::{open, overwritten};
 use lsm_tables::{Scanner, Table};
-use refusing::{Refusing, each_refused};
-use sst_blocks::{BlockSource, CompressionType, Error, IterItem, SeqNo, Slice};
+use refusing::each_refused;
+use sst_blocks::{BlockSource, CompressionType, Error, IterItem, SeqNo, Slice, TagName};
 use std::alloc::{Allocator, Global};
 use std::test::Fail;
 
-/// What a step of a scan gives: the number of an entry, a refusal, or nothing.
-type Step = Option<Result<SeqNo, Error>>;
+// The number of a refusal, and the tag that it names, or 0.
+type Fault = (u8, u8);
 
-fn step<A: Allocator + Clone>(scan: &mut Scanner<A>) -> Step {
+fn fault(error: &Error) -> Fault {
+    match error {
+        Error::InvalidTag(TagName::BlockType, tag) => (error.number(), *tag),
+        _ => (error.number(), 0),
+    }
+}
+
+/// What a step of a scan gives: the number of an entry, a refusal, or nothing.
+type Step = Option<Result<SeqNo, Fault>>;
+
+fn step<A: Allocator + Copy>(scan: &mut Scanner<A>) -> Step {
     match scan.next() {
         Some(Ok(item)) => Some(Ok(item.key.seqno)),
-        Some(Err(error)) => Some(Err(error)),
+        Some(Err(error)) => Some(Err(fault(&error))),
         None => None,
     }
 }
 
-fn five_steps<A: Allocator + Clone>(scan: &mut Scanner<A>) -> [Step; 5] {
+fn five_steps<A: Allocator + Copy>(scan: &mut Scanner<A>) -> [Step; 5] {
     [step(scan), step(scan), step(scan), step(scan), step(scan)]
 }
 
 // A scan of a table that is let go of.
-fn scan_of<A: Allocator + Clone>(table: Result<Table<A>, Error>) -> Result<Scanner<A>, Error> {
+fn scan_of<A: Allocator + Copy>(table: Result<Table<A>, Error>) -> Result<Scanner<A>, Error> {
     asked(table, |table| table.scan())
 }
 
@@ -35,19 +45,21 @@ fn first_five(alloc: Global, bytes: &[u8]) -> Result<[Step; 5], Error> {
     asked_mut(scan_of(open(alloc, bytes, 0)), |scan| Ok(five_steps(scan)))
 }
 
+// Those of each stored table.
+fn of_each(alloc: Global) -> Result<[[Step; 5]; 4], Error> {
+    Ok([
+        first_five(alloc, &one_entry::BYTES)?,
+        first_five(alloc, &one_entry_filtered::BYTES)?,
+        first_five(alloc, &filter_parts::BYTES)?,
+        first_five(alloc, &two_levels::BYTES)?,
+    ])
+}
+
 #[test]
 fn stored_tables_are_scanned(rt: HostRuntime) -> Result<(), Fail> {
     let one: [Step; 5] = [Some(Ok(1)), None, None, None, None];
     let four: [Step; 5] = [Some(Ok(9)), Some(Ok(7)), Some(Ok(5)), Some(Ok(1)), None];
-    let tables: [(&[u8], &[Step; 5]); 4] = [
-        (&one_entry::BYTES, &one),
-        (&one_entry_filtered::BYTES, &one),
-        (&filter_parts::BYTES, &four),
-        (&two_levels::BYTES, &four),
-    ];
-    for (bytes, steps) in tables {
-        assert!(rt; first_five(rt.alloc(), bytes)? == *steps);
-    }
+    assert!(rt; of_each(rt.alloc())? == [one, one, four, four]);
     Ok(())
 }
 
@@ -59,7 +71,7 @@ fn damaged_scan(alloc: Global) -> Result<[Step; 5], Error> {
 
 #[test]
 fn a_scan_ends_at_a_damaged_block(rt: HostRuntime) -> Result<(), Fail> {
-    let refused = Some(Err(Error::ChecksumMismatch));
+    let refused = Some(Err(fault(&Error::ChecksumMismatch)));
     let steps: [Step; 5] = [Some(Ok(9)), Some(Ok(7)), refused, None, None];
     assert_eq!(rt; damaged_scan(rt.alloc())?, steps);
     Ok(())
@@ -94,30 +106,41 @@ fn two_of_blocks(
     )
 }
 
+// Those of scans of one block, of none and of nine.
+fn of_counts(alloc: Global) -> Result<[[Step; 2]; 3], Error> {
+    Ok([
+        two_of_blocks(alloc, &[], 1, 0)?,
+        two_of_blocks(alloc, &[], 0, 0)?,
+        two_of_blocks(alloc, &[], 9, 0)?,
+    ])
+}
+
 #[test]
 fn a_scan_of_blocks_goes_on_up_to_what_is_none(rt: HostRuntime) -> Result<(), Fail> {
-    let index_tag = Error::InvalidTag(sst_entries::TagName::BlockType, 1);
-    let scans: [(u64, [Step; 2]); 3] = [
-        (1, [Some(Ok(1)), None]),
-        (0, [Some(Ok(1)), None]),
-        // What lies behind the data block is no data block.
-        (9, [Some(Ok(1)), Some(Err(index_tag))]),
+    // What lies behind the data block is no data block.
+    let index_tag = fault(&Error::InvalidTag(TagName::BlockType, 1));
+    let steps = [
+        [Some(Ok(1)), None],
+        [Some(Ok(1)), None],
+        [Some(Ok(1)), Some(Err(index_tag))],
     ];
-    for (block_count, steps) in &scans {
-        assert!(rt; two_of_blocks(rt.alloc(), &[], *block_count, 0)? == *steps);
-    }
+    assert!(rt; of_counts(rt.alloc())? == steps);
     Ok(())
+}
+
+// Those of scans that lift by the two largest numbers.
+fn of_largest(alloc: Global) -> Result<[[Step; 2]; 2], Error> {
+    Ok([
+        two_of_blocks(alloc, &[], 1, u64::MAX - 1)?,
+        two_of_blocks(alloc, &[], 9, u64::MAX)?,
+    ])
 }
 
 #[test]
 fn a_scan_lifts_up_to_the_largest_number(rt: HostRuntime) -> Result<(), Fail> {
-    let scans: [(u64, SeqNo, [Step; 2]); 2] = [
-        (1, u64::MAX - 1, [Some(Ok(u64::MAX)), None]),
-        (9, u64::MAX, [Some(Err(Error::SeqNoOverflow)), None]),
-    ];
-    for (block_count, global_seqno, steps) in &scans {
-        assert!(rt; two_of_blocks(rt.alloc(), &[], *block_count, *global_seqno)? == *steps);
-    }
+    let overflow = fault(&Error::SeqNoOverflow);
+    let steps = [[Some(Ok(u64::MAX)), None], [Some(Err(overflow)), None]];
+    assert!(rt; of_largest(rt.alloc())? == steps);
     Ok(())
 }
 
@@ -149,19 +172,16 @@ fn a_scan_reads_each_block_once(rt: HostRuntime) -> Result<(), Fail> {
     Ok(())
 }
 
-fn number_of<A: Allocator>(item: IterItem<A>) -> Result<SeqNo, Error> {
-    Ok(item?.key.seqno)
-}
-
-fn added(sum: Result<u64, Error>, number: Result<SeqNo, Error>) -> Result<u64, Error> {
-    Ok(sum?.saturating_add(number?))
+// The sum with the number of one more entry.
+fn added<A: Allocator>(sum: Result<u64, Error>, item: IterItem<A>) -> Result<u64, Error> {
+    Ok(sum?.saturating_add(item?.key.seqno))
 }
 
 // The sum of the numbers that a scan gives; nothing follows an error.
-fn sum_of<A: Allocator + Clone>(scan: Scanner<A>) -> Result<u64, Error> {
+fn sum_of<A: Allocator + Copy>(scan: Scanner<A>) -> Result<u64, Error> {
     let mut sum = Ok(0u64);
     for item in scan {
-        sum = added(sum, number_of(item));
+        sum = added(sum, item);
     }
     sum
 }
@@ -171,16 +191,18 @@ fn sum<A: Allocator + Copy>(alloc: A) -> Result<u64, Error> {
     sum_of(scan_of(opened_in_blocks(alloc, 0))?)
 }
 
+// Whether the sum is right, or memory refused where it may be.
+fn sums_up<A: Allocator + Copy>(alloc: A, may_fail: bool) -> bool {
+    match sum(alloc) {
+        Ok(sum) => sum == 22,
+        Err(Error::OutOfMemory) => may_fail,
+        Err(_) => false,
+    }
+}
+
 #[test]
 fn a_scan_with_each_request_refused(rt: HostRuntime) -> Result<(), Fail> {
-    let requests = each_refused(
-        rt.alloc(),
-        |heap: &Refusing, may_fail: bool| match sum(heap) {
-            Ok(sum) => sum == 22,
-            Err(Error::OutOfMemory) => may_fail,
-            Err(_) => false,
-        },
-    );
+    let requests = each_refused(rt.alloc(), |heap, may_fail| sums_up(heap, may_fail));
     assert!(rt; requests.is_ok());
     Ok(())
 }

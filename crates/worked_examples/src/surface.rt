@@ -62,12 +62,13 @@ fn overlaps(alloc: Global, low: Bound<&[u8]>, high: Bound<&[u8]>) -> Result<bool
 #[test]
 fn a_table_overlaps_the_bounds_that_its_range_reaches(rt: HostRuntime) -> Result<(), Fail> {
     let (a, b, c) = (b"a".as_slice(), b"b".as_slice(), b"c".as_slice());
-    for (low, high, expected) in [
+    let bounds = [
         (Bound::Unbounded, Bound::Unbounded, true),
         (Bound::Included(b), Bound::Included(c), true),
         (Bound::Excluded(b), Bound::Unbounded, false),
         (Bound::Unbounded, Bound::Excluded(a), false),
-    ] {
+    ];
+    for &(low, high, expected) in &bounds {
         assert_eq!(rt; overlaps(rt.alloc(), low, high)?, expected);
     }
     Ok(())

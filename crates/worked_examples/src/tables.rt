@@ -3,7 +3,7 @@ use example_tables::rows::{Row, fill, new_writer};
 use example_tables::tables::open;
 use lsm_tables::Table;
 use lsm_writers::FinishedTable;
-use sst_blocks::{Error, SeqNo, Slice, ValueType};
+use sst_blocks::{BlockSource, Error, SectionName, SeqNo, Slice, ValueType};
 use std::alloc::Allocator;
 
 pub(crate) const ROWS: [Row<'static>; 4] = [
@@ -37,4 +37,30 @@ pub(crate) fn opened_in_blocks<A: Allocator + Copy>(
     global_seqno: SeqNo,
 ) -> Result<Table<A>, Error> {
     open(alloc, written_in_blocks(alloc)?, global_seqno)
+}
+
+const NAMES: [SectionName; 7] = [
+    SectionName::Data,
+    SectionName::Index,
+    SectionName::Tli,
+    SectionName::Filter,
+    SectionName::FilterTli,
+    SectionName::TableVersion,
+    SectionName::Meta,
+];
+
+/// The position and the length of each section, in the order of the names.
+pub(crate) type Sections = [Option<(u64, u64)>; 7];
+
+/// Where the sections of a table lie.
+pub(crate) fn sections(source: &BlockSource) -> Sections {
+    let mut sections = [None; 7];
+    for (i, name) in NAMES.iter().enumerate() {
+        if let Some(section) = source.toc().section(*name)
+            && i < 7
+        {
+            sections[i] = Some((section.position, section.len));
+        }
+    }
+    sections
 }

@@ -30,17 +30,18 @@ fn may_follow(alloc: Global, second: Row<'static>) -> Result<bool, Error> {
     }
 }
 
+const SECONDS: &[(Row<'static>, bool)] = &[
+    ((b"a", 2, ValueType::Value, b"y"), false),
+    ((b"a", 1, ValueType::Tombstone, b""), false),
+    ((b"", 0, ValueType::Value, b""), false),
+    ((b"b", u64::MAX, ValueType::Value, b""), false),
+    ((b"a", 0, ValueType::Value, b""), true),
+    ((b"aa", 9, ValueType::Value, b""), true),
+];
+
 #[test]
 fn entries_follow_in_strict_order(rt: HostRuntime) -> Result<(), Fail> {
-    let seconds: [(Row<'static>, bool); 6] = [
-        ((b"a", 2, ValueType::Value, b"y"), false),
-        ((b"a", 1, ValueType::Tombstone, b""), false),
-        ((b"", 0, ValueType::Value, b""), false),
-        ((b"b", u64::MAX, ValueType::Value, b""), false),
-        ((b"a", 0, ValueType::Value, b""), true),
-        ((b"aa", 9, ValueType::Value, b""), true),
-    ];
-    for (second, expected) in seconds {
+    for &(second, expected) in SECONDS {
         assert_eq!(rt; may_follow(rt.alloc(), second)?, expected);
     }
     Ok(())

@@ -1,10 +1,11 @@
 //! Tables that are written one after another.
-use example_tables::rows::written;
+use example_tables::large::{add, asked, asked_if_any};
+use example_tables::rows::{entry as entry_of, written};
 use lsm_writers::{
     FinishedTable, MultiWriter, TableId, TableIds, Timestamp, is_writable, write_list,
 };
 use refusing::{Refusing, each_refused};
-use sst_blocks::{Error, InternalValue, SeqNo, Slice, ValueType};
+use sst_blocks::{Error, InternalValue, SeqNo, ValueType};
 use std::alloc::{Allocator, Global};
 use std::test::Fail;
 
@@ -26,11 +27,19 @@ const VERSIONS: &[Row] = &[
     (b"c", 0),
 ];
 
+// An entry with a value.
+fn with_value<A: Allocator + Copy>(
+    alloc: A,
+    row: &Row,
+    value: &[u8],
+) -> Result<InternalValue<A>, Error> {
+    entry_of(alloc, &(row.0, row.1, ValueType::Value, value))
+}
+
 // An entry whose value has so many bytes.
 fn entry<A: Allocator + Copy>(alloc: A, row: &Row, len: usize) -> Result<InternalValue<A>, Error> {
     let value = vec![in alloc; 0x78u8; len]?;
-    let (key, value) = (Slice::from(alloc, row.0)?, Slice::from(alloc, &value)?);
-    Ok(InternalValue::from_components(key, value, row.1, ValueType::Value))
+    with_value(alloc, row, &value)
 }
 
 // Writes an entry; `Source(0)` where it may not follow.
@@ -71,6 +80,12 @@ fn filled<A: Allocator + Copy>(
     written(writer, answer)
 }
 
+// The ids of the first tables.
+fn first_ids(tables: &[FinishedTable]) -> [Option<TableId>; 3] {
+    let mut ids = tables.iter().map(|table| table.id);
+    [ids.next(), ids.next(), ids.next()]
+}
+
 // The ids of the first tables, and the next one.
 fn ids(
     alloc: Global,
@@ -80,8 +95,8 @@ fn ids(
 ) -> Result<[Option<TableId>; 4], Error> {
     let writer = filled(alloc, first, target, rows, 0)?;
     let next = writer.table_ids().next();
-    let mut tables = writer.finish()?.into_iter().map(|table| table.id);
-    Ok([tables.next(), tables.next(), tables.next(), next])
+    let [first, second, third] = asked(writer.finish(), |tables| Ok(first_ids(tables)))?;
+    Ok([first, second, third, next])
 }
 
 #[test]
@@ -110,7 +125,7 @@ fn nothing_written_gives_no_table(rt: HostRuntime) -> Result<(), Fail> {
 fn alone(alloc: Global, id: TableId, rows: &[Row]) -> Result<Option<FinishedTable>, Error> {
     let mut items = Vec::new(alloc);
     for row in rows {
-        items.push(entry(alloc, row, 8_000)?)?;
+        add(&mut items, entry(alloc, row, 8_000))?;
     }
     if !is_writable(&items) {
         return Err(Error::Source(0));
@@ -122,19 +137,42 @@ fn are_same(table: &FinishedTable, other: &FinishedTable) -> bool {
     table.id == other.id && table.checksum == other.checksum && table.bytes == other.bytes
 }
 
-// Whether the versions of three keys come out as these tables.
-fn come_as(alloc: Global, lists: &[(TableId, &[Row])]) -> Result<bool, Error> {
-    let tables = filled(alloc, 1, 1_024, VERSIONS, 8_000)?.finish()?;
+// Whether a table is there, and is the same as the one of these rows alone.
+fn is_alone(
+    alloc: Global,
+    table: Option<&FinishedTable>,
+    id: TableId,
+    rows: &[Row],
+) -> Result<bool, Error> {
+    let Some(table) = table else {
+        return Ok(false);
+    };
+    let same = asked_if_any(alone(alloc, id, rows), |other| Ok(are_same(table, other)))?;
+    Ok(same == Some(true))
+}
+
+// Whether tables are those of these rows, each alone.
+fn are_alone(
+    alloc: Global,
+    tables: &[FinishedTable],
+    lists: &[(TableId, &[Row])],
+) -> Result<bool, Error> {
     for (place, (id, rows)) in lists.iter().enumerate() {
-        let same = match (tables.get(place), alone(alloc, *id, rows)?) {
-            (Some(table), Some(other)) => are_same(table, &other),
-            _ => false,
-        };
-        if !same {
+        if !is_alone(alloc, tables.get(place), *id, rows)? {
             return Ok(false);
         }
     }
     Ok(tables.len() == lists.len())
+}
+
+// The tables of the versions of three keys.
+fn of_versions(alloc: Global) -> Result<Vec<FinishedTable>, Error> {
+    filled(alloc, 1, 1_024, VERSIONS, 8_000)?.finish()
+}
+
+// Whether the versions of three keys come out as these tables.
+fn come_as(alloc: Global, lists: &[(TableId, &[Row])]) -> Result<bool, Error> {
+    asked(of_versions(alloc), |tables| are_alone(alloc, tables, lists))
 }
 
 #[test]
@@ -197,8 +235,8 @@ fn three_tables<A: Allocator + Copy>(alloc: A) -> Result<Vec<FinishedTable<A>, A
 
 // Whether three tables are written, or memory refused where it is to be.
 fn writes_three_tables<A: Allocator + Copy>(alloc: A, is_refused: bool) -> bool {
-    match three_tables(alloc) {
-        Ok(tables) => !is_refused && tables.len() == 3,
+    match asked(three_tables(alloc), |tables| Ok(tables.len())) {
+        Ok(tables) => !is_refused && tables == 3,
         Err(Error::OutOfMemory) => is_refused,
         Err(_) => false,
     }

@@ -1,5 +1,6 @@
 //! What writers count, cut, write and refuse.
 use crate::one_entry_v4;
+use example_tables::large::{asked, asked_if_any, asked_mut};
 use example_tables::rows::{Row, entry, fill, filled, new_writer, put_rows, written};
 use lsm_writers::{
     BlockIndexWriter, FinishedTable, FullIndexWriter, GlobalTableId, Metadata, Timestamp, Writer,
@@ -14,7 +15,7 @@ use std::test::Fail;
 
 // How many entries and blocks are cut, how many keys, tombstones, weak ones and values behind those are written, and how
 // many bytes wait.
-fn counts<A: Allocator + Clone>(writer: &Writer<A>) -> [usize; 7] {
+fn counts(writer: &Writer) -> [usize; 7] {
     let meta = writer.metadata();
     [
         meta.item_count,
@@ -33,11 +34,19 @@ fn one_entry(alloc: Global) -> Result<FinishedTable, Error> {
     fill(new_writer(alloc)?, alloc, &[row])
 }
 
+// Whether a table is the stored one: its id and its checksum, and its bytes.
+fn is_the_stored(table: &FinishedTable) -> (bool, bool) {
+    (
+        table.id == 1 && table.checksum == Checksum(one_entry_v4::CHECKSUM),
+        table.bytes.as_slice() == one_entry_v4::BYTES.as_slice(),
+    )
+}
+
 #[test]
 fn writes_a_table_byte_for_byte(rt: HostRuntime) -> Result<(), Fail> {
-    let table = one_entry(rt.alloc())?;
-    assert!(rt; table.id == 1 && table.checksum == Checksum(one_entry_v4::CHECKSUM));
-    assert!(rt; table.bytes.as_slice() == one_entry_v4::BYTES.as_slice());
+    let (is_told, is_written) = asked(one_entry(rt.alloc()), |table| Ok(is_the_stored(table)))?;
+    assert!(rt; is_told);
+    assert!(rt; is_written);
     Ok(())
 }
 
@@ -48,9 +57,17 @@ fn counts_around_a_cut(writer: &mut Writer) -> Result<([usize; 7], [usize; 7]), 
     Ok((before, counts(writer)))
 }
 
+// A new writer, once it has written some rows.
+fn filled_new(alloc: Global, rows: &[Row<'_>]) -> Result<Writer, Error> {
+    filled(new_writer(alloc)?, alloc, rows)
+}
+
 // The counts after some rows, before and after the block that waits is cut.
 fn counts_of(alloc: Global, rows: &[Row<'_>]) -> Result<([usize; 7], [usize; 7]), Error> {
-    counts_around_a_cut(&mut filled(new_writer(alloc)?, alloc, rows)?)
+    asked_mut(
+        filled_new(alloc, rows),
+        |writer| counts_around_a_cut(writer),
+    )
 }
 
 const THREE_KEYS: &[Row<'static>] = &[
@@ -98,7 +115,7 @@ fn seqnos(writer: &Writer) -> (SeqNo, SeqNo) {
 
 // The lowest and the highest number of what some rows wrote.
 fn seqnos_of(alloc: Global, rows: &[Row<'_>]) -> Result<(SeqNo, SeqNo), Error> {
-    Ok(seqnos(&filled(new_writer(alloc)?, alloc, rows)?))
+    asked(filled_new(alloc, rows), |writer| Ok(seqnos(writer)))
 }
 
 #[test]
@@ -120,20 +137,21 @@ fn put_behind(alloc: Global, writer: &mut Writer, row: Row<'_>) -> Result<bool, 
 
 // The same of a new writer.
 fn follows(alloc: Global, row: Row<'_>) -> Result<bool, Error> {
-    put_behind(alloc, &mut new_writer(alloc)?, row)
+    asked_mut(new_writer(alloc), |writer| put_behind(alloc, writer, row))
 }
+
+// Neither an older key, nor the same number again, nor the largest number.
+const BEHIND: &[(Row<'static>, bool)] = &[
+    ((b"d", 1, ValueType::Value, b""), false),
+    ((b"e", 3, ValueType::Value, b""), false),
+    ((b"f", SeqNo::MAX, ValueType::Value, b""), false),
+    ((b"e", 2, ValueType::Value, b""), true),
+    ((b"f", 9, ValueType::Value, b""), true),
+];
 
 #[test]
 fn entries_that_may_not_follow_are_told_before(rt: HostRuntime) -> Result<(), Fail> {
-    // Neither an older key, nor the same number again, nor the largest number.
-    let rows: [(Row<'_>, bool); 5] = [
-        ((b"d", 1, ValueType::Value, b""), false),
-        ((b"e", 3, ValueType::Value, b""), false),
-        ((b"f", SeqNo::MAX, ValueType::Value, b""), false),
-        ((b"e", 2, ValueType::Value, b""), true),
-        ((b"f", 9, ValueType::Value, b""), true),
-    ];
-    for (row, may_follow) in rows {
+    for &(row, may_follow) in BEHIND {
         assert_eq!(rt; follows(rt.alloc(), row)?, may_follow);
     }
     Ok(())
@@ -153,7 +171,10 @@ fn cut_at_size_0(alloc: Global) -> Result<(usize, usize, BlockOffset), Error> {
         (b"a", 5, ValueType::Value, b""),
     ];
     let writer = new_writer(alloc)?.use_data_block_size(0);
-    Ok(cut_so_far(&filled(writer, alloc, &rows)?))
+    asked(
+        filled(writer, alloc, &rows),
+        |writer| Ok(cut_so_far(writer)),
+    )
 }
 
 #[test]
@@ -178,17 +199,22 @@ fn after_a_key(alloc: Global, writer: &mut Writer, key: &[u8]) -> [u8; 3] {
     ]
 }
 
-// What writing an entry whose key has this length answers, and another one, a cut and the end after it.
-fn after_a_key_of(alloc: Global, len: usize) -> Result<[u8; 4], Error> {
-    let key = vec![in alloc; 0x61u8; len]?;
+// What writing an entry of this key answers, and another one, a cut and the end after it.
+fn up_to_the_end(alloc: Global, key: &[u8]) -> Result<[u8; 4], Error> {
     let mut writer = new_writer(alloc)?;
-    let [first, second, cut] = after_a_key(alloc, &mut writer, &key);
+    let [first, second, cut] = after_a_key(alloc, &mut writer, key);
     let is_empty = writer.is_empty();
     let last = number(writer.finish().err());
     if is_empty {
         return Err(Error::Source(0));
     }
     Ok([first, second, cut, last])
+}
+
+// The same of a key of this length.
+fn after_a_key_of(alloc: Global, len: usize) -> Result<[u8; 4], Error> {
+    let key = vec![in alloc; 0x61u8; len]?;
+    up_to_the_end(alloc, &key)
 }
 
 #[test]
@@ -216,7 +242,8 @@ fn with_options(alloc: Global) -> Result<Writer, Error> {
 fn writes_nothing(alloc: Global) -> Result<bool, Error> {
     let writer = with_options(alloc)?;
     let is_empty = writer.is_empty();
-    Ok(writer.finish()?.is_none() && is_empty)
+    let id = asked_if_any(writer.finish(), |table| Ok(table.id))?;
+    Ok(id.is_none() && is_empty)
 }
 
 #[test]
@@ -258,41 +285,56 @@ fn a_full_index_is_one_block(rt: HostRuntime) -> Result<(), Fail> {
     Ok(())
 }
 
-// Writes an entry. Where that is refused, the writer refuses a cut from then on.
-fn write_or_fail<A: Allocator + Clone>(
-    writer: &mut Writer<A>,
-    item: InternalValue<A>,
-) -> Result<(), Error> {
+// Writes an entry; `Source(0)` where it may not follow.
+fn put<A: Allocator + Copy>(writer: &mut Writer<A>, item: InternalValue<A>) -> Result<(), Error> {
     if !writer.can_follow(&item.key) {
         return Err(Error::Source(0));
     }
-    let answer = writer.write(item);
-    if answer.is_err() && writer.spill_block() != Err(Error::WriterFailed) {
+    writer.write(item)
+}
+
+// Whether a writer refuses a cut as one that has failed.
+fn has_failed<A: Allocator + Copy>(writer: &mut Writer<A>) -> bool {
+    writer.spill_block() == Err(Error::WriterFailed)
+}
+
+// Writes an entry. Where that is refused, the writer refuses a cut from then on.
+fn write_or_fail<A: Allocator + Copy>(
+    writer: &mut Writer<A>,
+    item: InternalValue<A>,
+) -> Result<(), Error> {
+    let answer = put(writer, item);
+    if answer.is_err() && !has_failed(writer) {
         return Err(Error::Source(0));
     }
     answer
 }
 
 // Writes three versions of a key.
-fn write_three<A: Allocator + Clone>(alloc: A, writer: &mut Writer<A>) -> Result<(), Error> {
+fn write_three<A: Allocator + Copy>(alloc: A, writer: &mut Writer<A>) -> Result<(), Error> {
     for seqno in [9, 7, 5] {
-        let item = entry(alloc.clone()?, &(b"a", seqno, ValueType::Value, b"x"))?;
-        write_or_fail(writer, item)?;
+        let row: Row<'_> = (b"a", seqno, ValueType::Value, b"x");
+        write_or_fail(writer, entry(alloc, &row)?)?;
     }
     Ok(())
 }
 
-// A table of three blocks. Whatever is refused, the writer refuses from then on.
-fn three_blocks<A: Allocator + Clone>(alloc: A) -> Result<FinishedTable<A>, Error> {
-    let mut writer = new_writer(alloc.clone()?)?.use_data_block_size(0);
+// A writer of three blocks. Whatever is refused, it refuses from then on.
+fn written_in_three<A: Allocator + Copy>(alloc: A) -> Result<Writer<A>, Error> {
+    let mut writer = new_writer(alloc)?.use_data_block_size(0);
     let answer = write_three(alloc, &mut writer);
-    written(writer, answer)?.finish()?.ok_or(Error::Source(1))
+    written(writer, answer)
+}
+
+// The id of a table of three blocks.
+fn three_blocks<A: Allocator + Copy>(alloc: A) -> Result<Option<u64>, Error> {
+    asked_if_any(written_in_three(alloc)?.finish(), |table| Ok(table.id))
 }
 
 // Whether a table of three blocks is written, or memory refused where it may be.
-fn writes_three_blocks<A: Allocator + Clone>(alloc: A, may_fail: bool) -> bool {
+fn writes_three_blocks<A: Allocator + Copy>(alloc: A, may_fail: bool) -> bool {
     match three_blocks(alloc) {
-        Ok(table) => table.id == 1,
+        Ok(id) => id == Some(1),
         Err(Error::OutOfMemory) => may_fail,
         Err(_) => false,
     }
