@@ -43,8 +43,8 @@ impl<A: Allocator> StreamFilter<A> for DropsAndHides {
     }
 }
 
-// The first two versions that were reported, and how many were.
-type Reports = ([Option<Version>; 2], usize);
+// The first three versions that were reported, and how many were.
+type Reports = ([Option<Version>; 3], usize);
 
 // Remembers what it received.
 #[derive(Clone, Copy)]
@@ -117,7 +117,7 @@ fn finished<A: Allocator + Copy>(
     writer.finish()
 }
 
-// New tables of what a compaction at threshold 5 with a filter leaves of a source, each key in one of its own, and what is reported.
+// New tables of what a compaction at threshold 5 with a filter leaves of some runs, each key in one of its own, and what is reported.
 fn compacted<A: Allocator + Copy>(
     alloc: A,
     runs: &[Tables<A>],
@@ -125,7 +125,7 @@ fn compacted<A: Allocator + Copy>(
 ) -> Result<(Vec<FinishedTable<A>, A>, Reports), Error> {
     let mut writer = MultiWriter::new(alloc, TableIds::new(1), 0, 0, Timestamp::from(0))?;
     let received = Received {
-        reports: ([None; 2], 0),
+        reports: ([None; 3], 0),
     };
     let mut stream = CompactionStream::new(merged(alloc, runs)?, 5)
         .with_filter(filter)
@@ -177,7 +177,7 @@ const A3: Row<'static> = (b"a", 3, V, b"x");
 
 const B9: Row<'static> = (b"b", 9, V, b"x");
 
-const DROPS_10: DropsAndHides = DropsAndHides {
+const DROPS_10_AND_HIDES_9: DropsAndHides = DropsAndHides {
     dropped: 10,
     hidden: 9,
 };
@@ -196,30 +196,33 @@ const CASES: [Case; 4] = [
         &[A10, A3],
         &[(b'a', 3, V)],
         Some((b'a', 3, V)),
-        ([Some((b'a', 10, V)), None], 1),
+        ([Some((b'a', 10, V)), None, None], 1),
     ),
     // What takes its place hides what is older; what is replaced by a tombstone is told and written.
     (
         &[A10, A4, A3, B9],
         &[(b'a', 4, V), (b'b', 9, T)],
         Some((b'a', 4, V)),
-        ([Some((b'a', 10, V)), Some((b'a', 3, V))], 3),
+        (
+            [Some((b'a', 10, V)), Some((b'a', 3, V)), Some((b'b', 9, V))],
+            3,
+        ),
     ),
-    // The filter is not asked of a tombstone.
+    // The filter is not asked of a weak tombstone.
     (
         &[A10_W, A3],
         &[(b'a', 10, W), (b'a', 3, V)],
         Some((b'a', 10, W)),
-        ([None; 2], 0),
+        ([None; 3], 0),
     ),
     // Where all is dropped there is no table.
-    (&[A10], &[], None, ([Some((b'a', 10, V)), None], 1)),
+    (&[A10], &[], None, ([Some((b'a', 10, V)), None, None], 1)),
 ];
 
 #[test]
 fn a_dropped_version_hides_none_that_is_older(rt: HostRuntime) -> Result<(), Fail> {
     for (rows, kept, newest, reports) in CASES {
-        let (versions, found, told) = left(rt.alloc(), &[rows], DROPS_10)?;
+        let (versions, found, told) = left(rt.alloc(), &[rows], DROPS_10_AND_HIDES_9)?;
         assert!(rt; versions.as_slice() == kept);
         assert!(rt; found == newest);
         assert!(rt; told == reports);
@@ -229,10 +232,10 @@ fn a_dropped_version_hides_none_that_is_older(rt: HostRuntime) -> Result<(), Fai
 
 // The version that is dropped is in one run, and the older one in the next.
 #[test]
-fn nor_one_of_another_run(rt: HostRuntime) -> Result<(), Fail> {
-    let (versions, found, told) = left(rt.alloc(), &[&[A10], &[A3]], DROPS_10)?;
+fn a_dropped_version_hides_none_of_another_run(rt: HostRuntime) -> Result<(), Fail> {
+    let (versions, found, told) = left(rt.alloc(), &[&[A10], &[A3]], DROPS_10_AND_HIDES_9)?;
     assert!(rt; versions.as_slice() == [(b'a', 3, V)].as_slice());
     assert!(rt; found == Some((b'a', 3, V)));
-    assert!(rt; told == ([Some((b'a', 10, V)), None], 1));
+    assert!(rt; told == ([Some((b'a', 10, V)), None, None], 1));
     Ok(())
 }

@@ -7,7 +7,7 @@ use Rattle.lsm_readers.specs.Answer.{table_answer}
 use Rattle.lsm_readers.specs.Read.{◌>>=◌}
 use Rattle.lsm_readers.specs.Table.{OpenTable}
 
--- the answer to each question in order, or the refusal of the earliest that has one
+-- the answer to each query in order, or the refusal of the earliest that has one
 abbrev pub answers_to : {X Y : Type 0} → (X → Result Y Error) → List X → Result (List Y) Error
 answers_to f [] = Ok []
 answers_to f (x ∷ xs) = f x >>= λ y. answers_to f xs >>= λ ys. Ok (y ∷ ys)

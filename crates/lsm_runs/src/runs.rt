@@ -73,7 +73,7 @@ fn readers_of<A: Allocator + Clone>(
     Ok(readers)
 }
 
-// The same, where the bounds are let go of.
+// The same; it takes the bounds, and drops them.
 fn readers_within<A: Allocator + Clone>(
     alloc: A,
     runs: &[Arc<Run<Table<A>, A>, A>],
@@ -93,7 +93,7 @@ fn readers_within<A: Allocator + Clone>(
 }
 
 // The newest versions of sources with two ends. It is generic in these, so that none of a reader's parts is looked at.
-fn newest_from<I: DoubleEndedIterator<Item = IterItem<A>>, A: Allocator + Clone>(
+fn newest_stream<I: DoubleEndedIterator<Item = IterItem<A>>, A: Allocator + Clone>(
     alloc: A,
     sources: Vec<I, A>,
 ) -> Result<MvccStream<Merger<I, A>>, Error>
@@ -148,7 +148,7 @@ pub fn range_runs<A: Allocator + Clone>(
     ensures err { IfErr result (λ e. e ≡ OutOfMemory) }
 {
     let readers = readers_within(alloc.clone()?, runs, range)?;
-    newest_from(alloc, readers)
+    newest_stream(alloc, readers)
 }
 
 // The first match in the one table of a run whose range has the key, with how many blocks were loaded for it.

@@ -84,7 +84,7 @@ fn read_side_by_side<A: Allocator + Clone>(
     read_runs(alloc, &runs, key, seqno, range)
 }
 
-// The same within bounds that are for other reads too.
+// The same; it shares the bounds, within which is read again.
 fn read_within<A: Allocator + Clone>(
     alloc: A,
     front: &[Arc<Run<Table<A>, A>, A>],

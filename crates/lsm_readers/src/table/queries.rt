@@ -1,13 +1,13 @@
 //! Many point reads of one table.
-ghost use Rattle.std.specs.Prelude.{List, Ok, map};
-ghost use Rattle.lsm_readers.specs.Words.{Entry, Gives, IsTable, lift, point};
+ghost use Rattle.std.specs.Prelude.{◌≡◌, IsOk, List, Ok, [], map};
+ghost use Rattle.lsm_readers.specs.Words.{Entry, FaultsFirst, Gives, IsTable, lift, point, table_answer};
 ghost use Rattle.lsm_readers.specs.Many.{found_told, many_told};
 
 use crate::Table;
 use sst_blocks::{Error, InternalValue, SeqNo, UserKey};
 use std::alloc::{Allocator, Global};
 
-/// What [`get_many`] looks for: the first entry of a key that is numbered below a bound.
+/// What [`get_many`] looks for: of one key the first entry that is numbered below a bound.
 #[derive(Drop)]
 #[derive_where(Debug, PartialEq, Eq)]
 pub struct Query<A: Allocator = Global> {
@@ -23,6 +23,10 @@ fn get_one<A: Allocator + Clone>(
     query: &Query<A>,
 ) -> Result<Option<InternalValue<A>>, Error>
     ensures told { Gives (λ (found : _). found) result (found_told table.now query.now) }
+    ensures early { let read = table_answer table.now query.now.key query.now.seqno in
+        FaultsFirst result read.early }
+    ensures calm { let read = table_answer table.now query.now.key query.now.seqno in
+        read.loads ≡ [] → IsOk result }
 {
     let key = query.key.as_slice();
     table.get(key, query.seqno, Table::<A>::key_hash(key))
@@ -30,7 +34,8 @@ fn get_one<A: Allocator + Clone>(
 
 /// What [`Table::get`] answers to each of some queries, in their order, each with its key's own hash. Queries may stand in any
 /// order and repeat. Refused with the error of the earliest query that has one, and [`Error::OutOfMemory`]; then there is no
-/// answer at all, and the table is as it was.
+/// answer at all, and the table is as it was. The list takes memory first, so any refusal may be that, also where `get` would
+/// find a fault before memory is taken or would load nothing.
 pub fn get_many<A: Allocator + Clone>(
     table: &Table<A>,
     queries: &[Query<A>],

@@ -7,21 +7,21 @@ use Rattle.lsm_runs.proofs.runs.range_runs.Goals as goal
 
 pub returns-clause-list : goal.returns-clause-list
 returns-clause-list g c lists held =
-    if_ok c.newest_from.result
+    if_ok c.newest_stream.result
     (λ s deals. newest_together (RunGives front_of front_tables) (RunGives back_of back_tables) c.args.range.0 c.args.range.1 lists _ _ s c.in_ok-readers.readers.items (c.in_ok-readers.ensures.list lists held) deals)
-    c.newest_from.ensures.deals
+    c.newest_stream.ensures.deals
 
 pub returns-clause-can : goal.returns-clause-can
 returns-clause-can g c =
     let readers = c.in_ok-readers.readers.items in
-    if_ok c.newest_from.result
+    if_ok c.newest_stream.result
     (λ s can. can.asks (all_of _ (λ r. (run_deals r).can) readers) (all_of _ (λ r. tt) readers))
-    c.newest_from.ensures.can
+    c.newest_stream.ensures.can
 
 pub returns-clause-steps : goal.returns-clause-steps
 returns-clause-steps g c order =
     let readers = c.in_ok-readers.readers.items in
-    if_ok_both c.newest_from.result
+    if_ok_both c.newest_stream.result
     (λ s starts past. record {
       readers = readers;
       spans = c.in_ok-readers.ensures.spans order;
@@ -29,4 +29,4 @@ returns-clause-steps g c order =
       of = starts;
       answers = past;
     })
-    c.newest_from.ensures.starts c.newest_from.ensures.past
+    c.newest_stream.ensures.starts c.newest_stream.ensures.past

@@ -1,4 +1,4 @@
-use Rattle.lsm_runs.proofs.runs.newest_from.Goals as goal
+use Rattle.lsm_runs.proofs.runs.newest_stream.Goals as goal
 
 pub returns-clause-deals : goal.returns-clause-deals
 returns-clause-deals g c = c.newest_from_both_ends.ensures.deals c.args.sources.items c.in_ok-stream.ensures.starts
