@@ -5,11 +5,12 @@ ghost use Rattle.sst_entries.specs.Stream.{CanDeal};
 ghost use Rattle.lsm_compactions.specs.Compacted.{AreCompactable};
 
 use crate::runs::{Rules, T, V, Version, W, compacted, newest_in, run_of_tables, runs_of};
+use example_tables::lists::{Stream, read_names};
 use example_tables::rows::Row;
-use example_tables::runs::{ALL, Tables, owned_range};
+use example_tables::runs::{ALL, Name, Tables, owned_range};
 use lsm_tables::{compact_part_back, compaction_law, get_runs};
 use lsm_writers::{TableIds, Timestamp};
-use sst_blocks::{Direction, Error, InternalValue, IterItem, SeqNo, answer_at};
+use sst_blocks::{Error, InternalValue, SeqNo};
 use std::alloc::Allocator;
 use std::test::Fail;
 
@@ -82,31 +83,25 @@ fn a_tombstone_hides_what_is_older_in_other_runs(rt: HostRuntime) -> Result<(), 
     Ok(())
 }
 
-// The number of the entry at one end of a range.
-fn number_at<A: Allocator, S: DoubleEndedIterator<Item = IterItem<A>>>(
-    range: &mut S,
-    end: Direction,
-) -> Result<Option<SeqNo>, Error>
-    requires { CanDeal S.next_gives S.next_back_gives S.can_next S.can_next_back range.old }
-    ensures { CanDeal S.next_gives S.next_back_gives S.can_next S.can_next_back range.new }
+/// The numbers of the entry that a point read finds, and of those at both ends of a range.
+pub(crate) fn numbers_of<A: Allocator + Copy>(
+    alloc: A,
+    read: (Option<InternalValue<A>>, Stream<A>),
+) -> Result<[Option<SeqNo>; 3], Error>
+    requires { CanDeal ⟦<Stream<A> as Iterator>⟧.next_gives
+        ⟦<Stream<A> as DoubleEndedIterator>⟧.next_back_gives
+        ⟦<Stream<A> as Iterator>⟧.can_next
+        ⟦<Stream<A> as DoubleEndedIterator>⟧.can_next_back read.1 }
 {
-    match answer_at(range, end) {
-        Some(item) => Ok(Some(item?.key.seqno)),
-        None => Ok(None),
-    }
+    let [found, first, last] = read_names(alloc, read)?;
+    Ok([number(found), number(first), number(last)])
 }
 
-/// The numbers of the entry that a point read finds, and of those at both ends of a range. It is generic in the range, so that
-/// none of its parts is looked at.
-pub(crate) fn numbers_of<A: Allocator, S: DoubleEndedIterator<Item = IterItem<A>> + Drop>(
-    read: (Option<InternalValue<A>>, S),
-) -> Result<[Option<SeqNo>; 3], Error>
-    requires { CanDeal S.next_gives S.next_back_gives S.can_next S.can_next_back read.1 }
-{
-    let (found, mut range) = read;
-    let first = number_at(&mut range, Direction::Front)?;
-    let last = number_at(&mut range, Direction::Back)?;
-    Ok([found.map(|item| item.key.seqno), first, last])
+fn number(name: Option<Name>) -> Option<SeqNo> {
+    match name {
+        Some((_, seqno)) => Some(seqno),
+        None => None,
+    }
 }
 
 // What a point read and a range find before and after some runs are compacted in their place, with tombstones evicted or not.
@@ -126,7 +121,7 @@ fn found_around_a_part<A: Allocator + Copy>(
     let (before, after) = compact_part_back(
         alloc, front, part, behind, 7, evict, false, ids, 0, moment, key, seqno, range,
     )?;
-    let (before, after) = (numbers_of(before), numbers_of(after));
+    let (before, after) = (numbers_of(alloc, before), numbers_of(alloc, after));
     Ok([before?, after?])
 }
 

@@ -127,7 +127,10 @@ fn read_kept<A: Allocator + Copy>(alloc: A, seqno: SeqNo) -> Result<[Option<SeqN
     let (ids, moment) = (TableIds::new(5), Timestamp::from(0));
     let (run, _) = compact_to_run(alloc, &runs, 5, false, false, ids, 0, moment)?;
     match run {
-        Some(run) => numbers_of(read_run(alloc, run, b"a", seqno, owned_range(alloc, ALL)?)?),
+        Some(run) => {
+            let range = owned_range(alloc, ALL)?;
+            numbers_of(alloc, read_run(alloc, run, b"a", seqno, range)?)
+        }
         None => Ok([None; 3]),
     }
 }
