@@ -1,2 +1,3 @@
 pub mod Compactable
 pub mod StoredTable
+pub mod FilteredStream

@@ -73,16 +73,16 @@ fn scanner<A: Allocator + Copy>(run: &Tables<A>) -> Result<RunScanner<A>, Error>
     RunScanner::culled(run, (None, None))
 }
 
-// The entries of some runs together.
-fn merged<A: Allocator + Copy>(
+// A scanner of each run.
+fn scanners<A: Allocator + Copy>(
     alloc: A,
     runs: &[Tables<A>],
-) -> Result<Merger<RunScanner<A>, A>, Error> {
+) -> Result<Vec<RunScanner<A>, A>, Error> {
     let mut scanners = Vec::new(alloc);
     for run in runs {
         add(&mut scanners, scanner(run))?;
     }
-    Merger::new(alloc, scanners)
+    Ok(scanners)
 }
 
 // Writes a result. `Source(3)` where it is an entry that may not follow.
@@ -108,31 +108,45 @@ fn put_all<A: Allocator + Copy, I: Iterator<Item = IterItem<A>>>(
     Ok(())
 }
 
-// What a writer has written, if it has written all.
+// What a writer has written, if it has written all, and what was reported.
 fn finished<A: Allocator + Copy>(
     writer: MultiWriter<A>,
-    done: Result<(), Error>,
-) -> Result<Vec<FinishedTable<A>, A>, Error> {
-    done?;
-    writer.finish()
+    reports: Result<Reports, Error>,
+) -> Result<(Vec<FinishedTable<A>, A>, Reports), Error> {
+    let reports = reports?;
+    Ok((writer.finish()?, reports))
 }
 
-// New tables of what a compaction at threshold 5 with a filter leaves of some runs, each key in one of its own, and what is reported.
+// Writes what a compaction at threshold 5 with a filter leaves of some scanners' entries, and tells what is reported.
+fn put_kept<A: Allocator + Copy>(
+    alloc: A,
+    writer: &mut MultiWriter<A>,
+    scanners: Vec<RunScanner<A>, A>,
+    filter: DropsAndHides,
+) -> Result<Reports, Error> {
+    let received = Received {
+        reports: ([None; 3], 0),
+    };
+    let merger = Merger::new(alloc, scanners)?;
+    let mut stream = CompactionStream::new(merger, 5)
+        .with_filter(filter)
+        .with_drop_callback(received);
+    let done = put_all(writer, &mut stream);
+    let received = stream.into_callback();
+    done?;
+    Ok(received.reports)
+}
+
+// New tables of what is left of some runs, each key in one of its own, and what is reported.
 fn compacted<A: Allocator + Copy>(
     alloc: A,
     runs: &[Tables<A>],
     filter: DropsAndHides,
 ) -> Result<(Vec<FinishedTable<A>, A>, Reports), Error> {
+    let scanners = scanners(alloc, runs)?;
     let mut writer = MultiWriter::new(alloc, TableIds::new(1), 0, 0, Timestamp::from(0))?;
-    let received = Received {
-        reports: ([None; 3], 0),
-    };
-    let mut stream = CompactionStream::new(merged(alloc, runs)?, 5)
-        .with_filter(filter)
-        .with_drop_callback(received);
-    let done = put_all(&mut writer, &mut stream);
-    let received = stream.into_callback();
-    Ok((finished(writer, done)?, received.reports))
+    let reports = put_kept(alloc, &mut writer, scanners, filter);
+    finished(writer, reports)
 }
 
 // The same, opened.
