@@ -3,6 +3,7 @@
 
 pub mod large;
 pub mod lists;
+pub mod pins;
 pub mod rows;
 pub mod runs;
 pub mod stored;

@@ -1,48 +1,14 @@
 //! Stored tables that are read with each pin and without: what stays loaded, what is found, and what each read loads.
-use example_tables::large::{asked, asked_if_any};
+use example_tables::pins::{
+    OF_FILTER_PARTS, OF_ONE_ENTRY, OF_ONE_ENTRY_FILTERED, OF_TWO_LEVELS, Sizes, Starts,
+    all_answered, all_sizes, starts_of,
+};
 use example_tables::stored::{filter_parts, one_entry, one_entry_filtered, two_levels};
-use lsm_tables::{BlockIndex, BlockIndexImpl, BlockIndexIterImpl, Table};
-use sst_blocks::{Checksum, Error, InternalValue, SeqNo, Slice};
-use std::alloc::{Allocator, Global};
+use sst_blocks::Error;
+use std::alloc::Global;
 use std::test::Fail;
 
-// Whether the filter and the index are pinned.
-type Pins = (bool, bool);
-
-const ALL_PINS: [Pins; 4] = [(true, true), (true, false), (false, true), (false, false)];
-
-fn open_with<A: Allocator + Copy>(alloc: A, bytes: &[u8], pins: Pins) -> Result<Table<A>, Error> {
-    let bytes = Slice::from(alloc, bytes)?;
-    Table::recover(alloc, bytes, Checksum(0), 0, 0, pins.0, pins.1)
-}
-
-// The length of the filter, and how many bytes of it and of the index are pinned.
-type Sizes = (u32, usize, usize);
-
-fn sizes_of<A: Allocator + Copy>(table: &Table<A>) -> Sizes {
-    (
-        table.filter_size(),
-        table.pinned_filter_size(),
-        table.pinned_block_index_size(),
-    )
-}
-
-fn sizes<A: Allocator + Copy>(alloc: A, bytes: &[u8], pins: Pins) -> Result<Sizes, Error> {
-    asked(open_with(alloc, bytes, pins), |table| Ok(sizes_of(table)))
-}
-
-// The sizes of a table under each pair of pins.
-fn all_sizes(alloc: Global, bytes: &[u8]) -> Result<[Sizes; 4], Error> {
-    let [both, filter, index, none] = ALL_PINS;
-    Ok([
-        sizes(alloc, bytes, both)?,
-        sizes(alloc, bytes, filter)?,
-        sizes(alloc, bytes, index)?,
-        sizes(alloc, bytes, none)?,
-    ])
-}
-
-// Those of each stored table.
+// The sizes of each stored table, under each pair of pins.
 fn sizes_of_each(alloc: Global) -> Result<[[Sizes; 4]; 4], Error> {
     Ok([
         all_sizes(alloc, &one_entry::BYTES)?,
@@ -66,130 +32,7 @@ fn what_is_pinned(rt: HostRuntime) -> Result<(), Fail> {
     Ok(())
 }
 
-// A key, a bound, the number that is found, if any, and how many data, index and filter blocks are loaded under each pair of
-// pins.
-type Read = (&'static [u8], SeqNo, Option<SeqNo>, [[u64; 3]; 4]);
-
-const NOTHING: [[u64; 3]; 4] = [[0; 3]; 4];
-
-const TWO_LEVELS: [[u64; 3]; 4] = [[1, 1, 0]; 4];
-
-const A_PART: [[u64; 3]; 4] = [[1, 0, 1], [1, 1, 1], [1, 0, 1], [1, 1, 1]];
-
-const A_FILTER: [[u64; 3]; 4] = [[1, 0, 0], [1, 1, 0], [1, 0, 1], [1, 1, 1]];
-
-const NO_FILTER: [[u64; 3]; 4] = [[1, 0, 0], [1, 1, 0], [1, 0, 0], [1, 1, 0]];
-
-const OF_ONE_ENTRY: [Read; 5] = [
-    (b"", 1, None, NOTHING),
-    (b"", 2, None, NO_FILTER),
-    (b"a", 1, None, NOTHING),
-    (b"a", 2, Some(1), NO_FILTER),
-    // behind the last key the index alone says no
-    (
-        b"aa",
-        SeqNo::MAX,
-        None,
-        [[0, 0, 0], [0, 1, 0], [0, 0, 0], [0, 1, 0]],
-    ),
-];
-
-const OF_ONE_ENTRY_FILTERED: [Read; 5] = [
-    (b"", 1, None, NOTHING),
-    // the filter says no
-    (b"", 2, None, [[0, 0, 0], [0, 0, 0], [0, 0, 1], [0, 0, 1]]),
-    (b"a", 1, None, NOTHING),
-    (b"a", 2, Some(1), A_FILTER),
-    (
-        b"aa",
-        SeqNo::MAX,
-        None,
-        [[0, 0, 0], [0, 0, 0], [0, 0, 1], [0, 0, 1]],
-    ),
-];
-
-const OF_TWO_LEVELS: [Read; 8] = [
-    (b"", 2, None, TWO_LEVELS),
-    (b"a", 1, None, NOTHING),
-    (b"a", 2, None, TWO_LEVELS),
-    (b"a", 6, Some(5), TWO_LEVELS),
-    (b"a", 8, Some(7), TWO_LEVELS),
-    (b"a", SeqNo::MAX, Some(9), TWO_LEVELS),
-    (b"b", 100, Some(1), TWO_LEVELS),
-    (b"c", 100, None, NOTHING),
-];
-
-const OF_FILTER_PARTS: [Read; 8] = [
-    (b"", 2, None, [[0, 0, 1]; 4]),
-    (b"a", 1, None, NOTHING),
-    (b"a", 2, None, A_PART),
-    (b"a", 6, Some(5), A_PART),
-    (b"a", 8, Some(7), A_PART),
-    (b"aa", SeqNo::MAX, None, [[0, 0, 1]; 4]),
-    (b"b", 100, Some(1), A_PART),
-    // no part of the filter reaches the key
-    (b"c", 100, None, NOTHING),
-];
-
-// The number of what a read found, if any.
-fn number_of<A: Allocator>(
-    found: Result<Option<InternalValue<A>>, Error>,
-) -> Result<Option<SeqNo>, Error> {
-    match found {
-        Ok(Some(item)) => Ok(Some(item.key.seqno)),
-        Ok(None) => Ok(None),
-        Err(error) => Err(error),
-    }
-}
-
-// What a read finds, and how many data, index and filter blocks it loads.
-fn read<A: Allocator + Copy>(
-    table: &Table<A>,
-    key: &[u8],
-    seqno: SeqNo,
-) -> Result<(Option<SeqNo>, [u64; 3]), Error> {
-    let (found, opened) = table.get_counted(key, seqno, Table::<A>::key_hash(key));
-    let found = number_of(found)?;
-    Ok((
-        found,
-        [opened.data_loads, opened.index_loads, opened.filter_loads],
-    ))
-}
-
-// Whether a table answers some reads, under the pair of pins at a place.
-fn answers<A: Allocator + Copy>(
-    table: &Table<A>,
-    reads: &[Read],
-    at: usize,
-) -> Result<bool, Error> {
-    for (key, seqno, found, loads) in reads {
-        let loads = loads.get(at).copied().unwrap_or_default();
-        if read(table, key, *seqno)? != (*found, loads) {
-            return Ok(false);
-        }
-    }
-    Ok(true)
-}
-
-fn opened_answers(alloc: Global, bytes: &[u8], reads: &[Read], at: usize) -> Result<bool, Error> {
-    let pins = ALL_PINS.get(at).copied().unwrap_or_default();
-    asked(
-        open_with(alloc, bytes, pins),
-        |table| answers(table, reads, at),
-    )
-}
-
-// Whether a table answers some reads, under each pair of pins.
-fn all_answered(alloc: Global, bytes: &[u8], reads: &[Read]) -> Result<bool, Error> {
-    for at in 0..4 {
-        if !opened_answers(alloc, bytes, reads, at)? {
-            return Ok(false);
-        }
-    }
-    Ok(true)
-}
-
-// The same of each stored table.
+// Whether each stored table answers its reads, under each pair of pins.
 fn each_answers(alloc: Global) -> Result<[bool; 4], Error> {
     Ok([
         all_answered(alloc, &one_entry::BYTES, &OF_ONE_ENTRY)?,
@@ -205,49 +48,7 @@ fn reads_under_each_pair_of_pins(rt: HostRuntime) -> Result<(), Fail> {
     Ok(())
 }
 
-// The number of the first handle that a reader of an index gives, if any.
-fn first_number<A: Allocator + Copy>(
-    reader: &mut BlockIndexIterImpl<A>,
-) -> Result<Option<SeqNo>, Error> {
-    match reader.next() {
-        Some(Ok(handle)) => Ok(Some(handle.seqno())),
-        Some(Err(error)) => Err(error),
-        None => Ok(None),
-    }
-}
-
-// The same of the reader from a key and a number on; `None` where there is no reader.
-fn starts<A: Allocator + Copy>(
-    index: &BlockIndexImpl<A>,
-    key: &[u8],
-    seqno: SeqNo,
-) -> Result<Option<Option<SeqNo>>, Error> {
-    asked_if_any(
-        index.forward_reader(key, seqno),
-        |reader| first_number(reader),
-    )
-}
-
-fn index_of<A: Allocator + Copy>(
-    alloc: A,
-    bytes: &[u8],
-    pins: Pins,
-) -> Result<BlockIndexImpl<A>, Error> {
-    asked(open_with(alloc, bytes, pins), |table| table.block_index())
-}
-
-// Those of the index of a table, from a key within it and from one behind it.
-type Starts = [Option<Option<SeqNo>>; 2];
-
-fn starts_in<A: Allocator + Copy>(index: &BlockIndexImpl<A>) -> Result<Starts, Error> {
-    Ok([starts(index, b"a", 8)?, starts(index, b"c", 100)?])
-}
-
-fn starts_of(alloc: Global, bytes: &[u8], pins: Pins) -> Result<Starts, Error> {
-    asked(index_of(alloc, bytes, pins), |index| starts_in(index))
-}
-
-// Those of an index that stays loaded, of one that does not, and of one in two levels.
+// Where readers of an index start: of one that stays loaded, of one that does not, and of one in two levels.
 fn starts_of_each(alloc: Global) -> Result<[Starts; 3], Error> {
     Ok([
         starts_of(alloc, &filter_parts::BYTES, (true, true))?,

@@ -22,8 +22,8 @@ fn blocks_of_one<A: Allocator + Copy>(alloc: A) -> Result<Writer<A>, Error>
     Ok(new_writer(alloc)?.use_data_block_size(0))
 }
 
-// Partitions of the index, a handle each.
-fn index_parts<A: Allocator + Copy>(alloc: A) -> Result<FinishedTable<A>, Error> {
+/// Partitions of the index, a handle each.
+pub(crate) fn index_parts<A: Allocator + Copy>(alloc: A) -> Result<FinishedTable<A>, Error> {
     let writer = blocks_of_one(alloc)?
         .use_partitioned_index()
         .use_meta_partition_size(1);
@@ -38,8 +38,8 @@ fn forgotten_index_parts(alloc: Global) -> Result<FinishedTable, Error> {
     fill(writer, alloc, &ROWS)
 }
 
-// Partitions of the filter, a key each.
-fn filter_parts(alloc: Global) -> Result<FinishedTable, Error> {
+/// Partitions of the filter, a key each.
+pub(crate) fn filter_parts(alloc: Global) -> Result<FinishedTable, Error> {
     let writer = blocks_of_one(alloc)?
         .use_bloom_policy(TEN_BITS)
         .use_partitioned_filter()
@@ -211,8 +211,8 @@ fn partitions_of_the_index_byte_for_byte(rt: HostRuntime) -> Result<(), Fail> {
     Ok(())
 }
 
-// The table of a@1, with the value `x`, as it is written where nothing is asked for.
-fn one_key(alloc: Global) -> Result<FinishedTable, Error> {
+/// The table of a@1, with the value `x`, as it is written where nothing is asked for.
+pub(crate) fn one_key(alloc: Global) -> Result<FinishedTable, Error> {
     let rows: [Row<'static>; 1] = [(b"a", 1, ValueType::Value, b"x")];
     fill(Writer::new(alloc, 1, 0, Timestamp::from(0))?, alloc, &rows)
 }

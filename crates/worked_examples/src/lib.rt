@@ -8,6 +8,8 @@ mod layout;
 #[cfg(test)]
 mod lists;
 #[cfg(test)]
+mod pins;
+#[cfg(test)]
 mod point_reads;
 #[cfg(test)]
 mod queries;
