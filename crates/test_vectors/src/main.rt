@@ -7,7 +7,8 @@
 //! - `forget`: the entries and the point reads go;
 //! - `write ID LEVEL MOMENT SIZE INDEX FILTER SIZE BLOCK BITS INTERVAL`: writes the entries, with a partition size before the
 //!   kinds of index and filter (1 where it has partitions) and one behind them, a data block size, tenths of a bit a key and a
-//!   restart interval. Prints whether the bytes are those of the table, and their checksum;
+//!   restart interval; with three numbers alone no option is set. Prints whether the bytes are those of the table, and their
+//!   checksum;
 //! - `read FILTER INDEX`: opens the table, 1 for what stays loaded. Prints the checksum of all that it says and reads;
 //! - `damage FILTER INDEX POSITION BYTE ..`: opens the table with some bytes changed. Prints why it is refused, or the checksum
 //!   of what it reads.

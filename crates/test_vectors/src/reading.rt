@@ -1,7 +1,6 @@
 //! What tables say of themselves, and what is read of them.
 use crate::digest::Digest;
-use example_tables::large::asked;
-use lsm_tables::{ParsedMeta, Table};
+use lsm_readers::{ParsedMeta, Table};
 use sst_blocks::{Checksum, Error, SeqNo, Slice};
 use std::alloc::Allocator;
 
@@ -28,6 +27,17 @@ const SOME: u64 = 80;
 fn open<A: Allocator + Copy>(alloc: A, bytes: &[u8], pins: Pins) -> Result<Table<A>, Error> {
     let bytes = Slice::from(alloc, bytes)?;
     Table::recover(alloc, bytes, Checksum(0), 0, 0, pins.filter, pins.index)
+}
+
+// What is asked of a table, which is let go of here alone, or why there is none. Generic in it, so that none of its parts is
+// looked at.
+fn asked<T: Drop, F: FnOnce(&T) -> Result<u64, Error> + Drop>(
+    made: Result<T, Error>,
+    ask: F,
+) -> Result<u64, Error>
+    requires { F.IsAlwaysCallable ask }
+{
+    ask(&made?)
 }
 
 // The counts of a meta block.

@@ -55,6 +55,7 @@ fn choices_of(numbers: &[u64]) -> Choices {
         id: at(numbers, 0),
         level: at_u8(numbers, 1),
         moment: at(numbers, 2),
+        keeps_defaults: numbers.len() <= 3,
         size_before: at_u32(numbers, 3),
         has_index_parts: at(numbers, 4) == 1,
         has_filter_parts: at(numbers, 5) == 1,

@@ -2,7 +2,6 @@
 ghost use Rattle.std.specs.Prelude.{IfOk};
 ghost use Rattle.lsm_writers.specs.Writing.{IsFresh};
 
-use example_tables::rows::written;
 use lsm_writers::{BloomConstructionPolicy, FinishedTable, Timestamp, Writer};
 use sst_blocks::{Error, InternalValue};
 use std::alloc::Allocator;
@@ -13,6 +12,8 @@ pub struct Choices {
     pub id: u64,
     pub level: u8,
     pub moment: u64,
+    /// Whether no option is set, and what follows is passed over.
+    pub keeps_defaults: bool,
     /// A partition size that is set before the kinds of index and filter are chosen.
     pub size_before: u32,
     pub has_index_parts: bool,
@@ -81,7 +82,11 @@ fn configured<A: Allocator + Copy>(writer: Writer<A>, choices: &Choices) -> Writ
 fn new_writer<A: Allocator + Copy>(alloc: A, choices: &Choices) -> Result<Writer<A>, Error> {
     let moment = Timestamp::from(u128::from(choices.moment));
     let writer = Writer::new(alloc, choices.id, choices.level, moment)?;
-    Ok(configured(writer, choices))
+    if choices.keeps_defaults {
+        Ok(writer)
+    } else {
+        Ok(configured(writer, choices))
+    }
 }
 
 // Writes entries. `Source(0)` where one may not follow the one before.
@@ -96,6 +101,12 @@ fn put_all<A: Allocator + Copy>(
         writer.write(item)?;
     }
     Ok(())
+}
+
+// A writer, once it has written what it was given. Generic in the writer, so that none of its parts is looked at.
+fn written<W: Drop>(writer: W, answer: Result<(), Error>) -> Result<W, Error> {
+    answer?;
+    Ok(writer)
 }
 
 /// The table of some entries. `Source(0)` where one may not follow the one before, `Source(1)` where there are none.
