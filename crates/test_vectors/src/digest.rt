@@ -3,8 +3,8 @@ use sst_blocks::{Error, InternalValue, IterItem, Opened};
 use sst_sections::fnv::Fnv1a;
 use std::alloc::Allocator;
 
-/// The running FNV-1a hash of answers. Each number counts as 8 bytes, the low one first, and each run of bytes as its length and
-/// itself.
+/// The running FNV-1a hash of answers. Each number counts as 8 bytes, the low one first, and each
+/// run of bytes as its length and itself.
 #[derive(Clone, Copy)]
 pub struct Digest(Fnv1a);
 

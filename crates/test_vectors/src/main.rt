@@ -1,17 +1,22 @@
-//! Reads and writes the tables that an independent program made, and prints what it finds: a checksum for each table, which
-//! that program's own answers give too. Standard input is a list of commands, each a line of words; `-` stands for no bytes:
+//! Reads and writes the tables that an independent program made, and prints what it finds: for each
+//! table a checksum of all that it says and reads, which that program's own answers give too.
 //!
-//! - `table HEX`: the bytes of a table, which the lines below it speak of;
-//! - `entry KEY NUMBER TAG VALUE`: one more entry, keys and values in hex, the kind by its tag;
+//! Standard input is a list of commands, each a line of words. Bytes are in hex, `-` for none, and
+//! flags are 1 or 0:
+//!
+//! - `table BYTES`: the table that the lines below speak of;
+//! - `entry KEY NUMBER TAG VALUE`: one more entry, its kind by its tag;
 //! - `query KEY BOUND`: one more point read;
 //! - `forget`: the entries and the point reads go;
-//! - `write ID LEVEL MOMENT SIZE INDEX FILTER SIZE BLOCK BITS INTERVAL`: writes the entries, with a partition size before the
-//!   kinds of index and filter (1 where it has partitions) and one behind them, a data block size, tenths of a bit a key and a
-//!   restart interval; with three numbers alone no option is set. Prints whether the bytes are those of the table, and their
-//!   checksum;
-//! - `read FILTER INDEX`: opens the table, 1 for what stays loaded. Prints the checksum of all that it says and reads;
-//! - `damage FILTER INDEX POSITION BYTE ..`: opens the table with some bytes changed. Prints why it is refused, or the checksum
-//!   of what it reads.
+//! - `write ID LEVEL MOMENT SIZE INDEX FILTER SIZE BLOCK BITS INTERVAL`: writes the entries. A
+//!   partition size is set before the kinds of index and filter are chosen (1 for partitions), and
+//!   one behind that; then follow the data block size, the tenths of a bit a key and the restart
+//!   interval of data blocks. With three numbers alone no option is set. Prints whether the bytes
+//!   are those of the table, and their checksum;
+//! - `read FILTER INDEX`: opens the table, 1 for what stays loaded. Prints the checksum of all that
+//!   it says and reads, with the loads of each point read;
+//! - `damage FILTER INDEX POSITION BYTE ..`: opens the table with some bytes changed, or none.
+//!   Prints why it is refused, or the checksum of what the point reads and a walk answer.
 #![tactic(auto)]
 
 mod digest;

@@ -29,8 +29,8 @@ fn open<A: Allocator + Copy>(alloc: A, bytes: &[u8], pins: Pins) -> Result<Table
     Table::recover(alloc, bytes, Checksum(0), 0, 0, pins.filter, pins.index)
 }
 
-// What is asked of a table, which is let go of here alone, or why there is none. Generic in it, so that none of its parts is
-// looked at.
+// What is asked of a table, which is let go of here alone, or why there is none. Generic in it, so
+// that none of its parts is looked at.
 fn asked<T: Drop, F: FnOnce(&T) -> Result<u64, Error> + Drop>(
     made: Result<T, Error>,
     ask: F,

@@ -12,12 +12,17 @@ pub fn split_word(line: &[u8]) -> (&[u8], &[u8]) {
     (line, b"")
 }
 
+// A number with one more decimal digit.
+fn with_digit(number: u64, byte: u8) -> u64 {
+    let digit = u64::from(byte.saturating_sub(b'0'));
+    number.saturating_mul(10).saturating_add(digit)
+}
+
 /// The number that a word spells in decimal.
 pub fn number_of(word: &[u8]) -> u64 {
-    let mut number = 0u64;
+    let mut number = 0;
     for byte in word {
-        let digit = u64::from(byte.saturating_sub(b'0'));
-        number = number.saturating_mul(10).saturating_add(digit);
+        number = with_digit(number, *byte);
     }
     number
 }
@@ -25,9 +30,16 @@ pub fn number_of(word: &[u8]) -> u64 {
 /// The numbers that the words of a line spell.
 pub fn numbers_of<A: Allocator>(alloc: A, line: &[u8]) -> Result<Vec<u64, A>, Error> {
     let mut numbers = Vec::new(alloc);
-    for word in line.split(|byte| *byte == b' ') {
-        numbers.push(number_of(word))?;
+    let mut number = 0;
+    for byte in line {
+        if *byte == b' ' {
+            numbers.push(number)?;
+            number = 0;
+        } else {
+            number = with_digit(number, *byte);
+        }
     }
+    numbers.push(number)?;
     Ok(numbers)
 }
 

@@ -103,13 +103,15 @@ fn put_all<A: Allocator + Copy>(
     Ok(())
 }
 
-// A writer, once it has written what it was given. Generic in the writer, so that none of its parts is looked at.
+// A writer, once it has written what it was given. Generic in the writer, so that none of its parts
+// is looked at.
 fn written<W: Drop>(writer: W, answer: Result<(), Error>) -> Result<W, Error> {
     answer?;
     Ok(writer)
 }
 
-/// The table of some entries. `Source(0)` where one may not follow the one before, `Source(1)` where there are none.
+/// The table of some entries. `Source(0)` where one may not follow the one before, `Source(1)`
+/// where there are none.
 pub fn write_table<A: Allocator + Copy>(
     alloc: A,
     choices: &Choices,

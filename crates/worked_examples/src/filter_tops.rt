@@ -1,5 +1,5 @@
-//! Which partition of a filter a read asks: that of the first handle whose end key is greater, or equal and numbered below
-//! `u64::MAX`.
+//! Which partition of a filter a read asks: that of the first handle whose end key is greater, or
+//! equal and numbered below `u64::MAX`.
 use example_tables::large::asked;
 use example_tables::stored::filter_parts;
 use example_tables::tables::{open, overwritten};
@@ -8,13 +8,15 @@ use sst_blocks::{Error, SeqNo};
 use std::alloc::Global;
 use std::test::Fail;
 
-// Some runs of bytes that are written over those of the stored table, whose filter has a partition for each of its keys.
+// Some runs of bytes that are written over those of the stored table, whose filter has a partition
+// for each of its keys.
 type Changes = &'static [(usize, &'static [u8])];
 
 // The largest number.
 const LARGEST: &[u8] = &[0xff; 8];
 
-// The first handle of the filter's top level, that of `a`, gets the largest number, and the block its checksum.
+// The first handle of the filter's top level, that of `a`, gets the largest number, and the block
+// its checksum.
 const LARGEST_AT_FIRST: Changes = &[
     (378, &[0x49, 0x67, 0x3a, 0xbd, 0xbd, 0x01, 0xfe, 0xe5]),
     (390, LARGEST),
