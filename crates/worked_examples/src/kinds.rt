@@ -22,8 +22,8 @@ fn blocks_of_one<A: Allocator + Copy>(alloc: A) -> Result<Writer<A>, Error>
     Ok(new_writer(alloc)?.use_data_block_size(0))
 }
 
-// Partitions of the index, a handle each.
-fn index_parts<A: Allocator + Copy>(alloc: A) -> Result<FinishedTable<A>, Error> {
+/// Partitions of the index, a handle each.
+pub(crate) fn index_parts<A: Allocator + Copy>(alloc: A) -> Result<FinishedTable<A>, Error> {
     let writer = blocks_of_one(alloc)?
         .use_partitioned_index()
         .use_meta_partition_size(1);

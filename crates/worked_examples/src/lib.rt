@@ -2,6 +2,8 @@
 #![tactic(auto)]
 
 #[cfg(test)]
+mod handles;
+#[cfg(test)]
 mod kinds;
 #[cfg(test)]
 mod layout;
