@@ -1,3 +1,4 @@
 pub mod BlockLengths
 pub mod KindLemmas
+pub mod OneCut
 pub mod PartLaws

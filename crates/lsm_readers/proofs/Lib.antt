@@ -30,3 +30,5 @@ pub mod FileRanges
 pub mod TableRanges
 pub mod ManyReads
 pub mod ManyOfList
+pub mod OneIndex
+pub mod IndexKinds

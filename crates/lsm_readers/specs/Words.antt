@@ -13,7 +13,7 @@ pub use Rattle.sst_filters.specs.Filter.{BloomFilter}
 pub use Rattle.lsm_ranges.specs.KeyRange.{key_bound, overlaps_bounds}
 pub use Rattle.lsm_files.specs.Table.{IsTable}
 pub use Rattle.lsm_block_indexes.specs.Kinds.{index_of as index_read}
-pub use Rattle.lsm_readers.specs.BlockIndexes.{NamesBlocksOf, table_index}
+pub use Rattle.lsm_readers.specs.BlockIndexes.{AreCutAlike, NamesBlocksOf, OpenedWith, TellAlike, kind_for, kind_of, on_each_read, partitioned, table_index}
 pub use Rattle.lsm_readers.specs.Answer.{LoadsFew, admission, admitted_handle, answer, block_admits, filter_admits}
 pub use Rattle.lsm_readers.specs.Answer.{handle_at, handle_by, lift, lifted, match_at, table_answer}
 pub use Rattle.lsm_readers.specs.OfList.{SaysList, ends_of, list_told}

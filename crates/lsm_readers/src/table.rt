@@ -1,9 +1,10 @@
 //! Tables: opening a table's bytes, and reading from them.
-ghost use Rattle.std.specs.Prelude.{◌≡◌, ◌≢◌, ◌+◌, ℕ, Bool, List, [], Option, Some, Result, Ok, Err, false, true, length, IfOk, IfErr, IsOk, MatchResult};
+ghost use Rattle.std.specs.Prelude.{◌≡◌, ◌≢◌, ◌+◌, ℕ, Bool, List, [], Option, Some, Result, Ok, Err, false, true, length, IfOk, IfErr, IsOk, MatchResult, is_some};
 ghost use Rattle.lsm_readers.specs.Words.{BloomFilter, CanDeal, Deals, Entry, Faults, FaultsFirst, Gives, Handle, IsNewScan, IsOpen, IsRecovered, IsTable, NamesBlocksOf};
 ghost use Rattle.lsm_readers.specs.Words.{Loaded, LoadsFew, OpenTable, Opens, SaysList, Scan, ScansList, answer_stops, body_of, early_fault, early_in, ends_of};
 ghost use Rattle.lsm_readers.specs.Words.{facts_of, fault_of, filter_len, filter_told, fitting_told, fnv1a, handles_told, index_len, index_of, index_told, key_bound, lift};
 ghost use Rattle.lsm_readers.specs.Words.{list_told, load_at_told, load_told, none_opened, nowhere, number_told, overlaps_bounds, parts_of, parts_told};
+ghost use Rattle.lsm_readers.specs.Words.{AreCutAlike, OpenedWith, TellAlike, kind_for, kind_of, on_each_read, partitioned};
 ghost use Rattle.lsm_readers.specs.Words.{index_read, pinned_filter, pinned_of, pinned_told, place_fault, place_size, places_told, point, table_index};
 ghost use Rattle.lsm_readers.specs.Words.{position_fault, recovered_told, scan_told, table_answer, tops_told, volatile, with_load, within};
 ghost use Rattle.std.specs.Arc.{arc_value};
@@ -427,6 +428,7 @@ fn volatile_index<A: Allocator + Clone>(
 ) -> Result<BlockIndexImpl<A>, Error>
     ensures index { let read = on_demand (body_of source.now) handle in
         IfOk result (λ index. index_read index ≡ read) }
+    ensures kind { IfOk result (λ index. kind_of index ≡ on_each_read) }
     ensures err { IfErr result (λ e. e ≡ OutOfMemory) }
 {
     let (alloc, source) = (source.allocator().clone()?, source.clone()?);
@@ -441,6 +443,7 @@ fn two_level_index<A: Allocator + Clone>(
 ) -> Result<BlockIndexImpl<A>, Error>
     ensures index { let read = two_level (body_of source.now) tops.now in
         IfOk result (λ index. index_read index ≡ read) }
+    ensures kind { IfOk result (λ index. kind_of index ≡ partitioned) }
     ensures err { IfErr result (λ e. e ≡ OutOfMemory) }
 {
     let (alloc, source) = (source.allocator().clone()?, source.clone()?);
@@ -450,10 +453,16 @@ fn two_level_index<A: Allocator + Clone>(
 }
 
 impl<A: Allocator + Clone> Table<A> {
-    /// The index that [`Table::recover`] chose, over the table's bytes: the whole index that stays loaded, the one block that
-    /// each iterator loads, or partitions below the top level. Nothing is loaded. Refused [`Error::OutOfMemory`] alone.
+    /// The index that [`Table::recover`] chose, over the table's bytes: partitions below the top
+    /// level where the table has an `index` section, else the whole index that stays loaded where
+    /// it was to, else the one block that each iterator loads. Nothing is loaded. Refused
+    /// [`Error::OutOfMemory`] alone.
     pub fn block_index(&self) -> Result<BlockIndexImpl<A>, Error>
         ensures index { IfOk result (λ index. index_read index ≡ table_index self.now) }
+        // It is of the kind that the table's sections and the pin at opening say.
+        ensures kind { (pin_filter pin_index : Bool) → OpenedWith self.now pin_filter pin_index →
+            IfOk result (λ index.
+            kind_of index ≡ kind_for (is_some self.now.parts.regions.index) pin_index) }
         // On a table of a list it has the handles of the table's data blocks between any two edges.
         ensures list { (es : List Entry) (t : IsTable self.now.bytes es) →
             IfOk result (λ index. NamesBlocksOf t (index_read index)) }
@@ -482,6 +491,22 @@ impl<A: Allocator> Table<A> {
         ensures open { IsOpen self.now }
     {
         let _source: &BlockSource<A> = &self.source;
+    }
+
+    /// A law, which does nothing: two tables of one list, in one version, with data blocks of one
+    /// size and the same spills, have the same handles of data blocks between any two edges, and no
+    /// error, whatever kinds of index and of filter they were written with, and whichever of their
+    /// blocks stay loaded.
+    pub fn names_blocks_as(&self, other: &Table<A>)
+        ensures alike { (es : List Entry) (t : IsTable self.now.bytes es) →
+            (u : IsTable other.now.bytes es) → AreCutAlike t u →
+            TellAlike (table_index self.now) (table_index other.now) }
+        // They are those of the one table's data blocks, and by the clause before the other's.
+        ensures names { (es : List Entry) (t : IsTable self.now.bytes es) →
+            NamesBlocksOf t (table_index self.now) }
+    {
+        let _source: &BlockSource<A> = &self.source;
+        let _other: &BlockSource<A> = &other.source;
     }
 
     /// The table's id.

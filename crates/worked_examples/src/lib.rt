@@ -4,6 +4,8 @@
 #[cfg(test)]
 mod filter_tops;
 #[cfg(test)]
+mod handles;
+#[cfg(test)]
 mod kinds;
 #[cfg(test)]
 mod layout;

@@ -149,3 +149,27 @@ fn each_request_of_many_reads_refused(rt: HostRuntime) {
     });
     assert!(rt; answers.is_ok_and(|requests| requests > 20));
 }
+
+// Whether no queries are answered none, and take no memory.
+fn answers_none(heap: &Refusing, table: &Table<&Refusing>) -> bool {
+    let none: [Query<&Refusing>; 0] = [];
+    let before = heap.requests();
+    get_many(table, &none).is_ok_and(|found| found.is_empty()) && heap.requests() == before
+}
+
+// The same of a table that is opened, where that is not refused.
+fn asked_for_none(heap: &Refusing, may_fail: bool) -> bool {
+    let opened = opened_in_blocks(heap, 0);
+    is_right(
+        asked(opened, |table| Ok(answers_none(heap, table))),
+        may_fail,
+    )
+}
+
+#[test]
+fn no_queries_are_never_refused(rt: HostRuntime) {
+    let opening = each_refused(rt.alloc(), |heap, may_fail| asked_for_none(heap, may_fail));
+    let next_refused = Refusing::new(rt.alloc(), opening.unwrap_or(0).saturating_add(1));
+    assert!(rt; opening.is_ok());
+    assert!(rt; asked_for_none(&next_refused, false));
+}

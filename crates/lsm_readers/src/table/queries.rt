@@ -35,7 +35,8 @@ fn get_one<A: Allocator + Clone>(
 /// What [`Table::get`] answers to each of some queries, in their order, each with its key's own hash. Queries may stand in any
 /// order and repeat. Refused with the error of the earliest query that has one, and [`Error::OutOfMemory`]; then there is no
 /// answer at all, and the table is as it was. The list takes memory first, so any refusal may be that, also where `get` would
-/// find a fault before memory is taken or would load nothing.
+/// find a fault before memory is taken or would load nothing. A list of no queries takes none, and is
+/// refused only where a clone of the allocator is.
 pub fn get_many<A: Allocator + Clone>(
     table: &Table<A>,
     queries: &[Query<A>],
@@ -46,6 +47,8 @@ pub fn get_many<A: Allocator + Clone>(
     ensures list { (es : List Entry) → IsTable table.now.bytes es →
         let all = lift es table.now.global_seqno in
         Gives (λ found. found.items) result (Ok (map (λ q. point all q.key q.seqno) queries.now)) }
+    // A list of no queries is not refused, unless a clone of the allocator is.
+    ensures calm { queries.now ≡ [] → ((alloc : A) → A.is_infallible alloc) → IsOk result }
 {
     let alloc = table.source.allocator().clone()?;
     let mut found = Vec::with_capacity(alloc, queries.len())?;
