@@ -1,0 +1,166 @@
+//! Readers, walked to their end.
+use crate::same::{are_loads, is_index_step, is_step};
+use example_tables::large::{asked, asked_mut};
+use lsm_tables::{
+    BlockIndex, BlockIndexImpl, BlockIndexIter, BlockIndexIterImpl, Iter, Scanner, Table,
+};
+use sst_blocks::{Error, Opened, Slice};
+use std::alloc::Global;
+use std::ops::Bound;
+use test_sweep_tables::{self as told, Dealt, Fault, Row, Walk};
+
+/// What is walked. What does so is generic in it, so that none of its parts is looked at.
+pub trait Walked {
+    /// Whether this comes at an end. A scan has one end alone, and gives nothing at the other.
+    fn gives(&mut self, is_back: bool, want: Option<Dealt<'_>>) -> bool;
+
+    /// How many blocks were loaded.
+    fn loaded(&self) -> Opened;
+}
+
+impl Walked for Iter<Global> {
+    fn gives(&mut self, is_back: bool, want: Option<Dealt<'_>>) -> bool {
+        let found = if is_back {
+            self.next_back()
+        } else {
+            self.next()
+        };
+        is_step(&found, &want)
+    }
+
+    fn loaded(&self) -> Opened {
+        self.opened()
+    }
+}
+
+impl Walked for Scanner<Global> {
+    fn gives(&mut self, is_back: bool, want: Option<Dealt<'_>>) -> bool {
+        if is_back {
+            return want.is_none();
+        }
+        is_step(&self.next(), &want)
+    }
+
+    fn loaded(&self) -> Opened {
+        self.opened()
+    }
+}
+
+impl Walked for BlockIndexIterImpl<Global> {
+    fn gives(&mut self, is_back: bool, want: Option<Dealt<'_>>) -> bool {
+        let found = if is_back {
+            self.next_back()
+        } else {
+            self.next()
+        };
+        is_index_step(&found, &want)
+    }
+
+    fn loaded(&self) -> Opened {
+        self.opened()
+    }
+}
+
+/// From which ends a reader is walked.
+#[derive(Clone, Copy, Debug, PartialEq, Eq)]
+pub enum Ends {
+    /// From the front.
+    Fronts,
+    /// From the back.
+    Backs,
+    /// From both in turn, from the front first.
+    InTurn,
+}
+
+/// All of them.
+pub const ENDS: [Ends; 3] = [Ends::Fronts, Ends::Backs, Ends::InTurn];
+
+// Whether a step is made at the back.
+fn is_back(ends: Ends, step: usize) -> bool {
+    match ends {
+        Ends::Fronts => false,
+        Ends::Backs => true,
+        Ends::InTurn => step % 2 == 1,
+    }
+}
+
+// Whether each step to the end and two behind it gives what it should, and loads what it should;
+// and then nothing comes at either end.
+fn is_walked<W: Walked>(walked: &mut W, rows: &[Row<'_>], ends: Ends) -> bool {
+    let mut want = Walk::new(rows);
+    for step in 0..rows.len().saturating_add(2) {
+        let is_back = is_back(ends, step);
+        if !walked.gives(is_back, want.step(is_back))
+            || !are_loads(&walked.loaded(), want.loads())
+        {
+            return false;
+        }
+    }
+    walked.gives(false, None) && walked.gives(true, None)
+}
+
+// The same of a reader that may be refused, which none should be.
+fn is_all_walked<W: Walked + Drop>(
+    made: Result<W, Error>,
+    rows: &Result<Vec<Row<'_>>, Fault>,
+    ends: Ends,
+) -> bool {
+    match rows {
+        Ok(rows) => match asked_mut(made, |walked| Ok(is_walked(walked, rows, ends))) {
+            Ok(is_right) => is_right,
+            Err(_) => false,
+        },
+        Err(_) => false,
+    }
+}
+
+/// Whether all entries are dealt as they should be.
+pub fn is_iter(alloc: Global, table: &Table, want: &told::Table<'_>, ends: Ends) -> bool {
+    let rows = told::entry_rows(alloc, want, None);
+    is_all_walked(table.iter(), &rows, ends)
+}
+
+const ABOVE: &[u8] = b"a";
+
+// The entries above a key.
+fn above(alloc: Global, table: &Table) -> Result<Iter<Global>, Error> {
+    table.range(
+        Bound::Excluded(Slice::from(alloc, ABOVE)?),
+        Bound::Unbounded,
+    )
+}
+
+/// Whether the entries above a key are.
+pub fn is_range(alloc: Global, table: &Table, want: &told::Table<'_>, ends: Ends) -> bool {
+    let rows = told::entry_rows(alloc, want, Some(ABOVE));
+    is_all_walked(above(alloc, table), &rows, ends)
+}
+
+fn index_walked(
+    index: &BlockIndexImpl<Global>,
+    rows: &Result<Vec<Row<'_>>, Fault>,
+    ends: Ends,
+) -> bool {
+    is_all_walked(index.iter(), rows, ends)
+}
+
+/// Whether the handles of the index are.
+pub fn is_index(alloc: Global, table: &Table, want: &told::Table<'_>, ends: Ends) -> bool {
+    let rows = told::index_rows(alloc, want, None);
+    match asked(
+        table.block_index(),
+        |index| Ok(index_walked(index, &rows, ends)),
+    ) {
+        Ok(is_right) => is_right,
+        Err(_) => false,
+    }
+}
+
+/// Whether a scan gives what it should, or is refused as it should be.
+pub fn is_scan(alloc: Global, table: &Table, want: &told::Table<'_>) -> bool {
+    let rows = told::scan_rows(alloc, want);
+    match (&rows, table.scan()) {
+        (Err(fault), Err(error)) => error.number() == *fault,
+        (_, made) => is_all_walked(made, &rows, Ends::Fronts),
+    }
+}
