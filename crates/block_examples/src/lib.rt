@@ -8,3 +8,5 @@ mod data_blocks;
 mod index_blocks;
 #[cfg(test)]
 mod payloads;
+#[cfg(test)]
+mod room;

@@ -184,8 +184,8 @@ fn write<A: Allocator + Copy>(
     writer.append(payload)
 }
 
-// The bytes of a table with this payload alone.
-fn table<A: Allocator + Copy>(
+/// The bytes of a table with this payload alone.
+pub(crate) fn table<A: Allocator + Copy>(
     alloc: A,
     version: TableVersion,
     kind: BlockType,

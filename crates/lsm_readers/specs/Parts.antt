@@ -100,7 +100,7 @@ recovered_told bytes g pin_filter pin_index =
     unless (trailer_fault bytes) (parts_told bytes g pin_filter pin_index)
 
 -- the fault of opening that is found before memory is taken: of the trailer, the regions, or the meta
--- block up to its checksum
+-- block up to the room for its count
 abbrev pub early_in : List ℕ → Result ParsedRegions Error → Option Error
 early_in body (Ok regions) = place_fault body regions.metadata.offset regions.metadata.size Meta
 early_in body (Err e) = Some e

@@ -121,8 +121,8 @@ loads_from body position (suc n) =
 abbrev pub loads_of : Scan → ℕ
 loads_of s = unless_left s.entries (loads_from s.body s.position s.blocks)
 
--- where no entry is left and a block is to be read, what its header says, and its checksum, comes before
--- any want of memory
+-- where no entry is left and a block is to be read, what its header says, its checksum and the room for
+-- its count come before any want of memory
 abbrev pub FaultsAtBlock : Scan → Option (Result Entry Error) → Type 0
 FaultsAtBlock s r =
     s.entries ≡ [] → 0 < s.blocks → (e : Error) → position_fault s.body s.position Data ≡ Some e →
@@ -136,7 +136,7 @@ FaultsAtEntry s r =
 
 -- one call: it gives the first of what is left; an error ends it for good; each load counts, and lowers
 -- the number of blocks by one. As many blocks are loaded as the next entry needs; want of memory may
--- stop at any of them, at the first only where its header and its checksum have no fault
+-- stop at any of them, at the first only where its header, its checksum and its count have no fault
 pub record ScansNext (s : Scan) (r : Option (Result Entry Error)) (t : Scan) : Type 0 where
   pub answers : Answers (λ _. Unit {0}) ScanHas front_of s r t
   pub ends : MatchOption r (IsEnded t) (λ x. IfErr x (λ _. IsEnded t))

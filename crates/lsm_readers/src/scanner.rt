@@ -20,7 +20,7 @@ use std::mem;
 /// The first block is read when the scanner is made, each further one when a step first needs it. Where a block cannot be
 /// loaded its fault comes in the place of its entries, and [`Error::SeqNoOverflow`] in the place of an entry whose number
 /// passes `u64` with the global number added; of an entry that stands next in a loaded block that comes before any want of
-/// memory, and so does what the header of a step's first block says, and its checksum. After an error,
+/// memory, and so does what the header of a step's first block says, its checksum and its count. After an error,
 /// [`Error::OutOfMemory`] among them, nothing more comes.
 #[derive(Drop)]
 pub struct Scanner<A: Allocator = Global> {
@@ -80,7 +80,7 @@ impl<A: Allocator + Clone> Scanner<A> {
         global_seqno: SeqNo,
     ) -> Result<Scanner<A>, Error>
         ensures refused { Faults result (fault_of (load_at_told (body_of source.now) 0 Data)) }
-        // What the block's header says, and its checksum, comes before any want of memory.
+        // What the block's header says, its checksum and its count, comes before any want of memory.
         ensures early { FaultsFirst result (position_fault (body_of source.now) 0 Data) }
         ensures opened { IfOk result (λ s. s.opened ≡ with_load Data none_opened) }
         ensures left { IfOk result (IsNewScan (body_of source.now) block_count global_seqno) }

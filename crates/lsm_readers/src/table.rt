@@ -387,7 +387,7 @@ impl<A: Allocator + Clone> Table<A> {
     /// Refused with the first fault of loading the first of them, and [`Error::OutOfMemory`].
     pub fn scan(&self) -> Result<Scanner<A>, Error>
         ensures refused { Faults result (fault_of (load_at_told (body_of self.now.bytes) 0 Data)) }
-        // What the block's header says, and its checksum, comes before any want of memory.
+        // What the block's header says, its checksum and its count, comes before any want of memory.
         ensures early { FaultsFirst result (position_fault (body_of self.now.bytes) 0 Data) }
         // Want of memory aside, it gives the entries of as many blocks as the table says that it has.
         ensures deals { (stops : Error → Bool) → stops OutOfMemory ≡ true →

@@ -1,12 +1,13 @@
 -- Payloads of items, whatever an item's format: one walk from the left, the two laws of reading, and what stands at each start.
-use Rattle.std.proofs.Common.{◌≡◌, ℕ, zero, suc, ◌+◌, ◌-◌, ◌^◌, ◌<◌, ◌≤◌, Bool, true, false, cond, ltb, List, [], ◌∷◌, ◌++◌, length, get_or, drop, map, Option, Some, None, refl, sym, ap, subst, ◌∙◌, append_assoc, arith}
+use Rattle.std.proofs.Common.{◌≡◌, ℕ, zero, suc, ◌+◌, ◌*◌, ◌-◌, ◌^◌, ◌<◌, ◌≤◌, Bool, true, false, cond, ltb, List, [], ◌∷◌, ◌++◌, length, get_or, drop, map, Option, Some, None, refl, sym, ap, subst, ◌∙◌, append_assoc, arith}
 use Rattle.std.specs.Prelude.{option_and_then, is_some, nat_lt, if◌then◌else◌}
 use Rattle.std.specs.List.{flat_map, AllByRecursion}
 use Rattle.std.specs.Option.{option_map}
-use Rattle.std.proofs.lemmas.Bool.{ltb-false, lt-ltb, le-ltb}
+use Rattle.std.proofs.lemmas.Bool.{ltb-false, le-ltb}
 use Rattle.std.proofs.lemmas.List.{drop_at, drop-drop, length-append, length-drop, map_push, map-append, append-nil, nil_from_length}
 use Rattle.std.proofs.lemmas.List.Concat.{flat_map-append}
 use Rattle.std.proofs.lemmas.Option.{none-some, same_Some, cond_some, option_and_then_some}
+use Rattle.std.proofs.Math.Nat.{mul-suc}
 use Rattle.sst_entries.specs.Entry.{Entry}
 use Rattle.sst_sections.specs.Number.{le4, num4}
 use Rattle.sst_blocks.specs.Starts.{starts_of, SpellsAt}
@@ -196,10 +197,6 @@ module _ {X : Type 0} (f : Format X) where
       under false None h = refl
       under false (Some xs) h = tested xs (h xs refl)
 
-  -- fewer than four bytes hold no count
-  pub walk_short : (bytes : List ℕ) → length bytes < 4 → items_in f bytes ≡ None
-  walk_short bytes lt = let short : ltb (length bytes) 4 ≡ true = lt-ltb _ _ lt in rw short refl
-
   -- an item is not there
   pub walk_missing : (bytes rest starts : List ℕ) (last : Option Entry) (n : ℕ) → Walk f bytes rest starts last n → n < num4 bytes → f.read rest ≡ None → items_in f bytes ≡ None
   walk_missing bytes rest starts last n w lt none =
@@ -306,6 +303,26 @@ module _ {X : Type 0} (f : Format X) (advances : Advances f) where
       (λ ys read tested.
       let t = cond_some (in_order f ys) ys xs tested in
       (ltb-false _ _ g.0, read ∙ ap (λ zs. Some zs) t.1, ap (in_order f) (sym t.1) ∙ t.0))
+
+  -- items of so many bytes each fill as much
+  items_fill : (least : ℕ) → ((x : X) → least ≤ length (f.spell x)) → (n : ℕ) (bytes : List ℕ) (xs : List X) → items_at f.read n bytes ≡ Some xs → least * n ≤ length bytes
+  items_fill least long zero bytes xs h = omega arith
+  items_fill least long (suc n) bytes xs h =
+      option_and_then_some (λ (y : X × List ℕ). option_map (λ ys. y.0 ∷ ys) (items_at f.read n y.1)) (f.read bytes) xs h
+      (λ y read more.
+      option_map_some (λ (ys : List X). y.0 ∷ ys) (items_at f.read n y.1) xs more
+      (λ ys others whole.
+      let rest = items_fill least long n y.1 ys others in
+      let step = advances bytes y.0 y.1 read in
+      let left : length y.1 ≡ length bytes - length (f.spell y.0) = ap length step.0 ∙ length-drop (length (f.spell y.0)) bytes in
+      let one : least * suc n ≡ least * n + least = mul-suc least n in
+      omega (arith, one, rest, step.1, left, long y.0)))
+
+  -- what a payload spells fills what is behind its count
+  pub items_room : (least : ℕ) → ((x : X) → least ≤ length (f.spell x)) → (bytes : List ℕ) (xs : List X) → items_in f bytes ≡ Some xs → 4 + least * num4 bytes ≤ length bytes
+  items_room least long bytes xs h =
+      let t = items_read bytes xs h in
+      omega (arith, t.0, length-drop 4 bytes, items_fill least long (num4 bytes) (drop 4 bytes) xs t.1)
 
   -- at the start of a place stands the item of the place
   pub item_holds : (bytes starts : List ℕ) (xs : List X) (i at : ℕ) (b : X) → items_in f bytes ≡ Some xs → starts ≡ starts_of f.spell 4 xs → i < length xs → at ≡ get_or starts i at → Here f bytes at (get_or xs i b)

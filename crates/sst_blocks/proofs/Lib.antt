@@ -4,6 +4,7 @@ pub mod HandleLaws
 pub mod SpanLemmas
 pub mod Reaching
 pub mod LoadLemmas
+pub mod Room
 pub mod BlockLaws
 pub mod Faults
 pub mod Fronts

@@ -10,7 +10,7 @@ use Rattle.sst_sections.specs.declared.version.TableVersion.{TableVersion}
 use Rattle.sst_entries.specs.Error.{Gives, FaultsFirst, unless}
 use Rattle.std.specs.Option.{option_or}
 use Rattle.sst_sections.specs.Fnv.{fnv1a}
-use Rattle.sst_blocks.specs.Block.{Loaded, grammar_fault, in_grammar, checksum_fault, loaded, header_fault, data_len, uncompressed_len, stored_checksum, version_in, checked_payload, load_told, load_at_told, place_fault, position_fault}
+use Rattle.sst_blocks.specs.Block.{Loaded, grammar_fault, in_grammar, checksum_fault, loaded, header_fault, data_len, uncompressed_len, stored_checksum, version_in, checked_payload, load_told, load_at_told, place_fault, position_fault, room_fault}
 
 -- no fault yet
 after : {A : Type 0} (wrong : Bool) (e : Error) (fault : Option Error) (told : Result A Error) → wrong ≡ false → fault ≡ None → (if wrong then Err e else unless fault told) ≡ told
@@ -139,7 +139,8 @@ module _ (body : List ℕ) (offset size : ℕ) (kind : BlockType) where
 
   pub place_checked : 24 ≤ size → offset + size ≤ length body → header_fault kind (slice_range body offset (offset + 24)) ≡ None
       → data_len (slice_range body offset (offset + 24)) ≡ uncompressed_len (slice_range body offset (offset + 24)) → 24 + data_len (slice_range body offset (offset + 24)) ≡ size
-      → place_fault body offset size kind ≡ checksum_fault (stored_checksum (slice_range body offset (offset + 24))) (slice_range body (offset + 24) (offset + size))
+      → place_fault body offset size kind ≡ option_or (checksum_fault (stored_checksum (slice_range body offset (offset + 24))) (slice_range body (offset + 24) (offset + size)))
+      (room_fault (version_in (slice_range body offset (offset + 24))) kind (slice_range body (offset + 24) (offset + size)))
   unfolding place_fault
   place_checked long within fault same whole = behind _ _ _ _ (fits body offset size kind long within) fault ∙ one_length _ _ _ same whole
 
@@ -167,7 +168,8 @@ module _ (body : List ℕ) (position : ℕ) (kind : BlockType) where
   unfolding position_fault
   position_lengths within fault differ =
       let to = position + 24 + data_len (slice_range body position (position + 24)) in
-      let next = checksum_fault (stored_checksum (slice_range body position (position + 24))) (slice_range body (position + 24) to) in
+      let payload = slice_range body (position + 24) to in
+      let next = option_or (checksum_fault (stored_checksum (slice_range body position (position + 24))) payload) (room_fault (version_in (slice_range body position (position + 24))) kind payload) in
       behind _ _ _ _ (header_fits body position kind within) fault ∙ differ_at _ _ (length body) to next differ
 
   pub position_passes : position + 24 ≤ length body → header_fault kind (slice_range body position (position + 24)) ≡ None
@@ -178,7 +180,8 @@ module _ (body : List ℕ) (position : ℕ) (kind : BlockType) where
 
   pub position_checked : position + 24 ≤ length body → header_fault kind (slice_range body position (position + 24)) ≡ None
       → data_len (slice_range body position (position + 24)) ≡ uncompressed_len (slice_range body position (position + 24)) → position + 24 + data_len (slice_range body position (position + 24)) ≤ length body
-      → position_fault body position kind ≡ checksum_fault (stored_checksum (slice_range body position (position + 24))) (slice_range body (position + 24) (position + 24 + data_len (slice_range body position (position + 24))))
+      → position_fault body position kind ≡ option_or (checksum_fault (stored_checksum (slice_range body position (position + 24))) (slice_range body (position + 24) (position + 24 + data_len (slice_range body position (position + 24)))))
+      (room_fault (version_in (slice_range body position (position + 24))) kind (slice_range body (position + 24) (position + 24 + data_len (slice_range body position (position + 24)))))
   unfolding position_fault
   position_checked within fault same whole = behind _ _ _ _ (header_fits body position kind within) fault ∙ fine_at _ _ _ _ _ same whole
 

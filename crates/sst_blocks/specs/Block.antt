@@ -1,5 +1,5 @@
 -- Blocks in a table's bytes: a header of 24 bytes, then the payload. Which block a load gives, or the first fault that it meets.
-use Rattle.std.specs.Prelude.{◌≡◌, ℕ, ◌+◌, ◌==◌, ◌&&◌, ◌||◌, not, nat_lt, nat_le, Bool, false, List, [], ◌∷◌, ◌++◌, length, take, drop, slice_index, slice_range, Option, Some, None, is_some, is_none, unwrap_or, Result, Ok, Err, if◌then◌else◌}
+use Rattle.std.specs.Prelude.{◌≡◌, ℕ, ◌+◌, ◌*◌, ◌==◌, ◌&&◌, ◌||◌, not, nat_lt, nat_le, Bool, false, List, [], ◌∷◌, ◌++◌, length, take, drop, slice_index, slice_range, Option, Some, None, is_some, is_none, unwrap_or, Result, Ok, Err, if◌then◌else◌}
 use Rattle.std.specs.Option.{option_or}
 use Rattle.sst_sections.specs.declared.version.TableVersion.{TableVersion}
 use Rattle.sst_sections.specs.declared.version.TableVersion.TheVariants.{V4}
@@ -15,7 +15,7 @@ use Rattle.sst_blocks.specs.Handle.{Handle}
 use Rattle.sst_blocks.specs.Handles.{handles_in}
 use Rattle.sst_sections.specs.Number.{le4, le8, num4, num8}
 use Rattle.sst_blocks.specs.Reading.{entries_in}
-use Rattle.sst_sections.specs.Version.{mark, version_of}
+use Rattle.sst_sections.specs.Version.{key_width, mark, version_of}
 
 abbrev pub kind_tag : BlockType → ℕ
 kind_tag Data = 0
@@ -87,6 +87,22 @@ abbrev pub checksum_fault : ℕ → List ℕ → Option Error
 checksum_fault checksum payload =
     if not (fnv1a payload == checksum) then Some ChecksumMismatch else None
 
+-- a count, and behind it room for as many items of so many bytes each
+unfoldable pub has_room_for : ℕ → List ℕ → Bool
+has_room_for least payload = nat_le (4 + least * num4 payload) (length payload)
+
+-- a payload has room for what it counts, each item as short as one of its version can be; a filter is
+-- in its grammar
+abbrev pub has_room : TableVersion → BlockType → List ℕ → Bool
+has_room v Data payload = has_room_for (13 + key_width v) payload
+has_room v Meta payload = has_room_for (13 + key_width v) payload
+has_room v Index payload = has_room_for (20 + key_width v) payload
+has_room v Filter payload = is_filter payload
+
+-- the fault of a payload's grammar that is found before memory is taken
+abbrev pub room_fault : TableVersion → BlockType → List ℕ → Option Error
+room_fault v kind payload = if not (has_room v kind payload) then Some InvalidBlock else None
+
 -- the payload is tested last, by what its header says: its checksum, then its grammar
 unfoldable pub checked_payload : TableVersion → ℕ → BlockType → List ℕ → Result Loaded Error
 checked_payload v checksum kind payload =
@@ -116,7 +132,8 @@ load_at_told body position kind =
     else checked_payload (version_in head) (stored_checksum head) kind
     (slice_range body (position + header_len) (position + header_len + data_len head))))
 
--- what a load finds wrong before it takes memory: too few bytes, the header, its lengths, the checksum; the first fault
+-- what a load finds wrong before it takes memory: too few bytes, the header, its lengths, the
+-- checksum, a payload without room for what it counts, a filter that is none; the first fault
 unfoldable pub place_fault : List ℕ → ℕ → ℕ → BlockType → Option Error
 place_fault body offset size kind =
     let head = slice_range body offset (offset + header_len) in
@@ -124,7 +141,9 @@ place_fault body offset size kind =
     else option_or (header_fault kind head)
     (if not (data_len head == uncompressed_len head) || not (header_len + data_len head == size)
     then Some InvalidHeader
-    else checksum_fault (stored_checksum head) (slice_range body (offset + header_len) (offset + size)))
+    else let payload = slice_range body (offset + header_len) (offset + size) in
+    option_or (checksum_fault (stored_checksum head) payload)
+    (room_fault (version_in head) kind payload))
 
 -- the same with the size that the header says
 unfoldable pub position_fault : List ℕ → ℕ → BlockType → Option Error
@@ -134,8 +153,10 @@ position_fault body position kind =
     else option_or (header_fault kind head)
     (if not (data_len head == uncompressed_len head) then Some InvalidHeader
     else (if nat_lt (length body) (position + header_len + data_len head) then Some Truncated
-    else checksum_fault (stored_checksum head)
-    (slice_range body (position + header_len) (position + header_len + data_len head))))
+    else let end = position + header_len + data_len head in
+    let payload = slice_range body (position + header_len) end in
+    option_or (checksum_fault (stored_checksum head) payload)
+    (room_fault (version_in head) kind payload)))
 
 -- a block without its header
 abbrev pub loaded : TableVersion → BlockType → List ℕ → Loaded

@@ -6,7 +6,7 @@ pub use Rattle.sst_entries.specs.Point.{read_place, lower_place, point, upper_pl
 pub use Rattle.sst_entries.specs.Span.{SpanGives, front_length, rest_in}
 pub use Rattle.sst_entries.specs.Stream.{CanDeal, Deals, ok_results, back_of, front_of, answer_stops, EndsAtError}
 pub use Rattle.sst_entries.specs.Strict.{IsStrict, is_before, is_strict_after, may_follow}
-pub use Rattle.sst_blocks.specs.Block.{Loaded, LoadsBack, block_bytes, entries_of, grammar_fault, handles_of, header_len, in_grammar, is_filter, loaded}
+pub use Rattle.sst_blocks.specs.Block.{Loaded, LoadsBack, block_bytes, entries_of, grammar_fault, handles_of, has_room, has_room_for, header_len, in_grammar, is_filter, loaded}
 pub use Rattle.sst_blocks.specs.Bounds.{data_block_bound_of, index_block_bound_of}
 pub use Rattle.sst_blocks.specs.Encoding.{entries_fault, handles_fault}
 pub use Rattle.sst_blocks.specs.Handle.{Handle}

@@ -3,7 +3,8 @@ ghost use Rattle.std.specs.Prelude.{◌≡◌, ◌+◌, ◌++◌, ◌<◌, ◌^�
 ghost use Rattle.sst_blocks.specs.Words.{AreSpellable, AreSpellableHandles, AreStrictHandles};
 ghost use Rattle.sst_blocks.specs.Words.{Entry, Faults, Gives, Handle, HoldsEntries, IsBlock};
 ghost use Rattle.sst_blocks.specs.Words.{IsStrict, Loaded, LoadsBack, block_bytes, entries_of};
-ghost use Rattle.sst_blocks.specs.Words.{grammar_fault, handles_of, handles_payload, header_len, in_grammar};
+ghost use Rattle.sst_blocks.specs.Words.{grammar_fault, handles_of, handles_payload, has_room};
+ghost use Rattle.sst_blocks.specs.Words.{header_len, in_grammar};
 ghost use Rattle.sst_blocks.specs.Words.{BloomFilter, IsBuilt, filter_in, is_filter, loaded, payload};
 ghost use Rattle.sst_blocks.specs.Words.{payload_of, unless};
 ghost use Rattle.sst_blocks.specs.declared.block_type.BlockType.{BlockType};
@@ -14,8 +15,8 @@ ghost use Rattle.sst_entries.specs.declared.error.Error.TheVariants.{OutOfMemory
 
 mod header;
 
-use crate::data_block::entry_starts;
-use crate::index_block::handle_starts;
+use crate::data_block::{entry_starts, has_entry_room};
+use crate::index_block::{handle_starts, has_handle_room};
 use crate::starts::Starts;
 use crate::{
     BlockHandle, BlockOffset, BlockType, CompressionType, Error, SectionWriter, Slice, TableVersion,
@@ -82,8 +83,9 @@ impl<A: Allocator> Block<A> {
 }
 
 impl<A: Allocator + Clone> Block<A> {
-    /// The block of a payload whose checksum is right. Refused [`Error::InvalidBlock`] where the payload is not in the
-    /// grammar of its kind, and [`Error::OutOfMemory`]. Where it was tested before that it is, no keys are compared.
+    /// The block of a payload whose checksum is right and which has room for what it counts. Refused
+    /// [`Error::InvalidBlock`] where the payload is not in the grammar of its kind, and
+    /// [`Error::OutOfMemory`]. Where it was tested before that it is, no keys are compared.
     pub(crate) fn open(
         alloc: A,
         version: TableVersion,
@@ -92,6 +94,7 @@ impl<A: Allocator + Clone> Block<A> {
         is_tested: bool,
     ) -> Result<Block<A>, Error>
         requires short { length payload < 2 ^ 32 }
+        requires room { has_room version kind payload ≡ true }
         requires tested { IsTrue is_tested → in_grammar version kind payload ≡ true }
         ensures { Gives (λ (b : Loaded). b) result
             (unless (grammar_fault version kind payload) (Ok (loaded version kind payload))) }
@@ -116,6 +119,7 @@ fn item_starts<A: Allocator>(
     is_tested: bool,
 ) -> Result<Vec<u32, A>, Error>
     requires short { length payload.now < 2 ^ 32 }
+    requires room { has_room version kind payload.now ≡ true }
     requires tested { IsTrue is_tested → in_grammar version kind payload.now ≡ true }
     ensures found { IfOk result (λ starts. IsBlock version kind payload.now starts.items) }
     ensures refused { Faults result (grammar_fault version kind payload.now) }
@@ -123,8 +127,19 @@ fn item_starts<A: Allocator>(
     match kind {
         BlockType::Data | BlockType::Meta => entry_starts(alloc, version, payload, is_tested),
         BlockType::Index => handle_starts(alloc, version, payload, is_tested),
-        BlockType::Filter if is_filter(payload) => Ok(Vec::new(alloc)),
-        BlockType::Filter => Err(Error::InvalidBlock),
+        BlockType::Filter => Ok(Vec::new(alloc)),
+    }
+}
+
+/// Whether a payload has room for what it counts; whether it is that of a filter, where it is to be
+/// one. What is tested here is known before memory is taken.
+pub(crate) fn has_room(version: TableVersion, kind: BlockType, payload: &[u8]) -> bool
+    ensures { result ≡ has_room version kind payload.now }
+{
+    match kind {
+        BlockType::Data | BlockType::Meta => has_entry_room(version, payload),
+        BlockType::Index => has_handle_room(version, payload),
+        BlockType::Filter => is_filter(payload),
     }
 }
 

@@ -6,7 +6,9 @@ ghost use Rattle.std.specs.Option.{option_map};
 ghost use Rattle.sst_blocks.specs.Words.{AreSpellable, CanDeal, Deals, EndsAtError, EntriesAt};
 ghost use Rattle.sst_blocks.specs.Words.{Entry, Faults, FaultsFirst, HoldsEntries, IsStrict};
 ghost use Rattle.sst_blocks.specs.Words.{answer_stops, data_block_bound_of, entries_fault};
-ghost use Rattle.sst_blocks.specs.Words.{entries_in, entries_of, entry_of_ref, front_length, header_len, is_memory};
+ghost use Rattle.sst_blocks.specs.Words.{entries_in, entries_of, entry_of_ref, front_length};
+ghost use Rattle.sst_blocks.specs.Words.{has_room_for, header_len, is_memory};
+ghost use Rattle.sst_sections.specs.Version.{key_width};
 ghost use Rattle.sst_blocks.specs.Words.{key_and_number, key_lt, ok_results, payload, point, whole_span};
 ghost use Rattle.sst_entries.specs.declared.error.Error.{Error};
 ghost use Rattle.sst_entries.specs.declared.error.Error.TheVariants.{OutOfMemory, InvalidBlock};
@@ -17,7 +19,7 @@ mod entry_ref;
 mod iter;
 
 use crate::block::{EMPTY_LEN, Header};
-use crate::starts::Starts;
+use crate::starts::{Starts, has_room_for};
 use crate::{Block, Error, InternalValue, SeqNo, Slice, TableVersion};
 use encode::{block_len, put_items, with_entry};
 use entry_ref::{EntryRef, head_len, read_entry, read_key};
@@ -64,8 +66,16 @@ impl<A: Allocator> Clone for DataBlock<A> {
     }
 }
 
-/// Where the entries of a payload begin. Refused [`Error::InvalidBlock`] where the payload does not spell a strict list of
-/// entries, and [`Error::OutOfMemory`]. Where it was tested before that it does, no keys are compared.
+/// Whether a payload has room for as many entries as it counts.
+pub(crate) fn has_entry_room(version: TableVersion, payload: &[u8]) -> bool
+    ensures { result ≡ has_room_for (13 + key_width version) payload.now }
+{
+    has_room_for(payload, head_len(version))
+}
+
+/// Where the entries of a payload begin, which has room for as many as it counts. Refused
+/// [`Error::InvalidBlock`] where the payload does not spell a strict list of entries, and
+/// [`Error::OutOfMemory`]. Where it was tested before that it does, no keys are compared.
 pub(crate) fn entry_starts<A: Allocator>(
     alloc: A,
     version: TableVersion,
@@ -73,18 +83,14 @@ pub(crate) fn entry_starts<A: Allocator>(
     is_tested: bool,
 ) -> Result<Vec<u32, A>, Error>
     requires short { length payload.now < 2 ^ 32 }
+    requires room { has_room_for (13 + key_width version) payload.now ≡ true }
     requires tested { IsTrue is_tested → is_some (entries_in version payload.now) ≡ true }
     ensures found { IfOk result (λ starts. EntriesAt version payload.now starts.items) }
     ensures fault { IfErr result (λ e. is_memory e ≡ false →
         (e ≡ InvalidBlock) × (entries_in version payload.now ≡ None)) }
 {
-    if payload.len() < 4 {
-        return Err(Error::InvalidBlock);
-    }
     let count = u32_at(payload);
-    // A count that the payload has no room for takes no more memory than one that it has.
-    let room = payload.len() / head_len(version);
-    let mut starts = Vec::with_capacity(alloc, room.min(count as usize))?;
+    let mut starts = Vec::with_capacity(alloc, count as usize)?;
     let mut rest = &payload[4..];
     let mut last: Option<EntryRef<'_>> = None;
     for _ in 0..count {

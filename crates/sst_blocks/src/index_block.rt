@@ -21,7 +21,7 @@ use crate::starts::Starts;
 use crate::{Block, BlockHandle, BlockOffset, Error, KeyedBlockHandle, SeqNo, Slice, TableVersion};
 use encode::{block_len, put_handles, with_handle};
 pub use iter::Iter;
-pub(crate) use read::handle_starts;
+pub(crate) use read::{handle_starts, has_handle_room};
 use read::{HandleRef, head_len, read_end_key, read_handle};
 use sst_entries::compare_versions;
 use std::alloc::{AllocError, Allocator, Global};

@@ -1,18 +1,20 @@
 //! The only way to the blocks of a table's bytes.
 ghost use Rattle.std.specs.Prelude.{◌≡◌, ◌↔◌, ◌+◌, ◌<◌, ◌≤◌, ◌^◌, List, ℕ, length, map, slice_range};
 ghost use Rattle.std.specs.Prelude.{IfOk, IfSome, IsTrue, MatchOption, None, true};
-ghost use Rattle.sst_blocks.specs.Block.{Loaded, checked_payload, checksum_fault, header_len, in_grammar};
+ghost use Rattle.sst_blocks.specs.Block.{Loaded, checked_payload, checksum_fault, has_room};
+ghost use Rattle.sst_blocks.specs.Block.{header_len, in_grammar, room_fault, version_in};
 ghost use Rattle.sst_blocks.specs.Block.{load_told, load_at_told, place_fault, position_fault};
 ghost use Rattle.sst_blocks.specs.Marks.{IsHeaded, IsSaid};
 ghost use Rattle.sst_sections.specs.Fnv.{fnv1a};
 ghost use Rattle.std.specs.Arc.{arc_value};
 ghost use Rattle.sst_entries.specs.Error.{Gives, Refuses, FaultsFirst};
+ghost use Rattle.std.specs.Option.{option_or};
 ghost use Rattle.sst_blocks.specs.Opened.{with_load, none_opened};
 ghost use Rattle.sst_sections.specs.Sections.{body_of, section_in, section_names, trailer_fault};
 ghost use Rattle.sst_blocks.specs.declared.opened.Opened.{Opened};
 ghost use Rattle.sst_blocks.specs.declared.block_type.BlockType.TheVariants.{Data};
 
-use crate::block::Header;
+use crate::block::{Header, has_room};
 use crate::marks::{Marks, SPAN};
 use crate::{
     Block, BlockHandle, BlockType, Error, Opened, Slice, TableVersion, Toc, hash, hash_four,
@@ -138,8 +140,10 @@ impl<A: Allocator + Clone> BlockSource<A> {
     /// The block of a kind that a handle names. Refused with the first fault, in this order: [`Error::Truncated`] where the
     /// handle's size is below a header's or passes the body, [`Error::InvalidHeader`] for the mark or the zero bytes,
     /// [`Error::InvalidTag`], [`Error::UnsupportedCompression`], [`Error::InvalidHeader`] for lengths that do not agree,
-    /// [`Error::ChecksumMismatch`], [`Error::InvalidBlock`]; and [`Error::OutOfMemory`], which stands in the place of
-    /// [`Error::InvalidBlock`] alone. Each call counts, also where it refuses.
+    /// [`Error::ChecksumMismatch`], [`Error::InvalidBlock`]; and [`Error::OutOfMemory`]. That stands
+    /// in the place of no fault but an [`Error::InvalidBlock`] that takes memory to find: of a block
+    /// of entries or handles that has room for as many as it counts. Each call counts, also where it
+    /// refuses.
     pub fn load(
         &self,
         handle: &BlockHandle,
@@ -149,7 +153,7 @@ impl<A: Allocator + Clone> BlockSource<A> {
         ensures told { let body = body_of self.now in
             Gives (λ (b : Loaded). b) result
             (load_told body handle.now.offset handle.now.size kind) }
-        // What is found up to the checksum takes no memory.
+        // What is found up to the checksum, and by the payload's count, takes no memory.
         ensures first { let body = body_of self.now in
             FaultsFirst result (place_fault body handle.now.offset handle.now.size kind) }
         ensures counted { opened.new ≡ with_load kind opened.old }
@@ -234,7 +238,8 @@ impl<A: Allocator + Clone> BlockSource<A> {
             Gives (λ (b : Loaded). b) result
             (checked_payload header.version header.checksum kind payload) }
         ensures first { let payload = slice_range (body_of self.now) start end in
-            FaultsFirst result (checksum_fault header.checksum payload) }
+            FaultsFirst result (option_or (checksum_fault header.checksum payload)
+            (room_fault header.version kind payload)) }
     {
         if self.was_tested(&header, kind, start, end) {
             return self.open(&header, kind, start, end, true);
@@ -242,12 +247,15 @@ impl<A: Allocator + Clone> BlockSource<A> {
         if !self.has_sum(header.checksum, start, end) {
             return Err(Error::ChecksumMismatch);
         }
+        if !has_room(header.version, kind, &self.body()[start..end]) {
+            return Err(Error::InvalidBlock);
+        }
         let block = self.open(&header, kind, start, end, false)?;
         self.remember_test(&header, kind, start, end);
         Ok(block)
     }
 
-    /// The block of the payload there, whose checksum is right.
+    /// The block of the payload there, which has the right checksum and room for what it counts.
     fn open(
         &self,
         header: &Header,
@@ -260,6 +268,8 @@ impl<A: Allocator + Clone> BlockSource<A> {
         requires within { end ≤ length (body_of self.now) }
         requires short { end < start + 2 ^ 32 }
         requires sum { fnv1a (slice_range (body_of self.now) start end) ≡ header.now.checksum }
+        requires room { let payload = slice_range (body_of self.now) start end in
+            has_room header.now.version kind payload ≡ true }
         requires tested { let payload = slice_range (body_of self.now) start end in
             IsTrue is_tested → in_grammar header.now.version kind payload ≡ true }
         ensures told { let payload = slice_range (body_of self.now) start end in
@@ -414,8 +424,10 @@ impl<A: Allocator + Clone> BlockSource<A> {
         ensures said { IfSome result (λ said. IsSaid self.now said.start said.end said.checksum) }
         ensures tested { IfSome result (λ said.
             let payload = slice_range (body_of self.now) said.start said.end in
+            let head = slice_range (body_of self.now) position (position + header_len) in
             position_fault (body_of self.now) position Data
-            ≡ checksum_fault said.checksum payload) }
+            ≡ option_or (checksum_fault said.checksum payload)
+            (room_fault (version_in head) Data payload)) }
     {
         let body = self.body();
         if body.len() < HEADER_LEN || ((body.len() - HEADER_LEN) as u64) < position {
@@ -504,8 +516,9 @@ pub trait LoadBlocks {
     /// How many blocks of each kind were loaded.
     ghost opened: { Self → Opened };
 
-    /// The block of a kind that a handle names, or the first fault, as [`BlockSource::load`] answers it over the bytes that
-    /// the source stands for.
+    /// The block of a kind that a handle names, or the first fault, as [`BlockSource::load`] answers
+    /// it over the bytes that the source stands for; want of memory stands in the place of the same
+    /// faults alone.
     fn load(&mut self, handle: &BlockHandle, kind: BlockType) -> Result<Block<Self::Alloc>, Error>
         ensures told { let bytes = body self.old in
             Gives (λ (b : Loaded). b) result

@@ -1,12 +1,28 @@
-//! Where the entries or the handles of a payload begin.
+//! Where the entries or the handles of a payload begin, and whether it has room for their count.
 ghost use Rattle.std.specs.Prelude.{◌≡◌, ◌<◌, ◌^◌, Some, length, IfOk, IfErr};
+ghost use Rattle.sst_blocks.specs.Block.{has_room_for};
 ghost use Rattle.std.specs.List.{slice_get};
 ghost use Rattle.sst_entries.specs.declared.error.Error.TheVariants.{OutOfMemory};
 
 use crate::Error;
+use sst_sections::number::u32_at;
 use std::alloc::{AllocError, Allocator, Global};
 use std::marker::Model;
 use std::sync::ArcSlice;
+
+/// Whether a payload has a count, and behind it room for as many items of `least` bytes each.
+#[inline]
+#[tactic(auto, unfolding(crate::specs::Block::has_room_for))]
+pub(crate) fn has_room_for(payload: &[u8], least: usize) -> bool
+    requires { least < 2 ^ 31 }
+    ensures { result ≡ has_room_for least payload.now }
+{
+    if payload.len() < 4 {
+        return false;
+    }
+    let count = u32_at(payload) as usize;
+    least * count <= payload.len() - 4
+}
 
 /// The places in a payload where its entries or handles begin, which all clones of a block share. A contract sees the list.
 #[derive(Drop)]

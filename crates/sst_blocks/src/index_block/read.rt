@@ -2,6 +2,7 @@
 ghost use Rattle.std.specs.Prelude.{◌≡◌, ◌+◌, ◌<◌, ◌^◌, Some, None, true, false, is_some, length, IsTrue, IfOk, IfErr};
 ghost use Rattle.std.specs.Option.{option_map};
 ghost use Rattle.sst_entries.specs.Error.{is_memory};
+ghost use Rattle.sst_blocks.specs.Block.{has_room_for};
 ghost use Rattle.sst_blocks.specs.Handles.{handle_at, handles_in, end_of};
 ghost use Rattle.sst_blocks.specs.Reading.{key_and_number};
 ghost use Rattle.sst_blocks.specs.SeenHandle.{handle_of_ref};
@@ -10,6 +11,7 @@ ghost use Rattle.sst_entries.specs.Strict.{may_follow};
 ghost use Rattle.sst_sections.specs.Version.{key_width};
 ghost use Rattle.sst_entries.specs.declared.error.Error.TheVariants.{InvalidBlock};
 
+use crate::starts::has_room_for;
 use crate::{Error, SeqNo, TableVersion};
 use sst_entries::compare_versions;
 use sst_sections::number::{key_len_at, key_width, u32_at, u64_at};
@@ -88,8 +90,16 @@ impl HandleRef<'_> {
     }
 }
 
-/// Where the handles of a payload begin. Refused [`Error::InvalidBlock`] where the payload does not spell a strict list of
-/// handles, and [`Error::OutOfMemory`]. Where it was tested before that it does, no keys are compared.
+/// Whether a payload has room for as many handles as it counts.
+pub(crate) fn has_handle_room(version: TableVersion, payload: &[u8]) -> bool
+    ensures { result ≡ has_room_for (20 + key_width version) payload.now }
+{
+    has_room_for(payload, head_len(version))
+}
+
+/// Where the handles of a payload begin, which has room for as many as it counts. Refused
+/// [`Error::InvalidBlock`] where the payload does not spell a strict list of handles, and
+/// [`Error::OutOfMemory`]. Where it was tested before that it does, no keys are compared.
 pub(crate) fn handle_starts<A: Allocator>(
     alloc: A,
     version: TableVersion,
@@ -97,19 +107,15 @@ pub(crate) fn handle_starts<A: Allocator>(
     is_tested: bool,
 ) -> Result<Vec<u32, A>, Error>
     requires short { length payload.now < 2 ^ 32 }
+    requires room { has_room_for (20 + key_width version) payload.now ≡ true }
     requires tested { IsTrue is_tested → is_some (handles_in version payload.now) ≡ true }
     ensures found { IfOk result (λ starts. HandlesAt version payload.now starts.items) }
     ensures fault { IfErr result (λ e. is_memory e ≡ false →
         (e ≡ InvalidBlock) × (handles_in version payload.now ≡ None)) }
 {
-    if payload.len() < 4 {
-        return Err(Error::InvalidBlock);
-    }
     let count = u32_at(payload);
+    let mut starts = Vec::with_capacity(alloc, count as usize)?;
     let mut rest = &payload[4..];
-    // No more than the payload has room for, whatever count it claims.
-    let most = rest.len() / head_len(version);
-    let mut starts = Vec::with_capacity(alloc, most.min(count as usize))?;
     let mut last: Option<HandleRef<'_>> = None;
     for _ in 0..count {
         let start = (payload.len() - rest.len()) as u32;

@@ -1,24 +1,31 @@
-use Rattle.std.proofs.Common.{◌≡◌, ◌≤◌, ◌<◌, length, refl, sym, ap, rules, arith, true, false, Some, None, ◌∙◌}
+use Rattle.std.proofs.Common.{◌≡◌, ◌+◌, ◌≤◌, ◌<◌, length, refl, sym, ap, rules, arith, true, false, Some, None, ◌∙◌}
 use Rattle.std.specs.Prelude.{is_some}
 use Rattle.std.specs.Option.{option_map}
 use Rattle.std.proofs.lemmas.List.{take_rest}
 use Rattle.sst_sections.specs.Number.{num4}
+use Rattle.sst_sections.specs.Version.{key_width}
 use Rattle.sst_blocks.specs.Payload.{IsSpellable}
 use Rattle.sst_blocks.specs.Reading.{entries_in, entry_at}
 use Rattle.sst_blocks.specs.Seen.{entry_of_ref}
 use Rattle.sst_entries.specs.Strict.{may_follow}
 use Rattle.sst_blocks.proofs.Entries.{entry_format, entries_format, entries_in_same}
-use Rattle.sst_blocks.proofs.Items.{walk_begins, walk_on, walk_ends, walk_short, walk_missing, walk_tested, walk_unordered, walk_over}
+use Rattle.sst_blocks.proofs.Items.{walk_begins, walk_on, walk_ends, walk_missing, walk_tested, walk_unordered, walk_over}
+use Rattle.sst_blocks.proofs.Room.{room_long}
 use Rattle.sst_blocks.proofs.data_block.entry_starts.Goals as goal
 use Rattle.sst_blocks.proofs.data_block.entry_starts.Goals.{else-not-is_tested-via-then-not-is_tested+else-not-may_follow, else-not-is_tested-via-else-not-is_tested}
 
-pub returns-then-payload-lt4-clause-fault : goal.returns-then-payload-lt4-clause-fault
-returns-then-payload-lt4-clause-fault g c _ =
-    (refl, entries_in_same c.args.version c.args.payload.now ∙ walk_short (entry_format c.args.version) c.args.payload.now c.if-payload-lt4.true)
+pub u32_at-count-requires : goal.u32_at-count-requires
+u32_at-count-requires g c = omega (arith, room_long (13 + key_width c.args.version) c.args.payload.now c.requires.room)
+
+pub slice_bounds-rest-count : goal.slice_bounds-rest-count
+slice_bounds-rest-count g c = omega (arith, room_long (13 + key_width c.args.version) c.args.payload.now c.requires.room)
+
+pub slice_bounds-rest-start : goal.slice_bounds-rest-start
+slice_bounds-rest-start g c = omega (arith, room_long (13 + key_width c.args.version) c.args.payload.now c.requires.room)
 
 pub loop-init : goal.loop-init
 loop-init g c =
-    let long : 4 ≤ length c.args.payload.now = omega arith in
+    let long = room_long (13 + key_width c.args.version) c.args.payload.now c.requires.room in
     rw (c.in_ok-starts.ensures.items, take_rest c.args.payload.now 4) (walk_begins (entry_format c.args.version) c.args.payload.now long (λ i. omega (arith, c.type_inv.payload i)))
 
 pub overflow_sub-start : goal.overflow_sub-start

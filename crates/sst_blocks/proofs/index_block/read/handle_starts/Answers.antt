@@ -1,22 +1,30 @@
-use Rattle.std.proofs.Common.{◌≡◌, ◌≤◌, ◌<◌, length, refl, sym, ap, rules, arith, true, false, Some, None, ◌∙◌}
+use Rattle.std.proofs.Common.{◌≡◌, ◌+◌, ◌≤◌, ◌<◌, length, refl, sym, ap, rules, arith, true, false, Some, None, ◌∙◌}
 use Rattle.std.specs.Prelude.{is_some}
 use Rattle.std.specs.Option.{option_map}
 use Rattle.std.proofs.lemmas.List.{take_rest}
+use Rattle.sst_sections.specs.Version.{key_width}
 use Rattle.sst_blocks.specs.Handles.{handle_at, handles_in, end_of}
 use Rattle.sst_blocks.specs.SeenHandle.{handle_of_ref}
 use Rattle.sst_entries.specs.Strict.{may_follow}
 use Rattle.sst_blocks.proofs.HandleLaws.{handle_format, handles_format, handles_in_same}
-use Rattle.sst_blocks.proofs.Items.{walk_begins, walk_on, walk_short, walk_missing, walk_tested, walk_unordered, walk_over, walk_ends}
+use Rattle.sst_blocks.proofs.Items.{walk_begins, walk_on, walk_missing, walk_tested, walk_unordered, walk_over, walk_ends}
 use Rattle.sst_sections.proofs.Numbers.{IsBytes}
+use Rattle.sst_blocks.proofs.Room.{room_long}
 use Rattle.sst_blocks.proofs.index_block.read.handle_starts.Goals as goal
 use Rattle.sst_blocks.proofs.index_block.read.handle_starts.Goals.{else-not-is_tested-via-then-not-is_tested+else-not-may_follow, else-not-is_tested-via-else-not-is_tested}
 
-pub returns-then-payload-lt4-clause-fault : goal.returns-then-payload-lt4-clause-fault
-returns-then-payload-lt4-clause-fault g c memory = (refl, handles_in_same _ _ ∙ walk_short (handle_format c.args.version) _ c.if-payload-lt4.true)
+pub u32_at-count-requires : goal.u32_at-count-requires
+u32_at-count-requires g c = omega (arith, room_long (20 + key_width c.args.version) c.args.payload.now c.requires.room)
+
+pub slice_bounds-rest-count : goal.slice_bounds-rest-count
+slice_bounds-rest-count g c = omega (arith, room_long (20 + key_width c.args.version) c.args.payload.now c.requires.room)
+
+pub slice_bounds-rest-start : goal.slice_bounds-rest-start
+slice_bounds-rest-start g c = omega (arith, room_long (20 + key_width c.args.version) c.args.payload.now c.requires.room)
 
 pub loop-init : goal.loop-init
 loop-init g c =
-    let long : 4 ≤ length c.args.payload.now = omega arith in
+    let long = room_long (20 + key_width c.args.version) c.args.payload.now c.requires.room in
     let fits : IsBytes c.args.payload.now = λ i. omega (arith, c.type_inv.payload i) in
     rw (c.in_ok-starts.ensures.items, take_rest c.args.payload.now 4) (walk_begins (handle_format c.args.version) c.args.payload.now long fits)
 

@@ -2,9 +2,10 @@ use Rattle.std.proofs.Common.{◌≡◌, ◌+◌, slice_range, sym, subst, ◌�
 use Rattle.std.specs.Prelude.{Result}
 use Rattle.std.proofs.lemmas.Result.{err_from_is_err_and}
 use Rattle.std.specs.Prelude.{Option, Some}
+use Rattle.std.specs.Option.{option_or}
 use Rattle.sst_entries.specs.declared.error.Error.{Error}
 use Rattle.sst_entries.specs.declared.error.Error.TheVariants.{Truncated, InvalidHeader}
-use Rattle.sst_blocks.specs.Block.{Loaded, load_told, place_fault, checked_payload, checksum_fault}
+use Rattle.sst_blocks.specs.Block.{Loaded, load_told, place_fault, checked_payload, checksum_fault, room_fault}
 use Rattle.sst_entries.specs.Error.{FaultsFirst, Gives}
 use Rattle.sst_sections.specs.Sections.{body_of}
 use Rattle.sst_blocks.proofs.LoadLemmas.{load_truncated, load_fault, load_lengths, load_checked, place_truncated, place_header, place_lengths, place_checked}
@@ -71,5 +72,7 @@ returns-then-header-clause-first g c =
 pub returns-clause-first : goal.returns-clause-first
 returns-clause-first g c =
     let told = place_checked c.body-body.result.now c.offset-start.result.0 c.size-size.result c.args.kind (omega arith) (omega arith) c.in_ok-header.ensures.fault (omega (arith, c.in_ok-header.ensures.data_len, c.in_ok-header.ensures.uncompressed_len)) (omega (arith, c.in_ok-header.ensures.data_len, c.in_ok-header.ensures.uncompressed_len)) in
-    let whole : place_fault (body_of c.args.self.now) c.args.handle.now.offset c.args.handle.now.size c.args.kind ≡ checksum_fault c.in_ok-header.header.checksum (slice_range (body_of c.args.self.now) (c.offset-start.result.0 + 24) (c.offset-start.result.0 + c.size-size.result)) = cc (c.body-body.ensures.body, c.offset-start.ensures, c.size-size.ensures, c.in_ok-header.ensures.checksum) in
+    let payload = slice_range (body_of c.args.self.now) (c.offset-start.result.0 + 24) (c.offset-start.result.0 + c.size-size.result) in
+    let next = option_or (checksum_fault c.in_ok-header.header.checksum payload) (room_fault c.in_ok-header.header.version c.args.kind payload) in
+    let whole : place_fault (body_of c.args.self.now) c.args.handle.now.offset c.args.handle.now.size c.args.kind ≡ next = cc (c.body-body.ensures.body, c.offset-start.ensures, c.size-size.ensures, c.in_ok-header.ensures.version, c.in_ok-header.ensures.checksum) in
     subst (λ (fault : Option Error). FaultsFirst c.block.result fault) (sym whole) c.block.ensures.first

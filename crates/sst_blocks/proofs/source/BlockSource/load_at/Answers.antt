@@ -2,9 +2,10 @@ use Rattle.std.proofs.Common.{◌≡◌, ◌+◌, ◌^◌, slice_range, sym, sub
 use Rattle.std.specs.Prelude.{Result}
 use Rattle.std.proofs.lemmas.Result.{err_from_is_err_and}
 use Rattle.std.specs.Prelude.{Option, Some}
+use Rattle.std.specs.Option.{option_or}
 use Rattle.sst_entries.specs.declared.error.Error.{Error}
 use Rattle.sst_entries.specs.declared.error.Error.TheVariants.{Truncated, InvalidHeader}
-use Rattle.sst_blocks.specs.Block.{Loaded, load_at_told, position_fault, checked_payload, checksum_fault}
+use Rattle.sst_blocks.specs.Block.{Loaded, load_at_told, position_fault, checked_payload, checksum_fault, room_fault}
 use Rattle.sst_entries.specs.Error.{FaultsFirst, Gives}
 use Rattle.sst_sections.specs.Sections.{body_of}
 use Rattle.sst_blocks.proofs.LoadLemmas.{load_at_truncated, load_at_fault, load_at_lengths, load_at_passes, load_at_checked, loaded_within, range_short, position_truncated, position_header, position_lengths, position_passes, position_checked}
@@ -81,5 +82,7 @@ returns-then-body-start-clause-first g c =
 pub returns-clause-first : goal.returns-clause-first
 returns-clause-first g c =
     let told = position_checked c.body-body.result.now c.args.position c.args.kind (omega arith) c.in_ok-header.ensures.fault (omega (arith, c.in_ok-header.ensures.data_len, c.in_ok-header.ensures.uncompressed_len)) (omega (arith, c.in_ok-header.ensures.data_len)) in
-    let whole : position_fault (body_of c.args.self.now) c.args.position c.args.kind ≡ checksum_fault c.in_ok-header.header.checksum (slice_range (body_of c.args.self.now) (c.args.position + 24) (c.args.position + 24 + c.in_ok-header.header.data_len)) = cc (c.body-body.ensures.body, c.in_ok-header.ensures.checksum, c.in_ok-header.ensures.data_len) in
+    let payload = slice_range (body_of c.args.self.now) (c.args.position + 24) (c.args.position + 24 + c.in_ok-header.header.data_len) in
+    let next = option_or (checksum_fault c.in_ok-header.header.checksum payload) (room_fault c.in_ok-header.header.version c.args.kind payload) in
+    let whole : position_fault (body_of c.args.self.now) c.args.position c.args.kind ≡ next = cc (c.body-body.ensures.body, c.in_ok-header.ensures.version, c.in_ok-header.ensures.checksum, c.in_ok-header.ensures.data_len) in
     subst (λ (fault : Option Error). FaultsFirst c.block.result fault) (sym whole) c.block.ensures.first

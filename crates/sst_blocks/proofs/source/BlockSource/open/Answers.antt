@@ -1,12 +1,20 @@
 use Rattle.std.proofs.Common.{◌≡◌, ℕ, List, true, slice_range, sym, ap, subst, ◌∙◌}
 use Rattle.std.specs.Prelude.{Result, Ok}
-use Rattle.sst_blocks.specs.Block.{Loaded, in_grammar, loaded, grammar_fault}
+use Rattle.sst_blocks.specs.Block.{Loaded, has_room, in_grammar, loaded, grammar_fault}
 use Rattle.sst_entries.specs.declared.error.Error.{Error}
 use Rattle.sst_entries.specs.Error.{Gives, unless}
 use Rattle.sst_sections.specs.Sections.{body_of}
 use Rattle.sst_blocks.proofs.LoadLemmas.{checksum_right}
 use Rattle.sst_blocks.proofs.MarkLemmas.{body_part}
 use Rattle.sst_blocks.proofs.source.BlockSource.open.Goals as goal
+
+pub open-requires-clause-room : goal.open-requires-clause-room
+open-requires-clause-room g c =
+    let bytes : List ℕ = c.args.self.now in
+    let part = body_part bytes c.args.start c.args.end c.requires.within in
+    let cut : c.in_ok-payload.payload ≡ slice_range bytes c.args.start c.args.end =
+    ◌∙◌ {b = slice_range c.self.inside.bytes c.args.start c.args.end} c.in_ok-payload.ensures.ok (ap (λ (xs : List ℕ). slice_range xs c.args.start c.args.end) c.self.view_is) in
+    subst (λ (p : List ℕ). has_room c.args.header.now.version c.args.kind p ≡ true) (sym (cut ∙ sym part)) c.requires.room
 
 pub open-requires-clause-tested : goal.open-requires-clause-tested
 open-requires-clause-tested g c = λ tested.
