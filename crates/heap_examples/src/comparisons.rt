@@ -1,7 +1,8 @@
 //! How many comparisons a merge through a queue makes, counted where they are made.
 ghost use Rattle.std.specs.Prelude.{◌≡◌};
 ghost use Rattle.std.proofs.Common.{refl};
-ghost use Rattle.std.specs.Cmp.{partial_order_from_total, partial_equiv_from_equiv, eq_by_cmp_equiv, on_total, nat_cmp_total};
+ghost use Rattle.std.specs.Cmp.{partial_order_from_total, partial_equiv_from_equiv};
+ghost use Rattle.std.specs.Cmp.{eq_by_cmp_equiv, on_total, nat_cmp_total};
 ghost use Rattle.std.specs.Ordering.{as_partial_cmp, eq_by_cmp, nat_cmp, on};
 
 use lsm_heaps::LazyTournament;
@@ -47,7 +48,8 @@ impl<'a> PartialOrd for Counted<'a> {
 impl<'a> PartialEq for Counted<'a> {
     ghost eq = { eq_by_cmp (on (λ e. e.key) nat_cmp) };
 
-    ghost laws = { partial_equiv_from_equiv (eq_by_cmp_equiv (on_total (λ e. e.key) nat_cmp_total)) };
+    ghost laws = { partial_equiv_from_equiv
+        (eq_by_cmp_equiv (on_total (λ e. e.key) nat_cmp_total)) };
 
     fn eq(&self, other: &Counted<'a>) -> bool {
         self.cmp(other).is_eq()
@@ -159,7 +161,7 @@ fn take_all<'a>(
 {
     let mut ascended = 0u64;
     let mut least = 0;
-    for _ in 0..sources.entries() {
+    'entries: for _ in 0..sources.entries() {
         let key = take_next(queue, room, sources, made).unwrap_or(0);
         if key >= least {
             ascended = ascended.wrapping_add(1);
@@ -208,12 +210,14 @@ fn makes(alloc: Global, sources: &Sources, room: usize, an_entry: u64, compariso
     }
 }
 
-// Of n sources in twice as many slots, n - 1 matches are played at the first pop. From then on a push
-// plays the h above its slot, 3 for 8 sources and 6 for 64, as long as all sources have entries. A
-// source that ends leaves its matches to the others: above its slot one fewer is played, and fewer
-// and fewer as more of them end. Where they end in the order of their slots that makes 5 matches for
-// 8 sources, and 129 for 64. Where one source comes after another, a push plays only the matches
-// against the later ones: half of them for a source on the average.
+// Of n sources in twice as many slots, n - 1 matches are played at the first pop. From then on a
+// push plays the h above its slot, 3 for 8 sources and 6 for 64, as long as all sources have
+// entries. A source that ends leaves its matches to the others: above its slot one fewer is played,
+// and fewer and fewer as more of them end. Where they end in the order of their slots that makes 5
+// matches for 8 sources, and 129 for 64. Where one source comes after another, a push plays only the
+// matches against the later ones: half of them for a source on the average.
+//
+// In each row: the sources, the room of the queue, h, and the comparisons.
 const COMPARISONS: &[(Sources, usize, u64, u64)] = &[
     (
         Sources {

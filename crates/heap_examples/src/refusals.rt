@@ -51,14 +51,15 @@ fn the_request_that_it_is_told_to_is_refused_and_no_other(rt: HostRuntime) {
     assert!(rt; granted_of_six(rt.alloc(), 7) == (6, 6, true));
 }
 
-// Whether a list is made, and grows, where this request is refused; and how many requests that makes.
+// Whether a list is made, and grows, where this request is refused; and how many requests that
+// makes.
 fn grown(alloc: Global, nth: usize) -> ((bool, bool), usize) {
     let memory = Refusing::new(alloc, nth);
     (grows(&memory), memory.requests())
 }
 
-// Whether each of the requests that `asked` makes is refused in turn, where it answers `wanted` with
-// none refused.
+// How many requests a list makes while it grows, each of which is refused in turn, where what is
+// answered counts as right or not without a refusal, and with one.
 fn refusals(alloc: Global, unrefused: bool, refused: bool) -> Result<usize, usize> {
     each_refused(alloc, |memory, may_fail| {
         grows(memory) == (true, true) && unrefused || may_fail && refused

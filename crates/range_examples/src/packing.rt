@@ -95,7 +95,7 @@ fn faults_of_both<A: Allocator + Copy>(
 ) -> u32 {
     let chained = fault_of(are_chained(alloc, &runs, packing.2));
     let packed = fault_of(are_packed(alloc, runs, packing.1));
-    chained + packed
+    chained.saturating_add(packed)
 }
 
 // The same of runs that are made.
@@ -106,8 +106,8 @@ fn faults<A: Allocator + Copy>(alloc: A, packing: &Packing) -> u32 {
     }
 }
 
-// How many requests for memory the chain and the packing make, with their runs; where each of them is refused in turn, no
-// more than that refusal is not as it should be.
+// How many requests for memory the chain and the packing make, with their runs; where each of them
+// is refused in turn, no more than that refusal is not as it should be.
 fn packs_always(alloc: Global, packing: &Packing) -> Result<usize, usize> {
     each_refused(alloc, |heap, may_fail| {
         faults(heap, packing) <= u32::from(may_fail)
@@ -122,6 +122,8 @@ const FOUR_RUNS: &[&[(u64, &str, &str)]] = &[
     &[(3, "d", "f")],
     &[(4, "x", "z")],
 ];
+
+const THREE: Packing = (THREE_RUNS, &[&[2], &[1], &[0]], &[0, 1, 2]);
 
 const PACKINGS: &[Packing] = &[
     (&[], &[], &[]),
@@ -143,7 +145,7 @@ const PACKINGS: &[Packing] = &[
     ),
     (&[&[(0, "a", "c")], &[(1, "d", "f")]], &[&[0, 1]], &[0]),
     (&[&[(1, "d", "f")], &[(0, "a", "c")]], &[&[0, 1]], &[0]),
-    (THREE_RUNS, &[&[2], &[1], &[0]], &[0, 1, 2]),
+    THREE,
     (FOUR_RUNS, &[&[0, 1, 4], &[2], &[3]], &[0, 1, 2]),
     (&[&[(0, "a", "z"), (1, "c", "d")]], &[&[0, 1]], &[0]),
 ];
@@ -153,7 +155,7 @@ fn packed_runs_and_chains_with_each_request_for_memory_refused(rt: HostRuntime) 
     for packing in PACKINGS {
         assert!(rt; packs_always(rt.alloc(), packing).is_ok(), "{packing:?}");
     }
-    assert!(rt; packs_always(rt.alloc(), &PACKINGS[7]).is_ok_and(|requests| requests > 5));
+    assert!(rt; packs_always(rt.alloc(), &THREE).is_ok_and(|requests| requests > 5));
 }
 
 // A run of some tables, which may be none.

@@ -142,7 +142,8 @@ fn gives_the_entries_of_all_sources_in_order_up_to_an_error(rt: HostRuntime) {
     }
 }
 
-// How many requests for memory a merger and its sources make, each of which may be refused, while it answers so at the ends.
+// How many requests for memory a merger and its sources make, each of which may be refused, while
+// it answers so at the ends.
 fn merges_or_is_refused(
     alloc: Global,
     sources: &str,

@@ -70,7 +70,8 @@ fn answers_an_error_in_the_place_of_its_key(rt: HostRuntime) {
     }
 }
 
-// How many requests for memory a stream over some results makes, each of which may be refused, while it answers so at the ends.
+// How many requests for memory a stream over some results makes, each of which may be refused,
+// while it answers so at the ends.
 fn answers_or_is_refused(
     alloc: Global,
     results: &str,
@@ -206,7 +207,7 @@ const OF_SOURCES: &[(&str, &str, &str)] = &[
     ("aV1 cV1 !7 / bV1 dV1 /", "BFF", "!7 - -"),
     ("!7 aV1 bV1 / cV1 dV1 /", "BBBB", "dV1 cV1 !7 -"),
     ("aV3 aV1 ?1 / aV2 bV1 /", "FFF", "?1 - -"),
-    // One source alone: what the call that meets the error took, and what is in hand then, is given up.
+    // One source alone: what the call that meets the error took, and what is in hand, is given up.
     (
         "aV0 bV0 cV0 dV0 eT1 eV0 /",
         "FFFFFFF",
@@ -235,7 +236,8 @@ fn gives_the_newest_version_of_each_key_of_all_sources(rt: HostRuntime) {
     }
 }
 
-// How many requests for memory the newest versions of some sources make, each of which may be refused, while they are these.
+// How many requests for memory the newest versions of some sources make, each of which may be
+// refused, while they are these.
 fn are_newest_or_refused(
     alloc: Global,
     sources: &str,
