@@ -2,4 +2,8 @@
 #![tactic(auto)]
 
 #[cfg(test)]
+mod comparisons;
+#[cfg(test)]
 mod heaps;
+#[cfg(test)]
+mod refusals;

@@ -1,26 +1,22 @@
 -- The least and the greatest of merged lists.
 use Rattle.std.proofs.Common.{◌≡◌, refl, sym, ◌∙◌, ap, ℕ, zero, suc, ◌<◌, Bool, true, false, cond, List, [], ◌∷◌, ◌++◌, length, arith, rules, slice_index_or, slice_set}
 use Rattle.std.specs.List.{AllByRecursion}
-use Rattle.std.specs.Cmp.{IsTotalOrder}
-use Rattle.std.specs.Cmp.Lexicographic.{slice_cmp}
+use Rattle.std.specs.Cmp.{IsTotalOrder, on_total}
 use Rattle.std.specs.Cmp.Rules.{comparing}
-use Rattle.std.specs.Ordering.{nat_cmp, on, flip_args, then_cmp, is_gt, ordering_reverse}
+use Rattle.std.specs.Ordering.{is_gt, ordering_reverse}
 use Rattle.std.specs.declared.cmp.Ordering.{Ordering}
 use Rattle.std.specs.declared.cmp.Ordering.TheVariants.{Less, Equal, Greater}
 use Rattle.std.proofs.lemmas.Cmp.{upto}
 use Rattle.sst_entries.specs.Entry.{Entry}
-use Rattle.sst_entries.specs.Kind.{tag_of}
+use Rattle.sst_entries.specs.Key.{key_cmp}
 use Rattle.lsm_merge.specs.Ends.{R}
-use Rattle.lsm_merge.specs.Union.{item_cmp, AtMost, entries_among, all_entries, insert_sorted, sort_entries, union_of}
+use Rattle.lsm_merge.specs.Union.{key_of, item_cmp, AtMost, entries_among, all_entries, insert_sorted, sort_entries, union_of}
 
-abbrev by_parts : Entry → Entry → Ordering
-by_parts = then_cmp (on (λ (e : Entry). e.user_key) (slice_cmp nat_cmp)) (then_cmp (flip_args (on (λ (e : Entry). e.seqno) nat_cmp)) (on (λ (e : Entry). tag_of e.kind) nat_cmp))
-
-by_parts_total : IsTotalOrder by_parts
-by_parts_total = search (comparing, rules) depth 9
+key_total : IsTotalOrder (key_cmp {A = Unit {0}})
+key_total = search (comparing, rules) depth 9
 
 pub item_total : IsTotalOrder item_cmp
-item_total = by_parts_total
+item_total = on_total key_of key_total
 
 -- x is above y
 abbrev pub Above : Entry → Entry → Type 0

@@ -284,7 +284,7 @@ module _ {A : Type 0} (hs mid : List (HeapItem A)) (h : HeapItem A) (ks : List K
             let over : AtMost (entry_of h) y = (all_behind (AtMost (entry_of h)) (entries_among its.rest) (y ∷ []) (subst (AllByRecursion (AtMost (entry_of h))) parts asc.0)).0 in
             absurd (not_both (entry_of h) y over above)
 
-    greatest_last : whole its ≡ whole (cleared h.end its) ++ Ok (entry_of h) ∷ []
+    pub greatest_last : whole its ≡ whole (cleared h.end its) ++ Ok (entry_of h) ∷ []
     greatest_last = last_whole its h.end (entry_of h) told greatest_alone
 
     last_parts : entries_among (whole its) ≡ entries_among (whole (cleared h.end its)) ++ entry_of h ∷ []

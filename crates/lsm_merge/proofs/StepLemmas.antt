@@ -15,10 +15,12 @@ use Rattle.lsm_merge.specs.declared.merge.Merger.{Merger}
 use Rattle.lsm_merge.specs.Ends.{R, Left}
 use Rattle.lsm_merge.specs.Union.{entries_among, all_entries, all_errors, sort_entries, union_of}
 use Rattle.lsm_merge.specs.Merge.{turn_cmp, entry_of, is_ready}
+use Rattle.lsm_merge.specs.Asks.{Leads}
+use Rattle.lsm_merge.specs.MergeLaws.{join_at}
 use Rattle.lsm_merge.proofs.Kept.{Kept, one, whole, taken_at, kept_at, taken, Ready, HeapHolds, Stands, Merging, LeavesIf, Leaves, Took, opposite}
 use Rattle.lsm_merge.proofs.HeldLemmas.{held_none}
 use Rattle.lsm_merge.proofs.FillLemmas.{by_end, other_ready, other_end}
-use Rattle.lsm_merge.proofs.PopLemmas.{cleared, Sorted, without, without_gone, without_elsewhere, without_rest, without_heap, least_first, least_merged, least_errors, least_sorted, least_spent, least_free, greatest_merged, greatest_errors, greatest_sorted, greatest_spent, greatest_free}
+use Rattle.lsm_merge.proofs.PopLemmas.{cleared, Sorted, without, without_gone, without_elsewhere, without_rest, without_heap, least_first, least_merged, least_errors, least_sorted, least_spent, least_free, greatest_merged, greatest_errors, greatest_sorted, greatest_spent, greatest_free, greatest_last}
 
 same_or_not : (b c : Direction) → (b ≡ c) ⊎ (b ≡ c → ⊥)
 same_or_not Front Front = inl refl
@@ -181,12 +183,41 @@ module _ {S A : Type 0} (stops : Error → Bool) (front back : S → Option R �
       pub back_errors : all_errors (map whole others) ≡ errors
       back_errors = sym (was.faults ∙ greatest_errors s.heap.items m.heap.items h was.kept was.stands.sorted was.stands.heap pops greatest back_ready)
 
+      back_last : whole (kept_at was.kept h.source) ≡ whole (cleared h.end (kept_at was.kept h.source)) ++ Ok (entry_of h) ∷ []
+      back_last = greatest_last s.heap.items m.heap.items h was.kept was.stands.sorted was.stands.heap pops greatest back_ready
+
+      back_spent : h.end ≡ Front → (kept_at was.kept h.source).rest ≡ []
+      back_spent = greatest_spent s.heap.items m.heap.items h was.kept was.stands.sorted was.stands.heap pops greatest back_ready
+
       pub back_gives : (t : Merger S A) → Took stops front back Back h.source others t → t.back_ready ≡ true → t.front_ready ≡ s.front_ready → (Some (entry_of h) ≡ last xs) × Merging stops front back t (but_last xs) errors × (Some (entry_of h) ≡ None → errors ≡ [])
       back_gives t took ready other =
           let parts : xs ≡ union_of (map whole others) ++ entry_of h ∷ [] = was.entries ∙ greatest_merged s.heap.items m.heap.items h was.kept was.stands.sorted was.stands.heap pops greatest back_ready in
           let ends = last_push xs (union_of (map whole others)) (entry_of h) parts in
           let left = step_merging Back t back_ready (greatest_spent s.heap.items m.heap.items h was.kept was.stands.sorted was.stands.heap pops greatest back_ready) took ready other (sym back_errors) in
           (ends.0, subst (λ (ys : List Entry). Merging stops front back t ys errors) (sym ends.1) left, λ no. absurd cc)
+
+    -- at an end that is told
+
+    pub end_ready : (end : Direction) → Leads end h s.heap.items → is_ready end s ≡ true → Ready true end was.kept
+    end_ready Front = front_ready
+    end_ready Back = back_ready
+
+    pub end_stands : (end : Direction) → Leads end h s.heap.items → is_ready end s ≡ true → Stands stops front back m others
+    end_stands Front = front_stands
+    end_stands Back = back_stands
+
+    pub end_free : (end : Direction) → Leads end h s.heap.items → is_ready end s ≡ true → taken others h.source end ≡ None
+    end_free Front = front_free
+    end_free Back = back_free
+
+    pub end_spent : (end : Direction) → Leads end h s.heap.items → is_ready end s ≡ true → h.end ≡ opposite end → (kept_at was.kept h.source).rest ≡ []
+    end_spent Front = front_spent
+    end_spent Back = back_spent
+
+    pub end_joined : (end : Direction) → Leads end h s.heap.items → is_ready end s ≡ true
+        → whole (kept_at was.kept h.source) ≡ join_at end (Ok (entry_of h) ∷ []) (whole (cleared h.end (kept_at was.kept h.source)))
+    end_joined Front = front_first
+    end_joined Back = back_last
 
 module _ {S A : Type 0} (stops : Error → Bool) (front back : S → Option R → S → Type 0) (m : Merger S A) (fine : m.failed ≡ false) where
   pub leaves_merging : (xs : List Entry) (errors : List Error) → Leaves stops front back m xs errors → Merging stops front back m xs errors

@@ -217,6 +217,10 @@ module _ {S A : Type 0} (stops : Error → Bool) (front back : S → Option R �
     pub back_err : (e : Error) → DealsLast stops (Left stops front back) was (Some (Err e)) is → stops e ≡ false → Contains (all_errors (map whole ks)) e
     back_err e deals fine = among e (last_contained (kept_at ks i).rest (Err e) (deals (kept_at ks i).rest left fine).0)
 
+    -- an error is the last of what its source still deals
+    pub back_err_last : (e : Error) → DealsLast stops (Left stops front back) was (Some (Err e)) is → stops e ≡ false → Some (Err e) ≡ last (kept_at ks i).rest
+    back_err_last e deals fine = (deals (kept_at ks i).rest left fine).0
+
 -- ---- room
 
 -- an item of a source that is counted less now moves into the heap

@@ -2,9 +2,10 @@
 use Rattle.std.specs.Prelude.{◌≡◌, ℕ, ◌<◌, ◌≤◌, Bool, true, List, [], ◌∷◌, ◌++◌, length, All, count_by, slice_index_or, Option, Some, None, Ok, Err}
 use Rattle.std.specs.List.{AllZip, AllByRecursion}
 use Rattle.std.specs.Iterator.{Count, IsFinite}
-use Rattle.sst_entries.specs.Stream.{Deals, CanDeal, answer_stops, ok_results, but_last, Runs, NoneStops, nowhere}
+use Rattle.sst_entries.specs.Stream.{Deals, CanDeal, answer_stops, ok_results, but_first, but_last, Runs, NoneStops, nowhere}
 use Rattle.sst_entries.specs.Entry.{Entry}
 use Rattle.sst_entries.specs.declared.stream.Direction.{Direction}
+use Rattle.sst_entries.specs.declared.stream.Direction.TheVariants.{Front, Back}
 use Rattle.sst_entries.specs.declared.error.Error.{Error}
 use Rattle.lsm_merge.specs.Ends.{R}
 use Rattle.lsm_merge.specs.Union.{Ascends, entries_among, all_errors, union_of}
@@ -14,21 +15,36 @@ use Rattle.lsm_merge.specs.Merge.{DealsUntil}
 pub record IsWithinBag {A : Type 0} (xs ys : List A) : Type 0 where
   pub count : (p : A → Bool) → count_by p xs ≤ count_by p ys
 
--- in the list of some source the error stands behind entries that were given, all but the last of them
-pub record ComesLate (lists : List (List R)) (given : List Entry) (e : Error) : Type 0 where
+-- two parts of a list, the first of them the nearer to this end
+abbrev pub join_at : {A : Type 0} → Direction → List A → List A → List A
+join_at Front near far = near ++ far
+join_at Back near far = far ++ near
+
+-- all but the one that is farthest from this end
+abbrev pub but_farthest : {A : Type 0} → Direction → List A → List A
+but_farthest Front = but_last
+but_farthest Back = but_first
+
+-- in the list of some source, seen from this end, the error stands behind entries that were given, all but the farthest of them
+pub record ComesLate (end : Direction) (lists : List (List R)) (given : List Entry) (e : Error) : Type 0 where
   pub place : ℕ
   pub within : place < length lists
-  pub before : List Entry
-  pub after : List R
-  pub stands : slice_index_or lists place [] ≡ ok_results before ++ Err e ∷ after
-  pub gave : IsWithinBag (but_last before) given
+  pub passed : List Entry
+  pub beyond : List R
+  pub stands : slice_index_or lists place [] ≡ join_at end (ok_results passed) (join_at end (Err e ∷ []) beyond)
+  pub gave : IsWithinBag (but_farthest end passed) given
 
 -- so does each error among answers, of which these entries were given earlier
-abbrev pub ErrorsComeLate : List (List R) → List Entry → List (Option R) → Type 0
-ErrorsComeLate lists given [] = Unit {0}
-ErrorsComeLate lists given (None ∷ rs) = ErrorsComeLate lists given rs
-ErrorsComeLate lists given (Some (Ok x) ∷ rs) = ErrorsComeLate lists (x ∷ given) rs
-ErrorsComeLate lists given (Some (Err e) ∷ rs) = ComesLate lists given e
+abbrev pub ErrorsComeLate : Direction → List (List R) → List Entry → List (Option R) → Type 0
+ErrorsComeLate end lists given [] = Unit {0}
+ErrorsComeLate end lists given (None ∷ rs) = ErrorsComeLate end lists given rs
+ErrorsComeLate end lists given (Some (Ok x) ∷ rs) = ErrorsComeLate end lists (x ∷ given) rs
+ErrorsComeLate end lists given (Some (Err e) ∷ rs) = ComesLate end lists given e
+
+-- calls at one end alone
+abbrev pub RunsAt : {T A : Type 0} → Direction → (T → Option A → T → Type 0) → T → List Direction → List (Option A) → T → Type 0
+RunsAt Front call = Runs call nowhere
+RunsAt Back call = Runs nowhere call
 
 -- whatever error is answered, a list is no longer followed
 abbrev pub every_error : Error → Bool
@@ -55,11 +71,11 @@ module _ {S : Type 0} (front back : S → Option R → S → Type 0) where
     pub deals : (stops : Error → Bool) (lists : List (List R)) → DealSorted stops its lists
         → DealsUntil stops next next_back m (union_of lists) (all_errors lists)
 
-  -- calls at the front alone meet an error only once all entries before it were given, but for the last
-  pub record MeetsErrorsLate {T : Type 0} (its : List S) (next : T → Option R → T → Type 0) (m : T) : Type 0 where
+  -- calls at one end alone meet an error only once all entries before it, seen from there, were given, but for the farthest
+  pub record MeetsErrorsLate {T : Type 0} (its : List S) (end : Direction) (call : T → Option R → T → Type 0) (m : T) : Type 0 where
     pub meets : (stops : Error → Bool) (lists : List (List R)) → DealSorted stops its lists
-        → (ends : List Direction) (rs : List (Option R)) (t : T) → Runs next nowhere m ends rs t
-        → NoneStops (answer_stops stops) rs → ErrorsComeLate lists [] rs
+        → (ends : List Direction) (rs : List (Option R)) (t : T) → RunsAt end call m ends rs t
+        → NoneStops (answer_stops stops) rs → ErrorsComeLate end lists [] rs
 
   -- where the sources may be asked and end, so may the merger be asked
   pub record CanMerge {T : Type 0} (can can_back : S → Type 0) (left : S → Count) (its : List S) (next next_back : T → Option R → T → Type 0) (can_next can_next_back : T → Type 0) (m : T) : Type 0 where

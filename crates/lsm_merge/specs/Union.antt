@@ -2,17 +2,20 @@
 use Rattle.std.specs.Prelude.{◌≡◌, ◌<◌, Bool, true, false, cond, not, List, [], ◌∷◌, ◌++◌, filter, count_by, Ok, Err}
 use Rattle.std.specs.declared.cmp.Ordering.{Ordering}
 use Rattle.std.specs.List.{AllByRecursion}
-use Rattle.std.specs.Ordering.{ordering_then, is_gt, nat_cmp}
+use Rattle.std.specs.Ordering.{on, is_gt}
 use Rattle.sst_entries.specs.Entry.{Entry}
-use Rattle.sst_entries.specs.Kind.{tag_of}
-use Rattle.sst_entries.specs.Key.{same_key}
-use Rattle.std.specs.Cmp.Lexicographic.{slice_cmp}
+use Rattle.sst_entries.specs.Key.{same_key, key_cmp}
+use Rattle.sst_entries.specs.declared.key.InternalKey.{InternalKey}
 use Rattle.sst_entries.specs.declared.error.Error.{Error}
 use Rattle.lsm_merge.specs.Ends.{R}
 
--- key up, number down, kind
+-- the key, the number and the kind of an entry
+abbrev pub key_of : Entry → InternalKey (Unit {0})
+key_of e = record { user_key = e.user_key; seqno = e.seqno; value_type = e.kind }
+
+-- entries in the order of their keys
 abbrev pub item_cmp : Entry → Entry → Ordering
-item_cmp a b = ordering_then (slice_cmp nat_cmp a.user_key b.user_key) (ordering_then (nat_cmp b.seqno a.seqno) (nat_cmp (tag_of a.kind) (tag_of b.kind)))
+item_cmp = on key_of key_cmp
 
 abbrev pub AtMost : Entry → Entry → Type 0
 AtMost x y = is_gt (item_cmp x y) ≡ false

@@ -153,7 +153,7 @@ impl<I: Iterator<Item = IterItem<A>>, A: Allocator + Clone> Merger<I, A> {
         ensures until { IfOk result (λ m. DealsUntilError I.next_gives nowhere iterators.items
             ⟦<Merger<I, A> as Iterator>⟧.next_gives nowhere m) }
         // No error is met before the entries that stand before it, but for the last of them.
-        ensures late { IfOk result (λ m. MeetsErrorsLate I.next_gives nowhere iterators.items
+        ensures late { IfOk result (λ m. MeetsErrorsLate I.next_gives nowhere iterators.items Front
             ⟦<Merger<I, A> as Iterator>⟧.next_gives m) }
         // Nothing follows an error, whatever the sources give.
         ensures ends { IfOk result (λ m. EndsAtError ⟦<Merger<I, A> as Iterator>⟧.next_gives nowhere
@@ -208,8 +208,13 @@ pub fn from_both_ends<I: DoubleEndedIterator<Item = IterItem<A>>, A: Allocator>(
     // Calls at the front alone meet no error before the entries that stand before it, but for the
     // last of them.
     ensures late { (its : List I) → IsMergerOf its merger.now →
-        MeetsErrorsLate I.next_gives I.next_back_gives its
+        MeetsErrorsLate I.next_gives I.next_back_gives its Front
         ⟦<Merger<I, A> as Iterator>⟧.next_gives merger.now }
+    // Calls at the back alone meet no error before the entries that stand behind it, but for the
+    // first of them.
+    ensures late_back { (its : List I) → IsMergerOf its merger.now →
+        MeetsErrorsLate I.next_gives I.next_back_gives its Back
+        ⟦<Merger<I, A> as DoubleEndedIterator>⟧.next_back_gives merger.now }
     // Nothing follows an error, whatever the sources give.
     ensures ends { EndsAtError ⟦<Merger<I, A> as Iterator>⟧.next_gives
         ⟦<Merger<I, A> as DoubleEndedIterator>⟧.next_back_gives merger.now }

@@ -1,5 +1,5 @@
 //! Runs: tables in key order.
-ghost use Rattle.std.specs.Prelude.{◌≡◌, ◌≢◌, ◌<◌, ◌≤◌, ◌∷◌, ◌++◌, IsTrue, List, Some, map, Contains, IfOk, IfSome, [], length, remove, slice_get, IsPermutation, MatchOption, OnOk, OnErr, IfErr};
+ghost use Rattle.std.specs.Prelude.{◌≡◌, ◌≢◌, ◌<◌, ◌≤◌, ◌∷◌, ◌++◌, IsTrue, List, Ok, Some, map, Contains, IfOk, IfSome, [], length, remove, slice_get, IsPermutation, MatchOption, OnOk, OnErr, IfErr};
 ghost use Rattle.std.specs.Borrow.{Lends, sem};
 ghost use Rattle.std.specs.Cmp.Lexicographic.{pointwise, lists_per, lists_equiv};
 ghost use Rattle.std.specs.Fn.{CalledAt};
@@ -264,15 +264,20 @@ impl<T: Ranged, A: Allocator> Run<T, A> {
     }
 
     /// Puts tables behind those of the run, in their order: nothing is sorted. Refused
-    /// [`Error::OutOfMemory`] alone; the run is unchanged then, and the tables are given up.
+    /// [`Error::OutOfMemory`] alone, and never for no tables; the run is unchanged then, and the
+    /// tables are given up.
     pub fn extend(&mut self, items: Vec<T, A>) -> Result<(), Error>
     where
         T: Drop,
         ensures ok { OnOk result (self.new ≡ self.old ++ items.items) }
+        // No tables want no memory.
+        ensures none { items.items ≡ [] → (result ≡ Ok tt) × (self.new ≡ self.old) }
         ensures err { IfErr result (λ e. (e ≡ OutOfMemory) × (self.new ≡ self.old)) }
     {
         let mut items = items;
-        self.0.append(&mut items)?;
+        if !items.is_empty() {
+            self.0.append(&mut items)?;
+        }
         Ok(())
     }
 

@@ -1,10 +1,14 @@
 -- The newest versions of a merger whose sources have errors.
-use Rattle.std.proofs.Common.{◌≡◌, refl, sym, ◌∙◌, ap, subst, List}
+use Rattle.std.proofs.Common.{◌≡◌, refl, sym, ◌∙◌, ap, subst, List, [], ◌∷◌}
 use Rattle.std.specs.Prelude.{Option}
+use Rattle.sst_entries.specs.Stream.{nowhere}
+use Rattle.sst_entries.specs.declared.stream.Direction.{Direction}
+use Rattle.sst_entries.specs.declared.stream.Direction.TheVariants.{Front, Back}
 use Rattle.lsm_merge.specs.Ends.{R}
 use Rattle.lsm_merge.specs.declared.merge.Merger.{Merger}
 use Rattle.lsm_merge.specs.declared.ends.Ends.{Ends}
 use Rattle.lsm_merge.specs.Asks.{IsMergerOf}
+use Rattle.lsm_merge.specs.MergeLaws.{ErrorsComeLate, RunsAt, MeetsErrorsLate}
 use Rattle.lsm_sorted.specs.declared.mvcc_stream.MvccStream.{MvccStream}
 use Rattle.lsm_sorted.specs.Gap.{MergesUpToGap}
 use Rattle.lsm_sorted.specs.Outlook.{Outlook, before_any}
@@ -20,6 +24,17 @@ answers_newest front back its ask ask_back m next next_back t merges steps = rec
       let gap = (merges.deals stops lists sorted).answers h.ends h.answers h.led h.runs h.once in
       (gap.0, gap.1, h.holds gap.0 gap.2);
 }
+
+-- where there is no call at the back, none meets an error
+none_asked : {T : Type 0} (lists : List (List R)) (ends : List Direction) (rs : List (Option R)) (s t : T) → RunsAt Back nowhere s ends rs t → ErrorsComeLate Back lists [] rs
+none_asked lists [] [] s t runs = tt
+none_asked lists [] (r ∷ rs) s t runs = absurd runs
+none_asked lists (e ∷ ends) [] s t runs = absurd runs
+none_asked lists (Front ∷ ends) (r ∷ rs) s t runs = absurd runs.1
+none_asked lists (Back ∷ ends) (r ∷ rs) s t runs = absurd runs.1
+
+pub never_called : {S T : Type 0} (front back : S → Option R → S → Type 0) (its : List S) (m : T) → MeetsErrorsLate front back its Back nowhere m
+never_called front back its m = record { meets = λ stops lists sorted ends rs t runs fine. none_asked lists ends rs m t runs }
 
 -- the merger that a stream reads from is the one that it was made of
 module _ {S A : Type 0} (its : List S) (s : MvccStream (Merger S A) R) (m : Merger S A) (is : m ≡ read_from s) (h : IsNewestOf its s) where

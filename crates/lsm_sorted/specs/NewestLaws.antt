@@ -4,6 +4,7 @@ use Rattle.std.specs.Iterator.{Count, IsFinite}
 use Rattle.sst_entries.specs.Stream.{Runs, Deals, CanDeal, answer_stops, ok_results, EndsAtError}
 use Rattle.sst_entries.specs.declared.error.Error.{Error}
 use Rattle.sst_entries.specs.declared.stream.Direction.{Direction}
+use Rattle.sst_entries.specs.declared.stream.Direction.TheVariants.{Front, Back}
 use Rattle.lsm_merge.specs.declared.merge.Merger.{Merger}
 use Rattle.lsm_sorted.specs.declared.mvcc_stream.MvccStream.{MvccStream}
 use Rattle.lsm_merge.specs.Ends.{R}
@@ -44,10 +45,11 @@ module _ {S : Type 0} (front back : S → Option R → S → Type 0) (its : List
           → (ends : List Direction) (rs : List (Option R)) (u : T) → Runs next next_back t ends rs u
           → (xs : List R) × IsUpToGap stops (union_of lists) (all_errors lists) xs × (rs ≡ newest_answers xs ends)
 
-  -- its merger deals what the sources have together up to an error of one of them, from the front no error comes before the
-  -- entries before it, and nothing follows an error
+  -- its merger deals what the sources have together up to an error of one of them, from one end alone no error comes before
+  -- the entries before it, seen from there, and nothing follows an error
   pub record IsOverMerged {A : Type 0} (next next_back : Merger S A → Option R → Merger S A → Type 0) (s : MvccStream (Merger S A) R) : Type 0 where
     pub of : IsNewestOf its s
     pub until : DealsUntilError front back its next next_back of.source
-    pub late : MeetsErrorsLate front back its next of.source
+    pub late : MeetsErrorsLate front back its Front next of.source
+    pub late_back : MeetsErrorsLate front back its Back next_back of.source
     pub ends : EndsAtError next next_back of.source

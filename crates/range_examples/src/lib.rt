@@ -3,4 +3,10 @@
 #![tactic(auto)]
 
 #[cfg(test)]
+mod packing;
+#[cfg(test)]
 mod ranges;
+#[cfg(test)]
+mod refusals;
+#[cfg(test)]
+mod tables;

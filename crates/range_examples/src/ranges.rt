@@ -1,117 +1,12 @@
-//! Key ranges, runs and their packing on worked examples, over tables that have an id and a range
-//! alone.
-ghost use Rattle.std.specs.Prelude.{◌≡◌};
-
-use lsm_ranges::{Indexed, KeyRange, Ranged, Run, optimize_runs, overlap_chain};
-use refusing::each_refused;
-use sst_entries::{Error, Slice};
-use std::alloc::{AllocError, Allocator, Global};
+//! Key ranges and runs on worked examples.
+use crate::tables::{
+    FakeTable, both, four, has_ids, holds, is_four, range_of, run_of, table_of, tables_of,
+};
+use lsm_ranges::{Indexed, KeyRange, Ranged, Run};
+use sst_entries::Error;
+use std::alloc::Global;
 use std::ops::Bound;
 use std::test::Fail;
-
-#[derive(Drop)]
-#[derive_where(Debug, PartialEq)]
-struct FakeTable<A: Allocator = Global> {
-    id: u64,
-    range: KeyRange<A>,
-}
-
-impl<A: Allocator> Ranged for FakeTable<A> {
-    ghost use Rattle.std.specs.Prelude.{ℕ};
-    ghost use Rattle.std.proofs.Common.{ap};
-    ghost use Rattle.lsm_ranges.specs.KeyRange.{Interval};
-
-    type Alloc = A;
-
-    ghost Meaning = { ℕ × Interval };
-
-    ghost meaning = { λ t. (t.id, t.range) };
-
-    ghost range = { λ t. t.range };
-
-    fn key_range(&self) -> &KeyRange<A> {
-        &self.range
-    }
-
-    ghost steady = { λ x y same. ap (λ m. m.1) same };
-}
-
-impl<A: Allocator> Clone for FakeTable<A> {
-    ghost is_clone = { λ table copy. copy ≡ table };
-
-    fn clone(&self) -> Result<FakeTable<A>, AllocError> {
-        Ok(FakeTable {
-            id: self.id,
-            range: self.range.clone()?,
-        })
-    }
-}
-
-// Two values, or the refusal of the first that is refused. It is generic, so that no part of the values is looked at.
-fn both<T: Drop, U: Drop>(
-    first: Result<T, Error>,
-    second: Result<U, Error>,
-) -> Result<(T, U), Error> {
-    Ok((first?, second?))
-}
-
-// Whether something was found to hold, and nothing was refused.
-fn holds(answer: Result<bool, Error>) -> bool {
-    matches!(answer, Ok(true))
-}
-
-fn range_of<A: Allocator + Copy>(alloc: A, min: &str, max: &str) -> Result<KeyRange<A>, Error> {
-    let min = Slice::from(alloc, min.as_bytes());
-    let max = Slice::from(alloc, max.as_bytes());
-    Ok(KeyRange::new(both(min, max)?))
-}
-
-fn table_of<A: Allocator + Copy>(
-    alloc: A,
-    table: &(u64, &str, &str),
-) -> Result<FakeTable<A>, Error> {
-    let (id, min, max) = *table;
-    let range = range_of(alloc, min, max)?;
-    Ok(FakeTable { id, range })
-}
-
-fn tables_of<A: Allocator + Copy>(
-    alloc: A,
-    tables: &[(u64, &str, &str)],
-) -> Result<Vec<FakeTable<A>, A>, Error> {
-    tables
-        .iter()
-        .map(|table| table_of(alloc, table))
-        .try_collect(alloc)
-}
-
-fn run_of<A: Allocator + Copy>(
-    alloc: A,
-    tables: &[(u64, &str, &str)],
-) -> Result<Run<FakeTable<A>, A>, Error> {
-    Run::new(tables_of(alloc, tables)?).ok_or(Error::Source(0))
-}
-
-fn runs_of<A: Allocator + Copy>(
-    alloc: A,
-    runs: &[&[(u64, &str, &str)]],
-) -> Result<Vec<Run<FakeTable<A>, A>, A>, Error> {
-    runs.iter()
-        .map(|tables| run_of(alloc, tables))
-        .try_collect(alloc)
-}
-
-fn has_ids<A: Allocator>(tables: &[FakeTable<A>], ids: &[u64]) -> bool {
-    tables.len() == ids.len() && tables.iter().zip(ids).all(|(table, id)| table.id == *id)
-}
-
-fn have_ids<A: Allocator>(runs: &[Run<FakeTable<A>, A>], ids: &[&[u64]]) -> bool {
-    runs.len() == ids.len()
-        && runs
-            .iter()
-            .zip(ids)
-            .all(|(run, ids)| has_ids(run.as_slice(), ids))
-}
 
 fn bytes_of<'a>(bound: Bound<&'a str>) -> Bound<&'a [u8]> {
     match bound {
@@ -119,13 +14,6 @@ fn bytes_of<'a>(bound: Bound<&'a str>) -> Bound<&'a [u8]> {
         Bound::Excluded(key) => Bound::Excluded(key.as_bytes()),
         Bound::Unbounded => Bound::Unbounded,
     }
-}
-
-const FOUR: &[(u64, &str, &str)] = &[(0, "a", "d"), (1, "e", "j"), (2, "k", "o"), (3, "p", "z")];
-
-// The run of four tables.
-fn four(alloc: Global) -> Result<Run<FakeTable>, Error> {
-    run_of(alloc, FOUR)
 }
 
 // Whether a range has these ends, is well-formed, and has a key.
@@ -151,6 +39,9 @@ const KEYS: &[((&str, &str), &str, bool)] = &[
     (("key1", "key5"), "key0", false),
     (("key1", "key5"), "key01", false),
     (("key1", "key5"), "key1", true),
+    (("key1", "key5"), "key2", true),
+    (("key1", "key5"), "key3", true),
+    (("key1", "key5"), "key4", true),
     (("key1", "key5"), "key4x", true),
     (("key1", "key5"), "key5", true),
     (("key1", "key5"), "key5x", false),
@@ -254,6 +145,10 @@ fn reach_together(
 // The ends of ranges, whether they are disjoint, and the ends of their aggregate.
 const AGGREGATES: &[(&[(&str, &str)], bool, (&str, &str))] = &[
     (&[("2", "4"), ("0", "4"), ("7", "9")], false, ("0", "9")),
+    (&[("6", "7"), ("0", "2"), ("0", "9")], false, ("0", "9")),
+    (&[("0", "4"), ("0", "4")], false, ("0", "4")),
+    (&[("a", "d"), ("g", "z")], true, ("a", "z")),
+    (&[("a", "f"), ("b", "h")], false, ("a", "h")),
     (&[("a", "d"), ("d", "e"), ("f", "z")], false, ("a", "z")),
     (&[("a", "d"), ("e", "e"), ("f", "z")], true, ("a", "z")),
     (&[], true, ("", "")),
@@ -304,11 +199,16 @@ fn overlaps(
 const BOUNDS: &[(Bound<&str>, Bound<&str>, bool)] = &[
     (Bound::Included("key1"), Bound::Included("key5"), true),
     (Bound::Included("key1"), Bound::Excluded("key5"), true),
+    (Bound::Excluded("key0"), Bound::Excluded("key6"), true),
     (Bound::Excluded("key5"), Bound::Excluded("key6"), false),
     (Bound::Unbounded, Bound::Unbounded, true),
     (Bound::Unbounded, Bound::Excluded("key1"), false),
     (Bound::Excluded("key5"), Bound::Unbounded, false),
+    (Bound::Unbounded, Bound::Excluded("key2"), true),
     (Bound::Unbounded, Bound::Included("key1"), true),
+    (Bound::Unbounded, Bound::Included("key5"), true),
+    (Bound::Unbounded, Bound::Included("key6"), true),
+    (Bound::Included("key0"), Bound::Unbounded, true),
     (Bound::Included("key5"), Bound::Unbounded, true),
     (Bound::Included("key4"), Bound::Included("key2"), true),
 ];
@@ -355,9 +255,14 @@ fn has_id_in_four(alloc: Global, key: &str, id: Option<u64>) -> Result<bool, Err
 const FOUND: &[(&str, Option<u64>)] = &[
     ("a", Some(0)),
     ("aaa", Some(0)),
+    ("b", Some(0)),
+    ("c", Some(0)),
     ("d", Some(0)),
     ("e", Some(1)),
     ("j", Some(1)),
+    ("k", Some(2)),
+    ("o", Some(2)),
+    ("p", Some(3)),
     ("z", Some(3)),
     ("zzz", None),
 ];
@@ -390,9 +295,14 @@ fn has_span_in_four(
 const SPANS: &[(Bound<&str>, Bound<&str>, Option<(usize, usize)>)] = &[
     (Bound::Unbounded, Bound::Unbounded, Some((0, 3))),
     (Bound::Included("a"), Bound::Included("a"), Some((0, 0))),
+    (Bound::Included("a"), Bound::Included("b"), Some((0, 0))),
+    (Bound::Included("a"), Bound::Included("d"), Some((0, 0))),
+    (Bound::Included("d"), Bound::Included("d"), Some((0, 0))),
     (Bound::Included("a"), Bound::Excluded("d"), Some((0, 0))),
     (Bound::Included("a"), Bound::Included("g"), Some((0, 1))),
     (Bound::Included("j"), Bound::Included("j"), Some((1, 1))),
+    (Bound::Included("a"), Bound::Included("z"), Some((0, 3))),
+    (Bound::Included("z"), Bound::Included("zzz"), Some((3, 3))),
     (Bound::Included("z"), Bound::Unbounded, Some((3, 3))),
     (Bound::Included("zzz"), Bound::Included("zzzzzzz"), None),
     (Bound::Included("n"), Bound::Included("l"), Some((2, 2))),
@@ -432,9 +342,13 @@ fn found_in_four(
 // it.
 const OVERLAPS: &[((&str, &str), &[u64], &[u64])] = &[
     (("a", "a"), &[0], &[]),
+    (("d", "d"), &[0], &[]),
     (("a", "d"), &[0], &[0]),
     (("a", "f"), &[0, 1], &[0]),
+    (("a", "j"), &[0, 1], &[0, 1]),
     (("a", "k"), &[0, 1, 2], &[0, 1]),
+    (("a", "l"), &[0, 1, 2], &[0, 1]),
+    (("a", "z"), &[0, 1, 2, 3], &[0, 1, 2, 3]),
     (("a", "zzz"), &[0, 1, 2, 3], &[0, 1, 2, 3]),
     (("zzz", "zzzz"), &[], &[]),
 ];
@@ -476,11 +390,6 @@ fn four_without_second(
 fn a_removed_table_is_not_found(rt: HostRuntime) -> Result<(), Fail> {
     assert!(rt; four_without_second(rt.alloc())? == (Some(1), false, None));
     Ok(())
-}
-
-// Whether a run is that of four tables.
-fn is_four(alloc: Global, run: &Run<FakeTable>) -> Result<bool, Error> {
-    Ok(four(alloc)? == *run)
 }
 
 // Puts a table behind four: whether they are in order, and are five. Then retains the four: whether they are as before.
@@ -590,106 +499,4 @@ fn shows_its_table(alloc: Global) -> Result<bool, Error> {
 #[test]
 fn a_table_of_a_run_has_its_range(rt: HostRuntime) {
     assert!(rt; holds(shows_its_table(rt.alloc())));
-}
-
-// Whether a chain of some runs goes through these. Of several tables that could be a chain's only
-// one, any may be.
-fn are_chained<A: Allocator + Copy>(
-    alloc: A,
-    runs: &[Run<FakeTable<A>, A>],
-    chain: &[usize],
-) -> Result<bool, Error> {
-    let found = overlap_chain(alloc, runs)?;
-    let chained = found.len() == 1 || found.iter().zip(chain).all(|(found, run)| found.0 == *run);
-    Ok(found.len() == chain.len() && chained)
-}
-
-// Whether some runs are packed into runs of these ids.
-fn are_packed<A: Allocator + Copy>(
-    alloc: A,
-    runs: Vec<Run<FakeTable<A>, A>, A>,
-    ids: &[&[u64]],
-) -> Result<bool, Error> {
-    Ok(have_ids(&optimize_runs(alloc, runs)?, ids))
-}
-
-// Whether some runs are packed into runs of these ids, and a chain goes through these.
-fn packs<A: Allocator + Copy>(
-    alloc: A,
-    runs: &[&[(u64, &str, &str)]],
-    packed: &[&[u64]],
-    chain: &[usize],
-) -> Result<bool, Error> {
-    let made = runs_of(alloc, runs)?;
-    let chained = are_chained(alloc, &made, chain);
-    let are_packed = are_packed(alloc, made, packed);
-    Ok(chained? && are_packed?)
-}
-
-const THREE_RUNS: &[&[(u64, &str, &str)]] = &[&[(2, "m", "p")], &[(1, "a", "z")], &[(0, "a", "c")]];
-
-const FOUR_RUNS: &[&[(u64, &str, &str)]] = &[
-    &[(0, "a", "c"), (1, "m", "p")],
-    &[(2, "b", "n")],
-    &[(3, "d", "f")],
-    &[(4, "x", "z")],
-];
-
-// In each: some runs, the ids of the runs that they are packed into, and the runs of a chain.
-const PACKINGS: &[(&[&[(u64, &str, &str)]], &[&[u64]], &[usize])] = &[
-    (&[], &[], &[]),
-    (&[&[(0, "a", "b")]], &[&[0]], &[0]),
-    (
-        &[&[(0, "a", "b")], &[(1, "a", "b")]],
-        &[&[0], &[1]],
-        &[0, 1],
-    ),
-    (
-        &[&[(0, "a", "z")], &[(1, "c", "f")]],
-        &[&[0], &[1]],
-        &[0, 1],
-    ),
-    (
-        &[&[(0, "c", "f")], &[(1, "a", "z")]],
-        &[&[0], &[1]],
-        &[0, 1],
-    ),
-    (&[&[(1, "d", "f")], &[(0, "a", "c")]], &[&[0, 1]], &[0]),
-    (THREE_RUNS, &[&[2], &[1], &[0]], &[0, 1, 2]),
-    (FOUR_RUNS, &[&[0, 1, 4], &[2], &[3]], &[0, 1, 2]),
-    (&[&[(0, "a", "z"), (1, "c", "d")]], &[&[0, 1]], &[0]),
-];
-
-#[test]
-fn packed_runs(rt: HostRuntime) {
-    for &(runs, packed, chain) in PACKINGS {
-        assert!(rt; holds(packs(rt.alloc(), runs, packed, chain)));
-    }
-}
-
-// Whether packing gives runs of these ids, and a chain of three goes through the first three runs, or memory was refused where it
-// may be.
-fn packs_to<A: Allocator + Copy>(
-    alloc: A,
-    runs: &[&[(u64, &str, &str)]],
-    ids: &[&[u64]],
-    may_fail: bool,
-) -> bool {
-    match packs(alloc, runs, ids, &[0, 1, 2]) {
-        Ok(packs) => packs,
-        Err(Error::OutOfMemory) => may_fail,
-        Err(_) => false,
-    }
-}
-
-#[test]
-fn each_request_for_memory_refused(rt: HostRuntime) {
-    let three = each_refused(rt.alloc(), |heap, may_fail| {
-        packs_to(heap, THREE_RUNS, &[&[2], &[1], &[0]], may_fail)
-    });
-    assert!(rt; three.is_ok_and(|requests| requests > 5));
-    let four = each_refused(rt.alloc(), |heap, may_fail| {
-        packs_to(heap, FOUR_RUNS, &[&[0, 1, 4], &[2], &[3]], may_fail)
-    });
-    assert!(rt; four.is_ok_and(|requests| requests > 5));
 }

@@ -261,7 +261,12 @@ const OLD_VERSIONS: &[(u64, bool, &str, &str, &str)] = &[
         "",
     ),
     (998, false, TOMBSTONES, TOMBSTONES, ""),
+    // Numbered at the threshold, the head is no cut, whatever it is and whatever is below it.
     (999, false, "aV999 aV998", "aV999 aV998", ""),
+    (999, false, "aV999 aT998", "aV999 aT998", ""),
+    (999, false, "aT999 aT998", "aT999 aT998", ""),
+    (999, false, "aW999 aV998 aV997", "aW999 aV998", "aV997"),
+    (999, false, "aW999 aV998 bV999", "aW999 aV998 bV999", ""),
     (0, false, "aW999 aV998", "aW999 aV998", ""),
     (998, false, "aW999 aV998", "aW999 aV998", ""),
     (999, false, "aW999 aV998", "aW999 aV998", ""),

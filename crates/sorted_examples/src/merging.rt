@@ -4,7 +4,7 @@ ghost use Rattle.std.specs.Iterator.{IsFinite};
 ghost use Rattle.sst_entries.specs.Stream.{CanDeal};
 
 use crate::streams::is_made;
-use crate::words::{answers_so, holds, once_done, push_made, results_of};
+use crate::words::{answers_so, holds, holds_or_wants_memory, once_done, push_made, results_of};
 use lsm_sorted::{Merger, from_both_ends};
 use refusing::{Refusing, each_refused};
 use sst_entries::{Error, IterItem};
@@ -99,6 +99,7 @@ fn merges<A: Allocator + Copy>(
 const MERGED: &[(&str, &str, &str)] = &[
     ("", "FB", "- -"),
     ("aV0 / bV0 /", "FFF", "aV0 bV0 -"),
+    ("aV0x / aV0y /", "FFF", "aV0x aV0y -"),
     ("aV1 cV1 / bV2 /", "FBFB", "aV1 cV1 bV2 -"),
     ("aV1 !7 / bV1 /", "FF", "!7 -"),
     ("aV1 bV1 / cV1 !7 /", "FFFF", "aV1 bV1 !7 -"),
@@ -110,6 +111,22 @@ const MERGED: &[(&str, &str, &str)] = &[
     ("aV1 dV1 / bV1 !7 fV1 / cV1 /", "BBF", "!7 - -"),
     ("aV1 dV1 !7 / bV1 / cV1 eV1 /", "FFFFB", "aV1 bV1 cV1 !7 -"),
     ("aV1 dV1 !7 / bV1 / cV1 eV1 /", "FBF", "aV1 !7 -"),
+    // From the back an error comes when the first entry behind it goes, and not before.
+    ("aV1 / !7 bV1 dV1 / cV1 eV1 /", "BBBBB", "eV1 dV1 cV1 !7 -"),
+    ("!7 aV1 / bV1 !8 cV1 / dV1 /", "BBBB", "dV1 !8 - -"),
+    ("aV1 / bV1 !7 / !8 /", "BB", "!7 -"),
+    // One source alone.
+    (
+        "aV0 bV0 cV0 dV0 eT1 !4 eV0 /",
+        "FFFFFFF",
+        "aV0 bV0 cV0 dV0 !4 - -",
+    ),
+    ("aV0 bV0 cV0 dV0 eT1 !4 eV0 /", "BBB", "!4 - -"),
+    (
+        "!4 aV0 bV0 cV0 dV0 eT1 eV0 /",
+        "BBBBBBB",
+        "eV0 eT1 dV0 cV0 bV0 !4 -",
+    ),
     // Entries that tie: the earlier source first, from either end.
     ("aV1x aV1y / aV1z /", "FFFF", "aV1x aV1y aV1z -"),
     ("aV1x aV1y / aV1z /", "BFBB", "aV1z aV1x aV1y -"),
@@ -125,16 +142,27 @@ fn gives_the_entries_of_all_sources_in_order_up_to_an_error(rt: HostRuntime) {
     }
 }
 
+// How many requests for memory a merger and its sources make, each of which may be refused, while
+// it answers so at the ends.
+fn merges_or_is_refused(
+    alloc: Global,
+    sources: &str,
+    ends: &str,
+    wanted: &str,
+) -> Result<usize, usize> {
+    each_refused(alloc, |heap, may_fail| {
+        holds_or_wants_memory(merges(heap, sources, ends, wanted), may_fail)
+    })
+}
+
 #[test]
-fn refuses_memory_when_made(rt: HostRuntime) {
-    let answers = each_refused(rt.alloc(), |heap, may_fail| {
-        match merges(heap, TWO_SOURCES, "FBFB", "aV1 cV1 bV2 -") {
-            Ok(answer) => answer,
-            Err(Error::OutOfMemory) => may_fail,
-            Err(_) => false,
-        }
-    });
-    assert!(rt; answers.is_ok_and(|requests| requests > 10));
+fn answers_so_or_wants_memory(rt: HostRuntime) {
+    for &(sources, ends, wanted) in MERGED {
+        let answers = merges_or_is_refused(rt.alloc(), sources, ends, wanted);
+        assert!(rt; answers.is_ok(), "{sources} at {ends}");
+    }
+    let two = merges_or_is_refused(rt.alloc(), TWO_SOURCES, "FBFB", "aV1 cV1 bV2 -");
+    assert!(rt; two.is_ok_and(|requests| requests > 10));
 }
 
 const TWO_SOURCES: &str = "aV1 cV1 / bV2 /";

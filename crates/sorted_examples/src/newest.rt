@@ -5,13 +5,14 @@ ghost use Rattle.sst_entries.specs.Stream.{CanDeal, nowhere};
 
 use crate::merging::{self, passed_of};
 use crate::merging_front::sources_of;
-use crate::words::{answers_so, begins_so, holds};
+use crate::words::{answers_so, begins_so, holds, holds_or_wants_memory};
 use lsm_sorted::{MvccStream, newest_from_both_ends, newest_of};
+use refusing::each_refused;
 use sst_entries::{Error, IterItem};
-use std::alloc::Global;
+use std::alloc::{Allocator, Global};
 
 // Whether a stream over this source, whatever it is, answers so at the ends.
-fn stream_answers_so<I: DoubleEndedIterator<Item = IterItem> + Drop>(
+fn stream_answers_so<A: Allocator, I: DoubleEndedIterator<Item = IterItem<A>> + Drop>(
     source: I,
     ends: &str,
     wanted: &str,
@@ -25,7 +26,12 @@ fn stream_answers_so<I: DoubleEndedIterator<Item = IterItem> + Drop>(
 }
 
 // Whether a stream over some results answers so at the ends.
-fn answers(alloc: Global, results: &str, ends: &str, wanted: &str) -> Result<bool, Error> {
+fn answers<A: Allocator + Copy>(
+    alloc: A,
+    results: &str,
+    ends: &str,
+    wanted: &str,
+) -> Result<bool, Error> {
     let source = passed_of(alloc, results)?;
     Ok(stream_answers_so(source, ends, wanted))
 }
@@ -64,10 +70,51 @@ fn answers_an_error_in_the_place_of_its_key(rt: HostRuntime) {
     }
 }
 
+// How many requests for memory a stream over some results makes, each of which may be refused,
+// while it answers so at the ends.
+fn answers_or_is_refused(
+    alloc: Global,
+    results: &str,
+    ends: &str,
+    wanted: &str,
+) -> Result<usize, usize> {
+    each_refused(alloc, |heap, may_fail| {
+        holds_or_wants_memory(answers(heap, results, ends, wanted), may_fail)
+    })
+}
+
+#[test]
+fn answers_so_where_its_entries_are_not_refused(rt: HostRuntime) {
+    for &(results, ends, wanted) in WITH_ERRORS {
+        let answers = answers_or_is_refused(rt.alloc(), results, ends, wanted);
+        assert!(rt; answers.is_ok(), "{results} at {ends}");
+    }
+}
+
 // The same without errors.
 const WITHOUT_ERRORS: &[(&str, &str, &str)] = &[
     ("aV0 bV0 cV0 dV0 eT1 eV0", "FFFFFF", "aV0 bV0 cV0 dV0 eT1 -"),
     ("aV0 bV0 cV0 dV0 eT1 eV0", "BBBBBB", "eT1 dV0 cV0 bV0 aV0 -"),
+    ("aV0 bV0 cV0 dV0 eW1 eV0", "FFFFFF", "aV0 bV0 cV0 dV0 eW1 -"),
+    ("aV0 bV0 cV0 dV0 eW1 eV0", "BBBBBB", "eW1 dV0 cV0 bV0 aV0 -"),
+    ("aV999 aV998", "FF", "aV999 -"),
+    ("aV999 aV998", "BB", "aV999 -"),
+    ("aT999 aV998", "FF", "aT999 -"),
+    ("aT999 aV998", "BB", "aT999 -"),
+    ("aW999 aV998", "FF", "aW999 -"),
+    ("aW999 aV998", "BB", "aW999 -"),
+    ("aW999 aV998 aV997", "FF", "aW999 -"),
+    ("aW999 aV998 aV997", "BB", "aW999 -"),
+    (
+        "aW999 aV998 bW999 bV998 cW999 cV998",
+        "FFFF",
+        "aW999 bW999 cW999 -",
+    ),
+    (
+        "aW999 aV998 bW999 bV998 cW999 cV998",
+        "BBBB",
+        "cW999 bW999 aW999 -",
+    ),
     ("aV0 bT1 bV0 cT1 cV0", "FFFF", "aV0 bT1 cT1 -"),
     ("aV0 bT1 bV0 cT1 cV0", "BBBB", "cT1 bT1 aV0 -"),
     ("aV0 bT1 cT1", "FFFF", "aV0 bT1 cT1 -"),
@@ -105,9 +152,9 @@ fn gives_the_newest_version_of_each_key_from_either_end(rt: HostRuntime) {
 }
 
 // Whether the newest versions of these sources, whatever they are, are these at the ends.
-fn newest_answers_so<I: DoubleEndedIterator<Item = IterItem> + Drop>(
-    alloc: Global,
-    sources: Vec<I>,
+fn newest_answers_so<I: DoubleEndedIterator<Item = IterItem<A>> + Drop, A: Allocator + Copy>(
+    alloc: A,
+    sources: Vec<I, A>,
     ends: &str,
     wanted: &str,
 ) -> Result<bool, Error>
@@ -121,7 +168,12 @@ fn newest_answers_so<I: DoubleEndedIterator<Item = IterItem> + Drop>(
 }
 
 // Whether the newest versions of the sources that a text spells are these at the ends.
-fn are_newest(alloc: Global, sources: &str, ends: &str, wanted: &str) -> Result<bool, Error> {
+fn are_newest<A: Allocator + Copy>(
+    alloc: A,
+    sources: &str,
+    ends: &str,
+    wanted: &str,
+) -> Result<bool, Error> {
     newest_answers_so(alloc, merging::sources_of(alloc, sources)?, ends, wanted)
 }
 
@@ -155,6 +207,23 @@ const OF_SOURCES: &[(&str, &str, &str)] = &[
     ("aV1 cV1 !7 / bV1 dV1 /", "BFF", "!7 - -"),
     ("!7 aV1 bV1 / cV1 dV1 /", "BBBB", "dV1 cV1 !7 -"),
     ("aV3 aV1 ?1 / aV2 bV1 /", "FFF", "?1 - -"),
+    // One source alone: what the call that meets the error took, and what is in hand, is given up.
+    (
+        "aV0 bV0 cV0 dV0 eT1 eV0 /",
+        "FFFFFFF",
+        "aV0 bV0 cV0 dV0 eT1 - -",
+    ),
+    (
+        "aV0 bV0 cV0 dV0 eT1 !4 eV0 /",
+        "FFFFFFF",
+        "aV0 bV0 cV0 !4 - - -",
+    ),
+    ("aV0 bV0 cV0 dV0 eT1 !4 eV0 /", "BBBBBBB", "!4 - - - - - -"),
+    (
+        "!4 aV0 bV0 cV0 dV0 eT1 eV0 /",
+        "BBBBBB",
+        "eT1 dV0 cV0 !4 - -",
+    ),
 ];
 
 #[test]
@@ -164,6 +233,27 @@ fn gives_the_newest_version_of_each_key_of_all_sources(rt: HostRuntime) {
             holds(are_newest(rt.alloc(), sources, ends, wanted)),
             "{sources} at {ends}"
         );
+    }
+}
+
+// How many requests for memory the newest versions of some sources make, each of which may be
+// refused, while they are these.
+fn are_newest_or_refused(
+    alloc: Global,
+    sources: &str,
+    ends: &str,
+    wanted: &str,
+) -> Result<usize, usize> {
+    each_refused(alloc, |heap, may_fail| {
+        holds_or_wants_memory(are_newest(heap, sources, ends, wanted), may_fail)
+    })
+}
+
+#[test]
+fn gives_the_newest_versions_or_wants_memory(rt: HostRuntime) {
+    for &(sources, ends, wanted) in OF_SOURCES {
+        let answers = are_newest_or_refused(rt.alloc(), sources, ends, wanted);
+        assert!(rt; answers.is_ok(), "{sources} at {ends}");
     }
 }
 

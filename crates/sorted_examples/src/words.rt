@@ -171,6 +171,15 @@ pub fn holds(answer: Result<bool, Error>) -> bool {
     matches!(answer, Ok(true))
 }
 
+/// Whether something was found to hold, or memory was refused where it may be.
+pub fn holds_or_wants_memory(answer: Result<bool, Error>, may_fail: bool) -> bool {
+    match answer {
+        Ok(answer) => answer,
+        Err(Error::OutOfMemory) => may_fail,
+        Err(_) => false,
+    }
+}
+
 /// Whether a stream answers so at the ends that `F` and `B` stand for.
 pub fn answers_so<A: Allocator, I: DoubleEndedIterator<Item = IterItem<A>> + Drop>(
     mut stream: I,

@@ -1,6 +1,6 @@
 use Rattle.lsm_merge.proofs.DealsMerged.{new_may}
 use Rattle.lsm_merge.proofs.CallsMerged.{front_merges, back_merges, merger_deals, merger_until, ends_at, can_both, holds_two}
-use Rattle.lsm_merge.proofs.LateErrors.{merger_late}
+use Rattle.lsm_merge.proofs.LateErrors.{merger_late, merger_late_back}
 use Rattle.lsm_merge.specs.Union.{union_of, all_errors}
 use Rattle.lsm_merge.proofs.UntilLemmas.{deals_until_error}
 use Rattle.lsm_merge.proofs.merge.from_both_ends.Goals as goal
@@ -39,6 +39,9 @@ returns-clause-few g c its of = holds_two g.I.Iterator.next_gives g.I.DoubleEnde
 
 pub returns-clause-late : goal.returns-clause-late
 returns-clause-late g c its of = merger_late g.I.Iterator.next_gives g.I.DoubleEndedIterator.next_back_gives _ its c.args.merger.now of
+
+pub returns-clause-late_back : goal.returns-clause-late_back
+returns-clause-late_back g c its of = merger_late_back g.I.Iterator.next_gives g.I.DoubleEndedIterator.next_back_gives _ its c.args.merger.now of
 
 pub returns-clause-before : goal.returns-clause-before
 returns-clause-before g c its of = record {

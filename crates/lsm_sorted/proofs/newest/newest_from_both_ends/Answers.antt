@@ -42,6 +42,7 @@ returns-clause-over g c its h =
       of = record { source = m; starts = starts_read its c.args.stream.now m c.source.ensures h; of = of };
       until = c.from_both_ends.ensures.until its of;
       late = c.from_both_ends.ensures.late its of;
+      late_back = c.from_both_ends.ensures.late_back its of;
       ends = c.from_both_ends.ensures.ends;
     }
 

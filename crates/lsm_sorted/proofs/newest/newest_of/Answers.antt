@@ -2,7 +2,7 @@ use Rattle.sst_entries.specs.Stream.{nowhere}
 use Rattle.lsm_merge.specs.MergeLaws.{every_error}
 use Rattle.lsm_merge.specs.Union.{union_of}
 use Rattle.lsm_sorted.proofs.GapLemmas.{merges_up_to_gap}
-use Rattle.lsm_sorted.proofs.NewestPast.{answers_newest}
+use Rattle.lsm_sorted.proofs.NewestPast.{answers_newest, never_called}
 use Rattle.lsm_sorted.proofs.newest.newest_of.Goals as goal
 
 pub returns-clause-starts : goal.returns-clause-starts
@@ -33,6 +33,7 @@ returns-clause-over g c = record {
   of = record { source = c.in_ok-merger.merger; starts = c.new-2.ensures.starts; of = c.in_ok-merger.ensures.fresh };
   until = c.in_ok-merger.ensures.until;
   late = c.in_ok-merger.ensures.late;
+  late_back = never_called g.I.Iterator.next_gives nowhere c.args.iterators.items c.in_ok-merger.merger;
   ends = c.in_ok-merger.ensures.ends;
 }
 

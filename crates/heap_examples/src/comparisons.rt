@@ -1,0 +1,285 @@
+//! How many comparisons a merge through a queue makes, counted where they are made.
+ghost use Rattle.std.specs.Prelude.{◌≡◌};
+ghost use Rattle.std.proofs.Common.{refl};
+ghost use Rattle.std.specs.Cmp.{partial_order_from_total, partial_equiv_from_equiv};
+ghost use Rattle.std.specs.Cmp.{eq_by_cmp_equiv, on_total, nat_cmp_total};
+ghost use Rattle.std.specs.Ordering.{as_partial_cmp, eq_by_cmp, nat_cmp, on};
+
+use lsm_heaps::LazyTournament;
+use sst_entries::Error;
+use std::alloc::Global;
+use std::cell::Cell;
+use std::cmp::Ordering;
+
+// An entry by its key, its source and its place there. Each comparison of two entries is counted.
+#[derive(Drop)]
+struct Counted<'a> {
+    key: u64,
+    source: u64,
+    place: u64,
+    made: &'a Cell<u64>,
+}
+
+impl<'a> Ord for Counted<'a> {
+    ghost cmp = { on (λ e. e.key) nat_cmp };
+
+    ghost total = { on_total (λ e. e.key) nat_cmp_total };
+
+    ghost matches_partial_cmp = { λ x y. refl };
+
+    ghost matches_eq = { λ x y. refl };
+
+    fn cmp(&self, other: &Counted<'a>) -> Ordering {
+        self.made.set(self.made.get().saturating_add(1));
+        self.key.cmp(&other.key)
+    }
+}
+
+impl<'a> PartialOrd for Counted<'a> {
+    ghost partial_cmp = { as_partial_cmp (on (λ e. e.key) nat_cmp) };
+
+    ghost laws = { partial_order_from_total (on_total (λ e. e.key) nat_cmp_total) };
+
+    fn partial_cmp(&self, other: &Counted<'a>) -> Option<Ordering> {
+        Some(self.cmp(other))
+    }
+}
+
+impl<'a> PartialEq for Counted<'a> {
+    ghost eq = { eq_by_cmp (on (λ e. e.key) nat_cmp) };
+
+    ghost laws = { partial_equiv_from_equiv
+        (eq_by_cmp_equiv (on_total (λ e. e.key) nat_cmp_total)) };
+
+    fn eq(&self, other: &Counted<'a>) -> bool {
+        self.cmp(other).is_eq()
+    }
+}
+
+impl<'a> Eq for Counted<'a> {
+    ghost laws = { eq_by_cmp_equiv (on_total (λ e. e.key) nat_cmp_total) };
+}
+
+// In which order the entries of all sources come: one of each source in turn, in the order of the
+// sources or in another one each time, or source after source.
+#[derive(Clone, Copy, Debug)]
+enum Order {
+    InTurn,
+    Mixed,
+    OneAfterAnother,
+}
+
+// So many sources, a power of two, of so many entries each.
+#[derive(Clone, Copy, Debug)]
+struct Sources {
+    count: u64,
+    each: u64,
+    order: Order,
+}
+
+impl Sources {
+    // The key of an entry. Those of a source ascend, and no two are the same.
+    fn key_of(&self, source: u64, place: u64) -> u64 {
+        let turn = place.wrapping_mul(self.count);
+        match self.order {
+            Order::InTurn => turn.wrapping_add(source),
+            Order::Mixed => {
+                let mixed = source.wrapping_mul(5).wrapping_add(place.wrapping_mul(3));
+                turn.wrapping_add(mixed & self.count.wrapping_sub(1))
+            }
+            Order::OneAfterAnother => source.wrapping_mul(self.each).wrapping_add(place),
+        }
+    }
+
+    fn entries(&self) -> u64 {
+        self.count.saturating_mul(self.each)
+    }
+}
+
+// Puts an entry of a source in, where the source has it.
+fn push_entry<'a>(
+    queue: &mut LazyTournament<Counted<'a>>,
+    room: usize,
+    sources: &Sources,
+    source: u64,
+    place: u64,
+    made: &'a Cell<u64>,
+)
+    requires { queue.old.room ≡ room }
+    ensures { queue.new.room ≡ room }
+{
+    if place < sources.each && queue.len() < room {
+        let key = sources.key_of(source, place);
+        queue.push(Counted {
+            key,
+            source,
+            place,
+            made,
+        });
+    }
+}
+
+// Takes the least entry out and the next of its source in, as a merger does: the key.
+fn take_next<'a>(
+    queue: &mut LazyTournament<Counted<'a>>,
+    room: usize,
+    sources: &Sources,
+    made: &'a Cell<u64>,
+) -> Option<u64>
+    requires { queue.old.room ≡ room }
+    ensures { queue.new.room ≡ room }
+{
+    let entry = queue.pop_min()?;
+    let next = entry.place.wrapping_add(1);
+    push_entry(queue, room, sources, entry.source, next, made);
+    Some(entry.key)
+}
+
+// Puts the first entry of each source in.
+fn push_first<'a>(
+    queue: &mut LazyTournament<Counted<'a>>,
+    room: usize,
+    sources: &Sources,
+    made: &'a Cell<u64>,
+)
+    requires { queue.old.room ≡ room }
+    ensures { queue.new.room ≡ room }
+{
+    for source in 0..sources.count {
+        push_entry(queue, room, sources, source, 0, made);
+    }
+}
+
+// Takes all entries out: how many came in the order of their keys.
+fn take_all<'a>(
+    queue: &mut LazyTournament<Counted<'a>>,
+    room: usize,
+    sources: &Sources,
+    made: &'a Cell<u64>,
+) -> u64
+    requires { queue.old.room ≡ room }
+{
+    let mut ascended = 0u64;
+    let mut least = 0;
+    'entries: for _ in 0..sources.entries() {
+        let key = take_next(queue, room, sources, made).unwrap_or(0);
+        if key >= least {
+            ascended = ascended.wrapping_add(1);
+        }
+        least = key;
+    }
+    ascended
+}
+
+// What a merge of sources comes to: how many entries came in order, how many are left, how many
+// comparisons were made, and how many the queue counted.
+fn merged<'a>(
+    mut queue: LazyTournament<Counted<'a>>,
+    room: usize,
+    sources: &Sources,
+    made: &'a Cell<u64>,
+) -> (u64, usize, u64, u64)
+    requires { queue.room ≡ room }
+{
+    push_first(&mut queue, room, sources, made);
+    let ascended = take_all(&mut queue, room, sources, made);
+    (ascended, queue.len(), made.get(), queue.steps())
+}
+
+// The same through a queue with room for two entries a source, as a merger has.
+fn merges(alloc: Global, sources: &Sources, room: usize) -> Result<(u64, usize, u64, u64), Error> {
+    let made = Cell::new(0);
+    let queue = LazyTournament::with_capacity(alloc, room)?;
+    Ok(merged(queue, room, sources, &made))
+}
+
+// Whether all entries come in order, the comparisons are those that the queue counts, and they are
+// so many, and at most so many an entry.
+fn makes(alloc: Global, sources: &Sources, room: usize, an_entry: u64, comparisons: u64) -> bool {
+    let entries = sources.entries();
+    let bound = entries.saturating_mul(an_entry);
+    match merges(alloc, sources, room) {
+        Ok((ascended, left, made, steps)) => {
+            ascended == entries
+                && left == 0
+                && made == steps
+                && made == comparisons
+                && made <= bound
+        }
+        Err(_) => false,
+    }
+}
+
+// Of n sources in twice as many slots, n - 1 matches are played at the first pop. From then on a
+// push plays the h above its slot, 3 for 8 sources and 6 for 64, as long as all sources have
+// entries. A source that ends leaves its matches to the others: above its slot one fewer is played,
+// and fewer and fewer as more of them end. Where they end in the order of their slots that makes 5
+// matches for 8 sources, and 129 for 64. Where one source comes after another, a push plays only the
+// matches against the later ones: half of them for a source on the average.
+//
+// In each row: the sources, the room of the queue, h, and the comparisons.
+const COMPARISONS: &[(Sources, usize, u64, u64)] = &[
+    (
+        Sources {
+            count: 8,
+            each: 100,
+            order: Order::InTurn,
+        },
+        16,
+        3,
+        // 7 + 3 * 792 + 5
+        2388,
+    ),
+    (
+        Sources {
+            count: 8,
+            each: 100,
+            order: Order::Mixed,
+        },
+        16,
+        3,
+        // The slots end in the order 3 0 5 2 7 4 1 6: 7 + 3 * 792 + 10.
+        2393,
+    ),
+    (
+        Sources {
+            count: 8,
+            each: 100,
+            order: Order::OneAfterAnother,
+        },
+        16,
+        3,
+        // 7 + 12 * 99 + 5
+        1200,
+    ),
+    (
+        Sources {
+            count: 64,
+            each: 20,
+            order: Order::InTurn,
+        },
+        128,
+        6,
+        // 63 + 6 * 1216 + 129
+        7488,
+    ),
+    (
+        Sources {
+            count: 64,
+            each: 20,
+            order: Order::OneAfterAnother,
+        },
+        128,
+        6,
+        // 63 + 192 * 19 + 129
+        3840,
+    ),
+];
+
+#[test]
+fn an_entry_takes_as_many_comparisons_as_its_slot_has_matches(rt: HostRuntime) {
+    for (sources, room, an_entry, comparisons) in COMPARISONS {
+        let is_so = makes(rt.alloc(), sources, *room, *an_entry, *comparisons);
+        assert!(rt; is_so, "{sources:?}");
+    }
+}
