@@ -7,6 +7,10 @@ mod changed_bytes;
 #[cfg(test)]
 mod changed_meta;
 #[cfg(test)]
+mod damage;
+#[cfg(test)]
+mod numbers;
+#[cfg(test)]
 mod pins;
 #[cfg(test)]
 mod stored_reads;

@@ -1,9 +1,12 @@
 //! Point reads of tables that were stored in version 3.
 use example_tables::large::asked;
-use example_tables::stored::{filter_parts, one_entry, one_entry_filtered};
-use example_tables::tables::{open, overwritten, read};
-use lsm_tables::Table;
-use sst_blocks::{Error, SeqNo, Slice};
+use example_tables::stored::{filter_parts, one_entry, one_entry_filtered, two_levels};
+use example_tables::tables::{load_entries, open, overwritten, read};
+use lsm_tables::{Scanner, Table};
+use sst_blocks::{
+    BlockHandle, BlockOffset, BlockSource, BlockType, DataBlock, Error, Opened, SeqNo, Slice,
+    ValueType,
+};
 use std::alloc::{Allocator, Global};
 use std::test::Fail;
 
@@ -83,22 +86,18 @@ fn filters_of_stored_tables(rt: HostRuntime) -> Result<(), Fail> {
     Ok(())
 }
 
-// The table in four blocks of 44 bytes, of which all but the second are damaged in their last byte.
-fn damaged(alloc: Global) -> Result<Table, Error> {
+// A table in four blocks of 44 bytes, of which all but the second are damaged in their last byte.
+fn damaged(alloc: Global, bytes: &[u8]) -> Result<Table, Error> {
     let changes: [(usize, &[u8]); 3] = [(43, b"?"), (131, b"?"), (175, b"?")];
-    open(
-        alloc,
-        overwritten(alloc, &filter_parts::BYTES, &changes)?,
-        0,
-    )
+    open(alloc, overwritten(alloc, bytes, &changes)?, 0)
 }
 
 // What a read answers, and how many data blocks it loads.
 type Answer = (Result<Option<SeqNo>, Error>, u64);
 
 // What a read answers of it.
-fn damaged_read(alloc: Global, key: &[u8], seqno: SeqNo) -> Result<Answer, Error> {
-    asked(damaged(alloc), |table| Ok(read(table, key, seqno)))
+fn damaged_read(alloc: Global, bytes: &[u8], key: &[u8], seqno: SeqNo) -> Result<Answer, Error> {
+    asked(damaged(alloc, bytes), |table| Ok(read(table, key, seqno)))
 }
 
 const OF_DAMAGED: &[(&[u8], SeqNo, Answer)] = &[
@@ -109,10 +108,73 @@ const OF_DAMAGED: &[(&[u8], SeqNo, Answer)] = &[
     (b"b", 2, (Err(Error::ChecksumMismatch), 1)),
 ];
 
-#[test]
-fn a_damaged_block_refuses_its_own_reads(rt: HostRuntime) -> Result<(), Fail> {
+// Whether each read of it answers what it should.
+fn refuses_its_own(alloc: Global, bytes: &[u8]) -> Result<bool, Error> {
     for (key, seqno, answer) in OF_DAMAGED {
-        assert!(rt; damaged_read(rt.alloc(), key, *seqno)? == *answer);
+        if damaged_read(alloc, bytes, key, *seqno)? != *answer {
+            return Ok(false);
+        }
     }
-    Ok(())
+    Ok(true)
+}
+
+#[test]
+fn a_damaged_block_refuses_its_own_reads(rt: HostRuntime) {
+    assert!(rt; refuses_its_own(rt.alloc(), &filter_parts::BYTES) == Ok(true));
+    assert!(rt; refuses_its_own(rt.alloc(), &two_levels::BYTES) == Ok(true));
+}
+
+// The scan of the table of one entry whose data block is damaged.
+fn damaged_scan(alloc: Global) -> Result<Scanner, Error> {
+    let bytes = overwritten(alloc, &one_entry::BYTES, &[(44, b"?")])?;
+    asked(open(alloc, bytes, 0), |table| table.scan())
+}
+
+// The number of its refusal, or 0 for none.
+fn scan_refusal(alloc: Global) -> u8 {
+    match damaged_scan(alloc) {
+        Ok(scan) => {
+            drop(scan);
+            0
+        }
+        Err(error) => error.number(),
+    }
+}
+
+#[test]
+fn a_damaged_first_block_refuses_the_scan_of_the_table(rt: HostRuntime) {
+    assert_eq!(rt; scan_refusal(rt.alloc()), 5);
+}
+
+// Whether a block has one entry alone, `a` at 1 with the value `x`.
+fn has_the_entry(block: &DataBlock) -> Result<bool, Error> {
+    if block.len() != 1 {
+        return Ok(false);
+    }
+    let item = block.entry(0)?;
+    Ok(
+        item.key.user_key.as_slice() == b"a".as_slice()
+            && item.key.seqno == 1
+            && item.key.value_type == ValueType::Value
+            && item.value.as_slice() == b"x".as_slice(),
+    )
+}
+
+// The data block of the table of one entry.
+fn data_block(source: &BlockSource) -> Result<DataBlock, Error> {
+    let handle = BlockHandle::new(BlockOffset(0), 45);
+    load_entries(source, &handle, BlockType::Data, &mut Opened::none())
+}
+
+fn stored_entry(alloc: Global) -> Result<bool, Error> {
+    let source = BlockSource::new(alloc, Slice::from(alloc, &one_entry::BYTES)?);
+    asked(
+        asked(source, |source| data_block(source)),
+        |block| has_the_entry(block),
+    )
+}
+
+#[test]
+fn a_data_block_of_version_3_holds_its_entry(rt: HostRuntime) {
+    assert!(rt; stored_entry(rt.alloc()) == Ok(true));
 }
