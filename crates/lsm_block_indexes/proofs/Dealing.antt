@@ -1,5 +1,5 @@
 -- Whatever keeps what is left deals it, at any ends, up to the first error.
-use Rattle.std.proofs.Common.{◌≡◌, false, List, [], ◌∷◌, map, refl, sym, ap, ◌∙◌}
+use Rattle.std.proofs.Common.{◌≡◌, false, List, [], ◌∷◌, map, refl, sym, subst, ap, ◌∙◌, ℕ, arith}
 use Rattle.std.specs.Prelude.{Option, Some, None, Result, Ok, Err, MatchOption, MatchResult}
 use Rattle.std.specs.List.{AllByRecursion}
 use Rattle.sst_entries.specs.declared.error.Error.{Error}
@@ -9,7 +9,7 @@ use Rattle.sst_entries.specs.Error.{is_memory}
 use Rattle.sst_entries.specs.Stream.{but_first, but_last, front_of, back_of, deal, answer_stops, EndAtError, NoneStops, Runs}
 use Rattle.sst_entries.proofs.StreamLemmas.{can_by}
 use Rattle.lsm_block_indexes.specs.Dealt.{DealsEnding, up_to_error}
-use Rattle.lsm_block_indexes.specs.Left.{Left, LeftGives, IsEnded}
+use Rattle.lsm_block_indexes.specs.Left.{CountsLoads, IsEnded, Left, LeftGives, StaysEnded, loaded}
 use Rattle.lsm_block_indexes.proofs.AtEnds.{R, End}
 
 -- an end of a list
@@ -131,3 +131,33 @@ module _ {S : Type 0} (view : S → Left) (front back : S → Option R → S →
   deals_left s =
       deals_ending (λ (u : S). (view u).results) (λ (u : S). IsEnded (view u)) (λ u over. over.results) front back
       (λ u r t step. ends_by view front_of u r t (to_front u r t step)) (λ u r t step. ends_by view back_of u r t (to_back u r t step)) s
+
+  -- once all is over, a call answers `None` and loads nothing, and all stays over
+  none_loaded : (l m : Left) → l.loads ≡ 0 → CountsLoads l m → m.opened ≡ l.opened
+  none_loaded l m none loads =
+      let zero_now : loads.count ≡ 0 = omega (arith, none, loads.within) in
+      loads.counts ∙ ap (λ (n : ℕ). loaded n l.opened) zero_now
+
+  ended_along : (ends : List Direction) (rs : List (Option R)) (s t : S) → IsEnded (view s) → Runs front back s ends rs t → IsEnded (view t) × ((view t).opened ≡ (view s).opened)
+  ended_along [] [] s t over runs = (subst (λ (u : S). IsEnded (view u)) runs over, ap (λ (u : S). (view u).opened) (sym runs))
+  ended_along [] (r ∷ rs) s t over runs = absurd runs
+  ended_along (e ∷ ends) [] s t over runs = absurd runs
+  ended_along (Front ∷ ends) (r ∷ rs) s t over runs =
+      let step = to_front s r runs.0 runs.1 in
+      let one = over_step (λ (u : S). (view u).results) (λ (u : S). IsEnded (view u)) (λ u ended. ended.results) front_of s runs.0 r refl over (ends_by view front_of s r runs.0 step) in
+      let more = ended_along ends rs runs.0 t one.1 runs.2 in
+      (more.0, more.1 ∙ none_loaded (view s) (view runs.0) over.loads step.loads)
+  ended_along (Back ∷ ends) (r ∷ rs) s t over runs =
+      let step = to_back s r runs.0 runs.1 in
+      let one = over_step (λ (u : S). (view u).results) (λ (u : S). IsEnded (view u)) (λ u ended. ended.results) back_of s runs.0 r refl over (ends_by view back_of s r runs.0 step) in
+      let more = ended_along ends rs runs.0 t one.1 runs.2 in
+      (more.0, more.1 ∙ none_loaded (view s) (view runs.0) over.loads step.loads)
+
+  pub stays_ended : (s : S) → IsEnded (view s) → StaysEnded front back view s
+  stays_ended s over = record {
+    answers = λ ends rs t runs.
+        none_along (λ (u : S). (view u).results) (λ (u : S). IsEnded (view u)) (λ u ended. ended.results) front back
+        (λ u r v step. ends_by view front_of u r v (to_front u r v step)) (λ u r v step. ends_by view back_of u r v (to_back u r v step)) ends rs s t over runs;
+    ended = λ ends rs t runs. (ended_along ends rs s t over runs).0;
+    opened = λ ends rs t runs. (ended_along ends rs s t over runs).1;
+  }

@@ -13,10 +13,10 @@ use Rattle.lsm_block_indexes.specs.declared.kinds.BlockIndexIterImpl.TheVariants
 use Rattle.lsm_block_indexes.specs.Dealt.{DealsEnding}
 use Rattle.lsm_block_indexes.specs.Index.{Index, full, on_demand, two_level}
 use Rattle.lsm_block_indexes.specs.Kinds.{BackGives, FrontGives, IsReader, IsSought, SeekAnswers, left_of}
-use Rattle.lsm_block_indexes.specs.Left.{IsBetween, IsTwoLevelSought, LeftGives, OnDemand, TwoLevel, new_on_demand, new_two_level, two_level_left}
+use Rattle.lsm_block_indexes.specs.Left.{IsBetween, IsEnded, IsTwoLevelSought, LeftGives, StaysEnded, OnDemand, TwoLevel, new_on_demand, new_two_level, two_level_left}
 use Rattle.lsm_block_indexes.proofs.AtEnds.{R}
 use Rattle.lsm_block_indexes.proofs.Counting.{counts_along}
-use Rattle.lsm_block_indexes.proofs.Dealing.{deals_left}
+use Rattle.lsm_block_indexes.proofs.Dealing.{deals_left, stays_ended}
 use Rattle.lsm_block_indexes.proofs.Seeks.{all_of}
 use Rattle.lsm_block_indexes.proofs.Laws.{demand_back, demand_between, demand_front, demand_none, levels_back, levels_between, levels_front, levels_none, span_back, span_between, span_front, span_none}
 
@@ -55,6 +55,9 @@ module _ {A : Type 0} where
 
   pub kind_deals : (s : BlockIndexIterImpl A) → DealsEnding FrontGives BackGives (λ _. Unit {0}) (λ _. Unit {0}) s (left_of s).results
   kind_deals s = deals_left left_of FrontGives BackGives kind_front kind_back s
+
+  pub kind_stays : (s : BlockIndexIterImpl A) → IsEnded (left_of s) → StaysEnded FrontGives BackGives left_of s
+  kind_stays s ended = stays_ended left_of FrontGives BackGives kind_front kind_back s ended
 
   pub kind_between : (s : BlockIndexIterImpl A) (lo : Option (List ℕ × ℕ)) (hi : Option (List ℕ)) → IsSought s lo hi → IsBetween (left_of s) lo hi
   kind_between (Full s) lo hi sought = span_between s lo hi sought

@@ -9,10 +9,10 @@ use Rattle.sst_blocks.specs.Handles.{window}
 use Rattle.lsm_block_indexes.specs.Answers.{AnswersAny, AnswersTrue}
 use Rattle.lsm_block_indexes.specs.Dealt.{DealsEnding}
 use Rattle.lsm_block_indexes.specs.Index.{full, block_between, parts_between}
-use Rattle.lsm_block_indexes.specs.Left.{LeftGives, IsBetween, IsSpanSought, IsDemandSought, IsTwoLevelSought, TwoLevelGives, back_early, back_needs, front_early, front_needs, OnDemand, OnDemandGives, TwoLevel, demanded, demands, on_demand_left, span_left, two_level_left}
+use Rattle.lsm_block_indexes.specs.Left.{LeftGives, IsBetween, IsEnded, IsSpanSought, StaysEnded, IsDemandSought, IsTwoLevelSought, TwoLevelGives, back_early, back_needs, front_early, front_needs, OnDemand, OnDemandGives, TwoLevel, demanded, demands, on_demand_left, span_left, two_level_left}
 use Rattle.lsm_block_indexes.specs.Seen.{PartGives}
 use Rattle.lsm_block_indexes.proofs.AtEnds.{R, End, Carries, at_part, part_ends, carries_front, carries_back}
-use Rattle.lsm_block_indexes.proofs.Dealing.{deals_left}
+use Rattle.lsm_block_indexes.proofs.Dealing.{deals_left, stays_ended}
 use Rattle.lsm_block_indexes.proofs.Seeks.{none_left}
 
 -- ---- one of a block that stays loaded
@@ -58,6 +58,9 @@ demand_back s r t step = step.gives
 pub demand_deals : (s : OnDemand) → DealsEnding (OnDemandGives front_of) (OnDemandGives back_of) (λ _. Unit {0}) (λ _. Unit {0}) s (on_demand_left s).results
 demand_deals s = deals_left on_demand_left (OnDemandGives front_of) (OnDemandGives back_of) demand_front demand_back s
 
+pub demand_stays : (s : OnDemand) → IsEnded (on_demand_left s) → StaysEnded (OnDemandGives front_of) (OnDemandGives back_of) on_demand_left s
+demand_stays s ended = stays_ended on_demand_left (OnDemandGives front_of) (OnDemandGives back_of) demand_front demand_back s ended
+
 pub demand_between : (s : OnDemand) (lo : Option (List ℕ × ℕ)) (hi : Option (List ℕ)) → IsDemandSought s lo hi → IsBetween (on_demand_left s) lo hi
 demand_between s lo hi sought = record {
   results = ap (demanded s) sought.part
@@ -83,6 +86,9 @@ levels_back s r t step = step.gives
 
 pub levels_deals : (s : TwoLevel) → DealsEnding (TwoLevelGives front_of front_needs front_early) (TwoLevelGives back_of back_needs back_early) (λ _. Unit {0}) (λ _. Unit {0}) s (two_level_left s).results
 levels_deals s = deals_left two_level_left (TwoLevelGives front_of front_needs front_early) (TwoLevelGives back_of back_needs back_early) levels_front levels_back s
+
+pub levels_stays : (s : TwoLevel) → IsEnded (two_level_left s) → StaysEnded (TwoLevelGives front_of front_needs front_early) (TwoLevelGives back_of back_needs back_early) two_level_left s
+levels_stays s ended = stays_ended two_level_left (TwoLevelGives front_of front_needs front_early) (TwoLevelGives back_of back_needs back_early) levels_front levels_back s ended
 
 pub levels_between : (s : TwoLevel) (lo : Option (List ℕ × ℕ)) (hi : Option (List ℕ)) → IsTwoLevelSought s lo hi → IsBetween (two_level_left s) lo hi
 levels_between s lo hi sought = record {

@@ -60,14 +60,14 @@ demand_first of end carries s hs ts r o none counted told early gives =
     }
 
 -- and where it cannot be loaded
-pub demand_fault : (of : End) → ((e : Error) → (of (Err e ∷ [])).0 ≡ Some (Err e)) → (s : OnDemand) (e : Error) (hs : List Handle) (o : Opened)
-    → s.part ≡ None → hs ≡ [] → o ≡ loaded 1 s.opened → (is_memory e ≡ false → Err e ∷ [] ≡ block_between s.body s.lower s.upper s.place) → FaultsFirst {X = List Handle} (Err e) (block_early s.body s.place) → OnDemandGives of s (Some (Err e)) (record s { part = Some hs; opened = o })
-demand_fault of alone s e hs o none gone counted told early =
+pub demand_fault : (of : End) → ((e : Error) → (of (Err e ∷ [])).0 ≡ Some (Err e)) → (s : OnDemand) (e : Error) (o : Opened)
+    → s.part ≡ None → o ≡ loaded 1 s.opened → (is_memory e ≡ false → Err e ∷ [] ≡ block_between s.body s.lower s.upper s.place) → FaultsFirst {X = List Handle} (Err e) (block_early s.body s.place) → OnDemandGives of s (Some (Err e)) (record s { part = Some []; opened = o })
+demand_fault of alone s e o none counted told early =
     let one : demands s.part ≡ 1 = ap demands none in
     record {
       gives = record {
         answer = (λ fine. ap (λ (rs : List R). (of rs).0) (ap (demanded s) none ∙ sym (told fine)) ∙ alone e, λ over. omega (arith, over.loads, one));
-        ends = record { results = ap ok_results gone; loads = refl };
+        ends = record { results = refl; loads = refl };
         index = refl;
         loads = record { count = 1; counts = counted; within = omega (arith, one) };
       };

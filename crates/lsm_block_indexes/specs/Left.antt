@@ -1,12 +1,14 @@
 -- What an index iterator still deals, and one call of it.
 use Rattle.std.specs.Prelude.{◌≡◌, ℕ, zero, suc, ◌+◌, ◌<◌, ◌≤◌, false, List, [], ◌∷◌, ◌++◌, length, Option, Some, None, Result, Ok, Err, MatchOption, MatchResult, map, reverse}
+use Rattle.std.specs.List.{AllByRecursion}
 use Rattle.std.specs.Option.{option_or}
 use Rattle.sst_blocks.specs.declared.block_type.BlockType.TheVariants.{Index as IndexBlock}
 use Rattle.sst_entries.specs.declared.error.Error.{Error}
+use Rattle.sst_entries.specs.declared.stream.Direction.{Direction}
 use Rattle.sst_blocks.specs.declared.opened.Opened.{Opened}
 use Rattle.sst_entries.specs.Error.{is_memory}
 use Rattle.sst_entries.specs.Span.{Span, rest_in}
-use Rattle.sst_entries.specs.Stream.{answer_stops, ok_results}
+use Rattle.sst_entries.specs.Stream.{answer_stops, ok_results, Runs}
 use Rattle.sst_blocks.specs.Handle.{Handle}
 use Rattle.sst_blocks.specs.Handles.{window}
 use Rattle.sst_blocks.specs.Opened.{with_load, none_opened}
@@ -24,6 +26,15 @@ pub record Left : Type 0 where
 pub record IsEnded (l : Left) : Type 0 where
   pub results : l.results ≡ []
   pub loads : l.loads ≡ 0
+
+-- whatever ends are asked, each call answers `None`, and nothing is loaded
+pub record StaysEnded {S : Type 0} (front back : S → Option (Result Handle Error) → S → Type 0) (left : S → Left) (s : S) : Type 0 where
+  pub answers : (ends : List Direction) (rs : List (Option (Result Handle Error))) (t : S)
+      → Runs front back s ends rs t → AllByRecursion (λ r. r ≡ None) rs
+  pub ended : (ends : List Direction) (rs : List (Option (Result Handle Error))) (t : S)
+      → Runs front back s ends rs t → IsEnded (left t)
+  pub opened : (ends : List Direction) (rs : List (Option (Result Handle Error))) (t : S)
+      → Runs front back s ends rs t → (left t).opened ≡ (left s).opened
 
 -- a bound on the answers that are left
 abbrev pub left_size : Left → ℕ

@@ -8,7 +8,7 @@ pub use Rattle.sst_blocks.specs.Seeking.{DealsLeft, KeepsLowerEdge, KeepsUpperEd
 pub use Rattle.lsm_block_indexes.specs.Answers.{AnswersAny, AnswersTrue}
 pub use Rattle.lsm_block_indexes.specs.Dealt.{DealsEnding}
 pub use Rattle.lsm_block_indexes.specs.Index.{Index, block_between, block_early, full, on_demand, two_level}
-pub use Rattle.lsm_block_indexes.specs.Left.{IsBetween, IsDemandSought, IsEnded, IsSpanSought, IsTwoLevelSought, Left, LeftGives}
+pub use Rattle.lsm_block_indexes.specs.Left.{IsBetween, IsDemandSought, IsEnded, IsSpanSought, IsTwoLevelSought, Left, LeftGives, StaysEnded}
 pub use Rattle.lsm_block_indexes.specs.Left.{OnDemand, OnDemandGives, demanded, demands, left_size, loaded, new_on_demand, new_two_level}
 pub use Rattle.lsm_block_indexes.specs.Left.{on_demand_left, span_left, two_level_left}
 pub use Rattle.lsm_block_indexes.specs.Left.{EntersBack, EntersFront, Fails, TwoLevel, TwoLevelGives, back_early, back_needs, front_early, front_needs, part_at}

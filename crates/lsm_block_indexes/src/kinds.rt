@@ -2,7 +2,7 @@
 ghost use Rattle.std.specs.Prelude.{◌≡◌, ℕ, Bool, List, Option, [], Some, None, false, MatchOption, OnOk, OnErr, IfOk, IfErr};
 ghost use Rattle.std.specs.Iterator.{at_most};
 ghost use Rattle.sst_entries.specs.declared.error.Error.TheVariants.{OutOfMemory};
-ghost use Rattle.lsm_block_indexes.specs.Words.{DealsEnding, Index, IsBetween, IsEnded, Left, left_size};
+ghost use Rattle.lsm_block_indexes.specs.Words.{DealsEnding, Index, IsBetween, IsEnded, Left, StaysEnded, left_size};
 ghost use Rattle.lsm_block_indexes.specs.Kinds.{BackGives, FrontGives, HasReader, IsReader, IsSought, SeekAnswers, TakesMemory};
 ghost use Rattle.lsm_block_indexes.specs.Kinds.{index_of, left_of};
 
@@ -15,7 +15,8 @@ use std::alloc::{Allocator, Global};
 /// Handles of an index, dealt from both ends, between edges that may be sought. An edge is to be sought once, and before the
 /// first step: what a later seek leaves is open, except that what is over stays over.
 ///
-/// After an error, [`Error::OutOfMemory`] among them, a step answers `None`, at either end.
+/// After an error of a step or of a seek, [`Error::OutOfMemory`] among them, a step answers `None`,
+/// at either end.
 pub trait BlockIndexIter<A: Allocator>: DoubleEndedIterator<
     Item = Result<KeyedBlockHandle<A>, Error>,
 > {
@@ -33,7 +34,9 @@ pub trait BlockIndexIter<A: Allocator>: DoubleEndedIterator<
 
     /// Drops what stands before the first handle that reaches a key and a number: whose end key is greater, or equal and
     /// numbered below `seqno`. It answers false only where nothing is left, and loads nothing. Refused
-    /// [`Error::OutOfMemory`] alone, and not at all where the whole index stays loaded; nothing has changed then.
+    /// [`Error::OutOfMemory`] alone, and not at all where the whole index stays loaded. A refusal
+    /// ends it: nothing more comes, from either end, and nothing more is loaded or counted; a later
+    /// seek brings nothing back.
     fn seek_lower(&mut self, key: &[u8], seqno: SeqNo) -> Result<bool, Error>
         ensures sought { (upper : Option (List ℕ)) → sought self.old None upper →
             OnOk result (sought self.new (Some (key.now, seqno)) upper) }
@@ -48,7 +51,9 @@ pub trait BlockIndexIter<A: Allocator>: DoubleEndedIterator<
             Self.can_next_back self.new (left self.new).results }
         ensures index { (left self.new).index ≡ (left self.old).index }
         ensures opened { (left self.new).opened ≡ (left self.old).opened }
-        ensures unchanged { OnErr result (self.new ≡ self.old) }
+        // Whatever ends are asked after a refusal, each call answers `None` and loads nothing.
+        ensures ended { OnErr result (IsEnded (left self.new)) }
+        ensures stays { OnErr result (StaysEnded Self.next_gives Self.next_back_gives left self.new) }
         ensures refused { OnErr result (takes_memory self.old) }
         // An index that stays loaded goes on to want none.
         ensures wants { takes_memory self.new → takes_memory self.old }
@@ -69,7 +74,8 @@ pub trait BlockIndexIter<A: Allocator>: DoubleEndedIterator<
             Self.can_next_back self.new (left self.new).results }
         ensures index { (left self.new).index ≡ (left self.old).index }
         ensures opened { (left self.new).opened ≡ (left self.old).opened }
-        ensures unchanged { OnErr result (self.new ≡ self.old) }
+        ensures ended { OnErr result (IsEnded (left self.new)) }
+        ensures stays { OnErr result (StaysEnded Self.next_gives Self.next_back_gives left self.new) }
         ensures refused { OnErr result (takes_memory self.old) }
         ensures wants { takes_memory self.new → takes_memory self.old }
         ensures err { IfErr result (λ e. e ≡ OutOfMemory) };

@@ -99,8 +99,8 @@ impl<A: Allocator + Clone> TwoLevelBlockIndex<A> {
 
 /// The handles of an index of two levels, dealt from both ends. A partition is loaded where a step first needs it, and no step
 /// loads more than it needs; each load is counted; where one cannot be loaded, the fault comes in the place of its handles, and one
-/// that needs no memory to be found comes before any want of it for this partition. After an error, [`Error::OutOfMemory`] among
-/// them, nothing more comes, from either end.
+/// that needs no memory to be found comes before any want of it for this partition. After an error of a step or of a seek,
+/// [`Error::OutOfMemory`] among them, nothing more comes, from either end.
 #[derive(Drop)]
 pub struct Iter<A: Allocator = Global> {
     source: BlockSource<A>,
@@ -261,15 +261,29 @@ impl<A: Allocator + Clone> BlockIndexIter<A> for Iter<A> {
     ghost takes_memory = { λ _. Unit {0} };
 
     fn seek_lower(&mut self, key: &[u8], seqno: SeqNo) -> Result<bool, Error> {
-        self.edges.set_lower(key, seqno)?;
-        self.tops.seek_lower(key, seqno);
-        Ok(true)
+        match self.edges.set_lower(key, seqno) {
+            Ok(()) => {
+                self.tops.seek_lower(key, seqno);
+                Ok(true)
+            }
+            Err(refusal) => {
+                self.end();
+                Err(refusal)
+            }
+        }
     }
 
     fn seek_upper(&mut self, key: &[u8], seqno: SeqNo) -> Result<bool, Error> {
-        self.edges.set_upper(key)?;
-        self.tops.seek_upper(key, seqno);
-        Ok(true)
+        match self.edges.set_upper(key) {
+            Ok(()) => {
+                self.tops.seek_upper(key, seqno);
+                Ok(true)
+            }
+            Err(refusal) => {
+                self.end();
+                Err(refusal)
+            }
+        }
     }
 
     fn opened(&self) -> Opened {

@@ -1,5 +1,5 @@
 //! The index on demand: one block with the handle of every data block, which each iterator loads.
-ghost use Rattle.std.specs.Prelude.{◌≡◌, Some, None, IfOk, IfErr};
+ghost use Rattle.std.specs.Prelude.{◌≡◌, [], Some, None, IfOk, IfErr};
 ghost use Rattle.std.specs.Iterator.{at_most};
 ghost use Rattle.sst_entries.specs.declared.error.Error.TheVariants.{OutOfMemory};
 ghost use Rattle.lsm_block_indexes.specs.Words.{AnswersTrue, DealsEnding, IsBetween, IsDemandSought, OnDemandGives, back_of, body_of, front_of};
@@ -84,8 +84,8 @@ impl<A: Allocator + Clone> VolatileBlockIndex<A> {
 }
 
 /// The handles of an index on demand, dealt from both ends. The first step loads the block, once; where that is refused, the
-/// fault comes in the place of the handles, and one that needs no memory to be found comes before any want of it. After an error,
-/// [`Error::OutOfMemory`] among them, nothing more comes, from either end.
+/// fault comes in the place of the handles, and one that needs no memory to be found comes before any want of it. After an error
+/// of a step or of a seek, [`Error::OutOfMemory`] among them, nothing more comes, from either end.
 #[derive(Drop)]
 pub struct Iter<A: Allocator = Global> {
     source: BlockSource<A>,
@@ -111,6 +111,15 @@ impl<A: Allocator> Model for Iter<A> {
     } };
 }
 
+impl<A: Allocator> Iter<A> {
+    /// Lets go what is left; nothing is loaded any more.
+    fn end(&mut self)
+        ensures { self.new ≡ record self.old { part = Some [] } }
+    {
+        drop(self.part.replace(Part::none()));
+    }
+}
+
 impl<A: Allocator + Clone> Iterator for Iter<A> {
     type Item = Result<KeyedBlockHandle<A>, Error>;
 
@@ -131,8 +140,7 @@ impl<A: Allocator + Clone> Iterator for Iter<A> {
                 item
             }
             Err(error) => {
-                // Nothing more comes.
-                drop(self.part.replace(Part::none()));
+                self.end();
                 Some(Err(error))
             }
         }
@@ -155,8 +163,7 @@ impl<A: Allocator + Clone> DoubleEndedIterator for Iter<A> {
                 item
             }
             Err(error) => {
-                // Nothing more comes.
-                drop(self.part.replace(Part::none()));
+                self.end();
                 Some(Err(error))
             }
         }
@@ -173,11 +180,23 @@ impl<A: Allocator + Clone> BlockIndexIter<A> for Iter<A> {
     ghost takes_memory = { λ _. Unit {0} };
 
     fn seek_lower(&mut self, key: &[u8], seqno: SeqNo) -> Result<bool, Error> {
-        self.edges.set_lower(key, seqno).and(Ok(true))
+        match self.edges.set_lower(key, seqno) {
+            Ok(()) => Ok(true),
+            Err(refusal) => {
+                self.end();
+                Err(refusal)
+            }
+        }
     }
 
     fn seek_upper(&mut self, key: &[u8], _seqno: SeqNo) -> Result<bool, Error> {
-        self.edges.set_upper(key).and(Ok(true))
+        match self.edges.set_upper(key) {
+            Ok(()) => Ok(true),
+            Err(refusal) => {
+                self.end();
+                Err(refusal)
+            }
+        }
     }
 
     fn opened(&self) -> Opened {

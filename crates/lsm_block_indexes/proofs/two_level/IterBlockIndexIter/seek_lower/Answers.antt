@@ -1,33 +1,36 @@
 use Rattle.std.specs.Prelude.{Some, None}
-use Rattle.std.proofs.Common.{List, ap, sym, subst, ◌∙◌}
+use Rattle.std.proofs.Common.{List, ap, sym, subst, ◌∙◌, rules}
 use Rattle.sst_sections.specs.Sections.{body_of}
 use Rattle.sst_entries.specs.Span.{Span, rest_in}
 use Rattle.sst_blocks.specs.Handle.{Handle}
 use Rattle.sst_blocks.specs.Handles.{window}
 use Rattle.lsm_block_indexes.specs.Left.{IsEnded, TwoLevel, two_level_left}
-use Rattle.lsm_block_indexes.proofs.Laws.{levels_between, levels_deals}
+use Rattle.lsm_block_indexes.proofs.Laws.{levels_between, levels_deals, levels_stays}
 use Rattle.lsm_block_indexes.proofs.Sought.{levels_lower, levels_over}
 use Rattle.lsm_block_indexes.proofs.two_level.IterBlockIndexIter.seek_lower.Goals as goal
 
-pub returns-in_err-set_lower-clause-deals : goal.returns-in_err-set_lower-clause-deals
-returns-in_err-set_lower-clause-deals g c = levels_deals _
+pub returns-in-Err-clause-deals : goal.returns-in-Err-clause-deals
+returns-in-Err-clause-deals g c = levels_deals _
 
-pub returns-clause-sought : goal.returns-clause-sought
-returns-clause-sought g c upper was =
+pub returns-in-Ok-clause-sought : goal.returns-in-Ok-clause-sought
+returns-in-Ok-clause-sought g c upper was =
     let s : TwoLevel = record { body = body_of c.self.inside.source; whole = c.self.inside.tops.list; tops = rest_in c.self.inside.tops; lower = c.self.inside.edges.0; upper = c.self.inside.edges.1; front = c.self.inside.front; back = c.self.inside.back; opened = c.self.inside.opened } in
     let before = rw (← c.self.view_is) at was in
-    levels_lower s c.seek_lower.new.self c.set_lower.new.self (c.args.key.now, c.args.seqno) upper c.in_ok-set_lower.ensures.ok
+    levels_lower s c.seek_lower.new.self c.set_lower.new.self (c.args.key.now, c.args.seqno) upper c.in-Ok.ensures.ok
     (ap (λ (x : Span Handle). x.list) c.seek_lower.ensures.narrowed) (c.seek_lower.ensures.both upper c.self.inside.tops.list before.tops) before
 
-pub returns-clause-between : goal.returns-clause-between
-returns-clause-between g c upper was = levels_between _ (Some (c.args.key.now, c.args.seqno)) upper (returns-clause-sought g c upper was)
+pub returns-in-Ok-clause-between : goal.returns-in-Ok-clause-between
+returns-in-Ok-clause-between g c upper was = levels_between _ (Some (c.args.key.now, c.args.seqno)) upper (returns-in-Ok-clause-sought g c upper was)
 
-pub returns-clause-over : goal.returns-clause-over
-returns-clause-over g c over =
+pub returns-in-Ok-clause-over : goal.returns-in-Ok-clause-over
+returns-in-Ok-clause-over g c over =
     let s : TwoLevel = record { body = body_of c.self.inside.source; whole = c.self.inside.tops.list; tops = rest_in c.self.inside.tops; lower = c.self.inside.edges.0; upper = c.self.inside.edges.1; front = c.self.inside.front; back = c.self.inside.back; opened = c.self.inside.opened } in
     levels_over s c.seek_lower.new.self c.set_lower.new.self
     (λ none. c.seek_lower.ensures.kept ∙ ap (λ (hs : List Handle). window hs (Some (c.args.key.now, c.args.seqno)) None) none)
     (subst (λ (x : TwoLevel). IsEnded (two_level_left x)) (sym c.self.view_is) over)
 
-pub returns-clause-deals : goal.returns-clause-deals
-returns-clause-deals g c = levels_deals _
+pub returns-in-Ok-clause-deals : goal.returns-in-Ok-clause-deals
+returns-in-Ok-clause-deals g c = levels_deals _
+
+pub returns-in-Err-clause-stays : goal.returns-in-Err-clause-stays
+returns-in-Err-clause-stays g c = levels_stays _ (search rules)

@@ -1,32 +1,35 @@
 use Rattle.std.specs.Prelude.{Some}
-use Rattle.std.proofs.Common.{ap, sym, subst}
+use Rattle.std.proofs.Common.{ap, sym, subst, rules}
 use Rattle.sst_sections.specs.Sections.{body_of}
 use Rattle.sst_entries.specs.Span.{Span, rest_in}
 use Rattle.sst_blocks.specs.Handle.{Handle}
 use Rattle.lsm_block_indexes.specs.Left.{IsEnded, TwoLevel, two_level_left}
-use Rattle.lsm_block_indexes.proofs.Laws.{levels_between, levels_deals}
+use Rattle.lsm_block_indexes.proofs.Laws.{levels_between, levels_deals, levels_stays}
 use Rattle.lsm_block_indexes.proofs.Sought.{levels_over, levels_upper, none_nearer}
 use Rattle.lsm_block_indexes.proofs.two_level.IterBlockIndexIter.seek_upper.Goals as goal
 
-pub returns-in_err-set_upper-clause-deals : goal.returns-in_err-set_upper-clause-deals
-returns-in_err-set_upper-clause-deals g c = levels_deals _
+pub returns-in-Err-clause-deals : goal.returns-in-Err-clause-deals
+returns-in-Err-clause-deals g c = levels_deals _
 
-pub returns-clause-sought : goal.returns-clause-sought
-returns-clause-sought g c lower was =
+pub returns-in-Ok-clause-sought : goal.returns-in-Ok-clause-sought
+returns-in-Ok-clause-sought g c lower was =
     let s : TwoLevel = record { body = body_of c.self.inside.source; whole = c.self.inside.tops.list; tops = rest_in c.self.inside.tops; lower = c.self.inside.edges.0; upper = c.self.inside.edges.1; front = c.self.inside.front; back = c.self.inside.back; opened = c.self.inside.opened } in
     let before = rw (← c.self.view_is) at was in
-    levels_upper s c.seek_upper.new.self c.set_upper.new.self c.args.key.now lower c.in_ok-set_upper.ensures.ok
+    levels_upper s c.seek_upper.new.self c.set_upper.new.self c.args.key.now lower c.in-Ok.ensures.ok
     (ap (λ (x : Span Handle). x.list) c.seek_upper.ensures.narrowed) (c.seek_upper.ensures.both lower before.tops) before
 
-pub returns-clause-between : goal.returns-clause-between
-returns-clause-between g c lower was = levels_between _ lower (Some c.args.key.now) (returns-clause-sought g c lower was)
+pub returns-in-Ok-clause-between : goal.returns-in-Ok-clause-between
+returns-in-Ok-clause-between g c lower was = levels_between _ lower (Some c.args.key.now) (returns-in-Ok-clause-sought g c lower was)
 
-pub returns-clause-over : goal.returns-clause-over
-returns-clause-over g c over =
+pub returns-in-Ok-clause-over : goal.returns-in-Ok-clause-over
+returns-in-Ok-clause-over g c over =
     let s : TwoLevel = record { body = body_of c.self.inside.source; whole = c.self.inside.tops.list; tops = rest_in c.self.inside.tops; lower = c.self.inside.edges.0; upper = c.self.inside.edges.1; front = c.self.inside.front; back = c.self.inside.back; opened = c.self.inside.opened } in
     levels_over s c.seek_upper.new.self c.set_upper.new.self
     (none_nearer _ c.self.inside.tops c.seek_upper.new.self c.seek_upper.ensures.narrowed)
     (subst (λ (x : TwoLevel). IsEnded (two_level_left x)) (sym c.self.view_is) over)
 
-pub returns-clause-deals : goal.returns-clause-deals
-returns-clause-deals g c = levels_deals _
+pub returns-in-Ok-clause-deals : goal.returns-in-Ok-clause-deals
+returns-in-Ok-clause-deals g c = levels_deals _
+
+pub returns-in-Err-clause-stays : goal.returns-in-Err-clause-stays
+returns-in-Err-clause-stays g c = levels_stays _ (search rules)

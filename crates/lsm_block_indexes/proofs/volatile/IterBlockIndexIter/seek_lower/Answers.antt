@@ -1,25 +1,29 @@
 use Rattle.std.specs.Prelude.{Some}
-use Rattle.std.proofs.Common.{sym, subst}
-use Rattle.std.proofs.lemmas.Result.{on_ok_weaker}
+use Rattle.std.proofs.Common.{sym, subst, rules}
 use Rattle.sst_sections.specs.Sections.{body_of}
 use Rattle.lsm_block_indexes.specs.Left.{IsEnded, OnDemand, on_demand_left}
-use Rattle.lsm_block_indexes.proofs.Laws.{demand_between, demand_deals}
-use Rattle.lsm_block_indexes.proofs.Refusals.{handed_on}
+use Rattle.lsm_block_indexes.proofs.Laws.{demand_between, demand_deals, demand_stays}
 use Rattle.lsm_block_indexes.proofs.Sought.{demand_lower, demand_over}
 use Rattle.lsm_block_indexes.proofs.volatile.IterBlockIndexIter.seek_lower.Goals as goal
 
-pub returns-clause-sought : goal.returns-clause-sought
-returns-clause-sought g c upper was =
+pub returns-in-Ok-clause-sought : goal.returns-in-Ok-clause-sought
+returns-in-Ok-clause-sought g c upper was =
     let s : OnDemand = record { body = body_of c.self.inside.source; place = c.self.inside.handle; lower = c.self.inside.edges.0; upper = c.self.inside.edges.1; part = c.self.inside.part; opened = c.self.inside.opened } in
-    handed_on _ _ _ _ c.and.ensures (on_ok_weaker c.set_lower.result (λ kept. demand_lower s c.set_lower.new.self (c.args.key.now, c.args.seqno) upper kept (rw (← c.self.view_is) at was)) c.set_lower.ensures.ok)
+    demand_lower s c.set_lower.new.self (c.args.key.now, c.args.seqno) upper c.in-Ok.ensures.ok (rw (← c.self.view_is) at was)
 
-pub returns-clause-between : goal.returns-clause-between
-returns-clause-between g c upper was = on_ok_weaker c.and.result (demand_between _ (Some (c.args.key.now, c.args.seqno)) upper) (returns-clause-sought g c upper was)
+pub returns-in-Ok-clause-between : goal.returns-in-Ok-clause-between
+returns-in-Ok-clause-between g c upper was = demand_between _ (Some (c.args.key.now, c.args.seqno)) upper (returns-in-Ok-clause-sought g c upper was)
 
-pub returns-clause-over : goal.returns-clause-over
-returns-clause-over g c over =
+pub returns-in-Ok-clause-over : goal.returns-in-Ok-clause-over
+returns-in-Ok-clause-over g c over =
     let s : OnDemand = record { body = body_of c.self.inside.source; place = c.self.inside.handle; lower = c.self.inside.edges.0; upper = c.self.inside.edges.1; part = c.self.inside.part; opened = c.self.inside.opened } in
     demand_over s c.set_lower.new.self (subst (λ (x : OnDemand). IsEnded (on_demand_left x)) (sym c.self.view_is) over)
 
-pub returns-clause-deals : goal.returns-clause-deals
-returns-clause-deals g c = demand_deals _
+pub returns-in-Ok-clause-deals : goal.returns-in-Ok-clause-deals
+returns-in-Ok-clause-deals g c = demand_deals _
+
+pub returns-in-Err-clause-deals : goal.returns-in-Err-clause-deals
+returns-in-Err-clause-deals g c = demand_deals _
+
+pub returns-in-Err-clause-stays : goal.returns-in-Err-clause-stays
+returns-in-Err-clause-stays g c = demand_stays _ (search rules)

@@ -20,7 +20,7 @@ returns-in-Ok-clause-steps g c =
 pub returns-in-Err-clause-steps : goal.returns-in-Err-clause-steps
 returns-in-Err-clause-steps g c =
     let s : OnDemand = record { body = body_of c.self.inside.source; place = c.self.inside.handle; lower = c.self.inside.edges.0; upper = c.self.inside.edges.1; part = c.self.inside.part; opened = c.self.inside.opened } in
-    rw (← c.self.view_is, c.replace-in-Err.ensures.after) (demand_fault front_of (λ e. refl) s c.in-Err.error c.none.result c.load_part.new.opened (none_of c.self.inside.part c.in_default.not-Some) c.none.ensures c.in-Err.ensures.counted c.in-Err.ensures.err c.in-Err.ensures.first)
+    rw (← c.self.view_is, c.end.ensures) (demand_fault front_of (λ e. refl) s c.in-Err.error c.load_part.new.opened (none_of c.self.inside.part c.in_default.not-Some) c.in-Err.ensures.counted c.in-Err.ensures.err c.in-Err.ensures.first)
 
 pub returns-in-Some-clause-goes : goal.returns-in-Some-clause-goes
 returns-in-Some-clause-goes g c = progress on_demand_left front_of front_shortens _ _ _ (returns-in-Some-clause-steps g c).gives
