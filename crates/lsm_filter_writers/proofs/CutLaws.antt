@@ -26,11 +26,11 @@ pub closed_wait : {A : Type 0} (full : List A → Bool) (w : List A) (x : A) (xs
 unfolding closed_after
 closed_wait full w x xs e = ap (λ (b : Bool). if b then (w ++ x ∷ []) ∷ closed_after full [] xs else closed_after full (w ++ x ∷ []) xs) e
 
-waiting_full : {A : Type 0} (full : List A → Bool) (w : List A) (x : A) (xs : List A) → full (w ++ x ∷ []) ≡ true → waiting_after full w (x ∷ xs) ≡ waiting_after full [] xs
+pub waiting_full : {A : Type 0} (full : List A → Bool) (w : List A) (x : A) (xs : List A) → full (w ++ x ∷ []) ≡ true → waiting_after full w (x ∷ xs) ≡ waiting_after full [] xs
 unfolding waiting_after
 waiting_full full w x xs e = ap (λ (b : Bool). if b then waiting_after full [] xs else waiting_after full (w ++ x ∷ []) xs) e
 
-waiting_wait : {A : Type 0} (full : List A → Bool) (w : List A) (x : A) (xs : List A) → full (w ++ x ∷ []) ≡ false → waiting_after full w (x ∷ xs) ≡ waiting_after full (w ++ x ∷ []) xs
+pub waiting_wait : {A : Type 0} (full : List A → Bool) (w : List A) (x : A) (xs : List A) → full (w ++ x ∷ []) ≡ false → waiting_after full w (x ∷ xs) ≡ waiting_after full (w ++ x ∷ []) xs
 unfolding waiting_after
 waiting_wait full w x xs e = ap (λ (b : Bool). if b then waiting_after full [] xs else waiting_after full (w ++ x ∷ []) xs) e
 

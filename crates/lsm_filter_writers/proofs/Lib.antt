@@ -5,3 +5,5 @@ pub mod Holding
 pub mod Sections
 pub mod Emptiness
 pub mod SmallParts
+pub mod SameOptions
+pub mod Admitting

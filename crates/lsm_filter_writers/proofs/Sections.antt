@@ -27,23 +27,22 @@ use Rattle.sst_entries.specs.declared.error.Error.TheVariants.{KeyTooLong, Secti
 use Rattle.std.proofs.lemmas.Bool.Decides.{nat_tests}
 use Rattle.std.specs.Option.{option_or}
 use Rattle.lsm_files.specs.Failed.{failed_fault}
-use Rattle.lsm_filter_writers.specs.Cutting.{waiting_by}
+use Rattle.lsm_filter_writers.specs.Given.{GivenKeys, IsSomePart, KeyPart, given_by, keys_in, no_keys, parts_of}
 use Rattle.lsm_filter_writers.specs.Rising.{AreRising, end_entry}
 use Rattle.sst_filters.specs.Filter.{BloomFilter, IsBuilt, payload_of}
 use Rattle.sst_filters.specs.Policy.{bound_for, fault_for, size_for, tenths_of}
 use Rattle.sst_filters.specs.declared.policy.BloomConstructionPolicy.{BloomConstructionPolicy}
 use Rattle.lsm_files.specs.declared.options.FilterKind.TheVariants.{Full, Partitioned}
 use Rattle.lsm_files.specs.File.{HasNoFilter}
-use Rattle.lsm_files.specs.Filters.{AreFiltersFor, IsFilterFor, filter_block, filter_partition, filter_partitions, is_full_filter, last_of_keys}
+use Rattle.lsm_files.specs.Filters.{IsFilterFor, filter_block, filter_partition, filter_partitions, last_of_keys}
 use Rattle.lsm_files.specs.Fits.{SectionFits}
 use Rattle.lsm_files.specs.Layout.{Sections, appended}
 use Rattle.lsm_files.specs.Partitions.{Partition, handles_block, tops_from}
-use Rattle.lsm_files.specs.Parts.{parts_by}
 use Rattle.lsm_files.proofs.BlockLengths.{length-block}
-use Rattle.lsm_filter_writers.specs.Held.{CutPart, CutParts, end_keys, filters_of, Hashes, HoldsAll, HoldsHashes, partition_of}
+use Rattle.lsm_filter_writers.specs.Held.{AreFiltersOf, CutPart, CutParts, end_keys, filters_of, Hashes, HoldsAll, HoldsHashes, partition_of}
 use Rattle.lsm_files.specs.Failed.{section_fault}
-use Rattle.lsm_filter_writers.specs.Refusing.{end_handle, filter_fault, keys_fault, parts_bound, top_fault}
-use Rattle.lsm_filter_writers.specs.Writing.{part_sections, tops_block, tops_of, WritesFilter}
+use Rattle.lsm_filter_writers.specs.Refusing.{end_handle, given_fault, key_parts_bound, keys_fault, top_fault}
+use Rattle.lsm_filter_writers.specs.Writing.{part_sections, tops_block, tops_of, WritesParts}
 
 -- no section, and one, and two
 pub appended_none : (w : Written) → w ≡ appended w []
@@ -143,17 +142,29 @@ top_room given payload none empty is short =
 length-filter_block : (f : BloomFilter) → length (filter_block V4 f) ≡ 25 + length f.bits
 length-filter_block f = omega (arith, length-block V4 Filter (payload_of f))
 
--- a full filter
-pub full_none : (w : Hashes) (keys : List (List ℕ)) (before : Written) → w.hashes ≡ [] → HoldsHashes w keys → WritesFilter Full w.policy keys before before 1
-full_none w [] before none h = record { filters = []; are = tt; written = appended_none before; counted = refl; fit = tt }
-full_none w (k ∷ keys) before none h = let e : fnv1a k ∷ map fnv1a keys ≡ [] = sym h.hashes ∙ none in cc
+no_hashes : (ks : List (List ℕ)) → map fnv1a ks ≡ [] → ks ≡ []
+no_hashes [] e = refl
+no_hashes (k ∷ ks) e = cc
 
-pub full_one : (w : Hashes) (keys : List (List ℕ)) (before u after : Written) (f : BloomFilter) (payload : List ℕ) →
-    (w.hashes ≡ [] → ⊥) → HoldsHashes w keys → IsFilterFor w.policy keys f → IsBuilt f → payload ≡ payload_of f →
+given_is : (given : GivenKeys) {cut : List KeyPart} {pending : List (List ℕ)} → given.cut ≡ cut → given.pending ≡ pending → given ≡ record { cut = cut; pending = pending }
+given_is given a b = rw (← a, ← b) refl
+
+-- a full filter
+pub full_none : (w : Hashes) (given : GivenKeys) (before : Written) → w.hashes ≡ [] → HoldsHashes w given → WritesParts Full w.policy given before before 1
+full_none w given before none h =
+    let pending : given.pending ≡ [] = no_hashes given.pending (sym h.hashes ∙ none) in
+    let all : given ≡ no_keys = given_is given h.uncut pending in
+    subst (λ (x : GivenKeys). WritesParts Full w.policy x before before 1) (sym all)
+    (record { uncut = λ _. refl; some = tt; filters = []; are = tt; written = appended_none before; counted = refl; fit = tt })
+
+pub full_one : (policy : BloomConstructionPolicy) (keys : List (List ℕ)) (before u after : Written) (f : BloomFilter) (payload : List ℕ) →
+    (map fnv1a keys ≡ [] → ⊥) → IsFilterFor policy keys f → IsBuilt f → payload ≡ payload_of f →
     u ≡ record before { started = before.started ++ (FilterSection, length before.bytes) ∷ [] } →
-    after ≡ record u { bytes = u.bytes ++ block_bytes V4 Filter payload } → WritesFilter Full w.policy keys before after 1
-full_one w [] before u after f payload some h is built e eu ev = absurd (some h.hashes)
-full_one w (k ∷ keys) before u after f payload some h is built e eu ev = record {
+    after ≡ record u { bytes = u.bytes ++ block_bytes V4 Filter payload } → WritesParts Full policy (given_by Full policy keys) before after 1
+full_one policy [] before u after f payload some is built e eu ev = absurd (some refl)
+full_one policy (k ∷ keys) before u after f payload some is built e eu ev = record {
+  uncut = λ _. refl;
+  some = (record { some = omega arith }, tt);
   filters = f ∷ [];
   are = (is, tt);
   written = section_more before u after FilterSection (filter_block V4 f) eu (ev ∙ ap (λ p. record u { bytes = u.bytes ++ block_bytes V4 Filter p }) e);
@@ -162,31 +173,38 @@ full_one w (k ∷ keys) before u after f payload some h is built e eu ev = recor
 }
 
 pub full_written : (r : Result ℕ Error) (policy : BloomConstructionPolicy) (hashes : List ℕ) (w : Hashes) (before after : Written) → policy ≡ w.policy → hashes ≡ w.hashes →
-    IfOk r (λ n. (keys : List (List ℕ)) → hashes ≡ map fnv1a keys → WritesFilter Full policy keys before after n) →
-    IfOk r (λ n. (keys : List (List ℕ)) → HoldsHashes w keys → WritesFilter Full w.policy keys before after n)
-full_written (Ok n) policy hashes w before after same held writes = λ keys h.
-    subst (λ p. WritesFilter Full p keys before after n) same (writes keys (held ∙ h.hashes))
+    IfOk r (λ n. (keys : List (List ℕ)) → hashes ≡ map fnv1a keys → WritesParts Full policy (given_by Full policy keys) before after n) →
+    IfOk r (λ n. (given : GivenKeys) → HoldsHashes w given → WritesParts Full w.policy given before after n)
+full_written (Ok n) policy hashes w before after same held writes = λ given h.
+    let all : given_by Full policy given.pending ≡ given = sym (given_is given h.uncut refl) in
+    subst (λ p. WritesParts Full p given before after n) same
+    (subst (λ (x : GivenKeys). WritesParts Full policy x before after n) all (writes given.pending (held ∙ h.hashes)))
 full_written (Err e) policy hashes w before after same held writes = tt
 
 -- and what it refuses
-pub full_fault : (r : Result ℕ Error) (policy : BloomConstructionPolicy) (hashes : List ℕ) (w : Hashes) (keys : List (List ℕ)) → policy ≡ w.policy → hashes ≡ w.hashes →
-    (w.hashes ≡ [] → ⊥) → w.failed ≡ false → HoldsHashes w keys → Faults r (fault_for (tenths_of policy) (length hashes)) →
-    Faults r (option_or (failed_fault w.failed) (filter_fault Full w.policy keys))
-full_fault r policy hashes w [] same held some works h fault = absurd (some h.hashes)
-full_fault r policy hashes w (k ∷ keys) same held some works h fault =
-    let count : length (k ∷ keys) ≡ length hashes = sym (ap length (held ∙ h.hashes) ∙ length-map (k ∷ keys) fnv1a) in
-    let told : option_or (failed_fault w.failed) (filter_fault Full w.policy (k ∷ keys)) ≡ fault_for (tenths_of policy) (length hashes) =
-    ap (λ (b : Bool). option_or (failed_fault b) (fault_for (tenths_of w.policy) (length (k ∷ keys)))) works
-    ∙ ap (λ (p : BloomConstructionPolicy). fault_for (tenths_of p) (length (k ∷ keys))) (sym same)
+pub full_fault : (r : Result ℕ Error) (policy : BloomConstructionPolicy) (hashes : List ℕ) (w : Hashes) (given : GivenKeys) → policy ≡ w.policy → hashes ≡ w.hashes →
+    (w.hashes ≡ [] → ⊥) → w.failed ≡ false → HoldsHashes w given → Faults r (fault_for (tenths_of policy) (length hashes)) →
+    Faults r (option_or (failed_fault w.failed) (given_fault Full w.policy given))
+full_fault r policy hashes w given same held some works h fault =
+    let count : length given.pending ≡ length hashes = sym (ap length (held ∙ h.hashes) ∙ length-map given.pending fnv1a) in
+    let told : option_or (failed_fault w.failed) (given_fault Full w.policy given) ≡ fault_for (tenths_of policy) (length hashes) =
+    ap (λ (b : Bool). option_or (failed_fault b) (keys_fault w.policy given.pending)) works
+    ∙ fault_of w.policy given.pending (λ none. some (h.hashes ∙ ap (λ (ks : List (List ℕ)). map fnv1a ks) none))
+    ∙ ap (λ (p : BloomConstructionPolicy). fault_for (tenths_of p) (length given.pending)) (sym same)
     ∙ ap (λ (n : ℕ). fault_for (tenths_of policy) n) count in
     subst (λ x. Faults r x) (sym told) fault
+  where
+    fault_of : (policy : BloomConstructionPolicy) (ks : List (List ℕ)) → (ks ≡ [] → ⊥) → keys_fault policy ks ≡ fault_for (tenths_of policy) (length ks)
+    fault_of policy [] some = absurd (some refl)
+    fault_of policy (k ∷ ks) some = refl
 
-pub full_none_fault : (w : Hashes) (keys : List (List ℕ)) → w.failed ≡ false → w.hashes ≡ [] → HoldsHashes w keys →
-    option_or (failed_fault w.failed) (filter_fault Full w.policy keys) ≡ None
-full_none_fault w [] works none h = ap (λ (b : Bool). option_or (failed_fault b) None) works
-full_none_fault w (k ∷ keys) works none h = let e : fnv1a k ∷ map fnv1a keys ≡ [] = sym h.hashes ∙ none in cc
+pub full_none_fault : (w : Hashes) (given : GivenKeys) → w.failed ≡ false → w.hashes ≡ [] → HoldsHashes w given →
+    option_or (failed_fault w.failed) (given_fault Full w.policy given) ≡ None
+full_none_fault w given works none h =
+    let pending : given.pending ≡ [] = no_hashes given.pending (sym h.hashes ∙ none) in
+    rw (works, pending) refl
 
-pub full_idle : (w : Hashes) → (w.hashes ≡ [] → ⊥) → HoldsHashes w [] → w.failed ≡ true
+pub full_idle : (w : Hashes) → (w.hashes ≡ [] → ⊥) → HoldsHashes w no_keys → w.failed ≡ true
 full_idle w some h = absurd (some h.hashes)
 
 -- what the top level has
@@ -201,36 +219,38 @@ partitions_same (p ∷ ps) (c ∷ cs) e =
     rw (first, partitions_same ps cs later) refl
 
 -- the section of the parts is as long as its bound
-length-filters : (policy : BloomConstructionPolicy) (ps : List (List (List ℕ))) (fs : List BloomFilter) → AreFiltersFor policy ps fs → parts_bound policy ps < 2 ^ 32 →
-    length (flat_map (filter_block V4) fs) ≡ parts_bound policy ps
-length-filters policy [] [] h lt = refl
-length-filters policy [] (f ∷ fs) h lt = absurd h
-length-filters policy (p ∷ ps) [] h lt = absurd h
-length-filters policy (p ∷ ps) (f ∷ fs) h lt =
-    let sum : parts_bound policy (p ∷ ps) ≡ bound_for (tenths_of policy) (length p) + parts_bound policy ps = sum_by-cons (λ (q : List (List ℕ)). bound_for (tenths_of policy) (length q)) p ps in
-    let later : parts_bound policy ps < 2 ^ 32 = omega (arith, lt, sum) in
-    let small : bound_for (tenths_of policy) (length p) < 2 ^ 32 = omega (arith, lt, sum) in
-    let first : length (filter_block V4 f) ≡ bound_for (tenths_of policy) (length p) =
-    length-filter_block f ∙ ap (λ (n : ℕ). 25 + n) h.0.size ∙ sym (uncapped (size_for (tenths_of policy) (length p)) small) in
-    let rest : length (flat_map (filter_block V4) fs) ≡ parts_bound policy ps = length-filters policy ps fs h.1 later in
+length-filters : (ps : List KeyPart) (fs : List BloomFilter) → AreFiltersOf ps fs → key_parts_bound ps < 2 ^ 32 → length (flat_map (filter_block V4) fs) ≡ key_parts_bound ps
+length-filters [] [] h lt = refl
+length-filters [] (f ∷ fs) h lt = absurd h
+length-filters (p ∷ ps) [] h lt = absurd h
+length-filters (p ∷ ps) (f ∷ fs) h lt =
+    let own : ℕ = bound_for (tenths_of p.policy) (length p.keys) in
+    let sum : key_parts_bound (p ∷ ps) ≡ own + key_parts_bound ps = sum_by-cons (λ (q : KeyPart). bound_for (tenths_of q.policy) (length q.keys)) p ps in
+    let later : key_parts_bound ps < 2 ^ 32 = omega (arith, lt, sum) in
+    let small : bound_for (tenths_of p.policy) (length p.keys) < 2 ^ 32 = omega (arith, lt, sum) in
+    let first : length (filter_block V4 f) ≡ bound_for (tenths_of p.policy) (length p.keys) =
+    length-filter_block f ∙ ap (λ (n : ℕ). 25 + n) h.0.size ∙ sym (uncapped (size_for (tenths_of p.policy) (length p.keys)) small) in
+    let rest : length (flat_map (filter_block V4) fs) ≡ key_parts_bound ps = length-filters ps fs h.1 later in
     length-append (filter_block V4 f) (flat_map (filter_block V4) fs) ∙ ap (λ (n : ℕ). n + length (flat_map (filter_block V4) fs)) first
-    ∙ ap (λ (n : ℕ). bound_for (tenths_of policy) (length p) + n) rest ∙ sym sum
+    ∙ ap (λ (n : ℕ). bound_for (tenths_of p.policy) (length p.keys) + n) rest ∙ sym sum
   where
     uncapped : (s : ℕ) → min (2 ^ 64 - 1) (25 + s) < 2 ^ 32 → min (2 ^ 64 - 1) (25 + s) ≡ 25 + s
     uncapped s lt = omega (arith, lt)
 
 -- a partitioned filter
-no_parts : (policy : BloomConstructionPolicy) (ps : List (List (List ℕ))) → AreFiltersFor policy ps [] → ps ≡ []
-no_parts policy [] h = refl
-no_parts policy (p ∷ ps) h = absurd h
+no_parts : (ps : List KeyPart) → AreFiltersOf ps [] → ps ≡ []
+no_parts [] h = refl
+no_parts (p ∷ ps) h = absurd h
 
-pub parts_of_none : (v : CutParts) (keys : List (List ℕ)) → HoldsAll v keys → v.parts ≡ [] → parts_by (is_full_filter v.policy v.size) keys ≡ []
-parts_of_none v keys h none = no_parts v.policy _ (subst (λ cs. AreFiltersFor v.policy (parts_by (is_full_filter v.policy v.size) keys) (filters_of cs)) none h.filters)
+pub parts_of_none : (v : CutParts) (given : GivenKeys) → HoldsAll v given → v.parts ≡ [] → parts_of v.policy given ≡ []
+parts_of_none v given h none = no_parts _ (subst (λ cs. AreFiltersOf (parts_of v.policy given) (filters_of cs)) none h.filters)
 
-pub parts_none : (v : CutParts) (keys : List (List ℕ)) (before : Written) → HoldsAll v keys → v.parts ≡ [] → WritesFilter (Partitioned v.size) v.policy keys before before 0
-parts_none v keys before h none = record {
+pub parts_none : (v : CutParts) (given : GivenKeys) (before : Written) → HoldsAll v given → v.parts ≡ [] → WritesParts (Partitioned v.size) v.policy given before before 0
+parts_none v given before h none = record {
+  uncut = λ full. absurd cc;
+  some = h.some;
   filters = [];
-  are = rw (parts_of_none v keys h none) tt;
+  are = rw (parts_of_none v given h none) tt;
   written = appended_none before;
   counted = refl;
   fit = tt;
@@ -242,17 +262,19 @@ by_parts : (at : ℕ) (ps : List (List (List ℕ))) (cs : List CutPart) → end_
 by_parts at ps cs e =
     ap (λ (qs : List Partition). (FilterSection, flat_map (filter_block V4) (filters_of cs)) ∷ (FilterTli, handles_block V4 (tops_from at qs)) ∷ []) (partitions_same ps cs e)
 
-some_parts : (size : ℕ) (policy : BloomConstructionPolicy) (keys : List (List ℕ)) (cs : List CutPart) (before after : Written) (n : ℕ) →
-    AreFiltersFor policy (parts_by (is_full_filter policy size) keys) (filters_of cs) → end_keys cs ≡ map last_of_keys (parts_by (is_full_filter policy size) keys) →
-    (cs ≡ [] → ⊥) → parts_bound policy (parts_by (is_full_filter policy size) keys) < 2 ^ 32 → after ≡ appended before (part_sections (length before.bytes) cs) →
-    SectionFits (FilterTli, tops_block (length before.bytes) cs) → n ≡ length cs → WritesFilter (Partitioned size) policy keys before after n
-some_parts size policy keys [] before after n are ends some lt e fits count = absurd (some refl)
-some_parts size policy keys (c ∷ cs) before after n are ends some lt e fits count =
+some_parts : (size : ℕ) (policy : BloomConstructionPolicy) (given : GivenKeys) (cs : List CutPart) (before after : Written) (n : ℕ) →
+    AllByRecursion IsSomePart (parts_of policy given) → AreFiltersOf (parts_of policy given) (filters_of cs) → end_keys cs ≡ map last_of_keys (keys_in (parts_of policy given)) →
+    (cs ≡ [] → ⊥) → key_parts_bound (parts_of policy given) < 2 ^ 32 → after ≡ appended before (part_sections (length before.bytes) cs) →
+    SectionFits (FilterTli, tops_block (length before.bytes) cs) → n ≡ length cs → WritesParts (Partitioned size) policy given before after n
+some_parts size policy given [] before after n full are ends some lt e fits count = absurd (some refl)
+some_parts size policy given (c ∷ cs) before after n full are ends some lt e fits count =
     let at = length before.bytes in
-    let ps = parts_by (is_full_filter policy size) keys in
-    let same = by_parts at ps (c ∷ cs) ends in
-    let all : AllByRecursion SectionFits (part_sections at (c ∷ cs)) = (record { short = omega (arith, lt, length-filters policy ps (filters_of (c ∷ cs)) are) }, (fits, tt)) in
+    let ps = parts_of policy given in
+    let same = by_parts at (keys_in ps) (c ∷ cs) ends in
+    let all : AllByRecursion SectionFits (part_sections at (c ∷ cs)) = (record { short = omega (arith, lt, length-filters ps (filters_of (c ∷ cs)) are) }, (fits, tt)) in
     record {
+      uncut = λ whole. absurd cc;
+      some = full;
       filters = filters_of (c ∷ cs);
       are = are;
       written = e ∙ ap (λ (ss : Sections). appended before ss) (sym same);
@@ -267,12 +289,12 @@ some_parts size policy keys (c ∷ cs) before after n are ends some lt e fits co
     counted : (cs : List CutPart) → length (c ∷ cs) ≡ length (filters_of (c ∷ cs))
     counted cs = lengths (c ∷ cs)
 
-pub parts_write : (v : CutParts) (keys : List (List ℕ)) (before after : Written) (n : ℕ) → HoldsAll v keys → (v.parts ≡ [] → ⊥) → v.bound < 2 ^ 32 →
+pub parts_write : (v : CutParts) (given : GivenKeys) (before after : Written) (n : ℕ) → HoldsAll v given → (v.parts ≡ [] → ⊥) → v.bound < 2 ^ 32 →
     after ≡ appended before (part_sections (length before.bytes) v.parts) → SectionFits (FilterTli, tops_block (length before.bytes) v.parts) → n ≡ length v.parts →
-    WritesFilter (Partitioned v.size) v.policy keys before after n
-parts_write v keys before after n h some lt e fits count =
-    let small : parts_bound v.policy (parts_by (is_full_filter v.policy v.size) keys) < 2 ^ 32 = uncapped _ (subst (λ (x : ℕ). x < 2 ^ 32) h.bound lt) in
-    some_parts v.size v.policy keys v.parts before after n h.filters h.ends some small e fits count
+    WritesParts (Partitioned v.size) v.policy given before after n
+parts_write v given before after n h some lt e fits count =
+    let small : key_parts_bound (parts_of v.policy given) < 2 ^ 32 = uncapped _ (subst (λ (x : ℕ). x < 2 ^ 32) h.bound lt) in
+    some_parts v.size v.policy given v.parts before after n h.some h.filters h.ends some small e fits count
   where
     uncapped : (s : ℕ) → capped s < 2 ^ 32 → s < 2 ^ 32
     uncapped s lt = omega (arith, lt)
@@ -375,30 +397,30 @@ length_tops at [] = refl
 length_tops at (c ∷ cs) = omega (arith, length_tops (at + (24 + length (payload_of c.filter))) cs)
 
 -- what finishing does with the parts that are cut then
-pub finish_writes : (v : CutParts) (size : ℕ) (policy : BloomConstructionPolicy) (cs : List CutPart) (b : ℕ) (keys : List (List ℕ)) (before after : Written) (n : ℕ) →
-    HoldsAll v keys → v.policy ≡ policy → v.size ≡ size → cs ≡ v.parts → b ≡ v.bound → (cs ≡ [] → ⊥) → b < 2 ^ 32 →
+pub finish_writes : (v : CutParts) (size : ℕ) (policy : BloomConstructionPolicy) (cs : List CutPart) (b : ℕ) (given : GivenKeys) (before after : Written) (n : ℕ) →
+    HoldsAll v given → v.policy ≡ policy → v.size ≡ size → cs ≡ v.parts → b ≡ v.bound → (cs ≡ [] → ⊥) → b < 2 ^ 32 →
     after ≡ appended before (part_sections (length before.bytes) cs) → SectionFits (FilterTli, tops_block (length before.bytes) cs) → n ≡ length cs →
-    WritesFilter (Partitioned size) policy keys before after n
-finish_writes v size policy cs b keys before after n h same same' parts bound some lt e fits count =
-    let whole : WritesFilter (Partitioned v.size) v.policy keys before after n =
-    parts_write v keys before after n h (λ none. some (parts ∙ none)) (subst (λ (x : ℕ). x < 2 ^ 32) bound lt)
+    WritesParts (Partitioned size) policy given before after n
+finish_writes v size policy cs b given before after n h same same' parts bound some lt e fits count =
+    let whole : WritesParts (Partitioned v.size) v.policy given before after n =
+    parts_write v given before after n h (λ none. some (parts ∙ none)) (subst (λ (x : ℕ). x < 2 ^ 32) bound lt)
     (e ∙ ap (λ ps. appended before (part_sections (length before.bytes) ps)) parts)
     (subst (λ ps. SectionFits (FilterTli, tops_block (length before.bytes) ps)) parts fits) (count ∙ ap (λ (ps : List CutPart). length ps) parts) in
-    subst (λ (s : ℕ). WritesFilter (Partitioned s) policy keys before after n) same'
-    (subst (λ p. WritesFilter (Partitioned v.size) p keys before after n) same whole)
+    subst (λ (s : ℕ). WritesParts (Partitioned s) policy given before after n) same'
+    (subst (λ p. WritesParts (Partitioned v.size) p given before after n) same whole)
 
-pub finish_none : (v : CutParts) (size : ℕ) (policy : BloomConstructionPolicy) (cs : List CutPart) (keys : List (List ℕ)) (before : Written) →
-    HoldsAll v keys → v.policy ≡ policy → v.size ≡ size → cs ≡ v.parts → cs ≡ [] → WritesFilter (Partitioned size) policy keys before before 0
-finish_none v size policy cs keys before h same same' parts none =
-    subst (λ (s : ℕ). WritesFilter (Partitioned s) policy keys before before 0) same'
-    (subst (λ p. WritesFilter (Partitioned v.size) p keys before before 0) same (parts_none v keys before h (sym parts ∙ none)))
+pub finish_none : (v : CutParts) (size : ℕ) (policy : BloomConstructionPolicy) (cs : List CutPart) (given : GivenKeys) (before : Written) →
+    HoldsAll v given → v.policy ≡ policy → v.size ≡ size → cs ≡ v.parts → cs ≡ [] → WritesParts (Partitioned size) policy given before before 0
+finish_none v size policy cs given before h same same' parts none =
+    subst (λ (s : ℕ). WritesParts (Partitioned s) policy given before before 0) same'
+    (subst (λ p. WritesParts (Partitioned v.size) p given before before 0) same (parts_none v given before h (sym parts ∙ none)))
 
 -- and what it refuses: nothing without parts
-pub finish_none_fault : (v : CutParts) (size : ℕ) (policy : BloomConstructionPolicy) (cs : List CutPart) (keys : List (List ℕ)) (failed : Bool) →
-    failed ≡ false → keys_fault policy (waiting_by (is_full_filter policy size) keys) ≡ None → HoldsAll v keys → v.policy ≡ policy → v.size ≡ size → cs ≡ v.parts → cs ≡ [] →
-    option_or (failed_fault failed) (filter_fault (Partitioned size) policy keys) ≡ None
-finish_none_fault v size policy cs keys failed works rest h same same' parts none =
-    let nothing : parts_by (is_full_filter policy size) keys ≡ [] = rw (same, same') at (parts_of_none v keys h (sym parts ∙ none)) in
+pub finish_none_fault : (v : CutParts) (size : ℕ) (policy : BloomConstructionPolicy) (cs : List CutPart) (given : GivenKeys) (failed : Bool) →
+    failed ≡ false → keys_fault policy given.pending ≡ None → HoldsAll v given → v.policy ≡ policy → v.size ≡ size → cs ≡ v.parts → cs ≡ [] →
+    option_or (failed_fault failed) (given_fault (Partitioned size) policy given) ≡ None
+finish_none_fault v size policy cs given failed works rest h same same' parts none =
+    let nothing : parts_of policy given ≡ [] = rw same at (parts_of_none v given h (sym parts ∙ none)) in
     rw (works, rest, nothing) refl
 
 -- only a writer that has failed refuses before memory is asked for
@@ -419,19 +441,19 @@ spent_first inside failed e same spent told =
     sym told ∙ fault
 
 -- what is left waiting
-pub rest_refused : {X : Type 0} (r : Result X Error) (e : Error) (size : ℕ) (policy : BloomConstructionPolicy) (keys : List (List ℕ)) (failed : Bool) → IsErrAnd r (λ y. y ≡ e) →
-    failed ≡ false → (is_memory e ≡ false → keys_fault policy (waiting_by (is_full_filter policy size) keys) ≡ Some e) →
-    Faults r (option_or (failed_fault failed) (filter_fault (Partitioned size) policy keys))
-rest_refused r e size policy keys failed is works fault = faults_refusal r e _ is (λ m. rw (works, fault m) refl)
+pub rest_refused : {X : Type 0} (r : Result X Error) (e : Error) (size : ℕ) (policy : BloomConstructionPolicy) (given : GivenKeys) (failed : Bool) → IsErrAnd r (λ y. y ≡ e) →
+    failed ≡ false → (is_memory e ≡ false → keys_fault policy given.pending ≡ Some e) →
+    Faults r (option_or (failed_fault failed) (given_fault (Partitioned size) policy given))
+rest_refused r e size policy given failed is works fault = faults_refusal r e _ is (λ m. rw (works, fault m) refl)
 
 -- their section, where it is too large
-pub finish_large : (v : CutParts) (size : ℕ) (policy : BloomConstructionPolicy) (b : ℕ) (keys : List (List ℕ)) (failed : Bool) →
-    failed ≡ false → keys_fault policy (waiting_by (is_full_filter policy size) keys) ≡ None → HoldsAll v keys → v.policy ≡ policy → v.size ≡ size → b ≡ v.bound → 2 ^ 32 ≤ b →
-    option_or (failed_fault failed) (filter_fault (Partitioned size) policy keys) ≡ Some SectionTooLarge
-finish_large v size policy b keys failed works rest h same same' bound le =
-    let ps = parts_by (is_full_filter policy size) keys in
-    let sum : b ≡ capped (parts_bound policy ps) = bound ∙ rw (same, same') at h.bound in
-    rw (works, rest, section_large (parts_bound policy ps) (reached (parts_bound policy ps) (subst (λ (x : ℕ). 2 ^ 32 ≤ x) sum le))) refl
+pub finish_large : (v : CutParts) (size : ℕ) (policy : BloomConstructionPolicy) (b : ℕ) (given : GivenKeys) (failed : Bool) →
+    failed ≡ false → keys_fault policy given.pending ≡ None → HoldsAll v given → v.policy ≡ policy → v.size ≡ size → b ≡ v.bound → 2 ^ 32 ≤ b →
+    option_or (failed_fault failed) (given_fault (Partitioned size) policy given) ≡ Some SectionTooLarge
+finish_large v size policy b given failed works rest h same same' bound le =
+    let ps = parts_of policy given in
+    let sum : b ≡ capped (key_parts_bound ps) = bound ∙ rw same at h.bound in
+    rw (works, rest, section_large (key_parts_bound ps) (reached (key_parts_bound ps) (subst (λ (x : ℕ). 2 ^ 32 ≤ x) sum le))) refl
   where
     reached : (s : ℕ) → 2 ^ 32 ≤ capped s → 2 ^ 32 ≤ s
     reached s le = omega (arith, le)
@@ -449,15 +471,15 @@ section_fits n lt = ap (λ (b : Bool). if b then Some SectionTooLarge else None)
     small : (n : ℕ) → n < 2 ^ 32 → nat_le (2 ^ 32) n ≡ false
     small n lt = grind (arith, nat_tests, lt)
 
-pub finish_fault : (v : CutParts) (size : ℕ) (policy : BloomConstructionPolicy) (cs : List CutPart) (b : ℕ) (keys : List (List ℕ)) (failed : Bool) →
-    failed ≡ false → keys_fault policy (waiting_by (is_full_filter policy size) keys) ≡ None → HoldsAll v keys → v.policy ≡ policy → v.size ≡ size → cs ≡ v.parts → b ≡ v.bound → b < 2 ^ 32 →
-    option_or (failed_fault failed) (filter_fault (Partitioned size) policy keys) ≡ top_fault (end_keys cs)
-finish_fault v size policy cs b keys failed works rest h same same' parts bound lt =
-    let ps = parts_by (is_full_filter policy size) keys in
-    let ends : end_keys cs ≡ map last_of_keys ps = ap (λ (x : List CutPart). end_keys x) parts ∙ rw (same, same') at h.ends in
-    let sum : b ≡ capped (parts_bound policy ps) = bound ∙ rw (same, same') at h.bound in
-    let small : parts_bound policy ps < 2 ^ 32 = uncapped (parts_bound policy ps) (subst (λ (x : ℕ). x < 2 ^ 32) sum lt) in
-    rw (works, rest, section_fits (parts_bound policy ps) small, ends) refl
+pub finish_told : (v : CutParts) (size : ℕ) (policy : BloomConstructionPolicy) (cs : List CutPart) (b : ℕ) (given : GivenKeys) (failed : Bool) →
+    failed ≡ false → keys_fault policy given.pending ≡ None → HoldsAll v given → v.policy ≡ policy → v.size ≡ size → cs ≡ v.parts → b ≡ v.bound → b < 2 ^ 32 →
+    option_or (failed_fault failed) (given_fault (Partitioned size) policy given) ≡ top_fault (end_keys cs)
+finish_told v size policy cs b given failed works rest h same same' parts bound lt =
+    let ps = parts_of policy given in
+    let ends : end_keys cs ≡ map last_of_keys (keys_in ps) = ap (λ (x : List CutPart). end_keys x) parts ∙ rw same at h.ends in
+    let sum : b ≡ capped (key_parts_bound ps) = bound ∙ rw same at h.bound in
+    let small : key_parts_bound ps < 2 ^ 32 = uncapped (key_parts_bound ps) (subst (λ (x : ℕ). x < 2 ^ 32) sum lt) in
+    rw (works, rest, section_fits (key_parts_bound ps) small, ends) refl
   where
     uncapped : (s : ℕ) → capped s < 2 ^ 32 → s < 2 ^ 32
     uncapped s lt = omega (arith, lt)

@@ -10,6 +10,7 @@ use Rattle.lsm_files.specs.declared.options.FilterKind.{FilterKind}
 use Rattle.lsm_files.specs.declared.options.FilterKind.TheVariants.{Full, Partitioned}
 use Rattle.lsm_files.specs.Filters.{is_full_filter}
 use Rattle.lsm_filter_writers.specs.Cutting.{waiting_by}
+use Rattle.lsm_filter_writers.specs.Given.{given_by}
 use Rattle.lsm_filter_writers.specs.Refusing.{cut_fault, partition_size, register_fault}
 use Rattle.lsm_filter_writers.proofs.CutLaws.{Waits, waits_after}
 
@@ -44,7 +45,7 @@ fits size policy waiting key few small waits =
         rw count (more_bound (tenths_of policy) (length waiting) size few small less)
 
 pub small_parts : (kind : FilterKind) (policy : BloomConstructionPolicy) (keys : List (List ℕ)) (key : List ℕ) → tenths_of policy < 2 ^ 32 → partition_size kind ≤ 4194304 →
-    register_fault kind policy keys key ≡ None
+    register_fault kind policy (given_by kind policy keys).pending key ≡ None
 small_parts Full policy keys key few small = refl
 small_parts (Partitioned size) policy keys key few small =
     fits size policy (waiting_by (is_full_filter policy size) keys) key few small (waits_after (is_full_filter policy size) [] keys (inl refl))

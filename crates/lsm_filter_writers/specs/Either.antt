@@ -1,8 +1,9 @@
 -- What a writer of either kind holds, and the same writer with other options.
-use Rattle.std.specs.Prelude.{ℕ, Bool, List}
+use Rattle.std.specs.Prelude.{ℕ, Bool}
 use Rattle.sst_filters.specs.declared.policy.BloomConstructionPolicy.{BloomConstructionPolicy}
 use Rattle.lsm_files.specs.declared.options.FilterKind.{FilterKind}
 use Rattle.lsm_files.specs.declared.options.FilterKind.TheVariants.{Full, Partitioned}
+use Rattle.lsm_filter_writers.specs.Given.{GivenKeys}
 use Rattle.lsm_filter_writers.specs.Held.{HoldsHashes, HoldsParts}
 use Rattle.lsm_filter_writers.specs.declared.either.FilterWriterImpl.{FilterWriterImpl}
 use Rattle.lsm_filter_writers.specs.declared.either.FilterWriterImpl.TheVariants.{Full as FullWriter, Partitioned as PartitionedWriter}
@@ -19,9 +20,9 @@ abbrev pub failed_by : {A : Type 0} → FilterWriterImpl A → Bool
 failed_by (FullWriter w) = w.failed
 failed_by (PartitionedWriter w) = w.failed
 
-abbrev pub HoldsBy : {A : Type 0} → FilterWriterImpl A → List (List ℕ) → Type 0
-HoldsBy (FullWriter w) keys = HoldsHashes w keys
-HoldsBy (PartitionedWriter w) keys = HoldsParts w keys
+abbrev pub HoldsBy : {A : Type 0} → FilterWriterImpl A → GivenKeys → Type 0
+HoldsBy (FullWriter w) given = HoldsHashes w given
+HoldsBy (PartitionedWriter w) given = HoldsParts w given
 
 abbrev pub with_policy_by : {A : Type 0} → FilterWriterImpl A → BloomConstructionPolicy
     → FilterWriterImpl A

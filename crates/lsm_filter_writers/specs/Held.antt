@@ -1,16 +1,16 @@
 -- What writers of filters hold, and the keys that it stands for.
 use Rattle.std.specs.Prelude.{◌≡◌, ℕ, ◌+◌, Bool, List, [], ◌∷◌, ◌++◌, length, map, Option, Some, None}
+use Rattle.std.specs.List.{AllByRecursion}
 use Rattle.sst_blocks.specs.Block.{header_len}
 use Rattle.sst_blocks.specs.Bounds.{capped}
 use Rattle.sst_sections.specs.Fnv.{fnv1a}
 use Rattle.sst_filters.specs.declared.policy.BloomConstructionPolicy.{BloomConstructionPolicy}
 use Rattle.sst_filters.specs.Filter.{BloomFilter, payload_of}
 use Rattle.sst_filters.specs.Policy.{bound_for, tenths_of}
-use Rattle.lsm_files.specs.Filters.{AreFiltersFor, IsFilterFor, is_full_filter, last_of_keys}
+use Rattle.lsm_files.specs.Filters.{IsFilterFor, last_of_keys}
 use Rattle.lsm_files.specs.Partitions.{Partition}
-use Rattle.lsm_files.specs.Parts.{parts_by}
-use Rattle.lsm_filter_writers.specs.Cutting.{closed_by, waiting_by}
-use Rattle.lsm_filter_writers.specs.Refusing.{parts_bound}
+use Rattle.lsm_filter_writers.specs.Given.{GivenKeys, IsSomePart, KeyPart, keys_in, parts_of}
+use Rattle.lsm_filter_writers.specs.Refusing.{key_parts_bound}
 
 -- the hashes of all keys
 pub record Hashes : Type 0 where
@@ -18,9 +18,10 @@ pub record Hashes : Type 0 where
   pub hashes : List ℕ
   pub failed : Bool
 
--- these are the keys
-pub record HoldsHashes (w : Hashes) (keys : List (List ℕ)) : Type 0 where
-  pub hashes : w.hashes ≡ map fnv1a keys
+-- these are the keys: all are pending
+pub record HoldsHashes (w : Hashes) (given : GivenKeys) : Type 0 where
+  pub uncut : given.cut ≡ []
+  pub hashes : w.hashes ≡ map fnv1a given.pending
 
 -- a part that was cut: its last key and its filter
 pub record CutPart : Type 0 where
@@ -62,23 +63,29 @@ abbrev pub as_list : Option (List ℕ) → List (List ℕ)
 as_list None = []
 as_list (Some key) = key ∷ []
 
--- these are the keys: the parts that are cut of them have the filters, and the rest waits
-pub record HoldsParts (w : CutParts) (keys : List (List ℕ)) : Type 0 where
-  pub filters : AreFiltersFor w.policy (closed_by (is_full_filter w.policy w.size) keys)
-      (filters_of w.parts)
-  pub ends : end_keys w.parts ≡ map last_of_keys (closed_by (is_full_filter w.policy w.size) keys)
-  pub bound : w.bound ≡
-      capped (parts_bound w.policy (closed_by (is_full_filter w.policy w.size) keys))
-  pub hashes : w.hashes ≡ map fnv1a (waiting_by (is_full_filter w.policy w.size) keys)
-  pub last : w.last ≡ last_key_of (waiting_by (is_full_filter w.policy w.size) keys)
+-- each part of the keys has its filter, by the policy of its own
+abbrev pub AreFiltersOf : List KeyPart → List BloomFilter → Type 0
+AreFiltersOf [] [] = Unit {0}
+AreFiltersOf [] (f ∷ fs) = ⊥
+AreFiltersOf (p ∷ ps) [] = ⊥
+AreFiltersOf (p ∷ ps) (f ∷ fs) = IsFilterFor p.policy p.keys f × AreFiltersOf ps fs
 
--- these are the keys, all cut: each part has its filter
-pub record HoldsAll (w : CutParts) (keys : List (List ℕ)) : Type 0 where
-  pub filters : AreFiltersFor w.policy (parts_by (is_full_filter w.policy w.size) keys)
-      (filters_of w.parts)
-  pub ends : end_keys w.parts ≡ map last_of_keys (parts_by (is_full_filter w.policy w.size) keys)
-  pub bound : w.bound ≡
-      capped (parts_bound w.policy (parts_by (is_full_filter w.policy w.size) keys))
+-- what was cut is the filters and the last keys of these parts
+pub record HasParts (w : CutParts) (parts : List KeyPart) : Type 0 where
+  pub some : AllByRecursion IsSomePart parts
+  pub filters : AreFiltersOf parts (filters_of w.parts)
+  pub ends : end_keys w.parts ≡ map last_of_keys (keys_in parts)
+  pub bound : w.bound ≡ capped (key_parts_bound parts)
+
+-- these are the keys: the parts that were cut, and what is pending
+pub record HoldsParts (w : CutParts) (given : GivenKeys) : Type 0 where
+  pub cut : HasParts w given.cut
+  pub hashes : w.hashes ≡ map fnv1a given.pending
+  pub last : w.last ≡ last_key_of given.pending
+
+-- these are the keys, all cut
+abbrev pub HoldsAll : CutParts → GivenKeys → Type 0
+HoldsAll w given = HasParts w (parts_of w.policy given)
 
 -- what waits was cut off as a part with this last key
 pub record Cuts (key : List ℕ) (w v : CutParts) : Type 0 where

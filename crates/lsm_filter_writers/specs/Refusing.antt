@@ -12,6 +12,7 @@ use Rattle.lsm_files.specs.Failed.{section_fault}
 use Rattle.lsm_files.specs.Filters.{is_full_filter, last_of_keys}
 use Rattle.lsm_files.specs.Parts.{parts_by}
 use Rattle.lsm_filter_writers.specs.Cutting.{waiting_by}
+use Rattle.lsm_filter_writers.specs.Given.{GivenKeys, KeyPart, keys_in, parts_of}
 
 -- the filter of these keys is too large: none without keys
 abbrev pub keys_fault : BloomConstructionPolicy → List (List ℕ) → Option Error
@@ -23,12 +24,13 @@ abbrev pub cut_fault : BloomConstructionPolicy → ℕ → List (List ℕ) → O
 cut_fault policy size part =
     if is_full_filter policy size part then fault_for (tenths_of policy) (length part) else None
 
--- what registering a key refuses that comes behind others: the filter of a part that is cut is too large
+-- what registering a key refuses where others are pending: the filter of a part that is cut is too
+-- large
 abbrev pub register_fault : FilterKind → BloomConstructionPolicy → List (List ℕ) → List ℕ
     → Option Error
-register_fault Full policy keys key = None
-register_fault (Partitioned size) policy keys key =
-    cut_fault policy size (waiting_by (is_full_filter policy size) keys ++ key ∷ [])
+register_fault Full policy pending key = None
+register_fault (Partitioned size) policy pending key =
+    cut_fault policy size (pending ++ key ∷ [])
 
 -- the size at which a partition is cut: none in a full filter
 abbrev pub partition_size : FilterKind → ℕ
@@ -39,6 +41,11 @@ partition_size (Partitioned size) = size
 abbrev pub parts_bound : BloomConstructionPolicy → List (List (List ℕ)) → ℕ
 parts_bound policy parts = sum_by (λ p. bound_for (tenths_of policy) (length p)) parts
 
+-- the same of parts that have policies of their own
+abbrev pub key_parts_bound : List KeyPart → ℕ
+key_parts_bound parts =
+    sum_by (λ (p : KeyPart). bound_for (tenths_of p.policy) (length p.keys)) parts
+
 -- a handle that ends with this key
 abbrev pub end_handle : List ℕ → Handle
 end_handle key = record { end_key = key; seqno = 0; offset = 0; size = 0 }
@@ -47,8 +54,8 @@ end_handle key = record { end_key = key; seqno = 0; offset = 0; size = 0 }
 abbrev pub top_fault : List (List ℕ) → Option Error
 top_fault ends = handles_fault (map end_handle ends)
 
--- what finishing a filter of these keys refuses: the filter of all of them; or that of the rest, then the
--- section of all parts, then the top level
+-- what finishing a filter of these keys refuses, all given under one kind and one policy: the filter
+-- of all of them; or that of the rest, then the section of all parts, then the top level
 abbrev pub filter_fault : FilterKind → BloomConstructionPolicy → List (List ℕ) → Option Error
 filter_fault Full policy keys = keys_fault policy keys
 filter_fault (Partitioned size) policy keys =
@@ -56,3 +63,12 @@ filter_fault (Partitioned size) policy keys =
     let parts = parts_by full keys in
     option_or (keys_fault policy (waiting_by full keys))
     (option_or (section_fault (parts_bound policy parts)) (top_fault (map last_of_keys parts)))
+
+-- the same of keys that were given under any options, the last of them this kind and this policy
+abbrev pub given_fault : FilterKind → BloomConstructionPolicy → GivenKeys → Option Error
+given_fault Full policy given = keys_fault policy given.pending
+given_fault (Partitioned size) policy given =
+    let parts = parts_of policy given in
+    let ends = map last_of_keys (keys_in parts) in
+    option_or (keys_fault policy given.pending)
+    (option_or (section_fault (key_parts_bound parts)) (top_fault ends))

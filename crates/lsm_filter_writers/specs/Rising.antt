@@ -3,6 +3,7 @@ use Rattle.std.specs.Prelude.{ℕ, List, [], ◌∷◌, ◌++◌, map}
 use Rattle.sst_entries.specs.declared.value_type.ValueType.TheVariants.{Value}
 use Rattle.sst_entries.specs.Entry.{Entry, entry}
 use Rattle.sst_entries.specs.Strict.{IsStrict}
+use Rattle.lsm_filter_writers.specs.Given.{GivenKeys, all_keys}
 
 -- the entry that a top level's handle with this key ends with
 abbrev pub end_entry : List ℕ → Entry
@@ -12,8 +13,8 @@ end_entry key = entry key [] 0 Value
 abbrev pub AreRising : List (List ℕ) → Type 0
 AreRising keys = IsStrict (map end_entry keys)
 
--- a key is greater than all of some list of keys that is held
-pub record Rises (holds : List (List ℕ) → Type 0) (key : List ℕ) : Type 0 where
-  pub keys : List (List ℕ)
-  pub held : holds keys
-  pub rising : AreRising (keys ++ key ∷ [])
+-- a key is greater than all keys that are held
+pub record Rises (holds : GivenKeys → Type 0) (key : List ℕ) : Type 0 where
+  pub given : GivenKeys
+  pub held : holds given
+  pub rising : AreRising (all_keys given ++ key ∷ [])

@@ -8,13 +8,14 @@ pub use Rattle.sst_blocks.specs.Block.{header_len}
 pub use Rattle.sst_blocks.specs.Encoding.{handles_fault}
 pub use Rattle.sst_blocks.specs.Handles.{AreStrictHandles}
 pub use Rattle.lsm_files.specs.File.{HasNoFilter}
-pub use Rattle.lsm_files.specs.Filters.{IsFilterFor, filter_block, is_full_filter}
+pub use Rattle.lsm_files.specs.Filters.{IsFilterFor, filter_block}
 pub use Rattle.lsm_files.specs.Fits.{SectionFits}
 pub use Rattle.lsm_files.specs.Layout.{appended}
 pub use Rattle.lsm_files.specs.Partitions.{handles_block}
-pub use Rattle.lsm_filter_writers.specs.Cutting.{waiting_by}
+pub use Rattle.lsm_filter_writers.specs.Answering.{IsAdmitted, was_given}
+pub use Rattle.lsm_filter_writers.specs.Given.{GivenKeys, all_keys, given_by, no_keys, with_key}
 pub use Rattle.lsm_filter_writers.specs.Held.{Cuts, HoldsAll, HoldsHashes, HoldsParts}
 pub use Rattle.lsm_filter_writers.specs.Held.{end_keys, filters_of, partition_of}
 pub use Rattle.lsm_filter_writers.specs.Refusing.{keys_fault, partition_size, register_fault, top_fault}
 pub use Rattle.lsm_filter_writers.specs.Rising.{AreRising}
-pub use Rattle.lsm_filter_writers.specs.Writing.{WritesFilter, part_sections, tops_block, tops_of}
+pub use Rattle.lsm_filter_writers.specs.Writing.{WritesParts, part_sections, tops_block, tops_of}

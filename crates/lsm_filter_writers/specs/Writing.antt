@@ -14,7 +14,8 @@ use Rattle.lsm_files.specs.Fits.{SectionFits}
 use Rattle.lsm_files.specs.Kinds.{filter_count, filter_parts, filter_sections}
 use Rattle.lsm_files.specs.Layout.{Sections, appended}
 use Rattle.lsm_files.specs.Partitions.{handles_block, tops_from}
-use Rattle.lsm_filter_writers.specs.Held.{CutPart, filters_of, partition_of}
+use Rattle.lsm_filter_writers.specs.Given.{GivenKeys, IsSomePart, keys_in, parts_of}
+use Rattle.lsm_filter_writers.specs.Held.{AreFiltersOf, CutPart, filters_of, partition_of}
 
 -- the sections of the filters of these keys, behind what was written before
 abbrev pub sections_behind : FilterKind → BloomConstructionPolicy → List (List ℕ) → Written
@@ -30,6 +31,25 @@ pub record WritesFilter (kind : FilterKind) (policy : BloomConstructionPolicy)
   pub written : after ≡ appended before (sections_behind kind policy keys before filters)
   pub counted : count ≡ filter_count kind filters
   pub fit : AllByRecursion SectionFits (sections_behind kind policy keys before filters)
+
+-- the sections of the filters of parts of keys, behind what was written before
+abbrev pub key_sections : FilterKind → BloomConstructionPolicy → GivenKeys → Written
+    → List BloomFilter → Sections
+key_sections kind policy given before fs =
+    filter_sections kind V4 (length before.bytes) (keys_in (parts_of policy given)) fs
+
+-- the filters of these keys were written behind what was written before: each part has the filter of
+-- the policy under which it was cut, what was pending that of the last policy; and so many blocks are
+-- counted
+pub record WritesParts (kind : FilterKind) (policy : BloomConstructionPolicy) (given : GivenKeys)
+    (before after : Written) (count : ℕ) : Type 0 where
+  pub uncut : kind ≡ Full → given.cut ≡ []
+  pub some : AllByRecursion IsSomePart (parts_of policy given)
+  pub filters : List BloomFilter
+  pub are : AreFiltersOf (parts_of policy given) filters
+  pub written : after ≡ appended before (key_sections kind policy given before filters)
+  pub counted : count ≡ filter_count kind filters
+  pub fit : AllByRecursion SectionFits (key_sections kind policy given before filters)
 
 -- the top level of some parts, the first of them at a position
 abbrev pub tops_of : ℕ → List CutPart → List Handle

@@ -1,7 +1,7 @@
 //! The writer of a full filter.
 ghost use Rattle.std.specs.Prelude.{◌≡◌, ℕ, List, [], false, length, map, take, IfOk};
-ghost use Rattle.lsm_filter_writers.specs.Words.{Faults, HasNoFilter, HoldsHashes, WritesFilter};
-ghost use Rattle.lsm_filter_writers.specs.Words.{fault_for, fnv1a, tenths_of};
+ghost use Rattle.lsm_filter_writers.specs.Words.{Faults, HasNoFilter, HoldsHashes, WritesParts};
+ghost use Rattle.lsm_filter_writers.specs.Words.{fault_for, fnv1a, given_by, no_keys, tenths_of};
 ghost use Rattle.lsm_files.specs.declared.options.FilterKind.TheVariants.{Full};
 
 use crate::build::build_from_buffer;
@@ -38,7 +38,7 @@ impl<A: Allocator> FullFilterWriter<A> {
     /// No keys.
     pub fn new(alloc: A, policy: BloomConstructionPolicy) -> FullFilterWriter<A>
         ensures value { result ≡ record { policy = policy; hashes = []; failed = false } }
-        ensures holds { HoldsHashes result [] }
+        ensures holds { HoldsHashes result no_keys }
     {
         FullFilterWriter {
             bloom_policy: policy,
@@ -109,7 +109,7 @@ fn write_filter<A: Allocator + Clone>(
     requires unwritten { HasNoFilter writer.old }
     requires some { hashes.now.items ≡ [] → ⊥ }
     ensures ok { IfOk result (λ n. (keys : List (List ℕ)) → hashes.now.items ≡ map fnv1a keys →
-        WritesFilter Full policy.now keys writer.old writer.new n) }
+        WritesParts Full policy.now (given_by Full policy.now keys) writer.old writer.new n) }
     ensures before { take (length writer.old.bytes) writer.new.bytes ≡ writer.old.bytes }
     ensures refused { let n = length hashes.now.items in
         Faults result (fault_for (tenths_of policy.now) n) }

@@ -11,4 +11,4 @@ pub use either::FilterWriterImpl;
 pub use full::FullFilterWriter;
 pub use lsm_files::FilterKind;
 pub use partitioned::PartitionedFilterWriter;
-pub use writer::{FilterWriter, small_partitions_fit};
+pub use writer::{FilterWriter, registered_keys_are_admitted, small_partitions_fit};

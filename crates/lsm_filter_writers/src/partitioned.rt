@@ -1,11 +1,13 @@
 //! The writer of a filter of partitions.
 ghost use Rattle.std.specs.Prelude.{◌≡◌, ◌+◌, ◌++◌, ◌∷◌, ℕ, List, [], None, true, false, nat_le, length, map, take, All, IfOk, IfErr, OnOk, OnErr};
-ghost use Rattle.lsm_filter_writers.specs.Words.{AreRising, AreStrictHandles, Cuts, Faults, FaultsFirst};
-ghost use Rattle.lsm_filter_writers.specs.Words.{HasNoFilter, HoldsAll, HoldsParts, SectionFits};
-ghost use Rattle.lsm_filter_writers.specs.Words.{appended, end_keys, fault_for, filter_block, filters_of};
-ghost use Rattle.lsm_filter_writers.specs.Words.{handles_block, handles_fault, header_len, is_full_filter};
-ghost use Rattle.lsm_filter_writers.specs.Words.{keys_fault, part_sections, payload_of, register_fault, size_for, slot_index};
-ghost use Rattle.lsm_filter_writers.specs.Words.{tenths_of, top_fault, tops_block, tops_of, waiting_by};
+ghost use Rattle.lsm_filter_writers.specs.Words.{AreRising, AreStrictHandles, Cuts, Faults};
+ghost use Rattle.lsm_filter_writers.specs.Words.{FaultsFirst, GivenKeys, HasNoFilter, HoldsAll};
+ghost use Rattle.lsm_filter_writers.specs.Words.{HoldsParts, SectionFits, appended, end_keys};
+ghost use Rattle.lsm_filter_writers.specs.Words.{fault_for, filter_block, filters_of};
+ghost use Rattle.lsm_filter_writers.specs.Words.{handles_block, handles_fault, header_len};
+ghost use Rattle.lsm_filter_writers.specs.Words.{keys_fault, no_keys, part_sections, payload_of};
+ghost use Rattle.lsm_filter_writers.specs.Words.{register_fault, size_for, slot_index, tenths_of};
+ghost use Rattle.lsm_filter_writers.specs.Words.{top_fault, tops_block, tops_of, with_key};
 ghost use Rattle.std.specs.List.{flat_map};
 ghost use Rattle.lsm_files.specs.declared.options.FilterKind.TheVariants.{Partitioned};
 ghost use Rattle.sst_entries.specs.declared.error.Error.TheVariants.{OutOfMemory};
@@ -87,7 +89,7 @@ impl<A: Allocator + Clone> PartitionedFilterWriter<A> {
           last = None;
           failed = false;
         }) }
-        ensures holds { IfOk result (λ w. HoldsParts w []) }
+        ensures holds { IfOk result (λ w. HoldsParts w no_keys) }
         ensures err { IfErr result (λ e. e ≡ OutOfMemory) }
     {
         Ok(PartitionedFilterWriter {
@@ -137,14 +139,15 @@ impl<A: Allocator + Clone> PartitionedFilterWriter<A> {
     // Adds a key to those that are pending, and cuts them off where they are enough.
     fn push_key(&mut self, key: &UserKey<A>) -> Result<(), Error>
         requires { AreRising (end_keys self.old.parts ++ key.now ∷ []) }
-        ensures ok { OnOk result ((keys : List (List ℕ)) →
-            HoldsParts self.old keys → HoldsParts self.new (keys ++ key.now ∷ [])) }
+        ensures ok { OnOk result ((given : GivenKeys) → HoldsParts self.old given →
+            let kind = Partitioned self.old.size in
+            HoldsParts self.new (with_key kind self.old.policy given key.now)) }
         ensures policy { self.new.policy ≡ self.old.policy }
         ensures size { self.new.size ≡ self.old.size }
         ensures failed { self.new.failed ≡ self.old.failed }
-        ensures refused { (keys : List (List ℕ)) → HoldsParts self.old keys →
+        ensures refused { (given : GivenKeys) → HoldsParts self.old given →
             let kind = Partitioned self.old.size in
-            Faults result (register_fault kind self.old.policy keys key.now) }
+            Faults result (register_fault kind self.old.policy given.pending key.now) }
     {
         let hash = Builder::<A>::get_hash(key.as_slice());
         self.bloom_hash_buffer.push(hash)?;
@@ -158,13 +161,12 @@ impl<A: Allocator + Clone> PartitionedFilterWriter<A> {
 
     // Cuts the pending keys off, where there are any.
     fn spill_rest(&mut self) -> Result<(), Error>
-        ensures ok { OnOk result ((keys : List (List ℕ)) →
-            HoldsParts self.old keys → HoldsAll self.new keys) }
+        ensures ok { OnOk result ((given : GivenKeys) →
+            HoldsParts self.old given → HoldsAll self.new given) }
         ensures policy { self.new.policy ≡ self.old.policy }
         ensures size { self.new.size ≡ self.old.size }
-        ensures refused { (keys : List (List ℕ)) → HoldsParts self.old keys →
-            let full = is_full_filter self.old.policy self.old.size in
-            Faults result (keys_fault self.old.policy (waiting_by full keys)) }
+        ensures refused { (given : GivenKeys) → HoldsParts self.old given →
+            Faults result (keys_fault self.old.policy given.pending) }
         // Where nothing is pending it succeeds.
         ensures idle { OnErr result (self.old.last ≡ None → ⊥) }
     {

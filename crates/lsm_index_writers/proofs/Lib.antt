@@ -3,3 +3,4 @@ pub mod Behind
 pub mod Tops
 pub mod Cutting
 pub mod Finishing
+pub mod Empty

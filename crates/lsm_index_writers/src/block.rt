@@ -1,8 +1,10 @@
 //! Writing blocks of handles.
-ghost use Rattle.std.specs.Prelude.{◌≡◌, ◌+◌, ◌<◌, ◌^◌, ◌++◌, ◌∷◌, [], length, take, All, IfOk, OnOk, OnErr};
+ghost use Rattle.std.specs.Prelude.{◌≡◌, ◌+◌, ◌<◌, ◌^◌, ◌++◌, ◌∷◌, [], length, take, All};
+ghost use Rattle.std.specs.Prelude.{IfOk, IfErr, OnOk, OnErr};
 ghost use Rattle.lsm_index_writers.specs.Words.{AreStrictHandles, Faults, SectionFits, appended};
 ghost use Rattle.lsm_index_writers.specs.Words.{handles_block, handles_fault, handles_payload};
 ghost use Rattle.lsm_index_writers.specs.Words.{header_len, index_block_bound_of, slot_index};
+ghost use Rattle.sst_entries.specs.declared.error.Error.TheVariants.{OutOfMemory};
 ghost use Rattle.sst_sections.specs.declared.section.SectionName.TheVariants.{Tli};
 ghost use Rattle.sst_sections.specs.declared.version.TableVersion.TheVariants.{V4};
 
@@ -54,5 +56,23 @@ pub(crate) fn write_top_level<A: Allocator + Clone>(
 {
     writer.start(SectionName::Tli)?;
     write_block(writer, handles, buffer, compression)?;
+    Ok(())
+}
+
+/// Writes the section of a top level without handles. Only the section writer takes memory: what a
+/// block of no handles has is their count. Refused [`Error::OutOfMemory`] alone; no byte is written
+/// then.
+pub(crate) fn write_empty_top_level<A: Allocator + Clone>(
+    writer: &mut SectionWriter<A>,
+    compression: CompressionType,
+) -> Result<(), Error>
+    requires { All (λ s. slot_index s.0 ≡ 2 → ⊥) writer.old.started }
+    ensures ok { OnOk result (writer.new ≡
+        appended writer.old ((Tli, handles_block V4 []) ∷ [])) }
+    ensures bytes { OnErr result (writer.new.bytes ≡ writer.old.bytes) }
+    ensures err { IfErr result (λ e. e ≡ OutOfMemory) }
+{
+    writer.start(SectionName::Tli)?;
+    Block::write_into(writer, &[0, 0, 0, 0], BlockType::Index, compression)?;
     Ok(())
 }

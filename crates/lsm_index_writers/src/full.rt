@@ -7,7 +7,7 @@ ghost use Rattle.lsm_files.specs.declared.options.IndexKind.TheVariants.{Full};
 ghost use Rattle.sst_sections.specs.declared.section.SectionName.TheVariants.{Tli};
 ghost use Rattle.sst_sections.specs.declared.version.TableVersion.TheVariants.{V4};
 
-use crate::block::write_top_level;
+use crate::block::{write_empty_top_level, write_top_level};
 use crate::either::IndexWriterImpl;
 use crate::held::HeldHandles;
 use crate::writer::BlockIndexWriter;
@@ -79,6 +79,10 @@ impl<A: Allocator + Clone> BlockIndexWriter<A> for FullIndexWriter<A> {
     fn finish(self, writer: &mut SectionWriter<A>) -> Result<usize, Error> {
         if self.held.failed {
             return Err(Error::WriterFailed); // nothing is written
+        }
+        if self.held.handles.is_empty() {
+            write_empty_top_level(writer, self.compression)?;
+            return Ok(1);
         }
         write_section(writer, &self.held.handles, self.compression)
     }

@@ -1,14 +1,16 @@
 //! The writer of an index of partitions.
-ghost use Rattle.std.specs.Prelude.{◌≡◌, ◌+◌, ◌-◌, ◌<◌, ◌≤◌, ◌^◌, ◌++◌, ◌∷◌, [], false, length, take, IfOk, OnOk};
+ghost use Rattle.std.specs.Prelude.{◌≡◌, ◌+◌, ◌-◌, ◌<◌, ◌≤◌, ◌^◌, ◌++◌, ◌∷◌, [], false, length, take};
+ghost use Rattle.std.specs.Prelude.{IfOk, IfErr, OnOk, OnErr};
 ghost use Rattle.std.specs.List.{AllByRecursion, flat_map};
 ghost use Rattle.lsm_index_writers.specs.Words.{AreStrictHandles, Faults, HasNoIndex, SectionFits, appended};
 ghost use Rattle.lsm_index_writers.specs.Words.{capped, handle_size, handles_block, index_block_bound_of};
 ghost use Rattle.lsm_index_writers.specs.Words.{index_tops, is_full_index, kind_fault, part_fault};
 ghost use Rattle.lsm_index_writers.specs.Words.{partitioned_index, parts_by, parts_fault};
 ghost use Rattle.lsm_files.specs.declared.options.IndexKind.TheVariants.{Partitioned};
+ghost use Rattle.sst_entries.specs.declared.error.Error.TheVariants.{OutOfMemory};
 ghost use Rattle.sst_sections.specs.declared.version.TableVersion.TheVariants.{V4};
 
-use crate::block::{write_block, write_top_level};
+use crate::block::{write_block, write_empty_top_level, write_top_level};
 use crate::held::HeldHandles;
 use crate::writer::BlockIndexWriter;
 use sst_blocks::{CompressionType, Error, KeyedBlockHandle, SectionName, SectionWriter};
@@ -88,6 +90,10 @@ impl<A: Allocator + Clone> BlockIndexWriter<A> for PartitionedIndexWriter<A> {
             return Err(Error::WriterFailed); // nothing is written
         }
         let handles = &self.held.handles;
+        if handles.is_empty() {
+            write_no_partitions(writer, self.compression)?;
+            return Ok(0);
+        }
         write_sections(writer, handles, self.partition_size, self.compression)
     }
 
@@ -100,6 +106,23 @@ impl<A: Allocator + Clone> BlockIndexWriter<A> for PartitionedIndexWriter<A> {
         self.partition_size = size;
         self
     }
+}
+
+/// Writes the section of the partitions where there are none, and the section of a top level without
+/// handles. Only the section writer takes memory. Refused [`Error::OutOfMemory`] alone; no byte is
+/// written then.
+fn write_no_partitions<A: Allocator + Clone>(
+    writer: &mut SectionWriter<A>,
+    compression: CompressionType,
+) -> Result<(), Error>
+    requires { HasNoIndex writer.old }
+    ensures ok { let at = length writer.old.bytes in
+        OnOk result (writer.new ≡ appended writer.old (partitioned_index V4 at [])) }
+    ensures bytes { OnErr result (writer.new.bytes ≡ writer.old.bytes) }
+    ensures err { IfErr result (λ e. e ≡ OutOfMemory) }
+{
+    writer.start(SectionName::Index)?;
+    write_empty_top_level(writer, compression)
 }
 
 /// Writes the section of the partitions of these handles, and the section of their top level. Answers how many partitions there

@@ -47,6 +47,10 @@ pub trait BlockIndexWriter<A: Allocator> {
     /// end key is too long, and [`Error::BlockTooLarge`] where its length bound is 2^32 bytes or more; behind a partition
     /// [`Error::SectionTooLarge`] where the bounds of the partitions so far come to that; the top level is last. Also
     /// [`Error::OutOfMemory`]. The bytes that were written before stay.
+    ///
+    /// Without handles it writes the section of the partitions, where it has partitions, with no bytes,
+    /// and a block of no handles: only the section writer takes memory, and where that is refused no
+    /// byte is written.
     fn finish(self, writer: &mut SectionWriter<A>) -> Result<usize, Error>
         requires { HasNoIndex writer.old }
         ensures ok { OnOk result (writer.new ≡ appended writer.old
@@ -60,7 +64,10 @@ pub trait BlockIndexWriter<A: Allocator> {
         ensures before { take (length writer.old.bytes) writer.new.bytes ≡ writer.old.bytes }
         ensures refused { Faults result
             (index_fault (kind self) (has_failed self) (registered self)) }
-        ensures first { FaultsFirst result (failed_fault (has_failed self)) };
+        ensures first { FaultsFirst result (failed_fault (has_failed self)) }
+        // Without handles a refusal writes no byte.
+        ensures idle { OnErr result (registered self ≡ [] →
+            writer.new.bytes ≡ writer.old.bytes) };
 
     /// Compresses the blocks of the index. What it holds and what it writes stay.
     fn use_compression(self, compression: CompressionType) -> Self

@@ -1,5 +1,5 @@
 -- The section has the filter's block.
-use Rattle.std.proofs.Common.{◌∙◌, false}
+use Rattle.std.proofs.Common.{◌∙◌}
 use Rattle.lsm_filter_writers.proofs.Sections.{bytes_stay, front_begun, front_of_block, front_same, full_one, no_filter_yet}
 use Rattle.lsm_filter_writers.proofs.full.write_filter.Goals as goal
 
@@ -8,8 +8,8 @@ returns-in_err-start-clause-before g c = front_begun c.args.writer.now c.start.n
 
 pub returns-clause-ok : goal.returns-clause-ok
 returns-clause-ok g c = λ keys e.
-    full_one (record { policy = c.args.policy.now; hashes = c.args.hashes.now.items; failed = false }) keys c.args.writer.now c.start.new.self c.write_into.new.writer
-    c.in_ok-filter.filter c.deref.result.now c.requires.some (record { hashes = e }) (c.in_ok-filter.ensures.filter keys e)
+    full_one c.args.policy.now keys c.args.writer.now c.start.new.self c.write_into.new.writer
+    c.in_ok-filter.filter c.deref.result.now (λ none. c.requires.some (e ∙ none)) (c.in_ok-filter.ensures.filter keys e)
     c.build-payload.ensures.built (c.deref.ensures.value ∙ c.build-payload.ensures.payload) c.in_ok-start.ensures.ok c.in_ok-write_into.ensures.ok
 
 pub returns-clause-before : goal.returns-clause-before

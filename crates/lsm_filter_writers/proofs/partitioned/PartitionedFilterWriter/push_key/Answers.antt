@@ -14,7 +14,7 @@ returns-then-is_full-clause-ok g c = on_ok _ _ c.spill_filter_partition.result c
     (ap (λ (w : CutParts). w.policy) c.self.view_is) (ap (λ (w : CutParts). w.size) c.self.view_is) (ap (λ (w : CutParts). w.parts) c.self.view_is)
     (ap (λ (w : CutParts). w.bound) c.self.view_is)
     (c.in_ok-push.ensures.items ∙ ap (λ (hs : List ℕ). hs ++ c.get_hash-hash.result ∷ []) (ap (λ (w : CutParts). w.hashes) c.self.view_is))
-    c.spill_filter_partition.ensures.policy c.spill_filter_partition.ensures.size c.is_full.ensures c.if-is_full.true)
+    c.is_full.ensures c.if-is_full.true)
 
 pub returns-clause-ok : goal.returns-clause-ok
 returns-clause-ok g c = λ keys h.
@@ -30,7 +30,7 @@ returns-clause-ok g c = λ keys h.
     (ap (λ (w : CutParts). w.policy) c.self.view_is) (ap (λ (w : CutParts). w.size) c.self.view_is) (ap (λ (w : CutParts). w.parts) c.self.view_is)
     (ap (λ (w : CutParts). w.bound) c.self.view_is)
     (c.in_ok-push.ensures.items ∙ ap (λ (hs : List ℕ). hs ++ c.get_hash-hash.result ∷ []) (ap (λ (w : CutParts). w.hashes) c.self.view_is))
-    refl refl refl refl refl c.replace.ensures.after c.is_full.ensures c.if-is_full.false
+    refl refl refl c.replace.ensures.after c.is_full.ensures c.if-is_full.false
 
 pub returns-then-is_full-clause-refused : goal.returns-then-is_full-clause-refused
 returns-then-is_full-clause-refused g c = λ keys h.

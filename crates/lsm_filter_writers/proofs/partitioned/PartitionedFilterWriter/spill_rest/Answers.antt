@@ -14,7 +14,6 @@ invariant_of-self-in-Some g c = rw (c.take.ensures.after, append-nil (end_keys c
 pub returns-in-None-clause-ok : goal.returns-in-None-clause-ok
 returns-in-None-clause-ok g c = λ keys h.
     holds_all c.args.self.now _ keys h (sym (ap (λ (w : CutParts). w.last) c.self.view_is) ∙ sym c.take.ensures.value ∙ c.in-None.is)
-    (ap (λ (w : CutParts). w.policy) c.self.view_is) (ap (λ (w : CutParts). w.size) c.self.view_is)
     (ap (λ (w : CutParts). w.parts) c.self.view_is) (ap (λ (w : CutParts). w.bound) c.self.view_is)
 
 pub returns-in-Some-clause-ok : goal.returns-in-Some-clause-ok
@@ -24,7 +23,7 @@ returns-in-Some-clause-ok g c = on_ok _ _ c.spill_filter_partition.result c.spil
     rest_cuts c.args.self.now _ c.spill_filter_partition.new.self keys c.in-Some.end_key h
     (sym (ap (λ (w : CutParts). w.last) c.self.view_is) ∙ sym c.take.ensures.value ∙ c.in-Some.is)
     policy (ap (λ (w : CutParts). w.parts) c.self.view_is) (ap (λ (w : CutParts). w.bound) c.self.view_is) (ap (λ (w : CutParts). w.hashes) c.self.view_is)
-    (c.spill_filter_partition.ensures.policy ∙ policy) (c.spill_filter_partition.ensures.size ∙ ap (λ (w : CutParts). w.size) c.self.view_is) cuts)
+    (c.spill_filter_partition.ensures.policy ∙ policy) cuts)
 
 pub returns-in-None-clause-refused : goal.returns-in-None-clause-refused
 returns-in-None-clause-refused g c = λ keys h.

@@ -3,11 +3,12 @@ use Rattle.std.proofs.Common.{◌≡◌, ℕ, [], true, ap, refl, sym, ◌∙◌
 use Rattle.std.specs.Prelude.{Ok, Err}
 use Rattle.sst_entries.proofs.StreamLemmas.{on_err}
 use Rattle.sst_entries.specs.declared.error.Error.TheVariants.{SectionTooLarge}
+use Rattle.lsm_filter_writers.specs.Given.{no_keys}
 use Rattle.lsm_filter_writers.specs.Held.{as_list, CutParts, end_keys, HoldsParts}
 use Rattle.lsm_filter_writers.proofs.Emptiness.{vec_is_empty, vec_is_some}
 use Rattle.lsm_filter_writers.proofs.Holding.{none_cut, none_waits}
 use Rattle.lsm_filter_writers.proofs.RisingLaws.{rising_front}
-use Rattle.lsm_filter_writers.proofs.Sections.{faults_same, finish_fault, finish_large, finish_none, finish_none_fault, finish_writes, rest_refused, spent_first, spent_told, works_first, written_blocks, bytes_stay}
+use Rattle.lsm_filter_writers.proofs.Sections.{faults_same, finish_told, finish_large, finish_none, finish_none_fault, finish_writes, rest_refused, spent_first, spent_told, works_first, written_blocks, bytes_stay}
 use Rattle.lsm_filter_writers.proofs.partitioned.PartitionedFilterWriterFilterWriter.finish.Goals as goal
 
 pub write_sections-requires-clause-rising : goal.write_sections-requires-clause-rising
@@ -26,7 +27,7 @@ returns-clause-ok g c =
 pub returns-clause-refused : goal.returns-clause-refused
 returns-clause-refused g c = λ keys h.
     faults_same c.write_sections.result _ _
-    (finish_fault c.spill_rest.new.self c.args.self.size c.args.self.policy c.self-2.inside.partitions.items c.self-2.inside.relative_file_pos keys c.args.self.failed
+    (finish_told c.spill_rest.new.self c.args.self.size c.args.self.policy c.self-2.inside.partitions.items c.self-2.inside.relative_file_pos keys c.args.self.failed
     (sym (ap (λ (w : CutParts). w.failed) c.self.view_is) ∙ c.if-self.false) (c.in_ok-spill_rest.ensures.refused keys h)
     (c.in_ok-spill_rest.ensures.ok keys h) c.spill_rest.ensures.policy c.spill_rest.ensures.size
     (ap (λ (w : CutParts). w.parts) c.self-2.view_is) (ap (λ (w : CutParts). w.bound) c.self-2.view_is)
@@ -56,19 +57,19 @@ returns-then-self-from-clause-refused g c = λ keys h told.
 -- without keys nothing waits, and there are no parts
 pub returns-in_err-spill_rest-clause-idle : goal.returns-in_err-spill_rest-clause-idle
 returns-in_err-spill_rest-clause-idle g c =
-    let none : HoldsParts c.args.self [] → c.args.self.failed ≡ true = λ h. absurd (c.in_err-spill_rest.ensures.idle (none_waits c.args.self h)) in
+    let none : HoldsParts c.args.self no_keys → c.args.self.failed ≡ true = λ h. absurd (c.in_err-spill_rest.ensures.idle (none_waits c.args.self h)) in
     on_err c.from_residual.result none
 
 pub returns-then-self-from-clause-idle : goal.returns-then-self-from-clause-idle
 returns-then-self-from-clause-idle g c = λ h.
     absurd (vec_is_some c.self-2.inside.partitions c.self-2.inside.partitions.items c.is_empty.result refl c.is_empty.ensures c.if-is_empty.false
-    (ap (λ (w : CutParts). w.parts) c.self-2.view_is ∙ none_cut c.spill_rest.new.self (c.in_ok-spill_rest.ensures.ok [] h)))
+    (ap (λ (w : CutParts). w.parts) c.self-2.view_is ∙ none_cut c.spill_rest.new.self (c.in_ok-spill_rest.ensures.ok no_keys h)))
 
 pub returns-clause-idle : goal.returns-clause-idle
 returns-clause-idle g c =
-    let none : HoldsParts c.args.self [] → c.args.self.failed ≡ true = λ h.
+    let none : HoldsParts c.args.self no_keys → c.args.self.failed ≡ true = λ h.
     absurd (vec_is_some c.self-2.inside.partitions c.self-2.inside.partitions.items c.is_empty.result refl c.is_empty.ensures c.if-is_empty.false
-    (ap (λ (w : CutParts). w.parts) c.self-2.view_is ∙ none_cut c.spill_rest.new.self (c.in_ok-spill_rest.ensures.ok [] h))) in
+    (ap (λ (w : CutParts). w.parts) c.self-2.view_is ∙ none_cut c.spill_rest.new.self (c.in_ok-spill_rest.ensures.ok no_keys h))) in
     on_err c.write_sections.result none
 
 pub returns-in_err-spill_rest-clause-refused : goal.returns-in_err-spill_rest-clause-refused

@@ -9,4 +9,4 @@ pub push_key-requires : goal.push_key-requires
 push_key-requires g c =
     let rises = c.requires (sym (ap (λ (w : CutParts). w.failed) c.self.view_is) ∙ c.if-self.false) in
     subst (λ ps. AreRising (end_keys ps ++ c.args.key.now ∷ [])) (sym (ap (λ (w : CutParts). w.parts) c.self.view_is))
-    (ends_and_key c.args.self.now rises.keys c.args.key.now rises.held rises.rising)
+    (ends_and_key c.args.self.now rises.given c.args.key.now rises.held rises.rising)

@@ -1,10 +1,10 @@
--- Without keys there is nothing that the option changes.
+-- The option changes nothing that is held.
 use Rattle.std.proofs.Common.{ap}
 use Rattle.lsm_filter_writers.specs.Held.{CutParts}
-use Rattle.lsm_filter_writers.proofs.Holding.{holds_none_again}
+use Rattle.lsm_filter_writers.proofs.Holding.{holds_again}
 use Rattle.lsm_filter_writers.proofs.partitioned.PartitionedFilterWriterFilterWriter.set_filter_policy.Goals as goal
 
 pub returns-clause-holds : goal.returns-clause-holds
-returns-clause-holds g c = λ h.
-    holds_none_again c.args.self _ h (ap (λ (w : CutParts). w.parts) c.self.view_is) (ap (λ (w : CutParts). w.bound) c.self.view_is)
+returns-clause-holds g c = λ given h.
+    holds_again c.args.self _ given h (ap (λ (w : CutParts). w.parts) c.self.view_is) (ap (λ (w : CutParts). w.bound) c.self.view_is)
     (ap (λ (w : CutParts). w.hashes) c.self.view_is) (ap (λ (w : CutParts). w.last) c.self.view_is)
