@@ -1,11 +1,12 @@
 //! Lists that are written as runs, which are compacted and read.
 use example_tables::lists::{list_of, read_names};
 use example_tables::rows::Row;
-use example_tables::runs::{ALL, Name, is_right, owned_range};
+use example_tables::runs::{ALL, Bounds, Name, is_right, owned_range};
 use lsm_tables::compact_run_back;
 use refusing::{Refusing, each_refused};
 use sst_blocks::{Error, SeqNo, ValueType};
 use std::alloc::Allocator;
+use std::ops::Bound;
 use std::test::Fail;
 
 // A threshold, whether tombstones are evicted, whether numbers become 0.
@@ -25,16 +26,18 @@ const THREE_KEYS: [Row<'static>; 4] = [
     (b"c", 6, ValueType::Value, b"z"),
 ];
 
-// What is kept of rows that are written as tables of one key each: at a key below a number, and the ends of all.
+// What is kept of rows that are written as tables of one key each: at a key below a number, and the ends of what lies within
+// bounds.
 fn read_kept<A: Allocator + Copy>(
     alloc: A,
     rows: &[Row<'_>],
     rules: Rules,
     key: &[u8],
     seqno: SeqNo,
+    bounds: Bounds<'_>,
 ) -> Result<Option<[Option<Name>; 3]>, Error> {
     let items = list_of(alloc, rows)?;
-    let range = owned_range(alloc, ALL)?;
+    let range = owned_range(alloc, bounds)?;
     let (threshold, evict, zero) = rules;
     match compact_run_back(alloc, items, 0, threshold, evict, zero, key, seqno, range)? {
         Some(read) => Ok(Some(read_names(alloc, read)?)),
@@ -48,7 +51,7 @@ fn found_at<A: Allocator + Copy>(
     threshold: SeqNo,
     seqno: SeqNo,
 ) -> Result<Option<Name>, Error> {
-    match read_kept(alloc, &VALUES, (threshold, false, false), b"a", seqno)? {
+    match read_kept(alloc, &VALUES, (threshold, false, false), b"a", seqno, ALL)? {
         Some(names) => Ok(names[0]),
         None => Err(Error::Source(1)),
     }
@@ -74,20 +77,67 @@ fn versions_stay_that_a_reader_may_see(rt: HostRuntime) -> Result<(), Fail> {
 #[test]
 fn a_tombstone_that_is_evicted_leaves_no_run(rt: HostRuntime) -> Result<(), Fail> {
     let alloc = rt.alloc();
-    let evicted = read_kept(alloc, &TOMBSTONE, (5, true, false), b"a", 7)?;
+    let evicted = read_kept(alloc, &TOMBSTONE, (5, true, false), b"a", 7, ALL)?;
     assert!(rt; evicted == None);
-    let stays = read_kept(alloc, &TOMBSTONE, (5, false, false), b"a", 7)?;
+    let stays = read_kept(alloc, &TOMBSTONE, (5, false, false), b"a", 7, ALL)?;
     let name = Some((b'a', 4));
     assert!(rt; stays == Some([name, None, name]));
-    assert!(rt; read_kept(alloc, &[], (5, false, false), b"a", 7)? == None);
+    assert!(rt; read_kept(alloc, &[], (5, false, false), b"a", 7, ALL)? == None);
     Ok(())
 }
 
 #[test]
 fn numbers_below_the_threshold_become_0(rt: HostRuntime) -> Result<(), Fail> {
-    let read = read_kept(rt.alloc(), &THREE_KEYS, (5, false, true), b"b", 1)?;
+    let read = read_kept(rt.alloc(), &THREE_KEYS, (5, false, true), b"b", 1, ALL)?;
     assert!(rt; read == Some([Some((b'b', 0)), Some((b'a', 10)), Some((b'c', 6))]));
     Ok(())
+}
+
+// Bounds, and the ends of what is kept of three keys within them.
+const WITHIN: &[(Bounds<'static>, [Option<Name>; 2])] = &[
+    (
+        (Bound::Included(b"b"), Bound::Unbounded),
+        [Some((b'b', 0)), Some((b'c', 6))],
+    ),
+    (
+        (Bound::Unbounded, Bound::Excluded(b"c")),
+        [Some((b'a', 10)), Some((b'b', 0))],
+    ),
+    (
+        (Bound::Included(b"b"), Bound::Included(b"b")),
+        [None, Some((b'b', 0))],
+    ),
+    ((Bound::Excluded(b"c"), Bound::Unbounded), [None, None]),
+];
+
+// Whether the reads of what is kept give these ends.
+fn has_ends<A: Allocator + Copy>(alloc: A, bounds: Bounds<'_>, ends: [Option<Name>; 2]) -> bool {
+    let read = read_kept(alloc, &THREE_KEYS, (5, false, true), b"a", 11, bounds);
+    read == Ok(Some([Some((b'a', 10)), ends[0], ends[1]]))
+}
+
+#[test]
+fn what_is_kept_is_read_within_bounds(rt: HostRuntime) {
+    for &(bounds, ends) in WITHIN {
+        assert!(rt; has_ends(rt.alloc(), bounds, ends));
+    }
+}
+
+// The refusal of a list with a key of so many bytes, behind another entry.
+fn refusal_of_a_key<A: Allocator + Copy>(alloc: A, length: usize) -> Result<bool, Error> {
+    let mut key = Vec::new(alloc);
+    key.resize(length, b'k')?;
+    let rows = [
+        (b"a".as_slice(), 1, ValueType::Value, b"x".as_slice()),
+        (key.as_slice(), 1, ValueType::Value, b"y".as_slice()),
+    ];
+    Ok(read_kept(alloc, &rows, (0, false, false), b"a", 7, ALL)?.is_some())
+}
+
+#[test]
+fn a_key_that_is_too_long_is_refused(rt: HostRuntime) {
+    assert!(rt; refusal_of_a_key(rt.alloc(), 1_048_577) == Err(Error::KeyTooLong));
+    assert!(rt; refusal_of_a_key(rt.alloc(), 1_048_576) == Ok(true));
 }
 
 #[test]

@@ -7,11 +7,13 @@ ghost use Rattle.lsm_compactions.specs.Compacted.{AreCompactable};
 use crate::runs::{Rules, T, V, Version, W, compacted, newest_in, run_of_tables, runs_of};
 use example_tables::lists::{Stream, read_names};
 use example_tables::rows::Row;
-use example_tables::runs::{ALL, Name, Tables, owned_range};
+use example_tables::runs::{ALL, Bounds, Name, Tables, is_right, owned_range};
 use lsm_tables::{compact_part_back, compaction_law, get_runs};
 use lsm_writers::{TableIds, Timestamp};
+use refusing::{Refusing, each_refused};
 use sst_blocks::{Error, InternalValue, SeqNo};
 use std::alloc::Allocator;
+use std::ops::Bound;
 use std::test::Fail;
 
 const A10_A3: [Row<'static>; 2] = [(b"a", 10, V, b"x"), (b"a", 3, V, b"y")];
@@ -104,22 +106,24 @@ fn number(name: Option<Name>) -> Option<SeqNo> {
     }
 }
 
-// What a point read and a range find before and after some runs are compacted in their place, with tombstones evicted or not.
+// What a point read and a range within bounds find before and after some runs are compacted in their place.
 fn found_around_a_part<A: Allocator + Copy>(
     alloc: A,
     front: &[Tables<A>],
     part: &[Tables<A>],
     behind: &[Tables<A>],
-    evict: bool,
+    rules: Rules,
     key: &[u8],
     seqno: SeqNo,
+    bounds: Bounds<'_>,
 ) -> Result<[[Option<SeqNo>; 3]; 2], Error>
     requires { AreCompactable (map arc_value part.now) }
 {
     let (ids, moment) = (TableIds::new(9), Timestamp::from(0));
-    let range = owned_range(alloc, ALL)?;
+    let range = owned_range(alloc, bounds)?;
+    let (threshold, evict, zero) = rules;
     let (before, after) = compact_part_back(
-        alloc, front, part, behind, 7, evict, false, ids, 0, moment, key, seqno, range,
+        alloc, front, part, behind, threshold, evict, zero, ids, 0, moment, key, seqno, range,
     )?;
     let (before, after) = (numbers_of(alloc, before), numbers_of(alloc, after));
     Ok([before?, after?])
@@ -127,57 +131,95 @@ fn found_around_a_part<A: Allocator + Copy>(
 
 const A1_B2: [Row<'static>; 2] = [(b"a", 1, V, b"x"), (b"b", 2, V, b"x")];
 
-// The same of the run of a@6, a tombstone, behind that of a@3, and in front of that of a@1 and b@2.
+// The same of the run of a@6, a tombstone, behind that of a@3, and in front of that of a@1 and b@2. The memory of these runs
+// is plenty.
 fn found_around_a6<A: Allocator + Copy>(
     alloc: A,
-    evict: bool,
+    plenty: A,
+    rules: Rules,
     key: &[u8],
     seqno: SeqNo,
+    bounds: Bounds<'_>,
 ) -> Result<[[Option<SeqNo>; 3]; 2], Error> {
-    let front = runs_of(alloc, &[&A3])?;
-    let part = runs_of(alloc, &[&A6_T])?;
-    let behind = runs_of(alloc, &[&A1_B2])?;
-    found_around_a_part(alloc, &front, &part, &behind, evict, key, seqno)
+    let front = runs_of(plenty, &[&A3])?;
+    let part = runs_of(plenty, &[&A6_T])?;
+    let behind = runs_of(plenty, &[&A1_B2])?;
+    found_around_a_part(alloc, &front, &part, &behind, rules, key, seqno, bounds)
 }
 
+// Rules, a key, a bound of numbers, bounds of keys, and what is found before and after.
+type Around = (
+    Rules,
+    &'static [u8],
+    SeqNo,
+    Bounds<'static>,
+    [[Option<SeqNo>; 3]; 2],
+);
+
+const KEEPING: Rules = (7, false, false);
+
+const EVICTING: Rules = (7, true, false);
+
+const ZEROING: Rules = (7, false, true);
+
 // A range has the newest version of each key, whatever a point read is bounded by.
+const AROUND_A6: &[Around] = &[
+    (KEEPING, b"a", 8, ALL, [[Some(6), Some(6), Some(2)]; 2]),
+    (KEEPING, b"a", 4, ALL, [[Some(3), Some(6), Some(2)]; 2]),
+    (KEEPING, b"b", 8, ALL, [[Some(2), Some(6), Some(2)]; 2]),
+    (
+        EVICTING,
+        b"a",
+        8,
+        ALL,
+        [[Some(6), Some(6), Some(2)], [Some(3), Some(3), Some(2)]],
+    ),
+    (ZEROING, b"a", 8, ALL, ZEROED),
+    (
+        ZEROING,
+        b"a",
+        1,
+        ALL,
+        [[None, Some(6), Some(2)], [Some(0), Some(3), Some(2)]],
+    ),
+    (
+        ZEROING,
+        b"a",
+        8,
+        UP_TO_A,
+        [[Some(6), None, Some(6)], [Some(3), None, Some(3)]],
+    ),
+    (KEEPING, b"a", 8, BEHIND_A, [[Some(6), None, Some(2)]; 2]),
+];
+
+const ZEROED: [[Option<SeqNo>; 3]; 2] = [[Some(6), Some(6), Some(2)], [Some(3), Some(3), Some(2)]];
+
+const UP_TO_A: Bounds<'static> = (Bound::Unbounded, Bound::Included(b"a"));
+
+const BEHIND_A: Bounds<'static> = (Bound::Excluded(b"a"), Bound::Unbounded);
+
+// Whether that is found.
+fn finds_around<A: Allocator + Copy>(alloc: A, plenty: A, around: &Around) -> Result<bool, Error> {
+    let &(rules, key, seqno, bounds, found) = around;
+    Ok(found_around_a6(alloc, plenty, rules, key, seqno, bounds)? == found)
+}
+
 #[test]
-fn a_part_is_compacted_in_its_place(rt: HostRuntime) -> Result<(), Fail> {
-    let alloc = rt.alloc();
-    for (evict, key, seqno, before, after) in [
-        (
-            false,
-            b"a",
-            8,
-            [Some(6), Some(6), Some(2)],
-            [Some(6), Some(6), Some(2)],
-        ),
-        (
-            false,
-            b"a",
-            4,
-            [Some(3), Some(6), Some(2)],
-            [Some(3), Some(6), Some(2)],
-        ),
-        (
-            false,
-            b"b",
-            8,
-            [Some(2), Some(6), Some(2)],
-            [Some(2), Some(6), Some(2)],
-        ),
-        (
-            true,
-            b"a",
-            8,
-            [Some(6), Some(6), Some(2)],
-            [Some(3), Some(3), Some(2)],
-        ),
-    ] {
-        let found = found_around_a6(alloc, evict, key, seqno)?;
-        assert!(rt; found == [before, after], "{seqno}");
+fn a_part_is_compacted_in_its_place(rt: HostRuntime) {
+    for around in AROUND_A6 {
+        assert!(rt; finds_around(rt.alloc(), rt.alloc(), around) == Ok(true));
     }
-    Ok(())
+}
+
+#[test]
+fn a_part_is_compacted_with_each_request_refused(rt: HostRuntime) {
+    let around: Around = (ZEROING, b"a", 8, ALL, ZEROED);
+    let alloc = rt.alloc();
+    let answers = each_refused(alloc, |heap: &Refusing, may_fail: bool| {
+        let plenty = Refusing::new(alloc, 0);
+        is_right(finds_around(heap, &plenty, &around), may_fail)
+    });
+    assert!(rt; answers.is_ok_and(|requests| requests > 20));
 }
 
 // Neither of the lists is newer, and the part has no weak tombstone.

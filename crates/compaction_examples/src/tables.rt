@@ -8,6 +8,7 @@ use example_tables::rows::Row;
 use example_tables::runs::Tables;
 use lsm_tables::{compact_runs, get_runs};
 use lsm_writers::{MultiWriter, TableId, TableIds, Timestamp};
+use refusing::{Refusing, each_refused};
 use sst_blocks::{Error, SeqNo};
 use std::alloc::{Allocator, Global};
 use std::test::Fail;
@@ -125,15 +126,18 @@ fn refusal<A: Allocator + Copy>(alloc: A, runs: &[Tables<A>], ids: TableIds) -> 
 // What is read of some runs: the numbers of `a`, `b` and `c`, and the newest versions.
 type Read = ([Option<SeqNo>; 3], Vec<Version>);
 
-fn number_of(runs: &[Tables<Global>], key: &[u8]) -> Result<Option<SeqNo>, Error> {
+fn number_of<A: Allocator + Copy>(runs: &[Tables<A>], key: &[u8]) -> Result<Option<SeqNo>, Error> {
     Ok(get_runs(runs, key, SeqNo::MAX)?.map(|item| item.key.seqno))
 }
 
-fn read(alloc: Global, runs: &[Tables<Global>]) -> Result<Read, Error> {
+fn numbers<A: Allocator + Copy>(runs: &[Tables<A>]) -> Result<[Option<SeqNo>; 3], Error> {
     let a = number_of(runs, b"a")?;
     let b = number_of(runs, b"b")?;
-    let c = number_of(runs, b"c")?;
-    Ok(([a, b, c], newest_in(alloc, runs)?))
+    Ok([a, b, number_of(runs, b"c")?])
+}
+
+fn read(alloc: Global, runs: &[Tables<Global>]) -> Result<Read, Error> {
+    Ok((numbers(runs)?, newest_in(alloc, runs)?))
 }
 
 // What is answered where ids are wanted, and whether the runs are read as before.
@@ -161,4 +165,33 @@ fn runs_stay_where_the_ids_are_spent(rt: HostRuntime) -> Result<(), Fail> {
     let kept = (Ok(5), true);
     assert!(rt; refused(alloc, TableIds::new(TableId::MAX - 5))? == kept);
     Ok(())
+}
+
+const TWO_LISTS: [&[Row<'static>]; 2] = [
+    &[(b"a", 9, V, b"x")],
+    &[(b"a", 5, V, b"y"), (b"c", 7, T, b"")],
+];
+
+// Whether a compaction answers right, and its runs, whose memory is plenty, are read as before.
+fn leaves_its_runs<A: Allocator + Copy>(
+    alloc: A,
+    plenty: A,
+    may_fail: bool,
+) -> Result<bool, Error> {
+    let runs = runs_of(plenty, &TWO_LISTS)?;
+    let right = match refusal(alloc, &runs, TableIds::new(5)) {
+        Ok(tables) => tables == 2,
+        Err(error) => may_fail && error == Error::OutOfMemory,
+    };
+    Ok(right && numbers(&runs)? == [Some(9), None, Some(7)])
+}
+
+#[test]
+fn runs_stay_with_each_request_refused(rt: HostRuntime) {
+    let alloc = rt.alloc();
+    let answers = each_refused(alloc, |heap: &Refusing, may_fail: bool| {
+        let plenty = Refusing::new(alloc, 0);
+        leaves_its_runs(heap, &plenty, may_fail) == Ok(true)
+    });
+    assert!(rt; answers.is_ok_and(|requests| requests > 20));
 }

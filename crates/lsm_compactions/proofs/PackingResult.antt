@@ -5,7 +5,7 @@ use Rattle.std.specs.List.{AllByRecursion}
 use Rattle.sst_entries.specs.Entry.{Entry}
 use Rattle.sst_entries.proofs.Lists.{all_more}
 use Rattle.lsm_ranges.specs.KeyRange.{has_key}
-use Rattle.lsm_ranges.specs.Packing.{AreDisjointRuns, AreInOrder, ArePacked, AreWellFormed, IsLeastSize, SameHolders, SameTables, holders, tables_of}
+use Rattle.lsm_ranges.specs.Packing.{AreDisjointRuns, AreInOrder, ArePacked, ArePlaced, AreWellFormed, IsLeastSize, SameHolders, SameTables, holders, tables_of}
 use Rattle.lsm_ranges.proofs.PackLemmas.{if_ok}
 use Rattle.lsm_readers.specs.Table.{OpenTable}
 use Rattle.lsm_compactions.specs.Packed.{HoldUnion}
@@ -52,6 +52,12 @@ module _ {V E : Type 0} (items : V → List (List OpenTable)) (runs : List (List
             (λ order. subst (ArePacked range_of) (sym are) (packed_of (kept runs) (kept_order runs order) (kept_some runs)))
         | inr many ↦ if_ok r (λ p packed order. packed (formed_shared order) many) packs
       ]
+
+  pub result_placed : IfOk r (λ p. AreWellFormed range_of (items v) → 1 < length (items v) → ArePlaced range_of (tables_of (items v)) (items p)) → IfOk r (λ p. AreInOrder range_of runs → 1 < length (kept runs) → ArePlaced range_of (tables_of runs) (items p))
+  result_placed =
+      if_ok r (λ p placed order many.
+      subst (λ (ts : List OpenTable). ArePlaced range_of ts (items p)) same_tables
+      (placed (formed_shared order) (subst (λ (rs : List (List OpenTable)). 1 < length rs) (sym are) many)))
 
   pub result_least : IfOk r (λ p. AreDisjointRuns range_of (items v) → IsLeastSize range_of (items v) (length (items p))) → IfOk r (λ p. AreInOrder range_of runs → IsLeastSize range_of runs (length (items p)))
   result_least =

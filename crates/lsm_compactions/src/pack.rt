@@ -1,9 +1,10 @@
 //! Packing runs of tables, and what packed runs hold.
-ghost use Rattle.std.specs.Prelude.{◌≡◌, ◌≤◌, IfErr, IfOk, List, filter, length, map};
+ghost use Rattle.std.specs.Prelude.{◌≡◌, ◌<◌, ◌≤◌, IfErr, IfOk, List, filter, length, map};
 ghost use Rattle.std.specs.Arc.{arc_value};
 ghost use Rattle.sst_entries.specs.Entry.{Entry};
 ghost use Rattle.sst_entries.specs.declared.error.Error.TheVariants.{OutOfMemory};
-ghost use Rattle.lsm_ranges.specs.Packing.{AreInOrder, ArePacked, IsLeastSize, SameHolders, SameTables};
+ghost use Rattle.lsm_ranges.specs.Packing.{AreInOrder, ArePacked, ArePlaced, IsLeastSize, SameHolders, SameTables};
+ghost use Rattle.lsm_ranges.specs.Packing.{tables_of};
 ghost use Rattle.lsm_compactions.specs.Compacted.{AreCompactable};
 ghost use Rattle.lsm_compactions.specs.Packed.{HeldLaw, HoldUnion, KeptLaw, PackedLaw, has_table};
 ghost use Rattle.lsm_runs.specs.RunLists.{RunsHoldLists};
@@ -85,6 +86,11 @@ pub fn pack_runs<A: Allocator + Clone>(
     // Of runs in order, for each key the tables whose range has it come in the same order,
     ensures holders { IfOk result (λ packed. AreInOrder range_of (map arc_value runs.now) →
         SameHolders range_of (map arc_value runs.now) packed.items) }
+    // each table stands one run behind the last run of an earlier table that it overlaps, or in the first, where there is
+    // more than one run,
+    ensures placed { let given = map arc_value runs.now in IfOk result (λ packed.
+        AreInOrder range_of given → 1 < length (filter has_table given) →
+        ArePlaced range_of (tables_of given) packed.items) }
     // each packed run is in order and has a table,
     ensures ordered { IfOk result (λ packed. AreInOrder range_of (map arc_value runs.now) →
         ArePacked range_of packed.items) }

@@ -7,7 +7,7 @@ use Rattle.std.specs.Result.{IsErrAnd}
 use Rattle.sst_sections.specs.Sections.{body_of}
 use Rattle.sst_entries.specs.declared.error.Error.{Error}
 use Rattle.sst_entries.specs.Entry.{Entry}
-use Rattle.sst_entries.specs.Error.{Faults, is_memory}
+use Rattle.sst_entries.specs.Error.{Faults, FaultsFirst, is_memory}
 use Rattle.sst_entries.specs.Stream.{but_first, first, front_of, nowhere, ok_results}
 use Rattle.sst_blocks.specs.declared.block_type.BlockType.TheVariants.{Data}
 use Rattle.sst_blocks.specs.Block.{load_at_told}
@@ -228,6 +228,14 @@ span_refused ts ends t e up there begins fine =
 pub passed_on : {X : Type 0} (P : Error → Type 0) (r : Result X Error) (e : Error) → IsErrAnd r (λ y. y ≡ e) → P e → IfErr r P
 passed_on P (Ok x) e same holds = absurd same
 passed_on P (Err f) e same holds = subst P (sym same) holds
+
+pub fault_passed : {X : Type 0} (r : Result X Error) (e : Error) → IsErrAnd r (λ y. y ≡ e) → (told : Option Error) → (is_memory e ≡ false → told ≡ Some e) → Faults r told
+fault_passed (Ok x) e same told faults = absurd same
+fault_passed (Err f) e same told faults = subst (λ (g : Error). is_memory g ≡ false → told ≡ Some g) (sym same) faults
+
+pub first_passed : {X : Type 0} (r : Result X Error) (e : Error) → IsErrAnd r (λ y. y ≡ e) → (told : Option Error) → ((g : Error) → told ≡ Some g → Some g ≡ Some e) → FaultsFirst r told
+first_passed (Ok x) e same told early = absurd same
+first_passed (Err f) e same told early = λ g there. early g there ∙ ap (λ (h : Error). Some h) (sym same)
 
 -- the tables' lists, where each has an entry
 held_scan : (t : OpenTable) (es : List Entry) → HoldsList t es → 0 < length es → table_scan t ≡ ok_results es

@@ -2,11 +2,13 @@
 use Rattle.std.specs.Prelude.{◌≡◌, ℕ, suc, ◌+◌, ◌-◌, ◌≤◌, false, List, [], ◌∷◌, ◌++◌, drop, length, max, take, Option, Some, None, Result, Ok, Err, MatchOption, MatchResult}
 use Rattle.std.specs.List.{flat_map}
 use Rattle.sst_sections.specs.Sections.{body_of}
+use Rattle.sst_blocks.specs.declared.block_type.BlockType.TheVariants.{Data}
+use Rattle.sst_blocks.specs.Block.{load_at_told, position_fault}
 use Rattle.sst_entries.specs.declared.error.Error.{Error}
 use Rattle.sst_entries.specs.Entry.{Entry}
 use Rattle.sst_entries.specs.Error.{is_memory}
 use Rattle.sst_entries.specs.Stream.{Lowers, first}
-use Rattle.lsm_readers.specs.Scan.{IsNewScan, Scan, scan_left, scan_size, scan_told, up_to_error}
+use Rattle.lsm_readers.specs.Scan.{IsNewScan, Scan, fault_of, scan_left, scan_size, scan_told, up_to_error}
 use Rattle.lsm_readers.specs.Table.{OpenTable}
 
 -- what a scan of a table gives, and a bound on its answers
@@ -15,6 +17,14 @@ table_scan t = scan_told (body_of t.bytes) t.parts.facts.data_block_count t.glob
 
 abbrev pub table_size : OpenTable → ℕ
 table_size t = length (table_scan t) + max 1 t.parts.facts.data_block_count
+
+-- what the scan of a table is refused with, memory aside: the fault of its first block; and what of it is found before any
+-- memory is taken
+abbrev pub scan_fault : OpenTable → Option Error
+scan_fault t = fault_of (load_at_told (body_of t.bytes) 0 Data)
+
+abbrev pub early_scan_fault : OpenTable → Option Error
+early_scan_fault t = position_fault (body_of t.bytes) 0 Data
 
 -- the scan of the table that is opened, and the tables that are not
 pub record RunScan : Type 0 where

@@ -17,6 +17,6 @@ pub use Rattle.lsm_sorted.specs.NewestLaws.{AnswersNewest, CanAskNewest, DealsNe
 pub use Rattle.lsm_runs.specs.RunParts.{ends_given, range_of, span_of}
 pub use Rattle.lsm_runs.specs.RunRange.{IsRunOf, ItemGives, OpensAtMost, RunGives, back_tables, front_tables, over, run_left, run_size, stopped}
 pub use Rattle.lsm_runs.specs.RunLists.{DealTogether, DealsList, HoldLists, RunsHoldLists, span_list}
-pub use Rattle.lsm_runs.specs.RunScan.{BeginsNext, BeginsScan, IsScanOf, RunScansNext, ScansItem, over_scan, run_scan_size, stopped_scan, tables_between, tables_scan}
+pub use Rattle.lsm_runs.specs.RunScan.{BeginsNext, BeginsScan, IsScanOf, RunScansNext, ScansItem, early_scan_fault, over_scan, run_scan_size, scan_fault, stopped_scan, tables_between, tables_scan}
 pub use Rattle.lsm_runs.specs.SpansRead.{IsOverSpans, spans_within}
 pub use Rattle.lsm_runs.specs.SeveralRuns.{LoadsEach, leading_of, loads_together, run_read, runs_read, runs_told, union_in}

@@ -198,7 +198,7 @@ impl<A: Allocator + Clone> RunReader<A> {
         }
     }
 
-    /// How many tables were opened.
+    /// How many tables were opened. An opening that is refused is not counted.
     pub fn tables_opened(&self) -> usize
         ensures { result ≡ self.now.unopened.opened }
     {

@@ -4,10 +4,11 @@ ghost use Rattle.std.specs.Arc.{arc_value};
 ghost use Rattle.std.specs.Iterator.{at_most};
 ghost use Rattle.std.specs.List.{AllByRecursion};
 ghost use Rattle.lsm_runs.specs.Words.{ArePlacesOf, BeginsNext, BeginsScan, DealsEnding};
-ghost use Rattle.lsm_runs.specs.Words.{DealsList, Entry, HoldLists, IsScanOf, OpenTable};
-ghost use Rattle.lsm_runs.specs.Words.{RunScansNext, ScansItem, ends_given, first, is_memory};
-ghost use Rattle.lsm_runs.specs.Words.{joined, nowhere, over_scan, run_scan_size, stopped_scan};
-ghost use Rattle.lsm_runs.specs.Words.{tables_between, tables_scan};
+ghost use Rattle.lsm_runs.specs.Words.{DealsList, Entry, Faults, FaultsFirst, HoldLists};
+ghost use Rattle.lsm_runs.specs.Words.{IsScanOf, OpenTable, RunScansNext, ScansItem};
+ghost use Rattle.lsm_runs.specs.Words.{early_scan_fault, ends_given, first, is_memory, joined};
+ghost use Rattle.lsm_runs.specs.Words.{nowhere, over_scan, run_scan_size, scan_fault};
+ghost use Rattle.lsm_runs.specs.Words.{stopped_scan, tables_between, tables_scan};
 
 use crate::spans::{ends_in, place_behind};
 use lsm_ranges::Run;
@@ -48,7 +49,12 @@ impl<A: Allocator> Model for RunScanner<A> {
 // The scanner of the table at a place.
 fn scan_at<A: Allocator + Clone>(tables: &[Table<A>], place: usize) -> Result<Scanner<A>, Error>
     requires { place < length tables.now }
-    ensures { (t : OpenTable) → slice_get tables.now place ≡ Some t → BeginsScan t result }
+    ensures begins { (t : OpenTable) → slice_get tables.now place ≡ Some t →
+        BeginsScan t result }
+    ensures refused { (t : OpenTable) → slice_get tables.now place ≡ Some t →
+        Faults result (scan_fault t) }
+    ensures early { (t : OpenTable) → slice_get tables.now place ≡ Some t →
+        FaultsFirst result (early_scan_fault t) }
 {
     tables[place].scan()
 }
@@ -64,8 +70,8 @@ fn next_item<A: Allocator + Clone>(reader: &mut Option<Scanner<A>>) -> Option<It
 }
 
 impl<A: Allocator + Clone> RunScanner<A> {
-    /// The entries of the tables from a first place to a last, where they are not given of all. Refused as
-    /// [`Table::scan`] of the first. Conditions: the first place is at most the last, and the last is below the number of tables.
+    /// The entries of the tables from a first place to a last, where they are not given of all. Refused exactly as
+    /// [`Table::scan`] of the first, which is opened here. Conditions: the first place is at most the last, and the last is below the number of tables.
     pub fn culled(
         run: Arc<Run<Table<A>, A>, A>,
         span: (Option<usize>, Option<usize>),
@@ -83,7 +89,15 @@ impl<A: Allocator + Clone> RunScanner<A> {
             let tables = tables_between (arc_value run) (ends_given (arc_value run) span) in
             (lists : List (List Entry)) → AllByRecursion (λ es. 0 < length es) lists →
             HoldLists tables lists → IfOk result (DealsList gives nowhere (joined lists)) }
-        ensures refused { let tables = arc_value run in
+        // The first table is opened here: what its scan refuses is refused, and it succeeds where that would,
+        ensures refused { let tables = arc_value run in (t : OpenTable) →
+            slice_get tables (ends_given tables span).0 ≡ Some t → Faults result (scan_fault t) }
+        // and what is found before memory is taken is the refusal whatever memory there is.
+        ensures early { let tables = arc_value run in (t : OpenTable) →
+            slice_get tables (ends_given tables span).0 ≡ Some t →
+            FaultsFirst result (early_scan_fault t) }
+        // It is what the scans would give first.
+        ensures told { let tables = arc_value run in
             let left = tables_scan (tables_between tables (ends_given tables span)) in
             IfErr result (λ e. is_memory e ≡ false → first left ≡ Some (Err e)) }
     {

@@ -2,8 +2,11 @@
 use crate::several::number_in;
 use crate::walks::{Scan, WHOLE, Walk, reader_of, scanner_of};
 use example_tables::large::add;
+use example_tables::lists::read_names;
 use example_tables::rows::Row;
-use example_tables::runs::{ALL, Lists, Name, Tables, damaged_run_of};
+use example_tables::runs::{ALL, Lists, Name, Tables, damaged_run_of, owned_range};
+use lsm_ranges::Run;
+use lsm_tables::{Table, read_run};
 use sst_blocks::{Direction, Error, SeqNo, ValueType};
 use std::alloc::Allocator;
 
@@ -162,4 +165,27 @@ fn found<A: Allocator + Copy>(alloc: A, key: &[u8]) -> Result<Option<SeqNo>, Err
 fn a_damaged_table_refuses_the_reads_of_its_keys(rt: HostRuntime) {
     assert!(rt; found(rt.alloc(), b"b") == Ok(Some(0)));
     assert!(rt; found(rt.alloc(), b"c") == Err(Error::ChecksumMismatch));
+}
+
+// A run of the same tables that is not shared. `Source(2)` where there are none.
+fn unshared<A: Allocator + Copy>(alloc: A, run: &Tables<A>) -> Result<Run<Table<A>, A>, Error> {
+    let mut tables = Vec::new(alloc);
+    for table in run.as_slice() {
+        tables.push(table.clone()?)?;
+    }
+    Run::new(tables).ok_or(Error::Source(2))
+}
+
+// What reads of the run alone give: of a key, and the ends of all.
+fn names_alone<A: Allocator + Copy>(alloc: A, key: &[u8]) -> Result<[Option<Name>; 3], Error> {
+    let range = owned_range(alloc, ALL)?;
+    let run = unshared(alloc, &run(alloc, 1)?)?;
+    read_names(alloc, read_run(alloc, run, key, 1, range)?)
+}
+
+#[test]
+fn a_run_of_a_damaged_table_is_read_beside_it(rt: HostRuntime) {
+    let read = [Some((b'b', 0)), Some((b'a', 0)), Some((b'f', 0))];
+    assert!(rt; names_alone(rt.alloc(), b"b") == Ok(read));
+    assert!(rt; names_alone(rt.alloc(), b"c") == Err(Error::ChecksumMismatch));
 }

@@ -150,6 +150,41 @@ const COMPACTED: &[(&[u8], &[u8])] = &[
     ),
 ];
 
+// A script whose keys look like marks: the empty key, `--`, `=` and `a`.
+const MARKED: &[u8] = b"entry - 1 V e\nentry -- 1 V d\nentry = 1 V q\nentry a 1 V x\ntable\n";
+
+// Ranges of them, and what these print. All but the first byte of a bound is its key, or `-` is the empty one.
+const MARKED_BOUNDS: &[(&[u8], &[u8])] = &[
+    (b"range == ==", b"= 1 V q\n"),
+    (b"range == *", b"= 1 V q\na 1 V x\n"),
+    (b"range != *", b"a 1 V x\n"),
+    (b"range * !=", b"- 1 V e\n-- 1 V d\n"),
+    (b"range =-- =--", b"-- 1 V d\n"),
+    (b"range !-- !=", b"none\n"),
+    (b"range =- =-", b"- 1 V e\n"),
+    (b"range !- =--", b"-- 1 V d\n"),
+];
+
+// Whether a line behind the table prints this.
+fn prints_behind<A: Allocator + Copy>(
+    alloc: A,
+    line: &[u8],
+    shown: &[u8],
+) -> Result<bool, AllocError> {
+    let mut script = Vec::from_slice(alloc, MARKED)?;
+    script.extend_from_slice(line)?;
+    let ran = run(alloc, alloc, &script)?;
+    Ok(ran.status == 0 && ran.output.strip_prefix(b"tables 1\n") == Some(shown))
+}
+
+#[test]
+fn bounds_of_keys_that_look_like_marks(rt: HostRuntime) {
+    let alloc = rt.alloc();
+    for &(line, shown) in MARKED_BOUNDS {
+        assert!(rt; prints_behind(alloc, line, shown) == Ok(true));
+    }
+}
+
 // A script with entries of a thousand bytes each, which are more than a table takes.
 fn many_entries<A: Allocator>(alloc: A, count: u8) -> Result<Vec<u8, A>, AllocError> {
     let mut script = Vec::new(alloc);

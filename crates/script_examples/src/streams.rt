@@ -1,5 +1,6 @@
 //! Streams that fail.
 
+use std::alloc::Global;
 use std::io::{Error, Read, Result, Write};
 
 /// Gives some bytes, and then fails.
@@ -30,6 +31,42 @@ pub(crate) struct FailingWriter;
 impl Write for FailingWriter {
     fn write(&mut self, _buf: &[u8]) -> Result<usize> {
         Err(Error::other("full"))
+    }
+
+    fn flush(&mut self) -> Result<()> {
+        Ok(())
+    }
+}
+
+/// Takes and keeps so many bytes, and then fails.
+#[derive(Drop)]
+pub(crate) struct TightWriter {
+    taken: Vec<u8>,
+    room: usize,
+}
+
+impl TightWriter {
+    pub(crate) fn new(alloc: Global, room: usize) -> TightWriter {
+        TightWriter {
+            taken: Vec::new(alloc),
+            room,
+        }
+    }
+
+    pub(crate) fn taken(&self) -> &[u8] {
+        &self.taken
+    }
+}
+
+impl Write for TightWriter {
+    fn write(&mut self, buf: &[u8]) -> Result<usize> {
+        let count = buf.len().min(self.room);
+        if count == 0 {
+            return Err(Error::other("full"));
+        }
+        self.room -= count;
+        self.taken.write(&buf[..count])?;
+        Ok(count)
     }
 
     fn flush(&mut self) -> Result<()> {

@@ -1,4 +1,5 @@
 pub mod Answer
 pub mod Command
+pub mod Shown
 pub mod Stop
 pub mod Text

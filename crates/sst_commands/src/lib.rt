@@ -4,7 +4,8 @@
 mod command;
 mod print;
 mod stop;
+mod write;
 
 pub use command::{Command, parse_command};
-pub use print::{Answer, print_answer, print_refusal};
+pub use print::{Answer, print_answer, print_refusal, print_stop};
 pub use stop::{Failure, Stop};

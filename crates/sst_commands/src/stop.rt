@@ -2,7 +2,6 @@
 
 use sst_entries::Error;
 use std::alloc::{AllocError, AllocFailed};
-use std::fmt;
 
 /// Why a script ends before its last line.
 #[derive(Clone, Copy, Debug, PartialEq, Eq)]
@@ -13,21 +12,6 @@ pub enum Stop {
     Input,
     /// The answers cannot be written.
     Output,
-}
-
-impl fmt::Display for Stop {
-    ghost use Rattle.std.specs.Prelude.{Some};
-    ghost use Rattle.sst_commands.specs.Stop.{stop_text};
-
-    ghost output = { λ stop. Some (stop_text stop) };
-
-    fn fmt<W: fmt::Write>(&self, f: &mut fmt::Formatter<W>) -> fmt::Result {
-        match self {
-            Stop::Line(number) => write!(f, "sst: line {number}"),
-            Stop::Input => write!(f, "sst: input"),
-            Stop::Output => write!(f, "sst: output"),
-        }
-    }
 }
 
 /// Want of memory for reading the script.

@@ -1,6 +1,6 @@
 -- The lines of a script, one after another.
 use Rattle.std.proofs.Common.{◌≡◌, refl, sym, ◌∙◌, ap, subst, ℕ, ◌+◌, ◌-◌, ◌<◌, Bool, true, false, List, [], ◌∷◌, ◌++◌, length, take, cond, inr, arith, append_assoc, append-nil, length-append, lt-ltb}
-use Rattle.std.specs.Prelude.{Option, Some, None, Result, Ok, Err, ◌==◌, ◌&&◌, nat_lt, slice_index}
+use Rattle.std.specs.Prelude.{IfErr, Option, Some, None, Result, Ok, Err, ◌==◌, ◌&&◌, nat_lt, slice_index}
 use Rattle.std.specs.List.{onto_first}
 use Rattle.std.specs.Io.BufRead.{take_through, drop_through, first_piece, strip_last}
 use Rattle.std.specs.Io.KnownBytes.{Appends, Keeps, IsAtEnd}
@@ -14,9 +14,12 @@ use Rattle.sst_commands.specs.declared.stop.Failure.TheVariants.{BadLine, Refuse
 use Rattle.sst_commands.specs.Answer.{answer_lines, refusal_line}
 use Rattle.sst_entries.specs.Error.{number_of}
 use Rattle.sst_commands.specs.Command.{words_of, AskFor}
+use Rattle.sst_commands.specs.Shown.{AppendsFront, ShowsText}
+use Rattle.sst_commands.specs.Stop.{stop_line}
+use Rattle.sst_commands.proofs.ShownLemmas.{front_all, kept_behind}
 use Rattle.sst_script.specs.Script.{Store, store, Executes}
 use Rattle.sst_script.specs.Lines.{lines_of, LosesLine, HasLines}
-use Rattle.sst_script.specs.Answering.{outcome_text, PrintEnds, AnswersLine, AnswersAll, Prints, LineEnds, ScriptEnds}
+use Rattle.sst_script.specs.Answering.{outcome_text, PrintEnds, AnswersLine, AnswersAll, Prints, LineEnds, Reports, ScriptEnds}
 
 -- one more line
 pub answered_more : (A : Type 0) (front : List (List ℕ)) (line : List ℕ) (old between new : Store) (text more : List ℕ)
@@ -188,7 +191,7 @@ stop_at X Y {A} {input} {left} {before} {between} {count} {now} new after next l
   here.text,
   now,
   record { lines = leaves_line input here.front left new line here.leaves loses; answers = here.answers },
-  (ended.0, next, ended.1),
+  (ended.0, next, ended.1, record { front = ended.2.front; rest = ended.2.rest; is = ended.2.is; appends = Appends-trans before between after here.text ended.2.front here.written ended.2.appends }),
 )
 
 pub at_stop : {X Y A : Type 0} {input left before between : Option (List ℕ)} {count : ℕ} {now : Store} (r : Result Y Stop) (new after : Option (List ℕ)) (next : Store) (line : List ℕ) (stop : Stop) (q : Result X Stop)
@@ -206,12 +209,6 @@ answers_some : (A : Type 0) (line : List ℕ) (old new : Store) (text : List ℕ
 answers_some A [] old new text h p = absurd (omega arith)
 answers_some A (b ∷ bs) old new text h p = p
 
-kept_behind : (a b c : Option (List ℕ)) (bs : List ℕ) → Appends a b bs → Keeps b c → Appends a c bs
-kept_behind None b c bs p q = tt
-kept_behind (Some x) None c bs p q = absurd p
-kept_behind (Some x) (Some y) None bs p q = absurd q
-kept_behind (Some x) (Some y) (Some z) bs p q = q ∙ p
-
 -- a line whose command was executed, and whose outcome was printed
 pub ends_printed : {X A : Type 0} (number : ℕ) (line : List ℕ) (command : Command) (old new : Store) (r : Result (Answer A) Failure) (before after : Option (List ℕ)) (result : Result X Stop)
     → 0 < length line → AskFor (words_of line) command → Executes command old r new → PrintEnds number (outcome_text r) before after result → LineEnds A number line old new before after result
@@ -220,11 +217,26 @@ ends_printed {X} {A} number line command old new (Ok answer) before after (Ok x)
 ends_printed {X} {A} number line command old new (Err (Refused error)) before after (Ok x) some asked does ends =
     (refusal_line (number_of error), answers_some A line old new (refusal_line (number_of error)) some (Err (Refused error), (command, asked, does), refl), ends)
 ends_printed {X} {A} number line command old new (Ok answer) before after (Err stop) some asked does ends =
-    let shown : LineEnds {X = X} A number line old new before after (Err Output) = (answer_lines answer, (Ok answer, (command, asked, does), refl)) in
-    subst (λ (s : Stop). LineEnds {X = X} A number line old new before after (Err s)) (sym ends) shown
+    let shown : LineEnds {X = X} A number line old new before after (Err Output) = (answer_lines answer, (Ok answer, (command, asked, does), refl), ends.1) in
+    subst (λ (s : Stop). LineEnds {X = X} A number line old new before after (Err s)) (sym ends.0) shown
 ends_printed {X} {A} number line command old new (Err (Refused error)) before after (Err stop) some asked does ends =
-    let shown : LineEnds {X = X} A number line old new before after (Err Output) = (refusal_line (number_of error), (Err (Refused error), (command, asked, does), refl)) in
-    subst (λ (s : Stop). LineEnds {X = X} A number line old new before after (Err s)) (sym ends) shown
+    let shown : LineEnds {X = X} A number line old new before after (Err Output) = (refusal_line (number_of error), (Err (Refused error), (command, asked, does), refl), ends.1) in
+    subst (λ (s : Stop). LineEnds {X = X} A number line old new before after (Err s)) (sym ends.0) shown
 ends_printed {X} {A} number line command old new (Err BadLine) before after result some asked does ends =
     let fault : LineEnds {X = X} A number line old new before after (Err (Line number)) = (refl, some, inr (new, (command, asked, does)), ends.1) in
     subst (λ (r : Result X Stop). LineEnds A number line old new before after r) (sym ends.0) fault
+
+-- whether the line of a stop was taken is passed over
+pub reported : {X Y E : Type 0} (before after : Option (List ℕ)) (stop : Stop) (r : Result X E) → ShowsText before after r (stop_line stop) → Reports {X = Y} before after (Err stop)
+reported before after stop (Ok x) shows = front_all before after (stop_line stop) shows
+reported before after stop (Err e) shows = shows
+
+-- a text that was written stays where the output is flushed, whether that fails or not
+pub shows_kept : {X E : Type 0} (a b c : Option (List ℕ)) (text : List ℕ) (r : Result X E) → Appends a b text → Keeps b c → ShowsText a c r text
+shows_kept a b c text (Ok x) written kept = kept_behind a b c text written kept
+shows_kept a b c text (Err e) written kept = front_all a c text (kept_behind a b c text written kept)
+
+-- what printing a text comes to
+pub ends_shown : {X : Type 0} (number : ℕ) (text : List ℕ) (a b : Option (List ℕ)) (r : Result X Stop) → ShowsText a b r text → IfErr r (λ stop. stop ≡ Output) → PrintEnds number (Some text) a b r
+ends_shown number text a b (Ok x) shows stops = shows
+ends_shown number text a b (Err stop) shows stops = (stops, shows)

@@ -1,6 +1,6 @@
 -- How the lines of a script are answered.
 use Rattle.std.specs.Prelude.{◌≡◌, ◌<◌, ℕ, ◌+◌, List, [], ◌∷◌, ◌++◌, length, Option, Some, None, Result, Ok, Err, MatchResult, ◌⊎◌}
-use Rattle.std.specs.Io.KnownBytes.{Appends}
+use Rattle.std.specs.Io.KnownBytes.{Appends, Keeps}
 use Rattle.sst_entries.specs.Error.{number_of}
 use Rattle.sst_commands.specs.declared.command.Command.{Command}
 use Rattle.sst_commands.specs.declared.print.Answer.{Answer}
@@ -10,6 +10,8 @@ use Rattle.sst_commands.specs.declared.stop.Stop.{Stop}
 use Rattle.sst_commands.specs.declared.stop.Stop.TheVariants.{Line, Input, Output}
 use Rattle.sst_commands.specs.Answer.{answer_lines, refusal_line}
 use Rattle.sst_commands.specs.Command.{words_of, AskFor}
+use Rattle.sst_commands.specs.Shown.{AppendsFront}
+use Rattle.sst_commands.specs.Stop.{stop_line}
 use Rattle.sst_script.specs.Lines.{HasLines}
 use Rattle.sst_script.specs.Script.{Store, store, Executes}
 
@@ -19,13 +21,14 @@ outcome_text (Ok answer) = Some (answer_lines answer)
 outcome_text (Err (Refused error)) = Some (refusal_line (number_of error))
 outcome_text (Err BadLine) = None
 
--- the text was printed; or the output failed, or there was no text and the line with a number
--- ended the script
+-- the text was printed; or the output failed, behind a front of it, or there was no text and the
+-- line with a number ended the script
 abbrev pub PrintEnds : {X : Type 0} → ℕ → Option (List ℕ) → Option (List ℕ) → Option (List ℕ)
     → Result X Stop → Type 0
 PrintEnds number None before after r = (r ≡ Err (Line number)) × (after ≡ before)
 PrintEnds number (Some text) before after r =
-    MatchResult r (λ _. Appends before after text) (λ stop. stop ≡ Output)
+    MatchResult r (λ _. Appends before after text)
+    (λ stop. (stop ≡ Output) × AppendsFront before after text)
 
 -- a line asks for a command, and this is its execution
 abbrev pub Does : (A : Type 0) → List ℕ → Store → Result (Answer A) Failure → Store → Type 0
@@ -57,7 +60,7 @@ LineEnds A number line old new before after (Err (Line n)) =
     (n ≡ number) × (0 < length line) × IsAtFault A line old × (after ≡ before)
 LineEnds A number line old new before after (Err Input) = ⊥
 LineEnds A number line old new before after (Err Output) =
-    (text : List ℕ) × Prints A line old text new
+    (text : List ℕ) × Prints A line old text new × AppendsFront before after text
 
 -- lines are answered one after another by a text, each from what the one before it left
 abbrev pub AnswersAll : (A : Type 0) → List (List ℕ) → Store → List ℕ → Store → Type 0
@@ -73,8 +76,16 @@ pub record HasAnswered (A : Type 0) (input : Option (List ℕ)) (front rest : Li
   pub lines : HasLines input front rest
   pub answers : AnswersAll A front (store [] [] (Some 1)) text now
 
+-- known bytes grow by a text, and behind it by a front of a second one
+pub record AppendsBehind (before after : Option (List ℕ)) (text shown : List ℕ) : Type 0 where
+  pub front : List ℕ
+  pub rest : List ℕ
+  pub is : shown ≡ front ++ rest
+  pub appends : Appends before after (text ++ front)
+
 -- a script was answered to its end; or it stopped at a line at fault, where its input failed, or
--- where its output did. Each line before that was answered.
+-- where its output did. Each line before that was answered, and the output has these answers;
+-- where it failed, a front of the next one behind them.
 abbrev pub ScriptEnds : {X : Type 0} → (A : Type 0) → Option (List ℕ) → Option (List ℕ)
     → Option (List ℕ) → Result X Stop → Type 0
 ScriptEnds A input before after (Ok x) =
@@ -92,9 +103,16 @@ ScriptEnds A input before after (Err Output) =
     (front : List (List ℕ)) × (line : List ℕ) × (rest : List (List ℕ)) × (text : List ℕ)
     × (now : Store)
     × HasAnswered A input front (line ∷ rest) text now
-    × ((shown : List ℕ) × (new : Store) × Prints A line now shown new)
+    × ((shown : List ℕ) × (new : Store) × Prints A line now shown new
+    × AppendsBehind before after text shown)
 
 -- the status of a script that ended so
 abbrev pub status_of : {X : Type 0} → Result X Stop → ℕ
 status_of (Ok x) = 0
 status_of (Err stop) = 2
+
+-- nothing was reported of a script that was answered to its end; of one that stopped the line of
+-- its stop, or a front of it, and nothing else
+abbrev pub Reports : {X : Type 0} → Option (List ℕ) → Option (List ℕ) → Result X Stop → Type 0
+Reports before after (Ok x) = Keeps before after
+Reports before after (Err stop) = AppendsFront before after (stop_line stop)

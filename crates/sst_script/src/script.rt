@@ -1,14 +1,13 @@
 //! Running a script.
-ghost use Rattle.std.specs.Prelude.{◌≡◌, ◌⊎◌, [], ◌∷◌, ◌++◌, ⊤, Some, Result, IfOk, IfErr, OnOk, map};
+ghost use Rattle.std.specs.Prelude.{◌≡◌, ◌⊎◌, [], ⊤, ℕ, List, Option, Some, Result, IfOk, IfErr, map};
 ghost use Rattle.std.specs.Arc.{arc_value};
 ghost use Rattle.std.specs.Io.BufRead.{strip_last};
-ghost use Rattle.std.specs.Io.KnownBytes.{Appends};
+ghost use Rattle.sst_commands.specs.Shown.{ShowsText};
 ghost use Rattle.sst_commands.specs.declared.stop.Stop.TheVariants.{Input, Line, Output};
 ghost use Rattle.sst_commands.specs.declared.stop.Stop.{Stop};
-ghost use Rattle.sst_script.specs.Answering.{LineEnds, PrintEnds, ScriptEnds, outcome_text, status_of};
+ghost use Rattle.sst_script.specs.Answering.{LineEnds, PrintEnds, Reports, ScriptEnds, outcome_text, status_of};
 ghost use Rattle.sst_script.specs.Lines.{ReadsLine};
 ghost use Rattle.sst_script.specs.Runs.{ForRuns, HasRuns};
-ghost use Rattle.sst_commands.specs.Stop.{stop_text};
 ghost use Rattle.lsm_compactions.specs.Compacted.{AreCompactable};
 ghost use Rattle.sst_script.specs.Script.{store, kept_by, CompactsRuns, Executes, PacksRuns, WritesTable};
 
@@ -19,7 +18,9 @@ use lsm_ranges::Run;
 use lsm_readers::{Table, Timestamp};
 use lsm_writers::TableIds;
 use sst_blocks::SeqNo;
-use sst_commands::{Answer, Command, Failure, Stop, parse_command, print_answer, print_refusal};
+use sst_commands::{
+    Answer, Command, Failure, Stop, parse_command, print_answer, print_refusal, print_stop,
+};
 use std::alloc::{AllocError, Allocator};
 use std::io::{BufRead, BufReader, Read, Write};
 use std::sync::Arc;
@@ -31,7 +32,8 @@ use std::{io, mem};
 /// Answers go to `output`, each before the next line is read. A command that is refused prints `refused` and the refusal's
 /// number, and the script goes on. A line that is none of a script's ends it with `sst: line` and the line's number on
 /// `errors`, failing input, also want of memory for it, with `sst: input`, and failing output with `sst: output`. Whether
-/// `errors` takes that is passed over.
+/// `errors` takes that is passed over, and it is given nothing else. What was answered before the script ended stays in
+/// `output`.
 pub fn run_script<A: Allocator + Clone, R: Read + Drop, W: Write, E: Write>(
     alloc: A,
     input: R,
@@ -40,24 +42,17 @@ pub fn run_script<A: Allocator + Clone, R: Read + Drop, W: Write, E: Write>(
 ) -> u8
     ensures status { (result ≡ 0) ⊎ (result ≡ 2) }
     ensures ended { (ended : Result ⊤ Stop) × (result ≡ status_of ended)
-        × ScriptEnds A (R.remaining input) (W.contents output.old) (W.contents output.new) ended }
+        × ScriptEnds A (R.remaining input) (W.contents output.old) (W.contents output.new) ended
+        × Reports (E.contents errors.old) (E.contents errors.new) ended }
     ensures silent { result ≡ 0 → errors.new ≡ errors.old }
 {
     match answer_script(alloc, input, output) {
         Ok(()) => 0,
         Err(stop) => {
-            let _ = report(errors, stop);
+            let _ = print_stop(errors, stop);
             2
         }
     }
-}
-
-// Says on `errors` why the script ended.
-fn report<E: Write>(errors: &mut E, stop: Stop) -> io::Result<()>
-    ensures { OnOk result (Appends (E.contents errors.old) (E.contents errors.new)
-        (stop_text stop ++ 10 ∷ [])) }
-{
-    writeln!(errors, "{stop}")
 }
 
 // Answers the lines of `input` up to the last one, or up to the one at which the script ends.
@@ -111,13 +106,24 @@ fn print_outcome<W: Write, A: Allocator>(
     ensures { PrintEnds number (outcome_text outcome.now)
         (W.contents output.old) (W.contents output.new) result }
 {
-    let printed = match outcome {
-        Ok(answer) => print_answer(output, answer),
-        Err(Failure::Refused(error)) => print_refusal(output, error.number()),
-        Err(Failure::BadLine) => return Err(Stop::Line(number)),
-    };
-    printed.map_err(|_| Stop::Output)?;
-    output.flush().map_err(|_| Stop::Output)
+    match outcome {
+        Ok(answer) => pass_on(print_answer(output, answer), output),
+        Err(Failure::Refused(error)) => pass_on(print_refusal(output, error.number()), output),
+        Err(Failure::BadLine) => Err(Stop::Line(number)),
+    }
+}
+
+// Flushes the output behind what was printed, so that nothing of it waits for what is read next.
+fn pass_on<W: Write>(printed: io::Result<()>, output: &mut W) -> Result<(), Stop>
+    ensures shown { (before : Option (List ℕ)) (text : List ℕ) →
+        ShowsText before (W.contents output.old) printed text →
+        ShowsText before (W.contents output.new) result text }
+    ensures stop { IfErr result (λ stop. stop ≡ Output) }
+{
+    match printed {
+        Ok(()) => output.flush().map_err(|_| Stop::Output),
+        Err(_) => Err(Stop::Output),
+    }
 }
 
 // What a script has built so far.

@@ -1,7 +1,7 @@
 use Rattle.std.specs.Prelude.{map}
 use Rattle.std.specs.Arc.{arc_value}
 use Rattle.lsm_compactions.proofs.PackedAble.{result_able, result_one}
-use Rattle.lsm_compactions.proofs.PackingResult.{result_holders, result_least, result_list, result_ordered, result_tables}
+use Rattle.lsm_compactions.proofs.PackingResult.{result_holders, result_least, result_list, result_ordered, result_placed, result_tables}
 use Rattle.lsm_compactions.proofs.pack.pack_runs.Goals as goal
 
 pub returns-clause-tables : goal.returns-clause-tables
@@ -15,6 +15,10 @@ returns-clause-holders g c =
 pub returns-clause-ordered : goal.returns-clause-ordered
 returns-clause-ordered g c =
     result_ordered (λ v. v.items) (map arc_value c.args.runs.now) c.in_ok-shared.shared c.in_ok-shared.ensures.runs c.optimize_runs.result c.optimize_runs.ensures.one c.optimize_runs.ensures.ordered
+
+pub returns-clause-placed : goal.returns-clause-placed
+returns-clause-placed g c =
+    result_placed (λ v. v.items) (map arc_value c.args.runs.now) c.in_ok-shared.shared c.in_ok-shared.ensures.runs c.optimize_runs.result c.optimize_runs.ensures.placed
 
 pub returns-clause-least : goal.returns-clause-least
 returns-clause-least g c =

@@ -7,4 +7,4 @@ pub returns : goal.returns
 returns g c =
     let i = c.self.inside in
     rw (← c.self.view_is)
-    (begins_next i.lo_reader (arc_value i.tables) i.lo i.hi (i.lo + 1) c.scan_at.result (omega arith) (omega arith) (omega arith) (λ t at. c.scan_at.ensures t (rw (c.as_slice.ensures, c.deref.ensures) at)))
+    (begins_next i.lo_reader (arc_value i.tables) i.lo i.hi (i.lo + 1) c.scan_at.result (omega arith) (omega arith) (omega arith) (λ t at. c.scan_at.ensures.begins t (rw (c.as_slice.ensures, c.deref.ensures) at)))
