@@ -3,7 +3,9 @@ use Rattle.std.proofs.Common.{◌≡◌, refl, sym, ◌∙◌, ap, subst, ℕ, B
 use Rattle.std.proofs.lemmas.List.{append-nil}
 use Rattle.sst_sections.specs.Sections.{Written}
 use Rattle.sst_sections.specs.declared.version.TableVersion.TheVariants.{V4}
-use Rattle.std.specs.Prelude.{Option, Some, None, nat_lt}
+use Rattle.std.specs.Prelude.{Option, Some, None, nat_lt, ◌&&◌, Result, Ok, Err, IfOk, OnOk}
+use Rattle.sst_entries.specs.Error.{Faults}
+use Rattle.sst_entries.specs.declared.error.Error.{Error}
 use Rattle.sst_entries.specs.Entry.{Entry}
 use Rattle.sst_entries.specs.Strict.{IsStrict, last_of}
 use Rattle.sst_filters.specs.declared.policy.BloomConstructionPolicy.{BloomConstructionPolicy}
@@ -17,11 +19,16 @@ use Rattle.lsm_files.specs.Layout.{Sections, appended}
 use Rattle.lsm_files.specs.Parts.{parts_after}
 use Rattle.lsm_files.specs.declared.options.FilterKind.{FilterKind}
 use Rattle.lsm_files.specs.declared.options.FilterKind.TheVariants.{Full as FullFilter, Partitioned as PartitionedFilter}
-use Rattle.lsm_filter_writers.specs.Either.{failed_by, kind_by, policy_by}
-use Rattle.lsm_filter_writers.specs.Cutting.{waiting_after}
-use Rattle.lsm_filter_writers.specs.Refusing.{filter_fault, register_fault}
-use Rattle.lsm_filter_writers.specs.Writing.{WritesFilter}
+use Rattle.lsm_filter_writers.specs.Either.{HoldsBy, failed_by, kind_by, policy_by}
+use Rattle.lsm_filter_writers.specs.Given.{GivenKeys, given_by, no_keys as no_given, with_key}
+use Rattle.lsm_filter_writers.specs.Rising.{AreRising, Rises}
+use Rattle.lsm_filter_writers.proofs.SameOptions.{fault_same, given_all, given_more, writes_same}
+use Rattle.lsm_filter_writers.specs.Cutting.{closed_after, waiting_after}
+use Rattle.lsm_filter_writers.specs.Held.{CutParts, Hashes, HoldsHashes, HoldsParts}
+use Rattle.lsm_filter_writers.specs.Refusing.{filter_fault, given_fault, register_fault}
+use Rattle.lsm_filter_writers.specs.Writing.{WritesFilter, WritesParts}
 use Rattle.lsm_filter_writers.specs.declared.either.FilterWriterImpl.{FilterWriterImpl}
+use Rattle.lsm_filter_writers.specs.declared.either.FilterWriterImpl.TheVariants.{Full as FullWriter, Partitioned as PartitionedWriter}
 use Rattle.lsm_files.specs.Chunks.{joined}
 use Rattle.lsm_writers.specs.Counts.{tally_of}
 use Rattle.lsm_writers.specs.Cut.{rest_chunk}
@@ -115,8 +122,115 @@ filtered_not kind policy w es small = record { small = small; has = λ no. absur
 
 -- and registering refuses nothing: no part is too large
 pub no_register_fault : {A : Type 0} (kind : FilterKind) (policy : BloomConstructionPolicy) (w : FilterWriterImpl A) (keys : List (List ℕ)) (key : List ℕ) → HasKeys kind policy w keys
-    → register_fault kind policy keys key ≡ None → option_or (failed_fault (failed_by w)) (register_fault (kind_by w) (policy_by w) keys key) ≡ None
+    → register_fault kind policy (given_by kind policy keys).pending key ≡ None → option_or (failed_fault (failed_by w)) (register_fault (kind_by w) (policy_by w) (given_by kind policy keys).pending key) ≡ None
 no_register_fault kind policy w keys key h none = rw (h.works, h.kind_is, h.policy_is) none
+
+-- ---- the filter writer's own words, of keys that were all given under one kind and one policy
+
+-- a key that is greater than all may be registered
+pub rises_given : {A : Type 0} (kind : FilterKind) (policy : BloomConstructionPolicy) (w : FilterWriterImpl A) (keys : List (List ℕ)) (key : List ℕ) → HasKeys kind policy w keys → AreRising (keys ++ key ∷ [])
+    → Rises (HoldsBy w) key
+rises_given kind policy w keys key h rising = record {
+  given = given_by kind policy keys;
+  held = h.holds;
+  rising = subst (λ (ks : List (List ℕ)). AreRising (ks ++ key ∷ [])) (sym (given_all kind policy keys)) rising;
+}
+
+-- once it was, the writer has it too
+pub has_given : {A : Type 0} (kind : FilterKind) (policy : BloomConstructionPolicy) (w v : FilterWriterImpl A) (keys : List (List ℕ)) (key : List ℕ) → HasKeys kind policy w keys
+    → kind_by v ≡ kind_by w → policy_by v ≡ policy_by w → failed_by v ≡ false → (HoldsBy w (given_by kind policy keys) → HoldsBy v (with_key (kind_by w) (policy_by w) (given_by kind policy keys) key))
+    → HasKeys kind policy v (keys ++ key ∷ [])
+has_given {A} kind policy w v keys key h same_kind same_policy works more =
+    let given = given_by kind policy keys in
+    let after : with_key (kind_by w) (policy_by w) given key ≡ given_by kind policy (keys ++ key ∷ []) =
+    ap (λ (k : FilterKind). with_key k (policy_by w) given key) h.kind_is ∙ ap (λ (p : BloomConstructionPolicy). with_key kind p given key) h.policy_is ∙ given_more kind policy keys key in
+    record {
+      kind_is = same_kind ∙ h.kind_is;
+      policy_is = same_policy ∙ h.policy_is;
+      works = works;
+      holds = subst (λ (x : GivenKeys). HoldsBy v x) after (more h.holds);
+    }
+
+-- the key of an entry that is registered
+pub rising_now : (policy : BloomConstructionPolicy) (starts r : Bool) (keys : List (List ℕ)) (key : List ℕ) → r ≡ (nat_lt 0 (tenths_of policy) && starts) → r ≡ true → AreRising (keys ++ registered_key policy starts key)
+    → AreRising (keys ++ key ∷ [])
+rising_now policy starts r keys key is told rising = subst (λ (b : Bool). AreRising (keys ++ cond b (key ∷ []) [])) (sym is ∙ told) rising
+
+-- so an optional writer has it, where the call was not refused
+pub registered_in : {A X : Type 0} (r : Result X Error) (kind : FilterKind) (policy : BloomConstructionPolicy) (o : Option (FilterWriterImpl A)) (w v : FilterWriterImpl A) (starts b : Bool) (key : List ℕ) → o ≡ Some w
+    → b ≡ (nat_lt 0 (tenths_of policy) && starts) → b ≡ true → kind_by v ≡ kind_by w → policy_by v ≡ policy_by w → OnOk r (failed_by v ≡ false)
+    → OnOk r ((given : GivenKeys) → HoldsBy w given → HoldsBy v (with_key (kind_by w) (policy_by w) given key))
+    → OnOk r ((keys : List (List ℕ)) → MayHaveKeys kind policy o keys → MayHaveKeys kind policy (Some v) (keys ++ registered_key policy starts key))
+registered_in {A} {X} (Ok x) kind policy o w v starts b key is test t same_kind same_policy works more = λ keys has.
+    let had = subst (λ (p : Option (FilterWriterImpl A)). MayHaveKeys kind policy p keys) is has in
+    subst (λ (x : Bool). MayHaveKeys kind policy (Some v) (keys ++ cond x (key ∷ []) [])) (sym t ∙ test)
+    (not_none keys key, has_given kind policy w v keys key had.1 same_kind same_policy works (more (given_by kind policy keys)))
+  where
+    not_none : (keys : List (List ℕ)) (key : List ℕ) → keys ++ key ∷ [] ≡ [] → ⊥
+    not_none [] key e = cc
+    not_none (k ∷ ks) key e = cc
+registered_in {A} {X} (Err e) kind policy o w v starts b key is test t same_kind same_policy works more = tt
+
+-- a writer that is made has none
+given_none : (kind : FilterKind) (policy : BloomConstructionPolicy) → given_by kind policy [] ≡ no_given
+unfolding closed_after waiting_after
+given_none FullFilter policy = refl
+given_none (PartitionedFilter size) policy = refl
+
+pub full_has_none : {A : Type 0} (kind : FilterKind) (policy : BloomConstructionPolicy) (x : FilterWriterImpl A) (w : Hashes) → kind ≡ FullFilter → x ≡ FullWriter w → w ≡ record { policy = policy; hashes = []; failed = false }
+    → HoldsHashes w no_given → HasKeys kind policy x []
+full_has_none kind policy x w k e is h =
+    rw (k, e) (record { kind_is = refl; policy_is = ap (λ (y : Hashes). y.policy) is; works = ap (λ (y : Hashes). y.failed) is; holds = h })
+
+pub parts_have_none : {A : Type 0} (kind : FilterKind) (policy : BloomConstructionPolicy) (size : ℕ) (x : FilterWriterImpl A) (v : CutParts) → kind ≡ PartitionedFilter size → x ≡ PartitionedWriter v
+    → PartitionedFilter v.size ≡ PartitionedFilter size → v.policy ≡ policy → v.failed ≡ false → HoldsParts v no_given → HasKeys kind policy x []
+parts_have_none {A} kind policy size x v k e sized same works h =
+    let holds : HoldsParts v (given_by (PartitionedFilter size) policy []) = subst (λ (given : GivenKeys). HoldsParts v given) (sym (given_none (PartitionedFilter size) policy)) h in
+    rw (k, e) (record { kind_is = sized; policy_is = same; works = works; holds = holds })
+
+-- and the first key may be registered
+pub first_rises : {A : Type 0} (kind : FilterKind) (policy : BloomConstructionPolicy) (w : FilterWriterImpl A) (keys : List (List ℕ)) (key : List ℕ) → HasKeys kind policy w [] → keys ≡ [] → AreRising (keys ++ key ∷ [])
+    → Rises (HoldsBy w) key
+first_rises kind policy w keys key h none rising = rises_given kind policy w [] key h (subst (λ (ks : List (List ℕ)). AreRising (ks ++ key ∷ [])) none rising)
+
+pub none_of : {W : Type 0} (o : Option W) → ((w : W) → o ≡ Some w → ⊥) → o ≡ None
+none_of None not_some = refl
+none_of (Some w) not_some = absurd (not_some w refl)
+
+-- once it was, a writer that is there from then on has it
+pub registered_first : {A : Type 0} (kind : FilterKind) (policy : BloomConstructionPolicy) (o : Option (FilterWriterImpl A)) (v : FilterWriterImpl A) (starts r : Bool) (keys : List (List ℕ)) (key : List ℕ) → o ≡ Some v → keys ≡ []
+    → r ≡ (nat_lt 0 (tenths_of policy) && starts) → r ≡ true → HasKeys kind policy v (key ∷ []) → MayHaveKeys kind policy o (keys ++ registered_key policy starts key)
+registered_first {A} kind policy o v starts r keys key e none is told h =
+    let some : key ∷ [] ≡ [] → ⊥ = λ no. absurd cc in
+    let one : MayHaveKeys kind policy (Some v) (keys ++ key ∷ []) = subst (λ (ks : List (List ℕ)). MayHaveKeys kind policy (Some v) (ks ++ key ∷ [])) (sym none) (some, h) in
+    let all : MayHaveKeys kind policy (Some v) (keys ++ registered_key policy starts key) =
+    subst (λ (b : Bool). MayHaveKeys kind policy (Some v) (keys ++ cond b (key ∷ []) [])) (sym told ∙ is) one in
+    subst (λ (p : Option (FilterWriterImpl A)). MayHaveKeys kind policy p (keys ++ registered_key policy starts key)) (sym e) all
+
+-- what finishing writes, and refuses
+pub finish_given : {A : Type 0} (r : Result ℕ Error) (kind : FilterKind) (policy : BloomConstructionPolicy) (w : FilterWriterImpl A) (before after : Written)
+    → IfOk r (λ n. (given : GivenKeys) → HoldsBy w given → WritesParts (kind_by w) (policy_by w) given before after n)
+    → IfOk r (λ n. (keys : List (List ℕ)) → HasKeys kind policy w keys → WritesFilter kind policy keys before after n)
+finish_given (Ok n) kind policy w before after writes = λ keys h.
+    writes_same kind policy keys before after n
+    (subst (λ (p : BloomConstructionPolicy). WritesParts kind p (given_by kind policy keys) before after n) h.policy_is
+    (subst (λ (k : FilterKind). WritesParts k (policy_by w) (given_by kind policy keys) before after n) h.kind_is (writes (given_by kind policy keys) h.holds)))
+finish_given (Err e) kind policy w before after writes = tt
+
+pub finish_in : {A : Type 0} (r : Result ℕ Error) (kind : FilterKind) (policy : BloomConstructionPolicy) (o : Option (FilterWriterImpl A)) (w : FilterWriterImpl A) (before after : Written) → o ≡ Some w
+    → IfOk r (λ n. (given : GivenKeys) → HoldsBy w given → WritesParts (kind_by w) (policy_by w) given before after n)
+    → IfOk r (λ n. (keys : List (List ℕ)) → MayHaveKeys kind policy o keys → WritesFilter kind policy keys before after n)
+finish_in {A} (Ok n) kind policy o w before after is writes = λ keys has.
+    let had = subst (λ (p : Option (FilterWriterImpl A)). MayHaveKeys kind policy p keys) is has in
+    finish_given (Ok n) kind policy w before after writes keys had.1
+finish_in {A} (Err e) kind policy o w before after is writes = tt
+
+pub finish_refuses : {A : Type 0} (r : Result ℕ Error) (kind : FilterKind) (policy : BloomConstructionPolicy) (w : FilterWriterImpl A) (keys : List (List ℕ)) → HasKeys kind policy w keys
+    → ((given : GivenKeys) → HoldsBy w given → Faults r (option_or (failed_fault (failed_by w)) (given_fault (kind_by w) (policy_by w) given))) → Faults r (filter_fault kind policy keys)
+finish_refuses r kind policy w keys h refused =
+    let given = given_by kind policy keys in
+    let told : option_or (failed_fault (failed_by w)) (given_fault (kind_by w) (policy_by w) given) ≡ filter_fault kind policy keys = rw (h.works, h.kind_is, h.policy_is) (fault_same kind policy keys) in
+    subst (λ (f : Option Error). Faults r f) told (refused given h.holds)
 
 -- ---- the steps of writing an entry
 

@@ -7,6 +7,7 @@ use Rattle.lsm_files.specs.declared.options.FilterKind.{FilterKind}
 use Rattle.lsm_files.specs.Filters.{filtered_keys}
 use Rattle.lsm_filter_writers.specs.declared.either.FilterWriterImpl.{FilterWriterImpl}
 use Rattle.lsm_filter_writers.specs.Either.{kind_by, policy_by, failed_by, HoldsBy}
+use Rattle.lsm_filter_writers.specs.Given.{given_by}
 use Rattle.lsm_filter_writers.specs.Refusing.{partition_size}
 use Rattle.lsm_filter_writers.specs.Rising.{AreRising}
 
@@ -15,13 +16,13 @@ use Rattle.lsm_filter_writers.specs.Rising.{AreRising}
 abbrev pub registered_key : BloomConstructionPolicy → Bool → List ℕ → List (List ℕ)
 registered_key policy starts key = if nat_lt 0 (tenths_of policy) && starts then key ∷ [] else []
 
--- a filter writer of a kind and a policy that has these keys
+-- a filter writer of a kind and a policy that has these keys, all given under them
 pub record HasKeys {A : Type 0} (kind : FilterKind) (policy : BloomConstructionPolicy)
     (w : FilterWriterImpl A) (keys : List (List ℕ)) : Type 0 where
   pub kind_is : kind_by w ≡ kind
   pub policy_is : policy_by w ≡ policy
   pub works : failed_by w ≡ false
-  pub holds : HoldsBy w keys
+  pub holds : HoldsBy w (given_by kind policy keys)
 
 -- what may be a filter writer has these keys; it is made when the first key comes
 abbrev pub MayHaveKeys : {A : Type 0} → FilterKind → BloomConstructionPolicy

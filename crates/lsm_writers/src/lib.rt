@@ -12,7 +12,8 @@ pub use lsm_files::{
     Timestamp, TreeId,
 };
 pub use lsm_filter_writers::{
-    FilterWriter, FilterWriterImpl, FullFilterWriter, PartitionedFilterWriter, small_partitions_fit,
+    FilterWriter, FilterWriterImpl, FullFilterWriter, PartitionedFilterWriter,
+    registered_keys_are_admitted, small_partitions_fit,
 };
 pub use lsm_index_writers::{
     BlockIndexWriter, FullIndexWriter, IndexWriterImpl, PartitionedIndexWriter,
