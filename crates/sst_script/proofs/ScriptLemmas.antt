@@ -1,5 +1,5 @@
 -- The lines of a script, one after another.
-use Rattle.std.proofs.Common.{◌≡◌, refl, sym, ◌∙◌, ap, subst, ℕ, ◌+◌, ◌-◌, ◌<◌, Bool, true, false, List, [], ◌∷◌, ◌++◌, length, take, cond, inr, arith, append_assoc, append-nil, length-append, lt-ltb}
+use Rattle.std.proofs.Common.{◌≡◌, refl, sym, ◌∙◌, ap, subst, ℕ, ◌+◌, ◌-◌, ◌<◌, Bool, true, false, List, [], ◌∷◌, ◌++◌, length, take, cond, inl, inr, ◌⊎◌, arith, append_assoc, append-nil, length-append, lt-ltb}
 use Rattle.std.specs.Prelude.{IfErr, Option, Some, None, Result, Ok, Err, ◌==◌, ◌&&◌, nat_lt, slice_index}
 use Rattle.std.specs.List.{onto_first}
 use Rattle.std.specs.Io.BufRead.{take_through, drop_through, first_piece, strip_last}
@@ -19,7 +19,7 @@ use Rattle.sst_commands.specs.Stop.{stop_line}
 use Rattle.sst_commands.proofs.ShownLemmas.{front_all, kept_behind}
 use Rattle.sst_script.specs.Script.{Store, store, Executes}
 use Rattle.sst_script.specs.Lines.{lines_of, LosesLine, HasLines}
-use Rattle.sst_script.specs.Answering.{outcome_text, PrintEnds, AnswersLine, AnswersAll, Prints, LineEnds, Reports, ScriptEnds}
+use Rattle.sst_script.specs.Answering.{outcome_text, PrintEnds, AnswersLine, AnswersAll, Prints, LineEnds, ScriptEnds}
 
 -- one more line
 pub answered_more : (A : Type 0) (front : List (List ℕ)) (line : List ℕ) (old between new : Store) (text more : List ℕ)
@@ -227,7 +227,7 @@ ends_printed {X} {A} number line command old new (Err BadLine) before after resu
     subst (λ (r : Result X Stop). LineEnds A number line old new before after r) (sym ends.0) fault
 
 -- whether the line of a stop was taken is passed over
-pub reported : {X Y E : Type 0} (before after : Option (List ℕ)) (stop : Stop) (r : Result X E) → ShowsText before after r (stop_line stop) → Reports {X = Y} before after (Err stop)
+pub reported : {X E : Type 0} (before after : Option (List ℕ)) (stop : Stop) (r : Result X E) → ShowsText before after r (stop_line stop) → AppendsFront before after (stop_line stop)
 reported before after stop (Ok x) shows = front_all before after (stop_line stop) shows
 reported before after stop (Err e) shows = shows
 
@@ -240,3 +240,10 @@ shows_kept a b c text (Err e) written kept = front_all a c text (kept_behind a b
 pub ends_shown : {X : Type 0} (number : ℕ) (text : List ℕ) (a b : Option (List ℕ)) (r : Result X Stop) → ShowsText a b r text → IfErr r (λ stop. stop ≡ Output) → PrintEnds number (Some text) a b r
 ends_shown number text a b (Ok x) shows stops = shows
 ends_shown number text a b (Err stop) shows stops = (stops, shows)
+
+-- it stops at the line, or where the output fails
+pub ends_stops : {X : Type 0} (number : ℕ) (text : Option (List ℕ)) (a b : Option (List ℕ)) (r : Result X Stop) → PrintEnds number text a b r → IfErr r (λ stop. (stop ≡ Line number) ⊎ (stop ≡ Output))
+ends_stops number None a b (Ok x) ends = tt
+ends_stops number None a b (Err stop) ends = let same : stop ≡ Line number = cc (ends.0) in inl same
+ends_stops number (Some text) a b (Ok x) ends = tt
+ends_stops number (Some text) a b (Err stop) ends = inr ends.0

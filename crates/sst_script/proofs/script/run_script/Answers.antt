@@ -19,7 +19,7 @@ pub returns-in-Err-clause-status : goal.returns-in-Err-clause-status
 returns-in-Err-clause-status g c = inr refl
 
 pub returns-in-Err-clause-ended : goal.returns-in-Err-clause-ended
-returns-in-Err-clause-ended g c = (Err c.in-Err.stop, refl, subst (λ (r : Result ⊤ Stop). ScriptEnds g.row.A.Denot (g.R.Read.remaining c.args.input) (g.W.Write.contents c.args.output.now) (g.W.Write.contents c.answer_script.new.output) r) c.in-Err.is c.answer_script.ensures, reported _ _ c.in-Err.stop c.print_stop.result c.print_stop.ensures)
+returns-in-Err-clause-ended g c = (Err c.in-Err.stop, refl, subst (λ (r : Result ⊤ Stop). ScriptEnds g.row.A.Denot (g.R.Read.remaining c.args.input) (g.W.Write.contents c.args.output.now) (g.W.Write.contents c.answer_script.new.output) r) c.in-Err.is c.answer_script.ensures, reported (g.E.Write.contents c.args.errors.now) (g.E.Write.contents c.print_stop.new.errors) c.in-Err.stop c.print_stop.result c.print_stop.ensures)
 
 pub returns-in-Err-clause-silent : goal.returns-in-Err-clause-silent
 returns-in-Err-clause-silent g c = λ h. absurd cc
