@@ -2,6 +2,8 @@
 #![tactic(auto)]
 
 #[cfg(test)]
+mod filter_tops;
+#[cfg(test)]
 mod kinds;
 #[cfg(test)]
 mod layout;

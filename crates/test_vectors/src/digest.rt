@@ -1,0 +1,71 @@
+//! Checksums of answers.
+use sst_blocks::{Error, InternalValue, IterItem, Opened};
+use sst_sections::fnv::Fnv1a;
+use std::alloc::Allocator;
+
+/// The running FNV-1a hash of answers. Each number counts as 8 bytes, the low one first, and each
+/// run of bytes as its length and itself.
+#[derive(Clone, Copy)]
+pub struct Digest(Fnv1a);
+
+impl Digest {
+    /// Of no answers.
+    pub fn new() -> Digest {
+        Digest(Fnv1a::new())
+    }
+
+    /// The hash so far.
+    pub fn finish(&self) -> u64 {
+        self.0.finish()
+    }
+
+    pub fn put_number(&mut self, number: u64) {
+        self.0.update(&number.to_le_bytes());
+    }
+
+    pub fn put_bytes(&mut self, bytes: &[u8]) {
+        self.put_number(bytes.len() as u64);
+        self.0.update(bytes);
+    }
+
+    /// A 2, the key, the number, the kind's tag and the value.
+    fn put_entry<A: Allocator>(&mut self, item: &InternalValue<A>) {
+        self.put_number(2);
+        self.put_bytes(item.key.user_key.as_slice());
+        self.put_number(item.key.seqno);
+        self.put_number(u64::from(item.key.value_type.tag()));
+        self.put_bytes(item.value.as_slice());
+    }
+
+    /// A 1 and the refusal's number.
+    pub fn put_error(&mut self, error: &Error) {
+        self.put_number(1);
+        self.put_number(u64::from(error.number()));
+    }
+
+    /// What a point read answers: a 0 for none.
+    pub fn put_found<A: Allocator>(&mut self, found: &Result<Option<InternalValue<A>>, Error>) {
+        match found {
+            Ok(Some(item)) => self.put_entry(item),
+            Ok(None) => self.put_number(0),
+            Err(error) => self.put_error(error),
+        }
+    }
+
+    /// What a step of a walk answers; `false` at the end, which counts as a 0.
+    pub fn put_step<A: Allocator>(&mut self, step: &Option<IterItem<A>>) -> bool {
+        match step {
+            Some(Ok(item)) => self.put_entry(item),
+            Some(Err(error)) => self.put_error(error),
+            None => self.put_number(0),
+        }
+        step.is_some()
+    }
+
+    /// How many blocks of data, index and filter were loaded.
+    pub fn put_opened(&mut self, opened: &Opened) {
+        self.put_number(opened.data_loads);
+        self.put_number(opened.index_loads);
+        self.put_number(opened.filter_loads);
+    }
+}

@@ -1,0 +1,76 @@
+//! Reads and writes the tables that an independent program made, and prints what it finds: for each
+//! table a checksum of all that it says and reads, which that program's own answers give too.
+//!
+//! Standard input is a list of commands, each a line of words. Bytes are in hex, `-` for none, and
+//! flags are 1 or 0:
+//!
+//! - `table BYTES`: the table that the lines below speak of;
+//! - `entry KEY NUMBER TAG VALUE`: one more entry, its kind by its tag;
+//! - `query KEY BOUND`: one more point read;
+//! - `forget`: the entries and the point reads go;
+//! - `write ID LEVEL MOMENT SIZE INDEX FILTER SIZE BLOCK BITS INTERVAL`: writes the entries. A
+//!   partition size is set before the kinds of index and filter are chosen (1 for partitions), and
+//!   one behind that; then follow the data block size, the tenths of a bit a key and the restart
+//!   interval of data blocks. With three numbers alone no option is set. Prints whether the bytes
+//!   are those of the table, and their checksum;
+//! - `read FILTER INDEX`: opens the table, 1 for what stays loaded. Prints the checksum of all that
+//!   it says and reads, with the loads of each point read;
+//! - `damage FILTER INDEX POSITION BYTE ..`: opens the table with some bytes changed, or none.
+//!   Prints why it is refused, or the checksum of what the point reads and a walk answer.
+#![tactic(auto)]
+
+mod digest;
+mod reading;
+mod script;
+mod words;
+mod writing;
+
+use script::{Answer, Script};
+use std::alloc::Allocator;
+use std::io::{self, BufRead, BufReader, BufWriter, Write};
+
+// Reads the next line, without its end; `false` where there is none.
+fn read_line<R: BufRead, A: Allocator>(input: &mut R, line: &mut Vec<u8, A>) -> io::Result<bool> {
+    line.clear();
+    let length = input.read_until(b'\n', line)?;
+    if line.last() == Some(&b'\n') {
+        line.pop();
+    }
+    Ok(length > 0)
+}
+
+// Prints what a command came to.
+fn print_answer<W: Write>(output: &mut W, answer: &Answer) -> io::Result<()> {
+    match answer {
+        Answer::Silent => Ok(()),
+        Answer::Written { is_same, checksum } => writeln!(output, "written {is_same} {checksum}"),
+        Answer::Read(checksum) => writeln!(output, "read {checksum}"),
+        Answer::Refused(number) => writeln!(output, "refused {number}"),
+        Answer::Unknown => writeln!(output, "unknown"),
+    }
+}
+
+// Answers each line, up to the last one.
+fn answer_lines<A: Allocator + Copy, R: BufRead, W: Write>(
+    alloc: A,
+    input: &mut R,
+    output: &mut W,
+) -> anyhow::Result<()> {
+    let mut script = Script::new(alloc);
+    let mut line = Vec::new(alloc);
+    for _ in 0..u64::MAX {
+        if !read_line(input, &mut line)? {
+            return Ok(());
+        }
+        print_answer(output, &script.answer(&line))?;
+    }
+    Ok(())
+}
+
+fn main(rt: HostRuntime) -> anyhow::Result<()> {
+    let mut input = BufReader::new(rt.alloc(), rt.stdin())?;
+    let mut output = BufWriter::new(rt.alloc(), rt.stdout())?;
+    answer_lines(rt.alloc(), &mut input, &mut output)?;
+    output.flush()?;
+    Ok(())
+}

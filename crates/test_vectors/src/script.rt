@@ -1,0 +1,170 @@
+//! The commands, and what was told so far.
+use crate::reading::{Pins, PointRead, read_all, read_damaged};
+use crate::words::{bytes_of, number_of, numbers_of, split_word};
+use crate::writing::{Choices, write_table};
+use sst_blocks::{Error, InternalValue, Slice, ValueType};
+use std::alloc::Allocator;
+use std::mem;
+
+/// What a command came to.
+#[derive(Drop)]
+pub enum Answer {
+    Silent,
+    /// Whether the bytes are those of the table, and their checksum.
+    Written { is_same: bool, checksum: u128 },
+    Read(u64),
+    Refused(u8),
+    Unknown,
+}
+
+/// What was told so far.
+#[derive(Drop)]
+pub struct Script<A: Allocator> {
+    alloc: A,
+    table: Vec<u8, A>,
+    items: Vec<InternalValue<A>, A>,
+    reads: Vec<PointRead<A>, A>,
+}
+
+// A number of a list, or 0 where it is shorter.
+fn at(numbers: &[u64], place: usize) -> u64 {
+    match numbers.get(place) {
+        Some(number) => *number,
+        None => 0,
+    }
+}
+
+// A number that has room in 4 bytes, or the largest one.
+fn at_u32(numbers: &[u64], place: usize) -> u32 {
+    u32::try_from(at(numbers, place)).unwrap_or(u32::MAX)
+}
+
+fn at_u8(numbers: &[u64], place: usize) -> u8 {
+    u8::try_from(at(numbers, place)).unwrap_or(u8::MAX)
+}
+
+fn pins_of(numbers: &[u64]) -> Pins {
+    Pins {
+        filter: at(numbers, 0) == 1,
+        index: at(numbers, 1) == 1,
+    }
+}
+
+fn choices_of(numbers: &[u64]) -> Choices {
+    Choices {
+        id: at(numbers, 0),
+        level: at_u8(numbers, 1),
+        moment: at(numbers, 2),
+        keeps_defaults: numbers.len() <= 3,
+        size_before: at_u32(numbers, 3),
+        has_index_parts: at(numbers, 4) == 1,
+        has_filter_parts: at(numbers, 5) == 1,
+        size_behind: at_u32(numbers, 6),
+        block_size: at_u32(numbers, 7),
+        bits: at_u32(numbers, 8),
+        interval: at_u8(numbers, 9),
+    }
+}
+
+fn kind_of(word: &[u8]) -> ValueType {
+    match word {
+        b"1" => ValueType::Tombstone,
+        b"2" => ValueType::WeakTombstone,
+        b"4" => ValueType::Indirection,
+        _ => ValueType::Value,
+    }
+}
+
+fn slice_of<A: Allocator + Clone>(alloc: A, word: &[u8]) -> Result<Slice<A>, Error> {
+    Slice::from_vec(bytes_of(alloc, word)?)
+}
+
+// The entry of the words behind `entry`.
+fn item_of<A: Allocator + Copy>(alloc: A, line: &[u8]) -> Result<InternalValue<A>, Error> {
+    let (key, rest) = split_word(line);
+    let (number, rest) = split_word(rest);
+    let (kind, value) = split_word(rest);
+    let key = slice_of(alloc, key)?;
+    let value = slice_of(alloc, value)?;
+    Ok(InternalValue::from_components(key, value, number_of(number), kind_of(kind)))
+}
+
+// The read of the words behind `query`.
+fn read_of<A: Allocator + Copy>(alloc: A, line: &[u8]) -> Result<PointRead<A>, Error> {
+    let (key, bound) = split_word(line);
+    Ok(PointRead {
+        key: slice_of(alloc, key)?,
+        bound: number_of(bound),
+    })
+}
+
+impl<A: Allocator + Copy> Script<A> {
+    /// Nothing was told yet.
+    pub fn new(alloc: A) -> Script<A> {
+        Script {
+            alloc,
+            table: Vec::new(alloc),
+            items: Vec::new(alloc),
+            reads: Vec::new(alloc),
+        }
+    }
+
+    /// What a line comes to.
+    pub fn answer(&mut self, line: &[u8]) -> Answer {
+        match self.obey(line) {
+            Ok(answer) => answer,
+            Err(error) => Answer::Refused(error.number()),
+        }
+    }
+
+    fn obey(&mut self, line: &[u8]) -> Result<Answer, Error> {
+        let (name, words) = split_word(line);
+        match name {
+            b"write" => self.write(words),
+            b"read" => self.read(words),
+            b"damage" => self.damage(words),
+            _ => self.note(name, words),
+        }
+    }
+
+    // Keeps what the lines behind are to use.
+    fn note(&mut self, name: &[u8], words: &[u8]) -> Result<Answer, Error> {
+        match name {
+            b"table" => self.table = bytes_of(self.alloc, words)?,
+            b"entry" => self.items.push(item_of(self.alloc, words)?)?,
+            b"query" => self.reads.push(read_of(self.alloc, words)?)?,
+            b"forget" => self.forget(),
+            _ => return Ok(Answer::Unknown),
+        }
+        Ok(Answer::Silent)
+    }
+
+    fn forget(&mut self) {
+        self.items.clear();
+        self.reads.clear();
+    }
+
+    fn write(&mut self, words: &[u8]) -> Result<Answer, Error> {
+        let numbers = numbers_of(self.alloc, words)?;
+        let items = mem::replace(&mut self.items, Vec::new(self.alloc));
+        let table = write_table(self.alloc, &choices_of(&numbers), items)?;
+        Ok(Answer::Written {
+            is_same: table.bytes.as_slice() == self.table.as_slice(),
+            checksum: table.checksum.0,
+        })
+    }
+
+    fn read(&self, words: &[u8]) -> Result<Answer, Error> {
+        let numbers = numbers_of(self.alloc, words)?;
+        let checksum = read_all(self.alloc, &self.table, pins_of(&numbers), &self.reads)?;
+        Ok(Answer::Read(checksum))
+    }
+
+    fn damage(&self, words: &[u8]) -> Result<Answer, Error> {
+        let numbers = numbers_of(self.alloc, words)?;
+        let pins = pins_of(&numbers);
+        let changes = numbers.get(2..).unwrap_or(&[]);
+        let checksum = read_damaged(self.alloc, &self.table, pins, changes, &self.reads)?;
+        Ok(Answer::Read(checksum))
+    }
+}
