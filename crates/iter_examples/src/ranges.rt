@@ -1,14 +1,14 @@
 //! Ranges of tables from both ends, under each kind of index.
+use crate::kinds::{A5, A7, A9, B1, Kind, ROWS, bytes_by, index_loads, open_with, pins_index};
 use crate::walks::{Counted, Name, Walk};
-use crate::written::{Parted, bytes_of};
 use example_tables::large::asked;
 use example_tables::rows::{Row, written};
 use example_tables::runs::{ALL, Bounds, owned_range};
-use example_tables::stored::{one_entry, two_levels};
+use example_tables::stored::one_entry;
 use example_tables::tables::{open, overwritten};
 use lsm_tables::{Iter, Table};
 use refusing::{Refusing, each_refused};
-use sst_blocks::{Checksum, Direction, Error, SeqNo, Slice, ValueType};
+use sst_blocks::{Direction, Error, SeqNo, Slice, ValueType};
 use std::alloc::{Allocator, Global};
 use std::ops::Bound;
 
@@ -18,29 +18,6 @@ type Step = (Direction, Option<Name>);
 const F: Direction = Direction::Front;
 
 const B: Direction = Direction::Back;
-
-const A9: Option<Name> = Some((Some(b'a'), 9));
-
-const A7: Option<Name> = Some((Some(b'a'), 7));
-
-const A5: Option<Name> = Some((Some(b'a'), 5));
-
-const B1: Option<Name> = Some((Some(b'b'), 1));
-
-const ROWS: &[Row<'static>] = &[
-    (b"a", 9, ValueType::Value, b""),
-    (b"a", 7, ValueType::Value, b""),
-    (b"a", 5, ValueType::Value, b""),
-    (b"b", 1, ValueType::Value, b""),
-];
-
-fn open_with<A: Allocator + Copy>(
-    alloc: A,
-    bytes: Slice<A>,
-    pin_index: bool,
-) -> Result<Table<A>, Error> {
-    Table::recover(alloc, bytes, Checksum(0), 0, 0, false, pin_index)
-}
 
 fn range_of<A: Allocator + Copy>(
     alloc: A,
@@ -132,59 +109,15 @@ fn dealt<W: Counted + Drop>(
     Ok((right, data, index))
 }
 
-// The bytes of the same table, as an earlier version stored it.
-fn older<A: Allocator + Copy>(alloc: A) -> Result<Slice<A>, Error> {
-    Ok(Slice::from(alloc, &two_levels::BYTES)?)
-}
-
-// A kind of index: one that stays loaded, one on demand, one of two levels, and one as an earlier version stored it.
-enum Kind {
-    Loaded,
-    OnDemand,
-    TwoLevels,
-    Older,
-}
-
-// The bytes of a table of some rows by a kind of index; of the kind that was stored those of its own rows.
-fn bytes_by(
-    alloc: Global,
-    kind: &Kind,
-    rows: &[Row<'_>],
-    block_size: u32,
-) -> Result<Slice<Global>, Error> {
-    match kind {
-        Kind::Loaded | Kind::OnDemand => bytes_of(alloc, &Parted::Nothing, rows, 0, block_size),
-        Kind::TwoLevels => bytes_of(alloc, &Parted::Index, rows, 0, block_size),
-        Kind::Older => older(alloc),
-    }
-}
-
-// Whether what can stay loaded of the index does.
-fn pins_index(kind: &Kind) -> bool {
-    match kind {
-        Kind::OnDemand => false,
-        Kind::Loaded | Kind::TwoLevels | Kind::Older => true,
-    }
-}
-
 fn outcome(alloc: Global, kind: &Kind, case: &Case) -> Result<(bool, u64, u64), Error> {
     let bytes = bytes_by(alloc, kind, ROWS, 0);
     dealt(range_in(alloc, bytes, pins_index(kind), case.0), case.1)
 }
 
-// How many blocks of the index a case loads.
-fn index_loads(kind: &Kind, case: &Case) -> u64 {
-    match kind {
-        Kind::Loaded => 0,
-        Kind::OnDemand => 1,
-        Kind::TwoLevels | Kind::Older => case.3,
-    }
-}
-
 // Whether all cases come out so.
 fn are_dealt(alloc: Global, kind: &Kind) -> bool {
     for case in CASES {
-        if outcome(alloc, kind, case) != Ok((true, case.2, index_loads(kind, case))) {
+        if outcome(alloc, kind, case) != Ok((true, case.2, index_loads(kind, case.3))) {
             return false;
         }
     }
@@ -467,24 +400,67 @@ fn gives_or_ends<W: Walk + Drop>(iter: Result<W, Error>, steps: &[Step]) -> Resu
     }
 }
 
-fn deals_from_both_ends<A: Allocator + Copy>(alloc: A) -> Result<bool, Error> {
-    gives_or_ends(range_in(alloc, older(alloc), true, ALL), FROM_BOTH_ENDS)
+// Of a table whose bytes are put into the memory first.
+fn deals_from_both_ends<A: Allocator + Copy>(
+    alloc: A,
+    bytes: &[u8],
+    pin_index: bool,
+    bounds: Bounds<'_>,
+) -> Result<bool, Error> {
+    let bytes = Slice::from(alloc, bytes)?;
+    gives_or_ends(
+        range_in(alloc, Ok(bytes), pin_index, bounds),
+        FROM_BOTH_ENDS,
+    )
 }
 
 // Whether the range is dealt, also where there is no memory for marks, or a refused request is answered as one.
-fn is_dealt(heap: &Refusing, may_fail: bool) -> bool {
-    match deals_from_both_ends(heap) {
+fn is_dealt(
+    heap: &Refusing,
+    may_fail: bool,
+    bytes: &[u8],
+    pin_index: bool,
+    bounds: Bounds<'_>,
+) -> bool {
+    match deals_from_both_ends(heap, bytes, pin_index, bounds) {
         Ok(right) => right,
         Err(error) => may_fail && error == Error::OutOfMemory,
     }
 }
 
+// Without an edge, and with two that are sought by the first step.
+const WITHIN: &[Bounds<'static>] = &[ALL, (Bound::Included(A_KEY), Bound::Included(B_KEY))];
+
+const REFUSED: &[Kind] = &[Kind::OnDemand, Kind::TwoLevels, Kind::Older];
+
+// Whether the range is dealt, and each of its requests refused in turn is told.
+fn is_told(alloc: Global, kind: &Kind, bounds: &Bounds<'static>) -> bool {
+    let Ok(bytes) = bytes_by(alloc, kind, ROWS, 0) else {
+        return false;
+    };
+    let told = each_refused(alloc, |heap, may_fail| {
+        is_dealt(heap, may_fail, bytes.as_slice(), pins_index(kind), *bounds)
+    });
+    match told {
+        Ok(requests) => 0 < requests,
+        Err(_) => false,
+    }
+}
+
+fn all_are_told(alloc: Global) -> bool {
+    for kind in REFUSED {
+        for bounds in WITHIN {
+            if !is_told(alloc, kind, bounds) {
+                return false;
+            }
+        }
+    }
+    true
+}
+
 #[test]
 fn each_request_of_a_range_refused_is_told(rt: HostRuntime) {
-    let answers = each_refused(rt.alloc(), |heap, may_fail| is_dealt(heap, may_fail));
-    let heap = Refusing::new(rt.alloc(), 0);
-    assert!(rt; is_dealt(&heap, false));
-    assert!(rt; answers == Ok(heap.requests()));
+    assert!(rt; all_are_told(rt.alloc()));
 }
 
 // ---- faults
