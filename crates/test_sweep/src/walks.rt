@@ -156,11 +156,23 @@ pub fn is_index(alloc: Global, table: &Table, want: &told::Table<'_>, ends: Ends
     }
 }
 
+// The number of a refusal, or 0 for none. Generic in what is made, so that none of its parts is
+// looked at.
+fn refusal_of<T: Drop>(made: Result<T, Error>) -> Fault {
+    match made {
+        Ok(made) => {
+            drop(made);
+            0
+        }
+        Err(error) => error.number(),
+    }
+}
+
 /// Whether a scan gives what it should, or is refused as it should be.
 pub fn is_scan(alloc: Global, table: &Table, want: &told::Table<'_>) -> bool {
     let rows = told::scan_rows(alloc, want);
-    match (&rows, table.scan()) {
-        (Err(fault), Err(error)) => error.number() == *fault,
-        (_, made) => is_all_walked(made, &rows, Ends::Fronts),
+    match &rows {
+        Ok(_) => is_all_walked(table.scan(), &rows, Ends::Fronts),
+        Err(fault) => refusal_of(table.scan()) == *fault,
     }
 }
