@@ -34,13 +34,16 @@ fn add(
 // The partition size, and how many tenths of a bit a key has.
 type Setting = (u32, u32);
 
+// Those before each of three keys.
+type Settings = (Setting, Setting, Setting);
+
 fn policy_of(setting: Setting) -> BloomConstructionPolicy {
     BloomConstructionPolicy::BitsPerKey(setting.1)
 }
 
 // A writer that is given "a", "b" and "c", each once its options are set.
-fn three_keys(alloc: Global, settings: [Setting; 3]) -> Result<PartitionedFilterWriter, Error> {
-    let [first, second, third] = settings;
+fn three_keys(alloc: Global, settings: Settings) -> Result<PartitionedFilterWriter, Error> {
+    let (first, second, third) = settings;
     let a: UserKey = Slice::from(alloc, b"a")?;
     let b: UserKey = Slice::from(alloc, b"b")?;
     let c: UserKey = Slice::from(alloc, b"c")?;
@@ -51,7 +54,7 @@ fn three_keys(alloc: Global, settings: [Setting; 3]) -> Result<PartitionedFilter
 }
 
 // How many partitions it writes, and the bytes.
-fn written(alloc: Global, settings: [Setting; 3]) -> Result<(usize, Slice), Error> {
+fn written(alloc: Global, settings: Settings) -> Result<(usize, Slice), Error> {
     let mut sections = SectionWriter::new(alloc)?;
     let count = three_keys(alloc, settings)?.finish(&mut sections)?;
     let (bytes, _) = sections.finish()?;
@@ -101,21 +104,21 @@ fn end_at(tops: &IndexBlock, place: usize) -> Result<u8, Error> {
 }
 
 // The end keys of the first partitions, and whether "a", "b" and "c" are admitted.
-type Told = ([u8; 3], [bool; 3]);
+type Told = ((u8, u8, u8), (bool, bool, bool));
 
 fn told(source: &BlockSource, tops: &IndexBlock) -> Result<Told, Error> {
-    let ends = [end_at(tops, 0)?, end_at(tops, 1)?, end_at(tops, 2)?];
-    let yes = [
+    let ends = (end_at(tops, 0)?, end_at(tops, 1)?, end_at(tops, 2)?);
+    let yes = (
         says(source, tops, b"a")?,
         says(source, tops, b"b")?,
         says(source, tops, b"c")?,
-    ];
+    );
     Ok((ends, yes))
 }
 
 // The same of what is written once options were set between the keys, and how many partitions
 // there are.
-fn told_of(alloc: Global, settings: [Setting; 3]) -> Result<(usize, Told), Error> {
+fn told_of(alloc: Global, settings: Settings) -> Result<(usize, Told), Error> {
     let (count, bytes) = written(alloc, settings)?;
     let source = BlockSource::new(alloc, bytes)?;
     let told = asked(tops_of(&source), |tops| told(&source, tops));
@@ -124,22 +127,22 @@ fn told_of(alloc: Global, settings: [Setting; 3]) -> Result<(usize, Told), Error
 
 // The settings before each key, how many partitions are written, and their end keys. Up to three keys
 // of ten bits have 8 bytes of bits, and two of 64 bits have 16.
-const CASES: &[([Setting; 3], usize, [u8; 3])] = &[
+const CASES: &[(Settings, usize, (u8, u8, u8))] = &[
     // never larger than the size, and a size that each key reaches
-    ([(100, 100), (100, 100), (100, 100)], 1, [b'c', 0, 0]),
-    ([(8, 100), (8, 100), (8, 100)], 3, [b'a', b'b', b'c']),
+    (((100, 100), (100, 100), (100, 100)), 1, (b'c', 0, 0)),
+    (((8, 100), (8, 100), (8, 100)), 3, (b'a', b'b', b'c')),
     // a smaller size, and a larger one behind it
-    ([(100, 100), (8, 100), (100, 100)], 2, [b'b', b'c', 0]),
-    ([(8, 100), (100, 100), (8, 100)], 2, [b'a', b'c', 0]),
+    (((100, 100), (8, 100), (100, 100)), 2, (b'b', b'c', 0)),
+    (((8, 100), (100, 100), (8, 100)), 2, (b'a', b'c', 0)),
     // another policy, and the first one again
-    ([(16, 100), (16, 640), (16, 100)], 2, [b'b', b'c', 0]),
-    ([(16, 640), (16, 100), (16, 640)], 1, [b'c', 0, 0]),
+    (((16, 100), (16, 640), (16, 100)), 2, (b'b', b'c', 0)),
+    (((16, 640), (16, 100), (16, 640)), 1, (b'c', 0, 0)),
 ];
 
 #[test]
 fn options_between_keys_keep_what_was_cut(rt: HostRuntime) {
-    for (settings, count, ends) in CASES {
-        let expected = (*count, (*ends, [true; 3]));
-        assert!(rt; told_of(rt.alloc(), *settings) == Ok(expected));
+    for &(settings, count, ends) in CASES {
+        let expected = (count, (ends, (true, true, true)));
+        assert!(rt; told_of(rt.alloc(), settings) == Ok(expected));
     }
 }

@@ -43,12 +43,12 @@ fn register_key<A: Allocator, W: FilterWriter<A>>(
     requires rises { Rises (W.Holds writer) key.now }
     requires unwritten { HasNoFilter sections.old }
 {
-    let mut answers = [0, 0];
+    let mut answers = (0, 0);
     if let Err(error) = writer.register_key(key) {
-        answers = [error.number(), number(writer.register_key(key).err())];
+        answers = (error.number(), number(writer.register_key(key).err()));
     }
-    let [first, second] = answers;
-    [first, second, number(writer.finish(sections).err())]
+    let (first, second) = answers;
+    (first, second, number(writer.finish(sections).err()))
 }
 
 // Registers a handle, twice where it is refused, and finishes.
@@ -60,12 +60,12 @@ fn register_block<A: Allocator, W: BlockIndexWriter<A>>(
     requires strict { AreStrictHandles (W.registered writer ++ handle.now ∷ []) }
     requires unwritten { HasNoIndex sections.old }
 {
-    let mut answers = [0, 0];
+    let mut answers = (0, 0);
     if let Err(error) = writer.register_data_block(handle) {
-        answers = [error.number(), number(writer.register_data_block(handle).err())];
+        answers = (error.number(), number(writer.register_data_block(handle).err()));
     }
-    let [first, second] = answers;
-    [first, second, number(writer.finish(sections).err())]
+    let (first, second) = answers;
+    (first, second, number(writer.finish(sections).err()))
 }
 
 // What is answered, and whether the bytes before stay.
@@ -163,7 +163,7 @@ fn index_of_none<A: Allocator + Copy, W: BlockIndexWriter<A> + Drop>(
 ) -> Outcome {
     let mut sections = with_front(alloc)?;
     let last = number(writer.finish(&mut sections).err());
-    Ok(([0, 0, last], has_front(sections)?))
+    Ok(((0, 0, last), has_front(sections)?))
 }
 
 // Begins a section, again where it is refused memory.

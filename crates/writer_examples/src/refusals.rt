@@ -12,14 +12,14 @@ pub(crate) fn number(refused: Option<Error>) -> u8 {
 }
 
 // What a call answers that is refused or not, the same call after a refusal, and the end.
-pub(crate) type Answers = [u8; 3];
+pub(crate) type Answers = (u8, u8, u8);
 
 // Whether nothing was refused; or memory where it may be, and each later call for that; or memory at
 // the end alone.
 pub(crate) fn are_right(answers: Result<Answers, Error>, may_fail: bool) -> bool {
     match answers {
-        Ok([0, 0, 0]) => true,
-        Ok([1, 23, 23] | [0, 0, 1]) | Err(Error::OutOfMemory) => may_fail,
+        Ok((0, 0, 0)) => true,
+        Ok((1, 23, 23) | (0, 0, 1)) | Err(Error::OutOfMemory) => may_fail,
         Ok(_) | Err(_) => false,
     }
 }
@@ -40,14 +40,14 @@ fn put<A: Allocator + Copy>(writer: &mut Writer<A>, item: InternalValue<A>) -> u
 }
 
 // The number of the first refusal of some entries, and that of a further entry behind it.
-fn put_up_to<A: Allocator + Copy>(alloc: A, writer: &mut Writer<A>) -> Result<[u8; 2], Error> {
+fn put_up_to<A: Allocator + Copy>(alloc: A, writer: &mut Writer<A>) -> Result<(u8, u8), Error> {
     for key in KEYS {
         let first = put(writer, item(alloc, key)?);
         if first != 0 {
-            return Ok([first, put(writer, item(alloc, b"d")?)]);
+            return Ok((first, put(writer, item(alloc, b"d")?)));
         }
     }
-    Ok([0, 0])
+    Ok((0, 0))
 }
 
 // What a writer of a block for each entry answers.
@@ -55,8 +55,8 @@ fn written<A: Allocator + Copy>(alloc: A) -> Result<Answers, Error> {
     let mut writer = new_writer(alloc)?.use_data_block_size(0);
     let put = put_up_to(alloc, &mut writer);
     let last = number(writer.finish().err());
-    let [first, second] = put?;
-    Ok([first, second, last])
+    let (first, second) = put?;
+    Ok((first, second, last))
 }
 
 #[test]
@@ -77,14 +77,14 @@ fn put_in_tables<A: Allocator + Copy>(writer: &mut MultiWriter<A>, item: Interna
 fn put_tables_up_to<A: Allocator + Copy>(
     alloc: A,
     writer: &mut MultiWriter<A>,
-) -> Result<[u8; 2], Error> {
+) -> Result<(u8, u8), Error> {
     for key in KEYS {
         let first = put_in_tables(writer, item(alloc, key)?);
         if first != 0 {
-            return Ok([first, put_in_tables(writer, item(alloc, b"d")?)]);
+            return Ok((first, put_in_tables(writer, item(alloc, b"d")?)));
         }
     }
-    Ok([0, 0])
+    Ok((0, 0))
 }
 
 // What a writer of a table for each entry answers.
@@ -93,8 +93,8 @@ fn tables_written<A: Allocator + Copy>(alloc: A) -> Result<Answers, Error> {
     let mut writer = MultiWriter::new(alloc, ids, 0, 0, Timestamp::from(0))?;
     let put = put_tables_up_to(alloc, &mut writer);
     let last = number(writer.finish().err());
-    let [first, second] = put?;
-    Ok([first, second, last])
+    let (first, second) = put?;
+    Ok((first, second, last))
 }
 
 #[test]
