@@ -2,8 +2,14 @@
 #![tactic(auto)]
 
 #[cfg(test)]
+mod filter_options;
+#[cfg(test)]
 mod many_tables;
 #[cfg(test)]
 mod one_entry_v4;
+#[cfg(test)]
+mod part_refusals;
+#[cfg(test)]
+mod refusals;
 #[cfg(test)]
 mod writers;
