@@ -98,7 +98,7 @@ fn faults_of_both<A: Allocator + Copy>(
     chained.saturating_add(packed)
 }
 
-// The same of runs that are made.
+// What is not as it should be of runs that are made.
 fn faults<A: Allocator + Copy>(alloc: A, packing: &Packing) -> u32 {
     match runs_of(alloc, packing.0) {
         Ok(runs) => faults_of_both(alloc, runs, packing),
@@ -106,11 +106,19 @@ fn faults<A: Allocator + Copy>(alloc: A, packing: &Packing) -> u32 {
     }
 }
 
+// What is not as it should be of the packing at a place of the table below.
+fn faults_at<A: Allocator + Copy>(alloc: A, place: usize) -> u32 {
+    match PACKINGS.get(place) {
+        Some(packing) => faults(alloc, packing),
+        None => 2,
+    }
+}
+
 // How many requests for memory the chain and the packing make, with their runs; where each of them
 // is refused in turn, no more than that refusal is not as it should be.
-fn packs_always(alloc: Global, packing: &Packing) -> Result<usize, usize> {
-    each_refused(alloc, |heap, may_fail| {
-        faults(heap, packing) <= u32::from(may_fail)
+fn packs_always(alloc: Global, place: usize) -> Result<usize, usize> {
+    each_refused(alloc, move |heap, may_fail| {
+        faults_at(heap, place) <= u32::from(may_fail)
     })
 }
 
@@ -124,6 +132,9 @@ const FOUR_RUNS: &[&[(u64, &str, &str)]] = &[
 ];
 
 const THREE: Packing = (THREE_RUNS, &[&[2], &[1], &[0]], &[0, 1, 2]);
+
+// The place of that packing.
+const OF_THREE: usize = 7;
 
 const PACKINGS: &[Packing] = &[
     (&[], &[], &[]),
@@ -152,10 +163,10 @@ const PACKINGS: &[Packing] = &[
 
 #[test]
 fn packed_runs_and_chains_with_each_request_for_memory_refused(rt: HostRuntime) {
-    for packing in PACKINGS {
-        assert!(rt; packs_always(rt.alloc(), packing).is_ok(), "{packing:?}");
+    for place in 0..PACKINGS.len() {
+        assert!(rt; packs_always(rt.alloc(), place).is_ok(), "{place}");
     }
-    assert!(rt; packs_always(rt.alloc(), &THREE).is_ok_and(|requests| requests > 5));
+    assert!(rt; packs_always(rt.alloc(), OF_THREE).is_ok_and(|requests| requests > 5));
 }
 
 // A run of some tables, which may be none.

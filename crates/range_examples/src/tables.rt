@@ -1,4 +1,5 @@
 //! Tables that have an id and a range alone, their runs, and what the tests ask of these.
+ghost use Rattle.std.specs.Prelude.{◌≡◌};
 
 use lsm_ranges::{KeyRange, Ranged, Run};
 use sst_entries::{Error, Slice};
