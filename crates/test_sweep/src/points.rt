@@ -3,7 +3,7 @@ use crate::same::{are_loads, is_answer, is_found};
 use lsm_tables::{Query, Table, get_many, point_in};
 use sst_blocks::{BlockSource, Counted, Error, InternalValue, SeqNo, Slice};
 use std::alloc::Global;
-use test_sweep_tables::{self as told, Loads};
+use test_sweep_tables::{self as told, Fault, Loads};
 
 const KEYS: [&[u8]; 4] = [b"", b"a", b"b", b"c"];
 
@@ -34,96 +34,95 @@ pub fn queries(alloc: Global) -> Result<Vec<Query>, Error> {
     Ok(queries)
 }
 
-// Whether a point read answers what it should, and loads what it should.
-fn is_got(alloc: Global, table: &Table, want: &told::Table<'_>, query: &Query) -> bool {
-    let key = query.key.as_slice();
+/// What a point read should answer, and what it should load.
+pub type Answer<'a> = (Result<Option<told::Item<'a>>, Fault>, Loads);
+
+fn answer_of<'a>(alloc: Global, want: &told::Table<'a>, query: &Query) -> Answer<'a> {
     let mut loads = Loads::none();
-    let wanted = told::get(alloc, want, key, query.seqno, &mut loads);
+    let answer = told::get(alloc, want, query.key.as_slice(), query.seqno, &mut loads);
+    (answer, loads)
+}
+
+fn put_answers<'a>(
+    alloc: Global,
+    answers: &mut Vec<Answer<'a>>,
+    want: &told::Table<'a>,
+    queries: &[Query],
+) -> Result<(), Error> {
+    for query in queries {
+        answers.push(answer_of(alloc, want, query))?;
+    }
+    Ok(())
+}
+
+/// What each read should answer and load.
+pub fn answers<'a>(
+    alloc: Global,
+    want: &told::Table<'a>,
+    queries: &[Query],
+) -> Result<Vec<Answer<'a>>, Error> {
+    let mut answers = Vec::new(alloc);
+    put_answers(alloc, &mut answers, want, queries)?;
+    Ok(answers)
+}
+
+// Whether a point read answers and loads what it should.
+fn is_got(table: &Table, query: &Query, answer: &Answer<'_>) -> bool {
+    let key = query.key.as_slice();
     let (found, opened) = table.get_counted(key, query.seqno, Table::<Global>::key_hash(key));
-    is_answer(&found, &wanted) && are_loads(&opened, loads)
+    is_answer(&found, &answer.0) && are_loads(&opened, answer.1)
 }
 
 // The same of a read over a source that counts.
-fn is_read(
-    alloc: Global,
-    source: &BlockSource,
-    table: &Table,
-    want: &told::Table<'_>,
-    query: &Query,
-) -> bool {
+fn is_read(source: &BlockSource, table: &Table, query: &Query, answer: &Answer<'_>) -> bool {
     let key = query.key.as_slice();
-    let mut loads = Loads::none();
-    let wanted = told::get(alloc, want, key, query.seqno, &mut loads);
     let mut counted = Counted::new(source);
     let hash = Table::<Global>::key_hash(key);
     let found = point_in(&mut counted, table, key, query.seqno, hash);
-    is_answer(&found, &wanted) && are_loads(&counted.opened(), loads)
+    is_answer(&found, &answer.0) && are_loads(&counted.opened(), answer.1)
 }
 
 /// Whether all point reads do, each in both ways.
 pub fn are_got(
-    alloc: Global,
     source: &BlockSource,
     table: &Table,
-    want: &told::Table<'_>,
     queries: &[Query],
+    answers: &[Answer<'_>],
 ) -> bool {
-    for query in queries {
-        if !is_got(alloc, table, want, query) || !is_read(alloc, source, table, want, query) {
+    for (query, answer) in queries.iter().zip(answers.iter()) {
+        if !is_got(table, query, answer) || !is_read(source, table, query, answer) {
             return false;
         }
     }
-    true
+    queries.len() == answers.len()
 }
 
-// What many reads answer at once.
-type Many = Result<Vec<Option<InternalValue<Global>>>, Error>;
-
-// Whether it has an answer at a place.
-fn has(found: &Many, place: usize, want: &Option<told::Item<'_>>) -> bool {
-    match found {
-        Ok(list) => match list.get(place) {
-            Some(answer) => is_found(answer, want),
-            None => false,
-        },
-        Err(_) => false,
-    }
-}
-
-fn is_refused(found: &Many, fault: told::Fault) -> bool {
-    match found {
-        Ok(_) => false,
-        Err(error) => error.number() == fault,
-    }
-}
-
-// Whether many reads answer what each answers alone, in order, or the earliest refusal.
-fn are_answers(alloc: Global, found: &Many, want: &told::Table<'_>, queries: &[Query]) -> bool {
-    for (place, query) in queries.iter().enumerate() {
-        let key = query.key.as_slice();
-        match told::get(alloc, want, key, query.seqno, &mut Loads::none()) {
-            Ok(wanted) if !has(found, place, &wanted) => return false,
-            Ok(_) => {}
-            Err(fault) => return is_refused(found, fault),
+// The earliest refusal.
+fn first_fault(answers: &[Answer<'_>]) -> Option<Fault> {
+    for (answer, _) in answers {
+        if let Err(fault) = answer {
+            return Some(*fault);
         }
     }
-    true
+    None
 }
 
-fn many_len(found: &Many) -> usize {
-    match found {
-        Ok(list) => list.len(),
-        Err(_) => 0,
+// Whether each read finds what it should.
+fn are_found(found: &[Option<InternalValue<Global>>], answers: &[Answer<'_>]) -> bool {
+    for (found, (answer, _)) in found.iter().zip(answers.iter()) {
+        match answer {
+            Ok(wanted) if is_found(found, wanted) => {}
+            _ => return false,
+        }
     }
+    found.len() == answers.len()
 }
 
-/// Whether many reads at once answer what they should.
-pub fn are_got_at_once(
-    alloc: Global,
-    table: &Table,
-    want: &told::Table<'_>,
-    queries: &[Query],
-) -> bool {
-    let found = get_many(table, queries);
-    are_answers(alloc, &found, want, queries) && many_len(&found) <= queries.len()
+/// Whether many reads at once answer what each answers alone, in order, or the earliest refusal.
+pub fn are_got_at_once(table: &Table, queries: &[Query], answers: &[Answer<'_>]) -> bool {
+    match (get_many(table, queries), first_fault(answers)) {
+        (Ok(found), None) => are_found(found.as_slice(), answers),
+        (Err(error), Some(fault)) => error.number() == fault,
+        _ => false,
+    }
 }

@@ -1,7 +1,7 @@
 //! The sweep: each byte of each table changed, under each pair of pins.
-use crate::points::{are_got, are_got_at_once, queries};
+use crate::points::{Answer, answers, are_got, are_got_at_once, queries};
 use crate::tables::{TABLES, table};
-use crate::walks::{ENDS, Ends, is_index, is_iter, is_range, is_scan};
+use crate::walks::{ENDS, Ends, Told, is_index, is_iter, is_range, is_scan, rows_of};
 use example_tables::large::asked;
 use lsm_tables::{Query, Table};
 use sst_blocks::{BlockSource, Checksum, Error, Slice};
@@ -64,54 +64,70 @@ fn add(count: &mut u64, more: u64) {
 // The reads of one table, in two ways, at once, and by ten walks.
 const READS: u64 = 2 * 12 + 1 + 3 * 3 + 1;
 
-// What is read otherwise from each end.
-fn walked_otherwise(alloc: Global, table: &Table, want: &told::Table<'_>) -> Option<What> {
+// What is read otherwise by readers.
+fn walked_otherwise(alloc: Global, table: &Table, told: &Told<'_>) -> Option<What> {
     for ends in ENDS {
-        if !is_iter(alloc, table, want, ends) {
+        if !is_iter(table, told, ends) {
             return Some(What::Iter(ends));
         }
-        if !is_range(alloc, table, want, ends) {
+        if !is_range(alloc, table, told, ends) {
             return Some(What::Range(ends));
         }
-        if !is_index(alloc, table, want, ends) {
+        if !is_index(table, told, ends) {
             return Some(What::Index(ends));
         }
+    }
+    if is_scan(table, told) {
+        None
+    } else {
+        Some(What::Scan)
+    }
+}
+
+// What is read otherwise by point reads.
+fn got_otherwise(
+    source: &BlockSource,
+    table: &Table,
+    queries: &[Query],
+    answers: &[Answer<'_>],
+) -> Option<What> {
+    if !are_got(source, table, queries, answers) {
+        return Some(What::Get);
+    }
+    if !are_got_at_once(table, queries, answers) {
+        return Some(What::GetMany);
     }
     None
 }
 
-// What is read otherwise.
-fn read_otherwise(
-    alloc: Global,
-    source: &BlockSource,
-    table: &Table,
-    want: &told::Table<'_>,
-    queries: &[Query],
-) -> Option<What> {
-    if !are_got(alloc, source, table, want, queries) {
-        return Some(What::Get);
-    }
-    if !are_got_at_once(alloc, table, want, queries) {
-        return Some(What::GetMany);
-    }
-    if !is_scan(alloc, table, want) {
-        return Some(What::Scan);
-    }
-    walked_otherwise(alloc, table, want)
-}
-
-// What is read otherwise, over the bytes of the table.
-fn read_over(
+// What is read otherwise by point reads, over the bytes of the table.
+fn got_over(
     alloc: Global,
     bytes: &Slice,
     table: &Table,
     want: &told::Table<'_>,
     queries: &[Query],
 ) -> Result<Option<What>, Error> {
+    let answers = answers(alloc, want, queries)?;
     asked(
         BlockSource::new(alloc, bytes.clone()?),
-        |source| Ok(read_otherwise(alloc, source, table, want, queries)),
+        |source| Ok(got_otherwise(source, table, queries, &answers)),
     )
+}
+
+// What is read otherwise.
+fn read_otherwise(
+    alloc: Global,
+    bytes: &Slice,
+    table: &Table,
+    want: &told::Table<'_>,
+    queries: &[Query],
+) -> Option<What> {
+    match got_over(alloc, bytes, table, want, queries) {
+        Ok(None) => walked_otherwise(alloc, table, &rows_of(alloc, want)),
+        Ok(what) => what,
+        Err(_) => Some(What::Memory),
+    }
 }
 
 // What the table that was opened reads otherwise.
@@ -123,10 +139,7 @@ fn taken(
     queries: &[Query],
 ) -> Option<What> {
     match want {
-        Ok(want) => match read_over(alloc, bytes, table, want, queries) {
-            Ok(what) => what,
-            Err(_) => Some(What::Memory),
-        },
+        Ok(want) => read_otherwise(alloc, bytes, table, want, queries),
         Err(fault) => Some(What::Opening(None, Some(*fault))),
     }
 }

@@ -7,7 +7,7 @@ use lsm_tables::{
 use sst_blocks::{Error, Opened, Slice};
 use std::alloc::Global;
 use std::ops::Bound;
-use test_sweep_tables::{self as told, Dealt, Fault, Row, Walk};
+use test_sweep_tables::{Dealt, Fault, Row, Walk, entry_rows, index_rows, scan_rows};
 
 /// What is walked. What does so is generic in it, so that none of its parts is looked at.
 pub trait Walked {
@@ -114,13 +114,32 @@ fn is_all_walked<W: Walked + Drop>(
     }
 }
 
-/// Whether all entries are dealt as they should be.
-pub fn is_iter(alloc: Global, table: &Table, want: &told::Table<'_>, ends: Ends) -> bool {
-    let rows = told::entry_rows(alloc, want, None);
-    is_all_walked(table.iter(), &rows, ends)
+/// What readers of a table should deal.
+#[derive(Drop)]
+pub struct Told<'a> {
+    entries: Result<Vec<Row<'a>>, Fault>,
+    above: Result<Vec<Row<'a>>, Fault>,
+    handles: Result<Vec<Row<'a>>, Fault>,
+    scan: Result<Vec<Row<'a>>, Fault>,
 }
 
 const ABOVE: &[u8] = b"a";
+
+/// What they should deal: all entries, those above a key, the handles of the index, and the entries
+/// in file order.
+pub fn rows_of<'a>(alloc: Global, want: &test_sweep_tables::Table<'a>) -> Told<'a> {
+    Told {
+        entries: entry_rows(alloc, want, None),
+        above: entry_rows(alloc, want, Some(ABOVE)),
+        handles: index_rows(alloc, want, None),
+        scan: scan_rows(alloc, want),
+    }
+}
+
+/// Whether all entries are dealt as they should be.
+pub fn is_iter(table: &Table, told: &Told<'_>, ends: Ends) -> bool {
+    is_all_walked(table.iter(), &told.entries, ends)
+}
 
 // The entries above a key.
 fn above(alloc: Global, table: &Table) -> Result<Iter<Global>, Error> {
@@ -131,25 +150,19 @@ fn above(alloc: Global, table: &Table) -> Result<Iter<Global>, Error> {
 }
 
 /// Whether the entries above a key are.
-pub fn is_range(alloc: Global, table: &Table, want: &told::Table<'_>, ends: Ends) -> bool {
-    let rows = told::entry_rows(alloc, want, Some(ABOVE));
-    is_all_walked(above(alloc, table), &rows, ends)
+pub fn is_range(alloc: Global, table: &Table, told: &Told<'_>, ends: Ends) -> bool {
+    is_all_walked(above(alloc, table), &told.above, ends)
 }
 
-fn index_walked(
-    index: &BlockIndexImpl<Global>,
-    rows: &Result<Vec<Row<'_>>, Fault>,
-    ends: Ends,
-) -> bool {
-    is_all_walked(index.iter(), rows, ends)
+fn index_walked(index: &BlockIndexImpl<Global>, told: &Told<'_>, ends: Ends) -> bool {
+    is_all_walked(index.iter(), &told.handles, ends)
 }
 
 /// Whether the handles of the index are.
-pub fn is_index(alloc: Global, table: &Table, want: &told::Table<'_>, ends: Ends) -> bool {
-    let rows = told::index_rows(alloc, want, None);
+pub fn is_index(table: &Table, told: &Told<'_>, ends: Ends) -> bool {
     match asked(
         table.block_index(),
-        |index| Ok(index_walked(index, &rows, ends)),
+        |index| Ok(index_walked(index, told, ends)),
     ) {
         Ok(is_right) => is_right,
         Err(_) => false,
@@ -169,10 +182,9 @@ fn refusal_of<T: Drop>(made: Result<T, Error>) -> Fault {
 }
 
 /// Whether a scan gives what it should, or is refused as it should be.
-pub fn is_scan(alloc: Global, table: &Table, want: &told::Table<'_>) -> bool {
-    let rows = told::scan_rows(alloc, want);
-    match &rows {
-        Ok(_) => is_all_walked(table.scan(), &rows, Ends::Fronts),
+pub fn is_scan(table: &Table, told: &Told<'_>) -> bool {
+    match &told.scan {
+        Ok(_) => is_all_walked(table.scan(), &told.scan, Ends::Fronts),
         Err(fault) => refusal_of(table.scan()) == *fault,
     }
 }
