@@ -1,0 +1,25 @@
+//! Tests of rows that are written and read back whole, of reads and scans that are refused memory,
+//! of long keys, of the targets at which tables are cut, and of ranges of numbers. Nothing here is
+//! for use.
+#![tactic(auto)]
+
+#[cfg(test)]
+mod again;
+#[cfg(test)]
+mod key_ranges;
+#[cfg(test)]
+mod long_keys;
+#[cfg(test)]
+mod rows;
+#[cfg(test)]
+mod run_rows;
+#[cfg(test)]
+mod scans;
+#[cfg(test)]
+mod table_rows;
+#[cfg(test)]
+mod tables;
+#[cfg(test)]
+mod targets;
+#[cfg(test)]
+mod walks;
