@@ -131,7 +131,7 @@ fn found_around_a_part<A: Allocator + Copy>(
 
 const A1_B2: [Row<'static>; 2] = [(b"a", 1, V, b"x"), (b"b", 2, V, b"x")];
 
-// The same of the run of a@6, a tombstone, behind that of a@3, and in front of that of a@1 and b@2. The memory of these runs
+// What is found around the run of a@6, a tombstone, behind that of a@3, and in front of that of a@1 and b@2. The memory of these runs
 // is plenty.
 fn found_around_a6<A: Allocator + Copy>(
     alloc: A,

@@ -86,8 +86,8 @@ pub fn pack_runs<A: Allocator + Clone>(
     // Of runs in order, for each key the tables whose range has it come in the same order,
     ensures holders { IfOk result (λ packed. AreInOrder range_of (map arc_value runs.now) →
         SameHolders range_of (map arc_value runs.now) packed.items) }
-    // each table stands one run behind the last run of an earlier table that it overlaps, or in the first, where there is
-    // more than one run,
+    // each table stands one run behind the last run of an earlier table that it overlaps, or in the
+    // first, where more than one run has a table,
     ensures placed { let given = map arc_value runs.now in IfOk result (λ packed.
         AreInOrder range_of given → 1 < length (filter has_table given) →
         ArePlaced range_of (tables_of given) packed.items) }

@@ -85,7 +85,7 @@ fn requests_of_one(alloc: Global, table: &(u64, &str, &str)) -> usize {
     }
 }
 
-// The same of some tables more, before the run is extended.
+// How many requests for memory four tables and some more make, before the run is extended.
 fn requests_of_more(alloc: Global, tables: &[(u64, &str, &str)]) -> usize {
     let heap = Refusing::new(alloc, 0);
     if is_made(four_and_more(&heap, tables)) {
@@ -101,7 +101,8 @@ fn pushes_refused(alloc: Global, table: &(u64, &str, &str), after: &[u64]) -> Re
     each_refused(alloc, |heap, may_fail| pushes(heap, table, after, may_fail))
 }
 
-// The same of extending the run.
+// How many requests for memory extending four tables makes, with what it is made of, each of which
+// may be refused.
 fn extensions_refused(
     alloc: Global,
     tables: &[(u64, &str, &str)],

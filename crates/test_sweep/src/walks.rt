@@ -99,7 +99,7 @@ fn is_walked<W: Walked>(walked: &mut W, rows: &[Row<'_>], ends: Ends) -> bool {
     walked.gives(false, None) && walked.gives(true, None)
 }
 
-// The same of a reader that may be refused, which none should be.
+// Whether a reader is made, which none should refuse, and walked to its end.
 fn is_all_walked<W: Walked + Drop>(
     made: Result<W, Error>,
     rows: &Result<Vec<Row<'_>>, Fault>,

@@ -157,7 +157,7 @@ fn answers_none(heap: &Refusing, table: &Table<&Refusing>) -> bool {
     get_many(table, &none).is_ok_and(|found| found.is_empty()) && heap.requests() == before
 }
 
-// The same of a table that is opened, where that is not refused.
+// Whether a table that is opened answers none to none, where opening it is not refused.
 fn asked_for_none(heap: &Refusing, may_fail: bool) -> bool {
     let opened = opened_in_blocks(heap, 0);
     is_right(
