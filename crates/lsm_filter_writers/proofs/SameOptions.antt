@@ -21,11 +21,18 @@ use Rattle.lsm_files.specs.Kinds.{filter_parts, filter_sections}
 use Rattle.lsm_files.specs.Layout.{Sections, appended}
 use Rattle.lsm_files.specs.Parts.{joined_parts, parts_by, rest_part}
 use Rattle.lsm_filter_writers.specs.Cutting.{closed_after, closed_by, waiting_after, waiting_by}
-use Rattle.lsm_filter_writers.specs.Given.{GivenKeys, KeyPart, all_keys, cut_with, given_by, key_part, keys_in, parts_of, pending_with, rest_keys, with_key}
+use Rattle.lsm_filter_writers.specs.Given.{GivenKeys, KeyPart, all_keys, cut_with, given_by, key_part, keys_in, no_keys, parts_of, pending_with, rest_keys, with_key}
 use Rattle.lsm_filter_writers.specs.Held.{AreFiltersOf}
 use Rattle.lsm_filter_writers.specs.Refusing.{filter_fault, given_fault, key_parts_bound, keys_fault, parts_bound, top_fault}
 use Rattle.lsm_filter_writers.specs.Writing.{WritesFilter, WritesParts, key_sections, sections_behind}
 use Rattle.lsm_filter_writers.proofs.CutLaws.{closed_cut, closed_full, closed_none, closed_same, closed_wait, parts_split, waiting_cut, waiting_full, waiting_more, waiting_none, waiting_wait}
+
+-- no key
+pub given_none : (kind : FilterKind) (policy : BloomConstructionPolicy) → given_by kind policy [] ≡ no_keys
+given_none Full policy = refl
+given_none (Partitioned size) policy =
+    let full = is_full_filter policy size in
+    rw (closed_none full [], waiting_none full []) refl
 
 -- one key more
 pub given_more : (kind : FilterKind) (policy : BloomConstructionPolicy) (keys : List (List ℕ)) (key : List ℕ) → with_key kind policy (given_by kind policy keys) key ≡ given_by kind policy (keys ++ key ∷ [])

@@ -44,7 +44,7 @@ parts_of policy given = given.cut ++ rest_keys policy given.pending
 abbrev pub pending_with : GivenKeys → List ℕ → GivenKeys
 pending_with given key = record given { pending = given.pending ++ key ∷ [] }
 
--- the same, and all that is pending is cut off as a part
+-- with a key more, all that is pending is cut off as a part
 abbrev pub cut_with : BloomConstructionPolicy → GivenKeys → List ℕ → GivenKeys
 cut_with policy given key =
     record { cut = given.cut ++ key_part policy (given.pending ++ key ∷ []) ∷ []; pending = [] }

@@ -41,7 +41,7 @@ partition_size (Partitioned size) = size
 abbrev pub parts_bound : BloomConstructionPolicy → List (List (List ℕ)) → ℕ
 parts_bound policy parts = sum_by (λ p. bound_for (tenths_of policy) (length p)) parts
 
--- the same of parts that have policies of their own
+-- how long the blocks of these parts are at most, where each part has a policy of its own
 abbrev pub key_parts_bound : List KeyPart → ℕ
 key_parts_bound parts =
     sum_by (λ (p : KeyPart). bound_for (tenths_of p.policy) (length p.keys)) parts
@@ -64,7 +64,9 @@ filter_fault (Partitioned size) policy keys =
     option_or (keys_fault policy (waiting_by full keys))
     (option_or (section_fault (parts_bound policy parts)) (top_fault (map last_of_keys parts)))
 
--- the same of keys that were given under any options, the last of them this kind and this policy
+-- what finishing a filter refuses of keys that were given under any options, this kind and this
+-- policy in force at the end: the filter of what is pending; then, of partitions, the section of
+-- all parts and the top level
 abbrev pub given_fault : FilterKind → BloomConstructionPolicy → GivenKeys → Option Error
 given_fault Full policy given = keys_fault policy given.pending
 given_fault (Partitioned size) policy given =

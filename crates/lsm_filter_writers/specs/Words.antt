@@ -16,6 +16,8 @@ pub use Rattle.lsm_filter_writers.specs.Answering.{IsAdmitted, was_given}
 pub use Rattle.lsm_filter_writers.specs.Given.{GivenKeys, all_keys, given_by, no_keys, with_key}
 pub use Rattle.lsm_filter_writers.specs.Held.{Cuts, HoldsAll, HoldsHashes, HoldsParts}
 pub use Rattle.lsm_filter_writers.specs.Held.{end_keys, filters_of, partition_of}
-pub use Rattle.lsm_filter_writers.specs.Refusing.{keys_fault, partition_size, register_fault, top_fault}
+pub use Rattle.lsm_filter_writers.specs.Refusing.{filter_fault, given_fault, keys_fault}
+pub use Rattle.lsm_filter_writers.specs.Refusing.{partition_size, register_fault, top_fault}
 pub use Rattle.lsm_filter_writers.specs.Rising.{AreRising}
-pub use Rattle.lsm_filter_writers.specs.Writing.{WritesParts, part_sections, tops_block, tops_of}
+pub use Rattle.lsm_filter_writers.specs.Writing.{WritesFilter, WritesParts}
+pub use Rattle.lsm_filter_writers.specs.Writing.{part_sections, tops_block, tops_of}

@@ -11,4 +11,6 @@ pub use either::FilterWriterImpl;
 pub use full::FullFilterWriter;
 pub use lsm_files::FilterKind;
 pub use partitioned::PartitionedFilterWriter;
-pub use writer::{FilterWriter, registered_keys_are_admitted, small_partitions_fit};
+pub use writer::{
+    FilterWriter, options_set_before_keys, registered_keys_are_admitted, small_partitions_fit,
+};

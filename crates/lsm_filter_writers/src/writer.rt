@@ -1,8 +1,10 @@
 //! What writers of a filter do.
 ghost use Rattle.std.specs.Prelude.{◌≡◌, ◌<◌, ◌≤◌, ◌^◌, ◌++◌, ◌∷◌, ℕ, List, [], None, true};
-ghost use Rattle.lsm_filter_writers.specs.Words.{AreRising, GivenKeys, IsAdmitted, WritesParts};
-ghost use Rattle.lsm_filter_writers.specs.Words.{all_keys, given_by, partition_size};
-ghost use Rattle.lsm_filter_writers.specs.Words.{register_fault, tenths_of, was_given, with_key};
+ghost use Rattle.lsm_filter_writers.specs.Words.{AreRising, GivenKeys, IsAdmitted};
+ghost use Rattle.lsm_filter_writers.specs.Words.{WritesFilter, WritesParts};
+ghost use Rattle.lsm_filter_writers.specs.Words.{all_keys, filter_fault, given_by, given_fault};
+ghost use Rattle.lsm_filter_writers.specs.Words.{no_keys, partition_size, register_fault};
+ghost use Rattle.lsm_filter_writers.specs.Words.{tenths_of, was_given, with_key};
 ghost use Rattle.lsm_files.specs.declared.options.FilterKind.{FilterKind};
 ghost use Rattle.sst_sections.specs.Sections.{Written};
 ghost use Rattle.sst_filters.specs.declared.policy.BloomConstructionPolicy.{BloomConstructionPolicy};
@@ -113,6 +115,29 @@ pub fn small_partitions_fit()
     ensures { (kind : FilterKind) (policy : BloomConstructionPolicy) (keys : List (List ℕ))
         (key : List ℕ) → tenths_of policy < 2 ^ 32 → partition_size kind ≤ 4194304 →
         register_fault kind policy (given_by kind policy keys).pending key ≡ None }
+{}
+
+/// A law of keys that were all registered under one kind and one policy, set before the first one.
+/// What a writer stands for then, key by key, is what their list is cut into. So
+/// [`FilterWriter::finish`] writes the filters of the parts of the list: all of it for a full
+/// filter, else the shortest fronts whose filters are as large as the partition size, and what is
+/// left. Memory aside, a writer that has not refused before refuses exactly the fault that is told
+/// of the list: a filter of all keys, or of those behind the last cut, that is too large; then, of
+/// partitions alone, too long a section, and a top level that cannot be written. The call does
+/// nothing.
+pub fn options_set_before_keys()
+    ensures none { (kind : FilterKind) (policy : BloomConstructionPolicy) →
+        given_by kind policy [] ≡ no_keys }
+    ensures more { (kind : FilterKind) (policy : BloomConstructionPolicy) (keys : List (List ℕ))
+        (key : List ℕ) →
+        with_key kind policy (given_by kind policy keys) key
+        ≡ given_by kind policy (keys ++ key ∷ []) }
+    ensures writes { (kind : FilterKind) (policy : BloomConstructionPolicy) (keys : List (List ℕ))
+        (before after : Written) (count : ℕ) →
+        WritesParts kind policy (given_by kind policy keys) before after count →
+        WritesFilter kind policy keys before after count }
+    ensures fault { (kind : FilterKind) (policy : BloomConstructionPolicy) (keys : List (List ℕ)) →
+        given_fault kind policy (given_by kind policy keys) ≡ filter_fault kind policy keys }
 {}
 
 /// A law of what [`FilterWriter::finish`] writes, whatever options were set between keys: the filter

@@ -49,8 +49,8 @@ pub trait BlockIndexWriter<A: Allocator> {
     /// [`Error::OutOfMemory`]. The bytes that were written before stay.
     ///
     /// Without handles it writes the section of the partitions, where it has partitions, with no bytes,
-    /// and a block of no handles: only the section writer takes memory, and where that is refused no
-    /// byte is written.
+    /// and a block of no handles. Where that is refused, no byte is written (`idle`); that nothing
+    /// but the section writer takes memory for it is to be read in the code.
     fn finish(self, writer: &mut SectionWriter<A>) -> Result<usize, Error>
         requires { HasNoIndex writer.old }
         ensures ok { OnOk result (writer.new ≡ appended writer.old

@@ -13,7 +13,7 @@ pub use lsm_files::{
 };
 pub use lsm_filter_writers::{
     FilterWriter, FilterWriterImpl, FullFilterWriter, PartitionedFilterWriter,
-    registered_keys_are_admitted, small_partitions_fit,
+    options_set_before_keys, registered_keys_are_admitted, small_partitions_fit,
 };
 pub use lsm_index_writers::{
     BlockIndexWriter, FullIndexWriter, IndexWriterImpl, PartitionedIndexWriter,
