@@ -24,9 +24,7 @@ fn add(
     ensures { IfOk result (λ w. (given : GivenKeys) → HoldsParts writer given →
         HoldsParts w (with_key (Partitioned size) policy given key.now)) }
 {
-    let mut writer = writer
-        .use_partition_size(size)
-        .set_filter_policy(policy);
+    let mut writer = writer.use_partition_size(size).set_filter_policy(policy);
     writer.register_key(key)?;
     Ok(writer)
 }

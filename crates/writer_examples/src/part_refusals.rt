@@ -62,7 +62,10 @@ fn register_block<A: Allocator, W: BlockIndexWriter<A>>(
 {
     let mut answers = (0, 0);
     if let Err(error) = writer.register_data_block(handle) {
-        answers = (error.number(), number(writer.register_data_block(handle).err()));
+        answers = (
+            error.number(),
+            number(writer.register_data_block(handle).err()),
+        );
     }
     let (first, second) = answers;
     (first, second, number(writer.finish(sections).err()))
@@ -177,10 +180,7 @@ fn start<A: Allocator + Copy>(sections: &mut SectionWriter<A>) -> Result<(), Err
 }
 
 // Writes bytes, again where it is refused memory.
-fn append<A: Allocator + Copy>(
-    sections: &mut SectionWriter<A>,
-    bytes: &[u8],
-) -> Result<(), Error> {
+fn append<A: Allocator + Copy>(sections: &mut SectionWriter<A>, bytes: &[u8]) -> Result<(), Error> {
     match sections.append(bytes) {
         Ok(()) => Ok(()),
         Err(_) => sections.append(bytes),
@@ -200,7 +200,9 @@ fn section_of<A: Allocator + Copy>(alloc: A) -> Result<Slice<A>, Error> {
 // Whether a section is written, though a request is refused once.
 fn is_section<A: Allocator + Copy>(alloc: A, may_fail: bool) -> bool {
     match section_of(alloc) {
-        Ok(section) => section.as_slice().starts_with(b"some bytes, more than were there"),
+        Ok(section) => section
+            .as_slice()
+            .starts_with(b"some bytes, more than were there"),
         Err(Error::OutOfMemory) => may_fail,
         Err(_) => false,
     }
@@ -229,7 +231,10 @@ fn an_index_of_no_handles_takes_memory_for_sections_alone(rt: HostRuntime) {
     );
     let partitioned = each_refused(
         rt.alloc(),
-        |heap, may_fail| is_right(index_of_none(heap, PartitionedIndexWriter::new(heap)), may_fail),
+        |heap, may_fail| is_right(
+            index_of_none(heap, PartitionedIndexWriter::new(heap)),
+            may_fail,
+        ),
     );
     let heap = Refusing::new(rt.alloc(), 0);
     assert!(rt; matches!(section_of_28(&heap), Ok(true)));

@@ -61,7 +61,10 @@ fn written<A: Allocator + Copy>(alloc: A) -> Result<Answers, Error> {
 
 #[test]
 fn a_writer_that_was_refused_memory_has_failed(rt: HostRuntime) {
-    let answers = each_refused(rt.alloc(), |heap, may_fail| are_right(written(heap), may_fail));
+    let answers = each_refused(
+        rt.alloc(),
+        |heap, may_fail| are_right(written(heap), may_fail),
+    );
     assert!(rt; matches!(answers, Ok(requests) if requests > 9));
 }
 
