@@ -206,7 +206,7 @@ fn stays_over<W: Sought>(iter: &mut W) -> bool {
         && is_over(iter)
 }
 
-fn came<W: Sought + Drop>(iter: Result<W, Error>, is_loaded: bool, calls: &[Call]) -> Came {
+fn outcome_of<W: Sought + Drop>(iter: Result<W, Error>, is_loaded: bool, calls: &[Call]) -> Came {
     let mut iter = match iter {
         Ok(iter) => iter,
         Err(Error::OutOfMemory) => return Came::Unmade,
@@ -257,7 +257,7 @@ fn counted(so_far: Refusals, came: &Came) -> Option<Refusals> {
 // How many requests a run makes, where none is refused and all comes out so.
 fn requests_of(alloc: Global, kind: &Kind, bytes: &[u8]) -> Option<usize> {
     let heap = Refusing::new(alloc, 0);
-    match came(made(&heap, bytes, pins_index(kind)), is_loaded(kind), CALLS) {
+    match outcome_of(made(&heap, bytes, pins_index(kind)), is_loaded(kind), CALLS) {
         Came::Ample => Some(heap.requests()),
         _ => None,
     }
@@ -269,7 +269,7 @@ fn refusals(alloc: Global, kind: &Kind, bytes: &[u8]) -> Option<Refusals> {
     let mut refusals = (0, 0, 0);
     for nth in 1..=requests {
         let heap = Refusing::new(alloc, nth);
-        let came = came(made(&heap, bytes, pins_index(kind)), is_loaded(kind), CALLS);
+        let came = outcome_of(made(&heap, bytes, pins_index(kind)), is_loaded(kind), CALLS);
         refusals = counted(refusals, &came)?;
     }
     Some(refusals)
