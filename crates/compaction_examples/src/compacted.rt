@@ -123,15 +123,19 @@ fn what_is_kept_is_read_within_bounds(rt: HostRuntime) {
     }
 }
 
-// The refusal of a list with a key of so many bytes, behind another entry.
-fn refusal_of_a_key<A: Allocator + Copy>(alloc: A, length: usize) -> Result<bool, Error> {
-    let mut key = Vec::new(alloc);
-    key.resize(length, b'k')?;
-    let rows = [
-        (b"a".as_slice(), 1, ValueType::Value, b"x".as_slice()),
-        (key.as_slice(), 1, ValueType::Value, b"y".as_slice()),
+// Whether something is kept of a list with this key, behind another entry.
+fn is_kept_with<A: Allocator + Copy>(alloc: A, key: &[u8]) -> Result<bool, Error> {
+    let rows: [Row<'_>; 2] = [
+        (b"a", 1, ValueType::Value, b"x"),
+        (key, 1, ValueType::Value, b"y"),
     ];
     Ok(read_kept(alloc, &rows, (0, false, false), b"a", 7, ALL)?.is_some())
+}
+
+// The refusal of a list with a key of so many bytes.
+fn refusal_of_a_key<A: Allocator + Copy>(alloc: A, length: usize) -> Result<bool, Error> {
+    let key = vec![in alloc; 0x6bu8; length]?;
+    is_kept_with(alloc, &key)
 }
 
 #[test]
