@@ -1,2 +1,1 @@
 pub mod HandleLemmas
-pub mod KeyLemmas
