@@ -26,6 +26,6 @@ pub use sst_filters::{BloomConstructionPolicy, Builder, contains_hash, filter_bo
 pub use sst_sections::{
     Checksum, Direction, Error, InternalKey, InternalValue, IterItem, Section, SectionName,
     SectionWriter, SeqNo, Slice, TableVersion, TagName, Toc, UserKey, UserValue, ValueType,
-    answer_at, answers_at, are_strict, compare_versions, from_the_front, hash, hash_four,
-    source_of,
+    answer_at, answers_at, are_strict, compare_versions, from_the_front, has_hash, hash, hash_four,
+    have_hashes, source_of,
 };

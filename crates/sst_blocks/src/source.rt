@@ -12,12 +12,12 @@ ghost use Rattle.std.specs.Option.{option_or};
 ghost use Rattle.sst_blocks.specs.Opened.{with_load, none_opened};
 ghost use Rattle.sst_sections.specs.Sections.{body_of, section_in, section_names, trailer_fault};
 ghost use Rattle.sst_blocks.specs.declared.opened.Opened.{Opened};
-ghost use Rattle.sst_blocks.specs.declared.block_type.BlockType.TheVariants.{Data};
 
 use crate::block::{Header, has_room};
 use crate::marks::{Marks, SPAN};
 use crate::{
-    Block, BlockHandle, BlockType, Error, Opened, Slice, TableVersion, Toc, hash, hash_four,
+    Block, BlockHandle, BlockType, Error, Opened, Slice, TableVersion, Toc, has_hash, hash_four,
+    have_hashes,
 };
 use sst_sections::TRAILER_LEN;
 use sst_sections::number::{u32_at, u64_at};
@@ -346,7 +346,7 @@ impl<A: Allocator + Clone> BlockSource<A> {
         if self.remembers(checksum, start, end) {
             return true;
         }
-        let same = hash(&self.body()[start..end]) == checksum;
+        let same = has_hash(&self.body()[start..end], checksum);
         if same {
             self.remember(checksum, start, end);
         }
@@ -391,43 +391,124 @@ impl<A: Allocator + Clone> BlockSource<A> {
         u32_at(&head[8..]) as usize == end - start && u64_at(&head[16..]) == checksum
     }
 
-    /// Compares the checksums of the data block at a position and of up to three behind it, up to one that is remembered, where
-    /// that of the first is not and there is memory to remember them; those of four in one loop. A block that ends in the 2,048 bytes in which it starts is the
-    /// last that is compared. Loading the blocks, one after another, answers what it would without.
-    pub fn compare_ahead(&self, position: u64) {
+    /// Compares the checksums of the data block at a position and of those behind it, `most` blocks at most and no more than
+    /// four, up to one that is remembered, where that of the first is not and there is memory to remember them; those of two
+    /// or four in one loop. A block that ends in the 2,048 bytes in which it starts is the last that is compared. Loading the
+    /// blocks, one after another, answers what it would without.
+    pub fn compare_ahead(&self, position: u64, most: usize) {
         let Some(marks) = &self.marks else {
             return;
         };
-        let first = self.said_at(position);
+        let first = self.said_at(position, BlockType::Data);
         match first {
             Some(said) if !marks.has_sum(said.start as u64) => {}
             _ => return,
         }
+        if most < 2 {
+            return;
+        }
         let second = self.said_behind(marks, first);
+        if most < 4 {
+            self.compare_both(marks, first, second);
+            return;
+        }
         let third = self.said_behind(marks, second);
         let fourth = self.said_behind(marks, third);
+        self.compare_four(marks, first, second, third, fourth);
+    }
+
+    /// Compares the checksums of the blocks that these handles name, four at a time in one loop, where they are not
+    /// remembered and there is memory to remember them. A block that ends in the 2,048 bytes in which it starts is left out:
+    /// another that starts there would take its place among those that are remembered. Loading the blocks answers what it
+    /// would without.
+    pub fn compare_together(&self, blocks: &[(BlockHandle, BlockType)]) {
+        let Some(marks) = &self.marks else {
+            return;
+        };
+        let mut at = 0;
+        while at < blocks.len() {
+            let first = self.said_of(marks, blocks.get(at));
+            let second = self.said_of(marks, blocks.get(at + 1));
+            let third = self.said_of(marks, blocks.get(at + 2));
+            let fourth = self.said_of(marks, blocks.get(at + 3));
+            self.compare_four(marks, first, second, third, fourth);
+            at = at.saturating_add(4);
+        }
+    }
+
+    /// Compares the checksums of four payloads, where there are as many in one loop, and marks those that have what their
+    /// headers say. The bytes of fewer are walked over from both ends at once.
+    fn compare_four(
+        &self,
+        marks: &Marks<A>,
+        first: Option<Said>,
+        second: Option<Said>,
+        third: Option<Said>,
+        fourth: Option<Said>,
+    )
+        requires of { marks.now.table.shared.key ≡ self.now }
+        requires first { IfSome first (λ s. IsSaid self.now s.start s.end s.checksum) }
+        requires second { IfSome second (λ s. IsSaid self.now s.start s.end s.checksum) }
+        requires third { IfSome third (λ s. IsSaid self.now s.start s.end s.checksum) }
+        requires fourth { IfSome fourth (λ s. IsSaid self.now s.start s.end s.checksum) }
+    {
+        if first.is_none() || second.is_none() || third.is_none() || fourth.is_none() {
+            self.compare_both(marks, first, second);
+            self.compare_both(marks, third, fourth);
+            return;
+        }
         let sums = hash_four(
             self.payload(first),
             self.payload(second),
             self.payload(third),
             self.payload(fourth),
         );
-        self.mark_said(marks, first, sums.0);
-        self.mark_said(marks, second, sums.1);
-        self.mark_said(marks, third, sums.2);
-        self.mark_said(marks, fourth, sums.3);
+        self.mark_said(marks, first, sums.0 == sum_of(first));
+        self.mark_said(marks, second, sums.1 == sum_of(second));
+        self.mark_said(marks, third, sums.2 == sum_of(third));
+        self.mark_said(marks, fourth, sums.3 == sum_of(fourth));
     }
 
-    /// What the header of the data block at a position says of its payload, where a load there would come to the checksum: no
-    /// payload is hashed for a header that is refused.
-    fn said_at(&self, position: u64) -> Option<Said>
+    /// Compares the checksums of two payloads in one loop, each from both ends, and marks those that have what their headers
+    /// say.
+    fn compare_both(&self, marks: &Marks<A>, first: Option<Said>, second: Option<Said>)
+        requires of { marks.now.table.shared.key ≡ self.now }
+        requires first { IfSome first (λ s. IsSaid self.now s.start s.end s.checksum) }
+        requires second { IfSome second (λ s. IsSaid self.now s.start s.end s.checksum) }
+    {
+        let (is_first, is_second) = have_hashes(
+            self.payload(first),
+            sum_of(first),
+            self.payload(second),
+            sum_of(second),
+        );
+        self.mark_said(marks, first, is_first);
+        self.mark_said(marks, second, is_second);
+    }
+
+    /// What the header of the block of a handle says of its payload, as [`BlockSource::said_at`] at its position, where the
+    /// checksum is not remembered and the payload passes the 2,048 bytes in which it starts.
+    fn said_of(&self, marks: &Marks<A>, block: Option<&(BlockHandle, BlockType)>) -> Option<Said>
+        ensures { IfSome result (λ said. IsSaid self.now said.start said.end said.checksum) }
+    {
+        let (handle, kind) = block?;
+        let said = self.said_at(handle.offset().0, *kind)?;
+        if said.start as u64 / SPAN == said.end as u64 / SPAN || marks.has_sum(said.start as u64) {
+            return None;
+        }
+        Some(said)
+    }
+
+    /// What the header of the block of a kind at a position says of its payload, where a load there would come to the checksum:
+    /// no payload is hashed for a header that is refused.
+    fn said_at(&self, position: u64, kind: BlockType) -> Option<Said>
         ensures said { IfSome result (λ said. IsSaid self.now said.start said.end said.checksum) }
         ensures tested { IfSome result (λ said.
             let payload = slice_range (body_of self.now) said.start said.end in
             let head = slice_range (body_of self.now) position (position + header_len) in
-            position_fault (body_of self.now) position Data
+            position_fault (body_of self.now) position kind
             ≡ option_or (checksum_fault said.checksum payload)
-            (room_fault (version_in head) Data payload)) }
+            (room_fault (version_in head) kind payload)) }
     {
         let body = self.body();
         if body.len() < HEADER_LEN || ((body.len() - HEADER_LEN) as u64) < position {
@@ -435,7 +516,7 @@ impl<A: Allocator + Clone> BlockSource<A> {
         }
         let header_start = position as usize;
         let start = header_start + HEADER_LEN;
-        let Ok(header) = Header::decode(&body[header_start..start], BlockType::Data) else {
+        let Ok(header) = Header::decode(&body[header_start..start], kind) else {
             return None;
         };
         let len = header.data_len as usize;
@@ -458,7 +539,7 @@ impl<A: Allocator + Clone> BlockSource<A> {
         if before.start as u64 / SPAN == before.end as u64 / SPAN {
             return None;
         }
-        let said = self.said_at(before.end as u64)?;
+        let said = self.said_at(before.end as u64, BlockType::Data)?;
         // It keeps its mark, which may say more.
         if marks.has_sum(said.start as u64) {
             return None;
@@ -477,17 +558,28 @@ impl<A: Allocator + Clone> BlockSource<A> {
         }
     }
 
-    /// Marks a payload whose checksum is what its header says.
-    fn mark_said(&self, marks: &Marks<A>, said: Option<Said>, sum: u64)
+    /// Marks a payload where it has the checksum that its header says.
+    fn mark_said(&self, marks: &Marks<A>, said: Option<Said>, has_sum: bool)
         requires of { marks.now.table.shared.key ≡ self.now }
         requires said { IfSome said (λ s. IsSaid self.now s.start s.end s.checksum) }
-        requires sum { IfSome said (λ s. sum ≡ fnv1a (slice_range self.now s.start s.end)) }
+        requires sum { IfSome said (λ s.
+            IsTrue has_sum → fnv1a (slice_range self.now s.start s.end) ≡ s.checksum) }
     {
         if let Some(said) = said {
-            if sum == said.checksum {
+            if has_sum {
                 marks.mark_sum(said.start as u64);
             }
         }
+    }
+}
+
+// The checksum that is said, or 0.
+fn sum_of(said: Option<Said>) -> u64
+    ensures { IfSome said (λ s. result ≡ s.checksum) }
+{
+    match said {
+        Some(said) => said.checksum,
+        None => 0,
     }
 }
 
