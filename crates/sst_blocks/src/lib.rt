@@ -8,6 +8,7 @@ mod data_block;
 mod filter_block;
 mod handle;
 mod index_block;
+mod loads;
 mod marks;
 mod opened;
 mod source;
@@ -20,8 +21,9 @@ pub use data_block::{DataBlock, Iter as DataBlockIter, data_block_bound};
 pub use filter_block::FilterBlock;
 pub use handle::{BlockHandle, BlockOffset, KeyedBlockHandle, are_strict_handles};
 pub use index_block::{IndexBlock, Iter as IndexBlockIter, index_block_bound};
+pub use loads::{Counted, LoadBlocks};
 pub use opened::Opened;
-pub use source::{BlockSource, Counted, LoadBlocks};
+pub use source::BlockSource;
 pub use sst_filters::{BloomConstructionPolicy, Builder, contains_hash, filter_bound};
 pub use sst_sections::{
     Checksum, Direction, Error, InternalKey, InternalValue, IterItem, Section, SectionName,

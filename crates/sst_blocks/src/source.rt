@@ -1,6 +1,6 @@
 //! The only way to the blocks of a table's bytes.
 ghost use Rattle.std.specs.Prelude.{◌≡◌, ◌↔◌, ◌+◌, ◌<◌, ◌≤◌, ◌^◌, List, ℕ, length, map, slice_range};
-ghost use Rattle.std.specs.Prelude.{IfOk, IfSome, IsTrue, MatchOption, None, true};
+ghost use Rattle.std.specs.Prelude.{IfErr, IfOk, IfSome, IsTrue, OnOk, MatchOption, Err, None, Some, true};
 ghost use Rattle.sst_blocks.specs.Block.{Loaded, checked_payload, checksum_fault, has_room};
 ghost use Rattle.sst_blocks.specs.Block.{header_len, in_grammar, room_fault, version_in};
 ghost use Rattle.sst_blocks.specs.Block.{load_told, load_at_told, place_fault, position_fault};
@@ -9,9 +9,12 @@ ghost use Rattle.sst_sections.specs.Fnv.{fnv1a};
 ghost use Rattle.std.specs.Arc.{arc_value};
 ghost use Rattle.sst_entries.specs.Error.{Gives, Refuses, FaultsFirst};
 ghost use Rattle.std.specs.Option.{option_or};
-ghost use Rattle.sst_blocks.specs.Opened.{with_load, none_opened};
+ghost use Rattle.sst_blocks.specs.Opened.{with_load};
+ghost use Rattle.sst_blocks.specs.Placed.{IsPlaced};
 ghost use Rattle.sst_sections.specs.Sections.{body_of, section_in, section_names, trailer_fault};
 ghost use Rattle.sst_blocks.specs.declared.opened.Opened.{Opened};
+
+mod reads;
 
 use crate::block::{Header, has_room};
 use crate::marks::{Marks, SPAN};
@@ -159,24 +162,8 @@ impl<A: Allocator + Clone> BlockSource<A> {
         ensures counted { opened.new ≡ with_load kind opened.old }
     {
         opened.count(kind);
-        let body = self.body();
-        let size = handle.size() as usize;
-        if size < HEADER_LEN
-            || body.len() < size
-            || ((body.len() - size) as u64) < handle.offset().0
-        {
-            // No room for a header, or past the body.
-            return Err(Error::Truncated);
-        }
-        let start = handle.offset().0 as usize;
-        let header = Header::decode(&body[start..start + HEADER_LEN], kind)?;
-        if header.data_len != header.uncompressed_len
-            || HEADER_LEN + header.data_len as usize != size
-        {
-            // Two lengths, or another than the handle's.
-            return Err(Error::InvalidHeader);
-        }
-        self.block(header, kind, start + HEADER_LEN, start + size)
+        let placed = self.place(handle, kind)?;
+        self.block(placed.header, kind, placed.start, placed.end)
     }
 
     /// The block of a kind that begins at a position, with the size that its header says. Refused as [`BlockSource::load`];
@@ -215,6 +202,40 @@ impl<A: Allocator + Clone> BlockSource<A> {
         self.block(header, kind, start, start + len)
     }
 
+    /// Where the payload lies of the block of a kind that a handle names, and its header. Refused with
+    /// what is wrong with the place, the header or its lengths.
+    fn place(&self, handle: &BlockHandle, kind: BlockType) -> Result<Placed, Error>
+        ensures placed { IfOk result (λ p.
+            IsPlaced (body_of self.now) handle.now.offset handle.now.size kind p) }
+        ensures told { let body = body_of self.now in
+            IfErr result (λ e. load_told body handle.now.offset handle.now.size kind ≡ Err e) }
+        ensures first { let body = body_of self.now in
+            IfErr result (λ e. place_fault body handle.now.offset handle.now.size kind ≡ Some e) }
+    {
+        let body = self.body();
+        let size = handle.size() as usize;
+        if size < HEADER_LEN
+            || body.len() < size
+            || ((body.len() - size) as u64) < handle.offset().0
+        {
+            // No room for a header, or past the body.
+            return Err(Error::Truncated);
+        }
+        let start = handle.offset().0 as usize;
+        let header = Header::decode(&body[start..start + HEADER_LEN], kind)?;
+        if header.data_len != header.uncompressed_len
+            || HEADER_LEN + header.data_len as usize != size
+        {
+            // Two lengths, or another than the handle's.
+            return Err(Error::InvalidHeader);
+        }
+        Ok(Placed {
+            header,
+            start: start + HEADER_LEN,
+            end: start + size,
+        })
+    }
+
     /// The bytes before the trailer.
     fn body(&self) -> &[u8]
         ensures body { result.now ≡ body_of self.now }
@@ -241,8 +262,42 @@ impl<A: Allocator + Clone> BlockSource<A> {
             FaultsFirst result (option_or (checksum_fault header.checksum payload)
             (room_fault header.version kind payload)) }
     {
-        if self.was_tested(&header, kind, start, end) {
-            return self.open(&header, kind, start, end, true);
+        let is_tested = self.test(&header, kind, start, end)?;
+        let block = self.open(&header, kind, start, end, is_tested)?;
+        if !is_tested {
+            self.remember_test(&header, kind, start, end);
+        }
+        Ok(block)
+    }
+
+    /// Whether it was tested before that the payload from `start` up to `end` is in its grammar, where
+    /// it has the checksum that its header says, and room for what it counts. Refused
+    /// [`Error::ChecksumMismatch`] and [`Error::InvalidBlock`] where it does not.
+    fn test(
+        &self,
+        header: &Header,
+        kind: BlockType,
+        start: usize,
+        end: usize,
+    ) -> Result<bool, Error>
+        requires ordered { start ≤ end }
+        requires within { end ≤ length (body_of self.now) }
+        ensures sum { let payload = slice_range (body_of self.now) start end in
+            OnOk result (fnv1a payload ≡ header.now.checksum) }
+        ensures room { let payload = slice_range (body_of self.now) start end in
+            OnOk result (has_room header.now.version kind payload ≡ true) }
+        ensures tested { let payload = slice_range (body_of self.now) start end in
+            IfOk result (λ is_tested.
+            IsTrue is_tested → in_grammar header.now.version kind payload ≡ true) }
+        ensures told { let payload = slice_range (body_of self.now) start end in
+            IfErr result (λ e.
+            checked_payload header.now.version header.now.checksum kind payload ≡ Err e) }
+        ensures first { let payload = slice_range (body_of self.now) start end in
+            IfErr result (λ e. option_or (checksum_fault header.now.checksum payload)
+            (room_fault header.now.version kind payload) ≡ Some e) }
+    {
+        if self.was_tested(header, kind, start, end) {
+            return Ok(true);
         }
         if !self.has_sum(header.checksum, start, end) {
             return Err(Error::ChecksumMismatch);
@@ -250,9 +305,7 @@ impl<A: Allocator + Clone> BlockSource<A> {
         if !has_room(header.version, kind, &self.body()[start..end]) {
             return Err(Error::InvalidBlock);
         }
-        let block = self.open(&header, kind, start, end, false)?;
-        self.remember_test(&header, kind, start, end);
-        Ok(block)
+        Ok(false)
     }
 
     /// The block of the payload there, which has the right checksum and room for what it counts.
@@ -582,90 +635,18 @@ fn sum_of(said: Option<Said>) -> u64
     }
 }
 
+/// Where a payload lies, and its header.
+#[derive(Clone, Copy)]
+struct Placed {
+    header: Header,
+    start: usize,
+    end: usize,
+}
+
 /// Where a payload lies, and the checksum that its header says.
 #[derive(Clone, Copy)]
 struct Said {
     start: usize,
     end: usize,
     checksum: u64,
-}
-
-/// Whatever blocks can be loaded from, one handle at a time.
-pub trait LoadBlocks {
-    ghost use Rattle.std.specs.Prelude.{◌≡◌, List, ℕ};
-    ghost use Rattle.sst_blocks.specs.Block.{load_told, place_fault, Loaded};
-    ghost use Rattle.sst_entries.specs.Error.{Gives, FaultsFirst};
-    ghost use Rattle.sst_blocks.specs.Opened.{with_load};
-    ghost use Rattle.sst_blocks.specs.declared.opened.Opened.{Opened};
-
-    /// The allocator of the blocks.
-    type Alloc: Allocator;
-
-    /// The bytes before the trailer that it stands for.
-    ghost body: { Self → List ℕ };
-
-    /// How many blocks of each kind were loaded.
-    ghost opened: { Self → Opened };
-
-    /// The block of a kind that a handle names, or the first fault, as [`BlockSource::load`] answers
-    /// it over the bytes that the source stands for; want of memory stands in the place of the same
-    /// faults alone.
-    fn load(&mut self, handle: &BlockHandle, kind: BlockType) -> Result<Block<Self::Alloc>, Error>
-        ensures told { let bytes = body self.old in
-            Gives (λ (b : Loaded). b) result
-            (load_told bytes handle.now.offset handle.now.size kind) }
-        ensures first { let bytes = body self.old in
-            FaultsFirst result (place_fault bytes handle.now.offset handle.now.size kind) }
-        ensures body { body self.new ≡ body self.old }
-        ensures counted { opened self.new ≡ with_load kind (opened self.old) };
-}
-
-/// A [`BlockSource`] that counts its loads.
-#[derive(Drop)]
-pub struct Counted<'a, A: Allocator = Global> {
-    source: &'a BlockSource<A>,
-    opened: Opened,
-}
-
-impl<'a, A: Allocator> Model for Counted<'a, A> {
-    ghost use Rattle.std.specs.Prelude.{List, ℕ};
-    ghost use Rattle.sst_blocks.specs.declared.opened.Opened.{Opened};
-
-    ghost Value = { List ℕ × Opened };
-
-    ghost view = { λ c. (c.source.now, c.opened) };
-}
-
-impl<'a, A: Allocator + Clone> Counted<'a, A> {
-    /// Nothing was loaded yet.
-    pub fn new(source: &'a BlockSource<A>) -> Counted<'a, A>
-        ensures source { result.0 ≡ source.now }
-        ensures none { result.1 ≡ none_opened }
-    {
-        Counted {
-            source,
-            opened: Opened::none(),
-        }
-    }
-
-    /// How many blocks of each kind were loaded.
-    pub fn opened(&self) -> Opened
-        ensures { result ≡ self.now.1 }
-    {
-        self.opened
-    }
-}
-
-impl<A: Allocator + Clone> LoadBlocks for Counted<'_, A> {
-    ghost use Rattle.sst_sections.specs.Sections.{body_of};
-
-    type Alloc = A;
-
-    ghost body = { λ c. body_of c.0 };
-
-    ghost opened = { λ c. c.1 };
-
-    fn load(&mut self, handle: &BlockHandle, kind: BlockType) -> Result<Block<A>, Error> {
-        self.source.load(handle, kind, &mut self.opened)
-    }
 }
