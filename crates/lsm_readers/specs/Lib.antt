@@ -5,6 +5,8 @@ pub mod Parts
 pub mod Table
 pub mod Answer
 pub mod Many
+pub mod Batch
+pub mod Keeping
 pub mod BlockIndexes
 pub mod OfList
 pub mod Scan

@@ -8,7 +8,7 @@ pub use Rattle.sst_sections.specs.Sections.{body_of}
 pub use Rattle.sst_blocks.specs.Block.{Loaded, load_at_told, load_told, place_fault, position_fault}
 pub use Rattle.sst_blocks.specs.Handle.{Handle}
 pub use Rattle.sst_blocks.specs.Opened.{with_load, none_opened}
-pub use Rattle.sst_blocks.specs.Place.{place_of}
+pub use Rattle.sst_blocks.specs.Place.{Place, place_of}
 pub use Rattle.sst_filters.specs.Filter.{BloomFilter}
 pub use Rattle.lsm_ranges.specs.KeyRange.{key_bound, overlaps_bounds}
 pub use Rattle.lsm_files.specs.Table.{IsTable}

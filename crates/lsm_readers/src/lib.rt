@@ -1,7 +1,9 @@
 //! One sorted table: opening its bytes, point reads, scans and ranges.
 #![tactic(auto)]
 
+mod batch;
 mod inner;
+mod keeping;
 mod meta;
 mod point;
 mod regions;

@@ -131,7 +131,7 @@ fn handle_for<S: LoadBlocks>(
 }
 
 // Where the one data block lies that a read of a key below a stored number rests on.
-fn admitted_handle<S: LoadBlocks>(
+pub(crate) fn admitted_handle<S: LoadBlocks>(
     source: &mut S,
     inner: &Inner<S::Alloc>,
     key: &[u8],
@@ -171,7 +171,7 @@ fn lifted_read<A: Allocator>(
 }
 
 // What the block of a handle answers.
-fn read_in<S: LoadBlocks>(
+pub(crate) fn read_in<S: LoadBlocks>(
     source: &mut S,
     handle: BlockHandle,
     global_seqno: SeqNo,

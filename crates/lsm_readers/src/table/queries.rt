@@ -1,11 +1,14 @@
 //! Many point reads of one table.
-ghost use Rattle.std.specs.Prelude.{◌≡◌, IsOk, List, Ok, [], map};
+ghost use Rattle.std.specs.Prelude.{◌≡◌, IfOk, IsOk, List, Ok, [], map};
+ghost use Rattle.lsm_readers.specs.Batch.{AreFound};
 ghost use Rattle.lsm_readers.specs.Words.{Entry, FaultsFirst, Gives, IsTable, lift, point, table_answer};
 ghost use Rattle.lsm_readers.specs.Many.{found_told, many_told};
 
-use crate::Table;
+use crate::batch::{Batch, find_places, key_order, read_places};
+use crate::keeping::Keeping;
+use crate::{Inner, Table};
 use sst_blocks::{Error, InternalValue, SeqNo, UserKey};
-use std::alloc::{Allocator, Global};
+use std::alloc::{AllocError, Allocator, Global};
 
 /// What [`get_many`] looks for: of one key the first entry that is numbered below a bound.
 #[derive(Drop)]
@@ -32,6 +35,44 @@ fn get_one<A: Allocator + Clone>(
     table.get(key, query.seqno, Table::<A>::key_hash(key))
 }
 
+/// What is known of some queries once their keys were looked up in their order, and each block was loaded once for all that
+/// stand behind one another in it. Refused [`Error::OutOfMemory`] alone.
+fn read_batch<A: Allocator + Clone>(
+    table: &Table<A>,
+    queries: &[Query<A>],
+) -> Result<Batch<A>, AllocError>
+    ensures { IfOk result (λ b.
+        AreFound (found_told table.now) queries.now b.found.items b.done.items) }
+{
+    let alloc = table.source.allocator();
+    let inner: &Inner<A> = &table.inner;
+    let mut batch = Batch::new(alloc, queries.len())?;
+    let order = key_order(alloc.clone()?, queries)?;
+    let mut source = Keeping::new(&table.source);
+    let places = find_places(&mut source, inner, queries, &order, alloc.clone()?)?;
+    read_places(&mut source, inner, queries, &places, &mut batch);
+    Ok(batch)
+}
+
+/// What was found, with the answers of reads for those queries that nothing is known of yet, in the queries' order. Refused
+/// as the first of these reads that is.
+fn read_rest<A: Allocator + Clone>(
+    table: &Table<A>,
+    queries: &[Query<A>],
+    batch: Batch<A>,
+) -> Result<Vec<Option<InternalValue<A>>, A>, Error>
+    requires { AreFound (found_told table.now) queries.now batch.found.items batch.done.items }
+    ensures { Gives (λ found. found.items) result (many_told table.now queries.now) }
+{
+    let Batch { mut found, done } = batch;
+    for (at, query) in queries.iter().enumerate() {
+        if !done[at] {
+            found[at] = get_one(table, query)?;
+        }
+    }
+    Ok(found)
+}
+
 /// What [`Table::get`] answers to each of some queries, in their order, each with its key's own hash. Queries may stand in any
 /// order and repeat. Refused with the error of the earliest query that has one, and [`Error::OutOfMemory`]; then there is no
 /// answer at all, and the table is as it was. The list takes memory first, so any refusal may be that, also where `get` would
@@ -50,10 +91,10 @@ pub fn get_many<A: Allocator + Clone>(
     // A list of no queries is not refused, unless a clone of the allocator is.
     ensures calm { queries.now ≡ [] → ((alloc : A) → A.is_infallible alloc) → IsOk result }
 {
-    let alloc = table.source.allocator().clone()?;
-    let mut found = Vec::with_capacity(alloc, queries.len())?;
-    for query in queries {
-        found.push(get_one(table, query)?)?;
+    let alloc = table.source.allocator();
+    if queries.is_empty() {
+        return Ok(Vec::new(alloc.clone()?));
     }
-    Ok(found)
+    let batch = read_batch(table, queries)?;
+    read_rest(table, queries, batch)
 }

@@ -1,0 +1,27 @@
+-- Point reads of some queries, over any bytes, in whatever order they are made.
+use Rattle.std.specs.Prelude.{◌≡◌, ℕ, ◌-◌, ◌<◌, Bool, true, false, List, length, slice_index_or, Option, None, Result, Ok}
+use Rattle.sst_entries.specs.declared.error.Error.{Error}
+use Rattle.sst_entries.specs.Entry.{Entry}
+use Rattle.lsm_readers.specs.declared.batch.Placed.{Placed}
+use Rattle.lsm_readers.specs.declared.table.queries.Query.{Query}
+use Rattle.lsm_readers.specs.Answer.{admitted_handle, answer}
+use Rattle.lsm_readers.specs.Parts.{Parts}
+
+-- what a point read for a query tells
+abbrev pub query_told : {A : Type 0} → List ℕ → ℕ → Parts → Query A → Result (Option Entry) Error
+query_told body g parts q = (answer body g parts q.key q.seqno).told
+
+-- a query stands at a place of its list, and a point read for it rests on the data block of a handle
+pub record IsPlaced {A : Type 0} (body : List ℕ) (g : ℕ) (parts : Parts) (queries : List (Query A))
+    (p : Placed) : Type 0 where
+  pub within : p.at < length queries
+  pub told : (q : Query A) → q ≡ slice_index_or queries p.at q →
+      (admitted_handle body parts q.key (q.seqno - g)).told ≡ Ok p.handle
+
+-- of some queries, those that are marked were answered: each has what a function tells
+pub record AreFound {X Y : Type 0} (f : X → Result (Option Y) Error) (queries : List X)
+    (found : List (Option Y)) (done : List Bool) : Type 0 where
+  pub found_len : length found ≡ length queries
+  pub done_len : length done ≡ length queries
+  pub told : (k : ℕ) (q : X) → slice_index_or done k false ≡ true →
+      q ≡ slice_index_or queries k q → f q ≡ Ok (slice_index_or found k None)

@@ -1,0 +1,161 @@
+//! Point reads for some queries in key order, over whatever blocks can be loaded from.
+ghost use Rattle.std.specs.Prelude.{◌≡◌, ◌-◌, ◌<◌, Option, Ok, IfOk, IfSome, false, length, replicate};
+ghost use Rattle.std.specs.List.{All};
+ghost use Rattle.lsm_readers.specs.Batch.{AreFound, IsPlaced, query_told};
+ghost use Rattle.lsm_readers.specs.Words.{Entry, Gives, Place, admitted_handle, parts_of};
+
+use crate::point::{admitted_handle, read_in};
+use crate::{Inner, Query};
+use sst_blocks::{BlockHandle, Error, InternalValue, LoadBlocks, hash};
+use sst_entries::compare_versions;
+use std::alloc::{AllocError, Allocator, Global};
+use std::cmp::Ordering;
+
+/// Where a query stands in its list, and where the data block lies that a read for it rests on, if on any.
+#[derive(Clone, Copy)]
+pub(crate) struct Placed {
+    pub(crate) at: usize,
+    pub(crate) handle: Option<BlockHandle>,
+}
+
+/// What was found for some queries, in their order, and for which of them that is known.
+#[derive(Drop)]
+pub(crate) struct Batch<A: Allocator = Global> {
+    pub(crate) found: Vec<Option<InternalValue<A>>, A>,
+    pub(crate) done: Vec<bool, A>,
+}
+
+impl<A: Allocator + Clone> Batch<A> {
+    /// Nothing is known yet of so many queries.
+    pub(crate) fn new(alloc: &A, count: usize) -> Result<Batch<A>, AllocError>
+        ensures found { IfOk result (λ b. length b.found.items ≡ count) }
+        ensures done { IfOk result (λ b. b.done.items ≡ replicate count false) }
+    {
+        let done = vec![in alloc.clone()?; false; count]?;
+        let mut found = Vec::with_capacity(alloc.clone()?, count)?;
+        for _ in 0..count {
+            found.push(None)?;
+        }
+        Ok(Batch { found, done })
+    }
+}
+
+/// Queries by their keys upward, and those of one key by their bounds downward; what stands in no place of the list is
+/// anywhere.
+fn compare_queries<A: Allocator>(queries: &[Query<A>], at: usize, other_at: usize) -> Ordering {
+    match (queries.get(at), queries.get(other_at)) {
+        (Some(query), Some(other)) => compare_versions(
+            query.key.as_slice(),
+            query.seqno,
+            other.key.as_slice(),
+            other.seqno,
+        ),
+        _ => Ordering::Equal,
+    }
+}
+
+/// The places of some queries in their list, in the order of their keys.
+pub(crate) fn key_order<A: Allocator>(
+    alloc: A,
+    queries: &[Query<A>],
+) -> Result<Vec<usize, A>, AllocError> {
+    let mut order = Vec::with_capacity(alloc, queries.len())?;
+    for at in 0..queries.len() {
+        order.push(at)?;
+    }
+    order.sort_unstable_by(|a, b| compare_queries(queries, *a, *b));
+    Ok(order)
+}
+
+/// Where the data block lies that a read for the query of a place rests on. None where that is refused, or there is no such
+/// place.
+fn placed<S: LoadBlocks>(
+    source: &mut S,
+    inner: &Inner<S::Alloc>,
+    queries: &[Query<S::Alloc>],
+    at: usize,
+) -> Option<Placed>
+    ensures placed { let parts = parts_of inner.now in
+        IfSome result (λ p.
+        IsPlaced (S.body source.old) inner.now.global_seqno parts queries.now p) }
+    ensures body { S.body source.new ≡ S.body source.old }
+{
+    let query = queries.get(at)?;
+    let key = query.key.as_slice();
+    let low = query.seqno.saturating_sub(inner.global_seqno);
+    match admitted_handle(source, inner, key, low, hash(key)) {
+        Ok(handle) => Some(Placed { at, handle }),
+        Err(_) => None,
+    }
+}
+
+/// The same of the queries of some places, up to the first where it is refused.
+pub(crate) fn find_places<S: LoadBlocks>(
+    source: &mut S,
+    inner: &Inner<S::Alloc>,
+    queries: &[Query<S::Alloc>],
+    order: &[usize],
+    alloc: S::Alloc,
+) -> Result<Vec<Placed, S::Alloc>, AllocError>
+    ensures placed { let parts = parts_of inner.now in
+        IfOk result (λ places.
+        All (IsPlaced (S.body source.old) inner.now.global_seqno parts queries.now) places.items) }
+    ensures body { S.body source.new ≡ S.body source.old }
+{
+    let mut places = Vec::with_capacity(alloc, order.len())?;
+    for at in order {
+        let Some(place) = placed(source, inner, queries, *at) else {
+            return Ok(places);
+        };
+        places.push(place)?;
+    }
+    Ok(places)
+}
+
+/// What a read for a query gives that rests on the data block of a handle. Refused as the load of that block, and
+/// [`Error::OutOfMemory`].
+fn answer_placed<S: LoadBlocks>(
+    source: &mut S,
+    inner: &Inner<S::Alloc>,
+    query: &Query<S::Alloc>,
+    handle: Option<BlockHandle>,
+) -> Result<Option<InternalValue<S::Alloc>>, Error>
+    requires { let low = query.now.seqno - inner.now.global_seqno in
+        (admitted_handle (S.body source.old) (parts_of inner.now) query.now.key low).told
+        ≡ Ok handle }
+    ensures told { let parts = parts_of inner.now in
+        Gives (λ (found : Option Entry). found) result
+        (query_told (S.body source.old) inner.now.global_seqno parts query.now) }
+    ensures body { S.body source.new ≡ S.body source.old }
+{
+    let low = query.seqno.saturating_sub(inner.global_seqno);
+    match handle {
+        Some(handle) => read_in(source, handle, inner.global_seqno, query.key.as_slice(), low),
+        None => Ok(None),
+    }
+}
+
+/// Reads for the queries of some places, one behind another, up to the first that is refused.
+pub(crate) fn read_places<S: LoadBlocks>(
+    source: &mut S,
+    inner: &Inner<S::Alloc>,
+    queries: &[Query<S::Alloc>],
+    places: &[Placed],
+    batch: &mut Batch<S::Alloc>,
+)
+    requires placed { let parts = parts_of inner.now in
+        All (IsPlaced (S.body source.old) inner.now.global_seqno parts queries.now) places.now }
+    requires found { let told = query_told (S.body source.old) inner.now.global_seqno (parts_of inner.now) in
+        AreFound told queries.now batch.old.found.items batch.old.done.items }
+    ensures found { let told = query_told (S.body source.old) inner.now.global_seqno (parts_of inner.now) in
+        AreFound told queries.now batch.new.found.items batch.new.done.items }
+{
+    for place in places {
+        let query = &queries[place.at];
+        let Ok(found) = answer_placed(source, inner, query, place.handle) else {
+            return;
+        };
+        batch.found[place.at] = found;
+        batch.done[place.at] = true;
+    }
+}
