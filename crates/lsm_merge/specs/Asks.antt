@@ -122,7 +122,7 @@ module _ {S : Type 0} (ask : S → Option R → S → Type 0) (end : Direction) 
     pub asks : AsksSource lead.source mid answer n
     pub told : r ≡ entry_told (entry_of lead) answer
 
-  -- nothing is held, or the first of what is held is taken; where a source failed before, that is the answer
+  -- nothing is held, or the first that is held is taken; what failed before is the answer
   abbrev pub TakesLeadIf : {A : Type 0} → Result (Unit {0}) Error → Merger S A → Result (Option Entry) Error
       → Merger S A → Type 0
   TakesLeadIf (Ok u) m r n = ((r ≡ Ok None) × HoldsNone m n) ⊎ TakesLead m r n
