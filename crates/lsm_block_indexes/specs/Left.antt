@@ -78,6 +78,7 @@ pub record LeftGives (end : List (Result Handle Error) → Option (Result Handle
 
 -- ---- of a block that stays loaded
 
+-- what is left of the handles of a loaded block: nothing is to be loaded
 abbrev pub span_left : Span Handle → Left
 span_left s = record {
   results = ok_results (rest_in s);
@@ -121,6 +122,7 @@ abbrev pub demands : Option (List Handle) → ℕ
 demands None = 1
 demands (Some hs) = 0
 
+-- the same as what an iterator deals
 abbrev pub on_demand_left : OnDemand → Left
 on_demand_left s = record {
   results = demanded s s.part;
@@ -129,6 +131,7 @@ on_demand_left s = record {
   opened = s.opened;
 }
 
+-- these edges were sought, and the block is not loaded
 pub record IsDemandSought (s : OnDemand) (low : Option (List ℕ × ℕ)) (high : Option (List ℕ)) : Type 0 where
   pub part : s.part ≡ None
   pub lower : s.lower ≡ low
@@ -160,6 +163,7 @@ pub record TwoLevel : Type 0 where
   pub back : List Handle
   pub opened : Opened
 
+-- before any edge is sought
 abbrev pub new_two_level : List ℕ → List Handle → TwoLevel
 new_two_level body whole = record {
   body = body;
@@ -172,6 +176,7 @@ new_two_level body whole = record {
   opened = none_opened;
 }
 
+-- what an iterator of two levels still deals
 abbrev pub two_level_left : TwoLevel → Left
 two_level_left s = record {
   results = ok_results s.front ++ (parts_between s.body s.lower s.upper s.tops ++ ok_results s.back);
@@ -180,6 +185,7 @@ two_level_left s = record {
   opened = s.opened;
 }
 
+-- these edges were sought, and no partition is loaded
 pub record IsTwoLevelSought (s : TwoLevel) (low : Option (List ℕ × ℕ)) (high : Option (List ℕ)) : Type 0 where
   pub tops : s.tops ≡ window s.whole low high
   pub lower : s.lower ≡ low

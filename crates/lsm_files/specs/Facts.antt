@@ -32,6 +32,7 @@ is_reclaimable None e = false
 is_reclaimable (Some before) e =
     is_value_kind e.kind && (is_weak before && same_key before.user_key e.user_key)
 
+-- 1 where a condition holds, else 0
 abbrev pub one_if : Bool → ℕ
 one_if b = if b then 1 else 0
 
@@ -49,6 +50,7 @@ unfoldable pub highest_seqno : List Entry → ℕ
 highest_seqno [] = 0
 highest_seqno (e ∷ es) = max e.seqno (highest_seqno es)
 
+-- the key of the first entry, and of the last
 abbrev pub first_key : List Entry → Option (List ℕ)
 first_key es = option_map (λ (e : Entry). e.user_key) (first es)
 

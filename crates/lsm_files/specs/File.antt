@@ -48,6 +48,7 @@ HasNoVersion w = All (λ (s : SectionName × ℕ). slot_index s.0 ≡ 5 → ⊥)
 abbrev pub HasNoMeta : Written → Type 0
 HasNoMeta w = All (λ (s : SectionName × ℕ). slot_index s.0 ≡ 6 → ⊥) w.started
 
+-- the version and the meta block
 abbrev pub closing_sections : TableVersion → Label → Options → Content → Sections
 closing_sections v label options c =
     version_section v

@@ -51,6 +51,7 @@ is_full_filter policy size keys = nat_le size (size_for (tenths_of policy) (leng
 abbrev pub filter_block : TableVersion → BloomFilter → List ℕ
 filter_block v f = block_bytes v Filter (payload_of f)
 
+-- the last of some keys
 abbrev pub last_of_keys : List (List ℕ) → List ℕ
 last_of_keys [] = []
 last_of_keys (k ∷ []) = k

@@ -8,6 +8,7 @@ use Rattle.lsm_filter_writers.specs.Held.{HoldsHashes, HoldsParts}
 use Rattle.lsm_filter_writers.specs.declared.either.FilterWriterImpl.{FilterWriterImpl}
 use Rattle.lsm_filter_writers.specs.declared.either.FilterWriterImpl.TheVariants.{Full as FullWriter, Partitioned as PartitionedWriter}
 
+-- the kind of a writer, its policy, and whether it has refused
 abbrev pub kind_by : {A : Type 0} → FilterWriterImpl A → FilterKind
 kind_by (FullWriter w) = Full
 kind_by (PartitionedWriter w) = Partitioned w.size
@@ -20,10 +21,12 @@ abbrev pub failed_by : {A : Type 0} → FilterWriterImpl A → Bool
 failed_by (FullWriter w) = w.failed
 failed_by (PartitionedWriter w) = w.failed
 
+-- the keys that a writer of either kind stands for
 abbrev pub HoldsBy : {A : Type 0} → FilterWriterImpl A → GivenKeys → Type 0
 HoldsBy (FullWriter w) given = HoldsHashes w given
 HoldsBy (PartitionedWriter w) given = HoldsParts w given
 
+-- the same writer with another policy
 abbrev pub with_policy_by : {A : Type 0} → FilterWriterImpl A → BloomConstructionPolicy
     → FilterWriterImpl A
 with_policy_by (FullWriter w) policy = FullWriter (record w { policy = policy })

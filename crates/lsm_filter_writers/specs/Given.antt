@@ -15,16 +15,20 @@ pub record KeyPart : Type 0 where
 abbrev pub key_part : BloomConstructionPolicy → List (List ℕ) → KeyPart
 key_part policy keys = record { policy = policy; keys = keys }
 
+-- the keys of each part
 abbrev pub keys_in : List KeyPart → List (List (List ℕ))
 keys_in parts = map (λ (p : KeyPart). p.keys) parts
 
+-- a part has a key
 pub record IsSomePart (p : KeyPart) : Type 0 where
   pub some : 0 < length p.keys
 
+-- the keys that a writer was given: the parts that were cut off, and what is pending
 pub record GivenKeys : Type 0 where
   pub cut : List KeyPart
   pub pending : List (List ℕ)
 
+-- none were given
 abbrev pub no_keys : GivenKeys
 no_keys = record { cut = []; pending = [] }
 

@@ -39,6 +39,7 @@ pub record CutParts : Type 0 where
   pub last : Option (List ℕ)
   pub failed : Bool
 
+-- the last key of each part, and its filter
 abbrev pub end_keys : List CutPart → List (List ℕ)
 end_keys parts = map (λ (p : CutPart). p.end_key) parts
 

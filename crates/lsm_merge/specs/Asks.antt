@@ -103,6 +103,7 @@ module _ {S : Type 0} (ask : S → Option R → S → Type 0) (end : Direction) 
     pub each : AsksEach place m before
     pub fails : AsksSource place before (Err e) n
 
+  -- by whether the end is ready: nothing is asked, or each source is
   abbrev pub FillsIf : {A : Type 0} → Bool → Merger S A → Result (Unit {0}) Error → Merger S A → Type 0
   FillsIf true m r n = (r ≡ Ok tt) × (n ≡ m)
   FillsIf false m (Ok u) n = AsksAll m n
@@ -121,6 +122,7 @@ module _ {S : Type 0} (ask : S → Option R → S → Type 0) (end : Direction) 
     pub asks : AsksSource lead.source mid answer n
     pub told : r ≡ entry_told (entry_of lead) answer
 
+  -- nothing is held, or the first that is held is taken; what failed before is the answer
   abbrev pub TakesLeadIf : {A : Type 0} → Result (Unit {0}) Error → Merger S A → Result (Option Entry) Error
       → Merger S A → Type 0
   TakesLeadIf (Ok u) m r n = ((r ≡ Ok None) × HoldsNone m n) ⊎ TakesLead m r n
@@ -141,6 +143,7 @@ module _ {S : Type 0} (ask : S → Option R → S → Type 0) (end : Direction) 
     pub answer : r ≡ answer_told step
     pub state : n ≡ ended_at step led
 
+  -- by whether an error was met before: `None` alone, or a step
   abbrev pub CallsIf : {A : Type 0} → Bool → Merger S A → Option R → Merger S A → Type 0
   CallsIf true m r n = (r ≡ None) × (n ≡ m)
   CallsIf false m r n = AnswersCall m r n

@@ -8,10 +8,12 @@ use Rattle.sst_entries.specs.declared.stream.Direction.{Direction}
 use Rattle.sst_entries.specs.declared.stream.Direction.TheVariants.{Front, Back}
 use Rattle.sst_entries.specs.Stream.{Deals, CanDeal, answer_stops, DealsFirst, DealsLast}
 
+-- an entry, or an error
 abbrev pub R : Type 0
 R = Result Entry Error
 
 module _ {S : Type 0} (stops : Error → Bool) (front back : S → Option R → S → Type 0) where
+  -- what it still deals, by whether it has ended
   abbrev pub LeftIf : Bool → S → List R → Type 0
   LeftIf true s xs = xs ≡ []
   LeftIf false s xs = Deals (answer_stops stops) front back s xs
@@ -26,6 +28,7 @@ DealsAt Front stops Has = DealsFirst stops Has
 DealsAt Back stops Has = DealsLast stops Has
 
 module _ {S : Type 0} (front back : S → Option R → S → Type 0) where
+  -- the same, by whether it has ended
   abbrev pub GoesIf : (S → Type 0) → (S → Type 0) → (S → Count) → Bool → S → Type 0
   GoesIf can can_back left true s = Unit {0}
   GoesIf can can_back left false s = CanDeal front back can can_back s × IsFinite (left s)
@@ -42,6 +45,7 @@ ends_size left s = cond s.done 0 (size (left s.iter))
 abbrev pub new_ends : {S : Type 0} → S → Ends S
 new_ends s = record { iter = s; done = false }
 
+-- one call, by whether it has ended
 abbrev pub AskedIf : {S : Type 0} → (S → Option R → S → Type 0) → Bool → Ends S → Option R → Ends S → Type 0
 AskedIf ask true s r t = (r ≡ None) × (t ≡ s)
 AskedIf ask false s r t = ask s.iter r t.iter × (t.done ≡ is_none r)

@@ -17,6 +17,7 @@ key_of e = record { user_key = e.user_key; seqno = e.seqno; value_type = e.kind 
 abbrev pub item_cmp : Entry → Entry → Ordering
 item_cmp = on key_of key_cmp
 
+-- an entry is not behind another in that order
 abbrev pub AtMost : Entry → Entry → Type 0
 AtMost x y = is_gt (item_cmp x y) ≡ false
 

@@ -51,6 +51,7 @@ turned rules (Ok None) rs = record { answer = None; rest = rs; reports = [] }
 turned rules (Err e) rs = record { answer = Some (Err e); rest = rs; reports = [] }
 
 module _ {F : Type 0} (gives : F → Entry → Result Verdict Error → F → Type 0) where
+  -- a filter is asked of an entry or not; if not, the entry is kept
   abbrev pub AsksIf : Bool → F → Entry → Result Verdict Error → F → Type 0
   AsksIf false f x v g = (v ≡ Ok keep) × (g ≡ f)
   AsksIf true f x v g = gives f x v g

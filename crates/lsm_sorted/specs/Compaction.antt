@@ -47,6 +47,7 @@ told_by x (Err e) = Err e
 abbrev pub told : Judged → Result (Option Entry) Error
 told j = told_by j.entry j.verdict
 
+-- the filter leaves an entry
 abbrev pub is_left : Result (Option Entry) Error → Bool
 is_left (Ok (Some x)) = true
 is_left (Ok None) = false
@@ -73,6 +74,7 @@ abbrev pub expired : ℕ → List Judged → List Judged
 expired watermark [] = []
 expired watermark (j ∷ js) = if is_cut watermark j then js else expired watermark js
 
+-- a value: no tombstone, and no indirection
 abbrev pub is_value : ValueType → Bool
 is_value Value = true
 is_value Tombstone = false
@@ -129,10 +131,12 @@ abbrev pub gone : Rules → Option Entry → Option Error → Entry → Bool
 gone rules next None x = goes rules.evict x.kind next
 gone rules next (Some e) x = true
 
+-- an error as a list of results
 abbrev pub error_of : Option Error → List R
 error_of None = []
 error_of (Some e) = Err e ∷ []
 
+-- the entries that were judged
 abbrev pub entries : List Judged → List Entry
 entries js = map (λ j. j.entry) js
 

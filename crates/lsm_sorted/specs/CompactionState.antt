@@ -43,6 +43,7 @@ module _ {S F C : Type 0} where
   abbrev pub Compacts : (Error → Bool) → (S → Option R → S → Type 0) → CompactionStream S F C R → List R → Type 0
   Compacts stops front s xs = HoldsAhead stops front (source_of s) xs
 
+  -- the stream may be called, and it ends
   abbrev pub MayCompact : (S → Option R → S → Type 0) → (S → Type 0) → (S → Count) → CompactionStream S F C R → Type 0
   MayCompact front can left s = Goes front nowhere can can left (source_of s).source
 
