@@ -1,4 +1,5 @@
 pub mod Items
+pub mod Searches
 pub mod Entries
 pub mod HandleLaws
 pub mod SpanLemmas

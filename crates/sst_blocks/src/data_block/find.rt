@@ -70,8 +70,8 @@ fn first_past<'a>(
     key: &[u8],
     seqno: SeqNo,
 ) -> Option<(usize, EntryRef<'a>)>
-    ensures { let is_past = is_before (read_place key.now seqno) (entry_of_ref entry) in
-        result ≡ option_or found (if is_past then Some (start, entry) else None) }
+    ensures { let is_past = is_before (read_place key.now seqno) (entry_of_ref entry.entry) in
+        result ≡ option_or found.entry (if is_past then Some (start, entry.entry) else None) }
 {
     match found {
         Some(found) => Some(found),

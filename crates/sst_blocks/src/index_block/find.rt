@@ -62,8 +62,8 @@ fn first_reaching<'a>(
     key: &[u8],
     seqno: SeqNo,
 ) -> Option<HandleRef<'a>>
-    ensures { let hit = reaches key.now seqno (handle_of_ref handle) in
-        result ≡ option_or found (if hit then Some handle else None) }
+    ensures { let hit = reaches key.now seqno (handle_of_ref handle.entry) in
+        result ≡ option_or found.entry (if hit then Some handle.entry else None) }
 {
     match found {
         Some(found) => Some(found),
