@@ -17,3 +17,4 @@ pub mod Grown
 pub mod Narrowing
 pub mod StrictHandles
 pub mod MarkLemmas
+pub mod Asked

@@ -1,5 +1,5 @@
 //! Finding one entry of a payload, in one walk and without memory.
-ghost use Rattle.std.specs.Prelude.{◌≡◌, ◌+◌, ◌≤◌, [], Some, None, true, is_some, length, drop, unwrap_or};
+ghost use Rattle.std.specs.Prelude.{◌≡◌, ◌+◌, ◌<◌, ◌≤◌, ◌^◌, [], Some, None, true, is_some, length, drop, unwrap_or};
 ghost use Rattle.std.specs.Prelude.{find, slice_range, if◌then◌else◌, IsTrue, IfOk, IfErr, IfSome, OnOk};
 ghost use Rattle.std.specs.Option.{option_map, option_or};
 ghost use Rattle.sst_blocks.specs.Reading.{entries_in, entry_at};
@@ -95,6 +95,7 @@ pub(crate) fn share_entry<A: Allocator>(
 ) -> Result<InternalValue<A>, Error>
     requires within { key_at + length entry.now.key.now + length entry.now.value.now ≤
         length bytes.now }
+    requires short { key_at + length entry.now.key.now + length entry.now.value.now < 2 ^ 64 }
     requires key { slice_range bytes.now key_at (key_at + length entry.now.key.now) ≡
         entry.now.key.now }
     requires value { let value_at = key_at + length entry.now.key.now in

@@ -1,6 +1,6 @@
 //! What is asked of one block, without memory for the places of its items.
 ghost use Rattle.std.specs.Prelude.{◌≡◌, Option, Ok, Err, Some, true, slice_range, IfOk, IfErr};
-ghost use Rattle.sst_blocks.specs.Asked.{find_told, maybe_in, maybe_told, place_for, point_of};
+ghost use Rattle.sst_blocks.specs.Asked.{IsSure, find_told, maybe_in, maybe_told, place_for, point_of};
 ghost use Rattle.sst_blocks.specs.Asked.{point_told, told_map};
 ghost use Rattle.sst_blocks.specs.Block.{checked_payload, in_grammar, load_told, place_fault};
 ghost use Rattle.sst_blocks.specs.declared.block_type.BlockType.TheVariants.{Data, Filter, Index};
@@ -45,6 +45,9 @@ impl<A: Allocator + Clone> BlockSource<A> {
         ensures told { let body = body_of self.now in
             Gives (λ (found : Option Entry). found) result
             (point_told body handle.now.offset handle.now.size key.now seqno) }
+        // Memory is wanted for an entry alone that is there.
+        ensures sure { let body = body_of self.now in
+            IsSure result (point_told body handle.now.offset handle.now.size key.now seqno) }
         ensures first { let body = body_of self.now in
             FaultsFirst result (place_fault body handle.now.offset handle.now.size Data) }
         ensures counted { opened.new ≡ with_load Data opened.old }
@@ -126,18 +129,24 @@ impl<A: Allocator + Clone> BlockSource<A> {
             let header = sound.now.header in
             Gives (λ (found : Option Entry). found) result (told_map (point_of key.now seqno)
             (checked_payload header.version header.checksum Data payload)) }
+        ensures sure { let body = body_of self.now in
+            let payload = slice_range body sound.now.start sound.now.end in
+            let header = sound.now.header in
+            IsSure result (told_map (point_of key.now seqno)
+            (checked_payload header.version header.checksum Data payload)) }
     {
         let version = sound.header.version;
         let payload = &self.body()[sound.start..sound.end];
         let first = find_entry(version, payload, key, seqno, sound.is_tested)?;
         self.remember_walk(sound, BlockType::Data);
-        match first {
-            Some((at, entry)) if entry.key == key => {
-                let key_at = sound.start + at + entry_head_len(version);
-                Ok(Some(share_entry(&self.bytes, key_at, &entry)?))
-            }
-            _ => Ok(None),
+        let Some((at, entry)) = first else {
+            return Ok(None);
+        };
+        if entry.key != key {
+            return Ok(None);
         }
+        let key_at = sound.start + at + entry_head_len(version);
+        Ok(Some(share_entry(&self.bytes, key_at, &entry)?))
     }
 
     /// Where the first handle leads that reaches a key and a number, in a payload of handles.
