@@ -478,14 +478,13 @@ impl<A: Allocator + Clone> BlockSource<A> {
         let Some(marks) = &self.marks else {
             return;
         };
-        let mut at = 0;
-        while at < blocks.len() {
+        for i in 0..blocks.len().div_ceil(4) {
+            let at = 4 * i;
             let first = self.said_of(marks, blocks.get(at));
             let second = self.said_of(marks, blocks.get(at + 1));
             let third = self.said_of(marks, blocks.get(at + 2));
             let fourth = self.said_of(marks, blocks.get(at + 3));
             self.compare_four(marks, first, second, third, fourth);
-            at = at.saturating_add(4);
         }
     }
 

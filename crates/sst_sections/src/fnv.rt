@@ -1,7 +1,8 @@
 //! FNV-1a in 64 bits: <http://www.isthe.com/chongo/tech/comp/fnv/>.
 //!
 //! Each byte waits for the one before it, so a hash costs the latency of a multiplication a byte. Two hashes in one loop cost
-//! no more than one, and four little more: [`update_both`], [`hash_four`].
+//! no more than one, and four little more: [`update_both`], [`hash_four`]. Where a hash is only compared, its bytes are walked
+//! over from both ends at once, in half the time: [`has_hash`], [`have_hashes`].
 ghost use Rattle.std.specs.Prelude.{◌≡◌, ◌↔◌, IsTrue};
 ghost use Rattle.sst_sections.specs.Fnv.{fnv1a, fnv_back, fnv_basis, fnv_from, fnv_step};
 
