@@ -1,7 +1,7 @@
 //! What is asked of one block, without memory for the places of its items.
 ghost use Rattle.std.specs.Prelude.{◌≡◌, Option, Ok, Err, Some, true, slice_range, IfOk, IfErr};
-ghost use Rattle.sst_blocks.specs.Asked.{IsSure, find_told, maybe_in, maybe_told, place_for, point_of};
-ghost use Rattle.sst_blocks.specs.Asked.{point_told, told_map};
+ghost use Rattle.sst_blocks.specs.Asked.{IsSure, find_told, maybe_in, maybe_told, place_for};
+ghost use Rattle.sst_blocks.specs.Asked.{point_of, point_told, told_map};
 ghost use Rattle.sst_blocks.specs.Block.{checked_payload, in_grammar, load_told, place_fault};
 ghost use Rattle.sst_blocks.specs.declared.block_type.BlockType.TheVariants.{Data, Filter, Index};
 ghost use Rattle.sst_blocks.specs.declared.opened.Opened.{Opened};
@@ -20,8 +20,8 @@ use crate::{
 };
 use std::alloc::Allocator;
 
-/// Where a payload lies that has its checksum and room for what it counts, its header, and whether it was tested before
-/// that it is in its grammar.
+/// Where a payload lies that has its checksum and room for what it counts, its header, and whether
+/// it was tested before that it is in its grammar.
 #[derive(Clone, Copy)]
 struct Sound {
     header: Header,
@@ -31,9 +31,10 @@ struct Sound {
 }
 
 impl<A: Allocator + Clone> BlockSource<A> {
-    /// The first entry of a key numbered below `seqno`, in the data block that a handle names. Refused with the first fault, as
-    /// [`BlockSource::load`] is; want of memory is in the place of none, and comes only where there is such an entry, whose key
-    /// and value share the table's bytes. A block that was tested before is walked up to the key only; no memory is taken for
+    /// The first entry of a key numbered below `seqno`, in the data block that a handle names.
+    /// Refused with the first fault, as [`BlockSource::load`] is; want of memory is in the place of
+    /// none, and comes only where there is such an entry, whose key and value share the table's
+    /// bytes. A block that was tested before is walked up to the key only; no memory is taken for
     /// the places of entries. Each call counts, also where it refuses.
     pub fn point_read(
         &self,
@@ -57,9 +58,10 @@ impl<A: Allocator + Clone> BlockSource<A> {
         self.entry_in(&sound, key, seqno)
     }
 
-    /// Where the first handle leads that reaches a key and a number, in the index block that a handle names. Refused with the
-    /// first fault, as [`BlockSource::load`] is, and never for want of memory: none is taken. A block that was tested before
-    /// is walked up to that handle only. Each call counts, also where it refuses.
+    /// Where the first handle leads that reaches a key and a number, in the index block that a
+    /// handle names. Refused with the first fault, as [`BlockSource::load`] is, and never for want
+    /// of memory: none is taken. A block that was tested before is walked up to that handle only.
+    /// Each call counts, also where it refuses.
     pub fn find(
         &self,
         handle: &BlockHandle,
@@ -78,8 +80,9 @@ impl<A: Allocator + Clone> BlockSource<A> {
         self.handle_in(&sound, key, seqno)
     }
 
-    /// Whether the filter of the filter block that a handle names may have a hash. Refused with the first fault, as
-    /// [`BlockSource::load`] is, and never for want of memory: none is taken. Each call counts, also where it refuses.
+    /// Whether the filter of the filter block that a handle names may have a hash. Refused with the
+    /// first fault, as [`BlockSource::load`] is, and never for want of memory: none is taken. Each
+    /// call counts, also where it refuses.
     pub fn maybe_contains_hash(
         &self,
         handle: &BlockHandle,
@@ -97,7 +100,8 @@ impl<A: Allocator + Clone> BlockSource<A> {
         Ok(self.has_hash_in(&sound, hash))
     }
 
-    /// Where the payload lies of the block of a kind that a handle names, which has its checksum and room for what it counts.
+    /// Where the payload lies of the block of a kind that a handle names, which has its checksum
+    /// and room for what it counts.
     fn sound(&self, handle: &BlockHandle, kind: BlockType) -> Result<Sound, Error>
         ensures sound { IfOk result (λ s.
             IsSoundAt (body_of self.now) handle.now.offset handle.now.size kind s) }
