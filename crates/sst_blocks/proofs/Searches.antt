@@ -4,7 +4,6 @@ use Rattle.std.specs.Prelude.{find, is_some, unwrap_or, IfSome, if◌then◌else
 use Rattle.std.specs.Option.{option_map, option_or}
 use Rattle.std.proofs.lemmas.List.{drop-drop, length-drop}
 use Rattle.std.proofs.lemmas.List.Folds.{find-append}
-use Rattle.std.proofs.lemmas.Option.{same_Some}
 use Rattle.sst_entries.specs.Entry.{Entry}
 use Rattle.sst_entries.specs.Strict.{may_follow}
 use Rattle.sst_sections.specs.Number.{num4}

@@ -1,4 +1,4 @@
-use Rattle.std.proofs.Common.{arith, ap, ◌∙◌, sym}
+use Rattle.std.proofs.Common.{arith}
 use Rattle.std.proofs.lemmas.Option.{slice_get_within}
 use Rattle.sst_blocks.specs.Seen.{entry_of_ref}
 use Rattle.sst_blocks.proofs.Entries.{block_holds, block_len}

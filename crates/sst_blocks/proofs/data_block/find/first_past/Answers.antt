@@ -1,4 +1,4 @@
-use Rattle.std.proofs.Common.{◌≡◌, ap, ◌∙◌, rules}
+use Rattle.std.proofs.Common.{◌≡◌, ap, ◌∙◌}
 use Rattle.std.specs.Ordering.{is_lt}
 use Rattle.sst_entries.specs.Point.{read_place}
 use Rattle.sst_entries.specs.Strict.{is_before}

@@ -1,16 +1,11 @@
-use Rattle.std.proofs.Common.{◌≡◌, ℕ, ◌+◌, ◌≤◌, ◌<◌, ◌^◌, List, Option, length, slice_range, refl, sym, ap, subst, rules, arith, true, false, Some, None, ◌∙◌}
-use Rattle.std.specs.Prelude.{[], find, is_some, unwrap_or, IfSome}
+use Rattle.std.proofs.Common.{◌≡◌, ℕ, ◌+◌, ◌≤◌, List, length, slice_range, refl, sym, ap, subst, rules, arith, Some, None, ◌∙◌}
 use Rattle.std.specs.Option.{option_map}
 use Rattle.std.proofs.lemmas.Result.{err_from_is_err_and}
-use Rattle.sst_entries.specs.Entry.{Entry}
-use Rattle.sst_entries.specs.Point.{read_place}
-use Rattle.sst_entries.specs.Strict.{is_before}
 use Rattle.sst_sections.specs.Sections.{body_of}
 use Rattle.sst_sections.specs.Version.{key_width}
-use Rattle.sst_blocks.specs.Reading.{entries_in, entry_at}
 use Rattle.sst_blocks.specs.Seen.{entry_of_ref}
 use Rattle.sst_blocks.specs.declared.data_block.entry_ref.EntryRef.{EntryRef}
-use Rattle.sst_blocks.proofs.Asked.{Shares, body_within, entries_told, entries_wrong, found_hit, found_none, found_other, shares_there, spelled_strict, sure_fault, sure_none, sure_some}
+use Rattle.sst_blocks.proofs.Asked.{body_within, entries_told, entries_wrong, found_hit, found_none, found_other, shares_there, spelled_strict, sure_fault, sure_none, sure_some}
 use Rattle.sst_blocks.proofs.Points.{keys_apart, keys_same}
 use Rattle.sst_blocks.proofs.Room.{room_long}
 use Rattle.sst_blocks.proofs.source.BlockSource.entry_in.Goals as goal

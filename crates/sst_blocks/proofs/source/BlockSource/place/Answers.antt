@@ -1,8 +1,7 @@
-use Rattle.std.proofs.Common.{◌≡◌, ◌+◌, ap, length, slice_range, ◌∙◌, arith}
+use Rattle.std.proofs.Common.{◌≡◌, ◌+◌, ap, length, slice_range, arith}
 use Rattle.std.specs.Prelude.{Some, Err}
 use Rattle.std.specs.Option.{option_or}
 use Rattle.std.proofs.lemmas.Result.{err_from_is_err_and}
-use Rattle.sst_entries.specs.declared.error.Error.TheVariants.{Truncated, InvalidHeader}
 use Rattle.sst_blocks.specs.Block.{load_told, place_fault, checked_payload, checksum_fault, room_fault}
 use Rattle.sst_sections.specs.Sections.{body_of}
 use Rattle.sst_blocks.proofs.LoadLemmas.{load_truncated, load_fault, load_lengths, load_checked, place_truncated, place_header, place_lengths, place_checked}
