@@ -1,5 +1,5 @@
 -- What is asked of one block in a table's bytes: its answer, or the first fault of loading the block.
-use Rattle.std.specs.Prelude.{ℕ, Bool, List, find, Option, Result, Ok, Err}
+use Rattle.std.specs.Prelude.{◌≡◌, ℕ, Bool, List, find, Option, Some, None, Result, Ok, Err}
 use Rattle.std.specs.Option.{option_map}
 use Rattle.sst_blocks.specs.declared.block_type.BlockType.TheVariants.{Data, Index, Filter}
 use Rattle.sst_entries.specs.declared.error.Error.{Error}
@@ -38,3 +38,9 @@ find_told body offset size key bound =
 
 abbrev pub maybe_told : List ℕ → ℕ → ℕ → ℕ → Result Bool Error
 maybe_told body offset size hash = told_map (maybe_in hash) (load_told body offset size Filter)
+
+-- whatever memory there is, a call refuses with the fault that is told, and answers that nothing is there
+abbrev pub IsSure : {X : Type 0} → Result (Option X) Error → Result (Option X) Error → Type 0
+IsSure r (Ok (Some x)) = Unit {0}
+IsSure r (Ok None) = r ≡ Ok None
+IsSure r (Err e) = r ≡ Err e

@@ -1,10 +1,6 @@
 //! Whatever blocks can be loaded from, and what is asked of one block there.
-ghost use Rattle.std.specs.Prelude.{◌≡◌, Bool, List, ℕ, Option};
-ghost use Rattle.sst_blocks.specs.Asked.{find_told, maybe_told, point_told};
-ghost use Rattle.sst_blocks.specs.declared.block_type.BlockType.TheVariants.{Data, Filter, Index};
+ghost use Rattle.std.specs.Prelude.{◌≡◌};
 ghost use Rattle.sst_blocks.specs.Opened.{none_opened};
-ghost use Rattle.sst_blocks.specs.Place.{Place};
-ghost use Rattle.sst_entries.specs.Entry.{Entry};
 
 use crate::source::BlockSource;
 use crate::{
@@ -16,13 +12,14 @@ use std::marker::Model;
 
 /// Whatever blocks can be loaded from, one handle at a time.
 ///
-/// Whoever has `load` has the other calls, which load the block. A source that can answer them without its places
-/// in memory, as [`Counted`], has calls of its own.
+/// Whoever has `load` has the other calls: they load the block, and ask it. [`Counted`] has calls
+/// of its own, which take no memory for the places of a block's items.
 pub trait LoadBlocks {
     ghost use Rattle.std.specs.Prelude.{◌≡◌, Bool, List, ℕ, Option};
     ghost use Rattle.sst_blocks.specs.Asked.{find_told, maybe_told, point_told};
     ghost use Rattle.sst_blocks.specs.Block.{load_told, place_fault, Loaded};
-    ghost use Rattle.sst_blocks.specs.declared.block_type.BlockType.TheVariants.{Data, Filter, Index};
+    ghost use Rattle.sst_blocks.specs.declared.block_type.BlockType.TheVariants.{Data, Filter};
+    ghost use Rattle.sst_blocks.specs.declared.block_type.BlockType.TheVariants.{Index};
     ghost use Rattle.sst_blocks.specs.Place.{Place};
     ghost use Rattle.sst_entries.specs.Entry.{Entry};
     ghost use Rattle.sst_entries.specs.Error.{Gives, FaultsFirst};
@@ -38,9 +35,9 @@ pub trait LoadBlocks {
     /// How many blocks of each kind were loaded.
     ghost opened: { Self → Opened };
 
-    /// The block of a kind that a handle names, or the first fault, as [`BlockSource::load`] answers
-    /// it over the bytes that the source stands for; want of memory stands in the place of the same
-    /// faults alone.
+    /// The block of a kind that a handle names, or the first fault, as [`BlockSource::load`]
+    /// answers it over the bytes that the source stands for; want of memory stands in the place of
+    /// the same faults alone.
     fn load(&mut self, handle: &BlockHandle, kind: BlockType) -> Result<Block<Self::Alloc>, Error>
         ensures told { let bytes = body self.old in
             Gives (λ (b : Loaded). b) result
@@ -50,9 +47,9 @@ pub trait LoadBlocks {
         ensures body { body self.new ≡ body self.old }
         ensures counted { opened self.new ≡ with_load kind (opened self.old) };
 
-    /// The first entry of a key numbered below `seqno` in the data block that a handle names, or the
-    /// first fault, as [`BlockSource::point_read`] answers it; want of memory stands in the place of
-    /// the same faults as at [`LoadBlocks::load`]. It counts as one load.
+    /// The first entry of a key numbered below `seqno` in the data block that a handle names, or
+    /// the first fault, as [`BlockSource::point_read`] answers it; want of memory stands in the
+    /// place of the same faults as at [`LoadBlocks::load`]. It counts as one load.
     fn point_read(
         &mut self,
         handle: &BlockHandle,
@@ -74,9 +71,9 @@ pub trait LoadBlocks {
         found
     }
 
-    /// Where the first handle leads that reaches a key and a number, in the index block that a handle
-    /// names, or the first fault, as [`BlockSource::find`] answers it; want of memory stands in the
-    /// place of the same faults as at [`LoadBlocks::load`]. It counts as one load.
+    /// Where the first handle leads that reaches a key and a number, in the index block that a
+    /// handle names, or the first fault, as [`BlockSource::find`] answers it; want of memory stands
+    /// in the place of the same faults as at [`LoadBlocks::load`]. It counts as one load.
     fn find(
         &mut self,
         handle: &BlockHandle,
@@ -98,9 +95,9 @@ pub trait LoadBlocks {
         Ok(found)
     }
 
-    /// Whether the filter of the filter block that a handle names may have a hash, or the first fault,
-    /// as [`BlockSource::maybe_contains_hash`] answers it; want of memory stands in the place of the
-    /// same faults as at [`LoadBlocks::load`]. It counts as one load.
+    /// Whether the filter of the filter block that a handle names may have a hash, or the first
+    /// fault, as [`BlockSource::maybe_contains_hash`] answers it; want of memory stands in the
+    /// place of the same faults as at [`LoadBlocks::load`]. It counts as one load.
     fn maybe_contains_hash(&mut self, handle: &BlockHandle, hash: u64) -> Result<bool, Error>
         ensures told { let bytes = body self.old in
             Gives (λ (maybe : Bool). maybe) result

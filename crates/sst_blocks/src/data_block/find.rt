@@ -1,6 +1,7 @@
 //! Finding one entry of a payload, in one walk and without memory.
-ghost use Rattle.std.specs.Prelude.{◌≡◌, ◌+◌, ◌≤◌, [], Some, None, true, is_some, length, drop, unwrap_or};
-ghost use Rattle.std.specs.Prelude.{find, slice_range, if◌then◌else◌, IsTrue, IfOk, IfErr, IfSome, OnOk};
+ghost use Rattle.std.specs.Prelude.{◌≡◌, ◌+◌, ◌<◌, ◌≤◌, ◌^◌, [], Some, None, true, length};
+ghost use Rattle.std.specs.Prelude.{is_some, unwrap_or, drop, find, slice_range, if◌then◌else◌};
+ghost use Rattle.std.specs.Prelude.{IsTrue, IfOk, IfErr, IfSome, OnOk};
 ghost use Rattle.std.specs.Option.{option_map, option_or};
 ghost use Rattle.sst_blocks.specs.Reading.{entries_in, entry_at};
 ghost use Rattle.sst_blocks.specs.Seen.{entry_of_ref};
@@ -14,9 +15,10 @@ use sst_entries::compare_versions;
 use sst_sections::number::u32_at;
 use std::alloc::Allocator;
 
-/// The first entry of a payload that a read of a key at a number comes before, and where it begins. Refused
-/// [`Error::InvalidBlock`] where the payload does not spell a strict list of entries. Where it was tested before that it does,
-/// the walk ends at that entry; else it goes on to the end, and tests what is behind it.
+/// The first entry of a payload that a read of a key at a number comes before, and where it begins.
+/// Refused [`Error::InvalidBlock`] where the payload does not spell a strict list of entries. Where
+/// it was tested before that it does, the walk ends at that entry; else it goes on to the end, and
+/// tests what is behind it.
 pub(crate) fn find_entry<'a>(
     version: TableVersion,
     payload: &'a [u8],
@@ -70,8 +72,8 @@ fn first_past<'a>(
     key: &[u8],
     seqno: SeqNo,
 ) -> Option<(usize, EntryRef<'a>)>
-    ensures { let is_past = is_before (read_place key.now seqno) (entry_of_ref entry) in
-        result ≡ option_or found (if is_past then Some (start, entry) else None) }
+    ensures { let is_past = is_before (read_place key.now seqno) (entry_of_ref entry.entry) in
+        result ≡ option_or found.entry (if is_past then Some (start, entry.entry) else None) }
 {
     match found {
         Some(found) => Some(found),
@@ -85,8 +87,8 @@ fn first_past<'a>(
     }
 }
 
-/// The entry that was read where its key begins at `key_at` in some bytes, and its value behind it: both share the memory of
-/// the bytes. Refused [`Error::OutOfMemory`] alone.
+/// The entry that was read where its key begins at `key_at` in some bytes, and its value behind it:
+/// both share the memory of the bytes. Refused [`Error::OutOfMemory`] alone.
 #[inline(always)]
 pub(crate) fn share_entry<A: Allocator>(
     bytes: &Slice<A>,
@@ -95,6 +97,7 @@ pub(crate) fn share_entry<A: Allocator>(
 ) -> Result<InternalValue<A>, Error>
     requires within { key_at + length entry.now.key.now + length entry.now.value.now ≤
         length bytes.now }
+    requires short { key_at + length entry.now.key.now + length entry.now.value.now < 2 ^ 64 }
     requires key { slice_range bytes.now key_at (key_at + length entry.now.key.now) ≡
         entry.now.key.now }
     requires value { let value_at = key_at + length entry.now.key.now in

@@ -1,6 +1,6 @@
 //! Finding one handle of a payload, in one walk and without memory.
-ghost use Rattle.std.specs.Prelude.{◌≡◌, ◌≤◌, [], Some, None, true, is_some, length, unwrap_or, find};
-ghost use Rattle.std.specs.Prelude.{if◌then◌else◌, IsTrue, IfOk, IfErr, OnOk};
+ghost use Rattle.std.specs.Prelude.{◌≡◌, ◌≤◌, [], Some, None, true, length, is_some, unwrap_or};
+ghost use Rattle.std.specs.Prelude.{find, if◌then◌else◌, IsTrue, IfOk, IfErr, OnOk};
 ghost use Rattle.std.specs.Option.{option_map, option_or};
 ghost use Rattle.sst_blocks.specs.Handles.{handles_in, reaches};
 ghost use Rattle.sst_blocks.specs.SeenHandle.{handle_of_ref};
@@ -11,9 +11,9 @@ use crate::{Error, SeqNo, TableVersion};
 use sst_entries::compare_versions;
 use sst_sections::number::u32_at;
 
-/// The first handle of a payload that reaches a key and a number. Refused [`Error::InvalidBlock`] where the payload does not
-/// spell a strict list of handles. Where it was tested before that it does, the walk ends at that handle; else it goes on to
-/// the end, and tests what is behind it.
+/// The first handle of a payload that reaches a key and a number. Refused [`Error::InvalidBlock`]
+/// where the payload does not spell a strict list of handles. Where it was tested before that it
+/// does, the walk ends at that handle; else it goes on to the end, and tests what is behind it.
 pub(crate) fn find_handle<'a>(
     version: TableVersion,
     payload: &'a [u8],
@@ -62,8 +62,8 @@ fn first_reaching<'a>(
     key: &[u8],
     seqno: SeqNo,
 ) -> Option<HandleRef<'a>>
-    ensures { let hit = reaches key.now seqno (handle_of_ref handle) in
-        result ≡ option_or found (if hit then Some handle else None) }
+    ensures { let hit = reaches key.now seqno (handle_of_ref handle.entry) in
+        result ≡ option_or found.entry (if hit then Some handle.entry else None) }
 {
     match found {
         Some(found) => Some(found),

@@ -1,7 +1,7 @@
 //! What is asked of one block, without memory for the places of its items.
 ghost use Rattle.std.specs.Prelude.{◌≡◌, Option, Ok, Err, Some, true, slice_range, IfOk, IfErr};
-ghost use Rattle.sst_blocks.specs.Asked.{find_told, maybe_in, maybe_told, place_for, point_of};
-ghost use Rattle.sst_blocks.specs.Asked.{point_told, told_map};
+ghost use Rattle.sst_blocks.specs.Asked.{IsSure, find_told, maybe_in, maybe_told, place_for};
+ghost use Rattle.sst_blocks.specs.Asked.{point_of, point_told, told_map};
 ghost use Rattle.sst_blocks.specs.Block.{checked_payload, in_grammar, load_told, place_fault};
 ghost use Rattle.sst_blocks.specs.declared.block_type.BlockType.TheVariants.{Data, Filter, Index};
 ghost use Rattle.sst_blocks.specs.declared.opened.Opened.{Opened};
@@ -20,8 +20,8 @@ use crate::{
 };
 use std::alloc::Allocator;
 
-/// Where a payload lies that has its checksum and room for what it counts, its header, and whether it was tested before
-/// that it is in its grammar.
+/// Where a payload lies that has its checksum and room for what it counts, its header, and whether
+/// it was tested before that it is in its grammar.
 #[derive(Clone, Copy)]
 struct Sound {
     header: Header,
@@ -31,9 +31,10 @@ struct Sound {
 }
 
 impl<A: Allocator + Clone> BlockSource<A> {
-    /// The first entry of a key numbered below `seqno`, in the data block that a handle names. Refused with the first fault, as
-    /// [`BlockSource::load`] is; want of memory is in the place of none, and comes only where there is such an entry, whose key
-    /// and value share the table's bytes. A block that was tested before is walked up to the key only; no memory is taken for
+    /// The first entry of a key numbered below `seqno`, in the data block that a handle names.
+    /// Refused with the first fault, as [`BlockSource::load`] is; want of memory is in the place of
+    /// none, and comes only where there is such an entry, whose key and value share the table's
+    /// bytes. A block that was tested before is walked up to the key only; no memory is taken for
     /// the places of entries. Each call counts, also where it refuses.
     pub fn point_read(
         &self,
@@ -45,6 +46,9 @@ impl<A: Allocator + Clone> BlockSource<A> {
         ensures told { let body = body_of self.now in
             Gives (λ (found : Option Entry). found) result
             (point_told body handle.now.offset handle.now.size key.now seqno) }
+        // Memory is wanted for an entry alone that is there.
+        ensures sure { let body = body_of self.now in
+            IsSure result (point_told body handle.now.offset handle.now.size key.now seqno) }
         ensures first { let body = body_of self.now in
             FaultsFirst result (place_fault body handle.now.offset handle.now.size Data) }
         ensures counted { opened.new ≡ with_load Data opened.old }
@@ -54,9 +58,10 @@ impl<A: Allocator + Clone> BlockSource<A> {
         self.entry_in(&sound, key, seqno)
     }
 
-    /// Where the first handle leads that reaches a key and a number, in the index block that a handle names. Refused with the
-    /// first fault, as [`BlockSource::load`] is, and never for want of memory: none is taken. A block that was tested before
-    /// is walked up to that handle only. Each call counts, also where it refuses.
+    /// Where the first handle leads that reaches a key and a number, in the index block that a
+    /// handle names. Refused with the first fault, as [`BlockSource::load`] is, and never for want
+    /// of memory: none is taken. A block that was tested before is walked up to that handle only.
+    /// Each call counts, also where it refuses.
     pub fn find(
         &self,
         handle: &BlockHandle,
@@ -75,8 +80,9 @@ impl<A: Allocator + Clone> BlockSource<A> {
         self.handle_in(&sound, key, seqno)
     }
 
-    /// Whether the filter of the filter block that a handle names may have a hash. Refused with the first fault, as
-    /// [`BlockSource::load`] is, and never for want of memory: none is taken. Each call counts, also where it refuses.
+    /// Whether the filter of the filter block that a handle names may have a hash. Refused with the
+    /// first fault, as [`BlockSource::load`] is, and never for want of memory: none is taken. Each
+    /// call counts, also where it refuses.
     pub fn maybe_contains_hash(
         &self,
         handle: &BlockHandle,
@@ -94,7 +100,8 @@ impl<A: Allocator + Clone> BlockSource<A> {
         Ok(self.has_hash_in(&sound, hash))
     }
 
-    /// Where the payload lies of the block of a kind that a handle names, which has its checksum and room for what it counts.
+    /// Where the payload lies of the block of a kind that a handle names, which has its checksum
+    /// and room for what it counts.
     fn sound(&self, handle: &BlockHandle, kind: BlockType) -> Result<Sound, Error>
         ensures sound { IfOk result (λ s.
             IsSoundAt (body_of self.now) handle.now.offset handle.now.size kind s) }
@@ -126,18 +133,24 @@ impl<A: Allocator + Clone> BlockSource<A> {
             let header = sound.now.header in
             Gives (λ (found : Option Entry). found) result (told_map (point_of key.now seqno)
             (checked_payload header.version header.checksum Data payload)) }
+        ensures sure { let body = body_of self.now in
+            let payload = slice_range body sound.now.start sound.now.end in
+            let header = sound.now.header in
+            IsSure result (told_map (point_of key.now seqno)
+            (checked_payload header.version header.checksum Data payload)) }
     {
         let version = sound.header.version;
         let payload = &self.body()[sound.start..sound.end];
         let first = find_entry(version, payload, key, seqno, sound.is_tested)?;
         self.remember_walk(sound, BlockType::Data);
-        match first {
-            Some((at, entry)) if entry.key == key => {
-                let key_at = sound.start + at + entry_head_len(version);
-                Ok(Some(share_entry(&self.bytes, key_at, &entry)?))
-            }
-            _ => Ok(None),
+        let Some((at, entry)) = first else {
+            return Ok(None);
+        };
+        if entry.key != key {
+            return Ok(None);
         }
+        let key_at = sound.start + at + entry_head_len(version);
+        Ok(Some(share_entry(&self.bytes, key_at, &entry)?))
     }
 
     /// Where the first handle leads that reaches a key and a number, in a payload of handles.
