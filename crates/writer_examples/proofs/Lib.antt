@@ -1,1 +1,2 @@
 pub mod HandleLemmas
+pub mod KeyLemmas

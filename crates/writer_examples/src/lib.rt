@@ -2,6 +2,8 @@
 #![tactic(auto)]
 
 #[cfg(test)]
+mod filter_options;
+#[cfg(test)]
 mod many_tables;
 #[cfg(test)]
 mod one_entry_v4;

@@ -1,14 +1,18 @@
-//! Writers of indexes and of sections that were refused memory, each request in turn, and have ample
-//! memory again: the first refuse from then on, and what a section writer had stays.
+//! Writers of indexes and filters, and of sections, that were refused memory, each request in turn,
+//! and have ample memory again: the first refuse from then on, and what a section writer had stays.
 ghost use Rattle.std.specs.Prelude.{◌≡◌, ◌++◌, ◌∷◌, [], IfOk};
 ghost use Rattle.sst_blocks.specs.Handles.{AreStrictHandles};
-ghost use Rattle.lsm_files.specs.File.{HasNoIndex};
+ghost use Rattle.lsm_filter_writers.specs.Rising.{Rises};
+ghost use Rattle.lsm_files.specs.File.{HasNoFilter, HasNoIndex};
 
 use crate::refusals::{Answers, are_right, number};
-use lsm_writers::{BlockIndexWriter, FullIndexWriter, PartitionedIndexWriter};
+use lsm_writers::{
+    BlockIndexWriter, BloomConstructionPolicy, FilterWriter, FullFilterWriter, FullIndexWriter,
+    PartitionedFilterWriter, PartitionedIndexWriter,
+};
 use refusing::{Refusing, each_refused};
 use sst_blocks::{
-    BlockHandle, BlockOffset, Error, KeyedBlockHandle, SectionName, SectionWriter, Slice,
+    BlockHandle, BlockOffset, Error, KeyedBlockHandle, SectionName, SectionWriter, Slice, UserKey,
 };
 use std::alloc::{Allocator, Global};
 
@@ -28,6 +32,23 @@ fn with_front<A: Allocator + Copy>(alloc: A) -> Result<SectionWriter<A>, Error>
 fn has_front<A: Allocator + Copy>(sections: SectionWriter<A>) -> Result<bool, Error> {
     let (bytes, _) = sections.finish()?;
     Ok(bytes.as_slice().starts_with(FRONT))
+}
+
+// Registers a key, twice where it is refused, and finishes.
+fn register_key<A: Allocator, W: FilterWriter<A>>(
+    mut writer: W,
+    key: &UserKey<A>,
+    sections: &mut SectionWriter<A>,
+) -> Answers
+    requires rises { Rises (W.Holds writer) key.now }
+    requires unwritten { HasNoFilter sections.old }
+{
+    let mut answers = (0, 0);
+    if let Err(error) = writer.register_key(key) {
+        answers = (error.number(), number(writer.register_key(key).err()));
+    }
+    let (first, second) = answers;
+    (first, second, number(writer.finish(sections).err()))
 }
 
 // Registers a handle, twice where it is refused, and finishes.
@@ -60,6 +81,25 @@ fn is_right(outcome: Outcome, may_fail: bool) -> bool {
     }
 }
 
+// A full filter of one key.
+fn full_filter<A: Allocator + Copy>(alloc: A) -> Outcome {
+    let key: UserKey<A> = Slice::from(alloc, b"a")?;
+    let mut sections = with_front(alloc)?;
+    let writer = FullFilterWriter::new(alloc, BloomConstructionPolicy::default());
+    let answers = register_key(writer, &key, &mut sections);
+    Ok((answers, has_front(sections)?))
+}
+
+// A filter of one partition.
+fn partitioned_filter<A: Allocator + Copy>(alloc: A) -> Outcome {
+    let key: UserKey<A> = Slice::from(alloc, b"a")?;
+    let mut sections = with_front(alloc)?;
+    let none = PartitionedFilterWriter::new(alloc, BloomConstructionPolicy::default())?;
+    let writer = none.use_partition_size(0);
+    let answers = register_key(writer, &key, &mut sections);
+    Ok((answers, has_front(sections)?))
+}
+
 // The handle of a first block.
 fn first_block<A: Allocator + Copy>(alloc: A) -> Result<KeyedBlockHandle<A>, Error> {
     let lies = BlockHandle::new(BlockOffset(0), 47);
@@ -82,6 +122,24 @@ fn partitioned_index<A: Allocator + Copy>(alloc: A) -> Outcome {
     let mut sections = with_front(alloc)?;
     let answers = register_block(PartitionedIndexWriter::new(alloc), &handle, &mut sections);
     Ok((answers, has_front(sections)?))
+}
+
+#[test]
+fn a_full_filter_that_was_refused_memory_has_failed(rt: HostRuntime) {
+    let answers = each_refused(
+        rt.alloc(),
+        |heap, may_fail| is_right(full_filter(heap), may_fail),
+    );
+    assert!(rt; matches!(answers, Ok(requests) if requests > 3));
+}
+
+#[test]
+fn partitions_of_a_filter_that_were_refused_memory_have_failed(rt: HostRuntime) {
+    let answers = each_refused(
+        rt.alloc(),
+        |heap, may_fail| is_right(partitioned_filter(heap), may_fail),
+    );
+    assert!(rt; matches!(answers, Ok(requests) if requests > 6));
 }
 
 #[test]
