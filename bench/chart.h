@@ -93,7 +93,7 @@ class Chart {
 
  private:
   // Words stand left of the shortest bar, and behind the longest one there is room for its figure.
-  static constexpr double kWords = 330, kDoubling = 80, kLeast = -3.6, kMost = 3.2, kFigure = 48;
+  static constexpr double kWords = 350, kDoubling = 80, kLeast = -3.6, kMost = 3.2, kFigure = 48;
   static constexpr double kMiddle = kWords - kLeast * kDoubling;
   static constexpr int kWidth = static_cast<int>(kMiddle + kMost * kDoubling + kFigure);
   static constexpr const char* kFirst = "#4477aa";
