@@ -10,62 +10,67 @@
 struct Row {
   std::string work;
   double ours;
-  double level;
-  double rocks;
-  double level_warm;
-  double rocks_warm;
+  double limit;                // the hashing alone that the format asks for
+  std::vector<double> theirs;  // of each other store
 };
 
-inline std::string Cell(double value, const char* form) {
+inline std::string Nanoseconds(double value) {
   if (value <= 0) return "-";
   char text[32];
-  snprintf(text, sizeof text, form, value);
+  snprintf(text, sizeof text, value < 100 ? "%.1f" : "%.0f", value);
   return text;
 }
 
-inline std::string Ratio(double ours, double theirs) {
-  return theirs > 0 ? Cell(ours / theirs, "%.2f") : "-";
+// Another store's time, and how many times as long ours takes.
+inline std::string Beside(double ours, double theirs) {
+  if (ours <= 0 || theirs <= 0) return Nanoseconds(theirs);
+  char text[32];
+  snprintf(text, sizeof text, " (%.2f)", ours / theirs);
+  return Nanoseconds(theirs) + text;
 }
 
-inline std::string Nanoseconds(double value) { return Cell(value, value < 100 ? "%.1f" : "%.0f"); }
-
-inline void PrintTable(const std::string& title, const std::vector<Row>& rows) {
-  printf("\n%s\n\n", title.c_str());
-  printf("| Work | ours, ns | LevelDB, ns | RocksDB, ns | LevelDB, warm | RocksDB, warm |"
-         " to LevelDB | to RocksDB | to LevelDB, warm | to RocksDB, warm |\n");
-  printf("|---|---|---|---|---|---|---|---|---|---|\n");
+inline void PrintTable(const std::string& title, const std::vector<std::string>& stores,
+                       const std::vector<Row>& rows) {
+  printf("\n%s\n\n| Work | ours, ns | limit, ns |", title.c_str());
+  for (const std::string& store : stores) printf(" %s, ns (ratio) |", store.c_str());
+  printf("\n|---|---|---|");
+  for (size_t i = 0; i < stores.size(); i++) printf("---|");
+  printf("\n");
   for (const Row& row : rows) {
-    printf("| %s | %s | %s | %s | %s | %s | %s | %s | %s | %s |\n", row.work.c_str(),
-           Nanoseconds(row.ours).c_str(), Nanoseconds(row.level).c_str(),
-           Nanoseconds(row.rocks).c_str(), Nanoseconds(row.level_warm).c_str(),
-           Nanoseconds(row.rocks_warm).c_str(), Ratio(row.ours, row.level).c_str(),
-           Ratio(row.ours, row.rocks).c_str(), Ratio(row.ours, row.level_warm).c_str(),
-           Ratio(row.ours, row.rocks_warm).c_str());
+    printf("| %s | %s | %s |", row.work.c_str(), Nanoseconds(row.ours).c_str(),
+           Nanoseconds(row.limit).c_str());
+    for (size_t i = 0; i < stores.size(); i++) {
+      double theirs = i < row.theirs.size() ? row.theirs[i] : 0;
+      printf(" %s |", Beside(row.ours, theirs).c_str());
+    }
+    printf("\n");
   }
   fflush(stdout);
 }
 
-// How long ours takes beside each store without a cache: bars on a scale of logarithms, whose middle
-// line is the other store's time.
+// How long ours takes beside two stores: bars on a scale of logarithms, whose middle line is the
+// other store's time.
 class Chart {
  public:
   explicit Chart(const std::string& path) : file_(fopen(path.c_str(), "w")), path_(path) {}
 
   bool IsOpen() const { return file_ != nullptr; }
 
-  void Draw(const std::string& title, const std::vector<Row>& rows) {
+  // The stores are named by their places in each row.
+  void Draw(const std::string& title, const std::vector<std::string>& stores,
+            const std::vector<Row>& rows, size_t first, size_t second) {
     std::vector<const Row*> shown;
     for (const Row& row : rows) {
-      if (row.level > 0) shown.push_back(&row);
+      if (row.theirs[first] > 0 && row.ours > 0) shown.push_back(&row);
     }
     int height = 80 + 40 * static_cast<int>(shown.size());
     fprintf(file_,
-            "<svg xmlns=\"http://www.w3.org/2000/svg\" width=\"760\" height=\"%d\" "
+            "<svg xmlns=\"http://www.w3.org/2000/svg\" width=\"%d\" height=\"%d\" "
             "font-family=\"sans-serif\" font-size=\"13\">\n"
             "<rect width=\"100%%\" height=\"100%%\" fill=\"white\"/>\n"
             "<text x=\"12\" y=\"22\" font-size=\"15\">%s</text>\n",
-            height, title.c_str());
-    Legend();
+            kWidth, height, title.c_str());
+    Legend(stores[first], stores[second]);
     for (double line : {0.125, 0.25, 0.5, 1.0, 2.0, 4.0, 8.0}) {
       fprintf(file_,
               "<line x1=\"%.1f\" y1=\"56\" x2=\"%.1f\" y2=\"%d\" stroke=\"%s\"/>\n"
@@ -76,8 +81,8 @@ class Chart {
     int y = 60;
     for (const Row* row : shown) {
       fprintf(file_, "<text x=\"12\" y=\"%d\">%s</text>\n", y + 20, row->work.c_str());
-      Bar(y, row->ours / row->level, "#4477aa");
-      Bar(y + 16, row->ours / row->rocks, "#cc6677");
+      Bar(y, row->ours / row->theirs[first], kFirst);
+      if (row->theirs[second] > 0) Bar(y + 16, row->ours / row->theirs[second], kSecond);
       y += 40;
     }
     fprintf(file_, "</svg>\n");
@@ -87,18 +92,25 @@ class Chart {
   }
 
  private:
+  // Words stand left of the shortest bar, and behind the longest one there is room for its figure.
+  static constexpr double kWords = 350, kDoubling = 80, kLeast = -3.6, kMost = 3.2, kFigure = 48;
+  static constexpr double kMiddle = kWords - kLeast * kDoubling;
+  static constexpr int kWidth = static_cast<int>(kMiddle + kMost * kDoubling + kFigure);
+  static constexpr const char* kFirst = "#4477aa";
+  static constexpr const char* kSecond = "#cc6677";
+
   static double At(double ratio) {
-    double place = std::log2(ratio);
-    return 480 + 80 * std::fmin(std::fmax(place, -3.6), 3.2);
+    return kMiddle + kDoubling * std::fmin(std::fmax(std::log2(ratio), kLeast), kMost);
   }
 
-  void Legend() {
+  void Legend(const std::string& first, const std::string& second) {
     fprintf(file_,
-            "<rect x=\"12\" y=\"34\" width=\"12\" height=\"12\" fill=\"#4477aa\"/>"
-            "<text x=\"30\" y=\"45\">to LevelDB</text>"
-            "<rect x=\"130\" y=\"34\" width=\"12\" height=\"12\" fill=\"#cc6677\"/>"
-            "<text x=\"148\" y=\"45\">to RocksDB</text>"
-            "<text x=\"260\" y=\"45\" fill=\"#555\">left of 1: ours is faster</text>\n");
+            "<rect x=\"12\" y=\"34\" width=\"12\" height=\"12\" fill=\"%s\"/>"
+            "<text x=\"30\" y=\"45\">to %s</text>"
+            "<rect x=\"180\" y=\"34\" width=\"12\" height=\"12\" fill=\"%s\"/>"
+            "<text x=\"198\" y=\"45\">to %s</text>"
+            "<text x=\"%.0f\" y=\"45\" fill=\"#555\">left of 1: ours is faster</text>\n",
+            kFirst, first.c_str(), kSecond, second.c_str(), kWords);
   }
 
   void Bar(int y, double ratio, const char* color) {

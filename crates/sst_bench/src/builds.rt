@@ -49,6 +49,27 @@ pub(crate) fn write_next(writer: &mut Writer, item: InternalValue) -> Result<(),
     writer.write(item)
 }
 
+// The entry whose key and value stand first, and what stands behind them.
+#[inline(always)]
+pub(crate) fn first_item<'a>(
+    alloc: Global,
+    store: &'a [u8],
+    key_len: usize,
+    value_len: usize,
+    seqno: SeqNo,
+) -> Result<(InternalValue, &'a [u8]), Error> {
+    let Some((key, after)) = store.split_at_checked(key_len) else {
+        return Err(Error::Source(1));
+    };
+    let Some((value, after)) = after.split_at_checked(value_len) else {
+        return Err(Error::Source(2));
+    };
+    let key = Slice::from(alloc, key)?;
+    let value = Slice::from(alloc, value)?;
+    let item = InternalValue::from_components(key, value, seqno, ValueType::Value);
+    Ok((item, after))
+}
+
 // Writes entries whose keys and values stand behind one another.
 fn write_each(
     alloc: Global,
@@ -63,16 +84,8 @@ fn write_each(
         if rest.is_empty() {
             break;
         }
-        let Some((key, after)) = rest.split_at_checked(key_len) else {
-            return Err(Error::Source(1));
-        };
-        let Some((value, after)) = after.split_at_checked(value_len) else {
-            return Err(Error::Source(2));
-        };
+        let (item, after) = first_item(alloc, rest, key_len, value_len, seqno)?;
         rest = after;
-        let key = Slice::from(alloc, key)?;
-        let value = Slice::from(alloc, value)?;
-        let item = InternalValue::from_components(key, value, seqno, ValueType::Value);
         write_next(writer, item)?;
     }
     Ok(())
@@ -87,8 +100,19 @@ fn copy_out(table: &FinishedTable, out: &mut [u8]) {
     }
 }
 
+// A writer of a table, with index and filter in partitions or each in one block.
+fn writer_of(alloc: Global, partitioned: bool) -> Result<Writer, Error> {
+    let writer = Writer::new(alloc, 1, 0, Timestamp::from(0))?;
+    if partitioned {
+        Ok(writer.use_partitioned_index().use_partitioned_filter())
+    } else {
+        Ok(writer)
+    }
+}
+
 fn build(
     alloc: Global,
+    partitioned: bool,
     store: &[u8],
     key_len: usize,
     value_len: usize,
@@ -96,7 +120,7 @@ fn build(
     out: &mut [u8],
     written: &mut Written,
 ) -> Result<(), Error> {
-    let mut writer = Writer::new(alloc, 1, 0, Timestamp::from(0))?;
+    let mut writer = writer_of(alloc, partitioned)?;
     write_each(alloc, &mut writer, store, key_len, value_len, seqno)?;
     *written = Written::none();
     if let Some(table) = writer.finish()? {
@@ -119,5 +143,20 @@ pub extern "C" fn sst_bench_build(
     out: &mut [u8],
     written: &mut Written,
 ) -> u32 {
-    code(build(alloc, store, key_len, value_len, seqno, out, written))
+    code(build(alloc, false, store, key_len, value_len, seqno, out, written))
+}
+
+/// Writes a table as [`sst_bench_build`] does, with its index and its filter in partitions of 4,096
+/// bytes.
+#[unsafe(no_mangle)]
+pub extern "C" fn sst_bench_build_partitioned(
+    alloc: Global,
+    store: &[u8],
+    key_len: usize,
+    value_len: usize,
+    seqno: u64,
+    out: &mut [u8],
+    written: &mut Written,
+) -> u32 {
+    code(build(alloc, true, store, key_len, value_len, seqno, out, written))
 }

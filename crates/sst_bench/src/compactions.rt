@@ -105,7 +105,7 @@ fn compacted(alloc: Global, tables: &[Table], target: u64) -> Result<Vec<Finishe
     write_all(alloc, &mut stream, target)
 }
 
-fn written_of(tables: &[FinishedTable]) -> Written {
+pub(crate) fn written_of(tables: &[FinishedTable]) -> Written {
     let mut written = Written::none();
     for table in tables {
         written.add(table);

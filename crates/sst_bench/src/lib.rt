@@ -12,6 +12,7 @@
 //! them with those of the other stores.
 #![tactic(auto)]
 
+mod batches;
 mod builds;
 mod compactions;
 mod digest;
@@ -20,9 +21,11 @@ mod gets;
 mod merges;
 mod packings;
 mod ranges;
+mod runs;
 mod scans;
 
-pub use builds::{Written, sst_bench_build};
+pub use batches::sst_bench_get_many;
+pub use builds::{Written, sst_bench_build, sst_bench_build_partitioned};
 pub use compactions::{sst_bench_compact, sst_bench_compact_and_scan};
 pub use digest::Digest;
 pub use files::sst_bench_open;
@@ -30,4 +33,5 @@ pub use gets::sst_bench_get;
 pub use merges::sst_bench_merge;
 pub use packings::{Packed, sst_bench_optimize_runs};
 pub use ranges::{sst_bench_range, sst_bench_range_runs};
-pub use scans::sst_bench_scan;
+pub use runs::sst_bench_compact_runs;
+pub use scans::{sst_bench_iter, sst_bench_iter_back, sst_bench_scan};

@@ -10,9 +10,9 @@ use std::alloc::Global;
 use std::ops::Bound;
 use std::sync::Arc;
 
-// Takes all that an iterator gives. It is generic in it, so that a caller hands a large one on and has none of its parts to
-// let go.
-fn take_all<I: Iterator<Item = IterItem<Global>> + Drop>(
+// Takes all that an iterator gives. It is generic in it, so that a caller hands a large one on and
+// has none of its parts to let go.
+pub(crate) fn take_all<I: Iterator<Item = IterItem<Global>> + Drop>(
     mut items: I,
     digest: &mut Digest,
 ) -> Result<(), Error>
