@@ -109,9 +109,6 @@ range_short xs from len = omega (arith, length-take (from + len - from) (drop fr
 
 -- ---- faults that are found before memory is taken
 
-pub none_told : {X : Type 0} (r : Result X Error) (fault : Option Error) → fault ≡ None → FaultsFirst r fault
-none_told r fault none f is = let wrong : Some f ≡ None = sym is ∙ none in absurd cc
-
 behind : (wrong : Bool) (e : Error) (fault next : Option Error) → wrong ≡ false → fault ≡ None → (if wrong then Some e else option_or fault next) ≡ next
 behind wrong e fault next fine none = rw (fine, none) refl
 
@@ -193,9 +190,6 @@ pub checksum_wrong : (v : TableVersion) (checksum : ℕ) (kind : BlockType) (pay
 unfolding checked_payload
 checksum_wrong v checksum kind payload differ = grind arith
 
-pub checksum_told : (checksum : ℕ) (payload : List ℕ) → (fnv1a payload ≡ checksum → ⊥) → checksum_fault checksum payload ≡ Some ChecksumMismatch
-checksum_told checksum payload differ = grind arith
-
 pub checksum_right : (v : TableVersion) (checksum : ℕ) (kind : BlockType) (payload : List ℕ) → fnv1a payload ≡ checksum → checked_payload v checksum kind payload ≡ unless (grammar_fault v kind payload) (Ok (loaded v kind payload))
 unfolding checked_payload
 checksum_right v checksum kind payload same = let e = eq-eqb (fnv1a payload) checksum same in rw e refl
@@ -204,9 +198,6 @@ checksum_right v checksum kind payload same = let e = eq-eqb (fnv1a payload) che
 pub given_items : (v : TableVersion) (checksum : ℕ) (kind : BlockType) (payload : List ℕ) (b : Loaded) → checked_payload v checksum kind payload ≡ Ok b → in_grammar v kind payload ≡ true
 unfolding checked_payload
 given_items v checksum kind payload b given = grind arith
-
-pub checksum_fine : (checksum : ℕ) (payload : List ℕ) → fnv1a payload ≡ checksum → checksum_fault checksum payload ≡ None
-checksum_fine checksum payload same = grind arith
 
 -- what is loaded is of the kind that was asked for
 passed : {A : Type 0} (wrong : Bool) (e : Error) (told : Result A Error) (x : A) → (if wrong then Err e else told) ≡ Ok x → told ≡ Ok x
