@@ -9,7 +9,7 @@ use Rattle.sst_blocks.specs.Starts.{HoldsEntries}
 use Rattle.sst_entries.specs.declared.error.Error.{Error}
 use Rattle.sst_entries.specs.declared.error.Error.TheVariants.{Truncated, InvalidHeader, ChecksumMismatch}
 use Rattle.sst_sections.specs.declared.version.TableVersion.{TableVersion}
-use Rattle.sst_entries.specs.Error.{Gives, FaultsFirst, unless}
+use Rattle.sst_entries.specs.Error.{Gives, unless}
 use Rattle.std.specs.Option.{option_or}
 use Rattle.sst_sections.specs.Fnv.{fnv1a}
 use Rattle.sst_blocks.specs.Block.{Loaded, grammar_fault, in_grammar, checksum_fault, loaded, header_fault, data_len, uncompressed_len, stored_checksum, version_in, checked_payload, load_told, load_at_told, place_fault, position_fault, room_fault}

@@ -1,5 +1,6 @@
 -- A payload that has its checksum may be marked.
-use Rattle.std.proofs.Common.{◌≡◌, ◌≤◌, ℕ, zero, suc, ◌+◌, ◌-◌, true, List, [], ◌∷◌, length, slice_index, slice_set, slice_range, refl, subst, sym, ap, ◌∙◌, arith}
+use Rattle.std.proofs.Common.{◌≡◌, ◌≤◌, ℕ, zero, suc, ◌+◌, ◌-◌, true, List, [], ◌∷◌, ◌++◌, length, replicate, take, slice_index, slice_set, slice_range, refl, subst, sym, ap, ◌∙◌, arith}
+use Rattle.std.specs.List.{All}
 use Rattle.std.proofs.lemmas.List.{length-take}
 use Rattle.bytes.proofs.Ranges.{slice_range_front}
 use Rattle.sst_sections.specs.declared.version.TableVersion.{TableVersion}
@@ -82,3 +83,24 @@ said_there bytes at checksum len within sum size =
       sum = ap stored_checksum head ∙ sym sum;
       len = ap (λ (n : ℕ). at + 24 + n) (ap data_len head ∙ sym size);
     }
+
+-- a word that is 0 says nothing
+none_says : (bytes : List ℕ) → Says bytes 0
+none_says bytes = record {
+  sum = λ start e. absurd (omega (arith, e));
+  tested = λ start e. absurd (omega (arith, e));
+}
+
+-- nor does any of some that all are
+pub unmarked_say : (bytes : List ℕ) (n m i : ℕ) → Says bytes (slice_index (take n (replicate m 0)) i)
+unmarked_say bytes zero m i = none_says bytes
+unmarked_say bytes (suc n) zero i = none_says bytes
+unmarked_say bytes (suc n) (suc m) zero = none_says bytes
+unmarked_say bytes (suc n) (suc m) (suc i) = unmarked_say bytes n m i
+
+-- what holds of all and of one more holds of all with it
+pub all_more : {X : Type 0} (P : X → Type 0) (xs : List X) (x : X) → P x → All P xs → All P (xs ++ x ∷ [])
+all_more P [] x holds all zero d lt = holds
+all_more P [] x holds all (suc k) d lt = absurd (omega (arith, lt))
+all_more P (y ∷ ys) x holds all zero d lt = all zero d (omega arith)
+all_more P (y ∷ ys) x holds all (suc k) d lt = all_more P ys x holds (λ j e le. all (suc j) e (omega (arith, le))) k d (omega (arith, lt))

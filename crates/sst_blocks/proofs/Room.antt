@@ -1,16 +1,15 @@
 -- A payload in the grammar has room for what it counts, and what is told of one that has not.
 use Rattle.std.proofs.Common.{◌≡◌, ℕ, ◌+◌, ◌*◌, ◌≤◌, Bool, true, false, List, length, refl, sym, ◌∙◌, arith}
 use Rattle.std.specs.Prelude.{Option, Some, None, Err, is_some}
-use Rattle.std.specs.Option.{option_or}
 use Rattle.std.proofs.lemmas.Bool.{le-leb, leb-true}
 use Rattle.sst_sections.specs.declared.version.TableVersion.{TableVersion}
 use Rattle.sst_blocks.specs.declared.block_type.BlockType.{BlockType}
 use Rattle.sst_blocks.specs.declared.block_type.BlockType.TheVariants.{Data, Index, Filter, Meta}
-use Rattle.sst_entries.specs.declared.error.Error.TheVariants.{ChecksumMismatch, InvalidBlock}
+use Rattle.sst_entries.specs.declared.error.Error.TheVariants.{InvalidBlock}
 use Rattle.sst_sections.specs.Fnv.{fnv1a}
 use Rattle.sst_sections.specs.Number.{num4}
 use Rattle.sst_sections.specs.Version.{key_width}
-use Rattle.sst_blocks.specs.Block.{checked_payload, checksum_fault, has_room, has_room_for, in_grammar, room_fault}
+use Rattle.sst_blocks.specs.Block.{checked_payload, has_room, has_room_for, in_grammar}
 use Rattle.sst_blocks.specs.Handles.{handles_in}
 use Rattle.sst_blocks.specs.Reading.{entries_in}
 use Rattle.sst_blocks.proofs.Entries.{entry_format, entries_advance, entries_in_same, length-spelled}

@@ -56,7 +56,7 @@ impl<A: Allocator> Model for BlockSource<A> {
     ghost view = { λ s. s.bytes };
 
     ghost invariant = { λ s. (s.toc ≡ map (section_in s.bytes) section_names) × (trailer_fault s.bytes ≡ None) ×
-        MatchOption s.marks (Unit {0}) (λ m. (arc_value m).table.shared.key ≡ s.bytes) };
+        MatchOption s.marks (Unit {0}) (λ m. arc_value m ≡ s.bytes) };
 }
 
 impl<A: Allocator + Clone> Clone for BlockSource<A> {
@@ -80,8 +80,8 @@ impl<A: Allocator + Clone> Clone for BlockSource<A> {
 // The same marks, or none where the count of their sharers is refused.
 fn shared<A: Allocator>(marks: &Option<Arc<Marks<A>, A>>) -> Option<Arc<Marks<A>, A>>
     ensures { (bytes : List ℕ) →
-        MatchOption marks.now (Unit {0}) (λ m. (arc_value m).table.shared.key ≡ bytes) →
-        MatchOption result (Unit {0}) (λ m. (arc_value m).table.shared.key ≡ bytes) }
+        MatchOption marks.now (Unit {0}) (λ m. arc_value m ≡ bytes) →
+        MatchOption result (Unit {0}) (λ m. arc_value m ≡ bytes) }
 {
     match marks {
         Some(marks) => marks.clone().ok(),
@@ -91,7 +91,7 @@ fn shared<A: Allocator>(marks: &Option<Arc<Marks<A>, A>>) -> Option<Arc<Marks<A>
 
 // Marks of no payload, or none where there is no memory for them.
 fn new_marks<A: Allocator + Clone>(alloc: &A, bytes: &Slice<A>) -> Option<Arc<Marks<A>, A>>
-    ensures { MatchOption result (Unit {0}) (λ m. (arc_value m).table.shared.key ≡ bytes.now) }
+    ensures { MatchOption result (Unit {0}) (λ m. arc_value m ≡ bytes.now) }
 {
     match shared_marks(alloc, bytes) {
         Ok(marks) => Some(marks),
@@ -103,7 +103,7 @@ fn shared_marks<A: Allocator + Clone>(
     alloc: &A,
     bytes: &Slice<A>,
 ) -> Result<Arc<Marks<A>, A>, AllocError>
-    ensures { IfOk result (λ m. (arc_value m).table.shared.key ≡ bytes.now) }
+    ensures { IfOk result (λ m. arc_value m ≡ bytes.now) }
 {
     let marks = Marks::new(alloc.clone()?, bytes)?;
     Ok(Arc::new(alloc.clone()?, marks)?)
@@ -498,7 +498,7 @@ impl<A: Allocator + Clone> BlockSource<A> {
         third: Option<Said>,
         fourth: Option<Said>,
     )
-        requires of { marks.now.table.shared.key ≡ self.now }
+        requires of { marks.now ≡ self.now }
         requires first { IfSome first (λ s. IsSaid self.now s.start s.end s.checksum) }
         requires second { IfSome second (λ s. IsSaid self.now s.start s.end s.checksum) }
         requires third { IfSome third (λ s. IsSaid self.now s.start s.end s.checksum) }
@@ -524,7 +524,7 @@ impl<A: Allocator + Clone> BlockSource<A> {
     /// Compares the checksums of two payloads in one loop, each from both ends, and marks those that have what their headers
     /// say.
     fn compare_both(&self, marks: &Marks<A>, first: Option<Said>, second: Option<Said>)
-        requires of { marks.now.table.shared.key ≡ self.now }
+        requires of { marks.now ≡ self.now }
         requires first { IfSome first (λ s. IsSaid self.now s.start s.end s.checksum) }
         requires second { IfSome second (λ s. IsSaid self.now s.start s.end s.checksum) }
     {
@@ -612,7 +612,7 @@ impl<A: Allocator + Clone> BlockSource<A> {
 
     /// Marks a payload where it has the checksum that its header says.
     fn mark_said(&self, marks: &Marks<A>, said: Option<Said>, has_sum: bool)
-        requires of { marks.now.table.shared.key ≡ self.now }
+        requires of { marks.now ≡ self.now }
         requires said { IfSome said (λ s. IsSaid self.now s.start s.end s.checksum) }
         requires sum { IfSome said (λ s.
             IsTrue has_sum → fnv1a (slice_range self.now s.start s.end) ≡ s.checksum) }

@@ -10,7 +10,7 @@ mark_tested-requires-clause-sum g c =
     let bytes : List ℕ = c.args.self.now in
     let headed : IsHeaded bytes c.args.start c.args.end c.args.header.now.version c.args.kind c.args.header.now.checksum = c.if-is_headed.ensures refl in
     let of = rw c.in-Some.is at c.self.invariant.2 in
-    let key : c.deref.result.now.table.shared.key ≡ bytes = cc (c.deref.ensures, of, c.self.view_is) in
+    let key : c.deref.result.now ≡ bytes = cc (c.deref.ensures, of, c.self.view_is) in
     let sum = ap fnv1a (sym (body_part bytes c.args.start c.args.end c.requires.within)) ∙ c.requires.sum in
     subst (λ (b : List ℕ). HasSum b c.args.start) (sym key) (sum_said bytes c.args.start c.args.end c.args.header.now.checksum headed.said sum)
 
@@ -19,6 +19,6 @@ mark_tested-requires-clause-items g c =
     let bytes : List ℕ = c.args.self.now in
     let headed : IsHeaded bytes c.args.start c.args.end c.args.header.now.version c.args.kind c.args.header.now.checksum = c.if-is_headed.ensures refl in
     let of = rw c.in-Some.is at c.self.invariant.2 in
-    let key : c.deref.result.now.table.shared.key ≡ bytes = cc (c.deref.ensures, of, c.self.view_is) in
+    let key : c.deref.result.now ≡ bytes = cc (c.deref.ensures, of, c.self.view_is) in
     let told = subst (λ (p : List ℕ). in_grammar c.args.header.now.version c.args.kind p ≡ true) (body_part bytes c.args.start c.args.end c.requires.within) c.requires.items in
     subst (λ (b : List ℕ). HasItems b c.args.start) (sym key) (tested_items bytes c.args.start c.args.end c.args.header.now.version c.args.kind c.args.header.now.checksum headed told)
