@@ -158,12 +158,12 @@ impl<A: Allocator + Clone> Iter<A> {
         Ok(cut(DataBlock::new(block), &self.range.0, &self.range.1))
     }
 
-    /// From the third block on, has the checksums of a block and of those behind it compared together: whoever took two blocks
-    /// whole is likely to go on. No answer depends on it.
+    /// Has the checksums of a block and of the one behind it compared together, which costs little more than its own alone;
+    /// from the fifth block on, of the three behind it: whoever took four blocks whole is likely to go on. No answer depends
+    /// on it.
     fn look_ahead(&self, handle: &KeyedBlockHandle<A>) {
-        if self.opened.data_loads >= 2 {
-            self.source.compare_ahead(handle.offset().0);
-        }
+        let most = if self.opened.data_loads < 4 { 2 } else { 4 };
+        self.source.compare_ahead(handle.offset().0, most);
     }
 
     /// Loads the next block at the front, where one is left.

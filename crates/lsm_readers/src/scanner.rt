@@ -64,7 +64,7 @@ fn block_at<A: Allocator + Clone>(
     ensures counted { opened.new ≡ with_load Data opened.old }
 {
     // The blocks behind it will be asked next: their checksums cost little more with this one's.
-    source.compare_ahead(position);
+    source.compare_ahead(position, 4);
     let block = source.load_at(position, BlockType::Data, opened)?;
     let next = position + Header::serialized_len() as u64 + block.size() as u64;
     Ok((DataBlock::new(block), next))

@@ -16,3 +16,5 @@ mod loading;
 mod sections;
 #[cfg(test)]
 mod stored_table;
+#[cfg(test)]
+mod together;

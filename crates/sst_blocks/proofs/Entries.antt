@@ -207,7 +207,7 @@ pub record Lies (v : TableVersion) (bytes : List ℕ) (e : Entry) (rest : List �
   pub rest_is : rest ≡ drop (13 + key_width v + length e.user_key + length e.value) bytes
   pub within : 13 + key_width v + length e.user_key + length e.value ≤ length bytes
 
-entry_lies : (v : TableVersion) (bytes : List ℕ) (e : Entry) (rest : List ℕ) → entry_at v bytes ≡ Some (e, rest) → Lies v bytes e rest
+pub entry_lies : (v : TableVersion) (bytes : List ℕ) (e : Entry) (rest : List ℕ) → entry_at v bytes ≡ Some (e, rest) → Lies v bytes e rest
 unfolding entry_at parts_at
 entry_lies v bytes e rest h =
     let w = key_width v in
@@ -288,7 +288,7 @@ pub record Stands (v : TableVersion) (bytes : List ℕ) (at : ℕ) (e : Entry) :
   pub key : slice_range bytes (at + (13 + key_width v)) (at + (13 + key_width v) + length e.user_key) ≡ e.user_key
   pub value : slice_range bytes (at + (13 + key_width v) + length e.user_key) (at + (13 + key_width v) + length e.user_key + length e.value) ≡ e.value
 
-stands : (v : TableVersion) (bytes : List ℕ) (at : ℕ) (e : Entry) → Here (entry_format v) bytes at e → Stands v bytes at e
+pub stands : (v : TableVersion) (bytes : List ℕ) (at : ℕ) (e : Entry) → Here (entry_format v) bytes at e → Stands v bytes at e
 stands v bytes at e h =
     let w = 13 + key_width v in
     let k = length e.user_key in

@@ -43,7 +43,7 @@ items_in f bytes =
 
 -- ---- starts
 
-starts_push : {X : Type 0} (spell : X → List ℕ) (at : ℕ) (xs : List X) (x : X) → starts_of spell at (xs ++ x ∷ []) ≡ starts_of spell at xs ++ (at + length (flat_map spell xs)) ∷ []
+pub starts_push : {X : Type 0} (spell : X → List ℕ) (at : ℕ) (xs : List X) (x : X) → starts_of spell at (xs ++ x ∷ []) ≡ starts_of spell at xs ++ (at + length (flat_map spell xs)) ∷ []
 unfolding starts_of
 starts_push spell at [] x =
     let k : at ≡ at + 0 = omega arith in
@@ -62,7 +62,7 @@ length-starts spell at (x ∷ xs) = ap suc (length-starts spell (at + length (sp
 none_in_some : {A : Type 0} (o : Option A) → o ≡ None → (x : A) → o ≡ Some x → ⊥
 none_in_some o none x some = none-some x (sym none ∙ some)
 
-option_map_some : {A B P : Type 0} (f : A → B) (o : Option A) (y : B) → option_map f o ≡ Some y → ((x : A) → o ≡ Some x → f x ≡ y → P) → P
+pub option_map_some : {A B P : Type 0} (f : A → B) (o : Option A) (y : B) → option_map f o ≡ Some y → ((x : A) → o ≡ Some x → f x ≡ y → P) → P
 option_map_some f None y h k = absurd (none-some y h)
 option_map_some f (Some x) y h k = k x refl (same_Some (f x) y h)
 
@@ -71,7 +71,7 @@ pub guard_some : {A : Type 0} (b : Bool) (o : Option A) (y : A) → cond b None 
 guard_some true o y e = absurd cc
 guard_some false o y e = (refl, e)
 
-tail_bytes : (bytes front rest : List ℕ) → IsBytes bytes → bytes ≡ front ++ rest → IsBytes rest
+pub tail_bytes : (bytes front rest : List ℕ) → IsBytes bytes → bytes ≡ front ++ rest → IsBytes rest
 tail_bytes bytes front rest fits e = subst IsBytes (ap (drop (length front)) e ∙ drop_at front rest (length front) refl) (IsBytes-drop (length front) bytes fits)
 
 module _ {X : Type 0} (f : Format X) (Fits : X → Type 0) (law : IsFormat f Fits) where
@@ -137,16 +137,16 @@ pub record Walk {X : Type 0} (f : Format X) (bytes rest starts : List ℕ) (last
   pub places : starts ≡ starts_of f.spell 4 items
   pub place : length bytes ≡ 4 + length (flat_map f.spell items) + length rest
 
-map_nothing : {X : Type 0} (o : Option (List X)) → o ≡ option_map (λ more. [] ++ more) o
+pub map_nothing : {X : Type 0} (o : Option (List X)) → o ≡ option_map (λ more. [] ++ more) o
 map_nothing None = refl
 map_nothing (Some xs) = refl
 
-map_one : {X : Type 0} (xs : List X) (x : X) (o : Option (List X)) → option_map (λ more. xs ++ more) (option_map (λ more. x ∷ more) o) ≡ option_map (λ more. (xs ++ x ∷ []) ++ more) o
+pub map_one : {X : Type 0} (xs : List X) (x : X) (o : Option (List X)) → option_map (λ more. xs ++ more) (option_map (λ more. x ∷ more) o) ≡ option_map (λ more. (xs ++ x ∷ []) ++ more) o
 map_one xs x None = refl
 map_one xs x (Some more) = ap (λ ys. Some ys) (sym (append_assoc xs (x ∷ []) more))
 
 module _ {X : Type 0} (f : Format X) where
-  pub walk_begins : (bytes : List ℕ) → 4 ≤ length bytes → IsBytes bytes → Walk f bytes (drop 4 bytes) [] None 0
+  unfoldable pub walk_begins : (bytes : List ℕ) → 4 ≤ length bytes → IsBytes bytes → Walk f bytes (drop 4 bytes) [] None 0
   unfolding is_strict_after last_of starts_of
   walk_begins bytes long fits = record {
     items = [];
@@ -162,7 +162,7 @@ module _ {X : Type 0} (f : Format X) where
     place = omega (arith, length-drop 4 bytes);
   }
 
-  pub walk_on : (Fits : X → Type 0) → IsFormat f Fits → (bytes rest starts : List ℕ) (last : Option Entry) (n : ℕ) (x : X) (after : List ℕ) → Walk f bytes rest starts last n
+  unfoldable pub walk_on : (Fits : X → Type 0) → IsFormat f Fits → (bytes rest starts : List ℕ) (last : Option Entry) (n : ℕ) (x : X) (after : List ℕ) → Walk f bytes rest starts last n
       → f.read rest ≡ Some (x, after) → may_follow last (f.key x) ≡ true → Walk f bytes after (starts ++ (length bytes - length rest) ∷ []) (Some (f.key x)) (n + 1)
   walk_on Fits law bytes rest starts last n x after w read follows =
       let one = law.takes rest x after w.fits read in
@@ -236,20 +236,23 @@ module _ {X : Type 0} (f : Format X) where
       let whole : items_at f.read (num4 bytes) (drop 4 bytes) ≡ None = w.reads 0 (omega arith) ∙ ap (option_map (λ more. w.items ++ more)) (none_after_last rest more) in
       nothing_in bytes (λ xs some. absurd (none_in_some _ whole xs some))
 
-  -- the walk has used the bytes up
-  pub walk_ends : (bytes rest starts : List ℕ) (last : Option Entry) (n : ℕ) → length bytes < 2 ^ 32 → Walk f bytes rest starts last n → n ≡ num4 bytes → length rest ≡ 0
-      → SpellsAt X f.spell (items_in f bytes) bytes starts
-  walk_ends bytes rest starts last n short w all none =
+  -- the walk has used the bytes up: its items are the list
+  pub walk_all : (bytes rest starts : List ℕ) (last : Option Entry) (n : ℕ) (w : Walk f bytes rest starts last n) → n ≡ num4 bytes → length rest ≡ 0 → items_in f bytes ≡ Some w.items
+  walk_all bytes rest starts last n w all none =
       let empty : rest ≡ [] = nil_from_length rest none in
       let whole : items_at f.read (num4 bytes) (drop 4 bytes) ≡ Some w.items =
       w.reads 0 (omega arith) ∙ ap (λ (b : List ℕ). option_map (λ more. w.items ++ more) (items_at f.read 0 b)) empty ∙ ap (λ xs. Some xs) (append-nil w.items) in
       let long : ltb (length bytes) 4 ≡ false = le-ltb _ _ w.long in
-      record {
-        items = w.items;
-        are = rw (long, whole, w.ordered) refl;
-        places = w.places;
-        short = short;
-      }
+      rw (long, whole, w.ordered) refl
+
+  pub walk_ends : (bytes rest starts : List ℕ) (last : Option Entry) (n : ℕ) → length bytes < 2 ^ 32 → Walk f bytes rest starts last n → n ≡ num4 bytes → length rest ≡ 0
+      → SpellsAt X f.spell (items_in f bytes) bytes starts
+  walk_ends bytes rest starts last n short w all none = record {
+    items = w.items;
+    are = walk_all bytes rest starts last n w all none;
+    places = w.places;
+    short = short;
+  }
 
 -- ---- what stands at a start
 
@@ -295,7 +298,7 @@ module _ {X : Type 0} (f : Format X) (advances : Advances f) where
       start_holds n bytes next xs i d b long reads (omega (arith, lt))))
 
   -- what a payload spells is read from its fourth byte on
-  items_read : (bytes : List ℕ) (xs : List X) → items_in f bytes ≡ Some xs → (4 ≤ length bytes) × (items_at f.read (num4 bytes) (drop 4 bytes) ≡ Some xs) × (in_order f xs ≡ true)
+  pub items_read : (bytes : List ℕ) (xs : List X) → items_in f bytes ≡ Some xs → (4 ≤ length bytes) × (items_at f.read (num4 bytes) (drop 4 bytes) ≡ Some xs) × (in_order f xs ≡ true)
   items_read bytes xs h =
       let body : Option (List X) = option_and_then (λ (ys : List X). if in_order f ys then Some ys else None) (items_at f.read (num4 bytes) (drop 4 bytes)) in
       let g = guard_some (ltb (length bytes) 4) body xs h in

@@ -1,4 +1,5 @@
 pub mod Items
+pub mod Searches
 pub mod Entries
 pub mod HandleLaws
 pub mod SpanLemmas
@@ -16,3 +17,4 @@ pub mod Grown
 pub mod Narrowing
 pub mod StrictHandles
 pub mod MarkLemmas
+pub mod Asked

@@ -4,6 +4,8 @@ use Rattle.std.specs.Prelude.{Option, Some, None, Result, Ok, Err, IfOk}
 use Rattle.std.proofs.lemmas.Bool.{eq-eqb}
 use Rattle.std.proofs.lemmas.List.{length-take}
 use Rattle.sst_blocks.specs.declared.block_type.BlockType.{BlockType}
+use Rattle.sst_blocks.specs.declared.block_type.BlockType.TheVariants.{Data, Index, Filter, Meta}
+use Rattle.sst_blocks.specs.Starts.{HoldsEntries}
 use Rattle.sst_entries.specs.declared.error.Error.{Error}
 use Rattle.sst_entries.specs.declared.error.Error.TheVariants.{Truncated, InvalidHeader, ChecksumMismatch}
 use Rattle.sst_sections.specs.declared.version.TableVersion.{TableVersion}
@@ -107,9 +109,6 @@ range_short xs from len = omega (arith, length-take (from + len - from) (drop fr
 
 -- ---- faults that are found before memory is taken
 
-pub none_told : {X : Type 0} (r : Result X Error) (fault : Option Error) → fault ≡ None → FaultsFirst r fault
-none_told r fault none f is = let wrong : Some f ≡ None = sym is ∙ none in absurd cc
-
 behind : (wrong : Bool) (e : Error) (fault next : Option Error) → wrong ≡ false → fault ≡ None → (if wrong then Some e else option_or fault next) ≡ next
 behind wrong e fault next fine none = rw (fine, none) refl
 
@@ -191,9 +190,6 @@ pub checksum_wrong : (v : TableVersion) (checksum : ℕ) (kind : BlockType) (pay
 unfolding checked_payload
 checksum_wrong v checksum kind payload differ = grind arith
 
-pub checksum_told : (checksum : ℕ) (payload : List ℕ) → (fnv1a payload ≡ checksum → ⊥) → checksum_fault checksum payload ≡ Some ChecksumMismatch
-checksum_told checksum payload differ = grind arith
-
 pub checksum_right : (v : TableVersion) (checksum : ℕ) (kind : BlockType) (payload : List ℕ) → fnv1a payload ≡ checksum → checked_payload v checksum kind payload ≡ unless (grammar_fault v kind payload) (Ok (loaded v kind payload))
 unfolding checked_payload
 checksum_right v checksum kind payload same = let e = eq-eqb (fnv1a payload) checksum same in rw e refl
@@ -203,5 +199,32 @@ pub given_items : (v : TableVersion) (checksum : ℕ) (kind : BlockType) (payloa
 unfolding checked_payload
 given_items v checksum kind payload b given = grind arith
 
-pub checksum_fine : (checksum : ℕ) (payload : List ℕ) → fnv1a payload ≡ checksum → checksum_fault checksum payload ≡ None
-checksum_fine checksum payload same = grind arith
+-- what is loaded is of the kind that was asked for
+passed : {A : Type 0} (wrong : Bool) (e : Error) (told : Result A Error) (x : A) → (if wrong then Err e else told) ≡ Ok x → told ≡ Ok x
+passed true e told x is = absurd cc
+passed false e told x is = is
+
+no_fault : {A : Type 0} (fault : Option Error) (told : Result A Error) (x : A) → unless fault told ≡ Ok x → told ≡ Ok x
+no_fault None told x is = is
+no_fault (Some e) told x is = absurd cc
+
+checked_kind : (v : TableVersion) (checksum : ℕ) (kind : BlockType) (payload : List ℕ) (b : Loaded) → checked_payload v checksum kind payload ≡ Ok b → b.kind ≡ kind
+unfolding checked_payload
+checked_kind v checksum kind payload b given = grind arith
+
+pub load_kind : (body : List ℕ) (offset size : ℕ) (kind : BlockType) (b : Loaded) → load_told body offset size kind ≡ Ok b → b.kind ≡ kind
+unfolding load_told
+load_kind body offset size kind b told =
+    let head = slice_range body offset (offset + 24) in
+    let tail = checked_payload (version_in head) (stored_checksum head) kind (slice_range body (offset + 24) (offset + size)) in
+    let wrong = not (data_len head == uncompressed_len head) || not (24 + data_len head == size) in
+    let one = passed (nat_lt size 24 || nat_lt (length body) (offset + size)) Truncated (unless (header_fault kind head) (if wrong then Err InvalidHeader else tail)) b told in
+    let two = no_fault (header_fault kind head) (if wrong then Err InvalidHeader else tail) b one in
+    checked_kind (version_in head) (stored_checksum head) kind (slice_range body (offset + 24) (offset + size)) b (passed wrong InvalidHeader tail b two)
+
+-- a block of data holds entries
+pub data_holds : (k : BlockType) → k ≡ Data → HoldsEntries k
+data_holds Data is = tt
+data_holds Meta is = tt
+data_holds Index is = absurd cc
+data_holds Filter is = absurd cc

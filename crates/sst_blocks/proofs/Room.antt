@@ -1,12 +1,11 @@
 -- A payload in the grammar has room for what it counts, and what is told of one that has not.
-use Rattle.std.proofs.Common.{◌≡◌, ℕ, ◌+◌, ◌*◌, ◌≤◌, Bool, true, false, List, length, refl, sym, ap, ◌∙◌, arith}
-use Rattle.std.specs.Prelude.{Option, Some, None, Err, is_some, not, if◌then◌else◌}
+use Rattle.std.proofs.Common.{◌≡◌, ℕ, ◌+◌, ◌*◌, ◌≤◌, Bool, true, false, List, length, refl, sym, ◌∙◌, arith}
+use Rattle.std.specs.Prelude.{Option, Some, None, Err, is_some}
 use Rattle.std.specs.Option.{option_or}
 use Rattle.std.proofs.lemmas.Bool.{le-leb, leb-true}
 use Rattle.sst_sections.specs.declared.version.TableVersion.{TableVersion}
 use Rattle.sst_blocks.specs.declared.block_type.BlockType.{BlockType}
 use Rattle.sst_blocks.specs.declared.block_type.BlockType.TheVariants.{Data, Index, Filter, Meta}
-use Rattle.sst_entries.specs.declared.error.Error.{Error}
 use Rattle.sst_entries.specs.declared.error.Error.TheVariants.{ChecksumMismatch, InvalidBlock}
 use Rattle.sst_sections.specs.Fnv.{fnv1a}
 use Rattle.sst_sections.specs.Number.{num4}
@@ -17,7 +16,7 @@ use Rattle.sst_blocks.specs.Reading.{entries_in}
 use Rattle.sst_blocks.proofs.Entries.{entry_format, entries_advance, entries_in_same, length-spelled}
 use Rattle.sst_blocks.proofs.HandleLaws.{handle_format, handles_advance, handles_in_same, length-handle_spelled}
 use Rattle.sst_blocks.proofs.Items.{items_room}
-use Rattle.sst_blocks.proofs.LoadLemmas.{checksum_fine, checksum_right, checksum_told}
+use Rattle.sst_blocks.proofs.LoadLemmas.{checksum_right}
 
 there : {A : Type 0} (o : Option A) (P : Type 0) → is_some o ≡ true → ((x : A) → o ≡ Some x → P) → P
 there None P some k = absurd cc
@@ -59,13 +58,3 @@ no_room v kind payload none = without (in_grammar v kind payload) (λ fine. sym 
 -- what is told of a payload of the right checksum without room
 pub room_wrong : (v : TableVersion) (checksum : ℕ) (kind : BlockType) (payload : List ℕ) → fnv1a payload ≡ checksum → has_room v kind payload ≡ false → checked_payload v checksum kind payload ≡ Err InvalidBlock
 room_wrong v checksum kind payload same none = checksum_right v checksum kind payload same ∙ rw (no_room v kind payload none) refl
-
--- the first fault that takes no memory: of the checksum, of the room, or none
-pub checksum_first : (v : TableVersion) (checksum : ℕ) (kind : BlockType) (payload : List ℕ) → (fnv1a payload ≡ checksum → ⊥) → option_or (checksum_fault checksum payload) (room_fault v kind payload) ≡ Some ChecksumMismatch
-checksum_first v checksum kind payload differ = rw (checksum_told checksum payload differ) refl
-
-pub room_told : (v : TableVersion) (checksum : ℕ) (kind : BlockType) (payload : List ℕ) → fnv1a payload ≡ checksum → has_room v kind payload ≡ false → option_or (checksum_fault checksum payload) (room_fault v kind payload) ≡ Some InvalidBlock
-room_told v checksum kind payload same none = rw (checksum_fine checksum payload same, none) refl
-
-pub room_fine : (v : TableVersion) (checksum : ℕ) (kind : BlockType) (payload : List ℕ) → fnv1a payload ≡ checksum → has_room v kind payload ≡ true → option_or (checksum_fault checksum payload) (room_fault v kind payload) ≡ None
-room_fine v checksum kind payload same some = rw (checksum_fine checksum payload same, some) refl

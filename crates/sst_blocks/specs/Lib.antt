@@ -13,6 +13,8 @@ pub mod SeenHandle
 pub mod Seen
 pub mod Seeking
 pub mod Words
+pub mod Placed
+pub mod Asked
 pub use Rattle.sst_sections.specs.Number
 pub use Rattle.sst_sections.specs.Version
 pub use Rattle.sst_sections.specs.Fnv

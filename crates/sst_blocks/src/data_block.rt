@@ -16,13 +16,16 @@ ghost use Rattle.sst_sections.specs.declared.version.TableVersion.TheVariants.{V
 
 mod encode;
 mod entry_ref;
+mod find;
 mod iter;
 
 use crate::block::{EMPTY_LEN, Header};
 use crate::starts::{Starts, has_room_for};
 use crate::{Block, Error, InternalValue, SeqNo, Slice, TableVersion};
 use encode::{block_len, put_items, with_entry};
+pub(crate) use entry_ref::head_len as entry_head_len;
 use entry_ref::{EntryRef, head_len, read_entry, read_key};
+pub(crate) use find::{find_entry, share_entry};
 pub use iter::Iter;
 use sst_entries::compare_versions;
 use sst_sections::number::u32_at;
@@ -220,12 +223,7 @@ impl<A: Allocator> DataBlock<A> {
         ensures err { IfErr result (λ e. e ≡ OutOfMemory) }
     {
         let start = self.starts.at(index);
-        let key_at = start + head_len(self.version);
-        let value_at = key_at + entry.key.len();
-        let end = value_at + entry.value.len();
-        let key = self.payload.slice(key_at, value_at)?;
-        let value = self.payload.slice(value_at, end)?;
-        Ok(InternalValue::from_components(key, value, entry.seqno, entry.kind))
+        share_entry(&self.payload, start + head_len(self.version), entry)
     }
 
     /// The entry of a place, whose key and value share the block's memory. Refused [`Error::OutOfMemory`] alone.

@@ -13,6 +13,7 @@ ghost use Rattle.sst_entries.specs.declared.error.Error.TheVariants.{OutOfMemory
 ghost use Rattle.sst_sections.specs.declared.version.TableVersion.TheVariants.{V4};
 
 mod encode;
+mod find;
 mod iter;
 mod read;
 
@@ -20,6 +21,7 @@ use crate::block::{EMPTY_LEN, Header};
 use crate::starts::Starts;
 use crate::{Block, BlockHandle, BlockOffset, Error, KeyedBlockHandle, SeqNo, Slice, TableVersion};
 use encode::{block_len, put_handles, with_handle};
+pub(crate) use find::find_handle;
 pub use iter::Iter;
 pub(crate) use read::{handle_starts, has_handle_room};
 use read::{HandleRef, head_len, read_end_key, read_handle};

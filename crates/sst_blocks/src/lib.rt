@@ -8,6 +8,7 @@ mod data_block;
 mod filter_block;
 mod handle;
 mod index_block;
+mod loads;
 mod marks;
 mod opened;
 mod source;
@@ -20,12 +21,13 @@ pub use data_block::{DataBlock, Iter as DataBlockIter, data_block_bound};
 pub use filter_block::FilterBlock;
 pub use handle::{BlockHandle, BlockOffset, KeyedBlockHandle, are_strict_handles};
 pub use index_block::{IndexBlock, Iter as IndexBlockIter, index_block_bound};
+pub use loads::{Counted, LoadBlocks};
 pub use opened::Opened;
-pub use source::{BlockSource, Counted, LoadBlocks};
+pub use source::BlockSource;
 pub use sst_filters::{BloomConstructionPolicy, Builder, contains_hash, filter_bound};
 pub use sst_sections::{
     Checksum, Direction, Error, InternalKey, InternalValue, IterItem, Section, SectionName,
     SectionWriter, SeqNo, Slice, TableVersion, TagName, Toc, UserKey, UserValue, ValueType,
-    answer_at, answers_at, are_strict, compare_versions, from_the_front, hash, hash_four,
-    source_of,
+    answer_at, answers_at, are_strict, compare_versions, from_the_front, has_hash, hash, hash_four,
+    have_hashes, source_of,
 };

@@ -1,6 +1,6 @@
 //! The only way to the blocks of a table's bytes.
 ghost use Rattle.std.specs.Prelude.{◌≡◌, ◌↔◌, ◌+◌, ◌<◌, ◌≤◌, ◌^◌, List, ℕ, length, map, slice_range};
-ghost use Rattle.std.specs.Prelude.{IfOk, IfSome, IsTrue, MatchOption, None, true};
+ghost use Rattle.std.specs.Prelude.{IfErr, IfOk, IfSome, IsTrue, OnOk, MatchOption, Err, None, Some, true};
 ghost use Rattle.sst_blocks.specs.Block.{Loaded, checked_payload, checksum_fault, has_room};
 ghost use Rattle.sst_blocks.specs.Block.{header_len, in_grammar, room_fault, version_in};
 ghost use Rattle.sst_blocks.specs.Block.{load_told, load_at_told, place_fault, position_fault};
@@ -9,15 +9,18 @@ ghost use Rattle.sst_sections.specs.Fnv.{fnv1a};
 ghost use Rattle.std.specs.Arc.{arc_value};
 ghost use Rattle.sst_entries.specs.Error.{Gives, Refuses, FaultsFirst};
 ghost use Rattle.std.specs.Option.{option_or};
-ghost use Rattle.sst_blocks.specs.Opened.{with_load, none_opened};
+ghost use Rattle.sst_blocks.specs.Opened.{with_load};
+ghost use Rattle.sst_blocks.specs.Placed.{IsPlaced};
 ghost use Rattle.sst_sections.specs.Sections.{body_of, section_in, section_names, trailer_fault};
 ghost use Rattle.sst_blocks.specs.declared.opened.Opened.{Opened};
-ghost use Rattle.sst_blocks.specs.declared.block_type.BlockType.TheVariants.{Data};
+
+mod reads;
 
 use crate::block::{Header, has_room};
 use crate::marks::{Marks, SPAN};
 use crate::{
-    Block, BlockHandle, BlockType, Error, Opened, Slice, TableVersion, Toc, hash, hash_four,
+    Block, BlockHandle, BlockType, Error, Opened, Slice, TableVersion, Toc, has_hash, hash_four,
+    have_hashes,
 };
 use sst_sections::TRAILER_LEN;
 use sst_sections::number::{u32_at, u64_at};
@@ -159,24 +162,8 @@ impl<A: Allocator + Clone> BlockSource<A> {
         ensures counted { opened.new ≡ with_load kind opened.old }
     {
         opened.count(kind);
-        let body = self.body();
-        let size = handle.size() as usize;
-        if size < HEADER_LEN
-            || body.len() < size
-            || ((body.len() - size) as u64) < handle.offset().0
-        {
-            // No room for a header, or past the body.
-            return Err(Error::Truncated);
-        }
-        let start = handle.offset().0 as usize;
-        let header = Header::decode(&body[start..start + HEADER_LEN], kind)?;
-        if header.data_len != header.uncompressed_len
-            || HEADER_LEN + header.data_len as usize != size
-        {
-            // Two lengths, or another than the handle's.
-            return Err(Error::InvalidHeader);
-        }
-        self.block(header, kind, start + HEADER_LEN, start + size)
+        let placed = self.place(handle, kind)?;
+        self.block(placed.header, kind, placed.start, placed.end)
     }
 
     /// The block of a kind that begins at a position, with the size that its header says. Refused as [`BlockSource::load`];
@@ -215,6 +202,40 @@ impl<A: Allocator + Clone> BlockSource<A> {
         self.block(header, kind, start, start + len)
     }
 
+    /// Where the payload lies of the block of a kind that a handle names, and its header. Refused with
+    /// what is wrong with the place, the header or its lengths.
+    fn place(&self, handle: &BlockHandle, kind: BlockType) -> Result<Placed, Error>
+        ensures placed { IfOk result (λ p.
+            IsPlaced (body_of self.now) handle.now.offset handle.now.size kind p) }
+        ensures told { let body = body_of self.now in
+            IfErr result (λ e. load_told body handle.now.offset handle.now.size kind ≡ Err e) }
+        ensures first { let body = body_of self.now in
+            IfErr result (λ e. place_fault body handle.now.offset handle.now.size kind ≡ Some e) }
+    {
+        let body = self.body();
+        let size = handle.size() as usize;
+        if size < HEADER_LEN
+            || body.len() < size
+            || ((body.len() - size) as u64) < handle.offset().0
+        {
+            // No room for a header, or past the body.
+            return Err(Error::Truncated);
+        }
+        let start = handle.offset().0 as usize;
+        let header = Header::decode(&body[start..start + HEADER_LEN], kind)?;
+        if header.data_len != header.uncompressed_len
+            || HEADER_LEN + header.data_len as usize != size
+        {
+            // Two lengths, or another than the handle's.
+            return Err(Error::InvalidHeader);
+        }
+        Ok(Placed {
+            header,
+            start: start + HEADER_LEN,
+            end: start + size,
+        })
+    }
+
     /// The bytes before the trailer.
     fn body(&self) -> &[u8]
         ensures body { result.now ≡ body_of self.now }
@@ -241,8 +262,42 @@ impl<A: Allocator + Clone> BlockSource<A> {
             FaultsFirst result (option_or (checksum_fault header.checksum payload)
             (room_fault header.version kind payload)) }
     {
-        if self.was_tested(&header, kind, start, end) {
-            return self.open(&header, kind, start, end, true);
+        let is_tested = self.test(&header, kind, start, end)?;
+        let block = self.open(&header, kind, start, end, is_tested)?;
+        if !is_tested {
+            self.remember_test(&header, kind, start, end);
+        }
+        Ok(block)
+    }
+
+    /// Whether it was tested before that the payload from `start` up to `end` is in its grammar, where
+    /// it has the checksum that its header says, and room for what it counts. Refused
+    /// [`Error::ChecksumMismatch`] and [`Error::InvalidBlock`] where it does not.
+    fn test(
+        &self,
+        header: &Header,
+        kind: BlockType,
+        start: usize,
+        end: usize,
+    ) -> Result<bool, Error>
+        requires ordered { start ≤ end }
+        requires within { end ≤ length (body_of self.now) }
+        ensures sum { let payload = slice_range (body_of self.now) start end in
+            OnOk result (fnv1a payload ≡ header.now.checksum) }
+        ensures room { let payload = slice_range (body_of self.now) start end in
+            OnOk result (has_room header.now.version kind payload ≡ true) }
+        ensures tested { let payload = slice_range (body_of self.now) start end in
+            IfOk result (λ is_tested.
+            IsTrue is_tested → in_grammar header.now.version kind payload ≡ true) }
+        ensures told { let payload = slice_range (body_of self.now) start end in
+            IfErr result (λ e.
+            checked_payload header.now.version header.now.checksum kind payload ≡ Err e) }
+        ensures first { let payload = slice_range (body_of self.now) start end in
+            IfErr result (λ e. option_or (checksum_fault header.now.checksum payload)
+            (room_fault header.now.version kind payload) ≡ Some e) }
+    {
+        if self.was_tested(header, kind, start, end) {
+            return Ok(true);
         }
         if !self.has_sum(header.checksum, start, end) {
             return Err(Error::ChecksumMismatch);
@@ -250,9 +305,7 @@ impl<A: Allocator + Clone> BlockSource<A> {
         if !has_room(header.version, kind, &self.body()[start..end]) {
             return Err(Error::InvalidBlock);
         }
-        let block = self.open(&header, kind, start, end, false)?;
-        self.remember_test(&header, kind, start, end);
-        Ok(block)
+        Ok(false)
     }
 
     /// The block of the payload there, which has the right checksum and room for what it counts.
@@ -346,7 +399,7 @@ impl<A: Allocator + Clone> BlockSource<A> {
         if self.remembers(checksum, start, end) {
             return true;
         }
-        let same = hash(&self.body()[start..end]) == checksum;
+        let same = has_hash(&self.body()[start..end], checksum);
         if same {
             self.remember(checksum, start, end);
         }
@@ -391,43 +444,123 @@ impl<A: Allocator + Clone> BlockSource<A> {
         u32_at(&head[8..]) as usize == end - start && u64_at(&head[16..]) == checksum
     }
 
-    /// Compares the checksums of the data block at a position and of up to three behind it, up to one that is remembered, where
-    /// that of the first is not and there is memory to remember them; those of four in one loop. A block that ends in the 2,048 bytes in which it starts is the
-    /// last that is compared. Loading the blocks, one after another, answers what it would without.
-    pub fn compare_ahead(&self, position: u64) {
+    /// Compares the checksums of the data block at a position and of those behind it, `most` blocks at most and no more than
+    /// four, up to one that is remembered, where that of the first is not and there is memory to remember them; those of two
+    /// or four in one loop. A block that ends in the 2,048 bytes in which it starts is the last that is compared. Loading the
+    /// blocks, one after another, answers what it would without.
+    pub fn compare_ahead(&self, position: u64, most: usize) {
         let Some(marks) = &self.marks else {
             return;
         };
-        let first = self.said_at(position);
+        let first = self.said_at(position, BlockType::Data);
         match first {
             Some(said) if !marks.has_sum(said.start as u64) => {}
             _ => return,
         }
+        if most < 2 {
+            return;
+        }
         let second = self.said_behind(marks, first);
+        if most < 4 {
+            self.compare_both(marks, first, second);
+            return;
+        }
         let third = self.said_behind(marks, second);
         let fourth = self.said_behind(marks, third);
+        self.compare_four(marks, first, second, third, fourth);
+    }
+
+    /// Compares the checksums of the blocks that these handles name, four at a time in one loop, where they are not
+    /// remembered and there is memory to remember them. A block that ends in the 2,048 bytes in which it starts is left out:
+    /// another that starts there would take its place among those that are remembered. Loading the blocks answers what it
+    /// would without.
+    pub fn compare_together(&self, blocks: &[(BlockHandle, BlockType)]) {
+        let Some(marks) = &self.marks else {
+            return;
+        };
+        for i in 0..blocks.len().div_ceil(4) {
+            let at = 4 * i;
+            let first = self.said_of(marks, blocks.get(at));
+            let second = self.said_of(marks, blocks.get(at + 1));
+            let third = self.said_of(marks, blocks.get(at + 2));
+            let fourth = self.said_of(marks, blocks.get(at + 3));
+            self.compare_four(marks, first, second, third, fourth);
+        }
+    }
+
+    /// Compares the checksums of four payloads, where there are as many in one loop, and marks those that have what their
+    /// headers say. The bytes of fewer are walked over from both ends at once.
+    fn compare_four(
+        &self,
+        marks: &Marks<A>,
+        first: Option<Said>,
+        second: Option<Said>,
+        third: Option<Said>,
+        fourth: Option<Said>,
+    )
+        requires of { marks.now.table.shared.key ≡ self.now }
+        requires first { IfSome first (λ s. IsSaid self.now s.start s.end s.checksum) }
+        requires second { IfSome second (λ s. IsSaid self.now s.start s.end s.checksum) }
+        requires third { IfSome third (λ s. IsSaid self.now s.start s.end s.checksum) }
+        requires fourth { IfSome fourth (λ s. IsSaid self.now s.start s.end s.checksum) }
+    {
+        if first.is_none() || second.is_none() || third.is_none() || fourth.is_none() {
+            self.compare_both(marks, first, second);
+            self.compare_both(marks, third, fourth);
+            return;
+        }
         let sums = hash_four(
             self.payload(first),
             self.payload(second),
             self.payload(third),
             self.payload(fourth),
         );
-        self.mark_said(marks, first, sums.0);
-        self.mark_said(marks, second, sums.1);
-        self.mark_said(marks, third, sums.2);
-        self.mark_said(marks, fourth, sums.3);
+        self.mark_said(marks, first, sums.0 == sum_of(first));
+        self.mark_said(marks, second, sums.1 == sum_of(second));
+        self.mark_said(marks, third, sums.2 == sum_of(third));
+        self.mark_said(marks, fourth, sums.3 == sum_of(fourth));
     }
 
-    /// What the header of the data block at a position says of its payload, where a load there would come to the checksum: no
-    /// payload is hashed for a header that is refused.
-    fn said_at(&self, position: u64) -> Option<Said>
+    /// Compares the checksums of two payloads in one loop, each from both ends, and marks those that have what their headers
+    /// say.
+    fn compare_both(&self, marks: &Marks<A>, first: Option<Said>, second: Option<Said>)
+        requires of { marks.now.table.shared.key ≡ self.now }
+        requires first { IfSome first (λ s. IsSaid self.now s.start s.end s.checksum) }
+        requires second { IfSome second (λ s. IsSaid self.now s.start s.end s.checksum) }
+    {
+        let (is_first, is_second) = have_hashes(
+            self.payload(first),
+            sum_of(first),
+            self.payload(second),
+            sum_of(second),
+        );
+        self.mark_said(marks, first, is_first);
+        self.mark_said(marks, second, is_second);
+    }
+
+    /// What the header of the block of a handle says of its payload, as [`BlockSource::said_at`] at its position, where the
+    /// checksum is not remembered and the payload passes the 2,048 bytes in which it starts.
+    fn said_of(&self, marks: &Marks<A>, block: Option<&(BlockHandle, BlockType)>) -> Option<Said>
+        ensures { IfSome result (λ said. IsSaid self.now said.start said.end said.checksum) }
+    {
+        let (handle, kind) = block?;
+        let said = self.said_at(handle.offset().0, *kind)?;
+        if said.start as u64 / SPAN == said.end as u64 / SPAN || marks.has_sum(said.start as u64) {
+            return None;
+        }
+        Some(said)
+    }
+
+    /// What the header of the block of a kind at a position says of its payload, where a load there would come to the checksum:
+    /// no payload is hashed for a header that is refused.
+    fn said_at(&self, position: u64, kind: BlockType) -> Option<Said>
         ensures said { IfSome result (λ said. IsSaid self.now said.start said.end said.checksum) }
         ensures tested { IfSome result (λ said.
             let payload = slice_range (body_of self.now) said.start said.end in
             let head = slice_range (body_of self.now) position (position + header_len) in
-            position_fault (body_of self.now) position Data
+            position_fault (body_of self.now) position kind
             ≡ option_or (checksum_fault said.checksum payload)
-            (room_fault (version_in head) Data payload)) }
+            (room_fault (version_in head) kind payload)) }
     {
         let body = self.body();
         if body.len() < HEADER_LEN || ((body.len() - HEADER_LEN) as u64) < position {
@@ -435,7 +568,7 @@ impl<A: Allocator + Clone> BlockSource<A> {
         }
         let header_start = position as usize;
         let start = header_start + HEADER_LEN;
-        let Ok(header) = Header::decode(&body[header_start..start], BlockType::Data) else {
+        let Ok(header) = Header::decode(&body[header_start..start], kind) else {
             return None;
         };
         let len = header.data_len as usize;
@@ -458,7 +591,7 @@ impl<A: Allocator + Clone> BlockSource<A> {
         if before.start as u64 / SPAN == before.end as u64 / SPAN {
             return None;
         }
-        let said = self.said_at(before.end as u64)?;
+        let said = self.said_at(before.end as u64, BlockType::Data)?;
         // It keeps its mark, which may say more.
         if marks.has_sum(said.start as u64) {
             return None;
@@ -477,18 +610,37 @@ impl<A: Allocator + Clone> BlockSource<A> {
         }
     }
 
-    /// Marks a payload whose checksum is what its header says.
-    fn mark_said(&self, marks: &Marks<A>, said: Option<Said>, sum: u64)
+    /// Marks a payload where it has the checksum that its header says.
+    fn mark_said(&self, marks: &Marks<A>, said: Option<Said>, has_sum: bool)
         requires of { marks.now.table.shared.key ≡ self.now }
         requires said { IfSome said (λ s. IsSaid self.now s.start s.end s.checksum) }
-        requires sum { IfSome said (λ s. sum ≡ fnv1a (slice_range self.now s.start s.end)) }
+        requires sum { IfSome said (λ s.
+            IsTrue has_sum → fnv1a (slice_range self.now s.start s.end) ≡ s.checksum) }
     {
         if let Some(said) = said {
-            if sum == said.checksum {
+            if has_sum {
                 marks.mark_sum(said.start as u64);
             }
         }
     }
+}
+
+// The checksum that is said, or 0.
+fn sum_of(said: Option<Said>) -> u64
+    ensures { IfSome said (λ s. result ≡ s.checksum) }
+{
+    match said {
+        Some(said) => said.checksum,
+        None => 0,
+    }
+}
+
+/// Where a payload lies, and its header.
+#[derive(Clone, Copy)]
+struct Placed {
+    header: Header,
+    start: usize,
+    end: usize,
 }
 
 /// Where a payload lies, and the checksum that its header says.
@@ -497,84 +649,4 @@ struct Said {
     start: usize,
     end: usize,
     checksum: u64,
-}
-
-/// Whatever blocks can be loaded from, one handle at a time.
-pub trait LoadBlocks {
-    ghost use Rattle.std.specs.Prelude.{◌≡◌, List, ℕ};
-    ghost use Rattle.sst_blocks.specs.Block.{load_told, place_fault, Loaded};
-    ghost use Rattle.sst_entries.specs.Error.{Gives, FaultsFirst};
-    ghost use Rattle.sst_blocks.specs.Opened.{with_load};
-    ghost use Rattle.sst_blocks.specs.declared.opened.Opened.{Opened};
-
-    /// The allocator of the blocks.
-    type Alloc: Allocator;
-
-    /// The bytes before the trailer that it stands for.
-    ghost body: { Self → List ℕ };
-
-    /// How many blocks of each kind were loaded.
-    ghost opened: { Self → Opened };
-
-    /// The block of a kind that a handle names, or the first fault, as [`BlockSource::load`] answers
-    /// it over the bytes that the source stands for; want of memory stands in the place of the same
-    /// faults alone.
-    fn load(&mut self, handle: &BlockHandle, kind: BlockType) -> Result<Block<Self::Alloc>, Error>
-        ensures told { let bytes = body self.old in
-            Gives (λ (b : Loaded). b) result
-            (load_told bytes handle.now.offset handle.now.size kind) }
-        ensures first { let bytes = body self.old in
-            FaultsFirst result (place_fault bytes handle.now.offset handle.now.size kind) }
-        ensures body { body self.new ≡ body self.old }
-        ensures counted { opened self.new ≡ with_load kind (opened self.old) };
-}
-
-/// A [`BlockSource`] that counts its loads.
-#[derive(Drop)]
-pub struct Counted<'a, A: Allocator = Global> {
-    source: &'a BlockSource<A>,
-    opened: Opened,
-}
-
-impl<'a, A: Allocator> Model for Counted<'a, A> {
-    ghost use Rattle.std.specs.Prelude.{List, ℕ};
-    ghost use Rattle.sst_blocks.specs.declared.opened.Opened.{Opened};
-
-    ghost Value = { List ℕ × Opened };
-
-    ghost view = { λ c. (c.source.now, c.opened) };
-}
-
-impl<'a, A: Allocator + Clone> Counted<'a, A> {
-    /// Nothing was loaded yet.
-    pub fn new(source: &'a BlockSource<A>) -> Counted<'a, A>
-        ensures source { result.0 ≡ source.now }
-        ensures none { result.1 ≡ none_opened }
-    {
-        Counted {
-            source,
-            opened: Opened::none(),
-        }
-    }
-
-    /// How many blocks of each kind were loaded.
-    pub fn opened(&self) -> Opened
-        ensures { result ≡ self.now.1 }
-    {
-        self.opened
-    }
-}
-
-impl<A: Allocator + Clone> LoadBlocks for Counted<'_, A> {
-    ghost use Rattle.sst_sections.specs.Sections.{body_of};
-
-    type Alloc = A;
-
-    ghost body = { λ c. body_of c.0 };
-
-    ghost opened = { λ c. c.1 };
-
-    fn load(&mut self, handle: &BlockHandle, kind: BlockType) -> Result<Block<A>, Error> {
-        self.source.load(handle, kind, &mut self.opened)
-    }
 }

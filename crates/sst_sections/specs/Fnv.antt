@@ -11,6 +11,14 @@ fnv_prime = 0x100000001b3
 abbrev pub fnv_step : ℕ → ℕ → ℕ
 fnv_step h b = (bit_xor h b * fnv_prime) % 2 ^ 64
 
+-- undoes the prime: fnv_prime * fnv_inverse is 1 modulo 2^64
+abbrev pub fnv_inverse : ℕ
+fnv_inverse = 0xce965057aff6957b
+
+-- the value that a step with this byte makes the given one
+abbrev pub fnv_back : ℕ → ℕ → ℕ
+fnv_back h b = bit_xor ((h * fnv_inverse) % 2 ^ 64) b
+
 -- byte after byte, from a value on
 unfoldable pub fnv_from : ℕ → List ℕ → ℕ
 fnv_from h [] = h

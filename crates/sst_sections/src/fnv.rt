@@ -1,13 +1,17 @@
 //! FNV-1a in 64 bits: <http://www.isthe.com/chongo/tech/comp/fnv/>.
 //!
 //! Each byte waits for the one before it, so a hash costs the latency of a multiplication a byte. Two hashes in one loop cost
-//! no more than one, and four little more: [`update_both`], [`hash_four`].
-ghost use Rattle.std.specs.Prelude.{◌≡◌};
-ghost use Rattle.sst_sections.specs.Fnv.{fnv_basis, fnv_from, fnv_step};
+//! no more than one, and four little more: [`update_both`], [`hash_four`]. Where a hash is only compared, its bytes are walked
+//! over from both ends at once, in half the time: [`has_hash`], [`have_hashes`].
+ghost use Rattle.std.specs.Prelude.{◌≡◌, ◌↔◌, IsTrue};
+ghost use Rattle.sst_sections.specs.Fnv.{fnv1a, fnv_back, fnv_basis, fnv_from, fnv_step};
 
 const BASIS: u64 = 0xcbf2_9ce4_8422_2325;
 
 const PRIME: u64 = 0x0100_0000_01b3;
+
+// PRIME * INVERSE is 1 modulo 2^64.
+const INVERSE: u64 = 0xce96_5057_aff6_957b;
 
 /// A running hash.
 #[derive(Clone, Copy, Debug, PartialEq, Eq)]
@@ -100,6 +104,64 @@ fn step(hash: u64, byte: u8) -> u64
     ensures { result ≡ fnv_step hash byte }
 {
     (hash ^ u64::from(byte)).wrapping_mul(PRIME)
+}
+
+#[inline(always)]
+fn step_back(hash: u64, byte: u8) -> u64
+    ensures { result ≡ fnv_back hash byte }
+{
+    hash.wrapping_mul(INVERSE) ^ u64::from(byte)
+}
+
+/// Whether some bytes have this FNV-1a hash. A byte's step can be undone, so the front half is hashed and the back half taken
+/// off the hash that they should have, in one loop: they meet in the middle where it is theirs.
+pub fn has_hash(bytes: &[u8], sum: u64) -> bool
+    ensures { IsTrue result ↔ (fnv1a bytes.now ≡ sum) }
+{
+    leads(BASIS, bytes, sum)
+}
+
+/// As [`has_hash`] of each of two, in one loop as far as the shorter of the two reaches.
+pub fn have_hashes(first: &[u8], first_sum: u64, second: &[u8], second_sum: u64) -> (bool, bool)
+    ensures first { IsTrue result.0 ↔ (fnv1a first.now ≡ first_sum) }
+    ensures second { IsTrue result.1 ↔ (fnv1a second.now ≡ second_sum) }
+{
+    // Two bytes of each end at a time: with one, the loop's own steps would hold up the multiplications.
+    let twos = first.len().min(second.len()) / 4;
+    let mut front = BASIS;
+    let mut back = first_sum;
+    let mut other_front = BASIS;
+    let mut other_back = second_sum;
+    for i in 0..twos {
+        let at = 2 * i;
+        front = step(front, first[at]);
+        front = step(front, first[at + 1]);
+        back = step_back(back, first[first.len() - 1 - at]);
+        back = step_back(back, first[first.len() - 2 - at]);
+        other_front = step(other_front, second[at]);
+        other_front = step(other_front, second[at + 1]);
+        other_back = step_back(other_back, second[second.len() - 1 - at]);
+        other_back = step_back(other_back, second[second.len() - 2 - at]);
+    }
+    let both = 2 * twos;
+    (
+        leads(front, &first[both..first.len() - both], back),
+        leads(other_front, &second[both..second.len() - both], other_back),
+    )
+}
+
+// Whether hashing some bytes behind those of a hash comes to another hash.
+fn leads(from: u64, bytes: &[u8], to: u64) -> bool
+    ensures { IsTrue result ↔ (fnv_from from bytes.now ≡ to) }
+{
+    let half = bytes.len() / 2;
+    let mut front = from;
+    let mut back = to;
+    for i in 0..half {
+        front = step(front, bytes[i]);
+        back = step_back(back, bytes[bytes.len() - 1 - i]);
+    }
+    hash_on(front, &bytes[half..bytes.len() - half]) == back
 }
 
 /// The FNV-1a hash of some bytes: of a key, as filters store it.

@@ -9,7 +9,7 @@ mod toc;
 mod version;
 
 pub use checksum::Checksum;
-pub use fnv::{hash, hash_four};
+pub use fnv::{has_hash, hash, hash_four, have_hashes};
 pub use section::{Section, SectionName, SectionWriter, TRAILER_LEN, finished_sections_read};
 pub use sst_entries::{
     Direction, Error, InternalKey, InternalValue, IterItem, SeqNo, Slice, TagName, UserKey,

@@ -1,0 +1,21 @@
+use Rattle.std.proofs.Common.{◌≡◌, ℕ, List, true, false, slice_range, refl, sym, ap, ◌∙◌}
+use Rattle.sst_blocks.specs.Block.{has_room}
+use Rattle.sst_sections.specs.Sections.{body_of}
+use Rattle.sst_blocks.proofs.LoadLemmas.{checksum_wrong}
+use Rattle.sst_blocks.proofs.Room.{grammar_room, room_wrong}
+use Rattle.sst_blocks.proofs.source.BlockSource.test.Goals as goal
+
+pub returns-then-was_tested-clause-room : goal.returns-then-was_tested-clause-room
+returns-then-was_tested-clause-room g c =
+    grammar_room c.args.header.now.version c.args.kind (slice_range (body_of c.args.self.now) c.args.start c.args.end) (c.if-was_tested.ensures.items refl)
+
+pub returns-then-not-has_sum-clause-told : goal.returns-then-not-has_sum-clause-told
+returns-then-not-has_sum-clause-told g c =
+    let payload : List ℕ = slice_range (body_of c.args.self.now) c.args.start c.args.end in
+    checksum_wrong c.args.header.now.version c.args.header.now.checksum c.args.kind payload (λ same. let wrong : false ≡ true = c.if-not-has_sum.ensures.1 same in absurd cc)
+
+pub returns-then-not-has_room-clause-told : goal.returns-then-not-has_room-clause-told
+returns-then-not-has_room-clause-told g c =
+    let payload : List ℕ = slice_range (body_of c.args.self.now) c.args.start c.args.end in
+    let part = ap (λ (bytes : List ℕ). has_room c.args.header.now.version c.args.kind (slice_range bytes c.args.start c.args.end)) c.body.ensures.body in
+    room_wrong c.args.header.now.version c.args.header.now.checksum c.args.kind payload (c.if-not-has_sum.ensures.0 refl) (sym (c.if-not-has_room.ensures ∙ part))

@@ -1,0 +1,46 @@
+-- What is asked of one block in a table's bytes: its answer, or the first fault of loading the block.
+use Rattle.std.specs.Prelude.{◌≡◌, ℕ, Bool, List, find, Option, Some, None, Result, Ok, Err}
+use Rattle.std.specs.Option.{option_map}
+use Rattle.sst_blocks.specs.declared.block_type.BlockType.TheVariants.{Data, Index, Filter}
+use Rattle.sst_entries.specs.declared.error.Error.{Error}
+use Rattle.sst_entries.specs.Entry.{Entry}
+use Rattle.sst_entries.specs.Point.{point}
+use Rattle.sst_blocks.specs.Block.{Loaded, entries_of, handles_of, load_told}
+use Rattle.sst_blocks.specs.Handles.{reaches}
+use Rattle.sst_blocks.specs.Place.{Place, place_of}
+use Rattle.sst_filters.specs.Filter.{admits, filter_in}
+
+-- a function of what is told, where no fault is
+abbrev pub told_map : {X Y : Type 0} → (X → Y) → Result X Error → Result Y Error
+told_map f (Ok x) = Ok (f x)
+told_map f (Err e) = Err e
+
+-- the first entry of a key numbered below a bound, in a block of entries
+abbrev pub point_of : List ℕ → ℕ → Loaded → Option Entry
+point_of key bound b = point (entries_of b) key bound
+
+-- where the first handle leads that reaches a key at a bound, in a block of handles
+abbrev pub place_for : List ℕ → ℕ → Loaded → Option Place
+place_for key bound b = option_map place_of (find (reaches key bound) (handles_of b))
+
+-- whether the filter of a block may have a hash
+abbrev pub maybe_in : ℕ → Loaded → Bool
+maybe_in hash b = admits (filter_in b.payload) hash
+
+-- the same of the block of a place in the bytes before the trailer
+abbrev pub point_told : List ℕ → ℕ → ℕ → List ℕ → ℕ → Result (Option Entry) Error
+point_told body offset size key bound =
+    told_map (point_of key bound) (load_told body offset size Data)
+
+abbrev pub find_told : List ℕ → ℕ → ℕ → List ℕ → ℕ → Result (Option Place) Error
+find_told body offset size key bound =
+    told_map (place_for key bound) (load_told body offset size Index)
+
+abbrev pub maybe_told : List ℕ → ℕ → ℕ → ℕ → Result Bool Error
+maybe_told body offset size hash = told_map (maybe_in hash) (load_told body offset size Filter)
+
+-- whatever memory there is, a call refuses with the fault that is told, and answers that nothing is there
+abbrev pub IsSure : {X : Type 0} → Result (Option X) Error → Result (Option X) Error → Type 0
+IsSure r (Ok (Some x)) = Unit {0}
+IsSure r (Ok None) = r ≡ Ok None
+IsSure r (Err e) = r ≡ Err e

@@ -1,0 +1,36 @@
+-- Where the payload of a block lies, and what was tested of it.
+use Rattle.std.specs.Prelude.{◌≡◌, ◌≤◌, ◌<◌, ◌+◌, ◌^◌, ℕ, true, List, length, slice_range, IsTrue, None}
+use Rattle.std.specs.Option.{option_or}
+use Rattle.sst_blocks.specs.declared.block_type.BlockType.{BlockType}
+use Rattle.sst_blocks.specs.declared.source.Placed.{Placed}
+use Rattle.sst_blocks.specs.declared.source.reads.Sound.{Sound}
+use Rattle.sst_blocks.specs.Block.{checked_payload, checksum_fault, has_room, in_grammar, load_told, place_fault, room_fault}
+use Rattle.sst_sections.specs.Fnv.{fnv1a}
+
+-- the payload lies within the bytes before the trailer, and what is told of its block is told of it
+pub record IsPlaced (body : List ℕ) (offset size : ℕ) (kind : BlockType) (p : Placed) : Type 0 where
+  pub ordered : p.start ≤ p.end
+  pub within : p.end ≤ length body
+  pub short : p.end < p.start + 2 ^ 32
+  pub told : load_told body offset size kind ≡
+      checked_payload p.header.version p.header.checksum kind (slice_range body p.start p.end)
+  pub first : place_fault body offset size kind ≡
+      option_or (checksum_fault p.header.checksum (slice_range body p.start p.end))
+      (room_fault p.header.version kind (slice_range body p.start p.end))
+
+-- the payload has its checksum, and room for what it counts; where it was tested, it is in its grammar
+pub record IsSound (body : List ℕ) (kind : BlockType) (s : Sound) : Type 0 where
+  pub ordered : s.start ≤ s.end
+  pub within : s.end ≤ length body
+  pub short : s.end < s.start + 2 ^ 32
+  pub sum : fnv1a (slice_range body s.start s.end) ≡ s.header.checksum
+  pub room : has_room s.header.version kind (slice_range body s.start s.end) ≡ true
+  pub tested : IsTrue s.is_tested →
+      in_grammar s.header.version kind (slice_range body s.start s.end) ≡ true
+
+-- what is told of its block is told of it, and no fault is found before memory is taken
+pub record IsSoundAt (body : List ℕ) (offset size : ℕ) (kind : BlockType) (s : Sound) : Type 0 where
+  pub sound : IsSound body kind s
+  pub told : load_told body offset size kind ≡
+      checked_payload s.header.version s.header.checksum kind (slice_range body s.start s.end)
+  pub first : place_fault body offset size kind ≡ None

@@ -1,0 +1,189 @@
+//! Whatever blocks can be loaded from, and what is asked of one block there.
+ghost use Rattle.std.specs.Prelude.{◌≡◌};
+ghost use Rattle.sst_blocks.specs.Opened.{none_opened};
+
+use crate::source::BlockSource;
+use crate::{
+    Block, BlockHandle, BlockType, DataBlock, Error, FilterBlock, IndexBlock, InternalValue,
+    Opened, SeqNo,
+};
+use std::alloc::{Allocator, Global};
+use std::marker::Model;
+
+/// Whatever blocks can be loaded from, one handle at a time.
+///
+/// Whoever has `load` has the other calls: they load the block, and ask it. [`Counted`] has calls
+/// of its own, which take no memory for the places of a block's items.
+pub trait LoadBlocks {
+    ghost use Rattle.std.specs.Prelude.{◌≡◌, Bool, List, ℕ, Option};
+    ghost use Rattle.sst_blocks.specs.Asked.{find_told, maybe_told, point_told};
+    ghost use Rattle.sst_blocks.specs.Block.{load_told, place_fault, Loaded};
+    ghost use Rattle.sst_blocks.specs.declared.block_type.BlockType.TheVariants.{Data, Filter};
+    ghost use Rattle.sst_blocks.specs.declared.block_type.BlockType.TheVariants.{Index};
+    ghost use Rattle.sst_blocks.specs.Place.{Place};
+    ghost use Rattle.sst_entries.specs.Entry.{Entry};
+    ghost use Rattle.sst_entries.specs.Error.{Gives, FaultsFirst};
+    ghost use Rattle.sst_blocks.specs.Opened.{with_load};
+    ghost use Rattle.sst_blocks.specs.declared.opened.Opened.{Opened};
+
+    /// The allocator of the blocks.
+    type Alloc: Allocator;
+
+    /// The bytes before the trailer that it stands for.
+    ghost body: { Self → List ℕ };
+
+    /// How many blocks of each kind were loaded.
+    ghost opened: { Self → Opened };
+
+    /// The block of a kind that a handle names, or the first fault, as [`BlockSource::load`]
+    /// answers it over the bytes that the source stands for; want of memory stands in the place of
+    /// the same faults alone.
+    fn load(&mut self, handle: &BlockHandle, kind: BlockType) -> Result<Block<Self::Alloc>, Error>
+        ensures told { let bytes = body self.old in
+            Gives (λ (b : Loaded). b) result
+            (load_told bytes handle.now.offset handle.now.size kind) }
+        ensures first { let bytes = body self.old in
+            FaultsFirst result (place_fault bytes handle.now.offset handle.now.size kind) }
+        ensures body { body self.new ≡ body self.old }
+        ensures counted { opened self.new ≡ with_load kind (opened self.old) };
+
+    /// The first entry of a key numbered below `seqno` in the data block that a handle names, or
+    /// the first fault, as [`BlockSource::point_read`] answers it; want of memory stands in the
+    /// place of the same faults as at [`LoadBlocks::load`]. It counts as one load.
+    fn point_read(
+        &mut self,
+        handle: &BlockHandle,
+        key: &[u8],
+        seqno: SeqNo,
+    ) -> Result<Option<InternalValue<Self::Alloc>>, Error>
+        ensures told { let bytes = body self.old in
+            Gives (λ (found : Option Entry). found) result
+            (point_told bytes handle.now.offset handle.now.size key.now seqno) }
+        ensures first { let bytes = body self.old in
+            FaultsFirst result (place_fault bytes handle.now.offset handle.now.size Data) }
+        ensures body { body self.new ≡ body self.old }
+        ensures counted { opened self.new ≡ with_load Data (opened self.old) }
+    {
+        let block = self.load(handle, BlockType::Data)?;
+        let entries = DataBlock::new(block);
+        let found = entries.point_read(key, seqno);
+        drop(entries);
+        found
+    }
+
+    /// Where the first handle leads that reaches a key and a number, in the index block that a
+    /// handle names, or the first fault, as [`BlockSource::find`] answers it; want of memory stands
+    /// in the place of the same faults as at [`LoadBlocks::load`]. It counts as one load.
+    fn find(
+        &mut self,
+        handle: &BlockHandle,
+        key: &[u8],
+        seqno: SeqNo,
+    ) -> Result<Option<BlockHandle>, Error>
+        ensures told { let bytes = body self.old in
+            Gives (λ (found : Option Place). found) result
+            (find_told bytes handle.now.offset handle.now.size key.now seqno) }
+        ensures first { let bytes = body self.old in
+            FaultsFirst result (place_fault bytes handle.now.offset handle.now.size Index) }
+        ensures body { body self.new ≡ body self.old }
+        ensures counted { opened self.new ≡ with_load Index (opened self.old) }
+    {
+        let block = self.load(handle, BlockType::Index)?;
+        let handles = IndexBlock::new(block);
+        let found = handles.find(key, seqno);
+        drop(handles);
+        Ok(found)
+    }
+
+    /// Whether the filter of the filter block that a handle names may have a hash, or the first
+    /// fault, as [`BlockSource::maybe_contains_hash`] answers it; want of memory stands in the
+    /// place of the same faults as at [`LoadBlocks::load`]. It counts as one load.
+    fn maybe_contains_hash(&mut self, handle: &BlockHandle, hash: u64) -> Result<bool, Error>
+        ensures told { let bytes = body self.old in
+            Gives (λ (maybe : Bool). maybe) result
+            (maybe_told bytes handle.now.offset handle.now.size hash) }
+        ensures first { let bytes = body self.old in
+            FaultsFirst result (place_fault bytes handle.now.offset handle.now.size Filter) }
+        ensures body { body self.new ≡ body self.old }
+        ensures counted { opened self.new ≡ with_load Filter (opened self.old) }
+    {
+        let block = self.load(handle, BlockType::Filter)?;
+        let filter = FilterBlock::new(block);
+        let maybe = filter.maybe_contains_hash(hash);
+        drop(filter);
+        Ok(maybe)
+    }
+}
+
+/// A [`BlockSource`] that counts its loads.
+#[derive(Drop)]
+pub struct Counted<'a, A: Allocator = Global> {
+    source: &'a BlockSource<A>,
+    opened: Opened,
+}
+
+impl<'a, A: Allocator> Model for Counted<'a, A> {
+    ghost use Rattle.std.specs.Prelude.{List, ℕ};
+    ghost use Rattle.sst_blocks.specs.declared.opened.Opened.{Opened};
+
+    ghost Value = { List ℕ × Opened };
+
+    ghost view = { λ c. (c.source.now, c.opened) };
+}
+
+impl<'a, A: Allocator + Clone> Counted<'a, A> {
+    /// Nothing was loaded yet.
+    pub fn new(source: &'a BlockSource<A>) -> Counted<'a, A>
+        ensures source { result.0 ≡ source.now }
+        ensures none { result.1 ≡ none_opened }
+    {
+        Counted {
+            source,
+            opened: Opened::none(),
+        }
+    }
+
+    /// How many blocks of each kind were loaded.
+    pub fn opened(&self) -> Opened
+        ensures { result ≡ self.now.1 }
+    {
+        self.opened
+    }
+}
+
+impl<A: Allocator + Clone> LoadBlocks for Counted<'_, A> {
+    ghost use Rattle.sst_sections.specs.Sections.{body_of};
+
+    type Alloc = A;
+
+    ghost body = { λ c. body_of c.0 };
+
+    ghost opened = { λ c. c.1 };
+
+    fn load(&mut self, handle: &BlockHandle, kind: BlockType) -> Result<Block<A>, Error> {
+        self.source.load(handle, kind, &mut self.opened)
+    }
+
+    fn point_read(
+        &mut self,
+        handle: &BlockHandle,
+        key: &[u8],
+        seqno: SeqNo,
+    ) -> Result<Option<InternalValue<A>>, Error> {
+        self.source.point_read(handle, key, seqno, &mut self.opened)
+    }
+
+    fn find(
+        &mut self,
+        handle: &BlockHandle,
+        key: &[u8],
+        seqno: SeqNo,
+    ) -> Result<Option<BlockHandle>, Error> {
+        self.source.find(handle, key, seqno, &mut self.opened)
+    }
+
+    fn maybe_contains_hash(&mut self, handle: &BlockHandle, hash: u64) -> Result<bool, Error> {
+        self.source
+            .maybe_contains_hash(handle, hash, &mut self.opened)
+    }
+}
