@@ -30,5 +30,6 @@ pub mod FileRanges
 pub mod TableRanges
 pub mod ManyReads
 pub mod ManyOfList
+pub mod BatchReads
 pub mod OneIndex
 pub mod IndexKinds

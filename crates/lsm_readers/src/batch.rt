@@ -1,5 +1,5 @@
 //! Point reads for some queries in key order, over whatever blocks can be loaded from.
-ghost use Rattle.std.specs.Prelude.{◌≡◌, ◌-◌, ◌<◌, Option, Ok, IfOk, IfSome, false, length, replicate};
+ghost use Rattle.std.specs.Prelude.{◌≡◌, ◌-◌, ◌<◌, Option, Ok, IfOk, IfSome, false, length, replicate, slice_set};
 ghost use Rattle.std.specs.List.{All};
 ghost use Rattle.lsm_readers.specs.Batch.{AreFound, IsPlaced, query_told};
 ghost use Rattle.lsm_readers.specs.Words.{Entry, Gives, Place, admitted_handle, parts_of};
@@ -40,6 +40,14 @@ impl<A: Allocator + Clone> Batch<A> {
     }
 }
 
+/// Puts an item in the place of another. It is generic in the items, so that no part of a large one is looked at.
+pub(crate) fn put<T: Drop>(items: &mut [T], at: usize, item: T)
+    requires { at < length items.old }
+    ensures { items.new ≡ slice_set items.old at item }
+{
+    items[at] = item;
+}
+
 /// Queries by their keys upward, and those of one key by their bounds downward; what stands in no place of the list is
 /// anywhere.
 fn compare_queries<A: Allocator>(queries: &[Query<A>], at: usize, other_at: usize) -> Ordering {
@@ -69,7 +77,7 @@ pub(crate) fn key_order<A: Allocator>(
 
 /// Where the data block lies that a read for the query of a place rests on. None where that is refused, or there is no such
 /// place.
-fn placed<S: LoadBlocks>(
+fn place_at<S: LoadBlocks>(
     source: &mut S,
     inner: &Inner<S::Alloc>,
     queries: &[Query<S::Alloc>],
@@ -104,7 +112,7 @@ pub(crate) fn find_places<S: LoadBlocks>(
 {
     let mut places = Vec::with_capacity(alloc, order.len())?;
     for at in order {
-        let Some(place) = placed(source, inner, queries, *at) else {
+        let Some(place) = place_at(source, inner, queries, *at) else {
             return Ok(places);
         };
         places.push(place)?;
@@ -155,7 +163,7 @@ pub(crate) fn read_places<S: LoadBlocks>(
         let Ok(found) = answer_placed(source, inner, query, place.handle) else {
             return;
         };
-        batch.found[place.at] = found;
+        put(&mut batch.found, place.at, found);
         batch.done[place.at] = true;
     }
 }

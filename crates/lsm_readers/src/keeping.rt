@@ -23,7 +23,7 @@ pub(crate) struct Keeping<'a, A: Allocator = Global> {
     opened: Opened,
     filter: Option<Kept<A>>,
     index: Option<Kept<A>>,
-    data: Option<Kept<A>>,
+    entries: Option<Kept<A>>,
 }
 
 impl<'a, A: Allocator> Model for Keeping<'a, A> {
@@ -37,7 +37,7 @@ impl<'a, A: Allocator> Model for Keeping<'a, A> {
     ghost view = { λ k. (k.source.now, k.opened) };
 
     ghost invariant = { λ k. let body = body_of k.source.now in
-        KeepsOf body k.filter × (KeepsOf body k.index × KeepsOf body k.data) };
+        KeepsOf body k.filter × (KeepsOf body k.index × KeepsOf body k.entries) };
 }
 
 impl<'a, A: Allocator + Clone> Keeping<'a, A> {
@@ -51,7 +51,7 @@ impl<'a, A: Allocator + Clone> Keeping<'a, A> {
             opened: Opened::none(),
             filter: None,
             index: None,
-            data: None,
+            entries: None,
         }
     }
 }
@@ -71,7 +71,7 @@ impl<A: Allocator + Clone> LoadBlocks for Keeping<'_, A> {
             BlockType::Filter => load_kept(self.source, &mut self.filter, handle, kind),
             BlockType::Index => load_kept(self.source, &mut self.index, handle, kind),
             BlockType::Data | BlockType::Meta => {
-                load_kept(self.source, &mut self.data, handle, kind)
+                load_kept(self.source, &mut self.entries, handle, kind)
             }
         }
     }

@@ -4,7 +4,7 @@ ghost use Rattle.lsm_readers.specs.Batch.{AreFound};
 ghost use Rattle.lsm_readers.specs.Words.{Entry, FaultsFirst, Gives, IsTable, lift, point, table_answer};
 ghost use Rattle.lsm_readers.specs.Many.{found_told, many_told};
 
-use crate::batch::{Batch, find_places, key_order, read_places};
+use crate::batch::{Batch, find_places, key_order, put, read_places};
 use crate::keeping::Keeping;
 use crate::{Inner, Table};
 use sst_blocks::{Error, InternalValue, SeqNo, UserKey};
@@ -67,7 +67,7 @@ fn read_rest<A: Allocator + Clone>(
     let Batch { mut found, done } = batch;
     for (at, query) in queries.iter().enumerate() {
         if !done[at] {
-            found[at] = get_one(table, query)?;
+            put(&mut found, at, get_one(table, query)?);
         }
     }
     Ok(found)

@@ -1,0 +1,13 @@
+use Rattle.std.proofs.Common.{◌≡◌}
+use Rattle.std.specs.List.{All}
+use Rattle.lsm_readers.specs.Batch.{IsPlaced}
+use Rattle.lsm_readers.specs.Table.{parts_of}
+use Rattle.lsm_readers.proofs.batch.find_places.Given as goal
+
+abbrev pub invariant-loop-at : goal.invariant-loop-at
+invariant-loop-at g l =
+    let bytes = g.S.LoadBlocks.body l.initial.source in
+    record {
+      same : g.S.LoadBlocks.body l.source ≡ bytes;
+      placed : All (IsPlaced bytes l.inner.global_seqno (parts_of l.inner) l.queries) l.places.items;
+    }

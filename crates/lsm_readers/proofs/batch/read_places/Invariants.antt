@@ -1,0 +1,12 @@
+use Rattle.std.proofs.Common.{◌≡◌}
+use Rattle.lsm_readers.specs.Batch.{AreFound, query_told}
+use Rattle.lsm_readers.specs.Table.{parts_of}
+use Rattle.lsm_readers.proofs.batch.read_places.Given as goal
+
+abbrev pub invariant-loop-place : goal.invariant-loop-place
+invariant-loop-place g l =
+    let bytes = g.S.LoadBlocks.body l.initial.source in
+    record {
+      same : g.S.LoadBlocks.body l.source ≡ bytes;
+      are_found : AreFound (query_told bytes l.inner.global_seqno (parts_of l.inner)) l.queries l.batch.found.items l.batch.done.items;
+    }
