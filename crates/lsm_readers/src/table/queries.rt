@@ -4,7 +4,7 @@ ghost use Rattle.lsm_readers.specs.Batch.{AreFound};
 ghost use Rattle.lsm_readers.specs.Words.{Entry, FaultsFirst, Gives, IsTable, lift, point, table_answer};
 ghost use Rattle.lsm_readers.specs.Many.{found_told, many_told};
 
-use crate::batch::{Batch, find_places, key_order, put, read_places};
+use crate::batch::{Batch, compare_places, find_places, key_order, put, read_places};
 use crate::keeping::Keeping;
 use crate::{Inner, Table};
 use sst_blocks::{Error, InternalValue, SeqNo, UserKey};
@@ -50,6 +50,7 @@ fn read_batch<A: Allocator + Clone>(
     let order = key_order(alloc.clone()?, queries)?;
     let mut source = Keeping::new(&table.source);
     let places = find_places(&mut source, inner, queries, &order, alloc.clone()?)?;
+    compare_places(&table.source, &places);
     read_places(&mut source, inner, queries, &places, &mut batch);
     Ok(batch)
 }
