@@ -1,12 +1,11 @@
 -- What is asked of one block: a read of it, whether it is loaded or walked over.
-use Rattle.std.proofs.Common.{◌≡◌, ℕ, ◌+◌, ◌^◌, ◌<◌, false, List, refl, sym, ap, subst, ◌∙◌, arith}
-use Rattle.std.specs.Prelude.{Option, Some, None, Result, Ok, Err, IfErr, IfOk, IfSome}
+use Rattle.std.proofs.Common.{◌≡◌, ℕ, ◌+◌, ◌^◌, ◌<◌, List, refl, sym, ap, subst, ◌∙◌, arith}
+use Rattle.std.specs.Prelude.{Option, Some, None, Result, Ok, Err, IfSome}
 use Rattle.std.specs.Option.{option_map}
 use Rattle.std.specs.Result.{IsErrAnd}
 use Rattle.sst_entries.specs.declared.error.Error.{Error}
-use Rattle.sst_entries.specs.declared.error.Error.TheVariants.{OutOfMemory}
 use Rattle.sst_entries.specs.Entry.{Entry}
-use Rattle.sst_entries.specs.Error.{Fails, FaultsFirst, Gives, is_memory}
+use Rattle.sst_entries.specs.Error.{Fails, FaultsFirst, Gives}
 use Rattle.sst_entries.specs.Point.{point}
 use Rattle.sst_blocks.specs.declared.block_type.BlockType.{BlockType}
 use Rattle.sst_blocks.specs.declared.block_type.BlockType.TheVariants.{Data}
@@ -16,7 +15,6 @@ use Rattle.sst_blocks.specs.Block.{Loaded, entries_of, load_told, place_fault}
 use Rattle.sst_blocks.specs.Opened.{with_load}
 use Rattle.sst_blocks.specs.Place.{Place}
 use Rattle.lsm_readers.specs.Answer.{lifted, match_at}
-use Rattle.lsm_readers.specs.Keeping.{IsLoaded}
 use Rattle.lsm_readers.specs.Read.{◌>>=◌, DoesRead, block_read, read_map}
 use Rattle.lsm_readers.proofs.Points.{point_below}
 use Rattle.lsm_readers.proofs.ReadLaws.{one_load, refusal, result}
@@ -52,7 +50,7 @@ map_fails f h (Ok x) e is = absurd cc
 map_fails f h (Err d) e is = cc
 
 map_goes : {X Y Z : Type 0} (f : X → Y) (h : Y → Z) (told : Result X Error) (y : Y) → told_map f told ≡ Ok y → told_map (λ x. h (f x)) told ≡ Ok (h y)
-map_goes f h (Ok x) y is = let same : f x ≡ y = cc in ap (λ (z : Y). Ok {E = Error} (h z)) same
+map_goes {Y = Y} f h (Ok x) y is = let same : f x ≡ y = cc in ap (λ (z : Y). result (h z)) same
 map_goes f h (Err e) y is = absurd cc
 
 module _ (body : List ℕ) (g : ℕ) (key : List ℕ) (n : ℕ) (place : Place) (o o' : Opened) (counted : o' ≡ with_load Data o) where
@@ -80,9 +78,3 @@ lift_fits told key bound add None fits is = tt
 lift_fits told key bound add (Some e) fits is =
     let below : e.seqno < bound = match_below told key bound e is in
     omega (arith, below, fits)
-
--- what is kept answers what a load would
-pub kept_tells : {X : Type 0} (f : Loaded → X) (body : List ℕ) (place : Place) (kind : BlockType) (b : Loaded) (r : Result X Error) → IsLoaded body place kind b
-    → IfOk r (λ x. x ≡ f b) → IfErr r (λ e. e ≡ OutOfMemory) → Gives (λ (x : X). x) r (told_map f (load_told body place.offset place.size kind))
-kept_tells {X} f body place kind b (Ok x) is ok err = ap (told_map f) is.told ∙ ap (λ (y : X). Ok {E = Error} y) (sym ok)
-kept_tells f body place kind b (Err e) is ok err = λ memory. absurd (let wrong = subst (λ (y : Error). is_memory y ≡ false) err memory in cc)

@@ -138,7 +138,13 @@ fn answer_placed<S: LoadBlocks>(
 {
     let low = query.seqno.saturating_sub(inner.global_seqno);
     match handle {
-        Some(handle) => read_in(source, handle, inner.global_seqno, query.key.as_slice(), low),
+        Some(handle) => read_in(
+            source,
+            handle,
+            inner.global_seqno,
+            query.key.as_slice(),
+            low,
+        ),
         None => Ok(None),
     }
 }

@@ -7,8 +7,8 @@ ghost use Rattle.lsm_readers.specs.Words.{FaultsFirst, Gives, Loaded, body_of, e
 ghost use Rattle.lsm_readers.specs.Words.{none_opened, place_fault, point};
 
 use sst_blocks::{
-    Block, BlockHandle, BlockSource, BlockType, DataBlock, Error, InternalValue, LoadBlocks, Opened,
-    SeqNo,
+    Block, BlockHandle, BlockSource, BlockType, DataBlock, Error, InternalValue, LoadBlocks,
+    Opened, SeqNo,
 };
 use std::alloc::{Allocator, Global};
 use std::marker::Model;

@@ -1,10 +1,9 @@
 //! Point reads, over whatever blocks can be loaded from.
-ghost use Rattle.std.specs.Prelude.{◌≡◌, ◌+◌, ◌<◌, ◌^◌, [], Option, IfOk, IfErr, IsOk};
+ghost use Rattle.std.specs.Prelude.{◌≡◌, ◌+◌, ◌<◌, ◌^◌, [], Option, IfSome, IsOk};
 ghost use Rattle.std.specs.Option.{option_map};
-ghost use Rattle.sst_entries.specs.declared.error.Error.TheVariants.{OutOfMemory};
 ghost use Rattle.lsm_readers.specs.Words.{DoesRead, Entry, FaultsFirst, Gives, LoadsFew, Opens, admission};
 ghost use Rattle.lsm_readers.specs.Words.{admitted_handle, answer, block_admits, filter_admits};
-ghost use Rattle.lsm_readers.specs.Words.{fnv1a, handle_at, handle_by, lifted, match_at, parts_of, point};
+ghost use Rattle.lsm_readers.specs.Words.{fnv1a, handle_at, handle_by, lifted, match_at, parts_of};
 
 use crate::{Inner, PinnedBlockIndex};
 use sst_blocks::{BlockHandle, Error, InternalValue, LoadBlocks, SeqNo};

@@ -28,6 +28,6 @@ returns-clause-read g c =
     let n = c.args.seqno in
     let add = c.args.global_seqno in
     let o = g.S.LoadBlocks.opened c.args.source.now in
-    let o' = g.S.LoadBlocks.opened c.point_read-found.new.source in
+    let o' = g.S.LoadBlocks.opened c.point_read.new.self in
     let goes = match_goes body add key n c.args.handle o o' c.in_ok-found.ensures.counted c.in_ok-found.found c.in_ok-found.ensures.told c.in_ok-found.ensures.first in
     subst (λ (found : Option Entry). DoesRead (result found) (match_at body add key n c.args.handle) o o') (sym c.lifted_found.ensures) goes
