@@ -1,6 +1,7 @@
 //! The only way to the blocks of a table's bytes.
 ghost use Rattle.std.specs.Prelude.{◌≡◌, ◌↔◌, ◌+◌, ◌<◌, ◌≤◌, ◌^◌, List, ℕ, length, map, slice_range};
-ghost use Rattle.std.specs.Prelude.{IfErr, IfOk, IfSome, IsTrue, OnOk, MatchOption, Err, None, Some, true};
+ghost use Rattle.std.specs.Prelude.{IfErr, IfOk, IfSome, IsTrue, MatchOption, OnOk, true};
+ghost use Rattle.std.specs.Prelude.{Err, None, Some};
 ghost use Rattle.sst_blocks.specs.Block.{Loaded, checked_payload, checksum_fault, has_room};
 ghost use Rattle.sst_blocks.specs.Block.{header_len, in_grammar, room_fault, version_in};
 ghost use Rattle.sst_blocks.specs.Block.{load_told, load_at_told, place_fault, position_fault};
@@ -202,8 +203,8 @@ impl<A: Allocator + Clone> BlockSource<A> {
         self.block(header, kind, start, start + len)
     }
 
-    /// Where the payload lies of the block of a kind that a handle names, and its header. Refused with
-    /// what is wrong with the place, the header or its lengths.
+    /// Where the payload lies of the block of a kind that a handle names, and its header. Refused
+    /// with what is wrong with the place, the header or its lengths.
     fn place(&self, handle: &BlockHandle, kind: BlockType) -> Result<Placed, Error>
         ensures placed { IfOk result (λ p.
             IsPlaced (body_of self.now) handle.now.offset handle.now.size kind p) }
@@ -270,8 +271,8 @@ impl<A: Allocator + Clone> BlockSource<A> {
         Ok(block)
     }
 
-    /// Whether it was tested before that the payload from `start` up to `end` is in its grammar, where
-    /// it has the checksum that its header says, and room for what it counts. Refused
+    /// Whether it was tested before that the payload from `start` up to `end` is in its grammar,
+    /// where it has the checksum that its header says, and room for what it counts. Refused
     /// [`Error::ChecksumMismatch`] and [`Error::InvalidBlock`] where it does not.
     fn test(
         &self,
