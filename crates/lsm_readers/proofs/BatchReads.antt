@@ -54,9 +54,9 @@ module _ {X Y : Type 0} (f : X → Result (Option Y) Error) (queries : List X) w
   none_marked n k marked = elim (cases_lt k n) [
     | inl lt ↦ let wrong : false ≡ true = sym (get_or-replicate n k false false lt) ∙ marked in absurd cc
     | inr le ↦
-      let short : length (replicate n false) ≤ k = omega (arith, le, length-replicate n false) in
-      let wrong : false ≡ true = sym (get_or-eq_default (replicate n false) false short) ∙ marked in
-      absurd cc
+        let short : length (replicate n false) ≤ k = omega (arith, le, length-replicate n false) in
+        let wrong : false ≡ true = sym (get_or-eq_default (replicate n false) false short) ∙ marked in
+        absurd cc
   ]
 
   -- none is known yet
@@ -77,8 +77,8 @@ module _ {X Y : Type 0} (f : X → Result (Option Y) Error) (queries : List X) w
           done_len = are.done_len;
           told = λ k q marked here. elim (cases_eq k i) [
             | inl same ↦
-              let put : get_or (set found i y) k None ≡ y = ap (λ (n : ℕ). get_or (set found i y) n None) same ∙ get_or-set_same found i y None inside in
-              ap f (same_element queries i k x q less same at here) ∙ is ∙ ap answered (sym put)
+                let put : get_or (set found i y) k None ≡ y = ap (λ (n : ℕ). get_or (set found i y) n None) same ∙ get_or-set_same found i y None inside in
+                ap f (same_element queries i k x q less same at here) ∙ is ∙ ap answered (sym put)
             | inr other ↦ are.told k q marked here ∙ ap answered (sym (get_or-set_other found i k y None other))
           ];
         }

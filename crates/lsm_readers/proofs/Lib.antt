@@ -4,6 +4,7 @@ pub mod Recovered
 pub mod ReadLaws
 pub mod FewLoads
 pub mod Points
+pub mod AskedReads
 pub mod ChunkReads
 pub mod PartReads
 pub mod FilterReads

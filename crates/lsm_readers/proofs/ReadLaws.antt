@@ -3,17 +3,14 @@ use Rattle.std.proofs.Common.{◌≡◌, ℕ, ◌+◌, ◌<◌, false, List, [],
 use Rattle.std.proofs.lemmas.Bool.{cases_lt}
 use Rattle.std.proofs.Math.Seq.{take-append-add, take-length}
 use Rattle.std.proofs.lemmas.List.{take-append-le}
-use Rattle.std.specs.Prelude.{Option, Some, None, Result, Ok, Err, IfErr, IfOk, IsOk}
+use Rattle.std.specs.Prelude.{Option, Some, None, Result, Ok, Err, IsOk}
 use Rattle.std.specs.Result.{IsErrAnd}
 use Rattle.sst_entries.specs.declared.error.Error.{Error}
-use Rattle.sst_entries.specs.declared.error.Error.TheVariants.{OutOfMemory}
-use Rattle.sst_entries.specs.Error.{Fails, FaultsFirst, Gives, is_memory}
+use Rattle.sst_entries.specs.Error.{FaultsFirst, Gives, is_memory}
 use Rattle.sst_blocks.specs.declared.block_type.BlockType.{BlockType}
 use Rattle.sst_blocks.specs.declared.opened.Opened.{Opened}
-use Rattle.sst_blocks.specs.Block.{Loaded, load_told, place_fault}
 use Rattle.sst_blocks.specs.Opened.{with_load}
-use Rattle.sst_blocks.specs.Place.{Place}
-use Rattle.lsm_readers.specs.Read.{◌>>=◌, DoesRead, Opens, Read, block_read, early_behind, early_of, known, loads_behind, opened_by, read_map, read_then, wants_memory}
+use Rattle.lsm_readers.specs.Read.{◌>>=◌, DoesRead, Opens, Read, early_behind, early_of, known, loads_behind, opened_by, read_then, wants_memory}
 use Rattle.lsm_readers.proofs.Recovered.{first_from}
 use Rattle.lsm_readers.proofs.Steps.{fails_here, passes_fault}
 
@@ -43,31 +40,6 @@ does_known x o = record { told = refl; early = λ e h. absurd cc; opens = no_loa
 -- nothing was told before memory was taken
 none_told : {X Y : Type 0} (x : X) (s : Result Y Error) (told : Option Error) → FaultsFirst (result x) told → FaultsFirst s told
 none_told x s told first = λ e h. absurd (let wrong : Some e ≡ None = first e h in cc)
-
-module _ {X : Type 0} (f : Loaded → X) (body : List ℕ) (place : Place) (kind : BlockType) (o o' : Opened) (counted : o' ≡ with_load kind o) where
-  -- the load failed
-  pub load_fails : (r : Result X Error) (e : Error) → IsErrAnd r (λ y. y ≡ e) → Fails e (load_told body place.offset place.size kind)
-      → FaultsFirst (refusal Loaded e) (place_fault body place.offset place.size kind) → DoesRead r (read_map f (block_read body place kind)) o o'
-  load_fails r e is fails first = record {
-    told = passes_fault (λ (x : X). x) r (load_told body place.offset place.size kind >>= λ b. Ok (f b)) e is (fails_here (load_told body place.offset place.size kind) (λ b. Ok (f b)) e fails);
-    early = first_from r e (place_fault body place.offset place.size kind) is first;
-    opens = one_load r kind o o' counted;
-    calm = λ none. absurd cc;
-  }
-
-  -- what was loaded gives a value, where memory is not wanted
-  module _ (b : Loaded) (loaded : load_told body place.offset place.size kind ≡ Ok b) (first : FaultsFirst (result b) (place_fault body place.offset place.size kind)) where
-    gives_loaded : (r : Result X Error) → IfOk r (λ x. x ≡ f b) → IfErr r (λ e. e ≡ OutOfMemory) → Gives (λ (x : X). x) r (load_told body place.offset place.size kind >>= λ b. Ok (f b))
-    gives_loaded (Ok x) is alone = ap (λ (t : Result Loaded Error). t >>= λ b. result (f b)) loaded ∙ ap result (sym is)
-    gives_loaded (Err e) is alone = λ memory. absurd (let wrong = subst (λ (y : Error). is_memory y ≡ false) alone memory in cc)
-
-    pub load_gives : (r : Result X Error) → IfOk r (λ x. x ≡ f b) → IfErr r (λ e. e ≡ OutOfMemory) → DoesRead r (read_map f (block_read body place kind)) o o'
-    load_gives r is alone = record {
-      told = gives_loaded r is alone;
-      early = none_told b r (place_fault body place.offset place.size kind) first;
-      opens = one_load r kind o o' counted;
-      calm = λ none. absurd cc;
-    }
 
 -- ---- one read behind another
 

@@ -5,7 +5,7 @@ pub use Rattle.sst_entries.specs.Point.{point, within}
 pub use Rattle.sst_entries.specs.Stream.{CanDeal, Deals, nowhere, answer_stops}
 pub use Rattle.sst_sections.specs.Fnv.{fnv1a}
 pub use Rattle.sst_sections.specs.Sections.{body_of}
-pub use Rattle.sst_blocks.specs.Block.{Loaded, load_at_told, load_told, place_fault, position_fault}
+pub use Rattle.sst_blocks.specs.Block.{Loaded, entries_of, load_at_told, load_told, place_fault, position_fault}
 pub use Rattle.sst_blocks.specs.Handle.{Handle}
 pub use Rattle.sst_blocks.specs.Opened.{with_load, none_opened}
 pub use Rattle.sst_blocks.specs.Place.{Place, place_of}

@@ -6,7 +6,7 @@ ghost use Rattle.lsm_readers.specs.Words.{Entry, Gives, Place, admitted_handle, 
 
 use crate::point::{admitted_handle, read_in};
 use crate::{Inner, Query};
-use sst_blocks::{BlockHandle, Error, InternalValue, LoadBlocks, hash};
+use sst_blocks::{BlockHandle, BlockSource, BlockType, Error, InternalValue, LoadBlocks, hash};
 use sst_entries::compare_versions;
 use std::alloc::{AllocError, Allocator, Global};
 use std::cmp::Ordering;
@@ -41,9 +41,9 @@ impl<A: Allocator + Clone> Batch<A> {
 }
 
 /// Puts an item in the place of another. It is generic in the items, so that no part of a large one is looked at.
-pub(crate) fn put<T: Drop>(items: &mut [T], at: usize, item: T)
-    requires { at < length items.old }
-    ensures { items.new ≡ slice_set items.old at item }
+pub(crate) fn put<T: Drop, A: Allocator>(items: &mut Vec<T, A>, at: usize, item: T)
+    requires { at < length items.old.items }
+    ensures { items.new.items ≡ slice_set items.old.items at item }
 {
     items[at] = item;
 }
@@ -138,8 +138,66 @@ fn answer_placed<S: LoadBlocks>(
 {
     let low = query.seqno.saturating_sub(inner.global_seqno);
     match handle {
-        Some(handle) => read_in(source, handle, inner.global_seqno, query.key.as_slice(), low),
+        Some(handle) => read_in(
+            source,
+            handle,
+            inner.global_seqno,
+            query.key.as_slice(),
+            low,
+        ),
         None => Ok(None),
+    }
+}
+
+/// The data blocks that some places name, without those that are named just before.
+fn blocks_of<A: Allocator>(
+    alloc: A,
+    places: &[Placed],
+) -> Result<Vec<(BlockHandle, BlockType), A>, AllocError> {
+    let mut blocks = Vec::with_capacity(alloc, places.len())?;
+    let mut last = None;
+    for place in places {
+        if place.handle != last {
+            if let Some(handle) = place.handle {
+                blocks.push((handle, BlockType::Data))?;
+            }
+            last = place.handle;
+        }
+    }
+    Ok(blocks)
+}
+
+/// Compares the checksums of the data blocks that some places name, several in one loop. Where there is no memory for the
+/// list of these blocks, each is compared where it is read.
+pub(crate) fn compare_places<A: Allocator + Clone>(source: &BlockSource<A>, places: &[Placed]) {
+    let Ok(alloc) = source.allocator().clone() else {
+        return;
+    };
+    if let Ok(blocks) = blocks_of(alloc, places) {
+        source.compare_together(&blocks);
+    }
+}
+
+/// The data block that the read of a place rests on, where there is such a place.
+fn handle_of(places: &[Placed], index: usize) -> Option<BlockHandle> {
+    places.get(index)?.handle
+}
+
+/// Whether the read of a place is the first of several that rest on one data block.
+fn begins_several(places: &[Placed], index: usize) -> bool {
+    let handle = handle_of(places, index);
+    handle.is_some()
+        && handle == handle_of(places, index.wrapping_add(1))
+        && handle != handle_of(places, index.wrapping_sub(1))
+}
+
+/// Loads the data block of a handle, which a source that keeps blocks then has for the reads to come. A refusal is met by
+/// the first of these.
+fn load_for_several<S: LoadBlocks>(source: &mut S, handle: Option<BlockHandle>)
+    ensures { S.body source.new ≡ S.body source.old }
+{
+    if let Some(handle) = handle {
+        drop(source.load(&handle, BlockType::Data));
     }
 }
 
@@ -158,7 +216,10 @@ pub(crate) fn read_places<S: LoadBlocks>(
     ensures found { let told = query_told (S.body source.old) inner.now.global_seqno (parts_of inner.now) in
         AreFound told queries.now batch.new.found.items batch.new.done.items }
 {
-    for place in places {
+    for (index, place) in places.iter().enumerate() {
+        if begins_several(places, index) {
+            load_for_several(source, place.handle);
+        }
         let query = &queries[place.at];
         let Ok(found) = answer_placed(source, inner, query, place.handle) else {
             return;

@@ -1,10 +1,15 @@
 //! A source that keeps what it loaded last.
-ghost use Rattle.std.specs.Prelude.{◌≡◌, List, ℕ, IfSome};
+ghost use Rattle.std.specs.Prelude.{◌≡◌, List, ℕ, IfErr, IfOk, IfSome};
+ghost use Rattle.sst_blocks.specs.Starts.{HoldsEntries};
+ghost use Rattle.sst_entries.specs.declared.error.Error.TheVariants.{OutOfMemory};
 ghost use Rattle.lsm_readers.specs.Keeping.{IsLoaded, KeepsOf};
-ghost use Rattle.lsm_readers.specs.Words.{FaultsFirst, Gives, Loaded, body_of, load_told};
-ghost use Rattle.lsm_readers.specs.Words.{none_opened, place_fault};
+ghost use Rattle.lsm_readers.specs.Words.{FaultsFirst, Gives, Loaded, body_of, entries_of, load_told};
+ghost use Rattle.lsm_readers.specs.Words.{none_opened, place_fault, point};
 
-use sst_blocks::{Block, BlockHandle, BlockSource, BlockType, Error, LoadBlocks, Opened};
+use sst_blocks::{
+    Block, BlockHandle, BlockSource, BlockType, DataBlock, Error, InternalValue, LoadBlocks,
+    Opened, SeqNo,
+};
 use std::alloc::{Allocator, Global};
 use std::marker::Model;
 
@@ -75,6 +80,22 @@ impl<A: Allocator + Clone> LoadBlocks for Keeping<'_, A> {
             }
         }
     }
+
+    // A block that is not kept is walked over, and kept only where it is loaded before.
+    fn point_read(
+        &mut self,
+        handle: &BlockHandle,
+        key: &[u8],
+        seqno: SeqNo,
+    ) -> Result<Option<InternalValue<A>>, Error> {
+        match kept_at(&self.entries, handle, BlockType::Data) {
+            Some(block) => {
+                self.opened.count(BlockType::Data);
+                read_kept(block, key, seqno)
+            }
+            None => self.source.point_read(handle, key, seqno, &mut self.opened),
+        }
+    }
 }
 
 /// The block that is kept, where it is the one of this kind that a handle names.
@@ -90,6 +111,23 @@ fn kept_at<'k, A: Allocator>(
         Some(kept) if kept.handle == *handle && kept.block.kind() == kind => Some(&kept.block),
         _ => None,
     }
+}
+
+/// The first entry of a key numbered below `seqno` in a block that is kept. Refused [`Error::OutOfMemory`] alone.
+fn read_kept<A: Allocator>(
+    block: &Block<A>,
+    key: &[u8],
+    seqno: SeqNo,
+) -> Result<Option<InternalValue<A>>, Error>
+    requires { HoldsEntries block.now.kind }
+    ensures found { let found = point (entries_of block.now) key.now seqno in
+        IfOk result (λ x. x ≡ found) }
+    ensures err { IfErr result (λ e. e ≡ OutOfMemory) }
+{
+    let entries = DataBlock::new(block.clone()?);
+    let found = entries.point_read(key, seqno);
+    drop(entries);
+    found
 }
 
 /// The block of a kind that a handle names: the one that is kept, or one that is loaded, and kept from then on. Refused as

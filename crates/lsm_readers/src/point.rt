@@ -1,16 +1,12 @@
 //! Point reads, over whatever blocks can be loaded from.
-ghost use Rattle.std.specs.Prelude.{◌≡◌, ◌+◌, ◌<◌, ◌^◌, [], Option, IfOk, IfErr, IsOk};
+ghost use Rattle.std.specs.Prelude.{◌≡◌, ◌+◌, ◌<◌, ◌^◌, [], Option, IfSome, IsOk};
 ghost use Rattle.std.specs.Option.{option_map};
-ghost use Rattle.sst_entries.specs.declared.error.Error.TheVariants.{OutOfMemory};
 ghost use Rattle.lsm_readers.specs.Words.{DoesRead, Entry, FaultsFirst, Gives, LoadsFew, Opens, admission};
 ghost use Rattle.lsm_readers.specs.Words.{admitted_handle, answer, block_admits, filter_admits};
-ghost use Rattle.lsm_readers.specs.Words.{fnv1a, handle_at, handle_by, lifted, match_at, parts_of, point};
+ghost use Rattle.lsm_readers.specs.Words.{fnv1a, handle_at, handle_by, lifted, match_at, parts_of};
 
 use crate::{Inner, PinnedBlockIndex};
-use sst_blocks::{
-    BlockHandle, BlockType, DataBlock, Error, FilterBlock, IndexBlock, InternalValue, LoadBlocks,
-    SeqNo,
-};
+use sst_blocks::{BlockHandle, Error, InternalValue, LoadBlocks, SeqNo};
 use std::alloc::Allocator;
 
 // The entry with the global number added, which the caller has tested to fit.
@@ -33,11 +29,7 @@ fn block_admits<S: LoadBlocks>(
         DoesRead result read (S.opened source.old) (S.opened source.new) }
     ensures body { S.body source.new ≡ S.body source.old }
 {
-    let block = source.load(handle, BlockType::Filter)?;
-    let filter = FilterBlock::new(block);
-    let admits = filter.maybe_contains_hash(key_hash);
-    drop(filter);
-    Ok(admits)
+    source.maybe_contains_hash(handle, key_hash)
 }
 
 // Whether the filter may have a key of a hash.
@@ -100,11 +92,7 @@ fn handle_at<S: LoadBlocks>(
         DoesRead result read (S.opened source.old) (S.opened source.new) }
     ensures body { S.body source.new ≡ S.body source.old }
 {
-    let block = source.load(handle, BlockType::Index)?;
-    let handles = IndexBlock::new(block);
-    let found = handles.find(key, seqno);
-    drop(handles);
-    Ok(found)
+    source.find(handle, key, seqno)
 }
 
 // Where the first data block lies that reaches a key below a stored number.
@@ -151,22 +139,17 @@ pub(crate) fn admitted_handle<S: LoadBlocks>(
     }
 }
 
-/// The first entry of a key in a block whose stored number is below `seqno`, with its lifted number, which is to fit. Refused
-/// [`Error::OutOfMemory`] alone.
-fn lifted_read<A: Allocator>(
-    block: &DataBlock<A>,
+// What was found, with its lifted number, which is to fit.
+fn lifted_found<A: Allocator>(
+    found: Option<InternalValue<A>>,
     global_seqno: SeqNo,
-    key: &[u8],
-    seqno: SeqNo,
-) -> Result<Option<InternalValue<A>>, Error>
-    requires { seqno + global_seqno < 2 ^ 64 }
-    ensures found { let found = point block.now key.now seqno in
-        IfOk result (λ x. x ≡ option_map (lifted global_seqno) found) }
-    ensures err { IfErr result (λ e. e ≡ OutOfMemory) }
+) -> Option<InternalValue<A>>
+    requires { IfSome found (λ item. item.seqno + global_seqno < 2 ^ 64) }
+    ensures { result ≡ option_map (lifted global_seqno) found }
 {
-    match block.point_read(key, seqno)? {
-        Some(item) => Ok(Some(lift(item, global_seqno))),
-        None => Ok(None),
+    match found {
+        Some(item) => Some(lift(item, global_seqno)),
+        None => None,
     }
 }
 
@@ -183,11 +166,8 @@ pub(crate) fn read_in<S: LoadBlocks>(
         DoesRead result read (S.opened source.old) (S.opened source.new) }
     ensures body { S.body source.new ≡ S.body source.old }
 {
-    let block = source.load(&handle, BlockType::Data)?;
-    let entries = DataBlock::new(block);
-    let found = lifted_read(&entries, global_seqno, key, seqno);
-    drop(entries);
-    found
+    let found = source.point_read(&handle, key, seqno)?;
+    Ok(lifted_found(found, global_seqno))
 }
 
 /// The first entry of a key numbered below `seqno`, its number with the global number added. The source is its only way to

@@ -234,6 +234,25 @@ fn fitting_metadata<A: Allocator + Clone>(
     fits.and(Ok(metadata))
 }
 
+/// Compares the checksums of the index's block and the filter's that stay loaded in one loop, where there are both. Loading
+/// them answers what it would without.
+fn compare_pinned<A: Allocator + Clone>(
+    source: &BlockSource<A>,
+    regions: &ParsedRegions,
+    pin_filter: bool,
+    pin_index: bool,
+) {
+    if regions.index.is_none() && !pin_index {
+        return;
+    }
+    let index = (regions.tli, BlockType::Index);
+    if let Some(tops) = regions.filter_tli {
+        source.compare_together(&[index, (tops, BlockType::Index)]);
+    } else if let Some(filter) = filter_to_pin(regions, pin_filter) {
+        source.compare_together(&[index, (filter, BlockType::Filter)]);
+    }
+}
+
 fn recover_inner<A: Allocator + Clone>(
     source: &BlockSource<A>,
     checksum: Checksum,
@@ -251,6 +270,7 @@ fn recover_inner<A: Allocator + Clone>(
 {
     let regions = ParsedRegions::parse_from_toc(source.toc())?;
     let metadata = fitting_metadata(source, &regions.metadata, global_seqno)?;
+    compare_pinned(source, &regions, pin_filter, pin_index);
     let pinned = load_pinned(source, &regions, pin_filter, pin_index);
     let (metadata, pinned) = beside(metadata, pinned)?;
     Ok(Inner {

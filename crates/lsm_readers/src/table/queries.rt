@@ -4,7 +4,7 @@ ghost use Rattle.lsm_readers.specs.Batch.{AreFound};
 ghost use Rattle.lsm_readers.specs.Words.{Entry, FaultsFirst, Gives, IsTable, lift, point, table_answer};
 ghost use Rattle.lsm_readers.specs.Many.{found_told, many_told};
 
-use crate::batch::{Batch, find_places, key_order, put, read_places};
+use crate::batch::{Batch, compare_places, find_places, key_order, put, read_places};
 use crate::keeping::Keeping;
 use crate::{Inner, Table};
 use sst_blocks::{Error, InternalValue, SeqNo, UserKey};
@@ -36,7 +36,7 @@ fn get_one<A: Allocator + Clone>(
 }
 
 /// What is known of some queries once their keys were looked up in their order, and each block was loaded once for all that
-/// stand behind one another in it. Refused [`Error::OutOfMemory`] alone.
+/// stand behind one another in it. Refused for want of memory alone.
 fn read_batch<A: Allocator + Clone>(
     table: &Table<A>,
     queries: &[Query<A>],
@@ -47,9 +47,14 @@ fn read_batch<A: Allocator + Clone>(
     let alloc = table.source.allocator();
     let inner: &Inner<A> = &table.inner;
     let mut batch = Batch::new(alloc, queries.len())?;
+    if queries.len() < 2 {
+        // A query that stands alone has no neighbours.
+        return Ok(batch);
+    }
     let order = key_order(alloc.clone()?, queries)?;
     let mut source = Keeping::new(&table.source);
     let places = find_places(&mut source, inner, queries, &order, alloc.clone()?)?;
+    compare_places(&table.source, &places);
     read_places(&mut source, inner, queries, &places, &mut batch);
     Ok(batch)
 }
@@ -74,7 +79,8 @@ fn read_rest<A: Allocator + Clone>(
 }
 
 /// What [`Table::get`] answers to each of some queries, in their order, each with its key's own hash. Queries may stand in any
-/// order and repeat. Refused with the error of the earliest query that has one, and [`Error::OutOfMemory`]; then there is no
+/// order and repeat; they are looked up in the order of their keys, and a block is loaded once for all that follow one another
+/// in it. Refused with the error of the earliest query that has one, and [`Error::OutOfMemory`]; then there is no
 /// answer at all, and the table is as it was. The list takes memory first, so any refusal may be that, also where `get` would
 /// find a fault before memory is taken or would load nothing. A list of no queries takes none, and is
 /// refused only where a clone of the allocator is.

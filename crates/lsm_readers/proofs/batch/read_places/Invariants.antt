@@ -3,8 +3,8 @@ use Rattle.lsm_readers.specs.Batch.{AreFound, query_told}
 use Rattle.lsm_readers.specs.Table.{parts_of}
 use Rattle.lsm_readers.proofs.batch.read_places.Given as goal
 
-abbrev pub invariant-loop-place : goal.invariant-loop-place
-invariant-loop-place g l =
+abbrev pub invariant-loop-index : goal.invariant-loop-index
+invariant-loop-index g l =
     let bytes = g.S.LoadBlocks.body l.initial.source in
     record {
       same : g.S.LoadBlocks.body l.source ≡ bytes;

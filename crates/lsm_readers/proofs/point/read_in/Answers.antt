@@ -1,23 +1,33 @@
-use Rattle.std.proofs.Common.{◌≡◌, List, Option, subst}
+use Rattle.std.proofs.Common.{◌≡◌, ◌<◌, Option, arith, subst, sym}
 use Rattle.std.specs.Option.{option_map}
-use Rattle.std.specs.Prelude.{IfOk}
+use Rattle.std.specs.Prelude.{IfSome}
 use Rattle.sst_entries.specs.Entry.{Entry}
-use Rattle.sst_entries.specs.Point.{point}
+use Rattle.sst_blocks.specs.Block.{load_told}
 use Rattle.sst_blocks.specs.declared.block_type.BlockType.TheVariants.{Data}
-use Rattle.sst_blocks.specs.Block.{Loaded, entries_of}
-use Rattle.lsm_readers.specs.Answer.{lifted}
-use Rattle.lsm_readers.proofs.Loads.{load_kind, data_holds}
-use Rattle.lsm_readers.proofs.ReadLaws.{load_gives}
+use Rattle.lsm_readers.specs.Answer.{lifted, match_at}
+use Rattle.lsm_readers.specs.Read.{DoesRead}
+use Rattle.lsm_readers.proofs.AskedReads.{lift_fits, match_fails, match_goes}
+use Rattle.lsm_readers.proofs.ReadLaws.{result}
 use Rattle.lsm_readers.proofs.point.read_in.Goals as goal
 
-pub new-entries-requires : goal.new-entries-requires
-new-entries-requires g c = data_holds _ (load_kind _ _ _ _ _ c.in_ok-block.ensures.told)
+pub lifted_found-requires : goal.lifted_found-requires
+lifted_found-requires g c =
+    let place = c.args.handle in
+    let told = load_told (g.S.LoadBlocks.body c.args.source.now) place.offset place.size Data in
+    lift_fits told c.args.key.now c.args.seqno c.args.global_seqno c.in_ok-found.found c.requires c.in_ok-found.ensures.told
+
+pub returns-in_err-found-clause-read : goal.returns-in_err-found-clause-read
+returns-in_err-found-clause-read g c =
+    match_fails (g.S.LoadBlocks.body c.args.source.now) c.args.global_seqno c.args.key.now c.args.seqno c.args.handle _ _ c.in_err-found.ensures.counted
+    c.in_err-found.field-0.0 c.from_residual.result c.from_residual.ensures.1 c.in_err-found.ensures.told c.in_err-found.ensures.first
 
 pub returns-clause-read : goal.returns-clause-read
 returns-clause-read g c =
+    let body = g.S.LoadBlocks.body c.args.source.now in
     let key = c.args.key.now in
     let n = c.args.seqno in
     let add = c.args.global_seqno in
-    let is = subst (λ (es : List Entry). IfOk c.lifted_read-found.result (λ (x : Option Entry). x ≡ option_map (lifted add) (point es key n))) c.new-entries.ensures c.lifted_read-found.ensures.found in
-    load_gives (λ (b : Loaded). option_map (lifted add) (point (entries_of b) key n)) (g.S.LoadBlocks.body c.args.source.now) c.args.handle Data _ _ c.load.ensures.counted
-    c.in_ok-block.block c.in_ok-block.ensures.told c.in_ok-block.ensures.first _ is c.lifted_read-found.ensures.err
+    let o = g.S.LoadBlocks.opened c.args.source.now in
+    let o' = g.S.LoadBlocks.opened c.point_read.new.self in
+    let goes = match_goes body add key n c.args.handle o o' c.in_ok-found.ensures.counted c.in_ok-found.found c.in_ok-found.ensures.told c.in_ok-found.ensures.first in
+    subst (λ (found : Option Entry). DoesRead (result found) (match_at body add key n c.args.handle) o o') (sym c.lifted_found.ensures) goes

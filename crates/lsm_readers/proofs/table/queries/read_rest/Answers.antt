@@ -1,11 +1,10 @@
-use Rattle.std.proofs.Common.{◌≡◌, ◌+◌, rules, List, Option, ap, get_or, false, true, set, take, subst, sym, ◌∙◌}
-use Rattle.std.proofs.lemmas.List.{get_or_default}
-use Rattle.std.specs.Prelude.{Ok, Result}
-use Rattle.sst_entries.specs.declared.error.Error.{Error}
+use Rattle.std.proofs.Common.{◌≡◌, ◌+◌, ◌<◌, arith, length, rules, List, Option, get_or, false, true, set, take, subst, sym, ◌∙◌}
+use Rattle.std.proofs.lemmas.List.{get_or_read}
+use Rattle.std.specs.Prelude.{Ok}
 use Rattle.sst_entries.specs.Entry.{Entry}
 use Rattle.lsm_readers.specs.Batch.{AreFound}
 use Rattle.lsm_readers.specs.Many.{found_told, many_told}
-use Rattle.lsm_readers.proofs.BatchReads.{all_read, found_at, one_known, one_read}
+use Rattle.lsm_readers.proofs.BatchReads.{found_at, one_known, one_read}
 use Rattle.lsm_readers.proofs.ManyReads.{refused_at}
 use Rattle.lsm_readers.proofs.Steps.{passes_fault}
 use Rattle.lsm_readers.proofs.table.queries.read_rest.Goals as goal
@@ -25,21 +24,22 @@ loop-at-preserved g c =
     let query = c.index-queries-at.result in
     elim c.if-not-index.branch [
       | then-not-index+in_ok-get_one w ↦
-        let put : c.if-not-index.found.items ≡ set c.loop-at.found.items at w.in_ok-get_one.field-0 = search rules in
-        let is : told query ≡ Ok w.in_ok-get_one.field-0 = w.in_ok-get_one.ensures.told in
-        let are = c.loop-at.invariant.are_found in
-        let put_found = found_at told queries c.loop-at.found.items c.args.batch.done.items are at query c.loop-at-test.true c.index-queries-at.is w.in_ok-get_one.field-0 is in
-        let put_far = one_read told queries c.loop-at.found.items c.args.batch.done.items are at query c.loop-at-test.true c.index-queries-at.is w.in_ok-get_one.field-0 is c.loop-at.invariant.so_far in
-        record {
-          are_found = subst (λ (found : List (Option Entry)). AreFound told queries found c.args.batch.done.items) (sym put) put_found;
-          so_far = subst (λ (found : List (Option Entry)). many_told c.args.table.now (take (at + 1) queries) ≡ Ok (take (at + 1) found)) (sym put) put_far;
-        }
+          let put : c.if-not-index.found.items ≡ set c.loop-at.found.items at w.in_ok-get_one.field-0 = search rules in
+          let is : told query ≡ Ok w.in_ok-get_one.field-0 = w.in_ok-get_one.ensures.told in
+          let are = c.loop-at.invariant.are_found in
+          let put_found = found_at told queries c.loop-at.found.items c.args.batch.done.items are at query c.loop-at-test.true c.index-queries-at.is w.in_ok-get_one.field-0 is in
+          let put_far = one_read told queries c.loop-at.found.items c.args.batch.done.items are at query c.loop-at-test.true c.index-queries-at.is w.in_ok-get_one.field-0 is c.loop-at.invariant.so_far in
+          record {
+            are_found = subst (λ (found : List (Option Entry)). AreFound told queries found c.args.batch.done.items) (sym put) put_found;
+            so_far = subst (λ (found : List (Option Entry)). many_told c.args.table.now (take (at + 1) queries) ≡ Ok (take (at + 1) found)) (sym put) put_far;
+          }
       | else-not-index w ↦
-        let kept : c.if-not-index.found.items ≡ c.loop-at.found.items = search rules in
-        let marked : get_or c.args.batch.done.items at false ≡ true = ? in
-        let far = one_known told queries c.loop-at.found.items c.args.batch.done.items c.loop-at.invariant.are_found at query c.loop-at-test.true c.index-queries-at.is marked c.loop-at.invariant.so_far in
-        record {
-          are_found = subst (λ (found : List (Option Entry)). AreFound told queries found c.args.batch.done.items) (sym kept) c.loop-at.invariant.are_found;
-          so_far = subst (λ (found : List (Option Entry)). many_told c.args.table.now (take (at + 1) queries) ≡ Ok (take (at + 1) found)) (sym kept) far;
-        }
+          let kept : c.if-not-index.found.items ≡ c.loop-at.found.items = search rules in
+          let inside : at < length c.args.batch.done.items = omega (arith, c.loop-at-test.true, c.requires.done_len) in
+          let marked : get_or c.args.batch.done.items at false ≡ true = sym (get_or_read c.args.batch.done.items at c.index.result.now inside c.index.ensures false) ∙ w.if-not-index.false in
+          let far = one_known told queries c.loop-at.found.items c.args.batch.done.items c.loop-at.invariant.are_found at query c.loop-at-test.true c.index-queries-at.is marked c.loop-at.invariant.so_far in
+          record {
+            are_found = subst (λ (found : List (Option Entry)). AreFound told queries found c.args.batch.done.items) (sym kept) c.loop-at.invariant.are_found;
+            so_far = subst (λ (found : List (Option Entry)). many_told c.args.table.now (take (at + 1) queries) ≡ Ok (take (at + 1) found)) (sym kept) far;
+          }
     ]
