@@ -1,14 +1,14 @@
-//! Tests of rows that are written and read back whole, of reads and scans that are refused memory,
-//! of long keys, of the targets at which tables are cut, and of ranges of numbers. Nothing here is
-//! for use.
+//! Tests of rows that are written and read back whole, of the memory that a read asks for, of scans
+//! that are refused memory, of long keys, of the targets at which tables are cut, and of ranges of
+//! numbers. Nothing here is for use.
 #![tactic(auto)]
 
-#[cfg(test)]
-mod again;
 #[cfg(test)]
 mod key_ranges;
 #[cfg(test)]
 mod long_keys;
+#[cfg(test)]
+mod reads;
 #[cfg(test)]
 mod rows;
 #[cfg(test)]

@@ -1,4 +1,4 @@
-//! A point read that is refused memory, and the same read again on the same table.
+//! A point read and what memory it asks for.
 use crate::tables::{is_made, opened, written_in_parts};
 use example_tables::large::asked;
 use lsm_tables::Table;
@@ -28,23 +28,9 @@ fn finds<A: Allocator + Copy>(table: &Table<A>) -> bool {
     read(table) == (Ok(Some(7)), [1, 1])
 }
 
-// Whether a read finds a@7 or is refused memory, and the next one finds it.
-fn finds_again<A: Allocator + Copy>(table: &Table<A>) -> bool {
-    let is_right = match read(table).0 {
-        Ok(found) => found == Some(7),
-        Err(error) => error == Error::OutOfMemory,
-    };
-    is_right && finds(table)
-}
-
 // Whether the table of some bytes is opened, and a read of it finds a@7.
 fn is_found<A: Allocator + Copy>(alloc: A, bytes: &[u8]) -> bool {
     asked(opened(alloc, bytes), |table| Ok(finds(table))) == Ok(true)
-}
-
-// Whether it is opened, and finds a@7 once a read is refused memory.
-fn is_found_again<A: Allocator + Copy>(alloc: A, bytes: &[u8]) -> bool {
-    asked(opened(alloc, bytes), |table| Ok(finds_again(table))) == Ok(true)
 }
 
 // How many requests for memory the opening makes.
@@ -67,26 +53,16 @@ fn requests_of_read(alloc: Global, bytes: &[u8]) -> usize {
     }
 }
 
-// Whether a@7 is found again, each request from one to another refused in turn.
-fn each_found_again(alloc: Global, bytes: &[u8], first: usize, last: usize) -> bool {
-    for nth in first..=last {
-        let heap = Refusing::new(alloc, nth);
-        if !is_found_again(&heap, bytes) || heap.requests() < nth {
-            return false;
-        }
-    }
-    true
-}
-
-// Whether a read makes requests, and a@7 is found again with each of them refused in turn.
-fn found_again(alloc: Global) -> Result<bool, Error> {
+// Whether a read asks for none beside those of the opening.
+fn asks_for_none(alloc: Global) -> Result<bool, Error> {
     let bytes = written_in_parts(alloc)?;
-    let first = requests_of_opening(alloc, bytes.as_slice()).saturating_add(1);
-    let last = requests_of_read(alloc, bytes.as_slice());
-    Ok(first <= last && each_found_again(alloc, bytes.as_slice(), first, last))
+    let opening = requests_of_opening(alloc, bytes.as_slice());
+    Ok(requests_of_read(alloc, bytes.as_slice()) == opening)
 }
 
+// A partition of the index and a block of data are loaded, and neither takes memory for the places
+// of its items; the entry shares the table's bytes.
 #[test]
-fn a_read_that_was_refused_memory_is_answered_again(rt: HostRuntime) {
-    assert!(rt; found_again(rt.alloc()) == Ok(true));
+fn a_read_asks_for_no_memory(rt: HostRuntime) {
+    assert!(rt; asks_for_none(rt.alloc()) == Ok(true));
 }
