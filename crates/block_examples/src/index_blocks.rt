@@ -457,7 +457,7 @@ fn each_request_refused_is_answered_so(rt: HostRuntime) {
     let answers = each_refused(rt.alloc(), |heap, may_fail| {
         is_answer_or_refused(write_and_read(heap), (10, (0, 30)), may_fail)
     });
-    assert!(rt; answers == Ok(23));
+    assert!(rt; answers == Ok(24));
 }
 
 // A clone of a block, which outlives it.
