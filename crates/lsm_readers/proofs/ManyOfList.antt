@@ -1,6 +1,6 @@
 -- Many reads of a table of a list: each has the first match in the list.
 use Rattle.std.proofs.Common.{◌≡◌, List}
-use Rattle.std.specs.Prelude.{Ok, Option, map}
+use Rattle.std.specs.Prelude.{Ok, map}
 use Rattle.sst_entries.specs.Entry.{Entry}
 use Rattle.sst_entries.specs.Point.{point}
 use Rattle.lsm_files.specs.Table.{IsTable}

@@ -11,7 +11,7 @@ use Rattle.lsm_readers.specs.Parts.{Parts}
 abbrev pub query_told : {A : Type 0} → List ℕ → ℕ → Parts → Query A → Result (Option Entry) Error
 query_told body g parts q = (answer body g parts q.key q.seqno).told
 
--- a query stands at a place of its list, and a point read for it rests on the data block of a handle
+-- a query stands at a place of its list, and a point read for it rests on the block of a handle
 pub record IsPlaced {A : Type 0} (body : List ℕ) (g : ℕ) (parts : Parts) (queries : List (Query A))
     (p : Placed) : Type 0 where
   pub within : p.at < length queries

@@ -1,5 +1,5 @@
 -- Many point reads of one table, over any bytes.
-use Rattle.std.specs.Prelude.{ℕ, List, [], ◌∷◌, Option, Result, Ok}
+use Rattle.std.specs.Prelude.{List, [], ◌∷◌, Option, Result, Ok}
 use Rattle.sst_entries.specs.declared.error.Error.{Error}
 use Rattle.sst_entries.specs.Entry.{Entry}
 use Rattle.lsm_readers.specs.declared.table.queries.Query.{Query}

@@ -1,5 +1,6 @@
 //! Point reads for some queries in key order, over whatever blocks can be loaded from.
-ghost use Rattle.std.specs.Prelude.{◌≡◌, ◌-◌, ◌<◌, Option, Ok, IfOk, IfSome, false, length, replicate, slice_set};
+ghost use Rattle.std.specs.Prelude.{◌≡◌, ◌-◌, ◌<◌, Option, Ok, IfOk, IfSome, false};
+ghost use Rattle.std.specs.Prelude.{length, replicate, slice_set};
 ghost use Rattle.std.specs.List.{All};
 ghost use Rattle.lsm_readers.specs.Batch.{AreFound, IsPlaced, query_told};
 ghost use Rattle.lsm_readers.specs.Words.{Entry, Gives, Place, admitted_handle, parts_of};
@@ -11,7 +12,8 @@ use sst_entries::compare_versions;
 use std::alloc::{AllocError, Allocator, Global};
 use std::cmp::Ordering;
 
-/// Where a query stands in its list, and where the data block lies that a read for it rests on, if on any.
+/// Where a query stands in its list, and where the data block lies that a read for it rests on, if
+/// on any.
 #[derive(Clone, Copy)]
 pub(crate) struct Placed {
     pub(crate) at: usize,
@@ -40,7 +42,8 @@ impl<A: Allocator + Clone> Batch<A> {
     }
 }
 
-/// Puts an item in the place of another. It is generic in the items, so that no part of a large one is looked at.
+/// Puts an item in the place of another. It is generic in the items, so that no part of a large one
+/// is looked at.
 pub(crate) fn put<T: Drop, A: Allocator>(items: &mut Vec<T, A>, at: usize, item: T)
     requires { at < length items.old.items }
     ensures { items.new.items ≡ slice_set items.old.items at item }
@@ -48,8 +51,8 @@ pub(crate) fn put<T: Drop, A: Allocator>(items: &mut Vec<T, A>, at: usize, item:
     items[at] = item;
 }
 
-/// Queries by their keys upward, and those of one key by their bounds downward; what stands in no place of the list is
-/// anywhere.
+/// Queries by their keys upward, and those of one key by their bounds downward; what stands in no
+/// place of the list is anywhere.
 fn compare_queries<A: Allocator>(queries: &[Query<A>], at: usize, other_at: usize) -> Ordering {
     match (queries.get(at), queries.get(other_at)) {
         (Some(query), Some(other)) => compare_versions(
@@ -75,8 +78,8 @@ pub(crate) fn key_order<A: Allocator>(
     Ok(order)
 }
 
-/// Where the data block lies that a read for the query of a place rests on. None where that is refused, or there is no such
-/// place.
+/// Where the data block lies that a read for the query of a place rests on. None where that is
+/// refused, or there is no such place.
 fn place_at<S: LoadBlocks>(
     source: &mut S,
     inner: &Inner<S::Alloc>,
@@ -120,8 +123,8 @@ pub(crate) fn find_places<S: LoadBlocks>(
     Ok(places)
 }
 
-/// What a read for a query gives that rests on the data block of a handle. Refused as the load of that block, and
-/// [`Error::OutOfMemory`].
+/// What a read for a query gives that rests on the data block of a handle. Refused as the load of
+/// that block, and [`Error::OutOfMemory`].
 fn answer_placed<S: LoadBlocks>(
     source: &mut S,
     inner: &Inner<S::Alloc>,
@@ -167,8 +170,8 @@ fn blocks_of<A: Allocator>(
     Ok(blocks)
 }
 
-/// Compares the checksums of the data blocks that some places name, several in one loop. Where there is no memory for the
-/// list of these blocks, each is compared where it is read.
+/// Compares the checksums of the data blocks that some places name, several in one loop. Where
+/// there is no memory for the list of these blocks, each is compared where it is read.
 pub(crate) fn compare_places<A: Allocator + Clone>(source: &BlockSource<A>, places: &[Placed]) {
     let Ok(alloc) = source.allocator().clone() else {
         return;
@@ -191,8 +194,8 @@ fn begins_several(places: &[Placed], index: usize) -> bool {
         && handle != handle_of(places, index.wrapping_sub(1))
 }
 
-/// Loads the data block of a handle, which a source that keeps blocks then has for the reads to come. A refusal is met by
-/// the first of these.
+/// Loads the data block of a handle, which a source that keeps blocks then has for the reads to
+/// come. A refusal is met by the first of these.
 fn load_for_several<S: LoadBlocks>(source: &mut S, handle: Option<BlockHandle>)
     ensures { S.body source.new ≡ S.body source.old }
 {
@@ -211,9 +214,11 @@ pub(crate) fn read_places<S: LoadBlocks>(
 )
     requires placed { let parts = parts_of inner.now in
         All (IsPlaced (S.body source.old) inner.now.global_seqno parts queries.now) places.now }
-    requires found { let told = query_told (S.body source.old) inner.now.global_seqno (parts_of inner.now) in
+    requires found { let parts = parts_of inner.now in
+        let told = query_told (S.body source.old) inner.now.global_seqno parts in
         AreFound told queries.now batch.old.found.items batch.old.done.items }
-    ensures found { let told = query_told (S.body source.old) inner.now.global_seqno (parts_of inner.now) in
+    ensures found { let parts = parts_of inner.now in
+        let told = query_told (S.body source.old) inner.now.global_seqno parts in
         AreFound told queries.now batch.new.found.items batch.new.done.items }
 {
     for (index, place) in places.iter().enumerate() {

@@ -3,8 +3,8 @@ ghost use Rattle.std.specs.Prelude.{◌≡◌, List, ℕ, IfErr, IfOk, IfSome};
 ghost use Rattle.sst_blocks.specs.Starts.{HoldsEntries};
 ghost use Rattle.sst_entries.specs.declared.error.Error.TheVariants.{OutOfMemory};
 ghost use Rattle.lsm_readers.specs.Keeping.{IsLoaded, KeepsOf};
-ghost use Rattle.lsm_readers.specs.Words.{FaultsFirst, Gives, Loaded, body_of, entries_of, load_told};
-ghost use Rattle.lsm_readers.specs.Words.{none_opened, place_fault, point};
+ghost use Rattle.lsm_readers.specs.Words.{FaultsFirst, Gives, Loaded, body_of, entries_of};
+ghost use Rattle.lsm_readers.specs.Words.{load_told, none_opened, place_fault, point};
 
 use sst_blocks::{
     Block, BlockHandle, BlockSource, BlockType, DataBlock, Error, InternalValue, LoadBlocks,
@@ -20,8 +20,8 @@ pub(crate) struct Kept<A: Allocator = Global> {
     block: Block<A>,
 }
 
-/// A source that keeps the filter, the index block and the data block that it loaded last, and gives such a block again where
-/// it is asked for it again. It counts what it is asked for.
+/// A source that keeps the filter, the index block and the data block that it loaded last, and
+/// gives such a block again where it is asked for it again. It counts what it is asked for.
 #[derive(Drop)]
 pub(crate) struct Keeping<'a, A: Allocator = Global> {
     source: &'a BlockSource<A>,
@@ -113,7 +113,8 @@ fn kept_at<'k, A: Allocator>(
     }
 }
 
-/// The first entry of a key numbered below `seqno` in a block that is kept. Refused [`Error::OutOfMemory`] alone.
+/// The first entry of a key numbered below `seqno` in a block that is kept. Refused
+/// [`Error::OutOfMemory`] alone.
 fn read_kept<A: Allocator>(
     block: &Block<A>,
     key: &[u8],
@@ -130,8 +131,8 @@ fn read_kept<A: Allocator>(
     found
 }
 
-/// The block of a kind that a handle names: the one that is kept, or one that is loaded, and kept from then on. Refused as
-/// [`BlockSource::load`].
+/// The block of a kind that a handle names: the one that is kept, or one that is loaded, and kept
+/// from then on. Refused as [`BlockSource::load`].
 fn load_kept<A: Allocator + Clone>(
     source: &BlockSource<A>,
     kept: &mut Option<Kept<A>>,

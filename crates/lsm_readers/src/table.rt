@@ -234,8 +234,8 @@ fn fitting_metadata<A: Allocator + Clone>(
     fits.and(Ok(metadata))
 }
 
-/// Compares the checksums of the index's block and the filter's that stay loaded in one loop, where there are both. Loading
-/// them answers what it would without.
+/// Compares the checksums of the index's block and the filter's that stay loaded in one loop, where
+/// there are both. Loading them answers what it would without.
 fn compare_pinned<A: Allocator + Clone>(
     source: &BlockSource<A>,
     regions: &ParsedRegions,

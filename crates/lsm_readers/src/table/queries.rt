@@ -35,8 +35,8 @@ fn get_one<A: Allocator + Clone>(
     table.get(key, query.seqno, Table::<A>::key_hash(key))
 }
 
-/// What is known of some queries once their keys were looked up in their order, and each block was loaded once for all that
-/// stand behind one another in it. Refused for want of memory alone.
+/// What is known of some queries once their keys were looked up in their order, and each block was
+/// loaded once for all that stand behind one another in it. Refused for want of memory alone.
 fn read_batch<A: Allocator + Clone>(
     table: &Table<A>,
     queries: &[Query<A>],
@@ -59,8 +59,8 @@ fn read_batch<A: Allocator + Clone>(
     Ok(batch)
 }
 
-/// What was found, with the answers of reads for those queries that nothing is known of yet, in the queries' order. Refused
-/// as the first of these reads that is.
+/// What was found, with the answers of reads for those queries that nothing is known of yet, in the
+/// queries' order. Refused as the first of these reads that is.
 fn read_rest<A: Allocator + Clone>(
     table: &Table<A>,
     queries: &[Query<A>],
@@ -79,8 +79,9 @@ fn read_rest<A: Allocator + Clone>(
 }
 
 /// What [`Table::get`] answers to each of some queries, in their order, each with its key's own hash. Queries may stand in any
-/// order and repeat; they are looked up in the order of their keys, and a block is loaded once for all that follow one another
-/// in it. Refused with the error of the earliest query that has one, and [`Error::OutOfMemory`]; then there is no
+/// order and repeat; they are looked up in the order of their keys, and a block is loaded once for
+/// all that follow one another in it. Refused with the error of the earliest query that has one,
+/// and [`Error::OutOfMemory`]; then there is no
 /// answer at all, and the table is as it was. The list takes memory first, so any refusal may be that, also where `get` would
 /// find a fault before memory is taken or would load nothing. A list of no queries takes none, and is
 /// refused only where a clone of the allocator is.

@@ -1,6 +1,5 @@
 use Rattle.sst_blocks.specs.Block.{Loaded}
 use Rattle.std.proofs.Common.{subst, sym}
-use Rattle.sst_blocks.specs.declared.block_type.BlockType.{BlockType}
 use Rattle.sst_sections.specs.Sections.{body_of}
 use Rattle.lsm_readers.specs.Keeping.{IsLoaded}
 use Rattle.lsm_readers.proofs.BatchReads.{is_loaded, kept_as}

@@ -1,10 +1,8 @@
-use Rattle.std.proofs.Common.{◌≡◌, ◌<◌, Option, arith, subst, sym}
-use Rattle.std.specs.Option.{option_map}
-use Rattle.std.specs.Prelude.{IfSome}
+use Rattle.std.proofs.Common.{Option, subst, sym}
 use Rattle.sst_entries.specs.Entry.{Entry}
 use Rattle.sst_blocks.specs.Block.{load_told}
 use Rattle.sst_blocks.specs.declared.block_type.BlockType.TheVariants.{Data}
-use Rattle.lsm_readers.specs.Answer.{lifted, match_at}
+use Rattle.lsm_readers.specs.Answer.{match_at}
 use Rattle.lsm_readers.specs.Read.{DoesRead}
 use Rattle.lsm_readers.proofs.AskedReads.{lift_fits, match_fails, match_goes}
 use Rattle.lsm_readers.proofs.ReadLaws.{result}
