@@ -1,11 +1,12 @@
 //! Checksums that are compared ahead of the loads: no load answers otherwise.
+ghost use Rattle.std.specs.Prelude.{◌≡◌, []};
+
 use crate::large::{finished, holds};
 use sst_blocks::{
     Block, BlockHandle, BlockOffset, BlockSource, BlockType, CompressionType, Error, Opened,
     SectionName, SectionWriter, Slice, has_hash, hash, have_hashes,
 };
 use std::alloc::Global;
-ghost use Rattle.std.specs.Prelude.{◌≡◌, []};
 
 const TEXT: &[u8] = b"a run of bytes, which is walked over from both ends";
 
@@ -117,6 +118,9 @@ fn is_answered_so(alloc: Global, damaged: u8) -> Result<bool, Error> {
 #[test]
 fn sums_that_are_compared_ahead_change_no_answer(rt: HostRuntime) {
     for damaged in 0..16u8 {
-        assert!(rt; holds(is_answered_so(rt.alloc(), damaged)), "damaged {damaged}");
+        assert!(rt;
+            holds(is_answered_so(rt.alloc(), damaged)),
+            "damaged {damaged}"
+        );
     }
 }
