@@ -92,19 +92,30 @@ fn load_so(source: &BlockSource<Global>, damaged: u8) -> bool {
     so
 }
 
-// Some of the four, one of them twice, a block of another kind, and one past the end.
-fn compare_some(source: &BlockSource<Global>) {
+// The four, and one of them again.
+fn compare_all(source: &BlockSource<Global>) {
     let one = handle_of(BLOCKS[0]);
     let two = handle_of(BLOCKS[1]);
     let three = handle_of(BLOCKS[2]);
     let four = handle_of(BLOCKS[3]);
-    source.compare_together(&[]);
-    source.compare_together(&[one, (two.0, BlockType::Index), handle_of((1 << 40, 2124))]);
-    source.compare_together(&[one, two, three, four, three]);
+    let again = handle_of(BLOCKS[2]);
+    let all = [one, two, three, four, again];
+    source.compare_together(&all);
+}
+
+// No block, then one of the four, one as of another kind, and one past the end.
+fn compare_some(source: &BlockSource<Global>) {
+    let one = handle_of(BLOCKS[0]);
+    let (two, _) = handle_of(BLOCKS[1]);
+    let past_the_end = handle_of((1 << 40, 2124));
+    let some = [one, (two, BlockType::Index), past_the_end];
+    source.compare_together(&some[..0]);
+    source.compare_together(&some);
 }
 
 fn ask(source: &BlockSource<Global>, damaged: u8) -> bool {
     compare_some(source);
+    compare_all(source);
     load_so(source, damaged)
 }
 
