@@ -208,8 +208,8 @@ class TableBench {
   void Ours() {
     Written written{};
     times_.Take("build", [&] {
-      Answered(sst_bench_build(Bytes(single_.bytes()), single_.bytes().size(), kKeyLen, kValueLen, 1,
-                               nullptr, 0, &written));
+      Answered(sst_bench_build(Bytes(single_.bytes()), single_.bytes().size(), kKeyLen, kValueLen,
+                               1, nullptr, 0, &written));
     });
     Require(written.bytes == table_.size(), "another table was built");
     OfOneTable("", table_);
@@ -267,8 +267,8 @@ class TableBench {
   void CheckKeys(const std::string& name, const std::string& table, decltype(&sst_bench_get) call,
                  const Keys& keys, uint64_t passes, const Digest& wanted) {
     Check(name, passes, wanted, [&](Digest* digest) {
-      return call(Bytes(table), table.size(), Bytes(keys.joined), keys.joined.size(), kKeyLen, passes,
-                  digest);
+      return call(Bytes(table), table.size(), Bytes(keys.joined), keys.joined.size(), kKeyLen,
+                  passes, digest);
     });
   }
 
@@ -304,8 +304,8 @@ class TableBench {
             "compaction wrote other tables");
   }
 
-  // The call with no pass comes twice: only the second finds the table in the processor's caches, as
-  // the calls after it do.
+  // The call with no pass comes twice: only the second finds the table in the processor's caches,
+  // as the calls after it do.
   std::vector<uint64_t> Passes() const { return {0, 0, 1, 1 + again_}; }
   // How often a table is opened, for a time that can be measured beside that of copying it.
   uint64_t Opens() const { return std::max<uint64_t>(10, 10000000 / count_); }
@@ -432,7 +432,8 @@ class TableBench {
     PassRows("the same one by one", a_key, "singly", "singly", touched * kCompared, batch, again,
              &rows);
     PassRows("scan", an_entry, "scan", "scan", data * kBeside, entries, 1, &rows);
-    PassRows("iterator from the front", an_entry, "iter", "scan", data * kBeside, entries, 1, &rows);
+    PassRows("iterator from the front", an_entry, "iter", "scan", data * kBeside, entries, 1,
+             &rows);
     PassRows("iterator from the back", an_entry, "back", "back", data * kBeside, entries, 1, &rows);
     PassRows("range of 50 entries", "", "range", "range", data * kBeside, keys, again, &rows);
     PassRows("merge of 8", an_entry, "merge", "merge", read_ * kBeside, merged, 1, &rows);
