@@ -4,13 +4,14 @@ ghost use Rattle.std.specs.Prelude.{length, replicate, slice_set};
 ghost use Rattle.std.specs.List.{All};
 ghost use Rattle.lsm_readers.specs.Batch.{AreFound, IsPlaced, query_told};
 ghost use Rattle.lsm_readers.specs.Words.{Entry, Gives, Place, admitted_handle, parts_of};
+ghost use Rattle.lsm_readers.specs.Words.{with_load};
+ghost use Rattle.sst_blocks.specs.declared.block_type.BlockType.TheVariants.{Data};
 
+use crate::order::Headed;
 use crate::point::{admitted_handle, read_in};
 use crate::{Inner, Query};
 use sst_blocks::{BlockHandle, BlockSource, BlockType, Error, InternalValue, LoadBlocks, hash};
-use sst_entries::compare_versions;
 use std::alloc::{AllocError, Allocator, Global};
-use std::cmp::Ordering;
 
 /// Where a query stands in its list, and where the data block lies that a read for it rests on, if
 /// on any.
@@ -51,33 +52,6 @@ pub(crate) fn put<T: Drop, A: Allocator>(items: &mut Vec<T, A>, at: usize, item:
     items[at] = item;
 }
 
-/// Queries by their keys upward, and those of one key by their bounds downward; what stands in no
-/// place of the list is anywhere.
-fn compare_queries<A: Allocator>(queries: &[Query<A>], at: usize, other_at: usize) -> Ordering {
-    match (queries.get(at), queries.get(other_at)) {
-        (Some(query), Some(other)) => compare_versions(
-            query.key.as_slice(),
-            query.seqno,
-            other.key.as_slice(),
-            other.seqno,
-        ),
-        _ => Ordering::Equal,
-    }
-}
-
-/// The places of some queries in their list, in the order of their keys.
-pub(crate) fn key_order<A: Allocator>(
-    alloc: A,
-    queries: &[Query<A>],
-) -> Result<Vec<usize, A>, AllocError> {
-    let mut order = Vec::with_capacity(alloc, queries.len())?;
-    for at in 0..queries.len() {
-        order.push(at)?;
-    }
-    order.sort_unstable_by(|a, b| compare_queries(queries, *a, *b));
-    Ok(order)
-}
-
 /// Where the data block lies that a read for the query of a place rests on. None where that is
 /// refused, or there is no such place.
 fn place_at<S: LoadBlocks>(
@@ -100,12 +74,13 @@ fn place_at<S: LoadBlocks>(
     }
 }
 
-/// The same of the queries of some places, up to the first where it is refused.
+/// Where the data blocks lie that reads for the queries of some places rest on, in the order of these
+/// places, up to the first where that is refused.
 pub(crate) fn find_places<S: LoadBlocks>(
     source: &mut S,
     inner: &Inner<S::Alloc>,
     queries: &[Query<S::Alloc>],
-    order: &[usize],
+    order: &[Headed],
     alloc: S::Alloc,
 ) -> Result<Vec<Placed, S::Alloc>, AllocError>
     ensures placed { let parts = parts_of inner.now in
@@ -114,8 +89,8 @@ pub(crate) fn find_places<S: LoadBlocks>(
     ensures body { S.body source.new ≡ S.body source.old }
 {
     let mut places = Vec::with_capacity(alloc, order.len())?;
-    for at in order {
-        let Some(place) = place_at(source, inner, queries, *at) else {
+    for headed in order {
+        let Some(place) = place_at(source, inner, queries, headed.at) else {
             return Ok(places);
         };
         places.push(place)?;
@@ -197,7 +172,8 @@ fn begins_several(places: &[Placed], index: usize) -> bool {
 /// Loads the data block of a handle, which a source that keeps blocks then has for the reads to
 /// come. A refusal is met by the first of these.
 fn load_for_several<S: LoadBlocks>(source: &mut S, handle: Option<BlockHandle>)
-    ensures { S.body source.new ≡ S.body source.old }
+    ensures body { S.body source.new ≡ S.body source.old }
+    ensures opened { IfSome handle (λ _. S.opened source.new ≡ with_load Data (S.opened source.old)) }
 {
     if let Some(handle) = handle {
         drop(source.load(&handle, BlockType::Data));

@@ -20,8 +20,9 @@ pub(crate) struct Kept<A: Allocator = Global> {
     block: Block<A>,
 }
 
-/// A source that keeps the filter, the index block and the data block that it loaded last, and
-/// gives such a block again where it is asked for it again. It counts what it is asked for.
+/// A source that keeps the filter, the index block and the block of entries that it loaded last (a
+/// meta block has entries too), and gives such a block again where it is asked for it again. It
+/// counts what it is asked for.
 #[derive(Drop)]
 pub(crate) struct Keeping<'a, A: Allocator = Global> {
     source: &'a BlockSource<A>,

@@ -5,6 +5,7 @@ mod batch;
 mod inner;
 mod keeping;
 mod meta;
+mod order;
 mod point;
 mod regions;
 mod scanner;

@@ -1,7 +1,8 @@
 //! Point reads, over whatever blocks can be loaded from.
 ghost use Rattle.std.specs.Prelude.{◌≡◌, ◌+◌, ◌<◌, ◌^◌, [], Option, IfSome, IsOk};
 ghost use Rattle.std.specs.Option.{option_map};
-ghost use Rattle.lsm_readers.specs.Words.{DoesRead, Entry, FaultsFirst, Gives, LoadsFew, Opens, admission};
+ghost use Rattle.lsm_readers.specs.Words.{DoesRead, Entry, FaultsFirst, Gives, LoadsFew, Opens};
+ghost use Rattle.lsm_readers.specs.Words.{admission};
 ghost use Rattle.lsm_readers.specs.Words.{admitted_handle, answer, block_admits, filter_admits};
 ghost use Rattle.lsm_readers.specs.Words.{fnv1a, handle_at, handle_by, lifted, match_at, parts_of};
 
@@ -170,10 +171,11 @@ pub(crate) fn read_in<S: LoadBlocks>(
     Ok(lifted_found(found, global_seqno))
 }
 
-/// The first entry of a key numbered below `seqno`, its number with the global number added. The source is its only way to
-/// a block that is not pinned: at most one filter block is loaded, one index block, and one data block, the first whose end
-/// reaches the key at that number. Refused with the first fault of loading them, and [`Error::OutOfMemory`]; where none is
-/// loaded, as where a filter says no that is pinned or has no partition for the key, nothing is refused.
+/// The first entry of a key numbered below `seqno`, its number with the global number added. The
+/// source is its only way to a block that is not pinned: at most one filter block is loaded, one
+/// index block, and one data block, the first whose end reaches the key at that number. Refused
+/// with the first fault of loading them, and [`Error::OutOfMemory`]; where none is loaded, as where
+/// a filter says no that is pinned or has no partition for the key, nothing is refused.
 pub fn point_in<S: LoadBlocks>(
     source: &mut S,
     inner: &Inner<S::Alloc>,

@@ -1,8 +1,13 @@
 //! Reading a whole table, block after block.
-ghost use Rattle.std.specs.Prelude.{◌≡◌, ◌∷◌, ◌<◌, ◌-◌, ◌↔◌, ℕ, [], Bool, List, Some, Ok, Err, true, length, IsTrue, IfNone, IfOk, IfErr, IfSome};
+ghost use Rattle.std.specs.Prelude.{◌≡◌, ◌∷◌, ◌<◌, ◌-◌, ◌↔◌, ℕ, [], Bool, List, Some, Ok, Err};
+ghost use Rattle.std.specs.Prelude.{true, length, IsTrue, IfNone, IfOk, IfErr, IfSome};
 ghost use Rattle.std.specs.Iterator.{at_most};
-ghost use Rattle.lsm_readers.specs.Words.{CanDeal, Deals, Entry, Faults, FaultsFirst, Gives, IsNewScan, Scan, ScansNext, TakesEntry, block_told, body_of, with_load};
-ghost use Rattle.lsm_readers.specs.Words.{ended, fault_of, lifted_told, load_at_told, none_opened, nowhere, position_fault, scan_size, scan_told, answer_stops};
+ghost use Rattle.lsm_readers.specs.Words.{CanDeal, Deals, Entry, Faults, FaultsFirst, Gives};
+ghost use Rattle.lsm_readers.specs.Words.{IsNewScan, Scan, ScansNext, TakesEntry, block_told};
+ghost use Rattle.lsm_readers.specs.Words.{body_of, with_load};
+ghost use Rattle.lsm_readers.specs.Words.{ended, fault_of, lifted_told, load_at_told, none_opened};
+ghost use Rattle.lsm_readers.specs.Words.{nowhere, position_fault, scan_size, scan_told};
+ghost use Rattle.lsm_readers.specs.Words.{answer_stops};
 ghost use Rattle.sst_blocks.specs.declared.block_type.BlockType.TheVariants.{Data};
 ghost use Rattle.sst_entries.specs.declared.error.Error.{Error};
 ghost use Rattle.sst_entries.specs.declared.error.Error.TheVariants.{OutOfMemory};
@@ -15,13 +20,15 @@ use std::alloc::{Allocator, Global};
 use std::marker::Model;
 use std::mem;
 
-/// Reads a table's data blocks in file order, each once, and gives their entries. A contract sees what is left to read.
+/// Reads a table's data blocks in file order, each once, and gives their entries. A contract sees
+/// what is left to read.
 ///
-/// The first block is read when the scanner is made, each further one when a step first needs it. Where a block cannot be
-/// loaded its fault comes in the place of its entries, and [`Error::SeqNoOverflow`] in the place of an entry whose number
-/// passes `u64` with the global number added; of an entry that stands next in a loaded block that comes before any want of
-/// memory, and so does what the header of a step's first block says, its checksum and its count. After an error,
-/// [`Error::OutOfMemory`] among them, nothing more comes.
+/// The first block is read when the scanner is made, each further one when a step first needs it.
+/// Where a block cannot be loaded its fault comes in the place of its entries, and
+/// [`Error::SeqNoOverflow`] in the place of an entry whose number passes `u64` with the global
+/// number added; of an entry that stands next in a loaded block that comes before any want of
+/// memory, and so does what the header of a step's first block says, its checksum and its count.
+/// After an error, [`Error::OutOfMemory`] among them, nothing more comes.
 #[derive(Drop)]
 pub struct Scanner<A: Allocator = Global> {
     source: BlockSource<A>,
@@ -52,7 +59,8 @@ impl<A: Allocator> Model for Scanner<A> {
     } };
 }
 
-/// The data block at a position, and where the next block begins. Refused as [`BlockSource::load_at`].
+/// The data block at a position, and where the next block begins. Refused as
+/// [`BlockSource::load_at`].
 fn block_at<A: Allocator + Clone>(
     source: &BlockSource<A>,
     position: u64,
@@ -71,8 +79,8 @@ fn block_at<A: Allocator + Clone>(
 }
 
 impl<A: Allocator + Clone> Scanner<A> {
-    /// A scanner of `block_count` data blocks, the first of which is read at once: 0 acts as 1. Refused with the first fault
-    /// of loading that block, and [`Error::OutOfMemory`].
+    /// A scanner of `block_count` data blocks, the first of which is read at once: 0 acts as 1.
+    /// Refused with the first fault of loading that block, and [`Error::OutOfMemory`].
     pub fn new(
         source: &BlockSource<A>,
         block_count: u64,
@@ -80,7 +88,8 @@ impl<A: Allocator + Clone> Scanner<A> {
         global_seqno: SeqNo,
     ) -> Result<Scanner<A>, Error>
         ensures refused { Faults result (fault_of (load_at_told (body_of source.now) 0 Data)) }
-        // What the block's header says, its checksum and its count, comes before any want of memory.
+        // What the block's header says, its checksum and its count, comes before any want of
+        // memory.
         ensures early { FaultsFirst result (position_fault (body_of source.now) 0 Data) }
         ensures opened { IfOk result (λ s. s.opened ≡ with_load Data none_opened) }
         ensures left { IfOk result (IsNewScan (body_of source.now) block_count global_seqno) }

@@ -1,17 +1,30 @@
 //! Tables: opening a table's bytes, and reading from them.
-ghost use Rattle.std.specs.Prelude.{◌≡◌, ◌≢◌, ◌+◌, ℕ, Bool, List, [], Option, Some, Result, Ok, Err, false, true, length, IfOk, IfErr, IsOk, MatchResult, is_some};
-ghost use Rattle.lsm_readers.specs.Words.{BloomFilter, CanDeal, Deals, Entry, Faults, FaultsFirst, Gives, Handle, IsNewScan, IsOpen, IsRecovered, IsTable, NamesBlocksOf};
-ghost use Rattle.lsm_readers.specs.Words.{Loaded, LoadsFew, OpenTable, Opens, SaysList, Scan, ScansList, answer_stops, body_of, early_fault, early_in, ends_of};
-ghost use Rattle.lsm_readers.specs.Words.{facts_of, fault_of, filter_len, filter_told, fitting_told, fnv1a, handles_told, index_len, index_of, index_told, key_bound, lift};
-ghost use Rattle.lsm_readers.specs.Words.{list_told, load_at_told, load_told, none_opened, nowhere, number_told, overlaps_bounds, parts_of, parts_told};
-ghost use Rattle.lsm_readers.specs.Words.{AreCutAlike, OpenedWith, TellAlike, kind_for, kind_of, on_each_read, partitioned};
-ghost use Rattle.lsm_readers.specs.Words.{index_read, pinned_filter, pinned_of, pinned_told, place_fault, place_size, places_told, point, table_index};
-ghost use Rattle.lsm_readers.specs.Words.{position_fault, recovered_told, scan_told, table_answer, tops_told, volatile, with_load, within};
+ghost use Rattle.std.specs.Prelude.{◌≡◌, ◌≢◌, ◌+◌, ℕ, Bool, List, [], Option, Some, Result, Ok};
+ghost use Rattle.std.specs.Prelude.{Err, false, true, length, IfOk, IfErr, IsOk, MatchResult};
+ghost use Rattle.std.specs.Prelude.{is_some};
+ghost use Rattle.lsm_readers.specs.Words.{BloomFilter, CanDeal, Deals, Entry, Faults, FaultsFirst};
+ghost use Rattle.lsm_readers.specs.Words.{Gives, Handle, IsNewScan, IsOpen, IsRecovered, IsTable};
+ghost use Rattle.lsm_readers.specs.Words.{NamesBlocksOf};
+ghost use Rattle.lsm_readers.specs.Words.{Loaded, LoadsFew, OpenTable, Opens, SaysList, Scan};
+ghost use Rattle.lsm_readers.specs.Words.{ScansList, answer_stops, body_of, early_fault, early_in};
+ghost use Rattle.lsm_readers.specs.Words.{ends_of};
+ghost use Rattle.lsm_readers.specs.Words.{facts_of, fault_of, filter_len, filter_told};
+ghost use Rattle.lsm_readers.specs.Words.{fitting_told, fnv1a, handles_told, index_len, index_of};
+ghost use Rattle.lsm_readers.specs.Words.{index_told, key_bound, lift};
+ghost use Rattle.lsm_readers.specs.Words.{list_told, load_at_told, load_told, none_opened, nowhere};
+ghost use Rattle.lsm_readers.specs.Words.{number_told, overlaps_bounds, parts_of, parts_told};
+ghost use Rattle.lsm_readers.specs.Words.{AreCutAlike, OpenedWith, TellAlike, kind_for, kind_of};
+ghost use Rattle.lsm_readers.specs.Words.{on_each_read, partitioned};
+ghost use Rattle.lsm_readers.specs.Words.{index_read, pinned_filter, pinned_of, pinned_told};
+ghost use Rattle.lsm_readers.specs.Words.{place_fault, place_size, places_told, point, table_index};
+ghost use Rattle.lsm_readers.specs.Words.{position_fault, recovered_told, scan_told, table_answer};
+ghost use Rattle.lsm_readers.specs.Words.{tops_told, volatile, with_load, within};
 ghost use Rattle.std.specs.Arc.{arc_value};
 ghost use Rattle.lsm_block_indexes.specs.Index.{on_demand, two_level};
 ghost use Rattle.sst_blocks.specs.declared.block_type.BlockType.TheVariants.{Data, Index, Meta};
 ghost use Rattle.sst_entries.specs.declared.error.Error.{Error};
-ghost use Rattle.sst_entries.specs.declared.error.Error.TheVariants.{GlobalSeqNoTooLarge, OutOfMemory};
+ghost use Rattle.sst_entries.specs.declared.error.Error.TheVariants.{GlobalSeqNoTooLarge};
+ghost use Rattle.sst_entries.specs.declared.error.Error.TheVariants.{OutOfMemory};
 
 mod queries;
 mod range;
@@ -36,8 +49,8 @@ use std::sync::Arc;
 /// What the handles of a table share, but for its bytes.
 pub type TableInner<A = Global> = Inner<A>;
 
-/// A table that was opened: a shared handle. A contract sees its bytes, what it was opened with and what it was
-/// recovered to.
+/// A table that was opened: a shared handle. A contract sees its bytes, what it was opened with and
+/// what it was recovered to.
 #[derive(Drop)]
 pub struct Table<A: Allocator = Global> {
     source: BlockSource<A>,
@@ -123,8 +136,8 @@ fn load_handles<A: Allocator + Clone>(
     Ok(IndexBlock::new(block))
 }
 
-/// What of the index stays loaded: the top level where it has partitions, else the whole where `pin_index` says so. Refused
-/// as [`BlockSource::load`].
+/// What of the index stays loaded: the top level where it has partitions, else the whole where
+/// `pin_index` says so. Refused as [`BlockSource::load`].
 fn load_index<A: Allocator + Clone>(
     source: &BlockSource<A>,
     regions: &ParsedRegions,
@@ -172,7 +185,8 @@ fn load_filter<A: Allocator + Clone>(
     Ok(Some(FilterBlock::new(block)))
 }
 
-/// Where the filter's block lies that is to stay loaded: that of a full filter, where `pin_filter` says so.
+/// Where the filter's block lies that is to stay loaded: that of a full filter, where `pin_filter`
+/// says so.
 fn filter_to_pin(regions: &ParsedRegions, pin_filter: bool) -> Option<BlockHandle>
     ensures { result ≡ pinned_filter regions.now pin_filter }
 {
@@ -183,8 +197,8 @@ fn filter_to_pin(regions: &ParsedRegions, pin_filter: bool) -> Option<BlockHandl
     }
 }
 
-/// The blocks that stay loaded. Refused with the first fault of the index, of the filter's top level, and of the one block
-/// of a full filter that is to stay.
+/// The blocks that stay loaded. Refused with the first fault of the index, of the filter's top
+/// level, and of the one block of a full filter that is to stay.
 fn load_pinned<A: Allocator + Clone>(
     source: &BlockSource<A>,
     regions: &ParsedRegions,
@@ -206,7 +220,8 @@ fn load_pinned<A: Allocator + Clone>(
     })
 }
 
-/// Refused [`Error::GlobalSeqNoTooLarge`] alone, where the highest number and the global number pass `u64`.
+/// Refused [`Error::GlobalSeqNoTooLarge`] alone, where the highest number and the global number
+/// pass `u64`.
 fn test_number<A: Allocator>(metadata: &ParsedMeta<A>, global_seqno: SeqNo) -> Result<(), Error>
     ensures told { let facts = facts_of metadata.now in
         Gives (λ (_ : _). facts) result (number_told facts global_seqno) }
@@ -218,7 +233,8 @@ fn test_number<A: Allocator>(metadata: &ParsedMeta<A>, global_seqno: SeqNo) -> R
     }
 }
 
-/// What the meta block says. Refused as [`ParsedMeta::load_with_handle`], then where the global number does not fit.
+/// What the meta block says. Refused as [`ParsedMeta::load_with_handle`], then where the global
+/// number does not fit.
 fn fitting_metadata<A: Allocator + Clone>(
     source: &BlockSource<A>,
     handle: &BlockHandle,
@@ -285,8 +301,9 @@ fn recover_inner<A: Allocator + Clone>(
     })
 }
 
-/// A value behind a shared handle, where it was made. It is generic in the value, so that none of a large value's parts is
-/// looked at where it is let go. Refused as the value, then [`Error::OutOfMemory`].
+/// A value behind a shared handle, where it was made. It is generic in the value, so that none of a
+/// large value's parts is looked at where it is let go. Refused as the value, then
+/// [`Error::OutOfMemory`].
 fn share<T: Drop, A: Allocator + Clone>(
     value: Result<T, Error>,
     alloc: &A,
@@ -299,13 +316,15 @@ fn share<T: Drop, A: Allocator + Clone>(
 }
 
 impl<A: Allocator + Clone> Table<A> {
-    /// Opens a table's bytes. Refused with the first fault, in this order: those of the trailer, the regions, the meta block
-    /// and its items, [`Error::GlobalSeqNoTooLarge`] where the highest stored number plus `global_seqno` passes `u64`, and
-    /// those of loading what stays loaded: the index, the filter's top level, then the filter; and [`Error::OutOfMemory`].
-    /// The checksum is kept, and not compared.
+    /// Opens a table's bytes. Refused with the first fault, in this order: those of the trailer,
+    /// the regions, the meta block and its items, [`Error::GlobalSeqNoTooLarge`] where the highest
+    /// stored number plus `global_seqno` passes `u64`, and those of loading what stays loaded: the
+    /// index, the filter's top level, then the filter; and [`Error::OutOfMemory`]. The checksum is
+    /// kept, and not compared.
     ///
-    /// A top level stays loaded whatever the flags say, the one block of a full filter where `pin_filter` is set, and that of
-    /// a full index where `pin_index` is. What does not stay loaded is loaded by each read.
+    /// A top level stays loaded whatever the flags say, the one block of a full filter where
+    /// `pin_filter` is set, and that of a full index where `pin_index` is. What does not stay
+    /// loaded is loaded by each read.
     pub fn recover(
         alloc: A,
         bytes: Slice<A>,
@@ -319,7 +338,8 @@ impl<A: Allocator + Clone> Table<A> {
             (recovered_told bytes global_seqno pin_filter pin_index) }
         // What is found before memory is taken is the refusal, whatever memory there is.
         ensures early { FaultsFirst result (early_fault bytes) }
-        // A table of a list that readers read is opened where the highest number fits, and says of itself what the list says.
+        // A table of a list that readers read is opened where the highest number fits, and says of
+        // itself what the list says.
         ensures list { (es : List Entry) (t : IsTable bytes es) →
             t.options.index_block_restart_interval ≡ 1 →
             Gives (λ (t : OpenTable). t.parts) result
@@ -350,7 +370,8 @@ impl<A: Allocator + Clone> Table<A> {
         hash(key)
     }
 
-    /// The first entry of a key numbered below `seqno`, with how many blocks were loaded for it. Answers as [`Table::get`].
+    /// The first entry of a key numbered below `seqno`, with how many blocks were loaded for it.
+    /// Answers as [`Table::get`].
     pub fn get_counted(
         &self,
         key: &[u8],
@@ -379,9 +400,10 @@ impl<A: Allocator + Clone> Table<A> {
         (found, source.opened())
     }
 
-    /// The first entry of a key numbered below `seqno`, its number with the global number added. `key_hash` is the key's
-    /// [`Table::key_hash`]. Refused with the first fault of loading the blocks that the read rests on, at most one of the filter,
-    /// one of the index and one of data, and [`Error::OutOfMemory`]; nothing changes then. Where none is loaded, as where a filter
+    /// The first entry of a key numbered below `seqno`, its number with the global number added.
+    /// `key_hash` is the key's [`Table::key_hash`]. Refused with the first fault of loading the
+    /// blocks that the read rests on, at most one of the filter, one of the index and one of data,
+    /// and [`Error::OutOfMemory`]; nothing changes then. Where none is loaded, as where a filter
     /// says no that is pinned or has no partition for the key, nothing is refused.
     pub fn get(
         &self,
@@ -403,13 +425,16 @@ impl<A: Allocator + Clone> Table<A> {
         self.get_counted(key, seqno, key_hash).0
     }
 
-    /// All entries in order, their numbers with the global number added. Each data block is read once, in file order.
-    /// Refused with the first fault of loading the first of them, and [`Error::OutOfMemory`].
+    /// All entries in order, their numbers with the global number added. Each data block is read
+    /// once, in file order. Refused with the first fault of loading the first of them, and
+    /// [`Error::OutOfMemory`].
     pub fn scan(&self) -> Result<Scanner<A>, Error>
         ensures refused { Faults result (fault_of (load_at_told (body_of self.now.bytes) 0 Data)) }
-        // What the block's header says, its checksum and its count, comes before any want of memory.
+        // What the block's header says, its checksum and its count, comes before any want of
+        // memory.
         ensures early { FaultsFirst result (position_fault (body_of self.now.bytes) 0 Data) }
-        // Want of memory aside, it gives the entries of as many blocks as the table says that it has.
+        // Want of memory aside, it gives the entries of as many blocks as the table says that it
+        // has.
         ensures deals { (stops : Error → Bool) → stops OutOfMemory ≡ true →
             let gives = ⟦<Scanner<A> as Iterator>⟧.next_gives in
             let count = self.now.parts.facts.data_block_count in
@@ -425,8 +450,8 @@ impl<A: Allocator + Clone> Table<A> {
         ensures opened { IfOk result (λ s. s.opened ≡ with_load Data none_opened) }
         ensures left { let count = self.now.parts.facts.data_block_count in
             IfOk result (IsNewScan (body_of self.now.bytes) count self.now.global_seqno) }
-        // On a table of a list it is the list, its numbers lifted; where the list has an entry, nothing but want of memory
-        // refuses it.
+        // On a table of a list it is the list, its numbers lifted; where the list has an entry,
+        // nothing but want of memory refuses it.
         ensures list { (es : List Entry) → IsTable self.now.bytes es →
             ScansList result es self.now.global_seqno }
         ensures open { IsOpen self.now }
@@ -501,8 +526,8 @@ impl<A: Allocator + Clone> Table<A> {
 }
 
 impl<A: Allocator> Table<A> {
-    /// A law, which does nothing: a table of a list says of itself what the list says, and its key range is the list's ends; and
-    /// any table was recovered from its bytes, which are in memory.
+    /// A law, which does nothing: a table of a list says of itself what the list says, and its key
+    /// range is the list's ends; and any table was recovered from its bytes, which are in memory.
     pub fn tells_its_list(&self)
         ensures parts { (es : List Entry) (t : IsTable self.now.bytes es) →
             SaysList t self.now.parts }
@@ -578,8 +603,8 @@ impl<A: Allocator> Table<A> {
         self.inner.metadata.weak_tombstone_reclaimable
     }
 
-    /// The payload length of the filter block that stays loaded, in bytes, or 0 where none does. The top level of a filter with
-    /// partitions does not count.
+    /// The payload length of the filter block that stays loaded, in bytes, or 0 where none does.
+    /// The top level of a filter with partitions does not count.
     pub fn pinned_filter_size(&self) -> usize
         ensures { result ≡ filter_len self.now.parts.pinned.filter }
     {
@@ -589,7 +614,8 @@ impl<A: Allocator> Table<A> {
         }
     }
 
-    /// The payload length of the index block that stays loaded, the whole or the top level, in bytes, or 0 where none does.
+    /// The payload length of the index block that stays loaded, the whole or the top level, in
+    /// bytes, or 0 where none does.
     pub fn pinned_block_index_size(&self) -> usize
         ensures size { let parts = self.now.parts in
             result ≡ index_len parts.pinned.index parts.regions.tli }
@@ -604,8 +630,8 @@ impl<A: Allocator> Table<A> {
         }
     }
 
-    /// Whether the key range that the table says reaches past both bounds. On a table of a list, where it does not, no key of
-    /// the list lies within them.
+    /// Whether the key range that the table says reaches past both bounds. On a table of a list,
+    /// where it does not, no key of the list lies within them.
     pub fn check_key_range_overlap(&self, bounds: &(Bound<&[u8]>, Bound<&[u8]>)) -> bool
         ensures value { result ≡ overlaps_bounds (key_bound bounds.now.0) (key_bound bounds.now.1)
             self.now.parts.facts.key_range }

@@ -27,19 +27,24 @@ place_for key bound b = option_map place_of (find (reaches key bound) (handles_o
 abbrev pub maybe_in : ℕ → Loaded → Bool
 maybe_in hash b = admits (filter_in b.payload) hash
 
--- the same of the block of a place in the bytes before the trailer
+-- the first entry of a key numbered below a bound, in the data block of a place in the bytes before
+-- the trailer, or the first fault of loading it
 abbrev pub point_told : List ℕ → ℕ → ℕ → List ℕ → ℕ → Result (Option Entry) Error
 point_told body offset size key bound =
     told_map (point_of key bound) (load_told body offset size Data)
 
+-- where the first handle leads that reaches a key at a bound, in the index block of a place, or the
+-- first fault of loading it
 abbrev pub find_told : List ℕ → ℕ → ℕ → List ℕ → ℕ → Result (Option Place) Error
 find_told body offset size key bound =
     told_map (place_for key bound) (load_told body offset size Index)
 
+-- whether the filter of the filter block of a place may have a hash, or the first fault of loading it
 abbrev pub maybe_told : List ℕ → ℕ → ℕ → ℕ → Result Bool Error
 maybe_told body offset size hash = told_map (maybe_in hash) (load_told body offset size Filter)
 
--- whatever memory there is, a call refuses with the fault that is told, and answers that nothing is there
+-- want of memory stands in the place of a value alone: where a fault is told the call refuses with
+-- it, and where nothing is there it answers so
 abbrev pub IsSure : {X : Type 0} → Result (Option X) Error → Result (Option X) Error → Type 0
 IsSure r (Ok (Some x)) = Unit {0}
 IsSure r (Ok None) = r ≡ Ok None

@@ -10,10 +10,12 @@ use std::marker::Model;
 /// How many bytes of a table share a word.
 pub(crate) const SPAN: u64 = 2048;
 
-// A payload that starts here or behind is not marked: twice its place might not fit a word.
+// A payload that starts here or behind is not marked, so that twice a place fits a word with room to
+// spare.
 const END: u64 = 1 << 62;
 
-// Each word is 0, or one more than twice the place of a payload that has its checksum, or two more where it is in its grammar.
+// Each word is 0, or one more than twice the place of a payload that has its checksum, or two more
+// where it is in its grammar.
 struct Compared;
 
 impl<A: Allocator> TableRule<u8, Slice<A>, Slice<A>> for Compared {
@@ -45,8 +47,9 @@ const PART: usize = 1024;
 
 type Words<A> = Table<u8, Slice<A>, Slice<A>, Compared, A>;
 
-/// Marks beside a table's bytes: a word for each [`SPAN`] of them, which has the last payload that starts there and whose
-/// checksum was compared, and whether its grammar was tested. Many may read and mark at once. A contract sees the bytes.
+/// Marks beside a table's bytes: a word for each [`SPAN`] of them, which has the last payload that
+/// starts there and whose checksum was compared, and whether its grammar was tested. Many may read
+/// and mark at once. A contract sees the bytes.
 #[derive(Drop)]
 pub(crate) struct Marks<A: Allocator = Global> {
     bytes: Slice<A>,
@@ -89,7 +92,7 @@ impl<A: Allocator + Clone> Marks<A> {
         })
     }
 
-    /// The word of a payload that starts here; 0 where there is none.
+    /// The word of the [`SPAN`] in which a payload starts; 0 where there is no word.
     fn word(&self, start: u64) -> u64
         ensures { Says self.now result }
     {
@@ -103,7 +106,7 @@ impl<A: Allocator + Clone> Marks<A> {
         }
     }
 
-    /// Sets the word of a payload that starts here, where there is one.
+    /// Sets the word of the [`SPAN`] in which a payload starts, where there is a word.
     fn set_word(&self, start: u64, word: u64)
         requires { Says self.now word }
     {
@@ -123,7 +126,7 @@ impl<A: Allocator + Clone> Marks<A> {
         0 < word && (word - 1) / 2 == start
     }
 
-    /// Whether it is marked that it is in its grammar, too.
+    /// Whether it is marked that the payload which starts here has its checksum and is in its grammar.
     pub(crate) fn is_tested(&self, start: u64) -> bool
         ensures sum { IsTrue result → HasSum self.now start }
         ensures items { IsTrue result → HasItems self.now start }
@@ -140,7 +143,7 @@ impl<A: Allocator + Clone> Marks<A> {
         }
     }
 
-    /// Marks that it is in its grammar, too.
+    /// Marks that the payload which starts here has its checksum and is in its grammar.
     pub(crate) fn mark_tested(&self, start: u64)
         requires sum { HasSum self.now start }
         requires items { HasItems self.now start }

@@ -1,6 +1,8 @@
 //! The only way to the blocks of a table's bytes.
-ghost use Rattle.std.specs.Prelude.{◌≡◌, ◌↔◌, ◌+◌, ◌<◌, ◌≤◌, ◌^◌, List, ℕ, length, map, slice_range};
-ghost use Rattle.std.specs.Prelude.{IfErr, IfOk, IfSome, IsTrue, OnOk, MatchOption, Err, None, Some, true};
+ghost use Rattle.std.specs.Prelude.{◌≡◌, ◌↔◌, ◌+◌, ◌<◌, ◌≤◌, ◌^◌, List, ℕ, length, map};
+ghost use Rattle.std.specs.Prelude.{slice_range};
+ghost use Rattle.std.specs.Prelude.{IfErr, IfOk, IfSome, IsTrue, OnOk, MatchOption, Err, None};
+ghost use Rattle.std.specs.Prelude.{Some, true};
 ghost use Rattle.sst_blocks.specs.Block.{Loaded, checked_payload, checksum_fault, has_room};
 ghost use Rattle.sst_blocks.specs.Block.{header_len, in_grammar, room_fault, version_in};
 ghost use Rattle.sst_blocks.specs.Block.{load_told, load_at_told, place_fault, position_fault};
@@ -31,11 +33,13 @@ use std::sync::Arc;
 /// The length of a block header in bytes.
 const HEADER_LEN: usize = Header::LEN as usize;
 
-/// A table's bytes, whose trailer was read. Blocks are loaded from it, and in no other way. A contract sees the bytes.
+/// A table's bytes, whose trailer was read. Blocks are loaded from it, and in no other way. A
+/// contract sees the bytes.
 ///
-/// Of the payloads whose checksum was compared it remembers, together with its clones, the last that starts in each 2,048 bytes,
-/// where there is memory for it, and does not hash those again; where their grammar was tested too, no keys are compared again.
-/// Memory aside, no answer depends on it.
+/// Of the payloads whose checksum was compared it remembers, together with its clones, the last
+/// that starts in each 2,048 bytes, where there is memory for it, and does not hash those again;
+/// where their grammar was tested too, no keys are compared again. Memory aside, no answer depends
+/// on it.
 #[derive(Drop)]
 pub struct BlockSource<A: Allocator = Global> {
     bytes: Slice<A>,
@@ -55,7 +59,8 @@ impl<A: Allocator> Model for BlockSource<A> {
 
     ghost view = { λ s. s.bytes };
 
-    ghost invariant = { λ s. (s.toc ≡ map (section_in s.bytes) section_names) × (trailer_fault s.bytes ≡ None) ×
+    ghost invariant = { λ s. (s.toc ≡ map (section_in s.bytes) section_names) ×
+        (trailer_fault s.bytes ≡ None) ×
         MatchOption s.marks (Unit {0}) (λ m. arc_value m ≡ s.bytes) };
 }
 
@@ -64,9 +69,10 @@ impl<A: Allocator + Clone> Clone for BlockSource<A> {
 
     ghost is_clone = { λ s copy. copy ≡ s };
 
-    /// A source over the same bytes, which both share, so each load of it answers the same. Refused for want of memory alone:
-    /// where the count of the sharers of the bytes is refused, or a clone of the allocator. Where the count of the sharers of
-    /// what is remembered is refused, the clone remembers nothing.
+    /// A source over the same bytes, which both share, so each load of it answers the same. Refused
+    /// for want of memory alone: where the count of the sharers of the bytes is refused, or a clone
+    /// of the allocator. Where the count of the sharers of what is remembered is refused, the clone
+    /// remembers nothing.
     fn clone(&self) -> Result<BlockSource<A>, AllocError> {
         Ok(BlockSource {
             bytes: self.bytes.clone()?,
@@ -77,7 +83,7 @@ impl<A: Allocator + Clone> Clone for BlockSource<A> {
     }
 }
 
-// The same marks, or none where the count of their sharers is refused.
+// Marks that are shared once more, or none where the count of their sharers is refused.
 fn shared<A: Allocator>(marks: &Option<Arc<Marks<A>, A>>) -> Option<Arc<Marks<A>, A>>
     ensures { (bytes : List ℕ) →
         MatchOption marks.now (Unit {0}) (λ m. arc_value m ≡ bytes) →
@@ -110,8 +116,9 @@ fn shared_marks<A: Allocator + Clone>(
 }
 
 impl<A: Allocator + Clone> BlockSource<A> {
-    /// Reads the trailer. Refused [`Error::InvalidTrailer`] where there are fewer than 120 bytes, the mark differs or a section
-    /// passes the end of the body, and not for want of memory: where there is none for its marks, it does without.
+    /// Reads the trailer. Refused [`Error::InvalidTrailer`] where there are fewer than 120 bytes,
+    /// the mark differs or a section passes the end of the body, and not for want of memory: where
+    /// there is none for its marks, it does without.
     pub fn new(alloc: A, bytes: Slice<A>) -> Result<BlockSource<A>, Error>
         ensures ok { IfOk result (λ s. s ≡ bytes) }
         ensures short { length bytes < 2 ^ 63 }
@@ -140,13 +147,14 @@ impl<A: Allocator + Clone> BlockSource<A> {
         &self.alloc
     }
 
-    /// The block of a kind that a handle names. Refused with the first fault, in this order: [`Error::Truncated`] where the
-    /// handle's size is below a header's or passes the body, [`Error::InvalidHeader`] for the mark or the zero bytes,
-    /// [`Error::InvalidTag`], [`Error::UnsupportedCompression`], [`Error::InvalidHeader`] for lengths that do not agree,
-    /// [`Error::ChecksumMismatch`], [`Error::InvalidBlock`]; and [`Error::OutOfMemory`]. That stands
-    /// in the place of no fault but an [`Error::InvalidBlock`] that takes memory to find: of a block
-    /// of entries or handles that has room for as many as it counts. Each call counts, also where it
-    /// refuses.
+    /// The block of a kind that a handle names. Refused with the first fault, in this order:
+    /// [`Error::Truncated`] where the handle's size is below a header's or passes the body,
+    /// [`Error::InvalidHeader`] for the mark or the zero bytes, [`Error::InvalidTag`],
+    /// [`Error::UnsupportedCompression`], [`Error::InvalidHeader`] for lengths that do not agree,
+    /// [`Error::ChecksumMismatch`], [`Error::InvalidBlock`]; and [`Error::OutOfMemory`]. That
+    /// stands in the place of no fault but an [`Error::InvalidBlock`] that takes memory to find: of
+    /// a block of entries or handles that has room for as many as it counts. Each call counts, also
+    /// where it refuses.
     pub fn load(
         &self,
         handle: &BlockHandle,
@@ -166,8 +174,9 @@ impl<A: Allocator + Clone> BlockSource<A> {
         self.block(placed.header, kind, placed.start, placed.end)
     }
 
-    /// The block of a kind that begins at a position, with the size that its header says. Refused as [`BlockSource::load`];
-    /// a payload that passes the body is [`Error::Truncated`]. Each call counts, also where it refuses.
+    /// The block of a kind that begins at a position, with the size that its header says. Refused
+    /// as [`BlockSource::load`]; a payload that passes the body is [`Error::Truncated`]. Each call
+    /// counts, also where it refuses.
     pub fn load_at(
         &self,
         position: u64,
@@ -202,8 +211,8 @@ impl<A: Allocator + Clone> BlockSource<A> {
         self.block(header, kind, start, start + len)
     }
 
-    /// Where the payload lies of the block of a kind that a handle names, and its header. Refused with
-    /// what is wrong with the place, the header or its lengths.
+    /// Where the payload lies of the block of a kind that a handle names, and its header. Refused
+    /// with what is wrong with the place, the header or its lengths.
     fn place(&self, handle: &BlockHandle, kind: BlockType) -> Result<Placed, Error>
         ensures placed { IfOk result (λ p.
             IsPlaced (body_of self.now) handle.now.offset handle.now.size kind p) }
@@ -270,8 +279,8 @@ impl<A: Allocator + Clone> BlockSource<A> {
         Ok(block)
     }
 
-    /// Whether it was tested before that the payload from `start` up to `end` is in its grammar, where
-    /// it has the checksum that its header says, and room for what it counts. Refused
+    /// Whether it was tested before that the payload from `start` up to `end` is in its grammar,
+    /// where it has the checksum that its header says, and room for what it counts. Refused
     /// [`Error::ChecksumMismatch`] and [`Error::InvalidBlock`] where it does not.
     fn test(
         &self,
@@ -339,8 +348,8 @@ impl<A: Allocator + Clone> BlockSource<A> {
         )
     }
 
-    /// Whether it is marked that the bytes from `start` up to `end`, behind this header, have their checksum and are in the
-    /// grammar of their kind.
+    /// Whether it is marked that the bytes from `start` up to `end`, behind this header, have their
+    /// checksum and are in the grammar of their kind.
     fn was_tested(&self, header: &Header, kind: BlockType, start: usize, end: usize) -> bool
         requires ordered { start ≤ end }
         requires within { end ≤ length (body_of self.now) }
@@ -357,7 +366,8 @@ impl<A: Allocator + Clone> BlockSource<A> {
         }
     }
 
-    /// Marks that they do and are.
+    /// Marks that the bytes from `start` up to `end`, behind this header, have their checksum and are in
+    /// the grammar of their kind.
     fn remember_test(&self, header: &Header, kind: BlockType, start: usize, end: usize)
         requires ordered { start ≤ end }
         requires within { end ≤ length (body_of self.now) }
@@ -389,7 +399,8 @@ impl<A: Allocator + Clone> BlockSource<A> {
             && self.is_said(header.checksum, start, end)
     }
 
-    /// Whether the bytes from `start` up to `end` have this checksum. What is marked is not hashed again.
+    /// Whether the bytes from `start` up to `end` have this checksum. What is marked is not hashed
+    /// again.
     fn has_sum(&self, checksum: u64, start: usize, end: usize) -> bool
         requires ordered { start ≤ end }
         requires within { end ≤ length (body_of self.now) }
@@ -418,7 +429,7 @@ impl<A: Allocator + Clone> BlockSource<A> {
         }
     }
 
-    /// Marks that they have it.
+    /// Marks that the bytes from `start` up to `end` have this checksum.
     fn remember(&self, checksum: u64, start: usize, end: usize)
         requires ordered { start ≤ end }
         requires within { end ≤ length (body_of self.now) }
@@ -444,10 +455,11 @@ impl<A: Allocator + Clone> BlockSource<A> {
         u32_at(&head[8..]) as usize == end - start && u64_at(&head[16..]) == checksum
     }
 
-    /// Compares the checksums of the data block at a position and of those behind it, `most` blocks at most and no more than
-    /// four, up to one that is remembered, where that of the first is not and there is memory to remember them; those of two
-    /// or four in one loop. A block that ends in the 2,048 bytes in which it starts is the last that is compared. Loading the
-    /// blocks, one after another, answers what it would without.
+    /// Compares the checksums of the data block at a position and of those behind it, `most` blocks
+    /// at most and no more than four, up to one that is remembered, where that of the first is not
+    /// and there is memory to remember them; those of two or four in one loop. A block that ends in
+    /// the 2,048 bytes in which it starts is the last that is compared. Loading the blocks, one
+    /// after another, answers what it would without.
     pub fn compare_ahead(&self, position: u64, most: usize) {
         let Some(marks) = &self.marks else {
             return;
@@ -470,26 +482,40 @@ impl<A: Allocator + Clone> BlockSource<A> {
         self.compare_four(marks, first, second, third, fourth);
     }
 
-    /// Compares the checksums of the blocks that these handles name, four at a time in one loop, where they are not
-    /// remembered and there is memory to remember them. A block that ends in the 2,048 bytes in which it starts is left out:
-    /// another that starts there would take its place among those that are remembered. Loading the blocks answers what it
-    /// would without.
+    /// Compares the checksums of the blocks that these handles name, four at a time in one loop and
+    /// what is left of them by twos, where there is memory to remember them. Left out are blocks
+    /// whose checksum is remembered, handles of another size than the block's header says, and
+    /// blocks that end in the 2,048 bytes in which they start: another that starts there would take
+    /// their place among those that are remembered. Loading the blocks answers what it would
+    /// without.
     pub fn compare_together(&self, blocks: &[(BlockHandle, BlockType)]) {
         let Some(marks) = &self.marks else {
             return;
         };
-        for i in 0..blocks.len().div_ceil(4) {
-            let at = 4 * i;
-            let first = self.said_of(marks, blocks.get(at));
-            let second = self.said_of(marks, blocks.get(at + 1));
-            let third = self.said_of(marks, blocks.get(at + 2));
-            let fourth = self.said_of(marks, blocks.get(at + 3));
-            self.compare_four(marks, first, second, third, fourth);
+        let mut first = None;
+        let mut second = None;
+        let mut third = None;
+        for (handle, kind) in blocks {
+            let Some(said) = self.said_of(marks, handle, *kind) else {
+                continue;
+            };
+            if third.is_some() {
+                self.compare_four(marks, first, second, third, Some(said));
+                first = None;
+                second = None;
+                third = None;
+            } else {
+                third = second;
+                second = first;
+                first = Some(said);
+            }
         }
+        self.compare_four(marks, first, second, third, None);
     }
 
-    /// Compares the checksums of four payloads, where there are as many in one loop, and marks those that have what their
-    /// headers say. The bytes of fewer are walked over from both ends at once.
+    /// Compares the checksums of four payloads, where there are as many in one loop, and marks
+    /// those that have what their headers say. The bytes of fewer are walked over from both ends at
+    /// once.
     fn compare_four(
         &self,
         marks: &Marks<A>,
@@ -521,8 +547,8 @@ impl<A: Allocator + Clone> BlockSource<A> {
         self.mark_said(marks, fourth, sums.3 == sum_of(fourth));
     }
 
-    /// Compares the checksums of two payloads in one loop, each from both ends, and marks those that have what their headers
-    /// say.
+    /// Compares the checksums of two payloads in one loop, each from both ends, and marks those
+    /// that have what their headers say.
     fn compare_both(&self, marks: &Marks<A>, first: Option<Said>, second: Option<Said>)
         requires of { marks.now ≡ self.now }
         requires first { IfSome first (λ s. IsSaid self.now s.start s.end s.checksum) }
@@ -538,21 +564,24 @@ impl<A: Allocator + Clone> BlockSource<A> {
         self.mark_said(marks, second, is_second);
     }
 
-    /// What the header of the block of a handle says of its payload, as [`BlockSource::said_at`] at its position, where the
-    /// checksum is not remembered and the payload passes the 2,048 bytes in which it starts.
-    fn said_of(&self, marks: &Marks<A>, block: Option<&(BlockHandle, BlockType)>) -> Option<Said>
+    /// What the header of the block that a handle names says of its payload, as
+    /// [`BlockSource::said_at`] at its position, where the handle's size agrees, the checksum is
+    /// not remembered and the payload passes the 2,048 bytes in which it starts.
+    fn said_of(&self, marks: &Marks<A>, handle: &BlockHandle, kind: BlockType) -> Option<Said>
         ensures { IfSome result (λ said. IsSaid self.now said.start said.end said.checksum) }
     {
-        let (handle, kind) = block?;
-        let said = self.said_at(handle.offset().0, *kind)?;
-        if said.start as u64 / SPAN == said.end as u64 / SPAN || marks.has_sum(said.start as u64) {
+        let said = self.said_at(handle.offset().0, kind)?;
+        if said.end - said.start != (handle.size() as usize).wrapping_sub(HEADER_LEN)
+            || said.start as u64 / SPAN == said.end as u64 / SPAN
+            || marks.has_sum(said.start as u64)
+        {
             return None;
         }
         Some(said)
     }
 
-    /// What the header of the block of a kind at a position says of its payload, where a load there would come to the checksum:
-    /// no payload is hashed for a header that is refused.
+    /// What the header of the block of a kind at a position says of its payload, where a load there
+    /// would come to the checksum: no payload is hashed for a header that is refused.
     fn said_at(&self, position: u64, kind: BlockType) -> Option<Said>
         ensures said { IfSome result (λ said. IsSaid self.now said.start said.end said.checksum) }
         ensures tested { IfSome result (λ said.
@@ -582,12 +611,14 @@ impl<A: Allocator + Clone> BlockSource<A> {
         })
     }
 
-    /// The same of the block behind another, where its checksum is not remembered.
+    /// What its header says of the payload of the block behind another, where its checksum is not
+    /// remembered.
     fn said_behind(&self, marks: &Marks<A>, before: Option<Said>) -> Option<Said>
         ensures { IfSome result (λ said. IsSaid self.now said.start said.end said.checksum) }
     {
         let before = before?;
-        // Only the last payload that starts in a span is remembered, so the next one there would be hashed for nothing.
+        // Only the last payload that starts in a span is remembered, so the next one there would be
+        // hashed for nothing.
         if before.start as u64 / SPAN == before.end as u64 / SPAN {
             return None;
         }

@@ -1,11 +1,13 @@
 //! Many point reads of one table.
 ghost use Rattle.std.specs.Prelude.{◌≡◌, IfOk, IsOk, List, Ok, [], map};
 ghost use Rattle.lsm_readers.specs.Batch.{AreFound};
-ghost use Rattle.lsm_readers.specs.Words.{Entry, FaultsFirst, Gives, IsTable, lift, point, table_answer};
+ghost use Rattle.lsm_readers.specs.Words.{Entry, FaultsFirst, Gives, IsTable, lift, point};
+ghost use Rattle.lsm_readers.specs.Words.{table_answer};
 ghost use Rattle.lsm_readers.specs.Many.{found_told, many_told};
 
-use crate::batch::{Batch, compare_places, find_places, key_order, put, read_places};
+use crate::batch::{Batch, compare_places, find_places, put, read_places};
 use crate::keeping::Keeping;
+use crate::order::key_order;
 use crate::{Inner, Table};
 use sst_blocks::{Error, InternalValue, SeqNo, UserKey};
 use std::alloc::{AllocError, Allocator, Global};
@@ -78,20 +80,21 @@ fn read_rest<A: Allocator + Clone>(
     Ok(found)
 }
 
-/// What [`Table::get`] answers to each of some queries, in their order, each with its key's own hash. Queries may stand in any
-/// order and repeat; they are looked up in the order of their keys, and a block is loaded once for
-/// all that follow one another in it. Refused with the error of the earliest query that has one,
-/// and [`Error::OutOfMemory`]; then there is no
-/// answer at all, and the table is as it was. The list takes memory first, so any refusal may be that, also where `get` would
-/// find a fault before memory is taken or would load nothing. A list of no queries takes none, and is
-/// refused only where a clone of the allocator is.
+/// What [`Table::get`] answers to each of some queries, in their order, each with its key's own hash.
+/// Queries may stand in any order and repeat. They are looked up in the order of their keys: the
+/// checksums of their data blocks are compared several in one loop, and a block in which several
+/// keys stand is loaded once for them. Refused with the error of the earliest query that has one,
+/// and [`Error::OutOfMemory`]; then there is no answer at all, and the table is as it was. The list
+/// takes memory first, so any refusal may be that, also where `get` would find a fault before memory
+/// is taken or would load nothing. A list of no queries takes none, and is refused only where a
+/// clone of the allocator is.
 pub fn get_many<A: Allocator + Clone>(
     table: &Table<A>,
     queries: &[Query<A>],
 ) -> Result<Vec<Option<InternalValue<A>>, A>, Error>
     ensures told { Gives (λ found. found.items) result (many_told table.now queries.now) }
-    // On a table of a list it is each query's first match in the list, its numbers lifted, and nothing but want of memory
-    // refuses it.
+    // On a table of a list it is each query's first match in the list, its numbers lifted, and
+    // nothing but want of memory refuses it.
     ensures list { (es : List Entry) → IsTable table.now.bytes es →
         let all = lift es table.now.global_seqno in
         Gives (λ found. found.items) result (Ok (map (λ q. point all q.key q.seqno) queries.now)) }

@@ -3,8 +3,10 @@ ghost use Rattle.std.specs.Prelude.{◌≡◌, List, ℕ, IfOk, IfErr, length};
 ghost use Rattle.std.specs.declared.ops.Bound.{Bound};
 ghost use Rattle.std.specs.declared.ops.Bound.TheVariants.{Unbounded};
 ghost use Rattle.sst_entries.specs.declared.error.Error.TheVariants.{OutOfMemory};
-ghost use Rattle.lsm_readers.specs.Words.{DealsAll, DealsEnding, DealsWithin, Entry, IsOpen, IsRangeOf, IsTable, LoadsAtMost};
-ghost use Rattle.lsm_readers.specs.Words.{OpenTable, blocks_within, index_read, index_within, range_told, table_index};
+ghost use Rattle.lsm_readers.specs.Words.{DealsAll, DealsEnding, DealsWithin, Entry, IsOpen};
+ghost use Rattle.lsm_readers.specs.Words.{IsRangeOf, IsTable, LoadsAtMost};
+ghost use Rattle.lsm_readers.specs.Words.{OpenTable, blocks_within, index_read, index_within};
+ghost use Rattle.lsm_readers.specs.Words.{range_told, table_index};
 
 use crate::{BlockIndex, BlockIndexImpl, Inner, Table};
 use lsm_iters::{Bound as Edge, Iter, beside};
@@ -13,8 +15,8 @@ use std::alloc::Allocator;
 use std::ops::Bound;
 
 impl<A: Allocator + Clone> Table<A> {
-    /// All entries in order, from both ends, their numbers with the global number added. Nothing is loaded yet. Refused
-    /// [`Error::OutOfMemory`] alone.
+    /// All entries in order, from both ends, their numbers with the global number added. Nothing is
+    /// loaded yet. Refused [`Error::OutOfMemory`] alone.
     pub fn iter(&self) -> Result<Iter<A>, Error>
         ensures is { IfOk result (IsRangeOf self.now Unbounded Unbounded) }
         ensures deals { let gives = ⟦<Iter<A> as Iterator>⟧.next_gives in
@@ -38,9 +40,10 @@ impl<A: Allocator + Clone> Table<A> {
         self.range(Bound::Unbounded, Bound::Unbounded)
     }
 
-    /// The entries whose keys lie within both bounds, in order, from both ends, their numbers with the global number added.
-    /// Where the lower bound is above the upper one there are none. Nothing is loaded yet: the first step seeks the bounds in
-    /// the index, and each data block is loaded where a step first needs it. Refused [`Error::OutOfMemory`] alone.
+    /// The entries whose keys lie within both bounds, in order, from both ends, their numbers with
+    /// the global number added. Where the lower bound is above the upper one there are none.
+    /// Nothing is loaded yet: the first step seeks the bounds in the index, and each data block is
+    /// loaded where a step first needs it. Refused [`Error::OutOfMemory`] alone.
     pub fn range(
         &self,
         lower: Bound<UserKey<A>>,
@@ -48,7 +51,8 @@ impl<A: Allocator + Clone> Table<A> {
     ) -> Result<Iter<A>, Error>
         // It reads the table's bytes by the table's index, with these bounds, and has made no step.
         ensures is { IfOk result (IsRangeOf self.now lower upper) }
-        // Whatever ends are asked, it deals what the blocks between the bounds have, up to the first error.
+        // Whatever ends are asked, it deals what the blocks between the bounds have, up to the
+        // first error.
         ensures deals { let gives = ⟦<Iter<A> as Iterator>⟧.next_gives in
             let back_gives = ⟦<Iter<A> as DoubleEndedIterator>⟧.next_back_gives in
             let told = range_told self.now lower upper in
@@ -58,7 +62,8 @@ impl<A: Allocator + Clone> Table<A> {
             let back_gives = ⟦<Iter<A> as DoubleEndedIterator>⟧.next_back_gives in
             (es : List Entry) → IsTable self.now.bytes es → let g = self.now.global_seqno in
             IfOk result (DealsWithin gives back_gives lower upper es g) }
-        // It loads at most the data blocks between the bounds, and the index blocks that lead there.
+        // It loads at most the data blocks between the bounds, and the index blocks that lead
+        // there.
         ensures few { let gives = ⟦<Iter<A> as Iterator>⟧.next_gives in
             let back_gives = ⟦<Iter<A> as DoubleEndedIterator>⟧.next_back_gives in
             (es : List Entry) (t : IsTable self.now.bytes es) →
