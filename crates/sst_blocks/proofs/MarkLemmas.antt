@@ -1,4 +1,5 @@
 -- A payload that has its checksum may be marked.
+use Rattle.std.specs.Prelude.{None}
 use Rattle.std.proofs.Common.{◌≡◌, ◌≤◌, ℕ, zero, suc, ◌+◌, ◌-◌, true, List, [], ◌∷◌, ◌++◌, length, replicate, take, slice_index, slice_set, slice_range, refl, subst, sym, ap, ◌∙◌, arith}
 use Rattle.std.specs.List.{All}
 use Rattle.std.proofs.lemmas.List.{length-take}
@@ -6,7 +7,7 @@ use Rattle.bytes.proofs.Ranges.{slice_range_front}
 use Rattle.sst_sections.specs.declared.version.TableVersion.{TableVersion}
 use Rattle.sst_blocks.specs.declared.block_type.BlockType.{BlockType}
 use Rattle.sst_blocks.specs.declared.block_type.BlockType.TheVariants.{Data, Index, Filter, Meta}
-use Rattle.sst_blocks.specs.Block.{data_len, in_grammar, kind_tag, stored_checksum, version_in}
+use Rattle.sst_blocks.specs.Block.{data_len, header_fault, in_grammar, kind_tag, stored_checksum, version_in}
 use Rattle.sst_blocks.specs.Marks.{HasItems, HasSum, IsHeaded, IsSaid, Says, head_before}
 use Rattle.sst_sections.specs.Fnv.{fnv1a}
 use Rattle.sst_sections.specs.Sections.{body_of}
@@ -83,6 +84,39 @@ said_there bytes at checksum len within sum size =
       sum = ap stored_checksum head ∙ sym sum;
       len = ap (λ (n : ℕ). at + 24 + n) (ap data_len head ∙ sym size);
     }
+
+-- a header without a fault is of the kind
+kind_told : (kind : BlockType) (head : List ℕ) → header_fault kind head ≡ None → slice_index head 4 ≡ kind_tag kind
+kind_told kind head none = grind arith
+
+pub headed_there : (bytes : List ℕ) (at : ℕ) (v : TableVersion) (kind : BlockType) (checksum len : ℕ) → at + 24 + len ≤ length (body_of bytes)
+    → header_fault kind (slice_range (body_of bytes) at (at + 24)) ≡ None → v ≡ version_in (slice_range (body_of bytes) at (at + 24))
+    → checksum ≡ stored_checksum (slice_range (body_of bytes) at (at + 24)) → len ≡ data_len (slice_range (body_of bytes) at (at + 24)) → IsHeaded bytes (at + 24) (at + 24 + len) v kind checksum
+headed_there bytes at v kind checksum len within none version sum size =
+    let head = head_part bytes at (omega (arith, within)) in
+    record {
+      said = said_there bytes at checksum len within sum size;
+      version = ap version_in head ∙ sym version;
+      kind_is = ap (λ (h : List ℕ). slice_index h 4) head ∙ kind_told kind (slice_range (body_of bytes) at (at + 24)) none;
+    }
+
+-- a payload that has the checksum that its header says
+pub sum_there : (bytes : List ℕ) (start end checksum : ℕ) → IsSaid bytes start end checksum → end ≤ length (body_of bytes) → HasSum bytes start → fnv1a (slice_range (body_of bytes) start end) ≡ checksum
+sum_there bytes start end checksum said within has =
+    ap fnv1a (body_part bytes start end within) ∙ said_sum bytes start end checksum said has
+
+pub there_sum : (bytes : List ℕ) (start end checksum : ℕ) → IsSaid bytes start end checksum → end ≤ length (body_of bytes) → fnv1a (slice_range (body_of bytes) start end) ≡ checksum → HasSum bytes start
+there_sum bytes start end checksum said within is =
+    sum_said bytes start end checksum said (ap fnv1a (sym (body_part bytes start end within)) ∙ is)
+
+-- and is in the grammar that its header says
+pub items_there : (bytes : List ℕ) (start end : ℕ) (v : TableVersion) (kind : BlockType) (checksum : ℕ) → IsHeaded bytes start end v kind checksum → end ≤ length (body_of bytes) → HasItems bytes start → in_grammar v kind (slice_range (body_of bytes) start end) ≡ true
+items_there bytes start end v kind checksum headed within has =
+    subst (λ (p : List ℕ). in_grammar v kind p ≡ true) (sym (body_part bytes start end within)) (items_tested bytes start end v kind checksum headed has)
+
+pub there_items : (bytes : List ℕ) (start end : ℕ) (v : TableVersion) (kind : BlockType) (checksum : ℕ) → IsHeaded bytes start end v kind checksum → end ≤ length (body_of bytes) → in_grammar v kind (slice_range (body_of bytes) start end) ≡ true → HasItems bytes start
+there_items bytes start end v kind checksum headed within is =
+    tested_items bytes start end v kind checksum headed (subst (λ (p : List ℕ). in_grammar v kind p ≡ true) (body_part bytes start end within) is)
 
 -- a word that is 0 says nothing
 none_says : (bytes : List ℕ) → Says bytes 0

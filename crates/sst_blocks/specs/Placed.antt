@@ -5,6 +5,7 @@ use Rattle.sst_blocks.specs.declared.block_type.BlockType.{BlockType}
 use Rattle.sst_blocks.specs.declared.source.Placed.{Placed}
 use Rattle.sst_blocks.specs.declared.source.reads.Sound.{Sound}
 use Rattle.sst_blocks.specs.Block.{checked_payload, checksum_fault, has_room, in_grammar, load_told, place_fault, room_fault}
+use Rattle.sst_blocks.specs.Marks.{IsHeaded}
 use Rattle.sst_sections.specs.Fnv.{fnv1a}
 
 -- the payload lies within the bytes before the trailer, and what is told of its block is told of it
@@ -27,6 +28,10 @@ pub record IsSound (body : List ℕ) (kind : BlockType) (s : Sound) : Type 0 whe
   pub room : has_room s.header.version kind (slice_range body s.start s.end) ≡ true
   pub tested : IsTrue s.is_tested →
       in_grammar s.header.version kind (slice_range body s.start s.end) ≡ true
+
+-- the header before the payload is its header, of a kind, and says where the payload ends
+abbrev pub IsSoundHeaded : List ℕ → BlockType → Sound → Type 0
+IsSoundHeaded bytes kind s = IsHeaded bytes s.start s.end s.header.version kind s.header.checksum
 
 -- what is told of its block is told of it, and no fault is found before memory is taken
 pub record IsSoundAt (body : List ℕ) (offset size : ℕ) (kind : BlockType) (s : Sound) : Type 0 where

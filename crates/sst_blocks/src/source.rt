@@ -6,7 +6,7 @@ ghost use Rattle.std.specs.Prelude.{Some, true};
 ghost use Rattle.sst_blocks.specs.Block.{Loaded, checked_payload, checksum_fault, has_room};
 ghost use Rattle.sst_blocks.specs.Block.{header_len, in_grammar, room_fault, version_in};
 ghost use Rattle.sst_blocks.specs.Block.{load_told, load_at_told, place_fault, position_fault};
-ghost use Rattle.sst_blocks.specs.Marks.{IsHeaded, IsSaid};
+ghost use Rattle.sst_blocks.specs.Marks.{HasItems, HasSum, IsHeaded, IsSaid};
 ghost use Rattle.sst_sections.specs.Fnv.{fnv1a};
 ghost use Rattle.std.specs.Arc.{arc_value};
 ghost use Rattle.sst_entries.specs.Error.{Gives, Refuses, FaultsFirst};
@@ -21,11 +21,9 @@ mod reads;
 use crate::block::{Header, has_room};
 use crate::marks::{Marks, SPAN};
 use crate::{
-    Block, BlockHandle, BlockType, Error, Opened, Slice, TableVersion, Toc, has_hash, hash_four,
-    have_hashes,
+    Block, BlockHandle, BlockType, Error, Opened, Slice, Toc, has_hash, hash_four, have_hashes,
 };
 use sst_sections::TRAILER_LEN;
-use sst_sections::number::{u32_at, u64_at};
 use std::alloc::{AllocError, Allocator, Global};
 use std::marker::Model;
 use std::sync::Arc;
@@ -216,6 +214,8 @@ impl<A: Allocator + Clone> BlockSource<A> {
     fn place(&self, handle: &BlockHandle, kind: BlockType) -> Result<Placed, Error>
         ensures placed { IfOk result (λ p.
             IsPlaced (body_of self.now) handle.now.offset handle.now.size kind p) }
+        ensures headed { IfOk result (λ p.
+            IsHeaded self.now p.start p.end p.header.version kind p.header.checksum) }
         ensures told { let body = body_of self.now in
             IfErr result (λ e. load_told body handle.now.offset handle.now.size kind ≡ Err e) }
         ensures first { let body = body_of self.now in
@@ -264,6 +264,7 @@ impl<A: Allocator + Clone> BlockSource<A> {
         requires ordered { start ≤ end }
         requires within { end ≤ length (body_of self.now) }
         requires short { end < start + 2 ^ 32 }
+        requires headed { IsHeaded self.now start end header.version kind header.checksum }
         ensures told { let payload = slice_range (body_of self.now) start end in
             Gives (λ (b : Loaded). b) result
             (checked_payload header.version header.checksum kind payload) }
@@ -274,7 +275,7 @@ impl<A: Allocator + Clone> BlockSource<A> {
         let is_tested = self.test(&header, kind, start, end)?;
         let block = self.open(&header, kind, start, end, is_tested)?;
         if !is_tested {
-            self.remember_test(&header, kind, start, end);
+            self.remember_test(start);
         }
         Ok(block)
     }
@@ -291,6 +292,7 @@ impl<A: Allocator + Clone> BlockSource<A> {
     ) -> Result<bool, Error>
         requires ordered { start ≤ end }
         requires within { end ≤ length (body_of self.now) }
+        requires headed { IsHeaded self.now start end header.now.version kind header.now.checksum }
         ensures sum { let payload = slice_range (body_of self.now) start end in
             OnOk result (fnv1a payload ≡ header.now.checksum) }
         ensures room { let payload = slice_range (body_of self.now) start end in
@@ -305,7 +307,7 @@ impl<A: Allocator + Clone> BlockSource<A> {
             IfErr result (λ e. option_or (checksum_fault header.now.checksum payload)
             (room_fault header.now.version kind payload) ≡ Some e) }
     {
-        if self.was_tested(header, kind, start, end) {
+        if self.was_tested(start) {
             return Ok(true);
         }
         if !self.has_sum(header.checksum, start, end) {
@@ -348,111 +350,62 @@ impl<A: Allocator + Clone> BlockSource<A> {
         )
     }
 
-    /// Whether it is marked that the bytes from `start` up to `end`, behind this header, have their
-    /// checksum and are in the grammar of their kind.
-    fn was_tested(&self, header: &Header, kind: BlockType, start: usize, end: usize) -> bool
-        requires ordered { start ≤ end }
-        requires within { end ≤ length (body_of self.now) }
-        ensures sum { let payload = slice_range (body_of self.now) start end in
-            IsTrue result → fnv1a payload ≡ header.now.checksum }
-        ensures items { let payload = slice_range (body_of self.now) start end in
-            IsTrue result → in_grammar header.now.version kind payload ≡ true }
+    /// Whether it is marked that the payload which starts here has its checksum and is in its grammar.
+    fn was_tested(&self, start: usize) -> bool
+        ensures sum { IsTrue result → HasSum self.now start }
+        ensures items { IsTrue result → HasItems self.now start }
     {
         match &self.marks {
-            Some(marks) => {
-                self.is_headed(header, kind, start, end) && marks.is_tested(start as u64)
-            }
+            Some(marks) => marks.is_tested(start as u64),
             None => false,
         }
     }
 
-    /// Marks that the bytes from `start` up to `end`, behind this header, have their checksum and are in
-    /// the grammar of their kind.
-    fn remember_test(&self, header: &Header, kind: BlockType, start: usize, end: usize)
-        requires ordered { start ≤ end }
-        requires within { end ≤ length (body_of self.now) }
-        requires sum { fnv1a (slice_range (body_of self.now) start end) ≡ header.now.checksum }
-        requires items { let payload = slice_range (body_of self.now) start end in
-            in_grammar header.now.version kind payload ≡ true }
+    /// Marks that the payload which starts here has its checksum and is in its grammar.
+    fn remember_test(&self, start: usize)
+        requires sum { HasSum self.now start }
+        requires items { HasItems self.now start }
     {
         if let Some(marks) = &self.marks {
-            if self.is_headed(header, kind, start, end) {
-                marks.mark_tested(start as u64);
-            }
+            marks.mark_tested(start as u64);
         }
     }
 
-    /// Whether the header before `start` is this one, of this kind, and says a payload up to `end`.
-    fn is_headed(&self, header: &Header, kind: BlockType, start: usize, end: usize) -> bool
-        requires ordered { start ≤ end }
-        requires within { end ≤ length self.now }
-        ensures { IsTrue result →
-            IsHeaded self.now start end header.now.version kind header.now.checksum }
-    {
-        if start < HEADER_LEN {
-            return false;
-        }
-        let head = &self.bytes.as_slice()[start - HEADER_LEN..start];
-        let version = TableVersion::from_mark(&head[..4]);
-        head[4] == kind.tag()
-            && version == Some(header.version)
-            && self.is_said(header.checksum, start, end)
-    }
-
-    /// Whether the bytes from `start` up to `end` have this checksum. What is marked is not hashed
-    /// again.
+    /// Whether the payload from `start` up to `end` has the checksum that its header says. What is
+    /// marked is not hashed again.
     fn has_sum(&self, checksum: u64, start: usize, end: usize) -> bool
-        requires ordered { start ≤ end }
+        requires said { IsSaid self.now start end checksum }
         requires within { end ≤ length (body_of self.now) }
         ensures { let payload = slice_range (body_of self.now) start end in
             IsTrue result ↔ (fnv1a payload ≡ checksum) }
     {
-        if self.remembers(checksum, start, end) {
+        if self.remembers(start) {
             return true;
         }
         let same = has_hash(&self.body()[start..end], checksum);
         if same {
-            self.remember(checksum, start, end);
+            self.remember(start);
         }
         same
     }
 
-    /// Whether it is marked that the bytes from `start` up to `end` have this checksum.
-    fn remembers(&self, checksum: u64, start: usize, end: usize) -> bool
-        requires ordered { start ≤ end }
-        requires within { end ≤ length (body_of self.now) }
-        ensures { IsTrue result → fnv1a (slice_range (body_of self.now) start end) ≡ checksum }
+    /// Whether it is marked that the payload which starts here has its checksum.
+    fn remembers(&self, start: usize) -> bool
+        ensures { IsTrue result → HasSum self.now start }
     {
         match &self.marks {
-            Some(marks) => self.is_said(checksum, start, end) && marks.has_sum(start as u64),
+            Some(marks) => marks.has_sum(start as u64),
             None => false,
         }
     }
 
-    /// Marks that the bytes from `start` up to `end` have this checksum.
-    fn remember(&self, checksum: u64, start: usize, end: usize)
-        requires ordered { start ≤ end }
-        requires within { end ≤ length (body_of self.now) }
-        requires sum { fnv1a (slice_range (body_of self.now) start end) ≡ checksum }
+    /// Marks that the payload which starts here has its checksum.
+    fn remember(&self, start: usize)
+        requires { HasSum self.now start }
     {
         if let Some(marks) = &self.marks {
-            if self.is_said(checksum, start, end) {
-                marks.mark_sum(start as u64);
-            }
+            marks.mark_sum(start as u64);
         }
-    }
-
-    /// Whether a header before `start` says this checksum and a payload up to `end`.
-    fn is_said(&self, checksum: u64, start: usize, end: usize) -> bool
-        requires ordered { start ≤ end }
-        requires within { end ≤ length self.now }
-        ensures { IsTrue result → IsSaid self.now start end checksum }
-    {
-        if start < HEADER_LEN {
-            return false;
-        }
-        let head = &self.bytes.as_slice()[start - HEADER_LEN..start];
-        u32_at(&head[8..]) as usize == end - start && u64_at(&head[16..]) == checksum
     }
 
     /// Compares the checksums of the data block at a position and of those behind it, `most` blocks

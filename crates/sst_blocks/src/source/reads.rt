@@ -6,7 +6,7 @@ ghost use Rattle.sst_blocks.specs.Block.{checked_payload, in_grammar, load_told,
 ghost use Rattle.sst_blocks.specs.declared.block_type.BlockType.TheVariants.{Data, Filter, Index};
 ghost use Rattle.sst_blocks.specs.declared.opened.Opened.{Opened};
 ghost use Rattle.sst_blocks.specs.Opened.{with_load};
-ghost use Rattle.sst_blocks.specs.Placed.{IsSound, IsSoundAt};
+ghost use Rattle.sst_blocks.specs.Placed.{IsSound, IsSoundAt, IsSoundHeaded};
 ghost use Rattle.sst_entries.specs.Entry.{Entry};
 ghost use Rattle.sst_entries.specs.Error.{FaultsFirst, Gives};
 ghost use Rattle.sst_sections.specs.Sections.{body_of};
@@ -105,6 +105,7 @@ impl<A: Allocator + Clone> BlockSource<A> {
     fn sound(&self, handle: &BlockHandle, kind: BlockType) -> Result<Sound, Error>
         ensures sound { IfOk result (λ s.
             IsSoundAt (body_of self.now) handle.now.offset handle.now.size kind s) }
+        ensures headed { IfOk result (IsSoundHeaded self.now kind) }
         ensures told { let body = body_of self.now in
             IfErr result (λ e. load_told body handle.now.offset handle.now.size kind ≡ Err e) }
         ensures first { let body = body_of self.now in
@@ -127,7 +128,8 @@ impl<A: Allocator + Clone> BlockSource<A> {
         key: &[u8],
         seqno: SeqNo,
     ) -> Result<Option<InternalValue<A>>, Error>
-        requires { IsSound (body_of self.now) Data sound.now }
+        requires sound { IsSound (body_of self.now) Data sound.now }
+        requires headed { IsSoundHeaded self.now Data sound.now }
         ensures told { let body = body_of self.now in
             let payload = slice_range body sound.now.start sound.now.end in
             let header = sound.now.header in
@@ -160,7 +162,8 @@ impl<A: Allocator + Clone> BlockSource<A> {
         key: &[u8],
         seqno: SeqNo,
     ) -> Result<Option<BlockHandle>, Error>
-        requires { IsSound (body_of self.now) Index sound.now }
+        requires sound { IsSound (body_of self.now) Index sound.now }
+        requires headed { IsSoundHeaded self.now Index sound.now }
         ensures told { let body = body_of self.now in
             let payload = slice_range body sound.now.start sound.now.end in
             let header = sound.now.header in
@@ -178,7 +181,8 @@ impl<A: Allocator + Clone> BlockSource<A> {
 
     /// Whether the filter of a payload may have a hash.
     fn has_hash_in(&self, sound: &Sound, hash: u64) -> bool
-        requires { IsSound (body_of self.now) Filter sound.now }
+        requires sound { IsSound (body_of self.now) Filter sound.now }
+        requires headed { IsSoundHeaded self.now Filter sound.now }
         ensures told { let body = body_of self.now in
             let payload = slice_range body sound.now.start sound.now.end in
             let header = sound.now.header in
@@ -193,12 +197,13 @@ impl<A: Allocator + Clone> BlockSource<A> {
     /// Marks that a payload is in its grammar, where that is new.
     fn remember_walk(&self, sound: &Sound, kind: BlockType)
         requires sound { IsSound (body_of self.now) kind sound.now }
+        requires headed { IsSoundHeaded self.now kind sound.now }
         requires items { let body = body_of self.now in
             let payload = slice_range body sound.now.start sound.now.end in
             in_grammar sound.now.header.version kind payload ≡ true }
     {
         if !sound.is_tested {
-            self.remember_test(&sound.header, kind, sound.start, sound.end);
+            self.remember_test(sound.start);
         }
     }
 }

@@ -4,8 +4,8 @@ use Rattle.lsm_readers.specs.Batch.{IsPlaced}
 use Rattle.lsm_readers.specs.Table.{parts_of}
 use Rattle.lsm_readers.proofs.batch.find_places.Given as goal
 
-abbrev pub invariant-loop-at : goal.invariant-loop-at
-invariant-loop-at g l =
+abbrev pub invariant-loop-headed : goal.invariant-loop-headed
+invariant-loop-headed g l =
     let bytes = g.S.LoadBlocks.body l.initial.source in
     record {
       same : g.S.LoadBlocks.body l.source ≡ bytes;

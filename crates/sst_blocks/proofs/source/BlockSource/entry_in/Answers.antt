@@ -14,7 +14,7 @@ pub find_entry-requires-clause-long : goal.find_entry-requires-clause-long
 find_entry-requires-clause-long g c =
     let s = c.args.sound.now in
     let part : slice_range c.body.result.now s.start s.end ≡ slice_range (body_of c.args.self.now) s.start s.end = ap (λ (b : List ℕ). slice_range b s.start s.end) c.body.ensures.body in
-    subst (λ (p : List ℕ). 4 ≤ length p) (sym part) (room_long (13 + key_width s.header.version) _ c.requires.room)
+    subst (λ (p : List ℕ). 4 ≤ length p) (sym part) (room_long (13 + key_width s.header.version) _ c.requires.sound.room)
 
 pub returns-in_err-first-clause-told : goal.returns-in_err-first-clause-told
 returns-in_err-first-clause-told g c =
@@ -22,7 +22,7 @@ returns-in_err-first-clause-told g c =
     let part : slice_range c.body.result.now s.start s.end ≡ slice_range (body_of c.args.self.now) s.start s.end = ap (λ (b : List ℕ). slice_range b s.start s.end) c.body.ensures.body in
     let p = err_from_is_err_and c.from_residual.result c.from_residual.ensures.1 in
     let fault = c.in_err-first.ensures.fault in
-    rw (p.1, p.2, fault.0) (λ _. entries_wrong s.header.version s.header.checksum _ _ part c.requires.sum c.args.key.now c.args.seqno fault.1)
+    rw (p.1, p.2, fault.0) (λ _. entries_wrong s.header.version s.header.checksum _ _ part c.requires.sound.sum c.args.key.now c.args.seqno fault.1)
 
 pub returns-in_err-first-clause-sure : goal.returns-in_err-first-clause-sure
 returns-in_err-first-clause-sure g c =
@@ -30,21 +30,21 @@ returns-in_err-first-clause-sure g c =
     let part : slice_range c.body.result.now s.start s.end ≡ slice_range (body_of c.args.self.now) s.start s.end = ap (λ (b : List ℕ). slice_range b s.start s.end) c.body.ensures.body in
     let p = err_from_is_err_and c.from_residual.result c.from_residual.ensures.1 in
     let fault = c.in_err-first.ensures.fault in
-    rw (p.1, p.2, fault.0) (sure_fault _ _ (entries_wrong s.header.version s.header.checksum _ _ part c.requires.sum c.args.key.now c.args.seqno fault.1))
+    rw (p.1, p.2, fault.0) (sure_fault _ _ (entries_wrong s.header.version s.header.checksum _ _ part c.requires.sound.sum c.args.key.now c.args.seqno fault.1))
 
 pub returns-in_default-clause-told : goal.returns-in_default-clause-told
 returns-in_default-clause-told g c =
     let s = c.args.sound.now in
     let part : slice_range c.body.result.now s.start s.end ≡ slice_range (body_of c.args.self.now) s.start s.end = ap (λ (b : List ℕ). slice_range b s.start s.end) c.body.ensures.body in
     let none = sym c.in_ok-first.ensures.found ∙ ap (option_map (λ (x : ℕ × EntryRef). entry_of_ref x.1)) c.in_default.is in
-    entries_told s.header.version s.header.checksum _ _ part c.requires.sum c.args.key.now c.args.seqno None c.in_ok-first.ensures.whole (found_none _ c.args.key.now c.args.seqno none)
+    entries_told s.header.version s.header.checksum _ _ part c.requires.sound.sum c.args.key.now c.args.seqno None c.in_ok-first.ensures.whole (found_none _ c.args.key.now c.args.seqno none)
 
 pub returns-in_default-clause-sure : goal.returns-in_default-clause-sure
 returns-in_default-clause-sure g c =
     let s = c.args.sound.now in
     let part : slice_range c.body.result.now s.start s.end ≡ slice_range (body_of c.args.self.now) s.start s.end = ap (λ (b : List ℕ). slice_range b s.start s.end) c.body.ensures.body in
     let none = sym c.in_ok-first.ensures.found ∙ ap (option_map (λ (x : ℕ × EntryRef). entry_of_ref x.1)) c.in_default.is in
-    sure_none _ (entries_told s.header.version s.header.checksum _ _ part c.requires.sum c.args.key.now c.args.seqno None c.in_ok-first.ensures.whole (found_none _ c.args.key.now c.args.seqno none))
+    sure_none _ (entries_told s.header.version s.header.checksum _ _ part c.requires.sound.sum c.args.key.now c.args.seqno None c.in_ok-first.ensures.whole (found_none _ c.args.key.now c.args.seqno none))
 
 pub returns-then-ne-clause-told : goal.returns-then-ne-clause-told
 returns-then-ne-clause-told g c =
@@ -54,7 +54,7 @@ returns-then-ne-clause-told g c =
     let some = sym c.in_ok-first.ensures.found ∙ ap (option_map (λ (x : ℕ × EntryRef). entry_of_ref x.1)) first in
     let other = keys_apart c.in-Some.entry.key.now c.args.key.now c.ne.result c.ne.ensures c.if-ne.true in
     let strict = spelled_strict s.header.version (slice_range c.body.result.now s.start s.end) c.in_ok-first.ensures.whole in
-    entries_told s.header.version s.header.checksum _ _ part c.requires.sum c.args.key.now c.args.seqno None c.in_ok-first.ensures.whole (found_other _ c.args.key.now c.args.seqno (entry_of_ref c.in-Some.entry) strict some other)
+    entries_told s.header.version s.header.checksum _ _ part c.requires.sound.sum c.args.key.now c.args.seqno None c.in_ok-first.ensures.whole (found_other _ c.args.key.now c.args.seqno (entry_of_ref c.in-Some.entry) strict some other)
 
 pub returns-then-ne-clause-sure : goal.returns-then-ne-clause-sure
 returns-then-ne-clause-sure g c =
@@ -64,7 +64,7 @@ returns-then-ne-clause-sure g c =
     let some = sym c.in_ok-first.ensures.found ∙ ap (option_map (λ (x : ℕ × EntryRef). entry_of_ref x.1)) first in
     let other = keys_apart c.in-Some.entry.key.now c.args.key.now c.ne.result c.ne.ensures c.if-ne.true in
     let strict = spelled_strict s.header.version (slice_range c.body.result.now s.start s.end) c.in_ok-first.ensures.whole in
-    sure_none _ (entries_told s.header.version s.header.checksum _ _ part c.requires.sum c.args.key.now c.args.seqno None c.in_ok-first.ensures.whole (found_other _ c.args.key.now c.args.seqno (entry_of_ref c.in-Some.entry) strict some other))
+    sure_none _ (entries_told s.header.version s.header.checksum _ _ part c.requires.sound.sum c.args.key.now c.args.seqno None c.in_ok-first.ensures.whole (found_other _ c.args.key.now c.args.seqno (entry_of_ref c.in-Some.entry) strict some other))
 
 -- ---- the entry that was found
 
@@ -73,32 +73,32 @@ overflow_add-key_at g c =
     let s = c.args.sound.now in
     let first : c.in_ok-first.first ≡ Some (c.in-Some.at, c.in-Some.entry) = search rules in
     let place = rw first at c.in_ok-first.ensures.place in
-    let shares = shares_there s.header.version c.args.self.now s.start s.end c.in-Some.at _ (entry_of_ref c.in-Some.entry) c.requires.ordered c.requires.within refl (rw c.body.ensures.body at place) in
-    omega (arith, shares.within, c.requires.within, c.body.ensures.bound, ap length c.body.ensures.body)
+    let shares = shares_there s.header.version c.args.self.now s.start s.end c.in-Some.at _ (entry_of_ref c.in-Some.entry) c.requires.sound.ordered c.requires.sound.within refl (rw c.body.ensures.body at place) in
+    omega (arith, shares.within, c.requires.sound.within, c.body.ensures.bound, ap length c.body.ensures.body)
 
 pub overflow_add-key_at-2 : goal.overflow_add-key_at-2
 overflow_add-key_at-2 g c =
     let s = c.args.sound.now in
     let first : c.in_ok-first.first ≡ Some (c.in-Some.at, c.in-Some.entry) = search rules in
     let place = rw first at c.in_ok-first.ensures.place in
-    let shares = shares_there s.header.version c.args.self.now s.start s.end c.in-Some.at _ (entry_of_ref c.in-Some.entry) c.requires.ordered c.requires.within refl (rw c.body.ensures.body at place) in
-    omega (arith, shares.within, c.requires.within, c.body.ensures.bound, ap length c.body.ensures.body, c.head_len.ensures)
+    let shares = shares_there s.header.version c.args.self.now s.start s.end c.in-Some.at _ (entry_of_ref c.in-Some.entry) c.requires.sound.ordered c.requires.sound.within refl (rw c.body.ensures.body at place) in
+    omega (arith, shares.within, c.requires.sound.within, c.body.ensures.bound, ap length c.body.ensures.body, c.head_len.ensures)
 
 pub share_entry-requires-clause-within : goal.share_entry-requires-clause-within
 share_entry-requires-clause-within g c =
     let s = c.args.sound.now in
     let first : c.in_ok-first.first ≡ Some (c.in-Some.at, c.in-Some.entry) = search rules in
     let place = rw first at c.in_ok-first.ensures.place in
-    let shares = shares_there s.header.version c.args.self.now s.start s.end c.in-Some.at _ (entry_of_ref c.in-Some.entry) c.requires.ordered c.requires.within refl (rw c.body.ensures.body at place) in
-    omega (arith, shares.within, c.requires.within, body_within c.args.self.now, ap length c.self.view_is, c.head_len.ensures)
+    let shares = shares_there s.header.version c.args.self.now s.start s.end c.in-Some.at _ (entry_of_ref c.in-Some.entry) c.requires.sound.ordered c.requires.sound.within refl (rw c.body.ensures.body at place) in
+    omega (arith, shares.within, c.requires.sound.within, body_within c.args.self.now, ap length c.self.view_is, c.head_len.ensures)
 
 pub share_entry-requires-clause-short : goal.share_entry-requires-clause-short
 share_entry-requires-clause-short g c =
     let s = c.args.sound.now in
     let first : c.in_ok-first.first ≡ Some (c.in-Some.at, c.in-Some.entry) = search rules in
     let place = rw first at c.in_ok-first.ensures.place in
-    let shares = shares_there s.header.version c.args.self.now s.start s.end c.in-Some.at _ (entry_of_ref c.in-Some.entry) c.requires.ordered c.requires.within refl (rw c.body.ensures.body at place) in
-    omega (arith, shares.within, c.requires.within, c.body.ensures.bound, ap length c.body.ensures.body, c.head_len.ensures)
+    let shares = shares_there s.header.version c.args.self.now s.start s.end c.in-Some.at _ (entry_of_ref c.in-Some.entry) c.requires.sound.ordered c.requires.sound.within refl (rw c.body.ensures.body at place) in
+    omega (arith, shares.within, c.requires.sound.within, c.body.ensures.bound, ap length c.body.ensures.body, c.head_len.ensures)
 
 pub share_entry-requires-clause-key : goal.share_entry-requires-clause-key
 share_entry-requires-clause-key g c =
@@ -107,7 +107,7 @@ share_entry-requires-clause-key g c =
     let first : c.in_ok-first.first ≡ Some (c.in-Some.at, c.in-Some.entry) = search rules in
     let place = rw first at c.in_ok-first.ensures.place in
     let is : key_at ≡ s.start + c.in-Some.at + (13 + key_width s.header.version) = omega (arith, c.head_len.ensures) in
-    let shares = shares_there s.header.version c.args.self.now s.start s.end c.in-Some.at key_at (entry_of_ref c.in-Some.entry) c.requires.ordered c.requires.within is (rw c.body.ensures.body at place) in
+    let shares = shares_there s.header.version c.args.self.now s.start s.end c.in-Some.at key_at (entry_of_ref c.in-Some.entry) c.requires.sound.ordered c.requires.sound.within is (rw c.body.ensures.body at place) in
     ap (λ (b : List ℕ). slice_range b key_at (key_at + length c.in-Some.entry.key.now)) c.self.view_is ∙ shares.key
 
 pub share_entry-requires-clause-value : goal.share_entry-requires-clause-value
@@ -118,7 +118,7 @@ share_entry-requires-clause-value g c =
     let first : c.in_ok-first.first ≡ Some (c.in-Some.at, c.in-Some.entry) = search rules in
     let place = rw first at c.in_ok-first.ensures.place in
     let is : key_at ≡ s.start + c.in-Some.at + (13 + key_width s.header.version) = omega (arith, c.head_len.ensures) in
-    let shares = shares_there s.header.version c.args.self.now s.start s.end c.in-Some.at key_at (entry_of_ref c.in-Some.entry) c.requires.ordered c.requires.within is (rw c.body.ensures.body at place) in
+    let shares = shares_there s.header.version c.args.self.now s.start s.end c.in-Some.at key_at (entry_of_ref c.in-Some.entry) c.requires.sound.ordered c.requires.sound.within is (rw c.body.ensures.body at place) in
     ap (λ (b : List ℕ). slice_range b value_at (value_at + length c.in-Some.entry.value.now)) c.self.view_is ∙ shares.value
 
 pub returns-in_err-share_entry-clause-sure : goal.returns-in_err-share_entry-clause-sure
@@ -128,7 +128,7 @@ returns-in_err-share_entry-clause-sure g c =
     let first : c.in_ok-first.first ≡ Some (c.in-Some.at, c.in-Some.entry) = search rules in
     let some = sym c.in_ok-first.ensures.found ∙ ap (option_map (λ (x : ℕ × EntryRef). entry_of_ref x.1)) first in
     let same = keys_same c.in-Some.entry.key.now c.args.key.now c.ne.result c.ne.ensures c.if-ne.false in
-    sure_some _ _ (entry_of_ref c.in-Some.entry) (entries_told s.header.version s.header.checksum _ _ part c.requires.sum c.args.key.now c.args.seqno _ c.in_ok-first.ensures.whole (found_hit _ c.args.key.now c.args.seqno (entry_of_ref c.in-Some.entry) some same))
+    sure_some _ _ (entry_of_ref c.in-Some.entry) (entries_told s.header.version s.header.checksum _ _ part c.requires.sound.sum c.args.key.now c.args.seqno _ c.in_ok-first.ensures.whole (found_hit _ c.args.key.now c.args.seqno (entry_of_ref c.in-Some.entry) some same))
 
 pub returns-clause-told : goal.returns-clause-told
 returns-clause-told g c =
@@ -137,7 +137,7 @@ returns-clause-told g c =
     let first : c.in_ok-first.first ≡ Some (c.in-Some.at, c.in-Some.entry) = search rules in
     let some = sym c.in_ok-first.ensures.found ∙ ap (option_map (λ (x : ℕ × EntryRef). entry_of_ref x.1)) first in
     let same = keys_same c.in-Some.entry.key.now c.args.key.now c.ne.result c.ne.ensures c.if-ne.false in
-    rw c.in_ok-share_entry.ensures.found (entries_told s.header.version s.header.checksum _ _ part c.requires.sum c.args.key.now c.args.seqno _ c.in_ok-first.ensures.whole (found_hit _ c.args.key.now c.args.seqno (entry_of_ref c.in-Some.entry) some same))
+    rw c.in_ok-share_entry.ensures.found (entries_told s.header.version s.header.checksum _ _ part c.requires.sound.sum c.args.key.now c.args.seqno _ c.in_ok-first.ensures.whole (found_hit _ c.args.key.now c.args.seqno (entry_of_ref c.in-Some.entry) some same))
 
 pub returns-clause-sure : goal.returns-clause-sure
 returns-clause-sure g c =
@@ -146,4 +146,4 @@ returns-clause-sure g c =
     let first : c.in_ok-first.first ≡ Some (c.in-Some.at, c.in-Some.entry) = search rules in
     let some = sym c.in_ok-first.ensures.found ∙ ap (option_map (λ (x : ℕ × EntryRef). entry_of_ref x.1)) first in
     let same = keys_same c.in-Some.entry.key.now c.args.key.now c.ne.result c.ne.ensures c.if-ne.false in
-    sure_some _ _ (entry_of_ref c.in-Some.entry) (entries_told s.header.version s.header.checksum _ _ part c.requires.sum c.args.key.now c.args.seqno _ c.in_ok-first.ensures.whole (found_hit _ c.args.key.now c.args.seqno (entry_of_ref c.in-Some.entry) some same))
+    sure_some _ _ (entry_of_ref c.in-Some.entry) (entries_told s.header.version s.header.checksum _ _ part c.requires.sound.sum c.args.key.now c.args.seqno _ c.in_ok-first.ensures.whole (found_hit _ c.args.key.now c.args.seqno (entry_of_ref c.in-Some.entry) some same))

@@ -1,11 +1,12 @@
-use Rattle.std.proofs.Common.{◌≡◌, ◌+◌, ◌^◌, slice_range, sym, subst, ◌∙◌, arith}
+use Rattle.std.proofs.Common.{◌≡◌, ◌+◌, ◌^◌, ℕ, List, length, slice_range, ap, sym, subst, ◌∙◌, arith}
 use Rattle.std.specs.Prelude.{Result}
 use Rattle.std.proofs.lemmas.Result.{err_from_is_err_and}
-use Rattle.std.specs.Prelude.{Option, Some}
+use Rattle.std.specs.Prelude.{Option, None, Some}
 use Rattle.std.specs.Option.{option_or}
 use Rattle.sst_entries.specs.declared.error.Error.{Error}
 use Rattle.sst_entries.specs.declared.error.Error.TheVariants.{Truncated, InvalidHeader}
-use Rattle.sst_blocks.specs.Block.{Loaded, load_at_told, position_fault, checked_payload, checksum_fault, room_fault}
+use Rattle.sst_blocks.specs.Block.{Loaded, load_at_told, position_fault, checked_payload, checksum_fault, data_len, header_fault, room_fault, stored_checksum, version_in}
+use Rattle.sst_blocks.proofs.MarkLemmas.{headed_there}
 use Rattle.sst_entries.specs.Error.{FaultsFirst, Gives}
 use Rattle.sst_sections.specs.Sections.{body_of}
 use Rattle.sst_blocks.proofs.LoadLemmas.{load_at_truncated, load_at_fault, load_at_lengths, load_at_passes, load_at_checked, loaded_within, range_short, position_truncated, position_header, position_lengths, position_passes, position_checked}
@@ -86,3 +87,17 @@ returns-clause-first g c =
     let next = option_or (checksum_fault c.in_ok-header.header.checksum payload) (room_fault c.in_ok-header.header.version c.args.kind payload) in
     let whole : position_fault (body_of c.args.self.now) c.args.position c.args.kind ≡ next = cc (c.body-body.ensures.body, c.in_ok-header.ensures.version, c.in_ok-header.ensures.checksum, c.in_ok-header.ensures.data_len) in
     subst (λ (fault : Option Error). FaultsFirst c.block.result fault) (sym whole) c.block.ensures.first
+
+-- its header says it
+
+pub block-requires-clause-headed : goal.block-requires-clause-headed
+block-requires-clause-headed g c =
+    let at = c.args.position in
+    let head = λ (b : List ℕ). slice_range b at (at + 24) in
+    let header = c.in_ok-header.header in
+    headed_there c.args.self.now at header.version c.args.kind header.checksum header.data_len
+    (omega (arith, ap length c.body-body.ensures.body))
+    (subst (λ (b : List ℕ). header_fault c.args.kind (head b) ≡ None) c.body-body.ensures.body c.in_ok-header.ensures.fault)
+    (c.in_ok-header.ensures.version ∙ ap (λ (b : List ℕ). version_in (head b)) c.body-body.ensures.body)
+    (c.in_ok-header.ensures.checksum ∙ ap (λ (b : List ℕ). stored_checksum (head b)) c.body-body.ensures.body)
+    (c.in_ok-header.ensures.data_len ∙ ap (λ (b : List ℕ). data_len (head b)) c.body-body.ensures.body)

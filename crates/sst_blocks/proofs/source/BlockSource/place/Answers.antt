@@ -1,8 +1,10 @@
-use Rattle.std.proofs.Common.{◌≡◌, ◌+◌, ap, length, slice_range, arith}
-use Rattle.std.specs.Prelude.{Some, Err}
+use Rattle.std.proofs.Common.{◌≡◌, ◌+◌, ℕ, List, ap, subst, length, slice_range, arith, ◌∙◌}
+use Rattle.std.specs.Prelude.{None, Some, Err}
 use Rattle.std.specs.Option.{option_or}
 use Rattle.std.proofs.lemmas.Result.{err_from_is_err_and}
-use Rattle.sst_blocks.specs.Block.{load_told, place_fault, checked_payload, checksum_fault, room_fault}
+use Rattle.sst_blocks.specs.Block.{load_told, place_fault, checked_payload, checksum_fault, data_len, header_fault, room_fault, stored_checksum, version_in}
+use Rattle.sst_blocks.specs.Marks.{IsHeaded}
+use Rattle.sst_blocks.proofs.MarkLemmas.{headed_there}
 use Rattle.sst_sections.specs.Sections.{body_of}
 use Rattle.sst_blocks.proofs.LoadLemmas.{load_truncated, load_fault, load_lengths, load_checked, place_truncated, place_header, place_lengths, place_checked}
 use Rattle.sst_blocks.proofs.source.BlockSource.place.Goals as goal
@@ -75,3 +77,20 @@ returns-clause-placed g c =
       told = told;
       first = first;
     }
+
+-- its header says it
+
+pub returns-clause-headed : goal.returns-clause-headed
+returns-clause-headed g c =
+    let bytes : List ℕ = c.args.self.now in
+    let at = c.offset-start.result.0 in
+    let head = λ (b : List ℕ). slice_range b at (at + 24) in
+    let header = c.in_ok-header.header in
+    let there = headed_there bytes at header.version c.args.kind header.checksum header.data_len
+    (omega (arith, ap length c.body-body.ensures.body))
+    (subst (λ (b : List ℕ). header_fault c.args.kind (head b) ≡ None) c.body-body.ensures.body c.in_ok-header.ensures.fault)
+    (c.in_ok-header.ensures.version ∙ ap (λ (b : List ℕ). version_in (head b)) c.body-body.ensures.body)
+    (c.in_ok-header.ensures.checksum ∙ ap (λ (b : List ℕ). stored_checksum (head b)) c.body-body.ensures.body)
+    (c.in_ok-header.ensures.data_len ∙ ap (λ (b : List ℕ). data_len (head b)) c.body-body.ensures.body) in
+    let end : at + 24 + header.data_len ≡ at + c.size-size.result = omega arith in
+    subst (λ (e : ℕ). IsHeaded bytes (at + 24) e header.version c.args.kind header.checksum) end there
