@@ -170,7 +170,8 @@ fn begins_several(places: &[Placed], index: usize) -> bool {
 }
 
 /// Loads the data block of a handle, which a source that keeps blocks then has for the reads to
-/// come. A refusal is met by the first of these.
+/// come. A fault of the block is met by the first of these; where memory is wanted for its entries'
+/// places, each of them walks over the block.
 fn load_for_several<S: LoadBlocks>(source: &mut S, handle: Option<BlockHandle>)
     ensures body { S.body source.new ≡ S.body source.old }
     ensures opened { IfSome handle (λ _. S.opened source.new ≡ with_load Data (S.opened source.old)) }

@@ -410,9 +410,9 @@ impl<A: Allocator + Clone> BlockSource<A> {
 
     /// Compares the checksums of the data block at a position and of those behind it, `most` blocks
     /// at most and no more than four, up to one that is remembered, where that of the first is not
-    /// and there is memory to remember them; those of two or four in one loop. A block that ends in
-    /// the 2,048 bytes in which it starts is the last that is compared. Loading the blocks, one
-    /// after another, answers what it would without.
+    /// and there is memory to remember them; those of two or four in one loop. A block whose payload
+    /// ends in the 2,048 bytes in which it starts is the last that is compared. Loading the blocks,
+    /// one after another, answers what it would without.
     pub fn compare_ahead(&self, position: u64, most: usize) {
         let Some(marks) = &self.marks else {
             return;
@@ -438,9 +438,9 @@ impl<A: Allocator + Clone> BlockSource<A> {
     /// Compares the checksums of the blocks that these handles name, four at a time in one loop and
     /// what is left of them by twos, where there is memory to remember them. Left out are blocks
     /// whose checksum is remembered, handles of another size than the block's header says, and
-    /// blocks that end in the 2,048 bytes in which they start: another that starts there would take
-    /// their place among those that are remembered. Loading the blocks answers what it would
-    /// without.
+    /// blocks whose payload ends in the 2,048 bytes in which it starts: another that starts there
+    /// would take its place among those that are remembered. Loading the blocks answers what it
+    /// would without.
     pub fn compare_together(&self, blocks: &[(BlockHandle, BlockType)]) {
         let Some(marks) = &self.marks else {
             return;

@@ -80,14 +80,14 @@ fn read_rest<A: Allocator + Clone>(
     Ok(found)
 }
 
-/// What [`Table::get`] answers to each of some queries, in their order, each with its key's own hash.
-/// Queries may stand in any order and repeat. They are looked up in the order of their keys: the
-/// checksums of their data blocks are compared several in one loop, and a block in which several
-/// keys stand is loaded once for them. Refused with the error of the earliest query that has one,
-/// and [`Error::OutOfMemory`]; then there is no answer at all, and the table is as it was. The list
-/// takes memory first, so any refusal may be that, also where `get` would find a fault before memory
-/// is taken or would load nothing. A list of no queries takes none, and is refused only where a
-/// clone of the allocator is.
+/// What [`Table::get`] answers to each of some queries, in their order, each with its key's own
+/// hash. Queries may stand in any order and repeat. They are looked up in the order of their keys:
+/// the checksums of their data blocks are compared several in one loop, and a block in which
+/// several keys stand is loaded once for them where there is memory for its entries' places.
+/// Refused with the error of the earliest query that has one, and [`Error::OutOfMemory`]; then
+/// there is no answer at all, and the table is as it was. The list takes memory first, so any
+/// refusal may be that, also where `get` would find a fault before memory is taken or would load
+/// nothing. A list of no queries takes none, and is refused only where a clone of the allocator is.
 pub fn get_many<A: Allocator + Clone>(
     table: &Table<A>,
     queries: &[Query<A>],
