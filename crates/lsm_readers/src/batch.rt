@@ -1,5 +1,5 @@
 //! Point reads for some queries in key order, over whatever blocks can be loaded from.
-ghost use Rattle.std.specs.Prelude.{◌≡◌, ◌-◌, ◌<◌, Option, Ok, IfOk, IfSome, false};
+ghost use Rattle.std.specs.Prelude.{◌≡◌, ◌-◌, ◌<◌, ◌≤◌, Option, Ok, IfOk, IfSome, false};
 ghost use Rattle.std.specs.Prelude.{length, replicate, slice_set};
 ghost use Rattle.std.specs.List.{All};
 ghost use Rattle.lsm_readers.specs.Batch.{AreFound, IsPlaced, query_told};
@@ -10,8 +10,12 @@ ghost use Rattle.sst_blocks.specs.declared.block_type.BlockType.TheVariants.{Dat
 use crate::order::Headed;
 use crate::point::{admitted_handle, read_in};
 use crate::{Inner, Query};
-use sst_blocks::{BlockHandle, BlockSource, BlockType, Error, InternalValue, LoadBlocks, hash};
+use sst_blocks::{BlockHandle, BlockType, Error, InternalValue, LoadBlocks, hash};
 use std::alloc::{AllocError, Allocator, Global};
+
+/// How many data blocks are compared ahead of the reads that rest on them: as many as a processor's
+/// nearest cache has room for until they are read.
+pub(crate) const AHEAD: usize = 8;
 
 /// Where a query stands in its list, and where the data block lies that a read for it rests on, if
 /// on any.
@@ -127,33 +131,30 @@ fn answer_placed<S: LoadBlocks>(
     }
 }
 
-/// The data blocks that some places name, without those that are named just before.
-fn blocks_of<A: Allocator>(
-    alloc: A,
+/// Gathers the data blocks that places at the front of some name, [`AHEAD`] of them at most and none
+/// that was named just before. Gives how many places these are: at least one, where there is any.
+/// Refused for want of memory alone.
+pub(crate) fn gather_blocks<A: Allocator>(
     places: &[Placed],
-) -> Result<Vec<(BlockHandle, BlockType), A>, AllocError> {
-    let mut blocks = Vec::with_capacity(alloc, places.len())?;
+    blocks: &mut Vec<(BlockHandle, BlockType), A>,
+) -> Result<usize, AllocError>
+    ensures some { IfOk result (λ n. 0 < length places.now → 0 < n) }
+    ensures within { IfOk result (λ n. n ≤ length places.now) }
+{
+    blocks.clear();
     let mut last = None;
-    for place in places {
+    for (index, place) in places.iter().enumerate() {
         if place.handle != last {
+            if blocks.len() == AHEAD {
+                return Ok(index);
+            }
             if let Some(handle) = place.handle {
                 blocks.push((handle, BlockType::Data))?;
             }
             last = place.handle;
         }
     }
-    Ok(blocks)
-}
-
-/// Compares the checksums of the data blocks that some places name, several in one loop. Where
-/// there is no memory for the list of these blocks, each is compared where it is read.
-pub(crate) fn compare_places<A: Allocator + Clone>(source: &BlockSource<A>, places: &[Placed]) {
-    let Ok(alloc) = source.allocator().clone() else {
-        return;
-    };
-    if let Ok(blocks) = blocks_of(alloc, places) {
-        source.compare_together(&blocks);
-    }
+    Ok(places.len())
 }
 
 /// The data block that the read of a place rests on, where there is such a place.
@@ -182,13 +183,14 @@ fn load_for_several<S: LoadBlocks>(source: &mut S, handle: Option<BlockHandle>)
 }
 
 /// Reads for the queries of some places, one behind another, up to the first that is refused.
+/// Answers whether none is.
 pub(crate) fn read_places<S: LoadBlocks>(
     source: &mut S,
     inner: &Inner<S::Alloc>,
     queries: &[Query<S::Alloc>],
     places: &[Placed],
     batch: &mut Batch<S::Alloc>,
-)
+) -> bool
     requires placed { let parts = parts_of inner.now in
         All (IsPlaced (S.body source.old) inner.now.global_seqno parts queries.now) places.now }
     requires found { let parts = parts_of inner.now in
@@ -197,6 +199,7 @@ pub(crate) fn read_places<S: LoadBlocks>(
     ensures found { let parts = parts_of inner.now in
         let told = query_told (S.body source.old) inner.now.global_seqno parts in
         AreFound told queries.now batch.new.found.items batch.new.done.items }
+    ensures body { S.body source.new ≡ S.body source.old }
 {
     for (index, place) in places.iter().enumerate() {
         if begins_several(places, index) {
@@ -204,9 +207,10 @@ pub(crate) fn read_places<S: LoadBlocks>(
         }
         let query = &queries[place.at];
         let Ok(found) = answer_placed(source, inner, query, place.handle) else {
-            return;
+            return false;
         };
         put(&mut batch.found, place.at, found);
         batch.done[place.at] = true;
     }
+    true
 }

@@ -1,11 +1,12 @@
 //! Many point reads of one table.
 ghost use Rattle.std.specs.Prelude.{◌≡◌, IfOk, IsOk, List, Ok, [], map};
-ghost use Rattle.lsm_readers.specs.Batch.{AreFound};
+ghost use Rattle.std.specs.List.{All};
+ghost use Rattle.lsm_readers.specs.Batch.{AreFound, IsPlaced};
 ghost use Rattle.lsm_readers.specs.Words.{Entry, FaultsFirst, Gives, IsTable, lift, point};
-ghost use Rattle.lsm_readers.specs.Words.{table_answer};
+ghost use Rattle.lsm_readers.specs.Words.{body_of, table_answer};
 ghost use Rattle.lsm_readers.specs.Many.{found_told, many_told};
 
-use crate::batch::{Batch, compare_places, find_places, put, read_places};
+use crate::batch::{AHEAD, Batch, Placed, find_places, gather_blocks, put, read_places};
 use crate::keeping::Keeping;
 use crate::order::key_order;
 use crate::{Inner, Table};
@@ -37,28 +38,59 @@ fn get_one<A: Allocator + Clone>(
     table.get(key, query.seqno, Table::<A>::key_hash(key))
 }
 
-/// What is known of some queries once their keys were looked up in their order, and each block was
-/// loaded once for all that stand behind one another in it. Refused for want of memory alone.
+/// Reads for the queries of some places, whose blocks are compared several in one loop, each a little
+/// ahead of the reads that rest on it. Ends at the first refusal.
+fn read_ahead<A: Allocator + Clone>(
+    table: &Table<A>,
+    source: &mut Keeping<'_, A>,
+    queries: &[Query<A>],
+    places: &[Placed],
+    batch: &mut Batch<A>,
+) -> Result<(), AllocError>
+    requires source { body_of source.old.0 ≡ body_of table.now.bytes }
+    requires placed { let body = body_of table.now.bytes in
+        All (IsPlaced body table.now.global_seqno table.now.parts queries.now) places.now }
+    requires found { AreFound (found_told table.now) queries.now batch.old.found.items
+        batch.old.done.items }
+    ensures found { AreFound (found_told table.now) queries.now batch.new.found.items
+        batch.new.done.items }
+{
+    let inner: &Inner<A> = &table.inner;
+    let mut blocks = Vec::with_capacity(table.source.allocator().clone()?, AHEAD)?;
+    let mut from = 0;
+    while from < places.len() {
+        let far = &places[from..];
+        let count = gather_blocks(far, &mut blocks)?;
+        table.source.compare_together(&blocks);
+        if !read_places(source, inner, queries, &far[..count], batch) {
+            return Ok(());
+        }
+        from += count;
+    }
+    Ok(())
+}
+
+/// Reads for some queries in the order of their keys, each block loaded once for all that stand
+/// behind one another in it, as far as there is memory, and up to the first that is refused.
 fn read_batch<A: Allocator + Clone>(
     table: &Table<A>,
     queries: &[Query<A>],
-) -> Result<Batch<A>, AllocError>
-    ensures { IfOk result (λ b.
-        AreFound (found_told table.now) queries.now b.found.items b.done.items) }
+    batch: &mut Batch<A>,
+) -> Result<(), AllocError>
+    requires found { AreFound (found_told table.now) queries.now batch.old.found.items
+        batch.old.done.items }
+    ensures found { AreFound (found_told table.now) queries.now batch.new.found.items
+        batch.new.done.items }
 {
-    let alloc = table.source.allocator();
-    let inner: &Inner<A> = &table.inner;
-    let mut batch = Batch::new(alloc, queries.len())?;
     if queries.len() < 2 {
         // A query that stands alone has no neighbours.
-        return Ok(batch);
+        return Ok(());
     }
+    let alloc = table.source.allocator();
     let order = key_order(alloc.clone()?, queries)?;
     let mut source = Keeping::new(&table.source);
-    let places = find_places(&mut source, inner, queries, &order, alloc.clone()?)?;
-    compare_places(&table.source, &places);
-    read_places(&mut source, inner, queries, &places, &mut batch);
-    Ok(batch)
+    let places = find_places(&mut source, &table.inner, queries, &order, alloc.clone()?)?;
+    read_ahead(table, &mut source, queries, &places, batch)
 }
 
 /// What was found, with the answers of reads for those queries that nothing is known of yet, in the
@@ -105,6 +137,8 @@ pub fn get_many<A: Allocator + Clone>(
     if queries.is_empty() {
         return Ok(Vec::new(alloc.clone()?));
     }
-    let batch = read_batch(table, queries)?;
+    let mut batch = Batch::new(alloc, queries.len())?;
+    // Without memory, or once a read was refused, each query that is left is read by itself.
+    let _ = read_batch(table, queries, &mut batch);
     read_rest(table, queries, batch)
 }
