@@ -1,11 +1,11 @@
 -- The payload of an index block: the one spelling of a list of handles, what a payload spells, and what a handle reaches.
 use Rattle.std.specs.Prelude.{ℕ, zero, suc, ◌+◌, ◌<◌, ◌^◌, List, [], ◌∷◌, ◌++◌, length, take, drop, Bool, ◌&&◌, ◌||◌, nat_lt, Option, Some, None, option_and_then, if◌then◌else◌}
-use Rattle.std.specs.List.{flat_map, AllByRecursion}
 use Rattle.std.specs.Option.{option_map}
 use Rattle.sst_sections.specs.declared.version.TableVersion.{TableVersion}
 use Rattle.sst_entries.specs.declared.value_type.ValueType.TheVariants.{Value}
 use Rattle.sst_entries.specs.Entry.{Entry, entry}
 use Rattle.sst_blocks.specs.Handle.{Handle}
+use Rattle.sst_blocks.specs.Payload.{AreFit, items_payload}
 use Rattle.sst_entries.specs.Key.{same_key, key_lt}
 use Rattle.sst_sections.specs.Number.{le4, le8, num4, num8}
 use Rattle.sst_sections.specs.Version.{key_width, key_len_bytes, key_len_at, key_limit}
@@ -30,7 +30,7 @@ handle_spelled v h = handle_head v h ++ h.end_key
 
 -- the count, and then the handles in order
 unfoldable pub handles_payload : TableVersion → List Handle → List ℕ
-handles_payload v hs = le4 (length hs) ++ flat_map (handle_spelled v) hs
+handles_payload v hs = items_payload (handle_spelled v) hs
 
 -- what has a spelling
 pub record IsSpellableHandle (v : TableVersion) (h : Handle) : Type 0 where
@@ -40,7 +40,7 @@ pub record IsSpellableHandle (v : TableVersion) (h : Handle) : Type 0 where
   pub key_len : length h.end_key < key_limit v
 
 abbrev pub AreSpellableHandles : TableVersion → List Handle → Type 0
-AreSpellableHandles v hs = (length hs < 2 ^ 32) × AllByRecursion (IsSpellableHandle v) hs
+AreSpellableHandles v hs = AreFit (IsSpellableHandle v) hs
 
 -- the handle at the front of some bytes, and the bytes after it
 unfoldable pub handle_at : TableVersion → List ℕ → Option (Handle × List ℕ)

@@ -19,10 +19,9 @@ mod entry_ref;
 mod find;
 mod iter;
 
-use crate::block::{EMPTY_LEN, Header};
+use crate::item::{block_bound, encode};
 use crate::starts::{Starts, has_room_for};
 use crate::{Block, Error, InternalValue, SeqNo, Slice, TableVersion};
-use encode::{block_len, put_items, with_entry};
 pub(crate) use entry_ref::head_len as entry_head_len;
 use entry_ref::{EntryRef, head_len, read_entry, read_key};
 pub(crate) use find::{find_entry, share_entry};
@@ -31,6 +30,10 @@ use sst_entries::compare_versions;
 use sst_sections::number::u32_at;
 use std::alloc::{AllocError, Allocator, Global};
 use std::marker::Model;
+
+/// What an entry takes beside its key and its value as it is written, in bytes: its tag, its number
+/// and both lengths.
+pub const ENTRY_HEAD_LEN: u64 = 17;
 
 /// A block of entries in strict order. It shares the table's bytes, and its clones share
 /// all that it holds.
@@ -119,11 +122,7 @@ pub(crate) fn entry_starts<A: Allocator>(
 pub fn data_block_bound<A: Allocator>(items: &[InternalValue<A>]) -> u64
     ensures { result ≡ data_block_bound_of items.now }
 {
-    let mut bound = EMPTY_LEN;
-    for item in items {
-        bound = with_entry(bound, item);
-    }
-    bound
+    block_bound(items)
 }
 
 impl<A: Allocator> DataBlock<A> {
@@ -144,6 +143,7 @@ impl<A: Allocator> DataBlock<A> {
     /// [`data_block_bound`] is 2^32 or more; and [`Error::OutOfMemory`]. `buf` is then as it was.
     ///
     /// The restart interval and the hash ratio are taken as the original takes them, and change nothing here.
+    #[tactic(auto, unfolding(crate::specs::Payload::payload))]
     pub fn encode_into(
         buf: &mut Vec<u8, A>,
         items: &[InternalValue<A>],
@@ -165,15 +165,7 @@ impl<A: Allocator> DataBlock<A> {
     {
         let _ = restart_interval;
         let _ = hash_ratio;
-        let len = block_len(items)?;
-        let start = buf.len();
-        // One growth holds the payload.
-        buf.reserve(len as usize - Header::LEN as usize)?;
-        let outcome = put_items(buf, items);
-        if outcome.is_err() {
-            buf.truncate(start);
-        }
-        outcome
+        encode(buf, items)
     }
 
     /// How many entries the block has.

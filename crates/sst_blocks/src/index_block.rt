@@ -17,10 +17,9 @@ mod find;
 mod iter;
 mod read;
 
-use crate::block::{EMPTY_LEN, Header};
+use crate::item::{block_bound, encode};
 use crate::starts::Starts;
 use crate::{Block, BlockHandle, BlockOffset, Error, KeyedBlockHandle, SeqNo, Slice, TableVersion};
-use encode::{block_len, put_handles, with_handle};
 pub(crate) use find::find_handle;
 pub use iter::Iter;
 pub(crate) use read::{handle_starts, has_handle_room};
@@ -28,6 +27,10 @@ use read::{HandleRef, head_len, read_end_key, read_handle};
 use sst_entries::compare_versions;
 use std::alloc::{AllocError, Allocator, Global};
 use std::marker::Model;
+
+/// What a handle takes beside its end key as it is written, in bytes: its number, its place and the
+/// key's length.
+pub const HANDLE_HEAD_LEN: u64 = 24;
 
 /// A block of handles in strict order of their end keys and numbers. It shares the table's bytes, and its clones share
 /// all that it holds.
@@ -71,11 +74,7 @@ impl<A: Allocator> Clone for IndexBlock<A> {
 pub fn index_block_bound<A: Allocator>(handles: &[KeyedBlockHandle<A>]) -> u64
     ensures { result ≡ index_block_bound_of handles.now }
 {
-    let mut bound = EMPTY_LEN;
-    for handle in handles {
-        bound = with_handle(bound, handle);
-    }
-    bound
+    block_bound(handles)
 }
 
 impl<A: Allocator> IndexBlock<A> {
@@ -216,6 +215,7 @@ impl<A: Allocator> IndexBlock<A> {
     /// Writes the payload of a block of these handles at the end of `buf`. Refused [`Error::KeyTooLong`] where an end key is
     /// too long, then [`Error::BlockTooLarge`] where [`index_block_bound`] is 2^32 or more; and [`Error::OutOfMemory`]. `buf`
     /// is then as it was.
+    #[tactic(auto, unfolding(crate::specs::Handles::handles_payload))]
     pub fn encode_into(buf: &mut Vec<u8, A>, handles: &[KeyedBlockHandle<A>]) -> Result<(), Error>
         requires { AreStrictHandles handles.now }
         ensures ok { OnOk result (buf.new.items ≡ buf.old.items ++ handles_payload V4 handles.now) }
@@ -232,14 +232,6 @@ impl<A: Allocator> IndexBlock<A> {
         ensures short { OnOk result (
             header_len + length (handles_payload V4 handles.now) < 2 ^ 32) }
     {
-        let len = block_len(handles)?;
-        let start = buf.len();
-        // One growth holds the payload.
-        buf.reserve(len as usize - Header::LEN as usize)?;
-        let outcome = put_handles(buf, handles);
-        if outcome.is_err() {
-            buf.truncate(start);
-        }
-        outcome
+        encode(buf, handles)
     }
 }

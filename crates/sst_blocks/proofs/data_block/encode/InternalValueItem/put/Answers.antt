@@ -6,7 +6,7 @@ use Rattle.sst_sections.specs.Number.{le4, le8}
 use Rattle.sst_blocks.specs.Payload.{spelled}
 use Rattle.sst_sections.specs.declared.version.TableVersion.TheVariants.{V4}
 use Rattle.sst_blocks.proofs.Grown.{none, first, then, same, front}
-use Rattle.sst_blocks.proofs.data_block.encode.put_entry.Goals as goal
+use Rattle.sst_blocks.proofs.data_block.encode.InternalValueItem.put.Goals as goal
 
 -- the parts of an entry, one behind the other, spell it
 parts : (tag : ℕ) (old number key_len value_len key value : List ℕ)
@@ -22,14 +22,14 @@ spells item old tagged numbered keyed sized named new key value tag t k v e1 e2 
 
 pub returns : goal.returns
 returns g c =
-    let inside = c.item.inside in
+    let inside = c.self.inside in
     let item : Entry = record { user_key = inside.key.user_key; seqno = inside.key.seqno; kind = inside.key.value_type; value = inside.value } in
     let old = c.args.buf.now.items in
     record {
       ok = spells item old c.push.new.self.items c.put_u64.new.buf.items c.put_u32.new.buf.items c.put_u32-2.new.buf.items c.extend_from_slice.new.self.items c.extend_from_slice-2.new.self.items
           c.as_slice-key.result.now c.as_slice-value.result.now c.tag.result c.tag.ensures c.as_slice-key.ensures c.as_slice-value.ensures
           c.in_ok-push.ensures.items c.in_ok-put_u64.ensures.ok c.in_ok-put_u32.ensures.ok c.in_ok-put_u32-2.ensures.ok c.in_ok-extend_from_slice.ensures.items c.in_ok-extend_from_slice-2.ensures.items
-          ∙ ap (λ (entry : Entry). old ++ spelled V4 entry) c.item.view_is;
+          ∙ ap (λ (entry : Entry). old ++ spelled V4 entry) c.self.view_is;
       fits = record { number = search rules; key_len = omega arith; value_len = c.requires.value };
       front = front c.args.buf.now.ok.0 (then _ (then _ (then _ (then _ (then _ (first _ c.in_ok-push.ensures.items) c.in_ok-put_u64.ensures.ok) c.in_ok-put_u32.ensures.ok) c.in_ok-put_u32-2.ensures.ok) c.in_ok-extend_from_slice.ensures.items) c.in_ok-extend_from_slice-2.ensures.items);
       err = tt;

@@ -5,7 +5,7 @@ use Rattle.sst_blocks.specs.Handles.{handle_spelled}
 use Rattle.sst_sections.specs.Number.{le4, le8}
 use Rattle.sst_sections.specs.declared.version.TableVersion.TheVariants.{V4}
 use Rattle.sst_blocks.proofs.Grown.{none, first, then, same, front}
-use Rattle.sst_blocks.proofs.index_block.encode.put_handle.Goals as goal
+use Rattle.sst_blocks.proofs.index_block.encode.KeyedBlockHandleItem.put.Goals as goal
 
 -- the parts of a handle, one behind the other, spell it
 parts : (old number offset size key_len key : List ℕ) → old ++ number ++ offset ++ size ++ key_len ++ key ≡ old ++ (number ++ offset ++ size ++ key_len ++ key)
@@ -21,7 +21,7 @@ spells handle old numbered placed sized keyed new key number offset size n o s k
 pub returns : goal.returns
 returns g c =
     record {
-      ok = spells c.args.handle.now c.args.buf.now.items c.put_u64.new.buf.items c.put_u64-2.new.buf.items c.put_u32.new.buf.items c.put_u32-2.new.buf.items c.extend_from_slice.new.self.items
+      ok = spells c.args.self.now c.args.buf.now.items c.put_u64.new.buf.items c.put_u64-2.new.buf.items c.put_u32.new.buf.items c.put_u32-2.new.buf.items c.extend_from_slice.new.self.items
           c.as_slice-end_key.result.now c.seqno.result c.offset.result.0 c.size.result c.seqno.ensures c.offset.ensures c.size.ensures (c.as_slice-end_key.ensures ∙ c.end_key.ensures)
           c.in_ok-put_u64.ensures.ok c.in_ok-put_u64-2.ensures.ok c.in_ok-put_u32.ensures.ok c.in_ok-put_u32-2.ensures.ok c.in_ok-extend_from_slice.ensures.items;
       fits = record { number = search rules; offset = search rules; size = search rules; key_len = omega arith };
