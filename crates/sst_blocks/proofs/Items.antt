@@ -10,36 +10,11 @@ use Rattle.std.proofs.lemmas.Option.{none-some, same_Some, cond_some, option_and
 use Rattle.std.proofs.Math.Nat.{mul-suc}
 use Rattle.sst_entries.specs.Entry.{Entry}
 use Rattle.sst_sections.specs.Number.{le4, num4}
+use Rattle.sst_blocks.specs.Format.{Advances, Format, IsFormat, in_order, items_at, items_in}
 use Rattle.sst_blocks.specs.Starts.{starts_of, SpellsAt}
 use Rattle.sst_entries.specs.Strict.{may_follow, IsStrictAfter, is_strict_after, last_of}
 use Rattle.sst_sections.proofs.Numbers.{IsBytes, IsBytes-drop, wide4}
 use Rattle.sst_entries.proofs.Strictness.{strict_from_test, test_from_strict, test_push, test_fails, last_push}
-
--- how an item is spelled and read, and the entry whose place in the order it has
-pub record Format (X : Type 0) : Type 0 where
-  pub spell : X → List ℕ
-  pub read : List ℕ → Option (X × List ℕ)
-  pub key : X → Entry
-
--- what is read is spelled so, and what is spelled so is read
-pub record IsFormat {X : Type 0} (f : Format X) (Fits : X → Type 0) : Type 0 where
-  pub takes : (bytes : List ℕ) (x : X) (rest : List ℕ) → IsBytes bytes → f.read bytes ≡ Some (x, rest) → (bytes ≡ f.spell x ++ rest) × Fits x
-  pub again : (x : X) (rest : List ℕ) → Fits x → f.read (f.spell x ++ rest) ≡ Some (x, rest)
-
--- n items that use the bytes up
-abbrev pub items_at : {X : Type 0} → (List ℕ → Option (X × List ℕ)) → ℕ → List ℕ → Option (List X)
-items_at read zero [] = Some []
-items_at read zero (b ∷ bytes) = None
-items_at {X} read (suc n) bytes = option_and_then (λ (x : X × List ℕ). option_map (λ xs. x.0 ∷ xs) (items_at read n x.1)) (read bytes)
-
-abbrev pub in_order : {X : Type 0} → Format X → List X → Bool
-in_order f xs = is_strict_after None (map f.key xs)
-
--- the strict list of items that a payload spells
-abbrev pub items_in : {X : Type 0} → Format X → List ℕ → Option (List X)
-items_in f bytes =
-    if nat_lt (length bytes) 4 then None
-    else option_and_then (λ xs. if in_order f xs then Some xs else None) (items_at f.read (num4 bytes) (drop 4 bytes))
 
 -- ---- starts
 
@@ -256,10 +231,6 @@ module _ {X : Type 0} (f : Format X) where
 
 -- ---- what stands at a start
 
--- an item is read from as many bytes as its spelling has
-abbrev pub Advances : {X : Type 0} → Format X → Type 0
-Advances {X} f = (bytes : List ℕ) (x : X) (rest : List ℕ) → f.read bytes ≡ Some (x, rest) → (rest ≡ drop (length (f.spell x)) bytes) × (length (f.spell x) ≤ length bytes)
-
 -- the item is read from the place on
 pub record Here {X : Type 0} (f : Format X) (bytes : List ℕ) (at : ℕ) (x : X) : Type 0 where
   pub rest : List ℕ
@@ -337,8 +308,3 @@ module _ {X : Type 0} (f : Format X) (advances : Advances f) where
   -- what a payload spells is strict
   pub items_strict : (bytes : List ℕ) (xs : List X) → items_in f bytes ≡ Some xs → IsStrictAfter None (map f.key xs)
   items_strict bytes xs are = strict_from_test None (map f.key xs) (items_read bytes xs are).2
-
--- functions that answer the same make chains that do
-pub and_then_same : {A B : Type 0} (f g : A → Option B) → ((x : A) → f x ≡ g x) → (o : Option A) → option_and_then f o ≡ option_and_then g o
-and_then_same f g same None = refl
-and_then_same f g same (Some x) = same x

@@ -20,6 +20,7 @@ mod find;
 mod iter;
 
 use crate::item::{block_bound, encode};
+use crate::reading::starts_in;
 use crate::starts::{Starts, has_room_for};
 use crate::{Block, Error, InternalValue, SeqNo, Slice, TableVersion};
 pub(crate) use entry_ref::head_len as entry_head_len;
@@ -27,7 +28,6 @@ use entry_ref::{EntryRef, head_len, read_entry, read_key};
 pub(crate) use find::{find_entry, share_entry};
 pub use iter::Iter;
 use sst_entries::compare_versions;
-use sst_sections::number::u32_at;
 use std::alloc::{AllocError, Allocator, Global};
 use std::marker::Model;
 
@@ -82,6 +82,8 @@ pub(crate) fn has_entry_room(version: TableVersion, payload: &[u8]) -> bool
 /// Where the entries of a payload begin, which has room for as many as it counts. Refused
 /// [`Error::InvalidBlock`] where the payload does not spell a strict list of entries, and
 /// [`Error::OutOfMemory`]. Where it was tested before that it does, no keys are compared.
+#[inline]
+#[tactic(auto, unfolding(crate::specs::Reading::entries_in))]
 pub(crate) fn entry_starts<A: Allocator>(
     alloc: A,
     version: TableVersion,
@@ -95,26 +97,7 @@ pub(crate) fn entry_starts<A: Allocator>(
     ensures fault { IfErr result (λ e. is_memory e ≡ false →
         (e ≡ InvalidBlock) × (entries_in version payload.now ≡ None)) }
 {
-    let count = u32_at(payload);
-    let mut starts = Vec::with_capacity(alloc, count as usize)?;
-    let mut rest = &payload[4..];
-    let mut last: Option<EntryRef<'_>> = None;
-    for _ in 0..count {
-        let start = (payload.len() - rest.len()) as u32;
-        let Some((entry, after)) = read_entry(version, rest) else {
-            return Err(Error::InvalidBlock);
-        };
-        if !is_tested && !entry.may_follow(&last) {
-            return Err(Error::InvalidBlock);
-        }
-        starts.push(start)?;
-        last = Some(entry);
-        rest = after;
-    }
-    if !rest.is_empty() {
-        return Err(Error::InvalidBlock);
-    }
-    Ok(starts)
+    starts_in::<EntryRef<'_>, A>(alloc, version, payload, is_tested)
 }
 
 /// An upper bound on the length of the block of these entries, with its header, in bytes. It stays at `u64::MAX` where

@@ -12,6 +12,7 @@ mod item;
 mod loads;
 mod marks;
 mod opened;
+mod reading;
 mod source;
 mod starts;
 
