@@ -14,7 +14,8 @@ use Rattle.sst_entries.specs.Kind.{tag_of, kind_of}
 use Rattle.sst_sections.specs.Number.{le4, le8, num4, num8}
 use Rattle.sst_blocks.specs.Payload.{entry_head, spelled, payload, IsSpellable, AreSpellable}
 use Rattle.sst_blocks.specs.Format.{Advances, IsFormat, items_in}
-use Rattle.sst_blocks.specs.Reading.{parts_at, entry_at, entries_in, entry_format, key_and_number}
+use Rattle.sst_blocks.specs.Reading.{parts_at, entry_at, entries_in, key_and_number}
+pub use Rattle.sst_blocks.specs.Reading.{entry_format}
 use Rattle.sst_blocks.specs.Starts.{starts_of, EntriesAt}
 use Rattle.sst_entries.specs.Strict.{IsStrict, IsStrictAfter, is_strict_after}
 use Rattle.sst_sections.specs.Version.{key_width, key_limit, key_len_bytes, key_len_at}
