@@ -1,5 +1,5 @@
 -- Items of a payload, whatever an item is: how one is spelled and read, and the strict list that a payload spells.
-use Rattle.std.specs.Prelude.{◌≡◌, ℕ, zero, suc, ◌<◌, ◌≤◌, Bool, List, [], ◌∷◌, ◌++◌, length, drop, map, slice_index, nat_lt, Option, Some, None, option_and_then, if◌then◌else◌}
+use Rattle.std.specs.Prelude.{◌≡◌, ℕ, zero, suc, ◌<◌, ◌≤◌, Bool, List, [], ◌∷◌, ◌++◌, length, drop, map, slice_index, nat_lt, Option, Some, None, option_and_then, unwrap_or, if◌then◌else◌}
 use Rattle.std.specs.Option.{option_map}
 use Rattle.sst_entries.specs.Entry.{Entry}
 use Rattle.sst_entries.specs.Strict.{is_strict_after}
@@ -40,3 +40,7 @@ items_in f bytes =
     if nat_lt (length bytes) 4 then None
     else option_and_then (λ xs. if in_order f xs then Some xs else None)
     (items_at f.read (num4 bytes) (drop 4 bytes))
+
+-- the list, or nothing
+abbrev pub items_of : {X : Type 0} → Format X → List ℕ → List X
+items_of f bytes = unwrap_or (items_in f bytes) []

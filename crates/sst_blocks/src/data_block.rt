@@ -20,11 +20,11 @@ mod find;
 mod iter;
 
 use crate::item::{block_bound, encode};
-use crate::reading::starts_in;
+use crate::reading::{front_len, item_at, key_at, starts_in};
 use crate::starts::{Starts, has_room_for};
 use crate::{Block, Error, InternalValue, SeqNo, Slice, TableVersion};
 pub(crate) use entry_ref::head_len as entry_head_len;
-use entry_ref::{EntryRef, head_len, read_entry, read_key};
+use entry_ref::{EntryRef, head_len};
 pub(crate) use find::{find_entry, share_entry};
 pub use iter::Iter;
 use sst_entries::compare_versions;
@@ -167,27 +167,23 @@ impl<A: Allocator> DataBlock<A> {
     }
 
     #[inline(always)]
+    #[tactic(auto, unfolding(crate::specs::Reading::entries_in))]
     fn entry_ref(&self, index: usize) -> EntryRef<'_>
         requires { index < length self.now }
         ensures { slice_get self.now index ≡ Some (entry_of_ref result) }
     {
-        let start = self.starts.at(index);
-        let bytes = self.payload.as_slice();
-        match read_entry(self.version, &bytes[start..]) {
-            Some((entry, _)) => entry,
-            None => unreachable!(),
-        }
+        item_at(self.version, self.payload.as_slice(), &self.starts, index)
     }
 
     /// The key and the number of the entry of a place, which are all that a search reads of it.
     #[inline(always)]
+    #[tactic(auto, unfolding(crate::specs::Reading::entries_in))]
     pub fn key_at(&self, index: usize) -> (&[u8], SeqNo)
         requires { index < length self.now }
         ensures { option_map key_and_number (slice_get self.now index)
             ≡ Some (result.0.now, result.1) }
     {
-        let start = self.starts.at(index);
-        read_key(self.version, &self.payload.as_slice()[start..])
+        key_at::<EntryRef<'_>, A>(self.version, self.payload.as_slice(), &self.starts, index)
     }
 
     // The entry that was read at a place. Its key and value share the block's memory.
@@ -222,18 +218,8 @@ impl<A: Allocator> DataBlock<A> {
             let q = λ (e : Entry). p e.user_key e.seqno in
             IsPartitionedBy q self.now → result ≡ front_length q self.now }
     {
-        let mut low = 0;
-        let mut high = self.len();
-        while low < high {
-            let middle = low + (high - low) / 2;
-            let (user_key, seqno) = self.key_at(middle);
-            if passes(user_key, seqno) {
-                low = middle + 1;
-            } else {
-                high = middle;
-            }
-        }
-        low
+        let payload = self.payload.as_slice();
+        front_len::<EntryRef<'_>, A, P>(self.version, payload, &self.starts, passes)
     }
 
     /// How many entries stand below a key: the place of the first entry of the key or of a greater one.

@@ -18,12 +18,13 @@ mod iter;
 mod read;
 
 use crate::item::{block_bound, encode};
+use crate::reading::{front_len, item_at};
 use crate::starts::Starts;
 use crate::{Block, BlockHandle, BlockOffset, Error, KeyedBlockHandle, SeqNo, Slice, TableVersion};
 pub(crate) use find::find_handle;
 pub use iter::Iter;
 pub(crate) use read::{handle_starts, has_handle_room};
-use read::{HandleRef, head_len, read_end_key, read_handle};
+use read::{HandleRef, head_len};
 use sst_entries::compare_versions;
 use std::alloc::{AllocError, Allocator, Global};
 use std::marker::Model;
@@ -107,27 +108,12 @@ impl<A: Allocator> IndexBlock<A> {
 
     // The handle at a place, without a count of its sharers.
     #[inline(always)]
+    #[tactic(auto, unfolding(crate::specs::Handles::handles_in))]
     fn handle_ref(&self, index: usize) -> HandleRef<'_>
         requires { index < length self.now }
         ensures { slice_get self.now index ≡ Some (handle_of_ref result) }
     {
-        let start = self.starts.at(index);
-        let bytes = self.payload.as_slice();
-        match read_handle(self.version, &bytes[start..]) {
-            Some((handle, _)) => handle,
-            None => unreachable!(),
-        }
-    }
-
-    // The end key and the number of the handle of a place, which are all that a search reads of it.
-    #[inline(always)]
-    fn end_key_at(&self, index: usize) -> (&[u8], SeqNo)
-        requires { index < length self.now }
-        ensures { option_map (λ h. key_and_number (end_of h)) (slice_get self.now index)
-            ≡ Some (result.0.now, result.1) }
-    {
-        let start = self.starts.at(index);
-        read_end_key(self.version, &self.payload.as_slice()[start..])
+        item_at(self.version, self.payload.as_slice(), &self.starts, index)
     }
 
     /// The handle at a place, whose end key shares the block's bytes. Refused [`Error::OutOfMemory`] alone.
@@ -160,18 +146,13 @@ impl<A: Allocator> IndexBlock<A> {
         ensures within { result ≤ length self.now }
         ensures strict { AreStrictHandles self.now }
     {
-        let mut low = 0;
-        let mut high = self.len();
-        while low < high {
-            let middle = low + (high - low) / 2;
-            let (end_key, number) = self.end_key_at(middle);
-            if compare_versions(key, seqno, end_key, number).is_lt() {
-                high = middle;
-            } else {
-                low = middle + 1;
-            }
-        }
-        low
+        let payload = self.payload.as_slice();
+        front_len::<HandleRef<'_>, A, _>(
+            self.version,
+            payload,
+            &self.starts,
+            move |end_key, number| !compare_versions(key, seqno, end_key, number).is_lt(),
+        )
     }
 
     /// How many handles stand before the first whose end key is greater than a key.

@@ -2,22 +2,25 @@
 ghost use Rattle.std.specs.Prelude.{◌≡◌, ◌<◌, ◌≤◌, ◌^◌, None, true, false, length, is_some};
 ghost use Rattle.std.specs.Prelude.{IfErr, IfOk, IsTrue};
 ghost use Rattle.sst_blocks.specs.Format.{items_in};
-ghost use Rattle.sst_blocks.specs.Starts.{SpellsAt};
+ghost use Rattle.sst_blocks.specs.Starts.{ItemsAt};
 ghost use Rattle.sst_entries.specs.Error.{is_memory};
 ghost use Rattle.sst_entries.specs.declared.error.Error.TheVariants.{InvalidBlock};
 
 mod find;
+mod places;
 
 use crate::{Error, SeqNo, TableVersion};
 pub(crate) use find::find_item;
+pub(crate) use places::{front_len, item_at, key_at};
 use sst_sections::number::u32_at;
 use std::alloc::Allocator;
 
 /// An entry or a handle whose parts lie in borrowed bytes.
 pub(crate) trait ItemRef<'a>: Copy {
-    ghost use Rattle.std.specs.Prelude.{◌≡◌, Option};
+    ghost use Rattle.std.specs.Prelude.{◌≡◌, Option, Some, None};
     ghost use Rattle.std.specs.Option.{option_map};
     ghost use Rattle.sst_blocks.specs.Format.{Advances, Format, IsFormat};
+    ghost use Rattle.sst_blocks.specs.Reading.{key_and_number};
     ghost use Rattle.sst_entries.specs.Point.{read_place};
     ghost use Rattle.sst_entries.specs.Strict.{is_before, may_follow};
     ghost use Rattle.sst_sections.specs.declared.version.TableVersion.{TableVersion};
@@ -37,6 +40,13 @@ pub(crate) trait ItemRef<'a>: Copy {
     fn read(version: TableVersion, bytes: &'a [u8]) -> Option<(Self, &'a [u8])>
         ensures { option_map (λ x. (told x.0, x.1.now)) result ≡
             (format version).read bytes.now };
+
+    /// The key and the number of the item at the front of some bytes.
+    fn read_key(version: TableVersion, bytes: &'a [u8]) -> (&'a [u8], SeqNo)
+        requires { (format version).read bytes.now ≡ None → ⊥ }
+        ensures { let key = λ (x : Told). key_and_number ((format version).key x) in
+            option_map (λ x. key x.0) ((format version).read bytes.now)
+            ≡ Some (result.0.now, result.1) };
 
     /// Whether the item may stand after another, or at the front.
     fn may_follow(&self, last: &Option<Self>) -> bool
@@ -66,8 +76,8 @@ pub(crate) fn starts_in<'a, R: ItemRef<'a>, A: Allocator>(
     requires long { 4 ≤ length payload.now }
     requires short { length payload.now < 2 ^ 32 }
     requires tested { IsTrue is_tested → is_some (items_in (R.format version) payload.now) ≡ true }
-    ensures found { let f = R.format version in IfOk result (λ starts.
-        SpellsAt R.Told f.spell (items_in f payload.now) payload.now starts.items) }
+    ensures found { IfOk result (λ starts.
+        ItemsAt (R.format version) payload.now starts.items) }
     ensures fault { IfErr result (λ e. is_memory e ≡ false →
         (e ≡ InvalidBlock) × (items_in (R.format version) payload.now ≡ None)) }
 {

@@ -51,5 +51,6 @@ impl<A: Allocator> Item for InternalValue<A> {
         Ok(())
     }
 
+    #[inline(always)]
     fn takes() {}
 }

@@ -106,6 +106,11 @@ impl<'a> ItemRef<'a> for EntryRef<'a> {
         read_entry(version, bytes)
     }
 
+    #[inline(always)]
+    fn read_key(version: TableVersion, bytes: &'a [u8]) -> (&'a [u8], SeqNo) {
+        read_key(version, bytes)
+    }
+
     #[inline]
     fn may_follow(&self, last: &Option<EntryRef<'a>>) -> bool {
         match last {
@@ -119,6 +124,7 @@ impl<'a> ItemRef<'a> for EntryRef<'a> {
         compare_versions(key, seqno, self.key, self.seqno).is_lt()
     }
 
+    #[inline(always)]
     fn is_format(version: TableVersion)
         ensures law { IsFormat (entry_format version) (IsSpellable version) }
         ensures advances { Advances (entry_format version) }

@@ -45,5 +45,6 @@ impl<A: Allocator> Item for KeyedBlockHandle<A> {
         Ok(())
     }
 
+    #[inline(always)]
     fn takes() {}
 }

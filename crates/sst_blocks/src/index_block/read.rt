@@ -93,6 +93,11 @@ impl<'a> ItemRef<'a> for HandleRef<'a> {
         read_handle(version, bytes)
     }
 
+    #[inline(always)]
+    fn read_key(version: TableVersion, bytes: &'a [u8]) -> (&'a [u8], SeqNo) {
+        read_end_key(version, bytes)
+    }
+
     #[inline]
     fn may_follow(&self, last: &Option<HandleRef<'a>>) -> bool {
         match last {
@@ -108,6 +113,7 @@ impl<'a> ItemRef<'a> for HandleRef<'a> {
         compare_versions(key, seqno, self.end_key, self.seqno).is_lt()
     }
 
+    #[inline(always)]
     fn is_format(version: TableVersion)
         ensures law { IsFormat (handle_format version) (IsSpellableHandle version) }
         ensures advances { Advances (handle_format version) }

@@ -6,21 +6,17 @@ use Rattle.sst_entries.specs.Strict.{is_before}
 use Rattle.sst_blocks.specs.Handle.{Handle}
 use Rattle.sst_blocks.specs.Handles.{end_of, handles_in, reaches}
 use Rattle.sst_blocks.specs.SeenHandle.{handle_of_ref}
-use Rattle.sst_blocks.proofs.Reaching.{reaches_after}
+use Rattle.sst_blocks.proofs.Reaching.{reach_before}
 use Rattle.sst_blocks.proofs.index_block.find.find_handle.Goals as goal
-
--- a handle reaches a key where a read of the key comes before its end
-same : (key : List ℕ) (n : ℕ) → (λ (h : Handle). is_before (read_place key n) (end_of h)) ≡ reaches key n
-same key n = λ i h. sym (reaches_after key n h) i
 
 pub returns-in-Some-clause-found : goal.returns-in-Some-clause-found
 unfolding handles_in
 returns-in-Some-clause-found c =
     sym (ap (option_map (λ x. handle_of_ref x.1)) c.in-Some.is) ∙ c.in_ok-found.ensures.found
-    ∙ ap (λ (p : Handle → Bool). find p (unwrap_or (handles_in c.args.version c.args.payload.now) [])) (same c.args.key.now c.args.seqno)
+    ∙ ap (λ (p : Handle → Bool). find p (unwrap_or (handles_in c.args.version c.args.payload.now) [])) (sym (reach_before c.args.key.now c.args.seqno))
 
 pub returns-in-None-clause-found : goal.returns-in-None-clause-found
 unfolding handles_in
 returns-in-None-clause-found c =
     sym (ap (option_map (λ x. handle_of_ref x.1)) c.in-None.is) ∙ c.in_ok-found.ensures.found
-    ∙ ap (λ (p : Handle → Bool). find p (unwrap_or (handles_in c.args.version c.args.payload.now) [])) (same c.args.key.now c.args.seqno)
+    ∙ ap (λ (p : Handle → Bool). find p (unwrap_or (handles_in c.args.version c.args.payload.now) [])) (sym (reach_before c.args.key.now c.args.seqno))
