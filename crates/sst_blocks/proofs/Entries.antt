@@ -13,12 +13,14 @@ use Rattle.sst_entries.specs.Entry.{Entry, entry}
 use Rattle.sst_entries.specs.Kind.{tag_of, kind_of}
 use Rattle.sst_sections.specs.Number.{le4, le8, num4, num8}
 use Rattle.sst_blocks.specs.Payload.{entry_head, spelled, payload, IsSpellable, AreSpellable}
-use Rattle.sst_blocks.specs.Reading.{parts_at, entry_at, entries_at, entries_in, key_and_number}
+use Rattle.sst_blocks.specs.Format.{Advances, IsFormat, items_in}
+use Rattle.sst_blocks.specs.Reading.{parts_at, entry_at, entries_in, key_and_number}
+pub use Rattle.sst_blocks.specs.Reading.{entry_format}
 use Rattle.sst_blocks.specs.Starts.{starts_of, EntriesAt}
 use Rattle.sst_entries.specs.Strict.{IsStrict, IsStrictAfter, is_strict_after}
 use Rattle.sst_sections.specs.Version.{key_width, key_limit, key_len_bytes, key_len_at}
 use Rattle.sst_sections.proofs.Numbers.{IsBytes, IsBytes-drop, wide4, wide8, key_wide}
-use Rattle.sst_blocks.proofs.Items.{Format, IsFormat, Advances, Here, items_at, items_in, in_order, guard_some, items_in_take, items_in_again, items_strict, item_holds, length-starts, and_then_same}
+use Rattle.sst_blocks.proofs.Items.{Here, guard_some, items_in_take, items_in_again, items_strict, item_holds, length-starts}
 
 -- ---- kinds and their tags
 
@@ -149,30 +151,12 @@ entry_again v e rest fits =
 
 -- ---- payloads of entries
 
-abbrev pub entry_format : TableVersion → Format Entry
-entry_format v = record { spell = spelled v; read = entry_at v; key = λ e. e }
-
 pub entries_format : (v : TableVersion) → IsFormat (entry_format v) (IsSpellable v)
 entries_format v = record { takes = entry_takes v; again = entry_again v }
 
-entries_at_same : (v : TableVersion) (n : ℕ) (bytes : List ℕ) → entries_at v n bytes ≡ items_at (entry_at v) n bytes
-unfolding entries_at
-entries_at_same v zero [] = refl
-entries_at_same v zero (b ∷ bytes) = refl
-entries_at_same v (suc n) bytes =
-    and_then_same (λ (x : Entry × List ℕ). option_map (λ es. x.0 ∷ es) (entries_at v n x.1)) (λ (x : Entry × List ℕ). option_map (λ es. x.0 ∷ es) (items_at (entry_at v) n x.1))
-    (λ x. ap (option_map (λ es. x.0 ∷ es)) (entries_at_same v n x.1)) (entry_at v bytes)
-
 pub entries_in_same : (v : TableVersion) (bytes : List ℕ) → entries_in v bytes ≡ items_in (entry_format v) bytes
 unfolding entries_in
-entries_in_same v bytes =
-    let tested = λ (es : List Entry). if is_strict_after None es then Some es else None in
-    let ordered = λ (es : List Entry). if in_order (entry_format v) es then Some es else None in
-    let same : (es : List Entry) → tested es ≡ ordered es = λ es. ap (λ (xs : List Entry). if is_strict_after None xs then Some es else None) (sym (map-id es)) in
-    let o = entries_at v (num4 bytes) (drop 4 bytes) in
-    let read : option_and_then tested o ≡ option_and_then ordered (items_at (entry_at v) (num4 bytes) (drop 4 bytes)) =
-    and_then_same tested ordered same o ∙ ap (option_and_then ordered) (entries_at_same v (num4 bytes) (drop 4 bytes)) in
-    ap (cond (ltb (length bytes) 4) None) read
+entries_in_same v bytes = refl
 
 -- what a payload spells is its list
 pub entries_spelled : (v : TableVersion) (bytes : List ℕ) (es : List Entry) → IsBytes bytes → entries_in v bytes ≡ Some es → (bytes ≡ payload v es) × AreSpellable v es × IsStrict es

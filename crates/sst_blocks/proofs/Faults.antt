@@ -1,14 +1,19 @@
--- The first entry that is too long, found from the left; what is written of entries that are not.
-use Rattle.std.proofs.Common.{◌≡◌, ℕ, zero, suc, ◌+◌, ◌^◌, ◌<◌, ◌≤◌, Bool, true, false, cond, ltb, leb, List, [], ◌∷◌, ◌++◌, length, get_or, take, drop, Option, Some, None, refl, sym, ap, ◌∙◌, arith}
-use Rattle.std.specs.List.{AllByRecursion}
-use Rattle.std.proofs.lemmas.Bool.{lt-ltb, le-ltb, ltb-false}
-use Rattle.std.proofs.lemmas.List.{drop_more, drop_all, length-append, take-take, take_at}
-use Rattle.sst_entries.specs.declared.error.Error.{Error}
-use Rattle.sst_entries.specs.declared.error.Error.TheVariants.{KeyTooLong, ValueTooLong, BlockTooLarge}
-use Rattle.sst_blocks.specs.Bounds.{data_block_bound_of}
-use Rattle.sst_blocks.specs.Encoding.{length_fault, large_fault, entries_fault}
+-- What encoding a list of items refuses, found from the left, and how long the payload of a list without a fault is.
+use Rattle.std.proofs.Common.{◌≡◌, ℕ, zero, suc, ◌+◌, ◌^◌, ◌<◌, ◌≤◌, Bool, true, false, cond, leb, List, [], ◌∷◌, ◌++◌, length, get_or, drop, take, Option, Some, None, refl, sym, ap, subst, ◌∙◌, arith}
+use Rattle.std.specs.Prelude.{Result, Ok, Err, OnOk}
 use Rattle.std.specs.Option.{option_or}
-use Rattle.sst_entries.specs.Entry.{Entry}
+use Rattle.std.specs.Result.{IsErrAnd}
+use Rattle.sst_entries.specs.Error.{Refuses}
+use Rattle.std.specs.List.{flat_map, sum_by, AllByRecursion}
+use Rattle.std.proofs.lemmas.List.{drop_more, drop_all, length-append, take-take, take_at}
+use Rattle.std.proofs.lemmas.List.Sums.{sum_by-cons}
+use Rattle.sst_entries.specs.declared.error.Error.{Error}
+use Rattle.sst_entries.specs.declared.error.Error.TheVariants.{BlockTooLarge}
+use Rattle.sst_sections.specs.Number.{le4}
+use Rattle.sst_blocks.specs.Bounds.{bound_of}
+use Rattle.sst_blocks.specs.Encoding.{first_fault, items_fault, large_fault}
+use Rattle.sst_blocks.specs.Payload.{items_payload}
+use Rattle.sst_sections.proofs.Numbers.{wide4}
 
 lt-leb : (a b : ℕ) → a < b → leb b a ≡ false
 lt-leb a b lt = grind arith
@@ -16,66 +21,60 @@ lt-leb a b lt = grind arith
 le-leb : (a b : ℕ) → a ≤ b → leb a b ≡ true
 le-leb a b le = grind arith
 
--- the fault of an entry, or of those behind it
-fault_of_key : (e : Entry) (es : List Entry) → 1048576 < length e.user_key → length_fault (e ∷ es) ≡ Some KeyTooLong
-fault_of_key e es long = let k : ltb 1048576 (length e.user_key) ≡ true = lt-ltb _ _ long in rw k refl
+module _ {X : Type 0} (fault_or : X → Option Error → Option Error) (bound : X → ℕ) where
+  split_at : (xs : List X) (i : ℕ) (x : X) → i < length xs → x ≡ get_or xs i x → drop i xs ≡ x ∷ drop (i + 1) xs
+  split_at xs i x lt is = drop_more xs i x lt ∙ ap (λ (y : X). y ∷ drop (i + 1) xs) (sym is)
 
-fault_of_value : (e : Entry) (es : List Entry) → length e.user_key ≤ 1048576 → 2 ^ 32 ≤ length e.value → length_fault (e ∷ es) ≡ Some ValueTooLong
-fault_of_value e es key long =
-    let k : ltb 1048576 (length e.user_key) ≡ false = le-ltb _ _ key in
-    let m : leb (2 ^ 32) (length e.value) ≡ true = le-leb _ _ long in
-    rw (k, m) refl
+  pub fault_at : (xs : List X) (i : ℕ) (x : X) (e : Error) → first_fault fault_or xs ≡ first_fault fault_or (drop i xs) → i < length xs → x ≡ get_or xs i x
+      → ((later : Option Error) → fault_or x later ≡ Some e) → items_fault fault_or bound xs ≡ Some e
+  fault_at xs i x e fine lt is told =
+      let here : first_fault fault_or xs ≡ Some e = fine ∙ ap (first_fault fault_or) (split_at xs i x lt is) ∙ told (first_fault fault_or (drop (i + 1) xs)) in
+      ap (λ (o : Option Error). option_or o (large_fault (bound_of bound xs))) here
 
-fault_behind : (e : Entry) (es : List Entry) → length e.user_key ≤ 1048576 → length e.value < 2 ^ 32 → length_fault (e ∷ es) ≡ length_fault es
-fault_behind e es key value =
-    let k : ltb 1048576 (length e.user_key) ≡ false = le-ltb _ _ key in
-    let m : leb (2 ^ 32) (length e.value) ≡ false = lt-leb _ _ value in
-    rw (k, m) refl
+  pub no_fault_at : (xs : List X) (i : ℕ) (x : X) → first_fault fault_or xs ≡ first_fault fault_or (drop i xs) → i < length xs → x ≡ get_or xs i x
+      → ((later : Option Error) → fault_or x later ≡ later) → first_fault fault_or xs ≡ first_fault fault_or (drop (i + 1) xs)
+  no_fault_at xs i x fine lt is none = fine ∙ ap (first_fault fault_or) (split_at xs i x lt is) ∙ none (first_fault fault_or (drop (i + 1) xs))
 
-split_at : (es : List Entry) (i : ℕ) (e : Entry) → i < length es → e ≡ get_or es i e → drop i es ≡ e ∷ drop (i + 1) es
-split_at es i e lt is = drop_more es i e lt ∙ ap (λ (x : Entry). x ∷ drop (i + 1) es) (sym is)
+  none_left : (xs : List X) (i : ℕ) → first_fault fault_or xs ≡ first_fault fault_or (drop i xs) → length xs ≤ i → first_fault fault_or xs ≡ None
+  none_left xs i fine le = fine ∙ ap (first_fault fault_or) (drop_all i xs le)
 
-pub key_fault_at : (es : List Entry) (i : ℕ) (e : Entry) → length_fault es ≡ length_fault (drop i es) → i < length es → e ≡ get_or es i e → 1048576 < length e.user_key → Some KeyTooLong ≡ length_fault es
-key_fault_at es i e fine lt is long = sym (fine ∙ ap length_fault (split_at es i e lt is) ∙ fault_of_key e (drop (i + 1) es) long)
+  pub too_large : (xs : List X) (i : ℕ) → first_fault fault_or xs ≡ first_fault fault_or (drop i xs) → length xs ≤ i → 2 ^ 32 ≤ bound_of bound xs → items_fault fault_or bound xs ≡ Some BlockTooLarge
+  too_large xs i fine le large =
+      let k : leb (2 ^ 32) (bound_of bound xs) ≡ true = le-leb _ _ large in
+      ap (λ (o : Option Error). option_or o (large_fault (bound_of bound xs))) (none_left xs i fine le) ∙ ap (λ (b : Bool). cond b (Some BlockTooLarge) None) k
 
-pub value_fault_at : (es : List Entry) (i : ℕ) (e : Entry) → length_fault es ≡ length_fault (drop i es) → i < length es → e ≡ get_or es i e → length e.user_key ≤ 1048576 → 2 ^ 32 ≤ length e.value → Some ValueTooLong ≡ length_fault es
-value_fault_at es i e fine lt is key long = sym (fine ∙ ap length_fault (split_at es i e lt is) ∙ fault_of_value e (drop (i + 1) es) key long)
+  pub no_fault : (xs : List X) (i : ℕ) → first_fault fault_or xs ≡ first_fault fault_or (drop i xs) → length xs ≤ i → bound_of bound xs < 2 ^ 32 → items_fault fault_or bound xs ≡ None
+  no_fault xs i fine le small =
+      let k : leb (2 ^ 32) (bound_of bound xs) ≡ false = lt-leb _ _ small in
+      ap (λ (o : Option Error). option_or o (large_fault (bound_of bound xs))) (none_left xs i fine le) ∙ ap (λ (b : Bool). cond b (Some BlockTooLarge) None) k
 
-pub no_fault_at : (es : List Entry) (i : ℕ) (e : Entry) → length_fault es ≡ length_fault (drop i es) → i < length es → e ≡ get_or es i e → length e.user_key ≤ 1048576 → length e.value < 2 ^ 32 → length_fault es ≡ length_fault (drop (i + 1) es)
-no_fault_at es i e fine lt is key value = fine ∙ ap length_fault (split_at es i e lt is) ∙ fault_behind e (drop (i + 1) es) key value
+-- ---- lengths
 
-pub no_fault_left : (es : List Entry) (i : ℕ) → length_fault es ≡ length_fault (drop i es) → length es ≤ i → None ≡ length_fault es
-no_fault_left es i fine le = sym (fine ∙ ap length_fault (drop_all i es le))
+module _ {X : Type 0} (spell : X → List ℕ) (bound : X → ℕ) (takes : (x : X) → (length (spell x) ≡ bound x) × (0 < bound x)) where
+  spelled_sum : (xs : List X) → length (flat_map spell xs) ≡ sum_by bound xs
+  spelled_sum [] = refl
+  spelled_sum (x ∷ xs) = omega (arith, length-append (spell x) (flat_map spell xs), (takes x).0, spelled_sum xs, sum_by-cons bound x xs)
 
-pub length_fault_first : (es : List Entry) (e : Error) → Some e ≡ length_fault es → entries_fault es ≡ Some e
-length_fault_first es e first = ap (λ (o : Option Error). option_or o (large_fault (data_block_bound_of es))) (sym first)
+  count_sum : (xs : List X) → length xs ≤ sum_by bound xs
+  count_sum [] = omega arith
+  count_sum (x ∷ xs) = omega (arith, (takes x).1, count_sum xs, sum_by-cons bound x xs)
 
-pub large_fault_next : (es : List Entry) → None ≡ length_fault es → 2 ^ 32 ≤ data_block_bound_of es → entries_fault es ≡ Some BlockTooLarge
-large_fault_next es none large =
-    let k : leb (2 ^ 32) (data_block_bound_of es) ≡ true = le-leb _ _ large in
-    ap (λ (o : Option Error). option_or o (large_fault (data_block_bound_of es))) (sym none) ∙ ap (λ (b : Bool). cond b (Some BlockTooLarge) None) k
+  -- a block that has room has few items, and its bound is its length
+  pub few : (xs : List X) → bound_of bound xs < 2 ^ 32 → length xs < 2 ^ 32
+  few xs small = omega (arith, count_sum xs)
 
-pub no_entries_fault : (es : List Entry) → None ≡ length_fault es → data_block_bound_of es < 2 ^ 32 → entries_fault es ≡ None
-no_entries_fault es none small =
-    let k : leb (2 ^ 32) (data_block_bound_of es) ≡ false = lt-leb _ _ small in
-    ap (λ (o : Option Error). option_or o (large_fault (data_block_bound_of es))) (sym none) ∙ ap (λ (b : Bool). cond b (Some BlockTooLarge) None) k
+  pub bound_is : (xs : List X) → bound_of bound xs < 2 ^ 32 → 24 + length (items_payload spell xs) ≡ bound_of bound xs
+  bound_is xs small = omega (arith, length-append (le4 (length xs)) (flat_map spell xs), wide4.len (length xs), spelled_sum xs)
 
--- without a fault no entry is too long
-pub record Short (e : Entry) : Type 0 where
-  pub key : length e.user_key ≤ 1048576
-  pub value : length e.value < 2 ^ 32
+-- ---- parts of lists
 
-first_short : (e : Entry) (b c : Bool) (o : Option Error) → ltb 1048576 (length e.user_key) ≡ b → leb (2 ^ 32) (length e.value) ≡ c → cond b (Some KeyTooLong) (cond c (Some ValueTooLong) o) ≡ None → Short e × (o ≡ None)
-first_short e true c o key value h = absurd cc
-first_short e false true o key value h = absurd cc
-first_short e false false o key value h = (record { key = ltb-false _ _ key; value = grind arith }, h)
+all_at : {X : Type 0} (P : X → Type 0) (xs : List X) (i : ℕ) (d : X) → AllByRecursion P xs → i < length xs → P (get_or xs i d)
+all_at P [] i d h lt = absurd (omega (arith, lt))
+all_at P (x ∷ xs) zero d h lt = h.0
+all_at P (x ∷ xs) (suc i) d h lt = all_at P xs i d h.1 (omega (arith, lt))
 
-pub short_at : (es : List Entry) (i : ℕ) (d : Entry) → length_fault es ≡ None → i < length es → Short (get_or es i d)
-short_at [] i d h lt = absurd (omega (arith, lt))
-short_at (e ∷ es) zero d h lt = (first_short e _ _ (length_fault es) refl refl h).0
-short_at (e ∷ es) (suc i) d h lt = short_at es i d (first_short e _ _ (length_fault es) refl refl h).1 (omega (arith, lt))
-
--- ---- fronts of lists
+pub all_here : {X : Type 0} (P : X → Type 0) (xs : List X) (i : ℕ) (x : X) → AllByRecursion P xs → i < length xs → x ≡ get_or xs i x → P x
+all_here P xs i x h lt is = subst P (sym is) (all_at P xs i x h lt)
 
 pub all_push : {X : Type 0} (P : X → Type 0) (xs : List X) (x : X) → AllByRecursion P xs → P x → AllByRecursion P (xs ++ x ∷ [])
 all_push P [] x h p = (p, tt)
@@ -86,3 +85,13 @@ pub front_again : (n m : ℕ) (a x b c : List ℕ) → length a ≡ n → length
 front_again n m a x b c la lb eb ec =
     let le : n ≤ m = omega (arith, ap length eb, length-append a x) in
     sym (take-take n m c le) ∙ ap (take n) (ec ∙ eb) ∙ take_at a x n la
+
+-- a fault that is passed on is refused with
+pub passed_on : {X : Type 0} (r : Result X Error) (e : Error) (told : Option Error) → IsErrAnd r (λ y. y ≡ e) → told ≡ Some e → Refuses r told
+passed_on (Ok x) e told is said = absurd is
+passed_on (Err y) e told is said = said ∙ ap (λ z. Some z) (sym is)
+
+-- what holds on success may be said in other words
+pub on_ok : {X E : Type 0} (P Q : Type 0) (r : Result X E) → OnOk r P → (P → Q) → OnOk r Q
+on_ok P Q (Ok x) holds more = more holds
+on_ok P Q (Err e) holds more = tt

@@ -8,12 +8,13 @@ use Rattle.std.proofs.lemmas.List.{take_at, drop_at, take-append-drop, length-ap
 use Rattle.std.proofs.lemmas.Option.{some_pair_parts, slice_get-get_or, slice_get_within, get_or_from_slice_get}
 use Rattle.sst_sections.specs.declared.version.TableVersion.{TableVersion}
 use Rattle.sst_blocks.specs.Handle.{Handle}
-use Rattle.sst_blocks.specs.Handles.{handle_head, handle_spelled, handles_payload, handle_at, handles_at, handles_in, IsSpellableHandle, AreSpellableHandles, AreStrictHandles, end_of}
+use Rattle.sst_blocks.specs.Handles.{handle_head, handle_spelled, handles_payload, handle_at, handle_format, handles_in, IsSpellableHandle, AreSpellableHandles, AreStrictHandles, end_of}
 use Rattle.sst_sections.specs.Number.{le4, le8, num4, num8}
 use Rattle.sst_blocks.specs.Reading.{key_and_number}
 use Rattle.sst_blocks.specs.Starts.{starts_of, HandlesAt}
 use Rattle.sst_sections.specs.Version.{key_width, key_limit, key_len_bytes, key_len_at}
-use Rattle.sst_blocks.proofs.Items.{Format, IsFormat, items_at, items_in, in_order, items_in_take, items_in_again, guard_some, Here, Advances, length-starts, item_holds, items_strict, and_then_same}
+use Rattle.sst_blocks.specs.Format.{Advances, IsFormat, items_in}
+use Rattle.sst_blocks.proofs.Items.{items_in_take, items_in_again, guard_some, Here, length-starts, item_holds, items_strict}
 use Rattle.sst_sections.proofs.Numbers.{IsBytes, IsBytes-drop, wide4, wide8, key_wide}
 
 -- the parts of a handle one after another, and then other bytes
@@ -91,26 +92,12 @@ handle_again v h rest fits =
 
 -- ---- lists of handles
 
--- handles are a format of items
-abbrev pub handle_format : TableVersion → Format Handle
-handle_format v = record { spell = handle_spelled v; read = handle_at v; key = end_of }
-
 pub handles_format : (v : TableVersion) → IsFormat (handle_format v) (IsSpellableHandle v)
 handles_format v = record { takes = handle_takes v; again = handle_again v }
 
-handles_at_same : (v : TableVersion) (n : ℕ) (bytes : List ℕ) → handles_at v n bytes ≡ items_at (handle_at v) n bytes
-unfolding handles_at
-handles_at_same v zero [] = refl
-handles_at_same v zero (b ∷ bytes) = refl
-handles_at_same v (suc n) bytes =
-    and_then_same (λ (x : Handle × List ℕ). option_map (λ hs. x.0 ∷ hs) (handles_at v n x.1)) (λ (x : Handle × List ℕ). option_map (λ hs. x.0 ∷ hs) (items_at (handle_at v) n x.1))
-    (λ x. ap (option_map (λ hs. x.0 ∷ hs)) (handles_at_same v n x.1)) (handle_at v bytes)
-
 pub handles_in_same : (v : TableVersion) (bytes : List ℕ) → handles_in v bytes ≡ items_in (handle_format v) bytes
 unfolding handles_in
-handles_in_same v bytes =
-    let ordered = λ (hs : List Handle). if in_order (handle_format v) hs then Some hs else None in
-    ap (cond (ltb (length bytes) 4) None) (ap (option_and_then ordered) (handles_at_same v (num4 bytes) (drop 4 bytes)))
+handles_in_same v bytes = refl
 
 -- what a payload spells is its list
 pub handles_spelled : (v : TableVersion) (bytes : List ℕ) (hs : List Handle) → IsBytes bytes → handles_in v bytes ≡ Some hs → (bytes ≡ handles_payload v hs) × AreSpellableHandles v hs × AreStrictHandles hs

@@ -1,45 +1,20 @@
 -- Payloads of items, whatever an item's format: one walk from the left, the two laws of reading, and what stands at each start.
 use Rattle.std.proofs.Common.{◌≡◌, ℕ, zero, suc, ◌+◌, ◌*◌, ◌-◌, ◌^◌, ◌<◌, ◌≤◌, Bool, true, false, cond, ltb, List, [], ◌∷◌, ◌++◌, length, get_or, drop, map, Option, Some, None, refl, sym, ap, subst, ◌∙◌, append_assoc, arith}
-use Rattle.std.specs.Prelude.{option_and_then, is_some, nat_lt, if◌then◌else◌}
-use Rattle.std.specs.List.{flat_map, AllByRecursion}
+use Rattle.std.specs.Prelude.{option_and_then, unwrap_or, is_some, nat_lt, if◌then◌else◌}
+use Rattle.std.specs.List.{flat_map, slice_get, AllByRecursion}
 use Rattle.std.specs.Option.{option_map}
 use Rattle.std.proofs.lemmas.Bool.{ltb-false, le-ltb}
 use Rattle.std.proofs.lemmas.List.{drop_at, drop-drop, length-append, length-drop, map_push, map-append, append-nil, nil_from_length}
 use Rattle.std.proofs.lemmas.List.Concat.{flat_map-append}
-use Rattle.std.proofs.lemmas.Option.{none-some, same_Some, cond_some, option_and_then_some}
+use Rattle.std.proofs.lemmas.Option.{none-some, same_Some, cond_some, option_and_then_some, slice_get-get_or, get_or_from_slice_get}
 use Rattle.std.proofs.Math.Nat.{mul-suc}
 use Rattle.sst_entries.specs.Entry.{Entry}
 use Rattle.sst_sections.specs.Number.{le4, num4}
-use Rattle.sst_blocks.specs.Starts.{starts_of, SpellsAt}
+use Rattle.sst_blocks.specs.Format.{Advances, Format, IsFormat, in_order, items_at, items_in, items_of}
+use Rattle.sst_blocks.specs.Starts.{starts_of, ItemsAt, SpellsAt}
 use Rattle.sst_entries.specs.Strict.{may_follow, IsStrictAfter, is_strict_after, last_of}
 use Rattle.sst_sections.proofs.Numbers.{IsBytes, IsBytes-drop, wide4}
 use Rattle.sst_entries.proofs.Strictness.{strict_from_test, test_from_strict, test_push, test_fails, last_push}
-
--- how an item is spelled and read, and the entry whose place in the order it has
-pub record Format (X : Type 0) : Type 0 where
-  pub spell : X → List ℕ
-  pub read : List ℕ → Option (X × List ℕ)
-  pub key : X → Entry
-
--- what is read is spelled so, and what is spelled so is read
-pub record IsFormat {X : Type 0} (f : Format X) (Fits : X → Type 0) : Type 0 where
-  pub takes : (bytes : List ℕ) (x : X) (rest : List ℕ) → IsBytes bytes → f.read bytes ≡ Some (x, rest) → (bytes ≡ f.spell x ++ rest) × Fits x
-  pub again : (x : X) (rest : List ℕ) → Fits x → f.read (f.spell x ++ rest) ≡ Some (x, rest)
-
--- n items that use the bytes up
-abbrev pub items_at : {X : Type 0} → (List ℕ → Option (X × List ℕ)) → ℕ → List ℕ → Option (List X)
-items_at read zero [] = Some []
-items_at read zero (b ∷ bytes) = None
-items_at {X} read (suc n) bytes = option_and_then (λ (x : X × List ℕ). option_map (λ xs. x.0 ∷ xs) (items_at read n x.1)) (read bytes)
-
-abbrev pub in_order : {X : Type 0} → Format X → List X → Bool
-in_order f xs = is_strict_after None (map f.key xs)
-
--- the strict list of items that a payload spells
-abbrev pub items_in : {X : Type 0} → Format X → List ℕ → Option (List X)
-items_in f bytes =
-    if nat_lt (length bytes) 4 then None
-    else option_and_then (λ xs. if in_order f xs then Some xs else None) (items_at f.read (num4 bytes) (drop 4 bytes))
 
 -- ---- starts
 
@@ -256,15 +231,25 @@ module _ {X : Type 0} (f : Format X) where
 
 -- ---- what stands at a start
 
--- an item is read from as many bytes as its spelling has
-abbrev pub Advances : {X : Type 0} → Format X → Type 0
-Advances {X} f = (bytes : List ℕ) (x : X) (rest : List ℕ) → f.read bytes ≡ Some (x, rest) → (rest ≡ drop (length (f.spell x)) bytes) × (length (f.spell x) ≤ length bytes)
-
 -- the item is read from the place on
 pub record Here {X : Type 0} (f : Format X) (bytes : List ℕ) (at : ℕ) (x : X) : Type 0 where
   pub rest : List ℕ
   pub found : f.read (drop at bytes) ≡ Some (x, rest)
   pub within : at + length (f.spell x) ≤ length bytes
+
+-- the list is as long as its starts
+pub many : {X : Type 0} (f : Format X) (bytes starts : List ℕ) → ItemsAt f bytes starts → length (items_of f bytes) ≡ length starts
+many {X} f bytes starts block = ap (λ (o : Option (List X)). length (unwrap_or o [])) block.are ∙ sym (ap length block.places ∙ length-starts f.spell 4 block.items)
+
+-- of the list that is spelled the item of a place, which is read from a start
+pub record Holds {X : Type 0} (f : Format X) (bytes : List ℕ) (i at : ℕ) : Type 0 where
+  pub item : X
+  pub there : slice_get (items_of f bytes) i ≡ Some item
+  pub here : Here f bytes at item
+
+some_at : {X : Type 0} (xs : List X) (i : ℕ) → i < length xs → (x : X) × (slice_get xs i ≡ Some x)
+some_at [] i lt = absurd (omega (arith, lt))
+some_at (x ∷ xs) i lt = (get_or (x ∷ xs) i x, slice_get-get_or (x ∷ xs) i x lt)
 
 module _ {X : Type 0} (f : Format X) (advances : Advances f) where
   no_items : (bytes : List ℕ) (x : X) (xs : List X) → items_at f.read 0 bytes ≡ Some (x ∷ xs) → ⊥
@@ -334,11 +319,17 @@ module _ {X : Type 0} (f : Format X) (advances : Advances f) where
       let h = start_holds (num4 bytes) bytes 4 xs i at b t.0 t.1 lt in
       subst (λ (n : ℕ). Here f bytes n (get_or xs i b)) (sym (is_at ∙ ap (λ (s : List ℕ). get_or s i at) places)) h
 
+  -- at each start stands the item of its place
+  pub holds : (bytes starts : List ℕ) (i at : ℕ) → ItemsAt f bytes starts → i < length starts → slice_get starts i ≡ Some at → Holds f bytes i at
+  holds bytes starts i at block lt is_at =
+      let many : i < length block.items = omega (arith, lt, ap length block.places, length-starts f.spell 4 block.items) in
+      let x = some_at block.items i many in
+      record {
+        item = x.0;
+        there = ap (λ (o : Option (List X)). slice_get (unwrap_or o []) i) block.are ∙ x.1;
+        here = subst (Here f bytes at) (get_or_from_slice_get block.items i x.0 x.0 x.1) (item_holds bytes starts block.items i at x.0 block.are block.places many (sym (get_or_from_slice_get starts i at at is_at)));
+      }
+
   -- what a payload spells is strict
   pub items_strict : (bytes : List ℕ) (xs : List X) → items_in f bytes ≡ Some xs → IsStrictAfter None (map f.key xs)
   items_strict bytes xs are = strict_from_test None (map f.key xs) (items_read bytes xs are).2
-
--- functions that answer the same make chains that do
-pub and_then_same : {A B : Type 0} (f g : A → Option B) → ((x : A) → f x ≡ g x) → (o : Option A) → option_and_then f o ≡ option_and_then g o
-and_then_same f g same None = refl
-and_then_same f g same (Some x) = same x

@@ -9,9 +9,7 @@ pub mod Room
 pub mod BlockLaws
 pub mod Faults
 pub mod Fronts
-pub mod HandleFaults
 pub mod Points
-pub mod Lengths
 pub mod Within
 pub mod Grown
 pub mod Narrowing

@@ -1,27 +1,23 @@
 -- Where the handles that reach a key begin, and the windows that seeks leave.
 use Rattle.std.proofs.Common.{◌≡◌, refl, sym, ◌∙◌, ap, subst, ℕ, zero, suc, ◌+◌, ◌-◌, ◌<◌, ◌≤◌, Bool, true, false, cond, List, [], ◌∷◌, length, take, drop, get_or, map, arith, inl, inr}
 use Rattle.std.specs.Prelude.{Some, None, min, max, not, nat_lt, ◌&&◌, ◌||◌, ◌==◌}
-use Rattle.std.specs.List.{slice_get}
-use Rattle.std.specs.Option.{option_map}
+use Rattle.std.specs.List.Sorted.{IsPartitionedBy}
 use Rattle.std.specs.declared.cmp.Ordering.{Ordering}
 use Rattle.std.specs.declared.cmp.Ordering.TheVariants.{Less, Equal, Greater}
 use Rattle.std.specs.Ordering.{nat_cmp, is_lt, is_eq, ordering_then, ordering_reverse}
 use Rattle.std.specs.Cmp.Lexicographic.{slice_cmp, nat_list_cmp_total, texts_ties}
 use Rattle.std.proofs.lemmas.Bool.{cases_lt, le-ltb, ltb-false, ltb-true}
 use Rattle.std.proofs.lemmas.List.{drop-take, drop_all, length-take, length-drop, take_all, length-map, get_or-map}
-use Rattle.std.proofs.lemmas.Option.{get_or_from_slice_get}
 use Rattle.sst_entries.specs.declared.value_type.ValueType.TheVariants.{Value}
 use Rattle.sst_entries.specs.Entry.{Entry, entry}
 use Rattle.sst_blocks.specs.Handle.{Handle}
 use Rattle.sst_blocks.specs.Handles.{reaches, is_above, end_of, AreStrictHandles, from_first, up_to_first, window}
-use Rattle.sst_blocks.specs.Reading.{key_and_number}
 use Rattle.sst_entries.specs.Key.{same_key, key_lt}
 use Rattle.sst_entries.specs.Point.{read_place}
 use Rattle.sst_entries.specs.Span.{Span, rest_in, front_length}
 use Rattle.sst_entries.specs.Strict.{is_before}
-use Rattle.sst_blocks.proofs.Fronts.{probed, probed_test}
-use Rattle.sst_blocks.proofs.SpanLemmas.{front_length_is, left_empty}
-use Rattle.sst_entries.proofs.Booleans.{apart, is_false}
+use Rattle.sst_blocks.proofs.SpanLemmas.{left_empty}
+use Rattle.sst_entries.proofs.Booleans.{apart, is_false, not_is}
 use Rattle.sst_entries.proofs.OrderLemmas.{lt_of_cond, before_trans, strict_at}
 
 -- ---- to reach a key is to end after it
@@ -35,6 +31,9 @@ pub reaches_after : (key : List ℕ) (bound : ℕ) (h : Handle) → reaches key 
 reaches_after key bound h =
     let tie : same_key h.end_key key ≡ is_eq (ordering_reverse (slice_cmp nat_cmp key h.end_key)) = texts_ties h.end_key key ∙ ap is_eq (nat_list_cmp_total.antisymm h.end_key key) in
     ap (λ (b : Bool). key_lt key h.end_key || (b && nat_lt h.seqno bound)) tie ∙ by_order (slice_cmp nat_cmp key h.end_key) h.seqno bound
+
+pub reach_before : (key : List ℕ) (bound : ℕ) → reaches key bound ≡ (λ h. is_before (read_place key bound) (end_of h))
+reach_before key bound = λ i h. reaches_after key bound h i
 
 and_false : (b : Bool) → (b && false) ≡ false
 and_false true = refl
@@ -64,23 +63,16 @@ later_reaches hs key bound i j d strict lt within hit =
     reaches_after key bound (get_or hs j d) ∙ before_trans b (end_of (get_or hs i d)) (end_of (get_or hs j d)) (sym (reaches_after key bound (get_or hs i d)) ∙ hit) step2
 
 -- below a handle that does not reach stands none that does
-pub below_place : (hs : List Handle) (key : List ℕ) (bound n : ℕ) (d : Handle) → AreStrictHandles hs → n < length hs → reaches key bound (get_or hs n d) ≡ false → (i : ℕ) → i < n + 1 → reaches key bound (get_or hs i d) ≡ false
+below_place : (hs : List Handle) (key : List ℕ) (bound n : ℕ) (d : Handle) → AreStrictHandles hs → n < length hs → reaches key bound (get_or hs n d) ≡ false → (i : ℕ) → i < n + 1 → reaches key bound (get_or hs i d) ≡ false
 below_place hs key bound n d strict within early i le =
     elim (cases_lt i n) [
       | inl below ↦ is_false (reaches key bound (get_or hs i d)) (λ hit. apart (reaches key bound (get_or hs n d)) (later_reaches hs key bound i n d strict below within hit) early)
       | inr above ↦ let e : n ≡ i = omega arith in subst (λ (k : ℕ). reaches key bound (get_or hs k d) ≡ false) e early
     ]
 
--- a test of the end key and the number that were read of a handle says whether it reaches
-pub read_reaches : (hs : List Handle) (key : List ℕ) (bound i : ℕ) (k : List ℕ) (n : ℕ) (r b : Bool) → option_map (λ h. key_and_number (end_of h)) (slice_get hs i) ≡ Some (k, n) → r ≡ is_before (read_place key bound) (read_place k n) → r ≡ b → (d : Handle) → reaches key bound (get_or hs i d) ≡ b
-read_reaches hs key bound i k n r b told computed is d =
-    let read = λ (h : Handle). key_and_number (end_of h) in
-    let x = probed read hs i k n told in
-    let tested = probed_test read hs i k n (λ (l : List ℕ) (m : ℕ). is_before (read_place key bound) (read_place l m)) r b x computed is in
-    ap (reaches key bound) (get_or_from_slice_get hs i x.item d x.here) ∙ reaches_after key bound x.item ∙ tested
-
-pub first_place : (hs : List Handle) (key : List ℕ) (bound n : ℕ) (d : Handle) → n ≤ length hs → ((i : ℕ) → i < n → reaches key bound (get_or hs i d) ≡ false) → (n < length hs → reaches key bound (get_or hs n d) ≡ true) → n ≡ front_length (λ h. not (reaches key bound h)) hs
-first_place hs key bound n d le before after = front_length_is (λ (h : Handle). not (reaches key bound h)) hs n d le (λ i lt. ap not (before i lt)) (λ lt. ap not (after lt))
+-- so what does not reach has nothing before it that does
+pub reach_parted : (hs : List Handle) (key : List ℕ) (bound : ℕ) → AreStrictHandles hs → IsPartitionedBy (λ h. not (reaches key bound h)) hs
+reach_parted hs key bound strict i j d le lt early = ap not (below_place hs key bound j d strict lt (not_is (reaches key bound (get_or hs j d)) early) i (omega (arith, le)))
 
 same_front : (p q : Handle → Bool) → ((h : Handle) → p h ≡ q h) → (hs : List Handle) → front_length p hs ≡ front_length q hs
 same_front p q same [] = refl

@@ -10,10 +10,10 @@ use Rattle.sst_sections.specs.Fnv.{fnv1a}
 use Rattle.sst_sections.specs.Number.{num4}
 use Rattle.sst_sections.specs.Version.{key_width}
 use Rattle.sst_blocks.specs.Block.{checked_payload, has_room, has_room_for, in_grammar}
-use Rattle.sst_blocks.specs.Handles.{handles_in}
-use Rattle.sst_blocks.specs.Reading.{entries_in}
-use Rattle.sst_blocks.proofs.Entries.{entry_format, entries_advance, entries_in_same, length-spelled}
-use Rattle.sst_blocks.proofs.HandleLaws.{handle_format, handles_advance, handles_in_same, length-handle_spelled}
+use Rattle.sst_blocks.specs.Handles.{handle_format, handles_in}
+use Rattle.sst_blocks.specs.Reading.{entries_in, entry_format}
+use Rattle.sst_blocks.proofs.Entries.{entries_advance, entries_in_same, length-spelled}
+use Rattle.sst_blocks.proofs.HandleLaws.{handles_advance, handles_in_same, length-handle_spelled}
 use Rattle.sst_blocks.proofs.Items.{items_room}
 use Rattle.sst_blocks.proofs.LoadLemmas.{checksum_right}
 

@@ -8,7 +8,8 @@ use Rattle.sst_entries.specs.Entry.{Entry}
 use Rattle.sst_entries.specs.Strict.{may_follow}
 use Rattle.sst_sections.specs.Number.{num4}
 use Rattle.sst_sections.proofs.Numbers.{IsBytes}
-use Rattle.sst_blocks.proofs.Items.{Format, IsFormat, Advances, Walk, items_at, items_in, items_read, option_map_some, walk_all, walk_begins, walk_on}
+use Rattle.sst_blocks.specs.Format.{Advances, Format, IsFormat, items_at, items_in}
+use Rattle.sst_blocks.proofs.Items.{Walk, items_read, option_map_some, walk_all, walk_begins, walk_on}
 
 -- after n items, rest is left, and the first of them that passes the test is found
 pub record Search {X : Type 0} (f : Format X) (p : X → Bool) (bytes rest : List ℕ) (last : Option Entry) (n : ℕ) (found : Option X) : Type 0 where

@@ -10,6 +10,10 @@ capped n = min n (2 ^ 64 - 1)
 abbrev pub empty_len : ℕ
 empty_len = 28
 
+-- the block of a list of items
+abbrev pub bound_of : {X : Type 0} → (X → ℕ) → List X → ℕ
+bound_of bound xs = capped (empty_len + sum_by bound xs)
+
 -- what an entry takes beside its key and its value, and a handle beside its end key
 abbrev pub entry_head_len : ℕ
 entry_head_len = 17
@@ -26,7 +30,7 @@ handle_bound h = handle_head_len + length h.end_key
 
 -- the block of a list of entries, and of a list of handles
 abbrev pub data_block_bound_of : List Entry → ℕ
-data_block_bound_of es = capped (empty_len + sum_by entry_bound es)
+data_block_bound_of es = bound_of entry_bound es
 
 abbrev pub index_block_bound_of : List Handle → ℕ
-index_block_bound_of hs = capped (empty_len + sum_by handle_bound hs)
+index_block_bound_of hs = bound_of handle_bound hs

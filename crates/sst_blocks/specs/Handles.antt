@@ -1,15 +1,15 @@
 -- The payload of an index block: the one spelling of a list of handles, what a payload spells, and what a handle reaches.
-use Rattle.std.specs.Prelude.{ℕ, zero, suc, ◌+◌, ◌<◌, ◌^◌, List, [], ◌∷◌, ◌++◌, length, take, drop, Bool, ◌&&◌, ◌||◌, nat_lt, Option, Some, None, option_and_then, if◌then◌else◌}
-use Rattle.std.specs.List.{flat_map, AllByRecursion}
-use Rattle.std.specs.Option.{option_map}
+use Rattle.std.specs.Prelude.{ℕ, ◌+◌, ◌<◌, ◌^◌, List, [], ◌∷◌, ◌++◌, length, take, drop, Bool, ◌&&◌, ◌||◌, nat_lt, Option, Some, None, if◌then◌else◌}
 use Rattle.sst_sections.specs.declared.version.TableVersion.{TableVersion}
 use Rattle.sst_entries.specs.declared.value_type.ValueType.TheVariants.{Value}
 use Rattle.sst_entries.specs.Entry.{Entry, entry}
 use Rattle.sst_blocks.specs.Handle.{Handle}
+use Rattle.sst_blocks.specs.Format.{Format, items_in}
+use Rattle.sst_blocks.specs.Payload.{AreFit, items_payload}
 use Rattle.sst_entries.specs.Key.{same_key, key_lt}
 use Rattle.sst_sections.specs.Number.{le4, le8, num4, num8}
 use Rattle.sst_sections.specs.Version.{key_width, key_len_bytes, key_len_at, key_limit}
-use Rattle.sst_entries.specs.Strict.{IsStrict, is_strict_after}
+use Rattle.sst_entries.specs.Strict.{IsStrict}
 use Rattle.std.specs.Prelude.{map}
 
 -- the last entry of a handle's block, as far as the handle tells
@@ -30,7 +30,7 @@ handle_spelled v h = handle_head v h ++ h.end_key
 
 -- the count, and then the handles in order
 unfoldable pub handles_payload : TableVersion → List Handle → List ℕ
-handles_payload v hs = le4 (length hs) ++ flat_map (handle_spelled v) hs
+handles_payload v hs = items_payload (handle_spelled v) hs
 
 -- what has a spelling
 pub record IsSpellableHandle (v : TableVersion) (h : Handle) : Type 0 where
@@ -40,7 +40,7 @@ pub record IsSpellableHandle (v : TableVersion) (h : Handle) : Type 0 where
   pub key_len : length h.end_key < key_limit v
 
 abbrev pub AreSpellableHandles : TableVersion → List Handle → Type 0
-AreSpellableHandles v hs = (length hs < 2 ^ 32) × AllByRecursion (IsSpellableHandle v) hs
+AreSpellableHandles v hs = AreFit (IsSpellableHandle v) hs
 
 -- the handle at the front of some bytes, and the bytes after it
 unfoldable pub handle_at : TableVersion → List ℕ → Option (Handle × List ℕ)
@@ -59,20 +59,13 @@ handle_at v bytes =
       drop k rest,
     ))
 
--- n handles that use the bytes up
-unfoldable pub handles_at : TableVersion → ℕ → List ℕ → Option (List Handle)
-handles_at v zero [] = Some []
-handles_at v zero (b ∷ bytes) = None
-handles_at v (suc n) bytes =
-    option_and_then (λ (x : Handle × List ℕ). option_map (λ hs. x.0 ∷ hs) (handles_at v n x.1))
-    (handle_at v bytes)
+-- how a handle is spelled and read; it has the place of the last entry of its block
+abbrev pub handle_format : TableVersion → Format Handle
+handle_format v = record { spell = handle_spelled v; read = handle_at v; key = end_of }
 
 -- the strict list of handles that a payload spells, where it spells one
 unfoldable pub handles_in : TableVersion → List ℕ → Option (List Handle)
-handles_in v bytes =
-    if nat_lt (length bytes) 4 then None
-    else option_and_then (λ hs. if is_strict_after None (map end_of hs) then Some hs else None)
-    (handles_at v (num4 bytes) (drop 4 bytes))
+handles_in v bytes = items_in (handle_format v) bytes
 
 -- the handle's block may hold the key numbered below a bound, or what comes after it
 abbrev pub reaches : List ℕ → ℕ → Handle → Bool

@@ -1,4 +1,5 @@
 pub mod Payload
+pub mod Format
 pub mod Reading
 pub mod Handle
 pub mod Place

@@ -1,4 +1,4 @@
--- The payload of a data or meta block: the one spelling of a list of entries.
+-- The payload of a block: the one spelling of a list of items, and of a list of entries.
 use Rattle.std.specs.Prelude.{ℕ, ◌<◌, ◌^◌, List, [], ◌∷◌, ◌++◌, length}
 use Rattle.std.specs.List.{flat_map, AllByRecursion}
 use Rattle.sst_sections.specs.declared.version.TableVersion.{TableVersion}
@@ -6,6 +6,14 @@ use Rattle.sst_entries.specs.Entry.{Entry}
 use Rattle.sst_entries.specs.Kind.{tag_of}
 use Rattle.sst_sections.specs.Number.{le4, le8}
 use Rattle.sst_sections.specs.Version.{key_len_bytes, key_limit}
+
+-- the count, and then the items in order
+abbrev pub items_payload : {X : Type 0} → (X → List ℕ) → List X → List ℕ
+items_payload spell xs = le4 (length xs) ++ flat_map spell xs
+
+-- few enough to be counted, and each has a spelling
+abbrev pub AreFit : {X : Type 0} → (X → Type 0) → List X → Type 0
+AreFit Fits xs = (length xs < 2 ^ 32) × AllByRecursion Fits xs
 
 -- the tag, the number and both lengths
 abbrev pub entry_head : TableVersion → Entry → List ℕ
@@ -19,7 +27,7 @@ spelled v e = entry_head v e ++ e.user_key ++ e.value
 
 -- the count, and then the entries in order
 unfoldable pub payload : TableVersion → List Entry → List ℕ
-payload v es = le4 (length es) ++ flat_map (spelled v) es
+payload v es = items_payload (spelled v) es
 
 -- what has a spelling
 pub record IsSpellable (v : TableVersion) (e : Entry) : Type 0 where
@@ -28,4 +36,4 @@ pub record IsSpellable (v : TableVersion) (e : Entry) : Type 0 where
   pub value_len : length e.value < 2 ^ 32
 
 abbrev pub AreSpellable : TableVersion → List Entry → Type 0
-AreSpellable v es = (length es < 2 ^ 32) × AllByRecursion (IsSpellable v) es
+AreSpellable v es = AreFit (IsSpellable v) es

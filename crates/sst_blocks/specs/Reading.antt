@@ -1,13 +1,13 @@
 -- What the payload of a data or meta block spells.
-use Rattle.std.specs.Prelude.{ℕ, zero, suc, ◌+◌, List, [], ◌∷◌, length, take, drop, slice_index, Option, Some, None, option_and_then, nat_lt, if◌then◌else◌}
-use Rattle.std.specs.Option.{option_map}
+use Rattle.std.specs.Prelude.{ℕ, ◌+◌, List, length, take, drop, slice_index, Option, Some, None, option_and_then, nat_lt, if◌then◌else◌}
 use Rattle.sst_sections.specs.declared.version.TableVersion.{TableVersion}
 use Rattle.sst_entries.specs.declared.value_type.ValueType.{ValueType}
 use Rattle.sst_entries.specs.Entry.{Entry, entry}
 use Rattle.sst_entries.specs.Kind.{kind_of}
 use Rattle.sst_sections.specs.Number.{num4, num8}
 use Rattle.sst_sections.specs.Version.{key_width, key_len_at}
-use Rattle.sst_entries.specs.Strict.{is_strict_after}
+use Rattle.sst_blocks.specs.Format.{Format, items_in}
+use Rattle.sst_blocks.specs.Payload.{spelled}
 
 -- after the tag and the number: both lengths, the key and the value
 unfoldable pub parts_at : TableVersion → ValueType → ℕ → List ℕ → Option (Entry × List ℕ)
@@ -29,17 +29,10 @@ entry_at v bytes =
 abbrev pub key_and_number : Entry → List ℕ × ℕ
 key_and_number e = (e.user_key, e.seqno)
 
--- n entries that use the bytes up
-unfoldable pub entries_at : TableVersion → ℕ → List ℕ → Option (List Entry)
-entries_at v zero [] = Some []
-entries_at v zero (b ∷ bytes) = None
-entries_at v (suc n) bytes =
-    option_and_then (λ (x : Entry × List ℕ). option_map (λ es. x.0 ∷ es) (entries_at v n x.1))
-    (entry_at v bytes)
+-- how an entry is spelled and read; it has its own place in the order
+abbrev pub entry_format : TableVersion → Format Entry
+entry_format v = record { spell = spelled v; read = entry_at v; key = λ e. e }
 
 -- the strict list of entries that a payload spells, where it spells one
 unfoldable pub entries_in : TableVersion → List ℕ → Option (List Entry)
-entries_in v bytes =
-    if nat_lt (length bytes) 4 then None
-    else option_and_then (λ es. if is_strict_after None es then Some es else None)
-    (entries_at v (num4 bytes) (drop 4 bytes))
+entries_in v bytes = items_in (entry_format v) bytes

@@ -6,6 +6,7 @@ use Rattle.sst_blocks.specs.declared.block_type.BlockType.TheVariants.{Data, Ind
 use Rattle.sst_blocks.specs.Block.{is_filter}
 use Rattle.sst_entries.specs.Entry.{Entry}
 use Rattle.sst_blocks.specs.Handle.{Handle}
+use Rattle.sst_blocks.specs.Format.{Format, items_in}
 use Rattle.sst_blocks.specs.Payload.{spelled}
 use Rattle.sst_blocks.specs.Handles.{handle_spelled, handles_in}
 use Rattle.sst_blocks.specs.Reading.{entries_in}
@@ -23,6 +24,9 @@ pub record SpellsAt (X : Type 0) (spell : X → List ℕ) (told : Option (List X
   pub are : told ≡ Some items
   pub places : starts ≡ starts_of spell 4 items
   pub short : length bytes < 2 ^ 32
+
+abbrev pub ItemsAt : {X : Type 0} → Format X → List ℕ → List ℕ → Type 0
+ItemsAt {X} f bytes starts = SpellsAt X f.spell (items_in f bytes) bytes starts
 
 abbrev pub EntriesAt : TableVersion → List ℕ → List ℕ → Type 0
 EntriesAt v bytes starts = SpellsAt Entry (spelled v) (entries_in v bytes) bytes starts

@@ -25,8 +25,8 @@ pub use header::Header;
 use std::alloc::{AllocError, Allocator, Global};
 use std::marker::Model;
 
-/// The length of a block that holds nothing: its header and a count.
-pub(crate) const EMPTY_LEN: u64 = 28;
+/// The length of a block of no entries or handles, in bytes: its header and a count.
+pub const EMPTY_LEN: u64 = 28;
 
 /// A block that was loaded: its payload is in the grammar of its kind. It shares the table's bytes, and its clones share
 /// all that it holds.

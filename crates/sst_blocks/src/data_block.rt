@@ -19,18 +19,21 @@ mod entry_ref;
 mod find;
 mod iter;
 
-use crate::block::{EMPTY_LEN, Header};
+use crate::item::{block_bound, encode};
+use crate::reading::{front_len, item_at, key_at, starts_in};
 use crate::starts::{Starts, has_room_for};
 use crate::{Block, Error, InternalValue, SeqNo, Slice, TableVersion};
-use encode::{block_len, put_items, with_entry};
 pub(crate) use entry_ref::head_len as entry_head_len;
-use entry_ref::{EntryRef, head_len, read_entry, read_key};
+use entry_ref::{EntryRef, head_len};
 pub(crate) use find::{find_entry, share_entry};
 pub use iter::Iter;
 use sst_entries::compare_versions;
-use sst_sections::number::u32_at;
 use std::alloc::{AllocError, Allocator, Global};
 use std::marker::Model;
+
+/// What an entry takes beside its key and its value as it is written, in bytes: its tag, its number
+/// and both lengths.
+pub const ENTRY_HEAD_LEN: u64 = 17;
 
 /// A block of entries in strict order. It shares the table's bytes, and its clones share
 /// all that it holds.
@@ -79,6 +82,8 @@ pub(crate) fn has_entry_room(version: TableVersion, payload: &[u8]) -> bool
 /// Where the entries of a payload begin, which has room for as many as it counts. Refused
 /// [`Error::InvalidBlock`] where the payload does not spell a strict list of entries, and
 /// [`Error::OutOfMemory`]. Where it was tested before that it does, no keys are compared.
+#[inline]
+#[tactic(auto, unfolding(crate::specs::Reading::entries_in))]
 pub(crate) fn entry_starts<A: Allocator>(
     alloc: A,
     version: TableVersion,
@@ -92,26 +97,7 @@ pub(crate) fn entry_starts<A: Allocator>(
     ensures fault { IfErr result (λ e. is_memory e ≡ false →
         (e ≡ InvalidBlock) × (entries_in version payload.now ≡ None)) }
 {
-    let count = u32_at(payload);
-    let mut starts = Vec::with_capacity(alloc, count as usize)?;
-    let mut rest = &payload[4..];
-    let mut last: Option<EntryRef<'_>> = None;
-    for _ in 0..count {
-        let start = (payload.len() - rest.len()) as u32;
-        let Some((entry, after)) = read_entry(version, rest) else {
-            return Err(Error::InvalidBlock);
-        };
-        if !is_tested && !entry.may_follow(&last) {
-            return Err(Error::InvalidBlock);
-        }
-        starts.push(start)?;
-        last = Some(entry);
-        rest = after;
-    }
-    if !rest.is_empty() {
-        return Err(Error::InvalidBlock);
-    }
-    Ok(starts)
+    starts_in::<EntryRef<'_>, A>(alloc, version, payload, is_tested)
 }
 
 /// An upper bound on the length of the block of these entries, with its header, in bytes. It stays at `u64::MAX` where
@@ -119,11 +105,7 @@ pub(crate) fn entry_starts<A: Allocator>(
 pub fn data_block_bound<A: Allocator>(items: &[InternalValue<A>]) -> u64
     ensures { result ≡ data_block_bound_of items.now }
 {
-    let mut bound = EMPTY_LEN;
-    for item in items {
-        bound = with_entry(bound, item);
-    }
-    bound
+    block_bound(items)
 }
 
 impl<A: Allocator> DataBlock<A> {
@@ -144,6 +126,7 @@ impl<A: Allocator> DataBlock<A> {
     /// [`data_block_bound`] is 2^32 or more; and [`Error::OutOfMemory`]. `buf` is then as it was.
     ///
     /// The restart interval and the hash ratio are taken as the original takes them, and change nothing here.
+    #[tactic(auto, unfolding(crate::specs::Payload::payload))]
     pub fn encode_into(
         buf: &mut Vec<u8, A>,
         items: &[InternalValue<A>],
@@ -165,15 +148,7 @@ impl<A: Allocator> DataBlock<A> {
     {
         let _ = restart_interval;
         let _ = hash_ratio;
-        let len = block_len(items)?;
-        let start = buf.len();
-        // One growth holds the payload.
-        buf.reserve(len as usize - Header::LEN as usize)?;
-        let outcome = put_items(buf, items);
-        if outcome.is_err() {
-            buf.truncate(start);
-        }
-        outcome
+        encode(buf, items)
     }
 
     /// How many entries the block has.
@@ -192,27 +167,23 @@ impl<A: Allocator> DataBlock<A> {
     }
 
     #[inline(always)]
+    #[tactic(auto, unfolding(crate::specs::Reading::entries_in))]
     fn entry_ref(&self, index: usize) -> EntryRef<'_>
         requires { index < length self.now }
         ensures { slice_get self.now index ≡ Some (entry_of_ref result) }
     {
-        let start = self.starts.at(index);
-        let bytes = self.payload.as_slice();
-        match read_entry(self.version, &bytes[start..]) {
-            Some((entry, _)) => entry,
-            None => unreachable!(),
-        }
+        item_at(self.version, self.payload.as_slice(), &self.starts, index)
     }
 
     /// The key and the number of the entry of a place, which are all that a search reads of it.
     #[inline(always)]
+    #[tactic(auto, unfolding(crate::specs::Reading::entries_in))]
     pub fn key_at(&self, index: usize) -> (&[u8], SeqNo)
         requires { index < length self.now }
         ensures { option_map key_and_number (slice_get self.now index)
             ≡ Some (result.0.now, result.1) }
     {
-        let start = self.starts.at(index);
-        read_key(self.version, &self.payload.as_slice()[start..])
+        key_at::<EntryRef<'_>, A>(self.version, self.payload.as_slice(), &self.starts, index)
     }
 
     // The entry that was read at a place. Its key and value share the block's memory.
@@ -247,18 +218,8 @@ impl<A: Allocator> DataBlock<A> {
             let q = λ (e : Entry). p e.user_key e.seqno in
             IsPartitionedBy q self.now → result ≡ front_length q self.now }
     {
-        let mut low = 0;
-        let mut high = self.len();
-        while low < high {
-            let middle = low + (high - low) / 2;
-            let (user_key, seqno) = self.key_at(middle);
-            if passes(user_key, seqno) {
-                low = middle + 1;
-            } else {
-                high = middle;
-            }
-        }
-        low
+        let payload = self.payload.as_slice();
+        front_len::<EntryRef<'_>, A, P>(self.version, payload, &self.starts, passes)
     }
 
     /// How many entries stand below a key: the place of the first entry of the key or of a greater one.

@@ -17,17 +17,21 @@ mod find;
 mod iter;
 mod read;
 
-use crate::block::{EMPTY_LEN, Header};
+use crate::item::{block_bound, encode};
+use crate::reading::{front_len, item_at};
 use crate::starts::Starts;
 use crate::{Block, BlockHandle, BlockOffset, Error, KeyedBlockHandle, SeqNo, Slice, TableVersion};
-use encode::{block_len, put_handles, with_handle};
 pub(crate) use find::find_handle;
 pub use iter::Iter;
 pub(crate) use read::{handle_starts, has_handle_room};
-use read::{HandleRef, head_len, read_end_key, read_handle};
+use read::{HandleRef, head_len};
 use sst_entries::compare_versions;
 use std::alloc::{AllocError, Allocator, Global};
 use std::marker::Model;
+
+/// What a handle takes beside its end key as it is written, in bytes: its number, its place and the
+/// key's length.
+pub const HANDLE_HEAD_LEN: u64 = 24;
 
 /// A block of handles in strict order of their end keys and numbers. It shares the table's bytes, and its clones share
 /// all that it holds.
@@ -71,11 +75,7 @@ impl<A: Allocator> Clone for IndexBlock<A> {
 pub fn index_block_bound<A: Allocator>(handles: &[KeyedBlockHandle<A>]) -> u64
     ensures { result ≡ index_block_bound_of handles.now }
 {
-    let mut bound = EMPTY_LEN;
-    for handle in handles {
-        bound = with_handle(bound, handle);
-    }
-    bound
+    block_bound(handles)
 }
 
 impl<A: Allocator> IndexBlock<A> {
@@ -108,27 +108,12 @@ impl<A: Allocator> IndexBlock<A> {
 
     // The handle at a place, without a count of its sharers.
     #[inline(always)]
+    #[tactic(auto, unfolding(crate::specs::Handles::handles_in))]
     fn handle_ref(&self, index: usize) -> HandleRef<'_>
         requires { index < length self.now }
         ensures { slice_get self.now index ≡ Some (handle_of_ref result) }
     {
-        let start = self.starts.at(index);
-        let bytes = self.payload.as_slice();
-        match read_handle(self.version, &bytes[start..]) {
-            Some((handle, _)) => handle,
-            None => unreachable!(),
-        }
-    }
-
-    // The end key and the number of the handle of a place, which are all that a search reads of it.
-    #[inline(always)]
-    fn end_key_at(&self, index: usize) -> (&[u8], SeqNo)
-        requires { index < length self.now }
-        ensures { option_map (λ h. key_and_number (end_of h)) (slice_get self.now index)
-            ≡ Some (result.0.now, result.1) }
-    {
-        let start = self.starts.at(index);
-        read_end_key(self.version, &self.payload.as_slice()[start..])
+        item_at(self.version, self.payload.as_slice(), &self.starts, index)
     }
 
     /// The handle at a place, whose end key shares the block's bytes. Refused [`Error::OutOfMemory`] alone.
@@ -161,18 +146,13 @@ impl<A: Allocator> IndexBlock<A> {
         ensures within { result ≤ length self.now }
         ensures strict { AreStrictHandles self.now }
     {
-        let mut low = 0;
-        let mut high = self.len();
-        while low < high {
-            let middle = low + (high - low) / 2;
-            let (end_key, number) = self.end_key_at(middle);
-            if compare_versions(key, seqno, end_key, number).is_lt() {
-                high = middle;
-            } else {
-                low = middle + 1;
-            }
-        }
-        low
+        let payload = self.payload.as_slice();
+        front_len::<HandleRef<'_>, A, _>(
+            self.version,
+            payload,
+            &self.starts,
+            move |end_key, number| !compare_versions(key, seqno, end_key, number).is_lt(),
+        )
     }
 
     /// How many handles stand before the first whose end key is greater than a key.
@@ -216,6 +196,7 @@ impl<A: Allocator> IndexBlock<A> {
     /// Writes the payload of a block of these handles at the end of `buf`. Refused [`Error::KeyTooLong`] where an end key is
     /// too long, then [`Error::BlockTooLarge`] where [`index_block_bound`] is 2^32 or more; and [`Error::OutOfMemory`]. `buf`
     /// is then as it was.
+    #[tactic(auto, unfolding(crate::specs::Handles::handles_payload))]
     pub fn encode_into(buf: &mut Vec<u8, A>, handles: &[KeyedBlockHandle<A>]) -> Result<(), Error>
         requires { AreStrictHandles handles.now }
         ensures ok { OnOk result (buf.new.items ≡ buf.old.items ++ handles_payload V4 handles.now) }
@@ -232,14 +213,6 @@ impl<A: Allocator> IndexBlock<A> {
         ensures short { OnOk result (
             header_len + length (handles_payload V4 handles.now) < 2 ^ 32) }
     {
-        let len = block_len(handles)?;
-        let start = buf.len();
-        // One growth holds the payload.
-        buf.reserve(len as usize - Header::LEN as usize)?;
-        let outcome = put_handles(buf, handles);
-        if outcome.is_err() {
-            buf.truncate(start);
-        }
-        outcome
+        encode(buf, handles)
     }
 }

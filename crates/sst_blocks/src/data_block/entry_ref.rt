@@ -3,9 +3,9 @@ ghost use Rattle.std.specs.Prelude.{◌≡◌, ◌+◌, ◌≤◌, length, Some,
 ghost use Rattle.std.specs.Option.{option_map};
 ghost use Rattle.sst_blocks.specs.Reading.{parts_at, entry_at, key_and_number};
 ghost use Rattle.sst_blocks.specs.Seen.{entry_of_ref};
-ghost use Rattle.sst_entries.specs.Strict.{may_follow};
 ghost use Rattle.sst_sections.specs.Version.{key_width};
 
+use crate::reading::ItemRef;
 use crate::{SeqNo, TableVersion, ValueType};
 use sst_entries::compare_versions;
 use sst_sections::number::{key_len_at, key_width, u32_at, u64_at};
@@ -86,15 +86,49 @@ pub(crate) fn read_key(version: TableVersion, bytes: &[u8]) -> (&[u8], SeqNo)
     (&bytes[head..head + key_len], u64_at(&bytes[1..]))
 }
 
-impl EntryRef<'_> {
-    /// Whether the entry may stand after another, or at the front.
+impl<'a> ItemRef<'a> for EntryRef<'a> {
+    ghost use Rattle.sst_blocks.specs.Format.{Advances, IsFormat};
+    ghost use Rattle.sst_blocks.specs.Payload.{IsSpellable};
+    ghost use Rattle.sst_blocks.specs.Reading.{entry_format};
+    ghost use Rattle.sst_blocks.specs.Seen.{entry_of_ref};
+    ghost use Rattle.sst_entries.specs.Entry.{Entry};
+
+    ghost Told = { Entry };
+
+    ghost told = { entry_of_ref };
+
+    ghost format = { entry_format };
+
+    ghost Fits = { IsSpellable };
+
     #[inline]
-    pub(crate) fn may_follow(&self, last: &Option<EntryRef<'_>>) -> bool
-        ensures { result ≡ may_follow (option_map entry_of_ref last.now) (entry_of_ref self.now) }
-    {
+    fn read(version: TableVersion, bytes: &'a [u8]) -> Option<(EntryRef<'a>, &'a [u8])> {
+        read_entry(version, bytes)
+    }
+
+    #[inline(always)]
+    fn read_key(version: TableVersion, bytes: &'a [u8]) -> (&'a [u8], SeqNo) {
+        read_key(version, bytes)
+    }
+
+    #[inline]
+    fn may_follow(&self, last: &Option<EntryRef<'a>>) -> bool {
         match last {
             None => true,
-            Some(last) => { compare_versions(last.key, last.seqno, self.key, self.seqno).is_lt() }
+            Some(last) => compare_versions(last.key, last.seqno, self.key, self.seqno).is_lt(),
         }
+    }
+
+    #[inline]
+    fn is_past(&self, key: &[u8], seqno: SeqNo) -> bool {
+        compare_versions(key, seqno, self.key, self.seqno).is_lt()
+    }
+
+    #[inline(always)]
+    fn is_format(version: TableVersion)
+        ensures law { IsFormat (entry_format version) (IsSpellable version) }
+        ensures advances { Advances (entry_format version) }
+    {
+        let _ = version;
     }
 }

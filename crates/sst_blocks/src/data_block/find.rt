@@ -1,24 +1,25 @@
 //! Finding one entry of a payload, in one walk and without memory.
 ghost use Rattle.std.specs.Prelude.{◌≡◌, ◌+◌, ◌<◌, ◌≤◌, ◌^◌, [], Some, None, true, length};
-ghost use Rattle.std.specs.Prelude.{is_some, unwrap_or, drop, find, slice_range, if◌then◌else◌};
+ghost use Rattle.std.specs.Prelude.{is_some, unwrap_or, drop, find, slice_range};
 ghost use Rattle.std.specs.Prelude.{IsTrue, IfOk, IfErr, IfSome, OnOk};
-ghost use Rattle.std.specs.Option.{option_map, option_or};
+ghost use Rattle.std.specs.Option.{option_map};
 ghost use Rattle.sst_blocks.specs.Reading.{entries_in, entry_at};
 ghost use Rattle.sst_blocks.specs.Seen.{entry_of_ref};
 ghost use Rattle.sst_entries.specs.declared.error.Error.TheVariants.{InvalidBlock, OutOfMemory};
 ghost use Rattle.sst_entries.specs.Point.{read_place};
 ghost use Rattle.sst_entries.specs.Strict.{is_before};
 
-use super::entry_ref::{EntryRef, read_entry};
+use super::entry_ref::EntryRef;
+use crate::reading::find_item;
 use crate::{Error, InternalValue, SeqNo, Slice, TableVersion};
-use sst_entries::compare_versions;
-use sst_sections::number::u32_at;
 use std::alloc::Allocator;
 
 /// The first entry of a payload that a read of a key at a number comes before, and where it begins.
 /// Refused [`Error::InvalidBlock`] where the payload does not spell a strict list of entries. Where
 /// it was tested before that it does, the walk ends at that entry; else it goes on to the end, and
 /// tests what is behind it.
+#[inline]
+#[tactic(auto, unfolding(crate::specs::Reading::entries_in))]
 pub(crate) fn find_entry<'a>(
     version: TableVersion,
     payload: &'a [u8],
@@ -38,53 +39,7 @@ pub(crate) fn find_entry<'a>(
     ensures fault { IfErr result (λ e.
         (e ≡ InvalidBlock) × (entries_in version payload.now ≡ None)) }
 {
-    let count = u32_at(payload);
-    let mut rest = &payload[4..];
-    let mut last: Option<EntryRef<'_>> = None;
-    let mut found: Option<(usize, EntryRef<'_>)> = None;
-    for _ in 0..count {
-        let start = payload.len() - rest.len();
-        let Some((entry, after)) = read_entry(version, rest) else {
-            return Err(Error::InvalidBlock);
-        };
-        if !is_tested && !entry.may_follow(&last) {
-            return Err(Error::InvalidBlock);
-        }
-        found = first_past(found, start, entry, key, seqno);
-        if is_tested && found.is_some() {
-            return Ok(found);
-        }
-        last = Some(entry);
-        rest = after;
-    }
-    if !rest.is_empty() {
-        return Err(Error::InvalidBlock);
-    }
-    Ok(found)
-}
-
-// What was found, or else the entry at a place, where a read of a key at a number comes before it.
-#[inline]
-fn first_past<'a>(
-    found: Option<(usize, EntryRef<'a>)>,
-    start: usize,
-    entry: EntryRef<'a>,
-    key: &[u8],
-    seqno: SeqNo,
-) -> Option<(usize, EntryRef<'a>)>
-    ensures { let is_past = is_before (read_place key.now seqno) (entry_of_ref entry.entry) in
-        result ≡ option_or found.entry (if is_past then Some (start, entry.entry) else None) }
-{
-    match found {
-        Some(found) => Some(found),
-        None => {
-            if compare_versions(key, seqno, entry.key, entry.seqno).is_lt() {
-                Some((start, entry))
-            } else {
-                None
-            }
-        }
-    }
+    find_item(version, payload, key, seqno, is_tested)
 }
 
 /// The entry that was read where its key begins at `key_at` in some bytes, and its value behind it:

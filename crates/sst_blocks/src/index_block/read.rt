@@ -7,10 +7,10 @@ ghost use Rattle.sst_blocks.specs.Handles.{handle_at, handles_in, end_of};
 ghost use Rattle.sst_blocks.specs.Reading.{key_and_number};
 ghost use Rattle.sst_blocks.specs.SeenHandle.{handle_of_ref};
 ghost use Rattle.sst_blocks.specs.Starts.{HandlesAt};
-ghost use Rattle.sst_entries.specs.Strict.{may_follow};
 ghost use Rattle.sst_sections.specs.Version.{key_width};
 ghost use Rattle.sst_entries.specs.declared.error.Error.TheVariants.{InvalidBlock};
 
+use crate::reading::{ItemRef, starts_in};
 use crate::starts::has_room_for;
 use crate::{Error, SeqNo, TableVersion};
 use sst_entries::compare_versions;
@@ -74,19 +74,51 @@ pub(crate) fn read_end_key(version: TableVersion, bytes: &[u8]) -> (&[u8], SeqNo
     (&bytes[head..head + key_len], u64_at(bytes))
 }
 
-impl HandleRef<'_> {
-    /// Whether the handle may stand after another, or at the front.
+impl<'a> ItemRef<'a> for HandleRef<'a> {
+    ghost use Rattle.sst_blocks.specs.Format.{Advances, IsFormat};
+    ghost use Rattle.sst_blocks.specs.Handle.{Handle};
+    ghost use Rattle.sst_blocks.specs.Handles.{IsSpellableHandle, handle_format};
+    ghost use Rattle.sst_blocks.specs.SeenHandle.{handle_of_ref};
+
+    ghost Told = { Handle };
+
+    ghost told = { handle_of_ref };
+
+    ghost format = { handle_format };
+
+    ghost Fits = { IsSpellableHandle };
+
     #[inline]
-    pub(crate) fn may_follow(&self, last: &Option<HandleRef<'_>>) -> bool
-        ensures { let before = option_map (λ h. end_of (handle_of_ref h)) last.now in
-            result ≡ may_follow before (end_of (handle_of_ref self.now)) }
-    {
+    fn read(version: TableVersion, bytes: &'a [u8]) -> Option<(HandleRef<'a>, &'a [u8])> {
+        read_handle(version, bytes)
+    }
+
+    #[inline(always)]
+    fn read_key(version: TableVersion, bytes: &'a [u8]) -> (&'a [u8], SeqNo) {
+        read_end_key(version, bytes)
+    }
+
+    #[inline]
+    fn may_follow(&self, last: &Option<HandleRef<'a>>) -> bool {
         match last {
             None => true,
             Some(last) => {
                 compare_versions(last.end_key, last.seqno, self.end_key, self.seqno).is_lt()
             }
         }
+    }
+
+    #[inline]
+    fn is_past(&self, key: &[u8], seqno: SeqNo) -> bool {
+        compare_versions(key, seqno, self.end_key, self.seqno).is_lt()
+    }
+
+    #[inline(always)]
+    fn is_format(version: TableVersion)
+        ensures law { IsFormat (handle_format version) (IsSpellableHandle version) }
+        ensures advances { Advances (handle_format version) }
+    {
+        let _ = version;
     }
 }
 
@@ -100,6 +132,8 @@ pub(crate) fn has_handle_room(version: TableVersion, payload: &[u8]) -> bool
 /// Where the handles of a payload begin, which has room for as many as it counts. Refused
 /// [`Error::InvalidBlock`] where the payload does not spell a strict list of handles, and
 /// [`Error::OutOfMemory`]. Where it was tested before that it does, no keys are compared.
+#[inline]
+#[tactic(auto, unfolding(crate::specs::Handles::handles_in))]
 pub(crate) fn handle_starts<A: Allocator>(
     alloc: A,
     version: TableVersion,
@@ -113,24 +147,5 @@ pub(crate) fn handle_starts<A: Allocator>(
     ensures fault { IfErr result (λ e. is_memory e ≡ false →
         (e ≡ InvalidBlock) × (handles_in version payload.now ≡ None)) }
 {
-    let count = u32_at(payload);
-    let mut starts = Vec::with_capacity(alloc, count as usize)?;
-    let mut rest = &payload[4..];
-    let mut last: Option<HandleRef<'_>> = None;
-    for _ in 0..count {
-        let start = (payload.len() - rest.len()) as u32;
-        let Some((handle, after)) = read_handle(version, rest) else {
-            return Err(Error::InvalidBlock);
-        };
-        if !is_tested && !handle.may_follow(&last) {
-            return Err(Error::InvalidBlock);
-        }
-        starts.push(start)?;
-        last = Some(handle);
-        rest = after;
-    }
-    if !rest.is_empty() {
-        return Err(Error::InvalidBlock);
-    }
-    Ok(starts)
+    starts_in::<HandleRef<'_>, A>(alloc, version, payload, is_tested)
 }

@@ -2,7 +2,7 @@
 use Rattle.std.proofs.Common.{◌≡◌, ap, refl}
 use Rattle.sst_entries.proofs.StreamLemmas.{on_err}
 use Rattle.sst_sections.specs.Sections.{Written}
-use Rattle.sst_blocks.proofs.HandleFaults.{on_ok}
+use Rattle.sst_blocks.proofs.Faults.{on_ok}
 use Rattle.lsm_index_writers.proofs.Behind.{no_index_yet, no_top_level_yet}
 use Rattle.lsm_index_writers.proofs.Empty.{empty_sections, still_no_bytes}
 use Rattle.lsm_index_writers.proofs.partitioned.write_no_partitions.Goals as goal

@@ -1,6 +1,6 @@
 -- The key fills a part, or waits.
 use Rattle.std.proofs.Common.{◌++◌, ◌∷◌, [], ap, refl, ◌∙◌, List, ℕ}
-use Rattle.sst_blocks.proofs.HandleFaults.{on_ok}
+use Rattle.sst_blocks.proofs.Faults.{on_ok}
 use Rattle.sst_sections.specs.Fnv.{fnv1a}
 use Rattle.lsm_filter_writers.specs.Held.{CutParts}
 use Rattle.lsm_filter_writers.proofs.Holding.{cuts_fault, pushed_cuts, pushed_waits, waits_fault, waits_rising}

@@ -1,7 +1,7 @@
 -- What waits is the last part.
 use Rattle.std.proofs.Common.{ap, sym, ◌∙◌}
 use Rattle.std.proofs.lemmas.List.{append-nil}
-use Rattle.sst_blocks.proofs.HandleFaults.{on_ok}
+use Rattle.sst_blocks.proofs.Faults.{on_ok}
 use Rattle.sst_entries.proofs.StreamLemmas.{on_err}
 use Rattle.lsm_filter_writers.specs.Held.{as_list, CutParts, end_keys}
 use Rattle.lsm_filter_writers.proofs.Holding.{holds_all, rest_cuts, rest_fault_for, rest_fault_none, some_is_not_none}

@@ -5,7 +5,7 @@ use Rattle.lsm_files.specs.Partitions.{handles_block}
 use Rattle.std.specs.Prelude.{OnOk, IfOk, Ok}
 use Rattle.sst_entries.proofs.StreamLemmas.{on_err}
 use Rattle.std.specs.List.{AllByRecursion}
-use Rattle.sst_blocks.proofs.HandleFaults.{on_ok}
+use Rattle.sst_blocks.proofs.Faults.{on_ok}
 use Rattle.sst_sections.specs.declared.version.TableVersion.TheVariants.{V4}
 use Rattle.lsm_files.specs.Fits.{SectionFits}
 use Rattle.lsm_files.specs.Kinds.{index_parts, index_sections}

@@ -1,21 +1,28 @@
-use Rattle.std.proofs.Common.{◌≡◌, true, arith}
+use Rattle.std.proofs.Common.{◌≡◌, ℕ, List, refl, arith, subst, sym, ap, ◌∙◌}
+use Rattle.std.specs.List.Sorted.{IsPartitionedBy}
 use Rattle.sst_entries.specs.Entry.{Entry}
-use Rattle.sst_blocks.specs.Reading.{key_and_number}
-use Rattle.sst_blocks.proofs.Fronts.{probed, probed_test, passes_below, front_found}
+use Rattle.sst_entries.specs.Span.{front_length}
+use Rattle.sst_blocks.specs.Format.{items_of}
+use Rattle.sst_blocks.specs.Reading.{entries_in, entry_format}
+use Rattle.sst_blocks.specs.Starts.{EntriesAt}
+use Rattle.sst_blocks.proofs.Entries.{block_len, block_strict}
 use Rattle.sst_blocks.proofs.data_block.DataBlock.front_len.Goals as goal
 
-pub loop-low-preserved-then-passes : goal.loop-low-preserved-then-passes
-loop-low-preserved-then-passes g c = record {
-  order = omega arith;
-  within = c.loop-low.invariant.within;
-  parts = λ p computes parted.
-      let x = probed key_and_number c.args.self.now _ _ _ c.key_at-seqno.ensures in
-      let passed : p x.item.user_key x.item.seqno ≡ true = probed_test key_and_number _ _ _ _ p _ true x (computes _ _ _ c.passes.ensures) c.if-passes.true in
-      (passes_below (λ (e : Entry). p e.user_key e.seqno) _ _ _ parted x.here passed, (c.loop-low.invariant.parts p computes parted).1);
-}
+pub front_len-requires : goal.front_len-requires
+unfolding entries_in
+front_len-requires g c κs =
+    let spelled = subst (λ (bytes : List ℕ). EntriesAt c.self.inside.version bytes c.self.inside.starts) (sym c.as_slice-payload.ensures) c.self.invariant in
+    ((refl, tt), (spelled, c.requires))
+
+pub returns-clause-within : goal.returns-clause-within
+returns-clause-within g c = omega (arith, c.front_len.ensures.within, block_len _ _ _ _ c.self.invariant c.self.view_is)
+
+pub returns-clause-strict : goal.returns-clause-strict
+returns-clause-strict g c = block_strict _ _ _ _ c.self.invariant c.self.view_is
 
 pub returns-clause-value : goal.returns-clause-value
+unfolding entries_in
 returns-clause-value g c p computes parted =
-    let parts = c.loop-low.invariant.parts p computes parted in
-    let end : c.loop-low.high ≡ c.loop-low.low = omega (arith, c.loop-low.invariant.order, c.loop-low-test.false) in
-    front_found (λ (e : Entry). p e.user_key e.seqno) _ _ (omega (arith, end, c.loop-low.invariant.within)) parts.0 (λ e some. parts.1 e (rw end some))
+    let q = λ (e : Entry). p e.user_key e.seqno in
+    let same : items_of (entry_format c.self.inside.version) c.as_slice-payload.result.now ≡ c.args.self.now = ap (items_of (entry_format c.self.inside.version)) c.as_slice-payload.ensures ∙ c.self.view_is in
+    c.front_len.ensures.value p computes (subst (IsPartitionedBy q) (sym same) parted) ∙ ap (front_length q) same

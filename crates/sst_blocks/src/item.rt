@@ -1,0 +1,134 @@
+//! What a block holds: entries or handles, one behind the other.
+ghost use Rattle.std.specs.Prelude.{◌≡◌, ◌+◌, ◌++◌, ◌<◌, ◌^◌, length, take, vec_len};
+ghost use Rattle.std.specs.Prelude.{IfErr, IfOk, OnErr, OnOk};
+ghost use Rattle.std.specs.List.{AllByRecursion};
+ghost use Rattle.sst_blocks.specs.Block.{header_len};
+ghost use Rattle.sst_blocks.specs.Bounds.{bound_of};
+ghost use Rattle.sst_blocks.specs.Encoding.{items_fault};
+ghost use Rattle.sst_blocks.specs.Payload.{AreFit, items_payload};
+ghost use Rattle.sst_entries.specs.Error.{Faults, FaultsFirst, Refuses};
+ghost use Rattle.sst_entries.specs.declared.error.Error.TheVariants.{OutOfMemory};
+
+use crate::Error;
+use crate::block::{EMPTY_LEN, Header};
+use sst_sections::number::put_u32;
+use std::alloc::Allocator;
+
+/// An entry or a handle, as a block holds it.
+pub(crate) trait Item {
+    ghost use Rattle.std.specs.Prelude.{◌≡◌, ◌+◌, ◌++◌, ◌<◌, ℕ, List, Option, Some, length};
+    ghost use Rattle.std.specs.Prelude.{take, vec_len, IfErr, OnOk};
+    ghost use Rattle.sst_blocks.specs.Bounds.{capped};
+    ghost use Rattle.sst_entries.specs.declared.error.Error.{Error};
+    ghost use Rattle.sst_entries.specs.declared.error.Error.TheVariants.{OutOfMemory};
+
+    // Its bytes, as it is written.
+    ghost bytes: { Self → List ℕ };
+
+    // What has such bytes.
+    ghost Fits: { Self → Type 0 };
+
+    // No part of it is too long.
+    ghost Short: { Self → Type 0 };
+
+    // Its fault, or else a later one.
+    ghost fault_or: { Self → Option Error → Option Error };
+
+    // How many bytes it takes.
+    ghost bound: { Self → ℕ };
+
+    /// Refused for the first of its parts that is too long.
+    fn test(&self) -> Result<(), Error>
+        ensures short { OnOk result (Short self.now) }
+        ensures fine { OnOk result ((later : Option Error) → fault_or self.now later ≡ later) }
+        ensures refused { IfErr result (λ e.
+            (later : Option Error) → fault_or self.now later ≡ Some e) };
+
+    /// A length with this item more. It stays at `u64::MAX` where the sum would pass it.
+    fn added_to(&self, len: u64) -> u64
+        ensures { result ≡ capped (len + bound self.now) };
+
+    /// Writes the item at the end of `buf`. What `buf` held stays at its front.
+    fn put<A: Allocator>(&self, buf: &mut Vec<u8, A>) -> Result<(), Error>
+        requires { Short self.now }
+        ensures ok { OnOk result (buf.new.items ≡ buf.old.items ++ bytes self.now) }
+        ensures fits { OnOk result (Fits self.now) }
+        ensures front { take (vec_len buf.old) buf.new.items ≡ buf.old.items }
+        ensures err { IfErr result (λ e. e ≡ OutOfMemory) };
+
+    /// A law: an item takes as many bytes as are said, and they are some. The call does nothing.
+    fn takes()
+        ensures { (x : Self) → (length (bytes x) ≡ bound x) × (0 < bound x) };
+}
+
+/// The length of the block of these items, with its header, in bytes. It stays at `u64::MAX` where
+/// the sum would pass it.
+pub(crate) fn block_bound<T: Item>(items: &[T]) -> u64
+    ensures { result ≡ bound_of T.bound items.now }
+{
+    let mut bound = EMPTY_LEN;
+    for item in items {
+        bound = item.added_to(bound);
+    }
+    bound
+}
+
+/// The length of the block of these items, with its header. Refused for the first item that is too
+/// long, then [`Error::BlockTooLarge`] where the length is 2^32 or more.
+fn block_len<T: Item>(items: &[T]) -> Result<u64, Error>
+    ensures len { IfOk result (λ len. (len ≡ bound_of T.bound items.now) × (len < 2 ^ 32)) }
+    ensures short { OnOk result (AllByRecursion T.Short items.now) }
+    ensures refused { Refuses result (items_fault T.fault_or T.bound items.now) }
+{
+    let mut bound = EMPTY_LEN;
+    for item in items {
+        item.test()?;
+        bound = item.added_to(bound);
+    }
+    if bound > u64::from(u32::MAX) {
+        return Err(Error::BlockTooLarge);
+    }
+    Ok(bound)
+}
+
+/// Writes the count and then each item. What `buf` held stays at its front.
+fn put_items<T: Item, A: Allocator>(buf: &mut Vec<u8, A>, items: &[T]) -> Result<(), Error>
+    requires short { AllByRecursion T.Short items.now }
+    requires few { length items.now < 2 ^ 32 }
+    ensures ok { OnOk result (buf.new.items ≡ buf.old.items ++ items_payload T.bytes items.now) }
+    ensures fit { OnOk result (AreFit T.Fits items.now) }
+    ensures front { take (vec_len buf.old) buf.new.items ≡ buf.old.items }
+    ensures err { IfErr result (λ e. e ≡ OutOfMemory) }
+{
+    put_u32(buf, items.len() as u32)?;
+    for item in items {
+        item.put(buf)?;
+    }
+    Ok(())
+}
+
+/// Writes the payload of a block of these items at the end of `buf`. Refused for the first item
+/// that is too long, then [`Error::BlockTooLarge`] where the block's length is 2^32 or more; and
+/// [`Error::OutOfMemory`]. `buf` is then as it was.
+pub(crate) fn encode<T: Item, A: Allocator>(buf: &mut Vec<u8, A>, items: &[T]) -> Result<(), Error>
+    ensures ok { OnOk result (buf.new.items ≡ buf.old.items ++ items_payload T.bytes items.now) }
+    ensures unchanged { OnErr result (buf.new.items ≡ buf.old.items) }
+    ensures refused { Faults result (items_fault T.fault_or T.bound items.now) }
+    // What is found before anything is written takes no memory.
+    ensures first { FaultsFirst result (items_fault T.fault_or T.bound items.now) }
+    ensures fit { OnOk result (AreFit T.Fits items.now) }
+    ensures bound { let len = header_len + length (items_payload T.bytes items.now) in
+        OnOk result (len ≡ bound_of T.bound items.now) }
+    ensures short { OnOk result (header_len + length (items_payload T.bytes items.now) < 2 ^ 32) }
+{
+    T::takes();
+    let len = block_len(items)?;
+    let start = buf.len();
+    // One growth holds the payload.
+    buf.reserve(len as usize - Header::LEN as usize)?;
+    let outcome = put_items(buf, items);
+    if outcome.is_err() {
+        buf.truncate(start);
+    }
+    outcome
+}

@@ -1,0 +1,105 @@
+//! Reading the items of a payload, in the one walk that tests the grammar and says where they begin.
+ghost use Rattle.std.specs.Prelude.{◌≡◌, ◌<◌, ◌≤◌, ◌^◌, None, true, false, length, is_some};
+ghost use Rattle.std.specs.Prelude.{IfErr, IfOk, IsTrue};
+ghost use Rattle.sst_blocks.specs.Format.{items_in};
+ghost use Rattle.sst_blocks.specs.Starts.{ItemsAt};
+ghost use Rattle.sst_entries.specs.Error.{is_memory};
+ghost use Rattle.sst_entries.specs.declared.error.Error.TheVariants.{InvalidBlock};
+
+mod find;
+mod places;
+
+use crate::{Error, SeqNo, TableVersion};
+pub(crate) use find::find_item;
+pub(crate) use places::{front_len, item_at, key_at};
+use sst_sections::number::u32_at;
+use std::alloc::Allocator;
+
+/// An entry or a handle whose parts lie in borrowed bytes.
+pub(crate) trait ItemRef<'a>: Copy {
+    ghost use Rattle.std.specs.Prelude.{◌≡◌, Option, Some, None};
+    ghost use Rattle.std.specs.Option.{option_map};
+    ghost use Rattle.sst_blocks.specs.Format.{Advances, Format, IsFormat};
+    ghost use Rattle.sst_blocks.specs.Reading.{key_and_number};
+    ghost use Rattle.sst_entries.specs.Point.{read_place};
+    ghost use Rattle.sst_entries.specs.Strict.{is_before, may_follow};
+    ghost use Rattle.sst_sections.specs.declared.version.TableVersion.{TableVersion};
+
+    // What it stands for.
+    ghost Told: { Type 0 };
+
+    ghost told: { Self → Told };
+
+    // How that is spelled and read.
+    ghost format: { TableVersion → Format Told };
+
+    // What has a spelling.
+    ghost Fits: { TableVersion → Told → Type 0 };
+
+    /// The item at the front of some bytes, and the bytes after it.
+    fn read(version: TableVersion, bytes: &'a [u8]) -> Option<(Self, &'a [u8])>
+        ensures { option_map (λ x. (told x.0, x.1.now)) result ≡
+            (format version).read bytes.now };
+
+    /// The key and the number of the item at the front of some bytes.
+    fn read_key(version: TableVersion, bytes: &'a [u8]) -> (&'a [u8], SeqNo)
+        requires { (format version).read bytes.now ≡ None → ⊥ }
+        ensures { let key = λ (x : Told). key_and_number ((format version).key x) in
+            option_map (λ x. key x.0) ((format version).read bytes.now)
+            ≡ Some (result.0.now, result.1) };
+
+    /// Whether the item may stand after another, or at the front.
+    fn may_follow(&self, last: &Option<Self>) -> bool
+        ensures { (v : TableVersion) → let key = λ (x : Self). (format v).key (told x) in
+            result ≡ may_follow (option_map key last.now) (key self.now) };
+
+    /// Whether a read of a key at a number comes before the item.
+    fn is_past(&self, key: &[u8], seqno: SeqNo) -> bool
+        ensures { (v : TableVersion) →
+            result ≡ is_before (read_place key.now seqno) ((format v).key (told self.now)) };
+
+    /// A law: what is read is spelled so, and what is spelled so is read. The call does nothing.
+    fn is_format(version: TableVersion)
+        ensures law { IsFormat (format version) (Fits version) }
+        ensures advances { Advances (format version) };
+}
+
+/// Where the items of a payload begin. Refused [`Error::InvalidBlock`] where the payload does not
+/// spell a strict list of items, and [`Error::OutOfMemory`]. Where it was tested before that it
+/// does, no keys are compared.
+pub(crate) fn starts_in<'a, R: ItemRef<'a>, A: Allocator>(
+    alloc: A,
+    version: TableVersion,
+    payload: &'a [u8],
+    is_tested: bool,
+) -> Result<Vec<u32, A>, Error>
+    requires long { 4 ≤ length payload.now }
+    requires short { length payload.now < 2 ^ 32 }
+    requires tested { IsTrue is_tested → is_some (items_in (R.format version) payload.now) ≡ true }
+    ensures found { IfOk result (λ starts.
+        ItemsAt (R.format version) payload.now starts.items) }
+    ensures fault { IfErr result (λ e. is_memory e ≡ false →
+        (e ≡ InvalidBlock) × (items_in (R.format version) payload.now ≡ None)) }
+{
+    R::is_format(version);
+    let count = u32_at(payload);
+    let mut starts = Vec::with_capacity(alloc, count as usize)?;
+    let mut rest = &payload[4..];
+    let mut last: Option<R> = None;
+    for _ in 0..count {
+        let start = (payload.len() - rest.len()) as u32;
+        let Some(read) = R::read(version, rest) else {
+            return Err(Error::InvalidBlock);
+        };
+        if !is_tested && !read.0.may_follow(&last) {
+            return Err(Error::InvalidBlock);
+        }
+        starts.push(start)?;
+        last = Some(read.0);
+        rest = read.1;
+    }
+    if !rest.is_empty() {
+        return Err(Error::InvalidBlock);
+    }
+    Ok(starts)
+}

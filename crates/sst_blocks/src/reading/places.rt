@@ -1,0 +1,85 @@
+//! What stands at the places where the items of a payload begin, and the search for one of them.
+ghost use Rattle.std.specs.Prelude.{◌≡◌, ◌<◌, ◌≤◌, ℕ, Bool, List, Some, length};
+ghost use Rattle.std.specs.List.{slice_get};
+ghost use Rattle.std.specs.List.Sorted.{IsPartitionedBy};
+ghost use Rattle.std.specs.Option.{option_map};
+ghost use Rattle.sst_blocks.specs.Format.{items_of};
+ghost use Rattle.sst_blocks.specs.Reading.{key_and_number};
+ghost use Rattle.sst_blocks.specs.Starts.{ItemsAt};
+ghost use Rattle.sst_entries.specs.Span.{front_length};
+
+use super::ItemRef;
+use crate::starts::Starts;
+use crate::{SeqNo, TableVersion};
+use std::alloc::Allocator;
+
+/// The item of a place.
+#[inline(always)]
+pub(crate) fn item_at<'a, R: ItemRef<'a>, A: Allocator>(
+    version: TableVersion,
+    payload: &'a [u8],
+    starts: &Starts<A>,
+    index: usize,
+) -> R
+    requires spelled { ItemsAt (R.format version) payload.now starts.now }
+    requires within { index < length starts.now }
+    ensures { slice_get (items_of (R.format version) payload.now) index ≡ Some (R.told result) }
+{
+    R::is_format(version);
+    let start = starts.at(index);
+    match R::read(version, &payload[start..]) {
+        Some(read) => read.0,
+        None => unreachable!(),
+    }
+}
+
+/// The key and the number of the item of a place.
+#[inline(always)]
+pub(crate) fn key_at<'a, R: ItemRef<'a>, A: Allocator>(
+    version: TableVersion,
+    payload: &'a [u8],
+    starts: &Starts<A>,
+    index: usize,
+) -> (&'a [u8], SeqNo)
+    requires spelled { ItemsAt (R.format version) payload.now starts.now }
+    requires within { index < length starts.now }
+    ensures { let f = R.format version in
+        option_map (λ x. key_and_number (f.key x)) (slice_get (items_of f payload.now) index)
+        ≡ Some (result.0.now, result.1) }
+{
+    R::is_format(version);
+    let start = starts.at(index);
+    R::read_key(version, &payload[start..])
+}
+
+/// How many items at the front pass a test of their keys and numbers, by binary search: no item
+/// passes after one that does not.
+pub(crate) fn front_len<'a, R: ItemRef<'a>, A: Allocator, P: Fn(&[u8], SeqNo) -> bool>(
+    version: TableVersion,
+    payload: &'a [u8],
+    starts: &Starts<A>,
+    passes: P,
+) -> usize
+    requires spelled { ItemsAt (R.format version) payload.now starts.now }
+    requires callable { P.IsAlwaysCallable passes }
+    ensures within { result ≤ length starts.now }
+    ensures value { (p : List ℕ → ℕ → Bool) →
+        ((key : _) (n : _) (r : _) → P.post passes key n r → r ≡ p key.now n) →
+        let f = R.format version in
+        let q = λ (x : R.Told). p (f.key x).user_key (f.key x).seqno in
+        let items = items_of f payload.now in
+        IsPartitionedBy q items → result ≡ front_length q items }
+{
+    let mut low = 0;
+    let mut high = starts.len();
+    while low < high {
+        let middle = low + (high - low) / 2;
+        let (key, seqno) = key_at::<R, A>(version, payload, starts, middle);
+        if passes(key, seqno) {
+            low = middle + 1;
+        } else {
+            high = middle;
+        }
+    }
+    low
+}
