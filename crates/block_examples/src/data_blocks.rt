@@ -222,7 +222,8 @@ fn a_point_read_finds_the_newest_version_below_a_number(rt: HostRuntime) {
     }
 }
 
-// Whether point reads in the block of such entries find a@7, a tombstone, and c@0, a weak one, and e@3 with its value.
+// Whether point reads in the block of such entries find a@7, a tombstone, and c@0, a weak one, and
+// e@3 with its value.
 fn finds_three(block: Result<DataBlock, Error>, items: &[InternalValue]) -> Result<bool, Error> {
     let block = block?;
     let found = block.len() == 5
@@ -334,7 +335,8 @@ fn leaves(alloc: Global, case: &(Edge, &[u8], SeqNo, SeqNo)) -> bool {
     is_answer(left_of_five(alloc, edge, key), (first != 99, (first, last)))
 }
 
-// How a key is sought, the key, and the first entry and the last, which is 99 where there are fewer than two.
+// How a key is sought, the key, and the first entry and the last, which is 99 where there are fewer
+// than two.
 const SEEKS: &[(Edge, &[u8], SeqNo, SeqNo)] = &[
     (AT_LEAST, b"a", 9, 3),
     (AT_LEAST, b"b", 0, 3),
@@ -403,8 +405,8 @@ fn a_later_seek_widens_no_window(rt: HostRuntime) {
     assert!(rt; holds(asked(block_of_five(rt.alloc()), edges_stay_crossed)));
 }
 
-// A payload of a count, and of entries by their tag, their number, both of their lengths and the first of the two bytes
-// behind them.
+// A payload of a count, and of entries by their tag, their number, both of their lengths and the
+// first of the two bytes behind them.
 macro_rules! payload {
     ($count:expr; $([$tag:expr, $seqno:expr, $key_len:expr, $value_len:expr, $first:expr]),*) => {
         &[

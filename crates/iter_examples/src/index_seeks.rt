@@ -181,8 +181,8 @@ fn seeks_leave_what_lies_between_their_edges(rt: HostRuntime) {
 
 // ---- want of memory
 
-// What came of calls: each answer as where memory is ample; or want of memory at the call of a place,
-// or before there was an iterator, and nothing after it; or something else.
+// What came of calls: each answer as where memory is ample; or want of memory at the call of a
+// place, or before there was an iterator, and nothing after it; or something else.
 #[derive(Drop)]
 enum Came {
     Ample,

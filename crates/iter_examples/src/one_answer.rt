@@ -16,7 +16,8 @@ const ROWS: &[Row<'static>] = &[
     (b"c", 2, ValueType::Value, b"x"),
 ];
 
-// What is in partitions, the filter's bits for a key, in tenths, and whether filter and index stay loaded.
+// What is in partitions, the filter's bits for a key, in tenths, and whether filter and index stay
+// loaded.
 type Kind = (Parted, u32, bool, bool);
 
 const KINDS: &[Kind] = &[
@@ -59,8 +60,8 @@ const ABOVE_A: &[Option<Name>] = &[C12, C16, B11, None];
 // What a point read finds and a scan, and two ranges.
 type Reads<S, R> = ((Option<InternalValue<Global>>, S), (R, R));
 
-// Whether they give what they should: a point read of a below 19, from the back what lies above a up to c, all entries, and what
-// a scan gives.
+// Whether they give what they should: a point read of a below 19, from the back what lies above a
+// up to c, all entries, and what a scan gives.
 fn all_give<S: Walk, R: Walk>(reads: &mut Reads<S, R>) -> Result<bool, Error> {
     match &reads.0.0 {
         Some(item) if item.key.seqno == 17 => {}

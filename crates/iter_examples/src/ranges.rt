@@ -341,7 +341,8 @@ fn wrong_range(
     asked(table, |table| wrong_pair(alloc, table, rows))
 }
 
-// The first wrong range of the list of a number, with blocks of some size, if the number is that of a small list.
+// The first wrong range of the list of a number, with blocks of some size, if the number is that of
+// a small list.
 fn wrong_in(
     alloc: Global,
     kind: &Kind,
@@ -385,7 +386,8 @@ fn is_over<W: Walk>(iter: &mut W) -> bool {
     iter.step(F) == Ok(None) && iter.step(B) == Ok(None)
 }
 
-// Whether the steps give what they should; an error where a step is refused, behind which nothing follows from either end.
+// Whether the steps give what they should; an error where a step is refused, behind which nothing
+// follows from either end.
 fn gives_or_ends<W: Walk + Drop>(iter: Result<W, Error>, steps: &[Step]) -> Result<bool, Error> {
     let mut iter = iter?;
     match gives(&mut iter, steps) {
@@ -414,7 +416,8 @@ fn deals_from_both_ends<A: Allocator + Copy>(
     )
 }
 
-// Whether the range is dealt, also where there is no memory for marks, or a refused request is answered as one.
+// Whether the range is dealt, also where there is no memory for marks, or a refused request is
+// answered as one.
 fn is_dealt(
     heap: &Refusing,
     may_fail: bool,

@@ -1,11 +1,19 @@
 //! Packing runs into as few as there can be.
-ghost use Rattle.std.specs.Prelude.{◌≡◌, ◌≢◌, ◌<◌, ◌≤◌, ◌∷◌, ◌++◌, ⊤, true, List, [], length, reverse, Contains, IsSome, IfOk, IfErr, IfSome, MatchOption, OnOk, None, Ok, Some};
+ghost use Rattle.std.specs.Prelude.{◌≡◌, ◌≢◌, ◌<◌, ◌≤◌, ◌∷◌, ◌++◌, ⊤, true, List, [], length};
+ghost use Rattle.std.specs.Prelude.{reverse, Contains, IsSome, IfOk, IfErr, IfSome, MatchOption};
+ghost use Rattle.std.specs.Prelude.{OnOk, None, Ok, Some};
 ghost use Rattle.std.specs.Option.{option_copied};
 ghost use Rattle.sst_entries.specs.declared.error.Error.TheVariants.{OutOfMemory};
-ghost use Rattle.lsm_ranges.specs.Links.{runs_with_places, run_with_places, IsStack, TableWithPlace};
-ghost use Rattle.lsm_ranges.specs.LinkedRuns.{link_range, AreAtPlaces, AreEarlier, ArePackedLinks, IsBelow};
+ghost use Rattle.lsm_ranges.specs.Links.{runs_with_places, run_with_places, IsStack};
+ghost use Rattle.lsm_ranges.specs.Links.{TableWithPlace};
+ghost use Rattle.lsm_ranges.specs.LinkedRuns.{link_range, AreAtPlaces, AreEarlier, ArePackedLinks};
+ghost use Rattle.lsm_ranges.specs.LinkedRuns.{IsBelow};
 ghost use Rattle.lsm_ranges.specs.declared.optimize.Link.{Link};
-ghost use Rattle.lsm_ranges.specs.Packing.{count_to_last, put, put_all, tables_of, touches, AddsTables, AreDisjointRuns, AreTablesWellFormed, AreInOrder, AreNotEmpty, ArePacked, ArePlaced, AreWellFormed, IsChain, IsLeastSize, SameHolders, SameTables};
+ghost use Rattle.lsm_ranges.specs.Packing.{count_to_last, put, put_all, tables_of, touches};
+ghost use Rattle.lsm_ranges.specs.Packing.{AddsTables, AreDisjointRuns, AreTablesWellFormed};
+ghost use Rattle.lsm_ranges.specs.Packing.{AreInOrder, AreNotEmpty, ArePacked, ArePlaced};
+ghost use Rattle.lsm_ranges.specs.Packing.{AreWellFormed, IsChain, IsLeastSize, SameHolders};
+ghost use Rattle.lsm_ranges.specs.Packing.{SameTables};
 ghost use Rattle.lsm_ranges.specs.Run.{IsInOrder};
 
 use crate::{KeyRange, Ranged, Run};

@@ -363,8 +363,8 @@ fn the_tables_that_overlap_a_range(rt: HostRuntime) {
     }
 }
 
-// The id of the second of four tables, which is removed; and then whether its least key is found, and the places of the tables
-// in its range.
+// The id of the second of four tables, which is removed; and then whether its least key is found,
+// and the places of the tables in its range.
 fn without_second(run: &mut Run<FakeTable>) -> (Option<u64>, bool, Option<(usize, usize)>) {
     let removed = remove_second(run);
     let is_found = run.get_for_key(b"e").is_some();
@@ -392,7 +392,8 @@ fn a_removed_table_is_not_found(rt: HostRuntime) -> Result<(), Fail> {
     Ok(())
 }
 
-// Puts a table behind four: whether they are in order, and are five. Then retains the four: whether they are as before.
+// Puts a table behind four: whether they are in order, and are five. Then retains the four: whether
+// they are as before.
 fn put_behind_and_retain(
     alloc: Global,
     run: &mut Run<FakeTable>,
@@ -447,7 +448,8 @@ fn push_all(run: &mut Run<FakeTable>, tables: Vec<FakeTable>) -> Result<(), Erro
     Ok(())
 }
 
-// Pushes two tables to a run of one: whether they follow it. Then clears the run: whether it is empty.
+// Pushes two tables to a run of one: whether they follow it. Then clears the run: whether it is
+// empty.
 fn push_two_and_clear(alloc: Global, run: &mut Run<FakeTable>) -> Result<(bool, bool), Error> {
     push_all(run, tables_of(alloc, &[(1, "a", "c"), (2, "a", "a")])?)?;
     let are_three = has_ids(run.as_slice(), &[0, 1, 2]);

@@ -22,7 +22,8 @@ const D1: &[Row<'static>] = &[(b"d", 1, ValueType::Value, b"x")];
 // The second run is of two tables.
 const TWO_RUNS: &[Lists] = &[&[A9_B3], &[A5_C2, D1]];
 
-// What a read answers, and how many blocks it loads: of data, of an index, of a filter and of meta items.
+// What a read answers, and how many blocks it loads: of data, of an index, of a filter and of meta
+// items.
 type Answer = (Result<Option<SeqNo>, Error>, [u64; 4]);
 
 fn loads_of(opened: &Opened) -> [u64; 4] {

@@ -1,4 +1,5 @@
-//! Reads with each request for memory refused in turn. One function tries them all, so that its call is proved once.
+//! Reads with each request for memory refused in turn. One function tries them all, so that its
+//! call is proved once.
 use crate::{chains, readers, several};
 use example_tables::runs::is_right;
 use refusing::{Refusing, each_refused};

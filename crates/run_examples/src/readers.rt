@@ -54,7 +54,8 @@ const FROM_E_BEFORE_D: Bounds<'static> = (Bound::Included(b"e"), Bound::Excluded
 
 const FROM_K_TO_B: Bounds<'static> = (Bound::Included(b"k"), Bound::Included(b"b"));
 
-// A step of a reader: an end, the key that it gives, and how many tables were opened then. 0 is the end.
+// A step of a reader: an end, the key that it gives, and how many tables were opened then. 0 is the
+// end.
 type Step = (Direction, u8, usize);
 
 // The key of a name, 0 where there is none.
@@ -308,7 +309,8 @@ fn past_the_last_key_of_a_run_there_is_no_reader(rt: HostRuntime) {
 
 const NOTHING: &[Step] = &[(F, 0, 1), (B, 0, 1)];
 
-// From `e` to `d` both included the table of both is in the span; where `d` is left out none starts before it.
+// From `e` to `d` both included the table of both is in the span; where `d` is left out none starts
+// before it.
 #[test]
 fn reversed_bounds_give_nothing(rt: HostRuntime) {
     assert!(rt; reads(rt.alloc(), FROM_E_TO_D, NOTHING));
@@ -366,8 +368,8 @@ const D_TO_I: &[Step] = &[
     (B, 0, 2),
 ];
 
-// Whether a reader gives these steps, and nothing follows from either end; where a step is refused the refusal, if nothing
-// follows it.
+// Whether a reader gives these steps, and nothing follows from either end; where a step is refused
+// the refusal, if nothing follows it.
 fn gives_or_ends<W: Walk>(reader: &mut W, steps: &[Step]) -> Result<bool, Error> {
     let given = steps_give(reader, steps);
     if is_over(reader) { given } else { Ok(false) }

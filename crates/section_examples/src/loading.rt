@@ -118,7 +118,8 @@ fn the_first_fault_of_a_changed_block(rt: HostRuntime) {
     }
 }
 
-// Whether a block loads with the size of its payload, and in its own kind and with its own size alone.
+// Whether a block loads with the size of its payload, and in its own kind and with its own size
+// alone.
 fn loads_so(source: &BlockSource<Global>, lies: BlockHandle, kind: BlockType, size: usize) -> bool {
     let other = match kind {
         BlockType::Data => BlockType::Meta,
@@ -174,7 +175,8 @@ fn first_not_again_of_stored(alloc: Global) -> Result<Option<u64>, Error> {
     Ok(asked(stored(alloc, &[]), first_of_both)??)
 }
 
-// A block whose checksum was compared and whose grammar was tested loads as before, of a clone of the source too.
+// A block whose checksum was compared and whose grammar was tested loads as before, of a clone of
+// the source too.
 #[test]
 fn a_block_loads_again(rt: HostRuntime) {
     assert!(rt; is_answer(first_not_again_of_stored(rt.alloc()), None));

@@ -1,4 +1,5 @@
-//! The newest versions of some results and of several sources, from both ends and from the front alone.
+//! The newest versions of some results and of several sources, from both ends and from the front
+//! alone.
 ghost use Rattle.std.specs.Prelude.{All};
 ghost use Rattle.std.specs.Iterator.{IsFinite};
 ghost use Rattle.sst_entries.specs.Stream.{CanDeal, nowhere};

@@ -1,8 +1,9 @@
 //! FNV-1a in 64 bits: <http://www.isthe.com/chongo/tech/comp/fnv/>.
 //!
-//! Each byte waits for the one before it, so a hash costs the latency of a multiplication a byte. Two hashes in one loop cost
-//! no more than one, and four little more: [`update_both`], [`hash_four`]. Where a hash is only compared, its bytes are walked
-//! over from both ends at once, in half the time: [`has_hash`], [`have_hashes`].
+//! Each byte waits for the one before it, so a hash costs the latency of a multiplication a byte.
+//! Two hashes in one loop cost no more than one, and four little more: [`update_both`],
+//! [`hash_four`]. Where a hash is only compared, its bytes are walked over from both ends at once,
+//! in half the time: [`has_hash`], [`have_hashes`].
 ghost use Rattle.std.specs.Prelude.{◌≡◌, ◌↔◌, IsTrue};
 ghost use Rattle.sst_sections.specs.Fnv.{fnv1a, fnv_back, fnv_basis, fnv_from, fnv_step};
 
@@ -113,8 +114,9 @@ fn step_back(hash: u64, byte: u8) -> u64
     hash.wrapping_mul(INVERSE) ^ u64::from(byte)
 }
 
-/// Whether some bytes have this FNV-1a hash. A byte's step can be undone, so the front half is hashed and the back half taken
-/// off the hash that they should have, in one loop: they meet in the middle where it is theirs.
+/// Whether some bytes have this FNV-1a hash. A byte's step can be undone, so the front half is
+/// hashed and the back half taken off the hash that they should have, in one loop: they meet in the
+/// middle where it is theirs.
 pub fn has_hash(bytes: &[u8], sum: u64) -> bool
     ensures { IsTrue result ↔ (fnv1a bytes.now ≡ sum) }
 {
@@ -126,7 +128,8 @@ pub fn have_hashes(first: &[u8], first_sum: u64, second: &[u8], second_sum: u64)
     ensures first { IsTrue result.0 ↔ (fnv1a first.now ≡ first_sum) }
     ensures second { IsTrue result.1 ↔ (fnv1a second.now ≡ second_sum) }
 {
-    // Two bytes of each end at a time: with one, the loop's own steps would hold up the multiplications.
+    // Two bytes of each end at a time: with one, the loop's own steps would hold up the
+    // multiplications.
     let twos = first.len().min(second.len()) / 4;
     let mut front = BASIS;
     let mut back = first_sum;

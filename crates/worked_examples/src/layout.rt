@@ -94,8 +94,8 @@ fn sections_of_a_table_that_is_written(rt: HostRuntime) -> Result<(), Fail> {
     Ok(())
 }
 
-// What a table says of itself: its version, its id, how many entries, data blocks and index blocks it has, the length of its
-// data blocks, and its lowest and its highest number.
+// What a table says of itself: its version, its id, how many entries, data blocks and index blocks
+// it has, the length of its data blocks, and its lowest and its highest number.
 fn facts_of(meta: &ParsedMeta) -> [u64; 8] {
     let (lowest, highest) = meta.seqnos;
     [

@@ -124,7 +124,8 @@ fn a_query_that_is_refused_leaves_no_answers(rt: HostRuntime) -> Result<(), Fail
     Ok(())
 }
 
-// What they find in that of several blocks of 46 bytes, where the last byte of that of a@7 is changed, and the mark of that of b@1.
+// What they find in that of several blocks of 46 bytes, where the last byte of that of a@7 is
+// changed, and the mark of that of b@1.
 fn found_in_two_damaged(alloc: Global, sought: &[Sought]) -> Names<Global> {
     let written = written_in_blocks(alloc)?;
     let bytes = overwritten(alloc, written.as_slice(), &[(91, b"?"), (138, b"?")])?;

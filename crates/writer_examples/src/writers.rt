@@ -13,8 +13,8 @@ use sst_blocks::{
 use std::alloc::{Allocator, Global};
 use std::test::Fail;
 
-// How many entries and blocks are cut, how many keys, tombstones, weak ones and values behind those are written, and how
-// many bytes wait.
+// How many entries and blocks are cut, how many keys, tombstones, weak ones and values behind those
+// are written, and how many bytes wait.
 fn counts(writer: &Writer) -> [usize; 7] {
     let meta = writer.metadata();
     [
@@ -163,7 +163,8 @@ fn cut_so_far(writer: &Writer) -> (usize, usize, BlockOffset) {
     (meta.data_block_count, meta.key_count, meta.file_pos)
 }
 
-// The counts of blocks and of keys, and the length, of a table of three versions in blocks of size 0.
+// The counts of blocks and of keys, and the length, of a table of three versions in blocks of size
+// 0.
 fn cut_at_size_0(alloc: Global) -> Result<(usize, usize, BlockOffset), Error> {
     let rows: [Row<'_>; 3] = [
         (b"a", 9, ValueType::Value, b""),

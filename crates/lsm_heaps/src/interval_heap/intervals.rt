@@ -1,6 +1,9 @@
 // The order of an interval heap, restored after one item has changed.
-ghost use Rattle.std.specs.Prelude.{◌≡◌, ◌⊎◌, ℕ, ◌+◌, ◌-◌, ◌*◌, ◌/◌, ◌%◌, ◌<◌, ◌≤◌, length, take, IfNone, IfSome, IsPermutation};
-ghost use Rattle.lsm_heaps.specs.Intervals.{IsIntervalHeap, IsRoot, IsEnd, above_of, IsRisingAt, IsSinkingAt, IsChildEnd, InOrder, IsNode, PrecedesOn, SinksFrom};
+ghost use Rattle.std.specs.Prelude.{◌≡◌, ◌⊎◌, ℕ, ◌+◌, ◌-◌, ◌*◌, ◌/◌, ◌%◌, ◌<◌, ◌≤◌, length, take};
+ghost use Rattle.std.specs.Prelude.{IfNone, IfSome, IsPermutation};
+ghost use Rattle.lsm_heaps.specs.Intervals.{IsIntervalHeap, IsRoot, IsEnd, above_of, IsRisingAt};
+ghost use Rattle.lsm_heaps.specs.Intervals.{IsSinkingAt, IsChildEnd, InOrder, IsNode, PrecedesOn};
+ghost use Rattle.lsm_heaps.specs.Intervals.{SinksFrom};
 
 use crate::order::is_before;
 use sst_entries::Direction;
