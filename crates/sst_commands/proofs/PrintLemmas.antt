@@ -43,7 +43,7 @@ lines_around (x ∷ es) i e some h is =
 -- the line of an entry, part by part
 line_parts : (key number value : List ℕ) (letter : ℕ)
     → (key ++ 32 ∷ (number ++ 32 ∷ (letter ∷ 32 ∷ value))) ++ 10 ∷ []
-      ≡ ((((key ++ 32 ∷ []) ++ number) ++ 32 ∷ letter ∷ 32 ∷ []) ++ value) ++ 10 ∷ []
+    ≡ ((((key ++ 32 ∷ []) ++ number) ++ 32 ∷ letter ∷ 32 ∷ []) ++ value) ++ 10 ∷ []
 line_parts key number value letter = simp append_assoc
 
 pub line_is : (e : Entry) (key number value : List ℕ) (letter : ℕ) → key ≡ printed e.user_key

@@ -64,7 +64,7 @@ found_by : (key : List ℕ) (n : ℕ) (e : Entry) (es : List Entry) (same low is
     → (e.user_key ≡ key → e.seqno < n → has_entry es key n ≡ false)
     → has_entry es key n ≡ has_number n (found_in key n es)
     → ((same && is) || has_entry es key n)
-      ≡ has_number n (cond (same && low) (Some e) (found_in key n es))
+    ≡ has_number n (cond (same && low) (Some e) (found_in key n es))
 found_by key n e es false low is p q r none rest = rest
 found_by key n e es true true true p q r none rest = sym r
 found_by key n e es true true false p q r none rest =

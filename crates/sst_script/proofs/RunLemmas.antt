@@ -35,7 +35,7 @@ runs_held (r ∷ rs) = ((r.is.order, r.is.hold), runs_held rs)
 
 all_same : (rs : List Run)
     → map (λ (ls : List (List Entry)). ok_results (joined ls)) (lists_of rs)
-      ≡ map (λ (r : Run). ok_results r.list) rs
+    ≡ map (λ (r : Run). ok_results r.list) rs
 all_same [] = refl
 all_same (r ∷ rs) =
     let same : joined r.is.lists ≡ r.list = r.is.whole ∙ lift_zero r.list in
@@ -51,7 +51,7 @@ module _ (rs : List Run) (ts : List (List OpenTable)) (same : run_tables rs ≡ 
   -- a read of the runs' tables answers the first match in the sorted entries of all lists
   pub point_gives : (result : Result (Option Entry) Error) (key : List ℕ) (bound : ℕ)
       → ((lists : List (List (List Entry))) → RunsHoldLists ts lists
-        → Gives (λ (x : Option Entry). x) result (Ok (point (union_in lists) key bound)))
+      → Gives (λ (x : Option Entry). x) result (Ok (point (union_in lists) key bound)))
       → Gives (λ (x : Option Entry). x) result (Ok (point (union rs) key bound))
   point_gives result key bound reads =
       subst (λ (es : List Entry). Gives (λ (x : Option Entry). x) result (Ok (point es key bound))) (union_same rs) (reads (lists_of rs) held)
@@ -60,7 +60,7 @@ module _ (rs : List Run) (ts : List (List OpenTable)) (same : run_tables rs ≡ 
   pub range_deals : {S : Type 0} (front back : S → Option (Result Entry Error) → S → Type 0) (s : S)
       (low high from to : Bound (List ℕ)) → low ≡ from → high ≡ to
       → ((lists : List (List (List Entry))) → RunsHoldLists ts lists
-        → DealsList front back (newest (within low high (union_in lists))) s)
+      → DealsList front back (newest (within low high (union_in lists))) s)
       → DealsList front nowhere (newest (within from to (union rs))) s
   range_deals {S} front back s low high from to low_is high_is deals =
       let Deal : List Entry → Bound (List ℕ) → Bound (List ℕ) → Type 0 = λ es l h. DealsList front back (newest (within l h es)) s in

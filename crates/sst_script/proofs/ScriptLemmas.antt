@@ -38,7 +38,7 @@ answered_more A (first ∷ rest) line old between new text more all last =
 -- a line that has a byte before the others
 last_cons : (b x : ℕ) (xs : List ℕ)
     → slice_index (b ∷ x ∷ xs) (length (b ∷ x ∷ xs) - 1)
-      ≡ slice_index (x ∷ xs) (length (x ∷ xs) - 1)
+    ≡ slice_index (x ∷ xs) (length (x ∷ xs) - 1)
 last_cons b x xs =
     let p : length (b ∷ x ∷ xs) - 1 ≡ length (x ∷ xs) = omega arith in
     let q : length (x ∷ xs) - 1 ≡ length xs = omega arith in
@@ -53,14 +53,14 @@ front_cons b x xs =
 
 strip_by : (b x : ℕ) (xs : List ℕ) (e : Bool)
     → cond e (take (length (b ∷ x ∷ xs) - 1) (b ∷ x ∷ xs)) (b ∷ x ∷ xs)
-      ≡ b ∷ cond e (take (length (x ∷ xs) - 1) (x ∷ xs)) (x ∷ xs)
+    ≡ b ∷ cond e (take (length (x ∷ xs) - 1) (x ∷ xs)) (x ∷ xs)
 strip_by b x xs true = front_cons b x xs
 strip_by b x xs false = refl
 
 strip_some : (b : ℕ) (bs : List ℕ)
     → strip_last 10 (b ∷ bs)
-      ≡ cond (slice_index (b ∷ bs) (length (b ∷ bs) - 1) == 10)
-      (take (length (b ∷ bs) - 1) (b ∷ bs)) (b ∷ bs)
+    ≡ cond (slice_index (b ∷ bs) (length (b ∷ bs) - 1) == 10)
+    (take (length (b ∷ bs) - 1) (b ∷ bs)) (b ∷ bs)
 strip_some b bs =
     let some : nat_lt 0 (length (b ∷ bs)) ≡ true = lt-ltb 0 (length (b ∷ bs)) (omega arith) in
     ap (λ (t : Bool). cond (t && (slice_index (b ∷ bs) (length (b ∷ bs) - 1) == 10)) (take (length (b ∷ bs) - 1) (b ∷ bs)) (b ∷ bs)) some

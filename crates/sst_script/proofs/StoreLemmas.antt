@@ -111,7 +111,7 @@ pub executed : (A : Type 0) (command : Command) (rs : List Run) (es left : List 
     → left ≡ []
     → HasRuns new (λ after. Writes (store es rs next) count (store [] after following))
     → HasRuns new (λ after.
-      Executes {A = A} command (store es rs next) (Ok (Tables count)) (store left after following))
+    Executes {A = A} command (store es rs next) (Ok (Tables count)) (store left after following))
 executed A command rs es left next following count new is none done =
     let table : Executes {A = A} Table (store es rs next) (Ok (Tables count)) (store [] done.0 following) = (count, refl, done.2) in (
       done.0,

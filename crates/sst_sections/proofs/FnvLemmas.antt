@@ -91,7 +91,7 @@ fnv_back-none h xs = ap (fnv_from h) (drop_all _ xs (omega arith)) ∙ fnv_from-
 -- one byte more is
 pub fnv_back-more : (h : ℕ) (xs : List ℕ) (i : ℕ) → h < 2 ^ 64 → i < length xs
     → fnv_from (fnv_back h (get_or xs (length xs - 1 - i) 0)) (drop (length xs - (i + 1)) xs)
-      ≡ fnv_from h (drop (length xs - i) xs)
+    ≡ fnv_from h (drop (length xs - i) xs)
 unfolding fnv_from
 fnv_back-more h xs i lt short =
     let at = length xs - 1 - i in
@@ -129,8 +129,8 @@ fnv_from-meets from to front back n xs lf lb le hashed taken =
 -- two bytes more
 pub fnv_from-two : (h : ℕ) (xs : List ℕ) (i : ℕ) → 2 * i + 1 < length xs
     → fnv_from h (take (2 * (i + 1)) xs)
-      ≡ fnv_step (fnv_step (fnv_from h (take (2 * i) xs)) (get_or xs (2 * i) 0))
-      (get_or xs (2 * i + 1) 0)
+    ≡ fnv_step (fnv_step (fnv_from h (take (2 * i) xs)) (get_or xs (2 * i) 0))
+    (get_or xs (2 * i + 1) 0)
 fnv_from-two h xs i lt =
     let next : 2 * (i + 1) ≡ 2 * i + 1 + 1 = omega arith in
     ap (λ (n : ℕ). fnv_from h (take n xs)) next
@@ -141,8 +141,8 @@ fnv_from-two h xs i lt =
 pub fnv_back-two : (h : ℕ) (xs : List ℕ) (i : ℕ) → h < 2 ^ 64
     → fnv_back h (get_or xs (length xs - 1 - 2 * i) 0) < 2 ^ 64 → 2 * i + 1 < length xs
     → fnv_from
-      (fnv_back (fnv_back h (get_or xs (length xs - 1 - 2 * i) 0))
-      (get_or xs (length xs - 2 - 2 * i) 0)) (drop (length xs - 2 * (i + 1)) xs)
+    (fnv_back (fnv_back h (get_or xs (length xs - 1 - 2 * i) 0))
+    (get_or xs (length xs - 2 - 2 * i) 0)) (drop (length xs - 2 * (i + 1)) xs)
     ≡ fnv_from h (drop (length xs - 2 * i) xs)
 fnv_back-two h xs i fits inner_fits lt =
     let inner = fnv_back h (get_or xs (length xs - 1 - 2 * i) 0) in

@@ -108,8 +108,8 @@ module _ (f : SectionName → Option Section) where
   slots_from : (names : List SectionName) (tail : List ℕ) (k : ℕ) (d : SectionName)
       → k < length names
       → (rest : List ℕ)
-        × (drop (16 * k) (flat_map (λ name. slot (f name)) names ++ tail)
-        ≡ slot (f (get_or names k d)) ++ rest)
+      × (drop (16 * k) (flat_map (λ name. slot (f name)) names ++ tail)
+      ≡ slot (f (get_or names k d)) ++ rest)
   slots_from [] tail k d lt = absurd (omega arith)
   slots_from (n ∷ names) tail zero d lt = (flat_map (λ name. slot (f name)) names ++ tail, append_assoc (slot (f n)) (flat_map (λ name. slot (f name)) names) tail)
   slots_from (n ∷ names) tail (suc k) d lt =

@@ -12,7 +12,7 @@ use Rattle.sst_sections.specs.Sections.{body_of, section_at, section_in, is_past
 -- the seven slots of a trailer
 pub sections_read : (bytes cells : List ℕ) → cells ≡ trailer_of bytes
     → map (λ name. section_at (drop (16 * slot_index name) cells)) section_names
-      ≡ map (section_in bytes) section_names
+    ≡ map (section_in bytes) section_names
 unfolding section_in
 sections_read bytes cells e = ap (λ (cells : List ℕ). map (λ name. section_at (drop (16 * slot_index name) cells)) section_names) e
 
