@@ -553,7 +553,7 @@ fn keys_of_a_mebibyte_are_taken_and_longer_ones_refused(rt: HostRuntime) {
     }
 }
 
-// The same bytes in the same memory.
+// A share of some bytes, which takes no memory for them.
 fn shared<A: Allocator>(bytes: &Slice<A>) -> Result<Slice<A>, Error> {
     Ok(bytes.clone()?)
 }

@@ -150,7 +150,8 @@ fn compacted<A: Allocator + Copy>(
     finished(writer, reports)
 }
 
-// The same, opened.
+// Tables, opened, of what is left of runs of some lists, each key in one of its own, and what is
+// reported.
 fn compacted_tables<A: Allocator + Copy>(
     alloc: A,
     lists: &[&[Row<'_>]],

@@ -106,7 +106,8 @@ pub(crate) fn runs_with<A: Allocator + Copy>(
     }
 }
 
-/// The same without a global number.
+/// A run of each of some lists, without a global number. `Source(0)` where they cannot be compacted
+/// together.
 pub(crate) fn runs_of<A: Allocator + Copy>(
     alloc: A,
     lists: &[&[Row<'_>]],

@@ -186,7 +186,9 @@ fn merged<'a>(
     (ascended, queue.len(), made.get(), queue.steps())
 }
 
-// The same through a queue with room for two entries a source, as a merger has.
+// What a merge of sources comes to through a queue with room for two entries a source, as a merger
+// has: how many entries came in order, how many are left, how many comparisons were made, and how
+// many the queue counted.
 fn merges(alloc: Global, sources: &Sources, room: usize) -> Result<(u64, usize, u64, u64), Error> {
     let made = Cell::new(0);
     let queue = LazyTournament::with_capacity(alloc, room)?;

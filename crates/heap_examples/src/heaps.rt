@@ -142,7 +142,8 @@ fn pop_all_alike(
     give_up_nothing(tournament, heap) && are_alike
 }
 
-// The same of both queues made of the numbers.
+// Whether a tournament and an interval heap that are made of some numbers give up the least and the
+// greatest in turn as the pattern has it, and then none.
 fn agree(alloc: Global, items: &[u8], pattern: u32) -> Result<bool, Error> {
     let (tournament, heap) = both(tournament_of(alloc, items), interval_heap_of(alloc, items))?;
     Ok(pop_all_alike(tournament, heap, items, pattern))
@@ -232,7 +233,8 @@ fn agree_by_digits(
     agreed && tournament.len() == heap.len()
 }
 
-// The same of both queues, which are made.
+// Whether a tournament and an interval heap with room for four agree, while they are pushed to and
+// popped as the digits of the code have it.
 fn agree_in_turns(alloc: Global, code: u32, turns: u8) -> Result<bool, Error> {
     let tournament = Tournament::with_capacity(alloc, 4);
     let (tournament, heap) = both(tournament, IntervalHeap::with_capacity(alloc, 4))?;
@@ -282,7 +284,8 @@ fn is_counted_by_digits(mut queue: LazyTournament<u8>, mut code: u32, turns: u8)
     counted
 }
 
-// The same of a lazy tournament that is made.
+// Whether a lazy tournament, made with room for four, gives up what is counted, while it is pushed
+// to and popped as the digits of the code have it.
 fn is_counted_in_turns(alloc: Global, code: u32, turns: u8) -> Result<bool, Error> {
     let queue = LazyTournament::with_capacity(alloc, 4)?;
     Ok(is_counted_by_digits(queue, code, turns))
@@ -437,7 +440,7 @@ fn reuse_tournament<A: Allocator>(queue: &mut Tournament<u8, A>) -> bool
     queue.len() == 0
 }
 
-// The same with an interval heap.
+// Whether an interval heap with room for two is filled and emptied over and over.
 fn reuse_interval_heap<A: Allocator>(queue: &mut IntervalHeap<u8, A>) -> bool
     requires { queue.old.room ≡ 2 }
 {
@@ -464,7 +467,8 @@ fn makes_tournament<A: Allocator + Clone>(memory: A, may_fail: bool) -> bool {
     }
 }
 
-// The same of an interval heap.
+// Whether an interval heap with room for three is made, and empty, where no memory is refused, and
+// else is refused.
 fn makes_interval_heap<A: Allocator>(memory: A, may_fail: bool) -> bool {
     match IntervalHeap::<u8, A>::with_capacity(memory, 3) {
         Ok(queue) => !may_fail && queue.len() == 0,
@@ -477,7 +481,7 @@ fn tournaments_refused(alloc: Global) -> Result<usize, usize> {
     each_refused(alloc, |memory, may_fail| makes_tournament(memory, may_fail))
 }
 
-// The same of an interval heap.
+// How many requests for memory an interval heap makes, each of which may be refused.
 fn interval_heaps_refused(alloc: Global) -> Result<usize, usize> {
     each_refused(alloc, |memory, may_fail| {
         makes_interval_heap(memory, may_fail)
@@ -492,7 +496,8 @@ fn used_tournament(memory: &Refusing) -> Result<(usize, bool), Error> {
     Ok((requests, reuse_tournament(&mut queue)))
 }
 
-// The same of an interval heap.
+// How many requests for memory are made for an interval heap with room for two, and whether it is
+// used over and over.
 fn used_interval_heap(memory: &Refusing) -> Result<(usize, bool), Error> {
     let mut queue = IntervalHeap::with_capacity(memory, 2)?;
     let requests = memory.requests();
@@ -507,7 +512,8 @@ fn tournament_makes(alloc: Global, requests: usize) -> Result<bool, Error> {
     Ok(used == (requests, true) && memory.requests() == requests)
 }
 
-// The same of an interval heap.
+// Whether an interval heap with room for two makes so many requests for memory, all before it is
+// used over and over.
 fn interval_heap_makes(alloc: Global, requests: usize) -> Result<bool, Error> {
     let memory = Refusing::new(alloc, 0);
     let used = used_interval_heap(&memory)?;
@@ -519,7 +525,7 @@ fn gives_up_nothing(mut none: Tournament<u8>) -> bool {
     none.pop_min().is_none() & none.pop_max().is_none()
 }
 
-// The same of one that is made.
+// Whether a tournament that is made without room gives up nothing from either end.
 fn gives_up_nothing_without_room(alloc: Global) -> Result<bool, Error> {
     Ok(gives_up_nothing(Tournament::with_capacity(alloc, 0)?))
 }

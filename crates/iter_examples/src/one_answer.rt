@@ -74,7 +74,7 @@ fn all_give<S: Walk, R: Walk>(reads: &mut Reads<S, R>) -> Result<bool, Error> {
     )
 }
 
-// The same of reads that there may be none of.
+// Whether reads, if there are any, give what they should.
 fn reads_give<S: Walk + Drop, R: Walk + Drop>(
     reads: Result<Reads<S, R>, Error>,
 ) -> Result<bool, Error> {

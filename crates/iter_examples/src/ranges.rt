@@ -139,7 +139,7 @@ fn ranges_by_an_index_of_two_levels(rt: HostRuntime) {
     assert!(rt; are_dealt(rt.alloc(), &Kind::TwoLevels));
 }
 
-// The same table, as an earlier version was stored.
+// The table is as an earlier version stored it.
 #[test]
 fn ranges_of_a_table_of_the_older_version(rt: HostRuntime) {
     assert!(rt; are_dealt(rt.alloc(), &Kind::Older));
@@ -271,7 +271,7 @@ fn deals<W: Walk>(iter: &mut W, names: &[Option<Name>; 5], ends: u32) -> Result<
     Ok(true)
 }
 
-// The same of an iterator that there may be none of.
+// Whether five steps of an iterator, if there is one, give these names at these ends.
 fn all_deal<W: Walk + Drop>(
     iter: Result<W, Error>,
     names: &[Option<Name>; 5],

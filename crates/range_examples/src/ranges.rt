@@ -119,7 +119,8 @@ fn taken_together(
     Ok((is_disjoint, is_range(found?, aggregate)))
 }
 
-// The same of ranges that are let go of.
+// Whether no two of some ranges have a key in common, and whether their aggregate is a range. All
+// of them are let go of.
 fn all_taken_together(
     alloc: Global,
     ranges: Vec<KeyRange>,
@@ -228,7 +229,7 @@ fn has_four_over(run: &Run<FakeTable>, range: &KeyRange) -> Result<bool, Error> 
     Ok(is_range(run.aggregate_key_range()?, range))
 }
 
-// The same of a run and a range that are let go of.
+// Whether a run is in order, has four tables, and reaches over a range. Both are let go of.
 fn is_four_over(run: Run<FakeTable>, range: KeyRange) -> Result<bool, Error> {
     has_four_over(&run, &range)
 }
@@ -327,7 +328,8 @@ fn found_by_range(
         && has_ids(run.get_contained(&range), contained)
 }
 
-// The same of four tables, and of a range with these ends.
+// Whether of four tables those that overlap a range with these ends, and those that it contains,
+// have these ids.
 fn found_in_four(
     alloc: Global,
     range: (&str, &str),
@@ -379,7 +381,8 @@ fn remove_second(run: &mut Run<FakeTable>) -> Option<u64> {
     Some(run.remove(1).id)
 }
 
-// The same of four tables.
+// The id of the second table of the run of four, which is removed; and then whether its least key
+// is found, and the places of the tables in its range.
 fn four_without_second(
     alloc: Global,
 ) -> Result<(Option<u64>, bool, Option<(usize, usize)>), Error> {
@@ -405,7 +408,8 @@ fn put_behind_and_retain(
     Ok((is_in_order, are_five, is_four(alloc, run)?))
 }
 
-// The same of four tables.
+// What putting a table behind the four, and retaining these, leaves: whether the five are in order,
+// and are five, and whether the four are as before.
 fn put_behind_four_and_retained(alloc: Global) -> Result<(bool, bool, bool), Error> {
     put_behind_and_retain(alloc, &mut four(alloc)?)
 }
@@ -429,7 +433,8 @@ fn emptied(run: &mut Run<FakeTable>) -> (bool, bool, Option<(usize, usize)>) {
     (run.is_in_order(), is_found, span)
 }
 
-// The same of four tables.
+// Empties the run of four tables: whether it is in order, whether a key is found, and the places of
+// all tables.
 fn four_emptied(alloc: Global) -> Result<(bool, bool, Option<(usize, usize)>), Error> {
     Ok(emptied(&mut four(alloc)?))
 }
@@ -457,7 +462,8 @@ fn push_two_and_clear(alloc: Global, run: &mut Run<FakeTable>) -> Result<(bool, 
     Ok((are_three, run.as_slice().is_empty()))
 }
 
-// The same of the run of one table.
+// Whether two tables that are pushed to the run of one table follow it, and whether the run is
+// empty once it is cleared.
 fn two_pushed_and_cleared(alloc: Global) -> Result<(bool, bool), Error> {
     push_two_and_clear(alloc, &mut run_of(alloc, &[(0, "a", "b")])?)
 }
@@ -475,7 +481,8 @@ fn put_behind_and_push(alloc: Global, run: &mut Run<FakeTable>) -> Result<bool, 
     Ok(has_ids(run.as_slice(), &[0, 4, 1, 2, 3, 5, 6]))
 }
 
-// The same of four tables.
+// Whether all tables are in order once two were put behind the four, out of order, and one more was
+// pushed.
 fn put_behind_four_and_pushed(alloc: Global) -> Result<bool, Error> {
     put_behind_and_push(alloc, &mut four(alloc)?)
 }

@@ -68,7 +68,7 @@ fn wrong_case(runs: &[Tables<Global>]) -> Option<usize> {
     None
 }
 
-// The same of runs of their own.
+// The first of the cases whose answer is wrong, where the runs are those of `TWO_RUNS`.
 fn wrong_case_of(alloc: Global) -> Result<Option<usize>, Error> {
     Ok(wrong_case(&runs_of(alloc, TWO_RUNS)?))
 }

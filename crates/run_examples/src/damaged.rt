@@ -108,7 +108,7 @@ fn scan_answers<S: Scan>(scanner: &mut S, steps: &[Answer]) -> bool {
     true
 }
 
-// The same of a scanner that there may be none of.
+// Whether the steps of a scanner, if there is one, answer as they should.
 fn scanner_answers<S: Scan + Drop>(
     scanner: Result<S, Error>,
     steps: &[Answer],

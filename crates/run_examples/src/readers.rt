@@ -79,7 +79,8 @@ fn steps_give<W: Walk>(reader: &mut W, steps: &[Step]) -> Result<bool, Error> {
     Ok(true)
 }
 
-// The same where there is a reader, `None` where there is none.
+// Whether the steps of a reader, which has opened no table yet, give what they should; `None` where
+// there is no reader.
 fn gives<W: Walk + Drop>(
     reader: Result<Option<W>, Error>,
     steps: &[Step],
@@ -328,7 +329,7 @@ fn gives_keys<S: Scan>(scanner: &mut S, keys: &[u8]) -> Result<bool, Error> {
     Ok(scanner.scan() == Ok(None) && scanner.scan() == Ok(None))
 }
 
-// The same of a scanner that there may be none of.
+// Whether a scanner, if there is one, gives just these keys.
 fn scanner_gives<S: Scan + Drop>(scanner: Result<S, Error>, keys: &[u8]) -> Result<bool, Error> {
     gives_keys(&mut scanner?, keys)
 }
@@ -416,7 +417,8 @@ fn gives_keys_or_ends<S: Scan>(scanner: &mut S, keys: &[u8]) -> Result<bool, Err
     }
 }
 
-// The same of a scanner that there may be none of.
+// Whether a scanner, if there is one, gives just these keys; where a step is refused the refusal,
+// if nothing follows it.
 fn scanner_gives_or_ends<S: Scan + Drop>(
     scanner: Result<S, Error>,
     keys: &[u8],

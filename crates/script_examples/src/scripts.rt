@@ -411,7 +411,7 @@ fn ends_where_input_fails(alloc: Global, script: &[u8], shown: &[u8], told: &[u8
     status == 2 && output.as_slice() == shown && errors.as_slice() == told
 }
 
-// Likewise, where input fails behind the script.
+// Scripts behind which input fails, what is shown, and what is told.
 const BEFORE_FAILING_INPUT: &[(&[u8], &[u8], &[u8])] = &[
     (b"", b"", b"sst: input\n"),
     (b"get a 1\n\n", b"none\n", b"sst: input\n"),
@@ -468,7 +468,8 @@ fn ends_unflushed(alloc: Global, script: &[u8], told: &[u8], wanted: u8) -> bool
     status == wanted && errors.as_slice() == told
 }
 
-// The same of output that keeps bytes until it is flushed, before output that takes none.
+// Whether a script ends with this status where its output is kept until it is flushed, and then
+// takes no byte.
 fn ends_unkept(alloc: Global, script: &[u8], told: &[u8], wanted: u8) -> io::Result<bool> {
     let mut errors = Vec::new(alloc);
     let mut output = BufWriter::new(alloc, FailingWriter)?;

@@ -162,7 +162,7 @@ fn first_not_again(source: &BlockSource<Global>, clone: &BlockSource<Global>) ->
     None
 }
 
-// The same of a source and its clone.
+// The position of the first block that does not load again of a source and of its clone.
 fn first_of_both(source: &BlockSource<Global>) -> Result<Option<u64>, AllocError> {
     let clone: BlockSource<Global> = source.clone()?;
     let first = first_not_again(source, &clone);
@@ -170,7 +170,8 @@ fn first_of_both(source: &BlockSource<Global>) -> Result<Option<u64>, AllocError
     Ok(first)
 }
 
-// The same of the stored table and a clone of its source.
+// The position of the first block that does not load again of the stored table and of a clone of
+// its source.
 fn first_not_again_of_stored(alloc: Global) -> Result<Option<u64>, Error> {
     Ok(asked(stored(alloc, &[]), first_of_both)??)
 }
@@ -326,7 +327,7 @@ fn counted_sizes<A: Allocator + Copy>(
     Ok((sizes, counted.opened()))
 }
 
-// The same, where the source was made.
+// What was loaded of a source, if it was made, and the counts.
 fn counted_sizes_of<A: Allocator + Copy>(
     source: Result<BlockSource<A>, Error>,
 ) -> Result<((usize, usize), Opened), Error> {
@@ -369,7 +370,8 @@ fn requests_of_a_source(alloc: &Refusing) -> Result<(usize, usize), Error> {
     Ok((first, last))
 }
 
-// The same where one request is refused.
+// How many requests the bytes take, and how many with the source over them, where one request is
+// refused.
 fn requests_but(alloc: Global, nth: usize) -> Result<(usize, usize), Error> {
     requests_of_a_source(&Refusing::new(alloc, nth))
 }

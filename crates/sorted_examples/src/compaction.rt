@@ -151,7 +151,8 @@ fn gives_and_reports<I: Iterator<Item = IterItem> + Drop>(
     stream.into_callback().is_done() && given
 }
 
-// The same of some results.
+// Whether a compaction of some results, by these settings, gives these results and reports these
+// entries.
 fn compacts(
     alloc: Global,
     settings: &Settings,

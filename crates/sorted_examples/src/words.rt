@@ -226,7 +226,7 @@ pub fn gives_all<A: Allocator, I: Iterator<Item = IterItem<A>>>(
     is_right && words.next().is_none()
 }
 
-/// The same of a stream that is let go of.
+/// Whether a stream, which is let go of, gives these results to its end.
 pub fn gives_so<A: Allocator, I: Iterator<Item = IterItem<A>> + Drop>(
     mut stream: I,
     wanted: &str,

@@ -78,7 +78,7 @@ fn put_changed<A: Allocator>(
     Ok(1)
 }
 
-// The same of an item that is read.
+// Writes an item that is read, as it is changed, and answers how many are written.
 fn put_read<A: Allocator>(
     payload: &mut Vec<u8, A>,
     item: Result<InternalValue<A>, Error>,

@@ -51,7 +51,7 @@ fn stored_answers(alloc: Global, bytes: &[u8], reads: &[Read]) -> Result<bool, E
     asked(opened(alloc, bytes), |table| Ok(answers(table, reads)))
 }
 
-// The same of each stored table.
+// Whether each stored table answers its reads so.
 fn each_answers(alloc: Global) -> Result<[bool; 3], Error> {
     Ok([
         stored_answers(alloc, &one_entry::BYTES, &OF_ONE_ENTRY)?,

@@ -73,7 +73,7 @@ fn is_got(table: &Table, query: &Query, answer: &Answer<'_>) -> bool {
     is_answer(&found, &answer.0) && are_loads(&opened, answer.1)
 }
 
-// The same of a read over a source that counts.
+// Whether a point read over a source that counts answers and loads what it should.
 fn is_read(source: &BlockSource, table: &Table, query: &Query, answer: &Answer<'_>) -> bool {
     let key = query.key.as_slice();
     let mut counted = Counted::new(source);

@@ -78,7 +78,8 @@ fn listed_read<A: Allocator + Copy>(
     with_handle(found, listing.handles.as_slice())
 }
 
-// The same read. Where it is refused for want of memory, it is asked again.
+// What a point read finds, and the blocks that it loads. Where it is refused for want of memory, it
+// is asked again.
 fn repeated_read<A: Allocator + Copy>(
     heap: Global,
     source: &BlockSource<A>,

@@ -48,7 +48,8 @@ fn found_in<A: Allocator + Copy>(alloc: A, table: &Table<A>, sought: &[Sought]) 
     names_of(alloc, get_many(table, &queries)?)
 }
 
-// The same. Where it is refused for want of memory, it is asked again.
+// The names of what queries find in a table. Where they are refused for want of memory, they are
+// asked again.
 fn repeated<A: Allocator + Copy>(alloc: A, table: &Table<A>, sought: &[Sought]) -> Names<A> {
     match found_in(alloc, table, sought) {
         Err(Error::OutOfMemory) => found_in(alloc, table, sought),

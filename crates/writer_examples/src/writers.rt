@@ -135,7 +135,7 @@ fn put_behind(alloc: Global, writer: &mut Writer, row: Row<'_>) -> Result<bool, 
     put_rows(alloc, writer, &[(b"e", 3, ValueType::Tombstone, b""), row])
 }
 
-// The same of a new writer.
+// Whether a new writer, once it was given e@3, takes an entry behind it.
 fn follows(alloc: Global, row: Row<'_>) -> Result<bool, Error> {
     asked_mut(new_writer(alloc), |writer| put_behind(alloc, writer, row))
 }
@@ -212,7 +212,8 @@ fn up_to_the_end(alloc: Global, key: &[u8]) -> Result<[u8; 4], Error> {
     Ok([first, second, cut, last])
 }
 
-// The same of a key of this length.
+// What writing an entry of a key of this length answers, and another one, a cut and the end after
+// it.
 fn after_a_key_of(alloc: Global, len: usize) -> Result<[u8; 4], Error> {
     let key = vec![in alloc; 0x61u8; len]?;
     up_to_the_end(alloc, &key)

@@ -36,7 +36,7 @@ pub(crate) fn order_last<T: Ord>(items: &mut [T])
     }
 }
 
-// The same, where the last item is the second of its node.
+// Puts the last item into order, where it is the second of its node and all others are in order.
 fn order_second<T: Ord>(items: &mut [T], last: usize)
     requires last { length items.old ≡ last + 1 }
     requires others { IsIntervalHeap T.cmp (take last items.old) }
@@ -53,7 +53,8 @@ fn order_second<T: Ord>(items: &mut [T], last: usize)
     }
 }
 
-// The same, where the last item is alone in its node, which is not the root.
+// Puts the last item into order, where it is alone in its node, which is not the root, and all
+// others are in order.
 fn order_single<T: Ord>(items: &mut [T], last: usize)
     requires last { length items.old ≡ last + 1 }
     requires others { IsIntervalHeap T.cmp (take last items.old) }
