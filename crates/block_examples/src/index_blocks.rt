@@ -498,7 +498,8 @@ fn end_at_refusal<A: Allocator>(block: &IndexBlock<A>) -> bool {
     ends_at_refusal(&mut block.iter(), Front, block.len())
 }
 
-// Whether they do so of the block of four, where memory lasts for it.
+// Whether the handles of the block of four, taken from the front, end for good at the first that is
+// refused, where memory lasts for the block.
 fn four_end_at_refusal<A: Allocator + Copy>(alloc: A) -> bool {
     holds_or_refused(asked(block_of_four(alloc), end_at_refusal))
 }

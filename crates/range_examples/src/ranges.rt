@@ -65,7 +65,8 @@ fn compared_ranges(range: KeyRange, other: KeyRange) -> (bool, bool) {
     )
 }
 
-// Whether the same of two ranges with these ends is as wanted.
+// Whether the first of two ranges with these ends overlaps with the second, and contains it, as is
+// wanted.
 fn compared(
     alloc: Global,
     first: (&str, &str),
@@ -281,7 +282,7 @@ fn span_of(run: &Run<FakeTable>, low: Bound<&str>, high: Bound<&str>) -> Option<
     run.range_overlap_indexes(bytes_of(low), bytes_of(high))
 }
 
-// Whether the same of four tables are these places.
+// Whether the first and the last of four tables that overlap with two bounds are at these places.
 fn has_span_in_four(
     alloc: Global,
     low: Bound<&str>,

@@ -87,7 +87,7 @@ fn read_damaged(alloc: Global, damaged: usize, key: &[u8]) -> Result<Answer, Err
     Ok(read(&runs, key, 10))
 }
 
-// Whether it is refused with that many loads of data.
+// Whether a read of two damaged runs is refused with that many loads of data.
 fn is_refused_behind(alloc: Global, damaged: usize, key: &[u8], loads: u64) -> bool {
     read_damaged(alloc, damaged, key) == Ok((DAMAGED, [loads, 0, 0, 0]))
 }

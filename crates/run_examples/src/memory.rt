@@ -17,7 +17,7 @@ pub enum Read {
     Scan,
 }
 
-// Whether it is read right.
+// Whether what is named is read right.
 fn answer<A: Allocator + Copy>(alloc: A, read: &Read) -> Result<bool, Error> {
     match read {
         Read::List => chains::list_is_read(alloc),
@@ -30,7 +30,7 @@ fn answer<A: Allocator + Copy>(alloc: A, read: &Read) -> Result<bool, Error> {
     }
 }
 
-/// Whether it is read right with nothing refused, and with each request refused in turn.
+/// Whether what is named is read right with nothing refused, and with each request refused in turn.
 pub fn is_right_refused(alloc: Global, read: &Read) -> bool {
     let answers = each_refused(alloc, |heap: &Refusing, may_fail: bool| {
         is_right(answer(heap, read), may_fail)

@@ -100,7 +100,7 @@ fn culled<A: Allocator + Copy>(
     span_reader_of(alloc, run_of(alloc, FOUR_TABLES), bounds, span)
 }
 
-// Whether it gives these steps.
+// Whether the reader of a span of the four tables gives these steps.
 fn span_reads<A: Allocator + Copy>(
     alloc: A,
     bounds: Bounds<'_>,
@@ -118,12 +118,12 @@ fn reader_within<A: Allocator + Copy>(
     reader_of(alloc, run_of(alloc, FOUR_TABLES), bounds)
 }
 
-// Whether it gives these steps.
+// Whether the reader of the four tables within bounds gives these steps.
 fn reads<A: Allocator + Copy>(alloc: A, bounds: Bounds<'_>, steps: &[Step]) -> bool {
     gives(reader_within(alloc, bounds), steps) == Ok(Some(true))
 }
 
-// Whether there is none.
+// Whether the four tables have no reader within bounds.
 fn has_no_reader<A: Allocator + Copy>(alloc: A, bounds: Bounds<'_>) -> bool {
     gives(reader_within(alloc, bounds), &[]) == Ok(None)
 }
@@ -339,7 +339,7 @@ fn scanner<A: Allocator + Copy>(alloc: A, span: Span) -> Result<RunScanner<A>, E
     scanner_of(run_of(alloc, FOUR_TABLES), span)
 }
 
-// Whether that of a span of the four tables gives just these keys.
+// Whether the scanner of a span of the four tables gives just these keys.
 fn scans<A: Allocator + Copy>(alloc: A, span: Span, keys: &[u8]) -> bool {
     scanner_gives(scanner(alloc, span), keys) == Ok(true)
 }
@@ -376,7 +376,8 @@ fn gives_or_ends<W: Walk>(reader: &mut W, steps: &[Step]) -> Result<bool, Error>
     if is_over(reader) { given } else { Ok(false) }
 }
 
-// Whether there is a reader, and it does.
+// Whether there is a reader, and it gives these steps, and nothing follows from either end; where a
+// step is refused the refusal, if nothing follows it.
 fn reader_gives_or_ends<W: Walk + Drop>(
     reader: Result<Option<W>, Error>,
     steps: &[Step],
@@ -387,12 +388,14 @@ fn reader_gives_or_ends<W: Walk + Drop>(
     }
 }
 
-// Whether that of a span of the four tables does.
+// Whether the reader of the two tables in the middle gives their keys, or ends for good at a
+// refusal.
 pub fn span_gives_or_ends<A: Allocator + Copy>(alloc: A) -> Result<bool, Error> {
     reader_gives_or_ends(culled(alloc, ALL, (Some(1), Some(2))), D_TO_I)
 }
 
-// Whether that of the four tables does.
+// Whether the reader of the four tables gives their keys from both ends in turn, or ends for good
+// at a refusal.
 pub fn run_gives_or_ends<A: Allocator + Copy>(alloc: A) -> Result<bool, Error> {
     reader_gives_or_ends(reader_within(alloc, ALL), IN_TURN)
 }
@@ -426,7 +429,8 @@ fn scanner_gives_or_ends<S: Scan + Drop>(
     gives_keys_or_ends(&mut scanner?, keys)
 }
 
-// Whether that of the four tables but the first does.
+// Whether the scanner of the four tables but the first gives their keys, or ends for good at a
+// refusal.
 pub fn scan_gives_or_ends<A: Allocator + Copy>(alloc: A) -> Result<bool, Error> {
     scanner_gives_or_ends(scanner(alloc, (Some(1), None)), b"defghijkl")
 }

@@ -110,14 +110,14 @@ fn requests_of(alloc: Global, case: &Case) -> Result<Option<usize>, Error> {
     })
 }
 
-// Which of them they give with one request refused.
+// Which of a case's answers both runs give with one request refused.
 fn which_refused(alloc: Global, nth: usize, case: &Case) -> Result<Option<usize>, Error> {
     let heap = Refusing::new(alloc, nth);
     which(&heap, case)
 }
 
-// Notes which of them they gave; `false` where the answer is no other. There may be no memory for
-// the runs.
+// Notes which of a case's answers both runs gave; `false` where theirs is no such answer. There may
+// be no memory for the runs.
 fn meet(met: &mut [bool; 3], answer: Result<Option<usize>, Error>) -> Result<bool, Error> {
     match answer {
         Ok(Some(place)) => {
@@ -132,8 +132,8 @@ fn meet(met: &mut [bool; 3], answer: Result<Option<usize>, Error>) -> Result<boo
     }
 }
 
-// Which of them they give with each request refused in turn; none where one of the answers is no
-// other.
+// Which of a case's answers both runs give with each request refused in turn; none where they once
+// give no such answer.
 fn met(alloc: Global, case: &Case) -> Result<Option<[bool; 3]>, Error> {
     let Some(requests) = requests_of(alloc, case)? else {
         return Ok(None);

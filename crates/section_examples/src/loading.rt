@@ -74,7 +74,7 @@ const LOADS: &[Load] = &[
     ),
 ];
 
-// Whether it answers so.
+// Whether a load of the first block answers as its case says.
 fn is_loaded_so(alloc: Global, case: &Load) -> bool {
     let (size, kind, expected) = case;
     loaded(alloc, &[], handle(0, *size), *kind) == *expected
@@ -132,7 +132,8 @@ fn loads_so(source: &BlockSource<Global>, lies: BlockHandle, kind: BlockType, si
         && loaded_from(source, shorter, kind) == Err(Error::InvalidHeader)
 }
 
-// Whether it does so over and over.
+// Whether a block loads over and over, each time with the size of its payload, and in its own kind
+// and with its own size alone.
 fn loads_again(
     source: &BlockSource<Global>,
     lies: BlockHandle,

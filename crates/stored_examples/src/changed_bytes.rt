@@ -171,7 +171,7 @@ fn open_front(alloc: Global, len: usize) -> Result<(), Error> {
     open(alloc, Slice::from(alloc, front)?, 0).map(drop)
 }
 
-// Whether they are refused as bytes without a trailer.
+// Whether so many first bytes of the stored table are refused as bytes without a trailer.
 fn has_no_trailer(alloc: Global, len: usize) -> bool {
     open_front(alloc, len) == Err(Error::InvalidTrailer)
 }

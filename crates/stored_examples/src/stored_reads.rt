@@ -71,7 +71,7 @@ fn filter_size(alloc: Global, bytes: &[u8]) -> Result<u32, Error> {
     asked(opened(alloc, bytes), |table| Ok(table.filter_size()))
 }
 
-// Those of each stored table.
+// The bytes that the filter of each stored table takes.
 fn filter_sizes(alloc: Global) -> Result<[u32; 3], Error> {
     Ok([
         filter_size(alloc, &one_entry::BYTES)?,

@@ -140,7 +140,8 @@ fn follows(alloc: Global, row: Row<'_>) -> Result<bool, Error> {
     asked_mut(new_writer(alloc), |writer| put_behind(alloc, writer, row))
 }
 
-// Neither an older key, nor the same number again, nor the largest number.
+// What is written behind e@3, and whether it may follow: neither an older key, nor the same number
+// again, nor the largest number.
 const BEHIND: &[(Row<'static>, bool)] = &[
     ((b"d", 1, ValueType::Value, b""), false),
     ((b"e", 3, ValueType::Value, b""), false),
@@ -240,7 +241,7 @@ fn with_options(alloc: Global) -> Result<Writer, Error> {
     )
 }
 
-// Whether it writes nothing.
+// Whether a writer with all its options set, and no entry, writes nothing.
 fn writes_nothing(alloc: Global) -> Result<bool, Error> {
     let writer = with_options(alloc)?;
     let is_empty = writer.is_empty();
