@@ -26,8 +26,8 @@ SpanHas stops s xs = (stops OutOfMemory ≡ true) × (xs ≡ ok_results (rest_in
 
 -- what a call at an end of a span gives: the entry there, and the others are left; want of memory
 -- where there is an entry, and nothing is left; or nothing, where nothing is left
-abbrev pub SpanAnswer : {X : Type 0} → (List X → Option X × List X) → Span X
-    → Option (Result X Error) → Span X → Type 0
+abbrev pub SpanAnswer : {X : Type 0} → (List X → Option X × List X) → Span X →
+    Option (Result X Error) → Span X → Type 0
 SpanAnswer end s None t = (rest_in s ≡ []) × (rest_in t ≡ [])
 SpanAnswer end s (Some (Ok x)) t =
     ((end (rest_in s)).0 ≡ Some x) × (rest_in t ≡ (end (rest_in s)).1)
