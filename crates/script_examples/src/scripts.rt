@@ -348,7 +348,7 @@ const OUT_OF_ORDER: &[(&[u8], &[u8], &[u8])] = &[
         b"tables 1\ntables 1\ntables 1\n",
         b"sst: line 7\n",
     ),
-    // So does each packed run.
+    // A packed run holds what its tables have, under the numbers that it has there.
     (
         b"entry a 4 V x\ntable\nentry b 4 V y\ntable\npack\nentry a 4 V z\ntable",
         b"tables 1\ntables 1\nruns 1\n",

@@ -30,7 +30,7 @@ impl Received {
         }
     }
 
-    // Whether it received all.
+    // Whether all that was wanted was received, and nothing else.
     fn is_done(mut self) -> bool {
         self.is_right && self.words.next().is_none()
     }
@@ -164,7 +164,7 @@ fn compacts(
     Ok(gives_and_reports(settings, items, results, reports))
 }
 
-// In each table: what is compacted, the results, and what is reported.
+// The tables below have what is compacted, the results, and what is reported.
 
 const KEPT: &[(&str, &str, &str)] = &[
     ("aV10 aV3", "aV10 aV3", ""),

@@ -29,7 +29,7 @@ impl<T, A: Allocator> Model for Slots<T, A> {
 }
 
 impl<T, A: Allocator + Clone> Slots<T, A> {
-    // As many empty places, of which `room` may be taken.
+    // So many empty places, of which `room` may be taken.
     pub(crate) fn new(alloc: A, room: usize, places: usize) -> Result<Self, AllocError>
         requires { room ≤ places }
         ensures places { IfOk result (λ s. s.places ≡ replicate places None) }
