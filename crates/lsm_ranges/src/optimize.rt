@@ -198,9 +198,10 @@ fn link_below<'r, 'a, T: Ranged, A: Allocator>(
     ensures found { IfSome result (λ link. Contains run.now link.now ×
         MatchOption (option_copied above.entry) ⊤ (λ a. IsBelow T.range link.now a)) }
     ensures first { option_copied above.entry ≡ None → run.now ≢ [] → IsSome result }
-    ensures next { (a : Link T) → option_copied above.entry ≡ Some a →
-        IsInOrder (link_range T.range) run.now → AreEarlier T.range run.now a →
-        touches (link_range T.range) (link_range T.range a) run.now ≡ true → IsSome result }
+    ensures next { let range = link_range T.range in
+        (a : Link T) → option_copied above.entry ≡ Some a →
+        IsInOrder range run.now → AreEarlier T.range run.now a →
+        touches range (range a) run.now ≡ true → IsSome result }
 {
     match above {
         Some(above) => link_to(run, above),
