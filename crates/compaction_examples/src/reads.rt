@@ -270,8 +270,7 @@ fn seen<A: Allocator + Copy>(
     }
 }
 
-// Whether a reader of some runs sees the same as one of others, of each key at each bound from 7
-// up.
+// Whether a reader of some runs sees the same as one of others, of each key at each bound above 6.
 fn see_the_same<A: Allocator + Copy>(
     runs: &[Tables<A>],
     others: &[Tables<A>],

@@ -63,8 +63,7 @@ fn kept(alloc: Global, run: &Option<Tables<Global>>, mut left: TableIds) -> Resu
     }
 }
 
-// What is kept of a run that is compacted at threshold 10, without tombstones and under the number
-// 0.
+// What is kept of a run that is compacted at threshold 10, without tombstones and numbered 0.
 fn kept_again(alloc: Global, run: Option<Tables<Global>>, ids: TableIds) -> Result<Kept, Error>
     requires { IfSome run (λ run. AreCompactable (arc_value run ∷ [])) }
 {

@@ -66,9 +66,10 @@ impl<A: Allocator> Brackets<A> {
         ensures emptied { self.new.emptied ≡ None }
         ensures plays { PlaysEnd end self.old self.new }
         ensures rises { self.old.steps ≤ self.new.steps }
-        ensures bound { (h : ℕ) → length slots.now ≡ 2 ^ h → self.new.steps ≤ self.old.steps
-            + total_height self.old.front.is_played self.old.back.is_played h
-            + (if is_played_at end self.old then 0 else length slots.now - 1) }
+        ensures bound { let old = self.old in let leaves = length slots.now in
+            (h : ℕ) → leaves ≡ 2 ^ h →
+            self.new.steps ≤ old.steps + total_height old.front.is_played old.back.is_played h
+            + (if is_played_at end old then 0 else leaves - 1) }
     {
         self.settle(slots);
         match end {
