@@ -222,7 +222,8 @@ fn a_point_read_finds_the_newest_version_below_a_number(rt: HostRuntime) {
     }
 }
 
-// Whether point reads in the block of such entries find a@7, a tombstone, and c@0, a weak one, and e@3 with its value.
+// Whether point reads in the block of five entries find a@7, a tombstone, and c@0, a weak one, and
+// e@3 with its value.
 fn finds_three(block: Result<DataBlock, Error>, items: &[InternalValue]) -> Result<bool, Error> {
     let block = block?;
     let found = block.len() == 5
@@ -233,7 +234,8 @@ fn finds_three(block: Result<DataBlock, Error>, items: &[InternalValue]) -> Resu
     Ok(found)
 }
 
-// Whether the block of five gives such entries back whole.
+// Whether point reads in the block of five find a tombstone, a weak one and a value as they were
+// written.
 fn finds_whole_entries(alloc: Global) -> Result<bool, Error> {
     let items = five_entries(alloc)?;
     let found = finds_three(written_and_loaded(alloc, &items), &items);
@@ -334,7 +336,8 @@ fn leaves(alloc: Global, case: &(Edge, &[u8], SeqNo, SeqNo)) -> bool {
     is_answer(left_of_five(alloc, edge, key), (first != 99, (first, last)))
 }
 
-// How a key is sought, the key, and the first entry and the last, which is 99 where there are fewer than two.
+// How a key is sought, the key, and the first entry and the last, which is 99 where there are fewer
+// than two.
 const SEEKS: &[(Edge, &[u8], SeqNo, SeqNo)] = &[
     (AT_LEAST, b"a", 9, 3),
     (AT_LEAST, b"b", 0, 3),
@@ -403,8 +406,8 @@ fn a_later_seek_widens_no_window(rt: HostRuntime) {
     assert!(rt; holds(asked(block_of_five(rt.alloc()), edges_stay_crossed)));
 }
 
-// A payload of a count, and of entries by their tag, their number, both of their lengths and the first of the two bytes
-// behind them.
+// A payload of a count, and of entries by their tag, their number, both of their lengths and the
+// first of the two bytes behind them.
 macro_rules! payload {
     ($count:expr; $([$tag:expr, $seqno:expr, $key_len:expr, $value_len:expr, $first:expr]),*) => {
         &[
@@ -538,7 +541,7 @@ const WRITTEN: &[(usize, Result<usize, Error>)] = &[
     (1048577, Err(Error::KeyTooLong)),
 ];
 
-// Whether they are written so.
+// Whether an entry of this key length is written in so many bytes, or so refused.
 fn is_written_so(alloc: Global, case: &(usize, Result<usize, Error>)) -> bool {
     let (key_len, expected) = case;
     written_len(alloc, *key_len) == *expected
@@ -551,7 +554,7 @@ fn keys_of_a_mebibyte_are_taken_and_longer_ones_refused(rt: HostRuntime) {
     }
 }
 
-// The same bytes in the same memory.
+// A share of some bytes, which takes no memory for them.
 fn shared<A: Allocator>(bytes: &Slice<A>) -> Result<Slice<A>, Error> {
     Ok(bytes.clone()?)
 }
@@ -617,14 +620,14 @@ fn a_block_of_four_gibibytes_is_refused(rt: HostRuntime) {
     );
 }
 
-// As many entries, and one behind them whose key is too long.
+// The entries of a block of four gibibytes, and one behind them whose key is too long.
 fn more_entries(alloc: Global) -> Result<Vec<InternalValue>, Error> {
     let mut items = many_entries(alloc)?;
     let done = push_made(&mut items, entry_of_key_len(alloc, 0xff, 1048577));
     once_done(items, done)
 }
 
-// How these are refused.
+// How a block of four gibibytes with a key that is too long at its end is refused.
 fn refusal_of_more(alloc: Global) -> Result<Option<Error>, Error> {
     let items = more_entries(alloc)?;
     let refused = refusal(alloc, &items);
@@ -683,7 +686,8 @@ fn end_at_refusal<A: Allocator>(block: &DataBlock<A>) -> bool {
     ends_at_refusal(&mut block.iter(), Back, block.len())
 }
 
-// Whether they do so of the block of five, where memory lasts for it.
+// Whether the entries of the block of five, taken from the back, end for good at the first that is
+// refused, where memory lasts for the block.
 fn five_end_at_refusal<A: Allocator + Copy>(alloc: A) -> bool {
     holds_or_refused(asked(block_of_five(alloc), end_at_refusal))
 }

@@ -279,7 +279,8 @@ fn seeks_narrow_to_the_handles_that_may_hold_a_key(rt: HostRuntime) {
     assert!(rt; holds(asked(block_of_four(rt.alloc()), lead_right)));
 }
 
-// A payload of a count, and of handles by their end key, the key length that they claim and their number.
+// A payload of a count, and of handles by their end key, the key length that they claim and their
+// number.
 macro_rules! payload {
     ($count:expr; $([$key:expr, $key_len:expr, $seqno:expr]),*) => {
         &[
@@ -288,7 +289,8 @@ macro_rules! payload {
             ($count >> 16 & 0xff) as u8,
             ($count >> 24 & 0xff) as u8,
             $(
-                $seqno, 0, 0, 0, 0, 0, 0, 0, 0, 0, 0, 0, 0, 0, 0, 0, 0, 0, 0, 0, $key_len, 0, 0, 0, $key,
+                $seqno, 0, 0, 0, 0, 0, 0, 0, 0, 0, 0, 0, 0, 0, 0, 0, 0, 0, 0, 0,
+                $key_len, 0, 0, 0, $key,
             )*
         ]
     };
@@ -305,8 +307,8 @@ const PAYLOADS: &[(&[u8], Option<usize>)] = &[
     (payload!(1; [b'a', 1, 1]), Some(1)),
     (payload!(2; [b'a', 1, 2], [b'a', 1, 1]), Some(2)),
     (payload!(2; [b'a', 1, 1], [b'b', 1, 2]), Some(2)),
-    // Fewer handles or more than the count says, an end key that is cut short, a byte behind the last one, and handles that
-    // are not strict: the same twice, numbers upward, keys downward.
+    // Fewer handles or more than the count says, an end key that is cut short, a byte behind the
+    // last one, and handles that are not strict: the same twice, numbers upward, keys downward.
     (payload!(1;), None),
     (payload!(u32::MAX; [b'a', 1, 1]), None),
     (payload!(0; [b'a', 1, 1]), None),
@@ -335,7 +337,8 @@ fn is_refused(alloc: Global, len: usize) -> bool {
 
 #[test]
 fn payloads_cut_short_or_of_the_other_version_are_refused(rt: HostRuntime) {
-    // Fewer bytes than a count has, a head that is cut short, and the key length of the other version.
+    // Fewer bytes than a count has, a head that is cut short, and the key length of the other
+    // version.
     for len in [3, 20, 27] {
         assert!(rt; is_refused(rt.alloc(), len));
     }
@@ -410,7 +413,8 @@ fn put_handles_within(handles: &mut Vec<KeyedBlockHandle>, bytes: &Slice) -> Res
     Ok(())
 }
 
-// 4,096 handles whose end keys of 2^20 bytes share their memory: key i begins with i, the high byte first.
+// 4,096 handles whose end keys of 2^20 bytes share their memory: key i begins with i, the high byte
+// first.
 fn many_handles(alloc: Global) -> Result<Vec<KeyedBlockHandle>, Error> {
     let shared = numbers(alloc)?;
     let mut handles = Vec::new(alloc);
@@ -475,7 +479,8 @@ fn found_after<A: Allocator>(block: Result<IndexBlock<A>, Error>) -> Result<(usi
     Ok(found)
 }
 
-// Whether a clone of the block of four, which outlives it, finds what the block does, and takes no memory.
+// Whether a clone of the block of four, which outlives it, finds what the block does, and takes no
+// memory.
 fn a_clone_finds(alloc: Global) -> bool {
     let heap = Refusing::new(alloc, 0);
     let block = block_of_four(&heap);
@@ -493,7 +498,8 @@ fn end_at_refusal<A: Allocator>(block: &IndexBlock<A>) -> bool {
     ends_at_refusal(&mut block.iter(), Front, block.len())
 }
 
-// Whether they do so of the block of four, where memory lasts for it.
+// Whether the handles of the block of four, taken from the front, end for good at the first that is
+// refused, where memory lasts for the block.
 fn four_end_at_refusal<A: Allocator + Copy>(alloc: A) -> bool {
     holds_or_refused(asked(block_of_four(alloc), end_at_refusal))
 }

@@ -1,5 +1,5 @@
-//! Worked examples of the data blocks and index blocks of `sst_blocks`: tests that need nothing private, in a crate of their
-//! own. Nothing here is for use.
+//! Worked examples of the data blocks and index blocks of `sst_blocks`: tests that need nothing
+//! private, in a crate of their own. Nothing here is for use.
 #![tactic(auto)]
 
 #[cfg(test)]

@@ -13,8 +13,8 @@ pub(crate) fn beside<T: Drop, U, E>(first: T, second: Result<U, E>) -> Result<(T
     Ok((first, second?))
 }
 
-/// What is asked of a value, which is let go of here alone, or why there is none. It is generic, so that no part of the value
-/// is looked at.
+/// What is asked of a value, which is let go of here alone, or why there is none. It is generic, so
+/// that no part of the value is looked at.
 pub(crate) fn asked<T: Drop, U, E, F: FnOnce(&T) -> U + Drop>(
     made: Result<T, E>,
     ask: F,
@@ -135,7 +135,8 @@ fn is_over<X: Drop, I: DoubleEndedIterator<Item = Result<X, Error>>>(stream: &mu
         && is_given(answer_at(stream, Direction::Back)).is_none()
 }
 
-/// Whether a stream of so many answers at most, taken from one end, ends for good at the first that is refused.
+/// Whether a stream of so many answers at most, taken from one end, ends for good at the first that
+/// is refused.
 pub(crate) fn ends_at_refusal<X: Drop, I: DoubleEndedIterator<Item = Result<X, Error>>>(
     stream: &mut I,
     end: Direction,
@@ -153,7 +154,8 @@ pub(crate) fn ends_at_refusal<X: Drop, I: DoubleEndedIterator<Item = Result<X, E
     is_given(answer_at(stream, end)).is_none()
 }
 
-// The header of a block of either version: its mark, its kind, its length twice and its payload's hash.
+// The header of a block of either version: its mark, its kind, its length twice and its payload's
+// hash.
 fn header(version: TableVersion, kind: BlockType, payload: &[u8]) -> [[u8; 4]; 6] {
     let len = u32::try_from(payload.len())
         .unwrap_or(u32::MAX)

@@ -82,7 +82,8 @@ fn is_refused_so(heap: &Refusing, row: &Row) -> Result<bool, Error> {
     Ok(is_so && (number == 0 || heap.requests() == before))
 }
 
-// Whether it is so where there is memory.
+// Whether a load is refused as its row says, and asks for no memory before it is, where there is
+// memory.
 fn is_so(alloc: Global, row: &Row) -> bool {
     holds(is_refused_so(&Refusing::new(alloc, 0), row))
 }
@@ -94,7 +95,7 @@ fn what_needs_no_memory_asks_for_none(rt: HostRuntime) {
     }
 }
 
-// Whether it is so whichever request is refused, once the table is made.
+// Whether a load is refused as its row says whichever request is refused, once the table is made.
 fn is_so_without(alloc: Global, row: &Row) -> bool {
     each_refused(alloc, |heap, _| holds_or_refused(is_refused_so(heap, row))).is_ok()
 }

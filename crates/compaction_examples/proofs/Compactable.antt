@@ -29,7 +29,8 @@ use Rattle.lsm_runs.proofs.Rising.{ascends_of}
 use Rattle.compaction_examples.specs.Runs.{HasList, HaveAll}
 
 -- a run of a list that was written and cut
-pub of_cut : (label : Label) (target : ℕ) (es : List Entry) (g : ℕ) (run : List OpenTable) → IsRunOfList es g run → AreCutOf label target es g run → HasList (lift es g) run
+pub of_cut : (label : Label) (target : ℕ) (es : List Entry) (g : ℕ) (run : List OpenTable)
+    → IsRunOfList es g run → AreCutOf label target es g run → HasList (lift es g) run
 of_cut label target es g run h cut = record {
   lists = h.lists;
   order = h.order;
@@ -43,24 +44,31 @@ of_cut label target es g run h cut = record {
 pub none_yet : HaveAll [] []
 none_yet = record { lists = []; hold = tt; some = tt; whole = refl }
 
-held_more : (runs : List (List OpenTable)) (lists : List (List (List Entry))) (run : List OpenTable) (ls : List (List Entry)) → RunsHoldLists runs lists → IsInOrder range_of run × HoldLists run ls → RunsHoldLists (runs ++ run ∷ []) (lists ++ ls ∷ [])
+held_more : (runs : List (List OpenTable)) (lists : List (List (List Entry))) (run : List OpenTable)
+    (ls : List (List Entry)) → RunsHoldLists runs lists → IsInOrder range_of run × HoldLists run ls
+    → RunsHoldLists (runs ++ run ∷ []) (lists ++ ls ∷ [])
 held_more [] [] run ls h one = (one, tt)
 held_more [] (l ∷ lists) run ls h one = absurd h
 held_more (r ∷ runs) [] run ls h one = absurd h
 held_more (r ∷ runs) (l ∷ lists) run ls h one = (h.0, held_more runs lists run ls h.1 one)
 
-some_more : (lists : List (List (List Entry))) (ls : List (List Entry)) → AllByRecursion HaveEntries lists → HaveEntries ls → AllByRecursion HaveEntries (lists ++ ls ∷ [])
+some_more : (lists : List (List (List Entry))) (ls : List (List Entry))
+    → AllByRecursion HaveEntries lists → HaveEntries ls
+    → AllByRecursion HaveEntries (lists ++ ls ∷ [])
 some_more [] ls h one = (one, tt)
 some_more (l ∷ lists) ls h one = (h.0, some_more lists ls h.1 one)
 
-whole_more : (lists : List (List (List Entry))) (ls : List (List Entry)) → entries_in (lists ++ ls ∷ []) ≡ entries_in lists ++ joined ls
+whole_more : (lists : List (List (List Entry))) (ls : List (List Entry))
+    → entries_in (lists ++ ls ∷ []) ≡ entries_in lists ++ joined ls
 whole_more lists ls =
     ap joined (map-append joined lists (ls ∷ []))
     ∙ flat_map-append (λ (es : List Entry). es) (map joined lists) (joined ls ∷ [])
     ∙ ap (λ (es : List Entry). entries_in lists ++ es) (append-nil (joined ls))
 
 -- one more run
-pub one_more : (es : List Entry) (runs : List (List OpenTable)) (us : List Entry) (run : List OpenTable) → HaveAll es runs → HasList us run → HaveAll (es ++ us) (runs ++ run ∷ [])
+pub one_more : (es : List Entry) (runs : List (List OpenTable)) (us : List Entry)
+    (run : List OpenTable) → HaveAll es runs → HasList us run
+    → HaveAll (es ++ us) (runs ++ run ∷ [])
 one_more es runs us run all one = record {
   lists = all.lists ++ one.lists ∷ [];
   hold = held_more runs all.lists run one.lists all.hold (one.order, one.hold);
@@ -73,14 +81,16 @@ abbrev told : List (List (List Entry)) → List (List R)
 told lists = map (λ (run : List (List Entry)). ok_results (joined run)) lists
 
 -- a list that can be written, of the same entries, is their union
-union_is : (lists : List (List (List Entry))) (es sorted : List Entry) → entries_in lists ≡ es → IsPermutation es sorted → IsStrict sorted → sorted ≡ union_in lists
+union_is : (lists : List (List (List Entry))) (es sorted : List Entry) → entries_in lists ≡ es
+    → IsPermutation es sorted → IsStrict sorted → sorted ≡ union_in lists
 union_is lists es sorted whole moved strict =
     only_union (told lists) sorted (record {
       ascends = ascends_of sorted (as_pairs sorted strict);
       same = record { count = λ p. sum_by-IsPermutation (λ x. cond (p x) 1 0) es sorted moved ∙ ap (count_by p) (sym whole) ∙ sym (union_count lists p) ∙ (merged_union (told lists)).same.count p };
     }) strict
 
-pub compactable : (runs : List (List OpenTable)) (es sorted : List Entry) → HaveAll es runs → IsPermutation es sorted → IsWritable sorted → AreCompactable runs
+pub compactable : (runs : List (List OpenTable)) (es sorted : List Entry) → HaveAll es runs
+    → IsPermutation es sorted → IsWritable sorted → AreCompactable runs
 compactable runs es sorted all moved writable = record {
   lists = all.lists;
   hold = all.hold;
@@ -89,7 +99,10 @@ compactable runs es sorted all moved writable = record {
 }
 
 -- one more run behind others, with the entries behind theirs
-pub more_runs : {R : Type 0} (f : R → List OpenTable) (es : List Entry) (runs : List R) (run : R) (g : ℕ) (now items all : List Entry) (new : List R) → HaveAll es (map f runs) → HasList (lift items g) (f run) → now ≡ items → all ≡ es ++ lift now g → new ≡ runs ++ run ∷ [] → HaveAll all (map f new)
+pub more_runs : {R : Type 0} (f : R → List OpenTable) (es : List Entry) (runs : List R) (run : R)
+    (g : ℕ) (now items all : List Entry) (new : List R) → HaveAll es (map f runs)
+    → HasList (lift items g) (f run) → now ≡ items → all ≡ es ++ lift now g → new ≡ runs ++ run ∷ []
+    → HaveAll all (map f new)
 more_runs f es runs run g now items all new have one same all_is new_is =
     let whole : HaveAll (es ++ lift items g) (map f runs ++ f run ∷ []) = one_more es (map f runs) (lift items g) (f run) have one in
     let runs_are : map f new ≡ map f runs ++ f run ∷ [] = ap (map f) new_is ∙ map-append f runs (run ∷ []) in

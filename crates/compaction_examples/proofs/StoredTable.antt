@@ -1,5 +1,6 @@
 -- A table that was stored in version 3.
-use Rattle.std.proofs.Common.{◌≡◌, refl, sym, ◌∙◌, ap, subst, ℕ, ◌<◌, ◌≤◌, ◌^◌, Bool, true, nat_lt, List, [], ◌∷◌, ◌+◌, ◌-◌, length, arith, ◌++◌}
+use Rattle.std.proofs.Common.{◌≡◌, refl, sym, ◌∙◌, ap, subst, ℕ, ◌<◌, ◌≤◌, ◌^◌, Bool, true, nat_lt}
+use Rattle.std.proofs.Common.{List, [], ◌∷◌, ◌+◌, ◌-◌, length, arith, ◌++◌}
 use Rattle.std.specs.List.{AllByRecursion}
 use Rattle.sst_entries.specs.Entry.{Entry, entry}
 use Rattle.sst_entries.specs.Strict.{IsStrict, IsStrictAfter, last_of}
@@ -115,7 +116,8 @@ lift_none (e ∷ es) =
     ap (λ (n : ℕ). let x : Entry = record { user_key = e.user_key; seqno = n; kind = e.kind; value = e.value } in x ∷ es) (and_none e.seqno)
     ∙ ap (λ (us : List Entry). lifted 0 e ∷ us) (lift_none es)
 
-pub holds : (t : OpenTable) (bytes : List ℕ) (es : List Entry) → IsOpen t → t.bytes ≡ bytes → t.global_seqno ≡ 0 → IsTable bytes es → HoldsList t es
+pub holds : (t : OpenTable) (bytes : List ℕ) (es : List Entry) → IsOpen t → t.bytes ≡ bytes
+    → t.global_seqno ≡ 0 → IsTable bytes es → HoldsList t es
 holds t bytes es recovered same none is = record { stored = es; opened = recovered; table = subst (λ b. IsTable b es) (sym same) is; lifted_is = lift_none es ∙ ap (lift es) (sym none) }
 
 pub new_writable : IsWritable new_entries
@@ -135,7 +137,9 @@ lists = (stored_entries ∷ new_entries ∷ []) ∷ []
 sorted : union_in lists ≡ stored_entries ++ new_entries
 sorted = refl
 
-pub both_compactable : (run : List OpenTable) (s n : OpenTable) → run ≡ s ∷ n ∷ [] → HoldsList s stored_entries → HoldsList n new_entries → IsInOrder range_of run → AreCompactable (run ∷ [])
+pub both_compactable : (run : List OpenTable) (s n : OpenTable) → run ≡ s ∷ n ∷ []
+    → HoldsList s stored_entries → HoldsList n new_entries → IsInOrder range_of run
+    → AreCompactable (run ∷ [])
 both_compactable run s n is hs hn order = record {
   lists = lists;
   hold = ((order, subst (λ ts. HoldLists ts (stored_entries ∷ new_entries ∷ [])) (sym is) (hs, (hn, tt))), tt);
@@ -144,6 +148,7 @@ both_compactable run s n is hs hn order = record {
 }
 
 -- the one entry behind none
-pub new_alone : (all before : List Entry) (e : Entry) (k v : List ℕ) → all ≡ before ++ e ∷ [] → before ≡ [] → e ≡ entry k v 2 Value → k ≡ 99 ∷ [] → v ≡ [] → all ≡ new_entries
+pub new_alone : (all before : List Entry) (e : Entry) (k v : List ℕ) → all ≡ before ++ e ∷ []
+    → before ≡ [] → e ≡ entry k v 2 Value → k ≡ 99 ∷ [] → v ≡ [] → all ≡ new_entries
 new_alone all before e k v all_is none e_is k_is v_is =
     all_is ∙ ap (λ (es : List Entry). es ++ e ∷ []) none ∙ ap (λ (x : Entry). x ∷ []) (e_is ∙ ap (λ (b : List ℕ). entry b v 2 Value) k_is ∙ ap (λ (b : List ℕ). entry (99 ∷ []) b 2 Value) v_is)

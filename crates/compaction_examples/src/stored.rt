@@ -116,7 +116,7 @@ fn readers(alloc: Global) -> Result<Vec<RunReader<Global>>, Error> {
     Ok(readers)
 }
 
-// Whether it gives these versions and then nothing.
+// Whether the reader of the run gives these versions and then nothing.
 fn run_gives(alloc: Global, versions: &[Version]) -> Result<bool, Error> {
     let mut readers = readers(alloc)?;
     match readers.first_mut() {

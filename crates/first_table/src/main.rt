@@ -6,7 +6,8 @@ use lsm_writers::{FinishedTable, Timestamp, Writer};
 use sst_blocks::{Error, InternalValue, SeqNo, Slice, ValueType};
 use std::alloc::{Allocator, Global};
 
-/// Keys, the numbers of their versions, and values: keys upward, and the versions of a key from the newest on.
+/// Keys, the numbers of their versions, and values: keys upward, and the versions of a key from the
+/// newest on.
 const ENTRIES: [(&[u8], SeqNo, &[u8]); 3] = [
     (b"apple", 7, b"red"),
     (b"apple", 3, b"green"),

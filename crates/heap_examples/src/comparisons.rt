@@ -186,7 +186,9 @@ fn merged<'a>(
     (ascended, queue.len(), made.get(), queue.steps())
 }
 
-// The same through a queue with room for two entries a source, as a merger has.
+// What a merge of sources comes to through a queue with room for two entries a source, as a merger
+// has: how many entries came in order, how many are left, how many comparisons were made, and how
+// many the queue counted.
 fn merges(alloc: Global, sources: &Sources, room: usize) -> Result<(u64, usize, u64, u64), Error> {
     let made = Cell::new(0);
     let queue = LazyTournament::with_capacity(alloc, room)?;
@@ -214,8 +216,8 @@ fn makes(alloc: Global, sources: &Sources, room: usize, an_entry: u64, compariso
 // push plays the h above its slot, 3 for 8 sources and 6 for 64, as long as all sources have
 // entries. A source that ends leaves its matches to the others: above its slot one fewer is played,
 // and fewer and fewer as more of them end. Where they end in the order of their slots that makes 5
-// matches for 8 sources, and 129 for 64. Where one source comes after another, a push plays only the
-// matches against the later ones: half of them for a source on the average.
+// matches for 8 sources, and 129 for 64. Where one source comes after another, a push plays only
+// the matches against the later ones: half of them for a source on the average.
 //
 // In each row: the sources, the room of the queue, h, and the comparisons.
 const COMPARISONS: &[(Sources, usize, u64, u64)] = &[

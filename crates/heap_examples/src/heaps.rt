@@ -142,7 +142,8 @@ fn pop_all_alike(
     give_up_nothing(tournament, heap) && are_alike
 }
 
-// The same of both queues made of the numbers.
+// Whether a tournament and an interval heap that are made of some numbers give up the least and the
+// greatest in turn as the pattern has it, and then none.
 fn agree(alloc: Global, items: &[u8], pattern: u32) -> Result<bool, Error> {
     let (tournament, heap) = both(tournament_of(alloc, items), interval_heap_of(alloc, items))?;
     Ok(pop_all_alike(tournament, heap, items, pattern))
@@ -158,7 +159,8 @@ fn first_to_disagree(alloc: Global, items: &[u8], patterns: u32) -> Option<u32> 
     None
 }
 
-// The first of so many lists of some numbers, by its code, and the pattern by which the queues do not agree.
+// The first of so many lists of some numbers, by its code, and the pattern by which the queues do
+// not agree.
 fn first_list_to_disagree(
     alloc: Global,
     count: usize,
@@ -188,8 +190,8 @@ fn each_list_of_six_in_each_pattern_of_pops(rt: HostRuntime) {
     assert!(rt; lists == 2187 && patterns == 128);
 }
 
-// Pushes a number to both queues, which have room for four, where the digit is 0 and they are not full. Else they are popped:
-// whether they give up the same then, the least where the digit is 1.
+// Pushes a number to both queues, which have room for four, where the digit is 0 and they are not
+// full. Else they are popped: whether they give up the same then, the least where the digit is 1.
 fn agree_in_turn(
     tournament: &mut Tournament<u8>,
     heap: &mut IntervalHeap<u8>,
@@ -231,7 +233,8 @@ fn agree_by_digits(
     agreed && tournament.len() == heap.len()
 }
 
-// The same of both queues, which are made.
+// Whether a tournament and an interval heap with room for four agree, while they are pushed to and
+// popped as the digits of the code have it.
 fn agree_in_turns(alloc: Global, code: u32, turns: u8) -> Result<bool, Error> {
     let tournament = Tournament::with_capacity(alloc, 4);
     let (tournament, heap) = both(tournament, IntervalHeap::with_capacity(alloc, 4))?;
@@ -245,8 +248,8 @@ fn pushes_and_pops_in_turns(rt: HostRuntime) {
     }
 }
 
-// Pushes a number to a lazy tournament with room for four, where the digit is 0 and it is not full. Else it is popped: whether it
-// gives up what is counted then, the least where the digit is 1.
+// Pushes a number to a lazy tournament with room for four, where the digit is 0 and it is not full.
+// Else it is popped: whether it gives up what is counted then, the least where the digit is 1.
 fn is_counted_in_turn(
     queue: &mut LazyTournament<u8>,
     counts: &mut Counts,
@@ -281,7 +284,8 @@ fn is_counted_by_digits(mut queue: LazyTournament<u8>, mut code: u32, turns: u8)
     counted
 }
 
-// The same of a lazy tournament that is made.
+// Whether a lazy tournament, made with room for four, gives up what is counted, while it is pushed
+// to and popped as the digits of the code have it.
 fn is_counted_in_turns(alloc: Global, code: u32, turns: u8) -> Result<bool, Error> {
     let queue = LazyTournament::with_capacity(alloc, 4)?;
     Ok(is_counted_by_digits(queue, code, turns))
@@ -305,8 +309,8 @@ fn push_to_four(queue: &mut Tournament<char>, item: char) -> u64
     queue.steps()
 }
 
-// Pushes four letters to one with room for four, and answers the steps after each, and how many items
-// there are.
+// Pushes four letters to one with room for four, and answers the steps after each, and how many
+// items there are.
 fn push_four(queue: &mut Tournament<char>) -> ([u64; 4], usize)
     requires { queue.old.room ≡ 4 }
 {
@@ -319,8 +323,8 @@ fn push_four(queue: &mut Tournament<char>) -> ([u64; 4], usize)
     (steps, queue.len())
 }
 
-// What pushing four letters answers, and then what is given up of them, from the front and then from the back, and the steps
-// after each.
+// What pushing four letters answers, and then what is given up of them, from the front and then
+// from the back, and the steps after each.
 fn four_pushed_and_popped(
     mut queue: Tournament<char>,
 ) -> ([u64; 4], usize, [(Option<char>, u64); 2])
@@ -341,7 +345,8 @@ fn four_take_their_steps(alloc: Global) -> Result<bool, Error> {
     Ok(pushed == [0, 2, 4, 7] && count == 4 && popped == [(Some('a'), 7), (Some('d'), 8)])
 }
 
-// The steps after one letter is pushed, what is given up, and then the steps and how many items there are.
+// The steps after one letter is pushed, what is given up, and then the steps and how many items
+// there are.
 fn one_pushed_and_popped(mut queue: Tournament<char>) -> (u64, Option<char>, u64, usize)
     requires room { queue.room ≡ 1 }
     requires empty { queue.items ≡ [] }
@@ -377,8 +382,8 @@ fn push_four_to_lazy(queue: &mut LazyTournament<char>) -> u64
     push_to_lazy(queue, 'a')
 }
 
-// How many steps pushing four letters to a lazy one makes; and what it gives up of them, at the front twice, at the back and at
-// the front, and the steps after each pop.
+// How many steps pushing four letters to a lazy one makes; and what it gives up of them, at the
+// front twice, at the back and at the front, and the steps after each pop.
 fn lazily_popped(mut queue: LazyTournament<char>) -> (u64, [(Option<char>, u64); 4])
     requires { queue.room ≡ 4 }
 {
@@ -395,8 +400,8 @@ fn lazily_popped(mut queue: LazyTournament<char>) -> (u64, [(Option<char>, u64);
 // Whether a lazy one plays a match only where an end is asked that needs it.
 fn plays_where_it_is_asked(alloc: Global) -> Result<bool, Error> {
     let (pushed, popped) = lazily_popped(LazyTournament::with_capacity(alloc, 4)?);
-    // Three matches at the first pop, and one after 'a' has gone. Then one more for the least, after
-    // 'b' has gone, and one for the greatest: the others have no opponent. None at the last.
+    // Three matches at the first pop, and one after 'a' has gone. Then one more for the least,
+    // after 'b' has gone, and one for the greatest: the others have no opponent. None at the last.
     let want = [
         (Some('a'), 3),
         (Some('b'), 4),
@@ -435,7 +440,7 @@ fn reuse_tournament<A: Allocator>(queue: &mut Tournament<u8, A>) -> bool
     queue.len() == 0
 }
 
-// The same with an interval heap.
+// Whether an interval heap with room for two is filled and emptied over and over.
 fn reuse_interval_heap<A: Allocator>(queue: &mut IntervalHeap<u8, A>) -> bool
     requires { queue.old.room ≡ 2 }
 {
@@ -453,7 +458,8 @@ fn reuse_interval_heap<A: Allocator>(queue: &mut IntervalHeap<u8, A>) -> bool
     queue.len() == 0
 }
 
-// Whether a tournament with room for three is made, and empty, where no memory is refused, and else is refused.
+// Whether a tournament with room for three is made, and empty, where no memory is refused, and else
+// is refused.
 fn makes_tournament<A: Allocator + Clone>(memory: A, may_fail: bool) -> bool {
     match Tournament::<u8, A>::with_capacity(memory, 3) {
         Ok(queue) => !may_fail && queue.len() == 0,
@@ -461,7 +467,8 @@ fn makes_tournament<A: Allocator + Clone>(memory: A, may_fail: bool) -> bool {
     }
 }
 
-// The same of an interval heap.
+// Whether an interval heap with room for three is made, and empty, where no memory is refused, and
+// else is refused.
 fn makes_interval_heap<A: Allocator>(memory: A, may_fail: bool) -> bool {
     match IntervalHeap::<u8, A>::with_capacity(memory, 3) {
         Ok(queue) => !may_fail && queue.len() == 0,
@@ -474,35 +481,39 @@ fn tournaments_refused(alloc: Global) -> Result<usize, usize> {
     each_refused(alloc, |memory, may_fail| makes_tournament(memory, may_fail))
 }
 
-// The same of an interval heap.
+// How many requests for memory an interval heap makes, each of which may be refused.
 fn interval_heaps_refused(alloc: Global) -> Result<usize, usize> {
     each_refused(alloc, |memory, may_fail| {
         makes_interval_heap(memory, may_fail)
     })
 }
 
-// How many requests for memory are made for a tournament with room for two, and whether it is used over and over.
+// How many requests for memory are made for a tournament with room for two, and whether it is used
+// over and over.
 fn used_tournament(memory: &Refusing) -> Result<(usize, bool), Error> {
     let mut queue = Tournament::with_capacity(memory, 2)?;
     let requests = memory.requests();
     Ok((requests, reuse_tournament(&mut queue)))
 }
 
-// The same of an interval heap.
+// How many requests for memory are made for an interval heap with room for two, and whether it is
+// used over and over.
 fn used_interval_heap(memory: &Refusing) -> Result<(usize, bool), Error> {
     let mut queue = IntervalHeap::with_capacity(memory, 2)?;
     let requests = memory.requests();
     Ok((requests, reuse_interval_heap(&mut queue)))
 }
 
-// Whether a tournament with room for two makes so many requests for memory, all before it is used over and over.
+// Whether a tournament with room for two makes so many requests for memory, all before it is used
+// over and over.
 fn tournament_makes(alloc: Global, requests: usize) -> Result<bool, Error> {
     let memory = Refusing::new(alloc, 0);
     let used = used_tournament(&memory)?;
     Ok(used == (requests, true) && memory.requests() == requests)
 }
 
-// The same of an interval heap.
+// Whether an interval heap with room for two makes so many requests for memory, all before it is
+// used over and over.
 fn interval_heap_makes(alloc: Global, requests: usize) -> Result<bool, Error> {
     let memory = Refusing::new(alloc, 0);
     let used = used_interval_heap(&memory)?;
@@ -514,7 +525,7 @@ fn gives_up_nothing(mut none: Tournament<u8>) -> bool {
     none.pop_min().is_none() & none.pop_max().is_none()
 }
 
-// The same of one that is made.
+// Whether a tournament that is made without room gives up nothing from either end.
 fn gives_up_nothing_without_room(alloc: Global) -> Result<bool, Error> {
     Ok(gives_up_nothing(Tournament::with_capacity(alloc, 0)?))
 }

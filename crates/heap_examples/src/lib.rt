@@ -1,4 +1,5 @@
-//! Worked examples of `lsm_heaps`: tests that need nothing private, in a crate of their own. Nothing here is for use.
+//! Worked examples of `lsm_heaps`: tests that need nothing private, in a crate of their own.
+//! Nothing here is for use.
 #![tactic(auto)]
 
 #[cfg(test)]

@@ -181,8 +181,8 @@ fn seeks_leave_what_lies_between_their_edges(rt: HostRuntime) {
 
 // ---- want of memory
 
-// What came of calls: each answer as where memory is ample; or want of memory at the call of a place,
-// or before there was an iterator, and nothing after it; or something else.
+// What came of calls: each answer as where memory is ample; or want of memory at the call of a
+// place, or before there was an iterator, and nothing after it; or something else.
 #[derive(Drop)]
 enum Came {
     Ample,
@@ -242,7 +242,7 @@ const CALLS: &[Call] = &[
 // How often the first seek, the second one, and a step are refused.
 type Refusals = (usize, usize, usize);
 
-// One more of them; nothing where an answer was wrong.
+// The refusals with one more; nothing where an answer was wrong.
 fn counted(so_far: Refusals, came: &Came) -> Option<Refusals> {
     let (first, second, step) = so_far;
     match came {
@@ -263,7 +263,8 @@ fn requests_of(alloc: Global, kind: &Kind, bytes: &[u8]) -> Option<usize> {
     }
 }
 
-// Those of all runs, each request refused in turn.
+// How often the first seek, the second one, and a step are refused, over all runs with each request
+// refused in turn.
 fn refusals(alloc: Global, kind: &Kind, bytes: &[u8]) -> Option<Refusals> {
     let requests = requests_of(alloc, kind, bytes)?;
     let mut refusals = (0, 0, 0);

@@ -1,5 +1,5 @@
-//! Worked examples of ranges of a table and of the seeks of its index: tests from both ends, under each kind of index; and of
-//! all reads of a table. Nothing here is for use.
+//! Worked examples of ranges of a table and of the seeks of its index: tests from both ends, under
+//! each kind of index; and of all reads of a table. Nothing here is for use.
 #![tactic(auto)]
 
 #[cfg(test)]

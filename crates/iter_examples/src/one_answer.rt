@@ -16,7 +16,8 @@ const ROWS: &[Row<'static>] = &[
     (b"c", 2, ValueType::Value, b"x"),
 ];
 
-// What is in partitions, the filter's bits for a key, in tenths, and whether filter and index stay loaded.
+// What is in partitions, the filter's bits for a key, in tenths, and whether filter and index stay
+// loaded.
 type Kind = (Parted, u32, bool, bool);
 
 const KINDS: &[Kind] = &[
@@ -59,8 +60,8 @@ const ABOVE_A: &[Option<Name>] = &[C12, C16, B11, None];
 // What a point read finds and a scan, and two ranges.
 type Reads<S, R> = ((Option<InternalValue<Global>>, S), (R, R));
 
-// Whether they give what they should: a point read of a below 19, from the back what lies above a up to c, all entries, and what
-// a scan gives.
+// Whether reads give what they should: a point read of a below 19, from the back what lies above a
+// up to c, all entries, and what a scan gives.
 fn all_give<S: Walk, R: Walk>(reads: &mut Reads<S, R>) -> Result<bool, Error> {
     match &reads.0.0 {
         Some(item) if item.key.seqno == 17 => {}
@@ -73,7 +74,7 @@ fn all_give<S: Walk, R: Walk>(reads: &mut Reads<S, R>) -> Result<bool, Error> {
     )
 }
 
-// The same of reads that there may be none of.
+// Whether reads, if there are any, give what they should.
 fn reads_give<S: Walk + Drop, R: Walk + Drop>(
     reads: Result<Reads<S, R>, Error>,
 ) -> Result<bool, Error> {
@@ -93,14 +94,14 @@ fn table_gives(alloc: Global, table: &Table<Global>) -> Result<bool, Error> {
     reads_give(all_reads(alloc, table))
 }
 
-// Whether those of a table whose global number is 10 do.
+// Whether the reads of a table of a kind, whose global number is 10, give what they should.
 fn kind_gives(alloc: Global, kind: &Kind) -> Result<bool, Error> {
     let bytes = bytes_of(alloc, &kind.0, ROWS, kind.1, 0)?;
     let table = Table::recover(alloc, bytes, Checksum(0), 10, 0, kind.2, kind.3);
     asked(table, |table| table_gives(alloc, table))
 }
 
-// Whether those of all kinds do.
+// Whether the reads of tables of all kinds give what they should.
 fn kinds_give(alloc: Global) -> bool {
     for kind in KINDS {
         if kind_gives(alloc, kind) != Ok(true) {

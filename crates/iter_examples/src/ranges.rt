@@ -139,7 +139,7 @@ fn ranges_by_an_index_of_two_levels(rt: HostRuntime) {
     assert!(rt; are_dealt(rt.alloc(), &Kind::TwoLevels));
 }
 
-// The same table, as an earlier version was stored.
+// The table is as an earlier version stored it.
 #[test]
 fn ranges_of_a_table_of_the_older_version(rt: HostRuntime) {
     assert!(rt; are_dealt(rt.alloc(), &Kind::Older));
@@ -271,7 +271,7 @@ fn deals<W: Walk>(iter: &mut W, names: &[Option<Name>; 5], ends: u32) -> Result<
     Ok(true)
 }
 
-// The same of an iterator that there may be none of.
+// Whether five steps of an iterator, if there is one, give these names at these ends.
 fn all_deal<W: Walk + Drop>(
     iter: Result<W, Error>,
     names: &[Option<Name>; 5],
@@ -341,7 +341,8 @@ fn wrong_range(
     asked(table, |table| wrong_pair(alloc, table, rows))
 }
 
-// The first wrong range of the list of a number, with blocks of some size, if the number is that of a small list.
+// The first wrong range of the list of a number, with blocks of some size, if the number is that of
+// a small list.
 fn wrong_in(
     alloc: Global,
     kind: &Kind,
@@ -385,7 +386,8 @@ fn is_over<W: Walk>(iter: &mut W) -> bool {
     iter.step(F) == Ok(None) && iter.step(B) == Ok(None)
 }
 
-// Whether the steps give what they should; an error where a step is refused, behind which nothing follows from either end.
+// Whether the steps give what they should; an error where a step is refused, behind which nothing
+// follows from either end.
 fn gives_or_ends<W: Walk + Drop>(iter: Result<W, Error>, steps: &[Step]) -> Result<bool, Error> {
     let mut iter = iter?;
     match gives(&mut iter, steps) {
@@ -414,7 +416,8 @@ fn deals_from_both_ends<A: Allocator + Copy>(
     )
 }
 
-// Whether the range is dealt, also where there is no memory for marks, or a refused request is answered as one.
+// Whether the range is dealt, also where there is no memory for marks, or a refused request is
+// answered as one.
 fn is_dealt(
     heap: &Refusing,
     may_fail: bool,

@@ -1,5 +1,5 @@
-//! Ranges and scans of a table, and the handles of its index. What walks them is generic in them, so that none of their parts
-//! is looked at.
+//! Ranges and scans of a table, and the handles of its index. What walks them is generic in them,
+//! so that none of their parts is looked at.
 use lsm_tables::{BlockIndexIter, BlockIndexIterImpl, Iter, Scanner};
 use sst_blocks::{Direction, Error, IterItem, KeyedBlockHandle, SeqNo};
 use std::alloc::Allocator;

@@ -71,7 +71,8 @@ fn both_in_parts(
     Ok(fill(writer, alloc, rows)?.bytes)
 }
 
-/// The bytes of a table of some rows, by the filter's bits for a key, in tenths, and the size of a block of data, of 3 at most.
+/// The bytes of a table of some rows, by the filter's bits for a key, in tenths, and the size of a
+/// block of data, of 3 at most.
 pub fn bytes_of(
     alloc: Global,
     parted: &Parted,

@@ -1,6 +1,9 @@
 -- Which of two places wins, and what a bracket keeps while one slot is changed.
-use Rattle.std.proofs.Common.{◌≡◌, ◌≢◌, ◌⊎◌, ℕ, zero, suc, ◌+◌, ◌-◌, ◌*◌, ◌/◌, ◌^◌, ◌<◌, ◌≤◌, true, false, List, Option, Some, None, Ordering, length, get_or, set, refl, sym, ◌∙◌, ap, subst, inl, inr, ⊎_elim, arith}
-use Rattle.std.proofs.lemmas.List.{length-set, get_or-set_same, get_or-set_other, set-set, set-get_or}
+use Rattle.std.proofs.Common.{◌≡◌, ◌≢◌, ◌⊎◌, ℕ, zero, suc, ◌+◌, ◌-◌, ◌*◌, ◌/◌, ◌^◌, ◌<◌, ◌≤◌, true}
+use Rattle.std.proofs.Common.{false, List, Option, Some, None, Ordering, length, get_or, set, refl}
+use Rattle.std.proofs.Common.{sym, ◌∙◌, ap, subst, inl, inr, ⊎_elim, arith}
+use Rattle.std.proofs.lemmas.List.{length-set, get_or-set_same, get_or-set_other, set-set}
+use Rattle.std.proofs.lemmas.List.{set-get_or}
 use Rattle.std.proofs.lemmas.Bool.{cases_eq, cases_lt}
 use Rattle.std.proofs.lemmas.Grind.{pow_more}
 use Rattle.std.specs.Ordering.{is_gt}
@@ -21,7 +24,8 @@ module _ {T : Type 0} (cmp : T → T → Ordering) (o : IsTotalOrder cmp) where
   is_beaten_back None (Some y) h = refl
   is_beaten_back (Some x) (Some y) h = not_both cmp o x y h
 
-  pub is_beaten_trans : (x y z : Option T) → is_beaten cmp x y ≡ false → is_beaten cmp y z ≡ false → is_beaten cmp x z ≡ false
+  pub is_beaten_trans : (x y z : Option T) → is_beaten cmp x y ≡ false → is_beaten cmp y z ≡ false
+      → is_beaten cmp x z ≡ false
   is_beaten_trans x y None h k = refl
   is_beaten_trans x None (Some z) h k = cc
   is_beaten_trans None (Some y) (Some z) h k = cc
@@ -48,11 +52,14 @@ abbrev pub IsOnPath : ℕ → ℕ → Type 0
 IsOnPath n m = (m ≡ n) ⊎ IsAbove n m
 
 -- each node is decided, but for those above this one
-abbrev pub DecidedButAbove : {T : Type 0} → (T → T → Ordering) → List (Option T) → List ℕ → ℕ → Type 0
-DecidedButAbove cmp slots nodes node = (n : ℕ) → 0 < n → n < length slots → IsAbove node n ⊎ IsDecided cmp slots nodes n
+abbrev pub DecidedButAbove : {T : Type 0} → (T → T → Ordering) → List (Option T) → List ℕ → ℕ
+    → Type 0
+DecidedButAbove cmp slots nodes node =
+    (n : ℕ) → 0 < n → n < length slots → IsAbove node n ⊎ IsDecided cmp slots nodes n
 
 -- a write above the leaves
-pub IsBracket-set : (leaves : ℕ) (nodes : List ℕ) (n w : ℕ) → n < leaves → w < leaves → IsBracket leaves nodes → IsBracket leaves (set nodes n w)
+pub IsBracket-set : (leaves : ℕ) (nodes : List ℕ) (n w : ℕ) → n < leaves → w < leaves
+    → IsBracket leaves nodes → IsBracket leaves (set nodes n w)
 IsBracket-set leaves nodes n w low win b = record {
   size = length-set nodes n w ∙ b.size;
   within = λ k h.
@@ -100,7 +107,8 @@ above_low : (n m : ℕ) → IsAbove n m → m ≤ n / 2
 above_low n m a = above_low_by a.rounds n m a.by
 
 -- of two nodes above one, one is above the other
-in_line_by : (j k n a b : ℕ) → IsAboveBy j n a → IsAboveBy k n b → (a ≡ b) ⊎ ((b ≤ a / 2) ⊎ (a ≤ b / 2))
+in_line_by : (j k n a b : ℕ) → IsAboveBy j n a → IsAboveBy k n b
+    → (a ≡ b) ⊎ ((b ≤ a / 2) ⊎ (a ≤ b / 2))
 in_line_by zero k n a b p q = absurd p
 in_line_by (suc j) zero n a b p q = absurd q
 in_line_by (suc j) (suc k) n a b (inl e) (inl f) = inl (sym e ∙ f)
@@ -127,11 +135,13 @@ path_parent n a m e (inr up) = inr (above_child n m a e up)
 
 module _ {T : Type 0} (cmp : T → T → Ordering) where
   -- above the root is nothing
-  pub all_decided : (slots : List (Option T)) (nodes : List ℕ) (n : ℕ) → n ≤ 1 → DecidedButAbove cmp slots nodes n → AllDecided cmp slots nodes
+  pub all_decided : (slots : List (Option T)) (nodes : List ℕ) (n : ℕ) → n ≤ 1
+      → DecidedButAbove cmp slots nodes n → AllDecided cmp slots nodes
   all_decided slots nodes n low but m inside h =
       ⊎_elim (λ (a : IsAbove n m). absurd (none_above_by a.rounds n m low inside a.by)) (λ d. d) (but m inside h)
 
-  module _ (slots : List (Option T)) (nodes : List ℕ) (n w : ℕ) (inside : 0 < n) (low : n < length slots) (size : length nodes ≡ 2 * length slots)
+  module _ (slots : List (Option T)) (nodes : List ℕ) (n w : ℕ) (inside : 0 < n)
+      (low : n < length slots) (size : length nodes ≡ 2 * length slots)
       (from : (w ≡ get_or nodes (2 * n) 0) ⊎ (w ≡ get_or nodes (2 * n + 1) 0))
       (first : is_beaten cmp (slot_at slots w) (slot_at slots (get_or nodes (2 * n) 0)) ≡ false)
       (second : is_beaten cmp (slot_at slots w) (slot_at slots (get_or nodes (2 * n + 1) 0)) ≡ false) where
@@ -146,7 +156,8 @@ module _ {T : Type 0} (cmp : T → T → Ordering) where
           second = rw (here, right) second;
         }
 
-    decided_still : (m : ℕ) → m ≢ n → 2 * m ≢ n → 2 * m + 1 ≢ n → IsDecided cmp slots nodes m → IsDecided cmp slots (set nodes n w) m
+    decided_still : (m : ℕ) → m ≢ n → 2 * m ≢ n → 2 * m + 1 ≢ n → IsDecided cmp slots nodes m
+        → IsDecided cmp slots (set nodes n w) m
     decided_still m a b c d =
         let here = get_or-set_other nodes n m w 0 a in
         let left = get_or-set_other nodes n (2 * m) w 0 b in
@@ -158,13 +169,15 @@ module _ {T : Type 0} (cmp : T → T → Ordering) where
         }
 
     -- one more match is played, and those below are
-    pub played_more : (m : ℕ) → n ≤ m → (n < m → IsDecided cmp slots nodes m) → IsDecided cmp slots (set nodes n w) m
+    pub played_more : (m : ℕ) → n ≤ m → (n < m → IsDecided cmp slots nodes m)
+        → IsDecided cmp slots (set nodes n w) m
     played_more m low d = ⊎_elim (λ (same : m ≡ n). rw same decided_now)
         (λ (a : m ≢ n). decided_still m a (λ (e : 2 * m ≡ n). omega arith) (λ (e : 2 * m + 1 ≡ n). omega arith) (d (omega arith)))
         (cases_eq m n)
 
     -- one more match is played, of the children of n
-    pub decided_more : (below : ℕ) → n ≡ below / 2 → DecidedButAbove cmp slots nodes below → DecidedButAbove cmp slots (set nodes n w) n
+    pub decided_more : (below : ℕ) → n ≡ below / 2 → DecidedButAbove cmp slots nodes below
+        → DecidedButAbove cmp slots (set nodes n w) n
     decided_more below e but m inside' low' =
         ⊎_elim (λ (same : m ≡ n). inr (rw same decided_now))
         (λ (a : m ≢ n). ⊎_elim
@@ -177,7 +190,8 @@ module _ {T : Type 0} (cmp : T → T → Ordering) where
         (but m inside' low'))
         (cases_eq m n)
 
-pub LeavesRounds-more : (n steps steps' most : ℕ) → 1 < n → steps' ≤ steps + 1 → LeavesRounds n steps most → LeavesRounds (n / 2) steps' most
+pub LeavesRounds-more : (n steps steps' most : ℕ) → 1 < n → steps' ≤ steps + 1
+    → LeavesRounds n steps most → LeavesRounds (n / 2) steps' most
 LeavesRounds-more n steps steps' most h one r = ⊎_elim
     (λ (e : r.rounds ≡ 0). let one_left : 2 ^ r.rounds ≡ 1 = ap (λ j. 2 ^ j) e in absurd (omega (arith, r.near, one_left)))
     (λ (ne : r.rounds ≢ 0).
@@ -190,12 +204,15 @@ LeavesRounds-more n steps steps' most h one r = ⊎_elim
 pub LeavesRounds-end : (n steps most : ℕ) → LeavesRounds n steps most → steps ≤ most
 LeavesRounds-end n steps most r = omega (arith, r.left)
 
-module _ {T : Type 0} (cmp : T → T → Ordering) (slots : List (Option T)) (nodes : List ℕ) (b : IsBracket (length slots) nodes) (d : AllDecided cmp slots nodes) where
-  names_itself : (s n k : ℕ) → n ≡ length slots + k → k < length slots → get_or nodes n 0 ≡ s → n ≡ length slots + s
+module _ {T : Type 0} (cmp : T → T → Ordering) (slots : List (Option T)) (nodes : List ℕ)
+    (b : IsBracket (length slots) nodes) (d : AllDecided cmp slots nodes) where
+  names_itself : (s n k : ℕ) → n ≡ length slots + k → k < length slots → get_or nodes n 0 ≡ s
+      → n ≡ length slots + s
   names_itself s n k e low is = let leaf = b.leaf k low in let same : get_or nodes n 0 ≡ k = rw e leaf in omega (arith, same, is)
 
   -- a node that names a slot is its leaf or above that
-  names_below : (s f n : ℕ) → 2 * length slots ≤ n + f → 0 < n → n < 2 * length slots → get_or nodes n 0 ≡ s → (n ≡ length slots + s) ⊎ IsAbove (length slots + s) n
+  names_below : (s f n : ℕ) → 2 * length slots ≤ n + f → 0 < n → n < 2 * length slots
+      → get_or nodes n 0 ≡ s → (n ≡ length slots + s) ⊎ IsAbove (length slots + s) n
   names_below s zero n enough inside low is = absurd (omega arith)
   names_below s (suc f) n enough inside low is = ⊎_elim
       (λ (inner : n < length slots). let dec = d n inside inner in ⊎_elim
@@ -213,7 +230,8 @@ module _ {T : Type 0} (cmp : T → T → Ordering) (slots : List (Option T)) (no
       (cases_lt n (length slots))
 
   -- after one slot has changed, only nodes above its leaf may be wrong
-  pub decided_but_above : (s : ℕ) (o : Option T) → DecidedButAbove cmp (set slots s o) nodes (length slots + s)
+  pub decided_but_above : (s : ℕ) (o : Option T)
+      → DecidedButAbove cmp (set slots s o) nodes (length slots + s)
   decided_but_above s o n inside low' =
       let low : n < length slots = omega (arith, length-set slots s o) in
       let dec = d n inside low in
@@ -231,14 +249,17 @@ module _ {T : Type 0} (cmp : T → T → Ordering) (slots : List (Option T)) (no
       (cases_eq (get_or nodes (2 * n) 0) s))
       (cases_eq (get_or nodes n 0) s)
     where
-      of_inner : (n : ℕ) → 0 < n → n < length slots → (n ≡ length slots + s) ⊎ IsAbove (length slots + s) n → IsAbove (length slots + s) n
+      of_inner : (n : ℕ) → 0 < n → n < length slots
+          → (n ≡ length slots + s) ⊎ IsAbove (length slots + s) n → IsAbove (length slots + s) n
       of_inner n inside low c = ⊎_elim (λ (e : n ≡ length slots + s). absurd (omega arith)) (λ a. a) c
 
-      of_child : (c n : ℕ) → c / 2 ≡ n → (c ≡ length slots + s) ⊎ IsAbove (length slots + s) c → IsAbove (length slots + s) n
+      of_child : (c n : ℕ) → c / 2 ≡ n → (c ≡ length slots + s) ⊎ IsAbove (length slots + s) c
+          → IsAbove (length slots + s) n
       of_child c n e h = ⊎_elim (λ (same : c ≡ length slots + s). above_parent (length slots + s) n (rw (← same) e)) (λ (up : IsAbove (length slots + s) c). above_child (length slots + s) n c e up) h
 
   -- a child of a node above a leaf whose slot it does not name does not name it
-  module _ (s n : ℕ) (on : IsOnPath (length slots + s) n) (other : get_or nodes n 0 ≢ s) (some : 0 < n / 2) (low : n < 2 * length slots) where
+  module _ (s n : ℕ) (on : IsOnPath (length slots + s) n) (other : get_or nodes n 0 ≢ s)
+      (some : 0 < n / 2) (low : n < 2 * length slots) where
     unnamed_child : (c : ℕ) → c / 2 ≡ n / 2 → get_or nodes c 0 ≢ s
     unnamed_child c same named =
         let on_c : IsOnPath (length slots + s) c = names_below s (2 * length slots) c (omega arith) (omega arith) (omega arith) named in
@@ -262,7 +283,9 @@ module _ {T : Type 0} (cmp : T → T → Ordering) (slots : List (Option T)) (no
         record { from = dec.from; first = rw (at_here, at_left) dec.first; second = rw (at_here, at_right) dec.second }
 
   -- nor to any node above
-  pub decided_up : (k s n m : ℕ) (o : Option T) → IsOnPath (length slots + s) n → get_or nodes n 0 ≢ s → n < 2 * length slots → 0 < m → IsAboveBy k n m → IsDecided cmp (set slots s o) nodes m
+  pub decided_up : (k s n m : ℕ) (o : Option T) → IsOnPath (length slots + s) n
+      → get_or nodes n 0 ≢ s → n < 2 * length slots → 0 < m → IsAboveBy k n m
+      → IsDecided cmp (set slots s o) nodes m
   decided_up zero s n m o on other low some a = absurd a
   decided_up (suc k) s n m o on other low some (inl e) = rw (← e) (decided_parent s n on other (omega arith) low o)
   decided_up (suc k) s n m o on other low some (inr a) =
@@ -271,7 +294,9 @@ module _ {T : Type 0} (cmp : T → T → Ordering) (slots : List (Option T)) (no
 
   module _ (o : IsTotalOrder cmp) where
     -- the root's slot is beaten by no node's
-    root_unbeaten : (f n : ℕ) → n ≤ f → 0 < n → n < 2 * length slots → is_beaten cmp (slot_at slots (get_or nodes 1 0)) (slot_at slots (get_or nodes n 0)) ≡ false
+    root_unbeaten : (f n : ℕ) → n ≤ f → 0 < n → n < 2 * length slots
+        → is_beaten cmp (slot_at slots (get_or nodes 1 0)) (slot_at slots (get_or nodes n 0))
+        ≡ false
     root_unbeaten zero n enough inside low = absurd (omega arith)
     root_unbeaten (suc f) n enough inside low = ⊎_elim
         (λ (e : n ≡ 1). rw e (is_beaten_self cmp o (slot_at slots (get_or nodes 1 0))))
@@ -286,12 +311,14 @@ module _ {T : Type 0} (cmp : T → T → Ordering) (slots : List (Option T)) (no
         (cases_eq n 1)
 
     -- no slot beats the root's
-    pub unbeaten : (k : ℕ) → k < length slots → is_beaten cmp (slot_at slots (get_or nodes 1 0)) (slot_at slots k) ≡ false
+    pub unbeaten : (k : ℕ) → k < length slots
+        → is_beaten cmp (slot_at slots (get_or nodes 1 0)) (slot_at slots k) ≡ false
     unbeaten k low =
         let r = root_unbeaten (length slots + k) (length slots + k) (omega arith) (omega arith) (omega arith) in
         rw (b.leaf k low) at r
 
-module _ {T : Type 0} (cmp : T → T → Ordering) (slots : List (Option T)) (nodes : List ℕ) (s : ℕ) (was : Option T) (low : s < length slots)
+module _ {T : Type 0} (cmp : T → T → Ordering) (slots : List (Option T)) (nodes : List ℕ) (s : ℕ)
+    (was : Option T) (low : s < length slots)
     (b : IsBracket (length (set slots s was)) nodes) (d : AllDecided cmp (set slots s was) nodes) where
   changed_back : set (set slots s was) s (slot_at slots s) ≡ slots
   changed_back = set-set slots s was (slot_at slots s) ∙ set-get_or slots s None
@@ -308,7 +335,8 @@ module _ {T : Type 0} (cmp : T → T → Ordering) (slots : List (Option T)) (no
       (subst (λ (ps : List (Option T)). DecidedButAbove cmp ps nodes (length (set slots s was) + s)) changed_back open_)
 
   -- once a match is won by another slot as before, the rest is as it was
-  module _ (now : List ℕ) (node n w : ℕ) (on : IsOnPath (length slots + s) n) (half : n ≡ node / 2) (more : 1 < node) (size : node < 2 * length slots)
+  module _ (now : List ℕ) (node n w : ℕ) (on : IsOnPath (length slots + s) n)
+      (half : n ≡ node / 2) (more : 1 < node) (size : node < 2 * length slots)
       (untouched : (k : ℕ) → k < node → get_or now k 0 ≡ get_or nodes k 0) (is : w ≡ get_or now n 0) (other : w ≢ s)
       (but : DecidedButAbove cmp slots (set now n w) n) where
     same_name : get_or nodes n 0 ≢ s

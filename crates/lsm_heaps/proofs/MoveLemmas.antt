@@ -11,7 +11,8 @@ use Rattle.lsm_heaps.proofs.OrderLemmas.{not_both}
 abbrev pub Upto : {T : Type 0} → (T → T → Ordering) → (ℕ → T) → ℕ → ℕ → Type 0
 Upto cmp f a b = is_gt (cmp (f a) (f b)) ≡ false
 
-module _ {T : Type 0} (cmp : T → T → Ordering) (o : IsTotalOrder cmp) (f g : ℕ → T) (u v : ℕ) (s : Swapped f g u v) (strict : is_gt (cmp (f u) (f v)) ≡ true) where
+module _ {T : Type 0} (cmp : T → T → Ordering) (o : IsTotalOrder cmp) (f g : ℕ → T) (u v : ℕ)
+    (s : Swapped f g u v) (strict : is_gt (cmp (f u) (f v)) ≡ true) where
   at_u : (P : T → Type 0) → P (f v) → P (g u)
   at_u P p = rw s.0 p
 
@@ -43,9 +44,11 @@ module _ {T : Type 0} (cmp : T → T → Ordering) (o : IsTotalOrder cmp) (f g :
   pub rest_v : (a : ℕ) → a ≢ u → a ≢ v → Upto cmp f a u → Upto cmp g a v
   rest_v a p q h = at_rest (λ x. is_gt (cmp x (g v)) ≡ false) a p q (at_v (λ y. is_gt (cmp (f a) y) ≡ false) h)
 
-  module _ (E : ℕ → ℕ → Type 0) (apart : (a b : ℕ) → E a b → a ≢ b) (one_way : (a b : ℕ) → E a b → E b a → ⊥) (uv : E u v) where
+  module _ (E : ℕ → ℕ → Type 0) (apart : (a b : ℕ) → E a b → a ≢ b)
+      (one_way : (a b : ℕ) → E a b → E b a → ⊥) (uv : E u v) where
     -- an item has risen from v to u
-    module _ (only : (a : ℕ) → E a v → a ≡ u) (others : (a b : ℕ) → E a b → b ≢ v → Upto cmp f a b) (around : (a b : ℕ) → E a v → E v b → Upto cmp f a b) where
+    module _ (only : (a : ℕ) → E a v → a ≡ u) (others : (a b : ℕ) → E a b → b ≢ v → Upto cmp f a b)
+        (around : (a b : ℕ) → E a v → E v b → Upto cmp f a b) where
       pub rise_others : (a b : ℕ) → E a b → b ≢ u → Upto cmp g a b
       rise_others a b e b_u = ⊎_elim
           (λ (bv : b ≡ v). let au : a ≡ u = only a (rw (← bv) e) in rw (au, bv) ordered_now)
@@ -69,9 +72,11 @@ module _ {T : Type 0} (cmp : T → T → Ordering) (o : IsTotalOrder cmp) (f g :
           (λ (b_v : b ≢ v). rest_rest a b a_u a_v b_u b_v (upto o _ _ _ (others a u au u_v) (others u b ub b_v)))
           (cases_eq b v)
 
-    module _ (others : (a b : ℕ) → E a b → a ≢ u → Upto cmp f a b) (around : (a b : ℕ) → E a u → E u b → Upto cmp f a b) where
+    module _ (others : (a b : ℕ) → E a b → a ≢ u → Upto cmp f a b)
+        (around : (a b : ℕ) → E a u → E u b → Upto cmp f a b) where
       -- an item has sunk from u to v, the first of those below it
-      module _ (only : (a : ℕ) → E a v → a ≡ u) (first : (b : ℕ) → E u b → b ≢ v → Upto cmp f v b) where
+      module _ (only : (a : ℕ) → E a v → a ≡ u)
+          (first : (b : ℕ) → E u b → b ≢ v → Upto cmp f v b) where
         pub sink_others : (a b : ℕ) → E a b → a ≢ v → Upto cmp g a b
         sink_others a b e a_v = ⊎_elim
             (λ (au : a ≡ u). let ub : E u b = rw (← au) e in

@@ -8,7 +8,8 @@ use Rattle.sst_entries.specs.declared.stream.Direction.{Direction}
 use Rattle.sst_entries.specs.declared.stream.Direction.TheVariants as ends
 use Rattle.lsm_heaps.specs.Order.{toward}
 
-pub toward_total : {T : Type 0} (side : Direction) {cmp : T → T → Ordering} → IsTotalOrder cmp → IsTotalOrder (toward side cmp)
+pub toward_total : {T : Type 0} (side : Direction) {cmp : T → T → Ordering} → IsTotalOrder cmp
+    → IsTotalOrder (toward side cmp)
 toward_total ends.Front o = o
 toward_total ends.Back o = back_total o
 
@@ -18,5 +19,6 @@ turned Equal b e h = cc
 turned Greater b e h = ap is_gt e
 
 -- of two items not both come after the other
-pub not_both : {T : Type 0} (cmp : T → T → Ordering) → IsTotalOrder cmp → (x y : T) → is_gt (cmp x y) ≡ true → is_gt (cmp y x) ≡ false
+pub not_both : {T : Type 0} (cmp : T → T → Ordering) → IsTotalOrder cmp → (x y : T)
+    → is_gt (cmp x y) ≡ true → is_gt (cmp y x) ≡ false
 not_both cmp o x y h = turned (cmp x y) (cmp y x) (o.antisymm y x) h

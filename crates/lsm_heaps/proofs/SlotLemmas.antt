@@ -1,8 +1,14 @@
 -- What a list of places holds after a change, and which of them are free.
-use Rattle.std.proofs.Common.{◌≡◌, ◌≢◌, ◌⊎◌, ℕ, zero, suc, ◌+◌, ◌<◌, ◌≤◌, List, [], ◌∷◌, ◌++◌, Option, Some, None, length, get_or, set, replicate, refl, sym, ◌∙◌, ap, ⊎_elim, inl, inr, arith}
+use Rattle.std.proofs.Common.{◌≡◌, ◌≢◌, ◌⊎◌, ℕ, zero, suc, ◌+◌, ◌<◌, ◌≤◌, List, [], ◌∷◌, ◌++◌}
+use Rattle.std.proofs.Common.{Option, Some, None, length, get_or, set, replicate, refl, sym, ◌∙◌}
+use Rattle.std.proofs.Common.{ap, ⊎_elim, inl, inr, arith}
 use Rattle.std.specs.List.Sorted.{IsPermutation}
-use Rattle.std.proofs.lemmas.List.{length-set, length-append, length-replicate, get_or-replicate, get_or-set_same, get_or-set_other, get_or_append_left, get_or_push, set-set, set-get_or}
-use Rattle.std.proofs.lemmas.List.Sorted.{IsPermutation-refl, IsPermutation-sym, IsPermutation-cons, IsPermutation-trans, IsPermutation-middle, length_permutation}
+use Rattle.std.proofs.lemmas.List.{length-set, length-append, length-replicate, get_or-replicate}
+use Rattle.std.proofs.lemmas.List.{get_or-set_same, get_or-set_other, get_or_append_left}
+use Rattle.std.proofs.lemmas.List.{get_or_push, set-set, set-get_or}
+use Rattle.std.proofs.lemmas.List.Sorted.{IsPermutation-refl, IsPermutation-sym, IsPermutation-cons}
+use Rattle.std.proofs.lemmas.List.Sorted.{IsPermutation-trans, IsPermutation-middle}
+use Rattle.std.proofs.lemmas.List.Sorted.{length_permutation}
 use Rattle.std.proofs.lemmas.Bool.{cases_eq}
 use Rattle.lsm_heaps.specs.Slots.{items_of, slot_at, IsFreeList}
 
@@ -11,7 +17,9 @@ items_of-replicate zero = refl
 items_of-replicate (suc n) = items_of-replicate n
 
 -- an item goes into an empty slot
-pub items_of-fill : {T : Type 0} (places : List (Option T)) (s : ℕ) (x : T) → s < length places → slot_at places s ≡ None → IsPermutation (x ∷ items_of places) (items_of (set places s (Some x)))
+pub items_of-fill : {T : Type 0} (places : List (Option T)) (s : ℕ) (x : T) → s < length places
+    → slot_at places s ≡ None
+    → IsPermutation (x ∷ items_of places) (items_of (set places s (Some x)))
 items_of-fill [] s x low empty = absurd (omega arith)
 items_of-fill (None ∷ places) zero x low empty = IsPermutation-refl _
 items_of-fill (Some y ∷ places) zero x low empty = cc
@@ -21,14 +29,17 @@ items_of-fill (Some y ∷ places) (suc s) x low empty =
     (IsPermutation-cons y _ _ (items_of-fill places s x (omega arith) empty))
 
 -- the item of a slot is taken out
-pub items_of-empty : {T : Type 0} (places : List (Option T)) (s : ℕ) (x : T) → s < length places → slot_at places s ≡ Some x → IsPermutation (items_of places) (x ∷ items_of (set places s None))
+pub items_of-empty : {T : Type 0} (places : List (Option T)) (s : ℕ) (x : T) → s < length places
+    → slot_at places s ≡ Some x → IsPermutation (items_of places) (x ∷ items_of (set places s None))
 items_of-empty places s x low is =
     let back : set (set places s None) s (Some x) ≡ places = set-set places s None (Some x) ∙ ap (λ o. set places s o) (sym is) ∙ set-get_or places s None in
     let inside : s < length (set places s None) = rw length-set low in
     let p = items_of-fill (set places s None) s x inside (get_or-set_same places s None None low) in
     IsPermutation-sym _ _ (rw back at p)
 
-pub IsFreeList-new : {T : Type 0} (n room : ℕ) (free : List ℕ) → room ≤ n → length free ≡ room → ((i : ℕ) → i < room → get_or free i 0 + i + 1 ≡ room) → IsFreeList (replicate {A = Option T} n None) free room
+pub IsFreeList-new : {T : Type 0} (n room : ℕ) (free : List ℕ) → room ≤ n → length free ≡ room
+    → ((i : ℕ) → i < room → get_or free i 0 + i + 1 ≡ room)
+    → IsFreeList (replicate {A = Option T} n None) free room
 IsFreeList-new {T} n room free fits count each = record {
   count = let e = ap length (items_of-replicate {T = T} n) in omega (arith, e, count);
   within = λ i h. let e = each i (omega arith) in omega (arith, e, length-replicate {A = Option T} n None);
@@ -37,7 +48,9 @@ IsFreeList-new {T} n room free fits count each = record {
 }
 
 -- the last free slot is taken
-pub IsFreeList-fill : {T : Type 0} (places : List (Option T)) (free rest : List ℕ) (room s : ℕ) (x : T) → free ≡ rest ++ s ∷ [] → IsFreeList places free room → IsFreeList (set places s (Some x)) rest room
+pub IsFreeList-fill : {T : Type 0} (places : List (Option T)) (free rest : List ℕ) (room s : ℕ)
+    (x : T) → free ≡ rest ++ s ∷ [] → IsFreeList places free room
+    → IsFreeList (set places s (Some x)) rest room
 IsFreeList-fill places free rest room s x is f =
     let size : length free ≡ length rest + 1 = ap length is ∙ length-append rest (s ∷ []) in
     let at_end : get_or free (length rest) 0 ≡ s = ap (λ l. get_or l (length rest) 0) is ∙ get_or_push rest s 0 (length rest) refl in
@@ -60,7 +73,9 @@ lt_or_eq : (i n : ℕ) → i < n + 1 → (i < n) ⊎ (i ≡ n)
 lt_or_eq i n h = ⊎_elim (λ e. inr e) (λ (ne : i ≢ n). inl (omega arith)) (cases_eq i n)
 
 -- a taken slot becomes free
-pub IsFreeList-empty : {T : Type 0} (places : List (Option T)) (free : List ℕ) (room s : ℕ) (x : T) → s < length places → slot_at places s ≡ Some x → IsFreeList places free room → IsFreeList (set places s None) (free ++ s ∷ []) room
+pub IsFreeList-empty : {T : Type 0} (places : List (Option T)) (free : List ℕ) (room s : ℕ) (x : T)
+    → s < length places → slot_at places s ≡ Some x → IsFreeList places free room
+    → IsFreeList (set places s None) (free ++ s ∷ []) room
 IsFreeList-empty places free room s x low is f =
     let shrunk = length_permutation _ _ (items_of-empty places s x low is) in
     let at_end : get_or (free ++ s ∷ []) (length free) 0 ≡ s = get_or_push free s 0 (length free) refl in

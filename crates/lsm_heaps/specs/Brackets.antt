@@ -1,7 +1,8 @@
 -- Tournaments over slots: full binary trees whose leaves are the slots, in which each inner node
 -- names the winner of its two children. Node 1 is the root, and the children of node n are 2n and
 -- 2n + 1.
-use Rattle.std.specs.Prelude.{◌≡◌, ◌⊎◌, ℕ, ◌+◌, ◌*◌, ◌^◌, ◌<◌, Bool, true, false, List, [], ◌∷◌, ◌++◌, Option, Some, None, length, slice_index, slice_set}
+use Rattle.std.specs.Prelude.{◌≡◌, ◌⊎◌, ℕ, ◌+◌, ◌*◌, ◌^◌, ◌<◌, Bool, true, false, List, [], ◌∷◌}
+use Rattle.std.specs.Prelude.{◌++◌, Option, Some, None, length, slice_index, slice_set}
 use Rattle.std.specs.declared.cmp.Ordering.{Ordering}
 use Rattle.std.specs.Ordering.{is_gt}
 use Rattle.sst_entries.specs.declared.stream.Direction.{Direction}
@@ -100,8 +101,8 @@ abbrev pub IsNextIf : {T : Type 0} → Places T → Option ℕ → Type 0
 IsNextIf slots None = Unit {0}
 IsNextIf slots (Some s) = IsNext slots s
 
--- there is a leaf for each slot and no more than needed, and what was asked is won, but for the slot
--- that was emptied last, which is the next to be taken
+-- there is a leaf for each slot and no more than needed, and what was asked is won, but for the
+-- slot that was emptied last, which is the next to be taken
 pub record IsTournament {T Z : Type 0} (cmp : T → T → Ordering) (slots : Places T)
     (b : Brackets Z) : Type 0 where
   pub leaves : length slots.places ≡ 2 ^ height slots.room

@@ -1,6 +1,7 @@
 -- A list as a tree of intervals: node i has the places 2i and 2i + 1, for its low and its high end,
 -- and the children 2i + 1 and 2i + 2. A last node with one place has it for both ends.
-use Rattle.std.specs.Prelude.{◌≡◌, ◌≢◌, ◌⊎◌, ℕ, ◌+◌, ◌-◌, ◌*◌, ◌/◌, ◌%◌, ◌<◌, ◌≤◌, false, List, length, min, slice_index_or}
+use Rattle.std.specs.Prelude.{◌≡◌, ◌≢◌, ◌⊎◌, ℕ, ◌+◌, ◌-◌, ◌*◌, ◌/◌, ◌%◌, ◌<◌, ◌≤◌, false, List}
+use Rattle.std.specs.Prelude.{length, min, slice_index_or}
 use Rattle.std.specs.declared.cmp.Ordering.{Ordering}
 use Rattle.std.specs.Ordering.{is_gt}
 use Rattle.sst_entries.specs.declared.stream.Direction.{Direction}

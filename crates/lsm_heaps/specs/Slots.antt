@@ -1,5 +1,6 @@
 -- Places for items.
-use Rattle.std.specs.Prelude.{◌≡◌, ◌≢◌, ℕ, ◌+◌, ◌<◌, List, [], ◌∷◌, Option, Some, None, length, slice_index, slice_index_or}
+use Rattle.std.specs.Prelude.{◌≡◌, ◌≢◌, ℕ, ◌+◌, ◌<◌, List, [], ◌∷◌, Option, Some, None, length}
+use Rattle.std.specs.Prelude.{slice_index, slice_index_or}
 
 -- the places, how many of them may be taken, and the free ones, of which the last is taken first
 pub record Places (T : Type 0) : Type 0 where

@@ -1,5 +1,6 @@
 //! A priority queue with two ends, as an interval heap.
-ghost use Rattle.std.specs.Prelude.{◌≡◌, ◌⊎◌, ℕ, ◌+◌, ◌*◌, ◌/◌, ◌%◌, ◌<◌, ◌≤◌, [], ◌∷◌, length, IfOk, IfErr, IfNone, IfSome, IsPermutation, MatchOption};
+ghost use Rattle.std.specs.Prelude.{◌≡◌, ◌⊎◌, ℕ, ◌+◌, ◌*◌, ◌/◌, ◌%◌, ◌<◌, ◌≤◌, [], ◌∷◌, length};
+ghost use Rattle.std.specs.Prelude.{IfOk, IfErr, IfNone, IfSome, IsPermutation, MatchOption};
 ghost use Rattle.sst_entries.specs.declared.error.Error.TheVariants.{OutOfMemory};
 ghost use Rattle.lsm_heaps.specs.Bag.{IsLeast, IsGreatest};
 ghost use Rattle.lsm_heaps.specs.Order.{toward};
@@ -15,8 +16,8 @@ use std::marker::Model;
 ///
 /// It is an interval heap (van Leeuwen and Wood, "Interval Heaps", The Computer Journal 36, 1993):
 /// one vector, seen as a tree whose node i has the items at 2i and 2i + 1, the ends of an interval
-/// that all the intervals below it lie in. By that form a push or a pop takes a number of comparisons
-/// that grows with the logarithm of the length; no clause says so. Memory is taken by
+/// that all the intervals below it lie in. By that form a push or a pop takes a number of
+/// comparisons that grows with the logarithm of the length; no clause says so. Memory is taken by
 /// [`IntervalHeap::with_capacity`] alone. Which of equal items comes first is open.
 #[derive(Drop)]
 pub struct IntervalHeap<T: Ord, A: Allocator = Global> {

@@ -1,11 +1,13 @@
 //! A priority queue with two ends, as two tournaments over the same slots, each of which is played
 //! only once its end was asked.
-ghost use Rattle.std.specs.Prelude.{◌≡◌, ◌+◌, ◌<◌, [], ◌∷◌, length, true, false, IfOk, IfErr, IfNone, IfSome, IsPermutation};
+ghost use Rattle.std.specs.Prelude.{◌≡◌, ◌+◌, ◌<◌, [], ◌∷◌, length, true, false, IfOk, IfErr};
+ghost use Rattle.std.specs.Prelude.{IfNone, IfSome, IsPermutation};
 ghost use Rattle.sst_entries.specs.declared.error.Error.TheVariants.{OutOfMemory};
 ghost use Rattle.sst_entries.specs.declared.stream.Direction.TheVariants.{Front, Back};
 ghost use Rattle.lsm_heaps.specs.Bag.{IsLeast, IsGreatest};
 ghost use Rattle.lsm_heaps.specs.Order.{toward};
-ghost use Rattle.lsm_heaps.specs.Tournament.{rematches, first_round, PlaysAtMost, SameEnds, PlaysFrom};
+ghost use Rattle.lsm_heaps.specs.Tournament.{rematches, first_round, PlaysAtMost, SameEnds};
+ghost use Rattle.lsm_heaps.specs.Tournament.{PlaysFrom};
 
 mod brackets;
 mod slots;
@@ -19,10 +21,10 @@ use std::marker::Model;
 /// A [`Tournament`](crate::Tournament) in which the matches of an end are played from the first pop
 /// at that end on.
 ///
-/// That first pop plays them all, one comparison fewer than there are slots at most (`2^h`, the least
-/// power of two that is the capacity or more). From then on each push and pop, at either end, takes
-/// `h` comparisons for that end at most. So where only [`LazyTournament::pop_min`] is called, no
-/// match is ever played for the greatest item, and a push before the first pop compares nothing.
+/// That first pop plays them all, one comparison fewer than there are slots at most (`2^h`, the
+/// least power of two that is the capacity or more). From then on each push and pop, at either end,
+/// takes `h` comparisons for that end at most. So where only [`LazyTournament::pop_min`] is called,
+/// no match is ever played for the greatest item, and a push before the first pop compares nothing.
 /// Memory is taken by [`LazyTournament::with_capacity`] alone. Which of equal items comes first is
 /// open.
 #[derive(Drop)]

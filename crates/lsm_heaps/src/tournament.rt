@@ -1,5 +1,6 @@
 //! A priority queue with two ends, as two tournaments over the same slots.
-ghost use Rattle.std.specs.Prelude.{◌≡◌, ◌*◌, ◌<◌, [], ◌∷◌, length, IfOk, IfErr, IfNone, IfSome, IsPermutation};
+ghost use Rattle.std.specs.Prelude.{◌≡◌, ◌*◌, ◌<◌, [], ◌∷◌, length, IfOk, IfErr, IfNone, IfSome};
+ghost use Rattle.std.specs.Prelude.{IsPermutation};
 ghost use Rattle.sst_entries.specs.declared.error.Error.TheVariants.{OutOfMemory};
 ghost use Rattle.lsm_heaps.specs.Bag.{IsLeast, IsGreatest};
 ghost use Rattle.lsm_heaps.specs.Tournament.{height, PlaysAtMost};
@@ -11,13 +12,13 @@ use std::marker::Model;
 
 /// A priority queue that gives up its least and its greatest item.
 ///
-/// Each item has a slot, and two tournaments are played over the slots: one that the least item wins,
-/// and one that the greatest wins (trees of winners: Knuth, "The Art of Computer Programming", volume
-/// 3, "Sorting by Selection"). A pop leaves the matches above the slot that it empties to the next
-/// call: a push takes that slot, so a pop and a push play them once. A push or a pop plays the matches
-/// above one slot again, which takes `h` comparisons for each tournament at most, where `2^h` is the
-/// least power of two that is the capacity or more. Memory is taken by [`Tournament::with_capacity`]
-/// alone. Which of equal items comes first is open.
+/// Each item has a slot, and two tournaments are played over the slots: one that the least item
+/// wins, and one that the greatest wins (trees of winners: Knuth, "The Art of Computer
+/// Programming", volume 3, "Sorting by Selection"). A pop leaves the matches above the slot that it
+/// empties to the next call: a push takes that slot, so a pop and a push play them once. A push or
+/// a pop plays the matches above one slot again, which takes `h` comparisons for each tournament at
+/// most, where `2^h` is the least power of two that is the capacity or more. Memory is taken by
+/// [`Tournament::with_capacity`] alone. Which of equal items comes first is open.
 #[derive(Drop)]
 pub struct Tournament<T: Ord, A: Allocator = Global> {
     // Both of its ends play from the start.

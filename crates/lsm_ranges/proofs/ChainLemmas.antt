@@ -1,19 +1,24 @@
 -- The chain that the walk gives, and its length.
-use Rattle.std.proofs.Common.{◌≡◌, refl, sym, ◌∙◌, ap, subst, ℕ, List, [], ◌∷◌, length, inl, inr, arith, Some}
+use Rattle.std.proofs.Common.{◌≡◌, refl, sym, ◌∙◌, ap, subst, ℕ, List, [], ◌∷◌, length, inl, inr}
+use Rattle.std.proofs.Common.{arith, Some}
 use Rattle.std.specs.Prelude.{map, reverse, IsPermutation}
-use Rattle.std.proofs.lemmas.List.Sorted.{Contains-permutation, IsPermutation-sym, length_permutation}
+use Rattle.std.proofs.lemmas.List.Sorted.{Contains-permutation, IsPermutation-sym}
+use Rattle.std.proofs.lemmas.List.Sorted.{length_permutation}
 use Rattle.std.proofs.lemmas.List.{length-reverse}
 use Rattle.lsm_ranges.specs.KeyRange.{Interval}
-use Rattle.lsm_ranges.specs.Packing.{tables_of, table_at, put_all, AreTablesWellFormed, AreDisjointRuns, AreNotEmpty, IsLeastSize}
+use Rattle.lsm_ranges.specs.Packing.{tables_of, table_at, put_all, AreTablesWellFormed}
+use Rattle.lsm_ranges.specs.Packing.{AreDisjointRuns, AreNotEmpty, IsLeastSize}
 use Rattle.lsm_ranges.specs.Links.{IsElement, TableWithPlace, runs_with_places, IsStack}
 use Rattle.lsm_ranges.specs.LinkedRuns.{table_of_link, ArePackedLinks, AreAtPlaces}
 use Rattle.lsm_ranges.specs.declared.optimize.Link.{Link}
 use Rattle.lsm_ranges.proofs.PackLemmas.{put_all_packed, in_order_of, all_by}
 use Rattle.lsm_ranges.proofs.PackNumbers.{Rises, stacked}
-use Rattle.lsm_ranges.proofs.PackSize.{is_at_place, tables_with_places, rises_all, formed-map, put_all-map, length-map, least_size}
+use Rattle.lsm_ranges.proofs.PackSize.{is_at_place, tables_with_places, rises_all, formed-map}
+use Rattle.lsm_ranges.proofs.PackSize.{put_all-map, length-map, least_size}
 use Rattle.lsm_ranges.proofs.LinkLemmas.{mem_contains, contains_mem}
 
-mem-map : {Y Z : Type 0} (h : Y → Z) (ys : List Y) (y : Y) → IsElement y ys → IsElement (h y) (map h ys)
+mem-map : {Y Z : Type 0} (h : Y → Z) (ys : List Y) (y : Y) → IsElement y ys
+    → IsElement (h y) (map h ys)
 mem-map h [] y m = absurd m
 mem-map h (x ∷ xs) y m = elim m [ inl e ↦ inl (ap h e) | inr n ↦ inr (mem-map h xs y n) ]
 
@@ -21,7 +26,8 @@ no_length : {Y : Type 0} (ys : List Y) → length ys ≡ 0 → ys ≡ []
 no_length [] h = refl
 no_length (y ∷ ys) h = absurd (omega (arith, h))
 
-module _ {T : Type 0} (range : T → Interval) (runs : List (List T)) (packed : List (List (Link T))) (h : ArePackedLinks range (runs_with_places 0 runs) packed) where
+module _ {T : Type 0} (range : T → Interval) (runs : List (List T)) (packed : List (List (Link T)))
+    (h : ArePackedLinks range (runs_with_places 0 runs) packed) where
   pub places_of : AreAtPlaces runs (tables_of packed)
   places_of =
       all_by (λ (l : Link T). table_at runs l.run l.index ≡ Some l.table.now) (tables_of packed)
@@ -30,7 +36,8 @@ module _ {T : Type 0} (range : T → Interval) (runs : List (List T)) (packed : 
       let among : IsElement (table_of_link l) (runs_with_places 0 runs) = subst (λ (ts : List (TableWithPlace T)). IsElement (table_of_link l) ts) h.tables_are (mem-map (λ (k : Link T). table_of_link k) h.links l there) in
       is_at_place runs (table_of_link l) among)
 
-  map-map : (g : TableWithPlace T → T) (ls : List (Link T)) → map (λ l. g (table_of_link l)) ls ≡ map g (map (λ l. table_of_link l) ls)
+  map-map : (g : TableWithPlace T → T) (ls : List (Link T))
+      → map (λ l. g (table_of_link l)) ls ≡ map g (map (λ l. table_of_link l) ls)
   map-map g [] = refl
   map-map g (l ∷ ls) = ap (λ k. g (table_of_link l) ∷ k) (map-map g ls)
 
@@ -51,7 +58,9 @@ module _ {T : Type 0} (range : T → Interval) (runs : List (List T)) (packed : 
     formed_links : AreTablesWellFormed (λ l. range l.table.now) h.links
     formed_links = formed-map (λ (x : TableWithPlace T). range x.table) (λ (l : Link T). table_of_link l) h.links (subst (AreTablesWellFormed (λ (x : TableWithPlace T). range x.table)) (sym h.tables_are) formed_tables)
 
-    rises-map : (ls : List (Link T)) → Rises (λ x. range x.table) (λ x. x.run) (map (λ l. table_of_link l) ls) → Rises (λ l. range l.table.now) (λ l. l.run) ls
+    rises-map : (ls : List (Link T))
+        → Rises (λ x. range x.table) (λ x. x.run) (map (λ l. table_of_link l) ls)
+        → Rises (λ l. range l.table.now) (λ l. l.run) ls
     rises-map [] r = tt
     rises-map (l ∷ ls) r = ((λ y m o. r.0 (table_of_link y) (mem-map (λ (k : Link T). table_of_link k) ls y m) o), rises-map ls r.1)
 
@@ -69,7 +78,9 @@ module _ {T : Type 0} (range : T → Interval) (runs : List (List T)) (packed : 
           carries = s.carries;
         })
 
-    pub chain_least : (chain found : List (ℕ × ℕ)) → chain ≡ reverse found → (IsStack (λ l. range l.table.now) (λ l. l.run) packed → length found ≡ length packed) → IsLeastSize range runs (length chain)
+    pub chain_least : (chain found : List (ℕ × ℕ)) → chain ≡ reverse found
+        → (IsStack (λ l. range l.table.now) (λ l. l.run) packed → length found ≡ length packed)
+        → IsLeastSize range runs (length chain)
     chain_least chain found is whole =
         let f : Link T → Interval = λ l. range l.table.now in
         let size : length packed ≡ length (put_all range (tables_of runs) []) =

@@ -67,7 +67,8 @@ shared_overlap a b (k, p, q) =
     and_from (key_le b.min a.max) (key_le a.min b.max) (le_trans b.min k a.max y.0 x.1) (le_trans a.min k b.max x.0 y.1)
 
 -- well-formed intervals that overlap share the greater of their minima
-pub overlap_shared : (a b : Interval) → is_well_formed a ≡ true → is_well_formed b ≡ true → overlaps a b ≡ true → ShareKey a b
+pub overlap_shared : (a b : Interval) → is_well_formed a ≡ true → is_well_formed b ≡ true
+    → overlaps a b ≡ true → ShareKey a b
 overlap_shared a b wa wb h =
     let x = and_parts (key_le b.min a.max) (key_le a.min b.max) h in
     elim (cases_Bool (key_le a.min b.min)) [
@@ -75,21 +76,26 @@ overlap_shared a b wa wb h =
       | inr e ↦ (a.min, and_from (key_le a.min a.min) (key_le a.min a.max) (le_refl a.min) wa, and_from (key_le b.min a.min) (key_le a.min b.max) (lt_to_le b.min a.min (above a.min b.min e)) x.1)
     ]
 
-pub overlap_says : (a b : Interval) (r : Bool) → r ≡ overlaps a b → IsTrue (is_well_formed a) → IsTrue (is_well_formed b) → (IsTrue r ↔ ShareKey a b)
+pub overlap_says : (a b : Interval) (r : Bool) → r ≡ overlaps a b → IsTrue (is_well_formed a)
+    → IsTrue (is_well_formed b) → (IsTrue r ↔ ShareKey a b)
 overlap_says a b r is wa wb = ((λ t. overlap_shared a b wa wb (sym is ∙ t)), (λ s. is ∙ shared_overlap a b s))
 
-pub lower_up : (lower : Bound (List ℕ)) (k m : List ℕ) → is_from lower k ≡ true → key_le k m ≡ true → is_from lower m ≡ true
+pub lower_up : (lower : Bound (List ℕ)) (k m : List ℕ) → is_from lower k ≡ true → key_le k m ≡ true
+    → is_from lower m ≡ true
 lower_up (Included low) k m p q = le_trans low k m p q
 lower_up (Excluded low) k m p q = lt_then_le low k m p q
 lower_up Unbounded k m p q = refl
 
-pub upper_down : (upper : Bound (List ℕ)) (k m : List ℕ) → is_to upper k ≡ true → key_le m k ≡ true → is_to upper m ≡ true
+pub upper_down : (upper : Bound (List ℕ)) (k m : List ℕ) → is_to upper k ≡ true → key_le m k ≡ true
+    → is_to upper m ≡ true
 upper_down (Included high) k m p q = le_trans m k high q p
 upper_down (Excluded high) k m p q = le_then_lt m k high q p
 upper_down Unbounded k m p q = refl
 
 -- a key of an interval within two bounds shows that the interval reaches past both
-pub none_within : (r : Interval) (lower upper : Bound (List ℕ)) (b : Bool) → b ≡ is_from lower r.max && is_to upper r.min → b ≡ false → (k : List ℕ) → IsTrue (has_key r k) → IsTrue (is_from lower k) → IsTrue (is_to upper k) → ⊥
+pub none_within : (r : Interval) (lower upper : Bound (List ℕ)) (b : Bool)
+    → b ≡ is_from lower r.max && is_to upper r.min → b ≡ false → (k : List ℕ) → IsTrue (has_key r k)
+    → IsTrue (is_from lower k) → IsTrue (is_to upper k) → ⊥
 none_within r lower upper b is no_overlap k inside low high =
     let x = and_parts (key_le r.min k) (key_le k r.max) inside in
     both_ways b no_overlap (is ∙ and_from (is_from lower r.max) (is_to upper r.min) (lower_up lower k r.max low x.1) (upper_down upper k r.min high x.0))

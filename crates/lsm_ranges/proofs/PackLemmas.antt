@@ -1,21 +1,31 @@
 -- Putting a table into packed runs: order, and what each key's tables are.
-use Rattle.std.proofs.Common.{◌≡◌, refl, sym, ◌∙◌, ap, subst, ℕ, ◌<◌, ◌≤◌, ◌+◌, Bool, true, false, cond, List, [], ◌∷◌, ◌++◌, append_assoc, append-nil, length, length-append, take, drop, get_or, ◌-◌, zero, suc, inl, inr, arith}
-use Rattle.std.specs.Prelude.{◌⊎◌, ◌≢◌, map, filter, not, ◌&&◌, ◌||◌, ◌==◌, IsPermutation, IfOk, Result, Ok, Err}
+use Rattle.std.proofs.Common.{◌≡◌, refl, sym, ◌∙◌, ap, subst, ℕ, ◌<◌, ◌≤◌, ◌+◌, Bool, true, false}
+use Rattle.std.proofs.Common.{cond, List, [], ◌∷◌, ◌++◌, append_assoc, append-nil, length}
+use Rattle.std.proofs.Common.{length-append, take, drop, get_or, ◌-◌, zero, suc, inl, inr, arith}
+use Rattle.std.specs.Prelude.{◌⊎◌, ◌≢◌, map, filter, not, ◌&&◌, ◌||◌, ◌==◌, IsPermutation, IfOk}
+use Rattle.std.specs.Prelude.{Result, Ok, Err}
 use Rattle.std.specs.List.{list_all, list_any, AllByRecursion, insert}
 use Rattle.std.specs.declared.ops.Bound.TheVariants.{Included}
 use Rattle.std.proofs.Math.ListN.{set, drop_of_length-le}
 use Rattle.std.proofs.lemmas.List.{at_drop_more}
 use Rattle.std.proofs.lemmas.List.Concat.{flat_map-append}
 use Rattle.std.proofs.lemmas.List.Elements.{filter-append}
-use Rattle.std.proofs.lemmas.List.Sorted.{IsPermutation-refl, IsPermutation-trans, IsPermutation-sym, IsPermutation-append_left, IsPermutation-append_right, IsPermutation-insert, IsPermutation-to_front, length_permutation}
-use Rattle.std.proofs.lemmas.Bool.{and_parts, and_from, and_cases, or_cases, or_parts, or_left, or_right, or_from, cases_Bool, both_ways, ne_eqb}
+use Rattle.std.proofs.lemmas.List.Sorted.{IsPermutation-refl, IsPermutation-trans}
+use Rattle.std.proofs.lemmas.List.Sorted.{IsPermutation-sym, IsPermutation-append_left}
+use Rattle.std.proofs.lemmas.List.Sorted.{IsPermutation-append_right, IsPermutation-insert}
+use Rattle.std.proofs.lemmas.List.Sorted.{IsPermutation-to_front, length_permutation}
+use Rattle.std.proofs.lemmas.Bool.{and_parts, and_from, and_cases, or_cases, or_parts, or_left}
+use Rattle.std.proofs.lemmas.Bool.{or_right, or_from, cases_Bool, both_ways, ne_eqb}
 use Rattle.sst_entries.specs.Key.{key_lt}
 use Rattle.lsm_ranges.specs.KeyRange.{Interval, key_le, is_well_formed, has_key, overlaps}
 use Rattle.lsm_ranges.specs.Run.{are_in_order, how_many}
-use Rattle.lsm_ranges.specs.Packing.{tables_of, holders, touches, with_table, put, put_all, count_to_last, AreInOrder, ArePacked, AreTablesWellFormed, AreWellFormed, AreNotEmpty}
+use Rattle.lsm_ranges.specs.Packing.{tables_of, holders, touches, with_table, put, put_all}
+use Rattle.lsm_ranges.specs.Packing.{count_to_last, AreInOrder, ArePacked, AreTablesWellFormed}
+use Rattle.lsm_ranges.specs.Packing.{AreWellFormed, AreNotEmpty}
 use Rattle.lsm_ranges.specs.Links.{IsElement}
 use Rattle.lsm_ranges.proofs.IntervalLemmas.{above, le_trans, lt_to_le, lt_then_le, shared_overlap}
-use Rattle.lsm_ranges.proofs.RunLemmas.{falls-starts_within, parts, in_order_from, further, none_count}
+use Rattle.lsm_ranges.proofs.RunLemmas.{falls-starts_within, parts, in_order_from, further}
+use Rattle.lsm_ranges.proofs.RunLemmas.{none_count}
 
 module _ {X : Type 0} where
   pub mem-append_left : (xs ys : List X) (x : X) → IsElement x xs → IsElement x (xs ++ ys)
@@ -26,7 +36,8 @@ module _ {X : Type 0} where
   mem-append_right [] ys x h = h
   mem-append_right (z ∷ zs) ys x h = inr (mem-append_right zs ys x h)
 
-  pub mem-append_cases : (xs ys : List X) (x : X) → IsElement x (xs ++ ys) → IsElement x xs ⊎ IsElement x ys
+  pub mem-append_cases : (xs ys : List X) (x : X) → IsElement x (xs ++ ys)
+      → IsElement x xs ⊎ IsElement x ys
   mem-append_cases [] ys x h = inr h
   mem-append_cases (z ∷ zs) ys x h =
       elim h [
@@ -34,13 +45,15 @@ module _ {X : Type 0} where
         | inr m ↦ elim (mem-append_cases zs ys x m) [ inl a ↦ inl (inr a) | inr b ↦ inr b ]
       ]
 
-  pub any_fails : (p : X → Bool) (xs : List X) → list_any p xs ≡ false → (x : X) → IsElement x xs → p x ≡ false
+  pub any_fails : (p : X → Bool) (xs : List X) → list_any p xs ≡ false → (x : X) → IsElement x xs
+      → p x ≡ false
   any_fails p [] h x m = absurd m
   any_fails p (y ∷ ys) h x m =
       let k = or_parts (p y) (list_any p ys) h in
       elim m [ inl e ↦ ap p e ∙ k.0 | inr n ↦ any_fails p ys k.1 x n ]
 
-  pub any_found : (p : X → Bool) (xs : List X) → list_any p xs ≡ true → (x : X) × IsElement x xs × (p x ≡ true)
+  pub any_found : (p : X → Bool) (xs : List X) → list_any p xs ≡ true
+      → (x : X) × IsElement x xs × (p x ≡ true)
   any_found p [] h = absurd cc
   any_found p (y ∷ ys) h =
       elim (or_cases (p y) (list_any p ys) h) [
@@ -48,7 +61,8 @@ module _ {X : Type 0} where
         | inr k ↦ let f = any_found p ys k in (f.0, inr f.1, f.2)
       ]
 
-  pub any_from : (p : X → Bool) (xs : List X) (x : X) → IsElement x xs → p x ≡ true → list_any p xs ≡ true
+  pub any_from : (p : X → Bool) (xs : List X) (x : X) → IsElement x xs → p x ≡ true
+      → list_any p xs ≡ true
   any_from p [] x m h = absurd m
   any_from p (y ∷ ys) x m h =
       elim m [
@@ -60,11 +74,13 @@ module _ {X : Type 0} where
   all_of P [] h x m = absurd m
   all_of P (y ∷ ys) h x m = elim m [ inl e ↦ subst P (sym e) h.0 | inr n ↦ all_of P ys h.1 x n ]
 
-  pub all_by : (P : X → Type 0) (xs : List X) → ((x : X) → IsElement x xs → P x) → AllByRecursion P xs
+  pub all_by : (P : X → Type 0) (xs : List X) → ((x : X) → IsElement x xs → P x)
+      → AllByRecursion P xs
   all_by P [] h = tt
   all_by P (y ∷ ys) h = (h y (inl refl), all_by P ys (λ x m. h x (inr m)))
 
-  filter_none : (p : X → Bool) (xs : List X) → ((x : X) → IsElement x xs → p x ≡ false) → filter p xs ≡ []
+  filter_none : (p : X → Bool) (xs : List X) → ((x : X) → IsElement x xs → p x ≡ false)
+      → filter p xs ≡ []
   filter_none p [] h = refl
   filter_none p (y ∷ ys) h = let e : p y ≡ false = h y (inl refl) in rw e (filter_none p ys (λ x m. h x (inr m)))
 
@@ -77,21 +93,25 @@ module _ {X : Type 0} where
   take_and_drop (suc n) [] = refl
   take_and_drop (suc n) (x ∷ xs) = ap (λ l. x ∷ l) (take_and_drop n xs)
 
-  filter-cons_no : (p : X → Bool) (x : X) (xs : List X) → p x ≡ false → filter p (x ∷ xs) ≡ filter p xs
+  filter-cons_no : (p : X → Bool) (x : X) (xs : List X) → p x ≡ false
+      → filter p (x ∷ xs) ≡ filter p xs
   filter-cons_no p x xs e = rw e refl
 
-  filter-cons_yes : (p : X → Bool) (x : X) (xs : List X) → p x ≡ true → filter p (x ∷ xs) ≡ x ∷ filter p xs
+  filter-cons_yes : (p : X → Bool) (x : X) (xs : List X) → p x ≡ true
+      → filter p (x ∷ xs) ≡ x ∷ filter p xs
   filter-cons_yes p x xs e = rw e refl
 
   -- a list with an element more, as a filter sees it
-  filter-insert_no : (p : X → Bool) (xs : List X) (n : ℕ) (x : X) → p x ≡ false → filter p (insert xs n x) ≡ filter p xs
+  filter-insert_no : (p : X → Bool) (xs : List X) (n : ℕ) (x : X) → p x ≡ false
+      → filter p (insert xs n x) ≡ filter p xs
   filter-insert_no p xs n x e =
       filter-append p (take n xs) (x ∷ drop n xs)
       ∙ ap (λ l. filter p (take n xs) ++ l) (filter-cons_no p x (drop n xs) e)
       ∙ sym (filter-append p (take n xs) (drop n xs))
       ∙ ap (filter p) (take_and_drop n xs)
 
-  filter-insert_alone : (p : X → Bool) (xs : List X) (n : ℕ) (x : X) → p x ≡ true → filter p xs ≡ [] → filter p (insert xs n x) ≡ x ∷ []
+  filter-insert_alone : (p : X → Bool) (xs : List X) (n : ℕ) (x : X) → p x ≡ true → filter p xs ≡ []
+      → filter p (insert xs n x) ≡ x ∷ []
   filter-insert_alone p xs n x e none =
       let k = none_parts (filter p (take n xs)) (filter p (drop n xs)) (sym (filter-append p (take n xs) (drop n xs)) ∙ ap (filter p) (take_and_drop n xs) ∙ none) in
       filter-append p (take n xs) (x ∷ drop n xs)
@@ -110,14 +130,17 @@ overlaps_comm a b = flip (key_le b.min a.max) (key_le a.min b.max)
 
 module _ {T : Type 0} (range : T → Interval) where
   -- of two that have a key, each touches the other
-  no_holder : (t : T) (ts : List T) (k : List ℕ) → has_key (range t) k ≡ true → ((x : T) → IsElement x ts → overlaps (range x) (range t) ≡ false) → (x : T) → IsElement x ts → has_key (range x) k ≡ false
+  no_holder : (t : T) (ts : List T) (k : List ℕ) → has_key (range t) k ≡ true
+      → ((x : T) → IsElement x ts → overlaps (range x) (range t) ≡ false) → (x : T) → IsElement x ts
+      → has_key (range x) k ≡ false
   no_holder t ts k has apart x m =
       elim (cases_Bool (has_key (range x) k)) [
         | inl e ↦ absurd (both_ways (overlaps (range x) (range t)) (apart x m) (shared_overlap (range x) (range t) (k, e, has)))
         | inr e ↦ e
       ]
 
-  pub untouched : (r : Interval) (runs : List (List T)) → list_any (touches range r) runs ≡ false → (x : T) → IsElement x (tables_of runs) → overlaps (range x) r ≡ false
+  pub untouched : (r : Interval) (runs : List (List T)) → list_any (touches range r) runs ≡ false
+      → (x : T) → IsElement x (tables_of runs) → overlaps (range x) r ≡ false
   untouched r [] h x m = absurd m
   untouched r (run ∷ runs) h x m =
       let k = or_parts (touches range r run) (list_any (touches range r) runs) h in
@@ -126,14 +149,20 @@ module _ {T : Type 0} (range : T → Interval) where
         | inr b ↦ untouched r runs k.1 x b
       ]
 
-  pub put_here : (t : T) (run : List T) (runs : List (List T)) → touches range (range t) run || list_any (touches range (range t)) runs ≡ false → put range t (run ∷ runs) ≡ with_table range t run ∷ runs
+  pub put_here : (t : T) (run : List T) (runs : List (List T))
+      → touches range (range t) run || list_any (touches range (range t)) runs ≡ false
+      → put range t (run ∷ runs) ≡ with_table range t run ∷ runs
   put_here t run runs h = rw h refl
 
-  pub put_behind : (t : T) (run : List T) (runs : List (List T)) → touches range (range t) run || list_any (touches range (range t)) runs ≡ true → put range t (run ∷ runs) ≡ run ∷ put range t runs
+  pub put_behind : (t : T) (run : List T) (runs : List (List T))
+      → touches range (range t) run || list_any (touches range (range t)) runs ≡ true
+      → put range t (run ∷ runs) ≡ run ∷ put range t runs
   put_behind t run runs h = rw h refl
 
   -- a table more comes last among those that have a key
-  pub put_holders : (k : List ℕ) (t : T) (runs : List (List T)) → holders range (put range t runs) k ≡ holders range runs k ++ filter (λ x. has_key (range x) k) (t ∷ [])
+  pub put_holders : (k : List ℕ) (t : T) (runs : List (List T))
+      → holders range (put range t runs) k
+      ≡ holders range runs k ++ filter (λ x. has_key (range x) k) (t ∷ [])
   put_holders k t [] = refl
   put_holders k t (run ∷ runs) =
       let p : T → Bool = λ x. has_key (range x) k in
@@ -165,7 +194,9 @@ module _ {T : Type 0} (range : T → Interval) where
             ]
       ]
 
-  pub put_all_holders : (k : List ℕ) (ts : List T) (runs : List (List T)) → holders range (put_all range ts runs) k ≡ holders range runs k ++ filter (λ x. has_key (range x) k) ts
+  pub put_all_holders : (k : List ℕ) (ts : List T) (runs : List (List T))
+      → holders range (put_all range ts runs) k
+      ≡ holders range runs k ++ filter (λ x. has_key (range x) k) ts
   put_all_holders k [] runs = sym (append-nil (holders range runs k))
   put_all_holders k (t ∷ ts) runs =
       let p : T → Bool = λ x. has_key (range x) k in
@@ -175,7 +206,8 @@ module _ {T : Type 0} (range : T → Interval) where
       ∙ ap (λ l. holders range runs k ++ l) (sym (filter-append p (t ∷ []) ts))
 
 -- some element passes where those that pass are not none
-pub any_filter : {X : Type 0} (p : X → Bool) (xs : List X) → not (length (filter p xs) == 0) ≡ list_any p xs
+pub any_filter : {X : Type 0} (p : X → Bool) (xs : List X)
+    → not (length (filter p xs) == 0) ≡ list_any p xs
 any_filter p [] = refl
 any_filter p (x ∷ xs) =
     elim (cases_Bool (p x)) [
@@ -191,7 +223,8 @@ module _ {T : Type 0} (range : T → Interval) where
   ins t [] = t ∷ []
   ins t (x ∷ xs) = cond (key_le (range x).min (range t).min) (x ∷ ins t xs) (t ∷ x ∷ xs)
 
-  with_table_is : (t : T) (run : List T) → are_in_order (map range run) ≡ true → with_table range t run ≡ ins t run
+  with_table_is : (t : T) (run : List T) → are_in_order (map range run) ≡ true
+      → with_table range t run ≡ ins t run
   with_table_is t [] h = refl
   with_table_is t (x ∷ xs) h =
       elim (cases_Bool (key_le (range x).min (range t).min)) [
@@ -201,7 +234,8 @@ module _ {T : Type 0} (range : T → Interval) where
             rw (e, none) refl
       ]
 
-  all-ins : (p : Interval → Bool) (t : T) (xs : List T) → p (range t) ≡ true → list_all p (map range xs) ≡ true → list_all p (map range (ins t xs)) ≡ true
+  all-ins : (p : Interval → Bool) (t : T) (xs : List T) → p (range t) ≡ true
+      → list_all p (map range xs) ≡ true → list_all p (map range (ins t xs)) ≡ true
   all-ins p t [] h all = rw h refl
   all-ins p t (x ∷ xs) h all =
       let k = and_parts (p (range x)) (list_all p (map range xs)) all in
@@ -210,7 +244,10 @@ module _ {T : Type 0} (range : T → Interval) where
         | inr e ↦ rw e (and_from (p (range t)) (p (range x) && list_all p (map range xs)) h all)
       ]
 
-  ins_in_order : (t : T) (xs : List T) → are_in_order (map range xs) ≡ true → is_well_formed (range t) ≡ true → ((x : T) → IsElement x xs → overlaps (range x) (range t) ≡ false) → are_in_order (map range (ins t xs)) ≡ true
+  ins_in_order : (t : T) (xs : List T) → are_in_order (map range xs) ≡ true
+      → is_well_formed (range t) ≡ true
+      → ((x : T) → IsElement x xs → overlaps (range x) (range t) ≡ false)
+      → are_in_order (map range (ins t xs)) ≡ true
   ins_in_order t [] h wt apart = in_order_from (range t) [] (record { formed = wt; before = refl; rest = refl })
   ins_in_order t (x ∷ xs) h wt apart =
       let k = parts (range x) (map range xs) h in
@@ -236,7 +273,10 @@ module _ {T : Type 0} (range : T → Interval) where
             }))
       ]
 
-  pub with_table_in_order : (t : T) (run : List T) → are_in_order (map range run) ≡ true → is_well_formed (range t) ≡ true → ((x : T) → IsElement x run → overlaps (range x) (range t) ≡ false) → are_in_order (map range (with_table range t run)) ≡ true
+  pub with_table_in_order : (t : T) (run : List T) → are_in_order (map range run) ≡ true
+      → is_well_formed (range t) ≡ true
+      → ((x : T) → IsElement x run → overlaps (range x) (range t) ≡ false)
+      → are_in_order (map range (with_table range t run)) ≡ true
   with_table_in_order t run h wt apart = subst (λ (l : List T). are_in_order (map range l) ≡ true) (sym (with_table_is t run h)) (ins_in_order t run h wt apart)
 
   some_more : (xs : List T) (n : ℕ) (t : T) → insert xs n t ≢ []
@@ -246,7 +286,8 @@ module _ {T : Type 0} (range : T → Interval) where
       go [] h = absurd cc
       go (y ∷ ys) h = absurd cc
 
-  pub put_packed : (t : T) (runs : List (List T)) → is_well_formed (range t) ≡ true → ArePacked range runs → ArePacked range (put range t runs)
+  pub put_packed : (t : T) (runs : List (List T)) → is_well_formed (range t) ≡ true
+      → ArePacked range runs → ArePacked range (put range t runs)
   put_packed t [] wt h = ((in_order_from (range t) [] (record { formed = wt; before = refl; rest = refl }), (λ e. absurd cc)), tt)
   put_packed t (run ∷ runs) wt h =
       elim (cases_Bool (touches range (range t) run || list_any (touches range (range t)) runs)) [
@@ -257,11 +298,13 @@ module _ {T : Type 0} (range : T → Interval) where
             ((with_table_in_order t run h.0.0 wt (any_fails (λ x. overlaps (range x) (range t)) run parted.0), some_more run (how_many (λ r. key_le r.min (range t).min) (map range run)) t), h.1)
       ]
 
-  pub put_all_packed : (ts : List T) (runs : List (List T)) → AreTablesWellFormed range ts → ArePacked range runs → ArePacked range (put_all range ts runs)
+  pub put_all_packed : (ts : List T) (runs : List (List T)) → AreTablesWellFormed range ts
+      → ArePacked range runs → ArePacked range (put_all range ts runs)
   put_all_packed [] runs wf h = h
   put_all_packed (t ∷ ts) runs wf h = put_all_packed ts (put range t runs) wf.1 (put_packed t runs wf.0 h)
 
-  pub put_permutes : (t : T) (runs : List (List T)) → IsPermutation (tables_of runs ++ t ∷ []) (tables_of (put range t runs))
+  pub put_permutes : (t : T) (runs : List (List T))
+      → IsPermutation (tables_of runs ++ t ∷ []) (tables_of (put range t runs))
   put_permutes t [] = IsPermutation-refl (t ∷ [])
   put_permutes t (run ∷ runs) =
       elim (cases_Bool (touches range (range t) run || list_any (touches range (range t)) runs)) [
@@ -276,7 +319,8 @@ module _ {T : Type 0} (range : T → Interval) where
             (IsPermutation-append_left (tables_of runs) (t ∷ run) (with_table range t run) (IsPermutation-insert run (how_many (λ r. key_le r.min (range t).min) (map range run)) t)))
       ]
 
-  pub put_all_permutes : (ts : List T) (runs : List (List T)) → IsPermutation (tables_of runs ++ ts) (tables_of (put_all range ts runs))
+  pub put_all_permutes : (ts : List T) (runs : List (List T))
+      → IsPermutation (tables_of runs ++ ts) (tables_of (put_all range ts runs))
   put_all_permutes [] runs = subst (λ (l : List T). IsPermutation l (tables_of runs)) (sym (append-nil (tables_of runs))) (IsPermutation-refl (tables_of runs))
   put_all_permutes (t ∷ ts) runs =
       IsPermutation-trans (tables_of runs ++ t ∷ ts) (tables_of (put range t runs) ++ ts) (tables_of (put_all range ts (put range t runs)))
@@ -284,7 +328,8 @@ module _ {T : Type 0} (range : T → Interval) where
       (IsPermutation-append_left ts (tables_of runs ++ t ∷ []) (tables_of (put range t runs)) (put_permutes t runs)))
       (put_all_permutes ts (put range t runs))
 
-  pub put_all-append : (ts us : List T) (runs : List (List T)) → put_all range (ts ++ us) runs ≡ put_all range us (put_all range ts runs)
+  pub put_all-append : (ts us : List T) (runs : List (List T))
+      → put_all range (ts ++ us) runs ≡ put_all range us (put_all range ts runs)
   put_all-append [] us runs = refl
   put_all-append (t ∷ ts) us runs = put_all-append ts us (put range t runs)
 
@@ -293,12 +338,14 @@ module _ {X : Type 0} (p : X → Bool) where
   count-none [] h = refl
   count-none (x ∷ xs) h = rw h refl
 
-  any_at : (xs : List X) (k : ℕ) (d : X) → k < length xs → p (get_or xs k d) ≡ true → list_any p xs ≡ true
+  any_at : (xs : List X) (k : ℕ) (d : X) → k < length xs → p (get_or xs k d) ≡ true
+      → list_any p xs ≡ true
   any_at [] k d lt h = absurd (omega arith)
   any_at (x ∷ xs) zero d lt h = or_left (p x) (list_any p xs) h
   any_at (x ∷ xs) (suc k) d lt h = or_right (p x) (list_any p xs) (any_at xs k d (omega arith) h)
 
-  count-suc : (xs : List X) (k : ℕ) (d : X) → k < length xs → p (get_or xs k d) ≡ true → list_any p (drop (suc k) xs) ≡ false → count_to_last p xs ≡ suc k
+  count-suc : (xs : List X) (k : ℕ) (d : X) → k < length xs → p (get_or xs k d) ≡ true
+      → list_any p (drop (suc k) xs) ≡ false → count_to_last p xs ≡ suc k
   count-suc [] k d lt h none = absurd (omega arith)
   count-suc (x ∷ xs) zero d lt h none =
       let e : (p x || list_any p xs) ≡ true = or_left (p x) (list_any p xs) h in
@@ -308,31 +355,39 @@ module _ {X : Type 0} (p : X → Bool) where
       rw e (ap suc (count-suc xs k d (omega arith) h none))
 
   -- the walk down from the end: the element before place n is the last that passes
-  pub count_found : (xs : List X) (n : ℕ) (x : X) (r : Bool) → 0 < n → n ≤ length xs → x ≡ get_or xs (n - 1) x → r ≡ p x → r ≡ true → list_any p (drop n xs) ≡ false → n - 1 + 1 ≡ count_to_last p xs
+  pub count_found : (xs : List X) (n : ℕ) (x : X) (r : Bool) → 0 < n → n ≤ length xs
+      → x ≡ get_or xs (n - 1) x → r ≡ p x → r ≡ true → list_any p (drop n xs) ≡ false
+      → n - 1 + 1 ≡ count_to_last p xs
   count_found xs n x r some le at is h none =
       let place : suc (n - 1) ≡ n = omega arith in
       sym (count-suc xs (n - 1) x (omega arith) (ap p (sym at) ∙ sym is ∙ h) (subst (λ (m : ℕ). list_any p (drop m xs) ≡ false) (sym place) none) ∙ omega arith)
 
-  pub count_past : (xs : List X) (n : ℕ) (x : X) (r : Bool) → 0 < n → n ≤ length xs → x ≡ get_or xs (n - 1) x → r ≡ p x → r ≡ false → list_any p (drop n xs) ≡ false → list_any p (drop (n - 1) xs) ≡ false
+  pub count_past : (xs : List X) (n : ℕ) (x : X) (r : Bool) → 0 < n → n ≤ length xs
+      → x ≡ get_or xs (n - 1) x → r ≡ p x → r ≡ false → list_any p (drop n xs) ≡ false
+      → list_any p (drop (n - 1) xs) ≡ false
   count_past xs n x r some le at is h none =
       let place : n - 1 + 1 ≡ n = omega arith in
       at_drop_more (list_any p) xs (n - 1) x (omega arith)
       ∙ or_from (p (get_or xs (n - 1) x)) (list_any p (drop (n - 1 + 1) xs)) (ap p (sym at) ∙ sym is ∙ h) (subst (λ (m : ℕ). list_any p (drop m xs) ≡ false) (sym place) none)
 
-  pub count_nothing : (xs : List X) (n : ℕ) → n ≡ 0 → list_any p (drop n xs) ≡ false → 0 ≡ count_to_last p xs
+  pub count_nothing : (xs : List X) (n : ℕ) → n ≡ 0 → list_any p (drop n xs) ≡ false
+      → 0 ≡ count_to_last p xs
   count_nothing xs n is none = sym (count-none xs (subst (λ (m : ℕ). list_any p (drop m xs) ≡ false) is none))
 
   pub count_start : (xs : List X) → list_any p (drop (length xs) xs) ≡ false
   count_start xs = ap (list_any p) (drop_of_length-le xs (omega arith))
 
 module _ {T : Type 0} (range : T → Interval) where
-  pub order_at : (runs : List (List T)) (n : ℕ) (d : List T) → n < length runs → AreInOrder range runs → are_in_order (map range (get_or runs n d)) ≡ true
+  pub order_at : (runs : List (List T)) (n : ℕ) (d : List T) → n < length runs
+      → AreInOrder range runs → are_in_order (map range (get_or runs n d)) ≡ true
   order_at [] n d lt h = absurd (omega arith)
   order_at (run ∷ runs) zero d lt h = h.0
   order_at (run ∷ runs) (suc n) d lt h = order_at runs n d (omega arith) h.1
 
   -- a table goes into the run behind the last one that it touches
-  pub put_set : (t : T) (runs : List (List T)) (n : ℕ) (d : List T) → n ≡ count_to_last (touches range (range t)) runs → n < length runs → set runs n (with_table range t (get_or runs n d)) ≡ put range t runs
+  pub put_set : (t : T) (runs : List (List T)) (n : ℕ) (d : List T)
+      → n ≡ count_to_last (touches range (range t)) runs → n < length runs
+      → set runs n (with_table range t (get_or runs n d)) ≡ put range t runs
   put_set t [] n d is lt = absurd (omega arith)
   put_set t (run ∷ runs) n d is lt =
       let tail = count_to_last (touches range (range t)) runs in
@@ -348,7 +403,9 @@ module _ {T : Type 0} (range : T → Interval) where
       ]
 
   -- a table that touches the last run starts a new one
-  pub put_new : (t : T) (runs : List (List T)) (n : ℕ) → n ≡ count_to_last (touches range (range t)) runs → length runs ≤ n → runs ++ (t ∷ []) ∷ [] ≡ put range t runs
+  pub put_new : (t : T) (runs : List (List T)) (n : ℕ)
+      → n ≡ count_to_last (touches range (range t)) runs → length runs ≤ n
+      → runs ++ (t ∷ []) ∷ [] ≡ put range t runs
   put_new t [] n is le = refl
   put_new t (run ∷ runs) n is le =
       let tail = count_to_last (touches range (range t)) runs in
@@ -360,21 +417,32 @@ module _ {T : Type 0} (range : T → Interval) where
         | inr e ↦ let n_is : n ≡ 0 = rw e at is in absurd (omega arith)
       ]
 
-  count_at : (t : T) (view items : List (List T)) (r : Interval) (n : ℕ) → view ≡ items → r ≡ range t → (AreInOrder range view → n ≡ count_to_last (touches range r) view) → AreInOrder range items → n ≡ count_to_last (touches range (range t)) items
+  count_at : (t : T) (view items : List (List T)) (r : Interval) (n : ℕ) → view ≡ items
+      → r ≡ range t → (AreInOrder range view → n ≡ count_to_last (touches range r) view)
+      → AreInOrder range items → n ≡ count_to_last (touches range (range t)) items
   count_at t view items r n same is counted ordered =
       counted (subst (AreInOrder range) (sym same) ordered)
       ∙ ap (λ rs. count_to_last (touches range r) rs) same
       ∙ ap (λ k. count_to_last (touches range k) items) is
 
   -- the run behind the last one that the table touches has it now
-  pub placed_in : (t : T) (view items : List (List T)) (r : Interval) (n : ℕ) (old new : List T) → view ≡ items → r ≡ range t → (AreInOrder range view → n ≡ count_to_last (touches range r) view) → n < length items → old ≡ get_or items n old → (are_in_order (map range old) ≡ true → new ≡ with_table range t old) → AreInOrder range items → set items n new ≡ put range t items
+  pub placed_in : (t : T) (view items : List (List T)) (r : Interval) (n : ℕ) (old new : List T)
+      → view ≡ items → r ≡ range t
+      → (AreInOrder range view → n ≡ count_to_last (touches range r) view) → n < length items
+      → old ≡ get_or items n old
+      → (are_in_order (map range old) ≡ true → new ≡ with_table range t old)
+      → AreInOrder range items → set items n new ≡ put range t items
   placed_in t view items r n old new same is counted lt at more ordered =
       let here : are_in_order (map range old) ≡ true = subst (λ (run : List T). are_in_order (map range run) ≡ true) (sym at) (order_at items n old lt ordered) in
       ap (λ run. set items n run) (more here ∙ ap (λ run. with_table range t run) at)
       ∙ put_set t items n old (count_at t view items r n same is counted ordered) lt
 
   -- a new run has the table
-  pub placed_behind : (t : T) (view items after : List (List T)) (r : Interval) (n : ℕ) (run : List T) → view ≡ items → r ≡ range t → (AreInOrder range view → n ≡ count_to_last (touches range r) view) → length items ≤ n → run ≡ t ∷ [] → after ≡ items ++ run ∷ [] → AreInOrder range items → after ≡ put range t items
+  pub placed_behind : (t : T) (view items after : List (List T)) (r : Interval) (n : ℕ)
+      (run : List T) → view ≡ items → r ≡ range t
+      → (AreInOrder range view → n ≡ count_to_last (touches range r) view) → length items ≤ n
+      → run ≡ t ∷ [] → after ≡ items ++ run ∷ [] → AreInOrder range items
+      → after ≡ put range t items
   placed_behind t view items after r n run same is counted le only after_is ordered =
       after_is ∙ ap (λ l. items ++ l ∷ []) only
       ∙ put_new t items n (count_at t view items r n same is counted ordered) le
@@ -383,27 +451,37 @@ module _ {T : Type 0} (range : T → Interval) where
   in_order_of [] h = tt
   in_order_of (run ∷ runs) h = (h.0.0, in_order_of runs h.1)
 
-  pub formed_parts : (ts : List T) (t : T) → AreTablesWellFormed range (ts ++ t ∷ []) → AreTablesWellFormed range ts × (is_well_formed (range t) ≡ true)
+  pub formed_parts : (ts : List T) (t : T) → AreTablesWellFormed range (ts ++ t ∷ [])
+      → AreTablesWellFormed range ts × (is_well_formed (range t) ≡ true)
   formed_parts [] t h = (tt, h.0)
   formed_parts (x ∷ xs) t h = let k = formed_parts xs t h.1 in ((h.0, k.0), k.1)
 
   -- one more table of those that are put in one after the other
-  pub put_more : (ts : List T) (t : T) (start now next : List (List T)) → (AreTablesWellFormed range ts → ArePacked range start → now ≡ put_all range ts start) → (AreInOrder range now → next ≡ put range t now) → AreTablesWellFormed range (ts ++ t ∷ []) → ArePacked range start → next ≡ put_all range (ts ++ t ∷ []) start
+  pub put_more : (ts : List T) (t : T) (start now next : List (List T))
+      → (AreTablesWellFormed range ts → ArePacked range start → now ≡ put_all range ts start)
+      → (AreInOrder range now → next ≡ put range t now) → AreTablesWellFormed range (ts ++ t ∷ [])
+      → ArePacked range start → next ≡ put_all range (ts ++ t ∷ []) start
   put_more ts t start now next before put_one formed packed =
       let k = formed_parts ts t formed in
       let is = before k.0 packed in
       let ordered : AreInOrder range now = subst (AreInOrder range) (sym is) (in_order_of (put_all range ts start) (put_all_packed range ts start k.0 packed)) in
       put_one ordered ∙ ap (λ rs. put range t rs) is ∙ sym (put_all-append range ts (t ∷ []) start)
 
-  pub tables_of-push : (runs : List (List T)) (run : List T) → tables_of (runs ++ run ∷ []) ≡ tables_of runs ++ run
+  pub tables_of-push : (runs : List (List T)) (run : List T)
+      → tables_of (runs ++ run ∷ []) ≡ tables_of runs ++ run
   tables_of-push runs run = flat_map-append (λ (ts : List T). ts) runs (run ∷ []) ∙ ap (λ l. tables_of runs ++ l) (append-nil run)
 
-  formed_both : (ts us : List T) → AreTablesWellFormed range (ts ++ us) → AreTablesWellFormed range ts × AreTablesWellFormed range us
+  formed_both : (ts us : List T) → AreTablesWellFormed range (ts ++ us)
+      → AreTablesWellFormed range ts × AreTablesWellFormed range us
   formed_both [] us h = (tt, h)
   formed_both (x ∷ xs) us h = let k = formed_both xs us h.1 in ((h.0, k.0), k.1)
 
   -- one more run whose tables are put in
-  pub put_run : (runs : List (List T)) (run : List T) (now next : List (List T)) → (AreWellFormed range runs → now ≡ put_all range (tables_of runs) []) → (AreTablesWellFormed range run → ArePacked range now → next ≡ put_all range run now) → AreWellFormed range (runs ++ run ∷ []) → next ≡ put_all range (tables_of (runs ++ run ∷ [])) []
+  pub put_run : (runs : List (List T)) (run : List T) (now next : List (List T))
+      → (AreWellFormed range runs → now ≡ put_all range (tables_of runs) [])
+      → (AreTablesWellFormed range run → ArePacked range now → next ≡ put_all range run now)
+      → AreWellFormed range (runs ++ run ∷ [])
+      → next ≡ put_all range (tables_of (runs ++ run ∷ [])) []
   put_run runs run now next before put_tables formed =
       let k = formed_both (tables_of runs) run (subst (AreTablesWellFormed range) (tables_of-push runs run) formed) in
       let is = before k.0 in
@@ -413,13 +491,16 @@ module _ {T : Type 0} (range : T → Interval) where
       ∙ ap (λ ts. put_all range ts []) (sym (tables_of-push runs run))
 
 -- a fact of a success gives another
-pub if_ok : {Y E : Type 0} {P Q : Y → Type 0} (r : Result Y E) → ((y : Y) → P y → Q y) → IfOk r P → IfOk r Q
+pub if_ok : {Y E : Type 0} {P Q : Y → Type 0} (r : Result Y E) → ((y : Y) → P y → Q y) → IfOk r P
+    → IfOk r Q
 if_ok (Ok y) h p = h y p
 if_ok (Err e) h p = p
 
 module _ {T : Type 0} where
   -- one table more in one of the runs
-  pub permutes_in : (t : T) (items : List (List T)) (n : ℕ) (old new : List T) → n < length items → old ≡ get_or items n old → IsPermutation (old ++ t ∷ []) new → IsPermutation (tables_of items ++ t ∷ []) (tables_of (set items n new))
+  pub permutes_in : (t : T) (items : List (List T)) (n : ℕ) (old new : List T) → n < length items
+      → old ≡ get_or items n old → IsPermutation (old ++ t ∷ []) new
+      → IsPermutation (tables_of items ++ t ∷ []) (tables_of (set items n new))
   permutes_in t [] n old new lt at same = absurd (omega arith)
   permutes_in t (run ∷ runs) zero old new lt at same =
       let here : IsPermutation (run ++ t ∷ []) new = subst (λ (l : List T). IsPermutation (l ++ t ∷ []) new) at same in
@@ -432,7 +513,8 @@ module _ {T : Type 0} where
       subst (λ (l : List T). IsPermutation l (run ++ tables_of (set runs n new))) (sym (append_assoc run (tables_of runs) (t ∷ [])))
       (IsPermutation-append_right run (tables_of runs ++ t ∷ []) (tables_of (set runs n new)) (permutes_in t runs n old new (omega arith) at same))
 
-  pub permutes_behind : (t : T) (items after : List (List T)) (run : List T) → run ≡ t ∷ [] → after ≡ items ++ run ∷ [] → IsPermutation (tables_of items ++ t ∷ []) (tables_of after)
+  pub permutes_behind : (t : T) (items after : List (List T)) (run : List T) → run ≡ t ∷ []
+      → after ≡ items ++ run ∷ [] → IsPermutation (tables_of items ++ t ∷ []) (tables_of after)
   permutes_behind t items after run only is =
       subst (λ (l : List T). IsPermutation (tables_of items ++ t ∷ []) l) (sym (ap tables_of is ∙ flat_map-append (λ (ts : List T). ts) items (run ∷ []) ∙ ap (λ l. tables_of items ++ l) (append-nil run ∙ only)))
       (IsPermutation-refl (tables_of items ++ t ∷ []))
@@ -444,30 +526,36 @@ module _ {T : Type 0} where
       let sum = length-append xs (t ∷ []) in
       absurd (omega (arith, long, sum, ap length none))
 
-  pub not_empty_in : (t : T) (items : List (List T)) (n : ℕ) (old new : List T) → IsPermutation (old ++ t ∷ []) new → AreNotEmpty items → AreNotEmpty (set items n new)
+  pub not_empty_in : (t : T) (items : List (List T)) (n : ℕ) (old new : List T)
+      → IsPermutation (old ++ t ∷ []) new → AreNotEmpty items → AreNotEmpty (set items n new)
   not_empty_in t [] n old new same h = tt
   not_empty_in t (run ∷ runs) zero old new same h = (more_than_none old new t same, h.1)
   not_empty_in t (run ∷ runs) (suc n) old new same h = (h.0, not_empty_in t runs n old new same h.1)
 
-  pub not_empty_behind : (t : T) (items after : List (List T)) (run : List T) → run ≡ t ∷ [] → after ≡ items ++ run ∷ [] → AreNotEmpty items → AreNotEmpty after
+  pub not_empty_behind : (t : T) (items after : List (List T)) (run : List T) → run ≡ t ∷ []
+      → after ≡ items ++ run ∷ [] → AreNotEmpty items → AreNotEmpty after
   not_empty_behind t items after run only is h = subst AreNotEmpty (sym is) (go items h)
     where
       go : (ls : List (List T)) → AreNotEmpty ls → AreNotEmpty (ls ++ run ∷ [])
       go [] k = ((λ e. let z : t ∷ [] ≡ [] = sym only ∙ e in absurd cc), tt)
       go (l ∷ ls) k = (k.0, go ls k.1)
 
-  pub permutes_more : (start done now next : List T) (t : T) → IsPermutation (start ++ done) now → IsPermutation (now ++ t ∷ []) next → IsPermutation (start ++ (done ++ t ∷ [])) next
+  pub permutes_more : (start done now next : List T) (t : T) → IsPermutation (start ++ done) now
+      → IsPermutation (now ++ t ∷ []) next → IsPermutation (start ++ (done ++ t ∷ [])) next
   permutes_more start done now next t before one =
       IsPermutation-trans (start ++ (done ++ t ∷ [])) (now ++ t ∷ []) next
       (subst (λ (l : List T). IsPermutation l (now ++ t ∷ [])) (append_assoc start done (t ∷ [])) (IsPermutation-append_left (t ∷ []) (start ++ done) now before))
       one
 
-  pub permutes_run : (done : List (List T)) (run : List T) (now next : List T) → IsPermutation (tables_of done) now → IsPermutation (now ++ run) next → IsPermutation (tables_of (done ++ run ∷ [])) next
+  pub permutes_run : (done : List (List T)) (run : List T) (now next : List T)
+      → IsPermutation (tables_of done) now → IsPermutation (now ++ run) next
+      → IsPermutation (tables_of (done ++ run ∷ [])) next
   permutes_run done run now next before one =
       subst (λ (l : List T). IsPermutation l next) (sym (flat_map-append (λ (ts : List T). ts) done (run ∷ []) ∙ ap (λ l. tables_of done ++ l) (append-nil run)))
       (IsPermutation-trans (tables_of done ++ run) (now ++ run) next (IsPermutation-append_left run (tables_of done) now before) one)
 
-  pub permutes_inserted : (old items new : List T) (n : ℕ) (t : T) → items ≡ old → new ≡ insert items n t → IsPermutation (old ++ t ∷ []) new
+  pub permutes_inserted : (old items new : List T) (n : ℕ) (t : T) → items ≡ old
+      → new ≡ insert items n t → IsPermutation (old ++ t ∷ []) new
   permutes_inserted old items new n t same is =
       subst (λ (l : List T). IsPermutation (l ++ t ∷ []) new) same
       (subst (λ (l : List T). IsPermutation (items ++ t ∷ []) l) (sym is)

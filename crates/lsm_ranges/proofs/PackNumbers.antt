@@ -1,5 +1,7 @@
--- Packed runs are as few as can be: each table behind the first run overlaps one of the run before it, from an earlier run of the input.
-use Rattle.std.proofs.Common.{◌≡◌, refl, sym, ◌∙◌, ap, subst, ℕ, ◌<◌, Bool, true, false, List, [], ◌∷◌, ◌++◌, append_assoc, append-nil, take, drop, zero, suc, inl, inr}
+-- Packed runs are as few as can be: each table behind the first run overlaps one of the run before
+-- it, from an earlier run of the input.
+use Rattle.std.proofs.Common.{◌≡◌, refl, sym, ◌∙◌, ap, subst, ℕ, ◌<◌, Bool, true, false, List, []}
+use Rattle.std.proofs.Common.{◌∷◌, ◌++◌, append_assoc, append-nil, take, drop, zero, suc, inl, inr}
 use Rattle.std.specs.Prelude.{◌⊎◌, map, ◌||◌}
 use Rattle.std.specs.List.{list_any, insert}
 use Rattle.std.proofs.lemmas.Bool.{or_parts, cases_Bool, both_ways}
@@ -7,7 +9,8 @@ use Rattle.lsm_ranges.specs.KeyRange.{Interval, key_le, overlaps}
 use Rattle.lsm_ranges.specs.Run.{how_many}
 use Rattle.lsm_ranges.specs.Packing.{tables_of, touches, with_table, put, put_all}
 use Rattle.lsm_ranges.specs.Links.{IsElement, KeepRunOrder, EachCarriesNext, CarriesNext}
-use Rattle.lsm_ranges.proofs.PackLemmas.{mem-append_left, mem-append_right, mem-append_cases, any_found, overlaps_comm, untouched, put_here, put_behind}
+use Rattle.lsm_ranges.proofs.PackLemmas.{mem-append_left, mem-append_right, mem-append_cases}
+use Rattle.lsm_ranges.proofs.PackLemmas.{any_found, overlaps_comm, untouched, put_here, put_behind}
 
 module _ {X : Type 0} where
   mem-take : (n : ℕ) (xs : List X) (x : X) → IsElement x (take n xs) → IsElement x xs
@@ -20,7 +23,8 @@ module _ {X : Type 0} where
   mem-drop (suc n) [] x h = absurd h
   mem-drop (suc n) (y ∷ ys) x h = inr (mem-drop n ys x h)
 
-  mem-split : (n : ℕ) (xs : List X) (x : X) → IsElement x xs → IsElement x (take n xs) ⊎ IsElement x (drop n xs)
+  mem-split : (n : ℕ) (xs : List X) (x : X) → IsElement x xs
+      → IsElement x (take n xs) ⊎ IsElement x (drop n xs)
   mem-split zero xs x h = inr h
   mem-split (suc n) [] x h = absurd h
   mem-split (suc n) (y ∷ ys) x h =
@@ -30,7 +34,8 @@ module _ {X : Type 0} where
       ]
 
   -- a list with an element more has that element, and the others
-  mem-insert_cases : (xs : List X) (n : ℕ) (y x : X) → IsElement x (insert xs n y) → IsElement x xs ⊎ (x ≡ y)
+  mem-insert_cases : (xs : List X) (n : ℕ) (y x : X) → IsElement x (insert xs n y)
+      → IsElement x xs ⊎ (x ≡ y)
   mem-insert_cases xs n y x h =
       elim (mem-append_cases (take n xs) (y ∷ drop n xs) x h) [
         | inl a ↦ inl (mem-take n xs x a)
@@ -54,7 +59,8 @@ module _ {X : Type 0} (f : X → Interval) (at : X → ℕ) where
   tests : X → List X → List (List X) → Bool
   tests t l ls = touches f (f t) l || list_any (touches f (f t)) ls
 
-  mem-put_cases : (t : X) (ls : List (List X)) (x : X) → IsElement x (tables_of (put f t ls)) → IsElement x (tables_of ls) ⊎ (x ≡ t)
+  mem-put_cases : (t : X) (ls : List (List X)) (x : X) → IsElement x (tables_of (put f t ls))
+      → IsElement x (tables_of ls) ⊎ (x ≡ t)
   mem-put_cases t [] x h = elim h [ inl e ↦ inr e | inr m ↦ absurd m ]
   mem-put_cases t (l ∷ ls) x h =
       elim (cases_Bool (touches f (f t) l || list_any (touches f (f t)) ls)) [
@@ -80,7 +86,8 @@ module _ {X : Type 0} (f : X → Interval) (at : X → ℕ) where
         | inr e ↦ subst (λ (k : List (List X)). IsElement t (tables_of k)) (sym (put_here f t l ls e)) (mem-append_left (with_table f t l) (tables_of ls) t (mem-insert_new l (how_many (λ r. key_le r.min (f t).min) (map f l)) t))
       ]
 
-  mem-put_old : (t : X) (ls : List (List X)) (x : X) → IsElement x (tables_of ls) → IsElement x (tables_of (put f t ls))
+  mem-put_old : (t : X) (ls : List (List X)) (x : X) → IsElement x (tables_of ls)
+      → IsElement x (tables_of (put f t ls))
   mem-put_old t [] x h = absurd h
   mem-put_old t (l ∷ ls) x h =
       elim (cases_Bool (touches f (f t) l || list_any (touches f (f t)) ls)) [
@@ -105,7 +112,8 @@ module _ {X : Type 0} (f : X → Interval) (at : X → ℕ) where
   abbrev pub After : X → List X → Type 0
   After t xs = (y : X) → IsElement y xs → overlaps (f y) (f t) ≡ true → at y < at t
 
-  put_apart : (t : X) (ls : List (List X)) → After t (tables_of ls) → KeepRunOrder f at ls → KeepRunOrder f at (put f t ls)
+  put_apart : (t : X) (ls : List (List X)) → After t (tables_of ls) → KeepRunOrder f at ls
+      → KeepRunOrder f at (put f t ls)
   put_apart t [] later h = ((λ x y m n o. absurd n), tt)
   put_apart t (l ∷ ls) later h =
       elim (cases_Bool (touches f (f t) l || list_any (touches f (f t)) ls)) [
@@ -127,14 +135,17 @@ module _ {X : Type 0} (f : X → Interval) (at : X → ℕ) where
             )
       ]
 
-  touched : (t : X) (l : List X) → After t l → touches f (f t) l ≡ true → (x : X) × IsElement x l × (overlaps (f x) (f t) ≡ true) × (at x < at t)
+  touched : (t : X) (l : List X) → After t l → touches f (f t) l ≡ true
+      → (x : X) × IsElement x l × (overlaps (f x) (f t) ≡ true) × (at x < at t)
   touched t l later e = let k = any_found (λ x. overlaps (f x) (f t)) l e in (k.0, k.1, k.2, later k.0 k.1 k.2)
 
   one_of : (a b : Bool) → (a || b) ≡ true → b ≡ false → a ≡ true
   one_of true b h k = refl
   one_of false b h k = absurd (both_ways b k h)
 
-  steps_put : (t : X) (l : List X) (ls : List (List X)) → After t (l ++ tables_of ls) → (touches f (f t) l || list_any (touches f (f t)) ls) ≡ true → CarriesNext f at l ls → CarriesNext f at l (put f t ls)
+  steps_put : (t : X) (l : List X) (ls : List (List X)) → After t (l ++ tables_of ls)
+      → (touches f (f t) l || list_any (touches f (f t)) ls) ≡ true → CarriesNext f at l ls
+      → CarriesNext f at l (put f t ls)
   steps_put t l [] later e h =
       λ y m. elim m [
         | inl is ↦
@@ -154,7 +165,8 @@ module _ {X : Type 0} (f : X → Interval) (at : X → ℕ) where
             ])
       ]
 
-  put_steps : (t : X) (ls : List (List X)) → After t (tables_of ls) → EachCarriesNext f at ls → EachCarriesNext f at (put f t ls)
+  put_steps : (t : X) (ls : List (List X)) → After t (tables_of ls) → EachCarriesNext f at ls
+      → EachCarriesNext f at (put f t ls)
   put_steps t [] later h = (tt, tt)
   put_steps t (l ∷ ls) later h =
       elim (cases_Bool (touches f (f t) l || list_any (touches f (f t)) ls)) [
@@ -174,7 +186,8 @@ module _ {X : Type 0} (f : X → Interval) (at : X → ℕ) where
     pub from : (x : X) → IsElement x (tables_of ls) → IsElement x ts
     pub has : (x : X) → IsElement x ts → IsElement x (tables_of ls)
 
-  stack : (done ts : List X) (ls : List (List X)) → Stacked done ls → Rises ts → ((t : X) → IsElement t ts → After t done) → Stacked (done ++ ts) (put_all f ts ls)
+  stack : (done ts : List X) (ls : List (List X)) → Stacked done ls → Rises ts
+      → ((t : X) → IsElement t ts → After t done) → Stacked (done ++ ts) (put_all f ts ls)
   stack done [] ls s r later = subst (λ (k : List X). Stacked k ls) (sym (append-nil done)) s
   stack done (t ∷ ts) ls s r later =
       let after : After t (tables_of ls) = λ y m o. later t (inl refl) y (s.from y m) o in

@@ -1,16 +1,23 @@
 -- The number of packed runs is the least size of a placement.
-use Rattle.std.proofs.Common.{◌≡◌, refl, sym, ◌∙◌, ap, subst, ℕ, ◌<◌, ◌≤◌, ◌+◌, Bool, true, false, cond, List, [], ◌∷◌, ◌++◌, length, take, drop, get_or, zero, suc, inl, inr, arith, Some}
+use Rattle.std.proofs.Common.{◌≡◌, refl, sym, ◌∙◌, ap, subst, ℕ, ◌<◌, ◌≤◌, ◌+◌, Bool, true, false}
+use Rattle.std.proofs.Common.{cond, List, [], ◌∷◌, ◌++◌, length, take, drop, get_or, zero, suc, inl}
+use Rattle.std.proofs.Common.{inr, arith, Some}
 use Rattle.std.specs.Prelude.{◌≢◌, map, not, ◌&&◌, ◌||◌, ◌==◌, nat_le, Contains, slice_get}
 use Rattle.std.specs.List.{list_all, list_any, AllByRecursion, insert}
-use Rattle.std.proofs.lemmas.Bool.{and_parts, and_from, cases_Bool, both_ways, eqb-true, eq-eqb, leb-true, le-leb, lt-leb, not-true}
+use Rattle.std.proofs.lemmas.Bool.{and_parts, and_from, cases_Bool, both_ways, eqb-true, eq-eqb}
+use Rattle.std.proofs.lemmas.Bool.{leb-true, le-leb, lt-leb, not-true}
 use Rattle.sst_entries.specs.Key.{key_lt}
 use Rattle.lsm_ranges.specs.KeyRange.{Interval, key_le, overlaps, are_disjoint}
 use Rattle.lsm_ranges.specs.Run.{are_in_order, how_many}
-use Rattle.lsm_ranges.specs.Packing.{tables_of, table_at, touches, with_table, put, put_all, ArePacked, AreTablesWellFormed, AreDisjointRuns, IsLeastSize}
+use Rattle.lsm_ranges.specs.Packing.{tables_of, table_at, touches, with_table, put, put_all}
+use Rattle.lsm_ranges.specs.Packing.{ArePacked, AreTablesWellFormed, AreDisjointRuns, IsLeastSize}
 use Rattle.lsm_ranges.proofs.IntervalLemmas.{le_from}
 use Rattle.lsm_ranges.proofs.RunLemmas.{parts}
-use Rattle.lsm_ranges.proofs.PackLemmas.{mem-append_left, mem-append_right, mem-append_cases, any_fails, any_found, any_from, overlaps_comm, put_all_packed, put_here, put_behind}
-use Rattle.lsm_ranges.specs.Links.{IsElement, TableWithPlace, table_with_place, run_with_places, runs_with_places, KeepRunOrder, EachCarriesNext, CarriesNext}
+use Rattle.lsm_ranges.proofs.PackLemmas.{mem-append_left, mem-append_right, mem-append_cases}
+use Rattle.lsm_ranges.proofs.PackLemmas.{any_fails, any_found, any_from, overlaps_comm}
+use Rattle.lsm_ranges.proofs.PackLemmas.{put_all_packed, put_here, put_behind}
+use Rattle.lsm_ranges.specs.Links.{IsElement, TableWithPlace, table_with_place, run_with_places}
+use Rattle.lsm_ranges.specs.Links.{runs_with_places, KeepRunOrder, EachCarriesNext, CarriesNext}
 use Rattle.lsm_ranges.proofs.PackNumbers.{Rises, Stacked, stacked}
 
 -- how many numbers are at most m
@@ -43,7 +50,8 @@ upto-more (n ∷ ns) a b le =
     ]
 
 -- a number of the list that is above a is counted up to itself
-upto-grows : (ns : List ℕ) (a b k : ℕ) → a < b → k < length ns → get_or ns k b ≡ b → upto ns a + 1 ≤ upto ns b
+upto-grows : (ns : List ℕ) (a b k : ℕ) → a < b → k < length ns → get_or ns k b ≡ b
+    → upto ns a + 1 ≤ upto ns b
 unfolding upto
 upto-grows [] a b k lt within at = absurd (omega arith)
 upto-grows (n ∷ ns) a b zero lt within at =
@@ -81,7 +89,12 @@ module _ {X : Type 0} (f : X → Interval) (at : X → ℕ) where
   head_of (x ∷ xs) h = (x, inl refl)
 
   -- each level has an element whose number is above as many numbers as there are levels before it
-  climb : (N : X → ℕ) (ns : List ℕ) (l : List X) (ls : List (List X)) (k : ℕ) → ((x y : X) → IsElement x (l ++ tables_of ls) → IsElement y (l ++ tables_of ls) → overlaps (f x) (f y) ≡ true → at x < at y → N x < N y) → ((x : X) → IsElement x (l ++ tables_of ls) → Contains ns (N x)) → ((x : X) → IsElement x l → k ≤ upto ns (N x)) → l ≢ [] → ArePacked f ls → CarriesNext f at l ls → EachCarriesNext f at ls → k + length ls ≤ length ns
+  climb : (N : X → ℕ) (ns : List ℕ) (l : List X) (ls : List (List X)) (k : ℕ)
+      → ((x y : X) → IsElement x (l ++ tables_of ls) → IsElement y (l ++ tables_of ls)
+      → overlaps (f x) (f y) ≡ true → at x < at y → N x < N y)
+      → ((x : X) → IsElement x (l ++ tables_of ls) → Contains ns (N x))
+      → ((x : X) → IsElement x l → k ≤ upto ns (N x)) → l ≢ [] → ArePacked f ls
+      → CarriesNext f at l ls → EachCarriesNext f at ls → k + length ls ≤ length ns
   climb N ns l [] k grows among counted some packed steps rest =
       let x = head_of l some in
       omega (arith, counted x.0 x.1, upto-length ns (N x.0))
@@ -101,7 +114,11 @@ module _ {X : Type 0} (f : X → Interval) (at : X → ℕ) where
       omega (arith, next)
 
   -- no list of fewer numbers than levels holds the numbers of all elements
-  pub at_least : (N : X → ℕ) (ns : List ℕ) (ls : List (List X)) → ((x y : X) → IsElement x (tables_of ls) → IsElement y (tables_of ls) → overlaps (f x) (f y) ≡ true → at x < at y → N x < N y) → ((x : X) → IsElement x (tables_of ls) → Contains ns (N x)) → ArePacked f ls → EachCarriesNext f at ls → length ls ≤ length ns
+  pub at_least : (N : X → ℕ) (ns : List ℕ) (ls : List (List X))
+      → ((x y : X) → IsElement x (tables_of ls) → IsElement y (tables_of ls)
+      → overlaps (f x) (f y) ≡ true → at x < at y → N x < N y)
+      → ((x : X) → IsElement x (tables_of ls) → Contains ns (N x)) → ArePacked f ls
+      → EachCarriesNext f at ls → length ls ≤ length ns
   at_least N ns [] grows among packed steps = omega arith
   at_least N ns (l ∷ ls) grows among packed steps =
       let up : 1 + length ls ≤ length ns =
@@ -110,7 +127,8 @@ module _ {X : Type 0} (f : X → Interval) (at : X → ℕ) where
       packed.0.1 packed.1 steps.0 steps.1 in
       omega (arith, up)
 
-any-append : {X : Type 0} (p : X → Bool) (xs ys : List X) → list_any p (xs ++ ys) ≡ (list_any p xs || list_any p ys)
+any-append : {X : Type 0} (p : X → Bool) (xs ys : List X)
+    → list_any p (xs ++ ys) ≡ (list_any p xs || list_any p ys)
 any-append p [] ys = refl
 any-append p (x ∷ xs) ys = ap (λ b. p x || b) (any-append p xs ys) ∙ assoc (p x) (list_any p xs) (list_any p ys)
   where
@@ -119,7 +137,8 @@ any-append p (x ∷ xs) ys = ap (λ b. p x || b) (any-append p xs ys) ∙ assoc 
     assoc false b c = refl
 
 module _ {X : Type 0} (f : X → Interval) (at : X → ℕ) where
-  all_later : (p : Interval → Bool) (xs : List X) → list_all p (map f xs) ≡ true → (y : X) → IsElement y xs → p (f y) ≡ true
+  all_later : (p : Interval → Bool) (xs : List X) → list_all p (map f xs) ≡ true → (y : X)
+      → IsElement y xs → p (f y) ≡ true
   all_later p [] h y m = absurd m
   all_later p (x ∷ xs) h y m =
       let k = and_parts (p (f x)) (list_all p (map f xs)) h in
@@ -129,7 +148,8 @@ module _ {X : Type 0} (f : X → Interval) (at : X → ℕ) where
   clash x y lt o = both_ways (key_lt (f x).max (f y).min) (le_from (f y).min (f x).max (and_parts (key_le (f y).min (f x).max) (key_le (f x).min (f y).max) o).0) lt
 
   -- in a run that is in order, only a table itself overlaps it
-  same_in_order : (l : List X) → are_in_order (map f l) ≡ true → (x y : X) → IsElement x l → IsElement y l → overlaps (f x) (f y) ≡ true → x ≡ y
+  same_in_order : (l : List X) → are_in_order (map f l) ≡ true → (x y : X) → IsElement x l
+      → IsElement y l → overlaps (f x) (f y) ≡ true → x ≡ y
   same_in_order [] h x y m n o = absurd m
   same_in_order (z ∷ zs) h x y m n o =
       let k = parts (f z) (map f zs) h in
@@ -151,7 +171,8 @@ module _ {X : Type 0} (f : X → Interval) (at : X → ℕ) where
   level_of p [] = 0
   level_of p (l ∷ ls) = cond (list_any p l) 0 (suc (level_of p ls))
 
-  level_below : (p : X → Bool) (ls : List (List X)) → list_any p (tables_of ls) ≡ true → level_of p ls < length ls
+  level_below : (p : X → Bool) (ls : List (List X)) → list_any p (tables_of ls) ≡ true
+      → level_of p ls < length ls
   unfolding level_of
   level_below p [] h = absurd cc
   level_below p (l ∷ ls) h =
@@ -164,7 +185,11 @@ module _ {X : Type 0} (f : X → Interval) (at : X → ℕ) where
       ]
 
   -- of elements that overlap, the one from the later run is in a later level
-  level_rises : (p q : X → Bool) (ls : List (List X)) → ((x y : X) → IsElement x (tables_of ls) → IsElement y (tables_of ls) → p x ≡ true → q y ≡ true → (overlaps (f x) (f y) ≡ true) × (at x < at y)) → KeepRunOrder f at ls → ArePacked f ls → list_any p (tables_of ls) ≡ true → list_any q (tables_of ls) ≡ true → level_of p ls < level_of q ls
+  level_rises : (p q : X → Bool) (ls : List (List X))
+      → ((x y : X) → IsElement x (tables_of ls) → IsElement y (tables_of ls) → p x ≡ true
+      → q y ≡ true → (overlaps (f x) (f y) ≡ true) × (at x < at y)) → KeepRunOrder f at ls
+      → ArePacked f ls → list_any p (tables_of ls) ≡ true → list_any q (tables_of ls) ≡ true
+      → level_of p ls < level_of q ls
   unfolding level_of
   level_rises p q [] pairs apart packed hp hq = absurd cc
   level_rises p q (l ∷ ls) pairs apart packed hp hq =
@@ -201,7 +226,8 @@ map-append h (x ∷ xs) ys = ap (λ l. h x ∷ l) (map-append h xs ys)
 
 module _ {T : Type 0} where
   -- a table with its places, of those of a run, is a table of it
-  in_run : (i j : ℕ) (ts : List T) (x : TableWithPlace T) → IsElement x (run_with_places i j ts) → (x.run ≡ i) × ((m : ℕ) × (x.place ≡ j + m) × (slice_get ts m ≡ Some x.table))
+  in_run : (i j : ℕ) (ts : List T) (x : TableWithPlace T) → IsElement x (run_with_places i j ts)
+      → (x.run ≡ i) × ((m : ℕ) × (x.place ≡ j + m) × (slice_get ts m ≡ Some x.table))
   in_run i j [] x h = absurd h
   in_run i j (t ∷ ts) x h =
       elim h [
@@ -209,7 +235,9 @@ module _ {T : Type 0} where
         | inr m ↦ let k = in_run i (suc j) ts x m in (k.0, (suc k.1.0, k.1.1 ∙ omega arith, k.1.2))
       ]
 
-  in_runs : (i : ℕ) (runs : List (List T)) (x : TableWithPlace T) → IsElement x (runs_with_places i runs) → (n : ℕ) × (x.run ≡ i + n) × (table_at runs n x.place ≡ Some x.table)
+  in_runs : (i : ℕ) (runs : List (List T)) (x : TableWithPlace T)
+      → IsElement x (runs_with_places i runs)
+      → (n : ℕ) × (x.run ≡ i + n) × (table_at runs n x.place ≡ Some x.table)
   in_runs i [] x h = absurd h
   in_runs i (run ∷ runs) x h =
       elim (mem-append_cases (run_with_places i 0 run) (runs_with_places (suc i) runs) x h) [
@@ -220,19 +248,22 @@ module _ {T : Type 0} where
         | inr b ↦ let k = in_runs (suc i) runs x b in (suc k.0, k.1 ∙ omega arith, k.2)
       ]
 
-  pub is_at_place : (runs : List (List T)) (x : TableWithPlace T) → IsElement x (runs_with_places 0 runs) → table_at runs x.run x.place ≡ Some x.table
+  pub is_at_place : (runs : List (List T)) (x : TableWithPlace T)
+      → IsElement x (runs_with_places 0 runs) → table_at runs x.run x.place ≡ Some x.table
   is_at_place runs x h =
       let k = in_runs 0 runs x h in
       let run : x.run ≡ k.0 = k.1 ∙ omega arith in
       ap (λ n. table_at runs n x.place) run ∙ k.2
 
   -- each table is there with its places
-  has_in_run : (i j m : ℕ) (ts : List T) (t : T) → slice_get ts m ≡ Some t → IsElement (table_with_place t i (j + m)) (run_with_places i j ts)
+  has_in_run : (i j m : ℕ) (ts : List T) (t : T) → slice_get ts m ≡ Some t
+      → IsElement (table_with_place t i (j + m)) (run_with_places i j ts)
   has_in_run i j m [] t h = absurd cc
   has_in_run i j zero (x ∷ xs) t h = let e : x ≡ t = cc in let n : j + 0 ≡ j = omega arith in inl (ap (λ v. table_with_place v i (j + 0)) (sym e) ∙ ap (λ v. table_with_place x i v) n)
   has_in_run i j (suc m) (x ∷ xs) t h = let n : suc j + m ≡ j + suc m = omega arith in inr (subst (λ (v : ℕ). IsElement (table_with_place t i v) (run_with_places i (suc j) xs)) n (has_in_run i (suc j) m xs t h))
 
-  has_in_runs : (i n m : ℕ) (runs : List (List T)) (t : T) → table_at runs n m ≡ Some t → IsElement (table_with_place t (i + n) m) (runs_with_places i runs)
+  has_in_runs : (i n m : ℕ) (runs : List (List T)) (t : T) → table_at runs n m ≡ Some t
+      → IsElement (table_with_place t (i + n) m) (runs_with_places i runs)
   has_in_runs i n m [] t h = absurd cc
   has_in_runs i zero m (run ∷ runs) t h =
       let a : i ≡ i + 0 = omega arith in
@@ -244,14 +275,16 @@ module _ {T : Type 0} where
       mem-append_right (run_with_places i 0 run) (runs_with_places (suc i) runs) (table_with_place t (i + suc n) m)
       (subst (λ (v : ℕ). IsElement (table_with_place t v m) (runs_with_places (suc i) runs)) a (has_in_runs (suc i) n m runs t h))
 
-  pub has_table : (runs : List (List T)) (i j : ℕ) (t : T) → table_at runs i j ≡ Some t → IsElement (table_with_place t i j) (runs_with_places 0 runs)
+  pub has_table : (runs : List (List T)) (i j : ℕ) (t : T) → table_at runs i j ≡ Some t
+      → IsElement (table_with_place t i j) (runs_with_places 0 runs)
   has_table runs i j t h = let a : 0 + i ≡ i = omega arith in subst (λ (v : ℕ). IsElement (table_with_place t v j) (runs_with_places 0 runs)) a (has_in_runs 0 i j runs t h)
 
   tables_in : (i j : ℕ) (ts : List T) → map (λ x. x.table) (run_with_places i j ts) ≡ ts
   tables_in i j [] = refl
   tables_in i j (t ∷ ts) = ap (λ l. t ∷ l) (tables_in i (suc j) ts)
 
-  pub tables_with_places : (i : ℕ) (runs : List (List T)) → map (λ x. x.table) (runs_with_places i runs) ≡ tables_of runs
+  pub tables_with_places : (i : ℕ) (runs : List (List T))
+      → map (λ x. x.table) (runs_with_places i runs) ≡ tables_of runs
   tables_with_places i [] = refl
   tables_with_places i (run ∷ runs) =
       map-append (λ (x : TableWithPlace T). x.table) (run_with_places i 0 run) (runs_with_places (suc i) runs)
@@ -265,11 +298,13 @@ module _ {T : Type 0} (range : T → Interval) where
   abbrev run_of : TableWithPlace T → ℕ
   run_of x = x.run
 
-  mem_range : (i j : ℕ) (ts : List T) (x : TableWithPlace T) → IsElement x (run_with_places i j ts) → IsElement (range x.table) (map range ts)
+  mem_range : (i j : ℕ) (ts : List T) (x : TableWithPlace T) → IsElement x (run_with_places i j ts)
+      → IsElement (range x.table) (map range ts)
   mem_range i j [] x h = absurd h
   mem_range i j (t ∷ ts) x h = elim h [ inl e ↦ inl (ap (λ v. range v.table) e) | inr m ↦ inr (mem_range i (suc j) ts x m) ]
 
-  rises_in : (i j : ℕ) (ts : List T) → are_disjoint (map range ts) ≡ true → Rises range_of run_of (run_with_places i j ts)
+  rises_in : (i j : ℕ) (ts : List T) → are_disjoint (map range ts) ≡ true
+      → Rises range_of run_of (run_with_places i j ts)
   rises_in i j [] h = tt
   rises_in i j (t ∷ ts) h =
       let k = and_parts (not (list_any (overlaps (range t)) (map range ts))) (are_disjoint (map range ts)) h in (
@@ -277,20 +312,26 @@ module _ {T : Type 0} (range : T → Interval) where
         rises_in i (suc j) ts k.1,
       )
 
-  rises-append : (xs ys : List (TableWithPlace T)) → Rises range_of run_of xs → Rises range_of run_of ys → ((x y : TableWithPlace T) → IsElement x xs → IsElement y ys → x.run < y.run) → Rises range_of run_of (xs ++ ys)
+  rises-append : (xs ys : List (TableWithPlace T)) → Rises range_of run_of xs
+      → Rises range_of run_of ys
+      → ((x y : TableWithPlace T) → IsElement x xs → IsElement y ys → x.run < y.run)
+      → Rises range_of run_of (xs ++ ys)
   rises-append [] ys rx ry later = ry
   rises-append (x ∷ xs) ys rx ry later = (
     (λ y m o. elim (mem-append_cases xs ys y m) [ inl a ↦ rx.0 y a o | inr b ↦ later x y (inl refl) b ]),
     rises-append xs ys rx.1 ry (λ u v m n. later u v (inr m) n),
   )
 
-  pub rises_all : (i : ℕ) (runs : List (List T)) → AllByRecursion (λ run. are_disjoint (map range run) ≡ true) runs → Rises range_of run_of (runs_with_places i runs)
+  pub rises_all : (i : ℕ) (runs : List (List T))
+      → AllByRecursion (λ run. are_disjoint (map range run) ≡ true) runs
+      → Rises range_of run_of (runs_with_places i runs)
   rises_all i [] h = tt
   rises_all i (run ∷ runs) h =
       rises-append (run_with_places i 0 run) (runs_with_places (suc i) runs) (rises_in i 0 run h.0) (rises_all (suc i) runs h.1)
       (λ x y m n. let a = in_run i 0 run x m in let b = in_runs (suc i) runs y n in omega (arith, a.0, b.1))
 
-  pub formed-map : {X : Type 0} (g : X → T) (xs : List X) → AreTablesWellFormed range (map g xs) → AreTablesWellFormed (λ x. range (g x)) xs
+  pub formed-map : {X : Type 0} (g : X → T) (xs : List X) → AreTablesWellFormed range (map g xs)
+      → AreTablesWellFormed (λ x. range (g x)) xs
   formed-map g [] h = tt
   formed-map g (x ∷ xs) h = (h.0, formed-map g xs h.1)
 
@@ -309,7 +350,8 @@ module _ {X T : Type 0} (g : X → T) (range : T → Interval) where
   map-map [] = refl
   map-map (x ∷ xs) = ap (λ l. range (g x) ∷ l) (map-map xs)
 
-  with_table-map : (x : X) (run : List X) → map g (with_table (λ v. range (g v)) x run) ≡ with_table range (g x) (map g run)
+  with_table-map : (x : X) (run : List X)
+      → map g (with_table (λ v. range (g v)) x run) ≡ with_table range (g x) (map g run)
   with_table-map x run =
       let n = how_many (λ r. key_le r.min (range (g x)).min) (map (λ v. range (g v)) run) in
       map-append g (take n run) (x ∷ drop n run)
@@ -317,15 +359,18 @@ module _ {X T : Type 0} (g : X → T) (range : T → Interval) where
       ∙ ap (λ l. take n (map g run) ++ g x ∷ l) (map-drop n run)
       ∙ ap (λ rs. insert (map g run) (how_many (λ r. key_le r.min (range (g x)).min) rs) (g x)) (sym (map-map run))
 
-  touches-map : (r : Interval) (run : List X) → touches (λ v. range (g v)) r run ≡ touches range r (map g run)
+  touches-map : (r : Interval) (run : List X)
+      → touches (λ v. range (g v)) r run ≡ touches range r (map g run)
   touches-map r [] = refl
   touches-map r (x ∷ xs) = ap (λ b. overlaps (range (g x)) r || b) (touches-map r xs)
 
-  any_touches-map : (r : Interval) (ls : List (List X)) → list_any (touches (λ v. range (g v)) r) ls ≡ list_any (touches range r) (map (map g) ls)
+  any_touches-map : (r : Interval) (ls : List (List X))
+      → list_any (touches (λ v. range (g v)) r) ls ≡ list_any (touches range r) (map (map g) ls)
   any_touches-map r [] = refl
   any_touches-map r (l ∷ ls) = ap (λ b. b || list_any (touches (λ v. range (g v)) r) ls) (touches-map r l) ∙ ap (λ b. touches range r (map g l) || b) (any_touches-map r ls)
 
-  put-map : (x : X) (ls : List (List X)) → map (map g) (put (λ v. range (g v)) x ls) ≡ put range (g x) (map (map g) ls)
+  put-map : (x : X) (ls : List (List X))
+      → map (map g) (put (λ v. range (g v)) x ls) ≡ put range (g x) (map (map g) ls)
   put-map x [] = refl
   put-map x (l ∷ ls) =
       let r = range (g x) in
@@ -342,7 +387,8 @@ module _ {X T : Type 0} (g : X → T) (range : T → Interval) where
             ∙ sym (put_here range (g x) (map g l) (map (map g) ls) (sym same ∙ e))
       ]
 
-  pub put_all-map : (xs : List X) (ls : List (List X)) → map (map g) (put_all (λ v. range (g v)) xs ls) ≡ put_all range (map g xs) (map (map g) ls)
+  pub put_all-map : (xs : List X) (ls : List (List X))
+      → map (map g) (put_all (λ v. range (g v)) xs ls) ≡ put_all range (map g xs) (map (map g) ls)
   put_all-map [] ls = refl
   put_all-map (x ∷ xs) ls = put_all-map xs (put (λ v. range (g v)) x ls) ∙ ap (λ rs. put_all range (map g xs) rs) (put-map x ls)
 
@@ -350,7 +396,8 @@ pub length-map : {Y Z : Type 0} (h : Y → Z) (xs : List Y) → length (map h xs
 length-map h [] = refl
 length-map h (x ∷ xs) = ap suc (length-map h xs)
 
-module _ {T : Type 0} (range : T → Interval) (runs : List (List T)) (h : AreDisjointRuns range runs) where
+module _ {T : Type 0} (range : T → Interval) (runs : List (List T))
+    (h : AreDisjointRuns range runs) where
   levels : List (List (TableWithPlace T))
   levels = put_all (range_of range) (runs_with_places 0 runs) []
 
@@ -378,7 +425,8 @@ module _ {T : Type 0} (range : T → Interval) (runs : List (List T)) (h : AreDi
   is_at_itself t i j = and_from (i == i) (j == j) (eq-eqb i i refl) (eq-eqb j j refl)
 
   -- the table at a place
-  table_is : (x : TableWithPlace T) (i j : ℕ) (t : T) → IsElement x (runs_with_places 0 runs) → is_at i j x ≡ true → table_at runs i j ≡ Some t → (x.table ≡ t) × (x.run ≡ i)
+  table_is : (x : TableWithPlace T) (i j : ℕ) (t : T) → IsElement x (runs_with_places 0 runs)
+      → is_at i j x ≡ true → table_at runs i j ≡ Some t → (x.table ≡ t) × (x.run ≡ i)
   unfolding is_at
   table_is x i j t m e a =
       let k = and_parts (x.run == i) (x.place == j) e in
@@ -388,7 +436,8 @@ module _ {T : Type 0} (range : T → Interval) (runs : List (List T)) (h : AreDi
       let there : Some x.table ≡ Some t = sym found ∙ ap (λ v. table_at runs v x.place) run ∙ ap (λ v. table_at runs i v) place ∙ a in
       (cc, run)
 
-  found_at : (i j : ℕ) (t : T) → table_at runs i j ≡ Some t → list_any (is_at i j) (tables_of levels) ≡ true
+  found_at : (i j : ℕ) (t : T) → table_at runs i j ≡ Some t
+      → list_any (is_at i j) (tables_of levels) ≡ true
   found_at i j t a = any_from (is_at i j) (tables_of levels) (table_with_place t i j) (levels_stacked.has (table_with_place t i j) (has_table runs i j t a)) (is_at_itself t i j)
 
   least_levels : IsLeastSize range runs (length levels)
@@ -417,7 +466,8 @@ module _ {T : Type 0} (range : T → Interval) (runs : List (List T)) (h : AreDi
   least_size = subst (IsLeastSize range runs) size_is least_levels
 
 -- of one run or none, each table can have the same number
-pub least_single : {T : Type 0} (range : T → Interval) (runs : List (List T)) → length runs ≤ 1 → AreDisjointRuns range runs → IsLeastSize range runs (length runs)
+pub least_single : {T : Type 0} (range : T → Interval) (runs : List (List T)) → length runs ≤ 1
+    → AreDisjointRuns range runs → IsLeastSize range runs (length runs)
 least_single range [] le h = record {
   at_least = λ number ns placement holds. omega arith;
   reached = ((λ i j. 0), record { keeps = λ i j i' j' t t' lt a b o. absurd cc }, (λ i j t a. absurd cc));

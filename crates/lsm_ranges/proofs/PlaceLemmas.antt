@@ -1,15 +1,20 @@
 -- Putting tables in one after the other places them by the rule.
-use Rattle.std.proofs.Common.{◌≡◌, refl, sym, ◌∙◌, ap, subst, ℕ, zero, suc, ◌<◌, ◌≤◌, Bool, true, false, List, [], ◌∷◌, length, get_or, inl, inr, arith}
+use Rattle.std.proofs.Common.{◌≡◌, refl, sym, ◌∙◌, ap, subst, ℕ, zero, suc, ◌<◌, ◌≤◌, Bool, true}
+use Rattle.std.proofs.Common.{false, List, [], ◌∷◌, length, get_or, inl, inr, arith}
 use Rattle.std.specs.Prelude.{◌||◌, ◌==◌, max, map, filter, IsPermutation}
 use Rattle.std.specs.List.{list_any}
 use Rattle.std.proofs.Math.Nat.{le-max_left, le-max_right, max-le, zero-max}
 use native.Mathlib.Numerals.{unary_clauses}
 use Rattle.std.proofs.lemmas.Bool.{or_left, or_right, cases_Bool, both_ways, eqb-true, eq-eqb}
-use Rattle.std.proofs.lemmas.List.Sorted.{IsPermutation-refl, IsPermutation-trans, IsPermutation-cons, IsPermutation-insert, list_any-IsPermutation}
+use Rattle.std.proofs.lemmas.List.Sorted.{IsPermutation-refl, IsPermutation-trans}
+use Rattle.std.proofs.lemmas.List.Sorted.{IsPermutation-cons, IsPermutation-insert}
+use Rattle.std.proofs.lemmas.List.Sorted.{list_any-IsPermutation}
 use Rattle.std.proofs.lemmas.Option.{get_or_from_slice_get}
 use Rattle.lsm_ranges.specs.KeyRange.{Interval, key_le, overlaps}
 use Rattle.lsm_ranges.specs.Run.{how_many}
-use Rattle.lsm_ranges.specs.Packing.{count_to_last, least_above, number_behind, numbering_after, numbers_of, put, put_all, tables_of_number, touches, with_table, ArePlaced, NumberedTable}
+use Rattle.lsm_ranges.specs.Packing.{count_to_last, least_above, number_behind, numbering_after}
+use Rattle.lsm_ranges.specs.Packing.{numbers_of, put, put_all, tables_of_number, touches}
+use Rattle.lsm_ranges.specs.Packing.{with_table, ArePlaced, NumberedTable}
 
 max_suc : (a b : ℕ) → max (suc a) (suc b) ≡ suc (max a b)
 max_suc a b = simp unary_clauses
@@ -19,12 +24,14 @@ module _ {X : Type 0} (p : List X → Bool) where
   none_counted [] h = refl
   none_counted (run ∷ runs) h = rw h refl
 
-  some_counted : (runs : List (List X)) → list_any p runs ≡ true → (n : ℕ) × (count_to_last p runs ≡ suc n)
+  some_counted : (runs : List (List X)) → list_any p runs ≡ true
+      → (n : ℕ) × (count_to_last p runs ≡ suc n)
   some_counted [] h = absurd cc
   some_counted (run ∷ runs) h = (count_to_last p runs, rw h refl)
 
   -- the run before the count passes
-  top_passes : (runs : List (List X)) (n : ℕ) → count_to_last p runs ≡ suc n → p (get_or runs n []) ≡ true
+  top_passes : (runs : List (List X)) (n : ℕ) → count_to_last p runs ≡ suc n
+      → p (get_or runs n []) ≡ true
   top_passes [] n is = absurd (omega arith)
   top_passes (run ∷ runs) n is =
       elim (cases_Bool (list_any p runs)) [
@@ -45,7 +52,8 @@ module _ {X : Type 0} (p : List X → Bool) where
       ]
 
   -- a run that passes is counted
-  passing_below : p [] ≡ false → (runs : List (List X)) (n : ℕ) → p (get_or runs n []) ≡ true → n < count_to_last p runs
+  passing_below : p [] ≡ false → (runs : List (List X)) (n : ℕ) → p (get_or runs n []) ≡ true
+      → n < count_to_last p runs
   passing_below none [] n h = absurd (both_ways (p []) none h)
   passing_below none (run ∷ runs) zero h =
       let one : count_to_last p (run ∷ runs) ≡ suc (count_to_last p runs) = rw (or_left (p run) (list_any p runs) h) refl in
@@ -63,7 +71,9 @@ module _ {X : Type 0} (p : List X → Bool) where
 module _ {T : Type 0} (range : T → Interval) where
   -- ---- what the runs are after a table more
 
-  put_at : (t : T) (runs : List (List T)) → get_or (put range t runs) (count_to_last (touches range (range t)) runs) [] ≡ with_table range t (get_or runs (count_to_last (touches range (range t)) runs) [])
+  put_at : (t : T) (runs : List (List T))
+      → get_or (put range t runs) (count_to_last (touches range (range t)) runs) []
+      ≡ with_table range t (get_or runs (count_to_last (touches range (range t)) runs) [])
   put_at t [] = refl
   put_at t (run ∷ runs) =
       elim (cases_Bool (touches range (range t) run || list_any (touches range (range t)) runs)) [
@@ -71,7 +81,9 @@ module _ {T : Type 0} (range : T → Interval) where
         | inr e ↦ rw e refl
       ]
 
-  put_beside : (t : T) (runs : List (List T)) (n : ℕ) → (count_to_last (touches range (range t)) runs ≡ n → ⊥) → get_or (put range t runs) n [] ≡ get_or runs n []
+  put_beside : (t : T) (runs : List (List T)) (n : ℕ)
+      → (count_to_last (touches range (range t)) runs ≡ n → ⊥)
+      → get_or (put range t runs) n [] ≡ get_or runs n []
   put_beside t [] zero other = absurd (other refl)
   put_beside t [] (suc n) other = refl
   put_beside t (run ∷ runs) zero other =
@@ -87,7 +99,9 @@ module _ {T : Type 0} (range : T → Interval) where
         | inr e ↦ rw e refl
       ]
 
-  put_length : (t : T) (runs : List (List T)) → length (put range t runs) ≡ max (suc (count_to_last (touches range (range t)) runs)) (length runs)
+  put_length : (t : T) (runs : List (List T))
+      → length (put range t runs)
+      ≡ max (suc (count_to_last (touches range (range t)) runs)) (length runs)
   put_length t [] = refl
   put_length t (run ∷ runs) =
       elim (cases_Bool (touches range (range t) run || list_any (touches range (range t)) runs)) [
@@ -97,7 +111,9 @@ module _ {T : Type 0} (range : T → Interval) where
 
   -- ---- the rule's number is the count's
 
-  found : (r : Interval) (xs : List (NumberedTable T)) (n : ℕ) → touches range r (tables_of_number xs n) ≡ true → n < least_above (numbers_of (filter (λ x. overlaps (range x.table) r) xs))
+  found : (r : Interval) (xs : List (NumberedTable T)) (n : ℕ)
+      → touches range r (tables_of_number xs n) ≡ true
+      → n < least_above (numbers_of (filter (λ x. overlaps (range x.table) r) xs))
   found r [] n h = absurd cc
   found r (x ∷ xs) n h =
       let o = overlaps (range x.table) r in
@@ -120,7 +136,9 @@ module _ {T : Type 0} (range : T → Interval) where
             ]
       ]
 
-  bounded : (r : Interval) (xs : List (NumberedTable T)) (k : ℕ) → ((n : ℕ) → touches range r (tables_of_number xs n) ≡ true → n < k) → least_above (numbers_of (filter (λ x. overlaps (range x.table) r) xs)) ≤ k
+  bounded : (r : Interval) (xs : List (NumberedTable T)) (k : ℕ)
+      → ((n : ℕ) → touches range r (tables_of_number xs n) ≡ true → n < k)
+      → least_above (numbers_of (filter (λ x. overlaps (range x.table) r) xs)) ≤ k
   bounded r [] k h = omega arith
   bounded r (x ∷ xs) k h =
       let rest = bounded r xs k (λ n q. h n (more n q)) in
@@ -129,14 +147,16 @@ module _ {T : Type 0} (range : T → Interval) where
         | inr e ↦ rw e rest
       ]
     where
-      more : (n : ℕ) → touches range r (tables_of_number xs n) ≡ true → touches range r (tables_of_number (x ∷ xs) n) ≡ true
+      more : (n : ℕ) → touches range r (tables_of_number xs n) ≡ true
+          → touches range r (tables_of_number (x ∷ xs) n) ≡ true
       more n q =
           elim (cases_Bool (x.number == n)) [
             | inl e ↦ rw e (or_right (overlaps (range x.table) r) (touches range r (tables_of_number xs n)) q)
             | inr e ↦ rw e q
           ]
 
-      self : overlaps (range x.table) r ≡ true → touches range r (tables_of_number (x ∷ xs) x.number) ≡ true
+      self : overlaps (range x.table) r ≡ true
+          → touches range r (tables_of_number (x ∷ xs) x.number) ≡ true
       self e = let same = eq-eqb x.number x.number refl in rw same (or_left (overlaps (range x.table) r) (touches range r (tables_of_number xs x.number)) e)
 
   -- runs of numbered tables, by every number
@@ -144,7 +164,8 @@ module _ {T : Type 0} (range : T → Interval) where
     count : length runs ≡ least_above (numbers_of xs)
     members : (n : ℕ) → IsPermutation (tables_of_number xs n) (get_or runs n [])
 
-  number_is : (t : T) (xs : List (NumberedTable T)) (runs : List (List T)) → Stand xs runs → count_to_last (touches range (range t)) runs ≡ number_behind range xs t
+  number_is : (t : T) (xs : List (NumberedTable T)) (runs : List (List T)) → Stand xs runs
+      → count_to_last (touches range (range t)) runs ≡ number_behind range xs t
   number_is t xs runs h =
       let p = touches range (range t) in
       let low : number_behind range xs t ≤ count_to_last p runs = bounded (range t) xs (count_to_last p runs) (λ n q. passing_below p refl runs n (sym (list_any-IsPermutation (λ x. overlaps (range x) (range t)) (tables_of_number xs n) (get_or runs n []) (h.members n)) ∙ q)) in
@@ -157,7 +178,8 @@ module _ {T : Type 0} (range : T → Interval) where
           let below = found (range t) xs k (list_any-IsPermutation (λ x. overlaps (range x) (range t)) (tables_of_number xs k) (get_or runs k []) (h.members k) ∙ top_passes (touches range (range t)) runs k is) in
           omega (arith, below)
 
-  stand_more : (t : T) (xs : List (NumberedTable T)) (runs : List (List T)) → Stand xs runs → Stand (record { table = t; number = number_behind range xs t } ∷ xs) (put range t runs)
+  stand_more : (t : T) (xs : List (NumberedTable T)) (runs : List (List T)) → Stand xs runs
+      → Stand (record { table = t; number = number_behind range xs t } ∷ xs) (put range t runs)
   stand_more t xs runs h =
       let k = count_to_last (touches range (range t)) runs in
       let is : k ≡ number_behind range xs t = number_is t xs runs h in
@@ -177,7 +199,8 @@ module _ {T : Type 0} (range : T → Interval) where
         ];
       }
 
-  stand_all : (ts : List T) (xs : List (NumberedTable T)) (runs : List (List T)) → Stand xs runs → Stand (numbering_after range xs ts) (put_all range ts runs)
+  stand_all : (ts : List T) (xs : List (NumberedTable T)) (runs : List (List T)) → Stand xs runs
+      → Stand (numbering_after range xs ts) (put_all range ts runs)
   stand_all [] xs runs h = h
   stand_all (t ∷ ts) xs runs h = stand_all ts (record { table = t; number = number_behind range xs t } ∷ xs) (put range t runs) (stand_more t xs runs h)
 

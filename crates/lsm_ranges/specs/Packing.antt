@@ -1,7 +1,10 @@
 -- Packing runs: into how few runs tables can go while each key keeps the order of its tables.
-use Rattle.std.specs.Prelude.{◌≡◌, ◌≢◌, ℕ, zero, suc, ◌<◌, ◌≤◌, ◌==◌, max, Bool, true, List, [], ◌∷◌, ◌++◌, length, map, filter, flat_map, slice_get, if◌then◌else◌, ◌||◌, Contains, Option, Some, None, IsPermutation}
+use Rattle.std.specs.Prelude.{◌≡◌, ◌≢◌, ℕ, zero, suc, ◌<◌, ◌≤◌, ◌==◌, max, Bool, true, List, []}
+use Rattle.std.specs.Prelude.{◌∷◌, ◌++◌, length, map, filter, flat_map, slice_get, if◌then◌else◌}
+use Rattle.std.specs.Prelude.{◌||◌, Contains, Option, Some, None, IsPermutation}
 use Rattle.std.specs.List.{AllByRecursion, list_any, insert}
-use Rattle.lsm_ranges.specs.KeyRange.{Interval, has_key, key_le, overlaps, is_well_formed, are_disjoint}
+use Rattle.lsm_ranges.specs.KeyRange.{Interval, has_key, key_le, overlaps, is_well_formed}
+use Rattle.lsm_ranges.specs.KeyRange.{are_disjoint}
 use Rattle.lsm_ranges.specs.Run.{how_many, are_in_order}
 
 -- the tables of runs, in run order

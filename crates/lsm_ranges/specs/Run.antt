@@ -1,5 +1,7 @@
 -- Runs: lists of tables, and what a search finds in one whose ranges ascend.
-use Rattle.std.specs.Prelude.{◌≡◌, ℕ, ◌+◌, ◌-◌, ◌<◌, ◌≤◌, Bool, true, not, ◌&&◌, ◌==◌, if◌then◌else◌, List, [], ◌∷◌, drop, find, length, filter, map, take, IsTrue, Option, Some, None}
+use Rattle.std.specs.Prelude.{◌≡◌, ℕ, ◌+◌, ◌-◌, ◌<◌, ◌≤◌, Bool, true, not, ◌&&◌, ◌==◌}
+use Rattle.std.specs.Prelude.{if◌then◌else◌, List, [], ◌∷◌, drop, find, length, filter, map, take}
+use Rattle.std.specs.Prelude.{IsTrue, Option, Some, None}
 use Rattle.std.specs.Option.{option_map_or}
 use Rattle.std.specs.declared.ops.Bound.{Bound}
 use Rattle.std.specs.declared.cmp.Ordering.{Ordering}
@@ -8,7 +10,8 @@ use Rattle.std.specs.List.Sorted.{IsSortedByKey, IsStableByKey}
 use Rattle.std.specs.Cmp.Lexicographic.{slice_cmp}
 use Rattle.std.specs.Ordering.{nat_cmp}
 use Rattle.sst_entries.specs.Key.{key_lt}
-use Rattle.lsm_ranges.specs.KeyRange.{Interval, interval, has_key, has_range, key_le, overlaps, is_well_formed}
+use Rattle.lsm_ranges.specs.KeyRange.{Interval, interval, has_key, has_range, key_le, overlaps}
+use Rattle.lsm_ranges.specs.KeyRange.{is_well_formed}
 use Rattle.sst_entries.specs.Point.{is_from, is_to}
 
 -- the order of intervals by their least keys

@@ -4,7 +4,9 @@ ghost use Rattle.std.specs.List.{list_any};
 ghost use Rattle.sst_entries.specs.Key.{key_lt};
 ghost use Rattle.sst_entries.specs.Point.{is_from, is_to};
 ghost use Rattle.sst_entries.specs.declared.error.Error.TheVariants.{OutOfMemory};
-ghost use Rattle.lsm_ranges.specs.KeyRange.{key_bound, are_disjoint, has_key, has_range, interval, intervals, key_le, overlaps, overlaps_bounds, is_well_formed, IsAggregate, IsOutside, ShareKey};
+ghost use Rattle.lsm_ranges.specs.KeyRange.{key_bound, are_disjoint, has_key, has_range, interval};
+ghost use Rattle.lsm_ranges.specs.KeyRange.{intervals, key_le, overlaps, overlaps_bounds};
+ghost use Rattle.lsm_ranges.specs.KeyRange.{is_well_formed, IsAggregate, IsOutside, ShareKey};
 
 use sst_entries::{Error, Slice, UserKey};
 use std::alloc::{AllocError, Allocator, Global};

@@ -1,11 +1,19 @@
 //! Packing runs into as few as there can be.
-ghost use Rattle.std.specs.Prelude.{◌≡◌, ◌≢◌, ◌<◌, ◌≤◌, ◌∷◌, ◌++◌, ⊤, true, List, [], length, reverse, Contains, IsSome, IfOk, IfErr, IfSome, MatchOption, OnOk, None, Ok, Some};
+ghost use Rattle.std.specs.Prelude.{◌≡◌, ◌≢◌, ◌<◌, ◌≤◌, ◌∷◌, ◌++◌, ⊤, true, List, [], length};
+ghost use Rattle.std.specs.Prelude.{reverse, Contains, IsSome, IfOk, IfErr, IfSome, MatchOption};
+ghost use Rattle.std.specs.Prelude.{OnOk, None, Ok, Some};
 ghost use Rattle.std.specs.Option.{option_copied};
 ghost use Rattle.sst_entries.specs.declared.error.Error.TheVariants.{OutOfMemory};
-ghost use Rattle.lsm_ranges.specs.Links.{runs_with_places, run_with_places, IsStack, TableWithPlace};
-ghost use Rattle.lsm_ranges.specs.LinkedRuns.{link_range, AreAtPlaces, AreEarlier, ArePackedLinks, IsBelow};
+ghost use Rattle.lsm_ranges.specs.Links.{runs_with_places, run_with_places, IsStack};
+ghost use Rattle.lsm_ranges.specs.Links.{TableWithPlace};
+ghost use Rattle.lsm_ranges.specs.LinkedRuns.{link_range, AreAtPlaces, AreEarlier, ArePackedLinks};
+ghost use Rattle.lsm_ranges.specs.LinkedRuns.{IsBelow};
 ghost use Rattle.lsm_ranges.specs.declared.optimize.Link.{Link};
-ghost use Rattle.lsm_ranges.specs.Packing.{count_to_last, put, put_all, tables_of, touches, AddsTables, AreDisjointRuns, AreTablesWellFormed, AreInOrder, AreNotEmpty, ArePacked, ArePlaced, AreWellFormed, IsChain, IsLeastSize, SameHolders, SameTables};
+ghost use Rattle.lsm_ranges.specs.Packing.{count_to_last, put, put_all, tables_of, touches};
+ghost use Rattle.lsm_ranges.specs.Packing.{AddsTables, AreDisjointRuns, AreTablesWellFormed};
+ghost use Rattle.lsm_ranges.specs.Packing.{AreInOrder, AreNotEmpty, ArePacked, ArePlaced};
+ghost use Rattle.lsm_ranges.specs.Packing.{AreWellFormed, IsChain, IsLeastSize, SameHolders};
+ghost use Rattle.lsm_ranges.specs.Packing.{SameTables};
 ghost use Rattle.lsm_ranges.specs.Run.{IsInOrder};
 
 use crate::{KeyRange, Ranged, Run};
@@ -190,9 +198,10 @@ fn link_below<'r, 'a, T: Ranged, A: Allocator>(
     ensures found { IfSome result (λ link. Contains run.now link.now ×
         MatchOption (option_copied above.entry) ⊤ (λ a. IsBelow T.range link.now a)) }
     ensures first { option_copied above.entry ≡ None → run.now ≢ [] → IsSome result }
-    ensures next { (a : Link T) → option_copied above.entry ≡ Some a →
-        IsInOrder (link_range T.range) run.now → AreEarlier T.range run.now a →
-        touches (link_range T.range) (link_range T.range a) run.now ≡ true → IsSome result }
+    ensures next { let range = link_range T.range in
+        (a : Link T) → option_copied above.entry ≡ Some a →
+        IsInOrder range run.now → AreEarlier T.range run.now a →
+        touches range (range a) run.now ≡ true → IsSome result }
 {
     match above {
         Some(above) => link_to(run, above),

@@ -1,5 +1,7 @@
 //! Runs: tables in key order.
-ghost use Rattle.std.specs.Prelude.{◌≡◌, ◌≢◌, ◌<◌, ◌≤◌, ◌∷◌, ◌++◌, IsTrue, List, Ok, Some, map, Contains, IfOk, IfSome, [], length, remove, slice_get, IsPermutation, MatchOption, OnOk, OnErr, IfErr};
+ghost use Rattle.std.specs.Prelude.{◌≡◌, ◌≢◌, ◌<◌, ◌≤◌, ◌∷◌, ◌++◌, IsTrue, List, Ok, Some, map};
+ghost use Rattle.std.specs.Prelude.{Contains, IfOk, IfSome, [], length, remove, slice_get};
+ghost use Rattle.std.specs.Prelude.{IsPermutation, MatchOption, OnOk, OnErr, IfErr};
 ghost use Rattle.std.specs.Borrow.{Lends, sem};
 ghost use Rattle.std.specs.Cmp.Lexicographic.{pointwise, lists_per, lists_equiv};
 ghost use Rattle.std.specs.Fn.{CalledAt};
@@ -8,7 +10,11 @@ ghost use Rattle.std.specs.Option.{option_copied};
 ghost use Rattle.sst_entries.specs.declared.error.Error.TheVariants.{OutOfMemory};
 ghost use Rattle.lsm_ranges.specs.KeyRange.{key_bound, Interval};
 ghost use Rattle.lsm_ranges.specs.Packing.{with_table};
-ghost use Rattle.lsm_ranges.specs.Run.{ends_before, ends_within, first_to_last, how_many, are_in_order, may_come_next, overlap_indexes, starts_before, starts_within, tables_across, tables_inside, table_of_key, ArePlacesOf, IsInOrder, IsPartOf, IsSortedByMin, IsStableByMin};
+ghost use Rattle.lsm_ranges.specs.Run.{ends_before, ends_within, first_to_last, how_many};
+ghost use Rattle.lsm_ranges.specs.Run.{are_in_order, may_come_next, overlap_indexes, starts_before};
+ghost use Rattle.lsm_ranges.specs.Run.{starts_within, tables_across, tables_inside, table_of_key};
+ghost use Rattle.lsm_ranges.specs.Run.{ArePlacesOf, IsInOrder, IsPartOf, IsSortedByMin};
+ghost use Rattle.lsm_ranges.specs.Run.{IsStableByMin};
 
 use crate::KeyRange;
 use crate::key_range::{is_at_most, is_from_lower, is_up_to_upper};

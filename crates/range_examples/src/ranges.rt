@@ -65,7 +65,8 @@ fn compared_ranges(range: KeyRange, other: KeyRange) -> (bool, bool) {
     )
 }
 
-// Whether the same of two ranges with these ends is as wanted.
+// Whether the first of two ranges with these ends overlaps with the second, and contains it, as is
+// wanted.
 fn compared(
     alloc: Global,
     first: (&str, &str),
@@ -119,7 +120,8 @@ fn taken_together(
     Ok((is_disjoint, is_range(found?, aggregate)))
 }
 
-// The same of ranges that are let go of.
+// Whether no two of some ranges have a key in common, and whether their aggregate is a range. All
+// of them are let go of.
 fn all_taken_together(
     alloc: Global,
     ranges: Vec<KeyRange>,
@@ -228,7 +230,7 @@ fn has_four_over(run: &Run<FakeTable>, range: &KeyRange) -> Result<bool, Error> 
     Ok(is_range(run.aggregate_key_range()?, range))
 }
 
-// The same of a run and a range that are let go of.
+// Whether a run is in order, has four tables, and reaches over a range. Both are let go of.
 fn is_four_over(run: Run<FakeTable>, range: KeyRange) -> Result<bool, Error> {
     has_four_over(&run, &range)
 }
@@ -280,7 +282,7 @@ fn span_of(run: &Run<FakeTable>, low: Bound<&str>, high: Bound<&str>) -> Option<
     run.range_overlap_indexes(bytes_of(low), bytes_of(high))
 }
 
-// Whether the same of four tables are these places.
+// Whether the first and the last of four tables that overlap with two bounds are at these places.
 fn has_span_in_four(
     alloc: Global,
     low: Bound<&str>,
@@ -327,7 +329,8 @@ fn found_by_range(
         && has_ids(run.get_contained(&range), contained)
 }
 
-// The same of four tables, and of a range with these ends.
+// Whether of four tables those that overlap a range with these ends, and those that it contains,
+// have these ids.
 fn found_in_four(
     alloc: Global,
     range: (&str, &str),
@@ -363,8 +366,8 @@ fn the_tables_that_overlap_a_range(rt: HostRuntime) {
     }
 }
 
-// The id of the second of four tables, which is removed; and then whether its least key is found, and the places of the tables
-// in its range.
+// The id of the second of four tables, which is removed; and then whether its least key is found,
+// and the places of the tables in its range.
 fn without_second(run: &mut Run<FakeTable>) -> (Option<u64>, bool, Option<(usize, usize)>) {
     let removed = remove_second(run);
     let is_found = run.get_for_key(b"e").is_some();
@@ -379,7 +382,8 @@ fn remove_second(run: &mut Run<FakeTable>) -> Option<u64> {
     Some(run.remove(1).id)
 }
 
-// The same of four tables.
+// The id of the second table of the run of four, which is removed; and then whether its least key
+// is found, and the places of the tables in its range.
 fn four_without_second(
     alloc: Global,
 ) -> Result<(Option<u64>, bool, Option<(usize, usize)>), Error> {
@@ -392,7 +396,8 @@ fn a_removed_table_is_not_found(rt: HostRuntime) -> Result<(), Fail> {
     Ok(())
 }
 
-// Puts a table behind four: whether they are in order, and are five. Then retains the four: whether they are as before.
+// Puts a table behind four: whether they are in order, and are five. Then retains the four: whether
+// they are as before.
 fn put_behind_and_retain(
     alloc: Global,
     run: &mut Run<FakeTable>,
@@ -404,7 +409,8 @@ fn put_behind_and_retain(
     Ok((is_in_order, are_five, is_four(alloc, run)?))
 }
 
-// The same of four tables.
+// What putting a table behind the four, and retaining these, leaves: whether the five are in order,
+// and are five, and whether the four are as before.
 fn put_behind_four_and_retained(alloc: Global) -> Result<(bool, bool, bool), Error> {
     put_behind_and_retain(alloc, &mut four(alloc)?)
 }
@@ -428,7 +434,8 @@ fn emptied(run: &mut Run<FakeTable>) -> (bool, bool, Option<(usize, usize)>) {
     (run.is_in_order(), is_found, span)
 }
 
-// The same of four tables.
+// Empties the run of four tables: whether it is in order, whether a key is found, and the places of
+// all tables.
 fn four_emptied(alloc: Global) -> Result<(bool, bool, Option<(usize, usize)>), Error> {
     Ok(emptied(&mut four(alloc)?))
 }
@@ -447,7 +454,8 @@ fn push_all(run: &mut Run<FakeTable>, tables: Vec<FakeTable>) -> Result<(), Erro
     Ok(())
 }
 
-// Pushes two tables to a run of one: whether they follow it. Then clears the run: whether it is empty.
+// Pushes two tables to a run of one: whether they follow it. Then clears the run: whether it is
+// empty.
 fn push_two_and_clear(alloc: Global, run: &mut Run<FakeTable>) -> Result<(bool, bool), Error> {
     push_all(run, tables_of(alloc, &[(1, "a", "c"), (2, "a", "a")])?)?;
     let are_three = has_ids(run.as_slice(), &[0, 1, 2]);
@@ -455,7 +463,8 @@ fn push_two_and_clear(alloc: Global, run: &mut Run<FakeTable>) -> Result<(bool, 
     Ok((are_three, run.as_slice().is_empty()))
 }
 
-// The same of the run of one table.
+// Whether two tables that are pushed to the run of one table follow it, and whether the run is
+// empty once it is cleared.
 fn two_pushed_and_cleared(alloc: Global) -> Result<(bool, bool), Error> {
     push_two_and_clear(alloc, &mut run_of(alloc, &[(0, "a", "b")])?)
 }
@@ -473,7 +482,8 @@ fn put_behind_and_push(alloc: Global, run: &mut Run<FakeTable>) -> Result<bool, 
     Ok(has_ids(run.as_slice(), &[0, 4, 1, 2, 3, 5, 6]))
 }
 
-// The same of four tables.
+// Whether all tables are in order once two were put behind the four, out of order, and one more was
+// pushed.
 fn put_behind_four_and_pushed(alloc: Global) -> Result<bool, Error> {
     put_behind_and_push(alloc, &mut four(alloc)?)
 }

@@ -43,7 +43,8 @@ impl<A: Allocator> Clone for FakeTable<A> {
     }
 }
 
-// Two values, or the refusal of the first that is refused. It is generic, so that no part of the values is looked at.
+// Two values, or the refusal of the first that is refused. It is generic, so that no part of the
+// values is looked at.
 pub fn both<T: Drop, U: Drop>(
     first: Result<T, Error>,
     second: Result<U, Error>,

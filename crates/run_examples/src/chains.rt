@@ -31,7 +31,8 @@ const LONG_ROWS: &[Row<'static>] = &[
     (b"c", 0, ValueType::Value, &LONG),
 ];
 
-// What a list gives that is written as tables, each key in one of its own: at a key below 8, and the ends of a range.
+// What a list gives that is written as tables, each key in one of its own: at a key below 8, and
+// the ends of a range.
 fn read_rows<A: Allocator + Copy>(
     alloc: A,
     rows: &[Row<'_>],

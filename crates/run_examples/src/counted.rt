@@ -22,7 +22,8 @@ const D1: &[Row<'static>] = &[(b"d", 1, ValueType::Value, b"x")];
 // The second run is of two tables.
 const TWO_RUNS: &[Lists] = &[&[A9_B3], &[A5_C2, D1]];
 
-// What a read answers, and how many blocks it loads: of data, of an index, of a filter and of meta items.
+// What a read answers, and how many blocks it loads: of data, of an index, of a filter and of meta
+// items.
 type Answer = (Result<Option<SeqNo>, Error>, [u64; 4]);
 
 fn loads_of(opened: &Opened) -> [u64; 4] {
@@ -67,7 +68,7 @@ fn wrong_case(runs: &[Tables<Global>]) -> Option<usize> {
     None
 }
 
-// The same of runs of their own.
+// The first of the cases whose answer is wrong, where the runs are those of `TWO_RUNS`.
 fn wrong_case_of(alloc: Global) -> Result<Option<usize>, Error> {
     Ok(wrong_case(&runs_of(alloc, TWO_RUNS)?))
 }
@@ -86,7 +87,7 @@ fn read_damaged(alloc: Global, damaged: usize, key: &[u8]) -> Result<Answer, Err
     Ok(read(&runs, key, 10))
 }
 
-// Whether it is refused with that many loads of data.
+// Whether a read of two damaged runs is refused with that many loads of data.
 fn is_refused_behind(alloc: Global, damaged: usize, key: &[u8], loads: u64) -> bool {
     read_damaged(alloc, damaged, key) == Ok((DAMAGED, [loads, 0, 0, 0]))
 }

@@ -59,7 +59,7 @@ fn answers<W: Walk>(reader: &mut W, steps: &[(Direction, Answer)]) -> bool {
     true
 }
 
-// Whether there is a reader, and they do.
+// Whether there is a reader, and its steps answer as they should.
 fn reader_answers<W: Walk + Drop>(
     reader: Result<Option<W>, Error>,
     steps: &[(Direction, Answer)],
@@ -70,7 +70,7 @@ fn reader_answers<W: Walk + Drop>(
     }
 }
 
-// Whether that of the three tables, one of them damaged, does.
+// Whether the steps of a reader of the three tables, one of them damaged, answer as they should.
 fn reads<A: Allocator + Copy>(alloc: A, damaged: usize, steps: &[(Direction, Answer)]) -> bool {
     reader_answers(reader_of(alloc, run(alloc, damaged), ALL), steps) == Ok(true)
 }
@@ -108,7 +108,7 @@ fn scan_answers<S: Scan>(scanner: &mut S, steps: &[Answer]) -> bool {
     true
 }
 
-// The same of a scanner that there may be none of.
+// Whether the steps of a scanner, if there is one, answer as they should.
 fn scanner_answers<S: Scan + Drop>(
     scanner: Result<S, Error>,
     steps: &[Answer],
@@ -116,7 +116,7 @@ fn scanner_answers<S: Scan + Drop>(
     Ok(scan_answers(&mut scanner?, steps))
 }
 
-// Whether that of the three tables, one of them damaged, does.
+// Whether the steps of a scan of the three tables, one of them damaged, answer as they should.
 fn scans<A: Allocator + Copy>(alloc: A, damaged: usize, steps: &[Answer]) -> Result<bool, Error> {
     scanner_answers(scanner_of(run(alloc, damaged), WHOLE), steps)
 }

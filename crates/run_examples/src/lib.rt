@@ -1,5 +1,5 @@
-//! Worked examples of runs of tables: tests of what is read from one run, from both ends and by a scan, from several as one, and
-//! of lists that are written as runs. Nothing here is for use.
+//! Worked examples of runs of tables: tests of what is read from one run, from both ends and by a
+//! scan, from several as one, and of lists that are written as runs. Nothing here is for use.
 #![tactic(auto)]
 
 #[cfg(test)]

@@ -1,4 +1,5 @@
-//! Reads with each request for memory refused in turn. One function tries them all, so that its call is proved once.
+//! Reads with each request for memory refused in turn. One function tries them all, so that its
+//! call is proved once.
 use crate::{chains, readers, several};
 use example_tables::runs::is_right;
 use refusing::{Refusing, each_refused};
@@ -16,7 +17,7 @@ pub enum Read {
     Scan,
 }
 
-// Whether it is read right.
+// Whether what is named is read right.
 fn answer<A: Allocator + Copy>(alloc: A, read: &Read) -> Result<bool, Error> {
     match read {
         Read::List => chains::list_is_read(alloc),
@@ -29,7 +30,7 @@ fn answer<A: Allocator + Copy>(alloc: A, read: &Read) -> Result<bool, Error> {
     }
 }
 
-/// Whether it is read right with nothing refused, and with each request refused in turn.
+/// Whether what is named is read right with nothing refused, and with each request refused in turn.
 pub fn is_right_refused(alloc: Global, read: &Read) -> bool {
     let answers = each_refused(alloc, |heap: &Refusing, may_fail: bool| {
         is_right(answer(heap, read), may_fail)

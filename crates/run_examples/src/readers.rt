@@ -54,7 +54,8 @@ const FROM_E_BEFORE_D: Bounds<'static> = (Bound::Included(b"e"), Bound::Excluded
 
 const FROM_K_TO_B: Bounds<'static> = (Bound::Included(b"k"), Bound::Included(b"b"));
 
-// A step of a reader: an end, the key that it gives, and how many tables were opened then. 0 is the end.
+// A step of a reader: an end, the key that it gives, and how many tables were opened then. 0 is the
+// end.
 type Step = (Direction, u8, usize);
 
 // The key of a name, 0 where there is none.
@@ -78,7 +79,8 @@ fn steps_give<W: Walk>(reader: &mut W, steps: &[Step]) -> Result<bool, Error> {
     Ok(true)
 }
 
-// The same where there is a reader, `None` where there is none.
+// Whether the steps of a reader, which has opened no table yet, give what they should; `None` where
+// there is no reader.
 fn gives<W: Walk + Drop>(
     reader: Result<Option<W>, Error>,
     steps: &[Step],
@@ -98,7 +100,7 @@ fn culled<A: Allocator + Copy>(
     span_reader_of(alloc, run_of(alloc, FOUR_TABLES), bounds, span)
 }
 
-// Whether it gives these steps.
+// Whether the reader of a span of the four tables gives these steps.
 fn span_reads<A: Allocator + Copy>(
     alloc: A,
     bounds: Bounds<'_>,
@@ -116,12 +118,12 @@ fn reader_within<A: Allocator + Copy>(
     reader_of(alloc, run_of(alloc, FOUR_TABLES), bounds)
 }
 
-// Whether it gives these steps.
+// Whether the reader of the four tables within bounds gives these steps.
 fn reads<A: Allocator + Copy>(alloc: A, bounds: Bounds<'_>, steps: &[Step]) -> bool {
     gives(reader_within(alloc, bounds), steps) == Ok(Some(true))
 }
 
-// Whether there is none.
+// Whether the four tables have no reader within bounds.
 fn has_no_reader<A: Allocator + Copy>(alloc: A, bounds: Bounds<'_>) -> bool {
     gives(reader_within(alloc, bounds), &[]) == Ok(None)
 }
@@ -308,7 +310,8 @@ fn past_the_last_key_of_a_run_there_is_no_reader(rt: HostRuntime) {
 
 const NOTHING: &[Step] = &[(F, 0, 1), (B, 0, 1)];
 
-// From `e` to `d` both included the table of both is in the span; where `d` is left out none starts before it.
+// From `e` to `d` both included the table of both is in the span; where `d` is left out none starts
+// before it.
 #[test]
 fn reversed_bounds_give_nothing(rt: HostRuntime) {
     assert!(rt; reads(rt.alloc(), FROM_E_TO_D, NOTHING));
@@ -326,7 +329,7 @@ fn gives_keys<S: Scan>(scanner: &mut S, keys: &[u8]) -> Result<bool, Error> {
     Ok(scanner.scan() == Ok(None) && scanner.scan() == Ok(None))
 }
 
-// The same of a scanner that there may be none of.
+// Whether a scanner, if there is one, gives just these keys.
 fn scanner_gives<S: Scan + Drop>(scanner: Result<S, Error>, keys: &[u8]) -> Result<bool, Error> {
     gives_keys(&mut scanner?, keys)
 }
@@ -336,7 +339,7 @@ fn scanner<A: Allocator + Copy>(alloc: A, span: Span) -> Result<RunScanner<A>, E
     scanner_of(run_of(alloc, FOUR_TABLES), span)
 }
 
-// Whether that of a span of the four tables gives just these keys.
+// Whether the scanner of a span of the four tables gives just these keys.
 fn scans<A: Allocator + Copy>(alloc: A, span: Span, keys: &[u8]) -> bool {
     scanner_gives(scanner(alloc, span), keys) == Ok(true)
 }
@@ -366,14 +369,15 @@ const D_TO_I: &[Step] = &[
     (B, 0, 2),
 ];
 
-// Whether a reader gives these steps, and nothing follows from either end; where a step is refused the refusal, if nothing
-// follows it.
+// Whether a reader gives these steps, and nothing follows from either end; where a step is refused
+// the refusal, if nothing follows it.
 fn gives_or_ends<W: Walk>(reader: &mut W, steps: &[Step]) -> Result<bool, Error> {
     let given = steps_give(reader, steps);
     if is_over(reader) { given } else { Ok(false) }
 }
 
-// Whether there is a reader, and it does.
+// Whether there is a reader, and it gives these steps, and nothing follows from either end; where a
+// step is refused the refusal, if nothing follows it.
 fn reader_gives_or_ends<W: Walk + Drop>(
     reader: Result<Option<W>, Error>,
     steps: &[Step],
@@ -384,12 +388,14 @@ fn reader_gives_or_ends<W: Walk + Drop>(
     }
 }
 
-// Whether that of a span of the four tables does.
+// Whether the reader of the two tables in the middle gives their keys, or ends for good at a
+// refusal.
 pub fn span_gives_or_ends<A: Allocator + Copy>(alloc: A) -> Result<bool, Error> {
     reader_gives_or_ends(culled(alloc, ALL, (Some(1), Some(2))), D_TO_I)
 }
 
-// Whether that of the four tables does.
+// Whether the reader of the four tables gives their keys from both ends in turn, or ends for good
+// at a refusal.
 pub fn run_gives_or_ends<A: Allocator + Copy>(alloc: A) -> Result<bool, Error> {
     reader_gives_or_ends(reader_within(alloc, ALL), IN_TURN)
 }
@@ -414,7 +420,8 @@ fn gives_keys_or_ends<S: Scan>(scanner: &mut S, keys: &[u8]) -> Result<bool, Err
     }
 }
 
-// The same of a scanner that there may be none of.
+// Whether a scanner, if there is one, gives just these keys; where a step is refused the refusal,
+// if nothing follows it.
 fn scanner_gives_or_ends<S: Scan + Drop>(
     scanner: Result<S, Error>,
     keys: &[u8],
@@ -422,7 +429,8 @@ fn scanner_gives_or_ends<S: Scan + Drop>(
     gives_keys_or_ends(&mut scanner?, keys)
 }
 
-// Whether that of the four tables but the first does.
+// Whether the scanner of the four tables but the first gives their keys, or ends for good at a
+// refusal.
 pub fn scan_gives_or_ends<A: Allocator + Copy>(alloc: A) -> Result<bool, Error> {
     scanner_gives_or_ends(scanner(alloc, (Some(1), None)), b"defghijkl")
 }

@@ -42,8 +42,9 @@ const FIRST_REFUSED: &[Answer] = &[
     REFUSED, NOTHING, NOTHING, NOTHING, NOTHING, NOTHING, NOTHING,
 ];
 
-// The ends of some steps, and their answers: where no step is refused, where the first one is, where the second one is. The
-// others take no memory. The entry that waits at the other end comes behind the refusal.
+// The ends of some steps, and their answers: where no step is refused, where the first one is,
+// where the second one is. The others take no memory. The entry that waits at the other end comes
+// behind the refusal.
 type Case = (&'static [Direction], &'static [&'static [Answer]]);
 
 const CASES: &[Case] = &[
@@ -91,7 +92,8 @@ fn place_of(cases: &[&[Answer]], answers: &[Answer]) -> Option<usize> {
     None
 }
 
-// Which of the answers of a case both runs give, if any; an error where there is no memory for the runs.
+// Which of the answers of a case both runs give, if any; an error where there is no memory for the
+// runs.
 fn which<A: Allocator + Copy>(alloc: A, case: &Case) -> Result<Option<usize>, Error> {
     let answers = answers_of(alloc, RUNS, ALL, case.0)?;
     Ok(place_of(case.1, &answers))
@@ -108,13 +110,14 @@ fn requests_of(alloc: Global, case: &Case) -> Result<Option<usize>, Error> {
     })
 }
 
-// Which of them they give with one request refused.
+// Which of a case's answers both runs give with one request refused.
 fn which_refused(alloc: Global, nth: usize, case: &Case) -> Result<Option<usize>, Error> {
     let heap = Refusing::new(alloc, nth);
     which(&heap, case)
 }
 
-// Notes which of them they gave; `false` where the answer is no other. There may be no memory for the runs.
+// Notes which of a case's answers both runs gave; `false` where theirs is no such answer. There may
+// be no memory for the runs.
 fn meet(met: &mut [bool; 3], answer: Result<Option<usize>, Error>) -> Result<bool, Error> {
     match answer {
         Ok(Some(place)) => {
@@ -129,7 +132,8 @@ fn meet(met: &mut [bool; 3], answer: Result<Option<usize>, Error>) -> Result<boo
     }
 }
 
-// Which of them they give with each request refused in turn; none where one of the answers is no other.
+// Which of a case's answers both runs give with each request refused in turn; none where they once
+// give no such answer.
 fn met(alloc: Global, case: &Case) -> Result<Option<[bool; 3]>, Error> {
     let Some(requests) = requests_of(alloc, case)? else {
         return Ok(None);

@@ -182,7 +182,7 @@ pub fn number_in<A: Allocator + Copy>(
     number_of(get_runs(runs, key, seqno))
 }
 
-// The same of runs of their own.
+// The number of the entry that a read of runs of some lists finds.
 fn found<A: Allocator + Copy>(
     alloc: A,
     lists: &[Lists],

@@ -1,4 +1,5 @@
-//! Readers and scanners of one run. What walks them is generic in them, so that none of their parts is looked at.
+//! Readers and scanners of one run. What walks them is generic in them, so that none of their parts
+//! is looked at.
 ghost use Rattle.std.specs.Prelude.{◌≡◌, ◌-◌, ◌<◌, ◌≤◌, true, IfOk, length, unwrap_or};
 ghost use Rattle.std.specs.Arc.{arc_value};
 ghost use Rattle.lsm_ranges.specs.Run.{ArePlacesOf};

@@ -1,4 +1,5 @@
-//! Scripts whose streams fail at each byte in turn: what was printed and reported by then, and the status.
+//! Scripts whose streams fail at each byte in turn: what was printed and reported by then, and the
+//! status.
 use crate::streams::{FailingReader, TightWriter};
 use refusing::Refusing;
 use sst_script::run_script;
@@ -31,7 +32,8 @@ fn answered(read: usize) -> &'static [u8] {
     front(OUTPUT, shown)
 }
 
-// Whether input that fails behind so many bytes ends the script, once the lines that ended before are answered.
+// Whether input that fails behind so many bytes ends the script, once the lines that ended before
+// are answered.
 fn ends_at_input(alloc: Global, read: usize) -> bool {
     let mut output = Vec::new(alloc);
     let mut errors = Vec::new(alloc);

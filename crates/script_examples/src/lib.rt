@@ -1,4 +1,5 @@
-//! Worked examples of `sst_script`: what scripts print, what they report and their status. Nothing here is for use.
+//! Worked examples of `sst_script`: what scripts print, what they report and their status. Nothing
+//! here is for use.
 #![tactic(auto)]
 
 #[cfg(test)]

@@ -44,7 +44,8 @@ fn stops<A: Allocator + Clone>(
 }
 
 const FIRST: &[u8] =
-    b"entry a 9 V x\nentry a 7 T -\nentry b 1 V y\ntable\nget a 9\nget a 100\nget c 5\nrange * *\ncompact 8\nrange =a !b\nentry d 2 V q\ntable\npack\n";
+    b"entry a 9 V x\nentry a 7 T -\nentry b 1 V y\ntable\nget a 9\nget a 100\nget c 5\nrange * *\n\
+      compact 8\nrange =a !b\nentry d 2 V q\ntable\npack\n";
 
 const FIRST_OUTPUT: &[u8] =
     b"tables 1\na 7 T -\na 9 V x\nnone\na 9 V x\nb 1 V y\ntables 1\na 9 V x\ntables 1\nruns 1\n";
@@ -75,11 +76,13 @@ const READ_BACK: &[(&[u8], &[u8])] = &[
     ),
     // A range has the newest version of each key, a tombstone too.
     (
-        b"entry a 5 V o\nentry c 2 V z\ntable\nentry a 9 V x\nentry b 1 T -\ntable\nrange * *\nget a 9\nget a 10",
+        b"entry a 5 V o\nentry c 2 V z\ntable\nentry a 9 V x\nentry b 1 T -\ntable\nrange * *\n\
+          get a 9\nget a 10",
         b"tables 1\ntables 1\na 9 V x\nb 1 T -\nc 2 V z\na 5 V o\na 9 V x\n",
     ),
     (
-        b"entry a 5 V o\nentry c 2 V z\ntable\nentry a 9 V x\nentry b 1 V y\ntable\nrange * *\nget a 9\nget a 10",
+        b"entry a 5 V o\nentry c 2 V z\ntable\nentry a 9 V x\nentry b 1 V y\ntable\nrange * *\n\
+          get a 9\nget a 10",
         b"tables 1\ntables 1\na 9 V x\nb 1 V y\nc 2 V z\na 5 V o\na 9 V x\n",
     ),
     (
@@ -88,7 +91,8 @@ const READ_BACK: &[(&[u8], &[u8])] = &[
     ),
     // Bounds that count and that do not, of keys that are there and that are not.
     (
-        b"entry - 1 V -\nentry a 2 V x\nentry b 3 V y\ntable\nrange =a !b\nrange !- =aa\nrange =- =-\nrange !b *\nrange =b =a\nrange * !-",
+        b"entry - 1 V -\nentry a 2 V x\nentry b 3 V y\ntable\nrange =a !b\nrange !- =aa\n\
+          range =- =-\nrange !b *\nrange =b =a\nrange * !-",
         b"tables 1\na 2 V x\na 2 V x\n- 1 V -\nnone\nnone\nnone\n",
     ),
     (b"range * *\nrange =* !*", b"none\nnone\n"),
@@ -111,27 +115,32 @@ const COMPACTED: &[(&[u8], &[u8])] = &[
         b"tables 1\ntables 1\na 0 V x\na 0 V x\n",
     ),
     (
-        b"entry a 4 V x\nentry b 2 T -\ntable\ncompact 0 zero\nrange * *\ncompact 5 evict zero\nrange * *",
+        b"entry a 4 V x\nentry b 2 T -\ntable\ncompact 0 zero\nrange * *\ncompact 5 evict zero\n\
+          range * *",
         b"tables 1\ntables 1\na 4 V x\nb 2 T -\ntables 1\na 0 V x\n",
     ),
     // A weak tombstone goes with the value that it hides, and stays where that is a tombstone.
     (
-        b"entry a 5 W -\nentry a 3 V x\nentry b 5 W -\nentry b 3 T -\ntable\ncompact 6\nrange * *\nget a 4\nget b 4",
+        b"entry a 5 W -\nentry a 3 V x\nentry b 5 W -\nentry b 3 T -\ntable\ncompact 6\nrange * *\n\
+          get a 4\nget b 4",
         b"tables 1\ntables 1\nb 5 W -\nnone\nnone\n",
     ),
     // Versions of a key in several runs meet in one, and what the watermark hides is gone.
     (
-        b"entry a 9 V x\ntable\nentry a 3 V y\nentry b 2 V z\ntable\nentry a 1 V w\ntable\ncompact 4\nget a 10\nget a 9\nget a 3\nget b 3\npack",
+        b"entry a 9 V x\ntable\nentry a 3 V y\nentry b 2 V z\ntable\nentry a 1 V w\ntable\n\
+          compact 4\nget a 10\nget a 9\nget a 3\nget b 3\npack",
         b"tables 1\ntables 1\ntables 1\ntables 1\na 9 V x\na 3 V y\nnone\nb 2 V z\nruns 1\n",
     ),
     // A number that is gone may come again.
     (
-        b"entry a 9 V x\nentry a 3 V y\ntable\ncompact 10\nentry a 3 V z\ntable\nget a 9\npack\ncompact 10\nget a 9",
+        b"entry a 9 V x\nentry a 3 V y\ntable\ncompact 10\nentry a 3 V z\ntable\nget a 9\npack\n\
+          compact 10\nget a 9",
         b"tables 1\ntables 1\ntables 1\na 3 V z\nruns 2\ntables 1\nnone\n",
     ),
     // What is pending stays so.
     (
-        b"entry a 1 V x\ntable\nentry b 1 V y\ncompact 5\npack\nrange * *\nentry c 1 V z\ntable\nrange * *",
+        b"entry a 1 V x\ntable\nentry b 1 V y\ncompact 5\npack\nrange * *\nentry c 1 V z\ntable\n\
+          range * *",
         b"tables 1\ntables 1\nruns 1\na 1 V x\ntables 1\na 1 V x\nb 1 V y\nc 1 V z\n",
     ),
     // Tables beside one another go into one run, in the order of their keys.
@@ -141,11 +150,14 @@ const COMPACTED: &[(&[u8], &[u8])] = &[
     ),
     // Tables of one key cannot.
     (
-        b"entry a 1 V x\nentry c 1 V x\ntable\nentry b 2 V y\ntable\nentry d 3 V z\ntable\npack\nrange * *\npack\ncompact 0\npack",
-        b"tables 1\ntables 1\ntables 1\nruns 2\na 1 V x\nb 2 V y\nc 1 V x\nd 3 V z\nruns 2\ntables 1\nruns 1\n",
+        b"entry a 1 V x\nentry c 1 V x\ntable\nentry b 2 V y\ntable\nentry d 3 V z\ntable\npack\n\
+          range * *\npack\ncompact 0\npack",
+        b"tables 1\ntables 1\ntables 1\nruns 2\na 1 V x\nb 2 V y\nc 1 V x\nd 3 V z\nruns 2\n\
+          tables 1\nruns 1\n",
     ),
     (
-        b"entry a 9 V x\nentry a 3 V y\ntable\ncompact 9\ncompact 9\nrange * *\ncompact 10\nget a 9\npack",
+        b"entry a 9 V x\nentry a 3 V y\ntable\ncompact 9\ncompact 9\nrange * *\ncompact 10\n\
+          get a 9\npack",
         b"tables 1\ntables 1\ntables 1\na 9 V x\ntables 1\nnone\nruns 1\n",
     ),
 ];
@@ -153,7 +165,8 @@ const COMPACTED: &[(&[u8], &[u8])] = &[
 // A script whose keys look like marks: the empty key, `--`, `=` and `a`.
 const MARKED: &[u8] = b"entry - 1 V e\nentry -- 1 V d\nentry = 1 V q\nentry a 1 V x\ntable\n";
 
-// Ranges of them, and what these print. All but the first byte of a bound is its key, or `-` is the empty one.
+// Ranges of them, and what these print. All but the first byte of a bound is its key, or `-` is the
+// empty one.
 const MARKED_BOUNDS: &[(&[u8], &[u8])] = &[
     (b"range == ==", b"= 1 V q\n"),
     (b"range == *", b"= 1 V q\na 1 V x\n"),
@@ -314,7 +327,8 @@ const OUT_OF_ORDER: &[(&[u8], &[u8], &[u8])] = &[
     (b"entry b 1 V x\nentry a 2 V y\nget", b"", b"sst: line 2\n"),
     (b"entry aa 1 V x\nentry a 0 V y", b"", b"sst: line 2\n"),
     (
-        b"entry a 9 V x\ntable\nentry a 8 V x\nentry a 7 V y\ntable\nentry - 1 V x\nentry a 9 T -\ntable\ntable",
+        b"entry a 9 V x\ntable\nentry a 8 V x\nentry a 7 V y\ntable\nentry - 1 V x\nentry a 9 T -\n\
+          table\ntable",
         b"tables 1\ntables 1\n",
         b"sst: line 8\n",
     ),
@@ -334,7 +348,7 @@ const OUT_OF_ORDER: &[(&[u8], &[u8], &[u8])] = &[
         b"tables 1\ntables 1\ntables 1\n",
         b"sst: line 7\n",
     ),
-    // So does each packed run.
+    // A packed run holds what its tables have, under the numbers that it has there.
     (
         b"entry a 4 V x\ntable\nentry b 4 V y\ntable\npack\nentry a 4 V z\ntable",
         b"tables 1\ntables 1\nruns 1\n",
@@ -397,7 +411,7 @@ fn ends_where_input_fails(alloc: Global, script: &[u8], shown: &[u8], told: &[u8
     status == 2 && output.as_slice() == shown && errors.as_slice() == told
 }
 
-// Likewise, where input fails behind the script.
+// Scripts behind which input fails, what is shown, and what is told.
 const BEFORE_FAILING_INPUT: &[(&[u8], &[u8], &[u8])] = &[
     (b"", b"", b"sst: input\n"),
     (b"get a 1\n\n", b"none\n", b"sst: input\n"),
@@ -446,14 +460,16 @@ fn failing_output_ends_the_script(rt: HostRuntime) -> Result<(), Fail> {
     Ok(())
 }
 
-// Whether output that takes every byte, and fails where it is flushed, ends a script with this status.
+// Whether output that takes every byte, and fails where it is flushed, ends a script with this
+// status.
 fn ends_unflushed(alloc: Global, script: &[u8], told: &[u8], wanted: u8) -> bool {
     let mut errors = Vec::new(alloc);
     let status = run_script(alloc, script, &mut UnflushedWriter, &mut errors);
     status == wanted && errors.as_slice() == told
 }
 
-// The same of output that keeps bytes until it is flushed, before output that takes none.
+// Whether a script ends with this status where its output is kept until it is flushed, and then
+// takes no byte.
 fn ends_unkept(alloc: Global, script: &[u8], told: &[u8], wanted: u8) -> io::Result<bool> {
     let mut errors = Vec::new(alloc);
     let mut output = BufWriter::new(alloc, FailingWriter)?;
@@ -499,24 +515,30 @@ fn each_answer_is_flushed(rt: HostRuntime) -> Result<(), Fail> {
 // What the first script prints where one of its commands is refused for want of memory, or none.
 const REFUSED_OUTPUTS: [&[u8]; 14] = [
     FIRST_OUTPUT,
-    b"refused 1\ntables 1\na 7 T -\na 7 T -\nnone\na 7 T -\nb 1 V y\ntables 1\na 7 T -\ntables 1\nruns 1\n",
-    b"refused 1\ntables 1\nnone\na 9 V x\nnone\na 9 V x\nb 1 V y\ntables 1\na 9 V x\ntables 1\nruns 1\n",
+    b"refused 1\ntables 1\na 7 T -\na 7 T -\nnone\na 7 T -\nb 1 V y\ntables 1\na 7 T -\ntables 1\n\
+      runs 1\n",
+    b"refused 1\ntables 1\nnone\na 9 V x\nnone\na 9 V x\nb 1 V y\ntables 1\na 9 V x\ntables 1\n\
+      runs 1\n",
     b"refused 1\ntables 1\na 7 T -\na 9 V x\nnone\na 9 V x\ntables 1\na 9 V x\ntables 1\nruns 1\n",
     b"refused 1\nnone\nnone\nnone\nnone\ntables 0\nnone\ntables 1\nruns 1\n",
     b"tables 1\nrefused 1\na 9 V x\nnone\na 9 V x\nb 1 V y\ntables 1\na 9 V x\ntables 1\nruns 1\n",
     b"tables 1\na 7 T -\nrefused 1\nnone\na 9 V x\nb 1 V y\ntables 1\na 9 V x\ntables 1\nruns 1\n",
-    b"tables 1\na 7 T -\na 9 V x\nrefused 1\na 9 V x\nb 1 V y\ntables 1\na 9 V x\ntables 1\nruns 1\n",
+    b"tables 1\na 7 T -\na 9 V x\nrefused 1\na 9 V x\nb 1 V y\ntables 1\na 9 V x\ntables 1\n\
+      runs 1\n",
     b"tables 1\na 7 T -\na 9 V x\nnone\nrefused 1\ntables 1\na 9 V x\ntables 1\nruns 1\n",
     b"tables 1\na 7 T -\na 9 V x\nnone\na 9 V x\nb 1 V y\nrefused 1\na 9 V x\ntables 1\nruns 1\n",
     b"tables 1\na 7 T -\na 9 V x\nnone\na 9 V x\nb 1 V y\ntables 1\nrefused 1\ntables 1\nruns 1\n",
-    b"tables 1\na 7 T -\na 9 V x\nnone\na 9 V x\nb 1 V y\ntables 1\na 9 V x\nrefused 1\ntables 0\nruns 1\n",
+    b"tables 1\na 7 T -\na 9 V x\nnone\na 9 V x\nb 1 V y\ntables 1\na 9 V x\nrefused 1\ntables 0\n\
+      runs 1\n",
     b"tables 1\na 7 T -\na 9 V x\nnone\na 9 V x\nb 1 V y\ntables 1\na 9 V x\nrefused 1\nruns 1\n",
     b"tables 1\na 7 T -\na 9 V x\nnone\na 9 V x\nb 1 V y\ntables 1\na 9 V x\ntables 1\nrefused 1\n",
 ];
 
-// A script that reads two runs, and what it prints: all, and where one of its commands is refused for want of memory.
+// A script that reads two runs, and what it prints: all, and where one of its commands is refused
+// for want of memory.
 const OVER_TWO_RUNS: &[u8] =
-    b"entry a 5 V o\nentry c 2 V z\ntable\nentry a 9 V x\nentry b 1 V y\ntable\nrange * *\nget a 9\nget a 10\n";
+    b"entry a 5 V o\nentry c 2 V z\ntable\nentry a 9 V x\nentry b 1 V y\ntable\nrange * *\n\
+      get a 9\nget a 10\n";
 
 const OVER_TWO_RUNS_OUTPUTS: [&[u8]; 10] = [
     b"tables 1\ntables 1\na 9 V x\nb 1 V y\nc 2 V z\na 5 V o\na 9 V x\n",
@@ -531,7 +553,8 @@ const OVER_TWO_RUNS_OUTPUTS: [&[u8]; 10] = [
     b"tables 1\ntables 1\na 9 V x\nb 1 V y\nc 2 V z\na 5 V o\nrefused 1\n",
 ];
 
-// Whether a run of a script is right, where one request for memory may have been refused; the first output is of none refused.
+// Whether a run of a script is right, where one request for memory may have been refused; the first
+// output is of none refused.
 fn is_right<A: Allocator>(ran: &Ran<A>, outputs: &[&[u8]], may_fail: bool) -> bool {
     let Some(whole) = outputs.first() else {
         return false;
@@ -546,7 +569,8 @@ fn is_right<A: Allocator>(ran: &Ran<A>, outputs: &[&[u8]], may_fail: bool) -> bo
     ran.status == 0 && (output == *whole || may_fail && outputs.contains(&output))
 }
 
-// Whether a script is right whichever of its requests for memory is refused, of which there are more than so many.
+// Whether a script is right whichever of its requests for memory is refused, of which there are
+// more than so many.
 fn is_right_in_turn(alloc: Global, script: &[u8], outputs: &[&[u8]], more_than: usize) -> bool {
     let answers = each_refused(alloc, |heap: &Refusing, may_fail: bool| {
         match run(heap, alloc, script) {

@@ -91,7 +91,7 @@ fn both_admit(filter: &FilterBlock, key: &[u8]) -> Result<(bool, bool), Error> {
     Ok((admits(filter, key), clone_admits))
 }
 
-// The same of the filter that is loaded of a payload.
+// Whether the filter that is loaded of a payload admits a key, and whether its clone does.
 fn loaded_admit(alloc: Global, payload: &[u8], key: &[u8]) -> Result<(bool, bool), Error> {
     let (lies, bytes, _) = table(alloc, payload)?;
     let filter = load(alloc, &lies, bytes)?;
@@ -100,7 +100,7 @@ fn loaded_admit(alloc: Global, payload: &[u8], key: &[u8]) -> Result<(bool, bool
     admit
 }
 
-// The same of the filter of these keys.
+// Whether the filter of these keys admits a key, and whether its clone does.
 fn built_admit(alloc: Global, keys: &[&[u8]], key: &[u8]) -> Result<(bool, bool), Error> {
     let payload = built(alloc, keys)?;
     let admit = loaded_admit(alloc, &payload, key);

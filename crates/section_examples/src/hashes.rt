@@ -69,7 +69,8 @@ fn begin_with_both(bytes: &[u8]) -> bool {
         && bytes.get(71..73) == Some(b"\x06\xff".as_slice())
 }
 
-// Where both blocks lie, whether the bytes hold them there, and whether the checksum is the bytes' hash.
+// Where both blocks lie, whether the bytes hold them there, and whether the checksum is the bytes'
+// hash.
 fn as_bytes(written: &([(u64, u32); 2], Slice, u128)) -> ([(u64, u32); 2], bool, bool) {
     let (both, bytes, checksum) = written;
     let bytes = bytes.as_slice();

@@ -1,5 +1,6 @@
-//! Worked examples of sections, of blocks as they are loaded, and of filters: tests of `sst_sections`, `sst_filters` and
-//! `sst_blocks` that need nothing private, in a crate of their own. Nothing here is for use.
+//! Worked examples of sections, of blocks as they are loaded, and of filters: tests of
+//! `sst_sections`, `sst_filters` and `sst_blocks` that need nothing private, in a crate of their
+//! own. Nothing here is for use.
 #![tactic(auto)]
 
 #[cfg(test)]

@@ -74,7 +74,7 @@ const LOADS: &[Load] = &[
     ),
 ];
 
-// Whether it answers so.
+// Whether a load of the first block answers as its case says.
 fn is_loaded_so(alloc: Global, case: &Load) -> bool {
     let (size, kind, expected) = case;
     loaded(alloc, &[], handle(0, *size), *kind) == *expected
@@ -118,7 +118,8 @@ fn the_first_fault_of_a_changed_block(rt: HostRuntime) {
     }
 }
 
-// Whether a block loads with the size of its payload, and in its own kind and with its own size alone.
+// Whether a block loads with the size of its payload, and in its own kind and with its own size
+// alone.
 fn loads_so(source: &BlockSource<Global>, lies: BlockHandle, kind: BlockType, size: usize) -> bool {
     let other = match kind {
         BlockType::Data => BlockType::Meta,
@@ -131,7 +132,8 @@ fn loads_so(source: &BlockSource<Global>, lies: BlockHandle, kind: BlockType, si
         && loaded_from(source, shorter, kind) == Err(Error::InvalidHeader)
 }
 
-// Whether it does so over and over.
+// Whether a block loads over and over, each time with the size of its payload, and in its own kind
+// and with its own size alone.
 fn loads_again(
     source: &BlockSource<Global>,
     lies: BlockHandle,
@@ -161,7 +163,7 @@ fn first_not_again(source: &BlockSource<Global>, clone: &BlockSource<Global>) ->
     None
 }
 
-// The same of a source and its clone.
+// The position of the first block that does not load again of a source and of its clone.
 fn first_of_both(source: &BlockSource<Global>) -> Result<Option<u64>, AllocError> {
     let clone: BlockSource<Global> = source.clone()?;
     let first = first_not_again(source, &clone);
@@ -169,12 +171,14 @@ fn first_of_both(source: &BlockSource<Global>) -> Result<Option<u64>, AllocError
     Ok(first)
 }
 
-// The same of the stored table and a clone of its source.
+// The position of the first block that does not load again of the stored table and of a clone of
+// its source.
 fn first_not_again_of_stored(alloc: Global) -> Result<Option<u64>, Error> {
     Ok(asked(stored(alloc, &[]), first_of_both)??)
 }
 
-// A block whose checksum was compared and whose grammar was tested loads as before, of a clone of the source too.
+// A block whose checksum was compared and whose grammar was tested loads as before, of a clone of
+// the source too.
 #[test]
 fn a_block_loads_again(rt: HostRuntime) {
     assert!(rt; is_answer(first_not_again_of_stored(rt.alloc()), None));
@@ -324,7 +328,7 @@ fn counted_sizes<A: Allocator + Copy>(
     Ok((sizes, counted.opened()))
 }
 
-// The same, where the source was made.
+// What was loaded of a source, if it was made, and the counts.
 fn counted_sizes_of<A: Allocator + Copy>(
     source: Result<BlockSource<A>, Error>,
 ) -> Result<((usize, usize), Opened), Error> {
@@ -367,7 +371,8 @@ fn requests_of_a_source(alloc: &Refusing) -> Result<(usize, usize), Error> {
     Ok((first, last))
 }
 
-// The same where one request is refused.
+// How many requests the bytes take, and how many with the source over them, where one request is
+// refused.
 fn requests_but(alloc: Global, nth: usize) -> Result<(usize, usize), Error> {
     requests_of_a_source(&Refusing::new(alloc, nth))
 }

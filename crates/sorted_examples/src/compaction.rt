@@ -30,7 +30,7 @@ impl Received {
         }
     }
 
-    // Whether it received all.
+    // Whether all that was wanted was received, and nothing else.
     fn is_done(mut self) -> bool {
         self.is_right && self.words.next().is_none()
     }
@@ -76,7 +76,8 @@ impl StreamFilter<Global> for Plan {
     }
 }
 
-// Five keys in a row are versions of one, the newest first: drops each below the watermark that a newer one precedes.
+// Five keys in a row are versions of one, the newest first: drops each below the watermark that a
+// newer one precedes.
 #[derive(Clone, Copy)]
 struct NewestOfFive {
     previous: Option<u8>,
@@ -101,7 +102,8 @@ impl StreamFilter<Global> for NewestOfFive {
     }
 }
 
-// Whether a compaction of this source, whatever it is, leaves these for readers at the threshold, without a filter.
+// Whether a compaction of this source, whatever it is, leaves these for readers at the threshold,
+// without a filter.
 pub fn leaves_so<A: Allocator, I: Iterator<Item = IterItem<A>> + Drop>(
     source: I,
     threshold: u64,
@@ -129,7 +131,8 @@ const PLAIN: Settings = Settings {
     zero: false,
 };
 
-// Whether a compaction of this source, whatever it is, gives these results and reports these entries.
+// Whether a compaction of this source, whatever it is, gives these results and reports these
+// entries.
 fn gives_and_reports<I: Iterator<Item = IterItem> + Drop>(
     settings: &Settings,
     items: I,
@@ -148,7 +151,8 @@ fn gives_and_reports<I: Iterator<Item = IterItem> + Drop>(
     stream.into_callback().is_done() && given
 }
 
-// The same of some results.
+// Whether a compaction of some results, by these settings, gives these results and reports these
+// entries.
 fn compacts(
     alloc: Global,
     settings: &Settings,
@@ -160,7 +164,7 @@ fn compacts(
     Ok(gives_and_reports(settings, items, results, reports))
 }
 
-// In each table: what is compacted, the results, and what is reported.
+// The tables below have what is compacted, the results, and what is reported.
 
 const KEPT: &[(&str, &str, &str)] = &[
     ("aV10 aV3", "aV10 aV3", ""),
@@ -325,7 +329,8 @@ fn keeps_a_state_in_the_filter(rt: HostRuntime) {
     }
 }
 
-// Whether a compaction without a filter leaves these of some results in the memory of any allocator.
+// Whether a compaction without a filter leaves these of some results in the memory of any
+// allocator.
 fn leaves_unfiltered<A: Allocator + Copy>(
     memory: A,
     over: &str,
@@ -342,7 +347,8 @@ fn needs_neither_filter_nor_callback(rt: HostRuntime) {
     assert!(rt; holds(leaves_unfiltered(rt.alloc(), over, 5000, over)));
 }
 
-// Whether a stream of the newest versions gives these of some results in the memory of any allocator.
+// Whether a stream of the newest versions gives these of some results in the memory of any
+// allocator.
 fn gives_newest<A: Allocator + Copy>(memory: A, over: &str, wanted: &str) -> Result<bool, Error> {
     let items = passed_of(memory, over)?;
     Ok(gives_so(MvccStream::new(items), wanted))

@@ -1,5 +1,5 @@
-//! Worked examples of `lsm_sorted`: tests in a crate of their own, since tests are proved together with the crate that they
-//! stand in. Nothing here is for use.
+//! Worked examples of `lsm_sorted`: tests in a crate of their own, since tests are proved together
+//! with the crate that they stand in. Nothing here is for use.
 #![tactic(auto)]
 
 #[cfg(test)]

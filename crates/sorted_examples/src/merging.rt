@@ -177,7 +177,8 @@ fn requests_of_two(alloc: Global) -> usize {
     }
 }
 
-// How many requests two sources and their merger take, which answers so at the ends; or 0 where it does not.
+// How many requests two sources and their merger take, which answers so at the ends; or 0 where it
+// does not.
 fn requests_once_merged(alloc: Global, ends: &str, wanted: &str) -> usize {
     let heap = Refusing::new(alloc, 0);
     if holds(merges(&heap, TWO_SOURCES, ends, wanted)) {

@@ -1,4 +1,5 @@
-//! Merging from the front alone: sources without a back, and errors in the middle and at the far end of one of three sources.
+//! Merging from the front alone: sources without a back, and errors in the middle and at the far
+//! end of one of three sources.
 use crate::words::{begins_so, holds, once_done, push_made, results_of};
 use lsm_sorted::Merger;
 use sst_entries::{Error, IterItem};

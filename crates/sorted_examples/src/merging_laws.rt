@@ -1,4 +1,5 @@
-//! What the public laws say together of a merger that is taken from the front alone, whatever errors are among its sources.
+//! What the public laws say together of a merger that is taken from the front alone, whatever
+//! errors are among its sources.
 ghost use Rattle.std.specs.Prelude.{Bool, List, IfOk};
 ghost use Rattle.sst_entries.specs.Stream.{Deals, nowhere, answer_stops, ok_results};
 ghost use Rattle.sst_entries.specs.declared.error.Error.{Error};

@@ -1,4 +1,5 @@
-//! The newest versions of some results and of several sources, from both ends and from the front alone.
+//! The newest versions of some results and of several sources, from both ends and from the front
+//! alone.
 ghost use Rattle.std.specs.Prelude.{All};
 ghost use Rattle.std.specs.Iterator.{IsFinite};
 ghost use Rattle.sst_entries.specs.Stream.{CanDeal, nowhere};
@@ -91,7 +92,8 @@ fn answers_so_where_its_entries_are_not_refused(rt: HostRuntime) {
     }
 }
 
-// The same without errors.
+// Results without errors, the ends that are asked, and what a stream of their newest versions
+// answers.
 const WITHOUT_ERRORS: &[(&str, &str, &str)] = &[
     ("aV0 bV0 cV0 dV0 eT1 eV0", "FFFFFF", "aV0 bV0 cV0 dV0 eT1 -"),
     ("aV0 bV0 cV0 dV0 eT1 eV0", "BBBBBB", "eT1 dV0 cV0 bV0 aV0 -"),

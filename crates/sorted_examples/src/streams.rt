@@ -17,7 +17,8 @@ use lsm_sorted::{Merger, up_to_gap};
 use sst_entries::{Error, IterItem, SeqNo};
 use std::alloc::{Allocator, Global};
 
-// What readers at the threshold need of several sources. The proof cites clauses of the calls alone.
+// What readers at the threshold need of several sources. The proof cites clauses of the calls
+// alone.
 fn compaction_of<I: Iterator<Item = IterItem<A>>, A: Allocator + Clone>(
     alloc: A,
     iterators: Vec<I, A>,

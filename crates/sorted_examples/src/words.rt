@@ -1,15 +1,16 @@
 //! Entries, errors and answers in short for tests, as the words of a text.
 //!
-//! `aV9` is an entry of the key `a` and the number 9, a value that is its key, and `aV9x` has the value `x`. `T` and `W` are
-//! the tombstones, without a value. `!4` is the error 4 of a caller's own source, `?1` a refused request for memory, and `-`
-//! no answer.
+//! `aV9` is an entry of the key `a` and the number 9, a value that is its key, and `aV9x` has the
+//! value `x`. `T` and `W` are the tombstones, without a value. `!4` is the error 4 of a caller's
+//! own source, `?1` a refused request for memory, and `-` no answer.
 ghost use Rattle.std.specs.Iterator.{IsFinite};
 ghost use Rattle.sst_entries.specs.Stream.{CanDeal, nowhere};
 
 use sst_entries::{Direction, Error, InternalValue, IterItem, Slice, ValueType, answer_at};
 use std::alloc::Allocator;
 
-/// What a word says: a key or the sign before a number, the letter of a kind, a number, and a value. What is not there is 0.
+/// What a word says: a key or the sign before a number, the letter of a kind, a number, and a
+/// value. What is not there is 0.
 pub type Said = (u8, u8, u64, u8);
 
 fn slice_of<A: Allocator + Copy>(alloc: A, byte: u8) -> Result<Slice<A>, Error> {
@@ -225,7 +226,7 @@ pub fn gives_all<A: Allocator, I: Iterator<Item = IterItem<A>>>(
     is_right && words.next().is_none()
 }
 
-/// The same of a stream that is let go of.
+/// Whether a stream, which is let go of, gives these results to its end.
 pub fn gives_so<A: Allocator, I: Iterator<Item = IterItem<A>> + Drop>(
     mut stream: I,
     wanted: &str,

@@ -1,4 +1,5 @@
-//! The program `sst`: it reads a script from standard input, line by line, and answers on standard output.
+//! The program `sst`: it reads a script from standard input, line by line, and answers on standard
+//! output.
 #![tactic(auto)]
 
 use sst_script::run_script;

@@ -28,7 +28,7 @@ fn tail(bytes: &[u8]) -> u64 {
 }
 
 impl Digest {
-    /// That of no entries.
+    /// The digest of no entries.
     pub fn empty() -> Digest
         ensures { result ≡ record { entries = 0; bytes = 0; sum = 0 } }
     {

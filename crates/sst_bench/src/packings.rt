@@ -4,8 +4,8 @@ use lsm_sorted::{KeyRange, Ranged, Run, optimize_runs};
 use sst_blocks::{Error, Slice};
 use std::alloc::{AllocError, Global};
 
-/// How many runs there are, how many tables they have, and a sum of the tables' numbers that depends
-/// on the run and the place of each, and wraps.
+/// How many runs there are, how many tables they have, and a sum of the tables' numbers that
+/// depends on the run and the place of each, and wraps.
 #[repr(C)]
 #[derive(Clone, Copy)]
 pub struct Packed {
@@ -123,8 +123,8 @@ fn optimize(
 }
 
 /// Makes a run for each table, of which the least and the greatest key are given, all of one length
-/// and behind one another, and packs the runs into as few as can be, unless `passes` is 0. Tells the
-/// runs.
+/// and behind one another, and packs the runs into as few as can be, unless `passes` is 0. Tells
+/// the runs.
 #[unsafe(no_mangle)]
 pub extern "C" fn sst_bench_optimize_runs(
     alloc: Global,

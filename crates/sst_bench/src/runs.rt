@@ -1,5 +1,6 @@
-//! Compaction of several runs by `compact_runs`. It asks for runs whose tables were written of lists,
-//! which bytes that come from outside cannot show; so the lists are handed in and written here.
+//! Compaction of several runs by `compact_runs`. It asks for runs whose tables were written of
+//! lists, which bytes that come from outside cannot show; so the lists are handed in and written
+//! here.
 ghost use Rattle.std.specs.Prelude.{◌≡◌, ◌++◌, IfOk, IsPermutation, OnOk, map};
 ghost use Rattle.std.specs.Arc.{arc_value};
 ghost use Rattle.lsm_writers.specs.Writing.{IsWritable};
@@ -81,8 +82,8 @@ fn put_in_order(all: &mut Vec<InternalValue>)
     all.sort_unstable_by(|x: &InternalValue, y: &InternalValue| x.key.cmp(&y.key));
 }
 
-// A run of each of some lists, which stand behind one another and have so many bytes each. The first
-// is numbered by how many there are, and each further one by one less.
+// A run of each of some lists, which stand behind one another and have so many bytes each. The
+// first is numbered by how many there are, and each further one by one less.
 fn runs_of(
     alloc: Global,
     lists: &[u8],
@@ -146,10 +147,10 @@ fn compact_passes(
 }
 
 /// Writes a table of each of some lists and opens it as a run, and compacts the runs so many times
-/// over by [`compact_runs`]: of each key the newest version is written, into tables of about `target`
-/// bytes. The lists stand behind one another and have so many bytes each; keys and values are of one
-/// length each; the first list is numbered by how many there are, and each further one by one less.
-/// Tells what the last pass wrote.
+/// over by [`compact_runs`]: of each key the newest version is written, into tables of about
+/// `target` bytes. The lists stand behind one another and have so many bytes each; keys and values
+/// are of one length each; the first list is numbered by how many there are, and each further one
+/// by one less. Tells what the last pass wrote.
 #[unsafe(no_mangle)]
 pub extern "C" fn sst_bench_compact_runs(
     alloc: Global,

@@ -65,8 +65,8 @@ fn back_passes(alloc: Global, file: &[u8], passes: u64, digest: &mut Digest) -> 
     Ok(())
 }
 
-/// Copies and opens a table, and takes all that its iterator gives from the back so many times over.
-/// Tells what the last pass gave, in that order.
+/// Copies and opens a table, and takes all that its iterator gives from the back so many times
+/// over. Tells what the last pass gave, in that order.
 #[unsafe(no_mangle)]
 pub extern "C" fn sst_bench_iter_back(
     alloc: Global,

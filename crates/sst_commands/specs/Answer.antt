@@ -4,7 +4,8 @@ use Rattle.std.specs.Fmt.{decimal}
 use Rattle.std.specs.List.{flat_map, join_with_byte}
 use Rattle.sst_entries.specs.Entry.{Entry}
 use Rattle.sst_commands.specs.declared.print.Answer.{Answer}
-use Rattle.sst_commands.specs.declared.print.Answer.TheVariants.{Silent, Tables, Runs, Found, Entries}
+use Rattle.sst_commands.specs.declared.print.Answer.TheVariants.{Silent, Tables, Runs, Found}
+use Rattle.sst_commands.specs.declared.print.Answer.TheVariants.{Entries}
 use Rattle.sst_commands.specs.Text.{letter_of, printed}
 
 -- an entry's line: its key, number, kind and value

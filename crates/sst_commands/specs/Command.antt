@@ -1,5 +1,6 @@
 -- The forms of a script's lines.
-use Rattle.std.specs.Prelude.{◌≡◌, ℕ, ◌<◌, ◌==◌, Bool, true, false, List, [], ◌∷◌, length, nat_eq, codes, if◌then◌else◌, Option, Some, None}
+use Rattle.std.specs.Prelude.{◌≡◌, ℕ, ◌<◌, ◌==◌, Bool, true, false, List, [], ◌∷◌, length, nat_eq}
+use Rattle.std.specs.Prelude.{codes, if◌then◌else◌, Option, Some, None}
 use Rattle.std.specs.Char.{is_ascii_graphic}
 use Rattle.std.specs.Cmp.Lexicographic.{pointwise}
 use Rattle.std.specs.List.{list_all, slice_split}
@@ -9,7 +10,8 @@ use Rattle.sst_commands.specs.declared.command.Command.{Command}
 use Rattle.std.specs.declared.ops.Bound.{Bound}
 use Rattle.std.specs.declared.ops.Bound.TheVariants.{Included, Excluded, Unbounded}
 use Rattle.lsm_ranges.specs.KeyRange.{key_bound}
-use Rattle.sst_commands.specs.declared.command.Command.TheVariants.{Entry, Table, Get, Range, Compact, Pack}
+use Rattle.sst_commands.specs.declared.command.Command.TheVariants.{Entry, Table, Get, Range}
+use Rattle.sst_commands.specs.declared.command.Command.TheVariants.{Compact, Pack}
 use Rattle.sst_commands.specs.Text.{letter_of, IsNumber}
 
 -- the parts of a line between its spaces
@@ -56,7 +58,8 @@ pub record ReadsKey (words : List (List ℕ)) (key : List ℕ) (bound : ℕ) : T
   pub key_is : StandsFor key_word key
   pub bound_is : Counts number_word bound
 
--- the word of a bound: * for none, else = before a key that is within it, or ! before one that is not
+-- the word of a bound: * for none, else = before a key that is within it, or ! before one that is
+-- not
 abbrev pub Limits : List ℕ → Bound (List ℕ) → Type 0
 Limits word (Included key) = (text : List ℕ) × (word ≡ 61 ∷ text) × StandsFor text key
 Limits word (Excluded key) = (text : List ℕ) × (word ≡ 33 ∷ text) × StandsFor text key

@@ -2,7 +2,8 @@
 use Rattle.std.specs.Prelude.{◌≡◌, ℕ, ◌<◌, ◌^◌, List, [], ◌∷◌, length, slice_index}
 use Rattle.std.specs.Str.Parse.{AllDigits, digits_value}
 use Rattle.sst_entries.specs.declared.value_type.ValueType.{ValueType}
-use Rattle.sst_entries.specs.declared.value_type.ValueType.TheVariants.{Value, Tombstone, WeakTombstone, Indirection}
+use Rattle.sst_entries.specs.declared.value_type.ValueType.TheVariants.{Value, Tombstone}
+use Rattle.sst_entries.specs.declared.value_type.ValueType.TheVariants.{WeakTombstone, Indirection}
 
 -- the letter of a kind: V, T, W or I
 abbrev pub letter_of : ValueType → ℕ

@@ -1,5 +1,6 @@
 //! What a line of a script asks for.
-ghost use Rattle.std.specs.Prelude.{◌≡◌, ◌==◌, ◌<◌, ℕ, Bool, List, [], ◌∷◌, length, None, Some, IfSome, IfNone, codes};
+ghost use Rattle.std.specs.Prelude.{◌≡◌, ◌==◌, ◌<◌, ℕ, Bool, List, [], ◌∷◌, length, None, Some};
+ghost use Rattle.std.specs.Prelude.{IfSome, IfNone, codes};
 ghost use Rattle.std.specs.Option.{SomeIff, option_copied};
 ghost use Rattle.std.specs.Char.{is_ascii_graphic};
 ghost use Rattle.std.specs.List.{list_all, position};
@@ -8,7 +9,9 @@ ghost use Rattle.std.specs.declared.ops.Bound.{Bound};
 ghost use Rattle.sst_entries.specs.declared.value_type.ValueType.{ValueType};
 ghost use Rattle.lsm_ranges.specs.KeyRange.{key_bound};
 ghost use Rattle.sst_commands.specs.declared.command.Command.{Command};
-ghost use Rattle.sst_commands.specs.Command.{words_of, words_behind, StandsFor, AddsEntry, CompactsBy, Limits, ReadsKey, ReadsRange, AskFor, setting_words};
+ghost use Rattle.sst_commands.specs.Command.{words_of, words_behind, StandsFor, AddsEntry};
+ghost use Rattle.sst_commands.specs.Command.{CompactsBy, Limits, ReadsKey, ReadsRange, AskFor};
+ghost use Rattle.sst_commands.specs.Command.{setting_words};
 ghost use Rattle.sst_commands.specs.Text.{letter_of, IsNumber};
 
 use sst_entries::{SeqNo, ValueType};

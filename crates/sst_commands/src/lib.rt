@@ -1,4 +1,5 @@
-//! The text of scripts of the program `sst`: what a line asks for, how an answer is printed, and why a script ends early.
+//! The text of scripts of the program `sst`: what a line asks for, how an answer is printed, and
+//! why a script ends early.
 #![tactic(auto)]
 
 mod command;

@@ -1,7 +1,8 @@
 //! The text of answers, and of why a script ends.
 ghost use Rattle.std.specs.Prelude.{◌≡◌, [], ◌∷◌, ◌++◌};
 ghost use Rattle.std.specs.Fmt.{decimal};
-ghost use Rattle.sst_commands.specs.Answer.{answer_lines, entry_line, entry_lines, none_line, refusal_line};
+ghost use Rattle.sst_commands.specs.Answer.{answer_lines, entry_line, entry_lines, none_line};
+ghost use Rattle.sst_commands.specs.Answer.{refusal_line};
 ghost use Rattle.sst_commands.specs.Shown.{ShowsText};
 ghost use Rattle.sst_commands.specs.Stop.{stop_line};
 ghost use Rattle.sst_commands.specs.Text.{letter_of, printed};

@@ -4,7 +4,8 @@ use Rattle.std.specs.Prelude.{not}
 use Rattle.std.specs.declared.cmp.Ordering.{Ordering}
 use Rattle.std.specs.declared.cmp.Ordering.TheVariants.{Less, Equal, Greater}
 use Rattle.std.specs.Ordering.{nat_cmp, is_lt, is_eq, ordering_reverse}
-use Rattle.std.specs.Cmp.Lexicographic.{slice_cmp, nat_list_cmp_total, nat_list_eq_equiv, same_text, texts_ties}
+use Rattle.std.specs.Cmp.Lexicographic.{slice_cmp, nat_list_cmp_total, nat_list_eq_equiv, same_text}
+use Rattle.std.specs.Cmp.Lexicographic.{texts_ties}
 use Rattle.std.proofs.lemmas.Cmp.{tied_itself}
 use Rattle.sst_entries.specs.Key.{same_key, key_lt}
 use Rattle.sst_entries.proofs.Booleans.{apart, is_false, not_true, not_false}
@@ -13,7 +14,8 @@ use Rattle.sst_entries.proofs.OrderLemmas.{lt_trans}
 abbrev pub KeyLe : List ℕ → List ℕ → Type 0
 KeyLe a b = key_lt b a ≡ false
 
-pub keys_apart : (a b : List ℕ) (r : Bool) → r ≡ not (same_key a b) → r ≡ true → same_key a b ≡ false
+pub keys_apart : (a b : List ℕ) (r : Bool) → r ≡ not (same_key a b) → r ≡ true
+    → same_key a b ≡ false
 keys_apart a b r e h = not_true (same_key a b) r e h
 
 pub keys_same : (a b : List ℕ) (r : Bool) → r ≡ not (same_key a b) → r ≡ false → same_key a b ≡ true
@@ -32,7 +34,8 @@ le_itself a = ap is_lt (tied_itself nat_list_cmp_total a)
 pub lt_other : (a b : List ℕ) → key_lt a b ≡ true → same_key b a ≡ false
 lt_other a b h = is_false (same_key b a) (λ same. apart (key_lt a b) h (subst (λ (k : List ℕ). key_lt a k ≡ false) (sym (same_is b a same)) (le_itself a)))
 
-flip_lt : (o : Ordering) → is_lt (ordering_reverse o) ≡ false → (is_eq o ≡ true → ⊥) → is_lt o ≡ true
+flip_lt : (o : Ordering) → is_lt (ordering_reverse o) ≡ false → (is_eq o ≡ true → ⊥)
+    → is_lt o ≡ true
 flip_lt Less h other = refl
 flip_lt Equal h other = absurd (other refl)
 flip_lt Greater h other = absurd cc

@@ -3,18 +3,22 @@ use Rattle.std.proofs.Common.{List, [], ◌∷◌, ◌++◌}
 use Rattle.std.specs.List.{AllByRecursion}
 
 module _ {X : Type 0} where
-  pub all_more : (P Q : X → Type 0) → ((x : X) → P x → Q x) → (xs : List X) → AllByRecursion P xs → AllByRecursion Q xs
+  pub all_more : (P Q : X → Type 0) → ((x : X) → P x → Q x) → (xs : List X) → AllByRecursion P xs
+      → AllByRecursion Q xs
   all_more P Q more [] h = tt
   all_more P Q more (x ∷ xs) h = (more x h.0, all_more P Q more xs h.1)
 
-  pub all_append : (P : X → Type 0) (xs ys : List X) → AllByRecursion P xs → AllByRecursion P ys → AllByRecursion P (xs ++ ys)
+  pub all_append : (P : X → Type 0) (xs ys : List X) → AllByRecursion P xs → AllByRecursion P ys
+      → AllByRecursion P (xs ++ ys)
   all_append P [] ys h k = k
   all_append P (x ∷ xs) ys h k = (h.0, all_append P xs ys h.1 k)
 
-  pub all_front : (P : X → Type 0) (xs ys : List X) → AllByRecursion P (xs ++ ys) → AllByRecursion P xs
+  pub all_front : (P : X → Type 0) (xs ys : List X) → AllByRecursion P (xs ++ ys)
+      → AllByRecursion P xs
   all_front P [] ys h = tt
   all_front P (x ∷ xs) ys h = (h.0, all_front P xs ys h.1)
 
-  pub all_behind : (P : X → Type 0) (xs ys : List X) → AllByRecursion P (xs ++ ys) → AllByRecursion P ys
+  pub all_behind : (P : X → Type 0) (xs ys : List X) → AllByRecursion P (xs ++ ys)
+      → AllByRecursion P ys
   all_behind P [] ys h = h
   all_behind P (x ∷ xs) ys h = all_behind P xs ys h.1

@@ -1,5 +1,6 @@
 -- The order of keys, and that of entries by key and number.
-use Rattle.std.proofs.Common.{◌≡◌, refl, sym, ◌∙◌, ap, subst, ℕ, zero, suc, ◌<◌, Bool, true, false, cond, List, [], ◌∷◌, length, get_or, arith, rules}
+use Rattle.std.proofs.Common.{◌≡◌, refl, sym, ◌∙◌, ap, subst, ℕ, zero, suc, ◌<◌, Bool, true, false}
+use Rattle.std.proofs.Common.{cond, List, [], ◌∷◌, length, get_or, arith, rules}
 use Rattle.std.specs.Prelude.{Option, Some, None}
 use Rattle.std.specs.declared.cmp.Ordering.{Ordering}
 use Rattle.std.specs.declared.cmp.Ordering.TheVariants.{Less, Equal, Greater}
@@ -40,18 +41,22 @@ lt_trans a b c p q = ap is_lt (nat_list_cmp_total.trans a b c (less_of (slice_cm
 
 -- ---- entries
 
-pub before_trans : (a b c : Entry) → is_before a b ≡ true → is_before b c ≡ true → is_before a c ≡ true
+pub before_trans : (a b c : Entry) → is_before a b ≡ true → is_before b c ≡ true
+    → is_before a c ≡ true
 before_trans a b c p q = ap is_lt (number_total.trans a b c (less_of (version_cmp a b) p) (less_of (version_cmp b c) q))
 
 -- what may stand before a strict list comes before each of it
-pub head_before : (x : Entry) (es : List Entry) (j : ℕ) (d : Entry) → IsStrictAfter (Some x) es → j < length es → is_before x (get_or es j d) ≡ true
+pub head_before : (x : Entry) (es : List Entry) (j : ℕ) (d : Entry) → IsStrictAfter (Some x) es
+    → j < length es → is_before x (get_or es j d) ≡ true
 unfolding IsStrictAfter
 head_before x [] j d h lt = absurd (omega (arith, lt))
 head_before x (y ∷ es) zero d h lt = h.0
 head_before x (y ∷ es) (suc j) d h lt = before_trans x y (get_or es j d) h.0 (head_before y es j d h.1 (omega (arith, lt)))
 
 -- of two places of a strict list the earlier has what comes before
-pub strict_at : (last : Option Entry) (es : List Entry) (i j : ℕ) (d : Entry) → IsStrictAfter last es → i < j → j < length es → is_before (get_or es i d) (get_or es j d) ≡ true
+pub strict_at : (last : Option Entry) (es : List Entry) (i j : ℕ) (d : Entry)
+    → IsStrictAfter last es → i < j → j < length es
+    → is_before (get_or es i d) (get_or es j d) ≡ true
 unfolding IsStrictAfter
 strict_at last [] i j d h lt le = absurd (omega (arith, le))
 strict_at last (x ∷ es) i zero d h lt le = absurd (omega (arith, lt))

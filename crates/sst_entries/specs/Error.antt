@@ -1,7 +1,20 @@
 -- Refusals: their numbers, and what a call that may want memory promises.
 use Rattle.std.specs.Prelude.{◌≡◌, ℕ, Bool, true, false, Option, Some, None, Result, Ok, Err}
 use Rattle.sst_entries.specs.declared.error.Error.{Error}
-use Rattle.sst_entries.specs.declared.error.Error.TheVariants.{OutOfMemory, Truncated, InvalidHeader, InvalidTag, ChecksumMismatch, InvalidBlock, KeyTooLong, ValueTooLong, BlockTooLarge, SectionTooLarge, InvalidTrailer, MissingSection, MetaKeyMissing, InvalidMetaValue, UnsupportedTableVersion, UnsupportedHashType, UnsupportedChecksumType, UnsupportedIndexInterval, UnsupportedCompression, GlobalSeqNoTooLarge, SeqNoOverflow, TableIdsSpent, WriterFailed, Source}
+use Rattle.sst_entries.specs.declared.error.Error.TheVariants.{OutOfMemory, Truncated}
+use Rattle.sst_entries.specs.declared.error.Error.TheVariants.{InvalidHeader, InvalidTag}
+use Rattle.sst_entries.specs.declared.error.Error.TheVariants.{ChecksumMismatch, InvalidBlock}
+use Rattle.sst_entries.specs.declared.error.Error.TheVariants.{KeyTooLong, ValueTooLong}
+use Rattle.sst_entries.specs.declared.error.Error.TheVariants.{BlockTooLarge, SectionTooLarge}
+use Rattle.sst_entries.specs.declared.error.Error.TheVariants.{InvalidTrailer, MissingSection}
+use Rattle.sst_entries.specs.declared.error.Error.TheVariants.{MetaKeyMissing, InvalidMetaValue}
+use Rattle.sst_entries.specs.declared.error.Error.TheVariants.{UnsupportedTableVersion}
+use Rattle.sst_entries.specs.declared.error.Error.TheVariants.{UnsupportedHashType}
+use Rattle.sst_entries.specs.declared.error.Error.TheVariants.{UnsupportedChecksumType}
+use Rattle.sst_entries.specs.declared.error.Error.TheVariants.{UnsupportedIndexInterval}
+use Rattle.sst_entries.specs.declared.error.Error.TheVariants.{UnsupportedCompression}
+use Rattle.sst_entries.specs.declared.error.Error.TheVariants.{GlobalSeqNoTooLarge, SeqNoOverflow}
+use Rattle.sst_entries.specs.declared.error.Error.TheVariants.{TableIdsSpent, WriterFailed, Source}
 
 abbrev pub number_of : Error → ℕ
 number_of OutOfMemory = 1
@@ -58,6 +71,7 @@ abbrev pub Refuses : {X : Type 0} → Result X Error → Option Error → Type 0
 Refuses (Ok x) told = told ≡ None
 Refuses (Err e) told = told ≡ Some e
 
--- a fault that needs no memory to be found comes before any want of memory: where it is told, it is the refusal
+-- a fault that needs no memory to be found comes before any want of memory: where it is told, it is
+-- the refusal
 abbrev pub FaultsFirst : {X : Type 0} → Result X Error → Option Error → Type 0
 FaultsFirst result told = (e : Error) → told ≡ Some e → Refuses result (Some e)

@@ -13,4 +13,6 @@ abbrev pub key_lt : List ℕ → List ℕ → Bool
 key_lt a b = is_lt (slice_cmp nat_cmp a b)
 
 abbrev pub key_cmp : {A : Type 0} → InternalKey A → InternalKey A → Ordering
-key_cmp {A = A} = then_cmp (on (λ (k : InternalKey A). k.user_key) (slice_cmp nat_cmp)) (then_cmp (flip_args (on (λ (k : InternalKey A). k.seqno) nat_cmp)) (on (λ (k : InternalKey A). tag_of k.value_type) nat_cmp))
+key_cmp {A = A} = then_cmp (on (λ (k : InternalKey A). k.user_key) (slice_cmp nat_cmp))
+    (then_cmp (flip_args (on (λ (k : InternalKey A). k.seqno) nat_cmp))
+    (on (λ (k : InternalKey A). tag_of k.value_type) nat_cmp))

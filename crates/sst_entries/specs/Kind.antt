@@ -1,7 +1,8 @@
 -- Kinds of entries and their tags.
 use Rattle.std.specs.Prelude.{ℕ, ◌==◌, if◌then◌else◌, Bool, true, false, Option, Some, None}
 use Rattle.sst_entries.specs.declared.value_type.ValueType.{ValueType}
-use Rattle.sst_entries.specs.declared.value_type.ValueType.TheVariants.{Value, Tombstone, WeakTombstone, Indirection}
+use Rattle.sst_entries.specs.declared.value_type.ValueType.TheVariants.{Value, Tombstone}
+use Rattle.sst_entries.specs.declared.value_type.ValueType.TheVariants.{WeakTombstone, Indirection}
 
 abbrev pub tag_of : ValueType → ℕ
 tag_of Value = 0
@@ -11,7 +12,10 @@ tag_of Indirection = 4
 
 -- the kind of a tag, where there is one
 abbrev pub kind_of : ℕ → Option ValueType
-kind_of n = if n == 0 then Some Value else (if n == 1 then Some Tombstone else (if n == 2 then Some WeakTombstone else (if n == 4 then Some Indirection else None)))
+kind_of n = if n == 0 then Some Value
+    else (if n == 1 then Some Tombstone
+    else (if n == 2 then Some WeakTombstone
+    else (if n == 4 then Some Indirection else None)))
 
 abbrev pub is_tombstone_kind : ValueType → Bool
 is_tombstone_kind Value = false

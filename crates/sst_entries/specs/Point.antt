@@ -1,5 +1,6 @@
 -- A point read, and the entries within bounds.
-use Rattle.std.specs.Prelude.{ℕ, Bool, true, ◌&&◌, not, nat_lt, List, [], length, Option, find, filter}
+use Rattle.std.specs.Prelude.{ℕ, Bool, true, ◌&&◌, not, nat_lt, List, [], length, Option, find}
+use Rattle.std.specs.Prelude.{filter}
 use Rattle.std.specs.declared.ops.Bound.{Bound}
 use Rattle.std.specs.declared.ops.Bound.TheVariants.{Included, Excluded, Unbounded}
 use Rattle.sst_entries.specs.declared.value_type.ValueType.TheVariants.{Value}

@@ -7,7 +7,8 @@ use Rattle.sst_entries.specs.Entry.{Entry}
 
 -- by key and number alone
 abbrev pub version_cmp : Entry → Entry → Ordering
-version_cmp = then_cmp (on (λ (e : Entry). e.user_key) (slice_cmp nat_cmp)) (flip_args (on (λ (e : Entry). e.seqno) nat_cmp))
+version_cmp = then_cmp (on (λ (e : Entry). e.user_key) (slice_cmp nat_cmp))
+    (flip_args (on (λ (e : Entry). e.seqno) nat_cmp))
 
 abbrev pub is_before : Entry → Entry → Bool
 is_before a b = is_lt (version_cmp a b)

@@ -44,7 +44,8 @@ impl<A: Allocator> Ord for InternalKey<A> {
 impl<A: Allocator> PartialOrd for InternalKey<A> {
     ghost partial_cmp = { as_partial_cmp key_cmp };
 
-    ghost laws = { partial_order_from_own_ties (Prim.search (comparing, rules) depth 9) (Prim.search (comparing, rules) depth 9) };
+    ghost laws = { partial_order_from_own_ties (Prim.search (comparing, rules) depth 9)
+        (Prim.search (comparing, rules) depth 9) };
 
     fn partial_cmp(&self, other: &InternalKey<A>) -> Option<Ordering> {
         Some(self.cmp(other))

@@ -1,5 +1,5 @@
-//! The entries of sorted tables: shared byte slices, keys, entries and their order, errors, and what the two ends of a list of
-//! entries answer.
+//! The entries of sorted tables: shared byte slices, keys, entries and their order, errors, and
+//! what the two ends of a list of entries answer.
 #![tactic(auto)]
 
 mod error;

@@ -7,7 +7,8 @@ use crate::{InternalValue, SeqNo};
 use std::alloc::Allocator;
 use std::cmp::Ordering;
 
-/// Compares two versions of keys: by key upward, then by number downward. Kind and value are not looked at.
+/// Compares two versions of keys: by key upward, then by number downward. Kind and value are not
+/// looked at.
 #[inline]
 pub fn compare_versions(key: &[u8], seqno: SeqNo, other_key: &[u8], other_seqno: SeqNo) -> Ordering
     ensures { result ≡ version_cmp (read_place key.now seqno)
@@ -16,7 +17,8 @@ pub fn compare_versions(key: &[u8], seqno: SeqNo, other_key: &[u8], other_seqno:
     key.cmp(other_key).then(other_seqno.cmp(&seqno))
 }
 
-/// Whether each entry comes before the next by key and number alone: what a block or a table asks of its entries.
+/// Whether each entry comes before the next by key and number alone: what a block or a table asks
+/// of its entries.
 pub fn are_strict<A: Allocator>(items: &[InternalValue<A>]) -> bool
     ensures test { result ≡ is_strict_after None items.now }
     ensures means { IsTrue result ↔ IsStrict items.now }

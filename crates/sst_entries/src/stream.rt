@@ -1,6 +1,7 @@
 //! Streams of results that are taken from both ends.
 ghost use Rattle.std.specs.Prelude.{Bool, IfOk, OnErr};
-ghost use Rattle.sst_entries.specs.Stream.{AnswersOf, CanDeal, Deals, DealsInFront, LedBy, Runs, Steps, nowhere, answer_stops};
+ghost use Rattle.sst_entries.specs.Stream.{AnswersOf, CanDeal, Deals, DealsInFront, LedBy, Runs};
+ghost use Rattle.sst_entries.specs.Stream.{Steps, nowhere, answer_stops};
 ghost use Rattle.sst_entries.specs.declared.error.Error.{Error};
 
 use crate::{Error, InternalValue};
@@ -70,8 +71,9 @@ pub fn source_of<X: Drop, A: Allocator>(
     items.into_iter()
 }
 
-/// A law for sources of both ends that are taken from the front alone: what such a source deals from both ends, it deals from
-/// the front, and where both ends may be asked, the front may be. The call does nothing.
+/// A law for sources of both ends that are taken from the front alone: what such a source deals
+/// from both ends, it deals from the front, and where both ends may be asked, the front may be. The
+/// call does nothing.
 pub fn from_the_front<I: DoubleEndedIterator<Item = Result<X, Error>>, X>(source: &I)
     ensures deals { DealsInFront I.next_gives I.next_back_gives source.now }
     ensures can { CanDeal I.next_gives I.next_back_gives I.can_next I.can_next_back source.now →

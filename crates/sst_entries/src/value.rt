@@ -24,9 +24,17 @@ impl<A: Allocator> Model for InternalValue<A> {
 
     ghost Value = { Entry };
 
-    ghost view = { λ v. record { user_key = v.key.user_key; seqno = v.key.seqno; kind = v.key.value_type; value = v.value } };
+    ghost view = { λ v. record {
+      user_key = v.key.user_key;
+      seqno = v.key.seqno;
+      kind = v.key.value_type;
+      value = v.value;
+    } };
 
-    ghost inverse = { λ e. record { key = record { user_key = e.user_key; seqno = e.seqno; value_type = e.kind }; value = e.value } };
+    ghost inverse = { λ e. record {
+      key = record { user_key = e.user_key; seqno = e.seqno; value_type = e.kind };
+      value = e.value;
+    } };
 }
 
 impl<A: Allocator> InternalValue<A> {
@@ -56,7 +64,8 @@ impl<A: Allocator> InternalValue<A> {
         self.key.value_type.is_tombstone()
     }
 
-    /// Whether the entry may stand behind another in strict order, or at the front where there is none.
+    /// Whether the entry may stand behind another in strict order, or at the front where there is
+    /// none.
     pub fn may_follow(&self, last: Option<&InternalValue<A>>) -> bool
         ensures { result ≡ may_follow (option_map (λ e. e.now) last.entry) self.now }
     {

@@ -1,5 +1,6 @@
 -- What compacting the runs comes to, and that they may be compacted.
-use Rattle.std.proofs.Common.{◌≡◌, refl, sym, ◌∙◌, ap, subst, inl, inr, ◌⊎◌, ℕ, ◌<◌, Bool, true, false, List, [], ◌∷◌, length, arith}
+use Rattle.std.proofs.Common.{◌≡◌, refl, sym, ◌∙◌, ap, subst, inl, inr, ◌⊎◌, ℕ, ◌<◌, Bool, true}
+use Rattle.std.proofs.Common.{false, List, [], ◌∷◌, length, arith}
 use Rattle.std.specs.Prelude.{◌≢◌, Option, Some, None, Result, Ok, Err}
 use Rattle.std.specs.List.{AllByRecursion}
 use Rattle.std.specs.Option.{option_map}
@@ -23,7 +24,8 @@ use Rattle.lsm_runs.proofs.OneList.{one_way}
 use Rattle.sst_commands.specs.declared.stop.Failure.{Failure}
 use Rattle.sst_commands.specs.declared.stop.Failure.TheVariants.{Refused}
 use Rattle.sst_script.specs.Runs.{HasRuns, Run, repeats, run_tables, union}
-use Rattle.sst_script.specs.Script.{FailsToCompact, CompactsRuns, Compacts, kept_by, kept_fault, store, target_size}
+use Rattle.sst_script.specs.Script.{FailsToCompact, CompactsRuns, Compacts, kept_by, kept_fault}
+use Rattle.sst_script.specs.Script.{store, target_size}
 use Rattle.lsm_compactions.proofs.CompactedBack.{lift_zero}
 use Rattle.sst_script.proofs.PendingLemmas.{nothing_pending}
 use Rattle.sst_script.proofs.RunLemmas.{held, lists_of, union_same}
@@ -36,7 +38,8 @@ abbrev pub EachHasEntries : List Run → Type 0
 EachHasEntries rs = AllByRecursion HaveEntries (lists_of rs)
 
 -- runs of lists that have entries, in which together no key has one number twice
-pub able_from : (rs : List Run) (ts : List (List OpenTable)) → run_tables rs ≡ ts → EachHasEntries rs → IsWritable (union rs) → AreCompactable ts
+pub able_from : (rs : List Run) (ts : List (List OpenTable)) → run_tables rs ≡ ts
+    → EachHasEntries rs → IsWritable (union rs) → AreCompactable ts
 able_from rs ts same some writable = record {
   lists = lists_of rs;
   hold = held rs ts same;
@@ -47,7 +50,8 @@ able_from rs ts same some writable = record {
 pub able_none : AreCompactable []
 able_none = able_from [] [] refl tt nothing_pending
 
-module _ (rs : List Run) (ts : List (List OpenTable)) (same : run_tables rs ≡ ts) (able : AreCompactable ts) where
+module _ (rs : List Run) (ts : List (List OpenTable)) (same : run_tables rs ≡ ts)
+    (able : AreCompactable ts) where
   lists_are : able.lists ≡ lists_of rs
   lists_are = one_way ts able.lists (lists_of rs) able.hold (held rs ts same)
 
@@ -58,18 +62,22 @@ module _ (rs : List Run) (ts : List (List OpenTable)) (same : run_tables rs ≡ 
   able_writable = subst IsWritable (ap union_in lists_are ∙ union_same rs) able.writable
 
 -- some tables that hold lists
-some_tables : (ts : List OpenTable) (ls : List (List Entry)) → HoldLists ts ls → 0 < length ls → ts ≢ []
+some_tables : (ts : List OpenTable) (ls : List (List Entry)) → HoldLists ts ls → 0 < length ls
+    → ts ≢ []
 some_tables [] [] h some = absurd (omega (arith, some))
 some_tables [] (es ∷ ls) h some = absurd h
 some_tables (t ∷ ts) ls h some = λ e. absurd cc
 
-each_some : (ts : List (List OpenTable)) (lists : List (List (List Entry))) → RunsHoldLists ts lists → AllByRecursion HaveEntries lists → AllByRecursion (λ (run : List OpenTable). run ≢ []) ts
+each_some : (ts : List (List OpenTable)) (lists : List (List (List Entry))) → RunsHoldLists ts lists
+    → AllByRecursion HaveEntries lists → AllByRecursion (λ (run : List OpenTable). run ≢ []) ts
 each_some [] lists h some = tt
 each_some (run ∷ ts) [] h some = absurd h
 each_some (run ∷ ts) (ls ∷ lists) h some = (some_tables run ls h.0.1 some.0.0, each_some ts lists h.1 some.1)
 
 -- runs of tables that hold lists
-pub runs_of : (ts : List (List OpenTable)) (lists : List (List (List Entry))) → RunsHoldLists ts lists → AllByRecursion (λ (run : List OpenTable). run ≢ []) ts → (rs : List Run) × (run_tables rs ≡ ts)
+pub runs_of : (ts : List (List OpenTable)) (lists : List (List (List Entry)))
+    → RunsHoldLists ts lists → AllByRecursion (λ (run : List OpenTable). run ≢ []) ts
+    → (rs : List Run) × (run_tables rs ≡ ts)
 runs_of [] lists h some = ([], refl)
 runs_of (run ∷ ts) [] h some = absurd h
 runs_of (run ∷ ts) (ls ∷ lists) h some =
@@ -81,11 +89,14 @@ runs_of (run ∷ ts) (ls ∷ lists) h some =
     } in
     (one ∷ rest.0, ap (λ (us : List (List OpenTable)). run ∷ us) rest.1)
 
-pub able_runs : (ts : List (List OpenTable)) → AreCompactable ts → (rs : List Run) × (run_tables rs ≡ ts)
+pub able_runs : (ts : List (List OpenTable)) → AreCompactable ts
+    → (rs : List Run) × (run_tables rs ≡ ts)
 able_runs ts able = runs_of ts able.lists able.hold (each_some ts able.lists able.hold able.some)
 
 -- a run that was written of a list of which they have nothing
-pub able_more : (rs : List Run) (ts new : List (List OpenTable)) (label : Label) (es : List Entry) (tables : List OpenTable) → run_tables rs ≡ ts → AreCompactable ts → new ≡ tables ∷ ts → IsWritable es → repeats rs es ≡ false
+pub able_more : (rs : List Run) (ts new : List (List OpenTable)) (label : Label) (es : List Entry)
+    (tables : List OpenTable) → run_tables rs ≡ ts → AreCompactable ts → new ≡ tables ∷ ts
+    → IsWritable es → repeats rs es ≡ false
     → IsRunOfList es 0 tables → AreCutOf label target_size es 0 tables → AreCompactable new
 able_more rs ts new label es tables same able new_is writable fresh is cut =
     let run : Run = record { list = es; tables = tables; is = is } in
@@ -96,35 +107,44 @@ able_more rs ts new label es tables same able new_is writable fresh is cut =
 -- ---- what compacting them comes to
 
 -- what holds at one moment of some entries
-pub moved : (P : ℕ → List Entry → Type 0) (m n : ℕ) (es xs : List Entry) → m ≡ n → es ≡ xs → P m es → P n xs
+pub moved : (P : ℕ → List Entry → Type 0) (m n : ℕ) (es xs : List Entry) → m ≡ n → es ≡ xs → P m es
+    → P n xs
 moved P m n es xs moment same h = subst (P n) same (subst (λ (k : ℕ). P k es) moment h)
 
 -- what is kept of their tables' lists
-pub kept_is : (watermark : ℕ) (evict zero : Bool) (rs : List Run) → kept_in (rules_by watermark evict zero) (lists_of rs) ≡ kept_by watermark evict zero rs
+pub kept_is : (watermark : ℕ) (evict zero : Bool) (rs : List Run)
+    → kept_in (rules_by watermark evict zero) (lists_of rs) ≡ kept_by watermark evict zero rs
 kept_is watermark evict zero rs = ap (λ (es : List Entry). kept (rules_by watermark evict zero) (unfiltered es)) (union_same rs)
 
-module _ (es left : List Entry) (next : Option ℕ) (rs : List Run) (ts : List (List OpenTable)) (same : run_tables rs ≡ ts) where
+module _ (es left : List Entry) (next : Option ℕ) (rs : List Run) (ts : List (List OpenTable))
+    (same : run_tables rs ≡ ts) where
   -- it is refused, and the runs are what they were
   abbrev MayFail : Failure → Type 0
   MayFail f = (f ≡ Refused OutOfMemory) ⊎ (kept_fault (store es rs next) left ≡ Some f)
 
-  pub not_compacted : (r : Result ℕ Failure) (f : Failure) → IsErrAnd r (λ y. y ≡ f) → MayFail f → HasRuns ts (λ after. CompactsRuns (store es rs next) left r (store es after next))
+  pub not_compacted : (r : Result ℕ Failure) (f : Failure) → IsErrAnd r (λ y. y ≡ f) → MayFail f
+      → HasRuns ts (λ after. CompactsRuns (store es rs next) left r (store es after next))
   not_compacted (Ok count) f is may = absurd is
   not_compacted (Err y) f is may = (rs, same, subst (λ (x : Failure). FailsToCompact (store es rs next) left x (store es rs next)) (sym is) (may, refl))
 
   pub memory_fails : MayFail (Refused OutOfMemory)
   memory_fails = inl refl
 
-  fails_by : (e : Error) (b : Bool) → is_memory e ≡ b → (is_memory e ≡ false → tables_fault next target_size 0 left ≡ Some e) → MayFail (Refused e)
+  fails_by : (e : Error) (b : Bool) → is_memory e ≡ b
+      → (is_memory e ≡ false → tables_fault next target_size 0 left ≡ Some e) → MayFail (Refused e)
   fails_by e true memory fault = inl (ap (λ (x : Error). Refused x) (memory_is e memory))
   fails_by e false memory fault = inr (ap (option_map Refused) (fault memory))
 
-  pub compaction_fails : (e : Error) → (is_memory e ≡ false → tables_fault next target_size 0 left ≡ Some e) → MayFail (Refused e)
+  pub compaction_fails : (e : Error)
+      → (is_memory e ≡ false → tables_fault next target_size 0 left ≡ Some e) → MayFail (Refused e)
   compaction_fails e fault = fails_by e _ refl fault
 
   -- it was written
-  pub compacted : (new : List (List OpenTable)) (following : Option ℕ) (tables : List OpenTable) (count : ℕ) → new ≡ tables ∷ [] → count ≡ length tables → tables_fault next target_size 0 left ≡ None
-      → following ≡ ids_behind next target_size (length tables) → IsRunOfList left 0 tables → AreCutOf (run_label next target_size 0) target_size left 0 tables
+  pub compacted : (new : List (List OpenTable)) (following : Option ℕ) (tables : List OpenTable)
+      (count : ℕ) → new ≡ tables ∷ [] → count ≡ length tables
+      → tables_fault next target_size 0 left ≡ None
+      → following ≡ ids_behind next target_size (length tables) → IsRunOfList left 0 tables
+      → AreCutOf (run_label next target_size 0) target_size left 0 tables
       → HasRuns new (λ after. Compacts (store es rs next) left count (store es after following))
   compacted new following tables count new_is count_is written behind is cut =
       let run : Run = record { list = left; tables = tables; is = is } in
@@ -135,7 +155,9 @@ module _ (es left : List Entry) (next : Option ℕ) (rs : List Run) (ts : List (
       )
 
   -- nothing was kept
-  pub compacted_away : (new : List (List OpenTable)) (following : Option ℕ) (count : ℕ) → new ≡ [] → count ≡ 0 → tables_fault next target_size 0 left ≡ None → following ≡ ids_behind next target_size 0 → left ≡ []
+  pub compacted_away : (new : List (List OpenTable)) (following : Option ℕ) (count : ℕ) → new ≡ []
+      → count ≡ 0 → tables_fault next target_size 0 left ≡ None
+      → following ≡ ids_behind next target_size 0 → left ≡ []
       → HasRuns new (λ after. Compacts (store es rs next) left count (store es after following))
   compacted_away new following count new_is count_is written behind none =
       let ids : following ≡ ids_behind next target_size count = behind ∙ ap (ids_behind next target_size) (sym count_is) in (

@@ -1,5 +1,6 @@
 -- Whether a sorted list has an entry of a key and number.
-use Rattle.std.proofs.Common.{◌≡◌, refl, sym, ◌∙◌, ap, ℕ, ◌+◌, ◌<◌, ◌≤◌, Bool, true, false, cond, List, [], ◌∷◌, arith, ltb-true, ltb-false}
+use Rattle.std.proofs.Common.{◌≡◌, refl, sym, ◌∙◌, ap, ℕ, ◌+◌, ◌<◌, ◌≤◌, Bool, true, false, cond}
+use Rattle.std.proofs.Common.{List, [], ◌∷◌, arith, ltb-true, ltb-false}
 use Rattle.std.specs.Prelude.{Option, Some, None, ◌&&◌, ◌||◌, ◌==◌, nat_lt, find}
 use Rattle.std.specs.List.{AllByRecursion}
 use Rattle.std.specs.declared.cmp.Ordering.{Ordering}
@@ -23,7 +24,8 @@ abbrev pub has_number : ℕ → Option Entry → Bool
 has_number n None = false
 has_number n (Some e) = e.seqno == n
 
-not_above : (m n : ℕ) (b c : Bool) → nat_lt m n ≡ b → (m == n) ≡ c → is_gt (cond b Less (cond c Equal Greater)) ≡ false → m ≤ n
+not_above : (m n : ℕ) (b c : Bool) → nat_lt m n ≡ b → (m == n) ≡ c
+    → is_gt (cond b Less (cond c Equal Greater)) ≡ false → m ≤ n
 not_above m n true c p q h = omega (arith, ltb-true _ _ p)
 not_above m n false true p q h = omega (arith, eqb-true _ _ q)
 not_above m n false false p q h = absurd cc
@@ -40,12 +42,14 @@ number_falls a b most same =
 abbrev is_at : List ℕ → ℕ → Entry → Bool
 is_at key n e = same_key e.user_key key && (e.seqno == n)
 
-other_number : (key : List ℕ) (n : ℕ) (e : Entry) (b : Bool) → same_key e.user_key key ≡ b → (b ≡ true → e.seqno < n) → (b && (e.seqno == n)) ≡ false
+other_number : (key : List ℕ) (n : ℕ) (e : Entry) (b : Bool) → same_key e.user_key key ≡ b
+    → (b ≡ true → e.seqno < n) → (b && (e.seqno == n)) ≡ false
 other_number key n e true same below = let less : e.seqno < n = below refl in grind (less, arith, nat_tests)
 other_number key n e false same below = refl
 
 -- behind an entry of a key with a smaller number, no entry of that key has the number
-none_behind : (key : List ℕ) (n : ℕ) (x : Entry) (es : List Entry) → x.user_key ≡ key → x.seqno < n → AllByRecursion (AtMost x) es → has_entry es key n ≡ false
+none_behind : (key : List ℕ) (n : ℕ) (x : Entry) (es : List Entry) → x.user_key ≡ key → x.seqno < n
+    → AllByRecursion (AtMost x) es → has_entry es key n ≡ false
 none_behind key n x [] is low h = refl
 none_behind key n x (e ∷ es) is low h =
     let below : same_key e.user_key key ≡ true → e.seqno < n = λ same. omega (arith, low, number_falls x e h.0 (same_is e.user_key key same ∙ sym is)) in
@@ -55,10 +59,12 @@ none_behind key n x (e ∷ es) is low h =
 abbrev found_in : List ℕ → ℕ → List Entry → Option Entry
 found_in key n es = find (is_hit key (n + 1)) es
 
-found_by : (key : List ℕ) (n : ℕ) (e : Entry) (es : List Entry) (same low is : Bool) → same_key e.user_key key ≡ same → nat_lt e.seqno (n + 1) ≡ low → (e.seqno == n) ≡ is
+found_by : (key : List ℕ) (n : ℕ) (e : Entry) (es : List Entry) (same low is : Bool)
+    → same_key e.user_key key ≡ same → nat_lt e.seqno (n + 1) ≡ low → (e.seqno == n) ≡ is
     → (e.user_key ≡ key → e.seqno < n → has_entry es key n ≡ false)
     → has_entry es key n ≡ has_number n (found_in key n es)
-    → ((same && is) || has_entry es key n) ≡ has_number n (cond (same && low) (Some e) (found_in key n es))
+    → ((same && is) || has_entry es key n)
+    ≡ has_number n (cond (same && low) (Some e) (found_in key n es))
 found_by key n e es false low is p q r none rest = rest
 found_by key n e es true true true p q r none rest = sym r
 found_by key n e es true true false p q r none rest =
@@ -68,7 +74,8 @@ found_by key n e es true false true p q r none rest = absurd (omega (arith, ltb-
 found_by key n e es true false false p q r none rest = rest
 
 -- the entry of a key and number is the first of the key that is numbered below the next number
-pub has_entry_found : (es : List Entry) (key : List ℕ) (n : ℕ) → Ascends es → has_entry es key n ≡ has_number n (point es key (n + 1))
+pub has_entry_found : (es : List Entry) (key : List ℕ) (n : ℕ) → Ascends es
+    → has_entry es key n ≡ has_number n (point es key (n + 1))
 unfolding point
 has_entry_found [] key n h = refl
 has_entry_found (e ∷ es) key n h =

@@ -9,7 +9,8 @@ use Rattle.std.proofs.lemmas.List.Sorted.{All-permutation}
 use Rattle.sst_entries.specs.declared.error.Error.TheVariants.{OutOfMemory}
 use Rattle.sst_entries.specs.Entry.{Entry}
 use Rattle.sst_entries.proofs.Lists.{all_append, all_behind, all_front, all_more}
-use Rattle.lsm_ranges.specs.Packing.{AreInOrder, ArePacked, IsLeastSize, SameHolders, SameTables, tables_of}
+use Rattle.lsm_ranges.specs.Packing.{AreInOrder, ArePacked, IsLeastSize, SameHolders, SameTables}
+use Rattle.lsm_ranges.specs.Packing.{tables_of}
 use Rattle.lsm_readers.specs.Table.{OpenTable}
 use Rattle.lsm_compactions.specs.Compacted.{AreCompactable, HaveEntries}
 use Rattle.lsm_compactions.specs.Packed.{HoldUnion}
@@ -29,10 +30,12 @@ use Rattle.sst_script.proofs.RunLemmas.{held, lists_of, union_same}
 
 -- ---- packed runs
 
-pub in_order : (rs : List Run) (ts : List (List OpenTable)) → run_tables rs ≡ ts → AreInOrder range_of ts
+pub in_order : (rs : List Run) (ts : List (List OpenTable)) → run_tables rs ≡ ts
+    → AreInOrder range_of ts
 in_order rs ts same = runs_in_order ts (lists_of rs) (held rs ts same)
 
-module _ (rs : List Run) (ts packed : List (List OpenTable)) (same : run_tables rs ≡ ts) (hold : HoldUnion packed (union_in (lists_of rs))) (ordered : ArePacked range_of packed) where
+module _ (rs : List Run) (ts packed : List (List OpenTable)) (same : run_tables rs ≡ ts)
+    (hold : HoldUnion packed (union_in (lists_of rs))) (ordered : ArePacked range_of packed) where
   some : AllByRecursion (λ (run : List OpenTable). run ≢ []) packed
   some = all_more _ _ (λ run h. h.1) packed ordered
 
@@ -46,7 +49,9 @@ module _ (rs : List Run) (ts packed : List (List OpenTable)) (same : run_tables 
   same_union = sym (union_same made.0) ∙ ap union_in (sym lists_are) ∙ hold.union ∙ union_same rs
 
   -- they stand in the place of the runs
-  pub packed_runs : (es : List Entry) (next : Option ℕ) (count : ℕ) → count ≡ length packed → SameTables ts packed → SameHolders range_of ts packed → IsLeastSize range_of ts (length packed)
+  pub packed_runs : (es : List Entry) (next : Option ℕ) (count : ℕ) → count ≡ length packed
+      → SameTables ts packed → SameHolders range_of ts packed
+      → IsLeastSize range_of ts (length packed)
       → HasRuns packed (λ after. Packs (store es rs next) count (store es after next))
   packed_runs es next count count_is tables holders least =
       let many : length packed ≡ length made.0 = sym (ap length made.1) ∙ length-map made.0 (λ (r : Run). r.tables) in
@@ -62,7 +67,9 @@ module _ (rs : List Run) (ts packed : List (List OpenTable)) (same : run_tables 
       (made.0, made.1, (count_is ∙ many, are, refl))
 
 -- memory is wanted, and the runs are what they were
-pub not_packed : (r : Result ℕ Failure) (f : Failure) (rs : List Run) (ts : List (List OpenTable)) (es : List Entry) (next : Option ℕ) → run_tables rs ≡ ts → IsErrAnd r (λ y. y ≡ f) → f ≡ Refused OutOfMemory
+pub not_packed : (r : Result ℕ Failure) (f : Failure) (rs : List Run) (ts : List (List OpenTable))
+    (es : List Entry) (next : Option ℕ) → run_tables rs ≡ ts → IsErrAnd r (λ y. y ≡ f)
+    → f ≡ Refused OutOfMemory
     → HasRuns ts (λ after. PacksRuns (store es rs next) r (store es after next))
 not_packed (Ok count) f rs ts es next same is memory = absurd is
 not_packed (Err y) f rs ts es next same is memory = (rs, same, (is ∙ memory, refl))

@@ -1,5 +1,6 @@
 -- Lists that a table can be written of.
-use Rattle.std.proofs.Common.{◌≡◌, refl, sym, ◌∙◌, ap, subst, ℕ, ◌+◌, ◌-◌, ◌^◌, ◌<◌, Bool, true, false, IsTrue, List, [], ◌∷◌, ◌++◌, arith, ltb, ltb-true, le-ltb}
+use Rattle.std.proofs.Common.{◌≡◌, refl, sym, ◌∙◌, ap, subst, ℕ, ◌+◌, ◌-◌, ◌^◌, ◌<◌, Bool, true}
+use Rattle.std.proofs.Common.{false, IsTrue, List, [], ◌∷◌, ◌++◌, arith, ltb, ltb-true, le-ltb}
 use Rattle.std.specs.Prelude.{Option, Some, None, IfOk, IfSome, MatchOption, Result, nat_lt}
 use Rattle.std.specs.List.{AllByRecursion}
 use Rattle.std.specs.Option.{option_or}
@@ -22,7 +23,8 @@ unfolding IsStrictAfter
 nothing_pending = record { strict = tt; numbered = tt }
 
 -- by key and number an entry may follow where another of that key and number may
-same_place : (last : Option Entry) (e : Entry) → may_follow last (entry e.user_key [] e.seqno Value) ≡ may_follow last e
+same_place : (last : Option Entry) (e : Entry)
+    → may_follow last (entry e.user_key [] e.seqno Value) ≡ may_follow last e
 same_place None e = refl
 same_place (Some last) e = refl
 
@@ -31,7 +33,8 @@ true_is true h = refl
 true_is false h = absurd cc
 
 -- one more entry that follows
-pub pending_more : (es : List Entry) (e : Entry) → IsWritable es → IsTrue (may_be_written es e.user_key e.seqno) → IsWritable (es ++ e ∷ [])
+pub pending_more : (es : List Entry) (e : Entry) → IsWritable es
+    → IsTrue (may_be_written es e.user_key e.seqno) → IsWritable (es ++ e ∷ [])
 pending_more es e p f =
     let both = and_parts (nat_lt e.seqno (2 ^ 64 - 1)) (may_follow (last_of None es) (entry e.user_key [] e.seqno Value)) (true_is _ f) in
     record {
@@ -40,7 +43,8 @@ pending_more es e p f =
     }
 
 -- the highest number fits
-highest_below : (es : List Entry) → AllByRecursion (λ (e : Entry). e.seqno < 2 ^ 64 - 1) es → highest_seqno es < 2 ^ 64 - 1
+highest_below : (es : List Entry) → AllByRecursion (λ (e : Entry). e.seqno < 2 ^ 64 - 1) es
+    → highest_seqno es < 2 ^ 64 - 1
 unfolding highest_seqno
 highest_below [] h = omega arith
 highest_below (e ∷ es) h = omega (arith, h.0, highest_below es h.1)
@@ -55,11 +59,13 @@ or_none None = refl
 or_none (Some e) = refl
 
 -- with no global number, what a run refuses is what writing its tables refuses
-refusal_is : (ids : Option ℕ) (target moment : ℕ) (es : List Entry) → IsWritable es → chain_fault ids target moment es 0 ≡ tables_fault ids target moment es
+refusal_is : (ids : Option ℕ) (target moment : ℕ) (es : List Entry) → IsWritable es
+    → chain_fault ids target moment es 0 ≡ tables_fault ids target moment es
 refusal_is ids target moment es p = ap (option_or (tables_fault ids target moment es)) (number_fits es p) ∙ or_none (tables_fault ids target moment es)
 
 -- what was refused at a moment, of the list that was pending
-pub run_faults : {X : Type 0} (r : Result X Error) (ids : Option ℕ) (target moment now : ℕ) (es pending : List Entry) → moment ≡ now → es ≡ pending → IsWritable es
+pub run_faults : {X : Type 0} (r : Result X Error) (ids : Option ℕ) (target moment now : ℕ)
+    (es pending : List Entry) → moment ≡ now → es ≡ pending → IsWritable es
     → Faults r (chain_fault ids target moment es 0) → Faults r (tables_fault ids target now pending)
 run_faults {X} r ids target moment now es pending time is p h =
     subst (λ (n : ℕ). Faults r (tables_fault ids target n pending)) time
@@ -72,9 +78,12 @@ IsWrittenOf es r = MatchOption r (es ≡ []) (λ run. IsRunOfList es 0 run)
 
 -- its tables are cut by a target, under ids that run on
 abbrev pub IsCutOf : Option ℕ → ℕ → ℕ → List Entry → Option (List OpenTable) → Type 0
-IsCutOf ids target moment es r = IfSome r (λ run. AreCutOf (run_label ids target moment) target es 0 run)
+IsCutOf ids target moment es r =
+    IfSome r (λ run. AreCutOf (run_label ids target moment) target es 0 run)
 
-pub run_cut : (r : Result (Option (List OpenTable) × Option ℕ) Error) (ids : Option ℕ) (target moment now : ℕ) (es pending : List Entry) → moment ≡ now → es ≡ pending
-    → IfOk r (λ x. IsCutOf ids target moment es x.0) → IfOk r (λ x. IsCutOf ids target now pending x.0)
+pub run_cut : (r : Result (Option (List OpenTable) × Option ℕ) Error) (ids : Option ℕ)
+    (target moment now : ℕ) (es pending : List Entry) → moment ≡ now → es ≡ pending
+    → IfOk r (λ x. IsCutOf ids target moment es x.0)
+    → IfOk r (λ x. IsCutOf ids target now pending x.0)
 run_cut r ids target moment now es pending time is h =
     subst (λ (n : ℕ). IfOk r (λ x. IsCutOf ids target n pending x.0)) time (subst (λ (xs : List Entry). IfOk r (λ x. IsCutOf ids target moment xs x.0)) is h)

@@ -6,7 +6,8 @@ use Rattle.sst_entries.specs.declared.error.Error.{Error}
 use Rattle.sst_entries.specs.Error.{Fails, Gives}
 
 -- an error of which something holds
-pub passes : {T E : Type 0} (r : Result T E) (e : E) (P : E → Type 0) → IsErrAnd r (λ y. y ≡ e) → P e → IfErr r P
+pub passes : {T E : Type 0} (r : Result T E) (e : E) (P : E → Type 0) → IsErrAnd r (λ y. y ≡ e)
+    → P e → IfErr r P
 passes (Ok x) e P is p = absurd is
 passes (Err y) e P is p = rw is p
 
@@ -16,6 +17,7 @@ passed {T} {E} (Ok x) e is = absurd is
 passed {T} {E} (Err y) e is = ap (λ (f : E). Err f) is
 
 -- what is told, memory aside
-pub gives_refusal : {X Y : Type 0} (view : X → Y) (r : Result X Error) (e : Error) (told : Result Y Error) → IsErrAnd r (λ y. y ≡ e) → Fails e told → Gives view r told
+pub gives_refusal : {X Y : Type 0} (view : X → Y) (r : Result X Error) (e : Error)
+    (told : Result Y Error) → IsErrAnd r (λ y. y ≡ e) → Fails e told → Gives view r told
 gives_refusal view (Ok x) e told is fails = absurd is
 gives_refusal view (Err y) e told is fails = rw is fails

@@ -1,6 +1,9 @@
 -- The lines of a script, one after another.
-use Rattle.std.proofs.Common.{◌≡◌, refl, sym, ◌∙◌, ap, subst, ℕ, ◌+◌, ◌-◌, ◌<◌, Bool, true, false, List, [], ◌∷◌, ◌++◌, length, take, cond, inl, inr, ◌⊎◌, arith, append_assoc, append-nil, length-append, lt-ltb}
-use Rattle.std.specs.Prelude.{IfErr, Option, Some, None, Result, Ok, Err, ◌==◌, ◌&&◌, nat_lt, slice_index}
+use Rattle.std.proofs.Common.{◌≡◌, refl, sym, ◌∙◌, ap, subst, ℕ, ◌+◌, ◌-◌, ◌<◌, Bool, true, false}
+use Rattle.std.proofs.Common.{List, [], ◌∷◌, ◌++◌, length, take, cond, inl, inr, ◌⊎◌, arith}
+use Rattle.std.proofs.Common.{append_assoc, append-nil, length-append, lt-ltb}
+use Rattle.std.specs.Prelude.{IfErr, Option, Some, None, Result, Ok, Err, ◌==◌, ◌&&◌, nat_lt}
+use Rattle.std.specs.Prelude.{slice_index}
 use Rattle.std.specs.List.{onto_first}
 use Rattle.std.specs.Io.BufRead.{take_through, drop_through, first_piece, strip_last}
 use Rattle.std.specs.Io.KnownBytes.{Appends, Keeps, IsAtEnd}
@@ -19,34 +22,45 @@ use Rattle.sst_commands.specs.Stop.{stop_line}
 use Rattle.sst_commands.proofs.ShownLemmas.{front_all, kept_behind}
 use Rattle.sst_script.specs.Script.{Store, store, Executes}
 use Rattle.sst_script.specs.Lines.{lines_of, LosesLine, HasLines}
-use Rattle.sst_script.specs.Answering.{outcome_text, PrintEnds, AnswersLine, AnswersAll, Prints, LineEnds, ScriptEnds}
+use Rattle.sst_script.specs.Answering.{outcome_text, PrintEnds, AnswersLine, AnswersAll, Prints}
+use Rattle.sst_script.specs.Answering.{LineEnds, ScriptEnds}
 
 -- one more line
-pub answered_more : (A : Type 0) (front : List (List ℕ)) (line : List ℕ) (old between new : Store) (text more : List ℕ)
-    → AnswersAll A front old text between → AnswersLine A line between more new → AnswersAll A (front ++ line ∷ []) old (text ++ more) new
+pub answered_more : (A : Type 0) (front : List (List ℕ)) (line : List ℕ) (old between new : Store)
+    (text more : List ℕ)
+    → AnswersAll A front old text between → AnswersLine A line between more new
+    → AnswersAll A (front ++ line ∷ []) old (text ++ more) new
 answered_more A [] line old between new text more all last =
     (new, more, [], subst (λ (b : Store). AnswersLine A line b more new) all.1 last, (refl, refl), ap (λ (t : List ℕ). t ++ more) all.0 ∙ sym (append-nil more))
 answered_more A (first ∷ rest) line old between new text more all last =
     (all.0, all.1, all.2 ++ more, all.3, answered_more A rest line all.0 between new all.2 more all.4 last, ap (λ (t : List ℕ). t ++ more) all.5 ∙ append_assoc all.1 all.2 more)
 
 -- a line that has a byte before the others
-last_cons : (b x : ℕ) (xs : List ℕ) → slice_index (b ∷ x ∷ xs) (length (b ∷ x ∷ xs) - 1) ≡ slice_index (x ∷ xs) (length (x ∷ xs) - 1)
+last_cons : (b x : ℕ) (xs : List ℕ)
+    → slice_index (b ∷ x ∷ xs) (length (b ∷ x ∷ xs) - 1)
+    ≡ slice_index (x ∷ xs) (length (x ∷ xs) - 1)
 last_cons b x xs =
     let p : length (b ∷ x ∷ xs) - 1 ≡ length (x ∷ xs) = omega arith in
     let q : length (x ∷ xs) - 1 ≡ length xs = omega arith in
     ap (slice_index (b ∷ x ∷ xs)) p ∙ sym (ap (slice_index (x ∷ xs)) q)
 
-front_cons : (b x : ℕ) (xs : List ℕ) → take (length (b ∷ x ∷ xs) - 1) (b ∷ x ∷ xs) ≡ b ∷ take (length (x ∷ xs) - 1) (x ∷ xs)
+front_cons : (b x : ℕ) (xs : List ℕ)
+    → take (length (b ∷ x ∷ xs) - 1) (b ∷ x ∷ xs) ≡ b ∷ take (length (x ∷ xs) - 1) (x ∷ xs)
 front_cons b x xs =
     let p : length (b ∷ x ∷ xs) - 1 ≡ length (x ∷ xs) = omega arith in
     let q : length (x ∷ xs) - 1 ≡ length xs = omega arith in
     ap (λ (n : ℕ). take n (b ∷ x ∷ xs)) p ∙ sym (ap (λ (n : ℕ). b ∷ take n (x ∷ xs)) q)
 
-strip_by : (b x : ℕ) (xs : List ℕ) (e : Bool) → cond e (take (length (b ∷ x ∷ xs) - 1) (b ∷ x ∷ xs)) (b ∷ x ∷ xs) ≡ b ∷ cond e (take (length (x ∷ xs) - 1) (x ∷ xs)) (x ∷ xs)
+strip_by : (b x : ℕ) (xs : List ℕ) (e : Bool)
+    → cond e (take (length (b ∷ x ∷ xs) - 1) (b ∷ x ∷ xs)) (b ∷ x ∷ xs)
+    ≡ b ∷ cond e (take (length (x ∷ xs) - 1) (x ∷ xs)) (x ∷ xs)
 strip_by b x xs true = front_cons b x xs
 strip_by b x xs false = refl
 
-strip_some : (b : ℕ) (bs : List ℕ) → strip_last 10 (b ∷ bs) ≡ cond (slice_index (b ∷ bs) (length (b ∷ bs) - 1) == 10) (take (length (b ∷ bs) - 1) (b ∷ bs)) (b ∷ bs)
+strip_some : (b : ℕ) (bs : List ℕ)
+    → strip_last 10 (b ∷ bs)
+    ≡ cond (slice_index (b ∷ bs) (length (b ∷ bs) - 1) == 10)
+    (take (length (b ∷ bs) - 1) (b ∷ bs)) (b ∷ bs)
 strip_some b bs =
     let some : nat_lt 0 (length (b ∷ bs)) ≡ true = lt-ltb 0 (length (b ∷ bs)) (omega arith) in
     ap (λ (t : Bool). cond (t && (slice_index (b ∷ bs) (length (b ∷ bs) - 1) == 10)) (take (length (b ∷ bs) - 1) (b ∷ bs)) (b ∷ bs)) some
@@ -64,7 +78,8 @@ some_by b bs true = omega arith
 some_by b bs false = omega arith
 
 -- the first line, and those behind it
-lines_by : (b : ℕ) (bs : List ℕ) (e : Bool) → (b == 10) ≡ e → lines_of (b ∷ bs) ≡ first_piece 10 (b ∷ bs) ∷ lines_of (drop_through 10 (b ∷ bs))
+lines_by : (b : ℕ) (bs : List ℕ) (e : Bool) → (b == 10) ≡ e
+    → lines_of (b ∷ bs) ≡ first_piece 10 (b ∷ bs) ∷ lines_of (drop_through 10 (b ∷ bs))
 lines_by b bs true h =
     let cut : strip_last 10 (b ∷ []) ≡ [] = ap (λ (t : Bool). cond t [] (b ∷ [])) h in
     rw h (ap (λ (l : List ℕ). l ∷ lines_of bs) (sym cut))
@@ -76,7 +91,8 @@ lines_by b (c ∷ cs) false h =
     let first : strip_last 10 (b ∷ take_through 10 (c ∷ cs)) ≡ b ∷ first_piece 10 (c ∷ cs) = strip_cons b (take_through 10 (c ∷ cs)) (some_by c (take_through 10 cs) _) in
     rw h (ap (onto_first b) again ∙ ap (λ (l : List ℕ). l ∷ lines_of (drop_through 10 (c ∷ cs))) (sym first))
 
-lines_first : (bs : List ℕ) → 0 < length bs → lines_of bs ≡ first_piece 10 bs ∷ lines_of (drop_through 10 bs)
+lines_first : (bs : List ℕ) → 0 < length bs
+    → lines_of bs ≡ first_piece 10 bs ∷ lines_of (drop_through 10 bs)
 lines_first [] h = absurd (omega arith)
 lines_first (b ∷ bs) h = lines_by b bs _ refl
 
@@ -91,17 +107,21 @@ abbrev pub known_lines : Option (List ℕ) → List (List ℕ)
 known_lines None = []
 known_lines (Some rest) = lines_of rest
 
-leaves_rest : (input : Option (List ℕ)) (front : List (List ℕ)) (left : Option (List ℕ)) → Leaves input front left → HasLines input front (known_lines left)
+leaves_rest : (input : Option (List ℕ)) (front : List (List ℕ)) (left : Option (List ℕ))
+    → Leaves input front left → HasLines input front (known_lines left)
 leaves_rest None front left h = tt
 leaves_rest (Some bytes) front None h = absurd h
 leaves_rest (Some bytes) front (Some rest) h = h
 
-leaves_none : (input : Option (List ℕ)) (front : List (List ℕ)) (left : Option (List ℕ)) → Leaves input front left → IsAtEnd left → HasLines input front []
+leaves_none : (input : Option (List ℕ)) (front : List (List ℕ)) (left : Option (List ℕ))
+    → Leaves input front left → IsAtEnd left → HasLines input front []
 leaves_none None front left h e = tt
 leaves_none (Some bytes) front None h e = absurd h
 leaves_none (Some bytes) front (Some rest) h e = h ∙ ap (λ (bs : List ℕ). front ++ lines_of bs) e
 
-leaves_line : (input : Option (List ℕ)) (front : List (List ℕ)) (left new : Option (List ℕ)) (line : List ℕ) → Leaves input front left → LosesLine left new line → HasLines input front (line ∷ known_lines new)
+leaves_line : (input : Option (List ℕ)) (front : List (List ℕ)) (left new : Option (List ℕ))
+    (line : List ℕ) → Leaves input front left → LosesLine left new line
+    → HasLines input front (line ∷ known_lines new)
 leaves_line None front left new line h loses = tt
 leaves_line (Some bytes) front None new line h loses = absurd h
 leaves_line (Some bytes) front (Some rest) new line h loses =
@@ -109,7 +129,9 @@ leaves_line (Some bytes) front (Some rest) new line h loses =
     ∙ ap (λ (l : List ℕ). front ++ l ∷ lines_of (drop_through 10 rest)) (sym loses.1)
     ∙ ap (λ (n : Option (List ℕ)). front ++ line ∷ known_lines n) (sym loses.2)
 
-leaves_more : (input : Option (List ℕ)) (front : List (List ℕ)) (left new : Option (List ℕ)) (line : List ℕ) → Leaves input front left → LosesLine left new line → Leaves input (front ++ line ∷ []) new
+leaves_more : (input : Option (List ℕ)) (front : List (List ℕ)) (left new : Option (List ℕ))
+    (line : List ℕ) → Leaves input front left → LosesLine left new line
+    → Leaves input (front ++ line ∷ []) new
 leaves_more None front left new line h loses = tt
 leaves_more (Some bytes) front None new line h loses = absurd h
 leaves_more (Some bytes) front (Some rest) new line h loses =
@@ -119,7 +141,8 @@ leaves_more (Some bytes) front (Some rest) new line h loses =
     ∙ sym (append_assoc front (line ∷ []) (lines_of (drop_through 10 rest))))
 
 -- so many lines were answered, and what they print was written
-pub record IsAt (A : Type 0) (input left before after : Option (List ℕ)) (count : ℕ) (now : Store) : Type 0 where
+pub record IsAt (A : Type 0) (input left before after : Option (List ℕ)) (count : ℕ)
+    (now : Store) : Type 0 where
   pub front : List (List ℕ)
   pub text : List ℕ
   pub leaves : Leaves input front left
@@ -132,7 +155,8 @@ leaves_all None = tt
 leaves_all (Some bytes) = refl
 
 -- before the first line
-pub at_start : (A : Type 0) (input before : Option (List ℕ)) → IsAt A input input before before 0 (store [] [] (Some 1))
+pub at_start : (A : Type 0) (input before : Option (List ℕ))
+    → IsAt A input input before before 0 (store [] [] (Some 1))
 at_start A input before = record {
   front = [];
   text = [];
@@ -143,8 +167,11 @@ at_start A input before = record {
 }
 
 -- after one more line
-pub at_more : {X : Type 0} {A : Type 0} {input left new before between after : Option (List ℕ)} {count : ℕ} {now next : Store} (line : List ℕ) (x : X)
-    → IsAt A input left before between count now → LosesLine left new line → LineEnds A (count + 1) line now next between after (Ok x) → IsAt A input new before after (count + 1) next
+pub at_more : {X : Type 0} {A : Type 0} {input left new before between after : Option (List ℕ)}
+    {count : ℕ} {now next : Store} (line : List ℕ) (x : X)
+    → IsAt A input left before between count now → LosesLine left new line
+    → LineEnds A (count + 1) line now next between after (Ok x)
+    → IsAt A input new before after (count + 1) next
 at_more {X} {A} {input} {left} {new} {before} {between} {after} {count} {now} {next} line x here loses ended = record {
   front = here.front ++ line ∷ [];
   text = here.text ++ ended.0;
@@ -155,13 +182,16 @@ at_more {X} {A} {input} {left} {new} {before} {between} {after} {count} {now} {n
 }
 
 -- no line is left
-pub at_end : {X : Type 0} {A : Type 0} {input left before after : Option (List ℕ)} {count : ℕ} {now : Store} (x : X)
-    → IsAt A input left before after count now → IsAtEnd left → ScriptEnds A input before after (Ok x)
+pub at_end : {X : Type 0} {A : Type 0} {input left before after : Option (List ℕ)} {count : ℕ}
+    {now : Store} (x : X)
+    → IsAt A input left before after count now → IsAtEnd left
+    → ScriptEnds A input before after (Ok x)
 at_end {X} {A} {input} {left} {before} {after} {count} {now} x here none =
     (here.front, here.text, now, record { lines = leaves_none input here.front left here.leaves none; answers = here.answers }, here.written)
 
 -- the input fails
-pub at_failure : {X A : Type 0} {input left before after : Option (List ℕ)} {count : ℕ} {now : Store} (r : Result X Stop)
+pub at_failure : {X A : Type 0} {input left before after : Option (List ℕ)} {count : ℕ}
+    {now : Store} (r : Result X Stop)
     → r ≡ Err Input → IsAt A input left before after count now → ScriptEnds A input before after r
 at_failure {X} {A} {input} {left} {before} {after} {count} {now} r e here =
     let failed : ScriptEnds {X = X} A input before after (Err Input) =
@@ -169,8 +199,11 @@ at_failure {X} {A} {input} {left} {before} {after} {count} {now} r e here =
     subst (λ (r : Result X Stop). ScriptEnds A input before after r) (sym e) failed
 
 -- a line ends the script
-stop_at : (X Y : Type 0) {A : Type 0} {input left before between : Option (List ℕ)} {count : ℕ} {now : Store} (new after : Option (List ℕ)) (next : Store) (line : List ℕ) (stop : Stop)
-    → IsAt A input left before between count now → LosesLine left new line → LineEnds {X = X} A (count + 1) line now next between after (Err stop) → ScriptEnds {X = Y} A input before after (Err stop)
+stop_at : (X Y : Type 0) {A : Type 0} {input left before between : Option (List ℕ)} {count : ℕ}
+    {now : Store} (new after : Option (List ℕ)) (next : Store) (line : List ℕ) (stop : Stop)
+    → IsAt A input left before between count now → LosesLine left new line
+    → LineEnds {X = X} A (count + 1) line now next between after (Err stop)
+    → ScriptEnds {X = Y} A input before after (Err stop)
 stop_at X Y {A} {input} {left} {before} {between} {count} {now} new after next line (Line n) here loses ended = (
   here.front,
   line,
@@ -194,24 +227,34 @@ stop_at X Y {A} {input} {left} {before} {between} {count} {now} new after next l
   (ended.0, next, ended.1, record { front = ended.2.front; rest = ended.2.rest; is = ended.2.is; appends = Appends-trans before between after here.text ended.2.front here.written ended.2.appends }),
 )
 
-pub at_stop : {X Y A : Type 0} {input left before between : Option (List ℕ)} {count : ℕ} {now : Store} (r : Result Y Stop) (new after : Option (List ℕ)) (next : Store) (line : List ℕ) (stop : Stop) (q : Result X Stop)
-    → r ≡ Err stop → q ≡ Err stop → IsAt A input left before between count now → LosesLine left new line → LineEnds A (count + 1) line now next between after q → ScriptEnds A input before after r
+pub at_stop : {X Y A : Type 0} {input left before between : Option (List ℕ)} {count : ℕ}
+    {now : Store} (r : Result Y Stop) (new after : Option (List ℕ)) (next : Store) (line : List ℕ)
+    (stop : Stop) (q : Result X Stop)
+    → r ≡ Err stop → q ≡ Err stop → IsAt A input left before between count now
+    → LosesLine left new line → LineEnds A (count + 1) line now next between after q
+    → ScriptEnds A input before after r
 at_stop {X} {Y} {A} {input} {left} {before} {between} {count} {now} r new after next line stop q e f here loses ended =
     let line_ended : LineEnds {X = X} A (count + 1) line now next between after (Err stop) = subst (λ (q : Result X Stop). LineEnds A (count + 1) line now next between after q) f ended in
     subst (λ (r : Result Y Stop). ScriptEnds A input before after r) (sym e) (stop_at X Y new after next line stop here loses line_ended)
 
 -- a line that is empty
-pub ends_empty : {X : Type 0} (A : Type 0) (number : ℕ) (line : List ℕ) (old : Store) (before : Option (List ℕ)) (x : X) → length line ≡ 0 → LineEnds A number line old old before before (Ok x)
+pub ends_empty : {X : Type 0} (A : Type 0) (number : ℕ) (line : List ℕ) (old : Store)
+    (before : Option (List ℕ)) (x : X) → length line ≡ 0
+    → LineEnds A number line old old before before (Ok x)
 ends_empty A number [] old before x h = ([], (refl, refl), Appends-nil before)
 ends_empty A number (b ∷ bs) old before x h = absurd (omega arith)
 
-answers_some : (A : Type 0) (line : List ℕ) (old new : Store) (text : List ℕ) → 0 < length line → Prints A line old text new → AnswersLine A line old text new
+answers_some : (A : Type 0) (line : List ℕ) (old new : Store) (text : List ℕ) → 0 < length line
+    → Prints A line old text new → AnswersLine A line old text new
 answers_some A [] old new text h p = absurd (omega arith)
 answers_some A (b ∷ bs) old new text h p = p
 
 -- a line whose command was executed, and whose outcome was printed
-pub ends_printed : {X A : Type 0} (number : ℕ) (line : List ℕ) (command : Command) (old new : Store) (r : Result (Answer A) Failure) (before after : Option (List ℕ)) (result : Result X Stop)
-    → 0 < length line → AskFor (words_of line) command → Executes command old r new → PrintEnds number (outcome_text r) before after result → LineEnds A number line old new before after result
+pub ends_printed : {X A : Type 0} (number : ℕ) (line : List ℕ) (command : Command) (old new : Store)
+    (r : Result (Answer A) Failure) (before after : Option (List ℕ)) (result : Result X Stop)
+    → 0 < length line → AskFor (words_of line) command → Executes command old r new
+    → PrintEnds number (outcome_text r) before after result
+    → LineEnds A number line old new before after result
 ends_printed {X} {A} number line command old new (Ok answer) before after (Ok x) some asked does ends =
     (answer_lines answer, answers_some A line old new (answer_lines answer) some (Ok answer, (command, asked, does), refl), ends)
 ends_printed {X} {A} number line command old new (Err (Refused error)) before after (Ok x) some asked does ends =
@@ -227,22 +270,28 @@ ends_printed {X} {A} number line command old new (Err BadLine) before after resu
     subst (λ (r : Result X Stop). LineEnds A number line old new before after r) (sym ends.0) fault
 
 -- whether the line of a stop was taken is passed over
-pub reported : {X E : Type 0} (before after : Option (List ℕ)) (stop : Stop) (r : Result X E) → ShowsText before after r (stop_line stop) → AppendsFront before after (stop_line stop)
+pub reported : {X E : Type 0} (before after : Option (List ℕ)) (stop : Stop) (r : Result X E)
+    → ShowsText before after r (stop_line stop) → AppendsFront before after (stop_line stop)
 reported before after stop (Ok x) shows = front_all before after (stop_line stop) shows
 reported before after stop (Err e) shows = shows
 
 -- a text that was written stays where the output is flushed, whether that fails or not
-pub shows_kept : {X E : Type 0} (a b c : Option (List ℕ)) (text : List ℕ) (r : Result X E) → Appends a b text → Keeps b c → ShowsText a c r text
+pub shows_kept : {X E : Type 0} (a b c : Option (List ℕ)) (text : List ℕ) (r : Result X E)
+    → Appends a b text → Keeps b c → ShowsText a c r text
 shows_kept a b c text (Ok x) written kept = kept_behind a b c text written kept
 shows_kept a b c text (Err e) written kept = front_all a c text (kept_behind a b c text written kept)
 
 -- what printing a text comes to
-pub ends_shown : {X : Type 0} (number : ℕ) (text : List ℕ) (a b : Option (List ℕ)) (r : Result X Stop) → ShowsText a b r text → IfErr r (λ stop. stop ≡ Output) → PrintEnds number (Some text) a b r
+pub ends_shown : {X : Type 0} (number : ℕ) (text : List ℕ) (a b : Option (List ℕ))
+    (r : Result X Stop) → ShowsText a b r text → IfErr r (λ stop. stop ≡ Output)
+    → PrintEnds number (Some text) a b r
 ends_shown number text a b (Ok x) shows stops = shows
 ends_shown number text a b (Err stop) shows stops = (stops, shows)
 
 -- it stops at the line, or where the output fails
-pub ends_stops : {X : Type 0} (number : ℕ) (text : Option (List ℕ)) (a b : Option (List ℕ)) (r : Result X Stop) → PrintEnds number text a b r → IfErr r (λ stop. (stop ≡ Line number) ⊎ (stop ≡ Output))
+pub ends_stops : {X : Type 0} (number : ℕ) (text : Option (List ℕ)) (a b : Option (List ℕ))
+    (r : Result X Stop) → PrintEnds number text a b r
+    → IfErr r (λ stop. (stop ≡ Line number) ⊎ (stop ≡ Output))
 ends_stops number None a b (Ok x) ends = tt
 ends_stops number None a b (Err stop) ends = let same : stop ≡ Line number = cc (ends.0) in inl same
 ends_stops number (Some text) a b (Ok x) ends = tt

@@ -1,5 +1,6 @@
 -- What writing the pending entries comes to.
-use Rattle.std.proofs.Common.{◌≡◌, refl, sym, ◌∙◌, ap, subst, inl, inr, ◌⊎◌, ℕ, Bool, true, false, List, [], ◌∷◌, length}
+use Rattle.std.proofs.Common.{◌≡◌, refl, sym, ◌∙◌, ap, subst, inl, inr, ◌⊎◌, ℕ, Bool, true, false}
+use Rattle.std.proofs.Common.{List, [], ◌∷◌, length}
 use Rattle.std.specs.Prelude.{Option, Some, None, Result, Ok, Err}
 use Rattle.std.specs.Result.{IsErrAnd}
 use Rattle.sst_entries.specs.declared.error.Error.{Error}
@@ -15,64 +16,85 @@ use Rattle.sst_commands.specs.declared.print.Answer.TheVariants.{Runs, Tables}
 use Rattle.sst_commands.specs.declared.stop.Failure.{Failure}
 use Rattle.sst_commands.specs.declared.stop.Failure.TheVariants.{BadLine, Refused}
 use Rattle.sst_script.specs.Runs.{repeats, run_tables, HasRuns, Run}
-use Rattle.sst_script.specs.Script.{Store, kept_by, pending_fault, store, table_fault, target_size, Compacts, Executes, GivesUp, Packs, Writes, WritesTable}
+use Rattle.sst_script.specs.Script.{Store, kept_by, pending_fault, store, table_fault, target_size}
+use Rattle.sst_script.specs.Script.{Compacts, Executes, GivesUp, Packs, Writes, WritesTable}
 use Rattle.sst_script.proofs.RunLemmas.{memory_of}
 
 abbrev MayFail : List Run → List Entry → Option ℕ → Failure → Type 0
 MayFail rs es next f = (f ≡ Refused OutOfMemory) ⊎ (table_fault (store es rs next) ≡ Some f)
 
 -- only memory is refused where something is told
-pub wants_memory : {X : Type 0} (rs : List Run) (es : List Entry) (next : Option ℕ) (e : Error) (told : X) → Fails e (Ok told) → MayFail rs es next (Refused e)
+pub wants_memory : {X : Type 0} (rs : List Run) (es : List Entry) (next : Option ℕ) (e : Error)
+    (told : X) → Fails e (Ok told) → MayFail rs es next (Refused e)
 wants_memory rs es next e told fails = inl (ap (λ (x : Error). Refused x) (memory_is e (memory_of e told _ refl fails)))
 
 -- a run holds one of the entries
-pub repeated : (rs : List Run) (es : List Entry) (next : Option ℕ) → repeats rs es ≡ true → MayFail rs es next BadLine
+pub repeated : (rs : List Run) (es : List Entry) (next : Option ℕ) → repeats rs es ≡ true
+    → MayFail rs es next BadLine
 repeated rs es next is = inr (rw is refl)
 
 -- what writing some entries refuses
-pending_is : (next : Option ℕ) (es : List Entry) → (es ≡ [] → ⊥) → pending_fault next es ≡ tables_fault next target_size 0 es
+pending_is : (next : Option ℕ) (es : List Entry) → (es ≡ [] → ⊥)
+    → pending_fault next es ≡ tables_fault next target_size 0 es
 pending_is next [] some = absurd (some refl)
 pending_is next (e ∷ es) some = refl
 
-unwritten_by : (rs : List Run) (es : List Entry) (next : Option ℕ) (e : Error) (b : Bool) → is_memory e ≡ b → repeats rs es ≡ false → (es ≡ [] → ⊥) → (is_memory e ≡ false → tables_fault next target_size 0 es ≡ Some e) → MayFail rs es next (Refused e)
+unwritten_by : (rs : List Run) (es : List Entry) (next : Option ℕ) (e : Error) (b : Bool)
+    → is_memory e ≡ b → repeats rs es ≡ false → (es ≡ [] → ⊥)
+    → (is_memory e ≡ false → tables_fault next target_size 0 es ≡ Some e)
+    → MayFail rs es next (Refused e)
 unwritten_by rs es next e true memory fresh some fault = inl (ap (λ (x : Error). Refused x) (memory_is e memory))
 unwritten_by rs es next e false memory fresh some fault =
     let told : pending_fault next es ≡ Some e = pending_is next es some ∙ fault memory in
     inr (rw (fresh, told) refl)
 
 -- the entries could not be written
-pub unwritten : (rs : List Run) (es : List Entry) (next : Option ℕ) (e : Error) → repeats rs es ≡ false → (es ≡ [] → ⊥) → (is_memory e ≡ false → tables_fault next target_size 0 es ≡ Some e) → MayFail rs es next (Refused e)
+pub unwritten : (rs : List Run) (es : List Entry) (next : Option ℕ) (e : Error)
+    → repeats rs es ≡ false → (es ≡ [] → ⊥)
+    → (is_memory e ≡ false → tables_fault next target_size 0 es ≡ Some e)
+    → MayFail rs es next (Refused e)
 unwritten rs es next e fresh some fault = unwritten_by rs es next e _ refl fresh some fault
 
-nothing_refused : (next : Option ℕ) (es : List Entry) → tables_fault next target_size 0 es ≡ None → pending_fault next es ≡ None
+nothing_refused : (next : Option ℕ) (es : List Entry) → tables_fault next target_size 0 es ≡ None
+    → pending_fault next es ≡ None
 nothing_refused next [] written = refl
 nothing_refused next (e ∷ es) written = written
 
 -- nothing is against them
-fine : (rs : List Run) (es : List Entry) (next : Option ℕ) → repeats rs es ≡ false → tables_fault next target_size 0 es ≡ None → table_fault (store es rs next) ≡ None
+fine : (rs : List Run) (es : List Entry) (next : Option ℕ) → repeats rs es ≡ false
+    → tables_fault next target_size 0 es ≡ None → table_fault (store es rs next) ≡ None
 fine rs es next fresh written =
     let told : pending_fault next es ≡ None = nothing_refused next es written in
     rw (fresh, told) refl
 
 -- the refusal is passed on, and the runs are what they were
-pub gives_up : (r : Result ℕ Failure) (f : Failure) (rs : List Run) (ts : List (List OpenTable)) (es : List Entry) (next : Option ℕ) → run_tables rs ≡ ts → IsErrAnd r (λ y. y ≡ f) → MayFail rs es next f
+pub gives_up : (r : Result ℕ Failure) (f : Failure) (rs : List Run) (ts : List (List OpenTable))
+    (es : List Entry) (next : Option ℕ) → run_tables rs ≡ ts → IsErrAnd r (λ y. y ≡ f)
+    → MayFail rs es next f
     → HasRuns ts (λ after. WritesTable (store es rs next) r (store [] after next))
 gives_up (Ok count) f rs ts es next same is may = absurd is
 gives_up (Err y) f rs ts es next same is may = (rs, same, subst (λ (x : Failure). GivesUp (store es rs next) x (store [] rs next)) (sym is) (may, refl))
 
 -- what the test for repeated entries answered
-pub answered : (rs : List Run) (es given : List Entry) (b told : Bool) → Gives (λ (x : Bool). x) (Ok b) (Ok (repeats rs given)) → b ≡ told → given ≡ es → repeats rs es ≡ told
+pub answered : (rs : List Run) (es given : List Entry) (b told : Bool)
+    → Gives (λ (x : Bool). x) (Ok b) (Ok (repeats rs given)) → b ≡ told → given ≡ es
+    → repeats rs es ≡ told
 answered rs es given b told gives fresh same =
     let is : repeats rs given ≡ b = cc in
     subst (λ (xs : List Entry). repeats rs xs ≡ told) same (is ∙ fresh)
 
 -- there was nothing to write
-pub wrote_nothing : (rs : List Run) (ts : List (List OpenTable)) (es : List Entry) (next : Option ℕ) → run_tables rs ≡ ts → es ≡ [] → HasRuns ts (λ after. Writes (store es rs next) 0 (store [] after next))
+pub wrote_nothing : (rs : List Run) (ts : List (List OpenTable)) (es : List Entry) (next : Option ℕ)
+    → run_tables rs ≡ ts → es ≡ []
+    → HasRuns ts (λ after. Writes (store es rs next) 0 (store [] after next))
 wrote_nothing rs ts es next same none = (rs, same, (ap (λ (xs : List Entry). table_fault (store xs rs next)) none, inl (refl, none, refl)))
 
 -- a run was written
-pub wrote : (rs : List Run) (ts new : List (List OpenTable)) (es : List Entry) (next following : Option ℕ) (tables : List OpenTable) (count : ℕ) → run_tables rs ≡ ts → new ≡ tables ∷ ts → count ≡ length tables
-    → repeats rs es ≡ false → tables_fault next target_size 0 es ≡ None → following ≡ ids_behind next target_size (length tables)
+pub wrote : (rs : List Run) (ts new : List (List OpenTable)) (es : List Entry)
+    (next following : Option ℕ) (tables : List OpenTable) (count : ℕ) → run_tables rs ≡ ts
+    → new ≡ tables ∷ ts → count ≡ length tables
+    → repeats rs es ≡ false → tables_fault next target_size 0 es ≡ None
+    → following ≡ ids_behind next target_size (length tables)
     → IsRunOfList es 0 tables → AreCutOf (run_label next target_size 0) target_size es 0 tables
     → HasRuns new (λ after. Writes (store es rs next) count (store [] after following))
 wrote rs ts new es next following tables count same new_is count_is fresh written behind is cut =
@@ -84,9 +106,12 @@ wrote rs ts new es next following tables count same new_is count_is fresh writte
     )
 
 -- a command that writes a table
-pub executed : (A : Type 0) (command : Command) (rs : List Run) (es left : List Entry) (next following : Option ℕ) (count : ℕ) (new : List (List OpenTable)) → command ≡ Table → left ≡ []
+pub executed : (A : Type 0) (command : Command) (rs : List Run) (es left : List Entry)
+    (next following : Option ℕ) (count : ℕ) (new : List (List OpenTable)) → command ≡ Table
+    → left ≡ []
     → HasRuns new (λ after. Writes (store es rs next) count (store [] after following))
-    → HasRuns new (λ after. Executes {A = A} command (store es rs next) (Ok (Tables count)) (store left after following))
+    → HasRuns new (λ after.
+    Executes {A = A} command (store es rs next) (Ok (Tables count)) (store left after following))
 executed A command rs es left next following count new is none done =
     let table : Executes {A = A} Table (store es rs next) (Ok (Tables count)) (store [] done.0 following) = (count, refl, done.2) in (
       done.0,
@@ -96,7 +121,9 @@ executed A command rs es left next following count new is none done =
     )
 
 -- a command that compacts the runs
-pub compact_executed : (A : Type 0) (command : Command) (old : Store) (watermark : ℕ) (evict zero : Bool) (count : ℕ) (new : List (List OpenTable)) (after : List Run → Store) → command ≡ Compact watermark evict zero
+pub compact_executed : (A : Type 0) (command : Command) (old : Store) (watermark : ℕ)
+    (evict zero : Bool) (count : ℕ) (new : List (List OpenTable)) (after : List Run → Store)
+    → command ≡ Compact watermark evict zero
     → HasRuns new (λ rs. Compacts old (kept_by watermark evict zero old.runs) count (after rs))
     → HasRuns new (λ rs. Executes {A = A} command old (Ok (Tables count)) (after rs))
 compact_executed A command old watermark evict zero count new after is done = (
@@ -106,7 +133,8 @@ compact_executed A command old watermark evict zero count new after is done = (
 )
 
 -- a command that packs them
-pub pack_executed : (A : Type 0) (command : Command) (old : Store) (count : ℕ) (new : List (List OpenTable)) (after : List Run → Store) → command ≡ Pack
+pub pack_executed : (A : Type 0) (command : Command) (old : Store) (count : ℕ)
+    (new : List (List OpenTable)) (after : List Run → Store) → command ≡ Pack
     → HasRuns new (λ rs. Packs old count (after rs))
     → HasRuns new (λ rs. Executes {A = A} command old (Ok (Runs count)) (after rs))
 pack_executed A command old count new after is done = (

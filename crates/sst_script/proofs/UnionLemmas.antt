@@ -1,5 +1,6 @@
 -- More entries in a sorted list in which no key has one number twice.
-use Rattle.std.proofs.Common.{◌≡◌, refl, sym, ◌∙◌, ap, subst, ℕ, ◌-◌, ◌^◌, ◌<◌, ◌⊎◌, inl, inr, Bool, true, false, cond, List, [], ◌∷◌, ◌++◌, arith, rules}
+use Rattle.std.proofs.Common.{◌≡◌, refl, sym, ◌∙◌, ap, subst, ℕ, ◌-◌, ◌^◌, ◌<◌, ◌⊎◌, inl, inr, Bool}
+use Rattle.std.proofs.Common.{true, false, cond, List, [], ◌∷◌, ◌++◌, arith, rules}
 use Rattle.std.specs.Prelude.{◌&&◌, ◌==◌, map}
 use Rattle.std.specs.List.{AllByRecursion}
 use Rattle.std.specs.declared.cmp.Ordering.{Ordering}
@@ -47,7 +48,8 @@ apart_above x y a e = elim a [
 ]
 
 -- an entry that differs from each of a strict list is put into it
-put_strict : (x : Entry) (ys : List Entry) → AllBefore ys → AllByRecursion (Apart x) ys → AllBefore (insert_sorted x ys)
+put_strict : (x : Entry) (ys : List Entry) → AllBefore ys → AllByRecursion (Apart x) ys
+    → AllBefore (insert_sorted x ys)
 put_strict x [] h a = (tt, tt)
 put_strict x (y ∷ ys) h a =
     elim (is_gt (item_cmp x y)) as (λ b. is_gt (item_cmp x y) ≡ b → AllBefore (cond b (y ∷ insert_sorted x ys) (x ∷ y ∷ ys))) [
@@ -58,7 +60,8 @@ put_strict x (y ∷ ys) h a =
     ] refl
 
 -- what all entries have, they have once they are sorted into others that have it
-all_sorted : (P : Entry → Type 0) (es all : List Entry) → AllByRecursion P es → AllByRecursion P (sort_entries all) → AllByRecursion P (sort_entries (es ++ all))
+all_sorted : (P : Entry → Type 0) (es all : List Entry) → AllByRecursion P es
+    → AllByRecursion P (sort_entries all) → AllByRecursion P (sort_entries (es ++ all))
 all_sorted P [] all h k = k
 all_sorted P (e ∷ es) all h k = all_inserted P e (sort_entries (es ++ all)) h.0 (all_sorted P es all h.1 k)
 
@@ -66,7 +69,8 @@ all_sorted P (e ∷ es) all h k = all_inserted P e (sort_entries (es ++ all)) h.
 abbrev AreApart : List Entry → List Entry → Type 0
 AreApart es ys = AllByRecursion (λ (e : Entry). AllByRecursion (Apart e) ys) es
 
-sorted_strict : (es all : List Entry) → AllBefore es → AllBefore (sort_entries all) → AreApart es (sort_entries all) → AllBefore (sort_entries (es ++ all))
+sorted_strict : (es all : List Entry) → AllBefore es → AllBefore (sort_entries all)
+    → AreApart es (sort_entries all) → AllBefore (sort_entries (es ++ all))
 sorted_strict [] all h k a = k
 sorted_strict (e ∷ es) all h k a =
     let own : AllByRecursion (Apart e) es = all_more (λ (y : Entry). is_before e y ≡ true) (Apart e) (λ y p. inl p) es h.0 in
@@ -102,7 +106,8 @@ apart_of x y miss =
       | Greater ↦ λ e. inr (ap is_lt (number_total.antisymm y x ∙ ap ordering_reverse e))
     ] refl
 
-all_apart : (x : Entry) (ys : List Entry) → has_entry ys x.user_key x.seqno ≡ false → AllByRecursion (Apart x) ys
+all_apart : (x : Entry) (ys : List Entry) → has_entry ys x.user_key x.seqno ≡ false
+    → AllByRecursion (Apart x) ys
 all_apart x [] h = tt
 all_apart x (y ∷ ys) h =
     let both = or_parts (is_at x y) (has_entry ys x.user_key x.seqno) h in
@@ -120,7 +125,8 @@ abbrev all_of : List Run → List Entry
 all_of rs = all_entries (map (λ (r : Run). ok_results r.list) rs)
 
 -- the sorted entries of runs, and of one more that has none of their keys and numbers
-pub union_more : (run : Run) (rs : List Run) → IsWritable run.list → IsWritable (union rs) → repeats rs run.list ≡ false → IsWritable (union (run ∷ rs))
+pub union_more : (run : Run) (rs : List Run) → IsWritable run.list → IsWritable (union rs)
+    → repeats rs run.list ≡ false → IsWritable (union (run ∷ rs))
 union_more run rs one all fresh =
     let is : union (run ∷ rs) ≡ sort_entries (run.list ++ all_of rs) = ap (λ (es : List Entry). sort_entries (es ++ all_of rs)) (entries_of run.list) in
     let strict = strict_from (sort_entries (run.list ++ all_of rs)) (sorted_strict run.list (all_of rs) (pairs_of run.list one.strict) (pairs_of (union rs) all.strict) (each_apart rs run.list fresh)) in

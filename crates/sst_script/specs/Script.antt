@@ -1,5 +1,6 @@
 -- What a script's commands do to its runs.
-use Rattle.std.specs.Prelude.{◌≡◌, ℕ, Bool, IsTrue, List, [], ◌∷◌, ◌++◌, length, Option, Some, None, Result, MatchResult, ◌⊎◌, if◌then◌else◌}
+use Rattle.std.specs.Prelude.{◌≡◌, ℕ, Bool, IsTrue, List, [], ◌∷◌, ◌++◌, length, Option, Some, None}
+use Rattle.std.specs.Prelude.{Result, MatchResult, ◌⊎◌, if◌then◌else◌}
 use Rattle.std.specs.Option.{option_map}
 use Rattle.sst_entries.specs.declared.error.Error.{Error}
 use Rattle.sst_entries.specs.declared.error.Error.TheVariants.{OutOfMemory}
@@ -14,9 +15,11 @@ use Rattle.lsm_compactions.specs.Compacted.{rules_by}
 use Rattle.lsm_runs.specs.RunParts.{range_of}
 use Rattle.lsm_writers.specs.Writing.{may_be_written}
 use Rattle.sst_commands.specs.declared.command.Command.{Command}
-use Rattle.sst_commands.specs.declared.command.Command.TheVariants.{Entry as Add, Table, Get, Range, Compact, Pack}
+use Rattle.sst_commands.specs.declared.command.Command.TheVariants.{Entry as Add, Table, Get, Range}
+use Rattle.sst_commands.specs.declared.command.Command.TheVariants.{Compact, Pack}
 use Rattle.sst_commands.specs.declared.print.Answer.{Answer}
-use Rattle.sst_commands.specs.declared.print.Answer.TheVariants.{Silent, Tables, Runs as PackedInto, Found, Entries}
+use Rattle.sst_commands.specs.declared.print.Answer.TheVariants.{Silent, Tables, Runs as PackedInto}
+use Rattle.sst_commands.specs.declared.print.Answer.TheVariants.{Found, Entries}
 use Rattle.sst_commands.specs.declared.stop.Failure.{Failure}
 use Rattle.sst_commands.specs.declared.stop.Failure.TheVariants.{BadLine, Refused}
 use Rattle.sst_script.specs.Runs.{Run, repeats, run_tables, union}
@@ -34,8 +37,8 @@ store pending runs id = record { pending = pending; runs = runs; next_id = id }
 abbrev pub target_size : ℕ
 target_size = 65536
 
--- what writing pending entries refuses: nothing where there are none, or else that no id is left for
--- the first table, or the first fault of writing them
+-- what writing pending entries refuses: nothing where there are none, or else that no id is left
+-- for the first table, or the first fault of writing them
 abbrev pub pending_fault : Option ℕ → List Entry → Option Error
 pending_fault ids [] = None
 pending_fault ids (e ∷ es) = tables_fault ids target_size 0 (e ∷ es)

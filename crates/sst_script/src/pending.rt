@@ -1,10 +1,12 @@
 //! The entries that wait for the next table.
-ghost use Rattle.std.specs.Prelude.{◌≡◌, ◌↔◌, [], ◌∷◌, ◌++◌, length, IsTrue, IfErr, IfOk, IfSome, OnErr, OnOk, MatchOption};
+ghost use Rattle.std.specs.Prelude.{◌≡◌, ◌↔◌, [], ◌∷◌, ◌++◌, length, IsTrue, IfErr, IfOk, IfSome};
+ghost use Rattle.std.specs.Prelude.{OnErr, OnOk, MatchOption};
 ghost use Rattle.std.specs.Option.{option_map_or};
 ghost use Rattle.sst_entries.specs.Entry.{entry};
 ghost use Rattle.sst_entries.specs.Error.{Faults};
 ghost use Rattle.lsm_writers.specs.Writing.{IsWritable, may_be_written};
-ghost use Rattle.lsm_compactions.specs.Chain.{AreCutOf, IsRunOfList, ids_behind, run_label, tables_fault};
+ghost use Rattle.lsm_compactions.specs.Chain.{AreCutOf, IsRunOfList, ids_behind, run_label};
+ghost use Rattle.lsm_compactions.specs.Chain.{tables_fault};
 ghost use Rattle.sst_script.specs.Script.{entry_failure, target_size};
 
 use lsm_compactions::write_run;
@@ -79,8 +81,8 @@ impl<A: Allocator + Clone> Pending<A> {
             }
     }
 
-    /// Adds an entry. The line is at fault where the entry does not follow the last one; nothing is added then, nor where
-    /// memory is refused.
+    /// Adds an entry. The line is at fault where the entry does not follow the last one; nothing is
+    /// added then, nor where memory is refused.
     pub(crate) fn add(
         &mut self,
         key: &[u8],
@@ -111,8 +113,8 @@ impl<A: Allocator + Clone> Pending<A> {
         self.items.clear();
     }
 
-    /// Writes the entries as tables, and opens these as a run; none where there are no entries. Answers the counter of ids
-    /// behind the last table, too. Refused as [`write_run`].
+    /// Writes the entries as tables, and opens these as a run; none where there are no entries.
+    /// Answers the counter of ids behind the last table, too. Refused as [`write_run`].
     pub(crate) fn write(
         self,
         alloc: A,

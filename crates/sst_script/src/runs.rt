@@ -1,11 +1,13 @@
 //! What the runs that a script has written answer.
-ghost use Rattle.std.specs.Prelude.{◌≡◌, ◌+◌, ◌-◌, ◌<◌, ◌^◌, Bool, IfErr, IfOk, List, Option, Ok, map};
+ghost use Rattle.std.specs.Prelude.{◌≡◌, ◌+◌, ◌-◌, ◌<◌, ◌^◌, Bool, IfErr, IfOk, List, Option, Ok};
+ghost use Rattle.std.specs.Prelude.{map};
 ghost use Rattle.std.specs.Arc.{arc_value};
 ghost use Rattle.std.specs.Iterator.{IsFinite};
 ghost use Rattle.std.specs.Vec.{vec_items};
 ghost use Rattle.sst_entries.specs.declared.error.Error.TheVariants.{OutOfMemory};
 ghost use Rattle.sst_script.specs.Runs.{ForRuns, has_entry, repeats, union};
-ghost use Rattle.sst_script.specs.Words.{DealsList, Entry, Gives, IsWritable, key_bound, newest, nowhere, point, within};
+ghost use Rattle.sst_script.specs.Words.{DealsList, Entry, Gives, IsWritable, key_bound, newest};
+ghost use Rattle.sst_script.specs.Words.{nowhere, point, within};
 
 use lsm_ranges::Run;
 use lsm_readers::Table;
@@ -15,7 +17,8 @@ use std::alloc::Allocator;
 use std::ops::Bound;
 use std::sync::Arc;
 
-/// The newest of the runs' entries of a key numbered below a bound. Refused for want of memory alone.
+/// The newest of the runs' entries of a key numbered below a bound. Refused for want of memory
+/// alone.
 pub(crate) fn newest_answer<A: Allocator + Clone>(
     runs: &[Arc<Run<Table<A>, A>, A>],
     key: &[u8],
@@ -55,7 +58,8 @@ fn owned<A: Allocator + Clone>(alloc: &A, bound: Bound<&[u8]>) -> Result<Bound<U
     }
 }
 
-// All entries of a stream, or its first error. A stream that deals a list fails for want of memory alone.
+// All entries of a stream, or its first error. A stream that deals a list fails for want of memory
+// alone.
 fn collect<A: Allocator, I: Iterator<Item = IterItem<A>>>(
     alloc: A,
     stream: I,
@@ -87,7 +91,8 @@ pub(crate) fn share_all<A: Allocator + Clone>(
     Ok(shared)
 }
 
-/// Whether one of the runs has the key and number of one of some entries. Refused for want of memory alone.
+/// Whether one of the runs has the key and number of one of some entries. Refused for want of
+/// memory alone.
 pub(crate) fn is_repeated<A: Allocator + Clone>(
     runs: &[Arc<Run<Table<A>, A>, A>],
     items: &[InternalValue<A>],
@@ -104,7 +109,8 @@ pub(crate) fn is_repeated<A: Allocator + Clone>(
     Ok(false)
 }
 
-// Whether a run has an entry of this key and number: it is then the first that is numbered below the next number.
+// Whether a run has an entry of this key and number: it is then the first that is numbered below
+// the next number.
 fn has_entry<A: Allocator + Clone>(
     runs: &[Arc<Run<Table<A>, A>, A>],
     key: &[u8],

@@ -1,5 +1,6 @@
 -- Hashing in parts.
-use Rattle.std.proofs.Common.{ap₂, ◌↔◌, ◌*◌, ◌%◌, ◌^◌, ◌-◌, arith, bit_xor, ◌≡◌, ℕ, ◌+◌, ◌<◌, ◌≤◌, List, [], ◌∷◌, ◌++◌, length, get_or, take, drop, refl, sym, ap, ◌∙◌}
+use Rattle.std.proofs.Common.{ap₂, ◌↔◌, ◌*◌, ◌%◌, ◌^◌, ◌-◌, arith, bit_xor, ◌≡◌, ℕ, ◌+◌, ◌<◌, ◌≤◌}
+use Rattle.std.proofs.Common.{List, [], ◌∷◌, ◌++◌, length, get_or, take, drop, refl, sym, ap, ◌∙◌}
 use Rattle.std.proofs.lemmas.List.{take_more, take-append-drop, take-append-le}
 use Rattle.std.proofs.lemmas.List.{drop_all, drop_more}
 use Rattle.std.proofs.lemmas.Nat.{mul-mod_first, xor_mod}
@@ -16,7 +17,8 @@ fnv_from-append h [] ys = refl
 fnv_from-append h (x ∷ xs) ys = fnv_from-append (fnv_step h x) xs ys
 
 -- one byte more
-pub fnv_from-more : (h : ℕ) (xs : List ℕ) (i : ℕ) → i < length xs → fnv_from h (take (i + 1) xs) ≡ fnv_step (fnv_from h (take i xs)) (get_or xs i 0)
+pub fnv_from-more : (h : ℕ) (xs : List ℕ) (i : ℕ) → i < length xs
+    → fnv_from h (take (i + 1) xs) ≡ fnv_step (fnv_from h (take i xs)) (get_or xs i 0)
 unfolding fnv_from
 fnv_from-more h xs i lt = ap (fnv_from h) (take_more xs i 0 lt) ∙ fnv_from-append h (take i xs) (get_or xs i 0 ∷ [])
 
@@ -26,16 +28,19 @@ unfolding fnv_from
 fnv_from-none h = refl
 
 -- the front, and then the rest
-pub fnv_from-split : (h n : ℕ) (xs : List ℕ) → fnv_from (fnv_from h (take n xs)) (drop n xs) ≡ fnv_from h xs
+pub fnv_from-split : (h n : ℕ) (xs : List ℕ)
+    → fnv_from (fnv_from h (take n xs)) (drop n xs) ≡ fnv_from h xs
 fnv_from-split h n xs = sym (fnv_from-append h (take n xs) (drop n xs)) ∙ ap (fnv_from h) (take-append-drop n xs)
 
 -- the rest of a list whose front is hashed, where the list has grown since
-pub fnv_from-grown : (h n : ℕ) (xs ys : List ℕ) → n ≤ length xs → fnv_from (fnv_from h (take n xs)) (drop n (xs ++ ys)) ≡ fnv_from h (xs ++ ys)
+pub fnv_from-grown : (h n : ℕ) (xs ys : List ℕ) → n ≤ length xs
+    → fnv_from (fnv_from h (take n xs)) (drop n (xs ++ ys)) ≡ fnv_from h (xs ++ ys)
 fnv_from-grown h n xs ys le =
     ap (λ (front : List ℕ). fnv_from (fnv_from h front) (drop n (xs ++ ys))) (sym (take-append-le n xs ys le)) ∙ fnv_from-split h n (xs ++ ys)
 
 -- the hash of a front stays, where the list has grown since
-pub fnv_from-front : (h basis n : ℕ) (xs ys grown : List ℕ) → n ≤ length xs → grown ≡ xs ++ ys → h ≡ fnv_from basis (take n xs) → h ≡ fnv_from basis (take n grown)
+pub fnv_from-front : (h basis n : ℕ) (xs ys grown : List ℕ) → n ≤ length xs → grown ≡ xs ++ ys
+    → h ≡ fnv_from basis (take n xs) → h ≡ fnv_from basis (take n grown)
 fnv_from-front h basis n xs ys grown le e hashed = hashed ∙ ap (fnv_from basis) (sym (take-append-le n xs ys le) ∙ ap (take n) (sym e))
 
 -- the same number twice is none
@@ -66,7 +71,8 @@ fnv_step-differs h g b lh lg e =
     sym (apart h lh) ∙ ap (λ (n : ℕ). bit_xor ((n * fnv_inverse) % 2 ^ 64) (b % 2 ^ 64)) e ∙ apart g lg
 
 -- some bytes from two values differ
-fnv_from-differs : (bs : List ℕ) (h g : ℕ) → h < 2 ^ 64 → g < 2 ^ 64 → fnv_from h bs ≡ fnv_from g bs → h ≡ g
+fnv_from-differs : (bs : List ℕ) (h g : ℕ) → h < 2 ^ 64 → g < 2 ^ 64 → fnv_from h bs ≡ fnv_from g bs
+    → h ≡ g
 unfolding fnv_from
 fnv_from-differs [] h g lh lg e = e
 fnv_from-differs (b ∷ bs) h g lh lg e =
@@ -84,7 +90,8 @@ fnv_back-none h xs = ap (fnv_from h) (drop_all _ xs (omega arith)) ∙ fnv_from-
 
 -- one byte more is
 pub fnv_back-more : (h : ℕ) (xs : List ℕ) (i : ℕ) → h < 2 ^ 64 → i < length xs
-    → fnv_from (fnv_back h (get_or xs (length xs - 1 - i) 0)) (drop (length xs - (i + 1)) xs) ≡ fnv_from h (drop (length xs - i) xs)
+    → fnv_from (fnv_back h (get_or xs (length xs - 1 - i) 0)) (drop (length xs - (i + 1)) xs)
+    ≡ fnv_from h (drop (length xs - i) xs)
 unfolding fnv_from
 fnv_back-more h xs i lt short =
     let at = length xs - 1 - i in
@@ -96,14 +103,17 @@ fnv_back-more h xs i lt short =
     ∙ ap (λ (n : ℕ). fnv_from h (drop n xs)) next
 
 -- a front, and then the part behind it
-fnv_from-part : (h a b : ℕ) (xs : List ℕ) → a ≤ b → fnv_from (fnv_from h (take a xs)) (slice_range xs a b) ≡ fnv_from h (take b xs)
+fnv_from-part : (h a b : ℕ) (xs : List ℕ) → a ≤ b
+    → fnv_from (fnv_from h (take a xs)) (slice_range xs a b) ≡ fnv_from h (take b xs)
 fnv_from-part h a b xs le =
     let end : a + (b - a) ≡ b = omega arith in
     sym (fnv_from-append h (take a xs) (take (b - a) (drop a xs)))
     ∙ ap (fnv_from h) (sym (take-add a (b - a) xs) ∙ ap (λ (n : ℕ). take n xs) end)
 
--- the front is hashed and the back taken off: what is between leads from one to the other where the whole leads so
-pub fnv_from-meets : (from to front back n : ℕ) (xs : List ℕ) → from < 2 ^ 64 → back < 2 ^ 64 → n + n ≤ length xs
+-- the front is hashed and the back taken off: what is between leads from one to the other where the
+-- whole leads so
+pub fnv_from-meets : (from to front back n : ℕ) (xs : List ℕ) → from < 2 ^ 64 → back < 2 ^ 64
+    → n + n ≤ length xs
     → front ≡ fnv_from from (take n xs) → fnv_from back (drop (length xs - n) xs) ≡ to
     → (fnv_from front (slice_range xs n (length xs - n)) ≡ back) ↔ (fnv_from from xs ≡ to)
 fnv_from-meets from to front back n xs lf lb le hashed taken =
@@ -118,7 +128,9 @@ fnv_from-meets from to front back n xs lf lb le hashed taken =
 
 -- two bytes more
 pub fnv_from-two : (h : ℕ) (xs : List ℕ) (i : ℕ) → 2 * i + 1 < length xs
-    → fnv_from h (take (2 * (i + 1)) xs) ≡ fnv_step (fnv_step (fnv_from h (take (2 * i) xs)) (get_or xs (2 * i) 0)) (get_or xs (2 * i + 1) 0)
+    → fnv_from h (take (2 * (i + 1)) xs)
+    ≡ fnv_step (fnv_step (fnv_from h (take (2 * i) xs)) (get_or xs (2 * i) 0))
+    (get_or xs (2 * i + 1) 0)
 fnv_from-two h xs i lt =
     let next : 2 * (i + 1) ≡ 2 * i + 1 + 1 = omega arith in
     ap (λ (n : ℕ). fnv_from h (take n xs)) next
@@ -126,8 +138,11 @@ fnv_from-two h xs i lt =
     ∙ ap (λ (n : ℕ). fnv_step n (get_or xs (2 * i + 1) 0)) (fnv_from-more h xs (2 * i) (omega arith))
 
 -- two bytes more are taken off the back
-pub fnv_back-two : (h : ℕ) (xs : List ℕ) (i : ℕ) → h < 2 ^ 64 → fnv_back h (get_or xs (length xs - 1 - 2 * i) 0) < 2 ^ 64 → 2 * i + 1 < length xs
-    → fnv_from (fnv_back (fnv_back h (get_or xs (length xs - 1 - 2 * i) 0)) (get_or xs (length xs - 2 - 2 * i) 0)) (drop (length xs - 2 * (i + 1)) xs)
+pub fnv_back-two : (h : ℕ) (xs : List ℕ) (i : ℕ) → h < 2 ^ 64
+    → fnv_back h (get_or xs (length xs - 1 - 2 * i) 0) < 2 ^ 64 → 2 * i + 1 < length xs
+    → fnv_from
+    (fnv_back (fnv_back h (get_or xs (length xs - 1 - 2 * i) 0))
+    (get_or xs (length xs - 2 - 2 * i) 0)) (drop (length xs - 2 * (i + 1)) xs)
     ≡ fnv_from h (drop (length xs - 2 * i) xs)
 fnv_back-two h xs i fits inner_fits lt =
     let inner = fnv_back h (get_or xs (length xs - 1 - 2 * i) 0) in

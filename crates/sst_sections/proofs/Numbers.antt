@@ -1,8 +1,10 @@
 -- Numbers of 2, 4 and 8 bytes, read and written.
-use Rattle.std.proofs.Common.{◌≡◌, ℕ, ◌+◌, ◌^◌, ◌<◌, ◌≤◌, List, ◌++◌, length, get_or, take, drop, refl, sym, ap, ◌∙◌, arith, inl, inr}
+use Rattle.std.proofs.Common.{◌≡◌, ℕ, ◌+◌, ◌^◌, ◌<◌, ◌≤◌, List, ◌++◌, length, get_or, take, drop}
+use Rattle.std.proofs.Common.{refl, sym, ap, ◌∙◌, arith, inl, inr}
 use Rattle.std.specs.Int.{w16, w32, w64, from_le_bytes}
 use Rattle.std.proofs.lemmas.Bool.{cases_lt}
-use Rattle.std.proofs.lemmas.List.{take-append-drop, length-take, get_or-drop, get_or-take, get_or_past}
+use Rattle.std.proofs.lemmas.List.{take-append-drop, length-take, get_or-drop, get_or-take}
+use Rattle.std.proofs.lemmas.List.{get_or_past}
 use Rattle.std.proofs.lemmas.Nat.{le_bytes_2, le_bytes_4, le_bytes_8}
 use Rattle.byteorder.specs.Endian.{little_from}
 use Rattle.byteorder.specs.Numbers.{little_number-reads_back, little_from-lt, little_from-take}
@@ -27,7 +29,8 @@ IsBytes-take n bytes h i =
 -- numbers of w bytes, which are below limit
 pub record IsWide (w : ℕ) (num : List ℕ → ℕ) (le : ℕ → List ℕ) (limit : ℕ) : Type 0 where
   pub len : (n : ℕ) → length (le n) ≡ w
-  pub front : (bytes : List ℕ) → w ≤ length bytes → IsBytes bytes → bytes ≡ le (num bytes) ++ drop w bytes
+  pub front : (bytes : List ℕ) → w ≤ length bytes → IsBytes bytes
+      → bytes ≡ le (num bytes) ++ drop w bytes
   pub again : (n : ℕ) (rest : List ℕ) → n < limit → num (le n ++ rest) ≡ n
   pub below : (bytes : List ℕ) → IsBytes bytes → num bytes < limit
 
@@ -74,6 +77,7 @@ wide8 = record {
 }
 
 -- key lengths, in either version
-pub key_wide : (v : TableVersion) → IsWide (key_width v) (key_len_at v) (key_len_bytes v) (key_limit v)
+pub key_wide : (v : TableVersion)
+    → IsWide (key_width v) (key_len_at v) (key_len_bytes v) (key_limit v)
 key_wide V3 = wide2
 key_wide V4 = wide4

@@ -1,5 +1,8 @@
 -- The bytes of a finished writer read back as its sections.
-use Rattle.std.proofs.Common.{◌≡◌, ℕ, zero, suc, ◌+◌, ◌*◌, ◌-◌, ◌^◌, ◌<◌, ◌≤◌, ◌==◌, not, nat_eq, Bool, true, false, if◌then◌else◌, List, [], ◌∷◌, ◌++◌, length, get_or, take, drop, map, replicate, refl, sym, ap, ◌∙◌, arith, append_assoc, length-append}
+use Rattle.std.proofs.Common.{◌≡◌, ℕ, zero, suc, ◌+◌, ◌*◌, ◌-◌, ◌^◌, ◌<◌, ◌≤◌, ◌==◌, not, nat_eq}
+use Rattle.std.proofs.Common.{Bool, true, false, if◌then◌else◌, List, [], ◌∷◌, ◌++◌, length, get_or}
+use Rattle.std.proofs.Common.{take, drop, map, replicate, refl, sym, ap, ◌∙◌, arith, append_assoc}
+use Rattle.std.proofs.Common.{length-append}
 use Rattle.std.specs.Prelude.{Option, Some, None}
 use Rattle.std.specs.List.{flat_map, list_any}
 use Rattle.std.specs.Cmp.Lexicographic.{pointwise}
@@ -7,10 +10,15 @@ use Rattle.std.proofs.lemmas.List.{take_at, drop_at, append-nil}
 use Rattle.std.proofs.Math.Seq.{drop-append-add}
 use Rattle.std.proofs.lemmas.Bool.{eqb-true, and_parts}
 use Rattle.sst_sections.specs.declared.section.SectionName.{SectionName}
-use Rattle.sst_sections.specs.declared.section.SectionName.TheVariants.{Data, Index, Tli, Filter, FilterTli, TableVersion, Meta}
+use Rattle.sst_sections.specs.declared.section.SectionName.TheVariants.{Data, Index, Tli, Filter}
+use Rattle.sst_sections.specs.declared.section.SectionName.TheVariants.{FilterTli, TableVersion}
+use Rattle.sst_sections.specs.declared.section.SectionName.TheVariants.{Meta}
 use Rattle.sst_sections.specs.declared.section.Section.{Section}
 use Rattle.sst_sections.specs.Number.{le8, num8}
-use Rattle.sst_sections.specs.Sections.{Written, section_names, slot_index, trailer_mark, next_start, section_of, AreAscending, slot, trailer, finished, body_of, trailer_of, section_at, section_in, is_past, trailer_fault, ReadsBack}
+use Rattle.sst_sections.specs.Sections.{Written, section_names, slot_index, trailer_mark}
+use Rattle.sst_sections.specs.Sections.{next_start, section_of, AreAscending, slot, trailer}
+use Rattle.sst_sections.specs.Sections.{finished, body_of, trailer_of, section_at, section_in}
+use Rattle.sst_sections.specs.Sections.{is_past, trailer_fault, ReadsBack}
 use Rattle.sst_sections.proofs.Numbers.{wide8}
 use Rattle.sst_sections.proofs.TrailerLemmas.{trailer_fine}
 
@@ -19,11 +27,13 @@ abbrev pub Within : ℕ → Option Section → Type 0
 Within end None = Unit {0}
 Within end (Some s) = s.position + s.len ≤ end
 
-next_within : (end : ℕ) (ss : List (SectionName × ℕ)) → AreAscending end ss → next_start end ss ≤ end
+next_within : (end : ℕ) (ss : List (SectionName × ℕ)) → AreAscending end ss
+    → next_start end ss ≤ end
 next_within end [] asc = omega arith
 next_within end (s ∷ ss) asc = let rest = next_within end ss asc.1 in omega (arith, asc.0)
 
-pub section_of-within : (end : ℕ) (ss : List (SectionName × ℕ)) (name : SectionName) → AreAscending end ss → Within end (section_of end ss name)
+pub section_of-within : (end : ℕ) (ss : List (SectionName × ℕ)) (name : SectionName)
+    → AreAscending end ss → Within end (section_of end ss name)
 section_of-within end [] name asc = tt
 section_of-within end (s ∷ ss) name asc =
     let next = next_within end ss asc.1 in
@@ -74,7 +84,8 @@ test_fails xs ys differ = decide (pointwise nat_eq xs ys) refl
     decide false e = refl
 
 -- a slot reads back
-slot_reads : (end : ℕ) (s : Option Section) (rest : List ℕ) → end < 2 ^ 64 → Within end s → section_at (slot s ++ rest) ≡ s
+slot_reads : (end : ℕ) (s : Option Section) (rest : List ℕ) → end < 2 ^ 64 → Within end s
+    → section_at (slot s ++ rest) ≡ s
 slot_reads end None rest small within = refl
 slot_reads end (Some s) rest small within =
     let cells = (le8 s.position ++ le8 s.len) ++ rest in
@@ -88,12 +99,17 @@ module _ (f : SectionName → Option Section) where
   slots : List SectionName → List ℕ
   slots names = flat_map (λ name. slot (f name)) names
 
-  slots_len : (names : List SectionName) → length (flat_map (λ name. slot (f name)) names) ≡ 16 * length names
+  slots_len : (names : List SectionName)
+      → length (flat_map (λ name. slot (f name)) names) ≡ 16 * length names
   slots_len [] = refl
   slots_len (n ∷ names) = omega (arith, length-append (slot (f n)) (flat_map (λ name. slot (f name)) names), slot_len (f n), slots_len names)
 
   -- the slots from one on
-  slots_from : (names : List SectionName) (tail : List ℕ) (k : ℕ) (d : SectionName) → k < length names → (rest : List ℕ) × (drop (16 * k) (flat_map (λ name. slot (f name)) names ++ tail) ≡ slot (f (get_or names k d)) ++ rest)
+  slots_from : (names : List SectionName) (tail : List ℕ) (k : ℕ) (d : SectionName)
+      → k < length names
+      → (rest : List ℕ)
+      × (drop (16 * k) (flat_map (λ name. slot (f name)) names ++ tail)
+      ≡ slot (f (get_or names k d)) ++ rest)
   slots_from [] tail k d lt = absurd (omega arith)
   slots_from (n ∷ names) tail zero d lt = (flat_map (λ name. slot (f name)) names ++ tail, append_assoc (slot (f n)) (flat_map (λ name. slot (f name)) names) tail)
   slots_from (n ∷ names) tail (suc k) d lt =
@@ -102,7 +118,8 @@ module _ (f : SectionName → Option Section) where
       let far : 16 * suc k ≡ length (slot (f n)) + 16 * k = omega (arith, slot_len (f n)) in
       (more.0, ap (drop (16 * suc k)) (append_assoc (slot (f n)) (flat_map (λ name. slot (f name)) names) tail) ∙ ap (λ (i : ℕ). drop i (slot (f n) ++ later)) far ∙ drop-append-add (slot (f n)) later (16 * k) ∙ more.1)
 
-  none_past : (end : ℕ) (names : List SectionName) → ((name : SectionName) → Within end (f name)) → list_any (is_past end) (map f names) ≡ false
+  none_past : (end : ℕ) (names : List SectionName) → ((name : SectionName) → Within end (f name))
+      → list_any (is_past end) (map f names) ≡ false
   none_past end [] within = refl
   none_past end (n ∷ names) within = rw (within_test end (f n) (within n)) (none_past end names within)
     where
@@ -147,7 +164,9 @@ place_lt TableVersion = omega arith
 place_lt Meta = omega arith
 
 -- and each section lies where it was written
-pub finished_section : (w : Written) (name : SectionName) → length w.bytes < 2 ^ 64 → AreAscending (length w.bytes) w.started → section_in (finished w) name ≡ section_of (length w.bytes) w.started name
+pub finished_section : (w : Written) (name : SectionName) → length w.bytes < 2 ^ 64
+    → AreAscending (length w.bytes) w.started
+    → section_in (finished w) name ≡ section_of (length w.bytes) w.started name
 unfolding section_in
 finished_section w name small asc =
     let told : SectionName → Option Section = λ name. section_of (length w.bytes) w.started name in
@@ -161,7 +180,8 @@ map_same f g [] same = refl
 map_same f g (x ∷ xs) same = let head = same x in let tail = map_same f g xs same in cc
 
 -- so its trailer is taken
-pub finished_fine : (w : Written) → length w.bytes < 2 ^ 64 → AreAscending (length w.bytes) w.started → trailer_fault (finished w) ≡ None
+pub finished_fine : (w : Written) → length w.bytes < 2 ^ 64
+    → AreAscending (length w.bytes) w.started → trailer_fault (finished w) ≡ None
 finished_fine w small asc =
     let told : SectionName → Option Section = λ name. section_of (length w.bytes) w.started name in
     let bytes = finished w in
@@ -178,19 +198,22 @@ finished_fine w small asc =
 -- ---- sections begin one behind the other
 
 -- more bytes behind them
-pub ascending_more : (end more : ℕ) (ss : List (SectionName × ℕ)) → end ≤ more → AreAscending end ss → AreAscending more ss
+pub ascending_more : (end more : ℕ) (ss : List (SectionName × ℕ)) → end ≤ more → AreAscending end ss
+    → AreAscending more ss
 ascending_more end more [] le asc = tt
 ascending_more end more (s ∷ []) le asc = (omega (arith, asc.0), tt)
 ascending_more end more (s ∷ t ∷ ss) le asc = (asc.0, ascending_more end more (t ∷ ss) le asc.1)
 
 -- one that begins at the end
-pub ascending_start : (end : ℕ) (ss : List (SectionName × ℕ)) (name : SectionName) → AreAscending end ss → AreAscending end (ss ++ (name, end) ∷ [])
+pub ascending_start : (end : ℕ) (ss : List (SectionName × ℕ)) (name : SectionName)
+    → AreAscending end ss → AreAscending end (ss ++ (name, end) ∷ [])
 ascending_start end [] name asc = (omega arith, tt)
 ascending_start end (s ∷ []) name asc = (asc.0, (omega arith, tt))
 ascending_start end (s ∷ t ∷ ss) name asc = (asc.0, ascending_start end (t ∷ ss) name asc.1)
 
 -- so the bytes of a finished writer give back what was written
-pub finished_reads : (w : Written) → length w.bytes < 2 ^ 64 → AreAscending (length w.bytes) w.started → ReadsBack w (finished w)
+pub finished_reads : (w : Written) → length w.bytes < 2 ^ 64
+    → AreAscending (length w.bytes) w.started → ReadsBack w (finished w)
 finished_reads w small asc = record {
   fine = finished_fine w small asc;
   body = finished_body w;

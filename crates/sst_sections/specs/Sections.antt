@@ -1,9 +1,14 @@
--- The sections of a table's bytes: the body, and behind it a trailer of 120 bytes that says where each section lies.
-use Rattle.std.specs.Prelude.{◌≡◌, ℕ, ◌+◌, ◌-◌, ◌*◌, ◌≤◌, ◌==◌, ◌||◌, nat_lt, nat_eq, not, Bool, false, List, [], ◌∷◌, ◌++◌, length, take, drop, replicate, Option, Some, None, if◌then◌else◌}
+-- The sections of a table's bytes: the body, and behind it a trailer of 120 bytes that says where
+-- each section lies.
+use Rattle.std.specs.Prelude.{◌≡◌, ℕ, ◌+◌, ◌-◌, ◌*◌, ◌≤◌, ◌==◌, ◌||◌, nat_lt, nat_eq, not, Bool}
+use Rattle.std.specs.Prelude.{false, List, [], ◌∷◌, ◌++◌, length, take, drop, replicate, Option}
+use Rattle.std.specs.Prelude.{Some, None, if◌then◌else◌}
 use Rattle.std.specs.Cmp.Lexicographic.{pointwise}
 use Rattle.std.specs.List.{flat_map, list_any}
 use Rattle.sst_sections.specs.declared.section.SectionName.{SectionName}
-use Rattle.sst_sections.specs.declared.section.SectionName.TheVariants.{Data, Index, Tli, Filter, FilterTli, TableVersion, Meta}
+use Rattle.sst_sections.specs.declared.section.SectionName.TheVariants.{Data, Index, Tli, Filter}
+use Rattle.sst_sections.specs.declared.section.SectionName.TheVariants.{FilterTli, TableVersion}
+use Rattle.sst_sections.specs.declared.section.SectionName.TheVariants.{Meta}
 use Rattle.sst_sections.specs.declared.section.Section.{Section}
 use Rattle.sst_entries.specs.declared.error.Error.{Error}
 use Rattle.sst_entries.specs.declared.error.Error.TheVariants.{InvalidTrailer}
@@ -34,7 +39,8 @@ slots_len = 112
 abbrev pub trailer_mark : List ℕ
 trailer_mark = 0x4c ∷ 0x53 ∷ 0x4d ∷ 0x54 ∷ 0x53 ∷ 0x45 ∷ 0x43 ∷ 0x31 ∷ []
 
--- the bytes written so far, and the sections that were started, each with the position where it begins
+-- the bytes written so far, and the sections that were started, each with the position where it
+-- begins
 pub record Written : Type 0 where
   pub bytes : List ℕ
   pub started : List (SectionName × ℕ)
@@ -65,7 +71,8 @@ slot (Some s) = le8 s.position ++ le8 s.len
 -- seven slots, then the mark
 abbrev pub trailer : Written → List ℕ
 trailer w =
-    flat_map (λ name. slot (section_of (length w.bytes) w.started name)) section_names ++ trailer_mark
+    flat_map (λ name. slot (section_of (length w.bytes) w.started name)) section_names
+    ++ trailer_mark
 
 -- a table's bytes: the body, then the trailer
 abbrev pub finished : Written → List ℕ
@@ -103,7 +110,8 @@ is_bad_trailer bytes =
 abbrev pub trailer_fault : List ℕ → Option Error
 trailer_fault bytes = if is_bad_trailer bytes then Some InvalidTrailer else None
 
--- a table's bytes give back what was written: no fault of the trailer, the body, and each section where it lies
+-- a table's bytes give back what was written: no fault of the trailer, the body, and each section
+-- where it lies
 pub record ReadsBack (w : Written) (bytes : List ℕ) : Type 0 where
   pub fine : trailer_fault bytes ≡ None
   pub body : body_of bytes ≡ w.bytes

@@ -1,4 +1,5 @@
--- What the versions of the format differ in: the mark of a block, the width of a key length, the longest key that is written.
+-- What the versions of the format differ in: the mark of a block, the width of a key length, the
+-- longest key that is written.
 use Rattle.std.specs.Prelude.{ℕ, ◌^◌, if◌then◌else◌, List, [], ◌∷◌, Option, Some, None, nat_eq}
 use Rattle.std.specs.Cmp.Lexicographic.{pointwise}
 use Rattle.sst_sections.specs.Number.{le2, le4, num2, num4}

@@ -1,4 +1,5 @@
-//! The bytes of a table as sections, the numbers in them and their hash. What `sst_entries` exports is passed on.
+//! The bytes of a table as sections, the numbers in them and their hash. What `sst_entries` exports
+//! is passed on.
 #![tactic(auto)]
 
 mod checksum;

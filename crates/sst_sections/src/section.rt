@@ -1,9 +1,12 @@
 //! The sections of a table's bytes, and the trailer that says where they lie.
-ghost use Rattle.std.specs.Prelude.{◌≡◌, ◌++◌, ◌∷◌, [], ℕ, ◌<◌, ◌^◌, length, IfOk, IfErr, OnOk, OnErr, All};
+ghost use Rattle.std.specs.Prelude.{◌≡◌, ◌++◌, ◌∷◌, [], ℕ, ◌<◌, ◌^◌, length, IfOk, IfErr, OnOk};
+ghost use Rattle.std.specs.Prelude.{OnErr, All};
 ghost use Rattle.std.specs.List.{flat_map};
 ghost use Rattle.sst_sections.specs.Fnv.{fnv1a};
 ghost use Rattle.sst_sections.specs.Number.{le8};
-ghost use Rattle.sst_sections.specs.Sections.{AreAscending, ReadsBack, Written, finished, slot_index, section_names, section_of, slot, trailer_mark};
+ghost use Rattle.sst_sections.specs.Sections.{AreAscending, ReadsBack, Written, finished};
+ghost use Rattle.sst_sections.specs.Sections.{slot_index, section_names, section_of, slot};
+ghost use Rattle.sst_sections.specs.Sections.{trailer_mark};
 ghost use Rattle.sst_entries.specs.declared.error.Error.TheVariants.{OutOfMemory};
 
 use crate::fnv::{Fnv1a, update_both};
@@ -71,8 +74,8 @@ pub const TRAILER_LEN: usize = 120;
 pub struct SectionWriter<A: Allocator = Global> {
     bytes: Vec<u8, A>,
     started: Vec<(SectionName, u64), A>,
-    // The table's checksum lags behind the bytes: those of a block are hashed in the loop that hashes the next block's
-    // payload, where they cost nothing.
+    // The table's checksum lags behind the bytes: those of a block are hashed in the loop that
+    // hashes the next block's payload, where they cost nothing.
     hash: Fnv1a,
     hashed: usize,
 }
@@ -86,7 +89,8 @@ impl<A: Allocator> Model for SectionWriter<A> {
 
     ghost view = { λ w. record { bytes = w.bytes.items; started = w.started.items } };
 
-    ghost invariant = { λ w. (w.hashed ≤ vec_len w.bytes) × (w.hash.0 ≡ fnv1a (take w.hashed w.bytes.items))
+    ghost invariant = { λ w. (w.hashed ≤ vec_len w.bytes)
+        × (w.hash.0 ≡ fnv1a (take w.hashed w.bytes.items))
         × AreAscending (length w.bytes.items) w.started.items };
 }
 
@@ -105,7 +109,8 @@ impl<A: Allocator + Clone> SectionWriter<A> {
         })
     }
 
-    /// Begins a section at the position reached. Refused [`Error::OutOfMemory`]; nothing changes then.
+    /// Begins a section at the position reached. Refused [`Error::OutOfMemory`]; nothing changes
+    /// then.
     #[tactic(auto, using(crate::proofs::SectionLaws::ascending_start))]
     pub fn start(&mut self, name: SectionName) -> Result<(), Error>
         requires { All (λ s. slot_index s.0 ≡ slot_index name → ⊥) self.old.started }
@@ -137,7 +142,8 @@ impl<A: Allocator + Clone> SectionWriter<A> {
         self.bytes.len() as u64
     }
 
-    /// The bytes with their trailer, and the checksum of them all. Refused [`Error::OutOfMemory`] alone.
+    /// The bytes with their trailer, and the checksum of them all. Refused [`Error::OutOfMemory`]
+    /// alone.
     pub fn finish(self) -> Result<(Slice<A>, Checksum), Error>
         ensures bytes { IfOk result (λ x. x.0 ≡ finished self) }
         ensures checksum { IfOk result (λ x. x.1.0 ≡ fnv1a (finished self)) }
@@ -153,7 +159,8 @@ impl<A: Allocator + Clone> SectionWriter<A> {
         Ok((Slice::from_vec(bytes)?, checksum))
     }
 
-    /// Writes two runs of bytes at the end, one after the other. Refused [`Error::OutOfMemory`]; nothing changes then.
+    /// Writes two runs of bytes at the end, one after the other. Refused [`Error::OutOfMemory`];
+    /// nothing changes then.
     pub fn append_both(&mut self, front: &[u8], back: &[u8]) -> Result<(), Error>
         ensures ok { let bytes = self.old.bytes ++ front.now ++ back.now in
             OnOk result (self.new ≡ record self.old { bytes = bytes }) }
@@ -166,7 +173,8 @@ impl<A: Allocator + Clone> SectionWriter<A> {
         Ok(())
     }
 
-    /// The checksum of some bytes. The table's own checksum takes in, in the same loop, the bytes that it lags behind.
+    /// The checksum of some bytes. The table's own checksum takes in, in the same loop, the bytes
+    /// that it lags behind.
     pub fn checksum_of(&mut self, bytes: &[u8]) -> u64
         ensures value { result ≡ fnv1a bytes.now }
         ensures unchanged { self.new ≡ self.old }
@@ -183,8 +191,8 @@ impl<A: Allocator + Clone> SectionWriter<A> {
     }
 }
 
-/// A law of tables' bytes: the sections that a writer began, each behind the one before it, are read back
-/// from what it finished. The call does nothing.
+/// A law of tables' bytes: the sections that a writer began, each behind the one before it, are
+/// read back from what it finished. The call does nothing.
 pub fn finished_sections_read()
     ensures { (w : Written) → AreAscending (length w.bytes) w.started → length w.bytes < 2 ^ 64 →
         ReadsBack w (finished w) }

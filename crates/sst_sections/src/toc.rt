@@ -1,8 +1,10 @@
 //! What a trailer says of the sections.
-ghost use Rattle.std.specs.Prelude.{◌≡◌, ◌*◌, ◌≤◌, None, Some, drop, length, map, slice_index_or, IfOk};
+ghost use Rattle.std.specs.Prelude.{◌≡◌, ◌*◌, ◌≤◌, None, Some, drop, length, map, slice_index_or};
+ghost use Rattle.std.specs.Prelude.{IfOk};
 ghost use Rattle.std.specs.List.{list_any};
 ghost use Rattle.sst_entries.specs.Error.{Refuses};
-ghost use Rattle.sst_sections.specs.Sections.{is_past, slot_index, section_at, section_in, section_names, slots_len, trailer_fault};
+ghost use Rattle.sst_sections.specs.Sections.{is_past, slot_index, section_at, section_in};
+ghost use Rattle.sst_sections.specs.Sections.{section_names, slots_len, trailer_fault};
 
 use crate::number::u64_at;
 use crate::section::{TRAILER_LEN, TRAILER_MARK};
@@ -12,7 +14,8 @@ use std::marker::Model;
 /// The length of the seven slots of a trailer in bytes: the mark stands behind them.
 const SLOTS_LEN: usize = TRAILER_LEN - TRAILER_MARK.len();
 
-/// Where each section of a table lies. A contract sees the list of the sections in the trailer's order.
+/// Where each section of a table lies. A contract sees the list of the sections in the trailer's
+/// order.
 #[derive(Clone, Copy, Debug)]
 pub struct Toc {
     pub sections: [Option<Section>; 7],
@@ -37,8 +40,8 @@ impl Toc {
         self.sections[name.place()]
     }
 
-    /// Reads the trailer of a table's bytes. Refused [`Error::InvalidTrailer`] where there are fewer bytes than a trailer has,
-    /// the mark differs or a section passes the end of the body.
+    /// Reads the trailer of a table's bytes. Refused [`Error::InvalidTrailer`] where there are
+    /// fewer bytes than a trailer has, the mark differs or a section passes the end of the body.
     pub fn of(bytes: &[u8]) -> Result<Toc, Error>
         ensures toc { IfOk result (λ toc. toc ≡ map (section_in bytes.now) section_names) }
         ensures fault { Refuses result (trailer_fault bytes.now) }

@@ -2,7 +2,8 @@
 ghost use Rattle.std.specs.Prelude.{◌≡◌, IsTrue, ◌↔◌};
 ghost use Rattle.sst_sections.specs.Version.{mark, longest_key, version_of};
 
-/// A version of the table format. Every block says by its mark which version's grammar its payload has.
+/// A version of the table format. Every block says by its mark which version's grammar its payload
+/// has.
 #[derive(Clone, Copy, Debug, PartialEq, Eq)]
 pub enum TableVersion {
     /// Key lengths of two bytes. Read, and never written.

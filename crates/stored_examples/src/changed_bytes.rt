@@ -6,7 +6,8 @@ use lsm_tables::Table;
 use sst_blocks::{Error, SeqNo, Slice, TagName};
 use std::alloc::Global;
 
-// A refusal to open, or what a read then answers: the number found, if any, and how many data blocks it loads.
+// A refusal to open, or what a read then answers: the number found, if any, and how many data
+// blocks it loads.
 type Answer = Result<(Result<Option<SeqNo>, Error>, u64), Error>;
 
 // Some bytes of the stored table, from where and by what they are overwritten.
@@ -48,7 +49,8 @@ const TLI_SLOT: [u8; 16] = [45, 0, 0, 0, 0, 0, 0, 0, 51, 0, 0, 0, 0, 0, 0, 0];
 
 const META_SLOT: [u8; 16] = [97, 0, 0, 0, 0, 0, 0, 0, 0x11, 4, 0, 0, 0, 0, 0, 0];
 
-// The slots of the trailer begin at 1,138: that of the data, then, 32 bytes on, of the index, and 64 bytes on of the meta block.
+// The slots of the trailer begin at 1,138: that of the data, then, 32 bytes on, of the index, and
+// 64 bytes on of the meta block.
 const DATA_AT: usize = 1138;
 
 const TLI_AT: usize = 1170;
@@ -169,7 +171,7 @@ fn open_front(alloc: Global, len: usize) -> Result<(), Error> {
     open(alloc, Slice::from(alloc, front)?, 0).map(drop)
 }
 
-// Whether they are refused as bytes without a trailer.
+// Whether so many first bytes of the stored table are refused as bytes without a trailer.
 fn has_no_trailer(alloc: Global, len: usize) -> bool {
     open_front(alloc, len) == Err(Error::InvalidTrailer)
 }

@@ -78,7 +78,7 @@ fn put_changed<A: Allocator>(
     Ok(1)
 }
 
-// The same of an item that is read.
+// Writes an item that is read, as it is changed, and answers how many are written.
 fn put_read<A: Allocator>(
     payload: &mut Vec<u8, A>,
     item: Result<InternalValue<A>, Error>,
@@ -299,8 +299,8 @@ const NOT_READ: &[&[u8]] = &[
     b"user_data_size",
 ];
 
-// The numbers where an item is gone, where it has one of the two largest numbers, and where it is a tombstone. Items are looked
-// for below the largest number, and whatever their kind.
+// The numbers where an item is gone, where it has one of the two largest numbers, and where it is a
+// tombstone. Items are looked for below the largest number, and whatever their kind.
 fn numbers(alloc: Global, name: &'static [u8]) -> [u8; 4] {
     [
         number(alloc, &[(name, Change::Gone)]),
@@ -361,7 +361,8 @@ fn items_are_read_in_one_order(rt: HostRuntime) {
     }
 }
 
-// Whether opening a table of a checksum that is not known is refused so, or for want of memory where that may be.
+// Whether opening a table of a checksum that is not known is refused so, or for want of memory
+// where that may be.
 fn refuses_the_checksum<A: Allocator + Copy>(alloc: A, may_fail: bool) -> bool {
     match reopen(alloc, &[(b"checksum_type", TWO)]) {
         Ok(()) => false,

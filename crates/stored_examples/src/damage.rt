@@ -41,13 +41,13 @@ type Damaged = (Stored, usize, Pins);
 // The last byte of the second partition of the index.
 const PART_OF_INDEX: Damaged = (Stored::Levels, 277, BOTH);
 
-// That of the whole index.
+// The last byte of the whole index.
 const WHOLE_INDEX: Damaged = (Stored::One, 95, NO_INDEX);
 
-// That of the whole filter.
+// The last byte of the whole filter.
 const WHOLE_FILTER: Damaged = (Stored::Filtered, 128, NO_FILTER);
 
-// That of the first partition of the filter.
+// The last byte of the first partition of the filter.
 const PART_OF_FILTER: Damaged = (Stored::FilterParts, 328, BOTH);
 
 fn opened(alloc: Global, damaged: &Damaged) -> Result<Table, Error> {

@@ -1,5 +1,5 @@
-//! Worked examples of tables that were stored: tests over the bytes of an independent program, as they are and changed. Nothing
-//! here is for use.
+//! Worked examples of tables that were stored: tests over the bytes of an independent program, as
+//! they are and changed. Nothing here is for use.
 #![tactic(auto)]
 
 #[cfg(test)]

@@ -1,4 +1,5 @@
-//! Stored tables that are read with each pin and without: what stays loaded, what is found, and what each read loads.
+//! Stored tables that are read with each pin and without: what stays loaded, what is found, and
+//! what each read loads.
 use example_tables::pins::{
     OF_FILTER_PARTS, OF_ONE_ENTRY, OF_ONE_ENTRY_FILTERED, OF_TWO_LEVELS, Sizes, Starts,
     all_answered, all_sizes, starts_of,
@@ -48,7 +49,8 @@ fn reads_under_each_pair_of_pins(rt: HostRuntime) -> Result<(), Fail> {
     Ok(())
 }
 
-// Where readers of an index start: of one that stays loaded, of one that does not, and of one in two levels.
+// Where readers of an index start: of one that stays loaded, of one that does not, and of one in
+// two levels.
 fn starts_of_each(alloc: Global) -> Result<[Starts; 3], Error> {
     Ok([
         starts_of(alloc, &filter_parts::BYTES, (true, true))?,

@@ -51,7 +51,7 @@ fn stored_answers(alloc: Global, bytes: &[u8], reads: &[Read]) -> Result<bool, E
     asked(opened(alloc, bytes), |table| Ok(answers(table, reads)))
 }
 
-// The same of each stored table.
+// Whether each stored table answers its reads so.
 fn each_answers(alloc: Global) -> Result<[bool; 3], Error> {
     Ok([
         stored_answers(alloc, &one_entry::BYTES, &OF_ONE_ENTRY)?,
@@ -71,7 +71,7 @@ fn filter_size(alloc: Global, bytes: &[u8]) -> Result<u32, Error> {
     asked(opened(alloc, bytes), |table| Ok(table.filter_size()))
 }
 
-// Those of each stored table.
+// The bytes that the filter of each stored table takes.
 fn filter_sizes(alloc: Global) -> Result<[u32; 3], Error> {
     Ok([
         filter_size(alloc, &one_entry::BYTES)?,

@@ -45,8 +45,8 @@ fn in_parts(alloc: Global, rows: &[Row<'_>]) -> Result<Slice, Error> {
 /// A key, a bound, the number that is found, if any, and how many data blocks are loaded.
 pub(crate) type Read<'a> = (&'a [u8], SeqNo, Option<SeqNo>, u64);
 
-/// What a table is to answer under some pairs of pins: point reads, and the numbers within some bounds
-/// from the front, up to three of them.
+/// What a table is to answer under some pairs of pins: point reads, and the numbers within some
+/// bounds from the front, up to three of them.
 #[derive(Drop)]
 pub(crate) struct Answers<'a> {
     pub(crate) pins: &'a [Pins],

@@ -19,7 +19,7 @@ fn in_one_block(alloc: Global) -> Result<Slice, Error> {
     Ok(fill(new_writer(alloc)?, alloc, ROWS)?.bytes)
 }
 
-// Those of the table of all rows, each in a block of its own.
+// The bytes of the table of all rows, each in a block of its own.
 fn in_blocks_of_one(alloc: Global) -> Result<Slice, Error> {
     let writer = new_writer(alloc)?.use_data_block_size(0);
     Ok(fill(writer, alloc, ROWS)?.bytes)

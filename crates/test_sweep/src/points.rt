@@ -73,7 +73,7 @@ fn is_got(table: &Table, query: &Query, answer: &Answer<'_>) -> bool {
     is_answer(&found, &answer.0) && are_loads(&opened, answer.1)
 }
 
-// The same of a read over a source that counts.
+// Whether a point read over a source that counts answers and loads what it should.
 fn is_read(source: &BlockSource, table: &Table, query: &Query, answer: &Answer<'_>) -> bool {
     let key = query.key.as_slice();
     let mut counted = Counted::new(source);
@@ -82,7 +82,8 @@ fn is_read(source: &BlockSource, table: &Table, query: &Query, answer: &Answer<'
     is_answer(&found, &answer.0) && are_loads(&counted.opened(), answer.1)
 }
 
-/// Whether all point reads do, each in both ways.
+/// Whether all point reads of a table, each by the table and over a source that counts, answer and
+/// load what they should.
 pub fn are_got(
     source: &BlockSource,
     table: &Table,

@@ -125,8 +125,8 @@ pub struct Told<'a> {
 
 const ABOVE: &[u8] = b"a";
 
-/// What they should deal: all entries, those above a key, the handles of the index, and the entries
-/// in file order.
+/// What readers of a table should deal: all entries, those above a key, the handles of the index,
+/// and the entries in file order.
 pub fn rows_of<'a>(alloc: Global, want: &test_sweep_tables::Table<'a>) -> Told<'a> {
     Told {
         entries: entry_rows(alloc, want, None),

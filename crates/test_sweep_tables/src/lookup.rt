@@ -117,8 +117,8 @@ fn entry_in<'a>(
     }
 }
 
-/// The first entry of a key numbered below `seqno`, its number with the global number added. `loads`
-/// is to be none.
+/// The first entry of a key numbered below `seqno`, its number with the global number added.
+/// `loads` is to be none.
 pub fn get<'a>(
     alloc: Global,
     table: &Table<'a>,

@@ -22,7 +22,8 @@ const LARGEST_AT_FIRST: Changes = &[
     (390, LARGEST),
 ];
 
-// The last one, that of `b`, does.
+// The last handle of the filter's top level, that of `b`, gets the largest number, and the block
+// its checksum.
 const LARGEST_AT_LAST: Changes = &[
     (378, &[0x49, 0x1d, 0x37, 0xb0, 0x80, 0x97, 0xf3, 0xf4]),
     (413, LARGEST),

@@ -278,7 +278,8 @@ fn read<A: Allocator + Copy>(table: &Table<A>, row: &Row<'_>) -> Result<bool, Er
     Ok(found.map(|item| item.key.seqno) == Some(row.1))
 }
 
-// Whether the rows are found, also where there is no memory for marks, or a refused request is answered as one.
+// Whether the rows are found, also where there is no memory for marks, or a refused request is
+// answered as one.
 fn finds_its_rows(heap: &Refusing, may_fail: bool) -> bool {
     match rows_found(heap) {
         Ok(found) => found == 8,

@@ -20,7 +20,7 @@ fn sections_of(alloc: Global, bytes: &[u8]) -> Result<Sections, Error> {
     asked(source_of(alloc, bytes), |source| Ok(sections(source)))
 }
 
-// Those of each stored table.
+// The sections of each stored table.
 fn sections_of_each(alloc: Global) -> Result<[Sections; 4], Error> {
     Ok([
         sections_of(alloc, &one_entry::BYTES)?,
@@ -94,8 +94,8 @@ fn sections_of_a_table_that_is_written(rt: HostRuntime) -> Result<(), Fail> {
     Ok(())
 }
 
-// What a table says of itself: its version, its id, how many entries, data blocks and index blocks it has, the length of its
-// data blocks, and its lowest and its highest number.
+// What a table says of itself: its version, its id, how many entries, data blocks and index blocks
+// it has, the length of its data blocks, and its lowest and its highest number.
 fn facts_of(meta: &ParsedMeta) -> [u64; 8] {
     let (lowest, highest) = meta.seqnos;
     [
@@ -120,7 +120,7 @@ fn facts(alloc: Global, bytes: &[u8]) -> Result<[u64; 8], Error> {
     asked(source_of(alloc, bytes), |source| facts_in(source))
 }
 
-// Those of each stored table.
+// What each stored table says of itself.
 fn facts_of_each(alloc: Global) -> Result<[[u64; 8]; 4], Error> {
     Ok([
         facts(alloc, &one_entry::BYTES)?,
@@ -269,7 +269,7 @@ fn put_filter_parts(
     Ok(())
 }
 
-// Those of the parts below the top level of a filter.
+// Appends where the parts below the top level of a filter lie, and the sizes of their payloads.
 fn put_filter_level(
     alloc: Global,
     source: &BlockSource,

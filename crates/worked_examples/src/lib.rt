@@ -1,4 +1,5 @@
-//! Worked examples: tests that go through several crates, from entries to bytes and back. Nothing here is for use.
+//! Worked examples: tests that go through several crates, from entries to bytes and back. Nothing
+//! here is for use.
 #![tactic(auto)]
 
 #[cfg(test)]

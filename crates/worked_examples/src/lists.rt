@@ -46,7 +46,8 @@ fn all_numbers<A: Allocator + Copy>(
     Ok((found, numbers(scanner)?))
 }
 
-// The number of the entry that a read of a list finds, and the numbers of a scan; `Source(0)` where no table can be written.
+// The number of the entry that a read of a list finds, and the numbers of a scan; `Source(0)` where
+// no table can be written.
 fn read_rows<A: Allocator + Copy>(
     alloc: A,
     rows: &[Row<'_>],

@@ -1,5 +1,5 @@
-//! Tables that are written and read with each pin and without: what stays loaded, what is found, and
-//! what each read loads.
+//! Tables that are written and read with each pin and without: what stays loaded, what is found,
+//! and what each read loads.
 use crate::kinds::{filter_parts, index_parts, one_key};
 use crate::tables::{bytes_of, written, written_in_blocks};
 use example_tables::pins::{
@@ -69,8 +69,8 @@ fn two_levels_under_each_pair_of_pins(rt: HostRuntime) -> Result<(), Fail> {
     Ok(())
 }
 
-// Where readers of an index start: of one that stays loaded, of one that does not, and of one in two
-// levels.
+// Where readers of an index start: of one that stays loaded, of one that does not, and of one in
+// two levels.
 fn starts_of_each(alloc: Global) -> Result<[Starts; 3], Error> {
     let plain = written_in_blocks(alloc)?;
     let parts = bytes_of(index_parts(alloc))?;

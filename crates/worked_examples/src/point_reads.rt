@@ -78,7 +78,8 @@ fn listed_read<A: Allocator + Copy>(
     with_handle(found, listing.handles.as_slice())
 }
 
-// The same read. Where it is refused for want of memory, it is asked again.
+// What a point read finds, and the blocks that it loads. Where it is refused for want of memory, it
+// is asked again.
 fn repeated_read<A: Allocator + Copy>(
     heap: Global,
     source: &BlockSource<A>,
@@ -225,7 +226,8 @@ fn highest_and_reads(table: &Table) -> Result<(SeqNo, [Option<SeqNo>; 3]), Error
     Ok((table.get_highest_seqno(), reads))
 }
 
-// Those of a table of a@3 with a global number.
+// The highest number of a table of a@3 with a global number, and what reads of `a` below 14, 13 and
+// 10 find in it.
 fn lifted_reads(alloc: Global, global_seqno: SeqNo) -> Result<(SeqNo, [Option<SeqNo>; 3]), Error> {
     let rows: [Row<'static>; 1] = [(b"a", 3, ValueType::Value, b"")];
     let bytes = written(alloc, &rows)?;

@@ -48,7 +48,8 @@ fn found_in<A: Allocator + Copy>(alloc: A, table: &Table<A>, sought: &[Sought]) 
     names_of(alloc, get_many(table, &queries)?)
 }
 
-// The same. Where it is refused for want of memory, it is asked again.
+// The names of what queries find in a table. Where they are refused for want of memory, they are
+// asked again.
 fn repeated<A: Allocator + Copy>(alloc: A, table: &Table<A>, sought: &[Sought]) -> Names<A> {
     match found_in(alloc, table, sought) {
         Err(Error::OutOfMemory) => found_in(alloc, table, sought),
@@ -67,7 +68,8 @@ fn cloned(table: Table) -> Result<Table, Error> {
     Ok(table.clone()?)
 }
 
-// What they find in its clone once the table is gone.
+// What queries find in a clone of that table, of blocks of one entry, once the table itself is
+// gone.
 fn found_in_clone(alloc: Global, sought: &[Sought]) -> Names<Global> {
     let copy = cloned(opened_in_blocks(alloc, 0)?);
     asked(copy, |table| found_in(alloc, table, sought))
@@ -124,7 +126,8 @@ fn a_query_that_is_refused_leaves_no_answers(rt: HostRuntime) -> Result<(), Fail
     Ok(())
 }
 
-// What they find in that of several blocks of 46 bytes, where the last byte of that of a@7 is changed, and the mark of that of b@1.
+// What queries find in a table of several blocks of 46 bytes, where the last byte of the block of
+// a@7 is changed, and the mark of that of b@1.
 fn found_in_two_damaged(alloc: Global, sought: &[Sought]) -> Names<Global> {
     let written = written_in_blocks(alloc)?;
     let bytes = overwritten(alloc, written.as_slice(), &[(91, b"?"), (138, b"?")])?;

@@ -45,7 +45,7 @@ fn first_five(alloc: Global, bytes: &[u8]) -> Result<[Step; 5], Error> {
     asked_mut(scan_of(open(alloc, bytes, 0)), |scan| Ok(five_steps(scan)))
 }
 
-// Those of each stored table.
+// The first five steps of a scan of each stored table.
 fn of_each(alloc: Global) -> Result<[[Step; 5]; 4], Error> {
     Ok([
         first_five(alloc, &one_entry::BYTES)?,
@@ -106,7 +106,7 @@ fn two_of_blocks(
     )
 }
 
-// Those of scans of one block, of none and of nine.
+// The first two steps of scans of one block, of none and of nine.
 fn of_counts(alloc: Global) -> Result<[[Step; 2]; 3], Error> {
     Ok([
         two_of_blocks(alloc, &[], 1, 0)?,
@@ -128,7 +128,7 @@ fn a_scan_of_blocks_goes_on_up_to_what_is_none(rt: HostRuntime) -> Result<(), Fa
     Ok(())
 }
 
-// Those of scans that lift by the two largest numbers.
+// The first two steps of scans that lift by the two largest numbers.
 fn of_largest(alloc: Global) -> Result<[[Step; 2]; 2], Error> {
     Ok([
         two_of_blocks(alloc, &[], 1, u64::MAX - 1)?,
@@ -157,7 +157,8 @@ fn counted_steps(scan: &mut Scanner) -> ([Step; 5], [u64; 2]) {
     (steps, [before, scan.opened().data_loads])
 }
 
-// Those of a scan of a table that is gone.
+// The steps of a scan of a table that is gone, and how many data blocks were loaded before the
+// first and after the last.
 fn scanned(alloc: Global, global_seqno: SeqNo) -> Result<([Step; 5], [u64; 2]), Error> {
     let scan = scan_of(opened_in_blocks(alloc, global_seqno));
     asked_mut(scan, |scan| Ok(counted_steps(scan)))

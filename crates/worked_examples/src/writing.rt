@@ -55,7 +55,8 @@ const TOMBSTONES: [Row<'static>; 5] = [
     (b"d", 5, ValueType::Indirection, b"far"),
 ];
 
-// How many tombstones, weak ones, values behind those and entries a table has, and its lowest and its highest number.
+// How many tombstones, weak ones, values behind those and entries a table has, and its lowest and
+// its highest number.
 fn counts_of(table: &Table) -> [u64; 6] {
     let (lowest, highest) = table.metadata.seqnos;
     [

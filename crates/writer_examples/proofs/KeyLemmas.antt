@@ -21,18 +21,22 @@ rises_above_none holds key held = record { given = no_keys; held = held; rising 
 pub given_none : (w : CutParts) → HoldsParts w no_keys → WasGiven w []
 given_none w held = record { given = no_keys; held = held; are = refl }
 
-pub given_again : (w v : CutParts) (keys : List (List ℕ)) → WasGiven w keys → ((given : GivenKeys) → HoldsParts w given → HoldsParts v given) → WasGiven v keys
+pub given_again : (w v : CutParts) (keys : List (List ℕ)) → WasGiven w keys
+    → ((given : GivenKeys) → HoldsParts w given → HoldsParts v given) → WasGiven v keys
 given_again w v keys was again = record { given = was.given; held = again was.given was.held; are = was.are }
 
-pub given_more : (w v : CutParts) (kind : FilterKind) (policy : BloomConstructionPolicy) (keys : List (List ℕ)) (key : List ℕ) → WasGiven w keys
-    → ((given : GivenKeys) → HoldsParts w given → HoldsParts v (with_key kind policy given key)) → WasGiven v (keys ++ key ∷ [])
+pub given_more : (w v : CutParts) (kind : FilterKind) (policy : BloomConstructionPolicy)
+    (keys : List (List ℕ)) (key : List ℕ) → WasGiven w keys
+    → ((given : GivenKeys) → HoldsParts w given → HoldsParts v (with_key kind policy given key))
+    → WasGiven v (keys ++ key ∷ [])
 given_more w v kind policy keys key was more = record {
   given = with_key kind policy was.given key;
   held = more was.given was.held;
   are = all_keys_more kind policy was.given key ∙ ap (λ (ks : List (List ℕ)). ks ++ key ∷ []) was.are;
 }
 
-pub rises_above : (w : CutParts) (keys : List (List ℕ)) (key : List ℕ) → WasGiven w keys → AreRising (keys ++ key ∷ []) → Rises (HoldsParts w) key
+pub rises_above : (w : CutParts) (keys : List (List ℕ)) (key : List ℕ) → WasGiven w keys
+    → AreRising (keys ++ key ∷ []) → Rises (HoldsParts w) key
 rises_above w keys key was rising = record {
   given = was.given;
   held = was.held;
@@ -44,6 +48,7 @@ pub second_rises : (a b : List ℕ) → a ≡ 97 ∷ [] → b ≡ 98 ∷ [] → 
 unfolding IsStrictAfter
 second_rises a b ea eb = rw (ea, eb) (refl, (refl, tt))
 
-pub third_rises : (a b c : List ℕ) → a ≡ 97 ∷ [] → b ≡ 98 ∷ [] → c ≡ 99 ∷ [] → AreRising (a ∷ b ∷ c ∷ [])
+pub third_rises : (a b c : List ℕ) → a ≡ 97 ∷ [] → b ≡ 98 ∷ [] → c ≡ 99 ∷ []
+    → AreRising (a ∷ b ∷ c ∷ [])
 unfolding IsStrictAfter
 third_rises a b c ea eb ec = rw (ea, eb, ec) (refl, (refl, (refl, tt)))

@@ -110,8 +110,8 @@ fn told(source: &BlockSource, tops: &IndexBlock) -> Result<Told, Error> {
     Ok((ends, yes))
 }
 
-// The same of what is written once options were set between the keys, and how many partitions
-// there are.
+// How many partitions are written where options are set between the keys, the end keys of the first
+// ones, and whether "a", "b" and "c" are admitted.
 fn told_of(alloc: Global, settings: Settings) -> Result<(usize, Told), Error> {
     let (count, bytes) = written(alloc, settings)?;
     let source = BlockSource::new(alloc, bytes)?;

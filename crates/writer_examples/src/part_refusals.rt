@@ -28,7 +28,7 @@ fn with_front<A: Allocator + Copy>(alloc: A) -> Result<SectionWriter<A>, Error>
     Ok(sections)
 }
 
-// Whether it has them still.
+// Whether a section writer has the bytes of its front still.
 fn has_front<A: Allocator + Copy>(sections: SectionWriter<A>) -> Result<bool, Error> {
     let (bytes, _) = sections.finish()?;
     Ok(bytes.as_slice().starts_with(FRONT))

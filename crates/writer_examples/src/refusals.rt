@@ -1,5 +1,5 @@
-//! Writers of tables that were refused memory, each request in turn, and have ample memory again: they
-//! refuse from then on.
+//! Writers of tables that were refused memory, each request in turn, and have ample memory again:
+//! they refuse from then on.
 use example_tables::rows::{entry, new_writer};
 use lsm_writers::{MultiWriter, TableIds, Timestamp, Writer};
 use refusing::each_refused;
@@ -14,8 +14,8 @@ pub(crate) fn number(refused: Option<Error>) -> u8 {
 // What a call answers that is refused or not, the same call after a refusal, and the end.
 pub(crate) type Answers = (u8, u8, u8);
 
-// Whether nothing was refused; or memory where it may be, and each later call for that; or memory at
-// the end alone.
+// Whether nothing was refused; or memory where it may be, and each later call for that; or memory
+// at the end alone.
 pub(crate) fn are_right(answers: Result<Answers, Error>, may_fail: bool) -> bool {
     match answers {
         Ok((0, 0, 0)) => true,

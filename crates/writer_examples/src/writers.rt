@@ -13,8 +13,8 @@ use sst_blocks::{
 use std::alloc::{Allocator, Global};
 use std::test::Fail;
 
-// How many entries and blocks are cut, how many keys, tombstones, weak ones and values behind those are written, and how
-// many bytes wait.
+// How many entries and blocks are cut, how many keys, tombstones, weak ones and values behind those
+// are written, and how many bytes wait.
 fn counts(writer: &Writer) -> [usize; 7] {
     let meta = writer.metadata();
     [
@@ -135,12 +135,13 @@ fn put_behind(alloc: Global, writer: &mut Writer, row: Row<'_>) -> Result<bool, 
     put_rows(alloc, writer, &[(b"e", 3, ValueType::Tombstone, b""), row])
 }
 
-// The same of a new writer.
+// Whether a new writer, once it was given e@3, takes an entry behind it.
 fn follows(alloc: Global, row: Row<'_>) -> Result<bool, Error> {
     asked_mut(new_writer(alloc), |writer| put_behind(alloc, writer, row))
 }
 
-// Neither an older key, nor the same number again, nor the largest number.
+// What is written behind e@3, and whether it may follow: neither an older key, nor the same number
+// again, nor the largest number.
 const BEHIND: &[(Row<'static>, bool)] = &[
     ((b"d", 1, ValueType::Value, b""), false),
     ((b"e", 3, ValueType::Value, b""), false),
@@ -163,7 +164,8 @@ fn cut_so_far(writer: &Writer) -> (usize, usize, BlockOffset) {
     (meta.data_block_count, meta.key_count, meta.file_pos)
 }
 
-// The counts of blocks and of keys, and the length, of a table of three versions in blocks of size 0.
+// The counts of blocks and of keys, and the length, of a table of three versions in blocks of size
+// 0.
 fn cut_at_size_0(alloc: Global) -> Result<(usize, usize, BlockOffset), Error> {
     let rows: [Row<'_>; 3] = [
         (b"a", 9, ValueType::Value, b""),
@@ -211,7 +213,8 @@ fn up_to_the_end(alloc: Global, key: &[u8]) -> Result<[u8; 4], Error> {
     Ok([first, second, cut, last])
 }
 
-// The same of a key of this length.
+// What writing an entry of a key of this length answers, and another one, a cut and the end after
+// it.
 fn after_a_key_of(alloc: Global, len: usize) -> Result<[u8; 4], Error> {
     let key = vec![in alloc; 0x61u8; len]?;
     up_to_the_end(alloc, &key)
@@ -238,7 +241,7 @@ fn with_options(alloc: Global) -> Result<Writer, Error> {
     )
 }
 
-// Whether it writes nothing.
+// Whether a writer with all its options set, and no entry, writes nothing.
 fn writes_nothing(alloc: Global) -> Result<bool, Error> {
     let writer = with_options(alloc)?;
     let is_empty = writer.is_empty();

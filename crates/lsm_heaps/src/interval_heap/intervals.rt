@@ -1,6 +1,9 @@
 // The order of an interval heap, restored after one item has changed.
-ghost use Rattle.std.specs.Prelude.{◌≡◌, ◌⊎◌, ℕ, ◌+◌, ◌-◌, ◌*◌, ◌/◌, ◌%◌, ◌<◌, ◌≤◌, length, take, IfNone, IfSome, IsPermutation};
-ghost use Rattle.lsm_heaps.specs.Intervals.{IsIntervalHeap, IsRoot, IsEnd, above_of, IsRisingAt, IsSinkingAt, IsChildEnd, InOrder, IsNode, PrecedesOn, SinksFrom};
+ghost use Rattle.std.specs.Prelude.{◌≡◌, ◌⊎◌, ℕ, ◌+◌, ◌-◌, ◌*◌, ◌/◌, ◌%◌, ◌<◌, ◌≤◌, length, take};
+ghost use Rattle.std.specs.Prelude.{IfNone, IfSome, IsPermutation};
+ghost use Rattle.lsm_heaps.specs.Intervals.{IsIntervalHeap, IsRoot, IsEnd, above_of, IsRisingAt};
+ghost use Rattle.lsm_heaps.specs.Intervals.{IsSinkingAt, IsChildEnd, InOrder, IsNode, PrecedesOn};
+ghost use Rattle.lsm_heaps.specs.Intervals.{SinksFrom};
 
 use crate::order::is_before;
 use sst_entries::Direction;
@@ -33,7 +36,7 @@ pub(crate) fn order_last<T: Ord>(items: &mut [T])
     }
 }
 
-// The same, where the last item is the second of its node.
+// Puts the last item into order, where it is the second of its node and all others are in order.
 fn order_second<T: Ord>(items: &mut [T], last: usize)
     requires last { length items.old ≡ last + 1 }
     requires others { IsIntervalHeap T.cmp (take last items.old) }
@@ -50,7 +53,8 @@ fn order_second<T: Ord>(items: &mut [T], last: usize)
     }
 }
 
-// The same, where the last item is alone in its node, which is not the root.
+// Puts the last item into order, where it is alone in its node, which is not the root, and all
+// others are in order.
 fn order_single<T: Ord>(items: &mut [T], last: usize)
     requires last { length items.old ≡ last + 1 }
     requires others { IsIntervalHeap T.cmp (take last items.old) }

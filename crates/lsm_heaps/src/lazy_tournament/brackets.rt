@@ -1,19 +1,21 @@
 // Two tournaments over the same slots, one that the least item wins and one that the greatest wins.
-ghost use Rattle.std.specs.Prelude.{◌≡◌, ◌⊎◌, ℕ, ◌+◌, ◌-◌, ◌^◌, ◌<◌, ◌≤◌, length, min, true, false, if◌then◌else◌, IfOk};
+ghost use Rattle.std.specs.Prelude.{◌≡◌, ◌⊎◌, ℕ, ◌+◌, ◌-◌, ◌^◌, ◌<◌, ◌≤◌, length, min, true, false};
+ghost use Rattle.std.specs.Prelude.{if◌then◌else◌, IfOk};
 ghost use Rattle.std.specs.Ordering.{is_gt};
 ghost use Rattle.sst_entries.specs.declared.stream.Direction.TheVariants.{Front, Back};
 ghost use Rattle.lsm_heaps.specs.Order.{toward};
 ghost use Rattle.lsm_heaps.specs.Slots.{slot_at};
 ghost use Rattle.lsm_heaps.specs.Tournament.{total_height};
-ghost use Rattle.lsm_heaps.specs.Brackets.{is_beaten, IsUnbeaten, IsBracket, IsUnplayed, IsWon, WasWon, IsKept, AreKept, PlaysEnd, is_played_at};
+ghost use Rattle.lsm_heaps.specs.Brackets.{is_beaten, IsUnbeaten, IsBracket, IsUnplayed, IsWon};
+ghost use Rattle.lsm_heaps.specs.Brackets.{WasWon, IsKept, AreKept, PlaysEnd, is_played_at};
 
 use crate::order::is_before;
 use sst_entries::Direction;
 use std::alloc::{AllocError, Allocator};
 
 // A full binary tree whose leaves are the slots, in which each inner node names the winner of its
-// two children. Node 1 is the root, and the children of node n are 2n and 2n + 1. Before the matches
-// are first played, it is open which slots the inner nodes name.
+// two children. Node 1 is the root, and the children of node n are 2n and 2n + 1. Before the
+// matches are first played, it is open which slots the inner nodes name.
 #[derive(Drop)]
 pub struct Bracket<A: Allocator> {
     pub(crate) end: Direction,
@@ -64,9 +66,10 @@ impl<A: Allocator> Brackets<A> {
         ensures emptied { self.new.emptied ≡ None }
         ensures plays { PlaysEnd end self.old self.new }
         ensures rises { self.old.steps ≤ self.new.steps }
-        ensures bound { (h : ℕ) → length slots.now ≡ 2 ^ h → self.new.steps ≤ self.old.steps
-            + total_height self.old.front.is_played self.old.back.is_played h
-            + (if is_played_at end self.old then 0 else length slots.now - 1) }
+        ensures bound { let old = self.old in let leaves = length slots.now in
+            (h : ℕ) → leaves ≡ 2 ^ h →
+            self.new.steps ≤ old.steps + total_height old.front.is_played old.back.is_played h
+            + (if is_played_at end old then 0 else leaves - 1) }
     {
         self.settle(slots);
         match end {

@@ -1,5 +1,6 @@
 // Places for items, of which the free ones are listed.
-ghost use Rattle.std.specs.Prelude.{◌≡◌, ℕ, ◌+◌, ◌<◌, ◌≤◌, [], ◌∷◌, ◌++◌, IfSome, length, replicate, slice_index, slice_set, IfOk};
+ghost use Rattle.std.specs.Prelude.{◌≡◌, ℕ, ◌+◌, ◌<◌, ◌≤◌, [], ◌∷◌, ◌++◌, IfSome, length};
+ghost use Rattle.std.specs.Prelude.{replicate, slice_index, slice_set, IfOk};
 ghost use Rattle.std.specs.Vec.{vec_capacity};
 ghost use Rattle.lsm_heaps.specs.Slots.{items_of, slot_at};
 
@@ -28,7 +29,7 @@ impl<T, A: Allocator> Model for Slots<T, A> {
 }
 
 impl<T, A: Allocator + Clone> Slots<T, A> {
-    // As many empty places, of which `room` may be taken.
+    // So many empty places, of which `room` may be taken.
     pub(crate) fn new(alloc: A, room: usize, places: usize) -> Result<Self, AllocError>
         requires { room ≤ places }
         ensures places { IfOk result (λ s. s.places ≡ replicate places None) }

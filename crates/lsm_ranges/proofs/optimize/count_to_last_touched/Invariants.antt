@@ -5,4 +5,6 @@ use Rattle.lsm_ranges.specs.Packing.{touches, AreInOrder}
 use Rattle.lsm_ranges.proofs.optimize.count_to_last_touched.Given as goal
 
 abbrev pub invariant-loop-level : goal.invariant-loop-level
-invariant-loop-level g l = AreInOrder g.T.Ranged.range l.packed → list_any (touches g.T.Ranged.range l.range) (drop l.level l.packed) ≡ false
+invariant-loop-level g l =
+    AreInOrder g.T.Ranged.range l.packed
+    → list_any (touches g.T.Ranged.range l.range) (drop l.level l.packed) ≡ false

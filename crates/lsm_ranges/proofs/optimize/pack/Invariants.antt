@@ -6,5 +6,6 @@ use Rattle.lsm_ranges.proofs.optimize.pack.Given as goal
 
 abbrev pub invariant-loop-run : goal.invariant-loop-run
 invariant-loop-run g l =
-    (AreWellFormed g.T.Ranged.range l.yielded → l.packed.items ≡ put_all g.T.Ranged.range (tables_of l.yielded) [])
+    (AreWellFormed g.T.Ranged.range l.yielded
+    → l.packed.items ≡ put_all g.T.Ranged.range (tables_of l.yielded) [])
     × IsPermutation (tables_of l.yielded) (tables_of l.packed.items)

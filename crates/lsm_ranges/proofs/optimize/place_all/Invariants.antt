@@ -6,5 +6,7 @@ use Rattle.lsm_ranges.proofs.optimize.place_all.Given as goal
 
 abbrev pub invariant-loop-table : goal.invariant-loop-table
 invariant-loop-table g l =
-    (AreTablesWellFormed g.T.Ranged.range l.yielded → ArePacked g.T.Ranged.range l.initial.packed.items → l.packed.items ≡ put_all g.T.Ranged.range l.yielded l.initial.packed.items)
+    (AreTablesWellFormed g.T.Ranged.range l.yielded
+    → ArePacked g.T.Ranged.range l.initial.packed.items
+    → l.packed.items ≡ put_all g.T.Ranged.range l.yielded l.initial.packed.items)
     × IsPermutation (tables_of l.initial.packed.items ++ l.yielded) (tables_of l.packed.items)

@@ -6,4 +6,7 @@ use Rattle.lsm_ranges.proofs.optimize.place_links.Given as goal
 
 abbrev pub invariant-loop-index : goal.invariant-loop-index
 invariant-loop-index g l =
-    (ts : List (TableWithPlace g.row.T.Denot)) → ArePackedLinks g.T.Ranged.range ts l.initial.packed.items → ArePackedLinks g.T.Ranged.range (ts ++ run_with_places l.run 0 (take l.index l.tables)) l.packed.items
+    (ts : List (TableWithPlace g.row.T.Denot))
+    → ArePackedLinks g.T.Ranged.range ts l.initial.packed.items
+    → ArePackedLinks g.T.Ranged.range (ts ++ run_with_places l.run 0 (take l.index l.tables))
+    l.packed.items

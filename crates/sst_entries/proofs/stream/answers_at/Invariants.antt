@@ -4,8 +4,10 @@ use Rattle.sst_entries.proofs.stream.answers_at.Given as goal
 
 abbrev pub invariant-loop-end : goal.invariant-loop-end
 invariant-loop-end g l = record {
-  can : CanDeal g.I.Iterator.next_gives g.I.DoubleEndedIterator.next_back_gives g.I.Iterator.can_next g.I.DoubleEndedIterator.can_next_back l.source;
-  ran : Runs g.I.Iterator.next_gives g.I.DoubleEndedIterator.next_back_gives l.fn.source (take l.end-index l.ends) l.answers.items l.source;
+  can : CanDeal g.I.Iterator.next_gives g.I.DoubleEndedIterator.next_back_gives
+      g.I.Iterator.can_next g.I.DoubleEndedIterator.can_next_back l.source;
+  ran : Runs g.I.Iterator.next_gives g.I.DoubleEndedIterator.next_back_gives l.fn.source
+      (take l.end-index l.ends) l.answers.items l.source;
 }
 
 abbrev pub decreases-loop-end : goal.decreases-loop-end

@@ -9,4 +9,5 @@ invariant-loop-item g l =
     (goal.iterator-loop-item g).can_next l.item-iterator
     × (goal.iterator-loop-item g).is_finite l.item-iterator
     × ((es : List Entry) → DealsList g.I.Iterator.next_gives nowhere es l.fn.stream →
-    (left : List Entry) × (es ≡ l.items.items ++ left) × DealsList g.I.Iterator.next_gives nowhere left l.item-iterator)
+    (left : List Entry) × (es ≡ l.items.items ++ left)
+    × DealsList g.I.Iterator.next_gives nowhere left l.item-iterator)

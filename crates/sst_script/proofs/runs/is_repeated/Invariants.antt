@@ -5,4 +5,6 @@ use Rattle.sst_script.specs.Runs.{repeats, ForRuns}
 use Rattle.sst_script.proofs.runs.is_repeated.Given as goal
 
 abbrev pub invariant-loop-item : goal.invariant-loop-item
-invariant-loop-item g l = ForRuns (map arc_value l.runs) (λ rs. repeats rs l.items ≡ repeats rs (drop l.item-index l.items))
+invariant-loop-item g l =
+    ForRuns (map arc_value l.runs)
+    (λ rs. repeats rs l.items ≡ repeats rs (drop l.item-index l.items))

@@ -4,4 +4,7 @@ use Rattle.sst_sections.specs.Sections.{section_names, section_of, slot}
 use Rattle.sst_sections.proofs.section.put_trailer.Given as goal
 
 abbrev pub invariant-loop-name : goal.invariant-loop-name
-invariant-loop-name g l = l.bytes.items ≡ l.fn.bytes.items ++ flat_map (λ name. slot (section_of l.end l.started name)) (take l.name-index section_names)
+invariant-loop-name g l =
+    l.bytes.items
+    ≡ l.fn.bytes.items
+    ++ flat_map (λ name. slot (section_of l.end l.started name)) (take l.name-index section_names)

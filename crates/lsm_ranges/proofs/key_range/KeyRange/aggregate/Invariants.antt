@@ -5,4 +5,6 @@ use Rattle.lsm_ranges.proofs.SpanLemmas.{span_from}
 use Rattle.lsm_ranges.proofs.key_range.KeyRange.aggregate.Given as goal
 
 abbrev pub invariant-loop-other : goal.invariant-loop-other
-invariant-loop-other g l = span_from l.initial.min l.initial.max (intervals l.others) ≡ span_from l.min l.max (intervals (drop l.other-index l.others))
+invariant-loop-other g l =
+    span_from l.initial.min l.initial.max (intervals l.others)
+    ≡ span_from l.min l.max (intervals (drop l.other-index l.others))

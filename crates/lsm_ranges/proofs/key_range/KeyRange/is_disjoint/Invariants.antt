@@ -4,4 +4,5 @@ use Rattle.lsm_ranges.specs.KeyRange.{are_disjoint, intervals}
 use Rattle.lsm_ranges.proofs.key_range.KeyRange.is_disjoint.Given as goal
 
 abbrev pub invariant-loop-place : goal.invariant-loop-place
-invariant-loop-place g l = are_disjoint (intervals l.ranges) ≡ are_disjoint (intervals (drop l.place l.ranges))
+invariant-loop-place g l =
+    are_disjoint (intervals l.ranges) ≡ are_disjoint (intervals (drop l.place l.ranges))

@@ -7,4 +7,6 @@ use Rattle.lsm_ranges.proofs.run.Run.is_in_order.Given as goal
 
 abbrev pub invariant-loop-table : goal.invariant-loop-table
 invariant-loop-table g l =
-    ascends_after None (map g.T.Ranged.range l.self) ≡ ascends_after (option_copied l.last) (map g.T.Ranged.range (drop l.table-index l.table-items))
+    ascends_after None (map g.T.Ranged.range l.self)
+    ≡ ascends_after (option_copied l.last)
+    (map g.T.Ranged.range (drop l.table-index l.table-items))

@@ -8,7 +8,8 @@ abbrev pub invariant-loop-node : goal.invariant-loop-node
 invariant-loop-node g l = record {
   bracket : IsBracket (length l.slots) l.self.nodes.items;
   others : DecidedButAbove (toward l.self.end g.T.Ord.cmp) l.slots l.self.nodes.items l.node;
-  untouched : (k : ℕ) → k < l.node → get_or l.self.nodes.items k 0 ≡ get_or l.fn.self.nodes.items k 0;
+  untouched : (k : ℕ) → k < l.node
+      → get_or l.self.nodes.items k 0 ≡ get_or l.fn.self.nodes.items k 0;
   on_path : IsOnPath (length l.slots + l.slot) l.node;
   end : l.self.end ≡ l.fn.self.end;
   played : l.self.is_played ≡ l.fn.self.is_played;
