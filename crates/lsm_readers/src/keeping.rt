@@ -82,7 +82,7 @@ impl<A: Allocator + Clone> LoadBlocks for Keeping<'_, A> {
         }
     }
 
-    // A block that is not kept is walked over, and kept only where it is loaded before.
+    // A block that is not kept is walked over, and is not kept by that.
     fn point_read(
         &mut self,
         handle: &BlockHandle,

@@ -55,8 +55,8 @@ fn head_at(key: &[u8], from: usize) -> u64 {
     head
 }
 
-/// Queries by their keys upward, and those of one key by their bounds downward; what stands in no
-/// place of the list is anywhere.
+/// Queries by their keys upward, and those of one key by their bounds downward. A place behind the
+/// list is equal to any.
 fn compare_queries<A: Allocator>(queries: &[Query<A>], at: usize, other_at: usize) -> Ordering {
     match (queries.get(at), queries.get(other_at)) {
         (Some(query), Some(other)) => compare_versions(

@@ -103,12 +103,13 @@ fn compare_all(source: &BlockSource<Global>) {
     source.compare_together(&all);
 }
 
-// No block, then one of the four, one as of another kind, and one past the end.
+// No block, then one of the four, one as of another kind, one of another size, and one past the end.
 fn compare_some(source: &BlockSource<Global>) {
     let one = handle_of(BLOCKS[0]);
     let (two, _) = handle_of(BLOCKS[1]);
+    let shorter = handle_of((BLOCKS[3].0, BLOCKS[3].1 - 1));
     let past_the_end = handle_of((1 << 40, 2124));
-    let some = [one, (two, BlockType::Index), past_the_end];
+    let some = [one, (two, BlockType::Index), shorter, past_the_end];
     source.compare_together(&some[..0]);
     source.compare_together(&some);
 }
