@@ -11,7 +11,8 @@ use Rattle.lsm_files.specs.Facts.{highest_seqno}
 use Rattle.lsm_files.specs.Options.{default_options}
 use Rattle.lsm_readers.specs.Answer.{lift}
 use Rattle.lsm_readers.specs.Table.{OpenTable}
-use Rattle.lsm_sorted.specs.Compaction.{Rules, kept, unfiltered}
+use Rattle.lsm_sorted.specs.declared.compaction.Rules.{Rules}
+use Rattle.lsm_sorted.specs.Compaction.{kept, unfiltered}
 use Rattle.lsm_writers.specs.declared.writer.FinishedTable.{FinishedTable}
 use Rattle.lsm_writers.specs.Tables.{AreTables, TablesWriting, ids_fault, new_tables}
 use Rattle.lsm_writers.specs.Writing.{IsWritable}

@@ -2,7 +2,8 @@
 use Rattle.std.proofs.Common.{◌-◌, ◌^◌, ◌<◌, List, arith}
 use Rattle.std.specs.List.{AllByRecursion}
 use Rattle.sst_entries.specs.Entry.{Entry}
-use Rattle.lsm_sorted.specs.Compaction.{Rules, kept, unfiltered}
+use Rattle.lsm_sorted.specs.declared.compaction.Rules.{Rules}
+use Rattle.lsm_sorted.specs.Compaction.{kept, unfiltered}
 use Rattle.lsm_sorted.proofs.KeptLemmas.{all_kept, stays_strict, zeroed_below}
 use Rattle.lsm_writers.specs.Writing.{IsWritable}
 

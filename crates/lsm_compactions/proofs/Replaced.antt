@@ -13,7 +13,8 @@ use Rattle.lsm_files.specs.Chunks.{joined}
 use Rattle.lsm_merge.specs.Union.{Ascends, all_entries}
 use Rattle.lsm_merge.proofs.Pairs.{Strict, as_pairs, from_pairs}
 use Rattle.lsm_merge.proofs.UnionLemmas.{merged_union}
-use Rattle.lsm_sorted.specs.Compaction.{Rules, kept, unfiltered, zeroed}
+use Rattle.lsm_sorted.specs.declared.compaction.Rules.{Rules}
+use Rattle.lsm_sorted.specs.Compaction.{kept, unfiltered, zeroed}
 use Rattle.lsm_sorted.specs.Point.{seen}
 use Rattle.lsm_sorted.specs.ReadLaw.{AllNewer, Distinct, IsMerged, PartLaw}
 use Rattle.lsm_sorted.proofs.KeptLemmas.{all_kept, pairs_stay, zeroed_below}

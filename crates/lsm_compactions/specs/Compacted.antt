@@ -6,7 +6,8 @@ use Rattle.sst_entries.specs.Entry.{Entry}
 use Rattle.sst_entries.specs.Stream.{nowhere}
 use Rattle.sst_entries.specs.Strict.{IsStrict}
 use Rattle.lsm_files.specs.declared.label.Label.{Label}
-use Rattle.lsm_sorted.specs.Compaction.{Rules, kept, unfiltered}
+use Rattle.lsm_sorted.specs.declared.compaction.Rules.{Rules}
+use Rattle.lsm_sorted.specs.Compaction.{kept, unfiltered}
 use Rattle.lsm_writers.specs.declared.writer.FinishedTable.{FinishedTable}
 use Rattle.lsm_writers.specs.Tables.{AreFinished, AreInKeyOrder, AreTables, TableFits, TablesWriting, drawn, first_id, next_id}
 use Rattle.lsm_writers.specs.Writing.{IsWritable}

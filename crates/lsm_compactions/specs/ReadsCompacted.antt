@@ -8,7 +8,7 @@ use Rattle.sst_entries.specs.Point.{within}
 use Rattle.sst_entries.specs.Strict.{IsStrict}
 use Rattle.lsm_files.specs.Chunks.{joined}
 use Rattle.lsm_merge.specs.Union.{SameBag, newest}
-use Rattle.lsm_sorted.specs.Compaction.{Rules}
+use Rattle.lsm_sorted.specs.declared.compaction.Rules.{Rules}
 use Rattle.lsm_sorted.specs.Point.{seen}
 use Rattle.lsm_sorted.specs.ReadLaw.{AllNewer, IsPlain}
 use Rattle.lsm_writers.specs.Writing.{IsWritable}

@@ -14,6 +14,7 @@ use lsm_merge::Merger;
 use lsm_ranges::Run;
 use lsm_readers::Table;
 use lsm_runs::RunScanner;
+use lsm_sorted::compaction::Rules;
 use lsm_sorted::compaction::stream::{CompactionStream, read_law};
 use lsm_writers::{FinishedTable, MultiWriter, TableIds, tables_law};
 use sst_blocks::{Error, IterItem, SeqNo};
@@ -57,24 +58,21 @@ fn scanners_of<A: Allocator + Clone>(
 fn kept_from<I: Iterator<Item = IterItem<A>>, A: Allocator + Clone>(
     alloc: A,
     sources: Vec<I, A>,
-    gc_seqno_threshold: SeqNo,
-    evict_tombstones: bool,
-    zero_seqnos: bool,
+    rules: Rules,
 ) -> Result<CompactionStream<Merger<I, A>>, Error>
     ensures can { All (CanDeal I.next_gives nowhere I.can_next I.can_next) sources.items →
         All (λ s. IsFinite (I.remaining s)) sources.items →
         IfOk result ⟦<CompactionStream<Merger<I, A>> as Iterator>⟧.can_next }
-    ensures list { let rules = rules_by gc_seqno_threshold evict_tombstones zero_seqnos in
-        let gives = ⟦<CompactionStream<Merger<I, A>> as Iterator>⟧.next_gives in
+    ensures list { let gives = ⟦<CompactionStream<Merger<I, A>> as Iterator>⟧.next_gives in
         (lists : List (List (List Entry))) →
         DealTogether I.next_gives nowhere sources.items (map joined lists) →
         IfOk result (DealsList gives nowhere (kept_in rules lists)) }
     ensures err { IfErr result (λ e. e ≡ OutOfMemory) }
 {
     let merger = Merger::new(alloc, sources)?;
-    let stream = CompactionStream::new(merger, gc_seqno_threshold)
-        .evict_tombstones(evict_tombstones)
-        .zero_seqnos(zero_seqnos);
+    let stream = CompactionStream::new(merger, rules.watermark)
+        .evict_tombstones(rules.evict)
+        .zero_seqnos(rules.zeroing);
     // What it goes through it deals compacted.
     stream.unfiltered_run();
     Ok(stream)
@@ -84,27 +82,18 @@ fn kept_from<I: Iterator<Item = IterItem<A>>, A: Allocator + Clone>(
 fn kept_of<A: Allocator + Clone>(
     alloc: A,
     runs: &[Arc<Run<Table<A>, A>, A>],
-    gc_seqno_threshold: SeqNo,
-    evict_tombstones: bool,
-    zero_seqnos: bool,
+    rules: Rules,
 ) -> Result<CompactionStream<Merger<RunScanner<A>, A>>, Error>
     requires { AreCompactable (map arc_value runs.now) }
     ensures can { IfOk result
         ⟦<CompactionStream<Merger<RunScanner<A>, A>> as Iterator>⟧.can_next }
-    ensures list { let rules = rules_by gc_seqno_threshold evict_tombstones zero_seqnos in
-        let gives = ⟦<CompactionStream<Merger<RunScanner<A>, A>> as Iterator>⟧.next_gives in
+    ensures list { let gives = ⟦<CompactionStream<Merger<RunScanner<A>, A>> as Iterator>⟧.next_gives in
         (able : AreCompactable (map arc_value runs.now)) →
         IfOk result (DealsList gives nowhere (kept_in rules able.lists)) }
     ensures err { IfErr result (λ e. e ≡ OutOfMemory) }
 {
     let scanners = scanners_of(alloc.clone()?, runs)?;
-    kept_from(
-        alloc,
-        scanners,
-        gc_seqno_threshold,
-        evict_tombstones,
-        zero_seqnos,
-    )
+    kept_from(alloc, scanners, rules)
 }
 
 // Writes all that a stream deals, and finishes. Refused as the writer is.
@@ -164,13 +153,12 @@ pub fn compact_runs<A: Allocator + Clone>(
 {
     // A list whose tables fit is taken whole.
     tables_law();
-    let stream = kept_of(
-        alloc,
-        runs,
-        gc_seqno_threshold,
-        evict_tombstones,
-        zero_seqnos,
-    )?;
+    let rules = Rules {
+        watermark: gc_seqno_threshold,
+        evict: evict_tombstones,
+        zeroing: zero_seqnos,
+    };
+    let stream = kept_of(alloc, runs, rules)?;
     write_all(stream, writer)
 }
 

@@ -5,7 +5,8 @@ use Rattle.sst_entries.specs.Entry.{Entry}
 use Rattle.sst_entries.specs.Kind.{is_tombstone_kind}
 use Rattle.sst_entries.specs.declared.error.Error.{Error}
 use Rattle.lsm_merge.specs.Ends.{R}
-use Rattle.lsm_sorted.specs.Compaction.{Verdict, keep, Judged, JudgedItem, Rules, told_by, reports_by, reported, asked}
+use Rattle.lsm_sorted.specs.declared.compaction.Rules.{Rules}
+use Rattle.lsm_sorted.specs.Compaction.{Verdict, keep, Judged, JudgedItem, told_by, reports_by, reported, asked}
 use Rattle.lsm_sorted.specs.Compacting.{turned, AsksIf, Asks, SaysOf, GetsAll, Turns, Calls, ended, failed, answered, again, KeepsTombstones, Compacted}
 use Rattle.lsm_sorted.proofs.OutsLemmas.{listed, asked_head, judged}
 use Rattle.lsm_sorted.proofs.TurnLemmas.{EachJudged, turn_explained}

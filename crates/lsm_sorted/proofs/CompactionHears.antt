@@ -13,7 +13,8 @@ use Rattle.lsm_sorted.specs.Peeked.{content}
 use Rattle.lsm_sorted.specs.Ahead.{ahead_outlook}
 use Rattle.lsm_sorted.specs.Outlook.{IsStep, nothing_stops, IsSame}
 use Rattle.lsm_sorted.specs.Hears.{Hears}
-use Rattle.lsm_sorted.specs.Compaction.{Verdict, Rules, goes, zeroed}
+use Rattle.lsm_sorted.specs.declared.compaction.Rules.{Rules}
+use Rattle.lsm_sorted.specs.Compaction.{Verdict, goes, zeroed}
 use Rattle.lsm_sorted.specs.Compacting.{Calls}
 use Rattle.lsm_sorted.specs.CompactionState.{refusal, failure, Filters, DrainsIn, SettlesIn, CallsIn}
 use Rattle.lsm_sorted.proofs.HearsLemmas.{hears_as, hears_then, hears_still, hears_result, hears_end}

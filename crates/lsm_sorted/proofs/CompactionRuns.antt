@@ -9,7 +9,8 @@ use Rattle.sst_entries.specs.Stream.{nowhere}
 use Rattle.lsm_merge.specs.Ends.{R}
 use Rattle.lsm_sorted.specs.declared.compaction.stream.CompactionStream.{CompactionStream}
 use Rattle.lsm_sorted.specs.Outlook.{before_any}
-use Rattle.lsm_sorted.specs.Compaction.{Verdict, Rules, outs, as_they_are}
+use Rattle.lsm_sorted.specs.declared.compaction.Rules.{Rules}
+use Rattle.lsm_sorted.specs.Compaction.{Verdict, outs, as_they_are}
 use Rattle.lsm_sorted.specs.Compacting.{Calls, Compacted}
 use Rattle.lsm_sorted.specs.CompactionState.{rules_of, filter_of, callback_of, compaction_outlook, CallsIn, CompactsNext, CompactsHeard, GivesOuts}
 use Rattle.lsm_sorted.proofs.CallLemmas.{call_more, call_none}

@@ -5,7 +5,8 @@ use Rattle.sst_entries.specs.Entry.{Entry}
 use Rattle.sst_entries.specs.Stream.{but_first, answer_stops, DealsFirst}
 use Rattle.sst_entries.specs.declared.error.Error.{Error}
 use Rattle.lsm_merge.specs.Ends.{R}
-use Rattle.lsm_sorted.specs.Compaction.{Verdict, Rules, told_by, reports_by, zeroed}
+use Rattle.lsm_sorted.specs.declared.compaction.Rules.{Rules}
+use Rattle.lsm_sorted.specs.Compaction.{Verdict, told_by, reports_by, zeroed}
 use Rattle.lsm_sorted.specs.Compacting.{Turn, settled, turned, GetsAll, Turns, Calls, ended, failed, answered, again}
 use Rattle.lsm_sorted.specs.CompactionState.{Filters, Settles}
 use Rattle.lsm_merge.proofs.EndsLemmas.{none_first}

@@ -8,7 +8,8 @@ use Rattle.sst_entries.specs.Key.{same_key}
 use Rattle.sst_entries.specs.Stream.{first, ok_results}
 use Rattle.sst_entries.specs.declared.error.Error.{Error}
 use Rattle.lsm_merge.specs.Ends.{R}
-use Rattle.lsm_sorted.specs.Compaction.{Verdict, drop, Judged, JudgedItem, Rules, told, is_left, reports_by, is_cut, heads, expired, zeroed, given_by, given, Versions, is_version_of, before, by_key, gone, error_of, entries, outs_of, reported_heads, reported_of, asked_of, concat_by, outs, reported, asked, as_is, unfiltered}
+use Rattle.lsm_sorted.specs.declared.compaction.Rules.{Rules}
+use Rattle.lsm_sorted.specs.Compaction.{Verdict, drop, Judged, JudgedItem, told, is_left, reports_by, is_cut, heads, expired, zeroed, given_by, given, Versions, is_version_of, before, by_key, gone, error_of, entries, outs_of, reported_heads, reported_of, asked_of, concat_by, outs, reported, asked, as_is, unfiltered}
 use Rattle.std.proofs.lemmas.List.{append-nil}
 use Rattle.sst_entries.proofs.KeyLemmas.{same_itself}
 

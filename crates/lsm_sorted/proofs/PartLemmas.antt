@@ -18,7 +18,8 @@ use Rattle.sst_entries.specs.declared.value_type.ValueType.TheVariants.{Value, T
 use Rattle.lsm_merge.specs.Union.{Ascends, AtMost, SameBag}
 use Rattle.sst_entries.specs.Point.{is_hit, point}
 use Rattle.lsm_sorted.specs.Point.{shown}
-use Rattle.lsm_sorted.specs.Compaction.{Rules, goes, zeroed, kept, unfiltered}
+use Rattle.lsm_sorted.specs.declared.compaction.Rules.{Rules}
+use Rattle.lsm_sorted.specs.Compaction.{goes, zeroed, kept, unfiltered}
 use Rattle.lsm_sorted.specs.ReadLaw.{Distinct, AllNewer, IsMerged, PartLaw}
 use Rattle.lsm_sorted.proofs.Hits.{first_hit}
 use Rattle.lsm_merge.proofs.Pairs.{Precedes, Strict, as_pairs}

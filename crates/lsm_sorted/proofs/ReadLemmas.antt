@@ -13,7 +13,8 @@ use Rattle.lsm_merge.specs.Ends.{R}
 use Rattle.lsm_merge.specs.Union.{entries_among}
 use Rattle.sst_entries.specs.Point.{is_hit, point}
 use Rattle.lsm_sorted.specs.Point.{shown}
-use Rattle.lsm_sorted.specs.Compaction.{JudgedItem, Rules, goes, zeroed, outs, kept, as_is, unfiltered}
+use Rattle.lsm_sorted.specs.declared.compaction.Rules.{Rules}
+use Rattle.lsm_sorted.specs.Compaction.{JudgedItem, goes, zeroed, outs, kept, as_is, unfiltered}
 use Rattle.lsm_sorted.specs.ReadLaw.{IsServed, ReadLaw}
 use Rattle.lsm_sorted.proofs.Hits.{first_hit, hit_shown}
 use Rattle.sst_entries.proofs.KeyLemmas.{KeyLe, same_is, same_itself, lt_other, le_other, lt_le}

@@ -8,7 +8,8 @@ use Rattle.sst_entries.specs.Stream.{first, ok_results}
 use Rattle.sst_entries.specs.declared.error.Error.{Error}
 use Rattle.lsm_merge.specs.Ends.{R}
 use Rattle.lsm_sorted.specs.Newest.{after_key}
-use Rattle.lsm_sorted.specs.Compaction.{Verdict, keep, replace, drop, Judged, JudgedItem, items, Rules, told_by, told, reports_by, goes, zeroed, given_by, gone, error_of, outs, reported, asked, as_is, unfiltered}
+use Rattle.lsm_sorted.specs.declared.compaction.Rules.{Rules}
+use Rattle.lsm_sorted.specs.Compaction.{Verdict, keep, replace, drop, Judged, JudgedItem, items, told_by, told, reports_by, goes, zeroed, given_by, gone, error_of, outs, reported, asked, as_is, unfiltered}
 use Rattle.lsm_sorted.specs.Compacting.{of_key, key_follows, Turn, head_answer, close, settled, turned}
 use Rattle.sst_entries.proofs.KeyLemmas.{same_is}
 use Rattle.lsm_sorted.proofs.OutsLemmas.{listed, asked_head, judged, follows_in, error_in, behind_error, AllOf, dropped_outs, dropped_reported, dropped_asked, failed_outs, failed_reported, failed_asked, open_outs, open_reported, open_asked, close_outs, close_reported, close_asked}

@@ -11,7 +11,8 @@ use Rattle.lsm_sorted.specs.declared.compaction.stream.CompactionStream.{Compact
 use Rattle.sst_entries.proofs.StreamLemmas.{deals_by, can_by, tail_eq}
 use Rattle.lsm_merge.specs.Union.{entries_among}
 use Rattle.lsm_merge.specs.Ends.{R}
-use Rattle.lsm_sorted.specs.Compaction.{Verdict, keep, replace, drop, Judged, JudgedItem, items, Rules, told_by, told, is_cut, heads, expired, zeroed, given_by, given, Versions, is_version_of, before, by_key, gone, error_of, entries, outs_of, concat_by, outs, kept, as_is, as_they_are, unfiltered}
+use Rattle.lsm_sorted.specs.declared.compaction.Rules.{Rules}
+use Rattle.lsm_sorted.specs.Compaction.{Verdict, keep, replace, drop, Judged, JudgedItem, items, told_by, told, is_cut, heads, expired, zeroed, given_by, given, Versions, is_version_of, before, by_key, gone, error_of, entries, outs_of, concat_by, outs, kept, as_is, as_they_are, unfiltered}
 use Rattle.lsm_sorted.specs.Compacting.{AsksIf, Asks, Turns, Calls, ended, failed, answered, again, Compacted}
 use Rattle.lsm_sorted.specs.CompactionState.{rules_of, filter_of, callback_of, Compacts, MayCompact, CompactsNext}
 use Rattle.lsm_sorted.proofs.OutsLemmas.{listed, judged}

@@ -7,7 +7,8 @@ use Rattle.sst_entries.specs.Stream.{first}
 use Rattle.sst_entries.specs.declared.error.Error.{Error}
 use Rattle.lsm_merge.specs.Ends.{R}
 use Rattle.lsm_sorted.specs.Newest.{after_key}
-use Rattle.lsm_sorted.specs.Compaction.{Verdict, keep, Judged, JudgedItem, items, Rules, told_by, reports_by, goes, zeroed, outs, reported, asked}
+use Rattle.lsm_sorted.specs.declared.compaction.Rules.{Rules}
+use Rattle.lsm_sorted.specs.Compaction.{Verdict, keep, Judged, JudgedItem, items, told_by, reports_by, goes, zeroed, outs, reported, asked}
 
 -- the longest stretch of entries of this key in front
 abbrev pub of_key : List ℕ → List R → List Entry

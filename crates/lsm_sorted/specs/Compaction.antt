@@ -9,6 +9,7 @@ use Rattle.sst_entries.specs.declared.value_type.ValueType.{ValueType}
 use Rattle.sst_entries.specs.declared.value_type.ValueType.TheVariants.{Value, Tombstone, WeakTombstone, Indirection}
 use Rattle.lsm_merge.specs.Ends.{R}
 use Rattle.lsm_merge.specs.Union.{entries_among}
+use Rattle.lsm_sorted.specs.declared.compaction.Rules.{Rules}
 
 -- what a filter says of an entry: it stays as it is, it gets this kind and value, or it goes
 pub data Verdict : Type 0 where
@@ -30,12 +31,6 @@ abbrev pub items : List JudgedItem → List R
 items [] = []
 items (Ok j ∷ js) = Ok j.entry ∷ items js
 items (Err e ∷ js) = Err e ∷ items js
-
--- how a compaction is set: no reader stands below the watermark, whether tombstones are evicted, whether numbers become 0
-pub record Rules : Type 0 where
-  pub watermark : ℕ
-  pub evict : Bool
-  pub zeroing : Bool
 
 -- the entry as the filter leaves it, where it leaves one
 abbrev pub told_by : Entry → Result Verdict Error → Result (Option Entry) Error

@@ -13,7 +13,8 @@ use Rattle.lsm_sorted.specs.Newest.{after_key}
 use Rattle.lsm_sorted.specs.Outlook.{Outlook, before_any, nothing_stops, IsSame}
 use Rattle.lsm_sorted.specs.Hears.{Hears, Heard}
 use Rattle.lsm_sorted.specs.Ahead.{HoldsAhead, ahead_size, ahead_outlook}
-use Rattle.lsm_sorted.specs.Compaction.{Verdict, Rules, told_by, reports_by, outs, as_they_are, kept, unfiltered}
+use Rattle.lsm_sorted.specs.declared.compaction.Rules.{Rules}
+use Rattle.lsm_sorted.specs.Compaction.{Verdict, told_by, reports_by, outs, as_they_are, kept, unfiltered}
 use Rattle.lsm_sorted.specs.Compacting.{of_key, head_answer, settled, Asks, GetsAll, Calls, Compacted}
 
 -- a call that goes through xs and leaves ys

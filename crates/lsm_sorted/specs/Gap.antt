@@ -8,7 +8,8 @@ use Rattle.sst_entries.specs.Stream.{Runs, ok_results, deal}
 use Rattle.lsm_merge.specs.Ends.{R}
 use Rattle.lsm_merge.specs.Union.{all_errors, union_of}
 use Rattle.lsm_merge.specs.MergeLaws.{DealSorted}
-use Rattle.lsm_sorted.specs.Compaction.{Rules, outs, as_they_are}
+use Rattle.lsm_sorted.specs.declared.compaction.Rules.{Rules}
+use Rattle.lsm_sorted.specs.Compaction.{outs, as_they_are}
 use Rattle.lsm_sorted.specs.Outlook.{StopsAtNone}
 
 -- the entries before a gap and those behind it, with an error between them

@@ -7,7 +7,8 @@ use Rattle.sst_entries.specs.Strict.{IsStrict}
 use Rattle.sst_entries.specs.Kind.{is_weak_kind}
 use Rattle.lsm_merge.specs.Union.{Ascends, SameBag}
 use Rattle.lsm_sorted.specs.Point.{seen}
-use Rattle.lsm_sorted.specs.Compaction.{Rules, kept, unfiltered}
+use Rattle.lsm_sorted.specs.declared.compaction.Rules.{Rules}
+use Rattle.lsm_sorted.specs.Compaction.{kept, unfiltered}
 
 -- every version of the key is numbered below the bound
 abbrev pub AllBelow : List ℕ → ℕ → List Entry → Type 0

@@ -10,7 +10,7 @@ use Rattle.sst_entries.specs.Strict.{IsStrict}
 use Rattle.lsm_files.specs.Chunks.{joined}
 use Rattle.lsm_ranges.specs.Run.{IsInOrder}
 use Rattle.lsm_readers.specs.Table.{OpenTable}
-use Rattle.lsm_sorted.specs.Compaction.{Rules}
+use Rattle.lsm_sorted.specs.declared.compaction.Rules.{Rules}
 use Rattle.lsm_sorted.specs.Point.{shown}
 use Rattle.lsm_sorted.specs.ReadLaw.{AllNewer, IsPlain}
 use Rattle.lsm_compactions.specs.Chain.{IsRunOfList}

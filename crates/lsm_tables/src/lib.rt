@@ -22,6 +22,7 @@ pub use lsm_readers::{
     TwoLevelBlockIndex, VolatileBlockIndex, get_many, point_in,
 };
 pub use lsm_runs::{RunReader, RunScanner, get_runs, get_runs_counted, range_runs};
+pub use lsm_sorted::compaction::Rules;
 pub use one_answer::{PointAndScan, Ranges, read_each_way};
 pub use part::compact_part_back;
 pub use reads::{Reads, read_run};

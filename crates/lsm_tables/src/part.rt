@@ -7,7 +7,7 @@ ghost use Rattle.lsm_sorted.specs.ReadLaw.{AllNewer, IsPlain};
 ghost use Rattle.lsm_compactions.specs.ReadsCompacted.{entries_in};
 ghost use Rattle.lsm_tables.specs.Words.{AreCompactable, CanDeal, Entry, Faults, FitsAsTables};
 ghost use Rattle.lsm_tables.specs.Words.{HoldSides, ReadsKept, ReadsOf, RunsHoldLists, ShowAlike};
-ghost use Rattle.lsm_tables.specs.Words.{kept_in, rules_by, tables_fault, union_in};
+ghost use Rattle.lsm_tables.specs.Words.{kept_in, tables_fault, union_in};
 
 use crate::reads::read_runs;
 use crate::{Reads, RunReader, Table, Timestamp, compact_to_run, compaction_law};
@@ -16,6 +16,7 @@ use lsm_merge::Merger;
 use lsm_ranges::Run;
 use lsm_runs::share;
 use lsm_sorted::MvccStream;
+use lsm_sorted::compaction::Rules;
 use lsm_writers::TableIds;
 use sst_blocks::{Error, SeqNo, UserKey};
 use std::alloc::Allocator;
@@ -137,35 +138,21 @@ fn shared_alone<A: Allocator + Clone>(
 fn compact_part<A: Allocator + Clone>(
     alloc: A,
     part: &[Arc<Run<Table<A>, A>, A>],
-    gc_seqno_threshold: SeqNo,
-    evict_tombstones: bool,
-    zero_seqnos: bool,
+    rules: Rules,
     ids: TableIds,
     target_size: u64,
     created_at: Timestamp,
 ) -> Result<Vec<Arc<Run<Table<A>, A>, A>, A>, Error>
     requires { AreCompactable (map arc_value part.now) }
-    ensures made { let rules = rules_by gc_seqno_threshold evict_tombstones zero_seqnos in
-        (ps : List (List (List Entry))) → RunsHoldLists (map arc_value part.now) ps →
+    ensures made { (ps : List (List (List Entry))) → RunsHoldLists (map arc_value part.now) ps →
         IfOk result (λ v. (made : List (List (List Entry)))
         × (entries_in made ≡ kept_in rules ps) × RunsHoldLists (map arc_value v.items) made) }
-    ensures refused { let rules = rules_by gc_seqno_threshold evict_tombstones zero_seqnos in
-        (ps : List (List (List Entry))) → RunsHoldLists (map arc_value part.now) ps →
+    ensures refused { (ps : List (List (List Entry))) → RunsHoldLists (map arc_value part.now) ps →
         Faults result (tables_fault ids target_size created_at (kept_in rules ps)) }
-    ensures taken { let rules = rules_by gc_seqno_threshold evict_tombstones zero_seqnos in
-        (ps : List (List (List Entry))) → RunsHoldLists (map arc_value part.now) ps →
+    ensures taken { (ps : List (List (List Entry))) → RunsHoldLists (map arc_value part.now) ps →
         FitsAsTables ids target_size (kept_in rules ps) → IfErr result (λ e. e ≡ OutOfMemory) }
 {
-    let (run, _) = compact_to_run(
-        alloc.clone()?,
-        part,
-        gc_seqno_threshold,
-        evict_tombstones,
-        zero_seqnos,
-        ids,
-        target_size,
-        created_at,
-    )?;
+    let (run, _) = compact_to_run(alloc.clone()?, part, rules, ids, target_size, created_at)?;
     shared_alone(alloc, run)
 }
 
@@ -175,9 +162,7 @@ fn read_compacted<A: Allocator + Clone>(
     front: &[Arc<Run<Table<A>, A>, A>],
     part: &[Arc<Run<Table<A>, A>, A>],
     behind: &[Arc<Run<Table<A>, A>, A>],
-    gc_seqno_threshold: SeqNo,
-    evict_tombstones: bool,
-    zero_seqnos: bool,
+    rules: Rules,
     ids: TableIds,
     target_size: u64,
     created_at: Timestamp,
@@ -189,7 +174,6 @@ fn read_compacted<A: Allocator + Clone>(
     ensures list { let gives = ⟦<MvccStream<Merger<RunReader<A>, A>> as Iterator>⟧.next_gives in
         let back_gives =
         ⟦<MvccStream<Merger<RunReader<A>, A>> as DoubleEndedIterator>⟧.next_back_gives in
-        let rules = rules_by gc_seqno_threshold evict_tombstones zero_seqnos in
         (fs ps bs : List (List (List Entry))) → HoldSides (map arc_value front.now)
         (map arc_value part.now) (map arc_value behind.now) fs ps bs → IfOk result
         (ReadsKept gives back_gives key.now seqno range.0 range.1 rules fs ps bs) }
@@ -198,25 +182,14 @@ fn read_compacted<A: Allocator + Clone>(
         ⟦<MvccStream<Merger<RunReader<A>, A>> as DoubleEndedIterator>⟧.next_back_gives
         ⟦<MvccStream<Merger<RunReader<A>, A>> as Iterator>⟧.can_next
         ⟦<MvccStream<Merger<RunReader<A>, A>> as DoubleEndedIterator>⟧.can_next_back read.1) }
-    ensures refused { let rules = rules_by gc_seqno_threshold evict_tombstones zero_seqnos in
-        (fs ps bs : List (List (List Entry))) → HoldSides (map arc_value front.now)
+    ensures refused { (fs ps bs : List (List (List Entry))) → HoldSides (map arc_value front.now)
         (map arc_value part.now) (map arc_value behind.now) fs ps bs →
         Faults result (tables_fault ids target_size created_at (kept_in rules ps)) }
-    ensures taken { let rules = rules_by gc_seqno_threshold evict_tombstones zero_seqnos in
-        (fs ps bs : List (List (List Entry))) → HoldSides (map arc_value front.now)
+    ensures taken { (fs ps bs : List (List (List Entry))) → HoldSides (map arc_value front.now)
         (map arc_value part.now) (map arc_value behind.now) fs ps bs →
         FitsAsTables ids target_size (kept_in rules ps) → IfErr result (λ e. e ≡ OutOfMemory) }
 {
-    let made = compact_part(
-        alloc.clone()?,
-        part,
-        gc_seqno_threshold,
-        evict_tombstones,
-        zero_seqnos,
-        ids,
-        target_size,
-        created_at,
-    )?;
+    let made = compact_part(alloc.clone()?, part, rules, ids, target_size, created_at)?;
     read_side_by_side(alloc, front, &made, behind, key, seqno, range)
 }
 
@@ -233,9 +206,7 @@ pub fn compact_part_back<A: Allocator + Clone>(
     front: &[Arc<Run<Table<A>, A>, A>],
     part: &[Arc<Run<Table<A>, A>, A>],
     behind: &[Arc<Run<Table<A>, A>, A>],
-    gc_seqno_threshold: SeqNo,
-    evict_tombstones: bool,
-    zero_seqnos: bool,
+    rules: Rules,
     ids: TableIds,
     target_size: u64,
     created_at: Timestamp,
@@ -255,7 +226,6 @@ pub fn compact_part_back<A: Allocator + Clone>(
     ensures after { let gives = ⟦<MvccStream<Merger<RunReader<A>, A>> as Iterator>⟧.next_gives in
         let back_gives =
         ⟦<MvccStream<Merger<RunReader<A>, A>> as DoubleEndedIterator>⟧.next_back_gives in
-        let rules = rules_by gc_seqno_threshold evict_tombstones zero_seqnos in
         (fs ps bs : List (List (List Entry))) → HoldSides (map arc_value front.now)
         (map arc_value part.now) (map arc_value behind.now) fs ps bs → IfOk result (λ r.
         ReadsKept gives back_gives key.now seqno range.0 range.1 rules fs ps bs r.1) }
@@ -264,13 +234,12 @@ pub fn compact_part_back<A: Allocator + Clone>(
     ensures alike { let gives = ⟦<MvccStream<Merger<RunReader<A>, A>> as Iterator>⟧.next_gives in
         let back_gives =
         ⟦<MvccStream<Merger<RunReader<A>, A>> as DoubleEndedIterator>⟧.next_back_gives in
-        let rules = rules_by gc_seqno_threshold evict_tombstones zero_seqnos in
         (fs ps bs : List (List (List Entry))) → HoldSides (map arc_value front.now)
         (map arc_value part.now) (map arc_value behind.now) fs ps bs →
         IsStrict (union_in (fs ++ (ps ++ bs))) →
         IsPlain rules (union_in ps) ⊎ AllNewer (union_in ps) (union_in (fs ++ bs)) →
         IfOk result (λ r. ShowAlike gives back_gives key.now seqno range.0 range.1
-        gc_seqno_threshold r.0 r.1) }
+        rules.watermark r.0 r.1) }
     // Both ends of both ranges may be asked however often.
     ensures can { let can =
         CanDeal ⟦<MvccStream<Merger<RunReader<A>, A>> as Iterator>⟧.next_gives
@@ -279,13 +248,11 @@ pub fn compact_part_back<A: Allocator + Clone>(
         ⟦<MvccStream<Merger<RunReader<A>, A>> as DoubleEndedIterator>⟧.can_next_back in
         IfOk result (λ r. can r.0.1 × can r.1.1) }
     // Memory aside, the refusal is the first of writing what is kept: reading refuses nothing.
-    ensures refused { let rules = rules_by gc_seqno_threshold evict_tombstones zero_seqnos in
-        (fs ps bs : List (List (List Entry))) → HoldSides (map arc_value front.now)
+    ensures refused { (fs ps bs : List (List (List Entry))) → HoldSides (map arc_value front.now)
         (map arc_value part.now) (map arc_value behind.now) fs ps bs →
         Faults result (tables_fault ids target_size created_at (kept_in rules ps)) }
     // Where the tables of what is kept fit, with an id left for each, it is refused for want of memory alone.
-    ensures taken { let rules = rules_by gc_seqno_threshold evict_tombstones zero_seqnos in
-        (fs ps bs : List (List (List Entry))) → HoldSides (map arc_value front.now)
+    ensures taken { (fs ps bs : List (List (List Entry))) → HoldSides (map arc_value front.now)
         (map arc_value part.now) (map arc_value behind.now) fs ps bs →
         FitsAsTables ids target_size (kept_in rules ps) → IfErr result (λ e. e ≡ OutOfMemory) }
 {
@@ -296,9 +263,7 @@ pub fn compact_part_back<A: Allocator + Clone>(
         front,
         part,
         behind,
-        gc_seqno_threshold,
-        evict_tombstones,
-        zero_seqnos,
+        rules,
         ids,
         target_size,
         created_at,
