@@ -4,7 +4,7 @@ ghost use Rattle.std.specs.Arc.{arc_value};
 ghost use Rattle.lsm_readers.specs.Answer.{lift};
 ghost use Rattle.lsm_writers.specs.Writing.{IsWritable};
 ghost use Rattle.lsm_compactions.specs.Compacted.{AreCompactable};
-ghost use Rattle.compaction_examples.specs.Runs.{HasList};
+ghost use Rattle.lsm_compactions.specs.ListRuns.{HasList};
 
 use example_tables::large::add;
 use example_tables::lists::{answers_within, list_of};

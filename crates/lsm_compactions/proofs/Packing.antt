@@ -89,7 +89,7 @@ join_lists : (ts : List OpenTable) → joined (map list_of ts) ≡ flat_map list
 join_lists [] = refl
 join_lists (t ∷ ts) = ap (λ (xs : List Entry). list_of t ++ xs) (join_lists ts)
 
-abbrev results_of : List (List (List Entry)) → List (List R)
+abbrev pub results_of : List (List (List Entry)) → List (List R)
 results_of lists = map (λ (run : List (List Entry)). ok_results (joined run)) lists
 
 entries_in : (runs : List (List OpenTable)) → all_entries (results_of (lists_of runs)) ≡ flat_map list_of (tables_of runs)
