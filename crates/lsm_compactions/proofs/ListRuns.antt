@@ -22,7 +22,7 @@ use Rattle.lsm_runs.proofs.Rising.{ascends_of}
 use Rattle.lsm_compactions.specs.Chain.{AreCutOf, IsRunOfList}
 use Rattle.lsm_compactions.specs.Compacted.{AreCompactable, HaveEntries}
 use Rattle.lsm_compactions.specs.ListRuns.{HasList, HaveAll}
-use Rattle.lsm_compactions.specs.ReadsCompacted.{entries_in}
+use Rattle.lsm_compactions.specs.ReadsCompacted.{joined_in}
 use Rattle.lsm_compactions.proofs.Compactable.{run_entries}
 use Rattle.lsm_compactions.proofs.CompactedBack.{lift_zero}
 use Rattle.lsm_compactions.proofs.Packing.{results_of}
@@ -66,11 +66,11 @@ some_more [] ls h one = (one, tt)
 some_more (l ∷ lists) ls h one = (h.0, some_more lists ls h.1 one)
 
 whole_more : (lists : List (List (List Entry))) (ls : List (List Entry))
-    → entries_in (lists ++ ls ∷ []) ≡ entries_in lists ++ joined ls
+    → joined_in (lists ++ ls ∷ []) ≡ joined_in lists ++ joined ls
 whole_more lists ls =
     ap joined (map-append joined lists (ls ∷ []))
     ∙ flat_map-append (λ (es : List Entry). es) (map joined lists) (joined ls ∷ [])
-    ∙ ap (λ (es : List Entry). entries_in lists ++ es) (append-nil (joined ls))
+    ∙ ap (λ (es : List Entry). joined_in lists ++ es) (append-nil (joined ls))
 
 -- one more run
 pub one_more : (es : List Entry) (runs : List (List OpenTable)) (us : List Entry)
@@ -87,7 +87,7 @@ one_more es runs us run all one = record {
 
 -- a list that can be written, of the same entries, is their union
 sorted_union : (lists : List (List (List Entry))) (es sorted : List Entry)
-    → entries_in lists ≡ es → IsPermutation es sorted → IsStrict sorted → sorted ≡ union_in lists
+    → joined_in lists ≡ es → IsPermutation es sorted → IsStrict sorted → sorted ≡ union_in lists
 sorted_union lists es sorted whole moved strict =
     only_union (results_of lists) sorted (record {
       ascends = ascends_of sorted (as_pairs sorted strict);

@@ -19,20 +19,20 @@ use Rattle.lsm_sorted.specs.Point.{seen}
 use Rattle.lsm_sorted.specs.ReadLaw.{AllNewer, Distinct, IsMerged, PartLaw}
 use Rattle.lsm_sorted.proofs.KeptLemmas.{all_kept, pairs_stay, zeroed_below}
 use Rattle.lsm_compactions.specs.Compacted.{kept_in}
-use Rattle.lsm_compactions.specs.ReadsCompacted.{AreReplaced, SideBySide, entries_in}
+use Rattle.lsm_compactions.specs.ReadsCompacted.{AreReplaced, SideBySide, joined_in}
 use Rattle.lsm_runs.specs.SeveralRuns.{union_in}
 use Rattle.lsm_runs.proofs.Unions.{entries_joined}
 use Rattle.lsm_compactions.proofs.Versions.{OnceIn, at, count_join, distinct_once, once_distinct, once_strict, strict_once}
 
 -- ---- the sorted entries are the entries
 
-all_in : (lists : List (List (List Entry))) → all_entries (map (λ (run : List (List Entry)). ok_results (joined run)) lists) ≡ entries_in lists
+all_in : (lists : List (List (List Entry))) → all_entries (map (λ (run : List (List Entry)). ok_results (joined run)) lists) ≡ joined_in lists
 all_in lists = ap all_entries (sym (map-map (λ (es : List Entry). ok_results es) joined lists)) ∙ entries_joined (map joined lists)
 
 pub union_up : (lists : List (List (List Entry))) → Ascends (union_in lists)
 union_up lists = (merged_union (map (λ (run : List (List Entry)). ok_results (joined run)) lists)).ascends
 
-pub union_count : (lists : List (List (List Entry))) (p : Entry → Bool) → count_by p (union_in lists) ≡ count_by p (entries_in lists)
+pub union_count : (lists : List (List (List Entry))) (p : Entry → Bool) → count_by p (union_in lists) ≡ count_by p (joined_in lists)
 union_count lists p = (merged_union (map (λ (run : List (List Entry)). ok_results (joined run)) lists)).same.count p ∙ ap (count_by p) (all_in lists)
 
 -- ---- what is kept stays apart from others
@@ -54,10 +54,10 @@ kept_distinct rules zeroing xs ys = all_kept rules (λ x. AllByRecursion (λ y. 
 
 module _ (rules : Rules) (part rest before after : List (List (List Entry))) (h : AreReplaced rules part rest before after) where
   pub count_had : (p : Entry → Bool) → count_by p (union_in before) ≡ count_by p (union_in part) + count_by p (union_in rest)
-  count_had p = omega (arith, union_count before p, h.had.count p, count_join p (entries_in part) (entries_in rest), union_count part p, union_count rest p)
+  count_had p = omega (arith, union_count before p, h.had.count p, count_join p (joined_in part) (joined_in rest), union_count part p, union_count rest p)
 
   pub count_has : (p : Entry → Bool) → count_by p (union_in after) ≡ count_by p (kept_in rules part) + count_by p (union_in rest)
-  count_has p = omega (arith, union_count after p, h.has.count p, count_join p (kept_in rules part) (entries_in rest), union_count rest p)
+  count_has p = omega (arith, union_count after p, h.has.count p, count_join p (kept_in rules part) (joined_in rest), union_count rest p)
 
   once_had : OnceIn (union_in part) (union_in rest)
   once_had key number = omega (arith, count_had (at key number), strict_once (union_in before) (as_pairs (union_in before) h.strict) key number)
@@ -95,27 +95,27 @@ module _ (rules : Rules) (part rest before after : List (List (List Entry))) (h 
 
 -- ---- runs that stand side by side
 
-join : (xs ys : List (List (List Entry))) → entries_in (xs ++ ys) ≡ entries_in xs ++ entries_in ys
+join : (xs ys : List (List (List Entry))) → joined_in (xs ++ ys) ≡ joined_in xs ++ joined_in ys
 join xs ys = ap joined (map-append joined xs ys) ∙ flat_map-append (λ (es : List Entry). es) (map joined xs) (map joined ys)
 
 module _ (front part behind : List (List (List Entry))) (p : Entry → Bool) where
-  count_three : count_by p (entries_in (front ++ (part ++ behind))) ≡ count_by p (entries_in front) + (count_by p (entries_in part) + count_by p (entries_in behind))
+  count_three : count_by p (joined_in (front ++ (part ++ behind))) ≡ count_by p (joined_in front) + (count_by p (joined_in part) + count_by p (joined_in behind))
   count_three =
-      ap (count_by p) (join front (part ++ behind) ∙ ap (λ (es : List Entry). entries_in front ++ es) (join part behind))
-      ∙ count_join p (entries_in front) (entries_in part ++ entries_in behind)
-      ∙ ap (λ (n : ℕ). count_by p (entries_in front) + n) (count_join p (entries_in part) (entries_in behind))
+      ap (count_by p) (join front (part ++ behind) ∙ ap (λ (es : List Entry). joined_in front ++ es) (join part behind))
+      ∙ count_join p (joined_in front) (joined_in part ++ joined_in behind)
+      ∙ ap (λ (n : ℕ). count_by p (joined_in front) + n) (count_join p (joined_in part) (joined_in behind))
 
-  count_two : count_by p (entries_in (front ++ behind)) ≡ count_by p (entries_in front) + count_by p (entries_in behind)
-  count_two = ap (count_by p) (join front behind) ∙ count_join p (entries_in front) (entries_in behind)
+  count_two : count_by p (joined_in (front ++ behind)) ≡ count_by p (joined_in front) + count_by p (joined_in behind)
+  count_two = ap (count_by p) (join front behind) ∙ count_join p (joined_in front) (joined_in behind)
 
 pub side_by_side : SideBySide
 side_by_side rules front part made behind same strict safe = record {
   strict = strict;
-  had = record { count = λ p. omega (arith, count_three front part behind p, count_join p (entries_in part) (entries_in (front ++ behind)), count_two front part behind p) };
+  had = record { count = λ p. omega (arith, count_three front part behind p, count_join p (joined_in part) (joined_in (front ++ behind)), count_two front part behind p) };
   has = record {
     count = λ p.
-        let is : count_by p (entries_in made) ≡ count_by p (kept_in rules part) = ap (count_by p) same in
-        omega (arith, count_three front made behind p, count_join p (kept_in rules part) (entries_in (front ++ behind)), count_two front part behind p, is);
+        let is : count_by p (joined_in made) ≡ count_by p (kept_in rules part) = ap (count_by p) same in
+        omega (arith, count_three front made behind p, count_join p (kept_in rules part) (joined_in (front ++ behind)), count_two front part behind p, is);
   };
   safe = safe;
 }

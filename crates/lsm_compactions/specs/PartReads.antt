@@ -9,7 +9,7 @@ use Rattle.lsm_readers.specs.Table.{OpenTable}
 use Rattle.lsm_sorted.specs.declared.compaction.Rules.{Rules}
 use Rattle.lsm_sorted.specs.Point.{shown}
 use Rattle.lsm_compactions.specs.Compacted.{kept_in}
-use Rattle.lsm_compactions.specs.ReadsCompacted.{all_shown, entries_in}
+use Rattle.lsm_compactions.specs.ReadsCompacted.{all_shown, joined_in}
 use Rattle.lsm_runs.specs.RunLists.{DealsList, RunsHoldLists}
 use Rattle.lsm_runs.specs.SeveralRuns.{union_in}
 
@@ -31,7 +31,7 @@ module _ {S : Type 0} (front back : S → Option (Result Entry Error) → S → 
   pub record ReadsKept (rules : Rules) (fs ps bs : List (List (List Entry)))
       (read : Option Entry × S) : Type 0 where
     pub made : List (List (List Entry))
-    pub kept_are : entries_in made ≡ kept_in rules ps
+    pub kept_are : joined_in made ≡ kept_in rules ps
     pub reads : ReadsOf (union_in (fs ++ (made ++ bs))) read
 
   -- reads of one list before and of another after show the same, point reads to a reader at the

@@ -5,7 +5,7 @@ use Rattle.std.specs.List.{slice_get}
 use Rattle.sst_entries.specs.Stream.{front_of, back_of}
 use Rattle.lsm_block_indexes.proofs.AtEnds.{back_push, pair}
 use Rattle.lsm_readers.specs.Table.{OpenTable}
-use Rattle.lsm_runs.specs.RunParts.{Part, Span, part_at, parts_at, parts_between}
+use Rattle.lsm_runs.specs.RunParts.{Part, RunSpan, span_part_at, span_parts_from, span_parts_between}
 
 module _ {X : Type 0} where
   drop_split : (xs : List X) (i : ℕ) (x : X) → slice_get xs i ≡ Some x → drop i xs ≡ x ∷ drop (suc i) xs
@@ -57,21 +57,21 @@ module _ {X : Type 0} where
   get_within (x ∷ xs) (suc i) less = get_within xs i (omega (arith, less))
 
 -- the part at a place is that of the table there
-place_of : (s : Span) (k : ℕ) (ts : List OpenTable) (i : ℕ) (t : OpenTable) → slice_get ts i ≡ Some t → slice_get (parts_at s k ts) i ≡ Some (part_at s (k + i) t)
+place_of : (s : RunSpan) (k : ℕ) (ts : List OpenTable) (i : ℕ) (t : OpenTable) → slice_get ts i ≡ Some t → slice_get (span_parts_from s k ts) i ≡ Some (span_part_at s (k + i) t)
 place_of s k [] i t e = absurd cc
 place_of s k (u ∷ us) zero t e =
     let same : u ≡ t = cc in
-    ap (λ (x : OpenTable). Some (part_at s k x)) same ∙ ap (λ (n : ℕ). Some (part_at s n t)) (let e : k ≡ k + 0 = omega arith in e)
+    ap (λ (x : OpenTable). Some (span_part_at s k x)) same ∙ ap (λ (n : ℕ). Some (span_part_at s n t)) (let e : k ≡ k + 0 = omega arith in e)
 place_of s k (u ∷ us) (suc i) t e =
-    place_of s (suc k) us i t e ∙ ap (λ (n : ℕ). Some (part_at s n t)) (let e : suc k + i ≡ k + suc i = omega arith in e)
+    place_of s (suc k) us i t e ∙ ap (λ (n : ℕ). Some (span_part_at s n t)) (let e : suc k + i ≡ k + suc i = omega arith in e)
 
-pub part_there : (s : Span) (ts : List OpenTable) (i : ℕ) (t : OpenTable) → slice_get ts i ≡ Some t → slice_get (parts_at s 0 ts) i ≡ Some (part_at s i t)
-part_there s ts i t e = place_of s 0 ts i t e ∙ ap (λ (n : ℕ). Some (part_at s n t)) (let e : 0 + i ≡ i = omega arith in e)
+pub part_there : (s : RunSpan) (ts : List OpenTable) (i : ℕ) (t : OpenTable) → slice_get ts i ≡ Some t → slice_get (span_parts_from s 0 ts) i ≡ Some (span_part_at s i t)
+part_there s ts i t e = place_of s 0 ts i t e ∙ ap (λ (n : ℕ). Some (span_part_at s n t)) (let e : 0 + i ≡ i = omega arith in e)
 
 -- there is a table at each place
 pub table_at : (ts : List OpenTable) (i : ℕ) → i < length ts → (t : OpenTable) × (slice_get ts i ≡ Some t)
 table_at ts i less = get_within ts i less
 
-pub many_at : (s : Span) (k : ℕ) (ts : List OpenTable) → length (parts_at s k ts) ≡ length ts
+pub many_at : (s : RunSpan) (k : ℕ) (ts : List OpenTable) → length (span_parts_from s k ts) ≡ length ts
 many_at s k [] = refl
 many_at s k (t ∷ ts) = ap suc (many_at s (suc k) ts)

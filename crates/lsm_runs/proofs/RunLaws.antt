@@ -10,15 +10,15 @@ use Rattle.lsm_block_indexes.proofs.Dealing.{Ending, deals_ending}
 use Rattle.lsm_block_indexes.proofs.TwoLevels.{no_items}
 use Rattle.lsm_iters.specs.Range.{Range, range_left, range_size}
 use Rattle.lsm_runs.specs.RunParts.{Part, part_size, part_told}
-use Rattle.lsm_runs.specs.RunRange.{IsEnded, OpensAtMost, RunGives, RunRange, back_tables, front_tables, left_of, parts_size, parts_told, run_left, run_size, size_of}
+use Rattle.lsm_runs.specs.RunRange.{IsRunEnded, OpensAtMost, RunGives, RunRange, back_tables, front_tables, left_of_reader, parts_size, run_parts_told, run_left, run_size, size_of_reader}
 use Rattle.lsm_runs.proofs.RunSteps.{End, R}
 
-parts_within : (ps : List Part) → length (parts_told ps) ≤ parts_size ps
+parts_within : (ps : List Part) → length (run_parts_told ps) ≤ parts_size ps
 parts_within [] = omega arith
-parts_within (p ∷ ps) = omega (arith, length-append (part_told p) (parts_told ps), parts_within ps)
+parts_within (p ∷ ps) = omega (arith, length-append (part_told p) (run_parts_told ps), parts_within ps)
 
 module _ {A : Type 0} where
-  within_size : (s : Option (Range A)) → length (left_of s) ≤ size_of s
+  within_size : (s : Option (Range A)) → length (left_of_reader s) ≤ size_of_reader s
   within_size None = omega arith
   within_size (Some s) = omega arith
 
@@ -26,17 +26,17 @@ module _ {A : Type 0} where
   left_within s =
       omega (
         arith,
-        length-append (left_of s.front) (parts_told s.unopened.parts ++ left_of s.back),
-        length-append (parts_told s.unopened.parts) (left_of s.back),
+        length-append (left_of_reader s.front) (run_parts_told s.unopened.parts ++ left_of_reader s.back),
+        length-append (run_parts_told s.unopened.parts) (left_of_reader s.back),
         within_size s.front,
         within_size s.back,
         parts_within s.unopened.parts,
       )
 
-  nothing : (s : RunRange A) → IsEnded s → run_left s ≡ []
+  nothing : (s : RunRange A) → IsRunEnded s → run_left s ≡ []
   nothing s ended = no_items (run_left s) (omega (arith, ended, left_within s))
 
-  ends_by : (of : End) (needed : RunRange A → ℕ) (s : RunRange A) (r : Option R) (t : RunRange A) → RunGives of needed s r t → Ending run_left IsEnded of s r t
+  ends_by : (of : End) (needed : RunRange A → ℕ) (s : RunRange A) (r : Option R) (t : RunRange A) → RunGives of needed s r t → Ending run_left IsRunEnded of s r t
   ends_by of needed s None t step = record { answer = (step.answer, step.lowers); ends = tt }
   ends_by of needed s (Some (Ok e)) t step = record { answer = step.answer; ends = tt }
   ends_by of needed s (Some (Err e)) t step = record { answer = (step.answer, λ ended. omega (arith, ended, step.lowers)); ends = step.ends }
@@ -44,7 +44,7 @@ module _ {A : Type 0} where
   -- whatever ends are asked, what is left is dealt up to the first error
   pub run_deals : (s : RunRange A) → DealsEnding (RunGives front_of front_tables) (RunGives back_of back_tables) (λ _. Unit {0}) (λ _. Unit {0}) s (run_left s)
   run_deals s =
-      deals_ending run_left IsEnded nothing (RunGives front_of front_tables) (RunGives back_of back_tables)
+      deals_ending run_left IsRunEnded nothing (RunGives front_of front_tables) (RunGives back_of back_tables)
       (λ u r t step. ends_by front_of front_tables u r t step) (λ u r t step. ends_by back_of back_tables u r t step) s
 
   -- ---- how many tables are opened

@@ -11,24 +11,24 @@ use Rattle.lsm_iters.specs.Range.{Range}
 use Rattle.lsm_ranges.specs.Run.{ArePlacesOf, are_in_order, overlap_indexes}
 use Rattle.lsm_readers.specs.Table.{OpenTable}
 use Rattle.lsm_runs.specs.RunLists.{DealsList, HoldLists, span_list}
-use Rattle.lsm_runs.specs.RunParts.{Part, Span, parts_at, ranges_of, span_of, span_parts}
-use Rattle.lsm_runs.specs.RunRange.{IsRunOf, OpensAtMost, RunGives, RunRange, back_tables, front_tables, left_of, parts_told, run_left}
+use Rattle.lsm_runs.specs.RunParts.{Part, RunSpan, span_parts_from, ranges_of, span_of, span_parts}
+use Rattle.lsm_runs.specs.RunRange.{IsRunOf, OpensAtMost, RunGives, RunRange, back_tables, front_tables, left_of_reader, run_parts_told, run_left}
 use Rattle.lsm_runs.proofs.RunLaws.{few_between, opens_few, run_deals}
 use Rattle.lsm_runs.proofs.RunSteps.{R}
 use Rattle.lsm_runs.proofs.RunWithin.{span_deals}
 use Rattle.lsm_runs.proofs.SpanLists.{told_between}
 use Rattle.lsm_readers.proofs.TableRanges.{deals_values}
 
-module _ {A : Type 0} (ts : List OpenTable) (span : Span) (s : RunRange A) (is : IsRunOf ts span s) where
-  pub new_left : run_left s ≡ parts_told (span_parts span ts)
+module _ {A : Type 0} (ts : List OpenTable) (span : RunSpan) (s : RunRange A) (is : IsRunOf ts span s) where
+  pub new_left : run_left s ≡ run_parts_told (span_parts span ts)
   new_left =
-      ap (λ (o : Option (Range A)). left_of o ++ (parts_told s.unopened.parts ++ left_of s.back)) is.front
-      ∙ ap (λ (o : Option (Range A)). parts_told s.unopened.parts ++ left_of o) is.back
-      ∙ append-nil (parts_told s.unopened.parts)
-      ∙ ap parts_told is.parts
+      ap (λ (o : Option (Range A)). left_of_reader o ++ (run_parts_told s.unopened.parts ++ left_of_reader s.back)) is.front
+      ∙ ap (λ (o : Option (Range A)). run_parts_told s.unopened.parts ++ left_of_reader o) is.back
+      ∙ append-nil (run_parts_told s.unopened.parts)
+      ∙ ap run_parts_told is.parts
 
   pub new_few : OpensAtMost (RunGives front_of front_tables) (RunGives back_of back_tables) (span.last + 1 - span.first) s
-  new_few = opens_few (span.last + 1 - span.first) s (omega (arith, is.opened, ap length is.parts, few_between (parts_at span 0 ts) span.first (suc span.last)))
+  new_few = opens_few (span.last + 1 - span.first) s (omega (arith, is.opened, ap length is.parts, few_between (span_parts_from span 0 ts) span.first (suc span.last)))
 
 module _ {A : Type 0} (low high : Bound (List ℕ)) (ts : List OpenTable) (ends : ℕ × ℕ) (s : RunRange A) (is : IsRunOf ts (span_of ends low high) s) where
   -- of the tables that were found

@@ -27,8 +27,8 @@ use Rattle.lsm_readers.proofs.FileParts.{table_parts}
 use Rattle.lsm_readers.proofs.FileRanges.{file_rows}
 use Rattle.lsm_readers.proofs.Recovered.{range_is}
 use Rattle.lsm_runs.specs.RunLists.{HoldLists, HoldsList}
-use Rattle.lsm_runs.specs.RunParts.{Part, Span, is_edge, part_at, part_told, parts_at, parts_between, range_of, ranges_of, span_of, span_parts}
-use Rattle.lsm_runs.specs.RunRange.{parts_told}
+use Rattle.lsm_runs.specs.RunParts.{Part, RunSpan, is_edge, span_part_at, part_told, span_parts_from, span_parts_between, range_of, ranges_of, span_of, span_parts}
+use Rattle.lsm_runs.specs.RunRange.{run_parts_told}
 use Rattle.lsm_runs.proofs.RunSteps.{R}
 
 -- ---- one table
@@ -134,7 +134,7 @@ starts_first high m (t ∷ us) order many = elim (cases_Bool (starts_within high
       absurd (omega (arith, many, none))
 ]
 
-module _ (span : Span) where
+module _ (span : RunSpan) where
   abbrev low : Bound (List ℕ)
   low = span.low
 
@@ -145,10 +145,10 @@ module _ (span : Span) where
   of_edge t b = if b then record { table = t; low = span.low; high = span.high } else record { table = t; low = Unbounded; high = Unbounded }
 
   -- a table is read as what of its list lies within the bounds
-  at_edge : (k : ℕ) (t : OpenTable) (es : List Entry) → HoldsList t es → is_edge span k ≡ true → part_told (part_at span k t) ≡ ok_results (within low high es)
+  at_edge : (k : ℕ) (t : OpenTable) (es : List Entry) → HoldsList t es → is_edge span k ≡ true → part_told (span_part_at span k t) ≡ ok_results (within low high es)
   at_edge k t es h e = ap (λ (b : Bool). part_told (of_edge t b)) e ∙ held_told t es h low high
 
-  in_between : (k : ℕ) (t : OpenTable) (es : List Entry) → HoldsList t es → is_edge span k ≡ false → is_from low (range_of t).min ≡ true → is_to high (range_of t).max ≡ true → part_told (part_at span k t) ≡ ok_results (within low high es)
+  in_between : (k : ℕ) (t : OpenTable) (es : List Entry) → HoldsList t es → is_edge span k ≡ false → is_from low (range_of t).min ≡ true → is_to high (range_of t).max ≡ true → part_told (span_part_at span k t) ≡ ok_results (within low high es)
   in_between k t es h e from to =
       ap (λ (b : Bool). part_told (of_edge t b)) e
       ∙ held_told t es h Unbounded Unbounded
@@ -156,8 +156,8 @@ module _ (span : Span) where
 
   -- behind a table that reaches the lower bound
   mids : (k m : ℕ) (prev : List ℕ) (ts : List OpenTable) (ls : List (List Entry)) → HoldLists ts ls → are_in_order (ranges_of ts) ≡ true → list_all (λ (later : Interval). key_lt prev later.min) (ranges_of ts) ≡ true → is_from low prev ≡ true
-      → m ≡ how_many (starts_within high) (ranges_of ts) → suc span.last ≡ k + m → parts_told (take m (parts_at span k ts)) ≡ ok_results (within low high (joined ls))
-  mids k m prev [] [] h order before from many last = ap (λ (n : ℕ). parts_told (take n [])) many
+      → m ≡ how_many (starts_within high) (ranges_of ts) → suc span.last ≡ k + m → run_parts_told (take m (span_parts_from span k ts)) ≡ ok_results (within low high (joined ls))
+  mids k m prev [] [] h order before from many last = ap (λ (n : ℕ). run_parts_told (take n [])) many
   mids k m prev [] (es ∷ ls) h order before from many last = absurd h
   mids k m prev (t ∷ ts) [] h order before from many last = absurd h
   mids k m prev (t ∷ ts) (es ∷ ls) h order before from many last =
@@ -170,17 +170,17 @@ module _ (span : Span) where
             let n = how_many (starts_within high) (ranges_of ts) in
             let all : m ≡ suc n = many ∙ rw e refl in
             let rest = mids (suc k) n r.max ts ls h.1 p.rest p.before (lower_up low r.min r.max reaches p.formed) refl (omega (arith, last, all)) in
-            ap (λ (i : ℕ). parts_told (take i (parts_at span k (t ∷ ts)))) all
-            ∙ ap (λ (rs : List R). part_told (part_at span k t) ++ rs) rest
+            ap (λ (i : ℕ). run_parts_told (take i (span_parts_from span k (t ∷ ts)))) all
+            ∙ ap (λ (rs : List R). part_told (span_part_at span k t) ++ rs) rest
             ∙ ap (λ (rs : List R). rs ++ ok_results (within low high (joined ls))) (head k n t es ts h.0 order reaches refl (omega (arith, last, all)))
             ∙ sym (ok_join low high es (joined ls))
         | inr e ↦
             let none : how_many (starts_within high) (ranges_of (t ∷ ts)) ≡ 0 = rw e (none_count range_of (starts_within high) (falls-starts_within high) t ts order e) in
-            ap (λ (i : ℕ). parts_told (take i (parts_at span k (t ∷ ts)))) (many ∙ none)
+            ap (λ (i : ℕ). run_parts_told (take i (span_parts_from span k (t ∷ ts)))) (many ∙ none)
             ∙ sym (ap ok_results (past_from low high t ts es ls h order e))
       ]
     where
-      head : (k n : ℕ) (t : OpenTable) (es : List Entry) (ts : List OpenTable) → HoldsList t es → are_in_order (ranges_of (t ∷ ts)) ≡ true → is_from low (range_of t).min ≡ true → n ≡ how_many (starts_within high) (ranges_of ts) → span.last ≡ k + n → part_told (part_at span k t) ≡ ok_results (within low high es)
+      head : (k n : ℕ) (t : OpenTable) (es : List Entry) (ts : List OpenTable) → HoldsList t es → are_in_order (ranges_of (t ∷ ts)) ≡ true → is_from low (range_of t).min ≡ true → n ≡ how_many (starts_within high) (ranges_of ts) → span.last ≡ k + n → part_told (span_part_at span k t) ≡ ok_results (within low high es)
       head k zero t es ts h order reaches many last =
           at_edge k t es h (or_right (k == span.first) (k == span.last) (eq-eqb k span.last (omega (arith, last))))
       head k (suc n) t es ts h order reaches many last =
@@ -197,7 +197,7 @@ module _ (span : Span) where
 
   -- from the first place of the span on
   firsts : (k m : ℕ) (t : OpenTable) (ts : List OpenTable) (es : List Entry) (ls : List (List Entry)) → HoldLists (t ∷ ts) (es ∷ ls) → are_in_order (ranges_of (t ∷ ts)) ≡ true → is_from low (range_of t).max ≡ true
-      → suc m ≡ how_many (starts_within high) (ranges_of (t ∷ ts)) → span.first ≡ k → span.last ≡ k + m → parts_told (take (suc m) (parts_at span k (t ∷ ts))) ≡ ok_results (within low high (joined (es ∷ ls)))
+      → suc m ≡ how_many (starts_within high) (ranges_of (t ∷ ts)) → span.first ≡ k → span.last ≡ k + m → run_parts_told (take (suc m) (span_parts_from span k (t ∷ ts))) ≡ ok_results (within low high (joined (es ∷ ls)))
   firsts k m t ts es ls h order from many begin last =
       let r = range_of t in
       let p = parts r (ranges_of ts) order in
@@ -208,7 +208,7 @@ module _ (span : Span) where
       let starts : starts_within high r ≡ true = subst (λ (u : OpenTable). starts_within high (range_of u) ≡ true) (sym same) first.3 in
       let fewer : suc m ≡ suc (how_many (starts_within high) (ranges_of ts)) = many ∙ rw starts refl in
       let rest = mids (suc k) m r.max ts ls h.1 p.rest p.before from (omega (arith, fewer)) (omega (arith, last)) in
-      ap (λ (rs : List R). part_told (part_at span k t) ++ rs) rest
+      ap (λ (rs : List R). part_told (span_part_at span k t) ++ rs) rest
       ∙ ap (λ (rs : List R). rs ++ ok_results (within low high (joined ls))) (at_edge k t es h.0 edge)
       ∙ sym (ok_join low high es (joined ls))
     where
@@ -218,7 +218,7 @@ module _ (span : Span) where
 
   -- tables that end before the lower bound have nothing within
   skips : (n m k : ℕ) (ts : List OpenTable) (ls : List (List Entry)) → HoldLists ts ls → are_in_order (ranges_of ts) ≡ true → n ≡ how_many (ends_before low) (ranges_of ts) → suc m ≡ how_many (starts_within high) (ranges_of (drop n ts))
-      → span.first ≡ k + n → span.last ≡ k + n + m → parts_told (take (suc m) (drop n (parts_at span k ts))) ≡ ok_results (within low high (joined ls))
+      → span.first ≡ k + n → span.last ≡ k + n + m → run_parts_told (take (suc m) (drop n (span_parts_from span k ts))) ≡ ok_results (within low high (joined ls))
   skips n m k [] ls h order before many begin last =
       let none : how_many (starts_within high) (ranges_of (drop n [])) ≡ 0 = ap (λ (i : ℕ). how_many (starts_within high) (ranges_of (drop i []))) before in
       absurd (omega (arith, many, none))
@@ -231,13 +231,13 @@ module _ (span : Span) where
             let i = how_many (ends_before low) (ranges_of ts) in
             let all : n ≡ suc i = before ∙ rw e refl in
             let more : suc m ≡ how_many (starts_within high) (ranges_of (drop i ts)) = many ∙ ap (λ (j : ℕ). how_many (starts_within high) (ranges_of (drop j (t ∷ ts)))) all in
-            ap (λ (j : ℕ). parts_told (take (suc m) (drop j (parts_at span k (t ∷ ts))))) all
+            ap (λ (j : ℕ). run_parts_told (take (suc m) (drop j (span_parts_from span k (t ∷ ts))))) all
             ∙ skips i m (suc k) ts ls h.1 p.rest refl more (omega (arith, begin, all)) (omega (arith, last, all))
             ∙ sym (ap ok_results (skip low high es (joined ls) (all_before low high t es h.0 e)))
         | inr e ↦
             let none : n ≡ 0 = before ∙ rw e (none_count range_of (ends_before low) (falls-ends_before low) t ts order e) in
             let more : suc m ≡ how_many (starts_within high) (ranges_of (t ∷ ts)) = many ∙ ap (λ (j : ℕ). how_many (starts_within high) (ranges_of (drop j (t ∷ ts)))) none in
-            ap (λ (j : ℕ). parts_told (take (suc m) (drop j (parts_at span k (t ∷ ts))))) none
+            ap (λ (j : ℕ). run_parts_told (take (suc m) (drop j (span_parts_from span k (t ∷ ts))))) none
             ∙ firsts k m t ts es ls h order (so (is_from low r.max) e) more (omega (arith, begin, none)) (omega (arith, last, none))
       ]
 
@@ -283,15 +283,15 @@ module _ (low high : Bound (List ℕ)) (ts : List OpenTable) (ls : List (List En
   abbrev skipped : ℕ
   skipped = how_many (ends_before low) (ranges_of ts)
 
-  pub span_deals : (ends : ℕ × ℕ) → overlap_indexes low high (ranges_of ts) ≡ Some ends → parts_told (span_parts (span_of ends low high) ts) ≡ ok_results (within low high (joined ls))
+  pub span_deals : (ends : ℕ × ℕ) → overlap_indexes low high (ranges_of ts) ≡ Some ends → run_parts_told (span_parts (span_of ends low high) ts) ≡ ok_results (within low high (joined ls))
   span_deals ends found =
       let c = counted skipped (how_many (starts_within high) (drop skipped (ranges_of ts))) ends found in
       let m = c.0 in
       let many : suc m ≡ how_many (starts_within high) (ranges_of (drop skipped ts)) = sym c.1 ∙ ap (how_many (starts_within high)) (drop_ranges skipped ts) in
       let span = span_of ends low high in
       let wide : suc ends.1 - ends.0 ≡ suc m = omega (arith, c.2, c.3) in
-      ap (λ (i : ℕ). parts_told (take i (drop ends.0 (parts_at span 0 ts)))) wide
-      ∙ ap (λ (i : ℕ). parts_told (take (suc m) (drop i (parts_at span 0 ts)))) c.2
+      ap (λ (i : ℕ). run_parts_told (take i (drop ends.0 (span_parts_from span 0 ts)))) wide
+      ∙ ap (λ (i : ℕ). run_parts_told (take (suc m) (drop i (span_parts_from span 0 ts)))) c.2
       ∙ skips span skipped m 0 ts ls h order refl many (omega (arith, c.2)) (omega (arith, c.3))
 
   pub none_deals : overlap_indexes low high (ranges_of ts) ≡ None → within low high (joined ls) ≡ []

@@ -24,7 +24,7 @@ use Rattle.lsm_readers.proofs.FileScans.{file_told}
 use Rattle.lsm_readers.proofs.Scans.{ended_left, fault_left, scan_falls}
 use Rattle.lsm_readers.proofs.TableRanges.{deals_values}
 use Rattle.lsm_runs.specs.RunLists.{DealsList, HoldLists, HoldsList}
-use Rattle.lsm_runs.specs.RunScan.{BeginsNext, BeginsScan, IsEnded, IsScanOf, RunScan, RunScansNext, ScansItem, left_of_scan, over_scan, run_scan_left, run_scan_size, size_of_scan, stopped_scan, table_scan, table_size, tables_between, tables_scan, tables_size}
+use Rattle.lsm_runs.specs.RunScan.{BeginsNext, BeginsScan, IsRunScanEnded, IsScanOf, RunScan, RunScansNext, ScansItem, left_of_scan, over_scan, run_scan_left, run_scan_size, size_of_scan, stopped_scan, table_scan, table_size, tables_between, tables_scan, tables_size}
 use Rattle.lsm_runs.proofs.Places.{first_between, none_between, table_at}
 use Rattle.lsm_runs.proofs.RunSteps.{R}
 
@@ -183,12 +183,12 @@ one_within : (o : Option Scan) → length (left_of_scan o) ≤ size_of_scan o
 one_within None = omega arith
 one_within (Some s) = omega arith
 
-nothing : (s : RunScan) → IsEnded s → run_scan_left s ≡ []
+nothing : (s : RunScan) → IsRunScanEnded s → run_scan_left s ≡ []
 nothing s ended =
     no_items (run_scan_left s)
     (omega (arith, ended, no_longer (left_of_scan s.scan ++ behind s), length-append (left_of_scan s.scan) (behind s), one_within s.scan, tables_within s.tables))
 
-ends_by : (s : RunScan) (r : Option R) (t : RunScan) → RunScansNext s r t → Ending run_scan_left IsEnded front_of s r t
+ends_by : (s : RunScan) (r : Option R) (t : RunScan) → RunScansNext s r t → Ending run_scan_left IsRunScanEnded front_of s r t
 ends_by s None t step = record { answer = (step.answer, step.lowers); ends = tt }
 ends_by s (Some (Ok e)) t step = record { answer = ap front_of step.answer; ends = tt }
 ends_by s (Some (Err e)) t step = record { answer = (step.answer, λ ended. omega (arith, ended, step.lowers)); ends = step.ends }
@@ -197,7 +197,7 @@ ends_by s (Some (Err e)) t step = record { answer = (step.answer, λ ended. omeg
 pub scan_deals : (s : RunScan) (xs : List R) → run_scan_left s ≡ xs → DealsEnding RunScansNext nowhere (λ _. Unit {0}) (λ _. Unit {0}) s xs
 scan_deals s xs same =
     subst (λ (rs : List R). DealsEnding RunScansNext nowhere (λ _. Unit {0}) (λ _. Unit {0}) s rs) same
-    (deals_ending run_scan_left IsEnded nothing RunScansNext nowhere (λ u r t step. ends_by u r t step) (λ u r t step. absurd step) s)
+    (deals_ending run_scan_left IsRunScanEnded nothing RunScansNext nowhere (λ u r t step. ends_by u r t step) (λ u r t step. absurd step) s)
 
 -- ---- of a span
 

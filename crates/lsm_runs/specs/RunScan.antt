@@ -59,8 +59,8 @@ abbrev pub run_scan_size : RunScan → ℕ
 run_scan_size s = size_of_scan s.scan + tables_size s.tables
 
 -- nothing more comes, and nothing is opened
-abbrev pub IsEnded : RunScan → Type 0
-IsEnded s = run_scan_size s ≡ 0
+abbrev pub IsRunScanEnded : RunScan → Type 0
+IsRunScanEnded s = run_scan_size s ≡ 0
 
 -- an answer: the first of what is left, and the others are left; nothing, where nothing is left; want of memory stands in the place
 -- of any answer
@@ -72,7 +72,7 @@ ScanAnswer s (Some (Err e)) t = is_memory e ≡ false → first (run_scan_left s
 -- one call; an error ends the scan
 pub record RunScansNext (s : RunScan) (r : Option (Result Entry Error)) (t : RunScan) : Type 0 where
   pub answer : ScanAnswer s r t
-  pub ends : MatchOption r (Unit {0}) (λ x. MatchResult x (λ _. Unit {0}) (λ _. IsEnded t))
+  pub ends : MatchOption r (Unit {0}) (λ x. MatchResult x (λ _. Unit {0}) (λ _. IsRunScanEnded t))
   pub lowers : Lowers r (run_scan_size s) (run_scan_size t)
 
 -- a scanner of a span of a run: its first table is opened, and no step was made
@@ -83,13 +83,13 @@ pub record IsScanOf (tables : List OpenTable) (ends : ℕ × ℕ) (s : RunScan) 
 -- ---- one step of its parts
 
 -- an answer of the scan of one table, and nothing where none is opened
-abbrev pub ItemAnswer : Option Scan → Option (Result Entry Error) → Option Scan → Type 0
-ItemAnswer s None t = left_of_scan s ≡ []
-ItemAnswer s (Some (Ok e)) t = left_of_scan s ≡ Ok e ∷ left_of_scan t
-ItemAnswer s (Some (Err e)) t = is_memory e ≡ false → first (left_of_scan s) ≡ Some (Err e)
+abbrev pub ScannerAnswer : Option Scan → Option (Result Entry Error) → Option Scan → Type 0
+ScannerAnswer s None t = left_of_scan s ≡ []
+ScannerAnswer s (Some (Ok e)) t = left_of_scan s ≡ Ok e ∷ left_of_scan t
+ScannerAnswer s (Some (Err e)) t = is_memory e ≡ false → first (left_of_scan s) ≡ Some (Err e)
 
 pub record ScansItem (s : Option Scan) (r : Option (Result Entry Error)) (t : Option Scan) : Type 0 where
-  pub answer : ItemAnswer s r t
+  pub answer : ScannerAnswer s r t
   pub lowers : Lowers r (size_of_scan s) (size_of_scan t)
 
 -- the scan of a table begins, or it is refused, memory aside with the fault that the scan tells

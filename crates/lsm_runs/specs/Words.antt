@@ -15,7 +15,7 @@ pub use Rattle.lsm_readers.specs.Read.{DoesRead, Opens}
 pub use Rattle.lsm_readers.specs.Table.{OpenTable}
 pub use Rattle.lsm_sorted.specs.NewestLaws.{AnswersNewest, CanAskNewest, DealsNewest, IsNewestOf}
 pub use Rattle.lsm_runs.specs.RunParts.{ends_given, range_of, span_of}
-pub use Rattle.lsm_runs.specs.RunRange.{IsRunOf, ItemGives, OpensAtMost, RunGives, back_tables, front_tables, over, run_left, run_size, stopped}
+pub use Rattle.lsm_runs.specs.RunRange.{IsRunOf, ItemGives, OpensAtMost, RunGives, back_tables, front_tables, over_run, run_left, run_size, stopped_run}
 pub use Rattle.lsm_runs.specs.RunLists.{DealTogether, DealsList, HoldLists, RunsHoldLists, span_list}
 pub use Rattle.lsm_runs.specs.RunScan.{BeginsNext, BeginsScan, IsScanOf, RunScansNext, ScansItem, early_scan_fault, over_scan, run_scan_size, scan_fault, stopped_scan, tables_between, tables_scan}
 pub use Rattle.lsm_runs.specs.SpansRead.{IsOverSpans, spans_within}

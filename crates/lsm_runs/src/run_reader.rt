@@ -5,8 +5,8 @@ ghost use Rattle.std.specs.Iterator.{at_most};
 ghost use Rattle.lsm_runs.specs.Words.{ArePlacesOf, DealsEnding, DealsList, Entry, HoldLists};
 ghost use Rattle.lsm_runs.specs.Words.{IsInOrder, IsRunOf, ItemGives, OpensAtMost, RunGives};
 ghost use Rattle.lsm_runs.specs.Words.{back_of, back_tables, ends_given, front_of, front_tables};
-ghost use Rattle.lsm_runs.specs.Words.{joined, over, overlap_indexes, run_left, run_size};
-ghost use Rattle.lsm_runs.specs.Words.{span_list, span_of, stopped, within};
+ghost use Rattle.lsm_runs.specs.Words.{joined, over_run, overlap_indexes, run_left, run_size};
+ghost use Rattle.lsm_runs.specs.Words.{span_list, span_of, stopped_run, within};
 
 use crate::spans::{ends_in, places_within};
 use crate::unopened::Unopened;
@@ -207,7 +207,7 @@ impl<A: Allocator + Clone> RunReader<A> {
 
     /// Lets go what is left.
     fn end(&mut self)
-        ensures { self.new ≡ over self.old }
+        ensures { self.new ≡ over_run self.old }
     {
         self.unopened.end();
         self.lo_reader.end();
@@ -218,7 +218,7 @@ impl<A: Allocator + Clone> RunReader<A> {
 impl<A: Allocator + Clone> RunReader<A> {
     /// The answer at the front; an error does not end the reader yet.
     fn step_front(&mut self) -> Option<IterItem<A>>
-        ensures { RunGives front_of front_tables self.old result (stopped result self.new) }
+        ensures { RunGives front_of front_tables self.old result (stopped_run result self.new) }
     {
         loop {
             if let Some(item) = self.lo_reader.first_item() {
@@ -234,7 +234,7 @@ impl<A: Allocator + Clone> RunReader<A> {
 
     /// The answer at the back; an error does not end the reader yet.
     fn step_back(&mut self) -> Option<IterItem<A>>
-        ensures { RunGives back_of back_tables self.old result (stopped result self.new) }
+        ensures { RunGives back_of back_tables self.old result (stopped_run result self.new) }
     {
         loop {
             if let Some(item) = self.hi_reader.last_item() {

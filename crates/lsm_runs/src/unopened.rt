@@ -6,7 +6,7 @@ ghost use Rattle.sst_entries.specs.declared.error.Error.TheVariants.{OutOfMemory
 ghost use Rattle.lsm_ranges.specs.Run.{ArePlacesOf};
 ghost use Rattle.lsm_readers.specs.Ranges.{IsRangeOf};
 ghost use Rattle.lsm_readers.specs.Table.{OpenTable};
-ghost use Rattle.lsm_runs.specs.RunParts.{part_at, span_of, span_parts};
+ghost use Rattle.lsm_runs.specs.RunParts.{span_part_at, span_of, span_parts};
 ghost use Rattle.lsm_runs.specs.RunRange.{OpensAt, none_unopened};
 
 use crate::bounds::share;
@@ -58,7 +58,7 @@ fn reader_at<A: Allocator + Clone>(
 ) -> Result<Iter<A>, Error>
     requires { place < length tables.now }
     ensures ok { let span = span_of ends range.now.0 range.now.1 in
-        (t : OpenTable) → slice_get tables.now place ≡ Some t → let p = part_at span place t in
+        (t : OpenTable) → slice_get tables.now place ≡ Some t → let p = span_part_at span place t in
         IfOk result (λ reader. IsRangeOf p.table p.low p.high reader) }
     ensures err { IfErr result (λ e. e ≡ OutOfMemory) }
 {

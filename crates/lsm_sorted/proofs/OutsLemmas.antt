@@ -9,7 +9,7 @@ use Rattle.sst_entries.specs.Stream.{first, ok_results}
 use Rattle.sst_entries.specs.declared.error.Error.{Error}
 use Rattle.lsm_merge.specs.Ends.{R}
 use Rattle.lsm_sorted.specs.declared.compaction.Rules.{Rules}
-use Rattle.lsm_sorted.specs.Compaction.{Verdict, drop, Judged, JudgedItem, told, is_left, reports_by, is_cut, heads, expired, zeroed, given_by, given, Versions, is_version_of, before, by_key, gone, error_of, entries, outs_of, reported_heads, reported_of, asked_of, concat_by, outs, reported, asked, as_is, unfiltered}
+use Rattle.lsm_sorted.specs.Compaction.{Verdict, drop, Judged, JudgedItem, told, is_left, reports_by, is_cut, heads, expired, zeroed, head_given, given, Versions, is_version_of, before, by_key, gone, error_of, entries, outs_of, reported_heads, reported_of, asked_of, concat_by, outs, reported, asked, as_is, unfiltered}
 use Rattle.std.proofs.lemmas.List.{append-nil}
 use Rattle.sst_entries.proofs.KeyLemmas.{same_itself}
 
@@ -129,7 +129,7 @@ module _ (rules : Rules) (j : Judged) (y : Entry) (left : told j ≡ Ok (Some y)
     pub open_outs : outs rules (Ok j ∷ Ok k ∷ js) ≡ Ok (zeroed rules y) ∷ outs rules (Ok k ∷ js)
     open_outs = first_joined (outs_of rules) (Ok (zeroed rules y) ∷ [])
         (λ V e. ap (λ (b : Bool). outs_if b (k ∷ V) e) (high_is_no_cut high)
-        ∙ ap (λ (o : Result (Option Entry) Error). (given_by rules (λ x. false) o ++ given rules (gone rules (first (entries (expired rules.watermark (k ∷ V)))) e) (heads rules.watermark (k ∷ V))) ++ error_of e) left)
+        ∙ ap (λ (o : Result (Option Entry) Error). (head_given rules (λ x. false) o ++ given rules (gone rules (first (entries (expired rules.watermark (k ∷ V)))) e) (heads rules.watermark (k ∷ V))) ++ error_of e) left)
 
     pub open_reported : reported rules (Ok j ∷ Ok k ∷ js) ≡ reports_by j.entry j.verdict ++ reported rules (Ok k ∷ js)
     open_reported = first_joined (reported_of rules) (reports_by j.entry j.verdict)
@@ -199,14 +199,14 @@ module _ (key : List ℕ) (js : List JudgedItem) (over : follows_in key js ≡ f
           ∙ sym (ap (λ (zs : List Entry). f true (unfiltered zs)) none)
     ]
 
-    pub close_outs : outs rules (Ok j ∷ (ok_results (unfiltered es) ++ js)) ≡ given_by rules (gone rules (first es) (error_in js)) (Ok (Some y)) ++ (error_of (error_in js) ++ outs rules (behind_error js))
+    pub close_outs : outs rules (Ok j ∷ (ok_results (unfiltered es) ++ js)) ≡ head_given rules (gone rules (first es) (error_in js)) (Ok (Some y)) ++ (error_of (error_in js) ++ outs rules (behind_error js))
     close_outs =
         let rest = concat_by (outs_of rules) (by_key (behind_error js)) in
         ap (concat_by (outs_of rules)) (closes j es its all)
         ∙ ap (λ (ys : List R). ys ++ rest) (by_cut (λ b V. outs_if rules j y left b V (error_in js)) refl)
-        ∙ ap (λ (zs : List Entry). (given_by rules (gone rules (first zs) (error_in js)) (told j) ++ error_of (error_in js)) ++ rest) (entries_as_is es)
-        ∙ ap (λ (o : Result (Option Entry) Error). (given_by rules (gone rules (first es) (error_in js)) o ++ error_of (error_in js)) ++ rest) left
-        ∙ append_assoc (given_by rules (gone rules (first es) (error_in js)) (Ok (Some y))) (error_of (error_in js)) rest
+        ∙ ap (λ (zs : List Entry). (head_given rules (gone rules (first zs) (error_in js)) (told j) ++ error_of (error_in js)) ++ rest) (entries_as_is es)
+        ∙ ap (λ (o : Result (Option Entry) Error). (head_given rules (gone rules (first es) (error_in js)) o ++ error_of (error_in js)) ++ rest) left
+        ∙ append_assoc (head_given rules (gone rules (first es) (error_in js)) (Ok (Some y))) (error_of (error_in js)) rest
 
     pub close_reported : reported rules (Ok j ∷ (ok_results (unfiltered es) ++ js)) ≡ (reports_by j.entry j.verdict ++ es) ++ reported rules (behind_error js)
     close_reported =

@@ -9,7 +9,7 @@ use Rattle.sst_entries.specs.declared.error.Error.{Error}
 use Rattle.lsm_merge.specs.Ends.{R}
 use Rattle.lsm_sorted.specs.Newest.{after_key}
 use Rattle.lsm_sorted.specs.declared.compaction.Rules.{Rules}
-use Rattle.lsm_sorted.specs.Compaction.{Verdict, keep, replace, drop, Judged, JudgedItem, items, told_by, told, reports_by, goes, zeroed, given_by, gone, error_of, outs, reported, asked, as_is, unfiltered}
+use Rattle.lsm_sorted.specs.Compaction.{Verdict, keep, replace, drop, Judged, JudgedItem, items, told_by, told, reports_by, goes, zeroed, head_given, gone, error_of, outs, reported, asked, as_is, unfiltered}
 use Rattle.lsm_sorted.specs.Compacting.{of_key, key_follows, Turn, head_answer, close, settled, turned}
 use Rattle.sst_entries.proofs.KeyLemmas.{same_is}
 use Rattle.lsm_sorted.proofs.OutsLemmas.{listed, asked_head, judged, follows_in, error_in, behind_error, AllOf, dropped_outs, dropped_reported, dropped_asked, failed_outs, failed_reported, failed_asked, open_outs, open_reported, open_asked, close_outs, close_reported, close_asked}
@@ -107,7 +107,7 @@ module _ (P : Judged → Type 0) (plain : (x : Entry) → P (as_is x)) (rules : 
       last' : (nat_lt j.entry.seqno rules.watermark ≡ true) ⊎ (es ≡ [])
       last' = subst (λ (n : ℕ). (nat_lt n rules.watermark ≡ true) ⊎ (es ≡ [])) (sym number) last
 
-      answer_listed : (rest : List R) → given_by rules (gone rules (first es) None) (Ok (Some y)) ++ rest ≡ listed (head_answer rules (goes rules.evict y.kind (first es)) y) ++ rest
+      answer_listed : (rest : List R) → head_given rules (gone rules (first es) None) (Ok (Some y)) ++ rest ≡ listed (head_answer rules (goes rules.evict y.kind (first es)) y) ++ rest
       answer_listed rest = elim (goes rules.evict y.kind (first es)) as (λ b. cond b [] (Ok (zeroed rules y) ∷ []) ++ rest ≡ listed (cond b None (Some (Ok (zeroed rules y)))) ++ rest) [ true ↦ refl | false ↦ refl ]
 
       calm : (js : List JudgedItem) (rs D : List R) → follows_in y.user_key js ≡ false → error_in js ≡ None → behind_error js ≡ js → rs ≡ ok_results es ++ D → items js ≡ D
@@ -117,8 +117,8 @@ module _ (P : Judged → Type 0) (plain : (x : Entry) → P (as_is x)) (rules : 
             js = Ok j ∷ (ok_results (unfiltered es) ++ js);
             over = ap (λ (ys : List R). Ok j.entry ∷ ys) (items_append es js ∙ ap (λ (ys : List R). ok_results es ++ ys) fits ∙ sym parts);
             gives = close_outs y.user_key js over rules j y left es its all last'
-                ∙ ap (λ (o : Option Error). given_by rules (gone rules (first es) o) (Ok (Some y)) ++ (error_of o ++ outs rules (behind_error js))) none
-                ∙ ap (λ (ks : List JudgedItem). given_by rules (gone rules (first es) None) (Ok (Some y)) ++ outs rules ks) same
+                ∙ ap (λ (o : Option Error). head_given rules (gone rules (first es) o) (Ok (Some y)) ++ (error_of o ++ outs rules (behind_error js))) none
+                ∙ ap (λ (ks : List JudgedItem). head_given rules (gone rules (first es) None) (Ok (Some y)) ++ outs rules ks) same
                 ∙ answer_listed (outs rules js);
             reports = close_reported y.user_key js over rules j y left es its all last' ∙ ap (λ (ks : List JudgedItem). (reports_by j.entry j.verdict ++ es) ++ reported rules ks) same;
             asks = close_asked y.user_key js over rules j y left es its all last' ∙ ap (λ (ks : List JudgedItem). asked_head j ++ asked rules ks) same;

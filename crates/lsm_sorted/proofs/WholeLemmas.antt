@@ -12,7 +12,7 @@ use Rattle.sst_entries.proofs.StreamLemmas.{deals_by, can_by, tail_eq}
 use Rattle.lsm_merge.specs.Union.{entries_among}
 use Rattle.lsm_merge.specs.Ends.{R}
 use Rattle.lsm_sorted.specs.declared.compaction.Rules.{Rules}
-use Rattle.lsm_sorted.specs.Compaction.{Verdict, keep, replace, drop, Judged, JudgedItem, items, told_by, told, is_cut, heads, expired, zeroed, given_by, given, Versions, is_version_of, before, by_key, gone, error_of, entries, outs_of, concat_by, outs, kept, as_is, as_they_are, unfiltered}
+use Rattle.lsm_sorted.specs.Compaction.{Verdict, keep, replace, drop, Judged, JudgedItem, items, told_by, told, is_cut, heads, expired, zeroed, head_given, given, Versions, is_version_of, before, by_key, gone, error_of, entries, outs_of, concat_by, outs, kept, as_is, as_they_are, unfiltered}
 use Rattle.lsm_sorted.specs.Compacting.{AsksIf, Asks, Turns, Calls, ended, failed, answered, again, Compacted}
 use Rattle.lsm_sorted.specs.CompactionState.{rules_of, filter_of, callback_of, Compacts, MayCompact, CompactsNext}
 use Rattle.lsm_sorted.proofs.OutsLemmas.{listed, judged}
@@ -157,7 +157,7 @@ errorless_append [] qs h k = k
 errorless_append (Ok x ∷ rs) qs h k = let t : rs ≡ ok_results (entries_among rs) = tail_eq h in ap (λ (ys : List R). Ok x ∷ ys) (errorless_append rs qs t k)
 errorless_append (Err e ∷ rs) qs h k = absurd (not_ok e rs (entries_among rs) h)
 
-errorless_given_by : (rules : Rules) (gone : Entry → Bool) (x : Entry) (v : Result Verdict Error) → is_ok v ≡ true → Errorless (given_by rules gone (told_by x v))
+errorless_given_by : (rules : Rules) (gone : Entry → Bool) (x : Entry) (v : Result Verdict Error) → is_ok v ≡ true → Errorless (head_given rules gone (told_by x v))
 errorless_given_by rules gone x (Ok keep) h = elim (gone x) as (λ b. Errorless (cond b [] (Ok (zeroed rules x) ∷ []))) [ true ↦ refl | false ↦ refl ]
 errorless_given_by rules gone x (Ok (replace kind value)) h =
     let y : Entry = record { user_key = x.user_key; seqno = x.seqno; kind = kind; value = value } in
@@ -168,7 +168,7 @@ errorless_given_by rules gone x (Err e) h = absurd cc
 errorless_given : (rules : Rules) (gone : Entry → Bool) (js : List Judged) → AllByRecursion IsCalm js → Errorless (given rules gone js)
 errorless_given rules gone [] h = refl
 errorless_given rules gone (j ∷ []) h = errorless_given_by rules gone j.entry j.verdict h.0
-errorless_given rules gone (j ∷ k ∷ ks) h = errorless_append (given_by rules (λ x. false) (told j)) (given rules gone (k ∷ ks)) (errorless_given_by rules (λ x. false) j.entry j.verdict h.0) (errorless_given rules gone (k ∷ ks) h.1)
+errorless_given rules gone (j ∷ k ∷ ks) h = errorless_append (head_given rules (λ x. false) (told j)) (given rules gone (k ∷ ks)) (errorless_given_by rules (λ x. false) j.entry j.verdict h.0) (errorless_given rules gone (k ∷ ks) h.1)
 
 errorless_joined : (rules : Rules) (vs : List Versions) → AllByRecursion CalmVersions vs → Errorless (concat_by (outs_of rules) vs)
 errorless_joined rules [] h = refl

@@ -89,16 +89,16 @@ abbrev pub zeroed : Rules → Entry → Entry
 zeroed rules x = record { user_key = x.user_key; seqno = (if rules.zeroing && nat_lt x.seqno rules.watermark then 0 else x.seqno); kind = x.kind; value = x.value }
 
 -- what a head gives: itself as the filter leaves it, unless it goes, or the filter's error
-abbrev pub given_by : Rules → (Entry → Bool) → Result (Option Entry) Error → List R
-given_by rules gone (Ok (Some x)) = if gone x then [] else Ok (zeroed rules x) ∷ []
-given_by rules gone (Ok None) = []
-given_by rules gone (Err e) = Err e ∷ []
+abbrev pub head_given : Rules → (Entry → Bool) → Result (Option Entry) Error → List R
+head_given rules gone (Ok (Some x)) = if gone x then [] else Ok (zeroed rules x) ∷ []
+head_given rules gone (Ok None) = []
+head_given rules gone (Err e) = Err e ∷ []
 
 -- what the heads of a key give, where only the last may go
 abbrev pub given : Rules → (Entry → Bool) → List Judged → List R
 given rules gone [] = []
-given rules gone (j ∷ []) = given_by rules gone (told j)
-given rules gone (j ∷ k ∷ ks) = given_by rules (λ x. false) (told j) ++ given rules gone (k ∷ ks)
+given rules gone (j ∷ []) = head_given rules gone (told j)
+given rules gone (j ∷ k ∷ ks) = head_given rules (λ x. false) (told j) ++ given rules gone (k ∷ ks)
 
 -- the versions of one key one after another, and the error that follows them, if one does
 pub record Versions : Type 0 where

@@ -16,7 +16,7 @@ use Rattle.lsm_sorted.specs.ReadLaw.{AllNewer, IsPlain}
 use Rattle.lsm_compactions.specs.Chain.{IsRunOfList}
 use Rattle.lsm_compactions.specs.Compacted.{kept_in}
 use Rattle.lsm_compactions.specs.PartReads.{HoldSides, ReadsKept, ReadsOf, ShowAlike}
-use Rattle.lsm_compactions.specs.ReadsCompacted.{PointsStay, RangesStay, SideBySide, entries_in}
+use Rattle.lsm_compactions.specs.ReadsCompacted.{PointsStay, RangesStay, SideBySide, joined_in}
 use Rattle.lsm_runs.specs.RunLists.{HoldLists, RunsHoldLists}
 use Rattle.lsm_runs.specs.RunParts.{range_of}
 use Rattle.lsm_runs.specs.SeveralRuns.{union_in}
@@ -58,7 +58,7 @@ sides_held front part behind runs fs ps bs is h =
 -- ---- the run that a part is compacted to
 
 abbrev pub Made : List Entry → List (List OpenTable) → Type 0
-Made es runs = (made : List (List (List Entry))) × (entries_in made ≡ es) × RunsHoldLists runs made
+Made es runs = (made : List (List (List Entry))) × (joined_in made ≡ es) × RunsHoldLists runs made
 
 pub made_of : {X : Type 0} (f : X → List OpenTable) (es : List Entry) (run : Option (List OpenTable)) (runs : List X) → MatchOption run (es ≡ []) (λ r. IsRunOfList es 0 r) → MatchOption run (runs ≡ []) (λ r. map f runs ≡ r ∷ []) → Made es (map f runs)
 made_of {X} f es None runs none alone = ([], sym none, subst (λ (rs : List X). RunsHoldLists (map f rs) []) (sym alone) tt)

@@ -4,7 +4,7 @@ ghost use Rattle.std.specs.Arc.{arc_value};
 ghost use Rattle.sst_entries.specs.Strict.{IsStrict};
 ghost use Rattle.sst_entries.specs.declared.error.Error.TheVariants.{OutOfMemory};
 ghost use Rattle.lsm_sorted.specs.ReadLaw.{AllNewer, IsPlain};
-ghost use Rattle.lsm_compactions.specs.ReadsCompacted.{entries_in};
+ghost use Rattle.lsm_compactions.specs.ReadsCompacted.{joined_in};
 ghost use Rattle.lsm_tables.specs.Words.{AreCompactable, CanDeal, Entry, Faults, FitsAsTables};
 ghost use Rattle.lsm_tables.specs.Words.{HoldSides, ReadsKept, ReadsOf, RunsHoldLists, ShowAlike};
 ghost use Rattle.lsm_tables.specs.Words.{kept_in, tables_fault, union_in};
@@ -146,7 +146,7 @@ fn compact_part<A: Allocator + Clone>(
     requires { AreCompactable (map arc_value part.now) }
     ensures made { (ps : List (List (List Entry))) → RunsHoldLists (map arc_value part.now) ps →
         IfOk result (λ v. (made : List (List (List Entry)))
-        × (entries_in made ≡ kept_in rules ps) × RunsHoldLists (map arc_value v.items) made) }
+        × (joined_in made ≡ kept_in rules ps) × RunsHoldLists (map arc_value v.items) made) }
     ensures refused { (ps : List (List (List Entry))) → RunsHoldLists (map arc_value part.now) ps →
         Faults result (tables_fault ids target_size created_at (kept_in rules ps)) }
     ensures taken { (ps : List (List (List Entry))) → RunsHoldLists (map arc_value part.now) ps →
