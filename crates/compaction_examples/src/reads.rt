@@ -81,7 +81,12 @@ const A3: [Row<'static>; 1] = [(b"a", 3, V, b"x")];
 
 // The newest versions where a@6, a tombstone, is compacted beside a@3.
 fn newest_beside_a3<A: Allocator + Copy>(alloc: A, evict: bool) -> Result<Vec<Version, A>, Error> {
-    let runs = part_compacted(alloc, &A6_T, &A3, (7, evict, false))?;
+    let rules = Rules {
+        watermark: 7,
+        evict,
+        zeroing: false,
+    };
+    let runs = part_compacted(alloc, &A6_T, &A3, rules)?;
     newest_in(alloc, &runs)
 }
 

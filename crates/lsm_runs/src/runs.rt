@@ -17,11 +17,14 @@ use crate::bounds::share;
 use lsm_merge::Merger;
 use lsm_ranges::Run;
 use lsm_readers::Table;
-use lsm_sorted::{MvccStream, newest_from_both_ends, newest_of};
+use lsm_sorted::{MvccStream, NewestOf, newest_from_both_ends, newest_of};
 use sst_blocks::{Error, InternalValue, IterItem, Opened, SeqNo, UserKey};
 use std::alloc::Allocator;
 use std::ops::Bound;
 use std::sync::Arc;
+
+/// The newest version of each key of several runs, from both ends: what [`range_runs`] gives.
+pub type NewestOfRuns<A> = NewestOf<RunReader<A>, A>;
 
 // The reader of a run within both bounds, where a table's range reaches past them.
 fn reader_of<A: Allocator + Clone>(
@@ -96,20 +99,20 @@ fn readers_within<A: Allocator + Clone>(
 fn newest_stream<I: DoubleEndedIterator<Item = IterItem<A>>, A: Allocator + Clone>(
     alloc: A,
     sources: Vec<I, A>,
-) -> Result<MvccStream<Merger<I, A>>, Error>
+) -> Result<NewestOf<I, A>, Error>
     ensures starts { IfOk result (IsNewestOf sources.items) }
     ensures deals { IfOk result (DealsNewest I.next_gives I.next_back_gives sources.items
-        ⟦<MvccStream<Merger<I, A>> as Iterator>⟧.next_gives
-        ⟦<MvccStream<Merger<I, A>> as DoubleEndedIterator>⟧.next_back_gives) }
+        ⟦<NewestOf<I, A> as Iterator>⟧.next_gives
+        ⟦<NewestOf<I, A> as DoubleEndedIterator>⟧.next_back_gives) }
     ensures past { IfOk result (AnswersNewest I.next_gives I.next_back_gives sources.items
-        ⟦<MvccStream<Merger<I, A>> as Iterator>⟧.next_gives
-        ⟦<MvccStream<Merger<I, A>> as DoubleEndedIterator>⟧.next_back_gives) }
+        ⟦<NewestOf<I, A> as Iterator>⟧.next_gives
+        ⟦<NewestOf<I, A> as DoubleEndedIterator>⟧.next_back_gives) }
     ensures can { IfOk result (CanAskNewest I.next_gives I.next_back_gives I.can_next
         I.can_next_back I.remaining sources.items
-        ⟦<MvccStream<Merger<I, A>> as Iterator>⟧.next_gives
-        ⟦<MvccStream<Merger<I, A>> as DoubleEndedIterator>⟧.next_back_gives
-        ⟦<MvccStream<Merger<I, A>> as Iterator>⟧.can_next
-        ⟦<MvccStream<Merger<I, A>> as DoubleEndedIterator>⟧.can_next_back) }
+        ⟦<NewestOf<I, A> as Iterator>⟧.next_gives
+        ⟦<NewestOf<I, A> as DoubleEndedIterator>⟧.next_back_gives
+        ⟦<NewestOf<I, A> as Iterator>⟧.can_next
+        ⟦<NewestOf<I, A> as DoubleEndedIterator>⟧.can_next_back) }
     ensures err { IfErr result (λ e. e ≡ OutOfMemory) }
 {
     let stream = newest_of(alloc, sources)?;
@@ -126,25 +129,23 @@ pub fn range_runs<A: Allocator + Clone>(
 ) -> Result<MvccStream<Merger<RunReader<A>, A>>, Error>
     // Of tables of lists in runs in order it deals, for every list of ends, what is newest of the sorted entries of all lists,
     // lifted, that lie within the bounds.
-    ensures list { let gives = ⟦<MvccStream<Merger<RunReader<A>, A>> as Iterator>⟧.next_gives in
-        let back_gives =
-        ⟦<MvccStream<Merger<RunReader<A>, A>> as DoubleEndedIterator>⟧.next_back_gives in
+    ensures list { let gives = ⟦<NewestOfRuns<A> as Iterator>⟧.next_gives in
+        let back_gives = ⟦<NewestOfRuns<A> as DoubleEndedIterator>⟧.next_back_gives in
         (lists : List (List (List Entry))) → RunsHoldLists (map arc_value runs.now) lists →
         let found = newest (within range.0 range.1 (union_in lists)) in
         IfOk result (λ s. DealsList gives back_gives found s) }
     // Of any tables in runs in order it is over the readers of the spans within the bounds: where one of them is refused,
     // want of memory too, that error stands in its place, and what is dealt goes on by the stream's steps.
-    ensures steps { let gives = ⟦<MvccStream<Merger<RunReader<A>, A>> as Iterator>⟧.next_gives in
-        let back_gives =
-        ⟦<MvccStream<Merger<RunReader<A>, A>> as DoubleEndedIterator>⟧.next_back_gives in
+    ensures steps { let gives = ⟦<NewestOfRuns<A> as Iterator>⟧.next_gives in
+        let back_gives = ⟦<NewestOfRuns<A> as DoubleEndedIterator>⟧.next_back_gives in
         AllByRecursion (IsInOrder range_of) (map arc_value runs.now) → IfOk result
         (IsOverSpans gives back_gives range.0 range.1 (map arc_value runs.now)) }
     // Whatever the tables' bytes are, both ends may be asked however often.
     ensures can { IfOk result (λ s.
-        CanDeal ⟦<MvccStream<Merger<RunReader<A>, A>> as Iterator>⟧.next_gives
-        ⟦<MvccStream<Merger<RunReader<A>, A>> as DoubleEndedIterator>⟧.next_back_gives
-        ⟦<MvccStream<Merger<RunReader<A>, A>> as Iterator>⟧.can_next
-        ⟦<MvccStream<Merger<RunReader<A>, A>> as DoubleEndedIterator>⟧.can_next_back s) }
+        CanDeal ⟦<NewestOfRuns<A> as Iterator>⟧.next_gives
+        ⟦<NewestOfRuns<A> as DoubleEndedIterator>⟧.next_back_gives
+        ⟦<NewestOfRuns<A> as Iterator>⟧.can_next
+        ⟦<NewestOfRuns<A> as DoubleEndedIterator>⟧.can_next_back s) }
     ensures err { IfErr result (λ e. e ≡ OutOfMemory) }
 {
     let readers = readers_within(alloc.clone()?, runs, range)?;

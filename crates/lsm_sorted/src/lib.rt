@@ -15,4 +15,4 @@ pub use gap::up_to_gap;
 pub use lsm_merge::{IntervalHeap, Merger, Tournament, from_both_ends};
 pub use lsm_ranges::{Indexed, KeyRange, Ranged, Run, optimize_runs, overlap_chain};
 pub use mvcc_stream::MvccStream;
-pub use newest::{newest_from_both_ends, newest_of};
+pub use newest::{NewestOf, newest_from_both_ends, newest_of};

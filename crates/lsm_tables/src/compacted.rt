@@ -6,10 +6,8 @@ ghost use Rattle.lsm_tables.specs.Words.{FitsAsTables, IsRunOfList, IsWritable, 
 ghost use Rattle.lsm_tables.specs.Words.{default_options, ids_behind, kept};
 ghost use Rattle.lsm_tables.specs.Words.{tables_fault, unfiltered};
 
-use crate::{Reads, RunReader, Table, Timestamp, compact_to_run, read_run, write_run};
-use lsm_merge::Merger;
+use crate::{NewestOfRuns, Reads, Table, Timestamp, compact_to_run, read_run, write_run};
 use lsm_ranges::Run;
-use lsm_sorted::MvccStream;
 use lsm_sorted::compaction::Rules;
 use lsm_writers::TableIds;
 use sst_blocks::{Error, InternalValue, SeqNo, UserKey};
@@ -90,9 +88,8 @@ pub fn compact_run_back<A: Allocator + Clone>(
 ) -> Result<Option<Reads<A>>, Error>
     requires { IsWritable items.items }
     // The first match of the key, and from both ends the newest version of each key within the bounds, of what is kept.
-    ensures list { let gives = ⟦<MvccStream<Merger<RunReader<A>, A>> as Iterator>⟧.next_gives in
-        let back_gives =
-        ⟦<MvccStream<Merger<RunReader<A>, A>> as DoubleEndedIterator>⟧.next_back_gives in
+    ensures list { let gives = ⟦<NewestOfRuns<A> as Iterator>⟧.next_gives in
+        let back_gives = ⟦<NewestOfRuns<A> as DoubleEndedIterator>⟧.next_back_gives in
         let left = kept rules (unfiltered items.items) in
         IfOk result (λ r. MatchOption r (left ≡ [])
         (ReadsOf gives back_gives key.now seqno range.0 range.1 left)) }
@@ -101,10 +98,10 @@ pub fn compact_run_back<A: Allocator + Clone>(
         IfOk result (λ r. IfSome r (λ _. left ≡ [] → ⊥)) }
     // Both ends of the range may be asked however often.
     ensures can { IfOk result (λ r. IfSome r (λ read.
-        CanDeal ⟦<MvccStream<Merger<RunReader<A>, A>> as Iterator>⟧.next_gives
-        ⟦<MvccStream<Merger<RunReader<A>, A>> as DoubleEndedIterator>⟧.next_back_gives
-        ⟦<MvccStream<Merger<RunReader<A>, A>> as Iterator>⟧.can_next
-        ⟦<MvccStream<Merger<RunReader<A>, A>> as DoubleEndedIterator>⟧.can_next_back read.1)) }
+        CanDeal ⟦<NewestOfRuns<A> as Iterator>⟧.next_gives
+        ⟦<NewestOfRuns<A> as DoubleEndedIterator>⟧.next_back_gives
+        ⟦<NewestOfRuns<A> as Iterator>⟧.can_next
+        ⟦<NewestOfRuns<A> as DoubleEndedIterator>⟧.can_next_back read.1)) }
     // Memory aside, the refusal is the first: of writing the list, which is cut into these tables, and then what is kept.
     ensures refused { let left = kept rules (unfiltered items.items) in (tables : List (List Entry)) →
         AreTables default_options.data_block_size target_size items.items tables →

@@ -21,7 +21,7 @@ pub use lsm_readers::{
     PinnedBlockIndex, Query, Scanner, Table, TableId, TableInner, Timestamp, TreeId,
     TwoLevelBlockIndex, VolatileBlockIndex, get_many, point_in,
 };
-pub use lsm_runs::{RunReader, RunScanner, get_runs, get_runs_counted, range_runs};
+pub use lsm_runs::{NewestOfRuns, RunReader, RunScanner, get_runs, get_runs_counted, range_runs};
 pub use lsm_sorted::compaction::Rules;
 pub use one_answer::{PointAndScan, Ranges, read_each_way};
 pub use part::compact_part_back;

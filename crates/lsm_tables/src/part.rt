@@ -10,12 +10,10 @@ ghost use Rattle.lsm_tables.specs.Words.{HoldSides, ReadsKept, ReadsOf, RunsHold
 ghost use Rattle.lsm_tables.specs.Words.{kept_in, tables_fault, union_in};
 
 use crate::reads::read_runs;
-use crate::{Reads, RunReader, Table, Timestamp, compact_to_run, compaction_law};
+use crate::{NewestOfRuns, Reads, Table, Timestamp, compact_to_run, compaction_law};
 use lsm_iters::beside;
-use lsm_merge::Merger;
 use lsm_ranges::Run;
 use lsm_runs::share;
-use lsm_sorted::MvccStream;
 use lsm_sorted::compaction::Rules;
 use lsm_writers::TableIds;
 use sst_blocks::{Error, SeqNo, UserKey};
@@ -66,17 +64,16 @@ fn read_side_by_side<A: Allocator + Clone>(
     seqno: SeqNo,
     range: (Bound<UserKey<A>>, Bound<UserKey<A>>),
 ) -> Result<Reads<A>, Error>
-    ensures list { let gives = ⟦<MvccStream<Merger<RunReader<A>, A>> as Iterator>⟧.next_gives in
-        let back_gives =
-        ⟦<MvccStream<Merger<RunReader<A>, A>> as DoubleEndedIterator>⟧.next_back_gives in
+    ensures list { let gives = ⟦<NewestOfRuns<A> as Iterator>⟧.next_gives in
+        let back_gives = ⟦<NewestOfRuns<A> as DoubleEndedIterator>⟧.next_back_gives in
         (fs ps bs : List (List (List Entry))) → HoldSides (map arc_value front.now)
         (map arc_value part.now) (map arc_value behind.now) fs ps bs → IfOk result
         (ReadsOf gives back_gives key.now seqno range.0 range.1 (union_in (fs ++ (ps ++ bs)))) }
     ensures can { IfOk result (λ read.
-        CanDeal ⟦<MvccStream<Merger<RunReader<A>, A>> as Iterator>⟧.next_gives
-        ⟦<MvccStream<Merger<RunReader<A>, A>> as DoubleEndedIterator>⟧.next_back_gives
-        ⟦<MvccStream<Merger<RunReader<A>, A>> as Iterator>⟧.can_next
-        ⟦<MvccStream<Merger<RunReader<A>, A>> as DoubleEndedIterator>⟧.can_next_back read.1) }
+        CanDeal ⟦<NewestOfRuns<A> as Iterator>⟧.next_gives
+        ⟦<NewestOfRuns<A> as DoubleEndedIterator>⟧.next_back_gives
+        ⟦<NewestOfRuns<A> as Iterator>⟧.can_next
+        ⟦<NewestOfRuns<A> as DoubleEndedIterator>⟧.can_next_back read.1) }
     ensures taken { (fs ps bs : List (List (List Entry))) → HoldSides (map arc_value front.now)
         (map arc_value part.now) (map arc_value behind.now) fs ps bs →
         IfErr result (λ e. e ≡ OutOfMemory) }
@@ -95,18 +92,17 @@ fn read_within<A: Allocator + Clone>(
     seqno: SeqNo,
     range: &(Bound<UserKey<A>>, Bound<UserKey<A>>),
 ) -> Result<Reads<A>, Error>
-    ensures list { let gives = ⟦<MvccStream<Merger<RunReader<A>, A>> as Iterator>⟧.next_gives in
-        let back_gives =
-        ⟦<MvccStream<Merger<RunReader<A>, A>> as DoubleEndedIterator>⟧.next_back_gives in
+    ensures list { let gives = ⟦<NewestOfRuns<A> as Iterator>⟧.next_gives in
+        let back_gives = ⟦<NewestOfRuns<A> as DoubleEndedIterator>⟧.next_back_gives in
         let low = range.now.0 in let high = range.now.1 in
         (fs ps bs : List (List (List Entry))) → HoldSides (map arc_value front.now)
         (map arc_value part.now) (map arc_value behind.now) fs ps bs → IfOk result
         (ReadsOf gives back_gives key.now seqno low high (union_in (fs ++ (ps ++ bs)))) }
     ensures can { IfOk result (λ read.
-        CanDeal ⟦<MvccStream<Merger<RunReader<A>, A>> as Iterator>⟧.next_gives
-        ⟦<MvccStream<Merger<RunReader<A>, A>> as DoubleEndedIterator>⟧.next_back_gives
-        ⟦<MvccStream<Merger<RunReader<A>, A>> as Iterator>⟧.can_next
-        ⟦<MvccStream<Merger<RunReader<A>, A>> as DoubleEndedIterator>⟧.can_next_back read.1) }
+        CanDeal ⟦<NewestOfRuns<A> as Iterator>⟧.next_gives
+        ⟦<NewestOfRuns<A> as DoubleEndedIterator>⟧.next_back_gives
+        ⟦<NewestOfRuns<A> as Iterator>⟧.can_next
+        ⟦<NewestOfRuns<A> as DoubleEndedIterator>⟧.can_next_back read.1) }
     ensures taken { (fs ps bs : List (List (List Entry))) → HoldSides (map arc_value front.now)
         (map arc_value part.now) (map arc_value behind.now) fs ps bs →
         IfErr result (λ e. e ≡ OutOfMemory) }
@@ -171,17 +167,16 @@ fn read_compacted<A: Allocator + Clone>(
     range: (Bound<UserKey<A>>, Bound<UserKey<A>>),
 ) -> Result<Reads<A>, Error>
     requires { AreCompactable (map arc_value part.now) }
-    ensures list { let gives = ⟦<MvccStream<Merger<RunReader<A>, A>> as Iterator>⟧.next_gives in
-        let back_gives =
-        ⟦<MvccStream<Merger<RunReader<A>, A>> as DoubleEndedIterator>⟧.next_back_gives in
+    ensures list { let gives = ⟦<NewestOfRuns<A> as Iterator>⟧.next_gives in
+        let back_gives = ⟦<NewestOfRuns<A> as DoubleEndedIterator>⟧.next_back_gives in
         (fs ps bs : List (List (List Entry))) → HoldSides (map arc_value front.now)
         (map arc_value part.now) (map arc_value behind.now) fs ps bs → IfOk result
         (ReadsKept gives back_gives key.now seqno range.0 range.1 rules fs ps bs) }
     ensures can { IfOk result (λ read.
-        CanDeal ⟦<MvccStream<Merger<RunReader<A>, A>> as Iterator>⟧.next_gives
-        ⟦<MvccStream<Merger<RunReader<A>, A>> as DoubleEndedIterator>⟧.next_back_gives
-        ⟦<MvccStream<Merger<RunReader<A>, A>> as Iterator>⟧.can_next
-        ⟦<MvccStream<Merger<RunReader<A>, A>> as DoubleEndedIterator>⟧.can_next_back read.1) }
+        CanDeal ⟦<NewestOfRuns<A> as Iterator>⟧.next_gives
+        ⟦<NewestOfRuns<A> as DoubleEndedIterator>⟧.next_back_gives
+        ⟦<NewestOfRuns<A> as Iterator>⟧.can_next
+        ⟦<NewestOfRuns<A> as DoubleEndedIterator>⟧.can_next_back read.1) }
     ensures refused { (fs ps bs : List (List (List Entry))) → HoldSides (map arc_value front.now)
         (map arc_value part.now) (map arc_value behind.now) fs ps bs →
         Faults result (tables_fault ids target_size created_at (kept_in rules ps)) }
@@ -216,24 +211,21 @@ pub fn compact_part_back<A: Allocator + Clone>(
 ) -> Result<(Reads<A>, Reads<A>), Error>
     requires { AreCompactable (map arc_value part.now) }
     // Before, what is read is that of all lists together,
-    ensures before { let gives = ⟦<MvccStream<Merger<RunReader<A>, A>> as Iterator>⟧.next_gives in
-        let back_gives =
-        ⟦<MvccStream<Merger<RunReader<A>, A>> as DoubleEndedIterator>⟧.next_back_gives in
+    ensures before { let gives = ⟦<NewestOfRuns<A> as Iterator>⟧.next_gives in
+        let back_gives = ⟦<NewestOfRuns<A> as DoubleEndedIterator>⟧.next_back_gives in
         (fs ps bs : List (List (List Entry))) → HoldSides (map arc_value front.now)
         (map arc_value part.now) (map arc_value behind.now) fs ps bs → IfOk result (λ r.
         ReadsOf gives back_gives key.now seqno range.0 range.1 (union_in (fs ++ (ps ++ bs))) r.0) }
     // after, that of what is kept of the part's lists and of the others.
-    ensures after { let gives = ⟦<MvccStream<Merger<RunReader<A>, A>> as Iterator>⟧.next_gives in
-        let back_gives =
-        ⟦<MvccStream<Merger<RunReader<A>, A>> as DoubleEndedIterator>⟧.next_back_gives in
+    ensures after { let gives = ⟦<NewestOfRuns<A> as Iterator>⟧.next_gives in
+        let back_gives = ⟦<NewestOfRuns<A> as DoubleEndedIterator>⟧.next_back_gives in
         (fs ps bs : List (List (List Entry))) → HoldSides (map arc_value front.now)
         (map arc_value part.now) (map arc_value behind.now) fs ps bs → IfOk result (λ r.
         ReadsKept gives back_gives key.now seqno range.0 range.1 rules fs ps bs r.1) }
     // Both show the same, under the conditions of the law: the point reads to a reader at the watermark or above, the ranges to
     // any.
-    ensures alike { let gives = ⟦<MvccStream<Merger<RunReader<A>, A>> as Iterator>⟧.next_gives in
-        let back_gives =
-        ⟦<MvccStream<Merger<RunReader<A>, A>> as DoubleEndedIterator>⟧.next_back_gives in
+    ensures alike { let gives = ⟦<NewestOfRuns<A> as Iterator>⟧.next_gives in
+        let back_gives = ⟦<NewestOfRuns<A> as DoubleEndedIterator>⟧.next_back_gives in
         (fs ps bs : List (List (List Entry))) → HoldSides (map arc_value front.now)
         (map arc_value part.now) (map arc_value behind.now) fs ps bs →
         IsStrict (union_in (fs ++ (ps ++ bs))) →
@@ -242,10 +234,10 @@ pub fn compact_part_back<A: Allocator + Clone>(
         rules.watermark r.0 r.1) }
     // Both ends of both ranges may be asked however often.
     ensures can { let can =
-        CanDeal ⟦<MvccStream<Merger<RunReader<A>, A>> as Iterator>⟧.next_gives
-        ⟦<MvccStream<Merger<RunReader<A>, A>> as DoubleEndedIterator>⟧.next_back_gives
-        ⟦<MvccStream<Merger<RunReader<A>, A>> as Iterator>⟧.can_next
-        ⟦<MvccStream<Merger<RunReader<A>, A>> as DoubleEndedIterator>⟧.can_next_back in
+        CanDeal ⟦<NewestOfRuns<A> as Iterator>⟧.next_gives
+        ⟦<NewestOfRuns<A> as DoubleEndedIterator>⟧.next_back_gives
+        ⟦<NewestOfRuns<A> as Iterator>⟧.can_next
+        ⟦<NewestOfRuns<A> as DoubleEndedIterator>⟧.can_next_back in
         IfOk result (λ r. can r.0.1 × can r.1.1) }
     // Memory aside, the refusal is the first of writing what is kept: reading refuses nothing.
     ensures refused { (fs ps bs : List (List (List Entry))) → HoldSides (map arc_value front.now)
