@@ -1,5 +1,5 @@
 -- Runs that lists were written as may be compacted where their lists together can be written.
-use Rattle.std.proofs.Common.{◌≡◌, refl, sym, ◌∙◌, ap, subst, ℕ, Bool, cond, List, [], ◌∷◌, ◌++◌}
+use Rattle.std.proofs.Common.{◌≡◌, refl, sym, ◌∙◌, ap, subst, ℕ, cond, List, [], ◌∷◌, ◌++◌}
 use Rattle.std.specs.Prelude.{IsPermutation, count_by, map}
 use Rattle.std.specs.List.{AllByRecursion}
 use Rattle.std.proofs.lemmas.List.{append-nil, map-append}

@@ -35,13 +35,13 @@ pub(crate) struct Unopened<A: Allocator> {
 impl<A: Allocator> Model for Unopened<A> {
     ghost use Rattle.std.specs.Prelude.{◌≤◌, ◌+◌, length};
     ghost use Rattle.std.specs.Arc.{arc_value};
-    ghost use Rattle.lsm_runs.specs.RunParts.{parts_between, span_of};
+    ghost use Rattle.lsm_runs.specs.RunParts.{span_parts_between, span_of};
     ghost use Rattle.lsm_runs.specs.RunRange.{Unopened};
 
     ghost Value = { Unopened };
 
     ghost view = { λ u. record {
-      parts = parts_between (span_of u.ends u.range.0 u.range.1) (arc_value u.run) u.lo u.hi;
+      parts = span_parts_between (span_of u.ends u.range.0 u.range.1) (arc_value u.run) u.lo u.hi;
       opened = u.opened;
     } };
 
