@@ -15,7 +15,7 @@ use Rattle.lsm_compactions.specs.Compacted.{AreCompactable, HaveEntries}
 use Rattle.lsm_runs.specs.RunLists.{HoldLists, HoldsList}
 use Rattle.lsm_runs.proofs.OneList.{one_list}
 use Rattle.lsm_compactions.proofs.RunBack.{run_held, union_is}
-use Rattle.lsm_compactions.proofs.RunWriting.{some_length}
+use Rattle.lsm_compactions.proofs.Opening.{some_length}
 
 one_some : (label : Label) (us : List Entry) (g : ℕ) (t : OpenTable) (es : List Entry) → IsOpenedOf label us g t → HoldsList t es → 0 < length es
 one_some label us g t es o h =

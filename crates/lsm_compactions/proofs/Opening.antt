@@ -87,7 +87,7 @@ opened label es g id sum bytes t f same number tree check told =
 
 -- ---- reading it
 
-some_length : (es : List Entry) → (es ≡ [] → ⊥) → 0 < length es
+pub some_length : (es : List Entry) → (es ≡ [] → ⊥) → 0 < length es
 some_length [] some = absurd (some refl)
 some_length (e ∷ es) some = omega arith
 

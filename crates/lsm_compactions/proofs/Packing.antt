@@ -8,7 +8,6 @@ use Rattle.std.proofs.lemmas.List.Elements.{All-from_recursion, recursion_from_A
 use Rattle.std.proofs.lemmas.List.Sorted.{All-permutation, sum_by-IsPermutation}
 use Rattle.std.proofs.lemmas.List.Sums.{sum_by-append, sum_by-cons}
 use Rattle.sst_entries.specs.Entry.{Entry}
-use Rattle.sst_entries.specs.Point.{within}
 use Rattle.sst_entries.specs.Strict.{IsStrict}
 use Rattle.sst_entries.specs.Stream.{ok_results}
 use Rattle.sst_entries.proofs.Lists.{all_append, all_behind, all_front}
@@ -25,19 +24,16 @@ use Rattle.lsm_runs.specs.RunParts.{range_of}
 use Rattle.lsm_runs.specs.SeveralRuns.{union_in}
 use Rattle.lsm_runs.proofs.RunWithin.{held_told}
 use Rattle.lsm_runs.proofs.Unions.{entries_of}
+use Rattle.lsm_iters.proofs.Cuts.{all_within}
 
 -- ---- the list of a table, by the table
 
 pub list_of : OpenTable → List Entry
 list_of t = entries_among (range_told t Unbounded Unbounded)
 
-whole : (es : List Entry) → within Unbounded Unbounded es ≡ es
-whole [] = refl
-whole (e ∷ es) = ap (λ (xs : List Entry). e ∷ xs) (whole es)
-
 pub list_is : (t : OpenTable) (es : List Entry) → HoldsList t es → list_of t ≡ es
 unfolding list_of
-list_is t es h = ap entries_among (held_told t es h Unbounded Unbounded ∙ ap ok_results (whole es)) ∙ entries_of es
+list_is t es h = ap entries_among (held_told t es h Unbounded Unbounded ∙ ap ok_results (all_within es)) ∙ entries_of es
 
 pub record Holds (t : OpenTable) : Type 0 where
   pub list : HoldsList t (list_of t)

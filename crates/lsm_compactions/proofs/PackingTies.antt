@@ -14,6 +14,7 @@ use Rattle.sst_entries.specs.Kind.{tag_of}
 use Rattle.sst_entries.specs.Point.{within}
 use Rattle.sst_entries.proofs.Booleans.{is_false}
 use Rattle.lsm_merge.specs.Union.{AtMost, Ascends, sort_entries}
+use Rattle.lsm_merge.proofs.UnionLemmas.{ascends_in_order}
 use Rattle.lsm_ranges.specs.KeyRange.{Interval, IsOutside, has_key, key_le}
 use Rattle.lsm_ranges.specs.Packing.{tables_of}
 use Rattle.lsm_ranges.proofs.IntervalLemmas.{above, le_refl, le_to, le_trans, lt_then_le, not_le}
@@ -24,7 +25,7 @@ use Rattle.lsm_runs.specs.RunParts.{range_of}
 use Rattle.lsm_runs.specs.SeveralRuns.{union_in}
 use Rattle.lsm_compactions.proofs.Packing.{Holds, list_of, packed_union, runs_all_hold, same_hold, union_sorts}
 use Rattle.lsm_runs.proofs.RunWithin.{held_keys}
-use Rattle.lsm_runs.proofs.Unions.{sorted, within_sorted}
+use Rattle.lsm_runs.proofs.Unions.{within_sorted}
 use Rattle.sst_entries.specs.Key.{key_lt}
 
 -- the entries of a key
@@ -109,7 +110,7 @@ same_sorted (x ∷ xs) (y ∷ ys) up vp same =
 -- lists that have the same entries of each key, in the same order
 sorts_alike : (xs ys : List Entry) → ((k : List ℕ) → of_key k xs ≡ of_key k ys) → sort_entries xs ≡ sort_entries ys
 sorts_alike xs ys same =
-    same_sorted (sort_entries xs) (sort_entries ys) (sorted xs) (sorted ys)
+    same_sorted (sort_entries xs) (sort_entries ys) (ascends_in_order xs) (ascends_in_order ys)
     (λ k. within_sorted (Included k) (Included k) xs ∙ ap sort_entries (same k) ∙ sym (within_sorted (Included k) (Included k) ys))
 
 -- ---- the entries of a key lie in the tables whose range has it

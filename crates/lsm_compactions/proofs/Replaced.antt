@@ -1,23 +1,21 @@
 -- Point reads of runs of which a part is compacted.
-use Rattle.std.proofs.Common.{◌≡◌, ◌≢◌, sym, ◌∙◌, ap, ℕ, ◌+◌, ◌<◌, ◌≤◌, inl, inr, Bool, false, cond, ◌&&◌, nat_lt, List, ◌++◌, count_by, arith}
+use Rattle.std.proofs.Common.{◌≡◌, ◌≢◌, sym, ◌∙◌, ap, ℕ, ◌+◌, ◌<◌, ◌≤◌, inl, inr, Bool, ◌&&◌, List, ◌++◌, count_by, arith}
 use Rattle.std.specs.Prelude.{map}
-use Rattle.std.specs.List.{AllByRecursion}
 use Rattle.std.proofs.lemmas.List.{map-append}
 use Rattle.std.proofs.lemmas.List.Concat.{flat_map-append}
 use Rattle.std.proofs.lemmas.Simd.{map-map}
 use Rattle.sst_entries.specs.Entry.{Entry}
 use Rattle.sst_entries.specs.Stream.{ok_results}
 use Rattle.sst_entries.specs.Strict.{IsStrict}
-use Rattle.sst_entries.proofs.Lists.{all_more}
 use Rattle.lsm_files.specs.Chunks.{joined}
 use Rattle.lsm_merge.specs.Union.{Ascends, all_entries}
 use Rattle.lsm_merge.proofs.Pairs.{Strict, as_pairs, from_pairs}
 use Rattle.lsm_merge.proofs.UnionLemmas.{merged_union}
 use Rattle.lsm_sorted.specs.declared.compaction.Rules.{Rules}
-use Rattle.lsm_sorted.specs.Compaction.{kept, unfiltered, zeroed}
 use Rattle.lsm_sorted.specs.Point.{seen}
-use Rattle.lsm_sorted.specs.ReadLaw.{AllNewer, Distinct, IsMerged, PartLaw}
-use Rattle.lsm_sorted.proofs.KeptLemmas.{all_kept, pairs_stay, zeroed_below}
+use Rattle.lsm_sorted.specs.ReadLaw.{Distinct, IsMerged, PartLaw}
+use Rattle.lsm_sorted.proofs.KeptLemmas.{pairs_stay}
+use Rattle.lsm_sorted.proofs.PartLemmas.{kept_distinct, kept_newer, newer_distinct}
 use Rattle.lsm_compactions.specs.Compacted.{kept_in}
 use Rattle.lsm_compactions.specs.ReadsCompacted.{AreReplaced, SideBySide, joined_in}
 use Rattle.lsm_runs.specs.SeveralRuns.{union_in}
@@ -34,21 +32,6 @@ union_up lists = (merged_union (map (λ (run : List (List Entry)). ok_results (j
 
 pub union_count : (lists : List (List (List Entry))) (p : Entry → Bool) → count_by p (union_in lists) ≡ count_by p (joined_in lists)
 union_count lists p = (merged_union (map (λ (run : List (List Entry)). ok_results (joined run)) lists)).same.count p ∙ ap (count_by p) (all_in lists)
-
--- ---- what is kept stays apart from others
-
-newer_distinct : (xs ys : List Entry) → AllNewer xs ys → Distinct xs ys
-newer_distinct xs ys = all_more (λ x. AllByRecursion (λ y. x.user_key ≡ y.user_key → x.seqno < y.seqno) ys) (λ x. AllByRecursion (λ y. x.user_key ≡ y.user_key → x.seqno ≢ y.seqno) ys)
-    (λ x all. all_more (λ y. x.user_key ≡ y.user_key → x.seqno < y.seqno) (λ y. x.user_key ≡ y.user_key → x.seqno ≢ y.seqno) (λ y h e n. let k = h e in absurd (omega (arith, k, n))) ys all) xs
-
-kept_newer : (rules : Rules) (xs ys : List Entry) → AllNewer xs ys → AllNewer (kept rules (unfiltered xs)) ys
-kept_newer rules xs ys = all_kept rules (λ x. AllByRecursion (λ y. x.user_key ≡ y.user_key → x.seqno < y.seqno) ys)
-    (λ x all. all_more (λ y. x.user_key ≡ y.user_key → x.seqno < y.seqno) (λ y. x.user_key ≡ y.user_key → (zeroed rules x).seqno < y.seqno) (λ y h e. let k = h e in let z = zeroed_below rules x in omega (arith, k, z)) ys all) xs
-
-kept_distinct : (rules : Rules) → rules.zeroing ≡ false → (xs ys : List Entry) → Distinct xs ys → Distinct (kept rules (unfiltered xs)) ys
-kept_distinct rules zeroing xs ys = all_kept rules (λ x. AllByRecursion (λ y. x.user_key ≡ y.user_key → x.seqno ≢ y.seqno) ys)
-    (λ x all. all_more (λ y. x.user_key ≡ y.user_key → x.seqno ≢ y.seqno) (λ y. x.user_key ≡ y.user_key → (zeroed rules x).seqno ≢ y.seqno)
-    (λ y h e n. h e (sym (ap (λ (b : Bool). cond (b && nat_lt x.seqno rules.watermark) 0 x.seqno) zeroing) ∙ n)) ys all) xs
 
 -- ---- a part is compacted
 

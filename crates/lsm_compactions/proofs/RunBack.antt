@@ -1,7 +1,6 @@
 -- A run of a list that is read back.
 use Rattle.std.proofs.Common.{◌≡◌, refl, sym, ◌∙◌, ap, subst, ℕ, false, true, inl, inr, List, [], ◌∷◌, append-nil}
 use Rattle.std.specs.Prelude.{Option, Ok, Err, IfErr, IfOk, IsErrAnd, Result}
-use Rattle.std.specs.List.{AllByRecursion}
 use Rattle.std.specs.declared.ops.Bound.{Bound}
 use Rattle.std.proofs.lemmas.Bool.{cases_Bool}
 use Rattle.sst_entries.specs.declared.error.Error.{Error}
@@ -10,7 +9,7 @@ use Rattle.sst_entries.specs.Entry.{Entry}
 use Rattle.sst_entries.specs.Error.{Fails, is_memory}
 use Rattle.sst_entries.specs.Stream.{ok_results}
 use Rattle.lsm_files.specs.Chunks.{joined}
-use Rattle.lsm_merge.specs.Union.{AtMost, Ascends, entries_among, insert_sorted, sort_entries}
+use Rattle.lsm_merge.specs.Union.{Ascends, entries_among, insert_sorted, sort_entries}
 use Rattle.lsm_merge.proofs.Pairs.{Strict}
 use Rattle.lsm_readers.specs.Answer.{lift}
 use Rattle.lsm_readers.specs.Table.{OpenTable}
@@ -20,16 +19,12 @@ use Rattle.lsm_compactions.specs.PartReads.{ReadsOf}
 use Rattle.lsm_runs.specs.RunLists.{RunsHoldLists}
 use Rattle.lsm_runs.specs.SeveralRuns.{union_in}
 use Rattle.lsm_runs.proofs.Rising.{ascends_of, run_strict}
-use Rattle.lsm_runs.proofs.Unions.{entries_of}
+use Rattle.lsm_runs.proofs.Unions.{before_all, entries_of}
 
 -- sorting leaves a sorted list as it is
-least_first : (x : Entry) (ys : List Entry) → AllByRecursion (AtMost x) ys → insert_sorted x ys ≡ x ∷ ys
-least_first x [] h = refl
-least_first x (y ∷ ys) h = rw h.0 refl
-
 sorted_same : (es : List Entry) → Ascends es → sort_entries es ≡ es
 sorted_same [] up = refl
-sorted_same (e ∷ es) up = ap (insert_sorted e) (sorted_same es up.1) ∙ least_first e es up.0
+sorted_same (e ∷ es) up = ap (insert_sorted e) (sorted_same es up.1) ∙ before_all e es up.0
 
 -- one run alone
 one_run : (ls : List (List Entry)) (es : List Entry) → joined ls ≡ es → Ascends es → union_in (ls ∷ []) ≡ es

@@ -8,12 +8,10 @@ use Rattle.std.proofs.lemmas.List.{map-append, nil_from_length}
 use Rattle.sst_entries.specs.declared.error.Error.{Error}
 use Rattle.sst_entries.specs.declared.error.Error.TheVariants.{GlobalSeqNoTooLarge, OutOfMemory, WriterFailed}
 use Rattle.sst_entries.specs.Entry.{Entry}
-use Rattle.sst_entries.specs.Error.{Faults, is_memory}
 use Rattle.sst_entries.specs.Key.{key_lt}
 use Rattle.sst_entries.specs.Strict.{IsStrict, last_of}
 use Rattle.sst_entries.proofs.Booleans.{and_both, and_parts}
 use Rattle.sst_entries.proofs.OrderLemmas.{lt_trans}
-use Rattle.sst_entries.proofs.Refusals.{faults_refusal}
 use Rattle.lsm_files.specs.declared.label.Label.{Label}
 use Rattle.lsm_files.specs.declared.options.Options.{Options}
 use Rattle.lsm_files.specs.Chunks.{joined}
@@ -41,16 +39,13 @@ use Rattle.lsm_compactions.specs.Chain.{AreCutOf, AreOpened, AreWritten, FitsAsT
 use Rattle.lsm_runs.specs.RunLists.{HoldLists}
 use Rattle.lsm_runs.specs.RunParts.{ranges_of}
 use Rattle.lsm_compactions.specs.Written.{number_fault}
+use Rattle.lsm_compactions.proofs.Opening.{some_length}
 
 -- ---- the ids of a writer of many tables
 
 pub no_end : (t : List Entry) (e : Entry) → t ++ e ∷ [] ≡ [] → ⊥
 no_end [] e h = cc
 no_end (x ∷ t) e h = cc
-
-pub some_length : (es : List Entry) → (es ≡ [] → ⊥) → 0 < length es
-some_length [] some = absurd (some refl)
-some_length (e ∷ es) some = omega arith
 
 one_more : (ts : List (List Entry)) (t : List Entry) → (t ≡ [] → ⊥) → length (ts ++ rest_chunk t) ≡ length ts + 1
 one_more ts t some = ap (λ (c : List (List Entry)). length (ts ++ c)) (rest_is t (some_length t some)) ∙ length-append ts (t ∷ [])
@@ -242,11 +237,6 @@ takes_new ids target moment es rest m fits is same h =
 pub wants : {X : Type 0} (r : Result X Error) (e : Error) → IsErrAnd r (λ y. y ≡ e) → e ≡ OutOfMemory → IfErr r (λ x. x ≡ OutOfMemory)
 wants (Ok x) e is memory = tt
 wants (Err y) e is memory = is ∙ memory
-
--- it is never the wrong fault
-pub memory_faults : {X : Type 0} (r : Result X Error) (e : Error) (told : Option Error) → IsErrAnd r (λ y. y ≡ e) → e ≡ OutOfMemory → Faults r told
-memory_faults r e told is memory =
-    faults_refusal r e told is (λ fine. absurd (let both : is_memory e ≡ true = ap is_memory memory in let no : false ≡ true = sym fine ∙ both in cc))
 
 -- ---- opening them
 

@@ -10,15 +10,16 @@ use Rattle.std.proofs.lemmas.Bool.{cases_Bool, eqb-true, eq-eqb}
 use Rattle.std.proofs.lemmas.Cmp.{ranked}
 use Rattle.std.proofs.lemmas.List.Sums.{sum_by-append}
 use Rattle.sst_entries.specs.Entry.{Entry}
-use Rattle.sst_entries.specs.Key.{key_lt, same_key}
+use Rattle.sst_entries.specs.Key.{same_key}
 use Rattle.sst_entries.specs.Kind.{tag_of}
 use Rattle.sst_entries.proofs.Booleans.{and_both, and_parts, apart, is_false}
-use Rattle.sst_entries.proofs.KeyLemmas.{le_itself, same_is, same_itself}
+use Rattle.sst_entries.proofs.KeyLemmas.{same_is, same_itself}
 use Rattle.sst_entries.proofs.OrderLemmas.{gt_first, tie_same}
 use Rattle.lsm_merge.specs.Union.{AtMost, Ascends}
 use Rattle.lsm_merge.proofs.HeldLemmas.{count_cons, count_no, count_yes}
 use Rattle.lsm_merge.proofs.Pairs.{Precedes, Strict}
 use Rattle.lsm_sorted.specs.ReadLaw.{Distinct}
+use Rattle.lsm_sorted.proofs.PartLemmas.{no_less}
 
 -- a version of a key
 abbrev pub at : List ℕ → ℕ → Entry → Bool
@@ -58,9 +59,6 @@ count_none key number [] h = refl
 count_none key number (e ∷ es) h = count_no (at key number) e es h.0 ∙ count_none key number es h.1
 
 -- ---- a strict list has each once
-
-no_less : (a b : List ℕ) → key_lt a b ≡ true → a ≡ b → ⊥
-no_less a b h e = apart (key_lt b b) (subst (λ (k : List ℕ). key_lt k b ≡ true) e h) (le_itself b)
 
 not_again : (x y : Entry) (key : List ℕ) (number : ℕ) → at key number x ≡ true → Precedes x y → at key number y ≡ false
 not_again x y key number here h = is_false (at key number y) (λ there.

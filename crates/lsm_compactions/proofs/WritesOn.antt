@@ -12,12 +12,10 @@ use Rattle.lsm_writers.specs.Tables.{TablesWriting, all_written, run_fault, took
 use Rattle.lsm_writers.specs.Writing.{IsWritable, may_be_written}
 use Rattle.lsm_writers.proofs.ListWriting.{listed_follows}
 use Rattle.lsm_compactions.specs.Chain.{writes_fault}
+use Rattle.lsm_compactions.proofs.Opening.{or_first}
 use Rattle.lsm_runs.specs.RunLists.{DealsList}
 
--- a counted fault, where the first entry is refused, or where it is not
-first_refused : (a b : Option Error) (e : Error) → a ≡ Some e → option_or a b ≡ Some e
-first_refused a b e is = ap (λ (o : Option Error). option_or o b) is
-
+-- a counted fault, where the first entry is not refused
 none_refused : (a b : Option Error) → a ≡ None → option_or a b ≡ b
 none_refused a b is = ap (λ (o : Option Error). option_or o b) is
 
@@ -86,7 +84,7 @@ module _ {S : Type 0} (next : S → Option R → S → Type 0) where
     }
 
     pub refused_one : (f : Error) → took_fault m e ≡ Some f → writes_fault w es ≡ Some f
-    refused_one f is = fault_one ∙ first_refused (took_fault m e) (writes_fault (took m e) one.0) f is
+    refused_one f is = fault_one ∙ or_first (took_fault m e) (writes_fault (took m e) one.0) f is
 
   module _ (w : TablesWriting) (es : List Entry) (m : TablesWriting) (s t : S) (h : WritesOn w es m s) (step : next s None t) where
     none_left : h.rest ≡ []

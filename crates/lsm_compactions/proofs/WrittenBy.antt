@@ -19,7 +19,8 @@ use Rattle.lsm_writers.proofs.Cutting.{rest_is}
 use Rattle.lsm_writers.proofs.ListWriting.{same_label, written_gained}
 use Rattle.lsm_compactions.specs.Chain.{ids_behind, writes_fault}
 use Rattle.lsm_compactions.specs.Compacted.{AreWrittenBy, FitsBy, RunsOn, begun_behind, drawn_often, first_written}
-use Rattle.lsm_compactions.proofs.RunWriting.{first_at, first_else, first_is, left_none, next_by, no_end, nothing_last, other_label, some_length}
+use Rattle.lsm_compactions.proofs.Opening.{some_length}
+use Rattle.lsm_compactions.proofs.RunWriting.{first_at, first_else, first_is, left_none, next_by, no_end, nothing_last, other_label}
 
 -- ---- small facts
 

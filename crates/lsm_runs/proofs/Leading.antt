@@ -2,9 +2,7 @@
 use Rattle.std.proofs.Common.{◌≡◌, refl, sym, ◌∙◌, ap, ℕ, Bool, true, false, cond, List, [], ◌∷◌, ◌++◌, inl, inr}
 use Rattle.std.specs.Prelude.{Option, Some, None, find, if◌then◌else◌}
 use Rattle.std.specs.List.{AllByRecursion}
-use Rattle.std.specs.Ordering.{is_gt, is_lt, ordering_reverse}
-use Rattle.std.specs.declared.cmp.Ordering.{Ordering}
-use Rattle.std.specs.declared.cmp.Ordering.TheVariants.{Less, Equal, Greater}
+use Rattle.std.specs.Ordering.{is_gt, is_lt}
 use Rattle.std.proofs.lemmas.Bool.{cases_Bool}
 use Rattle.sst_entries.specs.Entry.{Entry}
 use Rattle.sst_entries.specs.Point.{is_hit, point}
@@ -12,18 +10,14 @@ use Rattle.sst_entries.proofs.Lists.{all_more}
 use Rattle.sst_entries.proofs.OrderLemmas.{less_of}
 use Rattle.lsm_merge.specs.Union.{AtMost, Ascends, insert_sorted, item_cmp, sort_entries}
 use Rattle.lsm_merge.proofs.MergedLemmas.{at_most_chain, item_total}
+use Rattle.lsm_merge.proofs.UnionLemmas.{ascends_in_order}
 use Rattle.lsm_runs.specs.SeveralRuns.{leading_of}
-use Rattle.lsm_runs.proofs.Unions.{sorted}
+use Rattle.lsm_sorted.proofs.EntryKeyLemmas.{lt_reverse}
 
 -- ---- of entries that may be there the one that stands before the others
 
-reversed : (o : Ordering) → is_lt (ordering_reverse o) ≡ is_gt o
-reversed Less = refl
-reversed Equal = refl
-reversed Greater = refl
-
 other_way : (x y : Entry) → is_lt (item_cmp y x) ≡ is_gt (item_cmp x y)
-other_way x y = ap is_lt (item_total.antisymm y x) ∙ reversed (item_cmp x y)
+other_way x y = ap is_lt (item_total.antisymm y x) ∙ lt_reverse (item_cmp x y)
 
 leading_by : (x y z : Entry) (b c : Bool) → is_lt (item_cmp y x) ≡ b → is_lt (item_cmp z y) ≡ c → leading_of (if b then Some y else Some x) (Some z) ≡ leading_of (Some x) (if c then Some z else Some y)
 leading_by x y z true true p q =
@@ -119,7 +113,7 @@ module _ (key : List ℕ) (bound : ℕ) where
       let more = leading_sorted es rest up.1 in
       elim (cases_Bool (is_hit key bound x)) [
         | inl holds ↦
-            inserted_hit x (sort_entries (es ++ rest)) holds (sorted (es ++ rest))
+            inserted_hit x (sort_entries (es ++ rest)) holds (ascends_in_order (es ++ rest))
             ∙ ap (leading_of (Some x)) more
             ∙ sym (leading_assoc (Some x) (point es key bound) others)
             ∙ ap (λ (o : Option Entry). leading_of o others) (leads x es up.0 ∙ sym (hit_first x es holds))

@@ -11,10 +11,7 @@ use Rattle.lsm_readers.specs.Table.{OpenTable}
 use Rattle.lsm_runs.specs.RunLists.{HoldLists, HoldsList, RunsHoldLists}
 use Rattle.lsm_runs.proofs.RunWithin.{held_told}
 use Rattle.lsm_runs.proofs.Unions.{entries_of}
-
-pub all_within : (es : List Entry) → within Unbounded Unbounded es ≡ es
-all_within [] = refl
-all_within (e ∷ es) = ap (λ (xs : List Entry). e ∷ xs) (all_within es)
+use Rattle.lsm_iters.proofs.Cuts.{all_within}
 
 same_results : (es us : List Entry) → ok_results es ≡ ok_results us → es ≡ us
 same_results es us same = sym (entries_of es) ∙ ap entries_among same ∙ entries_of us

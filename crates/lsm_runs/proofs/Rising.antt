@@ -1,10 +1,9 @@
 -- The lists of the tables of a run in order are sorted, one behind another.
-use Rattle.std.proofs.Common.{◌≡◌, refl, sym, ◌∙◌, ap, subst, ℕ, ◌+◌, ◌<◌, inl, inr, Bool, true, false, List, [], ◌∷◌, ◌++◌, filter, IsTrue, arith, rules}
+use Rattle.std.proofs.Common.{◌≡◌, refl, sym, ◌∙◌, ap, subst, ℕ, ◌+◌, ◌<◌, inl, inr, Bool, true, false, List, [], ◌∷◌, ◌++◌, filter, IsTrue, arith}
 use Rattle.std.specs.Prelude.{◌&&◌, map}
 use Rattle.std.specs.List.{AllByRecursion, list_all}
 use Rattle.std.specs.Cmp.Lexicographic.{slice_cmp}
-use Rattle.std.specs.Cmp.Rules.{comparing}
-use Rattle.std.specs.Ordering.{is_gt, is_lt, nat_cmp, ordering_then}
+use Rattle.std.specs.Ordering.{is_gt, nat_cmp, ordering_then}
 use Rattle.std.specs.declared.cmp.Ordering.{Ordering}
 use Rattle.std.specs.declared.cmp.Ordering.TheVariants.{Less, Equal, Greater}
 use Rattle.std.proofs.lemmas.Bool.{cases_Bool}
@@ -17,7 +16,7 @@ use Rattle.sst_entries.proofs.OrderLemmas.{less_of, tie_same}
 use Rattle.lsm_files.specs.Chunks.{joined}
 use Rattle.lsm_iters.specs.Lift.{lift}
 use Rattle.lsm_merge.specs.Union.{AtMost, Ascends, item_cmp}
-use Rattle.lsm_merge.proofs.Pairs.{Precedes, Strict, as_pairs}
+use Rattle.lsm_merge.proofs.Pairs.{Precedes, Strict, as_pairs, nat_is_less, tied}
 use Rattle.lsm_ranges.specs.KeyRange.{Interval, has_key, key_le}
 use Rattle.lsm_ranges.specs.Run.{are_in_order}
 use Rattle.lsm_ranges.proofs.IntervalLemmas.{le_then_lt, lt_then_le}
@@ -84,19 +83,13 @@ run_strict (t ∷ ts) (es ∷ ls) h order =
 
 -- ---- sorted
 
-nat_less : (a b : ℕ) → a < b → is_lt (nat_cmp a b) ≡ true
-nat_less a b h = grind (arith, rules)
-
-tied : (xs : List ℕ) → slice_cmp nat_cmp xs xs ≡ Equal
-tied xs = search (comparing, rules)
-
 at_most_of : (x y : Entry) → Precedes x y → AtMost x y
 at_most_of x y h = elim h [
   | inl lower ↦ ap (λ (o : Ordering). is_gt (ordering_then o (ordering_then (nat_cmp y.seqno x.seqno) (nat_cmp (tag_of x.kind) (tag_of y.kind))))) (less_of (slice_cmp nat_cmp x.user_key y.user_key) lower)
   | inr newer ↦
       let tie : slice_cmp nat_cmp x.user_key y.user_key ≡ Equal = subst (λ (k : List ℕ). slice_cmp nat_cmp x.user_key k ≡ Equal) newer.0 (tied x.user_key) in
       ap (λ (o : Ordering). is_gt (ordering_then o (ordering_then (nat_cmp y.seqno x.seqno) (nat_cmp (tag_of x.kind) (tag_of y.kind))))) tie
-      ∙ ap (λ (o : Ordering). is_gt (ordering_then o (nat_cmp (tag_of x.kind) (tag_of y.kind)))) (less_of (nat_cmp y.seqno x.seqno) (nat_less y.seqno x.seqno newer.1))
+      ∙ ap (λ (o : Ordering). is_gt (ordering_then o (nat_cmp (tag_of x.kind) (tag_of y.kind)))) (less_of (nat_cmp y.seqno x.seqno) (nat_is_less y.seqno x.seqno newer.1))
 ]
 
 pub ascends_of : (es : List Entry) → Strict es → Ascends es

@@ -1,6 +1,6 @@
 -- Of tables of lists in a run in order a reader deals what of all lists lies within the bounds.
 use Rattle.std.proofs.Common.{◌≡◌, refl, sym, ap, subst, ◌∙◌, ℕ, zero, suc, ◌+◌, ◌-◌, ◌<◌, Bool, true, false, cond, ◌==◌, List, [], ◌∷◌, ◌++◌, drop, length, take, IsTrue, inl, inr, arith}
-use Rattle.std.specs.Prelude.{Option, Some, None, Ok, ◌&&◌, ◌||◌, not, map, if◌then◌else◌}
+use Rattle.std.specs.Prelude.{Option, Some, None, Ok, ◌&&◌, ◌||◌, map, if◌then◌else◌}
 use Rattle.std.specs.List.{AllByRecursion, AllZip, list_all}
 use Rattle.std.specs.declared.ops.Bound.{Bound}
 use Rattle.std.specs.declared.ops.Bound.TheVariants.{Unbounded}
@@ -11,7 +11,7 @@ use Rattle.sst_entries.specs.Entry.{Entry}
 use Rattle.sst_entries.specs.Key.{key_lt}
 use Rattle.sst_entries.specs.Point.{is_from, is_to, within}
 use Rattle.sst_entries.specs.Stream.{ok_results}
-use Rattle.sst_entries.proofs.Booleans.{and_both, and_parts, is_false, or_right}
+use Rattle.sst_entries.proofs.Booleans.{and_both, and_parts, is_false, not_is, not_not, or_right}
 use Rattle.lsm_files.specs.Chunks.{joined}
 use Rattle.lsm_iters.specs.Lift.{lift}
 use Rattle.lsm_ranges.specs.KeyRange.{Interval, IsOutside, has_key, key_le}
@@ -58,20 +58,12 @@ and_no : (a : Bool) → (a && false) ≡ false
 and_no true = refl
 and_no false = refl
 
-not_so : (b : Bool) → not b ≡ true → b ≡ false
-not_so true e = absurd cc
-not_so false e = refl
-
-so : (b : Bool) → not b ≡ false → b ≡ true
-so true e = refl
-so false e = absurd cc
-
 module _ (low high : Bound (List ℕ)) where
   -- it ends before the lower bound
   all_before : (t : OpenTable) (es : List Entry) → HoldsList t es → ends_before low (range_of t) ≡ true → within low high es ≡ []
   all_before t es h e =
       let r = range_of t in
-      let out : (is_from low r.max && is_to high r.min) ≡ false = ap (λ (b : Bool). b && is_to high r.min) (not_so (is_from low r.max) e) in
+      let out : (is_from low r.max && is_to high r.min) ≡ false = ap (λ (b : Bool). b && is_to high r.min) (not_is (is_from low r.max) e) in
       nothing_within es low high r (held_keys t es h) (none_within r low high (is_from low r.max && is_to high r.min) refl out)
 
   -- it starts past the upper one
@@ -238,7 +230,7 @@ module _ (span : RunSpan) where
             let none : n ≡ 0 = before ∙ rw e (none_count range_of (ends_before low) (falls-ends_before low) t ts order e) in
             let more : suc m ≡ how_many (starts_within high) (ranges_of (t ∷ ts)) = many ∙ ap (λ (j : ℕ). how_many (starts_within high) (ranges_of (drop j (t ∷ ts)))) none in
             ap (λ (j : ℕ). run_parts_told (take (suc m) (drop j (span_parts_from span k (t ∷ ts))))) none
-            ∙ firsts k m t ts es ls h order (so (is_from low r.max) e) more (omega (arith, begin, none)) (omega (arith, last, none))
+            ∙ firsts k m t ts es ls h order (not_not (is_from low r.max) e) more (omega (arith, begin, none)) (omega (arith, last, none))
       ]
 
 -- where no table reaches past both bounds there is nothing

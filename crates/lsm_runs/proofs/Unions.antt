@@ -1,5 +1,5 @@
 -- The entries of several runs that lie within bounds, sorted.
-use Rattle.std.proofs.Common.{◌≡◌, refl, sym, ◌∙◌, ap, subst, ℕ, Bool, true, false, cond, List, [], ◌∷◌, ◌++◌, filter, inl, inr}
+use Rattle.std.proofs.Common.{◌≡◌, refl, sym, ◌∙◌, ap, ℕ, Bool, true, false, cond, List, [], ◌∷◌, ◌++◌, filter, inl, inr}
 use Rattle.std.specs.Prelude.{◌&&◌, map}
 use Rattle.std.specs.List.{AllByRecursion, AllZip}
 use Rattle.std.specs.Ordering.{is_gt}
@@ -14,7 +14,7 @@ use Rattle.lsm_files.specs.Chunks.{joined}
 use Rattle.lsm_merge.specs.Ends.{R}
 use Rattle.lsm_merge.specs.Union.{AtMost, Ascends, all_entries, all_errors, entries_among, errors_among, insert_sorted, item_cmp, sort_entries, union_of}
 use Rattle.lsm_merge.proofs.MergedLemmas.{at_most_chain}
-use Rattle.lsm_merge.proofs.UnionLemmas.{merged_union}
+use Rattle.lsm_merge.proofs.UnionLemmas.{ascends_in_order}
 use Rattle.sst_entries.proofs.Lists.{all_more}
 use Rattle.lsm_runs.specs.SeveralRuns.{union_in}
 
@@ -24,16 +24,13 @@ entries_of [] = refl
 entries_of (e ∷ es) = ap (λ (xs : List Entry). e ∷ xs) (entries_of es)
 
 -- an entry that is at most each of some entries stands before them
-before_all : (x : Entry) (ys : List Entry) → AllByRecursion (AtMost x) ys → insert_sorted x ys ≡ x ∷ ys
+pub before_all : (x : Entry) (ys : List Entry) → AllByRecursion (AtMost x) ys → insert_sorted x ys ≡ x ∷ ys
 before_all x [] h = refl
 before_all x (y ∷ ys) h = rw h.0 refl
 
 -- what is above an entry is above each that is at most that one
 all_above : (x y : Entry) → AtMost x y → (ys : List Entry) → AllByRecursion (AtMost y) ys → AllByRecursion (AtMost x) ys
 all_above x y e ys up = all_more (AtMost y) (AtMost x) (λ z le. at_most_chain x y z e le) ys up
-
-pub sorted : (xs : List Entry) → Ascends (sort_entries xs)
-sorted xs = subst (λ (ys : List Entry). Ascends (sort_entries ys)) (append-nil (entries_among (ok_results xs)) ∙ entries_of xs) (merged_union (ok_results xs ∷ [])).ascends
 
 -- what passes a test
 kept_all : (p : Entry → Bool) (x : Entry) (ys : List Entry) → AllByRecursion (AtMost x) ys → AllByRecursion (AtMost x) (filter p ys)
@@ -73,7 +70,7 @@ module _ (low high : Bound (List ℕ)) where
   pub within_sorted : (xs : List Entry) → within low high (sort_entries xs) ≡ sort_entries (within low high xs)
   within_sorted [] = refl
   within_sorted (x ∷ xs) = elim (cases_Bool (is_from low x.user_key && is_to high x.user_key)) [
-    | inl e ↦ put_in _ x (sort_entries xs) (sorted xs) e ∙ ap (insert_sorted x) (within_sorted xs) ∙ sym (rw e refl)
+    | inl e ↦ put_in _ x (sort_entries xs) (ascends_in_order xs) e ∙ ap (insert_sorted x) (within_sorted xs) ∙ sym (rw e refl)
     | inr e ↦ put_out _ x (sort_entries xs) e ∙ within_sorted xs ∙ sym (rw e refl)
   ]
 

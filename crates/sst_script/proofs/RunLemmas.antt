@@ -13,11 +13,11 @@ use Rattle.sst_entries.specs.Stream.{nowhere, ok_results}
 use Rattle.sst_entries.proofs.FrontLemmas.{deals_in_front}
 use Rattle.lsm_files.specs.Chunks.{joined}
 use Rattle.lsm_merge.specs.Union.{all_entries, newest, union_of}
+use Rattle.lsm_merge.proofs.UnionLemmas.{ascends_in_order}
 use Rattle.lsm_readers.specs.Table.{OpenTable}
 use Rattle.lsm_runs.specs.RunLists.{DealsList, RunsHoldLists}
 use Rattle.lsm_runs.specs.SeveralRuns.{union_in}
 use Rattle.lsm_compactions.proofs.CompactedBack.{lift_zero}
-use Rattle.lsm_runs.proofs.Unions.{sorted}
 use Rattle.sst_script.specs.Runs.{Run, has_entry, repeats, run_tables, union}
 use Rattle.sst_script.proofs.EntryLemmas.{has_entry_found, has_number}
 
@@ -67,7 +67,7 @@ module _ (rs : List Run) (ts : List (List OpenTable)) (same : run_tables rs ≡ 
 pub number_gives : (rs : List Run) (key : List ℕ) (n : ℕ) (found : Option Entry) (b : Bool) → Gives (λ (x : Option Entry). x) (Ok found) (Ok (point (union rs) key (n + 1))) → b ≡ has_number n found → Gives (λ (x : Bool). x) (Ok b) (Ok (has_entry (union rs) key n))
 number_gives rs key n found b told is =
     let first : point (union rs) key (n + 1) ≡ found = cc in
-    let has : has_entry (union rs) key n ≡ b = has_entry_found (union rs) key n (sorted (all_entries (map (λ (r : Run). ok_results r.list) rs))) ∙ ap (has_number n) first ∙ sym is in
+    let has : has_entry (union rs) key n ≡ b = has_entry_found (union rs) key n (ascends_in_order (all_entries (map (λ (r : Run). ok_results r.list) rs))) ∙ ap (has_number n) first ∙ sym is in
     ap (λ (x : Bool). Ok x) has
 
 -- a refusal for want of memory

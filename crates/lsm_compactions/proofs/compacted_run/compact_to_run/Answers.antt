@@ -14,7 +14,8 @@ use Rattle.lsm_compactions.specs.Compacted.{kept_in}
 use Rattle.lsm_runs.specs.SeveralRuns.{union_in}
 use Rattle.lsm_compactions.proofs.CompactedBack.{as_written, compactable_again, fits_by, new_fault, small_numbers}
 use Rattle.lsm_compactions.proofs.Keeping.{stays_writable}
-use Rattle.lsm_compactions.proofs.RunWriting.{memory_faults, wants}
+use Rattle.lsm_writers.proofs.Refused.{faults_memory}
+use Rattle.lsm_compactions.proofs.RunWriting.{wants}
 use Rattle.lsm_compactions.proofs.compacted_run.compact_to_run.Goals as goal
 
 pub returns-in_err-writer-clause-refused : goal.returns-in_err-writer-clause-refused
@@ -57,7 +58,7 @@ returns-in_err-run_of_tables-clause-refused g c lists held =
     let r = c.from_residual-in_err-run_of_tables in
     let e = c.in_err-run_of_tables.field-0.0 in
     let memory = c.in_err-run_of_tables.ensures.taken a.ids a.target_size a.created_at left c.in_ok-tables.left w small in
-    memory_faults r.result e _ r.ensures.1 memory
+    faults_memory r.result e _ r.ensures.1 memory
 
 pub returns-in_err-run_of_tables-clause-taken : goal.returns-in_err-run_of_tables-clause-taken
 returns-in_err-run_of_tables-clause-taken g c lists held fits =

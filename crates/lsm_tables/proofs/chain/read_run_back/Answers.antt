@@ -2,7 +2,8 @@ use Rattle.std.proofs.Common.{◌∙◌, ap, sym, ℕ}
 use Rattle.std.specs.Prelude.{Option}
 use Rattle.lsm_compactions.specs.Chain.{chain_fault}
 use Rattle.lsm_compactions.proofs.Compactable.{some_listed}
-use Rattle.lsm_compactions.proofs.RunWriting.{memory_faults, wants}
+use Rattle.lsm_writers.proofs.Refused.{faults_memory}
+use Rattle.lsm_compactions.proofs.RunWriting.{wants}
 use Rattle.lsm_tables.proofs.chain.read_run_back.Goals as goal
 
 pub returns-in_err-read_run-in-Some-clause-taken : goal.returns-in_err-read_run-in-Some-clause-taken
@@ -19,7 +20,7 @@ returns-in_err-read_run-in-Some-clause-refused g c =
     let r = c.from_residual-in_err-read_run-in-Some in
     let e = c.in_err-read_run-in-Some.field-0.0 in
     let memory = c.in_err-read_run-in-Some.ensures.taken a.items.items a.global_seqno is in
-    memory_faults r.result e _ r.ensures.1 memory
+    faults_memory r.result e _ r.ensures.1 memory
 
 pub returns-in_ok-read_run-in-Some-clause-list : goal.returns-in_ok-read_run-in-Some-clause-list
 returns-in_ok-read_run-in-Some-clause-list g c =

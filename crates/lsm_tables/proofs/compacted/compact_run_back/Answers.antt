@@ -2,7 +2,7 @@ use Rattle.sst_entries.proofs.Refusals.{faults_refusal}
 use Rattle.lsm_sorted.specs.Compaction.{kept, unfiltered}
 use Rattle.lsm_compactions.specs.Chain.{both_fault}
 use Rattle.lsm_compactions.proofs.CompactedBack.{unlifted}
-use Rattle.lsm_compactions.proofs.RunWriting.{memory_faults}
+use Rattle.lsm_writers.proofs.Refused.{faults_memory}
 use Rattle.lsm_tables.proofs.compacted.compact_run_back.Goals as goal
 
 pub returns-in_ok-read_run-in-Some-clause-list : goal.returns-in_ok-read_run-in-Some-clause-list
@@ -30,4 +30,4 @@ returns-in_err-read_run-in-Some-clause-refused g c tables are =
     let e = c.in_err-read_run-in-Some.field-0.0 in
     let r = c.from_residual-in_err-read_run-in-Some in
     let memory = c.in_err-read_run-in-Some.ensures.taken left 0 is in
-    memory_faults r.result e _ r.ensures.1 memory
+    faults_memory r.result e _ r.ensures.1 memory
