@@ -24,8 +24,8 @@ const THREE_KEYS: [Row<'static>; 4] = [
     (b"c", 6, ValueType::Value, b"z"),
 ];
 
-// What is kept of rows that are written as tables of one key each: at a key below a number, and the ends of what lies within
-// bounds.
+// What is kept of rows that are written as tables of one key each: at a key below a number, and the
+// ends of what lies within bounds.
 fn read_kept<A: Allocator + Copy>(
     alloc: A,
     rows: &[Row<'_>],

@@ -117,7 +117,8 @@ fn finished<A: Allocator + Copy>(
     Ok((writer.finish()?, reports))
 }
 
-// Writes what a compaction at threshold 5 with a filter leaves of some scanners' entries, and tells what is reported.
+// Writes what a compaction at threshold 5 with a filter leaves of some scanners' entries, and tells
+// what is reported.
 fn put_kept<A: Allocator + Copy>(
     alloc: A,
     writer: &mut MultiWriter<A>,
@@ -149,7 +150,7 @@ fn compacted<A: Allocator + Copy>(
     finished(writer, reports)
 }
 
-// The same, opened.
+// The tables of what is kept, opened.
 fn compacted_tables<A: Allocator + Copy>(
     alloc: A,
     lists: &[&[Row<'_>]],
@@ -212,7 +213,8 @@ const CASES: [Case; 4] = [
         Some((b'a', 3, V)),
         ([Some((b'a', 10, V)), None, None], 1),
     ),
-    // What takes its place hides what is older; what is replaced by a tombstone is told and written.
+    // What takes its place hides what is older; what is replaced by a tombstone is told and
+    // written.
     (
         &[A10, A4, A3, B9],
         &[(b'a', 4, V), (b'b', 9, T)],

@@ -39,7 +39,8 @@ const CASES: [Case; 9] = [
     (&[A4, B5], false, true, &[(b'a', 0, V), (b'b', 5, V)]),
 ];
 
-// Whether the new tables of some lists' runs have just these entries; where there are none there is no table.
+// Whether the new tables of some lists' runs have just these entries; where there are none there is
+// no table.
 fn keeps<A: Allocator + Copy>(
     alloc: A,
     lists: &[&[Row<'_>]],

@@ -1,5 +1,6 @@
-//! Worked examples of runs that are compacted or packed: tests of what is kept, of what readers see before and after, of parts of
-//! runs that are compacted beside others, and of which tables go into which run. Nothing here is for use.
+//! Worked examples of runs that are compacted or packed: tests of what is kept, of what readers see
+//! before and after, of parts of runs that are compacted beside others, and of which tables go into
+//! which run. Nothing here is for use.
 #![tactic(auto)]
 
 #[cfg(test)]

@@ -121,7 +121,8 @@ fn number(name: Option<Name>) -> Option<SeqNo> {
     }
 }
 
-// What a point read and a range within bounds find before and after some runs are compacted in their place.
+// What a point read and a range within bounds find before and after some runs are compacted in
+// their place.
 fn found_around_a_part<A: Allocator + Copy>(
     alloc: A,
     front: &[Tables<A>],
@@ -145,8 +146,8 @@ fn found_around_a_part<A: Allocator + Copy>(
 
 const A1_B2: [Row<'static>; 2] = [(b"a", 1, V, b"x"), (b"b", 2, V, b"x")];
 
-// What is found around the run of a@6, a tombstone, behind that of a@3, and in front of that of a@1 and b@2. The memory of these runs
-// is plenty.
+// What is found around the run of a@6, a tombstone, behind that of a@3, and in front of that of a@1
+// and b@2. The memory of these runs is plenty.
 fn found_around_a6<A: Allocator + Copy>(
     alloc: A,
     plenty: A,
@@ -282,7 +283,8 @@ const OLDER_PART: [Row<'static>; 5] = [
 
 const NEWER_REST: [Row<'static>; 3] = [(b"a", 9, V, b"u"), (b"b", 8, V, b"v"), (b"d", 1, V, b"w")];
 
-// What a reader sees of a key: the value of the first entry below a bound. That of a tombstone has no byte.
+// What a reader sees of a key: the value of the first entry below a bound. That of a tombstone has
+// no byte.
 fn seen<A: Allocator + Copy>(
     runs: &[Tables<A>],
     key: &[u8],
@@ -294,7 +296,8 @@ fn seen<A: Allocator + Copy>(
     }
 }
 
-// Whether a reader of some runs sees the same as one of others, of each key at each bound from 7 up.
+// Whether a reader of some runs sees the same as one of others, of each key at each bound from 7
+// up.
 fn see_the_same<A: Allocator + Copy>(
     runs: &[Tables<A>],
     others: &[Tables<A>],

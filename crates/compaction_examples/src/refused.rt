@@ -17,7 +17,8 @@ fn spent() -> TableIds {
     ids
 }
 
-// Whether a large value was made, which is let go of here, or why not. It is generic, so that no part of the value is looked at.
+// Whether a large value was made, which is let go of here, or why not. It is generic, so that no
+// part of the value is looked at.
 fn made<T: Drop>(value: Result<T, Error>) -> Result<(), Error> {
     value?;
     Ok(())

@@ -100,7 +100,8 @@ fn put_in_order<A: Allocator>(all: &mut Vec<InternalValue<A>, A>)
     all.sort_unstable_by(|x: &InternalValue<A>, y: &InternalValue<A>| x.key.cmp(&y.key));
 }
 
-/// A run of each of some lists, with a global number. `Source(0)` where they cannot be compacted together.
+/// A run of each of some lists, with a global number. `Source(0)` where they cannot be compacted
+/// together.
 pub(crate) fn runs_with<A: Allocator + Copy>(
     alloc: A,
     lists: &[&[Row<'_>]],
@@ -123,7 +124,7 @@ pub(crate) fn runs_with<A: Allocator + Copy>(
     }
 }
 
-/// The same without a global number.
+/// A run of each of some lists, without a global number.
 pub(crate) fn runs_of<A: Allocator + Copy>(
     alloc: A,
     lists: &[&[Row<'_>]],

@@ -90,7 +90,8 @@ const VERSIONS_OF_THREE: &[Row<'static>] = &[
     (b"c", 0, V, &LONG),
 ];
 
-// How many tables a list is compacted into at a target of 1,024 bytes, and how many keys are read of these.
+// How many tables a list is compacted into at a target of 1,024 bytes, and how many keys are read
+// of these.
 fn counts(alloc: Global, rows: &[Row<'_>]) -> Result<(usize, usize), Error> {
     let runs = runs_of(alloc, &[rows])?;
     let writer = MultiWriter::new(alloc, TableIds::new(1), 1_024, 0, Timestamp::from(0))?;

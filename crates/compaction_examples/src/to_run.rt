@@ -25,7 +25,8 @@ const OLDER: &[Row<'static>] = &[
 
 const ONE_TOMBSTONE: &[Row<'static>] = &[(b"a", 4, T, b"")];
 
-// The run of what is kept of some runs, each key in a table of its own, and the counter of ids behind it.
+// The run of what is kept of some runs, each key in a table of its own, and the counter of ids
+// behind it.
 fn kept_run(
     alloc: Global,
     runs: &[Tables<Global>],
@@ -61,7 +62,8 @@ fn kept(alloc: Global, run: &Option<Tables<Global>>, mut left: TableIds) -> Resu
     }
 }
 
-// What is kept of a run that is compacted at threshold 10, without tombstones and under the number 0.
+// What is kept of a run that is compacted at threshold 10, without tombstones and under the number
+// 0.
 fn kept_again(alloc: Global, run: Option<Tables<Global>>, ids: TableIds) -> Result<Kept, Error>
     requires { IfSome run (λ run. AreCompactable (arc_value run ∷ [])) }
 {
@@ -129,7 +131,8 @@ fn where_nothing_is_kept_there_is_no_run(rt: HostRuntime) -> Result<(), Fail> {
     Ok(())
 }
 
-// The numbers that reads of what is kept of two lists find, of a version below a bound and of a range.
+// The numbers that reads of what is kept of two lists find, of a version below a bound and of a
+// range.
 fn read_kept<A: Allocator + Copy>(alloc: A, seqno: SeqNo) -> Result<[Option<SeqNo>; 3], Error> {
     let runs = runs_of(alloc, &[NEWER, OLDER])?;
     let (ids, moment) = (TableIds::new(5), Timestamp::from(0));

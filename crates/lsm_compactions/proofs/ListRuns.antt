@@ -81,8 +81,8 @@ one_more es runs us run all one = record {
   hold = held_more runs all.lists run one.lists all.hold (one.order, one.hold);
   some = some_more all.lists one.lists all.some one.some;
   whole = whole_more all.lists one.lists
-    ∙ ap (λ (xs : List Entry). xs ++ joined one.lists) all.whole
-    ∙ ap (λ (xs : List Entry). es ++ xs) one.whole;
+      ∙ ap (λ (xs : List Entry). xs ++ joined one.lists) all.whole
+      ∙ ap (λ (xs : List Entry). es ++ xs) one.whole;
 }
 
 -- a list that can be written, of the same entries, is their union
@@ -93,8 +93,8 @@ sorted_union lists es sorted whole moved strict =
       ascends = ascends_of sorted (as_pairs sorted strict);
       same = record {
         count = λ p. sum_by-IsPermutation (λ x. cond (p x) 1 0) es sorted moved
-          ∙ ap (count_by p) (sym whole) ∙ sym (union_count lists p)
-          ∙ (merged_union (results_of lists)).same.count p
+            ∙ ap (count_by p) (sym whole) ∙ sym (union_count lists p)
+            ∙ (merged_union (results_of lists)).same.count p;
       };
     }) strict
 
@@ -105,7 +105,7 @@ compactable runs es sorted all moved writable = record {
   hold = all.hold;
   some = all.some;
   writable = subst IsWritable
-    (sorted_union all.lists es sorted all.whole moved writable.strict) writable;
+      (sorted_union all.lists es sorted all.whole moved writable.strict) writable;
 }
 
 -- one more run behind others, with the entries behind theirs
@@ -114,8 +114,8 @@ pub more_runs : {R : Type 0} (f : R → List OpenTable) (es : List Entry) (runs 
     → all ≡ es ++ us → new ≡ runs ++ run ∷ [] → HaveAll all (map f new)
 more_runs f es runs run us all new have one all_is new_is =
     let whole : HaveAll (es ++ us) (map f runs ++ f run ∷ []) =
-      one_more es (map f runs) us (f run) have one in
+    one_more es (map f runs) us (f run) have one in
     let runs_are : map f new ≡ map f runs ++ f run ∷ [] =
-      ap (map f) new_is ∙ map-append f runs (run ∷ []) in
+    ap (map f) new_is ∙ map-append f runs (run ∷ []) in
     subst (λ (l : List (List OpenTable)). HaveAll all l) (sym runs_are)
     (subst (λ (xs : List Entry). HaveAll xs (map f runs ++ f run ∷ [])) (sym all_is) whole)

@@ -1,5 +1,6 @@
 -- What several runs have can be written again once a part of them is compacted.
-use Rattle.std.proofs.Common.{◌≡◌, refl, sym, ◌∙◌, ap, ◌+◌, ◌-◌, ◌^◌, ◌<◌, Bool, false, true, List, [], ◌∷◌, count_by, arith}
+use Rattle.std.proofs.Common.{◌≡◌, refl, sym, ◌∙◌, ap, ◌+◌, ◌-◌, ◌^◌, ◌<◌, Bool, false, true, List}
+use Rattle.std.proofs.Common.{[], ◌∷◌, count_by, arith}
 use Rattle.std.specs.Prelude.{nat_lt, not}
 use Rattle.std.specs.List.{AllByRecursion}
 use Rattle.std.proofs.lemmas.Bool.{lt-ltb, ltb-true}
@@ -35,7 +36,9 @@ all_low es none =
 
 -- ---- a part is compacted
 
-pub writable_after : (rules : Rules) (part rest before after : List (List (List Entry))) → AreReplaced rules part rest before after → IsWritable (union_in before) → IsWritable (union_in after)
+pub writable_after : (rules : Rules) (part rest before after : List (List (List Entry)))
+    → AreReplaced rules part rest before after → IsWritable (union_in before)
+    → IsWritable (union_in after)
 writable_after rules part rest before after h w =
     let had = no_last (union_in before) w.numbered in
     let each = count_had rules part rest before after h is_last in

@@ -27,7 +27,8 @@ module _ {S : Type 0} (front back : S → Option (Result Entry Error) → S → 
     pub point_is : read.0 ≡ point es key bound
     pub range_is : DealsList front back (newest (within low high es)) read.1
 
-  -- it was read of what is kept of a part's lists, and of the lists in front of them and behind them
+  -- it was read of what is kept of a part's lists, and of the lists in front of them and behind
+  -- them
   pub record ReadsKept (rules : Rules) (fs ps bs : List (List (List Entry)))
       (read : Option Entry × S) : Type 0 where
     pub made : List (List (List Entry))

@@ -26,9 +26,10 @@ all_shown es = map shown_of (filter (λ e. not (is_tombstone_kind e.kind)) es)
 abbrev pub joined_in : List (List (List Entry)) → List Entry
 joined_in lists = joined (map joined lists)
 
--- a part of the runs is compacted, and the rest stays: the runs before have the entries of both, where no key is there twice
--- under one number; those after have what is kept of the part, and the entries of the rest, in whatever runs. Nothing is evicted
--- or zeroed and no weak tombstone is in the part, or else of each key all others are newer than the part
+-- a part of the runs is compacted, and the rest stays: the runs before have the entries of both,
+-- where no key is there twice under one number; those after have what is kept of the part, and the
+-- entries of the rest, in whatever runs. Nothing is evicted or zeroed and no weak tombstone is in
+-- the part, or else of each key all others are newer than the part
 pub record AreReplaced (rules : Rules) (part rest before after : List (List (List Entry))) : Type 0
   where
     pub strict : IsStrict (union_in before)

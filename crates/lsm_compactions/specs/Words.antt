@@ -1,4 +1,5 @@
--- The words of the contracts of runs that are made, those of the crates below among them, so that a file asks for them in one place.
+-- The words of the contracts of runs that are made, those of the crates below among them, so that a
+-- file asks for them in one place.
 pub use Rattle.sst_entries.specs.Entry.{Entry}
 pub use Rattle.sst_entries.specs.Error.{Faults}
 pub use Rattle.sst_entries.specs.Stream.{CanDeal, nowhere}
@@ -14,7 +15,10 @@ pub use Rattle.lsm_runs.specs.RunLists.{DealTogether, DealsList, HoldLists, Runs
 pub use Rattle.lsm_runs.specs.RunParts.{range_of}
 pub use Rattle.lsm_runs.specs.SeveralRuns.{runs_told, union_in}
 pub use Rattle.lsm_runs.specs.SpansRead.{IsOverSpans}
-pub use Rattle.lsm_compactions.specs.Chain.{AreCutOf, AreOpened, AreWritten, FitsAsTables, IsOpenedOf, IsRunOfList, both_fault, chain_fault, ids_behind, run_label, tables_fault, writes_fault}
-pub use Rattle.lsm_compactions.specs.Compacted.{AreCompactable, AreWrittenBy, DealsWritable, FitsBy, HaveEntries, RunsOn, kept_in, rules_by}
+pub use Rattle.lsm_compactions.specs.Chain.{AreCutOf, AreOpened, AreWritten, FitsAsTables}
+pub use Rattle.lsm_compactions.specs.Chain.{IsOpenedOf, IsRunOfList, both_fault, chain_fault}
+pub use Rattle.lsm_compactions.specs.Chain.{ids_behind, run_label, tables_fault, writes_fault}
+pub use Rattle.lsm_compactions.specs.Compacted.{AreCompactable, AreWrittenBy, DealsWritable, FitsBy}
+pub use Rattle.lsm_compactions.specs.Compacted.{HaveEntries, RunsOn, kept_in, rules_by}
 pub use Rattle.lsm_compactions.specs.PartReads.{HoldSides, ReadsKept, ReadsOf, ShowAlike}
 pub use Rattle.lsm_compactions.specs.Written.{number_fault}

@@ -1,5 +1,6 @@
 -- Sorted lists of entries, and lists with the same entries.
-use Rattle.std.specs.Prelude.{◌≡◌, ◌<◌, Bool, true, false, cond, not, List, [], ◌∷◌, ◌++◌, filter, count_by, Ok, Err}
+use Rattle.std.specs.Prelude.{◌≡◌, ◌<◌, Bool, true, false, cond, not, List, [], ◌∷◌, ◌++◌, filter}
+use Rattle.std.specs.Prelude.{count_by, Ok, Err}
 use Rattle.std.specs.declared.cmp.Ordering.{Ordering}
 use Rattle.std.specs.List.{AllByRecursion}
 use Rattle.std.specs.Ordering.{on, is_gt}

@@ -22,7 +22,8 @@ one_list t es us h k =
     ∙ same_results (within Unbounded Unbounded es) (within Unbounded Unbounded us) (sym (held_told t es h Unbounded Unbounded) ∙ held_told t us k Unbounded Unbounded)
     ∙ all_within us
 
-one_each : (ts : List OpenTable) (ls ms : List (List Entry)) → HoldLists ts ls → HoldLists ts ms → ls ≡ ms
+one_each : (ts : List OpenTable) (ls ms : List (List Entry)) → HoldLists ts ls → HoldLists ts ms
+    → ls ≡ ms
 one_each [] [] [] h k = refl
 one_each [] (es ∷ ls) ms h k = absurd h
 one_each [] [] (us ∷ ms) h k = absurd k
@@ -31,7 +32,8 @@ one_each (t ∷ ts) (es ∷ ls) [] h k = absurd k
 one_each (t ∷ ts) (es ∷ ls) (us ∷ ms) h k =
     ap (λ (xs : List Entry). xs ∷ ls) (one_list t es us h.0 k.0) ∙ ap (λ (ns : List (List Entry)). us ∷ ns) (one_each ts ls ms h.1 k.1)
 
-pub one_way : (runs : List (List OpenTable)) (lists others : List (List (List Entry))) → RunsHoldLists runs lists → RunsHoldLists runs others → lists ≡ others
+pub one_way : (runs : List (List OpenTable)) (lists others : List (List (List Entry)))
+    → RunsHoldLists runs lists → RunsHoldLists runs others → lists ≡ others
 one_way [] [] [] h k = refl
 one_way [] (ls ∷ lists) others h k = absurd h
 one_way [] [] (ms ∷ others) h k = absurd k
@@ -42,6 +44,8 @@ one_way (ts ∷ runs) (ls ∷ lists) (ms ∷ others) h k =
 
 -- ---- two values, of which the second may be refused
 
-pub beside_ok : {T U : Type 0} (P : T → Type 0) (Q : U → Type 0) (x : T) (second : Result U Error) (r : Result (T × U) Error) → MatchResult second (λ y. r ≡ Ok (x, y)) (λ e. r ≡ Err e) → P x → IfOk second Q → IfOk r (λ both. P both.0 × Q both.1)
+pub beside_ok : {T U : Type 0} (P : T → Type 0) (Q : U → Type 0) (x : T) (second : Result U Error)
+    (r : Result (T × U) Error) → MatchResult second (λ y. r ≡ Ok (x, y)) (λ e. r ≡ Err e) → P x
+    → IfOk second Q → IfOk r (λ both. P both.0 × Q both.1)
 beside_ok P Q x (Ok y) r told p q = rw told (p, q)
 beside_ok P Q x (Err e) r told p q = rw told tt

@@ -1,5 +1,6 @@
 -- A loop over runs that makes the readers of their spans.
-use Rattle.std.proofs.Common.{◌≡◌, refl, sym, ◌∙◌, ap, subst, ℕ, ◌+◌, ◌<◌, ◌≤◌, List, [], ◌∷◌, ◌++◌, get_or, length, take, append-nil}
+use Rattle.std.proofs.Common.{◌≡◌, refl, sym, ◌∙◌, ap, subst, ℕ, ◌+◌, ◌<◌, ◌≤◌, List, [], ◌∷◌, ◌++◌}
+use Rattle.std.proofs.Common.{get_or, length, take, append-nil}
 use Rattle.std.specs.Prelude.{Option, Some, None, MatchOption, map}
 use Rattle.std.specs.List.{AllByRecursion, AllZip, flat_map}
 use Rattle.std.specs.declared.ops.Bound.{Bound}
@@ -21,10 +22,13 @@ module _ {A X : Type 0} (f : X → List OpenTable) (low high : Bound (List ℕ))
   abbrev pub SpannedSoFar : List (RunRange A) → ℕ → Type 0
   SpannedSoFar readers i = AllByRecursion (IsInOrder range_of) (map f xs) → AllZip (λ reader run. IsRunOf run.0 run.1 reader) readers (spans_within low high (map f (take i xs)))
 
-  pub all_spanned : (readers : List (RunRange A)) (i : ℕ) → SpannedSoFar readers i → length xs ≤ i → AllByRecursion (IsInOrder range_of) (map f xs) → AllZip (λ reader run. IsRunOf run.0 run.1 reader) readers (spans_within low high (map f xs))
+  pub all_spanned : (readers : List (RunRange A)) (i : ℕ) → SpannedSoFar readers i → length xs ≤ i
+      → AllByRecursion (IsInOrder range_of) (map f xs)
+      → AllZip (λ reader run. IsRunOf run.0 run.1 reader) readers (spans_within low high (map f xs))
   all_spanned readers i so_far past order = subst (λ (ys : List X). AllZip Reads readers (spans_within low high (map f ys))) (take_all i xs past) (so_far order)
 
-  module _ (i : ℕ) (x : X) (less : i < length xs) (is : x ≡ get_or xs i x) (readers : List (RunRange A)) (so_far : SpannedSoFar readers i) where
+  module _ (i : ℕ) (x : X) (less : i < length xs) (is : x ≡ get_or xs i x)
+      (readers : List (RunRange A)) (so_far : SpannedSoFar readers i) where
     abbrev found : Option (ℕ × ℕ)
     found = overlap_indexes low high (ranges_of (f x))
 
@@ -42,7 +46,10 @@ module _ {A X : Type 0} (f : X → List OpenTable) (low high : Bound (List ℕ))
         ∙ ap (λ (us : List (List OpenTable × RunSpan)). before ++ us) (append-nil (one (f (get_or xs i x))))
         ∙ ap (λ (y : X). before ++ one (f y)) (sym is)
 
-    pub more_spanned : (reader : RunRange A) → (IsInOrder range_of (f x) → (ends : ℕ × ℕ) × (found ≡ Some ends) × IsRunOf (f x) (span_of ends low high) reader) → SpannedSoFar (readers ++ reader ∷ []) (i + 1)
+    pub more_spanned : (reader : RunRange A)
+        → (IsInOrder range_of (f x) → (ends : ℕ × ℕ) × (found ≡ Some ends)
+        × IsRunOf (f x) (span_of ends low high) reader) → SpannedSoFar (readers ++ reader ∷ [])
+        (i + 1)
     more_spanned reader reads order =
         let own = reads (all_at f (IsInOrder range_of) xs i x order less is) in
         subst (AllZip Reads (readers ++ reader ∷ [])) (sym (next ∙ ap (λ (o : Option (ℕ × ℕ)). before ++ span_at (f x) low high o) own.1))

@@ -1,5 +1,6 @@
 -- Runs of tables that were written of lists, and what is read of them.
-use Rattle.std.specs.Prelude.{◌≡◌, ℕ, suc, ◌-◌, Bool, true, List, [], ◌∷◌, drop, take, Option, Result, if◌then◌else◌}
+use Rattle.std.specs.Prelude.{◌≡◌, ℕ, suc, ◌-◌, Bool, true, List, [], ◌∷◌, drop, take, Option}
+use Rattle.std.specs.Prelude.{Result, if◌then◌else◌}
 use Rattle.std.specs.List.{AllByRecursion, AllZip}
 use Rattle.sst_entries.specs.declared.error.Error.{Error}
 use Rattle.sst_entries.specs.declared.error.Error.TheVariants.{OutOfMemory}
@@ -51,7 +52,8 @@ DealsList front back es s =
     Deals (answer_stops stops) front back s (ok_results es)
 
 -- sources deal, one each, sorted lists that have together just the entries of these
-pub record DealTogether {S : Type 0} (front back : S → Option (Result Entry Error) → S → Type 0) (sources : List S) (found : List (List Entry)) : Type 0 where
+pub record DealTogether {S : Type 0} (front back : S → Option (Result Entry Error) → S → Type 0)
+    (sources : List S) (found : List (List Entry)) : Type 0 where
   pub dealt : List (List Entry)
   pub same : joined dealt ≡ joined found
   pub ascend : AllByRecursion Ascends dealt

@@ -49,7 +49,8 @@ impl<A: Allocator> Model for Unopened<A> {
         (u.opened + u.hi ≤ length (arc_value u.run) + u.lo) };
 }
 
-/// The reader of the table at a place: within the bounds where the span begins or ends there, else of the whole table.
+/// The reader of the table at a place: within the bounds where the span begins or ends there, else
+/// of the whole table.
 fn reader_at<A: Allocator + Clone>(
     tables: &[Table<A>],
     place: usize,

@@ -1,6 +1,6 @@
-//! Merging, newest versions and compaction, and with `lsm_ranges` key ranges and runs of tables: everything that works on
-//! sorted entries, whatever table they come from. It passes on what `lsm_ranges` exports, and of `lsm_merge`
-//! all but `Ends`.
+//! Merging, newest versions and compaction, and with `lsm_ranges` key ranges and runs of tables:
+//! everything that works on sorted entries, whatever table they come from. It passes on what
+//! `lsm_ranges` exports, and of `lsm_merge` all but `Ends`.
 #![tactic(auto)]
 
 mod ahead;

@@ -3,7 +3,8 @@ ghost use Rattle.std.specs.Prelude.{◌≡◌, IfOk, IfErr, All, List};
 ghost use Rattle.std.specs.Iterator.{IsFinite};
 ghost use Rattle.sst_entries.specs.Stream.{CanDeal, nowhere};
 ghost use Rattle.sst_entries.specs.declared.error.Error.TheVariants.{OutOfMemory};
-ghost use Rattle.lsm_sorted.specs.NewestLaws.{DealsNewest, DealsNewestUntilError, AnswersNewest, IsNewestOf, IsOverMerged, CanAskNewest};
+ghost use Rattle.lsm_sorted.specs.NewestLaws.{DealsNewest, DealsNewestUntilError, AnswersNewest};
+ghost use Rattle.lsm_sorted.specs.NewestLaws.{IsNewestOf, IsOverMerged, CanAskNewest};
 
 use crate::mvcc_stream::MvccStream;
 use lsm_merge::{Merger, from_both_ends};

@@ -1,4 +1,5 @@
--- The words of the contracts of whole ways, those of the crates below, so that a file asks for them in one place.
+-- The words of the contracts of whole ways, those of the crates below, so that a file asks for them
+-- in one place.
 pub use Rattle.sst_entries.specs.Entry.{Entry}
 pub use Rattle.sst_entries.specs.Error.{Faults}
 pub use Rattle.sst_entries.specs.Stream.{CanDeal}
@@ -13,6 +14,7 @@ pub use Rattle.lsm_runs.specs.RunLists.{RunsHoldLists}
 pub use Rattle.lsm_runs.specs.RunParts.{range_of}
 pub use Rattle.lsm_runs.specs.SeveralRuns.{runs_told, union_in}
 pub use Rattle.lsm_runs.specs.SpansRead.{IsOverSpans}
-pub use Rattle.lsm_compactions.specs.Chain.{FitsAsTables, IsRunOfList, both_fault, chain_fault, ids_behind, tables_fault}
+pub use Rattle.lsm_compactions.specs.Chain.{FitsAsTables, IsRunOfList, both_fault, chain_fault}
+pub use Rattle.lsm_compactions.specs.Chain.{ids_behind, tables_fault}
 pub use Rattle.lsm_compactions.specs.Compacted.{AreCompactable, kept_in}
 pub use Rattle.lsm_compactions.specs.PartReads.{HoldSides, ReadsKept, ReadsOf, ShowAlike}

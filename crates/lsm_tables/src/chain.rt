@@ -10,9 +10,9 @@ use sst_blocks::{Error, InternalValue, SeqNo, UserKey};
 use std::alloc::Allocator;
 use std::ops::Bound;
 
-/// What a point read and a range of a list give once it was written as a run and opened; `None` where the list has no entry.
-/// The contracts of writing, opening and reading runs alone say that it is the list. Refused as [`write_run`] with
-/// ids from 1 on.
+/// What a point read and a range of a list give once it was written as a run and opened; `None`
+/// where the list has no entry. The contracts of writing, opening and reading runs alone say that
+/// it is the list. Refused as [`write_run`] with ids from 1 on.
 pub fn read_run_back<A: Allocator + Clone>(
     alloc: A,
     items: Vec<InternalValue<A>, A>,
@@ -23,7 +23,8 @@ pub fn read_run_back<A: Allocator + Clone>(
     range: (Bound<UserKey<A>>, Bound<UserKey<A>>),
 ) -> Result<Option<Reads<A>>, Error>
     requires { IsWritable items.items }
-    // The first match of the key, and from both ends the newest version of each key within the bounds, of the list, lifted.
+    // The first match of the key, and from both ends the newest version of each key within the
+    // bounds, of the list, lifted.
     ensures list { let gives = ⟦<NewestOfRuns<A> as Iterator>⟧.next_gives in
         let back_gives = ⟦<NewestOfRuns<A> as DoubleEndedIterator>⟧.next_back_gives in
         IfOk result (λ r. MatchOption r (items.items ≡ [])

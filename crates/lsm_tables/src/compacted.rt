@@ -1,8 +1,10 @@
 //! A list that is written as a run, which is compacted alone and read.
-ghost use Rattle.std.specs.Prelude.{◌≡◌, ◌∷◌, [], List, IfErr, IfOk, IfSome, MatchOption, Some, length};
+ghost use Rattle.std.specs.Prelude.{◌≡◌, ◌∷◌, [], List, IfErr, IfOk, IfSome, MatchOption, Some};
+ghost use Rattle.std.specs.Prelude.{length};
 ghost use Rattle.sst_entries.specs.declared.error.Error.TheVariants.{OutOfMemory};
 ghost use Rattle.lsm_tables.specs.Words.{AreCompactable, AreTables, CanDeal, Entry, Faults};
-ghost use Rattle.lsm_tables.specs.Words.{FitsAsTables, IsRunOfList, IsWritable, ReadsOf, both_fault};
+ghost use Rattle.lsm_tables.specs.Words.{FitsAsTables, IsRunOfList, IsWritable, ReadsOf};
+ghost use Rattle.lsm_tables.specs.Words.{both_fault};
 ghost use Rattle.lsm_tables.specs.Words.{default_options, ids_behind, kept};
 ghost use Rattle.lsm_tables.specs.Words.{tables_fault, unfiltered};
 
@@ -28,7 +30,8 @@ fn compact_alone<A: Allocator + Clone>(
     ensures run { (es : List Entry) → IsRunOfList es 0 run →
         let left = kept rules (unfiltered es) in
         IfOk result (λ r. MatchOption r (left ≡ []) (λ new. IsRunOfList left 0 new)) }
-    ensures none { (es : List Entry) → IsRunOfList es 0 run → let left = kept rules (unfiltered es) in
+    ensures none { (es : List Entry) → IsRunOfList es 0 run →
+        let left = kept rules (unfiltered es) in
         IfOk result (λ r. IfSome r (λ _. left ≡ [] → ⊥)) }
     ensures refused { (es : List Entry) → IsRunOfList es 0 run →
         Faults result (tables_fault ids target_size 0 (kept rules (unfiltered es))) }
@@ -54,8 +57,10 @@ fn write_and_compact<A: Allocator + Clone>(
         IfOk result (λ r. MatchOption r (left ≡ []) (λ run. IsRunOfList left 0 run)) }
     ensures none { let left = kept rules (unfiltered items.items) in
         IfOk result (λ r. IfSome r (λ _. left ≡ [] → ⊥)) }
-    // The refusal is the first: of writing the list, which is cut into these tables, and then what is kept.
-    ensures refused { let left = kept rules (unfiltered items.items) in (tables : List (List Entry)) →
+    // The refusal is the first: of writing the list, which is cut into these tables, and then what
+    // is kept.
+    ensures refused { let left = kept rules (unfiltered items.items) in
+        (tables : List (List Entry)) →
         AreTables default_options.data_block_size target_size items.items tables →
         Faults result (both_fault target_size items.items tables left) }
     ensures taken { let left = kept rules (unfiltered items.items) in
@@ -71,12 +76,13 @@ fn write_and_compact<A: Allocator + Clone>(
     compact_alone(alloc, run, ids, target_size, rules)
 }
 
-/// What a point read and a range give of a list that was written as a run, compacted, and whose new tables were opened;
-/// `None` where nothing is kept. The contracts of writing, compacting, opening and reading runs alone say that it is what the
-/// compaction keeps of the list. The tables are of the first level, under ids from 1 on.
+/// What a point read and a range give of a list that was written as a run, compacted, and whose new
+/// tables were opened; `None` where nothing is kept. The contracts of writing, compacting, opening
+/// and reading runs alone say that it is what the compaction keeps of the list. The tables are of
+/// the first level, under ids from 1 on.
 ///
-/// Refused with the first fault of writing the list, or else that of writing what is kept behind the list's tables; and
-/// [`Error::OutOfMemory`].
+/// Refused with the first fault of writing the list, or else that of writing what is kept behind
+/// the list's tables; and [`Error::OutOfMemory`].
 pub fn compact_run_back<A: Allocator + Clone>(
     alloc: A,
     items: Vec<InternalValue<A>, A>,
@@ -87,7 +93,8 @@ pub fn compact_run_back<A: Allocator + Clone>(
     range: (Bound<UserKey<A>>, Bound<UserKey<A>>),
 ) -> Result<Option<Reads<A>>, Error>
     requires { IsWritable items.items }
-    // The first match of the key, and from both ends the newest version of each key within the bounds, of what is kept.
+    // The first match of the key, and from both ends the newest version of each key within the
+    // bounds, of what is kept.
     ensures list { let gives = ⟦<NewestOfRuns<A> as Iterator>⟧.next_gives in
         let back_gives = ⟦<NewestOfRuns<A> as DoubleEndedIterator>⟧.next_back_gives in
         let left = kept rules (unfiltered items.items) in
@@ -102,12 +109,14 @@ pub fn compact_run_back<A: Allocator + Clone>(
         ⟦<NewestOfRuns<A> as DoubleEndedIterator>⟧.next_back_gives
         ⟦<NewestOfRuns<A> as Iterator>⟧.can_next
         ⟦<NewestOfRuns<A> as DoubleEndedIterator>⟧.can_next_back read.1)) }
-    // Memory aside, the refusal is the first: of writing the list, which is cut into these tables, and then what is kept.
-    ensures refused { let left = kept rules (unfiltered items.items) in (tables : List (List Entry)) →
+    // Memory aside, the refusal is the first: of writing the list, which is cut into these tables,
+    // and then what is kept.
+    ensures refused { let left = kept rules (unfiltered items.items) in
+        (tables : List (List Entry)) →
         AreTables default_options.data_block_size target_size items.items tables →
         Faults result (both_fault target_size items.items tables left) }
-    // Where the tables of the list fit, and behind them those of what is kept, with an id left for each, it is refused for want
-    // of memory alone.
+    // Where the tables of the list fit, and behind them those of what is kept, with an id left for
+    // each, it is refused for want of memory alone.
     ensures taken { let left = kept rules (unfiltered items.items) in
         (first : FitsAsTables (Some 1) target_size items.items) →
         FitsAsTables (ids_behind (Some 1) target_size (length first.tables)) target_size left →

@@ -1,6 +1,6 @@
 //! Tables and runs of tables. Here stand the whole ways, from a list to what is read of it; what
-//! `lsm_readers`, `lsm_runs` and `lsm_compactions` export is passed on, all but `share`, which copies
-//! a bound.
+//! `lsm_readers`, `lsm_runs` and `lsm_compactions` export is passed on, all but `share`, which
+//! copies a bound.
 #![tactic(auto)]
 
 mod chain;

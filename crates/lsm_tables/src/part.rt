@@ -1,5 +1,6 @@
 //! A part of several runs that is compacted, and what is read of the runs before and after.
-ghost use Rattle.std.specs.Prelude.{◌≡◌, ◌∷◌, ◌++◌, ◌⊎◌, [], IfErr, IfOk, List, MatchOption, OnOk, map};
+ghost use Rattle.std.specs.Prelude.{◌≡◌, ◌∷◌, ◌++◌, ◌⊎◌, [], IfErr, IfOk, List, MatchOption, OnOk};
+ghost use Rattle.std.specs.Prelude.{map};
 ghost use Rattle.std.specs.Arc.{arc_value};
 ghost use Rattle.sst_entries.specs.Strict.{IsStrict};
 ghost use Rattle.sst_entries.specs.declared.error.Error.TheVariants.{OutOfMemory};
@@ -82,7 +83,8 @@ fn read_side_by_side<A: Allocator + Clone>(
     read_runs(alloc, &runs, key, seqno, range)
 }
 
-// The same; it shares the bounds, within which is read again.
+// What a point read and a range of runs side by side give, where the bounds are read within again:
+// it shares them.
 fn read_within<A: Allocator + Clone>(
     alloc: A,
     front: &[Arc<Run<Table<A>, A>, A>],
@@ -188,14 +190,16 @@ fn read_compacted<A: Allocator + Clone>(
     read_side_by_side(alloc, front, &made, behind, key, seqno, range)
 }
 
-/// What a point read and a range of several runs give before and after a part of them is compacted, by [`compact_to_run`],
-/// and its run put in the part's place. The contracts of reading and compacting runs, and [`compaction_law`], alone say that
-/// readers see the same: where nothing is evicted or zeroed and the part has no weak tombstone, or of each key all others are
-/// newer than the part; the point reads where their bound is the watermark or above.
+/// What a point read and a range of several runs give before and after a part of them is compacted,
+/// by [`compact_to_run`], and its run put in the part's place. The contracts of reading and
+/// compacting runs, and [`compaction_law`], alone say that readers see the same: where nothing is
+/// evicted or zeroed and the part has no weak tombstone, or of each key all others are newer than
+/// the part; the point reads where their bound is the watermark or above.
 ///
-/// Refused as [`compact_to_run`]. Whatever is answered, the given runs are as they were. Conditions: those of
-/// [`compact_to_run`] on the part. That the other runs are in order, that their tables hold lists, and that no key of all
-/// lists together has one number twice, are premises of the clauses alone.
+/// Refused as [`compact_to_run`]. Whatever is answered, the given runs are as they were.
+/// Conditions: those of [`compact_to_run`] on the part. That the other runs are in order, that
+/// their tables hold lists, and that no key of all lists together has one number twice, are
+/// premises of the clauses alone.
 pub fn compact_part_back<A: Allocator + Clone>(
     alloc: A,
     front: &[Arc<Run<Table<A>, A>, A>],
@@ -222,8 +226,8 @@ pub fn compact_part_back<A: Allocator + Clone>(
         (fs ps bs : List (List (List Entry))) → HoldSides (map arc_value front.now)
         (map arc_value part.now) (map arc_value behind.now) fs ps bs → IfOk result (λ r.
         ReadsKept gives back_gives key.now seqno range.0 range.1 rules fs ps bs r.1) }
-    // Both show the same, under the conditions of the law: the point reads to a reader at the watermark or above, the ranges to
-    // any.
+    // Both show the same, under the conditions of the law: the point reads to a reader at the
+    // watermark or above, the ranges to any.
     ensures alike { let gives = ⟦<NewestOfRuns<A> as Iterator>⟧.next_gives in
         let back_gives = ⟦<NewestOfRuns<A> as DoubleEndedIterator>⟧.next_back_gives in
         (fs ps bs : List (List (List Entry))) → HoldSides (map arc_value front.now)
@@ -243,7 +247,8 @@ pub fn compact_part_back<A: Allocator + Clone>(
     ensures refused { (fs ps bs : List (List (List Entry))) → HoldSides (map arc_value front.now)
         (map arc_value part.now) (map arc_value behind.now) fs ps bs →
         Faults result (tables_fault ids target_size created_at (kept_in rules ps)) }
-    // Where the tables of what is kept fit, with an id left for each, it is refused for want of memory alone.
+    // Where the tables of what is kept fit, with an id left for each, it is refused for want of
+    // memory alone.
     ensures taken { (fs ps bs : List (List (List Entry))) → HoldSides (map arc_value front.now)
         (map arc_value part.now) (map arc_value behind.now) fs ps bs →
         FitsAsTables ids target_size (kept_in rules ps) → IfErr result (λ e. e ≡ OutOfMemory) }

@@ -5,7 +5,8 @@ ghost use Rattle.std.specs.List.{AllByRecursion};
 ghost use Rattle.sst_entries.specs.Error.{Fails};
 ghost use Rattle.sst_entries.specs.declared.error.Error.TheVariants.{OutOfMemory};
 ghost use Rattle.lsm_tables.specs.Words.{CanDeal, Entry, IsInOrder, IsOverSpans, IsRunOfList};
-ghost use Rattle.lsm_tables.specs.Words.{ReadsOf, RunsHoldLists, lift, range_of, runs_told, union_in};
+ghost use Rattle.lsm_tables.specs.Words.{ReadsOf, RunsHoldLists, lift, range_of, runs_told};
+ghost use Rattle.lsm_tables.specs.Words.{union_in};
 
 use crate::{NewestOfRuns, Table, get_runs, range_runs};
 use lsm_ranges::Run;
@@ -37,7 +38,8 @@ pub(crate) fn read_runs<A: Allocator + Clone>(
         ⟦<NewestOfRuns<A> as DoubleEndedIterator>⟧.can_next_back read.1) }
     ensures taken { (lists : List (List (List Entry))) →
         RunsHoldLists (map arc_value runs.now) lists → IfErr result (λ e. e ≡ OutOfMemory) }
-    // Of any tables in runs in order the point read is what they tell, and memory aside so is the refusal;
+    // Of any tables in runs in order the point read is what they tell, and memory aside so is the
+    // refusal;
     ensures told { AllByRecursion (IsInOrder range_of) (map arc_value runs.now) →
         IfOk result (λ read. runs_told key.now seqno None (map arc_value runs.now) ≡ Ok read.0) }
     ensures fails { AllByRecursion (IsInOrder range_of) (map arc_value runs.now) →
@@ -53,8 +55,9 @@ pub(crate) fn read_runs<A: Allocator + Clone>(
     Ok((found, stream))
 }
 
-/// What a point read of one run finds, and the newest version of each key of it within two bounds: [`get_runs`] and
-/// [`range_runs`] of this run alone. Refused as [`get_runs`]; of a run whose tables hold a list for want of memory alone.
+/// What a point read of one run finds, and the newest version of each key of it within two bounds:
+/// [`get_runs`] and [`range_runs`] of this run alone. Refused as [`get_runs`]; of a run whose
+/// tables hold a list for want of memory alone.
 pub fn read_run<A: Allocator + Clone>(
     alloc: A,
     run: Run<Table<A>, A>,
@@ -75,7 +78,8 @@ pub fn read_run<A: Allocator + Clone>(
         ⟦<NewestOfRuns<A> as DoubleEndedIterator>⟧.can_next_back read.1) }
     ensures taken { (es : List Entry) (g : ℕ) → IsRunOfList es g run →
         IfErr result (λ e. e ≡ OutOfMemory) }
-    // Of any tables in a run in order the point read is what they tell, and memory aside so is the refusal;
+    // Of any tables in a run in order the point read is what they tell, and memory aside so is the
+    // refusal;
     ensures told { IsInOrder range_of run →
         IfOk result (λ read. runs_told key.now seqno None (run ∷ []) ≡ Ok read.0) }
     ensures fails { IsInOrder range_of run →

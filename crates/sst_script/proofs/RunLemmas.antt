@@ -1,5 +1,7 @@
 -- The lists of runs, and what is read of them.
-use Rattle.std.proofs.Common.{◌≡◌, refl, sym, ◌∙◌, ap, subst, ℕ, zero, suc, ◌+◌, ◌<◌, Bool, true, false, List, [], ◌∷◌, ◌++◌, append_assoc, append-nil, length, get_or, drop, drop-cons, add-one, arith}
+use Rattle.std.proofs.Common.{◌≡◌, refl, sym, ◌∙◌, ap, subst, ℕ, zero, suc, ◌+◌, ◌<◌, Bool, true}
+use Rattle.std.proofs.Common.{false, List, [], ◌∷◌, ◌++◌, append_assoc, append-nil, length, get_or}
+use Rattle.std.proofs.Common.{drop, drop-cons, add-one, arith}
 use Rattle.std.specs.Prelude.{Option, Result, Ok, Err, ◌||◌, map}
 use Rattle.std.specs.List.{AllByRecursion}
 use Rattle.std.proofs.lemmas.List.{map-append}
@@ -31,7 +33,8 @@ pub runs_held : (rs : List Run) → RunsHoldLists (run_tables rs) (lists_of rs)
 runs_held [] = tt
 runs_held (r ∷ rs) = ((r.is.order, r.is.hold), runs_held rs)
 
-all_same : (rs : List Run) → map (λ (ls : List (List Entry)). ok_results (joined ls)) (lists_of rs) ≡ map (λ (r : Run). ok_results r.list) rs
+all_same : (rs : List Run) → map (λ (ls : List (List Entry)). ok_results (joined ls)) (lists_of rs)
+    ≡ map (λ (r : Run). ok_results r.list) rs
 all_same [] = refl
 all_same (r ∷ rs) =
     let same : joined r.is.lists ≡ r.list = r.is.whole ∙ lift_zero r.list in
@@ -52,7 +55,8 @@ module _ (rs : List Run) (ts : List (List OpenTable)) (same : run_tables rs ≡ 
       subst (λ (es : List Entry). Gives (λ (x : Option Entry). x) result (Ok (point es key bound))) (union_same rs) (reads (lists_of rs) held)
 
   -- a range of them deals the newest of what lies within the bounds
-  pub range_deals : {S : Type 0} (front back : S → Option (Result Entry Error) → S → Type 0) (s : S) (low high from to : Bound (List ℕ)) → low ≡ from → high ≡ to
+  pub range_deals : {S : Type 0} (front back : S → Option (Result Entry Error) → S → Type 0) (s : S)
+      (low high from to : Bound (List ℕ)) → low ≡ from → high ≡ to
       → ((lists : List (List (List Entry))) → RunsHoldLists ts lists → DealsList front back (newest (within low high (union_in lists))) s)
       → DealsList front nowhere (newest (within from to (union rs))) s
   range_deals {S} front back s low high from to low_is high_is deals =
@@ -64,17 +68,21 @@ module _ (rs : List Run) (ts : List (List OpenTable)) (same : run_tables rs ≡ 
 -- ---- what is told, memory aside
 
 -- the first match of a key numbered below the next number tells whether the runs have the number
-pub number_gives : (rs : List Run) (key : List ℕ) (n : ℕ) (found : Option Entry) (b : Bool) → Gives (λ (x : Option Entry). x) (Ok found) (Ok (point (union rs) key (n + 1))) → b ≡ has_number n found → Gives (λ (x : Bool). x) (Ok b) (Ok (has_entry (union rs) key n))
+pub number_gives : (rs : List Run) (key : List ℕ) (n : ℕ) (found : Option Entry) (b : Bool)
+    → Gives (λ (x : Option Entry). x) (Ok found) (Ok (point (union rs) key (n + 1))) → b
+    ≡ has_number n found → Gives (λ (x : Bool). x) (Ok b) (Ok (has_entry (union rs) key n))
 number_gives rs key n found b told is =
     let first : point (union rs) key (n + 1) ≡ found = cc in
     let has : has_entry (union rs) key n ≡ b = has_entry_found (union rs) key n (ascends_in_order (all_entries (map (λ (r : Run). ok_results r.list) rs))) ∙ ap (has_number n) first ∙ sym is in
     ap (λ (x : Bool). Ok x) has
 
 -- a refusal for want of memory
-pub memory_fails : {X Y : Type 0} (e : Error) (found : X) (other : Y) → Fails e (Ok found) → Fails e (Ok other)
+pub memory_fails : {X Y : Type 0} (e : Error) (found : X) (other : Y) → Fails e (Ok found)
+    → Fails e (Ok other)
 memory_fails {X} e found other fails memory = let no : Ok found ≡ Err e = fails memory in absurd cc
 
-pub memory_of : {X : Type 0} (e : Error) (found : X) (b : Bool) → is_memory e ≡ b → Fails e (Ok found) → b ≡ true
+pub memory_of : {X : Type 0} (e : Error) (found : X) (b : Bool) → is_memory e ≡ b
+    → Fails e (Ok found) → b ≡ true
 memory_of e found true is fails = refl
 memory_of {X} e found false is fails = let no : Ok found ≡ Err e = fails is in absurd cc
 
@@ -83,7 +91,9 @@ out_of_memory e told is memory = let other : is_memory OutOfMemory ≡ false = s
 
 -- ---- a list whose values are shared one by one
 
-pub shared_more : {X Y : Type 0} (f : X → Y) (shared : List X) (x : X) (y : Y) (before rest all : List Y) → f x ≡ y → before ≡ y ∷ rest → map f shared ++ before ≡ all → map f (shared ++ x ∷ []) ++ rest ≡ all
+pub shared_more : {X Y : Type 0} (f : X → Y) (shared : List X) (x : X) (y : Y)
+    (before rest all : List Y) → f x ≡ y → before ≡ y ∷ rest → map f shared ++ before ≡ all
+    → map f (shared ++ x ∷ []) ++ rest ≡ all
 shared_more {X} {Y} f shared x y before rest all is next so_far =
     ap (λ (ys : List Y). ys ++ rest) (map-append f shared (x ∷ []))
     ∙ append_assoc (map f shared) (f x ∷ []) rest
@@ -91,17 +101,21 @@ shared_more {X} {Y} f shared x y before rest all is next so_far =
     ∙ ap (λ (ys : List Y). map f shared ++ ys) (sym next)
     ∙ so_far
 
-pub shared_all : {X Y : Type 0} (f : X → Y) (shared : List X) (rest all : List Y) → rest ≡ [] → map f shared ++ rest ≡ all → map f shared ≡ all
+pub shared_all : {X Y : Type 0} (f : X → Y) (shared : List X) (rest all : List Y) → rest ≡ []
+    → map f shared ++ rest ≡ all → map f shared ≡ all
 shared_all {X} {Y} f shared rest all none so_far = sym (append-nil (map f shared)) ∙ ap (λ (ys : List Y). map f shared ++ ys) (sym none) ∙ so_far
 
 -- ---- a list, from a place on
 
 -- a list from a place on is what stands there, and the list behind it
-rest_of : {X : Type 0} (xs : List X) (i : ℕ) (x : X) → i < length xs → x ≡ get_or xs i x → drop i xs ≡ x ∷ drop (i + 1) xs
+rest_of : {X : Type 0} (xs : List X) (i : ℕ) (x : X) → i < length xs → x ≡ get_or xs i x → drop i xs
+    ≡ x ∷ drop (i + 1) xs
 rest_of {X} xs i x h is = rw add-one (drop-cons xs i x h ∙ ap (λ (y : X). y ∷ drop (suc i) xs) (sym is))
 
 -- the entry at a place was looked for
-pub past_item : (rs : List Run) (es : List Entry) (i : ℕ) (e : Entry) (key : List ℕ) (n : ℕ) (b : Bool) → repeats rs es ≡ repeats rs (drop i es) → i < length es → e ≡ get_or es i e → key ≡ e.user_key → n ≡ e.seqno
+pub past_item : (rs : List Run) (es : List Entry) (i : ℕ) (e : Entry) (key : List ℕ) (n : ℕ)
+    (b : Bool) → repeats rs es ≡ repeats rs (drop i es) → i < length es → e ≡ get_or es i e → key
+    ≡ e.user_key → n ≡ e.seqno
     → Gives (λ (x : Bool). x) (Ok b) (Ok (has_entry (union rs) key n)) → repeats rs es ≡ (b || repeats rs (drop (i + 1) es))
 past_item rs es i e key n b so_far h is key_is number_is has =
     let here : has_entry (union rs) key n ≡ b = cc in
@@ -109,7 +123,8 @@ past_item rs es i e key n b so_far h is key_is number_is has =
     so_far ∙ ap (repeats rs) (rest_of es i e h is) ∙ ap (λ (x : Bool). x || repeats rs (drop (i + 1) es)) there
 
 -- what all entries have, the one at a place has
-pub holds_at : {X : Type 0} (P : X → Type 0) (xs : List X) (i : ℕ) (x : X) → AllByRecursion P xs → i < length xs → x ≡ get_or xs i x → P x
+pub holds_at : {X : Type 0} (P : X → Type 0) (xs : List X) (i : ℕ) (x : X) → AllByRecursion P xs
+    → i < length xs → x ≡ get_or xs i x → P x
 holds_at P [] i x all h is = absurd (omega (arith, h))
 holds_at P (y ∷ ys) zero x all h is = subst P (sym is) all.0
 holds_at P (y ∷ ys) (suc i) x all h is = holds_at P ys i x all.1 (omega (arith, h)) is

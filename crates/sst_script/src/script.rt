@@ -1,15 +1,18 @@
 //! Running a script.
-ghost use Rattle.std.specs.Prelude.{◌≡◌, ◌⊎◌, [], ⊤, ℕ, List, Option, Some, Result, IfOk, IfErr, map};
+ghost use Rattle.std.specs.Prelude.{◌≡◌, ◌⊎◌, [], ⊤, ℕ, List, Option, Some, Result, IfOk, IfErr};
+ghost use Rattle.std.specs.Prelude.{map};
 ghost use Rattle.std.specs.Arc.{arc_value};
 ghost use Rattle.std.specs.Io.BufRead.{strip_last};
 ghost use Rattle.sst_commands.specs.Shown.{ShowsText};
 ghost use Rattle.sst_commands.specs.declared.stop.Stop.TheVariants.{Input, Line, Output};
 ghost use Rattle.sst_commands.specs.declared.stop.Stop.{Stop};
-ghost use Rattle.sst_script.specs.Answering.{LineEnds, PrintEnds, Reports, ScriptEnds, outcome_text, status_of};
+ghost use Rattle.sst_script.specs.Answering.{LineEnds, PrintEnds, Reports, ScriptEnds};
+ghost use Rattle.sst_script.specs.Answering.{outcome_text, status_of};
 ghost use Rattle.sst_script.specs.Lines.{ReadsLine};
 ghost use Rattle.sst_script.specs.Runs.{ForRuns, HasRuns};
 ghost use Rattle.lsm_compactions.specs.Compacted.{AreCompactable};
-ghost use Rattle.sst_script.specs.Script.{store, kept_by, CompactsRuns, Executes, PacksRuns, WritesTable};
+ghost use Rattle.sst_script.specs.Script.{store, kept_by, CompactsRuns, Executes, PacksRuns};
+ghost use Rattle.sst_script.specs.Script.{WritesTable};
 
 use crate::pending::{Pending, TARGET_SIZE};
 use crate::runs::{is_repeated, newest_answer, newest_entries, share_all};
@@ -27,13 +30,14 @@ use std::io::{BufRead, BufReader, Read, Write};
 use std::sync::Arc;
 use std::{io, mem};
 
-/// Runs the script that `input` gives, line by line, and answers the status: 0, or 2 where the script ends before its last
-/// line.
+/// Runs the script that `input` gives, line by line, and answers the status: 0, or 2 where the
+/// script ends before its last line.
 ///
-/// Answers go to `output`, each before the next line is read. A command that is refused prints `refused` and the refusal's
-/// number, and the script goes on. A line that is none of a script's ends it with `sst: line` and the line's number on
-/// `errors`, failing input, also want of memory for it, with `sst: input`, and failing output with `sst: output`. Whether
-/// `errors` takes that is passed over, and it is given nothing else. What was answered before the script ended stays in
+/// Answers go to `output`, each before the next line is read. A command that is refused prints
+/// `refused` and the refusal's number, and the script goes on. A line that is none of a script's
+/// ends it with `sst: line` and the line's number on `errors`, failing input, also want of memory
+/// for it, with `sst: input`, and failing output with `sst: output`. Whether `errors` takes that is
+/// passed over, and it is given nothing else. What was answered before the script ended stays in
 /// `output`.
 pub fn run_script<A: Allocator + Clone, R: Read + Drop, W: Write, E: Write>(
     alloc: A,
@@ -215,8 +219,9 @@ impl<A: Allocator + Clone> Script<A> {
         }
     }
 
-    // Writes the pending entries as a run, and answers how many tables it has. Where it is refused, the runs and the next id
-    // stay. What is left of the pending entries is for the caller to clear.
+    // Writes the pending entries as a run, and answers how many tables it has. Where it is refused,
+    // the runs and the next id stay. What is left of the pending entries is for the caller to
+    // clear.
     fn write_table(&mut self) -> Result<u64, Failure>
         requires { AreCompactable (map arc_value self.old.runs.items) }
         ensures able { AreCompactable (map arc_value self.new.runs.items) }
@@ -243,8 +248,8 @@ impl<A: Allocator + Clone> Script<A> {
         Ok(count)
     }
 
-    // Puts the run of what is kept of all runs in the place of them, or none where nothing is kept, and answers how many tables
-    // it has. Where it is refused, the runs and the next id stay.
+    // Puts the run of what is kept of all runs in the place of them, or none where nothing is kept,
+    // and answers how many tables it has. Where it is refused, the runs and the next id stay.
     fn compact(&mut self, watermark: SeqNo, evict: bool, zero: bool) -> Result<u64, Failure>
         requires { AreCompactable (map arc_value self.old.runs.items) }
         ensures able { AreCompactable (map arc_value self.new.runs.items) }
@@ -280,8 +285,8 @@ impl<A: Allocator + Clone> Script<A> {
         Ok(tables)
     }
 
-    // Puts the tables of all runs in the fewest runs, and answers how many these are. Refused for want of memory alone; the
-    // runs stay then.
+    // Puts the tables of all runs in the fewest runs, and answers how many these are. Refused for
+    // want of memory alone; the runs stay then.
     fn pack(&mut self) -> Result<u64, Failure>
         requires { AreCompactable (map arc_value self.old.runs.items) }
         ensures able { AreCompactable (map arc_value self.new.runs.items) }

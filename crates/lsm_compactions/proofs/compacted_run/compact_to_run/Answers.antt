@@ -12,7 +12,8 @@ use Rattle.lsm_writers.proofs.Refused.{memory_alone}
 use Rattle.lsm_compactions.specs.Chain.{run_label, tables_fault, writes_fault}
 use Rattle.lsm_compactions.specs.Compacted.{kept_in}
 use Rattle.lsm_runs.specs.SeveralRuns.{union_in}
-use Rattle.lsm_compactions.proofs.CompactedBack.{as_written, compactable_again, fits_by, new_fault, small_numbers}
+use Rattle.lsm_compactions.proofs.CompactedBack.{as_written, compactable_again, fits_by, new_fault}
+use Rattle.lsm_compactions.proofs.CompactedBack.{small_numbers}
 use Rattle.lsm_compactions.proofs.Keeping.{stays_writable}
 use Rattle.lsm_writers.proofs.Refused.{faults_memory}
 use Rattle.lsm_compactions.proofs.RunWriting.{wants}

@@ -13,7 +13,8 @@ returns-in_err-read_run-in-Some-clause-taken g c fits small =
     let r = c.from_residual-in_err-read_run-in-Some in
     wants r.result c.in_err-read_run-in-Some.field-0.0 r.ensures.1 (c.in_err-read_run-in-Some.ensures.taken a.items.items a.global_seqno is)
 
-pub returns-in_err-read_run-in-Some-clause-refused : goal.returns-in_err-read_run-in-Some-clause-refused
+pub returns-in_err-read_run-in-Some-clause-refused :
+    goal.returns-in_err-read_run-in-Some-clause-refused
 returns-in_err-read_run-in-Some-clause-refused g c =
     let a = c.args in
     let is = rw c.in-Some.is at c.in_ok-run.ensures.run in
@@ -34,7 +35,8 @@ returns-in_ok-read_run-in-Some-clause-none g c =
     let cut = rw c.in-Some.is at c.in_ok-run.ensures.cut in
     some_listed _ _ c.args.items.items c.args.global_seqno c.in-Some.run' h cut
 
-pub returns-in_ok-read_run-in-Some-clause-refused : goal.returns-in_ok-read_run-in-Some-clause-refused
+pub returns-in_ok-read_run-in-Some-clause-refused :
+    goal.returns-in_ok-read_run-in-Some-clause-refused
 returns-in_ok-read_run-in-Some-clause-refused g c =
     let a = c.args in
     sym (ap (λ (o : Option ℕ). chain_fault o a.target_size 0 a.items.items a.global_seqno) c.new-ids.ensures)

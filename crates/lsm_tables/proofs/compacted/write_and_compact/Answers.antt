@@ -1,7 +1,9 @@
 use Rattle.std.proofs.Common.{◌∙◌, ap, sym, subst, ℕ, length}
 use Rattle.std.specs.Prelude.{Option}
 use Rattle.lsm_compactions.specs.Chain.{FitsAsTables, both_fault, ids_behind}
-use Rattle.lsm_compactions.proofs.CompactedBack.{first_refused, fits_behind, none_refused, small_numbers, then_refused, written_run_is_compactable}
+use Rattle.lsm_compactions.proofs.CompactedBack.{first_refused, fits_behind, none_refused}
+use Rattle.lsm_compactions.proofs.CompactedBack.{small_numbers, then_refused}
+use Rattle.lsm_compactions.proofs.CompactedBack.{written_run_is_compactable}
 use Rattle.lsm_block_indexes.proofs.OnDemands.{none_of}
 use Rattle.lsm_compactions.proofs.RunWriting.{wants}
 use Rattle.lsm_sorted.specs.Compaction.{kept, unfiltered}

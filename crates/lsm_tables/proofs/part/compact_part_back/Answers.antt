@@ -4,7 +4,8 @@ use Rattle.sst_entries.specs.declared.error.Error.TheVariants.{OutOfMemory}
 use Rattle.lsm_compactions.specs.Chain.{tables_fault}
 use Rattle.lsm_compactions.specs.Compacted.{kept_in}
 use Rattle.lsm_runs.proofs.OneList.{beside_ok}
-use Rattle.lsm_tables.proofs.Beside.{beside_errs, beside_faults, beside_former, beside_later, beside_tied}
+use Rattle.lsm_tables.proofs.Beside.{beside_errs, beside_faults, beside_former, beside_later}
+use Rattle.lsm_tables.proofs.Beside.{beside_tied}
 use Rattle.lsm_tables.proofs.PartRuns.{alike}
 use Rattle.lsm_tables.proofs.part.compact_part_back.Goals as goal
 
