@@ -83,8 +83,8 @@ put_compactable label target es g (Some run) writable is cut = run_compactable l
 -- tables that a new writer has made of a list are tables of the list, and the counter stands behind
 -- them
 pub as_written : {A : Type 0} (ids : Option ℕ) (target moment : ℕ) (es : List Entry)
-    (w : TablesWriting) (fs : List (FinishedTable A)) (left : Option ℕ) → w
-    ≡ new_tables ids target 0 moment → ids_fault ids ≡ None → AreWrittenBy w es fs left
+    (w : TablesWriting) (fs : List (FinishedTable A)) (left : Option ℕ)
+    → w ≡ new_tables ids target 0 moment → ids_fault ids ≡ None → AreWrittenBy w es fs left
     → AreWritten ids target moment es fs left
 as_written ids target moment es w fs left new fine by =
     let n : AreWrittenBy (new_tables ids target 0 moment) es fs left = subst (λ (x : TablesWriting). AreWrittenBy x es fs left) new by in
@@ -98,9 +98,9 @@ as_written ids target moment es w fs left new fine by =
     }
 
 -- what writing a list as tables refuses where there is an id is what the new writer refuses
-pub new_fault : (ids : Option ℕ) (target moment : ℕ) (es : List Entry) (w : TablesWriting) → w
-    ≡ new_tables ids target 0 moment → ids_fault ids ≡ None → tables_fault ids target moment es
-    ≡ writes_fault w es
+pub new_fault : (ids : Option ℕ) (target moment : ℕ) (es : List Entry) (w : TablesWriting)
+    → w ≡ new_tables ids target 0 moment → ids_fault ids ≡ None
+    → tables_fault ids target moment es ≡ writes_fault w es
 new_fault ids target moment es w new fine =
     ap (λ (o : Option Error). option_or o (writes_fault (new_tables ids target 0 moment) es)) fine ∙ ap (λ (x : TablesWriting). writes_fault x es) (sym new)
 
@@ -114,8 +114,8 @@ small_numbers [] h = omega arith
 small_numbers (e ∷ es) h = let rest = small_numbers es h.1 in omega (arith, h.0, rest)
 
 -- a list that fits as tables is taken by a new writer
-pub fits_by : (ids : Option ℕ) (target moment : ℕ) (es : List Entry) (w : TablesWriting) → w
-    ≡ new_tables ids target 0 moment → FitsAsTables ids target es → FitsBy w es
+pub fits_by : (ids : Option ℕ) (target moment : ℕ) (es : List Entry) (w : TablesWriting)
+    → w ≡ new_tables ids target 0 moment → FitsAsTables ids target es → FitsBy w es
 fits_by ids target moment es w new fits =
     let m = new_tables (Some fits.first) target 0 moment in
     let is : w ≡ m = new ∙ ap (λ (o : Option ℕ). new_tables o target 0 moment) fits.first_is in
@@ -126,8 +126,8 @@ fits_by ids target moment es w new fits =
 
 -- the counter behind it is the one behind the tables of its list
 behind_tables : (label : Label) (target : ℕ) (es : List Entry) (run : List OpenTable)
-    (ids : Option ℕ) → AreCutOf label target es 0 run → ids
-    ≡ ids_behind (Some 1) target (length run) → (tables : List (List Entry))
+    (ids : Option ℕ) → AreCutOf label target es 0 run
+    → ids ≡ ids_behind (Some 1) target (length run) → (tables : List (List Entry))
     → AreTables default_options.data_block_size target es tables
     → ids ≡ ids_behind (Some 1) target (length tables)
 behind_tables label target es run ids cut is tables are =
@@ -136,9 +136,10 @@ behind_tables label target es run ids cut is tables are =
 
 -- what fits behind these fits behind it
 pub fits_behind : (label : Label) (target : ℕ) (es xs : List Entry) (run : List OpenTable)
-    (ids : Option ℕ) → AreCutOf label target es 0 run → ids
-    ≡ ids_behind (Some 1) target (length run) → (first : FitsAsTables (Some 1) target es)
-    → FitsAsTables (ids_behind (Some 1) target (length first.tables)) target xs → FitsAsTables ids target xs
+    (ids : Option ℕ) → AreCutOf label target es 0 run
+    → ids ≡ ids_behind (Some 1) target (length run) → (first : FitsAsTables (Some 1) target es)
+    → FitsAsTables (ids_behind (Some 1) target (length first.tables)) target xs
+    → FitsAsTables ids target xs
 fits_behind label target es xs run ids cut is first fits = subst (λ (o : Option ℕ). FitsAsTables o target xs) (sym (behind_tables label target es run ids cut is first.tables first.cut)) fits
 
 -- ---- the first fault of writing a list and what is kept of it
@@ -147,8 +148,8 @@ option_first : (x y : Option Error) → option_or x y ≡ None → x ≡ None
 option_first None y fine = refl
 option_first (Some e) y fine = fine
 
-first_told : (x y z : Option Error) (e : Error) → y ≡ None → option_or x y ≡ Some e → option_or x z
-    ≡ Some e
+first_told : (x y z : Option Error) (e : Error) → y ≡ None → option_or x y ≡ Some e
+    → option_or x z ≡ Some e
 first_told None y z e none told = absurd (let wrong : None ≡ Some e = sym none ∙ told in cc)
 first_told (Some a) y z e none told = told
 

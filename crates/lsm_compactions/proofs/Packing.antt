@@ -39,8 +39,8 @@ list_is t es h = ap entries_among (held_told t es h Unbounded Unbounded ∙ ap o
 pub record Holds (t : OpenTable) : Type 0 where
   pub list : HoldsList t (list_of t)
 
-pub lists_are : (ts : List OpenTable) (ls : List (List Entry)) → HoldLists ts ls → ls
-    ≡ map list_of ts
+pub lists_are : (ts : List OpenTable) (ls : List (List Entry)) → HoldLists ts ls
+    → ls ≡ map list_of ts
 lists_are [] [] h = refl
 lists_are [] (es ∷ ls) h = absurd h
 lists_are (t ∷ ts) [] h = absurd h
@@ -94,16 +94,16 @@ join_lists (t ∷ ts) = ap (λ (xs : List Entry). list_of t ++ xs) (join_lists t
 abbrev pub results_of : List (List (List Entry)) → List (List R)
 results_of lists = map (λ (run : List (List Entry)). ok_results (joined run)) lists
 
-entries_in : (runs : List (List OpenTable)) → all_entries (results_of (lists_of runs))
-    ≡ flat_map list_of (tables_of runs)
+entries_in : (runs : List (List OpenTable))
+    → all_entries (results_of (lists_of runs)) ≡ flat_map list_of (tables_of runs)
 entries_in [] = refl
 entries_in (run ∷ runs) =
     ap (λ (xs : List Entry). xs ++ all_entries (results_of (lists_of runs))) (entries_of (joined (map list_of run)) ∙ join_lists run)
     ∙ ap (λ (xs : List Entry). flat_map list_of run ++ xs) (entries_in runs)
     ∙ sym (flat_map-append list_of run (tables_of runs))
 
-pub union_sorts : (runs : List (List OpenTable)) → union_in (lists_of runs)
-    ≡ sort_entries (flat_map list_of (tables_of runs))
+pub union_sorts : (runs : List (List OpenTable))
+    → union_in (lists_of runs) ≡ sort_entries (flat_map list_of (tables_of runs))
 union_sorts runs = ap sort_entries (entries_in runs)
 
 -- ---- the same tables in other runs
@@ -124,8 +124,8 @@ packed_union runs packed lists h same order union = record {
   union = union (runs_lists_are runs lists h);
 }
 
-count_in : (p : Entry → Bool) (ts : List OpenTable) → count_by p (flat_map list_of ts)
-    ≡ sum_by (λ (t : OpenTable). count_by p (list_of t)) ts
+count_in : (p : Entry → Bool) (ts : List OpenTable)
+    → count_by p (flat_map list_of ts) ≡ sum_by (λ (t : OpenTable). count_by p (list_of t)) ts
 count_in p [] = refl
 count_in p (t ∷ ts) =
     sum_by-append (λ (e : Entry). cond (p e) 1 0) (list_of t) (flat_map list_of ts)

@@ -43,16 +43,16 @@ has k e = key_le k e.user_key && key_le e.user_key k
 has_own : (e : Entry) → has e.user_key e ≡ true
 has_own e = and_from (key_le e.user_key e.user_key) (key_le e.user_key e.user_key) (le_refl e.user_key) (le_refl e.user_key)
 
-taken : (k : List ℕ) (e : Entry) (es : List Entry) → has k e ≡ true → of_key k (e ∷ es)
-    ≡ e ∷ of_key k es
+taken : (k : List ℕ) (e : Entry) (es : List Entry) → has k e ≡ true
+    → of_key k (e ∷ es) ≡ e ∷ of_key k es
 taken k e es h = ap (λ (b : Bool). cond b (e ∷ of_key k es) (of_key k es)) h
 
-left : (k : List ℕ) (e : Entry) (es : List Entry) → has k e ≡ false → of_key k (e ∷ es)
-    ≡ of_key k es
+left : (k : List ℕ) (e : Entry) (es : List Entry) → has k e ≡ false
+    → of_key k (e ∷ es) ≡ of_key k es
 left k e es h = ap (λ (b : Bool). cond b (e ∷ of_key k es) (of_key k es)) h
 
-not_greater : (o p : Ordering) → is_gt (ordering_then o p) ≡ false → is_lt (ordering_reverse o)
-    ≡ false
+not_greater : (o p : Ordering) → is_gt (ordering_then o p) ≡ false
+    → is_lt (ordering_reverse o) ≡ false
 not_greater Less p h = refl
 not_greater Equal p h = refl
 not_greater Greater p h = absurd cc
@@ -82,8 +82,8 @@ not_none : (x : Entry) (xs : List Entry) → x ∷ xs ≡ [] → ⊥
 not_none x xs h = absurd cc
 
 -- the first entries of such lists have one key
-first_key : (x y : Entry) (xs ys : List Entry) → Ascends (y ∷ ys) → of_key x.user_key (x ∷ xs)
-    ≡ of_key x.user_key (y ∷ ys) → key_le y.user_key x.user_key ≡ true
+first_key : (x y : Entry) (xs ys : List Entry) → Ascends (y ∷ ys)
+    → of_key x.user_key (x ∷ xs) ≡ of_key x.user_key (y ∷ ys) → key_le y.user_key x.user_key ≡ true
 first_key x y xs ys up same =
     elim (cases_Bool (key_le y.user_key x.user_key)) [
       | inl e ↦ e
@@ -99,8 +99,8 @@ tail_is : (x y : Entry) (xs ys : List Entry) → x ∷ xs ≡ y ∷ ys → xs �
 tail_is x y xs ys h = cc
 
 rest_same : (x : Entry) (xs ys : List Entry)
-    → ((k : List ℕ) → of_key k (x ∷ xs) ≡ of_key k (x ∷ ys)) → (k : List ℕ) → of_key k xs
-    ≡ of_key k ys
+    → ((k : List ℕ) → of_key k (x ∷ xs) ≡ of_key k (x ∷ ys)) → (k : List ℕ)
+    → of_key k xs ≡ of_key k ys
 rest_same x xs ys same k =
     elim (cases_Bool (has k x)) [
       | inl e ↦ tail_is x x (of_key k xs) (of_key k ys) (sym (taken k x xs e) ∙ same k ∙ taken k x ys e)
@@ -120,8 +120,8 @@ same_sorted (x ∷ xs) (y ∷ ys) up vp same =
     ap (λ (zs : List Entry). x ∷ zs) (same_sorted xs ys up.1 vp.1 (rest_same x xs ys more)) ∙ ap (λ (z : Entry). z ∷ ys) e
 
 -- lists that have the same entries of each key, in the same order
-sorts_alike : (xs ys : List Entry) → ((k : List ℕ) → of_key k xs ≡ of_key k ys) → sort_entries xs
-    ≡ sort_entries ys
+sorts_alike : (xs ys : List Entry) → ((k : List ℕ) → of_key k xs ≡ of_key k ys)
+    → sort_entries xs ≡ sort_entries ys
 sorts_alike xs ys same =
     same_sorted (sort_entries xs) (sort_entries ys) (ascends_in_order xs) (ascends_in_order ys)
     (λ k. within_sorted (Included k) (Included k) xs ∙ ap sort_entries (same k) ∙ sym (within_sorted (Included k) (Included k) ys))

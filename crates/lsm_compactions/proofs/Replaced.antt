@@ -42,12 +42,12 @@ union_count lists p = (merged_union (map (λ (run : List (List Entry)). ok_resul
 
 module _ (rules : Rules) (part rest before after : List (List (List Entry)))
     (h : AreReplaced rules part rest before after) where
-  pub count_had : (p : Entry → Bool) → count_by p (union_in before)
-      ≡ count_by p (union_in part) + count_by p (union_in rest)
+  pub count_had : (p : Entry → Bool)
+      → count_by p (union_in before) ≡ count_by p (union_in part) + count_by p (union_in rest)
   count_had p = omega (arith, union_count before p, h.had.count p, count_join p (joined_in part) (joined_in rest), union_count part p, union_count rest p)
 
-  pub count_has : (p : Entry → Bool) → count_by p (union_in after)
-      ≡ count_by p (kept_in rules part) + count_by p (union_in rest)
+  pub count_has : (p : Entry → Bool)
+      → count_by p (union_in after) ≡ count_by p (kept_in rules part) + count_by p (union_in rest)
   count_has p = omega (arith, union_count after p, h.has.count p, count_join p (kept_in rules part) (joined_in rest), union_count rest p)
 
   once_had : OnceIn (union_in part) (union_in rest)

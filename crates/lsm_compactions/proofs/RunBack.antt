@@ -21,6 +21,7 @@ use Rattle.lsm_runs.specs.RunLists.{RunsHoldLists}
 use Rattle.lsm_runs.specs.SeveralRuns.{union_in}
 use Rattle.lsm_runs.proofs.Rising.{ascends_of, run_strict}
 use Rattle.lsm_runs.proofs.Unions.{before_all, entries_of}
+use Rattle.lsm_runs.proofs.RunReads.{found_is}
 
 -- sorting leaves a sorted list as it is
 sorted_same : (es : List Entry) → Ascends es → sort_entries es ≡ es
@@ -32,9 +33,6 @@ one_run : (ls : List (List Entry)) (es : List Entry) → joined ls ≡ es → As
     → union_in (ls ∷ []) ≡ es
 one_run ls es whole up =
     ap sort_entries (append-nil (entries_among (ok_results (joined ls))) ∙ entries_of (joined ls) ∙ whole) ∙ sorted_same es up
-
-abbrev pub read : Option Entry → Result (Option Entry) Error
-read found = Ok found
 
 module _ (es : List Entry) (g : ℕ) (run : List OpenTable) (h : IsRunOfList es g run) where
   pub union_is : union_in (h.lists ∷ []) ≡ lift es g
@@ -51,11 +49,11 @@ module _ (es : List Entry) (g : ℕ) (run : List OpenTable) (h : IsRunOfList es 
   reads_back front back key bound low high r = subst (λ (xs : List Entry). IfOk r (ReadsOf front back key bound low high xs)) union_is
 
 -- a read that tells a value is refused for want of memory alone
-pub told_alone : (found : Option Entry) (e : Error) → (is_memory e ≡ false → read found ≡ Err e) → e
-    ≡ OutOfMemory
+pub told_alone : (found : Option Entry) (e : Error) → (is_memory e ≡ false → found_is found ≡ Err e)
+    → e ≡ OutOfMemory
 told_alone found e h = elim (cases_Bool (is_memory e)) [
   | inl memory ↦ memory_is e memory
-  | inr fine ↦ absurd (let wrong : read found ≡ Err e = h fine in cc)
+  | inr fine ↦ absurd (let wrong : found_is found ≡ Err e = h fine in cc)
 ]
 
 -- ---- any tables

@@ -58,8 +58,8 @@ pub no_end : (t : List Entry) (e : Entry) → t ++ e ∷ [] ≡ [] → ⊥
 no_end [] e h = cc
 no_end (x ∷ t) e h = cc
 
-one_more : (ts : List (List Entry)) (t : List Entry) → (t ≡ [] → ⊥) → length (ts ++ rest_chunk t)
-    ≡ length ts + 1
+one_more : (ts : List (List Entry)) (t : List Entry) → (t ≡ [] → ⊥)
+    → length (ts ++ rest_chunk t) ≡ length ts + 1
 one_more ts t some = ap (λ (c : List (List Entry)). length (ts ++ c)) (rest_is t (some_length t some)) ∙ length-append ts (t ∷ [])
 
 pub nothing_last : last_of None [] ≡ None
@@ -92,8 +92,8 @@ pub record Draws (ids : Option ℕ) (target : ℕ) (moment : ℕ) (m : TablesWri
   pub next : m.ids ≡ next_id m.present.label.table_id
   pub stands : Begun first moment m ⊎ Going first target moment m
 
-pub new_draws : (ids : Option ℕ) (target moment : ℕ) (m : TablesWriting) → m
-    ≡ new_tables ids target 0 moment → ids_fault ids ≡ None → Draws ids target moment m
+pub new_draws : (ids : Option ℕ) (target moment : ℕ) (m : TablesWriting)
+    → m ≡ new_tables ids target 0 moment → ids_fault ids ≡ None → Draws ids target moment m
 new_draws None target moment m is fine = absurd cc
 new_draws (Some first) target moment m is fine =
     subst (Draws (Some first) target moment) (sym is) (record { first = first; first_is = refl; target_is = refl; options_are = refl; works = refl; next = refl; stands = inl (refl, refl) })
@@ -129,9 +129,9 @@ module _ (ids : Option ℕ) (target moment : ℕ) (m : TablesWriting) (e : Entry
   more_written w none = no_end (written w) e (sym (written_gained w e) ∙ none)
 
   -- one more entry of the present table
-  open_label : is_due m.target m.present e ≡ false → Begun h.first moment m
-      ⊎ Going h.first target moment m → m.present.label
-      ≡ label_of (first_id target h.first + length m.tables) 0 moment
+  open_label : is_due m.target m.present e ≡ false
+      → Begun h.first moment m ⊎ Going h.first target moment m
+      → m.present.label ≡ label_of (first_id target h.first + length m.tables) 0 moment
   open_label due (inl b) =
       let some : 0 < target = leb-false _ _ (sym (first_due b) ∙ due) in
       let id : h.first ≡ first_id target h.first + length m.tables = omega (arith, first_else target h.first some, ap length b.0) in
@@ -216,8 +216,8 @@ module _ (ids : Option ℕ) (target moment : ℕ) (m : TablesWriting) (h : Draws
     begun_none : Begun h.first moment m → tables_of m ≡ []
     begun_none b = ap (λ (ts : List (List Entry)). ts ++ rest_chunk (written m.present)) b.0 ∙ ap (λ (w : Writing). rest_chunk (written w)) b.1
 
-    behind_run : Begun h.first moment m ⊎ Going h.first target moment m → m.ids
-        ≡ ids_behind ids target (length (tables_of m))
+    behind_run : Begun h.first moment m ⊎ Going h.first target moment m
+        → m.ids ≡ ids_behind ids target (length (tables_of m))
     behind_run (inl b) =
         h.next
         ∙ ap (λ (w : Writing). next_id w.label.table_id) b.1
@@ -255,8 +255,8 @@ module _ (ids : Option ℕ) (target moment : ℕ) (m : TablesWriting) (h : Draws
     }
 
 -- a writer that was just made has written nothing
-pub none_written : (ids : Option ℕ) (target moment : ℕ) (m : TablesWriting) → m
-    ≡ new_tables ids target 0 moment → all_written m ≡ []
+pub none_written : (ids : Option ℕ) (target moment : ℕ) (m : TablesWriting)
+    → m ≡ new_tables ids target 0 moment → all_written m ≡ []
 none_written ids target moment m is = ap all_written is
 
 -- and takes its list whole
@@ -271,15 +271,16 @@ takes_new ids target moment es rest m fits is same h =
     subst (λ (x : List Entry). Takes fits.tables label m x) (sym same) (subst (λ (x : TablesWriting). Takes fits.tables label x es) (sym new) h)
 
 -- a refusal for want of memory that is passed on
-pub wants : {X : Type 0} (r : Result X Error) (e : Error) → IsErrAnd r (λ y. y ≡ e) → e
-    ≡ OutOfMemory → IfErr r (λ x. x ≡ OutOfMemory)
+pub wants : {X : Type 0} (r : Result X Error) (e : Error) → IsErrAnd r (λ y. y ≡ e)
+    → e ≡ OutOfMemory → IfErr r (λ x. x ≡ OutOfMemory)
 wants (Ok x) e is memory = tt
 wants (Err y) e is memory = is ∙ memory
 
 -- ---- opening them
 
-fault_same : (large : Bool) (p : Parts) → cond large (Some GlobalSeqNoTooLarge) None
-    ≡ fault_of (cond large (Err GlobalSeqNoTooLarge) (Ok p))
+fault_same : (large : Bool) (p : Parts)
+    → cond large (Some GlobalSeqNoTooLarge) None ≡ fault_of
+    (cond large (Err GlobalSeqNoTooLarge) (Ok p))
 fault_same true p = refl
 fault_same false p = refl
 
@@ -293,14 +294,14 @@ module _ (es : List Entry) (g : ℕ) (bytes : List ℕ) (t : IsTable bytes es) w
   pub number_passes : (e : Error) → list_told t g true true ≡ Err e → number_fault es g ≡ Some e
   number_passes e told = number_told ∙ ap fault_of told
 
-pub small_number : (es : List Entry) (g : ℕ) → highest_seqno es + g < 2 ^ 64 → number_fault es g
-    ≡ None
+pub small_number : (es : List Entry) (g : ℕ) → highest_seqno es + g < 2 ^ 64
+    → number_fault es g ≡ None
 small_number es g small =
     let low : nat_lt (2 ^ 64 - 1) (highest_seqno es + g) ≡ false = le-ltb _ _ (omega (arith, small)) in
     rw low refl
 
-highest_joined : (xs ys : List Entry) → highest_seqno (xs ++ ys)
-    ≡ max (highest_seqno xs) (highest_seqno ys)
+highest_joined : (xs ys : List Entry)
+    → highest_seqno (xs ++ ys) ≡ max (highest_seqno xs) (highest_seqno ys)
 unfolding highest_seqno
 highest_joined [] ys = omega arith
 highest_joined (x ∷ xs) ys = omega (arith, highest_joined xs ys)
@@ -319,14 +320,14 @@ fault_else m n g small true large = lt-ltb (2 ^ 64 - 1) (max m n + g) (omega (ar
 fault_else m n g small false low = le-ltb (2 ^ 64 - 1) (max m n + g) (omega (arith, ltb-false _ _ small, ltb-false _ _ low))
 
 fault_by : (m n g : ℕ) (b : Bool) → nat_lt (2 ^ 64 - 1) (m + g) ≡ b
-    → cond (nat_lt (2 ^ 64 - 1) (max m n + g)) (Some GlobalSeqNoTooLarge) None
-    ≡ option_or (cond b (Some GlobalSeqNoTooLarge) None)
+    → cond (nat_lt (2 ^ 64 - 1) (max m n + g)) (Some GlobalSeqNoTooLarge) None ≡ option_or
+    (cond b (Some GlobalSeqNoTooLarge) None)
     (cond (nat_lt (2 ^ 64 - 1) (n + g)) (Some GlobalSeqNoTooLarge) None)
 fault_by m n g true large = ap (λ (b : Bool). cond b (Some GlobalSeqNoTooLarge) None) (lt-ltb (2 ^ 64 - 1) (max m n + g) (omega (arith, ltb-true _ _ large)))
 fault_by m n g false small = ap (λ (b : Bool). cond b (Some GlobalSeqNoTooLarge) None) (fault_else m n g small (nat_lt (2 ^ 64 - 1) (n + g)) refl)
 
-number_joined : (xs ys : List Entry) (g : ℕ) → number_fault (xs ++ ys) g
-    ≡ option_or (number_fault xs g) (number_fault ys g)
+number_joined : (xs ys : List Entry) (g : ℕ)
+    → number_fault (xs ++ ys) g ≡ option_or (number_fault xs g) (number_fault ys g)
 number_joined xs ys g =
     ap (λ (n : ℕ). cond (nat_lt (2 ^ 64 - 1) (n + g)) (Some GlobalSeqNoTooLarge) None) (highest_joined xs ys) ∙ fault_by (highest_seqno xs) (highest_seqno ys) g _ refl
 
@@ -448,8 +449,8 @@ all_kept label (es ∷ ls) g (t ∷ ts) h = ((h.0.is.some, h.0.is.table.strict),
 last_max : (e : Entry) (es : List Entry) → (ends_of (e ∷ es)).max ≡ (last_entry (e ∷ es)).user_key
 last_max e es = ap (λ (o : Option Entry). unwrap_or (option_map (λ (x : Entry). x.user_key) o) []) (last_is_some None (e ∷ es) (omega arith))
 
-formed : (e : Entry) (es : List Entry) → IsStrict (e ∷ es) → is_well_formed (ends_of (e ∷ es))
-    ≡ true
+formed : (e : Entry) (es : List Entry) → IsStrict (e ∷ es)
+    → is_well_formed (ends_of (e ∷ es)) ≡ true
 formed e es strict =
     let r = ends_of (e ∷ es) in
     (and_parts (key_le r.min e.user_key) (key_le e.user_key r.max) (keys_within (e ∷ es) strict).0).1
@@ -523,7 +524,7 @@ module _ {A : Type 0} (ids : Option ℕ) (target moment : ℕ) (es : List Entry)
   cut_put None none = tt
   cut_put (Some run) p = subst (AreCutOf the_label target es g) (sym p.0) cut_of
 
-  pub ids_put : (r : Option (List OpenTable)) → IsPut ts r → left
-      ≡ ids_behind ids target (option_map_or length r 0)
+  pub ids_put : (r : Option (List OpenTable)) → IsPut ts r
+      → left ≡ ids_behind ids target (option_map_or length r 0)
   ids_put None none = w.left_is ∙ ap (ids_behind ids target) (many_opened the_label w.lists g ts h ∙ ap length none)
   ids_put (Some run) p = w.left_is ∙ ap (ids_behind ids target) (many_opened the_label w.lists g ts h ∙ ap length (sym p.0))

@@ -128,8 +128,8 @@ module _ {X : Type 0} (f : X → List OpenTable) (xs : List X) (able : AreCompac
 module _ {S T : Type 0} (front back : S → Option R → S → Type 0)
     (next next_back : T → Option R → T → Type 0) where
   all_lists : (lists : List (List (List Entry)))
-      → all_entries (map (λ (run : List (List Entry)). ok_results (joined run)) lists)
-      ≡ joined (map joined lists)
+      → all_entries (map (λ (run : List (List Entry)). ok_results (joined run)) lists) ≡ joined
+      (map joined lists)
   all_lists lists = ap all_entries (sym (map-map (λ (es : List Entry). ok_results es) joined lists)) ∙ entries_joined (map joined lists)
 
   pub merged_together : (lists : List (List (List Entry))) (sources : List S) (t : T)
@@ -155,8 +155,8 @@ module _ {S F C : Type 0} (front : S → Option R → S → Type 0) where
 
   -- and deals, by its own rules
   pub compacted_deals : (next : CompactionStream S F C R → Option R → CompactionStream S F C R
-      → Type 0) (s u : CompactionStream S F C R) (rules : Rules) (xs : List Entry) → source_of s
-      ≡ source_of u → rules_of s ≡ rules
+      → Type 0) (s u : CompactionStream S F C R) (rules : Rules) (xs : List Entry)
+      → source_of s ≡ source_of u → rules_of s ≡ rules
       → ((stops : Error → Bool) → stops OutOfMemory ≡ true → Compacts stops front u (ok_results xs))
       → DealsKept front next s → DealsList next nowhere (kept rules (unfiltered xs)) s
   compacted_deals next s u rules xs same is holds law stops memory =

@@ -158,6 +158,6 @@ distinct_once (x ∷ xs) ys sx sy h key number = elim (cases_Bool (at key number
   | inr other ↦ omega (arith, count_no (at key number) x xs other, distinct_once xs ys sx.1 sy h.1 key number)
 ]
 
-pub count_join : (p : Entry → Bool) (xs ys : List Entry) → count_by p (xs ++ ys)
-    ≡ count_by p xs + count_by p ys
+pub count_join : (p : Entry → Bool) (xs ys : List Entry)
+    → count_by p (xs ++ ys) ≡ count_by p xs + count_by p ys
 count_join p xs ys = sum_by-append (λ (e : Entry). cond (p e) 1 0) xs ys

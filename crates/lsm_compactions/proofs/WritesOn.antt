@@ -82,8 +82,8 @@ module _ {S : Type 0} (next : S → Option R → S → Type 0) where
     fault_one : writes_fault w es ≡ option_or (took_fault m e) (writes_fault (took m e) one.0)
     fault_one = h.fault ∙ ap (writes_fault m) one.1
 
-    pub writes_more : (n : TablesWriting) → n ≡ took m e → took_fault m e ≡ None → all_written n
-        ≡ all_written m ++ e ∷ [] → WritesOn w es n t
+    pub writes_more : (n : TablesWriting) → n ≡ took m e → took_fault m e ≡ None
+        → all_written n ≡ all_written m ++ e ∷ [] → WritesOn w es n t
     writes_more n is fine listed = record {
       rest = one.0;
       whole = whole_one ∙ sym (ap (λ (xs : List Entry). xs ++ one.0) listed ∙ append_assoc (all_written m) (e ∷ []) one.0);

@@ -34,8 +34,8 @@ use Rattle.lsm_compactions.proofs.RunWriting.{no_end, nothing_last, other_label}
 
 -- ---- small facts
 
-one_more : (ts : List (List Entry)) (t : List Entry) → (t ≡ [] → ⊥) → length (ts ++ rest_chunk t)
-    ≡ suc (length ts)
+one_more : (ts : List (List Entry)) (t : List Entry) → (t ≡ [] → ⊥)
+    → length (ts ++ rest_chunk t) ≡ suc (length ts)
 one_more ts t some =
     ap (λ (c : List (List Entry)). length (ts ++ c)) (rest_is t (some_length t some)) ∙ length-append ts (t ∷ [])
     ∙ (let e : length ts + 1 ≡ suc (length ts) = omega arith in e)
@@ -63,8 +63,8 @@ pub record Going (w m : TablesWriting) : Type 0 where
   pub some : written m.present ≡ [] → ⊥
   pub label_is : m.present.label ≡ record w.present.label { table_id = m.present.label.table_id }
   pub ids_are : m.ids ≡ drawn_often (begun_behind w.target (suc (length m.tables))) w.ids
-  pub id_is : RunsOn w → m.present.label.table_id
-      ≡ first_id w.target w.present.label.table_id + length m.tables
+  pub id_is : RunsOn w
+      → m.present.label.table_id ≡ first_id w.target w.present.label.table_id + length m.tables
   pub next : RunsOn w → RunsOn m
 
 pub record Since (w m : TablesWriting) : Type 0 where
@@ -298,8 +298,8 @@ fits_none w es law fresh next writable fits =
 -- ---- the counter behind the tables of a new writer
 
 -- drawing once more gives what is behind the next id, where there is one or not
-drawn_next : (id : ℕ) (b : Bool) → nat_lt id (2 ^ 64 - 1) ≡ b → drawn (next_id id)
-    ≡ next_id (id + 1)
+drawn_next : (id : ℕ) (b : Bool) → nat_lt id (2 ^ 64 - 1) ≡ b
+    → drawn (next_id id) ≡ next_id (id + 1)
 drawn_next id true is = rw is refl
 drawn_next id false is =
     let past : nat_lt (id + 1) (2 ^ 64 - 1) ≡ false = le-ltb _ _ (omega (arith, ltb-false _ _ is)) in
@@ -310,8 +310,8 @@ drawn_all zero id = ap next_id (let k : id ≡ id + 0 = omega arith in k)
 drawn_all (suc n) id =
     ap drawn (drawn_all n id) ∙ drawn_next (id + n) _ refl ∙ ap next_id (let k : id + n + 1 ≡ id + suc n = omega arith in k)
 
-drawn_behind : (target first n : ℕ) → drawn_often (begun_behind target n) (next_id first)
-    ≡ ids_behind (Some first) target n
+drawn_behind : (target first n : ℕ)
+    → drawn_often (begun_behind target n) (next_id first) ≡ ids_behind (Some first) target n
 drawn_behind target first zero = ap (λ (k : ℕ). drawn_often k (next_id first)) (begun_none target)
 drawn_behind target first (suc n) = elim (cases_Bool (target == 0)) [
   | inl e ↦

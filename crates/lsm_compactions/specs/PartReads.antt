@@ -43,5 +43,5 @@ module _ {S : Type 0} (front back : S → Option (Result Entry Error) → S → 
     pub had_read : ReadsOf had before
     pub has_read : ReadsOf has after
     pub same_point : watermark ≤ bound → shown after.0 ≡ shown before.0
-    pub same_range : all_shown (newest (within low high has))
-        ≡ all_shown (newest (within low high had))
+    pub same_range : all_shown (newest (within low high has)) ≡ all_shown
+        (newest (within low high had))

@@ -21,8 +21,8 @@ other_way : (x y : Entry) → is_lt (item_cmp y x) ≡ is_gt (item_cmp x y)
 other_way x y = ap is_lt (item_total.antisymm y x) ∙ lt_reverse (item_cmp x y)
 
 leading_by : (x y z : Entry) (b c : Bool) → is_lt (item_cmp y x) ≡ b → is_lt (item_cmp z y) ≡ c
-    → leading_of (if b then Some y else Some x) (Some z)
-    ≡ leading_of (Some x) (if c then Some z else Some y)
+    → leading_of (if b then Some y else Some x) (Some z) ≡ leading_of (Some x)
+    (if c then Some z else Some y)
 leading_by x y z true true p q =
     let r : is_lt (item_cmp z x) ≡ true = ap is_lt (item_total.trans z y x (less_of (item_cmp z y) q) (less_of (item_cmp y x) p)) in
     ap (λ (t : Bool). if t then Some z else Some y) q ∙ sym (ap (λ (t : Bool). if t then Some z else Some x) r)
@@ -33,13 +33,13 @@ leading_by x y z false false p q =
     let r : is_lt (item_cmp z x) ≡ false = other_way x z ∙ at_most_chain x y z (sym (other_way x y) ∙ p) (sym (other_way y z) ∙ q) in
     ap (λ (t : Bool). if t then Some z else Some x) r ∙ sym (ap (λ (t : Bool). if t then Some y else Some x) p)
 
-leading_none : (x y : Entry) (b : Bool) → leading_of (if b then Some y else Some x) None
-    ≡ (if b then Some y else Some x)
+leading_none : (x y : Entry) (b : Bool)
+    → leading_of (if b then Some y else Some x) None ≡ (if b then Some y else Some x)
 leading_none x y true = refl
 leading_none x y false = refl
 
-pub leading_assoc : (x y z : Option Entry) → leading_of (leading_of x y) z
-    ≡ leading_of x (leading_of y z)
+pub leading_assoc : (x y z : Option Entry)
+    → leading_of (leading_of x y) z ≡ leading_of x (leading_of y z)
 leading_assoc None y z = refl
 leading_assoc (Some x) None z = refl
 leading_assoc (Some x) (Some y) None = leading_none x y (is_lt (item_cmp y x))
@@ -52,13 +52,13 @@ leading_last (Some x) = refl
 -- ---- the first match
 
 module _ (key : List ℕ) (bound : ℕ) where
-  hit_first : (x : Entry) (es : List Entry) → is_hit key bound x ≡ true → point (x ∷ es) key bound
-      ≡ Some x
+  hit_first : (x : Entry) (es : List Entry) → is_hit key bound x ≡ true
+      → point (x ∷ es) key bound ≡ Some x
   unfolding point
   hit_first x es holds = ap (λ (b : Bool). cond b (Some x) (find (is_hit key bound) es)) holds
 
-  hit_later : (x : Entry) (es : List Entry) → is_hit key bound x ≡ false → point (x ∷ es) key bound
-      ≡ point es key bound
+  hit_later : (x : Entry) (es : List Entry) → is_hit key bound x ≡ false
+      → point (x ∷ es) key bound ≡ point es key bound
   unfolding point
   hit_later x es miss = ap (λ (b : Bool). cond b (Some x) (find (is_hit key bound) es)) miss
 

@@ -43,8 +43,8 @@ module _ {A : Type 0} where
     abbrev ReadsPart : Part → Type 0
     ReadsPart p = IfOk r (λ (x : Range A). IsRangeOf p.table p.low p.high x)
 
-    pub reads_end : is_edge span place ≡ true → (low high : Bound (List ℕ)) → low ≡ span.low → high
-        ≡ span.high → IfOk r (IsRangeOf u low high) → Reads
+    pub reads_end : is_edge span place ≡ true → (low high : Bound (List ℕ)) → low ≡ span.low
+        → high ≡ span.high → IfOk r (IsRangeOf u low high) → Reads
     reads_end edge low high from to reads t at =
         let lower : IfOk r (IsRangeOf u span.low high) = subst (λ (b : Bound (List ℕ)). IfOk r (IsRangeOf u b high)) from reads in
         let both : IfOk r (IsRangeOf u span.low span.high) = subst (λ (b : Bound (List ℕ)). IfOk r (IsRangeOf u span.low b)) to lower in

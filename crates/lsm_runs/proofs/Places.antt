@@ -10,14 +10,14 @@ use Rattle.lsm_runs.specs.RunParts.{Part, RunSpan, span_part_at, span_parts_from
 use Rattle.lsm_runs.specs.RunParts.{span_parts_between}
 
 module _ {X : Type 0} where
-  drop_split : (xs : List X) (i : ℕ) (x : X) → slice_get xs i ≡ Some x → drop i xs
-      ≡ x ∷ drop (suc i) xs
+  drop_split : (xs : List X) (i : ℕ) (x : X) → slice_get xs i ≡ Some x
+      → drop i xs ≡ x ∷ drop (suc i) xs
   drop_split [] i x e = absurd cc
   drop_split (y ∷ ys) zero x e = let same : y ≡ x = cc in ap (λ (z : X). z ∷ ys) same
   drop_split (y ∷ ys) (suc i) x e = drop_split ys i x e
 
-  pub take_push : (xs : List X) (i : ℕ) (x : X) → slice_get xs i ≡ Some x → take (suc i) xs
-      ≡ take i xs ++ x ∷ []
+  pub take_push : (xs : List X) (i : ℕ) (x : X) → slice_get xs i ≡ Some x
+      → take (suc i) xs ≡ take i xs ++ x ∷ []
   take_push [] i x e = absurd cc
   take_push (y ∷ ys) zero x e = let same : y ≡ x = cc in ap (λ (z : X). z ∷ []) same
   take_push (y ∷ ys) (suc i) x e = ap (λ (zs : List X). y ∷ zs) (take_push ys i x e)
@@ -49,8 +49,8 @@ module _ {X : Type 0} where
   none_between xs lo hi same = ap (λ (n : ℕ). take n (drop lo xs)) (let e : hi - lo ≡ 0 = omega (arith, same) in e)
 
   -- what stands at a place
-  pub there : (xs : List X) (i : ℕ) (x : X) → i < length xs → x ≡ get_or xs i x → slice_get xs i
-      ≡ Some x
+  pub there : (xs : List X) (i : ℕ) (x : X) → i < length xs → x ≡ get_or xs i x
+      → slice_get xs i ≡ Some x
   there [] i x less is = absurd (omega (arith, less))
   there (y ∷ ys) zero x less is = ap (λ (z : X). Some z) (sym is)
   there (y ∷ ys) (suc i) x less is = there ys i x (omega (arith, less)) is
@@ -65,8 +65,9 @@ module _ {X : Type 0} where
   get_within (x ∷ xs) (suc i) less = get_within xs i (omega (arith, less))
 
 -- the part at a place is that of the table there
-place_of : (s : RunSpan) (k : ℕ) (ts : List OpenTable) (i : ℕ) (t : OpenTable) → slice_get ts i
-    ≡ Some t → slice_get (span_parts_from s k ts) i ≡ Some (span_part_at s (k + i) t)
+place_of : (s : RunSpan) (k : ℕ) (ts : List OpenTable) (i : ℕ) (t : OpenTable)
+    → slice_get ts i ≡ Some t
+    → slice_get (span_parts_from s k ts) i ≡ Some (span_part_at s (k + i) t)
 place_of s k [] i t e = absurd cc
 place_of s k (u ∷ us) zero t e =
     let same : u ≡ t = cc in
@@ -74,8 +75,8 @@ place_of s k (u ∷ us) zero t e =
 place_of s k (u ∷ us) (suc i) t e =
     place_of s (suc k) us i t e ∙ ap (λ (n : ℕ). Some (span_part_at s n t)) (let e : suc k + i ≡ k + suc i = omega arith in e)
 
-pub part_there : (s : RunSpan) (ts : List OpenTable) (i : ℕ) (t : OpenTable) → slice_get ts i
-    ≡ Some t → slice_get (span_parts_from s 0 ts) i ≡ Some (span_part_at s i t)
+pub part_there : (s : RunSpan) (ts : List OpenTable) (i : ℕ) (t : OpenTable)
+    → slice_get ts i ≡ Some t → slice_get (span_parts_from s 0 ts) i ≡ Some (span_part_at s i t)
 part_there s ts i t e = place_of s 0 ts i t e ∙ ap (λ (n : ℕ). Some (span_part_at s n t)) (let e : 0 + i ≡ i = omega arith in e)
 
 -- there is a table at each place
@@ -83,7 +84,7 @@ pub table_at : (ts : List OpenTable) (i : ℕ) → i < length ts → (t : OpenTa
     × (slice_get ts i ≡ Some t)
 table_at ts i less = get_within ts i less
 
-pub many_at : (s : RunSpan) (k : ℕ) (ts : List OpenTable) → length (span_parts_from s k ts)
-    ≡ length ts
+pub many_at : (s : RunSpan) (k : ℕ) (ts : List OpenTable)
+    → length (span_parts_from s k ts) ≡ length ts
 many_at s k [] = refl
 many_at s k (t ∷ ts) = ap suc (many_at s (suc k) ts)

@@ -37,8 +37,9 @@ module _ {A : Type 0} (ts : List OpenTable) (span : RunSpan) (s : RunRange A)
 module _ {A : Type 0} (low high : Bound (List ℕ)) (ts : List OpenTable) (ends : ℕ × ℕ)
     (s : RunRange A) (is : IsRunOf ts (span_of ends low high) s) where
   -- of the tables that were found
-  pub few_found : (found : Option (ℕ × ℕ)) (others : ℕ × ℕ) → found ≡ Some ends → found
-      ≡ Some others → OpensAtMost (RunGives front_of front_tables) (RunGives back_of back_tables)
+  pub few_found : (found : Option (ℕ × ℕ)) (others : ℕ × ℕ) → found ≡ Some ends
+      → found ≡ Some others
+      → OpensAtMost (RunGives front_of front_tables) (RunGives back_of back_tables)
       (others.1 + 1 - others.0) s
   few_found found others told same =
       let one : Some ends ≡ Some others = sym told ∙ same in
@@ -60,8 +61,9 @@ left_deals s es told stops memory =
 module _ {A : Type 0} (low high : Bound (List ℕ)) (ts : List OpenTable) (ls : List (List Entry))
     (h : HoldLists ts ls) (ends : ℕ × ℕ) (s : RunRange A)
     (is : IsRunOf ts (span_of ends low high) s) where
-  pub new_deals : are_in_order (ranges_of ts) ≡ true → overlap_indexes low high (ranges_of ts)
-      ≡ Some ends → DealsList (RunGives front_of front_tables) (RunGives back_of back_tables)
+  pub new_deals : are_in_order (ranges_of ts) ≡ true
+      → overlap_indexes low high (ranges_of ts) ≡ Some ends
+      → DealsList (RunGives front_of front_tables) (RunGives back_of back_tables)
       (within low high (joined ls)) s
   new_deals order found = left_deals s (within low high (joined ls)) (new_left ts (span_of ends low high) s is ∙ span_deals low high ts ls h order ends found)
 

@@ -47,13 +47,13 @@ module _ {A : Type 0} (p : Part) (s : Range A) (is : IsRangeOf p.table p.low p.h
 
 -- ---- tables that are not opened
 
-pub parts_size_push : (ps : List Part) (p : Part) → parts_size (ps ++ p ∷ [])
-    ≡ parts_size ps + part_size p
+pub parts_size_push : (ps : List Part) (p : Part)
+    → parts_size (ps ++ p ∷ []) ≡ parts_size ps + part_size p
 parts_size_push [] p = omega arith
 parts_size_push (q ∷ ps) p = omega (arith, parts_size_push ps p)
 
-pub parts_told_push : (ps : List Part) (p : Part) → run_parts_told (ps ++ p ∷ [])
-    ≡ run_parts_told ps ++ part_told p
+pub parts_told_push : (ps : List Part) (p : Part)
+    → run_parts_told (ps ++ p ∷ []) ≡ run_parts_told ps ++ part_told p
 parts_told_push ps p = flat_map-append part_told ps (p ∷ []) ∙ ap (λ (rs : List R). run_parts_told ps ++ rs) (append-nil (part_told p))
 
 -- where an item stands no further table is needed
@@ -221,8 +221,9 @@ module _ {A : Type 0} where
         exact = λ fine. omega (arith, reached.most, stands (left_of_reader u.front) (tables_needed u.unopened.parts) (some_first (left_of_reader u.front) (Err e) (gives.answer fine)));
       }
 
-  from_back : (u : RunRange A) → run_left u
-      ≡ (left_of_reader u.front ++ run_parts_told u.unopened.parts) ++ left_of_reader u.back
+  from_back : (u : RunRange A)
+      → run_left u ≡ (left_of_reader u.front ++ run_parts_told u.unopened.parts)
+      ++ left_of_reader u.back
   from_back u = sym (append_assoc (left_of_reader u.front) (run_parts_told u.unopened.parts) (left_of_reader u.back))
 
   pub back_item : (s u : RunRange A) (item : R) (b : Option (Range A)) → BackReached s u
@@ -278,13 +279,13 @@ module _ {A : Type 0} where
       }
 
   -- all tables are opened, so one at the other end serves both
-  alone_back : (u : RunRange A) → left_of_reader u.front ≡ [] → u.unopened.parts ≡ [] → run_left u
-      ≡ left_of_reader u.back
+  alone_back : (u : RunRange A) → left_of_reader u.front ≡ [] → u.unopened.parts ≡ []
+      → run_left u ≡ left_of_reader u.back
   alone_back u none ps =
       ap (λ (rs : List R). rs ++ (run_parts_told u.unopened.parts ++ left_of_reader u.back)) none ∙ ap (λ (xs : List Part). run_parts_told xs ++ left_of_reader u.back) ps
 
-  alone_front : (u : RunRange A) → left_of_reader u.back ≡ [] → u.unopened.parts ≡ [] → run_left u
-      ≡ left_of_reader u.front
+  alone_front : (u : RunRange A) → left_of_reader u.back ≡ [] → u.unopened.parts ≡ []
+      → run_left u ≡ left_of_reader u.front
   alone_front u none ps =
       ap (λ (rs : List R). left_of_reader u.front ++ (run_parts_told u.unopened.parts ++ rs)) none
       ∙ ap (λ (xs : List Part). left_of_reader u.front ++ (run_parts_told xs ++ [])) ps

@@ -68,16 +68,16 @@ and_no false = refl
 
 module _ (low high : Bound (List ℕ)) where
   -- it ends before the lower bound
-  all_before : (t : OpenTable) (es : List Entry) → HoldsList t es → ends_before low (range_of t)
-      ≡ true → within low high es ≡ []
+  all_before : (t : OpenTable) (es : List Entry) → HoldsList t es
+      → ends_before low (range_of t) ≡ true → within low high es ≡ []
   all_before t es h e =
       let r = range_of t in
       let out : (is_from low r.max && is_to high r.min) ≡ false = ap (λ (b : Bool). b && is_to high r.min) (not_is (is_from low r.max) e) in
       nothing_within es low high r (held_keys t es h) (none_within r low high (is_from low r.max && is_to high r.min) refl out)
 
   -- it starts past the upper one
-  all_past : (t : OpenTable) (es : List Entry) → HoldsList t es → starts_within high (range_of t)
-      ≡ false → within low high es ≡ []
+  all_past : (t : OpenTable) (es : List Entry) → HoldsList t es
+      → starts_within high (range_of t) ≡ false → within low high es ≡ []
   all_past t es h e =
       let r = range_of t in
       let out : (is_from low r.max && is_to high r.min) ≡ false = ap (λ (b : Bool). is_from low r.max && b) e ∙ and_no (is_from low r.max) in
@@ -97,12 +97,13 @@ module _ (low high : Bound (List ℕ)) where
       ++ within low high ys
   within_join xs ys = filter-append (λ (e : Entry). is_from low e.user_key && is_to high e.user_key) xs ys
 
-  ok_join : (xs ys : List Entry) → ok_results (within low high (xs ++ ys))
-      ≡ ok_results (within low high xs) ++ ok_results (within low high ys)
+  ok_join : (xs ys : List Entry)
+      → ok_results (within low high (xs ++ ys)) ≡ ok_results (within low high xs) ++ ok_results
+      (within low high ys)
   ok_join xs ys = ap ok_results (within_join xs ys) ∙ map-append (λ (x : Entry). Ok x) (within low high xs) (within low high ys)
 
-  skip : (es rest : List Entry) → within low high es ≡ [] → within low high (es ++ rest)
-      ≡ within low high rest
+  skip : (es rest : List Entry) → within low high es ≡ []
+      → within low high (es ++ rest) ≡ within low high rest
   skip es rest none = within_join es rest ∙ ap (λ (xs : List Entry). xs ++ within low high rest) none
 
 inside_all : (r : Interval) (es : List Entry) → Keys r es → within Unbounded Unbounded es ≡ es
@@ -113,8 +114,9 @@ inside_all r es keys = all_inside Unbounded Unbounded r es keys refl refl
 module _ (low high : Bound (List ℕ)) where
   -- behind a key that lies past the upper bound
   past_all : (k : List ℕ) (ts : List OpenTable) (ls : List (List Entry)) → HoldLists ts ls
-      → is_to high k ≡ false → list_all (λ (later : Interval). key_lt k later.min) (ranges_of ts)
-      ≡ true → within low high (joined ls) ≡ []
+      → is_to high k ≡ false
+      → list_all (λ (later : Interval). key_lt k later.min) (ranges_of ts) ≡ true
+      → within low high (joined ls) ≡ []
   past_all k [] [] h miss before = refl
   past_all k [] (es ∷ ls) h miss before = absurd h
   past_all k (t ∷ ts) [] h miss before = absurd h
@@ -135,9 +137,10 @@ module _ (low high : Bound (List ℕ)) where
       skip low high es (joined ls) (all_past low high t es h.0 e) ∙ past_all r.max ts ls h.1 miss p.before
 
 -- the first of some tables starts within the upper bound, where one does
-starts_first : (high : Bound (List ℕ)) (m : ℕ) (ts : List OpenTable) → are_in_order (ranges_of ts)
-    ≡ true → suc m ≡ how_many (starts_within high) (ranges_of ts) → (t : OpenTable)
-    × (us : List OpenTable) × (ts ≡ t ∷ us) × (starts_within high (range_of t) ≡ true)
+starts_first : (high : Bound (List ℕ)) (m : ℕ) (ts : List OpenTable)
+    → are_in_order (ranges_of ts) ≡ true → suc m ≡ how_many (starts_within high) (ranges_of ts)
+    → (t : OpenTable) × (us : List OpenTable) × (ts ≡ t ∷ us)
+    × (starts_within high (range_of t) ≡ true)
 starts_first high m [] order many = absurd (omega (arith, many))
 starts_first high m (t ∷ us) order many = elim (cases_Bool (starts_within high (range_of t))) [
   | inl e ↦ (t, us, refl, e)
@@ -198,8 +201,8 @@ module _ (span : RunSpan) where
       ]
     where
       head : (k n : ℕ) (t : OpenTable) (es : List Entry) (ts : List OpenTable) → HoldsList t es
-          → are_in_order (ranges_of (t ∷ ts)) ≡ true → is_from low (range_of t).min ≡ true → n
-          ≡ how_many (starts_within high) (ranges_of ts) → span.last ≡ k + n
+          → are_in_order (ranges_of (t ∷ ts)) ≡ true → is_from low (range_of t).min ≡ true
+          → n ≡ how_many (starts_within high) (ranges_of ts) → span.last ≡ k + n
           → part_told (span_part_at span k t) ≡ ok_results (within low high es)
       head k zero t es ts h order reaches many last =
           at_edge k t es h (or_right (k == span.first) (k == span.last) (eq-eqb k span.last (omega (arith, last))))
@@ -217,9 +220,12 @@ module _ (span : RunSpan) where
 
   -- from the first place of the span on
   firsts : (k m : ℕ) (t : OpenTable) (ts : List OpenTable) (es : List Entry)
-      (ls : List (List Entry)) → HoldLists (t ∷ ts) (es ∷ ls) → are_in_order (ranges_of (t ∷ ts))
-      ≡ true → is_from low (range_of t).max ≡ true
-      → suc m ≡ how_many (starts_within high) (ranges_of (t ∷ ts)) → span.first ≡ k → span.last ≡ k + m → run_parts_told (take (suc m) (span_parts_from span k (t ∷ ts))) ≡ ok_results (within low high (joined (es ∷ ls)))
+      (ls : List (List Entry)) → HoldLists (t ∷ ts) (es ∷ ls)
+      → are_in_order (ranges_of (t ∷ ts)) ≡ true → is_from low (range_of t).max ≡ true
+      → suc m ≡ how_many (starts_within high) (ranges_of (t ∷ ts)) → span.first ≡ k
+      → span.last ≡ k + m
+      → run_parts_told (take (suc m) (span_parts_from span k (t ∷ ts))) ≡ ok_results
+      (within low high (joined (es ∷ ls)))
   firsts k m t ts es ls h order from many begin last =
       let r = range_of t in
       let p = parts r (ranges_of ts) order in
@@ -240,9 +246,11 @@ module _ (span : RunSpan) where
 
   -- tables that end before the lower bound have nothing within
   skips : (n m k : ℕ) (ts : List OpenTable) (ls : List (List Entry)) → HoldLists ts ls
-      → are_in_order (ranges_of ts) ≡ true → n ≡ how_many (ends_before low) (ranges_of ts) → suc m
-      ≡ how_many (starts_within high) (ranges_of (drop n ts))
-      → span.first ≡ k + n → span.last ≡ k + n + m → run_parts_told (take (suc m) (drop n (span_parts_from span k ts))) ≡ ok_results (within low high (joined ls))
+      → are_in_order (ranges_of ts) ≡ true → n ≡ how_many (ends_before low) (ranges_of ts)
+      → suc m ≡ how_many (starts_within high) (ranges_of (drop n ts)) → span.first ≡ k + n
+      → span.last ≡ k + n + m
+      → run_parts_told (take (suc m) (drop n (span_parts_from span k ts))) ≡ ok_results
+      (within low high (joined ls))
   skips n m k [] ls h order before many begin last =
       let none : how_many (starts_within high) (ranges_of (drop n [])) ≡ 0 = ap (λ (i : ℕ). how_many (starts_within high) (ranges_of (drop i []))) before in
       absurd (omega (arith, many, none))
@@ -267,9 +275,9 @@ module _ (span : RunSpan) where
 
 -- where no table reaches past both bounds there is nothing
 nothing_found : (low high : Bound (List ℕ)) (n : ℕ) (ts : List OpenTable) (ls : List (List Entry))
-    → HoldLists ts ls → are_in_order (ranges_of ts) ≡ true → n
-    ≡ how_many (ends_before low) (ranges_of ts) → how_many (starts_within high)
-    (ranges_of (drop n ts)) ≡ 0 → within low high (joined ls) ≡ []
+    → HoldLists ts ls → are_in_order (ranges_of ts) ≡ true
+    → n ≡ how_many (ends_before low) (ranges_of ts)
+    → how_many (starts_within high) (ranges_of (drop n ts)) ≡ 0 → within low high (joined ls) ≡ []
 nothing_found low high n [] [] h order before none = refl
 nothing_found low high n [] (es ∷ ls) h order before none = absurd h
 nothing_found low high n (t ∷ ts) [] h order before none = absurd h
@@ -313,8 +321,8 @@ module _ (low high : Bound (List ℕ)) (ts : List OpenTable) (ls : List (List En
   skipped = how_many (ends_before low) (ranges_of ts)
 
   pub span_deals : (ends : ℕ × ℕ) → overlap_indexes low high (ranges_of ts) ≡ Some ends
-      → run_parts_told (span_parts (span_of ends low high) ts)
-      ≡ ok_results (within low high (joined ls))
+      → run_parts_told (span_parts (span_of ends low high) ts) ≡ ok_results
+      (within low high (joined ls))
   span_deals ends found =
       let c = counted skipped (how_many (starts_within high) (drop skipped (ranges_of ts))) ends found in
       let m = c.0 in

@@ -275,16 +275,16 @@ first_passed (Ok x) e same told early = absurd same
 first_passed (Err f) e same told early = λ g there. early g there ∙ ap (λ (h : Error). Some h) (sym same)
 
 -- the tables' lists, where each has an entry
-held_scan : (t : OpenTable) (es : List Entry) → HoldsList t es → 0 < length es → table_scan t
-    ≡ ok_results es
+held_scan : (t : OpenTable) (es : List Entry) → HoldsList t es → 0 < length es
+    → table_scan t ≡ ok_results es
 held_scan t es h some =
     let pins = h.opened.recovered in
     let stored : 0 < length h.stored = omega (arith, some, ap length h.lifted_is, length-map h.stored (lifted t.global_seqno)) in
     file_told t.bytes h.stored h.table t.global_seqno pins.pin_filter pins.pin_index t.parts h.opened.short pins.told stored ∙ ap ok_results (sym h.lifted_is)
 
 pub held_scans : (ts : List OpenTable) (ls : List (List Entry)) → HoldLists ts ls
-    → AllByRecursion (λ (es : List Entry). 0 < length es) ls → flat_map table_scan ts
-    ≡ ok_results (joined ls)
+    → AllByRecursion (λ (es : List Entry). 0 < length es) ls
+    → flat_map table_scan ts ≡ ok_results (joined ls)
 held_scans [] [] h some = refl
 held_scans [] (es ∷ ls) h some = absurd h
 held_scans (t ∷ ts) [] h some = absurd h
@@ -294,8 +294,8 @@ held_scans (t ∷ ts) (es ∷ ls) h some =
     ∙ sym (map-append (λ (x : Entry). Ok x) es (joined ls))
 
 pub lists_deal : (ts : List OpenTable) (ls : List (List Entry)) → HoldLists ts ls
-    → AllByRecursion (λ (es : List Entry). 0 < length es) ls → (s : RunScan) → run_scan_left s
-    ≡ tables_scan ts → DealsList RunScansNext nowhere (joined ls) s
+    → AllByRecursion (λ (es : List Entry). 0 < length es) ls → (s : RunScan)
+    → run_scan_left s ≡ tables_scan ts → DealsList RunScansNext nowhere (joined ls) s
 lists_deal ts ls h some s left stops memory =
     let values : tables_scan ts ≡ ok_results (joined ls) = ap (λ (rs : List R). up_to_error rs) (held_scans ts ls h some) ∙ all_values (joined ls) in
     deals_values RunScansNext nowhere (λ _. Unit {0}) (λ _. Unit {0}) s (joined ls) (scan_deals s (ok_results (joined ls)) (left ∙ values)) stops memory

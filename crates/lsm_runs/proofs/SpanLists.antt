@@ -39,8 +39,8 @@ module _ (span : RunSpan) where
   ]
 
   told_first : (m k : ℕ) (ts : List OpenTable) (ls : List (List Entry)) → HoldLists ts ls
-      → run_parts_told (take m (span_parts_from span k ts))
-      ≡ ok_results (joined (take m (lists_at span k ls)))
+      → run_parts_told (take m (span_parts_from span k ts)) ≡ ok_results
+      (joined (take m (lists_at span k ls)))
   told_first zero k ts ls h = refl
   told_first (suc m) k [] [] h = refl
   told_first (suc m) k [] (es ∷ ls) h = absurd h
@@ -51,8 +51,8 @@ module _ (span : RunSpan) where
       ∙ sym (map-append (λ (x : Entry). Ok x) (list_at span k es) (joined (take m (lists_at span (suc k) ls))))
 
   pub told_between : (n m k : ℕ) (ts : List OpenTable) (ls : List (List Entry)) → HoldLists ts ls
-      → run_parts_told (take m (drop n (span_parts_from span k ts)))
-      ≡ ok_results (joined (take m (drop n (lists_at span k ls))))
+      → run_parts_told (take m (drop n (span_parts_from span k ts))) ≡ ok_results
+      (joined (take m (drop n (lists_at span k ls))))
   told_between zero m k ts ls h = told_first m k ts ls h
   told_between (suc n) m k [] [] h = told_first m k [] [] h
   told_between (suc n) m k [] (es ∷ ls) h = absurd h

@@ -26,8 +26,8 @@ entries_of [] = refl
 entries_of (e ∷ es) = ap (λ (xs : List Entry). e ∷ xs) (entries_of es)
 
 -- an entry that is at most each of some entries stands before them
-pub before_all : (x : Entry) (ys : List Entry) → AllByRecursion (AtMost x) ys → insert_sorted x ys
-    ≡ x ∷ ys
+pub before_all : (x : Entry) (ys : List Entry) → AllByRecursion (AtMost x) ys
+    → insert_sorted x ys ≡ x ∷ ys
 before_all x [] h = refl
 before_all x (y ∷ ys) h = rw h.0 refl
 
@@ -74,16 +74,16 @@ put_in p x (y ∷ ys) up holds = elim (cases_Bool (is_gt (item_cmp x y))) [
 
 module _ (low high : Bound (List ℕ)) where
   -- sorting and cutting at bounds may be exchanged
-  pub within_sorted : (xs : List Entry) → within low high (sort_entries xs)
-      ≡ sort_entries (within low high xs)
+  pub within_sorted : (xs : List Entry)
+      → within low high (sort_entries xs) ≡ sort_entries (within low high xs)
   within_sorted [] = refl
   within_sorted (x ∷ xs) = elim (cases_Bool (is_from low x.user_key && is_to high x.user_key)) [
     | inl e ↦ put_in _ x (sort_entries xs) (ascends_in_order xs) e ∙ ap (insert_sorted x) (within_sorted xs) ∙ sym (rw e refl)
     | inr e ↦ put_out _ x (sort_entries xs) e ∙ within_sorted xs ∙ sym (rw e refl)
   ]
 
-  pub within_joined : (ls : List (List Entry)) → within low high (joined ls)
-      ≡ joined (map (within low high) ls)
+  pub within_joined : (ls : List (List Entry))
+      → within low high (joined ls) ≡ joined (map (within low high) ls)
   within_joined [] = refl
   within_joined (es ∷ ls) =
       filter-append (λ (e : Entry). is_from low e.user_key && is_to high e.user_key) es (joined ls) ∙ ap (λ (xs : List Entry). within low high es ++ xs) (within_joined ls)

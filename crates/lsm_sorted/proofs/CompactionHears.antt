@@ -113,8 +113,9 @@ module _ {S : Type 0} (front : S → Option R → S → Type 0) where
           (λ xs ys zs d k. drained_end nothing_stops IsSame gets key xs ys zs c b y d (same_first None ys zs k))
 
       pub hears_drained_as : {X Y : Type 0} (s t : Ahead S R) (c d : C) (r : Result X Error)
-          (q : Result Y Error) → refusal q ≡ refusal r → result_stops nothing_stops q
-          ≡ result_stops nothing_stops r → Hearing (failure r) (DrainsIn gets key c r d) s t
+          (q : Result Y Error) → refusal q ≡ refusal r
+          → result_stops nothing_stops q ≡ result_stops nothing_stops r
+          → Hearing (failure r) (DrainsIn gets key c r d) s t
           → Hearing (failure q) (DrainsIn gets key c q d) s t
       hears_drained_as s t c d r q e fine h = hears_as front Front (failure r) (failure q) (DrainsIn gets key c r d) (DrainsIn gets key c q d) _ _ (fails_alike r q fine e) h (λ xs ys k. drains_as nothing_stops IsSame gets key xs ys c d r q e fine k)
 

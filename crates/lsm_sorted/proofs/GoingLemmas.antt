@@ -47,8 +47,8 @@ module _ {T F C : Type 0} (stops : Error → Bool) (Has : T → List R → Type 
       (was : Going s f c u h b) (deals : DealsFirst stops Has u (Some (Ok x)) v)
       (filters : Filters gives gets x h b result k a) where
     -- a turn, from what it is where the filter has told
-    turn_of : (rs : List R) (answer : Option R) (turn : Turn) (d : C) → turned rules result rs
-        ≡ turn → answer ≡ turn.answer → GetsAll gets a turn.reports d
+    turn_of : (rs : List R) (answer : Option R) (turn : Turn) (d : C)
+        → turned rules result rs ≡ turn → answer ≡ turn.answer → GetsAll gets a turn.reports d
         → Turns gives gets rules h b x rs answer k d turn.rest
     turn_of rs answer turn d is e got =
         let known : turned rules (told_by x filters.verdict) rs ≡ turn = ap (λ (o : Result (Option Entry) Error). turned rules o rs) (sym filters.tells) ∙ is in

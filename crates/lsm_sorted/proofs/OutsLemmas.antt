@@ -63,16 +63,17 @@ module _ (rules : Rules) (x : Entry) where
   dropped_of [] e = refl
   dropped_of (k ∷ ks) e = refl
 
-  pub dropped_outs : (js : List JudgedItem) → outs rules (Ok (judged x (Ok drop)) ∷ js)
-      ≡ outs rules js
+  pub dropped_outs : (js : List JudgedItem)
+      → outs rules (Ok (judged x (Ok drop)) ∷ js) ≡ outs rules js
   dropped_outs js = before_joined (outs_of rules) (judged x (Ok drop)) [] refl (λ v h. dropped_of v.versions v.error) (by_key js)
 
-  pub dropped_reported : (js : List JudgedItem) → reported rules (Ok (judged x (Ok drop)) ∷ js)
-      ≡ x ∷ reported rules js
+  pub dropped_reported : (js : List JudgedItem)
+      → reported rules (Ok (judged x (Ok drop)) ∷ js) ≡ x ∷ reported rules js
   dropped_reported js = before_joined (reported_of rules) (judged x (Ok drop)) (x ∷ []) refl (λ v h. refl) (by_key js)
 
-  pub dropped_asked : (js : List JudgedItem) → asked rules (Ok (judged x (Ok drop)) ∷ js)
-      ≡ asked_head (judged x (Ok drop)) ++ asked rules js
+  pub dropped_asked : (js : List JudgedItem)
+      → asked rules (Ok (judged x (Ok drop)) ∷ js) ≡ asked_head
+      (judged x (Ok drop)) ++ asked rules js
   dropped_asked js = before_joined (asked_of rules) (judged x (Ok drop)) (asked_head (judged x (Ok drop))) refl (λ v h. asked_more (judged x (Ok drop)) (heads rules.watermark v.versions)) (by_key js)
 
 -- a version for which the filter answers an error
@@ -83,16 +84,16 @@ module _ (rules : Rules) (x : Entry) (e : Error) where
   failed_of [] o = refl
   failed_of (k ∷ ks) o = refl
 
-  pub failed_outs : (js : List JudgedItem) → outs rules (Ok (judged x (Err e)) ∷ js)
-      ≡ Err e ∷ outs rules js
+  pub failed_outs : (js : List JudgedItem)
+      → outs rules (Ok (judged x (Err e)) ∷ js) ≡ Err e ∷ outs rules js
   failed_outs js = before_joined (outs_of rules) (judged x (Err e)) (Err e ∷ []) refl (λ v h. failed_of v.versions v.error) (by_key js)
 
-  pub failed_reported : (js : List JudgedItem) → reported rules (Ok (judged x (Err e)) ∷ js)
-      ≡ reported rules js
+  pub failed_reported : (js : List JudgedItem)
+      → reported rules (Ok (judged x (Err e)) ∷ js) ≡ reported rules js
   failed_reported js = before_joined (reported_of rules) (judged x (Err e)) [] refl (λ v h. refl) (by_key js)
 
-  pub failed_asked : (js : List JudgedItem) → asked rules (Ok (judged x (Err e)) ∷ js)
-      ≡ asked_head (judged x (Err e)) ++ asked rules js
+  pub failed_asked : (js : List JudgedItem)
+      → asked rules (Ok (judged x (Err e)) ∷ js) ≡ asked_head (judged x (Err e)) ++ asked rules js
   failed_asked js = before_joined (asked_of rules) (judged x (Err e)) (asked_head (judged x (Err e))) refl (λ v h. asked_more (judged x (Err e)) (heads rules.watermark v.versions)) (by_key js)
 
 -- a list that begins with an entry has the versions of its key first
@@ -227,9 +228,9 @@ module _ (key : List ℕ) (js : List JudgedItem) (over : follows_in key js ≡ f
           ∙ sym (ap (λ (zs : List Entry). f true (unfiltered zs)) none)
     ]
 
-    pub close_outs : outs rules (Ok j ∷ (ok_results (unfiltered es) ++ js))
-        ≡ head_given rules (gone rules (first es) (error_in js)) (Ok (Some y))
-        ++ (error_of (error_in js) ++ outs rules (behind_error js))
+    pub close_outs : outs rules (Ok j ∷ (ok_results (unfiltered es) ++ js)) ≡ head_given rules
+        (gone rules (first es) (error_in js))
+        (Ok (Some y)) ++ (error_of (error_in js) ++ outs rules (behind_error js))
     close_outs =
         let rest = concat_by (outs_of rules) (by_key (behind_error js)) in
         ap (concat_by (outs_of rules)) (closes j es its all)

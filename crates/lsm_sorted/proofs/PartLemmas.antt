@@ -310,8 +310,8 @@ module _ (key : List ℕ) (bound : ℕ) where
     ] refl
 
   -- where the second list is newer, it decides
-  newer_later : (xs ys : List Entry) → AllNewer xs ys → (q : Entry) → first_hit ys key bound
-      ≡ Some q → later (first_hit xs key bound) (Some q) ≡ Some q
+  newer_later : (xs ys : List Entry) → AllNewer xs ys → (q : Entry)
+      → first_hit ys key bound ≡ Some q → later (first_hit xs key bound) (Some q) ≡ Some q
   newer_later xs ys newer q ey = elim (first_hit xs key bound) as (λ o. first_hit xs key bound ≡ o → later o (Some q) ≡ Some q) [
     | None ↦ λ ex. refl
     | Some a ↦ λ ex.
@@ -352,8 +352,8 @@ module _ (key : List ℕ) (bound : ℕ) where
 
       past : (rules : Rules) → rules.watermark ≤ bound → (x : Entry) (own rest : List Entry)
           → AllOf x.user_key own → (nat_lt x.seqno rules.watermark ≡ true) ⊎ (own ≡ [])
-          → is_hit key bound x ≡ false → first_hit (own ++ rest) key bound
-          ≡ first_hit rest key bound
+          → is_hit key bound x ≡ false
+          → first_hit (own ++ rest) key bound ≡ first_hit rest key bound
       past rules reads x own rest all last miss = elim (and_not (same_key x.user_key key) (nat_lt x.seqno bound) miss) [
         | inl other ↦ none_before key bound own rest (none_of_other key x.user_key own all other)
         | inr both ↦ elim last [

@@ -42,8 +42,8 @@ split key (e ∷ es) =
       | false ↦ λ h. record { own = []; rest = e ∷ es; is = refl; all = tt; over = h }
     ] refl
 
-unfiltered_append : (xs ys : List Entry) → ok_results (unfiltered (xs ++ ys))
-    ≡ ok_results (unfiltered xs) ++ ok_results (unfiltered ys)
+unfiltered_append : (xs ys : List Entry)
+    → ok_results (unfiltered (xs ++ ys)) ≡ ok_results (unfiltered xs) ++ ok_results (unfiltered ys)
 unfiltered_append [] ys = refl
 unfiltered_append (x ∷ xs) ys = ap (λ (js : List JudgedItem). Ok (as_is x) ∷ js) (unfiltered_append xs ys)
 
@@ -77,8 +77,8 @@ module _ (rules : Rules) (x : Entry) where
       ∙ ap entries_among (close_outs x.user_key js over rules (as_is x) x refl own refl all last) ∙ listed_alone own (outs rules js)
 
 -- a head that goes is a tombstone
-pub goes_dead : (evict : Bool) (kind : ValueType) (next : Option Entry) → goes evict kind next
-    ≡ true → is_tombstone_kind kind ≡ true
+pub goes_dead : (evict : Bool) (kind : ValueType) (next : Option Entry)
+    → goes evict kind next ≡ true → is_tombstone_kind kind ≡ true
 goes_dead evict Value next h = absurd cc
 goes_dead evict Tombstone next h = refl
 goes_dead evict WeakTombstone next h = refl
@@ -98,8 +98,8 @@ pub none_before : (key : List ℕ) (bound : ℕ) (es rest : List Entry) → None
 none_before key bound [] rest h = refl
 none_before key bound (e ∷ es) rest h = ap (λ (b : Bool). cond (b && nat_lt e.seqno bound) (Some e) (first_hit (es ++ rest) key bound)) h.0 ∙ none_before key bound es rest h.1
 
-pub none_of_other : (key other : List ℕ) (es : List Entry) → AllOf other es → same_key other key
-    ≡ false → NoneOf key es
+pub none_of_other : (key other : List ℕ) (es : List Entry) → AllOf other es
+    → same_key other key ≡ false → NoneOf key es
 none_of_other key other [] all h = tt
 none_of_other key other (e ∷ es) all h = (subst (λ (k : List ℕ). same_key k key ≡ false) (sym all.0) h, none_of_other key other es all.1 h)
 
@@ -110,8 +110,8 @@ above_none key least [] h all = tt
 above_none key least (e ∷ es) h all = (lt_other key e.user_key (lt_le key least e.user_key h all.0), above_none key least es h all.1)
 
 pub rest_none : (key : List ℕ) (es : List Entry) → KeysUp es
-    → AllByRecursion (λ y. KeyLe key y.user_key) es → follows_in key (ok_results (unfiltered es))
-    ≡ false → NoneOf key es
+    → AllByRecursion (λ y. KeyLe key y.user_key) es
+    → follows_in key (ok_results (unfiltered es)) ≡ false → NoneOf key es
 rest_none key [] up all over = tt
 rest_none key (e ∷ es) up all over = (over, above_none key e.user_key es (le_other key e.user_key all.0 over) up.0)
 
@@ -129,8 +129,8 @@ length_rest [] ys n h = h
 length_rest (x ∷ xs) ys n h = length_rest xs ys n (omega arith)
 
 -- a number below both
-pub zero_hit : (a b : Bool) (n bound : ℕ) → nat_lt n bound ≡ true → nat_lt (cond (a && b) 0 n) bound
-    ≡ true
+pub zero_hit : (a b : Bool) (n bound : ℕ) → nat_lt n bound ≡ true
+    → nat_lt (cond (a && b) 0 n) bound ≡ true
 zero_hit a b n bound h = elim (a && b) as (λ t. nat_lt (cond t 0 n) bound ≡ true) [ true ↦ grind (arith, nat_tests) | false ↦ h ]
 
 pub high_same : (a b : Bool) (n : ℕ) → b ≡ false → cond (a && b) 0 n ≡ n
@@ -208,8 +208,8 @@ module _ (rules : Rules) (key : List ℕ) (bound : ℕ) where
           ] ∙ same ∙ sym (seen_miss x (own ++ rest) miss ∙ ap shown past)
 
       -- a reader is served, so it hits the head, or an older version is not of its key
-      closed_past : IsServed rules.watermark (x ∷ (own ++ rest)) key bound → is_hit key bound x
-          ≡ false → Same (x ∷ (own ++ rest))
+      closed_past : IsServed rules.watermark (x ∷ (own ++ rest)) key bound
+          → is_hit key bound x ≡ false → Same (x ∷ (own ++ rest))
       closed_past served miss =
           elim (and_not (same_key x.user_key key) (nat_lt x.seqno bound) miss) [
             | inl other ↦ closed_miss miss (ap (λ (b : Bool). b && nat_lt (zeroed rules x).seqno bound) other) (none_before key bound own rest (none_of_other key x.user_key own all other))

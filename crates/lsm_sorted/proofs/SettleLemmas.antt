@@ -129,8 +129,9 @@ module _ {T C : Type 0} (stops : Error → Bool) (Has : T → List R → Type 0)
         → head_answer rules gone head ≡ head_answer rules (goes rules.evict head.kind None) head
     answer_alone gone e = ap (λ (b : Bool). head_answer rules b head) e
 
-    pub settles_end : (s t : T) (c : C) (gone : Bool) → DealsFirst stops Has s None t → gone
-        ≡ goes rules.evict head.kind None → Settles stops Has gets rules head s c (Ok gone) t c
+    pub settles_end : (s t : T) (c : C) (gone : Bool) → DealsFirst stops Has s None t
+        → gone ≡ goes rules.evict head.kind None
+        → Settles stops Has gets rules head s c (Ok gone) t c
     settles_end s t c gone d e = settles_as s t c c (Ok gone) (λ xs h fine.
         let one = d xs h refl in
         let none : xs ≡ [] = none_first xs one.0 in
@@ -179,16 +180,16 @@ module _ {T C : Type 0} (stops : Error → Bool) (Has : T → List R → Type 0)
     module _ (s v t : T) (c b d : C) (x : Entry) (deals : DealsFirst stops Has s (Some (Ok x)) v)
         (same : same_key x.user_key head.user_key ≡ true)
         (low : nat_lt head.seqno rules.watermark ≡ true) (got : gets c x b) where
-      closing : (xs : List R) → Some (Ok x) ≡ first xs → settled rules head xs
-          ≡ close rules head (x ∷ of_key head.user_key (but_first xs))
+      closing : (xs : List R) → Some (Ok x) ≡ first xs
+          → settled rules head xs ≡ close rules head (x ∷ of_key head.user_key (but_first xs))
           (after_key head.user_key (but_first xs))
       closing xs e =
           ap (settled rules head) (from_first xs (Ok x) e) ∙ ap (λ (b : Bool). settled_if b (nat_lt head.seqno rules.watermark) x (but_first xs)) same ∙ ap (λ (b : Bool). settled_if true b x (but_first xs)) low
 
       pub settles_close : {X : Type 0} (y : X) (gone : Bool)
-          → DrainsKey stops Has gets head.user_key v b (Ok y) t d → gone
-          ≡ goes rules.evict head.kind (Some x) → Settles stops Has gets rules head s c
-          (Ok gone) t d
+          → DrainsKey stops Has gets head.user_key v b (Ok y) t d
+          → gone ≡ goes rules.evict head.kind (Some x)
+          → Settles stops Has gets rules head s c (Ok gone) t d
       settles_close y gone drains e = settles_as s t c d (Ok gone) (λ xs h fine.
           let one = deals xs h refl in
           let k = drains.at (but_first xs) one.1 refl in

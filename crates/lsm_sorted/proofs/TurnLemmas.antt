@@ -40,14 +40,14 @@ pub record Explained (P : Judged → Type 0) (rules : Rules) (j : Judged) (rs : 
   pub asks : asked rules js ≡ asked_head j ++ asked rules js'
   pub each : P j → EachJudged P js' → EachJudged P js
 
-follows_items : (key : List ℕ) (js : List JudgedItem) → key_follows key (items js)
-    ≡ follows_in key js
+follows_items : (key : List ℕ) (js : List JudgedItem)
+    → key_follows key (items js) ≡ follows_in key js
 follows_items key [] = refl
 follows_items key (Ok k ∷ js) = refl
 follows_items key (Err e ∷ js) = refl
 
-items_append : (es : List Entry) (js : List JudgedItem) → items (ok_results (unfiltered es) ++ js)
-    ≡ ok_results es ++ items js
+items_append : (es : List Entry) (js : List JudgedItem)
+    → items (ok_results (unfiltered es) ++ js) ≡ ok_results es ++ items js
 items_append [] js = refl
 items_append (e ∷ es) js = ap (λ (rs : List R). Ok e ∷ rs) (items_append es js)
 

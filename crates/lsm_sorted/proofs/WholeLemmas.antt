@@ -84,8 +84,8 @@ module _ {F C : Type 0} (gets : C → Entry → C → Type 0) (rules : Rules) wh
   asks_keep x v f g asks = elim (is_tombstone_kind x.kind) as (λ b. AsksIf {F = F} KeepsAll (not b) f x v g → v ≡ Ok keep) [ true ↦ λ a. a.0 | false ↦ λ a. a ] asks
 
   turn_keeps : (f g : F) (c d : C) (x : Entry) (rs zs : List R) (r : Option R)
-      → Turns KeepsAll gets rules f c x rs r g d zs → outs rules (as_they_are (Ok x ∷ rs))
-      ≡ listed r ++ outs rules (as_they_are zs)
+      → Turns KeepsAll gets rules f c x rs r g d zs
+      → outs rules (as_they_are (Ok x ∷ rs)) ≡ listed r ++ outs rules (as_they_are zs)
   turn_keeps f g c d x rs zs r t =
       let v = t.verdict in
       let e = turn_explained IsKept (λ y. refl) rules x v rs (as_they_are zs) (items_as_they_are zs ∙ t.leaves) in
@@ -231,6 +231,6 @@ all_as_they_are [] = refl
 all_as_they_are (e ∷ es) = ap (λ (js : List JudgedItem). Ok (as_is e) ∷ js) (all_as_they_are es)
 
 -- entries without errors, of which a filter keeps all, give what is kept
-pub outs_unfiltered : (rules : Rules) (es : List Entry) → outs rules (as_they_are (ok_results es))
-    ≡ ok_results (kept rules (unfiltered es))
+pub outs_unfiltered : (rules : Rules) (es : List Entry)
+    → outs rules (as_they_are (ok_results es)) ≡ ok_results (kept rules (unfiltered es))
 outs_unfiltered rules es = ap (outs rules) (all_as_they_are es) ∙ outs_kept rules (unfiltered es) (calm_unfiltered es)

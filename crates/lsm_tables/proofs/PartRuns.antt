@@ -21,8 +21,9 @@ use Rattle.lsm_compactions.specs.ReadsCompacted.{PointsStay, RangesStay, SideByS
 use Rattle.lsm_runs.specs.RunLists.{HoldLists, RunsHoldLists}
 use Rattle.lsm_runs.specs.RunParts.{range_of}
 use Rattle.lsm_runs.specs.SeveralRuns.{union_in}
+use Rattle.lsm_runs.proofs.RunReads.{found_is}
 use Rattle.lsm_compactions.proofs.CompactedBack.{lift_zero}
-use Rattle.lsm_compactions.proofs.RunBack.{read, run_held}
+use Rattle.lsm_compactions.proofs.RunBack.{run_held}
 
 -- ---- runs shared behind others
 
@@ -31,8 +32,8 @@ module _ {X Y : Type 0} (f : X → Y) (xs : List X) where
   share_none old = sym (append-nil (map f old))
 
   pub share_next : (i : ℕ) (x y : X) → i < length xs → x ≡ get_or xs i x → (old shared : List X)
-      → map f shared ≡ map f old ++ map f (take i xs) → f y ≡ f x → map f (shared ++ y ∷ [])
-      ≡ map f old ++ map f (take (i + 1) xs)
+      → map f shared ≡ map f old ++ map f (take i xs) → f y ≡ f x
+      → map f (shared ++ y ∷ []) ≡ map f old ++ map f (take (i + 1) xs)
   share_next i x y less is old shared so_far same =
       map-append f shared (y ∷ []) ∙ ap (λ (ys : List Y). ys ++ f y ∷ []) so_far
       ∙ append_assoc (map f old) (map f (take i xs)) (f y ∷ [])
@@ -87,7 +88,7 @@ made_result f items es run (Err e) is alone = tt
 
 -- ---- reads before and after
 
-pub value_found : (told found : Option Entry) → read told ≡ read found → found ≡ told
+pub value_found : (told found : Option Entry) → found_is told ≡ found_is found → found ≡ told
 value_found told found is = cc
 
 pub same_bounds : {S : Type 0} (front back : S → Option (Result Entry Error) → S → Type 0)

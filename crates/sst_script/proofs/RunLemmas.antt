@@ -33,8 +33,9 @@ pub runs_held : (rs : List Run) → RunsHoldLists (run_tables rs) (lists_of rs)
 runs_held [] = tt
 runs_held (r ∷ rs) = ((r.is.order, r.is.hold), runs_held rs)
 
-all_same : (rs : List Run) → map (λ (ls : List (List Entry)). ok_results (joined ls)) (lists_of rs)
-    ≡ map (λ (r : Run). ok_results r.list) rs
+all_same : (rs : List Run)
+    → map (λ (ls : List (List Entry)). ok_results (joined ls)) (lists_of rs) ≡ map
+    (λ (r : Run). ok_results r.list) rs
 all_same [] = refl
 all_same (r ∷ rs) =
     let same : joined r.is.lists ≡ r.list = r.is.whole ∙ lift_zero r.list in
@@ -69,8 +70,8 @@ module _ (rs : List Run) (ts : List (List OpenTable)) (same : run_tables rs ≡ 
 
 -- the first match of a key numbered below the next number tells whether the runs have the number
 pub number_gives : (rs : List Run) (key : List ℕ) (n : ℕ) (found : Option Entry) (b : Bool)
-    → Gives (λ (x : Option Entry). x) (Ok found) (Ok (point (union rs) key (n + 1))) → b
-    ≡ has_number n found → Gives (λ (x : Bool). x) (Ok b) (Ok (has_entry (union rs) key n))
+    → Gives (λ (x : Option Entry). x) (Ok found) (Ok (point (union rs) key (n + 1)))
+    → b ≡ has_number n found → Gives (λ (x : Bool). x) (Ok b) (Ok (has_entry (union rs) key n))
 number_gives rs key n found b told is =
     let first : point (union rs) key (n + 1) ≡ found = cc in
     let has : has_entry (union rs) key n ≡ b = has_entry_found (union rs) key n (ascends_in_order (all_entries (map (λ (r : Run). ok_results r.list) rs))) ∙ ap (has_number n) first ∙ sym is in
@@ -108,15 +109,16 @@ shared_all {X} {Y} f shared rest all none so_far = sym (append-nil (map f shared
 -- ---- a list, from a place on
 
 -- a list from a place on is what stands there, and the list behind it
-rest_of : {X : Type 0} (xs : List X) (i : ℕ) (x : X) → i < length xs → x ≡ get_or xs i x → drop i xs
-    ≡ x ∷ drop (i + 1) xs
+rest_of : {X : Type 0} (xs : List X) (i : ℕ) (x : X) → i < length xs → x ≡ get_or xs i x
+    → drop i xs ≡ x ∷ drop (i + 1) xs
 rest_of {X} xs i x h is = rw add-one (drop-cons xs i x h ∙ ap (λ (y : X). y ∷ drop (suc i) xs) (sym is))
 
 -- the entry at a place was looked for
 pub past_item : (rs : List Run) (es : List Entry) (i : ℕ) (e : Entry) (key : List ℕ) (n : ℕ)
-    (b : Bool) → repeats rs es ≡ repeats rs (drop i es) → i < length es → e ≡ get_or es i e → key
-    ≡ e.user_key → n ≡ e.seqno
-    → Gives (λ (x : Bool). x) (Ok b) (Ok (has_entry (union rs) key n)) → repeats rs es ≡ (b || repeats rs (drop (i + 1) es))
+    (b : Bool) → repeats rs es ≡ repeats rs (drop i es) → i < length es → e ≡ get_or es i e
+    → key ≡ e.user_key → n ≡ e.seqno
+    → Gives (λ (x : Bool). x) (Ok b) (Ok (has_entry (union rs) key n))
+    → repeats rs es ≡ (b || repeats rs (drop (i + 1) es))
 past_item rs es i e key n b so_far h is key_is number_is has =
     let here : has_entry (union rs) key n ≡ b = cc in
     let there : has_entry (union rs) e.user_key e.seqno ≡ b = sym (rw (key_is, number_is) refl) ∙ here in
