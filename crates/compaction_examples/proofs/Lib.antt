@@ -1,3 +1,2 @@
-pub mod Compactable
 pub mod StoredTable
 pub mod FilteredStream

@@ -1,16 +1,14 @@
 //! Lists that are written as runs, which are compacted and read.
+use crate::runs::{EVICTING, KEEPING, ZEROING};
 use example_tables::lists::{list_of, read_names};
 use example_tables::rows::Row;
 use example_tables::runs::{ALL, Bounds, Name, is_right, owned_range};
-use lsm_tables::compact_run_back;
+use lsm_tables::{Rules, compact_run_back};
 use refusing::{Refusing, each_refused};
 use sst_blocks::{Error, SeqNo, ValueType};
 use std::alloc::Allocator;
 use std::ops::Bound;
 use std::test::Fail;
-
-// A threshold, whether tombstones are evicted, whether numbers become 0.
-type Rules = (SeqNo, bool, bool);
 
 const VALUES: [Row<'static>; 2] = [
     (b"a", 10, ValueType::Value, b"x"),
@@ -38,8 +36,7 @@ fn read_kept<A: Allocator + Copy>(
 ) -> Result<Option<[Option<Name>; 3]>, Error> {
     let items = list_of(alloc, rows)?;
     let range = owned_range(alloc, bounds)?;
-    let (threshold, evict, zero) = rules;
-    match compact_run_back(alloc, items, 0, threshold, evict, zero, key, seqno, range)? {
+    match compact_run_back(alloc, items, 0, rules, key, seqno, range)? {
         Some(read) => Ok(Some(read_names(alloc, read)?)),
         None => Ok(None),
     }
@@ -51,7 +48,18 @@ fn found_at<A: Allocator + Copy>(
     threshold: SeqNo,
     seqno: SeqNo,
 ) -> Result<Option<Name>, Error> {
-    match read_kept(alloc, &VALUES, (threshold, false, false), b"a", seqno, ALL)? {
+    match read_kept(
+        alloc,
+        &VALUES,
+        Rules {
+            watermark: threshold,
+            evict: false,
+            zeroing: false,
+        },
+        b"a",
+        seqno,
+        ALL,
+    )? {
         Some(names) => Ok(names[0]),
         None => Err(Error::Source(1)),
     }
@@ -77,18 +85,18 @@ fn versions_stay_that_a_reader_may_see(rt: HostRuntime) -> Result<(), Fail> {
 #[test]
 fn a_tombstone_that_is_evicted_leaves_no_run(rt: HostRuntime) -> Result<(), Fail> {
     let alloc = rt.alloc();
-    let evicted = read_kept(alloc, &TOMBSTONE, (5, true, false), b"a", 7, ALL)?;
+    let evicted = read_kept(alloc, &TOMBSTONE, EVICTING, b"a", 7, ALL)?;
     assert!(rt; evicted == None);
-    let stays = read_kept(alloc, &TOMBSTONE, (5, false, false), b"a", 7, ALL)?;
+    let stays = read_kept(alloc, &TOMBSTONE, KEEPING, b"a", 7, ALL)?;
     let name = Some((b'a', 4));
     assert!(rt; stays == Some([name, None, name]));
-    assert!(rt; read_kept(alloc, &[], (5, false, false), b"a", 7, ALL)? == None);
+    assert!(rt; read_kept(alloc, &[], KEEPING, b"a", 7, ALL)? == None);
     Ok(())
 }
 
 #[test]
 fn numbers_below_the_threshold_become_0(rt: HostRuntime) -> Result<(), Fail> {
-    let read = read_kept(rt.alloc(), &THREE_KEYS, (5, false, true), b"b", 1, ALL)?;
+    let read = read_kept(rt.alloc(), &THREE_KEYS, ZEROING, b"b", 1, ALL)?;
     assert!(rt; read == Some([Some((b'b', 0)), Some((b'a', 10)), Some((b'c', 6))]));
     Ok(())
 }
@@ -112,7 +120,7 @@ const WITHIN: &[(Bounds<'static>, [Option<Name>; 2])] = &[
 
 // Whether the reads of what is kept give these ends.
 fn has_ends<A: Allocator + Copy>(alloc: A, bounds: Bounds<'_>, ends: [Option<Name>; 2]) -> bool {
-    let read = read_kept(alloc, &THREE_KEYS, (5, false, true), b"a", 11, bounds);
+    let read = read_kept(alloc, &THREE_KEYS, ZEROING, b"a", 11, bounds);
     read == Ok(Some([Some((b'a', 10)), ends[0], ends[1]]))
 }
 
@@ -129,7 +137,19 @@ fn is_kept_with<A: Allocator + Copy>(alloc: A, key: &[u8]) -> Result<bool, Error
         (b"a", 1, ValueType::Value, b"x"),
         (key, 1, ValueType::Value, b"y"),
     ];
-    Ok(read_kept(alloc, &rows, (0, false, false), b"a", 7, ALL)?.is_some())
+    Ok(read_kept(
+        alloc,
+        &rows,
+        Rules {
+            watermark: 0,
+            evict: false,
+            zeroing: false,
+        },
+        b"a",
+        7,
+        ALL,
+    )?
+    .is_some())
 }
 
 // The refusal of a list with a key of so many bytes.

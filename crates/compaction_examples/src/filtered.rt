@@ -150,8 +150,7 @@ fn compacted<A: Allocator + Copy>(
     finished(writer, reports)
 }
 
-// Tables, opened, of what is left of runs of some lists, each key in one of its own, and what is
-// reported.
+// The tables of what is kept, opened.
 fn compacted_tables<A: Allocator + Copy>(
     alloc: A,
     lists: &[&[Row<'_>]],

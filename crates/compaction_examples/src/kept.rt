@@ -1,6 +1,7 @@
 //! What is kept of runs that are compacted at threshold 5.
-use crate::runs::{Rules, T, V, Version, W, compacted, runs_of, runs_with, scanned};
+use crate::runs::{T, V, Version, W, ZEROING, compacted, runs_of, runs_with, scanned};
 use example_tables::rows::Row;
+use lsm_tables::Rules;
 use sst_blocks::{Error, SeqNo};
 use std::alloc::{Allocator, Global};
 use std::test::Fail;
@@ -54,8 +55,19 @@ fn keeps<A: Allocator + Copy>(
 
 #[test]
 fn versions_that_a_reader_may_see_are_kept_of_one_run(rt: HostRuntime) -> Result<(), Fail> {
-    for (rows, evict, zero, kept) in CASES {
-        assert!(rt; keeps(rt.alloc(), &[rows], (5, evict, zero), kept)?);
+    for (rows, evict, zeroing, kept) in CASES {
+        assert!(rt;
+            keeps(
+                rt.alloc(),
+                &[rows],
+                Rules {
+                    watermark: 5,
+                    evict,
+                    zeroing
+                },
+                kept
+            )?
+        );
     }
     Ok(())
 }
@@ -63,10 +75,21 @@ fn versions_that_a_reader_may_see_are_kept_of_one_run(rt: HostRuntime) -> Result
 // The first row is in one run, the others are in the next.
 #[test]
 fn they_are_kept_of_two_runs(rt: HostRuntime) -> Result<(), Fail> {
-    for (rows, evict, zero, kept) in CASES {
+    for (rows, evict, zeroing, kept) in CASES {
         if rows.len() > 1 {
             let lists = [&rows[..1], &rows[1..]];
-            assert!(rt; keeps(rt.alloc(), &lists, (5, evict, zero), kept)?);
+            assert!(rt;
+                keeps(
+                    rt.alloc(),
+                    &lists,
+                    Rules {
+                        watermark: 5,
+                        evict,
+                        zeroing
+                    },
+                    kept
+                )?
+            );
         }
     }
     Ok(())
@@ -75,7 +98,7 @@ fn they_are_kept_of_two_runs(rt: HostRuntime) -> Result<(), Fail> {
 // What is kept of a@3 in a table with a global number.
 fn kept_lifted(alloc: Global, global_seqno: SeqNo) -> Result<Option<Version>, Error> {
     let runs = runs_with(alloc, &[&[A3]], global_seqno)?;
-    let tables = compacted(alloc, &runs, (5, false, true))?;
+    let tables = compacted(alloc, &runs, ZEROING)?;
     Ok(scanned(alloc, &tables)?.first().copied())
 }
 

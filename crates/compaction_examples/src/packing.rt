@@ -54,8 +54,8 @@ fn have_ids(runs: &[Tables<Global>], ids: &[&[TableId]]) -> bool {
     runs.len() == ids.len() && runs.iter().zip(ids).all(right)
 }
 
-// Some runs, the ids of the tables that go into each packed run, and the places that a chain may
-// have, one behind another.
+// In each: some runs, the ids of the tables that go into each packed run, and the places that a
+// chain may have, one behind another.
 type Packing = (
     &'static [&'static [Ends]],
     &'static [&'static [TableId]],

@@ -4,11 +4,11 @@ ghost use Rattle.std.specs.Arc.{arc_value};
 ghost use Rattle.sst_entries.specs.Stream.{CanDeal};
 ghost use Rattle.lsm_compactions.specs.Compacted.{AreCompactable};
 
-use crate::runs::{Rules, T, V, Version, W, compacted, newest_in, run_of_tables, runs_of};
+use crate::runs::{T, V, Version, W, compacted, newest_in, run_of_tables, runs_of};
 use example_tables::lists::{Stream, read_names};
 use example_tables::rows::Row;
 use example_tables::runs::{ALL, Bounds, Name, Tables, is_right, owned_range};
-use lsm_tables::{compact_part_back, compaction_law, get_runs};
+use lsm_tables::{Rules, compact_part_back, compaction_law, get_runs};
 use lsm_writers::{TableIds, Timestamp};
 use refusing::{Refusing, each_refused};
 use sst_blocks::{Error, InternalValue, SeqNo};
@@ -44,7 +44,17 @@ fn found_around<A: Allocator + Copy>(
 #[test]
 fn a_read_at_the_threshold_and_above_finds_the_same(rt: HostRuntime) -> Result<(), Fail> {
     for (bound, number) in [(11, Some(10)), (10, Some(3)), (7, Some(3)), (5, Some(3))] {
-        let read = found_around(rt.alloc(), &A10_A3, (5, false, false), b"a", bound)?;
+        let read = found_around(
+            rt.alloc(),
+            &A10_A3,
+            Rules {
+                watermark: 5,
+                evict: false,
+                zeroing: false,
+            },
+            b"a",
+            bound,
+        )?;
         assert!(rt; read == [number, number]);
     }
     Ok(())
@@ -71,7 +81,12 @@ const A3: [Row<'static>; 1] = [(b"a", 3, V, b"x")];
 
 // The newest versions where a@6, a tombstone, is compacted beside a@3.
 fn newest_beside_a3<A: Allocator + Copy>(alloc: A, evict: bool) -> Result<Vec<Version, A>, Error> {
-    let runs = part_compacted(alloc, &A6_T, &A3, (7, evict, false))?;
+    let rules = Rules {
+        watermark: 7,
+        evict,
+        zeroing: false,
+    };
+    let runs = part_compacted(alloc, &A6_T, &A3, rules)?;
     newest_in(alloc, &runs)
 }
 
@@ -122,9 +137,8 @@ fn found_around_a_part<A: Allocator + Copy>(
 {
     let (ids, moment) = (TableIds::new(9), Timestamp::from(0));
     let range = owned_range(alloc, bounds)?;
-    let (threshold, evict, zero) = rules;
     let (before, after) = compact_part_back(
-        alloc, front, part, behind, threshold, evict, zero, ids, 0, moment, key, seqno, range,
+        alloc, front, part, behind, rules, ids, 0, moment, key, seqno, range,
     )?;
     let (before, after) = (numbers_of(alloc, before), numbers_of(alloc, after));
     Ok([before?, after?])
@@ -157,11 +171,23 @@ type Around = (
     [[Option<SeqNo>; 3]; 2],
 );
 
-const KEEPING: Rules = (7, false, false);
+const KEEPING: Rules = Rules {
+    watermark: 7,
+    evict: false,
+    zeroing: false,
+};
 
-const EVICTING: Rules = (7, true, false);
+const EVICTING: Rules = Rules {
+    watermark: 7,
+    evict: true,
+    zeroing: false,
+};
 
-const ZEROING: Rules = (7, false, true);
+const ZEROING: Rules = Rules {
+    watermark: 7,
+    evict: false,
+    zeroing: true,
+};
 
 // A range has the newest version of each key, whatever a point read is bounded by.
 const AROUND_A6: &[Around] = &[
@@ -270,7 +296,8 @@ fn seen<A: Allocator + Copy>(
     }
 }
 
-// Whether a reader of some runs sees the same as one of others, of each key at each bound above 6.
+// Whether a reader of some runs sees the same as one of others, of each key at each bound from 7
+// up.
 fn see_the_same<A: Allocator + Copy>(
     runs: &[Tables<A>],
     others: &[Tables<A>],
@@ -304,9 +331,39 @@ fn stays_seen<A: Allocator + Copy>(alloc: A, lists: &Lists, rules: Rules) -> Res
 #[test]
 fn a_compacted_part_shows_the_same_at_the_watermark_and_above(rt: HostRuntime) -> Result<(), Fail> {
     let alloc = rt.alloc();
-    assert!(rt; stays_seen(alloc, &PLAIN, (7, false, false))?);
-    assert!(rt; stays_seen(alloc, &NEWER, (7, true, true))?);
+    assert!(rt;
+        stays_seen(
+            alloc,
+            &PLAIN,
+            Rules {
+                watermark: 7,
+                evict: false,
+                zeroing: false
+            }
+        )?
+    );
+    assert!(rt;
+        stays_seen(
+            alloc,
+            &NEWER,
+            Rules {
+                watermark: 7,
+                evict: true,
+                zeroing: true
+            }
+        )?
+    );
     // Where neither is so it may show what it hid.
-    assert!(rt; !stays_seen(alloc, &HIDDEN, (7, true, false))?);
+    assert!(rt;
+        !stays_seen(
+            alloc,
+            &HIDDEN,
+            Rules {
+                watermark: 7,
+                evict: true,
+                zeroing: false
+            }
+        )?
+    );
     Ok(())
 }

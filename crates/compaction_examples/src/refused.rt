@@ -1,5 +1,5 @@
 //! What making a run refuses where no id is left for a table.
-use crate::runs::{V, runs_of};
+use crate::runs::{KEEPING, V, runs_of};
 use example_tables::rows::Row;
 use example_tables::runs::{ALL, owned_range};
 use lsm_tables::{compact_part_back, compact_to_run};
@@ -27,7 +27,7 @@ fn made<T: Drop>(value: Result<T, Error>) -> Result<(), Error> {
 fn compacted(alloc: Global) -> Result<(), Error> {
     let runs = runs_of(alloc, &[&ROWS])?;
     let moment = Timestamp::from(0);
-    made(compact_to_run(alloc, &runs, 5, false, false, spent(), 0, moment))
+    made(compact_to_run(alloc, &runs, KEEPING, spent(), 0, moment))
 }
 
 fn compacted_in_its_place(alloc: Global) -> Result<(), Error> {
@@ -39,9 +39,7 @@ fn compacted_in_its_place(alloc: Global) -> Result<(), Error> {
         &[],
         &part,
         &[],
-        5,
-        false,
-        false,
+        KEEPING,
         ids,
         0,
         moment,

@@ -4,7 +4,7 @@ ghost use Rattle.std.specs.Arc.{arc_value};
 ghost use Rattle.lsm_readers.specs.Answer.{lift};
 ghost use Rattle.lsm_writers.specs.Writing.{IsWritable};
 ghost use Rattle.lsm_compactions.specs.Compacted.{AreCompactable};
-ghost use Rattle.compaction_examples.specs.Runs.{HasList};
+ghost use Rattle.lsm_compactions.specs.ListRuns.{HasList};
 
 use example_tables::large::add;
 use example_tables::lists::{answers_within, list_of};
@@ -12,7 +12,7 @@ use example_tables::rows::Row;
 use example_tables::runs::{ALL, Tables};
 use example_tables::tables::open;
 use lsm_ranges::Run;
-use lsm_tables::{Table, compact_runs, write_run};
+use lsm_tables::{Rules, Table, compact_runs, write_run};
 use lsm_writers::{FinishedTable, MultiWriter, TableIds, Timestamp, is_writable};
 use sst_blocks::{Direction, Error, InternalValue, SeqNo, ValueType};
 use std::alloc::Allocator;
@@ -27,8 +27,26 @@ pub(crate) const W: ValueType = ValueType::WeakTombstone;
 /// A key of one byte, 0 for any other, a number and a kind.
 pub(crate) type Version = (u8, SeqNo, ValueType);
 
-/// A threshold, whether tombstones are evicted, whether numbers become 0.
-pub(crate) type Rules = (SeqNo, bool, bool);
+/// Threshold 5; tombstones and numbers stay.
+pub(crate) const KEEPING: Rules = Rules {
+    watermark: 5,
+    evict: false,
+    zeroing: false,
+};
+
+/// Threshold 5; tombstones are evicted.
+pub(crate) const EVICTING: Rules = Rules {
+    watermark: 5,
+    evict: true,
+    zeroing: false,
+};
+
+/// Threshold 5; numbers below it become 0.
+pub(crate) const ZEROING: Rules = Rules {
+    watermark: 5,
+    evict: false,
+    zeroing: true,
+};
 
 // An entry with a global number added. `Source(0)` where the sum is too large.
 fn lifted<A: Allocator>(
@@ -106,8 +124,7 @@ pub(crate) fn runs_with<A: Allocator + Copy>(
     }
 }
 
-/// A run of each of some lists, without a global number. `Source(0)` where they cannot be compacted
-/// together.
+/// A run of each of some lists, without a global number.
 pub(crate) fn runs_of<A: Allocator + Copy>(
     alloc: A,
     lists: &[&[Row<'_>]],
@@ -137,9 +154,13 @@ pub(crate) fn compacted<A: Allocator + Copy>(
 ) -> Result<Vec<Table<A>, A>, Error>
     requires { AreCompactable (map arc_value runs.now) }
 {
-    let (threshold, evict, zero) = rules;
+    let Rules {
+        watermark,
+        evict,
+        zeroing,
+    } = rules;
     let writer = MultiWriter::new(alloc, TableIds::new(1), 0, 0, Timestamp::from(0))?;
-    let (tables, _) = compact_runs(alloc, runs, threshold, evict, zero, writer)?;
+    let (tables, _) = compact_runs(alloc, runs, watermark, evict, zeroing, writer)?;
     opened(alloc, tables)
 }
 

@@ -11,7 +11,7 @@ use crate::runs::{V, Version, compacted, newest_in, scanned, version_of};
 use example_tables::runs::{ALL, Tables, owned_range};
 use example_tables::stored::two_levels;
 use lsm_ranges::Run;
-use lsm_tables::{RunReader, Table};
+use lsm_tables::{Rules, RunReader, Table};
 use lsm_writers::{Timestamp, write_list};
 use sst_blocks::{Checksum, Error, InternalValue, Slice};
 use std::alloc::Global;
@@ -137,7 +137,15 @@ fn a_stored_table_and_a_new_one_are_read_as_one_run(rt: HostRuntime) -> Result<(
 // The tables of what is kept of the run at watermark 0.
 fn kept(alloc: Global) -> Result<Vec<Table>, Error> {
     let runs = [run(alloc)?];
-    compacted(alloc, &runs, (0, false, false))
+    compacted(
+        alloc,
+        &runs,
+        Rules {
+            watermark: 0,
+            evict: false,
+            zeroing: false,
+        },
+    )
 }
 
 #[test]

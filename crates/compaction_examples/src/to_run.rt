@@ -4,10 +4,10 @@ ghost use Rattle.std.specs.Arc.{arc_value};
 ghost use Rattle.lsm_compactions.specs.Compacted.{AreCompactable};
 
 use crate::reads::numbers_of;
-use crate::runs::{Rules, T, V, Version, runs_of, scanned};
+use crate::runs::{EVICTING, KEEPING, T, V, Version, runs_of, scanned};
 use example_tables::rows::Row;
 use example_tables::runs::{ALL, Tables, owned_range};
-use lsm_tables::{compact_to_run, read_run};
+use lsm_tables::{Rules, compact_to_run, read_run};
 use lsm_writers::{TableId, TableIds, Timestamp};
 use sst_blocks::{Error, SeqNo};
 use std::alloc::{Allocator, Global};
@@ -36,9 +36,8 @@ fn kept_run(
     requires { AreCompactable (map arc_value runs.now) }
     ensures { IfOk result (λ r. IfSome r.0 (λ run. AreCompactable (arc_value run ∷ []))) }
 {
-    let (threshold, evict, zero) = rules;
     let created_at = Timestamp::from(0);
-    let (run, left) = compact_to_run(alloc, runs, threshold, evict, zero, ids, 0, created_at)?;
+    let (run, left) = compact_to_run(alloc, runs, rules, ids, 0, created_at)?;
     match run {
         Some(run) => Ok((Some(Arc::new(alloc, run)?), left)),
         None => Ok((None, left)),
@@ -63,21 +62,31 @@ fn kept(alloc: Global, run: &Option<Tables<Global>>, mut left: TableIds) -> Resu
     }
 }
 
-// What is kept of a run that is compacted at threshold 10, without tombstones and numbered 0.
+// What is kept of a run that is compacted at threshold 10, without tombstones and under the number
+// 0.
 fn kept_again(alloc: Global, run: Option<Tables<Global>>, ids: TableIds) -> Result<Kept, Error>
     requires { IfSome run (λ run. AreCompactable (arc_value run ∷ [])) }
 {
     let Some(run) = run else {
         return Err(Error::Source(2));
     };
-    let (run, left) = kept_run(alloc, &[run], (10, true, true), ids)?;
+    let (run, left) = kept_run(
+        alloc,
+        &[run],
+        Rules {
+            watermark: 10,
+            evict: true,
+            zeroing: true,
+        },
+        ids,
+    )?;
     kept(alloc, &run, left)
 }
 
 // What is kept of some lists' runs at threshold 5, and of the run of that.
 fn kept_twice(alloc: Global, lists: &[&[Row<'_>]]) -> Result<(Kept, Kept), Error> {
     let runs = runs_of(alloc, lists)?;
-    let (run, ids) = kept_run(alloc, &runs, (5, false, false), TableIds::new(5))?;
+    let (run, ids) = kept_run(alloc, &runs, KEEPING, TableIds::new(5))?;
     let once = kept(alloc, &run, ids)?;
     Ok((once, kept_again(alloc, run, ids)?))
 }
@@ -111,7 +120,7 @@ fn two_runs_become_one_which_is_compacted_again(rt: HostRuntime) -> Result<(), F
 // What is kept of a tombstone's run at threshold 5, where it is evicted.
 fn none_kept(alloc: Global) -> Result<Kept, Error> {
     let runs = runs_of(alloc, &[ONE_TOMBSTONE])?;
-    let (run, left) = kept_run(alloc, &runs, (5, true, false), TableIds::new(5))?;
+    let (run, left) = kept_run(alloc, &runs, EVICTING, TableIds::new(5))?;
     kept(alloc, &run, left)
 }
 
@@ -127,7 +136,7 @@ fn where_nothing_is_kept_there_is_no_run(rt: HostRuntime) -> Result<(), Fail> {
 fn read_kept<A: Allocator + Copy>(alloc: A, seqno: SeqNo) -> Result<[Option<SeqNo>; 3], Error> {
     let runs = runs_of(alloc, &[NEWER, OLDER])?;
     let (ids, moment) = (TableIds::new(5), Timestamp::from(0));
-    let (run, _) = compact_to_run(alloc, &runs, 5, false, false, ids, 0, moment)?;
+    let (run, _) = compact_to_run(alloc, &runs, KEEPING, ids, 0, moment)?;
     match run {
         Some(run) => {
             let range = owned_range(alloc, ALL)?;

@@ -16,3 +16,4 @@ pub mod StaysWritable
 pub mod ShownRanges
 pub mod Compactable
 pub mod CompactedBack
+pub mod ListRuns

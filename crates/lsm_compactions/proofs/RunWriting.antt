@@ -1,19 +1,22 @@
 -- A list that is written as tables, which are opened and stand in order.
-use Rattle.std.proofs.Common.{◌≡◌, refl, sym, ◌∙◌, ap, subst, ℕ, suc, ◌+◌, ◌-◌, ◌^◌, ◌<◌, ◌==◌, Bool, true, false, cond, List, [], ◌∷◌, ◌++◌, length, ◌≢◌, ◌⊎◌, inl, inr, arith, length-append, append-nil, le-ltb, lt-ltb, ltb-false, ltb-true}
-use Rattle.std.specs.Prelude.{Option, Some, None, Result, Ok, Err, IfErr, IfSome, IsErrAnd, MatchOption, map, max, nat_le, nat_lt, unwrap_or}
+use Rattle.std.proofs.Common.{◌≡◌, refl, sym, ◌∙◌, ap, subst, ℕ, suc, ◌+◌, ◌-◌, ◌^◌, ◌<◌, ◌==◌}
+use Rattle.std.proofs.Common.{Bool, true, false, cond, List, [], ◌∷◌, ◌++◌, length, ◌≢◌, ◌⊎◌, inl}
+use Rattle.std.proofs.Common.{inr, arith, length-append, append-nil, le-ltb, lt-ltb, ltb-false}
+use Rattle.std.proofs.Common.{ltb-true}
+use Rattle.std.specs.Prelude.{Option, Some, None, Result, Ok, Err, IfErr, IfSome, IsErrAnd}
+use Rattle.std.specs.Prelude.{MatchOption, map, max, nat_le, nat_lt, unwrap_or}
 use Rattle.std.specs.List.{AllByRecursion, list_all}
 use Rattle.std.specs.Option.{option_map, option_map_or, option_or}
 use Rattle.std.proofs.lemmas.Bool.{cases_Bool, eqb-true, leb-false, leb-true}
 use Rattle.std.proofs.lemmas.List.{map-append, nil_from_length}
 use Rattle.sst_entries.specs.declared.error.Error.{Error}
-use Rattle.sst_entries.specs.declared.error.Error.TheVariants.{GlobalSeqNoTooLarge, OutOfMemory, WriterFailed}
+use Rattle.sst_entries.specs.declared.error.Error.TheVariants.{GlobalSeqNoTooLarge, OutOfMemory}
+use Rattle.sst_entries.specs.declared.error.Error.TheVariants.{WriterFailed}
 use Rattle.sst_entries.specs.Entry.{Entry}
-use Rattle.sst_entries.specs.Error.{Faults, is_memory}
 use Rattle.sst_entries.specs.Key.{key_lt}
 use Rattle.sst_entries.specs.Strict.{IsStrict, last_of}
 use Rattle.sst_entries.proofs.Booleans.{and_both, and_parts}
 use Rattle.sst_entries.proofs.OrderLemmas.{lt_trans}
-use Rattle.sst_entries.proofs.Refusals.{faults_refusal}
 use Rattle.lsm_files.specs.declared.label.Label.{Label}
 use Rattle.lsm_files.specs.declared.options.Options.{Options}
 use Rattle.lsm_files.specs.Chunks.{joined}
@@ -27,8 +30,13 @@ use Rattle.lsm_ranges.proofs.IntervalLemmas.{lt_then_le}
 use Rattle.lsm_ranges.proofs.RunLemmas.{in_order_from}
 use Rattle.lsm_writers.specs.declared.writer.FinishedTable.{FinishedTable}
 use Rattle.lsm_writers.specs.Cut.{rest_chunk}
-use Rattle.lsm_writers.specs.Tables.{AreFinished, AreInKeyOrder, AreTables, IsBelow, TablesWriting, Takes, all_written, drawn, first_id, first_label, ids_fault, is_due, new_tables, next_id, next_label, next_writing, rotated, rotation_fault, standing, tables_of, took, took_fault, turn_fault, with_options}
-use Rattle.lsm_writers.specs.Writing.{IsTableOf, Writing, fresh_writing, gained, write_fault, written}
+use Rattle.lsm_writers.specs.Tables.{AreFinished, AreInKeyOrder, AreTables, IsBelow, TablesWriting}
+use Rattle.lsm_writers.specs.Tables.{Takes, all_written, drawn, first_id, first_label, ids_fault}
+use Rattle.lsm_writers.specs.Tables.{is_due, new_tables, next_id, next_label, next_writing, rotated}
+use Rattle.lsm_writers.specs.Tables.{rotation_fault, standing, tables_of, took, took_fault}
+use Rattle.lsm_writers.specs.Tables.{turn_fault, with_options}
+use Rattle.lsm_writers.specs.Writing.{IsTableOf, Writing, fresh_writing, gained, write_fault}
+use Rattle.lsm_writers.specs.Writing.{written}
 use Rattle.lsm_writers.proofs.Cutting.{last_is_some, rest_is}
 use Rattle.lsm_writers.proofs.ListWriting.{same_label, written_gained}
 use Rattle.lsm_readers.specs.Answer.{lift, lifted}
@@ -37,10 +45,12 @@ use Rattle.lsm_readers.specs.Parts.{Parts}
 use Rattle.lsm_readers.specs.Scan.{fault_of}
 use Rattle.lsm_readers.specs.Table.{OpenTable}
 use Rattle.lsm_readers.proofs.Ends.{keys_within}
-use Rattle.lsm_compactions.specs.Chain.{AreCutOf, AreOpened, AreWritten, FitsAsTables, IsOpenedOf, IsRunOfList, ids_behind, run_label}
+use Rattle.lsm_compactions.specs.Chain.{AreCutOf, AreOpened, AreWritten, FitsAsTables, IsOpenedOf}
+use Rattle.lsm_compactions.specs.Chain.{IsRunOfList, ids_behind, run_label}
 use Rattle.lsm_runs.specs.RunLists.{HoldLists}
 use Rattle.lsm_runs.specs.RunParts.{ranges_of}
 use Rattle.lsm_compactions.specs.Written.{number_fault}
+use Rattle.lsm_compactions.proofs.Opening.{some_length}
 
 -- ---- the ids of a writer of many tables
 
@@ -48,11 +58,8 @@ pub no_end : (t : List Entry) (e : Entry) → t ++ e ∷ [] ≡ [] → ⊥
 no_end [] e h = cc
 no_end (x ∷ t) e h = cc
 
-pub some_length : (es : List Entry) → (es ≡ [] → ⊥) → 0 < length es
-some_length [] some = absurd (some refl)
-some_length (e ∷ es) some = omega arith
-
-one_more : (ts : List (List Entry)) (t : List Entry) → (t ≡ [] → ⊥) → length (ts ++ rest_chunk t) ≡ length ts + 1
+one_more : (ts : List (List Entry)) (t : List Entry) → (t ≡ [] → ⊥)
+    → length (ts ++ rest_chunk t) ≡ length ts + 1
 one_more ts t some = ap (λ (c : List (List Entry)). length (ts ++ c)) (rest_is t (some_length t some)) ∙ length-append ts (t ∷ [])
 
 pub nothing_last : last_of None [] ≡ None
@@ -63,7 +70,8 @@ pub first_is : (fault : Option ℕ) → ids_fault fault ≡ None → (first : �
 first_is None h = absurd cc
 first_is (Some first) h = (first, refl)
 
-pub next_by : (id first : ℕ) (b : Bool) → nat_lt id (2 ^ 64 - 1) ≡ b → next_id id ≡ Some first → first ≡ id + 1
+pub next_by : (id first : ℕ) (b : Bool) → nat_lt id (2 ^ 64 - 1) ≡ b → next_id id ≡ Some first
+    → first ≡ id + 1
 next_by id first true is h = let n : Some (id + 1) ≡ Some first = sym (rw is refl) ∙ h in cc
 next_by id first false is h = let n : None ≡ Some first = sym (rw is refl) ∙ h in absurd cc
 
@@ -84,13 +92,15 @@ pub record Draws (ids : Option ℕ) (target : ℕ) (moment : ℕ) (m : TablesWri
   pub next : m.ids ≡ next_id m.present.label.table_id
   pub stands : Begun first moment m ⊎ Going first target moment m
 
-pub new_draws : (ids : Option ℕ) (target moment : ℕ) (m : TablesWriting) → m ≡ new_tables ids target 0 moment → ids_fault ids ≡ None → Draws ids target moment m
+pub new_draws : (ids : Option ℕ) (target moment : ℕ) (m : TablesWriting)
+    → m ≡ new_tables ids target 0 moment → ids_fault ids ≡ None → Draws ids target moment m
 new_draws None target moment m is fine = absurd cc
 new_draws (Some first) target moment m is fine =
     subst (Draws (Some first) target moment) (sym is) (record { first = first; first_is = refl; target_is = refl; options_are = refl; works = refl; next = refl; stands = inl (refl, refl) })
 
 -- before the first entry a table is due at target 0 alone
-due_fresh : (target : ℕ) (label : Label) (e : Entry) → is_due target (fresh_writing label default_options) e ≡ nat_le target 0
+due_fresh : (target : ℕ) (label : Label) (e : Entry)
+    → is_due target (fresh_writing label default_options) e ≡ nat_le target 0
 due_fresh target label e = rw nothing_last refl
 
 pub first_at : (target first : ℕ) → target ≡ 0 → first_id target first ≡ first + 1
@@ -106,10 +116,12 @@ pub left_none : (a b : Option Error) → option_or a b ≡ None → a ≡ None
 left_none None b h = refl
 left_none (Some x) b h = absurd cc
 
-named : (l : Label) (k id n moment : ℕ) → l ≡ label_of k 0 moment → id ≡ n → record l { table_id = id } ≡ label_of n 0 moment
+named : (l : Label) (k id n moment : ℕ) → l ≡ label_of k 0 moment → id ≡ n
+    → record l { table_id = id } ≡ label_of n 0 moment
 named l k id n moment is same = ap (λ (x : Label). record x { table_id = id }) is ∙ ap (λ (i : ℕ). label_of i 0 moment) same
 
-module _ (ids : Option ℕ) (target moment : ℕ) (m : TablesWriting) (e : Entry) (h : Draws ids target moment m) where
+module _ (ids : Option ℕ) (target moment : ℕ) (m : TablesWriting) (e : Entry)
+    (h : Draws ids target moment m) where
   first_due : Begun h.first moment m → is_due m.target m.present e ≡ nat_le target 0
   first_due b = ap (λ (w : Writing). is_due m.target w e) b.1 ∙ due_fresh m.target (label_of h.first 0 moment) e ∙ ap (λ (t : ℕ). nat_le t 0) h.target_is
 
@@ -117,7 +129,9 @@ module _ (ids : Option ℕ) (target moment : ℕ) (m : TablesWriting) (e : Entry
   more_written w none = no_end (written w) e (sym (written_gained w e) ∙ none)
 
   -- one more entry of the present table
-  open_label : is_due m.target m.present e ≡ false → Begun h.first moment m ⊎ Going h.first target moment m → m.present.label ≡ label_of (first_id target h.first + length m.tables) 0 moment
+  open_label : is_due m.target m.present e ≡ false
+      → Begun h.first moment m ⊎ Going h.first target moment m
+      → m.present.label ≡ label_of (first_id target h.first + length m.tables) 0 moment
   open_label due (inl b) =
       let some : 0 < target = leb-false _ _ (sym (first_due b) ∙ due) in
       let id : h.first ≡ first_id target h.first + length m.tables = omega (arith, first_else target h.first some, ap length b.0) in
@@ -142,7 +156,10 @@ module _ (ids : Option ℕ) (target moment : ℕ) (m : TablesWriting) (e : Entry
       subst (Draws ids target moment) (sym (ap (λ (x : TablesWriting). record x { present = gained x.present e }) same)) made
 
   -- the first entry of the next table
-  due_label : (id : ℕ) → id ≡ m.present.label.table_id + 1 → is_due m.target m.present e ≡ true → Begun h.first moment m ⊎ Going h.first target moment m → record m.present.label { table_id = id } ≡ label_of (first_id target h.first + length (tables_of m)) 0 moment
+  due_label : (id : ℕ) → id ≡ m.present.label.table_id + 1 → is_due m.target m.present e ≡ true
+      → Begun h.first moment m ⊎ Going h.first target moment m
+      → record m.present.label { table_id = id }
+      ≡ label_of (first_id target h.first + length (tables_of m)) 0 moment
   due_label id is due (inl b) =
       let none : target ≡ 0 = omega (arith, leb-true _ _ (sym (first_due b) ∙ due)) in
       let label : m.present.label ≡ label_of h.first 0 moment = ap (λ (w : Writing). w.label) b.1 in
@@ -151,7 +168,8 @@ module _ (ids : Option ℕ) (target moment : ℕ) (m : TablesWriting) (e : Entry
   due_label id is due (inr g) =
       named m.present.label _ id _ moment g.0 (omega (arith, is, ap (λ (l : Label). l.table_id) g.0, one_more m.tables (written m.present) g.1))
 
-  draws_due : is_due m.target m.present e ≡ true → took_fault m e ≡ None → Draws ids target moment (took m e)
+  draws_due : is_due m.target m.present e ≡ true → took_fault m e ≡ None
+      → Draws ids target moment (took m e)
   draws_due due fine =
       let w = m.present in
       let turns : option_or (turn_fault m.target m.ids w e) (write_fault (standing m e).present e) ≡ None =
@@ -186,71 +204,83 @@ module _ (ids : Option ℕ) (target moment : ℕ) (m : TablesWriting) (e : Entry
 
 -- ---- the tables of a writer that has taken its list
 
-pub other_label : {A : Type 0} (options : Options) (k l : Label) (ts : List (List Entry)) (fs : List (FinishedTable A)) → ts ≡ [] → AreFinished options k ts fs → AreFinished options l ts fs
+pub other_label : {A : Type 0} (options : Options) (k l : Label) (ts : List (List Entry))
+    (fs : List (FinishedTable A)) → ts ≡ [] → AreFinished options k ts fs
+    → AreFinished options l ts fs
 other_label options k l [] [] none h = tt
 other_label options k l [] (f ∷ fs) none h = absurd h
 other_label options k l (t ∷ ts) fs none h = absurd cc
 
-module _ (ids : Option ℕ) (target moment : ℕ) (m : TablesWriting) (h : Draws ids target moment m) where
-  begun_none : Begun h.first moment m → tables_of m ≡ []
-  begun_none b = ap (λ (ts : List (List Entry)). ts ++ rest_chunk (written m.present)) b.0 ∙ ap (λ (w : Writing). rest_chunk (written w)) b.1
+module _ (ids : Option ℕ) (target moment : ℕ) (m : TablesWriting) (h : Draws ids target moment m)
+  where
+    begun_none : Begun h.first moment m → tables_of m ≡ []
+    begun_none b = ap (λ (ts : List (List Entry)). ts ++ rest_chunk (written m.present)) b.0 ∙ ap (λ (w : Writing). rest_chunk (written w)) b.1
 
-  behind_run : Begun h.first moment m ⊎ Going h.first target moment m → m.ids ≡ ids_behind ids target (length (tables_of m))
-  behind_run (inl b) =
-      h.next
-      ∙ ap (λ (w : Writing). next_id w.label.table_id) b.1
-      ∙ ap drawn (sym h.first_is)
-      ∙ ap (λ (ts : List (List Entry)). ids_behind ids target (length ts)) (sym (begun_none b))
-  behind_run (inr g) =
-      let more : suc (length m.tables) ≡ length (tables_of m) = omega (arith, one_more m.tables (written m.present) g.1) in
-      h.next
-      ∙ ap (λ (l : Label). next_id l.table_id) g.0
-      ∙ ap (λ (o : Option ℕ). ids_behind o target (suc (length m.tables))) (sym h.first_is)
-      ∙ ap (ids_behind ids target) more
+    behind_run : Begun h.first moment m ⊎ Going h.first target moment m
+        → m.ids ≡ ids_behind ids target (length (tables_of m))
+    behind_run (inl b) =
+        h.next
+        ∙ ap (λ (w : Writing). next_id w.label.table_id) b.1
+        ∙ ap drawn (sym h.first_is)
+        ∙ ap (λ (ts : List (List Entry)). ids_behind ids target (length ts)) (sym (begun_none b))
+    behind_run (inr g) =
+        let more : suc (length m.tables) ≡ length (tables_of m) = omega (arith, one_more m.tables (written m.present) g.1) in
+        h.next
+        ∙ ap (λ (l : Label). next_id l.table_id) g.0
+        ∙ ap (λ (o : Option ℕ). ids_behind o target (suc (length m.tables))) (sym h.first_is)
+        ∙ ap (ids_behind ids target) more
 
-  finished_run : {A : Type 0} (fs : List (FinishedTable A)) → Begun h.first moment m ⊎ Going h.first target moment m → AreFinished default_options (first_label m) (tables_of m) fs → AreFinished default_options (run_label ids target moment) (tables_of m) fs
-  finished_run fs (inl b) f = other_label default_options (first_label m) (run_label ids target moment) (tables_of m) fs (begun_none b) f
-  finished_run fs (inr g) f =
-      let id : (first_label m).table_id ≡ first_id target h.first = omega (arith, ap (λ (l : Label). l.table_id) g.0) in
-      let is : first_label m ≡ run_label ids target moment = named m.present.label (first_id target h.first + length m.tables) (first_label m).table_id (first_id target h.first) moment g.0 id ∙ ap (λ (o : Option ℕ). run_label o target moment) (sym h.first_is) in
-      subst (λ (l : Label). AreFinished default_options l (tables_of m) fs) is f
+    finished_run : {A : Type 0} (fs : List (FinishedTable A)) → Begun h.first moment m
+        ⊎ Going h.first target moment m → AreFinished default_options (first_label m) (tables_of m) fs
+        → AreFinished default_options (run_label ids target moment) (tables_of m) fs
+    finished_run fs (inl b) f = other_label default_options (first_label m) (run_label ids target moment) (tables_of m) fs (begun_none b) f
+    finished_run fs (inr g) f =
+        let id : (first_label m).table_id ≡ first_id target h.first = omega (arith, ap (λ (l : Label). l.table_id) g.0) in
+        let is : first_label m ≡ run_label ids target moment = named m.present.label (first_id target h.first + length m.tables) (first_label m).table_id (first_id target h.first) moment g.0 id ∙ ap (λ (o : Option ℕ). run_label o target moment) (sym h.first_is) in
+        subst (λ (l : Label). AreFinished default_options l (tables_of m) fs) is f
 
-  pub all_finished : {A : Type 0} (es : List Entry) (fs : List (FinishedTable A)) (left : Option ℕ) → all_written m ≡ es → left ≡ m.ids → AreTables m.present.options.data_block_size m.target (all_written m) (tables_of m) → AreInKeyOrder (tables_of m) → AreFinished m.present.options (first_label m) (tables_of m) fs → AreWritten ids target moment es fs left
-  all_finished es fs left all is cut order finished = record {
-    lists = tables_of m;
-    cut =
-        subst (λ (x : List Entry). AreTables default_options.data_block_size target x (tables_of m)) all
-        (subst (λ (o : Options). AreTables o.data_block_size target (all_written m) (tables_of m)) h.options_are
-        (subst (λ (t : ℕ). AreTables m.present.options.data_block_size t (all_written m) (tables_of m)) h.target_is cut));
-    order = order;
-    finished = finished_run fs h.stands (subst (λ (o : Options). AreFinished o (first_label m) (tables_of m) fs) h.options_are finished);
-    left_is = is ∙ behind_run h.stands;
-  }
+    pub all_finished : {A : Type 0} (es : List Entry) (fs : List (FinishedTable A)) (left : Option ℕ)
+        → all_written m ≡ es → left ≡ m.ids → AreTables m.present.options.data_block_size m.target
+        (all_written m) (tables_of m) → AreInKeyOrder (tables_of m) → AreFinished m.present.options
+        (first_label m) (tables_of m) fs → AreWritten ids target moment es fs left
+    all_finished es fs left all is cut order finished = record {
+      lists = tables_of m;
+      cut =
+          subst (λ (x : List Entry). AreTables default_options.data_block_size target x (tables_of m)) all
+          (subst (λ (o : Options). AreTables o.data_block_size target (all_written m) (tables_of m)) h.options_are
+          (subst (λ (t : ℕ). AreTables m.present.options.data_block_size t (all_written m) (tables_of m)) h.target_is cut));
+      order = order;
+      finished = finished_run fs h.stands (subst (λ (o : Options). AreFinished o (first_label m) (tables_of m) fs) h.options_are finished);
+      left_is = is ∙ behind_run h.stands;
+    }
 
 -- a writer that was just made has written nothing
-pub none_written : (ids : Option ℕ) (target moment : ℕ) (m : TablesWriting) → m ≡ new_tables ids target 0 moment → all_written m ≡ []
+pub none_written : (ids : Option ℕ) (target moment : ℕ) (m : TablesWriting)
+    → m ≡ new_tables ids target 0 moment → all_written m ≡ []
 none_written ids target moment m is = ap all_written is
 
 -- and takes its list whole
-pub takes_new : (ids : Option ℕ) (target moment : ℕ) (es rest : List Entry) (m : TablesWriting) (fits : FitsAsTables ids target es) → m ≡ new_tables ids target 0 moment → rest ≡ es → Takes fits.tables (label_of (first_id target fits.first) 0 moment) (with_options (new_tables (Some fits.first) target 0 moment) default_options) es → Takes fits.tables (label_of (first_id target fits.first) 0 moment) m rest
+pub takes_new : (ids : Option ℕ) (target moment : ℕ) (es rest : List Entry) (m : TablesWriting)
+    (fits : FitsAsTables ids target es) → m ≡ new_tables ids target 0 moment → rest ≡ es
+    → Takes fits.tables (label_of (first_id target fits.first) 0 moment)
+    (with_options (new_tables (Some fits.first) target 0 moment) default_options) es
+    → Takes fits.tables (label_of (first_id target fits.first) 0 moment) m rest
 takes_new ids target moment es rest m fits is same h =
     let label = label_of (first_id target fits.first) 0 moment in
     let new : m ≡ new_tables (Some fits.first) target 0 moment = is ∙ ap (λ (o : Option ℕ). new_tables o target 0 moment) fits.first_is in
     subst (λ (x : List Entry). Takes fits.tables label m x) (sym same) (subst (λ (x : TablesWriting). Takes fits.tables label x es) (sym new) h)
 
 -- a refusal for want of memory that is passed on
-pub wants : {X : Type 0} (r : Result X Error) (e : Error) → IsErrAnd r (λ y. y ≡ e) → e ≡ OutOfMemory → IfErr r (λ x. x ≡ OutOfMemory)
+pub wants : {X : Type 0} (r : Result X Error) (e : Error) → IsErrAnd r (λ y. y ≡ e)
+    → e ≡ OutOfMemory → IfErr r (λ x. x ≡ OutOfMemory)
 wants (Ok x) e is memory = tt
 wants (Err y) e is memory = is ∙ memory
 
--- it is never the wrong fault
-pub memory_faults : {X : Type 0} (r : Result X Error) (e : Error) (told : Option Error) → IsErrAnd r (λ y. y ≡ e) → e ≡ OutOfMemory → Faults r told
-memory_faults r e told is memory =
-    faults_refusal r e told is (λ fine. absurd (let both : is_memory e ≡ true = ap is_memory memory in let no : false ≡ true = sym fine ∙ both in cc))
-
 -- ---- opening them
 
-fault_same : (large : Bool) (p : Parts) → cond large (Some GlobalSeqNoTooLarge) None ≡ fault_of (cond large (Err GlobalSeqNoTooLarge) (Ok p))
+fault_same : (large : Bool) (p : Parts)
+    → cond large (Some GlobalSeqNoTooLarge) None ≡ fault_of
+    (cond large (Err GlobalSeqNoTooLarge) (Ok p))
 fault_same true p = refl
 fault_same false p = refl
 
@@ -264,32 +294,40 @@ module _ (es : List Entry) (g : ℕ) (bytes : List ℕ) (t : IsTable bytes es) w
   pub number_passes : (e : Error) → list_told t g true true ≡ Err e → number_fault es g ≡ Some e
   number_passes e told = number_told ∙ ap fault_of told
 
-pub small_number : (es : List Entry) (g : ℕ) → highest_seqno es + g < 2 ^ 64 → number_fault es g ≡ None
+pub small_number : (es : List Entry) (g : ℕ) → highest_seqno es + g < 2 ^ 64
+    → number_fault es g ≡ None
 small_number es g small =
     let low : nat_lt (2 ^ 64 - 1) (highest_seqno es + g) ≡ false = le-ltb _ _ (omega (arith, small)) in
     rw low refl
 
-highest_joined : (xs ys : List Entry) → highest_seqno (xs ++ ys) ≡ max (highest_seqno xs) (highest_seqno ys)
+highest_joined : (xs ys : List Entry)
+    → highest_seqno (xs ++ ys) ≡ max (highest_seqno xs) (highest_seqno ys)
 unfolding highest_seqno
 highest_joined [] ys = omega arith
 highest_joined (x ∷ xs) ys = omega (arith, highest_joined xs ys)
 
-all_small : (g : ℕ) (ls : List (List Entry)) → highest_seqno (joined ls) + g < 2 ^ 64 → AllByRecursion (λ (es : List Entry). highest_seqno es + g < 2 ^ 64) ls
+all_small : (g : ℕ) (ls : List (List Entry)) → highest_seqno (joined ls) + g < 2 ^ 64
+    → AllByRecursion (λ (es : List Entry). highest_seqno es + g < 2 ^ 64) ls
 all_small g [] small = tt
 all_small g (es ∷ ls) small =
     let both = highest_joined es (joined ls) in
     (omega (arith, both, small), all_small g ls (omega (arith, both, small)))
 
 -- the highest number of two lists passes u64 where that of one does
-fault_else : (m n g : ℕ) → nat_lt (2 ^ 64 - 1) (m + g) ≡ false → (b : Bool) → nat_lt (2 ^ 64 - 1) (n + g) ≡ b → nat_lt (2 ^ 64 - 1) (max m n + g) ≡ b
+fault_else : (m n g : ℕ) → nat_lt (2 ^ 64 - 1) (m + g) ≡ false → (b : Bool)
+    → nat_lt (2 ^ 64 - 1) (n + g) ≡ b → nat_lt (2 ^ 64 - 1) (max m n + g) ≡ b
 fault_else m n g small true large = lt-ltb (2 ^ 64 - 1) (max m n + g) (omega (arith, ltb-true _ _ large))
 fault_else m n g small false low = le-ltb (2 ^ 64 - 1) (max m n + g) (omega (arith, ltb-false _ _ small, ltb-false _ _ low))
 
-fault_by : (m n g : ℕ) (b : Bool) → nat_lt (2 ^ 64 - 1) (m + g) ≡ b → cond (nat_lt (2 ^ 64 - 1) (max m n + g)) (Some GlobalSeqNoTooLarge) None ≡ option_or (cond b (Some GlobalSeqNoTooLarge) None) (cond (nat_lt (2 ^ 64 - 1) (n + g)) (Some GlobalSeqNoTooLarge) None)
+fault_by : (m n g : ℕ) (b : Bool) → nat_lt (2 ^ 64 - 1) (m + g) ≡ b
+    → cond (nat_lt (2 ^ 64 - 1) (max m n + g)) (Some GlobalSeqNoTooLarge) None ≡ option_or
+    (cond b (Some GlobalSeqNoTooLarge) None)
+    (cond (nat_lt (2 ^ 64 - 1) (n + g)) (Some GlobalSeqNoTooLarge) None)
 fault_by m n g true large = ap (λ (b : Bool). cond b (Some GlobalSeqNoTooLarge) None) (lt-ltb (2 ^ 64 - 1) (max m n + g) (omega (arith, ltb-true _ _ large)))
 fault_by m n g false small = ap (λ (b : Bool). cond b (Some GlobalSeqNoTooLarge) None) (fault_else m n g small (nat_lt (2 ^ 64 - 1) (n + g)) refl)
 
-number_joined : (xs ys : List Entry) (g : ℕ) → number_fault (xs ++ ys) g ≡ option_or (number_fault xs g) (number_fault ys g)
+number_joined : (xs ys : List Entry) (g : ℕ)
+    → number_fault (xs ++ ys) g ≡ option_or (number_fault xs g) (number_fault ys g)
 number_joined xs ys g =
     ap (λ (n : ℕ). cond (nat_lt (2 ^ 64 - 1) (n + g)) (Some GlobalSeqNoTooLarge) None) (highest_joined xs ys) ∙ fault_by (highest_seqno xs) (highest_seqno ys) g _ refl
 
@@ -298,21 +336,29 @@ unfolding highest_seqno
 no_number g small = small_number [] g (omega (arith, small))
 
 -- some of the tables are opened, their numbers fit, and the others are left
-abbrev pub OpenSoFar : {A : Type 0} → Label → List (List Entry) → ℕ → List OpenTable → List (FinishedTable A) → Type 0
+abbrev pub OpenSoFar : {A : Type 0} → Label → List (List Entry) → ℕ → List OpenTable
+    → List (FinishedTable A) → Type 0
 OpenSoFar label lists g [] fs = AreFinished default_options label lists fs
 OpenSoFar label [] g (t ∷ ts) fs = ⊥
 OpenSoFar label (es ∷ ls) g (t ∷ ts) fs = IsOpenedOf label es g t × (number_fault es g ≡ None) × OpenSoFar (next_label label) ls g ts fs
 
 module _ {A : Type 0} (g : ℕ) where
   module _ (f : FinishedTable A) (fs : List (FinishedTable A)) where
-    pub opened_next : (label : Label) (lists : List (List Entry)) (ts : List OpenTable) (t : OpenTable) → OpenSoFar label lists g ts (f ∷ fs) → ((l : Label) (es : List Entry) → IsTableOf l es f.id f.checksum.0 f.bytes → IsOpenedOf l es g t × (number_fault es g ≡ None)) → OpenSoFar label lists g (ts ++ t ∷ []) fs
+    pub opened_next : (label : Label) (lists : List (List Entry)) (ts : List OpenTable)
+        (t : OpenTable) → OpenSoFar label lists g ts (f ∷ fs)
+        → ((l : Label) (es : List Entry) → IsTableOf l es f.id f.checksum.0 f.bytes
+        → IsOpenedOf l es g t × (number_fault es g ≡ None))
+        → OpenSoFar label lists g (ts ++ t ∷ []) fs
     opened_next label [] [] t h opens = absurd h
     opened_next label (es ∷ ls) [] t h opens = let is = opens label es h.0 in (is.0, is.1, h.1)
     opened_next label [] (x ∷ ts) t h opens = absurd h
     opened_next label (es ∷ ls) (x ∷ ts) t h opens = (h.0, h.1, opened_next (next_label label) ls ts t h.2 opens)
 
     -- the next of them is one whose number passes u64, and so does the highest of all
-    pub next_large : (e : Error) (label : Label) (lists : List (List Entry)) (ts : List OpenTable) → OpenSoFar label lists g ts (f ∷ fs) → ((l : Label) (es : List Entry) → IsTableOf l es f.id f.checksum.0 f.bytes → number_fault es g ≡ Some e) → number_fault (joined lists) g ≡ Some e
+    pub next_large : (e : Error) (label : Label) (lists : List (List Entry)) (ts : List OpenTable)
+        → OpenSoFar label lists g ts (f ∷ fs)
+        → ((l : Label) (es : List Entry) → IsTableOf l es f.id f.checksum.0 f.bytes
+        → number_fault es g ≡ Some e) → number_fault (joined lists) g ≡ Some e
     next_large e label [] [] h large = absurd h
     next_large e label (es ∷ ls) [] h large = number_joined es (joined ls) g ∙ ap (λ (x : Option Error). option_or x (number_fault (joined ls) g)) (large label es h.0)
     next_large e label [] (x ∷ ts) h large = absurd h
@@ -320,20 +366,27 @@ module _ {A : Type 0} (g : ℕ) where
         number_joined es (joined ls) g ∙ ap (λ (x : Option Error). option_or x (number_fault (joined ls) g)) h.1 ∙ next_large e (next_label label) ls ts h.2 large
 
     -- the next of them is one of a list whose numbers fit
-    pub next_fits : (label : Label) (lists : List (List Entry)) (ts : List OpenTable) → OpenSoFar label lists g ts (f ∷ fs) → AllByRecursion (λ (es : List Entry). highest_seqno es + g < 2 ^ 64) lists → (l : Label) × (es : List Entry) × IsTableOf l es f.id f.checksum.0 f.bytes × (number_fault es g ≡ None)
+    pub next_fits : (label : Label) (lists : List (List Entry)) (ts : List OpenTable)
+        → OpenSoFar label lists g ts (f ∷ fs)
+        → AllByRecursion (λ (es : List Entry). highest_seqno es + g < 2 ^ 64) lists → (l : Label)
+        × (es : List Entry) × IsTableOf l es f.id f.checksum.0 f.bytes × (number_fault es g ≡ None)
     next_fits label [] [] h small = absurd h
     next_fits label (es ∷ ls) [] h small = (label, es, h.0, small_number es g small.0)
     next_fits label [] (x ∷ ts) h small = absurd h
     next_fits label (es ∷ ls) (x ∷ ts) h small = next_fits (next_label label) ls ts h.2 small.1
 
-  pub opened_all : (fs : List (FinishedTable A)) → fs ≡ [] → (label : Label) (lists : List (List Entry)) (ts : List OpenTable) → OpenSoFar label lists g ts fs → AreOpened label lists g ts
+  pub opened_all : (fs : List (FinishedTable A)) → fs ≡ []
+      → (label : Label) (lists : List (List Entry)) (ts : List OpenTable)
+      → OpenSoFar label lists g ts fs → AreOpened label lists g ts
   opened_all [] none label [] [] h = tt
   opened_all [] none label (es ∷ ls) [] h = absurd h
   opened_all [] none label [] (t ∷ ts) h = absurd h
   opened_all [] none label (es ∷ ls) (t ∷ ts) h = (h.0, opened_all [] none (next_label label) ls ts h.2)
   opened_all (f ∷ fs) none label ls ts h = absurd cc
 
-  pub numbers_fit : g < 2 ^ 64 → (fs : List (FinishedTable A)) → fs ≡ [] → (label : Label) (lists : List (List Entry)) (ts : List OpenTable) → OpenSoFar label lists g ts fs → number_fault (joined lists) g ≡ None
+  pub numbers_fit : g < 2 ^ 64 → (fs : List (FinishedTable A)) → fs ≡ []
+      → (label : Label) (lists : List (List Entry)) (ts : List OpenTable)
+      → OpenSoFar label lists g ts fs → number_fault (joined lists) g ≡ None
   numbers_fit small [] none label [] [] h = no_number g small
   numbers_fit small [] none label (es ∷ ls) [] h = absurd h
   numbers_fit small [] none label [] (t ∷ ts) h = absurd h
@@ -343,7 +396,8 @@ module _ {A : Type 0} (g : ℕ) where
 
 -- ---- the run
 
-pub many_opened : (label : Label) (lists : List (List Entry)) (g : ℕ) (ts : List OpenTable) → AreOpened label lists g ts → length lists ≡ length ts
+pub many_opened : (label : Label) (lists : List (List Entry)) (g : ℕ) (ts : List OpenTable)
+    → AreOpened label lists g ts → length lists ≡ length ts
 many_opened label [] g [] h = refl
 many_opened label [] g (t ∷ ts) h = absurd h
 many_opened label (es ∷ ls) g [] h = absurd h
@@ -356,16 +410,24 @@ lift_joined : (ls : List (List Entry)) (g : ℕ) → joined (lifted_lists ls g) 
 lift_joined [] g = refl
 lift_joined (es ∷ ls) g = ap (λ (xs : List Entry). lift es g ++ xs) (lift_joined ls g) ∙ sym (map-append (lifted g) es (joined ls))
 
-hold_lists : (label : Label) (lists : List (List Entry)) (g : ℕ) (ts : List OpenTable) → AreOpened label lists g ts → HoldLists ts (lifted_lists lists g)
+hold_lists : (label : Label) (lists : List (List Entry)) (g : ℕ) (ts : List OpenTable)
+    → AreOpened label lists g ts → HoldLists ts (lifted_lists lists g)
 hold_lists label [] g [] h = tt
 hold_lists label [] g (t ∷ ts) h = absurd h
 hold_lists label (es ∷ ls) g [] h = absurd h
 hold_lists label (es ∷ ls) g (t ∷ ts) h = (
-  record { stored = es; opened = h.0.opened; table = h.0.is.table; lifted_is = ap (lift es) (sym h.0.is.number_is) },
+  record {
+    stored = es;
+    opened = h.0.opened;
+    table = h.0.is.table;
+    lifted_is =
+        ap (lift es) (sym h.0.is.number_is);
+  },
   hold_lists (next_label label) ls g ts h.1,
 )
 
-ranges_are : (label : Label) (lists : List (List Entry)) (g : ℕ) (ts : List OpenTable) → AreOpened label lists g ts → ranges_of ts ≡ map ends_of lists
+ranges_are : (label : Label) (lists : List (List Entry)) (g : ℕ) (ts : List OpenTable)
+    → AreOpened label lists g ts → ranges_of ts ≡ map ends_of lists
 ranges_are label [] g [] h = refl
 ranges_are label [] g (t ∷ ts) h = absurd h
 ranges_are label (es ∷ ls) g [] h = absurd h
@@ -377,7 +439,8 @@ ranges_are label (es ∷ ls) g (t ∷ ts) h =
 abbrev IsKept : List Entry → Type 0
 IsKept es = (es ≡ [] → ⊥) × IsStrict es
 
-all_kept : (label : Label) (lists : List (List Entry)) (g : ℕ) (ts : List OpenTable) → AreOpened label lists g ts → AllByRecursion IsKept lists
+all_kept : (label : Label) (lists : List (List Entry)) (g : ℕ) (ts : List OpenTable)
+    → AreOpened label lists g ts → AllByRecursion IsKept lists
 all_kept label [] g [] h = tt
 all_kept label [] g (t ∷ ts) h = absurd h
 all_kept label (es ∷ ls) g [] h = absurd h
@@ -386,13 +449,17 @@ all_kept label (es ∷ ls) g (t ∷ ts) h = ((h.0.is.some, h.0.is.table.strict),
 last_max : (e : Entry) (es : List Entry) → (ends_of (e ∷ es)).max ≡ (last_entry (e ∷ es)).user_key
 last_max e es = ap (λ (o : Option Entry). unwrap_or (option_map (λ (x : Entry). x.user_key) o) []) (last_is_some None (e ∷ es) (omega arith))
 
-formed : (e : Entry) (es : List Entry) → IsStrict (e ∷ es) → is_well_formed (ends_of (e ∷ es)) ≡ true
+formed : (e : Entry) (es : List Entry) → IsStrict (e ∷ es)
+    → is_well_formed (ends_of (e ∷ es)) ≡ true
 formed e es strict =
     let r = ends_of (e ∷ es) in
     (and_parts (key_le r.min e.user_key) (key_le e.user_key r.max) (keys_within (e ∷ es) strict).0).1
 
 -- what is below the first key of the next list is below all later ones
-all_later : (key : List ℕ) (ls : List (List Entry)) → AllByRecursion IsKept ls → AreInKeyOrder ls → ((e : Entry) (es : List Entry) (rest : List (List Entry)) → ls ≡ (e ∷ es) ∷ rest → key_lt key e.user_key ≡ true) → list_all (λ (later : Interval). key_lt key later.min) (map ends_of ls) ≡ true
+all_later : (key : List ℕ) (ls : List (List Entry)) → AllByRecursion IsKept ls → AreInKeyOrder ls
+    → ((e : Entry) (es : List Entry) (rest : List (List Entry)) → ls ≡ (e ∷ es) ∷ rest
+    → key_lt key e.user_key ≡ true) → list_all (λ (later : Interval). key_lt key later.min)
+    (map ends_of ls) ≡ true
 all_later key [] kept order low = refl
 all_later key ([] ∷ ls) kept order low = absurd (kept.0.0 refl)
 all_later key ((e ∷ es) ∷ ls) kept order low =
@@ -402,7 +469,8 @@ all_later key ((e ∷ es) ∷ ls) kept order low =
     let to : key_lt key last ≡ true = lt_then_le key e.user_key last here up in
     and_both _ _ here (all_later key ls kept.1 order.1 (λ x xs rest is. lt_trans key last x.user_key to (subst (λ (us : List (List Entry)). IsBelow (e ∷ es) us) is order.0)))
 
-lists_in_order : (ls : List (List Entry)) → AllByRecursion IsKept ls → AreInKeyOrder ls → are_in_order (map ends_of ls) ≡ true
+lists_in_order : (ls : List (List Entry)) → AllByRecursion IsKept ls → AreInKeyOrder ls
+    → are_in_order (map ends_of ls) ≡ true
 lists_in_order [] kept order = refl
 lists_in_order ([] ∷ ls) kept order = absurd (kept.0.0 refl)
 lists_in_order ((e ∷ es) ∷ ls) kept order =
@@ -412,14 +480,20 @@ lists_in_order ((e ∷ es) ∷ ls) kept order =
     in_order_from r (map ends_of ls) (record { formed = formed e es kept.0.1; before = before; rest = lists_in_order ls kept.1 order.1 })
 
 -- the numbers of each table fit where the highest does
-pub all_fit : {A : Type 0} (ids : Option ℕ) (target moment : ℕ) (es : List Entry) (fs : List (FinishedTable A)) (left : Option ℕ) (g : ℕ) (w : AreWritten ids target moment es fs left) → highest_seqno es + g < 2 ^ 64 → AllByRecursion (λ (xs : List Entry). highest_seqno xs + g < 2 ^ 64) w.lists
+pub all_fit : {A : Type 0} (ids : Option ℕ) (target moment : ℕ) (es : List Entry)
+    (fs : List (FinishedTable A)) (left : Option ℕ) (g : ℕ)
+    (w : AreWritten ids target moment es fs left) → highest_seqno es + g < 2 ^ 64
+    → AllByRecursion (λ (xs : List Entry). highest_seqno xs + g < 2 ^ 64) w.lists
 all_fit ids target moment es fs left g w small = all_small g w.lists (subst (λ (xs : List Entry). highest_seqno xs + g < 2 ^ 64) (sym w.cut.whole) small)
 
 -- what putting the opened tables in a run answers
 abbrev pub IsPut : List OpenTable → Option (List OpenTable) → Type 0
 IsPut ts r = MatchOption r (ts ≡ []) (λ run. (run ≡ ts) × (ts ≢ []))
 
-module _ {A : Type 0} (ids : Option ℕ) (target moment : ℕ) (es : List Entry) (fs : List (FinishedTable A)) (left : Option ℕ) (g : ℕ) (ts : List OpenTable) (w : AreWritten ids target moment es fs left) (h : AreOpened (run_label ids target moment) w.lists g ts) where
+module _ {A : Type 0} (ids : Option ℕ) (target moment : ℕ) (es : List Entry)
+    (fs : List (FinishedTable A)) (left : Option ℕ) (g : ℕ) (ts : List OpenTable)
+    (w : AreWritten ids target moment es fs left)
+    (h : AreOpened (run_label ids target moment) w.lists g ts) where
   abbrev the_label : Label
   the_label = run_label ids target moment
 
@@ -440,14 +514,17 @@ module _ {A : Type 0} (ids : Option ℕ) (target moment : ℕ) (es : List Entry)
   cut_of : AreCutOf the_label target es g ts
   cut_of = record { lists = w.lists; cut = w.cut; opened = h }
 
-  pub run_put : (r : Option (List OpenTable)) → IsPut ts r → MatchOption r (es ≡ []) (λ run. IsRunOfList es g run)
+  pub run_put : (r : Option (List OpenTable)) → IsPut ts r
+      → MatchOption r (es ≡ []) (λ run. IsRunOfList es g run)
   run_put None none = none_of none
   run_put (Some run) p = subst (IsRunOfList es g) (sym p.0) (run_of p.1)
 
-  pub cut_put : (r : Option (List OpenTable)) → IsPut ts r → IfSome r (λ run. AreCutOf the_label target es g run)
+  pub cut_put : (r : Option (List OpenTable)) → IsPut ts r
+      → IfSome r (λ run. AreCutOf the_label target es g run)
   cut_put None none = tt
   cut_put (Some run) p = subst (AreCutOf the_label target es g) (sym p.0) cut_of
 
-  pub ids_put : (r : Option (List OpenTable)) → IsPut ts r → left ≡ ids_behind ids target (option_map_or length r 0)
+  pub ids_put : (r : Option (List OpenTable)) → IsPut ts r
+      → left ≡ ids_behind ids target (option_map_or length r 0)
   ids_put None none = w.left_is ∙ ap (ids_behind ids target) (many_opened the_label w.lists g ts h ∙ ap length none)
   ids_put (Some run) p = w.left_is ∙ ap (ids_behind ids target) (many_opened the_label w.lists g ts h ∙ ap length (sym p.0))

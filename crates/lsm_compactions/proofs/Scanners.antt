@@ -1,5 +1,6 @@
 -- Scanners of several runs: what they deal together, merged.
-use Rattle.std.proofs.Common.{◌≡◌, refl, sym, ◌∙◌, ap, subst, ℕ, zero, suc, ◌+◌, ◌-◌, ◌<◌, ◌≤◌, Bool, true, false, List, [], ◌∷◌, ◌++◌, get_or, length, take, arith}
+use Rattle.std.proofs.Common.{◌≡◌, refl, sym, ◌∙◌, ap, subst, ℕ, zero, suc, ◌+◌, ◌-◌, ◌<◌, ◌≤◌}
+use Rattle.std.proofs.Common.{Bool, true, false, List, [], ◌∷◌, ◌++◌, get_or, length, take, arith}
 use Rattle.std.specs.Prelude.{Option, Some, None, Result, Ok, Err, IfErr, map}
 use Rattle.std.specs.Iterator.{Count}
 use Rattle.std.specs.List.{AllByRecursion, slice_get}
@@ -22,7 +23,8 @@ use Rattle.lsm_readers.specs.Table.{OpenTable}
 use Rattle.lsm_sorted.specs.declared.ahead.Ahead.{Ahead}
 use Rattle.lsm_sorted.specs.declared.compaction.stream.CompactionStream.{CompactionStream}
 use Rattle.lsm_sorted.specs.Ahead.{HoldsAhead}
-use Rattle.lsm_sorted.specs.Compaction.{Rules, kept, unfiltered}
+use Rattle.lsm_sorted.specs.declared.compaction.Rules.{Rules}
+use Rattle.lsm_sorted.specs.Compaction.{kept, unfiltered}
 use Rattle.lsm_sorted.specs.CompactionState.{Compacts, DealsKept, MayCompact, rules_of, source_of}
 use Rattle.lsm_compactions.specs.Compacted.{AreCompactable, HaveEntries}
 use Rattle.lsm_runs.specs.RunLists.{DealTogether, DealsList, HoldLists}
@@ -46,7 +48,8 @@ whole_places ts some = (omega arith, omega (arith, some))
 pub whole_run : (ts : List OpenTable) → 0 < length ts → tables_between ts (whole ts) ≡ ts
 whole_run ts some = take_all (suc (length ts - 1) - 0) ts (omega (arith, some))
 
-pub tables_there : (ts : List OpenTable) (ls : List (List Entry)) → HoldLists ts ls → HaveEntries ls → 0 < length ts
+pub tables_there : (ts : List OpenTable) (ls : List (List Entry)) → HoldLists ts ls → HaveEntries ls
+    → 0 < length ts
 tables_there [] [] h some = some.0
 tables_there [] (es ∷ ls) h some = absurd h
 tables_there (t ∷ ts) ls h some = omega arith
@@ -56,7 +59,10 @@ fault_first : (es : List Entry) (e : Error) → first (ok_results es) ≡ Some (
 fault_first [] e h = let no : None ≡ Some (Err e) = h in cc
 fault_first (x ∷ es) e h = let no : Some (Ok x) ≡ Some (Err e) = h in cc
 
-pub scan_wants : {X : Type 0} (ts : List OpenTable) (ls : List (List Entry)) → HoldLists ts ls → HaveEntries ls → (r : Result X Error) → IfErr r (λ e. is_memory e ≡ false → first (tables_scan ts) ≡ Some (Err e)) → IfErr r (λ e. e ≡ OutOfMemory)
+pub scan_wants : {X : Type 0} (ts : List OpenTable) (ls : List (List Entry)) → HoldLists ts ls
+    → HaveEntries ls → (r : Result X Error)
+    → IfErr r (λ e. is_memory e ≡ false → first (tables_scan ts) ≡ Some (Err e))
+    → IfErr r (λ e. e ≡ OutOfMemory)
 scan_wants ts ls h some (Ok x) told = tt
 scan_wants {X} ts ls h some (Err e) told =
     let left : tables_scan ts ≡ ok_results (joined ls) = ap (λ (rs : List R). up_to_error rs) (held_scans ts ls h some.1) ∙ all_values (joined ls) in
@@ -69,7 +75,8 @@ scan_asked s = record { at = λ ends rs t runs. (tt, tt) }
 
 -- ---- one run among several
 
-all_there : {X : Type 0} (P : X → Type 0) (xs : List X) (i : ℕ) (x : X) → AllByRecursion P xs → slice_get xs i ≡ Some x → P x
+all_there : {X : Type 0} (P : X → Type 0) (xs : List X) (i : ℕ) (x : X) → AllByRecursion P xs
+    → slice_get xs i ≡ Some x → P x
 all_there P [] i x all there = absurd cc
 all_there P (y ∷ ys) zero x all there = let same : y ≡ x = cc in subst P same all.0
 all_there P (y ∷ ys) (suc i) x all there = all_there P ys i x all.1 there
@@ -77,7 +84,8 @@ all_there P (y ∷ ys) (suc i) x all there = all_there P ys i x all.1 there
 abbrev Held : List OpenTable → List (List Entry) → Type 0
 Held tables ls = IsInOrder range_of tables × HoldLists tables ls
 
-module _ {X : Type 0} (f : X → List OpenTable) (xs : List X) (able : AreCompactable (map f xs)) (i : ℕ) where
+module _ {X : Type 0} (f : X → List OpenTable) (xs : List X) (able : AreCompactable (map f xs))
+    (i : ℕ) where
   module _ (x : X) (less : i < length xs) (is : x ≡ get_or xs i x) where
     own : (ls : List (List Entry)) × (slice_get able.lists i ≡ Some ls) × Held (f x) ls
     own = zip_at f Held xs able.lists i x able.hold less is
@@ -89,19 +97,24 @@ module _ {X : Type 0} (f : X → List OpenTable) (xs : List X) (able : AreCompac
     own_tables = tables_there (f x) own.0 own.2.1 own_some
 
     -- what is said of its lists holds
-    pub own_fact : {P : Type 0} → ((ls : List (List Entry)) → HoldLists (f x) ls → HaveEntries ls → P) → P
+    pub own_fact : {P : Type 0}
+        → ((ls : List (List Entry)) → HoldLists (f x) ls → HaveEntries ls → P) → P
     own_fact fact = fact own.0 own.2.1 own_some
 
   module _ {S : Type 0} (front back : S → Option R → S → Type 0) where
     abbrev pub ScannedSoFar : List S → ℕ → Type 0
     ScannedSoFar sources n = DealTogether front back sources (take n (map joined able.lists))
 
-    pub scanned_all : (sources : List S) → ScannedSoFar sources i → length xs ≤ i → DealTogether front back sources (map joined able.lists)
+    pub scanned_all : (sources : List S) → ScannedSoFar sources i → length xs ≤ i
+        → DealTogether front back sources (map joined able.lists)
     scanned_all sources d past =
         let many : length (map joined able.lists) ≤ i = omega (arith, length_mapped joined able.lists, AllZip-long Held (map f xs) able.lists able.hold, length_mapped f xs, past) in
         subst (λ (found : List (List Entry)). DealTogether front back sources found) (take_all i (map joined able.lists) many) d
 
-    pub scanned_more : (x : X) (less : i < length xs) (is : x ≡ get_or xs i x) (sources : List S) (d : ScannedSoFar sources i) (s : S) → ((ls : List (List Entry)) → HoldLists (f x) ls → HaveEntries ls → DealsList front back (joined ls) s) → ScannedSoFar (sources ++ s ∷ []) (i + 1)
+    pub scanned_more : (x : X) (less : i < length xs) (is : x ≡ get_or xs i x) (sources : List S)
+        (d : ScannedSoFar sources i) (s : S)
+        → ((ls : List (List Entry)) → HoldLists (f x) ls → HaveEntries ls
+        → DealsList front back (joined ls) s) → ScannedSoFar (sources ++ s ∷ []) (i + 1)
     scanned_more x less is sources d s deals =
         let o = own x less is in
         let one : take (i + 1) (map joined able.lists) ≡ take i (map joined able.lists) ++ joined o.0 ∷ [] =
@@ -112,11 +125,17 @@ module _ {X : Type 0} (f : X → List OpenTable) (xs : List X) (able : AreCompac
 
 -- ---- all of them, merged
 
-module _ {S T : Type 0} (front back : S → Option R → S → Type 0) (next next_back : T → Option R → T → Type 0) where
-  all_lists : (lists : List (List (List Entry))) → all_entries (map (λ (run : List (List Entry)). ok_results (joined run)) lists) ≡ joined (map joined lists)
+module _ {S T : Type 0} (front back : S → Option R → S → Type 0)
+    (next next_back : T → Option R → T → Type 0) where
+  all_lists : (lists : List (List (List Entry)))
+      → all_entries (map (λ (run : List (List Entry)). ok_results (joined run)) lists) ≡ joined
+      (map joined lists)
   all_lists lists = ap all_entries (sym (map-map (λ (es : List Entry). ok_results es) joined lists)) ∙ entries_joined (map joined lists)
 
-  pub merged_together : (lists : List (List (List Entry))) (sources : List S) (t : T) → DealTogether front back sources (map joined lists) → DealsMerged front back sources next next_back t → DealsList next next_back (union_in lists) t
+  pub merged_together : (lists : List (List (List Entry))) (sources : List S) (t : T)
+      → DealTogether front back sources (map joined lists)
+      → DealsMerged front back sources next next_back t
+      → DealsList next next_back (union_in lists) t
   merged_together lists sources t d law stops memory =
       let results = map (λ (es : List Entry). ok_results es) d.dealt in
       let sorted : DealSorted front back stops sources results = record {
@@ -130,11 +149,16 @@ module _ {S T : Type 0} (front back : S → Option R → S → Type 0) (next nex
 
 module _ {S F C : Type 0} (front : S → Option R → S → Type 0) where
   -- a stream over the source of another may be called as that one may
-  pub may_still : (can : S → Type 0) (left : S → Count) (s u : CompactionStream S F C R) → source_of s ≡ source_of u → MayCompact front can left u → MayCompact front can left s
+  pub may_still : (can : S → Type 0) (left : S → Count) (s u : CompactionStream S F C R)
+      → source_of s ≡ source_of u → MayCompact front can left u → MayCompact front can left s
   may_still can left s u same may = subst (λ (a : Ahead S R). Goes front nowhere can can left a.source) (sym same) may
 
   -- and deals, by its own rules
-  pub compacted_deals : (next : CompactionStream S F C R → Option R → CompactionStream S F C R → Type 0) (s u : CompactionStream S F C R) (rules : Rules) (xs : List Entry) → source_of s ≡ source_of u → rules_of s ≡ rules → ((stops : Error → Bool) → stops OutOfMemory ≡ true → Compacts stops front u (ok_results xs)) → DealsKept front next s → DealsList next nowhere (kept rules (unfiltered xs)) s
+  pub compacted_deals : (next : CompactionStream S F C R → Option R → CompactionStream S F C R
+      → Type 0) (s u : CompactionStream S F C R) (rules : Rules) (xs : List Entry)
+      → source_of s ≡ source_of u → rules_of s ≡ rules
+      → ((stops : Error → Bool) → stops OutOfMemory ≡ true → Compacts stops front u (ok_results xs))
+      → DealsKept front next s → DealsList next nowhere (kept rules (unfiltered xs)) s
   compacted_deals next s u rules xs same is holds law stops memory =
       subst (λ (r : Rules). Deals (answer_stops stops) next nowhere s (ok_results (kept r (unfiltered xs)))) is
       (law stops xs (subst (λ (a : Ahead S R). HoldsAhead stops front a (ok_results xs)) (sym same) (holds stops memory)))

@@ -1,5 +1,7 @@
--- A stream whose entries are written one by one: what it still deals, and what the writer refuses then.
-use Rattle.std.proofs.Common.{◌≡◌, refl, sym, ◌∙◌, ap, subst, false, List, [], ◌∷◌, ◌++◌, IsTrue, append_assoc, append-nil}
+-- A stream whose entries are written one by one: what it still deals, and what the writer refuses
+-- then.
+use Rattle.std.proofs.Common.{◌≡◌, refl, sym, ◌∙◌, ap, subst, false, List, [], ◌∷◌, ◌++◌, IsTrue}
+use Rattle.std.proofs.Common.{append_assoc, append-nil}
 use Rattle.std.specs.Prelude.{Option, Some, None, Ok, Err}
 use Rattle.std.specs.Option.{option_or}
 use Rattle.sst_entries.specs.declared.error.Error.{Error}
@@ -12,12 +14,10 @@ use Rattle.lsm_writers.specs.Tables.{TablesWriting, all_written, run_fault, took
 use Rattle.lsm_writers.specs.Writing.{IsWritable, may_be_written}
 use Rattle.lsm_writers.proofs.ListWriting.{listed_follows}
 use Rattle.lsm_compactions.specs.Chain.{writes_fault}
+use Rattle.lsm_compactions.proofs.Opening.{or_first}
 use Rattle.lsm_runs.specs.RunLists.{DealsList}
 
--- a counted fault, where the first entry is refused, or where it is not
-first_refused : (a b : Option Error) (e : Error) → a ≡ Some e → option_or a b ≡ Some e
-first_refused a b e is = ap (λ (o : Option Error). option_or o b) is
-
+-- a counted fault, where the first entry is not refused
 none_refused : (a b : Option Error) → a ≡ None → option_or a b ≡ b
 none_refused a b is = ap (λ (o : Option Error). option_or o b) is
 
@@ -27,7 +27,8 @@ module _ {S : Type 0} (next : S → Option R → S → Type 0) where
 
   -- ---- one call
 
-  deals_one : (rest : List Entry) (s t : S) (e : Entry) → DealsRest rest s → next s (Some (Ok e)) t → (more : List Entry) × (rest ≡ e ∷ more) × DealsRest more t
+  deals_one : (rest : List Entry) (s t : S) (e : Entry) → DealsRest rest s → next s (Some (Ok e)) t
+      → (more : List Entry) × (rest ≡ e ∷ more) × DealsRest more t
   deals_one [] s t e d step =
       let h = deals_front (answer_stops is_memory) next nowhere s [] (Some (Ok e)) t (d is_memory refl) step refl in
       let no : Some (Ok e) ≡ None = h.0 in absurd cc
@@ -44,7 +45,8 @@ module _ {S : Type 0} (next : S → Option R → S → Type 0) where
       let no : None ≡ Some (Ok x) = h.0 in absurd cc
 
   -- it refuses nothing but for want of memory
-  pub deals_fine : (rest : List Entry) (s t : S) (e : Error) → DealsRest rest s → next s (Some (Err e)) t → is_memory e ≡ false → ⊥
+  pub deals_fine : (rest : List Entry) (s t : S) (e : Error) → DealsRest rest s
+      → next s (Some (Err e)) t → is_memory e ≡ false → ⊥
   deals_fine [] s t e d step fine =
       let h = deals_front (answer_stops is_memory) next nowhere s [] (Some (Err e)) t (d is_memory refl) step fine in
       let no : Some (Err e) ≡ None = h.0 in absurd cc
@@ -55,16 +57,19 @@ module _ {S : Type 0} (next : S → Option R → S → Type 0) where
   -- ---- a list that is written, entry by entry
 
   -- a part of the list is written, and the stream deals the rest
-  pub record WritesOn (w : TablesWriting) (es : List Entry) (m : TablesWriting) (s : S) : Type 0 where
+  pub record WritesOn (w : TablesWriting) (es : List Entry) (m : TablesWriting)
+      (s : S) : Type 0 where
     pub rest : List Entry
     pub whole : es ≡ all_written m ++ rest
     pub deals : DealsRest rest s
     pub fault : writes_fault w es ≡ writes_fault m rest
 
-  pub nothing_written_yet : (w : TablesWriting) (es : List Entry) (s : S) → all_written w ≡ [] → DealsRest es s → WritesOn w es w s
+  pub nothing_written_yet : (w : TablesWriting) (es : List Entry) (s : S) → all_written w ≡ []
+      → DealsRest es s → WritesOn w es w s
   nothing_written_yet w es s none d = record { rest = es; whole = ap (λ (xs : List Entry). xs ++ es) (sym none); deals = d; fault = refl }
 
-  module _ (w : TablesWriting) (es : List Entry) (m : TablesWriting) (s t : S) (e : Entry) (h : WritesOn w es m s) (step : next s (Some (Ok e)) t) where
+  module _ (w : TablesWriting) (es : List Entry) (m : TablesWriting) (s t : S) (e : Entry)
+      (h : WritesOn w es m s) (step : next s (Some (Ok e)) t) where
     abbrev one : (more : List Entry) × (h.rest ≡ e ∷ more) × DealsRest more t
     one = deals_one h.rest s t e h.deals step
 
@@ -77,7 +82,8 @@ module _ {S : Type 0} (next : S → Option R → S → Type 0) where
     fault_one : writes_fault w es ≡ option_or (took_fault m e) (writes_fault (took m e) one.0)
     fault_one = h.fault ∙ ap (writes_fault m) one.1
 
-    pub writes_more : (n : TablesWriting) → n ≡ took m e → took_fault m e ≡ None → all_written n ≡ all_written m ++ e ∷ [] → WritesOn w es n t
+    pub writes_more : (n : TablesWriting) → n ≡ took m e → took_fault m e ≡ None
+        → all_written n ≡ all_written m ++ e ∷ [] → WritesOn w es n t
     writes_more n is fine listed = record {
       rest = one.0;
       whole = whole_one ∙ sym (ap (λ (xs : List Entry). xs ++ one.0) listed ∙ append_assoc (all_written m) (e ∷ []) one.0);
@@ -86,9 +92,10 @@ module _ {S : Type 0} (next : S → Option R → S → Type 0) where
     }
 
     pub refused_one : (f : Error) → took_fault m e ≡ Some f → writes_fault w es ≡ Some f
-    refused_one f is = fault_one ∙ first_refused (took_fault m e) (writes_fault (took m e) one.0) f is
+    refused_one f is = fault_one ∙ or_first (took_fault m e) (writes_fault (took m e) one.0) f is
 
-  module _ (w : TablesWriting) (es : List Entry) (m : TablesWriting) (s t : S) (h : WritesOn w es m s) (step : next s None t) where
+  module _ (w : TablesWriting) (es : List Entry) (m : TablesWriting) (s t : S)
+      (h : WritesOn w es m s) (step : next s None t) where
     none_left : h.rest ≡ []
     none_left = deals_none h.rest s t h.deals step
 

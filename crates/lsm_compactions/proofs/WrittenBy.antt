@@ -1,5 +1,8 @@
--- A writer that had written nothing: its labels, its counter and its tables once it has taken a list.
-use Rattle.std.proofs.Common.{◌≡◌, refl, sym, ◌∙◌, ap, subst, ℕ, zero, suc, ◌+◌, ◌-◌, ◌^◌, ◌<◌, ◌==◌, Bool, true, false, cond, List, [], ◌∷◌, ◌++◌, length, ◌⊎◌, inl, inr, arith, length-append, le-ltb, ltb-false}
+-- A writer that had written nothing: its labels, its counter and its tables once it has taken a
+-- list.
+use Rattle.std.proofs.Common.{◌≡◌, refl, sym, ◌∙◌, ap, subst, ℕ, zero, suc, ◌+◌, ◌-◌, ◌^◌, ◌<◌}
+use Rattle.std.proofs.Common.{◌==◌, Bool, true, false, cond, List, [], ◌∷◌, ◌++◌, length, ◌⊎◌, inl}
+use Rattle.std.proofs.Common.{inr, arith, length-append, le-ltb, ltb-false}
 use Rattle.std.specs.Prelude.{Option, Some, None, nat_le, nat_lt}
 use Rattle.std.specs.Option.{option_or}
 use Rattle.std.proofs.lemmas.Bool.{cases_Bool, eqb-true, leb-false, leb-true}
@@ -13,17 +16,26 @@ use Rattle.lsm_files.specs.declared.options.Options.{Options}
 use Rattle.lsm_files.specs.Options.{label_of}
 use Rattle.lsm_writers.specs.declared.writer.FinishedTable.{FinishedTable}
 use Rattle.lsm_writers.specs.Cut.{rest_chunk}
-use Rattle.lsm_writers.specs.Tables.{AreFinished, AreInKeyOrder, AreTables, IsFreshRun, Takes, TakesLaw, TablesWriting, all_written, drawn, first_id, first_label, ids_fault, is_due, new_tables, next_id, next_writing, rotated, rotation_fault, standing, tables_of, took, took_fault, turn_fault, with_options}
-use Rattle.lsm_writers.specs.Writing.{IsWritable, Writing, fresh_writing, gained, write_fault, written}
+use Rattle.lsm_writers.specs.Tables.{AreFinished, AreInKeyOrder, AreTables, IsFreshRun, Takes}
+use Rattle.lsm_writers.specs.Tables.{TakesLaw, TablesWriting, all_written, drawn, first_id}
+use Rattle.lsm_writers.specs.Tables.{first_label, ids_fault, is_due, new_tables, next_id}
+use Rattle.lsm_writers.specs.Tables.{next_writing, rotated, rotation_fault, standing, tables_of}
+use Rattle.lsm_writers.specs.Tables.{took, took_fault, turn_fault, with_options}
+use Rattle.lsm_writers.specs.Writing.{IsWritable, Writing, fresh_writing, gained, write_fault}
+use Rattle.lsm_writers.specs.Writing.{written}
 use Rattle.lsm_writers.proofs.Cutting.{rest_is}
 use Rattle.lsm_writers.proofs.ListWriting.{same_label, written_gained}
 use Rattle.lsm_compactions.specs.Chain.{ids_behind, writes_fault}
-use Rattle.lsm_compactions.specs.Compacted.{AreWrittenBy, FitsBy, RunsOn, begun_behind, drawn_often, first_written}
-use Rattle.lsm_compactions.proofs.RunWriting.{first_at, first_else, first_is, left_none, next_by, no_end, nothing_last, other_label, some_length}
+use Rattle.lsm_compactions.specs.Compacted.{AreWrittenBy, FitsBy, RunsOn, begun_behind, drawn_often}
+use Rattle.lsm_compactions.specs.Compacted.{first_written}
+use Rattle.lsm_compactions.proofs.Opening.{some_length}
+use Rattle.lsm_compactions.proofs.RunWriting.{first_at, first_else, first_is, left_none, next_by}
+use Rattle.lsm_compactions.proofs.RunWriting.{no_end, nothing_last, other_label}
 
 -- ---- small facts
 
-one_more : (ts : List (List Entry)) (t : List Entry) → (t ≡ [] → ⊥) → length (ts ++ rest_chunk t) ≡ suc (length ts)
+one_more : (ts : List (List Entry)) (t : List Entry) → (t ≡ [] → ⊥)
+    → length (ts ++ rest_chunk t) ≡ suc (length ts)
 one_more ts t some =
     ap (λ (c : List (List Entry)). length (ts ++ c)) (rest_is t (some_length t some)) ∙ length-append ts (t ∷ [])
     ∙ (let e : length ts + 1 ≡ suc (length ts) = omega arith in e)
@@ -45,13 +57,14 @@ begun_more target n = elim (cases_Bool (target == 0)) [
 
 -- ---- labels and the counter, entry by entry
 
--- the present table has entries: it has the writer's label, but for its id; so often the counter was drawn from; and where the
--- writer's ids run on, so do these
+-- the present table has entries: it has the writer's label, but for its id; so often the counter
+-- was drawn from; and where the writer's ids run on, so do these
 pub record Going (w m : TablesWriting) : Type 0 where
   pub some : written m.present ≡ [] → ⊥
   pub label_is : m.present.label ≡ record w.present.label { table_id = m.present.label.table_id }
   pub ids_are : m.ids ≡ drawn_often (begun_behind w.target (suc (length m.tables))) w.ids
-  pub id_is : RunsOn w → m.present.label.table_id ≡ first_id w.target w.present.label.table_id + length m.tables
+  pub id_is : RunsOn w
+      → m.present.label.table_id ≡ first_id w.target w.present.label.table_id + length m.tables
   pub next : RunsOn w → RunsOn m
 
 pub record Since (w m : TablesWriting) : Type 0 where
@@ -60,7 +73,8 @@ pub record Since (w m : TablesWriting) : Type 0 where
   pub works : m.failed ≡ false
   pub stands : (m ≡ w) ⊎ Going w m
 
-relabel : (l p v : Label) → l ≡ p → p ≡ record v { table_id = p.table_id } → l ≡ record v { table_id = l.table_id }
+relabel : (l p v : Label) → l ≡ p → p ≡ record v { table_id = p.table_id } → l
+    ≡ record v { table_id = l.table_id }
 relabel l p v same is = same ∙ is ∙ ap (λ (x : Label). record v { table_id = x.table_id }) (sym same)
 
 own_label : (p v : Label) → p ≡ v → p ≡ record v { table_id = p.table_id }
@@ -95,7 +109,8 @@ module _ (w : TablesWriting) (fresh : IsFreshRun w) where
       ∙ ap (λ (es : List Entry). let x : Writing = record { label = l; options = o; cut = []; pending = es; failed = w.present.failed } in x) fresh.1.1
       ∙ ap (λ (b : Bool). let x : Writing = record { label = l; options = o; cut = []; pending = []; failed = b } in x) fresh.1.2
 
-due_fresh : (target : ℕ) (label : Label) (options : Options) (e : Entry) → is_due target (fresh_writing label options) e ≡ nat_le target 0
+due_fresh : (target : ℕ) (label : Label) (options : Options) (e : Entry)
+    → is_due target (fresh_writing label options) e ≡ nat_le target 0
 due_fresh target label options e = rw nothing_last refl
 
 module _ (w m : TablesWriting) (fresh : IsFreshRun w) (e : Entry) (h : Since w m) where
@@ -110,7 +125,8 @@ module _ (w m : TablesWriting) (fresh : IsFreshRun w) (e : Entry) (h : Since w m
   more_written x none = no_end (written x) e (sym (written_gained x e) ∙ none)
 
   -- one more entry of the present table
-  going_open : is_due m.target m.present e ≡ false → (m ≡ w) ⊎ Going w m → Going w (record m { present = gained m.present e })
+  going_open : is_due m.target m.present e ≡ false → (m ≡ w) ⊎ Going w m
+      → Going w (record m { present = gained m.present e })
   going_open due (inl same) =
       let kept = same_label m.present e in
       let some : 0 < w.target = leb-false _ _ (sym (first_due same) ∙ due) in
@@ -151,7 +167,8 @@ module _ (w m : TablesWriting) (fresh : IsFreshRun w) (e : Entry) (h : Since w m
   abbrev turned : ℕ → TablesWriting
   turned id = record { target = m.target; ids = next_id id; tables = tables_of m; present = gained (fresh_writing (record m.present.label { table_id = id }) m.present.options) e; failed = m.failed }
 
-  going_due : (id : ℕ) → m.ids ≡ Some id → is_due m.target m.present e ≡ true → (m ≡ w) ⊎ Going w m → Going w (turned id)
+  going_due : (id : ℕ) → m.ids ≡ Some id → is_due m.target m.present e ≡ true → (m ≡ w) ⊎ Going w m
+      → Going w (turned id)
   going_due id left due (inl same) =
       let N : Label = record m.present.label { table_id = id } in
       let kept = same_label (fresh_writing N m.present.options) e in
@@ -212,8 +229,11 @@ module _ (w m : TablesWriting) (fresh : IsFreshRun w) (e : Entry) (h : Since w m
 
 -- ---- the tables at the end
 
-module _ {A : Type 0} (w m : TablesWriting) (fresh : IsFreshRun w) (next : RunsOn w) (h : Since w m) (es : List Entry) (fs : List (FinishedTable A)) (left : Option ℕ) where
-  numbered : left ≡ m.ids → AreFinished w.present.options (first_label m) (tables_of m) fs → (m ≡ w) ⊎ Going w m → AreFinished w.present.options (first_written w) (tables_of m) fs × (left ≡ drawn_often (begun_behind w.target (length (tables_of m))) w.ids)
+module _ {A : Type 0} (w m : TablesWriting) (fresh : IsFreshRun w) (next : RunsOn w) (h : Since w m)
+    (es : List Entry) (fs : List (FinishedTable A)) (left : Option ℕ) where
+  numbered : left ≡ m.ids → AreFinished w.present.options (first_label m) (tables_of m) fs → (m ≡ w)
+      ⊎ Going w m → AreFinished w.present.options (first_written w) (tables_of m) fs
+      × (left ≡ drawn_often (begun_behind w.target (length (tables_of m))) w.ids)
   numbered is finished (inl same) =
       let none : tables_of m ≡ [] = ap tables_of same ∙ no_tables w fresh in (
         other_label w.present.options (first_label m) (first_written w) (tables_of m) fs none finished,
@@ -229,7 +249,10 @@ module _ {A : Type 0} (w m : TablesWriting) (fresh : IsFreshRun w) (next : RunsO
         is ∙ g.ids_are ∙ ap (λ (k : ℕ). drawn_often (begun_behind w.target k) w.ids) (sym (one_more m.tables (written m.present) g.some)),
       )
 
-  pub all_finished : all_written m ≡ es → left ≡ m.ids → IsStrict (all_written m) → AreTables m.present.options.data_block_size m.target (all_written m) (tables_of m) → AreInKeyOrder (tables_of m) → AreFinished m.present.options (first_label m) (tables_of m) fs → AreWrittenBy w es fs left
+  pub all_finished : all_written m ≡ es → left ≡ m.ids → IsStrict (all_written m)
+      → AreTables m.present.options.data_block_size m.target (all_written m) (tables_of m)
+      → AreInKeyOrder (tables_of m) → AreFinished m.present.options (first_label m) (tables_of m) fs
+      → AreWrittenBy w es fs left
   all_finished all is strict cut order finished =
       let n = numbered is (subst (λ (o : Options). AreFinished o (first_label m) (tables_of m) fs) h.options_are finished) h.stands in
       record {
@@ -246,7 +269,9 @@ module _ {A : Type 0} (w m : TablesWriting) (fresh : IsFreshRun w) (next : RunsO
 
 -- ---- a list that fits
 
-fresh_is : (w : TablesWriting) → IsFreshRun w → RunsOn w → with_options (new_tables (Some w.present.label.table_id) w.target w.present.label.initial_level w.present.label.created_at) w.present.options ≡ w
+fresh_is : (w : TablesWriting) → IsFreshRun w → RunsOn w
+    → with_options (new_tables (Some w.present.label.table_id) w.target
+    w.present.label.initial_level w.present.label.created_at) w.present.options ≡ w
 fresh_is w fresh next =
     let t = w.target in
     let p = fresh_writing w.present.label w.present.options in
@@ -257,11 +282,13 @@ fresh_is w fresh next =
     ∙ ap (λ (q : Writing). let x : TablesWriting = record { target = t; ids = w.ids; tables = w.tables; present = q; failed = false } in x) (sym (present_is w fresh))
     ∙ ap (λ (b : Bool). let x : TablesWriting = record { target = t; ids = w.ids; tables = w.tables; present = w.present; failed = b } in x) (sym fresh.2)
 
-none_taken : (ts : List (List Entry)) (label : Label) (m : TablesWriting) (es : List Entry) → Takes ts label m es → writes_fault m es ≡ None
+none_taken : (ts : List (List Entry)) (label : Label) (m : TablesWriting) (es : List Entry)
+    → Takes ts label m es → writes_fault m es ≡ None
 none_taken ts label m [] h = h.finishes
 none_taken ts label m (e ∷ es) h = ap (λ (o : Option Error). option_or o (writes_fault (took m e) es)) h.1 ∙ none_taken ts label (took m e) es h.2
 
-pub fits_none : (w : TablesWriting) (es : List Entry) → TakesLaw → IsFreshRun w → RunsOn w → IsWritable es → FitsBy w es → writes_fault w es ≡ None
+pub fits_none : (w : TablesWriting) (es : List Entry) → TakesLaw → IsFreshRun w → RunsOn w
+    → IsWritable es → FitsBy w es → writes_fault w es ≡ None
 fits_none w es law fresh next writable fits =
     let label = w.present.label in
     let takes = law label.table_id w.target label.initial_level label.created_at w.present.options es fits.tables writable fits.cut fits.fit fits.left in
@@ -271,7 +298,8 @@ fits_none w es law fresh next writable fits =
 -- ---- the counter behind the tables of a new writer
 
 -- drawing once more gives what is behind the next id, where there is one or not
-drawn_next : (id : ℕ) (b : Bool) → nat_lt id (2 ^ 64 - 1) ≡ b → drawn (next_id id) ≡ next_id (id + 1)
+drawn_next : (id : ℕ) (b : Bool) → nat_lt id (2 ^ 64 - 1) ≡ b
+    → drawn (next_id id) ≡ next_id (id + 1)
 drawn_next id true is = rw is refl
 drawn_next id false is =
     let past : nat_lt (id + 1) (2 ^ 64 - 1) ≡ false = le-ltb _ _ (omega (arith, ltb-false _ _ is)) in
@@ -282,7 +310,8 @@ drawn_all zero id = ap next_id (let k : id ≡ id + 0 = omega arith in k)
 drawn_all (suc n) id =
     ap drawn (drawn_all n id) ∙ drawn_next (id + n) _ refl ∙ ap next_id (let k : id + n + 1 ≡ id + suc n = omega arith in k)
 
-drawn_behind : (target first n : ℕ) → drawn_often (begun_behind target n) (next_id first) ≡ ids_behind (Some first) target n
+drawn_behind : (target first n : ℕ)
+    → drawn_often (begun_behind target n) (next_id first) ≡ ids_behind (Some first) target n
 drawn_behind target first zero = ap (λ (k : ℕ). drawn_often k (next_id first)) (begun_none target)
 drawn_behind target first (suc n) = elim (cases_Bool (target == 0)) [
   | inl e ↦
@@ -295,6 +324,7 @@ drawn_behind target first (suc n) = elim (cases_Bool (target == 0)) [
       ap (λ (k : ℕ). drawn_often k (next_id first)) begun ∙ drawn_all n first ∙ ap next_id id
 ]
 
-pub behind_new : (ids : Option ℕ) (target n : ℕ) → ids_fault ids ≡ None → drawn_often (begun_behind target n) (drawn ids) ≡ ids_behind ids target n
+pub behind_new : (ids : Option ℕ) (target n : ℕ) → ids_fault ids ≡ None
+    → drawn_often (begun_behind target n) (drawn ids) ≡ ids_behind ids target n
 behind_new None target n fine = absurd cc
 behind_new (Some first) target n fine = drawn_behind target first n

@@ -1,5 +1,6 @@
 -- A list that is written as tables, which are opened and put in a run.
-use Rattle.std.specs.Prelude.{◌≡◌, ℕ, zero, suc, ◌+◌, ◌^◌, ◌≤◌, List, [], ◌∷◌, length, Option, Some, unwrap_or}
+use Rattle.std.specs.Prelude.{◌≡◌, ℕ, zero, suc, ◌+◌, ◌^◌, ◌≤◌, List, [], ◌∷◌, length, Option, Some}
+use Rattle.std.specs.Prelude.{unwrap_or}
 use Rattle.std.specs.List.{AllByRecursion}
 use Rattle.std.specs.Option.{option_or}
 use Rattle.sst_entries.specs.declared.error.Error.{Error}
@@ -9,7 +10,9 @@ use Rattle.lsm_files.specs.Chunks.{joined}
 use Rattle.lsm_files.specs.Options.{default_options, label_of}
 use Rattle.lsm_ranges.specs.Run.{IsInOrder}
 use Rattle.lsm_writers.specs.declared.writer.FinishedTable.{FinishedTable}
-use Rattle.lsm_writers.specs.Tables.{AreFinished, AreInKeyOrder, AreTables, TableFits, TablesWriting, drawn, first_id, ids_fault, new_tables, next_id, next_label, run_fault, took, took_fault}
+use Rattle.lsm_writers.specs.Tables.{AreFinished, AreInKeyOrder, AreTables, TableFits}
+use Rattle.lsm_writers.specs.Tables.{TablesWriting, drawn, first_id, ids_fault, new_tables, next_id}
+use Rattle.lsm_writers.specs.Tables.{next_label, run_fault, took, took_fault}
 use Rattle.lsm_readers.specs.Answer.{lift}
 use Rattle.lsm_readers.specs.OfList.{ends_of}
 use Rattle.lsm_readers.specs.Table.{IsOpen, OpenTable}
@@ -88,8 +91,8 @@ abbrev pub chain_fault : Option ℕ → ℕ → ℕ → List Entry → ℕ → O
 chain_fault ids target moment es g =
     option_or (tables_fault ids target moment es) (number_fault es g)
 
--- what writing a list as tables under ids from 1 on refuses, or else writing what is kept of it under
--- those behind
+-- what writing a list as tables under ids from 1 on refuses, or else writing what is kept of it
+-- under those behind
 abbrev pub both_fault : ℕ → List Entry → List (List Entry) → List Entry → Option Error
 both_fault target es tables left =
     option_or (tables_fault (Some 1) target 0 es)

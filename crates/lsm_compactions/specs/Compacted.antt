@@ -1,14 +1,17 @@
 -- Several runs that are compacted: what is kept of them, and the tables that a writer makes of it.
-use Rattle.std.specs.Prelude.{◌≡◌, ℕ, Bool, zero, suc, ◌+◌, ◌-◌, ◌^◌, ◌<◌, ◌≤◌, ◌==◌, List, [], ◌∷◌, length, Option, Result, if◌then◌else◌}
+use Rattle.std.specs.Prelude.{◌≡◌, ℕ, Bool, zero, suc, ◌+◌, ◌-◌, ◌^◌, ◌<◌, ◌≤◌, ◌==◌, List, [], ◌∷◌}
+use Rattle.std.specs.Prelude.{length, Option, Result, if◌then◌else◌}
 use Rattle.std.specs.List.{AllByRecursion}
 use Rattle.sst_entries.specs.declared.error.Error.{Error}
 use Rattle.sst_entries.specs.Entry.{Entry}
 use Rattle.sst_entries.specs.Stream.{nowhere}
 use Rattle.sst_entries.specs.Strict.{IsStrict}
 use Rattle.lsm_files.specs.declared.label.Label.{Label}
-use Rattle.lsm_sorted.specs.Compaction.{Rules, kept, unfiltered}
+use Rattle.lsm_sorted.specs.declared.compaction.Rules.{Rules}
+use Rattle.lsm_sorted.specs.Compaction.{kept, unfiltered}
 use Rattle.lsm_writers.specs.declared.writer.FinishedTable.{FinishedTable}
-use Rattle.lsm_writers.specs.Tables.{AreFinished, AreInKeyOrder, AreTables, TableFits, TablesWriting, drawn, first_id, next_id}
+use Rattle.lsm_writers.specs.Tables.{AreFinished, AreInKeyOrder, AreTables, TableFits}
+use Rattle.lsm_writers.specs.Tables.{TablesWriting, drawn, first_id, next_id}
 use Rattle.lsm_writers.specs.Writing.{IsWritable}
 use Rattle.lsm_readers.specs.Table.{OpenTable}
 use Rattle.lsm_runs.specs.RunLists.{DealsList, RunsHoldLists}
@@ -20,8 +23,8 @@ use Rattle.lsm_runs.specs.SeveralRuns.{union_in}
 abbrev pub HaveEntries : List (List Entry) → Type 0
 HaveEntries ls = (0 < length ls) × AllByRecursion (λ (es : List Entry). 0 < length es) ls
 
--- runs in order of tables of lists that have entries; what they have together, lifted, can be written: no key is there twice
--- under one number, and each number is below the largest one
+-- runs in order of tables of lists that have entries; what they have together, lifted, can be
+-- written: no key is there twice under one number, and each number is below the largest one
 pub record AreCompactable (runs : List (List OpenTable)) : Type 0 where
   pub lists : List (List (List Entry))
   pub hold : RunsHoldLists runs lists
@@ -30,14 +33,16 @@ pub record AreCompactable (runs : List (List OpenTable)) : Type 0 where
 
 -- how a compaction is set
 abbrev pub rules_by : ℕ → Bool → Bool → Rules
-rules_by watermark evict zeroing = record { watermark = watermark; evict = evict; zeroing = zeroing }
+rules_by watermark evict zeroing =
+    record { watermark = watermark; evict = evict; zeroing = zeroing }
 
 -- what a compaction without a filter keeps of the sorted entries of several runs' lists
 abbrev pub kept_in : Rules → List (List (List Entry)) → List Entry
 kept_in rules lists = kept rules (unfiltered (union_in lists))
 
 -- a source that deals a list that can be written
-pub record DealsWritable {S : Type 0} (next : S → Option (Result Entry Error) → S → Type 0) (s : S) : Type 0 where
+pub record DealsWritable {S : Type 0} (next : S → Option (Result Entry Error) → S → Type 0)
+    (s : S) : Type 0 where
   pub list : List Entry
   pub writable : IsWritable list
   pub deals : DealsList next nowhere list s
@@ -53,7 +58,8 @@ abbrev pub drawn_often : ℕ → Option ℕ → Option ℕ
 drawn_often zero ids = ids
 drawn_often (suc n) ids = drawn (drawn_often n ids)
 
--- how many tables were begun behind the writer's first, where so many have entries: at target 0 the first one has none
+-- how many tables were begun behind the writer's first, where so many have entries: at target 0 the
+-- first one has none
 abbrev pub begun_behind : ℕ → ℕ → ℕ
 begun_behind target n = if target == 0 then n else n - 1
 
@@ -61,9 +67,11 @@ begun_behind target n = if target == 0 then n else n - 1
 abbrev pub first_written : TablesWriting → Label
 first_written w = record w.present.label { table_id = first_id w.target w.present.label.table_id }
 
--- finished tables of a list that is cut by the writer's target, with the writer's options, level and moment, under ids that run
--- on from the writer's; and the counter behind them, which was drawn from for each table behind the writer's first
-pub record AreWrittenBy {A : Type 0} (w : TablesWriting) (es : List Entry) (fs : List (FinishedTable A)) (left : Option ℕ) : Type 0 where
+-- finished tables of a list that is cut by the writer's target, with the writer's options, level
+-- and moment, under ids that run on from the writer's; and the counter behind them, which was drawn
+-- from for each table behind the writer's first
+pub record AreWrittenBy {A : Type 0} (w : TablesWriting) (es : List Entry)
+    (fs : List (FinishedTable A)) (left : Option ℕ) : Type 0 where
   pub strict : IsStrict es
   pub lists : List (List Entry)
   pub cut : AreTables w.present.options.data_block_size w.target es lists

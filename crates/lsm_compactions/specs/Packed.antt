@@ -27,8 +27,8 @@ PackedLaw =
     RunsHoldLists runs lists → IsStrict (union_in lists) → SameTables runs packed →
     AreInOrder range_of packed → HoldUnion packed (union_in lists)
 
--- where they hold any list, their tables hold it in other runs in order if each key has its tables in the same
--- order there
+-- where they hold any list, their tables hold it in other runs in order if each key has its tables
+-- in the same order there
 abbrev pub KeptLaw : Type 0
 KeptLaw =
     (runs packed : List (List OpenTable)) (lists : List (List (List Entry))) →

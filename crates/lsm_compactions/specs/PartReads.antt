@@ -6,10 +6,10 @@ use Rattle.sst_entries.specs.Entry.{Entry}
 use Rattle.sst_entries.specs.Point.{point, within}
 use Rattle.lsm_merge.specs.Union.{newest}
 use Rattle.lsm_readers.specs.Table.{OpenTable}
-use Rattle.lsm_sorted.specs.Compaction.{Rules}
+use Rattle.lsm_sorted.specs.declared.compaction.Rules.{Rules}
 use Rattle.lsm_sorted.specs.Point.{shown}
 use Rattle.lsm_compactions.specs.Compacted.{kept_in}
-use Rattle.lsm_compactions.specs.ReadsCompacted.{all_shown, entries_in}
+use Rattle.lsm_compactions.specs.ReadsCompacted.{all_shown, joined_in}
 use Rattle.lsm_runs.specs.RunLists.{DealsList, RunsHoldLists}
 use Rattle.lsm_runs.specs.SeveralRuns.{union_in}
 
@@ -27,11 +27,12 @@ module _ {S : Type 0} (front back : S → Option (Result Entry Error) → S → 
     pub point_is : read.0 ≡ point es key bound
     pub range_is : DealsList front back (newest (within low high es)) read.1
 
-  -- it was read of what is kept of a part's lists, and of the lists in front of them and behind them
+  -- it was read of what is kept of a part's lists, and of the lists in front of them and behind
+  -- them
   pub record ReadsKept (rules : Rules) (fs ps bs : List (List (List Entry)))
       (read : Option Entry × S) : Type 0 where
     pub made : List (List (List Entry))
-    pub kept_are : entries_in made ≡ kept_in rules ps
+    pub kept_are : joined_in made ≡ kept_in rules ps
     pub reads : ReadsOf (union_in (fs ++ (made ++ bs))) read
 
   -- reads of one list before and of another after show the same, point reads to a reader at the
@@ -42,5 +43,5 @@ module _ {S : Type 0} (front back : S → Option (Result Entry Error) → S → 
     pub had_read : ReadsOf had before
     pub has_read : ReadsOf has after
     pub same_point : watermark ≤ bound → shown after.0 ≡ shown before.0
-    pub same_range : all_shown (newest (within low high has))
-        ≡ all_shown (newest (within low high had))
+    pub same_range : all_shown (newest (within low high has)) ≡ all_shown
+        (newest (within low high had))

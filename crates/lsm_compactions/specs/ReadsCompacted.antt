@@ -8,7 +8,7 @@ use Rattle.sst_entries.specs.Point.{within}
 use Rattle.sst_entries.specs.Strict.{IsStrict}
 use Rattle.lsm_files.specs.Chunks.{joined}
 use Rattle.lsm_merge.specs.Union.{SameBag, newest}
-use Rattle.lsm_sorted.specs.Compaction.{Rules}
+use Rattle.lsm_sorted.specs.declared.compaction.Rules.{Rules}
 use Rattle.lsm_sorted.specs.Point.{seen}
 use Rattle.lsm_sorted.specs.ReadLaw.{AllNewer, IsPlain}
 use Rattle.lsm_writers.specs.Writing.{IsWritable}
@@ -23,17 +23,18 @@ abbrev pub all_shown : List Entry → List (List ℕ × ValueType × List ℕ)
 all_shown es = map shown_of (filter (λ e. not (is_tombstone_kind e.kind)) es)
 
 -- the entries of several runs' lists, run by run
-abbrev pub entries_in : List (List (List Entry)) → List Entry
-entries_in lists = joined (map joined lists)
+abbrev pub joined_in : List (List (List Entry)) → List Entry
+joined_in lists = joined (map joined lists)
 
--- a part of the runs is compacted, and the rest stays: the runs before have the entries of both, where no key is there twice
--- under one number; those after have what is kept of the part, and the entries of the rest, in whatever runs. Nothing is evicted
--- or zeroed and no weak tombstone is in the part, or else of each key all others are newer than the part
+-- a part of the runs is compacted, and the rest stays: the runs before have the entries of both,
+-- where no key is there twice under one number; those after have what is kept of the part, and the
+-- entries of the rest, in whatever runs. Nothing is evicted or zeroed and no weak tombstone is in
+-- the part, or else of each key all others are newer than the part
 pub record AreReplaced (rules : Rules) (part rest before after : List (List (List Entry))) : Type 0
   where
     pub strict : IsStrict (union_in before)
-    pub had : SameBag (entries_in before) (entries_in part ++ entries_in rest)
-    pub has : SameBag (entries_in after) (kept_in rules part ++ entries_in rest)
+    pub had : SameBag (joined_in before) (joined_in part ++ joined_in rest)
+    pub has : SameBag (joined_in after) (kept_in rules part ++ joined_in rest)
     pub safe : IsPlain rules (union_in part) ⊎ AllNewer (union_in part) (union_in rest)
 
 -- a point read whose bound is the watermark or above sees the same of each key
@@ -63,6 +64,6 @@ StayWritable = (rules : Rules) (part rest before after : List (List (List Entry)
 -- so it is where runs that stand side by side are compacted into runs that take their place
 abbrev pub SideBySide : Type 0
 SideBySide = (rules : Rules) (front part made behind : List (List (List Entry))) →
-    entries_in made ≡ kept_in rules part → IsStrict (union_in (front ++ (part ++ behind))) →
+    joined_in made ≡ kept_in rules part → IsStrict (union_in (front ++ (part ++ behind))) →
     IsPlain rules (union_in part) ⊎ AllNewer (union_in part) (union_in (front ++ behind)) →
     AreReplaced rules part (front ++ behind) (front ++ (part ++ behind)) (front ++ (made ++ behind))

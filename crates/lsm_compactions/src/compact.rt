@@ -5,7 +5,8 @@ ghost use Rattle.std.specs.Iterator.{IsFinite};
 ghost use Rattle.sst_entries.specs.declared.error.Error.TheVariants.{OutOfMemory};
 ghost use Rattle.lsm_compactions.specs.ReadsCompacted.{PointsStay, RangesStay, SideBySide};
 ghost use Rattle.lsm_compactions.specs.ReadsCompacted.{StayStrict, StayWritable};
-ghost use Rattle.lsm_compactions.specs.Words.{AreCompactable, AreWrittenBy, CanDeal, DealTogether, DealsList};
+ghost use Rattle.lsm_compactions.specs.Words.{AreCompactable, AreWrittenBy, CanDeal, DealTogether};
+ghost use Rattle.lsm_compactions.specs.Words.{DealsList};
 ghost use Rattle.lsm_compactions.specs.Words.{DealsWritable, Entry, Faults, FitsBy, HaveEntries};
 ghost use Rattle.lsm_compactions.specs.Words.{HoldLists, IsFreshRun, RunsHoldLists, RunsOn, joined};
 ghost use Rattle.lsm_compactions.specs.Words.{kept_in, nowhere, rules_by, writes_fault};
@@ -14,6 +15,7 @@ use lsm_merge::Merger;
 use lsm_ranges::Run;
 use lsm_readers::Table;
 use lsm_runs::RunScanner;
+use lsm_sorted::compaction::Rules;
 use lsm_sorted::compaction::stream::{CompactionStream, read_law};
 use lsm_writers::{FinishedTable, MultiWriter, TableIds, tables_law};
 use sst_blocks::{Error, IterItem, SeqNo};
@@ -52,29 +54,26 @@ fn scanners_of<A: Allocator + Clone>(
     Ok(scanners)
 }
 
-// What is kept of all entries of some sources together, in order. It is generic in these, so that none of a scanner's parts is
-// looked at.
+// What is kept of all entries of some sources together, in order. It is generic in these, so that
+// none of a scanner's parts is looked at.
 fn kept_from<I: Iterator<Item = IterItem<A>>, A: Allocator + Clone>(
     alloc: A,
     sources: Vec<I, A>,
-    gc_seqno_threshold: SeqNo,
-    evict_tombstones: bool,
-    zero_seqnos: bool,
+    rules: Rules,
 ) -> Result<CompactionStream<Merger<I, A>>, Error>
     ensures can { All (CanDeal I.next_gives nowhere I.can_next I.can_next) sources.items →
         All (λ s. IsFinite (I.remaining s)) sources.items →
         IfOk result ⟦<CompactionStream<Merger<I, A>> as Iterator>⟧.can_next }
-    ensures list { let rules = rules_by gc_seqno_threshold evict_tombstones zero_seqnos in
-        let gives = ⟦<CompactionStream<Merger<I, A>> as Iterator>⟧.next_gives in
+    ensures list { let gives = ⟦<CompactionStream<Merger<I, A>> as Iterator>⟧.next_gives in
         (lists : List (List (List Entry))) →
         DealTogether I.next_gives nowhere sources.items (map joined lists) →
         IfOk result (DealsList gives nowhere (kept_in rules lists)) }
     ensures err { IfErr result (λ e. e ≡ OutOfMemory) }
 {
     let merger = Merger::new(alloc, sources)?;
-    let stream = CompactionStream::new(merger, gc_seqno_threshold)
-        .evict_tombstones(evict_tombstones)
-        .zero_seqnos(zero_seqnos);
+    let stream = CompactionStream::new(merger, rules.watermark)
+        .evict_tombstones(rules.evict)
+        .zero_seqnos(rules.zeroing);
     // What it goes through it deals compacted.
     stream.unfiltered_run();
     Ok(stream)
@@ -84,27 +83,19 @@ fn kept_from<I: Iterator<Item = IterItem<A>>, A: Allocator + Clone>(
 fn kept_of<A: Allocator + Clone>(
     alloc: A,
     runs: &[Arc<Run<Table<A>, A>, A>],
-    gc_seqno_threshold: SeqNo,
-    evict_tombstones: bool,
-    zero_seqnos: bool,
+    rules: Rules,
 ) -> Result<CompactionStream<Merger<RunScanner<A>, A>>, Error>
     requires { AreCompactable (map arc_value runs.now) }
     ensures can { IfOk result
         ⟦<CompactionStream<Merger<RunScanner<A>, A>> as Iterator>⟧.can_next }
-    ensures list { let rules = rules_by gc_seqno_threshold evict_tombstones zero_seqnos in
-        let gives = ⟦<CompactionStream<Merger<RunScanner<A>, A>> as Iterator>⟧.next_gives in
+    ensures list { let gives =
+        ⟦<CompactionStream<Merger<RunScanner<A>, A>> as Iterator>⟧.next_gives in
         (able : AreCompactable (map arc_value runs.now)) →
         IfOk result (DealsList gives nowhere (kept_in rules able.lists)) }
     ensures err { IfErr result (λ e. e ≡ OutOfMemory) }
 {
     let scanners = scanners_of(alloc.clone()?, runs)?;
-    kept_from(
-        alloc,
-        scanners,
-        gc_seqno_threshold,
-        evict_tombstones,
-        zero_seqnos,
-    )
+    kept_from(alloc, scanners, rules)
 }
 
 // Writes all that a stream deals, and finishes. Refused as the writer is.
@@ -131,14 +122,14 @@ fn write_all<I: Iterator<Item = IterItem<A>> + Drop, A: Allocator + Clone>(
     Ok((tables, left))
 }
 
-/// Compacts several runs into new tables: what a [`CompactionStream`] without a filter keeps of all their entries together is
-/// written by `writer`, in one pass. Answers the finished tables, none where nothing is kept, and the writer's counter of ids
-/// behind them.
+/// Compacts several runs into new tables: what a [`CompactionStream`] without a filter keeps of all
+/// their entries together is written by `writer`, in one pass. Answers the finished tables, none
+/// where nothing is kept, and the writer's counter of ids behind them.
 ///
-/// Refused as [`MultiWriter::write`] and [`MultiWriter::finish`] are, and [`Error::OutOfMemory`]. Whatever is answered, the runs
-/// are as they were. Conditions: `writer` has written nothing; the runs are in order, each has a table, and each of their tables
-/// holds a list that has an entry; in all lists together, lifted, no key has one number twice, and each number is below
-/// `u64::MAX`.
+/// Refused as [`MultiWriter::write`] and [`MultiWriter::finish`] are, and [`Error::OutOfMemory`].
+/// Whatever is answered, the runs are as they were. Conditions: `writer` has written nothing; the
+/// runs are in order, each has a table, and each of their tables holds a list that has an entry; in
+/// all lists together, lifted, no key has one number twice, and each number is below `u64::MAX`.
 pub fn compact_runs<A: Allocator + Clone>(
     alloc: A,
     runs: &[Arc<Run<Table<A>, A>, A>],
@@ -164,24 +155,24 @@ pub fn compact_runs<A: Allocator + Clone>(
 {
     // A list whose tables fit is taken whole.
     tables_law();
-    let stream = kept_of(
-        alloc,
-        runs,
-        gc_seqno_threshold,
-        evict_tombstones,
-        zero_seqnos,
-    )?;
+    let rules = Rules {
+        watermark: gc_seqno_threshold,
+        evict: evict_tombstones,
+        zeroing: zero_seqnos,
+    };
+    let stream = kept_of(alloc, runs, rules)?;
     write_all(stream, writer)
 }
 
-/// Laws of reads of several runs where a part of them is compacted, without a filter, and the rest stays: no key was there
-/// twice under one number, and nothing is evicted or zeroed and the part has no weak tombstone, or of each key all others are
-/// newer. A point read whose bound is the watermark or above sees the same of each key before and after, and so does a range of
-/// the newest versions within any bounds. Again no key is there twice under one number, and where each number was below the
-/// largest one, each still is: so the runs may be compacted again.
+/// Laws of reads of several runs where a part of them is compacted, without a filter, and the rest
+/// stays: no key was there twice under one number, and nothing is evicted or zeroed and the part
+/// has no weak tombstone, or of each key all others are newer. A point read whose bound is the
+/// watermark or above sees the same of each key before and after, and so does a range of the newest
+/// versions within any bounds. Again no key is there twice under one number, and where each number
+/// was below the largest one, each still is: so the runs may be compacted again.
 ///
-/// What is said holds wherever the new runs stand among the others; the last clause says it of runs side by side. The call does
-/// nothing: its contract says so.
+/// What is said holds wherever the new runs stand among the others; the last clause says it of runs
+/// side by side. The call does nothing: its contract says so.
 pub fn compaction_law()
     ensures points { PointsStay }
     ensures ranges { RangesStay }

@@ -1,4 +1,5 @@
-//! Making runs of tables: of a list, of several runs that are compacted, and of the tables of several runs that are packed.
+//! Making runs of tables: of a list, of several runs that are compacted, and of the tables of
+//! several runs that are packed.
 #![tactic(auto)]
 
 mod compact;

@@ -3,7 +3,8 @@ ghost use Rattle.std.specs.Prelude.{◌≡◌, ◌<◌, ◌≤◌, IfErr, IfOk, 
 ghost use Rattle.std.specs.Arc.{arc_value};
 ghost use Rattle.sst_entries.specs.Entry.{Entry};
 ghost use Rattle.sst_entries.specs.declared.error.Error.TheVariants.{OutOfMemory};
-ghost use Rattle.lsm_ranges.specs.Packing.{AreInOrder, ArePacked, ArePlaced, IsLeastSize, SameHolders, SameTables};
+ghost use Rattle.lsm_ranges.specs.Packing.{AreInOrder, ArePacked, ArePlaced, IsLeastSize};
+ghost use Rattle.lsm_ranges.specs.Packing.{SameHolders, SameTables};
 ghost use Rattle.lsm_ranges.specs.Packing.{tables_of};
 ghost use Rattle.lsm_compactions.specs.Compacted.{AreCompactable};
 ghost use Rattle.lsm_compactions.specs.Packed.{HeldLaw, HoldUnion, KeptLaw, PackedLaw, has_table};
@@ -19,10 +20,11 @@ use std::sync::Arc;
 
 /// Laws of the same tables in other runs, each in order.
 ///
-/// Of runs in order that hold together a strict list, in which no key has one number twice, whatever runs in order have
-/// their tables hold that list; so a point read and a range give the same of them. Where the list is not strict, it
-/// still holds of runs in which each key has its tables in the same order. The tables of runs hold one list each: what two
-/// clauses say of their lists is said of the same ones.
+/// Of runs in order that hold together a strict list, in which no key has one number twice,
+/// whatever runs in order have their tables hold that list; so a point read and a range give the
+/// same of them. Where the list is not strict, it still holds of runs in which each key has its
+/// tables in the same order. The tables of runs hold one list each: what two clauses say of their
+/// lists is said of the same ones.
 ///
 /// The call does nothing: its contract says so.
 pub fn packing_law()
@@ -64,13 +66,15 @@ fn share_runs<A: Allocator + Clone>(
     Ok(shared)
 }
 
-/// Packs the tables of some runs in as few runs as there can be, as [`optimize_runs`]; runs with no table are left out. The
-/// tables are shared handles: no bytes are copied, and the given runs stay. Refused [`Error::OutOfMemory`] alone.
+/// Packs the tables of some runs in as few runs as there can be, as [`optimize_runs`]; runs with no
+/// table are left out. The tables are shared handles: no bytes are copied, and the given runs stay.
+/// Refused [`Error::OutOfMemory`] alone.
 pub fn pack_runs<A: Allocator + Clone>(
     alloc: A,
     runs: &[Arc<Run<Table<A>, A>, A>],
 ) -> Result<Vec<Run<Table<A>, A>, A>, Error>
-    // Of tables of lists in runs in order the packed runs hold the same lists' entries, so each read gives the same.
+    // Of tables of lists in runs in order the packed runs hold the same lists' entries, so each
+    // read gives the same.
     ensures list { (lists : List (List (List Entry))) →
         RunsHoldLists (map arc_value runs.now) lists →
         IfOk result (λ packed. HoldUnion packed.items (union_in lists)) }

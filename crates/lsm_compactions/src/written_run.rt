@@ -1,5 +1,6 @@
 //! A list that is written as tables, which are opened and put in a run.
-ghost use Rattle.std.specs.Prelude.{◌≡◌, ◌∷◌, ◌+◌, ◌^◌, ◌<◌, [], length, List, IfErr, IfOk, IfSome, MatchOption};
+ghost use Rattle.std.specs.Prelude.{◌≡◌, ◌∷◌, ◌+◌, ◌^◌, ◌<◌, [], length, List, IfErr, IfOk, IfSome};
+ghost use Rattle.std.specs.Prelude.{MatchOption};
 ghost use Rattle.std.specs.List.{AllByRecursion};
 ghost use Rattle.std.specs.Option.{option_map_or};
 ghost use Rattle.sst_entries.specs.declared.error.Error.TheVariants.{OutOfMemory};
@@ -7,7 +8,8 @@ ghost use Rattle.lsm_files.specs.declared.label.Label.{Label};
 ghost use Rattle.lsm_compactions.specs.Words.{AreCompactable, AreCutOf, AreFinished, AreOpened};
 ghost use Rattle.lsm_compactions.specs.Words.{AreWritten, Entry, Faults, FitsAsTables};
 ghost use Rattle.lsm_compactions.specs.Words.{IsOpenedOf, IsRunOfList, IsTableOf, IsWritable};
-ghost use Rattle.lsm_compactions.specs.Words.{chain_fault, default_options, highest_seqno, ids_behind};
+ghost use Rattle.lsm_compactions.specs.Words.{chain_fault, default_options, highest_seqno};
+ghost use Rattle.lsm_compactions.specs.Words.{ids_behind};
 ghost use Rattle.lsm_compactions.specs.Words.{joined, lift, number_fault, run_label, tables_fault};
 
 use lsm_ranges::Run;
@@ -16,7 +18,8 @@ use lsm_writers::{FinishedTable, MultiWriter, TableIds, tables_law};
 use sst_blocks::{Error, InternalValue, SeqNo};
 use std::alloc::Allocator;
 
-// Writes a list as tables of a target size; none where it has no entry. Refused as `MultiWriter` is.
+// Writes a list as tables of a target size; none where it has no entry. Refused as `MultiWriter`
+// is.
 fn write_tables<A: Allocator + Clone>(
     alloc: A,
     ids: TableIds,
@@ -85,12 +88,13 @@ pub(crate) fn open_tables<A: Allocator + Clone>(
     Ok(opened)
 }
 
-/// Writes a list as tables of the first level, each but the last of at least `target_size` bytes of data blocks, under ids
-/// that run on, opens each and puts them in a run; no run where the list has no entry. Answers the counter of ids behind the
-/// last table, too.
+/// Writes a list as tables of the first level, each but the last of at least `target_size` bytes of
+/// data blocks, under ids that run on, opens each and puts them in a run; no run where the list has
+/// no entry. Answers the counter of ids behind the last table, too.
 ///
 /// Refused as [`MultiWriter::new`], [`MultiWriter::write`] and [`MultiWriter::finish`] are, then
-/// [`Error::GlobalSeqNoTooLarge`] where the highest number plus `global_seqno` passes `u64`; and [`Error::OutOfMemory`].
+/// [`Error::GlobalSeqNoTooLarge`] where the highest number plus `global_seqno` passes `u64`; and
+/// [`Error::OutOfMemory`].
 pub fn write_run<A: Allocator + Clone>(
     alloc: A,
     ids: TableIds,
@@ -108,10 +112,12 @@ pub fn write_run<A: Allocator + Clone>(
         AreCutOf (run_label ids target_size created_at) target_size items.items global_seqno run)) }
     ensures ids { IfOk result (λ r.
         r.1 ≡ ids_behind ids target_size (option_map_or length r.0 0)) }
-    // Where the lifted list can be written, as where its numbers stay below the largest one, the run may be compacted.
+    // Where the lifted list can be written, as where its numbers stay below the largest one, the
+    // run may be compacted.
     ensures able { IsWritable (lift items.items global_seqno) →
         IfOk result (λ r. IfSome r.0 (λ run. AreCompactable (run ∷ []))) }
-    // Memory aside, the refusal is the first: of the counter, of the entries in order, of the last table, of the numbers.
+    // Memory aside, the refusal is the first: of the counter, of the entries in order, of the last
+    // table, of the numbers.
     ensures refused { Faults result
         (chain_fault ids target_size created_at items.items global_seqno) }
     // A list whose tables fit, with an id left for each, is refused for want of memory alone.

@@ -10,13 +10,13 @@ use Rattle.std.proofs.lemmas.Cmp.{upto}
 use Rattle.sst_entries.specs.Entry.{Entry}
 use Rattle.sst_entries.specs.Key.{key_cmp}
 use Rattle.lsm_merge.specs.Ends.{R}
-use Rattle.lsm_merge.specs.Union.{key_of, item_cmp, AtMost, entries_among, all_entries, insert_sorted, sort_entries, union_of}
+use Rattle.lsm_merge.specs.Union.{internal_key_of, item_cmp, AtMost, entries_among, all_entries, insert_sorted, sort_entries, union_of}
 
 key_total : IsTotalOrder (key_cmp {A = Unit {0}})
 key_total = search (comparing, rules) depth 9
 
 pub item_total : IsTotalOrder item_cmp
-item_total = on_total key_of key_total
+item_total = on_total internal_key_of key_total
 
 -- x is above y
 abbrev pub Above : Entry → Entry → Type 0

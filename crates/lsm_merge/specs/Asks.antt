@@ -1,5 +1,7 @@
 -- One call of a merger, by what it asks of its sources.
-use Rattle.std.specs.Prelude.{◌≡◌, ◌⊎◌, ℕ, zero, suc, ◌+◌, ◌<◌, ◌≤◌, Bool, true, false, List, [], ◌∷◌, length, map, All, IsPermutation, slice_index_or, slice_set, Option, Some, None, Result, Ok, Err}
+use Rattle.std.specs.Prelude.{◌≡◌, ◌⊎◌, ℕ, zero, suc, ◌+◌, ◌<◌, ◌≤◌, Bool, true, false, List, []}
+use Rattle.std.specs.Prelude.{◌∷◌, length, map, All, IsPermutation, slice_index_or, slice_set}
+use Rattle.std.specs.Prelude.{Option, Some, None, Result, Ok, Err}
 use Rattle.std.specs.Ordering.{is_gt}
 use Rattle.sst_entries.specs.Entry.{Entry}
 use Rattle.sst_entries.specs.declared.error.Error.{Error}
@@ -22,7 +24,8 @@ abbrev pub Puts : {A : Type 0} → Direction → ℕ → Option R → List (Heap
 Puts end i None old new = new ≡ old
 Puts end i (Some (Err e)) old new = new ≡ old
 Puts {A} end i (Some (Ok x)) old new =
-    (h : HeapItem A) × (entry_of h ≡ x) × (h.source ≡ i) × (h.end ≡ end) × IsPermutation (h ∷ old) new
+    (h : HeapItem A) × (entry_of h ≡ x) × (h.source ≡ i) × (h.end ≡ end)
+    × IsPermutation (h ∷ old) new
 
 -- an error, if a source gave one
 abbrev pub error_told : Option R → Result (Unit {0}) Error
@@ -66,14 +69,16 @@ pub record HoldsNone {S A : Type 0} (m n : Merger S A) : Type 0 where
   pub same : SameSources m n
 
 -- the first of what is held, seen from an end, was taken out
-pub record Pops {S A : Type 0} (end : Direction) (m : Merger S A) (h : HeapItem A) (n : Merger S A) : Type 0 where
+pub record Pops {S A : Type 0} (end : Direction) (m : Merger S A) (h : HeapItem A)
+    (n : Merger S A) : Type 0 where
   pub leads : Leads end h m.heap.items
   pub left : IsPermutation m.heap.items (h ∷ n.heap.items)
   pub same : SameSources m n
 
 module _ {S : Type 0} (ask : S → Option R → S → Type 0) (end : Direction) where
   -- source i was asked once at this end: its entry is held, its error told
-  pub record AsksSource {A : Type 0} (i : ℕ) (m : Merger S A) (r : Result (Unit {0}) Error) (n : Merger S A) : Type 0 where
+  pub record AsksSource {A : Type 0} (i : ℕ) (m : Merger S A) (r : Result (Unit {0}) Error)
+      (n : Merger S A) : Type 0 where
     pub within : i < length m.sources.items
     pub was : Ends S
     pub is : Ends S
@@ -104,17 +109,20 @@ module _ {S : Type 0} (ask : S → Option R → S → Type 0) (end : Direction) 
     pub fails : AsksSource place before (Err e) n
 
   -- by whether the end is ready: nothing is asked, or each source is
-  abbrev pub FillsIf : {A : Type 0} → Bool → Merger S A → Result (Unit {0}) Error → Merger S A → Type 0
+  abbrev pub FillsIf : {A : Type 0} → Bool → Merger S A → Result (Unit {0}) Error → Merger S A
+      → Type 0
   FillsIf true m r n = (r ≡ Ok tt) × (n ≡ m)
   FillsIf false m (Ok u) n = AsksAll m n
   FillsIf false m (Err e) n = FailsAt e m n
 
   -- at the first call at this end, and at no other, each source is asked
-  pub record Fills {A : Type 0} (m : Merger S A) (r : Result (Unit {0}) Error) (n : Merger S A) : Type 0 where
+  pub record Fills {A : Type 0} (m : Merger S A) (r : Result (Unit {0}) Error) (n : Merger S A) :
+      Type 0 where
     pub fill : FillsIf (is_ready end m) m r n
 
   -- the first of what is held was taken out, and its source, no other, was asked for the next
-  pub record TakesLead {A : Type 0} (m : Merger S A) (r : Result (Option Entry) Error) (n : Merger S A) : Type 0 where
+  pub record TakesLead {A : Type 0} (m : Merger S A) (r : Result (Option Entry) Error)
+      (n : Merger S A) : Type 0 where
     pub lead : HeapItem A
     pub mid : Merger S A
     pub pops : Pops end m lead mid
@@ -123,25 +131,28 @@ module _ {S : Type 0} (ask : S → Option R → S → Type 0) (end : Direction) 
     pub told : r ≡ entry_told (entry_of lead) answer
 
   -- nothing is held, or the first that is held is taken; what failed before is the answer
-  abbrev pub TakesLeadIf : {A : Type 0} → Result (Unit {0}) Error → Merger S A → Result (Option Entry) Error
+  abbrev pub TakesLeadIf : {A : Type 0} → Result (Unit {0}) Error → Merger S A
+      → Result (Option Entry) Error
       → Merger S A → Type 0
   TakesLeadIf (Ok u) m r n = ((r ≡ Ok None) × HoldsNone m n) ⊎ TakesLead m r n
   TakesLeadIf (Err e) m r n = (r ≡ Err e) × (n ≡ m)
 
   -- once the end is ready, one turn
-  pub record TakesStep {A : Type 0} (m : Merger S A) (r : Result (Option Entry) Error) (n : Merger S A) : Type 0 where
+  pub record TakesStep {A : Type 0} (m : Merger S A) (r : Result (Option Entry) Error)
+      (n : Merger S A) : Type 0 where
     pub fill : Result (Unit {0}) Error
     pub filled : Merger S A
     pub fills : Fills m fill filled
     pub turns : TakesLeadIf fill filled r n
 
   -- a step, where no source failed
-  pub record AnswersCall {A : Type 0} (m : Merger S A) (r : Option R) (n : Merger S A) : Type 0 where
-    pub step : Result (Option Entry) Error
-    pub led : Merger S A
-    pub steps : TakesStep m step led
-    pub answer : r ≡ answer_told step
-    pub state : n ≡ ended_at step led
+  pub record AnswersCall {A : Type 0} (m : Merger S A) (r : Option R) (n : Merger S A) : Type 0
+    where
+      pub step : Result (Option Entry) Error
+      pub led : Merger S A
+      pub steps : TakesStep m step led
+      pub answer : r ≡ answer_told step
+      pub state : n ≡ ended_at step led
 
   -- by whether an error was met before: `None` alone, or a step
   abbrev pub CallsIf : {A : Type 0} → Bool → Merger S A → Option R → Merger S A → Type 0
@@ -149,7 +160,8 @@ module _ {S : Type 0} (ask : S → Option R → S → Type 0) (end : Direction) 
   CallsIf false m r n = AnswersCall m r n
 
   -- one call at this end. It asks nothing of any source at the other end
-  pub record Calls {A : Type 0} (May : Merger S A → Type 0) (m : Merger S A) (r : Option R) (n : Merger S A) : Type 0 where
+  pub record Calls {A : Type 0} (May : Merger S A → Type 0) (m : Merger S A) (r : Option R)
+      (n : Merger S A) : Type 0 where
     pub may : May n
     pub call : CallsIf m.failed m r n
 

@@ -1,5 +1,6 @@
 -- An iterator that is not called again once it gave `None`.
-use Rattle.std.specs.Prelude.{◌≡◌, ℕ, Bool, true, false, cond, List, [], Option, None, Result, is_none}
+use Rattle.std.specs.Prelude.{◌≡◌, ℕ, Bool, true, false, cond, List, [], Option, None, Result}
+use Rattle.std.specs.Prelude.{is_none}
 use Rattle.std.specs.Iterator.{Count, IsFinite, size}
 use Rattle.sst_entries.specs.Entry.{Entry}
 use Rattle.sst_entries.specs.declared.error.Error.{Error}
@@ -23,7 +24,8 @@ module _ {S : Type 0} (stops : Error → Bool) (front back : S → Option R → 
     pub lists : LeftIf s.done s.iter xs
 
 -- a call gave what stood at its end
-abbrev pub DealsAt : Direction → (Error → Bool) → {T : Type 0} → (T → List R → Type 0) → T → Option R → T → Type 0
+abbrev pub DealsAt : Direction → (Error → Bool) → {T : Type 0} → (T → List R → Type 0) → T
+    → Option R → T → Type 0
 DealsAt Front stops Has = DealsFirst stops Has
 DealsAt Back stops Has = DealsLast stops Has
 
@@ -46,10 +48,12 @@ abbrev pub new_ends : {S : Type 0} → S → Ends S
 new_ends s = record { iter = s; done = false }
 
 -- one call, by whether it has ended
-abbrev pub AskedIf : {S : Type 0} → (S → Option R → S → Type 0) → Bool → Ends S → Option R → Ends S → Type 0
+abbrev pub AskedIf : {S : Type 0} → (S → Option R → S → Type 0) → Bool → Ends S → Option R → Ends S
+    → Type 0
 AskedIf ask true s r t = (r ≡ None) × (t ≡ s)
 AskedIf ask false s r t = ask s.iter r t.iter × (t.done ≡ is_none r)
 
 -- the iterator was asked once, in this way; one that has ended was left alone
-pub record Asked {S : Type 0} (ask : S → Option R → S → Type 0) (s : Ends S) (r : Option R) (t : Ends S) : Type 0 where
+pub record Asked {S : Type 0} (ask : S → Option R → S → Type 0) (s : Ends S) (r : Option R)
+    (t : Ends S) : Type 0 where
   pub call : AskedIf ask s.done s r t

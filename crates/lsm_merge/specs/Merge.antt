@@ -1,5 +1,7 @@
 -- A merger of sources: what it holds, how often it may be called, and what calls of it give.
-use Rattle.std.specs.Prelude.{◌≡◌, ℕ, ◌+◌, ◌<◌, ◌≤◌, ◌==◌, ◌⊎◌, Bool, true, false, cond, List, [], ◌∷◌, length, All, Contains, IsPermutation, count_by, Option, Some, None, Result, Ok, Err, MatchResult, sum_by}
+use Rattle.std.specs.Prelude.{◌≡◌, ℕ, ◌+◌, ◌<◌, ◌≤◌, ◌==◌, ◌⊎◌, Bool, true, false, cond, List, []}
+use Rattle.std.specs.Prelude.{◌∷◌, length, All, Contains, IsPermutation, count_by, Option, Some}
+use Rattle.std.specs.Prelude.{None, Result, Ok, Err, MatchResult, sum_by}
 use Rattle.std.specs.List.{AllByRecursion}
 use Rattle.std.specs.Iterator.{Count}
 use Rattle.std.specs.Ordering.{nat_cmp, on, then_cmp}
@@ -78,7 +80,8 @@ pub record SameRoom {S A : Type 0} (s t : Merger S A) : Type 0 where
   pub back_ready : t.back_ready ≡ s.back_ready
   pub failed : t.failed ≡ s.failed
 
-module _ {S : Type 0} (front back : S → Option R → S → Type 0) (can can_back : S → Type 0) (left : S → Count) where
+module _ {S : Type 0} (front back : S → Option R → S → Type 0) (can can_back : S → Type 0)
+    (left : S → Count) where
   -- the sources may be called, at most this many entries are held, and of source k at most limit k
   pub record Bounded {A : Type 0} (limit : ℕ → ℕ) (most : ℕ) (m : Merger S A) : Type 0 where
     pub sources : All (Goes front back can can_back left) m.sources.items
@@ -111,14 +114,17 @@ Follows errors told [] = told ≡ []
 Follows errors [] (r ∷ rs) = ⊥
 Follows errors (d ∷ told) (None ∷ rs) = (d ≡ None) × (errors ≡ []) × Follows errors told rs
 Follows errors (d ∷ told) (Some (Ok x) ∷ rs) = (d ≡ Some (Ok x)) × Follows errors told rs
-Follows errors (d ∷ told) (Some (Err e) ∷ rs) = Contains errors e × AllByRecursion (λ r. r ≡ None) rs
+Follows errors (d ∷ told) (Some (Err e) ∷ rs) = Contains errors e
+    × AllByRecursion (λ r. r ≡ None) rs
 
 -- for every list of ends, the answers are those of dealing xs, up to one of the errors
-pub record DealsUntil {S : Type 0} (stops : Error → Bool) (front back : S → Option R → S → Type 0) (s : S) (xs : List Entry) (errors : List Error) : Type 0 where
+pub record DealsUntil {S : Type 0} (stops : Error → Bool) (front back : S → Option R → S → Type 0)
+    (s : S) (xs : List Entry) (errors : List Error) : Type 0 where
   pub answers : (ends : List Direction) (rs : List (Option R)) (t : S) → Runs front back s ends rs t
       → NoneStops (answer_stops stops) rs → Follows errors (deal (ok_results xs) ends) rs
 
 -- wherever calls lead, at most this many entries of each source are held
-pub record HoldsAtMost {S A : Type 0} (most : ℕ) (front back : Merger S A → Option R → Merger S A → Type 0) (m : Merger S A) : Type 0 where
+pub record HoldsAtMost {S A : Type 0} (most : ℕ) (front back : Merger S A → Option R → Merger S A
+    → Type 0) (m : Merger S A) : Type 0 where
   pub at : (ends : List Direction) (rs : List (Option R)) (t : Merger S A)
       → Runs front back m ends rs t → (k : ℕ) → held_of k t ≤ most

@@ -1,5 +1,6 @@
 -- Sorted lists of entries, and lists with the same entries.
-use Rattle.std.specs.Prelude.{◌≡◌, ◌<◌, Bool, true, false, cond, not, List, [], ◌∷◌, ◌++◌, filter, count_by, Ok, Err}
+use Rattle.std.specs.Prelude.{◌≡◌, ◌<◌, Bool, true, false, cond, not, List, [], ◌∷◌, ◌++◌, filter}
+use Rattle.std.specs.Prelude.{count_by, Ok, Err}
 use Rattle.std.specs.declared.cmp.Ordering.{Ordering}
 use Rattle.std.specs.List.{AllByRecursion}
 use Rattle.std.specs.Ordering.{on, is_gt}
@@ -10,12 +11,12 @@ use Rattle.sst_entries.specs.declared.error.Error.{Error}
 use Rattle.lsm_merge.specs.Ends.{R}
 
 -- the key, the number and the kind of an entry
-abbrev pub key_of : Entry → InternalKey (Unit {0})
-key_of e = record { user_key = e.user_key; seqno = e.seqno; value_type = e.kind }
+abbrev pub internal_key_of : Entry → InternalKey (Unit {0})
+internal_key_of e = record { user_key = e.user_key; seqno = e.seqno; value_type = e.kind }
 
 -- entries in the order of their keys
 abbrev pub item_cmp : Entry → Entry → Ordering
-item_cmp = on key_of key_cmp
+item_cmp = on internal_key_of key_cmp
 
 -- an entry is not behind another in that order
 abbrev pub AtMost : Entry → Entry → Type 0

@@ -1,9 +1,13 @@
--- The words of the contracts of a merger, those of the crate below among them, so that a file asks for them once.
+-- The words of the contracts of a merger, those of the crate below among them, so that a file asks
+-- for them once.
 pub use Rattle.sst_entries.specs.Entry.{Entry}
 pub use Rattle.sst_entries.specs.Stream.{Steps, nowhere, EndsAtError}
 pub use Rattle.sst_entries.specs.Strict.{IsStrict}
 pub use Rattle.lsm_merge.specs.Ends.{R, new_ends, Goes}
 pub use Rattle.lsm_merge.specs.Union.{IsUnion, union_of}
-pub use Rattle.lsm_merge.specs.Merge.{HoldsAtMost, Adds, SameRoom, HasPlaces, MayMerge, LowersTotal, merge_size, entry_of, is_ready, turn_cmp, turn_total}
-pub use Rattle.lsm_merge.specs.Asks.{AsksSource, Fills, Calls, IsMergerOf, HoldsNone, Pops, made_ready}
-pub use Rattle.lsm_merge.specs.MergeLaws.{DealsBeforeErrors, DealsMerged, DealsUntilError, MeetsErrorsLate, CanMerge}
+pub use Rattle.lsm_merge.specs.Merge.{HoldsAtMost, Adds, SameRoom, HasPlaces, MayMerge, LowersTotal}
+pub use Rattle.lsm_merge.specs.Merge.{merge_size, entry_of, is_ready, turn_cmp, turn_total}
+pub use Rattle.lsm_merge.specs.Asks.{AsksSource, Fills, Calls, IsMergerOf, HoldsNone, Pops}
+pub use Rattle.lsm_merge.specs.Asks.{made_ready}
+pub use Rattle.lsm_merge.specs.MergeLaws.{DealsBeforeErrors, DealsMerged, DealsUntilError}
+pub use Rattle.lsm_merge.specs.MergeLaws.{MeetsErrorsLate, CanMerge}

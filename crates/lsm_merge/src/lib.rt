@@ -1,4 +1,5 @@
-//! Merging of several sorted sources, from both ends. Of `lsm_heaps` it passes on `IntervalHeap` and `Tournament`.
+//! Merging of several sorted sources, from both ends. Of `lsm_heaps` it passes on `IntervalHeap`
+//! and `Tournament`.
 #![tactic(auto)]
 
 mod ends;

@@ -1,15 +1,22 @@
 //! Several sorted sources as one.
-ghost use Rattle.std.specs.Prelude.{◌≡◌, ℕ, ◌+◌, ◌*◌, ◌<◌, ◌≤◌, true, false, List, [], length, map, All, IfOk, IfErr, IfSome, IfNone};
+ghost use Rattle.std.specs.Prelude.{◌≡◌, ℕ, ◌+◌, ◌*◌, ◌<◌, ◌≤◌, true, false, List, [], length, map};
+ghost use Rattle.std.specs.Prelude.{All, IfOk, IfErr, IfSome, IfNone};
 ghost use Rattle.std.specs.Iterator.{at_most, MakesProgress};
 ghost use Rattle.sst_entries.specs.declared.stream.Direction.TheVariants.{Front, Back};
 ghost use Rattle.sst_entries.specs.declared.error.Error.TheVariants.{OutOfMemory};
-ghost use Rattle.lsm_merge.specs.Words.{Adds, AsksSource, Calls, CanMerge, DealsBeforeErrors, DealsMerged};
-ghost use Rattle.lsm_merge.specs.Words.{DealsUntilError, EndsAtError, Entry, Fills, Goes, HasPlaces};
-ghost use Rattle.lsm_merge.specs.Words.{HoldsAtMost, HoldsNone, IsMergerOf, IsStrict, IsUnion, LowersTotal};
-ghost use Rattle.lsm_merge.specs.Words.{MayMerge, MeetsErrorsLate, Pops, R, SameRoom, Steps, entry_of};
-ghost use Rattle.lsm_merge.specs.Words.{is_ready, made_ready, merge_size, new_ends, nowhere, turn_cmp, turn_total, union_of};
+ghost use Rattle.lsm_merge.specs.Words.{Adds, AsksSource, Calls, CanMerge, DealsBeforeErrors};
+ghost use Rattle.lsm_merge.specs.Words.{DealsMerged};
+ghost use Rattle.lsm_merge.specs.Words.{DealsUntilError, EndsAtError, Entry, Fills, Goes};
+ghost use Rattle.lsm_merge.specs.Words.{HasPlaces};
+ghost use Rattle.lsm_merge.specs.Words.{HoldsAtMost, HoldsNone, IsMergerOf, IsStrict, IsUnion};
+ghost use Rattle.lsm_merge.specs.Words.{LowersTotal};
+ghost use Rattle.lsm_merge.specs.Words.{MayMerge, MeetsErrorsLate, Pops, R, SameRoom, Steps};
+ghost use Rattle.lsm_merge.specs.Words.{entry_of};
+ghost use Rattle.lsm_merge.specs.Words.{is_ready, made_ready, merge_size, new_ends, nowhere};
+ghost use Rattle.lsm_merge.specs.Words.{turn_cmp, turn_total, union_of};
 ghost use Rattle.std.proofs.Common.{refl};
-ghost use Rattle.std.specs.Cmp.{partial_order_from_total, partial_equiv_from_equiv, eq_by_cmp_equiv};
+ghost use Rattle.std.specs.Cmp.{partial_order_from_total, partial_equiv_from_equiv};
+ghost use Rattle.std.specs.Cmp.{eq_by_cmp_equiv};
 ghost use Rattle.std.specs.Ordering.{as_partial_cmp, eq_by_cmp};
 
 use crate::ends::{AtBack, AtFront, End, Ends};
@@ -107,10 +114,11 @@ fn give_up<A: Allocator>(item: HeapItem<A>) {
     let _ = item;
 }
 
-/// Gives the entries of several sorted sources in order, from the front, and from both ends where the sources have two. A
-/// call asks the sources at its own end alone. Entries with the same key, number and kind come source by source. An error of a
-/// source is the answer of the call that met it; the entry that was taken in that call is given up, and nothing comes after
-/// it from either end.
+/// Gives the entries of several sorted sources in order, from the front, and from both ends where
+/// the sources have two. A call asks the sources at its own end alone. Entries with the same key,
+/// number and kind come source by source. An error of a source is the answer of the call that met
+/// it; the entry that was taken in that call is given up, and nothing comes after it from either
+/// end.
 #[derive(Drop)]
 pub struct Merger<I, A: Allocator = Global> {
     sources: Vec<Ends<I>, A>,

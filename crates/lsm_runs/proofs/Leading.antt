@@ -1,10 +1,9 @@
 -- The first match in sorted entries, by the one that stands before all others.
-use Rattle.std.proofs.Common.{◌≡◌, refl, sym, ◌∙◌, ap, ℕ, Bool, true, false, cond, List, [], ◌∷◌, ◌++◌, inl, inr}
+use Rattle.std.proofs.Common.{◌≡◌, refl, sym, ◌∙◌, ap, ℕ, Bool, true, false, cond, List, [], ◌∷◌}
+use Rattle.std.proofs.Common.{◌++◌, inl, inr}
 use Rattle.std.specs.Prelude.{Option, Some, None, find, if◌then◌else◌}
 use Rattle.std.specs.List.{AllByRecursion}
-use Rattle.std.specs.Ordering.{is_gt, is_lt, ordering_reverse}
-use Rattle.std.specs.declared.cmp.Ordering.{Ordering}
-use Rattle.std.specs.declared.cmp.Ordering.TheVariants.{Less, Equal, Greater}
+use Rattle.std.specs.Ordering.{is_gt, is_lt}
 use Rattle.std.proofs.lemmas.Bool.{cases_Bool}
 use Rattle.sst_entries.specs.Entry.{Entry}
 use Rattle.sst_entries.specs.Point.{is_hit, point}
@@ -12,20 +11,18 @@ use Rattle.sst_entries.proofs.Lists.{all_more}
 use Rattle.sst_entries.proofs.OrderLemmas.{less_of}
 use Rattle.lsm_merge.specs.Union.{AtMost, Ascends, insert_sorted, item_cmp, sort_entries}
 use Rattle.lsm_merge.proofs.MergedLemmas.{at_most_chain, item_total}
+use Rattle.lsm_merge.proofs.UnionLemmas.{ascends_in_order}
 use Rattle.lsm_runs.specs.SeveralRuns.{leading_of}
-use Rattle.lsm_runs.proofs.Unions.{sorted}
+use Rattle.lsm_sorted.proofs.EntryKeyLemmas.{lt_reverse}
 
 -- ---- of entries that may be there the one that stands before the others
 
-reversed : (o : Ordering) → is_lt (ordering_reverse o) ≡ is_gt o
-reversed Less = refl
-reversed Equal = refl
-reversed Greater = refl
-
 other_way : (x y : Entry) → is_lt (item_cmp y x) ≡ is_gt (item_cmp x y)
-other_way x y = ap is_lt (item_total.antisymm y x) ∙ reversed (item_cmp x y)
+other_way x y = ap is_lt (item_total.antisymm y x) ∙ lt_reverse (item_cmp x y)
 
-leading_by : (x y z : Entry) (b c : Bool) → is_lt (item_cmp y x) ≡ b → is_lt (item_cmp z y) ≡ c → leading_of (if b then Some y else Some x) (Some z) ≡ leading_of (Some x) (if c then Some z else Some y)
+leading_by : (x y z : Entry) (b c : Bool) → is_lt (item_cmp y x) ≡ b → is_lt (item_cmp z y) ≡ c
+    → leading_of (if b then Some y else Some x) (Some z) ≡ leading_of (Some x)
+    (if c then Some z else Some y)
 leading_by x y z true true p q =
     let r : is_lt (item_cmp z x) ≡ true = ap is_lt (item_total.trans z y x (less_of (item_cmp z y) q) (less_of (item_cmp y x) p)) in
     ap (λ (t : Bool). if t then Some z else Some y) q ∙ sym (ap (λ (t : Bool). if t then Some z else Some x) r)
@@ -36,11 +33,13 @@ leading_by x y z false false p q =
     let r : is_lt (item_cmp z x) ≡ false = other_way x z ∙ at_most_chain x y z (sym (other_way x y) ∙ p) (sym (other_way y z) ∙ q) in
     ap (λ (t : Bool). if t then Some z else Some x) r ∙ sym (ap (λ (t : Bool). if t then Some y else Some x) p)
 
-leading_none : (x y : Entry) (b : Bool) → leading_of (if b then Some y else Some x) None ≡ (if b then Some y else Some x)
+leading_none : (x y : Entry) (b : Bool)
+    → leading_of (if b then Some y else Some x) None ≡ (if b then Some y else Some x)
 leading_none x y true = refl
 leading_none x y false = refl
 
-pub leading_assoc : (x y z : Option Entry) → leading_of (leading_of x y) z ≡ leading_of x (leading_of y z)
+pub leading_assoc : (x y z : Option Entry)
+    → leading_of (leading_of x y) z ≡ leading_of x (leading_of y z)
 leading_assoc None y z = refl
 leading_assoc (Some x) None z = refl
 leading_assoc (Some x) (Some y) None = leading_none x y (is_lt (item_cmp y x))
@@ -53,15 +52,18 @@ leading_last (Some x) = refl
 -- ---- the first match
 
 module _ (key : List ℕ) (bound : ℕ) where
-  hit_first : (x : Entry) (es : List Entry) → is_hit key bound x ≡ true → point (x ∷ es) key bound ≡ Some x
+  hit_first : (x : Entry) (es : List Entry) → is_hit key bound x ≡ true
+      → point (x ∷ es) key bound ≡ Some x
   unfolding point
   hit_first x es holds = ap (λ (b : Bool). cond b (Some x) (find (is_hit key bound) es)) holds
 
-  hit_later : (x : Entry) (es : List Entry) → is_hit key bound x ≡ false → point (x ∷ es) key bound ≡ point es key bound
+  hit_later : (x : Entry) (es : List Entry) → is_hit key bound x ≡ false
+      → point (x ∷ es) key bound ≡ point es key bound
   unfolding point
   hit_later x es miss = ap (λ (b : Bool). cond b (Some x) (find (is_hit key bound) es)) miss
 
-  hit_either : (x : Entry) (xs ys : List Entry) → point xs key bound ≡ point ys key bound → point (x ∷ xs) key bound ≡ point (x ∷ ys) key bound
+  hit_either : (x : Entry) (xs ys : List Entry) → point xs key bound ≡ point ys key bound
+      → point (x ∷ xs) key bound ≡ point (x ∷ ys) key bound
   unfolding point
   hit_either x xs ys same = ap (λ (o : Option Entry). cond (is_hit key bound x) (Some x) o) same
 
@@ -70,7 +72,8 @@ module _ (key : List ℕ) (bound : ℕ) where
   no_hit = refl
 
   -- an entry that is at most each of some stands before any of them
-  leads : (x : Entry) (es : List Entry) → AllByRecursion (AtMost x) es → leading_of (Some x) (point es key bound) ≡ Some x
+  leads : (x : Entry) (es : List Entry) → AllByRecursion (AtMost x) es
+      → leading_of (Some x) (point es key bound) ≡ Some x
   leads x [] all = ap (leading_of (Some x)) no_hit
   leads x (e ∷ es) all = elim (cases_Bool (is_hit key bound e)) [
     | inl holds ↦ ap (leading_of (Some x)) (hit_first e es holds) ∙ ap (λ (b : Bool). if b then Some e else Some x) (other_way x e ∙ all.0)
@@ -81,7 +84,8 @@ module _ (key : List ℕ) (bound : ℕ) where
   put x y ys b = cond b (y ∷ insert_sorted x ys) (x ∷ y ∷ ys)
 
   -- a match that is put in its place
-  inserted_hit : (x : Entry) (ys : List Entry) → is_hit key bound x ≡ true → Ascends ys → point (insert_sorted x ys) key bound ≡ leading_of (Some x) (point ys key bound)
+  inserted_hit : (x : Entry) (ys : List Entry) → is_hit key bound x ≡ true → Ascends ys
+      → point (insert_sorted x ys) key bound ≡ leading_of (Some x) (point ys key bound)
   inserted_hit x [] holds up = hit_first x [] holds ∙ sym (ap (leading_of (Some x)) no_hit)
   inserted_hit x (y ∷ ys) holds up = elim (cases_Bool (is_gt (item_cmp x y))) [
     | inl above ↦
@@ -104,7 +108,8 @@ module _ (key : List ℕ) (bound : ℕ) where
   ]
 
   -- an entry that is none
-  inserted_miss : (x : Entry) (ys : List Entry) → is_hit key bound x ≡ false → point (insert_sorted x ys) key bound ≡ point ys key bound
+  inserted_miss : (x : Entry) (ys : List Entry) → is_hit key bound x ≡ false
+      → point (insert_sorted x ys) key bound ≡ point ys key bound
   inserted_miss x [] miss = hit_later x [] miss
   inserted_miss x (y ∷ ys) miss = elim (cases_Bool (is_gt (item_cmp x y))) [
     | inl above ↦ ap (λ (b : Bool). point (put x y ys b) key bound) above ∙ hit_either y (insert_sorted x ys) ys (inserted_miss x ys miss)
@@ -112,14 +117,16 @@ module _ (key : List ℕ) (bound : ℕ) where
   ]
 
   -- of a sorted list and others
-  pub leading_sorted : (es rest : List Entry) → Ascends es → point (sort_entries (es ++ rest)) key bound ≡ leading_of (point es key bound) (point (sort_entries rest) key bound)
+  pub leading_sorted : (es rest : List Entry) → Ascends es
+      → point (sort_entries (es ++ rest)) key bound ≡ leading_of (point es key bound)
+      (point (sort_entries rest) key bound)
   leading_sorted [] rest up = sym (ap (λ (o : Option Entry). leading_of o (point (sort_entries rest) key bound)) no_hit)
   leading_sorted (x ∷ es) rest up =
       let others = point (sort_entries rest) key bound in
       let more = leading_sorted es rest up.1 in
       elim (cases_Bool (is_hit key bound x)) [
         | inl holds ↦
-            inserted_hit x (sort_entries (es ++ rest)) holds (sorted (es ++ rest))
+            inserted_hit x (sort_entries (es ++ rest)) holds (ascends_in_order (es ++ rest))
             ∙ ap (leading_of (Some x)) more
             ∙ sym (leading_assoc (Some x) (point es key bound) others)
             ∙ ap (λ (o : Option Entry). leading_of o others) (leads x es up.0 ∙ sym (hit_first x es holds))

@@ -11,10 +11,7 @@ use Rattle.lsm_readers.specs.Table.{OpenTable}
 use Rattle.lsm_runs.specs.RunLists.{HoldLists, HoldsList, RunsHoldLists}
 use Rattle.lsm_runs.proofs.RunWithin.{held_told}
 use Rattle.lsm_runs.proofs.Unions.{entries_of}
-
-pub all_within : (es : List Entry) → within Unbounded Unbounded es ≡ es
-all_within [] = refl
-all_within (e ∷ es) = ap (λ (xs : List Entry). e ∷ xs) (all_within es)
+use Rattle.lsm_iters.proofs.Cuts.{all_within}
 
 same_results : (es us : List Entry) → ok_results es ≡ ok_results us → es ≡ us
 same_results es us same = sym (entries_of es) ∙ ap entries_among same ∙ entries_of us
@@ -25,7 +22,8 @@ one_list t es us h k =
     ∙ same_results (within Unbounded Unbounded es) (within Unbounded Unbounded us) (sym (held_told t es h Unbounded Unbounded) ∙ held_told t us k Unbounded Unbounded)
     ∙ all_within us
 
-one_each : (ts : List OpenTable) (ls ms : List (List Entry)) → HoldLists ts ls → HoldLists ts ms → ls ≡ ms
+one_each : (ts : List OpenTable) (ls ms : List (List Entry)) → HoldLists ts ls → HoldLists ts ms
+    → ls ≡ ms
 one_each [] [] [] h k = refl
 one_each [] (es ∷ ls) ms h k = absurd h
 one_each [] [] (us ∷ ms) h k = absurd k
@@ -34,7 +32,8 @@ one_each (t ∷ ts) (es ∷ ls) [] h k = absurd k
 one_each (t ∷ ts) (es ∷ ls) (us ∷ ms) h k =
     ap (λ (xs : List Entry). xs ∷ ls) (one_list t es us h.0 k.0) ∙ ap (λ (ns : List (List Entry)). us ∷ ns) (one_each ts ls ms h.1 k.1)
 
-pub one_way : (runs : List (List OpenTable)) (lists others : List (List (List Entry))) → RunsHoldLists runs lists → RunsHoldLists runs others → lists ≡ others
+pub one_way : (runs : List (List OpenTable)) (lists others : List (List (List Entry)))
+    → RunsHoldLists runs lists → RunsHoldLists runs others → lists ≡ others
 one_way [] [] [] h k = refl
 one_way [] (ls ∷ lists) others h k = absurd h
 one_way [] [] (ms ∷ others) h k = absurd k
@@ -45,6 +44,8 @@ one_way (ts ∷ runs) (ls ∷ lists) (ms ∷ others) h k =
 
 -- ---- two values, of which the second may be refused
 
-pub beside_ok : {T U : Type 0} (P : T → Type 0) (Q : U → Type 0) (x : T) (second : Result U Error) (r : Result (T × U) Error) → MatchResult second (λ y. r ≡ Ok (x, y)) (λ e. r ≡ Err e) → P x → IfOk second Q → IfOk r (λ both. P both.0 × Q both.1)
+pub beside_ok : {T U : Type 0} (P : T → Type 0) (Q : U → Type 0) (x : T) (second : Result U Error)
+    (r : Result (T × U) Error) → MatchResult second (λ y. r ≡ Ok (x, y)) (λ e. r ≡ Err e) → P x
+    → IfOk second Q → IfOk r (λ both. P both.0 × Q both.1)
 beside_ok P Q x (Ok y) r told p q = rw told (p, q)
 beside_ok P Q x (Err e) r told p q = rw told tt

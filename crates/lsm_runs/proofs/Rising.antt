@@ -1,10 +1,10 @@
 -- The lists of the tables of a run in order are sorted, one behind another.
-use Rattle.std.proofs.Common.{◌≡◌, refl, sym, ◌∙◌, ap, subst, ℕ, ◌+◌, ◌<◌, inl, inr, Bool, true, false, List, [], ◌∷◌, ◌++◌, filter, IsTrue, arith, rules}
+use Rattle.std.proofs.Common.{◌≡◌, refl, sym, ◌∙◌, ap, subst, ℕ, ◌+◌, ◌<◌, inl, inr, Bool, true}
+use Rattle.std.proofs.Common.{false, List, [], ◌∷◌, ◌++◌, filter, IsTrue, arith}
 use Rattle.std.specs.Prelude.{◌&&◌, map}
 use Rattle.std.specs.List.{AllByRecursion, list_all}
 use Rattle.std.specs.Cmp.Lexicographic.{slice_cmp}
-use Rattle.std.specs.Cmp.Rules.{comparing}
-use Rattle.std.specs.Ordering.{is_gt, is_lt, nat_cmp, ordering_then}
+use Rattle.std.specs.Ordering.{is_gt, nat_cmp, ordering_then}
 use Rattle.std.specs.declared.cmp.Ordering.{Ordering}
 use Rattle.std.specs.declared.cmp.Ordering.TheVariants.{Less, Equal, Greater}
 use Rattle.std.proofs.lemmas.Bool.{cases_Bool}
@@ -17,7 +17,7 @@ use Rattle.sst_entries.proofs.OrderLemmas.{less_of, tie_same}
 use Rattle.lsm_files.specs.Chunks.{joined}
 use Rattle.lsm_iters.specs.Lift.{lift}
 use Rattle.lsm_merge.specs.Union.{AtMost, Ascends, item_cmp}
-use Rattle.lsm_merge.proofs.Pairs.{Precedes, Strict, as_pairs}
+use Rattle.lsm_merge.proofs.Pairs.{Precedes, Strict, as_pairs, nat_is_less, tied}
 use Rattle.lsm_ranges.specs.KeyRange.{Interval, has_key, key_le}
 use Rattle.lsm_ranges.specs.Run.{are_in_order}
 use Rattle.lsm_ranges.proofs.IntervalLemmas.{le_then_lt, lt_then_le}
@@ -29,7 +29,8 @@ use Rattle.lsm_runs.proofs.RunWithin.{Keys, held_keys}
 
 -- ---- one list
 
-lift_after : (x : Entry) (es : List Entry) (g : ℕ) → AllByRecursion (Precedes x) es → AllByRecursion (Precedes (record x { seqno = x.seqno + g })) (lift es g)
+lift_after : (x : Entry) (es : List Entry) (g : ℕ) → AllByRecursion (Precedes x) es
+    → AllByRecursion (Precedes (record x { seqno = x.seqno + g })) (lift es g)
 lift_after x [] g h = tt
 lift_after x (e ∷ es) g h = (
   elim h.0 [
@@ -49,18 +50,23 @@ held_strict t es h = subst Strict (sym h.lifted_is) (lift_strict h.stored t.glob
 -- ---- a run
 
 -- keys of a range that ends below a key
-below : (x : Entry) (max : List ℕ) (r : Interval) (es : List Entry) → key_le x.user_key max ≡ true → key_lt max r.min ≡ true → Keys r es → AllByRecursion (Precedes x) es
+below : (x : Entry) (max : List ℕ) (r : Interval) (es : List Entry) → key_le x.user_key max ≡ true
+    → key_lt max r.min ≡ true → Keys r es → AllByRecursion (Precedes x) es
 below x max r [] low less keys = tt
 below x max r (e ∷ es) low less keys =
     let p = and_parts (key_le r.min e.user_key) (key_le e.user_key r.max) keys.0 in
     (inl (lt_then_le x.user_key r.min e.user_key (le_then_lt x.user_key max r.min low less) p.0), below x max r es low less keys.1)
 
-all_join : (P : Entry → Type 0) (xs ys : List Entry) → AllByRecursion P xs → AllByRecursion P ys → AllByRecursion P (xs ++ ys)
+all_join : (P : Entry → Type 0) (xs ys : List Entry) → AllByRecursion P xs → AllByRecursion P ys
+    → AllByRecursion P (xs ++ ys)
 all_join P [] ys h k = k
 all_join P (x ∷ xs) ys h k = (h.0, all_join P xs ys h.1 k)
 
 -- an entry up to a key, and the tables behind that key
-behind : (x : Entry) (max : List ℕ) → key_le x.user_key max ≡ true → (ts : List OpenTable) (ls : List (List Entry)) → HoldLists ts ls → list_all (λ (later : Interval). key_lt max later.min) (ranges_of ts) ≡ true → AllByRecursion (Precedes x) (joined ls)
+behind : (x : Entry) (max : List ℕ) → key_le x.user_key max ≡ true
+    → (ts : List OpenTable) (ls : List (List Entry)) → HoldLists ts ls
+    → list_all (λ (later : Interval). key_lt max later.min) (ranges_of ts) ≡ true
+    → AllByRecursion (Precedes x) (joined ls)
 behind x max low [] [] h before = tt
 behind x max low [] (es ∷ ls) h before = absurd h
 behind x max low (t ∷ ts) [] h before = absurd h
@@ -68,13 +74,16 @@ behind x max low (t ∷ ts) (es ∷ ls) h before =
     let b = and_parts (key_lt max (range_of t).min) (list_all (λ (later : Interval). key_lt max later.min) (ranges_of ts)) before in
     all_join (Precedes x) es (joined ls) (below x max (range_of t) es low b.0 (held_keys t es h.0)) (behind x max low ts ls h.1 b.1)
 
-strict_join : (r : Interval) (es rest : List Entry) → Keys r es → Strict es → ((x : Entry) → key_le x.user_key r.max ≡ true → AllByRecursion (Precedes x) rest) → Strict rest → Strict (es ++ rest)
+strict_join : (r : Interval) (es rest : List Entry) → Keys r es → Strict es
+    → ((x : Entry) → key_le x.user_key r.max ≡ true → AllByRecursion (Precedes x) rest)
+    → Strict rest → Strict (es ++ rest)
 strict_join r [] rest keys strict more others = others
 strict_join r (e ∷ es) rest keys strict more others =
     let p = and_parts (key_le r.min e.user_key) (key_le e.user_key r.max) keys.0 in
     (all_join (Precedes e) es rest strict.0 (more e p.1), strict_join r es rest keys.1 strict.1 more others)
 
-pub run_strict : (ts : List OpenTable) (ls : List (List Entry)) → HoldLists ts ls → are_in_order (ranges_of ts) ≡ true → Strict (joined ls)
+pub run_strict : (ts : List OpenTable) (ls : List (List Entry)) → HoldLists ts ls
+    → are_in_order (ranges_of ts) ≡ true → Strict (joined ls)
 run_strict [] [] h order = tt
 run_strict [] (es ∷ ls) h order = absurd h
 run_strict (t ∷ ts) [] h order = absurd h
@@ -84,26 +93,21 @@ run_strict (t ∷ ts) (es ∷ ls) h order =
 
 -- ---- sorted
 
-nat_less : (a b : ℕ) → a < b → is_lt (nat_cmp a b) ≡ true
-nat_less a b h = grind (arith, rules)
-
-tied : (xs : List ℕ) → slice_cmp nat_cmp xs xs ≡ Equal
-tied xs = search (comparing, rules)
-
 at_most_of : (x y : Entry) → Precedes x y → AtMost x y
 at_most_of x y h = elim h [
   | inl lower ↦ ap (λ (o : Ordering). is_gt (ordering_then o (ordering_then (nat_cmp y.seqno x.seqno) (nat_cmp (tag_of x.kind) (tag_of y.kind))))) (less_of (slice_cmp nat_cmp x.user_key y.user_key) lower)
   | inr newer ↦
       let tie : slice_cmp nat_cmp x.user_key y.user_key ≡ Equal = subst (λ (k : List ℕ). slice_cmp nat_cmp x.user_key k ≡ Equal) newer.0 (tied x.user_key) in
       ap (λ (o : Ordering). is_gt (ordering_then o (ordering_then (nat_cmp y.seqno x.seqno) (nat_cmp (tag_of x.kind) (tag_of y.kind))))) tie
-      ∙ ap (λ (o : Ordering). is_gt (ordering_then o (nat_cmp (tag_of x.kind) (tag_of y.kind)))) (less_of (nat_cmp y.seqno x.seqno) (nat_less y.seqno x.seqno newer.1))
+      ∙ ap (λ (o : Ordering). is_gt (ordering_then o (nat_cmp (tag_of x.kind) (tag_of y.kind)))) (less_of (nat_cmp y.seqno x.seqno) (nat_is_less y.seqno x.seqno newer.1))
 ]
 
 pub ascends_of : (es : List Entry) → Strict es → Ascends es
 ascends_of [] h = tt
 ascends_of (e ∷ es) h = (all_more (Precedes e) (AtMost e) (λ y p. at_most_of e y p) es h.0, ascends_of es h.1)
 
-kept : (p : Entry → Bool) (x : Entry) (ys : List Entry) → AllByRecursion (Precedes x) ys → AllByRecursion (Precedes x) (filter p ys)
+kept : (p : Entry → Bool) (x : Entry) (ys : List Entry) → AllByRecursion (Precedes x) ys
+    → AllByRecursion (Precedes x) (filter p ys)
 kept p x [] h = tt
 kept p x (y ∷ ys) h = elim (cases_Bool (p y)) [
   | inl e ↦ rw e (h.0, kept p x ys h.1)

@@ -1,5 +1,6 @@
 -- What a reader of a run deals, how many tables it opens, and how far off its end is.
-use Rattle.std.proofs.Common.{◌≡◌, ℕ, zero, suc, ◌+◌, ◌-◌, ◌<◌, ◌≤◌, List, [], ◌∷◌, ◌++◌, drop, length, take, refl, sym, ap, subst, ◌∙◌, arith}
+use Rattle.std.proofs.Common.{◌≡◌, ℕ, zero, suc, ◌+◌, ◌-◌, ◌<◌, ◌≤◌, List, [], ◌∷◌, ◌++◌, drop}
+use Rattle.std.proofs.Common.{length, take, refl, sym, ap, subst, ◌∙◌, arith}
 use Rattle.std.proofs.lemmas.List.{length-append, length-take, length-drop}
 use Rattle.std.specs.Prelude.{Option, Some, None, Result, Ok, Err, IfOk}
 use Rattle.sst_entries.specs.declared.stream.Direction.{Direction}
@@ -10,15 +11,17 @@ use Rattle.lsm_block_indexes.proofs.Dealing.{Ending, deals_ending}
 use Rattle.lsm_block_indexes.proofs.TwoLevels.{no_items}
 use Rattle.lsm_iters.specs.Range.{Range, range_left, range_size}
 use Rattle.lsm_runs.specs.RunParts.{Part, part_size, part_told}
-use Rattle.lsm_runs.specs.RunRange.{IsEnded, OpensAtMost, RunGives, RunRange, back_tables, front_tables, left_of, parts_size, parts_told, run_left, run_size, size_of}
+use Rattle.lsm_runs.specs.RunRange.{IsRunEnded, OpensAtMost, RunGives, RunRange, back_tables}
+use Rattle.lsm_runs.specs.RunRange.{front_tables, left_of_reader, parts_size, run_parts_told}
+use Rattle.lsm_runs.specs.RunRange.{run_left, run_size, size_of_reader}
 use Rattle.lsm_runs.proofs.RunSteps.{End, R}
 
-parts_within : (ps : List Part) → length (parts_told ps) ≤ parts_size ps
+parts_within : (ps : List Part) → length (run_parts_told ps) ≤ parts_size ps
 parts_within [] = omega arith
-parts_within (p ∷ ps) = omega (arith, length-append (part_told p) (parts_told ps), parts_within ps)
+parts_within (p ∷ ps) = omega (arith, length-append (part_told p) (run_parts_told ps), parts_within ps)
 
 module _ {A : Type 0} where
-  within_size : (s : Option (Range A)) → length (left_of s) ≤ size_of s
+  within_size : (s : Option (Range A)) → length (left_of_reader s) ≤ size_of_reader s
   within_size None = omega arith
   within_size (Some s) = omega arith
 
@@ -26,25 +29,27 @@ module _ {A : Type 0} where
   left_within s =
       omega (
         arith,
-        length-append (left_of s.front) (parts_told s.unopened.parts ++ left_of s.back),
-        length-append (parts_told s.unopened.parts) (left_of s.back),
+        length-append (left_of_reader s.front) (run_parts_told s.unopened.parts ++ left_of_reader s.back),
+        length-append (run_parts_told s.unopened.parts) (left_of_reader s.back),
         within_size s.front,
         within_size s.back,
         parts_within s.unopened.parts,
       )
 
-  nothing : (s : RunRange A) → IsEnded s → run_left s ≡ []
+  nothing : (s : RunRange A) → IsRunEnded s → run_left s ≡ []
   nothing s ended = no_items (run_left s) (omega (arith, ended, left_within s))
 
-  ends_by : (of : End) (needed : RunRange A → ℕ) (s : RunRange A) (r : Option R) (t : RunRange A) → RunGives of needed s r t → Ending run_left IsEnded of s r t
+  ends_by : (of : End) (needed : RunRange A → ℕ) (s : RunRange A) (r : Option R) (t : RunRange A)
+      → RunGives of needed s r t → Ending run_left IsRunEnded of s r t
   ends_by of needed s None t step = record { answer = (step.answer, step.lowers); ends = tt }
   ends_by of needed s (Some (Ok e)) t step = record { answer = step.answer; ends = tt }
   ends_by of needed s (Some (Err e)) t step = record { answer = (step.answer, λ ended. omega (arith, ended, step.lowers)); ends = step.ends }
 
   -- whatever ends are asked, what is left is dealt up to the first error
-  pub run_deals : (s : RunRange A) → DealsEnding (RunGives front_of front_tables) (RunGives back_of back_tables) (λ _. Unit {0}) (λ _. Unit {0}) s (run_left s)
+  pub run_deals : (s : RunRange A) → DealsEnding (RunGives front_of front_tables)
+      (RunGives back_of back_tables) (λ _. Unit {0}) (λ _. Unit {0}) s (run_left s)
   run_deals s =
-      deals_ending run_left IsEnded nothing (RunGives front_of front_tables) (RunGives back_of back_tables)
+      deals_ending run_left IsRunEnded nothing (RunGives front_of front_tables) (RunGives back_of back_tables)
       (λ u r t step. ends_by front_of front_tables u r t step) (λ u r t step. ends_by back_of back_tables u r t step) s
 
   -- ---- how many tables are opened
@@ -52,21 +57,26 @@ module _ {A : Type 0} where
   abbrev Fits : ℕ → RunRange A → Type 0
   Fits most s = s.unopened.opened + length s.unopened.parts ≤ most
 
-  along : (most : ℕ) (ends : List Direction) (rs : List (Option R)) (s t : RunRange A) → Runs (RunGives front_of front_tables) (RunGives back_of back_tables) s ends rs t → Fits most s → Fits most t
+  along : (most : ℕ) (ends : List Direction) (rs : List (Option R)) (s t : RunRange A)
+      → Runs (RunGives front_of front_tables) (RunGives back_of back_tables) s ends rs t
+      → Fits most s → Fits most t
   along most [] [] s t runs held = subst (λ (x : RunRange A). Fits most x) runs held
   along most [] (r ∷ rs) s t runs held = absurd runs
   along most (e ∷ ends) [] s t runs held = absurd runs
   along most (Front ∷ ends) (r ∷ rs) s t runs held = let step = runs.1 in along most ends rs runs.0 t runs.2 (omega (arith, step.tables.counts, step.tables.within, held))
   along most (Back ∷ ends) (r ∷ rs) s t runs held = let step = runs.1 in along most ends rs runs.0 t runs.2 (omega (arith, step.tables.counts, step.tables.within, held))
 
-  pub opens_few : (most : ℕ) (s : RunRange A) → s.unopened.opened + length s.unopened.parts ≤ most → OpensAtMost (RunGives front_of front_tables) (RunGives back_of back_tables) most s
+  pub opens_few : (most : ℕ) (s : RunRange A) → s.unopened.opened + length s.unopened.parts ≤ most
+      → OpensAtMost (RunGives front_of front_tables) (RunGives back_of back_tables) most s
   opens_few most s held ends rs t runs = omega (arith, along most ends rs s t runs held)
 
 -- what stands between two places
-pub few_between : {X : Type 0} (xs : List X) (lo hi : ℕ) → length (take (hi - lo) (drop lo xs)) ≤ hi - lo
+pub few_between : {X : Type 0} (xs : List X) (lo hi : ℕ)
+    → length (take (hi - lo) (drop lo xs)) ≤ hi - lo
 few_between xs lo hi = omega (arith, length-take (hi - lo) (drop lo xs))
 
 -- two facts of a success give another
-pub if_ok_both : {Y E : Type 0} {P Q S : Y → Type 0} (r : Result Y E) → ((y : Y) → P y → Q y → S y) → IfOk r P → IfOk r Q → IfOk r S
+pub if_ok_both : {Y E : Type 0} {P Q S : Y → Type 0} (r : Result Y E) → ((y : Y) → P y → Q y → S y)
+    → IfOk r P → IfOk r Q → IfOk r S
 if_ok_both (Ok y) h p q = h y p q
 if_ok_both (Err e) h p q = p

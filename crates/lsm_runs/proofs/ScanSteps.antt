@@ -1,5 +1,6 @@
 -- One call of a scanner of a run, and what it deals.
-use Rattle.std.proofs.Common.{◌≡◌, ℕ, suc, ◌-◌, ◌<◌, ◌≤◌, false, List, [], ◌∷◌, ◌++◌, drop, length, take, refl, sym, ap, subst, ◌∙◌, arith, inr}
+use Rattle.std.proofs.Common.{◌≡◌, ℕ, suc, ◌-◌, ◌<◌, ◌≤◌, false, List, [], ◌∷◌, ◌++◌, drop, length}
+use Rattle.std.proofs.Common.{take, refl, sym, ap, subst, ◌∙◌, arith, inr}
 use Rattle.std.proofs.lemmas.List.{length-append, length-map, map-append}
 use Rattle.std.specs.Prelude.{Option, Some, None, Result, Ok, Err, IfErr, IfOk}
 use Rattle.std.specs.List.{AllByRecursion, flat_map, slice_get}
@@ -18,19 +19,24 @@ use Rattle.lsm_block_indexes.proofs.TwoLevels.{no_items}
 use Rattle.lsm_files.specs.Chunks.{joined}
 use Rattle.lsm_iters.specs.Lift.{lifted}
 use Rattle.lsm_iters.proofs.Ends.{front_split}
-use Rattle.lsm_readers.specs.Scan.{IsNewScan, Scan, ScansNext, fault_of, scan_left, scan_size, up_to_error}
+use Rattle.lsm_readers.specs.Scan.{IsNewScan, Scan, ScansNext, fault_of, scan_left, scan_size}
+use Rattle.lsm_readers.specs.Scan.{up_to_error}
 use Rattle.lsm_readers.specs.Table.{OpenTable}
 use Rattle.lsm_readers.proofs.FileScans.{file_told}
 use Rattle.lsm_readers.proofs.Scans.{ended_left, fault_left, scan_falls}
 use Rattle.lsm_readers.proofs.TableRanges.{deals_values}
 use Rattle.lsm_runs.specs.RunLists.{DealsList, HoldLists, HoldsList}
-use Rattle.lsm_runs.specs.RunScan.{BeginsNext, BeginsScan, IsEnded, IsScanOf, RunScan, RunScansNext, ScansItem, left_of_scan, over_scan, run_scan_left, run_scan_size, size_of_scan, stopped_scan, table_scan, table_size, tables_between, tables_scan, tables_size}
+use Rattle.lsm_runs.specs.RunScan.{BeginsNext, BeginsScan, IsRunScanEnded, IsScanOf, RunScan}
+use Rattle.lsm_runs.specs.RunScan.{RunScansNext, ScansItem, left_of_scan, over_scan, run_scan_left}
+use Rattle.lsm_runs.specs.RunScan.{run_scan_size, size_of_scan, stopped_scan, table_scan}
+use Rattle.lsm_runs.specs.RunScan.{table_size, tables_between, tables_scan, tables_size}
 use Rattle.lsm_runs.proofs.Places.{first_between, none_between, table_at}
 use Rattle.lsm_runs.proofs.RunSteps.{R}
 
 -- ---- results up to the first error
 
-up_to_first : (xs ys : List R) (e : Error) → first xs ≡ Some (Err e) → first (up_to_error (xs ++ ys)) ≡ Some (Err e)
+up_to_first : (xs ys : List R) (e : Error) → first xs ≡ Some (Err e)
+    → first (up_to_error (xs ++ ys)) ≡ Some (Err e)
 up_to_first [] ys e there = absurd cc
 up_to_first (Ok x ∷ xs) ys e there = absurd cc
 up_to_first (Err f ∷ xs) ys e there = there
@@ -57,24 +63,37 @@ none_is (x ∷ xs) there = absurd cc
 pub scan_item : (s t : Scan) (r : Option R) → ScansNext s r t → ScansItem (Some s) r (Some t)
 scan_item s t None step =
     let given = (step.answers).gives is_memory (scan_left s) (refl, inr refl) refl in
-    record { answer = none_is (scan_left s) given.0; lowers = omega (arith, ap length (ended_left t step.ends), step.ends.1) }
+    record {
+      answer = none_is (scan_left s) given.0;
+      lowers =
+          omega (arith, ap length (ended_left t step.ends), step.ends.1);
+    }
 scan_item s t (Some (Ok e)) step =
     let given = (step.answers).gives is_memory (scan_left s) (refl, inr refl) refl in
-    record { answer = first_is (scan_left s) (Ok e) given.0 ∙ ap (λ (rs : List R). Ok e ∷ rs) given.1.0; lowers = scan_falls s t (Ok e) step }
+    record {
+      answer = first_is (scan_left s) (Ok e) given.0
+          ∙ ap (λ (rs : List R). Ok e ∷ rs) given.1.0;
+      lowers = scan_falls s t (Ok e) step;
+    }
 scan_item s t (Some (Err e)) step = record {
   answer = λ fine. sym ((step.answers).gives is_memory (scan_left s) (refl, inr refl) fine).0;
   lowers = scan_falls s t (Err e) step;
 }
 
 -- of a table that cannot be scanned the scan tells the fault
-pub refused_scan : (t : OpenTable) (e : Error) → (is_memory e ≡ false → fault_of (load_at_told (body_of t.bytes) 0 Data) ≡ Some e) → BeginsScan t (Err e)
+pub refused_scan : (t : OpenTable) (e : Error)
+    → (is_memory e ≡ false → fault_of (load_at_told (body_of t.bytes) 0 Data) ≡ Some e)
+    → BeginsScan t (Err e)
 refused_scan t e fault = λ fine. ap first (fault_left (body_of t.bytes) t.global_seqno t.parts.facts.data_block_count e (fault fine))
 
-pub begins : (t : OpenTable) (r : Result Scan Error) → IfOk r (IsNewScan (body_of t.bytes) t.parts.facts.data_block_count t.global_seqno) → Faults r (fault_of (load_at_told (body_of t.bytes) 0 Data)) → BeginsScan t r
+pub begins : (t : OpenTable) (r : Result Scan Error)
+    → IfOk r (IsNewScan (body_of t.bytes) t.parts.facts.data_block_count t.global_seqno)
+    → Faults r (fault_of (load_at_told (body_of t.bytes) 0 Data)) → BeginsScan t r
 begins t (Ok s) new faults = new
 begins t (Err e) new faults = refused_scan t e faults
 
-begun_size : (t : OpenTable) (x : Scan) → IsNewScan (body_of t.bytes) t.parts.facts.data_block_count t.global_seqno x → scan_size x ≤ table_size t
+begun_size : (t : OpenTable) (x : Scan) → IsNewScan (body_of t.bytes) t.parts.facts.data_block_count
+    t.global_seqno x → scan_size x ≤ table_size t
 begun_size t x new = omega (arith, ap length new.left, new.blocks)
 
 -- ---- the tables that are not opened
@@ -83,11 +102,15 @@ begun_size t x new = omega (arith, ap length new.left, new.blocks)
 abbrev pub scanning : Option Scan → List OpenTable → ℕ → ℕ → RunScan
 scanning o ts lo hi = record { scan = o; tables = take (hi - lo) (drop lo ts) }
 
-pub none_scanned : (o : Option Scan) (ts : List OpenTable) (lo hi : ℕ) → lo ≡ hi → scanning o ts lo hi ≡ record { scan = o; tables = [] }
+pub none_scanned : (o : Option Scan) (ts : List OpenTable) (lo hi : ℕ) → lo ≡ hi
+    → scanning o ts lo hi ≡ record { scan = o; tables = [] }
 none_scanned o ts lo hi same = ap (λ (us : List OpenTable). record { scan = o; tables = us }) (none_between ts lo hi same)
 
 -- the first of them
-pub begins_next : (o : Option Scan) (ts : List OpenTable) (lo hi next : ℕ) (r : Result Scan Error) → next ≡ suc lo → lo < hi → hi ≤ length ts → ((t : OpenTable) → slice_get ts lo ≡ Some t → BeginsScan t r) → BeginsNext (scanning o ts lo hi) (Some r) (scanning o ts next hi)
+pub begins_next : (o : Option Scan) (ts : List OpenTable) (lo hi next : ℕ) (r : Result Scan Error)
+    → next ≡ suc lo → lo < hi → hi ≤ length ts
+    → ((t : OpenTable) → slice_get ts lo ≡ Some t → BeginsScan t r)
+    → BeginsNext (scanning o ts lo hi) (Some r) (scanning o ts next hi)
 begins_next o ts lo hi next r is less within each =
     let t = table_at ts lo (omega (arith, less, within)) in
     let split : take (hi - lo) (drop lo ts) ≡ t.0 ∷ take (hi - suc lo) (drop (suc lo) ts) =
@@ -112,7 +135,8 @@ abbrev behind : RunScan → List R
 behind u = flat_map table_scan u.tables
 
 -- a scan that is used up may be asked again
-pub kept : (s u : RunScan) (o : Option Scan) → Reached s u → ScansItem u.scan None o → Reached s (record u { scan = o })
+pub kept : (s u : RunScan) (o : Option Scan) → Reached s u → ScansItem u.scan None o
+    → Reached s (record u { scan = o })
 kept s u o reached gives =
     let same : left_of_scan o ≡ left_of_scan u.scan = used_up o gives.lowers ∙ sym gives.answer in
     record {
@@ -125,7 +149,8 @@ of_tables : (u : RunScan) → size_of_scan u.scan ≡ 0 → run_scan_left u ≡ 
 of_tables u none = ap (λ (rs : List R). up_to_error (rs ++ behind u)) (used_up u.scan none)
 
 -- the next table was opened
-pub opened : (s u : RunScan) (x : Scan) (w : RunScan) → Reached s u → size_of_scan u.scan ≡ 0 → BeginsNext u (Some (Ok x)) w → Reached s (record w { scan = Some x })
+pub opened : (s u : RunScan) (x : Scan) (w : RunScan) → Reached s u → size_of_scan u.scan ≡ 0
+    → BeginsNext u (Some (Ok x)) w → Reached s (record w { scan = Some x })
 opened s u x w reached none begins =
     let t = begins.0 in
     let split : u.tables ≡ t ∷ w.tables = begins.1 in
@@ -140,7 +165,8 @@ opened s u x w reached none begins =
 
 -- ---- the answers
 
-pub item : (s u : RunScan) (r : R) (o : Option Scan) → Reached s u → ScansItem u.scan (Some r) o → RunScansNext s (Some r) (stopped_scan (Some r) (record u { scan = o }))
+pub item : (s u : RunScan) (r : R) (o : Option Scan) → Reached s u → ScansItem u.scan (Some r) o
+    → RunScansNext s (Some r) (stopped_scan (Some r) (record u { scan = o }))
 item s u (Ok e) o reached gives = record {
   answer = sym reached.results ∙ ap (λ (rs : List R). up_to_error (rs ++ behind u)) gives.answer;
   ends = tt;
@@ -153,7 +179,8 @@ item s u (Err e) o reached gives = record {
 }
 
 -- the next table could not be opened
-pub fault : (s u : RunScan) (e : Error) (w : RunScan) → Reached s u → size_of_scan u.scan ≡ 0 → BeginsNext u (Some (Err e)) w → RunScansNext s (Some (Err e)) (over_scan w)
+pub fault : (s u : RunScan) (e : Error) (w : RunScan) → Reached s u → size_of_scan u.scan ≡ 0
+    → BeginsNext u (Some (Err e)) w → RunScansNext s (Some (Err e)) (over_scan w)
 fault s u e w reached none begins =
     let t = begins.0 in
     let split : u.tables ≡ t ∷ w.tables = begins.1 in
@@ -166,7 +193,8 @@ fault s u e w reached none begins =
     }
 
 -- nothing is left
-pub rest : (s u w : RunScan) → Reached s u → size_of_scan u.scan ≡ 0 → BeginsNext u None w → RunScansNext s None w
+pub rest : (s u w : RunScan) → Reached s u → size_of_scan u.scan ≡ 0 → BeginsNext u None w
+    → RunScansNext s None w
 rest s u w reached none begins = record {
   answer = sym reached.results ∙ of_tables u none ∙ ap (λ (ts : List OpenTable). up_to_error (flat_map table_scan ts)) begins.0;
   ends = tt;
@@ -183,26 +211,30 @@ one_within : (o : Option Scan) → length (left_of_scan o) ≤ size_of_scan o
 one_within None = omega arith
 one_within (Some s) = omega arith
 
-nothing : (s : RunScan) → IsEnded s → run_scan_left s ≡ []
+nothing : (s : RunScan) → IsRunScanEnded s → run_scan_left s ≡ []
 nothing s ended =
     no_items (run_scan_left s)
     (omega (arith, ended, no_longer (left_of_scan s.scan ++ behind s), length-append (left_of_scan s.scan) (behind s), one_within s.scan, tables_within s.tables))
 
-ends_by : (s : RunScan) (r : Option R) (t : RunScan) → RunScansNext s r t → Ending run_scan_left IsEnded front_of s r t
+ends_by : (s : RunScan) (r : Option R) (t : RunScan) → RunScansNext s r t
+    → Ending run_scan_left IsRunScanEnded front_of s r t
 ends_by s None t step = record { answer = (step.answer, step.lowers); ends = tt }
 ends_by s (Some (Ok e)) t step = record { answer = ap front_of step.answer; ends = tt }
 ends_by s (Some (Err e)) t step = record { answer = (step.answer, λ ended. omega (arith, ended, step.lowers)); ends = step.ends }
 
 -- what is left, up to the first error
-pub scan_deals : (s : RunScan) (xs : List R) → run_scan_left s ≡ xs → DealsEnding RunScansNext nowhere (λ _. Unit {0}) (λ _. Unit {0}) s xs
+pub scan_deals : (s : RunScan) (xs : List R) → run_scan_left s ≡ xs
+    → DealsEnding RunScansNext nowhere (λ _. Unit {0}) (λ _. Unit {0}) s xs
 scan_deals s xs same =
     subst (λ (rs : List R). DealsEnding RunScansNext nowhere (λ _. Unit {0}) (λ _. Unit {0}) s rs) same
-    (deals_ending run_scan_left IsEnded nothing RunScansNext nowhere (λ u r t step. ends_by u r t step) (λ u r t step. absurd step) s)
+    (deals_ending run_scan_left IsRunScanEnded nothing RunScansNext nowhere (λ u r t step. ends_by u r t step) (λ u r t step. absurd step) s)
 
 -- ---- of a span
 
 -- its first table was opened
-pub begun : (ts : List OpenTable) (ends : ℕ × ℕ) (t : OpenTable) (x : Scan) (next past : ℕ) → next ≡ suc ends.0 → past ≡ suc ends.1 → ends.0 ≤ ends.1 → slice_get ts ends.0 ≡ Some t → BeginsScan t (Ok x)
+pub begun : (ts : List OpenTable) (ends : ℕ × ℕ) (t : OpenTable) (x : Scan) (next past : ℕ) → next
+    ≡ suc ends.0 → past ≡ suc ends.1 → ends.0 ≤ ends.1 → slice_get ts ends.0 ≡ Some t
+    → BeginsScan t (Ok x)
     → IsScanOf ts ends (record { scan = Some x; tables = take (past - next) (drop next ts) })
 begun ts ends t x next past is_next is_past up there new =
     let span : tables_between ts ends ≡ t ∷ take (suc ends.1 - suc ends.0) (drop (suc ends.0) ts) =
@@ -218,33 +250,41 @@ begun ts ends t x next past is_next is_past up there new =
     }
 
 -- its first table could not be opened
-pub span_refused : (ts : List OpenTable) (ends : ℕ × ℕ) (t : OpenTable) (e : Error) → ends.0 ≤ ends.1 → slice_get ts ends.0 ≡ Some t → BeginsScan t (Err e) → is_memory e ≡ false → first (tables_scan (tables_between ts ends)) ≡ Some (Err e)
+pub span_refused : (ts : List OpenTable) (ends : ℕ × ℕ) (t : OpenTable) (e : Error)
+    → ends.0 ≤ ends.1 → slice_get ts ends.0 ≡ Some t → BeginsScan t (Err e) → is_memory e ≡ false
+    → first (tables_scan (tables_between ts ends)) ≡ Some (Err e)
 span_refused ts ends t e up there begins fine =
     let others = take (suc ends.1 - suc ends.0) (drop (suc ends.0) ts) in
     let span : tables_between ts ends ≡ t ∷ others = front_split (tables_between ts ends) others t (first_between ts ends.0 (suc ends.1) t there (omega (arith, up))) in
     ap (λ (us : List OpenTable). first (tables_scan us)) span ∙ up_to_first (table_scan t) (flat_map table_scan others) e (begins fine)
 
 -- what holds of a refusal holds of it passed on
-pub passed_on : {X : Type 0} (P : Error → Type 0) (r : Result X Error) (e : Error) → IsErrAnd r (λ y. y ≡ e) → P e → IfErr r P
+pub passed_on : {X : Type 0} (P : Error → Type 0) (r : Result X Error) (e : Error)
+    → IsErrAnd r (λ y. y ≡ e) → P e → IfErr r P
 passed_on P (Ok x) e same holds = absurd same
 passed_on P (Err f) e same holds = subst P (sym same) holds
 
-pub fault_passed : {X : Type 0} (r : Result X Error) (e : Error) → IsErrAnd r (λ y. y ≡ e) → (told : Option Error) → (is_memory e ≡ false → told ≡ Some e) → Faults r told
+pub fault_passed : {X : Type 0} (r : Result X Error) (e : Error) → IsErrAnd r (λ y. y ≡ e)
+    → (told : Option Error) → (is_memory e ≡ false → told ≡ Some e) → Faults r told
 fault_passed (Ok x) e same told faults = absurd same
 fault_passed (Err f) e same told faults = subst (λ (g : Error). is_memory g ≡ false → told ≡ Some g) (sym same) faults
 
-pub first_passed : {X : Type 0} (r : Result X Error) (e : Error) → IsErrAnd r (λ y. y ≡ e) → (told : Option Error) → ((g : Error) → told ≡ Some g → Some g ≡ Some e) → FaultsFirst r told
+pub first_passed : {X : Type 0} (r : Result X Error) (e : Error) → IsErrAnd r (λ y. y ≡ e)
+    → (told : Option Error) → ((g : Error) → told ≡ Some g → Some g ≡ Some e) → FaultsFirst r told
 first_passed (Ok x) e same told early = absurd same
 first_passed (Err f) e same told early = λ g there. early g there ∙ ap (λ (h : Error). Some h) (sym same)
 
 -- the tables' lists, where each has an entry
-held_scan : (t : OpenTable) (es : List Entry) → HoldsList t es → 0 < length es → table_scan t ≡ ok_results es
+held_scan : (t : OpenTable) (es : List Entry) → HoldsList t es → 0 < length es
+    → table_scan t ≡ ok_results es
 held_scan t es h some =
     let pins = h.opened.recovered in
     let stored : 0 < length h.stored = omega (arith, some, ap length h.lifted_is, length-map h.stored (lifted t.global_seqno)) in
     file_told t.bytes h.stored h.table t.global_seqno pins.pin_filter pins.pin_index t.parts h.opened.short pins.told stored ∙ ap ok_results (sym h.lifted_is)
 
-pub held_scans : (ts : List OpenTable) (ls : List (List Entry)) → HoldLists ts ls → AllByRecursion (λ (es : List Entry). 0 < length es) ls → flat_map table_scan ts ≡ ok_results (joined ls)
+pub held_scans : (ts : List OpenTable) (ls : List (List Entry)) → HoldLists ts ls
+    → AllByRecursion (λ (es : List Entry). 0 < length es) ls
+    → flat_map table_scan ts ≡ ok_results (joined ls)
 held_scans [] [] h some = refl
 held_scans [] (es ∷ ls) h some = absurd h
 held_scans (t ∷ ts) [] h some = absurd h
@@ -253,7 +293,9 @@ held_scans (t ∷ ts) (es ∷ ls) h some =
     ∙ ap (λ (rs : List R). ok_results es ++ rs) (held_scans ts ls h.1 some.1)
     ∙ sym (map-append (λ (x : Entry). Ok x) es (joined ls))
 
-pub lists_deal : (ts : List OpenTable) (ls : List (List Entry)) → HoldLists ts ls → AllByRecursion (λ (es : List Entry). 0 < length es) ls → (s : RunScan) → run_scan_left s ≡ tables_scan ts → DealsList RunScansNext nowhere (joined ls) s
+pub lists_deal : (ts : List OpenTable) (ls : List (List Entry)) → HoldLists ts ls
+    → AllByRecursion (λ (es : List Entry). 0 < length es) ls → (s : RunScan)
+    → run_scan_left s ≡ tables_scan ts → DealsList RunScansNext nowhere (joined ls) s
 lists_deal ts ls h some s left stops memory =
     let values : tables_scan ts ≡ ok_results (joined ls) = ap (λ (rs : List R). up_to_error rs) (held_scans ts ls h some) ∙ all_values (joined ls) in
     deals_values RunScansNext nowhere (λ _. Unit {0}) (λ _. Unit {0}) s (joined ls) (scan_deals s (ok_results (joined ls)) (left ∙ values)) stops memory

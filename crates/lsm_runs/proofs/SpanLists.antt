@@ -1,5 +1,7 @@
--- What the tables of a span deal, each of a list, of which only the first and the last are read within bounds.
-use Rattle.std.proofs.Common.{◌≡◌, refl, sym, ap, ◌∙◌, ℕ, zero, suc, Bool, inl, inr, List, [], ◌∷◌, ◌++◌, drop, take}
+-- What the tables of a span deal, each of a list, of which only the first and the last are read
+-- within bounds.
+use Rattle.std.proofs.Common.{◌≡◌, refl, sym, ap, ◌∙◌, ℕ, zero, suc, Bool, inl, inr, List, [], ◌∷◌}
+use Rattle.std.proofs.Common.{◌++◌, drop, take}
 use Rattle.std.specs.Prelude.{Ok, if◌then◌else◌}
 use Rattle.std.specs.declared.ops.Bound.TheVariants.{Unbounded}
 use Rattle.std.proofs.lemmas.Bool.{cases_Bool}
@@ -10,20 +12,22 @@ use Rattle.sst_entries.specs.Stream.{ok_results}
 use Rattle.lsm_files.specs.Chunks.{joined}
 use Rattle.lsm_readers.specs.Table.{OpenTable}
 use Rattle.lsm_runs.specs.RunLists.{HoldLists, HoldsList, list_at, lists_at}
-use Rattle.lsm_runs.specs.RunParts.{Part, Span, is_edge, part_at, part_told, parts_at}
-use Rattle.lsm_runs.specs.RunRange.{parts_told}
-use Rattle.lsm_runs.proofs.OneList.{all_within}
+use Rattle.lsm_runs.specs.RunParts.{Part, RunSpan, is_edge, span_part_at, part_told}
+use Rattle.lsm_runs.specs.RunParts.{span_parts_from}
+use Rattle.lsm_runs.specs.RunRange.{run_parts_told}
+use Rattle.lsm_iters.proofs.Cuts.{all_within}
 use Rattle.lsm_runs.proofs.RunSteps.{R}
 use Rattle.lsm_runs.proofs.RunWithin.{held_told}
 
-module _ (span : Span) where
+module _ (span : RunSpan) where
   abbrev bounded : OpenTable → Bool → Part
   bounded t b = if b then record { table = t; low = span.low; high = span.high } else record { table = t; low = Unbounded; high = Unbounded }
 
   abbrev among : List Entry → Bool → List Entry
   among es b = if b then within span.low span.high es else es
 
-  told_at : (k : ℕ) (t : OpenTable) (es : List Entry) → HoldsList t es → part_told (part_at span k t) ≡ ok_results (list_at span k es)
+  told_at : (k : ℕ) (t : OpenTable) (es : List Entry) → HoldsList t es
+      → part_told (span_part_at span k t) ≡ ok_results (list_at span k es)
   told_at k t es h = elim (cases_Bool (is_edge span k)) [
     | inl e ↦
         ap (λ (b : Bool). part_told (bounded t b)) e ∙ held_told t es h span.low span.high ∙ sym (ap (λ (b : Bool). ok_results (among es b)) e)
@@ -34,17 +38,21 @@ module _ (span : Span) where
         ∙ sym (ap (λ (b : Bool). ok_results (among es b)) e)
   ]
 
-  told_first : (m k : ℕ) (ts : List OpenTable) (ls : List (List Entry)) → HoldLists ts ls → parts_told (take m (parts_at span k ts)) ≡ ok_results (joined (take m (lists_at span k ls)))
+  told_first : (m k : ℕ) (ts : List OpenTable) (ls : List (List Entry)) → HoldLists ts ls
+      → run_parts_told (take m (span_parts_from span k ts)) ≡ ok_results
+      (joined (take m (lists_at span k ls)))
   told_first zero k ts ls h = refl
   told_first (suc m) k [] [] h = refl
   told_first (suc m) k [] (es ∷ ls) h = absurd h
   told_first (suc m) k (t ∷ ts) [] h = absurd h
   told_first (suc m) k (t ∷ ts) (es ∷ ls) h =
-      ap (λ (rs : List R). rs ++ parts_told (take m (parts_at span (suc k) ts))) (told_at k t es h.0)
+      ap (λ (rs : List R). rs ++ run_parts_told (take m (span_parts_from span (suc k) ts))) (told_at k t es h.0)
       ∙ ap (λ (rs : List R). ok_results (list_at span k es) ++ rs) (told_first m (suc k) ts ls h.1)
       ∙ sym (map-append (λ (x : Entry). Ok x) (list_at span k es) (joined (take m (lists_at span (suc k) ls))))
 
-  pub told_between : (n m k : ℕ) (ts : List OpenTable) (ls : List (List Entry)) → HoldLists ts ls → parts_told (take m (drop n (parts_at span k ts))) ≡ ok_results (joined (take m (drop n (lists_at span k ls))))
+  pub told_between : (n m k : ℕ) (ts : List OpenTable) (ls : List (List Entry)) → HoldLists ts ls
+      → run_parts_told (take m (drop n (span_parts_from span k ts))) ≡ ok_results
+      (joined (take m (drop n (lists_at span k ls))))
   told_between zero m k ts ls h = told_first m k ts ls h
   told_between (suc n) m k [] [] h = told_first m k [] [] h
   told_between (suc n) m k [] (es ∷ ls) h = absurd h

@@ -1,5 +1,6 @@
 -- The entries of several runs that lie within bounds, sorted.
-use Rattle.std.proofs.Common.{◌≡◌, refl, sym, ◌∙◌, ap, subst, ℕ, Bool, true, false, cond, List, [], ◌∷◌, ◌++◌, filter, inl, inr}
+use Rattle.std.proofs.Common.{◌≡◌, refl, sym, ◌∙◌, ap, ℕ, Bool, true, false, cond, List, [], ◌∷◌}
+use Rattle.std.proofs.Common.{◌++◌, filter, inl, inr}
 use Rattle.std.specs.Prelude.{◌&&◌, map}
 use Rattle.std.specs.List.{AllByRecursion, AllZip}
 use Rattle.std.specs.Ordering.{is_gt}
@@ -12,9 +13,10 @@ use Rattle.sst_entries.specs.Point.{is_from, is_to, within}
 use Rattle.sst_entries.specs.Stream.{ok_results}
 use Rattle.lsm_files.specs.Chunks.{joined}
 use Rattle.lsm_merge.specs.Ends.{R}
-use Rattle.lsm_merge.specs.Union.{AtMost, Ascends, all_entries, all_errors, entries_among, errors_among, insert_sorted, item_cmp, sort_entries, union_of}
+use Rattle.lsm_merge.specs.Union.{AtMost, Ascends, all_entries, all_errors, entries_among}
+use Rattle.lsm_merge.specs.Union.{errors_among, insert_sorted, item_cmp, sort_entries, union_of}
 use Rattle.lsm_merge.proofs.MergedLemmas.{at_most_chain}
-use Rattle.lsm_merge.proofs.UnionLemmas.{merged_union}
+use Rattle.lsm_merge.proofs.UnionLemmas.{ascends_in_order}
 use Rattle.sst_entries.proofs.Lists.{all_more}
 use Rattle.lsm_runs.specs.SeveralRuns.{union_in}
 
@@ -24,19 +26,19 @@ entries_of [] = refl
 entries_of (e ∷ es) = ap (λ (xs : List Entry). e ∷ xs) (entries_of es)
 
 -- an entry that is at most each of some entries stands before them
-before_all : (x : Entry) (ys : List Entry) → AllByRecursion (AtMost x) ys → insert_sorted x ys ≡ x ∷ ys
+pub before_all : (x : Entry) (ys : List Entry) → AllByRecursion (AtMost x) ys
+    → insert_sorted x ys ≡ x ∷ ys
 before_all x [] h = refl
 before_all x (y ∷ ys) h = rw h.0 refl
 
 -- what is above an entry is above each that is at most that one
-all_above : (x y : Entry) → AtMost x y → (ys : List Entry) → AllByRecursion (AtMost y) ys → AllByRecursion (AtMost x) ys
+all_above : (x y : Entry) → AtMost x y → (ys : List Entry) → AllByRecursion (AtMost y) ys
+    → AllByRecursion (AtMost x) ys
 all_above x y e ys up = all_more (AtMost y) (AtMost x) (λ z le. at_most_chain x y z e le) ys up
 
-pub sorted : (xs : List Entry) → Ascends (sort_entries xs)
-sorted xs = subst (λ (ys : List Entry). Ascends (sort_entries ys)) (append-nil (entries_among (ok_results xs)) ∙ entries_of xs) (merged_union (ok_results xs ∷ [])).ascends
-
 -- what passes a test
-kept_all : (p : Entry → Bool) (x : Entry) (ys : List Entry) → AllByRecursion (AtMost x) ys → AllByRecursion (AtMost x) (filter p ys)
+kept_all : (p : Entry → Bool) (x : Entry) (ys : List Entry) → AllByRecursion (AtMost x) ys
+    → AllByRecursion (AtMost x) (filter p ys)
 kept_all p x [] h = tt
 kept_all p x (y ∷ ys) h = elim (cases_Bool (p y)) [
   | inl e ↦ rw e (h.0, kept_all p x ys h.1)
@@ -44,7 +46,8 @@ kept_all p x (y ∷ ys) h = elim (cases_Bool (p y)) [
 ]
 
 -- an entry that does not pass is put in for nothing
-put_out : (p : Entry → Bool) (x : Entry) (ys : List Entry) → p x ≡ false → filter p (insert_sorted x ys) ≡ filter p ys
+put_out : (p : Entry → Bool) (x : Entry) (ys : List Entry) → p x ≡ false
+    → filter p (insert_sorted x ys) ≡ filter p ys
 put_out p x [] miss = rw miss refl
 put_out p x (y ∷ ys) miss =
     let rest = put_out p x ys miss in
@@ -54,7 +57,8 @@ put_out p x (y ∷ ys) miss =
     ]
 
 -- one that passes stands in the same place
-put_in : (p : Entry → Bool) (x : Entry) (ys : List Entry) → Ascends ys → p x ≡ true → filter p (insert_sorted x ys) ≡ insert_sorted x (filter p ys)
+put_in : (p : Entry → Bool) (x : Entry) (ys : List Entry) → Ascends ys → p x ≡ true
+    → filter p (insert_sorted x ys) ≡ insert_sorted x (filter p ys)
 put_in p x [] up holds = rw holds refl
 put_in p x (y ∷ ys) up holds = elim (cases_Bool (is_gt (item_cmp x y))) [
   | inl e ↦
@@ -70,14 +74,16 @@ put_in p x (y ∷ ys) up holds = elim (cases_Bool (is_gt (item_cmp x y))) [
 
 module _ (low high : Bound (List ℕ)) where
   -- sorting and cutting at bounds may be exchanged
-  pub within_sorted : (xs : List Entry) → within low high (sort_entries xs) ≡ sort_entries (within low high xs)
+  pub within_sorted : (xs : List Entry)
+      → within low high (sort_entries xs) ≡ sort_entries (within low high xs)
   within_sorted [] = refl
   within_sorted (x ∷ xs) = elim (cases_Bool (is_from low x.user_key && is_to high x.user_key)) [
-    | inl e ↦ put_in _ x (sort_entries xs) (sorted xs) e ∙ ap (insert_sorted x) (within_sorted xs) ∙ sym (rw e refl)
+    | inl e ↦ put_in _ x (sort_entries xs) (ascends_in_order xs) e ∙ ap (insert_sorted x) (within_sorted xs) ∙ sym (rw e refl)
     | inr e ↦ put_out _ x (sort_entries xs) e ∙ within_sorted xs ∙ sym (rw e refl)
   ]
 
-  pub within_joined : (ls : List (List Entry)) → within low high (joined ls) ≡ joined (map (within low high) ls)
+  pub within_joined : (ls : List (List Entry))
+      → within low high (joined ls) ≡ joined (map (within low high) ls)
   within_joined [] = refl
   within_joined (es ∷ ls) =
       filter-append (λ (e : Entry). is_from low e.user_key && is_to high e.user_key) es (joined ls) ∙ ap (λ (xs : List Entry). within low high es ++ xs) (within_joined ls)
@@ -86,10 +92,12 @@ pub no_errors : (es : List Entry) → errors_among (ok_results es) ≡ []
 no_errors [] = refl
 no_errors (e ∷ es) = no_errors es
 
-pub entries_joined : (ls : List (List Entry)) → all_entries (map (λ (es : List Entry). ok_results es) ls) ≡ joined ls
+pub entries_joined : (ls : List (List Entry))
+    → all_entries (map (λ (es : List Entry). ok_results es) ls) ≡ joined ls
 entries_joined [] = refl
 entries_joined (es ∷ ls) = ap (λ (xs : List Entry). xs ++ all_entries (map (λ (us : List Entry). ok_results us) ls)) (entries_of es) ∙ ap (λ (xs : List Entry). es ++ xs) (entries_joined ls)
 
-pub no_errors_joined : (ls : List (List Entry)) → all_errors (map (λ (es : List Entry). ok_results es) ls) ≡ []
+pub no_errors_joined : (ls : List (List Entry))
+    → all_errors (map (λ (es : List Entry). ok_results es) ls) ≡ []
 no_errors_joined [] = refl
 no_errors_joined (es ∷ ls) = ap (λ xs. xs ++ all_errors (map (λ (us : List Entry). ok_results us) ls)) (no_errors es) ∙ no_errors_joined ls

@@ -1,5 +1,6 @@
 -- Runs of tables that were written of lists, and what is read of them.
-use Rattle.std.specs.Prelude.{◌≡◌, ℕ, suc, ◌-◌, Bool, true, List, [], ◌∷◌, drop, take, Option, Result, if◌then◌else◌}
+use Rattle.std.specs.Prelude.{◌≡◌, ℕ, suc, ◌-◌, Bool, true, List, [], ◌∷◌, drop, take, Option}
+use Rattle.std.specs.Prelude.{Result, if◌then◌else◌}
 use Rattle.std.specs.List.{AllByRecursion, AllZip}
 use Rattle.sst_entries.specs.declared.error.Error.{Error}
 use Rattle.sst_entries.specs.declared.error.Error.TheVariants.{OutOfMemory}
@@ -12,7 +13,7 @@ use Rattle.lsm_iters.specs.Lift.{lift}
 use Rattle.lsm_merge.specs.Union.{Ascends}
 use Rattle.lsm_ranges.specs.Run.{IsInOrder}
 use Rattle.lsm_readers.specs.Table.{IsOpen, OpenTable}
-use Rattle.lsm_runs.specs.RunParts.{Span, is_edge, range_of}
+use Rattle.lsm_runs.specs.RunParts.{RunSpan, is_edge, range_of}
 
 -- an opened table whose bytes are those of a list, which it gives lifted
 pub record HoldsList (t : OpenTable) (es : List Entry) : Type 0 where
@@ -26,16 +27,16 @@ abbrev pub HoldLists : List OpenTable → List (List Entry) → Type 0
 HoldLists tables lists = AllZip HoldsList tables lists
 
 -- a list at a place: within the bounds where the span begins or ends with it, and whole in between
-abbrev pub list_at : Span → ℕ → List Entry → List Entry
+abbrev pub list_at : RunSpan → ℕ → List Entry → List Entry
 list_at s place es = if is_edge s place then within s.low s.high es else es
 
 -- so each list from a place on
-abbrev pub lists_at : Span → ℕ → List (List Entry) → List (List Entry)
+abbrev pub lists_at : RunSpan → ℕ → List (List Entry) → List (List Entry)
 lists_at s place [] = []
 lists_at s place (es ∷ ls) = list_at s place es ∷ lists_at s (suc place) ls
 
 -- those of the span, one behind another
-abbrev pub span_list : Span → List (List Entry) → List Entry
+abbrev pub span_list : RunSpan → List (List Entry) → List Entry
 span_list s lists = joined (take (suc s.last - s.first) (drop s.first (lists_at s 0 lists)))
 
 -- and each of several runs, which are in order
@@ -51,7 +52,8 @@ DealsList front back es s =
     Deals (answer_stops stops) front back s (ok_results es)
 
 -- sources deal, one each, sorted lists that have together just the entries of these
-pub record DealTogether {S : Type 0} (front back : S → Option (Result Entry Error) → S → Type 0) (sources : List S) (found : List (List Entry)) : Type 0 where
+pub record DealTogether {S : Type 0} (front back : S → Option (Result Entry Error) → S → Type 0)
+    (sources : List S) (found : List (List Entry)) : Type 0 where
   pub dealt : List (List Entry)
   pub same : joined dealt ≡ joined found
   pub ascend : AllByRecursion Ascends dealt

@@ -1,5 +1,6 @@
 -- The tables of a run, each with the bounds within which it is read.
-use Rattle.std.specs.Prelude.{◌≡◌, ℕ, suc, ◌+◌, ◌-◌, ◌==◌, ◌||◌, Bool, List, [], ◌∷◌, drop, length, map, take, Option, unwrap_or, Result, if◌then◌else◌}
+use Rattle.std.specs.Prelude.{◌≡◌, ℕ, suc, ◌+◌, ◌-◌, ◌==◌, ◌||◌, Bool, List, [], ◌∷◌, drop, length}
+use Rattle.std.specs.Prelude.{map, take, Option, unwrap_or, Result, if◌then◌else◌}
 use Rattle.std.specs.declared.ops.Bound.{Bound}
 use Rattle.std.specs.declared.ops.Bound.TheVariants.{Unbounded}
 use Rattle.sst_entries.specs.declared.error.Error.{Error}
@@ -22,44 +23,44 @@ abbrev pub part_told : Part → List (Result Entry Error)
 part_told p = range_told p.table p.low p.high
 
 -- how many handles of data blocks its index names between the bounds' edges
-abbrev pub handles_in : Part → ℕ
-handles_in p = length ((table_index p.table).told (lower_edge p.low) (upper_edge p.high))
+abbrev pub handles_within : Part → ℕ
+handles_within p = length ((table_index p.table).told (lower_edge p.low) (upper_edge p.high))
 
 -- a bound on the answers of its reader
 abbrev pub part_size : Part → ℕ
-part_size p = length (part_told p) + handles_in p + index_within p.table p.low p.high + 1
+part_size p = length (part_told p) + handles_within p + index_within p.table p.low p.high + 1
 
 -- the first and the last place of some tables of a run, which are read within two bounds
-pub record Span : Type 0 where
+pub record RunSpan : Type 0 where
   pub first : ℕ
   pub last : ℕ
   pub low : Bound (List ℕ)
   pub high : Bound (List ℕ)
 
-abbrev pub span_of : ℕ × ℕ → Bound (List ℕ) → Bound (List ℕ) → Span
+abbrev pub span_of : ℕ × ℕ → Bound (List ℕ) → Bound (List ℕ) → RunSpan
 span_of ends low high = record { first = ends.0; last = ends.1; low = low; high = high }
 
 -- a table is read within the bounds where the span begins or ends with it, and whole in between
-abbrev pub is_edge : Span → ℕ → Bool
+abbrev pub is_edge : RunSpan → ℕ → Bool
 is_edge s place = (place == s.first) || (place == s.last)
 
-abbrev pub part_at : Span → ℕ → OpenTable → Part
-part_at s place t =
+abbrev pub span_part_at : RunSpan → ℕ → OpenTable → Part
+span_part_at s place t =
     if is_edge s place then record { table = t; low = s.low; high = s.high }
     else record { table = t; low = Unbounded; high = Unbounded }
 
 -- so each table from a place on
-abbrev pub parts_at : Span → ℕ → List OpenTable → List Part
-parts_at s place [] = []
-parts_at s place (t ∷ ts) = part_at s place t ∷ parts_at s (suc place) ts
+abbrev pub span_parts_from : RunSpan → ℕ → List OpenTable → List Part
+span_parts_from s place [] = []
+span_parts_from s place (t ∷ ts) = span_part_at s place t ∷ span_parts_from s (suc place) ts
 
 -- those of a run from one place up to another, which is not among them
-abbrev pub parts_between : Span → List OpenTable → ℕ → ℕ → List Part
-parts_between s tables lo hi = take (hi - lo) (drop lo (parts_at s 0 tables))
+abbrev pub span_parts_between : RunSpan → List OpenTable → ℕ → ℕ → List Part
+span_parts_between s tables lo hi = take (hi - lo) (drop lo (span_parts_from s 0 tables))
 
 -- those of the whole span
-abbrev pub span_parts : Span → List OpenTable → List Part
-span_parts s tables = parts_between s tables s.first (suc s.last)
+abbrev pub span_parts : RunSpan → List OpenTable → List Part
+span_parts s tables = span_parts_between s tables s.first (suc s.last)
 
 -- the first and the last place of a run, where they are not given
 abbrev pub ends_given : List OpenTable → Option ℕ × Option ℕ → ℕ × ℕ

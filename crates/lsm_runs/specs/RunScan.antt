@@ -1,5 +1,7 @@
 -- What a scan of a run still gives, and one call of it.
-use Rattle.std.specs.Prelude.{◌≡◌, ℕ, suc, ◌+◌, ◌-◌, ◌≤◌, false, List, [], ◌∷◌, ◌++◌, drop, length, max, take, Option, Some, None, Result, Ok, Err, MatchOption, MatchResult}
+use Rattle.std.specs.Prelude.{◌≡◌, ℕ, suc, ◌+◌, ◌-◌, ◌≤◌, false, List, [], ◌∷◌, ◌++◌, drop, length}
+use Rattle.std.specs.Prelude.{max, take, Option, Some, None, Result, Ok, Err, MatchOption}
+use Rattle.std.specs.Prelude.{MatchResult}
 use Rattle.std.specs.List.{flat_map}
 use Rattle.sst_sections.specs.Sections.{body_of}
 use Rattle.sst_blocks.specs.declared.block_type.BlockType.TheVariants.{Data}
@@ -8,7 +10,8 @@ use Rattle.sst_entries.specs.declared.error.Error.{Error}
 use Rattle.sst_entries.specs.Entry.{Entry}
 use Rattle.sst_entries.specs.Error.{is_memory}
 use Rattle.sst_entries.specs.Stream.{Lowers, first}
-use Rattle.lsm_readers.specs.Scan.{IsNewScan, Scan, fault_of, scan_left, scan_size, scan_told, up_to_error}
+use Rattle.lsm_readers.specs.Scan.{IsNewScan, Scan, fault_of, scan_left, scan_size, scan_told}
+use Rattle.lsm_readers.specs.Scan.{up_to_error}
 use Rattle.lsm_readers.specs.Table.{OpenTable}
 
 -- what a scan of a table gives, and a bound on its answers
@@ -18,8 +21,8 @@ table_scan t = scan_told (body_of t.bytes) t.parts.facts.data_block_count t.glob
 abbrev pub table_size : OpenTable → ℕ
 table_size t = length (table_scan t) + max 1 t.parts.facts.data_block_count
 
--- what the scan of a table is refused with, memory aside: the fault of its first block; and what of it is found before any
--- memory is taken
+-- what the scan of a table is refused with, memory aside: the fault of its first block; and what of
+-- it is found before any memory is taken
 abbrev pub scan_fault : OpenTable → Option Error
 scan_fault t = fault_of (load_at_told (body_of t.bytes) 0 Data)
 
@@ -59,11 +62,11 @@ abbrev pub run_scan_size : RunScan → ℕ
 run_scan_size s = size_of_scan s.scan + tables_size s.tables
 
 -- nothing more comes, and nothing is opened
-abbrev pub IsEnded : RunScan → Type 0
-IsEnded s = run_scan_size s ≡ 0
+abbrev pub IsRunScanEnded : RunScan → Type 0
+IsRunScanEnded s = run_scan_size s ≡ 0
 
--- an answer: the first of what is left, and the others are left; nothing, where nothing is left; want of memory stands in the place
--- of any answer
+-- an answer: the first of what is left, and the others are left; nothing, where nothing is left;
+-- want of memory stands in the place of any answer
 abbrev pub ScanAnswer : RunScan → Option (Result Entry Error) → RunScan → Type 0
 ScanAnswer s None t = run_scan_left s ≡ []
 ScanAnswer s (Some (Ok e)) t = run_scan_left s ≡ Ok e ∷ run_scan_left t
@@ -72,7 +75,7 @@ ScanAnswer s (Some (Err e)) t = is_memory e ≡ false → first (run_scan_left s
 -- one call; an error ends the scan
 pub record RunScansNext (s : RunScan) (r : Option (Result Entry Error)) (t : RunScan) : Type 0 where
   pub answer : ScanAnswer s r t
-  pub ends : MatchOption r (Unit {0}) (λ x. MatchResult x (λ _. Unit {0}) (λ _. IsEnded t))
+  pub ends : MatchOption r (Unit {0}) (λ x. MatchResult x (λ _. Unit {0}) (λ _. IsRunScanEnded t))
   pub lowers : Lowers r (run_scan_size s) (run_scan_size t)
 
 -- a scanner of a span of a run: its first table is opened, and no step was made
@@ -83,14 +86,15 @@ pub record IsScanOf (tables : List OpenTable) (ends : ℕ × ℕ) (s : RunScan) 
 -- ---- one step of its parts
 
 -- an answer of the scan of one table, and nothing where none is opened
-abbrev pub ItemAnswer : Option Scan → Option (Result Entry Error) → Option Scan → Type 0
-ItemAnswer s None t = left_of_scan s ≡ []
-ItemAnswer s (Some (Ok e)) t = left_of_scan s ≡ Ok e ∷ left_of_scan t
-ItemAnswer s (Some (Err e)) t = is_memory e ≡ false → first (left_of_scan s) ≡ Some (Err e)
+abbrev pub ScannerAnswer : Option Scan → Option (Result Entry Error) → Option Scan → Type 0
+ScannerAnswer s None t = left_of_scan s ≡ []
+ScannerAnswer s (Some (Ok e)) t = left_of_scan s ≡ Ok e ∷ left_of_scan t
+ScannerAnswer s (Some (Err e)) t = is_memory e ≡ false → first (left_of_scan s) ≡ Some (Err e)
 
-pub record ScansItem (s : Option Scan) (r : Option (Result Entry Error)) (t : Option Scan) : Type 0 where
-  pub answer : ItemAnswer s r t
-  pub lowers : Lowers r (size_of_scan s) (size_of_scan t)
+pub record ScansItem (s : Option Scan) (r : Option (Result Entry Error)) (t : Option Scan) : Type 0
+  where
+    pub answer : ScannerAnswer s r t
+    pub lowers : Lowers r (size_of_scan s) (size_of_scan t)
 
 -- the scan of a table begins, or it is refused, memory aside with the fault that the scan tells
 abbrev pub BeginsScan : OpenTable → Result Scan Error → Type 0
@@ -100,7 +104,8 @@ BeginsScan t (Err e) = is_memory e ≡ false → first (table_scan t) ≡ Some (
 -- that of the next table, where one is left
 abbrev pub BeginsNext : RunScan → Option (Result Scan Error) → RunScan → Type 0
 BeginsNext s None t = (s.tables ≡ []) × (t ≡ s)
-BeginsNext s (Some r) t = (table : OpenTable) × (s.tables ≡ table ∷ t.tables) × (t.scan ≡ s.scan) × BeginsScan table r
+BeginsNext s (Some r) t = (table : OpenTable) × (s.tables ≡ table ∷ t.tables) × (t.scan ≡ s.scan)
+    × BeginsScan table r
 
 -- nothing more comes
 abbrev pub over_scan : RunScan → RunScan

@@ -1,5 +1,6 @@
 -- What several runs answer together.
-use Rattle.std.specs.Prelude.{◌≡◌, ℕ, ◌+◌, ◌-◌, ◌^◌, ◌≤◌, List, [], ◌∷◌, map, min, Option, Some, None, Result, if◌then◌else◌}
+use Rattle.std.specs.Prelude.{◌≡◌, ℕ, ◌+◌, ◌-◌, ◌^◌, ◌≤◌, List, [], ◌∷◌, map, min, Option, Some}
+use Rattle.std.specs.Prelude.{None, Result, if◌then◌else◌}
 use Rattle.std.specs.Ordering.{is_lt}
 use Rattle.sst_entries.specs.declared.error.Error.{Error}
 use Rattle.sst_entries.specs.Entry.{Entry}
@@ -28,15 +29,16 @@ leading_of None y = y
 leading_of (Some x) None = Some x
 leading_of (Some x) (Some y) = if is_lt (item_cmp y x) then Some y else Some x
 
--- a point read of several runs, one behind another, behind what was found: the entry that stands before the others, or the refusal
--- of the earliest run that has one
+-- a point read of several runs, one behind another, behind what was found: the entry that stands
+-- before the others, or the refusal of the earliest run that has one
 abbrev pub runs_read : List ℕ → ℕ → Option Entry → List (List OpenTable) → Read (Option Entry)
 runs_read key bound found [] = known found
 runs_read key bound found (tables ∷ runs) =
     read_then (run_read key bound tables) (λ next. runs_read key bound (leading_of found next) runs)
 
 -- what it tells
-abbrev pub runs_told : List ℕ → ℕ → Option Entry → List (List OpenTable) → Result (Option Entry) Error
+abbrev pub runs_told : List ℕ → ℕ → Option Entry → List (List OpenTable)
+    → Result (Option Entry) Error
 runs_told key bound found runs = (runs_read key bound found runs).told
 
 -- two counts together, staying at the largest value
@@ -52,7 +54,8 @@ loads_together a b = record {
   meta_loads = sum_within a.meta_loads b.meta_loads;
 }
 
--- at most so many data blocks, so many index blocks and so many filter blocks were loaded, and no others
+-- at most so many data blocks, so many index blocks and so many filter blocks were loaded, and no
+-- others
 pub record LoadsEach (most : ℕ) (o : Opened) : Type 0 where
   pub data_few : o.data_loads ≤ most
   pub index_few : o.index_loads ≤ most

@@ -11,25 +11,27 @@ use Rattle.lsm_ranges.specs.Run.{overlap_indexes}
 use Rattle.lsm_readers.specs.Table.{OpenTable}
 use Rattle.lsm_sorted.specs.NewestLaws.{AnswersNewest, IsNewestOf}
 use Rattle.lsm_sorted.specs.declared.mvcc_stream.MvccStream.{MvccStream}
-use Rattle.lsm_runs.specs.RunParts.{Span, ranges_of, span_of}
-use Rattle.lsm_runs.specs.RunRange.{IsRunOf, RunGives, RunRange, back_tables, front_tables, run_left}
+use Rattle.lsm_runs.specs.RunParts.{RunSpan, ranges_of, span_of}
+use Rattle.lsm_runs.specs.RunRange.{IsRunOf, RunGives, RunRange, back_tables, front_tables}
+use Rattle.lsm_runs.specs.RunRange.{run_left}
 
--- the tables of a run, and the span of those that lie at a first and a last place, where there are any
+-- the tables of a run, and the span of those that lie at a first and a last place, where there are
+-- any
 abbrev pub span_at : List OpenTable → Bound (List ℕ) → Bound (List ℕ) → Option (ℕ × ℕ)
-    → List (List OpenTable × Span)
+    → List (List OpenTable × RunSpan)
 span_at tables low high None = []
 span_at tables low high (Some ends) = (tables, span_of ends low high) ∷ []
 
 -- each run that has a table whose range reaches past both bounds, with the span of these tables
 abbrev pub spans_within : Bound (List ℕ) → Bound (List ℕ) → List (List OpenTable)
-    → List (List OpenTable × Span)
+    → List (List OpenTable × RunSpan)
 spans_within low high runs =
     flat_map (λ tables. span_at tables low high (overlap_indexes low high (ranges_of tables))) runs
 
--- before any call, a stream of newest versions over one reader of each of these spans. What a reader deals, up to its first
--- error, is what its tables tell, and behind an error, want of memory too, it deals nothing. For every list of ends the
--- stream's answers are those of its steps on all entries, or on what is left of them where an error that was met takes the
--- place of a stretch
+-- before any call, a stream of newest versions over one reader of each of these spans. What a
+-- reader deals, up to its first error, is what its tables tell, and behind an error, want of memory
+-- too, it deals nothing. For every list of ends the stream's answers are those of its steps on all
+-- entries, or on what is left of them where an error that was met takes the place of a stretch
 pub record IsOverSpans {A : Type 0}
     (next next_back : MvccStream (Merger (RunRange A) A) (Result Entry Error)
     → Option (Result Entry Error)

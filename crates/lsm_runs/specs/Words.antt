@@ -1,4 +1,5 @@
--- The words of the contracts of runs that are read, those of the crates below among them, so that a file asks for them in one place.
+-- The words of the contracts of runs that are read, those of the crates below among them, so that a
+-- file asks for them in one place.
 pub use Rattle.sst_entries.specs.Entry.{Entry}
 pub use Rattle.sst_entries.specs.Error.{Faults, FaultsFirst, Gives, is_memory}
 pub use Rattle.sst_entries.specs.Point.{point, within}
@@ -15,8 +16,13 @@ pub use Rattle.lsm_readers.specs.Read.{DoesRead, Opens}
 pub use Rattle.lsm_readers.specs.Table.{OpenTable}
 pub use Rattle.lsm_sorted.specs.NewestLaws.{AnswersNewest, CanAskNewest, DealsNewest, IsNewestOf}
 pub use Rattle.lsm_runs.specs.RunParts.{ends_given, range_of, span_of}
-pub use Rattle.lsm_runs.specs.RunRange.{IsRunOf, ItemGives, OpensAtMost, RunGives, back_tables, front_tables, over, run_left, run_size, stopped}
-pub use Rattle.lsm_runs.specs.RunLists.{DealTogether, DealsList, HoldLists, RunsHoldLists, span_list}
-pub use Rattle.lsm_runs.specs.RunScan.{BeginsNext, BeginsScan, IsScanOf, RunScansNext, ScansItem, early_scan_fault, over_scan, run_scan_size, scan_fault, stopped_scan, tables_between, tables_scan}
+pub use Rattle.lsm_runs.specs.RunRange.{IsRunOf, ItemGives, OpensAtMost, RunGives, back_tables}
+pub use Rattle.lsm_runs.specs.RunRange.{front_tables, over_run, run_left, run_size, stopped_run}
+pub use Rattle.lsm_runs.specs.RunLists.{DealTogether, DealsList, HoldLists, RunsHoldLists}
+pub use Rattle.lsm_runs.specs.RunLists.{span_list}
+pub use Rattle.lsm_runs.specs.RunScan.{BeginsNext, BeginsScan, IsScanOf, RunScansNext, ScansItem}
+pub use Rattle.lsm_runs.specs.RunScan.{early_scan_fault, over_scan, run_scan_size, scan_fault}
+pub use Rattle.lsm_runs.specs.RunScan.{stopped_scan, tables_between, tables_scan}
 pub use Rattle.lsm_runs.specs.SpansRead.{IsOverSpans, spans_within}
-pub use Rattle.lsm_runs.specs.SeveralRuns.{LoadsEach, leading_of, loads_together, run_read, runs_read, runs_told, union_in}
+pub use Rattle.lsm_runs.specs.SeveralRuns.{LoadsEach, leading_of, loads_together, run_read}
+pub use Rattle.lsm_runs.specs.SeveralRuns.{runs_read, runs_told, union_in}

@@ -17,7 +17,7 @@ pub(crate) fn edge<A: Allocator>(bound: &Bound<UserKey<A>>) -> Bound<&[u8]>
     }
 }
 
-/// The same bound, which shares its key's memory. Refused where its count of sharers is full.
+/// A copy of a bound that shares its key's memory. Refused where its count of sharers is full.
 pub fn share<A: Allocator>(bound: &Bound<UserKey<A>>) -> Result<Bound<UserKey<A>>, AllocError>
     ensures { IfOk result (λ b. b ≡ bound.now) }
 {

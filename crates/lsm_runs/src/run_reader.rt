@@ -1,12 +1,13 @@
 //! Reading the tables of a run one behind another, from both ends.
-ghost use Rattle.std.specs.Prelude.{◌≡◌, ◌-◌, ◌+◌, ℕ, [], None, Some, List, IfOk, IfSome, IsOk, MatchOption, length, map};
+ghost use Rattle.std.specs.Prelude.{◌≡◌, ◌-◌, ◌+◌, ℕ, [], None, Some, List, IfOk, IfSome, IsOk};
+ghost use Rattle.std.specs.Prelude.{MatchOption, length, map};
 ghost use Rattle.std.specs.Arc.{arc_value};
 ghost use Rattle.std.specs.Iterator.{at_most};
 ghost use Rattle.lsm_runs.specs.Words.{ArePlacesOf, DealsEnding, DealsList, Entry, HoldLists};
 ghost use Rattle.lsm_runs.specs.Words.{IsInOrder, IsRunOf, ItemGives, OpensAtMost, RunGives};
 ghost use Rattle.lsm_runs.specs.Words.{back_of, back_tables, ends_given, front_of, front_tables};
-ghost use Rattle.lsm_runs.specs.Words.{joined, over, overlap_indexes, run_left, run_size};
-ghost use Rattle.lsm_runs.specs.Words.{span_list, span_of, stopped, within};
+ghost use Rattle.lsm_runs.specs.Words.{joined, over_run, overlap_indexes, run_left, run_size};
+ghost use Rattle.lsm_runs.specs.Words.{span_list, span_of, stopped_run, within};
 
 use crate::spans::{ends_in, places_within};
 use crate::unopened::Unopened;
@@ -18,10 +19,11 @@ use std::marker::Model;
 use std::ops::Bound;
 use std::sync::Arc;
 
-/// The entries of the tables of a run, one table behind another, dealt from both ends. It shares the run.
+/// The entries of the tables of a run, one table behind another, dealt from both ends. It shares
+/// the run.
 ///
-/// A table is opened by the first step that needs it, once, also where both ends meet in it. After an error,
-/// [`Error::OutOfMemory`] among them, nothing more comes, from either end.
+/// A table is opened by the first step that needs it, once, also where both ends meet in it. After
+/// an error, [`Error::OutOfMemory`] among them, nothing more comes, from either end.
 #[derive(Drop)]
 pub struct RunReader<A: Allocator = Global> {
     unopened: Unopened<A>,
@@ -98,8 +100,8 @@ impl<A: Allocator + Clone> Opened<A> {
 }
 
 impl<A: Allocator + Clone> RunReader<A> {
-    /// The entries within both bounds of a run that is in order; `None` exactly where no table's range reaches past both bounds.
-    /// No table is opened yet. Nothing is refused.
+    /// The entries within both bounds of a run that is in order; `None` exactly where no table's
+    /// range reaches past both bounds. No table is opened yet. Nothing is refused.
     pub fn new(
         run: Arc<Run<Table<A>, A>, A>,
         range: (Bound<UserKey<A>>, Bound<UserKey<A>>),
@@ -118,8 +120,8 @@ impl<A: Allocator + Clone> RunReader<A> {
             let back_gives = ⟦<RunReader<A> as DoubleEndedIterator>⟧.next_back_gives in
             IfOk result (λ r. IfSome r (λ reader. DealsEnding gives back_gives
             (λ _. Unit {0}) (λ _. Unit {0}) reader (run_left reader))) }
-        // On tables of lists in a run in order it is what of all lists, lifted, lies within the bounds; without a reader there
-        // is nothing.
+        // On tables of lists in a run in order it is what of all lists, lifted, lies within the
+        // bounds; without a reader there is nothing.
         ensures list { let gives = ⟦<RunReader<A> as Iterator>⟧.next_gives in
             let back_gives = ⟦<RunReader<A> as DoubleEndedIterator>⟧.next_back_gives in
             let tables = arc_value run in IsInOrder ⟦<Table<A> as Ranged>⟧.range tables →
@@ -127,7 +129,8 @@ impl<A: Allocator + Clone> RunReader<A> {
             let found = within range.0 range.1 (joined lists) in
             IfOk result (λ r. MatchOption r (found ≡ [])
             (λ reader. DealsList gives back_gives found reader)) }
-        // On a run in order no more tables are opened than have a range that reaches past both bounds.
+        // On a run in order no more tables are opened than have a range that reaches past both
+        // bounds.
         ensures few { let gives = ⟦<RunReader<A> as Iterator>⟧.next_gives in
             let back_gives = ⟦<RunReader<A> as DoubleEndedIterator>⟧.next_back_gives in
             let range_of = ⟦<Table<A> as Ranged>⟧.range in
@@ -147,9 +150,10 @@ impl<A: Allocator + Clone> RunReader<A> {
         }
     }
 
-    /// The entries of the tables from a first place to a last, where they are not given of all: those of the first and of the
-    /// last table within both bounds, those between whole. No table is opened yet. Nothing is refused. Conditions: the first
-    /// place is at most the last, and the last is below the number of tables.
+    /// The entries of the tables from a first place to a last, where they are not given of all:
+    /// those of the first and of the last table within both bounds, those between whole. No table
+    /// is opened yet. Nothing is refused. Conditions: the first place is at most the last, and the
+    /// last is below the number of tables.
     pub fn culled(
         run: Arc<Run<Table<A>, A>, A>,
         range: (Bound<UserKey<A>>, Bound<UserKey<A>>),
@@ -164,8 +168,8 @@ impl<A: Allocator + Clone> RunReader<A> {
             let back_gives = ⟦<RunReader<A> as DoubleEndedIterator>⟧.next_back_gives in
             IfOk result (λ reader. DealsEnding gives back_gives (λ _. Unit {0}) (λ _. Unit {0})
             reader (run_left reader)) }
-        // On tables of lists it is what of the span's first and last list, lifted, lies within the bounds, and all of those
-        // between.
+        // On tables of lists it is what of the span's first and last list, lifted, lies within the
+        // bounds, and all of those between.
         ensures list { let gives = ⟦<RunReader<A> as Iterator>⟧.next_gives in
             let back_gives = ⟦<RunReader<A> as DoubleEndedIterator>⟧.next_back_gives in
             let tables = arc_value run in let ends = ends_given tables span in
@@ -182,7 +186,7 @@ impl<A: Allocator + Clone> RunReader<A> {
         Ok(RunReader::of_span(run, range, ends))
     }
 
-    /// The same of a first place and a last.
+    /// A reader of the tables from a first place to a last; none of them is opened yet.
     fn of_span(
         run: Arc<Run<Table<A>, A>, A>,
         range: (Bound<UserKey<A>>, Bound<UserKey<A>>),
@@ -207,7 +211,7 @@ impl<A: Allocator + Clone> RunReader<A> {
 
     /// Lets go what is left.
     fn end(&mut self)
-        ensures { self.new ≡ over self.old }
+        ensures { self.new ≡ over_run self.old }
     {
         self.unopened.end();
         self.lo_reader.end();
@@ -218,7 +222,7 @@ impl<A: Allocator + Clone> RunReader<A> {
 impl<A: Allocator + Clone> RunReader<A> {
     /// The answer at the front; an error does not end the reader yet.
     fn step_front(&mut self) -> Option<IterItem<A>>
-        ensures { RunGives front_of front_tables self.old result (stopped result self.new) }
+        ensures { RunGives front_of front_tables self.old result (stopped_run result self.new) }
     {
         loop {
             if let Some(item) = self.lo_reader.first_item() {
@@ -234,7 +238,7 @@ impl<A: Allocator + Clone> RunReader<A> {
 
     /// The answer at the back; an error does not end the reader yet.
     fn step_back(&mut self) -> Option<IterItem<A>>
-        ensures { RunGives back_of back_tables self.old result (stopped result self.new) }
+        ensures { RunGives back_of back_tables self.old result (stopped_run result self.new) }
     {
         loop {
             if let Some(item) = self.hi_reader.last_item() {

@@ -1,5 +1,6 @@
 //! Reading the tables of a run whole, one behind another.
-ghost use Rattle.std.specs.Prelude.{◌≡◌, ◌<◌, Err, IfErr, IfOk, List, Some, false, length, slice_get};
+ghost use Rattle.std.specs.Prelude.{◌≡◌, ◌<◌, Err, IfErr, IfOk, List, Some, false, length};
+ghost use Rattle.std.specs.Prelude.{slice_get};
 ghost use Rattle.std.specs.Arc.{arc_value};
 ghost use Rattle.std.specs.Iterator.{at_most};
 ghost use Rattle.std.specs.List.{AllByRecursion};
@@ -20,8 +21,8 @@ use std::sync::Arc;
 
 /// The entries of the tables of a run, one table behind another, from the front. It shares the run.
 ///
-/// The first table is opened when the scanner is made, each further one by the first step that needs it. After an error,
-/// [`Error::OutOfMemory`] among them, nothing more comes.
+/// The first table is opened when the scanner is made, each further one by the first step that
+/// needs it. After an error, [`Error::OutOfMemory`] among them, nothing more comes.
 #[derive(Drop)]
 pub struct RunScanner<A: Allocator = Global> {
     tables: Arc<Run<Table<A>, A>, A>,
@@ -70,8 +71,9 @@ fn next_item<A: Allocator + Clone>(reader: &mut Option<Scanner<A>>) -> Option<It
 }
 
 impl<A: Allocator + Clone> RunScanner<A> {
-    /// The entries of the tables from a first place to a last, where they are not given of all. Refused exactly as
-    /// [`Table::scan`] of the first, which is opened here. Conditions: the first place is at most the last, and the last is below the number of tables.
+    /// The entries of the tables from a first place to a last, where they are not given of all.
+    /// Refused exactly as [`Table::scan`] of the first, which is opened here. Conditions: the first
+    /// place is at most the last, and the last is below the number of tables.
     pub fn culled(
         run: Arc<Run<Table<A>, A>, A>,
         span: (Option<usize>, Option<usize>),
@@ -79,7 +81,8 @@ impl<A: Allocator + Clone> RunScanner<A> {
         requires { ArePlacesOf (arc_value run) (ends_given (arc_value run) span) }
         ensures is { let tables = arc_value run in
             IfOk result (λ s. IsScanOf tables (ends_given tables span) s) }
-        // Want of memory aside it gives what scans of the tables give, up to the first error, and then nothing.
+        // Want of memory aside it gives what scans of the tables give, up to the first error, and
+        // then nothing.
         ensures deals { let gives = ⟦<RunScanner<A> as Iterator>⟧.next_gives in
             let tables = arc_value run in
             let left = tables_scan (tables_between tables (ends_given tables span)) in IfOk result
@@ -89,7 +92,8 @@ impl<A: Allocator + Clone> RunScanner<A> {
             let tables = tables_between (arc_value run) (ends_given (arc_value run) span) in
             (lists : List (List Entry)) → AllByRecursion (λ es. 0 < length es) lists →
             HoldLists tables lists → IfOk result (DealsList gives nowhere (joined lists)) }
-        // The first table is opened here: what its scan refuses is refused, and it succeeds where that would,
+        // The first table is opened here: what its scan refuses is refused, and it succeeds where
+        // that would,
         ensures refused { let tables = arc_value run in (t : OpenTable) →
             slice_get tables (ends_given tables span).0 ≡ Some t → Faults result (scan_fault t) }
         // and what is found before memory is taken is the refusal whatever memory there is.

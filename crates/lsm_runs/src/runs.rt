@@ -1,5 +1,6 @@
 //! Reading several runs as one.
-ghost use Rattle.std.specs.Prelude.{◌≡◌, ℕ, [], IfErr, IfOk, IsOk, List, MatchOption, None, Ok, Option, Some, length, map};
+ghost use Rattle.std.specs.Prelude.{◌≡◌, ℕ, [], IfErr, IfOk, IsOk, List, MatchOption, None, Ok};
+ghost use Rattle.std.specs.Prelude.{Option, Some, length, map};
 ghost use Rattle.std.specs.Arc.{arc_value};
 ghost use Rattle.std.specs.List.{AllByRecursion, AllZip};
 ghost use Rattle.std.specs.Ordering.{is_lt};
@@ -10,32 +11,38 @@ ghost use Rattle.lsm_runs.specs.Words.{DealsList, DealsNewest, DoesRead, Entry, 
 ghost use Rattle.lsm_runs.specs.Words.{HoldLists, IsInOrder, IsNewestOf, IsOverSpans, IsRunOf};
 ghost use Rattle.lsm_runs.specs.Words.{LoadsEach, Opens, RunsHoldLists, item_cmp, joined};
 ghost use Rattle.lsm_runs.specs.Words.{leading_of, loads_together, newest, none_opened};
-ghost use Rattle.lsm_runs.specs.Words.{overlap_indexes, point, range_of, run_read, runs_read, runs_told, span_of, spans_within, union_in, within};
+ghost use Rattle.lsm_runs.specs.Words.{overlap_indexes, point, range_of, run_read, runs_read};
+ghost use Rattle.lsm_runs.specs.Words.{runs_told, span_of, spans_within, union_in, within};
 
 use crate::RunReader;
 use crate::bounds::share;
 use lsm_merge::Merger;
 use lsm_ranges::Run;
 use lsm_readers::Table;
-use lsm_sorted::{MvccStream, newest_from_both_ends, newest_of};
+use lsm_sorted::{MvccStream, NewestOf, newest_from_both_ends, newest_of};
 use sst_blocks::{Error, InternalValue, IterItem, Opened, SeqNo, UserKey};
 use std::alloc::Allocator;
 use std::ops::Bound;
 use std::sync::Arc;
+
+/// The newest version of each key of several runs, from both ends: what [`range_runs`] gives.
+pub type NewestOfRuns<A> = NewestOf<RunReader<A>, A>;
 
 // The reader of a run within both bounds, where a table's range reaches past them.
 fn reader_of<A: Allocator + Clone>(
     run: &Arc<Run<Table<A>, A>, A>,
     range: &(Bound<UserKey<A>>, Bound<UserKey<A>>),
 ) -> Result<Option<RunReader<A>>, Error>
-    // Of tables of lists in a run in order it deals what lies within the bounds; without a reader there is nothing.
+    // Of tables of lists in a run in order it deals what lies within the bounds; without a reader
+    // there is nothing.
     ensures list { let gives = ⟦<RunReader<A> as Iterator>⟧.next_gives in
         let back_gives = ⟦<RunReader<A> as DoubleEndedIterator>⟧.next_back_gives in
         (lists : List (List Entry)) →
         IsInOrder range_of (arc_value run.now) × HoldLists (arc_value run.now) lists →
         let found = within range.now.0 range.now.1 (joined lists) in IfOk result (λ r.
         MatchOption r (found ≡ []) (λ reader. DealsList gives back_gives found reader)) }
-    // Of any tables in a run in order it is that of the span of those whose ranges reach past both bounds.
+    // Of any tables in a run in order it is that of the span of those whose ranges reach past both
+    // bounds.
     ensures span { let tables = arc_value run.now in IsInOrder range_of tables →
         let found = overlap_indexes range.now.0 range.now.1 (map range_of tables) in
         IfOk result (λ r. MatchOption r (found ≡ None) (λ reader. (ends : ℕ × ℕ) ×
@@ -52,7 +59,8 @@ fn readers_of<A: Allocator + Clone>(
     runs: &[Arc<Run<Table<A>, A>, A>],
     range: &(Bound<UserKey<A>>, Bound<UserKey<A>>),
 ) -> Result<Vec<RunReader<A>, A>, Error>
-    // Of tables of lists in runs in order they deal together what of each run lies within the bounds.
+    // Of tables of lists in runs in order they deal together what of each run lies within the
+    // bounds.
     ensures list { let gives = ⟦<RunReader<A> as Iterator>⟧.next_gives in
         let back_gives = ⟦<RunReader<A> as DoubleEndedIterator>⟧.next_back_gives in
         (lists : List (List (List Entry))) → RunsHoldLists (map arc_value runs.now) lists →
@@ -73,7 +81,7 @@ fn readers_of<A: Allocator + Clone>(
     Ok(readers)
 }
 
-// The same; it takes the bounds, and drops them.
+// The readers of several runs within bounds, which it takes and drops.
 fn readers_within<A: Allocator + Clone>(
     alloc: A,
     runs: &[Arc<Run<Table<A>, A>, A>],
@@ -92,24 +100,25 @@ fn readers_within<A: Allocator + Clone>(
     readers_of(alloc, runs, &range)
 }
 
-// The newest versions of sources with two ends. It is generic in these, so that none of a reader's parts is looked at.
+// The newest versions of sources with two ends. It is generic in these, so that none of a reader's
+// parts is looked at.
 fn newest_stream<I: DoubleEndedIterator<Item = IterItem<A>>, A: Allocator + Clone>(
     alloc: A,
     sources: Vec<I, A>,
-) -> Result<MvccStream<Merger<I, A>>, Error>
+) -> Result<NewestOf<I, A>, Error>
     ensures starts { IfOk result (IsNewestOf sources.items) }
     ensures deals { IfOk result (DealsNewest I.next_gives I.next_back_gives sources.items
-        ⟦<MvccStream<Merger<I, A>> as Iterator>⟧.next_gives
-        ⟦<MvccStream<Merger<I, A>> as DoubleEndedIterator>⟧.next_back_gives) }
+        ⟦<NewestOf<I, A> as Iterator>⟧.next_gives
+        ⟦<NewestOf<I, A> as DoubleEndedIterator>⟧.next_back_gives) }
     ensures past { IfOk result (AnswersNewest I.next_gives I.next_back_gives sources.items
-        ⟦<MvccStream<Merger<I, A>> as Iterator>⟧.next_gives
-        ⟦<MvccStream<Merger<I, A>> as DoubleEndedIterator>⟧.next_back_gives) }
+        ⟦<NewestOf<I, A> as Iterator>⟧.next_gives
+        ⟦<NewestOf<I, A> as DoubleEndedIterator>⟧.next_back_gives) }
     ensures can { IfOk result (CanAskNewest I.next_gives I.next_back_gives I.can_next
         I.can_next_back I.remaining sources.items
-        ⟦<MvccStream<Merger<I, A>> as Iterator>⟧.next_gives
-        ⟦<MvccStream<Merger<I, A>> as DoubleEndedIterator>⟧.next_back_gives
-        ⟦<MvccStream<Merger<I, A>> as Iterator>⟧.can_next
-        ⟦<MvccStream<Merger<I, A>> as DoubleEndedIterator>⟧.can_next_back) }
+        ⟦<NewestOf<I, A> as Iterator>⟧.next_gives
+        ⟦<NewestOf<I, A> as DoubleEndedIterator>⟧.next_back_gives
+        ⟦<NewestOf<I, A> as Iterator>⟧.can_next
+        ⟦<NewestOf<I, A> as DoubleEndedIterator>⟧.can_next_back) }
     ensures err { IfErr result (λ e. e ≡ OutOfMemory) }
 {
     let stream = newest_of(alloc, sources)?;
@@ -117,41 +126,41 @@ fn newest_stream<I: DoubleEndedIterator<Item = IterItem<A>>, A: Allocator + Clon
     Ok(stream)
 }
 
-/// The newest version of each key within both bounds, of what several runs have together, from both ends. No table is opened
-/// yet. Refused [`Error::OutOfMemory`] alone.
+/// The newest version of each key within both bounds, of what several runs have together, from both
+/// ends. No table is opened yet. Refused [`Error::OutOfMemory`] alone.
 pub fn range_runs<A: Allocator + Clone>(
     alloc: A,
     runs: &[Arc<Run<Table<A>, A>, A>],
     range: (Bound<UserKey<A>>, Bound<UserKey<A>>),
 ) -> Result<MvccStream<Merger<RunReader<A>, A>>, Error>
-    // Of tables of lists in runs in order it deals, for every list of ends, what is newest of the sorted entries of all lists,
-    // lifted, that lie within the bounds.
-    ensures list { let gives = ⟦<MvccStream<Merger<RunReader<A>, A>> as Iterator>⟧.next_gives in
-        let back_gives =
-        ⟦<MvccStream<Merger<RunReader<A>, A>> as DoubleEndedIterator>⟧.next_back_gives in
+    // Of tables of lists in runs in order it deals, for every list of ends, what is newest of the
+    // sorted entries of all lists, lifted, that lie within the bounds.
+    ensures list { let gives = ⟦<NewestOfRuns<A> as Iterator>⟧.next_gives in
+        let back_gives = ⟦<NewestOfRuns<A> as DoubleEndedIterator>⟧.next_back_gives in
         (lists : List (List (List Entry))) → RunsHoldLists (map arc_value runs.now) lists →
         let found = newest (within range.0 range.1 (union_in lists)) in
         IfOk result (λ s. DealsList gives back_gives found s) }
-    // Of any tables in runs in order it is over the readers of the spans within the bounds: where one of them is refused,
-    // want of memory too, that error stands in its place, and what is dealt goes on by the stream's steps.
-    ensures steps { let gives = ⟦<MvccStream<Merger<RunReader<A>, A>> as Iterator>⟧.next_gives in
-        let back_gives =
-        ⟦<MvccStream<Merger<RunReader<A>, A>> as DoubleEndedIterator>⟧.next_back_gives in
+    // Of any tables in runs in order it is over the readers of the spans within the bounds: where
+    // one of them is refused, want of memory too, that error stands in its place, and what is dealt
+    // goes on by the stream's steps.
+    ensures steps { let gives = ⟦<NewestOfRuns<A> as Iterator>⟧.next_gives in
+        let back_gives = ⟦<NewestOfRuns<A> as DoubleEndedIterator>⟧.next_back_gives in
         AllByRecursion (IsInOrder range_of) (map arc_value runs.now) → IfOk result
         (IsOverSpans gives back_gives range.0 range.1 (map arc_value runs.now)) }
     // Whatever the tables' bytes are, both ends may be asked however often.
     ensures can { IfOk result (λ s.
-        CanDeal ⟦<MvccStream<Merger<RunReader<A>, A>> as Iterator>⟧.next_gives
-        ⟦<MvccStream<Merger<RunReader<A>, A>> as DoubleEndedIterator>⟧.next_back_gives
-        ⟦<MvccStream<Merger<RunReader<A>, A>> as Iterator>⟧.can_next
-        ⟦<MvccStream<Merger<RunReader<A>, A>> as DoubleEndedIterator>⟧.can_next_back s) }
+        CanDeal ⟦<NewestOfRuns<A> as Iterator>⟧.next_gives
+        ⟦<NewestOfRuns<A> as DoubleEndedIterator>⟧.next_back_gives
+        ⟦<NewestOfRuns<A> as Iterator>⟧.can_next
+        ⟦<NewestOfRuns<A> as DoubleEndedIterator>⟧.can_next_back s) }
     ensures err { IfErr result (λ e. e ≡ OutOfMemory) }
 {
     let readers = readers_within(alloc.clone()?, runs, range)?;
     newest_stream(alloc, readers)
 }
 
-// The first match in the one table of a run whose range has the key, with how many blocks were loaded for it.
+// The first match in the one table of a run whose range has the key, with how many blocks were
+// loaded for it.
 fn get_run_counted<A: Allocator + Clone>(
     run: &Run<Table<A>, A>,
     key: &[u8],
@@ -208,8 +217,8 @@ fn leading<A: Allocator>(
     }
 }
 
-/// The first entry of a key numbered below `seqno`, of what several runs have together, with how many blocks were loaded for it.
-/// Answers as [`get_runs`].
+/// The first entry of a key numbered below `seqno`, of what several runs have together, with how
+/// many blocks were loaded for it. Answers as [`get_runs`].
 pub fn get_runs_counted<A: Allocator + Clone>(
     runs: &[Arc<Run<Table<A>, A>, A>],
     key: &[u8],
@@ -227,14 +236,15 @@ pub fn get_runs_counted<A: Allocator + Clone>(
     ensures opened { AllByRecursion (IsInOrder range_of) (map arc_value runs.now) →
         let read = runs_read key.now seqno None (map arc_value runs.now) in
         Opens result.0 read.loads none_opened result.1 }
-    // A fault that is found before memory is taken, of the first block that is loaded, comes before any want of memory,
+    // A fault that is found before memory is taken, of the first block that is loaded, comes before
+    // any want of memory,
     ensures early { AllByRecursion (IsInOrder range_of) (map arc_value runs.now) →
         FaultsFirst result.0 (runs_read key.now seqno None (map arc_value runs.now)).early }
     // and where no block is loaded, as where there are no runs, nothing is refused.
     ensures calm { AllByRecursion (IsInOrder range_of) (map arc_value runs.now) →
         (runs_read key.now seqno None (map arc_value runs.now)).loads ≡ [] → IsOk result.0 }
-    // Whatever the runs and the tables' bytes, also where it is refused: at most one data block, one index block and one filter
-    // block a run.
+    // Whatever the runs and the tables' bytes, also where it is refused: at most one data block,
+    // one index block and one filter block a run.
     ensures few { LoadsEach (length runs.now) result.1 }
 {
     let mut found = None;
@@ -251,8 +261,9 @@ pub fn get_runs_counted<A: Allocator + Clone>(
     (Ok(found), opened)
 }
 
-/// The first entry of a key numbered below `seqno`, of what several runs have together. In each run one table is asked at most,
-/// the one whose range has the key. Refused with the first refusal, in the order of the runs.
+/// The first entry of a key numbered below `seqno`, of what several runs have together. In each run
+/// one table is asked at most, the one whose range has the key. Refused with the first refusal, in
+/// the order of the runs.
 pub fn get_runs<A: Allocator + Clone>(
     runs: &[Arc<Run<Table<A>, A>, A>],
     key: &[u8],
@@ -266,7 +277,8 @@ pub fn get_runs<A: Allocator + Clone>(
     ensures list { (lists : List (List (List Entry))) →
         RunsHoldLists (map arc_value runs.now) lists →
         Gives (λ (x : Option Entry). x) result (Ok (point (union_in lists) key.now seqno)) }
-    // A fault that is found before memory is taken, of the first block that is loaded, comes before any want of memory,
+    // A fault that is found before memory is taken, of the first block that is loaded, comes before
+    // any want of memory,
     ensures early { AllByRecursion (IsInOrder range_of) (map arc_value runs.now) →
         FaultsFirst result (runs_read key.now seqno None (map arc_value runs.now)).early }
     // and where no block is loaded, as where there are no runs, nothing is refused.

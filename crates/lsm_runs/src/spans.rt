@@ -10,8 +10,8 @@ use sst_blocks::UserKey;
 use std::alloc::Allocator;
 use std::ops::Bound;
 
-/// The first and the last place of the tables whose ranges reach past both bounds, of a run that is in order. Of any other run,
-/// some first and last place or none.
+/// The first and the last place of the tables whose ranges reach past both bounds, of a run that is
+/// in order. Of any other run, some first and last place or none.
 pub(crate) fn places_within<A: Allocator>(
     run: &Run<Table<A>, A>,
     range: &(Bound<UserKey<A>>, Bound<UserKey<A>>),

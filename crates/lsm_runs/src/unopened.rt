@@ -6,7 +6,7 @@ ghost use Rattle.sst_entries.specs.declared.error.Error.TheVariants.{OutOfMemory
 ghost use Rattle.lsm_ranges.specs.Run.{ArePlacesOf};
 ghost use Rattle.lsm_readers.specs.Ranges.{IsRangeOf};
 ghost use Rattle.lsm_readers.specs.Table.{OpenTable};
-ghost use Rattle.lsm_runs.specs.RunParts.{part_at, span_of, span_parts};
+ghost use Rattle.lsm_runs.specs.RunParts.{span_part_at, span_of, span_parts};
 ghost use Rattle.lsm_runs.specs.RunRange.{OpensAt, none_unopened};
 
 use crate::bounds::share;
@@ -35,13 +35,13 @@ pub(crate) struct Unopened<A: Allocator> {
 impl<A: Allocator> Model for Unopened<A> {
     ghost use Rattle.std.specs.Prelude.{◌≤◌, ◌+◌, length};
     ghost use Rattle.std.specs.Arc.{arc_value};
-    ghost use Rattle.lsm_runs.specs.RunParts.{parts_between, span_of};
+    ghost use Rattle.lsm_runs.specs.RunParts.{span_parts_between, span_of};
     ghost use Rattle.lsm_runs.specs.RunRange.{Unopened};
 
     ghost Value = { Unopened };
 
     ghost view = { λ u. record {
-      parts = parts_between (span_of u.ends u.range.0 u.range.1) (arc_value u.run) u.lo u.hi;
+      parts = span_parts_between (span_of u.ends u.range.0 u.range.1) (arc_value u.run) u.lo u.hi;
       opened = u.opened;
     } };
 
@@ -49,7 +49,8 @@ impl<A: Allocator> Model for Unopened<A> {
         (u.opened + u.hi ≤ length (arc_value u.run) + u.lo) };
 }
 
-/// The reader of the table at a place: within the bounds where the span begins or ends there, else of the whole table.
+/// The reader of the table at a place: within the bounds where the span begins or ends there, else
+/// of the whole table.
 fn reader_at<A: Allocator + Clone>(
     tables: &[Table<A>],
     place: usize,
@@ -58,7 +59,7 @@ fn reader_at<A: Allocator + Clone>(
 ) -> Result<Iter<A>, Error>
     requires { place < length tables.now }
     ensures ok { let span = span_of ends range.now.0 range.now.1 in
-        (t : OpenTable) → slice_get tables.now place ≡ Some t → let p = part_at span place t in
+        (t : OpenTable) → slice_get tables.now place ≡ Some t → let p = span_part_at span place t in
         IfOk result (λ reader. IsRangeOf p.table p.low p.high reader) }
     ensures err { IfErr result (λ e. e ≡ OutOfMemory) }
 {

@@ -9,9 +9,11 @@ use Rattle.sst_entries.specs.Stream.{nowhere}
 use Rattle.lsm_merge.specs.Ends.{R}
 use Rattle.lsm_sorted.specs.declared.compaction.stream.CompactionStream.{CompactionStream}
 use Rattle.lsm_sorted.specs.Outlook.{before_any}
-use Rattle.lsm_sorted.specs.Compaction.{Verdict, Rules, outs, as_they_are}
+use Rattle.lsm_sorted.specs.declared.compaction.Rules.{Rules}
+use Rattle.lsm_sorted.specs.Compaction.{Verdict, outs, as_they_are}
 use Rattle.lsm_sorted.specs.Compacting.{Calls, Compacted}
-use Rattle.lsm_sorted.specs.CompactionState.{rules_of, filter_of, callback_of, compaction_outlook, CallsIn, CompactsNext, CompactsHeard, GivesOuts}
+use Rattle.lsm_sorted.specs.CompactionState.{rules_of, filter_of, callback_of, compaction_outlook}
+use Rattle.lsm_sorted.specs.CompactionState.{CallsIn, CompactsNext, CompactsHeard, GivesOuts}
 use Rattle.lsm_sorted.proofs.CallLemmas.{call_more, call_none}
 use Rattle.lsm_sorted.proofs.HeardLemmas.{HeardFrom, heard_none, heard_call, heard_all}
 use Rattle.lsm_sorted.proofs.OutsLemmas.{listed}
@@ -22,19 +24,22 @@ abbrev to_the_end : List R → List (Option R)
 to_the_end [] = None ∷ []
 to_the_end (r ∷ rs) = Some r ∷ to_the_end rs
 
-module _ {S F C : Type 0} (front : S → Option R → S → Type 0) (can : S → Type 0) (left : S → Count) (gives : F → Entry → Result Verdict Error → F → Type 0) (gets : C → Entry → C → Type 0) where
+module _ {S F C : Type 0} (front : S → Option R → S → Type 0) (can : S → Type 0) (left : S → Count)
+    (gives : F → Entry → Result Verdict Error → F → Type 0) (gets : C → Entry → C → Type 0) where
   abbrev Next : CompactionStream S F C R → Option R → CompactionStream S F C R → Type 0
   Next s r t = CompactsNext front can left gives gets s r t
 
   -- a call, and then a run of calls
-  called : (s v : CompactionStream S F C R) (r : Option R) (rs : List (Option R)) (P K : List R → Type 0) → Next s r v → HeardFrom front nowhere (compaction_outlook v) rs P
+  called : (s v : CompactionStream S F C R) (r : Option R) (rs : List (Option R))
+      (P K : List R → Type 0) → Next s r v → HeardFrom front nowhere (compaction_outlook v) rs P
       → ((xs ys : List R) → Calls gives gets (rules_of s) (filter_of s) (callback_of s) xs r (filter_of v) (callback_of v) ys → P ys → K xs) → HeardFrom front nowhere (compaction_outlook s) (r ∷ rs) K
   called s v r rs P K one rest both =
       heard_call front nowhere Front (compaction_outlook s) (compaction_outlook v) r rs
       (CallsIn gives gets (rules_of s) (filter_of s) (callback_of s) r (filter_of v) (callback_of v)) P K one.hears rest both
 
   -- calls up to the one that answers none
-  along : (gave : List R) (s t u : CompactionStream S F C R) → Yields (CompactsNext front can left gives gets) s gave t → Next t None u
+  along : (gave : List R) (s t u : CompactionStream S F C R)
+      → Yields (CompactsNext front can left gives gets) s gave t → Next t None u
       → HeardFrom front nowhere (compaction_outlook s) (to_the_end gave) (λ xs. Compacted gives gets (rules_of s) (filter_of s) (callback_of s) xs gave (filter_of u) (callback_of u))
   along [] s t u runs last =
       called s u None [] (λ ys. Unit {0}) (λ xs. Compacted gives gets (rules_of s) (filter_of s) (callback_of s) xs [] (filter_of u) (callback_of u))
@@ -47,13 +52,17 @@ module _ {S F C : Type 0} (front : S → Option R → S → Type 0) (can : S →
       (λ xs ys call more. call_more gives gets (rules_of s) (filter_of u) (callback_of u) gave (filter_of s) (filter_of v) (callback_of s) (callback_of v) xs ys (Some r) call
       (subst (λ (o : Rules). Compacted gives gets o (filter_of v) (callback_of v) ys gave (filter_of u) (callback_of u)) runs.1.rules more))
 
-  pub compacts_heard : (s : CompactionStream S F C R) → CompactsHeard front (CompactsNext front can left gives gets) s gives gets
+  pub compacts_heard : (s : CompactionStream S F C R)
+      → CompactsHeard front (CompactsNext front can left gives gets) s gives gets
   compacts_heard s source gave t u starts runs last =
       heard_all front nowhere source (compaction_outlook s) starts (to_the_end gave) (λ xs. Compacted gives gets (rules_of s) (filter_of s) (callback_of s) xs gave (filter_of u) (callback_of u)) (along gave s t u runs last)
 
 -- where a filter keeps all
-module _ {S F C : Type 0} (front : S → Option R → S → Type 0) (can : S → Type 0) (left : S → Count) (gets : C → Entry → C → Type 0) where
-  along_kept : (gave : List R) (s t u : CompactionStream S F C R) → Yields (CompactsNext front can left KeepsAll gets) s gave t → CompactsNext front can left KeepsAll gets t None u
+module _ {S F C : Type 0} (front : S → Option R → S → Type 0) (can : S → Type 0) (left : S → Count)
+    (gets : C → Entry → C → Type 0) where
+  along_kept : (gave : List R) (s t u : CompactionStream S F C R)
+      → Yields (CompactsNext front can left KeepsAll gets) s gave t
+      → CompactsNext front can left KeepsAll gets t None u
       → HeardFrom front nowhere (compaction_outlook s) (to_the_end gave) (λ xs. gave ≡ outs (rules_of s) (as_they_are xs))
   along_kept [] s t u runs last =
       called front can left KeepsAll gets s u None [] (λ ys. Unit {0}) (λ xs. [] ≡ outs (rules_of s) (as_they_are xs))
@@ -67,6 +76,7 @@ module _ {S F C : Type 0} (front : S → Option R → S → Type 0) (can : S →
       (λ xs ys call more. ap (λ (zs : List R). r ∷ zs) (more ∙ ap (λ (o : Rules). outs o (as_they_are ys)) runs.1.rules)
       ∙ sym (call_keeps gets (rules_of s) (filter_of s) (filter_of v) (callback_of s) (callback_of v) xs ys (Some r) call))
 
-  pub gives_outs : (s : CompactionStream S F C R) → GivesOuts front (CompactsNext front can left KeepsAll gets) s
+  pub gives_outs : (s : CompactionStream S F C R)
+      → GivesOuts front (CompactsNext front can left KeepsAll gets) s
   gives_outs s source gave t u starts runs last =
       heard_all front nowhere source (compaction_outlook s) starts (to_the_end gave) (λ xs. gave ≡ outs (rules_of s) (as_they_are xs)) (along_kept gave s t u runs last)

@@ -1,17 +1,21 @@
 -- What a compaction keeps of a strict list is strict.
-use Rattle.std.proofs.Common.{◌≡◌, refl, sym, ◌∙◌, ap, subst, ℕ, ◌<◌, ◌≤◌, ◌⊎◌, inl, inr, Bool, true, false, cond, ◌&&◌, nat_lt, List, [], ◌∷◌, ◌++◌, length, arith, zero, suc}
+use Rattle.std.proofs.Common.{◌≡◌, refl, sym, ◌∙◌, ap, subst, ℕ, ◌<◌, ◌≤◌, ◌⊎◌, inl, inr, Bool}
+use Rattle.std.proofs.Common.{true, false, cond, ◌&&◌, nat_lt, List, [], ◌∷◌, ◌++◌, length, arith}
+use Rattle.std.proofs.Common.{zero, suc}
 use Rattle.std.specs.List.{AllByRecursion}
 use Rattle.sst_entries.specs.Entry.{Entry}
 use Rattle.sst_entries.specs.Key.{same_key, key_lt}
 use Rattle.sst_entries.specs.Stream.{first, ok_results}
-use Rattle.lsm_sorted.specs.Compaction.{Rules, goes, zeroed, kept, unfiltered}
+use Rattle.lsm_sorted.specs.declared.compaction.Rules.{Rules}
+use Rattle.lsm_sorted.specs.Compaction.{goes, zeroed, kept, unfiltered}
 use Rattle.lsm_sorted.specs.ReadLaw.{StaysStrict}
 use Rattle.lsm_merge.proofs.Pairs.{Precedes, Strict, as_pairs, from_pairs}
 use Rattle.sst_entries.proofs.KeyLemmas.{KeyLe, same_itself, le_itself}
 use Rattle.sst_entries.proofs.OrderLemmas.{lt_trans}
 use Rattle.lsm_sorted.proofs.NewestLemmas.{KeysUp}
 use Rattle.lsm_sorted.proofs.OutsLemmas.{AllOf, follows_in}
-use Rattle.lsm_sorted.proofs.ReadLemmas.{split, left_alone, kept_open, kept_close, NoneOf, rest_none, all_rest, length_rest}
+use Rattle.lsm_sorted.proofs.ReadLemmas.{split, left_alone, kept_open, kept_close, NoneOf}
+use Rattle.lsm_sorted.proofs.ReadLemmas.{rest_none, all_rest, length_rest}
 use Rattle.sst_entries.proofs.Booleans.{apart, is_false}
 use Rattle.sst_entries.proofs.Lists.{all_append}
 
@@ -45,27 +49,31 @@ module _ (rules : Rules) (Q : List Entry → Type 0)
   kept_by es = within (length es) es (omega arith)
 
 -- what holds of all entries, zeroed or not, holds of all that are kept
-module _ (rules : Rules) (P : Entry → Type 0) (lowers : (e : Entry) → P e → P (zeroed rules e)) where
-  alone_all : (x : Entry) (own : List Entry) → P x → AllByRecursion P (left_alone rules x own)
-  alone_all x own h = elim (goes rules.evict x.kind (first own)) as (λ b. AllByRecursion P (cond b [] (zeroed rules x ∷ []))) [ true ↦ tt | false ↦ (lowers x h, tt) ]
+module _ (rules : Rules) (P : Entry → Type 0) (lowers : (e : Entry) → P e → P (zeroed rules e))
+  where
+    alone_all : (x : Entry) (own : List Entry) → P x → AllByRecursion P (left_alone rules x own)
+    alone_all x own h = elim (goes rules.evict x.kind (first own)) as (λ b. AllByRecursion P (cond b [] (zeroed rules x ∷ []))) [ true ↦ tt | false ↦ (lowers x h, tt) ]
 
-  pub all_kept : (es : List Entry) → AllByRecursion P es → AllByRecursion P (kept rules (unfiltered es))
-  all_kept = kept_by rules (λ es. AllByRecursion P es → AllByRecursion P (kept rules (unfiltered es)))
-      (λ h. tt)
-      (λ x es high is more h. subst (AllByRecursion P) (sym is) (lowers x h.0, more h.1))
-      (λ x own rest all over last is more h. subst (AllByRecursion P) (sym is) (all_append P (left_alone rules x own) (kept rules (unfiltered rest)) (alone_all x own h.0) (more (all_rest P own rest h.1))))
+    pub all_kept : (es : List Entry) → AllByRecursion P es
+        → AllByRecursion P (kept rules (unfiltered es))
+    all_kept = kept_by rules (λ es. AllByRecursion P es → AllByRecursion P (kept rules (unfiltered es)))
+        (λ h. tt)
+        (λ x es high is more h. subst (AllByRecursion P) (sym is) (lowers x h.0, more h.1))
+        (λ x own rest all over last is more h. subst (AllByRecursion P) (sym is) (all_append P (left_alone rules x own) (kept rules (unfiltered rest)) (alone_all x own h.0) (more (all_rest P own rest h.1))))
 
 -- a number that becomes 0 is no greater
 pub zeroed_below : (rules : Rules) (e : Entry) → (zeroed rules e).seqno ≤ e.seqno
 zeroed_below rules e = elim (rules.zeroing && nat_lt e.seqno rules.watermark) as (λ b. cond b 0 e.seqno ≤ e.seqno) [ true ↦ omega arith | false ↦ omega arith ]
 
-zeroed_high : (rules : Rules) (e : Entry) → nat_lt e.seqno rules.watermark ≡ false → (zeroed rules e).seqno ≡ e.seqno
+zeroed_high : (rules : Rules) (e : Entry) → nat_lt e.seqno rules.watermark ≡ false
+    → (zeroed rules e).seqno ≡ e.seqno
 zeroed_high rules e h = elim rules.zeroing as (λ t. cond (t && nat_lt e.seqno rules.watermark) 0 e.seqno ≡ e.seqno) [ true ↦ ap (λ (u : Bool). cond u 0 e.seqno) h | false ↦ refl ]
 
 precedes_zeroed : (rules : Rules) (x e : Entry) → Precedes x e → Precedes x (zeroed rules e)
 precedes_zeroed rules x e h = elim h [ inl lower ↦ inl lower | inr newer ↦ inr (newer.0, let k = zeroed_below rules e in omega arith) ]
 
-precedes_as : (x y e : Entry) → x.user_key ≡ y.user_key → x.seqno ≡ y.seqno → Precedes x e → Precedes y e
+precedes_as : (x y e : Entry) → x.user_key ≡ y.user_key → x.seqno ≡ y.seqno → Precedes x e
+    → Precedes y e
 precedes_as x y e key number h = elim h [
   | inl lower ↦ inl (subst (λ (k : List ℕ). key_lt k e.user_key ≡ true) key lower)
   | inr newer ↦ inr (sym key ∙ newer.0, subst (λ (n : ℕ). e.seqno < n) number newer.1)
@@ -77,7 +85,8 @@ key_le_of x y h = elim h [
   | inr newer ↦ subst (λ (k : List ℕ). KeyLe x.user_key k) newer.0 (le_itself x.user_key)
 ]
 
-all_key_le : (x : Entry) (es : List Entry) → AllByRecursion (Precedes x) es → AllByRecursion (λ y. KeyLe x.user_key y.user_key) es
+all_key_le : (x : Entry) (es : List Entry) → AllByRecursion (Precedes x) es
+    → AllByRecursion (λ y. KeyLe x.user_key y.user_key) es
 all_key_le x [] h = tt
 all_key_le x (e ∷ es) h = (key_le_of x e h.0, all_key_le x es h.1)
 
@@ -90,7 +99,8 @@ strict_rest [] ys h = h
 strict_rest (x ∷ xs) ys h = strict_rest xs ys h.1
 
 -- entries of other keys stay behind, whatever the number
-other_precedes : (x y : Entry) (es : List Entry) → x.user_key ≡ y.user_key → AllByRecursion (Precedes x) es → NoneOf x.user_key es → AllByRecursion (Precedes y) es
+other_precedes : (x y : Entry) (es : List Entry) → x.user_key ≡ y.user_key
+    → AllByRecursion (Precedes x) es → NoneOf x.user_key es → AllByRecursion (Precedes y) es
 other_precedes x y [] key h none = tt
 other_precedes x y (e ∷ es) key h none = (
   elim h.0 [
@@ -115,7 +125,8 @@ pairs_stay rules = kept_by rules (λ es. Strict es → Strict (kept rules (unfil
     let later : Strict (kept rules (unfiltered rest)) = more (strict_rest own rest h.1) in
     subst Strict (sym is) (elim (goes rules.evict x.kind (first own)) as (λ b. Strict (cond b [] (zeroed rules x ∷ []) ++ kept rules (unfiltered rest))) [ true ↦ later | false ↦ (behind, later) ]))
   where
-    precede_all : (x y : Entry) → x.user_key ≡ y.user_key → x.seqno ≡ y.seqno → (es : List Entry) → AllByRecursion (Precedes x) es → AllByRecursion (Precedes y) es
+    precede_all : (x y : Entry) → x.user_key ≡ y.user_key → x.seqno ≡ y.seqno → (es : List Entry)
+        → AllByRecursion (Precedes x) es → AllByRecursion (Precedes y) es
     precede_all x y key number [] h = tt
     precede_all x y key number (e ∷ es) h = (precedes_as x y e key number h.0, precede_all x y key number es h.1)
 

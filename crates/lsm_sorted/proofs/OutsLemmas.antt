@@ -1,5 +1,6 @@
 -- What a compaction gives, reports and asks, head by head.
-use Rattle.std.proofs.Common.{◌≡◌, refl, sym, ◌∙◌, ap, subst, ℕ, Bool, true, false, cond, not, ◌&&◌, nat_lt, List, [], ◌∷◌, ◌++◌, append_assoc, ◌⊎◌, inl, inr}
+use Rattle.std.proofs.Common.{◌≡◌, refl, sym, ◌∙◌, ap, subst, ℕ, Bool, true, false, cond, not, ◌&&◌}
+use Rattle.std.proofs.Common.{nat_lt, List, [], ◌∷◌, ◌++◌, append_assoc, ◌⊎◌, inl, inr}
 use Rattle.std.specs.Prelude.{Option, Some, None, Result, Ok, Err, filter}
 use Rattle.std.specs.List.{AllByRecursion}
 use Rattle.sst_entries.specs.Entry.{Entry}
@@ -8,7 +9,13 @@ use Rattle.sst_entries.specs.Key.{same_key}
 use Rattle.sst_entries.specs.Stream.{first, ok_results}
 use Rattle.sst_entries.specs.declared.error.Error.{Error}
 use Rattle.lsm_merge.specs.Ends.{R}
-use Rattle.lsm_sorted.specs.Compaction.{Verdict, drop, Judged, JudgedItem, Rules, told, is_left, reports_by, is_cut, heads, expired, zeroed, given_by, given, Versions, is_version_of, before, by_key, gone, error_of, entries, outs_of, reported_heads, reported_of, asked_of, concat_by, outs, reported, asked, as_is, unfiltered}
+use Rattle.lsm_sorted.specs.declared.compaction.Rules.{Rules}
+use Rattle.lsm_sorted.specs.Compaction.{Verdict, drop, Judged, JudgedItem, told, is_left}
+use Rattle.lsm_sorted.specs.Compaction.{reports_by, is_cut, heads, expired, zeroed, head_given}
+use Rattle.lsm_sorted.specs.Compaction.{given, Versions, is_version_of, before, by_key, gone}
+use Rattle.lsm_sorted.specs.Compaction.{error_of, entries, outs_of, reported_heads, reported_of}
+use Rattle.lsm_sorted.specs.Compaction.{asked_of, concat_by, outs, reported, asked, as_is}
+use Rattle.lsm_sorted.specs.Compaction.{unfiltered}
 use Rattle.std.proofs.lemmas.List.{append-nil}
 use Rattle.sst_entries.proofs.KeyLemmas.{same_itself}
 
@@ -23,7 +30,8 @@ is_asked j = not (is_tombstone_kind j.entry.kind)
 abbrev pub asked_head : Judged → List Judged
 asked_head j = filter is_asked (j ∷ [])
 
-asked_more : (j : Judged) (hs : List Judged) → filter is_asked (j ∷ hs) ≡ asked_head j ++ filter is_asked hs
+asked_more : (j : Judged) (hs : List Judged) → filter is_asked (j ∷ hs) ≡ asked_head j
+    ++ filter is_asked hs
 asked_more j hs = elim (is_asked j) as (λ b. cond b (j ∷ filter is_asked hs) (filter is_asked hs) ≡ cond b (j ∷ []) [] ++ filter is_asked hs) [ true ↦ refl | false ↦ refl ]
 
 abbrev pub judged : Entry → Result Verdict Error → Judged
@@ -37,7 +45,8 @@ with_first j v = record { versions = j ∷ v.versions; error = v.error }
 
 -- joined lists, where a version stands before others or alone
 module _ {A : Type 0} (f : Versions → List A) (j : Judged) where
-  before_joined : (front : List A) → f (alone j) ≡ front → ((v : Versions) → is_version_of v.versions j ≡ true → f (with_first j v) ≡ front ++ f v)
+  before_joined : (front : List A) → f (alone j) ≡ front
+      → ((v : Versions) → is_version_of v.versions j ≡ true → f (with_first j v) ≡ front ++ f v)
       → (vs : List Versions) → concat_by f (before j vs) ≡ front ++ concat_by f vs
   before_joined front one more [] = ap (λ (ys : List A). ys ++ []) one
   before_joined front one more (v ∷ vs) =
@@ -48,32 +57,43 @@ module _ {A : Type 0} (f : Versions → List A) (j : Judged) where
 
 -- a version that the filter drops
 module _ (rules : Rules) (x : Entry) where
-  dropped_of : (V : List Judged) (e : Option Error) → outs_of rules (record { versions = judged x (Ok drop) ∷ V; error = e }) ≡ outs_of rules (record { versions = V; error = e })
+  dropped_of : (V : List Judged) (e : Option Error)
+      → outs_of rules (record { versions = judged x (Ok drop) ∷ V; error = e })
+      ≡ outs_of rules (record { versions = V; error = e })
   dropped_of [] e = refl
   dropped_of (k ∷ ks) e = refl
 
-  pub dropped_outs : (js : List JudgedItem) → outs rules (Ok (judged x (Ok drop)) ∷ js) ≡ outs rules js
+  pub dropped_outs : (js : List JudgedItem)
+      → outs rules (Ok (judged x (Ok drop)) ∷ js) ≡ outs rules js
   dropped_outs js = before_joined (outs_of rules) (judged x (Ok drop)) [] refl (λ v h. dropped_of v.versions v.error) (by_key js)
 
-  pub dropped_reported : (js : List JudgedItem) → reported rules (Ok (judged x (Ok drop)) ∷ js) ≡ x ∷ reported rules js
+  pub dropped_reported : (js : List JudgedItem)
+      → reported rules (Ok (judged x (Ok drop)) ∷ js) ≡ x ∷ reported rules js
   dropped_reported js = before_joined (reported_of rules) (judged x (Ok drop)) (x ∷ []) refl (λ v h. refl) (by_key js)
 
-  pub dropped_asked : (js : List JudgedItem) → asked rules (Ok (judged x (Ok drop)) ∷ js) ≡ asked_head (judged x (Ok drop)) ++ asked rules js
+  pub dropped_asked : (js : List JudgedItem)
+      → asked rules (Ok (judged x (Ok drop)) ∷ js) ≡ asked_head
+      (judged x (Ok drop)) ++ asked rules js
   dropped_asked js = before_joined (asked_of rules) (judged x (Ok drop)) (asked_head (judged x (Ok drop))) refl (λ v h. asked_more (judged x (Ok drop)) (heads rules.watermark v.versions)) (by_key js)
 
 -- a version for which the filter answers an error
 module _ (rules : Rules) (x : Entry) (e : Error) where
-  failed_of : (V : List Judged) (o : Option Error) → outs_of rules (record { versions = judged x (Err e) ∷ V; error = o }) ≡ Err e ∷ outs_of rules (record { versions = V; error = o })
+  failed_of : (V : List Judged) (o : Option Error)
+      → outs_of rules (record { versions = judged x (Err e) ∷ V; error = o })
+      ≡ Err e ∷ outs_of rules (record { versions = V; error = o })
   failed_of [] o = refl
   failed_of (k ∷ ks) o = refl
 
-  pub failed_outs : (js : List JudgedItem) → outs rules (Ok (judged x (Err e)) ∷ js) ≡ Err e ∷ outs rules js
+  pub failed_outs : (js : List JudgedItem)
+      → outs rules (Ok (judged x (Err e)) ∷ js) ≡ Err e ∷ outs rules js
   failed_outs js = before_joined (outs_of rules) (judged x (Err e)) (Err e ∷ []) refl (λ v h. failed_of v.versions v.error) (by_key js)
 
-  pub failed_reported : (js : List JudgedItem) → reported rules (Ok (judged x (Err e)) ∷ js) ≡ reported rules js
+  pub failed_reported : (js : List JudgedItem)
+      → reported rules (Ok (judged x (Err e)) ∷ js) ≡ reported rules js
   failed_reported js = before_joined (reported_of rules) (judged x (Err e)) [] refl (λ v h. refl) (by_key js)
 
-  pub failed_asked : (js : List JudgedItem) → asked rules (Ok (judged x (Err e)) ∷ js) ≡ asked_head (judged x (Err e)) ++ asked rules js
+  pub failed_asked : (js : List JudgedItem)
+      → asked rules (Ok (judged x (Err e)) ∷ js) ≡ asked_head (judged x (Err e)) ++ asked rules js
   failed_asked js = before_joined (asked_of rules) (judged x (Err e)) (asked_head (judged x (Err e))) refl (λ v h. asked_more (judged x (Err e)) (heads rules.watermark v.versions)) (by_key js)
 
 -- a list that begins with an entry has the versions of its key first
@@ -112,12 +132,15 @@ module _ (rules : Rules) (j : Judged) (y : Entry) (left : told j ≡ Ok (Some y)
   abbrev asked_if : Bool → List Judged → List Judged
   asked_if b V = filter is_asked (j ∷ cond b [] (heads rules.watermark V))
 
-  module _ (k : Judged) (same : same_key k.entry.user_key j.entry.user_key ≡ true) (high : nat_lt j.entry.seqno rules.watermark ≡ false) (js : List JudgedItem) where
+  module _ (k : Judged) (same : same_key k.entry.user_key j.entry.user_key ≡ true)
+      (high : nat_lt j.entry.seqno rules.watermark ≡ false) (js : List JudgedItem) where
     starts : Begins k (by_key (Ok k ∷ js))
     starts = begins k js
 
     -- what any joined list says of the two, from what it says of the first versions
-    first_joined : {A : Type 0} (f : Versions → List A) (front : List A) → ((V : List Judged) (e : Option Error) → f (record { versions = j ∷ k ∷ V; error = e }) ≡ front ++ f (record { versions = k ∷ V; error = e }))
+    first_joined : {A : Type 0} (f : Versions → List A) (front : List A)
+        → ((V : List Judged) (e : Option Error) → f (record { versions = j ∷ k ∷ V; error = e })
+        ≡ front ++ f (record { versions = k ∷ V; error = e }))
         → concat_by f (by_key (Ok j ∷ Ok k ∷ js)) ≡ front ++ concat_by f (by_key (Ok k ∷ js))
     first_joined {A} f front one =
         let b = starts in
@@ -128,9 +151,10 @@ module _ (rules : Rules) (j : Judged) (y : Entry) (left : told j ≡ Ok (Some y)
     pub open_outs : outs rules (Ok j ∷ Ok k ∷ js) ≡ Ok (zeroed rules y) ∷ outs rules (Ok k ∷ js)
     open_outs = first_joined (outs_of rules) (Ok (zeroed rules y) ∷ [])
         (λ V e. ap (λ (b : Bool). outs_if b (k ∷ V) e) (high_is_no_cut high)
-        ∙ ap (λ (o : Result (Option Entry) Error). (given_by rules (λ x. false) o ++ given rules (gone rules (first (entries (expired rules.watermark (k ∷ V)))) e) (heads rules.watermark (k ∷ V))) ++ error_of e) left)
+        ∙ ap (λ (o : Result (Option Entry) Error). (head_given rules (λ x. false) o ++ given rules (gone rules (first (entries (expired rules.watermark (k ∷ V)))) e) (heads rules.watermark (k ∷ V))) ++ error_of e) left)
 
-    pub open_reported : reported rules (Ok j ∷ Ok k ∷ js) ≡ reports_by j.entry j.verdict ++ reported rules (Ok k ∷ js)
+    pub open_reported : reported rules (Ok j ∷ Ok k ∷ js) ≡ reports_by j.entry j.verdict
+        ++ reported rules (Ok k ∷ js)
     open_reported = first_joined (reported_of rules) (reports_by j.entry j.verdict)
         (λ V e. ap (λ (b : Bool). reported_if b (k ∷ V)) (high_is_no_cut high) ∙ append_assoc (reports_by j.entry j.verdict) (reported_heads (heads rules.watermark (k ∷ V))) (entries (expired rules.watermark (k ∷ V))))
 
@@ -163,7 +187,9 @@ module _ (key : List ℕ) (js : List JudgedItem) (over : follows_in key js ≡ f
   abbrev closed : Judged → List Entry → List Versions
   closed j es = record { versions = j ∷ unfiltered es; error = error_in js } ∷ by_key (behind_error js)
 
-  closes_at : (j : Judged) → j.entry.user_key ≡ key → (ks : List JudgedItem) → follows_in key ks ≡ false → by_key (Ok j ∷ ks) ≡ record { versions = j ∷ []; error = error_in ks } ∷ by_key (behind_error ks)
+  closes_at : (j : Judged) → j.entry.user_key ≡ key → (ks : List JudgedItem) → follows_in key ks
+      ≡ false → by_key (Ok j ∷ ks) ≡ record { versions = j ∷ []; error = error_in ks } ∷ by_key
+      (behind_error ks)
   closes_at j its [] h = refl
   closes_at j its (Err e ∷ ks) h = refl
   closes_at j its (Ok k ∷ ks) h =
@@ -172,7 +198,8 @@ module _ (key : List ℕ) (js : List JudgedItem) (over : follows_in key js ≡ f
       let other : same_key k.entry.user_key j.entry.user_key ≡ false = subst (λ (q : List ℕ). same_key k.entry.user_key q ≡ false) (sym its) h in
       subst (λ (vs : List Versions). before j vs ≡ alone j ∷ vs) (sym b.is) (ap (λ (t : Bool). cond t (with_first j v ∷ b.others) (alone j ∷ v ∷ b.others)) other)
 
-  pub closes : (j : Judged) (es : List Entry) → j.entry.user_key ≡ key → AllOf key es → by_key (Ok j ∷ (ok_results (unfiltered es) ++ js)) ≡ closed j es
+  pub closes : (j : Judged) (es : List Entry) → j.entry.user_key ≡ key → AllOf key es
+      → by_key (Ok j ∷ (ok_results (unfiltered es) ++ js)) ≡ closed j es
   closes j [] its all = closes_at j its js over
   closes j (e ∷ es) its all =
       let more : by_key (Ok (as_is e) ∷ (ok_results (unfiltered es) ++ js)) ≡ closed (as_is e) es = closes (as_is e) es all.0 all.1 in
@@ -185,12 +212,15 @@ module _ (key : List ℕ) (js : List JudgedItem) (over : follows_in key js ≡ f
   entries_as_is (e ∷ es) = ap (λ (ys : List Entry). e ∷ ys) (entries_as_is es)
 
   -- the last head of a key, which the filter leaves as y
-  module _ (rules : Rules) (j : Judged) (y : Entry) (left : told j ≡ Ok (Some y)) (es : List Entry) (its : j.entry.user_key ≡ key) (all : AllOf key es) (last : (nat_lt j.entry.seqno rules.watermark ≡ true) ⊎ (es ≡ [])) where
+  module _ (rules : Rules) (j : Judged) (y : Entry) (left : told j ≡ Ok (Some y)) (es : List Entry)
+      (its : j.entry.user_key ≡ key) (all : AllOf key es)
+      (last : (nat_lt j.entry.seqno rules.watermark ≡ true) ⊎ (es ≡ [])) where
     -- either it is a cut, or nothing follows
     cut_or : (is_cut rules.watermark j ≡ true) ⊎ (es ≡ [])
     cut_or = elim last [ inl low ↦ inl (low_is_cut rules j y left low) | inr none ↦ inr none ]
 
-    by_cut : {B : Type 0} (f : Bool → List Judged → B) → f true [] ≡ f false [] → f (is_cut rules.watermark j) (unfiltered es) ≡ f true (unfiltered es)
+    by_cut : {B : Type 0} (f : Bool → List Judged → B) → f true [] ≡ f false []
+        → f (is_cut rules.watermark j) (unfiltered es) ≡ f true (unfiltered es)
     by_cut {B} f same = elim cut_or [
       | inl cut ↦ ap (λ (b : Bool). f b (unfiltered es)) cut
       | inr none ↦ ap (λ (zs : List Entry). f (is_cut rules.watermark j) (unfiltered zs)) none
@@ -198,16 +228,19 @@ module _ (key : List ℕ) (js : List JudgedItem) (over : follows_in key js ≡ f
           ∙ sym (ap (λ (zs : List Entry). f true (unfiltered zs)) none)
     ]
 
-    pub close_outs : outs rules (Ok j ∷ (ok_results (unfiltered es) ++ js)) ≡ given_by rules (gone rules (first es) (error_in js)) (Ok (Some y)) ++ (error_of (error_in js) ++ outs rules (behind_error js))
+    pub close_outs : outs rules (Ok j ∷ (ok_results (unfiltered es) ++ js)) ≡ head_given rules
+        (gone rules (first es) (error_in js))
+        (Ok (Some y)) ++ (error_of (error_in js) ++ outs rules (behind_error js))
     close_outs =
         let rest = concat_by (outs_of rules) (by_key (behind_error js)) in
         ap (concat_by (outs_of rules)) (closes j es its all)
         ∙ ap (λ (ys : List R). ys ++ rest) (by_cut (λ b V. outs_if rules j y left b V (error_in js)) refl)
-        ∙ ap (λ (zs : List Entry). (given_by rules (gone rules (first zs) (error_in js)) (told j) ++ error_of (error_in js)) ++ rest) (entries_as_is es)
-        ∙ ap (λ (o : Result (Option Entry) Error). (given_by rules (gone rules (first es) (error_in js)) o ++ error_of (error_in js)) ++ rest) left
-        ∙ append_assoc (given_by rules (gone rules (first es) (error_in js)) (Ok (Some y))) (error_of (error_in js)) rest
+        ∙ ap (λ (zs : List Entry). (head_given rules (gone rules (first zs) (error_in js)) (told j) ++ error_of (error_in js)) ++ rest) (entries_as_is es)
+        ∙ ap (λ (o : Result (Option Entry) Error). (head_given rules (gone rules (first es) (error_in js)) o ++ error_of (error_in js)) ++ rest) left
+        ∙ append_assoc (head_given rules (gone rules (first es) (error_in js)) (Ok (Some y))) (error_of (error_in js)) rest
 
-    pub close_reported : reported rules (Ok j ∷ (ok_results (unfiltered es) ++ js)) ≡ (reports_by j.entry j.verdict ++ es) ++ reported rules (behind_error js)
+    pub close_reported : reported rules (Ok j ∷ (ok_results (unfiltered es) ++ js))
+        ≡ (reports_by j.entry j.verdict ++ es) ++ reported rules (behind_error js)
     close_reported =
         let rest = concat_by (reported_of rules) (by_key (behind_error js)) in
         ap (concat_by (reported_of rules)) (closes j es its all)
@@ -215,7 +248,8 @@ module _ (key : List ℕ) (js : List JudgedItem) (over : follows_in key js ≡ f
         ∙ ap (λ (zs : List Entry). ((reports_by j.entry j.verdict ++ []) ++ zs) ++ rest) (entries_as_is es)
         ∙ ap (λ (ys : List Entry). (ys ++ es) ++ rest) (append-nil (reports_by j.entry j.verdict))
 
-    pub close_asked : asked rules (Ok j ∷ (ok_results (unfiltered es) ++ js)) ≡ asked_head j ++ asked rules (behind_error js)
+    pub close_asked : asked rules (Ok j ∷ (ok_results (unfiltered es) ++ js)) ≡ asked_head j
+        ++ asked rules (behind_error js)
     close_asked =
         let rest = concat_by (asked_of rules) (by_key (behind_error js)) in
         ap (concat_by (asked_of rules)) (closes j es its all)

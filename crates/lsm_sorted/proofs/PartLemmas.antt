@@ -1,5 +1,7 @@
 -- Where a part of the entries is compacted, a reader at the watermark or above sees the same.
-use Rattle.std.proofs.Common.{◌≡◌, ◌≢◌, refl, sym, ◌∙◌, ap, subst, ℕ, ◌<◌, ◌≤◌, ◌⊎◌, inl, inr, Bool, true, false, cond, ◌&&◌, nat_lt, nat_eq, List, [], ◌∷◌, ◌++◌, length, count_by, arith}
+use Rattle.std.proofs.Common.{◌≡◌, ◌≢◌, refl, sym, ◌∙◌, ap, subst, ℕ, ◌<◌, ◌≤◌, ◌⊎◌, inl, inr, Bool}
+use Rattle.std.proofs.Common.{true, false, cond, ◌&&◌, nat_lt, nat_eq, List, [], ◌∷◌, ◌++◌, length}
+use Rattle.std.proofs.Common.{count_by, arith}
 use Rattle.std.specs.Prelude.{Option, Some, None}
 use Rattle.std.specs.List.{AllByRecursion}
 use Rattle.std.specs.Ordering.{nat_cmp, is_gt, ordering_then, MatchOrdering}
@@ -14,18 +16,21 @@ use Rattle.sst_entries.specs.Kind.{tag_of, is_weak_kind}
 use Rattle.sst_entries.specs.Key.{same_key, key_lt}
 use Rattle.sst_entries.specs.Stream.{first}
 use Rattle.sst_entries.specs.declared.value_type.ValueType.{ValueType}
-use Rattle.sst_entries.specs.declared.value_type.ValueType.TheVariants.{Value, Tombstone, WeakTombstone, Indirection}
+use Rattle.sst_entries.specs.declared.value_type.ValueType.TheVariants.{Value, Tombstone}
+use Rattle.sst_entries.specs.declared.value_type.ValueType.TheVariants.{WeakTombstone, Indirection}
 use Rattle.lsm_merge.specs.Union.{Ascends, AtMost, SameBag}
 use Rattle.sst_entries.specs.Point.{is_hit, point}
 use Rattle.lsm_sorted.specs.Point.{shown}
-use Rattle.lsm_sorted.specs.Compaction.{Rules, goes, zeroed, kept, unfiltered}
+use Rattle.lsm_sorted.specs.declared.compaction.Rules.{Rules}
+use Rattle.lsm_sorted.specs.Compaction.{goes, zeroed, kept, unfiltered}
 use Rattle.lsm_sorted.specs.ReadLaw.{Distinct, AllNewer, IsMerged, PartLaw}
 use Rattle.lsm_sorted.proofs.Hits.{first_hit}
 use Rattle.lsm_merge.proofs.Pairs.{Precedes, Strict, as_pairs}
 use Rattle.sst_entries.proofs.KeyLemmas.{same_is, same_itself, le_itself}
 use Rattle.sst_entries.proofs.OrderLemmas.{gt_first}
 use Rattle.lsm_sorted.proofs.OutsLemmas.{AllOf}
-use Rattle.lsm_sorted.proofs.ReadLemmas.{and_not, all_rest, none_before, none_of_other, not_under, same_within}
+use Rattle.lsm_sorted.proofs.ReadLemmas.{and_not, all_rest, none_before, none_of_other, not_under}
+use Rattle.lsm_sorted.proofs.ReadLemmas.{same_within}
 use Rattle.lsm_sorted.proofs.KeptLemmas.{kept_by, all_kept, zeroed_below, strict_up, pairs_stay}
 use Rattle.sst_entries.proofs.Booleans.{apart, and_parts}
 use Rattle.sst_entries.proofs.Lists.{all_more}
@@ -153,7 +158,8 @@ strict_down : (xs : List Entry) → Strict xs → Down xs
 strict_down [] h = tt
 strict_down (x ∷ xs) h = (all_more (Precedes x) (NotAbove x) (precedes_down x) xs h.0, strict_down xs h.1)
 
-not_gt_of : (a b : ℕ) (r : Ordering) → MatchOrdering r (a < b) (a ≡ b) (b < a) → is_gt r ≡ false → a ≤ b
+not_gt_of : (a b : ℕ) (r : Ordering) → MatchOrdering r (a < b) (a ≡ b) (b < a) → is_gt r ≡ false
+    → a ≤ b
 not_gt_of a b Less m h = omega arith
 not_gt_of a b Equal m h = omega arith
 not_gt_of a b Greater m h = absurd cc
@@ -213,7 +219,8 @@ module _ (key : List ℕ) (bound : ℕ) where
   hit_key : (x : Entry) → is_hit key bound x ≡ true → x.user_key ≡ key
   hit_key x h = same_is x.user_key key (and_parts (same_key x.user_key key) (nat_lt x.seqno bound) h).0
 
-  point_in : (es : List Entry) (x : Entry) → first_hit es key bound ≡ Some x → IsIn x es × (is_hit key bound x ≡ true)
+  point_in : (es : List Entry) (x : Entry) → first_hit es key bound ≡ Some x → IsIn x es
+      × (is_hit key bound x ≡ true)
   point_in [] x h = absurd cc
   point_in (e ∷ es) x h =
       elim (is_hit key bound e) as (λ b. is_hit key bound e ≡ b → cond b (Some e) (first_hit es key bound) ≡ Some x → IsIn x (e ∷ es) × (is_hit key bound x ≡ true)) [
@@ -221,7 +228,8 @@ module _ (key : List ℕ) (bound : ℕ) where
         | false ↦ λ miss k. let more = point_in es x k in (inr more.0, more.1)
       ] refl h
 
-  point_none : (es : List Entry) → first_hit es key bound ≡ None → (y : Entry) → IsIn y es → is_hit key bound y ≡ true → ⊥
+  point_none : (es : List Entry) → first_hit es key bound ≡ None → (y : Entry) → IsIn y es
+      → is_hit key bound y ≡ true → ⊥
   point_none [] h y i hit = absurd i
   point_none (e ∷ es) h y i hit =
       elim (is_hit key bound e) as (λ b. is_hit key bound e ≡ b → cond b (Some e) (first_hit es key bound) ≡ None → ⊥) [
@@ -229,7 +237,8 @@ module _ (key : List ℕ) (bound : ℕ) where
         | false ↦ λ miss k. elim i [ inl is ↦ apart (is_hit key bound e) (subst (λ (z : Entry). is_hit key bound z ≡ true) is hit) miss | inr more ↦ point_none es k y more hit ]
       ] refl h
 
-  point_down : (es : List Entry) → Down es → (x : Entry) → first_hit es key bound ≡ Some x → (y : Entry) → IsIn y es → is_hit key bound y ≡ true → y.seqno ≤ x.seqno
+  point_down : (es : List Entry) → Down es → (x : Entry) → first_hit es key bound ≡ Some x
+      → (y : Entry) → IsIn y es → is_hit key bound y ≡ true → y.seqno ≤ x.seqno
   point_down [] down x h y i hit = absurd i
   point_down (e ∷ es) down x h y i hit =
       elim (is_hit key bound e) as (λ b. is_hit key bound e ≡ b → cond b (Some e) (first_hit es key bound) ≡ Some x → y.seqno ≤ x.seqno) [
@@ -252,11 +261,14 @@ module _ (key : List ℕ) (bound : ℕ) where
   later_none None = refl
   later_none (Some a) = refl
 
-  module _ (xs ys zs : List Entry) (sx : Strict xs) (sy : Strict ys) (apart : Distinct xs ys) (merged : IsMerged xs ys zs) where
+  module _ (xs ys zs : List Entry) (sx : Strict xs) (sy : Strict ys) (apart : Distinct xs ys)
+      (merged : IsMerged xs ys zs) where
     down : Down zs
     down = ascends_down zs merged.ascends
 
-    newest_point : (x : Entry) → IsIn x (xs ++ ys) → is_hit key bound x ≡ true → ((y : Entry) → IsIn y (xs ++ ys) → is_hit key bound y ≡ true → y.seqno ≤ x.seqno) → first_hit zs key bound ≡ Some x
+    newest_point : (x : Entry) → IsIn x (xs ++ ys) → is_hit key bound x ≡ true
+        → ((y : Entry) → IsIn y (xs ++ ys) → is_hit key bound y ≡ true → y.seqno ≤ x.seqno)
+        → first_hit zs key bound ≡ Some x
     newest_point x i hit top = elim (first_hit zs key bound) as (λ o. first_hit zs key bound ≡ o → o ≡ Some x) [
       | None ↦ λ e. absurd (point_none zs e x (in_same zs (xs ++ ys) merged.same x i) hit)
       | Some u ↦ λ e.
@@ -268,7 +280,8 @@ module _ (key : List ℕ) (bound : ℕ) where
           ap (λ (z : Entry). Some z) (joined_unique xs ys sx sy apart u x uin i (hit_key u two.1 ∙ sym (hit_key x hit)) number)
     ] refl
 
-    no_point : ((y : Entry) → IsIn y (xs ++ ys) → is_hit key bound y ≡ true → ⊥) → first_hit zs key bound ≡ None
+    no_point : ((y : Entry) → IsIn y (xs ++ ys) → is_hit key bound y ≡ true → ⊥)
+        → first_hit zs key bound ≡ None
     no_point none = elim (first_hit zs key bound) as (λ o. first_hit zs key bound ≡ o → o ≡ None) [
       | None ↦ λ e. refl
       | Some u ↦ λ e. let two = point_in zs u e in absurd (none u (same_in zs (xs ++ ys) merged.same u two.0) two.1)
@@ -297,7 +310,8 @@ module _ (key : List ℕ) (bound : ℕ) where
     ] refl
 
   -- where the second list is newer, it decides
-  newer_later : (xs ys : List Entry) → AllNewer xs ys → (q : Entry) → first_hit ys key bound ≡ Some q → later (first_hit xs key bound) (Some q) ≡ Some q
+  newer_later : (xs ys : List Entry) → AllNewer xs ys → (q : Entry)
+      → first_hit ys key bound ≡ Some q → later (first_hit xs key bound) (Some q) ≡ Some q
   newer_later xs ys newer q ey = elim (first_hit xs key bound) as (λ o. first_hit xs key bound ≡ o → later o (Some q) ≡ Some q) [
     | None ↦ λ ex. refl
     | Some a ↦ λ ex.
@@ -308,7 +322,10 @@ module _ (key : List ℕ) (bound : ℕ) where
   ] refl
 
   -- where nothing goes or becomes 0, a reader at the watermark or above hits the same entry
-  plain_point : (rules : Rules) → rules.evict ≡ false → rules.zeroing ≡ false → rules.watermark ≤ bound → (es : List Entry) → AllByRecursion (λ e. is_weak_kind e.kind ≡ false) es → first_hit (kept rules (unfiltered es)) key bound ≡ first_hit es key bound
+  plain_point : (rules : Rules) → rules.evict ≡ false → rules.zeroing ≡ false
+      → rules.watermark ≤ bound → (es : List Entry)
+      → AllByRecursion (λ e. is_weak_kind e.kind ≡ false) es
+      → first_hit (kept rules (unfiltered es)) key bound ≡ first_hit es key bound
   plain_point rules evict zeroing reads = kept_by rules (λ es. AllByRecursion (λ e. is_weak_kind e.kind ≡ false) es → first_hit (kept rules (unfiltered es)) key bound ≡ first_hit es key bound)
       (λ h. refl)
       (λ x es high is more h.
@@ -326,13 +343,17 @@ module _ (key : List ℕ) (bound : ℕ) where
       unzeroed : (rules : Rules) → rules.zeroing ≡ false → (x : Entry) → zeroed rules x ≡ x
       unzeroed rules zeroing x = ap (λ (b : Bool). record { user_key = x.user_key; seqno = cond (b && nat_lt x.seqno rules.watermark) 0 x.seqno; kind = x.kind; value = x.value }) zeroing
 
-      goes_plain : (kind : ValueType) (next : Option Entry) → is_weak_kind kind ≡ false → goes false kind next ≡ false
+      goes_plain : (kind : ValueType) (next : Option Entry) → is_weak_kind kind ≡ false
+          → goes false kind next ≡ false
       goes_plain Value next h = refl
       goes_plain Tombstone next h = refl
       goes_plain WeakTombstone next h = absurd cc
       goes_plain Indirection next h = refl
 
-      past : (rules : Rules) → rules.watermark ≤ bound → (x : Entry) (own rest : List Entry) → AllOf x.user_key own → (nat_lt x.seqno rules.watermark ≡ true) ⊎ (own ≡ []) → is_hit key bound x ≡ false → first_hit (own ++ rest) key bound ≡ first_hit rest key bound
+      past : (rules : Rules) → rules.watermark ≤ bound → (x : Entry) (own rest : List Entry)
+          → AllOf x.user_key own → (nat_lt x.seqno rules.watermark ≡ true) ⊎ (own ≡ [])
+          → is_hit key bound x ≡ false
+          → first_hit (own ++ rest) key bound ≡ first_hit rest key bound
       past rules reads x own rest all last miss = elim (and_not (same_key x.user_key key) (nat_lt x.seqno bound) miss) [
         | inl other ↦ none_before key bound own rest (none_of_other key x.user_key own all other)
         | inr both ↦ elim last [
@@ -345,11 +366,13 @@ pub newer_distinct : (xs ys : List Entry) → AllNewer xs ys → Distinct xs ys
 newer_distinct xs ys = all_more (λ x. AllByRecursion (λ y. x.user_key ≡ y.user_key → x.seqno < y.seqno) ys) (λ x. AllByRecursion (λ y. x.user_key ≡ y.user_key → x.seqno ≢ y.seqno) ys)
     (λ x all. all_more (λ y. x.user_key ≡ y.user_key → x.seqno < y.seqno) (λ y. x.user_key ≡ y.user_key → x.seqno ≢ y.seqno) (λ y h e n. let k = h e in absurd (omega arith)) ys all) xs
 
-pub kept_newer : (rules : Rules) (xs ys : List Entry) → AllNewer xs ys → AllNewer (kept rules (unfiltered xs)) ys
+pub kept_newer : (rules : Rules) (xs ys : List Entry) → AllNewer xs ys
+    → AllNewer (kept rules (unfiltered xs)) ys
 kept_newer rules xs ys = all_kept rules (λ x. AllByRecursion (λ y. x.user_key ≡ y.user_key → x.seqno < y.seqno) ys)
     (λ x all. all_more (λ y. x.user_key ≡ y.user_key → x.seqno < y.seqno) (λ y. x.user_key ≡ y.user_key → (zeroed rules x).seqno < y.seqno) (λ y h e. let k = h e in let z = zeroed_below rules x in omega arith) ys all) xs
 
-pub kept_distinct : (rules : Rules) → rules.zeroing ≡ false → (xs ys : List Entry) → Distinct xs ys → Distinct (kept rules (unfiltered xs)) ys
+pub kept_distinct : (rules : Rules) → rules.zeroing ≡ false → (xs ys : List Entry) → Distinct xs ys
+    → Distinct (kept rules (unfiltered xs)) ys
 kept_distinct rules zeroing xs ys = all_kept rules (λ x. AllByRecursion (λ y. x.user_key ≡ y.user_key → x.seqno ≢ y.seqno) ys)
     (λ x all. all_more (λ y. x.user_key ≡ y.user_key → x.seqno ≢ y.seqno) (λ y. x.user_key ≡ y.user_key → (zeroed rules x).seqno ≢ y.seqno)
     (λ y h e n. h e (sym (ap (λ (b : Bool). cond (b && nat_lt x.seqno rules.watermark) 0 x.seqno) zeroing) ∙ n)) ys all) xs

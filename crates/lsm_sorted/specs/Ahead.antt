@@ -13,7 +13,8 @@ abbrev pub ahead_outlook : {S : Type 0} → Ahead S R → Outlook S
 ahead_outlook s = record { source = s.source; ahead = content s.front; behind = [] }
 
 -- the list that is still to come
-pub record HoldsAhead {S : Type 0} (stops : Error → Bool) (front : S → Option R → S → Type 0) (s : Ahead S R) (xs : List R) : Type 0 where
+pub record HoldsAhead {S : Type 0} (stops : Error → Bool) (front : S → Option R → S → Type 0)
+    (s : Ahead S R) (xs : List R) : Type 0 where
   pub rest : List R
   pub source : Left stops front nowhere s.source rest
   pub parts : xs ≡ content s.front ++ rest

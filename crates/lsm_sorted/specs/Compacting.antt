@@ -1,5 +1,6 @@
 -- A compaction call by call, on what is left of a list of results.
-use Rattle.std.specs.Prelude.{◌≡◌, ℕ, Bool, true, false, not, ◌&&◌, if◌then◌else◌, nat_lt, List, [], ◌∷◌, ◌++◌, Option, Some, None, Result, Ok, Err}
+use Rattle.std.specs.Prelude.{◌≡◌, ℕ, Bool, true, false, not, ◌&&◌, if◌then◌else◌, nat_lt, List, []}
+use Rattle.std.specs.Prelude.{◌∷◌, ◌++◌, Option, Some, None, Result, Ok, Err}
 use Rattle.sst_entries.specs.Entry.{Entry}
 use Rattle.sst_entries.specs.Kind.{is_tombstone_kind}
 use Rattle.sst_entries.specs.Key.{same_key}
@@ -7,7 +8,9 @@ use Rattle.sst_entries.specs.Stream.{first}
 use Rattle.sst_entries.specs.declared.error.Error.{Error}
 use Rattle.lsm_merge.specs.Ends.{R}
 use Rattle.lsm_sorted.specs.Newest.{after_key}
-use Rattle.lsm_sorted.specs.Compaction.{Verdict, keep, Judged, JudgedItem, items, Rules, told_by, reports_by, goes, zeroed, outs, reported, asked}
+use Rattle.lsm_sorted.specs.declared.compaction.Rules.{Rules}
+use Rattle.lsm_sorted.specs.Compaction.{Verdict, keep, Judged, JudgedItem, items, told_by}
+use Rattle.lsm_sorted.specs.Compaction.{reports_by, goes, zeroed, outs, reported, asked}
 
 -- the longest stretch of entries of this key in front
 abbrev pub of_key : List ℕ → List R → List Entry
@@ -15,7 +18,8 @@ of_key key [] = []
 of_key key (Ok x ∷ rs) = if same_key x.user_key key then x ∷ of_key key rs else []
 of_key key (Err e ∷ rs) = []
 
--- one turn: what it answers, or none where the call starts again, what it leaves of the list, and what it reports
+-- one turn: what it answers, or none where the call starts again, what it leaves of the list, and
+-- what it reports
 pub record Turn : Type 0 where
   pub answer : Option R
   pub rest : List R
@@ -25,11 +29,25 @@ pub record Turn : Type 0 where
 abbrev pub head_answer : Rules → Bool → Entry → Option R
 head_answer rules skipped head = if skipped then None else Some (Ok (zeroed rules head))
 
--- the stretch of the head's key is drained and reported: an error after it is answered, else the head, unless it goes
+-- the stretch of the head's key is drained and reported: an error after it is answered, else the
+-- head, unless it goes
 abbrev pub close : Rules → Entry → List Entry → List R → Turn
-close rules head drained [] = record { answer = head_answer rules (goes rules.evict head.kind (first drained)) head; rest = []; reports = drained }
-close rules head drained (Ok x ∷ rs) = record { answer = head_answer rules (goes rules.evict head.kind (first drained)) head; rest = Ok x ∷ rs; reports = drained }
-close rules head drained (Err e ∷ rs) = record { answer = Some (Err e); rest = rs; reports = drained }
+close rules head drained [] =
+    record {
+      answer = head_answer rules (goes rules.evict head.kind (first drained)) head;
+      rest =
+          [];
+      reports = drained;
+    }
+close rules head drained (Ok x ∷ rs) =
+    record {
+      answer = head_answer rules (goes rules.evict head.kind (first drained)) head;
+      rest =
+          Ok x ∷ rs;
+      reports = drained;
+    }
+close rules head drained (Err e ∷ rs) =
+    record { answer = Some (Err e); rest = rs; reports = drained }
 
 -- whether an entry of the key is in front
 abbrev pub key_follows : List ℕ → List R → Bool
@@ -37,7 +55,8 @@ key_follows key [] = false
 key_follows key (Ok x ∷ rs) = same_key x.user_key key
 key_follows key (Err e ∷ rs) = false
 
--- a head that the filter left: it is answered where an older version follows that a reader may still want
+-- a head that the filter left: it is answered where an older version follows that a reader may
+-- still want
 abbrev pub settled : Rules → Entry → List R → Turn
 settled rules head rs =
     if key_follows head.user_key rs && not (nat_lt head.seqno rules.watermark)
@@ -71,34 +90,45 @@ module _ {C : Type 0} (gets : C → Entry → C → Type 0) where
   GetsAll c [] d = d ≡ c
   GetsAll c (x ∷ xs) d = (b : C) × gets c x b × GetsAll b xs d
 
-module _ {F C : Type 0} (gives : F → Entry → Result Verdict Error → F → Type 0) (gets : C → Entry → C → Type 0) (rules : Rules) where
-  -- a turn at a head x before rs: the filter says something of it, and the callback gets what that reports and what is drained
-  pub record Turns (f : F) (c : C) (x : Entry) (rs : List R) (answer : Option R) (g : F) (d : C) (ys : List R) : Type 0 where
+module _ {F C : Type 0} (gives : F → Entry → Result Verdict Error → F → Type 0)
+    (gets : C → Entry → C → Type 0) (rules : Rules) where
+  -- a turn at a head x before rs: the filter says something of it, and the callback gets what that
+  -- reports and what is drained
+  pub record Turns (f : F) (c : C) (x : Entry) (rs : List R) (answer : Option R) (g : F) (d : C)
+      (ys : List R) : Type 0 where
     pub verdict : Result Verdict Error
     pub asks : Asks gives f x verdict g
     pub answers : answer ≡ (turned rules (told_by x verdict) rs).answer
     pub leaves : ys ≡ (turned rules (told_by x verdict) rs).rest
-    pub reports : GetsAll gets c (reports_by x verdict ++ (turned rules (told_by x verdict) rs).reports) d
+    pub reports : GetsAll gets c
+        (reports_by x verdict ++ (turned rules (told_by x verdict) rs).reports) d
 
   -- a call, from a filter, a callback and a list to an answer and what is left of the three
   pub data Calls : F → C → List R → Option R → F → C → List R → Type 0 where
     -- nothing is left
     ended : {f : F} {c : C} → Calls f c [] None f c []
     -- an error in front is answered
-    failed : {f : F} {c : C} {e : Error} {rs : List R} → Calls f c (Err e ∷ rs) (Some (Err e)) f c rs
+    failed : {f : F} {c : C} {e : Error} {rs : List R}
+        → Calls f c (Err e ∷ rs) (Some (Err e)) f c rs
     -- a turn answers
-    answered : {f g : F} {c d : C} {x : Entry} {rs ys : List R} {r : R} → Turns f c x rs (Some r) g d ys → Calls f c (Ok x ∷ rs) (Some r) g d ys
+    answered : {f g : F} {c d : C} {x : Entry} {rs ys : List R} {r : R}
+        → Turns f c x rs (Some r) g d ys → Calls f c (Ok x ∷ rs) (Some r) g d ys
     -- a turn answers nothing, and the next one follows
-    again : {f h g : F} {c b d : C} {x : Entry} {rs zs ys : List R} {r : Option R} → Turns f c x rs None h b zs → Calls h b zs r g d ys → Calls f c (Ok x ∷ rs) r g d ys
+    again : {f h g : F} {c b d : C} {x : Entry} {rs zs ys : List R} {r : Option R}
+        → Turns f c x rs None h b zs → Calls h b zs r g d ys → Calls f c (Ok x ∷ rs) r g d ys
 
 -- a filter is not asked of tombstones, which stay
 abbrev pub KeepsTombstones : List JudgedItem → Type 0
 KeepsTombstones [] = Unit {0}
-KeepsTombstones (Ok j ∷ js) = (is_tombstone_kind j.entry.kind ≡ true → j.verdict ≡ Ok keep) × KeepsTombstones js
+KeepsTombstones (Ok j ∷ js) = (is_tombstone_kind j.entry.kind ≡ true → j.verdict ≡ Ok keep)
+    × KeepsTombstones js
 KeepsTombstones (Err e ∷ js) = KeepsTombstones js
 
--- a whole compaction of a list of results: the filter said something of its entries, and what the compaction gave, asked and reported is what follows from that
-pub record Compacted {F C : Type 0} (gives : F → Entry → Result Verdict Error → F → Type 0) (gets : C → Entry → C → Type 0) (rules : Rules) (f : F) (c : C) (xs gave : List R) (g : F) (d : C) : Type 0 where
+-- a whole compaction of a list of results: the filter said something of its entries, and what the
+-- compaction gave, asked and reported is what follows from that
+pub record Compacted {F C : Type 0} (gives : F → Entry → Result Verdict Error → F → Type 0)
+    (gets : C → Entry → C → Type 0) (rules : Rules) (f : F) (c : C) (xs gave : List R) (g : F)
+    (d : C) : Type 0 where
   pub judged : List JudgedItem
   pub over : items judged ≡ xs
   pub tombstones : KeepsTombstones judged

@@ -1,14 +1,17 @@
 -- What a compaction keeps and reports, one key at a time.
-use Rattle.std.specs.Prelude.{ℕ, Bool, true, false, not, ◌&&◌, if◌then◌else◌, nat_lt, List, [], ◌∷◌, ◌++◌, map, filter, Option, Some, None, Result, Ok, Err}
+use Rattle.std.specs.Prelude.{ℕ, Bool, true, false, not, ◌&&◌, if◌then◌else◌, nat_lt, List, [], ◌∷◌}
+use Rattle.std.specs.Prelude.{◌++◌, map, filter, Option, Some, None, Result, Ok, Err}
 use Rattle.sst_entries.specs.Entry.{Entry}
 use Rattle.sst_entries.specs.Kind.{is_tombstone_kind}
 use Rattle.sst_entries.specs.Key.{same_key}
 use Rattle.sst_entries.specs.Stream.{first, ok_results}
 use Rattle.sst_entries.specs.declared.error.Error.{Error}
 use Rattle.sst_entries.specs.declared.value_type.ValueType.{ValueType}
-use Rattle.sst_entries.specs.declared.value_type.ValueType.TheVariants.{Value, Tombstone, WeakTombstone, Indirection}
+use Rattle.sst_entries.specs.declared.value_type.ValueType.TheVariants.{Value, Tombstone}
+use Rattle.sst_entries.specs.declared.value_type.ValueType.TheVariants.{WeakTombstone, Indirection}
 use Rattle.lsm_merge.specs.Ends.{R}
 use Rattle.lsm_merge.specs.Union.{entries_among}
+use Rattle.lsm_sorted.specs.declared.compaction.Rules.{Rules}
 
 -- what a filter says of an entry: it stays as it is, it gets this kind and value, or it goes
 pub data Verdict : Type 0 where
@@ -31,16 +34,11 @@ items [] = []
 items (Ok j ∷ js) = Ok j.entry ∷ items js
 items (Err e ∷ js) = Err e ∷ items js
 
--- how a compaction is set: no reader stands below the watermark, whether tombstones are evicted, whether numbers become 0
-pub record Rules : Type 0 where
-  pub watermark : ℕ
-  pub evict : Bool
-  pub zeroing : Bool
-
 -- the entry as the filter leaves it, where it leaves one
 abbrev pub told_by : Entry → Result Verdict Error → Result (Option Entry) Error
 told_by x (Ok keep) = Ok (Some x)
-told_by x (Ok (replace kind value)) = Ok (Some (record { user_key = x.user_key; seqno = x.seqno; kind = kind; value = value }))
+told_by x (Ok (replace kind value)) =
+    Ok (Some (record { user_key = x.user_key; seqno = x.seqno; kind = kind; value = value }))
 told_by x (Ok drop) = Ok None
 told_by x (Err e) = Err e
 
@@ -60,7 +58,8 @@ reports_by x (Ok (replace kind value)) = x ∷ []
 reports_by x (Ok drop) = x ∷ []
 reports_by x (Err e) = []
 
--- a version that the filter leaves, numbered below the watermark, hides all older ones from every reader
+-- a version that the filter leaves, numbered below the watermark, hides all older ones from every
+-- reader
 abbrev pub is_cut : ℕ → Judged → Bool
 is_cut watermark j = is_left (told j) && nat_lt j.entry.seqno watermark
 
@@ -81,7 +80,8 @@ is_value Tombstone = false
 is_value WeakTombstone = false
 is_value Indirection = false
 
--- whether the last head goes: a tombstone under eviction, but a weak one that hides a version exactly where that is a value
+-- whether the last head goes: a tombstone under eviction, but a weak one that hides a version
+-- exactly where that is a value
 abbrev pub goes : Bool → ValueType → Option Entry → Bool
 goes evict Value next = false
 goes evict Tombstone next = evict
@@ -91,19 +91,26 @@ goes evict Indirection next = false
 
 -- a number below the watermark becomes 0, where the rules say so
 abbrev pub zeroed : Rules → Entry → Entry
-zeroed rules x = record { user_key = x.user_key; seqno = (if rules.zeroing && nat_lt x.seqno rules.watermark then 0 else x.seqno); kind = x.kind; value = x.value }
+zeroed rules x = record {
+  user_key = x.user_key;
+  seqno =
+      (if rules.zeroing && nat_lt x.seqno rules.watermark then 0 else x.seqno);
+  kind = x.kind;
+  value =
+      x.value;
+}
 
 -- what a head gives: itself as the filter leaves it, unless it goes, or the filter's error
-abbrev pub given_by : Rules → (Entry → Bool) → Result (Option Entry) Error → List R
-given_by rules gone (Ok (Some x)) = if gone x then [] else Ok (zeroed rules x) ∷ []
-given_by rules gone (Ok None) = []
-given_by rules gone (Err e) = Err e ∷ []
+abbrev pub head_given : Rules → (Entry → Bool) → Result (Option Entry) Error → List R
+head_given rules gone (Ok (Some x)) = if gone x then [] else Ok (zeroed rules x) ∷ []
+head_given rules gone (Ok None) = []
+head_given rules gone (Err e) = Err e ∷ []
 
 -- what the heads of a key give, where only the last may go
 abbrev pub given : Rules → (Entry → Bool) → List Judged → List R
 given rules gone [] = []
-given rules gone (j ∷ []) = given_by rules gone (told j)
-given rules gone (j ∷ k ∷ ks) = given_by rules (λ x. false) (told j) ++ given rules gone (k ∷ ks)
+given rules gone (j ∷ []) = head_given rules gone (told j)
+given rules gone (j ∷ k ∷ ks) = head_given rules (λ x. false) (told j) ++ given rules gone (k ∷ ks)
 
 -- the versions of one key one after another, and the error that follows them, if one does
 pub record Versions : Type 0 where
@@ -118,7 +125,11 @@ is_version_of (k ∷ ks) j = same_key k.entry.user_key j.entry.user_key
 -- a version before the versions of its own key or of another
 abbrev pub before : Judged → List Versions → List Versions
 before j [] = record { versions = j ∷ []; error = None } ∷ []
-before j (v ∷ vs) = if is_version_of v.versions j then record { versions = j ∷ v.versions; error = v.error } ∷ vs else record { versions = j ∷ []; error = None } ∷ v ∷ vs
+before j (v ∷ vs) = if is_version_of v.versions j then record {
+  versions = j ∷ v.versions;
+  error =
+      v.error;
+} ∷ vs else record { versions = j ∷ []; error = None } ∷ v ∷ vs
 
 -- a list of results by keys and errors
 abbrev pub by_key : List JudgedItem → List Versions
@@ -142,7 +153,9 @@ entries js = map (λ j. j.entry) js
 
 -- what the versions of a key give: what their heads give, and the error that follows
 abbrev pub outs_of : Rules → Versions → List R
-outs_of rules v = given rules (gone rules (first (entries (expired rules.watermark v.versions))) v.error) (heads rules.watermark v.versions) ++ error_of v.error
+outs_of rules v = given rules
+    (gone rules (first (entries (expired rules.watermark v.versions))) v.error)
+    (heads rules.watermark v.versions) ++ error_of v.error
 
 -- what is reported of them: the dropped and replaced heads, and all that follow the cut
 abbrev pub reported_heads : List Judged → List Entry
@@ -150,11 +163,13 @@ reported_heads [] = []
 reported_heads (j ∷ js) = reports_by j.entry j.verdict ++ reported_heads js
 
 abbrev pub reported_of : Rules → Versions → List Entry
-reported_of rules v = reported_heads (heads rules.watermark v.versions) ++ entries (expired rules.watermark v.versions)
+reported_of rules v = reported_heads (heads rules.watermark v.versions)
+    ++ entries (expired rules.watermark v.versions)
 
 -- of which the filter is asked: the heads that are no tombstones
 abbrev pub asked_of : Rules → Versions → List Judged
-asked_of rules v = filter (λ j. not (is_tombstone_kind j.entry.kind)) (heads rules.watermark v.versions)
+asked_of rules v = filter (λ j. not (is_tombstone_kind j.entry.kind))
+    (heads rules.watermark v.versions)
 
 -- joined over the keys in order
 abbrev pub concat_by : {A : Type 0} → (Versions → List A) → List Versions → List A

@@ -1,5 +1,6 @@
 -- What a compaction stream stands for, and its calls.
-use Rattle.std.specs.Prelude.{◌≡◌, ℕ, Bool, false, List, [], ◌∷◌, Option, Some, None, Result, Ok, Err}
+use Rattle.std.specs.Prelude.{◌≡◌, ℕ, Bool, false, List, [], ◌∷◌, Option, Some, None, Result, Ok}
+use Rattle.std.specs.Prelude.{Err}
 use Rattle.std.specs.List.{AllByRecursion}
 use Rattle.std.specs.Iterator.{Count, Yields}
 use Rattle.sst_entries.specs.Entry.{Entry}
@@ -13,17 +14,26 @@ use Rattle.lsm_sorted.specs.Newest.{after_key}
 use Rattle.lsm_sorted.specs.Outlook.{Outlook, before_any, nothing_stops, IsSame}
 use Rattle.lsm_sorted.specs.Hears.{Hears, Heard}
 use Rattle.lsm_sorted.specs.Ahead.{HoldsAhead, ahead_size, ahead_outlook}
-use Rattle.lsm_sorted.specs.Compaction.{Verdict, Rules, told_by, reports_by, outs, as_they_are, kept, unfiltered}
-use Rattle.lsm_sorted.specs.Compacting.{of_key, head_answer, settled, Asks, GetsAll, Calls, Compacted}
+use Rattle.lsm_sorted.specs.declared.compaction.Rules.{Rules}
+use Rattle.lsm_sorted.specs.Compaction.{Verdict, told_by, reports_by, outs, as_they_are, kept}
+use Rattle.lsm_sorted.specs.Compaction.{unfiltered}
+use Rattle.lsm_sorted.specs.Compacting.{of_key, head_answer, settled, Asks, GetsAll, Calls}
+use Rattle.lsm_sorted.specs.Compacting.{Compacted}
 
 -- a call that goes through xs and leaves ys
-abbrev pub CallsIn : {F C : Type 0} → (F → Entry → Result Verdict Error → F → Type 0) → (C → Entry → C → Type 0) → Rules → F → C → Option R → F → C → List R → List R → Type 0
+abbrev pub CallsIn : {F C : Type 0} → (F → Entry → Result Verdict Error → F → Type 0)
+    → (C → Entry → C → Type 0) → Rules → F → C → Option R → F → C → List R → List R → Type 0
 CallsIn gives gets rules f c r g d xs ys = Calls gives gets rules f c xs r g d ys
 
 module _ {S F C : Type 0} where
   -- how the stream is set
   abbrev pub rules_of : CompactionStream S F C R → Rules
-  rules_of s = record { watermark = s.gc_seqno_threshold; evict = s.evict_tombstones; zeroing = s.zero_seqnos }
+  rules_of s = record {
+    watermark = s.gc_seqno_threshold;
+    evict = s.evict_tombstones;
+    zeroing =
+        s.zero_seqnos;
+  }
 
   -- what the stream reads from
   abbrev pub source_of : CompactionStream S F C R → Ahead S R
@@ -40,49 +50,74 @@ module _ {S F C : Type 0} where
   callback_of s = s.dropped_callback
 
   -- the list of results that the stream still goes through
-  abbrev pub Compacts : (Error → Bool) → (S → Option R → S → Type 0) → CompactionStream S F C R → List R → Type 0
+  abbrev pub Compacts : (Error → Bool) → (S → Option R → S → Type 0) → CompactionStream S F C R
+      → List R → Type 0
   Compacts stops front s xs = HoldsAhead stops front (source_of s) xs
 
   -- the stream may be called, and it ends
-  abbrev pub MayCompact : (S → Option R → S → Type 0) → (S → Type 0) → (S → Count) → CompactionStream S F C R → Type 0
+  abbrev pub MayCompact : (S → Option R → S → Type 0) → (S → Type 0) → (S → Count)
+      → CompactionStream S F C R → Type 0
   MayCompact front can left s = Goes front nowhere can can left (source_of s).source
 
   abbrev pub compaction_size : (S → Count) → CompactionStream S F C R → ℕ
   compaction_size left s = ahead_size left (source_of s)
 
-  -- one call: it may be called again, its rules stay, and where it goes through xs, the answer and what is left are those of a call on xs, up to an error that stops it;
-  -- and whatever the source gives, they are those of a call on what it had and what the source gave
-  pub record CompactsNext (front : S → Option R → S → Type 0) (can : S → Type 0) (left : S → Count) (gives : F → Entry → Result Verdict Error → F → Type 0) (gets : C → Entry → C → Type 0) (s : CompactionStream S F C R) (r : Option R) (t : CompactionStream S F C R) : Type 0 where
+  -- one call: it may be called again, its rules stay, and where it goes through xs, the answer and
+  -- what is left are those of a call on xs, up to an error that stops it; and whatever the source
+  -- gives, they are those of a call on what it had and what the source gave
+  pub record CompactsNext (front : S → Option R → S → Type 0) (can : S → Type 0) (left : S → Count)
+      (gives : F → Entry → Result Verdict Error → F → Type 0) (gets : C → Entry → C → Type 0)
+      (s : CompactionStream S F C R) (r : Option R) (t : CompactionStream S F C R) : Type 0 where
     pub may : MayCompact front can left t
     pub rules : rules_of t ≡ rules_of s
-    pub calls : (stops : Error → Bool) (xs : List R) → Compacts stops front s xs → answer_stops stops r ≡ false → (ys : List R) × Compacts stops front t ys × Calls gives gets (rules_of s) (filter_of s) (callback_of s) xs r (filter_of t) (callback_of t) ys
-    pub hears : Hears front Front r (CallsIn gives gets (rules_of s) (filter_of s) (callback_of s) r (filter_of t) (callback_of t)) (compaction_outlook s) (compaction_outlook t)
+    pub calls : (stops : Error → Bool) (xs : List R) → Compacts stops front s xs
+        → answer_stops stops r ≡ false → (ys : List R) × Compacts stops front t ys
+        × Calls gives gets (rules_of s) (filter_of s) (callback_of s) xs r (filter_of t)
+        (callback_of t) ys
+    pub hears : Hears front Front r
+        (CallsIn gives gets (rules_of s) (filter_of s) (callback_of s) r (filter_of t)
+        (callback_of t)) (compaction_outlook s) (compaction_outlook t)
 
-module _ {S F C : Type 0} (front : S → Option R → S → Type 0) (next : CompactionStream S F C R → Option R → CompactionStream S F C R → Type 0) (s : CompactionStream S F C R) where
-  -- of any list that the stream goes through, calls up to the one that answers `None` give, ask and report what a compaction of the list does
-  abbrev pub CompactsWhole : (F → Entry → Result Verdict Error → F → Type 0) → (C → Entry → C → Type 0) → Type 0
-  CompactsWhole gives gets = (stops : Error → Bool) (xs gave : List R) (t u : CompactionStream S F C R) → Compacts stops front s xs → AllByRecursion (λ r. result_stops stops r ≡ false) gave
-      → Yields next s gave t → next t None u → Compacted gives gets (rules_of s) (filter_of s) (callback_of s) xs gave (filter_of u) (callback_of u)
+module _ {S F C : Type 0} (front : S → Option R → S → Type 0)
+    (next : CompactionStream S F C R → Option R → CompactionStream S F C R → Type 0)
+    (s : CompactionStream S F C R) where
+  -- of any list that the stream goes through, calls up to the one that answers `None` give, ask and
+  -- report what a compaction of the list does
+  abbrev pub CompactsWhole : (F → Entry → Result Verdict Error → F → Type 0)
+      → (C → Entry → C → Type 0) → Type 0
+  CompactsWhole gives gets =
+      (stops : Error → Bool) (xs gave : List R) (t u : CompactionStream S F C R)
+      → Compacts stops front s xs → AllByRecursion (λ r. result_stops stops r ≡ false) gave
+      → Yields next s gave t → next t None u → Compacted gives gets (rules_of s) (filter_of s)
+      (callback_of s) xs gave (filter_of u) (callback_of u)
 
-  -- whatever the source gives, refusals too: calls up to the one that answers `None` give, ask and report what a compaction of it does
-  abbrev pub CompactsHeard : (F → Entry → Result Verdict Error → F → Type 0) → (C → Entry → C → Type 0) → Type 0
-  CompactsHeard gives gets = (source : S) (gave : List R) (t u : CompactionStream S F C R) → compaction_outlook s ≡ before_any source
+  -- whatever the source gives, refusals too: calls up to the one that answers `None` give, ask and
+  -- report what a compaction of it does
+  abbrev pub CompactsHeard : (F → Entry → Result Verdict Error → F → Type 0)
+      → (C → Entry → C → Type 0) → Type 0
+  CompactsHeard gives gets = (source : S) (gave : List R) (t u : CompactionStream S F C R)
+      → compaction_outlook s ≡ before_any source
       → Yields next s gave t → next t None u
-      → Heard front nowhere source (λ xs. Compacted gives gets (rules_of s) (filter_of s) (callback_of s) xs gave (filter_of u) (callback_of u))
+      → Heard front nowhere source
+      (λ xs. Compacted gives gets (rules_of s) (filter_of s) (callback_of s) xs gave
+      (filter_of u) (callback_of u))
 
   -- and where a filter keeps all, they give what is given of it
   abbrev pub GivesOuts : Type 0
-  GivesOuts = (source : S) (gave : List R) (t u : CompactionStream S F C R) → compaction_outlook s ≡ before_any source
+  GivesOuts = (source : S) (gave : List R) (t u : CompactionStream S F C R) → compaction_outlook s
+      ≡ before_any source
       → Yields next s gave t → next t None u
       → Heard front nowhere source (λ xs. gave ≡ outs (rules_of s) (as_they_are xs))
 
   -- the stream deals what is given of any list that it goes through, where a filter keeps all
   abbrev pub DealsOuts : Type 0
-  DealsOuts = (stops : Error → Bool) (xs : List R) → Compacts stops front s xs → Deals (answer_stops stops) next nowhere s (outs (rules_of s) (as_they_are xs))
+  DealsOuts = (stops : Error → Bool) (xs : List R) → Compacts stops front s xs
+      → Deals (answer_stops stops) next nowhere s (outs (rules_of s) (as_they_are xs))
 
   -- and of entries without errors those that are kept
   abbrev pub DealsKept : Type 0
-  DealsKept = (stops : Error → Bool) (xs : List Entry) → Compacts stops front s (ok_results xs) → Deals (answer_stops stops) next nowhere s (ok_results (kept (rules_of s) (unfiltered xs)))
+  DealsKept = (stops : Error → Bool) (xs : List Entry) → Compacts stops front s (ok_results xs)
+      → Deals (answer_stops stops) next nowhere s (ok_results (kept (rules_of s) (unfiltered xs)))
 
 -- the error of a refusal
 abbrev pub refusal : {X : Type 0} → Result X Error → Option Error
@@ -106,8 +141,12 @@ past_error (Ok x ∷ rs) = Ok x ∷ rs
 past_error (Err e ∷ rs) = rs
 
 -- the entries of a key in front were taken and reported, up to an error that stops it
-pub record DrainsKey {T C X : Type 0} (stops : Error → Bool) (Has : T → List R → Type 0) (gets : C → Entry → C → Type 0) (key : List ℕ) (s : T) (c : C) (result : Result X Error) (t : T) (d : C) : Type 0 where
-  pub at : (xs : List R) → Has s xs → result_stops stops result ≡ false → (refusal result ≡ error_first (after_key key xs)) × Has t (past_error (after_key key xs)) × GetsAll gets c (of_key key xs) d
+pub record DrainsKey {T C X : Type 0} (stops : Error → Bool) (Has : T → List R → Type 0)
+    (gets : C → Entry → C → Type 0) (key : List ℕ) (s : T) (c : C) (result : Result X Error) (t : T)
+    (d : C) : Type 0 where
+  pub at : (xs : List R) → Has s xs → result_stops stops result ≡ false
+      → (refusal result ≡ error_first (after_key key xs)) × Has t (past_error (after_key key xs))
+      × GetsAll gets c (of_key key xs) d
 
 -- what a turn answers at a head that goes or stays
 abbrev pub answer_of : Rules → Entry → Result Bool Error → Option R
@@ -115,8 +154,12 @@ answer_of rules head (Ok gone) = head_answer rules gone head
 answer_of rules head (Err e) = Some (Err e)
 
 -- a head was settled, up to an error that stops it
-pub record Settles {T C : Type 0} (stops : Error → Bool) (Has : T → List R → Type 0) (gets : C → Entry → C → Type 0) (rules : Rules) (head : Entry) (s : T) (c : C) (result : Result Bool Error) (t : T) (d : C) : Type 0 where
-  pub at : (xs : List R) → Has s xs → result_stops stops result ≡ false → (answer_of rules head result ≡ (settled rules head xs).answer) × Has t (settled rules head xs).rest × GetsAll gets c (settled rules head xs).reports d
+pub record Settles {T C : Type 0} (stops : Error → Bool) (Has : T → List R → Type 0)
+    (gets : C → Entry → C → Type 0) (rules : Rules) (head : Entry) (s : T) (c : C)
+    (result : Result Bool Error) (t : T) (d : C) : Type 0 where
+  pub at : (xs : List R) → Has s xs → result_stops stops result ≡ false
+      → (answer_of rules head result ≡ (settled rules head xs).answer)
+      × Has t (settled rules head xs).rest × GetsAll gets c (settled rules head xs).reports d
 
 -- the same of lists themselves
 module _ {C : Type 0} (gets : C → Entry → C → Type 0) where
@@ -124,10 +167,13 @@ module _ {C : Type 0} (gets : C → Entry → C → Type 0) where
   DrainsIn key c result d xs ys = DrainsKey nothing_stops IsSame gets key xs c result ys d
 
   abbrev pub SettlesIn : Rules → Entry → C → Result Bool Error → C → List R → List R → Type 0
-  SettlesIn rules head c result d xs ys = Settles nothing_stops IsSame gets rules head xs c result ys d
+  SettlesIn rules head c result d xs ys =
+      Settles nothing_stops IsSame gets rules head xs c result ys d
 
 -- a head was filtered, and reported as told
-pub record Filters {F C : Type 0} (gives : F → Entry → Result Verdict Error → F → Type 0) (gets : C → Entry → C → Type 0) (head : Entry) (f : F) (c : C) (result : Result (Option Entry) Error) (g : F) (d : C) : Type 0 where
+pub record Filters {F C : Type 0} (gives : F → Entry → Result Verdict Error → F → Type 0)
+    (gets : C → Entry → C → Type 0) (head : Entry) (f : F) (c : C)
+    (result : Result (Option Entry) Error) (g : F) (d : C) : Type 0 where
   pub verdict : Result Verdict Error
   pub asks : Asks gives f head verdict g
   pub tells : result ≡ told_by head verdict

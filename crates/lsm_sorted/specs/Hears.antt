@@ -5,7 +5,8 @@ use Rattle.sst_entries.specs.declared.error.Error.{Error}
 use Rattle.sst_entries.specs.Stream.{Runs, NoneStops, answer_stops, deal}
 use Rattle.lsm_merge.specs.declared.ends.Ends.{Ends}
 use Rattle.lsm_merge.specs.Ends.{R}
-use Rattle.lsm_sorted.specs.Outlook.{Outlook, list_of, MayGive, results_in, with_rest, is_over, StopsAtNone}
+use Rattle.lsm_sorted.specs.Outlook.{Outlook, list_of, MayGive, results_in, with_rest, is_over}
+use Rattle.lsm_sorted.specs.Outlook.{StopsAtNone}
 
 module _ {S : Type 0} (ask : S → Option R → S → Type 0) where
   -- calls of an iterator gave these answers one after another
@@ -19,16 +20,22 @@ module _ {S : Type 0} (ask : S → Option R → S → Type 0) where
     pub over : t.done ≡ is_over s.done answers
     pub once : StopsAtNone s.done answers
 
-  -- a call that asked its source at this end, answered r and led from s to t: P relates what was to come to what is still to
-  -- come, whatever the source still gives, and no error that the source gave is kept from the caller
-  pub record Hears (end : Direction) (r : Option R) (P : List R → List R → Type 0) (s t : Outlook S) : Type 0 where
+  -- a call that asked its source at this end, answered r and led from s to t: P relates what was to
+  -- come to what is still to come, whatever the source still gives, and no error that the source
+  -- gave is kept from the caller
+  pub record Hears (end : Direction) (r : Option R) (P : List R → List R → Type 0) (s t : Outlook S)
+      : Type 0 where
     pub answers : List (Option R)
     pub gave : Gave s.source answers t.source
-    pub told : (stops : Error → Bool) → answer_stops stops r ≡ false → NoneStops (answer_stops stops) answers
-    pub holds : (rest : List R) → MayGive t.source.done rest → P (list_of s (with_rest end (results_in answers) rest)) (list_of t rest)
+    pub told : (stops : Error → Bool) → answer_stops stops r ≡ false
+        → NoneStops (answer_stops stops) answers
+    pub holds : (rest : List R) → MayGive t.source.done rest
+        → P (list_of s (with_rest end (results_in answers) rest)) (list_of t rest)
 
--- a source was asked, and not again once it gave `None`: P holds of every list that deals what it answered
-pub record Heard {S : Type 0} (front back : S → Option R → S → Type 0) (source : S) (P : List R → Type 0) : Type 0 where
+-- a source was asked, and not again once it gave `None`: P holds of every list that deals what it
+-- answered
+pub record Heard {S : Type 0} (front back : S → Option R → S → Type 0) (source : S)
+    (P : List R → Type 0) : Type 0 where
   pub ends : List Direction
   pub answers : List (Option R)
   pub led : S

@@ -26,31 +26,42 @@ abbrev pub mvcc_size : {S : Type 0} → (S → Count) → MvccStream S R → ℕ
 mvcc_size left s = peeked_size left s.inner
 
 -- what it reads from may be asked
-abbrev pub MayStep : {S : Type 0} → (S → Option R → S → Type 0) → (S → Option R → S → Type 0) → (S → Type 0) → (S → Type 0) → (S → Count) → MvccStream S R → Type 0
+abbrev pub MayStep : {S : Type 0} → (S → Option R → S → Type 0) → (S → Option R → S → Type 0)
+    → (S → Type 0) → (S → Type 0) → (S → Count) → MvccStream S R → Type 0
 MayStep front back can can_back left s = Goes front back can can_back left s.inner.source
 
--- one call: it may be called again, and whatever the source gives, it answers the step on what it had and what the source gave
-pub record StepsAt {S : Type 0} (May : MvccStream S R → Type 0) (ask : S → Option R → S → Type 0) (end : Direction) (stepped : List R → Option R × List R) (s : MvccStream S R) (r : Option R) (t : MvccStream S R) : Type 0 where
+-- one call: it may be called again, and whatever the source gives, it answers the step on what it
+-- had and what the source gave
+pub record StepsAt {S : Type 0} (May : MvccStream S R → Type 0) (ask : S → Option R → S → Type 0)
+    (end : Direction) (stepped : List R → Option R × List R) (s : MvccStream S R) (r : Option R)
+    (t : MvccStream S R) : Type 0 where
   pub may : May t
   pub hears : Hears ask end r (IsStep stepped r) (mvcc_outlook s) (mvcc_outlook t)
 
-module _ {S T : Type 0} (front back : S → Option R → S → Type 0) (source : S) (next next_back : T → Option R → T → Type 0) (t : T) where
+module _ {S T : Type 0} (front back : S → Option R → S → Type 0) (source : S)
+    (next next_back : T → Option R → T → Type 0) (t : T) where
   -- whatever the source gives, the answers at a list of ends are those of the steps on what it gave
   pub record AnswersSteps : Type 0 where
-    pub heard : (ends : List Direction) (rs : List (Option R)) (u : T) → Runs next next_back t ends rs u
+    pub heard : (ends : List Direction) (rs : List (Option R)) (u : T)
+        → Runs next next_back t ends rs u
         → Heard front back source (λ xs. rs ≡ newest_answers xs ends)
 
-  -- of a list that the source deals, the answers are those of the steps on it, up to an error that stops the source
+  -- of a list that the source deals, the answers are those of the steps on it, up to an error that
+  -- stops the source
   pub record DealsSteps : Type 0 where
-    pub answers : (stops : Error → Bool) (xs : List R) → Deals (answer_stops stops) front back source xs
+    pub answers : (stops : Error → Bool) (xs : List R)
+        → Deals (answer_stops stops) front back source xs
         → (ends : List Direction) (rs : List (Option R)) (u : T) → Runs next next_back t ends rs u
         → NoneStops (answer_stops stops) rs → rs ≡ newest_answers xs ends
 
   -- of sorted entries that the source deals, the newest version of each key is dealt
   pub record DealsNewestOf : Type 0 where
-    pub deals : (stops : Error → Bool) (xs : List Entry) → Ascends xs → Deals (answer_stops stops) front back source (ok_results xs)
+    pub deals : (stops : Error → Bool) (xs : List Entry) → Ascends xs
+        → Deals (answer_stops stops) front back source (ok_results xs)
         → Deals (answer_stops stops) next next_back t (ok_results (newest xs))
 
   -- where the source may be asked and ends, so may the stream be asked
-  pub record CanStep (can can_back : S → Type 0) (left : S → Count) (can_next can_next_back : T → Type 0) : Type 0 where
-    pub asks : CanDeal front back can can_back source → IsFinite (left source) → CanDeal next next_back can_next can_next_back t
+  pub record CanStep (can can_back : S → Type 0) (left : S → Count)
+      (can_next can_next_back : T → Type 0) : Type 0 where
+    pub asks : CanDeal front back can can_back source → IsFinite (left source)
+        → CanDeal next next_back can_next can_next_back t

@@ -1,5 +1,6 @@
 -- One step of a stream of newest versions, on what is left of a list of results.
-use Rattle.std.specs.Prelude.{ℕ, Bool, false, cond, List, [], ◌∷◌, reverse, Option, Some, None, Ok, Err}
+use Rattle.std.specs.Prelude.{ℕ, Bool, false, cond, List, [], ◌∷◌, reverse, Option, Some, None, Ok}
+use Rattle.std.specs.Prelude.{Err}
 use Rattle.sst_entries.specs.Entry.{Entry}
 use Rattle.sst_entries.specs.declared.stream.Direction.{Direction}
 use Rattle.sst_entries.specs.declared.stream.Direction.TheVariants.{Front, Back}
@@ -27,7 +28,8 @@ front_step [] = (None, [])
 front_step (Ok x ∷ rs) = settle x (after_key x.user_key rs)
 front_step (Err e ∷ rs) = (Some (Err e), rs)
 
--- from x on, the end of the longest stretch of entries in which no key is smaller than the one before, and what follows it
+-- from x on, the end of the longest stretch of entries in which no key is smaller than the one
+-- before, and what follows it
 abbrev pub climb : Entry → List R → Entry × List R
 climb x [] = (x, [])
 climb x (Ok y ∷ rs) = cond (key_lt y.user_key x.user_key) (x, Ok y ∷ rs) (climb y rs)

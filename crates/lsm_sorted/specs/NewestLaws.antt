@@ -23,31 +23,43 @@ pub record IsNewestOf {S A : Type 0} (its : List S) (s : MvccStream (Merger S A)
   pub of : IsMergerOf its source
 
 -- where the sources may be asked and end, so may the stream be asked
-pub record CanAskNewest {S T : Type 0} (front back : S → Option R → S → Type 0) (can can_back : S → Type 0) (left : S → Count) (its : List S) (next next_back : T → Option R → T → Type 0) (can_next can_next_back : T → Type 0) (t : T) : Type 0 where
-  pub asks : All (CanDeal front back can can_back) its → All (λ s. IsFinite (left s)) its → CanDeal next next_back can_next can_next_back t
+pub record CanAskNewest {S T : Type 0} (front back : S → Option R → S → Type 0)
+    (can can_back : S → Type 0) (left : S → Count) (its : List S)
+    (next next_back : T → Option R → T → Type 0) (can_next can_next_back : T → Type 0)
+    (t : T) : Type 0 where
+  pub asks : All (CanDeal front back can can_back) its → All (λ s. IsFinite (left s)) its
+      → CanDeal next next_back can_next can_next_back t
 
 module _ {S : Type 0} (front back : S → Option R → S → Type 0) (its : List S) where
   module _ {T : Type 0} (next next_back : T → Option R → T → Type 0) (t : T) where
-    -- of what sorted sources have together, the newest version of each key is dealt, where they have no errors
+    -- of what sorted sources have together, the newest version of each key is dealt, where they
+    -- have no errors
     pub record DealsNewest : Type 0 where
-      pub deals : (stops : Error → Bool) (lists : List (List R)) → DealSorted front back stops its lists → all_errors lists ≡ []
+      pub deals : (stops : Error → Bool) (lists : List (List R))
+          → DealSorted front back stops its lists → all_errors lists ≡ []
           → Deals (answer_stops stops) next next_back t (ok_results (newest (union_of lists)))
 
     -- with errors among it, as long as none of them is the answer
     pub record DealsNewestUntilError : Type 0 where
-      pub deals : (stops : Error → Bool) (lists : List (List R)) → DealSorted front back stops its lists
+      pub deals : (stops : Error → Bool) (lists : List (List R))
+          → DealSorted front back stops its lists
           → Deals (answer_stops every_error) next next_back t (ok_results (newest (union_of lists)))
 
-    -- whatever errors are met, and after them: for every list of ends the answers are those of the steps on all entries, or on
-    -- what is left of them where the first error that was met takes the place of a stretch
+    -- whatever errors are met, and after them: for every list of ends the answers are those of the
+    -- steps on all entries, or on what is left of them where the first error that was met takes the
+    -- place of a stretch
     pub record AnswersNewest : Type 0 where
-      pub answers : (stops : Error → Bool) (lists : List (List R)) → DealSorted front back stops its lists
+      pub answers : (stops : Error → Bool) (lists : List (List R))
+          → DealSorted front back stops its lists
           → (ends : List Direction) (rs : List (Option R)) (u : T) → Runs next next_back t ends rs u
-          → (xs : List R) × IsUpToGap stops (union_of lists) (all_errors lists) xs × (rs ≡ newest_answers xs ends)
+          → (xs : List R) × IsUpToGap stops (union_of lists) (all_errors lists) xs
+          × (rs ≡ newest_answers xs ends)
 
-  -- its merger deals what the sources have together up to an error of one of them, from one end alone no error comes before
-  -- the entries before it, seen from there, and nothing follows an error
-  pub record IsOverMerged {A : Type 0} (next next_back : Merger S A → Option R → Merger S A → Type 0) (s : MvccStream (Merger S A) R) : Type 0 where
+  -- its merger deals what the sources have together up to an error of one of them, from one end
+  -- alone no error comes before the entries before it, seen from there, and nothing follows an
+  -- error
+  pub record IsOverMerged {A : Type 0} (next next_back : Merger S A → Option R → Merger S A
+      → Type 0) (s : MvccStream (Merger S A) R) : Type 0 where
     pub of : IsNewestOf its s
     pub until : DealsUntilError front back its next next_back of.source
     pub late : MeetsErrorsLate front back its Front next of.source

@@ -1,5 +1,7 @@
--- A source with what was taken from it and is still to be given, and calls by what the source gave in them, whatever it gives.
-use Rattle.std.specs.Prelude.{◌≡◌, Bool, true, false, List, [], ◌∷◌, ◌++◌, reverse, Option, Some, None}
+-- A source with what was taken from it and is still to be given, and calls by what the source gave
+-- in them, whatever it gives.
+use Rattle.std.specs.Prelude.{◌≡◌, Bool, true, false, List, [], ◌∷◌, ◌++◌, reverse, Option, Some}
+use Rattle.std.specs.Prelude.{None}
 use Rattle.sst_entries.specs.declared.stream.Direction.{Direction}
 use Rattle.sst_entries.specs.declared.stream.Direction.TheVariants.{Front, Back}
 use Rattle.sst_entries.specs.declared.error.Error.{Error}

@@ -7,7 +7,8 @@ use Rattle.sst_entries.specs.Strict.{IsStrict}
 use Rattle.sst_entries.specs.Kind.{is_weak_kind}
 use Rattle.lsm_merge.specs.Union.{Ascends, SameBag}
 use Rattle.lsm_sorted.specs.Point.{seen}
-use Rattle.lsm_sorted.specs.Compaction.{Rules, kept, unfiltered}
+use Rattle.lsm_sorted.specs.declared.compaction.Rules.{Rules}
+use Rattle.lsm_sorted.specs.Compaction.{kept, unfiltered}
 
 -- every version of the key is numbered below the bound
 abbrev pub AllBelow : List ℕ → ℕ → List Entry → Type 0
@@ -19,19 +20,24 @@ IsServed watermark es key bound = (watermark ≤ bound) ⊎ AllBelow key bound e
 
 -- whatever is evicted and zeroed, such a reader sees the same before and after
 abbrev pub ReadLaw : Type 0
-ReadLaw = (rules : Rules) (es : List Entry) → Ascends es → (key : List ℕ) (bound : ℕ) → IsServed rules.watermark es key bound → seen (kept rules (unfiltered es)) key bound ≡ seen es key bound
+ReadLaw = (rules : Rules) (es : List Entry) → Ascends es → (key : List ℕ) (bound : ℕ)
+    → IsServed rules.watermark es key bound → seen (kept rules (unfiltered es)) key bound
+    ≡ seen es key bound
 
 -- what is kept of a strict list is strict, also where numbers become 0
 abbrev pub StaysStrict : Type 0
-StaysStrict = (rules : Rules) (es : List Entry) → IsStrict es → IsStrict (kept rules (unfiltered es))
+StaysStrict = (rules : Rules) (es : List Entry) → IsStrict es
+    → IsStrict (kept rules (unfiltered es))
 
 -- no entry of one list has the key and the number of one of the other
 abbrev pub Distinct : List Entry → List Entry → Type 0
-Distinct xs ys = AllByRecursion (λ x. AllByRecursion (λ y. x.user_key ≡ y.user_key → x.seqno ≢ y.seqno) ys) xs
+Distinct xs ys = AllByRecursion
+    (λ x. AllByRecursion (λ y. x.user_key ≡ y.user_key → x.seqno ≢ y.seqno) ys) xs
 
 -- each version in the second list is newer than those of its key in the first
 abbrev pub AllNewer : List Entry → List Entry → Type 0
-AllNewer xs ys = AllByRecursion (λ x. AllByRecursion (λ y. x.user_key ≡ y.user_key → x.seqno < y.seqno) ys) xs
+AllNewer xs ys = AllByRecursion
+    (λ x. AllByRecursion (λ y. x.user_key ≡ y.user_key → x.seqno < y.seqno) ys) xs
 
 -- a sorted list that has each entry as often as two lists have it together
 pub record IsMerged (xs ys zs : List Entry) : Type 0 where
@@ -40,9 +46,14 @@ pub record IsMerged (xs ys zs : List Entry) : Type 0 where
 
 -- nothing is evicted or zeroed, and no weak tombstone may go with the version that it hides
 abbrev pub IsPlain : Rules → List Entry → Type 0
-IsPlain rules es = (rules.evict ≡ false) × (rules.zeroing ≡ false) × AllByRecursion (λ e. is_weak_kind e.kind ≡ false) es
+IsPlain rules es = (rules.evict ≡ false) × (rules.zeroing ≡ false)
+    × AllByRecursion (λ e. is_weak_kind e.kind ≡ false) es
 
--- where a part of the entries is compacted and others stay, a reader at the watermark or above sees the same
+-- where a part of the entries is compacted and others stay, a reader at the watermark or above sees
+-- the same
 abbrev pub PartLaw : Type 0
-PartLaw = (rules : Rules) (part others all left : List Entry) → IsStrict part → IsStrict others → Distinct part others → IsMerged part others all → IsMerged (kept rules (unfiltered part)) others left
-    → IsPlain rules part ⊎ AllNewer part others → (key : List ℕ) (bound : ℕ) → rules.watermark ≤ bound → seen left key bound ≡ seen all key bound
+PartLaw = (rules : Rules) (part others all left : List Entry) → IsStrict part → IsStrict others
+    → Distinct part others → IsMerged part others all
+    → IsMerged (kept rules (unfiltered part)) others left
+    → IsPlain rules part ⊎ AllNewer part others → (key : List ℕ) (bound : ℕ)
+    → rules.watermark ≤ bound → seen left key bound ≡ seen all key bound

@@ -2,7 +2,9 @@
 use Rattle.std.specs.Prelude.{Result, Ok, Err}
 use Rattle.sst_entries.specs.declared.error.Error.{Error}
 use Rattle.lsm_sorted.specs.declared.compaction.stream.StreamFilterVerdict.{StreamFilterVerdict}
-use Rattle.lsm_sorted.specs.declared.compaction.stream.StreamFilterVerdict.TheVariants.{Keep, Replace, Drop}
+use Rattle.lsm_sorted.specs.declared.compaction.stream.StreamFilterVerdict.TheVariants.{Keep}
+use Rattle.lsm_sorted.specs.declared.compaction.stream.StreamFilterVerdict.TheVariants.{Replace}
+use Rattle.lsm_sorted.specs.declared.compaction.stream.StreamFilterVerdict.TheVariants.{Drop}
 use Rattle.lsm_sorted.specs.Compaction.{Verdict, keep, replace, drop}
 
 -- the verdict as a plain value

@@ -1,4 +1,5 @@
--- The words of the contracts of a compaction, those of the crates below among them, so that a file asks for them once.
+-- The words of the contracts of a compaction, those of the crates below among them, so that a file
+-- asks for them once.
 pub use Rattle.sst_entries.specs.Entry.{Entry}
 pub use Rattle.sst_entries.specs.Key.{same_key}
 pub use Rattle.sst_entries.specs.Stream.{CanDeal, Deals, answer_stops, nowhere}
@@ -9,5 +10,10 @@ pub use Rattle.lsm_sorted.specs.Hears.{Hears}
 pub use Rattle.lsm_sorted.specs.Verdicts.{said, verdict_of}
 pub use Rattle.lsm_sorted.specs.Compaction.{Verdict, goes, keep, reports_by, told_by, zeroed}
 pub use Rattle.lsm_sorted.specs.Compacting.{GetsAll}
-pub use Rattle.lsm_sorted.specs.CompactionState.{Compacts, CompactsHeard, CompactsNext, CompactsWhole, DealsKept, DealsOuts, DrainsIn, DrainsKey, Filters, GivesOuts, MayCompact, Settles, SettlesIn, callback_of, compaction_outlook, compaction_size, failure, filter_of, rules_of, source_of}
+pub use Rattle.lsm_sorted.specs.CompactionState.{Compacts, CompactsHeard, CompactsNext}
+pub use Rattle.lsm_sorted.specs.CompactionState.{CompactsWhole, DealsKept, DealsOuts, DrainsIn}
+pub use Rattle.lsm_sorted.specs.CompactionState.{DrainsKey, Filters, GivesOuts, MayCompact, Settles}
+pub use Rattle.lsm_sorted.specs.CompactionState.{SettlesIn, callback_of, compaction_outlook}
+pub use Rattle.lsm_sorted.specs.CompactionState.{compaction_size, failure, filter_of, rules_of}
+pub use Rattle.lsm_sorted.specs.CompactionState.{source_of}
 pub use Rattle.lsm_sorted.specs.ReadLaw.{PartLaw, ReadLaw, StaysStrict}

@@ -1,6 +1,6 @@
-//! Merging, newest versions and compaction, and with `lsm_ranges` key ranges and runs of tables: everything that works on
-//! sorted entries, whatever table they come from. It passes on what `lsm_ranges` exports, and of `lsm_merge`
-//! all but `Ends`.
+//! Merging, newest versions and compaction, and with `lsm_ranges` key ranges and runs of tables:
+//! everything that works on sorted entries, whatever table they come from. It passes on what
+//! `lsm_ranges` exports, and of `lsm_merge` all but `Ends`.
 #![tactic(auto)]
 
 mod ahead;
@@ -15,4 +15,4 @@ pub use gap::up_to_gap;
 pub use lsm_merge::{IntervalHeap, Merger, Tournament, from_both_ends};
 pub use lsm_ranges::{Indexed, KeyRange, Ranged, Run, optimize_runs, overlap_chain};
 pub use mvcc_stream::MvccStream;
-pub use newest::{newest_from_both_ends, newest_of};
+pub use newest::{NewestOf, newest_from_both_ends, newest_of};

@@ -5,7 +5,8 @@ ghost use Rattle.sst_entries.specs.Stream.{CanDeal, nowhere};
 ghost use Rattle.sst_entries.specs.declared.stream.Direction.TheVariants.{Front, Back};
 ghost use Rattle.sst_entries.specs.Key.{same_key, key_lt};
 ghost use Rattle.lsm_sorted.specs.Newest.{front_step, back_step};
-ghost use Rattle.lsm_sorted.specs.Mvcc.{MayStep, StepsAt, AnswersSteps, DealsSteps, DealsNewestOf, CanStep, mvcc_size, mvcc_outlook, read_from};
+ghost use Rattle.lsm_sorted.specs.Mvcc.{MayStep, StepsAt, AnswersSteps, DealsSteps, DealsNewestOf};
+ghost use Rattle.lsm_sorted.specs.Mvcc.{CanStep, mvcc_size, mvcc_outlook, read_from};
 ghost use Rattle.lsm_sorted.specs.Outlook.{before_any};
 
 use crate::give_up::give_up;
@@ -26,13 +27,14 @@ fn has_lower_key<A: Allocator>(x: &InternalValue<A>, y: &InternalValue<A>) -> bo
     x.key.user_key < y.key.user_key
 }
 
-/// Gives the newest version of each key, from the front, and from both ends where what it reads from has two.
+/// Gives the newest version of each key, from the front, and from both ends where what it reads
+/// from has two.
 ///
 /// The entries come by key upward, and the versions of a key from the newest down. Tombstones are
 /// given like values. An error is passed on in the place where it stands, and the version that it
 /// interrupts is given up: at the front the one before it, at the back the stretch of its key after
-/// it. A step looks at each version of its key once. Between steps at most one entry is held at each
-/// end, and in a step one more.
+/// it. A step looks at each version of its key once. Between steps at most one entry is held at
+/// each end, and in a step one more.
 #[derive(Drop)]
 pub struct MvccStream<I: Iterator> {
     inner: Peeked<I>,

@@ -4,17 +4,15 @@ ghost use Rattle.sst_entries.specs.declared.error.Error.TheVariants.{OutOfMemory
 ghost use Rattle.lsm_tables.specs.Words.{CanDeal, Faults, FitsAsTables, IsWritable, ReadsOf};
 ghost use Rattle.lsm_tables.specs.Words.{chain_fault, highest_seqno, lift};
 
-use crate::{Reads, RunReader, Timestamp, read_run, write_run};
-use lsm_merge::Merger;
-use lsm_sorted::MvccStream;
+use crate::{NewestOfRuns, Reads, Timestamp, read_run, write_run};
 use lsm_writers::TableIds;
 use sst_blocks::{Error, InternalValue, SeqNo, UserKey};
 use std::alloc::Allocator;
 use std::ops::Bound;
 
-/// What a point read and a range of a list give once it was written as a run and opened; `None` where the list has no entry.
-/// The contracts of writing, opening and reading runs alone say that it is the list. Refused as [`write_run`] with
-/// ids from 1 on.
+/// What a point read and a range of a list give once it was written as a run and opened; `None`
+/// where the list has no entry. The contracts of writing, opening and reading runs alone say that
+/// it is the list. Refused as [`write_run`] with ids from 1 on.
 pub fn read_run_back<A: Allocator + Clone>(
     alloc: A,
     items: Vec<InternalValue<A>, A>,
@@ -25,20 +23,20 @@ pub fn read_run_back<A: Allocator + Clone>(
     range: (Bound<UserKey<A>>, Bound<UserKey<A>>),
 ) -> Result<Option<Reads<A>>, Error>
     requires { IsWritable items.items }
-    // The first match of the key, and from both ends the newest version of each key within the bounds, of the list, lifted.
-    ensures list { let gives = ⟦<MvccStream<Merger<RunReader<A>, A>> as Iterator>⟧.next_gives in
-        let back_gives =
-        ⟦<MvccStream<Merger<RunReader<A>, A>> as DoubleEndedIterator>⟧.next_back_gives in
+    // The first match of the key, and from both ends the newest version of each key within the
+    // bounds, of the list, lifted.
+    ensures list { let gives = ⟦<NewestOfRuns<A> as Iterator>⟧.next_gives in
+        let back_gives = ⟦<NewestOfRuns<A> as DoubleEndedIterator>⟧.next_back_gives in
         IfOk result (λ r. MatchOption r (items.items ≡ [])
         (ReadsOf gives back_gives key.now seqno range.0 range.1 (lift items.items global_seqno))) }
     // Where the list has no entry, there is no answer.
     ensures none { IfOk result (λ r. IfSome r (λ _. items.items ≡ [] → ⊥)) }
     // Both ends of the range may be asked however often.
     ensures can { IfOk result (λ r. IfSome r (λ read.
-        CanDeal ⟦<MvccStream<Merger<RunReader<A>, A>> as Iterator>⟧.next_gives
-        ⟦<MvccStream<Merger<RunReader<A>, A>> as DoubleEndedIterator>⟧.next_back_gives
-        ⟦<MvccStream<Merger<RunReader<A>, A>> as Iterator>⟧.can_next
-        ⟦<MvccStream<Merger<RunReader<A>, A>> as DoubleEndedIterator>⟧.can_next_back read.1)) }
+        CanDeal ⟦<NewestOfRuns<A> as Iterator>⟧.next_gives
+        ⟦<NewestOfRuns<A> as DoubleEndedIterator>⟧.next_back_gives
+        ⟦<NewestOfRuns<A> as Iterator>⟧.can_next
+        ⟦<NewestOfRuns<A> as DoubleEndedIterator>⟧.can_next_back read.1)) }
     // Memory aside, the refusal is that of writing and opening the list: reading refuses nothing.
     ensures refused { Faults result
         (chain_fault (Some 1) target_size 0 items.items global_seqno) }

@@ -1,6 +1,6 @@
 //! Tables and runs of tables. Here stand the whole ways, from a list to what is read of it; what
-//! `lsm_readers`, `lsm_runs` and `lsm_compactions` export is passed on, all but `share`, which copies
-//! a bound.
+//! `lsm_readers`, `lsm_runs` and `lsm_compactions` export is passed on, all but `share`, which
+//! copies a bound.
 #![tactic(auto)]
 
 mod chain;
@@ -21,7 +21,8 @@ pub use lsm_readers::{
     PinnedBlockIndex, Query, Scanner, Table, TableId, TableInner, Timestamp, TreeId,
     TwoLevelBlockIndex, VolatileBlockIndex, get_many, point_in,
 };
-pub use lsm_runs::{RunReader, RunScanner, get_runs, get_runs_counted, range_runs};
+pub use lsm_runs::{NewestOfRuns, RunReader, RunScanner, get_runs, get_runs_counted, range_runs};
+pub use lsm_sorted::compaction::Rules;
 pub use one_answer::{PointAndScan, Ranges, read_each_way};
 pub use part::compact_part_back;
 pub use reads::{Reads, read_run};

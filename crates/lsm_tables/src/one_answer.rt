@@ -52,13 +52,15 @@ fn read_and_scan<A: Allocator + Clone>(
     Ok((found, table.scan()?))
 }
 
-/// What each read of a table gives: what a point read finds, beside a scan of all; and the entries within two bounds, beside all
-/// entries, both from both ends.
+/// What each read of a table gives: what a point read finds, beside a scan of all; and the entries
+/// within two bounds, beside all entries, both from both ends.
 ///
-/// Of a table of a list these are the list's, its numbers lifted by the global number, and nothing else of the table has a say
-/// in it: whichever index and filter it was written with, in one block or in partitions, whichever of their blocks stay loaded,
-/// of whichever sizes its blocks are and in whichever version it is stored. So two tables of one list answer alike. Where the
-/// list has an entry it is refused [`Error::OutOfMemory`] alone; other tables as [`Table::get`], or else [`Table::scan`], is.
+/// Of a table of a list these are the list's, its numbers lifted by the global number, and nothing
+/// else of the table has a say in it: whichever index and filter it was written with, in one block
+/// or in partitions, whichever of their blocks stay loaded, of whichever sizes its blocks are and
+/// in whichever version it is stored. So two tables of one list answer alike. Where the list has an
+/// entry it is refused [`Error::OutOfMemory`] alone; other tables as [`Table::get`], or else
+/// [`Table::scan`], is.
 pub fn read_each_way<A: Allocator + Clone>(
     table: &Table<A>,
     key: &[u8],
@@ -73,7 +75,8 @@ pub fn read_each_way<A: Allocator + Clone>(
         ReadsList es g key.now seqno read.0.0 read.0.1
         × DealsWithin gives back_gives lower upper es g read.1.0
         × DealsAll gives back_gives es g read.1.1) }
-    // Whatever the table's bytes are, the refusal is that of the point read, or else of the scan, memory aside.
+    // Whatever the table's bytes are, the refusal is that of the point read, or else of the scan,
+    // memory aside.
     ensures refused { Faults result (reads_fault table.now key.now seqno) }
     // Where the list has an entry, it is refused for want of memory alone.
     ensures err { (es : List Entry) → IsTable table.now.bytes es → (es ≡ [] → ⊥) →

@@ -10,10 +10,11 @@ use lsm_writers::{TableId, Timestamp, write_list};
 use sst_blocks::{Error, InternalValue, SeqNo};
 use std::alloc::Allocator;
 
-/// Writes a list as one table of the first level, as [`write_list`], and opens it; `None` where the list has no entry.
+/// Writes a list as one table of the first level, as [`write_list`], and opens it; `None` where the
+/// list has no entry.
 ///
-/// Refused with the first fault of writing, [`Error::GlobalSeqNoTooLarge`] where the highest number plus `global_seqno` passes
-/// `u64`, and [`Error::OutOfMemory`].
+/// Refused with the first fault of writing, [`Error::GlobalSeqNoTooLarge`] where the highest number
+/// plus `global_seqno` passes `u64`, and [`Error::OutOfMemory`].
 pub fn write_and_open<A: Allocator + Clone>(
     alloc: A,
     id: TableId,
@@ -37,8 +38,9 @@ pub fn write_and_open<A: Allocator + Clone>(
     }
 }
 
-/// What a point read and a scan of a list give once it was written and opened; `None` where the list has no entry. The
-/// contracts of writing, opening and reading alone say that it is the list. Refused as [`write_and_open`].
+/// What a point read and a scan of a list give once it was written and opened; `None` where the
+/// list has no entry. The contracts of writing, opening and reading alone say that it is the list.
+/// Refused as [`write_and_open`].
 pub fn read_back<A: Allocator + Clone>(
     alloc: A,
     items: Vec<InternalValue<A>, A>,

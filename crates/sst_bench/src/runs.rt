@@ -5,7 +5,7 @@ ghost use Rattle.std.specs.Prelude.{◌≡◌, ◌++◌, IfOk, IsPermutation, On
 ghost use Rattle.std.specs.Arc.{arc_value};
 ghost use Rattle.lsm_writers.specs.Writing.{IsWritable};
 ghost use Rattle.lsm_compactions.specs.Compacted.{AreCompactable};
-ghost use Rattle.sst_bench.specs.Runs.{HasList};
+ghost use Rattle.lsm_compactions.specs.ListRuns.{HasList};
 
 use crate::builds::{Written, first_item};
 use crate::compactions::written_of;

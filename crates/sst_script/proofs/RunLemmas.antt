@@ -15,11 +15,11 @@ use Rattle.sst_entries.specs.Stream.{nowhere, ok_results}
 use Rattle.sst_entries.proofs.FrontLemmas.{deals_in_front}
 use Rattle.lsm_files.specs.Chunks.{joined}
 use Rattle.lsm_merge.specs.Union.{all_entries, newest, union_of}
+use Rattle.lsm_merge.proofs.UnionLemmas.{ascends_in_order}
 use Rattle.lsm_readers.specs.Table.{OpenTable}
 use Rattle.lsm_runs.specs.RunLists.{DealsList, RunsHoldLists}
 use Rattle.lsm_runs.specs.SeveralRuns.{union_in}
 use Rattle.lsm_compactions.proofs.CompactedBack.{lift_zero}
-use Rattle.lsm_runs.proofs.Unions.{sorted}
 use Rattle.sst_script.specs.Runs.{Run, has_entry, repeats, run_tables, union}
 use Rattle.sst_script.proofs.EntryLemmas.{has_entry_found, has_number}
 
@@ -34,8 +34,8 @@ runs_held [] = tt
 runs_held (r ∷ rs) = ((r.is.order, r.is.hold), runs_held rs)
 
 all_same : (rs : List Run)
-    → map (λ (ls : List (List Entry)). ok_results (joined ls)) (lists_of rs)
-    ≡ map (λ (r : Run). ok_results r.list) rs
+    → map (λ (ls : List (List Entry)). ok_results (joined ls)) (lists_of rs) ≡ map
+    (λ (r : Run). ok_results r.list) rs
 all_same [] = refl
 all_same (r ∷ rs) =
     let same : joined r.is.lists ≡ r.list = r.is.whole ∙ lift_zero r.list in
@@ -59,8 +59,7 @@ module _ (rs : List Run) (ts : List (List OpenTable)) (same : run_tables rs ≡ 
   -- a range of them deals the newest of what lies within the bounds
   pub range_deals : {S : Type 0} (front back : S → Option (Result Entry Error) → S → Type 0) (s : S)
       (low high from to : Bound (List ℕ)) → low ≡ from → high ≡ to
-      → ((lists : List (List (List Entry))) → RunsHoldLists ts lists
-      → DealsList front back (newest (within low high (union_in lists))) s)
+      → ((lists : List (List (List Entry))) → RunsHoldLists ts lists → DealsList front back (newest (within low high (union_in lists))) s)
       → DealsList front nowhere (newest (within from to (union rs))) s
   range_deals {S} front back s low high from to low_is high_is deals =
       let Deal : List Entry → Bound (List ℕ) → Bound (List ℕ) → Type 0 = λ es l h. DealsList front back (newest (within l h es)) s in
@@ -76,7 +75,7 @@ pub number_gives : (rs : List Run) (key : List ℕ) (n : ℕ) (found : Option En
     → b ≡ has_number n found → Gives (λ (x : Bool). x) (Ok b) (Ok (has_entry (union rs) key n))
 number_gives rs key n found b told is =
     let first : point (union rs) key (n + 1) ≡ found = cc in
-    let has : has_entry (union rs) key n ≡ b = has_entry_found (union rs) key n (sorted (all_entries (map (λ (r : Run). ok_results r.list) rs))) ∙ ap (has_number n) first ∙ sym is in
+    let has : has_entry (union rs) key n ≡ b = has_entry_found (union rs) key n (ascends_in_order (all_entries (map (λ (r : Run). ok_results r.list) rs))) ∙ ap (has_number n) first ∙ sym is in
     ap (λ (x : Bool). Ok x) has
 
 -- a refusal for want of memory

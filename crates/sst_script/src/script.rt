@@ -19,6 +19,7 @@ use crate::runs::{is_repeated, newest_answer, newest_entries, share_all};
 use lsm_compactions::{compact_to_run, pack_runs};
 use lsm_ranges::Run;
 use lsm_readers::{Table, Timestamp};
+use lsm_sorted::compaction::Rules;
 use lsm_writers::TableIds;
 use sst_blocks::SeqNo;
 use sst_commands::{
@@ -259,12 +260,15 @@ impl<A: Allocator + Clone> Script<A> {
             (kept_by watermark evict zero before) result
             (store self.new.pending after self.new.ids))) }
     {
+        let rules = Rules {
+            watermark,
+            evict,
+            zeroing: zero,
+        };
         let (run, next_ids) = compact_to_run(
             self.alloc.clone()?,
             &self.runs,
-            watermark,
-            evict,
-            zero,
+            rules,
             self.ids,
             TARGET_SIZE,
             Timestamp::from(0),

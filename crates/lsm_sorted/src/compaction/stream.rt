@@ -1,5 +1,6 @@
 //! A stream of entries that leaves out what no reader needs.
-ghost use Rattle.std.specs.Prelude.{◌≡◌, ◌≤◌, nat_lt, Bool, false, List, Some, None, Result, Ok, IfOk};
+ghost use Rattle.std.specs.Prelude.{◌≡◌, ◌≤◌, nat_lt, Bool, false, List, Some, None, Result, Ok};
+ghost use Rattle.std.specs.Prelude.{IfOk};
 ghost use Rattle.std.specs.Iterator.{at_most, IsFinite};
 ghost use Rattle.lsm_sorted.specs.Words.{CanDeal, Compacts, CompactsHeard, CompactsNext};
 ghost use Rattle.lsm_sorted.specs.Words.{CompactsWhole, Deals, DealsKept, DealsOuts, DrainsIn};
@@ -115,7 +116,7 @@ impl<I: Iterator<Item = IterItem<A>>, A: Allocator> CompactionStream<I, NoFilter
 }
 
 impl<I: Iterator<Item = IterItem<A>>, F, C, A: Allocator> CompactionStream<I, F, C> {
-    /// The same stream with this filter in place of its own.
+    /// The stream with this filter in place of its own.
     pub fn with_filter<NF>(self, filter: NF) -> CompactionStream<I, NF, C>
     where
         F: Drop,
@@ -142,7 +143,7 @@ impl<I: Iterator<Item = IterItem<A>>, F, C, A: Allocator> CompactionStream<I, F,
         }
     }
 
-    /// The same stream with this callback in place of its own.
+    /// The stream with this callback in place of its own.
     pub fn with_drop_callback<NC>(self, callback: NC) -> CompactionStream<I, F, NC>
     where
         C: Drop,
@@ -161,7 +162,7 @@ impl<I: Iterator<Item = IterItem<A>>, F, C, A: Allocator> CompactionStream<I, F,
         }
     }
 
-    /// The same stream, which lets a tombstone go where no older version of its key follows, or
+    /// The stream, which now lets a tombstone go where no older version of its key follows, or
     /// keeps every such tombstone. A tombstone may go only where nothing older lies elsewhere.
     pub fn evict_tombstones(mut self, b: bool) -> Self
         ensures source { source_of result ≡ source_of self }
@@ -178,7 +179,7 @@ impl<I: Iterator<Item = IterItem<A>>, F, C, A: Allocator> CompactionStream<I, F,
         self
     }
 
-    /// The same stream, which gives numbers below the threshold as 0, or every number as it is.
+    /// The stream, which now gives numbers below the threshold as 0, or every number as it is.
     /// A small number takes less space where numbers are stored with a varying length.
     pub fn zero_seqnos(mut self, b: bool) -> Self
         ensures source { source_of result ≡ source_of self }
@@ -219,7 +220,8 @@ fn has_key_of<A: Allocator>(x: &InternalValue<A>, head: &InternalValue<A>) -> bo
     x.key.user_key == head.key.user_key
 }
 
-// The head as a verdict leaves it, or none where the verdict drops it. A head that is changed or dropped is reported.
+// The head as a verdict leaves it, or none where the verdict drops it. A head that is changed or
+// dropped is reported.
 fn apply_verdict<C: DroppedKvCallback<A>, A: Allocator>(
     callback: &mut C,
     mut head: InternalValue<A>,
@@ -329,7 +331,8 @@ impl<
         goes
     }
 
-    // Reports this version and the older ones that are next, and says whether the head goes, which hides them.
+    // Reports this version and the older ones that are next, and says whether the head goes, which
+    // hides them.
     #[inline(never)]
     fn drain_hidden(
         &mut self,
@@ -438,14 +441,14 @@ impl<
     C: DroppedKvCallback<A> + Drop,
     A: Allocator,
 > CompactionStream<I, F, C> {
-    /// What a stream does over a whole list, from now until it answers `None`: what it gives is what
-    /// the verdicts of its filter let of each key, the filter is asked of nothing but the heads that
-    /// are no tombstones, and the callback receives exactly what is reported. Every call leaves a
-    /// stream that may be called again. The call does nothing: its contract says so.
+    /// What a stream does over a whole list, from now until it answers `None`: what it gives is
+    /// what the verdicts of its filter let of each key, the filter is asked of nothing but the
+    /// heads that are no tombstones, and the callback receives exactly what is reported. Every call
+    /// leaves a stream that may be called again. The call does nothing: its contract says so.
     pub fn whole_run(&self)
         ensures gives { CompactsWhole I.next_gives
             ⟦<CompactionStream<I, F, C> as Iterator>⟧.next_gives self.now F.gives C.gets }
-        // The same of a stream before any call, whatever its source gives, refusals too.
+        // Before any call, it does so whatever its source gives, refusals too.
         ensures heard { CompactsHeard I.next_gives
             ⟦<CompactionStream<I, F, C> as Iterator>⟧.next_gives self.now F.gives C.gets }
         ensures can { MayCompact I.next_gives I.can_next I.remaining self.now →
@@ -476,11 +479,11 @@ impl<
 /// The laws of what is kept.
 ///
 /// A reader whose bound is the watermark or above, or above every version of its key, sees the same
-/// of every key in what is kept of a sorted list as in the list, whatever is evicted and zeroed. Of a
-/// list in which each entry comes before the next by key, or by number downward, what is kept is such
-/// a list again. And where a part of the entries is compacted and others stay, a reader whose bound
-/// is the watermark or above sees the same in both together, if nothing is evicted or zeroed and the
-/// part has no weak tombstone, or if of each key all others are newer than the part.
+/// of every key in what is kept of a sorted list as in the list, whatever is evicted and zeroed. Of
+/// a list in which each entry comes before the next by key, or by number downward, what is kept is
+/// such a list again. And where a part of the entries is compacted and others stay, a reader whose
+/// bound is the watermark or above sees the same in both together, if nothing is evicted or zeroed
+/// and the part has no weak tombstone, or if of each key all others are newer than the part.
 ///
 /// The call does nothing: its contract says so.
 pub fn read_law()

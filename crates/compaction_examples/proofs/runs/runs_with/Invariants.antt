@@ -1,6 +1,6 @@
 use Rattle.std.specs.Prelude.{map}
 use Rattle.std.specs.Arc.{arc_value}
-use Rattle.compaction_examples.specs.Runs.{HaveAll}
+use Rattle.lsm_compactions.specs.ListRuns.{HaveAll}
 use Rattle.compaction_examples.proofs.runs.runs_with.Given as goal
 
 abbrev pub invariant-loop-rows : goal.invariant-loop-rows

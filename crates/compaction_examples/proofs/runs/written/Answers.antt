@@ -1,7 +1,7 @@
 use Rattle.std.proofs.Common.{sym, subst}
 use Rattle.lsm_readers.specs.Answer.{lift}
-use Rattle.compaction_examples.specs.Runs.{HasList}
-use Rattle.compaction_examples.proofs.Compactable.{of_cut}
+use Rattle.lsm_compactions.specs.ListRuns.{HasList}
+use Rattle.lsm_compactions.proofs.ListRuns.{of_cut}
 use Rattle.compaction_examples.proofs.runs.written.Goals as goal
 
 pub returns-in_ok-new-in-Some : goal.returns-in_ok-new-in-Some

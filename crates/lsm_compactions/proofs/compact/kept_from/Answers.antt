@@ -1,6 +1,6 @@
 use Rattle.std.proofs.Common.{◌∙◌, ap}
 use Rattle.sst_entries.specs.Stream.{nowhere, ok_results}
-use Rattle.lsm_sorted.specs.Compaction.{Rules}
+use Rattle.lsm_sorted.specs.declared.compaction.Rules.{Rules}
 use Rattle.lsm_runs.specs.SeveralRuns.{union_in}
 use Rattle.lsm_compactions.proofs.Scanners.{compacted_deals, may_still, merged_together}
 use Rattle.lsm_compactions.proofs.compact.kept_from.Goals as goal
@@ -12,8 +12,8 @@ returns-clause-can g c can finite =
 
 pub returns-clause-list : goal.returns-clause-list
 returns-clause-list g c lists together =
-    let evict = c.args.evict_tombstones in
-    let zeroing = c.args.zero_seqnos in
+    let evict = c.args.rules.evict in
+    let zeroing = c.args.rules.zeroing in
     compacted_deals _ _ c.zero_seqnos-stream.result c.new-2.result _ (union_in lists)
     (c.zero_seqnos-stream.ensures.source ∙ c.evict_tombstones.ensures.source)
     (c.zero_seqnos-stream.ensures.rules

@@ -10,17 +10,19 @@ use Rattle.sst_entries.proofs.Refusals.{faults_refusal}
 use Rattle.lsm_writers.specs.Tables.{ids_fault, new_tables}
 use Rattle.lsm_writers.proofs.Refused.{memory_alone}
 use Rattle.lsm_compactions.specs.Chain.{run_label, tables_fault, writes_fault}
-use Rattle.lsm_compactions.specs.Compacted.{kept_in, rules_by}
+use Rattle.lsm_compactions.specs.Compacted.{kept_in}
 use Rattle.lsm_runs.specs.SeveralRuns.{union_in}
-use Rattle.lsm_compactions.proofs.CompactedBack.{as_written, compactable_again, fits_by, new_fault, small_numbers}
+use Rattle.lsm_compactions.proofs.CompactedBack.{as_written, compactable_again, fits_by, new_fault}
+use Rattle.lsm_compactions.proofs.CompactedBack.{small_numbers}
 use Rattle.lsm_compactions.proofs.Keeping.{stays_writable}
-use Rattle.lsm_compactions.proofs.RunWriting.{memory_faults, wants}
+use Rattle.lsm_writers.proofs.Refused.{faults_memory}
+use Rattle.lsm_compactions.proofs.RunWriting.{wants}
 use Rattle.lsm_compactions.proofs.compacted_run.compact_to_run.Goals as goal
 
 pub returns-in_err-writer-clause-refused : goal.returns-in_err-writer-clause-refused
 returns-in_err-writer-clause-refused g c lists held =
     let a = c.args in
-    let left = kept_in (rules_by a.gc_seqno_threshold a.evict_tombstones a.zero_seqnos) lists in
+    let left = kept_in a.rules lists in
     let r = c.from_residual-in_err-writer in
     faults_refusal r.result c.in_err-writer.field-0.0 (tables_fault a.ids a.target_size a.created_at left) r.ensures.1
     (λ memory. ap (λ (x : Option Error). option_or x (writes_fault (new_tables a.ids a.target_size 0 a.created_at) left)) (c.in_err-writer.ensures.refused memory))
@@ -34,7 +36,7 @@ returns-in_err-writer-clause-taken g c lists held fits =
 pub returns-in_err-tables-clause-refused : goal.returns-in_err-tables-clause-refused
 returns-in_err-tables-clause-refused g c lists held =
     let a = c.args in
-    let left = kept_in (rules_by a.gc_seqno_threshold a.evict_tombstones a.zero_seqnos) lists in
+    let left = kept_in a.rules lists in
     let r = c.from_residual-in_err-tables in
     faults_refusal r.result c.in_err-tables.field-0.0 (tables_fault a.ids a.target_size a.created_at left) r.ensures.1
     (λ memory. new_fault a.ids a.target_size a.created_at left c.in_ok-writer.writer c.in_ok-writer.ensures.ok c.in_ok-writer.ensures.refused ∙ c.in_err-tables.ensures.refused lists held memory)
@@ -42,7 +44,7 @@ returns-in_err-tables-clause-refused g c lists held =
 pub returns-in_err-tables-clause-taken : goal.returns-in_err-tables-clause-taken
 returns-in_err-tables-clause-taken g c lists held fits =
     let a = c.args in
-    let left = kept_in (rules_by a.gc_seqno_threshold a.evict_tombstones a.zero_seqnos) lists in
+    let left = kept_in a.rules lists in
     let r = c.from_residual-in_err-tables in
     wants r.result c.in_err-tables.field-0.0 r.ensures.1
     (c.in_err-tables.ensures.taken lists held (fits_by a.ids a.target_size a.created_at left c.in_ok-writer.writer c.in_ok-writer.ensures.ok fits))
@@ -50,19 +52,19 @@ returns-in_err-tables-clause-taken g c lists held fits =
 pub returns-in_err-run_of_tables-clause-refused : goal.returns-in_err-run_of_tables-clause-refused
 returns-in_err-run_of_tables-clause-refused g c lists held =
     let a = c.args in
-    let rules = rules_by a.gc_seqno_threshold a.evict_tombstones a.zero_seqnos in
+    let rules = a.rules in
     let left = kept_in rules c.requires.lists in
     let w = as_written a.ids a.target_size a.created_at left c.in_ok-writer.writer c.in_ok-tables.tables.items c.in_ok-tables.left c.in_ok-writer.ensures.ok c.in_ok-writer.ensures.refused (c.in_ok-tables.ensures.tables c.requires.lists c.requires.hold) in
     let small = small_numbers left (stays_writable rules (union_in c.requires.lists) c.requires.writable).numbered in
     let r = c.from_residual-in_err-run_of_tables in
     let e = c.in_err-run_of_tables.field-0.0 in
     let memory = c.in_err-run_of_tables.ensures.taken a.ids a.target_size a.created_at left c.in_ok-tables.left w small in
-    memory_faults r.result e _ r.ensures.1 memory
+    faults_memory r.result e _ r.ensures.1 memory
 
 pub returns-in_err-run_of_tables-clause-taken : goal.returns-in_err-run_of_tables-clause-taken
 returns-in_err-run_of_tables-clause-taken g c lists held fits =
     let a = c.args in
-    let rules = rules_by a.gc_seqno_threshold a.evict_tombstones a.zero_seqnos in
+    let rules = a.rules in
     let left = kept_in rules c.requires.lists in
     let w = as_written a.ids a.target_size a.created_at left c.in_ok-writer.writer c.in_ok-tables.tables.items c.in_ok-tables.left c.in_ok-writer.ensures.ok c.in_ok-writer.ensures.refused (c.in_ok-tables.ensures.tables c.requires.lists c.requires.hold) in
     let small = small_numbers left (stays_writable rules (union_in c.requires.lists) c.requires.writable).numbered in
@@ -73,21 +75,21 @@ returns-in_err-run_of_tables-clause-taken g c lists held fits =
 pub returns-clause-run : goal.returns-clause-run
 returns-clause-run g c lists held =
     let a = c.args in
-    let left = kept_in (rules_by a.gc_seqno_threshold a.evict_tombstones a.zero_seqnos) lists in
+    let left = kept_in a.rules lists in
     let w = as_written a.ids a.target_size a.created_at left c.in_ok-writer.writer c.in_ok-tables.tables.items c.in_ok-tables.left c.in_ok-writer.ensures.ok c.in_ok-writer.ensures.refused (c.in_ok-tables.ensures.tables lists held) in
     c.in_ok-run_of_tables.ensures.run a.ids a.target_size a.created_at left c.in_ok-tables.left w
 
 pub returns-clause-cut : goal.returns-clause-cut
 returns-clause-cut g c lists held =
     let a = c.args in
-    let left = kept_in (rules_by a.gc_seqno_threshold a.evict_tombstones a.zero_seqnos) lists in
+    let left = kept_in a.rules lists in
     let w = as_written a.ids a.target_size a.created_at left c.in_ok-writer.writer c.in_ok-tables.tables.items c.in_ok-tables.left c.in_ok-writer.ensures.ok c.in_ok-writer.ensures.refused (c.in_ok-tables.ensures.tables lists held) in
     c.in_ok-run_of_tables.ensures.cut a.ids a.target_size a.created_at left c.in_ok-tables.left w
 
 pub returns-clause-ids : goal.returns-clause-ids
 returns-clause-ids g c =
     let a = c.args in
-    let left = kept_in (rules_by a.gc_seqno_threshold a.evict_tombstones a.zero_seqnos) c.requires.lists in
+    let left = kept_in a.rules c.requires.lists in
     let w = as_written a.ids a.target_size a.created_at left c.in_ok-writer.writer c.in_ok-tables.tables.items c.in_ok-tables.left c.in_ok-writer.ensures.ok c.in_ok-writer.ensures.refused (c.in_ok-tables.ensures.tables c.requires.lists c.requires.hold) in
     c.in_ok-run_of_tables.ensures.ids a.ids a.target_size a.created_at left c.in_ok-tables.left w
 
@@ -95,19 +97,19 @@ pub returns-clause-able : goal.returns-clause-able
 returns-clause-able g c =
     let a = c.args in
     let able = c.requires in
-    let rules = rules_by a.gc_seqno_threshold a.evict_tombstones a.zero_seqnos in
+    let rules = a.rules in
     compactable_again (run_label a.ids a.target_size a.created_at) a.target_size (kept_in rules able.lists) c.in_ok-run_of_tables.field-0 (stays_writable rules (union_in able.lists) able.writable)
     (returns-clause-run g c able.lists able.hold) (returns-clause-cut g c able.lists able.hold)
 
 pub returns-clause-refused : goal.returns-clause-refused
 returns-clause-refused g c lists held =
     let a = c.args in
-    let left = kept_in (rules_by a.gc_seqno_threshold a.evict_tombstones a.zero_seqnos) lists in
+    let left = kept_in a.rules lists in
     new_fault a.ids a.target_size a.created_at left c.in_ok-writer.writer c.in_ok-writer.ensures.ok c.in_ok-writer.ensures.refused ∙ c.in_ok-tables.ensures.refused lists held
 
 pub returns-clause-writable : goal.returns-clause-writable
 returns-clause-writable g c lists held =
     let a = c.args in
     let able = c.requires in
-    let rules = rules_by a.gc_seqno_threshold a.evict_tombstones a.zero_seqnos in
+    let rules = a.rules in
     subst (λ (ls : List (List (List Entry))). IsWritable (kept_in rules ls)) (one_way (map arc_value a.runs.now) able.lists lists able.hold held) (stays_writable rules (union_in able.lists) able.writable)

@@ -1,11 +1,12 @@
 use Rattle.std.proofs.Common.{◌∙◌, ap, sym, subst, ℕ, length}
 use Rattle.std.specs.Prelude.{Option}
 use Rattle.lsm_compactions.specs.Chain.{FitsAsTables, both_fault, ids_behind}
-use Rattle.lsm_compactions.proofs.CompactedBack.{first_refused, fits_behind, none_refused, small_numbers, then_refused, written_run_is_compactable}
+use Rattle.lsm_compactions.proofs.CompactedBack.{first_refused, fits_behind, none_refused}
+use Rattle.lsm_compactions.proofs.CompactedBack.{small_numbers, then_refused}
+use Rattle.lsm_compactions.proofs.CompactedBack.{written_run_is_compactable}
 use Rattle.lsm_block_indexes.proofs.OnDemands.{none_of}
 use Rattle.lsm_compactions.proofs.RunWriting.{wants}
 use Rattle.lsm_sorted.specs.Compaction.{kept, unfiltered}
-use Rattle.lsm_compactions.specs.Compacted.{rules_by}
 use Rattle.sst_entries.proofs.Refusals.{faults_refusal}
 use Rattle.sst_entries.specs.Error.{Faults}
 use Rattle.lsm_tables.proofs.compacted.write_and_compact.Goals as goal
@@ -39,7 +40,7 @@ returns-clause-none g c = c.compact_alone.ensures.none c.args.items.items (rw c.
 pub returns-in_err-run-clause-refused : goal.returns-in_err-run-clause-refused
 returns-in_err-run-clause-refused g c tables are =
     let a = c.args in
-    let left = kept (rules_by a.gc_seqno_threshold a.evict_tombstones a.zero_seqnos) (unfiltered a.items.items) in
+    let left = kept a.rules (unfiltered a.items.items) in
     let r = c.from_residual-in_err-run in
     let e = c.in_err-run.field-0.0 in
     faults_refusal r.result e (both_fault a.target_size a.items.items tables left) r.ensures.1
@@ -49,7 +50,7 @@ pub returns-clause-refused : goal.returns-clause-refused
 returns-clause-refused g c tables are =
     let a = c.args in
     let run = c.in-Some.run' in
-    let left = kept (rules_by a.gc_seqno_threshold a.evict_tombstones a.zero_seqnos) (unfiltered a.items.items) in
+    let left = kept a.rules (unfiltered a.items.items) in
     let is = rw c.in-Some.is at c.in_ok-run.ensures.run in
     let cut = rw c.in-Some.is at c.in_ok-run.ensures.cut in
     let behind = rw c.in-Some.is at c.in_ok-run.ensures.ids in
@@ -59,6 +60,6 @@ returns-clause-refused g c tables are =
 pub returns-in_default-clause-refused : goal.returns-in_default-clause-refused
 returns-in_default-clause-refused g c tables are =
     let a = c.args in
-    let rules = rules_by a.gc_seqno_threshold a.evict_tombstones a.zero_seqnos in
+    let rules = a.rules in
     let none = rw (none_of c.in_ok-run.run' c.in_default.not-Some) at c.in_ok-run.ensures.run in
     none_refused c.new-ids.result a.target_size c.from-created_at.result a.items.items c.new-ids.ensures c.from-created_at.ensures rules tables none c.in_ok-run.ensures.refused are

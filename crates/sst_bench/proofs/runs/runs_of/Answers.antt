@@ -1,13 +1,17 @@
-use Rattle.std.proofs.Common.{subst}
+use Rattle.std.proofs.Common.{◌∙◌, ap, subst, List, ◌++◌}
 use Rattle.std.specs.Arc.{arc_value}
+use Rattle.sst_entries.specs.Entry.{Entry}
 use Rattle.lsm_writers.specs.Writing.{IsWritable}
-use Rattle.sst_bench.proofs.Compactable.{compactable, more_runs}
+use Rattle.lsm_compactions.proofs.ListRuns.{compactable, more_runs}
 use Rattle.sst_bench.proofs.runs.runs_of.Goals as goal
 
 pub loop-len-preserved : goal.loop-len-preserved
 loop-len-preserved c =
-    more_runs arc_value c.loop-len.all.items c.loop-len.runs.items c.in_ok-run_of.field-0 c.deref.result.now c.in_ok-items.items.items c.share_behind.new.all.items c.push.new.self.items
-    c.loop-len.invariant c.in_ok-run_of.ensures c.deref.ensures.value c.in_ok-share_behind.ensures c.in_ok-push.ensures.items
+    let es = c.loop-len.all.items in
+    let added = ap (λ (us : List Entry). es ++ us) c.deref.ensures.value in
+    more_runs arc_value es c.loop-len.runs.items c.in_ok-run_of.field-0 _
+    c.share_behind.new.all.items c.push.new.self.items c.loop-len.invariant c.in_ok-run_of.ensures
+    (c.in_ok-share_behind.ensures ∙ added) c.in_ok-push.ensures.items
 
 pub returns-then-is_writable : goal.returns-then-is_writable
 returns-then-is_writable c =

@@ -1,6 +1,6 @@
 use Rattle.std.specs.Prelude.{map}
 use Rattle.std.specs.Arc.{arc_value}
-use Rattle.sst_bench.specs.Runs.{HaveAll}
+use Rattle.lsm_compactions.specs.ListRuns.{HaveAll}
 use Rattle.sst_bench.proofs.runs.runs_of.Given as goal
 
 abbrev pub invariant-loop-len : goal.invariant-loop-len

@@ -2,7 +2,8 @@ use Rattle.std.proofs.Common.{refl, ◌∙◌, ap}
 use Rattle.std.proofs.lemmas.Result.{err_from_is_err_and}
 use Rattle.std.specs.Prelude.{Some, Ok, Err}
 use Rattle.lsm_sorted.specs.Ahead.{HoldsAhead}
-use Rattle.lsm_sorted.specs.Compaction.{Rules, goes}
+use Rattle.lsm_sorted.specs.declared.compaction.Rules.{Rules}
+use Rattle.lsm_sorted.specs.Compaction.{goes}
 use Rattle.lsm_sorted.proofs.SettleLemmas.{drains_as}
 use Rattle.lsm_sorted.proofs.CompactionHears.{hears_drained_as}
 use Rattle.lsm_sorted.proofs.compaction.stream.CompactionStream.drain_hidden.Goals as goal

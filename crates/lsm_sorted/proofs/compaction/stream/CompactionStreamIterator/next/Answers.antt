@@ -2,10 +2,15 @@ use Rattle.std.proofs.Common.{◌≡◌, refl, sym, ◌∙◌, ap, true, false, 
 use Rattle.std.specs.Prelude.{Some, Ok, Err}
 use Rattle.sst_entries.specs.Entry.{Entry}
 use Rattle.lsm_sorted.specs.Ahead.{HoldsAhead}
-use Rattle.lsm_sorted.specs.Compaction.{Rules, zeroed}
+use Rattle.lsm_sorted.specs.declared.compaction.Rules.{Rules}
+use Rattle.lsm_sorted.specs.Compaction.{zeroed}
 use Rattle.lsm_sorted.specs.CompactionState.{rules_of}
-use Rattle.lsm_sorted.proofs.GoingLemmas.{settles_along, going_along, called_along, going_first, going_dropped, called_filter_err, going_on, called_kept, called_err, called_source_err, called_none}
-use Rattle.lsm_sorted.proofs.CompactionHears.{hears_start, hears_source_err, hears_none, hears_dropped, hears_filter_err, hears_on, hears_kept, hears_settle_err}
+use Rattle.lsm_sorted.proofs.GoingLemmas.{settles_along, going_along, called_along, going_first}
+use Rattle.lsm_sorted.proofs.GoingLemmas.{going_dropped, called_filter_err, going_on, called_kept}
+use Rattle.lsm_sorted.proofs.GoingLemmas.{called_err, called_source_err, called_none}
+use Rattle.lsm_sorted.proofs.CompactionHears.{hears_start, hears_source_err, hears_none}
+use Rattle.lsm_sorted.proofs.CompactionHears.{hears_dropped, hears_filter_err, hears_on, hears_kept}
+use Rattle.lsm_sorted.proofs.CompactionHears.{hears_settle_err}
 use Rattle.lsm_sorted.proofs.compaction.stream.CompactionStreamIterator.next.Goals as goal
 
 pub loop-head-init : goal.loop-head-init

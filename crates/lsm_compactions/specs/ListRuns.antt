@@ -1,4 +1,4 @@
--- Runs that lists were written as.
+-- Runs that lists were written as, each alone and several together.
 use Rattle.std.specs.Prelude.{◌≡◌, List}
 use Rattle.std.specs.List.{AllByRecursion}
 use Rattle.sst_entries.specs.Entry.{Entry}
@@ -6,7 +6,7 @@ use Rattle.lsm_files.specs.Chunks.{joined}
 use Rattle.lsm_ranges.specs.Run.{IsInOrder}
 use Rattle.lsm_readers.specs.Table.{OpenTable}
 use Rattle.lsm_compactions.specs.Compacted.{HaveEntries}
-use Rattle.lsm_compactions.specs.ReadsCompacted.{entries_in}
+use Rattle.lsm_compactions.specs.ReadsCompacted.{joined_in}
 use Rattle.lsm_runs.specs.RunLists.{HoldLists, RunsHoldLists}
 use Rattle.lsm_runs.specs.RunParts.{range_of}
 
@@ -23,4 +23,4 @@ pub record HaveAll (es : List Entry) (runs : List (List OpenTable)) : Type 0 whe
   pub lists : List (List (List Entry))
   pub hold : RunsHoldLists runs lists
   pub some : AllByRecursion HaveEntries lists
-  pub whole : entries_in lists ≡ es
+  pub whole : joined_in lists ≡ es
