@@ -1,6 +1,6 @@
 -- Entries as a format of items: what is read is spelled so, and what is spelled so is read.
-use Rattle.std.proofs.Common.{◌≡◌, ℕ, zero, suc, ◌+◌, ◌-◌, ◌^◌, ◌<◌, ◌≤◌, Bool, true, false, cond, ltb, List, [], ◌∷◌, ◌++◌, length, get_or, take, drop, Option, Some, None, refl, sym, ap, subst, ◌∙◌, append_assoc, arith, inl, inr, eqb, ◌⊎◌}
-use Rattle.std.specs.Prelude.{option_and_then, unwrap_or, slice_index, slice_range, if◌then◌else◌}
+use Rattle.std.proofs.Common.{◌≡◌, ℕ, ◌+◌, ◌-◌, ◌^◌, ◌<◌, ◌≤◌, Bool, true, false, cond, ltb, List, [], ◌∷◌, ◌++◌, length, take, drop, Option, Some, None, refl, sym, ap, subst, ◌∙◌, append_assoc, arith, inl, inr, eqb, ◌⊎◌}
+use Rattle.std.specs.Prelude.{option_and_then, unwrap_or, slice_index, slice_range}
 use Rattle.std.specs.List.{flat_map, slice_get}
 use Rattle.std.specs.Option.{option_map}
 use Rattle.std.proofs.lemmas.Bool.{eqb-true, ltb-false, le-ltb}
@@ -17,7 +17,7 @@ use Rattle.sst_blocks.specs.Format.{Advances, IsFormat, items_in}
 use Rattle.sst_blocks.specs.Reading.{parts_at, entry_at, entries_in, key_and_number}
 pub use Rattle.sst_blocks.specs.Reading.{entry_format}
 use Rattle.sst_blocks.specs.Starts.{starts_of, EntriesAt}
-use Rattle.sst_entries.specs.Strict.{IsStrict, IsStrictAfter, is_strict_after}
+use Rattle.sst_entries.specs.Strict.{IsStrict, IsStrictAfter}
 use Rattle.sst_sections.specs.Version.{key_width, key_limit, key_len_bytes, key_len_at}
 use Rattle.sst_sections.proofs.Numbers.{IsBytes, IsBytes-drop, wide4, wide8, key_wide}
 use Rattle.sst_blocks.proofs.Items.{Here, guard_some, items_in_take, items_in_again, items_strict, item_holds, length-starts}

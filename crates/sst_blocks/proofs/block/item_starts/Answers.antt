@@ -5,7 +5,7 @@ use Rattle.sst_entries.specs.declared.error.Error.{Error}
 use Rattle.sst_entries.specs.declared.error.Error.TheVariants.{InvalidBlock}
 use Rattle.sst_entries.specs.Error.{Faults, is_memory}
 use Rattle.sst_blocks.specs.declared.block_type.BlockType.{BlockType}
-use Rattle.sst_blocks.specs.declared.block_type.BlockType.TheVariants.{Data, Index, Meta}
+use Rattle.sst_blocks.specs.declared.block_type.BlockType.TheVariants.{Data, Meta}
 use Rattle.sst_blocks.specs.Block.{has_room, has_room_for, in_grammar, grammar_fault}
 use Rattle.sst_blocks.specs.Handles.{handles_in}
 use Rattle.sst_blocks.specs.Reading.{entries_in}
