@@ -1,11 +1,11 @@
 -- Entries as a format of items: what is read is spelled so, and what is spelled so is read.
-use Rattle.std.proofs.Common.{◌≡◌, ℕ, zero, suc, ◌+◌, ◌-◌, ◌^◌, ◌<◌, ◌≤◌, Bool, true, false, cond, ltb, List, [], ◌∷◌, ◌++◌, length, get_or, take, drop, Option, Some, None, refl, sym, ap, subst, ◌∙◌, append_assoc, arith, inl, inr, eqb, ◌⊎◌}
-use Rattle.std.specs.Prelude.{option_and_then, unwrap_or, slice_index, slice_range, if◌then◌else◌}
+use Rattle.std.proofs.Common.{◌≡◌, ℕ, ◌+◌, ◌-◌, ◌^◌, ◌<◌, ◌≤◌, Bool, true, false, cond, ltb, List, [], ◌∷◌, ◌++◌, length, take, drop, Option, Some, None, refl, sym, ap, subst, ◌∙◌, append_assoc, arith, inl, inr, eqb, ◌⊎◌}
+use Rattle.std.specs.Prelude.{option_and_then, unwrap_or, slice_index, slice_range}
 use Rattle.std.specs.List.{flat_map, slice_get}
 use Rattle.std.specs.Option.{option_map}
 use Rattle.std.proofs.lemmas.Bool.{eqb-true, ltb-false, le-ltb}
 use Rattle.std.proofs.lemmas.List.{take_at, drop_at, drop-drop, take-append-drop, length-append, length-take, length-drop, drop_more, map-id, take_rest}
-use Rattle.std.proofs.lemmas.Option.{option_and_then_some, some_pair_parts, slice_get-get_or, slice_get_within, get_or_from_slice_get}
+use Rattle.std.proofs.lemmas.Option.{option_and_then_some, some_pair_parts, slice_get_within, get_or_from_slice_get}
 use Rattle.sst_sections.specs.declared.version.TableVersion.{TableVersion}
 use Rattle.sst_entries.specs.declared.value_type.ValueType.{ValueType}
 use Rattle.sst_entries.specs.declared.value_type.ValueType.TheVariants.{Value, Tombstone, WeakTombstone, Indirection}
@@ -17,7 +17,7 @@ use Rattle.sst_blocks.specs.Format.{Advances, IsFormat, items_in}
 use Rattle.sst_blocks.specs.Reading.{parts_at, entry_at, entries_in, key_and_number}
 pub use Rattle.sst_blocks.specs.Reading.{entry_format}
 use Rattle.sst_blocks.specs.Starts.{starts_of, EntriesAt}
-use Rattle.sst_entries.specs.Strict.{IsStrict, IsStrictAfter, is_strict_after}
+use Rattle.sst_entries.specs.Strict.{IsStrict, IsStrictAfter}
 use Rattle.sst_sections.specs.Version.{key_width, key_limit, key_len_bytes, key_len_at}
 use Rattle.sst_sections.proofs.Numbers.{IsBytes, IsBytes-drop, wide4, wide8, key_wide}
 use Rattle.sst_blocks.proofs.Items.{Here, guard_some, items_in_take, items_in_again, items_strict, item_holds, length-starts}
@@ -308,9 +308,3 @@ block_holds v bytes starts es i at e block view some is_at =
     let b = block_spells v bytes starts es block view in
     let h = item_holds (entry_format v) (entries_advance v) bytes starts es i at e (sym (entries_in_same v bytes) ∙ b.0) b.1 (slice_get_within es i e some) (sym (get_or_from_slice_get starts i at at is_at)) in
     stands v bytes at e (subst (Here (entry_format v) bytes at) (get_or_from_slice_get es i e e some) h)
-
-pub some_at : (es : List Entry) (i : ℕ) → i < length es → (e : Entry) × (slice_get es i ≡ Some e)
-some_at es i lt = let blank = entry [] [] 0 Value in (get_or es i blank, slice_get-get_or es i blank lt)
-
-pub whole_tail : (p bytes : List ℕ) (at : ℕ) → p ≡ bytes → take (length p - at) (drop at p) ≡ drop at bytes
-whole_tail p bytes at e = take_rest p at ∙ ap (drop at) e

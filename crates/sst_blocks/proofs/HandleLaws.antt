@@ -1,11 +1,11 @@
 -- What is read as a handle is spelled so, and what is spelled so is read.
-use Rattle.std.proofs.Common.{◌≡◌, ℕ, zero, suc, ◌+◌, ◌-◌, ◌<◌, ◌≤◌, false, cond, ltb, List, [], ◌∷◌, ◌++◌, length, get_or, take, drop, Option, Some, None, refl, sym, ap, subst, ◌∙◌, append_assoc, arith}
+use Rattle.std.proofs.Common.{◌≡◌, ℕ, ◌+◌, ◌-◌, ◌<◌, ◌≤◌, false, cond, ltb, List, [], ◌++◌, length, take, drop, Option, Some, None, refl, sym, ap, subst, ◌∙◌, append_assoc, arith}
 use Rattle.std.proofs.lemmas.Bool.{ltb-false, le-ltb}
-use Rattle.std.specs.Prelude.{option_and_then, unwrap_or, if◌then◌else◌}
+use Rattle.std.specs.Prelude.{unwrap_or}
 use Rattle.std.specs.List.{flat_map, slice_range, slice_get}
 use Rattle.std.specs.Option.{option_map}
 use Rattle.std.proofs.lemmas.List.{take_at, drop_at, take-append-drop, length-append, length-take, length-drop, drop-drop, take_rest}
-use Rattle.std.proofs.lemmas.Option.{some_pair_parts, slice_get-get_or, slice_get_within, get_or_from_slice_get}
+use Rattle.std.proofs.lemmas.Option.{some_pair_parts, slice_get_within, get_or_from_slice_get}
 use Rattle.sst_sections.specs.declared.version.TableVersion.{TableVersion}
 use Rattle.sst_blocks.specs.Handle.{Handle}
 use Rattle.sst_blocks.specs.Handles.{handle_head, handle_spelled, handles_payload, handle_at, handle_format, handles_in, IsSpellableHandle, AreSpellableHandles, AreStrictHandles, end_of}
@@ -222,8 +222,3 @@ block_holds v bytes starts hs i at h block view some is_at =
     let b = block_spells v bytes starts hs block view in
     let here = item_holds (handle_format v) (handles_advance v) bytes starts hs i at h (sym (handles_in_same v bytes) ∙ b.0) b.1 (slice_get_within hs i h some) (sym (get_or_from_slice_get starts i at at is_at)) in
     stands v bytes at h (subst (Here (handle_format v) bytes at) (get_or_from_slice_get hs i h h some) here)
-
-pub some_at : (hs : List Handle) (i : ℕ) → i < length hs → (h : Handle) × (slice_get hs i ≡ Some h)
-some_at hs i lt =
-    let blank : Handle = record { end_key = []; seqno = 0; offset = 0; size = 0 } in
-    (get_or hs i blank, slice_get-get_or hs i blank lt)

@@ -1,5 +1,5 @@
 -- Spans: one step at either end, and what a span deals.
-use Rattle.std.proofs.Common.{◌≡◌, refl, sym, ◌∙◌, ap, ℕ, zero, suc, ◌+◌, ◌-◌, ◌<◌, ◌≤◌, Bool, true, false, List, [], ◌∷◌, ◌++◌, length, take, drop, get_or, reverse, arith, inl, inr}
+use Rattle.std.proofs.Common.{◌≡◌, refl, sym, ◌∙◌, ap, ℕ, suc, ◌+◌, ◌-◌, ◌<◌, ◌≤◌, Bool, true, false, List, [], ◌∷◌, ◌++◌, length, take, drop, get_or, reverse, arith, inl, inr}
 use Rattle.std.specs.Prelude.{Option, Some, None, Result, Ok, Err, find, not, cond, IsTrue, ◌↔◌, nat_lt}
 use Rattle.std.specs.List.{slice_get, AllByRecursion}
 use Rattle.std.proofs.lemmas.List.{reverse-append, reverse-reverse, map-append, take_more, drop_more, get_or-drop, length-drop, length-take}
@@ -17,22 +17,6 @@ use Rattle.sst_entries.proofs.StreamLemmas.{deals_by, can_by}
 -- ---- fronts that pass a test
 
 module _ {X : Type 0} (p : X → Bool) where
-  cond_true : (b : Bool) (m n : ℕ) → b ≡ true → cond b m n ≡ m
-  cond_true b m n e = rw e refl
-
-  cond_false : (b : Bool) (m n : ℕ) → b ≡ false → cond b m n ≡ n
-  cond_false b m n e = rw e refl
-
-  -- a front that passes, and behind it nothing or what fails
-  pub front_length_is : (xs : List X) (n : ℕ) (d : X) → n ≤ length xs → ((i : ℕ) → i < n → p (get_or xs i d) ≡ true) → (n < length xs → p (get_or xs n d) ≡ false) → n ≡ front_length p xs
-  front_length_is [] n d le pass fail = omega (arith, le)
-  front_length_is (x ∷ xs) zero d le pass fail = sym (cond_false (p x) (1 + front_length p xs) 0 (fail (omega arith)))
-  front_length_is (x ∷ xs) (suc n) d le pass fail =
-      let here : p x ≡ true = pass 0 (omega arith) in
-      let more = front_length_is xs n d (omega (arith, le)) (λ i lt. pass (suc i) (omega (arith, lt))) (λ lt. fail (omega (arith, lt))) in
-      let e : suc n ≡ 1 + front_length p xs = omega (arith, more) in
-      e ∙ sym (cond_true (p x) (1 + front_length p xs) 0 here)
-
   cond_le : (b : Bool) (m n : ℕ) → m ≤ n → cond b (1 + m) 0 ≤ suc n
   cond_le true m n le = omega (arith, le)
   cond_le false m n le = omega arith

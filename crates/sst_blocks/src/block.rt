@@ -15,9 +15,10 @@ ghost use Rattle.sst_entries.specs.declared.error.Error.TheVariants.{OutOfMemory
 
 mod header;
 
-use crate::data_block::{entry_starts, has_entry_room};
-use crate::index_block::{handle_starts, has_handle_room};
-use crate::starts::Starts;
+use crate::data_block::{EntryRef, entry_head_len};
+use crate::index_block::{HandleRef, handle_head_len};
+use crate::reading::starts_in;
+use crate::starts::{Starts, has_room_for};
 use crate::{
     BlockHandle, BlockOffset, BlockType, CompressionType, Error, SectionWriter, Slice, TableVersion,
 };
@@ -125,8 +126,10 @@ fn item_starts<A: Allocator>(
     ensures refused { Faults result (grammar_fault version kind payload.now) }
 {
     match kind {
-        BlockType::Data | BlockType::Meta => entry_starts(alloc, version, payload, is_tested),
-        BlockType::Index => handle_starts(alloc, version, payload, is_tested),
+        BlockType::Data | BlockType::Meta => {
+            starts_in::<EntryRef<'_>, A>(alloc, version, payload, is_tested)
+        }
+        BlockType::Index => starts_in::<HandleRef<'_>, A>(alloc, version, payload, is_tested),
         BlockType::Filter => Ok(Vec::new(alloc)),
     }
 }
@@ -137,8 +140,8 @@ pub(crate) fn has_room(version: TableVersion, kind: BlockType, payload: &[u8]) -
     ensures { result ≡ has_room version kind payload.now }
 {
     match kind {
-        BlockType::Data | BlockType::Meta => has_entry_room(version, payload),
-        BlockType::Index => has_handle_room(version, payload),
+        BlockType::Data | BlockType::Meta => has_room_for(payload, entry_head_len(version)),
+        BlockType::Index => has_room_for(payload, handle_head_len(version)),
         BlockType::Filter => is_filter(payload),
     }
 }

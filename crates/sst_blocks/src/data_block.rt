@@ -20,11 +20,11 @@ mod find;
 mod iter;
 
 use crate::item::{block_bound, encode};
-use crate::reading::{front_len, item_at, key_at, starts_in};
-use crate::starts::{Starts, has_room_for};
+use crate::reading::{front_len, item_at, key_at};
+use crate::starts::Starts;
 use crate::{Block, Error, InternalValue, SeqNo, Slice, TableVersion};
-pub(crate) use entry_ref::head_len as entry_head_len;
-use entry_ref::{EntryRef, head_len};
+use entry_ref::head_len;
+pub(crate) use entry_ref::{EntryRef, head_len as entry_head_len};
 pub(crate) use find::{find_entry, share_entry};
 pub use iter::Iter;
 use sst_entries::compare_versions;
@@ -70,34 +70,6 @@ impl<A: Allocator> Clone for DataBlock<A> {
             starts: self.starts.clone()?,
         })
     }
-}
-
-/// Whether a payload has room for as many entries as it counts.
-pub(crate) fn has_entry_room(version: TableVersion, payload: &[u8]) -> bool
-    ensures { result ≡ has_room_for (13 + key_width version) payload.now }
-{
-    has_room_for(payload, head_len(version))
-}
-
-/// Where the entries of a payload begin, which has room for as many as it counts. Refused
-/// [`Error::InvalidBlock`] where the payload does not spell a strict list of entries, and
-/// [`Error::OutOfMemory`]. Where it was tested before that it does, no keys are compared.
-#[inline]
-#[tactic(auto, unfolding(crate::specs::Reading::entries_in))]
-pub(crate) fn entry_starts<A: Allocator>(
-    alloc: A,
-    version: TableVersion,
-    payload: &[u8],
-    is_tested: bool,
-) -> Result<Vec<u32, A>, Error>
-    requires short { length payload.now < 2 ^ 32 }
-    requires room { has_room_for (13 + key_width version) payload.now ≡ true }
-    requires tested { IsTrue is_tested → is_some (entries_in version payload.now) ≡ true }
-    ensures found { IfOk result (λ starts. EntriesAt version payload.now starts.items) }
-    ensures fault { IfErr result (λ e. is_memory e ≡ false →
-        (e ≡ InvalidBlock) × (entries_in version payload.now ≡ None)) }
-{
-    starts_in::<EntryRef<'_>, A>(alloc, version, payload, is_tested)
 }
 
 /// An upper bound on the length of the block of these entries, with its header, in bytes. It stays at `u64::MAX` where

@@ -1,4 +1,4 @@
-//! Reading the items of a payload, in the one walk that tests the grammar and says where they begin.
+//! Reading the items of a payload, in one walk that tests the grammar and says where they begin.
 ghost use Rattle.std.specs.Prelude.{◌≡◌, ◌<◌, ◌≤◌, ◌^◌, None, true, false, length, is_some};
 ghost use Rattle.std.specs.Prelude.{IfErr, IfOk, IsTrue};
 ghost use Rattle.sst_blocks.specs.Format.{items_in};

@@ -1,7 +1,7 @@
 //! Reading one entry of a payload.
-ghost use Rattle.std.specs.Prelude.{◌≡◌, ◌+◌, ◌≤◌, length, Some, None};
+ghost use Rattle.std.specs.Prelude.{◌≡◌, ◌+◌, ◌≤◌, length};
 ghost use Rattle.std.specs.Option.{option_map};
-ghost use Rattle.sst_blocks.specs.Reading.{parts_at, entry_at, key_and_number};
+ghost use Rattle.sst_blocks.specs.Reading.{parts_at};
 ghost use Rattle.sst_blocks.specs.Seen.{entry_of_ref};
 ghost use Rattle.sst_sections.specs.Version.{key_width};
 
@@ -59,33 +59,6 @@ fn read_parts(
     ))
 }
 
-/// The entry at the front of some bytes, and the bytes after it.
-#[inline]
-#[tactic(auto, unfolding(crate::specs::Reading::entry_at))]
-pub(crate) fn read_entry(version: TableVersion, bytes: &[u8]) -> Option<(EntryRef<'_>, &[u8])>
-    ensures { option_map (λ x. (entry_of_ref x.0, x.1.now)) result ≡ entry_at version bytes.now }
-{
-    if bytes.len() < head_len(version) {
-        return None;
-    }
-    let kind = ValueType::from_tag(bytes[0])?;
-    let rest = &bytes[1..];
-    read_parts(version, kind, u64_at(rest), &rest[8..])
-}
-
-/// The key and the number of the entry at the front of some bytes. Its value is not looked at.
-#[inline(always)]
-pub(crate) fn read_key(version: TableVersion, bytes: &[u8]) -> (&[u8], SeqNo)
-    requires { entry_at version bytes.now ≡ None → ⊥ }
-    ensures { option_map (λ x. key_and_number x.0) (entry_at version bytes.now)
-        ≡ Some (result.0.now, result.1) }
-{
-    let head = head_len(version);
-    // The tag and the number stand before the key's length.
-    let key_len = key_len_at(version, &bytes[9..]);
-    (&bytes[head..head + key_len], u64_at(&bytes[1..]))
-}
-
 impl<'a> ItemRef<'a> for EntryRef<'a> {
     ghost use Rattle.sst_blocks.specs.Format.{Advances, IsFormat};
     ghost use Rattle.sst_blocks.specs.Payload.{IsSpellable};
@@ -102,13 +75,22 @@ impl<'a> ItemRef<'a> for EntryRef<'a> {
     ghost Fits = { IsSpellable };
 
     #[inline]
+    #[tactic(auto, unfolding(crate::specs::Reading::entry_at))]
     fn read(version: TableVersion, bytes: &'a [u8]) -> Option<(EntryRef<'a>, &'a [u8])> {
-        read_entry(version, bytes)
+        if bytes.len() < head_len(version) {
+            return None;
+        }
+        let kind = ValueType::from_tag(bytes[0])?;
+        let rest = &bytes[1..];
+        read_parts(version, kind, u64_at(rest), &rest[8..])
     }
 
     #[inline(always)]
     fn read_key(version: TableVersion, bytes: &'a [u8]) -> (&'a [u8], SeqNo) {
-        read_key(version, bytes)
+        let head = head_len(version);
+        // The tag and the number stand before the key's length.
+        let key_len = key_len_at(version, &bytes[9..]);
+        (&bytes[head..head + key_len], u64_at(&bytes[1..]))
     }
 
     #[inline]

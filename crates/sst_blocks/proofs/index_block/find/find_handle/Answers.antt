@@ -1,10 +1,8 @@
-use Rattle.std.proofs.Common.{◌≡◌, ℕ, List, ap, sym, ◌∙◌}
+use Rattle.std.proofs.Common.{ap, sym, ◌∙◌}
 use Rattle.std.specs.Prelude.{[], Bool, find, unwrap_or}
 use Rattle.std.specs.Option.{option_map}
-use Rattle.sst_entries.specs.Point.{read_place}
-use Rattle.sst_entries.specs.Strict.{is_before}
 use Rattle.sst_blocks.specs.Handle.{Handle}
-use Rattle.sst_blocks.specs.Handles.{end_of, handles_in, reaches}
+use Rattle.sst_blocks.specs.Handles.{handles_in}
 use Rattle.sst_blocks.specs.SeenHandle.{handle_of_ref}
 use Rattle.sst_blocks.proofs.Reaching.{reach_before}
 use Rattle.sst_blocks.proofs.index_block.find.find_handle.Goals as goal

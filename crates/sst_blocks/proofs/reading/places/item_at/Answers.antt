@@ -1,7 +1,7 @@
 use Rattle.std.proofs.Common.{◌≤◌, Some, length, rules, arith, ap, sym, ◌∙◌}
 use Rattle.std.proofs.lemmas.List.{take_rest}
 use Rattle.std.proofs.lemmas.Option.{none-some, some_pair_parts}
-use Rattle.sst_blocks.proofs.Items.{Holds, holds}
+use Rattle.sst_blocks.proofs.Items.{holds}
 use Rattle.sst_blocks.proofs.reading.places.item_at.Goals as goal
 
 pub slice_bounds-read-count : goal.slice_bounds-read-count

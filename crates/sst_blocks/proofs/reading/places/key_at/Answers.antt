@@ -3,7 +3,7 @@ use Rattle.std.specs.Option.{option_map}
 use Rattle.std.proofs.lemmas.List.{take_rest}
 use Rattle.std.proofs.lemmas.Option.{none-some}
 use Rattle.sst_blocks.specs.Reading.{key_and_number}
-use Rattle.sst_blocks.proofs.Items.{Holds, holds}
+use Rattle.sst_blocks.proofs.Items.{holds}
 use Rattle.sst_blocks.proofs.reading.places.key_at.Goals as goal
 
 pub slice_bounds-read_key-count : goal.slice_bounds-read_key-count

@@ -1,7 +1,7 @@
 use Rattle.std.proofs.Common.{◌≤◌, ◌+◌, length, arith, rules}
 use Rattle.std.proofs.lemmas.List.{take_rest, length-drop}
 use Rattle.sst_blocks.proofs.HandleLaws.{front_of_bytes, front_key_len, front_key}
-use Rattle.sst_blocks.proofs.index_block.read.read_end_key.Goals as goal
+use Rattle.sst_blocks.proofs.index_block.read.HandleRefItemRef.read_key.Goals as goal
 
 pub slice_bounds-key_len_at-count : goal.slice_bounds-key_len_at-count
 slice_bounds-key_len_at-count c = omega (arith, (front_of_bytes c.args.version c.args.bytes.now c.requires).lies.within)

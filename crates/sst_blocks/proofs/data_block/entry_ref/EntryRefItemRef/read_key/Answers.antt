@@ -1,7 +1,7 @@
 use Rattle.std.proofs.Common.{◌≤◌, ◌+◌, length, arith, rules}
 use Rattle.std.proofs.lemmas.List.{take_rest, length-drop}
 use Rattle.sst_blocks.proofs.Entries.{front_of_bytes, front_key_len, front_number, front_key}
-use Rattle.sst_blocks.proofs.data_block.entry_ref.read_key.Goals as goal
+use Rattle.sst_blocks.proofs.data_block.entry_ref.EntryRefItemRef.read_key.Goals as goal
 
 pub slice_bounds-key_len_at-count : goal.slice_bounds-key_len_at-count
 slice_bounds-key_len_at-count c = omega (arith, (front_of_bytes c.args.version c.args.bytes.now c.requires).lies.within)
