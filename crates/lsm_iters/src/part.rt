@@ -42,6 +42,7 @@ impl<A: Allocator> Part<A> {
 
     /// Takes the first entry, and adds the global number. Refused [`Error::SeqNoOverflow`] where the sum passes `u64`, and
     /// [`Error::OutOfMemory`].
+    #[inline(always)]
     pub fn next(&mut self, global_seqno: SeqNo) -> Option<IterItem<A>>
         ensures { PartGives front_of global_seqno self.old result self.new }
     {
@@ -78,6 +79,7 @@ fn lift<A: Allocator>(mut item: InternalValue<A>, global_seqno: SeqNo) -> IterIt
 }
 
 /// The same of an answer.
+#[inline(always)]
 fn lift_answer<A: Allocator>(
     answer: Option<IterItem<A>>,
     global_seqno: SeqNo,
