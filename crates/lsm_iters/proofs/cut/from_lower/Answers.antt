@@ -3,7 +3,7 @@ use Rattle.std.specs.declared.ops.Bound.TheVariants.{Unbounded}
 use Rattle.sst_entries.specs.Entry.{Entry}
 use Rattle.sst_entries.specs.Span.{Span, rest_in}
 use Rattle.lsm_iters.proofs.Cuts.{whole_within}
-use Rattle.lsm_iters.proofs.part.from_lower.Goals as goal
+use Rattle.lsm_iters.proofs.cut.from_lower.Goals as goal
 
 pub returns-in-None : goal.returns-in-None
 returns-in-None g c = rw (c.new-iter.ensures.whole, c.in-None.is) (whole_within c.args.block)
