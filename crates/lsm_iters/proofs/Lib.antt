@@ -3,5 +3,6 @@ pub mod Reach
 pub mod Ends
 pub mod Ranges
 pub mod Lifts
-pub mod Parts
+pub mod Naming
+pub mod Walked
 pub mod RangeLaws

@@ -1,5 +1,6 @@
 -- What an iterator over a range deals, and how far off its end is.
 use Rattle.std.proofs.Common.{◌≡◌, ℕ, ◌<◌, zero, suc, [], refl, arith}
+use Rattle.std.specs.Iterator.{MakesProgress, at_most}
 use Rattle.std.specs.Prelude.{Option, Some, None, Ok, Err}
 use Rattle.sst_entries.specs.Stream.{front_of, back_of}
 use Rattle.lsm_block_indexes.specs.Dealt.{DealsEnding}
@@ -39,3 +40,8 @@ module _ {A : Type 0} where
         if_true {X = ℕ} t.handles.sought 0 1 step.initialized,
       )
   nearer of shortens next s t (Err e) step = omega (arith, step.ends, positive (range_size s) step.answer.1)
+
+  pub progress : (of : End) → Shortens of → (next : Range A → Next) (s : Range A) (r : Option R) (t : Range A) → RangeGives of next s r t → MakesProgress (λ _. Unit {0}) (λ u. at_most (range_size u)) s r t
+  progress of shortens next s None t step = record { on = λ _. tt; keeps = tt; rests = λ _. tt }
+  progress of shortens next s (Some x) t step =
+      record { on = λ _. (tt, tt, nearer of shortens next s t x step); keeps = tt; rests = λ _. tt }

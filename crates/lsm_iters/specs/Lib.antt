@@ -3,4 +3,5 @@ pub mod Bounds
 pub mod Rows
 pub mod Range
 pub mod Steps
+pub mod Blocks
 pub mod Words

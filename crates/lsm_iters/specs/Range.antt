@@ -5,6 +5,8 @@ use Rattle.std.specs.Option.{option_or}
 use Rattle.sst_blocks.specs.declared.block_type.BlockType.TheVariants.{Data}
 use Rattle.sst_blocks.specs.declared.opened.Opened.{Opened}
 use Rattle.sst_entries.specs.declared.error.Error.{Error}
+use Rattle.sst_entries.specs.declared.stream.Direction.{Direction}
+use Rattle.sst_entries.specs.declared.stream.Direction.TheVariants.{Front, Back}
 use Rattle.sst_entries.specs.Entry.{Entry}
 use Rattle.sst_entries.specs.Error.{is_memory}
 use Rattle.sst_entries.specs.Stream.{answer_stops}
@@ -108,6 +110,10 @@ front_next s = record { entries = s.front; handles = to_come s }
 
 abbrev pub back_next : {A : Type 0} → Range A → Next
 back_next s = record { entries = s.back; handles = reverse (to_come s) }
+
+abbrev pub next_at : {A : Type 0} → Direction → Range A → Next
+next_at Front s = front_next s
+next_at Back s = back_next s
 
 -- how many blocks an answer needs there: none where an entry of a loaded block stands there
 abbrev pub blocks_for : Bounded → Next → ℕ

@@ -1,11 +1,13 @@
 //! The handles of the blocks that are not loaded.
 ghost use Rattle.std.specs.Prelude.{◌≡◌, None, true, false, OnOk, OnErr, IfErr, List, ℕ, Option};
 ghost use Rattle.sst_entries.specs.declared.error.Error.TheVariants.{OutOfMemory};
-ghost use Rattle.lsm_iters.specs.Words.{IsSought, LeftGives, LoadsNone, SeeksOnce, TakesMemory, all_over, back_of};
-ghost use Rattle.lsm_iters.specs.Words.{edge_in, front_of, left_in, left_of, lower_edge, upper_edge};
+ghost use Rattle.lsm_iters.specs.Words.{IsSought, LeftGives, LoadsNone, SeeksOnce, TakesMemory, all_over};
+ghost use Rattle.lsm_iters.specs.Words.{edge_in, left_in, left_of, lower_edge, taken_at};
+ghost use Rattle.lsm_iters.specs.Words.{upper_edge};
 
 use crate::Bound;
 use lsm_block_indexes::{BlockIndexIter, BlockIndexIterImpl};
+use lsm_walks::Direction;
 use sst_blocks::{Error, KeyedBlockHandle, Opened, SeqNo};
 use std::alloc::Allocator;
 use std::marker::Model;
@@ -63,25 +65,18 @@ impl<A: Allocator + Clone> Handles<A> {
         seek_upper(&mut self.iter, upper)
     }
 
-    /// Takes the first handle.
-    pub fn next(&mut self) -> Option<Result<KeyedBlockHandle<A>, Error>>
-        ensures gives { LeftGives front_of (left_in self.old) result (left_in self.new) }
-        ensures sought { self.new.sought ≡ true }
-    {
-        self.sought = true;
-        if self.ended { None } else { self.iter.next() }
-    }
-
-    /// Takes the last handle.
-    pub fn next_back(&mut self) -> Option<Result<KeyedBlockHandle<A>, Error>>
-        ensures gives { LeftGives back_of (left_in self.old) result (left_in self.new) }
+    /// Takes the handle at an end.
+    pub fn take(&mut self, at: Direction) -> Option<Result<KeyedBlockHandle<A>, Error>>
+        ensures gives { LeftGives (taken_at at) (left_in self.old) result (left_in self.new) }
         ensures sought { self.new.sought ≡ true }
     {
         self.sought = true;
         if self.ended {
-            None
-        } else {
-            self.iter.next_back()
+            return None;
+        }
+        match at {
+            Direction::Front => self.iter.next(),
+            Direction::Back => self.iter.next_back(),
         }
     }
 

@@ -1,26 +1,21 @@
 //! The entries of a table within bounds, from both ends.
-ghost use Rattle.std.specs.Prelude.{◌≡◌, ◌∷◌, [], None, Err, false, true, IfOk, IfErr, OnOk, OnErr};
+ghost use Rattle.std.specs.Prelude.{◌≡◌, None, IfOk, IfErr};
 ghost use Rattle.std.specs.Iterator.{at_most};
-ghost use Rattle.sst_entries.specs.Error.{is_memory};
-ghost use Rattle.sst_blocks.specs.declared.block_type.BlockType.TheVariants.{Data};
 ghost use Rattle.sst_entries.specs.declared.error.Error.TheVariants.{OutOfMemory};
-ghost use Rattle.lsm_iters.specs.Words.{BlockGives, DealsEnding, FaultsFirst, IsSought, LoadsNone, RangeGives};
-ghost use Rattle.lsm_iters.specs.Words.{SeeksOnce, back_next, back_of, block_rows, body_of, data_loaded, edge_of};
-ghost use Rattle.lsm_iters.specs.Words.{front_next, front_of, left_in, lift_told, lower_edge, new_range};
-ghost use Rattle.lsm_iters.specs.Words.{opened_in, over, place_fault, range_left, range_size, stopped, upper_edge};
+ghost use Rattle.lsm_iters.specs.Words.{DealsEnding, IsSought, RangeGives, back_next, back_of};
+ghost use Rattle.lsm_iters.specs.Words.{body_of, edge_of, front_next, front_of, new_range, next_at};
+ghost use Rattle.lsm_iters.specs.Words.{opened_in, over, range_left, range_size, stopped, taken_at};
 
-use crate::Bound;
+use crate::blocks::Blocks;
+use crate::cut::lift_answer;
 use crate::handles::Handles;
 use crate::pairs::beside;
-use crate::part::{Part, cut};
+use crate::{Bound, OwnedDataBlockIter};
 use lsm_block_indexes::BlockIndexIterImpl;
-use sst_blocks::{
-    BlockSource, BlockType, CompressionType, DataBlock, Error, IterItem, KeyedBlockHandle, Opened,
-    SeqNo,
-};
+use lsm_walks::{Direction, Walk};
+use sst_blocks::{BlockSource, CompressionType, Error, IterItem, Opened, SeqNo};
 use std::alloc::{Allocator, Global};
 use std::marker::Model;
-use std::mem;
 
 /// The entries of a table that lie within two bounds, dealt from both ends, their numbers with the global number added. It owns
 /// what it reads: a share of the table's bytes.
@@ -30,34 +25,16 @@ use std::mem;
 /// `u64` with the global number added. After an error, [`Error::OutOfMemory`] among them, nothing more comes, from either end.
 #[derive(Drop)]
 pub struct Iter<A: Allocator = Global> {
-    source: BlockSource<A>,
-    global_seqno: SeqNo,
-    index: Handles<A>,
-    lo_data_block: Part<A>,
-    hi_data_block: Part<A>,
-    range: (Option<Bound<A>>, Option<Bound<A>>),
-    opened: Opened,
+    walk: Walk<Blocks<A>, OwnedDataBlockIter<A>>,
 }
 
 impl<A: Allocator> Model for Iter<A> {
-    ghost use Rattle.sst_sections.specs.Sections.{body_of};
-    ghost use Rattle.lsm_iters.specs.Bounds.{edge_in};
     ghost use Rattle.lsm_iters.specs.Range.{Range};
+    ghost use Rattle.lsm_iters.specs.Blocks.{range_of};
 
     ghost Value = { Range A };
 
-    ghost view = { λ i. record {
-      of = record {
-        body = body_of i.source;
-        global_seqno = i.global_seqno;
-        low = edge_in i.range.0;
-        high = edge_in i.range.1;
-      };
-      handles = i.index;
-      front = i.lo_data_block;
-      back = i.hi_data_block;
-      opened = i.opened;
-    } };
+    ghost view = { λ i. range_of i.walk };
 }
 
 impl<A: Allocator + Clone> Iter<A> {
@@ -83,14 +60,15 @@ impl<A: Allocator + Clone> Iter<A> {
             CompressionType::None => {}
         }
         let (index, source) = beside(Handles::new(index_iter), source.clone())?;
-        Ok(Iter {
+        let blocks = Blocks {
             source,
             global_seqno,
             index,
-            lo_data_block: Part::none(),
-            hi_data_block: Part::none(),
             range: (None, None),
             opened: Opened::none(),
+        };
+        Ok(Iter {
+            walk: Walk::new(blocks),
         })
     }
 
@@ -103,7 +81,7 @@ impl<A: Allocator + Clone> Iter<A> {
             DealsEnding gives back_gives (λ _. Unit {0}) (λ _. Unit {0}) self.new
             (range_left self.new) }
     {
-        drop(self.range.0.replace(bound));
+        drop(self.walk.parts.range.0.replace(bound));
     }
 
     /// Leaves out what stands behind a bound. It is to be set before the first step.
@@ -115,117 +93,41 @@ impl<A: Allocator + Clone> Iter<A> {
             DealsEnding gives back_gives (λ _. Unit {0}) (λ _. Unit {0}) self.new
             (range_left self.new) }
     {
-        drop(self.range.1.replace(bound));
+        drop(self.walk.parts.range.1.replace(bound));
     }
 
     /// How many blocks of each kind were loaded.
     pub fn opened(&self) -> Opened
         ensures { result ≡ opened_in self.now }
     {
-        let mut opened = self.index.opened();
-        opened.data_loads = self.opened.data_loads;
+        let mut opened = self.walk.parts.index.opened();
+        opened.data_loads = self.walk.parts.opened.data_loads;
         opened
     }
 
-    /// Seeks the edges of the bounds, where they were not sought yet. Refused [`Error::OutOfMemory`] alone.
-    fn initialize(&mut self) -> Result<(), Error>
-        ensures ok { let low = lower_edge self.old.of.low in
-            let high = upper_edge self.old.of.high in
-            OnOk result (SeeksOnce self.old.handles self.new.handles low high) }
-        ensures none { LoadsNone (left_in self.old.handles) (left_in self.new.handles) }
-        ensures sought { self.new.handles.sought ≡ true }
-        ensures is { self.new ≡ record self.old { handles = self.new.handles } }
-        ensures once { OnErr result (self.old.handles.sought ≡ false) }
-        ensures err { IfErr result (λ e. e ≡ OutOfMemory) }
+    /// The answer at an end; an error does not end the iterator yet.
+    #[inline(always)]
+    fn step(&mut self, at: Direction) -> Option<IterItem<A>>
+        ensures { RangeGives (taken_at at) (next_at at) self.old result (stopped result self.new) }
     {
-        self.index.seek(&self.range.0, &self.range.1)
-    }
-
-    /// The entries within the bounds of the block that a handle names.
-    fn load(&mut self, handle: KeyedBlockHandle<A>) -> Result<Part<A>, Error>
-        ensures ok { let of = self.old.of in
-            IfOk result (λ es. lift_told of.global_seqno es ≡ block_rows of handle) }
-        ensures err { let of = self.old.of in
-            IfErr result (λ e. is_memory e ≡ false → Err e ∷ [] ≡ block_rows of handle) }
-        ensures first { let body = self.old.of.body in
-            FaultsFirst result (place_fault body handle.offset handle.size Data) }
-        ensures counted { self.new ≡ record self.old { opened = data_loaded 1 self.old.opened } }
-    {
-        let handle = handle.into_inner();
-        let block = self
-            .source
-            .load(&handle, BlockType::Data, &mut self.opened)?;
-        Ok(cut(DataBlock::new(block), &self.range.0, &self.range.1))
-    }
-
-    /// Has the checksums of a block and of the one behind it compared together, which costs little more than its own alone;
-    /// from the fifth block on, of the three behind it: whoever took four blocks whole is likely to go on. No answer depends
-    /// on it.
-    fn look_ahead(&self, handle: &KeyedBlockHandle<A>) {
-        let most = if self.opened.data_loads < 4 { 2 } else { 4 };
-        self.source.compare_ahead(handle.offset().0, most);
-    }
-
-    /// Loads the next block at the front, where one is left.
-    fn next_block(&mut self) -> Option<Result<Part<A>, Error>>
-        ensures { BlockGives front_of self.old result self.new }
-    {
-        match self.index.next() {
-            Some(Ok(handle)) => {
-                self.look_ahead(&handle);
-                Some(self.load(handle))
-            }
-            Some(Err(error)) => Some(Err(error)),
-            None => None,
-        }
-    }
-
-    /// Loads the next block at the back, where one is left.
-    fn next_block_back(&mut self) -> Option<Result<Part<A>, Error>>
-        ensures { BlockGives back_of self.old result self.new }
-    {
-        match self.index.next_back() {
-            Some(Ok(handle)) => Some(self.load(handle)),
-            Some(Err(error)) => Some(Err(error)),
-            None => None,
-        }
-    }
-
-    /// The answer at the front; an error does not end the iterator yet.
-    fn step_front(&mut self) -> Option<IterItem<A>>
-        ensures { RangeGives front_of front_next self.old result (stopped result self.new) }
-    {
-        if let Err(refusal) = self.initialize() {
+        if let Err(refusal) = self.walk.parts.initialize() {
             return Some(Err(refusal));
         }
-        loop {
-            if let Some(item) = self.lo_data_block.next(self.global_seqno) {
-                return Some(item);
-            }
-            match self.next_block() {
-                Some(Ok(block)) => drop(mem::replace(&mut self.lo_data_block, block)),
-                Some(Err(error)) => return Some(Err(error)),
-                None => return self.hi_data_block.next(self.global_seqno),
-            }
-        }
+        lift_answer(self.walk.take(at), self.walk.parts.global_seqno)
     }
 
-    /// The answer at the back; an error does not end the iterator yet.
-    fn step_back(&mut self) -> Option<IterItem<A>>
-        ensures { RangeGives back_of back_next self.old result (stopped result self.new) }
+    /// The answer at an end.
+    #[inline(always)]
+    fn answer(&mut self, at: Direction) -> Option<IterItem<A>>
+        ensures { RangeGives (taken_at at) (next_at at) self.old result self.new }
     {
-        if let Err(refusal) = self.initialize() {
-            return Some(Err(refusal));
-        }
-        loop {
-            if let Some(item) = self.hi_data_block.next_back(self.global_seqno) {
-                return Some(item);
+        match self.step(at) {
+            Some(Ok(item)) => Some(Ok(item)),
+            Some(Err(error)) => {
+                self.end();
+                Some(Err(error))
             }
-            match self.next_block_back() {
-                Some(Ok(block)) => drop(mem::replace(&mut self.hi_data_block, block)),
-                Some(Err(error)) => return Some(Err(error)),
-                None => return self.lo_data_block.next_back(self.global_seqno),
-            }
+            None => None,
         }
     }
 
@@ -233,9 +135,7 @@ impl<A: Allocator + Clone> Iter<A> {
     fn end(&mut self)
         ensures { self.new ≡ over self.old }
     {
-        self.index.end();
-        self.lo_data_block.end();
-        self.hi_data_block.end();
+        self.walk.end();
     }
 }
 
@@ -249,14 +149,7 @@ impl<A: Allocator + Clone> Iterator for Iter<A> {
     ghost remaining = { λ s. at_most (range_size s) };
 
     fn next(&mut self) -> Option<IterItem<A>> {
-        match self.step_front() {
-            Some(Ok(item)) => Some(Ok(item)),
-            Some(Err(error)) => {
-                self.end();
-                Some(Err(error))
-            }
-            None => None,
-        }
+        self.answer(Direction::Front)
     }
 }
 
@@ -266,13 +159,6 @@ impl<A: Allocator + Clone> DoubleEndedIterator for Iter<A> {
     ghost next_back_gives = { RangeGives back_of back_next };
 
     fn next_back(&mut self) -> Option<IterItem<A>> {
-        match self.step_back() {
-            Some(Ok(item)) => Some(Ok(item)),
-            Some(Err(error)) => {
-                self.end();
-                Some(Err(error))
-            }
-            None => None,
-        }
+        self.answer(Direction::Back)
     }
 }

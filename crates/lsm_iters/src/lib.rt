@@ -1,13 +1,14 @@
 //! Ranges of one sorted table, from both ends: the blocks that an index names, cut to bounds.
 #![tactic(auto)]
 
+mod blocks;
 mod bound;
+mod cut;
 mod handles;
 mod iter;
 mod lift;
 mod owned;
 mod pairs;
-mod part;
 
 pub use bound::Bound;
 pub use iter::Iter;

@@ -3,10 +3,11 @@ ghost use Rattle.std.specs.Prelude.{◌≡◌, ◌-◌, ◌↔◌, [], IsTrue, l
 ghost use Rattle.std.specs.Iterator.{at_most};
 ghost use Rattle.std.specs.declared.ops.Bound.TheVariants.{Unbounded};
 ghost use Rattle.lsm_iters.specs.Words.{DealsLeft, IsStrict, KeepsLower, KeepsUpper, SpanGives, back_of, edge_of, front_of};
-ghost use Rattle.lsm_iters.specs.Words.{lower_place, rest_in, span_from, span_to, upper_place, whole_span, within};
+ghost use Rattle.lsm_iters.specs.Words.{span_remains, lower_place, rest_in, span_from, span_to, upper_place, whole_span, within};
 
 use crate::Bound;
-use sst_blocks::{DataBlock, IterItem, SeqNo};
+use lsm_walks::{Direction, Ends};
+use sst_blocks::{DataBlock, InternalValue, IterItem, SeqNo};
 use std::alloc::{Allocator, Global};
 use std::marker::Model;
 
@@ -118,6 +119,20 @@ impl<A: Allocator> DoubleEndedIterator for OwnedDataBlockIter<A> {
                 self.to = self.from;
                 Some(Err(refusal))
             }
+        }
+    }
+}
+
+impl<A: Allocator> Ends for OwnedDataBlockIter<A> {
+    type Item = InternalValue<A>;
+
+    ghost left = { span_remains };
+
+    #[inline(always)]
+    fn step(&mut self, at: Direction) -> Option<IterItem<A>> {
+        match at {
+            Direction::Front => self.next(),
+            Direction::Back => self.next_back(),
         }
     }
 }

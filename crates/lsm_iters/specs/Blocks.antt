@@ -1,0 +1,71 @@
+-- The data blocks of a range that are not loaded, as parts of a walk.
+use Rattle.std.specs.Prelude.{◌≡◌, true, List, [], ◌∷◌, map, Option, Result, Ok, Err}
+use Rattle.sst_blocks.specs.declared.block_type.BlockType.TheVariants.{Data}
+use Rattle.sst_blocks.specs.declared.opened.Opened.{Opened}
+use Rattle.sst_blocks.specs.Block.{Loaded, load_told, place_fault, entries_of}
+use Rattle.sst_blocks.specs.Handle.{Handle}
+use Rattle.sst_entries.specs.declared.error.Error.{Error}
+use Rattle.sst_entries.specs.Entry.{Entry}
+use Rattle.sst_entries.specs.Point.{within}
+use Rattle.sst_entries.specs.Span.{Span}
+use Rattle.sst_entries.specs.Stream.{ok_results}
+use Rattle.lsm_block_indexes.specs.Left.{CountsLoads}
+use Rattle.lsm_walks.specs.declared.walk.Walk.{Walk}
+use Rattle.lsm_walks.specs.Parts.{Coming, Loading, loads_in}
+use Rattle.lsm_iters.specs.Range.{Handles, Range, data_loaded, left_in}
+use Rattle.lsm_iters.specs.Rows.{Bounded}
+use Rattle.lsm_iters.specs.Steps.{all_over, rest_of}
+
+-- what is read within which bounds, what the index still deals, and how many blocks were loaded
+pub record Blocks (A : Type 0) : Type 0 where
+  pub of : Bounded
+  pub handles : Handles A
+  pub opened : Opened
+
+-- the entries of a loaded block that lie within the bounds, as they are stored; or the one error of
+-- loading it
+abbrev pub stored_in : Bounded → Result Loaded Error → List (Result Entry Error)
+stored_in b (Ok block) = ok_results (within b.low b.high (entries_of block))
+stored_in b (Err e) = Err e ∷ []
+
+-- those of the block that a handle names
+abbrev pub stored_rows : Bounded → Handle → List (Result Entry Error)
+stored_rows b h = stored_in b (load_told b.body h.offset h.size Data)
+
+-- that block, or the error that the index has in a handle's place
+abbrev pub block_named : Bounded → Result Handle Error → Result (Loading Entry) Error
+block_named b (Ok h) = Ok (record {
+  results = stored_rows b h;
+  early = place_fault b.body h.offset h.size Data;
+})
+block_named b (Err e) = Err e
+
+-- the blocks that are to come
+abbrev pub coming_blocks : {A : Type 0} → Blocks A → Coming Entry
+coming_blocks b = record {
+  parts = map (block_named b.of) (left_in b.handles).results;
+  loads = (left_in b.handles).loads;
+}
+
+-- what one load keeps: it is counted, and so are those of the index
+pub record KeepsBlocks {A : Type 0} (s : Blocks A) (named : Option (Result (Loading Entry) Error))
+    (t : Blocks A) : Type 0 where
+  pub of : t.of ≡ s.of
+  pub index : (left_in t.handles).index ≡ (left_in s.handles).index
+  pub sought : t.handles.sought ≡ true
+  pub counts : t.opened ≡ data_loaded (loads_in (named ∷ [])) s.opened
+  pub loads : CountsLoads (left_in s.handles) (left_in t.handles)
+
+-- none is to come any more
+abbrev pub EndsBlocks : {A : Type 0} → Blocks A → Blocks A → Type 0
+EndsBlocks s t = t ≡ record s { handles = all_over s.handles }
+
+-- a walk over them is a range
+abbrev pub range_of : {A : Type 0} → Walk (Blocks A) (Span Entry) → Range A
+range_of w = record {
+  of = w.parts.of;
+  handles = w.parts.handles;
+  front = rest_of w.front;
+  back = rest_of w.back;
+  opened = w.parts.opened;
+}

@@ -1,0 +1,116 @@
+//! The data blocks of a table that are not loaded.
+ghost use Rattle.std.specs.Prelude.{◌≡◌, ◌∷◌, [], Err, IfErr, IfOk, OnErr, OnOk, false, true};
+ghost use Rattle.sst_entries.specs.Error.{is_memory};
+ghost use Rattle.sst_entries.specs.Stream.{ok_results};
+ghost use Rattle.sst_blocks.specs.declared.block_type.BlockType.TheVariants.{Data};
+ghost use Rattle.sst_entries.specs.declared.error.Error.TheVariants.{OutOfMemory};
+ghost use Rattle.lsm_iters.specs.Words.{EndsBlocks, FaultsFirst, KeepsBlocks, LoadsNone};
+ghost use Rattle.lsm_iters.specs.Words.{SeeksOnce, coming_blocks, data_loaded, left_in, lower_edge};
+ghost use Rattle.lsm_iters.specs.Words.{place_fault, rest_in, stored_rows, upper_edge};
+
+use crate::cut::cut;
+use crate::handles::Handles;
+use crate::{Bound, OwnedDataBlockIter};
+use lsm_walks::{Direction, Parts};
+use sst_blocks::{BlockSource, BlockType, DataBlock, Error, KeyedBlockHandle, Opened, SeqNo};
+use std::alloc::Allocator;
+use std::marker::Model;
+
+/// The data blocks that an index still names, each cut to two bounds when it is loaded.
+#[derive(Drop)]
+pub struct Blocks<A: Allocator> {
+    pub source: BlockSource<A>,
+    pub global_seqno: SeqNo,
+    pub index: Handles<A>,
+    pub range: (Option<Bound<A>>, Option<Bound<A>>),
+    pub opened: Opened,
+}
+
+impl<A: Allocator> Model for Blocks<A> {
+    ghost use Rattle.sst_sections.specs.Sections.{body_of};
+    ghost use Rattle.lsm_iters.specs.Bounds.{edge_in};
+    ghost use Rattle.lsm_iters.specs.Blocks.{Blocks};
+
+    ghost Value = { Blocks A };
+
+    ghost view = { λ b. record {
+      of = record {
+        body = body_of b.source;
+        global_seqno = b.global_seqno;
+        low = edge_in b.range.0;
+        high = edge_in b.range.1;
+      };
+      handles = b.index;
+      opened = b.opened;
+    } };
+}
+
+impl<A: Allocator + Clone> Blocks<A> {
+    /// Seeks the edges of the bounds, where they were not sought yet. Refused [`Error::OutOfMemory`]
+    /// alone.
+    pub fn initialize(&mut self) -> Result<(), Error>
+        ensures ok { let low = lower_edge self.old.of.low in
+            let high = upper_edge self.old.of.high in
+            OnOk result (SeeksOnce self.old.handles self.new.handles low high) }
+        ensures none { LoadsNone (left_in self.old.handles) (left_in self.new.handles) }
+        ensures sought { self.new.handles.sought ≡ true }
+        ensures is { self.new ≡ record self.old { handles = self.new.handles } }
+        ensures once { OnErr result (self.old.handles.sought ≡ false) }
+        ensures err { IfErr result (λ e. e ≡ OutOfMemory) }
+    {
+        self.index.seek(&self.range.0, &self.range.1)
+    }
+
+    /// The entries within the bounds of the block that a handle names.
+    fn read(&mut self, handle: KeyedBlockHandle<A>) -> Result<OwnedDataBlockIter<A>, Error>
+        ensures ok { let of = self.old.of in
+            IfOk result (λ es. ok_results (rest_in es) ≡ stored_rows of handle) }
+        ensures err { let of = self.old.of in
+            IfErr result (λ e. is_memory e ≡ false → Err e ∷ [] ≡ stored_rows of handle) }
+        ensures first { let body = self.old.of.body in
+            FaultsFirst result (place_fault body handle.offset handle.size Data) }
+        ensures counted { self.new ≡ record self.old { opened = data_loaded 1 self.old.opened } }
+    {
+        let handle = handle.into_inner();
+        let block = self
+            .source
+            .load(&handle, BlockType::Data, &mut self.opened)?;
+        Ok(cut(DataBlock::new(block), &self.range.0, &self.range.1))
+    }
+
+    /// Has the checksums of a block at the front and of the one behind it compared together, which
+    /// costs little more than its own alone; from the fifth block on, of the three behind it: whoever
+    /// took four blocks whole is likely to go on. No answer depends on it.
+    fn look_ahead(&self, handle: &KeyedBlockHandle<A>, at: Direction) {
+        if at == Direction::Front {
+            let most = if self.opened.data_loads < 4 { 2 } else { 4 };
+            self.source.compare_ahead(handle.offset().0, most);
+        }
+    }
+}
+
+impl<A: Allocator + Clone> Parts for Blocks<A> {
+    type Part = OwnedDataBlockIter<A>;
+
+    ghost coming = { coming_blocks };
+
+    ghost keeps = { KeepsBlocks };
+
+    ghost ends = { EndsBlocks };
+
+    #[inline(never)]
+    fn load(&mut self, at: Direction) -> Option<Result<OwnedDataBlockIter<A>, Error>> {
+        match self.index.take(at) {
+            Some(Ok(handle)) => {
+                self.look_ahead(&handle, at);
+                Some(self.read(handle))
+            }
+            Some(Err(error)) => Some(Err(error)),
+            None => None,
+        }
+    }
+
+    fn end(&mut self) {
+        self.index.end();
+    }
+}

@@ -1,0 +1,2 @@
+pub mod AtEnds
+pub mod Reaching

@@ -1,0 +1,4 @@
+pub mod Ends
+pub mod Parts
+pub mod Walks
+pub mod Words
