@@ -1,9 +1,12 @@
 //! What every block index gives, and the three kinds of them.
-ghost use Rattle.std.specs.Prelude.{◌≡◌, ℕ, Bool, List, Option, [], Some, None, false, MatchOption, OnOk, OnErr, IfOk, IfErr};
+ghost use Rattle.std.specs.Prelude.{◌≡◌, ℕ, Bool, List, Option, [], Some, None, false, MatchOption};
+ghost use Rattle.std.specs.Prelude.{OnOk, OnErr, IfOk, IfErr};
 ghost use Rattle.std.specs.Iterator.{at_most};
 ghost use Rattle.sst_entries.specs.declared.error.Error.TheVariants.{OutOfMemory};
-ghost use Rattle.lsm_block_indexes.specs.Words.{DealsEnding, Index, IsBetween, IsEnded, Left, StaysEnded, left_size};
-ghost use Rattle.lsm_block_indexes.specs.Kinds.{BackGives, FrontGives, HasReader, IsReader, IsSought, SeekAnswers, TakesMemory};
+ghost use Rattle.lsm_block_indexes.specs.Words.{DealsEnding, Index, IsBetween, IsEnded, Left};
+ghost use Rattle.lsm_block_indexes.specs.Words.{StaysEnded, left_size};
+ghost use Rattle.lsm_block_indexes.specs.Kinds.{BackGives, FrontGives, HasReader, IsReader};
+ghost use Rattle.lsm_block_indexes.specs.Kinds.{IsSought, SeekAnswers, TakesMemory};
 ghost use Rattle.lsm_block_indexes.specs.Kinds.{index_of, left_of};
 
 use crate::full::{self, FullBlockIndex};
@@ -12,8 +15,9 @@ use crate::volatile::{self, VolatileBlockIndex};
 use sst_blocks::{Error, KeyedBlockHandle, Opened, SeqNo};
 use std::alloc::{Allocator, Global};
 
-/// Handles of an index, dealt from both ends, between edges that may be sought. An edge is to be sought once, and before the
-/// first step: what a later seek leaves is open, except that what is over stays over.
+/// Handles of an index, dealt from both ends, between edges that may be sought. An edge is to be
+/// sought once, and before the first step: what a later seek leaves is open, except that what is
+/// over stays over.
 ///
 /// After an error of a step or of a seek, [`Error::OutOfMemory`] among them, a step answers `None`,
 /// at either end.
@@ -32,11 +36,11 @@ pub trait BlockIndexIter<A: Allocator>: DoubleEndedIterator<
     // Whether a seek may want memory, for the edge that it keeps.
     ghost takes_memory: { Self → Type 0 };
 
-    /// Drops what stands before the first handle that reaches a key and a number: whose end key is greater, or equal and
-    /// numbered below `seqno`. It answers false only where nothing is left, and loads nothing. Refused
-    /// [`Error::OutOfMemory`] alone, and not at all where the whole index stays loaded. A refusal
-    /// ends it: nothing more comes, from either end, and nothing more is loaded or counted; a later
-    /// seek brings nothing back.
+    /// Drops what stands before the first handle that reaches a key and a number: whose end key is
+    /// greater, or equal and numbered below `seqno`. It answers false only where nothing is left,
+    /// and loads nothing. Refused [`Error::OutOfMemory`] alone, and not at all where the whole
+    /// index stays loaded. A refusal ends it: nothing more comes, from either end, and nothing more
+    /// is loaded or counted; a later seek brings nothing back.
     fn seek_lower(&mut self, key: &[u8], seqno: SeqNo) -> Result<bool, Error>
         ensures sought { (upper : Option (List ℕ)) → sought self.old None upper →
             OnOk result (sought self.new (Some (key.now, seqno)) upper) }
@@ -53,15 +57,16 @@ pub trait BlockIndexIter<A: Allocator>: DoubleEndedIterator<
         ensures opened { (left self.new).opened ≡ (left self.old).opened }
         // Whatever ends are asked after a refusal, each call answers `None` and loads nothing.
         ensures ended { OnErr result (IsEnded (left self.new)) }
-        ensures stays { OnErr result (StaysEnded Self.next_gives Self.next_back_gives left self.new) }
+        ensures stays { OnErr result
+            (StaysEnded Self.next_gives Self.next_back_gives left self.new) }
         ensures refused { OnErr result (takes_memory self.old) }
         // An index that stays loaded goes on to want none.
         ensures wants { takes_memory self.new → takes_memory self.old }
         ensures err { IfErr result (λ e. e ≡ OutOfMemory) };
 
-    /// Drops what stands behind the first handle whose end key is greater than a key. The number is not looked at: versions of
-    /// the key may go on in the block of a handle that ends with the key. It answers and is refused as
-    /// [`BlockIndexIter::seek_lower`].
+    /// Drops what stands behind the first handle whose end key is greater than a key. The number is
+    /// not looked at: versions of the key may go on in the block of a handle that ends with the
+    /// key. It answers and is refused as [`BlockIndexIter::seek_lower`].
     fn seek_upper(&mut self, key: &[u8], seqno: SeqNo) -> Result<bool, Error>
         ensures sought { (lower : Option (List ℕ × ℕ)) → sought self.old lower None →
             OnOk result (sought self.new lower (Some key.now)) }
@@ -75,7 +80,8 @@ pub trait BlockIndexIter<A: Allocator>: DoubleEndedIterator<
         ensures index { (left self.new).index ≡ (left self.old).index }
         ensures opened { (left self.new).opened ≡ (left self.old).opened }
         ensures ended { OnErr result (IsEnded (left self.new)) }
-        ensures stays { OnErr result (StaysEnded Self.next_gives Self.next_back_gives left self.new) }
+        ensures stays { OnErr result
+            (StaysEnded Self.next_gives Self.next_back_gives left self.new) }
         ensures refused { OnErr result (takes_memory self.old) }
         ensures wants { takes_memory self.new → takes_memory self.old }
         ensures err { IfErr result (λ e. e ≡ OutOfMemory) };
@@ -93,9 +99,9 @@ pub trait BlockIndex<A: Allocator> {
     // Whether there is a reader from an edge on.
     ghost has_reader: { Self → Option (List ℕ × ℕ) → Type 0 };
 
-    /// The handles from the first on that reaches a key and a number: whose end key is greater, or equal and numbered below
-    /// `seqno`. `None` only where there is no such handle, and only of an index that stays loaded. Nothing is loaded. Refused
-    /// [`Error::OutOfMemory`] alone.
+    /// The handles from the first on that reaches a key and a number: whose end key is greater, or
+    /// equal and numbered below `seqno`. `None` only where there is no such handle, and only of an
+    /// index that stays loaded. Nothing is loaded. Refused [`Error::OutOfMemory`] alone.
     fn forward_reader(
         &self,
         key: &[u8],

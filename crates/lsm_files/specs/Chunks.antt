@@ -1,5 +1,6 @@
 -- How a list of entries is cut into chunks, one for each data block.
-use Rattle.std.specs.Prelude.{◌≡◌, ℕ, ◌+◌, ◌<◌, ◌==◌, ◌||◌, Bool, true, false, nat_le, List, [], ◌∷◌, length, take, sum_by}
+use Rattle.std.specs.Prelude.{◌≡◌, ℕ, ◌+◌, ◌<◌, ◌==◌, ◌||◌, Bool, true, false, nat_le, List, []}
+use Rattle.std.specs.Prelude.{◌∷◌, length, take, sum_by}
 use Rattle.std.specs.List.{flat_map, list_any}
 use Rattle.sst_entries.specs.Entry.{Entry}
 

@@ -3,7 +3,9 @@ use Rattle.std.specs.Prelude.{◌≡◌, ℕ, List, [], ◌∷◌, ◌++◌, len
 use Rattle.sst_sections.specs.declared.version.TableVersion.{TableVersion}
 use Rattle.sst_sections.specs.declared.section.SectionName.{SectionName}
 use Rattle.sst_blocks.specs.declared.block_type.BlockType.TheVariants.{Meta}
-use Rattle.sst_sections.specs.declared.section.SectionName.TheVariants.{Data, TableVersion as VersionSection, Meta as MetaSection}
+use Rattle.sst_sections.specs.declared.section.SectionName.TheVariants.{Data}
+use Rattle.sst_sections.specs.declared.section.SectionName.TheVariants.{TableVersion as VersionSection}
+use Rattle.sst_sections.specs.declared.section.SectionName.TheVariants.{Meta as MetaSection}
 use Rattle.sst_blocks.specs.Block.{block_bytes}
 use Rattle.sst_entries.specs.Entry.{Entry}
 use Rattle.sst_blocks.specs.Payload.{payload}
@@ -12,7 +14,8 @@ use Rattle.lsm_files.specs.Chunks.{AreChunks}
 use Rattle.lsm_files.specs.Index.{handles, data_section}
 use Rattle.lsm_files.specs.Content.{Content}
 use Rattle.lsm_files.specs.Filters.{filtered_keys, AreFiltersFor}
-use Rattle.lsm_files.specs.Kinds.{AreIndexParts, index_sections, AreFilterParts, filter_sections, filter_count}
+use Rattle.lsm_files.specs.Kinds.{AreIndexParts, index_sections, AreFilterParts, filter_sections}
+use Rattle.lsm_files.specs.Kinds.{filter_count}
 use Rattle.lsm_files.specs.Layout.{Sections, bytes_in, laid}
 use Rattle.lsm_files.specs.MetaBlock.{Blocks, meta_entries, version_number}
 use Rattle.lsm_files.specs.declared.options.Options.{Options}

@@ -1,13 +1,15 @@
 -- The filter of a table: the keys of each of its blocks, and the filters that these hold.
-use Rattle.std.specs.Prelude.{◌≡◌, ℕ, ◌+◌, nat_le, nat_lt, Bool, true, false, List, [], ◌∷◌, length, map, Option, Some, None, unwrap_or, if◌then◌else◌}
+use Rattle.std.specs.Prelude.{◌≡◌, ℕ, ◌+◌, nat_le, nat_lt, Bool, true, false, List, [], ◌∷◌, length}
+use Rattle.std.specs.Prelude.{map, Option, Some, None, unwrap_or, if◌then◌else◌}
 use Rattle.std.specs.List.{flat_map}
 use Rattle.sst_sections.specs.declared.version.TableVersion.{TableVersion}
-use Rattle.sst_sections.specs.declared.section.SectionName.TheVariants.{Filter as FilterSection, FilterTli}
+use Rattle.sst_sections.specs.declared.section.SectionName.TheVariants.{Filter as FilterSection}
+use Rattle.sst_sections.specs.declared.section.SectionName.TheVariants.{FilterTli}
 use Rattle.sst_blocks.specs.declared.block_type.BlockType.TheVariants.{Filter}
 use Rattle.sst_filters.specs.declared.policy.BloomConstructionPolicy.{BloomConstructionPolicy}
 use Rattle.sst_filters.specs.Filter.{BloomFilter, IsFilterOf, payload_of}
 use Rattle.sst_filters.specs.Policy.{probe_count, size_for, tenths_of}
-use Rattle.sst_sections.specs.Fnv.{fnv1a}
+use Rattle.sst_filters.specs.KeyHash.{hash_of}
 use Rattle.sst_entries.specs.Entry.{Entry}
 use Rattle.sst_blocks.specs.Block.{block_bytes, header_len}
 use Rattle.sst_blocks.specs.Handle.{Handle}
@@ -34,10 +36,11 @@ pub record IsFilterFor (policy : BloomConstructionPolicy) (keys : List (List ℕ
     : Type 0 where
   pub probes : f.probe_count ≡ probe_count (tenths_of policy)
   pub size : length f.bits ≡ size_for (tenths_of policy) (length keys)
-  pub hashes : IsFilterOf f (map fnv1a keys)
+  pub hashes : IsFilterOf f (map hash_of keys)
 
 -- a filter for each part of the keys
-abbrev pub AreFiltersFor : BloomConstructionPolicy → List (List (List ℕ)) → List BloomFilter → Type 0
+abbrev pub AreFiltersFor : BloomConstructionPolicy → List (List (List ℕ)) → List BloomFilter
+    → Type 0
 AreFiltersFor policy [] [] = Unit {0}
 AreFiltersFor policy [] (f ∷ fs) = ⊥
 AreFiltersFor policy (p ∷ ps) [] = ⊥
@@ -76,7 +79,8 @@ full_filter v [] = []
 full_filter v (f ∷ fs) = (FilterSection, filter_block v f) ∷ []
 
 -- the sections of a partitioned filter, the first of them at a position: none without keys
-abbrev pub partitioned_filter : TableVersion → ℕ → List (List (List ℕ)) → List BloomFilter → Sections
+abbrev pub partitioned_filter : TableVersion → ℕ → List (List (List ℕ)) → List BloomFilter
+    → Sections
 partitioned_filter v at parts [] = []
 partitioned_filter v at parts (f ∷ fs) =
     (FilterSection, flat_map (filter_block v) (f ∷ fs))

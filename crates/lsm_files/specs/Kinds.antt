@@ -6,9 +6,11 @@ use Rattle.sst_blocks.specs.Handle.{Handle}
 use Rattle.sst_filters.specs.declared.policy.BloomConstructionPolicy.{BloomConstructionPolicy}
 use Rattle.sst_filters.specs.Filter.{BloomFilter}
 use Rattle.lsm_files.specs.declared.options.FilterKind.{FilterKind}
-use Rattle.lsm_files.specs.declared.options.FilterKind.TheVariants.{Full as FullFilter, Partitioned as PartitionedFilter}
+use Rattle.lsm_files.specs.declared.options.FilterKind.TheVariants.{Full as FullFilter}
+use Rattle.lsm_files.specs.declared.options.FilterKind.TheVariants.{Partitioned as PartitionedFilter}
 use Rattle.lsm_files.specs.declared.options.IndexKind.{IndexKind}
-use Rattle.lsm_files.specs.declared.options.IndexKind.TheVariants.{Full as FullIndex, Partitioned as PartitionedIndex}
+use Rattle.lsm_files.specs.declared.options.IndexKind.TheVariants.{Full as FullIndex}
+use Rattle.lsm_files.specs.declared.options.IndexKind.TheVariants.{Partitioned as PartitionedIndex}
 use Rattle.lsm_files.specs.Filters.{full_filter, partitioned_filter, is_full_filter}
 use Rattle.lsm_files.specs.Layout.{Sections}
 use Rattle.lsm_files.specs.Partitions.{handles_block, is_full_index, partitioned_index}
@@ -23,6 +25,11 @@ AreIndexParts (PartitionedIndex size) hs parts = ArePartsOf (is_full_index size)
 abbrev pub index_parts : IndexKind → List Handle → List (List Handle)
 index_parts FullIndex hs = hs ∷ []
 index_parts (PartitionedIndex size) hs = parts_by (is_full_index size) hs
+
+-- the kind with partitions of this size, where it has partitions
+abbrev pub index_with_size : ℕ → IndexKind → IndexKind
+index_with_size size FullIndex = FullIndex
+index_with_size size (PartitionedIndex before) = PartitionedIndex size
 
 -- a full index: one block of all handles
 abbrev pub full_index : TableVersion → List Handle → Sections
@@ -52,6 +59,11 @@ abbrev pub filter_sections : FilterKind → TableVersion → ℕ → List (List 
     → List BloomFilter → Sections
 filter_sections FullFilter v at parts fs = full_filter v fs
 filter_sections (PartitionedFilter size) v at parts fs = partitioned_filter v at parts fs
+
+-- the kind with partitions of this size, where it has partitions
+abbrev pub filter_with_size : ℕ → FilterKind → FilterKind
+filter_with_size size FullFilter = FullFilter
+filter_with_size size (PartitionedFilter before) = PartitionedFilter size
 
 -- how many blocks of filters are counted: one for a full filter, also where none is written
 abbrev pub filter_count : FilterKind → List BloomFilter → ℕ

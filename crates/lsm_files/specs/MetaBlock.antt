@@ -9,8 +9,9 @@ use Rattle.sst_blocks.specs.Payload.{payload}
 use Rattle.lsm_files.specs.Chunks.{joined}
 use Rattle.lsm_files.specs.Facts.{ListFacts, facts}
 use Rattle.lsm_files.specs.Index.{data_section}
+use Rattle.lsm_files.specs.declared.item_name.TheConstants.{FILTER_HASH_TYPE}
 use Rattle.lsm_files.specs.declared.item_name.ItemName.{ItemName}
-use Rattle.lsm_files.specs.declared.item_name.ItemName.TheVariants.{BlockCountData, BlockCountFilter, BlockCountIndex, ChecksumType, CompressionData, CompressionIndex, CrateVersion, CreatedAt, DataBlockHashRatio, FileSize, FilterHashType, IndexKeysHaveSeqno, InitialLevel, ItemCount, KeyMax, KeyMin, KeyCount, PrefixTruncationData, PrefixTruncationIndex, RestartIntervalData, RestartIntervalIndex, SeqnoMax, SeqnoMin, TableId, TableVersion as VersionItem, TombstoneCount, UserDataSize, WeakTombstoneCount, WeakTombstoneReclaimable}
+use Rattle.lsm_files.specs.declared.item_name.ItemName.TheVariants as item
 use Rattle.lsm_files.specs.ItemName.{name_of}
 use Rattle.lsm_files.specs.declared.options.Options.{Options}
 use Rattle.lsm_files.specs.declared.label.Label.{Label}
@@ -32,50 +33,50 @@ pub record Blocks : Type 0 where
 -- the names in byte order: the counts of blocks, the formats and the label
 abbrev pub block_items : Label → Options → Blocks → ℕ → ℕ → List Entry
 block_items label options counted data_blocks file_size =
-    meta_entry BlockCountData (le8 data_blocks)
-    ∷ meta_entry BlockCountFilter (le8 counted.filter)
-    ∷ meta_entry BlockCountIndex (le8 counted.index)
-    ∷ meta_entry ChecksumType (1 ∷ [])
-    ∷ meta_entry CompressionData (0 ∷ [])
-    ∷ meta_entry CompressionIndex (0 ∷ [])
-    ∷ meta_entry CrateVersion (codes "3.1.10")
-    ∷ meta_entry CreatedAt (le16 label.created_at)
-    ∷ meta_entry DataBlockHashRatio (le4 options.data_block_hash_ratio)
-    ∷ meta_entry FileSize (le8 file_size)
+    meta_entry item.BlockCountData (le8 data_blocks)
+    ∷ meta_entry item.BlockCountFilter (le8 counted.filter)
+    ∷ meta_entry item.BlockCountIndex (le8 counted.index)
+    ∷ meta_entry item.ChecksumType (1 ∷ [])
+    ∷ meta_entry item.CompressionData (0 ∷ [])
+    ∷ meta_entry item.CompressionIndex (0 ∷ [])
+    ∷ meta_entry item.CrateVersion (codes "3.1.10")
+    ∷ meta_entry item.CreatedAt (le16 label.created_at)
+    ∷ meta_entry item.DataBlockHashRatio (le4 options.data_block_hash_ratio)
+    ∷ meta_entry item.FileSize (le8 file_size)
     ∷ []
 
 -- then the hash, the level, the number of items and the keys
 abbrev pub key_items : Label → ListFacts → List Entry
 key_items label f =
-    meta_entry FilterHashType (1 ∷ [])
-    ∷ meta_entry IndexKeysHaveSeqno (1 ∷ [])
-    ∷ meta_entry InitialLevel (label.initial_level ∷ [])
-    ∷ meta_entry ItemCount (le8 f.item_count)
-    ∷ meta_entry KeyMax f.max_key
-    ∷ meta_entry KeyMin f.min_key
-    ∷ meta_entry KeyCount (le8 f.key_count)
+    meta_entry item.FilterHashType (FILTER_HASH_TYPE ∷ [])
+    ∷ meta_entry item.IndexKeysHaveSeqno (1 ∷ [])
+    ∷ meta_entry item.InitialLevel (label.initial_level ∷ [])
+    ∷ meta_entry item.ItemCount (le8 f.item_count)
+    ∷ meta_entry item.KeyMax f.max_key
+    ∷ meta_entry item.KeyMin f.min_key
+    ∷ meta_entry item.KeyCount (le8 f.key_count)
     ∷ []
 
 -- then the options and the numbers
 abbrev pub option_items : TableVersion → Label → Options → ListFacts → List Entry
 option_items v label options f =
-    meta_entry PrefixTruncationData (0 ∷ [])
-    ∷ meta_entry PrefixTruncationIndex (0 ∷ [])
-    ∷ meta_entry RestartIntervalData (options.data_block_restart_interval ∷ [])
-    ∷ meta_entry RestartIntervalIndex (options.index_block_restart_interval ∷ [])
-    ∷ meta_entry SeqnoMax (le8 f.highest)
-    ∷ meta_entry SeqnoMin (le8 f.lowest)
-    ∷ meta_entry TableId (le8 label.table_id)
-    ∷ meta_entry VersionItem (version_number v ∷ [])
+    meta_entry item.PrefixTruncationData (0 ∷ [])
+    ∷ meta_entry item.PrefixTruncationIndex (0 ∷ [])
+    ∷ meta_entry item.RestartIntervalData (options.data_block_restart_interval ∷ [])
+    ∷ meta_entry item.RestartIntervalIndex (options.index_block_restart_interval ∷ [])
+    ∷ meta_entry item.SeqnoMax (le8 f.highest)
+    ∷ meta_entry item.SeqnoMin (le8 f.lowest)
+    ∷ meta_entry item.TableId (le8 label.table_id)
+    ∷ meta_entry item.TableVersion (version_number v ∷ [])
     ∷ []
 
 -- then the other counts
 abbrev pub count_items : ListFacts → ℕ → List Entry
 count_items f user_data_size =
-    meta_entry TombstoneCount (le8 f.tombstone_count)
-    ∷ meta_entry UserDataSize (le8 user_data_size)
-    ∷ meta_entry WeakTombstoneCount (le8 f.weak_tombstone_count)
-    ∷ meta_entry WeakTombstoneReclaimable (le8 f.weak_tombstone_reclaimable)
+    meta_entry item.TombstoneCount (le8 f.tombstone_count)
+    ∷ meta_entry item.UserDataSize (le8 user_data_size)
+    ∷ meta_entry item.WeakTombstoneCount (le8 f.weak_tombstone_count)
+    ∷ meta_entry item.WeakTombstoneReclaimable (le8 f.weak_tombstone_reclaimable)
     ∷ []
 
 -- all 29 items, by the facts, the number of data blocks, the length of their section and of their

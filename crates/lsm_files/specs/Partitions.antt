@@ -1,5 +1,6 @@
 -- Partitions: blocks of parts of an index or of a filter, and the top level that has their handles.
-use Rattle.std.specs.Prelude.{ℕ, ◌+◌, nat_le, Bool, List, [], ◌∷◌, length, map, None, sum_by, unwrap_or}
+use Rattle.std.specs.Prelude.{ℕ, ◌+◌, nat_le, Bool, List, [], ◌∷◌, length, map, None, sum_by}
+use Rattle.std.specs.Prelude.{unwrap_or}
 use Rattle.std.specs.List.{flat_map}
 use Rattle.sst_sections.specs.declared.version.TableVersion.{TableVersion}
 use Rattle.sst_sections.specs.declared.section.SectionName.TheVariants.{Index as IndexSection, Tli}
@@ -12,8 +13,8 @@ use Rattle.sst_blocks.specs.Handle.{Handle}
 use Rattle.sst_blocks.specs.Handles.{end_of, handles_payload}
 use Rattle.lsm_files.specs.Layout.{Sections}
 
--- what the top level has of a block: the last key and number behind which nothing of it lies, and its
--- size with its header
+-- what the top level has of a block: the last key and number behind which nothing of it lies, and
+-- its size with its header
 pub record Partition : Type 0 where
   pub end_key : List ℕ
   pub seqno : ℕ

@@ -1,5 +1,6 @@
 -- How a list is cut into parts: those of an index or of a filter.
-use Rattle.std.specs.Prelude.{◌≡◌, ℕ, ◌<◌, Bool, true, false, List, [], ◌∷◌, ◌++◌, length, take, if◌then◌else◌}
+use Rattle.std.specs.Prelude.{◌≡◌, ℕ, ◌<◌, Bool, true, false, List, [], ◌∷◌, ◌++◌, length, take}
+use Rattle.std.specs.Prelude.{if◌then◌else◌}
 use Rattle.std.specs.List.{flat_map}
 
 -- the parts, one after another
@@ -20,8 +21,8 @@ abbrev pub AreParts : {A : Type 0} → (List A → Bool) → List (List A) → T
 AreParts full [] = Unit {0}
 AreParts full (p ∷ ps) = IsPart full p × EndsPart full p ps × AreParts full ps
 
--- a list cut into parts: each is the shortest front of the rest that is full, and the last one takes
--- what is left
+-- a list cut into parts: each is the shortest front of the rest that is full, and the last one
+-- takes what is left
 pub record ArePartsOf {A : Type 0} (full : List A → Bool) (xs : List A) (ps : List (List A))
     : Type 0 where
   pub whole : joined_parts ps ≡ xs

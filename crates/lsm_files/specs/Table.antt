@@ -8,8 +8,8 @@ use Rattle.lsm_files.specs.Fits.{Fits}
 use Rattle.lsm_files.specs.declared.options.Options.{Options}
 use Rattle.lsm_files.specs.declared.label.Label.{Label}
 
--- the bytes are a table of a list: written under a label, with options and in a version, whatever its
--- kinds of index and of filter; the list is strict, and what the bytes hold fits
+-- the bytes are a table of a list: written under a label, with options and in a version, whatever
+-- its kinds of index and of filter; the list is strict, and what the bytes hold fits
 pub record IsTable (bytes : List ℕ) (es : List Entry) : Type 0 where
   pub label : Label
   pub options : Options

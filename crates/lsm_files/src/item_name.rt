@@ -2,6 +2,9 @@
 ghost use Rattle.std.specs.Prelude.{◌≡◌};
 ghost use Rattle.lsm_files.specs.ItemName.{name_of};
 
+/// How the meta block names the hash of keys that filters are asked by.
+pub const FILTER_HASH_TYPE: u8 = 1;
+
 /// An item of a meta block, in the byte order of their keys.
 #[derive(Clone, Copy, Debug, PartialEq, Eq)]
 pub enum ItemName {

@@ -1,7 +1,8 @@
 //! What a table is called.
 use crate::{TableId, Timestamp};
 
-/// What a table is called: its id, the level at which it stands, and the moment of its creation, which is handed in.
+/// What a table is called: its id, the level at which it stands, and the moment of its creation,
+/// which is handed in.
 #[derive(Clone, Copy, Debug, PartialEq, Eq)]
 pub struct Label {
     /// The table's id.

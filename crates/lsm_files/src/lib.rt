@@ -1,5 +1,5 @@
-//! What a table is: its id, its label and options, the items of its meta block, and the bytes of a list. Writers and readers
-//! stand on it.
+//! What a table is: its id, its label and options, the items of its meta block, and the bytes of a
+//! list. Writers and readers stand on it.
 #![tactic(auto)]
 
 mod id;
@@ -9,7 +9,7 @@ mod options;
 mod timestamp;
 
 pub use id::{GlobalTableId, TableId, TreeId};
-pub use item_name::ItemName;
+pub use item_name::{FILTER_HASH_TYPE, ItemName};
 pub use label::Label;
 pub use options::{FilterKind, IndexKind, Options};
 pub use sst_filters::BloomConstructionPolicy;

@@ -1,5 +1,6 @@
 //! What a table is written with.
 ghost use Rattle.std.specs.Prelude.{◌≡◌};
+ghost use Rattle.lsm_files.specs.Kinds.{filter_with_size, index_with_size};
 ghost use Rattle.lsm_files.specs.Options.{default_options};
 
 use sst_filters::BloomConstructionPolicy;
@@ -13,6 +14,18 @@ pub enum IndexKind {
     Partitioned(u32),
 }
 
+impl IndexKind {
+    /// The kind with partitions of this size, where it has partitions.
+    pub fn with_size(self, size: u32) -> IndexKind
+        ensures { result ≡ index_with_size size self }
+    {
+        match self {
+            IndexKind::Full => IndexKind::Full,
+            IndexKind::Partitioned(_) => IndexKind::Partitioned(size),
+        }
+    }
+}
+
 /// What stands for the filter of a table.
 #[derive(Clone, Copy, Debug, PartialEq, Eq)]
 pub enum FilterKind {
@@ -20,6 +33,18 @@ pub enum FilterKind {
     Full,
     /// Partitions, each cut when it has so many bytes, and a top level with their handles.
     Partitioned(u32),
+}
+
+impl FilterKind {
+    /// The kind with partitions of this size, where it has partitions.
+    pub fn with_size(self, size: u32) -> FilterKind
+        ensures { result ≡ filter_with_size size self }
+    {
+        match self {
+            FilterKind::Full => FilterKind::Full,
+            FilterKind::Partitioned(_) => FilterKind::Partitioned(size),
+        }
+    }
 }
 
 /// What a table is written with.

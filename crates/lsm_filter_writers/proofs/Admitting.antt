@@ -10,7 +10,7 @@ use Rattle.sst_entries.specs.Strict.{IsStrictAfter, is_before, may_follow}
 use Rattle.sst_entries.proofs.Booleans.{apart, is_false, or_right}
 use Rattle.sst_entries.proofs.KeyLemmas.{le_itself, same_is}
 use Rattle.sst_entries.proofs.OrderLemmas.{lt_trans}
-use Rattle.sst_sections.specs.Fnv.{fnv1a}
+use Rattle.sst_filters.specs.KeyHash.{hash_of}
 use Rattle.sst_sections.specs.Sections.{Written}
 use Rattle.sst_sections.specs.declared.section.SectionName.{SectionName}
 use Rattle.sst_sections.specs.declared.section.SectionName.TheVariants.{Filter as FilterSection, FilterTli}
@@ -90,14 +90,14 @@ or_second : (a b : Bool) → (a || b) ≡ true → a ≡ false → b ≡ true
 or_second true b h none = absurd (let no : true ≡ false = none in cc)
 or_second false b h none = h
 
-hash_in : (keys : List (List ℕ)) (key : List ℕ) → is_among keys key ≡ true → is_in (fnv1a key) (map fnv1a keys) ≡ true
+hash_in : (keys : List (List ℕ)) (key : List ℕ) → is_among keys key ≡ true → is_in (hash_of key) (map hash_of keys) ≡ true
 hash_in [] key h = absurd cc
 hash_in (k ∷ ks) key h =
-    elim (same_key k key) as (λ b. same_key k key ≡ b → is_in (fnv1a key) (map fnv1a (k ∷ ks)) ≡ true) [
+    elim (same_key k key) as (λ b. same_key k key ≡ b → is_in (hash_of key) (map hash_of (k ∷ ks)) ≡ true) [
       | true ↦ λ same.
-          let equal : (fnv1a k == fnv1a key) ≡ true = ap (λ (x : List ℕ). fnv1a x == fnv1a key) (same_is k key same) ∙ nat_eq_equiv.refl (fnv1a key) in
+          let equal : (hash_of k == hash_of key) ≡ true = ap (λ (x : List ℕ). hash_of x == hash_of key) (same_is k key same) ∙ nat_eq_equiv.refl (hash_of key) in
           rw equal refl
-      | false ↦ λ other. or_right (fnv1a k == fnv1a key) (is_in (fnv1a key) (map fnv1a ks)) (hash_in ks key (or_second (same_key k key) (is_among ks key) h other))
+      | false ↦ λ other. or_right (hash_of k == hash_of key) (is_in (hash_of key) (map hash_of ks)) (hash_in ks key (or_second (same_key k key) (is_among ks key) h other))
     ] refl
 
 -- ---- one filter
@@ -129,7 +129,7 @@ filter_says policy keys f key body pre post offset size is here short lies at lo
     let built : IsBuilt f = is_built policy keys f is (omega (arith, short, length-block V4 Filter (payload_of f))) in
     let loads = built_load V4 f built in
     let bits : 0 < length f.bits = omega (arith, built.wide) in
-    let yes : admits f (fnv1a key) ≡ true = admits_its_hashes f (map fnv1a keys) (fnv1a key) bits is.hashes (hash_in keys key here) in
+    let yes : admits f (hash_of key) ≡ true = admits_its_hashes f (map hash_of keys) (hash_of key) bits is.hashes (hash_in keys key here) in
     record {
       block = record { version = V4; kind = Filter; payload = payload_of f };
       loads = filter_loads V4 f pre post body offset size built at long (lies ∙ sym (append_assoc pre (filter_block V4 f) post));

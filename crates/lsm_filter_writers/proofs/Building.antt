@@ -2,7 +2,7 @@
 use Rattle.std.proofs.Common.{◌≡◌, sym, ap, ◌∙◌, subst, ℕ, List, [], ◌∷◌, ◌++◌, length}
 use Rattle.std.specs.Prelude.{map}
 use Rattle.std.proofs.lemmas.List.{length-map, length-replicate}
-use Rattle.sst_sections.specs.Fnv.{fnv1a}
+use Rattle.sst_filters.specs.KeyHash.{hash_of}
 use Rattle.sst_filters.specs.Filter.{BloomFilter, Gains, IsFilterOf}
 use Rattle.sst_filters.specs.Policy.{empty_filter, probe_count, size_for, tenths_of}
 use Rattle.sst_filters.specs.declared.policy.BloomConstructionPolicy.{BloomConstructionPolicy}
@@ -30,9 +30,9 @@ building_more policy n h hashes more f g b gains step e = record {
 }
 
 pub built : (policy : BloomConstructionPolicy) (n : ℕ) (some hashes : List ℕ) (f : BloomFilter) → Building policy n some f → some ≡ hashes → n ≡ length hashes →
-    (keys : List (List ℕ)) → hashes ≡ map fnv1a keys → IsFilterFor policy keys f
+    (keys : List (List ℕ)) → hashes ≡ map hash_of keys → IsFilterFor policy keys f
 built policy n some hashes f b all count keys e =
-    let len : length hashes ≡ length keys = ap length e ∙ length-map keys fnv1a in
+    let len : length hashes ≡ length keys = ap length e ∙ length-map keys hash_of in
     record {
       probes = b.probes;
       size = b.size ∙ ap (λ (m : ℕ). size_for (tenths_of policy) m) (count ∙ len);

@@ -6,7 +6,7 @@ use Rattle.std.proofs.lemmas.List.{append-nil, length-map, map-append}
 use Rattle.std.proofs.lemmas.List.Sums.{sum_by-append, sum_by-cons}
 use Rattle.sst_entries.specs.Error.{Faults}
 use Rattle.sst_entries.specs.declared.error.Error.{Error}
-use Rattle.sst_sections.specs.Fnv.{fnv1a}
+use Rattle.sst_filters.specs.KeyHash.{hash_of}
 use Rattle.sst_blocks.specs.Bounds.{capped}
 use Rattle.sst_filters.specs.Filter.{BloomFilter}
 use Rattle.sst_filters.specs.Policy.{bound_for, fault_for, size_for, tenths_of}
@@ -52,7 +52,7 @@ pub record Adds (key : List ℕ) (w v : CutParts) : Type 0 where
   pub size : v.size ≡ w.size
   pub parts : v.parts ≡ w.parts
   pub bound : v.bound ≡ w.bound
-  pub hashes : v.hashes ≡ w.hashes ++ fnv1a key ∷ []
+  pub hashes : v.hashes ≡ w.hashes ++ hash_of key ∷ []
 
 -- the last keys of the parts and the key rise
 pub ends_and_key : (w : CutParts) (given : GivenKeys) (key : List ℕ) → HoldsParts w given → AreRising (all_keys given ++ key ∷ []) → AreRising (end_keys w.parts ++ key ∷ [])
@@ -116,11 +116,11 @@ module _ (w u : CutParts) (given : GivenKeys) (key : List ℕ) (h : HoldsParts w
   abbrev after : GivenKeys
   after = with_key (Partitioned w.size) w.policy given key
 
-  pub hashes_more : u.hashes ≡ map fnv1a waiting
-  hashes_more = adds.hashes ∙ ap (λ hs. hs ++ fnv1a key ∷ []) h.hashes ∙ sym (map-append fnv1a given.pending (key ∷ []))
+  pub hashes_more : u.hashes ≡ map hash_of waiting
+  hashes_more = adds.hashes ∙ ap (λ hs. hs ++ hash_of key ∷ []) h.hashes ∙ sym (map-append hash_of given.pending (key ∷ []))
 
   pub count_more : length u.hashes ≡ length waiting
-  count_more = ap length hashes_more ∙ length-map waiting fnv1a
+  count_more = ap length hashes_more ∙ length-map waiting hash_of
 
   -- whether the part is full is told by its count
   pub test_is : nat_le u.size (size_for (tenths_of u.policy) (length u.hashes)) ≡ full waiting
@@ -184,7 +184,7 @@ rest_cuts w u v given key h some policy parts bound hashes policy' cuts =
     let all : parts_of w.policy given ≡ given.cut ++ key_part w.policy left ∷ [] = ap (λ (ps : List KeyPart). given.cut ++ ps) rest.one in
     let parts' : v.parts ≡ w.parts ++ record { end_key = key; filter = cuts.filter } ∷ [] = cuts.parts ∙ ap (λ ps. ps ++ record { end_key = key; filter = cuts.filter } ∷ []) parts in
     let is : IsFilterFor w.policy left cuts.filter = subst (λ p. IsFilterFor p left cuts.filter) policy (cuts.is left (hashes ∙ h.hashes)) in
-    let count : length u.hashes ≡ length left = ap length (hashes ∙ h.hashes) ∙ length-map left fnv1a in
+    let count : length u.hashes ≡ length left = ap length (hashes ∙ h.hashes) ∙ length-map left hash_of in
     let bound' : v.bound ≡ capped (w.bound + bound_for (tenths_of w.policy) (length left)) = cuts.bound ∙ rw (bound, policy, count) refl in
     let has : HasParts v (parts_of w.policy given) =
     subst (λ (ps : List KeyPart). HasParts v ps) (sym all)
@@ -198,14 +198,14 @@ rest_fault_none w given h none = ap (λ ks. keys_fault w.policy ks) (no_waiting 
 pub rest_fault_some : (w : CutParts) (given : GivenKeys) (key : List ℕ) → HoldsParts w given → w.last ≡ Some key →
     keys_fault w.policy given.pending ≡ fault_for (tenths_of w.policy) (length w.hashes)
 rest_fault_some w given key h some =
-    fault_of given.pending key (sym h.last ∙ some) ∙ ap (λ (n : ℕ). fault_for (tenths_of w.policy) n) (sym (ap length h.hashes ∙ length-map given.pending fnv1a))
+    fault_of given.pending key (sym h.last ∙ some) ∙ ap (λ (n : ℕ). fault_for (tenths_of w.policy) n) (sym (ap length h.hashes ∙ length-map given.pending hash_of))
   where
     fault_of : (ks : List (List ℕ)) (key : List ℕ) → last_key_of ks ≡ Some key → keys_fault w.policy ks ≡ fault_for (tenths_of w.policy) (length ks)
     fault_of [] key e = cc
     fault_of (k ∷ ks) key e = refl
 
 -- a key is pushed: it fills a part, or waits
-pub pushed_cuts : (w u v : CutParts) (given : GivenKeys) (key end_key : List ℕ) (hash : ℕ) (r : Bool) → Cuts end_key u v → HoldsParts w given → end_key ≡ key → hash ≡ fnv1a key →
+pub pushed_cuts : (w u v : CutParts) (given : GivenKeys) (key end_key : List ℕ) (hash : ℕ) (r : Bool) → Cuts end_key u v → HoldsParts w given → end_key ≡ key → hash ≡ hash_of key →
     u.policy ≡ w.policy → u.size ≡ w.size → u.parts ≡ w.parts → u.bound ≡ w.bound → u.hashes ≡ w.hashes ++ hash ∷ [] →
     r ≡ nat_le u.size (size_for (tenths_of u.policy) (length u.hashes)) → r ≡ true → HoldsParts v (with_key (Partitioned w.size) w.policy given key)
 pushed_cuts w u v given key end_key hash r cuts h same hashed policy size parts bound hashes test t =
@@ -213,7 +213,7 @@ pushed_cuts w u v given key end_key hash r cuts h same hashed policy size parts 
     (record { policy = policy; size = size; parts = parts; bound = bound; hashes = hashes ∙ ap (λ (x : ℕ). w.hashes ++ x ∷ []) hashed })
     v (sym test ∙ t) (subst (λ (k : List ℕ). Cuts k u v) same cuts)
 
-pub pushed_waits : (w u v : CutParts) (given : GivenKeys) (key end_key : List ℕ) (hash : ℕ) (r : Bool) → HoldsParts w given → end_key ≡ key → hash ≡ fnv1a key →
+pub pushed_waits : (w u v : CutParts) (given : GivenKeys) (key end_key : List ℕ) (hash : ℕ) (r : Bool) → HoldsParts w given → end_key ≡ key → hash ≡ hash_of key →
     u.policy ≡ w.policy → u.size ≡ w.size → u.parts ≡ w.parts → u.bound ≡ w.bound → u.hashes ≡ w.hashes ++ hash ∷ [] →
     v.parts ≡ u.parts → v.bound ≡ u.bound → v.hashes ≡ u.hashes → v.last ≡ Some end_key →
     r ≡ nat_le u.size (size_for (tenths_of u.policy) (length u.hashes)) → r ≡ false → HoldsParts v (with_key (Partitioned w.size) w.policy given key)
@@ -223,7 +223,7 @@ pushed_waits w u v given key end_key hash r h same hashed policy size parts boun
     v (sym test ∙ f) parts' bound' hashes' (last ∙ ap (λ (k : List ℕ). Some k) same)
 
 -- and what pushing it refuses
-module _ (w u : CutParts) (given : GivenKeys) (key : List ℕ) (hash : ℕ) (r : Bool) (h : HoldsParts w given) (hashed : hash ≡ fnv1a key)
+module _ (w u : CutParts) (given : GivenKeys) (key : List ℕ) (hash : ℕ) (r : Bool) (h : HoldsParts w given) (hashed : hash ≡ hash_of key)
     (policy : u.policy ≡ w.policy) (size : u.size ≡ w.size) (parts : u.parts ≡ w.parts) (bound : u.bound ≡ w.bound) (hashes : u.hashes ≡ w.hashes ++ hash ∷ [])
     (test : r ≡ nat_le u.size (size_for (tenths_of u.policy) (length u.hashes))) where
   adds : Adds key w u

@@ -10,7 +10,7 @@ use Rattle.std.proofs.Math.Seq.{take-append_seam}
 use Rattle.sst_sections.specs.declared.section.SectionName.{SectionName}
 use Rattle.sst_sections.specs.declared.section.SectionName.TheVariants.{Filter as FilterSection, FilterTli}
 use Rattle.sst_sections.specs.declared.version.TableVersion.TheVariants.{V4}
-use Rattle.sst_sections.specs.Fnv.{fnv1a}
+use Rattle.sst_filters.specs.KeyHash.{hash_of}
 use Rattle.sst_sections.specs.Sections.{Written, slot_index}
 use Rattle.sst_blocks.specs.declared.block_type.BlockType.TheVariants.{Filter, Index}
 use Rattle.sst_blocks.specs.Block.{block_bytes}
@@ -142,7 +142,7 @@ top_room given payload none empty is short =
 length-filter_block : (f : BloomFilter) → length (filter_block V4 f) ≡ 25 + length f.bits
 length-filter_block f = omega (arith, length-block V4 Filter (payload_of f))
 
-no_hashes : (ks : List (List ℕ)) → map fnv1a ks ≡ [] → ks ≡ []
+no_hashes : (ks : List (List ℕ)) → map hash_of ks ≡ [] → ks ≡ []
 no_hashes [] e = refl
 no_hashes (k ∷ ks) e = cc
 
@@ -158,7 +158,7 @@ full_none w given before none h =
     (record { uncut = λ _. refl; some = tt; filters = []; are = tt; written = appended_none before; counted = refl; fit = tt })
 
 pub full_one : (policy : BloomConstructionPolicy) (keys : List (List ℕ)) (before u after : Written) (f : BloomFilter) (payload : List ℕ) →
-    (map fnv1a keys ≡ [] → ⊥) → IsFilterFor policy keys f → IsBuilt f → payload ≡ payload_of f →
+    (map hash_of keys ≡ [] → ⊥) → IsFilterFor policy keys f → IsBuilt f → payload ≡ payload_of f →
     u ≡ record before { started = before.started ++ (FilterSection, length before.bytes) ∷ [] } →
     after ≡ record u { bytes = u.bytes ++ block_bytes V4 Filter payload } → WritesParts Full policy (given_by Full policy keys) before after 1
 full_one policy [] before u after f payload some is built e eu ev = absurd (some refl)
@@ -173,7 +173,7 @@ full_one policy (k ∷ keys) before u after f payload some is built e eu ev = re
 }
 
 pub full_written : (r : Result ℕ Error) (policy : BloomConstructionPolicy) (hashes : List ℕ) (w : Hashes) (before after : Written) → policy ≡ w.policy → hashes ≡ w.hashes →
-    IfOk r (λ n. (keys : List (List ℕ)) → hashes ≡ map fnv1a keys → WritesParts Full policy (given_by Full policy keys) before after n) →
+    IfOk r (λ n. (keys : List (List ℕ)) → hashes ≡ map hash_of keys → WritesParts Full policy (given_by Full policy keys) before after n) →
     IfOk r (λ n. (given : GivenKeys) → HoldsHashes w given → WritesParts Full w.policy given before after n)
 full_written (Ok n) policy hashes w before after same held writes = λ given h.
     let all : given_by Full policy given.pending ≡ given = sym (given_is given h.uncut refl) in
@@ -186,10 +186,10 @@ pub full_fault : (r : Result ℕ Error) (policy : BloomConstructionPolicy) (hash
     (w.hashes ≡ [] → ⊥) → w.failed ≡ false → HoldsHashes w given → Faults r (fault_for (tenths_of policy) (length hashes)) →
     Faults r (option_or (failed_fault w.failed) (given_fault Full w.policy given))
 full_fault r policy hashes w given same held some works h fault =
-    let count : length given.pending ≡ length hashes = sym (ap length (held ∙ h.hashes) ∙ length-map given.pending fnv1a) in
+    let count : length given.pending ≡ length hashes = sym (ap length (held ∙ h.hashes) ∙ length-map given.pending hash_of) in
     let told : option_or (failed_fault w.failed) (given_fault Full w.policy given) ≡ fault_for (tenths_of policy) (length hashes) =
     ap (λ (b : Bool). option_or (failed_fault b) (keys_fault w.policy given.pending)) works
-    ∙ fault_of w.policy given.pending (λ none. some (h.hashes ∙ ap (λ (ks : List (List ℕ)). map fnv1a ks) none))
+    ∙ fault_of w.policy given.pending (λ none. some (h.hashes ∙ ap (λ (ks : List (List ℕ)). map hash_of ks) none))
     ∙ ap (λ (p : BloomConstructionPolicy). fault_for (tenths_of p) (length given.pending)) (sym same)
     ∙ ap (λ (n : ℕ). fault_for (tenths_of policy) n) count in
     subst (λ x. Faults r x) (sym told) fault

@@ -1,10 +1,12 @@
 -- What a filter that was written says of a key.
-use Rattle.std.specs.Prelude.{◌≡◌, ℕ, ◌-◌, Bool, true, not, List, ◌∷◌, ◌++◌, length, find, Option, Some, Ok, []}
+use Rattle.std.specs.Prelude.{◌≡◌, ℕ, ◌-◌, Bool, true, not, List, ◌∷◌, ◌++◌, length, find, Option}
+use Rattle.std.specs.Prelude.{Some, Ok, []}
 use Rattle.std.specs.List.{list_any}
 use Rattle.sst_entries.specs.Key.{key_lt, same_key}
-use Rattle.sst_sections.specs.Fnv.{fnv1a}
+use Rattle.sst_filters.specs.KeyHash.{hash_of}
 use Rattle.sst_sections.specs.Sections.{Written}
-use Rattle.sst_sections.specs.declared.section.SectionName.TheVariants.{Filter as FilterSection, FilterTli}
+use Rattle.sst_sections.specs.declared.section.SectionName.TheVariants.{Filter as FilterSection}
+use Rattle.sst_sections.specs.declared.section.SectionName.TheVariants.{FilterTli}
 use Rattle.sst_sections.specs.declared.version.TableVersion.TheVariants.{V4}
 use Rattle.sst_blocks.specs.declared.block_type.BlockType.TheVariants.{Filter}
 use Rattle.sst_blocks.specs.Block.{Loaded, load_told}
@@ -27,7 +29,7 @@ was_given given key = is_among (all_keys given) key
 pub record SaysYes (body : List ℕ) (offset size : ℕ) (key : List ℕ) : Type 0 where
   pub block : Loaded
   pub loads : load_told body offset size Filter ≡ Ok block
-  pub yes : admits (filter_in block.payload) (fnv1a key) ≡ true
+  pub yes : admits (filter_in block.payload) (hash_of key) ≡ true
 
 -- the first handle whose end key is not below the key leads to a filter that has the key's hash
 pub record FirstSaysYes (body : List ℕ) (tops : List Handle) (key : List ℕ) : Type 0 where
@@ -44,8 +46,8 @@ pub record TopLevelSaysYes (before after : Written) (body key : List ℕ) : Type
       before.started ++ (FilterSection, length before.bytes) ∷ (FilterTli, length front) ∷ []
   pub says : FirstSaysYes body tops key
 
--- what was written between two states of a file says yes of a key: the one block of a full filter, or
--- that of the partition which the top level names for the key, whatever follows in the file
+-- what was written between two states of a file says yes of a key: the one block of a full filter,
+-- or that of the partition which the top level names for the key, whatever follows in the file
 abbrev pub IsAdmitted : FilterKind → Written → Written → List ℕ → List ℕ → Type 0
 IsAdmitted Full before after behind key =
     let size = length after.bytes - length before.bytes in

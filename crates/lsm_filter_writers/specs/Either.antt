@@ -6,7 +6,8 @@ use Rattle.lsm_files.specs.declared.options.FilterKind.TheVariants.{Full, Partit
 use Rattle.lsm_filter_writers.specs.Given.{GivenKeys}
 use Rattle.lsm_filter_writers.specs.Held.{HoldsHashes, HoldsParts}
 use Rattle.lsm_filter_writers.specs.declared.either.FilterWriterImpl.{FilterWriterImpl}
-use Rattle.lsm_filter_writers.specs.declared.either.FilterWriterImpl.TheVariants.{Full as FullWriter, Partitioned as PartitionedWriter}
+use Rattle.lsm_filter_writers.specs.declared.either.FilterWriterImpl.TheVariants.{Full as FullWriter}
+use Rattle.lsm_filter_writers.specs.declared.either.FilterWriterImpl.TheVariants.{Partitioned as PartitionedWriter}
 
 -- the kind of a writer, its policy, and whether it has refused
 abbrev pub kind_by : {A : Type 0} → FilterWriterImpl A → FilterKind

@@ -1,9 +1,10 @@
 -- What writers of filters hold, and the keys that it stands for.
-use Rattle.std.specs.Prelude.{◌≡◌, ℕ, ◌+◌, Bool, List, [], ◌∷◌, ◌++◌, length, map, Option, Some, None}
+use Rattle.std.specs.Prelude.{◌≡◌, ℕ, ◌+◌, Bool, List, [], ◌∷◌, ◌++◌, length, map, Option, Some}
+use Rattle.std.specs.Prelude.{None}
 use Rattle.std.specs.List.{AllByRecursion}
 use Rattle.sst_blocks.specs.Block.{header_len}
 use Rattle.sst_blocks.specs.Bounds.{capped}
-use Rattle.sst_sections.specs.Fnv.{fnv1a}
+use Rattle.sst_filters.specs.KeyHash.{hash_of}
 use Rattle.sst_filters.specs.declared.policy.BloomConstructionPolicy.{BloomConstructionPolicy}
 use Rattle.sst_filters.specs.Filter.{BloomFilter, payload_of}
 use Rattle.sst_filters.specs.Policy.{bound_for, tenths_of}
@@ -21,15 +22,15 @@ pub record Hashes : Type 0 where
 -- these are the keys: all are pending
 pub record HoldsHashes (w : Hashes) (given : GivenKeys) : Type 0 where
   pub uncut : given.cut ≡ []
-  pub hashes : w.hashes ≡ map fnv1a given.pending
+  pub hashes : w.hashes ≡ map hash_of given.pending
 
 -- a part that was cut: its last key and its filter
 pub record CutPart : Type 0 where
   pub end_key : List ℕ
   pub filter : BloomFilter
 
--- the parts that were cut, with a bound on the length of their blocks, and of the part that waits the hashes
--- and the last key
+-- the parts that were cut, with a bound on the length of their blocks, and of the part that waits
+-- the hashes and the last key
 pub record CutParts : Type 0 where
   pub policy : BloomConstructionPolicy
   pub size : ℕ
@@ -81,7 +82,7 @@ pub record HasParts (w : CutParts) (parts : List KeyPart) : Type 0 where
 -- these are the keys: the parts that were cut, and what is pending
 pub record HoldsParts (w : CutParts) (given : GivenKeys) : Type 0 where
   pub cut : HasParts w given.cut
-  pub hashes : w.hashes ≡ map fnv1a given.pending
+  pub hashes : w.hashes ≡ map hash_of given.pending
   pub last : w.last ≡ last_key_of given.pending
 
 -- these are the keys, all cut
@@ -91,7 +92,7 @@ HoldsAll w given = HasParts w (parts_of w.policy given)
 -- what waits was cut off as a part with this last key
 pub record Cuts (key : List ℕ) (w v : CutParts) : Type 0 where
   pub filter : BloomFilter
-  pub is : (keys : List (List ℕ)) → w.hashes ≡ map fnv1a keys → IsFilterFor w.policy keys filter
+  pub is : (keys : List (List ℕ)) → w.hashes ≡ map hash_of keys → IsFilterFor w.policy keys filter
   pub parts : v.parts ≡ w.parts ++ record { end_key = key; filter = filter } ∷ []
   pub bound : v.bound ≡ capped (w.bound + bound_for (tenths_of w.policy) (length w.hashes))
   pub hashes : v.hashes ≡ []

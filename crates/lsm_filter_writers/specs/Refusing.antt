@@ -1,5 +1,6 @@
 -- What writers of filters refuse.
-use Rattle.std.specs.Prelude.{ℕ, List, [], ◌∷◌, ◌++◌, length, map, sum_by, Option, None, if◌then◌else◌}
+use Rattle.std.specs.Prelude.{ℕ, List, [], ◌∷◌, ◌++◌, length, map, sum_by, Option, None}
+use Rattle.std.specs.Prelude.{if◌then◌else◌}
 use Rattle.std.specs.Option.{option_or}
 use Rattle.sst_entries.specs.declared.error.Error.{Error}
 use Rattle.sst_blocks.specs.Encoding.{handles_fault}
@@ -54,8 +55,8 @@ end_handle key = record { end_key = key; seqno = 0; offset = 0; size = 0 }
 abbrev pub top_fault : List (List ℕ) → Option Error
 top_fault ends = handles_fault (map end_handle ends)
 
--- what finishing a filter of these keys refuses, all given under one kind and one policy: the filter
--- of all of them; or that of the rest, then the section of all parts, then the top level
+-- what finishing a filter of these keys refuses, all given under one kind and one policy: the
+-- filter of all of them; or that of the rest, then the section of all parts, then the top level
 abbrev pub filter_fault : FilterKind → BloomConstructionPolicy → List (List ℕ) → Option Error
 filter_fault Full policy keys = keys_fault policy keys
 filter_fault (Partitioned size) policy keys =

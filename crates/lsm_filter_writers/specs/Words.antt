@@ -1,6 +1,6 @@
 -- The words of clauses, from one place.
 pub use Rattle.sst_entries.specs.Error.{Faults, FaultsFirst}
-pub use Rattle.sst_sections.specs.Fnv.{fnv1a}
+pub use Rattle.sst_filters.specs.KeyHash.{hash_of}
 pub use Rattle.sst_sections.specs.Sections.{slot_index}
 pub use Rattle.sst_filters.specs.Filter.{payload_of}
 pub use Rattle.sst_filters.specs.Policy.{fault_for, size_for, tenths_of}

@@ -3,12 +3,13 @@ use Rattle.std.specs.Prelude.{◌≡◌, ℕ, List, [], ◌∷◌, length, map}
 use Rattle.std.specs.List.{AllByRecursion, flat_map}
 use Rattle.sst_sections.specs.declared.version.TableVersion.TheVariants.{V4}
 use Rattle.sst_sections.specs.Sections.{Written}
-use Rattle.sst_sections.specs.declared.section.SectionName.TheVariants.{Filter as FilterSection, FilterTli}
+use Rattle.sst_sections.specs.declared.section.SectionName.TheVariants.{Filter as FilterSection}
+use Rattle.sst_sections.specs.declared.section.SectionName.TheVariants.{FilterTli}
 use Rattle.sst_blocks.specs.Handle.{Handle}
 use Rattle.sst_filters.specs.declared.policy.BloomConstructionPolicy.{BloomConstructionPolicy}
 use Rattle.sst_filters.specs.Filter.{BloomFilter}
 use Rattle.lsm_files.specs.declared.options.FilterKind.{FilterKind}
-use Rattle.lsm_files.specs.declared.options.FilterKind.TheVariants.{Full, Partitioned}
+use Rattle.lsm_files.specs.declared.options.FilterKind.TheVariants.{Full}
 use Rattle.lsm_files.specs.Filters.{AreFiltersFor, filter_block}
 use Rattle.lsm_files.specs.Fits.{SectionFits}
 use Rattle.lsm_files.specs.Kinds.{filter_count, filter_parts, filter_sections}
@@ -23,7 +24,8 @@ abbrev pub sections_behind : FilterKind → BloomConstructionPolicy → List (Li
 sections_behind kind policy keys before fs =
     filter_sections kind V4 (length before.bytes) (filter_parts kind policy keys) fs
 
--- the filters of these keys were written behind what was written before, and so many blocks are counted
+-- the filters of these keys were written behind what was written before, and so many blocks are
+-- counted
 pub record WritesFilter (kind : FilterKind) (policy : BloomConstructionPolicy)
     (keys : List (List ℕ)) (before after : Written) (count : ℕ) : Type 0 where
   pub filters : List BloomFilter
@@ -38,9 +40,9 @@ abbrev pub key_sections : FilterKind → BloomConstructionPolicy → GivenKeys �
 key_sections kind policy given before fs =
     filter_sections kind V4 (length before.bytes) (keys_in (parts_of policy given)) fs
 
--- the filters of these keys were written behind what was written before: each part has the filter of
--- the policy under which it was cut, what was pending that of the last policy; and so many blocks are
--- counted
+-- the filters of these keys were written behind what was written before: each part has the filter
+-- of the policy under which it was cut, what was pending that of the last policy; and so many
+-- blocks are counted
 pub record WritesParts (kind : FilterKind) (policy : BloomConstructionPolicy) (given : GivenKeys)
     (before after : Written) (count : ℕ) : Type 0 where
   pub uncut : kind ≡ Full → given.cut ≡ []
@@ -64,8 +66,3 @@ part_sections at parts =
     (FilterSection, flat_map (filter_block V4) (filters_of parts))
     ∷ (FilterTli, tops_block at parts)
     ∷ []
-
--- the kind with partitions of this size, where it has partitions
-abbrev pub with_size : ℕ → FilterKind → FilterKind
-with_size size Full = Full
-with_size size (Partitioned before) = Partitioned size

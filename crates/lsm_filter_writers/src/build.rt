@@ -1,32 +1,34 @@
 //! Building the filter of some keys.
 ghost use Rattle.std.specs.Prelude.{◌≡◌, ℕ, List, length, map, IfOk};
-ghost use Rattle.lsm_filter_writers.specs.Words.{Faults, IsFilterFor, fault_for, fnv1a, tenths_of};
+ghost use Rattle.lsm_filter_writers.specs.Words.{Faults, IsFilterFor, fault_for, hash_of};
+ghost use Rattle.lsm_filter_writers.specs.Words.{tenths_of};
 
 use sst_blocks::{BloomConstructionPolicy, Builder, Error};
 use std::alloc::Allocator;
 
-/// The filter of the keys whose hashes are in a buffer, by the buffer's allocator. Refused as [`build_filter`] is.
+/// The filter of the keys whose hashes are in a buffer, by the buffer's allocator. Refused as
+/// [`build_filter`] is.
 pub(crate) fn build_from_buffer<A: Allocator + Clone>(
     policy: &BloomConstructionPolicy,
     hashes: &Vec<u64, A>,
 ) -> Result<Builder<A>, Error>
     ensures filter { IfOk result (λ f. (keys : List (List ℕ)) →
-        hashes.now.items ≡ map fnv1a keys → IsFilterFor policy.now keys f) }
+        hashes.now.items ≡ map hash_of keys → IsFilterFor policy.now keys f) }
     ensures refused { let n = length hashes.now.items in
         Faults result (fault_for (tenths_of policy.now) n) }
 {
     build_filter(hashes.allocator().clone()?, policy, hashes)
 }
 
-/// The filter of the keys of these hashes. Refused [`Error::BlockTooLarge`] where its block would have 2^32 bytes or more,
-/// and [`Error::OutOfMemory`].
+/// The filter of the keys of these hashes. Refused [`Error::BlockTooLarge`] where its block would
+/// have 2^32 bytes or more, and [`Error::OutOfMemory`].
 fn build_filter<A: Allocator>(
     alloc: A,
     policy: &BloomConstructionPolicy,
     hashes: &[u64],
 ) -> Result<Builder<A>, Error>
     ensures filter { IfOk result (λ f. (keys : List (List ℕ)) →
-        hashes.now ≡ map fnv1a keys → IsFilterFor policy.now keys f) }
+        hashes.now ≡ map hash_of keys → IsFilterFor policy.now keys f) }
     ensures refused { Faults result (fault_for (tenths_of policy.now) (length hashes.now)) }
 {
     let mut filter = policy.init(alloc, hashes.len())?;

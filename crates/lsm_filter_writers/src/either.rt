@@ -16,7 +16,8 @@ pub enum FilterWriterImpl<A: Allocator = Global> {
 }
 
 impl<A: Allocator + Clone> FilterWriter<A> for FilterWriterImpl<A> {
-    ghost use Rattle.lsm_filter_writers.specs.Either.{HoldsBy, failed_by, kind_by, policy_by, with_policy_by, with_size_by};
+    ghost use Rattle.lsm_filter_writers.specs.Either.{HoldsBy, failed_by, kind_by, policy_by};
+    ghost use Rattle.lsm_filter_writers.specs.Either.{with_policy_by, with_size_by};
 
     ghost kind = { λ w. kind_by w };
 

@@ -1,7 +1,7 @@
 //! The writer of a full filter.
 ghost use Rattle.std.specs.Prelude.{◌≡◌, ℕ, List, [], false, length, map, take, IfOk};
 ghost use Rattle.lsm_filter_writers.specs.Words.{Faults, HasNoFilter, HoldsHashes, WritesParts};
-ghost use Rattle.lsm_filter_writers.specs.Words.{fault_for, fnv1a, given_by, no_keys, tenths_of};
+ghost use Rattle.lsm_filter_writers.specs.Words.{fault_for, hash_of, given_by, no_keys, tenths_of};
 ghost use Rattle.lsm_files.specs.declared.options.FilterKind.TheVariants.{Full};
 
 use crate::build::build_from_buffer;
@@ -99,8 +99,8 @@ impl<A: Allocator + Clone> FilterWriter<A> for FullFilterWriter<A> {
     }
 }
 
-/// Writes the section of the filter of the keys of these hashes, and answers how many blocks it has. Refused
-/// [`Error::BlockTooLarge`] where the filter is too large, and [`Error::OutOfMemory`].
+/// Writes the section of the filter of the keys of these hashes, and answers how many blocks it
+/// has. Refused [`Error::BlockTooLarge`] where the filter is too large, and [`Error::OutOfMemory`].
 fn write_filter<A: Allocator + Clone>(
     writer: &mut SectionWriter<A>,
     policy: &BloomConstructionPolicy,
@@ -108,7 +108,7 @@ fn write_filter<A: Allocator + Clone>(
 ) -> Result<usize, Error>
     requires unwritten { HasNoFilter writer.old }
     requires some { hashes.now.items ≡ [] → ⊥ }
-    ensures ok { IfOk result (λ n. (keys : List (List ℕ)) → hashes.now.items ≡ map fnv1a keys →
+    ensures ok { IfOk result (λ n. (keys : List (List ℕ)) → hashes.now.items ≡ map hash_of keys →
         WritesParts Full policy.now (given_by Full policy.now keys) writer.old writer.new n) }
     ensures before { take (length writer.old.bytes) writer.new.bytes ≡ writer.old.bytes }
     ensures refused { let n = length hashes.now.items in

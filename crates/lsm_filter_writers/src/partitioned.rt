@@ -1,5 +1,6 @@
 //! The writer of a filter of partitions.
-ghost use Rattle.std.specs.Prelude.{◌≡◌, ◌+◌, ◌++◌, ◌∷◌, ℕ, List, [], None, true, false, nat_le, length, map, take, All, IfOk, IfErr, OnOk, OnErr};
+ghost use Rattle.std.specs.Prelude.{◌≡◌, ◌+◌, ◌++◌, ◌∷◌, ℕ, List, [], None, true, false, nat_le};
+ghost use Rattle.std.specs.Prelude.{length, map, take, All, IfOk, IfErr, OnOk, OnErr};
 ghost use Rattle.lsm_filter_writers.specs.Words.{AreRising, AreStrictHandles, Cuts, Faults};
 ghost use Rattle.lsm_filter_writers.specs.Words.{FaultsFirst, GivenKeys, HasNoFilter, HoldsAll};
 ghost use Rattle.lsm_filter_writers.specs.Words.{HoldsParts, SectionFits, appended, end_keys};
@@ -38,8 +39,9 @@ impl<A: Allocator> Model for FilterPartition<A> {
     ghost view = { λ p. record { end_key = p.end_key; filter = p.filter } };
 }
 
-/// Writes a filter of partitions, each cut when it has so many bytes, and a top level that has their last keys. A contract
-/// sees the filters of the partitions that were cut, and the hashes of the keys behind them.
+/// Writes a filter of partitions, each cut when it has so many bytes, and a top level that has
+/// their last keys. A contract sees the filters of the partitions that were cut, and the hashes of
+/// the keys behind them.
 #[derive(Drop)]
 pub struct PartitionedFilterWriter<A: Allocator = Global> {
     bloom_policy: BloomConstructionPolicy,
@@ -75,7 +77,8 @@ impl<A: Allocator> Model for PartitionedFilterWriter<A> {
 }
 
 impl<A: Allocator + Clone> PartitionedFilterWriter<A> {
-    /// No keys, and partitions of 4,096 bytes. Refused [`Error::OutOfMemory`] where the allocator does not clone.
+    /// No keys, and partitions of 4,096 bytes. Refused [`Error::OutOfMemory`] where the allocator
+    /// does not clone.
     pub fn new(
         alloc: A,
         policy: BloomConstructionPolicy,
@@ -236,8 +239,9 @@ impl<A: Allocator + Clone> FilterWriter<A> for PartitionedFilterWriter<A> {
     }
 }
 
-/// Writes the section of the partitions, one behind another, and the section of their top level. Answers how many partitions
-/// there are. Refused where the top level's block is too large, and [`Error::OutOfMemory`].
+/// Writes the section of the partitions, one behind another, and the section of their top level.
+/// Answers how many partitions there are. Refused where the top level's block is too large, and
+/// [`Error::OutOfMemory`].
 fn write_sections<A: Allocator + Clone>(
     writer: &mut SectionWriter<A>,
     partitions: Vec<FilterPartition<A>, A>,
@@ -259,8 +263,8 @@ fn write_sections<A: Allocator + Clone>(
     Ok(handles.len())
 }
 
-/// Writes the blocks of the partitions, one behind another, and answers the top level's handles of them. Refused
-/// [`Error::OutOfMemory`] alone.
+/// Writes the blocks of the partitions, one behind another, and answers the top level's handles of
+/// them. Refused [`Error::OutOfMemory`] alone.
 fn write_partitions<A: Allocator + Clone>(
     writer: &mut SectionWriter<A>,
     partitions: Vec<FilterPartition<A>, A>,
@@ -281,7 +285,8 @@ fn write_partitions<A: Allocator + Clone>(
     Ok(handles)
 }
 
-/// Writes the block of a partition at the end, and answers the top level's handle of it. Refused [`Error::OutOfMemory`] alone.
+/// Writes the block of a partition at the end, and answers the top level's handle of it. Refused
+/// [`Error::OutOfMemory`] alone.
 fn write_partition<A: Allocator + Clone>(
     writer: &mut SectionWriter<A>,
     partition: FilterPartition<A>,
@@ -300,8 +305,8 @@ fn write_partition<A: Allocator + Clone>(
     Ok(KeyedBlockHandle::new(partition.end_key, 0, place))
 }
 
-/// Writes the section of the top level: one block of these handles. Refused where it is too large, and
-/// [`Error::OutOfMemory`].
+/// Writes the section of the top level: one block of these handles. Refused where it is too large,
+/// and [`Error::OutOfMemory`].
 fn write_top_level<A: Allocator + Clone>(
     writer: &mut SectionWriter<A>,
     handles: &Vec<KeyedBlockHandle<A>, A>,

@@ -24,7 +24,8 @@ pub trait FilterWriter<A: Allocator> {
     ghost use Rattle.lsm_filter_writers.specs.Given.{GivenKeys, no_keys, with_key};
     ghost use Rattle.lsm_filter_writers.specs.Refusing.{given_fault, register_fault};
     ghost use Rattle.lsm_filter_writers.specs.Rising.{Rises};
-    ghost use Rattle.lsm_filter_writers.specs.Writing.{WritesParts, with_size};
+    ghost use Rattle.lsm_filter_writers.specs.Writing.{WritesParts};
+    ghost use Rattle.lsm_files.specs.Kinds.{filter_with_size};
 
     /// The kind of the filter.
     ghost kind: { Self → FilterKind };
@@ -49,9 +50,9 @@ pub trait FilterWriter<A: Allocator> {
     /// which is then cut off where its filter, by the policy in force, is as large as the partition
     /// size in force; no part before it changes.
     ///
-    /// Refused [`Error::WriterFailed`] where it has refused before;
-    /// [`Error::BlockTooLarge`] where the filter of a part that is cut behind the key is too large; and
-    /// [`Error::OutOfMemory`]. It has then failed.
+    /// Refused [`Error::WriterFailed`] where it has refused before; [`Error::BlockTooLarge`] where
+    /// the filter of a part that is cut behind the key is too large; and [`Error::OutOfMemory`]. It
+    /// has then failed.
     fn register_key(&mut self, key: &UserKey<A>) -> Result<(), Error>
         requires { has_failed self.old ≡ false → Rises (Holds self.old) key.now }
         ensures ok { OnOk result ((given : GivenKeys) → Holds self.old given →
@@ -66,13 +67,15 @@ pub trait FilterWriter<A: Allocator> {
         // That it has failed takes no memory to find.
         ensures first { FaultsFirst result (failed_fault (has_failed self.old)) };
 
-    /// Writes the filter, and answers how many blocks are counted: 1 for a full filter, also without keys, else how many
-    /// partitions there are. Without keys it writes nothing, and takes no memory.
+    /// Writes the filter, and answers how many blocks are counted: 1 for a full filter, also
+    /// without keys, else how many partitions there are. Without keys it writes nothing, and takes
+    /// no memory.
     ///
-    /// Refused [`Error::WriterFailed`] where it has refused before; [`Error::BlockTooLarge`] where the filter of all keys, or
-    /// of those behind the last cut, is too large; then, of partitions alone, [`Error::SectionTooLarge`] where their blocks
-    /// are, [`Error::KeyTooLong`] where the last key of one of them is too long for the top level, and
-    /// [`Error::BlockTooLarge`] where the top level is; and [`Error::OutOfMemory`]. The bytes that were written before stay.
+    /// Refused [`Error::WriterFailed`] where it has refused before; [`Error::BlockTooLarge`] where
+    /// the filter of all keys, or of those behind the last cut, is too large; then, of partitions
+    /// alone, [`Error::SectionTooLarge`] where their blocks are, [`Error::KeyTooLong`] where the
+    /// last key of one of them is too long for the top level, and [`Error::BlockTooLarge`] where
+    /// the top level is; and [`Error::OutOfMemory`]. The bytes that were written before stay.
     fn finish(self, writer: &mut SectionWriter<A>) -> Result<usize, Error>
         requires { HasNoFilter writer.old }
         ensures ok { IfOk result (λ n. (given : GivenKeys) → Holds self given →
@@ -95,16 +98,18 @@ pub trait FilterWriter<A: Allocator> {
         ensures failed { has_failed result ≡ has_failed self }
         ensures holds { (given : GivenKeys) → Holds self given → Holds result given };
 
-    /// Compresses the top level, where the filter has partitions. What it holds and what it writes stay.
+    /// Compresses the top level, where the filter has partitions. What it holds and what it writes
+    /// stay.
     fn use_tli_compression(self, compression: CompressionType) -> Self
         ensures { result ≡ self };
 
-    /// Sets the size in bytes at which a partition is cut, where the filter has partitions, and changes nothing else: what was
-    /// registered and what was cut stay. It is in force from the next key on.
+    /// Sets the size in bytes at which a partition is cut, where the filter has partitions, and
+    /// changes nothing else: what was registered and what was cut stay. It is in force from the
+    /// next key on.
     fn use_partition_size(self, size: u32) -> Self
         ensures value { result ≡ with_partition_size self size }
         ensures policy { policy result ≡ policy self }
-        ensures kind { kind result ≡ with_size size (kind self) }
+        ensures kind { kind result ≡ filter_with_size size (kind self) }
         ensures failed { has_failed result ≡ has_failed self }
         ensures holds { (given : GivenKeys) → Holds self given → Holds result given };
 }
@@ -140,12 +145,12 @@ pub fn options_set_before_keys()
         given_fault kind policy (given_by kind policy keys) ≡ filter_fault kind policy keys }
 {}
 
-/// A law of what [`FilterWriter::finish`] writes, whatever options were set between keys: the filter
-/// says yes of each key that was registered. The one block of a full filter loads, and its filter has
-/// the key's hash. Of partitions the first handle of the top level whose end key is not below the key
-/// leads to a block that loads, and its filter has the hash. So a no of the filter means that the key
-/// was not registered. It says too that a key that is registered comes behind all others. The call
-/// does nothing.
+/// A law of what [`FilterWriter::finish`] writes, whatever options were set between keys: the
+/// filter says yes of each key that was registered. The one block of a full filter loads, and its
+/// filter has the key's hash. Of partitions the first handle of the top level whose end key is not
+/// below the key leads to a block that loads, and its filter has the hash. So a no of the filter
+/// means that the key was not registered. It says too that a key that is registered comes behind
+/// all others. The call does nothing.
 pub fn registered_keys_are_admitted()
     ensures admitted { (kind : FilterKind) (policy : BloomConstructionPolicy) (given : GivenKeys)
         (before after : Written) (count : ℕ) (behind key : List ℕ) →

@@ -12,7 +12,8 @@ use Rattle.lsm_files.specs.Partitions.{index_tops, is_full_index}
 use Rattle.lsm_files.specs.declared.options.IndexKind.{IndexKind}
 use Rattle.lsm_files.specs.declared.options.IndexKind.TheVariants.{Full, Partitioned}
 
--- what a part refuses behind blocks with so many bytes at most: its own block, then the section so far
+-- what a part refuses behind blocks with so many bytes at most: its own block, then the section so
+-- far
 abbrev pub part_fault : ℕ → List Handle → Option Error
 part_fault before part =
     option_or (handles_fault part) (section_fault (before + index_block_bound_of part))
@@ -23,8 +24,8 @@ parts_fault before [] = None
 parts_fault before (p ∷ ps) =
     option_or (part_fault before p) (parts_fault (before + index_block_bound_of p) ps)
 
--- what an index of these handles refuses: its one block; or its parts, then the block of the top level, whatever position
--- the parts begin at
+-- what an index of these handles refuses: its one block; or its parts, then the block of the top
+-- level, whatever position the parts begin at
 abbrev pub kind_fault : IndexKind → List Handle → Option Error
 kind_fault Full hs = handles_fault hs
 kind_fault (Partitioned size) hs =

@@ -9,6 +9,7 @@ pub use Rattle.lsm_files.specs.Failed.{failed_fault}
 pub use Rattle.lsm_files.specs.File.{HasNoIndex}
 pub use Rattle.lsm_files.specs.Fits.{SectionFits}
 pub use Rattle.lsm_files.specs.Layout.{appended}
-pub use Rattle.lsm_files.specs.Partitions.{handle_size, handles_block, index_tops, is_full_index, partitioned_index}
+pub use Rattle.lsm_files.specs.Partitions.{handle_size, handles_block, index_tops, is_full_index}
+pub use Rattle.lsm_files.specs.Partitions.{partitioned_index}
 pub use Rattle.lsm_files.specs.Parts.{parts_by}
 pub use Rattle.lsm_index_writers.specs.Refusing.{kind_fault, part_fault, parts_fault}

@@ -14,8 +14,9 @@ use sst_blocks::{
 };
 use std::alloc::Allocator;
 
-/// Writes one block of these handles at the end, and answers where it lies. Its payload is put together in `buffer`. Refused
-/// where the block is too large, and [`Error::OutOfMemory`]; nothing is written then.
+/// Writes one block of these handles at the end, and answers where it lies. Its payload is put
+/// together in `buffer`. Refused where the block is too large, and [`Error::OutOfMemory`]; nothing
+/// is written then.
 pub(crate) fn write_block<A: Allocator + Clone>(
     writer: &mut SectionWriter<A>,
     handles: &[KeyedBlockHandle<A>],
@@ -38,8 +39,8 @@ pub(crate) fn write_block<A: Allocator + Clone>(
     Block::write_into(writer, buffer, BlockType::Index, compression)
 }
 
-/// Writes the section of an index's top level, or of the whole of a full one: one block of these handles. Refused as
-/// [`write_block`] is; the bytes that were written before stay.
+/// Writes the section of an index's top level, or of the whole of a full one: one block of these
+/// handles. Refused as [`write_block`] is; the bytes that were written before stay.
 pub(crate) fn write_top_level<A: Allocator + Clone>(
     writer: &mut SectionWriter<A>,
     handles: &[KeyedBlockHandle<A>],

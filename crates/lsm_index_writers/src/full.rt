@@ -1,6 +1,7 @@
 //! The writer of a full index.
 ghost use Rattle.std.specs.Prelude.{◌≡◌, ◌∷◌, [], false, length, take, IfOk, OnOk};
-ghost use Rattle.lsm_index_writers.specs.Words.{AreStrictHandles, Faults, HasNoIndex, SectionFits, appended};
+ghost use Rattle.lsm_index_writers.specs.Words.{AreStrictHandles, Faults, HasNoIndex, SectionFits};
+ghost use Rattle.lsm_index_writers.specs.Words.{appended};
 ghost use Rattle.lsm_index_writers.specs.Words.{handles_block, handles_fault};
 ghost use Rattle.lsm_index_writers.specs.Either.{registered_by};
 ghost use Rattle.lsm_files.specs.declared.options.IndexKind.TheVariants.{Full};
@@ -16,7 +17,8 @@ use sst_blocks::{CompressionType, Error, KeyedBlockHandle, SectionWriter};
 use std::alloc::{Allocator, Global};
 use std::marker::Model;
 
-/// Writes an index of one block, which has the handles of all data blocks. A contract sees the handles.
+/// Writes an index of one block, which has the handles of all data blocks. A contract sees the
+/// handles.
 #[derive(Drop)]
 pub struct FullIndexWriter<A: Allocator = Global> {
     compression: CompressionType,
@@ -56,8 +58,8 @@ impl<A: Allocator> FullIndexWriter<A> {
         FullIndexWriter { compression, held }
     }
 
-    /// A writer of an index of another kind, with the same handles: so a table's writer can choose the kind when all handles
-    /// are there.
+    /// A writer of an index of another kind, with the same handles: so a table's writer can choose
+    /// the kind when all handles are there.
     pub fn into_kind(self, kind: IndexKind) -> IndexWriterImpl<A>
         ensures { registered_by result ≡ record self { kind = kind } }
     {
@@ -97,8 +99,8 @@ impl<A: Allocator + Clone> BlockIndexWriter<A> for FullIndexWriter<A> {
     }
 }
 
-/// Writes the section of the one block of these handles, and answers how many blocks it has. Refused where the block is too
-/// large, and [`Error::OutOfMemory`].
+/// Writes the section of the one block of these handles, and answers how many blocks it has.
+/// Refused where the block is too large, and [`Error::OutOfMemory`].
 fn write_section<A: Allocator + Clone>(
     writer: &mut SectionWriter<A>,
     handles: &Vec<KeyedBlockHandle<A>, A>,

@@ -24,8 +24,8 @@ impl<A: Allocator> HeldHandles<A> {
         }
     }
 
-    /// Keeps a copy of a handle behind the others. Refused [`Error::WriterFailed`] after a refusal, and
-    /// [`Error::OutOfMemory`].
+    /// Keeps a copy of a handle behind the others. Refused [`Error::WriterFailed`] after a refusal,
+    /// and [`Error::OutOfMemory`].
     pub(crate) fn register_data_block(&mut self, handle: &KeyedBlockHandle<A>) -> Result<(), Error>
         ensures ok { OnOk result (
             self.new.handles.items ≡ self.old.handles.items ++ handle.now ∷ []) }

@@ -1,4 +1,5 @@
-//! Writers of the index of a table's data blocks: one block of all handles, or partitions and a top level.
+//! Writers of the index of a table's data blocks: one block of all handles, or partitions and a top
+//! level.
 #![tactic(auto)]
 
 mod block;

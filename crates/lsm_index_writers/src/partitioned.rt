@@ -1,9 +1,12 @@
 //! The writer of an index of partitions.
-ghost use Rattle.std.specs.Prelude.{◌≡◌, ◌+◌, ◌-◌, ◌<◌, ◌≤◌, ◌^◌, ◌++◌, ◌∷◌, [], false, length, take};
+ghost use Rattle.std.specs.Prelude.{◌≡◌, ◌+◌, ◌-◌, ◌<◌, ◌≤◌, ◌^◌, ◌++◌, ◌∷◌, [], false, length};
+ghost use Rattle.std.specs.Prelude.{take};
 ghost use Rattle.std.specs.Prelude.{IfOk, IfErr, OnOk, OnErr};
 ghost use Rattle.std.specs.List.{AllByRecursion, flat_map};
-ghost use Rattle.lsm_index_writers.specs.Words.{AreStrictHandles, Faults, HasNoIndex, SectionFits, appended};
-ghost use Rattle.lsm_index_writers.specs.Words.{capped, handle_size, handles_block, index_block_bound_of};
+ghost use Rattle.lsm_index_writers.specs.Words.{AreStrictHandles, Faults, HasNoIndex, SectionFits};
+ghost use Rattle.lsm_index_writers.specs.Words.{appended};
+ghost use Rattle.lsm_index_writers.specs.Words.{capped, handle_size, handles_block};
+ghost use Rattle.lsm_index_writers.specs.Words.{index_block_bound_of};
 ghost use Rattle.lsm_index_writers.specs.Words.{index_tops, is_full_index, kind_fault, part_fault};
 ghost use Rattle.lsm_index_writers.specs.Words.{partitioned_index, parts_by, parts_fault};
 ghost use Rattle.lsm_files.specs.declared.options.IndexKind.TheVariants.{Partitioned};
@@ -20,8 +23,9 @@ use std::marker::Model;
 /// What a handle counts towards the size of its partition, beside the length of its end key.
 const HANDLE_SIZE: u64 = 48;
 
-/// Writes an index of partitions, each cut when it has so many bytes, and a top level with their handles. A contract sees the
-/// handles of the data blocks, which are all kept until the writer finishes.
+/// Writes an index of partitions, each cut when it has so many bytes, and a top level with their
+/// handles. A contract sees the handles of the data blocks, which are all kept until the writer
+/// finishes.
 #[derive(Drop)]
 pub struct PartitionedIndexWriter<A: Allocator = Global> {
     compression: CompressionType,
@@ -108,9 +112,9 @@ impl<A: Allocator + Clone> BlockIndexWriter<A> for PartitionedIndexWriter<A> {
     }
 }
 
-/// Writes the section of the partitions where there are none, and the section of a top level without
-/// handles. Only the section writer takes memory. Refused [`Error::OutOfMemory`] alone; no byte is
-/// written then.
+/// Writes the section of the partitions where there are none, and the section of a top level
+/// without handles. Only the section writer takes memory. Refused [`Error::OutOfMemory`] alone; no
+/// byte is written then.
 fn write_no_partitions<A: Allocator + Clone>(
     writer: &mut SectionWriter<A>,
     compression: CompressionType,
@@ -125,8 +129,9 @@ fn write_no_partitions<A: Allocator + Clone>(
     write_empty_top_level(writer, compression)
 }
 
-/// Writes the section of the partitions of these handles, and the section of their top level. Answers how many partitions there
-/// are. Refused where a block or all of them are too large, and [`Error::OutOfMemory`].
+/// Writes the section of the partitions of these handles, and the section of their top level.
+/// Answers how many partitions there are. Refused where a block or all of them are too large, and
+/// [`Error::OutOfMemory`].
 fn write_sections<A: Allocator + Clone>(
     writer: &mut SectionWriter<A>,
     handles: &Vec<KeyedBlockHandle<A>, A>,
@@ -161,8 +166,9 @@ fn write_sections<A: Allocator + Clone>(
     Ok(tops.len())
 }
 
-/// Cuts the handles into partitions, writes their blocks one behind another, and puts the top level's handles of them into
-/// `tops`, which is empty. Refused where a block or all of them are too large, and [`Error::OutOfMemory`].
+/// Cuts the handles into partitions, writes their blocks one behind another, and puts the top
+/// level's handles of them into `tops`, which is empty. Refused where a block or all of them are
+/// too large, and [`Error::OutOfMemory`].
 fn write_partitions<A: Allocator + Clone>(
     writer: &mut SectionWriter<A>,
     handles: &[KeyedBlockHandle<A>],
@@ -203,7 +209,8 @@ fn write_partitions<A: Allocator + Clone>(
     Ok(())
 }
 
-/// The size of a partition of `size` bytes with a handle more. It stays at the largest number where the sum would pass it.
+/// The size of a partition of `size` bytes with a handle more. It stays at the largest number where
+/// the sum would pass it.
 fn with_handle<A: Allocator>(size: u64, handle: &KeyedBlockHandle<A>) -> u64
     ensures { result ≡ capped (size + handle_size handle.now) }
 {
@@ -211,8 +218,9 @@ fn with_handle<A: Allocator>(size: u64, handle: &KeyedBlockHandle<A>) -> u64
     size.saturating_add(HANDLE_SIZE)
 }
 
-/// Writes the block of a part of the handles at the end, and puts the top level's handle of it behind the others. The blocks
-/// of the section begin at `base`. Refused where the block or the section so far is too large, and [`Error::OutOfMemory`].
+/// Writes the block of a part of the handles at the end, and puts the top level's handle of it
+/// behind the others. The blocks of the section begin at `base`. Refused where the block or the
+/// section so far is too large, and [`Error::OutOfMemory`].
 fn write_partition<A: Allocator + Clone>(
     writer: &mut SectionWriter<A>,
     base: u64,

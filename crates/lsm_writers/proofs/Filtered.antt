@@ -1,5 +1,5 @@
 -- The filter writer of a writer between its calls.
-use Rattle.std.proofs.Common.{◌≡◌, refl, sym, ◌∙◌, ap, subst, ℕ, Bool, true, false, cond, List, [], ◌∷◌, ◌++◌, length, append_assoc, IsTrue}
+use Rattle.std.proofs.Common.{◌≡◌, refl, sym, ◌∙◌, ap, subst, ℕ, ◌≤◌, Bool, true, false, cond, List, [], ◌∷◌, ◌++◌, length, append_assoc, arith, IsTrue}
 use Rattle.std.proofs.lemmas.List.{append-nil}
 use Rattle.sst_sections.specs.Sections.{Written}
 use Rattle.sst_sections.specs.declared.version.TableVersion.TheVariants.{V4}
@@ -14,7 +14,7 @@ use Rattle.lsm_files.specs.Facts.{starts_key}
 use Rattle.lsm_files.specs.Failed.{failed_fault}
 use Rattle.std.specs.Option.{option_or}
 use Rattle.lsm_files.specs.Filters.{filtered_keys, keys_after}
-use Rattle.lsm_files.specs.Kinds.{filter_count, filter_parts, filter_sections}
+use Rattle.lsm_files.specs.Kinds.{filter_count, filter_parts, filter_sections, filter_with_size}
 use Rattle.lsm_files.specs.Layout.{Sections, appended}
 use Rattle.lsm_files.specs.Parts.{parts_after}
 use Rattle.lsm_files.specs.declared.options.FilterKind.{FilterKind}
@@ -52,6 +52,11 @@ no_keys policy = no_keys_by (nat_lt 0 (tenths_of policy))
 no_writer : {A : Type 0} (kind : FilterKind) (policy : BloomConstructionPolicy) (w : Option (FilterWriterImpl A)) → MayHaveKeys kind policy w [] → w ≡ None
 no_writer kind policy None h = refl
 no_writer kind policy (Some w) h = absurd (h.0 refl)
+
+-- partitions of a small size are small
+pub sized_small : (size : ℕ) (kind : FilterKind) → size ≤ 4194304 → IsSmallFilter (filter_with_size size kind)
+sized_small size FullFilter small = omega arith
+sized_small size (PartitionedFilter before) small = small
 
 -- so before the first entry the filter may still be of another kind and policy
 pub filtered_anew : {A : Type 0} (failed : Bool) (kind l : FilterKind) (policy p : BloomConstructionPolicy) (w : Option (FilterWriterImpl A)) (es : List Entry) → es ≡ [] → IsFiltered failed kind policy w es → IsSmallFilter l → IsFiltered failed l p w es

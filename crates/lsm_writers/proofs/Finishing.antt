@@ -6,14 +6,11 @@ use Rattle.std.proofs.lemmas.List.{append-nil, nil_from_length}
 use Rattle.std.proofs.lemmas.List.Sums.{sum_by-cons}
 use Rattle.sst_sections.specs.declared.version.TableVersion.TheVariants.{V4}
 use Rattle.sst_blocks.specs.Encoding.{entries_fault}
-use Rattle.sst_entries.specs.declared.value_type.ValueType.TheVariants.{Value}
 use Rattle.sst_entries.specs.declared.error.Error.{Error}
 use Rattle.sst_entries.specs.declared.error.Error.TheVariants.{WriterFailed}
-use Rattle.sst_entries.specs.Entry.{Entry, entry}
+use Rattle.sst_entries.specs.Entry.{Entry}
 use Rattle.sst_sections.specs.Fnv.{fnv1a}
-use Rattle.sst_sections.specs.Number.{le4, le8, le16}
-use Rattle.sst_entries.specs.Strict.{IsStrictAfter, IsStrict, last_of}
-use Rattle.sst_sections.proofs.Numbers.{wide4, wide8}
+use Rattle.sst_entries.specs.Strict.{IsStrict, last_of}
 use Rattle.lsm_writers.specs.declared.writer.meta.Metadata.{Metadata}
 use Rattle.lsm_files.specs.Chunks.{joined, entry_size, entries_size, is_full, AreChunks}
 use Rattle.lsm_writers.specs.Counts.{metadata_of, counted_facts, counted_items, HasShortKeys}
@@ -44,10 +41,13 @@ use Rattle.lsm_files.specs.Fits.{BlockFits, EntryFits, LabelFits, SectionFits}
 use Rattle.lsm_index_writers.specs.declared.either.IndexWriterImpl.{IndexWriterImpl}
 use Rattle.lsm_index_writers.specs.Either.{registered_by}
 use Rattle.lsm_index_writers.specs.Registered.{Registered}
-use Rattle.lsm_writers.specs.Held.{AreParts, IsShortest, IsHeld}
+use Rattle.lsm_writers.specs.Held.{AreTableParts, IsShortest, IsHeld}
 use Rattle.sst_blocks.specs.Handle.{Handle}
 use Rattle.lsm_files.specs.Index.{data_section, handles, last_entry}
-use Rattle.lsm_files.specs.MetaBlock.{Blocks, meta_items, meta_entries}
+use Rattle.lsm_files.specs.MetaBlock.{Blocks, meta_entry, meta_items, meta_entries}
+use Rattle.lsm_files.specs.declared.item_name.ItemName.{ItemName}
+use Rattle.lsm_files.specs.declared.item_name.ItemName.TheVariants as item
+use Rattle.lsm_files.proofs.MetaItems.{IsShort, items_each, items_few, items_strict}
 use Rattle.lsm_files.specs.declared.options.Options.{Options}
 use Rattle.lsm_files.specs.declared.label.Label.{Label}
 use Rattle.lsm_files.specs.Failed.{failed_fault}
@@ -87,132 +87,27 @@ same_items : {A : Type 0} (label : Label) (options : Options) (m : Metadata A) (
 unfolding counted_items
 same_items label options m cs fs i f index filter h = rw (h, append-nil (joined cs), index, filter) refl
 
-items_strict : (label : Label) (options : Options) (counted : Blocks) (f : ListFacts) (a b d : ℕ) → IsStrict (meta_items V4 label options counted f a b d)
-unfolding IsStrictAfter name_of
-items_strict label options counted f a b d = (refl, (refl, (refl, (refl, (refl, (refl, (refl, (refl, (refl, (refl, (refl, (refl, (refl, (refl, (refl, (refl, (refl, (refl, (refl, (refl, (refl, (refl, (refl, (refl, (refl, (refl, (refl, (refl, (refl, tt)))))))))))))))))))))))))))))
+abbrev IsSmall : Entry → Type 0
+IsSmall e = EntryFits V4 e × (entry_size e ≤ 1048640)
 
-record IsSmall (e : Entry) : Type 0 where
-  key : length e.user_key ≤ 64
-  value : length e.value ≤ 1048576
-  number : e.seqno ≡ 0
-
-small8 : (name : List ℕ) (n : ℕ) → length name ≤ 64 → IsSmall (entry name (le8 n) 0 Value)
-small8 name n h = record { key = h; value = omega (arith, wide8.len n); number = refl }
-
-small4 : (name : List ℕ) (n : ℕ) → length name ≤ 64 → IsSmall (entry name (le4 n) 0 Value)
-small4 name n h = record { key = h; value = omega (arith, wide4.len n); number = refl }
-
-len16 : (n : ℕ) → length (le16 n) ≡ 16
-unfolding le16
-len16 n = refl
-
-small16 : (name : List ℕ) (n : ℕ) → length name ≤ 64 → IsSmall (entry name (le16 n) 0 Value)
-small16 name n h = record { key = h; value = omega (arith, len16 n); number = refl }
-
-small_fits : (e : Entry) → IsSmall e → EntryFits V4 e
-small_fits e h = record { key = omega (arith, h.key); value = omega (arith, h.value); number = omega (arith, h.number) }
+short_small : (e : Entry) → IsShort e → IsSmall e
+short_small e h = (record { key = omega (arith, h.name); value = omega (arith, h.value); number = omega (arith, h.number) }, omega (arith, h.name, h.value))
 
 small_sum : (es : List Entry) → AllByRecursion IsSmall es → entries_size es ≤ 1048640 * length es
 small_sum [] h = omega arith
-small_sum (e ∷ es) h = omega (arith, small_sum es h.1, h.0.key, h.0.value, sum_by-cons entry_size e es)
+small_sum (e ∷ es) h = omega (arith, small_sum es h.1, h.0.1, sum_by-cons entry_size e es)
 
-items_small : (label : Label) (options : Options) (counted : Blocks) (f : ListFacts) (a b d : ℕ) → length f.max_key ≤ 1048576 → length f.min_key ≤ 1048576 → AllByRecursion IsSmall (meta_items V4 label options counted f a b d)
-unfolding name_of
-items_small label options counted f a b d top low = (
-  small8 _ _ (omega arith),
-  (
-    small8 _ _ (omega arith),
-    (
-      small8 _ _ (omega arith),
-      (
-        record { key = omega arith; value = omega arith; number = refl },
-        (
-          record { key = omega arith; value = omega arith; number = refl },
-          (
-            record { key = omega arith; value = omega arith; number = refl },
-            (
-              record { key = omega arith; value = omega arith; number = refl },
-              (
-                small16 _ _ (omega arith),
-                (
-                  small4 _ _ (omega arith),
-                  (
-                    small8 _ _ (omega arith),
-                    (
-                      record { key = omega arith; value = omega arith; number = refl },
-                      (
-                        record { key = omega arith; value = omega arith; number = refl },
-                        (
-                          record { key = omega arith; value = omega arith; number = refl },
-                          (
-                            small8 _ _ (omega arith),
-                            (
-                              record { key = omega arith; value = top; number = refl },
-                              (
-                                record { key = omega arith; value = low; number = refl },
-                                (
-                                  small8 _ _ (omega arith),
-                                  (
-                                    record { key = omega arith; value = omega arith; number = refl },
-                                    (
-                                      record { key = omega arith; value = omega arith; number = refl },
-                                      (
-                                        record { key = omega arith; value = omega arith; number = refl },
-                                        (
-                                          record { key = omega arith; value = omega arith; number = refl },
-                                          (
-                                            small8 _ _ (omega arith),
-                                            (
-                                              small8 _ _ (omega arith),
-                                              (
-                                                small8 _ _ (omega arith),
-                                                (
-                                                  record { key = omega arith; value = omega arith; number = refl },
-                                                  (
-                                                    small8 _ _ (omega arith),
-                                                    (
-                                                      small8 _ _ (omega arith),
-                                                      (
-                                                        small8 _ _ (omega arith),
-                                                        (
-                                                          small8 _ _ (omega arith),
-                                                          tt,
-                                                        ),
-                                                      ),
-                                                    ),
-                                                  ),
-                                                ),
-                                              ),
-                                            ),
-                                          ),
-                                        ),
-                                      ),
-                                    ),
-                                  ),
-                                ),
-                              ),
-                            ),
-                          ),
-                        ),
-                      ),
-                    ),
-                  ),
-                ),
-              ),
-            ),
-          ),
-        ),
-      ),
-    ),
-  ),
-)
+-- the item of a key
+key_small : (name : ItemName) (key : List ℕ) → length (name_of name) ≤ 64 → length key ≤ 1048576 → IsSmall (meta_entry name key)
+key_small name key short fits = (record { key = omega (arith, short); value = omega (arith, fits); number = omega arith }, omega (arith, short, fits))
 
 items_fit : (label : Label) (options : Options) (counted : Blocks) (f : ListFacts) (a b d : ℕ) → length f.max_key ≤ 1048576 → length f.min_key ≤ 1048576 → entries_fault (meta_items V4 label options counted f a b d) ≡ None
+unfolding name_of
 items_fit label options counted f a b d top low =
     let es = meta_items V4 label options counted f a b d in
-    let small = items_small label options counted f a b d top low in
-    let n : length es ≡ 29 = refl in
-    no_fault es (all_more IsSmall (EntryFits V4) small_fits es small) (omega (arith, small_sum es small, n))
+    let small = items_each V4 label options counted f a b d IsSmall short_small (key_small item.KeyMax f.max_key (omega arith) top) (key_small item.KeyMin f.min_key (omega arith) low) in
+    let n = items_few V4 label options counted f a b d in
+    no_fault es (all_more IsSmall (EntryFits V4) (λ e h. h.0) es small) (omega (arith, small_sum es small, n))
 
 pub first_short : (es : List Entry) → AllByRecursion (EntryFits V4) es → length (unwrap_or (first_key es) []) ≤ 1048576
 first_short [] h = omega arith
@@ -228,7 +123,7 @@ last_short (e ∷ es) h = rw (last_of_cons None e es) (last_all (EntryFits V4) e
 
 pub counted_strict : {A : Type 0} (label : Label) (options : Options) (counts : Blocks) (m : Metadata A) → IsStrict (counted_items label options counts m)
 unfolding counted_items
-counted_strict label options counts m = items_strict label options counts (counted_facts m) m.data_block_count m.file_pos.0 m.uncompressed_size
+counted_strict label options counts m = items_strict V4 label options counts (counted_facts m) m.data_block_count m.file_pos.0 m.uncompressed_size
 
 pub counted_fit : {A : Type 0} (label : Label) (options : Options) (counts : Blocks) (m : Metadata A) → HasShortKeys m → entries_fault (counted_items label options counts m) ≡ None
 unfolding counted_items
@@ -309,7 +204,7 @@ writes_table w m i f first indexed filtered versioned whole kind hs bytes k d h 
 
 -- the same, from the parts that a table is finished from
 pub sections_written : {A : Type 0} (label : Label) (options : Options) (cut : List (List Entry)) (i f : ℕ) (first indexed filtered versioned whole : Written) (index : IndexWriterImpl A) (filter : Option (FilterWriterImpl A)) (m : Metadata A)
-    → AreParts options cut first index filter m
+    → AreTableParts options cut first index filter m
     → indexed ≡ appended first (index_sections (registered_by index).kind V4 (length first.bytes) (registered_by index).handles (index_parts (registered_by index).kind (registered_by index).handles))
     → AllByRecursion SectionFits (index_sections (registered_by index).kind V4 (length first.bytes) (registered_by index).handles (index_parts (registered_by index).kind (registered_by index).handles))
     → i ≡ length (index_parts (registered_by index).kind (registered_by index).handles)
@@ -322,7 +217,7 @@ sections_written label options cut i f first indexed filtered versioned whole in
 
 -- and nothing is refused of them
 pub sections_fit : {A : Type 0} (label : Label) (options : Options) (cut : List (List Entry)) (first : Written) (index : IndexWriterImpl A) (filter : Option (FilterWriterImpl A)) (m : Metadata A)
-    → AreParts options cut first index filter m
+    → AreTableParts options cut first index filter m
     → index_fault (registered_by index).kind (registered_by index).failed (registered_by index).handles ≡ None
     → filter_fault options.filter_kind options.bloom_policy (filtered_keys options.bloom_policy (joined cut)) ≡ None
     → sections_fault (cut_writing label options cut) ≡ None
@@ -445,7 +340,7 @@ keys_of_cut failed kind policy w cs pending h works none =
 pub parts_are : {A : Type 0} (failed : Bool) (options : Options) (cut : List (List Entry)) (pending : List Entry) (n : ℕ) (m : Metadata A) (filter : Option (FilterWriterImpl A)) (first : Written) (hs : List Handle) (lost : Bool) (index : IndexWriterImpl A)
     → IsHeld options.data_block_size cut pending n m → IsFiltered failed options.filter_kind options.bloom_policy filter (joined cut ++ pending) → pending ≡ [] → failed ≡ false
     → first ≡ laid ((Data, data_section V4 cut) ∷ []) → registered_by index ≡ record { handles = hs; kind = options.index_kind; failed = lost } → hs ≡ handles V4 cut → lost ≡ false → AllByRecursion (BlockFits V4) cut
-    → AreParts options cut first index filter m
+    → AreTableParts options cut first index filter m
 parts_are failed options cut pending n m filter first hs lost index held filtered none works l r h f blocks =
     let all = none_pending options.data_block_size cut pending n m held none in
     record {

@@ -1,5 +1,6 @@
 -- What a writer counts while it writes.
-use Rattle.std.specs.Prelude.{ℕ, ◌+◌, ◌-◌, ◌<◌, ◌≤◌, ◌^◌, List, [], ◌++◌, length, min, max, count_by, sum_by, Option, Some, None, unwrap_or}
+use Rattle.std.specs.Prelude.{ℕ, ◌+◌, ◌-◌, ◌<◌, ◌≤◌, ◌^◌, List, [], ◌++◌, length, min, max}
+use Rattle.std.specs.Prelude.{count_by, sum_by, Option, Some, None, unwrap_or}
 use Rattle.std.specs.Option.{option_or}
 use Rattle.sst_sections.specs.declared.version.TableVersion.{TableVersion}
 use Rattle.sst_sections.specs.declared.version.TableVersion.TheVariants.{V4}
@@ -9,7 +10,9 @@ use Rattle.sst_blocks.specs.Payload.{payload}
 use Rattle.lsm_writers.specs.declared.writer.meta.Metadata.{Metadata}
 use Rattle.lsm_writers.specs.declared.writer.meta.Tally.{Tally}
 use Rattle.lsm_files.specs.Chunks.{joined}
-use Rattle.lsm_files.specs.Facts.{ListFacts, is_tombstone, is_weak, starts_key, is_reclaimable, one_if, count_after, lowest_seqno, highest_seqno, first_key, last_key}
+use Rattle.lsm_files.specs.Facts.{ListFacts, is_tombstone, is_weak, starts_key, is_reclaimable}
+use Rattle.lsm_files.specs.Facts.{one_if, count_after, lowest_seqno, highest_seqno, first_key}
+use Rattle.lsm_files.specs.Facts.{last_key}
 use Rattle.lsm_files.specs.Index.{data_section}
 use Rattle.lsm_files.specs.MetaBlock.{Blocks, meta_items}
 use Rattle.lsm_files.specs.declared.options.Options.{Options}

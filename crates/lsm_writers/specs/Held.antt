@@ -1,5 +1,6 @@
 -- What holds of a writer's parts between its calls.
-use Rattle.std.specs.Prelude.{◌≡◌, ℕ, ◌+◌, ◌*◌, ◌<◌, ◌^◌, Bool, true, false, List, [], ◌∷◌, ◌++◌, length, take, Option}
+use Rattle.std.specs.Prelude.{◌≡◌, ℕ, ◌+◌, ◌*◌, ◌<◌, ◌^◌, Bool, true, false, List, [], ◌∷◌, ◌++◌}
+use Rattle.std.specs.Prelude.{length, take, Option}
 use Rattle.std.specs.List.{AllByRecursion}
 use Rattle.sst_sections.specs.declared.version.TableVersion.TheVariants.{V4}
 use Rattle.sst_entries.specs.Entry.{Entry}
@@ -56,11 +57,11 @@ IsTaken true chunk cut meta pending size cut' meta' =
     (pending ≡ []) × (size ≡ 0) × (cut'.chunks ≡ cut.chunks ++ chunk ∷ [])
     × (cut'.failed ≡ false) × (meta' ≡ with_cut cut'.chunks meta)
 
--- the parts that a table is finished from: the data section, the index and the filter of some chunks,
--- and their counts
-pub record AreParts {A : Type 0} (options : Options) (cut : List (List Entry)) (front : Written)
-    (index : IndexWriterImpl A) (filter : Option (FilterWriterImpl A)) (meta : Metadata A)
-    : Type 0 where
+-- the parts that a table is finished from: the data section, the index and the filter of some
+-- chunks, and their counts
+pub record AreTableParts {A : Type 0} (options : Options) (cut : List (List Entry))
+    (front : Written) (index : IndexWriterImpl A) (filter : Option (FilterWriterImpl A))
+    (meta : Metadata A) : Type 0 where
   pub laid_first : front ≡ laid ((Data, data_section V4 cut) ∷ [])
   pub kind : (registered_by index).kind ≡ options.index_kind
   pub handles_are : (registered_by index).handles ≡ handles V4 cut
@@ -75,4 +76,4 @@ pub record AreParts {A : Type 0} (options : Options) (cut : List (List Entry)) (
 pub record HaveParts {A : Type 0} (options : Options) (front : Written) (index : IndexWriterImpl A)
     (filter : Option (FilterWriterImpl A)) (meta : Metadata A) : Type 0 where
   pub cut : List (List Entry)
-  pub are : AreParts options cut front index filter meta
+  pub are : AreTableParts options cut front index filter meta

@@ -1,5 +1,8 @@
 -- A list that is cut into tables, and the state of a writer of many tables.
-use Rattle.std.specs.Prelude.{◌≡◌, ℕ, zero, suc, ◌+◌, ◌-◌, ◌^◌, ◌<◌, ◌≤◌, ◌==◌, ◌&&◌, Bool, true, false, nat_lt, nat_le, IsTrue, List, [], ◌∷◌, ◌++◌, length, take, drop, map, slice_index, Option, Some, None, unwrap_or, MatchOption, if◌then◌else◌}
+use Rattle.std.specs.Prelude.{◌≡◌, ℕ, zero, suc, ◌+◌, ◌-◌, ◌^◌, ◌<◌, ◌≤◌, ◌==◌, ◌&&◌, Bool, true}
+use Rattle.std.specs.Prelude.{false, nat_lt, nat_le, IsTrue, List, [], ◌∷◌, ◌++◌, length, take}
+use Rattle.std.specs.Prelude.{drop, map, slice_index, Option, Some, None, unwrap_or, MatchOption}
+use Rattle.std.specs.Prelude.{if◌then◌else◌}
 use Rattle.std.specs.List.{AllByRecursion, filter}
 use Rattle.std.specs.Option.{option_or, option_to_list}
 use Rattle.sst_entries.specs.declared.error.Error.{Error}
@@ -26,7 +29,9 @@ use Rattle.lsm_filter_writers.specs.Refusing.{filter_fault}
 use Rattle.lsm_index_writers.specs.Refusing.{index_fault}
 use Rattle.lsm_writers.specs.declared.writer.FinishedTable.{FinishedTable}
 use Rattle.lsm_writers.specs.Cut.{rest_chunk}
-use Rattle.lsm_writers.specs.Writing.{IsFinished, IsFresh, IsTableWith, IsWritable, Writing, finish_fault, fresh_writing, gained, may_be_written, write_fault, written}
+use Rattle.lsm_writers.specs.Writing.{IsFinished, IsFresh, IsTableWith, IsWritable, Writing}
+use Rattle.lsm_writers.specs.Writing.{finish_fault, fresh_writing, gained, may_be_written}
+use Rattle.lsm_writers.specs.Writing.{write_fault, written}
 
 -- the chunks of a list that are full: those whose blocks are cut while it is written
 abbrev pub full_chunks : ℕ → List Entry → List (List Entry)
@@ -155,8 +160,8 @@ pub record TablesWriting : Type 0 where
   pub present : Writing
   pub failed : Bool
 
--- the list written: the entries of the finished tables, then those of the present one; a writer that
--- has refused gives it up
+-- the list written: the entries of the finished tables, then those of the present one; a writer
+-- that has refused gives it up
 abbrev pub all_written : TablesWriting → List Entry
 all_written m = if m.failed then [] else joined m.tables ++ written m.present
 
@@ -270,8 +275,8 @@ pub record FitsBehind (options : Options) (es : List Entry) (e : Entry) : Type 0
   pub block : data_block_bound_of (filling options es ++ e ∷ []) < 2 ^ 32
   pub sections : table_fault options es ≡ None
 
--- a writer that has not refused, and an id that is left, where the entry fits behind the list of the
--- present table
+-- a writer that has not refused, and an id that is left, where the entry fits behind the list of
+-- the present table
 pub record HasRoomFor (m : TablesWriting) (e : Entry) : Type 0 where
   pub works : m.failed ≡ false
   pub left : m.ids ≡ None → ⊥
@@ -332,8 +337,8 @@ abbrev pub gained_all : Writing → List Entry → Writing
 gained_all w [] = w
 gained_all w (e ∷ es) = gained_all (gained w e) es
 
--- the present writer has taken its entries and nothing else; the lists are cut where they may be, and
--- the finished tables are tables of theirs, under ids that run on up to the present one
+-- the present writer has taken its entries and nothing else; the lists are cut where they may be,
+-- and the finished tables are tables of theirs, under ids that run on up to the present one
 pub record GoesOn {A : Type 0} (target : ℕ) (ids : Option ℕ) (fs : List (FinishedTable A))
     (w : Writing) : Type 0 where
   pub present : w ≡ gained_all (fresh_writing w.label w.options) (written w)

@@ -12,16 +12,19 @@ pub use Rattle.lsm_files.specs.Failed.{failed_fault}
 pub use Rattle.lsm_files.specs.File.{HasNoFilter, HasNoVersion, version_section}
 pub use Rattle.lsm_files.specs.Fits.{BlockFits, EntryFits, LabelFits}
 pub use Rattle.lsm_files.specs.Index.{data_block, data_section, handle_of, handles}
+pub use Rattle.lsm_files.specs.Kinds.{filter_with_size, index_with_size}
 pub use Rattle.lsm_files.specs.Layout.{appended, laid}
 pub use Rattle.lsm_files.specs.Options.{label_of}
 pub use Rattle.lsm_filter_writers.specs.Refusing.{filter_fault}
-pub use Rattle.lsm_filter_writers.specs.Writing.{WritesFilter, with_size as filter_with_size}
-pub use Rattle.lsm_index_writers.specs.Registered.{with_size as index_with_size}
+pub use Rattle.lsm_filter_writers.specs.Writing.{WritesFilter}
 pub use Rattle.lsm_writers.specs.Counts.{metadata_of, tally_of}
-pub use Rattle.lsm_writers.specs.Cut.{AreCut, CanCut, CountsCut, Cut, IsReadable, rest_chunk, with_cut}
-pub use Rattle.lsm_writers.specs.Filtering.{CanRegister, HasKeys, IsSmallFilter, MayHaveKeys, registered_key}
-pub use Rattle.lsm_writers.specs.Held.{AreParts, HaveParts, IsTaken}
+pub use Rattle.lsm_writers.specs.Cut.{AreCut, CanCut, CountsCut, Cut, IsReadable, rest_chunk}
+pub use Rattle.lsm_writers.specs.Cut.{with_cut}
+pub use Rattle.lsm_writers.specs.Filtering.{CanRegister, HasKeys, IsSmallFilter, MayHaveKeys}
+pub use Rattle.lsm_writers.specs.Filtering.{registered_key}
+pub use Rattle.lsm_writers.specs.Held.{AreTableParts, HaveParts, IsTaken}
 pub use Rattle.lsm_files.specs.Facts.{starts_key}
 pub use Rattle.lsm_writers.specs.Writing.{WritesTable, cut_writing, fresh_writing, sections_fault}
 pub use Rattle.lsm_writers.specs.Writing.{IsFinished, IsFresh, finish_fault, gained, item_fault}
-pub use Rattle.lsm_writers.specs.Writing.{may_be_written, new_writing, spilled, write_fault, written}
+pub use Rattle.lsm_writers.specs.Writing.{may_be_written, new_writing, spilled, write_fault}
+pub use Rattle.lsm_writers.specs.Writing.{written}

@@ -1,11 +1,13 @@
 -- The state of a writer, and what its calls do to it.
-use Rattle.std.specs.Prelude.{◌≡◌, ℕ, ◌+◌, ◌-◌, ◌^◌, ◌<◌, Bool, false, ◌&&◌, nat_lt, nat_le, List, [], ◌∷◌, ◌++◌, length, Option, Some, None, if◌then◌else◌}
+use Rattle.std.specs.Prelude.{◌≡◌, ℕ, ◌+◌, ◌-◌, ◌^◌, ◌<◌, Bool, false, ◌&&◌, nat_lt, nat_le, List}
+use Rattle.std.specs.Prelude.{[], ◌∷◌, ◌++◌, length, Option, Some, None, if◌then◌else◌}
 use Rattle.std.specs.List.{AllByRecursion}
 use Rattle.std.specs.Option.{option_or}
 use Rattle.sst_sections.specs.declared.version.TableVersion.TheVariants.{V4}
 use Rattle.sst_entries.specs.declared.value_type.ValueType.TheVariants.{Value}
 use Rattle.sst_entries.specs.declared.error.Error.{Error}
-use Rattle.sst_entries.specs.declared.error.Error.TheVariants.{KeyTooLong, ValueTooLong, WriterFailed}
+use Rattle.sst_entries.specs.declared.error.Error.TheVariants.{KeyTooLong, ValueTooLong}
+use Rattle.sst_entries.specs.declared.error.Error.TheVariants.{WriterFailed}
 use Rattle.sst_blocks.specs.Bounds.{data_block_bound_of}
 use Rattle.sst_blocks.specs.Encoding.{is_long_key, large_fault}
 use Rattle.sst_entries.specs.Entry.{Entry, entry}
@@ -161,8 +163,8 @@ writing_fault w (e ∷ es) = option_or (write_fault w e) (writing_fault (gained 
 abbrev pub list_fault : Label → List Entry → Option Error
 list_fault label es = writing_fault (new_writing label) es
 
--- a finished table of a list under a label and with options, of which no block was spilled before it
--- was full: its id, its checksum and its bytes
+-- a finished table of a list under a label and with options, of which no block was spilled before
+-- it was full: its id, its checksum and its bytes
 pub record IsTableWith (label : Label) (options : Options) (es : List Entry) (id : ℕ)
     (checksum : ℕ) (bytes : List ℕ) : Type 0 where
   pub some : es ≡ [] → ⊥

@@ -17,18 +17,20 @@ fn are_numbered<A: Allocator>(items: &[InternalValue<A>]) -> bool
     items.iter().all(|item| item.key.seqno < SeqNo::MAX)
 }
 
-/// Whether a table can be written of some entries: each comes strictly before the next by key and number, and each number is
-/// below `u64::MAX`.
+/// Whether a table can be written of some entries: each comes strictly before the next by key and
+/// number, and each number is below `u64::MAX`.
 pub fn is_writable<A: Allocator>(items: &[InternalValue<A>]) -> bool
     ensures { IsTrue result ↔ IsWritable items.now }
 {
     are_strict(items) && are_numbered(items)
 }
 
-/// Writes a list as one table, as a [`Writer`] does that is told nothing else; `None` where the list has no entry. The table
-/// stands at `initial_level` and is created at a moment that is handed in.
+/// Writes a list as one table, as a [`Writer`] does that is told nothing else; `None` where the
+/// list has no entry. The table stands at `initial_level` and is created at a moment that is handed
+/// in.
 ///
-/// Refused with the first fault of [`Writer::write`] or [`Writer::finish`], and [`Error::OutOfMemory`].
+/// Refused with the first fault of [`Writer::write`] or [`Writer::finish`], and
+/// [`Error::OutOfMemory`].
 pub fn write_list<A: Allocator + Clone>(
     alloc: A,
     id: TableId,
@@ -38,7 +40,8 @@ pub fn write_list<A: Allocator + Clone>(
 ) -> Result<Option<FinishedTable<A>>, Error>
     requires { IsWritable items.items }
     ensures table { IfOk result (λ t. MatchOption t (items.items ≡ [])
-        (λ f. IsTableOf (label_of id initial_level created_at) items.items f.id f.checksum.0 f.bytes)) }
+        (λ f. IsTableOf (label_of id initial_level created_at) items.items f.id f.checksum.0
+        f.bytes)) }
     ensures refused { Faults result
         (list_fault (label_of id initial_level created_at) items.items) }
 {

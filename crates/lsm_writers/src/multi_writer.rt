@@ -1,26 +1,32 @@
 //! Writing many tables, one after another.
-ghost use Rattle.std.specs.Prelude.{◌≡◌, ◌↔◌, ◌<◌, ◌≤◌, ◌∷◌, ◌++◌, if◌then◌else◌, [], false, true, IfErr, IfOk, IsTrue, OnErr, OnOk, Some, None};
+ghost use Rattle.std.specs.Prelude.{◌≡◌, ◌↔◌, ◌<◌, ◌≤◌, ◌∷◌, ◌++◌, if◌then◌else◌, [], false, true};
+ghost use Rattle.std.specs.Prelude.{IfErr, IfOk, IsTrue, OnErr, OnOk, Some, None};
 ghost use Rattle.sst_entries.specs.declared.error.Error.TheVariants.{OutOfMemory};
 ghost use Rattle.lsm_files.specs.declared.options.FilterKind.TheVariants.{Partitioned as PartitionedFilter};
 ghost use Rattle.lsm_files.specs.declared.options.IndexKind.TheVariants.{Partitioned as PartitionedIndex};
-ghost use Rattle.lsm_writers.specs.Words.{Faults, FaultsFirst, IsStrict, failed_fault, finish_fault};
-ghost use Rattle.lsm_writers.specs.Words.{may_be_written, written};
-ghost use Rattle.lsm_writers.specs.Tables.{AddsTable, AreFinished, AreInKeyOrder, AreTables, HasRoomFor, IsFreshRun};
-ghost use Rattle.lsm_writers.specs.Tables.{all_written, drawn, early_fault, first_label, ids_after, ids_fault, is_due};
-ghost use Rattle.lsm_writers.specs.Tables.{new_tables, next_writing, rotation_fault, run_fault, table_fault, tables_of};
+ghost use Rattle.lsm_writers.specs.Words.{Faults, FaultsFirst, IsStrict, failed_fault};
+ghost use Rattle.lsm_writers.specs.Words.{finish_fault};
+ghost use Rattle.lsm_writers.specs.Words.{IsSmallFilter, may_be_written, written};
+ghost use Rattle.lsm_writers.specs.Tables.{AddsTable, AreFinished, AreInKeyOrder, AreTables};
+ghost use Rattle.lsm_writers.specs.Tables.{HasRoomFor, IsFreshRun};
+ghost use Rattle.lsm_writers.specs.Tables.{all_written, drawn, early_fault, first_label, ids_after};
+ghost use Rattle.lsm_writers.specs.Tables.{ids_fault, is_due};
+ghost use Rattle.lsm_writers.specs.Tables.{new_tables, next_writing, rotation_fault, run_fault};
+ghost use Rattle.lsm_writers.specs.Tables.{table_fault, tables_of};
 ghost use Rattle.lsm_writers.specs.Tables.{CutLaw, IsStanding, OneCutLaw, OneKeyLaw, TakesLaw};
 ghost use Rattle.lsm_writers.specs.Tables.{took, took_fault, turn_fault, with_options};
 
 use crate::{FinishedTable, TableIds, Timestamp, Writer};
-use lsm_files::BloomConstructionPolicy;
+use lsm_files::{BloomConstructionPolicy, FilterKind, IndexKind, Options};
 use sst_blocks::{CompressionType, Error, InternalKey, InternalValue, SeqNo};
 use std::alloc::{Allocator, Global};
 use std::marker::Model;
 use std::mem;
 
-/// Writes entries into tables, one after another, each with an id of its own. The next table begins at the first entry of a
-/// key, once the data blocks that were cut for the present one have the target's length. A contract sees the lists of the
-/// finished tables, the writer of the present one and the counter of ids.
+/// Writes entries into tables, one after another, each with an id of its own. The next table begins
+/// at the first entry of a key, once the data blocks that were cut for the present one have the
+/// target's length. A contract sees the lists of the finished tables, the writer of the present one
+/// and the counter of ids.
 #[derive(Drop)]
 pub struct MultiWriter<A: Allocator = Global> {
     target_size: u64,
@@ -39,14 +45,22 @@ impl<A: Allocator> Model for MultiWriter<A> {
 
     ghost Value = { TablesWriting };
 
-    ghost view = { λ w. record { target = w.target_size; ids = w.ids; tables = lists_in w.finished.items; present = w.writer; failed = w.failed } };
+    ghost view = { λ w. record {
+      target = w.target_size;
+      ids = w.ids;
+      tables = lists_in w.finished.items;
+      present = w.writer;
+      failed = w.failed;
+    } };
 
-    ghost invariant = { λ w. w.failed ≡ false → GoesOn w.target_size w.ids w.finished.items w.writer };
+    ghost invariant = { λ w. w.failed ≡ false →
+        GoesOn w.target_size w.ids w.finished.items w.writer };
 }
 
 impl<A: Allocator + Clone> MultiWriter<A> {
-    /// A writer of tables that stand at `initial_level` and are created at a moment that is handed in; each but the last has
-    /// at least `target_size` bytes of data blocks. It draws the first id.
+    /// A writer of tables that stand at `initial_level` and are created at a moment that is handed
+    /// in; each but the last has at least `target_size` bytes of data blocks. It draws the first
+    /// id.
     ///
     /// Refused [`Error::TableIdsSpent`] where no id is left, and [`Error::OutOfMemory`].
     pub fn new(
@@ -80,8 +94,9 @@ impl<A: Allocator + Clone> MultiWriter<A> {
         !self.failed && self.finished.is_empty() && self.writer.is_empty()
     }
 
-    /// Whether an entry of this key may be written next: its number is below `u64::MAX`, and it comes strictly after the last
-    /// one by key and number. A writer that has refused has given its list up, so any key may follow there.
+    /// Whether an entry of this key may be written next: its number is below `u64::MAX`, and it
+    /// comes strictly after the last one by key and number. A writer that has refused has given its
+    /// list up, so any key may follow there.
     pub fn can_follow(&self, key: &InternalKey<A>) -> bool
         ensures { result ≡ may_be_written (all_written self.now) key.now.user_key key.now.seqno }
     {
@@ -98,13 +113,15 @@ impl<A: Allocator + Clone> MultiWriter<A> {
         self.ids
     }
 
-    /// Writes an entry, at the front of the next table where one is due: at the first entry of a key, once the data blocks that
-    /// were cut for the present table have the target's length. The present table is then finished.
+    /// Writes an entry, at the front of the next table where one is due: at the first entry of a
+    /// key, once the data blocks that were cut for the present table have the target's length. The
+    /// present table is then finished.
     ///
-    /// Refused [`Error::WriterFailed`] where a call was refused before; where a table is due, [`Error::TableIdsSpent`] where no
-    /// id is left for it, and what [`Writer::finish`] refuses of the present one; then what [`Writer::write`] refuses; and
-    /// [`Error::OutOfMemory`]. Whatever is refused, the list is given up, and each later call is refused
-    /// [`Error::WriterFailed`] and changes nothing. An id that was drawn stays drawn, also where the call is refused then.
+    /// Refused [`Error::WriterFailed`] where a call was refused before; where a table is due,
+    /// [`Error::TableIdsSpent`] where no id is left for it, and what [`Writer::finish`] refuses of
+    /// the present one; then what [`Writer::write`] refuses; and [`Error::OutOfMemory`]. Whatever
+    /// is refused, the list is given up, and each later call is refused [`Error::WriterFailed`] and
+    /// changes nothing. An id that was drawn stays drawn, also where the call is refused then.
     pub fn write(&mut self, item: InternalValue<A>) -> Result<(), Error>
         requires { IsTrue (may_be_written (all_written self.old) item.user_key item.seqno) }
         ensures ok { OnOk result (self.new ≡ took self.old item) }
@@ -113,7 +130,8 @@ impl<A: Allocator + Clone> MultiWriter<A> {
         // What needs no memory to be found comes before any want of memory.
         ensures first { FaultsFirst result (early_fault self.old item) }
         ensures memory { took_fault self.old item ≡ None → IfErr result (λ e. e ≡ OutOfMemory) }
-        // So it is where an id is left, and the entry, its block and the sections of the present table fit.
+        // So it is where an id is left, and the entry, its block and the sections of the present
+        // table fit.
         ensures taken { HasRoomFor self.old item → IfErr result (λ e. e ≡ OutOfMemory) }
         ensures failed { OnErr result (self.new.failed ≡ true) }
         // Whatever is answered, an id was drawn just where a table was due.
@@ -137,11 +155,12 @@ impl<A: Allocator + Clone> MultiWriter<A> {
         Ok(())
     }
 
-    /// Finishes the present table and answers all tables in key order: none where nothing was written. Their ids run on from
-    /// the first; at target 0 from the second, as the first table is finished before it has an entry.
+    /// Finishes the present table and answers all tables in key order: none where nothing was
+    /// written. Their ids run on from the first; at target 0 from the second, as the first table is
+    /// finished before it has an entry.
     ///
-    /// Refused [`Error::WriterFailed`] where a call was refused before, then what [`Writer::finish`] refuses of the present
-    /// table; and [`Error::OutOfMemory`].
+    /// Refused [`Error::WriterFailed`] where a call was refused before, then what
+    /// [`Writer::finish`] refuses of the present table; and [`Error::OutOfMemory`].
     pub fn finish(self) -> Result<Vec<FinishedTable<A>, A>, Error>
         ensures tables { IfOk result (λ fs.
             AreTables self.present.options.data_block_size self.target
@@ -174,79 +193,110 @@ impl<A: Allocator + Clone> MultiWriter<A> {
         Ok(finished)
     }
 
+    // Other options, for all tables.
+    fn with_options(mut self, options: Options) -> MultiWriter<A>
+        requires fresh { IsFreshRun self }
+        requires small { IsSmallFilter options.filter_kind }
+        ensures { result ≡ with_options self options }
+    {
+        self.writer = self.writer.with_options(options);
+        self
+    }
+
     /// After how many entries at most a data block has a place where reading can restart.
-    pub fn use_data_block_restart_interval(mut self, interval: u8) -> MultiWriter<A>
+    pub fn use_data_block_restart_interval(self, interval: u8) -> MultiWriter<A>
         requires fresh { IsFreshRun self }
         requires some { 0 < interval }
         ensures { result ≡
             with_options self
             (record self.present.options { data_block_restart_interval = interval }) }
     {
-        self.writer = self.writer.use_data_block_restart_interval(interval);
-        self
+        let options = Options {
+            data_block_restart_interval: interval,
+            ..self.writer.options()
+        };
+        self.with_options(options)
     }
 
     /// The same for the blocks of the index. Only tables written with 1 can be opened.
-    pub fn use_index_block_restart_interval(mut self, interval: u8) -> MultiWriter<A>
+    pub fn use_index_block_restart_interval(self, interval: u8) -> MultiWriter<A>
         requires { IsFreshRun self }
         ensures { result ≡
             with_options self
             (record self.present.options { index_block_restart_interval = interval }) }
     {
-        self.writer = self.writer.use_index_block_restart_interval(interval);
-        self
+        let options = Options {
+            index_block_restart_interval: interval,
+            ..self.writer.options()
+        };
+        self.with_options(options)
     }
 
     /// How many buckets a data block's hash index has for each entry, in thousandths; 0 for none.
-    pub fn use_data_block_hash_ratio(mut self, ratio: u32) -> MultiWriter<A>
+    pub fn use_data_block_hash_ratio(self, ratio: u32) -> MultiWriter<A>
         requires { IsFreshRun self }
         ensures { result ≡
             with_options self (record self.present.options { data_block_hash_ratio = ratio }) }
     {
-        self.writer = self.writer.use_data_block_hash_ratio(ratio);
-        self
+        let options = Options {
+            data_block_hash_ratio: ratio,
+            ..self.writer.options()
+        };
+        self.with_options(options)
     }
 
     /// How many bytes of keys and values a data block has when it is cut.
-    pub fn use_data_block_size(mut self, size: u32) -> MultiWriter<A>
+    pub fn use_data_block_size(self, size: u32) -> MultiWriter<A>
         requires fresh { IsFreshRun self }
         requires small { size ≤ 4194304 }
         ensures { result ≡
             with_options self (record self.present.options { data_block_size = size }) }
     {
-        self.writer = self.writer.use_data_block_size(size);
-        self
+        let options = Options {
+            data_block_size: size,
+            ..self.writer.options()
+        };
+        self.with_options(options)
     }
 
     /// Writes filters of partitions, each cut when it has 4,096 bytes.
-    pub fn use_partitioned_filter(mut self) -> MultiWriter<A>
+    pub fn use_partitioned_filter(self) -> MultiWriter<A>
         requires { IsFreshRun self }
         ensures { result ≡
             with_options self
             (record self.present.options { filter_kind = PartitionedFilter 4096 }) }
     {
-        self.writer = self.writer.use_partitioned_filter();
-        self
+        let options = Options {
+            filter_kind: FilterKind::Partitioned(4_096),
+            ..self.writer.options()
+        };
+        self.with_options(options)
     }
 
     /// Writes indexes of partitions, each cut when it has 4,096 bytes.
-    pub fn use_partitioned_index(mut self) -> MultiWriter<A>
+    pub fn use_partitioned_index(self) -> MultiWriter<A>
         requires { IsFreshRun self }
         ensures { result ≡
             with_options self (record self.present.options { index_kind = PartitionedIndex 4096 }) }
     {
-        self.writer = self.writer.use_partitioned_index();
-        self
+        let options = Options {
+            index_kind: IndexKind::Partitioned(4_096),
+            ..self.writer.options()
+        };
+        self.with_options(options)
     }
 
     /// How many bits a filter has for a key; where these are 0, no filter is written.
-    pub fn use_bloom_policy(mut self, policy: BloomConstructionPolicy) -> MultiWriter<A>
+    pub fn use_bloom_policy(self, policy: BloomConstructionPolicy) -> MultiWriter<A>
         requires { IsFreshRun self }
         ensures { result ≡
             with_options self (record self.present.options { bloom_policy = policy }) }
     {
-        self.writer = self.writer.use_bloom_policy(policy);
-        self
+        let options = Options {
+            bloom_policy: policy,
+            ..self.writer.options()
+        };
+        self.with_options(options)
     }
 
     /// How data blocks are compressed.
@@ -270,7 +320,8 @@ impl<A: Allocator + Clone> MultiWriter<A> {
     }
 }
 
-/// Finishes a table and puts it behind the others, unless it has no entry. Refused as [`Writer::finish`] is.
+/// Finishes a table and puts it behind the others, unless it has no entry. Refused as
+/// [`Writer::finish`] is.
 fn add_table<A: Allocator + Clone>(
     finished: &mut Vec<FinishedTable<A>, A>,
     writer: Writer<A>,
@@ -293,8 +344,8 @@ fn is_due<A: Allocator + Clone>(target: u64, writer: &Writer<A>, item: &Internal
     writer.metadata().file_pos.0 >= target && writer.starts_key(item)
 }
 
-/// Draws the next id, finishes the present table, and begins the next one. Refused [`Error::TableIdsSpent`] where no id is
-/// left, then as [`Writer::finish`] is; the id stays drawn.
+/// Draws the next id, finishes the present table, and begins the next one. Refused
+/// [`Error::TableIdsSpent`] where no id is left, then as [`Writer::finish`] is; the id stays drawn.
 fn rotate<A: Allocator + Clone>(
     ids: &mut TableIds,
     finished: &mut Vec<FinishedTable<A>, A>,
@@ -335,9 +386,9 @@ fn make_ready<A: Allocator + Clone>(
     Ok(())
 }
 
-/// Laws of a list that is written whole. Each list is cut into tables, and in one way. Where each of these fits, and an id is
-/// left for each, a strict list is taken, and its tables are these; at target 0 each table has all entries of one key. The call
-/// does nothing.
+/// Laws of a list that is written whole. Each list is cut into tables, and in one way. Where each
+/// of these fits, and an id is left for each, a strict list is taken, and its tables are these; at
+/// target 0 each table has all entries of one key. The call does nothing.
 pub fn tables_law()
     ensures cut { CutLaw }
     ensures one_cut { OneCutLaw }

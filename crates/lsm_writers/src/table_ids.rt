@@ -5,8 +5,8 @@ ghost use Rattle.lsm_writers.specs.Tables.{drawn};
 use crate::TableId;
 use std::marker::Model;
 
-/// A counter of table ids, which run upward from the first; the last one is `u64::MAX`. A contract sees the id that is drawn
-/// next, or none where the ids are spent.
+/// A counter of table ids, which run upward from the first; the last one is `u64::MAX`. A contract
+/// sees the id that is drawn next, or none where the ids are spent.
 #[derive(Clone, Copy, Debug, PartialEq, Eq)]
 pub struct TableIds {
     next: Option<TableId>,

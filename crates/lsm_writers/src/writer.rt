@@ -1,10 +1,19 @@
 //! Writing a table.
-ghost use Rattle.std.specs.Prelude.{◌≡◌, ◌↔◌, ◌<◌, ◌≤◌, ◌+◌, ◌*◌, ◌^◌, ℕ, List, [], ◌∷◌, ◌++◌, None, Some, false, true, length, IsTrue, IfOk, IfErr, OnOk, OnErr, MatchResult, MatchOption};
-ghost use Rattle.lsm_writers.specs.Words.{AreParts, CanRegister, CountsCut, Entry, EntryFits, Faults, FaultsFirst, HasNoVersion, HaveParts, IsFinished};
-ghost use Rattle.lsm_writers.specs.Words.{IsFresh, IsSmallFilter, IsStrict, IsTaken, LabelFits, MayHaveKeys, WritesTable, appended, cut_writing};
-ghost use Rattle.lsm_writers.specs.Words.{entries_fault, entries_size, entry_size, failed_fault, filter_with_size, finish_fault, finished, fnv1a};
-ghost use Rattle.lsm_writers.specs.Words.{fresh_writing, gained, index_with_size, is_full, item_fault, joined, label_of, last_of, may_be_written, metadata_of};
-ghost use Rattle.lsm_writers.specs.Words.{new_writing, registered_key, sections_fault, spilled, starts_key, tally_of, version_section, write_fault, written};
+ghost use Rattle.std.specs.Prelude.{◌≡◌, ◌↔◌, ◌<◌, ◌≤◌, ◌+◌, ◌*◌, ◌^◌, ℕ, List, [], ◌∷◌, ◌++◌};
+ghost use Rattle.std.specs.Prelude.{None, Some, false, true, length, IsTrue, IfOk, IfErr, OnOk};
+ghost use Rattle.std.specs.Prelude.{OnErr, MatchResult, MatchOption};
+ghost use Rattle.lsm_writers.specs.Words.{AreTableParts, CanRegister, CountsCut, Entry, EntryFits};
+ghost use Rattle.lsm_writers.specs.Words.{Faults, FaultsFirst, HasNoVersion, HaveParts, IsFinished};
+ghost use Rattle.lsm_writers.specs.Words.{IsFresh, IsSmallFilter, IsStrict, IsTaken, LabelFits};
+ghost use Rattle.lsm_writers.specs.Words.{MayHaveKeys, WritesTable, appended, cut_writing};
+ghost use Rattle.lsm_writers.specs.Words.{entries_fault, entries_size, entry_size, failed_fault};
+ghost use Rattle.lsm_writers.specs.Words.{filter_with_size, finish_fault, finished, fnv1a};
+ghost use Rattle.lsm_writers.specs.Words.{fresh_writing, gained, index_with_size, is_full};
+ghost use Rattle.lsm_writers.specs.Words.{item_fault, joined, label_of, last_of, may_be_written};
+ghost use Rattle.lsm_writers.specs.Words.{metadata_of};
+ghost use Rattle.lsm_writers.specs.Words.{new_writing, registered_key, sections_fault, spilled};
+ghost use Rattle.lsm_writers.specs.Words.{starts_key, tally_of, version_section, write_fault};
+ghost use Rattle.lsm_writers.specs.Words.{written};
 ghost use Rattle.std.specs.List.{AllByRecursion};
 ghost use Rattle.std.specs.Option.{option_copied};
 ghost use Rattle.sst_entries.specs.declared.error.Error.TheVariants.{OutOfMemory};
@@ -33,8 +42,8 @@ use sst_entries::compare_versions;
 use std::alloc::{Allocator, Global};
 use std::marker::Model;
 
-/// Writes the entries of a table into blocks, and the blocks into the bytes of a table. A contract sees the list written: the
-/// chunks whose blocks were cut, and the entries that are pending.
+/// Writes the entries of a table into blocks, and the blocks into the bytes of a table. A contract
+/// sees the list written: the chunks whose blocks were cut, and the entries that are pending.
 #[derive(Drop)]
 pub struct Writer<A: Allocator = Global> {
     label: Label,
@@ -60,14 +69,25 @@ impl<A: Allocator> Model for Writer<A> {
 
     ghost Value = { Writing };
 
-    ghost view = { λ w. record { label = w.label; options = w.options; cut = w.blocks.chunks; pending = w.chunk.items; failed = w.failed } };
+    ghost view = { λ w. record {
+      label = w.label;
+      options = w.options;
+      cut = w.blocks.chunks;
+      pending = w.chunk.items;
+      failed = w.failed;
+    } };
 
-    ghost invariant = { λ w. IsHeld w.options.data_block_size w.blocks.chunks w.chunk.items w.chunk_size w.meta × CanGoOn w.failed w.options.data_block_size w.blocks w.chunk.items × LabelFits w.label × IsFiltered w.failed w.options.filter_kind w.options.bloom_policy w.filter_writer (joined w.blocks.chunks ++ w.chunk.items) };
+    ghost invariant = { λ w.
+        IsHeld w.options.data_block_size w.blocks.chunks w.chunk.items w.chunk_size w.meta
+        × CanGoOn w.failed w.options.data_block_size w.blocks w.chunk.items
+        × LabelFits w.label
+        × IsFiltered w.failed w.options.filter_kind w.options.bloom_policy w.filter_writer
+        (joined w.blocks.chunks ++ w.chunk.items) };
 }
 
 impl<A: Allocator + Clone> Writer<A> {
-    /// A writer of the table `id`, which stands at `initial_level` and is created at a moment that is handed in. Refused
-    /// [`Error::OutOfMemory`] alone.
+    /// A writer of the table `id`, which stands at `initial_level` and is created at a moment that
+    /// is handed in. Refused [`Error::OutOfMemory`] alone.
     pub fn new(
         alloc: A,
         id: TableId,
@@ -85,8 +105,8 @@ impl<A: Allocator + Clone> Writer<A> {
         Writer::fresh(alloc, label, Options::default())
     }
 
-    /// A writer of another table that has no entry yet, with the same level, moment and options. Refused
-    /// [`Error::OutOfMemory`] alone.
+    /// A writer of another table that has no entry yet, with the same level, moment and options.
+    /// Refused [`Error::OutOfMemory`] alone.
     pub(crate) fn successor(&self, id: TableId) -> Result<Writer<A>, Error>
         ensures ok { IfOk result (λ w.
             w ≡ fresh_writing (record self.now.label { table_id = id }) self.now.options) }
@@ -134,8 +154,8 @@ impl<A: Allocator + Clone> Writer<A> {
         !self.failed && self.chunk.is_empty() && self.meta.data_block_count == 0
     }
 
-    /// Whether an entry of this key may be written next: its number is below `u64::MAX`, and it comes strictly after the last
-    /// one by key and number.
+    /// Whether an entry of this key may be written next: its number is below `u64::MAX`, and it
+    /// comes strictly after the last one by key and number.
     pub fn can_follow(&self, key: &InternalKey<A>) -> bool
         ensures { result ≡ may_be_written (written self.now) key.now.user_key key.now.seqno }
     {
@@ -168,9 +188,10 @@ impl<A: Allocator + Clone> Writer<A> {
 
     /// Writes an entry. The block is cut once its keys and values reach the data block size.
     ///
-    /// Refused [`Error::WriterFailed`] where a call was refused before, then [`Error::KeyTooLong`], then
-    /// [`Error::ValueTooLong`], then [`Error::BlockTooLarge`] where the bound of the block that is being filled reaches 2^32;
-    /// and [`Error::OutOfMemory`]. Whatever is refused, each later call is refused [`Error::WriterFailed`].
+    /// Refused [`Error::WriterFailed`] where a call was refused before, then [`Error::KeyTooLong`],
+    /// then [`Error::ValueTooLong`], then [`Error::BlockTooLarge`] where the bound of the block
+    /// that is being filled reaches 2^32; and [`Error::OutOfMemory`]. Whatever is refused, each
+    /// later call is refused [`Error::WriterFailed`].
     pub fn write(&mut self, item: InternalValue<A>) -> Result<(), Error>
         requires { IsTrue (may_be_written (written self.old) item.user_key item.seqno) }
         ensures ok { OnOk result (self.new ≡ gained self.old item) }
@@ -207,9 +228,9 @@ impl<A: Allocator + Clone> Writer<A> {
         Ok(())
     }
 
-    /// Cuts the pending entries off as a block, full or not; nothing happens where none are pending. Refused
-    /// [`Error::WriterFailed`] where a call was refused before, and [`Error::OutOfMemory`]; each later call is then refused
-    /// [`Error::WriterFailed`].
+    /// Cuts the pending entries off as a block, full or not; nothing happens where none are
+    /// pending. Refused [`Error::WriterFailed`] where a call was refused before, and
+    /// [`Error::OutOfMemory`]; each later call is then refused [`Error::WriterFailed`].
     pub fn spill_block(&mut self) -> Result<(), Error>
         ensures ok { OnOk result (self.new ≡ spilled self.old) }
         ensures refused { Faults result (failed_fault self.old.failed) }
@@ -229,12 +250,12 @@ impl<A: Allocator + Clone> Writer<A> {
         Ok(())
     }
 
-    /// Cuts the rest off as a block, writes the index, the filter, the version and the meta block, and answers the table: `None` where
-    /// nothing was written.
+    /// Cuts the rest off as a block, writes the index, the filter, the version and the meta block,
+    /// and answers the table: `None` where nothing was written.
     ///
-    /// Refused [`Error::WriterFailed`] where a call was refused before; [`Error::BlockTooLarge`] and
-    /// [`Error::SectionTooLarge`] where the bound of a block or a section of the index, and then of the filter, reaches 2^32;
-    /// and [`Error::OutOfMemory`].
+    /// Refused [`Error::WriterFailed`] where a call was refused before; [`Error::BlockTooLarge`]
+    /// and [`Error::SectionTooLarge`] where the bound of a block or a section of the index, and
+    /// then of the filter, reaches 2^32; and [`Error::OutOfMemory`].
     pub fn finish(mut self) -> Result<Option<FinishedTable<A>>, Error>
         ensures table { IfOk result (λ t. MatchOption t (written self ≡ [])
             (λ f. IsFinished self f.id f.checksum.0 f.bytes)) }
@@ -242,7 +263,8 @@ impl<A: Allocator + Clone> Writer<A> {
         ensures first { FaultsFirst result (failed_fault self.failed) }
         // Where nothing was written, only a writer that has failed refuses.
         ensures idle { OnErr result (written self ≡ [] → self.failed ≡ true) }
-        // The list that was written is strict, and its entries fit the fields of a table, whatever is answered.
+        // The list that was written is strict, and its entries fit the fields of a table, whatever
+        // is answered.
         ensures strict { IsStrict (written self) }
         ensures fits { AllByRecursion (EntryFits V4) (written self) }
     {
@@ -259,8 +281,8 @@ impl<A: Allocator + Clone> Writer<A> {
         Ok(Some(self.table()?))
     }
 
-    /// The table of the blocks that were cut: behind them stand their index, the filter, the version, the meta block and the
-    /// trailer. Refused as [`Writer::finish`] is.
+    /// The table of the blocks that were cut: behind them stand their index, the filter, the
+    /// version, the meta block and the trailer. Refused as [`Writer::finish`] is.
     fn table(self) -> Result<FinishedTable<A>, Error>
         requires works { self.failed ≡ false }
         requires cut { self.pending ≡ [] }
@@ -303,6 +325,24 @@ impl<A: Allocator + Clone> Writer<A> {
             checksum,
             bytes,
         })
+    }
+
+    /// What it writes with.
+    pub(crate) fn options(&self) -> Options
+        ensures is { result ≡ self.now.options }
+        ensures small { IsSmallFilter result.filter_kind }
+    {
+        self.options
+    }
+
+    /// Other options.
+    pub(crate) fn with_options(mut self, options: Options) -> Writer<A>
+        requires fresh { IsFresh self }
+        requires small { IsSmallFilter options.filter_kind }
+        ensures { result ≡ record self { options = options } }
+    {
+        self.options = options;
+        self
     }
 
     /// After how many entries at most a data block has a place where reading can restart.
@@ -359,7 +399,8 @@ impl<A: Allocator + Clone> Writer<A> {
         self
     }
 
-    /// Writes a filter of partitions, each cut when it has 4,096 bytes: a size that was set before is forgotten.
+    /// Writes a filter of partitions, each cut when it has 4,096 bytes: a size that was set before
+    /// is forgotten.
     pub fn use_partitioned_filter(mut self) -> Writer<A>
         requires { IsFresh self }
         ensures { result ≡ record self {
@@ -370,7 +411,8 @@ impl<A: Allocator + Clone> Writer<A> {
         self
     }
 
-    /// Writes an index of partitions, each cut when it has 4,096 bytes: a size that was set before is forgotten.
+    /// Writes an index of partitions, each cut when it has 4,096 bytes: a size that was set before
+    /// is forgotten.
     pub fn use_partitioned_index(mut self) -> Writer<A>
         requires { IsFresh self }
         ensures { result ≡ record self {
@@ -381,7 +423,8 @@ impl<A: Allocator + Clone> Writer<A> {
         self
     }
 
-    /// How many bytes a partition of the index or of the filter has when it is cut. Nothing changes where they have none.
+    /// How many bytes a partition of the index or of the filter has when it is cut. Nothing changes
+    /// where they have none.
     pub fn use_meta_partition_size(mut self, size: u32) -> Writer<A>
         requires fresh { IsFresh self }
         requires small { size ≤ 4194304 }
@@ -392,12 +435,8 @@ impl<A: Allocator + Clone> Writer<A> {
           };
         } }
     {
-        if let IndexKind::Partitioned(_) = self.options.index_kind {
-            self.options.index_kind = IndexKind::Partitioned(size);
-        }
-        if let FilterKind::Partitioned(_) = self.options.filter_kind {
-            self.options.filter_kind = FilterKind::Partitioned(size);
-        }
+        self.options.index_kind = self.options.index_kind.with_size(size);
+        self.options.filter_kind = self.options.filter_kind.with_size(size);
         self
     }
 
@@ -468,8 +507,9 @@ fn last_written<'a, A: Allocator>(
     }
 }
 
-/// Checks an entry that comes after `before`, and registers its key. Answers what it adds to the counts. What is wrong with the
-/// entry is refused before any memory is taken; and [`Error::OutOfMemory`].
+/// Checks an entry that comes after `before`, and registers its key. Answers what it adds to the
+/// counts. What is wrong with the entry is refused before any memory is taken; and
+/// [`Error::OutOfMemory`].
 fn admit<A: Allocator + Clone>(
     chunk: &Vec<InternalValue<A>, A>,
     chunk_size: usize,
@@ -506,8 +546,8 @@ fn admit<A: Allocator + Clone>(
     Ok(tally)
 }
 
-/// Puts an entry behind the pending ones, and cuts these off as a block once they are full. Refused [`Error::OutOfMemory`]
-/// alone; the entry is then given up, and all else stays.
+/// Puts an entry behind the pending ones, and cuts these off as a block once they are full. Refused
+/// [`Error::OutOfMemory`] alone; the entry is then given up, and all else stays.
 fn take_item<A: Allocator + Clone>(
     chunk: &mut Vec<InternalValue<A>, A>,
     chunk_size: &mut usize,
@@ -546,7 +586,8 @@ fn take_item<A: Allocator + Clone>(
     Ok(())
 }
 
-/// Puts an entry behind the pending ones. Refused [`Error::OutOfMemory`] alone; nothing changes then.
+/// Puts an entry behind the pending ones. Refused [`Error::OutOfMemory`] alone; nothing changes
+/// then.
 fn push_item<A: Allocator>(
     chunk: &mut Vec<InternalValue<A>, A>,
     chunk_size: &mut usize,
@@ -565,8 +606,8 @@ fn push_item<A: Allocator>(
     Ok(())
 }
 
-/// Writes the index of the data blocks behind them, the filter, the version and the meta block. Refused as [`Writer::finish`]
-/// is.
+/// Writes the index of the data blocks behind them, the filter, the version and the meta block.
+/// Refused as [`Writer::finish`] is.
 fn write_sections<A: Allocator + Clone>(
     file_writer: &mut SectionWriter<A>,
     buffer: &mut Vec<u8, A>,
@@ -578,10 +619,10 @@ fn write_sections<A: Allocator + Clone>(
 ) -> Result<(), Error>
     requires { HaveParts options.now file_writer.old index_writer filter_writer meta.now }
     ensures table { OnOk result ((cut : List (List Entry)) →
-        AreParts options.now cut file_writer.old index_writer filter_writer meta.now →
+        AreTableParts options.now cut file_writer.old index_writer filter_writer meta.now →
         WritesTable (cut_writing label.now options.now cut) (finished file_writer.new)) }
     ensures refused { (cut : List (List Entry)) →
-        AreParts options.now cut file_writer.old index_writer filter_writer meta.now →
+        AreTableParts options.now cut file_writer.old index_writer filter_writer meta.now →
         Faults result (sections_fault (cut_writing label.now options.now cut)) }
 {
     let index_blocks = index_writer.finish(file_writer)?;

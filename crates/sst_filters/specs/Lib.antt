@@ -1,2 +1,3 @@
 pub mod Filter
 pub mod Policy
+pub mod KeyHash

@@ -1,7 +1,7 @@
 //! Building a filter.
 ghost use Rattle.std.specs.Prelude.{◌≡◌, ◌<◌, ◌++◌, ◌∷◌, [], length, List, ℕ};
 ghost use Rattle.sst_filters.specs.Filter.{Gains, IsBuilt, IsFilterOf, filter_in, payload_of};
-ghost use Rattle.sst_sections.specs.Fnv.{fnv1a};
+ghost use Rattle.sst_filters.specs.KeyHash.{hash_of};
 
 use crate::bit_array::set_probes;
 use sst_sections::hash;
@@ -39,7 +39,7 @@ impl<A: Allocator> Builder<A> {
 
     /// The hash of a key, which a filter is built and asked by.
     pub fn get_hash(key: &[u8]) -> u64
-        ensures { result ≡ fnv1a key.now }
+        ensures { result ≡ hash_of key.now }
     {
         hash(key)
     }

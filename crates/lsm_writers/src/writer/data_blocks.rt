@@ -1,8 +1,10 @@
 //! The data blocks of a table, with the index that they are registered with.
-ghost use Rattle.std.specs.Prelude.{◌≡◌, ◌+◌, ◌*◌, ◌++◌, ◌^◌, ◌<◌, List, [], ◌∷◌, Option, None, Some, false, length, IfOk, IfErr, OnOk, OnErr};
+ghost use Rattle.std.specs.Prelude.{◌≡◌, ◌+◌, ◌*◌, ◌++◌, ◌^◌, ◌<◌, List, [], ◌∷◌, Option, None};
+ghost use Rattle.std.specs.Prelude.{Some, false, length, IfOk, IfErr, OnOk, OnErr};
 ghost use Rattle.lsm_writers.specs.Words.{AreCut, BlockFits, CanCut, CountsCut, Entry};
 ghost use Rattle.lsm_writers.specs.Words.{Cut, IsReadable, IsStrict, data_block, data_section};
-ghost use Rattle.lsm_writers.specs.Words.{entries_fault, handle_of, handles, joined, laid, last_of, payload};
+ghost use Rattle.lsm_writers.specs.Words.{entries_fault, handle_of, handles, joined, laid, last_of};
+ghost use Rattle.lsm_writers.specs.Words.{payload};
 ghost use Rattle.lsm_writers.specs.Words.{rest_chunk, with_cut};
 ghost use Rattle.std.specs.Option.{option_copied};
 ghost use Rattle.sst_entries.specs.declared.error.Error.TheVariants.{OutOfMemory};
@@ -21,8 +23,9 @@ use std::alloc::{Allocator, Global};
 use std::marker::Model;
 use std::mem;
 
-/// The data blocks that were cut so far, behind one another in the data section, and the index that has their handles. A
-/// contract sees the chunks that the blocks hold, as they are read back from the bytes.
+/// The data blocks that were cut so far, behind one another in the data section, and the index that
+/// has their handles. A contract sees the chunks that the blocks hold, as they are read back from
+/// the bytes.
 #[derive(Drop)]
 pub(crate) struct DataBlocks<A: Allocator = Global> {
     file_writer: SectionWriter<A>,
@@ -41,9 +44,16 @@ impl<A: Allocator> Model for DataBlocks<A> {
 
     ghost Value = { Cut };
 
-    ghost view = { λ b. record { chunks = chunks_in V4 (length b.index_writer.handles) b.file_writer.bytes; failed = b.index_writer.failed } };
+    ghost view = { λ b. record {
+      chunks = chunks_in V4 (length b.index_writer.handles) b.file_writer.bytes;
+      failed = b.index_writer.failed;
+    } };
 
-    ghost invariant = { λ b. AreCut (chunks_in V4 (length b.index_writer.handles) b.file_writer.bytes) b.file_writer b.index_writer.handles b.last b.index_writer.failed × (17 * length (joined (chunks_in V4 (length b.index_writer.handles) b.file_writer.bytes)) < 2 ^ 64) };
+    ghost invariant = { λ b.
+        AreCut (chunks_in V4 (length b.index_writer.handles) b.file_writer.bytes)
+        b.file_writer b.index_writer.handles b.last b.index_writer.failed
+        × (17 * length (joined (chunks_in V4 (length b.index_writer.handles) b.file_writer.bytes))
+        < 2 ^ 64) };
 }
 
 impl<A: Allocator + Clone> DataBlocks<A> {
@@ -72,8 +82,9 @@ impl<A: Allocator + Clone> DataBlocks<A> {
         self.last.as_ref()
     }
 
-    /// Cuts the entries of `chunk` off as a block, where there are some, and registers it with the index. `chunk` is then
-    /// empty, and `meta` counts the block. Refused [`Error::OutOfMemory`] alone; `chunk` and `meta` stay then as they were.
+    /// Cuts the entries of `chunk` off as a block, where there are some, and registers it with the
+    /// index. `chunk` is then empty, and `meta` counts the block. Refused [`Error::OutOfMemory`]
+    /// alone; `chunk` and `meta` stay then as they were.
     pub(crate) fn cut(
         &mut self,
         chunk: &mut Vec<InternalValue<A>, A>,
@@ -117,7 +128,8 @@ impl<A: Allocator + Clone> DataBlocks<A> {
         Ok(())
     }
 
-    /// The data section, the index that has the handles of all its blocks, and memory for what is left to encode.
+    /// The data section, the index that has the handles of all its blocks, and memory for what is
+    /// left to encode.
     pub(crate) fn into_parts(self) -> (SectionWriter<A>, FullIndexWriter<A>, Vec<u8, A>)
         requires { self.failed ≡ false }
         ensures data { result.0 ≡ laid ((Data, data_section V4 self.chunks) ∷ []) }
@@ -135,8 +147,8 @@ impl<A: Allocator + Clone> DataBlocks<A> {
     }
 }
 
-/// Writes these entries as a block at the end, and registers it with the index. Refused [`Error::OutOfMemory`] alone; the blocks
-/// before stay.
+/// Writes these entries as a block at the end, and registers it with the index. Refused
+/// [`Error::OutOfMemory`] alone; the blocks before stay.
 fn add_block<A: Allocator + Clone>(
     file_writer: &mut SectionWriter<A>,
     index_writer: &mut FullIndexWriter<A>,
@@ -164,8 +176,8 @@ fn add_block<A: Allocator + Clone>(
     index_writer.register_data_block(&handle)
 }
 
-/// Encodes these entries into the buffer and writes them as a block at the end. Answers what the index has of the block.
-/// Refused [`Error::OutOfMemory`] alone; nothing is written then.
+/// Encodes these entries into the buffer and writes them as a block at the end. Answers what the
+/// index has of the block. Refused [`Error::OutOfMemory`] alone; nothing is written then.
 fn write_chunk<A: Allocator + Clone>(
     file_writer: &mut SectionWriter<A>,
     buffer: &mut Vec<u8, A>,

@@ -1,6 +1,8 @@
 //! The keys of a table's filter.
-ghost use Rattle.std.specs.Prelude.{◌≡◌, ◌<◌, ◌^◌, ◌&&◌, ◌++◌, ℕ, List, [], nat_lt, OnOk, IfOk, IfErr};
-ghost use Rattle.lsm_writers.specs.Words.{CanRegister, Faults, HasKeys, HasNoFilter, MayHaveKeys, WritesFilter};
+ghost use Rattle.std.specs.Prelude.{◌≡◌, ◌<◌, ◌^◌, ◌&&◌, ◌++◌, ℕ, List, [], nat_lt, OnOk, IfOk};
+ghost use Rattle.std.specs.Prelude.{IfErr};
+ghost use Rattle.lsm_writers.specs.Words.{CanRegister, Faults, HasKeys, HasNoFilter, MayHaveKeys};
+ghost use Rattle.lsm_writers.specs.Words.{WritesFilter};
 ghost use Rattle.lsm_writers.specs.Words.{filter_fault, registered_key, tenths_of};
 ghost use Rattle.sst_entries.specs.declared.error.Error.TheVariants.{OutOfMemory};
 
@@ -28,7 +30,8 @@ fn filter_writer_of<A: Allocator + Clone>(
     })
 }
 
-/// Whether the key of an entry is registered: the first of a run of versions is, under an active policy.
+/// Whether the key of an entry is registered: the first of a run of versions is, under an active
+/// policy.
 fn is_registered(policy: BloomConstructionPolicy, starts_key: bool) -> bool
     ensures is { result ≡ (nat_lt 0 (tenths_of policy) && starts_key) }
     ensures few { tenths_of policy < 2 ^ 32 }
@@ -36,8 +39,8 @@ fn is_registered(policy: BloomConstructionPolicy, starts_key: bool) -> bool
     policy.is_active() && starts_key
 }
 
-/// Registers the key of an entry that is the first of its key, under an active policy. The writer is made when the first key
-/// comes. Refused [`Error::OutOfMemory`] alone.
+/// Registers the key of an entry that is the first of its key, under an active policy. The writer
+/// is made when the first key comes. Refused [`Error::OutOfMemory`] alone.
 pub(crate) fn register_key<A: Allocator + Clone>(
     filter_writer: &mut Option<FilterWriterImpl<A>>,
     alloc: &A,
@@ -69,8 +72,8 @@ pub(crate) fn register_key<A: Allocator + Clone>(
     Ok(())
 }
 
-/// Writes the filter of the keys that were registered, and answers how many blocks it counts. Refused where a block or a
-/// section of it is too large, and [`Error::OutOfMemory`].
+/// Writes the filter of the keys that were registered, and answers how many blocks it counts.
+/// Refused where a block or a section of it is too large, and [`Error::OutOfMemory`].
 pub(crate) fn finish_filter<A: Allocator + Clone>(
     filter_writer: Option<FilterWriterImpl<A>>,
     options: &Options,

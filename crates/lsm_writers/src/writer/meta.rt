@@ -8,8 +8,8 @@ ghost use Rattle.sst_entries.specs.Kind.{is_weak_kind};
 use sst_blocks::{BlockOffset, Error, InternalValue, SeqNo, UserKey, ValueType};
 use std::alloc::{Allocator, Global};
 
-/// Counts of what was written. The fields that speak of blocks, with `item_count` and `last_key`, change when a block is
-/// cut; the others change with each entry.
+/// Counts of what was written. The fields that speak of blocks, with `item_count` and `last_key`,
+/// change when a block is cut; the others change with each entry.
 #[derive(Drop)]
 #[derive_where(Debug)]
 pub struct Metadata<A: Allocator = Global> {
@@ -21,7 +21,8 @@ pub struct Metadata<A: Allocator = Global> {
     pub tombstone_count: usize,
     /// Entries that are weak tombstones.
     pub weak_tombstone_count: usize,
-    /// Values directly after a weak tombstone of their key, which both may go once no reader needs them.
+    /// Values directly after a weak tombstone of their key, which both may go once no reader needs
+    /// them.
     pub weak_tombstone_reclaimable_count: usize,
     /// Distinct keys.
     pub key_count: usize,
@@ -121,7 +122,8 @@ impl<A: Allocator> Metadata<A> {
     ghost use Rattle.sst_entries.specs.declared.error.Error.TheVariants.{OutOfMemory};
     ghost use Rattle.lsm_writers.specs.Counts.{added, tally_of, HasRoom};
 
-    /// What an entry adds to the counts, after the one before it. Refused [`Error::OutOfMemory`] alone.
+    /// What an entry adds to the counts, after the one before it. Refused [`Error::OutOfMemory`]
+    /// alone.
     pub(crate) fn tally(
         &self,
         before: Option<&InternalValue<A>>,
@@ -169,7 +171,8 @@ impl<A: Allocator> Metadata<A> {
         self.highest_seqno = self.highest_seqno.max(seqno);
     }
 
-    /// Counts a block that was cut: its entries, the bytes of its payload, where it ends and its last key.
+    /// Counts a block that was cut: its entries, the bytes of its payload, where it ends and its
+    /// last key.
     pub(crate) fn count_block(
         &mut self,
         items: usize,

@@ -7,10 +7,11 @@ ghost use Rattle.lsm_files.specs.File.{meta_section, HasNoMeta};
 ghost use Rattle.lsm_files.specs.Layout.{appended};
 ghost use Rattle.sst_blocks.specs.Encoding.{entries_fault};
 ghost use Rattle.sst_entries.specs.Strict.{IsStrict};
-ghost use Rattle.lsm_files.specs.MetaBlock.{meta_entry, block_items, key_items, option_items, count_items};
+ghost use Rattle.lsm_files.specs.MetaBlock.{meta_entry, block_items, key_items, option_items};
+ghost use Rattle.lsm_files.specs.MetaBlock.{count_items};
 
 use crate::writer::meta::Metadata;
-use lsm_files::{ItemName, Label, Options};
+use lsm_files::{FILTER_HASH_TYPE, ItemName, Label, Options};
 use sst_blocks::{
     Block, BlockType, CompressionType, DataBlock, Error, InternalValue, SectionName, SectionWriter,
     Slice, UserKey, ValueType,
@@ -64,7 +65,8 @@ fn write_items<A: Allocator + Clone>(
     Ok(())
 }
 
-/// The items of the meta block, in the byte order of their names. Refused [`Error::OutOfMemory`] alone.
+/// The items of the meta block, in the byte order of their names. Refused [`Error::OutOfMemory`]
+/// alone.
 #[tactic(auto, unfolding(crate::specs::Counts::counted_items))]
 fn meta_items<A: Allocator + Clone>(
     alloc: &A,
@@ -141,7 +143,7 @@ fn put_key_items<A: Allocator + Clone>(
     put_all(
         items,
         &[
-            (ItemName::FilterHashType, &[1]),
+            (ItemName::FilterHashType, &[FILTER_HASH_TYPE]),
             (ItemName::IndexKeysHaveSeqno, &[1]),
             (ItemName::InitialLevel, &[label.initial_level]),
             (ItemName::ItemCount, &(meta.item_count as u64).to_le_bytes()),
