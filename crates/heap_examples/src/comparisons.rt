@@ -5,7 +5,7 @@ ghost use Rattle.std.specs.Cmp.{partial_order_from_total, partial_equiv_from_equ
 ghost use Rattle.std.specs.Cmp.{eq_by_cmp_equiv, on_total, nat_cmp_total};
 ghost use Rattle.std.specs.Ordering.{as_partial_cmp, eq_by_cmp, nat_cmp, on};
 
-use lsm_heaps::LazyTournament;
+use lsm_merge::LazyTournament;
 use sst_entries::Error;
 use std::alloc::Global;
 use std::cell::Cell;

@@ -1,7 +1,7 @@
 //! The priority queues against a count of each number, and what they take of memory.
 ghost use Rattle.std.specs.Prelude.{◌≡◌, ◌≤◌, [], IfOk, Ok};
 
-use lsm_heaps::{IntervalHeap, LazyTournament, Tournament};
+use lsm_merge::{IntervalHeap, LazyTournament, Tournament};
 use refusing::{Refusing, each_refused};
 use sst_entries::Error;
 use std::alloc::{Allocator, Global};

@@ -1,4 +1,4 @@
-//! Worked examples of `lsm_heaps`: tests that need nothing private, in a crate of their own.
+//! Worked examples of `lsm_merge`: tests that need nothing private, in a crate of their own.
 //! Nothing here is for use.
 #![tactic(auto)]
 

@@ -1,3 +1,12 @@
+pub mod OrderLemmas
+pub mod BracketLemmas
+pub mod SlotLemmas
+pub mod HeightLemmas
+pub mod TournamentLemmas
+pub mod AskedLemmas
+pub mod PlaceLemmas
+pub mod MoveLemmas
+pub mod IntervalHeapLemmas
 pub mod Kept
 pub mod ReadyLemmas
 pub mod EndsLemmas

@@ -10,7 +10,7 @@ use Rattle.sst_entries.specs.declared.stream.Direction.{Direction}
 use Rattle.sst_entries.specs.declared.stream.Direction.TheVariants.{Front, Back}
 use Rattle.lsm_merge.specs.declared.merge.HeapItem.{HeapItem}
 use Rattle.lsm_merge.specs.declared.merge.Merger.{Merger}
-use Rattle.lsm_heaps.specs.Tournament.{Contest}
+use Rattle.lsm_merge.specs.Tournament.{Contest}
 use Rattle.lsm_merge.specs.Ends.{R, Goes, ends_size}
 use Rattle.lsm_merge.specs.Merge.{held_of, is_ready, Adds, SameRoom, Bounded, HasPlaces, HasPlacesIf, MayMerge, merge_total, merge_size}
 use Rattle.lsm_merge.proofs.Kept.{opposite}

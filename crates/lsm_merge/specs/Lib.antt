@@ -1,9 +1,13 @@
+pub mod Bag
+pub mod Order
+pub mod Slots
+pub mod Brackets
+pub mod Tournament
+pub mod Intervals
+pub mod IntervalHeap
 pub mod Ends
 pub mod Union
 pub mod Merge
 pub mod Asks
 pub mod MergeLaws
-pub use Rattle.lsm_heaps.specs.Bag
-pub use Rattle.lsm_heaps.specs.Tournament
-pub use Rattle.lsm_heaps.specs.IntervalHeap
 pub mod Words

@@ -3,9 +3,15 @@
 #![tactic(auto)]
 
 mod ends;
+mod interval_heap;
+mod lazy_tournament;
 mod merge;
+mod order;
+mod tournament;
 mod words;
 
 pub use ends::Ends;
-pub use lsm_heaps::{IntervalHeap, Tournament};
+pub use interval_heap::IntervalHeap;
+pub use lazy_tournament::LazyTournament;
 pub use merge::{Merger, from_both_ends};
+pub use tournament::Tournament;

@@ -19,9 +19,9 @@ ghost use Rattle.std.specs.Cmp.{partial_order_from_total, partial_equiv_from_equ
 ghost use Rattle.std.specs.Cmp.{eq_by_cmp_equiv};
 ghost use Rattle.std.specs.Ordering.{as_partial_cmp, eq_by_cmp};
 
+use crate::LazyTournament;
 use crate::ends::{AtBack, AtFront, End, Ends};
 use crate::words::compare_keys;
-use lsm_heaps::LazyTournament;
 use sst_entries::{Direction, Error, InternalKey, InternalValue, IterItem, UserValue};
 use std::alloc::{Allocator, Global};
 use std::cmp::Ordering;

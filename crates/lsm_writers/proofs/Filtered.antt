@@ -19,16 +19,16 @@ use Rattle.lsm_files.specs.Layout.{Sections, appended}
 use Rattle.lsm_files.specs.Parts.{parts_after}
 use Rattle.lsm_files.specs.declared.options.FilterKind.{FilterKind}
 use Rattle.lsm_files.specs.declared.options.FilterKind.TheVariants.{Full as FullFilter, Partitioned as PartitionedFilter}
-use Rattle.lsm_filter_writers.specs.Either.{HoldsBy, failed_by, kind_by, policy_by}
-use Rattle.lsm_filter_writers.specs.Given.{GivenKeys, given_by, no_keys as no_given, with_key}
-use Rattle.lsm_filter_writers.specs.Rising.{AreRising, Rises}
-use Rattle.lsm_filter_writers.proofs.SameOptions.{fault_same, given_all, given_more, writes_same}
-use Rattle.lsm_filter_writers.specs.Cutting.{closed_after, waiting_after}
-use Rattle.lsm_filter_writers.specs.Held.{CutParts, Hashes, HoldsHashes, HoldsParts}
-use Rattle.lsm_filter_writers.specs.Refusing.{filter_fault, given_fault, register_fault}
-use Rattle.lsm_filter_writers.specs.Writing.{WritesFilter, WritesParts}
-use Rattle.lsm_filter_writers.specs.declared.either.FilterWriterImpl.{FilterWriterImpl}
-use Rattle.lsm_filter_writers.specs.declared.either.FilterWriterImpl.TheVariants.{Full as FullWriter, Partitioned as PartitionedWriter}
+use Rattle.lsm_section_writers.specs.FilterEither.{HoldsBy, failed_by, kind_by, policy_by}
+use Rattle.lsm_section_writers.specs.Given.{GivenKeys, given_by, no_keys as no_given, with_key}
+use Rattle.lsm_section_writers.specs.Rising.{AreRising, Rises}
+use Rattle.lsm_section_writers.proofs.SameOptions.{fault_same, given_all, given_more, writes_same}
+use Rattle.lsm_section_writers.specs.Cutting.{closed_after, waiting_after}
+use Rattle.lsm_section_writers.specs.Held.{CutParts, Hashes, HoldsHashes, HoldsParts}
+use Rattle.lsm_section_writers.specs.FilterRefusing.{filter_fault, given_fault, register_fault}
+use Rattle.lsm_section_writers.specs.Writing.{WritesFilter, WritesParts}
+use Rattle.lsm_section_writers.specs.declared.filter_either.FilterWriterImpl.{FilterWriterImpl}
+use Rattle.lsm_section_writers.specs.declared.filter_either.FilterWriterImpl.TheVariants.{Full as FullWriter, Partitioned as PartitionedWriter}
 use Rattle.lsm_files.specs.Chunks.{joined}
 use Rattle.lsm_writers.specs.Counts.{tally_of}
 use Rattle.lsm_writers.specs.Cut.{rest_chunk}

@@ -24,13 +24,13 @@ use Rattle.lsm_files.specs.Kinds.{AreFilterParts, filter_count, filter_sections,
 use Rattle.lsm_files.specs.Layout.{Sections, bytes_in, laid, appended}
 use Rattle.lsm_files.specs.Parts.{parts_after}
 use Rattle.lsm_files.specs.declared.options.FilterKind.{FilterKind}
-use Rattle.lsm_filter_writers.specs.declared.either.FilterWriterImpl.{FilterWriterImpl}
+use Rattle.lsm_section_writers.specs.declared.filter_either.FilterWriterImpl.{FilterWriterImpl}
 use Rattle.lsm_writers.specs.Filtering.{IsFiltered, MayHaveKeys}
 use Rattle.lsm_files.specs.declared.options.IndexKind.{IndexKind}
 use Rattle.lsm_files.specs.declared.options.IndexKind.TheVariants.{Full as FullIndex, Partitioned as PartitionedIndex}
-use Rattle.lsm_index_writers.specs.Refusing.{index_fault, parts_fault}
-use Rattle.lsm_filter_writers.specs.Refusing.{filter_fault}
-use Rattle.lsm_filter_writers.specs.Writing.{WritesFilter}
+use Rattle.lsm_section_writers.specs.IndexRefusing.{index_fault, parts_fault}
+use Rattle.lsm_section_writers.specs.FilterRefusing.{filter_fault}
+use Rattle.lsm_section_writers.specs.Writing.{WritesFilter}
 use Rattle.sst_filters.specs.Filter.{BloomFilter}
 use Rattle.sst_filters.specs.declared.policy.BloomConstructionPolicy.{BloomConstructionPolicy}
 use Rattle.sst_sections.specs.Sections.{Written, finished}
@@ -38,9 +38,9 @@ use Rattle.sst_sections.specs.declared.section.SectionName.TheVariants.{Data}
 use Rattle.lsm_writers.proofs.Laying.{laid_more}
 use Rattle.lsm_files.specs.ItemName.{name_of}
 use Rattle.lsm_files.specs.Fits.{BlockFits, EntryFits, LabelFits, SectionFits}
-use Rattle.lsm_index_writers.specs.declared.either.IndexWriterImpl.{IndexWriterImpl}
-use Rattle.lsm_index_writers.specs.Either.{registered_by}
-use Rattle.lsm_index_writers.specs.Registered.{Registered}
+use Rattle.lsm_section_writers.specs.declared.index_either.IndexWriterImpl.{IndexWriterImpl}
+use Rattle.lsm_section_writers.specs.IndexEither.{registered_by}
+use Rattle.lsm_section_writers.specs.Registered.{Registered}
 use Rattle.lsm_writers.specs.Held.{AreTableParts, IsShortest, IsHeld}
 use Rattle.sst_blocks.specs.Handle.{Handle}
 use Rattle.lsm_files.specs.Index.{data_section, handles, last_entry}

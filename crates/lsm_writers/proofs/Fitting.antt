@@ -14,9 +14,9 @@ use Rattle.lsm_files.specs.Filters.{filtered_keys}
 use Rattle.lsm_files.specs.Fits.{EntryFits}
 use Rattle.lsm_files.specs.Index.{handles}
 use Rattle.lsm_files.specs.Parts.{parts_by}
-use Rattle.lsm_filter_writers.specs.Cutting.{waiting_after}
-use Rattle.lsm_filter_writers.specs.Refusing.{filter_fault}
-use Rattle.lsm_index_writers.specs.Refusing.{index_fault}
+use Rattle.lsm_section_writers.specs.Cutting.{waiting_after}
+use Rattle.lsm_section_writers.specs.FilterRefusing.{filter_fault}
+use Rattle.lsm_section_writers.specs.IndexRefusing.{index_fault}
 use Rattle.lsm_writers.specs.declared.writer.FinishedTable.{FinishedTable}
 use Rattle.lsm_writers.specs.Cut.{rest_chunk}
 use Rattle.lsm_writers.specs.Tables.{FitsBehind, GoesOn, HasRoomFor, filling, gained_all, ids_fault, is_due, rotation_fault, run_fault, standing, table_fault, took_fault, turn_fault}

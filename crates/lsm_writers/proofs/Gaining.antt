@@ -7,7 +7,7 @@ use Rattle.lsm_files.specs.declared.label.Label.{Label}
 use Rattle.lsm_files.specs.declared.options.FilterKind.{FilterKind}
 use Rattle.lsm_files.specs.declared.options.Options.{Options}
 use Rattle.lsm_files.specs.Chunks.{is_full, joined}
-use Rattle.lsm_filter_writers.specs.declared.either.FilterWriterImpl.{FilterWriterImpl}
+use Rattle.lsm_section_writers.specs.declared.filter_either.FilterWriterImpl.{FilterWriterImpl}
 use Rattle.lsm_writers.specs.declared.writer.meta.Metadata.{Metadata}
 use Rattle.lsm_writers.specs.declared.writer.meta.Tally.{Tally}
 use Rattle.lsm_writers.specs.Counts.{added, HasRoom}

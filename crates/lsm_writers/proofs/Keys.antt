@@ -14,7 +14,7 @@ use Rattle.sst_filters.specs.declared.policy.BloomConstructionPolicy.{BloomConst
 use Rattle.sst_filters.specs.Policy.{tenths_of}
 use Rattle.lsm_files.specs.Facts.{starts_key}
 use Rattle.lsm_files.specs.Filters.{keys_after, keys_of, filtered_keys}
-use Rattle.lsm_filter_writers.specs.Rising.{AreRising}
+use Rattle.lsm_section_writers.specs.Rising.{AreRising}
 use Rattle.lsm_writers.specs.Filtering.{registered_key}
 
 -- the key of an entry that starts it

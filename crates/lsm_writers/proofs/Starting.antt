@@ -15,7 +15,7 @@ use Rattle.sst_filters.specs.declared.policy.BloomConstructionPolicy.{BloomConst
 use Rattle.lsm_files.specs.File.{HasNoMeta, HasNoVersion, version_section}
 use Rattle.lsm_files.specs.Kinds.{index_sections, filter_parts, filter_sections}
 use Rattle.lsm_files.specs.Layout.{appended, laid, starts_from}
-use Rattle.lsm_filter_writers.specs.Writing.{WritesFilter}
+use Rattle.lsm_section_writers.specs.Writing.{WritesFilter}
 use Rattle.lsm_files.specs.declared.options.FilterKind.{FilterKind}
 use Rattle.lsm_files.specs.declared.options.FilterKind.TheVariants.{Full as FullFilter, Partitioned as PartitionedFilter}
 use Rattle.lsm_files.specs.declared.options.IndexKind.{IndexKind}

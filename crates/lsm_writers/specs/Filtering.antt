@@ -6,11 +6,11 @@ use Rattle.sst_filters.specs.declared.policy.BloomConstructionPolicy.{BloomConst
 use Rattle.sst_filters.specs.Policy.{tenths_of}
 use Rattle.lsm_files.specs.declared.options.FilterKind.{FilterKind}
 use Rattle.lsm_files.specs.Filters.{filtered_keys}
-use Rattle.lsm_filter_writers.specs.declared.either.FilterWriterImpl.{FilterWriterImpl}
-use Rattle.lsm_filter_writers.specs.Either.{kind_by, policy_by, failed_by, HoldsBy}
-use Rattle.lsm_filter_writers.specs.Given.{given_by}
-use Rattle.lsm_filter_writers.specs.Refusing.{partition_size}
-use Rattle.lsm_filter_writers.specs.Rising.{AreRising}
+use Rattle.lsm_section_writers.specs.declared.filter_either.FilterWriterImpl.{FilterWriterImpl}
+use Rattle.lsm_section_writers.specs.FilterEither.{kind_by, policy_by, failed_by, HoldsBy}
+use Rattle.lsm_section_writers.specs.Given.{given_by}
+use Rattle.lsm_section_writers.specs.FilterRefusing.{partition_size}
+use Rattle.lsm_section_writers.specs.Rising.{AreRising}
 
 -- the key of an entry as a filter has it: none without an active policy, and none but the first of
 -- its key

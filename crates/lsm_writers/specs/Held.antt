@@ -14,9 +14,9 @@ use Rattle.lsm_files.specs.Fits.{BlockFits, EntryFits}
 use Rattle.lsm_files.specs.Index.{data_section, handles}
 use Rattle.lsm_files.specs.Layout.{laid}
 use Rattle.lsm_files.specs.declared.options.Options.{Options}
-use Rattle.lsm_index_writers.specs.declared.either.IndexWriterImpl.{IndexWriterImpl}
-use Rattle.lsm_index_writers.specs.Either.{registered_by}
-use Rattle.lsm_filter_writers.specs.declared.either.FilterWriterImpl.{FilterWriterImpl}
+use Rattle.lsm_section_writers.specs.declared.index_either.IndexWriterImpl.{IndexWriterImpl}
+use Rattle.lsm_section_writers.specs.IndexEither.{registered_by}
+use Rattle.lsm_section_writers.specs.declared.filter_either.FilterWriterImpl.{FilterWriterImpl}
 use Rattle.lsm_writers.specs.Counts.{HasShortKeys, metadata_of}
 use Rattle.lsm_writers.specs.Cut.{Cut, with_cut}
 use Rattle.lsm_writers.specs.Filtering.{MayHaveKeys}

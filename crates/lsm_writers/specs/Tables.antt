@@ -24,9 +24,9 @@ use Rattle.lsm_files.specs.Fits.{EntryFits}
 use Rattle.lsm_files.specs.Index.{data_section, handles, last_entry}
 use Rattle.lsm_files.specs.Options.{default_options, label_of}
 use Rattle.lsm_files.specs.Parts.{parts_by}
-use Rattle.lsm_filter_writers.specs.Cutting.{waiting_by}
-use Rattle.lsm_filter_writers.specs.Refusing.{filter_fault}
-use Rattle.lsm_index_writers.specs.Refusing.{index_fault}
+use Rattle.lsm_section_writers.specs.Cutting.{waiting_by}
+use Rattle.lsm_section_writers.specs.FilterRefusing.{filter_fault}
+use Rattle.lsm_section_writers.specs.IndexRefusing.{index_fault}
 use Rattle.lsm_writers.specs.declared.writer.FinishedTable.{FinishedTable}
 use Rattle.lsm_writers.specs.Cut.{rest_chunk}
 use Rattle.lsm_writers.specs.Writing.{IsFinished, IsFresh, IsTableWith, IsWritable, Writing}

@@ -15,8 +15,8 @@ pub use Rattle.lsm_files.specs.Index.{data_block, data_section, handle_of, handl
 pub use Rattle.lsm_files.specs.Kinds.{filter_with_size, index_with_size}
 pub use Rattle.lsm_files.specs.Layout.{appended, laid}
 pub use Rattle.lsm_files.specs.Options.{label_of}
-pub use Rattle.lsm_filter_writers.specs.Refusing.{filter_fault}
-pub use Rattle.lsm_filter_writers.specs.Writing.{WritesFilter}
+pub use Rattle.lsm_section_writers.specs.FilterRefusing.{filter_fault}
+pub use Rattle.lsm_section_writers.specs.Writing.{WritesFilter}
 pub use Rattle.lsm_writers.specs.Counts.{metadata_of, tally_of}
 pub use Rattle.lsm_writers.specs.Cut.{AreCut, CanCut, CountsCut, Cut, IsReadable, rest_chunk}
 pub use Rattle.lsm_writers.specs.Cut.{with_cut}

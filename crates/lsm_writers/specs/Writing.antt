@@ -23,8 +23,8 @@ use Rattle.lsm_files.specs.Filters.{AreFiltersFor, filtered_keys}
 use Rattle.lsm_files.specs.Fits.{BlockFits, Fits, SectionFits}
 use Rattle.lsm_files.specs.Kinds.{filter_parts, index_parts}
 use Rattle.lsm_files.specs.Table.{IsTable}
-use Rattle.lsm_filter_writers.specs.Refusing.{filter_fault}
-use Rattle.lsm_index_writers.specs.Refusing.{index_fault}
+use Rattle.lsm_section_writers.specs.FilterRefusing.{filter_fault}
+use Rattle.lsm_section_writers.specs.IndexRefusing.{index_fault}
 use Rattle.lsm_files.specs.declared.options.Options.{Options}
 use Rattle.lsm_files.specs.declared.label.Label.{Label}
 use Rattle.lsm_files.specs.Options.{default_options}

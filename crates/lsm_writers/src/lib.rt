@@ -11,12 +11,10 @@ pub use lsm_files::{
     BloomConstructionPolicy, FilterKind, GlobalTableId, IndexKind, Label, Options, TableId,
     Timestamp, TreeId,
 };
-pub use lsm_filter_writers::{
-    FilterWriter, FilterWriterImpl, FullFilterWriter, PartitionedFilterWriter,
-    options_set_before_keys, registered_keys_are_admitted, small_partitions_fit,
-};
-pub use lsm_index_writers::{
-    BlockIndexWriter, FullIndexWriter, IndexWriterImpl, PartitionedIndexWriter,
+pub use lsm_section_writers::{
+    BlockIndexWriter, FilterWriter, FilterWriterImpl, FullFilterWriter, FullIndexWriter,
+    IndexWriterImpl, PartitionedFilterWriter, PartitionedIndexWriter, options_set_before_keys,
+    registered_keys_are_admitted, small_partitions_fit,
 };
 pub use multi_writer::{MultiWriter, tables_law};
 pub use table_ids::TableIds;

@@ -30,8 +30,7 @@ use crate::{TableId, Timestamp};
 use data_blocks::DataBlocks;
 use filter::{finish_filter, register_key};
 use lsm_files::{BloomConstructionPolicy, FilterKind, IndexKind, Label, Options};
-use lsm_filter_writers::FilterWriterImpl;
-use lsm_index_writers::{BlockIndexWriter, IndexWriterImpl};
+use lsm_section_writers::{BlockIndexWriter, FilterWriterImpl, IndexWriterImpl};
 use meta::{Metadata, Tally, starts_key};
 use meta_block::{BlockCounts, write_meta};
 use sst_blocks::{

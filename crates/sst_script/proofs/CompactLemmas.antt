@@ -21,8 +21,8 @@ use Rattle.lsm_runs.specs.RunLists.{HoldLists, RunsHoldLists}
 use Rattle.lsm_runs.specs.SeveralRuns.{union_in}
 use Rattle.lsm_compactions.proofs.Compactable.{run_entries}
 use Rattle.lsm_runs.proofs.OneList.{one_way}
-use Rattle.sst_commands.specs.declared.stop.Failure.{Failure}
-use Rattle.sst_commands.specs.declared.stop.Failure.TheVariants.{Refused}
+use Rattle.sst_script.specs.declared.stop.Failure.{Failure}
+use Rattle.sst_script.specs.declared.stop.Failure.TheVariants.{Refused}
 use Rattle.sst_script.specs.Runs.{HasRuns, Run, repeats, run_tables, union}
 use Rattle.sst_script.specs.Script.{FailsToCompact, CompactsRuns, Compacts, kept_by, kept_fault}
 use Rattle.sst_script.specs.Script.{store, target_size}

@@ -1,3 +1,6 @@
+pub mod CommandLemmas
+pub mod PrintLemmas
+pub mod ShownLemmas
 pub mod CompactLemmas
 pub mod DealtLemmas
 pub mod EntryLemmas

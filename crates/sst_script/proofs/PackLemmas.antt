@@ -21,8 +21,8 @@ use Rattle.lsm_writers.specs.Writing.{IsWritable}
 use Rattle.lsm_runs.proofs.OneList.{one_way}
 use Rattle.lsm_compactions.proofs.Packing.{list_is, list_of}
 use Rattle.lsm_runs.proofs.RunPoints.{runs_in_order}
-use Rattle.sst_commands.specs.declared.stop.Failure.{Failure}
-use Rattle.sst_commands.specs.declared.stop.Failure.TheVariants.{Refused}
+use Rattle.sst_script.specs.declared.stop.Failure.{Failure}
+use Rattle.sst_script.specs.declared.stop.Failure.TheVariants.{Refused}
 use Rattle.sst_script.specs.Runs.{HasRuns, Run, run_tables, union}
 use Rattle.sst_script.specs.Script.{ArePackedRuns, Packs, PacksRuns, store}
 use Rattle.sst_script.proofs.CompactLemmas.{able_entries, able_from, able_writable, runs_of}

@@ -8,18 +8,18 @@ use Rattle.std.specs.List.{onto_first}
 use Rattle.std.specs.Io.BufRead.{take_through, drop_through, first_piece, strip_last}
 use Rattle.std.specs.Io.KnownBytes.{Appends, Keeps, IsAtEnd}
 use Rattle.std.proofs.KnownBytes.{Appends-nil, Appends-trans}
-use Rattle.sst_commands.specs.declared.stop.Stop.{Stop}
-use Rattle.sst_commands.specs.declared.stop.Stop.TheVariants.{Line, Input, Output}
-use Rattle.sst_commands.specs.declared.command.Command.{Command}
-use Rattle.sst_commands.specs.declared.print.Answer.{Answer}
-use Rattle.sst_commands.specs.declared.stop.Failure.{Failure}
-use Rattle.sst_commands.specs.declared.stop.Failure.TheVariants.{BadLine, Refused}
-use Rattle.sst_commands.specs.Answer.{answer_lines, refusal_line}
+use Rattle.sst_script.specs.declared.stop.Stop.{Stop}
+use Rattle.sst_script.specs.declared.stop.Stop.TheVariants.{Line, Input, Output}
+use Rattle.sst_script.specs.declared.command.Command.{Command}
+use Rattle.sst_script.specs.declared.print.Answer.{Answer}
+use Rattle.sst_script.specs.declared.stop.Failure.{Failure}
+use Rattle.sst_script.specs.declared.stop.Failure.TheVariants.{BadLine, Refused}
+use Rattle.sst_script.specs.Answer.{answer_lines, refusal_line}
 use Rattle.sst_entries.specs.Error.{number_of}
-use Rattle.sst_commands.specs.Command.{words_of, AskFor}
-use Rattle.sst_commands.specs.Shown.{AppendsFront, ShowsText}
-use Rattle.sst_commands.specs.Stop.{stop_line}
-use Rattle.sst_commands.proofs.ShownLemmas.{front_all, kept_behind}
+use Rattle.sst_script.specs.Command.{words_of, AskFor}
+use Rattle.sst_script.specs.Shown.{AppendsFront, ShowsText}
+use Rattle.sst_script.specs.Stop.{stop_line}
+use Rattle.sst_script.proofs.ShownLemmas.{front_all, kept_behind}
 use Rattle.sst_script.specs.Script.{Store, store, Executes}
 use Rattle.sst_script.specs.Lines.{lines_of, LosesLine, HasLines}
 use Rattle.sst_script.specs.Answering.{outcome_text, PrintEnds, AnswersLine, AnswersAll, Prints}

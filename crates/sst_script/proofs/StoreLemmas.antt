@@ -10,11 +10,11 @@ use Rattle.sst_entries.specs.Error.{is_memory, Fails, Gives}
 use Rattle.lsm_readers.proofs.Scans.{memory_is}
 use Rattle.lsm_readers.specs.Table.{OpenTable}
 use Rattle.lsm_compactions.specs.Chain.{AreCutOf, IsRunOfList, ids_behind, run_label, tables_fault}
-use Rattle.sst_commands.specs.declared.command.Command.{Command}
-use Rattle.sst_commands.specs.declared.command.Command.TheVariants.{Compact, Pack, Table}
-use Rattle.sst_commands.specs.declared.print.Answer.TheVariants.{Runs, Tables}
-use Rattle.sst_commands.specs.declared.stop.Failure.{Failure}
-use Rattle.sst_commands.specs.declared.stop.Failure.TheVariants.{BadLine, Refused}
+use Rattle.sst_script.specs.declared.command.Command.{Command}
+use Rattle.sst_script.specs.declared.command.Command.TheVariants.{Compact, Pack, Table}
+use Rattle.sst_script.specs.declared.print.Answer.TheVariants.{Runs, Tables}
+use Rattle.sst_script.specs.declared.stop.Failure.{Failure}
+use Rattle.sst_script.specs.declared.stop.Failure.TheVariants.{BadLine, Refused}
 use Rattle.sst_script.specs.Runs.{repeats, run_tables, HasRuns, Run}
 use Rattle.sst_script.specs.Script.{Store, kept_by, pending_fault, store, table_fault, target_size}
 use Rattle.sst_script.specs.Script.{Compacts, Executes, GivesUp, Packs, Writes, WritesTable}

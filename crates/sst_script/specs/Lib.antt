@@ -1,3 +1,8 @@
+pub mod Answer
+pub mod Command
+pub mod Shown
+pub mod Stop
+pub mod Text
 pub mod Answering
 pub mod Lines
 pub mod Runs

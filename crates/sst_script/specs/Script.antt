@@ -14,14 +14,14 @@ use Rattle.lsm_compactions.specs.Chain.{AreCutOf, ids_behind, run_label, tables_
 use Rattle.lsm_compactions.specs.Compacted.{rules_by}
 use Rattle.lsm_runs.specs.RunParts.{range_of}
 use Rattle.lsm_writers.specs.Writing.{may_be_written}
-use Rattle.sst_commands.specs.declared.command.Command.{Command}
-use Rattle.sst_commands.specs.declared.command.Command.TheVariants.{Entry as Add, Table, Get, Range}
-use Rattle.sst_commands.specs.declared.command.Command.TheVariants.{Compact, Pack}
-use Rattle.sst_commands.specs.declared.print.Answer.{Answer}
-use Rattle.sst_commands.specs.declared.print.Answer.TheVariants.{Silent, Tables, Runs as PackedInto}
-use Rattle.sst_commands.specs.declared.print.Answer.TheVariants.{Found, Entries}
-use Rattle.sst_commands.specs.declared.stop.Failure.{Failure}
-use Rattle.sst_commands.specs.declared.stop.Failure.TheVariants.{BadLine, Refused}
+use Rattle.sst_script.specs.declared.command.Command.{Command}
+use Rattle.sst_script.specs.declared.command.Command.TheVariants.{Entry as Add, Table, Get, Range}
+use Rattle.sst_script.specs.declared.command.Command.TheVariants.{Compact, Pack}
+use Rattle.sst_script.specs.declared.print.Answer.{Answer}
+use Rattle.sst_script.specs.declared.print.Answer.TheVariants.{Silent, Tables, Runs as PackedInto}
+use Rattle.sst_script.specs.declared.print.Answer.TheVariants.{Found, Entries}
+use Rattle.sst_script.specs.declared.stop.Failure.{Failure}
+use Rattle.sst_script.specs.declared.stop.Failure.TheVariants.{BadLine, Refused}
 use Rattle.sst_script.specs.Runs.{Run, repeats, run_tables, union}
 
 -- what a script has stored: the entries of the next run, the runs, newest first, and the next id

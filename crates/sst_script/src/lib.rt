@@ -11,8 +11,15 @@
 //! either may stand alone. `pack` puts the tables of all runs in the fewest runs.
 #![tactic(auto)]
 
+mod command;
 mod pending;
+mod print;
 mod runs;
 mod script;
+mod stop;
+mod write;
 
+pub(crate) use command::{Command, parse_command};
+pub(crate) use print::{Answer, print_answer, print_refusal, print_stop};
 pub use script::run_script;
+pub(crate) use stop::{Failure, Stop};

@@ -9,12 +9,12 @@ ghost use Rattle.lsm_compactions.specs.Chain.{AreCutOf, IsRunOfList, ids_behind,
 ghost use Rattle.lsm_compactions.specs.Chain.{tables_fault};
 ghost use Rattle.sst_script.specs.Script.{entry_failure, target_size};
 
+use crate::Failure;
 use lsm_compactions::write_run;
 use lsm_ranges::Run;
 use lsm_readers::{Table, Timestamp};
 use lsm_writers::TableIds;
 use sst_blocks::{Error, InternalValue, SeqNo, Slice, ValueType};
-use sst_commands::Failure;
 use std::alloc::Allocator;
 use std::marker::Model;
 

@@ -3,9 +3,9 @@ ghost use Rattle.std.specs.Prelude.{◌≡◌, ◌⊎◌, [], ⊤, ℕ, List, Op
 ghost use Rattle.std.specs.Prelude.{map};
 ghost use Rattle.std.specs.Arc.{arc_value};
 ghost use Rattle.std.specs.Io.BufRead.{strip_last};
-ghost use Rattle.sst_commands.specs.Shown.{ShowsText};
-ghost use Rattle.sst_commands.specs.declared.stop.Stop.TheVariants.{Input, Line, Output};
-ghost use Rattle.sst_commands.specs.declared.stop.Stop.{Stop};
+ghost use Rattle.sst_script.specs.Shown.{ShowsText};
+ghost use Rattle.sst_script.specs.declared.stop.Stop.TheVariants.{Input, Line, Output};
+ghost use Rattle.sst_script.specs.declared.stop.Stop.{Stop};
 ghost use Rattle.sst_script.specs.Answering.{LineEnds, PrintEnds, Reports, ScriptEnds};
 ghost use Rattle.sst_script.specs.Answering.{outcome_text, status_of};
 ghost use Rattle.sst_script.specs.Lines.{ReadsLine};
@@ -16,15 +16,15 @@ ghost use Rattle.sst_script.specs.Script.{WritesTable};
 
 use crate::pending::{Pending, TARGET_SIZE};
 use crate::runs::{is_repeated, newest_answer, newest_entries, share_all};
+use crate::{
+    Answer, Command, Failure, Stop, parse_command, print_answer, print_refusal, print_stop,
+};
 use lsm_compactions::{compact_to_run, pack_runs};
 use lsm_ranges::Run;
 use lsm_readers::{Table, Timestamp};
 use lsm_sorted::compaction::Rules;
 use lsm_writers::TableIds;
 use sst_blocks::SeqNo;
-use sst_commands::{
-    Answer, Command, Failure, Stop, parse_command, print_answer, print_refusal, print_stop,
-};
 use std::alloc::{AllocError, Allocator};
 use std::io::{BufRead, BufReader, Read, Write};
 use std::sync::Arc;

@@ -3,10 +3,10 @@ use Rattle.std.proofs.Common.{◌≡◌, refl, sym, ◌∙◌, ap, subst, ℕ, L
 use Rattle.sst_entries.specs.Strict.{IsStrictAfter}
 use Rattle.sst_filters.specs.declared.policy.BloomConstructionPolicy.{BloomConstructionPolicy}
 use Rattle.lsm_files.specs.declared.options.FilterKind.{FilterKind}
-use Rattle.lsm_filter_writers.specs.Given.{GivenKeys, no_keys, with_key}
-use Rattle.lsm_filter_writers.specs.Held.{CutParts, HoldsParts}
-use Rattle.lsm_filter_writers.specs.Rising.{AreRising, Rises}
-use Rattle.lsm_filter_writers.proofs.SameOptions.{all_keys_more}
+use Rattle.lsm_section_writers.specs.Given.{GivenKeys, no_keys, with_key}
+use Rattle.lsm_section_writers.specs.Held.{CutParts, HoldsParts}
+use Rattle.lsm_section_writers.specs.Rising.{AreRising, Rises}
+use Rattle.lsm_section_writers.proofs.SameOptions.{all_keys_more}
 use Rattle.writer_examples.specs.Keys.{WasGiven}
 
 -- any key is greater than none

@@ -1,7 +1,7 @@
 -- The keys that a writer of partitions was given.
 use Rattle.std.specs.Prelude.{◌≡◌, ℕ, List}
-use Rattle.lsm_filter_writers.specs.Given.{GivenKeys, all_keys}
-use Rattle.lsm_filter_writers.specs.Held.{CutParts, HoldsParts}
+use Rattle.lsm_section_writers.specs.Given.{GivenKeys, all_keys}
+use Rattle.lsm_section_writers.specs.Held.{CutParts, HoldsParts}
 
 -- it was given these keys, in order, under any options
 pub record WasGiven (w : CutParts) (keys : List (List ℕ)) : Type 0 where

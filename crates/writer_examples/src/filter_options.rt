@@ -1,7 +1,7 @@
 //! Filters of partitions whose options were set between keys.
 ghost use Rattle.std.specs.Prelude.{ℕ, List, [], ◌∷◌, ◌++◌, IfOk};
-ghost use Rattle.lsm_filter_writers.specs.Held.{HoldsParts};
-ghost use Rattle.lsm_filter_writers.specs.Rising.{Rises};
+ghost use Rattle.lsm_section_writers.specs.Held.{HoldsParts};
+ghost use Rattle.lsm_section_writers.specs.Rising.{Rises};
 ghost use Rattle.writer_examples.specs.Keys.{WasGiven};
 
 use example_tables::large::asked;

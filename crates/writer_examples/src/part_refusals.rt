@@ -2,7 +2,7 @@
 //! and have ample memory again: the first refuse from then on, and what a section writer had stays.
 ghost use Rattle.std.specs.Prelude.{◌≡◌, ◌++◌, ◌∷◌, [], IfOk};
 ghost use Rattle.sst_blocks.specs.Handles.{AreStrictHandles};
-ghost use Rattle.lsm_filter_writers.specs.Rising.{Rises};
+ghost use Rattle.lsm_section_writers.specs.Rising.{Rises};
 ghost use Rattle.lsm_files.specs.File.{HasNoFilter, HasNoIndex};
 
 use crate::refusals::{Answers, are_right, number};

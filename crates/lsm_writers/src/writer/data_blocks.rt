@@ -14,7 +14,7 @@ ghost use Rattle.std.specs.List.{AllByRecursion};
 
 use crate::writer::meta::Metadata;
 use lsm_files::Options;
-use lsm_index_writers::{BlockIndexWriter, FullIndexWriter};
+use lsm_section_writers::{BlockIndexWriter, FullIndexWriter};
 use sst_blocks::{
     Block, BlockHandle, BlockOffset, BlockType, CompressionType, DataBlock, Error, InternalValue,
     KeyedBlockHandle, SectionName, SectionWriter,

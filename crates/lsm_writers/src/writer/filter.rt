@@ -7,7 +7,7 @@ ghost use Rattle.lsm_writers.specs.Words.{filter_fault, registered_key, tenths_o
 ghost use Rattle.sst_entries.specs.declared.error.Error.TheVariants.{OutOfMemory};
 
 use lsm_files::{BloomConstructionPolicy, FilterKind, Options};
-use lsm_filter_writers::{
+use lsm_section_writers::{
     FilterWriter, FilterWriterImpl, FullFilterWriter, PartitionedFilterWriter, small_partitions_fit,
 };
 use sst_blocks::{Error, SectionWriter, UserKey};

@@ -1,4 +1,4 @@
-use Rattle.lsm_index_writers.specs.Either.{registered_by}
+use Rattle.lsm_section_writers.specs.IndexEither.{registered_by}
 use Rattle.lsm_files.specs.Chunks.{joined}
 use Rattle.lsm_files.specs.Filters.{filtered_keys}
 use Rattle.lsm_files.specs.Index.{data_section}

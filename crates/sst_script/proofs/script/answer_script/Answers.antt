@@ -1,9 +1,9 @@
 use Rattle.std.proofs.Common.{◌≡◌, ◌∙◌, ap, refl, rules, sym, subst, [], ℕ, Bool, true, List}
 use Rattle.std.specs.Prelude.{Option, Err, map}
 use Rattle.std.specs.Arc.{arc_value}
-use Rattle.sst_commands.specs.declared.stop.Stop.{Stop}
+use Rattle.sst_script.specs.declared.stop.Stop.{Stop}
 use Rattle.std.specs.Io.Buffered.{reader_remaining}
-use Rattle.sst_commands.specs.declared.stop.Stop.TheVariants.{Input}
+use Rattle.sst_script.specs.declared.stop.Stop.TheVariants.{Input}
 use Rattle.sst_script.specs.Lines.{LosesLine, ReadsLine}
 use Rattle.sst_script.proofs.CompactLemmas.{able_none}
 use Rattle.sst_script.proofs.RefusalLemmas.{passed}

@@ -1,6 +1,6 @@
 use Rattle.std.proofs.Common.{refl, subst, inl, inr}
 use Rattle.std.specs.Prelude.{Result, Ok, Err, ⊤}
-use Rattle.sst_commands.specs.declared.stop.Stop.{Stop}
+use Rattle.sst_script.specs.declared.stop.Stop.{Stop}
 use Rattle.std.proofs.KnownBytes.{Keeps-refl}
 use Rattle.sst_script.specs.Answering.{ScriptEnds}
 use Rattle.sst_script.proofs.ScriptLemmas.{reported}

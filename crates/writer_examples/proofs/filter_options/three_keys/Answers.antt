@@ -1,7 +1,7 @@
 -- Each key is greater than those before it.
 use Rattle.std.proofs.Common.{[], ◌∷◌}
 use Rattle.writer_examples.proofs.KeyLemmas.{given_none, rises_above, rises_above_none, second_rises, third_rises}
-use Rattle.lsm_filter_writers.specs.Held.{HoldsParts}
+use Rattle.lsm_section_writers.specs.Held.{HoldsParts}
 use Rattle.writer_examples.proofs.filter_options.three_keys.Goals as goal
 
 pub add-requires : goal.add-requires

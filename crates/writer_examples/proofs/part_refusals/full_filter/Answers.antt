@@ -1,5 +1,5 @@
 -- A new writer has no keys.
-use Rattle.lsm_filter_writers.specs.Held.{HoldsHashes}
+use Rattle.lsm_section_writers.specs.Held.{HoldsHashes}
 use Rattle.writer_examples.proofs.KeyLemmas.{rises_above_none}
 use Rattle.writer_examples.proofs.part_refusals.full_filter.Goals as goal
 

@@ -1,6 +1,6 @@
 -- A new writer has no keys, whatever its partitions' size.
-use Rattle.lsm_filter_writers.specs.Given.{no_keys}
-use Rattle.lsm_filter_writers.specs.Held.{HoldsParts}
+use Rattle.lsm_section_writers.specs.Given.{no_keys}
+use Rattle.lsm_section_writers.specs.Held.{HoldsParts}
 use Rattle.writer_examples.proofs.KeyLemmas.{rises_above_none}
 use Rattle.writer_examples.proofs.part_refusals.partitioned_filter.Goals as goal
 

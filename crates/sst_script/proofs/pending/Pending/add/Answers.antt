@@ -5,8 +5,8 @@ use Rattle.sst_entries.specs.declared.error.Error.TheVariants.{OutOfMemory}
 use Rattle.sst_entries.specs.declared.value_type.ValueType.{ValueType}
 use Rattle.sst_entries.specs.Entry.{Entry, entry}
 use Rattle.lsm_writers.specs.Writing.{may_be_written}
-use Rattle.sst_commands.specs.declared.stop.Failure.{Failure}
-use Rattle.sst_commands.specs.declared.stop.Failure.TheVariants.{BadLine, Refused}
+use Rattle.sst_script.specs.declared.stop.Failure.{Failure}
+use Rattle.sst_script.specs.declared.stop.Failure.TheVariants.{BadLine, Refused}
 use Rattle.sst_script.proofs.PendingLemmas.{pending_more}
 use Rattle.sst_script.proofs.RefusalLemmas.{passes}
 use Rattle.sst_script.proofs.pending.Pending.add.Goals as goal

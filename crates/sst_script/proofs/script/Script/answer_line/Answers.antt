@@ -1,5 +1,5 @@
 use Rattle.std.proofs.Common.{◌<◌, length, rules}
-use Rattle.sst_commands.specs.Command.{words_of, AskFor}
+use Rattle.sst_script.specs.Command.{words_of, AskFor}
 use Rattle.sst_script.specs.Answering.{outcome_text}
 use Rattle.sst_script.specs.Script.{store}
 use Rattle.sst_script.proofs.ScriptLemmas.{ends_printed, ends_stops}

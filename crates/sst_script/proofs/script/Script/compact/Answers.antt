@@ -6,7 +6,7 @@ use Rattle.sst_entries.specs.Error.{is_memory}
 use Rattle.lsm_readers.specs.Table.{OpenTable}
 use Rattle.lsm_compactions.specs.Chain.{AreCutOf, IsRunOfList, run_label, tables_fault}
 use Rattle.lsm_compactions.specs.Compacted.{AreCompactable, kept_in, rules_by}
-use Rattle.sst_commands.specs.declared.stop.Failure.TheVariants.{Refused}
+use Rattle.sst_script.specs.declared.stop.Failure.TheVariants.{Refused}
 use Rattle.sst_script.specs.Script.{kept_by, target_size}
 use Rattle.sst_script.proofs.CompactLemmas.{able_none, compacted, compacted_away, compaction_fails, kept_is, moved, not_compacted}
 use Rattle.sst_script.proofs.RunLemmas.{held, lists_of}

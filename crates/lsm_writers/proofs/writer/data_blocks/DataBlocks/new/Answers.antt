@@ -1,7 +1,7 @@
 use Rattle.std.proofs.Common.{◌≡◌, ap, refl, [], ◌∷◌, lit<}
 use Rattle.sst_sections.specs.declared.section.SectionName.TheVariants.{Data}
 use Rattle.lsm_writers.specs.Cut.{chunks_in}
-use Rattle.lsm_index_writers.specs.Registered.{Registered}
+use Rattle.lsm_section_writers.specs.Registered.{Registered}
 use Rattle.lsm_writers.proofs.Cutting.{nothing_cut}
 use Rattle.lsm_writers.proofs.writer.data_blocks.DataBlocks.new.Goals as goal
 

@@ -1,9 +1,0 @@
-pub mod Cutting
-pub mod Given
-pub mod Rising
-pub mod Refusing
-pub mod Held
-pub mod Writing
-pub mod Answering
-pub mod Words
-pub mod Either

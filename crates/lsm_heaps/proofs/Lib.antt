@@ -1,9 +1,0 @@
-pub mod OrderLemmas
-pub mod BracketLemmas
-pub mod SlotLemmas
-pub mod HeightLemmas
-pub mod TournamentLemmas
-pub mod AskedLemmas
-pub mod PlaceLemmas
-pub mod MoveLemmas
-pub mod IntervalHeapLemmas

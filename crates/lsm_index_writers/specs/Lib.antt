@@ -1,4 +1,0 @@
-pub mod Registered
-pub mod Refusing
-pub mod Words
-pub mod Either

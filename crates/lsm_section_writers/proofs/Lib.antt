@@ -1,0 +1,15 @@
+pub mod Strict
+pub mod Behind
+pub mod Tops
+pub mod Cutting
+pub mod Finishing
+pub mod Empty
+pub mod Building
+pub mod CutLaws
+pub mod RisingLaws
+pub mod Holding
+pub mod Sections
+pub mod Emptiness
+pub mod SmallParts
+pub mod SameOptions
+pub mod Admitting

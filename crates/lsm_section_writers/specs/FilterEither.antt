@@ -1,0 +1,39 @@
+-- What a writer of either kind holds, and the same writer with other options.
+use Rattle.std.specs.Prelude.{ℕ, Bool}
+use Rattle.sst_filters.specs.declared.policy.BloomConstructionPolicy.{BloomConstructionPolicy}
+use Rattle.lsm_files.specs.declared.options.FilterKind.{FilterKind}
+use Rattle.lsm_files.specs.declared.options.FilterKind.TheVariants.{Full, Partitioned}
+use Rattle.lsm_section_writers.specs.Given.{GivenKeys}
+use Rattle.lsm_section_writers.specs.Held.{HoldsHashes, HoldsParts}
+use Rattle.lsm_section_writers.specs.declared.filter_either.FilterWriterImpl.{FilterWriterImpl}
+use Rattle.lsm_section_writers.specs.declared.filter_either.FilterWriterImpl.TheVariants.{Full as FullWriter}
+use Rattle.lsm_section_writers.specs.declared.filter_either.FilterWriterImpl.TheVariants.{Partitioned as PartitionedWriter}
+
+-- the kind of a writer, its policy, and whether it has refused
+abbrev pub kind_by : {A : Type 0} → FilterWriterImpl A → FilterKind
+kind_by (FullWriter w) = Full
+kind_by (PartitionedWriter w) = Partitioned w.size
+
+abbrev pub policy_by : {A : Type 0} → FilterWriterImpl A → BloomConstructionPolicy
+policy_by (FullWriter w) = w.policy
+policy_by (PartitionedWriter w) = w.policy
+
+abbrev pub failed_by : {A : Type 0} → FilterWriterImpl A → Bool
+failed_by (FullWriter w) = w.failed
+failed_by (PartitionedWriter w) = w.failed
+
+-- the keys that a writer of either kind stands for
+abbrev pub HoldsBy : {A : Type 0} → FilterWriterImpl A → GivenKeys → Type 0
+HoldsBy (FullWriter w) given = HoldsHashes w given
+HoldsBy (PartitionedWriter w) given = HoldsParts w given
+
+-- the same writer with another policy
+abbrev pub with_policy_by : {A : Type 0} → FilterWriterImpl A → BloomConstructionPolicy
+    → FilterWriterImpl A
+with_policy_by (FullWriter w) policy = FullWriter (record w { policy = policy })
+with_policy_by (PartitionedWriter w) policy = PartitionedWriter (record w { policy = policy })
+
+-- a full filter has no partitions
+abbrev pub with_size_by : {A : Type 0} → FilterWriterImpl A → ℕ → FilterWriterImpl A
+with_size_by (FullWriter w) size = FullWriter w
+with_size_by (PartitionedWriter w) size = PartitionedWriter (record w { size = size })

@@ -1,0 +1,13 @@
+pub mod Registered
+pub mod IndexRefusing
+pub mod IndexWords
+pub mod IndexEither
+pub mod Cutting
+pub mod Given
+pub mod Rising
+pub mod FilterRefusing
+pub mod Held
+pub mod Writing
+pub mod Answering
+pub mod FilterWords
+pub mod FilterEither

@@ -1,0 +1,68 @@
+-- What writing the filter of some keys does.
+use Rattle.std.specs.Prelude.{◌≡◌, ℕ, List, [], ◌∷◌, length, map}
+use Rattle.std.specs.List.{AllByRecursion, flat_map}
+use Rattle.sst_sections.specs.declared.version.TableVersion.TheVariants.{V4}
+use Rattle.sst_sections.specs.Sections.{Written}
+use Rattle.sst_sections.specs.declared.section.SectionName.TheVariants.{Filter as FilterSection}
+use Rattle.sst_sections.specs.declared.section.SectionName.TheVariants.{FilterTli}
+use Rattle.sst_blocks.specs.Handle.{Handle}
+use Rattle.sst_filters.specs.declared.policy.BloomConstructionPolicy.{BloomConstructionPolicy}
+use Rattle.sst_filters.specs.Filter.{BloomFilter}
+use Rattle.lsm_files.specs.declared.options.FilterKind.{FilterKind}
+use Rattle.lsm_files.specs.declared.options.FilterKind.TheVariants.{Full}
+use Rattle.lsm_files.specs.Filters.{AreFiltersFor, filter_block}
+use Rattle.lsm_files.specs.Fits.{SectionFits}
+use Rattle.lsm_files.specs.Kinds.{filter_count, filter_parts, filter_sections}
+use Rattle.lsm_files.specs.Layout.{Sections, appended}
+use Rattle.lsm_files.specs.Partitions.{handles_block, tops_from}
+use Rattle.lsm_section_writers.specs.Given.{GivenKeys, IsSomePart, keys_in, parts_of}
+use Rattle.lsm_section_writers.specs.Held.{AreFiltersOf, CutPart, filters_of, partition_of}
+
+-- the sections of the filters of these keys, behind what was written before
+abbrev pub sections_behind : FilterKind → BloomConstructionPolicy → List (List ℕ) → Written
+    → List BloomFilter → Sections
+sections_behind kind policy keys before fs =
+    filter_sections kind V4 (length before.bytes) (filter_parts kind policy keys) fs
+
+-- the filters of these keys were written behind what was written before, and so many blocks are
+-- counted
+pub record WritesFilter (kind : FilterKind) (policy : BloomConstructionPolicy)
+    (keys : List (List ℕ)) (before after : Written) (count : ℕ) : Type 0 where
+  pub filters : List BloomFilter
+  pub are : AreFiltersFor policy (filter_parts kind policy keys) filters
+  pub written : after ≡ appended before (sections_behind kind policy keys before filters)
+  pub counted : count ≡ filter_count kind filters
+  pub fit : AllByRecursion SectionFits (sections_behind kind policy keys before filters)
+
+-- the sections of the filters of parts of keys, behind what was written before
+abbrev pub key_sections : FilterKind → BloomConstructionPolicy → GivenKeys → Written
+    → List BloomFilter → Sections
+key_sections kind policy given before fs =
+    filter_sections kind V4 (length before.bytes) (keys_in (parts_of policy given)) fs
+
+-- the filters of these keys were written behind what was written before: each part has the filter
+-- of the policy under which it was cut, what was pending that of the last policy; and so many
+-- blocks are counted
+pub record WritesParts (kind : FilterKind) (policy : BloomConstructionPolicy) (given : GivenKeys)
+    (before after : Written) (count : ℕ) : Type 0 where
+  pub uncut : kind ≡ Full → given.cut ≡ []
+  pub some : AllByRecursion IsSomePart (parts_of policy given)
+  pub filters : List BloomFilter
+  pub are : AreFiltersOf (parts_of policy given) filters
+  pub written : after ≡ appended before (key_sections kind policy given before filters)
+  pub counted : count ≡ filter_count kind filters
+  pub fit : AllByRecursion SectionFits (key_sections kind policy given before filters)
+
+-- the top level of some parts, the first of them at a position
+abbrev pub tops_of : ℕ → List CutPart → List Handle
+tops_of at parts = tops_from at (map partition_of parts)
+
+abbrev pub tops_block : ℕ → List CutPart → List ℕ
+tops_block at parts = handles_block V4 (tops_of at parts)
+
+-- the sections of some parts
+abbrev pub part_sections : ℕ → List CutPart → Sections
+part_sections at parts =
+    (FilterSection, flat_map (filter_block V4) (filters_of parts))
+    ∷ (FilterTli, tops_block at parts)
+    ∷ []

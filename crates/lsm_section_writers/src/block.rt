@@ -1,0 +1,79 @@
+//! Writing blocks of handles.
+ghost use Rattle.std.specs.Prelude.{◌≡◌, ◌+◌, ◌<◌, ◌^◌, ◌++◌, ◌∷◌, [], length, take, All};
+ghost use Rattle.std.specs.Prelude.{IfOk, IfErr, OnOk, OnErr};
+ghost use Rattle.lsm_section_writers.specs.IndexWords.{AreStrictHandles, Faults, SectionFits, appended};
+ghost use Rattle.lsm_section_writers.specs.IndexWords.{handles_block, handles_fault, handles_payload};
+ghost use Rattle.lsm_section_writers.specs.IndexWords.{header_len, index_block_bound_of, slot_index};
+ghost use Rattle.sst_entries.specs.declared.error.Error.TheVariants.{OutOfMemory};
+ghost use Rattle.sst_sections.specs.declared.section.SectionName.TheVariants.{Tli};
+ghost use Rattle.sst_sections.specs.declared.version.TableVersion.TheVariants.{V4};
+
+use sst_blocks::{
+    Block, BlockHandle, BlockType, CompressionType, Error, IndexBlock, KeyedBlockHandle,
+    SectionName, SectionWriter,
+};
+use std::alloc::Allocator;
+
+/// Writes one block of these handles at the end, and answers where it lies. Its payload is put
+/// together in `buffer`. Refused where the block is too large, and [`Error::OutOfMemory`]; nothing
+/// is written then.
+pub(crate) fn write_block<A: Allocator + Clone>(
+    writer: &mut SectionWriter<A>,
+    handles: &[KeyedBlockHandle<A>],
+    buffer: &mut Vec<u8, A>,
+    compression: CompressionType,
+) -> Result<BlockHandle, Error>
+    requires { AreStrictHandles handles.now }
+    ensures ok { let bytes = writer.old.bytes ++ handles_block V4 handles.now in
+        OnOk result (writer.new ≡ record writer.old { bytes = bytes }) }
+    ensures place { let size = header_len + length (handles_payload V4 handles.now) in
+        IfOk result (λ h. h ≡ record { offset = length writer.old.bytes; size = size }) }
+    ensures bound { let size = length (handles_block V4 handles.now) in
+        OnOk result (size ≡ index_block_bound_of handles.now) }
+    ensures short { OnOk result (length (handles_block V4 handles.now) < 2 ^ 32) }
+    ensures unchanged { OnErr result (writer.new ≡ writer.old) }
+    ensures refused { Faults result (handles_fault handles.now) }
+{
+    buffer.clear();
+    IndexBlock::encode_into(buffer, handles)?;
+    Block::write_into(writer, buffer, BlockType::Index, compression)
+}
+
+/// Writes the section of an index's top level, or of the whole of a full one: one block of these
+/// handles. Refused as [`write_block`] is; the bytes that were written before stay.
+pub(crate) fn write_top_level<A: Allocator + Clone>(
+    writer: &mut SectionWriter<A>,
+    handles: &[KeyedBlockHandle<A>],
+    buffer: &mut Vec<u8, A>,
+    compression: CompressionType,
+) -> Result<(), Error>
+    requires unwritten { All (λ s. slot_index s.0 ≡ 2 → ⊥) writer.old.started }
+    requires strict { AreStrictHandles handles.now }
+    ensures ok { OnOk result (writer.new ≡
+        appended writer.old ((Tli, handles_block V4 handles.now) ∷ [])) }
+    ensures short { OnOk result (SectionFits (Tli, handles_block V4 handles.now)) }
+    ensures before { take (length writer.old.bytes) writer.new.bytes ≡ writer.old.bytes }
+    ensures refused { Faults result (handles_fault handles.now) }
+{
+    writer.start(SectionName::Tli)?;
+    write_block(writer, handles, buffer, compression)?;
+    Ok(())
+}
+
+/// Writes the section of a top level without handles. Only the section writer takes memory: what a
+/// block of no handles has is their count. Refused [`Error::OutOfMemory`] alone; no byte is written
+/// then.
+pub(crate) fn write_empty_top_level<A: Allocator + Clone>(
+    writer: &mut SectionWriter<A>,
+    compression: CompressionType,
+) -> Result<(), Error>
+    requires { All (λ s. slot_index s.0 ≡ 2 → ⊥) writer.old.started }
+    ensures ok { OnOk result (writer.new ≡
+        appended writer.old ((Tli, handles_block V4 []) ∷ [])) }
+    ensures bytes { OnErr result (writer.new.bytes ≡ writer.old.bytes) }
+    ensures err { IfErr result (λ e. e ≡ OutOfMemory) }
+{
+    writer.start(SectionName::Tli)?;
+    Block::write_into(writer, &[0, 0, 0, 0], BlockType::Index, compression)?;
+    Ok(())
+}

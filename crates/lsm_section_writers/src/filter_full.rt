@@ -1,0 +1,122 @@
+//! The writer of a full filter.
+ghost use Rattle.std.specs.Prelude.{◌≡◌, ℕ, List, [], false, length, map, take, IfOk};
+ghost use Rattle.lsm_section_writers.specs.FilterWords.{Faults, HasNoFilter, HoldsHashes, WritesParts};
+ghost use Rattle.lsm_section_writers.specs.FilterWords.{fault_for, hash_of, given_by, no_keys, tenths_of};
+ghost use Rattle.lsm_files.specs.declared.options.FilterKind.TheVariants.{Full};
+
+use crate::build::build_from_buffer;
+use crate::filter_writer::FilterWriter;
+use sst_blocks::{
+    Block, BlockType, BloomConstructionPolicy, Builder, CompressionType, Error, SectionName,
+    SectionWriter, UserKey,
+};
+use std::alloc::{Allocator, Global};
+use std::marker::Model;
+
+/// Writes a filter of one block, which has all keys. A contract sees their hashes.
+#[derive(Drop)]
+pub struct FullFilterWriter<A: Allocator = Global> {
+    bloom_policy: BloomConstructionPolicy,
+    // The filter is as large as there are keys, so it is built when all are there.
+    bloom_hash_buffer: Vec<u64, A>,
+    failed: bool,
+}
+
+impl<A: Allocator> Model for FullFilterWriter<A> {
+    ghost use Rattle.lsm_section_writers.specs.Held.{Hashes};
+
+    ghost Value = { Hashes };
+
+    ghost view = { λ w. record {
+      policy = w.bloom_policy;
+      hashes = w.bloom_hash_buffer.items;
+      failed = w.failed;
+    } };
+}
+
+impl<A: Allocator> FullFilterWriter<A> {
+    /// No keys.
+    pub fn new(alloc: A, policy: BloomConstructionPolicy) -> FullFilterWriter<A>
+        ensures value { result ≡ record { policy = policy; hashes = []; failed = false } }
+        ensures holds { HoldsHashes result no_keys }
+    {
+        FullFilterWriter {
+            bloom_policy: policy,
+            bloom_hash_buffer: Vec::new(alloc),
+            failed: false,
+        }
+    }
+}
+
+impl<A: Allocator + Clone> FilterWriter<A> for FullFilterWriter<A> {
+    ghost use Rattle.lsm_section_writers.specs.Held.{HoldsHashes};
+    ghost use Rattle.lsm_files.specs.declared.options.FilterKind.TheVariants.{Full};
+
+    ghost kind = { λ _. Full };
+
+    ghost policy = { λ w. w.policy };
+
+    ghost has_failed = { λ w. w.failed };
+
+    ghost Holds = { HoldsHashes };
+
+    ghost with_policy = { λ w policy. record w { policy = policy } };
+
+    ghost with_partition_size = { λ w _. w };
+
+    fn register_key(&mut self, key: &UserKey<A>) -> Result<(), Error> {
+        if self.failed {
+            return Err(Error::WriterFailed); // nothing is registered
+        }
+        self.failed = true;
+        self.bloom_hash_buffer
+            .push(Builder::<A>::get_hash(key.as_slice()))?;
+        self.failed = false;
+        Ok(())
+    }
+
+    fn finish(self, writer: &mut SectionWriter<A>) -> Result<usize, Error> {
+        if self.failed {
+            return Err(Error::WriterFailed); // nothing is written
+        }
+        if self.bloom_hash_buffer.is_empty() {
+            return Ok(1); // counted, though it is not written
+        }
+        write_filter(writer, &self.bloom_policy, &self.bloom_hash_buffer)
+    }
+
+    fn set_filter_policy(mut self, bloom_policy: BloomConstructionPolicy) -> FullFilterWriter<A> {
+        self.bloom_policy = bloom_policy;
+        self
+    }
+
+    fn use_tli_compression(self, _compression: CompressionType) -> FullFilterWriter<A> {
+        self
+    }
+
+    fn use_partition_size(self, _size: u32) -> FullFilterWriter<A> {
+        self
+    }
+}
+
+/// Writes the section of the filter of the keys of these hashes, and answers how many blocks it
+/// has. Refused [`Error::BlockTooLarge`] where the filter is too large, and [`Error::OutOfMemory`].
+fn write_filter<A: Allocator + Clone>(
+    writer: &mut SectionWriter<A>,
+    policy: &BloomConstructionPolicy,
+    hashes: &Vec<u64, A>,
+) -> Result<usize, Error>
+    requires unwritten { HasNoFilter writer.old }
+    requires some { hashes.now.items ≡ [] → ⊥ }
+    ensures ok { IfOk result (λ n. (keys : List (List ℕ)) → hashes.now.items ≡ map hash_of keys →
+        WritesParts Full policy.now (given_by Full policy.now keys) writer.old writer.new n) }
+    ensures before { take (length writer.old.bytes) writer.new.bytes ≡ writer.old.bytes }
+    ensures refused { let n = length hashes.now.items in
+        Faults result (fault_for (tenths_of policy.now) n) }
+{
+    let filter = build_from_buffer(policy, hashes)?;
+    let payload = filter.build();
+    writer.start(SectionName::Filter)?;
+    Block::write_into(writer, &payload, BlockType::Filter, CompressionType::None)?;
+    Ok(1)
+}

@@ -1,0 +1,328 @@
+//! The writer of a filter of partitions.
+ghost use Rattle.std.specs.Prelude.{◌≡◌, ◌+◌, ◌++◌, ◌∷◌, ℕ, List, [], None, true, false, nat_le};
+ghost use Rattle.std.specs.Prelude.{length, map, take, All, IfOk, IfErr, OnOk, OnErr};
+ghost use Rattle.lsm_section_writers.specs.FilterWords.{AreRising, AreStrictHandles, Cuts, Faults};
+ghost use Rattle.lsm_section_writers.specs.FilterWords.{FaultsFirst, GivenKeys, HasNoFilter, HoldsAll};
+ghost use Rattle.lsm_section_writers.specs.FilterWords.{HoldsParts, SectionFits, appended, end_keys};
+ghost use Rattle.lsm_section_writers.specs.FilterWords.{fault_for, filter_block, filters_of};
+ghost use Rattle.lsm_section_writers.specs.FilterWords.{handles_block, handles_fault, header_len};
+ghost use Rattle.lsm_section_writers.specs.FilterWords.{keys_fault, no_keys, part_sections, payload_of};
+ghost use Rattle.lsm_section_writers.specs.FilterWords.{register_fault, size_for, slot_index, tenths_of};
+ghost use Rattle.lsm_section_writers.specs.FilterWords.{top_fault, tops_block, tops_of, with_key};
+ghost use Rattle.std.specs.List.{flat_map};
+ghost use Rattle.lsm_files.specs.declared.options.FilterKind.TheVariants.{Partitioned};
+ghost use Rattle.sst_entries.specs.declared.error.Error.TheVariants.{OutOfMemory};
+ghost use Rattle.sst_sections.specs.declared.section.SectionName.TheVariants.{FilterTli};
+ghost use Rattle.sst_sections.specs.declared.version.TableVersion.TheVariants.{V4};
+
+use crate::build::build_from_buffer;
+use crate::filter_writer::FilterWriter;
+use sst_blocks::{
+    Block, BlockType, BloomConstructionPolicy, Builder, CompressionType, Error, IndexBlock,
+    KeyedBlockHandle, SectionName, SectionWriter, UserKey, filter_bound,
+};
+use std::alloc::{Allocator, Global};
+use std::marker::Model;
+
+/// A partition that was cut: the last of its keys, and its filter.
+#[derive(Drop)]
+struct FilterPartition<A: Allocator = Global> {
+    end_key: UserKey<A>,
+    filter: Builder<A>,
+}
+
+impl<A: Allocator> Model for FilterPartition<A> {
+    ghost use Rattle.lsm_section_writers.specs.Held.{CutPart};
+
+    ghost Value = { CutPart };
+
+    ghost view = { λ p. record { end_key = p.end_key; filter = p.filter } };
+}
+
+/// Writes a filter of partitions, each cut when it has so many bytes, and a top level that has
+/// their last keys. A contract sees the filters of the partitions that were cut, and the hashes of
+/// the keys behind them.
+#[derive(Drop)]
+pub struct PartitionedFilterWriter<A: Allocator = Global> {
+    bloom_policy: BloomConstructionPolicy,
+    partition_size: u32,
+    compression: CompressionType,
+    // what was cut, and where its blocks end when they are written one behind another
+    partitions: Vec<FilterPartition<A>, A>,
+    relative_file_pos: u64,
+    // the keys behind: their hashes, and the last one where there are any
+    bloom_hash_buffer: Vec<u64, A>,
+    last_key: Option<UserKey<A>>,
+    failed: bool,
+}
+
+impl<A: Allocator> Model for PartitionedFilterWriter<A> {
+    ghost use Rattle.std.specs.Prelude.{◌++◌};
+    ghost use Rattle.lsm_section_writers.specs.Held.{CutParts, as_list, end_keys};
+    ghost use Rattle.lsm_section_writers.specs.Rising.{AreRising};
+
+    ghost Value = { CutParts };
+
+    ghost view = { λ w. record {
+      policy = w.bloom_policy;
+      size = w.partition_size;
+      parts = w.partitions.items;
+      bound = w.relative_file_pos;
+      hashes = w.bloom_hash_buffer.items;
+      last = w.last_key;
+      failed = w.failed;
+    } };
+
+    ghost invariant = { λ w. AreRising (end_keys w.partitions.items ++ as_list w.last_key) };
+}
+
+impl<A: Allocator + Clone> PartitionedFilterWriter<A> {
+    /// No keys, and partitions of 4,096 bytes. Refused [`Error::OutOfMemory`] where the allocator
+    /// does not clone.
+    pub fn new(
+        alloc: A,
+        policy: BloomConstructionPolicy,
+    ) -> Result<PartitionedFilterWriter<A>, Error>
+        ensures value { IfOk result (λ w. w ≡ record {
+          policy = policy;
+          size = 4096;
+          parts = [];
+          bound = 0;
+          hashes = [];
+          last = None;
+          failed = false;
+        }) }
+        ensures holds { IfOk result (λ w. HoldsParts w no_keys) }
+        ensures err { IfErr result (λ e. e ≡ OutOfMemory) }
+    {
+        Ok(PartitionedFilterWriter {
+            bloom_policy: policy,
+            partition_size: 4_096,
+            compression: CompressionType::None,
+            partitions: Vec::new(alloc.clone()?),
+            relative_file_pos: 0,
+            bloom_hash_buffer: Vec::new(alloc),
+            last_key: None,
+            failed: false,
+        })
+    }
+
+    // Whether the pending keys are cut off.
+    fn is_full(&self) -> bool
+        ensures { result ≡
+            nat_le self.now.size (size_for (tenths_of self.now.policy) (length self.now.hashes)) }
+    {
+        let approx_filter_size = self
+            .bloom_policy
+            .estimated_filter_size(self.bloom_hash_buffer.len());
+        approx_filter_size >= self.partition_size as usize
+    }
+
+    // Cuts the pending keys off, of which `end_key` is the last.
+    fn spill_filter_partition(&mut self, end_key: UserKey<A>) -> Result<(), Error>
+        requires { AreRising (end_keys self.old.parts ++ end_key ∷ []) }
+        ensures ok { OnOk result (Cuts end_key self.old self.new) }
+        ensures policy { self.new.policy ≡ self.old.policy }
+        ensures size { self.new.size ≡ self.old.size }
+        ensures failed { self.new.failed ≡ self.old.failed }
+        ensures refused { let n = length self.old.hashes in
+            Faults result (fault_for (tenths_of self.old.policy) n) }
+    {
+        let n = self.bloom_hash_buffer.len();
+        let filter = build_from_buffer(&self.bloom_policy, &self.bloom_hash_buffer)?;
+        self.partitions.push(FilterPartition { end_key, filter })?;
+        self.relative_file_pos = self
+            .relative_file_pos
+            .saturating_add(filter_bound(&self.bloom_policy, n));
+        self.bloom_hash_buffer.clear();
+        drop(self.last_key.take());
+        Ok(())
+    }
+
+    // Adds a key to those that are pending, and cuts them off where they are enough.
+    fn push_key(&mut self, key: &UserKey<A>) -> Result<(), Error>
+        requires { AreRising (end_keys self.old.parts ++ key.now ∷ []) }
+        ensures ok { OnOk result ((given : GivenKeys) → HoldsParts self.old given →
+            let kind = Partitioned self.old.size in
+            HoldsParts self.new (with_key kind self.old.policy given key.now)) }
+        ensures policy { self.new.policy ≡ self.old.policy }
+        ensures size { self.new.size ≡ self.old.size }
+        ensures failed { self.new.failed ≡ self.old.failed }
+        ensures refused { (given : GivenKeys) → HoldsParts self.old given →
+            let kind = Partitioned self.old.size in
+            Faults result (register_fault kind self.old.policy given.pending key.now) }
+    {
+        let hash = Builder::<A>::get_hash(key.as_slice());
+        self.bloom_hash_buffer.push(hash)?;
+        let end_key = key.clone()?;
+        if self.is_full() {
+            return self.spill_filter_partition(end_key);
+        }
+        drop(self.last_key.replace(end_key));
+        Ok(())
+    }
+
+    // Cuts the pending keys off, where there are any.
+    fn spill_rest(&mut self) -> Result<(), Error>
+        ensures ok { OnOk result ((given : GivenKeys) →
+            HoldsParts self.old given → HoldsAll self.new given) }
+        ensures policy { self.new.policy ≡ self.old.policy }
+        ensures size { self.new.size ≡ self.old.size }
+        ensures refused { (given : GivenKeys) → HoldsParts self.old given →
+            Faults result (keys_fault self.old.policy given.pending) }
+        // Where nothing is pending it succeeds.
+        ensures idle { OnErr result (self.old.last ≡ None → ⊥) }
+    {
+        match self.last_key.take() {
+            None => Ok(()),
+            Some(end_key) => self.spill_filter_partition(end_key),
+        }
+    }
+}
+
+impl<A: Allocator + Clone> FilterWriter<A> for PartitionedFilterWriter<A> {
+    ghost use Rattle.lsm_section_writers.specs.Held.{HoldsParts};
+    ghost use Rattle.lsm_files.specs.declared.options.FilterKind.TheVariants.{Partitioned};
+
+    ghost kind = { λ w. Partitioned w.size };
+
+    ghost policy = { λ w. w.policy };
+
+    ghost has_failed = { λ w. w.failed };
+
+    ghost Holds = { HoldsParts };
+
+    ghost with_policy = { λ w policy. record w { policy = policy } };
+
+    ghost with_partition_size = { λ w size. record w { size = size } };
+
+    fn register_key(&mut self, key: &UserKey<A>) -> Result<(), Error> {
+        if self.failed {
+            return Err(Error::WriterFailed); // nothing is registered
+        }
+        self.failed = true;
+        self.push_key(key)?;
+        self.failed = false;
+        Ok(())
+    }
+
+    fn finish(mut self, writer: &mut SectionWriter<A>) -> Result<usize, Error> {
+        if self.failed {
+            return Err(Error::WriterFailed); // nothing is written
+        }
+        self.spill_rest()?;
+        if self.partitions.is_empty() {
+            return Ok(0);
+        }
+        if self.relative_file_pos > u64::from(u32::MAX) {
+            return Err(Error::SectionTooLarge);
+        }
+        write_sections(writer, self.partitions, self.compression)
+    }
+
+    fn set_filter_policy(
+        mut self,
+        bloom_policy: BloomConstructionPolicy,
+    ) -> PartitionedFilterWriter<A> {
+        self.bloom_policy = bloom_policy;
+        self
+    }
+
+    fn use_tli_compression(mut self, compression: CompressionType) -> PartitionedFilterWriter<A> {
+        self.compression = compression;
+        self
+    }
+
+    fn use_partition_size(mut self, size: u32) -> PartitionedFilterWriter<A> {
+        self.partition_size = size;
+        self
+    }
+}
+
+/// Writes the section of the partitions, one behind another, and the section of their top level.
+/// Answers how many partitions there are. Refused where the top level's block is too large, and
+/// [`Error::OutOfMemory`].
+fn write_sections<A: Allocator + Clone>(
+    writer: &mut SectionWriter<A>,
+    partitions: Vec<FilterPartition<A>, A>,
+    compression: CompressionType,
+) -> Result<usize, Error>
+    requires unwritten { HasNoFilter writer.old }
+    requires rising { AreRising (end_keys partitions.items) }
+    ensures ok { OnOk result (writer.new ≡
+        appended writer.old (part_sections (length writer.old.bytes) partitions.items)) }
+    ensures short { OnOk result (
+        SectionFits (FilterTli, tops_block (length writer.old.bytes) partitions.items)) }
+    ensures count { IfOk result (λ n. n ≡ length partitions.items) }
+    ensures before { take (length writer.old.bytes) writer.new.bytes ≡ writer.old.bytes }
+    ensures refused { Faults result (top_fault (end_keys partitions.items)) }
+{
+    writer.start(SectionName::Filter)?;
+    let handles = write_partitions(writer, partitions)?;
+    write_top_level(writer, &handles, compression)?;
+    Ok(handles.len())
+}
+
+/// Writes the blocks of the partitions, one behind another, and answers the top level's handles of
+/// them. Refused [`Error::OutOfMemory`] alone.
+fn write_partitions<A: Allocator + Clone>(
+    writer: &mut SectionWriter<A>,
+    partitions: Vec<FilterPartition<A>, A>,
+) -> Result<Vec<KeyedBlockHandle<A>, A>, Error>
+    ensures ok { OnOk result (writer.new.bytes ≡
+        writer.old.bytes ++ flat_map (filter_block V4) (filters_of partitions.items)) }
+    ensures handles { let at = length writer.old.bytes in
+        IfOk result (λ hs. hs.items ≡ tops_of at partitions.items) }
+    ensures started { writer.new.started ≡ writer.old.started }
+    ensures before { take (length writer.old.bytes) writer.new.bytes ≡ writer.old.bytes }
+    ensures err { IfErr result (λ e. e ≡ OutOfMemory) }
+{
+    let mut handles = Vec::new(partitions.allocator().clone()?);
+    for partition in partitions {
+        let handle = write_partition(writer, partition)?;
+        handles.push(handle)?;
+    }
+    Ok(handles)
+}
+
+/// Writes the block of a partition at the end, and answers the top level's handle of it. Refused
+/// [`Error::OutOfMemory`] alone.
+fn write_partition<A: Allocator + Clone>(
+    writer: &mut SectionWriter<A>,
+    partition: FilterPartition<A>,
+) -> Result<KeyedBlockHandle<A>, Error>
+    ensures ok { let bytes = writer.old.bytes ++ filter_block V4 partition.filter in
+        OnOk result (writer.new ≡ record writer.old { bytes = bytes }) }
+    ensures handle { let size = header_len + length (payload_of partition.filter) in
+        let at = length writer.old.bytes in
+        IfOk result (λ h. h ≡
+        record { end_key = partition.end_key; seqno = 0; offset = at; size = size }) }
+    ensures unchanged { OnErr result (writer.new ≡ writer.old) }
+    ensures err { IfErr result (λ e. e ≡ OutOfMemory) }
+{
+    let payload = partition.filter.build();
+    let place = Block::write_into(writer, &payload, BlockType::Filter, CompressionType::None)?;
+    Ok(KeyedBlockHandle::new(partition.end_key, 0, place))
+}
+
+/// Writes the section of the top level: one block of these handles. Refused where it is too large,
+/// and [`Error::OutOfMemory`].
+fn write_top_level<A: Allocator + Clone>(
+    writer: &mut SectionWriter<A>,
+    handles: &Vec<KeyedBlockHandle<A>, A>,
+    compression: CompressionType,
+) -> Result<(), Error>
+    requires unwritten { All (λ s. slot_index s.0 ≡ 4 → ⊥) writer.old.started }
+    requires strict { AreStrictHandles handles.now.items }
+    ensures ok { OnOk result (writer.new ≡
+        appended writer.old ((FilterTli, handles_block V4 handles.now.items) ∷ [])) }
+    ensures short { OnOk result (SectionFits (FilterTli, handles_block V4 handles.now.items)) }
+    ensures before { take (length writer.old.bytes) writer.new.bytes ≡ writer.old.bytes }
+    ensures refused { Faults result (handles_fault handles.now.items) }
+{
+    let mut payload = Vec::new(handles.allocator().clone()?);
+    IndexBlock::encode_into(&mut payload, handles)?;
+    writer.start(SectionName::FilterTli)?;
+    Block::write_into(writer, &payload, BlockType::Index, compression)?;
+    Ok(())
+}

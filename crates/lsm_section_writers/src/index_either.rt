@@ -1,0 +1,85 @@
+//! A writer of an index of either kind.
+ghost use Rattle.std.specs.Prelude.{◌≡◌};
+ghost use Rattle.lsm_section_writers.specs.IndexEither.{registered_by};
+ghost use Rattle.lsm_section_writers.specs.IndexWords.{AreStrictHandles};
+
+use crate::held::HeldHandles;
+use crate::index_full::FullIndexWriter;
+use crate::index_partitioned::PartitionedIndexWriter;
+use crate::index_writer::BlockIndexWriter;
+use lsm_files::IndexKind;
+use sst_blocks::{CompressionType, Error, KeyedBlockHandle, SectionWriter};
+use std::alloc::{Allocator, Global};
+
+/// A writer of an index, of a kind that is chosen while it runs.
+#[derive(Drop)]
+pub enum IndexWriterImpl<A: Allocator = Global> {
+    /// Writes one block with all handles.
+    Full(FullIndexWriter<A>),
+    /// Writes partitions and a top level.
+    Partitioned(PartitionedIndexWriter<A>),
+}
+
+impl<A: Allocator> IndexWriterImpl<A> {
+    /// A writer of these handles, in an index of this kind.
+    pub(crate) fn of(
+        kind: IndexKind,
+        compression: CompressionType,
+        held: HeldHandles<A>,
+    ) -> IndexWriterImpl<A>
+        requires { AreStrictHandles held.handles.items }
+        ensures { registered_by result ≡
+            record { handles = held.handles.items; kind = kind; failed = held.failed } }
+    {
+        match kind {
+            IndexKind::Full => IndexWriterImpl::Full(FullIndexWriter::of(compression, held)),
+            IndexKind::Partitioned(size) => {
+                IndexWriterImpl::Partitioned(PartitionedIndexWriter::of(compression, size, held))
+            }
+        }
+    }
+}
+
+impl<A: Allocator + Clone> BlockIndexWriter<A> for IndexWriterImpl<A> {
+    ghost use Rattle.lsm_section_writers.specs.IndexEither.{registered_by};
+
+    ghost kind = { λ w. (registered_by w).kind };
+
+    ghost registered = { λ w. (registered_by w).handles };
+
+    ghost has_failed = { λ w. (registered_by w).failed };
+
+    fn register_data_block(&mut self, handle: &KeyedBlockHandle<A>) -> Result<(), Error> {
+        match self {
+            IndexWriterImpl::Full(writer) => writer.register_data_block(handle),
+            IndexWriterImpl::Partitioned(writer) => writer.register_data_block(handle),
+        }
+    }
+
+    fn finish(self, writer: &mut SectionWriter<A>) -> Result<usize, Error> {
+        match self {
+            IndexWriterImpl::Full(index) => index.finish(writer),
+            IndexWriterImpl::Partitioned(index) => index.finish(writer),
+        }
+    }
+
+    fn use_compression(self, compression: CompressionType) -> IndexWriterImpl<A> {
+        match self {
+            IndexWriterImpl::Full(writer) => {
+                IndexWriterImpl::Full(writer.use_compression(compression))
+            }
+            IndexWriterImpl::Partitioned(writer) => {
+                IndexWriterImpl::Partitioned(writer.use_compression(compression))
+            }
+        }
+    }
+
+    fn use_partition_size(self, size: u32) -> IndexWriterImpl<A> {
+        match self {
+            IndexWriterImpl::Full(writer) => IndexWriterImpl::Full(writer.use_partition_size(size)),
+            IndexWriterImpl::Partitioned(writer) => {
+                IndexWriterImpl::Partitioned(writer.use_partition_size(size))
+            }
+        }
+    }
+}

@@ -1,0 +1,121 @@
+//! The writer of a full index.
+ghost use Rattle.std.specs.Prelude.{◌≡◌, ◌∷◌, [], false, length, take, IfOk, OnOk};
+ghost use Rattle.lsm_section_writers.specs.IndexWords.{AreStrictHandles, Faults, HasNoIndex, SectionFits};
+ghost use Rattle.lsm_section_writers.specs.IndexWords.{appended};
+ghost use Rattle.lsm_section_writers.specs.IndexWords.{handles_block, handles_fault};
+ghost use Rattle.lsm_section_writers.specs.IndexEither.{registered_by};
+ghost use Rattle.lsm_files.specs.declared.options.IndexKind.TheVariants.{Full};
+ghost use Rattle.sst_sections.specs.declared.section.SectionName.TheVariants.{Tli};
+ghost use Rattle.sst_sections.specs.declared.version.TableVersion.TheVariants.{V4};
+
+use crate::block::{write_empty_top_level, write_top_level};
+use crate::held::HeldHandles;
+use crate::index_either::IndexWriterImpl;
+use crate::index_writer::BlockIndexWriter;
+use lsm_files::IndexKind;
+use sst_blocks::{CompressionType, Error, KeyedBlockHandle, SectionWriter};
+use std::alloc::{Allocator, Global};
+use std::marker::Model;
+
+/// Writes an index of one block, which has the handles of all data blocks. A contract sees the
+/// handles.
+#[derive(Drop)]
+pub struct FullIndexWriter<A: Allocator = Global> {
+    compression: CompressionType,
+    held: HeldHandles<A>,
+}
+
+impl<A: Allocator> Model for FullIndexWriter<A> {
+    ghost use Rattle.sst_blocks.specs.Handles.{AreStrictHandles};
+    ghost use Rattle.lsm_files.specs.declared.options.IndexKind.TheVariants.{Full};
+    ghost use Rattle.lsm_section_writers.specs.Registered.{Registered};
+
+    ghost Value = { Registered };
+
+    ghost view = { λ w. record {
+      handles = w.held.handles.items;
+      kind = Full;
+      failed = w.held.failed;
+    } };
+
+    ghost invariant = { λ w. AreStrictHandles w.held.handles.items };
+}
+
+impl<A: Allocator> FullIndexWriter<A> {
+    /// No handles.
+    pub fn new(alloc: A) -> FullIndexWriter<A>
+        ensures { result ≡ record { handles = []; kind = Full; failed = false } }
+    {
+        FullIndexWriter::of(CompressionType::None, HeldHandles::new(alloc))
+    }
+
+    /// A writer of these handles.
+    pub(crate) fn of(compression: CompressionType, held: HeldHandles<A>) -> FullIndexWriter<A>
+        requires { AreStrictHandles held.handles.items }
+        ensures { result ≡
+            record { handles = held.handles.items; kind = Full; failed = held.failed } }
+    {
+        FullIndexWriter { compression, held }
+    }
+
+    /// A writer of an index of another kind, with the same handles: so a table's writer can choose
+    /// the kind when all handles are there.
+    pub fn into_kind(self, kind: IndexKind) -> IndexWriterImpl<A>
+        ensures { registered_by result ≡ record self { kind = kind } }
+    {
+        IndexWriterImpl::of(kind, self.compression, self.held)
+    }
+}
+
+impl<A: Allocator + Clone> BlockIndexWriter<A> for FullIndexWriter<A> {
+    ghost kind = { λ w. w.kind };
+
+    ghost registered = { λ w. w.handles };
+
+    ghost has_failed = { λ w. w.failed };
+
+    fn register_data_block(&mut self, handle: &KeyedBlockHandle<A>) -> Result<(), Error> {
+        self.held.register_data_block(handle)
+    }
+
+    fn finish(self, writer: &mut SectionWriter<A>) -> Result<usize, Error> {
+        if self.held.failed {
+            return Err(Error::WriterFailed); // nothing is written
+        }
+        if self.held.handles.is_empty() {
+            write_empty_top_level(writer, self.compression)?;
+            return Ok(1);
+        }
+        write_section(writer, &self.held.handles, self.compression)
+    }
+
+    fn use_compression(mut self, compression: CompressionType) -> FullIndexWriter<A> {
+        self.compression = compression;
+        self
+    }
+
+    fn use_partition_size(self, _size: u32) -> FullIndexWriter<A> {
+        self
+    }
+}
+
+/// Writes the section of the one block of these handles, and answers how many blocks it has.
+/// Refused where the block is too large, and [`Error::OutOfMemory`].
+fn write_section<A: Allocator + Clone>(
+    writer: &mut SectionWriter<A>,
+    handles: &Vec<KeyedBlockHandle<A>, A>,
+    compression: CompressionType,
+) -> Result<usize, Error>
+    requires unwritten { HasNoIndex writer.old }
+    requires strict { AreStrictHandles handles.now.items }
+    ensures ok { OnOk result (writer.new ≡
+        appended writer.old ((Tli, handles_block V4 handles.now.items) ∷ [])) }
+    ensures count { IfOk result (λ n. n ≡ 1) }
+    ensures fits { OnOk result (SectionFits (Tli, handles_block V4 handles.now.items)) }
+    ensures before { take (length writer.old.bytes) writer.new.bytes ≡ writer.old.bytes }
+    ensures refused { Faults result (handles_fault handles.now.items) }
+{
+    let mut buffer = Vec::new(handles.allocator().clone()?);
+    write_top_level(writer, handles, &mut buffer, compression)?;
+    Ok(1)
+}

@@ -1,0 +1,253 @@
+//! The writer of an index of partitions.
+ghost use Rattle.std.specs.Prelude.{◌≡◌, ◌+◌, ◌-◌, ◌<◌, ◌≤◌, ◌^◌, ◌++◌, ◌∷◌, [], false, length};
+ghost use Rattle.std.specs.Prelude.{take};
+ghost use Rattle.std.specs.Prelude.{IfOk, IfErr, OnOk, OnErr};
+ghost use Rattle.std.specs.List.{AllByRecursion, flat_map};
+ghost use Rattle.lsm_section_writers.specs.IndexWords.{AreStrictHandles, Faults, HasNoIndex, SectionFits};
+ghost use Rattle.lsm_section_writers.specs.IndexWords.{appended};
+ghost use Rattle.lsm_section_writers.specs.IndexWords.{capped, handle_size, handles_block};
+ghost use Rattle.lsm_section_writers.specs.IndexWords.{index_block_bound_of};
+ghost use Rattle.lsm_section_writers.specs.IndexWords.{index_tops, is_full_index, kind_fault, part_fault};
+ghost use Rattle.lsm_section_writers.specs.IndexWords.{partitioned_index, parts_by, parts_fault};
+ghost use Rattle.lsm_files.specs.declared.options.IndexKind.TheVariants.{Partitioned};
+ghost use Rattle.sst_entries.specs.declared.error.Error.TheVariants.{OutOfMemory};
+ghost use Rattle.sst_sections.specs.declared.version.TableVersion.TheVariants.{V4};
+
+use crate::block::{write_block, write_empty_top_level, write_top_level};
+use crate::held::HeldHandles;
+use crate::index_writer::BlockIndexWriter;
+use sst_blocks::{CompressionType, Error, KeyedBlockHandle, SectionName, SectionWriter};
+use std::alloc::{Allocator, Global};
+use std::marker::Model;
+
+/// What a handle counts towards the size of its partition, beside the length of its end key.
+const HANDLE_SIZE: u64 = 48;
+
+/// Writes an index of partitions, each cut when it has so many bytes, and a top level with their
+/// handles. A contract sees the handles of the data blocks, which are all kept until the writer
+/// finishes.
+#[derive(Drop)]
+pub struct PartitionedIndexWriter<A: Allocator = Global> {
+    compression: CompressionType,
+    partition_size: u32,
+    held: HeldHandles<A>,
+}
+
+impl<A: Allocator> Model for PartitionedIndexWriter<A> {
+    ghost use Rattle.sst_blocks.specs.Handles.{AreStrictHandles};
+    ghost use Rattle.lsm_files.specs.declared.options.IndexKind.TheVariants.{Partitioned};
+    ghost use Rattle.lsm_section_writers.specs.Registered.{Registered};
+
+    ghost Value = { Registered };
+
+    ghost view = { λ w. record {
+      handles = w.held.handles.items;
+      kind = Partitioned w.partition_size;
+      failed = w.held.failed;
+    } };
+
+    ghost invariant = { λ w. AreStrictHandles w.held.handles.items };
+}
+
+impl<A: Allocator> PartitionedIndexWriter<A> {
+    /// No handles, and partitions of 4,096 bytes.
+    pub fn new(alloc: A) -> PartitionedIndexWriter<A>
+        ensures { result ≡ record { handles = []; kind = Partitioned 4096; failed = false } }
+    {
+        PartitionedIndexWriter::of(CompressionType::None, 4_096, HeldHandles::new(alloc))
+    }
+
+    /// A writer of these handles, in partitions of `partition_size` bytes.
+    pub(crate) fn of(
+        compression: CompressionType,
+        partition_size: u32,
+        held: HeldHandles<A>,
+    ) -> PartitionedIndexWriter<A>
+        requires { AreStrictHandles held.handles.items }
+        ensures { result ≡ record {
+          handles = held.handles.items;
+          kind = Partitioned partition_size;
+          failed = held.failed;
+        } }
+    {
+        PartitionedIndexWriter {
+            compression,
+            partition_size,
+            held,
+        }
+    }
+}
+
+impl<A: Allocator + Clone> BlockIndexWriter<A> for PartitionedIndexWriter<A> {
+    ghost kind = { λ w. w.kind };
+
+    ghost registered = { λ w. w.handles };
+
+    ghost has_failed = { λ w. w.failed };
+
+    fn register_data_block(&mut self, handle: &KeyedBlockHandle<A>) -> Result<(), Error> {
+        self.held.register_data_block(handle)
+    }
+
+    fn finish(self, writer: &mut SectionWriter<A>) -> Result<usize, Error> {
+        if self.held.failed {
+            return Err(Error::WriterFailed); // nothing is written
+        }
+        let handles = &self.held.handles;
+        if handles.is_empty() {
+            write_no_partitions(writer, self.compression)?;
+            return Ok(0);
+        }
+        write_sections(writer, handles, self.partition_size, self.compression)
+    }
+
+    fn use_compression(mut self, compression: CompressionType) -> PartitionedIndexWriter<A> {
+        self.compression = compression;
+        self
+    }
+
+    fn use_partition_size(mut self, size: u32) -> PartitionedIndexWriter<A> {
+        self.partition_size = size;
+        self
+    }
+}
+
+/// Writes the section of the partitions where there are none, and the section of a top level
+/// without handles. Only the section writer takes memory. Refused [`Error::OutOfMemory`] alone; no
+/// byte is written then.
+fn write_no_partitions<A: Allocator + Clone>(
+    writer: &mut SectionWriter<A>,
+    compression: CompressionType,
+) -> Result<(), Error>
+    requires { HasNoIndex writer.old }
+    ensures ok { let at = length writer.old.bytes in
+        OnOk result (writer.new ≡ appended writer.old (partitioned_index V4 at [])) }
+    ensures bytes { OnErr result (writer.new.bytes ≡ writer.old.bytes) }
+    ensures err { IfErr result (λ e. e ≡ OutOfMemory) }
+{
+    writer.start(SectionName::Index)?;
+    write_empty_top_level(writer, compression)
+}
+
+/// Writes the section of the partitions of these handles, and the section of their top level.
+/// Answers how many partitions there are. Refused where a block or all of them are too large, and
+/// [`Error::OutOfMemory`].
+fn write_sections<A: Allocator + Clone>(
+    writer: &mut SectionWriter<A>,
+    handles: &Vec<KeyedBlockHandle<A>, A>,
+    partition_size: u32,
+    compression: CompressionType,
+) -> Result<usize, Error>
+    requires unwritten { HasNoIndex writer.old }
+    requires strict { AreStrictHandles handles.now.items }
+    ensures ok { let parts = parts_by (is_full_index partition_size) handles.now.items in
+        let at = length writer.old.bytes in
+        OnOk result (writer.new ≡ appended writer.old (partitioned_index V4 at parts)) }
+    ensures count { let parts = parts_by (is_full_index partition_size) handles.now.items in
+        IfOk result (λ n. n ≡ length parts) }
+    ensures fits { let parts = parts_by (is_full_index partition_size) handles.now.items in
+        let at = length writer.old.bytes in
+        OnOk result (AllByRecursion SectionFits (partitioned_index V4 at parts)) }
+    ensures before { take (length writer.old.bytes) writer.new.bytes ≡ writer.old.bytes }
+    ensures refused { Faults result (kind_fault (Partitioned partition_size) handles.now.items) }
+{
+    writer.start(SectionName::Index)?;
+    let mut buffer = Vec::new(handles.allocator().clone()?);
+    let mut tops = Vec::new(handles.allocator().clone()?);
+    write_partitions(
+        writer,
+        handles,
+        partition_size,
+        &mut tops,
+        &mut buffer,
+        compression,
+    )?;
+    write_top_level(writer, &tops, &mut buffer, compression)?;
+    Ok(tops.len())
+}
+
+/// Cuts the handles into partitions, writes their blocks one behind another, and puts the top
+/// level's handles of them into `tops`, which is empty. Refused where a block or all of them are
+/// too large, and [`Error::OutOfMemory`].
+fn write_partitions<A: Allocator + Clone>(
+    writer: &mut SectionWriter<A>,
+    handles: &[KeyedBlockHandle<A>],
+    partition_size: u32,
+    tops: &mut Vec<KeyedBlockHandle<A>, A>,
+    buffer: &mut Vec<u8, A>,
+    compression: CompressionType,
+) -> Result<(), Error>
+    requires strict { AreStrictHandles handles.now }
+    requires empty { tops.old.items ≡ [] }
+    ensures ok { let parts = parts_by (is_full_index partition_size) handles.now in
+        let bytes = writer.old.bytes ++ flat_map (handles_block V4) parts in
+        OnOk result (writer.new ≡ record writer.old { bytes = bytes }) }
+    ensures tops { let parts = parts_by (is_full_index partition_size) handles.now in
+        OnOk result (tops.new.items ≡ index_tops V4 (length writer.old.bytes) parts) }
+    ensures short { let parts = parts_by (is_full_index partition_size) handles.now in
+        OnOk result (length (flat_map (handles_block V4) parts) < 2 ^ 32) }
+    ensures before { take (length writer.old.bytes) writer.new.bytes ≡ writer.old.bytes }
+    ensures refused { let parts = parts_by (is_full_index partition_size) handles.now in
+        Faults result (parts_fault 0 parts) }
+{
+    let base = writer.position();
+    let mut start = 0;
+    let mut size = 0;
+    for (i, handle) in handles.iter().enumerate() {
+        size = with_handle(size, handle);
+        if size >= u64::from(partition_size) {
+            let part = &handles[start..i + 1];
+            write_partition(writer, base, part, tops, buffer, compression)?;
+            start = i + 1;
+            size = 0;
+        }
+    }
+    if start < handles.len() {
+        let part = &handles[start..];
+        write_partition(writer, base, part, tops, buffer, compression)?;
+    }
+    Ok(())
+}
+
+/// The size of a partition of `size` bytes with a handle more. It stays at the largest number where
+/// the sum would pass it.
+fn with_handle<A: Allocator>(size: u64, handle: &KeyedBlockHandle<A>) -> u64
+    ensures { result ≡ capped (size + handle_size handle.now) }
+{
+    let size = size.saturating_add(handle.end_key().len() as u64);
+    size.saturating_add(HANDLE_SIZE)
+}
+
+/// Writes the block of a part of the handles at the end, and puts the top level's handle of it
+/// behind the others. The blocks of the section begin at `base`. Refused where the block or the
+/// section so far is too large, and [`Error::OutOfMemory`].
+fn write_partition<A: Allocator + Clone>(
+    writer: &mut SectionWriter<A>,
+    base: u64,
+    part: &[KeyedBlockHandle<A>],
+    tops: &mut Vec<KeyedBlockHandle<A>, A>,
+    buffer: &mut Vec<u8, A>,
+    compression: CompressionType,
+) -> Result<(), Error>
+    requires some { 0 < length part.now }
+    requires strict { AreStrictHandles part.now }
+    requires behind { base ≤ length writer.old.bytes }
+    ensures ok { let bytes = writer.old.bytes ++ handles_block V4 part.now in
+        OnOk result (writer.new ≡ record writer.old { bytes = bytes }) }
+    ensures top { let top = index_tops V4 (length writer.old.bytes) (part.now ∷ []) in
+        OnOk result (tops.new.items ≡ tops.old.items ++ top) }
+    ensures bound { let size = length (handles_block V4 part.now) in
+        OnOk result (size ≡ index_block_bound_of part.now) }
+    ensures short { OnOk result (length writer.new.bytes - base < 2 ^ 32) }
+    ensures before { take (length writer.old.bytes) writer.new.bytes ≡ writer.old.bytes }
+    ensures refused { Faults result (part_fault (length writer.old.bytes - base) part.now) }
+{
+    let block = write_block(writer, part, buffer, compression)?;
+    if writer.position() - base > u64::from(u32::MAX) {
+        return Err(Error::SectionTooLarge);
+    }
+    let last = &part[part.len() - 1];
+    let end_key = last.end_key().clone()?;
+    tops.push(KeyedBlockHandle::new(end_key, last.seqno(), block))?;
+    Ok(())
+}

@@ -1,0 +1,86 @@
+//! What writers of an index do.
+
+use sst_blocks::{CompressionType, Error, KeyedBlockHandle, SectionWriter};
+use std::alloc::Allocator;
+
+/// Takes the handles of a table's data blocks, and writes an index of them.
+pub trait BlockIndexWriter<A: Allocator> {
+    ghost use Rattle.std.specs.Prelude.{◌≡◌, ℕ, Bool, true, false, List, [], ◌∷◌, ◌++◌, length};
+    ghost use Rattle.std.specs.Prelude.{take, OnOk, OnErr, IfOk};
+    ghost use Rattle.std.specs.List.{AllByRecursion};
+    ghost use Rattle.sst_entries.specs.Error.{Faults, FaultsFirst};
+    ghost use Rattle.sst_sections.specs.declared.version.TableVersion.TheVariants.{V4};
+    ghost use Rattle.sst_blocks.specs.Handle.{Handle};
+    ghost use Rattle.sst_blocks.specs.Handles.{AreStrictHandles};
+    ghost use Rattle.lsm_files.specs.Failed.{failed_fault};
+    ghost use Rattle.lsm_files.specs.File.{HasNoIndex};
+    ghost use Rattle.lsm_files.specs.Fits.{SectionFits};
+    ghost use Rattle.lsm_files.specs.Kinds.{index_parts, index_sections, index_with_size};
+    ghost use Rattle.lsm_files.specs.Layout.{appended};
+    ghost use Rattle.lsm_files.specs.declared.options.IndexKind.{IndexKind};
+    ghost use Rattle.lsm_section_writers.specs.IndexRefusing.{index_fault};
+
+    /// The kind of the index.
+    ghost kind: { Self → IndexKind };
+
+    /// The handles that were registered.
+    ghost registered: { Self → List Handle };
+
+    /// Whether it has refused.
+    ghost has_failed: { Self → Bool };
+
+    /// Registers a data block. The blocks are registered in strict order of their end keys and
+    /// numbers. Refused [`Error::WriterFailed`] where it has refused before, and
+    /// [`Error::OutOfMemory`]; it has then failed.
+    fn register_data_block(&mut self, handle: &KeyedBlockHandle<A>) -> Result<(), Error>
+        requires { AreStrictHandles (registered self.old ++ handle.now ∷ []) }
+        ensures ok { OnOk result (registered self.new ≡ registered self.old ++ handle.now ∷ []) }
+        ensures works { OnOk result (has_failed self.new ≡ false) }
+        ensures unchanged { OnErr result (registered self.new ≡ registered self.old) }
+        ensures failed { OnErr result (has_failed self.new ≡ true) }
+        ensures kind { kind self.new ≡ kind self.old }
+        ensures refused { Faults result (failed_fault (has_failed self.old)) }
+        // That it has failed takes no memory to find.
+        ensures first { FaultsFirst result (failed_fault (has_failed self.old)) };
+
+    /// Writes the index, and answers of how many blocks it is, the top level of partitions not
+    /// counted. Refused [`Error::WriterFailed`] where it has refused before. Then each block in
+    /// turn is refused [`Error::KeyTooLong`] where an end key is too long, and
+    /// [`Error::BlockTooLarge`] where its length bound is 2^32 bytes or more; behind a partition
+    /// [`Error::SectionTooLarge`] where the bounds of the partitions so far come to that; the top
+    /// level is last. Also [`Error::OutOfMemory`]. The bytes that were written before stay.
+    ///
+    /// Without handles it writes the section of the partitions, where it has partitions, with no
+    /// bytes, and a block of no handles. Where that is refused, no byte is written (`idle`); that
+    /// nothing but the section writer takes memory for it is to be read in the code.
+    fn finish(self, writer: &mut SectionWriter<A>) -> Result<usize, Error>
+        requires { HasNoIndex writer.old }
+        ensures ok { OnOk result (writer.new ≡ appended writer.old
+            (index_sections (kind self) V4 (length writer.old.bytes) (registered self)
+            (index_parts (kind self) (registered self)))) }
+        ensures count { IfOk result (λ n. n ≡
+            length (index_parts (kind self) (registered self))) }
+        ensures fits { OnOk result (AllByRecursion SectionFits
+            (index_sections (kind self) V4 (length writer.old.bytes) (registered self)
+            (index_parts (kind self) (registered self)))) }
+        ensures before { take (length writer.old.bytes) writer.new.bytes ≡ writer.old.bytes }
+        ensures refused { Faults result
+            (index_fault (kind self) (has_failed self) (registered self)) }
+        ensures first { FaultsFirst result (failed_fault (has_failed self)) }
+        // Without handles a refusal writes no byte.
+        ensures idle { OnErr result (registered self ≡ [] →
+            writer.new.bytes ≡ writer.old.bytes) };
+
+    /// Compresses the blocks of the index. What it holds and what it writes stay.
+    fn use_compression(self, compression: CompressionType) -> Self
+        ensures kind { kind result ≡ kind self }
+        ensures registered { registered result ≡ registered self }
+        ensures failed { has_failed result ≡ has_failed self };
+
+    /// Sets the size in bytes at which a partition is cut, where the index has partitions. Each
+    /// handle counts for the length of its end key and 48 bytes.
+    fn use_partition_size(self, size: u32) -> Self
+        ensures kind { kind result ≡ index_with_size size (kind self) }
+        ensures registered { registered result ≡ registered self }
+        ensures failed { has_failed result ≡ has_failed self };
+}

@@ -1,3 +1,0 @@
-pub mod CommandLemmas
-pub mod PrintLemmas
-pub mod ShownLemmas

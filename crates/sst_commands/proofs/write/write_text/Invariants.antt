@@ -1,9 +1,0 @@
--- What is gone from the rest was written.
-use Rattle.std.proofs.Common.{◌≡◌, ℕ, List, ◌++◌}
-use Rattle.std.specs.Io.KnownBytes.{Appends}
-use Rattle.sst_commands.proofs.write.write_text.Given as goal
-
-abbrev pub invariant-loop : goal.invariant-loop
-invariant-loop g l =
-    (done : List ℕ) × (l.initial.rest ≡ done ++ l.rest)
-    × Appends (g.W.Write.contents l.initial.output) (g.W.Write.contents l.output) done

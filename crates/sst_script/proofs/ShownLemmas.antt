@@ -1,0 +1,60 @@
+-- What is written of a text, part by part.
+use Rattle.std.proofs.Common.{◌≡◌, sym, ◌∙◌, ap, refl, subst, ℕ, List, [], ◌∷◌, ◌++◌, length, take}
+use Rattle.std.proofs.Common.{drop, append_assoc, append-nil, take-append-drop}
+use Rattle.std.specs.Prelude.{Option, Some, None, Result, Ok, Err}
+use Rattle.std.specs.Result.{IsErrAnd}
+use Rattle.std.specs.Io.KnownBytes.{Appends, Keeps}
+use Rattle.std.proofs.KnownBytes.{Appends-nil, Appends-trans}
+use Rattle.sst_script.specs.Shown.{AppendsFront, ShowsText}
+
+-- all of a text is a front of it
+pub front_all : (a b : Option (List ℕ)) (text : List ℕ) → Appends a b text → AppendsFront a b text
+front_all a b text all = record { front = text; rest = []; is = sym (append-nil text); appends = all }
+
+-- a part behind one that was written
+pub front_then : (a b c : Option (List ℕ)) (done text : List ℕ) → Appends a b done
+    → AppendsFront b c text → AppendsFront a c (done ++ text)
+front_then a b c done text whole shown = record {
+  front = done ++ shown.front;
+  rest = shown.rest;
+  is = ap (λ (t : List ℕ). done ++ t) shown.is ∙ sym (append_assoc done shown.front shown.rest);
+  appends = Appends-trans a b c done shown.front whole shown.appends;
+}
+
+-- other parts would follow
+pub front_before : (a b : Option (List ℕ)) (text after : List ℕ) → AppendsFront a b text
+    → AppendsFront a b (text ++ after)
+front_before a b text after shown = record {
+  front = shown.front;
+  rest = shown.rest ++ after;
+  is = ap (λ (t : List ℕ). t ++ after) shown.is ∙ append_assoc shown.front shown.rest after;
+  appends = shown.appends;
+}
+
+-- a part failed behind others that were written, and before others that would follow
+pub front_failed : {X E : Type 0} (a b c : Option (List ℕ)) (all done text after : List ℕ)
+    (r : Result X E) (e : E) → IsErrAnd r (λ y. y ≡ e)
+    → all ≡ done ++ text ++ after → Appends a b done → AppendsFront b c text → ShowsText a c r all
+front_failed a b c all done text after (Ok x) e is parts whole shown = absurd is
+front_failed a b c all done text after (Err y) e is parts whole shown =
+    subst (AppendsFront a c) (sym parts) (front_before a c (done ++ text) after (front_then a b c done text whole shown))
+
+-- the last part
+pub shows_last : {X E : Type 0} (a b c : Option (List ℕ)) (all done text : List ℕ) (r : Result X E)
+    → all ≡ done ++ text → Appends a b done → ShowsText b c r text → ShowsText a c r all
+shows_last a b c all done text (Ok x) parts whole shown = subst (Appends a c) (sym parts) (Appends-trans a b c done text whole shown)
+shows_last a b c all done text (Err e) parts whole shown = subst (AppendsFront a c) (sym parts) (front_then a b c done text whole shown)
+
+-- a call that failed kept what was written
+pub kept_behind : (a b c : Option (List ℕ)) (bs : List ℕ) → Appends a b bs → Keeps b c
+    → Appends a c bs
+kept_behind None b c bs p q = tt
+kept_behind (Some x) None c bs p q = absurd p
+kept_behind (Some x) (Some y) None bs p q = absurd q
+kept_behind (Some x) (Some y) (Some z) bs p q = q ∙ p
+
+-- a call that failed behind a front of a text
+pub failed_behind : {X E : Type 0} (a c : Option (List ℕ)) (all text : List ℕ) (r : Result X E)
+    (e : E) → IsErrAnd r (λ y. y ≡ e) → all ≡ text → AppendsFront a c text → ShowsText a c r all
+failed_behind a c all text (Ok x) e is same shown = absurd is
+failed_behind a c all text (Err y) e is same shown = subst (AppendsFront a c) (sym same) shown

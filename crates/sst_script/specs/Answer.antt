@@ -1,0 +1,37 @@
+-- The text of answers.
+use Rattle.std.specs.Prelude.{ℕ, List, [], ◌∷◌, ◌++◌, Some, None, codes}
+use Rattle.std.specs.Fmt.{decimal}
+use Rattle.std.specs.List.{flat_map, join_with_byte}
+use Rattle.sst_entries.specs.Entry.{Entry}
+use Rattle.sst_script.specs.declared.print.Answer.{Answer}
+use Rattle.sst_script.specs.declared.print.Answer.TheVariants.{Silent, Tables, Runs, Found}
+use Rattle.sst_script.specs.declared.print.Answer.TheVariants.{Entries}
+use Rattle.sst_script.specs.Text.{letter_of, printed}
+
+-- an entry's line: its key, number, kind and value
+abbrev pub entry_line : Entry → List ℕ
+entry_line e =
+    join_with_byte 32
+    (printed e.user_key ∷ decimal e.seqno ∷ (letter_of e.kind ∷ []) ∷ printed e.value ∷ [])
+    ++ 10 ∷ []
+
+-- where nothing was found
+abbrev pub none_line : List ℕ
+none_line = codes "none" ++ 10 ∷ []
+
+-- entries, each on a line of its own
+abbrev pub entry_lines : List Entry → List ℕ
+entry_lines [] = none_line
+entry_lines (e ∷ es) = flat_map entry_line (e ∷ es)
+
+-- the lines of an answer, if it has any
+abbrev pub answer_lines : {A : Type 0} → Answer A → List ℕ
+answer_lines Silent = []
+answer_lines (Tables n) = codes "tables " ++ decimal n ++ 10 ∷ []
+answer_lines (Runs n) = codes "runs " ++ decimal n ++ 10 ∷ []
+answer_lines (Found None) = none_line
+answer_lines (Found (Some e)) = entry_line e
+answer_lines (Entries v) = entry_lines v.items
+
+abbrev pub refusal_line : ℕ → List ℕ
+refusal_line n = codes "refused " ++ decimal n ++ 10 ∷ []

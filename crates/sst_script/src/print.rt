@@ -1,0 +1,126 @@
+//! The text of answers, and of why a script ends.
+ghost use Rattle.std.specs.Prelude.{◌≡◌, [], ◌∷◌, ◌++◌};
+ghost use Rattle.std.specs.Fmt.{decimal};
+ghost use Rattle.sst_script.specs.Answer.{answer_lines, entry_line, entry_lines, none_line};
+ghost use Rattle.sst_script.specs.Answer.{refusal_line};
+ghost use Rattle.sst_script.specs.Shown.{ShowsText};
+ghost use Rattle.sst_script.specs.Stop.{stop_line};
+ghost use Rattle.sst_script.specs.Text.{letter_of, printed};
+
+use crate::stop::Stop;
+use crate::write::write_text;
+use itoa::Buffer;
+use sst_entries::{InternalValue, ValueType};
+use std::alloc::Allocator;
+use std::io::{Result, Write};
+
+/// What a command answers.
+#[derive(Drop)]
+pub enum Answer<A: Allocator> {
+    /// Nothing is printed.
+    Silent,
+    /// How many tables were written.
+    Tables(u64),
+    /// Into how many runs the tables were packed.
+    Runs(u64),
+    /// The entry that was found.
+    Found(Option<InternalValue<A>>),
+    /// The entries that were read.
+    Entries(Vec<InternalValue<A>, A>),
+}
+
+/// Prints an answer; where writing fails, a front of it.
+pub fn print_answer<W: Write, A: Allocator>(output: &mut W, answer: &Answer<A>) -> Result<()>
+    ensures { ShowsText (W.contents output.old) (W.contents output.new) result
+        (answer_lines answer.now) }
+{
+    match answer {
+        Answer::Silent => Ok(()),
+        Answer::Tables(count) => print_counted(output, b"tables ", *count),
+        Answer::Runs(count) => print_counted(output, b"runs ", *count),
+        Answer::Found(Some(item)) => print_entry(output, item),
+        Answer::Found(None) => print_none(output),
+        Answer::Entries(items) => print_entries(output, items),
+    }
+}
+
+fn print_none<W: Write>(output: &mut W) -> Result<()>
+    ensures { ShowsText (W.contents output.old) (W.contents output.new) result none_line }
+{
+    write_text(output, b"none\n")
+}
+
+// A number behind a word, on a line.
+fn print_counted<W: Write>(output: &mut W, word: &[u8], count: u64) -> Result<()>
+    ensures { ShowsText (W.contents output.old) (W.contents output.new) result
+        (word.now ++ decimal count ++ 10 ∷ []) }
+{
+    write_text(output, word)?;
+    write_text(output, Buffer::new().format(count).as_bytes())?;
+    write_text(output, b"\n")
+}
+
+// Each entry on a line of its own.
+fn print_entries<W: Write, A: Allocator>(output: &mut W, items: &[InternalValue<A>]) -> Result<()>
+    ensures { ShowsText (W.contents output.old) (W.contents output.new) result
+        (entry_lines items.now) }
+{
+    if items.is_empty() {
+        return print_none(output);
+    }
+    for item in items {
+        print_entry(output, item)?;
+    }
+    Ok(())
+}
+
+/// Prints the number of a refusal; where writing fails, a front of that line.
+pub fn print_refusal<W: Write>(output: &mut W, number: u8) -> Result<()>
+    ensures { ShowsText (W.contents output.old) (W.contents output.new) result
+        (refusal_line number) }
+{
+    print_counted(output, b"refused ", u64::from(number))
+}
+
+/// Prints why a script ends; where writing fails, a front of that line.
+pub fn print_stop<W: Write>(errors: &mut W, stop: Stop) -> Result<()>
+    ensures { ShowsText (W.contents errors.old) (W.contents errors.new) result (stop_line stop) }
+{
+    match stop {
+        Stop::Line(number) => print_counted(errors, b"sst: line ", number),
+        Stop::Input => write_text(errors, b"sst: input\n"),
+        Stop::Output => write_text(errors, b"sst: output\n"),
+    }
+}
+
+// A key, a number, a kind and a value.
+fn print_entry<W: Write, A: Allocator>(output: &mut W, item: &InternalValue<A>) -> Result<()>
+    ensures { ShowsText (W.contents output.old) (W.contents output.new) result
+        (entry_line item.now) }
+{
+    write_text(output, printed(item.key.user_key.as_slice()))?;
+    write_text(output, b" ")?;
+    write_text(output, Buffer::new().format(item.key.seqno).as_bytes())?;
+    write_text(output, &[b' ', letter_of(item.key.value_type), b' '])?;
+    write_text(output, printed(item.value.as_slice()))?;
+    write_text(output, b"\n")
+}
+
+// Bytes as they are printed: `-` for none.
+fn printed(bytes: &[u8]) -> &[u8]
+    ensures { result.now ≡ printed bytes.now }
+{
+    if bytes.is_empty() { b"-" } else { bytes }
+}
+
+// A kind's letter.
+fn letter_of(kind: ValueType) -> u8
+    ensures { result ≡ letter_of kind }
+{
+    match kind {
+        ValueType::Value => b'V',
+        ValueType::Tombstone => b'T',
+        ValueType::WeakTombstone => b'W',
+        ValueType::Indirection => b'I',
+    }
+}
