@@ -63,7 +63,7 @@ inline std::string GrowthTable(const Entries& entries) {
   std::string table(entries.bytes().size() * 3 / 2 + 100000, '\0');
   Written written{};
   uint32_t code =
-      sst_bench_build(bytes, entries.bytes().size(), kKeyLen, kValueLen, 1,
+      tool_bench_build(bytes, entries.bytes().size(), kKeyLen, kValueLen, 1,
                       reinterpret_cast<uint8_t*>(table.data()), table.size(), &written);
   Require(code == 0 && written.bytes <= table.size(), "no table");
   table.resize(written.bytes);
@@ -87,7 +87,7 @@ inline void PrintGrowthOf(size_t count) {
   auto store = reinterpret_cast<const uint8_t*>(entries.bytes().data());
   Written written{};
   Spent build = LeastOf([&] {
-    return sst_bench_build(store, entries.bytes().size(), kKeyLen, kValueLen, 1, nullptr, 0,
+    return tool_bench_build(store, entries.bytes().size(), kKeyLen, kValueLen, 1, nullptr, 0,
                            &written);
   });
   std::string file = GrowthTable(entries);
@@ -100,12 +100,12 @@ inline void PrintGrowthOf(size_t count) {
   const uint64_t opens = std::max<uint64_t>(10, 10000000 / count);
   uint64_t id = 0;
   Digest digest{};
-  Spent copy = LeastOf([&] { return sst_bench_open(table, file.size(), 0, &id); });
-  Spent open = LeastOf([&] { return sst_bench_open(table, file.size(), opens, &id); });
+  Spent copy = LeastOf([&] { return tool_bench_open(table, file.size(), 0, &id); });
+  Spent open = LeastOf([&] { return tool_bench_open(table, file.size(), opens, &id); });
   Spent get = LeastOf([&] {
-    return sst_bench_get(table, file.size(), wanted, keys.size(), kKeyLen, 1, &digest);
+    return tool_bench_get(table, file.size(), wanted, keys.size(), kKeyLen, 1, &digest);
   });
-  Spent scan = LeastOf([&] { return sst_bench_scan(table, file.size(), 1, &digest); });
+  Spent scan = LeastOf([&] { return tool_bench_scan(table, file.size(), 1, &digest); });
   // What a call does before its work: it copies the table and opens it once.
   double opening = (open.seconds - copy.seconds) / opens;
   double before = copy.seconds + opening;

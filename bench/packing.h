@@ -58,7 +58,7 @@ inline std::vector<Row> PackingRows(int rounds) {
     for (uint64_t passes : {uint64_t{0}, uint64_t{1}}) {
       Packed packed{};
       times.Take(std::to_string(passes), [&] {
-        Answered(sst_bench_optimize_runs(Bytes(keys), keys.size(), kKeyLen, passes, &packed));
+        Answered(tool_bench_optimize_runs(Bytes(keys), keys.size(), kKeyLen, passes, &packed));
       });
       Require(passes == 0 || (packed.runs == wanted.runs && packed.tables == wanted.tables &&
                               packed.sum == wanted.sum),

@@ -140,7 +140,7 @@ class TableBench {
 
   static size_t Place(const std::string& key) { return strtoull(key.c_str(), nullptr, 10) / 2; }
 
-  using Build = decltype(&sst_bench_build);
+  using Build = decltype(&tool_bench_build);
 
   // A table's bytes.
   static std::string TableOf(const Entries& entries, uint64_t seqno, Build build) {
@@ -154,10 +154,10 @@ class TableBench {
   }
 
   void MakeTables() {
-    table_ = TableOf(single_, 1, sst_bench_build);
-    partitioned_ = TableOf(single_, 1, sst_bench_build_partitioned);
+    table_ = TableOf(single_, 1, tool_bench_build);
+    partitioned_ = TableOf(single_, 1, tool_bench_build_partitioned);
     for (size_t source = 0; source < kSources; source++) {
-      std::string part = TableOf(parts_[source], kSources - source, sst_bench_build);
+      std::string part = TableOf(parts_[source], kSources - source, tool_bench_build);
       files_ += part;
       lens_.push_back(part.size());
       read_ += Sum(Parts(part).Data());
@@ -166,7 +166,7 @@ class TableBench {
       paths_.push_back("/part" + std::to_string(source));
     }
     Digest digest{};
-    Answered(sst_bench_compact_and_scan(Bytes(files_), files_.size(), lens_.data(), lens_.size(),
+    Answered(tool_bench_compact_and_scan(Bytes(files_), files_.size(), lens_.data(), lens_.size(),
                                         Target(), &compacted_, &digest));
     Require(digest == newest_, "compaction wrote other entries");
   }
@@ -208,22 +208,22 @@ class TableBench {
   void Ours() {
     Written written{};
     times_.Take("build", [&] {
-      Answered(sst_bench_build(Bytes(single_.bytes()), single_.bytes().size(), kKeyLen, kValueLen,
+      Answered(tool_bench_build(Bytes(single_.bytes()), single_.bytes().size(), kKeyLen, kValueLen,
                                1, nullptr, 0, &written));
     });
     Require(written.bytes == table_.size(), "another table was built");
     OfOneTable("", table_);
     OfOneTable(", partitions", partitioned_);
     for (uint64_t passes : Passes()) {
-      CheckTable("scan", sst_bench_scan, passes, whole_);
-      CheckTable("iter", sst_bench_iter, passes, whole_);
-      CheckTable("back", sst_bench_iter_back, passes, back_);
-      CheckKeys("batch", table_, sst_bench_get_many, batch_, passes, batch_found_);
-      CheckKeys("singly", table_, sst_bench_get, batch_, passes, batch_found_);
-      CheckFiles("runs", sst_bench_range_runs, passes);
-      CheckFiles("merge", sst_bench_merge, passes);
+      CheckTable("scan", tool_bench_scan, passes, whole_);
+      CheckTable("iter", tool_bench_iter, passes, whole_);
+      CheckTable("back", tool_bench_iter_back, passes, back_);
+      CheckKeys("batch", table_, tool_bench_get_many, batch_, passes, batch_found_);
+      CheckKeys("singly", table_, tool_bench_get, batch_, passes, batch_found_);
+      CheckFiles("runs", tool_bench_range_runs, passes);
+      CheckFiles("merge", tool_bench_merge, passes);
       Check("range", passes, ranges_, [&](Digest* digest) {
-        return sst_bench_range(Bytes(table_), table_.size(), Bytes(present_.joined),
+        return tool_bench_range(Bytes(table_), table_.size(), Bytes(present_.joined),
                                present_.joined.size(), kKeyLen, kRange, passes, digest);
       });
     }
@@ -238,15 +238,15 @@ class TableBench {
     for (uint64_t times : {uint64_t{0}, uint64_t{0}, Opens()}) {
       uint64_t id = 1;
       times_.Take("open" + kind + " " + std::to_string(times), [&] {
-        Answered(sst_bench_open(Bytes(table), table.size(), times, &id));
+        Answered(tool_bench_open(Bytes(table), table.size(), times, &id));
       });
       Require(id == 1, "another table was opened");
     }
     for (uint64_t passes : Passes()) {
-      CheckKeys("present" + kind, table, sst_bench_get, present_, passes, found_);
+      CheckKeys("present" + kind, table, tool_bench_get, present_, passes, found_);
     }
     for (uint64_t passes : Passes()) {
-      CheckKeys("absent" + kind, table, sst_bench_get, absent_, passes, Digest{});
+      CheckKeys("absent" + kind, table, tool_bench_get, absent_, passes, Digest{});
     }
   }
 
@@ -257,14 +257,14 @@ class TableBench {
     Require(passes == 0 || digest == wanted, name + ": another answer");
   }
 
-  void CheckTable(const std::string& name, decltype(&sst_bench_scan) call, uint64_t passes,
+  void CheckTable(const std::string& name, decltype(&tool_bench_scan) call, uint64_t passes,
                   const Digest& wanted) {
     Check(name, passes, wanted, [&](Digest* digest) {
       return call(Bytes(table_), table_.size(), passes, digest);
     });
   }
 
-  void CheckKeys(const std::string& name, const std::string& table, decltype(&sst_bench_get) call,
+  void CheckKeys(const std::string& name, const std::string& table, decltype(&tool_bench_get) call,
                  const Keys& keys, uint64_t passes, const Digest& wanted) {
     Check(name, passes, wanted, [&](Digest* digest) {
       return call(Bytes(table), table.size(), Bytes(keys.joined), keys.joined.size(), kKeyLen,
@@ -272,7 +272,7 @@ class TableBench {
     });
   }
 
-  void CheckFiles(const std::string& name, decltype(&sst_bench_merge) call, uint64_t passes) {
+  void CheckFiles(const std::string& name, decltype(&tool_bench_merge) call, uint64_t passes) {
     Check(name, passes, newest_, [&](Digest* digest) {
       return call(Bytes(files_), files_.size(), lens_.data(), lens_.size(), passes, digest);
     });
@@ -281,7 +281,7 @@ class TableBench {
   void Compact(uint64_t passes) {
     Written written{};
     times_.Take("compact " + std::to_string(passes), [&] {
-      Answered(sst_bench_compact(Bytes(files_), files_.size(), lens_.data(), lens_.size(), Target(),
+      Answered(tool_bench_compact(Bytes(files_), files_.size(), lens_.data(), lens_.size(), Target(),
                                  passes, &written));
     });
     RequireCompacted(passes, written);
@@ -290,7 +290,7 @@ class TableBench {
   void CompactRuns(uint64_t passes) {
     Written written{};
     times_.Take("compact_runs " + std::to_string(passes), [&] {
-      Answered(sst_bench_compact_runs(Bytes(lists_), lists_.size(), list_lens_.data(),
+      Answered(tool_bench_compact_runs(Bytes(lists_), lists_.size(), list_lens_.data(),
                                       list_lens_.size(), kKeyLen, kValueLen, Target(), passes,
                                       &written));
     });

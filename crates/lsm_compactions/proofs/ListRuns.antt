@@ -7,8 +7,8 @@ use Rattle.std.proofs.lemmas.List.Concat.{flat_map-append}
 use Rattle.std.proofs.lemmas.List.Sorted.{sum_by-IsPermutation}
 use Rattle.sst_entries.specs.Entry.{Entry}
 use Rattle.sst_entries.specs.Strict.{IsStrict}
-use Rattle.lsm_files.specs.declared.label.Label.{Label}
-use Rattle.lsm_files.specs.Chunks.{joined}
+use Rattle.lsm_formats.specs.declared.label.Label.{Label}
+use Rattle.lsm_formats.specs.Chunks.{joined}
 use Rattle.lsm_merge.proofs.Pairs.{as_pairs}
 use Rattle.lsm_merge.proofs.UnionLemmas.{merged_union, only_union}
 use Rattle.lsm_ranges.specs.Run.{IsInOrder}

@@ -12,10 +12,10 @@ use Rattle.sst_sections.specs.Fnv.{fnv1a}
 use Rattle.sst_sections.specs.declared.version.TableVersion.TheVariants.{V4}
 use Rattle.sst_entries.specs.Point.{point}
 use Rattle.sst_entries.specs.Stream.{Deals, ok_results, nowhere, answer_stops}
-use Rattle.lsm_files.specs.Facts.{highest_seqno}
-use Rattle.lsm_files.specs.declared.label.Label.{Label}
-use Rattle.lsm_files.specs.Options.{default_options}
-use Rattle.lsm_files.specs.Table.{IsTable}
+use Rattle.lsm_formats.specs.Facts.{highest_seqno}
+use Rattle.lsm_formats.specs.declared.label.Label.{Label}
+use Rattle.lsm_formats.specs.Options.{default_options}
+use Rattle.lsm_formats.specs.Table.{IsTable}
 use Rattle.lsm_writers.specs.Writing.{IsTableOf, list_fault}
 use Rattle.lsm_readers.specs.OfList.{list_told, parts_said}
 use Rattle.lsm_compactions.specs.Written.{IsOpened, ReadsList, number_fault, opening_fault}

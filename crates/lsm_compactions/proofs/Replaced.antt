@@ -8,7 +8,7 @@ use Rattle.std.proofs.lemmas.Simd.{map-map}
 use Rattle.sst_entries.specs.Entry.{Entry}
 use Rattle.sst_entries.specs.Stream.{ok_results}
 use Rattle.sst_entries.specs.Strict.{IsStrict}
-use Rattle.lsm_files.specs.Chunks.{joined}
+use Rattle.lsm_formats.specs.Chunks.{joined}
 use Rattle.lsm_merge.specs.Union.{Ascends, all_entries}
 use Rattle.lsm_merge.proofs.Pairs.{Strict, as_pairs, from_pairs}
 use Rattle.lsm_merge.proofs.UnionLemmas.{merged_union}

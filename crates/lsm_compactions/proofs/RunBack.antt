@@ -9,7 +9,7 @@ use Rattle.sst_entries.specs.declared.error.Error.TheVariants.{OutOfMemory}
 use Rattle.sst_entries.specs.Entry.{Entry}
 use Rattle.sst_entries.specs.Error.{Fails, is_memory}
 use Rattle.sst_entries.specs.Stream.{ok_results}
-use Rattle.lsm_files.specs.Chunks.{joined}
+use Rattle.lsm_formats.specs.Chunks.{joined}
 use Rattle.lsm_merge.specs.Union.{Ascends, entries_among, insert_sorted, sort_entries}
 use Rattle.lsm_merge.proofs.Pairs.{Strict}
 use Rattle.lsm_readers.specs.Answer.{lift}

@@ -17,13 +17,13 @@ use Rattle.sst_entries.specs.Key.{key_lt}
 use Rattle.sst_entries.specs.Strict.{IsStrict, last_of}
 use Rattle.sst_entries.proofs.Booleans.{and_both, and_parts}
 use Rattle.sst_entries.proofs.OrderLemmas.{lt_trans}
-use Rattle.lsm_files.specs.declared.label.Label.{Label}
-use Rattle.lsm_files.specs.declared.options.Options.{Options}
-use Rattle.lsm_files.specs.Chunks.{joined}
-use Rattle.lsm_files.specs.Facts.{highest_seqno}
-use Rattle.lsm_files.specs.Index.{last_entry}
-use Rattle.lsm_files.specs.Options.{default_options, label_of}
-use Rattle.lsm_files.specs.Table.{IsTable}
+use Rattle.lsm_formats.specs.declared.label.Label.{Label}
+use Rattle.lsm_formats.specs.declared.options.Options.{Options}
+use Rattle.lsm_formats.specs.Chunks.{joined}
+use Rattle.lsm_formats.specs.Facts.{highest_seqno}
+use Rattle.lsm_formats.specs.Index.{last_entry}
+use Rattle.lsm_formats.specs.Options.{default_options, label_of}
+use Rattle.lsm_formats.specs.Table.{IsTable}
 use Rattle.lsm_ranges.specs.KeyRange.{Interval, is_well_formed, key_le}
 use Rattle.lsm_ranges.specs.Run.{are_in_order}
 use Rattle.lsm_ranges.proofs.IntervalLemmas.{lt_then_le}

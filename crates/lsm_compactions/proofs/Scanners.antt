@@ -12,7 +12,7 @@ use Rattle.sst_entries.specs.declared.error.Error.TheVariants.{OutOfMemory}
 use Rattle.sst_entries.specs.Entry.{Entry}
 use Rattle.sst_entries.specs.Error.{is_memory}
 use Rattle.sst_entries.specs.Stream.{CanDeal, Deals, answer_stops, first, nowhere, ok_results}
-use Rattle.lsm_files.specs.Chunks.{joined}
+use Rattle.lsm_formats.specs.Chunks.{joined}
 use Rattle.lsm_merge.specs.Ends.{Goes, R}
 use Rattle.lsm_merge.specs.MergeLaws.{DealSorted, DealsMerged}
 use Rattle.lsm_merge.specs.Union.{Ascends, all_entries, sort_entries, union_of}

@@ -5,9 +5,9 @@ use Rattle.std.specs.List.{AllByRecursion}
 use Rattle.std.specs.Option.{option_or}
 use Rattle.sst_entries.specs.declared.error.Error.{Error}
 use Rattle.sst_entries.specs.Entry.{Entry}
-use Rattle.lsm_files.specs.declared.label.Label.{Label}
-use Rattle.lsm_files.specs.Chunks.{joined}
-use Rattle.lsm_files.specs.Options.{default_options, label_of}
+use Rattle.lsm_formats.specs.declared.label.Label.{Label}
+use Rattle.lsm_formats.specs.Chunks.{joined}
+use Rattle.lsm_formats.specs.Options.{default_options, label_of}
 use Rattle.lsm_ranges.specs.Run.{IsInOrder}
 use Rattle.lsm_writers.specs.declared.writer.FinishedTable.{FinishedTable}
 use Rattle.lsm_writers.specs.Tables.{AreFinished, AreInKeyOrder, AreTables, TableFits}

@@ -6,7 +6,7 @@ use Rattle.sst_entries.specs.Entry.{Entry}
 use Rattle.sst_entries.specs.Kind.{is_tombstone_kind}
 use Rattle.sst_entries.specs.Point.{within}
 use Rattle.sst_entries.specs.Strict.{IsStrict}
-use Rattle.lsm_files.specs.Chunks.{joined}
+use Rattle.lsm_formats.specs.Chunks.{joined}
 use Rattle.lsm_merge.specs.Union.{SameBag, newest}
 use Rattle.lsm_sorted.specs.declared.compaction.Rules.{Rules}
 use Rattle.lsm_sorted.specs.Point.{seen}

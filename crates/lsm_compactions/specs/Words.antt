@@ -5,9 +5,9 @@ pub use Rattle.sst_entries.specs.Error.{Faults}
 pub use Rattle.sst_entries.specs.Stream.{CanDeal, nowhere}
 pub use Rattle.lsm_ranges.specs.Run.{IsInOrder}
 pub use Rattle.lsm_sorted.specs.Compaction.{kept, unfiltered}
-pub use Rattle.lsm_files.specs.Chunks.{joined}
-pub use Rattle.lsm_files.specs.Facts.{highest_seqno}
-pub use Rattle.lsm_files.specs.Options.{default_options}
+pub use Rattle.lsm_formats.specs.Chunks.{joined}
+pub use Rattle.lsm_formats.specs.Facts.{highest_seqno}
+pub use Rattle.lsm_formats.specs.Options.{default_options}
 pub use Rattle.lsm_writers.specs.Tables.{AreFinished, AreTables, IsFreshRun}
 pub use Rattle.lsm_writers.specs.Writing.{IsTableOf, IsWritable}
 pub use Rattle.lsm_readers.specs.Answer.{lift}

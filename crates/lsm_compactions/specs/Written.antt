@@ -9,10 +9,10 @@ use Rattle.sst_sections.specs.Fnv.{fnv1a}
 use Rattle.sst_entries.specs.Point.{point}
 use Rattle.sst_entries.specs.Stream.{Deals, ok_results, nowhere, answer_stops}
 use Rattle.std.specs.Option.{option_or}
-use Rattle.lsm_files.specs.Facts.{highest_seqno}
-use Rattle.lsm_files.specs.declared.label.Label.{Label}
-use Rattle.lsm_files.specs.Options.{default_options}
-use Rattle.lsm_files.specs.Table.{IsTable}
+use Rattle.lsm_formats.specs.Facts.{highest_seqno}
+use Rattle.lsm_formats.specs.declared.label.Label.{Label}
+use Rattle.lsm_formats.specs.Options.{default_options}
+use Rattle.lsm_formats.specs.Table.{IsTable}
 use Rattle.lsm_writers.specs.Writing.{list_fault}
 use Rattle.sst_blocks.specs.Block.{load_at_told}
 use Rattle.sst_blocks.specs.declared.block_type.BlockType.TheVariants.{Data}

@@ -4,7 +4,7 @@ ghost use Rattle.std.specs.Prelude.{MatchOption};
 ghost use Rattle.std.specs.List.{AllByRecursion};
 ghost use Rattle.std.specs.Option.{option_map_or};
 ghost use Rattle.sst_entries.specs.declared.error.Error.TheVariants.{OutOfMemory};
-ghost use Rattle.lsm_files.specs.declared.label.Label.{Label};
+ghost use Rattle.lsm_formats.specs.declared.label.Label.{Label};
 ghost use Rattle.lsm_compactions.specs.Words.{AreCompactable, AreCutOf, AreFinished, AreOpened};
 ghost use Rattle.lsm_compactions.specs.Words.{AreWritten, Entry, Faults, FitsAsTables};
 ghost use Rattle.lsm_compactions.specs.Words.{IsOpenedOf, IsRunOfList, IsTableOf, IsWritable};

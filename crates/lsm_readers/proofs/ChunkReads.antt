@@ -17,9 +17,9 @@ use Rattle.sst_entries.proofs.Booleans.{apart, is_false, or_right}
 use Rattle.sst_entries.proofs.OrderLemmas.{before_trans, less_of}
 use Rattle.sst_entries.specs.Strict.{is_before, IsStrictAfter, last_of}
 use Rattle.sst_blocks.proofs.Reaching.{reaches_after, above_reaches}
-use Rattle.lsm_files.proofs.BlockLengths.{length-block}
-use Rattle.lsm_files.specs.Chunks.{joined}
-use Rattle.lsm_files.specs.Index.{last_entry, handle_of, handles_from, block_size, data_block, data_section}
+use Rattle.lsm_formats.proofs.BlockLengths.{length-block}
+use Rattle.lsm_formats.specs.Chunks.{joined}
+use Rattle.lsm_formats.specs.Index.{last_entry, handle_of, handles_from, block_size, data_block, data_section}
 
 -- the entry comes after a read of the key at the bound
 abbrev after : List ℕ → ℕ → Entry → Bool

@@ -14,24 +14,24 @@ use Rattle.sst_blocks.specs.Handle.{Handle}
 use Rattle.sst_blocks.specs.Handles.{AreStrictHandles, IsSpellableHandle}
 use Rattle.sst_blocks.specs.Payload.{payload}
 use Rattle.sst_filters.specs.Filter.{BloomFilter, payload_of}
-use Rattle.lsm_files.proofs.BlockLengths.{length-block}
-use Rattle.lsm_files.specs.Chunks.{AreChunksFrom, joined}
-use Rattle.lsm_files.specs.Content.{Content}
-use Rattle.lsm_files.specs.Facts.{first_key, is_reclaimable, is_tombstone, is_weak, last_key}
-use Rattle.lsm_files.specs.File.{IsContent, counted_blocks}
-use Rattle.lsm_files.specs.Filters.{filter_block}
-use Rattle.lsm_files.specs.Fits.{EntryFits, Fits, SectionFits}
-use Rattle.lsm_files.specs.Index.{data_section, handles, handles_from, block_size}
-use Rattle.lsm_files.specs.Kinds.{AreIndexParts, filter_count, filter_sections}
-use Rattle.lsm_files.specs.Layout.{bytes_in}
-use Rattle.lsm_files.specs.Partitions.{is_full_index}
-use Rattle.lsm_files.specs.Parts.{joined_parts}
-use Rattle.lsm_files.specs.declared.label.Label.{Label}
-use Rattle.lsm_files.specs.declared.options.FilterKind.{FilterKind}
-use Rattle.lsm_files.specs.declared.options.FilterKind.TheVariants.{Full as FullFilter, Partitioned as PartitionedFilter}
-use Rattle.lsm_files.specs.declared.options.IndexKind.{IndexKind}
-use Rattle.lsm_files.specs.declared.options.IndexKind.TheVariants.{Full as FullIndex, Partitioned as PartitionedIndex}
-use Rattle.lsm_files.specs.declared.options.Options.{Options}
+use Rattle.lsm_formats.proofs.BlockLengths.{length-block}
+use Rattle.lsm_formats.specs.Chunks.{AreChunksFrom, joined}
+use Rattle.lsm_formats.specs.Content.{Content}
+use Rattle.lsm_formats.specs.Facts.{first_key, is_reclaimable, is_tombstone, is_weak, last_key}
+use Rattle.lsm_formats.specs.File.{IsContent, counted_blocks}
+use Rattle.lsm_formats.specs.Filters.{filter_block}
+use Rattle.lsm_formats.specs.Fits.{EntryFits, Fits, SectionFits}
+use Rattle.lsm_formats.specs.Index.{data_section, handles, handles_from, block_size}
+use Rattle.lsm_formats.specs.Kinds.{AreIndexParts, filter_count, filter_sections}
+use Rattle.lsm_formats.specs.Layout.{bytes_in}
+use Rattle.lsm_formats.specs.Partitions.{is_full_index}
+use Rattle.lsm_formats.specs.Parts.{joined_parts}
+use Rattle.lsm_formats.specs.declared.label.Label.{Label}
+use Rattle.lsm_formats.specs.declared.options.FilterKind.{FilterKind}
+use Rattle.lsm_formats.specs.declared.options.FilterKind.TheVariants.{Full as FullFilter, Partitioned as PartitionedFilter}
+use Rattle.lsm_formats.specs.declared.options.IndexKind.{IndexKind}
+use Rattle.lsm_formats.specs.declared.options.IndexKind.TheVariants.{Full as FullIndex, Partitioned as PartitionedIndex}
+use Rattle.lsm_formats.specs.declared.options.Options.{Options}
 use Rattle.lsm_readers.proofs.ChunkReads.{AreSome}
 use Rattle.lsm_readers.proofs.FileLengths.{after_within, handle_fits, handles_strict, highest_below, last_fits, last_some, lowest_fits, section_wide}
 use Rattle.lsm_readers.proofs.FileSections.{body_is, data_len, the_end, the_filter, the_index, the_items, the_meta, written}

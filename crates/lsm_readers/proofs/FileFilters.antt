@@ -26,13 +26,13 @@ use Rattle.sst_filters.specs.declared.policy.BloomConstructionPolicy.{BloomConst
 use Rattle.sst_filters.specs.Filter.{BloomFilter, IsBuilt, admits, filter_in, payload_of}
 use Rattle.sst_filters.specs.Policy.{tenths_of}
 use Rattle.sst_filters.proofs.Probes.{admits_its_hashes}
-use Rattle.lsm_files.proofs.BlockLengths.{length-block}
-use Rattle.lsm_files.specs.Facts.{starts_key}
-use Rattle.lsm_files.specs.Filters.{AreFiltersFor, IsFilterFor, filter_block, filter_partitions, keys_after, keys_of, last_of_keys}
-use Rattle.lsm_files.specs.Fits.{EntryFits}
-use Rattle.lsm_files.specs.Index.{last_entry}
-use Rattle.lsm_files.specs.Parts.{joined_parts}
-use Rattle.lsm_files.specs.Partitions.{handles_block, tops_from}
+use Rattle.lsm_formats.proofs.BlockLengths.{length-block}
+use Rattle.lsm_formats.specs.Facts.{starts_key}
+use Rattle.lsm_formats.specs.Filters.{AreFiltersFor, IsFilterFor, filter_block, filter_partitions, keys_after, keys_of, last_of_keys}
+use Rattle.lsm_formats.specs.Fits.{EntryFits}
+use Rattle.lsm_formats.specs.Index.{last_entry}
+use Rattle.lsm_formats.specs.Parts.{joined_parts}
+use Rattle.lsm_formats.specs.Partitions.{handles_block, tops_from}
 use Rattle.sst_blocks.specs.Handles.{handles_payload}
 use Rattle.lsm_readers.specs.Read.{◌>>=◌}
 use Rattle.lsm_readers.proofs.FileIndexes.{LoadsHandles, handles_load}

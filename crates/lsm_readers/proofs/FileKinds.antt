@@ -12,17 +12,17 @@ use Rattle.sst_blocks.specs.Handles.{AreStrictHandles, IsSpellableHandle, handle
 use Rattle.sst_filters.specs.declared.policy.BloomConstructionPolicy.{BloomConstructionPolicy}
 use Rattle.sst_filters.specs.Filter.{BloomFilter, payload_of}
 use Rattle.sst_filters.specs.Policy.{tenths_of}
-use Rattle.lsm_files.proofs.BlockLengths.{length-block}
-use Rattle.lsm_files.specs.declared.options.FilterKind.{FilterKind}
-use Rattle.lsm_files.specs.declared.options.FilterKind.TheVariants.{Full as FullFilter, Partitioned as PartitionedFilter}
-use Rattle.lsm_files.specs.declared.options.IndexKind.{IndexKind}
-use Rattle.lsm_files.specs.declared.options.IndexKind.TheVariants.{Full as FullIndex, Partitioned as PartitionedIndex}
-use Rattle.lsm_files.specs.Filters.{AreFiltersFor, IsFilterFor, filter_block, filter_partitions, filtered_keys, full_filter, is_full_filter, keys_of, partitioned_filter}
-use Rattle.lsm_files.specs.Fits.{SectionFits}
-use Rattle.lsm_files.specs.Kinds.{AreFilterParts, AreIndexParts, full_index, index_sections}
-use Rattle.lsm_files.specs.Layout.{bytes_in}
-use Rattle.lsm_files.specs.Partitions.{handles_block, index_tops, is_full_index, partitioned_index, tops_from}
-use Rattle.lsm_files.specs.Parts.{ArePartsOf, joined_parts, rest_part}
+use Rattle.lsm_formats.proofs.BlockLengths.{length-block}
+use Rattle.lsm_formats.specs.declared.options.FilterKind.{FilterKind}
+use Rattle.lsm_formats.specs.declared.options.FilterKind.TheVariants.{Full as FullFilter, Partitioned as PartitionedFilter}
+use Rattle.lsm_formats.specs.declared.options.IndexKind.{IndexKind}
+use Rattle.lsm_formats.specs.declared.options.IndexKind.TheVariants.{Full as FullIndex, Partitioned as PartitionedIndex}
+use Rattle.lsm_formats.specs.Filters.{AreFiltersFor, IsFilterFor, filter_block, filter_partitions, filtered_keys, full_filter, is_full_filter, keys_of, partitioned_filter}
+use Rattle.lsm_formats.specs.Fits.{SectionFits}
+use Rattle.lsm_formats.specs.Kinds.{AreFilterParts, AreIndexParts, full_index, index_sections}
+use Rattle.lsm_formats.specs.Layout.{bytes_in}
+use Rattle.lsm_formats.specs.Partitions.{handles_block, index_tops, is_full_index, partitioned_index, tops_from}
+use Rattle.lsm_formats.specs.Parts.{ArePartsOf, joined_parts, rest_part}
 use Rattle.lsm_readers.proofs.FileFilters.{Asked, KeyFits, LoadsFilter, filter_loads, filter_told, filter_tops_load, filters_asked, is_built}
 use Rattle.lsm_readers.proofs.FileIndexes.{LoadsHandles, handles_load, partition_told, parts_asked, tops_load}
 use Rattle.lsm_readers.proofs.FileSections.{top_place}

@@ -19,12 +19,12 @@ use Rattle.sst_entries.proofs.OrderLemmas.{before_trans}
 use Rattle.sst_blocks.proofs.Entries.{entries_read, length-spelled}
 use Rattle.sst_blocks.proofs.HandleLaws.{handles_read, length-handle_spelled}
 use Rattle.sst_sections.proofs.Numbers.{wide4}
-use Rattle.lsm_files.specs.Chunks.{joined}
-use Rattle.lsm_files.specs.Facts.{count_after, one_if, lowest_seqno, highest_seqno}
-use Rattle.lsm_files.specs.Index.{last_entry, handle_of, handles_from, handles, block_size, data_block, data_section}
-use Rattle.lsm_files.specs.Fits.{EntryFits, BlockFits}
+use Rattle.lsm_formats.specs.Chunks.{joined}
+use Rattle.lsm_formats.specs.Facts.{count_after, one_if, lowest_seqno, highest_seqno}
+use Rattle.lsm_formats.specs.Index.{last_entry, handle_of, handles_from, handles, block_size, data_block, data_section}
+use Rattle.lsm_formats.specs.Fits.{EntryFits, BlockFits}
 use Rattle.lsm_readers.proofs.ChunkReads.{AreSome, later, strict_front, strict_after}
-use Rattle.lsm_files.proofs.BlockLengths.{length-block}
+use Rattle.lsm_formats.proofs.BlockLengths.{length-block}
 
 -- ---- entries and their blocks
 

@@ -12,17 +12,17 @@ use Rattle.sst_entries.specs.declared.error.Error.TheVariants.{GlobalSeqNoTooLar
 use Rattle.sst_entries.specs.Entry.{Entry}
 use Rattle.sst_entries.specs.Strict.{IsStrict}
 use Rattle.sst_blocks.specs.Place.{Place}
-use Rattle.lsm_files.specs.Chunks.{joined}
-use Rattle.lsm_files.specs.Content.{Content}
-use Rattle.lsm_files.specs.Facts.{highest_seqno}
-use Rattle.lsm_files.specs.File.{IsContent, counted_blocks, front_sections}
-use Rattle.lsm_files.specs.Filters.{keys_of}
-use Rattle.lsm_files.specs.Fits.{Fits}
-use Rattle.lsm_files.specs.Index.{data_section, handles}
-use Rattle.lsm_files.specs.Layout.{bytes_in}
-use Rattle.lsm_files.specs.Table.{IsTable}
-use Rattle.lsm_files.specs.declared.label.Label.{Label}
-use Rattle.lsm_files.specs.declared.options.Options.{Options}
+use Rattle.lsm_formats.specs.Chunks.{joined}
+use Rattle.lsm_formats.specs.Content.{Content}
+use Rattle.lsm_formats.specs.Facts.{highest_seqno}
+use Rattle.lsm_formats.specs.File.{IsContent, counted_blocks, front_sections}
+use Rattle.lsm_formats.specs.Filters.{keys_of}
+use Rattle.lsm_formats.specs.Fits.{Fits}
+use Rattle.lsm_formats.specs.Index.{data_section, handles}
+use Rattle.lsm_formats.specs.Layout.{bytes_in}
+use Rattle.lsm_formats.specs.Table.{IsTable}
+use Rattle.lsm_formats.specs.declared.label.Label.{Label}
+use Rattle.lsm_formats.specs.declared.options.Options.{Options}
 use Rattle.lsm_readers.specs.declared.regions.ParsedRegions.{ParsedRegions}
 use Rattle.lsm_readers.specs.Meta.{Facts, facts_told, meta_told}
 use Rattle.lsm_readers.specs.OfList.{facts_said, filter_said, filter_tops_said, index_said, list_told, no_place, parts_said, pinned_said, place_from, regions_said}

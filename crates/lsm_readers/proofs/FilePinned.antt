@@ -16,15 +16,15 @@ use Rattle.sst_blocks.specs.Handles.{AreStrictHandles, IsSpellableHandle, reache
 use Rattle.sst_blocks.specs.Place.{Place, place_of}
 use Rattle.sst_filters.specs.declared.policy.BloomConstructionPolicy.{BloomConstructionPolicy}
 use Rattle.sst_filters.specs.Filter.{BloomFilter, admits}
-use Rattle.lsm_files.specs.Filters.{AreFiltersFor, filter_block, filter_partitions, filtered_keys, keys_of}
-use Rattle.lsm_files.specs.Fits.{SectionFits}
-use Rattle.lsm_files.specs.Kinds.{AreFilterParts, AreIndexParts, filter_sections, index_sections}
-use Rattle.lsm_files.specs.Layout.{bytes_in}
-use Rattle.lsm_files.specs.Partitions.{handles_block, index_tops, tops_from}
-use Rattle.lsm_files.specs.declared.options.FilterKind.{FilterKind}
-use Rattle.lsm_files.specs.declared.options.FilterKind.TheVariants.{Full as FullFilter, Partitioned as PartitionedFilter}
-use Rattle.lsm_files.specs.declared.options.IndexKind.{IndexKind}
-use Rattle.lsm_files.specs.declared.options.IndexKind.TheVariants.{Full as FullIndex, Partitioned as PartitionedIndex}
+use Rattle.lsm_formats.specs.Filters.{AreFiltersFor, filter_block, filter_partitions, filtered_keys, keys_of}
+use Rattle.lsm_formats.specs.Fits.{SectionFits}
+use Rattle.lsm_formats.specs.Kinds.{AreFilterParts, AreIndexParts, filter_sections, index_sections}
+use Rattle.lsm_formats.specs.Layout.{bytes_in}
+use Rattle.lsm_formats.specs.Partitions.{handles_block, index_tops, tops_from}
+use Rattle.lsm_formats.specs.declared.options.FilterKind.{FilterKind}
+use Rattle.lsm_formats.specs.declared.options.FilterKind.TheVariants.{Full as FullFilter, Partitioned as PartitionedFilter}
+use Rattle.lsm_formats.specs.declared.options.IndexKind.{IndexKind}
+use Rattle.lsm_formats.specs.declared.options.IndexKind.TheVariants.{Full as FullIndex, Partitioned as PartitionedIndex}
 use Rattle.lsm_readers.specs.declared.regions.ParsedRegions.{ParsedRegions}
 use Rattle.lsm_readers.specs.Answer.{filter_admits, handle_by, handle_in_part, part_admits, place_in}
 use Rattle.lsm_readers.specs.OfList.{filter_said, filter_tops_said, index_said, place_from}

@@ -22,17 +22,17 @@ use Rattle.sst_blocks.specs.Payload.{payload}
 use Rattle.sst_blocks.specs.Place.{Place, place_of}
 use Rattle.sst_blocks.specs.Reading.{entries_in}
 use Rattle.sst_blocks.proofs.BlockLaws.{written_loads}
-use Rattle.lsm_files.specs.Chunks.{joined}
-use Rattle.lsm_files.specs.Content.{Content}
-use Rattle.lsm_files.specs.Facts.{lowest_seqno}
-use Rattle.lsm_files.specs.File.{IsContent}
-use Rattle.lsm_files.specs.Filters.{keys_of}
-use Rattle.lsm_files.specs.Fits.{BlockFits, EntryFits, Fits}
-use Rattle.lsm_files.specs.Index.{data_block, data_section, handles}
-use Rattle.lsm_files.specs.Layout.{bytes_in}
-use Rattle.lsm_files.specs.Table.{IsTable}
-use Rattle.lsm_files.specs.declared.label.Label.{Label}
-use Rattle.lsm_files.specs.declared.options.Options.{Options}
+use Rattle.lsm_formats.specs.Chunks.{joined}
+use Rattle.lsm_formats.specs.Content.{Content}
+use Rattle.lsm_formats.specs.Facts.{lowest_seqno}
+use Rattle.lsm_formats.specs.File.{IsContent}
+use Rattle.lsm_formats.specs.Filters.{keys_of}
+use Rattle.lsm_formats.specs.Fits.{BlockFits, EntryFits, Fits}
+use Rattle.lsm_formats.specs.Index.{data_block, data_section, handles}
+use Rattle.lsm_formats.specs.Layout.{bytes_in}
+use Rattle.lsm_formats.specs.Table.{IsTable}
+use Rattle.lsm_formats.specs.declared.label.Label.{Label}
+use Rattle.lsm_formats.specs.declared.options.Options.{Options}
 use Rattle.lsm_readers.specs.Answer.{answer, filter_admits, handle_for, lift, lifted, match_at, match_in, place_in}
 use Rattle.lsm_readers.specs.OfList.{pinned_said, regions_said}
 use Rattle.lsm_readers.specs.Parts.{Parts, recovered_told}

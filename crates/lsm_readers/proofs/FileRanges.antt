@@ -31,17 +31,17 @@ use Rattle.sst_blocks.specs.Handles.{is_above, reaches, up_to_first, window}
 use Rattle.sst_blocks.specs.Payload.{payload}
 use Rattle.sst_blocks.proofs.BlockLaws.{written_loads}
 use Rattle.sst_blocks.proofs.Reaching.{above_reaches, reaches_after}
-use Rattle.lsm_files.proofs.BlockLengths.{length-block}
-use Rattle.lsm_files.specs.Chunks.{joined}
-use Rattle.lsm_files.specs.Content.{Content}
-use Rattle.lsm_files.specs.Facts.{highest_seqno}
-use Rattle.lsm_files.specs.File.{IsContent}
-use Rattle.lsm_files.specs.Fits.{EntryFits, Fits}
-use Rattle.lsm_files.specs.Index.{block_size, data_block, data_section, handle_of, handles, handles_from, last_entry}
-use Rattle.lsm_files.specs.Layout.{bytes_in}
-use Rattle.lsm_files.specs.Table.{IsTable}
-use Rattle.lsm_files.specs.declared.label.Label.{Label}
-use Rattle.lsm_files.specs.declared.options.Options.{Options}
+use Rattle.lsm_formats.proofs.BlockLengths.{length-block}
+use Rattle.lsm_formats.specs.Chunks.{joined}
+use Rattle.lsm_formats.specs.Content.{Content}
+use Rattle.lsm_formats.specs.Facts.{highest_seqno}
+use Rattle.lsm_formats.specs.File.{IsContent}
+use Rattle.lsm_formats.specs.Fits.{EntryFits, Fits}
+use Rattle.lsm_formats.specs.Index.{block_size, data_block, data_section, handle_of, handles, handles_from, last_entry}
+use Rattle.lsm_formats.specs.Layout.{bytes_in}
+use Rattle.lsm_formats.specs.Table.{IsTable}
+use Rattle.lsm_formats.specs.declared.label.Label.{Label}
+use Rattle.lsm_formats.specs.declared.options.Options.{Options}
 use Rattle.lsm_iters.specs.Bounds.{lower_edge, upper_edge}
 use Rattle.lsm_iters.specs.Lift.{lift, lift_told, lifted, lifted_told}
 use Rattle.lsm_iters.specs.Rows.{Bounded, block_rows, rows, rows_in}

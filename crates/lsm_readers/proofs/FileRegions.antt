@@ -10,8 +10,8 @@ use Rattle.sst_sections.specs.declared.section.Section.{Section}
 use Rattle.sst_sections.specs.declared.section.SectionName.{SectionName}
 use Rattle.sst_sections.specs.Sections.{AreAscending, next_start, section_of, slot_index}
 use Rattle.sst_blocks.specs.Place.{Place}
-use Rattle.lsm_files.specs.Fits.{SectionFits}
-use Rattle.lsm_files.specs.Layout.{Sections, bytes_in, starts_from}
+use Rattle.lsm_formats.specs.Fits.{SectionFits}
+use Rattle.lsm_formats.specs.Layout.{Sections, bytes_in, starts_from}
 use Rattle.lsm_readers.specs.OfList.{place_from}
 use Rattle.lsm_readers.specs.Read.{◌>>=◌}
 use Rattle.lsm_readers.specs.Regions.{needed_told, optional_told, region_told}

@@ -20,27 +20,27 @@ use Rattle.sst_entries.specs.Stream.{ok_results, Deals, nowhere, answer_stops}
 use Rattle.sst_entries.specs.Strict.{IsStrict, IsStrictAfter, last_of}
 use Rattle.sst_blocks.proofs.BlockLaws.{written_loads_at}
 use Rattle.sst_blocks.proofs.LoadLemmas.{load_at_fault}
-use Rattle.lsm_files.specs.Chunks.{joined}
-use Rattle.lsm_files.specs.Facts.{highest_seqno}
-use Rattle.lsm_files.specs.File.{IsContent}
-use Rattle.lsm_files.specs.Index.{handles, data_block, data_section}
-use Rattle.lsm_files.specs.Content.{Content}
-use Rattle.lsm_files.specs.Kinds.{AreIndexParts, index_sections}
-use Rattle.lsm_files.specs.Layout.{bytes_in}
-use Rattle.lsm_files.specs.Partitions.{handles_block, is_full_index}
-use Rattle.lsm_files.specs.declared.options.IndexKind.{IndexKind}
-use Rattle.lsm_files.specs.declared.options.IndexKind.TheVariants.{Full as FullIndex, Partitioned as PartitionedIndex}
+use Rattle.lsm_formats.specs.Chunks.{joined}
+use Rattle.lsm_formats.specs.Facts.{highest_seqno}
+use Rattle.lsm_formats.specs.File.{IsContent}
+use Rattle.lsm_formats.specs.Index.{handles, data_block, data_section}
+use Rattle.lsm_formats.specs.Content.{Content}
+use Rattle.lsm_formats.specs.Kinds.{AreIndexParts, index_sections}
+use Rattle.lsm_formats.specs.Layout.{bytes_in}
+use Rattle.lsm_formats.specs.Partitions.{handles_block, is_full_index}
+use Rattle.lsm_formats.specs.declared.options.IndexKind.{IndexKind}
+use Rattle.lsm_formats.specs.declared.options.IndexKind.TheVariants.{Full as FullIndex, Partitioned as PartitionedIndex}
 use Rattle.sst_blocks.specs.Handle.{Handle}
-use Rattle.lsm_files.specs.declared.options.Options.{Options}
-use Rattle.lsm_files.specs.declared.label.Label.{Label}
-use Rattle.lsm_files.specs.Table.{IsTable}
+use Rattle.lsm_formats.specs.declared.options.Options.{Options}
+use Rattle.lsm_formats.specs.declared.label.Label.{Label}
+use Rattle.lsm_formats.specs.Table.{IsTable}
 use Rattle.lsm_readers.specs.Answer.{lifted, lift}
-use Rattle.lsm_files.specs.Fits.{EntryFits, BlockFits, Fits}
+use Rattle.lsm_formats.specs.Fits.{EntryFits, BlockFits, Fits}
 use Rattle.lsm_readers.specs.Meta.{Facts}
 use Rattle.lsm_readers.specs.Parts.{Parts, recovered_told}
 use Rattle.lsm_readers.specs.Scan.{lifted_told, behind, blocks_told, then_blocks, entries_told, up_to_error, entries_from, scan_told, fault_of, Scan, ScansList, ScansNext}
 use Rattle.lsm_readers.proofs.ChunkReads.{AreSome, strict_front, strict_after}
-use Rattle.lsm_files.proofs.BlockLengths.{length-block}
+use Rattle.lsm_formats.proofs.BlockLengths.{length-block}
 use Rattle.lsm_readers.proofs.FileLengths.{chunk_reads}
 use Rattle.sst_entries.proofs.Lists.{all_front, all_behind}
 use Rattle.lsm_readers.proofs.FileContent.{line, some_chunks, whole}

@@ -19,21 +19,21 @@ use Rattle.sst_blocks.specs.Payload.{payload}
 use Rattle.sst_blocks.specs.Place.{Place}
 use Rattle.sst_blocks.specs.Reading.{entries_in}
 use Rattle.sst_blocks.proofs.BlockLaws.{written_loads}
-use Rattle.lsm_files.proofs.BlockLengths.{length-block}
-use Rattle.lsm_files.specs.declared.options.FilterKind.{FilterKind}
-use Rattle.lsm_files.specs.declared.options.FilterKind.TheVariants.{Full as FullFilter, Partitioned as PartitionedFilter}
-use Rattle.lsm_files.specs.declared.options.IndexKind.{IndexKind}
-use Rattle.lsm_files.specs.declared.options.IndexKind.TheVariants.{Full as FullIndex, Partitioned as PartitionedIndex}
-use Rattle.lsm_files.specs.declared.label.Label.{Label}
-use Rattle.lsm_files.specs.declared.options.Options.{Options}
-use Rattle.lsm_files.specs.Content.{Content}
-use Rattle.lsm_files.specs.File.{closing_sections, counted_blocks, filter_part, index_part, sections_of}
-use Rattle.lsm_files.specs.Fits.{SectionFits}
-use Rattle.lsm_files.specs.Index.{data_section, handles}
-use Rattle.lsm_files.specs.Kinds.{filter_sections, index_sections}
-use Rattle.lsm_files.specs.Layout.{Sections, bytes_in, laid}
-use Rattle.lsm_files.specs.MetaBlock.{meta_entries, version_number}
-use Rattle.lsm_files.specs.Partitions.{handles_block, index_tops}
+use Rattle.lsm_formats.proofs.BlockLengths.{length-block}
+use Rattle.lsm_formats.specs.declared.options.FilterKind.{FilterKind}
+use Rattle.lsm_formats.specs.declared.options.FilterKind.TheVariants.{Full as FullFilter, Partitioned as PartitionedFilter}
+use Rattle.lsm_formats.specs.declared.options.IndexKind.{IndexKind}
+use Rattle.lsm_formats.specs.declared.options.IndexKind.TheVariants.{Full as FullIndex, Partitioned as PartitionedIndex}
+use Rattle.lsm_formats.specs.declared.label.Label.{Label}
+use Rattle.lsm_formats.specs.declared.options.Options.{Options}
+use Rattle.lsm_formats.specs.Content.{Content}
+use Rattle.lsm_formats.specs.File.{closing_sections, counted_blocks, filter_part, index_part, sections_of}
+use Rattle.lsm_formats.specs.Fits.{SectionFits}
+use Rattle.lsm_formats.specs.Index.{data_section, handles}
+use Rattle.lsm_formats.specs.Kinds.{filter_sections, index_sections}
+use Rattle.lsm_formats.specs.Layout.{Sections, bytes_in, laid}
+use Rattle.lsm_formats.specs.MetaBlock.{meta_entries, version_number}
+use Rattle.lsm_formats.specs.Partitions.{handles_block, index_tops}
 use Rattle.sst_filters.specs.Filter.{BloomFilter}
 use Rattle.lsm_readers.specs.declared.regions.ParsedRegions.{ParsedRegions}
 use Rattle.lsm_readers.specs.Meta.{facts_told, meta_told}

@@ -17,14 +17,14 @@ use Rattle.sst_blocks.specs.Handle.{Handle}
 use Rattle.sst_blocks.specs.Handles.{AreStrictHandles, IsSpellableHandle, end_of, from_edge, from_first, handles_payload, is_above, reaches, to_edge, up_to_first, window}
 use Rattle.sst_blocks.specs.Place.{Place, place_of}
 use Rattle.sst_blocks.proofs.Reaching.{above_reaches, reaches_after}
-use Rattle.lsm_files.proofs.BlockLengths.{length-block}
-use Rattle.lsm_files.specs.Fits.{SectionFits}
-use Rattle.lsm_files.specs.Kinds.{AreIndexParts, index_sections}
-use Rattle.lsm_files.specs.Layout.{bytes_in}
-use Rattle.lsm_files.specs.Parts.{joined_parts}
-use Rattle.lsm_files.specs.Partitions.{handles_block, index_tops, is_full_index, last_end}
-use Rattle.lsm_files.specs.declared.options.IndexKind.{IndexKind}
-use Rattle.lsm_files.specs.declared.options.IndexKind.TheVariants.{Full as FullIndex, Partitioned as PartitionedIndex}
+use Rattle.lsm_formats.proofs.BlockLengths.{length-block}
+use Rattle.lsm_formats.specs.Fits.{SectionFits}
+use Rattle.lsm_formats.specs.Kinds.{AreIndexParts, index_sections}
+use Rattle.lsm_formats.specs.Layout.{bytes_in}
+use Rattle.lsm_formats.specs.Parts.{joined_parts}
+use Rattle.lsm_formats.specs.Partitions.{handles_block, index_tops, is_full_index, last_end}
+use Rattle.lsm_formats.specs.declared.options.IndexKind.{IndexKind}
+use Rattle.lsm_formats.specs.declared.options.IndexKind.TheVariants.{Full as FullIndex, Partitioned as PartitionedIndex}
 use Rattle.lsm_block_indexes.specs.Index.{block_between, parts_between}
 use Rattle.lsm_readers.specs.BlockIndexes.{index_over}
 use Rattle.lsm_readers.specs.OfList.{index_said}

@@ -17,10 +17,10 @@ use Rattle.sst_blocks.specs.Handles.{reaches}
 use Rattle.sst_blocks.proofs.Reaching.{above_reaches, reaches_after}
 use Rattle.sst_filters.specs.declared.policy.BloomConstructionPolicy.{BloomConstructionPolicy}
 use Rattle.sst_filters.specs.Filter.{BloomFilter, payload_of}
-use Rattle.lsm_files.proofs.BlockLengths.{length-block}
-use Rattle.lsm_files.specs.Filters.{AreFiltersFor, IsFilterFor, filter_block, filter_partitions, last_of_keys}
-use Rattle.lsm_files.specs.Parts.{joined_parts}
-use Rattle.lsm_files.specs.Partitions.{tops_from}
+use Rattle.lsm_formats.proofs.BlockLengths.{length-block}
+use Rattle.lsm_formats.specs.Filters.{AreFiltersFor, IsFilterFor, filter_block, filter_partitions, last_of_keys}
+use Rattle.lsm_formats.specs.Parts.{joined_parts}
+use Rattle.lsm_formats.specs.Partitions.{tops_from}
 use Rattle.lsm_readers.proofs.ChunkReads.{strict_after, strict_front}
 use Rattle.lsm_readers.proofs.FilterReads.{has_key}
 use Rattle.lsm_readers.proofs.PartReads.{AreSomeParts}

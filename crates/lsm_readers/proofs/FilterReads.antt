@@ -10,8 +10,8 @@ use Rattle.sst_entries.specs.Point.{is_hit}
 use Rattle.sst_entries.proofs.Booleans.{and_left, not_not, or_right}
 use Rattle.sst_entries.proofs.KeyLemmas.{same_is}
 use Rattle.sst_filters.specs.Filter.{is_in}
-use Rattle.lsm_files.specs.Facts.{starts_key}
-use Rattle.lsm_files.specs.Filters.{keys_after, keys_of}
+use Rattle.lsm_formats.specs.Facts.{starts_key}
+use Rattle.lsm_formats.specs.Filters.{keys_after, keys_of}
 
 -- a key is in a list of keys
 abbrev pub has_key : List ℕ → List (List ℕ) → Bool

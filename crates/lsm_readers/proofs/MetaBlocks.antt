@@ -14,13 +14,13 @@ use Rattle.sst_sections.specs.Version.{key_width, key_limit}
 use Rattle.sst_blocks.proofs.Entries.{entries_read, length-spelled}
 use Rattle.sst_entries.proofs.Strictness.{strict_from_test}
 use Rattle.sst_sections.proofs.Numbers.{wide4, wide8}
-use Rattle.lsm_files.specs.Chunks.{joined}
-use Rattle.lsm_files.specs.Facts.{facts}
-use Rattle.lsm_files.specs.Index.{data_section}
-use Rattle.lsm_files.specs.ItemName.{name_of}
-use Rattle.lsm_files.specs.MetaBlock.{Blocks, meta_entries}
-use Rattle.lsm_files.specs.declared.options.Options.{Options}
-use Rattle.lsm_files.specs.declared.label.Label.{Label}
+use Rattle.lsm_formats.specs.Chunks.{joined}
+use Rattle.lsm_formats.specs.Facts.{facts}
+use Rattle.lsm_formats.specs.Index.{data_section}
+use Rattle.lsm_formats.specs.ItemName.{name_of}
+use Rattle.lsm_formats.specs.MetaBlock.{Blocks, meta_entries}
+use Rattle.lsm_formats.specs.declared.options.Options.{Options}
+use Rattle.lsm_formats.specs.declared.label.Label.{Label}
 
 wide16-len : (n : ℕ) → length (le16 n) ≡ 16
 unfolding le16

@@ -9,15 +9,15 @@ use Rattle.sst_entries.specs.Entry.{Entry}
 use Rattle.sst_sections.specs.Number.{le8, le16, num8, num16}
 use Rattle.sst_entries.specs.Point.{point}
 use Rattle.sst_sections.proofs.Numbers.{wide8}
-use Rattle.lsm_files.specs.Chunks.{joined}
-use Rattle.lsm_files.specs.Facts.{facts}
-use Rattle.lsm_files.specs.Index.{data_section}
-use Rattle.lsm_files.specs.MetaBlock.{Blocks, meta_entries, version_number}
-use Rattle.lsm_files.specs.declared.options.Options.{Options}
-use Rattle.lsm_files.specs.declared.label.Label.{Label}
-use Rattle.lsm_files.specs.declared.item_name.ItemName.{ItemName}
-use Rattle.lsm_files.specs.declared.item_name.ItemName.TheVariants.{TableId, ItemCount, TombstoneCount, BlockCountData, BlockCountIndex, BlockCountFilter, FileSize, WeakTombstoneCount, WeakTombstoneReclaimable, CreatedAt, KeyMin, KeyMax, SeqnoMin, SeqnoMax, TableVersion as VersionItem, FilterHashType, ChecksumType, RestartIntervalIndex, CompressionData, CompressionIndex}
-use Rattle.lsm_files.specs.ItemName.{name_of}
+use Rattle.lsm_formats.specs.Chunks.{joined}
+use Rattle.lsm_formats.specs.Facts.{facts}
+use Rattle.lsm_formats.specs.Index.{data_section}
+use Rattle.lsm_formats.specs.MetaBlock.{Blocks, meta_entries, version_number}
+use Rattle.lsm_formats.specs.declared.options.Options.{Options}
+use Rattle.lsm_formats.specs.declared.label.Label.{Label}
+use Rattle.lsm_formats.specs.declared.item_name.ItemName.{ItemName}
+use Rattle.lsm_formats.specs.declared.item_name.ItemName.TheVariants.{TableId, ItemCount, TombstoneCount, BlockCountData, BlockCountIndex, BlockCountFilter, FileSize, WeakTombstoneCount, WeakTombstoneReclaimable, CreatedAt, KeyMin, KeyMax, SeqnoMin, SeqnoMax, TableVersion as VersionItem, FilterHashType, ChecksumType, RestartIntervalIndex, CompressionData, CompressionIndex}
+use Rattle.lsm_formats.specs.ItemName.{name_of}
 use Rattle.std.specs.Prelude.{nat_eq, ◌||◌, ◌==◌, false}
 use Rattle.std.specs.Cmp.Lexicographic.{pointwise}
 use Rattle.byteorder.specs.Numbers.{little_number-reads_back}

@@ -4,10 +4,10 @@ use Rattle.sst_sections.specs.declared.version.TableVersion.{TableVersion}
 use Rattle.sst_entries.specs.Entry.{Entry}
 use Rattle.sst_entries.specs.Stream.{ok_results}
 use Rattle.sst_blocks.specs.Handles.{window}
-use Rattle.lsm_files.specs.Chunks.{AreChunks}
-use Rattle.lsm_files.specs.Index.{handles}
-use Rattle.lsm_files.specs.Table.{IsTable}
-use Rattle.lsm_files.proofs.OneCut.{one_cut}
+use Rattle.lsm_formats.specs.Chunks.{AreChunks}
+use Rattle.lsm_formats.specs.Index.{handles}
+use Rattle.lsm_formats.specs.Table.{IsTable}
+use Rattle.lsm_formats.proofs.OneCut.{one_cut}
 use Rattle.lsm_readers.specs.BlockIndexes.{AreCutAlike, NamesBlocksOf, TellAlike, table_index}
 use Rattle.lsm_readers.specs.Table.{IsOpen, OpenTable}
 use Rattle.lsm_readers.proofs.FileRanges.{file_index}

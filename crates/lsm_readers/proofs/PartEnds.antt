@@ -7,8 +7,8 @@ use Rattle.std.proofs.lemmas.List.Concat.{flat_map-append}
 use Rattle.sst_entries.specs.Entry.{Entry}
 use Rattle.sst_entries.specs.Strict.{IsStrict, IsStrictAfter, last_of}
 use Rattle.sst_entries.proofs.Lists.{all_front, all_behind}
-use Rattle.lsm_files.specs.Index.{last_entry}
-use Rattle.lsm_files.specs.Parts.{AreParts, joined_parts}
+use Rattle.lsm_formats.specs.Index.{last_entry}
+use Rattle.lsm_formats.specs.Parts.{AreParts, joined_parts}
 use Rattle.lsm_readers.proofs.ChunkReads.{strict_after, strict_front}
 use Rattle.lsm_readers.proofs.FileLengths.{follow_last, last_some}
 use Rattle.lsm_readers.proofs.PartReads.{AreSomeParts}

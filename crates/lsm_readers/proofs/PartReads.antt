@@ -11,10 +11,10 @@ use Rattle.sst_blocks.specs.declared.block_type.BlockType.TheVariants.{Index}
 use Rattle.sst_blocks.specs.Handle.{Handle}
 use Rattle.sst_blocks.specs.Handles.{end_of, handles_payload, reaches}
 use Rattle.sst_blocks.proofs.Reaching.{reaches_after}
-use Rattle.lsm_files.proofs.BlockLengths.{length-block}
-use Rattle.lsm_files.specs.Index.{last_entry}
-use Rattle.lsm_files.specs.Parts.{joined_parts}
-use Rattle.lsm_files.specs.Partitions.{handles_block, index_tops, last_end}
+use Rattle.lsm_formats.proofs.BlockLengths.{length-block}
+use Rattle.lsm_formats.specs.Index.{last_entry}
+use Rattle.lsm_formats.specs.Parts.{joined_parts}
+use Rattle.lsm_formats.specs.Partitions.{handles_block, index_tops, last_end}
 use Rattle.lsm_readers.proofs.ChunkReads.{later, not_before, strict_after, strict_front}
 
 -- the entry comes after a read of the key at the bound

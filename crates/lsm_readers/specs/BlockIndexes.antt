@@ -5,8 +5,8 @@ use Rattle.sst_entries.specs.Stream.{ok_results}
 use Rattle.sst_blocks.specs.Handles.{window}
 use Rattle.sst_blocks.specs.Place.{Place}
 use Rattle.sst_sections.specs.Sections.{body_of}
-use Rattle.lsm_files.specs.Index.{handles}
-use Rattle.lsm_files.specs.Table.{IsTable}
+use Rattle.lsm_formats.specs.Index.{handles}
+use Rattle.lsm_formats.specs.Table.{IsTable}
 use Rattle.lsm_block_indexes.specs.declared.kinds.BlockIndexImpl.{BlockIndexImpl}
 use Rattle.lsm_block_indexes.specs.declared.kinds.BlockIndexImpl.TheVariants.{Full, VolatileFull, TwoLevel}
 use Rattle.lsm_block_indexes.specs.Index.{Index, full as full_index, on_demand, two_level as two_level_index}

@@ -10,9 +10,9 @@ use Rattle.sst_entries.specs.Entry.{Entry}
 use Rattle.sst_sections.specs.Number.{num8, num16}
 use Rattle.sst_entries.specs.Point.{point}
 use Rattle.lsm_ranges.specs.KeyRange.{Interval, interval}
-use Rattle.lsm_files.specs.ItemName.{name_of}
-use Rattle.lsm_files.specs.declared.item_name.ItemName.{ItemName}
-use Rattle.lsm_files.specs.declared.item_name.ItemName.TheVariants.{BlockCountData, BlockCountFilter, BlockCountIndex, ChecksumType, CompressionData, CompressionIndex, CreatedAt, FileSize, FilterHashType, ItemCount, KeyMax, KeyMin, RestartIntervalIndex, SeqnoMax, SeqnoMin, TableId, TableVersion, TombstoneCount, WeakTombstoneCount, WeakTombstoneReclaimable}
+use Rattle.lsm_formats.specs.ItemName.{name_of}
+use Rattle.lsm_formats.specs.declared.item_name.ItemName.{ItemName}
+use Rattle.lsm_formats.specs.declared.item_name.ItemName.TheVariants.{BlockCountData, BlockCountFilter, BlockCountIndex, ChecksumType, CompressionData, CompressionIndex, CreatedAt, FileSize, FilterHashType, ItemCount, KeyMax, KeyMin, RestartIntervalIndex, SeqnoMax, SeqnoMin, TableId, TableVersion, TombstoneCount, WeakTombstoneCount, WeakTombstoneReclaimable}
 use Rattle.lsm_readers.specs.Read.{◌>>=◌}
 
 -- what a table says of itself

@@ -12,21 +12,21 @@ use Rattle.sst_blocks.specs.Handle.{Handle}
 use Rattle.sst_blocks.specs.Place.{Place}
 use Rattle.sst_filters.specs.Filter.{BloomFilter}
 use Rattle.lsm_ranges.specs.KeyRange.{Interval, interval}
-use Rattle.lsm_files.specs.Content.{Content}
-use Rattle.lsm_files.specs.Facts.{facts, highest_seqno}
-use Rattle.lsm_files.specs.File.{closing_sections, filter_part, front_sections, index_part}
-use Rattle.lsm_files.specs.Filters.{filter_partitions}
-use Rattle.lsm_files.specs.Index.{handles, data_section}
-use Rattle.lsm_files.specs.Layout.{Sections, bytes_in}
-use Rattle.lsm_files.specs.MetaBlock.{version_number}
-use Rattle.lsm_files.specs.Partitions.{index_tops, tops_from}
-use Rattle.lsm_files.specs.declared.options.FilterKind.{FilterKind}
-use Rattle.lsm_files.specs.declared.options.FilterKind.TheVariants.{Full as FullFilter, Partitioned as PartitionedFilter}
-use Rattle.lsm_files.specs.declared.options.IndexKind.{IndexKind}
-use Rattle.lsm_files.specs.declared.options.IndexKind.TheVariants.{Full as FullIndex, Partitioned as PartitionedIndex}
-use Rattle.lsm_files.specs.declared.options.Options.{Options}
-use Rattle.lsm_files.specs.declared.label.Label.{Label}
-use Rattle.lsm_files.specs.Table.{IsTable}
+use Rattle.lsm_formats.specs.Content.{Content}
+use Rattle.lsm_formats.specs.Facts.{facts, highest_seqno}
+use Rattle.lsm_formats.specs.File.{closing_sections, filter_part, front_sections, index_part}
+use Rattle.lsm_formats.specs.Filters.{filter_partitions}
+use Rattle.lsm_formats.specs.Index.{handles, data_section}
+use Rattle.lsm_formats.specs.Layout.{Sections, bytes_in}
+use Rattle.lsm_formats.specs.MetaBlock.{version_number}
+use Rattle.lsm_formats.specs.Partitions.{index_tops, tops_from}
+use Rattle.lsm_formats.specs.declared.options.FilterKind.{FilterKind}
+use Rattle.lsm_formats.specs.declared.options.FilterKind.TheVariants.{Full as FullFilter, Partitioned as PartitionedFilter}
+use Rattle.lsm_formats.specs.declared.options.IndexKind.{IndexKind}
+use Rattle.lsm_formats.specs.declared.options.IndexKind.TheVariants.{Full as FullIndex, Partitioned as PartitionedIndex}
+use Rattle.lsm_formats.specs.declared.options.Options.{Options}
+use Rattle.lsm_formats.specs.declared.label.Label.{Label}
+use Rattle.lsm_formats.specs.Table.{IsTable}
 use Rattle.lsm_readers.specs.declared.regions.ParsedRegions.{ParsedRegions}
 use Rattle.lsm_readers.specs.Meta.{Facts}
 use Rattle.lsm_readers.specs.Parts.{Parts, Pinned, PinnedIndex, full, two_level, volatile}

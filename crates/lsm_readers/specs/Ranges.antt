@@ -12,8 +12,8 @@ use Rattle.sst_entries.specs.Stream.{Deals, Runs, answer_stops, ok_results}
 use Rattle.sst_blocks.specs.declared.opened.Opened.{Opened}
 use Rattle.sst_blocks.specs.Handles.{window}
 use Rattle.sst_blocks.specs.Opened.{none_opened}
-use Rattle.lsm_files.specs.Index.{handles}
-use Rattle.lsm_files.specs.Table.{IsTable}
+use Rattle.lsm_formats.specs.Index.{handles}
+use Rattle.lsm_formats.specs.Table.{IsTable}
 use Rattle.lsm_block_indexes.specs.Left.{IsBetween}
 use Rattle.lsm_iters.specs.Bounds.{lower_edge, upper_edge}
 use Rattle.lsm_iters.specs.Lift.{lift}

@@ -11,7 +11,7 @@ pub use Rattle.sst_blocks.specs.Opened.{with_load, none_opened}
 pub use Rattle.sst_blocks.specs.Place.{Place, place_of}
 pub use Rattle.sst_filters.specs.Filter.{BloomFilter}
 pub use Rattle.lsm_ranges.specs.KeyRange.{key_bound, overlaps_bounds}
-pub use Rattle.lsm_files.specs.Table.{IsTable}
+pub use Rattle.lsm_formats.specs.Table.{IsTable}
 pub use Rattle.lsm_block_indexes.specs.Kinds.{index_of as index_read}
 pub use Rattle.lsm_readers.specs.BlockIndexes.{AreCutAlike, NamesBlocksOf, OpenedWith, TellAlike, kind_for, kind_of, on_each_read, partitioned, table_index}
 pub use Rattle.lsm_readers.specs.Answer.{LoadsFew, admission, admitted_handle, answer, block_admits, filter_admits}

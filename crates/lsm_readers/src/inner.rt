@@ -1,7 +1,7 @@
 //! What the handles of a table share, but for its bytes.
 use crate::{ParsedMeta, ParsedRegions};
 use lsm_block_indexes::FullBlockIndex;
-use lsm_files::TreeId;
+use lsm_formats::TreeId;
 use sst_blocks::{Checksum, FilterBlock, IndexBlock, SeqNo};
 use std::alloc::{Allocator, Global};
 

@@ -16,7 +16,7 @@ pub use lsm_block_indexes::{
     BlockIndex, BlockIndexImpl, BlockIndexIter, BlockIndexIterImpl, FullBlockIndex,
     OwnedIndexBlockIter, TwoLevelBlockIndex, VolatileBlockIndex,
 };
-pub use lsm_files::{GlobalTableId, TableId, Timestamp, TreeId};
+pub use lsm_formats::{GlobalTableId, TableId, Timestamp, TreeId};
 pub use lsm_iters::{Bound, Iter, OwnedDataBlockIter};
 pub use meta::ParsedMeta;
 pub use point::point_in;

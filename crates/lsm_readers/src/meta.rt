@@ -9,7 +9,7 @@ ghost use Rattle.lsm_ranges.specs.KeyRange.{Interval};
 ghost use Rattle.lsm_readers.specs.Table.{facts_of};
 
 use byteorder::{ByteOrder, LittleEndian};
-use lsm_files::{ItemName, TableId, Timestamp};
+use lsm_formats::{ItemName, TableId, Timestamp};
 use lsm_iters::beside;
 use lsm_ranges::KeyRange;
 use sst_blocks::{

@@ -32,7 +32,7 @@ mod range;
 use crate::inner::PinnedBlocks;
 use crate::{Inner, ParsedMeta, ParsedRegions, PinnedBlockIndex, Scanner, point_in};
 use lsm_block_indexes::{BlockIndexImpl, FullBlockIndex, TwoLevelBlockIndex, VolatileBlockIndex};
-use lsm_files::{TableId, TreeId};
+use lsm_formats::{TableId, TreeId};
 use lsm_iters::beside;
 use lsm_ranges::{KeyRange, Ranged};
 pub use queries::{Query, get_many};

@@ -14,7 +14,7 @@ use Rattle.sst_entries.specs.Kind.{tag_of}
 use Rattle.sst_entries.proofs.Booleans.{and_parts}
 use Rattle.sst_entries.proofs.Lists.{all_more}
 use Rattle.sst_entries.proofs.OrderLemmas.{less_of, tie_same}
-use Rattle.lsm_files.specs.Chunks.{joined}
+use Rattle.lsm_formats.specs.Chunks.{joined}
 use Rattle.lsm_iters.specs.Lift.{lift}
 use Rattle.lsm_merge.specs.Union.{AtMost, Ascends, item_cmp}
 use Rattle.lsm_merge.proofs.Pairs.{Precedes, Strict, as_pairs, nat_is_less, tied}

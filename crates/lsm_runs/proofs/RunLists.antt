@@ -7,7 +7,7 @@ use Rattle.sst_entries.specs.Entry.{Entry}
 use Rattle.sst_entries.specs.Point.{within}
 use Rattle.sst_entries.specs.Stream.{back_of, front_of, ok_results}
 use Rattle.lsm_block_indexes.specs.Dealt.{DealsEnding}
-use Rattle.lsm_files.specs.Chunks.{joined}
+use Rattle.lsm_formats.specs.Chunks.{joined}
 use Rattle.lsm_iters.specs.Range.{Range}
 use Rattle.lsm_ranges.specs.Run.{ArePlacesOf, are_in_order, overlap_indexes}
 use Rattle.lsm_readers.specs.Table.{OpenTable}

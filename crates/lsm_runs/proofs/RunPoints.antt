@@ -10,7 +10,7 @@ use Rattle.sst_entries.specs.Point.{is_hit, point}
 use Rattle.sst_entries.specs.Stream.{ok_results}
 use Rattle.sst_entries.proofs.Booleans.{and_parts, apart, is_false}
 use Rattle.sst_entries.proofs.KeyLemmas.{lt_other, same_is}
-use Rattle.lsm_files.specs.Chunks.{joined}
+use Rattle.lsm_formats.specs.Chunks.{joined}
 use Rattle.lsm_merge.specs.Union.{all_entries, sort_entries}
 use Rattle.lsm_ranges.specs.KeyRange.{Interval, has_key, key_le}
 use Rattle.lsm_ranges.specs.Run.{IsInOrder, are_in_order, table_of_key}

@@ -14,7 +14,7 @@ use Rattle.sst_entries.specs.Key.{key_lt}
 use Rattle.sst_entries.specs.Point.{is_from, is_to, within}
 use Rattle.sst_entries.specs.Stream.{ok_results}
 use Rattle.sst_entries.proofs.Booleans.{and_both, and_parts, is_false, not_is, not_not, or_right}
-use Rattle.lsm_files.specs.Chunks.{joined}
+use Rattle.lsm_formats.specs.Chunks.{joined}
 use Rattle.lsm_iters.specs.Lift.{lift}
 use Rattle.lsm_ranges.specs.KeyRange.{Interval, IsOutside, has_key, key_le}
 use Rattle.lsm_ranges.specs.Run.{are_in_order, ends_before, first_and_last, how_many}

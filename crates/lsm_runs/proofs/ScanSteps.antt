@@ -16,7 +16,7 @@ use Rattle.lsm_block_indexes.specs.Dealt.{DealsEnding}
 use Rattle.lsm_block_indexes.proofs.AtEnds.{first_split}
 use Rattle.lsm_block_indexes.proofs.Dealing.{Ending, deals_ending}
 use Rattle.lsm_block_indexes.proofs.TwoLevels.{no_items}
-use Rattle.lsm_files.specs.Chunks.{joined}
+use Rattle.lsm_formats.specs.Chunks.{joined}
 use Rattle.lsm_iters.specs.Lift.{lifted}
 use Rattle.lsm_iters.proofs.Ends.{front_split}
 use Rattle.lsm_readers.specs.Scan.{IsNewScan, Scan, ScansNext, fault_of, scan_left, scan_size}

@@ -14,7 +14,7 @@ use Rattle.sst_entries.specs.Entry.{Entry}
 use Rattle.sst_entries.specs.Point.{is_from, is_to, within}
 use Rattle.sst_entries.specs.Stream.{Deals, answer_stops, ok_results}
 use Rattle.sst_entries.proofs.Lists.{all_append}
-use Rattle.lsm_files.specs.Chunks.{joined}
+use Rattle.lsm_formats.specs.Chunks.{joined}
 use Rattle.lsm_merge.specs.Ends.{R}
 use Rattle.lsm_merge.specs.MergeLaws.{DealSorted}
 use Rattle.lsm_merge.specs.Union.{Ascends, all_entries, entries_among, newest, sort_entries, union_of}

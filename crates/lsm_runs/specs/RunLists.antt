@@ -7,8 +7,8 @@ use Rattle.sst_entries.specs.declared.error.Error.TheVariants.{OutOfMemory}
 use Rattle.sst_entries.specs.Entry.{Entry}
 use Rattle.sst_entries.specs.Point.{within}
 use Rattle.sst_entries.specs.Stream.{Deals, answer_stops, ok_results}
-use Rattle.lsm_files.specs.Chunks.{joined}
-use Rattle.lsm_files.specs.Table.{IsTable}
+use Rattle.lsm_formats.specs.Chunks.{joined}
+use Rattle.lsm_formats.specs.Table.{IsTable}
 use Rattle.lsm_iters.specs.Lift.{lift}
 use Rattle.lsm_merge.specs.Union.{Ascends}
 use Rattle.lsm_ranges.specs.Run.{IsInOrder}

@@ -6,7 +6,7 @@ use Rattle.sst_entries.specs.declared.error.Error.{Error}
 use Rattle.sst_entries.specs.Entry.{Entry}
 use Rattle.sst_entries.specs.Stream.{ok_results}
 use Rattle.sst_blocks.specs.declared.opened.Opened.{Opened}
-use Rattle.lsm_files.specs.Chunks.{joined}
+use Rattle.lsm_formats.specs.Chunks.{joined}
 use Rattle.lsm_merge.specs.Union.{item_cmp, union_of}
 use Rattle.lsm_ranges.specs.Run.{table_of_key}
 use Rattle.lsm_readers.specs.Answer.{table_answer}

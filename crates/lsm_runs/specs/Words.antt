@@ -6,9 +6,9 @@ pub use Rattle.sst_entries.specs.Point.{point, within}
 pub use Rattle.sst_entries.specs.Stream.{CanDeal, back_of, first, front_of, nowhere}
 pub use Rattle.sst_blocks.specs.Opened.{none_opened}
 pub use Rattle.lsm_block_indexes.specs.Dealt.{DealsEnding}
-pub use Rattle.lsm_files.specs.Chunks.{joined}
-pub use Rattle.lsm_files.specs.Facts.{highest_seqno}
-pub use Rattle.lsm_files.specs.Options.{default_options}
+pub use Rattle.lsm_formats.specs.Chunks.{joined}
+pub use Rattle.lsm_formats.specs.Facts.{highest_seqno}
+pub use Rattle.lsm_formats.specs.Options.{default_options}
 pub use Rattle.lsm_merge.specs.Union.{item_cmp, newest}
 pub use Rattle.lsm_ranges.specs.Run.{ArePlacesOf, IsInOrder, overlap_indexes}
 pub use Rattle.lsm_readers.specs.Answer.{lift}

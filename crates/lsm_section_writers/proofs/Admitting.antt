@@ -25,14 +25,14 @@ use Rattle.sst_filters.specs.declared.policy.BloomConstructionPolicy.{BloomConst
 use Rattle.sst_filters.specs.Filter.{BloomFilter, IsBuilt, admits, filter_in, is_in, payload_of}
 use Rattle.sst_filters.specs.Policy.{tenths_of}
 use Rattle.sst_filters.proofs.Probes.{admits_its_hashes}
-use Rattle.lsm_files.proofs.BlockLengths.{length-block}
-use Rattle.lsm_files.specs.declared.options.FilterKind.{FilterKind}
-use Rattle.lsm_files.specs.declared.options.FilterKind.TheVariants.{Full, Partitioned}
-use Rattle.lsm_files.specs.Filters.{IsFilterFor, filter_block, filter_partitions, full_filter, last_of_keys, partitioned_filter}
-use Rattle.lsm_files.specs.Fits.{SectionFits}
-use Rattle.lsm_files.specs.Layout.{Sections, appended}
-use Rattle.lsm_files.specs.Partitions.{handles_block, tops_from}
-use Rattle.lsm_files.specs.Parts.{joined_parts}
+use Rattle.lsm_formats.proofs.BlockLengths.{length-block}
+use Rattle.lsm_formats.specs.declared.options.FilterKind.{FilterKind}
+use Rattle.lsm_formats.specs.declared.options.FilterKind.TheVariants.{Full, Partitioned}
+use Rattle.lsm_formats.specs.Filters.{IsFilterFor, filter_block, filter_partitions, full_filter, last_of_keys, partitioned_filter}
+use Rattle.lsm_formats.specs.Fits.{SectionFits}
+use Rattle.lsm_formats.specs.Layout.{Sections, appended}
+use Rattle.lsm_formats.specs.Partitions.{handles_block, tops_from}
+use Rattle.lsm_formats.specs.Parts.{joined_parts}
 use Rattle.lsm_section_writers.specs.Answering.{FirstSaysYes, IsAdmitted, SaysYes, TopLevelSaysYes, is_among, was_given}
 use Rattle.lsm_section_writers.specs.Given.{GivenKeys, IsSomePart, KeyPart, all_keys, keys_in, parts_of, rest_keys}
 use Rattle.lsm_section_writers.specs.Held.{AreFiltersOf}

@@ -10,8 +10,8 @@ use Rattle.sst_entries.specs.declared.error.Error.TheVariants.{OutOfMemory}
 use Rattle.sst_sections.specs.Sections.{Written, slot_index}
 use Rattle.sst_sections.specs.declared.section.SectionName.{SectionName}
 use Rattle.sst_sections.specs.declared.section.SectionName.TheVariants.{Index}
-use Rattle.lsm_files.specs.File.{HasNoIndex}
-use Rattle.lsm_files.specs.Layout.{appended}
+use Rattle.lsm_formats.specs.File.{HasNoIndex}
+use Rattle.lsm_formats.specs.Layout.{appended}
 
 -- one section, and two
 pub section_more : (w u v : Written) (name : SectionName) (bytes : List ℕ) → u ≡ record w { started = w.started ++ (name, length w.bytes) ∷ [] } →

@@ -6,7 +6,7 @@ use Rattle.sst_filters.specs.KeyHash.{hash_of}
 use Rattle.sst_filters.specs.Filter.{BloomFilter, Gains, IsFilterOf}
 use Rattle.sst_filters.specs.Policy.{empty_filter, probe_count, size_for, tenths_of}
 use Rattle.sst_filters.specs.declared.policy.BloomConstructionPolicy.{BloomConstructionPolicy}
-use Rattle.lsm_files.specs.Filters.{IsFilterFor}
+use Rattle.lsm_formats.specs.Filters.{IsFilterFor}
 
 -- a filter as large as for all hashes, with the bits of those so far
 pub record Building (policy : BloomConstructionPolicy) (n : ℕ) (hashes : List ℕ) (f : BloomFilter) : Type 0 where

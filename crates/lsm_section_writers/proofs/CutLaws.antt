@@ -2,7 +2,7 @@
 use Rattle.std.proofs.Common.{◌≡◌, refl, ◌∙◌, ap, sym, Bool, true, false, ◌⊎◌, inl, inr, List, [], ◌∷◌, ◌++◌}
 use Rattle.std.specs.Prelude.{if◌then◌else◌}
 use Rattle.std.proofs.lemmas.Bool.{cases_Bool}
-use Rattle.lsm_files.specs.Parts.{parts_after, rest_part}
+use Rattle.lsm_formats.specs.Parts.{parts_after, rest_part}
 use Rattle.lsm_section_writers.specs.Cutting.{closed_after, waiting_after}
 
 pub closed_none : {A : Type 0} (full : List A → Bool) (w : List A) → closed_after full w [] ≡ []

@@ -15,8 +15,8 @@ use Rattle.sst_sections.specs.Sections.{Written}
 use Rattle.sst_sections.specs.declared.version.TableVersion.TheVariants.{V4}
 use Rattle.sst_blocks.specs.Bounds.{capped, index_block_bound_of}
 use Rattle.sst_blocks.specs.Handle.{Handle}
-use Rattle.lsm_files.specs.Parts.{parts_after, parts_by, rest_part}
-use Rattle.lsm_files.specs.Partitions.{handle_size, handles_block, index_tops, is_full_index}
+use Rattle.lsm_formats.specs.Parts.{parts_after, parts_by, rest_part}
+use Rattle.lsm_formats.specs.Partitions.{handle_size, handles_block, index_tops, is_full_index}
 use Rattle.lsm_section_writers.specs.IndexRefusing.{part_fault, parts_fault}
 use Rattle.lsm_section_writers.proofs.Tops.{tops_push}
 

@@ -18,14 +18,14 @@ use Rattle.sst_blocks.specs.declared.block_type.BlockType.TheVariants.{Index as 
 use Rattle.sst_blocks.specs.Block.{block_bytes}
 use Rattle.sst_blocks.specs.Handle.{Handle}
 use Rattle.sst_blocks.specs.Handles.{handles_payload}
-use Rattle.lsm_files.specs.Fits.{SectionFits}
-use Rattle.lsm_files.specs.Kinds.{index_parts, index_sections}
-use Rattle.lsm_files.specs.Layout.{Sections, appended, bytes_in}
-use Rattle.lsm_files.specs.Parts.{parts_after}
-use Rattle.lsm_files.specs.Partitions.{handles_block, partitioned_index}
-use Rattle.lsm_files.specs.declared.options.IndexKind.{IndexKind}
-use Rattle.lsm_files.specs.declared.options.IndexKind.TheVariants.{Full, Partitioned}
-use Rattle.lsm_files.proofs.BlockLengths.{length-block}
+use Rattle.lsm_formats.specs.Fits.{SectionFits}
+use Rattle.lsm_formats.specs.Kinds.{index_parts, index_sections}
+use Rattle.lsm_formats.specs.Layout.{Sections, appended, bytes_in}
+use Rattle.lsm_formats.specs.Parts.{parts_after}
+use Rattle.lsm_formats.specs.Partitions.{handles_block, partitioned_index}
+use Rattle.lsm_formats.specs.declared.options.IndexKind.{IndexKind}
+use Rattle.lsm_formats.specs.declared.options.IndexKind.TheVariants.{Full, Partitioned}
+use Rattle.lsm_formats.proofs.BlockLengths.{length-block}
 use Rattle.lsm_section_writers.specs.IndexRefusing.{index_fault, kind_fault, parts_fault}
 use Rattle.lsm_section_writers.specs.Registered.{Registered}
 use Rattle.lsm_section_writers.proofs.Behind.{bytes_stay, section_behind, section_more}

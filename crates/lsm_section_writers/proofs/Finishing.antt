@@ -15,13 +15,13 @@ use Rattle.sst_blocks.specs.Bounds.{index_block_bound_of}
 use Rattle.sst_blocks.specs.Encoding.{handles_fault}
 use Rattle.sst_blocks.specs.Handle.{Handle}
 use Rattle.sst_blocks.specs.Handles.{AreStrictHandles}
-use Rattle.lsm_files.specs.Failed.{failed_fault, section_fault}
-use Rattle.lsm_files.specs.Fits.{SectionFits}
-use Rattle.lsm_files.specs.Layout.{appended}
-use Rattle.lsm_files.specs.Parts.{parts_by}
-use Rattle.lsm_files.specs.Partitions.{handles_block, index_tops, is_full_index, partitioned_index}
-use Rattle.lsm_files.specs.declared.options.IndexKind.{IndexKind}
-use Rattle.lsm_files.specs.declared.options.IndexKind.TheVariants.{Partitioned}
+use Rattle.lsm_formats.specs.Failed.{failed_fault, section_fault}
+use Rattle.lsm_formats.specs.Fits.{SectionFits}
+use Rattle.lsm_formats.specs.Layout.{appended}
+use Rattle.lsm_formats.specs.Parts.{parts_by}
+use Rattle.lsm_formats.specs.Partitions.{handles_block, index_tops, is_full_index, partitioned_index}
+use Rattle.lsm_formats.specs.declared.options.IndexKind.{IndexKind}
+use Rattle.lsm_formats.specs.declared.options.IndexKind.TheVariants.{Partitioned}
 use Rattle.lsm_section_writers.specs.IndexRefusing.{index_fault, kind_fault, part_fault, parts_fault}
 use Rattle.lsm_section_writers.specs.Registered.{Registered}
 use Rattle.lsm_section_writers.proofs.Behind.{section_behind, section_more}

@@ -11,8 +11,8 @@ use Rattle.sst_blocks.specs.Bounds.{capped}
 use Rattle.sst_filters.specs.Filter.{BloomFilter}
 use Rattle.sst_filters.specs.Policy.{bound_for, fault_for, size_for, tenths_of}
 use Rattle.sst_filters.specs.declared.policy.BloomConstructionPolicy.{BloomConstructionPolicy}
-use Rattle.lsm_files.specs.Filters.{IsFilterFor, is_full_filter, last_of_keys}
-use Rattle.lsm_files.specs.declared.options.FilterKind.TheVariants.{Partitioned}
+use Rattle.lsm_formats.specs.Filters.{IsFilterFor, is_full_filter, last_of_keys}
+use Rattle.lsm_formats.specs.declared.options.FilterKind.TheVariants.{Partitioned}
 use Rattle.lsm_section_writers.specs.Given.{GivenKeys, IsSomePart, KeyPart, all_keys, cut_with, key_part, keys_in, no_keys, parts_of, pending_with, rest_keys, with_key}
 use Rattle.lsm_section_writers.specs.Held.{AreFiltersOf, as_list, CutPart, CutParts, Cuts, end_keys, filters_of, HasParts, HoldsAll, HoldsParts, last_key_of}
 use Rattle.lsm_section_writers.specs.FilterRefusing.{key_parts_bound, keys_fault, register_fault}

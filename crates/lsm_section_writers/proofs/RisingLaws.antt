@@ -5,8 +5,8 @@ use Rattle.std.specs.List.{AllByRecursion}
 use Rattle.sst_entries.specs.Entry.{Entry}
 use Rattle.sst_entries.specs.Strict.{IsStrictAfter, may_follow}
 use Rattle.sst_entries.proofs.OrderLemmas.{before_trans}
-use Rattle.lsm_files.specs.Filters.{last_of_keys}
-use Rattle.lsm_files.specs.Parts.{joined_parts}
+use Rattle.lsm_formats.specs.Filters.{last_of_keys}
+use Rattle.lsm_formats.specs.Parts.{joined_parts}
 use Rattle.lsm_section_writers.specs.Given.{IsSomePart, KeyPart, keys_in}
 use Rattle.lsm_section_writers.specs.Rising.{AreRising, end_entry}
 

@@ -12,14 +12,14 @@ use Rattle.sst_sections.specs.declared.version.TableVersion.TheVariants.{V4}
 use Rattle.sst_filters.specs.Filter.{BloomFilter}
 use Rattle.sst_filters.specs.Policy.{bound_for, tenths_of}
 use Rattle.sst_filters.specs.declared.policy.BloomConstructionPolicy.{BloomConstructionPolicy}
-use Rattle.lsm_files.specs.declared.options.FilterKind.{FilterKind}
-use Rattle.lsm_files.specs.declared.options.FilterKind.TheVariants.{Full, Partitioned}
-use Rattle.lsm_files.specs.Failed.{section_fault}
-use Rattle.lsm_files.specs.Filters.{AreFiltersFor, is_full_filter, last_of_keys}
-use Rattle.lsm_files.specs.Fits.{SectionFits}
-use Rattle.lsm_files.specs.Kinds.{filter_parts, filter_sections}
-use Rattle.lsm_files.specs.Layout.{Sections, appended}
-use Rattle.lsm_files.specs.Parts.{joined_parts, parts_by, rest_part}
+use Rattle.lsm_formats.specs.declared.options.FilterKind.{FilterKind}
+use Rattle.lsm_formats.specs.declared.options.FilterKind.TheVariants.{Full, Partitioned}
+use Rattle.lsm_formats.specs.Failed.{section_fault}
+use Rattle.lsm_formats.specs.Filters.{AreFiltersFor, is_full_filter, last_of_keys}
+use Rattle.lsm_formats.specs.Fits.{SectionFits}
+use Rattle.lsm_formats.specs.Kinds.{filter_parts, filter_sections}
+use Rattle.lsm_formats.specs.Layout.{Sections, appended}
+use Rattle.lsm_formats.specs.Parts.{joined_parts, parts_by, rest_part}
 use Rattle.lsm_section_writers.specs.Cutting.{closed_after, closed_by, waiting_after, waiting_by}
 use Rattle.lsm_section_writers.specs.Given.{GivenKeys, KeyPart, all_keys, cut_with, given_by, key_part, keys_in, no_keys, parts_of, pending_with, rest_keys, with_key}
 use Rattle.lsm_section_writers.specs.Held.{AreFiltersOf}

@@ -26,21 +26,21 @@ use Rattle.sst_entries.specs.declared.error.Error.{Error}
 use Rattle.sst_entries.specs.declared.error.Error.TheVariants.{KeyTooLong, SectionTooLarge, WriterFailed}
 use Rattle.std.proofs.lemmas.Bool.Decides.{nat_tests}
 use Rattle.std.specs.Option.{option_or}
-use Rattle.lsm_files.specs.Failed.{failed_fault}
+use Rattle.lsm_formats.specs.Failed.{failed_fault}
 use Rattle.lsm_section_writers.specs.Given.{GivenKeys, IsSomePart, KeyPart, given_by, keys_in, no_keys, parts_of}
 use Rattle.lsm_section_writers.specs.Rising.{AreRising, end_entry}
 use Rattle.sst_filters.specs.Filter.{BloomFilter, IsBuilt, payload_of}
 use Rattle.sst_filters.specs.Policy.{bound_for, fault_for, size_for, tenths_of}
 use Rattle.sst_filters.specs.declared.policy.BloomConstructionPolicy.{BloomConstructionPolicy}
-use Rattle.lsm_files.specs.declared.options.FilterKind.TheVariants.{Full, Partitioned}
-use Rattle.lsm_files.specs.File.{HasNoFilter}
-use Rattle.lsm_files.specs.Filters.{IsFilterFor, filter_block, filter_partition, filter_partitions, last_of_keys}
-use Rattle.lsm_files.specs.Fits.{SectionFits}
-use Rattle.lsm_files.specs.Layout.{Sections, appended}
-use Rattle.lsm_files.specs.Partitions.{Partition, handles_block, tops_from}
-use Rattle.lsm_files.proofs.BlockLengths.{length-block}
+use Rattle.lsm_formats.specs.declared.options.FilterKind.TheVariants.{Full, Partitioned}
+use Rattle.lsm_formats.specs.File.{HasNoFilter}
+use Rattle.lsm_formats.specs.Filters.{IsFilterFor, filter_block, filter_partition, filter_partitions, last_of_keys}
+use Rattle.lsm_formats.specs.Fits.{SectionFits}
+use Rattle.lsm_formats.specs.Layout.{Sections, appended}
+use Rattle.lsm_formats.specs.Partitions.{Partition, handles_block, tops_from}
+use Rattle.lsm_formats.proofs.BlockLengths.{length-block}
 use Rattle.lsm_section_writers.specs.Held.{AreFiltersOf, CutPart, CutParts, end_keys, filters_of, Hashes, HoldsAll, HoldsHashes, partition_of}
-use Rattle.lsm_files.specs.Failed.{section_fault}
+use Rattle.lsm_formats.specs.Failed.{section_fault}
 use Rattle.lsm_section_writers.specs.FilterRefusing.{end_handle, given_fault, key_parts_bound, keys_fault, top_fault}
 use Rattle.lsm_section_writers.specs.Writing.{part_sections, tops_block, tops_of, WritesParts}
 use Rattle.lsm_section_writers.proofs.Behind.{bytes_stay, front_begun, section_behind, section_more}

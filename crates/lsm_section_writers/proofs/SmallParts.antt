@@ -6,9 +6,9 @@ use Rattle.sst_entries.specs.declared.error.Error.{Error}
 use Rattle.sst_entries.specs.declared.error.Error.TheVariants.{BlockTooLarge}
 use Rattle.sst_filters.specs.Policy.{bound_for, fault_for, size_for, tenths_of}
 use Rattle.sst_filters.specs.declared.policy.BloomConstructionPolicy.{BloomConstructionPolicy}
-use Rattle.lsm_files.specs.declared.options.FilterKind.{FilterKind}
-use Rattle.lsm_files.specs.declared.options.FilterKind.TheVariants.{Full, Partitioned}
-use Rattle.lsm_files.specs.Filters.{is_full_filter}
+use Rattle.lsm_formats.specs.declared.options.FilterKind.{FilterKind}
+use Rattle.lsm_formats.specs.declared.options.FilterKind.TheVariants.{Full, Partitioned}
+use Rattle.lsm_formats.specs.Filters.{is_full_filter}
 use Rattle.lsm_section_writers.specs.Cutting.{waiting_by}
 use Rattle.lsm_section_writers.specs.Given.{given_by}
 use Rattle.lsm_section_writers.specs.FilterRefusing.{cut_fault, partition_size, register_fault}

@@ -9,9 +9,9 @@ use Rattle.sst_entries.proofs.Strictness.{strict_alone}
 use Rattle.sst_blocks.specs.Handle.{Handle}
 use Rattle.sst_blocks.specs.Handles.{AreStrictHandles, end_of}
 use Rattle.sst_entries.proofs.OrderLemmas.{before_trans}
-use Rattle.lsm_files.specs.Parts.{AreParts, joined_parts, parts_by}
-use Rattle.lsm_files.specs.Partitions.{last_end}
-use Rattle.lsm_files.proofs.PartLaws.{are_parts_of}
+use Rattle.lsm_formats.specs.Parts.{AreParts, joined_parts, parts_by}
+use Rattle.lsm_formats.specs.Partitions.{last_end}
+use Rattle.lsm_formats.proofs.PartLaws.{are_parts_of}
 
 -- no handle
 pub strict_none : AreStrictHandles []

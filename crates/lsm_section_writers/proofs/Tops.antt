@@ -16,9 +16,9 @@ use Rattle.sst_blocks.specs.Encoding.{handles_fault, is_long_key, key_fault}
 use Rattle.sst_blocks.specs.Handle.{Handle}
 use Rattle.sst_blocks.specs.Handles.{AreStrictHandles, end_of, handles_payload}
 use Rattle.sst_blocks.specs.Place.{Place}
-use Rattle.lsm_files.specs.Parts.{parts_by}
-use Rattle.lsm_files.specs.Partitions.{handles_block, index_tops, last_end}
-use Rattle.lsm_files.proofs.BlockLengths.{length-block}
+use Rattle.lsm_formats.specs.Parts.{parts_by}
+use Rattle.lsm_formats.specs.Partitions.{handles_block, index_tops, last_end}
+use Rattle.lsm_formats.proofs.BlockLengths.{length-block}
 use Rattle.lsm_section_writers.proofs.Strict.{part_ends_strict}
 
 -- the last handle of a part tells its end

@@ -12,9 +12,9 @@ use Rattle.sst_blocks.specs.declared.block_type.BlockType.TheVariants.{Filter}
 use Rattle.sst_blocks.specs.Block.{Loaded, load_told}
 use Rattle.sst_blocks.specs.Handle.{Handle}
 use Rattle.sst_filters.specs.Filter.{admits, filter_in}
-use Rattle.lsm_files.specs.declared.options.FilterKind.{FilterKind}
-use Rattle.lsm_files.specs.declared.options.FilterKind.TheVariants.{Full, Partitioned}
-use Rattle.lsm_files.specs.Partitions.{handles_block}
+use Rattle.lsm_formats.specs.declared.options.FilterKind.{FilterKind}
+use Rattle.lsm_formats.specs.declared.options.FilterKind.TheVariants.{Full, Partitioned}
+use Rattle.lsm_formats.specs.Partitions.{handles_block}
 use Rattle.lsm_section_writers.specs.Given.{GivenKeys, all_keys}
 
 -- a key is one of a list

@@ -1,8 +1,8 @@
 -- What a writer of either kind holds, and the same writer with other options.
 use Rattle.std.specs.Prelude.{ℕ, Bool}
 use Rattle.sst_filters.specs.declared.policy.BloomConstructionPolicy.{BloomConstructionPolicy}
-use Rattle.lsm_files.specs.declared.options.FilterKind.{FilterKind}
-use Rattle.lsm_files.specs.declared.options.FilterKind.TheVariants.{Full, Partitioned}
+use Rattle.lsm_formats.specs.declared.options.FilterKind.{FilterKind}
+use Rattle.lsm_formats.specs.declared.options.FilterKind.TheVariants.{Full, Partitioned}
 use Rattle.lsm_section_writers.specs.Given.{GivenKeys}
 use Rattle.lsm_section_writers.specs.Held.{HoldsHashes, HoldsParts}
 use Rattle.lsm_section_writers.specs.declared.filter_either.FilterWriterImpl.{FilterWriterImpl}

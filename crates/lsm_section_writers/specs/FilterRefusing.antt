@@ -7,11 +7,11 @@ use Rattle.sst_blocks.specs.Encoding.{handles_fault}
 use Rattle.sst_blocks.specs.Handle.{Handle}
 use Rattle.sst_filters.specs.declared.policy.BloomConstructionPolicy.{BloomConstructionPolicy}
 use Rattle.sst_filters.specs.Policy.{bound_for, fault_for, tenths_of}
-use Rattle.lsm_files.specs.declared.options.FilterKind.{FilterKind}
-use Rattle.lsm_files.specs.declared.options.FilterKind.TheVariants.{Full, Partitioned}
-use Rattle.lsm_files.specs.Failed.{section_fault}
-use Rattle.lsm_files.specs.Filters.{is_full_filter, last_of_keys}
-use Rattle.lsm_files.specs.Parts.{parts_by}
+use Rattle.lsm_formats.specs.declared.options.FilterKind.{FilterKind}
+use Rattle.lsm_formats.specs.declared.options.FilterKind.TheVariants.{Full, Partitioned}
+use Rattle.lsm_formats.specs.Failed.{section_fault}
+use Rattle.lsm_formats.specs.Filters.{is_full_filter, last_of_keys}
+use Rattle.lsm_formats.specs.Parts.{parts_by}
 use Rattle.lsm_section_writers.specs.Cutting.{waiting_by}
 use Rattle.lsm_section_writers.specs.Given.{GivenKeys, KeyPart, keys_in, parts_of}
 

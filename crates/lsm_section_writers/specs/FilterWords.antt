@@ -7,11 +7,11 @@ pub use Rattle.sst_filters.specs.Policy.{fault_for, size_for, tenths_of}
 pub use Rattle.sst_blocks.specs.Block.{header_len}
 pub use Rattle.sst_blocks.specs.Encoding.{handles_fault}
 pub use Rattle.sst_blocks.specs.Handles.{AreStrictHandles}
-pub use Rattle.lsm_files.specs.File.{HasNoFilter}
-pub use Rattle.lsm_files.specs.Filters.{IsFilterFor, filter_block}
-pub use Rattle.lsm_files.specs.Fits.{SectionFits}
-pub use Rattle.lsm_files.specs.Layout.{appended}
-pub use Rattle.lsm_files.specs.Partitions.{handles_block}
+pub use Rattle.lsm_formats.specs.File.{HasNoFilter}
+pub use Rattle.lsm_formats.specs.Filters.{IsFilterFor, filter_block}
+pub use Rattle.lsm_formats.specs.Fits.{SectionFits}
+pub use Rattle.lsm_formats.specs.Layout.{appended}
+pub use Rattle.lsm_formats.specs.Partitions.{handles_block}
 pub use Rattle.lsm_section_writers.specs.Answering.{IsAdmitted, was_given}
 pub use Rattle.lsm_section_writers.specs.Given.{GivenKeys, all_keys, given_by, no_keys, with_key}
 pub use Rattle.lsm_section_writers.specs.Held.{Cuts, HoldsAll, HoldsHashes, HoldsParts}

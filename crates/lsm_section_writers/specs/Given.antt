@@ -1,10 +1,10 @@
 -- The keys that a writer of a filter was given: the parts that were cut off, and what is pending.
 use Rattle.std.specs.Prelude.{ℕ, ◌<◌, List, [], ◌∷◌, ◌++◌, length, map, if◌then◌else◌}
 use Rattle.sst_filters.specs.declared.policy.BloomConstructionPolicy.{BloomConstructionPolicy}
-use Rattle.lsm_files.specs.declared.options.FilterKind.{FilterKind}
-use Rattle.lsm_files.specs.declared.options.FilterKind.TheVariants.{Full, Partitioned}
-use Rattle.lsm_files.specs.Filters.{is_full_filter}
-use Rattle.lsm_files.specs.Parts.{joined_parts}
+use Rattle.lsm_formats.specs.declared.options.FilterKind.{FilterKind}
+use Rattle.lsm_formats.specs.declared.options.FilterKind.TheVariants.{Full, Partitioned}
+use Rattle.lsm_formats.specs.Filters.{is_full_filter}
+use Rattle.lsm_formats.specs.Parts.{joined_parts}
 use Rattle.lsm_section_writers.specs.Cutting.{closed_by, waiting_by}
 
 -- the keys of a part, and the policy in force when it was cut

@@ -8,8 +8,8 @@ use Rattle.sst_filters.specs.KeyHash.{hash_of}
 use Rattle.sst_filters.specs.declared.policy.BloomConstructionPolicy.{BloomConstructionPolicy}
 use Rattle.sst_filters.specs.Filter.{BloomFilter, payload_of}
 use Rattle.sst_filters.specs.Policy.{bound_for, tenths_of}
-use Rattle.lsm_files.specs.Filters.{IsFilterFor, last_of_keys}
-use Rattle.lsm_files.specs.Partitions.{Partition}
+use Rattle.lsm_formats.specs.Filters.{IsFilterFor, last_of_keys}
+use Rattle.lsm_formats.specs.Partitions.{Partition}
 use Rattle.lsm_section_writers.specs.Given.{GivenKeys, IsSomePart, KeyPart, keys_in, parts_of}
 use Rattle.lsm_section_writers.specs.FilterRefusing.{key_parts_bound}
 

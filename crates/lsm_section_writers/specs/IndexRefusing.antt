@@ -6,11 +6,11 @@ use Rattle.sst_sections.specs.declared.version.TableVersion.TheVariants.{V4}
 use Rattle.sst_blocks.specs.Bounds.{index_block_bound_of}
 use Rattle.sst_blocks.specs.Encoding.{handles_fault}
 use Rattle.sst_blocks.specs.Handle.{Handle}
-use Rattle.lsm_files.specs.Failed.{failed_fault, section_fault}
-use Rattle.lsm_files.specs.Parts.{parts_by}
-use Rattle.lsm_files.specs.Partitions.{index_tops, is_full_index}
-use Rattle.lsm_files.specs.declared.options.IndexKind.{IndexKind}
-use Rattle.lsm_files.specs.declared.options.IndexKind.TheVariants.{Full, Partitioned}
+use Rattle.lsm_formats.specs.Failed.{failed_fault, section_fault}
+use Rattle.lsm_formats.specs.Parts.{parts_by}
+use Rattle.lsm_formats.specs.Partitions.{index_tops, is_full_index}
+use Rattle.lsm_formats.specs.declared.options.IndexKind.{IndexKind}
+use Rattle.lsm_formats.specs.declared.options.IndexKind.TheVariants.{Full, Partitioned}
 
 -- what a part refuses behind blocks with so many bytes at most: its own block, then the section so
 -- far

@@ -8,13 +8,13 @@ use Rattle.sst_sections.specs.declared.section.SectionName.TheVariants.{FilterTl
 use Rattle.sst_blocks.specs.Handle.{Handle}
 use Rattle.sst_filters.specs.declared.policy.BloomConstructionPolicy.{BloomConstructionPolicy}
 use Rattle.sst_filters.specs.Filter.{BloomFilter}
-use Rattle.lsm_files.specs.declared.options.FilterKind.{FilterKind}
-use Rattle.lsm_files.specs.declared.options.FilterKind.TheVariants.{Full}
-use Rattle.lsm_files.specs.Filters.{AreFiltersFor, filter_block}
-use Rattle.lsm_files.specs.Fits.{SectionFits}
-use Rattle.lsm_files.specs.Kinds.{filter_count, filter_parts, filter_sections}
-use Rattle.lsm_files.specs.Layout.{Sections, appended}
-use Rattle.lsm_files.specs.Partitions.{handles_block, tops_from}
+use Rattle.lsm_formats.specs.declared.options.FilterKind.{FilterKind}
+use Rattle.lsm_formats.specs.declared.options.FilterKind.TheVariants.{Full}
+use Rattle.lsm_formats.specs.Filters.{AreFiltersFor, filter_block}
+use Rattle.lsm_formats.specs.Fits.{SectionFits}
+use Rattle.lsm_formats.specs.Kinds.{filter_count, filter_parts, filter_sections}
+use Rattle.lsm_formats.specs.Layout.{Sections, appended}
+use Rattle.lsm_formats.specs.Partitions.{handles_block, tops_from}
 use Rattle.lsm_section_writers.specs.Given.{GivenKeys, IsSomePart, keys_in, parts_of}
 use Rattle.lsm_section_writers.specs.Held.{AreFiltersOf, CutPart, filters_of, partition_of}
 

@@ -2,7 +2,7 @@
 ghost use Rattle.std.specs.Prelude.{◌≡◌, ℕ, List, [], false, length, map, take, IfOk};
 ghost use Rattle.lsm_section_writers.specs.FilterWords.{Faults, HasNoFilter, HoldsHashes, WritesParts};
 ghost use Rattle.lsm_section_writers.specs.FilterWords.{fault_for, hash_of, given_by, no_keys, tenths_of};
-ghost use Rattle.lsm_files.specs.declared.options.FilterKind.TheVariants.{Full};
+ghost use Rattle.lsm_formats.specs.declared.options.FilterKind.TheVariants.{Full};
 
 use crate::build::build_from_buffer;
 use crate::filter_writer::FilterWriter;
@@ -50,7 +50,7 @@ impl<A: Allocator> FullFilterWriter<A> {
 
 impl<A: Allocator + Clone> FilterWriter<A> for FullFilterWriter<A> {
     ghost use Rattle.lsm_section_writers.specs.Held.{HoldsHashes};
-    ghost use Rattle.lsm_files.specs.declared.options.FilterKind.TheVariants.{Full};
+    ghost use Rattle.lsm_formats.specs.declared.options.FilterKind.TheVariants.{Full};
 
     ghost kind = { λ _. Full };
 

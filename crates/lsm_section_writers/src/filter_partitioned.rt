@@ -10,7 +10,7 @@ ghost use Rattle.lsm_section_writers.specs.FilterWords.{keys_fault, no_keys, par
 ghost use Rattle.lsm_section_writers.specs.FilterWords.{register_fault, size_for, slot_index, tenths_of};
 ghost use Rattle.lsm_section_writers.specs.FilterWords.{top_fault, tops_block, tops_of, with_key};
 ghost use Rattle.std.specs.List.{flat_map};
-ghost use Rattle.lsm_files.specs.declared.options.FilterKind.TheVariants.{Partitioned};
+ghost use Rattle.lsm_formats.specs.declared.options.FilterKind.TheVariants.{Partitioned};
 ghost use Rattle.sst_entries.specs.declared.error.Error.TheVariants.{OutOfMemory};
 ghost use Rattle.sst_sections.specs.declared.section.SectionName.TheVariants.{FilterTli};
 ghost use Rattle.sst_sections.specs.declared.version.TableVersion.TheVariants.{V4};
@@ -182,7 +182,7 @@ impl<A: Allocator + Clone> PartitionedFilterWriter<A> {
 
 impl<A: Allocator + Clone> FilterWriter<A> for PartitionedFilterWriter<A> {
     ghost use Rattle.lsm_section_writers.specs.Held.{HoldsParts};
-    ghost use Rattle.lsm_files.specs.declared.options.FilterKind.TheVariants.{Partitioned};
+    ghost use Rattle.lsm_formats.specs.declared.options.FilterKind.TheVariants.{Partitioned};
 
     ghost kind = { λ w. Partitioned w.size };
 

@@ -5,7 +5,7 @@ ghost use Rattle.lsm_section_writers.specs.FilterWords.{WritesFilter, WritesPart
 ghost use Rattle.lsm_section_writers.specs.FilterWords.{all_keys, filter_fault, given_by, given_fault};
 ghost use Rattle.lsm_section_writers.specs.FilterWords.{no_keys, partition_size, register_fault};
 ghost use Rattle.lsm_section_writers.specs.FilterWords.{tenths_of, was_given, with_key};
-ghost use Rattle.lsm_files.specs.declared.options.FilterKind.{FilterKind};
+ghost use Rattle.lsm_formats.specs.declared.options.FilterKind.{FilterKind};
 ghost use Rattle.sst_sections.specs.Sections.{Written};
 ghost use Rattle.sst_filters.specs.declared.policy.BloomConstructionPolicy.{BloomConstructionPolicy};
 
@@ -18,14 +18,14 @@ pub trait FilterWriter<A: Allocator> {
     ghost use Rattle.std.specs.Option.{option_or};
     ghost use Rattle.sst_entries.specs.Error.{Faults, FaultsFirst};
     ghost use Rattle.sst_filters.specs.declared.policy.BloomConstructionPolicy.{BloomConstructionPolicy};
-    ghost use Rattle.lsm_files.specs.Failed.{failed_fault};
-    ghost use Rattle.lsm_files.specs.File.{HasNoFilter};
-    ghost use Rattle.lsm_files.specs.declared.options.FilterKind.{FilterKind};
+    ghost use Rattle.lsm_formats.specs.Failed.{failed_fault};
+    ghost use Rattle.lsm_formats.specs.File.{HasNoFilter};
+    ghost use Rattle.lsm_formats.specs.declared.options.FilterKind.{FilterKind};
     ghost use Rattle.lsm_section_writers.specs.Given.{GivenKeys, no_keys, with_key};
     ghost use Rattle.lsm_section_writers.specs.FilterRefusing.{given_fault, register_fault};
     ghost use Rattle.lsm_section_writers.specs.Rising.{Rises};
     ghost use Rattle.lsm_section_writers.specs.Writing.{WritesParts};
-    ghost use Rattle.lsm_files.specs.Kinds.{filter_with_size};
+    ghost use Rattle.lsm_formats.specs.Kinds.{filter_with_size};
 
     /// The kind of the filter.
     ghost kind: { Self → FilterKind };

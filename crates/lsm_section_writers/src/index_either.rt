@@ -7,7 +7,7 @@ use crate::held::HeldHandles;
 use crate::index_full::FullIndexWriter;
 use crate::index_partitioned::PartitionedIndexWriter;
 use crate::index_writer::BlockIndexWriter;
-use lsm_files::IndexKind;
+use lsm_formats::IndexKind;
 use sst_blocks::{CompressionType, Error, KeyedBlockHandle, SectionWriter};
 use std::alloc::{Allocator, Global};
 

@@ -4,7 +4,7 @@ ghost use Rattle.lsm_section_writers.specs.IndexWords.{AreStrictHandles, Faults,
 ghost use Rattle.lsm_section_writers.specs.IndexWords.{appended};
 ghost use Rattle.lsm_section_writers.specs.IndexWords.{handles_block, handles_fault};
 ghost use Rattle.lsm_section_writers.specs.IndexEither.{registered_by};
-ghost use Rattle.lsm_files.specs.declared.options.IndexKind.TheVariants.{Full};
+ghost use Rattle.lsm_formats.specs.declared.options.IndexKind.TheVariants.{Full};
 ghost use Rattle.sst_sections.specs.declared.section.SectionName.TheVariants.{Tli};
 ghost use Rattle.sst_sections.specs.declared.version.TableVersion.TheVariants.{V4};
 
@@ -12,7 +12,7 @@ use crate::block::{write_empty_top_level, write_top_level};
 use crate::held::HeldHandles;
 use crate::index_either::IndexWriterImpl;
 use crate::index_writer::BlockIndexWriter;
-use lsm_files::IndexKind;
+use lsm_formats::IndexKind;
 use sst_blocks::{CompressionType, Error, KeyedBlockHandle, SectionWriter};
 use std::alloc::{Allocator, Global};
 use std::marker::Model;
@@ -27,7 +27,7 @@ pub struct FullIndexWriter<A: Allocator = Global> {
 
 impl<A: Allocator> Model for FullIndexWriter<A> {
     ghost use Rattle.sst_blocks.specs.Handles.{AreStrictHandles};
-    ghost use Rattle.lsm_files.specs.declared.options.IndexKind.TheVariants.{Full};
+    ghost use Rattle.lsm_formats.specs.declared.options.IndexKind.TheVariants.{Full};
     ghost use Rattle.lsm_section_writers.specs.Registered.{Registered};
 
     ghost Value = { Registered };

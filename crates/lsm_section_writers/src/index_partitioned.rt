@@ -9,7 +9,7 @@ ghost use Rattle.lsm_section_writers.specs.IndexWords.{capped, handle_size, hand
 ghost use Rattle.lsm_section_writers.specs.IndexWords.{index_block_bound_of};
 ghost use Rattle.lsm_section_writers.specs.IndexWords.{index_tops, is_full_index, kind_fault, part_fault};
 ghost use Rattle.lsm_section_writers.specs.IndexWords.{partitioned_index, parts_by, parts_fault};
-ghost use Rattle.lsm_files.specs.declared.options.IndexKind.TheVariants.{Partitioned};
+ghost use Rattle.lsm_formats.specs.declared.options.IndexKind.TheVariants.{Partitioned};
 ghost use Rattle.sst_entries.specs.declared.error.Error.TheVariants.{OutOfMemory};
 ghost use Rattle.sst_sections.specs.declared.version.TableVersion.TheVariants.{V4};
 
@@ -35,7 +35,7 @@ pub struct PartitionedIndexWriter<A: Allocator = Global> {
 
 impl<A: Allocator> Model for PartitionedIndexWriter<A> {
     ghost use Rattle.sst_blocks.specs.Handles.{AreStrictHandles};
-    ghost use Rattle.lsm_files.specs.declared.options.IndexKind.TheVariants.{Partitioned};
+    ghost use Rattle.lsm_formats.specs.declared.options.IndexKind.TheVariants.{Partitioned};
     ghost use Rattle.lsm_section_writers.specs.Registered.{Registered};
 
     ghost Value = { Registered };

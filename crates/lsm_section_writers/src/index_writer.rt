@@ -12,12 +12,12 @@ pub trait BlockIndexWriter<A: Allocator> {
     ghost use Rattle.sst_sections.specs.declared.version.TableVersion.TheVariants.{V4};
     ghost use Rattle.sst_blocks.specs.Handle.{Handle};
     ghost use Rattle.sst_blocks.specs.Handles.{AreStrictHandles};
-    ghost use Rattle.lsm_files.specs.Failed.{failed_fault};
-    ghost use Rattle.lsm_files.specs.File.{HasNoIndex};
-    ghost use Rattle.lsm_files.specs.Fits.{SectionFits};
-    ghost use Rattle.lsm_files.specs.Kinds.{index_parts, index_sections, index_with_size};
-    ghost use Rattle.lsm_files.specs.Layout.{appended};
-    ghost use Rattle.lsm_files.specs.declared.options.IndexKind.{IndexKind};
+    ghost use Rattle.lsm_formats.specs.Failed.{failed_fault};
+    ghost use Rattle.lsm_formats.specs.File.{HasNoIndex};
+    ghost use Rattle.lsm_formats.specs.Fits.{SectionFits};
+    ghost use Rattle.lsm_formats.specs.Kinds.{index_parts, index_sections, index_with_size};
+    ghost use Rattle.lsm_formats.specs.Layout.{appended};
+    ghost use Rattle.lsm_formats.specs.declared.options.IndexKind.{IndexKind};
     ghost use Rattle.lsm_section_writers.specs.IndexRefusing.{index_fault};
 
     /// The kind of the index.

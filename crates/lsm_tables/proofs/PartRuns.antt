@@ -8,7 +8,7 @@ use Rattle.std.proofs.lemmas.List.{map-append, take_all, take_more}
 use Rattle.sst_entries.specs.declared.error.Error.{Error}
 use Rattle.sst_entries.specs.Entry.{Entry}
 use Rattle.sst_entries.specs.Strict.{IsStrict}
-use Rattle.lsm_files.specs.Chunks.{joined}
+use Rattle.lsm_formats.specs.Chunks.{joined}
 use Rattle.lsm_ranges.specs.Run.{IsInOrder}
 use Rattle.lsm_readers.specs.Table.{OpenTable}
 use Rattle.lsm_sorted.specs.declared.compaction.Rules.{Rules}

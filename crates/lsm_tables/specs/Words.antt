@@ -5,8 +5,8 @@ pub use Rattle.sst_entries.specs.Error.{Faults}
 pub use Rattle.sst_entries.specs.Stream.{CanDeal}
 pub use Rattle.lsm_ranges.specs.Run.{IsInOrder}
 pub use Rattle.lsm_sorted.specs.Compaction.{kept, unfiltered}
-pub use Rattle.lsm_files.specs.Facts.{highest_seqno}
-pub use Rattle.lsm_files.specs.Options.{default_options}
+pub use Rattle.lsm_formats.specs.Facts.{highest_seqno}
+pub use Rattle.lsm_formats.specs.Options.{default_options}
 pub use Rattle.lsm_writers.specs.Tables.{AreTables}
 pub use Rattle.lsm_writers.specs.Writing.{IsWritable}
 pub use Rattle.lsm_readers.specs.Answer.{lift}

@@ -1,7 +1,7 @@
 //! A list that is written as a table, opened and read.
 ghost use Rattle.std.specs.Prelude.{◌≡◌, [], IfOk, MatchOption};
 ghost use Rattle.sst_entries.specs.Error.{Faults};
-ghost use Rattle.lsm_files.specs.Options.{label_of};
+ghost use Rattle.lsm_formats.specs.Options.{label_of};
 ghost use Rattle.lsm_writers.specs.Writing.{IsWritable};
 ghost use Rattle.lsm_compactions.specs.Written.{IsOpened, ReadsList, opening_fault};
 

@@ -14,10 +14,10 @@ use Rattle.sst_entries.specs.Entry.{Entry}
 use Rattle.sst_entries.specs.Key.{key_lt, same_key}
 use Rattle.sst_entries.specs.Strict.{IsStrict, IsStrictAfter, is_before, last_of, may_follow}
 use Rattle.sst_entries.proofs.Booleans.{not_is}
-use Rattle.lsm_files.specs.Chunks.{is_full, joined}
-use Rattle.lsm_files.specs.Facts.{starts_key}
-use Rattle.lsm_files.specs.Failed.{failed_fault}
-use Rattle.lsm_files.specs.Index.{last_entry}
+use Rattle.lsm_formats.specs.Chunks.{is_full, joined}
+use Rattle.lsm_formats.specs.Facts.{starts_key}
+use Rattle.lsm_formats.specs.Failed.{failed_fault}
+use Rattle.lsm_formats.specs.Index.{last_entry}
 use Rattle.lsm_writers.specs.declared.writer.FinishedTable.{FinishedTable}
 use Rattle.lsm_writers.specs.Cut.{rest_chunk}
 use Rattle.lsm_writers.specs.Tables.{AddsTable, AreCuts, AreFinished, AreInKeyOrder, AreTables, GoesOn, all_written, apart, first_label, gained_all, label_before, list_in, lists_in, run_fault, tables_of}

@@ -4,12 +4,12 @@ use Rattle.std.specs.Prelude.{None}
 use Rattle.std.specs.List.{AllByRecursion}
 use Rattle.sst_entries.specs.Entry.{Entry}
 use Rattle.sst_entries.specs.Strict.{IsStrictAfter, last_of}
-use Rattle.lsm_files.specs.Chunks.{joined}
-use Rattle.lsm_files.specs.Facts.{count_after, lowest_seqno, highest_seqno}
-use Rattle.lsm_files.specs.Filters.{keys_after}
-use Rattle.lsm_files.specs.Fits.{LabelFits}
-use Rattle.lsm_files.specs.declared.label.Label.{Label}
-use Rattle.lsm_files.specs.declared.options.Options.{Options}
+use Rattle.lsm_formats.specs.Chunks.{joined}
+use Rattle.lsm_formats.specs.Facts.{count_after, lowest_seqno, highest_seqno}
+use Rattle.lsm_formats.specs.Filters.{keys_after}
+use Rattle.lsm_formats.specs.Fits.{LabelFits}
+use Rattle.lsm_formats.specs.declared.label.Label.{Label}
+use Rattle.lsm_formats.specs.declared.options.Options.{Options}
 use Rattle.lsm_writers.specs.declared.writer.meta.Metadata.{Metadata}
 use Rattle.lsm_writers.specs.Counts.{no_counts}
 use Rattle.lsm_writers.specs.Cut.{Cut}

@@ -7,7 +7,7 @@ use Rattle.std.proofs.lemmas.List.Concat.{flat_map-append}
 use Rattle.std.proofs.lemmas.Bool.{eq-eqb, ne_eqb}
 use Rattle.sst_entries.specs.Entry.{Entry}
 use Rattle.sst_entries.proofs.Booleans.{or_right}
-use Rattle.lsm_files.specs.Chunks.{joined, is_full, is_spilled, ends_after, IsChunk, Ends, AreChunksFrom, AreChunks}
+use Rattle.lsm_formats.specs.Chunks.{joined, is_full, is_spilled, ends_after, IsChunk, Ends, AreChunksFrom, AreChunks}
 use Rattle.lsm_writers.specs.Cut.{rest_chunk}
 use Rattle.lsm_writers.specs.Held.{IsShortest}
 use Rattle.lsm_writers.specs.Writing.{early_ends}

@@ -8,12 +8,12 @@ use Rattle.sst_entries.specs.Entry.{Entry}
 use Rattle.sst_entries.specs.Strict.{last_of}
 use Rattle.sst_entries.proofs.Booleans.{and_parts}
 use Rattle.sst_entries.proofs.Lists.{all_append}
-use Rattle.lsm_files.specs.declared.label.Label.{Label}
-use Rattle.lsm_files.specs.declared.options.Options.{Options}
-use Rattle.lsm_files.specs.Chunks.{is_full}
-use Rattle.lsm_files.specs.Facts.{starts_key}
-use Rattle.lsm_files.specs.Index.{data_section}
-use Rattle.lsm_files.specs.Parts.{parts_after, rest_part}
+use Rattle.lsm_formats.specs.declared.label.Label.{Label}
+use Rattle.lsm_formats.specs.declared.options.Options.{Options}
+use Rattle.lsm_formats.specs.Chunks.{is_full}
+use Rattle.lsm_formats.specs.Facts.{starts_key}
+use Rattle.lsm_formats.specs.Index.{data_section}
+use Rattle.lsm_formats.specs.Parts.{parts_after, rest_part}
 use Rattle.lsm_writers.specs.Cut.{rest_chunk}
 use Rattle.lsm_writers.specs.Held.{IsUnfilled}
 use Rattle.lsm_writers.specs.Tables.{AreCuts, IsCut, apart, cut_len, full_chunks, gained_all, is_due}

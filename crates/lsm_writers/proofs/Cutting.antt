@@ -23,12 +23,12 @@ use Rattle.sst_blocks.specs.Reading.{entries_in}
 use Rattle.sst_sections.specs.Sections.{Written}
 use Rattle.sst_entries.specs.Strict.{IsStrictAfter, IsStrict, last_of}
 use Rattle.sst_sections.proofs.Numbers.{wide4, wide8}
-use Rattle.lsm_files.specs.Chunks.{joined}
+use Rattle.lsm_formats.specs.Chunks.{joined}
 use Rattle.lsm_writers.specs.declared.writer.meta.Metadata.{Metadata}
 use Rattle.lsm_writers.specs.Cut.{chunks_in, IsReadable, AreCut, with_cut, rest_chunk}
-use Rattle.lsm_files.specs.Facts.{last_key}
-use Rattle.lsm_files.specs.Fits.{BlockFits}
-use Rattle.lsm_files.specs.Index.{data_block, data_section, handles, handles_from, handle_of, block_size, last_entry}
+use Rattle.lsm_formats.specs.Facts.{last_key}
+use Rattle.lsm_formats.specs.Fits.{BlockFits}
+use Rattle.lsm_formats.specs.Index.{data_block, data_section, handles, handles_from, handle_of, block_size, last_entry}
 use Rattle.sst_entries.proofs.Lists.{all_append, all_more}
 use Rattle.lsm_writers.proofs.Orders.{last_of-append, last_of_cons, HasSome, handles_strict}
 

@@ -16,14 +16,14 @@ use Rattle.sst_blocks.proofs.Entries.{entries_read, length-spelled}
 use Rattle.sst_entries.specs.Entry.{Entry}
 use Rattle.sst_entries.specs.Strict.{IsStrictAfter, IsStrict}
 use Rattle.sst_entries.proofs.Lists.{all_front, all_behind}
-use Rattle.lsm_files.specs.Chunks.{joined}
-use Rattle.lsm_files.specs.File.{index_part, filter_part, closing_sections, sections_of}
-use Rattle.lsm_files.specs.Fits.{BlockFits, EntryFits}
-use Rattle.lsm_files.specs.Index.{data_block, data_section}
-use Rattle.lsm_files.specs.Kinds.{index_sections}
-use Rattle.lsm_files.specs.Layout.{Sections, bytes_in, laid}
-use Rattle.lsm_files.specs.declared.options.IndexKind.{IndexKind}
-use Rattle.lsm_files.specs.declared.options.IndexKind.TheVariants.{Full as FullIndex, Partitioned as PartitionedIndex}
+use Rattle.lsm_formats.specs.Chunks.{joined}
+use Rattle.lsm_formats.specs.File.{index_part, filter_part, closing_sections, sections_of}
+use Rattle.lsm_formats.specs.Fits.{BlockFits, EntryFits}
+use Rattle.lsm_formats.specs.Index.{data_block, data_section}
+use Rattle.lsm_formats.specs.Kinds.{index_sections}
+use Rattle.lsm_formats.specs.Layout.{Sections, bytes_in, laid}
+use Rattle.lsm_formats.specs.declared.options.IndexKind.{IndexKind}
+use Rattle.lsm_formats.specs.declared.options.IndexKind.TheVariants.{Full as FullIndex, Partitioned as PartitionedIndex}
 use Rattle.lsm_writers.specs.Tables.{leading_chunks, list_in}
 use Rattle.lsm_writers.specs.Writing.{IsFinished, Writing, written}
 use Rattle.lsm_writers.proofs.Cutting.{block_len, len_again, past_header}

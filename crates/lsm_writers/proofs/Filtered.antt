@@ -10,15 +10,15 @@ use Rattle.sst_entries.specs.Entry.{Entry}
 use Rattle.sst_entries.specs.Strict.{IsStrict, last_of}
 use Rattle.sst_filters.specs.declared.policy.BloomConstructionPolicy.{BloomConstructionPolicy}
 use Rattle.sst_filters.specs.Policy.{tenths_of}
-use Rattle.lsm_files.specs.Facts.{starts_key}
-use Rattle.lsm_files.specs.Failed.{failed_fault}
+use Rattle.lsm_formats.specs.Facts.{starts_key}
+use Rattle.lsm_formats.specs.Failed.{failed_fault}
 use Rattle.std.specs.Option.{option_or}
-use Rattle.lsm_files.specs.Filters.{filtered_keys, keys_after}
-use Rattle.lsm_files.specs.Kinds.{filter_count, filter_parts, filter_sections, filter_with_size}
-use Rattle.lsm_files.specs.Layout.{Sections, appended}
-use Rattle.lsm_files.specs.Parts.{parts_after}
-use Rattle.lsm_files.specs.declared.options.FilterKind.{FilterKind}
-use Rattle.lsm_files.specs.declared.options.FilterKind.TheVariants.{Full as FullFilter, Partitioned as PartitionedFilter}
+use Rattle.lsm_formats.specs.Filters.{filtered_keys, keys_after}
+use Rattle.lsm_formats.specs.Kinds.{filter_count, filter_parts, filter_sections, filter_with_size}
+use Rattle.lsm_formats.specs.Layout.{Sections, appended}
+use Rattle.lsm_formats.specs.Parts.{parts_after}
+use Rattle.lsm_formats.specs.declared.options.FilterKind.{FilterKind}
+use Rattle.lsm_formats.specs.declared.options.FilterKind.TheVariants.{Full as FullFilter, Partitioned as PartitionedFilter}
 use Rattle.lsm_section_writers.specs.FilterEither.{HoldsBy, failed_by, kind_by, policy_by}
 use Rattle.lsm_section_writers.specs.Given.{GivenKeys, given_by, no_keys as no_given, with_key}
 use Rattle.lsm_section_writers.specs.Rising.{AreRising, Rises}
@@ -29,7 +29,7 @@ use Rattle.lsm_section_writers.specs.FilterRefusing.{filter_fault, given_fault, 
 use Rattle.lsm_section_writers.specs.Writing.{WritesFilter, WritesParts}
 use Rattle.lsm_section_writers.specs.declared.filter_either.FilterWriterImpl.{FilterWriterImpl}
 use Rattle.lsm_section_writers.specs.declared.filter_either.FilterWriterImpl.TheVariants.{Full as FullWriter, Partitioned as PartitionedWriter}
-use Rattle.lsm_files.specs.Chunks.{joined}
+use Rattle.lsm_formats.specs.Chunks.{joined}
 use Rattle.lsm_writers.specs.Counts.{tally_of}
 use Rattle.lsm_writers.specs.Cut.{rest_chunk}
 use Rattle.lsm_writers.specs.declared.writer.meta.Tally.{Tally}

@@ -12,22 +12,22 @@ use Rattle.sst_entries.specs.Entry.{Entry}
 use Rattle.sst_sections.specs.Fnv.{fnv1a}
 use Rattle.sst_entries.specs.Strict.{IsStrict, last_of}
 use Rattle.lsm_writers.specs.declared.writer.meta.Metadata.{Metadata}
-use Rattle.lsm_files.specs.Chunks.{joined, entry_size, entries_size, is_full, AreChunks}
+use Rattle.lsm_formats.specs.Chunks.{joined, entry_size, entries_size, is_full, AreChunks}
 use Rattle.lsm_writers.specs.Counts.{metadata_of, counted_facts, counted_items, HasShortKeys}
 use Rattle.lsm_writers.specs.Cut.{rest_chunk}
-use Rattle.lsm_files.specs.Facts.{ListFacts, first_key, last_key}
-use Rattle.lsm_files.proofs.KindLemmas.{index_parts_are, filter_parts_are}
-use Rattle.lsm_files.specs.Content.{Content}
-use Rattle.lsm_files.specs.File.{IsContent, counted_blocks, file, filter_part, front_sections, index_part, meta_section, version_section}
-use Rattle.lsm_files.specs.Filters.{AreFiltersFor, filtered_keys}
-use Rattle.lsm_files.specs.Kinds.{AreFilterParts, filter_count, filter_sections, index_parts, index_sections}
-use Rattle.lsm_files.specs.Layout.{Sections, bytes_in, laid, appended}
-use Rattle.lsm_files.specs.Parts.{parts_after}
-use Rattle.lsm_files.specs.declared.options.FilterKind.{FilterKind}
+use Rattle.lsm_formats.specs.Facts.{ListFacts, first_key, last_key}
+use Rattle.lsm_formats.proofs.KindLemmas.{index_parts_are, filter_parts_are}
+use Rattle.lsm_formats.specs.Content.{Content}
+use Rattle.lsm_formats.specs.File.{IsContent, counted_blocks, file, filter_part, front_sections, index_part, meta_section, version_section}
+use Rattle.lsm_formats.specs.Filters.{AreFiltersFor, filtered_keys}
+use Rattle.lsm_formats.specs.Kinds.{AreFilterParts, filter_count, filter_sections, index_parts, index_sections}
+use Rattle.lsm_formats.specs.Layout.{Sections, bytes_in, laid, appended}
+use Rattle.lsm_formats.specs.Parts.{parts_after}
+use Rattle.lsm_formats.specs.declared.options.FilterKind.{FilterKind}
 use Rattle.lsm_section_writers.specs.declared.filter_either.FilterWriterImpl.{FilterWriterImpl}
 use Rattle.lsm_writers.specs.Filtering.{IsFiltered, MayHaveKeys}
-use Rattle.lsm_files.specs.declared.options.IndexKind.{IndexKind}
-use Rattle.lsm_files.specs.declared.options.IndexKind.TheVariants.{Full as FullIndex, Partitioned as PartitionedIndex}
+use Rattle.lsm_formats.specs.declared.options.IndexKind.{IndexKind}
+use Rattle.lsm_formats.specs.declared.options.IndexKind.TheVariants.{Full as FullIndex, Partitioned as PartitionedIndex}
 use Rattle.lsm_section_writers.specs.IndexRefusing.{index_fault, parts_fault}
 use Rattle.lsm_section_writers.specs.FilterRefusing.{filter_fault}
 use Rattle.lsm_section_writers.specs.Writing.{WritesFilter}
@@ -36,21 +36,21 @@ use Rattle.sst_filters.specs.declared.policy.BloomConstructionPolicy.{BloomConst
 use Rattle.sst_sections.specs.Sections.{Written, finished}
 use Rattle.sst_sections.specs.declared.section.SectionName.TheVariants.{Data}
 use Rattle.lsm_writers.proofs.Laying.{laid_more}
-use Rattle.lsm_files.specs.ItemName.{name_of}
-use Rattle.lsm_files.specs.Fits.{BlockFits, EntryFits, LabelFits, SectionFits}
+use Rattle.lsm_formats.specs.ItemName.{name_of}
+use Rattle.lsm_formats.specs.Fits.{BlockFits, EntryFits, LabelFits, SectionFits}
 use Rattle.lsm_section_writers.specs.declared.index_either.IndexWriterImpl.{IndexWriterImpl}
 use Rattle.lsm_section_writers.specs.IndexEither.{registered_by}
 use Rattle.lsm_section_writers.specs.Registered.{Registered}
 use Rattle.lsm_writers.specs.Held.{AreTableParts, IsShortest, IsHeld}
 use Rattle.sst_blocks.specs.Handle.{Handle}
-use Rattle.lsm_files.specs.Index.{data_section, handles, last_entry}
-use Rattle.lsm_files.specs.MetaBlock.{Blocks, meta_entry, meta_items, meta_entries}
-use Rattle.lsm_files.specs.declared.item_name.ItemName.{ItemName}
-use Rattle.lsm_files.specs.declared.item_name.ItemName.TheVariants as item
-use Rattle.lsm_files.proofs.MetaItems.{IsShort, items_each, items_few, items_strict}
-use Rattle.lsm_files.specs.declared.options.Options.{Options}
-use Rattle.lsm_files.specs.declared.label.Label.{Label}
-use Rattle.lsm_files.specs.Failed.{failed_fault}
+use Rattle.lsm_formats.specs.Index.{data_section, handles, last_entry}
+use Rattle.lsm_formats.specs.MetaBlock.{Blocks, meta_entry, meta_items, meta_entries}
+use Rattle.lsm_formats.specs.declared.item_name.ItemName.{ItemName}
+use Rattle.lsm_formats.specs.declared.item_name.ItemName.TheVariants as item
+use Rattle.lsm_formats.proofs.MetaItems.{IsShort, items_each, items_few, items_strict}
+use Rattle.lsm_formats.specs.declared.options.Options.{Options}
+use Rattle.lsm_formats.specs.declared.label.Label.{Label}
+use Rattle.lsm_formats.specs.Failed.{failed_fault}
 use Rattle.lsm_writers.specs.Writing.{Writing, written, spilled, blocks_of, content_of, keys_of_parts, spills_of, cut_writing, sections_fault, finish_fault, IsFinished, WritesTable}
 use Rattle.lsm_writers.proofs.Chunking.{are_chunks}
 use Rattle.sst_entries.proofs.Lists.{all_more, all_behind, all_front}

@@ -9,11 +9,11 @@ use Rattle.sst_sections.specs.declared.version.TableVersion.TheVariants.{V4}
 use Rattle.sst_blocks.specs.Bounds.{data_block_bound_of, entry_bound}
 use Rattle.sst_entries.specs.declared.error.Error.{Error}
 use Rattle.sst_entries.specs.Entry.{Entry}
-use Rattle.lsm_files.specs.Chunks.{is_full, joined}
-use Rattle.lsm_files.specs.Filters.{filtered_keys}
-use Rattle.lsm_files.specs.Fits.{EntryFits}
-use Rattle.lsm_files.specs.Index.{handles}
-use Rattle.lsm_files.specs.Parts.{parts_by}
+use Rattle.lsm_formats.specs.Chunks.{is_full, joined}
+use Rattle.lsm_formats.specs.Filters.{filtered_keys}
+use Rattle.lsm_formats.specs.Fits.{EntryFits}
+use Rattle.lsm_formats.specs.Index.{handles}
+use Rattle.lsm_formats.specs.Parts.{parts_by}
 use Rattle.lsm_section_writers.specs.Cutting.{waiting_after}
 use Rattle.lsm_section_writers.specs.FilterRefusing.{filter_fault}
 use Rattle.lsm_section_writers.specs.IndexRefusing.{index_fault}

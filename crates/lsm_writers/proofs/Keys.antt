@@ -12,8 +12,8 @@ use Rattle.sst_entries.proofs.KeyLemmas.{same_is}
 use Rattle.sst_entries.specs.Strict.{is_before, may_follow, IsStrictAfter, IsStrict, last_of}
 use Rattle.sst_filters.specs.declared.policy.BloomConstructionPolicy.{BloomConstructionPolicy}
 use Rattle.sst_filters.specs.Policy.{tenths_of}
-use Rattle.lsm_files.specs.Facts.{starts_key}
-use Rattle.lsm_files.specs.Filters.{keys_after, keys_of, filtered_keys}
+use Rattle.lsm_formats.specs.Facts.{starts_key}
+use Rattle.lsm_formats.specs.Filters.{keys_after, keys_of, filtered_keys}
 use Rattle.lsm_section_writers.specs.Rising.{AreRising}
 use Rattle.lsm_writers.specs.Filtering.{registered_key}
 

@@ -10,11 +10,11 @@ use Rattle.sst_entries.specs.declared.error.Error.{Error}
 use Rattle.sst_entries.proofs.Booleans.{and_both, and_parts}
 use Rattle.sst_entries.proofs.Lists.{all_behind}
 use Rattle.lsm_writers.specs.declared.writer.FinishedTable.{FinishedTable}
-use Rattle.lsm_files.specs.declared.label.Label.{Label}
-use Rattle.lsm_files.specs.Options.{default_options}
-use Rattle.lsm_files.specs.Table.{IsTable}
+use Rattle.lsm_formats.specs.declared.label.Label.{Label}
+use Rattle.lsm_formats.specs.Options.{default_options}
+use Rattle.lsm_formats.specs.Table.{IsTable}
 use Rattle.lsm_writers.specs.Writing.{early_ends, may_be_written, gained, spills_of, written, IsFinished, IsTableOf, IsWritable, Writing}
-use Rattle.lsm_files.specs.Chunks.{joined, is_full}
+use Rattle.lsm_formats.specs.Chunks.{joined, is_full}
 use Rattle.lsm_writers.proofs.Cutting.{joined_more}
 use Rattle.lsm_writers.proofs.Orders.{strict_back, ends_follow}
 

@@ -9,9 +9,9 @@ use Rattle.sst_entries.specs.Entry.{Entry, entry}
 use Rattle.sst_blocks.specs.Handles.{end_of, AreStrictHandles}
 use Rattle.sst_entries.proofs.OrderLemmas.{before_trans}
 use Rattle.sst_entries.specs.Strict.{is_before, may_follow, IsStrictAfter, IsStrict, last_of}
-use Rattle.lsm_files.specs.Chunks.{joined}
+use Rattle.lsm_formats.specs.Chunks.{joined}
 use Rattle.lsm_writers.specs.Writing.{may_be_written}
-use Rattle.lsm_files.specs.Index.{last_entry, block_size, handle_of, handles_from, handles}
+use Rattle.lsm_formats.specs.Index.{last_entry, block_size, handle_of, handles_from, handles}
 
 -- the last of two lists one after another
 pub last_of-append : (before : Option Entry) (xs ys : List Entry) → last_of before (xs ++ ys) ≡ last_of (last_of before xs) ys

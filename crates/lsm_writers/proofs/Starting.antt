@@ -9,17 +9,17 @@ use Rattle.sst_sections.specs.Sections.{Written, slot_index}
 use Rattle.sst_blocks.specs.Handle.{Handle}
 use Rattle.sst_filters.specs.Filter.{BloomFilter}
 use Rattle.std.specs.List.{flat_map}
-use Rattle.lsm_files.specs.Filters.{filter_block}
-use Rattle.lsm_files.specs.Partitions.{handles_block}
+use Rattle.lsm_formats.specs.Filters.{filter_block}
+use Rattle.lsm_formats.specs.Partitions.{handles_block}
 use Rattle.sst_filters.specs.declared.policy.BloomConstructionPolicy.{BloomConstructionPolicy}
-use Rattle.lsm_files.specs.File.{HasNoMeta, HasNoVersion, version_section}
-use Rattle.lsm_files.specs.Kinds.{index_sections, filter_parts, filter_sections}
-use Rattle.lsm_files.specs.Layout.{appended, laid, starts_from}
+use Rattle.lsm_formats.specs.File.{HasNoMeta, HasNoVersion, version_section}
+use Rattle.lsm_formats.specs.Kinds.{index_sections, filter_parts, filter_sections}
+use Rattle.lsm_formats.specs.Layout.{appended, laid, starts_from}
 use Rattle.lsm_section_writers.specs.Writing.{WritesFilter}
-use Rattle.lsm_files.specs.declared.options.FilterKind.{FilterKind}
-use Rattle.lsm_files.specs.declared.options.FilterKind.TheVariants.{Full as FullFilter, Partitioned as PartitionedFilter}
-use Rattle.lsm_files.specs.declared.options.IndexKind.{IndexKind}
-use Rattle.lsm_files.specs.declared.options.IndexKind.TheVariants.{Full as FullIndex, Partitioned as PartitionedIndex}
+use Rattle.lsm_formats.specs.declared.options.FilterKind.{FilterKind}
+use Rattle.lsm_formats.specs.declared.options.FilterKind.TheVariants.{Full as FullFilter, Partitioned as PartitionedFilter}
+use Rattle.lsm_formats.specs.declared.options.IndexKind.{IndexKind}
+use Rattle.lsm_formats.specs.declared.options.IndexKind.TheVariants.{Full as FullIndex, Partitioned as PartitionedIndex}
 
 index_starts : (P : SectionName × ℕ → Type 0) (k : IndexKind) (at from : ℕ) (hs : List Handle) (parts : List (List Handle)) → ((n : ℕ) → P (Index, n)) → ((n : ℕ) → P (Tli, n)) → All P (starts_from from (index_sections k V4 at hs parts))
 index_starts P FullIndex at from hs parts i t = All-cons P (Tli, from) [] (t from) (All-nil P)

@@ -11,7 +11,7 @@ use Rattle.sst_entries.specs.declared.error.Error.TheVariants.{KeyTooLong, Value
 use Rattle.sst_blocks.specs.Bounds.{data_block_bound_of, entry_bound}
 use Rattle.sst_blocks.specs.Encoding.{is_long_key, length_fault, entries_fault, large_fault}
 use Rattle.sst_entries.specs.Entry.{Entry, entry}
-use Rattle.lsm_files.specs.Chunks.{joined, entry_size, entries_size, is_full}
+use Rattle.lsm_formats.specs.Chunks.{joined, entry_size, entries_size, is_full}
 use Rattle.sst_entries.specs.Strict.{IsStrict, last_of}
 use Rattle.sst_entries.specs.declared.value_type.ValueType.TheVariants.{Value}
 use Rattle.sst_sections.specs.declared.version.TableVersion.TheVariants.{V4}
@@ -19,8 +19,8 @@ use Rattle.lsm_writers.specs.declared.writer.meta.Metadata.{Metadata}
 use Rattle.lsm_writers.specs.declared.writer.meta.Tally.{Tally}
 use Rattle.lsm_writers.specs.Counts.{metadata_of, brought, tally_of, added, with_entry, HasRoom}
 use Rattle.lsm_writers.specs.Cut.{Cut, rest_chunk, with_cut}
-use Rattle.lsm_files.specs.Facts.{count_after, lowest_seqno, highest_seqno, is_tombstone, is_weak, is_reclaimable, starts_key, one_if, first_key}
-use Rattle.lsm_files.specs.Fits.{EntryFits}
+use Rattle.lsm_formats.specs.Facts.{count_after, lowest_seqno, highest_seqno, is_tombstone, is_weak, is_reclaimable, starts_key, one_if, first_key}
+use Rattle.lsm_formats.specs.Fits.{EntryFits}
 use Rattle.lsm_writers.specs.Held.{IsUnfilled, IsHeld, IsShortest, IsTaken}
 use Rattle.lsm_writers.specs.Writing.{item_fault, may_be_written}
 use Rattle.lsm_writers.proofs.Cutting.{joined_more, rest_is}

@@ -6,10 +6,10 @@ use Rattle.sst_entries.specs.declared.error.Error.TheVariants.{OutOfMemory, Tabl
 use Rattle.sst_entries.specs.Entry.{Entry}
 use Rattle.sst_entries.specs.Error.{Refuses}
 use Rattle.sst_entries.specs.Strict.{IsStrictAfter}
-use Rattle.lsm_files.specs.declared.options.Options.{Options}
-use Rattle.lsm_files.specs.Options.{label_of}
+use Rattle.lsm_formats.specs.declared.options.Options.{Options}
+use Rattle.lsm_formats.specs.Options.{label_of}
 use Rattle.sst_entries.proofs.Booleans.{and_parts}
-use Rattle.lsm_files.specs.Chunks.{joined}
+use Rattle.lsm_formats.specs.Chunks.{joined}
 use Rattle.lsm_writers.specs.declared.writer.FinishedTable.{FinishedTable}
 use Rattle.lsm_writers.specs.Cut.{rest_chunk}
 use Rattle.lsm_writers.specs.Tables.{GoesOn, IsFreshRun, IsStanding, TablesWriting, all_written, drawn, early_fault, gained_all, ids_after, ids_fault, is_due, lists_in, new_tables, next_id, next_writing, rotated, rotation_fault, standing, took, took_fault, turn_fault}

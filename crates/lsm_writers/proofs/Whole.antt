@@ -13,14 +13,14 @@ use Rattle.sst_entries.specs.Key.{same_key}
 use Rattle.sst_entries.specs.Strict.{IsStrict, last_of}
 use Rattle.sst_entries.proofs.Booleans.{and_both, is_false, not_not}
 use Rattle.sst_entries.proofs.KeyLemmas.{same_is}
-use Rattle.lsm_files.specs.declared.label.Label.{Label}
-use Rattle.lsm_files.specs.declared.options.Options.{Options}
-use Rattle.lsm_files.specs.Chunks.{is_full, joined}
-use Rattle.lsm_files.specs.Facts.{starts_key}
-use Rattle.lsm_files.specs.Fits.{EntryFits}
-use Rattle.lsm_files.specs.Index.{data_section}
-use Rattle.lsm_files.specs.Options.{label_of}
-use Rattle.lsm_files.specs.Parts.{parts_after}
+use Rattle.lsm_formats.specs.declared.label.Label.{Label}
+use Rattle.lsm_formats.specs.declared.options.Options.{Options}
+use Rattle.lsm_formats.specs.Chunks.{is_full, joined}
+use Rattle.lsm_formats.specs.Facts.{starts_key}
+use Rattle.lsm_formats.specs.Fits.{EntryFits}
+use Rattle.lsm_formats.specs.Index.{data_section}
+use Rattle.lsm_formats.specs.Options.{label_of}
+use Rattle.lsm_formats.specs.Parts.{parts_after}
 use Rattle.lsm_writers.specs.Cut.{rest_chunk}
 use Rattle.lsm_writers.specs.Tables.{AreCuts, HasOneKey, HasTaken, IsCut, OneKeyLaw, TableFits, TablesWriting, Takes, TakesLaw, apart, cut_len, drawn, first_id, gained_all, ids_fault, is_due, label_before, next_id, next_label, rotated, rotation_fault, standing, table_fault, took, took_fault, turn_fault}
 use Rattle.lsm_writers.specs.Writing.{IsWritable, Writing, finish_fault, fresh_writing, gained, may_be_written, spilled, write_fault, written}

@@ -9,14 +9,14 @@ use Rattle.sst_entries.specs.Entry.{Entry}
 use Rattle.sst_blocks.specs.Payload.{payload}
 use Rattle.lsm_writers.specs.declared.writer.meta.Metadata.{Metadata}
 use Rattle.lsm_writers.specs.declared.writer.meta.Tally.{Tally}
-use Rattle.lsm_files.specs.Chunks.{joined}
-use Rattle.lsm_files.specs.Facts.{ListFacts, is_tombstone, is_weak, starts_key, is_reclaimable}
-use Rattle.lsm_files.specs.Facts.{one_if, count_after, lowest_seqno, highest_seqno, first_key}
-use Rattle.lsm_files.specs.Facts.{last_key}
-use Rattle.lsm_files.specs.Index.{data_section}
-use Rattle.lsm_files.specs.MetaBlock.{Blocks, meta_items}
-use Rattle.lsm_files.specs.declared.options.Options.{Options}
-use Rattle.lsm_files.specs.declared.label.Label.{Label}
+use Rattle.lsm_formats.specs.Chunks.{joined}
+use Rattle.lsm_formats.specs.Facts.{ListFacts, is_tombstone, is_weak, starts_key, is_reclaimable}
+use Rattle.lsm_formats.specs.Facts.{one_if, count_after, lowest_seqno, highest_seqno, first_key}
+use Rattle.lsm_formats.specs.Facts.{last_key}
+use Rattle.lsm_formats.specs.Index.{data_section}
+use Rattle.lsm_formats.specs.MetaBlock.{Blocks, meta_items}
+use Rattle.lsm_formats.specs.declared.options.Options.{Options}
+use Rattle.lsm_formats.specs.declared.label.Label.{Label}
 
 -- nothing was written
 abbrev pub no_counts : {A : Type 0} → Metadata A

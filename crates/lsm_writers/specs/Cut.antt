@@ -13,9 +13,9 @@ use Rattle.sst_blocks.specs.Reading.{entries_in}
 use Rattle.sst_sections.specs.Sections.{Written}
 use Rattle.sst_entries.specs.Strict.{IsStrict, last_of}
 use Rattle.lsm_writers.specs.declared.writer.meta.Metadata.{Metadata}
-use Rattle.lsm_files.specs.Chunks.{joined}
-use Rattle.lsm_files.specs.Facts.{last_key}
-use Rattle.lsm_files.specs.Index.{handles, data_section}
+use Rattle.lsm_formats.specs.Chunks.{joined}
+use Rattle.lsm_formats.specs.Facts.{last_key}
+use Rattle.lsm_formats.specs.Index.{handles, data_section}
 
 -- the chunks of the blocks that were cut, and whether cutting has refused
 pub record Cut : Type 0 where

@@ -4,8 +4,8 @@ use Rattle.std.specs.Prelude.{Some, None, if◌then◌else◌}
 use Rattle.sst_entries.specs.Entry.{Entry}
 use Rattle.sst_filters.specs.declared.policy.BloomConstructionPolicy.{BloomConstructionPolicy}
 use Rattle.sst_filters.specs.Policy.{tenths_of}
-use Rattle.lsm_files.specs.declared.options.FilterKind.{FilterKind}
-use Rattle.lsm_files.specs.Filters.{filtered_keys}
+use Rattle.lsm_formats.specs.declared.options.FilterKind.{FilterKind}
+use Rattle.lsm_formats.specs.Filters.{filtered_keys}
 use Rattle.lsm_section_writers.specs.declared.filter_either.FilterWriterImpl.{FilterWriterImpl}
 use Rattle.lsm_section_writers.specs.FilterEither.{kind_by, policy_by, failed_by, HoldsBy}
 use Rattle.lsm_section_writers.specs.Given.{given_by}

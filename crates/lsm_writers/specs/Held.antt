@@ -8,12 +8,12 @@ use Rattle.sst_entries.specs.Strict.{IsStrict}
 use Rattle.sst_sections.specs.declared.section.SectionName.TheVariants.{Data}
 use Rattle.sst_sections.specs.Sections.{Written}
 use Rattle.lsm_writers.specs.declared.writer.meta.Metadata.{Metadata}
-use Rattle.lsm_files.specs.Chunks.{joined, entries_size, is_full}
-use Rattle.lsm_files.specs.Filters.{filtered_keys}
-use Rattle.lsm_files.specs.Fits.{BlockFits, EntryFits}
-use Rattle.lsm_files.specs.Index.{data_section, handles}
-use Rattle.lsm_files.specs.Layout.{laid}
-use Rattle.lsm_files.specs.declared.options.Options.{Options}
+use Rattle.lsm_formats.specs.Chunks.{joined, entries_size, is_full}
+use Rattle.lsm_formats.specs.Filters.{filtered_keys}
+use Rattle.lsm_formats.specs.Fits.{BlockFits, EntryFits}
+use Rattle.lsm_formats.specs.Index.{data_section, handles}
+use Rattle.lsm_formats.specs.Layout.{laid}
+use Rattle.lsm_formats.specs.declared.options.Options.{Options}
 use Rattle.lsm_section_writers.specs.declared.index_either.IndexWriterImpl.{IndexWriterImpl}
 use Rattle.lsm_section_writers.specs.IndexEither.{registered_by}
 use Rattle.lsm_section_writers.specs.declared.filter_either.FilterWriterImpl.{FilterWriterImpl}

@@ -15,15 +15,15 @@ use Rattle.sst_blocks.specs.declared.block_type.BlockType.TheVariants.{Data}
 use Rattle.sst_blocks.specs.Block.{data_len, header_len, kind_tag}
 use Rattle.sst_blocks.specs.Bounds.{data_block_bound_of}
 use Rattle.sst_blocks.specs.Reading.{entries_in}
-use Rattle.lsm_files.specs.declared.label.Label.{Label}
-use Rattle.lsm_files.specs.declared.options.Options.{Options}
-use Rattle.lsm_files.specs.Chunks.{joined, is_full}
-use Rattle.lsm_files.specs.Facts.{starts_key}
-use Rattle.lsm_files.specs.Filters.{filtered_keys}
-use Rattle.lsm_files.specs.Fits.{EntryFits}
-use Rattle.lsm_files.specs.Index.{data_section, handles, last_entry}
-use Rattle.lsm_files.specs.Options.{default_options, label_of}
-use Rattle.lsm_files.specs.Parts.{parts_by}
+use Rattle.lsm_formats.specs.declared.label.Label.{Label}
+use Rattle.lsm_formats.specs.declared.options.Options.{Options}
+use Rattle.lsm_formats.specs.Chunks.{joined, is_full}
+use Rattle.lsm_formats.specs.Facts.{starts_key}
+use Rattle.lsm_formats.specs.Filters.{filtered_keys}
+use Rattle.lsm_formats.specs.Fits.{EntryFits}
+use Rattle.lsm_formats.specs.Index.{data_section, handles, last_entry}
+use Rattle.lsm_formats.specs.Options.{default_options, label_of}
+use Rattle.lsm_formats.specs.Parts.{parts_by}
 use Rattle.lsm_section_writers.specs.Cutting.{waiting_by}
 use Rattle.lsm_section_writers.specs.FilterRefusing.{filter_fault}
 use Rattle.lsm_section_writers.specs.IndexRefusing.{index_fault}

@@ -7,14 +7,14 @@ pub use Rattle.sst_sections.specs.Sections.{finished}
 pub use Rattle.sst_filters.specs.Policy.{tenths_of}
 pub use Rattle.sst_blocks.specs.Encoding.{entries_fault}
 pub use Rattle.sst_blocks.specs.Payload.{payload}
-pub use Rattle.lsm_files.specs.Chunks.{entry_size, is_full, joined, entries_size}
-pub use Rattle.lsm_files.specs.Failed.{failed_fault}
-pub use Rattle.lsm_files.specs.File.{HasNoFilter, HasNoVersion, version_section}
-pub use Rattle.lsm_files.specs.Fits.{BlockFits, EntryFits, LabelFits}
-pub use Rattle.lsm_files.specs.Index.{data_block, data_section, handle_of, handles}
-pub use Rattle.lsm_files.specs.Kinds.{filter_with_size, index_with_size}
-pub use Rattle.lsm_files.specs.Layout.{appended, laid}
-pub use Rattle.lsm_files.specs.Options.{label_of}
+pub use Rattle.lsm_formats.specs.Chunks.{entry_size, is_full, joined, entries_size}
+pub use Rattle.lsm_formats.specs.Failed.{failed_fault}
+pub use Rattle.lsm_formats.specs.File.{HasNoFilter, HasNoVersion, version_section}
+pub use Rattle.lsm_formats.specs.Fits.{BlockFits, EntryFits, LabelFits}
+pub use Rattle.lsm_formats.specs.Index.{data_block, data_section, handle_of, handles}
+pub use Rattle.lsm_formats.specs.Kinds.{filter_with_size, index_with_size}
+pub use Rattle.lsm_formats.specs.Layout.{appended, laid}
+pub use Rattle.lsm_formats.specs.Options.{label_of}
 pub use Rattle.lsm_section_writers.specs.FilterRefusing.{filter_fault}
 pub use Rattle.lsm_section_writers.specs.Writing.{WritesFilter}
 pub use Rattle.lsm_writers.specs.Counts.{metadata_of, tally_of}
@@ -23,7 +23,7 @@ pub use Rattle.lsm_writers.specs.Cut.{with_cut}
 pub use Rattle.lsm_writers.specs.Filtering.{CanRegister, HasKeys, IsSmallFilter, MayHaveKeys}
 pub use Rattle.lsm_writers.specs.Filtering.{registered_key}
 pub use Rattle.lsm_writers.specs.Held.{AreTableParts, HaveParts, IsTaken}
-pub use Rattle.lsm_files.specs.Facts.{starts_key}
+pub use Rattle.lsm_formats.specs.Facts.{starts_key}
 pub use Rattle.lsm_writers.specs.Writing.{WritesTable, cut_writing, fresh_writing, sections_fault}
 pub use Rattle.lsm_writers.specs.Writing.{IsFinished, IsFresh, finish_fault, gained, item_fault}
 pub use Rattle.lsm_writers.specs.Writing.{may_be_written, new_writing, spilled, write_fault}

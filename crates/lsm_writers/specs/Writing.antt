@@ -12,22 +12,22 @@ use Rattle.sst_blocks.specs.Bounds.{data_block_bound_of}
 use Rattle.sst_blocks.specs.Encoding.{is_long_key, large_fault}
 use Rattle.sst_entries.specs.Entry.{Entry, entry}
 use Rattle.sst_entries.specs.Strict.{IsStrict, may_follow, last_of}
-use Rattle.lsm_files.specs.Chunks.{joined, is_full}
+use Rattle.lsm_formats.specs.Chunks.{joined, is_full}
 use Rattle.lsm_writers.specs.Cut.{rest_chunk}
-use Rattle.lsm_files.specs.Index.{handles}
+use Rattle.lsm_formats.specs.Index.{handles}
 use Rattle.sst_sections.specs.Fnv.{fnv1a}
 use Rattle.sst_filters.specs.Filter.{BloomFilter}
-use Rattle.lsm_files.specs.Content.{Content}
-use Rattle.lsm_files.specs.File.{IsFile, file, index_part, filter_part}
-use Rattle.lsm_files.specs.Filters.{AreFiltersFor, filtered_keys}
-use Rattle.lsm_files.specs.Fits.{BlockFits, Fits, SectionFits}
-use Rattle.lsm_files.specs.Kinds.{filter_parts, index_parts}
-use Rattle.lsm_files.specs.Table.{IsTable}
+use Rattle.lsm_formats.specs.Content.{Content}
+use Rattle.lsm_formats.specs.File.{IsFile, file, index_part, filter_part}
+use Rattle.lsm_formats.specs.Filters.{AreFiltersFor, filtered_keys}
+use Rattle.lsm_formats.specs.Fits.{BlockFits, Fits, SectionFits}
+use Rattle.lsm_formats.specs.Kinds.{filter_parts, index_parts}
+use Rattle.lsm_formats.specs.Table.{IsTable}
 use Rattle.lsm_section_writers.specs.FilterRefusing.{filter_fault}
 use Rattle.lsm_section_writers.specs.IndexRefusing.{index_fault}
-use Rattle.lsm_files.specs.declared.options.Options.{Options}
-use Rattle.lsm_files.specs.declared.label.Label.{Label}
-use Rattle.lsm_files.specs.Options.{default_options}
+use Rattle.lsm_formats.specs.declared.options.Options.{Options}
+use Rattle.lsm_formats.specs.declared.label.Label.{Label}
+use Rattle.lsm_formats.specs.Options.{default_options}
 
 -- the chunks whose blocks were cut, the entries of the next block, whether the writer has refused
 pub record Writing : Type 0 where

@@ -7,7 +7,7 @@ mod table_ids;
 mod writer;
 
 pub use list::{is_writable, write_list};
-pub use lsm_files::{
+pub use lsm_formats::{
     BloomConstructionPolicy, FilterKind, GlobalTableId, IndexKind, Label, Options, TableId,
     Timestamp, TreeId,
 };

@@ -2,8 +2,8 @@
 ghost use Rattle.std.specs.Prelude.{◌≡◌, ◌↔◌, ◌<◌, ◌≤◌, ◌∷◌, ◌++◌, if◌then◌else◌, [], false, true};
 ghost use Rattle.std.specs.Prelude.{IfErr, IfOk, IsTrue, OnErr, OnOk, Some, None};
 ghost use Rattle.sst_entries.specs.declared.error.Error.TheVariants.{OutOfMemory};
-ghost use Rattle.lsm_files.specs.declared.options.FilterKind.TheVariants.{Partitioned as PartitionedFilter};
-ghost use Rattle.lsm_files.specs.declared.options.IndexKind.TheVariants.{Partitioned as PartitionedIndex};
+ghost use Rattle.lsm_formats.specs.declared.options.FilterKind.TheVariants.{Partitioned as PartitionedFilter};
+ghost use Rattle.lsm_formats.specs.declared.options.IndexKind.TheVariants.{Partitioned as PartitionedIndex};
 ghost use Rattle.lsm_writers.specs.Words.{Faults, FaultsFirst, IsStrict, failed_fault};
 ghost use Rattle.lsm_writers.specs.Words.{finish_fault};
 ghost use Rattle.lsm_writers.specs.Words.{IsSmallFilter, may_be_written, written};
@@ -17,7 +17,7 @@ ghost use Rattle.lsm_writers.specs.Tables.{CutLaw, IsStanding, OneCutLaw, OneKey
 ghost use Rattle.lsm_writers.specs.Tables.{took, took_fault, turn_fault, with_options};
 
 use crate::{FinishedTable, TableIds, Timestamp, Writer};
-use lsm_files::{BloomConstructionPolicy, FilterKind, IndexKind, Options};
+use lsm_formats::{BloomConstructionPolicy, FilterKind, IndexKind, Options};
 use sst_blocks::{CompressionType, Error, InternalKey, InternalValue, SeqNo};
 use std::alloc::{Allocator, Global};
 use std::marker::Model;

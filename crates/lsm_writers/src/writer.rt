@@ -18,8 +18,8 @@ ghost use Rattle.std.specs.List.{AllByRecursion};
 ghost use Rattle.std.specs.Option.{option_copied};
 ghost use Rattle.sst_entries.specs.declared.error.Error.TheVariants.{OutOfMemory};
 ghost use Rattle.sst_sections.specs.declared.version.TableVersion.TheVariants.{V4};
-ghost use Rattle.lsm_files.specs.declared.options.FilterKind.TheVariants.{Partitioned as PartitionedFilter};
-ghost use Rattle.lsm_files.specs.declared.options.IndexKind.TheVariants.{Partitioned as PartitionedIndex};
+ghost use Rattle.lsm_formats.specs.declared.options.FilterKind.TheVariants.{Partitioned as PartitionedFilter};
+ghost use Rattle.lsm_formats.specs.declared.options.IndexKind.TheVariants.{Partitioned as PartitionedIndex};
 
 mod data_blocks;
 mod filter;
@@ -29,7 +29,7 @@ mod meta_block;
 use crate::{TableId, Timestamp};
 use data_blocks::DataBlocks;
 use filter::{finish_filter, register_key};
-use lsm_files::{BloomConstructionPolicy, FilterKind, IndexKind, Label, Options};
+use lsm_formats::{BloomConstructionPolicy, FilterKind, IndexKind, Label, Options};
 use lsm_section_writers::{BlockIndexWriter, FilterWriterImpl, IndexWriterImpl};
 use meta::{Metadata, Tally, starts_key};
 use meta_block::{BlockCounts, write_meta};
@@ -60,9 +60,9 @@ pub struct Writer<A: Allocator = Global> {
 
 impl<A: Allocator> Model for Writer<A> {
     ghost use Rattle.lsm_writers.specs.Writing.{Writing};
-    ghost use Rattle.lsm_files.specs.Fits.{LabelFits};
+    ghost use Rattle.lsm_formats.specs.Fits.{LabelFits};
     ghost use Rattle.std.specs.Prelude.{◌++◌};
-    ghost use Rattle.lsm_files.specs.Chunks.{joined};
+    ghost use Rattle.lsm_formats.specs.Chunks.{joined};
     ghost use Rattle.lsm_writers.specs.Filtering.{IsFiltered};
     ghost use Rattle.lsm_writers.specs.Held.{IsHeld, CanGoOn};
 

@@ -9,8 +9,8 @@ use Rattle.sst_entries.specs.declared.error.Error.{Error}
 use Rattle.sst_entries.specs.declared.error.Error.TheVariants.{OutOfMemory}
 use Rattle.sst_entries.specs.Entry.{Entry}
 use Rattle.sst_entries.specs.Error.{is_memory}
-use Rattle.lsm_files.specs.Chunks.{joined}
-use Rattle.lsm_files.specs.declared.label.Label.{Label}
+use Rattle.lsm_formats.specs.Chunks.{joined}
+use Rattle.lsm_formats.specs.declared.label.Label.{Label}
 use Rattle.lsm_readers.proofs.Scans.{memory_is}
 use Rattle.lsm_readers.specs.Table.{OpenTable}
 use Rattle.lsm_sorted.specs.Compaction.{kept, unfiltered}

@@ -9,7 +9,7 @@ use Rattle.sst_entries.specs.declared.value_type.ValueType.TheVariants.{Value}
 use Rattle.sst_entries.specs.Entry.{Entry, entry}
 use Rattle.sst_entries.specs.Error.{Faults}
 use Rattle.sst_entries.specs.Strict.{last_of, may_follow, IsStrictAfter}
-use Rattle.lsm_files.specs.Facts.{highest_seqno}
+use Rattle.lsm_formats.specs.Facts.{highest_seqno}
 use Rattle.lsm_writers.specs.Writing.{may_be_written, IsWritable}
 use Rattle.lsm_readers.specs.Table.{OpenTable}
 use Rattle.lsm_compactions.specs.Chain.{AreCutOf, IsRunOfList, chain_fault, run_label, tables_fault}

@@ -13,7 +13,7 @@ use Rattle.sst_entries.specs.Error.{is_memory, Fails, Gives}
 use Rattle.sst_entries.specs.Point.{point, within}
 use Rattle.sst_entries.specs.Stream.{nowhere, ok_results}
 use Rattle.sst_entries.proofs.FrontLemmas.{deals_in_front}
-use Rattle.lsm_files.specs.Chunks.{joined}
+use Rattle.lsm_formats.specs.Chunks.{joined}
 use Rattle.lsm_merge.specs.Union.{all_entries, newest, union_of}
 use Rattle.lsm_merge.proofs.UnionLemmas.{ascends_in_order}
 use Rattle.lsm_readers.specs.Table.{OpenTable}

@@ -1,11 +1,11 @@
 //! A block that no writer makes: an entry of a longer key than a writer takes.
-use example_tables::large::asked;
 use sst_blocks::{
     Block, BlockHandle, BlockSource, BlockType, CompressionType, DataBlock, Error, Opened,
     SectionName, SectionWriter, SeqNo, Slice,
 };
 use std::alloc::Global;
 use std::test::Fail;
+use test_tables::large::asked;
 
 // One more than the longest key that a writer takes has.
 const LEN: usize = 1_048_577;

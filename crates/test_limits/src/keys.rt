@@ -1,13 +1,13 @@
 //! The longest key and the empty one.
 use crate::tables::{Answers, each_answers};
-use example_tables::lists::answers_within;
-use example_tables::pins::ALL_PINS;
-use example_tables::rows::Row;
-use example_tables::runs::{ALL, Name, Tables, from_to, name_of, run_of};
 use sst_blocks::{Direction, Error, IterItem, SeqNo, ValueType};
 use std::alloc::Global;
 use std::ops::Bound;
 use std::test::Fail;
+use test_tables::lists::answers_within;
+use test_tables::pins::ALL_PINS;
+use test_tables::rows::Row;
+use test_tables::runs::{ALL, Name, Tables, from_to, name_of, run_of};
 
 // How many bytes the longest key has that a writer takes.
 const LONGEST: usize = 1_048_576;

@@ -1,11 +1,11 @@
 //! The largest numbers, at both edges of the global number.
-use example_tables::large::{asked, asked_mut};
-use example_tables::rows::{Row, fill, new_writer};
-use example_tables::tables::{open, read};
 use lsm_tables::{Iter, Table};
 use sst_blocks::{Error, SeqNo, Slice, ValueType};
 use std::alloc::Global;
 use std::test::Fail;
+use test_tables::large::{asked, asked_mut};
+use test_tables::rows::{Row, fill, new_writer};
+use test_tables::tables::{open, read};
 
 const MAX: SeqNo = SeqNo::MAX;
 

@@ -2,15 +2,15 @@
 ghost use Rattle.std.specs.Prelude.{IfOk};
 ghost use Rattle.lsm_writers.specs.Writing.{IsFresh};
 
-use example_tables::large::{asked, asked_mut};
-use example_tables::pins::{Pins, open_with};
-use example_tables::rows::{Row, fill, new_writer};
-use example_tables::runs::{Bounds, owned_range};
-use example_tables::tables::read;
 use lsm_tables::{Iter, Table};
 use lsm_writers::{BloomConstructionPolicy, Writer};
 use sst_blocks::{Error, IterItem, SeqNo, Slice};
 use std::alloc::Global;
+use test_tables::large::{asked, asked_mut};
+use test_tables::pins::{Pins, open_with};
+use test_tables::rows::{Row, fill, new_writer};
+use test_tables::runs::{Bounds, owned_range};
+use test_tables::tables::read;
 
 const TEN_BITS: BloomConstructionPolicy = BloomConstructionPolicy::BitsPerKey(100);
 

@@ -2,15 +2,15 @@
 ghost use Rattle.std.specs.Prelude.{IfOk};
 ghost use Rattle.lsm_writers.specs.Writing.{IsFresh};
 
-use example_tables::large::asked;
-use example_tables::pins::{ALL_PINS, open_with};
-use example_tables::rows::{Row, new_writer, put_rows, written};
-use example_tables::tables::read;
 use lsm_tables::Table;
 use lsm_writers::Writer;
 use sst_blocks::{Error, SeqNo, Slice, ValueType};
 use std::alloc::Global;
 use std::test::Fail;
+use test_tables::large::asked;
+use test_tables::pins::{ALL_PINS, open_with};
+use test_tables::rows::{Row, new_writer, put_rows, written};
+use test_tables::tables::read;
 
 const VERSIONS: u64 = 100_000;
 

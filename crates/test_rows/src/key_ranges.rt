@@ -1,11 +1,11 @@
 //! Ranges of numbers as keys, and reversed bounds.
 use crate::tables::both;
-use example_tables::large::{add, asked};
-use example_tables::runs::Bounds;
 use lsm_ranges::KeyRange;
 use sst_blocks::{Error, Slice};
 use std::alloc::Global;
 use std::ops::Bound;
+use test_tables::large::{add, asked};
+use test_tables::runs::Bounds;
 
 fn range_of(alloc: Global, min: &[u8], max: &[u8]) -> Result<KeyRange, Error> {
     let min = Slice::from(alloc, min);

@@ -1,8 +1,8 @@
 //! A writer that has taken the longest key, and is given a longer one.
-use example_tables::rows::{new_writer, put_rows};
 use lsm_writers::Writer;
 use sst_blocks::{Error, ValueType};
 use std::alloc::Global;
+use test_tables::rows::{new_writer, put_rows};
 
 // How many bytes the longest key has that a writer takes.
 const LONGEST: usize = 1_048_576;

@@ -1,10 +1,10 @@
 //! A point read and what memory it asks for.
 use crate::tables::{is_made, opened, written_in_parts};
-use example_tables::large::asked;
 use lsm_tables::Table;
-use refusing::Refusing;
 use sst_blocks::{Error, InternalValue, SeqNo};
 use std::alloc::{Allocator, Global};
+use test_refusing::Refusing;
+use test_tables::large::asked;
 
 fn number_of<A: Allocator>(
     found: Result<Option<InternalValue<A>>, Error>,

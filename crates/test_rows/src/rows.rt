@@ -1,6 +1,6 @@
 //! Rows of each kind, with different values.
-use example_tables::rows::Row;
 use sst_blocks::ValueType;
+use test_tables::rows::Row;
 
 pub(crate) const A9: Row<'static> = (b"a", 9, ValueType::Value, b"x");
 

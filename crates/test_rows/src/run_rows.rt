@@ -6,12 +6,12 @@ ghost use Rattle.lsm_ranges.specs.Run.{ArePlacesOf};
 use crate::rows::{A7, A9, B6, B8, C5, D2, D3, ROWS};
 use crate::tables::both;
 use crate::walks::{is_answer, is_found, walks, walks_some};
-use example_tables::lists::answers_within;
-use example_tables::rows::Row;
-use example_tables::runs::{ALL, Bounds, Lists, Tables, owned_range, run_of, runs_of};
 use lsm_tables::{RunReader, RunScanner, get_runs};
 use sst_blocks::{Direction, Error, IterItem};
 use std::alloc::{Allocator, Global};
+use test_tables::lists::answers_within;
+use test_tables::rows::Row;
+use test_tables::runs::{ALL, Bounds, Lists, Tables, owned_range, run_of, runs_of};
 
 const F: Direction = Direction::Front;
 

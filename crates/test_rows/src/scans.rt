@@ -1,12 +1,12 @@
 //! Scans whose steps are refused memory. What steps through them is generic in them, so that none
 //! of their parts is looked at.
 use crate::tables::{is_made, opened, written_in_parts};
-use example_tables::large::asked;
-use example_tables::runs::is_right;
 use lsm_tables::Scanner;
-use refusing::{Refusing, each_refused};
 use sst_blocks::{Error, IterItem, Opened, SeqNo};
 use std::alloc::{Allocator, Global};
+use test_refusing::{Refusing, each_refused};
+use test_tables::large::asked;
+use test_tables::runs::is_right;
 
 trait Steps {
     // The number of the next entry.

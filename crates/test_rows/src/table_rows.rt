@@ -1,14 +1,14 @@
 //! Whole entries of each kind that come back from one table.
 use crate::rows::{B6, B8, C5, ROWS};
 use crate::walks::{is_found, walks};
-use example_tables::large::asked;
-use example_tables::pins::{Pins, open_with};
-use example_tables::rows::{Row, fill, new_writer};
-use example_tables::runs::{Bounds, owned_range};
 use lsm_tables::{Iter, Table};
 use sst_blocks::{Direction, Error, Slice};
 use std::alloc::Global;
 use std::ops::Bound;
+use test_tables::large::asked;
+use test_tables::pins::{Pins, open_with};
+use test_tables::rows::{Row, fill, new_writer};
+use test_tables::runs::{Bounds, owned_range};
 
 const ABOVE_A_TO_C: Bounds<'static> = (Bound::Excluded(b"a"), Bound::Included(b"c"));
 

@@ -2,12 +2,12 @@
 ghost use Rattle.std.specs.Prelude.{IfOk};
 ghost use Rattle.lsm_writers.specs.Writing.{IsFresh};
 
-use example_tables::pins::{Pins, open_with};
-use example_tables::rows::{Row, fill, new_writer};
 use lsm_tables::Table;
 use lsm_writers::Writer;
 use sst_blocks::{Error, Slice, ValueType};
 use std::alloc::{Allocator, Global};
+use test_tables::pins::{Pins, open_with};
+use test_tables::rows::{Row, fill, new_writer};
 
 const UNPINNED: Pins = (false, false);
 

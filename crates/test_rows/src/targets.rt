@@ -1,11 +1,11 @@
 //! The size at which a new table begins, told apart from one byte less.
-use example_tables::large::asked;
-use example_tables::rows::{entry, written};
-use example_tables::tables::open;
 use lsm_tables::Table;
 use lsm_writers::{FinishedTable, MultiWriter, TableIds, Timestamp};
 use sst_blocks::{Error, InternalValue, SeqNo, ValueType};
 use std::alloc::Global;
+use test_tables::large::asked;
+use test_tables::rows::{entry, written};
+use test_tables::tables::open;
 
 // A key and a number.
 type Version = (&'static [u8], SeqNo);

@@ -1,9 +1,9 @@
 //! Ranges, scans and readers of runs, whose entries are compared whole with the rows that they were
 //! written from. What walks them is generic in them, so that none of their parts is looked at.
-use example_tables::rows::Row;
 use lsm_tables::{Iter, RunReader, RunScanner, Scanner};
 use sst_blocks::{Direction, Error, InternalValue, IterItem};
 use std::alloc::Allocator;
+use test_tables::rows::Row;
 
 // Whether an entry has the key, the number, the kind and the value of a row.
 fn is_row<A: Allocator>(item: &InternalValue<A>, row: &Row<'_>) -> bool {

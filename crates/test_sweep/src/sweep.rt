@@ -2,11 +2,11 @@
 use crate::points::{Answer, answers, are_got, are_got_at_once, queries};
 use crate::tables::{TABLES, table};
 use crate::walks::{ENDS, Ends, Told, is_index, is_iter, is_range, is_scan, rows_of};
-use example_tables::large::asked;
 use lsm_tables::{Query, Table};
 use sst_blocks::{BlockSource, Checksum, Error, Slice};
 use std::alloc::Global;
 use test_sweep_tables::{self as told, Fault, Opening};
+use test_tables::large::asked;
 
 /// A table, the byte that is changed, if any, and what it is opened with.
 #[derive(Clone, Copy)]

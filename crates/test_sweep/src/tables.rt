@@ -1,6 +1,6 @@
 //! The tables that are damaged.
 use crate::stored::{filter_parts, one_entry, one_entry_filtered, two_levels};
-use example_tables::stored;
+use test_tables::stored;
 
 /// How many tables there are.
 pub const TABLES: usize = 8;

@@ -1,6 +1,5 @@
 //! Readers, walked to their end.
 use crate::same::{are_loads, is_index_step, is_step};
-use example_tables::large::{asked, asked_mut};
 use lsm_tables::{
     BlockIndex, BlockIndexImpl, BlockIndexIter, BlockIndexIterImpl, Iter, Scanner, Table,
 };
@@ -8,6 +7,7 @@ use sst_blocks::{Error, Opened, Slice};
 use std::alloc::Global;
 use std::ops::Bound;
 use test_sweep_tables::{Dealt, Fault, Row, Walk, entry_rows, index_rows, scan_rows};
+use test_tables::large::{asked, asked_mut};
 
 /// What is walked. What does so is generic in it, so that none of its parts is looked at.
 pub trait Walked {

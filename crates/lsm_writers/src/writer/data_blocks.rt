@@ -13,7 +13,7 @@ ghost use Rattle.sst_sections.specs.declared.version.TableVersion.TheVariants.{V
 ghost use Rattle.std.specs.List.{AllByRecursion};
 
 use crate::writer::meta::Metadata;
-use lsm_files::Options;
+use lsm_formats::Options;
 use lsm_section_writers::{BlockIndexWriter, FullIndexWriter};
 use sst_blocks::{
     Block, BlockHandle, BlockOffset, BlockType, CompressionType, DataBlock, Error, InternalValue,
@@ -39,7 +39,7 @@ pub(crate) struct DataBlocks<A: Allocator = Global> {
 impl<A: Allocator> Model for DataBlocks<A> {
     ghost use Rattle.std.specs.Prelude.{◌*◌, ◌^◌, ◌<◌, length};
     ghost use Rattle.sst_sections.specs.declared.version.TableVersion.TheVariants.{V4};
-    ghost use Rattle.lsm_files.specs.Chunks.{joined};
+    ghost use Rattle.lsm_formats.specs.Chunks.{joined};
     ghost use Rattle.lsm_writers.specs.Cut.{Cut, chunks_in, AreCut};
 
     ghost Value = { Cut };

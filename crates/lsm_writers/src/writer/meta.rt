@@ -2,7 +2,7 @@
 ghost use Rattle.std.specs.Prelude.{◌≡◌, ◌+◌, ◌<◌, ◌^◌, Some, IfErr};
 ghost use Rattle.std.specs.Option.{option_copied};
 ghost use Rattle.sst_entries.specs.declared.error.Error.TheVariants.{OutOfMemory};
-ghost use Rattle.lsm_files.specs.Facts.{is_weak, is_value_kind, starts_key, is_reclaimable};
+ghost use Rattle.lsm_formats.specs.Facts.{is_weak, is_value_kind, starts_key, is_reclaimable};
 ghost use Rattle.sst_entries.specs.Kind.{is_weak_kind};
 
 use sst_blocks::{BlockOffset, Error, InternalValue, SeqNo, UserKey, ValueType};

@@ -3,15 +3,15 @@ ghost use Rattle.std.specs.Prelude.{◌≡◌, [], ◌∷◌, ◌++◌, None, un
 ghost use Rattle.sst_entries.specs.declared.error.Error.TheVariants.{OutOfMemory};
 ghost use Rattle.sst_sections.specs.declared.version.TableVersion.TheVariants.{V4};
 ghost use Rattle.lsm_writers.specs.Counts.{counted_facts, counted_items, HasShortKeys};
-ghost use Rattle.lsm_files.specs.File.{meta_section, HasNoMeta};
-ghost use Rattle.lsm_files.specs.Layout.{appended};
+ghost use Rattle.lsm_formats.specs.File.{meta_section, HasNoMeta};
+ghost use Rattle.lsm_formats.specs.Layout.{appended};
 ghost use Rattle.sst_blocks.specs.Encoding.{entries_fault};
 ghost use Rattle.sst_entries.specs.Strict.{IsStrict};
-ghost use Rattle.lsm_files.specs.MetaBlock.{meta_entry, block_items, key_items, option_items};
-ghost use Rattle.lsm_files.specs.MetaBlock.{count_items};
+ghost use Rattle.lsm_formats.specs.MetaBlock.{meta_entry, block_items, key_items, option_items};
+ghost use Rattle.lsm_formats.specs.MetaBlock.{count_items};
 
 use crate::writer::meta::Metadata;
-use lsm_files::{FILTER_HASH_TYPE, ItemName, Label, Options};
+use lsm_formats::{FILTER_HASH_TYPE, ItemName, Label, Options};
 use sst_blocks::{
     Block, BlockType, CompressionType, DataBlock, Error, InternalValue, SectionName, SectionWriter,
     Slice, UserKey, ValueType,

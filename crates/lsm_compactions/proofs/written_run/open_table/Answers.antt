@@ -1,6 +1,6 @@
 use Rattle.std.proofs.Common.{ap}
 use Rattle.sst_entries.proofs.Refusals.{faults_refusal}
-use Rattle.lsm_files.specs.declared.options.Options.{Options}
+use Rattle.lsm_formats.specs.declared.options.Options.{Options}
 use Rattle.lsm_compactions.specs.Written.{number_fault}
 use Rattle.lsm_compactions.proofs.RunWriting.{number_fits, number_passes}
 use Rattle.lsm_compactions.proofs.Opening.{opened}

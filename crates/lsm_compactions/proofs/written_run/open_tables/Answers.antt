@@ -1,5 +1,5 @@
 use Rattle.std.proofs.Common.{◌≡◌, ◌∙◌, sym, []}
-use Rattle.lsm_files.specs.Chunks.{joined}
+use Rattle.lsm_formats.specs.Chunks.{joined}
 use Rattle.std.proofs.lemmas.List.{nil_from_length}
 use Rattle.lsm_writers.proofs.Refused.{memory_alone}
 use Rattle.sst_entries.proofs.Refusals.{faults_refusal}

@@ -1,7 +1,7 @@
 use Rattle.std.proofs.Common.{List}
 use Rattle.sst_entries.specs.Entry.{Entry}
-use Rattle.lsm_files.specs.declared.label.Label.{Label}
-use Rattle.lsm_files.specs.Options.{default_options}
+use Rattle.lsm_formats.specs.declared.label.Label.{Label}
+use Rattle.lsm_formats.specs.Options.{default_options}
 use Rattle.lsm_writers.specs.Tables.{AreFinished}
 use Rattle.lsm_compactions.proofs.RunWriting.{OpenSoFar}
 use Rattle.lsm_compactions.proofs.written_run.open_tables.Given as goal

@@ -5,7 +5,7 @@ use Rattle.std.proofs.lemmas.List.{nil_from_length}
 use Rattle.sst_entries.specs.declared.error.Error.{Error}
 use Rattle.sst_entries.specs.Entry.{Entry}
 use Rattle.sst_entries.proofs.Refusals.{faults_refusal}
-use Rattle.lsm_files.specs.Options.{default_options, label_of}
+use Rattle.lsm_formats.specs.Options.{default_options, label_of}
 use Rattle.lsm_writers.specs.Tables.{TablesWriting, Takes, first_id, ids_fault, new_tables, took}
 use Rattle.lsm_writers.specs.Writing.{IsWritable, may_be_written}
 use Rattle.lsm_writers.proofs.ListWriting.{listed_follows}

@@ -1,5 +1,5 @@
 use Rattle.std.proofs.Common.{◌≡◌, ◌++◌}
-use Rattle.lsm_files.specs.Options.{label_of}
+use Rattle.lsm_formats.specs.Options.{label_of}
 use Rattle.lsm_compactions.specs.Chain.{FitsAsTables, tables_fault, writes_fault}
 use Rattle.lsm_writers.specs.Tables.{Takes, all_written, first_id}
 use Rattle.lsm_compactions.proofs.RunWriting.{Draws}

@@ -1,7 +1,7 @@
 use Rattle.std.proofs.Common.{◌≡◌, ℕ, List, refl, subst, sym}
 use Rattle.std.specs.Prelude.{Result, Ok}
 use Rattle.sst_entries.specs.Entry.{Entry}
-use Rattle.lsm_files.specs.declared.item_name.ItemName.TheVariants.{BlockCountData, BlockCountFilter, BlockCountIndex, FileSize, ItemCount, TableId, TombstoneCount, WeakTombstoneCount, WeakTombstoneReclaimable}
+use Rattle.lsm_formats.specs.declared.item_name.ItemName.TheVariants.{BlockCountData, BlockCountFilter, BlockCountIndex, FileSize, ItemCount, TableId, TombstoneCount, WeakTombstoneCount, WeakTombstoneReclaimable}
 use Rattle.sst_entries.specs.declared.error.Error.{Error}
 use Rattle.sst_entries.specs.Error.{Gives}
 use Rattle.lsm_readers.specs.Meta.{Facts, facts_told, kinds_told, rest_told, triple_told, version_told}

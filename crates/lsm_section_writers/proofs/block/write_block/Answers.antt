@@ -6,7 +6,7 @@ use Rattle.sst_blocks.specs.declared.block_type.BlockType.TheVariants.{Index}
 use Rattle.sst_blocks.specs.Block.{block_bytes}
 use Rattle.sst_blocks.specs.Handles.{handles_payload}
 use Rattle.sst_blocks.proofs.Faults.{on_ok}
-use Rattle.lsm_files.proofs.BlockLengths.{length-block}
+use Rattle.lsm_formats.proofs.BlockLengths.{length-block}
 use Rattle.lsm_section_writers.proofs.Behind.{faults_none}
 use Rattle.lsm_section_writers.proofs.block.write_block.Goals as goal
 

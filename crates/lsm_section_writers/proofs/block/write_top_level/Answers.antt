@@ -1,7 +1,7 @@
 -- The section has the one block.
 use Rattle.sst_sections.specs.declared.section.SectionName.TheVariants.{Tli}
 use Rattle.sst_sections.specs.declared.version.TableVersion.TheVariants.{V4}
-use Rattle.lsm_files.specs.Partitions.{handles_block}
+use Rattle.lsm_formats.specs.Partitions.{handles_block}
 use Rattle.lsm_section_writers.proofs.Behind.{front_after, front_begun, front_longer, front_same, section_more}
 use Rattle.lsm_section_writers.proofs.block.write_top_level.Goals as goal
 

@@ -6,9 +6,9 @@ use Rattle.sst_sections.specs.declared.version.TableVersion.TheVariants.{V4}
 use Rattle.sst_blocks.specs.Encoding.{handles_fault}
 use Rattle.sst_blocks.specs.Handle.{Handle}
 use Rattle.sst_blocks.specs.Handles.{AreStrictHandles}
-use Rattle.lsm_files.specs.Fits.{SectionFits}
-use Rattle.lsm_files.specs.Layout.{appended}
-use Rattle.lsm_files.specs.Partitions.{handles_block}
+use Rattle.lsm_formats.specs.Fits.{SectionFits}
+use Rattle.lsm_formats.specs.Layout.{appended}
+use Rattle.lsm_formats.specs.Partitions.{handles_block}
 use Rattle.lsm_section_writers.proofs.Behind.{bytes_stay, no_top_level_first}
 use Rattle.lsm_section_writers.proofs.index_full.write_section.Goals as goal
 

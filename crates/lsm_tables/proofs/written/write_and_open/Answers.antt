@@ -1,7 +1,7 @@
 use Rattle.sst_entries.proofs.Refusals.{faults_refusal}
 use Rattle.std.proofs.Common.{ap, arith}
-use Rattle.lsm_files.specs.declared.options.Options.{Options}
-use Rattle.lsm_files.specs.Options.{label_of}
+use Rattle.lsm_formats.specs.declared.options.Options.{Options}
+use Rattle.lsm_formats.specs.Options.{label_of}
 use Rattle.lsm_compactions.proofs.Opening.{none_written, opened, opens, unopened}
 use Rattle.lsm_tables.proofs.written.write_and_open.Goals as goal
 

@@ -1,8 +1,8 @@
 use Rattle.lsm_section_writers.specs.IndexEither.{registered_by}
-use Rattle.lsm_files.specs.Chunks.{joined}
-use Rattle.lsm_files.specs.Filters.{filtered_keys}
-use Rattle.lsm_files.specs.Index.{data_section}
-use Rattle.lsm_files.specs.Kinds.{index_parts}
+use Rattle.lsm_formats.specs.Chunks.{joined}
+use Rattle.lsm_formats.specs.Filters.{filtered_keys}
+use Rattle.lsm_formats.specs.Index.{data_section}
+use Rattle.lsm_formats.specs.Kinds.{index_parts}
 use Rattle.std.specs.Prelude.{length}
 use Rattle.sst_sections.specs.declared.version.TableVersion.TheVariants.{V4}
 use Rattle.lsm_writers.proofs.Finishing.{sections_fit, sections_written}

@@ -2,7 +2,7 @@ use Rattle.std.proofs.Common.{◌∙◌, ap, sym}
 use Rattle.std.specs.Prelude.{Option}
 use Rattle.std.specs.Option.{option_copied}
 use Rattle.sst_entries.specs.Entry.{Entry}
-use Rattle.lsm_files.specs.Facts.{starts_key}
+use Rattle.lsm_formats.specs.Facts.{starts_key}
 use Rattle.lsm_writers.proofs.Orders.{last_written_is}
 use Rattle.lsm_writers.proofs.writer.Writer.starts_key.Goals as goal
 

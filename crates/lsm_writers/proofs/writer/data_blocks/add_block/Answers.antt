@@ -4,7 +4,7 @@ use Rattle.sst_sections.specs.Sections.{Written}
 use Rattle.sst_entries.proofs.StreamLemmas.{on_err}
 use Rattle.sst_entries.proofs.Strictness.{strict_alone}
 use Rattle.sst_blocks.specs.Handle.{Handle}
-use Rattle.lsm_files.specs.Chunks.{joined}
+use Rattle.lsm_formats.specs.Chunks.{joined}
 use Rattle.lsm_writers.specs.Cut.{AreCut}
 use Rattle.lsm_writers.proofs.Cutting.{cut_lost, cut_more, last_is_some, registered_strict}
 use Rattle.lsm_writers.proofs.Orders.{strict_back}

@@ -4,8 +4,8 @@ use Rattle.sst_sections.specs.declared.version.TableVersion.TheVariants.{V4}
 use Rattle.sst_entries.specs.Entry.{Entry}
 use Rattle.sst_blocks.specs.Payload.{payload}
 use Rattle.sst_entries.specs.Strict.{IsStrict}
-use Rattle.lsm_files.specs.Chunks.{joined}
-use Rattle.lsm_files.specs.Index.{last_entry}
+use Rattle.lsm_formats.specs.Chunks.{joined}
+use Rattle.lsm_formats.specs.Index.{last_entry}
 use Rattle.lsm_writers.specs.Cut.{AreCut, chunks_in, Cut, with_cut}
 use Rattle.lsm_writers.proofs.Cutting.{added_is, held_again, held_by_bytes, counted_more, rest_is, room_for, at_least_blocks, exact_blocks, sizes}
 use Rattle.std.proofs.lemmas.List.{append-nil}

@@ -1,0 +1,66 @@
+//! Lists of numbers as the parts of a walk.
+ghost use Rattle.std.specs.Prelude.{Option, Result};
+ghost use Rattle.sst_entries.specs.declared.error.Error.{Error};
+ghost use Rattle.lsm_walks.specs.Parts.{Loading};
+ghost use Rattle.test_walks.specs.Rows.{coming_rows, row_remains};
+
+use lsm_walks::{Direction, Ends, Error, Parts};
+use std::collections::LinkedList;
+
+/// Numbers, dealt from both ends.
+#[derive(Drop)]
+pub struct Row {
+    pub numbers: LinkedList<u8>,
+}
+
+/// Rows, and an error in the place of one that cannot be loaded.
+#[derive(Drop)]
+pub struct Rows {
+    pub rows: LinkedList<Result<Row, Error>>,
+}
+
+impl Ends for Row {
+    type Item = u8;
+
+    ghost left = { row_remains };
+
+    fn step(&mut self, at: Direction) -> Option<Result<u8, Error>> {
+        match at {
+            Direction::Front => match self.numbers.pop_front() {
+                Some(number) => Some(Ok(number)),
+                None => None,
+            },
+            Direction::Back => match self.numbers.pop_back() {
+                Some(number) => Some(Ok(number)),
+                None => None,
+            },
+        }
+    }
+}
+
+impl Parts for Rows {
+    type Part = Row;
+
+    ghost coming = { coming_rows };
+
+    ghost keeps = { λ s named t. Unit {0} };
+
+    ghost ends = { λ s t. Unit {0} };
+
+    fn load(&mut self, at: Direction) -> Option<Result<Row, Error>> {
+        match at {
+            Direction::Front => match self.rows.pop_front() {
+                Some(row) => Some(row),
+                None => None,
+            },
+            Direction::Back => match self.rows.pop_back() {
+                Some(row) => Some(row),
+                None => None,
+            },
+        }
+    }
+
+    fn end(&mut self) {
+        self.rows.clear();
+    }
+}

@@ -1,0 +1,142 @@
+//! Filters of partitions whose options were set between keys.
+ghost use Rattle.std.specs.Prelude.{ℕ, List, [], ◌∷◌, ◌++◌, IfOk};
+ghost use Rattle.lsm_section_writers.specs.Held.{HoldsParts};
+ghost use Rattle.lsm_section_writers.specs.Rising.{Rises};
+ghost use Rattle.test_writers.specs.Keys.{WasGiven};
+
+use lsm_writers::{BloomConstructionPolicy, FilterWriter, PartitionedFilterWriter};
+use sst_blocks::{
+    Block, BlockHandle, BlockOffset, BlockSource, BlockType, Builder, Error, FilterBlock,
+    IndexBlock, Opened, SectionName, SectionWriter, SeqNo, Slice, TagName, UserKey,
+};
+use std::alloc::Global;
+use test_tables::large::asked;
+
+// The partition size, and how many tenths of a bit a key has.
+type Setting = (u32, u32);
+
+// Those before each of three keys.
+type Settings = (Setting, Setting, Setting);
+
+// Registers a key once the options are set.
+fn add(
+    writer: PartitionedFilterWriter,
+    setting: Setting,
+    key: &UserKey,
+) -> Result<PartitionedFilterWriter, Error>
+    requires { Rises (HoldsParts writer) key.now }
+    ensures { IfOk result (λ w. (keys : List (List ℕ)) → WasGiven writer keys →
+        WasGiven w (keys ++ key.now ∷ [])) }
+{
+    let (size, tenths) = setting;
+    let sized = writer.use_partition_size(size);
+    let mut set = sized.set_filter_policy(BloomConstructionPolicy::BitsPerKey(tenths));
+    set.register_key(key)?;
+    Ok(set)
+}
+
+// A writer that is given "a", "b" and "c", each once its options are set.
+fn three_keys(alloc: Global, settings: Settings) -> Result<PartitionedFilterWriter, Error> {
+    let (first, second, third) = settings;
+    let a: UserKey = Slice::from(alloc, b"a")?;
+    let b: UserKey = Slice::from(alloc, b"b")?;
+    let c: UserKey = Slice::from(alloc, b"c")?;
+    let none = PartitionedFilterWriter::new(alloc, BloomConstructionPolicy::default())?;
+    let one = add(none, first, &a)?;
+    let two = add(one, second, &b)?;
+    add(two, third, &c)
+}
+
+// How many partitions it writes, and the bytes.
+fn written(alloc: Global, settings: Settings) -> Result<(usize, Slice), Error> {
+    let mut sections = SectionWriter::new(alloc)?;
+    let count = three_keys(alloc, settings)?.finish(&mut sections)?;
+    let (bytes, _) = sections.finish()?;
+    Ok((count, bytes))
+}
+
+fn index_of(block: Block) -> Result<IndexBlock, Error> {
+    match block.kind() {
+        BlockType::Index => Ok(IndexBlock::new(block)),
+        _ => Err(Error::InvalidTag(TagName::BlockType, 1)),
+    }
+}
+
+fn filter_of(block: Block) -> Result<FilterBlock, Error> {
+    match block.kind() {
+        BlockType::Filter => Ok(FilterBlock::new(block)),
+        _ => Err(Error::InvalidTag(TagName::BlockType, 2)),
+    }
+}
+
+// The top level.
+fn tops_of(source: &BlockSource) -> Result<IndexBlock, Error> {
+    let Some(section) = source.toc().section(SectionName::FilterTli) else {
+        return Err(Error::MissingSection);
+    };
+    let size = u32::try_from(section.len).unwrap_or(0);
+    let lies = BlockHandle::new(BlockOffset(section.position), size);
+    index_of(source.load(&lies, BlockType::Index, &mut Opened::none())?)
+}
+
+// Whether the partition that the top level names for a key admits it.
+fn says(source: &BlockSource, tops: &IndexBlock, key: &[u8]) -> Result<bool, Error> {
+    let Some(lies) = tops.find(key, SeqNo::MAX) else {
+        return Ok(false);
+    };
+    let filter = filter_of(source.load(&lies, BlockType::Filter, &mut Opened::none())?)?;
+    Ok(filter.maybe_contains_hash(Builder::<Global>::get_hash(key)))
+}
+
+// The first byte of the end key of the partition at a place, 0 where there is none.
+fn end_at(tops: &IndexBlock, place: usize) -> Result<u8, Error> {
+    if place >= tops.len() {
+        return Ok(0);
+    }
+    let handle = tops.handle(place)?;
+    Ok(handle.end_key().as_slice().first().copied().unwrap_or(0))
+}
+
+// The end keys of the first partitions, and whether "a", "b" and "c" are admitted.
+type Told = ((u8, u8, u8), (bool, bool, bool));
+
+fn told(source: &BlockSource, tops: &IndexBlock) -> Result<Told, Error> {
+    let ends = (end_at(tops, 0)?, end_at(tops, 1)?, end_at(tops, 2)?);
+    let yes = (
+        says(source, tops, b"a")?,
+        says(source, tops, b"b")?,
+        says(source, tops, b"c")?,
+    );
+    Ok((ends, yes))
+}
+
+// How many partitions are written where options are set between the keys, the end keys of the first
+// ones, and whether "a", "b" and "c" are admitted.
+fn told_of(alloc: Global, settings: Settings) -> Result<(usize, Told), Error> {
+    let (count, bytes) = written(alloc, settings)?;
+    let source = BlockSource::new(alloc, bytes)?;
+    let told = asked(tops_of(&source), |tops| told(&source, tops));
+    Ok((count, told?))
+}
+
+// The settings before each key, how many partitions are written, and their end keys. Up to three
+// keys of ten bits have 8 bytes of bits, and two of 64 bits have 16.
+const CASES: &[(Settings, usize, (u8, u8, u8))] = &[
+    // never larger than the size, and a size that each key reaches
+    (((100, 100), (100, 100), (100, 100)), 1, (b'c', 0, 0)),
+    (((8, 100), (8, 100), (8, 100)), 3, (b'a', b'b', b'c')),
+    // a smaller size, and a larger one behind it
+    (((100, 100), (8, 100), (100, 100)), 2, (b'b', b'c', 0)),
+    (((8, 100), (100, 100), (8, 100)), 2, (b'a', b'c', 0)),
+    // another policy, and the first one again
+    (((16, 100), (16, 640), (16, 100)), 2, (b'b', b'c', 0)),
+    (((16, 640), (16, 100), (16, 640)), 1, (b'c', 0, 0)),
+];
+
+#[test]
+fn options_between_keys_keep_what_was_cut(rt: HostRuntime) {
+    for &(settings, count, ends) in CASES {
+        let expected = (count, (ends, (true, true, true)));
+        assert!(rt; told_of(rt.alloc(), settings) == Ok(expected));
+    }
+}

@@ -1,0 +1,162 @@
+//! Writing one table.
+ghost use Rattle.std.specs.Prelude.{◌≡◌};
+
+use crate::digest::code;
+use lsm_writers::{FinishedTable, Timestamp, Writer};
+use sst_blocks::{Error, InternalValue, SeqNo, Slice, ValueType};
+use std::alloc::Global;
+
+/// What was written: how many tables, how many bytes they have, and the sum of their checksums,
+/// which wraps.
+#[repr(C)]
+#[derive(Clone, Copy)]
+pub struct Written {
+    /// How many tables.
+    pub tables: u64,
+    /// How many bytes.
+    pub bytes: u64,
+    /// The sum of the checksums.
+    pub checksum: u64,
+}
+
+impl Written {
+    /// No table.
+    pub fn none() -> Written
+        ensures { result ≡ record { tables = 0; bytes = 0; checksum = 0 } }
+    {
+        Written {
+            tables: 0,
+            bytes: 0,
+            checksum: 0,
+        }
+    }
+
+    pub(crate) fn add(&mut self, table: &FinishedTable) {
+        // A table's checksum is one of 64 bits.
+        let checksum = u64::try_from(table.checksum.0).unwrap_or(0);
+        self.tables = self.tables.wrapping_add(1);
+        self.bytes = self.bytes.wrapping_add(table.bytes.len() as u64);
+        self.checksum = self.checksum.wrapping_add(checksum);
+    }
+}
+
+// Writes an entry, where it may follow those before it.
+#[inline(always)]
+pub(crate) fn write_next(writer: &mut Writer, item: InternalValue) -> Result<(), Error> {
+    if !writer.can_follow(&item.key) {
+        return Err(Error::Source(3));
+    }
+    writer.write(item)
+}
+
+// The entry whose key and value stand first, and what stands behind them.
+#[inline(always)]
+pub(crate) fn first_item<'a>(
+    alloc: Global,
+    store: &'a [u8],
+    key_len: usize,
+    value_len: usize,
+    seqno: SeqNo,
+) -> Result<(InternalValue, &'a [u8]), Error> {
+    let Some((key, after)) = store.split_at_checked(key_len) else {
+        return Err(Error::Source(1));
+    };
+    let Some((value, after)) = after.split_at_checked(value_len) else {
+        return Err(Error::Source(2));
+    };
+    let key = Slice::from(alloc, key)?;
+    let value = Slice::from(alloc, value)?;
+    let item = InternalValue::from_components(key, value, seqno, ValueType::Value);
+    Ok((item, after))
+}
+
+// Writes entries whose keys and values stand behind one another.
+fn write_each(
+    alloc: Global,
+    writer: &mut Writer,
+    store: &[u8],
+    key_len: usize,
+    value_len: usize,
+    seqno: SeqNo,
+) -> Result<(), Error> {
+    let mut rest = store;
+    for _ in 0..store.len() {
+        if rest.is_empty() {
+            break;
+        }
+        let (item, after) = first_item(alloc, rest, key_len, value_len, seqno)?;
+        rest = after;
+        write_next(writer, item)?;
+    }
+    Ok(())
+}
+
+// Copies a table's bytes to the front of `out`, where there is room.
+fn copy_out(table: &FinishedTable, out: &mut [u8]) {
+    let bytes = table.bytes.as_slice();
+    let len = bytes.len();
+    if len <= out.len() {
+        out[..len].copy_from_slice(bytes);
+    }
+}
+
+// A writer of a table, with index and filter in partitions or each in one block.
+fn writer_of(alloc: Global, partitioned: bool) -> Result<Writer, Error> {
+    let writer = Writer::new(alloc, 1, 0, Timestamp::from(0))?;
+    if partitioned {
+        Ok(writer.use_partitioned_index().use_partitioned_filter())
+    } else {
+        Ok(writer)
+    }
+}
+
+fn build(
+    alloc: Global,
+    partitioned: bool,
+    store: &[u8],
+    key_len: usize,
+    value_len: usize,
+    seqno: SeqNo,
+    out: &mut [u8],
+    written: &mut Written,
+) -> Result<(), Error> {
+    let mut writer = writer_of(alloc, partitioned)?;
+    write_each(alloc, &mut writer, store, key_len, value_len, seqno)?;
+    *written = Written::none();
+    if let Some(table) = writer.finish()? {
+        written.add(&table);
+        copy_out(&table, out);
+    }
+    Ok(())
+}
+
+/// Writes a table of entries, whose keys and values are of one length each and stand behind one
+/// another, all with the same number. Tells what was written, and copies it to the front of `out`
+/// where that has room for all of it.
+#[unsafe(no_mangle)]
+pub extern "C" fn tool_bench_build(
+    alloc: Global,
+    store: &[u8],
+    key_len: usize,
+    value_len: usize,
+    seqno: u64,
+    out: &mut [u8],
+    written: &mut Written,
+) -> u32 {
+    code(build(alloc, false, store, key_len, value_len, seqno, out, written))
+}
+
+/// Writes a table as [`tool_bench_build`] does, with its index and its filter in partitions of 4,096
+/// bytes.
+#[unsafe(no_mangle)]
+pub extern "C" fn tool_bench_build_partitioned(
+    alloc: Global,
+    store: &[u8],
+    key_len: usize,
+    value_len: usize,
+    seqno: u64,
+    out: &mut [u8],
+    written: &mut Written,
+) -> u32 {
+    code(build(alloc, true, store, key_len, value_len, seqno, out, written))
+}

@@ -1,0 +1,184 @@
+//! Compaction of several tables into new ones.
+ghost use Rattle.std.specs.Iterator.{IsFinite};
+
+use crate::builds::{Written, write_next};
+use crate::digest::{Digest, code};
+use crate::files::{open, scanners_of, tables_of};
+use crate::scans::scan;
+use lsm_sorted::Merger;
+use lsm_sorted::compaction::stream::CompactionStream;
+use lsm_tables::Table;
+use lsm_writers::{FinishedTable, Timestamp, Writer};
+use sst_blocks::{Error, IterItem, SeqNo};
+use std::alloc::Global;
+
+// Whether a table has reached the size at which the next one is begun.
+fn is_full(writer: &Writer, target: u64) -> bool {
+    writer.metadata().file_pos.0 >= target
+}
+
+fn new_writer(alloc: Global, id: u64) -> Result<Writer, Error> {
+    Writer::new(alloc, id, 0, Timestamp::from(0))
+}
+
+// Finishes a table, where it has entries.
+fn finish(writer: Writer, out: &mut Vec<FinishedTable>) -> Result<(), Error> {
+    if let Some(table) = writer.finish()? {
+        out.push(table)?;
+    }
+    Ok(())
+}
+
+// Begins the next table where this one has reached its size.
+fn next_table(
+    alloc: Global,
+    writer: &mut Writer,
+    target: u64,
+    out: &mut Vec<FinishedTable>,
+) -> Result<(), Error> {
+    if is_full(writer, target) {
+        let id = (out.len() as u64).wrapping_add(2);
+        let full = std::mem::replace(writer, new_writer(alloc, id)?);
+        finish(full, out)?;
+    }
+    Ok(())
+}
+
+// Writes an entry, into the next table where this one has reached its size.
+fn write_item(
+    alloc: Global,
+    writer: &mut Writer,
+    item: IterItem<Global>,
+    target: u64,
+    out: &mut Vec<FinishedTable>,
+) -> Result<(), Error> {
+    let item = item?;
+    next_table(alloc, writer, target, out)?;
+    write_next(writer, item)
+}
+
+fn write_each<I: Iterator<Item = IterItem<Global>>>(
+    alloc: Global,
+    writer: &mut Writer,
+    stream: &mut I,
+    target: u64,
+    out: &mut Vec<FinishedTable>,
+) -> Result<(), Error>
+    requires can { I.can_next stream.old }
+    requires finite { IsFinite (I.remaining stream.old) }
+{
+    while let Some(item) = stream.next() {
+        write_item(alloc, writer, item, target, out)?;
+    }
+    Ok(())
+}
+
+// Finishes the last table, if all was written.
+fn finish_last(
+    writer: Writer,
+    written: Result<(), Error>,
+    out: &mut Vec<FinishedTable>,
+) -> Result<(), Error> {
+    written?;
+    finish(writer, out)
+}
+
+fn write_all<I: Iterator<Item = IterItem<Global>>>(
+    alloc: Global,
+    stream: &mut I,
+    target: u64,
+) -> Result<Vec<FinishedTable>, Error>
+    requires can { I.can_next stream.old }
+    requires finite { IsFinite (I.remaining stream.old) }
+{
+    let mut out = Vec::new(alloc);
+    let mut writer = new_writer(alloc, 1)?;
+    let written = write_each(alloc, &mut writer, stream, target, &mut out);
+    finish_last(writer, written, &mut out)?;
+    Ok(out)
+}
+
+// Of each key the newest version, in tables of about the target's size.
+fn compacted(alloc: Global, tables: &[Table], target: u64) -> Result<Vec<FinishedTable>, Error> {
+    let merger = Merger::new(alloc, scanners_of(alloc, tables)?)?;
+    let mut stream = CompactionStream::new(merger, SeqNo::MAX);
+    write_all(alloc, &mut stream, target)
+}
+
+pub(crate) fn written_of(tables: &[FinishedTable]) -> Written {
+    let mut written = Written::none();
+    for table in tables {
+        written.add(table);
+    }
+    written
+}
+
+fn compact_passes(
+    alloc: Global,
+    files: &[u8],
+    lens: &[u64],
+    target: u64,
+    passes: u64,
+    written: &mut Written,
+) -> Result<(), Error> {
+    let tables = tables_of(alloc, files, lens)?;
+    for _ in 0..passes {
+        let out = compacted(alloc, &tables, target)?;
+        *written = written_of(out.as_slice());
+    }
+    Ok(())
+}
+
+/// Copies and opens tables, whose bytes stand behind one another, and compacts them so many times
+/// over: of each key the newest version is written, into tables of about `target` bytes. Tells what
+/// the last pass wrote.
+#[unsafe(no_mangle)]
+pub extern "C" fn tool_bench_compact(
+    alloc: Global,
+    files: &[u8],
+    lens: &[u64],
+    target: u64,
+    passes: u64,
+    written: &mut Written,
+) -> u32 {
+    code(compact_passes(alloc, files, lens, target, passes, written))
+}
+
+fn scan_written(alloc: Global, table: FinishedTable, digest: &mut Digest) -> Result<(), Error> {
+    scan(&open(alloc, table.bytes)?, digest)
+}
+
+fn scan_all(alloc: Global, tables: Vec<FinishedTable>, digest: &mut Digest) -> Result<(), Error> {
+    for table in tables {
+        scan_written(alloc, table, digest)?;
+    }
+    Ok(())
+}
+
+fn compact_and_scan(
+    alloc: Global,
+    files: &[u8],
+    lens: &[u64],
+    target: u64,
+    written: &mut Written,
+    digest: &mut Digest,
+) -> Result<(), Error> {
+    let tables = tables_of(alloc, files, lens)?;
+    let out = compacted(alloc, &tables, target)?;
+    *written = written_of(out.as_slice());
+    *digest = Digest::empty();
+    scan_all(alloc, out, digest)
+}
+
+/// Compacts as [`tool_bench_compact`] does, once, and scans what was written.
+#[unsafe(no_mangle)]
+pub extern "C" fn tool_bench_compact_and_scan(
+    alloc: Global,
+    files: &[u8],
+    lens: &[u64],
+    target: u64,
+    written: &mut Written,
+    digest: &mut Digest,
+) -> u32 {
+    code(compact_and_scan(alloc, files, lens, target, written, digest))
+}

@@ -1,0 +1,57 @@
+//! The newest versions of what several tables have together.
+ghost use Rattle.std.specs.Iterator.{IsFinite};
+
+use crate::digest::{Digest, code};
+use crate::files::{scanners_of, tables_of};
+use lsm_sorted::newest_of;
+use lsm_tables::Table;
+use sst_blocks::{Error, IterItem};
+use std::alloc::Global;
+
+// Takes all that a stream gives.
+fn drain<I: Iterator<Item = IterItem<Global>>>(
+    stream: &mut I,
+    digest: &mut Digest,
+) -> Result<(), Error>
+    requires can { I.can_next stream.old }
+    requires finite { IsFinite (I.remaining stream.old) }
+{
+    while let Some(item) = stream.next() {
+        digest.add(&item?);
+    }
+    Ok(())
+}
+
+#[tactic(auto, using(sst_entries::proofs::StreamLemmas::can_now))]
+fn merge(alloc: Global, tables: &[Table], digest: &mut Digest) -> Result<(), Error> {
+    let mut stream = newest_of(alloc, scanners_of(alloc, tables)?)?;
+    drain(&mut stream, digest)
+}
+
+fn merge_passes(
+    alloc: Global,
+    files: &[u8],
+    lens: &[u64],
+    passes: u64,
+    digest: &mut Digest,
+) -> Result<(), Error> {
+    let tables = tables_of(alloc, files, lens)?;
+    for _ in 0..passes {
+        *digest = Digest::empty();
+        merge(alloc, &tables, digest)?;
+    }
+    Ok(())
+}
+
+/// Copies and opens tables, whose bytes stand behind one another, and takes the newest version of
+/// each key of all of them so many times over. Tells what the last pass gave.
+#[unsafe(no_mangle)]
+pub extern "C" fn tool_bench_merge(
+    alloc: Global,
+    files: &[u8],
+    lens: &[u64],
+    passes: u64,
+    digest: &mut Digest,
+) -> u32 {
+    code(merge_passes(alloc, files, lens, passes, digest))
+}

@@ -1,0 +1,150 @@
+//! Entries within bounds, of one table and of several runs.
+ghost use Rattle.std.specs.Iterator.{IsFinite};
+
+use crate::digest::{Digest, code};
+use crate::files::{open_copy, tables_of};
+use lsm_ranges::Run;
+use lsm_tables::{Table, range_runs};
+use sst_blocks::{Error, IterItem, Slice};
+use std::alloc::Global;
+use std::ops::Bound;
+use std::sync::Arc;
+
+// Takes all that an iterator gives. It is generic in it, so that a caller hands a large one on and
+// has none of its parts to let go.
+pub(crate) fn take_all<I: Iterator<Item = IterItem<Global>> + Drop>(
+    mut items: I,
+    digest: &mut Digest,
+) -> Result<(), Error>
+    requires can { I.can_next items }
+    requires finite { IsFinite (I.remaining items) }
+{
+    while let Some(item) = items.next() {
+        digest.add(&item?);
+    }
+    Ok(())
+}
+
+// Takes so many entries from the front, or all where there are fewer.
+fn take_front<I: Iterator<Item = IterItem<Global>> + Drop>(
+    items: I,
+    count: usize,
+    digest: &mut Digest,
+) -> Result<(), Error>
+    requires can { I.can_next items }
+    requires finite { IsFinite (I.remaining items) }
+{
+    let mut left = count;
+    for item in items {
+        if left == 0 {
+            break;
+        }
+        left -= 1;
+        digest.add(&item?);
+    }
+    Ok(())
+}
+
+// Reads some entries from each of these keys on, which stand behind one another.
+fn range_each(
+    alloc: Global,
+    table: &Table,
+    keys: &[u8],
+    key_len: usize,
+    count: usize,
+    digest: &mut Digest,
+) -> Result<(), Error> {
+    let mut rest = keys;
+    for _ in 0..keys.len() {
+        let Some((key, after)) = rest.split_at_checked(key_len) else {
+            break;
+        };
+        rest = after;
+        let from = Bound::Included(Slice::from(alloc, key)?);
+        take_front(table.range(from, Bound::Unbounded)?, count, digest)?;
+    }
+    Ok(())
+}
+
+fn range_passes(
+    alloc: Global,
+    file: &[u8],
+    keys: &[u8],
+    key_len: usize,
+    count: usize,
+    passes: u64,
+    digest: &mut Digest,
+) -> Result<(), Error> {
+    let table = open_copy(alloc, file)?;
+    for _ in 0..passes {
+        *digest = Digest::empty();
+        range_each(alloc, &table, keys, key_len, count, digest)?;
+    }
+    Ok(())
+}
+
+/// Copies and opens a table, and takes so many times over from each of some keys on the first
+/// `count` entries. The keys are of one length and stand behind one another; an incomplete last one
+/// is left out. Tells what the last pass gave.
+#[unsafe(no_mangle)]
+pub extern "C" fn tool_bench_range(
+    alloc: Global,
+    file: &[u8],
+    keys: &[u8],
+    key_len: usize,
+    count: usize,
+    passes: u64,
+    digest: &mut Digest,
+) -> u32 {
+    code(range_passes(alloc, file, keys, key_len, count, passes, digest))
+}
+
+// A run for each table.
+fn runs_of(alloc: Global, tables: Vec<Table>) -> Result<Vec<Arc<Run<Table>>>, Error> {
+    let mut runs = Vec::new(alloc);
+    for table in tables {
+        let mut of_one = Vec::new(alloc);
+        of_one.push(table)?;
+        if let Some(run) = Run::new(of_one) {
+            runs.push(Arc::new(alloc, run)?)?;
+        }
+    }
+    Ok(runs)
+}
+
+#[tactic(auto, using(sst_entries::proofs::StreamLemmas::can_now))]
+fn read_runs(alloc: Global, runs: &[Arc<Run<Table>>], digest: &mut Digest) -> Result<(), Error> {
+    take_all(
+        range_runs(alloc, runs, (Bound::Unbounded, Bound::Unbounded))?,
+        digest,
+    )
+}
+
+fn runs_passes(
+    alloc: Global,
+    files: &[u8],
+    lens: &[u64],
+    passes: u64,
+    digest: &mut Digest,
+) -> Result<(), Error> {
+    let runs = runs_of(alloc, tables_of(alloc, files, lens)?)?;
+    for _ in 0..passes {
+        *digest = Digest::empty();
+        read_runs(alloc, &runs, digest)?;
+    }
+    Ok(())
+}
+
+/// Copies and opens tables, whose bytes stand behind one another, each as a run of its own, and
+/// takes the newest version of each key of all runs so many times over. Tells what the last pass
+/// gave.
+#[unsafe(no_mangle)]
+pub extern "C" fn tool_bench_range_runs(
+    alloc: Global,
+    files: &[u8],
+    lens: &[u64],
+    passes: u64,
+    digest: &mut Digest,
+) -> u32 {
+    code(runs_passes(alloc, files, lens, passes, digest))
+}

@@ -1,0 +1,168 @@
+//! Compaction of several runs by `compact_runs`. It asks for runs whose tables were written of
+//! lists, which bytes that come from outside cannot show; so the lists are handed in and written
+//! here.
+ghost use Rattle.std.specs.Prelude.{◌≡◌, ◌++◌, IfOk, IsPermutation, OnOk, map};
+ghost use Rattle.std.specs.Arc.{arc_value};
+ghost use Rattle.lsm_writers.specs.Writing.{IsWritable};
+ghost use Rattle.lsm_compactions.specs.Compacted.{AreCompactable};
+ghost use Rattle.lsm_compactions.specs.ListRuns.{HasList};
+
+use crate::builds::{Written, first_item};
+use crate::compactions::written_of;
+use crate::digest::code;
+use lsm_ranges::Run;
+use lsm_tables::{Table, compact_runs, write_run};
+use lsm_writers::{FinishedTable, MultiWriter, TableIds, Timestamp, is_writable};
+use sst_blocks::{Error, InternalValue, SeqNo};
+use std::alloc::Global;
+use std::sync::Arc;
+
+// A list whose keys and values stand behind one another, all entries with the same number.
+fn list_of(
+    alloc: Global,
+    store: &[u8],
+    key_len: usize,
+    value_len: usize,
+    seqno: SeqNo,
+) -> Result<Vec<InternalValue>, Error>
+    ensures { IfOk result (λ items. IsWritable items.items) }
+{
+    let mut items = Vec::new(alloc);
+    let mut rest = store;
+    for _ in 0..store.len() {
+        if rest.is_empty() {
+            break;
+        }
+        let (item, after) = first_item(alloc, rest, key_len, value_len, seqno)?;
+        rest = after;
+        items.push(item)?;
+    }
+    if is_writable(&items) {
+        Ok(items)
+    } else {
+        Err(Error::Source(3))
+    }
+}
+
+// An entry that shares another one's key and value.
+fn share(item: &InternalValue) -> Result<InternalValue, Error>
+    ensures { IfOk result (λ e. e ≡ item.now) }
+{
+    let (key, value) = (item.key.user_key.clone()?, item.value.clone()?);
+    Ok(InternalValue::from_components(key, value, item.key.seqno, item.key.value_type))
+}
+
+// Puts entries behind others.
+fn share_behind(all: &mut Vec<InternalValue>, items: &[InternalValue]) -> Result<(), Error>
+    ensures { OnOk result (all.new.items ≡ all.old.items ++ items.now) }
+{
+    for item in items {
+        all.push(share(item)?)?;
+    }
+    Ok(())
+}
+
+// The run of a list, all of it in one table.
+fn run_of(alloc: Global, items: Vec<InternalValue>) -> Result<Arc<Run<Table>>, Error>
+    requires { IsWritable items.items }
+    ensures { IfOk result (λ run. HasList items.items (arc_value run)) }
+{
+    let (ids, created_at) = (TableIds::new(1), Timestamp::from(0));
+    let (run, _) = write_run(alloc, ids, u64::MAX, created_at, items, 0)?;
+    match run {
+        Some(run) => Ok(Arc::new(alloc, run)?),
+        None => Err(Error::Source(2)),
+    }
+}
+
+// Sorts entries by key up and number down.
+fn put_in_order(all: &mut Vec<InternalValue>)
+    ensures { IsPermutation all.old.items all.new.items }
+{
+    all.sort_unstable_by(|x: &InternalValue, y: &InternalValue| x.key.cmp(&y.key));
+}
+
+// A run of each of some lists, which stand behind one another and have so many bytes each. The
+// first is numbered by how many there are, and each further one by one less.
+fn runs_of(
+    alloc: Global,
+    lists: &[u8],
+    lens: &[u64],
+    key_len: usize,
+    value_len: usize,
+) -> Result<Vec<Arc<Run<Table>>>, Error>
+    ensures { IfOk result (λ runs. AreCompactable (map arc_value runs.items)) }
+{
+    let mut runs = Vec::new(alloc);
+    let mut all = Vec::new(alloc);
+    let mut rest = lists;
+    let mut seqno = lens.len() as u64;
+    for len in lens {
+        let Some((list, after)) = rest.split_at_checked(*len as usize) else {
+            return Err(Error::Source(1));
+        };
+        rest = after;
+        let items = list_of(alloc, list, key_len, value_len, seqno)?;
+        seqno = seqno.wrapping_sub(1);
+        share_behind(&mut all, &items)?;
+        runs.push(run_of(alloc, items)?)?;
+    }
+    put_in_order(&mut all);
+    if is_writable(&all) {
+        Ok(runs)
+    } else {
+        Err(Error::Source(3))
+    }
+}
+
+// Of each key the newest version, in tables of about the target's size.
+fn compacted(
+    alloc: Global,
+    runs: &[Arc<Run<Table>>],
+    target: u64,
+) -> Result<Vec<FinishedTable>, Error>
+    requires { AreCompactable (map arc_value runs.now) }
+{
+    let writer = MultiWriter::new(alloc, TableIds::new(1), target, 0, Timestamp::from(0))?;
+    let (tables, _) = compact_runs(alloc, runs, SeqNo::MAX, false, false, writer)?;
+    Ok(tables)
+}
+
+fn compact_passes(
+    alloc: Global,
+    lists: &[u8],
+    lens: &[u64],
+    key_len: usize,
+    value_len: usize,
+    target: u64,
+    passes: u64,
+    written: &mut Written,
+) -> Result<(), Error> {
+    let runs = runs_of(alloc, lists, lens, key_len, value_len)?;
+    for _ in 0..passes {
+        let tables = compacted(alloc, &runs, target)?;
+        *written = written_of(tables.as_slice());
+    }
+    Ok(())
+}
+
+/// Writes a table of each of some lists and opens it as a run, and compacts the runs so many times
+/// over by [`compact_runs`]: of each key the newest version is written, into tables of about
+/// `target` bytes. The lists stand behind one another and have so many bytes each; keys and values
+/// are of one length each; the first list is numbered by how many there are, and each further one
+/// by one less. Tells what the last pass wrote.
+#[unsafe(no_mangle)]
+pub extern "C" fn tool_bench_compact_runs(
+    alloc: Global,
+    lists: &[u8],
+    lens: &[u64],
+    key_len: usize,
+    value_len: usize,
+    target: u64,
+    passes: u64,
+    written: &mut Written,
+) -> u32 {
+    code(compact_passes(
+        alloc, lists, lens, key_len, value_len, target, passes, written,
+    ))
+}
