@@ -12,8 +12,5 @@ mod volatile;
 pub use full::{FullBlockIndex, Iter as FullBlockIndexIter};
 pub use iter::OwnedIndexBlockIter;
 pub use kinds::{BlockIndex, BlockIndexImpl, BlockIndexIter, BlockIndexIterImpl};
-pub use sst_blocks::{
-    BlockHandle, BlockSource, Error, IndexBlock, KeyedBlockHandle, Opened, SeqNo,
-};
 pub use two_level::{Iter as TwoLevelBlockIndexIter, TwoLevelBlockIndex};
 pub use volatile::{Iter as VolatileBlockIndexIter, VolatileBlockIndex};

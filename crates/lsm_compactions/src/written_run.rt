@@ -13,7 +13,8 @@ ghost use Rattle.lsm_compactions.specs.Words.{ids_behind};
 ghost use Rattle.lsm_compactions.specs.Words.{joined, lift, number_fault, run_label, tables_fault};
 
 use lsm_ranges::Run;
-use lsm_readers::{Table, Timestamp};
+use lsm_readers::Table;
+use lsm_formats::Timestamp;
 use lsm_writers::{FinishedTable, MultiWriter, TableIds, tables_law};
 use sst_blocks::{Error, InternalValue, SeqNo};
 use std::alloc::Allocator;

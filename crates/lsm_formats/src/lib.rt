@@ -12,5 +12,4 @@ pub use id::{GlobalTableId, TableId, TreeId};
 pub use item_name::{FILTER_HASH_TYPE, ItemName};
 pub use label::Label;
 pub use options::{FilterKind, IndexKind, Options};
-pub use sst_filters::BloomConstructionPolicy;
 pub use timestamp::Timestamp;

@@ -7,7 +7,7 @@ ghost use Rattle.lsm_iters.specs.Words.{upper_edge};
 
 use crate::Bound;
 use lsm_block_indexes::{BlockIndexIter, BlockIndexIterImpl};
-use lsm_walks::Direction;
+use sst_entries::Direction;
 use sst_blocks::{Error, KeyedBlockHandle, Opened, SeqNo};
 use std::alloc::Allocator;
 use std::marker::Model;

@@ -13,9 +13,5 @@ mod pairs;
 pub use bound::Bound;
 pub use iter::Iter;
 pub use lift::lift_seqno;
-pub use lsm_block_indexes::{BlockIndexIter, BlockIndexIterImpl};
 pub use owned::OwnedDataBlockIter;
 pub use pairs::beside;
-pub use sst_blocks::{
-    BlockSource, CompressionType, DataBlock, Error, IterItem, Opened, SeqNo, UserKey,
-};

@@ -12,12 +12,6 @@ mod scanner;
 mod table;
 
 pub use inner::{Inner, PinnedBlockIndex};
-pub use lsm_block_indexes::{
-    BlockIndex, BlockIndexImpl, BlockIndexIter, BlockIndexIterImpl, FullBlockIndex,
-    OwnedIndexBlockIter, TwoLevelBlockIndex, VolatileBlockIndex,
-};
-pub use lsm_formats::{GlobalTableId, TableId, Timestamp, TreeId};
-pub use lsm_iters::{Bound, Iter, OwnedDataBlockIter};
 pub use meta::ParsedMeta;
 pub use point::point_in;
 pub use regions::ParsedRegions;

@@ -24,4 +24,3 @@ pub use index_either::IndexWriterImpl;
 pub use index_full::FullIndexWriter;
 pub use index_partitioned::PartitionedIndexWriter;
 pub use index_writer::BlockIndexWriter;
-pub use lsm_formats::{FilterKind, IndexKind};

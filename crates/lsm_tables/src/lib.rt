@@ -15,11 +15,15 @@ pub use compacted::compact_run_back;
 pub use lsm_compactions::{
     compact_runs, compact_to_run, compaction_law, pack_runs, packing_law, write_run,
 };
+pub use lsm_block_indexes::{
+    BlockIndex, BlockIndexImpl, BlockIndexIter, BlockIndexIterImpl, FullBlockIndex,
+    OwnedIndexBlockIter, TwoLevelBlockIndex, VolatileBlockIndex,
+};
+pub use lsm_iters::{Bound, Iter, OwnedDataBlockIter};
+pub use lsm_formats::{GlobalTableId, TableId, Timestamp, TreeId};
 pub use lsm_readers::{
-    BlockIndex, BlockIndexImpl, BlockIndexIter, BlockIndexIterImpl, Bound, FullBlockIndex,
-    GlobalTableId, Inner, Iter, OwnedDataBlockIter, OwnedIndexBlockIter, ParsedMeta, ParsedRegions,
-    PinnedBlockIndex, Query, Scanner, Table, TableId, TableInner, Timestamp, TreeId,
-    TwoLevelBlockIndex, VolatileBlockIndex, get_many, point_in,
+    Inner, ParsedMeta, ParsedRegions, PinnedBlockIndex, Query, Scanner, Table, TableInner,
+    get_many, point_in,
 };
 pub use lsm_runs::{NewestOfRuns, RunReader, RunScanner, get_runs, get_runs_counted, range_runs};
 pub use lsm_sorted::compaction::Rules;

@@ -7,5 +7,4 @@ mod walk;
 
 pub use ends::Ends;
 pub use parts::Parts;
-pub use sst_entries::{Direction, Error};
 pub use walk::Walk;

@@ -7,9 +7,9 @@ mod table_ids;
 mod writer;
 
 pub use list::{is_writable, write_list};
+pub use sst_filters::BloomConstructionPolicy;
 pub use lsm_formats::{
-    BloomConstructionPolicy, FilterKind, GlobalTableId, IndexKind, Label, Options, TableId,
-    Timestamp, TreeId,
+    FilterKind, GlobalTableId, IndexKind, Label, Options, TableId, Timestamp, TreeId,
 };
 pub use lsm_section_writers::{
     BlockIndexWriter, FilterWriter, FilterWriterImpl, FullFilterWriter, FullIndexWriter,

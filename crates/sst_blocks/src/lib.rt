@@ -28,8 +28,11 @@ pub use opened::Opened;
 pub use source::BlockSource;
 pub use sst_filters::{BloomConstructionPolicy, Builder, contains_hash, filter_bound};
 pub use sst_sections::{
-    Checksum, Direction, Error, InternalKey, InternalValue, IterItem, Section, SectionName,
-    SectionWriter, SeqNo, Slice, TableVersion, TagName, Toc, UserKey, UserValue, ValueType,
-    answer_at, answers_at, are_strict, compare_versions, from_the_front, has_hash, hash, hash_four,
-    have_hashes, source_of,
+    Checksum, Section, SectionName, SectionWriter, TableVersion, Toc, has_hash, hash, hash_four,
+    have_hashes,
+};
+pub use sst_entries::{
+    Direction, Error, InternalKey, InternalValue, IterItem, SeqNo, Slice, TagName, UserKey,
+    UserValue, ValueType, answer_at, answers_at, are_strict, compare_versions, from_the_front,
+    source_of,
 };

@@ -5,7 +5,7 @@ ghost use Rattle.sst_entries.specs.Error.{Faults, FaultsFirst};
 ghost use Rattle.sst_filters.specs.Policy.{bound_for, empty_filter, fault_for, probe_count, size_for, tenths_of};
 
 use crate::Builder;
-use sst_sections::Error;
+use sst_entries::Error;
 use std::alloc::Allocator;
 
 /// How large a filter is made.

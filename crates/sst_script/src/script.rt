@@ -21,7 +21,8 @@ use crate::{
 };
 use lsm_compactions::{compact_to_run, pack_runs};
 use lsm_ranges::Run;
-use lsm_readers::{Table, Timestamp};
+use lsm_readers::Table;
+use lsm_formats::Timestamp;
 use lsm_sorted::compaction::Rules;
 use lsm_writers::TableIds;
 use sst_blocks::SeqNo;

@@ -12,10 +12,5 @@ mod version;
 pub use checksum::Checksum;
 pub use fnv::{has_hash, hash, hash_four, have_hashes};
 pub use section::{Section, SectionName, SectionWriter, TRAILER_LEN, finished_sections_read};
-pub use sst_entries::{
-    Direction, Error, InternalKey, InternalValue, IterItem, SeqNo, Slice, TagName, UserKey,
-    UserValue, ValueType, answer_at, answers_at, are_strict, compare_versions, from_the_front,
-    source_of,
-};
 pub use toc::Toc;
 pub use version::TableVersion;

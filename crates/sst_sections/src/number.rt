@@ -4,7 +4,9 @@ ghost use Rattle.sst_sections.specs.Number.{le4, le8, num2, num4, num8};
 ghost use Rattle.sst_sections.specs.Version.{key_len_at, key_width};
 ghost use Rattle.sst_entries.specs.declared.error.Error.TheVariants.{OutOfMemory};
 
-use crate::{Error, TableVersion};
+use sst_entries::Error;
+
+use crate::TableVersion;
 use byteorder::{ByteOrder, LittleEndian};
 use std::alloc::Allocator;
 

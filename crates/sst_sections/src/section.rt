@@ -11,7 +11,8 @@ ghost use Rattle.sst_entries.specs.declared.error.Error.TheVariants.{OutOfMemory
 
 use crate::fnv::{Fnv1a, update_both};
 use crate::number::put_u64;
-use crate::{Checksum, Error, Slice};
+use crate::Checksum;
+use sst_entries::{Error, Slice};
 use std::alloc::{Allocator, Global};
 use std::marker::Model;
 

@@ -4,7 +4,9 @@ ghost use Rattle.sst_entries.specs.declared.error.Error.{Error};
 ghost use Rattle.lsm_walks.specs.Parts.{Loading};
 ghost use Rattle.test_walks.specs.Rows.{coming_rows, row_remains};
 
-use lsm_walks::{Direction, Ends, Error, Parts};
+use sst_entries::{Direction, Error};
+
+use lsm_walks::{Ends, Parts};
 use std::collections::LinkedList;
 
 /// Numbers, dealt from both ends.

@@ -1,6 +1,7 @@
 //! What a walk deals from both ends, and when it loads.
 use crate::{Row, Rows};
-use lsm_walks::{Direction, Ends, Error, Walk};
+use sst_entries::{Direction, Error};
+use lsm_walks::{Ends, Walk};
 use std::alloc::Global;
 use std::collections::LinkedList;
 

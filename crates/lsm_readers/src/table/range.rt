@@ -8,7 +8,9 @@ ghost use Rattle.lsm_readers.specs.Words.{IsRangeOf, IsTable, LoadsAtMost};
 ghost use Rattle.lsm_readers.specs.Words.{OpenTable, blocks_within, index_read, index_within};
 ghost use Rattle.lsm_readers.specs.Words.{range_told, table_index};
 
-use crate::{BlockIndex, BlockIndexImpl, Inner, Table};
+use lsm_block_indexes::{BlockIndex, BlockIndexImpl};
+
+use crate::{Inner, Table};
 use lsm_iters::{Bound as Edge, Iter, beside};
 use sst_blocks::{Error, UserKey};
 use std::alloc::Allocator;

@@ -6,7 +6,9 @@ ghost use Rattle.lsm_writers.specs.Words.{WritesFilter};
 ghost use Rattle.lsm_writers.specs.Words.{filter_fault, registered_key, tenths_of};
 ghost use Rattle.sst_entries.specs.declared.error.Error.TheVariants.{OutOfMemory};
 
-use lsm_formats::{BloomConstructionPolicy, FilterKind, Options};
+use sst_filters::BloomConstructionPolicy;
+
+use lsm_formats::{FilterKind, Options};
 use lsm_section_writers::{
     FilterWriter, FilterWriterImpl, FullFilterWriter, PartitionedFilterWriter, small_partitions_fit,
 };
