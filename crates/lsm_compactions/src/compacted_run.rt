@@ -11,9 +11,9 @@ ghost use Rattle.lsm_compactions.specs.Words.{run_label, tables_fault};
 
 use crate::compact_runs;
 use crate::written_run::open_tables;
+use lsm_formats::Timestamp;
 use lsm_ranges::Run;
 use lsm_readers::Table;
-use lsm_formats::Timestamp;
 use lsm_sorted::compaction::Rules;
 use lsm_writers::{FinishedTable, MultiWriter, TableIds};
 use sst_blocks::Error;

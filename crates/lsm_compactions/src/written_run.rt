@@ -12,9 +12,9 @@ ghost use Rattle.lsm_compactions.specs.Words.{chain_fault, default_options, high
 ghost use Rattle.lsm_compactions.specs.Words.{ids_behind};
 ghost use Rattle.lsm_compactions.specs.Words.{joined, lift, number_fault, run_label, tables_fault};
 
+use lsm_formats::Timestamp;
 use lsm_ranges::Run;
 use lsm_readers::Table;
-use lsm_formats::Timestamp;
 use lsm_writers::{FinishedTable, MultiWriter, TableIds, tables_law};
 use sst_blocks::{Error, InternalValue, SeqNo};
 use std::alloc::Allocator;

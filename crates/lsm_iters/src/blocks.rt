@@ -11,9 +11,9 @@ ghost use Rattle.lsm_iters.specs.Words.{place_fault, rest_in, stored_rows, upper
 use crate::cut::cut;
 use crate::handles::Handles;
 use crate::{Bound, OwnedDataBlockIter};
-use sst_entries::Direction;
 use lsm_walks::Parts;
 use sst_blocks::{BlockSource, BlockType, DataBlock, Error, KeyedBlockHandle, Opened, SeqNo};
+use sst_entries::Direction;
 use std::alloc::Allocator;
 use std::marker::Model;
 

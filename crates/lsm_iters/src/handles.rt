@@ -7,8 +7,8 @@ ghost use Rattle.lsm_iters.specs.Words.{upper_edge};
 
 use crate::Bound;
 use lsm_block_indexes::{BlockIndexIter, BlockIndexIterImpl};
-use sst_entries::Direction;
 use sst_blocks::{Error, KeyedBlockHandle, Opened, SeqNo};
+use sst_entries::Direction;
 use std::alloc::Allocator;
 use std::marker::Model;
 

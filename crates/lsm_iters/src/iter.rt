@@ -12,9 +12,9 @@ use crate::handles::Handles;
 use crate::pairs::beside;
 use crate::{Bound, OwnedDataBlockIter};
 use lsm_block_indexes::BlockIndexIterImpl;
-use sst_entries::Direction;
 use lsm_walks::Walk;
 use sst_blocks::{BlockSource, CompressionType, Error, IterItem, Opened, SeqNo};
+use sst_entries::Direction;
 use std::alloc::{Allocator, Global};
 use std::marker::Model;
 

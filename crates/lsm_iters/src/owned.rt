@@ -6,9 +6,9 @@ ghost use Rattle.lsm_iters.specs.Words.{DealsLeft, IsStrict, KeepsLower, KeepsUp
 ghost use Rattle.lsm_iters.specs.Words.{span_remains, lower_place, rest_in, span_from, span_to, upper_place, whole_span, within};
 
 use crate::Bound;
-use sst_entries::Direction;
 use lsm_walks::Ends;
 use sst_blocks::{DataBlock, InternalValue, IterItem, SeqNo};
+use sst_entries::Direction;
 use std::alloc::{Allocator, Global};
 use std::marker::Model;
 

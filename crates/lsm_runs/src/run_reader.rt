@@ -11,8 +11,8 @@ ghost use Rattle.lsm_runs.specs.Words.{span_list, span_of, stopped_run, within};
 
 use crate::spans::{ends_in, places_within};
 use crate::unopened::Unopened;
-use lsm_ranges::{Ranged, Run};
 use lsm_iters::Iter;
+use lsm_ranges::{Ranged, Run};
 use lsm_readers::Table;
 use sst_blocks::{Error, IterItem, UserKey};
 use std::alloc::{Allocator, Global};

@@ -11,8 +11,8 @@ ghost use Rattle.lsm_runs.specs.RunRange.{OpensAt, none_unopened};
 
 use crate::bounds::share;
 use crate::spans::{is_end, place_behind};
-use lsm_ranges::Run;
 use lsm_iters::Iter;
+use lsm_ranges::Run;
 use lsm_readers::Table;
 use sst_blocks::{Error, UserKey};
 use std::alloc::Allocator;

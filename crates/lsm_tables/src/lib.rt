@@ -12,15 +12,15 @@ mod written;
 
 pub use chain::read_run_back;
 pub use compacted::compact_run_back;
-pub use lsm_compactions::{
-    compact_runs, compact_to_run, compaction_law, pack_runs, packing_law, write_run,
-};
 pub use lsm_block_indexes::{
     BlockIndex, BlockIndexImpl, BlockIndexIter, BlockIndexIterImpl, FullBlockIndex,
     OwnedIndexBlockIter, TwoLevelBlockIndex, VolatileBlockIndex,
 };
-pub use lsm_iters::{Bound, Iter, OwnedDataBlockIter};
+pub use lsm_compactions::{
+    compact_runs, compact_to_run, compaction_law, pack_runs, packing_law, write_run,
+};
 pub use lsm_formats::{GlobalTableId, TableId, Timestamp, TreeId};
+pub use lsm_iters::{Bound, Iter, OwnedDataBlockIter};
 pub use lsm_readers::{
     Inner, ParsedMeta, ParsedRegions, PinnedBlockIndex, Query, Scanner, Table, TableInner,
     get_many, point_in,

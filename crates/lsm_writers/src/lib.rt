@@ -7,7 +7,6 @@ mod table_ids;
 mod writer;
 
 pub use list::{is_writable, write_list};
-pub use sst_filters::BloomConstructionPolicy;
 pub use lsm_formats::{
     FilterKind, GlobalTableId, IndexKind, Label, Options, TableId, Timestamp, TreeId,
 };
@@ -17,6 +16,7 @@ pub use lsm_section_writers::{
     registered_keys_are_admitted, small_partitions_fit,
 };
 pub use multi_writer::{MultiWriter, tables_law};
+pub use sst_filters::BloomConstructionPolicy;
 pub use table_ids::TableIds;
 pub use writer::meta::Metadata;
 pub use writer::{FinishedTable, Writer};

@@ -17,9 +17,9 @@ ghost use Rattle.lsm_writers.specs.Tables.{CutLaw, IsStanding, OneCutLaw, OneKey
 ghost use Rattle.lsm_writers.specs.Tables.{took, took_fault, turn_fault, with_options};
 
 use crate::{FinishedTable, TableIds, Timestamp, Writer};
-use sst_filters::BloomConstructionPolicy;
 use lsm_formats::{FilterKind, IndexKind, Options};
 use sst_blocks::{CompressionType, Error, InternalKey, InternalValue, SeqNo};
+use sst_filters::BloomConstructionPolicy;
 use std::alloc::{Allocator, Global};
 use std::marker::Model;
 use std::mem;

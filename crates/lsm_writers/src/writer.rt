@@ -29,7 +29,6 @@ mod meta_block;
 use crate::{TableId, Timestamp};
 use data_blocks::DataBlocks;
 use filter::{finish_filter, register_key};
-use sst_filters::BloomConstructionPolicy;
 use lsm_formats::{FilterKind, IndexKind, Label, Options};
 use lsm_section_writers::{BlockIndexWriter, FilterWriterImpl, IndexWriterImpl};
 use meta::{Metadata, Tally, starts_key};
@@ -39,6 +38,7 @@ use sst_blocks::{
     SeqNo, Slice, TableVersion,
 };
 use sst_entries::compare_versions;
+use sst_filters::BloomConstructionPolicy;
 use std::alloc::{Allocator, Global};
 use std::marker::Model;
 

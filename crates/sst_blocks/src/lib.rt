@@ -26,13 +26,13 @@ pub use index_block::{HANDLE_HEAD_LEN, IndexBlock, Iter as IndexBlockIter, index
 pub use loads::{Counted, LoadBlocks};
 pub use opened::Opened;
 pub use source::BlockSource;
-pub use sst_filters::{BloomConstructionPolicy, Builder, contains_hash, filter_bound};
-pub use sst_sections::{
-    Checksum, Section, SectionName, SectionWriter, TableVersion, Toc, has_hash, hash, hash_four,
-    have_hashes,
-};
 pub use sst_entries::{
     Direction, Error, InternalKey, InternalValue, IterItem, SeqNo, Slice, TagName, UserKey,
     UserValue, ValueType, answer_at, answers_at, are_strict, compare_versions, from_the_front,
     source_of,
+};
+pub use sst_filters::{BloomConstructionPolicy, Builder, contains_hash, filter_bound};
+pub use sst_sections::{
+    Checksum, Section, SectionName, SectionWriter, TableVersion, Toc, has_hash, hash, hash_four,
+    have_hashes,
 };

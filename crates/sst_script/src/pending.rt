@@ -11,9 +11,9 @@ ghost use Rattle.sst_script.specs.Script.{entry_failure, target_size};
 
 use crate::Failure;
 use lsm_compactions::write_run;
+use lsm_formats::Timestamp;
 use lsm_ranges::Run;
 use lsm_readers::Table;
-use lsm_formats::Timestamp;
 use lsm_writers::TableIds;
 use sst_blocks::{Error, InternalValue, SeqNo, Slice, ValueType};
 use std::alloc::Allocator;

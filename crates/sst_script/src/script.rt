@@ -20,9 +20,9 @@ use crate::{
     Answer, Command, Failure, Stop, parse_command, print_answer, print_refusal, print_stop,
 };
 use lsm_compactions::{compact_to_run, pack_runs};
+use lsm_formats::Timestamp;
 use lsm_ranges::Run;
 use lsm_readers::Table;
-use lsm_formats::Timestamp;
 use lsm_sorted::compaction::Rules;
 use lsm_writers::TableIds;
 use sst_blocks::SeqNo;

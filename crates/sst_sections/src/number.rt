@@ -4,10 +4,9 @@ ghost use Rattle.sst_sections.specs.Number.{le4, le8, num2, num4, num8};
 ghost use Rattle.sst_sections.specs.Version.{key_len_at, key_width};
 ghost use Rattle.sst_entries.specs.declared.error.Error.TheVariants.{OutOfMemory};
 
-use sst_entries::Error;
-
 use crate::TableVersion;
 use byteorder::{ByteOrder, LittleEndian};
+use sst_entries::Error;
 use std::alloc::Allocator;
 
 #[inline]

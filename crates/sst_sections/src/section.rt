@@ -9,9 +9,9 @@ ghost use Rattle.sst_sections.specs.Sections.{slot_index, section_names, section
 ghost use Rattle.sst_sections.specs.Sections.{trailer_mark};
 ghost use Rattle.sst_entries.specs.declared.error.Error.TheVariants.{OutOfMemory};
 
+use crate::Checksum;
 use crate::fnv::{Fnv1a, update_both};
 use crate::number::put_u64;
-use crate::Checksum;
 use sst_entries::{Error, Slice};
 use std::alloc::{Allocator, Global};
 use std::marker::Model;

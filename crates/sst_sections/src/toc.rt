@@ -8,8 +8,8 @@ ghost use Rattle.sst_sections.specs.Sections.{section_names, slots_len, trailer_
 
 use crate::number::u64_at;
 use crate::section::{TRAILER_LEN, TRAILER_MARK};
-use sst_entries::Error;
 use crate::{Section, SectionName};
+use sst_entries::Error;
 use std::marker::Model;
 
 /// The length of the seven slots of a trailer in bytes: the mark stands behind them.

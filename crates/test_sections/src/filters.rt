@@ -1,7 +1,7 @@
 //! Filters: their sizes, their bits, and which hashes they admit.
 use crate::large::{are_bytes, asked, holds, is_answer};
-use sst_filters::{BloomConstructionPolicy, Builder, contains_hash, filter_bound};
 use sst_entries::Error;
+use sst_filters::{BloomConstructionPolicy, Builder, contains_hash, filter_bound};
 use sst_sections::hash;
 use std::alloc::{Allocator, Global};
 use test_refusing::{Refusing, each_refused};

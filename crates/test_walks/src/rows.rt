@@ -4,9 +4,8 @@ ghost use Rattle.sst_entries.specs.declared.error.Error.{Error};
 ghost use Rattle.lsm_walks.specs.Parts.{Loading};
 ghost use Rattle.test_walks.specs.Rows.{coming_rows, row_remains};
 
-use sst_entries::{Direction, Error};
-
 use lsm_walks::{Ends, Parts};
+use sst_entries::{Direction, Error};
 use std::collections::LinkedList;
 
 /// Numbers, dealt from both ends.

@@ -1,7 +1,7 @@
 //! What a walk deals from both ends, and when it loads.
 use crate::{Row, Rows};
-use sst_entries::{Direction, Error};
 use lsm_walks::{Ends, Walk};
+use sst_entries::{Direction, Error};
 use std::alloc::Global;
 use std::collections::LinkedList;
 

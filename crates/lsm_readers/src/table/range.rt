@@ -8,9 +8,8 @@ ghost use Rattle.lsm_readers.specs.Words.{IsRangeOf, IsTable, LoadsAtMost};
 ghost use Rattle.lsm_readers.specs.Words.{OpenTable, blocks_within, index_read, index_within};
 ghost use Rattle.lsm_readers.specs.Words.{range_told, table_index};
 
-use lsm_block_indexes::{BlockIndex, BlockIndexImpl};
-
 use crate::{Inner, Table};
+use lsm_block_indexes::{BlockIndex, BlockIndexImpl};
 use lsm_iters::{Bound as Edge, Iter, beside};
 use sst_blocks::{Error, UserKey};
 use std::alloc::Allocator;

@@ -6,13 +6,12 @@ ghost use Rattle.lsm_writers.specs.Words.{WritesFilter};
 ghost use Rattle.lsm_writers.specs.Words.{filter_fault, registered_key, tenths_of};
 ghost use Rattle.sst_entries.specs.declared.error.Error.TheVariants.{OutOfMemory};
 
-use sst_filters::BloomConstructionPolicy;
-
 use lsm_formats::{FilterKind, Options};
 use lsm_section_writers::{
     FilterWriter, FilterWriterImpl, FullFilterWriter, PartitionedFilterWriter, small_partitions_fit,
 };
 use sst_blocks::{Error, SectionWriter, UserKey};
+use sst_filters::BloomConstructionPolicy;
 use std::alloc::Allocator;
 
 /// A filter writer of the options' kind and policy, without keys.
