@@ -1,5 +1,5 @@
-//! Merging of several sorted sources, from both ends. Of `lsm_heaps` it passes on `IntervalHeap`
-//! and `Tournament`.
+//! Merging of several sorted sources, from both ends, and the queues with two ends for it: an
+//! interval heap, and a pair of tournaments.
 #![tactic(auto)]
 
 mod ends;
