@@ -7,7 +7,7 @@ ghost use Rattle.lsm_readers.specs.Words.{Entry, Gives, Place, admitted_handle, 
 
 use crate::point::{admitted_handle, read_in};
 use crate::{Inner, Query};
-use sst_blocks::{BlockHandle, BlockSource, BlockType, Error, InternalValue, LoadBlocks, hash};
+use sst_blocks::{BlockHandle, BlockSource, BlockType, Builder, Error, InternalValue, LoadBlocks};
 use sst_entries::compare_versions;
 use std::alloc::{AllocError, Allocator, Global};
 use std::cmp::Ordering;
@@ -94,7 +94,7 @@ fn place_at<S: LoadBlocks>(
     let query = queries.get(at)?;
     let key = query.key.as_slice();
     let low = query.seqno.saturating_sub(inner.global_seqno);
-    match admitted_handle(source, inner, key, low, hash(key)) {
+    match admitted_handle(source, inner, key, low, Builder::<S::Alloc>::get_hash(key)) {
         Ok(handle) => Some(Placed { at, handle }),
         Err(_) => None,
     }
