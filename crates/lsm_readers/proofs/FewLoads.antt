@@ -9,7 +9,7 @@ use Rattle.sst_blocks.specs.Handle.{Handle}
 use Rattle.sst_blocks.specs.Opened.{with_load}
 use Rattle.sst_blocks.specs.Place.{Place}
 use Rattle.sst_filters.specs.Filter.{BloomFilter}
-use Rattle.sst_sections.specs.Fnv.{fnv1a}
+use Rattle.sst_filters.specs.KeyHash.{hash_of}
 use Rattle.lsm_readers.specs.Answer.{LoadsFew, admission, admitted_handle, answer, filter_admits, handle_by, handle_for, match_in, most_filter_loads, most_index_loads, part_admits, handle_in_part, place_in}
 use Rattle.lsm_readers.specs.Parts.{Parts, PinnedIndex, full, volatile, two_level}
 use Rattle.lsm_readers.specs.Read.{Opens, Read, known, loads_behind, opened_by}
@@ -113,8 +113,8 @@ abbrev filter_most : Parts → ℕ
 filter_most parts = most_filter_loads parts.pinned.filter_tops parts.pinned.filter parts.regions.filter
 
 low_up : (body : List ℕ) (parts : Parts) (key : List ℕ) (above : Bool)
-    → UpTo Filter (filter_most parts) (cond above (filter_admits body parts.pinned.filter_tops parts.pinned.filter parts.regions.filter key (fnv1a key)) (known false)).loads
-low_up body parts key true = filter_up body parts.pinned.filter_tops parts.pinned.filter parts.regions.filter key (fnv1a key)
+    → UpTo Filter (filter_most parts) (cond above (filter_admits body parts.pinned.filter_tops parts.pinned.filter parts.regions.filter key (hash_of key)) (known false)).loads
+low_up body parts key true = filter_up body parts.pinned.filter_tops parts.pinned.filter parts.regions.filter key (hash_of key)
 low_up body parts key false = inl refl
 
 handle_part_up : (body key : List ℕ) (bound : ℕ) (place : Option Place) → UpTo Index 1 (handle_in_part body key bound place).loads

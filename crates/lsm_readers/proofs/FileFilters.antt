@@ -8,7 +8,7 @@ use Rattle.std.specs.declared.cmp.Ordering.TheVariants.{Less, Equal, Greater}
 use Rattle.std.specs.Cmp.Lexicographic.{nat_list_cmp_total, slice_cmp}
 use Rattle.std.proofs.lemmas.List.Concat.{flat_map-append}
 use Rattle.sst_sections.specs.declared.version.TableVersion.{TableVersion}
-use Rattle.sst_sections.specs.Fnv.{fnv1a}
+use Rattle.sst_filters.specs.KeyHash.{hash_of}
 use Rattle.sst_sections.specs.Version.{longest_key}
 use Rattle.sst_entries.specs.declared.error.Error.{Error}
 use Rattle.sst_entries.specs.declared.value_type.ValueType.TheVariants.{Value}
@@ -117,7 +117,7 @@ filter_loads v f pre post body offset size built at len e =
 
 -- what a filter says of a key
 abbrev pub says : List ℕ → Loaded → Bool
-says key b = admits (filter_in b.payload) (fnv1a key)
+says key b = admits (filter_in b.payload) (hash_of key)
 
 -- an answer, and where it is no, the key is none of the keys
 pub record Asked (told : Result Bool Error) (keys : List (List ℕ)) (key : List ℕ) : Type 0 where
@@ -125,15 +125,15 @@ pub record Asked (told : Result Bool Error) (keys : List (List ℕ)) (key : List
   pub told_is : told ≡ Ok answer
   pub no : answer ≡ false → has_key key keys ≡ false
 
-pub no_key : (policy : BloomConstructionPolicy) (keys : List (List ℕ)) (f : BloomFilter) (key : List ℕ) → IsFilterFor policy keys f → admits f (fnv1a key) ≡ false → has_key key keys ≡ false
+pub no_key : (policy : BloomConstructionPolicy) (keys : List (List ℕ)) (f : BloomFilter) (key : List ℕ) → IsFilterFor policy keys f → admits f (hash_of key) ≡ false → has_key key keys ≡ false
 no_key policy keys f key is denied =
     let some : 8 ≤ length f.bits = rw (is.size) (wide ((length keys * tenths_of policy + 79) / 80)) in
-    is_false (has_key key keys) (λ here. apart (admits f (fnv1a key)) (admits_its_hashes f (map fnv1a keys) (fnv1a key) (omega (arith, some)) is.hashes (hash_in key keys here)) denied)
+    is_false (has_key key keys) (λ here. apart (admits f (hash_of key)) (admits_its_hashes f (map hash_of keys) (hash_of key) (omega (arith, some)) is.hashes (hash_in key keys here)) denied)
 
 pub filter_asked : (policy : BloomConstructionPolicy) (keys : List (List ℕ)) (f : BloomFilter) (key body : List ℕ) (offset size : ℕ) → IsFilterFor policy keys f → LoadsFilter body offset size f
     → Asked (load_told body offset size Filter >>= λ b. Ok (says key b)) keys key
 filter_asked policy keys f key body offset size is l = record {
-  answer = admits f (fnv1a key);
+  answer = admits f (hash_of key);
   told_is = rw (l.loads, l.filter) refl;
   no = no_key policy keys f key is;
 }

@@ -5,7 +5,7 @@ use Rattle.std.specs.List.{AllByRecursion, flat_map}
 use Rattle.std.specs.Option.{option_map}
 use Rattle.sst_sections.specs.declared.version.TableVersion.{TableVersion}
 use Rattle.sst_sections.specs.declared.section.SectionName.TheVariants.{Filter as FilterSection, FilterTli, Index as IndexSection}
-use Rattle.sst_sections.specs.Fnv.{fnv1a}
+use Rattle.sst_filters.specs.KeyHash.{hash_of}
 use Rattle.sst_entries.specs.declared.error.Error.{Error}
 use Rattle.sst_entries.specs.Entry.{Entry}
 use Rattle.sst_entries.specs.Strict.{IsStrict}
@@ -80,7 +80,7 @@ module _ (v : TableVersion) (at : ℕ) (hs : List Handle) (parts : List (List Ha
 
 -- ---- the filter
 
-by_part : (body key : List ℕ) (o : Option Handle) → (part_admits body (fnv1a key) (option_map place_of o)).told ≡ filters.filter_told body key o
+by_part : (body key : List ℕ) (o : Option Handle) → (part_admits body (hash_of key) (option_map place_of o)).told ≡ filters.filter_told body key o
 by_part body key None = refl
 by_part body key (Some top) = refl
 
@@ -120,11 +120,11 @@ module _ (v : TableVersion) (policy : BloomConstructionPolicy) (es : List Entry)
   -- it answers, and a no says that no entry has the key
   pub filter_answers : (k : FilterKind) (keys : List (List (List ℕ))) (fs : List BloomFilter) (place : Option Place) (pin : Bool) → AreFilterParts k policy (filtered_keys policy es) keys → AreFiltersFor policy keys fs → AllByRecursion SectionFits (filter_sections k v at keys fs)
       → body ≡ pre ++ (bytes_in (filter_sections k v at keys fs) ++ post) → place ≡ place_from at (filter_sections k v at keys fs) FilterSection → (key : List ℕ)
-      → Asked (filter_admits body (filter_tops_said k at keys fs) (filter_said k fs pin) place key (fnv1a key)).told (keys_of es) key
+      → Asked (filter_admits body (filter_tops_said k at keys fs) (filter_said k fs pin) place key (hash_of key)).told (keys_of es) key
   filter_answers FullFilter keys [] place true are for fits lies is key = rw is (all_admitted (keys_of es) key)
   filter_answers FullFilter keys [] place false are for fits lies is key = rw is (all_admitted (keys_of es) key)
   filter_answers FullFilter keys (f ∷ fs) place true are for fits lies is key =
-      record { answer = admits f (fnv1a key); told_is = refl; no = no_key policy (keys_of es) f key (full_is v policy es keys f fs for are) }
+      record { answer = admits f (hash_of key); told_is = refl; no = no_key policy (keys_of es) f key (full_is v policy es keys f fs for are) }
   filter_answers FullFilter keys (f ∷ fs) place false are for fits lies is key =
       rw is (filter_asked policy (keys_of es) f key body at (length (filter_block v f)) (full_is v policy es keys f fs for are) (full_filter_loads v policy es keys f fs for are pre post body at from fits lies))
   filter_answers (PartitionedFilter size) keys [] place pin are for fits lies is key = rw is (all_admitted (keys_of es) key)

@@ -6,7 +6,7 @@ use Rattle.std.specs.Option.{option_map}
 use Rattle.std.proofs.lemmas.Bool.{cases_lt, lt-ltb, le-ltb, ltb-false}
 use Rattle.std.proofs.lemmas.List.Concat.{flat_map-append}
 use Rattle.sst_sections.specs.declared.version.TableVersion.{TableVersion}
-use Rattle.sst_sections.specs.Fnv.{fnv1a}
+use Rattle.sst_filters.specs.KeyHash.{hash_of}
 use Rattle.sst_sections.specs.Sections.{body_of, finished}
 use Rattle.sst_entries.specs.declared.error.Error.{Error}
 use Rattle.sst_entries.specs.Entry.{Entry}
@@ -160,7 +160,7 @@ module _ (v : TableVersion) (label : Label) (options : Options) (spills : List �
           (data_section v cs) (behind_index v label options spills es c is fits strict short) body refl options.index_kind (regions_said v label options c).tli pin_index is.index fits.index (body_is v label options c)
           (tli_place v label options spills es c is fits strict short) key low
 
-      asked : Asked (filter_admits body (pinned_said v options c pin_filter pin_index).filter_tops (pinned_said v options c pin_filter pin_index).filter (regions_said v label options c).filter key (fnv1a key)).told (keys_of es) key
+      asked : Asked (filter_admits body (pinned_said v options c pin_filter pin_index).filter_tops (pinned_said v options c pin_filter pin_index).filter (regions_said v label options c).filter key (hash_of key)).told (keys_of es) key
       asked =
           filter_answers v options.bloom_policy es (filter_start v label options spills es c is fits strict short) (before_filter v label options spills es c is fits strict short) (behind_filter v label options spills es c is fits strict short) body refl
           (keys_line v label options spills es c is fits strict short) (keys_short v label options spills es c is fits strict short) options.filter_kind c.keys c.filters (regions_said v label options c).filter pin_filter is.keys is.filters fits.filter
@@ -172,7 +172,7 @@ module _ (v : TableVersion) (label : Label) (options : Options) (spills : List �
       behind_answer false denied = none_found (ap (λ (xs : List Entry). find (is_hit key low) xs) (whole v label options spills es c is fits strict short) ∙ no_entry es key low (asked.no denied))
 
       low_or_read : (high : Bool) → ltb (lowest_seqno (joined cs)) low ≡ high
-          → (read_then (read_then (cond high (filter_admits body parts.pinned.filter_tops parts.pinned.filter parts.regions.filter key (fnv1a key)) (known false)) (handle_for body parts key low)) (match_in body g key low)).told ≡ found
+          → (read_then (read_then (cond high (filter_admits body parts.pinned.filter_tops parts.pinned.filter parts.regions.filter key (hash_of key)) (known false)) (handle_for body parts key low)) (match_in body g key low)).told ≡ found
       low_or_read false e = none_found (none_low (joined cs) key low (ltb-false _ _ e))
       low_or_read true e =
           ap (λ (r : Result Bool Error). rest (r >>= λ b. (handle_for body parts key low b).told)) asked.told_is ∙ behind_answer asked.answer refl

@@ -3,7 +3,7 @@ use Rattle.std.proofs.Common.{◌≡◌, ℕ, Bool, true, false, cond, List, [],
 use Rattle.std.specs.Prelude.{Option, Some, None, find, ◌||◌, ◌==◌, nat_lt}
 use Rattle.std.specs.List.{list_any}
 use Rattle.std.proofs.lemmas.Cmp.{nat_eq_equiv}
-use Rattle.sst_sections.specs.Fnv.{fnv1a}
+use Rattle.sst_filters.specs.KeyHash.{hash_of}
 use Rattle.sst_entries.specs.Entry.{Entry}
 use Rattle.sst_entries.specs.Key.{same_key}
 use Rattle.sst_entries.specs.Point.{is_hit}
@@ -69,14 +69,14 @@ no_entry es key bound h =
     ] refl
 
 -- the hash of a key of the list is one of their hashes
-pub hash_in : (key : List ℕ) (keys : List (List ℕ)) → has_key key keys ≡ true → is_in (fnv1a key) (map fnv1a keys) ≡ true
+pub hash_in : (key : List ℕ) (keys : List (List ℕ)) → has_key key keys ≡ true → is_in (hash_of key) (map hash_of keys) ≡ true
 hash_in key [] h = absurd cc
 hash_in key (k ∷ ks) h =
-    elim (same_key k key) as (λ b. same_key k key ≡ b → is_in (fnv1a key) (map fnv1a (k ∷ ks)) ≡ true) [
+    elim (same_key k key) as (λ b. same_key k key ≡ b → is_in (hash_of key) (map hash_of (k ∷ ks)) ≡ true) [
       | true ↦ λ same.
-          let equal : (fnv1a k == fnv1a key) ≡ true = ap (λ (x : List ℕ). fnv1a x == fnv1a key) (same_is k key same) ∙ nat_eq_equiv.refl (fnv1a key) in
+          let equal : (hash_of k == hash_of key) ≡ true = ap (λ (x : List ℕ). hash_of x == hash_of key) (same_is k key same) ∙ nat_eq_equiv.refl (hash_of key) in
           rw equal refl
       | false ↦ λ other.
           let rest : has_key key ks ≡ true = sym (ap (λ (b : Bool). b || has_key key ks) other) ∙ h in
-          or_right (fnv1a k == fnv1a key) (is_in (fnv1a key) (map fnv1a ks)) (hash_in key ks rest)
+          or_right (hash_of k == hash_of key) (is_in (hash_of key) (map hash_of ks)) (hash_in key ks rest)
     ] refl

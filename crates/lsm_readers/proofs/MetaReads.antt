@@ -16,13 +16,14 @@ use Rattle.lsm_formats.specs.MetaBlock.{Blocks, meta_entries, version_number}
 use Rattle.lsm_formats.specs.declared.options.Options.{Options}
 use Rattle.lsm_formats.specs.declared.label.Label.{Label}
 use Rattle.lsm_formats.specs.declared.item_name.ItemName.{ItemName}
-use Rattle.lsm_formats.specs.declared.item_name.ItemName.TheVariants.{TableId, ItemCount, TombstoneCount, BlockCountData, BlockCountIndex, BlockCountFilter, FileSize, WeakTombstoneCount, WeakTombstoneReclaimable, CreatedAt, KeyMin, KeyMax, SeqnoMin, SeqnoMax, TableVersion as VersionItem, FilterHashType, ChecksumType, RestartIntervalIndex, CompressionData, CompressionIndex}
+use Rattle.lsm_formats.specs.declared.item_name.ItemName.TheVariants as item
 use Rattle.lsm_formats.specs.ItemName.{name_of}
 use Rattle.std.specs.Prelude.{nat_eq, ◌||◌, ◌==◌, false}
 use Rattle.std.specs.Cmp.Lexicographic.{pointwise}
 use Rattle.byteorder.specs.Numbers.{little_number-reads_back}
 use Rattle.sst_entries.specs.declared.error.Error.TheVariants.{UnsupportedTableVersion, UnsupportedIndexInterval}
 use Rattle.lsm_ranges.specs.KeyRange.{interval}
+use Rattle.lsm_readers.specs.OfList.{facts_said}
 use Rattle.lsm_readers.specs.Meta.{Facts, item_told, u64_told, version_told, kinds_told, byte_told, first_told, compressions_told, created_told, keys_told, seqnos_told, triple_told, rest_told, facts_told}
 
 -- a number that was written is read
@@ -45,11 +46,9 @@ wide16-again : (n : ℕ) (rest : List ℕ) → n < 2 ^ 128 → num16 (le16 n ++ 
 unfolding le16 num16
 wide16-again n rest lt = little_number-reads_back 16 n rest lt
 
--- the facts of a written list
+-- what the table of a written list says of itself
 abbrev pub written_facts : TableVersion → Label → List (List Entry) → Blocks → Facts
-written_facts v label cs blocks =
-    let f = facts (joined cs) in
-    record { table_version = version_number v; id = label.table_id; created_at = label.created_at; data_block_count = length cs; index_block_count = blocks.index; key_range = interval f.min_key f.max_key; seqno_min = f.lowest; seqno_max = f.highest; file_size = length (data_section v cs); item_count = f.item_count; tombstone_count = f.tombstone_count; weak_tombstone_count = f.weak_tombstone_count; weak_tombstone_reclaimable = f.weak_tombstone_reclaimable }
+written_facts v label cs blocks = facts_said v label (joined cs) (length cs) blocks.index (length (data_section v cs))
 
 -- what a written table says fits its fields
 pub record FactsFit (label : Label) (options : Options) (cs : List (List Entry)) (v : TableVersion) (blocks : Blocks) : Type 0 where
@@ -71,83 +70,83 @@ module _ (v : TableVersion) (label : Label) (options : Options) (cs : List (List
   abbrev es : List Entry
   es = meta_entries v label options cs blocks
 
-  item-TableId : item_told es TableId ≡ Ok (le8 label.table_id)
+  item-TableId : item_told es item.TableId ≡ Ok (le8 label.table_id)
   unfolding item_told point name_of
   item-TableId = refl
 
-  item-ItemCount : item_told es ItemCount ≡ Ok (le8 (facts (joined cs)).item_count)
+  item-ItemCount : item_told es item.ItemCount ≡ Ok (le8 (facts (joined cs)).item_count)
   unfolding item_told point name_of
   item-ItemCount = refl
 
-  item-TombstoneCount : item_told es TombstoneCount ≡ Ok (le8 (facts (joined cs)).tombstone_count)
+  item-TombstoneCount : item_told es item.TombstoneCount ≡ Ok (le8 (facts (joined cs)).tombstone_count)
   unfolding item_told point name_of
   item-TombstoneCount = refl
 
-  item-BlockCountData : item_told es BlockCountData ≡ Ok (le8 (length cs))
+  item-BlockCountData : item_told es item.BlockCountData ≡ Ok (le8 (length cs))
   unfolding item_told point name_of
   item-BlockCountData = refl
 
-  item-BlockCountIndex : item_told es BlockCountIndex ≡ Ok (le8 blocks.index)
+  item-BlockCountIndex : item_told es item.BlockCountIndex ≡ Ok (le8 blocks.index)
   unfolding item_told point name_of
   item-BlockCountIndex = refl
 
-  item-BlockCountFilter : item_told es BlockCountFilter ≡ Ok (le8 blocks.filter)
+  item-BlockCountFilter : item_told es item.BlockCountFilter ≡ Ok (le8 blocks.filter)
   unfolding item_told point name_of
   item-BlockCountFilter = refl
 
-  item-FileSize : item_told es FileSize ≡ Ok (le8 (length (data_section v cs)))
+  item-FileSize : item_told es item.FileSize ≡ Ok (le8 (length (data_section v cs)))
   unfolding item_told point name_of
   item-FileSize = refl
 
-  item-WeakTombstoneCount : item_told es WeakTombstoneCount ≡ Ok (le8 (facts (joined cs)).weak_tombstone_count)
+  item-WeakTombstoneCount : item_told es item.WeakTombstoneCount ≡ Ok (le8 (facts (joined cs)).weak_tombstone_count)
   unfolding item_told point name_of
   item-WeakTombstoneCount = refl
 
-  item-WeakTombstoneReclaimable : item_told es WeakTombstoneReclaimable ≡ Ok (le8 (facts (joined cs)).weak_tombstone_reclaimable)
+  item-WeakTombstoneReclaimable : item_told es item.WeakTombstoneReclaimable ≡ Ok (le8 (facts (joined cs)).weak_tombstone_reclaimable)
   unfolding item_told point name_of
   item-WeakTombstoneReclaimable = refl
 
-  item-CreatedAt : item_told es CreatedAt ≡ Ok (le16 label.created_at)
+  item-CreatedAt : item_told es item.CreatedAt ≡ Ok (le16 label.created_at)
   unfolding item_told point name_of
   item-CreatedAt = refl
 
-  item-KeyMin : item_told es KeyMin ≡ Ok ((facts (joined cs)).min_key)
+  item-KeyMin : item_told es item.KeyMin ≡ Ok ((facts (joined cs)).min_key)
   unfolding item_told point name_of
   item-KeyMin = refl
 
-  item-KeyMax : item_told es KeyMax ≡ Ok ((facts (joined cs)).max_key)
+  item-KeyMax : item_told es item.KeyMax ≡ Ok ((facts (joined cs)).max_key)
   unfolding item_told point name_of
   item-KeyMax = refl
 
-  item-SeqnoMin : item_told es SeqnoMin ≡ Ok (le8 (facts (joined cs)).lowest)
+  item-SeqnoMin : item_told es item.SeqnoMin ≡ Ok (le8 (facts (joined cs)).lowest)
   unfolding item_told point name_of
   item-SeqnoMin = refl
 
-  item-SeqnoMax : item_told es SeqnoMax ≡ Ok (le8 (facts (joined cs)).highest)
+  item-SeqnoMax : item_told es item.SeqnoMax ≡ Ok (le8 (facts (joined cs)).highest)
   unfolding item_told point name_of
   item-SeqnoMax = refl
 
-  item-TableVersion : item_told es VersionItem ≡ Ok (version_number v ∷ [])
+  item-TableVersion : item_told es item.TableVersion ≡ Ok (version_number v ∷ [])
   unfolding item_told point name_of
   item-TableVersion = refl
 
-  item-FilterHashType : item_told es FilterHashType ≡ Ok (1 ∷ [])
+  item-FilterHashType : item_told es item.FilterHashType ≡ Ok (1 ∷ [])
   unfolding item_told point name_of
   item-FilterHashType = refl
 
-  item-ChecksumType : item_told es ChecksumType ≡ Ok (1 ∷ [])
+  item-ChecksumType : item_told es item.ChecksumType ≡ Ok (1 ∷ [])
   unfolding item_told point name_of
   item-ChecksumType = refl
 
-  item-RestartIntervalIndex : item_told es RestartIntervalIndex ≡ Ok (options.index_block_restart_interval ∷ [])
+  item-RestartIntervalIndex : item_told es item.RestartIntervalIndex ≡ Ok (options.index_block_restart_interval ∷ [])
   unfolding item_told point name_of
   item-RestartIntervalIndex = refl
 
-  item-CompressionData : item_told es CompressionData ≡ Ok (0 ∷ [])
+  item-CompressionData : item_told es item.CompressionData ≡ Ok (0 ∷ [])
   unfolding item_told point name_of
   item-CompressionData = refl
 
-  item-CompressionIndex : item_told es CompressionIndex ≡ Ok (0 ∷ [])
+  item-CompressionIndex : item_told es item.CompressionIndex ≡ Ok (0 ∷ [])
   unfolding item_told point name_of
   item-CompressionIndex = refl
 
@@ -192,19 +191,19 @@ module _ (v : TableVersion) (label : Label) (options : Options) (cs : List (List
 
   seqnos_read : FactsFit label options cs v blocks → seqnos_told es ≡ Ok ((facts (joined cs)).lowest, (facts (joined cs)).highest)
   unfolding seqnos_told
-  seqnos_read fit = rw (u64_read es SeqnoMin (facts (joined cs)).lowest item-SeqnoMin fit.lowest, u64_read es SeqnoMax (facts (joined cs)).highest item-SeqnoMax fit.highest) refl
+  seqnos_read fit = rw (u64_read es item.SeqnoMin (facts (joined cs)).lowest item-SeqnoMin fit.lowest, u64_read es item.SeqnoMax (facts (joined cs)).highest item-SeqnoMax fit.highest) refl
 
-  table_read : FactsFit label options cs v blocks → triple_told es TableId ItemCount TombstoneCount ≡ Ok (label.table_id, (facts (joined cs)).item_count, (facts (joined cs)).tombstone_count)
+  table_read : FactsFit label options cs v blocks → triple_told es item.TableId item.ItemCount item.TombstoneCount ≡ Ok (label.table_id, (facts (joined cs)).item_count, (facts (joined cs)).tombstone_count)
   unfolding triple_told
-  table_read fit = rw (u64_read es TableId label.table_id item-TableId fit.id, u64_read es ItemCount (facts (joined cs)).item_count item-ItemCount fit.items, u64_read es TombstoneCount (facts (joined cs)).tombstone_count item-TombstoneCount fit.tombstones) refl
+  table_read fit = rw (u64_read es item.TableId label.table_id item-TableId fit.id, u64_read es item.ItemCount (facts (joined cs)).item_count item-ItemCount fit.items, u64_read es item.TombstoneCount (facts (joined cs)).tombstone_count item-TombstoneCount fit.tombstones) refl
 
-  blocks_read : FactsFit label options cs v blocks → triple_told es BlockCountData BlockCountIndex BlockCountFilter ≡ Ok (length cs, blocks.index, blocks.filter)
+  blocks_read : FactsFit label options cs v blocks → triple_told es item.BlockCountData item.BlockCountIndex item.BlockCountFilter ≡ Ok (length cs, blocks.index, blocks.filter)
   unfolding triple_told
-  blocks_read fit = rw (u64_read es BlockCountData (length cs) item-BlockCountData fit.data_blocks, u64_read es BlockCountIndex blocks.index item-BlockCountIndex fit.index_blocks, u64_read es BlockCountFilter blocks.filter item-BlockCountFilter fit.filter_blocks) refl
+  blocks_read fit = rw (u64_read es item.BlockCountData (length cs) item-BlockCountData fit.data_blocks, u64_read es item.BlockCountIndex blocks.index item-BlockCountIndex fit.index_blocks, u64_read es item.BlockCountFilter blocks.filter item-BlockCountFilter fit.filter_blocks) refl
 
-  sizes_read : FactsFit label options cs v blocks → triple_told es FileSize WeakTombstoneCount WeakTombstoneReclaimable ≡ Ok (length (data_section v cs), (facts (joined cs)).weak_tombstone_count, (facts (joined cs)).weak_tombstone_reclaimable)
+  sizes_read : FactsFit label options cs v blocks → triple_told es item.FileSize item.WeakTombstoneCount item.WeakTombstoneReclaimable ≡ Ok (length (data_section v cs), (facts (joined cs)).weak_tombstone_count, (facts (joined cs)).weak_tombstone_reclaimable)
   unfolding triple_told
-  sizes_read fit = rw (u64_read es FileSize (length (data_section v cs)) item-FileSize fit.file_size, u64_read es WeakTombstoneCount (facts (joined cs)).weak_tombstone_count item-WeakTombstoneCount fit.weak, u64_read es WeakTombstoneReclaimable (facts (joined cs)).weak_tombstone_reclaimable item-WeakTombstoneReclaimable fit.reclaimable) refl
+  sizes_read fit = rw (u64_read es item.FileSize (length (data_section v cs)) item-FileSize fit.file_size, u64_read es item.WeakTombstoneCount (facts (joined cs)).weak_tombstone_count item-WeakTombstoneCount fit.weak, u64_read es item.WeakTombstoneReclaimable (facts (joined cs)).weak_tombstone_reclaimable item-WeakTombstoneReclaimable fit.reclaimable) refl
 
   -- the facts of the written list
   pub facts_read : FactsFit label options cs v blocks → facts_told es ≡ Ok (written_facts v label cs blocks)

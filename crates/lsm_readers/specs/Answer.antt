@@ -13,7 +13,7 @@ use Rattle.sst_filters.specs.Filter.{BloomFilter, admits, filter_in}
 pub use Rattle.lsm_iters.specs.Lift.{lifted, lift}
 use Rattle.lsm_readers.specs.Parts.{Parts, PinnedIndex, full, volatile, two_level}
 use Rattle.lsm_readers.specs.Table.{OpenTable}
-use Rattle.sst_sections.specs.Fnv.{fnv1a}
+use Rattle.sst_filters.specs.KeyHash.{hash_of}
 use Rattle.sst_sections.specs.Sections.{body_of}
 use Rattle.lsm_readers.specs.Read.{Read, known, block_read, read_map, read_then}
 
@@ -47,7 +47,7 @@ abbrev pub admission : List ℕ → Parts → List ℕ → ℕ → Read Bool
 admission body parts key bound =
     let pinned = parts.pinned in
     if nat_lt parts.facts.seqno_min bound
-    then filter_admits body pinned.filter_tops pinned.filter parts.regions.filter key (fnv1a key)
+    then filter_admits body pinned.filter_tops pinned.filter parts.regions.filter key (hash_of key)
     else known false
 
 -- where the handle leads that the index block at a place has for a key at a bound

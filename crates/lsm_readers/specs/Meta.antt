@@ -1,18 +1,25 @@
 -- What a meta block tells of its table, item by item, or the first fault.
-use Rattle.std.specs.Prelude.{ℕ, ◌-◌, ◌^◌, ◌==◌, ◌||◌, nat_lt, nat_eq, List, [], ◌∷◌, length, slice_index, Option, Some, None, Result, Ok, Err, if◌then◌else◌}
+use Rattle.std.specs.Prelude.{ℕ, ◌-◌, ◌^◌, ◌==◌, ◌||◌, nat_lt, nat_eq, List, [], ◌∷◌, length}
+use Rattle.std.specs.Prelude.{slice_index, Option, Some, None, Result, Ok, Err, if◌then◌else◌}
 use Rattle.std.specs.Cmp.Lexicographic.{pointwise}
 use Rattle.sst_blocks.specs.declared.block_type.BlockType.TheVariants.{Meta}
 use Rattle.sst_blocks.specs.Block.{load_told, entries_of}
 use Rattle.sst_blocks.specs.Place.{Place}
 use Rattle.sst_entries.specs.declared.error.Error.{Error}
-use Rattle.sst_entries.specs.declared.error.Error.TheVariants.{MetaKeyMissing, InvalidMetaValue, UnsupportedTableVersion, UnsupportedHashType, UnsupportedChecksumType, UnsupportedIndexInterval, UnsupportedCompression}
+use Rattle.sst_entries.specs.declared.error.Error.TheVariants.{MetaKeyMissing, InvalidMetaValue}
+use Rattle.sst_entries.specs.declared.error.Error.TheVariants.{UnsupportedTableVersion}
+use Rattle.sst_entries.specs.declared.error.Error.TheVariants.{UnsupportedHashType}
+use Rattle.sst_entries.specs.declared.error.Error.TheVariants.{UnsupportedChecksumType}
+use Rattle.sst_entries.specs.declared.error.Error.TheVariants.{UnsupportedIndexInterval}
+use Rattle.sst_entries.specs.declared.error.Error.TheVariants.{UnsupportedCompression}
 use Rattle.sst_entries.specs.Entry.{Entry}
 use Rattle.sst_sections.specs.Number.{num8, num16}
 use Rattle.sst_entries.specs.Point.{point}
 use Rattle.lsm_ranges.specs.KeyRange.{Interval, interval}
 use Rattle.lsm_formats.specs.ItemName.{name_of}
+use Rattle.lsm_formats.specs.declared.item_name.TheConstants.{FILTER_HASH_TYPE}
 use Rattle.lsm_formats.specs.declared.item_name.ItemName.{ItemName}
-use Rattle.lsm_formats.specs.declared.item_name.ItemName.TheVariants.{BlockCountData, BlockCountFilter, BlockCountIndex, ChecksumType, CompressionData, CompressionIndex, CreatedAt, FileSize, FilterHashType, ItemCount, KeyMax, KeyMin, RestartIntervalIndex, SeqnoMax, SeqnoMin, TableId, TableVersion, TombstoneCount, WeakTombstoneCount, WeakTombstoneReclaimable}
+use Rattle.lsm_formats.specs.declared.item_name.ItemName.TheVariants as item
 use Rattle.lsm_readers.specs.Read.{◌>>=◌}
 
 -- what a table says of itself
@@ -78,26 +85,27 @@ version_number_told value =
     else Err UnsupportedTableVersion
 
 unfoldable pub version_told : List Entry → Result ℕ Error
-version_told es = item_told es TableVersion >>= version_number_told
+version_told es = item_told es item.TableVersion >>= version_number_told
 
 -- the hash, the checksum and the index have to be those that are known
 unfoldable pub kinds_told : List Entry → Result (Unit {0}) Error
 kinds_told es =
-    byte_told es FilterHashType 1 UnsupportedHashType >>= λ _.
-    byte_told es ChecksumType 1 UnsupportedChecksumType >>= λ _.
-    first_told es RestartIntervalIndex 1 UnsupportedIndexInterval
+    byte_told es item.FilterHashType FILTER_HASH_TYPE UnsupportedHashType >>= λ _.
+    byte_told es item.ChecksumType 1 UnsupportedChecksumType >>= λ _.
+    first_told es item.RestartIntervalIndex 1 UnsupportedIndexInterval
 
 -- no block is compressed
 unfoldable pub compressions_told : List Entry → Result (Unit {0}) Error
 compressions_told es =
-    first_told es CompressionData 0 UnsupportedCompression >>= λ _.
-    first_told es CompressionIndex 0 UnsupportedCompression
+    first_told es item.CompressionData 0 UnsupportedCompression >>= λ _.
+    first_told es item.CompressionIndex 0 UnsupportedCompression
 
 unfoldable pub created_told : List Entry → Result ℕ Error
-created_told es = item_told es CreatedAt >>= number16_told
+created_told es = item_told es item.CreatedAt >>= number16_told
 
 -- three numbers, one after another
-unfoldable pub triple_told : List Entry → ItemName → ItemName → ItemName → Result (ℕ × ℕ × ℕ) Error
+unfoldable pub triple_told : List Entry → ItemName → ItemName → ItemName
+    → Result (ℕ × ℕ × ℕ) Error
 triple_told es a b c =
     u64_told es a >>= λ x.
     u64_told es b >>= λ y.
@@ -107,48 +115,54 @@ triple_told es a b c =
 -- the first and the last key
 unfoldable pub keys_told : List Entry → Result Interval Error
 keys_told es =
-    item_told es KeyMin >>= λ min.
-    item_told es KeyMax >>= λ max.
+    item_told es item.KeyMin >>= λ min.
+    item_told es item.KeyMax >>= λ max.
     Ok (interval min max)
 
 -- the lowest and the highest number
 unfoldable pub seqnos_told : List Entry → Result (ℕ × ℕ) Error
 seqnos_told es =
-    u64_told es SeqnoMin >>= λ min.
-    u64_told es SeqnoMax >>= λ max.
+    u64_told es item.SeqnoMin >>= λ min.
+    u64_told es item.SeqnoMax >>= λ max.
     Ok (min, max)
 
+-- what a table says of itself, by what is read: its version, the moment, its counts three by three,
+-- its keys and its numbers
+abbrev pub facts_with : ℕ → ℕ → ℕ × ℕ × ℕ → ℕ × ℕ × ℕ → ℕ × ℕ × ℕ → Interval → ℕ × ℕ → Facts
+facts_with table_version created_at table blocks sizes key_range seqnos = record {
+  table_version = table_version;
+  id = table.0;
+  created_at = created_at;
+  data_block_count = blocks.0;
+  index_block_count = blocks.1;
+  key_range = key_range;
+  seqno_min = seqnos.0;
+  seqno_max = seqnos.1;
+  file_size = sizes.0;
+  item_count = table.1;
+  tombstone_count = table.2;
+  weak_tombstone_count = sizes.1;
+  weak_tombstone_reclaimable = sizes.2;
+}
+
 -- what is read behind the version and the counts, in this order
-unfoldable pub rest_told : List Entry → ℕ → ℕ × ℕ × ℕ → ℕ × ℕ × ℕ → ℕ × ℕ × ℕ → Result Facts Error
+unfoldable pub rest_told : List Entry → ℕ → ℕ × ℕ × ℕ → ℕ × ℕ × ℕ → ℕ × ℕ × ℕ
+    → Result Facts Error
 rest_told es table_version table blocks sizes =
     created_told es >>= λ created_at.
     keys_told es >>= λ key_range.
     seqnos_told es >>= λ seqnos.
     compressions_told es >>= λ _.
-    Ok (record {
-      table_version = table_version;
-      id = table.0;
-      created_at = created_at;
-      data_block_count = blocks.0;
-      index_block_count = blocks.1;
-      key_range = key_range;
-      seqno_min = seqnos.0;
-      seqno_max = seqnos.1;
-      file_size = sizes.0;
-      item_count = table.1;
-      tombstone_count = table.2;
-      weak_tombstone_count = sizes.1;
-      weak_tombstone_reclaimable = sizes.2;
-    })
+    Ok (facts_with table_version created_at table blocks sizes key_range seqnos)
 
 -- all that is read, in this order
 unfoldable pub facts_told : List Entry → Result Facts Error
 facts_told es =
     version_told es >>= λ table_version.
     kinds_told es >>= λ _.
-    triple_told es TableId ItemCount TombstoneCount >>= λ table.
-    triple_told es BlockCountData BlockCountIndex BlockCountFilter >>= λ blocks.
-    triple_told es FileSize WeakTombstoneCount WeakTombstoneReclaimable >>= λ sizes.
+    triple_told es item.TableId item.ItemCount item.TombstoneCount >>= λ table.
+    triple_told es item.BlockCountData item.BlockCountIndex item.BlockCountFilter >>= λ blocks.
+    triple_told es item.FileSize item.WeakTombstoneCount item.WeakTombstoneReclaimable >>= λ sizes.
     rest_told es table_version table blocks sizes
 
 -- what the meta block at a place tells: it is loaded, then its items are read

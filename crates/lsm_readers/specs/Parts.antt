@@ -1,5 +1,7 @@
--- What a table is recovered to: what it says of itself, where its parts lie, and which blocks stay loaded.
-use Rattle.std.specs.Prelude.{ℕ, ◌+◌, ◌-◌, ◌^◌, ◌&&◌, nat_lt, Bool, List, [], length, map, Option, Some, None, is_none, is_some, Result, Ok, Err, if◌then◌else◌}
+-- What a table is recovered to: what it says of itself, where its parts lie, and which blocks stay
+-- loaded.
+use Rattle.std.specs.Prelude.{ℕ, ◌+◌, ◌-◌, ◌^◌, ◌&&◌, nat_lt, Bool, List, [], length, map, Option}
+use Rattle.std.specs.Prelude.{Some, None, is_none, is_some, Result, Ok, Err, if◌then◌else◌}
 use Rattle.std.specs.Option.{option_or}
 use Rattle.sst_blocks.specs.declared.block_type.BlockType.TheVariants.{Index, Filter, Meta}
 use Rattle.sst_entries.specs.declared.error.Error.{Error}
@@ -16,15 +18,15 @@ use Rattle.lsm_readers.specs.Meta.{Facts, meta_told}
 use Rattle.lsm_readers.specs.Regions.{regions_told}
 use Rattle.lsm_readers.specs.Read.{◌>>=◌}
 
--- what of an index stays loaded: the handles of a full one, nothing of one that each read loads, or the
--- handles of the top level of one with partitions
+-- what of an index stays loaded: the handles of a full one, nothing of one that each read loads, or
+-- the handles of the top level of one with partitions
 pub data PinnedIndex : Type 0 where
   full : List Handle → PinnedIndex
   volatile : PinnedIndex
   two_level : List Handle → PinnedIndex
 
--- which blocks stay loaded: those of the index, the top level of a filter with partitions, and the one
--- block of a full filter
+-- which blocks stay loaded: those of the index, the top level of a filter with partitions, and the
+-- one block of a full filter
 pub record Pinned : Type 0 where
   pub index : PinnedIndex
   pub filter_tops : Option (List Handle)
@@ -99,8 +101,8 @@ abbrev pub recovered_told : List ℕ → ℕ → Bool → Bool → Result Parts 
 recovered_told bytes g pin_filter pin_index =
     unless (trailer_fault bytes) (parts_told bytes g pin_filter pin_index)
 
--- the fault of opening that is found before memory is taken: of the trailer, the regions, or the meta
--- block up to the room for its count
+-- the fault of opening that is found before memory is taken: of the trailer, the regions, or the
+-- meta block up to the room for its count
 abbrev pub early_in : List ℕ → Result ParsedRegions Error → Option Error
 early_in body (Ok regions) = place_fault body regions.metadata.offset regions.metadata.size Meta
 early_in body (Err e) = Some e

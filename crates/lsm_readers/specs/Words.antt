@@ -3,7 +3,7 @@ pub use Rattle.sst_entries.specs.Entry.{Entry}
 pub use Rattle.sst_entries.specs.Error.{Faults, FaultsFirst, Gives}
 pub use Rattle.sst_entries.specs.Point.{point, within}
 pub use Rattle.sst_entries.specs.Stream.{CanDeal, Deals, nowhere, answer_stops}
-pub use Rattle.sst_sections.specs.Fnv.{fnv1a}
+pub use Rattle.sst_filters.specs.KeyHash.{hash_of}
 pub use Rattle.sst_sections.specs.Sections.{body_of}
 pub use Rattle.sst_blocks.specs.Block.{Loaded, entries_of, load_at_told, load_told, place_fault, position_fault}
 pub use Rattle.sst_blocks.specs.Handle.{Handle}

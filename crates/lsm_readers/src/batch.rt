@@ -10,7 +10,7 @@ ghost use Rattle.sst_blocks.specs.declared.block_type.BlockType.TheVariants.{Dat
 use crate::order::Headed;
 use crate::point::{admitted_handle, read_in};
 use crate::{Inner, Query};
-use sst_blocks::{BlockHandle, BlockType, Error, InternalValue, LoadBlocks, hash};
+use sst_blocks::{BlockHandle, BlockType, Builder, Error, InternalValue, LoadBlocks};
 use std::alloc::{AllocError, Allocator, Global};
 
 /// How many data blocks are compared ahead of the reads that rest on them: as many as a processor's
@@ -72,7 +72,7 @@ fn place_at<S: LoadBlocks>(
     let query = queries.get(at)?;
     let key = query.key.as_slice();
     let low = query.seqno.saturating_sub(inner.global_seqno);
-    match admitted_handle(source, inner, key, low, hash(key)) {
+    match admitted_handle(source, inner, key, low, Builder::<S::Alloc>::get_hash(key)) {
         Ok(handle) => Some(Placed { at, handle }),
         Err(_) => None,
     }

@@ -4,12 +4,16 @@ ghost use Rattle.sst_entries.specs.Error.{FaultsFirst, Gives};
 ghost use Rattle.sst_blocks.specs.Block.{place_fault};
 ghost use Rattle.sst_blocks.specs.declared.block_type.BlockType.TheVariants.{Meta};
 ghost use Rattle.sst_sections.specs.Sections.{body_of};
-ghost use Rattle.lsm_readers.specs.Meta.{Facts, item_told, number8_told, number16_told, u64_told, one_byte_told, byte_told, first_byte_told, first_told, version_number_told, version_told, kinds_told, compressions_told, created_told, triple_told, keys_told, seqnos_told, rest_told, facts_told, meta_told};
+ghost use Rattle.lsm_readers.specs.Meta.{Facts, item_told, number8_told, number16_told, u64_told};
+ghost use Rattle.lsm_readers.specs.Meta.{one_byte_told, byte_told, first_byte_told, first_told};
+ghost use Rattle.lsm_readers.specs.Meta.{version_number_told, version_told, kinds_told};
+ghost use Rattle.lsm_readers.specs.Meta.{compressions_told, created_told, triple_told, keys_told};
+ghost use Rattle.lsm_readers.specs.Meta.{seqnos_told, rest_told, facts_told, meta_told};
 ghost use Rattle.lsm_ranges.specs.KeyRange.{Interval};
 ghost use Rattle.lsm_readers.specs.Table.{facts_of};
 
 use byteorder::{ByteOrder, LittleEndian};
-use lsm_formats::{ItemName, TableId, Timestamp};
+use lsm_formats::{FILTER_HASH_TYPE, ItemName, TableId, Timestamp};
 use lsm_iters::beside;
 use lsm_ranges::KeyRange;
 use sst_blocks::{
@@ -170,7 +174,7 @@ fn test_kinds<A: Allocator>(block: &DataBlock<A>) -> Result<(), Error>
     byte_item(
         block,
         ItemName::FilterHashType,
-        1,
+        FILTER_HASH_TYPE,
         Error::UnsupportedHashType,
     )?;
     byte_item(
@@ -310,10 +314,10 @@ fn read_facts<A: Allocator>(block: &DataBlock<A>) -> Result<ParsedMeta<A>, Error
 }
 
 impl<A: Allocator + Clone> ParsedMeta<A> {
-    /// Loads a meta block and reads its items. Refused with the first fault: those of [`BlockSource::load`], then, item after
-    /// item, [`Error::MetaKeyMissing`] where one is not there, [`Error::InvalidMetaValue`] where a value is too short, and
-    /// the refusal of a version, hash, checksum, index interval or compression that is not known; and
-    /// [`Error::OutOfMemory`].
+    /// Loads a meta block and reads its items. Refused with the first fault: those of
+    /// [`BlockSource::load`], then, item after item, [`Error::MetaKeyMissing`] where one is not
+    /// there, [`Error::InvalidMetaValue`] where a value is too short, and the refusal of a version,
+    /// hash, checksum, index interval or compression that is not known; and [`Error::OutOfMemory`].
     pub fn load_with_handle(
         source: &BlockSource<A>,
         handle: &BlockHandle,

@@ -4,7 +4,8 @@ ghost use Rattle.std.specs.Option.{option_map};
 ghost use Rattle.lsm_readers.specs.Words.{DoesRead, Entry, FaultsFirst, Gives, LoadsFew, Opens};
 ghost use Rattle.lsm_readers.specs.Words.{admission};
 ghost use Rattle.lsm_readers.specs.Words.{admitted_handle, answer, block_admits, filter_admits};
-ghost use Rattle.lsm_readers.specs.Words.{fnv1a, handle_at, handle_by, lifted, match_at, parts_of};
+ghost use Rattle.lsm_readers.specs.Words.{handle_at, handle_by, hash_of, lifted, match_at};
+ghost use Rattle.lsm_readers.specs.Words.{parts_of};
 
 use crate::{Inner, PinnedBlockIndex};
 use sst_blocks::{BlockHandle, Error, InternalValue, LoadBlocks, SeqNo};
@@ -70,7 +71,7 @@ fn admission<S: LoadBlocks>(
     seqno: SeqNo,
     key_hash: u64,
 ) -> Result<bool, Error>
-    requires { key_hash ≡ fnv1a key.now }
+    requires { key_hash ≡ hash_of key.now }
     ensures read { let parts = parts_of inner.now in
         let read = admission (S.body source.old) parts key.now seqno in
         DoesRead result read (S.opened source.old) (S.opened source.new) }
@@ -127,7 +128,7 @@ pub(crate) fn admitted_handle<S: LoadBlocks>(
     seqno: SeqNo,
     key_hash: u64,
 ) -> Result<Option<BlockHandle>, Error>
-    requires { key_hash ≡ fnv1a key.now }
+    requires { key_hash ≡ hash_of key.now }
     ensures read { let parts = parts_of inner.now in
         let read = admitted_handle (S.body source.old) parts key.now seqno in
         DoesRead result read (S.opened source.old) (S.opened source.new) }
@@ -183,7 +184,7 @@ pub fn point_in<S: LoadBlocks>(
     seqno: SeqNo,
     key_hash: u64,
 ) -> Result<Option<InternalValue<S::Alloc>>, Error>
-    requires { key_hash ≡ fnv1a key.now }
+    requires { key_hash ≡ hash_of key.now }
     ensures told { let parts = parts_of inner.now in
         let read = answer (S.body source.old) inner.now.global_seqno parts key.now seqno in
         Gives (λ (found : Option Entry). found) result read.told }

@@ -48,8 +48,9 @@ fn needed_region(section: Option<Section>) -> Result<BlockHandle, Error>
 }
 
 impl ParsedRegions {
-    /// The parts that a trailer names. Refused with the first fault in the order of the filter's top level, the index's, the
-    /// index partitions, the filter and the meta block: [`Error::MissingSection`] where an index or a meta block is absent,
+    /// The parts that a trailer names. Refused with the first fault in the order of the filter's
+    /// top level, the index's, the index partitions, the filter and the meta block:
+    /// [`Error::MissingSection`] where an index or a meta block is absent,
     /// [`Error::SectionTooLarge`] where a section has 2^32 bytes or more.
     #[tactic(auto, unfolding(crate::specs::Regions::regions_told))]
     pub fn parse_from_toc(toc: &Toc) -> Result<ParsedRegions, Error>

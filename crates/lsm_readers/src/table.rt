@@ -9,7 +9,7 @@ ghost use Rattle.lsm_readers.specs.Words.{Loaded, LoadsFew, OpenTable, Opens, Sa
 ghost use Rattle.lsm_readers.specs.Words.{ScansList, answer_stops, body_of, early_fault, early_in};
 ghost use Rattle.lsm_readers.specs.Words.{ends_of};
 ghost use Rattle.lsm_readers.specs.Words.{facts_of, fault_of, filter_len, filter_told};
-ghost use Rattle.lsm_readers.specs.Words.{fitting_told, fnv1a, handles_told, index_len, index_of};
+ghost use Rattle.lsm_readers.specs.Words.{fitting_told, hash_of, handles_told, index_len, index_of};
 ghost use Rattle.lsm_readers.specs.Words.{index_told, key_bound, lift};
 ghost use Rattle.lsm_readers.specs.Words.{list_told, load_at_told, load_told, none_opened, nowhere};
 ghost use Rattle.lsm_readers.specs.Words.{number_told, overlaps_bounds, parts_of, parts_told};
@@ -37,8 +37,8 @@ use lsm_iters::beside;
 use lsm_ranges::{KeyRange, Ranged};
 pub use queries::{Query, get_many};
 use sst_blocks::{
-    BlockHandle, BlockSource, BlockType, Checksum, Counted, Error, FilterBlock, Header, IndexBlock,
-    InternalValue, Opened, SeqNo, Slice, hash,
+    BlockHandle, BlockSource, BlockType, Builder, Checksum, Counted, Error, FilterBlock, Header,
+    IndexBlock, InternalValue, Opened, SeqNo, Slice,
 };
 use std::alloc::{AllocError, Allocator, Global};
 use std::fmt;
@@ -365,9 +365,9 @@ impl<A: Allocator + Clone> Table<A> {
 
     /// The hash of a key, which a point read is given.
     pub fn key_hash(key: &[u8]) -> u64
-        ensures { result ≡ fnv1a key.now }
+        ensures { result ≡ hash_of key.now }
     {
-        hash(key)
+        Builder::<A>::get_hash(key)
     }
 
     /// The first entry of a key numbered below `seqno`, with how many blocks were loaded for it.
@@ -378,7 +378,7 @@ impl<A: Allocator + Clone> Table<A> {
         seqno: SeqNo,
         key_hash: u64,
     ) -> (Result<Option<InternalValue<A>>, Error>, Opened)
-        requires { key_hash ≡ fnv1a key.now }
+        requires { key_hash ≡ hash_of key.now }
         ensures told { Gives (λ (found : Option Entry). found) result.0
             (table_answer self.now key.now seqno).told }
         // What is found before memory is taken is the refusal, whatever memory there is.
@@ -411,7 +411,7 @@ impl<A: Allocator + Clone> Table<A> {
         seqno: SeqNo,
         key_hash: u64,
     ) -> Result<Option<InternalValue<A>>, Error>
-        requires { key_hash ≡ fnv1a key.now }
+        requires { key_hash ≡ hash_of key.now }
         ensures told { Gives (λ (found : Option Entry). found) result
             (table_answer self.now key.now seqno).told }
         ensures early { FaultsFirst result (table_answer self.now key.now seqno).early }

@@ -3,7 +3,7 @@ use Rattle.std.specs.Prelude.{Result, Ok}
 use Rattle.sst_entries.specs.declared.error.Error.{Error}
 use Rattle.sst_entries.specs.Error.{Gives}
 use Rattle.lsm_ranges.specs.KeyRange.{Interval}
-use Rattle.lsm_readers.specs.Meta.{Facts, compressions_told, rest_told}
+use Rattle.lsm_readers.specs.Meta.{Facts, compressions_told, facts_with, rest_told}
 use Rattle.lsm_readers.specs.Read.{◌>>=◌}
 use Rattle.lsm_readers.specs.Table.{facts_of}
 use Rattle.lsm_readers.proofs.Steps.{goes_on, fails_here, fails_later, passes_fault, beside_fails, beside_first, beside_gives, tested}
@@ -27,24 +27,6 @@ returns-in_err-key_range-2 g c =
     passes_fault (facts_of {A = g.row.A.Denot}) c.from_residual-in_err-key_range-2.result _ c.in_err-key_range-2.field-0.0 c.from_residual-in_err-key_range-2.ensures.1
     (fails_later _ _ _ _ c.in_ok-created_at.ensures (fails_later _ _ _ _ c.in_ok-key_range.ensures (fails_here _ _ _ (beside_fails _ c.in_ok-key_range.key_range c.seqno_items.result _ _ c.seqno_items.ensures c.in_err-key_range-2.ensures.both))))
 
--- what is told, by the range of the keys
-abbrev read : ℕ → ℕ → ℕ × ℕ × ℕ → ℕ × ℕ × ℕ → ℕ × ℕ × ℕ → ℕ × ℕ → Interval → Result Facts Error
-read table_version created_at table blocks sizes seqnos key_range = Ok (record {
-  table_version = table_version;
-  id = table.0;
-  created_at = created_at;
-  data_block_count = blocks.0;
-  index_block_count = blocks.1;
-  key_range = key_range;
-  seqno_min = seqnos.0;
-  seqno_max = seqnos.1;
-  file_size = sizes.0;
-  item_count = table.1;
-  tombstone_count = table.2;
-  weak_tombstone_count = sizes.1;
-  weak_tombstone_reclaimable = sizes.2;
-})
-
 pub returns : goal.returns
 unfolding rest_told
 returns g c =
@@ -57,5 +39,5 @@ returns g c =
     (sym (goes_on _ _ _ _ (c.in_ok-created_at.ensures ∙ ap (λ (n : ℕ). Ok n) (sym c.from.ensures))
     (goes_on _ _ _ _ c.in_ok-key_range.ensures
     (goes_on _ _ _ _ (beside_gives _ first c.seqno_items.result _ second seqnos c.seqno_items.ensures one)
-    (ap (λ (keys : Interval). compressions_told c.args.block.now >>= λ _. read c.args.table_version c.from.result c.args.table c.args.blocks c.args.sizes seqnos keys) (sym same))))))
+    (ap (λ (keys : Interval). compressions_told c.args.block.now >>= λ _. Ok (facts_with c.args.table_version c.from.result c.args.table c.args.blocks c.args.sizes keys seqnos)) (sym same))))))
     (tested (facts_of {A = g.row.A.Denot}) (λ (_ : _). tt) c.test_compressions.result (compressions_told c.args.block.now) _ c.and.result c.and.ensures c.test_compressions.ensures)
