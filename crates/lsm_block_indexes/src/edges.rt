@@ -36,7 +36,8 @@ impl<A: Allocator + Clone> Edges<A> {
         }
     }
 
-    /// Keeps a copy of the lower edge. Refused [`Error::OutOfMemory`] alone; the edges are then as they were.
+    /// Keeps a copy of the lower edge. Refused [`Error::OutOfMemory`] alone; the edges are then as
+    /// they were.
     pub fn set_lower(&mut self, key: &[u8], seqno: SeqNo) -> Result<(), Error>
         ensures ok { OnOk result (self.new ≡ (Some (key.now, seqno), self.old.1)) }
         ensures unchanged { OnErr result (self.new ≡ self.old) }

@@ -1,9 +1,12 @@
 //! The full index: one block with the handle of every data block, which stays loaded.
-ghost use Rattle.std.specs.Prelude.{◌≡◌, ◌-◌, Some, None, IfOk, IfErr, MatchOption, [], ◌↔◌, IsTrue};
+ghost use Rattle.std.specs.Prelude.{◌≡◌, ◌-◌, Some, None, IfOk, IfErr, MatchOption, [], ◌↔◌};
+ghost use Rattle.std.specs.Prelude.{IsTrue};
 ghost use Rattle.std.specs.Iterator.{at_most};
 ghost use Rattle.sst_entries.specs.declared.error.Error.TheVariants.{OutOfMemory};
-ghost use Rattle.lsm_block_indexes.specs.Words.{SpanGives, back_of, front_of, reaching_place, rest_in};
-ghost use Rattle.lsm_block_indexes.specs.Words.{AnswersAny, DealsEnding, IsBetween, IsSpanSought, span_from, span_left, whole_span, window};
+ghost use Rattle.lsm_block_indexes.specs.Words.{SpanGives, back_of, front_of, reaching_place};
+ghost use Rattle.lsm_block_indexes.specs.Words.{rest_in};
+ghost use Rattle.lsm_block_indexes.specs.Words.{AnswersAny, DealsEnding, IsBetween, IsSpanSought};
+ghost use Rattle.lsm_block_indexes.specs.Words.{span_from, span_left, whole_span, window};
 
 use crate::iter::OwnedIndexBlockIter;
 use crate::kinds::BlockIndexIter;
@@ -39,8 +42,9 @@ impl<A: Allocator> FullBlockIndex<A> {
         &self.0
     }
 
-    /// The handles from the first on that reaches a key and a number: whose end key is greater, or equal and numbered below
-    /// `seqno`. `None` where there is no such handle. Refused [`Error::OutOfMemory`] alone.
+    /// The handles from the first on that reaches a key and a number: whose end key is greater, or
+    /// equal and numbered below `seqno`. `None` where there is no such handle. Refused
+    /// [`Error::OutOfMemory`] alone.
     pub fn forward_reader(&self, key: &[u8], seqno: SeqNo) -> Result<Option<Iter<A>>, Error>
         ensures none { IfOk result (λ found. MatchOption found
             (window self.now (Some (key.now, seqno)) None ≡ []) (λ i. rest_in i ≡ [] → ⊥)) }
@@ -78,8 +82,8 @@ impl<A: Allocator> FullBlockIndex<A> {
     }
 }
 
-/// The handles of a full index, dealt from both ends. After a call that is refused [`Error::OutOfMemory`] nothing more comes,
-/// from either end.
+/// The handles of a full index, dealt from both ends. After a call that is refused
+/// [`Error::OutOfMemory`] nothing more comes, from either end.
 #[derive(Drop)]
 pub struct Iter<A: Allocator = Global>(OwnedIndexBlockIter<A>);
 

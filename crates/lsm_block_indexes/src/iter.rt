@@ -1,16 +1,19 @@
 //! The handles of an index block, from both ends, by an iterator that holds the block.
 ghost use Rattle.std.specs.Prelude.{◌≡◌, ◌+◌, ◌-◌, ◌↔◌, [], IsTrue, Some, None};
 ghost use Rattle.std.specs.Iterator.{at_most};
-ghost use Rattle.lsm_block_indexes.specs.Words.{DealsLeft, KeepsLowerEdge, KeepsUpperEdge, PlaceGives, SpanGives};
-ghost use Rattle.lsm_block_indexes.specs.Words.{above_place, back_of, front_of, reaching_place, rest_in};
+ghost use Rattle.lsm_block_indexes.specs.Words.{DealsLeft, KeepsLowerEdge, KeepsUpperEdge};
+ghost use Rattle.lsm_block_indexes.specs.Words.{PlaceGives, SpanGives};
+ghost use Rattle.lsm_block_indexes.specs.Words.{above_place, back_of, front_of, reaching_place};
+ghost use Rattle.lsm_block_indexes.specs.Words.{rest_in};
 ghost use Rattle.lsm_block_indexes.specs.Words.{span_from, span_to, whole_span, window};
 
 use sst_blocks::{BlockHandle, Error, IndexBlock, KeyedBlockHandle, SeqNo};
 use std::alloc::{Allocator, Global};
 use std::marker::Model;
 
-/// The handles of an index block that it holds, dealt from both ends. After a call that is refused [`Error::OutOfMemory`]
-/// nothing more comes, from either end. A contract sees the block's handles and the places between which they are left.
+/// The handles of an index block that it holds, dealt from both ends. After a call that is refused
+/// [`Error::OutOfMemory`] nothing more comes, from either end. A contract sees the block's handles
+/// and the places between which they are left.
 #[derive(Drop)]
 pub struct OwnedIndexBlockIter<A: Allocator = Global> {
     block: IndexBlock<A>,
@@ -41,8 +44,8 @@ impl<A: Allocator> OwnedIndexBlockIter<A> {
         OwnedIndexBlockIter { block, from: 0, to }
     }
 
-    /// Drops what stands before the first handle that reaches a key and a number: whose end key is greater, or equal and
-    /// numbered below `seqno`. Answers whether a handle is left.
+    /// Drops what stands before the first handle that reaches a key and a number: whose end key is
+    /// greater, or equal and numbered below `seqno`. Answers whether a handle is left.
     pub fn seek_lower(&mut self, key: &[u8], seqno: SeqNo) -> bool
         ensures narrowed { let place = reaching_place (key.now, seqno) self.old.list in
             self.new ≡ span_from place self.old }
@@ -56,8 +59,9 @@ impl<A: Allocator> OwnedIndexBlockIter<A> {
         self.from < self.to
     }
 
-    /// Drops what stands behind the first handle whose end key is greater than a key. Answers whether a handle is left. The
-    /// number is not looked at: versions of the key may go on in the block of a handle that ends with the key.
+    /// Drops what stands behind the first handle whose end key is greater than a key. Answers
+    /// whether a handle is left. The number is not looked at: versions of the key may go on in the
+    /// block of a handle that ends with the key.
     pub fn seek_upper(&mut self, key: &[u8], _seqno: SeqNo) -> bool
         ensures narrowed { self.new ≡ span_to (1 + above_place key.now self.old.list) self.old }
         ensures left { IsTrue result ↔ (rest_in self.new ≡ [] → ⊥) }
@@ -73,7 +77,8 @@ impl<A: Allocator> OwnedIndexBlockIter<A> {
         self.from < self.to
     }
 
-    /// Takes the first handle, and answers where its block lies. The end key is not shared, so no memory is taken.
+    /// Takes the first handle, and answers where its block lies. The end key is not shared, so no
+    /// memory is taken.
     pub(crate) fn next_place(&mut self) -> Option<BlockHandle>
         ensures { PlaceGives front_of self.old result self.new }
     {

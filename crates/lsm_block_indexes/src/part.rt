@@ -2,7 +2,8 @@
 ghost use Rattle.std.specs.Prelude.{◌≡◌, ◌∷◌, [], Err, false, IfOk, IfErr};
 ghost use Rattle.sst_entries.specs.Error.{FaultsFirst, is_memory};
 ghost use Rattle.sst_entries.specs.Stream.{ok_results};
-ghost use Rattle.lsm_block_indexes.specs.Words.{PartGives, back_of, block_between, block_early, body_of, front_of};
+ghost use Rattle.lsm_block_indexes.specs.Words.{PartGives, back_of, block_between, block_early};
+ghost use Rattle.lsm_block_indexes.specs.Words.{body_of, front_of};
 ghost use Rattle.lsm_block_indexes.specs.Words.{loaded, rest_in};
 
 use crate::edges::Edges;
@@ -72,8 +73,8 @@ impl<A: Allocator> Part<A> {
     }
 }
 
-/// What the index block at a place holds between the edges. Refused as [`BlockSource::load`]; each call counts, also where it
-/// refuses.
+/// What the index block at a place holds between the edges. Refused as [`BlockSource::load`]; each
+/// call counts, also where it refuses.
 pub fn load_part<A: Allocator + Clone>(
     source: &BlockSource<A>,
     handle: &BlockHandle,

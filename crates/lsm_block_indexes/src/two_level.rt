@@ -1,13 +1,18 @@
-//! The index of two levels: a top level that stays loaded, and partitions that each iterator loads one after another.
+//! The index of two levels: a top level that stays loaded, and partitions that each iterator loads
+//! one after another.
 ghost use Rattle.std.specs.Prelude.{◌≡◌, ◌∷◌, [], Some, None, true, false, Ok, Err, IfOk, IfErr};
 ghost use Rattle.std.specs.Iterator.{at_most};
 ghost use Rattle.sst_entries.specs.Error.{FaultsFirst, is_memory};
 ghost use Rattle.sst_entries.specs.Stream.{ok_results};
 ghost use Rattle.sst_entries.specs.declared.error.Error.TheVariants.{OutOfMemory};
-ghost use Rattle.lsm_block_indexes.specs.Words.{AnswersTrue, DealsEnding, IsBetween, IsTwoLevelSought};
-ghost use Rattle.lsm_block_indexes.specs.Words.{EntersBack, EntersFront, Fails, TwoLevelGives, TwoLevelSteps};
-ghost use Rattle.lsm_block_indexes.specs.Words.{back_early, back_needs, back_of, block_early, body_of, front_early, front_needs, front_of};
-ghost use Rattle.lsm_block_indexes.specs.Words.{left_size, loaded, new_two_level, none_opened, part_at, two_level, two_level_left};
+ghost use Rattle.lsm_block_indexes.specs.Words.{AnswersTrue, DealsEnding, IsBetween};
+ghost use Rattle.lsm_block_indexes.specs.Words.{IsTwoLevelSought};
+ghost use Rattle.lsm_block_indexes.specs.Words.{EntersBack, EntersFront, Fails, TwoLevelGives};
+ghost use Rattle.lsm_block_indexes.specs.Words.{TwoLevelSteps};
+ghost use Rattle.lsm_block_indexes.specs.Words.{back_early, back_needs, back_of, block_early};
+ghost use Rattle.lsm_block_indexes.specs.Words.{body_of, front_early, front_needs, front_of};
+ghost use Rattle.lsm_block_indexes.specs.Words.{left_size, loaded, new_two_level, none_opened};
+ghost use Rattle.lsm_block_indexes.specs.Words.{part_at, two_level, two_level_left};
 
 use crate::edges::Edges;
 use crate::iter::OwnedIndexBlockIter;
@@ -18,8 +23,9 @@ use std::alloc::{Allocator, Global};
 use std::marker::Model;
 use std::mem;
 
-/// An index of two levels: the handles of the top level name partitions, which hold the handles of the data blocks. The top level
-/// stays loaded. A contract sees the bytes before the trailer and the handles of the top level.
+/// An index of two levels: the handles of the top level name partitions, which hold the handles of
+/// the data blocks. The top level stays loaded. A contract sees the bytes before the trailer and
+/// the handles of the top level.
 #[derive(Drop)]
 pub struct TwoLevelBlockIndex<A: Allocator = Global> {
     alloc: A,
@@ -53,8 +59,9 @@ impl<A: Allocator + Clone> TwoLevelBlockIndex<A> {
         }
     }
 
-    /// The handles from the first on that reaches a key and a number: whose end key is greater, or equal and numbered below
-    /// `seqno`. There is always a reader, and nothing is loaded. Refused [`Error::OutOfMemory`] alone.
+    /// The handles from the first on that reaches a key and a number: whose end key is greater, or
+    /// equal and numbered below `seqno`. There is always a reader, and nothing is loaded. Refused
+    /// [`Error::OutOfMemory`] alone.
     pub fn forward_reader(&self, key: &[u8], seqno: SeqNo) -> Result<Iter<A>, Error>
         ensures sought { IfOk result (λ i. IsTwoLevelSought i (Some (key.now, seqno)) None) }
         ensures between { let edge = Some (key.now, seqno) in
@@ -97,9 +104,10 @@ impl<A: Allocator + Clone> TwoLevelBlockIndex<A> {
     }
 }
 
-/// The handles of an index of two levels, dealt from both ends. A partition is loaded where a step first needs it, and no step
-/// loads more than it needs; each load is counted; where one cannot be loaded, the fault comes in the place of its handles, and one
-/// that needs no memory to be found comes before any want of it for this partition. After an error of a step or of a seek,
+/// The handles of an index of two levels, dealt from both ends. A partition is loaded where a step
+/// first needs it, and no step loads more than it needs; each load is counted; where one cannot be
+/// loaded, the fault comes in the place of its handles, and one that needs no memory to be found
+/// comes before any want of it for this partition. After an error of a step or of a seek,
 /// [`Error::OutOfMemory`] among them, nothing more comes, from either end.
 #[derive(Drop)]
 pub struct Iter<A: Allocator = Global> {

@@ -2,7 +2,9 @@
 ghost use Rattle.std.specs.Prelude.{◌≡◌, [], Some, None, IfOk, IfErr};
 ghost use Rattle.std.specs.Iterator.{at_most};
 ghost use Rattle.sst_entries.specs.declared.error.Error.TheVariants.{OutOfMemory};
-ghost use Rattle.lsm_block_indexes.specs.Words.{AnswersTrue, DealsEnding, IsBetween, IsDemandSought, OnDemandGives, back_of, body_of, front_of};
+ghost use Rattle.lsm_block_indexes.specs.Words.{AnswersTrue, DealsEnding, IsBetween};
+ghost use Rattle.lsm_block_indexes.specs.Words.{IsDemandSought, OnDemandGives, back_of, body_of};
+ghost use Rattle.lsm_block_indexes.specs.Words.{front_of};
 ghost use Rattle.lsm_block_indexes.specs.Words.{left_size, new_on_demand, on_demand_left};
 
 use crate::edges::Edges;
@@ -12,8 +14,8 @@ use sst_blocks::{BlockHandle, BlockSource, Error, KeyedBlockHandle, Opened, SeqN
 use std::alloc::{Allocator, Global};
 use std::marker::Model;
 
-/// An index of one block, which is loaded on demand: by the first step of each iterator, once. A contract sees the bytes before
-/// the trailer and the block's place.
+/// An index of one block, which is loaded on demand: by the first step of each iterator, once. A
+/// contract sees the bytes before the trailer and the block's place.
 #[derive(Drop)]
 pub struct VolatileBlockIndex<A: Allocator = Global> {
     alloc: A,
@@ -43,8 +45,9 @@ impl<A: Allocator + Clone> VolatileBlockIndex<A> {
         }
     }
 
-    /// The handles from the first on that reaches a key and a number: whose end key is greater, or equal and numbered below
-    /// `seqno`. There is always a reader, and nothing is loaded. Refused [`Error::OutOfMemory`] alone.
+    /// The handles from the first on that reaches a key and a number: whose end key is greater, or
+    /// equal and numbered below `seqno`. There is always a reader, and nothing is loaded. Refused
+    /// [`Error::OutOfMemory`] alone.
     pub fn forward_reader(&self, key: &[u8], seqno: SeqNo) -> Result<Iter<A>, Error>
         ensures sought { let unsought = new_on_demand self.now.0 self.now.1 in
             IfOk result (λ i. i ≡ record unsought { lower = Some (key.now, seqno) }) }
@@ -83,9 +86,10 @@ impl<A: Allocator + Clone> VolatileBlockIndex<A> {
     }
 }
 
-/// The handles of an index on demand, dealt from both ends. The first step loads the block, once; where that is refused, the
-/// fault comes in the place of the handles, and one that needs no memory to be found comes before any want of it. After an error
-/// of a step or of a seek, [`Error::OutOfMemory`] among them, nothing more comes, from either end.
+/// The handles of an index on demand, dealt from both ends. The first step loads the block, once;
+/// where that is refused, the fault comes in the place of the handles, and one that needs no memory
+/// to be found comes before any want of it. After an error of a step or of a seek,
+/// [`Error::OutOfMemory`] among them, nothing more comes, from either end.
 #[derive(Drop)]
 pub struct Iter<A: Allocator = Global> {
     source: BlockSource<A>,

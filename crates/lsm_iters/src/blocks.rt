@@ -47,8 +47,8 @@ impl<A: Allocator> Model for Blocks<A> {
 }
 
 impl<A: Allocator + Clone> Blocks<A> {
-    /// Seeks the edges of the bounds, where they were not sought yet. Refused [`Error::OutOfMemory`]
-    /// alone.
+    /// Seeks the edges of the bounds, where they were not sought yet. Refused
+    /// [`Error::OutOfMemory`] alone.
     pub fn initialize(&mut self) -> Result<(), Error>
         ensures ok { let low = lower_edge self.old.of.low in
             let high = upper_edge self.old.of.high in
@@ -80,8 +80,8 @@ impl<A: Allocator + Clone> Blocks<A> {
     }
 
     /// Has the checksums of a block at the front and of the one behind it compared together, which
-    /// costs little more than its own alone; from the fifth block on, of the three behind it: whoever
-    /// took four blocks whole is likely to go on. No answer depends on it.
+    /// costs little more than its own alone; from the fifth block on, of the three behind it:
+    /// whoever took four blocks whole is likely to go on. No answer depends on it.
     fn look_ahead(&self, handle: &KeyedBlockHandle<A>, at: Direction) {
         if at == Direction::Front {
             let most = if self.opened.data_loads < 4 { 2 } else { 4 };

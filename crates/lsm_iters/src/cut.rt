@@ -7,8 +7,8 @@ use crate::{Bound, OwnedDataBlockIter, lift_seqno};
 use sst_blocks::{DataBlock, InternalValue, IterItem, SeqNo};
 use std::alloc::Allocator;
 
-/// An entry with the global number added. Refused [`sst_blocks::Error::SeqNoOverflow`] where the sum
-/// passes `u64`.
+/// An entry with the global number added. Refused [`sst_blocks::Error::SeqNoOverflow`] where the
+/// sum passes `u64`.
 fn lift<A: Allocator>(mut item: InternalValue<A>, global_seqno: SeqNo) -> IterItem<A>
     ensures { result ≡ lifted_told global_seqno item }
 {

@@ -1,7 +1,8 @@
 //! The handles of the blocks that are not loaded.
 ghost use Rattle.std.specs.Prelude.{◌≡◌, None, true, false, OnOk, OnErr, IfErr, List, ℕ, Option};
 ghost use Rattle.sst_entries.specs.declared.error.Error.TheVariants.{OutOfMemory};
-ghost use Rattle.lsm_iters.specs.Words.{IsSought, LeftGives, LoadsNone, SeeksOnce, TakesMemory, all_over};
+ghost use Rattle.lsm_iters.specs.Words.{IsSought, LeftGives, LoadsNone, SeeksOnce, TakesMemory};
+ghost use Rattle.lsm_iters.specs.Words.{all_over};
 ghost use Rattle.lsm_iters.specs.Words.{edge_in, left_in, left_of, lower_edge, taken_at};
 ghost use Rattle.lsm_iters.specs.Words.{upper_edge};
 
@@ -45,7 +46,8 @@ impl<A: Allocator + Clone> Handles<A> {
         }
     }
 
-    /// Seeks the edges of two bounds, where they were not sought yet. Refused [`Error::OutOfMemory`] alone.
+    /// Seeks the edges of two bounds, where they were not sought yet. Refused
+    /// [`Error::OutOfMemory`] alone.
     pub fn seek(&mut self, lower: &Option<Bound<A>>, upper: &Option<Bound<A>>) -> Result<(), Error>
         ensures ok { let low = lower_edge (edge_in lower.now) in
             let high = upper_edge (edge_in upper.now) in

@@ -18,12 +18,14 @@ use sst_entries::Direction;
 use std::alloc::{Allocator, Global};
 use std::marker::Model;
 
-/// The entries of a table that lie within two bounds, dealt from both ends, their numbers with the global number added. It owns
-/// what it reads: a share of the table's bytes.
+/// The entries of a table that lie within two bounds, dealt from both ends, their numbers with the
+/// global number added. It owns what it reads: a share of the table's bytes.
 ///
-/// A data block is loaded where a step first needs it, once, and the index is sought by the first step. Where a block cannot be
-/// loaded its fault comes in the place of its entries, and [`Error::SeqNoOverflow`] in the place of an entry whose number passes
-/// `u64` with the global number added. After an error, [`Error::OutOfMemory`] among them, nothing more comes, from either end.
+/// A data block is loaded where a step first needs it, once, and the index is sought by the first
+/// step. Where a block cannot be loaded its fault comes in the place of its entries, and
+/// [`Error::SeqNoOverflow`] in the place of an entry whose number passes `u64` with the global
+/// number added. After an error, [`Error::OutOfMemory`] among them, nothing more comes, from either
+/// end.
 #[derive(Drop)]
 pub struct Iter<A: Allocator = Global> {
     walk: Walk<Blocks<A>, OwnedDataBlockIter<A>>,
@@ -39,9 +41,10 @@ impl<A: Allocator> Model for Iter<A> {
 }
 
 impl<A: Allocator + Clone> Iter<A> {
-    /// The entries of the blocks that an index names, with no bounds yet. The index iterator is to be one whose edges were not
-    /// sought, and of which no step was made: its edges are sought by the first step, where bounds are set. Nothing is loaded.
-    /// Refused [`Error::OutOfMemory`] alone.
+    /// The entries of the blocks that an index names, with no bounds yet. The index iterator is to
+    /// be one whose edges were not sought, and of which no step was made: its edges are sought by
+    /// the first step, where bounds are set. Nothing is loaded. Refused [`Error::OutOfMemory`]
+    /// alone.
     pub fn new(
         global_seqno: SeqNo,
         source: &BlockSource<A>,

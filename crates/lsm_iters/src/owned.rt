@@ -2,8 +2,10 @@
 ghost use Rattle.std.specs.Prelude.{◌≡◌, ◌-◌, ◌↔◌, [], IsTrue, length};
 ghost use Rattle.std.specs.Iterator.{at_most};
 ghost use Rattle.std.specs.declared.ops.Bound.TheVariants.{Unbounded};
-ghost use Rattle.lsm_iters.specs.Words.{DealsLeft, IsStrict, KeepsLower, KeepsUpper, SpanGives, back_of, edge_of, front_of};
-ghost use Rattle.lsm_iters.specs.Words.{span_remains, lower_place, rest_in, span_from, span_to, upper_place, whole_span, within};
+ghost use Rattle.lsm_iters.specs.Words.{DealsLeft, IsStrict, KeepsLower, KeepsUpper, SpanGives};
+ghost use Rattle.lsm_iters.specs.Words.{back_of, edge_of, front_of};
+ghost use Rattle.lsm_iters.specs.Words.{span_remains, lower_place, rest_in, span_from, span_to};
+ghost use Rattle.lsm_iters.specs.Words.{upper_place, whole_span, within};
 
 use crate::Bound;
 use lsm_walks::Ends;
@@ -13,8 +15,8 @@ use std::alloc::{Allocator, Global};
 use std::marker::Model;
 
 /// The entries of a data block that it holds, dealt from both ends. After a call that is refused
-/// [`sst_blocks::Error::OutOfMemory`] nothing more comes, from either end. A contract sees the block's entries and the places
-/// between which they are left.
+/// [`sst_blocks::Error::OutOfMemory`] nothing more comes, from either end. A contract sees the
+/// block's entries and the places between which they are left.
 #[derive(Drop)]
 pub struct OwnedDataBlockIter<A: Allocator = Global> {
     block: DataBlock<A>,
@@ -45,7 +47,8 @@ impl<A: Allocator> OwnedDataBlockIter<A> {
         OwnedDataBlockIter { block, from: 0, to }
     }
 
-    /// Drops the entries before a bound. Answers whether an entry is left. The number is not looked at.
+    /// Drops the entries before a bound. Answers whether an entry is left. The number is not looked
+    /// at.
     pub fn seek_lower_bound(&mut self, bound: &Bound<A>, _seqno: SeqNo) -> bool
         ensures narrowed { let place = lower_place (edge_of bound.now) self.old.list in
             self.new ≡ span_from place self.old }
@@ -59,7 +62,8 @@ impl<A: Allocator> OwnedDataBlockIter<A> {
         self.from < self.to
     }
 
-    /// Drops the entries behind a bound. Answers whether an entry is left. The number is not looked at.
+    /// Drops the entries behind a bound. Answers whether an entry is left. The number is not looked
+    /// at.
     pub fn seek_upper_bound(&mut self, bound: &Bound<A>, _seqno: SeqNo) -> bool
         ensures narrowed { let place = upper_place (edge_of bound.now) self.old.list in
             self.new ≡ span_to place self.old }
@@ -138,7 +142,8 @@ impl<A: Allocator> Ends for OwnedDataBlockIter<A> {
     }
 }
 
-/// Whether a block begins within a lower bound: no entry stands before the bound then. One comparison tells.
+/// Whether a block begins within a lower bound: no entry stands before the bound then. One
+/// comparison tells.
 fn begins_within<A: Allocator>(block: &DataBlock<A>, bound: &Bound<A>) -> bool
     ensures place { IsTrue result → lower_place (edge_of bound.now) block.now ≡ 0 }
     ensures strict { IsStrict block.now }
@@ -169,7 +174,8 @@ fn ends_within<A: Allocator>(block: &DataBlock<A>, bound: &Bound<A>) -> bool
     }
 }
 
-/// How many entries of a block stand before a lower bound. A search is made only where the bound cuts the block's front.
+/// How many entries of a block stand before a lower bound. A search is made only where the bound
+/// cuts the block's front.
 fn first_behind<A: Allocator>(block: &DataBlock<A>, bound: &Bound<A>) -> usize
     ensures place { result ≡ lower_place (edge_of bound.now) block.now }
     ensures strict { IsStrict block.now }
@@ -183,7 +189,8 @@ fn first_behind<A: Allocator>(block: &DataBlock<A>, bound: &Bound<A>) -> usize
     }
 }
 
-/// How many entries of a block stand up to an upper bound. A search is made only where the bound cuts the block's back.
+/// How many entries of a block stand up to an upper bound. A search is made only where the bound
+/// cuts the block's back.
 fn first_past<A: Allocator>(block: &DataBlock<A>, bound: &Bound<A>) -> usize
     ensures place { result ≡ upper_place (edge_of bound.now) block.now }
     ensures strict { IsStrict block.now }

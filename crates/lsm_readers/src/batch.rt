@@ -78,8 +78,8 @@ fn place_at<S: LoadBlocks>(
     }
 }
 
-/// Where the data blocks lie that reads for the queries of some places rest on, in the order of these
-/// places, up to the first where that is refused.
+/// Where the data blocks lie that reads for the queries of some places rest on, in the order of
+/// these places, up to the first where that is refused.
 pub(crate) fn find_places<S: LoadBlocks>(
     source: &mut S,
     inner: &Inner<S::Alloc>,
@@ -131,9 +131,9 @@ fn answer_placed<S: LoadBlocks>(
     }
 }
 
-/// Gathers the data blocks that places at the front of some name, [`AHEAD`] of them at most and none
-/// that was named just before. Gives how many places these are: at least one, where there is any.
-/// Refused for want of memory alone.
+/// Gathers the data blocks that places at the front of some name, [`AHEAD`] of them at most and
+/// none that was named just before. Gives how many places these are: at least one, where there is
+/// any. Refused for want of memory alone.
 pub(crate) fn gather_blocks<A: Allocator>(
     places: &[Placed],
     blocks: &mut Vec<(BlockHandle, BlockType), A>,

@@ -69,7 +69,8 @@ fn compare_queries<A: Allocator>(queries: &[Query<A>], at: usize, other_at: usiz
     }
 }
 
-/// Queries in the order of [`compare_queries`], told by eight bytes of their keys where these differ.
+/// Queries in the order of [`compare_queries`], told by eight bytes of their keys where these
+/// differ.
 fn compare_headed<A: Allocator>(queries: &[Query<A>], a: &Headed, b: &Headed) -> Ordering {
     match a.head.cmp(&b.head) {
         Ordering::Equal => compare_queries(queries, a.at, b.at),

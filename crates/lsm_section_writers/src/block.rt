@@ -1,9 +1,12 @@
 //! Writing blocks of handles.
 ghost use Rattle.std.specs.Prelude.{◌≡◌, ◌+◌, ◌<◌, ◌^◌, ◌++◌, ◌∷◌, [], length, take, All};
 ghost use Rattle.std.specs.Prelude.{IfOk, IfErr, OnOk, OnErr};
-ghost use Rattle.lsm_section_writers.specs.IndexWords.{AreStrictHandles, Faults, SectionFits, appended};
-ghost use Rattle.lsm_section_writers.specs.IndexWords.{handles_block, handles_fault, handles_payload};
-ghost use Rattle.lsm_section_writers.specs.IndexWords.{header_len, index_block_bound_of, slot_index};
+ghost use Rattle.lsm_section_writers.specs.IndexWords.{AreStrictHandles, Faults, SectionFits};
+ghost use Rattle.lsm_section_writers.specs.IndexWords.{appended};
+ghost use Rattle.lsm_section_writers.specs.IndexWords.{handles_block, handles_fault};
+ghost use Rattle.lsm_section_writers.specs.IndexWords.{handles_payload};
+ghost use Rattle.lsm_section_writers.specs.IndexWords.{header_len, index_block_bound_of};
+ghost use Rattle.lsm_section_writers.specs.IndexWords.{slot_index};
 ghost use Rattle.sst_entries.specs.declared.error.Error.TheVariants.{OutOfMemory};
 ghost use Rattle.sst_sections.specs.declared.section.SectionName.TheVariants.{Tli};
 ghost use Rattle.sst_sections.specs.declared.version.TableVersion.TheVariants.{V4};

@@ -16,7 +16,8 @@ pub enum FilterWriterImpl<A: Allocator = Global> {
 }
 
 impl<A: Allocator + Clone> FilterWriter<A> for FilterWriterImpl<A> {
-    ghost use Rattle.lsm_section_writers.specs.FilterEither.{HoldsBy, failed_by, kind_by, policy_by};
+    ghost use Rattle.lsm_section_writers.specs.FilterEither.{HoldsBy, failed_by, kind_by};
+    ghost use Rattle.lsm_section_writers.specs.FilterEither.{policy_by};
     ghost use Rattle.lsm_section_writers.specs.FilterEither.{with_policy_by, with_size_by};
 
     ghost kind = { λ w. kind_by w };

@@ -2,7 +2,8 @@
 ghost use Rattle.std.specs.Prelude.{◌≡◌, ◌<◌, ◌≤◌, ◌^◌, ◌++◌, ◌∷◌, ℕ, List, [], None, true};
 ghost use Rattle.lsm_section_writers.specs.FilterWords.{AreRising, GivenKeys, IsAdmitted};
 ghost use Rattle.lsm_section_writers.specs.FilterWords.{WritesFilter, WritesParts};
-ghost use Rattle.lsm_section_writers.specs.FilterWords.{all_keys, filter_fault, given_by, given_fault};
+ghost use Rattle.lsm_section_writers.specs.FilterWords.{all_keys, filter_fault, given_by};
+ghost use Rattle.lsm_section_writers.specs.FilterWords.{given_fault};
 ghost use Rattle.lsm_section_writers.specs.FilterWords.{no_keys, partition_size, register_fault};
 ghost use Rattle.lsm_section_writers.specs.FilterWords.{tenths_of, was_given, with_key};
 ghost use Rattle.lsm_formats.specs.declared.options.FilterKind.{FilterKind};

@@ -1,6 +1,7 @@
 //! The writer of a full index.
 ghost use Rattle.std.specs.Prelude.{◌≡◌, ◌∷◌, [], false, length, take, IfOk, OnOk};
-ghost use Rattle.lsm_section_writers.specs.IndexWords.{AreStrictHandles, Faults, HasNoIndex, SectionFits};
+ghost use Rattle.lsm_section_writers.specs.IndexWords.{AreStrictHandles, Faults, HasNoIndex};
+ghost use Rattle.lsm_section_writers.specs.IndexWords.{SectionFits};
 ghost use Rattle.lsm_section_writers.specs.IndexWords.{appended};
 ghost use Rattle.lsm_section_writers.specs.IndexWords.{handles_block, handles_fault};
 ghost use Rattle.lsm_section_writers.specs.IndexEither.{registered_by};

@@ -3,11 +3,13 @@ ghost use Rattle.std.specs.Prelude.{◌≡◌, ◌+◌, ◌-◌, ◌<◌, ◌≤
 ghost use Rattle.std.specs.Prelude.{take};
 ghost use Rattle.std.specs.Prelude.{IfOk, IfErr, OnOk, OnErr};
 ghost use Rattle.std.specs.List.{AllByRecursion, flat_map};
-ghost use Rattle.lsm_section_writers.specs.IndexWords.{AreStrictHandles, Faults, HasNoIndex, SectionFits};
+ghost use Rattle.lsm_section_writers.specs.IndexWords.{AreStrictHandles, Faults, HasNoIndex};
+ghost use Rattle.lsm_section_writers.specs.IndexWords.{SectionFits};
 ghost use Rattle.lsm_section_writers.specs.IndexWords.{appended};
 ghost use Rattle.lsm_section_writers.specs.IndexWords.{capped, handle_size, handles_block};
 ghost use Rattle.lsm_section_writers.specs.IndexWords.{index_block_bound_of};
-ghost use Rattle.lsm_section_writers.specs.IndexWords.{index_tops, is_full_index, kind_fault, part_fault};
+ghost use Rattle.lsm_section_writers.specs.IndexWords.{index_tops, is_full_index, kind_fault};
+ghost use Rattle.lsm_section_writers.specs.IndexWords.{part_fault};
 ghost use Rattle.lsm_section_writers.specs.IndexWords.{partitioned_index, parts_by, parts_fault};
 ghost use Rattle.lsm_formats.specs.declared.options.IndexKind.TheVariants.{Partitioned};
 ghost use Rattle.sst_entries.specs.declared.error.Error.TheVariants.{OutOfMemory};

@@ -1,11 +1,13 @@
 //! Blocks: a checked payload of one kind.
-ghost use Rattle.std.specs.Prelude.{◌≡◌, ◌+◌, ◌++◌, ◌<◌, ◌^◌, List, Ok, true, length, IsTrue, IfOk, IfErr, OnOk, OnErr};
+ghost use Rattle.std.specs.Prelude.{◌≡◌, ◌+◌, ◌++◌, ◌<◌, ◌^◌, List, Ok, true, length, IsTrue, IfOk};
+ghost use Rattle.std.specs.Prelude.{IfErr, OnOk, OnErr};
 ghost use Rattle.sst_blocks.specs.Words.{AreSpellable, AreSpellableHandles, AreStrictHandles};
 ghost use Rattle.sst_blocks.specs.Words.{Entry, Faults, Gives, Handle, HoldsEntries, IsBlock};
 ghost use Rattle.sst_blocks.specs.Words.{IsStrict, Loaded, LoadsBack, block_bytes, entries_of};
 ghost use Rattle.sst_blocks.specs.Words.{grammar_fault, handles_of, handles_payload, has_room};
 ghost use Rattle.sst_blocks.specs.Words.{header_len, in_grammar};
-ghost use Rattle.sst_blocks.specs.Words.{BloomFilter, IsBuilt, filter_in, is_filter, loaded, payload};
+ghost use Rattle.sst_blocks.specs.Words.{BloomFilter, IsBuilt, filter_in, is_filter, loaded};
+ghost use Rattle.sst_blocks.specs.Words.{payload};
 ghost use Rattle.sst_blocks.specs.Words.{payload_of, unless};
 ghost use Rattle.sst_blocks.specs.declared.block_type.BlockType.{BlockType};
 ghost use Rattle.sst_blocks.specs.declared.block_type.BlockType.TheVariants.{Filter, Index};
@@ -29,8 +31,8 @@ use std::marker::Model;
 /// The length of a block of no entries or handles, in bytes: its header and a count.
 pub const EMPTY_LEN: u64 = 28;
 
-/// A block that was loaded: its payload is in the grammar of its kind. It shares the table's bytes, and its clones share
-/// all that it holds.
+/// A block that was loaded: its payload is in the grammar of its kind. It shares the table's bytes,
+/// and its clones share all that it holds.
 #[derive(Drop)]
 pub struct Block<A: Allocator = Global> {
     pub(crate) version: TableVersion,
@@ -56,7 +58,8 @@ impl<A: Allocator> Clone for Block<A> {
 
     ghost is_clone = { λ b copy. copy ≡ b };
 
-    /// The same block, which shares all that this one holds. Refused where a count of sharers is refused.
+    /// The same block, which shares all that this one holds. Refused where a count of sharers is
+    /// refused.
     fn clone(&self) -> Result<Block<A>, AllocError> {
         Ok(Block {
             version: self.version,
@@ -84,8 +87,8 @@ impl<A: Allocator> Block<A> {
 }
 
 impl<A: Allocator + Clone> Block<A> {
-    /// The block of a payload whose checksum is right and which has room for what it counts. Refused
-    /// [`Error::InvalidBlock`] where the payload is not in the grammar of its kind, and
+    /// The block of a payload whose checksum is right and which has room for what it counts.
+    /// Refused [`Error::InvalidBlock`] where the payload is not in the grammar of its kind, and
     /// [`Error::OutOfMemory`]. Where it was tested before that it is, no keys are compared.
     pub(crate) fn open(
         alloc: A,
@@ -110,8 +113,9 @@ impl<A: Allocator + Clone> Block<A> {
     }
 }
 
-/// Where the entries or handles of a payload begin; a filter has none. Refused [`Error::InvalidBlock`] where the payload is not
-/// in the grammar of its kind, and [`Error::OutOfMemory`].
+/// Where the entries or handles of a payload begin; a filter has none. Refused
+/// [`Error::InvalidBlock`] where the payload is not in the grammar of its kind, and
+/// [`Error::OutOfMemory`].
 fn item_starts<A: Allocator>(
     alloc: A,
     version: TableVersion,
@@ -146,7 +150,8 @@ pub(crate) fn has_room(version: TableVersion, kind: BlockType, payload: &[u8]) -
     }
 }
 
-/// Whether a payload is that of a filter: the number of probes, from 1 to 30, and at least one byte of bits.
+/// Whether a payload is that of a filter: the number of probes, from 1 to 30, and at least one byte
+/// of bits.
 fn is_filter(payload: &[u8]) -> bool
     ensures { result ≡ is_filter payload.now }
 {
@@ -157,8 +162,8 @@ fn is_filter(payload: &[u8]) -> bool
 }
 
 impl<A: Allocator + Clone> Block<A> {
-    /// Writes a block with this payload at the end, and answers where it lies. Refused [`Error::OutOfMemory`]; nothing
-    /// changes then.
+    /// Writes a block with this payload at the end, and answers where it lies. Refused
+    /// [`Error::OutOfMemory`]; nothing changes then.
     pub fn write_into(
         writer: &mut SectionWriter<A>,
         payload: &[u8],
@@ -189,8 +194,9 @@ impl<A: Allocator + Clone> Block<A> {
     }
 }
 
-/// A law of blocks that were written: whatever stands before and behind it, the block of a strict list that its version can
-/// spell loads, by its handle and at its position, and holds the list; so does that of a filter. The call does nothing.
+/// A law of blocks that were written: whatever stands before and behind it, the block of a strict
+/// list that its version can spell loads, by its handle and at its position, and holds the list; so
+/// does that of a filter. The call does nothing.
 pub fn written_blocks_load()
     ensures entries { (v : TableVersion) (kind : BlockType) (es : List Entry) → HoldsEntries kind →
         IsStrict es → AreSpellable v es → length (payload v es) < 2 ^ 32 →

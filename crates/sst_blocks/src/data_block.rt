@@ -1,5 +1,7 @@
 //! Data blocks: strict lists of entries.
-ghost use Rattle.std.specs.Prelude.{◌≡◌, ℕ, ◌+◌, ◌++◌, ◌<◌, ◌≤◌, ◌≢◌, ◌^◌, ◌↔◌, List, [], Some, None, Bool, true, false, not, is_some, length, IsTrue, IfOk, IfErr, OnOk, OnErr};
+ghost use Rattle.std.specs.Prelude.{◌≡◌, ℕ, ◌+◌, ◌++◌, ◌<◌, ◌≤◌, ◌≢◌, ◌^◌, ◌↔◌, List, [], Some};
+ghost use Rattle.std.specs.Prelude.{None, Bool, true, false, not, is_some, length, IsTrue, IfOk};
+ghost use Rattle.std.specs.Prelude.{IfErr, OnOk, OnErr};
 ghost use Rattle.std.specs.List.{slice_get};
 ghost use Rattle.std.specs.List.Sorted.{IsPartitionedBy};
 ghost use Rattle.std.specs.Option.{option_map};
@@ -9,7 +11,8 @@ ghost use Rattle.sst_blocks.specs.Words.{answer_stops, data_block_bound_of, entr
 ghost use Rattle.sst_blocks.specs.Words.{entries_in, entries_of, entry_of_ref, front_length};
 ghost use Rattle.sst_blocks.specs.Words.{has_room_for, header_len, is_memory};
 ghost use Rattle.sst_sections.specs.Version.{key_width};
-ghost use Rattle.sst_blocks.specs.Words.{key_and_number, key_lt, ok_results, payload, point, whole_span};
+ghost use Rattle.sst_blocks.specs.Words.{key_and_number, key_lt, ok_results, payload, point};
+ghost use Rattle.sst_blocks.specs.Words.{whole_span};
 ghost use Rattle.sst_entries.specs.declared.error.Error.{Error};
 ghost use Rattle.sst_entries.specs.declared.error.Error.TheVariants.{OutOfMemory, InvalidBlock};
 ghost use Rattle.sst_sections.specs.declared.version.TableVersion.TheVariants.{V4};
@@ -62,7 +65,8 @@ impl<A: Allocator> Clone for DataBlock<A> {
 
     ghost is_clone = { λ b copy. copy ≡ b };
 
-    /// The same block, which shares all that this one holds. Refused where a count of sharers is refused.
+    /// The same block, which shares all that this one holds. Refused where a count of sharers is
+    /// refused.
     fn clone(&self) -> Result<DataBlock<A>, AllocError> {
         Ok(DataBlock {
             version: self.version,
@@ -72,8 +76,8 @@ impl<A: Allocator> Clone for DataBlock<A> {
     }
 }
 
-/// An upper bound on the length of the block of these entries, with its header, in bytes. It stays at `u64::MAX` where
-/// the sum would pass it.
+/// An upper bound on the length of the block of these entries, with its header, in bytes. It stays
+/// at `u64::MAX` where the sum would pass it.
 pub fn data_block_bound<A: Allocator>(items: &[InternalValue<A>]) -> u64
     ensures { result ≡ data_block_bound_of items.now }
 {
@@ -93,11 +97,13 @@ impl<A: Allocator> DataBlock<A> {
         }
     }
 
-    /// Writes the payload of a block of these entries at the end of `buf`. Refused [`Error::KeyTooLong`], else
-    /// [`Error::ValueTooLong`], for the first entry that is too long, then [`Error::BlockTooLarge`] where
-    /// [`data_block_bound`] is 2^32 or more; and [`Error::OutOfMemory`]. `buf` is then as it was.
+    /// Writes the payload of a block of these entries at the end of `buf`. Refused
+    /// [`Error::KeyTooLong`], else [`Error::ValueTooLong`], for the first entry that is too long,
+    /// then [`Error::BlockTooLarge`] where [`data_block_bound`] is 2^32 or more; and
+    /// [`Error::OutOfMemory`]. `buf` is then as it was.
     ///
-    /// The restart interval and the hash ratio are taken as the original takes them, and change nothing here.
+    /// The restart interval and the hash ratio are taken as the original takes them, and change
+    /// nothing here.
     #[tactic(auto, unfolding(crate::specs::Payload::payload))]
     pub fn encode_into(
         buf: &mut Vec<u8, A>,
@@ -169,7 +175,8 @@ impl<A: Allocator> DataBlock<A> {
         share_entry(&self.payload, start + head_len(self.version), entry)
     }
 
-    /// The entry of a place, whose key and value share the block's memory. Refused [`Error::OutOfMemory`] alone.
+    /// The entry of a place, whose key and value share the block's memory. Refused
+    /// [`Error::OutOfMemory`] alone.
     #[inline(always)]
     pub fn entry(&self, index: usize) -> Result<InternalValue<A>, Error>
         requires { index < length self.now }
@@ -179,8 +186,8 @@ impl<A: Allocator> DataBlock<A> {
         self.share(index, &self.entry_ref(index))
     }
 
-    /// How many entries at the front pass a test of their keys and numbers, by binary search: no entry passes after one
-    /// that does not.
+    /// How many entries at the front pass a test of their keys and numbers, by binary search: no
+    /// entry passes after one that does not.
     fn front_len<P: Fn(&[u8], SeqNo) -> bool>(&self, passes: P) -> usize
         requires { P.IsAlwaysCallable passes }
         ensures within { result ≤ length self.now }
@@ -194,7 +201,8 @@ impl<A: Allocator> DataBlock<A> {
         front_len::<EntryRef<'_>, A, P>(self.version, payload, &self.starts, passes)
     }
 
-    /// How many entries stand below a key: the place of the first entry of the key or of a greater one.
+    /// How many entries stand below a key: the place of the first entry of the key or of a greater
+    /// one.
     pub fn first_at_least(&self, key: &[u8]) -> usize
         ensures place { result ≡ front_length (λ e. key_lt e.user_key key.now) self.now }
         ensures within { result ≤ length self.now }

@@ -1,6 +1,7 @@
 //! Filter blocks: which hashes of keys a table, or a part of one, may have.
 ghost use Rattle.std.specs.Prelude.{◌≡◌, ◌+◌, List, ℕ, true, length};
-ghost use Rattle.sst_blocks.specs.Words.{IsFilterOf, admits, filter_in, is_filter, is_in, payload_of};
+ghost use Rattle.sst_blocks.specs.Words.{IsFilterOf, admits, filter_in, is_filter, is_in};
+ghost use Rattle.sst_blocks.specs.Words.{payload_of};
 ghost use Rattle.sst_blocks.specs.declared.block_type.BlockType.TheVariants.{Filter};
 
 use crate::{Block, Slice};
@@ -8,8 +9,8 @@ use sst_filters::contains_hash;
 use std::alloc::{AllocError, Allocator, Global};
 use std::marker::Model;
 
-/// A Bloom filter (Bloom 1970) that was loaded. It shares the table's bytes, and its clones share all that it holds. A
-/// contract sees how many probes a hash has, and the bytes of its bits.
+/// A Bloom filter (Bloom 1970) that was loaded. It shares the table's bytes, and its clones share
+/// all that it holds. A contract sees how many probes a hash has, and the bytes of its bits.
 #[derive(Drop)]
 pub struct FilterBlock<A: Allocator = Global> {
     // the number of probes, then the bits
@@ -33,7 +34,8 @@ impl<A: Allocator> Clone for FilterBlock<A> {
 
     ghost is_clone = { λ b copy. copy ≡ b };
 
-    /// The same block, which shares all that this one holds. Refused where a count of sharers is refused.
+    /// The same block, which shares all that this one holds. Refused where a count of sharers is
+    /// refused.
     fn clone(&self) -> Result<FilterBlock<A>, AllocError> {
         Ok(FilterBlock {
             payload: self.payload.clone()?,

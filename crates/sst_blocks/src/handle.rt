@@ -136,8 +136,8 @@ impl<A: Allocator> KeyedBlockHandle<A> {
         self.inner.size()
     }
 
-    /// Whether the handle may stand behind another in an index block, or at the front where there is none: by end key upward,
-    /// then by number downward.
+    /// Whether the handle may stand behind another in an index block, or at the front where there
+    /// is none: by end key upward, then by number downward.
     pub fn may_follow(&self, last: Option<&KeyedBlockHandle<A>>) -> bool
         ensures { let before = option_map (λ h. end_of h.now) last.entry in
             result ≡ may_follow before (end_of self.now) }

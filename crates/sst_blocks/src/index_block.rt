@@ -1,10 +1,13 @@
 //! Index blocks: strict lists of block handles.
-ghost use Rattle.std.specs.Prelude.{◌≡◌, ◌+◌, ◌++◌, ◌<◌, ◌^◌, ◌≤◌, ◌↔◌, [], Bool, Some, None, true, not, length, find, IsTrue, IfOk, IfErr, OnOk, OnErr};
+ghost use Rattle.std.specs.Prelude.{◌≡◌, ◌+◌, ◌++◌, ◌<◌, ◌^◌, ◌≤◌, ◌↔◌, [], Bool, Some, None, true};
+ghost use Rattle.std.specs.Prelude.{not, length, find, IsTrue, IfOk, IfErr, OnOk, OnErr};
 ghost use Rattle.std.specs.List.{slice_get};
 ghost use Rattle.std.specs.Option.{option_map};
 ghost use Rattle.sst_blocks.specs.Words.{AreStrictHandles, CanDeal, Deals, EndsAtError, Faults};
-ghost use Rattle.sst_blocks.specs.Words.{FaultsFirst, AreSpellableHandles, ok_results, end_of, front_length};
-ghost use Rattle.sst_blocks.specs.Words.{handles_fault, handles_in, handles_of, handles_payload, header_len};
+ghost use Rattle.sst_blocks.specs.Words.{FaultsFirst, AreSpellableHandles, ok_results, end_of};
+ghost use Rattle.sst_blocks.specs.Words.{front_length};
+ghost use Rattle.sst_blocks.specs.Words.{handles_fault, handles_in, handles_of, handles_payload};
+ghost use Rattle.sst_blocks.specs.Words.{header_len};
 ghost use Rattle.sst_blocks.specs.Words.{index_block_bound_of, is_above, key_and_number, place_of};
 ghost use Rattle.sst_blocks.specs.Words.{reaches, handle_of_ref, answer_stops, whole_span};
 ghost use Rattle.sst_entries.specs.declared.error.Error.{Error};
@@ -33,8 +36,8 @@ use std::marker::Model;
 /// key's length.
 pub const HANDLE_HEAD_LEN: u64 = 24;
 
-/// A block of handles in strict order of their end keys and numbers. It shares the table's bytes, and its clones share
-/// all that it holds.
+/// A block of handles in strict order of their end keys and numbers. It shares the table's bytes,
+/// and its clones share all that it holds.
 #[derive(Drop)]
 pub struct IndexBlock<A: Allocator = Global> {
     version: TableVersion,
@@ -60,7 +63,8 @@ impl<A: Allocator> Clone for IndexBlock<A> {
 
     ghost is_clone = { λ b copy. copy ≡ b };
 
-    /// The same block, which shares all that this one holds. Refused where a count of sharers is refused.
+    /// The same block, which shares all that this one holds. Refused where a count of sharers is
+    /// refused.
     fn clone(&self) -> Result<IndexBlock<A>, AllocError> {
         Ok(IndexBlock {
             version: self.version,
@@ -70,8 +74,8 @@ impl<A: Allocator> Clone for IndexBlock<A> {
     }
 }
 
-/// An upper bound on the length of the block of these handles, with its header, in bytes. It stays at `u64::MAX` where
-/// the sum would pass it.
+/// An upper bound on the length of the block of these handles, with its header, in bytes. It stays
+/// at `u64::MAX` where the sum would pass it.
 pub fn index_block_bound<A: Allocator>(handles: &[KeyedBlockHandle<A>]) -> u64
     ensures { result ≡ index_block_bound_of handles.now }
 {
@@ -116,7 +120,8 @@ impl<A: Allocator> IndexBlock<A> {
         item_at(self.version, self.payload.as_slice(), &self.starts, index)
     }
 
-    /// The handle at a place, whose end key shares the block's bytes. Refused [`Error::OutOfMemory`] alone.
+    /// The handle at a place, whose end key shares the block's bytes. Refused
+    /// [`Error::OutOfMemory`] alone.
     pub fn handle(&self, index: usize) -> Result<KeyedBlockHandle<A>, Error>
         requires { index < length self.now }
         ensures found { IfOk result (λ h. slice_get self.now index ≡ Some h) }
@@ -130,7 +135,8 @@ impl<A: Allocator> IndexBlock<A> {
         Ok(KeyedBlockHandle::new(end_key, handle.seqno, inner))
     }
 
-    /// Where the block lies that the handle at a place names. The end key is not shared, so no memory is taken.
+    /// Where the block lies that the handle at a place names. The end key is not shared, so no
+    /// memory is taken.
     pub fn place_at(&self, index: usize) -> BlockHandle
         requires { index < length self.now }
         ensures { option_map place_of (slice_get self.now index) ≡ Some result }
@@ -139,8 +145,8 @@ impl<A: Allocator> IndexBlock<A> {
         BlockHandle::new(BlockOffset(found.offset), found.size)
     }
 
-    /// How many handles stand before the first that reaches a key and a number: whose end key is greater, or equal and
-    /// numbered below `seqno`.
+    /// How many handles stand before the first that reaches a key and a number: whose end key is
+    /// greater, or equal and numbered below `seqno`.
     pub fn first_reaching(&self, key: &[u8], seqno: SeqNo) -> usize
         ensures place { result ≡ front_length (λ h. not (reaches key.now seqno h)) self.now }
         ensures within { result ≤ length self.now }
@@ -164,8 +170,8 @@ impl<A: Allocator> IndexBlock<A> {
         self.first_reaching(key, 0)
     }
 
-    /// Where the first block lies whose handle reaches a key and a number: it alone may hold the newest entry of the key
-    /// numbered below `seqno`. No memory is taken.
+    /// Where the first block lies whose handle reaches a key and a number: it alone may hold the
+    /// newest entry of the key numbered below `seqno`. No memory is taken.
     pub fn find(&self, key: &[u8], seqno: SeqNo) -> Option<BlockHandle>
         ensures { result ≡ option_map place_of (find (reaches key.now seqno) self.now) }
     {
@@ -193,9 +199,9 @@ impl<A: Allocator> IndexBlock<A> {
         Iter::new(self)
     }
 
-    /// Writes the payload of a block of these handles at the end of `buf`. Refused [`Error::KeyTooLong`] where an end key is
-    /// too long, then [`Error::BlockTooLarge`] where [`index_block_bound`] is 2^32 or more; and [`Error::OutOfMemory`]. `buf`
-    /// is then as it was.
+    /// Writes the payload of a block of these handles at the end of `buf`. Refused
+    /// [`Error::KeyTooLong`] where an end key is too long, then [`Error::BlockTooLarge`] where
+    /// [`index_block_bound`] is 2^32 or more; and [`Error::OutOfMemory`]. `buf` is then as it was.
     #[tactic(auto, unfolding(crate::specs::Handles::handles_payload))]
     pub fn encode_into(buf: &mut Vec<u8, A>, handles: &[KeyedBlockHandle<A>]) -> Result<(), Error>
         requires { AreStrictHandles handles.now }

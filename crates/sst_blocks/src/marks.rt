@@ -10,8 +10,8 @@ use std::marker::Model;
 /// How many bytes of a table share a word.
 pub(crate) const SPAN: u64 = 2048;
 
-// A payload that starts here or behind is not marked, so that twice a place fits a word with room to
-// spare.
+// A payload that starts here or behind is not marked, so that twice a place fits a word with room
+// to spare.
 const END: u64 = 1 << 62;
 
 // Each word is 0, or one more than twice the place of a payload that has its checksum, or two more
@@ -126,7 +126,8 @@ impl<A: Allocator + Clone> Marks<A> {
         0 < word && (word - 1) / 2 == start
     }
 
-    /// Whether it is marked that the payload which starts here has its checksum and is in its grammar.
+    /// Whether it is marked that the payload which starts here has its checksum and is in its
+    /// grammar.
     pub(crate) fn is_tested(&self, start: u64) -> bool
         ensures sum { IsTrue result → HasSum self.now start }
         ensures items { IsTrue result → HasItems self.now start }

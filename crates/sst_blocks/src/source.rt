@@ -350,7 +350,8 @@ impl<A: Allocator + Clone> BlockSource<A> {
         )
     }
 
-    /// Whether it is marked that the payload which starts here has its checksum and is in its grammar.
+    /// Whether it is marked that the payload which starts here has its checksum and is in its
+    /// grammar.
     fn was_tested(&self, start: usize) -> bool
         ensures sum { IsTrue result → HasSum self.now start }
         ensures items { IsTrue result → HasItems self.now start }
@@ -410,9 +411,9 @@ impl<A: Allocator + Clone> BlockSource<A> {
 
     /// Compares the checksums of the data block at a position and of those behind it, `most` blocks
     /// at most and no more than four, up to one that is remembered, where that of the first is not
-    /// and there is memory to remember them; those of two or four in one loop. A block whose payload
-    /// ends in the 2,048 bytes in which it starts is the last that is compared. Loading the blocks,
-    /// one after another, answers what it would without.
+    /// and there is memory to remember them; those of two or four in one loop. A block whose
+    /// payload ends in the 2,048 bytes in which it starts is the last that is compared. Loading the
+    /// blocks, one after another, answers what it would without.
     pub fn compare_ahead(&self, position: u64, most: usize) {
         let Some(marks) = &self.marks else {
             return;

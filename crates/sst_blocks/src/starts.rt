@@ -24,7 +24,8 @@ pub(crate) fn has_room_for(payload: &[u8], least: usize) -> bool
     least * count <= payload.len() - 4
 }
 
-/// The places in a payload where its entries or handles begin, which all clones of a block share. A contract sees the list.
+/// The places in a payload where its entries or handles begin, which all clones of a block share. A
+/// contract sees the list.
 #[derive(Drop)]
 pub(crate) struct Starts<A: Allocator = Global> {
     places: ArcSlice<u32, A>,

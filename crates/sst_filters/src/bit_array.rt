@@ -1,7 +1,8 @@
 //! Bits in bytes, and the probes of a hash.
 ghost use Rattle.std.specs.Prelude.{◌≡◌, ◌*◌, ◌^◌, ◌==◌, ◌||◌, ◌<◌, length, true, List, ℕ};
 ghost use Rattle.std.specs.List.{list_all};
-ghost use Rattle.sst_filters.specs.Filter.{admits, filter_in, IsFilterOf, is_in, is_set, probes, stride};
+ghost use Rattle.sst_filters.specs.Filter.{admits, filter_in, IsFilterOf, is_in, is_set, probes};
+ghost use Rattle.sst_filters.specs.Filter.{stride};
 
 // How far apart a hash's probes lie.
 #[inline(always)]
@@ -75,7 +76,8 @@ fn admits(payload: &[u8], hash: u64) -> bool
 
 /// Whether the filter of a payload admits a hash: all bits of the hash are set. It takes no memory.
 ///
-/// The payload is one byte that says how many probes a hash has, then the bits: two bytes or more, and fewer than 2^60.
+/// The payload is one byte that says how many probes a hash has, then the bits: two bytes or more,
+/// and fewer than 2^60.
 #[inline]
 pub fn contains_hash(payload: &[u8], hash: u64) -> bool
     requires some { 1 < length payload.now }

@@ -8,8 +8,9 @@ use sst_sections::hash;
 use std::alloc::{Allocator, Global};
 use std::marker::Model;
 
-/// A Bloom filter that is being built (Bloom, "Space/time trade-offs in hash coding with allowable errors", Communications
-/// of the ACM 13, 1970). A contract sees how many probes a hash has, and the bytes of the bits.
+/// A Bloom filter that is being built (Bloom, "Space/time trade-offs in hash coding with allowable
+/// errors", Communications of the ACM 13, 1970). A contract sees how many probes a hash has, and
+/// the bytes of the bits.
 #[derive(Drop)]
 pub struct Builder<A: Allocator = Global> {
     // The number of probes, then the bits.

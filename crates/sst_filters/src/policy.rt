@@ -2,7 +2,8 @@
 ghost use Rattle.std.specs.Prelude.{◌≡◌, ◌<◌, ◌^◌, nat_lt, IfOk, IfErr, Some, []};
 ghost use Rattle.sst_filters.specs.Filter.{IsFilterOf};
 ghost use Rattle.sst_entries.specs.Error.{Faults, FaultsFirst};
-ghost use Rattle.sst_filters.specs.Policy.{bound_for, empty_filter, fault_for, probe_count, size_for, tenths_of};
+ghost use Rattle.sst_filters.specs.Policy.{bound_for, empty_filter, fault_for, probe_count};
+ghost use Rattle.sst_filters.specs.Policy.{size_for, tenths_of};
 
 use crate::Builder;
 use sst_entries::Error;
@@ -66,8 +67,8 @@ impl BloomConstructionPolicy {
         count.clamp(1, 30) as u8
     }
 
-    /// A filter for `n` keys, in which no bit is set. Refused [`Error::BlockTooLarge`] where [`filter_bound`] is 2^32 or more,
-    /// whatever memory there is, and [`Error::OutOfMemory`].
+    /// A filter for `n` keys, in which no bit is set. Refused [`Error::BlockTooLarge`] where
+    /// [`filter_bound`] is 2^32 or more, whatever memory there is, and [`Error::OutOfMemory`].
     pub fn init<A: Allocator>(&self, alloc: A, n: usize) -> Result<Builder<A>, Error>
         ensures empty { IfOk result (λ b. b ≡ empty_filter (tenths_of self.now) n) }
         ensures hashes { IfOk result (λ b. IsFilterOf b []) }

@@ -103,7 +103,8 @@ fn compare_all(source: &BlockSource<Global>) {
     source.compare_together(&all);
 }
 
-// No block, then one of the four, one as of another kind, one of another size, and one past the end.
+// No block, then one of the four, one as of another kind, one of another size, and one past the
+// end.
 fn compare_some(source: &BlockSource<Global>) {
     let one = handle_of(BLOCKS[0]);
     let (two, _) = handle_of(BLOCKS[1]);

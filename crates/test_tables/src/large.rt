@@ -1,5 +1,5 @@
-//! Large values, which are asked something and let go of. What stands here is generic in them, so that no part of a value is
-//! looked at.
+//! Large values, which are asked something and let go of. What stands here is generic in them, so
+//! that no part of a value is looked at.
 use sst_blocks::Error;
 use std::alloc::Allocator;
 

@@ -1,4 +1,5 @@
-//! What the tests of several crates share: rows and the tables of them, stored tables, runs, and what is read of these. Nothing here is for use.
+//! What the tests of several crates share: rows and the tables of them, stored tables, runs, and
+//! what is read of these. Nothing here is for use.
 #![tactic(auto)]
 
 pub mod large;

@@ -74,7 +74,8 @@ pub fn ends_of<A: Allocator + Copy>(
     answers_in(alloc, stream, &[Direction::Back, Direction::Front])
 }
 
-/// The names of what a read gives: of the entry that is found, and of the first and the last of a stream.
+/// The names of what a read gives: of the entry that is found, and of the first and the last of a
+/// stream.
 pub fn read_names<A: Allocator + Copy>(
     alloc: A,
     read: (Option<InternalValue<A>>, Stream<A>),
@@ -90,7 +91,8 @@ pub fn read_names<A: Allocator + Copy>(
     named(found, ends?)
 }
 
-/// The names of a found entry, and of the first and the last of a stream, by the answers of [`ends_of`].
+/// The names of a found entry, and of the first and the last of a stream, by the answers of
+/// [`ends_of`].
 pub fn named<A: Allocator + Copy>(
     found: Option<InternalValue<A>>,
     ends: Vec<Option<IterItem<A>>, A>,

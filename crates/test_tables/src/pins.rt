@@ -1,4 +1,5 @@
-//! Reads of a table under each pair of pins: what stays loaded, what is found, and what each read loads.
+//! Reads of a table under each pair of pins: what stays loaded, what is found, and what each read
+//! loads.
 use crate::large::{asked, asked_if_any};
 use lsm_tables::{BlockIndex, BlockIndexImpl, BlockIndexIterImpl, Table};
 use sst_blocks::{Checksum, Error, InternalValue, SeqNo, Slice};

@@ -52,7 +52,8 @@ pub fn put_rows<A: Allocator + Clone>(
     Ok(true)
 }
 
-/// A writer, once it has written what it was given. Generic in the writer, so that none of its parts is looked at.
+/// A writer, once it has written what it was given. Generic in the writer, so that none of its
+/// parts is looked at.
 pub fn written<W: Drop>(writer: W, answer: Result<(), Error>) -> Result<W, Error> {
     answer?;
     Ok(writer)
@@ -63,7 +64,8 @@ fn all_put(put: Result<bool, Error>) -> Result<(), Error> {
     if put? { Ok(()) } else { Err(Error::Source(0)) }
 }
 
-/// The writer, once it has written some rows. `Source(0)` where a row may not follow the one before.
+/// The writer, once it has written some rows. `Source(0)` where a row may not follow the one
+/// before.
 pub fn filled<A: Allocator + Clone>(
     mut writer: Writer<A>,
     alloc: A,
@@ -73,7 +75,8 @@ pub fn filled<A: Allocator + Clone>(
     written(writer, answer)
 }
 
-/// The table of some rows. `Source(0)` where a row may not follow the one before, `Source(1)` where there are none.
+/// The table of some rows. `Source(0)` where a row may not follow the one before, `Source(1)` where
+/// there are none.
 pub fn fill<A: Allocator + Clone>(
     writer: Writer<A>,
     alloc: A,

@@ -136,8 +136,8 @@ pub fn name_of<A: Allocator>(item: Option<IterItem<A>>) -> Result<Option<Name>, 
     }
 }
 
-/// Whether an answer is right, or is want of memory where a request is refused. Some requests are for what a table remembers, and
-/// refused it does without.
+/// Whether an answer is right, or is want of memory where a request is refused. Some requests are
+/// for what a table remembers, and refused it does without.
 pub fn is_right(answer: Result<bool, Error>, may_fail: bool) -> bool {
     match answer {
         Ok(right) => right,

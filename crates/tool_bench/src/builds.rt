@@ -146,8 +146,8 @@ pub extern "C" fn tool_bench_build(
     code(build(alloc, false, store, key_len, value_len, seqno, out, written))
 }
 
-/// Writes a table as [`tool_bench_build`] does, with its index and its filter in partitions of 4,096
-/// bytes.
+/// Writes a table as [`tool_bench_build`] does, with its index and its filter in partitions of
+/// 4,096 bytes.
 #[unsafe(no_mangle)]
 pub extern "C" fn tool_bench_build_partitioned(
     alloc: Global,

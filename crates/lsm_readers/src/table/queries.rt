@@ -38,8 +38,8 @@ fn get_one<A: Allocator + Clone>(
     table.get(key, query.seqno, Table::<A>::key_hash(key))
 }
 
-/// Reads for the queries of some places, whose blocks are compared several in one loop, each a little
-/// ahead of the reads that rest on it. Ends at the first refusal.
+/// Reads for the queries of some places, whose blocks are compared several in one loop, each a
+/// little ahead of the reads that rest on it. Ends at the first refusal.
 fn read_ahead<A: Allocator + Clone>(
     table: &Table<A>,
     source: &mut Keeping<'_, A>,

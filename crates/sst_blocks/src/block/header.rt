@@ -1,7 +1,8 @@
 //! Block headers.
 ghost use Rattle.std.specs.Prelude.{◌≡◌, ◌∷◌, ◌++◌, [], length, None, Some, IfOk, MatchResult};
 ghost use Rattle.sst_blocks.specs.Block.{header_len};
-ghost use Rattle.sst_blocks.specs.Block.{kind_tag, header_fault, version_in, data_len, uncompressed_len, stored_checksum};
+ghost use Rattle.sst_blocks.specs.Block.{kind_tag, header_fault, version_in, data_len};
+ghost use Rattle.sst_blocks.specs.Block.{uncompressed_len, stored_checksum};
 ghost use Rattle.sst_sections.specs.Number.{le4, le8};
 ghost use Rattle.sst_sections.specs.Version.{mark};
 
@@ -47,8 +48,9 @@ impl Header {
         bytes
     }
 
-    /// Reads the header of a block of a kind. Refused with the first fault, in this order: [`Error::InvalidHeader`] for the mark
-    /// or the zero bytes, [`Error::InvalidTag`], [`Error::UnsupportedCompression`].
+    /// Reads the header of a block of a kind. Refused with the first fault, in this order:
+    /// [`Error::InvalidHeader`] for the mark or the zero bytes, [`Error::InvalidTag`],
+    /// [`Error::UnsupportedCompression`].
     pub(crate) fn decode(bytes: &[u8], kind: BlockType) -> Result<Header, Error>
         requires { length bytes.now ≡ header_len }
         ensures fault { MatchResult result (λ _. header_fault kind bytes.now ≡ None)

@@ -5,15 +5,16 @@ ghost use Rattle.std.specs.declared.ops.Bound.TheVariants.{Included, Excluded, U
 ghost use Rattle.sst_entries.specs.Point.{lower_place, upper_place, within};
 ghost use Rattle.sst_entries.specs.Span.{SpanGives, rest_in};
 ghost use Rattle.sst_entries.specs.Stream.{front_of, back_of};
-ghost use Rattle.sst_blocks.specs.Seeking.{whole_span, span_from, span_to, DealsLeft, KeepsLower, KeepsUpper};
+ghost use Rattle.sst_blocks.specs.Seeking.{whole_span, span_from, span_to, DealsLeft, KeepsLower};
+ghost use Rattle.sst_blocks.specs.Seeking.{KeepsUpper};
 
 use super::DataBlock;
 use crate::IterItem;
 use std::alloc::{Allocator, Global};
 use std::marker::Model;
 
-/// The entries of a data block, dealt from both ends. After a call that is refused [`crate::Error::OutOfMemory`] nothing
-/// more comes, from either end.
+/// The entries of a data block, dealt from both ends. After a call that is refused
+/// [`crate::Error::OutOfMemory`] nothing more comes, from either end.
 #[derive(Drop)]
 pub struct Iter<'a, A: Allocator = Global> {
     block: &'a DataBlock<A>,

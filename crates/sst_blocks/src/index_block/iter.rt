@@ -4,15 +4,16 @@ ghost use Rattle.std.specs.Iterator.{at_most};
 ghost use Rattle.sst_blocks.specs.Handles.{window};
 ghost use Rattle.sst_entries.specs.Span.{SpanGives, rest_in};
 ghost use Rattle.sst_entries.specs.Stream.{front_of, back_of};
-ghost use Rattle.sst_blocks.specs.Seeking.{whole_span, span_from, span_to, reaching_place, above_place, DealsLeft, KeepsLowerEdge, KeepsUpperEdge};
+ghost use Rattle.sst_blocks.specs.Seeking.{whole_span, span_from, span_to, reaching_place};
+ghost use Rattle.sst_blocks.specs.Seeking.{above_place, DealsLeft, KeepsLowerEdge, KeepsUpperEdge};
 
 use super::IndexBlock;
 use crate::{Error, KeyedBlockHandle, SeqNo};
 use std::alloc::{Allocator, Global};
 use std::marker::Model;
 
-/// The handles of an index block, dealt from both ends. After a call that is refused [`Error::OutOfMemory`] nothing more
-/// comes, from either end.
+/// The handles of an index block, dealt from both ends. After a call that is refused
+/// [`Error::OutOfMemory`] nothing more comes, from either end.
 #[derive(Drop)]
 pub struct Iter<'a, A: Allocator = Global> {
     block: &'a IndexBlock<A>,
@@ -43,8 +44,8 @@ impl<'a, A: Allocator> Iter<'a, A> {
         }
     }
 
-    /// Drops what stands before the first handle that reaches a key and a number: whose end key is greater, or equal and
-    /// numbered below `seqno`. Answers whether a handle is left.
+    /// Drops what stands before the first handle that reaches a key and a number: whose end key is
+    /// greater, or equal and numbered below `seqno`. Answers whether a handle is left.
     pub fn seek(&mut self, key: &[u8], seqno: SeqNo) -> bool
         ensures narrowed { let place = reaching_place (key.now, seqno) self.old.list in
             self.new ≡ span_from place self.old }
@@ -58,8 +59,9 @@ impl<'a, A: Allocator> Iter<'a, A> {
         self.from < self.to
     }
 
-    /// Drops what stands behind the first handle whose end key is greater than a key. Answers whether a handle is left. The
-    /// number is not looked at: versions of the key may go on in the block of a handle that ends with the key.
+    /// Drops what stands behind the first handle whose end key is greater than a key. Answers
+    /// whether a handle is left. The number is not looked at: versions of the key may go on in the
+    /// block of a handle that ends with the key.
     pub fn seek_upper(&mut self, key: &[u8], _seqno: SeqNo) -> bool
         ensures narrowed { self.new ≡ span_to (1 + above_place key.now self.old.list) self.old }
         ensures left { IsTrue result ↔ (rest_in self.new ≡ [] → ⊥) }
