@@ -1,5 +1,5 @@
 //! Many reads of one table at once.
-use crate::tables::{opened_in_blocks, written_in_blocks};
+use crate::tables::{ROWS, opened_in_blocks, written, written_in_blocks};
 use lsm_tables::{Query, Table, get_many};
 use sst_blocks::{Error, InternalValue, SeqNo, Slice};
 use std::alloc::{Allocator, Global};
@@ -175,4 +175,50 @@ fn no_queries_are_never_refused(rt: HostRuntime) {
     let next_refused = Refusing::new(rt.alloc(), opening.unwrap_or(0).saturating_add(1));
     assert!(rt; opening.is_ok());
     assert!(rt; asked_for_none(&next_refused, false));
+}
+
+// How many requests for memory many reads at once make.
+fn requests_of_reads<'h>(
+    heap: &'h Refusing,
+    table: &Table<&'h Refusing>,
+    sought: &[Sought],
+) -> Result<usize, Error> {
+    let queries = queries_of(heap, sought)?;
+    let before = heap.requests();
+    let found = get_many(table, &queries)?;
+    drop(found);
+    Ok(heap.requests().saturating_sub(before))
+}
+
+// How many they make of a table whose entries are in one block.
+fn requests_in_one(alloc: Global, sought: &[Sought]) -> Result<usize, Error> {
+    let heap = Refusing::new(alloc, 0);
+    let bytes = written(&heap, &ROWS)?;
+    asked(open(&heap, bytes, 0), |table| {
+        requests_of_reads(&heap, table, sought)
+    })
+}
+
+// How many they make of a table whose entries are each in a block of its own.
+fn requests_apart(alloc: Global, sought: &[Sought]) -> Result<usize, Error> {
+    let heap = Refusing::new(alloc, 0);
+    asked(opened_in_blocks(&heap, 0), |table| {
+        requests_of_reads(&heap, table, sought)
+    })
+}
+
+const TWO: [Sought; 2] = [(b"a", 10), (b"b", 2)];
+
+const FOUR: [Sought; 4] = [(b"a", 10), (b"a", 8), (b"a", 6), (b"b", 2)];
+
+// The block in which several keys stand is loaded, which takes memory for its entries' places, and
+// for all of them once; that of a lone key is not.
+#[test]
+fn a_block_of_several_keys_is_loaded_once(rt: HostRuntime) -> Result<(), Fail> {
+    let two = requests_in_one(rt.alloc(), &TWO)?;
+    let four = requests_in_one(rt.alloc(), &FOUR)?;
+    let apart = requests_apart(rt.alloc(), &TWO)?;
+    assert!(rt; two == four);
+    assert!(rt; apart < two);
+    Ok(())
 }
