@@ -5,7 +5,7 @@ ghost use Rattle.std.specs.Arc.{arc_value};
 ghost use Rattle.std.specs.List.{AllByRecursion, AllZip};
 ghost use Rattle.std.specs.Ordering.{is_lt};
 ghost use Rattle.sst_entries.specs.declared.error.Error.TheVariants.{OutOfMemory};
-ghost use Rattle.sst_sections.specs.Fnv.{fnv1a};
+ghost use Rattle.sst_filters.specs.KeyHash.{hash_of};
 ghost use Rattle.lsm_runs.specs.Words.{AnswersNewest, CanAskNewest, CanDeal, DealTogether};
 ghost use Rattle.lsm_runs.specs.Words.{DealsList, DealsNewest, DoesRead, Entry, FaultsFirst, Gives};
 ghost use Rattle.lsm_runs.specs.Words.{HoldLists, IsInOrder, IsNewestOf, IsOverSpans, IsRunOf};
@@ -167,7 +167,7 @@ fn get_run_counted<A: Allocator + Clone>(
     seqno: SeqNo,
     key_hash: u64,
 ) -> (Result<Option<InternalValue<A>>, Error>, Opened)
-    requires { key_hash ≡ fnv1a key.now }
+    requires { key_hash ≡ hash_of key.now }
     ensures read { IsInOrder range_of run.now →
         DoesRead result.0 (run_read key.now seqno run.now) none_opened result.1 }
     ensures few { LoadsEach 1 result.1 }
